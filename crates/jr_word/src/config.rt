@@ -1,0 +1,16 @@
+//! The sizes of a room.
+
+/// The sizes of a room.
+#[derive(Clone, Copy, Debug, PartialEq, Eq)]
+pub struct Config {
+    /// Threads, and so passes: 1 to 64.
+    pub threads: u32,
+    /// Slots for global and weak global references: 1 to 65,536.
+    pub slots: u32,
+    /// Objects: 1 to 65,535.
+    pub objects: u32,
+    /// Words of array space: 0 to 1,048,576.
+    pub words: u32,
+    /// Places for local references of each thread: 16 to 4,096.
+    pub locals: u32,
+}
