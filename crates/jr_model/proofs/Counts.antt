@@ -1,0 +1,128 @@
+-- Counts of threads and of references.
+use Rattle.std.proofs.Common.{◌≡◌, ◌≢◌, ⊎_elim, ℕ, zero, suc, ◌+◌, ◌<◌, ◌≤◌, ◌==◌, Bool, true, false, not, cond, if◌then◌else◌, refl, sym, ap, subst, ◌∙◌, arith, nat_eq}
+use Rattle.jr_word.specs.declared.config.Config.{Config}
+use Rattle.jr_word.specs.declared.handle.RefKind.{RefKind}
+use Rattle.jr_model.specs.declared.event.Role.{Role}
+use Rattle.jr_model.specs.declared.event.Found.{Found}
+use Rattle.jr_model.specs.declared.event.Found.TheVariants.{Object, Cleared, Stale}
+use Rattle.jr_model.specs.Maps.{update, sum_below, count_below}
+use Rattle.jr_model.specs.State.{Handle, State, opening, is_there, is_outside, not_outside, references}
+use Rattle.std.proofs.lemmas.Bool.{cases_lt}
+use Rattle.jr_model.specs.declared.event.Role.TheVariants.{Outside, Within, Knocking, Collecting}
+use Rattle.jr_model.specs.declared.event.Event.{Event}
+use Rattle.jr_model.specs.Steps.{Needs, after}
+use Rattle.jr_model.specs.History.{History, state, IsLegal, role_after}
+use Rattle.jr_model.proofs.Histories.{kept_from}
+use Rattle.jr_model.proofs.Stays.{role_step}
+use Rattle.jr_model.proofs.Updates.{at_number, at_number_self, eq_true, eq_false, eq_other}
+use Rattle.jr_model.proofs.Lengths.{sum_same, sum_none}
+use Rattle.jr_model.proofs.References.{IsKept}
+
+-- a sum of which the part at k changes
+pub sum_at : (n : ℕ) (f g : ℕ → ℕ) (k : ℕ) → k < n → ((j : ℕ) → k ≢ j → g j ≡ f j) → sum_below n g + f k ≡ sum_below n f + g k
+unfolding sum_below
+sum_at zero f g k l h = absurd (omega arith)
+sum_at (suc n) f g k l h = go (k == n) refl (λ m. sum_at n f g k m h)
+  where
+    go : (b : Bool) → (k == n) ≡ b → (k < n → sum_below n g + f k ≡ sum_below n f + g k) → sum_below n g + g n + f k ≡ sum_below n f + f n + g k
+    go true e rest =
+        let here : k ≡ n = eq_true k n e in
+        let same : sum_below n g ≡ sum_below n f = sum_same n f g (λ j m. h j (omega arith)) in
+        rw here (omega arith)
+    go false e rest =
+        let apart : k ≢ n = eq_false k n e in
+        let there : g n ≡ f n = h n apart in
+        let r = rest (omega arith) in omega arith
+
+-- 1 where b holds
+abbrev pub bit : Bool → ℕ
+bit b = if b then 1 else 0
+
+-- the count after one thread takes another role
+pub count_role : (n : ℕ) (p : Role → Bool) (role : ℕ → Role) (t : ℕ) (r : Role) → t < n → count_below n (λ u. p (update nat_eq role t r u)) + bit (p (role t)) ≡ count_below n (λ u. p (role u)) + bit (p r)
+count_role n p role t r l =
+    subst (λ x. count_below n (λ u. p (update nat_eq role t r u)) + bit (p (role t)) ≡ count_below n (λ u. p (role u)) + bit (p x)) (at_number_self role t r)
+    (sum_at n (λ u. bit (p (role u))) (λ u. bit (p (update nat_eq role t r u))) t l
+    (λ j ne. at_number (λ x. bit (p x) ≡ bit (p (role j))) role t j r (λ e. absurd (ne e)) (λ ne'. refl)))
+
+-- none passes where the count is 0
+pub count_none : (n : ℕ) (p : ℕ → Bool) → count_below n p ≡ 0 → (k : ℕ) → k < n → p k ≡ false
+unfolding sum_below
+count_none zero p e k l = absurd (omega arith)
+count_none (suc n) p e k l = go (λ m. count_none n p m k) (p n) refl (k == n) refl
+  where
+    go : (count_below n p ≡ 0 → k < n → p k ≡ false) → (b : Bool) → p n ≡ b → (d : Bool) → (k == n) ≡ d → p k ≡ false
+    go rest true is d same = let e' : count_below n p + 1 ≡ 0 = subst (λ b. count_below n p + bit b ≡ 0) is e in absurd (omega arith)
+    go rest false is true same = ap p (eq_true k n same) ∙ is
+    go rest false is false same =
+        let e' : count_below n p + 0 ≡ 0 = subst (λ b. count_below n p + bit b ≡ 0) is e in
+        let apart : k ≢ n = eq_false k n same in
+        rest (omega arith) (omega arith)
+
+pub count_all_false : (n : ℕ) (p : ℕ → Bool) → ((k : ℕ) → k < n → p k ≡ false) → count_below n p ≡ 0
+count_all_false n p h = sum_same n (λ k. 0) (λ k. bit (p k)) (λ k l. ap bit (h k l)) ∙ sum_none n
+
+pub count_single : (n : ℕ) (p : ℕ → Bool) (k : ℕ) → k < n → p k ≡ true → ((j : ℕ) → k ≢ j → p j ≡ false) → count_below n p ≡ 1
+count_single n p k l here others =
+    let e = sum_at n (λ j. 0) (λ j. bit (p j)) k l (λ j ne. ap bit (others j ne)) in
+    let z = sum_none n in
+    let one : bit (p k) ≡ 1 = ap bit here in
+    omega arith
+
+there_true : (r : Found) → is_there r ≡ true → r ≢ Stale
+there_true (Object o) e p = cc
+there_true Cleared e p = cc
+there_true Stale e p = cc
+
+there_false : (r : Found) → r ≡ Stale → is_there r ≡ false
+there_false r e = ap is_there e
+
+-- the references of a kind are as many as the indexes at which one stands
+pub references_by_index : (c : Config) (last : ℕ) (k : RefKind) (s : State) (live : ℕ → Bool) → IsKept c last s
+    → ((i : ℕ) → live i ≡ true → (n : ℕ) × (is_there (s.refs (record { kind = k; serial = n; index = i; owner = 0 })) ≡ true))
+    → ((i : ℕ) → live i ≡ false → (n : ℕ) → is_there (s.refs (record { kind = k; serial = n; index = i; owner = 0 })) ≡ false)
+    → references c last k s ≡ count_below c.slots live
+references_by_index c last k s live kept some none = sum_same c.slots (λ i. bit (live i)) (λ i. count_below (last + 1) (λ n. there i n)) (λ i l. at_index i (live i) refl)
+  where
+    there : ℕ → ℕ → Bool
+    there i n = is_there (s.refs (record { kind = k; serial = n; index = i; owner = 0 }))
+
+    at_index : (i : ℕ) (b : Bool) → live i ≡ b → count_below (last + 1) (λ n. there i n) ≡ bit (live i)
+    at_index i true e =
+        let one = some i e in
+        let h : Handle = record { kind = k; serial = one.0; index = i; owner = 0 } in
+        let stands : s.refs h ≢ Stale = there_true (s.refs h) one.1 in
+        let row = kept.in_row h (kept.was_given h stands) in
+        count_single (last + 1) (λ n. there i n) one.0 (let m = row.3 in omega arith) one.1
+        (λ j ne. only i one.0 j stands ne (there i j) refl) ∙ ap bit (sym e)
+      where
+        only : (i m j : ℕ) → s.refs (record { kind = k; serial = m; index = i; owner = 0 }) ≢ Stale → m ≢ j → (b : Bool) → there i j ≡ b → there i j ≡ false
+        only i m j stands ne true e =
+            let g : Handle = record { kind = k; serial = m; index = i; owner = 0 } in
+            let h : Handle = record { kind = k; serial = j; index = i; owner = 0 } in
+            absurd (ne (ap (λ (x : Handle). x.serial) (kept.one g h stands (there_true (s.refs h) e) refl)))
+        only i m j stands ne false e = e
+    at_index i false e = count_all_false (last + 1) (λ n. there i n) (λ n l. none i e n) ∙ ap bit (sym e)
+
+outside_true : (r : Role) → not (is_outside r) ≡ false → r ≡ Outside
+outside_true Outside e = refl
+outside_true Within e = absurd cc
+outside_true Knocking e = absurd cc
+outside_true Collecting e = absurd cc
+
+module _ (c : Config) (last : ℕ) where
+  beyond_after : (s : State) (e : Event) → ((t : ℕ) → c.threads ≤ t → s.role t ≡ Outside) → Needs c last s e → (t : ℕ) → c.threads ≤ t → (after s e).role t ≡ Outside
+  beyond_after s e i n t l =
+      let apart : e.thread ≢ t = λ z. absurd (let small = n.0 in omega arith) in
+      role_step s e.thread e.act t ∙ (ap (λ b. cond b (role_after (s.role t) e.act) (s.role t)) (eq_other e.thread t apart) ∙ i t l)
+
+  -- who is no thread of the room is outside
+  pub outside_beyond : (es : History) → IsLegal c last es → (t : ℕ) → c.threads ≤ t → (state es).role t ≡ Outside
+  outside_beyond es l = kept_from c last (λ s. (t : ℕ) → c.threads ≤ t → s.role t ≡ Outside) beyond_after opening es (λ t l'. refl) l
+
+  -- where the count of those not outside is 0, all are outside
+  pub all_outside : (es : History) → IsLegal c last es → not_outside c (state es) ≡ 0 → (t : ℕ) → (state es).role t ≡ Outside
+  all_outside es l none t = ⊎_elim
+      (λ (h : t < c.threads). outside_true ((state es).role t) (count_none c.threads (λ u. not (is_outside ((state es).role u))) none t h))
+      (λ (h : c.threads ≤ t). outside_beyond es l t h)
+      (cases_lt t c.threads)

@@ -1,0 +1,63 @@
+-- The laws of every legal history.
+use Rattle.std.specs.Prelude.{◌≡◌, ◌≢◌, ◌⊎◌, ◌≤◌, ℕ, true, false, Some, ◌∷◌, ◌++◌}
+use Rattle.std.specs.List.{AllByRecursion}
+use Rattle.jr_word.specs.declared.config.Config.{Config}
+use Rattle.jr_model.specs.declared.event.Found.TheVariants.{Object, Cleared, Stale}
+use Rattle.jr_model.specs.declared.event.Found.{Found}
+use Rattle.jr_model.specs.declared.event.Act.TheVariants.{Create, Look, Delete, Read}
+use Rattle.jr_model.specs.State.{Handle, IsPresent, NobodyCollects, IsClosed, present_words}
+use Rattle.jr_model.specs.History.{History, by, state, IsLegal, is_collection_step, is_waiting, IsStay, IsCollection, IsLastWord}
+
+-- after a delete of h each look at it is stale
+abbrev pub DeletedIsStale : Config → ℕ → Type 0
+DeletedIsStale c last = (h : Handle) (t u : ℕ) (r : Found) (before between rest : History)
+    → IsLegal c last (before ++ by t (Delete h) ∷ between ++ by u (Look h r) ∷ rest) → r ≡ Stale
+
+-- and h is never created again
+abbrev pub DeletedIsNotCreated : Config → ℕ → Type 0
+DeletedIsNotCreated c last = (h : Handle) (t u o : ℕ) (before between rest : History)
+    → ¬ (IsLegal c last (before ++ by t (Delete h) ∷ between ++ by u (Create h o) ∷ rest))
+
+-- each handle is created at most once
+abbrev pub CreatedOnce : Config → ℕ → Type 0
+CreatedOnce c last = (h : Handle) (t u o p : ℕ) (before between rest : History)
+    → ¬ (IsLegal c last (before ++ by t (Create h o) ∷ between ++ by u (Create h p) ∷ rest))
+
+-- at each moment at most one reference of an index stands
+abbrev pub OneAnIndex : Config → ℕ → Type 0
+OneAnIndex c last = (es : History) (g h : Handle) → IsLegal c last es
+    → (state es).refs g ≢ Stale → (state es).refs h ≢ Stale → g.index ≡ h.index → g ≡ h
+
+-- no collection step lies in a stay
+abbrev pub NoCollectionInside : Config → ℕ → Type 0
+NoCollectionInside c last = (t : ℕ) (es before inside rest : History) → IsLegal c last es
+    → IsStay t es before inside rest → AllByRecursion (λ e. is_collection_step e.act ≡ false) inside
+
+-- in a collection of t each other thread only waits
+abbrev pub OthersWait : Config → ℕ → Type 0
+OthersWait c last = (t : ℕ) (es before inside rest : History) → IsLegal c last es
+    → IsCollection t es before inside rest → AllByRecursion (λ e. (e.thread ≡ t) ⊎ (is_waiting e.act ≡ true)) inside
+
+-- the object of each reference that is not cleared, and of each local, is present
+abbrev pub NamedIsPresent : Config → ℕ → Type 0
+NamedIsPresent c last = (es : History) → IsLegal c last es
+    → ((h : Handle) (o : ℕ) → (state es).refs h ≡ Object o → IsPresent (state es) o)
+    × ((t p o : ℕ) → (state es).locals t p ≡ Some o → IsPresent (state es) o)
+
+-- outside collections each element of a present object array is 0 or present
+abbrev pub ElementsArePresent : Config → ℕ → Type 0
+ElementsArePresent c last = (es : History) → IsLegal c last es → NobodyCollects (state es) → IsClosed (state es)
+
+-- the present objects fit in what is reserved, and that in the room
+abbrev pub LengthsFit : Config → ℕ → Type 0
+LengthsFit c last = (es : History) → IsLegal c last es → (present_words c (state es) ≤ (state es).used) × ((state es).used ≤ c.words)
+
+-- a read finds what was last written
+abbrev pub ReadsLastWord : Config → ℕ → Type 0
+ReadsLastWord c last = (before rest : History) (t o i v : ℕ) → IsLegal c last (before ++ by t (Read o i v) ∷ rest) → IsLastWord o i v before
+
+-- a reference that was created is found until it is deleted
+abbrev pub CreatedIsFound : Config → ℕ → Type 0
+CreatedIsFound c last = (h : Handle) (t u o : ℕ) (r : Found) (before between rest : History)
+    → IsLegal c last (before ++ by t (Create h o) ∷ between ++ by u (Look h r) ∷ rest)
+    → AllByRecursion (λ e. e.act ≢ Delete h) between → (r ≡ Object o) ⊎ (r ≡ Cleared)

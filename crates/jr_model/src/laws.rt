@@ -1,0 +1,60 @@
+ghost use Rattle.std.specs.Prelude.{ℕ};
+ghost use Rattle.jr_word.specs.declared.config.Config.{Config};
+ghost use Rattle.jr_model.specs.Frames.{GivenOnce};
+ghost use Rattle.jr_model.specs.Laws.{
+  CreatedIsFound,
+  DeletedIsStale,
+  DeletedIsNotCreated,
+  CreatedOnce,
+  OneAnIndex,
+  NoCollectionInside,
+  OthersWait,
+  NamedIsPresent,
+  ElementsArePresent,
+  ReadsLastWord,
+  LengthsFit,
+};
+
+/// No deleted handle resolves again, and none is given again.
+pub fn no_deleted_handle_returns()
+    ensures look { (c : Config) (last : ℕ) → DeletedIsStale c last }
+    ensures create { (c : Config) (last : ℕ) → DeletedIsNotCreated c last }
+{}
+
+/// Each handle is created once, and each index has one handle at a time.
+pub fn handles_are_unique()
+    ensures once { (c : Config) (last : ℕ) → CreatedOnce c last }
+    ensures one { (c : Config) (last : ℕ) → OneAnIndex c last }
+{}
+
+/// No collection step lies in a stay, and nobody does more than wait in another's collection.
+pub fn stays_exclude_collections()
+    ensures stay { (c : Config) (last : ℕ) → NoCollectionInside c last }
+    ensures collection { (c : Config) (last : ℕ) → OthersWait c last }
+{}
+
+/// The object of each reference that is not cleared, and of each local, is present. Outside collections each element of a present object array is null or present.
+pub fn named_objects_are_present()
+    ensures named { (c : Config) (last : ℕ) → NamedIsPresent c last }
+    ensures elements { (c : Config) (last : ℕ) → ElementsArePresent c last }
+{}
+
+/// A read finds the word that was last written.
+pub fn reads_find_the_last_write()
+    ensures { (c : Config) (last : ℕ) → ReadsLastWord c last }
+{}
+
+/// The present objects fit in what is reserved, and that in the room.
+pub fn lengths_fit()
+    ensures { (c : Config) (last : ℕ) → LengthsFit c last }
+{}
+
+/// No local handle is given twice.
+pub fn local_handles_are_given_once()
+    ensures { (last thread : ℕ) → GivenOnce last thread }
+{}
+
+/// A reference that was created is found until it is deleted.
+pub fn created_references_are_found()
+    ensures { (c : Config) (last : ℕ) → CreatedIsFound c last }
+{}
