@@ -14,3 +14,19 @@ pub struct Config {
     /// Places for local references of each thread: 16 to 4,096.
     pub locals: u32,
 }
+
+impl Config {
+    ghost use Rattle.std.specs.Prelude.{◌≡◌};
+    ghost use Rattle.jr_word.specs.Config.{in_limits};
+
+    /// Whether the sizes are within the limits.
+    pub fn in_limits(&self) -> bool
+        ensures { result ≡ in_limits self.now }
+    {
+        (1..=64).contains(&self.threads)
+            && (1..=65_536).contains(&self.slots)
+            && (1..=65_535).contains(&self.objects)
+            && self.words <= 1_048_576
+            && (16..=4_096).contains(&self.locals)
+    }
+}

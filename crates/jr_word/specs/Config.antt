@@ -1,0 +1,11 @@
+-- The limits of a room's sizes.
+use Rattle.std.specs.Prelude.{ℕ, Bool, ◌&&◌, nat_le}
+use Rattle.jr_word.specs.declared.config.Config.{Config}
+
+-- whether a number lies between two limits, both allowed
+abbrev pub is_between : ℕ → ℕ → ℕ → Bool
+is_between low high n = nat_le low n && nat_le n high
+
+-- the limits of a configuration
+abbrev pub in_limits : Config → Bool
+in_limits c = is_between 1 64 c.threads && is_between 1 65536 c.slots && is_between 1 65535 c.objects && is_between 0 1048576 c.words && is_between 16 4096 c.locals
