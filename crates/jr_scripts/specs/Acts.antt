@@ -1,0 +1,76 @@
+-- The acts of steps, by what they found.
+use Rattle.std.specs.Prelude.{◌≡◌, ◌≢◌, ℕ, ◌==◌, ◌&&◌, cond, Bool, true, false, Option, Some, None, Result, Ok, Err, List, [], ◌∷◌}
+use Rattle.jr_word.specs.declared.handle.RefKind.{RefKind}
+use Rattle.jr_word.specs.declared.handle.RefKind.TheVariants.{Local, Global, Weak}
+use Rattle.jr_word.specs.declared.kind.Kind.{Kind}
+use Rattle.jr_word.specs.declared.slot.SlotParts.{SlotParts}
+use Rattle.jr_word.specs.declared.slot.SlotParts.TheVariants as slot
+use Rattle.jr_model.specs.declared.event.Role.{Role}
+use Rattle.jr_model.specs.declared.event.Role.TheVariants.{Knocking}
+use Rattle.jr_model.specs.declared.event.Found.{Found}
+use Rattle.jr_model.specs.declared.event.Found.TheVariants.{Object, Cleared, Stale}
+use Rattle.jr_model.specs.declared.event.Act.{Act}
+use Rattle.jr_model.specs.declared.event.Act.TheVariants.{Enter, Knock, Leave, Withdraw, Create, Look, Probe, Delete, DeleteStale, LocalPut, LocalDrop, New}
+use Rattle.jr_model.specs.State.{Handle, same_kind}
+use Rattle.jr_scripts.specs.declared.steps.Naming.{Naming}
+use Rattle.jr_scripts.specs.declared.steps.Naming.TheVariants as naming
+
+abbrev pub entered_as : Bool → Act
+entered_as true = Enter
+entered_as false = Knock
+
+abbrev pub leaving : Role → Act
+leaving Knocking = Withdraw
+leaving _ = Leave
+
+-- the object of a reference that stands, none where it is cleared
+abbrev pub found_object : Option ℕ → Found
+found_object (Some o) = Object o
+found_object None = Cleared
+
+-- the reference in a slot has this kind and serial: is it the handle's?
+abbrev pub is_its : Handle → RefKind → ℕ → Bool
+is_its h kind serial = same_kind kind h.kind && (serial == h.serial)
+
+-- what a slot's word says of a handle of its index
+abbrev pub reply : Handle → SlotParts → Found
+reply h (slot.Global serial o) = cond (is_its h Global serial) (Object o) Stale
+reply h (slot.Weak serial o) = cond (is_its h Weak serial) (found_object o) Stale
+reply h _ = Stale
+
+abbrev pub is_occupied : SlotParts → Bool
+is_occupied (slot.Free serial) = false
+is_occupied _ = true
+
+-- a load of the slot at an index that found the word
+abbrev pub named : ℕ → Naming → SlotParts → Act
+named i (naming.Look h) w = Look h (reply h w)
+named i naming.Probe w = Probe i (is_occupied w)
+
+-- a handle is looked up in its own slot
+abbrev pub NameFits : ℕ → Naming → Type 0
+NameFits i (naming.Look h) = (h.index ≡ i) × (h.kind ≢ Local) × (h.owner ≡ 0)
+NameFits i naming.Probe = Unit {0}
+
+-- the handle of a slot
+abbrev pub handle_of : RefKind → ℕ → ℕ → Handle
+handle_of kind serial i = record { kind = kind; serial = serial; index = i; owner = 0 }
+
+-- the exchange of a free slot for a reference
+abbrev pub claiming : ℕ → ℕ → RefKind → ℕ → Result (Unit {0}) SlotParts → Act
+claiming i serial kind o (Ok _) = Create (handle_of kind serial i) o
+claiming i serial kind o (Err found) = Probe i (is_occupied found)
+
+-- the exchange of a reference for a free slot
+abbrev pub freeing : Handle → Bool → Act
+freeing h true = Delete h
+freeing h false = DeleteStale h
+
+abbrev pub putting : ℕ → Option ℕ → Act
+putting p None = LocalDrop p
+putting p (Some o) = LocalPut p o
+
+-- the exchange of an absent header for one of an object without elements
+abbrev pub publishing : ℕ → Kind → Bool → List Act
+publishing o kind true = New o kind [] ∷ []
+publishing o kind false = []

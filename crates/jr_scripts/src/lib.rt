@@ -1,0 +1,10 @@
+//! Scripts: what they are, and how they are run.
+#![tactic(auto)]
+
+pub mod env;
+pub mod frames;
+pub mod gate;
+pub mod object;
+pub mod reference;
+pub mod row;
+pub mod steps;

@@ -1,0 +1,58 @@
+//! References as native code hands them in, and the tests that calls make of them.
+ghost use Rattle.std.specs.Prelude.{◌≡◌};
+ghost use Rattle.jr_model.specs.Calls.{Parts, is_local, is_out_of_bounds, is_foreign};
+ghost use Rattle.jr_scripts.specs.Reading.{read_word, word_of, OwnerFits};
+
+use jr_word::{Config, Handle, HandleParts, RefKind};
+
+/// What a word says that a caller hands in as a reference.
+#[derive(Clone, Copy, Debug, PartialEq, Eq)]
+pub enum Reference {
+    Null,
+    Malformed,
+    Parts(HandleParts),
+}
+
+impl Reference {
+    ghost use Rattle.std.specs.Prelude.{◌≡◌};
+    ghost use Rattle.jr_scripts.specs.Reading.{read_word, word_of, OwnerFits};
+
+    /// Reads a handle.
+    pub fn of(handle: Handle) -> Reference
+        ensures reads { word_of result ≡ read_word handle.word }
+        ensures owner { OwnerFits result }
+    {
+        if handle.word == 0 {
+            return Reference::Null;
+        }
+        match Handle::parts(handle.word) {
+            Some(parts) => Reference::Parts(parts),
+            None => Reference::Malformed,
+        }
+    }
+}
+
+/// Whether a handle is local.
+pub fn names_local(handle: HandleParts) -> bool
+    ensures { result ≡ is_local handle }
+{
+    handle.kind == RefKind::Local
+}
+
+/// Whether a handle's index lies past the row, or a local's place or owner past the room's.
+pub fn lies_outside(config: Config, handle: HandleParts) -> bool
+    ensures { result ≡ is_out_of_bounds config (Parts handle) }
+{
+    if names_local(handle) {
+        !(u32::from(handle.index) < config.locals && u32::from(handle.owner) < config.threads)
+    } else {
+        !(u32::from(handle.index) < config.slots)
+    }
+}
+
+/// Whether a handle is a local of another thread.
+pub fn belongs_elsewhere(thread: u8, handle: HandleParts) -> bool
+    ensures { result ≡ is_foreign thread (Parts handle) }
+{
+    names_local(handle) && handle.owner != thread
+}

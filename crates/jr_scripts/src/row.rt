@@ -1,0 +1,119 @@
+//! Global and weak global references in the slots of the row, over any steps.
+ghost use Rattle.std.specs.Prelude.{◌≡◌, ◌≢◌, ◌<◌, [], ◌∷◌, IfOk, IfErr, Some, None};
+ghost use Rattle.jr_word.specs.declared.handle.RefKind.TheVariants.{Local};
+ghost use Rattle.jr_word.specs.declared.fault.Fault.TheVariants.{RowFull};
+ghost use Rattle.jr_model.specs.declared.event.Role.TheVariants.{Within};
+ghost use Rattle.jr_model.specs.declared.event.Act.TheVariants.{Look};
+ghost use Rattle.jr_model.specs.Frames.{Frames};
+ghost use Rattle.jr_scripts.specs.Acts.{reply};
+ghost use Rattle.jr_scripts.specs.Works.{deletion};
+ghost use Rattle.jr_scripts.specs.Knowing.{anything, nothing, HasObject, MayKnow, Took};
+ghost use Rattle.jr_scripts.specs.Performing.{Searched, Performed};
+
+use crate::steps::{Naming, Steps};
+use jr_model::Found;
+use jr_word::{Fault, HandleParts, RefKind, SlotParts};
+
+/// Looks a handle up in its slot.
+pub fn look<S: Steps>(steps: &mut S, handle: HandleParts) -> Found
+    requires role { (S.stands steps.old).role ≡ Within }
+    requires row { handle.index < (S.stands steps.old).config.slots }
+    requires kind { (handle.kind ≢ Local) × (handle.owner ≡ 0) }
+    ensures { Took S.stands S.knows steps.old steps.new (Look handle result ∷ []) anything nothing }
+{
+    let word = steps.see_slot(handle.index, Naming::Look(handle));
+    found(handle, word)
+}
+
+/// What a slot's word says of a handle of its index.
+fn found(handle: HandleParts, word: SlotParts) -> Found
+    ensures { result ≡ reply handle word }
+{
+    match word {
+        SlotParts::Global { serial, object }
+            if is_its(handle, RefKind::Global, serial) =>
+        {
+            Found::Object(object)
+        }
+        SlotParts::Weak { serial, object } if is_its(handle, RefKind::Weak, serial) => {
+            match object {
+                Some(object) => Found::Object(object),
+                None => Found::Cleared,
+            }
+        }
+        _ => Found::Stale,
+    }
+}
+
+/// Whether a reference of this kind and serial, in the handle's slot, is the handle's.
+fn is_its(handle: HandleParts, kind: RefKind, serial: u16) -> bool {
+    handle.kind == kind && handle.serial == serial
+}
+
+/// One slot, looked at and claimed where it is free.
+fn try_slot<S: Steps>(
+    steps: &mut S,
+    index: u16,
+    kind: RefKind,
+    object: u16,
+) -> Option<HandleParts>
+    requires role { (S.stands steps.old).role ≡ Within }
+    requires row { index < (S.stands steps.old).config.slots }
+    requires kind { kind ≢ Local }
+    requires object { MayKnow S.knows steps.old (HasObject object) }
+    ensures { Searched S.stands S.knows steps.old steps.new kind object index (index + 1) result }
+{
+    let SlotParts::Free { serial } = steps.see_slot(index, Naming::Probe) else {
+        return None;
+    };
+    match steps.claim(index, serial, kind, object) {
+        Ok(()) => Some(HandleParts {
+            kind,
+            serial,
+            index,
+            owner: 0,
+        }),
+        Err(_) => None,
+    }
+}
+
+/// A new reference to a present object, in the first slot that is found free: E8 where none is.
+pub fn create<S: Steps>(
+    steps: &mut S,
+    kind: RefKind,
+    object: u16,
+) -> Result<HandleParts, Fault>
+    requires role { (S.stands steps.old).role ≡ Within }
+    requires kind { kind ≢ Local }
+    requires object { MayKnow S.knows steps.old (HasObject object) }
+    ensures ok { IfOk result (λ h. Searched S.stands S.knows steps.old steps.new kind object 0 (h.index + 1) (Some h)) }
+    ensures err { IfErr result (λ e. (e ≡ RowFull) × Searched S.stands S.knows steps.old steps.new kind object 0 (S.stands steps.old).config.slots None) }
+{
+    let slots = steps.config().slots;
+    for index in 0..slots {
+        let made = try_slot(steps, index as u16, kind, object);
+        if let Some(handle) = made {
+            return Ok(handle);
+        }
+    }
+    Err(Fault::RowFull)
+}
+
+/// Deletes a reference by one look, and one exchange where it stands: E2 where it does not.
+pub fn delete<S: Steps>(steps: &mut S, handle: HandleParts) -> Result<(), Fault>
+    requires role { (S.stands steps.old).role ≡ Within }
+    requires row { handle.index < (S.stands steps.old).config.slots }
+    requires kind { (handle.kind ≢ Local) × (handle.owner ≡ 0) }
+    ensures { (f : Frames) → Performed S.stands S.knows steps.old steps.new f f anything (λ s. deletion handle) result anything }
+{
+    let object = match look(steps, handle) {
+        Found::Object(object) => Some(object),
+        Found::Cleared => None,
+        Found::Stale => return Err(Fault::Stale),
+    };
+    if steps.free(handle, object) {
+        Ok(())
+    } else {
+        Err(Fault::Stale)
+    }
+}
