@@ -1,6 +1,7 @@
 //! The words of the row, what each says, and the types that every other crate speaks of.
 #![tactic(auto)]
 
+mod bits;
 mod config;
 mod fault;
 mod handle;
@@ -8,5 +9,5 @@ mod kind;
 
 pub use config::Config;
 pub use fault::Fault;
-pub use handle::{HandleParts, RefKind};
+pub use handle::{Handle, HandleParts, RefKind};
 pub use kind::Kind;
