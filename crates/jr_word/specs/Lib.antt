@@ -1,2 +1,6 @@
 pub mod Config
+pub mod Gate
 pub mod Handle
+pub mod Local
+pub mod Slot
+pub mod Top

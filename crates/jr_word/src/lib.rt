@@ -4,10 +4,18 @@
 mod bits;
 mod config;
 mod fault;
+mod gate;
 mod handle;
 mod kind;
+mod local;
+mod slot;
+mod top;
 
 pub use config::Config;
 pub use fault::Fault;
+pub use gate::{GateParts, GateWord};
 pub use handle::{Handle, HandleParts, RefKind};
 pub use kind::Kind;
+pub use local::{LocalParts, LocalWord};
+pub use slot::{SlotParts, SlotWord};
+pub use top::{Half, TopParts, TopWord};
