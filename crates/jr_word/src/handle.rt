@@ -1,5 +1,7 @@
 //! Handles: references as native code holds them.
 
+use crate::bits::u16_at;
+
 /// The kind of a reference.
 #[derive(Clone, Copy, Debug, PartialEq, Eq)]
 pub enum RefKind {
@@ -17,4 +19,89 @@ pub struct HandleParts {
     pub index: u16,
     /// The thread of a local reference, else 0.
     pub owner: u8,
+}
+
+/// A reference as native code holds it: a word of any value.
+#[derive(Clone, Copy, Debug, PartialEq, Eq)]
+pub struct Handle(pub u64);
+
+impl RefKind {
+    ghost use Rattle.std.specs.Prelude.{◌≡◌, IfSome};
+    ghost use Rattle.jr_word.specs.Handle.{reference_code, owner_limit};
+
+    /// The number of the kind: 1 local, 2 global, 3 weak.
+    #[inline]
+    pub fn code(self) -> u64
+        ensures { result ≡ reference_code self }
+    {
+        match self {
+            RefKind::Local => 1,
+            RefKind::Global => 2,
+            RefKind::Weak => 3,
+        }
+    }
+
+    /// The kind with a number.
+    #[inline]
+    pub fn from_code(code: u64) -> Option<Self>
+        ensures sound { IfSome result (λ kind. code ≡ reference_code kind) }
+        ensures complete { (kind : _) → code ≡ reference_code kind → result ≡ Some kind }
+    {
+        match code {
+            1 => Some(RefKind::Local),
+            2 => Some(RefKind::Global),
+            3 => Some(RefKind::Weak),
+            _ => None,
+        }
+    }
+
+    /// How many threads can own a reference of the kind: all 64, or thread 0 alone.
+    #[inline]
+    fn owner_limit(self) -> u64
+        ensures { result ≡ owner_limit self }
+    {
+        match self {
+            RefKind::Local => 64,
+            RefKind::Global | RefKind::Weak => 1,
+        }
+    }
+}
+
+impl Handle {
+    ghost use Rattle.std.specs.Prelude.{◌≡◌, ◌<◌, IfSome};
+    ghost use Rattle.jr_word.specs.Handle.{owner_limit, handle_word, IsHandle};
+
+    /// The reference to null.
+    pub const NULL: Self = Handle(0);
+
+    /// The handle with these parts.
+    #[inline]
+    pub fn pack(parts: HandleParts) -> Self
+        requires { parts.owner < owner_limit parts.kind }
+        ensures { result.0 ≡ handle_word parts }
+    {
+        let serial = u64::from(parts.serial) << 2;
+        let index = u64::from(parts.index) << 18;
+        let owner = u64::from(parts.owner) << 34;
+        Handle(parts.kind.code() + serial + index + owner)
+    }
+
+    /// What a word says as a handle, if it is well formed.
+    #[inline]
+    pub fn parts(word: u64) -> Option<HandleParts>
+        ensures sound { IfSome result (λ parts. IsHandle parts × (word ≡ handle_word parts)) }
+        ensures complete { (parts : _) → IsHandle parts → word ≡ handle_word parts → result ≡ Some parts }
+    {
+        let kind = RefKind::from_code(word & 3)?;
+        let owner = word >> 34;
+        if owner >= kind.owner_limit() {
+            return None;
+        }
+        Some(HandleParts {
+            kind,
+            serial: u16_at(word, 2),
+            index: u16_at(word, 18),
+            owner: owner as u8,
+        })
+    }
 }

@@ -16,3 +16,46 @@ pub enum Kind {
     /// A string of UTF-16 units.
     Text,
 }
+
+impl Kind {
+    ghost use Rattle.std.specs.Prelude.{◌≡◌, IfSome};
+    ghost use Rattle.jr_word.specs.Kind.{kind_code};
+
+    /// The number of the kind, 1 to 9.
+    #[inline]
+    pub fn code(self) -> u64
+        ensures { result ≡ kind_code self }
+    {
+        match self {
+            Kind::Plain => 1,
+            Kind::Boolean => 2,
+            Kind::Byte => 3,
+            Kind::Char => 4,
+            Kind::Short => 5,
+            Kind::Int => 6,
+            Kind::Long => 7,
+            Kind::Objects => 8,
+            Kind::Text => 9,
+        }
+    }
+
+    /// The kind with a number.
+    #[inline]
+    pub fn from_code(code: u64) -> Option<Self>
+        ensures sound { IfSome result (λ kind. code ≡ kind_code kind) }
+        ensures complete { (kind : _) → code ≡ kind_code kind → result ≡ Some kind }
+    {
+        match code {
+            1 => Some(Kind::Plain),
+            2 => Some(Kind::Boolean),
+            3 => Some(Kind::Byte),
+            4 => Some(Kind::Char),
+            5 => Some(Kind::Short),
+            6 => Some(Kind::Int),
+            7 => Some(Kind::Long),
+            8 => Some(Kind::Objects),
+            9 => Some(Kind::Text),
+            _ => None,
+        }
+    }
+}

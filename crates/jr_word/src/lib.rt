@@ -1,12 +1,23 @@
 //! The words of the row, what each says, and the types that every other crate speaks of.
 #![tactic(auto)]
 
+mod bits;
 mod config;
 mod fault;
+mod gate;
 mod handle;
+mod header;
 mod kind;
+mod local;
+mod slot;
+mod top;
 
 pub use config::Config;
 pub use fault::Fault;
-pub use handle::{HandleParts, RefKind};
+pub use gate::{GateParts, GateWord};
+pub use handle::{Handle, HandleParts, RefKind};
+pub use header::{Header, HeaderParts};
 pub use kind::Kind;
+pub use local::{LocalParts, LocalWord};
+pub use slot::{SlotParts, SlotWord};
+pub use top::{Half, TopParts, TopWord};

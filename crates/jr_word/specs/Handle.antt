@@ -1,0 +1,27 @@
+-- A reference as a word.
+use Rattle.std.specs.Prelude.{ℕ, ◌+◌, ◌*◌, ◌^◌, ◌<◌}
+use Rattle.jr_word.specs.declared.handle.RefKind.{RefKind}
+use Rattle.jr_word.specs.declared.handle.RefKind.TheVariants.{Local, Global, Weak}
+use Rattle.jr_word.specs.declared.handle.HandleParts.{HandleParts}
+
+-- the number of a kind of reference
+abbrev pub reference_code : RefKind → ℕ
+reference_code Local = 1
+reference_code Global = 2
+reference_code Weak = 3
+
+-- how many threads can own a reference: each of 64 a local one, and thread 0 alone any other
+abbrev pub owner_limit : RefKind → ℕ
+owner_limit Local = 64
+owner_limit Global = 1
+owner_limit Weak = 1
+
+-- the parts that a handle can have
+pub record IsHandle (p : HandleParts) : Type 0 where
+  pub serial : p.serial < 2 ^ 16
+  pub index : p.index < 2 ^ 16
+  pub owner : p.owner < owner_limit p.kind
+
+-- THE WORD of a handle: bits 0 to 1 its kind, 2 to 17 its serial, 18 to 33 its index, 34 to 39 its owner
+abbrev pub handle_word : HandleParts → ℕ
+handle_word p = reference_code p.kind + 4 * p.serial + 2 ^ 18 * p.index + 2 ^ 34 * p.owner
