@@ -103,6 +103,10 @@ abbrev pub LostClaim : ℕ → Result (Unit {0}) SlotParts → Known → Known �
 LostClaim i (Ok _) k k' = Unit {0}
 LostClaim i (Err found) k k' = Once (view k) (view k') (λ s. IsOccupied k.last s i)
 
+-- the thread has no local reference
+abbrev pub HasNoLocals : Known → Type 0
+HasNoLocals k = (p : ℕ) → (state_of k).locals k.thread p ≡ None
+
 -- the frames are those of the thread's locals
 abbrev pub Holds : Frames → Known → Type 0
 Holds f k = Agree k.thread f (state_of k)

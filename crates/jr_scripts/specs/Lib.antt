@@ -1,2 +1,8 @@
-pub mod Knowing
 pub mod Acts
+pub mod Knowing
+pub mod Performing
+pub mod Reading
+pub mod Works
+pub mod Table
+pub mod Places
+pub mod Deeds

@@ -6,5 +6,6 @@ pub mod frames;
 pub mod gate;
 pub mod object;
 pub mod reference;
+pub mod resolve;
 pub mod row;
 pub mod steps;

@@ -1,7 +1,6 @@
 //! References as native code hands them in, and the tests that calls make of them.
 ghost use Rattle.std.specs.Prelude.{◌≡◌};
 ghost use Rattle.jr_model.specs.Calls.{Parts, is_local, is_out_of_bounds, is_foreign};
-ghost use Rattle.jr_scripts.specs.Reading.{read_word, word_of, OwnerFits};
 
 use jr_word::{Config, Handle, HandleParts, RefKind};
 
@@ -15,17 +14,17 @@ pub enum Reference {
 
 impl Reference {
     ghost use Rattle.std.specs.Prelude.{◌≡◌};
-    ghost use Rattle.jr_scripts.specs.Reading.{read_word, word_of, OwnerFits};
+    ghost use Rattle.jr_scripts.specs.Reading.{IsReadAs, word_of, OwnerFits};
 
     /// Reads a handle.
     pub fn of(handle: Handle) -> Reference
-        ensures reads { word_of result ≡ read_word handle.word }
+        ensures reads { IsReadAs handle.0 (word_of result) }
         ensures owner { OwnerFits result }
     {
-        if handle.word == 0 {
+        if handle.0 == 0 {
             return Reference::Null;
         }
-        match Handle::parts(handle.word) {
+        match Handle::parts(handle.0) {
             Some(parts) => Reference::Parts(parts),
             None => Reference::Malformed,
         }

@@ -1,5 +1,5 @@
 //! Global and weak global references in the slots of the row, over any steps.
-ghost use Rattle.std.specs.Prelude.{◌≡◌, ◌≢◌, ◌<◌, [], ◌∷◌, IfOk, IfErr, Some, None};
+ghost use Rattle.std.specs.Prelude.{◌≡◌, ◌≢◌, ◌<◌, ◌+◌, [], ◌∷◌, IfOk, IfErr, Some, None};
 ghost use Rattle.jr_word.specs.declared.handle.RefKind.TheVariants.{Local};
 ghost use Rattle.jr_word.specs.declared.fault.Fault.TheVariants.{RowFull};
 ghost use Rattle.jr_model.specs.declared.event.Role.TheVariants.{Within};

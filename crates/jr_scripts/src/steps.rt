@@ -3,9 +3,9 @@ ghost use Rattle.std.specs.Prelude.{◌≡◌, ◌≢◌, ◌⊎◌, ℕ, ◌<�
 ghost use Rattle.jr_word.specs.declared.handle.RefKind.TheVariants.{Local};
 ghost use Rattle.jr_model.specs.declared.event.Role.TheVariants.{Outside, Within, Knocking};
 ghost use Rattle.jr_scripts.specs.Acts.{entered_as, leaving, named, NameFits, claiming, freeing, putting, publishing, found_object};
-ghost use Rattle.jr_scripts.specs.Knowing.{anything, nothing, HasObject, HasLooked, IsFreeSlot, ShowsSlot, LostClaim, ShowsPublished, MayKnow, Took};
+ghost use Rattle.jr_scripts.specs.Knowing.{anything, nothing, HasObject, HasOptional, HasLooked, IsFreeSlot, ShowsSlot, LostClaim, MayKnow, Took};
 
-use jr_model::{Event, Role};
+use jr_model::Event;
 use jr_word::{Config, HandleParts, HeaderParts, RefKind, SlotParts};
 use std::collections::LinkedList;
 
@@ -14,7 +14,6 @@ pub struct Known {
     pub config: Config,
     pub last: u16,
     pub thread: u8,
-    pub role: Role,
     pub seen: LinkedList<Event>,
 }
 
@@ -110,4 +109,6 @@ pub trait Steps {
     ghost few_objects: { (s : Self) → (stands s).config.objects ≤ 65535 };
 
     ghost few_locals: { (s : Self) → (stands s).config.locals ≤ 4096 };
+
+    ghost few_threads: { (s : Self) → (stands s).thread < 64 };
 }

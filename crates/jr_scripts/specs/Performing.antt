@@ -1,0 +1,83 @@
+-- What a call is, over any steps, for whatever was known.
+use Rattle.std.specs.Prelude.{◌≡◌, ◌≤◌, ◌<◌, ℕ, Bool, Result, Ok, Err, Option, Some, None, List, [], ◌∷◌, ◌++◌, map}
+use Rattle.jr_word.specs.declared.config.Config.{Config}
+use Rattle.jr_word.specs.declared.fault.Fault.{Fault}
+use Rattle.jr_word.specs.declared.fault.Fault.TheVariants as fault
+use Rattle.jr_word.specs.declared.handle.RefKind.{RefKind}
+use Rattle.jr_word.specs.declared.kind.Kind.{Kind}
+use Rattle.jr_model.specs.declared.event.Act.{Act}
+use Rattle.jr_model.specs.declared.event.Act.TheVariants.{Create, Probe, New}
+use Rattle.jr_model.specs.State.{Handle, State, IsPresent, IsOccupied}
+use Rattle.jr_model.specs.History.{PassView, Did}
+use Rattle.jr_model.specs.Frames.{Frames}
+use Rattle.jr_model.specs.Calls.{Call, Ran}
+use Rattle.jr_scripts.specs.declared.steps.Known.{Known}
+use Rattle.jr_scripts.specs.Knowing.{Standing, view, state_of, HasObject, Holds, Once}
+
+-- every object number of the room is present
+abbrev pub EachPresent : Config → State → Type 0
+EachPresent c s = (o : ℕ) → 1 ≤ o → o ≤ c.objects → IsPresent s o
+
+-- a refusal that speaks of the row or of the objects comes only where it is just: at some moment of the call each index was occupied, and in one moment each object number was present
+abbrev pub IsJust : {A : Type 0} → PassView → PassView → Result A Fault → Type 0
+IsJust old new (Ok x) = Unit {0}
+IsJust old new (Err fault.RowFull) = (i : ℕ) → i < old.config.slots → Once old new (λ s. IsOccupied old.last s i)
+IsJust old new (Err fault.ObjectsFull) = Once old new (EachPresent old.config)
+IsJust old new (Err e) = Unit {0}
+
+module _ {S : Type 0} (stands : S → Standing) (knows : S → Known → Type 0) where
+  -- a call was made: for whatever was known and meets the condition, something is known from which the thread did what the call does, with this answer. The call may name the state that it leaves
+  pub record Performed {A : Type 0} (old new : S) (before after : Frames) (met : Known → Type 0) (call : State → Call A) (answer : Result A Fault) (so : Known → Type 0) : Type 0 where
+    pub stands_is : stands new ≡ stands old
+    pub ran : (k : Known) → knows old k → met k
+        → (k' : Known) × knows new k' × Ran (view k) (view k') before after (call (state_of k')) answer × IsJust (view k) (view k') answer × so k'
+
+-- looks at slots, and then the creation, if one was won
+abbrev pub search_acts : ℕ → List (ℕ × Bool) → Option Handle → List Act
+search_acts o looks None = map (λ l. Probe l.0 l.1) looks
+search_acts o looks (Some h) = map (λ l. Probe l.0 l.1) looks ++ Create h o ∷ []
+
+abbrev pub OfKind : RefKind → Option Handle → Type 0
+OfKind k None = Unit {0}
+OfKind k (Some h) = h.kind ≡ k
+
+-- where none was won, each index from the first to the last was occupied at some moment
+abbrev pub EachOccupied : PassView → PassView → ℕ → ℕ → Option Handle → Type 0
+EachOccupied old new first last (Some h) = Unit {0}
+EachOccupied old new first last None = (i : ℕ) → first ≤ i → i < last → Once old new (λ s. IsOccupied old.last s i)
+
+-- the acts of a publication
+abbrev pub publication : Kind → Option ℕ → List Act
+publication kind None = []
+publication kind (Some o) = New o kind [] ∷ []
+
+abbrev pub IsPublished : Config → Option ℕ → Known → Type 0
+IsPublished c None k = EachPresent c (state_of k)
+IsPublished c (Some o) k = HasObject o k
+
+module _ {S : Type 0} (stands : S → Standing) (knows : S → Known → Type 0) where
+  -- the slots from first to last were searched for a free one, for a new reference to a present object
+  pub record Searched (old new : S) (kind : RefKind) (o first last : ℕ) (made : Option Handle) : Type 0 where
+    pub stands_is : stands new ≡ stands old
+    pub kind_is : OfKind kind made
+    pub did : (k : Known) → knows old k → HasObject o k
+        → (k' : Known) × knows new k' × HasObject o k' × EachOccupied (view k) (view k') first last made × (looks : List (ℕ × Bool)) × Did (view k) (view k') (search_acts o looks made)
+
+  -- a new object without elements, or every object number is present
+  pub record Published (old new : S) (kind : Kind) (made : Option ℕ) : Type 0 where
+    pub stands_is : stands new ≡ stands old
+    pub did : (k : Known) → knows old k → (k' : Known) × knows new k' × IsPublished (stands old).config made k' × Did (view k) (view k') (publication kind made)
+
+-- the object that was found is present
+abbrev pub FoundPresent : Result (Option ℕ) Fault → Known → Type 0
+FoundPresent (Ok (Some o)) k = HasObject o k
+FoundPresent _ k = Unit {0}
+
+module _ {S : Type 0} (stands : S → Standing) (knows : S → Known → Type 0) where
+  -- a reference was resolved: the object that was found is present
+  abbrev pub Resolves : S → S → Frames → Call (Option ℕ) → Result (Option ℕ) Fault → Type 0
+  Resolves old new f call answer = Performed stands knows old new f f (Holds f) (λ s. call) answer (λ k. Holds f k × FoundPresent answer k)
+
+  -- a call was made, and the frames go on agreeing with the locals
+  abbrev pub Calls : {A : Type 0} → S → S → Frames → Frames → Call A → Result A Fault → Type 0
+  Calls old new f g call answer = Performed stands knows old new f g (Holds f) (λ s. call) answer (Holds g)

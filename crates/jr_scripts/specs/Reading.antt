@@ -1,0 +1,38 @@
+-- A word as the calls read it.
+use Rattle.std.specs.Prelude.{◌≡◌, ◌≢◌, ℕ, Option, Some, None, Result, Ok, Err}
+use Rattle.jr_word.specs.declared.handle.RefKind.TheVariants.{Local}
+use Rattle.jr_word.specs.declared.fault.Fault.{Fault}
+use Rattle.jr_word.specs.declared.fault.Fault.TheVariants as fault
+use Rattle.jr_word.specs.Handle.{handle_word, IsHandle}
+use Rattle.jr_model.specs.declared.event.Found.{Found}
+use Rattle.jr_model.specs.declared.event.Found.TheVariants as found
+use Rattle.jr_model.specs.State.{Handle}
+use Rattle.jr_model.specs.Calls.{Word, Nothing, Malformed, Parts}
+use Rattle.jr_scripts.specs.declared.reference.Reference.{Reference}
+use Rattle.jr_scripts.specs.declared.reference.Reference.TheVariants as reference
+
+-- what a word says that is handed in as a reference: nothing for 0, the parts of a handle, or neither
+abbrev pub IsReadAs : ℕ → Word → Type 0
+IsReadAs w Nothing = w ≡ 0
+IsReadAs w Malformed = (w ≢ 0) × ((h : Handle) → IsHandle h → w ≢ handle_word h)
+IsReadAs w (Parts h) = IsHandle h × (w ≡ handle_word h)
+
+abbrev pub word_of : Reference → Word
+word_of reference.Null = Nothing
+word_of reference.Malformed = Malformed
+word_of (reference.Parts h) = Parts h
+
+-- only a local reference has an owner
+abbrev pub OwnerFits : Reference → Type 0
+OwnerFits (reference.Parts h) = h.kind ≢ Local → h.owner ≡ 0
+OwnerFits _ = Unit {0}
+
+-- the answers of looks
+abbrev pub found_answer : Found → Result (Option ℕ) Fault
+found_answer (found.Object o) = Ok (Some o)
+found_answer found.Cleared = Ok None
+found_answer found.Stale = Err fault.Stale
+
+abbrev pub local_answer : Option ℕ → Result (Option ℕ) Fault
+local_answer (Some o) = Ok (Some o)
+local_answer None = Err fault.Stale

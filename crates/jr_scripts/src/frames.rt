@@ -1,0 +1,124 @@
+//! The local references of a thread, in one base frame.
+ghost use Rattle.std.specs.Prelude.{◌≡◌, ◌<◌, ◌≤◌};
+
+use arrayvec::ArrayVec;
+use jr_model::LocalRef;
+use jr_word::{Config, HandleParts, RefKind};
+use std::marker::Model;
+
+/// The most places for local references that a thread can have.
+const MOST_PLACES: usize = 4_096;
+
+/// A place for a local reference.
+#[derive(Clone, Copy, Default)]
+struct Place {
+    /// How many handles it has given: those of serials 0 upward.
+    given: u32,
+    /// The object of the reference here, 0 where it is free or retired.
+    object: u16,
+}
+
+/// The local references of a thread. All stand in one base frame.
+#[derive(Drop)]
+pub struct Frames {
+    thread: u8,
+    last: u16,
+    /// Every place, by number.
+    places: ArrayVec<Place, MOST_PLACES>,
+    /// The places that hold a reference, the oldest reference first.
+    standing: ArrayVec<u16, MOST_PLACES>,
+}
+
+impl Model for Frames {
+    ghost use Rattle.jr_scripts.specs.Table.{Table};
+
+    ghost Value = { Table };
+
+    ghost use Rattle.jr_scripts.specs.Places.{table, IsTable};
+
+    ghost view = { table };
+
+    ghost invariant = { IsTable };
+}
+
+impl Frames {
+    ghost use Rattle.std.specs.Prelude.{◌≡◌, ◌≢◌, ◌≤◌, ◌==◌, ◌<◌, IfSome, IfNone, IsSome, Some, None};
+    ghost use Rattle.jr_model.specs.Frames.{fresh_frames, object_of, object_at, free_places, IsAdded, deleted};
+    ghost use Rattle.jr_scripts.specs.Table.{IsNext, IsOnly};
+
+    /// No reference, and as many places as the configuration says.
+    pub fn new(thread: u8, config: &Config, last: u16) -> Frames
+        requires { config.now.locals ≤ 4096 }
+        ensures { result ≡ record { frames = fresh_frames config.now.locals; thread = thread; last = last } }
+    {
+        let mut places = ArrayVec::new();
+        for _ in 0..config.locals {
+            places.push(Place::default());
+        }
+        Frames {
+            thread,
+            last,
+            places,
+            standing: ArrayVec::new(),
+        }
+    }
+
+    /// The handle that a new reference gets, if a place is free.
+    pub fn next(&self) -> Option<HandleParts>
+        ensures none { IfNone result (free_places self.now.last self.now.frames ≡ 0) }
+        ensures some { IfSome result (IsNext self.now) }
+    {
+        let last = u32::from(self.last);
+        let index = self
+            .places
+            .iter()
+            .position(|place| place.object == 0 && place.given <= last)?;
+        Some(HandleParts {
+            kind: RefKind::Local,
+            serial: self.places[index].given as u16,
+            index: index as u16,
+            owner: self.thread,
+        })
+    }
+
+    /// Adds a reference to an object at the next handle.
+    pub fn add(&mut self, handle: HandleParts, object: u16)
+        requires next { IsNext self.old handle }
+        requires object { object ≢ 0 }
+        ensures added { IsAdded self.old.last self.old.thread self.old.frames (record { handle = handle; object = object }) self.new.frames }
+        ensures only { IsOnly self.old.frames handle.index (Some object) self.new.frames }
+        ensures same { (self.new.thread ≡ self.old.thread) × (self.new.last ≡ self.old.last) }
+    {
+        let place = &mut self.places[usize::from(handle.index)];
+        place.given += 1;
+        place.object = object;
+        self.standing.push(handle.index);
+    }
+
+    /// The object of a handle, if its reference stands.
+    pub fn object_of(&self, handle: HandleParts) -> Option<u16>
+        ensures object { result ≡ object_of self.now.frames handle }
+        ensures place { IfSome result (λ o. object_at self.now.frames handle.index ≡ Some o) }
+    {
+        let place = self.places.get(usize::from(handle.index))?;
+        let is_its = handle.kind == RefKind::Local
+            && handle.owner == self.thread
+            && u32::from(handle.serial) + 1 == place.given;
+        if is_its && place.object != 0 {
+            Some(place.object)
+        } else {
+            None
+        }
+    }
+
+    /// Removes the reference of a handle that stands.
+    pub fn delete(&mut self, handle: HandleParts)
+        requires { IsSome (object_of self.old.frames handle) }
+        ensures deleted { self.new.frames ≡ deleted self.old.frames handle }
+        ensures only { IsOnly self.old.frames handle.index None self.new.frames }
+        ensures same { (self.new.thread ≡ self.old.thread) × (self.new.last ≡ self.old.last) }
+    {
+        self.places[usize::from(handle.index)].object = 0;
+        self.standing.retain(|place| *place != handle.index);
+    }
+}

@@ -1,0 +1,137 @@
+//! How a call resolves the references that it is handed, over any steps.
+ghost use Rattle.std.specs.Prelude.{◌≡◌, ◌≢◌, Some, None, Ok, false};
+ghost use Rattle.jr_word.specs.declared.handle.RefKind.TheVariants.{Local};
+ghost use Rattle.jr_model.specs.declared.event.Role.TheVariants.{Within};
+ghost use Rattle.jr_model.specs.Calls.{Parts, is_out_of_bounds, looked_at, type_found, type_local};
+ghost use Rattle.jr_model.specs.References.{resolved};
+ghost use Rattle.jr_scripts.specs.Reading.{word_of, OwnerFits, found_answer, local_answer};
+ghost use Rattle.jr_scripts.specs.Works.{typing};
+ghost use Rattle.jr_scripts.specs.Performing.{Resolves, Calls};
+
+use crate::frames::Frames;
+use crate::reference::{Reference, belongs_elsewhere, lies_outside, names_local};
+use crate::row::look;
+use crate::steps::Steps;
+use jr_model::Found;
+use jr_word::{Fault, HandleParts, RefKind};
+
+fn answer_of_found(found: Found) -> Result<Option<u16>, Fault>
+    ensures { result ≡ found_answer found }
+{
+    match found {
+        Found::Object(object) => Ok(Some(object)),
+        Found::Cleared => Ok(None),
+        Found::Stale => Err(Fault::Stale),
+    }
+}
+
+fn answer_of_local(object: Option<u16>) -> Result<Option<u16>, Fault>
+    ensures { result ≡ local_answer object }
+{
+    match object {
+        Some(object) => Ok(Some(object)),
+        None => Err(Fault::Stale),
+    }
+}
+
+/// The object of a handle that lies in bounds.
+fn look_at<S: Steps>(
+    steps: &mut S,
+    frames: &Frames,
+    handle: HandleParts,
+) -> Result<Option<u16>, Fault>
+    requires role { (S.stands steps.old).role ≡ Within }
+    requires bounds { is_out_of_bounds (S.stands steps.old).config (Parts handle) ≡ false }
+    requires owner { handle.kind ≢ Local → handle.owner ≡ 0 }
+    ensures { Resolves S.stands S.knows steps.old steps.new frames.now.frames (looked_at handle) result }
+{
+    if names_local(handle) {
+        answer_of_local(frames.object_of(handle))
+    } else {
+        answer_of_found(look(steps, handle))
+    }
+}
+
+fn resolve_parts<S: Steps>(
+    steps: &mut S,
+    frames: &Frames,
+    handle: HandleParts,
+) -> Result<Option<u16>, Fault>
+    requires role { (S.stands steps.old).role ≡ Within }
+    requires owner { handle.kind ≢ Local → handle.owner ≡ 0 }
+    ensures { Resolves S.stands S.knows steps.old steps.new frames.now.frames (resolved (S.stands steps.old).config (S.stands steps.old).last (S.stands steps.old).thread (Parts handle)) result }
+{
+    if lies_outside(steps.config(), handle) {
+        return Err(Fault::Stale);
+    }
+    if belongs_elsewhere(steps.thread(), handle) {
+        return Err(Fault::Foreign);
+    }
+    look_at(steps, frames, handle)
+}
+
+/// The object of a reference: none for NULL and a cleared one, E2 and E3 for what is no reference here.
+pub fn resolve<S: Steps>(
+    steps: &mut S,
+    frames: &Frames,
+    reference: Reference,
+) -> Result<Option<u16>, Fault>
+    requires role { (S.stands steps.old).role ≡ Within }
+    requires owner { OwnerFits reference }
+    ensures { Resolves S.stands S.knows steps.old steps.new frames.now.frames (resolved (S.stands steps.old).config (S.stands steps.old).last (S.stands steps.old).thread (word_of reference)) result }
+{
+    match reference {
+        Reference::Null => Ok(None),
+        Reference::Malformed => Err(Fault::Stale),
+        Reference::Parts(handle) => resolve_parts(steps, frames, handle),
+    }
+}
+
+fn type_of_local(object: Option<u16>) -> u8
+    ensures { result ≡ type_local object }
+{
+    if object.is_some() { 1 } else { 0 }
+}
+
+fn type_of_found(kind: RefKind, found: Found) -> u8
+    ensures { result ≡ type_found kind found }
+{
+    match found {
+        Found::Stale => 0,
+        _ => match kind {
+            RefKind::Local => 1,
+            RefKind::Global => 2,
+            RefKind::Weak => 3,
+        },
+    }
+}
+
+fn type_of_parts<S: Steps>(steps: &mut S, frames: &Frames, handle: HandleParts) -> u8
+    requires role { (S.stands steps.old).role ≡ Within }
+    requires owner { handle.kind ≢ Local → handle.owner ≡ 0 }
+    ensures { Calls S.stands S.knows steps.old steps.new frames.now.frames frames.now.frames (typing (S.stands steps.old).config (S.stands steps.old).thread (Parts handle)) (Ok result) }
+{
+    if lies_outside(steps.config(), handle) {
+        return 0;
+    }
+    if belongs_elsewhere(steps.thread(), handle) {
+        return 0;
+    }
+    if names_local(handle) {
+        type_of_local(frames.object_of(handle))
+    } else {
+        type_of_found(handle.kind, look(steps, handle))
+    }
+}
+
+/// The type of a reference: 1 local, 2 global, 3 weak global, and 0 for NULL and for what is no reference here.
+pub fn type_of<S: Steps>(steps: &mut S, frames: &Frames, reference: Reference) -> u8
+    requires role { (S.stands steps.old).role ≡ Within }
+    requires owner { OwnerFits reference }
+    ensures { Calls S.stands S.knows steps.old steps.new frames.now.frames frames.now.frames (typing (S.stands steps.old).config (S.stands steps.old).thread (word_of reference)) (Ok result) }
+{
+    match reference {
+        Reference::Null | Reference::Malformed => 0,
+        Reference::Parts(handle) => type_of_parts(steps, frames, handle),
+    }
+}
