@@ -15,7 +15,7 @@ use Rattle.jr_model.proofs.Updates.{at_number, eq_false}
 use Rattle.jr_model.proofs.Histories.{legal_append, state_append, mine_append}
 use Rattle.jr_model.proofs.Gates.{IsApart, apart_after, apart_state, stay_act, collection_act}
 
-append_cancel : {A : Type 0} (xs ys zs : List A) → xs ++ ys ≡ xs ++ zs → ys ≡ zs
+pub append_cancel : {A : Type 0} (xs ys zs : List A) → xs ++ ys ≡ xs ++ zs → ys ≡ zs
 append_cancel [] ys zs e = e
 append_cancel (x ∷ xs) ys zs e = append_cancel xs ys zs cc
 
@@ -156,12 +156,17 @@ role_did {old} {new} acts d =
     ∙ (role_from_append Outside (mine old.seen old.thread) acts
     ∙ ap (λ r. role_from r acts) (sym (role_of_state old.seen old.thread)))))
 
+-- the thread's own acts among what was seen since
+pub mine_did : {old new : PassView} (acts : List Act) (d : Did old new acts) → mine d.begins.0 old.thread ≡ acts
+mine_did {old} {new} acts d =
+    append_cancel (mine old.seen old.thread) (mine d.begins.0 old.thread) acts (sym (mine_append old.seen d.begins.0 old.thread) ∙ (ap (λ l. mine l old.thread) d.begins.1 ∙ d.own))
+
 -- from within, what is present stays until the thread leaves
 pub still_did : {old new : PassView} (acts : List Act) → Did old new acts → role_of old ≡ Within → AllByRecursion (λ a. a ≢ Leave) acts → IsStill (state old.seen) (state new.seen)
 still_did {old} {new} acts d w q =
     let rest = d.begins.0 in
     let both = (legal_append old.config old.last old.seen rest).0 (subst (IsLegal old.config old.last) (sym d.begins.1) d.legal) in
-    let own : mine rest old.thread ≡ acts = append_cancel (mine old.seen old.thread) (mine rest old.thread) acts (sym (mine_append old.seen rest old.thread) ∙ (ap (λ l. mine l old.thread) d.begins.1 ∙ d.own)) in
+    let own : mine rest old.thread ≡ acts = mine_did acts d in
     let still = still_along old.config old.last old.thread (state old.seen) rest (apart_state old.config old.last old.seen both.0) w
     (no_leave rest old.thread (subst (AllByRecursion (λ a. a ≢ Leave)) (sym own) q)) both.1 in
     subst (IsStill (state old.seen)) (sym (state_append old.seen rest) ∙ ap state d.begins.1) still

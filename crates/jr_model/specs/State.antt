@@ -10,6 +10,7 @@ use Rattle.jr_model.specs.declared.event.Role.{Role}
 use Rattle.jr_model.specs.declared.event.Role.TheVariants.{Outside, Collecting}
 use Rattle.jr_model.specs.declared.event.Found.{Found}
 use Rattle.jr_model.specs.declared.event.Found.TheVariants.{Object, Stale}
+use Rattle.jr_model.specs.declared.summary.Summary.{Summary}
 use Rattle.jr_model.specs.Maps.{sum_below, count_below}
 
 -- a handle, as its four numbers
@@ -111,12 +112,6 @@ is_there _ = true
 -- how many references of the kind stand, cleared ones too
 abbrev pub references : Config → ℕ → RefKind → State → ℕ
 references c last k s = sum_below c.slots (λ i. count_below (last + 1) (λ n. is_there (s.refs (record { kind = k; serial = n; index = i; owner = 0 }))))
-
-pub record Summary : Type 0 where
-  pub globals : ℕ
-  pub weaks : ℕ
-  pub live : ℕ
-  pub used : ℕ
 
 abbrev pub summary : Config → ℕ → State → Summary
 summary c last s = record {

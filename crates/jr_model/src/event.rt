@@ -1,3 +1,7 @@
+//! The events of the machine: each step of a thread, with its reply.
+ghost use Rattle.std.specs.Prelude.{◌≡◌, ◌≢◌, ◌↔◌, IsTrue};
+ghost use Rattle.jr_model.specs.declared.event.Found.TheVariants.{Stale};
+
 use jr_word::{HandleParts, Kind};
 use std::collections::LinkedList;
 
@@ -14,6 +18,7 @@ pub enum Role {
 /// What a look at a global or weak reference finds.
 #[derive(Clone, Copy, Debug, PartialEq, Eq)]
 pub enum Found {
+    /// The object's number.
     Object(u16),
     /// A weak reference whose object was collected.
     Cleared,
@@ -31,76 +36,108 @@ pub struct Event {
 /// What a step does, with its reply.
 #[derive(Drop)]
 pub enum Act {
+    /// Goes in.
     Enter,
+    /// Finds the gate shut on the way in.
     Knock,
+    /// Goes out.
     Leave,
+    /// Gives the entry up that found the gate shut.
     Withdraw,
+    /// Shuts the gate, for a collection.
     Shut,
-    /// The gate was not shut, since this many threads were not outside.
+    /// Does not shut the gate, since this many threads are not outside.
     ShutBusy {
         count: u32,
     },
+    /// Opens the gate again after a collection.
     Reopen,
+    /// Makes a global or weak reference.
     Create {
         handle: HandleParts,
         object: u16,
     },
+    /// Looks a handle up.
     Look {
         handle: HandleParts,
         found: Found,
     },
+    /// Asks whether no reference can be made at an index.
     Probe {
         index: u16,
         occupied: bool,
     },
+    /// Takes a reference away.
     Delete {
         handle: HandleParts,
     },
+    /// Finds no reference to take away.
     DeleteStale {
         handle: HandleParts,
     },
+    /// Takes its object from a weak reference, which stays.
     Clear {
         handle: HandleParts,
     },
+    /// Puts an object at a place for a local reference.
     LocalPut {
         place: u16,
         object: u16,
     },
+    /// Leaves a place for a local reference empty.
     LocalDrop {
         place: u16,
     },
+    /// Reserves words of array space.
     Reserve {
         words: u32,
     },
+    /// Finds no room for the words beside those that are used.
     ReserveFull {
         words: u32,
         used: u32,
     },
+    /// Finds another number of words used than was looked at.
     ReserveLost {
         words: u32,
         looked: u32,
         found: u32,
     },
+    /// Makes an object.
     New {
         object: u16,
         kind: Kind,
         words: LinkedList<u64>,
     },
+    /// Reads an element.
     Read {
         object: u16,
         index: u32,
         word: u64,
     },
+    /// Writes an element.
     Write {
         object: u16,
         index: u32,
         word: u64,
     },
+    /// Takes an object away that nothing reaches.
     Drop {
         object: u16,
     },
+    /// Sets how many words are used, after a collection.
     Settle {
         used: u32,
     },
+    /// Changes nothing: the thread learns what others did.
     Meet,
+}
+
+impl Found {
+    /// Whether a reference stands, be it cleared.
+    pub const fn is_there(self) -> bool
+        ensures { IsTrue result ↔ (self ≢ Stale) }
+    {
+        !matches!(self, Found::Stale)
+    }
 }

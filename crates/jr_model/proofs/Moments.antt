@@ -1,0 +1,140 @@
+-- What was so at some moment, and the grounds of refusals.
+use Rattle.std.proofs.Common.{◌≡◌, ◌+◌, ◌<◌, ◌≤◌, ℕ, ◌==◌, Bool, true, false, cond, List, [], ◌∷◌, ◌++◌, Result, Ok, Err, IfErr, refl, sym, ap, subst, ◌∙◌, append_assoc}
+use Rattle.std.proofs.lemmas.List.{append-nil}
+use mathlib.Core.List.{IsPrefix}
+use Rattle.jr_word.specs.declared.config.Config.{Config}
+use Rattle.jr_word.specs.declared.fault.Fault.{Fault}
+use Rattle.jr_word.specs.declared.fault.Fault.TheVariants.{RowFull, ObjectsFull, Raced}
+use Rattle.jr_model.specs.declared.event.Event.{Event}
+use Rattle.jr_model.specs.declared.event.Act.{Act}
+use Rattle.jr_model.specs.declared.event.Act.TheVariants.{Probe, ReserveLost}
+use Rattle.jr_model.specs.State.{Handle, State, IsPresent, IsOccupied}
+use Rattle.jr_model.specs.Steps.{Needs}
+use Rattle.jr_model.specs.History.{History, by, state, state_from, IsLegal, mine, PassView, Did}
+use Rattle.jr_model.specs.Refusals.{Sometime, RowWasFull, ObjectsWereFull, WasRaced, Grounds}
+use Rattle.jr_model.proofs.Updates.{eq_true}
+use Rattle.jr_model.proofs.Histories.{legal_append, state_append}
+use Rattle.jr_model.proofs.Stays.{mine_did}
+use Rattle.jr_model.proofs.References.{occupied_between}
+
+pub prefix_self : {A : Type 0} (xs : List A) → IsPrefix xs xs
+prefix_self xs = ([], append-nil xs)
+
+pub prefix_trans : {A : Type 0} (xs ys zs : List A) → IsPrefix xs ys → IsPrefix ys zs → IsPrefix xs zs
+prefix_trans xs ys zs p q = (p.0 ++ q.0, sym (append_assoc xs p.0 q.0) ∙ (ap (λ l. l ++ q.0) p.1 ∙ q.1))
+
+-- what is so at the end was so at some moment
+pub sometime_last : {P : State → Type 0} {old new : History} → IsPrefix old new → P (state new) → Sometime P old new
+sometime_last {new} p m = record { moment = new; from = p; to = prefix_self new; met = m }
+
+-- a call that begins earlier and ends later has the moment too
+pub sometime_wider : {P : State → Type 0} {first old new end : History} → IsPrefix first old → IsPrefix new end → Sometime P old new → Sometime P first end
+sometime_wider {first} {old} {new} {end} p q m = record { moment = m.moment; from = prefix_trans first old m.moment p m.from; to = prefix_trans m.moment new end m.to q; met = m.met }
+
+same_event : (e : Event) (t : ℕ) (a : Act) → e.thread ≡ t → e.act ≡ a → e ≡ by t a
+same_event e t a p q = ap (λ u. by u e.act) p ∙ ap (λ b. by t b) q
+
+-- the first of the acts of t, among the events
+pub record FirstAct (t : ℕ) (a : Act) (acts : List Act) (es : History) : Type 0 where
+  pub before : History
+  pub since : History
+  pub parts : es ≡ before ++ by t a ∷ since
+  pub none : mine before t ≡ []
+  pub rest : mine since t ≡ acts
+
+pub first_act : (t : ℕ) (a : Act) (acts : List Act) (es : History) → mine es t ≡ a ∷ acts → FirstAct t a acts es
+first_act t a acts [] is = absurd cc
+first_act t a acts (e ∷ es) is = go (e.thread == t) refl is (λ m. first_act t a acts es m)
+  where
+    go : (b : Bool) → (e.thread == t) ≡ b → cond b (e.act ∷ mine es t) (mine es t) ≡ a ∷ acts → (mine es t ≡ a ∷ acts → FirstAct t a acts es) → FirstAct t a acts (e ∷ es)
+    go true same is later = record { before = []; since = es; parts = ap (λ f. f ∷ es) (same_event e t a (eq_true e.thread t same) cc); none = refl; rest = cc }
+    go false same is later =
+        let r = later is in
+        record { before = e ∷ r.before; since = r.since; parts = ap (λ l. e ∷ l) r.parts; none = rw same r.none; rest = r.rest }
+
+-- the one act of a step, and the state in which it was taken
+pub record OneAct (old new : PassView) (a : Act) : Type 0 where
+  pub before : History
+  pub since : History
+  pub parts : new.seen ≡ before ++ by old.thread a ∷ since
+  pub from : IsPrefix old.seen before
+  pub legal : IsLegal old.config old.last before
+  pub needs : Needs old.config old.last (state before) (by old.thread a)
+
+pub one_act : {old new : PassView} (a : Act) → Did old new (a ∷ []) → OneAct old new a
+one_act {old} {new} a d =
+    let own = mine_did (a ∷ []) d in
+    let f = first_act old.thread a [] d.begins.0 own in
+    let parts : new.seen ≡ (old.seen ++ f.before) ++ by old.thread a ∷ f.since
+    = sym d.begins.1 ∙ (ap (λ l. old.seen ++ l) f.parts ∙ sym (append_assoc old.seen f.before (by old.thread a ∷ f.since))) in
+    let both = (legal_append old.config old.last (old.seen ++ f.before) (by old.thread a ∷ f.since)).0 (subst (IsLegal old.config old.last) parts d.legal) in
+    record { before = old.seen ++ f.before; since = f.since; parts = parts; from = (f.before, refl); legal = both.0; needs = both.1.0 }
+
+before_new : {old new : PassView} {a : Act} (o : OneAct old new a) → IsPrefix o.before new.seen
+before_new {old} {a} o = (by old.thread a ∷ o.since, sym o.parts)
+
+-- a probe that found the index occupied
+pub probed_occupied : {old new : PassView} (i : ℕ) → Did old new (Probe i true ∷ []) → Sometime (λ s. IsOccupied old.last s i) old.seen new.seen
+probed_occupied i d =
+    let o = one_act (Probe i true) d in
+    record { moment = o.before; from = o.from; to = before_new o; met = o.needs.1.1.0 refl }
+
+-- an index at which a handle was given in between
+pub given_occupied : {old new : PassView} (h : Handle) (acts : List Act) → Did old new acts → (state old.seen).given h ≡ false → (state new.seen).given h ≡ true → Sometime (λ s. IsOccupied old.last s h.index) old.seen new.seen
+given_occupied {old} {new} h acts d fresh there =
+    let rest = d.begins.0 in
+    let both = (legal_append old.config old.last old.seen rest).0 (subst (IsLegal old.config old.last) (sym d.begins.1) d.legal) in
+    let end : state new.seen ≡ state_from (state old.seen) rest = ap state (sym d.begins.1) ∙ state_append old.seen rest in
+    let o = occupied_between old.config old.last h (state old.seen) rest fresh (ap (λ (s : State). s.given h) (sym end) ∙ there) both.1 in
+    record {
+      moment = old.seen ++ o.0;
+      from = (o.0, refl);
+      to = (o.1, append_assoc old.seen o.0 o.1 ∙ (ap (λ l. old.seen ++ l) (sym o.2) ∙ d.begins.1));
+      met = subst (λ s. IsOccupied old.last s h.index) (sym (state_append old.seen o.0)) o.3;
+    }
+
+-- a lost reservation, after a moment of the call at which so many words were used
+pub raced : {old mid new : PassView} (n looked found : ℕ) → Sometime (λ s. s.used ≡ looked) old.seen mid.seen → mid.thread ≡ old.thread → looked + n ≤ old.config.words → Did mid new (ReserveLost n looked found ∷ []) → WasRaced old new looked found
+raced {old} {mid} {new} n looked found m t room d =
+    let o = one_act (ReserveLost n looked found) d in
+    record {
+      words = n;
+      before = o.before;
+      since = o.since;
+      lost = subst (λ u. new.seen ≡ o.before ++ by u (ReserveLost n looked found) ∷ o.since) t o.parts;
+      room = room;
+      looked_at = sometime_wider (prefix_self old.seen) o.from m;
+    }
+
+module _ {p q : PassView} (xs : List Act) (d : Did p q xs) where
+  row_earlier : (r s : PassView) → IsPrefix r.seen s.seen → RowWasFull q r → RowWasFull p s
+  row_earlier r s after w i l =
+      subst (λ n. Sometime (λ z. IsOccupied n z i) p.seen s.seen) d.last
+      (sometime_wider d.begins after (w i (subst (λ (c : Config). i < c.slots) (sym d.config) l)))
+
+  objects_earlier : (r s : PassView) → IsPrefix r.seen s.seen → ObjectsWereFull q r → ObjectsWereFull p s
+  objects_earlier r s after w =
+      subst (λ (c : Config). Sometime (λ z. (o : ℕ) → 1 ≤ o → o ≤ c.objects → IsPresent z o) p.seen s.seen) d.config
+      (sometime_wider d.begins after w)
+
+  raced_earlier : (r s : PassView) (l f : ℕ) → IsPrefix r.seen s.seen → WasRaced q r l f → WasRaced p s l f
+  raced_earlier r s l f after w = record {
+    words = w.words;
+    before = w.before;
+    since = w.since ++ after.0;
+    lost = subst (λ t. s.seen ≡ w.before ++ by t (ReserveLost w.words l f) ∷ (w.since ++ after.0)) d.thread
+        (sym after.1 ∙ (ap (λ z. z ++ after.0) w.lost ∙ append_assoc w.before (by q.thread (ReserveLost w.words l f) ∷ w.since) after.0));
+    room = subst (λ (c : Config). l + w.words ≤ c.words) d.config w.room;
+    looked_at = sometime_wider d.begins (prefix_self w.before) w.looked_at;
+  }
+
+  -- the grounds of a part of a call are grounds of the call
+  pub grounds_wider : (r s : PassView) (e : Fault) → IsPrefix r.seen s.seen → Grounds q r e → Grounds p s e
+  grounds_wider r s RowFull after g = row_earlier r s after g
+  grounds_wider r s ObjectsFull after g = objects_earlier r s after g
+  grounds_wider r s (Raced l f) after g = raced_earlier r s l f after g
+  grounds_wider r s _ after g = tt
+
+  pub answer_wider : {A : Type 0} (r s : PassView) (answer : Result A Fault) → IsPrefix r.seen s.seen → IfErr answer (Grounds q r) → IfErr answer (Grounds p s)
+  answer_wider r s (Ok x) after g = tt
+  answer_wider r s (Err e) after g = grounds_wider r s e after g

@@ -1,0 +1,230 @@
+-- The parts that calls are made of, among them the calls of gate, slots and heap.
+use Rattle.std.specs.Prelude.{◌≡◌, ◌+◌, ◌==◌, ◌||◌, ℕ, zero, suc, Bool, not, cond, nat_lt, nat_le, Option, Some, None, Ok, List, [], ◌∷◌, ◌++◌, map, length}
+use Rattle.jr_word.specs.declared.config.Config.{Config}
+use Rattle.jr_word.specs.declared.handle.RefKind.{RefKind}
+use Rattle.jr_word.specs.declared.kind.Kind.{Kind}
+use Rattle.jr_word.specs.declared.fault.Fault.TheVariants.{Null, NotArray, Range, RowFull, LocalsFull, SpaceFull, ObjectsFull, Raced, Barred, Busy, NoFrame, Value, LeftInside}
+use Rattle.jr_word.specs.declared.fault.Fault.TheVariants as fault
+use Rattle.jr_model.specs.declared.event.Found.{Found}
+use Rattle.jr_model.specs.declared.event.Found.TheVariants.{Object, Cleared, Stale}
+use Rattle.jr_model.specs.declared.event.Act.{Act}
+use Rattle.jr_model.specs.declared.event.Act.TheVariants.{Enter, Knock, Leave, Withdraw, Shut, ShutBusy, Reopen, Create, Look, Probe, Delete, DeleteStale, Clear, LocalDrop, Reserve, ReserveFull, ReserveLost, New, Read, Write, Drop, Settle, Meet}
+use Rattle.jr_model.specs.declared.frames.LocalRef.{LocalRef}
+use Rattle.jr_model.specs.declared.frames.TheConstants.{FRAMES}
+use Rattle.jr_model.specs.declared.summary.Summary.{Summary}
+use Rattle.jr_model.specs.State.{Handle, State, not_outside, summary}
+use Rattle.jr_model.specs.Frames.{object_of, pushed, popped, deleted, last_frame}
+use Rattle.jr_model.specs.Calls.{Call, ◌>>=◌, ◌>>◌, act, done, one_of, refuse, refuse_if, some_act, with_header}
+use Rattle.jr_model.specs.Tests.{Word, Parts, is_local, is_plain, is_text, is_value, type_found, type_local}
+
+-- THE GATE
+
+-- into the gate, or a knock that is withdrawn
+abbrev pub enter : Call (Unit {0})
+enter = one_of (act Enter) (do
+  act Knock
+  act Withdraw
+  refuse Barred)
+
+-- out of the gate
+abbrev pub leave : Call (Unit {0})
+leave = act Leave
+
+-- the gate is shut, or so many threads are not outside
+abbrev pub shut : Call (Unit {0})
+shut = one_of (act Shut) (do
+  n ← some_act ShutBusy
+  refuse (Busy n))
+
+-- the gate is opened after a collection
+abbrev pub reopen : Call (Unit {0})
+reopen = act Reopen
+
+-- THE SLOTS
+
+-- what stands at the handle
+abbrev pub look : Handle → Call Found
+look h = some_act (Look h)
+
+-- any number of probes
+abbrev pub probes : Call (Unit {0})
+probes old acts answer new = (looks : List (ℕ × Bool)) × (acts ≡ map (λ l. Probe l.0 l.1) looks) × (answer ≡ Ok tt) × (new ≡ old)
+
+-- the creation of some handle of the kind
+abbrev pub created_with : RefKind → ℕ → Call Handle
+created_with k o old acts answer new = (h : Handle) × (h.kind ≡ k) × (acts ≡ Create h o ∷ []) × (answer ≡ Ok h) × (new ≡ old)
+
+-- probes and then the creation, or probes alone
+abbrev pub create : RefKind → ℕ → Call Handle
+create k o = do
+  probes
+  one_of (created_with k o) (refuse RowFull)
+
+-- a new reference to the object, NULL for none
+abbrev pub created : RefKind → Option ℕ → Call (Option Handle)
+created k None = done None
+created k (Some o) = do
+  h ← create k o
+  done (Some h)
+
+-- the deletion of a reference that a look found, which another thread may be faster at
+abbrev pub delete_found : Handle → Found → Call (Unit {0})
+delete_found h Stale = refuse fault.Stale
+delete_found h _ = one_of (act (Delete h)) (do
+  act (DeleteStale h)
+  refuse fault.Stale)
+
+-- a look, and then the deletion
+abbrev pub delete : Handle → Call (Unit {0})
+delete h = do
+  r ← look h
+  delete_found h r
+
+-- WHAT A REFERENCE IS TO
+
+-- the object that a look found, none where the reference is cleared
+abbrev pub found_object : Found → Call (Option ℕ)
+found_object (Object o) = done (Some o)
+found_object Cleared = done None
+found_object Stale = refuse fault.Stale
+
+-- the object of a local reference that stands
+abbrev pub local_object : Option ℕ → Call (Option ℕ)
+local_object (Some o) = done (Some o)
+local_object None = refuse fault.Stale
+
+-- the object of a handle: no act for a local one, a look for any other
+abbrev pub looked_at : Handle → Call (Option ℕ)
+looked_at h = cond (is_local h) (λ old. local_object (object_of old h) old) (look h >>= found_object)
+
+-- the object of a reference, none for NULL
+abbrev pub looked : Word → Call (Option ℕ)
+looked (Parts h) = looked_at h
+looked _ = done None
+
+-- the object, where there is one
+abbrev pub not_null : Option ℕ → Call ℕ
+not_null (Some o) = done o
+not_null None = refuse Null
+
+-- the type of a reference that is neither malformed, out of bounds nor foreign
+abbrev pub type_at : Word → Call ℕ
+type_at (Parts h) = cond (is_local h) (λ old. done (type_local (object_of old h)) old) (do
+  r ← look h
+  done (type_found h.kind r))
+type_at _ = done 0
+
+-- the deletion of a global or weak reference; nothing for NULL
+abbrev pub delete_at : Word → Call (Unit {0})
+delete_at (Parts h) = delete h
+delete_at _ = done tt
+
+-- THE HEAP
+
+-- space for n words; none is asked for where n is 0
+abbrev pub reserve : ℕ → Call (Unit {0})
+reserve zero = done tt
+reserve (suc n) = one_of (act (Reserve (suc n)))
+    (one_of (do u ← some_act (ReserveFull (suc n)); refuse (SpaceFull u))
+    (do l ← some_act {X = ℕ × ℕ} (λ l. ReserveLost (suc n) l.0 l.1); refuse (Raced l.0 l.1)))
+
+-- a new object of these words, at some number
+abbrev pub publish : Kind → List ℕ → Call ℕ
+publish k ws = one_of (some_act (λ o. New o k ws)) (refuse ObjectsFull)
+
+-- the kind and the length of an object
+abbrev pub header : State → ℕ → Call (Kind × ℕ)
+header s o = with_header s o (λ k n. done (k, n))
+
+-- one element
+abbrev pub read_element : State → ℕ → ℕ → Call ℕ
+read_element s o i = with_header s o (λ k n. do
+  refuse_if (is_plain k) NotArray
+  refuse_if (nat_le n i) Range
+  some_act (Read o i))
+
+-- one element is written
+abbrev pub write_element : State → ℕ → ℕ → ℕ → Call (Unit {0})
+write_element s o i v = with_header s o (λ k n. do
+  refuse_if (is_plain k || is_text k) NotArray
+  refuse_if (nat_le n i) Range
+  refuse_if (not (is_value k v)) Value
+  act (Write o i v))
+
+-- n elements from start on, rising
+abbrev pub read : ℕ → ℕ → ℕ → Call (List ℕ)
+read o start zero = done []
+read o start (suc n) = do
+  v ← some_act (Read o start)
+  vs ← read o (start + 1) n
+  done (v ∷ vs)
+
+-- these words are written from start on, rising
+abbrev pub write : ℕ → ℕ → List ℕ → Call (Unit {0})
+write o start [] = done tt
+write o start (v ∷ vs) = do
+  act (Write o start v)
+  write o (start + 1) vs
+
+-- THE LOCAL REFERENCES
+
+-- fewer frames are open than there may be
+abbrev pub frame_left : Call (Unit {0})
+frame_left old = refuse_if (nat_le FRAMES (length old.frames)) LocalsFull old
+
+-- an empty frame is added
+abbrev pub new_frame : Call (Unit {0})
+new_frame old acts answer new = (acts ≡ []) × (answer ≡ Ok tt) × (new ≡ pushed old)
+
+-- there is a frame above the base frame
+abbrev pub frame_to_pop : Call (Unit {0})
+frame_to_pop old = refuse_if (nat_lt (length old.frames) 2) NoFrame old
+
+-- the places of these references are left empty, in order
+abbrev pub drop_all : List LocalRef → List Act
+drop_all rs = map (λ r. LocalDrop r.handle.index) rs
+
+-- the last frame is taken away
+abbrev pub take_frame : Call (Unit {0})
+take_frame old acts answer new = (acts ≡ drop_all (last_frame old.frames)) × (answer ≡ Ok tt) × (new ≡ popped old)
+
+-- the reference is taken out of its frame
+abbrev pub drop_local : Handle → Call (Unit {0})
+drop_local h old acts answer new = (acts ≡ LocalDrop h.index ∷ []) × (answer ≡ Ok tt) × (new ≡ deleted old h)
+
+-- the deletion of a local reference; nothing for NULL
+abbrev pub delete_local_at : Word → Call (Unit {0})
+delete_local_at (Parts h) = do
+  looked_at h
+  drop_local h
+delete_local_at _ = done tt
+
+-- THE ROOM AS A WHOLE
+
+-- the acts of a collection that clears and drops these
+abbrev pub collection_acts : List Handle → List ℕ → ℕ → List Act
+collection_acts cleared dropped used = Shut ∷ map Clear cleared ++ map Drop dropped ++ Settle used ∷ Reopen ∷ []
+
+-- a collection, which answers how many references it cleared, how many objects it dropped, and how many words are used
+abbrev pub collected : Call (ℕ × ℕ × ℕ)
+collected old acts answer new =
+    (cleared : List Handle) × (dropped : List ℕ) × (used : ℕ)
+    × (acts ≡ collection_acts cleared dropped used)
+    × (answer ≡ Ok (length cleared, length dropped, used)) × (new ≡ old)
+
+-- a collection, or so many threads are not outside
+abbrev pub collect : Call (ℕ × ℕ × ℕ)
+collect = one_of collected (do
+  n ← some_act ShutBusy
+  refuse (Busy n))
+
+-- what another pass saw is learned
+abbrev pub meet : Call (Unit {0})
+meet = act Meet
+
+-- the room is closed where all threads are outside in s, the state that the call leaves
+abbrev pub close : Config → ℕ → State → Call Summary
+close c last s = do
+  meet
+  refuse_if (not (not_outside c s == 0)) (LeftInside (not_outside c s))
+  done (summary c last s)
