@@ -9,10 +9,10 @@ use Rattle.jr_model.specs.State.{Handle, State}
 use Rattle.jr_model.specs.References as references
 use Rattle.jr_model.specs.History.{PassView, state}
 use Rattle.jr_model.specs.Frames.{Frames}
-use Rattle.jr_model.specs.Calls.{Call, Word, Ran}
+use Rattle.jr_model.specs.Calls.{Call, Ran}
+use Rattle.jr_model.specs.Tests.{Word}
 use Rattle.jr_scripts.specs.declared.steps.Known.{Known}
 use Rattle.jr_scripts.specs.Knowing.{Standing, view, Holds}
-use Rattle.jr_scripts.specs.Performing.{IsJust}
 use Rattle.jr_scripts.specs.Reading.{IsReadAs}
 
 -- a moment of an env: what its pass knows, and the frames
@@ -29,7 +29,7 @@ Deed A = Moment → Result A Fault → Moment → Type 0
 
 -- a call of the env: its events, and the answer that it may have
 abbrev pub call : {A : Type 0} → (Config → ℕ → ℕ → State → Call A) → Deed A
-call asked old answer new = Ran old.pass new.pass old.frames new.frames (asked old.pass.config old.pass.last old.pass.thread (state new.pass.seen)) answer × IsJust old.pass new.pass answer
+call asked old answer new = Ran old.pass new.pass old.frames new.frames (asked old.pass.config old.pass.last old.pass.thread (state new.pass.seen)) answer
 
 -- a call that is handed a reference word
 abbrev pub call_on : {A : Type 0} → ℕ → (Config → ℕ → ℕ → State → Word → Call A) → Deed A

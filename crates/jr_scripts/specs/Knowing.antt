@@ -1,7 +1,6 @@
 -- What a caller of the steps knows of them.
-use Rattle.std.specs.Prelude.{◌≡◌, ◌≢◌, ◌⊎◌, ◌≤◌, ◌<◌, ℕ, Bool, true, Result, Ok, Err, Option, Some, None, List, [], ◌∷◌, ◌++◌, map, length}
+use Rattle.std.specs.Prelude.{◌≡◌, ◌≢◌, ◌⊎◌, ◌≤◌, ◌<◌, ℕ, Bool, false, Result, Ok, Err, Option, Some, None, List, [], ◌∷◌, ◌++◌, map, length}
 use Rattle.std.specs.List.{AllByRecursion}
-use mathlib.Core.List.{IsPrefix}
 use Rattle.jr_word.specs.declared.config.Config.{Config}
 use Rattle.jr_word.specs.declared.fault.Fault.{Fault}
 use Rattle.jr_word.specs.declared.handle.RefKind.{RefKind}
@@ -14,6 +13,7 @@ use Rattle.jr_model.specs.declared.event.Found.{Found}
 use Rattle.jr_model.specs.declared.event.Found.TheVariants.{Stale}
 use Rattle.jr_model.specs.State.{Handle, State, IsPresent, IsOccupied}
 use Rattle.jr_model.specs.History.{History, by, state, IsLegal, mine, PassView, role_of, role_from, Did}
+use Rattle.jr_model.specs.Refusals.{Sometime}
 use Rattle.jr_model.specs.Frames.{Frames, Agree}
 use Rattle.jr_scripts.specs.declared.steps.Known.{Known}
 
@@ -84,24 +84,17 @@ pub record IsFreeSlot (i serial : ℕ) (k : Known) : Type 0 where
   pub fits : serial ≤ k.last
   pub none : (g : Handle) → g.index ≡ i → (state_of k).refs g ≡ Stale
   pub below : (n : ℕ) → n < serial → (g : Handle) × (g.index ≡ i) × (g.serial ≡ n) × ((state_of k).given g ≡ true)
-  pub above : (g : Handle) → g.index ≡ i → serial ≤ g.serial → (state_of k).given g ≢ true
+  pub above : (g : Handle) → g.index ≡ i → serial ≤ g.serial → (state_of k).given g ≡ false
 
 -- what a load of a slot shows
 abbrev pub ShowsSlot : ℕ → SlotParts → Known → Type 0
 ShowsSlot i (slot.Free serial) k = IsFreeSlot i serial k
 ShowsSlot i _ k = Unit {0}
 
--- at some moment from the one to the other the condition held of the state
-pub record Once (old new : PassView) (holds : State → Type 0) : Type 0 where
-  pub moment : History
-  pub after : IsPrefix old.seen moment
-  pub before : IsPrefix moment new.seen
-  pub held : holds (state moment)
-
 -- a lost claim: the index was occupied in between
 abbrev pub LostClaim : ℕ → Result (Unit {0}) SlotParts → Known → Known → Type 0
 LostClaim i (Ok _) k k' = Unit {0}
-LostClaim i (Err found) k k' = Once (view k) (view k') (λ s. IsOccupied k.last s i)
+LostClaim i (Err found) k k' = Sometime (λ s. IsOccupied k.last s i) k.seen k'.seen
 
 -- the thread has no local reference
 abbrev pub HasNoLocals : Known → Type 0

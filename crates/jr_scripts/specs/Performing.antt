@@ -2,35 +2,28 @@
 use Rattle.std.specs.Prelude.{◌≡◌, ◌≤◌, ◌<◌, ℕ, Bool, Result, Ok, Err, Option, Some, None, List, [], ◌∷◌, ◌++◌, map}
 use Rattle.jr_word.specs.declared.config.Config.{Config}
 use Rattle.jr_word.specs.declared.fault.Fault.{Fault}
-use Rattle.jr_word.specs.declared.fault.Fault.TheVariants as fault
 use Rattle.jr_word.specs.declared.handle.RefKind.{RefKind}
 use Rattle.jr_word.specs.declared.kind.Kind.{Kind}
 use Rattle.jr_model.specs.declared.event.Act.{Act}
 use Rattle.jr_model.specs.declared.event.Act.TheVariants.{Create, Probe, New}
 use Rattle.jr_model.specs.State.{Handle, State, IsPresent, IsOccupied}
 use Rattle.jr_model.specs.History.{PassView, Did}
+use Rattle.jr_model.specs.Refusals.{Sometime}
 use Rattle.jr_model.specs.Frames.{Frames}
 use Rattle.jr_model.specs.Calls.{Call, Ran}
 use Rattle.jr_scripts.specs.declared.steps.Known.{Known}
-use Rattle.jr_scripts.specs.Knowing.{Standing, view, state_of, HasObject, Holds, Once}
+use Rattle.jr_scripts.specs.Knowing.{Standing, view, state_of, HasObject, Holds}
 
 -- every object number of the room is present
 abbrev pub EachPresent : Config → State → Type 0
 EachPresent c s = (o : ℕ) → 1 ≤ o → o ≤ c.objects → IsPresent s o
-
--- a refusal that speaks of the row or of the objects comes only where it is just: at some moment of the call each index was occupied, and in one moment each object number was present
-abbrev pub IsJust : {A : Type 0} → PassView → PassView → Result A Fault → Type 0
-IsJust old new (Ok x) = Unit {0}
-IsJust old new (Err fault.RowFull) = (i : ℕ) → i < old.config.slots → Once old new (λ s. IsOccupied old.last s i)
-IsJust old new (Err fault.ObjectsFull) = Once old new (EachPresent old.config)
-IsJust old new (Err e) = Unit {0}
 
 module _ {S : Type 0} (stands : S → Standing) (knows : S → Known → Type 0) where
   -- a call was made: for whatever was known and meets the condition, something is known from which the thread did what the call does, with this answer. The call may name the state that it leaves
   pub record Performed {A : Type 0} (old new : S) (before after : Frames) (met : Known → Type 0) (call : State → Call A) (answer : Result A Fault) (so : Known → Type 0) : Type 0 where
     pub stands_is : stands new ≡ stands old
     pub ran : (k : Known) → knows old k → met k
-        → (k' : Known) × knows new k' × Ran (view k) (view k') before after (call (state_of k')) answer × IsJust (view k) (view k') answer × so k'
+        → (k' : Known) × knows new k' × Ran (view k) (view k') before after (call (state_of k')) answer × so k'
 
 -- looks at slots, and then the creation, if one was won
 abbrev pub search_acts : ℕ → List (ℕ × Bool) → Option Handle → List Act
@@ -44,7 +37,7 @@ OfKind k (Some h) = h.kind ≡ k
 -- where none was won, each index from the first to the last was occupied at some moment
 abbrev pub EachOccupied : PassView → PassView → ℕ → ℕ → Option Handle → Type 0
 EachOccupied old new first last (Some h) = Unit {0}
-EachOccupied old new first last None = (i : ℕ) → first ≤ i → i < last → Once old new (λ s. IsOccupied old.last s i)
+EachOccupied old new first last None = (i : ℕ) → first ≤ i → i < last → Sometime (λ s. IsOccupied old.last s i) old.seen new.seen
 
 -- the acts of a publication
 abbrev pub publication : Kind → Option ℕ → List Act

@@ -5,14 +5,11 @@ use Rattle.jr_word.specs.declared.handle.RefKind.{RefKind}
 use Rattle.jr_word.specs.declared.handle.RefKind.TheVariants.{Local}
 use Rattle.jr_word.specs.declared.kind.Kind.TheVariants.{Plain}
 use Rattle.jr_word.specs.declared.fault.Fault.TheVariants as fault
-use Rattle.jr_model.specs.declared.event.Act.TheVariants.{Look}
 use Rattle.jr_model.specs.State.{Handle}
-use Rattle.jr_model.specs.Calls.{Call, Word, created, delete_at, delete_found, delete_local_at, done, is_foreign, is_malformed, is_of_kind, is_out_of_bounds, refuse_if, some_act, type_at, ◌>>=◌, ◌>>◌}
+use Rattle.jr_model.specs.Calls.{Call, done, refuse_if, ◌>>=◌, ◌>>◌}
+use Rattle.jr_model.specs.Tests.{Word, is_foreign, is_malformed, is_of_kind, is_out_of_bounds}
+use Rattle.jr_model.specs.Parts.{created, delete_at, delete_local_at, type_at}
 use Rattle.jr_model.specs.References.{resolved, made}
-
--- one look, and one exchange where it found something
-abbrev pub deletion : Handle → Call (Unit {0})
-deletion h = some_act (Look h) >>= delete_found h
 
 -- a reference of the kind to what is resolved
 abbrev pub creation : Config → ℕ → ℕ → RefKind → Word → Call (Option Handle)

@@ -1,6 +1,6 @@
 //! References as native code hands them in, and the tests that calls make of them.
 ghost use Rattle.std.specs.Prelude.{◌≡◌};
-ghost use Rattle.jr_model.specs.Calls.{Parts, is_local, is_out_of_bounds, is_foreign};
+ghost use Rattle.jr_model.specs.Tests.{Parts, is_local, is_out_of_bounds, is_foreign};
 
 use jr_word::{Config, Handle, HandleParts, RefKind};
 

@@ -6,7 +6,7 @@ ghost use Rattle.jr_model.specs.declared.event.Role.TheVariants.{Within};
 ghost use Rattle.jr_model.specs.declared.event.Act.TheVariants.{Look};
 ghost use Rattle.jr_model.specs.Frames.{Frames};
 ghost use Rattle.jr_scripts.specs.Acts.{reply};
-ghost use Rattle.jr_scripts.specs.Works.{deletion};
+ghost use Rattle.jr_model.specs.Parts.{delete as deletion};
 ghost use Rattle.jr_scripts.specs.Knowing.{anything, nothing, HasObject, MayKnow, Took};
 ghost use Rattle.jr_scripts.specs.Performing.{Searched, Performed};
 
