@@ -1,0 +1,5 @@
+pub mod NameLaws
+pub mod NumberLaws
+pub mod Cuts
+pub mod PartLaws
+pub mod VmLaws

@@ -1,0 +1,11 @@
+pub mod Name
+pub mod Number
+pub mod Line
+pub mod Kind
+pub mod Reference
+pub mod Command
+pub mod Script
+pub mod Faults
+pub mod Parse
+pub mod VmLine
+pub mod Draft

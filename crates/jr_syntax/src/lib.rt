@@ -1,0 +1,24 @@
+//! The text of scripts: which texts are scripts, what each says, and the first fault of any other text.
+#![tactic(auto)]
+
+mod argument;
+mod command;
+mod draft;
+mod fault;
+mod laws;
+mod line;
+mod name;
+mod number;
+mod reader;
+mod script;
+mod thread;
+mod vm_line;
+mod word;
+
+pub use command::Command;
+pub use fault::{Reason, ScriptFault};
+pub use laws::{a_script_has_no_fault, a_text_has_one_script};
+pub use name::{Name, Reference};
+pub use reader::parse;
+pub use script::{Script, Threads};
+pub use thread::{Commands, ThreadPart};

@@ -1,0 +1,139 @@
+//! Names of threads and of what their commands make, and references by them.
+
+ghost use Rattle.std.specs.Prelude.{◌≡◌, true};
+ghost use Rattle.std.specs.List.{list_all};
+ghost use Rattle.std.specs.Str.{bytes_eq};
+ghost use Rattle.jr_syntax.specs.Name.{is_letter as letter, is_digit as digit, is_name_byte as name_byte, is_name as name_word, is_reference as reference_word};
+
+use std::marker::Model;
+
+/// A name: a letter a to z, and at most 15 of a to z and 0 to 9 behind it; not `null`.
+#[derive(Debug, Drop)]
+pub struct Name {
+    text: [u8; 16],
+    len: usize,
+}
+
+impl Model for Name {
+    ghost use Rattle.std.specs.Prelude.{List, ℕ, take};
+    ghost use Rattle.jr_syntax.specs.Name.{IsKept};
+
+    ghost Value = { List ℕ };
+
+    ghost view = { λ n. take n.len n.text };
+
+    ghost invariant = { λ n. IsKept n.text n.len };
+}
+
+impl Name {
+    /// The name that a word is.
+    pub fn new(word: &[u8]) -> Name
+        requires { name_word word.now ≡ true }
+        ensures { result ≡ word.now }
+    {
+        let mut text = [0; 16];
+        text[..word.len()].copy_from_slice(word);
+        Name {
+            text,
+            len: word.len(),
+        }
+    }
+
+    /// The same name again; takes no memory.
+    pub fn copy(&self) -> Name
+        ensures { result ≡ self.now }
+    {
+        Name {
+            text: self.text,
+            len: self.len,
+        }
+    }
+
+    /// Its bytes.
+    pub fn as_slice(&self) -> &[u8]
+        ensures text { result.now ≡ self.now }
+        ensures form { name_word self.now ≡ true }
+    {
+        &self.text[..self.len]
+    }
+
+    /// Whether a word is this name.
+    pub fn is(&self, word: &[u8]) -> bool
+        ensures { result ≡ bytes_eq word.now self.now }
+    {
+        word == self.as_slice()
+    }
+}
+
+impl PartialEq for Name {
+    ghost use Rattle.std.proofs.Common.{rules};
+    ghost use Rattle.std.specs.Str.{bytes_eq};
+    ghost use Rattle.std.specs.Cmp.Rules.{comparing};
+
+    ghost eq = { λ a b. bytes_eq a b };
+
+    ghost laws = { Prim.search (comparing, rules) };
+
+    fn eq(&self, other: &Name) -> bool {
+        self.as_slice() == other.as_slice()
+    }
+}
+
+impl Eq for Name {
+    ghost use Rattle.std.proofs.Common.{rules};
+    ghost use Rattle.std.specs.Cmp.Rules.{comparing};
+
+    ghost laws = { Prim.search (comparing, rules) };
+}
+
+/// What a command refers to.
+#[derive(Debug, Drop, PartialEq, Eq)]
+pub enum Reference {
+    /// `null`.
+    Null,
+    /// What a name stands for.
+    Named(Name),
+}
+
+fn is_letter(byte: u8) -> bool
+    ensures { result ≡ letter byte }
+{
+    byte >= b'a' && byte <= b'z'
+}
+
+/// Whether a byte is a digit 0 to 9.
+pub fn is_digit(byte: u8) -> bool
+    ensures { result ≡ digit byte }
+{
+    byte >= b'0' && byte <= b'9'
+}
+
+fn is_name_byte(byte: u8) -> bool
+    ensures { result ≡ name_byte byte }
+{
+    is_letter(byte) || is_digit(byte)
+}
+
+fn all_name_bytes(word: &[u8]) -> bool
+    ensures { result ≡ list_all name_byte word.now }
+{
+    word.iter().all(|c| is_name_byte(*c))
+}
+
+/// Whether a word is a name.
+pub fn is_name(word: &[u8]) -> bool
+    ensures { result ≡ name_word word.now }
+{
+    !word.is_empty()
+        && word.len() <= 16
+        && is_letter(word[0])
+        && all_name_bytes(word)
+        && word != b"null".as_slice()
+}
+
+/// Whether a word is a name or `null`.
+pub fn is_reference(word: &[u8]) -> bool
+    ensures { result ≡ reference_word word.now }
+{
+    word == b"null".as_slice() || is_name(word)
+}
