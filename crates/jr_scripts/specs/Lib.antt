@@ -6,3 +6,9 @@ pub mod Works
 pub mod Table
 pub mod Places
 pub mod Deeds
+pub mod Names
+pub mod Tries
+pub mod Commands
+pub mod Text
+pub mod Explains
+pub mod Runs

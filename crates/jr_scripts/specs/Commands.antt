@@ -1,0 +1,63 @@
+-- What commands do.
+use Rattle.std.specs.Prelude.{◌≡◌, ℕ, Option, Some, None, Result, Ok, Err}
+use Rattle.jr_word.specs.declared.handle.RefKind.{RefKind}
+use Rattle.jr_word.specs.declared.handle.RefKind.TheVariants.{Local, Global, Weak}
+use Rattle.jr_word.specs.declared.handle.Handle.{Handle}
+use Rattle.jr_word.specs.declared.fault.Fault.{Fault}
+use Rattle.jr_word.specs.declared.fault.Fault.TheVariants as fault
+use Rattle.jr_model.specs.Tests.{Word, Nothing, Malformed, Parts}
+use Rattle.jr_syntax.specs.declared.name.Reference.{Reference}
+use Rattle.jr_syntax.specs.declared.command.Command.{Command}
+use Rattle.jr_syntax.specs.declared.command.Command.TheVariants as commands
+use Rattle.jr_scripts.specs.declared.command.Reply.{Reply}
+use Rattle.jr_scripts.specs.declared.command.Reply.TheVariants as replies
+use Rattle.jr_scripts.specs.Reading.{IsReadAs}
+use Rattle.jr_scripts.specs.Names.{Names, referent, wanted}
+use Rattle.jr_scripts.specs.Deeds.{Deed, decided, done, new_plain, new_reference, delete_reference, delete_local_ref, get_object_ref_type, ◌>>=◌, ◌>>◌}
+use Rattle.jr_scripts.specs.Tries.{Tried}
+
+module _ (turns : ℕ) where
+  -- a call, made again where it was raced or barred
+  abbrev pub tried : {A : Type 0} → Deed A → Deed A
+  tried one = Tried one turns
+
+  -- the delete call of the kind
+  abbrev pub deleted_of : RefKind → ℕ → Deed (Unit {0})
+  deleted_of Local w = tried (delete_local_ref w)
+  deleted_of kind w = tried (delete_reference kind w)
+
+  -- the delete call of the word's kind, for NULL that of a local; none for a malformed word
+  abbrev pub deleted_as : ℕ → Word → Deed (Unit {0})
+  deleted_as w Nothing = deleted_of Local w
+  deleted_as w Malformed = decided (Err fault.Stale)
+  deleted_as w (Parts h) = deleted_of h.kind w
+
+  abbrev pub deleted : ℕ → Deed (Unit {0})
+  deleted w old answer new = (a : Word) × IsReadAs w a × deleted_as w a old answer new
+
+  -- the type of what stands there, 0 for nothing
+  abbrev pub type_of : Option Handle → Deed ℕ
+  type_of None = done 0
+  type_of (Some h) = tried (get_object_ref_type h.0)
+
+module _ (turns : ℕ) (names : Names) where
+  -- the reference that a command wants
+  abbrev pub the_reference : Reference → Deed Handle
+  the_reference r = decided (wanted (referent names r))
+
+  -- THE COMMANDS: what each does, and its reply
+  abbrev pub deed : Command → Deed Reply
+  deed (commands.Plain n) = do
+    h ← tried turns new_plain
+    done (replies.Made (Some h))
+  deed (commands.Global n r) = do
+    w ← the_reference r
+    h ← tried turns (new_reference Global w.0)
+    done (replies.Made h)
+  deed (commands.Drop r) = do
+    w ← the_reference r
+    deleted turns w.0
+    done replies.Done
+  deed (commands.Type r) = do
+    n ← type_of turns (referent names r)
+    done (replies.Type n)

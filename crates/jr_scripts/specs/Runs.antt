@@ -1,0 +1,42 @@
+-- Runs of whole threads and scripts, for whatever was known.
+use Rattle.std.specs.Prelude.{◌≡◌, ℕ, List, [], ◌∷◌, ◌++◌, Result, Ok, Err}
+use Rattle.jr_word.specs.declared.config.Config.{Config}
+use Rattle.jr_word.specs.declared.fault.Fault.{Fault}
+use Rattle.jr_model.specs.State.{summary}
+use Rattle.jr_model.specs.History.{History, state, IsLegal, PassView}
+use Rattle.jr_model.specs.Frames.{Frames, fresh_frames}
+use Rattle.jr_syntax.specs.declared.command.Command.{Command}
+use Rattle.jr_syntax.specs.declared.thread.ThreadPart.{ThreadPart}
+use Rattle.jr_syntax.specs.declared.script.Script.{Script}
+use Rattle.jr_scripts.specs.declared.steps.Known.{Known}
+use Rattle.jr_scripts.specs.Knowing.{Standing, Holds}
+use Rattle.jr_scripts.specs.Deeds.{Moment, moment}
+use Rattle.jr_scripts.specs.Text.{heading, ending}
+use Rattle.jr_scripts.specs.Explains.{Explained, Leaves}
+
+module _ {S : Type 0} (stands : S → Standing) (knows : S → Known → Type 0) where
+  -- the commands were run: for whatever was known, something is known that explains the text
+  pub record RanThread (old new : S) (before after : Frames) (turns first : ℕ) (commands : List Command) (answer : Result (Unit {0}) Fault) (text : List ℕ) : Type 0 where
+    pub stands_is : stands new ≡ stands old
+    pub explained : (k : Known) → knows old k → Holds before k → (k' : Known) × knows new k' × Holds after k' × Leaves turns first (moment k before) commands answer text (moment k' after)
+
+-- the last serial of a slot and of a local place in the product
+abbrev pub LAST_SERIAL : ℕ
+LAST_SERIAL = 65535
+
+-- a pass of thread 0 that has seen this
+abbrev pub seeing : Config → ℕ → History → PassView
+seeing c last seen = record { config = c; last = last; thread = 0; seen = seen }
+
+-- before the first command: nothing has happened, and no local reference stands
+abbrev pub opening_moment : Config → ℕ → Moment
+opening_moment c last = record { pass = seeing c last []; frames = fresh_frames c.locals }
+
+-- A RUN of a script of one thread: there is a legal history of the sequential machine, with the events of the commands' calls and no others, that explains the text, and the last lines tell of its last state
+pub record IsRun (turns last : ℕ) (c : Config) (part : ThreadPart) (text : List ℕ) : Type 0 where
+  pub seen : History
+  pub frames : Frames
+  pub lines : List ℕ
+  pub legal : IsLegal c last seen
+  pub explained : Explained turns 3 (opening_moment c last) part.commands lines (record { pass = seeing c last seen; frames = frames })
+  pub text_is : text ≡ heading part.name ++ lines ++ ending (summary c last (state seen))

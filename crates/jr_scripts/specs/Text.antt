@@ -1,0 +1,67 @@
+-- What commands print, and the names that they set.
+use Rattle.std.specs.Prelude.{ℕ, Option, Some, None, List, [], ◌∷◌, ◌++◌, Result, Ok, Err, codes}
+use Rattle.std.specs.Fmt.{decimal}
+use Rattle.jr_word.specs.declared.fault.Fault.{Fault}
+use Rattle.jr_word.specs.declared.fault.Fault.TheVariants as fault
+use Rattle.jr_word.specs.declared.handle.Handle.{Handle}
+use Rattle.jr_word.specs.Fault.{number_of}
+use Rattle.jr_model.specs.declared.summary.Summary.{Summary}
+use Rattle.jr_syntax.specs.Line.{line as words_line}
+use Rattle.jr_syntax.specs.Reference.{reference_word}
+use Rattle.jr_syntax.specs.declared.command.Command.{Command}
+use Rattle.jr_syntax.specs.declared.command.Command.TheVariants as commands
+use Rattle.jr_scripts.specs.declared.command.Reply.{Reply}
+use Rattle.jr_scripts.specs.declared.command.Reply.TheVariants as replies
+use Rattle.jr_scripts.specs.Names.{Names, named, null}
+
+-- a line of words with its line feed
+abbrev pub line : List (List ℕ) → List ℕ
+line words = words_line words ++ 10 ∷ []
+
+-- what is printed for a command that was not refused
+abbrev pub says : Command → Reply → List ℕ
+says (commands.Global n r) (replies.Made None) = line (codes "global" ∷ n ∷ codes "null" ∷ [])
+says (commands.Type r) (replies.Type t) = line (codes "type" ∷ reference_word r ∷ decimal t ∷ [])
+says _ _ = []
+
+-- a number that stands behind the fault's
+abbrev pub behind : Fault → List (List ℕ)
+behind (fault.SpaceFull found) = decimal found ∷ []
+behind _ = []
+
+-- what is printed for a command that was refused
+abbrev pub refused : ℕ → Fault → List ℕ
+refused number e = line (decimal number ∷ codes "!" ∷ (codes "E" ++ decimal (number_of e)) ∷ behind e)
+
+-- THE TEXT of a command on a line of the script
+abbrev pub printed : ℕ → Command → Result Reply Fault → List ℕ
+printed number c (Ok reply) = says c reply
+printed number c (Err e) = refused number e
+
+-- the name that a command sets
+abbrev pub sets : Command → Option (List ℕ)
+sets (commands.Plain n) = Some n
+sets (commands.Global n r) = Some n
+sets _ = None
+
+-- the reference that was made, NULL for none
+abbrev pub reference_made : Option Handle → Handle
+reference_made None = null
+reference_made (Some h) = h
+
+abbrev pub names_with : Option (List ℕ) → Reply → Names → Names
+names_with (Some n) (replies.Made h) names = named names n (reference_made h)
+names_with _ _ names = names
+
+-- THE NAMES after a command: a command that makes something sets its name, and a refused one sets nothing
+abbrev pub names_after : Command → Result Reply Fault → Names → Names
+names_after c (Ok reply) names = names_with (sets c) reply names
+names_after c (Err e) names = names
+
+-- the line before a thread's lines
+abbrev pub heading : List ℕ → List ℕ
+heading name = codes "[" ++ name ++ codes "]" ++ 10 ∷ []
+
+-- the last two lines: what stands at the end
+abbrev pub ending : Summary → List ℕ
+ending s = line (codes "[end]" ∷ []) ++ line (codes "globals" ∷ decimal s.globals ∷ codes "weaks" ∷ decimal s.weaks ∷ codes "live" ∷ decimal s.live ∷ codes "used" ∷ decimal s.used ∷ [])

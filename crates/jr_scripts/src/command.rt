@@ -1,0 +1,13 @@
+//! What a command does.
+
+use jr_word::Handle;
+
+/// What a command that was not refused is answered.
+#[derive(Clone, Copy, Debug, PartialEq, Eq)]
+pub enum Reply {
+    Done,
+    /// A reference was made, or none where the answer is NULL.
+    Made(Option<Handle>),
+    /// The type of a reference.
+    Type(u8),
+}

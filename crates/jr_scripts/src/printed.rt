@@ -1,0 +1,107 @@
+//! What commands print.
+
+ghost use Rattle.std.specs.Prelude.{◌≡◌, ◌∷◌, ◌++◌, [], IfOk};
+ghost use Rattle.std.specs.Str.{string_bytes};
+ghost use Rattle.jr_syntax.specs.Reference.{reference_word};
+ghost use Rattle.jr_scripts.specs.Text.{line, says as what_is_said, refused as refusal, printed as text_printed, heading as text_heading, ending as text_ending};
+
+use crate::command::Reply;
+use jr_model::Summary;
+use jr_syntax::{Command, Name, Reference};
+use jr_word::Fault;
+use std::alloc::{AllocError, Global};
+
+/// A line of three words.
+fn line_of_three(
+    alloc: Global,
+    first: &[u8],
+    second: &[u8],
+    third: &[u8],
+) -> Result<Vec<u8>, AllocError>
+    ensures { IfOk result (λ text. text.items ≡ line (first.now ∷ second.now ∷ third.now ∷ [])) }
+{
+    let mut text = Vec::from_slice(alloc, first)?;
+    text.push(b' ')?;
+    text.extend_from_slice(second)?;
+    text.push(b' ')?;
+    text.extend_from_slice(third)?;
+    text.push(b'\n')?;
+    Ok(text)
+}
+
+/// A reference as its command spells it.
+fn word_of(reference: &Reference) -> &[u8]
+    ensures { result.now ≡ reference_word reference.now }
+{
+    match reference {
+        Reference::Null => b"null",
+        Reference::Named(name) => name.as_slice(),
+    }
+}
+
+/// What is printed for a command that was not refused.
+fn says(alloc: Global, command: &Command, reply: Reply) -> Result<Vec<u8>, AllocError>
+    ensures { IfOk result (λ text. text.items ≡ what_is_said command.now reply) }
+{
+    match (command, reply) {
+        (Command::Global { name, .. }, Reply::Made(None)) => {
+            line_of_three(alloc, b"global", name.as_slice(), b"null")
+        }
+        (Command::Type { target }, Reply::Type(number)) => {
+            let number = number.to_string(alloc)?;
+            line_of_three(alloc, b"type", word_of(target), number.as_bytes())
+        }
+        _ => Ok(Vec::new(alloc)),
+    }
+}
+
+/// What is printed for a command that was refused.
+fn refused(alloc: Global, line: usize, fault: Fault) -> Result<Vec<u8>, AllocError>
+    ensures { IfOk result (λ text. text.items ≡ refusal line fault) }
+{
+    let number = fault.number();
+    let text = match fault {
+        Fault::SpaceFull(found) => format!(in alloc; "{line} ! E{number} {found}\n")?,
+        _ => format!(in alloc; "{line} ! E{number}\n")?,
+    };
+    Ok(text.into_bytes())
+}
+
+/// The text of a command on a line of the script.
+pub fn printed(
+    alloc: Global,
+    line: usize,
+    command: &Command,
+    answer: Result<Reply, Fault>,
+) -> Result<Vec<u8>, AllocError>
+    ensures { IfOk result (λ text. text.items ≡ text_printed line command.now answer) }
+{
+    match answer {
+        Ok(reply) => says(alloc, command, reply),
+        Err(fault) => refused(alloc, line, fault),
+    }
+}
+
+/// The line before a thread's lines.
+pub fn heading(alloc: Global, name: &Name) -> Result<Vec<u8>, AllocError>
+    ensures { IfOk result (λ text. text.items ≡ text_heading name.now) }
+{
+    let mut text = Vec::from_slice(alloc, b"[")?;
+    text.extend_from_slice(name.as_slice())?;
+    text.extend_from_slice(b"]\n")?;
+    Ok(text)
+}
+
+/// The last two lines.
+pub fn ending(alloc: Global, summary: Summary) -> Result<Vec<u8>, AllocError>
+    ensures { IfOk result (λ text. text.items ≡ text_ending summary) }
+{
+    let Summary {
+        globals,
+        weaks,
+        live,
+        used,
+    } = summary;
+    let text = format!(in alloc; "[end]\nglobals {globals} weaks {weaks} live {live} used {used}\n")?;
+    Ok(text.into_bytes())
+}
