@@ -23,3 +23,6 @@ pub use kind::Kind;
 pub use local::{LocalParts, LocalWord};
 pub use slot::{SlotParts, SlotWord};
 pub use top::{Half, TopParts, TopWord};
+
+#[cfg(test)]
+mod tests;
