@@ -1,21 +1,15 @@
 -- No two parts in range have one word.
-use Rattle.std.proofs.Common.{◌≡◌, ℕ, ◌+◌, ◌*◌, ◌^◌, ◌<◌, Bool, true, false, Option, Some, None, if◌then◌else◌, refl, ap, arith}
+use Rattle.std.proofs.Common.{◌≡◌, arith}
 use Rattle.std.proofs.lemmas.Grind.{common_steps}
 use Rattle.jr_word.specs.declared.gate.GateParts.{GateParts}
 use Rattle.jr_word.specs.declared.handle.HandleParts.{HandleParts}
-use Rattle.jr_word.specs.declared.handle.RefKind.{RefKind}
-use Rattle.jr_word.specs.declared.handle.RefKind.TheVariants as reference
 use Rattle.jr_word.specs.declared.header.HeaderParts.{HeaderParts}
-use Rattle.jr_word.specs.declared.kind.Kind.{Kind}
 use Rattle.jr_word.specs.declared.local.LocalParts.{LocalParts}
-use Rattle.jr_word.specs.declared.local.LocalParts.TheVariants as place
 use Rattle.jr_word.specs.declared.slot.SlotParts.{SlotParts}
-use Rattle.jr_word.specs.declared.slot.SlotParts.TheVariants.{Free, Retired, Global, Weak}
 use Rattle.jr_word.specs.declared.top.TopParts.{TopParts}
 use Rattle.jr_word.specs.Gate.{gate_word, IsGate}
-use Rattle.jr_word.specs.Handle.{reference_code, handle_word, IsHandle}
+use Rattle.jr_word.specs.Handle.{handle_word, IsHandle}
 use Rattle.jr_word.specs.Header.{header_word, IsHeader}
-use Rattle.jr_word.specs.Kind.{kind_code}
 use Rattle.jr_word.specs.Local.{local_word, IsLocalPlace}
 use Rattle.jr_word.specs.Slot.{slot_word, IsSlot}
 use Rattle.jr_word.specs.Top.{top_word, IsTop}

@@ -77,7 +77,8 @@ impl Elem for i8 {
 
     #[inline]
     fn to_word(self) -> u64 {
-        u64::from(self.cast_unsigned())
+        let bits: u8 = self.cast_unsigned();
+        u64::from(bits)
     }
 
     #[inline]
@@ -126,7 +127,8 @@ impl Elem for i16 {
 
     #[inline]
     fn to_word(self) -> u64 {
-        u64::from(self.cast_unsigned())
+        let bits: u16 = self.cast_unsigned();
+        u64::from(bits)
     }
 
     #[inline]
@@ -151,7 +153,8 @@ impl Elem for i32 {
 
     #[inline]
     fn to_word(self) -> u64 {
-        u64::from(self.cast_unsigned())
+        let bits: u32 = self.cast_unsigned();
+        u64::from(bits)
     }
 
     #[inline]
