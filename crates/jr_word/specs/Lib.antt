@@ -1,4 +1,7 @@
 pub mod Config
+pub mod Elem
+pub mod ElementLaws
+pub mod Fault
 pub mod Gate
 pub mod Handle
 pub mod Header

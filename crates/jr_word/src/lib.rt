@@ -3,6 +3,7 @@
 
 mod bits;
 mod config;
+mod elem;
 mod fault;
 mod gate;
 mod handle;
@@ -13,6 +14,7 @@ mod slot;
 mod top;
 
 pub use config::Config;
+pub use elem::Elem;
 pub use fault::Fault;
 pub use gate::{GateParts, GateWord};
 pub use handle::{Handle, HandleParts, RefKind};
@@ -21,3 +23,6 @@ pub use kind::Kind;
 pub use local::{LocalParts, LocalWord};
 pub use slot::{SlotParts, SlotWord};
 pub use top::{Half, TopParts, TopWord};
+
+#[cfg(test)]
+mod tests;
