@@ -1,31 +1,22 @@
--- A legal history with a creation, looks, a refused collection and a collection.
+-- The examples of collections.
 use Rattle.std.proofs.Common.{◌≡◌, ◌≢◌, ◌⊎◌, inl, inr, ℕ, zero, suc, ◌<◌, ◌≤◌, ◌^◌, true, false, Option, Some, None, [], ◌∷◌, ◌++◌, slice_get, refl, ap, subst, nat_eq, lit<, lit≤}
-use Rattle.jr_word.specs.declared.config.Config.{Config}
 use Rattle.jr_word.specs.declared.handle.RefKind.TheVariants.{Global, Weak}
 use Rattle.jr_word.specs.declared.kind.Kind.TheVariants.{Int}
 use Rattle.jr_model.specs.declared.event.Role.{Role}
 use Rattle.jr_model.specs.declared.event.Role.TheVariants.{Outside, Within, Knocking, Collecting}
 use Rattle.jr_model.specs.declared.event.Found.TheVariants.{Object, Cleared, Stale}
-use Rattle.jr_model.specs.declared.event.Act.TheVariants.{Enter, Knock, Leave, Withdraw, Shut, ShutBusy, Reopen, Create, Look, Probe, Delete, Clear, LocalPut, LocalDrop, Reserve, New, Read, Write, Drop, Settle}
+use Rattle.jr_model.specs.declared.event.Act.TheVariants.{Shut, Clear, Drop}
 use Rattle.jr_model.specs.Maps.{update, sum_below}
 use Rattle.jr_model.specs.State.{Handle, same_handle, Contents, State, opening, IsReached, from_global, from_local, from_element}
-use Rattle.jr_model.specs.History.{History, by, state_from, IsLegalFrom, IsLegal}
+use Rattle.jr_model.specs.History.{by, state, state_from, IsLegalFrom, IsLegal}
+use Rattle.jr_model.specs.Examples.{one_object, w, array_made, array_used, array_collected, CollectionIsLegal, CollectingReachedIsIllegal}
 use Rattle.jr_model.proofs.Updates.{at_number, at_handle}
-use Rattle.jr_model.proofs.Histories.{legal_from_append}
-
-abbrev pub room : Config
-room = record { threads = 2; slots = 1; objects = 1; words = 4; locals = 16 }
-
-abbrev weak : Handle
-weak = record { kind = Weak; serial = 0; index = 0; owner = 0 }
-
-abbrev first : History
-first = by 0 Enter ∷ by 0 (Reserve 1) ∷ by 0 (New 1 Int (7 ∷ [])) ∷ by 0 (LocalPut 0 1) ∷ by 0 (Probe 0 false) ∷ by 0 (Create weak 1) ∷ by 0 Leave ∷ []
+use Rattle.jr_model.proofs.Histories.{legal_append, legal_from_append}
 
 abbrev s1 : State
-s1 = state_from opening first
+s1 = state_from opening array_made
 
-first_legal : IsLegal room 2 first
+first_legal : IsLegal one_object 2 array_made
 unfolding sum_below
 first_legal = (
   (lit< tt, (refl, λ u e. cc)),
@@ -58,18 +49,14 @@ first_legal = (
     free (inl h) = h.2 refl
     free (inr f) = let h = f 0 (lit≤ tt) in cc (h.3)
 
--- thread 1 goes in, and meanwhile thread 0 can't collect
-abbrev second : History
-second = by 1 Enter ∷ by 0 (ShutBusy 1) ∷ by 1 (Look weak (Object 1)) ∷ by 1 (Write 1 0 9) ∷ by 1 (Read 1 0 9) ∷ by 1 Leave ∷ by 0 Enter ∷ by 0 (LocalDrop 0) ∷ by 0 Leave ∷ []
-
 abbrev s2 : State
-s2 = state_from s1 second
+s2 = state_from s1 array_used
 
 -- a role that each thread has had, or that all began with
 each_role : (P : Role → Type 0) (role : ℕ → Role) (t : ℕ) (r : Role) → P r → ((u : ℕ) → P (role u)) → (u : ℕ) → P (update nat_eq role t r u)
 each_role P role t r here there u = at_number P role t u r (λ e. here) (λ ne. there u)
 
-second_legal : IsLegalFrom room 2 s1 second
+second_legal : IsLegalFrom one_object 2 s1 array_used
 unfolding sum_below
 second_legal = (
   (lit< tt, (refl, each_role (λ r. r ≢ Collecting) _ 0 Outside (λ e. cc) (each_role (λ r. r ≢ Collecting) _ 0 Within (λ e. cc) (λ u e. cc)))),
@@ -99,10 +86,6 @@ second_legal = (
     ),
   ),
 )
-
--- thread 0 collects, while thread 1 finds the gate shut; then thread 1 finds its reference cleared, and deletes it
-abbrev third : History
-third = by 0 Shut ∷ by 1 Knock ∷ by 0 (Clear weak) ∷ by 0 (Drop 1) ∷ by 1 Withdraw ∷ by 0 (Settle 0) ∷ by 0 Reopen ∷ by 1 Enter ∷ by 1 (Look weak Cleared) ∷ by 1 (Delete weak) ∷ by 1 (Look weak Stale) ∷ by 1 Leave ∷ []
 
 -- where no global reference and no local stands, nothing is reached
 unreached : (s : State) → ((h : Handle) (o : ℕ) → h.kind ≡ Global → s.refs h ≢ Object o) → ((t p o : ℕ) → s.locals t p ≢ Some o) → {o : ℕ} → IsReached s o → ⊥
@@ -135,13 +118,13 @@ outside u =
     at_number (λ r. r ≡ Outside) (λ t. Outside) 0 u Within (λ e. absurd (n0 e)) (λ z. refl))))))
 
 no_global : (h : Handle) (o : ℕ) → h.kind ≡ Global → s2.refs h ≢ Object o
-no_global h o k = at_handle (λ r. r ≢ Object o) (λ g. Stale) weak h (Object 1) (λ e r. let w = ap (λ (g : Handle). g.kind) e in cc) (λ ne r. cc)
+no_global h o k = at_handle (λ r. r ≢ Object o) (λ g. Stale) w h (Object 1) (λ e r. let w = ap (λ (g : Handle). g.kind) e in cc) (λ ne r. cc)
 
-no_global' : (h : Handle) (o : ℕ) → h.kind ≡ Global → update same_handle s2.refs weak Cleared h ≢ Object o
-no_global' h o k = at_handle (λ r. r ≢ Object o) s2.refs weak h Cleared (λ e r. cc) (λ ne. no_global h o k)
+no_global' : (h : Handle) (o : ℕ) → h.kind ≡ Global → update same_handle s2.refs w Cleared h ≢ Object o
+no_global' h o k = at_handle (λ r. r ≢ Object o) s2.refs w h Cleared (λ e r. cc) (λ ne. no_global h o k)
 
-no_weak : (h : Handle) → h.kind ≡ Weak → update same_handle s2.refs weak Cleared h ≢ Object 1
-no_weak h k = at_handle (λ r. r ≢ Object 1) s2.refs weak h Cleared (λ e r. cc) (λ ne. at_handle (λ r. r ≢ Object 1) (λ g. Stale) weak h (Object 1) (λ e r. ne e) (λ ne' r. cc))
+no_weak : (h : Handle) → h.kind ≡ Weak → update same_handle s2.refs w Cleared h ≢ Object 1
+no_weak h k = at_handle (λ r. r ≢ Object 1) s2.refs w h Cleared (λ e r. cc) (λ ne. at_handle (λ r. r ≢ Object 1) (λ g. Stale) w h (Object 1) (λ e r. ne e) (λ ne' r. cc))
 
 abbrev l1 : ℕ → ℕ → Option ℕ
 l1 = update nat_eq (λ t p. None) 0 (update nat_eq (λ p. None) 0 (Some 1))
@@ -159,7 +142,7 @@ closed o x =
     at_number (λ y. y ≢ Some x) (update nat_eq (λ p. None) 1 (Some (record { kind = Int; words = 7 ∷ [] }))) 1 o (Some (record { kind = Int; words = 9 ∷ [] })) (λ e. absurd (ne e)) (λ z.
     at_number (λ y. y ≢ Some x) (λ p. None) 1 o (Some (record { kind = Int; words = 7 ∷ [] })) (λ e. absurd (ne e)) (λ z r. cc)))
 
-third_legal : IsLegalFrom room 2 s2 third
+third_legal : IsLegalFrom one_object 2 s2 array_collected
 unfolding sum_below
 third_legal = (
   (lit< tt, outside),
@@ -206,6 +189,20 @@ third_legal = (
         at_number (λ r. r ≢ Collecting) (update nat_eq s2.role 0 Collecting) 1 u Knocking (λ e r. cc) (λ z.
         at_number (λ r. r ≢ Collecting) s2.role 0 u Collecting (λ e. absurd (ne e)) (λ z r. let o = outside u in cc))))
 
--- the whole history is legal
-pub example_is_legal : IsLegal room 2 (first ++ second ++ third)
-example_is_legal = (legal_from_append room 2 opening (first ++ second) third).1 ((legal_from_append room 2 opening first second).1 (first_legal, second_legal), third_legal)
+pub collection_is_legal : CollectionIsLegal
+collection_is_legal =
+    (legal_from_append one_object 2 opening (array_made ++ array_used) array_collected).1
+    ((legal_from_append one_object 2 opening array_made array_used).1 (first_legal, second_legal), third_legal)
+
+-- the local reference of thread 0 reaches the object
+reached : IsReached (state (array_made ++ by 0 Shut ∷ [])) 1
+reached = from_local 0 0 refl refl
+
+pub collecting_reached_is_illegal : CollectingReachedIsIllegal
+collecting_reached_is_illegal = (
+  λ l. ((legal_append one_object 2 (array_made ++ by 0 Shut ∷ []) (by 0 (Drop 1) ∷ [])).0 l).1.0.1.2 reached,
+  λ l.
+      let needs = ((legal_append one_object 2 (array_made ++ by 0 Shut ∷ []) (by 0 (Clear w) ∷ [])).0 l).1.0.1 in
+      let same : 1 ≡ needs.2 = let is = needs.3 in cc in
+      needs.4 (subst (λ o. IsReached (state (array_made ++ by 0 Shut ∷ [])) o) same reached),
+)

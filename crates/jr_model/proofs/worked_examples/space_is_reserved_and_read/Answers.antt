@@ -1,0 +1,11 @@
+use Rattle.jr_model.proofs.GateExamples.{space_is_legal, reading_another_is_illegal, making_beyond_is_illegal}
+use Rattle.jr_model.proofs.worked_examples.space_is_reserved_and_read.Goals as goal
+
+pub returns-clause-legal : goal.returns-clause-legal
+returns-clause-legal c = space_is_legal
+
+pub returns-clause-another : goal.returns-clause-another
+returns-clause-another c = reading_another_is_illegal
+
+pub returns-clause-beyond : goal.returns-clause-beyond
+returns-clause-beyond c = making_beyond_is_illegal

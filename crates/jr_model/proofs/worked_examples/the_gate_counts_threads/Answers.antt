@@ -1,0 +1,14 @@
+use Rattle.jr_model.proofs.GateExamples.{gate_is_legal, wrong_count_is_illegal, shutting_over_is_illegal, entering_beside_is_illegal}
+use Rattle.jr_model.proofs.worked_examples.the_gate_counts_threads.Goals as goal
+
+pub returns-clause-legal : goal.returns-clause-legal
+returns-clause-legal c = gate_is_legal
+
+pub returns-clause-count : goal.returns-clause-count
+returns-clause-count c = wrong_count_is_illegal
+
+pub returns-clause-over : goal.returns-clause-over
+returns-clause-over c = shutting_over_is_illegal
+
+pub returns-clause-beside : goal.returns-clause-beside
+returns-clause-beside c = entering_beside_is_illegal

@@ -1,0 +1,51 @@
+//! Worked examples of the machine: each function's contract says which histories are legal, what they leave, and what may not come after them.
+ghost use Rattle.jr_model.specs.Examples.{
+  DropIsLegal,
+  FindingDroppedIsIllegal,
+  CreatingBesideIsIllegal,
+  GateIsLegal,
+  WrongCountIsIllegal,
+  ShuttingOverIsIllegal,
+  EnteringBesideIsIllegal,
+  ThriceIsLegal,
+  FourthIsIllegal,
+  SpaceIsLegal,
+  ReadingAnotherIsIllegal,
+  MakingBeyondIsIllegal,
+  CollectionIsLegal,
+  CollectingReachedIsIllegal,
+};
+
+/// A global reference is made, found, dropped and then stale; the object is left.
+pub fn a_dropped_reference_is_stale()
+    ensures legal { DropIsLegal }
+    ensures found { FindingDroppedIsIllegal }
+    ensures beside { CreatingBesideIsIllegal }
+{}
+
+/// The gate lets a thread in or shuts, never both, and counts the threads that are not outside.
+pub fn the_gate_counts_threads()
+    ensures legal { GateIsLegal }
+    ensures count { WrongCountIsIllegal }
+    ensures over { ShuttingOverIsIllegal }
+    ensures beside { EnteringBesideIsIllegal }
+{}
+
+/// With 2 as the last serial a slot gives three handles, and then none.
+pub fn a_slot_gives_each_serial_once()
+    ensures legal { ThriceIsLegal }
+    ensures fourth { FourthIsIllegal }
+{}
+
+/// Space is reserved, an array is made in it, and a read finds what was written.
+pub fn space_is_reserved_and_read()
+    ensures legal { SpaceIsLegal }
+    ensures another { ReadingAnotherIsIllegal }
+    ensures beyond { MakingBeyondIsIllegal }
+{}
+
+/// A collection takes an object that nothing reaches, and clears the weak reference to it.
+pub fn a_collection_takes_what_nothing_reaches()
+    ensures legal { CollectionIsLegal }
+    ensures reached { CollectingReachedIsIllegal }
+{}
