@@ -1,5 +1,6 @@
 -- Runs of whole threads and scripts, for whatever was known.
 use Rattle.std.specs.Prelude.{◌≡◌, ℕ, List, [], ◌∷◌, ◌++◌, Result, Ok, Err}
+use Rattle.std.specs.declared.alloc.AllocError.{AllocError}
 use Rattle.jr_word.specs.declared.config.Config.{Config}
 use Rattle.jr_word.specs.declared.fault.Fault.{Fault}
 use Rattle.jr_model.specs.State.{summary}
@@ -11,7 +12,9 @@ use Rattle.jr_syntax.specs.declared.script.Script.{Script}
 use Rattle.jr_scripts.specs.declared.steps.Known.{Known}
 use Rattle.jr_scripts.specs.Knowing.{Standing, Holds}
 use Rattle.jr_scripts.specs.Deeds.{Moment, moment}
-use Rattle.jr_scripts.specs.Text.{heading, ending}
+use Rattle.jr_scripts.specs.declared.command.Reply.{Reply}
+use Rattle.jr_scripts.specs.Names.{Names}
+use Rattle.jr_scripts.specs.Text.{printed, names_after, heading, ending}
 use Rattle.jr_scripts.specs.Explains.{Explained, Leaves}
 
 module _ {S : Type 0} (stands : S → Standing) (knows : S → Known → Type 0) where
@@ -19,6 +22,11 @@ module _ {S : Type 0} (stands : S → Standing) (knows : S → Known → Type 0)
   pub record RanThread (old new : S) (before after : Frames) (turns first : ℕ) (commands : List Command) (answer : Result (Unit {0}) Fault) (text : List ℕ) : Type 0 where
     pub stands_is : stands new ≡ stands old
     pub explained : (k : Known) → knows old k → Holds before k → (k' : Known) × knows new k' × Holds after k' × Leaves turns first (moment k before) commands answer text (moment k' after)
+
+-- what is kept of a command that was done: its line is written and its name set, or memory was refused and nothing is written
+abbrev pub WritesDown : ℕ → Command → Result Reply Fault → Names → Names → Result (Unit {0}) AllocError → List ℕ → List ℕ → Type 0
+WritesDown number c answer names names' (Ok _) old new = (names' ≡ names_after c answer names) × (new ≡ old ++ printed number c answer)
+WritesDown number c answer names names' (Err _) old new = new ≡ old
 
 -- the last serial of a slot and of a local place in the product
 abbrev pub LAST_SERIAL : ℕ

@@ -7,6 +7,7 @@ pub mod frames;
 pub mod gate;
 mod names;
 pub mod object;
+mod perform;
 mod printed;
 pub mod reference;
 pub mod resolve;

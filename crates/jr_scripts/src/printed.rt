@@ -1,7 +1,7 @@
 //! What commands print.
 
 ghost use Rattle.std.specs.Prelude.{◌≡◌, ◌∷◌, ◌++◌, [], IfOk};
-ghost use Rattle.std.specs.Str.{string_bytes};
+
 ghost use Rattle.jr_syntax.specs.Reference.{reference_word};
 ghost use Rattle.jr_scripts.specs.Text.{line, says as what_is_said, refused as refusal, printed as text_printed, heading as text_heading, ending as text_ending};
 

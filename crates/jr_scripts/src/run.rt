@@ -1,30 +1,85 @@
 //! Runs the commands of a thread.
 
-ghost use Rattle.std.specs.Prelude.{◌≡◌, ◌++◌, ◌+◌, List, ℕ, OnOk, OnErr, MatchOption, Some, None, length};
-ghost use Rattle.jr_word.specs.declared.handle.RefKind.TheVariants.{Local, Global as GlobalKind, Weak};
-ghost use Rattle.jr_scripts.specs.Deeds.{Does, Deed, new_plain as plain_deed, new_reference, delete_reference, delete_local_ref, get_object_ref_type};
-ghost use Rattle.jr_scripts.specs.Commands.{tried as tried_deed, deleted_of, deleted, type_of as type_deed, deed};
-ghost use Rattle.jr_scripts.specs.Text.{sets, names_after, reference_made, printed as text_printed};
-ghost use Rattle.jr_scripts.specs.Runs.{RanThread};
+ghost use Rattle.std.specs.Prelude.{◌≡◌, ◌++◌, ◌+◌, ◌<◌, ◌^◌, List, ℕ, OnOk, MatchOption, Some, None, length};
+ghost use Rattle.jr_scripts.specs.Text.{sets, names_after};
+ghost use Rattle.jr_scripts.specs.Runs.{RanThread, WritesDown};
 
 use crate::command::Reply;
 use crate::env::Env;
 use crate::names::Names;
+use crate::perform::perform;
 use crate::printed::printed;
 use crate::steps::Steps;
-use crate::tries::tried;
 use jr_syntax::{Command, Name};
-use jr_word::{Fault, Handle, HandleParts, RefKind};
+use jr_word::{Fault, Handle};
 use std::alloc::{AllocError, Global};
 
-fn plain<S: Steps>(env: &mut Env<S>, turns: u64) -> Result<Handle, Fault>
-    ensures { Does S.stands S.knows env.old.steps env.new.steps env.old.frames.frames env.new.frames.frames (tried_deed turns plain_deed) result }
+/// The name that a command sets.
+fn set_by(command: &Command) -> Option<&Name>
+    ensures { MatchOption result (sets command.now ≡ None) (λ name. sets command.now ≡ Some name.now) }
 {
-    tried(
-        env,
-        turns,
-        |env: &mut Env<S>|
-            ensures { Does S.stands S.knows env.old.steps env.new.steps env.old.frames.frames env.new.frames.frames plain_deed result }
-        { env.new_plain() },
-    )
+    match command {
+        Command::Plain { name } | Command::Global { name, .. } => Some(name),
+        _ => None,
+    }
+}
+
+/// Sets the name of a command that made something.
+fn settle(
+    names: &mut Names,
+    command: &Command,
+    answer: Result<Reply, Fault>,
+) -> Result<(), AllocError>
+    ensures { OnOk result (names.new ≡ names_after command.now answer names.old) }
+{
+    let Ok(Reply::Made(handle)) = answer else {
+        return Ok(());
+    };
+    let Some(name) = set_by(command) else {
+        return Ok(());
+    };
+    names.set(name, handle.unwrap_or(Handle::NULL))
+}
+
+/// Writes the line of a command, and sets its name.
+fn record(
+    alloc: Global,
+    names: &mut Names,
+    line: usize,
+    command: &Command,
+    answer: Result<Reply, Fault>,
+    out: &mut Vec<u8>,
+) -> Result<(), AllocError>
+    ensures { WritesDown line command.now answer names.old names.new result out.old.items out.new.items }
+{
+    let text = printed(alloc, line, command, answer)?;
+    settle(names, command, answer)?;
+    out.extend_from_slice(&text)?;
+    Ok(())
+}
+
+/// Runs the commands of a thread, of which the first stands on this line of the script, and appends what they print. A call that is raced or barred is made again, up to `turns` times.
+///
+/// # Errors
+///
+/// E16 alone: memory was refused. What the commands already done have changed stays, and the text has their lines, perhaps without the last.
+pub fn run_thread<S: Steps>(
+    alloc: Global,
+    env: &mut Env<S>,
+    first: usize,
+    commands: &[Command],
+    turns: u64,
+    out: &mut Vec<u8>,
+) -> Result<(), Fault>
+    requires { first + length commands.now < 2 ^ 64 }
+    ensures { (text : List ℕ) × (out.new.items ≡ out.old.items ++ text) × RanThread S.stands S.knows env.old.steps env.new.steps env.old.frames.frames env.new.frames.frames turns first commands.now result text }
+{
+    let mut names = Names::new(alloc);
+    for (i, command) in commands.iter().enumerate() {
+        let answer = perform(env, &names, turns, command);
+        let Ok(()) = record(alloc, &mut names, first + i, command, answer, out) else {
+            return Err(Fault::Memory);
+        };
+    }
+    Ok(())
 }

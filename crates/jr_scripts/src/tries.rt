@@ -3,8 +3,6 @@
 ghost use Rattle.std.specs.Prelude.{◌≡◌, Result};
 ghost use Rattle.jr_scripts.specs.Tries.{Tried, is_tried_again};
 
-use crate::env::Env;
-use crate::steps::Steps;
 use jr_word::Fault;
 
 /// Whether a call with this answer is made again.
@@ -15,8 +13,8 @@ fn is_made_again<A>(answer: &Result<A, Fault>) -> bool
 }
 
 /// Makes a call, and again as long as it is raced or barred: E20 after so many turns.
-pub fn tried<S: Steps, A: Drop, F: Fn(&mut Env<S>) -> Result<A, Fault>>(
-    env: &mut Env<S>,
+pub fn tried<E, A: Drop, F: Fn(&mut E) -> Result<A, Fault>>(
+    env: &mut E,
     turns: u64,
     ask: F,
 ) -> Result<A, Fault>
