@@ -1,2 +1,3 @@
 pub mod Trying
 pub mod Doing
+pub mod Going
