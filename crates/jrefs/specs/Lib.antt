@@ -1,0 +1,2 @@
+pub mod Trouble
+pub mod Answer

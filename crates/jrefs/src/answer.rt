@@ -1,0 +1,29 @@
+//! What the program answers to the text of a script.
+
+ghost use Rattle.std.specs.Prelude.{◌≡◌, IfOk, IfErr};
+ghost use Rattle.jrefs.specs.Answer.{IsAnswer, IsRefused};
+
+use crate::trouble::Trouble;
+use jr_scripts::run_one;
+use jr_syntax::{ScriptFault, parse};
+use std::alloc::Global;
+
+/// How often a call is made that is raced or barred.
+const TURNS: u64 = 10_000_000;
+
+/// Runs the script of a text, and gives what it prints.
+pub fn answer_of(alloc: Global, text: &[u8]) -> Result<Vec<u8>, Trouble>
+    ensures answer { IfOk result (λ output. IsAnswer 10000000 65535 text.now output.items) }
+    ensures refused { IfErr result (IsRefused text.now) }
+{
+    let script = match parse(alloc, text) {
+        Ok(script) => script,
+        Err(ScriptFault::At(line, reason)) => return Err(Trouble::Script { line, reason }),
+        Err(ScriptFault::Memory) => return Err(Trouble::Memory),
+    };
+    let mut output = Vec::new(alloc);
+    match run_one(alloc, &script, TURNS, &mut output) {
+        Ok(()) => Ok(output),
+        Err(_) => Err(Trouble::Memory),
+    }
+}
