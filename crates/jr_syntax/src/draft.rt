@@ -13,8 +13,9 @@ use crate::command::{Command, command_of};
 use crate::fault::Reason;
 use crate::line::is_printable;
 use crate::name::Name;
-use crate::script::{Script, Threads};
-use crate::thread::{Commands, ThreadPart, thread_of};
+use crate::script::Script;
+use crate::sequence::Sequence;
+use crate::thread::{ThreadPart, thread_of};
 use crate::word::Words;
 use jr_word::Config;
 use std::alloc::{AllocError, Global};
@@ -55,7 +56,7 @@ impl From<Reason> for LineFault {
 #[derive(Drop)]
 pub struct Draft {
     pub config: Config,
-    pub whole: Threads,
+    pub whole: Sequence<ThreadPart>,
     pub last: Option<ThreadPart>,
 }
 
@@ -66,7 +67,7 @@ impl Draft {
     {
         Draft {
             config,
-            whole: Threads::new(alloc),
+            whole: Sequence::new(alloc),
             last: None,
         }
     }
@@ -108,7 +109,7 @@ impl Draft {
         }
         let part = ThreadPart {
             name: Name::new(word),
-            commands: Commands::new(alloc),
+            commands: Sequence::new(alloc),
         };
         if let Some(before) = self.last.replace(part) {
             self.whole.push(before)?;
