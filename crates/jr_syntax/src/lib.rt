@@ -12,6 +12,8 @@ mod number;
 mod reader;
 mod script;
 mod sequence;
+#[cfg(test)]
+mod tests;
 mod thread;
 mod vm_line;
 mod word;
