@@ -1,5 +1,5 @@
 -- Numbers and their digits.
-use Rattle.std.proofs.Common.{◌≡◌, ℕ, zero, suc, ◌^◌, ◌<◌, true, List, length, get_or, refl, sym, ap, ◌∙◌, arith, inl, inr, leb, eqb, rules}
+use Rattle.std.proofs.Common.{◌≡◌, ℕ, zero, suc, ◌^◌, ◌<◌, true, List, length, get_or, refl, arith, inl, inr, eqb, rules}
 use Rattle.std.specs.Prelude.{◌||◌, not}
 use Rattle.std.specs.Fmt.{decimal}
 use Rattle.std.proofs.lemmas.Bool.{and_parts, and_from, leb-true, le-leb, eqb-true, eqb-false, ne_eqb, not-true, or_cases}

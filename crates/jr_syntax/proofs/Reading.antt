@@ -1,15 +1,15 @@
 -- A text as it is read, line by line.
-use Rattle.std.proofs.Common.{◌≡◌, ℕ, ◌+◌, ◌<◌, ◌≤◌, Bool, true, false, cond, List, [], ◌∷◌, ◌++◌, length, map, Option, Some, None, Ok, Err, refl, sym, ap, subst, ◌∙◌, append_assoc, arith, ltb, leb, eqb}
+use Rattle.std.proofs.Common.{◌≡◌, ℕ, ◌+◌, ◌≤◌, Bool, true, false, cond, List, [], ◌∷◌, ◌++◌, length, map, Option, Some, None, Ok, Err, refl, sym, ap, subst, ◌∙◌, append_assoc, arith, leb, eqb}
 use Rattle.std.specs.Prelude.{not, is_none}
 use Rattle.std.specs.Option.{option_map_or}
 use Rattle.std.specs.List.{flat_map, join_with_byte, slice_split, list_all}
-use Rattle.std.proofs.lemmas.Bool.{lt-ltb, le-ltb, leb-true, leb-false, le-leb, ne_eqb, not-false}
-use Rattle.std.proofs.lemmas.List.{length-append, length-map, append-nil, map-append}
+use Rattle.std.proofs.lemmas.Bool.{le-ltb, leb-true, le-leb, ne_eqb, not-false}
+use Rattle.std.proofs.lemmas.List.{length-append, append-nil, map-append}
 use Rattle.std.proofs.lemmas.List.Splits.{join_with_byte-slice_split}
 use Rattle.jr_word.specs.declared.config.Config.{Config}
 use Rattle.jr_word.specs.Config.{is_between}
 use Rattle.jr_syntax.specs.declared.fault.Reason.{Reason}
-use Rattle.jr_syntax.specs.declared.fault.Reason.TheVariants.{EmptyInput, UnfinishedLine, NotAscii, VmLineExpected, NumberOutOfRange, ThreadLineExpected}
+use Rattle.jr_syntax.specs.declared.fault.Reason.TheVariants.{EmptyInput, UnfinishedLine, NotAscii, VmLineExpected, NumberOutOfRange}
 use Rattle.jr_syntax.specs.declared.fault.ScriptFault.{ScriptFault}
 use Rattle.jr_syntax.specs.declared.fault.ScriptFault.TheVariants as script_faults
 use Rattle.jr_syntax.specs.declared.draft.LineFault.{LineFault}
@@ -19,7 +19,7 @@ use Rattle.jr_syntax.specs.declared.thread.ThreadPart.{ThreadPart}
 use Rattle.jr_syntax.specs.declared.script.Script.{Script}
 use Rattle.jr_syntax.specs.Line.{Line, line, words_of, lines_of, lines_of_pieces}
 use Rattle.jr_syntax.specs.Script.{vm, is_config, part_lines, names_of, is_part, all_apart, script_lines, IsScript, text_of}
-use Rattle.jr_syntax.specs.Faults.{table, first_fit, fault_of, first_fault_behind, first_fault, names_in, threads_in, second_word}
+use Rattle.jr_syntax.specs.Faults.{table, first_fit, fault_of, first_fault_behind, first_fault, second_word}
 use Rattle.jr_syntax.specs.Parse.{IsFaultOf}
 use Rattle.jr_syntax.specs.Draft.{Gave, GaveSome, Grown, parts_of, rows, first_rows, fault_at}
 use Rattle.jr_syntax.proofs.Rows.{Follows, table_rows, rows_none}
@@ -89,16 +89,6 @@ next_line text number d new l ls h none g =
           ∙ ap (λ (b : List (List ℕ)). first_fault_behind b ls) after;
     }
 
--- the end, where parts are missing
-pub parts_missing : (text : List ℕ) (number : ℕ) (d : Draft) → IsRead text number d [] → leb d.config.threads (length (parts_of d)) ≡ false → first_fault text ≡ Some (number + 1, ThreadLineExpected)
-parts_missing text number d h e =
-    let before = script_lines d.config (parts_of d) in
-    let f = h.follows in
-    let lt : length (parts_of d) < d.config.threads = leb-false _ _ e in
-    let names : length (names_in before) ≡ length (parts_of d) = ap length f.names ∙ length-map (parts_of d) (λ p. p.name) in
-    let less : ltb (length (names_in before)) (threads_in before) ≡ true = lt-ltb _ _ (omega (arith, names, f.threads)) in
-    h.fault ∙ ap (λ b. cond b (Some (length before + 1, ThreadLineExpected)) None) less ∙ ap (λ k. Some (k + 1, ThreadLineExpected)) (sym h.counted)
-
 -- the end
 script_read : (text : List ℕ) (number : ℕ) (d : Draft) → IsRead text number d [] → length text ≤ 65536 → leb d.config.threads (length (parts_of d)) ≡ true → IsScript (record { config = d.config; threads = parts_of d }) × (text ≡ text_of (record { config = d.config; threads = parts_of d }))
 script_read text number d h short e =
@@ -127,11 +117,6 @@ some_lines (c ∷ cs) l ls short e =
 
 pub table_first : (l : Line) → first_fit (table [] l) ≡ first_fit (first_rows l)
 table_first l = refl
-
-pub first_line_fault : (text : List ℕ) (l : Line) (ls : List Line) (r : Reason) → length text ≤ 65536 → lines_of text ≡ l ∷ ls → first_fit (first_rows l) ≡ Some r → first_fault text ≡ Some (1, r)
-first_line_fault text l ls r short e f =
-    some_lines text l ls short e
-    ∙ ap (λ (o : Option Reason). option_map_or (λ q. Some (1, q)) o (first_fault_behind (l.0 ∷ []) ls)) (table_first l ∙ f)
 
 first_rows_none : (a b c d : Bool) → first_fit ((UnfinishedLine, not a) ∷ (NotAscii, not b) ∷ (VmLineExpected, not c) ∷ (NumberOutOfRange, not d) ∷ []) ≡ None → (a ≡ true) × (c ≡ true) × (d ≡ true)
 first_rows_none false b c d h = absurd cc

@@ -1,5 +1,5 @@
 -- The table's rows for a line behind the first, by what was read.
-use Rattle.std.proofs.Common.{◌≡◌, ℕ, suc, ◌+◌, ◌<◌, ◌≤◌, Bool, true, false, List, [], ◌∷◌, length, Option, Some, None, refl, sym, ap, ◌∙◌, arith, ltb, leb, eqb}
+use Rattle.std.proofs.Common.{◌≡◌, ℕ, ◌+◌, ◌≤◌, Bool, true, false, List, [], ◌∷◌, length, None, refl, sym, ap, ◌∙◌, arith, ltb, leb, eqb}
 use Rattle.std.specs.Prelude.{◌&&◌, not, is_none, if◌then◌else◌}
 use Rattle.std.specs.List.{list_all, list_any}
 use Rattle.std.specs.Str.{bytes_eq}
@@ -12,7 +12,7 @@ use Rattle.jr_syntax.specs.declared.fault.Reason.TheVariants.{TooLong, Unfinishe
 use Rattle.jr_syntax.specs.declared.draft.Draft.{Draft}
 use Rattle.jr_syntax.specs.declared.thread.ThreadPart.{ThreadPart}
 use Rattle.jr_syntax.specs.Line.{Line, words_of, word_at}
-use Rattle.jr_syntax.specs.Script.{vm, thread, is_config, script_lines, names_of, is_part, all_apart}
+use Rattle.jr_syntax.specs.Script.{thread, is_config, script_lines, names_of, is_part, all_apart}
 use Rattle.jr_syntax.specs.Faults.{table, first_fit, threads_in, names_in}
 use Rattle.jr_syntax.specs.Draft.{parts_of, rows, thread_rows, command_rows}
 

@@ -1,10 +1,9 @@
 -- The text of a script has no fault, and is the text of no other script.
-use Rattle.std.proofs.Common.{◌≡◌, ℕ, suc, ◌+◌, ◌^◌, ◌<◌, ◌≤◌, Bool, true, false, cond, List, [], ◌∷◌, ◌++◌, length, map, Option, Some, None, Result, Ok, Err, refl, sym, ap, ◌∙◌, append_assoc, arith, ltb, leb, eqb}
+use Rattle.std.proofs.Common.{◌≡◌, ℕ, suc, ◌+◌, ◌<◌, ◌≤◌, Bool, true, false, cond, List, [], ◌∷◌, ◌++◌, length, map, Option, Some, None, Result, Ok, Err, refl, sym, ap, ◌∙◌, append_assoc, arith, ltb, leb, eqb}
 use Rattle.std.specs.Prelude.{codes, ◌&&◌, not, if◌then◌else◌, IfOk, IfErr}
 use Rattle.std.specs.Option.{option_map_or}
 use Rattle.std.specs.List.{list_all, list_any, flat_map, slice_split}
 use Rattle.std.specs.Str.{bytes_eq}
-use Rattle.std.specs.Fmt.{decimal}
 use Rattle.std.proofs.lemmas.Bool.{and_parts, and_from, leb-true, lt-leb, le-ltb, ne_eqb, false≢true, not-true}
 use Rattle.std.proofs.lemmas.List.{length-append, length-map, append-nil, map-append}
 use Rattle.std.proofs.lemmas.List.Folds.{list_any-append}
@@ -18,18 +17,17 @@ use Rattle.jr_syntax.specs.declared.fault.ScriptFault.TheVariants as script_faul
 use Rattle.jr_syntax.specs.declared.thread.ThreadPart.{ThreadPart}
 use Rattle.jr_syntax.specs.declared.script.Script.{Script}
 use Rattle.jr_syntax.specs.Name.{is_name}
-use Rattle.jr_syntax.specs.Number.{is_number}
 use Rattle.jr_syntax.specs.Line.{Line, line, lines_of, words_of, word_at}
 use Rattle.jr_syntax.specs.Command.{words_of_command, is_command, line_has_form, line_in_range, line_command}
 use Rattle.jr_syntax.specs.Script.{vm, thread, config_at, is_config, part_lines, script_lines, text_of, names_of, is_part, all_apart, IsScript}
-use Rattle.jr_syntax.specs.Faults.{table, first_fit, fault_of, first_fault_behind, first_fault, threads_in, names_in, second_word}
+use Rattle.jr_syntax.specs.Faults.{first_fit, fault_of, first_fault_behind, first_fault, threads_in, names_in, second_word}
 use Rattle.jr_syntax.specs.Parse.{IsFaultOf, ReadsAs}
 use Rattle.jr_syntax.proofs.Cuts.{lines_of_more}
 use Rattle.jr_syntax.proofs.DecimalLaws.{number_decimal, decimal_form}
 use Rattle.jr_syntax.proofs.VmLaws.{vm_plain, config_small}
 use Rattle.jr_syntax.proofs.Steps.{names_more, threads_more, other_way, or_false, or_from}
 use Rattle.jr_syntax.proofs.Reading.{finished, some_lines, table_first}
-use Rattle.jr_syntax.proofs.Again.{is_solid, name_solid, decimal_solid, words_again, line_printable, command_again, IsLineOf}
+use Rattle.jr_syntax.proofs.Again.{is_solid, name_solid, decimal_solid, words_again, line_printable, command_again}
 
 -- ---- lines, joined and cut again
 

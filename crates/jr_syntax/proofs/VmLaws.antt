@@ -2,14 +2,13 @@
 use Rattle.std.proofs.Common.{◌≡◌, ℕ, ◌^◌, ◌<◌, ◌≤◌, Bool, true, false, List, [], ◌∷◌, length, Ok, Err, refl, sym, ap, subst, ◌∙◌, arith, leb, ltb, eqb}
 use Rattle.std.specs.Prelude.{◌&&◌, codes, nat_le}
 use Rattle.std.specs.Str.{bytes_eq}
-use Rattle.std.specs.Fmt.{decimal}
 use Rattle.std.proofs.lemmas.Bool.{and_parts, and_from, leb-true, ltb-true, eqb-true, false≢true}
 use Rattle.std.proofs.lemmas.Slice.Eq.{bytes_eq-Decides}
 use Rattle.jr_word.specs.declared.config.Config.{Config}
 use Rattle.jr_word.specs.Config.{in_limits, is_between}
 use Rattle.jr_syntax.specs.declared.argument.LineError.TheVariants as errors
 use Rattle.jr_syntax.specs.Line.{word_at, behind}
-use Rattle.jr_syntax.specs.Number.{is_number, number_of}
+use Rattle.jr_syntax.specs.Number.{is_number}
 use Rattle.jr_syntax.specs.Kind.{reading, Reads}
 use Rattle.jr_syntax.specs.Script.{vm, thread, is_config, threads_today, is_pair, config_at}
 use Rattle.jr_syntax.specs.VmLine.{vm_words, AreNumbers}
@@ -18,7 +17,7 @@ use Rattle.jr_syntax.proofs.DecimalLaws.{decimal_number}
 -- ---- the words of its sizes
 
 -- they have its form
-pub vm_form : (a b c d e : List ℕ) → AreNumbers a b c d e → vm.has_form (vm_words a b c d e) ≡ true
+vm_form : (a b c d e : List ℕ) → AreNumbers a b c d e → vm.has_form (vm_words a b c d e) ≡ true
 vm_form a b c d e h = rw (h.threads, h.slots, h.objects, h.words, h.locals) refl
 
 -- what they are read as

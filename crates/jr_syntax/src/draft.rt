@@ -84,8 +84,8 @@ impl Draft {
         }
     }
 
-    #[tactic(auto, using(crate::proofs::PartLaws::any_names, crate::proofs::PartLaws::any_names_one))]
     /// Whether a part has a name.
+    #[tactic(auto, using(crate::proofs::PartLaws::any_names, crate::proofs::PartLaws::any_names_one))]
     fn has_name(&self, word: &[u8]) -> bool
         ensures { result ≡ list_any (bytes_eq word.now) (names_of (parts_of self.now)) }
     {
@@ -131,8 +131,8 @@ impl Draft {
         }
     }
 
-    #[tactic(auto, using(crate::proofs::PartLaws::with_command_last))]
     /// Adds a command to the last part.
+    #[tactic(auto, using(crate::proofs::PartLaws::with_command_last))]
     fn push(&mut self, command: Command) -> Result<(), AllocError>
         requires { is_none self.old.last ≡ false }
         ensures { OnOk result ((self.new.config ≡ self.old.config) × (parts_of self.new ≡ with_command (parts_of self.old) command) × (is_none self.new.last ≡ false)) }
