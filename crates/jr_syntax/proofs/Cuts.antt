@@ -1,5 +1,5 @@
 -- A list that is cut where a test passes.
-use Rattle.std.proofs.Common.{◌≡◌, ℕ, zero, suc, ◌+◌, ◌<◌, Bool, true, false, cond, List, [], ◌∷◌, length, take, drop, Option, Some, None, refl, sym, ap, ◌∙◌, arith, ltb, add-one}
+use Rattle.std.proofs.Common.{◌≡◌, ℕ, ◌+◌, ◌<◌, Bool, true, false, cond, List, [], ◌∷◌, length, take, drop, Option, Some, None, refl, arith, ltb}
 use Rattle.std.specs.Prelude.{MatchOption, not}
 use Rattle.std.specs.List.{slice_split, onto_first, position, position_or_len}
 use Rattle.std.proofs.lemmas.List.Splits.{slice_split_first, length-slice_split}
@@ -24,7 +24,7 @@ cut_at p xs d r e =
     rw e ((elim (ltb n (length xs)) as P [ true ↦ λ t. (ltb-true _ _ t, slice_split_first p xs d (ltb-true _ _ t)) | false ↦ λ t. let le = ltb-false _ _ t in uncut p xs (omega arith) ]) refl)
 
 -- a part that a line feed ends is a whole line
-pub lines_of_pieces_more : (x text : List ℕ) → lines_of_pieces (x ∷ slice_split (λ c. nat_eq c 10) text) ≡ (x, true) ∷ lines_of_pieces (slice_split (λ c. nat_eq c 10) text)
+lines_of_pieces_more : (x text : List ℕ) → lines_of_pieces (x ∷ slice_split (λ c. nat_eq c 10) text) ≡ (x, true) ∷ lines_of_pieces (slice_split (λ c. nat_eq c 10) text)
 lines_of_pieces_more x text =
     let some = length-slice_split (λ c. nat_eq c 10) text in
     let P : List (List ℕ) → Type 0 = λ parts. 0 < length parts → lines_of_pieces (x ∷ parts) ≡ (x, true) ∷ lines_of_pieces parts in

@@ -2,4 +2,11 @@ pub mod NameLaws
 pub mod NumberLaws
 pub mod Cuts
 pub mod PartLaws
+pub mod DecimalLaws
 pub mod VmLaws
+pub mod Takes
+pub mod Rows
+pub mod Steps
+pub mod Reading
+pub mod Again
+pub mod Texts

@@ -1,13 +1,141 @@
--- The words of the first line.
-use Rattle.std.proofs.Common.{◌≡◌, ℕ, true, false, List, Bool, Option, Some, None, Ok, Err, refl, sym, ap, subst, ◌∙◌}
-use Rattle.std.specs.Prelude.{◌&&◌, nat_le, MatchOption}
+-- The first line.
+use Rattle.std.proofs.Common.{◌≡◌, ℕ, ◌^◌, ◌<◌, ◌≤◌, Bool, true, false, List, [], ◌∷◌, length, Ok, Err, refl, sym, ap, subst, ◌∙◌, arith, leb, ltb, eqb}
+use Rattle.std.specs.Prelude.{◌&&◌, codes, nat_le}
+use Rattle.std.specs.Str.{bytes_eq}
+use Rattle.std.proofs.lemmas.Bool.{and_parts, and_from, leb-true, ltb-true, eqb-true, false≢true}
+use Rattle.std.proofs.lemmas.Slice.Eq.{bytes_eq-Decides}
 use Rattle.jr_word.specs.declared.config.Config.{Config}
-use Rattle.jr_word.specs.Config.{in_limits}
-use Rattle.jr_syntax.specs.Kind.{reading, Reads}
-use Rattle.jr_syntax.specs.Script.{vm, config_at, is_config}
-use Rattle.jr_syntax.specs.VmLine.{vm_words, AreNumbers}
+use Rattle.jr_word.specs.Config.{in_limits, is_between}
 use Rattle.jr_syntax.specs.declared.argument.LineError.TheVariants as errors
+use Rattle.jr_syntax.specs.Line.{word_at, behind}
+use Rattle.jr_syntax.specs.Number.{is_number}
+use Rattle.jr_syntax.specs.Kind.{reading, Reads}
+use Rattle.jr_syntax.specs.Script.{vm, thread, is_config, threads_today, is_pair, config_at}
+use Rattle.jr_syntax.specs.VmLine.{vm_words, AreNumbers}
+use Rattle.jr_syntax.proofs.DecimalLaws.{decimal_number}
+
+-- ---- the words of its sizes
 
 -- they have its form
-pub vm_form : (a b c d e : List ℕ) → AreNumbers a b c d e → vm.has_form (vm_words a b c d e) ≡ true
+vm_form : (a b c d e : List ℕ) → AreNumbers a b c d e → vm.has_form (vm_words a b c d e) ≡ true
 vm_form a b c d e h = rw (h.threads, h.slots, h.objects, h.words, h.locals) refl
+
+-- what they are read as
+pub vm_read : (ws : List (List ℕ)) (a b c d e : List ℕ) (k : Config) → ws ≡ vm_words a b c d e → AreNumbers a b c d e → (k ≡ vm.value (vm_words a b c d e)) × (nat_le k.threads threads_today ≡ true) → in_limits k ≡ true → Reads (reading vm) ws (Ok k)
+vm_read ws a b c d e k is h v l =
+    let P : List (List ℕ) → Type 0 = λ x. Reads (reading vm) x (Ok k) in
+    subst P (sym is) (vm_form a b c d e h, ap is_config (sym v.0) ∙ and_from _ _ v.1 l, v.0)
+
+-- where a size is out of its bounds
+pub vm_out : (ws : List (List ℕ)) (a b c d e : List ℕ) → ws ≡ vm_words a b c d e → AreNumbers a b c d e → vm.in_range (vm_words a b c d e) ≡ false → Reads (reading vm) ws (Err errors.Range)
+vm_out ws a b c d e is h o =
+    let P : List (List ℕ) → Type 0 = λ x. Reads (reading vm) x (Err errors.Range) in
+    subst P (sym is) (vm_form a b c d e h, o)
+
+no_limits : (t : Bool) (l : Bool) → l ≡ false → (t && l) ≡ false
+no_limits true l h = h
+no_limits false l h = refl
+
+pub vm_out_of_limits : (ws : List (List ℕ)) (a b c d e : List ℕ) (k : Config) → ws ≡ vm_words a b c d e → AreNumbers a b c d e → k ≡ vm.value (vm_words a b c d e) → in_limits k ≡ false → Reads (reading vm) ws (Err errors.Range)
+vm_out_of_limits ws a b c d e k is h v l =
+    vm_out ws a b c d e is h (ap is_config (sym v) ∙ no_limits (nat_le k.threads threads_today) (in_limits k) l)
+
+-- ---- a first line is its words
+
+pair_words : (key : List ℕ) (ws : List (List ℕ)) → is_pair key ws ≡ true → (ws ≡ key ∷ word_at ws 1 ∷ behind (behind ws)) × (is_number (word_at ws 1) ≡ true)
+pair_words key [] h = absurd (false≢true h)
+pair_words key (a ∷ []) h = absurd (false≢true h)
+pair_words key (a ∷ b ∷ ws) h =
+    let p = and_parts _ _ h in
+    let q = and_parts _ _ p.0 in
+    let e : a ≡ key = (bytes_eq-Decides a key).0 q.1 in
+    (ap (λ (x : List ℕ). x ∷ b ∷ ws) e, p.1)
+
+no_words : (ws : List (List ℕ)) → eqb (length ws) 0 ≡ true → ws ≡ []
+no_words [] h = refl
+no_words (w ∷ ws) h = let e : length (w ∷ ws) ≡ 0 = eqb-true (length (w ∷ ws)) 0 h in absurd (omega arith)
+
+-- the bounds of a configuration, as bounds below 2 to the power 64
+pub record IsSmall (c : Config) : Type 0 where
+  pub threads : c.threads < 2 ^ 64
+  pub slots : c.slots < 2 ^ 64
+  pub objects : c.objects < 2 ^ 64
+  pub words : c.words < 2 ^ 64
+  pub locals : c.locals < 2 ^ 64
+
+small : (low high n : ℕ) → ltb high (2 ^ 64) ≡ true → is_between low high n ≡ true → n < 2 ^ 64
+small low high n few h =
+    let most : n ≤ high = leb-true n high (and_parts (leb low n) (leb n high) h).1 in
+    let lt : high < 2 ^ 64 = ltb-true high (2 ^ 64) few in
+    omega arith
+
+pub config_small : (c : Config) → is_config c ≡ true → IsSmall c
+config_small c h =
+    let o = and_parts _ _ h in
+    let p = and_parts _ _ o.1 in
+    let q = and_parts _ _ p.0 in
+    let r = and_parts _ _ q.0 in
+    let s = and_parts _ _ r.0 in
+    record {
+      threads = small 1 64 c.threads refl s.0;
+      slots = small 1 65536 c.slots refl s.1;
+      objects = small 1 65535 c.objects refl r.1;
+      words = small 0 1048576 c.words refl q.1;
+      locals = small 16 4096 c.locals refl p.1;
+    }
+
+-- what the first line is
+pub record IsVm (ws : List (List ℕ)) : Type 0 where
+  pub first : word_at ws 0 ≡ codes "vm"
+  pub back : is_config (config_at ws) ≡ true → vm.spell (config_at ws) ≡ ws
+
+vm_back : (a b c d e : List ℕ) → AreNumbers a b c d e → is_config (config_at (vm_words a b c d e)) ≡ true → vm.spell (config_at (vm_words a b c d e)) ≡ vm_words a b c d e
+vm_back a b c d e n h =
+    let s = config_small (config_at (vm_words a b c d e)) h in
+    rw (decimal_number a n.threads s.threads, decimal_number b n.slots s.slots, decimal_number c n.objects s.objects, decimal_number d n.words s.words, decimal_number e n.locals s.locals) refl
+
+pub vm_taken : (ws : List (List ℕ)) → vm.has_form ws ≡ true → IsVm ws
+vm_taken [] h = absurd (false≢true h)
+vm_taken (w ∷ r0) h =
+    let p = and_parts _ _ h in
+    let q = and_parts _ _ p.0 in
+    let first : w ≡ codes "vm" = (bytes_eq-Decides w (codes "vm")).0 q.1 in
+    let r1 = behind (behind r0) in
+    let r2 = behind (behind r1) in
+    let r3 = behind (behind r2) in
+    let r4 = behind (behind r3) in
+    let u0 = and_parts _ _ p.1 in
+    let w0 = pair_words (codes "threads") r0 u0.0 in
+    let u1 = and_parts _ _ u0.1 in
+    let w1 = pair_words (codes "slots") r1 u1.0 in
+    let u2 = and_parts _ _ u1.1 in
+    let w2 = pair_words (codes "objects") r2 u2.0 in
+    let u3 = and_parts _ _ u2.1 in
+    let w3 = pair_words (codes "words") r3 u3.0 in
+    let u4 = and_parts _ _ u3.1 in
+    let w4 = pair_words (codes "locals") r4 u4.0 in
+    let end = no_words (behind (behind r4)) u4.1 in
+    let a = word_at r0 1 in
+    let b = word_at r1 1 in
+    let c = word_at r2 1 in
+    let d = word_at r3 1 in
+    let e = word_at r4 1 in
+    let e4 : r4 ≡ codes "locals" ∷ e ∷ [] = w4.0 ∙ ap (λ (x : List (List ℕ)). codes "locals" ∷ e ∷ x) end in
+    let e3 : r3 ≡ codes "words" ∷ d ∷ codes "locals" ∷ e ∷ [] = w3.0 ∙ ap (λ (x : List (List ℕ)). codes "words" ∷ d ∷ x) e4 in
+    let e2 : r2 ≡ codes "objects" ∷ c ∷ codes "words" ∷ d ∷ codes "locals" ∷ e ∷ [] = w2.0 ∙ ap (λ (x : List (List ℕ)). codes "objects" ∷ c ∷ x) e3 in
+    let e1 : r1 ≡ codes "slots" ∷ b ∷ codes "objects" ∷ c ∷ codes "words" ∷ d ∷ codes "locals" ∷ e ∷ [] = w1.0 ∙ ap (λ (x : List (List ℕ)). codes "slots" ∷ b ∷ x) e2 in
+    let e0 : r0 ≡ codes "threads" ∷ a ∷ codes "slots" ∷ b ∷ codes "objects" ∷ c ∷ codes "words" ∷ d ∷ codes "locals" ∷ e ∷ [] = w0.0 ∙ ap (λ (x : List (List ℕ)). codes "threads" ∷ a ∷ x) e1 in
+    let whole : w ∷ r0 ≡ vm_words a b c d e = ap (λ (x : List ℕ). x ∷ r0) first ∙ ap (λ (x : List (List ℕ)). codes "vm" ∷ x) e0 in
+    let numbers : AreNumbers a b c d e = record { threads = w0.1; slots = w1.1; objects = w2.1; words = w3.1; locals = w4.1 } in
+    subst IsVm (sym whole) (record { first = refl; back = vm_back a b c d e numbers })
+
+-- ---- it is no thread line
+
+pub not_all : (a b c : Bool) → b ≡ false → ((a && b) && c) ≡ false
+not_all a true c h = absurd (false≢true (sym h))
+not_all true false c h = refl
+not_all false false c h = refl
+
+pub vm_plain : (ws : List (List ℕ)) → word_at ws 0 ≡ codes "vm" → thread.has_form ws ≡ false
+vm_plain [] e = refl
+vm_plain (w ∷ ws) e = not_all (leb 1 (length (w ∷ ws))) (bytes_eq w (codes "thread")) _ (rw e refl)

@@ -45,16 +45,16 @@ impl Verb {
         }
     }
 
-    #[tactic(auto, unfolding(crate::specs::Command::verb_of))]
     /// The verb with a word.
+    #[tactic(auto, unfolding(crate::specs::Command::verb_of))]
     fn of(word: &[u8]) -> Option<Verb>
         ensures { result ≡ verb_of word.now }
     {
         VERBS.iter().copied().find(|verb| verb.word() == word)
     }
 
-    #[tactic(auto, unfolding(crate::specs::Command::behind_verb))]
     /// The command that it and the words behind it are.
+    #[tactic(auto, unfolding(crate::specs::Command::behind_verb))]
     fn command(self, words: Words) -> Result<Command, LineError>
         ensures { Reads (behind_verb self) words.entry result }
     {
@@ -79,8 +79,8 @@ impl Verb {
     }
 }
 
-#[tactic(auto, unfolding(crate::specs::Command::line_has_form, crate::specs::Command::line_in_range, crate::specs::Command::line_command))]
 /// The command that a line is.
+#[tactic(auto, unfolding(crate::specs::Command::line_has_form, crate::specs::Command::line_in_range, crate::specs::Command::line_command))]
 pub fn command_of(mut words: Words) -> Result<Command, LineError>
     ensures { ReadsLine words.entry result }
 {

@@ -13,8 +13,9 @@ use crate::command::{Command, command_of};
 use crate::fault::Reason;
 use crate::line::is_printable;
 use crate::name::Name;
-use crate::script::{Script, Threads};
-use crate::thread::{Commands, ThreadPart, thread_of};
+use crate::script::Script;
+use crate::sequence::Sequence;
+use crate::thread::{ThreadPart, thread_of};
 use crate::word::Words;
 use jr_word::Config;
 use std::alloc::{AllocError, Global};
@@ -55,7 +56,7 @@ impl From<Reason> for LineFault {
 #[derive(Drop)]
 pub struct Draft {
     pub config: Config,
-    pub whole: Threads,
+    pub whole: Sequence<ThreadPart>,
     pub last: Option<ThreadPart>,
 }
 
@@ -66,7 +67,7 @@ impl Draft {
     {
         Draft {
             config,
-            whole: Threads::new(alloc),
+            whole: Sequence::new(alloc),
             last: None,
         }
     }
@@ -83,8 +84,8 @@ impl Draft {
         }
     }
 
-    #[tactic(auto, using(crate::proofs::PartLaws::any_names, crate::proofs::PartLaws::any_names_one))]
     /// Whether a part has a name.
+    #[tactic(auto, using(crate::proofs::PartLaws::any_names, crate::proofs::PartLaws::any_names_one))]
     fn has_name(&self, word: &[u8]) -> bool
         ensures { result ≡ list_any (bytes_eq word.now) (names_of (parts_of self.now)) }
     {
@@ -108,7 +109,7 @@ impl Draft {
         }
         let part = ThreadPart {
             name: Name::new(word),
-            commands: Commands::new(alloc),
+            commands: Sequence::new(alloc),
         };
         if let Some(before) = self.last.replace(part) {
             self.whole.push(before)?;
@@ -130,8 +131,8 @@ impl Draft {
         }
     }
 
-    #[tactic(auto, using(crate::proofs::PartLaws::with_command_last))]
     /// Adds a command to the last part.
+    #[tactic(auto, using(crate::proofs::PartLaws::with_command_last))]
     fn push(&mut self, command: Command) -> Result<(), AllocError>
         requires { is_none self.old.last ≡ false }
         ensures { OnOk result ((self.new.config ≡ self.old.config) × (parts_of self.new ≡ with_command (parts_of self.old) command) × (is_none self.new.last ≡ false)) }

@@ -11,6 +11,9 @@ mod name;
 mod number;
 mod reader;
 mod script;
+mod sequence;
+#[cfg(test)]
+mod tests;
 mod thread;
 mod vm_line;
 mod word;
@@ -20,5 +23,6 @@ pub use fault::{Reason, ScriptFault};
 pub use laws::{a_script_has_no_fault, a_text_has_one_script};
 pub use name::{Name, Reference};
 pub use reader::parse;
-pub use script::{Script, Threads};
-pub use thread::{Commands, ThreadPart};
+pub use script::Script;
+pub use sequence::Sequence;
+pub use thread::ThreadPart;

@@ -1,9 +1,9 @@
 //! The first line of a script.
 
-ghost use Rattle.std.specs.Prelude.{◌≡◌, true, false, IfNone, IfSome, MatchOption, ◌∷◌};
+ghost use Rattle.std.specs.Prelude.{◌≡◌, true, false, IfNone, IfSome, MatchOption, ◌∷◌, nat_le};
 ghost use Rattle.jr_syntax.specs.Kind.{reading, Reads};
 ghost use Rattle.jr_syntax.specs.Number.{is_number as number_word};
-ghost use Rattle.jr_syntax.specs.Script.{is_pair, vm};
+ghost use Rattle.jr_syntax.specs.Script.{is_pair, vm, threads_today};
 ghost use Rattle.jr_syntax.specs.VmLine.{vm_words, AreNumbers};
 
 use crate::argument::LineError;
@@ -65,7 +65,7 @@ fn size_words<'a>(mut words: Words<'a>) -> Option<SizeWords<'a>>
 fn sizes(words: &SizeWords) -> Option<Config>
     requires { AreNumbers words.now.threads.now words.now.slots.now words.now.objects.now words.now.words.now words.now.locals.now }
     ensures { let ws = vm_words words.now.threads.now words.now.slots.now words.now.objects.now words.now.words.now words.now.locals.now in
-        MatchOption result (vm.in_range ws ≡ false) (λ c. c ≡ vm.value ws) }
+        MatchOption result (vm.in_range ws ≡ false) (λ c. (c ≡ vm.value ws) × (nat_le c.threads threads_today ≡ true)) }
 {
     Some(Config {
         threads: number_up_to(words.threads, THREADS_TODAY)?,
@@ -83,8 +83,11 @@ pub fn config_of(words: Words) -> Result<Config, LineError>
     let Some(words) = size_words(words) else {
         return Err(LineError::Form);
     };
-    match sizes(&words) {
-        Some(config) if config.in_limits() => Ok(config),
-        _ => Err(LineError::Range),
+    let Some(config) = sizes(&words) else {
+        return Err(LineError::Range);
+    };
+    if !config.in_limits() {
+        return Err(LineError::Range);
     }
+    Ok(config)
 }

@@ -1,6 +1,5 @@
-use Rattle.std.proofs.Common.{◌≡◌, ◌+◌, ◌-◌, ◌*◌, ◌≤◌, arith, get_or, drop, sym, ◌∙◌}
+use Rattle.std.proofs.Common.{◌+◌, ◌-◌, ◌*◌, arith, get_or, drop, sym, ◌∙◌}
 use Rattle.std.proofs.lemmas.Bool.{and_parts}
-use Rattle.jr_syntax.specs.Number.{number_from, number_of}
 use Rattle.jr_syntax.proofs.NumberLaws.{digit_at, number_from_ge, number_more}
 use Rattle.jr_syntax.proofs.number.number_up_to.Goals as goal
 

@@ -1,0 +1,187 @@
+-- What is spelled is read again, as what it was.
+use Rattle.std.proofs.Common.{◌≡◌, ℕ, ◌^◌, ◌<◌, ◌≤◌, Bool, true, false, List, [], ◌∷◌, ◌++◌, refl, ap, ◌∙◌, arith, inl, inr, leb, eqb, length, Some}
+use Rattle.std.specs.Prelude.{◌||◌, codes}
+use Rattle.std.specs.Option.{option_map, option_map_or}
+use Rattle.std.specs.Str.{bytes_eq}
+use Rattle.std.specs.List.{list_all, slice_split}
+use Rattle.std.specs.Fmt.{decimal}
+use Rattle.std.proofs.lemmas.Bool.{and_parts, and_from, leb-true, le-leb, eq-eqb, ne_eqb, not-true, or_cases}
+use Rattle.jr_word.specs.Config.{is_between}
+use Rattle.jr_syntax.specs.declared.command.Verb.{Verb}
+use Rattle.jr_syntax.specs.declared.command.Verb.TheVariants as verbs
+use Rattle.jr_syntax.specs.declared.command.Command.{Command}
+use Rattle.jr_syntax.specs.declared.command.Command.TheVariants as commands
+use Rattle.jr_syntax.specs.declared.name.Reference.{Reference}
+use Rattle.jr_syntax.specs.declared.name.Reference.TheVariants.{Null, Named}
+use Rattle.jr_syntax.specs.Name.{is_name, is_name_byte, is_digit, is_reference}
+use Rattle.jr_syntax.specs.Number.{all_digits}
+use Rattle.jr_syntax.specs.Line.{line, words_of}
+use Rattle.jr_syntax.specs.Kind.{WordKind, Arguments, name, one, two}
+use Rattle.jr_syntax.specs.Reference.{reference, reference_word, reference_at, is_good_reference}
+use Rattle.jr_syntax.specs.Command.{verb_word, verb_of, behind_verb, spelling_of, words_of_command, is_command, line_has_form, line_in_range, line_command}
+use Rattle.jr_syntax.specs.Script.{thread}
+use Rattle.jr_syntax.proofs.DecimalLaws.{decimal_digits}
+use Rattle.jr_syntax.proofs.VmLaws.{not_all}
+
+-- ---- bytes that are seen: 33 to 126
+
+abbrev pub is_solid : List ℕ → Bool
+is_solid w = list_all (is_between 33 126) w
+
+all_weaker : (p q : ℕ → Bool) → ((c : ℕ) → p c ≡ true → q c ≡ true) → (w : List ℕ) → list_all p w ≡ true → list_all q w ≡ true
+all_weaker p q h [] f = refl
+all_weaker p q h (c ∷ cs) f = let r = and_parts _ _ f in and_from _ _ (h c r.0) (all_weaker p q h cs r.1)
+
+between : (low high lo hi c : ℕ) → lo ≤ low → high ≤ hi → is_between low high c ≡ true → is_between lo hi c ≡ true
+between low high lo hi c l h f =
+    let p = and_parts _ _ f in
+    let a = leb-true low c p.0 in
+    let b = leb-true c high p.1 in
+    and_from _ _ (le-leb lo c (omega arith)) (le-leb c hi (omega arith))
+
+name_byte_solid : (c : ℕ) → is_name_byte c ≡ true → is_between 33 126 c ≡ true
+name_byte_solid c f =
+    elim (or_cases _ _ f) [ inl l ↦ between 97 122 33 126 c (omega arith) (omega arith) l | inr d ↦ between 48 57 33 126 c (omega arith) (omega arith) d ]
+
+pub name_solid : (w : List ℕ) → is_name w ≡ true → is_solid w ≡ true
+name_solid w f = all_weaker is_name_byte (is_between 33 126) name_byte_solid w (and_parts _ _ (and_parts _ _ f).0).1
+
+digits_solid : (w : List ℕ) → all_digits w ≡ true → is_solid w ≡ true
+digits_solid w f = all_weaker is_digit (is_between 33 126) (λ c d. between 48 57 33 126 c (omega arith) (omega arith) d) w f
+
+pub decimal_solid : (n : ℕ) → n < 2 ^ 64 → is_solid (decimal n) ≡ true
+decimal_solid n h = digits_solid (decimal n) (decimal_digits n h)
+
+-- ---- words
+
+-- a word that is spelled and then read
+record AgainWord {X : Type 0} (k : WordKind X) : Type 0 where
+  solid : (x : X) → k.is_good x ≡ true → is_solid (k.spell x) ≡ true
+  form : (x : X) → k.is_good x ≡ true → k.has_form (k.spell x) ≡ true
+  range : (x : X) → k.is_good x ≡ true → k.in_range (k.spell x) ≡ true
+  back : (x : X) → k.is_good x ≡ true → k.value (k.spell x) ≡ x
+
+name_again : AgainWord name
+name_again = record { solid = name_solid; form = λ x g. g; range = λ x g. refl; back = λ x g. refl }
+
+no_null : (n : List ℕ) → is_name n ≡ true → bytes_eq n (codes "null") ≡ false
+no_null n f = not-true _ (and_parts _ _ f).1
+
+or_right : (a b : Bool) → b ≡ true → (a || b) ≡ true
+or_right true b h = refl
+or_right false b h = h
+
+reference_solid : (x : Reference) → is_good_reference x ≡ true → is_solid (reference_word x) ≡ true
+reference_solid Null g = refl
+reference_solid (Named n) g = name_solid n g
+
+reference_form : (x : Reference) → is_good_reference x ≡ true → is_reference (reference_word x) ≡ true
+reference_form Null g = refl
+reference_form (Named n) g = or_right (bytes_eq n (codes "null")) (is_name n) g
+
+reference_back : (x : Reference) → is_good_reference x ≡ true → reference_at (reference_word x) ≡ x
+reference_back Null g = refl
+reference_back (Named n) g = rw (no_null n g) refl
+
+reference_again : AgainWord reference
+reference_again = record { solid = reference_solid; form = reference_form; range = λ x g. refl; back = reference_back }
+
+-- ---- arguments
+
+-- arguments that are spelled and then read
+record Again {X : Type 0} (a : Arguments X) : Type 0 where
+  solid : (x : X) → a.is_good x ≡ true → list_all is_solid (a.spell x) ≡ true
+  form : (x : X) → a.is_good x ≡ true → a.has_form (a.spell x) ≡ true
+  range : (x : X) → a.is_good x ≡ true → a.in_range (a.spell x) ≡ true
+  back : (x : X) → a.is_good x ≡ true → a.value (a.spell x) ≡ x
+
+one_again : {X : Type 0} (k : WordKind X) → AgainWord k → Again (one k)
+one_again k t = record {
+  solid = λ x g. and_from _ _ (t.solid x g) refl;
+  form = t.form;
+  range = t.range;
+  back = t.back;
+}
+
+two_again : {X Y : Type 0} (k : WordKind X) (l : WordKind Y) → AgainWord k → AgainWord l → Again (two k l)
+two_again k l t u = record {
+  solid = λ x g. let p = and_parts _ _ g in and_from _ _ (t.solid x.0 p.0) (and_from _ _ (u.solid x.1 p.1) refl);
+  form = λ x g. let p = and_parts _ _ g in and_from _ _ (t.form x.0 p.0) (u.form x.1 p.1);
+  range = λ x g. let p = and_parts _ _ g in and_from _ _ (t.range x.0 p.0) (u.range x.1 p.1);
+  back = λ x g. let p = and_parts _ _ g in rw (t.back x.0 p.0, u.back x.1 p.1) refl;
+}
+
+-- ---- words, joined and cut again
+
+-- a byte at which no solid word is cut
+uncut : (c : ℕ) (w : List ℕ) → c ≤ 32 → is_solid w ≡ true → slice_split (λ b. eqb b c) w ≡ w ∷ []
+uncut c [] le h = refl
+uncut c (x ∷ xs) le h =
+    let p = and_parts _ _ h in
+    let q = and_parts _ _ p.0 in
+    let low = leb-true 33 x q.0 in
+    rw (ne_eqb x c (λ (z : x ≡ c). omega (arith, low, z)), uncut c xs le p.1) refl
+
+cut_behind : (c : ℕ) (w rest : List ℕ) → c ≤ 32 → is_solid w ≡ true → slice_split (λ b. eqb b c) (w ++ c ∷ rest) ≡ w ∷ slice_split (λ b. eqb b c) rest
+cut_behind c [] rest le h = rw (eq-eqb c c refl) refl
+cut_behind c (x ∷ xs) rest le h =
+    let p = and_parts _ _ h in
+    let q = and_parts _ _ p.0 in
+    let low = leb-true 33 x q.0 in
+    rw (ne_eqb x c (λ (z : x ≡ c). omega (arith, low, z)), cut_behind c xs rest le p.1) refl
+
+pub words_again : (w : List ℕ) (ws : List (List ℕ)) → list_all is_solid (w ∷ ws) ≡ true → words_of (line (w ∷ ws)) ≡ w ∷ ws
+words_again w [] h = uncut 32 w (omega arith) (and_parts _ _ h).0
+words_again w (v ∷ ws) h =
+    let p = and_parts _ _ h in
+    cut_behind 32 w (line (v ∷ ws)) (omega arith) p.0 ∙ ap (λ (x : List (List ℕ)). w ∷ x) (words_again v ws p.1)
+
+-- a line of solid words is printable
+printable : (w : List ℕ) → is_solid w ≡ true → list_all (is_between 32 126) w ≡ true
+printable w h = all_weaker (is_between 33 126) (is_between 32 126) (λ c d. between 33 126 32 126 c (omega arith) (omega arith) d) w h
+
+all_joined : (p : ℕ → Bool) (xs ys : List ℕ) → list_all p xs ≡ true → list_all p ys ≡ true → list_all p (xs ++ ys) ≡ true
+all_joined p [] ys h g = g
+all_joined p (x ∷ xs) ys h g = let q = and_parts _ _ h in and_from _ _ q.0 (all_joined p xs ys q.1 g)
+
+pub line_printable : (ws : List (List ℕ)) → list_all is_solid ws ≡ true → list_all (is_between 32 126) (line ws) ≡ true
+line_printable [] h = refl
+line_printable (w ∷ []) h = printable w (and_parts _ _ h).0
+line_printable (w ∷ v ∷ ws) h =
+    let p = and_parts _ _ h in all_joined (is_between 32 126) w (32 ∷ line (v ∷ ws)) (printable w p.0) (and_from _ _ refl (line_printable (v ∷ ws) p.1))
+
+-- ---- commands
+
+verb_again : (v : Verb) → verb_of (verb_word v) ≡ Some v
+unfolding verb_of
+verb_again verbs.Plain = refl
+verb_again verbs.Global = refl
+verb_again verbs.Drop = refl
+verb_again verbs.Type = refl
+
+-- what the line of a command is read as
+pub record IsLineOf (ws : List (List ℕ)) (c : Command) : Type 0 where
+  pub plain : thread.has_form ws ≡ false
+  pub solid : list_all is_solid ws ≡ true
+  pub form : line_has_form ws ≡ true
+  pub range : line_in_range ws ≡ true
+  pub command : line_command ws ≡ Some c
+
+-- the line of a verb and its arguments
+by : {X : Type 0} (a : Arguments X) → Again a → (v : Verb) → is_solid (verb_word v) ≡ true → bytes_eq (verb_word v) (codes "thread") ≡ false → (make : X → Command) → ((ws : List (List ℕ)) → (behind_verb v).has_form ws ≡ a.has_form ws) → ((ws : List (List ℕ)) → (behind_verb v).in_range ws ≡ a.in_range ws) → ((ws : List (List ℕ)) → (behind_verb v).value ws ≡ make (a.value ws)) → (x : X) → a.is_good x ≡ true → IsLineOf (verb_word v ∷ a.spell x) (make x)
+unfolding line_has_form line_in_range line_command
+by a t v s n make f r m x g = record {
+  plain = not_all (leb 1 (length (verb_word v ∷ a.spell x))) (bytes_eq (verb_word v) (codes "thread")) _ n;
+  solid = and_from _ _ s (t.solid x g);
+  form = ap (λ o. option_map_or (λ u. (behind_verb u).has_form (a.spell x)) o false) (verb_again v) ∙ f (a.spell x) ∙ t.form x g;
+  range = ap (λ o. option_map_or (λ u. (behind_verb u).in_range (a.spell x)) o false) (verb_again v) ∙ r (a.spell x) ∙ t.range x g;
+  command = ap (λ o. option_map (λ u. (behind_verb u).value (a.spell x)) o) (verb_again v) ∙ ap (λ k. Some k) (m (a.spell x) ∙ ap make (t.back x g));
+}
+
+-- a line for each command
+pub command_again : (c : Command) → is_command c ≡ true → IsLineOf (words_of_command c) c
+unfolding behind_verb spelling_of
+command_again (commands.Plain n) g = by _ (one_again name name_again) verbs.Plain refl refl (λ x. commands.Plain x) (λ _. refl) (λ _. refl) (λ _. refl) n g
+command_again (commands.Global n r) g = by _ (two_again name reference name_again reference_again) verbs.Global refl refl (λ x. commands.Global x.0 x.1) (λ _. refl) (λ _. refl) (λ _. refl) (n, r) g
+command_again (commands.Drop r) g = by _ (one_again reference reference_again) verbs.Drop refl refl (λ x. commands.Drop x) (λ _. refl) (λ _. refl) (λ _. refl) r g
+command_again (commands.Type r) g = by _ (one_again reference reference_again) verbs.Type refl refl (λ x. commands.Type x) (λ _. refl) (λ _. refl) (λ _. refl) r g

@@ -1,0 +1,326 @@
+//! Worked examples of scripts and of the first faults of other texts.
+//!
+//! A refused growth ends a test with `Memory`, and any other answer than the one that is wanted fails an assertion: so
+//! each growth may be refused in turn, and the assertions stand.
+
+use crate::command::Command;
+use crate::fault::{Reason, ScriptFault};
+use crate::name::{Name, Reference, is_name};
+use crate::reader::parse;
+use crate::script::Script;
+use std::alloc::{AllocError, Global};
+use std::process::Abort;
+use std::test::Fail;
+
+const HEAD: &[u8] = b"vm threads 1 slots 4 objects 8 words 16 locals 16\nthread a\n";
+
+/// Checks the first fault of a text.
+fn faulty(
+    rt: &impl Abort,
+    alloc: Global,
+    text: &[u8],
+    line: usize,
+    reason: Reason,
+) -> Result<(), ScriptFault> {
+    match parse(alloc, text) {
+        Err(ScriptFault::Memory) => Err(ScriptFault::Memory),
+        Err(fault) => {
+            assert_eq!(rt; fault, ScriptFault::At(line, reason));
+            Ok(())
+        }
+        Ok(_) => {
+            assert!(rt; false, "a script, where {reason:?} is wanted");
+            Ok(())
+        }
+    }
+}
+
+/// The lines of one thread's part, with others behind them.
+fn behind_head(alloc: Global, lines: &[u8]) -> Result<Vec<u8>, AllocError> {
+    let mut text = Vec::from_slice(alloc, HEAD)?;
+    text.extend_from_slice(lines)?;
+    Ok(text)
+}
+
+/// Checks the fault of a line behind the thread line.
+fn third_line(
+    rt: &impl Abort,
+    alloc: Global,
+    line: &[u8],
+    reason: Reason,
+) -> Result<(), ScriptFault> {
+    let Ok(text) = behind_head(alloc, line) else {
+        return Err(ScriptFault::Memory);
+    };
+    faulty(rt, alloc, &text, 3, reason)
+}
+
+/// The name that a word is.
+fn name(rt: &impl Abort, word: &[u8]) -> Name {
+    assert!(rt; is_name(word));
+    Name::new(word)
+}
+
+/// Checks that a script has one thread, `a`, with these commands.
+fn commands(rt: &impl Abort, script: &Script, wanted: &[Command]) {
+    let threads = script.threads.as_slice();
+    assert_eq!(rt; threads.len(), 1);
+    assert!(rt; threads[0].name.is(b"a"));
+    assert_eq!(rt; threads[0].commands.as_slice(), wanted);
+}
+
+#[test]
+fn a_global_reference_and_its_end(rt: HostRuntime) -> Result<(), Fail> {
+    let text = behind_head(rt.alloc(), b"plain p\nglobal g p\ntype g\ndrop g\ntype g\n")?;
+    let script = parse(rt.alloc(), &text)?;
+    let config = script.config;
+    assert_eq!(rt; (config.threads, config.slots, config.objects), (1, 4, 8));
+    assert_eq!(rt; (config.words, config.locals), (16, 16));
+    let wanted = [
+        Command::Plain {
+            name: name(&rt, b"p"),
+        },
+        Command::Global {
+            name: name(&rt, b"g"),
+            target: Reference::Named(name(&rt, b"p")),
+        },
+        Command::Type {
+            target: Reference::Named(name(&rt, b"g")),
+        },
+        Command::Drop {
+            target: Reference::Named(name(&rt, b"g")),
+        },
+        Command::Type {
+            target: Reference::Named(name(&rt, b"g")),
+        },
+    ];
+    commands(&rt, &script, &wanted);
+    Ok(())
+}
+
+#[test]
+fn one_slot_for_two_references(rt: HostRuntime) -> Result<(), Fail> {
+    let text =
+        b"vm threads 1 slots 1 objects 8 words 16 locals 16\nthread a\nplain p\nglobal g p\nglobal h p\ndrop g\nglobal h p\ntype h\n";
+    let script = parse(rt.alloc(), text)?;
+    assert_eq!(rt; script.config.slots, 1);
+    let global = |it: &[u8]| Command::Global {
+        name: name(&rt, it),
+        target: Reference::Named(name(&rt, b"p")),
+    };
+    let wanted = [
+        Command::Plain {
+            name: name(&rt, b"p"),
+        },
+        global(b"g"),
+        global(b"h"),
+        Command::Drop {
+            target: Reference::Named(name(&rt, b"g")),
+        },
+        global(b"h"),
+        Command::Type {
+            target: Reference::Named(name(&rt, b"h")),
+        },
+    ];
+    commands(&rt, &script, &wanted);
+    Ok(())
+}
+
+#[test]
+fn least_scripts(rt: HostRuntime) -> Result<(), Fail> {
+    let script = parse(
+        rt.alloc(),
+        b"vm threads 1 slots 65536 objects 65535 words 1048576 locals 4096\nthread a\n",
+    )?;
+    commands(&rt, &script, &[]);
+    let script = parse(
+        rt.alloc(),
+        b"vm threads 1 slots 1 objects 1 words 0 locals 16\nthread a\ndrop null\nplain abcdefghijklm90z\n",
+    )?;
+    let wanted = [
+        Command::Drop {
+            target: Reference::Null,
+        },
+        Command::Plain {
+            name: name(&rt, b"abcdefghijklm90z"),
+        },
+    ];
+    commands(&rt, &script, &wanted);
+    Ok(())
+}
+
+#[test]
+fn faults_of_the_first_lines(rt: HostRuntime) -> Result<(), Fail> {
+    let alloc = rt.alloc();
+    faulty(&rt, alloc, b"", 1, Reason::EmptyInput)?;
+    faulty(&rt, alloc, b"vm", 1, Reason::UnfinishedLine)?;
+    faulty(&rt, alloc, b"vm\tthreads\n", 1, Reason::NotAscii)?;
+    faulty(&rt, alloc, b"\n", 1, Reason::VmLineExpected)?;
+    faulty(
+        &rt,
+        alloc,
+        b"vm threads 01 slots 4 objects 8 words 16 locals 16\n",
+        1,
+        Reason::VmLineExpected,
+    )?;
+    faulty(
+        &rt,
+        alloc,
+        b"vm threads 65 slots +4 objects 8 words 16 locals 16\n",
+        1,
+        Reason::VmLineExpected,
+    )?;
+    faulty(
+        &rt,
+        alloc,
+        b"vm threads 65 slots 4 objects 8 words 16 locals 16\n",
+        1,
+        Reason::NumberOutOfRange,
+    )?;
+    faulty(
+        &rt,
+        alloc,
+        b"vm threads 0 slots 4 objects 8 words 16 locals 16\n",
+        1,
+        Reason::NumberOutOfRange,
+    )?;
+    faulty(
+        &rt,
+        alloc,
+        b"vm threads 1 slots 99999999999999999999999 objects 8 words 16 locals 16\n",
+        1,
+        Reason::NumberOutOfRange,
+    )?;
+    faulty(
+        &rt,
+        alloc,
+        b"vm threads 1 slots 4 objects 65536 words 16 locals 16\n",
+        1,
+        Reason::NumberOutOfRange,
+    )?;
+    faulty(
+        &rt,
+        alloc,
+        b"vm threads 1 slots 4 objects 8 words 16 locals 15\n",
+        1,
+        Reason::NumberOutOfRange,
+    )?;
+    faulty(
+        &rt,
+        alloc,
+        b"vm threads 1 slots 4 objects 8 words 16 locals 16\n",
+        2,
+        Reason::ThreadLineExpected,
+    )?;
+    faulty(
+        &rt,
+        alloc,
+        b"vm threads 1 slots 4 objects 8 words 16 locals 16\nplain p\n",
+        2,
+        Reason::ThreadLineExpected,
+    )?;
+    faulty(
+        &rt,
+        alloc,
+        b"vm threads 1 slots 4 objects 8 words 16 locals 16\nthread 9\n",
+        2,
+        Reason::ThreadLineExpected,
+    )?;
+    Ok(())
+}
+
+#[test]
+fn several_threads_are_not_yet_taken(rt: HostRuntime) -> Result<(), Fail> {
+    faulty(
+        &rt,
+        rt.alloc(),
+        b"vm threads 2 slots 4 objects 8 words 16 locals 16\nthread a\nthread b\n",
+        1,
+        Reason::NumberOutOfRange,
+    )?;
+    Ok(())
+}
+
+#[test]
+fn faults_of_a_command_line(rt: HostRuntime) -> Result<(), Fail> {
+    let alloc = rt.alloc();
+    third_line(&rt, alloc, b"plain", Reason::UnfinishedLine)?;
+    third_line(&rt, alloc, b"plain \x7f", Reason::UnfinishedLine)?;
+    third_line(&rt, alloc, b"plain p\r\n", Reason::NotAscii)?;
+    third_line(&rt, alloc, b"thread b\n", Reason::TooManyThreads)?;
+    third_line(&rt, alloc, b"thread a\n", Reason::TooManyThreads)?;
+    third_line(&rt, alloc, b"thread\n", Reason::CommandExpected)?;
+    third_line(&rt, alloc, b"\n", Reason::CommandExpected)?;
+    third_line(&rt, alloc, b"plain\n", Reason::CommandExpected)?;
+    third_line(&rt, alloc, b" plain p\n", Reason::CommandExpected)?;
+    third_line(&rt, alloc, b"plain p \n", Reason::CommandExpected)?;
+    third_line(&rt, alloc, b"plain  p\n", Reason::CommandExpected)?;
+    third_line(&rt, alloc, b"plain null\n", Reason::CommandExpected)?;
+    third_line(
+        &rt,
+        alloc,
+        b"plain abcdefghijklmnopq\n",
+        Reason::CommandExpected,
+    )?;
+    third_line(&rt, alloc, b"global null p\n", Reason::CommandExpected)?;
+    third_line(&rt, alloc, b"global g\n", Reason::CommandExpected)?;
+    third_line(&rt, alloc, b"global g p q\n", Reason::CommandExpected)?;
+    third_line(&rt, alloc, b"weak w p\n", Reason::CommandExpected)?;
+    third_line(&rt, alloc, b"Drop p\n", Reason::CommandExpected)?;
+    Ok(())
+}
+
+#[test]
+fn as_many_bytes_as_there_may_be(rt: HostRuntime) -> Result<(), Fail> {
+    let mut text = behind_head(rt.alloc(), b"")?;
+    for _ in 0..3117 {
+        text.extend_from_slice(b"global abcdefgh null\n")?;
+    }
+    text.extend_from_slice(b"global abcdefg null\n")?;
+    assert_eq!(rt; text.len(), 65_536);
+    let script = parse(rt.alloc(), &text)?;
+    assert_eq!(rt; script.threads.as_slice().len(), 1);
+    assert_eq!(rt;
+        script.threads.as_slice()[0].commands.as_slice().len(),
+        3118
+    );
+    text.push(b'\n')?;
+    faulty(&rt, rt.alloc(), &text, 1, Reason::TooLong)?;
+    Ok(())
+}
+
+#[test]
+fn as_many_lines_as_there_may_be(rt: HostRuntime) -> Result<(), Fail> {
+    let mut text = behind_head(rt.alloc(), b"")?;
+    for _ in 0..4094 {
+        text.extend_from_slice(b"drop null\n")?;
+    }
+    let script = parse(rt.alloc(), &text)?;
+    assert_eq!(rt; script.threads.as_slice().len(), 1);
+    assert_eq!(rt;
+        script.threads.as_slice()[0].commands.as_slice().len(),
+        4094
+    );
+    text.push(b'x')?;
+    faulty(&rt, rt.alloc(), &text, 4097, Reason::TooLong)?;
+    Ok(())
+}
+
+#[test]
+fn texts_of_reasons(rt: HostRuntime) {
+    let rows = [
+        (Reason::TooLong, "too long"),
+        (Reason::EmptyInput, "empty input"),
+        (Reason::UnfinishedLine, "unfinished line"),
+        (Reason::NotAscii, "not ASCII text"),
+        (Reason::VmLineExpected, "vm line expected"),
+        (Reason::ThreadLineExpected, "thread line expected"),
+        (Reason::TooManyThreads, "too many threads"),
+        (Reason::NameUsedTwice, "name used twice"),
+        (Reason::CommandExpected, "command expected"),
+        (Reason::NumberOutOfRange, "number out of range"),
+    ];
+    for (reason, text) in rows {
+        assert_eq!(rt; reason.text(), text);
+    }
+}
