@@ -18,6 +18,20 @@ struct Place {
     object: u16,
 }
 
+impl Place {
+    ghost use Rattle.std.specs.Prelude.{◌≡◌, ◌+◌, ◌↔◌, IsTrue};
+    ghost use Rattle.jr_word.specs.declared.handle.RefKind.TheVariants.{Local};
+
+    /// Whether a handle of this place is the last that it gave, to the thread.
+    fn gave_last(&self, thread: u8, handle: HandleParts) -> bool
+        ensures { IsTrue result ↔ ((handle.kind ≡ Local) × (handle.serial + 1 ≡ self.now.given) × (handle.owner ≡ thread)) }
+    {
+        handle.kind == RefKind::Local
+            && u32::from(handle.serial) + 1 == self.given
+            && handle.owner == thread
+    }
+}
+
 /// The local references of a thread. All stand in one base frame.
 #[derive(Drop)]
 pub struct Frames {
@@ -101,10 +115,7 @@ impl Frames {
         ensures place { IfSome result (λ o. object_at self.now.frames handle.index ≡ Some o) }
     {
         let place = self.places.get(usize::from(handle.index))?;
-        let is_its = handle.kind == RefKind::Local
-            && handle.owner == self.thread
-            && u32::from(handle.serial) + 1 == place.given;
-        if is_its && place.object != 0 {
+        if place.object != 0 && place.gave_last(self.thread, handle) {
             Some(place.object)
         } else {
             None
