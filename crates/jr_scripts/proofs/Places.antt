@@ -8,7 +8,7 @@ use Rattle.jr_model.specs.Frames.{object_where, object_at, object_of, is_free}
 use Rattle.jr_model.proofs.Updates.{eq_true, eq_self}
 use Rattle.jr_scripts.specs.declared.frames.Place.{Place}
 use Rattle.jr_scripts.specs.declared.frames.Frames.TheInside.{Inside}
-use Rattle.jr_scripts.specs.Places.{place_at, is_taken, ref_at, table, times, IsTable}
+use Rattle.jr_scripts.specs.Places.{unused, place_at, is_taken, ref_at, table, times, IsTable}
 
 -- the object at a place, none where no reference stands
 abbrev pub object_in : Place → Option ℕ
@@ -73,4 +73,4 @@ module _ (a : Inside) (is : IsTable a) where
   is_free_place last p =
       ap (λ rs. not (list_any (λ r. r.handle.index == p) rs) && nat_le (slice_index (table a).frames.given p) last) (append-nil (map (ref_at a.thread a.places.items) a.standing.items))
       ∙ ap (λ b. not b && nat_le (slice_index (table a).frames.given p) last) (any_ref a.thread a.places.items p a.standing.items ∙ listed_taken p)
-      ∙ ap (λ n. not (is_taken a.places.items p) && nat_le n last) (get_or-map (λ place. place.given) a.places.items p (record { given = 0; object = 0 }))
+      ∙ ap (λ n. not (is_taken a.places.items p) && nat_le n last) (get_or-map (λ place. place.given) a.places.items p unused)

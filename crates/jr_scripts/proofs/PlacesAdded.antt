@@ -12,7 +12,7 @@ use Rattle.jr_model.proofs.Updates.{eq_self, eq_other}
 use Rattle.jr_scripts.specs.declared.frames.Place.{Place}
 use Rattle.jr_scripts.specs.declared.frames.Frames.TheInside.{Inside}
 use Rattle.jr_scripts.specs.Table.{IsNext}
-use Rattle.jr_scripts.specs.Places.{place_at, is_taken, ref_at, table, times, IsTable}
+use Rattle.jr_scripts.specs.Places.{unused, place_at, is_taken, ref_at, table, times, IsTable}
 use Rattle.jr_scripts.proofs.Places.{is_free_place}
 use Rattle.jr_scripts.proofs.PlacesChanged.{changed, still_table, changed_refs, times_append, shown, frames_same}
 use Rattle.jr_scripts.proofs.PlacesNamed.{not_zero}
@@ -32,7 +32,7 @@ module _ (a : Inside) (is : IsTable a) (h : Handle) (next : IsNext (table a) h) 
   next_free = free_facts _ _ _ (sym (is_free_place a is a.last h.index) ∙ next.free)
 
   given_is : slice_index (table a).frames.given h.index ≡ (place_at a.places.items h.index).given
-  given_is = get_or-map (λ place. place.given) a.places.items h.index (record { given = 0; object = 0 })
+  given_is = get_or-map (λ place. place.given) a.places.items h.index unused
 
 -- the place of a handle once it has given it to a reference to the object
 abbrev pub filled : Inside → Handle → ℕ → Place
@@ -56,7 +56,7 @@ module _ (a : Inside) (is : IsTable a) (h : Handle) (next : IsNext (table a) h) 
   new_ref =
       let back : (place_at a.places.items h.index).given + 1 - 1 ≡ (place_at a.places.items h.index).given = omega arith in
       ap (λ ps. ref_at a.thread ps h.index) set
-      ∙ ap (shown a.thread h.index) (get_or-set_same a.places.items h.index (filled a h o) (record { given = 0; object = 0 }) (next_index a is h next))
+      ∙ ap (shown a.thread h.index) (get_or-set_same a.places.items h.index (filled a h o) unused (next_index a is h next))
       ∙ ap (λ n. of_handle (record { kind = Local; serial = n; index = h.index; owner = a.thread })) (back ∙ sym (given_is a is h next))
       ∙ ap of_handle (sym next.handle)
     where

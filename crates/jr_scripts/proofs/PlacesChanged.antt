@@ -15,7 +15,7 @@ use Rattle.jr_model.proofs.Updates.{eq_true, eq_false, eq_self, eq_other, handle
 use Rattle.jr_scripts.specs.declared.frames.Place.{Place}
 use Rattle.jr_scripts.specs.declared.frames.Frames.TheInside.{Inside}
 use Rattle.jr_scripts.specs.Table.{IsNext, IsOnly}
-use Rattle.jr_scripts.specs.Places.{place_at, is_taken, ref_at, table, times, IsTable}
+use Rattle.jr_scripts.specs.Places.{unused, place_at, is_taken, ref_at, table, times, IsTable}
 use Rattle.jr_scripts.proofs.Places.{object_in, object_at_place, is_free_place}
 
 -- what holds of the new place, and of the others, holds of each place after the change
@@ -25,8 +25,8 @@ after_set R places new p x l is here others q = subst (λ ps. R q (place_at ps q
     go : (b : Bool) → (q == p) ≡ b → R q (place_at (slice_set places p x) q)
     go true e =
         subst (λ r. R r (place_at (slice_set places p x) r)) (sym (eq_true q p e))
-        (subst (R p) (sym (get_or-set_same places p x (record { given = 0; object = 0 }) l)) here)
-    go false e = subst (R q) (sym (get_or-set_other places p q x (record { given = 0; object = 0 }) (eq_false q p e))) (others q (eq_false q p e))
+        (subst (R p) (sym (get_or-set_same places p x unused l)) here)
+    go false e = subst (R q) (sym (get_or-set_other places p q x unused (eq_false q p e))) (others q (eq_false q p e))
 
 pub times_append : (p : ℕ) (xs ys : List ℕ) → times p (xs ++ ys) ≡ times p xs + times p ys
 times_append p [] ys = omega arith
@@ -50,10 +50,13 @@ refs_other thread places new p same (x ∷ xs) none = go (x == p) refl (λ m. re
         let n : 0 + times p xs ≡ 0 = subst (λ b. (if b then 1 else 0) + times p xs ≡ 0) e none in
         cons_same (shown thread x (place_at new x)) (shown thread x (place_at places x)) _ _ (ap (shown thread x) (same x (eq_false x p e))) (rest (omega arith))
 
--- a place is written through the slice of the places
-pub written : (places : ArrayVec Place) (seen : List Place) (i j : ℕ) (change : Place → Place) → seen ≡ places.items → i ≡ j
-    → refill (length places.items) places.items (slice_set seen i (change (place_at seen i))) ≡ slice_set places.items j (change (place_at places.items j))
-written places seen i j change same is =
+-- the places after a place is written through the slice of them
+abbrev pub with_place : ArrayVec Place → List Place → ℕ → (Place → Place) → ArrayVec Place
+with_place places seen i change = record { items = refill (length places.items) places.items (slice_set seen i (change (place_at seen i))) }
+
+pub with_place_is : (places : ArrayVec Place) (seen : List Place) (i j : ℕ) (change : Place → Place) → seen ≡ places.items → i ≡ j
+    → (with_place places seen i change).items ≡ slice_set places.items j (change (place_at places.items j))
+with_place_is places seen i j change same is =
     items-with_items places (slice_set seen i (change (place_at seen i))) (length-set seen i _ ∙ ap length same)
     ∙ ap (λ ps. slice_set ps i (change (place_at ps i))) same ∙ ap (λ k. slice_set places.items k (change (place_at places.items k))) is
 
@@ -80,7 +83,7 @@ module _ (a : Inside) (is : IsTable a) (p : ℕ) (l : p < length a.places.items)
 
   pub changed_refs : times p a.standing.items ≡ 0 → map (ref_at a.thread places.items) a.standing.items ≡ map (ref_at a.thread a.places.items) a.standing.items
   changed_refs none = refs_other a.thread a.places.items places.items p
-      (λ q ne. ap (λ ps. place_at ps q) set ∙ get_or-set_other a.places.items p q x (record { given = 0; object = 0 }) ne) a.standing.items none
+      (λ q ne. ap (λ ps. place_at ps q) set ∙ get_or-set_other a.places.items p q x unused ne) a.standing.items none
 
 pub frames_same : (xs ys : List LocalRef) (ns ms : List ℕ) → xs ≡ ys → ns ≡ ms → ◌≡◌ {A = Frames} (record { frames = xs ∷ []; given = ns }) (record { frames = ys ∷ []; given = ms })
 frames_same xs ys ns ms e f = cc

@@ -9,7 +9,7 @@ use Rattle.jr_model.specs.Frames.{object_of, deleted}
 use Rattle.jr_model.proofs.Updates.{eq_true, eq_other, handle_self}
 use Rattle.jr_scripts.specs.declared.frames.Place.{Place}
 use Rattle.jr_scripts.specs.declared.frames.Frames.TheInside.{Inside}
-use Rattle.jr_scripts.specs.Places.{place_at, ref_at, table, times, IsTable}
+use Rattle.jr_scripts.specs.Places.{unused, place_at, ref_at, table, times, IsTable}
 use Rattle.jr_scripts.proofs.Places.{index_differs}
 use Rattle.jr_scripts.proofs.PlacesChanged.{changed, still_table, refs_other, frames_same}
 use Rattle.jr_scripts.proofs.PlacesNamed.{stands, taken_index}
@@ -74,6 +74,6 @@ module _ (a : Inside) (is : IsTable a) (h : Handle) (some : IsSome (object_of (t
     pub is_deleted : (table (changed a places standing)).frames ≡ deleted (table a).frames h
     is_deleted = frames_same _ _ _ _
         (ap (map (ref_at a.thread places.items)) kept
-        ∙ refs_other a.thread a.places.items places.items h.index (λ q ne. ap (λ ps. place_at ps q) set ∙ get_or-set_other a.places.items h.index q (emptied a h) (record { given = 0; object = 0 }) ne) (without h.index a.standing.items) (times_without_self h.index a.standing.items)
+        ∙ refs_other a.thread a.places.items places.items h.index (λ q ne. ap (λ ps. place_at ps q) set ∙ get_or-set_other a.places.items h.index q (emptied a h) unused ne) (without h.index a.standing.items) (times_without_self h.index a.standing.items)
         ∙ filter_refs (ref_at a.thread a.places.items) (λ q. not (q == h.index)) (λ r. not (same_handle r.handle h)) (λ q. ap not (alike q)) a.standing.items)
-        (ap (map (λ place. place.given)) set ∙ map-set_same (λ place. place.given) a.places.items h.index (emptied a h) (record { given = 0; object = 0 }) refl)
+        (ap (map (λ place. place.given)) set ∙ map-set_same (λ place. place.given) a.places.items h.index (emptied a h) unused refl)

@@ -11,7 +11,7 @@ use Rattle.jr_model.proofs.Counts.{count_all_false}
 use Rattle.jr_scripts.specs.declared.frames.Place.{Place}
 use Rattle.jr_scripts.specs.declared.frames.Frames.TheInside.{Inside}
 use Rattle.jr_scripts.specs.Table.{IsNext}
-use Rattle.jr_scripts.specs.Places.{place_at, is_taken, ref_at, table, IsTable}
+use Rattle.jr_scripts.specs.Places.{unused, place_at, is_taken, ref_at, table, IsTable}
 use Rattle.jr_scripts.proofs.Places.{is_free_place}
 use Rattle.jr_scripts.proofs.PlacesChanged.{frames_same}
 
@@ -21,12 +21,12 @@ free_true object given last e l = grind (arith, nat_tests)
 free_false : (object given last : ℕ) → (object ≡ 0 → given ≤ last → ⊥) → (not (not (object == 0)) && nat_le given last) ≡ false
 free_false object given last apart = grind (arith, nat_tests)
 
-given_none : (n : ℕ) → map (λ (place : Place). place.given) (replicate n (record { given = 0; object = 0 })) ≡ replicate n 0
+given_none : (n : ℕ) → map (λ (place : Place). place.given) (replicate n unused) ≡ replicate n 0
 given_none zero = refl
 given_none (suc n) = ap (λ l. 0 ∷ l) (given_none n)
 
 -- places that gave no handle show no reference
-pub fresh_table : (thread last : ℕ) (places : ArrayVec Place) (standing : ArrayVec ℕ) (m n : ℕ) → places.items ≡ replicate m (record { given = 0; object = 0 }) → standing.items ≡ [] → m ≡ n
+pub fresh_table : (thread last : ℕ) (places : ArrayVec Place) (standing : ArrayVec ℕ) (m n : ℕ) → places.items ≡ replicate m unused → standing.items ≡ [] → m ≡ n
     → table (record { thread = thread; last = last; places = places; standing = standing }) ≡ record { frames = fresh_frames n; thread = thread; last = last }
 fresh_table thread last places standing m n unused none same = ap (λ f. record { frames = f; thread = thread; last = last })
     (frames_same _ [] _ (replicate n 0) (ap (map (ref_at thread places.items)) none) (ap (map (λ place. place.given)) unused ∙ given_none m ∙ ap (λ k. replicate k 0) same))
@@ -42,7 +42,7 @@ module _ (a : Inside) (is : IsTable a) where
   free_next p l empty low = record {
     place = rw length-map l;
     free = is_free_place a is a.last p ∙ free_true _ _ a.last empty low;
-    handle = ap next_handle (sym (get_or-map (λ place. place.given) a.places.items p (record { given = 0; object = 0 })));
+    handle = ap next_handle (sym (get_or-map (λ place. place.given) a.places.items p unused));
   }
     where
       next_handle : ℕ → Handle

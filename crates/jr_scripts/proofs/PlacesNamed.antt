@@ -10,7 +10,7 @@ use Rattle.jr_model.specs.Frames.{object_of}
 use Rattle.jr_model.proofs.Updates.{and_left, and_right, handle_true, handle_self}
 use Rattle.jr_scripts.specs.declared.frames.Place.{Place}
 use Rattle.jr_scripts.specs.declared.frames.Frames.TheInside.{Inside}
-use Rattle.jr_scripts.specs.Places.{place_at, is_taken, ref_at, table, IsTable}
+use Rattle.jr_scripts.specs.Places.{unused, place_at, is_taken, ref_at, table, IsTable}
 use Rattle.jr_scripts.proofs.Places.{object_of_handle}
 
 pub not_zero : (n : ℕ) → n ≢ 0 → (n == 0) ≡ false
@@ -27,7 +27,7 @@ same_parts k l s t i o u a b c = cc
 -- no reference stands beyond the places
 pub taken_index : (places : List Place) (p : ℕ) → is_taken places p ≡ true → p < length places
 taken_index places p e = ⊎_elim (λ (l : p < length places). l)
-    (λ (g : length places ≤ p). let none = get_or_past places p (record { given = 0; object = 0 }) g in let no : false ≡ true = subst (λ (x : Place). not (x.object == 0) ≡ true) none e in absurd cc)
+    (λ (g : length places ≤ p). let none = get_or_past places p unused g in let no : false ≡ true = subst (λ (x : Place). not (x.object == 0) ≡ true) none e in absurd cc)
     (cases_lt p (length places))
 
 module _ (a : Inside) (is : IsTable a) (h : Handle) where

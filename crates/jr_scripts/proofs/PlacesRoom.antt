@@ -7,7 +7,7 @@ use Rattle.jr_model.proofs.Lengths.{sum_none}
 use Rattle.jr_model.proofs.Counts.{sum_at}
 use Rattle.jr_model.proofs.Updates.{eq_self, eq_other}
 use Rattle.jr_scripts.specs.declared.frames.Frames.TheInside.{Inside}
-use Rattle.jr_scripts.specs.Places.{is_taken, times, IsTable}
+use Rattle.jr_scripts.specs.Places.{unused, is_taken, times, IsTable}
 
 -- a list of numbers below n is as long as the times that they are in it, added up
 sum_times : (n : ℕ) (xs : List ℕ) → ((p : ℕ) → n ≤ p → times p xs ≡ 0) → sum_below n (λ p. times p xs) ≡ length xs
@@ -41,7 +41,7 @@ sum_less n f k l none one =
 pub has_room : (a : Inside) → IsTable a → (p : ℕ) → p < length a.places.items → is_taken a.places.items p ≡ false → length a.standing.items < length a.places.items
 has_room a is p l free =
     let all : sum_below (length a.places.items) (λ q. times q a.standing.items) ≡ length a.standing.items =
-        sum_times (length a.places.items) a.standing.items (λ q g. is.once q ∙ ap (λ x. if not (x.object == 0) then 1 else 0) (get_or_past a.places.items q (record { given = 0; object = 0 }) g)) in
+        sum_times (length a.places.items) a.standing.items (λ q g. is.once q ∙ ap (λ x. if not (x.object == 0) then 1 else 0) (get_or_past a.places.items q unused g)) in
     let less : sum_below (length a.places.items) (λ q. times q a.standing.items) < length a.places.items =
         sum_less (length a.places.items) (λ q. times q a.standing.items) p l (is.once p ∙ ap (λ b. if b then 1 else 0) free) (λ q. once_or_never (is_taken a.places.items q) (times q a.standing.items) (is.once q)) in
     omega arith

@@ -6,9 +6,13 @@ use Rattle.jr_scripts.specs.Table.{Table}
 use Rattle.jr_scripts.specs.declared.frames.Place.{Place}
 use Rattle.jr_scripts.specs.declared.frames.Frames.TheInside.{Inside}
 
+-- a place that gave no handle
+abbrev pub unused : Place
+unused = record { given = 0; object = 0 }
+
 -- the place of a number, an unused one beyond the last
 abbrev pub place_at : List Place → ℕ → Place
-place_at places p = slice_index_or places p (record { given = 0; object = 0 })
+place_at places p = slice_index_or places p unused
 
 -- a reference stands at the place
 abbrev pub is_taken : List Place → ℕ → Bool

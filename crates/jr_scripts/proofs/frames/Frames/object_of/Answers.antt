@@ -3,14 +3,14 @@ use Rattle.std.proofs.lemmas.List.{get_or_past}
 use Rattle.jr_model.specs.Frames.{object_at, object_of}
 use Rattle.jr_scripts.specs.declared.frames.Place.{Place}
 use Rattle.jr_scripts.specs.Table.{Table}
-use Rattle.jr_scripts.specs.Places.{place_at, table}
+use Rattle.jr_scripts.specs.Places.{unused, place_at, table}
 use Rattle.jr_scripts.proofs.Places.{object_in, object_at_place}
 use Rattle.jr_scripts.proofs.PlacesNamed.{not_zero, named_object, empty_object, unnamed_object}
 use Rattle.jr_scripts.proofs.frames.Frames.object_of.Goals as goal
 use Rattle.jr_scripts.proofs.frames.Frames.object_of.Goals.{else-place-ne0-via-then-place-ne0+else-gave_last, else-place-ne0-via-else-place-ne0}
 
-past_end : (seen places : List Place) (i j : ℕ) → seen ≡ places → i ≡ j → length seen ≤ i → place_at places j ≡ record { given = 0; object = 0 }
-past_end seen places i j same is past = get_or_past places j (record { given = 0; object = 0 }) (rw (same, is) at past)
+past_end : (seen places : List Place) (i j : ℕ) → seen ≡ places → i ≡ j → length seen ≤ i → place_at places j ≡ unused
+past_end seen places i j same is past = get_or_past places j unused (rw (same, is) at past)
 
 seen_place : (place : Place) (seen places : List Place) (i j : ℕ) → place ≡ place_at seen i → seen ≡ places → i ≡ j → place ≡ place_at places j
 seen_place place seen places i j here same is = here ∙ ap (λ ps. place_at ps i) same ∙ ap (λ k. place_at places k) is
