@@ -1,9 +1,9 @@
 -- What the table of places shows at a place, and of a handle.
-use Rattle.std.proofs.Common.{◌≡◌, ◌==◌, ◌&&◌, ◌||◌, ◌+◌, ◌≤◌, ℕ, Bool, true, false, not, cond, if◌then◌else◌, nat_le, List, [], ◌∷◌, map, Option, Some, None, slice_index, refl, ap, ◌∙◌, append-nil, arith}
+use Rattle.std.proofs.Common.{◌≡◌, ◌==◌, ◌&&◌, ◌||◌, ◌+◌, ℕ, Bool, true, false, not, cond, if◌then◌else◌, nat_le, List, [], ◌∷◌, map, Option, Some, None, slice_index, refl, ap, ◌∙◌, append-nil, arith}
 use Rattle.std.specs.List.{list_any}
 use Rattle.std.proofs.Math.ListN.{get_or-map}
 use Rattle.jr_model.specs.declared.frames.LocalRef.{LocalRef}
-use Rattle.jr_model.specs.State.{Handle, same_kind, same_handle}
+use Rattle.jr_model.specs.State.{Handle, same_handle}
 use Rattle.jr_model.specs.Frames.{object_where, object_at, object_of, is_free}
 use Rattle.jr_model.proofs.Updates.{eq_true, eq_self}
 use Rattle.jr_scripts.specs.declared.frames.Place.{Place}
@@ -20,7 +20,7 @@ listed_step true false any n e rest = absurd (omega arith)
 listed_step false b any n e rest = rest b (omega arith)
 
 -- a number that a list has once where b holds, and else never, is in it where b holds
-pub listed : (p : ℕ) (xs : List ℕ) (b : Bool) → times p xs ≡ (if b then 1 else 0) → list_any (λ q. q == p) xs ≡ b
+listed : (p : ℕ) (xs : List ℕ) (b : Bool) → times p xs ≡ (if b then 1 else 0) → list_any (λ q. q == p) xs ≡ b
 listed p [] true e = absurd (omega arith)
 listed p [] false e = refl
 listed p (x ∷ xs) b e = listed_step (x == p) b (list_any (λ q. q == p) xs) (times p xs) e (λ d f. listed p xs d f)
@@ -53,7 +53,7 @@ object_step true here o e = refl
 object_step false here o e = ap (λ b. cond b o None) e
 
 module _ (a : Inside) (is : IsTable a) where
-  pub listed_taken : (p : ℕ) → list_any (λ q. q == p) a.standing.items ≡ is_taken a.places.items p
+  listed_taken : (p : ℕ) → list_any (λ q. q == p) a.standing.items ≡ is_taken a.places.items p
   listed_taken p = listed p a.standing.items (is_taken a.places.items p) (is.once p)
 
   pub object_at_place : (p : ℕ) → object_at (table a).frames p ≡ object_in (place_at a.places.items p)

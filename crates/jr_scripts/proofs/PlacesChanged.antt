@@ -1,22 +1,18 @@
 -- A table of places of which one was changed.
-use Rattle.std.proofs.Common.{◌≡◌, ◌≢◌, ◌==◌, ◌&&◌, ◌+◌, ◌-◌, ◌<◌, ◌≤◌, ℕ, Bool, true, false, not, cond, if◌then◌else◌, nat_le, IsTrue, IsSome, List, [], ◌∷◌, ◌++◌, map, filter, length, Option, Some, None, slice_index, slice_set, refl, sym, ap, subst, ◌∙◌, add-zero, arith}
-use Rattle.std.proofs.lemmas.List.{length-map, length-set, get_or-set_same, get_or-set_other, map-set, map-append}
-use Rattle.std.proofs.lemmas.Bool.Decides.{nat_tests}
-use Rattle.std.proofs.Math.Seq.{map-set_same}
-use Rattle.std.proofs.Math.ListN.{get_or-map}
+use Rattle.std.proofs.Common.{◌≡◌, ◌≢◌, ◌==◌, ◌+◌, ◌-◌, ◌<◌, ◌≤◌, ℕ, Bool, true, false, not, cond, if◌then◌else◌, IsTrue, List, [], ◌∷◌, ◌++◌, map, length, slice_set, refl, sym, ap, subst, ◌∙◌, arith}
+use Rattle.std.proofs.lemmas.List.{length-set, get_or-set_same, get_or-set_other}
 use Rattle.std.specs.List.{refill}
 use Rattle.arrayvec.specs.ArrayVec.{ArrayVec}
 use Rattle.arrayvec.proofs.ArrayVecLemmas.{items-with_items}
 use Rattle.jr_word.specs.declared.handle.RefKind.TheVariants.{Local}
 use Rattle.jr_model.specs.declared.frames.LocalRef.{LocalRef}
-use Rattle.jr_model.specs.State.{Handle, same_handle}
-use Rattle.jr_model.specs.Frames.{Frames, object_at, object_of, IsAdded, deleted}
-use Rattle.jr_model.proofs.Updates.{eq_true, eq_false, eq_self, eq_other, handle_true, handle_self}
+use Rattle.jr_model.specs.Frames.{Frames, object_at}
+use Rattle.jr_model.proofs.Updates.{eq_true, eq_false, eq_self, eq_other}
 use Rattle.jr_scripts.specs.declared.frames.Place.{Place}
 use Rattle.jr_scripts.specs.declared.frames.Frames.TheInside.{Inside}
-use Rattle.jr_scripts.specs.Table.{IsNext, IsOnly}
-use Rattle.jr_scripts.specs.Places.{unused, place_at, is_taken, ref_at, table, times, IsTable}
-use Rattle.jr_scripts.proofs.Places.{object_in, object_at_place, is_free_place}
+use Rattle.jr_scripts.specs.Table.{IsOnly}
+use Rattle.jr_scripts.specs.Places.{unused, place_at, ref_at, table, times, IsTable}
+use Rattle.jr_scripts.proofs.Places.{object_in, object_at_place}
 
 -- what holds of the new place, and of the others, holds of each place after the change
 pub after_set : (R : ℕ → Place → Type 0) (places new : List Place) (p : ℕ) (x : Place) → p < length places → new ≡ slice_set places p x → R p x → ((q : ℕ) → q ≢ p → R q (place_at places q)) → (q : ℕ) → R q (place_at new q)

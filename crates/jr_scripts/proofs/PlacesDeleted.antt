@@ -1,5 +1,5 @@
 -- A reference is deleted from the table of places.
-use Rattle.std.proofs.Common.{◌≡◌, ◌≢◌, ◌==◌, ◌+◌, ◌<◌, ℕ, Bool, true, false, not, cond, if◌then◌else◌, IsSome, List, [], ◌∷◌, map, filter, length, slice_set, refl, sym, ap, subst, ◌∙◌, zero-add, arith}
+use Rattle.std.proofs.Common.{◌≡◌, ◌≢◌, ◌==◌, ◌+◌, ◌<◌, ℕ, Bool, true, false, not, cond, if◌then◌else◌, IsSome, List, [], ◌∷◌, map, filter, length, slice_set, refl, sym, ap, ◌∙◌, zero-add}
 use Rattle.std.proofs.lemmas.List.{get_or-set_other}
 use Rattle.std.proofs.Math.Seq.{map-set_same}
 use Rattle.arrayvec.specs.ArrayVec.{ArrayVec}

@@ -1,5 +1,5 @@
 -- The free places that the table shows.
-use Rattle.std.proofs.Common.{◌≡◌, ◌==◌, ◌&&◌, ◌<◌, ◌≤◌, ℕ, zero, suc, Bool, List, [], ◌∷◌, replicate, true, false, not, nat_le, length, slice_index, map, refl, sym, ap, ◌∙◌, arith}
+use Rattle.std.proofs.Common.{◌≡◌, ◌==◌, ◌&&◌, ◌<◌, ◌≤◌, ℕ, zero, suc, [], ◌∷◌, replicate, true, false, not, nat_le, length, map, refl, sym, ap, ◌∙◌, arith}
 use Rattle.std.proofs.lemmas.List.{length-map}
 use Rattle.std.proofs.lemmas.Bool.Decides.{nat_tests}
 use Rattle.std.proofs.Math.ListN.{get_or-map}
@@ -11,7 +11,7 @@ use Rattle.jr_model.proofs.Counts.{count_all_false}
 use Rattle.jr_scripts.specs.declared.frames.Place.{Place}
 use Rattle.jr_scripts.specs.declared.frames.Frames.TheInside.{Inside}
 use Rattle.jr_scripts.specs.Table.{IsNext}
-use Rattle.jr_scripts.specs.Places.{unused, place_at, is_taken, ref_at, table, IsTable}
+use Rattle.jr_scripts.specs.Places.{unused, place_at, ref_at, table, IsTable}
 use Rattle.jr_scripts.proofs.Places.{is_free_place}
 use Rattle.jr_scripts.proofs.PlacesChanged.{frames_same}
 

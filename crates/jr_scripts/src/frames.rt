@@ -133,3 +133,48 @@ impl Frames {
         self.standing.retain(|place| *place != handle.index);
     }
 }
+
+#[cfg(test)]
+mod tests {
+    use super::*;
+    use std::test::Fail;
+
+    fn frames_of_sixteen() -> Frames {
+        let config = Config {
+            threads: 64,
+            slots: 1,
+            objects: 1,
+            words: 0,
+            locals: 16,
+        };
+        Frames::new(5, &config, 2)
+    }
+
+    #[test]
+    fn sixteen_places_give_48_handles(rt: HostRuntime) -> Result<(), Fail> {
+        let mut frames = frames_of_sixteen();
+        let mut given: Vec<HandleParts> = Vec::new(rt.alloc());
+        for _ in 0..48 {
+            let handle = frames.next().ok_or("no place is free")?;
+            assert!(rt; !given.contains(&handle));
+            given.push(handle)?;
+            frames.add(handle, 7);
+            assert_eq!(rt; frames.object_of(handle), Some(7));
+            frames.delete(handle);
+            assert_eq!(rt; frames.object_of(handle), None);
+        }
+        assert_eq!(rt; frames.next(), None);
+        Ok(())
+    }
+
+    #[test]
+    fn sixteen_references_fill_the_places(rt: HostRuntime) -> Result<(), Fail> {
+        let mut frames = frames_of_sixteen();
+        for _ in 0..16 {
+            let handle = frames.next().ok_or("no place is free")?;
+            frames.add(handle, 7);
+        }
+        assert_eq!(rt; frames.next(), None);
+        Ok(())
+    }
+}

@@ -1,4 +1,4 @@
-use Rattle.std.proofs.Common.{◌≡◌, ◌≤◌, replicate}
+use Rattle.std.proofs.Common.{◌≡◌, replicate}
 use Rattle.jr_scripts.specs.Places.{unused}
 use Rattle.jr_scripts.proofs.frames.Frames.new.Given as goal
 

@@ -1,6 +1,4 @@
-use Rattle.std.proofs.Common.{rules, ◌≡◌, ◌≤◌, ◌<◌, ℕ, IfNone, length, sym, subst, ◌∙◌, arith}
-use Rattle.std.specs.Option.{MatchOption}
-use Rattle.std.specs.List.{AllWithin, HoldsAt}
+use Rattle.std.proofs.Common.{rules, ◌≡◌, ◌≤◌, ℕ, IfNone, sym, subst, ◌∙◌, arith}
 use Rattle.std.proofs.lemmas.Iterator.{YieldsList-from_slice, IsFirst-from_position}
 use Rattle.std.proofs.lemmas.Option.{MatchOption-at_some, MatchOption-at_none}
 use borrow.Author.Tests.{tests}

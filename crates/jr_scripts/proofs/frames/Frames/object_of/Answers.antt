@@ -1,4 +1,4 @@
-use Rattle.std.proofs.Common.{◌≡◌, ◌≢◌, ◌≤◌, ℕ, List, Option, cond, length, None, Some, sym, ap, subst, ◌∙◌}
+use Rattle.std.proofs.Common.{◌≡◌, ◌≢◌, ◌≤◌, ℕ, List, cond, length, None, Some, sym, ap, subst, ◌∙◌}
 use Rattle.std.proofs.lemmas.List.{get_or_past}
 use Rattle.jr_model.specs.Frames.{object_at, object_of}
 use Rattle.jr_scripts.specs.declared.frames.Place.{Place}
@@ -42,7 +42,8 @@ pub returns-else-place-ne0-clause-object : goal.returns-else-place-ne0-clause-ob
 returns-else-place-ne0-clause-object c =
     let place = seen_place _ _ _ _ _ (c.in_ok-place.ensures.lookup.3.1 _) c.deref.ensures.0 c.from.ensures in
     let none : object_of (table c.self.inside).frames c.args.handle ≡ None = elim c.else-place-ne0.branch [
-      else-place-ne0-via-then-place-ne0+else-gave_last w ↦ unnamed_object c.self.inside c.self.invariant c.args.handle
-        (λ l. let last = w.gave_last.ensures.1 (l.0, l.1 ∙ sym (ap (λ (x : Place). x.given) place), l.2) in let other = w.if-gave_last.false in absurd (cc (last, other)))
-      | else-place-ne0-via-else-place-ne0 w ↦ empty_object c.self.inside c.self.invariant c.args.handle (sym (ap (λ (x : Place). x.object) place) ∙ w.if-place-ne0.false) ] in
+      | else-place-ne0-via-then-place-ne0+else-gave_last w ↦ unnamed_object c.self.inside c.self.invariant c.args.handle
+          (λ l. let last = w.gave_last.ensures.1 (l.0, l.1 ∙ sym (ap (λ (x : Place). x.given) place), l.2) in let other = w.if-gave_last.false in absurd (cc (last, other)))
+      | else-place-ne0-via-else-place-ne0 w ↦ empty_object c.self.inside c.self.invariant c.args.handle (sym (ap (λ (x : Place). x.object) place) ∙ w.if-place-ne0.false)
+    ] in
     sym none ∙ ap (λ (t : Table). object_of t.frames c.args.handle) c.self.view_is
