@@ -1,8 +1,5 @@
 //! The local references of a thread, in one base frame.
-ghost use Rattle.std.specs.Prelude.{◌≡◌, ◌<◌, ◌≤◌};
-
 use arrayvec::ArrayVec;
-use jr_model::LocalRef;
 use jr_word::{Config, HandleParts, RefKind};
 use std::marker::Model;
 
