@@ -1,3 +1,10 @@
 pub mod Trying
 pub mod Doing
 pub mod Going
+pub mod Places
+pub mod PlacesAdded
+pub mod PlacesChanged
+pub mod PlacesDeleted
+pub mod PlacesFree
+pub mod PlacesNamed
+pub mod PlacesRoom

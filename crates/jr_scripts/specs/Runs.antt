@@ -1,8 +1,12 @@
 -- Runs of whole threads and scripts, for whatever was known.
-use Rattle.std.specs.Prelude.{◌≡◌, ℕ, List, [], ◌∷◌, ◌++◌, Result, Ok, Err}
+use Rattle.std.specs.Prelude.{◌≡◌, ◌≢◌, ℕ, true, List, [], ◌∷◌, ◌++◌, Result, Ok, Err}
+use Rattle.std.specs.List.{AllByRecursion}
 use Rattle.std.specs.declared.alloc.AllocError.{AllocError}
 use Rattle.jr_word.specs.declared.config.Config.{Config}
 use Rattle.jr_word.specs.declared.fault.Fault.{Fault}
+use Rattle.jr_word.specs.Config.{in_limits}
+use Rattle.jr_model.specs.declared.event.Event.{Event}
+use Rattle.jr_model.specs.declared.event.Act.TheVariants.{Knock}
 use Rattle.jr_model.specs.State.{summary}
 use Rattle.jr_model.specs.History.{History, state, IsLegal, PassView}
 use Rattle.jr_model.specs.Frames.{Frames, fresh_frames}
@@ -28,10 +32,6 @@ abbrev pub WritesDown : ℕ → Command → Result Reply Fault → Names → Nam
 WritesDown number c answer names names' (Ok _) old new = (names' ≡ names_after c answer names) × (new ≡ old ++ printed number c answer)
 WritesDown number c answer names names' (Err _) old new = new ≡ old
 
--- the last serial of a slot and of a local place in the product
-abbrev pub LAST_SERIAL : ℕ
-LAST_SERIAL = 65535
-
 -- a pass of thread 0 that has seen this
 abbrev pub seeing : Config → ℕ → History → PassView
 seeing c last seen = record { config = c; last = last; thread = 0; seen = seen }
@@ -40,11 +40,33 @@ seeing c last seen = record { config = c; last = last; thread = 0; seen = seen }
 abbrev pub opening_moment : Config → ℕ → Moment
 opening_moment c last = record { pass = seeing c last []; frames = fresh_frames c.locals }
 
--- A RUN of a script of one thread: there is a legal history of the sequential machine, with the events of the commands' calls and no others, that explains the text, and the last lines tell of its last state
+-- thread 0 did it, and it is no knock at a shut gate
+abbrev pub IsUnbarred : Event → Type 0
+IsUnbarred e = (e.thread ≡ 0) × (e.act ≢ Knock)
+
+-- A RUN of a script of one thread: there is a legal history of the sequential machine, with the events of its commands' calls and no others, that explains the text; no call was barred; and the last lines tell of the last state
 pub record IsRun (turns last : ℕ) (c : Config) (part : ThreadPart) (text : List ℕ) : Type 0 where
   pub seen : History
   pub frames : Frames
   pub lines : List ℕ
   pub legal : IsLegal c last seen
+  pub alone : AllByRecursion IsUnbarred seen
   pub explained : Explained turns 3 (opening_moment c last) part.commands lines (record { pass = seeing c last seen; frames = frames })
   pub text_is : text ≡ heading part.name ++ lines ++ ending (summary c last (state seen))
+
+-- the part of a script of one thread, whose sizes are within the limits
+pub record HasPart (s : Script) (part : ThreadPart) : Type 0 where
+  pub part_is : s.threads ≡ part ∷ []
+  pub one : s.config.threads ≡ 1
+  pub limits : in_limits s.config ≡ true
+
+abbrev pub IsSingle : Script → Type 0
+IsSingle s = (part : ThreadPart) × HasPart s part
+
+-- the script was run, and the output grew by its text
+pub record RunsSingle (turns last : ℕ) (s : Script) (old new : List ℕ) : Type 0 where
+  pub part : ThreadPart
+  pub has : HasPart s part
+  pub text : List ℕ
+  pub grew : new ≡ old ++ text
+  pub run : IsRun turns last s.config part text

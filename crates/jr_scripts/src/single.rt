@@ -1,0 +1,77 @@
+//! Runs a script of one thread.
+
+ghost use Rattle.std.specs.Prelude.{◌≡◌, ◌⊎◌, ◌↔◌, ◌++◌, IfOk, IfErr, OnOk, OnErr, Err};
+ghost use Rattle.jr_word.specs.declared.fault.Fault.TheVariants.{Memory, Size};
+ghost use Rattle.jr_word.specs.Config.{in_limits};
+ghost use Rattle.jr_scripts.specs.Runs.{IsRun, IsSingle, RunsSingle};
+
+use crate::env::Env;
+use crate::plain::PlainSteps;
+use crate::printed::{ending, heading};
+use crate::run::run_thread;
+use jr_syntax::{Script, ThreadPart};
+use jr_word::{Config, Fault};
+use std::alloc::{AllocError, Global};
+
+/// The last serial of a slot and of a local place.
+const LAST: u16 = 65_535;
+
+/// The line of a script on which the first command of its first thread stands.
+const FIRST_COMMAND: usize = 3;
+
+/// A growth was refused.
+fn out_of_memory(_: AllocError) -> Fault
+    ensures { result ≡ Memory }
+{
+    Fault::Memory
+}
+
+/// Runs the part of the one thread, and gives what is printed.
+fn run_part(
+    alloc: Global,
+    config: Config,
+    part: &ThreadPart,
+    turns: u64,
+) -> Result<Vec<u8>, Fault>
+    requires { in_limits config ≡ true }
+    ensures ok { IfOk result (λ text. IsRun turns LAST config part.now text.items) }
+    ensures err { IfErr result (λ e. e ≡ Memory) }
+{
+    let mut text = heading(alloc, &part.name).map_err(out_of_memory)?;
+    let steps = PlainSteps::<LAST>::new(alloc, config)?;
+    let mut env = Env::new(steps);
+    let commands = part.commands.as_slice();
+    run_thread(alloc, &mut env, FIRST_COMMAND, commands, turns, &mut text)?;
+    let summary = env.steps.summary();
+    let end = ending(alloc, summary).map_err(out_of_memory)?;
+    text.extend_from_slice(&end).map_err(out_of_memory)?;
+    Ok(text)
+}
+
+/// Runs a script of one thread, and appends what it prints. A call that is raced or barred is made again, up to `turns` times.
+///
+/// # Errors
+///
+/// E17 where the script has not one thread, or sizes outside the limits, and E16 where memory was refused: the output is as it was.
+pub fn run_one(
+    alloc: Global,
+    script: &Script,
+    turns: u64,
+    out: &mut Vec<u8>,
+) -> Result<(), Fault>
+    ensures size { (result ≡ Err Size) ↔ (¬ (IsSingle script.now)) }
+    ensures memory { IfErr result (λ e. (e ≡ Size) ⊎ (e ≡ Memory)) }
+    ensures ok { OnOk result (RunsSingle turns LAST script.now out.old.items out.new.items) }
+    ensures err { OnErr result (out.new.items ≡ out.old.items) }
+{
+    let [part] = script.threads.as_slice() else {
+        return Err(Fault::Size);
+    };
+    let config = script.config;
+    if config.threads != 1 || !config.in_limits() {
+        return Err(Fault::Size);
+    }
+    let text = run_part(alloc, config, part, turns)?;
+    out.extend_from_slice(&text).map_err(out_of_memory)?;
+    Ok(())
+}
