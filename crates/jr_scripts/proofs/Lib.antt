@@ -1,6 +1,7 @@
 pub mod Trying
 pub mod Doing
 pub mod Going
+pub mod Alone
 pub mod Places
 pub mod PlacesAdded
 pub mod PlacesChanged

@@ -8,10 +8,15 @@ pub mod gate;
 mod names;
 pub mod object;
 mod perform;
+pub mod plain;
 mod printed;
 pub mod reference;
 pub mod resolve;
 pub mod row;
 mod run;
+mod single;
 pub mod steps;
 mod tries;
+
+pub use run::run_thread;
+pub use single::run_one;
