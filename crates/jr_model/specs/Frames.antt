@@ -1,15 +1,20 @@
 -- The local references of a thread, in frames.
-use Rattle.std.specs.Prelude.{◌≡◌, ◌≢◌, ◌+◌, ◌<◌, ◌==◌, ◌&&◌, ℕ, Bool, not, cond, nat_le, IsTrue, Option, Some, None, List, [], ◌∷◌, ◌++◌, map, length, slice_index, slice_set, replicate}
+use Rattle.std.specs.Prelude.{◌≡◌, ◌+◌, ◌<◌, ◌≤◌, ◌==◌, ◌&&◌, ℕ, Bool, false, not, cond, nat_le, IsTrue, Option, Some, None, IsSome, List, [], ◌∷◌, ◌++◌, map, length, slice_index, slice_set, replicate}
 use Rattle.std.specs.List.{filter, list_any}
 use Rattle.jr_word.specs.declared.handle.RefKind.TheVariants.{Local}
+use Rattle.jr_model.specs.declared.event.Act.{Act}
+use Rattle.jr_model.specs.declared.event.Act.TheVariants.{LocalPut, LocalDrop}
 use Rattle.jr_model.specs.declared.frames.LocalRef.{LocalRef}
+use Rattle.jr_model.specs.declared.frames.TheConstants.{FRAMES}
 use Rattle.jr_model.specs.Maps.{count_below}
 use Rattle.jr_model.specs.State.{Handle, same_handle, State}
 
+-- the frames of a thread
 pub record Frames : Type 0 where
   pub frames : List (List LocalRef)  -- the oldest first, and in each the oldest reference first
   pub given : List ℕ  -- how many handles each place has given, those of serials 0 upward
 
+-- the references of some frames
 abbrev pub joined : List (List LocalRef) → List LocalRef
 joined [] = []
 joined (x ∷ xs) = x ++ joined xs
@@ -18,6 +23,7 @@ joined (x ∷ xs) = x ++ joined xs
 abbrev pub all_refs : Frames → List LocalRef
 all_refs f = joined f.frames
 
+-- the base frame alone, and no place has given a handle
 abbrev pub fresh_frames : ℕ → Frames
 fresh_frames locals = record { frames = [] ∷ []; given = replicate locals 0 }
 
@@ -34,13 +40,19 @@ object_of f h = object_where (λ r. same_handle r.handle h) (all_refs f)
 abbrev pub object_at : Frames → ℕ → Option ℕ
 object_at f p = object_where (λ r. r.handle.index == p) (all_refs f)
 
--- the place holds no reference and is not retired
-abbrev pub is_free : ℕ → Frames → ℕ → Bool
-is_free last f p = not (list_any (λ r. r.handle.index == p) (all_refs f)) && nat_le (slice_index f.given p) last
+-- one of the references is at the place
+abbrev pub is_held : List LocalRef → ℕ → Bool
+is_held rs p = list_any (λ r. r.handle.index == p) rs
 
+-- the place holds no reference and is not retired: it has not given its last handle yet
+abbrev pub is_free : ℕ → Frames → ℕ → Bool
+is_free last f p = not (is_held (all_refs f) p) && nat_le (slice_index f.given p) last
+
+-- how many places are free
 abbrev pub free_places : ℕ → Frames → ℕ
 free_places last f = count_below (length f.given) (is_free last f)
 
+-- one more frame, which is empty
 abbrev pub pushed : Frames → Frames
 pushed f = record f { frames = f.frames ++ [] ∷ [] }
 
@@ -50,7 +62,7 @@ with_last [] r = []
 with_last (x ∷ []) r = (x ++ r ∷ []) ∷ []
 with_last (x ∷ y ∷ xs) r = x ∷ with_last (y ∷ xs) r
 
--- a handle of a free place that was not given yet goes to the last frame
+-- a reference goes to the last frame, with the next handle of a free place
 pub record IsAdded (last thread : ℕ) (old : Frames) (r : LocalRef) (new : Frames) : Type 0 where
   pub place : r.handle.index < length old.given
   pub free : IsTrue (is_free last old r.handle.index)
@@ -61,41 +73,54 @@ pub record IsAdded (last thread : ℕ) (old : Frames) (r : LocalRef) (new : Fram
 abbrev pub deleted : Frames → Handle → Frames
 deleted f h = record f { frames = map (filter (λ r. not (same_handle r.handle h))) f.frames }
 
--- the last frame, and the frames before it
+-- the references of the last frame
 abbrev pub last_frame : List (List LocalRef) → List LocalRef
 last_frame [] = []
 last_frame (x ∷ []) = x
 last_frame (x ∷ y ∷ xs) = last_frame (y ∷ xs)
 
+-- the frames before the last
 abbrev pub frames_before : List (List LocalRef) → List (List LocalRef)
 frames_before [] = []
 frames_before (x ∷ []) = []
 frames_before (x ∷ y ∷ xs) = x ∷ frames_before (y ∷ xs)
 
+-- without the last frame
 abbrev pub popped : Frames → Frames
 popped f = record f { frames = frames_before f.frames }
 
--- no reference, and one frame
+-- no reference, and the base frame alone
 abbrev pub freed : Frames → Frames
 freed f = record f { frames = [] ∷ [] }
 
--- the locals of the thread are the places and objects of all frames
+-- the locals of the thread are the places and objects of all its frames
 abbrev pub Agree : ℕ → Frames → State → Type 0
 Agree thread f s = (p : ℕ) → s.locals thread p ≡ object_at f p
 
--- what a thread may do with its frames
-pub data IsMove (last thread : ℕ) (f g : Frames) : Type 0 where
-  pushes : g ≡ pushed f → IsMove last thread f g
-  adds : (r : LocalRef) → IsAdded last thread f r g → IsMove last thread f g
-  deletes : (h : Handle) → g ≡ deleted f h → IsMove last thread f g
-  pops : g ≡ popped f → IsMove last thread f g
-  frees : g ≡ freed f → IsMove last thread f g
+-- no two of the references are at one place
+abbrev pub AreApart : List LocalRef → Type 0
+AreApart [] = Unit {0}
+AreApart (r ∷ rs) = (is_held rs r.handle.index ≡ false) × AreApart rs
+
+-- frames as a thread may have them: one at least and no more than there may be, and one reference a place at most
+pub record AreSound (f : Frames) : Type 0 where
+  pub some_frame : 1 ≤ length f.frames
+  pub few_frames : length f.frames ≤ FRAMES
+  pub apart : AreApart (all_refs f)
+
+-- the places of these references are left empty, in order
+abbrev pub drop_all : List LocalRef → List Act
+drop_all rs = map (λ r. LocalDrop r.handle.index) rs
+
+-- what a thread may do with its frames, and by which acts
+pub data IsMove (last thread : ℕ) (f : Frames) : List Act → Frames → Type 0 where
+  pushes : length f.frames < FRAMES → IsMove last thread f [] (pushed f)
+  adds : {g : Frames} (r : LocalRef) → IsAdded last thread f r g → IsMove last thread f (LocalPut r.handle.index r.object ∷ []) g
+  deletes : (h : Handle) → IsSome (object_of f h) → IsMove last thread f (LocalDrop h.index ∷ []) (deleted f h)
+  pops : 2 ≤ length f.frames → IsMove last thread f (drop_all (last_frame f.frames)) (popped f)
+  frees : IsMove last thread f (drop_all (all_refs f)) (freed f)
 
 -- moves lead from f to g
 pub data LeadsTo (last thread : ℕ) (f : Frames) : Frames → Type 0 where
   stays : LeadsTo last thread f f
-  goes_on : {g h : Frames} → LeadsTo last thread f g → IsMove last thread g h → LeadsTo last thread f h
-
--- no local handle is given twice
-abbrev pub GivenOnce : ℕ → ℕ → Type 0
-GivenOnce last thread = (f g old new : Frames) (r q : LocalRef) → IsAdded last thread f r g → LeadsTo last thread g old → IsAdded last thread old q new → q.handle ≢ r.handle
+  goes_on : {g h : Frames} {acts : List Act} → LeadsTo last thread f g → IsMove last thread g acts h → LeadsTo last thread f h

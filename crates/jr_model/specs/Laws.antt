@@ -1,12 +1,15 @@
 -- The laws of every legal history.
-use Rattle.std.specs.Prelude.{◌≡◌, ◌≢◌, ◌⊎◌, ◌≤◌, ℕ, true, false, Some, ◌∷◌, ◌++◌}
+use Rattle.std.specs.Prelude.{◌≡◌, ◌≢◌, ◌⊎◌, ◌≤◌, ℕ, true, false, Some, List, ◌∷◌, ◌++◌}
 use Rattle.std.specs.List.{AllByRecursion}
 use Rattle.jr_word.specs.declared.config.Config.{Config}
 use Rattle.jr_model.specs.declared.event.Found.TheVariants.{Object, Cleared, Stale}
 use Rattle.jr_model.specs.declared.event.Found.{Found}
 use Rattle.jr_model.specs.declared.event.Act.TheVariants.{Create, Look, Delete, Read}
 use Rattle.jr_model.specs.State.{Handle, IsPresent, NobodyCollects, IsClosed, present_words}
-use Rattle.jr_model.specs.History.{History, by, state, IsLegal, is_collection_step, is_waiting, IsStay, IsCollection, IsLastWord}
+use Rattle.jr_model.specs.History.{History, by, state, IsLegal, is_collection_step, is_waiting, IsStay, IsCollection, IsLastWord, PassView, Did}
+use Rattle.jr_model.specs.declared.event.Act.{Act}
+use Rattle.jr_model.specs.declared.frames.LocalRef.{LocalRef}
+use Rattle.jr_model.specs.Frames.{Frames, IsAdded, IsMove, LeadsTo, AreSound, Agree, object_of, object_at}
 
 -- after a delete of h each look at it is stale
 abbrev pub DeletedIsStale : Config → ℕ → Type 0
@@ -61,3 +64,21 @@ abbrev pub CreatedIsFound : Config → ℕ → Type 0
 CreatedIsFound c last = (h : Handle) (t u o : ℕ) (r : Found) (before between rest : History)
     → IsLegal c last (before ++ by t (Create h o) ∷ between ++ by u (Look h r) ∷ rest)
     → AllByRecursion (λ e. e.act ≢ Delete h) between → (r ≡ Object o) ⊎ (r ≡ Cleared)
+
+-- no local handle is given twice
+abbrev pub GivenOnce : ℕ → ℕ → Type 0
+GivenOnce last thread = (f g old new : Frames) (r q : LocalRef)
+    → IsAdded last thread f r g → LeadsTo last thread g old → IsAdded last thread old q new → q.handle ≢ r.handle
+
+-- what a thread may do with its frames leaves them sound
+abbrev pub FramesStaySound : ℕ → ℕ → Type 0
+FramesStaySound last thread = (f g : Frames) (acts : List Act) → AreSound f → IsMove last thread f acts g → AreSound g
+
+-- and they go on agreeing with the locals of the thread, whatever the other threads do in between
+abbrev pub FramesStayAgreed : Type 0
+FramesStayAgreed = (old new : PassView) (f g : Frames) (acts : List Act) → AreSound f → Agree old.thread f (state old.seen)
+    → IsMove old.last old.thread f acts g → Did old new acts → Agree new.thread g (state new.seen)
+
+-- in sound frames a handle that stands is the one at its place
+abbrev pub HandleIsAtPlace : Type 0
+HandleIsAtPlace = (f : Frames) (h : Handle) (o : ℕ) → AreSound f → object_of f h ≡ Some o → object_at f h.index ≡ Some o

@@ -9,11 +9,10 @@ use Rattle.jr_model.specs.declared.event.Found.{Found}
 use Rattle.jr_model.specs.declared.event.Found.TheVariants.{Object, Cleared, Stale}
 use Rattle.jr_model.specs.declared.event.Act.{Act}
 use Rattle.jr_model.specs.declared.event.Act.TheVariants.{Enter, Knock, Leave, Withdraw, Shut, ShutBusy, Reopen, Create, Look, Probe, Delete, DeleteStale, Clear, LocalDrop, Reserve, ReserveFull, ReserveLost, New, Read, Write, Drop, Settle, Meet}
-use Rattle.jr_model.specs.declared.frames.LocalRef.{LocalRef}
 use Rattle.jr_model.specs.declared.frames.TheConstants.{FRAMES}
 use Rattle.jr_model.specs.declared.summary.Summary.{Summary}
 use Rattle.jr_model.specs.State.{Handle, State, not_outside, summary}
-use Rattle.jr_model.specs.Frames.{object_of, pushed, popped, deleted, last_frame}
+use Rattle.jr_model.specs.Frames.{object_of, pushed, popped, deleted, last_frame, drop_all}
 use Rattle.jr_model.specs.Calls.{Call, ◌>>=◌, ◌>>◌, act, done, one_of, refuse, refuse_if, some_act, with_header}
 use Rattle.jr_model.specs.Tests.{Word, Parts, is_local, is_plain, is_text, is_value, type_found, type_local}
 
@@ -179,10 +178,6 @@ new_frame old acts answer new = (acts ≡ []) × (answer ≡ Ok tt) × (new ≡ 
 -- there is a frame above the base frame
 abbrev pub frame_to_pop : Call (Unit {0})
 frame_to_pop old = refuse_if (nat_lt (length old.frames) 2) NoFrame old
-
--- the places of these references are left empty, in order
-abbrev pub drop_all : List LocalRef → List Act
-drop_all rs = map (λ r. LocalDrop r.handle.index) rs
 
 -- the last frame is taken away
 abbrev pub take_frame : Call (Unit {0})

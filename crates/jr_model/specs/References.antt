@@ -9,10 +9,10 @@ use Rattle.jr_word.specs.declared.fault.Fault.TheVariants.{Foreign, WrongKind, L
 use Rattle.jr_word.specs.declared.fault.Fault.TheVariants as fault
 use Rattle.jr_model.specs.declared.event.Act.TheVariants.{LocalPut}
 use Rattle.jr_model.specs.State.{Handle}
-use Rattle.jr_model.specs.Frames.{all_refs, free_places, popped, freed, IsAdded}
+use Rattle.jr_model.specs.Frames.{all_refs, drop_all, free_places, popped, freed, IsAdded}
 use Rattle.jr_model.specs.Calls.{Call, done, entered, refuse_if, ◌>>=◌, ◌>>◌}
 use Rattle.jr_model.specs.Tests.{Word, is_foreign, is_malformed, is_of_kind, is_out_of_bounds, same_object, word_of}
-use Rattle.jr_model.specs.Parts.{created, delete_at, delete_local_at, drop_all, frame_left, frame_to_pop, looked, new_frame, publish, reserve, take_frame, type_at}
+use Rattle.jr_model.specs.Parts.{created, delete_at, delete_local_at, frame_left, frame_to_pop, looked, new_frame, publish, reserve, take_frame, type_at}
 
 module _ (c : Config) (last thread : ℕ) where
   -- the object of a reference, none for NULL and for a cleared one

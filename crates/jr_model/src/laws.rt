@@ -1,6 +1,5 @@
 ghost use Rattle.std.specs.Prelude.{ℕ};
 ghost use Rattle.jr_word.specs.declared.config.Config.{Config};
-ghost use Rattle.jr_model.specs.Frames.{GivenOnce};
 ghost use Rattle.jr_model.specs.Laws.{
   CreatedIsFound,
   DeletedIsStale,
@@ -13,6 +12,10 @@ ghost use Rattle.jr_model.specs.Laws.{
   ElementsArePresent,
   ReadsLastWord,
   LengthsFit,
+  GivenOnce,
+  FramesStaySound,
+  FramesStayAgreed,
+  HandleIsAtPlace,
 };
 
 /// No deleted handle resolves again, and none is given again.
@@ -52,6 +55,13 @@ pub fn lengths_fit()
 /// No local handle is given twice.
 pub fn local_handles_are_given_once()
     ensures { (last thread : ℕ) → GivenOnce last thread }
+{}
+
+/// A thread's frames stay sound, agree with its locals in the machine, and a handle that stands is the one at its place.
+pub fn frames_agree_with_the_machine()
+    ensures sound { (last thread : ℕ) → FramesStaySound last thread }
+    ensures agreed { FramesStayAgreed }
+    ensures place { HandleIsAtPlace }
 {}
 
 /// A reference that was created is found until it is deleted.
