@@ -1,2 +1,4 @@
 pub mod Known
 pub mod Took
+pub mod Refusing
+pub mod Deleting

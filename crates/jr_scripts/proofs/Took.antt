@@ -3,6 +3,7 @@ use Rattle.std.proofs.Common.{◌≡◌, ◌≢◌, ◌<◌, ◌≤◌, ◌+◌,
 use mathlib.Core.List.{map-append}
 use Rattle.jr_word.specs.declared.handle.RefKind.{RefKind}
 use Rattle.jr_word.specs.declared.slot.SlotParts.{SlotParts}
+use Rattle.jr_word.specs.declared.slot.SlotParts.TheVariants as slot
 use Rattle.jr_model.specs.declared.event.Role.TheVariants.{Within}
 use Rattle.jr_model.specs.declared.event.Act.{Act}
 use Rattle.jr_model.specs.declared.event.Act.TheVariants.{Create, Leave, Probe}
@@ -66,6 +67,10 @@ module _ {S : Type 0} {stands : S → Standing} {knows : S → Known → Type 0}
           (r.0, r.1, r.2, only_one (λ j. Sometime (λ z. IsOccupied k.last z j) k.seen r.0.seen) i (probed_occupied i r.3), (i, true) ∷ [], r.3);
     }
 
+    pub searched_seen : {a b : S} {shows : Known → Known → Type 0} (i : ℕ) (word : SlotParts) (kind : RefKind) (o : ℕ) → ((n : ℕ) → word ≢ slot.Free n) → Took stands knows a b (Probe i (is_occupied word) ∷ []) anything shows → (stands a).role ≡ Within → Searched stands knows a b kind o i (i + 1) None
+    searched_seen i (slot.Free n) kind o ne t w = absurd (ne n refl)
+    searched_seen i _ kind o ne t w = searched_occupied i kind o t w
+
     -- an index that was found free, and lost to another thread
     pub searched_lost : {a b c : S} (i n : ℕ) (kind : RefKind) (o : ℕ) (found : SlotParts) → Took stands knows a b (Probe i false ∷ []) anything (λ _ k. IsFreeSlot i n k)
         → Took stands knows b c (Probe i (is_occupied found) ∷ []) (λ k. HasObject o k × IsFreeSlot i n k) (LostClaim i (Err found)) → (stands a).role ≡ Within → Searched stands knows a c kind o i (i + 1) None
@@ -104,6 +109,10 @@ module _ {S : Type 0} {stands : S → Standing} {knows : S → Known → Type 0}
       kind_is = tt;
       did = λ k s p. (k, s, p, λ j l m. absurd (omega arith), [], did_nothing (view k) (fits a k s).legal);
     }
+
+  -- of a search that was won, the indices do not matter
+  pub searched_some : {a b : S} {kind : RefKind} {o first last : ℕ} {h : Handle} (first' last' : ℕ) → Searched stands knows a b kind o first last (Some h) → Searched stands knows a b kind o first' last' (Some h)
+  searched_some first' last' p = record { stands_is = p.stands_is; kind_is = p.kind_is; did = p.did }
 
   pub searched_then : {a b c : S} {kind : RefKind} {o first mid last : ℕ} {made : Option Handle} → Searched stands knows a b kind o first mid None → Searched stands knows b c kind o mid last made → Searched stands knows a c kind o first last made
   searched_then {o} {first} {mid} {last} {made} p q = record {
