@@ -5,3 +5,5 @@ pub mod Deleting
 pub mod Publishing
 pub mod Reading
 pub mod Resolving
+pub mod Entering
+pub mod Creating

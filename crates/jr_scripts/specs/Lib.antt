@@ -5,4 +5,5 @@ pub mod Reading
 pub mod Works
 pub mod Table
 pub mod Places
+pub mod Ready
 pub mod Deeds

@@ -1,6 +1,7 @@
 //! Scripts: what they are, and how they are run.
 #![tactic(auto)]
 
+pub mod calls;
 pub mod env;
 pub mod frames;
 pub mod gate;
