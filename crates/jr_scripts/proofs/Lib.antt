@@ -9,3 +9,12 @@ pub mod PlacesDeleted
 pub mod PlacesFree
 pub mod PlacesNamed
 pub mod PlacesRoom
+pub mod Known
+pub mod Took
+pub mod Refusing
+pub mod Deleting
+pub mod Publishing
+pub mod Reading
+pub mod Resolving
+pub mod Entering
+pub mod Creating

@@ -5,6 +5,7 @@ pub mod Reading
 pub mod Works
 pub mod Table
 pub mod Places
+pub mod Ready
 pub mod Deeds
 pub mod Names
 pub mod Tries

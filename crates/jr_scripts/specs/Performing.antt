@@ -30,9 +30,10 @@ abbrev pub search_acts : ℕ → List (ℕ × Bool) → Option Handle → List A
 search_acts o looks None = map (λ l. Probe l.0 l.1) looks
 search_acts o looks (Some h) = map (λ l. Probe l.0 l.1) looks ++ Create h o ∷ []
 
+-- a global or weak handle of the kind, if there is one
 abbrev pub OfKind : RefKind → Option Handle → Type 0
 OfKind k None = Unit {0}
-OfKind k (Some h) = h.kind ≡ k
+OfKind k (Some h) = (h.kind ≡ k) × (h.owner ≡ 0)
 
 -- where none was won, each index from the first to the last was occupied at some moment
 abbrev pub EachOccupied : PassView → PassView → ℕ → ℕ → Option Handle → Type 0

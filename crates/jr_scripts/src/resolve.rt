@@ -5,28 +5,19 @@ ghost use Rattle.jr_model.specs.declared.event.Role.TheVariants.{Within};
 ghost use Rattle.jr_model.specs.Tests.{Parts, is_out_of_bounds, type_found, type_local};
 ghost use Rattle.jr_model.specs.Parts.{looked_at};
 ghost use Rattle.jr_model.specs.References.{resolved};
-ghost use Rattle.jr_scripts.specs.Reading.{word_of, OwnerFits, found_answer, local_answer};
+ghost use Rattle.jr_scripts.specs.Reading.{word_of, OwnerFits, local_answer};
 ghost use Rattle.jr_scripts.specs.Works.{typing};
 ghost use Rattle.jr_scripts.specs.Performing.{Resolves, Calls};
 
 use crate::frames::Frames;
 use crate::reference::{Reference, belongs_elsewhere, lies_outside, names_local};
-use crate::row::look;
+use crate::row::{look, object_found};
 use crate::steps::Steps;
 use jr_model::Found;
 use jr_word::{Fault, HandleParts, RefKind};
 
-fn answer_of_found(found: Found) -> Result<Option<u16>, Fault>
-    ensures { result ≡ found_answer found }
-{
-    match found {
-        Found::Object(object) => Ok(Some(object)),
-        Found::Cleared => Ok(None),
-        Found::Stale => Err(Fault::Stale),
-    }
-}
-
-fn answer_of_local(object: Option<u16>) -> Result<Option<u16>, Fault>
+/// The object of a local reference: E2 where it does not stand.
+fn object_local(object: Option<u16>) -> Result<Option<u16>, Fault>
     ensures { result ≡ local_answer object }
 {
     match object {
@@ -47,9 +38,9 @@ fn look_at<S: Steps>(
     ensures { Resolves S.stands S.knows steps.old steps.new frames.now.frames (looked_at handle) result }
 {
     if names_local(handle) {
-        answer_of_local(frames.object_of(handle))
+        object_local(frames.object_of(handle))
     } else {
-        answer_of_found(look(steps, handle))
+        object_found(look(steps, handle))
     }
 }
 

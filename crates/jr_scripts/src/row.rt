@@ -1,12 +1,14 @@
 //! Global and weak global references in the slots of the row, over any steps.
-ghost use Rattle.std.specs.Prelude.{◌≡◌, ◌≢◌, ◌<◌, ◌+◌, [], ◌∷◌, IfOk, IfErr, Some, None};
+ghost use Rattle.std.specs.Prelude.{◌≡◌, ◌≢◌, ◌<◌, ◌+◌, [], ◌∷◌, cond, IfOk, IfErr, Some, None};
 ghost use Rattle.jr_word.specs.declared.handle.RefKind.TheVariants.{Local};
 ghost use Rattle.jr_word.specs.declared.fault.Fault.TheVariants.{RowFull};
 ghost use Rattle.jr_model.specs.declared.event.Role.TheVariants.{Within};
 ghost use Rattle.jr_model.specs.declared.event.Act.TheVariants.{Look};
+ghost use Rattle.jr_model.specs.declared.event.Found.TheVariants.{Stale};
 ghost use Rattle.jr_model.specs.Frames.{Frames};
-ghost use Rattle.jr_scripts.specs.Acts.{reply};
 ghost use Rattle.jr_model.specs.Parts.{delete as deletion};
+ghost use Rattle.jr_scripts.specs.Acts.{reply, is_its, found_object};
+ghost use Rattle.jr_scripts.specs.Reading.{found_answer};
 ghost use Rattle.jr_scripts.specs.Knowing.{anything, nothing, HasObject, MayKnow, Took};
 ghost use Rattle.jr_scripts.specs.Performing.{Searched, Performed};
 
@@ -30,24 +32,43 @@ fn found(handle: HandleParts, word: SlotParts) -> Found
     ensures { result ≡ reply handle word }
 {
     match word {
-        SlotParts::Global { serial, object }
-            if is_its(handle, RefKind::Global, serial) =>
-        {
-            Found::Object(object)
+        SlotParts::Free { .. } | SlotParts::Retired { .. } => Found::Stale,
+        SlotParts::Global { serial, object } => {
+            found_standing(handle, RefKind::Global, serial, Some(object))
         }
-        SlotParts::Weak { serial, object } if is_its(handle, RefKind::Weak, serial) => {
-            match object {
-                Some(object) => Found::Object(object),
-                None => Found::Cleared,
-            }
+        SlotParts::Weak { serial, object } => {
+            found_standing(handle, RefKind::Weak, serial, object)
         }
-        _ => Found::Stale,
     }
 }
 
-/// Whether a reference of this kind and serial, in the handle's slot, is the handle's.
-fn is_its(handle: HandleParts, kind: RefKind, serial: u16) -> bool {
-    handle.kind == kind && handle.serial == serial
+/// What the reference of a kind and serial, which stands in the handle's slot, says of the handle.
+fn found_standing(
+    handle: HandleParts,
+    kind: RefKind,
+    serial: u16,
+    object: Option<u16>,
+) -> Found
+    ensures { result ≡ cond (is_its handle kind serial) (found_object object) Stale }
+{
+    if handle.kind != kind || handle.serial != serial {
+        return Found::Stale;
+    }
+    match object {
+        Some(object) => Found::Object(object),
+        None => Found::Cleared,
+    }
+}
+
+/// The object that a look found: none where the reference is cleared, E2 where it does not stand.
+pub fn object_found(found: Found) -> Result<Option<u16>, Fault>
+    ensures { result ≡ found_answer found }
+{
+    match found {
+        Found::Object(object) => Ok(Some(object)),
+        Found::Cleared => Ok(None),
+        Found::Stale => Err(Fault::Stale),
+    }
 }
 
 /// One slot, looked at and claimed where it is free.
@@ -86,7 +107,7 @@ pub fn create<S: Steps>(
     requires role { (S.stands steps.old).role ≡ Within }
     requires kind { kind ≢ Local }
     requires object { MayKnow S.knows steps.old (HasObject object) }
-    ensures ok { IfOk result (λ h. Searched S.stands S.knows steps.old steps.new kind object 0 (h.index + 1) (Some h)) }
+    ensures ok { IfOk result (λ h. Searched S.stands S.knows steps.old steps.new kind object 0 (S.stands steps.old).config.slots (Some h)) }
     ensures err { IfErr result (λ e. (e ≡ RowFull) × Searched S.stands S.knows steps.old steps.new kind object 0 (S.stands steps.old).config.slots None) }
 {
     let slots = steps.config().slots;
@@ -106,11 +127,7 @@ pub fn delete<S: Steps>(steps: &mut S, handle: HandleParts) -> Result<(), Fault>
     requires kind { (handle.kind ≢ Local) × (handle.owner ≡ 0) }
     ensures { (f : Frames) → Performed S.stands S.knows steps.old steps.new f f anything (λ s. deletion handle) result anything }
 {
-    let object = match look(steps, handle) {
-        Found::Object(object) => Some(object),
-        Found::Cleared => None,
-        Found::Stale => return Err(Fault::Stale),
-    };
+    let object = object_found(look(steps, handle))?;
     if steps.free(handle, object) {
         Ok(())
     } else {

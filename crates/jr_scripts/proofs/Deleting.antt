@@ -1,0 +1,81 @@
+-- A delete is one look and one exchange.
+use Rattle.std.proofs.Common.{◌≡◌, ℕ, Option, Some, None, true, List, [], ◌∷◌, ◌++◌, Result, Ok, Err, inl, inr, refl, sym, ap, subst, ◌∙◌}
+use Rattle.std.specs.Result.{IsErrAnd}
+use mathlib.Core.Logic.{∥∥₁_map}
+use Rattle.jr_word.specs.declared.fault.Fault.{Fault}
+use Rattle.jr_word.specs.declared.fault.Fault.TheVariants as fault
+use Rattle.jr_model.specs.declared.event.Found.{Found}
+use Rattle.jr_model.specs.declared.event.Found.TheVariants as found
+use Rattle.jr_model.specs.declared.event.Act.TheVariants.{Look, Delete, DeleteStale}
+use Rattle.jr_model.specs.State.{Handle}
+use Rattle.jr_model.specs.History.{PassView, Did}
+use Rattle.jr_model.specs.Frames.{Frames}
+use Rattle.jr_model.specs.Calls.{Ran, act, refuse, ◌>>◌, ◌>>=◌}
+use Rattle.jr_model.specs.Parts.{delete, delete_found}
+use Rattle.jr_model.proofs.Runs.{ran_act, ran_some_act, ran_refuse, ran_then, did_legal}
+use Rattle.jr_scripts.specs.declared.steps.Known.{Known}
+use Rattle.jr_scripts.specs.Acts.{found_object}
+use Rattle.jr_scripts.specs.Knowing.{Standing, view, anything, nothing, HasLooked, MayKnow, Took, Goes}
+use Rattle.jr_scripts.specs.Performing.{Performed}
+use Rattle.jr_scripts.specs.Reading.{found_answer}
+use Rattle.jr_scripts.proofs.Known.{goes_did, looked_now}
+use Rattle.jr_scripts.proofs.Refusing.{handed_on}
+
+-- what a look found, by what it answers
+found_some : (r : Found) (z : Option ℕ) → found_answer r ≡ Ok z → r ≡ found_object z
+found_some (found.Object o) z e = let same : Some o ≡ z = cc in ap (λ y. found_object y) same
+found_some found.Cleared z e = let same : None ≡ z = cc in ap (λ y. found_object y) same
+found_some found.Stale z e = cc
+
+found_none : (r : Found) (e : Fault) → found_answer r ≡ Err e → (r ≡ found.Stale) × (e ≡ fault.Stale)
+found_none (found.Object o) e is = absurd cc
+found_none found.Cleared e is = absurd cc
+found_none found.Stale e is = (refl, cc)
+
+won : (p q : PassView) (f : Frames) (h : Handle) (z : Option ℕ) → Did p q (Delete h ∷ []) → Ran p q f f (delete_found h (found_object z)) (Ok tt)
+won p q f h (Some o) d = let r = ran_act f (Delete h) d in record { acts = r.acts; did = r.did; is = inl r.is; grounds = tt }
+won p q f h None d = let r = ran_act f (Delete h) d in record { acts = r.acts; did = r.did; is = inl r.is; grounds = tt }
+
+lost_then : (p q : PassView) (f : Frames) (h : Handle) → Did p q (DeleteStale h ∷ []) → Ran p q f f (act (DeleteStale h) >> refuse {A = Unit {0}} fault.Stale) (Err fault.Stale)
+lost_then p q f h d = ran_then {g = f} {next = λ u. refuse {A = Unit {0}} fault.Stale} tt (ran_act f (DeleteStale h) d) (ran_refuse q f fault.Stale tt (did_legal (DeleteStale h ∷ []) d))
+
+lost : (p q : PassView) (f : Frames) (h : Handle) (z : Option ℕ) → Did p q (DeleteStale h ∷ []) → Ran p q f f (delete_found h (found_object z)) (Err fault.Stale)
+lost p q f h (Some o) d = let r = lost_then p q f h d in record { acts = r.acts; did = r.did; is = inr r.is; grounds = tt }
+lost p q f h None d = let r = lost_then p q f h d in record { acts = r.acts; did = r.did; is = inr r.is; grounds = tt }
+
+module _ {S : Type 0} {stands : S → Standing} {knows : S → Known → Type 0} {a b : S} (h : Handle) (r : Found) (t : Took stands knows a b (Look h r ∷ []) anything nothing) where
+  stale_ran : r ≡ found.Stale → (k k' : Known) → Goes k (Look h r ∷ []) k' → (f : Frames) → Ran (view k) (view k') f f (delete h) (Err fault.Stale)
+  stale_ran is k k' g f = let d = goes_did (subst (λ x. Goes k (Look h x ∷ []) k') is g) in
+      ran_then found.Stale (ran_some_act f (Look h) found.Stale d) (ran_refuse (view k') f fault.Stale tt (did_legal (Look h found.Stale ∷ []) d))
+
+  pub deleted_none : {e : Fault} (answer : Result (Unit {0}) Fault) → found_answer r ≡ Err e → IsErrAnd answer (λ y. y ≡ e) → (f : Frames) → Performed stands knows a b f f anything (λ s. delete h) answer anything
+  deleted_none {e} answer is given f =
+      let why = found_none r e is in
+      handed_on answer (subst (λ y. IsErrAnd answer (λ z. z ≡ y)) why.1 given) (record {
+        stands_is = t.stands_is;
+        ran = λ k s m. let g = t.goes k s m in (g.0, g.1, stale_ran why.0 k g.0 g.2 f, tt);
+      })
+
+  module _ (z : Option ℕ) (is : found_answer r ≡ Ok z) where
+    looked : (k k' : Known) → Goes k (Look h r ∷ []) k' → HasLooked h (found_object z) k'
+    looked k k' g = subst (λ x. HasLooked h x k') (found_some r z is) (looked_now h r g)
+
+    looked_did : (k k' : Known) → Goes k (Look h r ∷ []) k' → Did (view k) (view k') (Look h (found_object z) ∷ [])
+    looked_did k k' g = goes_did (subst (λ x. Goes k (Look h x ∷ []) k') (found_some r z is) g)
+
+    pub may_delete : MayKnow knows a anything → MayKnow knows b (HasLooked h (found_object z))
+    may_delete some = ∥∥₁_map some (λ k. let g = t.goes k.0 k.1 tt in (g.0, g.1, looked k.0 g.0 g.2))
+
+    pub deleted_won : {c : S} → Took stands knows b c (Delete h ∷ []) (HasLooked h (found_object z)) nothing → (f : Frames) → Performed stands knows a c f f anything (λ s. delete h) (Ok tt) anything
+    deleted_won u f = record {
+      stands_is = u.stands_is ∙ t.stands_is;
+      ran = λ k s m. let g = t.goes k s m in let e = u.goes g.0 g.1 (looked k g.0 g.2) in
+          (e.0, e.1, ran_then (found_object z) (ran_some_act f (Look h) (found_object z) (looked_did k g.0 g.2)) (won (view g.0) (view e.0) f h z (goes_did e.2)), tt);
+    }
+
+    pub deleted_lost : {c : S} → Took stands knows b c (DeleteStale h ∷ []) (HasLooked h (found_object z)) nothing → (f : Frames) → Performed stands knows a c f f anything (λ s. delete h) (Err fault.Stale) anything
+    deleted_lost u f = record {
+      stands_is = u.stands_is ∙ t.stands_is;
+      ran = λ k s m. let g = t.goes k s m in let e = u.goes g.0 g.1 (looked k g.0 g.2) in
+          (e.0, e.1, ran_then (found_object z) (ran_some_act f (Look h) (found_object z) (looked_did k g.0 g.2)) (lost (view g.0) (view e.0) f h z (goes_did e.2)), tt);
+    }

@@ -1,0 +1,82 @@
+-- A call between an entry and its exit.
+use Rattle.std.proofs.Common.{◌≡◌, ℕ, List, [], ◌∷◌, Result, Ok, Err, length, inl, refl, sym, ap, subst, ◌∙◌}
+use mathlib.Core.Logic.{∥∥₁_map}
+use Rattle.std.specs.Result.{IsErrAnd}
+use Rattle.jr_word.specs.declared.config.Config.{Config}
+use Rattle.jr_word.specs.declared.fault.Fault.{Fault}
+use Rattle.jr_word.specs.declared.fault.Fault.TheVariants.{Barred}
+use Rattle.jr_model.specs.declared.event.Role.{Role}
+use Rattle.jr_model.specs.declared.event.Role.TheVariants.{Outside, Within}
+use Rattle.jr_model.specs.declared.event.Act.TheVariants.{Enter, Knock, Leave, Withdraw}
+use Rattle.jr_model.specs.Frames.{Frames}
+use Rattle.jr_model.specs.Calls.{Call, entered}
+use Rattle.jr_model.proofs.Runs.{ran_entered}
+use Rattle.jr_scripts.specs.declared.steps.Known.{Known}
+use Rattle.jr_scripts.specs.Table.{Table}
+use Rattle.jr_scripts.specs.Knowing.{Standing, moved, anything, nothing, Holds, Took, Acted}
+use Rattle.jr_scripts.specs.Performing.{Calls}
+use Rattle.jr_scripts.specs.Ready.{IsReady, KeepsOwner, Completes}
+use Rattle.jr_scripts.proofs.Known.{goes_did, holds_did}
+use Rattle.jr_scripts.proofs.Refusing.{handed_on}
+
+-- frames that are left as they are
+pub same_owner : (t : Table) → KeepsOwner t t
+same_owner t = record { thread = refl; last = refl; places = refl }
+
+abbrev with_role : Standing → Role → Standing
+with_role s r = record { config = s.config; last = s.last; thread = s.thread; role = r }
+
+module _ {S : Type 0} {stands : S → Standing} {knows : S → Known → Type 0} where
+  -- after a call the frames are as ready as before
+  ready_after : {A : Type 0} {a b : S} {t u : Table} {role : Role} {work : Call A} {answer : Result A Fault} → IsReady stands knows role a t → KeepsOwner t u → Calls stands knows a b t.frames u.frames work answer → IsReady stands knows role b u
+  ready_after r o p = record {
+    role_is = ap (λ (s : Standing). s.role) p.stands_is ∙ r.role_is;
+    owner = o.thread ∙ (r.owner ∙ sym (ap (λ (s : Standing). s.thread) p.stands_is));
+    last = o.last ∙ (r.last ∙ sym (ap (λ (s : Standing). s.last) p.stands_is));
+    places = o.places ∙ (r.places ∙ sym (ap (λ (s : Standing). s.config.locals) p.stands_is));
+    agrees = ∥∥₁_map r.agrees (λ k. let x = p.ran k.0 k.1 k.2 in (x.0, x.1, x.3));
+  }
+
+  pub ready_entered : {a b : S} {t : Table} → IsReady stands knows Outside a t → Took stands knows a b (Enter ∷ []) anything nothing → IsReady stands knows Within b t
+  ready_entered {t} r e = record {
+    role_is = ap (λ (s : Standing). s.role) e.stands_is;
+    owner = r.owner ∙ sym (ap (λ (s : Standing). s.thread) e.stands_is);
+    last = r.last ∙ sym (ap (λ (s : Standing). s.last) e.stands_is);
+    places = r.places ∙ sym (ap (λ (s : Standing). s.config.locals) e.stands_is);
+    agrees = ∥∥₁_map r.agrees (λ k. let x = e.goes k.0 k.1 tt in (x.0, x.1, holds_did k.0 x.0 t.frames (Enter ∷ []) (goes_did x.2) (refl, tt) k.2));
+  }
+
+  module _ {A : Type 0} (work : Config → ℕ → ℕ → Call A) where
+    calls_barred : {a b : S} (f : Frames) → (stands a).role ≡ Outside → Acted stands knows a b (Knock ∷ Withdraw ∷ []) anything → Calls stands knows a b f f (entered (work (stands a).config (stands a).last (stands a).thread)) (Err Barred)
+    calls_barred {a} f out t = record {
+      stands_is = t.stands_is ∙ ap (with_role (stands a)) (sym out);
+      ran = λ k s m. let g = t.did k s tt in
+          (g.0, g.1, record { acts = Knock ∷ Withdraw ∷ []; did = g.2; is = inl (refl, refl, refl); grounds = tt }, holds_did k g.0 f (Knock ∷ Withdraw ∷ []) g.2 (refl, (refl, tt)) m);
+    }
+
+    calls_entered : {a b c d : S} {f g : Frames} {answer : Result A Fault} → (stands a).role ≡ Outside → Took stands knows a b (Enter ∷ []) anything nothing
+        → Calls stands knows b c f g (work (stands b).config (stands b).last (stands b).thread) answer → Took stands knows c d (Leave ∷ []) anything nothing
+        → Calls stands knows a d f g (entered (work (stands a).config (stands a).last (stands a).thread)) answer
+    calls_entered {a} {b} {c} {f} {g} {answer} out e p u =
+        let q = subst (λ (s : Standing). Calls stands knows b c f g (work s.config s.last s.thread) answer) e.stands_is p in
+        record {
+          stands_is = u.stands_is ∙ (ap (λ s. moved s (Leave ∷ [])) (p.stands_is ∙ e.stands_is) ∙ ap (with_role (stands a)) (sym out));
+          ran = λ k s m.
+              let x = e.goes k s tt in
+              let y = q.ran x.0 x.1 (holds_did k x.0 f (Enter ∷ []) (goes_did x.2) (refl, tt) m) in
+              let z = u.goes y.0 y.1 tt in
+              (z.0, z.1, ran_entered (goes_did x.2) y.2 (goes_did z.2), holds_did y.0 z.0 g (Leave ∷ []) (goes_did z.2) (refl, tt) y.3);
+        }
+
+    -- an entry that found the gate shut
+    pub completes_barred : {a b : S} {t : Table} {e : Fault} → IsReady stands knows Outside a t → (answer : Result A Fault) → IsErrAnd answer (λ y. y ≡ e) → (e ≡ Barred) × Acted stands knows a b (Knock ∷ Withdraw ∷ []) anything
+        → Completes stands knows a b t t (entered (work (stands a).config (stands a).last (stands a).thread)) answer
+    completes_barred {t} r answer given why =
+        let p = handed_on answer (subst (λ y. IsErrAnd answer (λ z. z ≡ y)) why.0 given) (calls_barred t.frames r.role_is why.1) in
+        record { call = p; ready = ready_after r (same_owner t) p }
+
+    -- work between an entry and its exit
+    pub completes_entered : {a b c d : S} {t u : Table} {answer : Result A Fault} → IsReady stands knows Outside a t → Took stands knows a b (Enter ∷ []) anything nothing
+        → Calls stands knows b c t.frames u.frames (work (stands b).config (stands b).last (stands b).thread) answer → KeepsOwner t u → Took stands knows c d (Leave ∷ []) anything nothing
+        → Completes stands knows a d t u (entered (work (stands a).config (stands a).last (stands a).thread)) answer
+    completes_entered r e p o l = let q = calls_entered r.role_is e p l in record { call = q; ready = ready_after r o q }

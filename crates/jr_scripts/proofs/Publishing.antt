@@ -1,0 +1,49 @@
+-- Objects are published at the first number that is absent.
+use Rattle.std.proofs.Common.{◌≡◌, ◌≢◌, ◌≤◌, ◌<◌, ◌+◌, ◌⊎◌, inl, inr, ⊎_elim, ℕ, Option, Some, None, List, [], ◌∷◌, refl, sym, ap, subst, ◌∙◌, arith}
+use Rattle.jr_word.specs.declared.kind.Kind.{Kind}
+use Rattle.jr_model.specs.declared.event.Role.TheVariants.{Within}
+use Rattle.jr_model.specs.declared.event.Act.TheVariants.{New}
+use Rattle.jr_model.specs.History.{Did}
+use Rattle.jr_model.proofs.Stays.{did_then, did_nothing}
+use Rattle.jr_scripts.specs.declared.steps.Known.{Known}
+use Rattle.jr_scripts.specs.Knowing.{Standing, IsOf, view, anything, HasObject, Took}
+use Rattle.jr_scripts.specs.Performing.{Published, publication}
+use Rattle.jr_scripts.proofs.Known.{goes_did, present_stays}
+
+module _ {S : Type 0} (stands : S → Standing) (knows : S → Known → Type 0) where
+  -- the numbers up to n were found present, and nothing was done
+  pub record Passed (old new : S) (n : ℕ) : Type 0 where
+    pub stands_is : stands new ≡ stands old
+    pub did : (k : Known) → knows old k → (k' : Known) × knows new k' × ((o : ℕ) → 1 ≤ o → o ≤ n → HasObject o k') × Did (view k) (view k') []
+
+last_or : (o n : ℕ) → o ≤ n + 1 → (o ≤ n) ⊎ (n + 1 ≡ o)
+last_or o n l = grind arith
+
+module _ {S : Type 0} {stands : S → Standing} {knows : S → Known → Type 0} (fits : (s : S) (k : Known) → knows s k → IsOf (stands s) k) where
+  pub passed_nothing : (a : S) → Passed stands knows a a 0
+  passed_nothing a = record { stands_is = refl; did = λ k s. (k, s, λ o l m. absurd (omega arith), did_nothing (view k) (fits a k s).legal) }
+
+  pub passed_more : {a b c : S} (n : ℕ) → (stands a).role ≡ Within → Passed stands knows a b n → Took stands knows b c [] anything (λ _ k. HasObject (n + 1) k) → Passed stands knows a c (n + 1)
+  passed_more {a} {b} n w p t = record {
+    stands_is = t.stands_is ∙ p.stands_is;
+    did = λ k s.
+        let x = p.did k s in
+        let y = t.goes x.0 x.1 tt in
+        let d = goes_did y.2 in
+        let within = (fits b x.0 x.1).role ∙ (ap (λ (z : Standing). z.role) p.stands_is ∙ w) in
+        (
+          y.0,
+          y.1,
+          λ o l m. ⊎_elim (λ e. present_stays x.0 y.0 [] o d within tt (x.2 o l e)) (λ e. subst (λ z. HasObject z y.0) e y.3) (last_or o n m),
+          did_then [] [] x.3 d,
+        );
+  }
+
+  pub published_new : {a b c : S} {n : ℕ} {kind : Kind} → Passed stands knows a b n → Took stands knows b c (New (n + 1) kind [] ∷ []) anything (λ _ k. HasObject (n + 1) k) → Published stands knows a c kind (Some (n + 1))
+  published_new {n} {kind} p t = record {
+    stands_is = t.stands_is ∙ p.stands_is;
+    did = λ k s.
+        let x = p.did k s in
+        let y = t.goes x.0 x.1 tt in
+        (y.0, y.1, y.3, did_then [] (New (n + 1) kind [] ∷ []) x.3 (goes_did y.2));
+  }

@@ -1,0 +1,94 @@
+-- References are resolved, and their types are told.
+use Rattle.std.proofs.Common.{◌≡◌, ℕ, Bool, true, false, ◌||◌, cond, Option, Some, None, IfSome, [], ◌∷◌, Result, Ok, Err, refl, sym, ap, subst, ◌∙◌}
+use Rattle.jr_word.specs.declared.config.Config.{Config}
+use Rattle.jr_word.specs.declared.fault.Fault.{Fault}
+use Rattle.jr_word.specs.declared.fault.Fault.TheVariants as fault
+use Rattle.jr_model.specs.declared.event.Found.{Found}
+use Rattle.jr_model.specs.declared.event.Found.TheVariants.{Object, Cleared, Stale}
+use Rattle.jr_model.specs.declared.event.Act.TheVariants.{Look}
+use Rattle.jr_model.specs.State.{Handle}
+use Rattle.jr_model.specs.History.{PassView, IsLegal}
+use Rattle.jr_model.specs.Frames.{Frames, object_of, object_at}
+use Rattle.jr_model.specs.Calls.{Call, Ran, done}
+use Rattle.jr_model.specs.Tests.{Word, Nothing, Malformed, Parts, is_local, is_malformed, is_out_of_bounds, is_foreign, type_found, type_local}
+use Rattle.jr_model.specs.Parts.{looked_at, type_at}
+use Rattle.jr_model.specs.References.{resolved}
+use Rattle.jr_model.proofs.Runs.{ran_done}
+use Rattle.jr_scripts.specs.declared.steps.Known.{Known}
+use Rattle.jr_scripts.specs.Knowing.{Standing, IsOf, view, anything, nothing, Holds, Goes, Took}
+use Rattle.jr_scripts.specs.Performing.{FoundPresent, Performed, Resolves, Calls}
+use Rattle.jr_scripts.specs.Reading.{found_answer, local_answer}
+use Rattle.jr_scripts.proofs.Known.{goes_did, looked_present, holds_did, local_present}
+use Rattle.jr_scripts.proofs.Reading.{ran_refused, ran_passed, ran_local, ran_remote, ran_local_type, ran_remote_type}
+
+remote_present : (k k' : Known) (h : Handle) (r : Found) → Goes k (Look h r ∷ []) k' → FoundPresent (found_answer r) k'
+remote_present k k' h (Object o) g = looked_present h o g
+remote_present k k' h Cleared g = tt
+remote_present k k' h Stale g = tt
+
+found_there : (f : Frames) (h : Handle) (z : Option ℕ) → IfSome z (λ o. object_at f h.index ≡ Some o) → (k : Known) → IsLegal k.config k.last k.seen → Holds f k → FoundPresent (local_answer z) k
+found_there f h None at k l m = tt
+found_there f h (Some o) at k l m = local_present k f h.index o l m at
+
+module _ {S : Type 0} {stands : S → Standing} {knows : S → Known → Type 0} where
+  pub resolves_remote : {a b : S} (f : Frames) (h : Handle) (r : Found) → is_local h ≡ false → Took stands knows a b (Look h r ∷ []) anything nothing → Resolves stands knows a b f (looked_at h) (found_answer r)
+  resolves_remote f h r b t = record {
+    stands_is = t.stands_is;
+    ran = λ k s m. let g = t.goes k s tt in let d = goes_did g.2 in
+        (g.0, g.1, ran_remote f h r b d, (holds_did k g.0 f (Look h r ∷ []) d (refl, tt) m, remote_present k g.0 h r g.2));
+  }
+
+  pub types_remote : {a b : S} (f : Frames) (h : Handle) (r : Found) → is_local h ≡ false → Took stands knows a b (Look h r ∷ []) anything nothing → Calls stands knows a b f f (type_at (Parts h)) (Ok (type_found h.kind r))
+  types_remote f h r b t = record {
+    stands_is = t.stands_is;
+    ran = λ k s m. let g = t.goes k s tt in let d = goes_did g.2 in
+        (g.0, g.1, ran_remote_type f h r b d, holds_did k g.0 f (Look h r ∷ []) d (refl, tt) m);
+  }
+
+  module _ (fits : (s : S) (k : Known) → knows s k → IsOf (stands s) k) (a : S) (f : Frames) where
+    -- a call that takes no step
+    pub stays : {A : Type 0} {call : Call A} {answer : Result A Fault} → ((p : PassView) → IsLegal p.config p.last p.seen → Ran p p f f call answer) → Calls stands knows a a f f call answer
+    stays each = record { stands_is = refl; ran = λ k s m. (k, s, each (view k) (fits a k s).legal, m) }
+
+    -- a resolution that takes no step and finds no object
+    pub resolves_none : {call : Call (Option ℕ)} {answer : Result (Option ℕ) Fault} → ((k : Known) → FoundPresent answer k) → ((p : PassView) → IsLegal p.config p.last p.seen → Ran p p f f call answer) → Resolves stands knows a a f call answer
+    resolves_none none each = record { stands_is = refl; ran = λ k s m. (k, s, each (view k) (fits a k s).legal, (m, none k)) }
+
+    pub resolves_local : (h : Handle) (z : Option ℕ) → is_local h ≡ true → z ≡ object_of f h → IfSome z (λ o. object_at f h.index ≡ Some o) → Resolves stands knows a a f (looked_at h) (local_answer z)
+    resolves_local h z b is at = record {
+      stands_is = refl;
+      ran = λ k s m. let l = (fits a k s).legal in
+          (k, s, subst (λ y. Ran (view k) (view k) f f (looked_at h) (local_answer y)) (sym is) (ran_local (view k) f h b l), (m, found_there f h z at k l m));
+    }
+
+    pub types_local : (h : Handle) (z : Option ℕ) → is_local h ≡ true → z ≡ object_of f h → Calls stands knows a a f f (type_at (Parts h)) (Ok (type_local z))
+    types_local h z b is = subst (λ y. Calls stands knows a a f f (type_at (Parts h)) (Ok (type_local y))) (sym is) (stays (λ p l. ran_local_type p f h b l))
+
+    module _ (c : Config) (last t : ℕ) where
+      pub resolves_null : Resolves stands knows a a f (resolved c last t Nothing) (Ok None)
+      resolves_null = resolves_none (λ k. tt) (λ p l. ran_passed false fault.Stale _ refl (ran_passed false fault.Stale _ refl (ran_passed false fault.Foreign _ refl (ran_done p f None l))))
+
+      pub resolves_malformed : Resolves stands knows a a f (resolved c last t Malformed) (Err fault.Stale)
+      resolves_malformed = resolves_none (λ k. tt) (λ p l. ran_refused p f true fault.Stale _ refl tt l)
+
+      pub resolves_outside : (h : Handle) → is_out_of_bounds c (Parts h) ≡ true → Resolves stands knows a a f (resolved c last t (Parts h)) (Err fault.Stale)
+      resolves_outside h e = resolves_none (λ k. tt) (λ p l. ran_passed false fault.Stale _ refl (ran_refused p f (is_out_of_bounds c (Parts h)) fault.Stale _ e tt l))
+
+      pub resolves_foreign : (h : Handle) → is_out_of_bounds c (Parts h) ≡ false → is_foreign t (Parts h) ≡ true → Resolves stands knows a a f (resolved c last t (Parts h)) (Err fault.Foreign)
+      resolves_foreign h e e' = resolves_none (λ k. tt)
+          (λ p l. ran_passed false fault.Stale _ refl (ran_passed (is_out_of_bounds c (Parts h)) fault.Stale _ e (ran_refused p f (is_foreign t (Parts h)) fault.Foreign _ e' tt l)))
+
+    -- the type of a reference that a call would refuse
+    pub types_none : (b : Bool) (work : Call ℕ) → b ≡ true → Calls stands knows a a f f (cond b (done 0) work) (Ok 0)
+    types_none b work e = subst (λ z. Calls stands knows a a f f (cond z (done 0) work) (Ok 0)) (sym e) (stays (λ p l. ran_done p f 0 l))
+
+  pub resolves_looked : (c : Config) (last t : ℕ) {a b : S} (f : Frames) (h : Handle) {answer : Result (Option ℕ) Fault} → is_out_of_bounds c (Parts h) ≡ false → is_foreign t (Parts h) ≡ false → Resolves stands knows a b f (looked_at h) answer → Resolves stands knows a b f (resolved c last t (Parts h)) answer
+  resolves_looked c last t f h e e' p = record {
+    stands_is = p.stands_is;
+    ran = λ k s m. let r = p.ran k s m in
+        (r.0, r.1, ran_passed false fault.Stale _ refl (ran_passed (is_out_of_bounds c (Parts h)) fault.Stale _ e (ran_passed (is_foreign t (Parts h)) fault.Foreign _ e' r.2)), r.3);
+  }
+
+  pub types_some : {a b : S} {f : Frames} {answer : Result ℕ Fault} (x y : Bool) (work : Call ℕ) → x ≡ false → y ≡ false → Calls stands knows a b f f work answer → Calls stands knows a b f f (cond (x || y) (done 0) work) answer
+  types_some {a} {b} {f} {answer} false y work e e' p = subst (λ z. Calls stands knows a b f f (cond z (done 0) work) answer) (sym e') p
+  types_some true y work e e' p = absurd cc

@@ -1,0 +1,130 @@
+-- One step after the other, for whatever was known.
+use Rattle.std.proofs.Common.{◌≡◌, ◌≢◌, ◌<◌, ◌≤◌, ◌+◌, ℕ, Bool, true, false, Option, Some, None, Result, Ok, Err, List, [], ◌∷◌, ◌++◌, map, refl, sym, ap, subst, ◌∙◌, append_assoc, arith, inl, inr, ◌⊎◌, ⊎_elim}
+use mathlib.Core.List.{map-append}
+use Rattle.jr_word.specs.declared.handle.RefKind.{RefKind}
+use Rattle.jr_word.specs.declared.slot.SlotParts.{SlotParts}
+use Rattle.jr_word.specs.declared.slot.SlotParts.TheVariants as slot
+use Rattle.jr_model.specs.declared.event.Role.TheVariants.{Within}
+use Rattle.jr_model.specs.declared.event.Act.{Act}
+use Rattle.jr_model.specs.declared.event.Act.TheVariants.{Create, Leave, Probe}
+use Rattle.jr_model.specs.State.{Handle, State, IsOccupied}
+use Rattle.jr_model.specs.History.{PassView, Did}
+use Rattle.jr_model.specs.Refusals.{Sometime}
+use Rattle.jr_model.proofs.Moments.{prefix_self, sometime_wider, probed_occupied}
+use Rattle.jr_model.proofs.Stays.{did_then, did_nothing}
+use Rattle.jr_scripts.specs.declared.steps.Known.{Known}
+use Rattle.jr_scripts.specs.Acts.{claiming, handle_of, is_occupied}
+use Rattle.jr_scripts.specs.Knowing.{Standing, IsOf, view, moved, anything, HasObject, IsFreeSlot, LostClaim, Took, Acted}
+use Rattle.jr_scripts.specs.Performing.{Searched, search_acts, OfKind, EachOccupied}
+use Rattle.jr_scripts.proofs.Known.{goes_did, present_stays}
+
+search_more : (o : ℕ) (xs ys : List (ℕ × Bool)) (made : Option Handle) → search_acts o xs None ++ search_acts o ys made ≡ search_acts o (xs ++ ys) made
+search_more o xs ys None = sym (map-append (λ (l : ℕ × Bool). Probe l.0 l.1) xs ys)
+search_more o xs ys (Some h) = sym (append_assoc (map (λ (l : ℕ × Bool). Probe l.0 l.1) xs) (map (λ (l : ℕ × Bool). Probe l.0 l.1) ys) (Create h o ∷ [])) ∙ ap (λ l. l ++ Create h o ∷ []) (sym (map-append (λ (l : ℕ × Bool). Probe l.0 l.1) xs ys))
+
+below_or : (i n : ℕ) → (i < n) ⊎ (n ≤ i)
+below_or i n = grind arith
+
+-- an index that was occupied in the one search or in the other
+occupied_between : (p q r : PassView) (xs ys : List Act) → Did p q xs → Did q r ys → (i : ℕ)
+    → (Sometime (λ s. IsOccupied p.last s i) p.seen q.seen ⊎ Sometime (λ s. IsOccupied q.last s i) q.seen r.seen) → Sometime (λ s. IsOccupied p.last s i) p.seen r.seen
+occupied_between p q r xs ys d e i (inl m) = sometime_wider (prefix_self p.seen) e.begins m
+occupied_between p q r xs ys d e i (inr m) = sometime_wider d.begins (prefix_self r.seen) (subst (λ n. Sometime (λ s. IsOccupied n s i) q.seen r.seen) d.last m)
+
+occupied_more : (p q r : PassView) (xs ys : List Act) → Did p q xs → Did q r ys → (first mid last : ℕ) (made : Option Handle) → EachOccupied p q first mid None → EachOccupied q r mid last made → EachOccupied p r first last made
+occupied_more p q r xs ys d e first mid last (Some h) here there = tt
+occupied_more p q r xs ys d e first mid last None here there = λ i low high. occupied_between p q r xs ys d e i (⊎_elim (λ l. inl (here i low l)) (λ l. inr (there i l high)) (below_or i mid))
+
+only_one : (P : ℕ → Type 0) (i : ℕ) → P i → (j : ℕ) → i ≤ j → j < i + 1 → P j
+only_one P i p j l m = subst P (let e : i ≡ j = omega arith in e) p
+
+module _ {S : Type 0} {stands : S → Standing} {knows : S → Known → Type 0} where
+  pub took_acted : {old new : S} {acts : List Act} {met : Known → Type 0} {shows : Known → Known → Type 0} → Took stands knows old new acts met shows → Acted stands knows old new acts met
+  took_acted t = record { stands_is = t.stands_is; did = λ k s m. let g = t.goes k s m in (g.0, g.1, goes_did g.2) }
+
+  -- an act and then others
+  pub acted_more : {a b c : S} {x : Act} {ys : List Act} {met : Known → Type 0} → Acted stands knows a b (x ∷ []) met → Acted stands knows b c ys anything → Acted stands knows a c (x ∷ ys) met
+  acted_more {x} {ys} p q = record {
+    stands_is = q.stands_is ∙ ap (λ s. moved s ys) p.stands_is;
+    did = λ k s m. let g = p.did k s m in let h = q.did g.0 g.1 tt in (h.0, h.1, did_then (x ∷ []) ys g.2 h.2);
+  }
+
+  module _ (fits : (s : S) (k : Known) → knows s k → IsOf (stands s) k) where
+    -- a step inside keeps what is present
+    pub took_present : {a b : S} {x : Act} {met : Known → Type 0} {shows : Known → Known → Type 0} → Took stands knows a b (x ∷ []) met shows → (stands a).role ≡ Within → x ≢ Leave
+        → (o : ℕ) (k : Known) → knows a k → met k → HasObject o k → (k' : Known) × knows b k' × HasObject o k' × Did (view k) (view k') (x ∷ []) × shows k k'
+    took_present {a} {x} t w ne o k s m p =
+        let g = t.goes k s m in
+        let d = goes_did g.2 in
+        (g.0, g.1, present_stays k g.0 (x ∷ []) o d ((fits a k s).role ∙ w) (ne, tt) p, d, g.3)
+
+    -- an index that was found occupied
+    pub searched_occupied : {a b : S} {shows : Known → Known → Type 0} (i : ℕ) (kind : RefKind) (o : ℕ) → Took stands knows a b (Probe i true ∷ []) anything shows → (stands a).role ≡ Within → Searched stands knows a b kind o i (i + 1) None
+    searched_occupied i kind o t w = record {
+      stands_is = t.stands_is;
+      kind_is = tt;
+      did = λ k s p. let r = took_present t w (λ e. cc) o k s tt p in
+          (r.0, r.1, r.2, only_one (λ j. Sometime (λ z. IsOccupied k.last z j) k.seen r.0.seen) i (probed_occupied i r.3), (i, true) ∷ [], r.3);
+    }
+
+    pub searched_seen : {a b : S} {shows : Known → Known → Type 0} (i : ℕ) (word : SlotParts) (kind : RefKind) (o : ℕ) → ((n : ℕ) → word ≢ slot.Free n) → Took stands knows a b (Probe i (is_occupied word) ∷ []) anything shows → (stands a).role ≡ Within → Searched stands knows a b kind o i (i + 1) None
+    searched_seen i (slot.Free n) kind o ne t w = absurd (ne n refl)
+    searched_seen i _ kind o ne t w = searched_occupied i kind o t w
+
+    -- an index that was found free, and lost to another thread
+    pub searched_lost : {a b c : S} (i n : ℕ) (kind : RefKind) (o : ℕ) (found : SlotParts) → Took stands knows a b (Probe i false ∷ []) anything (λ _ k. IsFreeSlot i n k)
+        → Took stands knows b c (Probe i (is_occupied found) ∷ []) (λ k. HasObject o k × IsFreeSlot i n k) (LostClaim i (Err found)) → (stands a).role ≡ Within → Searched stands knows a c kind o i (i + 1) None
+    searched_lost i n kind o found t u w = record {
+      stands_is = u.stands_is ∙ t.stands_is;
+      kind_is = tt;
+      did = λ k s p.
+          let x = took_present t w (λ e. cc) o k s tt p in
+          let y = took_present u (ap (λ (z : Standing). z.role) t.stands_is ∙ w) (λ e. cc) o x.0 x.1 (x.2, x.4) x.2 in
+          (
+            y.0,
+            y.1,
+            y.2,
+            only_one (λ j. Sometime (λ z. IsOccupied k.last z j) k.seen y.0.seen) i
+                (occupied_between (view k) (view x.0) (view y.0) (Probe i false ∷ []) (Probe i (is_occupied found) ∷ []) x.3 y.3 i (inr y.4)),
+            (i, false) ∷ (i, is_occupied found) ∷ [],
+            did_then (Probe i false ∷ []) (Probe i (is_occupied found) ∷ []) x.3 y.3,
+          );
+    }
+
+    -- an index that was found free, and won
+    pub searched_won : {a b c : S} (i n : ℕ) (kind : RefKind) (o : ℕ) {shows : Known → Known → Type 0} → Took stands knows a b (Probe i false ∷ []) anything (λ _ k. IsFreeSlot i n k)
+        → Took stands knows b c (Create (handle_of kind n i) o ∷ []) (λ k. HasObject o k × IsFreeSlot i n k) shows → (stands a).role ≡ Within → Searched stands knows a c kind o i (i + 1) (Some (handle_of kind n i))
+    searched_won i n kind o t u w = record {
+      stands_is = u.stands_is ∙ t.stands_is;
+      kind_is = (refl, refl);
+      did = λ k s p.
+          let x = took_present t w (λ e. cc) o k s tt p in
+          let y = took_present u (ap (λ (z : Standing). z.role) t.stands_is ∙ w) (λ e. cc) o x.0 x.1 (x.2, x.4) x.2 in
+          (y.0, y.1, y.2, tt, (i, false) ∷ [], did_then (Probe i false ∷ []) (Create (handle_of kind n i) o ∷ []) x.3 y.3);
+    }
+
+    pub searched_nothing : (a : S) (kind : RefKind) (o i : ℕ) → Searched stands knows a a kind o i i None
+    searched_nothing a kind o i = record {
+      stands_is = refl;
+      kind_is = tt;
+      did = λ k s p. (k, s, p, λ j l m. absurd (omega arith), [], did_nothing (view k) (fits a k s).legal);
+    }
+
+  -- of a search that was won, the indices do not matter
+  pub searched_some : {a b : S} {kind : RefKind} {o first last : ℕ} {h : Handle} (first' last' : ℕ) → Searched stands knows a b kind o first last (Some h) → Searched stands knows a b kind o first' last' (Some h)
+  searched_some first' last' p = record { stands_is = p.stands_is; kind_is = p.kind_is; did = p.did }
+
+  pub searched_then : {a b c : S} {kind : RefKind} {o first mid last : ℕ} {made : Option Handle} → Searched stands knows a b kind o first mid None → Searched stands knows b c kind o mid last made → Searched stands knows a c kind o first last made
+  searched_then {o} {first} {mid} {last} {made} p q = record {
+    stands_is = q.stands_is ∙ p.stands_is;
+    kind_is = q.kind_is;
+    did = λ k s m. let x = p.did k s m in let y = q.did x.0 x.1 x.2 in
+        (
+          y.0,
+          y.1,
+          y.2,
+          occupied_more (view k) (view x.0) (view y.0) (search_acts o x.4 None) (search_acts o y.4 made) x.5 y.5 first mid last made x.3 y.3,
+          x.4 ++ y.4,
+          subst (Did (view k) (view y.0)) (search_more o x.4 y.4 made) (did_then (search_acts o x.4 None) (search_acts o y.4 made) x.5 y.5),
+        );
+  }

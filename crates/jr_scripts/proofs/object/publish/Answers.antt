@@ -1,0 +1,14 @@
+use Rattle.std.proofs.Common.{refl, sym, ap, ◌∙◌, arith}
+use Rattle.jr_word.specs.declared.config.Config.{Config}
+use Rattle.jr_scripts.specs.Knowing.{Standing}
+use Rattle.jr_scripts.proofs.Publishing.{passed_nothing, passed_more, published_new}
+use Rattle.jr_scripts.proofs.object.publish.Goals as goal
+
+pub loop-object-init : goal.loop-object-init
+loop-object-init g c = passed_nothing g.met.S.Steps.fits c.args.steps.now
+
+pub returns-then-claim_header-clause-ok : goal.returns-then-claim_header-clause-ok
+returns-then-claim_header-clause-ok g c = published_new g.met.S.Steps.fits c.loop-object.invariant c.if-claim_header.ensures
+
+pub loop-object-preserved : goal.loop-object-preserved
+loop-object-preserved g c = passed_more g.met.S.Steps.fits c.loop-object.object c.requires c.loop-object.invariant c.if-claim_header.ensures

@@ -1,0 +1,30 @@
+-- A thread and its frames, between the steps of a call and between calls.
+use Rattle.std.specs.Prelude.{◌≡◌, ℕ, Result, length}
+use Rattle.jr_word.specs.declared.fault.Fault.{Fault}
+use Rattle.jr_model.specs.declared.event.Role.{Role}
+use Rattle.jr_model.specs.declared.event.Role.TheVariants.{Outside}
+use Rattle.jr_model.specs.Calls.{Call}
+use Rattle.jr_scripts.specs.declared.steps.Known.{Known}
+use Rattle.jr_scripts.specs.Table.{Table}
+use Rattle.jr_scripts.specs.Knowing.{Standing, MayKnow, Holds}
+use Rattle.jr_scripts.specs.Performing.{Calls}
+
+-- frames of the same thread, with as many places
+pub record KeepsOwner (old new : Table) : Type 0 where
+  pub thread : new.thread ≡ old.thread
+  pub last : new.last ≡ old.last
+  pub places : length new.frames.given ≡ length old.frames.given
+
+module _ {S : Type 0} (stands : S → Standing) (knows : S → Known → Type 0) where
+  -- the thread has this role, and the frames are its own: they may agree with its locals
+  pub record IsReady (role : Role) (s : S) (t : Table) : Type 0 where
+    pub role_is : (stands s).role ≡ role
+    pub owner : t.thread ≡ (stands s).thread
+    pub last : t.last ≡ (stands s).last
+    pub places : length t.frames.given ≡ (stands s).config.locals
+    pub agrees : MayKnow knows s (Holds t.frames)
+
+  -- a whole call was made, and the next can be
+  pub record Completes {A : Type 0} (old new : S) (before after : Table) (asked : Call A) (answer : Result A Fault) : Type 0 where
+    pub call : Calls stands knows old new before.frames after.frames asked answer
+    pub ready : IsReady Outside new after

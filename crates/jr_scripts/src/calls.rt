@@ -1,0 +1,192 @@
+//! The calls for the references of one thread, over its steps and its local references.
+ghost use Rattle.std.specs.Prelude.{◌≡◌, ◌≢◌, Some, None, Ok, IfOk, IfSome};
+ghost use Rattle.jr_word.specs.declared.handle.RefKind.TheVariants.{Local};
+ghost use Rattle.jr_model.specs.declared.event.Role.TheVariants.{Outside, Within};
+ghost use Rattle.jr_model.specs.Frames.{Frames as LocalFrames};
+ghost use Rattle.jr_model.specs.References as references;
+ghost use Rattle.jr_scripts.specs.Reading.{word_of, OwnerFits};
+ghost use Rattle.jr_scripts.specs.Works.{creation, making, removal, local_removal};
+ghost use Rattle.jr_scripts.specs.Performing.{Calls};
+ghost use Rattle.jr_scripts.specs.Ready.{IsReady, KeepsOwner, Completes};
+
+use crate::frames::Frames;
+use crate::gate::enter;
+use crate::object::publish;
+use crate::reference::{Reference, belongs_elsewhere, lies_outside};
+use crate::resolve::{resolve, type_of};
+use crate::row::{create, delete};
+use crate::steps::Steps;
+use jr_word::{Fault, HandleParts, Kind, RefKind};
+
+/// A plain object and a local reference to it.
+pub fn new_plain<S: Steps>(steps: &mut S, frames: &mut Frames) -> Result<HandleParts, Fault>
+    requires { IsReady S.stands S.knows Outside steps.old frames.old }
+    ensures call { Completes S.stands S.knows steps.old steps.new frames.old frames.new (references.new_plain (S.stands steps.old).config (S.stands steps.old).last (S.stands steps.old).thread) result }
+    ensures owner { IfOk result (λ h. (h.kind ≡ Local) × (h.owner ≡ (S.stands steps.old).thread)) }
+{
+    let inside = enter(steps)?;
+    let made = make_plain(steps, frames);
+    inside.leave(steps);
+    made
+}
+
+/// A global or weak global reference to what a reference names, none for NULL.
+pub fn new_reference<S: Steps>(
+    steps: &mut S,
+    frames: &Frames,
+    kind: RefKind,
+    reference: Reference,
+) -> Result<Option<HandleParts>, Fault>
+    requires ready { IsReady S.stands S.knows Outside steps.old frames.now }
+    requires kind { kind ≢ Local }
+    requires fits { OwnerFits reference }
+    ensures call { Completes S.stands S.knows steps.old steps.new frames.now frames.now (references.new_reference (S.stands steps.old).config (S.stands steps.old).last (S.stands steps.old).thread kind (word_of reference)) result }
+    ensures owner { IfOk result (λ made. IfSome made (λ h. h.owner ≡ 0)) }
+{
+    let inside = enter(steps)?;
+    let made = create_within(steps, frames, kind, reference);
+    inside.leave(steps);
+    made
+}
+
+/// Deletes a reference by the call for its kind.
+pub fn delete_reference<S: Steps>(
+    steps: &mut S,
+    frames: &Frames,
+    kind: RefKind,
+    reference: Reference,
+) -> Result<(), Fault>
+    requires ready { IsReady S.stands S.knows Outside steps.old frames.now }
+    requires kind { kind ≢ Local }
+    requires fits { OwnerFits reference }
+    ensures { Completes S.stands S.knows steps.old steps.new frames.now frames.now (references.delete_reference (S.stands steps.old).config (S.stands steps.old).last (S.stands steps.old).thread kind (word_of reference)) result }
+{
+    let inside = enter(steps)?;
+    let deleted = delete_within(steps, kind, reference);
+    inside.leave(steps);
+    deleted
+}
+
+/// Deletes a local reference.
+pub fn delete_local_ref<S: Steps>(
+    steps: &mut S,
+    frames: &mut Frames,
+    reference: Reference,
+) -> Result<(), Fault>
+    requires { IsReady S.stands S.knows Outside steps.old frames.old }
+    ensures { Completes S.stands S.knows steps.old steps.new frames.old frames.new (references.delete_local_ref (S.stands steps.old).config (S.stands steps.old).last (S.stands steps.old).thread (word_of reference)) result }
+{
+    let inside = enter(steps)?;
+    let deleted = delete_local_within(steps, frames, reference);
+    inside.leave(steps);
+    deleted
+}
+
+/// The type of a reference: 1 local, 2 global, 3 weak global, else 0.
+pub fn get_object_ref_type<S: Steps>(
+    steps: &mut S,
+    frames: &Frames,
+    reference: Reference,
+) -> Result<u8, Fault>
+    requires ready { IsReady S.stands S.knows Outside steps.old frames.now }
+    requires fits { OwnerFits reference }
+    ensures { Completes S.stands S.knows steps.old steps.new frames.now frames.now (references.get_object_ref_type (S.stands steps.old).config (S.stands steps.old).last (S.stands steps.old).thread (word_of reference)) result }
+{
+    let inside = enter(steps)?;
+    let kind = type_of(steps, frames, reference);
+    inside.leave(steps);
+    Ok(kind)
+}
+
+/// A plain object and a local reference to it, within the gate: E9, E11.
+fn make_plain<S: Steps>(steps: &mut S, frames: &mut Frames) -> Result<HandleParts, Fault>
+    requires { IsReady S.stands S.knows Within steps.old frames.old }
+    ensures call { Calls S.stands S.knows steps.old steps.new frames.old.frames frames.new.frames (making (S.stands steps.old).config (S.stands steps.old).last (S.stands steps.old).thread) result }
+    ensures same { KeepsOwner frames.old frames.new }
+    ensures owner { IfOk result (λ h. (h.kind ≡ Local) × (h.owner ≡ (S.stands steps.old).thread)) }
+{
+    let Some(handle) = frames.next() else {
+        return Err(Fault::LocalsFull);
+    };
+    let object = publish(steps, Kind::Plain)?;
+    steps.put_local(handle.index, Some(object));
+    frames.add(handle, object);
+    Ok(handle)
+}
+
+/// A reference of the kind to what a reference names, within the gate: E2, E3, E8.
+fn create_within<S: Steps>(
+    steps: &mut S,
+    frames: &Frames,
+    kind: RefKind,
+    reference: Reference,
+) -> Result<Option<HandleParts>, Fault>
+    requires ready { IsReady S.stands S.knows Within steps.old frames.now }
+    requires kind { kind ≢ Local }
+    requires fits { OwnerFits reference }
+    ensures call { Calls S.stands S.knows steps.old steps.new frames.now.frames frames.now.frames (creation (S.stands steps.old).config (S.stands steps.old).last (S.stands steps.old).thread kind (word_of reference)) result }
+    ensures owner { IfOk result (λ made. IfSome made (λ h. h.owner ≡ 0)) }
+{
+    let Some(object) = resolve(steps, frames, reference)? else {
+        return Ok(None);
+    };
+    let handle = create(steps, kind, object)?;
+    Ok(Some(handle))
+}
+
+/// Deletes a reference of the kind, within the gate: E2, E4.
+fn delete_within<S: Steps>(
+    steps: &mut S,
+    kind: RefKind,
+    reference: Reference,
+) -> Result<(), Fault>
+    requires role { (S.stands steps.old).role ≡ Within }
+    requires kind { kind ≢ Local }
+    requires fits { OwnerFits reference }
+    ensures { (f : LocalFrames) → Calls S.stands S.knows steps.old steps.new f f (removal (S.stands steps.old).config kind (word_of reference)) result }
+{
+    let handle = match reference {
+        Reference::Null => return Ok(()),
+        Reference::Malformed => return Err(Fault::Stale),
+        Reference::Parts(handle) => handle,
+    };
+    if handle.kind != kind {
+        return Err(Fault::WrongKind);
+    }
+    if lies_outside(steps.config(), handle) {
+        return Err(Fault::Stale);
+    }
+    delete(steps, handle)
+}
+
+/// Deletes a local reference, within the gate: E2, E3, E4.
+fn delete_local_within<S: Steps>(
+    steps: &mut S,
+    frames: &mut Frames,
+    reference: Reference,
+) -> Result<(), Fault>
+    requires { IsReady S.stands S.knows Within steps.old frames.old }
+    ensures call { Calls S.stands S.knows steps.old steps.new frames.old.frames frames.new.frames (local_removal (S.stands steps.old).config (S.stands steps.old).thread (word_of reference)) result }
+    ensures same { KeepsOwner frames.old frames.new }
+{
+    let handle = match reference {
+        Reference::Null => return Ok(()),
+        Reference::Malformed => return Err(Fault::Stale),
+        Reference::Parts(handle) => handle,
+    };
+    if handle.kind != RefKind::Local {
+        return Err(Fault::WrongKind);
+    }
+    if lies_outside(steps.config(), handle) {
+        return Err(Fault::Stale);
+    }
+    if belongs_elsewhere(steps.thread(), handle) {
+        return Err(Fault::Foreign);
+    }
+    if frames.object_of(handle).is_none() {
+        return Err(Fault::Stale);
+    }
+    steps.put_local(handle.index, None);
+    frames.delete(handle);
+    Ok(())
+}
