@@ -1,11 +1,8 @@
 //! Scripts: what they are, and how they are run.
 #![tactic(auto)]
 
-<<<<<<< HEAD
 mod command;
-=======
 pub mod calls;
->>>>>>> calls
 pub mod env;
 pub mod frames;
 pub mod gate;
