@@ -2,6 +2,7 @@ pub mod Trying
 pub mod Doing
 pub mod Going
 pub mod Alone
+pub mod WholeRun
 pub mod Places
 pub mod PlacesAdded
 pub mod PlacesChanged

@@ -1,6 +1,7 @@
 //! Runs the commands of a thread.
 
-ghost use Rattle.std.specs.Prelude.{◌≡◌, ◌++◌, ◌+◌, ◌<◌, ◌^◌, List, ℕ, OnOk, MatchOption, Some, None, length};
+ghost use Rattle.std.specs.Prelude.{◌≡◌, ◌++◌, ◌+◌, ◌<◌, ◌^◌, List, ℕ, IfErr, OnOk, MatchOption, Some, None, length};
+ghost use Rattle.jr_word.specs.declared.fault.Fault.TheVariants.{Memory};
 ghost use Rattle.jr_scripts.specs.Text.{sets, names_after};
 ghost use Rattle.jr_scripts.specs.Runs.{RanThread, WritesDown};
 
@@ -72,7 +73,8 @@ pub fn run_thread<S: Steps>(
     out: &mut Vec<u8>,
 ) -> Result<(), Fault>
     requires { first + length commands.now < 2 ^ 64 }
-    ensures { (text : List ℕ) × (out.new.items ≡ out.old.items ++ text) × RanThread S.stands S.knows env.old.steps env.new.steps env.old.frames.frames env.new.frames.frames turns first commands.now result text }
+    ensures explained { (text : List ℕ) × (out.new.items ≡ out.old.items ++ text) × RanThread S.stands S.knows env.old.steps env.new.steps env.old.frames.frames env.new.frames.frames turns first commands.now result text }
+    ensures memory { IfErr result (λ e. e ≡ Memory) }
 {
     let mut names = Names::new(alloc);
     for (i, command) in commands.iter().enumerate() {

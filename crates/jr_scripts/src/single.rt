@@ -33,7 +33,8 @@ fn run_part(
     part: &ThreadPart,
     turns: u64,
 ) -> Result<Vec<u8>, Fault>
-    requires { in_limits config ≡ true }
+    requires one { config.threads ≡ 1 }
+    requires limits { in_limits config ≡ true }
     ensures ok { IfOk result (λ text. IsRun turns LAST config part.now text.items) }
     ensures err { IfErr result (λ e. e ≡ Memory) }
 {
