@@ -9,7 +9,6 @@ pub mod gate;
 mod names;
 pub mod object;
 mod perform;
-pub mod plain;
 mod printed;
 pub mod reference;
 pub mod resolve;
