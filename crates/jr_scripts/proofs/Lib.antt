@@ -9,3 +9,4 @@ pub mod Entering
 pub mod Creating
 pub mod Making
 pub mod Removing
+pub mod Doing
