@@ -10,3 +10,10 @@ pub mod Creating
 pub mod Making
 pub mod Removing
 pub mod Doing
+pub mod Places
+pub mod PlacesAdded
+pub mod PlacesChanged
+pub mod PlacesDeleted
+pub mod PlacesFree
+pub mod PlacesNamed
+pub mod PlacesRoom

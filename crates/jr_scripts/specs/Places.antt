@@ -1,14 +1,38 @@
 -- How the table of places shows frames.
-use Rattle.std.specs.Prelude.{◌≡◌, ◌≤◌, ◌<◌, ◌-◌, ◌+◌, ◌==◌, ◌↔◌, ℕ, not, IsTrue, List, [], ◌∷◌, map, length, slice_get, slice_index}
-use Rattle.std.specs.List.{list_any}
+use Rattle.std.specs.Prelude.{◌≡◌, ◌≤◌, ◌+◌, ◌-◌, ◌==◌, ℕ, Bool, not, if◌then◌else◌, IsTrue, List, [], ◌∷◌, map, length, slice_index_or}
 use Rattle.jr_word.specs.declared.handle.RefKind.TheVariants.{Local}
 use Rattle.jr_model.specs.declared.frames.LocalRef.{LocalRef}
 use Rattle.jr_scripts.specs.Table.{Table}
+use Rattle.jr_scripts.specs.declared.frames.Place.{Place}
 use Rattle.jr_scripts.specs.declared.frames.Frames.TheInside.{Inside}
 
--- TODO
-abbrev pub table : Inside → Table
-table a = record { frames = record { frames = [] ∷ []; given = [] }; thread = a.thread; last = a.last }
+-- a place that gave no handle
+abbrev pub unused : Place
+unused = record { given = 0; object = 0 }
 
-abbrev pub IsTable : Inside → Type 0
-IsTable a = Unit {0}
+-- the place of a number, an unused one beyond the last
+abbrev pub place_at : List Place → ℕ → Place
+place_at places p = slice_index_or places p unused
+
+-- a reference stands at the place
+abbrev pub is_taken : List Place → ℕ → Bool
+is_taken places p = not ((place_at places p).object == 0)
+
+-- the reference at a place, by the last handle that the place gave
+abbrev pub ref_at : ℕ → List Place → ℕ → LocalRef
+ref_at thread places p = record { handle = record { kind = Local; serial = (place_at places p).given - 1; index = p; owner = thread }; object = (place_at places p).object }
+
+-- one frame, of the references at the standing places, and what each place has given
+abbrev pub table : Inside → Table
+table a = record { frames = record { frames = map (ref_at a.thread a.places.items) a.standing.items ∷ []; given = map (λ place. place.given) a.places.items }; thread = a.thread; last = a.last }
+
+-- how many times a number is in a list
+abbrev pub times : ℕ → List ℕ → ℕ
+times p [] = 0
+times p (q ∷ qs) = (if q == p then 1 else 0) + times p qs
+
+pub record IsTable (a : Inside) : Type 0 where
+  pub few : length a.places.items ≤ 4096
+  pub once : (p : ℕ) → times p a.standing.items ≡ (if is_taken a.places.items p then 1 else 0)  -- the standing places are the taken ones, each once
+  pub given : (p : ℕ) → IsTrue (is_taken a.places.items p) → 1 ≤ (place_at a.places.items p).given
+  pub within : (p : ℕ) → (place_at a.places.items p).given ≤ a.last + 1

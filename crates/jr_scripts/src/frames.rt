@@ -1,8 +1,5 @@
 //! The local references of a thread, in one base frame.
-ghost use Rattle.std.specs.Prelude.{◌≡◌, ◌<◌, ◌≤◌};
-
 use arrayvec::ArrayVec;
-use jr_model::LocalRef;
 use jr_word::{Config, HandleParts, RefKind};
 use std::marker::Model;
 
@@ -16,6 +13,20 @@ struct Place {
     given: u32,
     /// The object of the reference here, 0 where it is free or retired.
     object: u16,
+}
+
+impl Place {
+    ghost use Rattle.std.specs.Prelude.{◌≡◌, ◌+◌, ◌↔◌, IsTrue};
+    ghost use Rattle.jr_word.specs.declared.handle.RefKind.TheVariants.{Local};
+
+    /// Whether a handle of this place is the last that it gave, to the thread.
+    fn gave_last(&self, thread: u8, handle: HandleParts) -> bool
+        ensures { IsTrue result ↔ ((handle.kind ≡ Local) × (handle.serial + 1 ≡ self.now.given) × (handle.owner ≡ thread)) }
+    {
+        handle.kind == RefKind::Local
+            && u32::from(handle.serial) + 1 == self.given
+            && handle.owner == thread
+    }
 }
 
 /// The local references of a thread. All stand in one base frame.
@@ -101,10 +112,7 @@ impl Frames {
         ensures place { IfSome result (λ o. object_at self.now.frames handle.index ≡ Some o) }
     {
         let place = self.places.get(usize::from(handle.index))?;
-        let is_its = handle.kind == RefKind::Local
-            && handle.owner == self.thread
-            && u32::from(handle.serial) + 1 == place.given;
-        if is_its && place.object != 0 {
+        if place.object != 0 && place.gave_last(self.thread, handle) {
             Some(place.object)
         } else {
             None
@@ -120,5 +128,50 @@ impl Frames {
     {
         self.places[usize::from(handle.index)].object = 0;
         self.standing.retain(|place| *place != handle.index);
+    }
+}
+
+#[cfg(test)]
+mod tests {
+    use super::*;
+    use std::test::Fail;
+
+    fn frames_of_sixteen() -> Frames {
+        let config = Config {
+            threads: 64,
+            slots: 1,
+            objects: 1,
+            words: 0,
+            locals: 16,
+        };
+        Frames::new(5, &config, 2)
+    }
+
+    #[test]
+    fn sixteen_places_give_48_handles(rt: HostRuntime) -> Result<(), Fail> {
+        let mut frames = frames_of_sixteen();
+        let mut given: Vec<HandleParts> = Vec::new(rt.alloc());
+        for _ in 0..48 {
+            let handle = frames.next().ok_or("no place is free")?;
+            assert!(rt; !given.contains(&handle));
+            given.push(handle)?;
+            frames.add(handle, 7);
+            assert_eq!(rt; frames.object_of(handle), Some(7));
+            frames.delete(handle);
+            assert_eq!(rt; frames.object_of(handle), None);
+        }
+        assert_eq!(rt; frames.next(), None);
+        Ok(())
+    }
+
+    #[test]
+    fn sixteen_references_fill_the_places(rt: HostRuntime) -> Result<(), Fail> {
+        let mut frames = frames_of_sixteen();
+        for _ in 0..16 {
+            let handle = frames.next().ok_or("no place is free")?;
+            frames.add(handle, 7);
+        }
+        assert_eq!(rt; frames.next(), None);
+        Ok(())
     }
 }
