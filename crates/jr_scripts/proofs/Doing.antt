@@ -1,3 +1,4 @@
+<<<<<<< HEAD
 -- What calls make up a command, for whatever was known.
 use Rattle.std.proofs.Common.{MutBor, ◌≡◌, ℕ, List, Result, Ok, Err, Option, Some, None, subst, sym, refl, ◌∙◌, inl, inr}
 use Rattle.jr_word.specs.declared.fault.Fault.{Fault}
@@ -66,3 +67,71 @@ module _ {S : Type 0} {stands : S → Standing} {knows : S → Known → Type 0}
     -- a deletion that is refused
     pub does_drop_err : {old new : S} {f g : Frames} → c ≡ commands.Drop r → Ok v ≡ wanted (referent names r) → Does stands knows old new f g (deleted turns v.0) (Err e) → Does stands knows old new f g (deed turns names c) (Err e)
     does_drop_err is found = does_more (λ p q d. subst (λ c. deed turns names c p (Err e) q) (sym is) (inl (v, p, (found, refl), inr (e, refl, d))))
+=======
+-- A call of an env, for whatever was known.
+use Rattle.std.proofs.Common.{◌≡◌, ℕ, Option, Some, None, MatchOption, Result, Ok, Err, inl, inr, refl, sym, ap, subst, ◌∙◌}
+use Rattle.std.specs.Result.{IsErrAnd}
+use Rattle.std.specs.Option.{IsSomeAnd}
+use Rattle.std.proofs.lemmas.Result.{err_from_is_err_and}
+use Rattle.jr_word.specs.declared.config.Config.{Config}
+use Rattle.jr_word.specs.declared.fault.Fault.{Fault}
+use Rattle.jr_word.specs.declared.handle.Handle.{Handle as HandleWord}
+use Rattle.jr_word.specs.Handle.{handle_word}
+use Rattle.jr_model.specs.State.{Handle}
+use Rattle.jr_model.specs.Frames.{Frames}
+use Rattle.jr_model.specs.Calls.{Call, Ran}
+use Rattle.jr_model.specs.Tests.{Word}
+use Rattle.jr_scripts.specs.declared.steps.Known.{Known}
+use Rattle.jr_scripts.specs.Knowing.{Standing, IsOf, view}
+use Rattle.jr_scripts.specs.Performing.{Calls}
+use Rattle.jr_scripts.specs.Reading.{IsReadAs}
+use Rattle.jr_scripts.specs.Deeds.{Deed, Does, answered_by, call, call_on, packed, packed_if}
+
+-- the word of a handle that was packed
+pub packed_is : (w : HandleWord) (h : Handle) → w.0 ≡ handle_word h → w ≡ packed h
+packed_is w h e = ap (λ (n : ℕ). let v : HandleWord = record { 0 = n } in v) e
+
+pub packed_if_is : (w : Option HandleWord) (z : Option Handle) → MatchOption z (w ≡ None) (λ h. IsSomeAnd w (λ v. v.0 ≡ handle_word h)) → w ≡ packed_if z
+packed_if_is w None e = e
+packed_if_is (Some v) (Some h) e = ap (λ x. Some x) (packed_is v h e)
+packed_if_is None (Some h) e = absurd e
+
+module _ {S : Type 0} {stands : S → Standing} {knows : S → Known → Type 0} {a b : S} {f g : Frames} {A : Type 0} where
+  module _ (fits : (s : S) (k : Known) → knows s k → IsOf (stands s) k) where
+    pub does_call : {answer : Result A Fault} (work : Config → ℕ → ℕ → Call A) → Calls stands knows a b f g (work (stands a).config (stands a).last (stands a).thread) answer → Does stands knows a b f g (call (λ c last t s. work c last t)) answer
+    does_call {answer} work p = record {
+      stands_is = p.stands_is;
+      did = λ k s m.
+          let x = p.ran k s m in
+          let i = fits a k s in
+          (
+            x.0,
+            x.1,
+            x.3,
+            subst (λ c. Ran (view k) (view x.0) f g (work c k.last k.thread) answer) (sym i.config)
+                (subst (λ l. Ran (view k) (view x.0) f g (work (stands a).config l k.thread) answer) (sym i.last)
+                (subst (λ t. Ran (view k) (view x.0) f g (work (stands a).config (stands a).last t) answer) (sym i.thread) x.2)),
+          );
+    }
+
+    -- a call that is handed a reference word
+    pub does_call_on : {answer : Result A Fault} (work : Config → ℕ → ℕ → Word → Call A) (w : ℕ) (r : Word) → IsReadAs w r → Calls stands knows a b f g (work (stands a).config (stands a).last (stands a).thread r) answer → Does stands knows a b f g (call_on w (λ c last t s x. work c last t x)) answer
+    does_call_on work w r reads p =
+        let d = does_call (λ c last t. work c last t r) p in
+        record { stands_is = d.stands_is; did = λ k s m. let x = d.did k s m in (x.0, x.1, x.2, (r, reads, x.3)) }
+
+  -- the answer in another form
+  pub does_answer : {B : Type 0} {deed : Deed A} {x : A} {y : B} (form : A → B) → y ≡ form x → Does stands knows a b f g deed (Ok x) → Does stands knows a b f g (answered_by form deed) (Ok y)
+  does_answer {x = x} form is d = record {
+    stands_is = d.stands_is;
+    did = λ k s m. let z = d.did k s m in (z.0, z.1, z.2, inl (x, _, z.3, (ap (λ v. Ok v) is, refl)));
+  }
+
+  pub does_refuse : {B : Type 0} {deed : Deed A} {e : Fault} (form : A → B) (answer : Result B Fault) → IsErrAnd answer (λ y. y ≡ e) → Does stands knows a b f g deed (Err e) → Does stands knows a b f g (answered_by form deed) answer
+  does_refuse {e = e} form answer given d =
+      let why = err_from_is_err_and answer given in
+      record {
+        stands_is = d.stands_is;
+        did = λ k s m. let z = d.did k s m in (z.0, z.1, z.2, inr (e, why.1 ∙ ap (λ (v : Fault). Err v) why.2, z.3));
+      }
+>>>>>>> calls

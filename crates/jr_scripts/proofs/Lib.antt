@@ -19,3 +19,5 @@ pub mod Reading
 pub mod Resolving
 pub mod Entering
 pub mod Creating
+pub mod Making
+pub mod Removing

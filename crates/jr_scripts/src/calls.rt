@@ -3,6 +3,7 @@ ghost use Rattle.std.specs.Prelude.{◌≡◌, ◌≢◌, Some, None, Ok, IfOk, 
 ghost use Rattle.jr_word.specs.declared.handle.RefKind.TheVariants.{Local};
 ghost use Rattle.jr_model.specs.declared.event.Role.TheVariants.{Outside, Within};
 ghost use Rattle.jr_model.specs.Frames.{Frames as LocalFrames};
+ghost use Rattle.jr_model.specs.Tests.{Parts};
 ghost use Rattle.jr_model.specs.References as references;
 ghost use Rattle.jr_scripts.specs.Reading.{word_of, OwnerFits};
 ghost use Rattle.jr_scripts.specs.Works.{creation, making, removal, local_removal};
@@ -12,7 +13,7 @@ ghost use Rattle.jr_scripts.specs.Ready.{IsReady, KeepsOwner, Completes};
 use crate::frames::Frames;
 use crate::gate::enter;
 use crate::object::publish;
-use crate::reference::{Reference, belongs_elsewhere, lies_outside};
+use crate::reference::{Reference, belongs_elsewhere, lies_outside, names_kind, names_local};
 use crate::resolve::{resolve, type_of};
 use crate::row::{create, delete};
 use crate::steps::Steps;
@@ -145,12 +146,24 @@ fn delete_within<S: Steps>(
     requires fits { OwnerFits reference }
     ensures { (f : LocalFrames) → Calls S.stands S.knows steps.old steps.new f f (removal (S.stands steps.old).config kind (word_of reference)) result }
 {
-    let handle = match reference {
-        Reference::Null => return Ok(()),
-        Reference::Malformed => return Err(Fault::Stale),
-        Reference::Parts(handle) => handle,
-    };
-    if handle.kind != kind {
+    match reference {
+        Reference::Null => Ok(()),
+        Reference::Malformed => Err(Fault::Stale),
+        Reference::Parts(handle) => delete_parts(steps, kind, handle),
+    }
+}
+
+fn delete_parts<S: Steps>(
+    steps: &mut S,
+    kind: RefKind,
+    handle: HandleParts,
+) -> Result<(), Fault>
+    requires role { (S.stands steps.old).role ≡ Within }
+    requires kind { kind ≢ Local }
+    requires fits { handle.kind ≢ Local → handle.owner ≡ 0 }
+    ensures { (f : LocalFrames) → Calls S.stands S.knows steps.old steps.new f f (removal (S.stands steps.old).config kind (Parts handle)) result }
+{
+    if !names_kind(kind, handle) {
         return Err(Fault::WrongKind);
     }
     if lies_outside(steps.config(), handle) {
@@ -169,12 +182,23 @@ fn delete_local_within<S: Steps>(
     ensures call { Calls S.stands S.knows steps.old steps.new frames.old.frames frames.new.frames (local_removal (S.stands steps.old).config (S.stands steps.old).thread (word_of reference)) result }
     ensures same { KeepsOwner frames.old frames.new }
 {
-    let handle = match reference {
-        Reference::Null => return Ok(()),
-        Reference::Malformed => return Err(Fault::Stale),
-        Reference::Parts(handle) => handle,
-    };
-    if handle.kind != RefKind::Local {
+    match reference {
+        Reference::Null => Ok(()),
+        Reference::Malformed => Err(Fault::Stale),
+        Reference::Parts(handle) => delete_local_parts(steps, frames, handle),
+    }
+}
+
+fn delete_local_parts<S: Steps>(
+    steps: &mut S,
+    frames: &mut Frames,
+    handle: HandleParts,
+) -> Result<(), Fault>
+    requires { IsReady S.stands S.knows Within steps.old frames.old }
+    ensures call { Calls S.stands S.knows steps.old steps.new frames.old.frames frames.new.frames (local_removal (S.stands steps.old).config (S.stands steps.old).thread (Parts handle)) result }
+    ensures same { KeepsOwner frames.old frames.new }
+{
+    if !names_local(handle) {
         return Err(Fault::WrongKind);
     }
     if lies_outside(steps.config(), handle) {
@@ -183,9 +207,9 @@ fn delete_local_within<S: Steps>(
     if belongs_elsewhere(steps.thread(), handle) {
         return Err(Fault::Foreign);
     }
-    if frames.object_of(handle).is_none() {
+    let Some(_) = frames.object_of(handle) else {
         return Err(Fault::Stale);
-    }
+    };
     steps.put_local(handle.index, None);
     frames.delete(handle);
     Ok(())

@@ -1,6 +1,6 @@
 //! References as native code hands them in, and the tests that calls make of them.
 ghost use Rattle.std.specs.Prelude.{◌≡◌};
-ghost use Rattle.jr_model.specs.Tests.{Parts, is_local, is_out_of_bounds, is_foreign};
+ghost use Rattle.jr_model.specs.Tests.{Parts, is_local, is_of_kind, is_out_of_bounds, is_foreign};
 
 use jr_word::{Config, Handle, HandleParts, RefKind};
 
@@ -29,6 +29,13 @@ impl Reference {
             None => Reference::Malformed,
         }
     }
+}
+
+/// Whether a handle is of the kind.
+pub fn names_kind(kind: RefKind, handle: HandleParts) -> bool
+    ensures { result ≡ is_of_kind kind (Parts handle) }
+{
+    handle.kind == kind
 }
 
 /// Whether a handle is local.

@@ -1,0 +1,104 @@
+-- A plain object is made, and a local reference to it.
+use Rattle.std.proofs.Common.{◌≡◌, ◌≢◌, ◌<◌, ◌≤◌, ℕ, Bool, true, false, nat_lt, Some, None, [], ◌∷◌, Result, Ok, Err, length, inl, inr, refl, sym, ap, subst, ◌∙◌, arith, IsTrue}
+use Rattle.std.proofs.lemmas.Bool.Decides.{nat_tests}
+use Rattle.std.specs.Result.{IsErrAnd}
+use mathlib.Core.Logic.{∥∥₁_map, ∥∥₁_elim}
+use Rattle.jr_word.specs.declared.config.Config.{Config}
+use Rattle.jr_word.specs.declared.kind.Kind.{Kind}
+use Rattle.jr_word.specs.declared.kind.Kind.TheVariants.{Plain}
+use Rattle.jr_word.specs.declared.fault.Fault.{Fault}
+use Rattle.jr_word.specs.declared.fault.Fault.TheVariants.{LocalsFull, ObjectsFull}
+use Rattle.jr_model.specs.declared.event.Role.TheVariants.{Within}
+use Rattle.jr_model.specs.declared.event.Act.TheVariants.{New, LocalPut}
+use Rattle.jr_model.specs.State.{Handle, State, IsPresent}
+use Rattle.jr_model.specs.History.{PassView, IsLegal, Did}
+use Rattle.jr_model.specs.Frames.{Frames, IsAdded, free_places, is_free}
+use Rattle.jr_model.specs.Refusals.{ObjectsWereFull}
+use Rattle.jr_model.specs.Calls.{Ran, refuse_if, ◌>>=◌}
+use Rattle.jr_model.specs.Parts.{publish}
+use Rattle.jr_model.specs.References.{added}
+use Rattle.jr_model.proofs.Counts.{count_none}
+use Rattle.jr_model.proofs.Moments.{sometime_last, one_act}
+use Rattle.jr_model.proofs.Runs.{ran_some_act, ran_done, ran_then, ran_err}
+use Rattle.jr_scripts.specs.declared.steps.Known.{Known}
+use Rattle.jr_scripts.specs.Works.{making}
+use Rattle.jr_scripts.specs.Table.{Table, IsNext, IsOnly}
+use Rattle.jr_scripts.specs.Knowing.{Standing, IsOf, view, state_of, anything, nothing, HasObject, HasOptional, Holds, MayKnow, Took}
+use Rattle.jr_scripts.specs.Performing.{EachPresent, Published, Calls}
+use Rattle.jr_scripts.specs.Ready.{IsReady}
+use Rattle.jr_scripts.proofs.Known.{goes_did, holds_did, holds_put}
+use Rattle.jr_scripts.proofs.Reading.{ran_refused, ran_passed}
+use Rattle.jr_scripts.proofs.Refusing.{handed_on}
+
+below_one : (n : ℕ) → n ≢ 0 → nat_lt n 1 ≡ false
+below_one n ne = grind (arith, nat_tests)
+
+-- where a place is free, there is room for one
+free_room : (last : ℕ) (f : Frames) (p : ℕ) → p < length f.given → IsTrue (is_free last f p) → nat_lt (free_places last f) 1 ≡ false
+free_room last f p l free = below_one (free_places last f) (λ e. let no = count_none (length f.given) (is_free last f) e p l in cc)
+
+module _ (c : Config) (last t : ℕ) where
+  -- what follows the test for room
+  roomy : {p q : PassView} (f : Frames) {g : Frames} {answer : Result Handle Fault} → nat_lt (free_places last f) 1 ≡ false → Ran p q f g (publish Plain [] >>= added c last t) answer → Ran p q f g (making c last t) answer
+  roomy f room r = record {
+    acts = r.acts;
+    did = r.did;
+    is = inl (tt, f, [], r.acts, refl, subst (λ b. refuse_if b LocalsFull f [] (Ok tt) f) (sym room) (refl, refl, refl), inl (tt, f, [], r.acts, refl, (refl, refl, refl), r.is));
+    grounds = r.grounds;
+  }
+
+  full_ran : {p q : PassView} (f : Frames) → nat_lt (free_places last f) 1 ≡ false → ObjectsWereFull p q → Did p q [] → Ran p q f f (making c last t) (Err ObjectsFull)
+  full_ran {p} {q} f room full d =
+      let r : Ran p q f f (publish Plain []) (Err ObjectsFull) = record { acts = []; did = d; is = inr (refl, refl, refl); grounds = full } in
+      roomy f room (ran_err (added c last t) ObjectsFull r)
+
+  made_ran : {p q r : PassView} {f g : Frames} (h : Handle) (o : ℕ) → nat_lt (free_places last f) 1 ≡ false → Did p q (New o Plain [] ∷ []) → Did q r (LocalPut h.index o ∷ []) → IsAdded last t f (record { handle = h; object = o }) g → Ran p r f g (making c last t) (Ok h)
+  made_ran {p} {q} {r} {f} {g} h o room d e a =
+      let x : Ran p q f f (publish Plain []) (Ok o) = record { acts = New o Plain [] ∷ []; did = d; is = inl (o, refl, refl, refl); grounds = tt } in
+      let y : Ran q r f g (added c last t o) (Ok h) = record { acts = LocalPut h.index o ∷ []; did = e; is = (h, refl, refl, a); grounds = tt } in
+      roomy f room (ran_then {next = added c last t} o x y)
+
+module _ {S : Type 0} {stands : S → Standing} {knows : S → Known → Type 0} where
+  room_at : {a : S} {t : Table} (h : Handle) → IsReady stands knows Within a t → IsNext t h → nat_lt (free_places (stands a).last t.frames) 1 ≡ false
+  room_at {t = t} h r next = subst (λ n. nat_lt (free_places n t.frames) 1 ≡ false) r.last (free_room t.last t.frames h.index next.place next.free)
+
+module _ {S : Type 0} {stands : S → Standing} {knows : S → Known → Type 0} {a b : S} where
+  module _ {kind : Kind} {o : ℕ} (p : Published stands knows a b kind (Some o)) (some : MayKnow knows a anything) where
+    -- the object that was published may be stored
+    pub may_put : MayKnow knows b (HasOptional (Some o))
+    may_put = ∥∥₁_map some (λ k. let x = p.did k.0 k.1 in (x.0, x.1, x.2))
+
+    -- an object's number is not 0
+    pub published_number : o ≢ 0
+    published_number is =
+        let each : ((k : Known) × knows a k × anything k) → ⊥ = λ k. let n = (one_act (New o kind []) (p.did k.0 k.1).3).needs.1.1 in omega arith in
+        ∥∥₁_elim {P = ⊥} some (hlevel) each
+
+  module _ {t : Table} {h : Handle} (r : IsReady stands knows Within a t) (next : IsNext t h) where
+    pub makes_full : {e : Fault} (fits : (s : S) (k : Known) → knows s k → IsOf (stands s) k) (answer : Result Handle Fault) → IsErrAnd answer (λ y. y ≡ e) → (e ≡ ObjectsFull) × Published stands knows a b Plain None
+        → Calls stands knows a b t.frames t.frames (making (stands a).config (stands a).last (stands a).thread) answer
+    makes_full fits answer given why = let p = why.1 in handed_on answer (subst (λ y. IsErrAnd answer (λ z. z ≡ y)) why.0 given) (record {
+      stands_is = p.stands_is;
+      ran = λ k s m.
+          let x = p.did k s in
+          let full : ObjectsWereFull (view k) (view x.0) = sometime_last x.3.begins (λ o l n. x.2 o l (subst (λ (c : Config). o ≤ c.objects) (fits a k s).config n)) in
+          (x.0, x.1, full_ran (stands a).config (stands a).last (stands a).thread t.frames (room_at h r next) full x.3, holds_did k x.0 t.frames [] x.3 tt m);
+    })
+
+    pub makes : {c : S} {o : ℕ} {g : Frames} → Published stands knows a b Plain (Some o) → Took stands knows b c (LocalPut h.index o ∷ []) (HasOptional (Some o)) nothing
+        → IsAdded t.last t.thread t.frames (record { handle = h; object = o }) g → IsOnly t.frames h.index (Some o) g
+        → Calls stands knows a c t.frames g (making (stands a).config (stands a).last (stands a).thread) (Ok h)
+    makes {o = o} {g = g} p u added only = record {
+      stands_is = u.stands_is ∙ p.stands_is;
+      ran = λ k s m.
+          let x = p.did k s in
+          let y = u.goes x.0 x.1 x.2 in
+          let d = goes_did y.2 in
+          let here = subst (λ n. IsAdded n (stands a).thread t.frames (record { handle = h; object = o }) g) r.last (subst (λ n. IsAdded t.last n t.frames (record { handle = h; object = o }) g) r.owner added) in
+          (
+            y.0,
+            y.1,
+            made_ran (stands a).config (stands a).last (stands a).thread h o (room_at h r next) x.3 d here,
+            holds_put x.0 y.0 t.frames g h.index (Some o) d only (holds_did k x.0 t.frames (New o Plain [] ∷ []) x.3 (refl, tt) m),
+          );
+    }
