@@ -1,0 +1,6 @@
+pub mod Limits
+pub mod InRoom
+pub mod SlotWords
+pub mod Images
+pub mod Turns
+pub mod GateTurns
