@@ -4,3 +4,5 @@ pub mod SlotWords
 pub mod Images
 pub mod Turns
 pub mod GateTurns
+pub mod Looked
+pub mod Slots
