@@ -6,3 +6,5 @@ pub mod Turns
 pub mod GateTurns
 pub mod Looked
 pub mod Slots
+pub mod SlotTurns
+pub mod LostClaims
