@@ -8,3 +8,7 @@ pub mod Looked
 pub mod Slots
 pub mod SlotTurns
 pub mod LostClaims
+pub mod LocalTurns
+pub mod PlainTook
+pub mod PlainTurns
+pub mod PlainSlots

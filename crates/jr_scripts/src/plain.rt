@@ -6,7 +6,9 @@ ghost use Rattle.jr_word.specs.Config.{in_limits};
 ghost use Rattle.jr_word.specs.Gate.{gate_word, IsGate};
 ghost use Rattle.jr_word.specs.Slot.{slot_word, IsSlot};
 ghost use Rattle.jr_model.specs.declared.event.Role.TheVariants.{Outside};
-ghost use Rattle.jr_scripts.specs.Image.{row_words, slot_at};
+ghost use Rattle.jr_model.specs.History.{role_after};
+ghost use Rattle.jr_scripts.specs.Acts.{entered_as};
+ghost use Rattle.jr_scripts.specs.Image.{row_words, slot_at, local_parts as parts_of_local};
 ghost use Rattle.jr_scripts.specs.Knowing.{anything, MayKnow};
 ghost use Rattle.jr_scripts.specs.Plain.{standing, Shows, CanStand, IsReference, freed};
 
@@ -71,12 +73,20 @@ impl<const LAST: u16> PlainSteps<LAST> {
         })
     }
 
+    /// The word at a place of the row.
+    fn word(&self, at: usize) -> u64
+        requires { at < vec_len self.now.words }
+        ensures { result ≡ slice_index self.now.words.items at }
+    {
+        self.words[at]
+    }
+
     /// What the word of a slot says.
     fn slot(&self, index: u16) -> SlotParts
         requires { index < self.now.config.slots }
         ensures { IsSlot result × (slice_index self.now.words.items (slot_at index) ≡ slot_word result) }
     {
-        SlotWord::parts(self.words[SLOTS + index as usize]).unwrap()
+        SlotWord::parts(self.word(SLOTS + index as usize)).unwrap()
     }
 }
 
@@ -90,6 +100,17 @@ fn is_shut(word: u64) -> bool
     )
 }
 
+/// The role of a thread whose entry went in, or did not.
+fn role_of_entry(entered: bool) -> Role
+    ensures { result ≡ role_after Outside (entered_as entered) }
+{
+    if entered {
+        Role::Within
+    } else {
+        Role::Knocking
+    }
+}
+
 /// What the word of a slot says in which a reference stands.
 fn reference(kind: RefKind, serial: u16, object: Option<u16>) -> SlotParts
     requires { CanStand kind object }
@@ -99,6 +120,16 @@ fn reference(kind: RefKind, serial: u16, object: Option<u16>) -> SlotParts
         (RefKind::Global, Some(object)) => SlotParts::Global { serial, object },
         (RefKind::Weak, object) => SlotParts::Weak { serial, object },
         _ => unreachable!(),
+    }
+}
+
+/// What the word of a place for a local reference says.
+fn local_parts(object: Option<u16>) -> LocalParts
+    ensures { result ≡ parts_of_local object }
+{
+    match object {
+        Some(object) => LocalParts::Object(object),
+        None => LocalParts::Free,
     }
 }
 
@@ -133,15 +164,16 @@ impl<const LAST: u16> Steps for PlainSteps<LAST> {
     }
 
     fn go_in(&mut self) -> bool {
-        let found = self.words[GATE];
-        self.words[GATE] = found + 1;
+        let found = self.word(GATE);
         let entered = !is_shut(found);
-        self.role = if entered { Role::Within } else { Role::Knocking };
+        self.words[GATE] = found + 1;
+        self.role = role_of_entry(entered);
         entered
     }
 
     fn go_out(&mut self) {
-        self.words[GATE] -= 1;
+        let found = self.word(GATE);
+        self.words[GATE] = found - 1;
         self.role = Role::Outside;
     }
 
@@ -158,7 +190,7 @@ impl<const LAST: u16> Steps for PlainSteps<LAST> {
     ) -> Result<(), SlotParts> {
         let at = SLOTS + index as usize;
         let looked = SlotWord::pack(SlotParts::Free { serial });
-        if self.words[at] != looked.0 {
+        if self.word(at) != looked.0 {
             return Err(self.slot(index));
         }
         self.words[at] = SlotWord::pack(reference(kind, serial, Some(object))).0;
@@ -168,7 +200,7 @@ impl<const LAST: u16> Steps for PlainSteps<LAST> {
     fn free(&mut self, handle: HandleParts, object: Option<u16>) -> bool {
         let at = SLOTS + handle.index as usize;
         let looked = SlotWord::pack(reference(handle.kind, handle.serial, object));
-        if self.words[at] != looked.0 {
+        if self.word(at) != looked.0 {
             return false;
         }
         self.words[at] = SlotWord::pack(freed_slot(handle.serial, LAST)).0;
@@ -177,17 +209,13 @@ impl<const LAST: u16> Steps for PlainSteps<LAST> {
 
     fn put_local(&mut self, place: u16, object: Option<u16>) {
         let at = SLOTS + self.config.slots as usize + place as usize;
-        let parts = match object {
-            Some(object) => LocalParts::Object(object),
-            None => LocalParts::Free,
-        };
-        self.words[at] = LocalWord::pack(parts).0;
+        self.words[at] = LocalWord::pack(local_parts(object)).0;
     }
 
     fn claim_header(&mut self, object: u16, header: HeaderParts) -> bool {
         let locals = self.config.threads as usize * self.config.locals as usize;
         let at = SLOTS + self.config.slots as usize + locals + (object as usize - 1);
-        if self.words[at] != 0 {
+        if self.word(at) != 0 {
             return false;
         }
         self.words[at] = Header::pack(header).0;
