@@ -12,3 +12,4 @@ pub mod LocalTurns
 pub mod PlainTook
 pub mod PlainTurns
 pub mod PlainSlots
+pub mod PlainPlaces

@@ -1,5 +1,5 @@
 -- A step over plain words: what its kind of step owes is enough.
-use Rattle.std.proofs.Common.{◌≡◌, ◌<◌, ◌≤◌, ◌^◌, ℕ, List, [], ◌∷◌, ◌++◌, map, refl, sym, ap, subst, ◌∙◌}
+use Rattle.std.proofs.Common.{◌≡◌, ◌<◌, ◌≤◌, ◌^◌, ℕ, List, [], ◌∷◌, ◌++◌, map, slice_set, refl, sym, ap, subst, ◌∙◌}
 use Rattle.std.proofs.Math.Logic.{∥∥₁_elim}
 use Rattle.std.proofs.Props.{props}
 use Rattle.std.proofs.lemmas.List.{append-nil}
@@ -45,6 +45,11 @@ shows_then s words words' k acts shows turn = record {
 pub record Turned (old : Standing) (words : List ℕ) (new : Standing) (words' : List ℕ) (acts : List Act) (met : Known → Type 0) (shows : Known → Known → Type 0) : Type 0 where
   pub stands_is : new ≡ moved old acts
   pub turn : (k : Known) → Shows old words k → met k → Turn k.config k.last k.seen k.thread acts words' × shows k (known_then k acts)
+
+-- the same with the number that was written named otherwise
+pub writes : {old new : Standing} {words : List ℕ} {acts : List Act} {met : Known → Type 0} {shows : Known → Known → Type 0} (i m n : ℕ) → n ≡ m
+    → Turned old words new (slice_set words i m) acts met shows → Turned old words new (slice_set words i n) acts met shows
+writes {old} {new} {words} {acts} {met} {shows} i m n e t = subst (λ z. Turned old words new (slice_set words i z) acts met shows) (sym e) t
 
 module _ {old new : Standing} {words words' : List ℕ} {acts : List Act} {met : Known → Type 0} {shows : Known → Known → Type 0} (t : Turned old words new words' acts met shows) where
   shown_next : (k : Known) → Shows old words k → met k → Shows new words' (known_then k acts)

@@ -15,7 +15,7 @@ returns g c =
     let few = few_of g.row.LAST s (omega arith) in
     let least = gate_some s.config g.row.LAST few s.role s.words.items c.requires s.shown in
     let e : c.word-found.result ≡ get_or s.words.items 0 0 = c.word-found.ensures in
-    took g.row.LAST s _ (left s.config g.row.LAST few s.role s.words.items _ (omega arith) c.requires)
+    took g.row.LAST s _ (left s.config g.row.LAST few s.role s.words.items (c.word-found.result - 1) (omega arith) c.requires)
 
 pub invariant_of-self-clause-shown : goal.invariant_of-self-clause-shown
 invariant_of-self-clause-shown g c =
