@@ -1,0 +1,236 @@
+//! The steps of one thread over a plain vector of words. No history is stored.
+ghost use Rattle.std.specs.Prelude.{◌≡◌, ◌≢◌, ◌⊎◌, ◌↔◌, ◌<◌, ◌≤◌, vec_len, slice_index, true, false, IfOk, IfErr, Ok, Err};
+ghost use Rattle.jr_word.specs.declared.fault.Fault.TheVariants.{Memory, Size};
+ghost use Rattle.jr_word.specs.declared.gate.GateParts.{GateParts as Gates};
+ghost use Rattle.jr_word.specs.Config.{in_limits};
+ghost use Rattle.jr_word.specs.Gate.{gate_word, IsGate};
+ghost use Rattle.jr_word.specs.Slot.{slot_word, IsSlot};
+ghost use Rattle.jr_model.specs.declared.event.Role.TheVariants.{Outside};
+ghost use Rattle.jr_model.specs.History.{role_after};
+ghost use Rattle.jr_scripts.specs.Acts.{entered_as};
+ghost use Rattle.jr_scripts.specs.Image.{row_words, slot_at, local_parts as parts_of_local};
+ghost use Rattle.jr_scripts.specs.Knowing.{anything, MayKnow};
+ghost use Rattle.jr_scripts.specs.Plain.{standing, Shows, CanStand, IsReference, freed};
+
+use crate::steps::{Naming, Steps};
+use jr_model::Role;
+use jr_word::{
+    Config, Fault, GateParts, GateWord, HandleParts, Header, HeaderParts, LocalParts, LocalWord,
+    RefKind, SlotParts, SlotWord,
+};
+use std::alloc::Global;
+
+/// The word of the gate.
+const GATE: usize = 0;
+
+/// The word of the first slot.
+const SLOTS: usize = 2;
+
+/// The steps of thread 0 over a row of plain words, with `LAST` as the last serial.
+#[derive(Drop)]
+pub struct PlainSteps<const LAST: u16> {
+    pub words: Vec<u64>,
+    pub config: Config,
+    pub role: Role,
+    ghost threads: { (1 ≤ config.threads) × (config.threads ≤ 64) },
+    ghost slots: { config.slots ≤ 65536 },
+    ghost objects: { config.objects ≤ 65535 },
+    ghost locals: { config.locals ≤ 4096 },
+    ghost wide: { vec_len words ≡ row_words config },
+    ghost shown: { MayKnow (Shows (standing config LAST role)) words.items anything },
+}
+
+/// How many words the row of a room has.
+fn words_of(config: &Config) -> usize
+    requires { in_limits config.now ≡ true }
+    ensures { result ≡ row_words config.now }
+{
+    let locals = config.threads as usize * config.locals as usize;
+    SLOTS + config.slots as usize + locals + config.objects as usize
+}
+
+impl<const LAST: u16> PlainSteps<LAST> {
+    ghost use Rattle.jr_scripts.specs.declared.steps.Known.{Known};
+    ghost use Rattle.jr_scripts.specs.Knowing.{HasNoLocals};
+
+    /// The steps over a row of zeros: E16, E17.
+    pub fn new(alloc: Global, config: Config) -> Result<Self, Fault>
+        ensures size { (result ≡ Err Size) ↔ (in_limits config ≡ false) }
+        ensures memory { IfErr result (λ e. (e ≡ Size) ⊎ (e ≡ Memory)) }
+        ensures room { IfOk result (λ s. (s.config ≡ config) × (s.role ≡ Outside)) }
+        ensures fresh { IfOk result (λ s. (k : Known) → Shows (standing config LAST Outside) s.words.items k → HasNoLocals k) }
+    {
+        if !config.in_limits() {
+            return Err(Fault::Size);
+        }
+        let Ok(words) = vec![in alloc; 0u64; words_of(&config)] else {
+            return Err(Fault::Memory);
+        };
+        Ok(PlainSteps {
+            words,
+            config,
+            role: Role::Outside,
+        })
+    }
+
+    /// The word at a place of the row.
+    fn word(&self, at: usize) -> u64
+        requires { at < vec_len self.now.words }
+        ensures { result ≡ slice_index self.now.words.items at }
+    {
+        self.words[at]
+    }
+
+    /// What the word of a slot says.
+    fn slot(&self, index: u16) -> SlotParts
+        requires { index < self.now.config.slots }
+        ensures { IsSlot result × (slice_index self.now.words.items (slot_at index) ≡ slot_word result) }
+    {
+        SlotWord::parts(self.word(SLOTS + index as usize)).unwrap()
+    }
+}
+
+/// Whether the word of a gate is that of a shut one.
+fn is_shut(word: u64) -> bool
+    ensures { (parts : Gates) → IsGate parts → word ≡ gate_word parts → result ≡ parts.shut }
+{
+    matches!(
+        GateWord::parts(word),
+        Some(GateParts { shut: true, .. })
+    )
+}
+
+/// The role of a thread whose entry went in, or did not.
+fn role_of_entry(entered: bool) -> Role
+    ensures { result ≡ role_after Outside (entered_as entered) }
+{
+    if entered {
+        Role::Within
+    } else {
+        Role::Knocking
+    }
+}
+
+/// What the word of a slot says in which a reference stands.
+fn reference(kind: RefKind, serial: u16, object: Option<u16>) -> SlotParts
+    requires { CanStand kind object }
+    ensures { IsReference kind serial object result }
+{
+    match (kind, object) {
+        (RefKind::Global, Some(object)) => SlotParts::Global { serial, object },
+        (RefKind::Weak, object) => SlotParts::Weak { serial, object },
+        _ => unreachable!(),
+    }
+}
+
+/// What the word of a place for a local reference says.
+fn local_parts(object: Option<u16>) -> LocalParts
+    ensures { result ≡ parts_of_local object }
+{
+    match object {
+        Some(object) => LocalParts::Object(object),
+        None => LocalParts::Free,
+    }
+}
+
+/// What the word of a slot says once its reference of the serial is deleted.
+fn freed_slot(serial: u16, last: u16) -> SlotParts
+    ensures { result ≡ freed last serial }
+{
+    if serial < last {
+        SlotParts::Free { serial: serial + 1 }
+    } else {
+        SlotParts::Retired { serial: last }
+    }
+}
+
+impl<const LAST: u16> Steps for PlainSteps<LAST> {
+    ghost use Rattle.std.proofs.Common.{lit<};
+
+    ghost stands = { λ s. standing s.config LAST s.role };
+
+    ghost knows = { λ s k. Shows (standing s.config LAST s.role) s.words.items k };
+
+    fn config(&self) -> Config {
+        self.config
+    }
+
+    fn thread(&self) -> u8 {
+        0
+    }
+
+    fn last(&self) -> u16 {
+        LAST
+    }
+
+    fn go_in(&mut self) -> bool {
+        let found = self.word(GATE);
+        let entered = !is_shut(found);
+        self.words[GATE] = found + 1;
+        self.role = role_of_entry(entered);
+        entered
+    }
+
+    fn go_out(&mut self) {
+        let found = self.word(GATE);
+        self.words[GATE] = found - 1;
+        self.role = Role::Outside;
+    }
+
+    fn see_slot(&mut self, index: u16, _name: Naming) -> SlotParts {
+        self.slot(index)
+    }
+
+    fn claim(
+        &mut self,
+        index: u16,
+        serial: u16,
+        kind: RefKind,
+        object: u16,
+    ) -> Result<(), SlotParts> {
+        let at = SLOTS + index as usize;
+        let looked = SlotWord::pack(SlotParts::Free { serial });
+        if self.word(at) != looked.0 {
+            return Err(self.slot(index));
+        }
+        self.words[at] = SlotWord::pack(reference(kind, serial, Some(object))).0;
+        Ok(())
+    }
+
+    fn free(&mut self, handle: HandleParts, object: Option<u16>) -> bool {
+        let at = SLOTS + handle.index as usize;
+        let looked = SlotWord::pack(reference(handle.kind, handle.serial, object));
+        if self.word(at) != looked.0 {
+            return false;
+        }
+        self.words[at] = SlotWord::pack(freed_slot(handle.serial, LAST)).0;
+        true
+    }
+
+    fn put_local(&mut self, place: u16, object: Option<u16>) {
+        let at = SLOTS + self.config.slots as usize + place as usize;
+        self.words[at] = LocalWord::pack(local_parts(object)).0;
+    }
+
+    fn claim_header(&mut self, object: u16, header: HeaderParts) -> bool {
+        let locals = self.config.threads as usize * self.config.locals as usize;
+        let at = SLOTS + self.config.slots as usize + locals + (object as usize - 1);
+        if self.word(at) != 0 {
+            return false;
+        }
+        self.words[at] = Header::pack(header).0;
+        true
+    }
+
+    ghost fits = { λ s k h. h.pass };
+
+    ghost some_known = { λ s. s.shown };
+
+    ghost few_slots = { λ s. s.slots };
+
+    ghost few_objects = { λ s. s.objects };
+
+    ghost few_locals = { λ s. s.locals };
+
+    ghost few_threads = { λ s. lit< tt };
+}
