@@ -1,5 +1,6 @@
 pub mod Trying
 pub mod Doing
+pub mod CommandDeeds
 pub mod Going
 pub mod Alone
 pub mod WholeRun

@@ -1,15 +1,19 @@
 -- A script of one thread, from the opening state to the last line.
 use Rattle.std.proofs.Common.{◌≡◌, ℕ, List, [], ◌++◌, Result, Ok, refl, sym, ap, subst, ◌∙◌}
 use Rattle.jr_word.specs.declared.config.Config.{Config}
+use Rattle.jr_word.specs.declared.fault.Fault.{Fault}
+use Rattle.jr_model.specs.declared.event.Role.TheVariants.{Outside}
 use Rattle.jr_model.specs.declared.summary.Summary.{Summary}
 use Rattle.jr_model.specs.State.{summary}
 use Rattle.jr_model.specs.History.{History, PassView, IsLegal, state}
 use Rattle.jr_model.specs.Frames.{Frames, fresh_frames}
+use Rattle.jr_syntax.specs.declared.command.Command.{Command}
 use Rattle.jr_syntax.specs.declared.thread.ThreadPart.{ThreadPart}
 use Rattle.jr_scripts.specs.declared.steps.Known.{Known}
 use Rattle.jr_scripts.specs.Knowing.{Standing, IsOf, view, Holds}
 use Rattle.jr_scripts.specs.Deeds.{Moment, moment}
-use Rattle.jr_scripts.specs.Plain.{opening_of}
+use Rattle.jr_scripts.specs.declared.plain.PlainSteps.{PlainSteps}
+use Rattle.jr_scripts.specs.Plain.{opening_of, standing, Shows}
 use Rattle.jr_scripts.specs.Text.{heading, ending}
 use Rattle.jr_scripts.specs.Explains.{Explained}
 use Rattle.jr_scripts.specs.Runs.{RanThread, IsRun, seeing, opening_moment}
@@ -54,3 +58,21 @@ module _ {S : Type 0} {stands : S → Standing} {knows : S → Known → Type 0}
         explained = subst (λ (p : PassView). Explained turns 3 (opening_moment c last) part.commands lines (record { pass = p; frames = g })) (same_view c last k config_of last_of thread_of) from;
         text_is = whole_is ∙ ap (λ s. heading part.name ++ lines ++ ending s) sum;
       }
+
+-- the same over plain steps
+pub plain_run : {old new : PlainSteps 65535} {f g : Frames} {commands : List Command} {answer : Result (Unit {0}) Fault} (turns : ℕ) (c : Config) (part : ThreadPart) (lines whole : List ℕ) (v : Summary) (made : PlainSteps 65535)
+    → c.threads ≡ 1 → made.config ≡ c → made.role ≡ Outside → Shows (standing c 65535 Outside) made.words.items (opening_of c 65535)
+    → old ≡ made → f ≡ fresh_frames made.config.locals
+    → commands ≡ part.commands → answer ≡ Ok tt
+    → RanThread (λ s. standing s.config 65535 s.role) (λ s k. Shows (standing s.config 65535 s.role) s.words.items k) old new f g turns 3 commands answer lines
+    → ((k : Known) → Shows (standing new.config 65535 new.role) new.words.items k → v ≡ summary k.config k.last (state k.seen))
+    → whole ≡ heading part.name ++ lines ++ ending v
+    → IsRun turns 65535 c part whole
+plain_run {old} {new} {f} {g} {commands} turns c part lines whole v made one config_is role_is opening same fresh these good ran tells whole_is =
+    let known : Shows (standing old.config 65535 old.role) old.words.items (opening_of c 65535)
+    = subst (λ (s : PlainSteps 65535). Shows (standing s.config 65535 s.role) s.words.items (opening_of c 65535)) (sym same)
+        (subst (λ d. Shows (standing d 65535 made.role) made.words.items (opening_of c 65535)) (sym config_is)
+        (subst (λ r. Shows (standing c 65535 r) made.words.items (opening_of c 65535)) (sym role_is) opening)) in
+    let Leads : List Command → Result (Unit {0}) Fault → Type 0
+    = λ cs r. RanThread (λ (s : PlainSteps 65535). standing s.config 65535 s.role) (λ s k. Shows (standing s.config 65535 s.role) s.words.items k) old new f g turns 3 cs r lines in
+    is_run (λ s k h. h.pass) turns 65535 c part lines whole v one (ap (λ (s : PlainSteps 65535). s.config) same ∙ config_is) refl refl known (fresh ∙ ap (λ d. fresh_frames d.locals) config_is) (subst (λ cs. Leads cs (Ok tt)) these (subst (Leads commands) good ran)) tells whole_is

@@ -13,3 +13,5 @@ pub mod Commands
 pub mod Text
 pub mod Explains
 pub mod Runs
+pub mod Image
+pub mod Plain

@@ -9,6 +9,7 @@ pub mod gate;
 mod names;
 pub mod object;
 mod perform;
+pub mod plain;
 mod printed;
 pub mod reference;
 pub mod resolve;

@@ -1,7 +1,7 @@
 use Rattle.std.proofs.Common.{rules, ◌≡◌, Err, subst, sym}
 use Rattle.jr_scripts.specs.Commands.{deed}
 use Rattle.jr_scripts.specs.Deeds.{Does}
-use Rattle.jr_scripts.proofs.Doing.{does_global_err, does_drop_err}
+use Rattle.jr_scripts.proofs.CommandDeeds.{does_global_err, does_drop_err}
 use Rattle.jr_scripts.proofs.perform.perform.Goals as goal
 
 pub returns-in_err-handle-in-Global : goal.returns-in_err-handle-in-Global

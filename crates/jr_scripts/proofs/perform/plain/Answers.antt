@@ -1,5 +1,5 @@
 use Rattle.std.proofs.Common.{rules}
-use Rattle.jr_scripts.proofs.Doing.{does_calls}
+use Rattle.jr_scripts.proofs.CommandDeeds.{does_calls}
 use Rattle.jr_scripts.proofs.perform.plain.Goals as goal
 
 pub returns : goal.returns
