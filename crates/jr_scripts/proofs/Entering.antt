@@ -1,5 +1,6 @@
 -- A call between an entry and its exit.
 use Rattle.std.proofs.Common.{◌≡◌, ℕ, List, [], ◌∷◌, Result, Ok, Err, length, inl, refl, sym, ap, subst, ◌∙◌}
+use Rattle.std.proofs.lemmas.List.{length-replicate}
 use mathlib.Core.Logic.{∥∥₁_map}
 use Rattle.std.specs.Result.{IsErrAnd}
 use Rattle.jr_word.specs.declared.config.Config.{Config}
@@ -8,12 +9,12 @@ use Rattle.jr_word.specs.declared.fault.Fault.TheVariants.{Barred}
 use Rattle.jr_model.specs.declared.event.Role.{Role}
 use Rattle.jr_model.specs.declared.event.Role.TheVariants.{Outside, Within}
 use Rattle.jr_model.specs.declared.event.Act.TheVariants.{Enter, Knock, Leave, Withdraw}
-use Rattle.jr_model.specs.Frames.{Frames}
+use Rattle.jr_model.specs.Frames.{Frames, fresh_frames, object_at}
 use Rattle.jr_model.specs.Calls.{Call, entered}
 use Rattle.jr_model.proofs.Runs.{ran_entered}
 use Rattle.jr_scripts.specs.declared.steps.Known.{Known}
 use Rattle.jr_scripts.specs.Table.{Table}
-use Rattle.jr_scripts.specs.Knowing.{Standing, moved, anything, nothing, Holds, Took, Acted}
+use Rattle.jr_scripts.specs.Knowing.{Standing, moved, anything, nothing, HasNoLocals, MayKnow, Took, Acted}
 use Rattle.jr_scripts.specs.Performing.{Calls}
 use Rattle.jr_scripts.specs.Ready.{IsReady, KeepsOwner, Completes}
 use Rattle.jr_scripts.proofs.Known.{goes_did, holds_did}
@@ -26,6 +27,9 @@ same_owner t = record { thread = refl; last = refl; places = refl }
 abbrev with_role : Standing → Role → Standing
 with_role s r = record { config = s.config; last = s.last; thread = s.thread; role = r }
 
+abbrev fresh_table : Standing → Table
+fresh_table s = record { frames = fresh_frames s.config.locals; thread = s.thread; last = s.last }
+
 module _ {S : Type 0} {stands : S → Standing} {knows : S → Known → Type 0} where
   -- after a call the frames are as ready as before
   ready_after : {A : Type 0} {a b : S} {t u : Table} {role : Role} {work : Call A} {answer : Result A Fault} → IsReady stands knows role a t → KeepsOwner t u → Calls stands knows a b t.frames u.frames work answer → IsReady stands knows role b u
@@ -35,6 +39,16 @@ module _ {S : Type 0} {stands : S → Standing} {knows : S → Known → Type 0}
     last = o.last ∙ (r.last ∙ sym (ap (λ (s : Standing). s.last) p.stands_is));
     places = o.places ∙ (r.places ∙ sym (ap (λ (s : Standing). s.config.locals) p.stands_is));
     agrees = ∥∥₁_map r.agrees (λ k. let x = p.ran k.0 k.1 k.2 in (x.0, x.1, x.3));
+  }
+
+  -- a thread without local references
+  pub ready_new : (a : S) (t : Table) → t ≡ fresh_table (stands a) → (stands a).role ≡ Outside → ((k : Known) → knows a k → HasNoLocals k) → MayKnow knows a anything → IsReady stands knows Outside a t
+  ready_new a t is out fresh some = record {
+    role_is = out;
+    owner = ap (λ (u : Table). u.thread) is;
+    last = ap (λ (u : Table). u.last) is;
+    places = ap (λ (u : Table). length u.frames.given) is ∙ length-replicate (stands a).config.locals 0;
+    agrees = ∥∥₁_map some (λ k. (k.0, k.1, λ p. fresh k.0 k.1 p ∙ sym (ap (λ (u : Table). object_at u.frames p) is)));
   }
 
   pub ready_entered : {a b : S} {t : Table} → IsReady stands knows Outside a t → Took stands knows a b (Enter ∷ []) anything nothing → IsReady stands knows Within b t
