@@ -13,3 +13,4 @@ pub mod PlainTook
 pub mod PlainTurns
 pub mod PlainSlots
 pub mod PlainPlaces
+pub mod Zeros
