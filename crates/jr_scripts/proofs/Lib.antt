@@ -37,3 +37,4 @@ pub mod PlainTook
 pub mod PlainTurns
 pub mod PlainSlots
 pub mod PlainPlaces
+pub mod Zeros

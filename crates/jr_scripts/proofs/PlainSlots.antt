@@ -72,11 +72,6 @@ reference_fits kind n o (slot.Global m r) is l some = let x = some r is.2 in let
 reference_fits kind n o (slot.Weak m None) is l some = let e = is.1 in record { serial = omega arith; object = omega arith; names = tt }
 reference_fits kind n o (slot.Weak m (Some r)) is l some = let x = some r is.2 in let e = is.1 in record { serial = omega arith; object = x.1; names = x.0 }
 
-pub can_stand : (kind : RefKind) (o : ℕ) → kind ≢ Local → CanStand kind (Some o)
-can_stand Local o ne = ne refl
-can_stand Global o ne = tt
-can_stand Weak o ne = tt
-
 can_prop : (kind : RefKind) (o : Option ℕ) → IsProp (CanStand kind o)
 can_prop Local o = hlevel props
 can_prop Global None = hlevel props

@@ -1,5 +1,5 @@
 -- What plain words show: any history whose image they are.
-use Rattle.std.specs.Prelude.{◌≡◌, ℕ, ◌+◌, nat_lt, if◌then◌else◌, Option, Some, None, List}
+use Rattle.std.specs.Prelude.{◌≡◌, ℕ, ◌+◌, nat_lt, if◌then◌else◌, Option, Some, None, List, []}
 use Rattle.jr_word.specs.declared.config.Config.{Config}
 use Rattle.jr_word.specs.declared.handle.RefKind.{RefKind}
 use Rattle.jr_word.specs.declared.handle.RefKind.TheVariants.{Local, Global, Weak}
@@ -13,6 +13,10 @@ use Rattle.jr_scripts.specs.Image.{IsImage}
 -- the one thread of the row: thread 0
 abbrev pub standing : Config → ℕ → Role → Standing
 standing c last role = record { config = c; last = last; thread = 0; role = role }
+
+-- what is known where nothing has happened yet
+abbrev pub unseen : Config → ℕ → Known
+unseen config last = record { config = config; last = last; thread = 0; seen = [] }
 
 -- the words are the image of the history
 pub record Shows (s : Standing) (words : List ℕ) (k : Known) : Type 0 where

@@ -52,13 +52,15 @@ fn words_of(config: &Config) -> usize
 impl<const LAST: u16> PlainSteps<LAST> {
     ghost use Rattle.jr_scripts.specs.declared.steps.Known.{Known};
     ghost use Rattle.jr_scripts.specs.Knowing.{HasNoLocals};
+    ghost use Rattle.jr_scripts.specs.Plain.{unseen};
 
     /// The steps over a row of zeros: E16, E17.
     pub fn new(alloc: Global, config: Config) -> Result<Self, Fault>
         ensures size { (result ≡ Err Size) ↔ (in_limits config ≡ false) }
         ensures memory { IfErr result (λ e. (e ≡ Size) ⊎ (e ≡ Memory)) }
         ensures room { IfOk result (λ s. (s.config ≡ config) × (s.role ≡ Outside)) }
-        ensures fresh { IfOk result (λ s. (k : Known) → Shows (standing config LAST Outside) s.words.items k → HasNoLocals k) }
+        ensures fresh { IfOk result (λ s. Shows (standing config LAST Outside) s.words.items (unseen config LAST)) }
+        ensures locals { IfOk result (λ s. (k : Known) → Shows (standing config LAST Outside) s.words.items k → HasNoLocals k) }
     {
         if !config.in_limits() {
             return Err(Fault::Size);

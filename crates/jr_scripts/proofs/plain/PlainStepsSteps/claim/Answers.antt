@@ -2,7 +2,7 @@ use Rattle.std.proofs.Common.{◌≡◌, ◌≢◌, ◌<◌, ◌∙◌, ℕ, Som
 use Rattle.jr_word.specs.Slot.{slot_word}
 use Rattle.jr_scripts.specs.Image.{slot_at}
 use Rattle.jr_scripts.proofs.PlainTook.{few_of, took, shown, writes}
-use Rattle.jr_scripts.proofs.PlainSlots.{claimed, lost, object_some, can_stand, names_object}
+use Rattle.jr_scripts.proofs.PlainSlots.{claimed, lost, object_some, names_object}
 use Rattle.jr_scripts.proofs.plain.PlainStepsSteps.claim.Goals as goal
 
 pub returns-then-word-looked : goal.returns-then-word-looked
@@ -11,9 +11,6 @@ returns-then-word-looked g c =
     took g.row.LAST s s
     (lost s.config g.row.LAST (few_of g.row.LAST s (omega arith)) s.role s.words.items c.args.index c.args.serial c.args.kind c.args.object c.slot.result c.requires.row c.slot.ensures.0 c.slot.ensures.1
     (λ e. c.if-word-looked.true (c.word.ensures ∙ (e ∙ sym c.pack-looked.ensures))) c.requires.role)
-
-pub reference-requires : goal.reference-requires
-reference-requires g c = can_stand c.args.kind c.args.object c.requires.kind
 
 pub pack-requires : goal.pack-requires
 pack-requires g c =
