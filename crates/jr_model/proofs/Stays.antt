@@ -47,12 +47,12 @@ role_is_own s (e ∷ es) t =
 pub role_of_state : (es : History) (t : ℕ) → (state es).role t ≡ role_from Outside (mine es t)
 role_of_state es t = role_is_own opening es t
 
--- events among which t does not leave
-pub no_leave : (es : History) (t : ℕ) → AllByRecursion (λ a. a ≢ Leave) (mine es t) → AllByRecursion (λ e. e ≢ by t Leave) es
-no_leave [] t h = tt
-no_leave (e ∷ es) t h = go (e.thread == t) refl h (no_leave es t)
+-- events among which t never does x
+pub never : (x : Act) (es : History) (t : ℕ) → AllByRecursion (λ a. a ≢ x) (mine es t) → AllByRecursion (λ e. e ≢ by t x) es
+never x [] t h = tt
+never x (e ∷ es) t h = go (e.thread == t) refl h (never x es t)
   where
-    go : (b : Bool) → (e.thread == t) ≡ b → AllByRecursion (λ a. a ≢ Leave) (cond b (e.act ∷ mine es t) (mine es t)) → (AllByRecursion (λ a. a ≢ Leave) (mine es t) → AllByRecursion (λ f. f ≢ by t Leave) es) → AllByRecursion (λ f. f ≢ by t Leave) (e ∷ es)
+    go : (b : Bool) → (e.thread == t) ≡ b → AllByRecursion (λ a. a ≢ x) (cond b (e.act ∷ mine es t) (mine es t)) → (AllByRecursion (λ a. a ≢ x) (mine es t) → AllByRecursion (λ f. f ≢ by t x) es) → AllByRecursion (λ f. f ≢ by t x) (e ∷ es)
     go true is h rest = (λ p. h.0 (ap (λ (f : Event). f.act) p), rest h.1)
     go false is h rest = (λ p. eq_false e.thread t is (ap (λ (f : Event). f.thread) p), rest h)
 
@@ -168,5 +168,5 @@ still_did {old} {new} acts d w q =
     let both = (legal_append old.config old.last old.seen rest).0 (subst (IsLegal old.config old.last) (sym d.begins.1) d.legal) in
     let own : mine rest old.thread ≡ acts = mine_did acts d in
     let still = still_along old.config old.last old.thread (state old.seen) rest (apart_state old.config old.last old.seen both.0) w
-    (no_leave rest old.thread (subst (AllByRecursion (λ a. a ≢ Leave)) (sym own) q)) both.1 in
+    (never Leave rest old.thread (subst (AllByRecursion (λ a. a ≢ Leave)) (sym own) q)) both.1 in
     subst (IsStill (state old.seen)) (sym (state_append old.seen rest) ∙ ap state d.begins.1) still

@@ -13,6 +13,7 @@ ghost use Rattle.jr_model.specs.Laws.{
   ReadsLastWord,
   LengthsFit,
   GivenOnce,
+  CollectionIsExact,
   FramesStaySound,
   FramesStayAgreed,
   HandleIsAtPlace,
@@ -67,4 +68,9 @@ pub fn frames_agree_with_the_machine()
 /// A reference that was created is found until it is deleted.
 pub fn created_references_are_found()
     ensures { (c : Config) (last : ℕ) → CreatedIsFound c last }
+{}
+
+/// A collection that leaves nothing out clears and drops exactly what is to be, each once. What is reached keeps its kind and elements, and so many words are used as the present objects have.
+pub fn collections_are_exact()
+    ensures { (c : Config) (last : ℕ) → CollectionIsExact c last }
 {}
