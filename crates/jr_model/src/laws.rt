@@ -14,10 +14,17 @@ ghost use Rattle.jr_model.specs.Laws.{
   LengthsFit,
   GivenOnce,
   CollectionIsExact,
+  LegalGoesByStep,
+  ReleaseLeaves,
   FramesStaySound,
   FramesStayAgreed,
   HandleIsAtPlace,
 };
+
+/// A history is legal where its events are steps, one after the other, from the opening state.
+pub fn legal_histories_go_by_steps()
+    ensures { (c : Config) (last : ℕ) → LegalGoesByStep c last }
+{}
 
 /// No deleted handle resolves again, and none is given again.
 pub fn no_deleted_handle_returns()
@@ -73,4 +80,9 @@ pub fn created_references_are_found()
 /// A collection that leaves nothing out clears and drops exactly what is to be, each once. What is reached keeps its kind and elements, and so many words are used as the present objects have.
 pub fn collections_are_exact()
     ensures { (c : Config) (last : ℕ) → CollectionIsExact c last }
+{}
+
+/// Each mode of a release leaves the array that it says, where nobody writes in between.
+pub fn releases_leave_the_array()
+    ensures { ReleaseLeaves }
 {}
