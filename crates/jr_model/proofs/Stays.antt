@@ -8,7 +8,7 @@ use Rattle.jr_model.specs.declared.event.Role.TheVariants.{Outside, Within, Coll
 use Rattle.jr_model.specs.declared.event.Event.{Event}
 use Rattle.jr_model.specs.declared.event.Act.{Act}
 use Rattle.jr_model.specs.declared.event.Act.TheVariants.{Enter, Knock, Leave, Withdraw, Shut, ShutBusy, Reopen, Clear, Reserve, New, Write, Drop, Settle, Meet}
-use Rattle.jr_model.specs.State.{Contents, State, opening}
+use Rattle.jr_model.specs.State.{Contents, State, opening, HaveSameTables}
 use Rattle.jr_model.specs.Steps.{ActNeeds, act_after, after, written}
 use Rattle.jr_model.specs.History.{History, by, state_from, state, IsLegalFrom, IsLegal, mine, PassView, role_of, role_after, role_from, Did}
 use Rattle.jr_model.proofs.Updates.{at_number, eq_false}
@@ -19,7 +19,7 @@ pub append_cancel : {A : Type 0} (xs ys zs : List A) → xs ++ ys ≡ xs ++ zs �
 append_cancel [] ys zs e = e
 append_cancel (x ∷ xs) ys zs e = append_cancel xs ys zs cc
 
-cond_same : {X : Type 0} (b : Bool) (x : X) → x ≡ cond b x x
+pub cond_same : {X : Type 0} (b : Bool) (x : X) → x ≡ cond b x x
 cond_same true x = refl
 cond_same false x = refl
 
@@ -98,15 +98,7 @@ module _ (c : Config) (last : ℕ) where
       (still_act t s e.thread e.act i w l.0.1)
       (still_along t (after s e) es (apart_after c last s e i l.0) r.0 q.1 l.1)
 
-  -- what one thread's collection alone changes
-  pub record IsSameTables (s s' : State) : Type 0 where
-    pub refs : s'.refs ≡ s.refs
-    pub given : s'.given ≡ s.given
-    pub locals : s'.locals ≡ s.locals
-    pub objects : s'.objects ≡ s.objects
-    pub used : s'.used ≡ s.used
-
-  same_act : (t : ℕ) (s : State) (u : ℕ) (a : Act) → IsApart s.role → s.role t ≡ Collecting → u ≢ t → ActNeeds c last s u a → IsSameTables s (act_after s u a)
+  same_act : (t : ℕ) (s : State) (u : ℕ) (a : Act) → IsApart s.role → s.role t ≡ Collecting → u ≢ t → ActNeeds c last s u a → HaveSameTables s (act_after s u a)
   same_act t s u Leave i w ne n = record { refs = refl; given = refl; locals = refl; objects = refl; used = refl }
   same_act t s u Enter i w ne n = record { refs = refl; given = refl; locals = refl; objects = refl; used = refl }
   same_act t s u Knock i w ne n = record { refs = refl; given = refl; locals = refl; objects = refl; used = refl }
@@ -121,7 +113,7 @@ module _ (c : Config) (last : ℕ) where
   same_act t s u _ i w ne n = absurd (i.apart t u w n.0)
 
   -- in a collection of t the events of others leave the tables as they are
-  pub same_along : (t : ℕ) (s : State) (es : History) → IsApart s.role → s.role t ≡ Collecting → AllByRecursion (λ e. e.thread ≢ t) es → IsLegalFrom c last s es → IsSameTables s (state_from s es)
+  pub same_along : (t : ℕ) (s : State) (es : History) → IsApart s.role → s.role t ≡ Collecting → AllByRecursion (λ e. e.thread ≢ t) es → IsLegalFrom c last s es → HaveSameTables s (state_from s es)
   same_along t s [] i w q l = record { refs = refl; given = refl; locals = refl; objects = refl; used = refl }
   same_along t s (e ∷ es) i w q l =
       let r = collection_act c last t s e.thread e.act i w (λ p. q.0 (ap (λ (f : Event). f.thread) p)) l.0.1 in

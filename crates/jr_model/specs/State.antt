@@ -132,3 +132,11 @@ summary c last s = record {
   live = count_below (c.objects + 1) (λ o. is_some (s.objects o));
   used = s.used;
 }
+
+-- both states have the same references, locals, objects and used words
+pub record HaveSameTables (s s' : State) : Type 0 where
+  pub refs : s'.refs ≡ s.refs
+  pub given : s'.given ≡ s.given
+  pub locals : s'.locals ≡ s.locals
+  pub objects : s'.objects ≡ s.objects
+  pub used : s'.used ≡ s.used

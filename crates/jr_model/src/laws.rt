@@ -1,5 +1,8 @@
 ghost use Rattle.std.specs.Prelude.{ℕ};
 ghost use Rattle.jr_word.specs.declared.config.Config.{Config};
+ghost use Rattle.jr_model.specs.State.{State};
+ghost use Rattle.jr_model.specs.Grounded.{BarredByCollector, BusyIsCounted, SpaceWasFull, FreeIndexIsFound};
+ghost use Rattle.jr_model.specs.Unchanged.{RefusalsChangeNothing, HarmlessChangesNothing};
 ghost use Rattle.jr_model.specs.Laws.{
   CreatedIsFound,
   DeletedIsStale,
@@ -85,4 +88,18 @@ pub fn collections_are_exact()
 /// Each mode of a release leaves the array that it says, where nobody writes in between.
 pub fn releases_leave_the_array()
     ensures { ReleaseLeaves }
+{}
+
+/// A call that is refused leaves its frames and the machine as they were: its acts are harmless, but that space which was reserved before E11 stays reserved.
+pub fn refusals_change_nothing()
+    ensures calls { (c : Config) (last thread : ℕ) (s : State) → RefusalsChangeNothing c last thread s }
+    ensures acts { HarmlessChangesNothing }
+{}
+
+/// What a refusal says of the shared room was so at some moment of the call: E13, E14 and E10 by their events, and E8 only where no index was free all through.
+pub fn refusals_are_true()
+    ensures barred { BarredByCollector }
+    ensures busy { BusyIsCounted }
+    ensures space { SpaceWasFull }
+    ensures row { FreeIndexIsFound }
 {}
