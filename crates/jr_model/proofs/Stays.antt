@@ -1,5 +1,5 @@
 -- What a thread may rely on while it is within, and while it collects.
-use Rattle.std.proofs.Common.{◌≡◌, ◌≢◌, ℕ, ◌≤◌, ◌==◌, Bool, true, false, cond, Some, List, [], ◌∷◌, ◌++◌, length, slice_set, refl, sym, ap, subst, ◌∙◌, arith, append_assoc}
+use Rattle.std.proofs.Common.{◌≡◌, ◌≢◌, ℕ, ◌≤◌, ◌==◌, Bool, true, false, cond, Some, List, [], ◌∷◌, ◌++◌, map, length, slice_set, refl, sym, ap, subst, ◌∙◌, arith, append_assoc}
 use Rattle.std.proofs.lemmas.List.{length-set, append-nil}
 use Rattle.std.specs.List.{AllByRecursion}
 use Rattle.jr_word.specs.declared.config.Config.{Config}
@@ -12,7 +12,7 @@ use Rattle.jr_model.specs.State.{Contents, State, opening, HaveSameTables}
 use Rattle.jr_model.specs.Steps.{ActNeeds, act_after, after, written}
 use Rattle.jr_model.specs.History.{History, by, state_from, state, IsLegalFrom, IsLegal, mine, PassView, role_of, role_after, role_from, Did}
 use Rattle.jr_model.proofs.Updates.{at_number, eq_false}
-use Rattle.jr_model.proofs.Histories.{legal_append, state_append, mine_append}
+use Rattle.jr_model.proofs.Histories.{legal_append, state_append, mine_append, mine_all}
 use Rattle.jr_model.proofs.Gates.{IsApart, apart_after, apart_state, stay_act, collection_act}
 
 pub append_cancel : {A : Type 0} (xs ys zs : List A) → xs ++ ys ≡ xs ++ zs → ys ≡ zs
@@ -123,6 +123,23 @@ module _ (c : Config) (last : ℕ) where
 
 pub did_nothing : (p : PassView) → IsLegal p.config p.last p.seen → Did p p []
 did_nothing p l = record { config = refl; last = refl; thread = refl; legal = l; begins = ([], append-nil p.seen); own = sym (append-nil (mine p.seen p.thread)) }
+
+-- what others did, and then these acts of the thread, added at the end of what was seen
+pub did_added : {old new : PassView} (between : History) (acts : List Act) → new.config ≡ old.config → new.last ≡ old.last → new.thread ≡ old.thread
+    → new.seen ≡ (old.seen ++ between) ++ map (by old.thread) acts → mine between old.thread ≡ [] → IsLegal old.config old.last new.seen → Did old new acts
+did_added {old} {new} between acts c l t seen others legal =
+    let mine_acts = map (by old.thread) acts in
+    record {
+      config = c;
+      last = l;
+      thread = t;
+      legal = legal;
+      begins = (between ++ mine_acts, sym (append_assoc old.seen between mine_acts) ∙ sym seen);
+      own = ap (λ es. mine es old.thread) seen
+          ∙ (mine_append (old.seen ++ between) mine_acts old.thread
+          ∙ (ap (λ xs. xs ++ mine mine_acts old.thread) (mine_append old.seen between old.thread ∙ (ap (λ xs. mine old.seen old.thread ++ xs) others ∙ append-nil (mine old.seen old.thread)))
+          ∙ ap (λ xs. mine old.seen old.thread ++ xs) (mine_all old.thread acts)));
+    }
 
 -- what was done first and then makes what was done
 pub did_then : {old mid new : PassView} (xs ys : List Act) → Did old mid xs → Did mid new ys → Did old new (xs ++ ys)
