@@ -9,8 +9,8 @@ use Rattle.jr_model.specs.declared.event.Act.{Act}
 use Rattle.jr_model.specs.declared.event.Act.TheVariants.{Shut, Create, Delete, Clear, New, Write, Drop, Settle, Reopen}
 use Rattle.jr_model.specs.State.{Handle, same_handle, Contents, State, present_words}
 use Rattle.jr_model.specs.Steps.{Needs, ActNeeds, act_after, after}
-use Rattle.jr_model.specs.History.{History, by, state, state_from, IsLegalFrom, mine, PassView, Did}
-use Rattle.jr_model.specs.Wholes.{IsToClear, IsToDrop, IsWhole, IsExact, KeepsReached, sweeping_acts, collection_acts, CollectionIn}
+use Rattle.jr_model.specs.History.{History, by, state, state_from, IsLegal, IsLegalFrom, mine, PassView, Did}
+use Rattle.jr_model.specs.Wholes.{IsToClear, IsToDrop, IsWhole, IsExact, KeepsReached, sweeping_acts, collection_acts, CollectionIn, Collects}
 use Rattle.jr_model.specs.Laws.{CollectionIsExact}
 use Rattle.jr_model.proofs.Updates.{at_number, at_number_self, at_handle, at_handle_self, eq_self, eq_true, eq_false, handle_true}
 use Rattle.jr_model.proofs.Histories.{legal_append, legal_from_append, state_append, state_from_append, mine_append}
@@ -264,3 +264,9 @@ collection_in {old} {new} cleared dropped used d =
           ∙ sym (append_assoc (old.seen ++ f.before) (by t Shut ∷ k.before) (by t Reopen ∷ k.since)))));
       own = k.first;
     }
+
+-- a collection that a thread did and that left nothing out is exact
+pub collects_exactly : {old new : PassView} {cleared : List Handle} {dropped : List ℕ} {used : ℕ} (k : Collects old new cleared dropped used)
+    → IsExact (state k.place.before) cleared dropped × KeepsReached old.config (state k.place.before) (state (k.place.before ++ by old.thread Shut ∷ k.place.inside)) used
+collects_exactly {old} {cleared} {dropped} {used} k =
+    collection_is_exact old.config old.last old.thread k.place.before k.place.inside k.place.rest cleared dropped used (subst (IsLegal old.config old.last) k.place.parts k.did.legal) k.place.own k.whole
