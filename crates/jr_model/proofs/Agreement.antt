@@ -15,7 +15,7 @@ use Rattle.jr_model.specs.Frames.{Frames, Agree, AreApart, AreSound, IsAdded, Is
 use Rattle.jr_model.specs.Laws.{FramesStaySound, FramesStayAgreed, HandleIsAtPlace}
 use Rattle.jr_model.proofs.Updates.{at_number, eq_self, eq_other, eq_true, eq_false, handle_true}
 use Rattle.jr_model.proofs.Histories.{state_append}
-use Rattle.jr_model.proofs.Stays.{mine_did}
+use Rattle.jr_model.proofs.Stays.{cond_same, mine_did}
 
 -- WHAT A THREAD'S OWN ACTS MAKE OF ITS LOCALS
 
@@ -28,10 +28,6 @@ places_after l _ = l
 abbrev pub places_from : (ℕ → Option ℕ) → List Act → ℕ → Option ℕ
 places_from l [] = l
 places_from l (a ∷ acts) = places_from (places_after l a) acts
-
-cond_same : {X : Type 0} (b : Bool) (x : X) → x ≡ cond b x x
-cond_same true x = refl
-cond_same false x = refl
 
 -- the same, where the row of u is that of t
 row_of : (l : ℕ → ℕ → Option ℕ) (u t : ℕ) (f : (ℕ → Option ℕ) → ℕ → Option ℕ) → update nat_eq l u (f (l u)) t ≡ cond (u == t) (f (l t)) (l t)

@@ -14,7 +14,7 @@ use Rattle.jr_model.specs.History.{History, by, state_from, IsLegalFrom}
 use Rattle.jr_model.proofs.Updates.{at_number, at_handle}
 use Rattle.jr_model.proofs.Gates.{IsApart, apart_after, collection_act}
 
-contents : (x : Option Contents) → IsSome x → (y : Contents) × (x ≡ Some y)
+pub contents : (x : Option Contents) → IsSome x → (y : Contents) × (x ≡ Some y)
 contents None p = absurd cc
 contents (Some y) p = (y, refl)
 
@@ -38,7 +38,7 @@ pub record IsSameReach (s s' : State) : Type 0 where
   pub forth : IsKeptFrom s s'
   pub back : IsKeptFrom s' s
 
-same_self : (s : State) → IsSameReach s s
+pub same_self : (s : State) → IsSameReach s s
 same_self s = record { forth = record { globals = λ h o g r. r; locals = λ t p o r. r; objects = λ o x r e. e }; back = record { globals = λ h o g r. r; locals = λ t p o r. r; objects = λ o x r e. e } }
 
 kept_trans : (r s t : State) → IsKeptFrom r s → IsKeptFrom s t → IsKeptFrom r t
@@ -48,7 +48,7 @@ kept_trans r s t p q = record {
   objects = λ o x z e. q.objects o x (reached_mono r s p z) (p.objects o x z e);
 }
 
-same_trans : (r s t : State) → IsSameReach r s → IsSameReach s t → IsSameReach r t
+pub same_trans : (r s t : State) → IsSameReach r s → IsSameReach s t → IsSameReach r t
 same_trans r s t p q = record { forth = kept_trans r s t p.forth q.forth; back = kept_trans t s r q.back p.back }
 
 clear_same : (s : State) (h : Handle) → h.kind ≡ Weak → IsSameReach s (record s { refs = update same_handle s.refs h Cleared })
@@ -80,16 +80,16 @@ drop_same s p un = record {
 }
 
 module _ (c : Config) (last : ℕ) where
-  same_act : (t : ℕ) (s : State) (u : ℕ) (a : Act) → IsApart s.role → s.role t ≡ Collecting → ActNeeds c last s u a → IsSameReach s (act_after s u a)
-  same_act t s u (Clear h) i w n = clear_same s h n.1
-  same_act t s u (Drop p) i w n = drop_same s p n.2
-  same_act t s u (Create h o) i w n = absurd (i.apart t u w n.0)
-  same_act t s u (Delete h) i w n = absurd (i.apart t u w n.0)
-  same_act t s u (LocalPut p o) i w n = absurd (i.apart t u w n.0)
-  same_act t s u (LocalDrop p) i w n = absurd (i.apart t u w n.0)
-  same_act t s u (New o k ws) i w n = absurd (i.apart t u w n.0)
-  same_act t s u (Write o j v) i w n = absurd (i.apart t u w n.0)
-  same_act t s u _ i w n = record { forth = record { globals = λ h o g r. r; locals = λ v p o r. r; objects = λ o x r e. e }; back = record { globals = λ h o g r. r; locals = λ v p o r. r; objects = λ o x r e. e } }
+  pub same_reach_act : (t : ℕ) (s : State) (u : ℕ) (a : Act) → IsApart s.role → s.role t ≡ Collecting → ActNeeds c last s u a → IsSameReach s (act_after s u a)
+  same_reach_act t s u (Clear h) i w n = clear_same s h n.1
+  same_reach_act t s u (Drop p) i w n = drop_same s p n.2
+  same_reach_act t s u (Create h o) i w n = absurd (i.apart t u w n.0)
+  same_reach_act t s u (Delete h) i w n = absurd (i.apart t u w n.0)
+  same_reach_act t s u (LocalPut p o) i w n = absurd (i.apart t u w n.0)
+  same_reach_act t s u (LocalDrop p) i w n = absurd (i.apart t u w n.0)
+  same_reach_act t s u (New o k ws) i w n = absurd (i.apart t u w n.0)
+  same_reach_act t s u (Write o j v) i w n = absurd (i.apart t u w n.0)
+  same_reach_act t s u _ i w n = record { forth = record { globals = λ h o g r. r; locals = λ v p o r. r; objects = λ o x r e. e }; back = record { globals = λ h o g r. r; locals = λ v p o r. r; objects = λ o x r e. e } }
 
   -- while t collects, the objects that are reached are the same, with their kinds and elements
   pub same_reach_along : (t : ℕ) (s : State) (es : History) → IsApart s.role → s.role t ≡ Collecting → AllByRecursion (λ e. e ≢ by t Reopen) es → IsLegalFrom c last s es → IsSameReach s (state_from s es)
@@ -97,5 +97,5 @@ module _ (c : Config) (last : ℕ) where
   same_reach_along t s (e ∷ es) i w q l =
       let r = collection_act c last t s e.thread e.act i w q.0 l.0.1 in
       same_trans s (after s e) (state_from (after s e) es)
-      (same_act t s e.thread e.act i w l.0.1)
+      (same_reach_act t s e.thread e.act i w l.0.1)
       (same_reach_along t (after s e) es (apart_after c last s e i l.0) r.0 q.1 l.1)

@@ -9,6 +9,7 @@ use Rattle.jr_model.specs.State.{State, opening}
 use Rattle.jr_model.specs.Steps.{Needs, after}
 use Rattle.jr_model.specs.History.{History, state_from, state, IsLegalFrom, IsLegal, mine, by}
 use Rattle.jr_model.specs.declared.event.Act.{Act}
+use Rattle.jr_model.specs.Laws.{LegalGoesByStep}
 use Rattle.jr_model.proofs.Updates.{eq_self, eq_other}
 
 pub state_from_append : (s : State) (xs ys : History) → state_from s (xs ++ ys) ≡ state_from (state_from s xs) ys
@@ -105,3 +106,12 @@ module _ (c : Config) (last : ℕ) where
         legal_between = q.1.1;
         second = subst (λ s. Needs c last s f) (state_append before (e ∷ between)) p.1.0;
       }
+
+  pub legal_goes_by_step : LegalGoesByStep c last
+  legal_goes_by_step = (
+    tt,
+    λ es e. (
+      λ l. let p = (legal_push es e).0 l in (p.0, (p.1, state_push es e)),
+      λ l. (legal_push es e).1 (l.0, l.1.0),
+    ),
+  )

@@ -52,7 +52,7 @@ first_act t a acts (e ∷ es) is = go (e.thread == t) refl is (λ m. first_act t
         let r = later is in
         record { before = e ∷ r.before; since = r.since; parts = ap (λ l. e ∷ l) r.parts; none = rw same r.none; rest = r.rest }
 
--- the one act of a step, and the state in which it was taken
+-- the first act that was done, and the state in which it was taken
 pub record OneAct (old new : PassView) (a : Act) : Type 0 where
   pub before : History
   pub since : History
@@ -61,16 +61,19 @@ pub record OneAct (old new : PassView) (a : Act) : Type 0 where
   pub legal : IsLegal old.config old.last before
   pub needs : Needs old.config old.last (state before) (by old.thread a)
 
-pub one_act : {old new : PassView} (a : Act) → Did old new (a ∷ []) → OneAct old new a
-one_act {old} {new} a d =
-    let own = mine_did (a ∷ []) d in
-    let f = first_act old.thread a [] d.begins.0 own in
+pub first_done : {old new : PassView} (a : Act) (acts : List Act) → Did old new (a ∷ acts) → OneAct old new a
+first_done {old} {new} a acts d =
+    let own = mine_did (a ∷ acts) d in
+    let f = first_act old.thread a acts d.begins.0 own in
     let parts : new.seen ≡ (old.seen ++ f.before) ++ by old.thread a ∷ f.since
     = sym d.begins.1 ∙ (ap (λ l. old.seen ++ l) f.parts ∙ sym (append_assoc old.seen f.before (by old.thread a ∷ f.since))) in
     let both = (legal_append old.config old.last (old.seen ++ f.before) (by old.thread a ∷ f.since)).0 (subst (IsLegal old.config old.last) parts d.legal) in
     record { before = old.seen ++ f.before; since = f.since; parts = parts; from = (f.before, refl); legal = both.0; needs = both.1.0 }
 
-before_new : {old new : PassView} {a : Act} (o : OneAct old new a) → IsPrefix o.before new.seen
+pub one_act : {old new : PassView} (a : Act) → Did old new (a ∷ []) → OneAct old new a
+one_act a d = first_done a [] d
+
+pub before_new : {old new : PassView} {a : Act} (o : OneAct old new a) → IsPrefix o.before new.seen
 before_new {old} {a} o = (by old.thread a ∷ o.since, sym o.parts)
 
 -- a probe that found the index occupied

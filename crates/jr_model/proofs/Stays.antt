@@ -1,5 +1,5 @@
 -- What a thread may rely on while it is within, and while it collects.
-use Rattle.std.proofs.Common.{◌≡◌, ◌≢◌, ℕ, ◌≤◌, ◌==◌, Bool, true, false, cond, Some, List, [], ◌∷◌, ◌++◌, length, slice_set, refl, sym, ap, subst, ◌∙◌, arith, append_assoc}
+use Rattle.std.proofs.Common.{◌≡◌, ◌≢◌, ℕ, ◌≤◌, ◌==◌, Bool, true, false, cond, Some, List, [], ◌∷◌, ◌++◌, map, length, slice_set, refl, sym, ap, subst, ◌∙◌, arith, append_assoc}
 use Rattle.std.proofs.lemmas.List.{length-set, append-nil}
 use Rattle.std.specs.List.{AllByRecursion}
 use Rattle.jr_word.specs.declared.config.Config.{Config}
@@ -8,18 +8,18 @@ use Rattle.jr_model.specs.declared.event.Role.TheVariants.{Outside, Within, Coll
 use Rattle.jr_model.specs.declared.event.Event.{Event}
 use Rattle.jr_model.specs.declared.event.Act.{Act}
 use Rattle.jr_model.specs.declared.event.Act.TheVariants.{Enter, Knock, Leave, Withdraw, Shut, ShutBusy, Reopen, Clear, Reserve, New, Write, Drop, Settle, Meet}
-use Rattle.jr_model.specs.State.{Contents, State, opening}
+use Rattle.jr_model.specs.State.{Contents, State, opening, HaveSameTables}
 use Rattle.jr_model.specs.Steps.{ActNeeds, act_after, after, written}
 use Rattle.jr_model.specs.History.{History, by, state_from, state, IsLegalFrom, IsLegal, mine, PassView, role_of, role_after, role_from, Did}
 use Rattle.jr_model.proofs.Updates.{at_number, eq_false}
-use Rattle.jr_model.proofs.Histories.{legal_append, state_append, mine_append}
+use Rattle.jr_model.proofs.Histories.{legal_append, state_append, mine_append, mine_all}
 use Rattle.jr_model.proofs.Gates.{IsApart, apart_after, apart_state, stay_act, collection_act}
 
 pub append_cancel : {A : Type 0} (xs ys zs : List A) → xs ++ ys ≡ xs ++ zs → ys ≡ zs
 append_cancel [] ys zs e = e
 append_cancel (x ∷ xs) ys zs e = append_cancel xs ys zs cc
 
-cond_same : {X : Type 0} (b : Bool) (x : X) → x ≡ cond b x x
+pub cond_same : {X : Type 0} (b : Bool) (x : X) → x ≡ cond b x x
 cond_same true x = refl
 cond_same false x = refl
 
@@ -47,12 +47,12 @@ role_is_own s (e ∷ es) t =
 pub role_of_state : (es : History) (t : ℕ) → (state es).role t ≡ role_from Outside (mine es t)
 role_of_state es t = role_is_own opening es t
 
--- events among which t does not leave
-pub no_leave : (es : History) (t : ℕ) → AllByRecursion (λ a. a ≢ Leave) (mine es t) → AllByRecursion (λ e. e ≢ by t Leave) es
-no_leave [] t h = tt
-no_leave (e ∷ es) t h = go (e.thread == t) refl h (no_leave es t)
+-- events among which t never does x
+pub never : (x : Act) (es : History) (t : ℕ) → AllByRecursion (λ a. a ≢ x) (mine es t) → AllByRecursion (λ e. e ≢ by t x) es
+never x [] t h = tt
+never x (e ∷ es) t h = go (e.thread == t) refl h (never x es t)
   where
-    go : (b : Bool) → (e.thread == t) ≡ b → AllByRecursion (λ a. a ≢ Leave) (cond b (e.act ∷ mine es t) (mine es t)) → (AllByRecursion (λ a. a ≢ Leave) (mine es t) → AllByRecursion (λ f. f ≢ by t Leave) es) → AllByRecursion (λ f. f ≢ by t Leave) (e ∷ es)
+    go : (b : Bool) → (e.thread == t) ≡ b → AllByRecursion (λ a. a ≢ x) (cond b (e.act ∷ mine es t) (mine es t)) → (AllByRecursion (λ a. a ≢ x) (mine es t) → AllByRecursion (λ f. f ≢ by t x) es) → AllByRecursion (λ f. f ≢ by t x) (e ∷ es)
     go true is h rest = (λ p. h.0 (ap (λ (f : Event). f.act) p), rest h.1)
     go false is h rest = (λ p. eq_false e.thread t is (ap (λ (f : Event). f.thread) p), rest h)
 
@@ -98,15 +98,7 @@ module _ (c : Config) (last : ℕ) where
       (still_act t s e.thread e.act i w l.0.1)
       (still_along t (after s e) es (apart_after c last s e i l.0) r.0 q.1 l.1)
 
-  -- what one thread's collection alone changes
-  pub record IsSameTables (s s' : State) : Type 0 where
-    pub refs : s'.refs ≡ s.refs
-    pub given : s'.given ≡ s.given
-    pub locals : s'.locals ≡ s.locals
-    pub objects : s'.objects ≡ s.objects
-    pub used : s'.used ≡ s.used
-
-  same_act : (t : ℕ) (s : State) (u : ℕ) (a : Act) → IsApart s.role → s.role t ≡ Collecting → u ≢ t → ActNeeds c last s u a → IsSameTables s (act_after s u a)
+  same_act : (t : ℕ) (s : State) (u : ℕ) (a : Act) → IsApart s.role → s.role t ≡ Collecting → u ≢ t → ActNeeds c last s u a → HaveSameTables s (act_after s u a)
   same_act t s u Leave i w ne n = record { refs = refl; given = refl; locals = refl; objects = refl; used = refl }
   same_act t s u Enter i w ne n = record { refs = refl; given = refl; locals = refl; objects = refl; used = refl }
   same_act t s u Knock i w ne n = record { refs = refl; given = refl; locals = refl; objects = refl; used = refl }
@@ -121,7 +113,7 @@ module _ (c : Config) (last : ℕ) where
   same_act t s u _ i w ne n = absurd (i.apart t u w n.0)
 
   -- in a collection of t the events of others leave the tables as they are
-  pub same_along : (t : ℕ) (s : State) (es : History) → IsApart s.role → s.role t ≡ Collecting → AllByRecursion (λ e. e.thread ≢ t) es → IsLegalFrom c last s es → IsSameTables s (state_from s es)
+  pub same_along : (t : ℕ) (s : State) (es : History) → IsApart s.role → s.role t ≡ Collecting → AllByRecursion (λ e. e.thread ≢ t) es → IsLegalFrom c last s es → HaveSameTables s (state_from s es)
   same_along t s [] i w q l = record { refs = refl; given = refl; locals = refl; objects = refl; used = refl }
   same_along t s (e ∷ es) i w q l =
       let r = collection_act c last t s e.thread e.act i w (λ p. q.0 (ap (λ (f : Event). f.thread) p)) l.0.1 in
@@ -131,6 +123,23 @@ module _ (c : Config) (last : ℕ) where
 
 pub did_nothing : (p : PassView) → IsLegal p.config p.last p.seen → Did p p []
 did_nothing p l = record { config = refl; last = refl; thread = refl; legal = l; begins = ([], append-nil p.seen); own = sym (append-nil (mine p.seen p.thread)) }
+
+-- what others did, and then these acts of the thread, added at the end of what was seen
+pub did_added : {old new : PassView} (between : History) (acts : List Act) → new.config ≡ old.config → new.last ≡ old.last → new.thread ≡ old.thread
+    → new.seen ≡ (old.seen ++ between) ++ map (by old.thread) acts → mine between old.thread ≡ [] → IsLegal old.config old.last new.seen → Did old new acts
+did_added {old} {new} between acts c l t seen others legal =
+    let mine_acts = map (by old.thread) acts in
+    record {
+      config = c;
+      last = l;
+      thread = t;
+      legal = legal;
+      begins = (between ++ mine_acts, sym (append_assoc old.seen between mine_acts) ∙ sym seen);
+      own = ap (λ es. mine es old.thread) seen
+          ∙ (mine_append (old.seen ++ between) mine_acts old.thread
+          ∙ (ap (λ xs. xs ++ mine mine_acts old.thread) (mine_append old.seen between old.thread ∙ (ap (λ xs. mine old.seen old.thread ++ xs) others ∙ append-nil (mine old.seen old.thread)))
+          ∙ ap (λ xs. mine old.seen old.thread ++ xs) (mine_all old.thread acts)));
+    }
 
 -- what was done first and then makes what was done
 pub did_then : {old mid new : PassView} (xs ys : List Act) → Did old mid xs → Did mid new ys → Did old new (xs ++ ys)
@@ -168,5 +177,5 @@ still_did {old} {new} acts d w q =
     let both = (legal_append old.config old.last old.seen rest).0 (subst (IsLegal old.config old.last) (sym d.begins.1) d.legal) in
     let own : mine rest old.thread ≡ acts = mine_did acts d in
     let still = still_along old.config old.last old.thread (state old.seen) rest (apart_state old.config old.last old.seen both.0) w
-    (no_leave rest old.thread (subst (AllByRecursion (λ a. a ≢ Leave)) (sym own) q)) both.1 in
+    (never Leave rest old.thread (subst (AllByRecursion (λ a. a ≢ Leave)) (sym own) q)) both.1 in
     subst (IsStill (state old.seen)) (sym (state_append old.seen rest) ∙ ap state d.begins.1) still

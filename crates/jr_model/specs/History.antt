@@ -12,6 +12,7 @@ use Rattle.jr_model.specs.declared.event.Act.TheVariants.{Enter, Knock, Leave, W
 use Rattle.jr_model.specs.State.{State, opening}
 use Rattle.jr_model.specs.Steps.{Needs, after}
 
+-- a history: the events of all threads, in the order in which they happened
 abbrev pub History : Type 0
 History = List Event
 
@@ -24,6 +25,7 @@ abbrev pub state_from : State → History → State
 state_from s [] = s
 state_from s (e ∷ es) = state_from (after s e) es
 
+-- the state after the history
 abbrev pub state : History → State
 state es = state_from opening es
 
@@ -32,6 +34,7 @@ abbrev pub IsLegalFrom : Config → ℕ → State → History → Type 0
 IsLegalFrom c last s [] = Unit {0}
 IsLegalFrom c last s (e ∷ es) = Needs c last s e × IsLegalFrom c last (after s e) es
 
+-- A LEGAL HISTORY: its events are steps, one after the other, from the opening state
 abbrev pub IsLegal : Config → ℕ → History → Type 0
 IsLegal c last es = IsLegalFrom c last opening es
 
@@ -57,18 +60,18 @@ is_waiting (ShutBusy n) = true
 is_waiting Meet = true
 is_waiting _ = false
 
--- es is empty or begins with e
+-- there is no further event, or the next one is e
 abbrev pub EndsAt : Event → History → Type 0
 EndsAt e [] = Unit {0}
 EndsAt e (f ∷ es) = f ≡ e
 
--- a stay of t: from an Enter of t to its next Leave, or to the end
+-- a stay of t inside the gate: from an Enter of t to its next Leave, or to the end of the history
 pub record IsStay (t : ℕ) (whole : History) (before inside rest : History) : Type 0 where
   pub parts : whole ≡ before ++ by t Enter ∷ inside ++ rest
   pub stays : AllByRecursion (λ e. e ≢ by t Leave) inside
   pub ends : EndsAt (by t Leave) rest
 
--- a collection of t: from a Shut of t to its next Reopen, or to the end
+-- a collection of t: from a Shut of t to its next Reopen, or to the end of the history
 pub record IsCollection (t : ℕ) (whole : History) (before inside rest : History) : Type 0 where
   pub parts : whole ≡ before ++ by t Shut ∷ inside ++ rest
   pub stays : AllByRecursion (λ e. e ≢ by t Reopen) inside
@@ -88,7 +91,7 @@ writes o i _ = false
 abbrev pub NoneOf : (Act → Bool) → History → Type 0
 NoneOf p es = AllByRecursion (λ e. p e.act ≡ false) es
 
--- v is the word of the last write of the element i after the last making of o, or else the element that it was made with
+-- v is what stands at element i of o: the word of the last write of it after the last making of o, or else the word that it was made with
 pub data IsLastWord (o i v : ℕ) (es : History) : Type 0 where
   from_new : (before since : History) (t : ℕ) (k : Kind) (ws : List ℕ) → es ≡ before ++ by t (New o k ws) ∷ since → slice_get ws i ≡ Some v → NoneOf (makes o) since → NoneOf (writes o i) since → IsLastWord o i v es
   from_write : (before since : History) (t : ℕ) → es ≡ before ++ by t (Write o i v) ∷ since → NoneOf (makes o) since → NoneOf (writes o i) since → IsLastWord o i v es
@@ -103,6 +106,7 @@ role_after r Shut = Collecting
 role_after r Reopen = Outside
 role_after r _ = r
 
+-- a thread's role after acts of its own
 abbrev pub role_from : Role → List Act → Role
 role_from r [] = r
 role_from r (a ∷ acts) = role_from (role_after r a) acts
@@ -114,10 +118,11 @@ pub record PassView : Type 0 where
   pub thread : ℕ
   pub seen : History
 
+-- the role of the pass's thread
 abbrev pub role_of : PassView → Role
 role_of p = (state p.seen).role p.thread
 
--- the thread did these acts and no others, whatever the other threads did in between
+-- WHAT A THREAD DID between two moments: what was seen begins what is seen, which is legal, and of the thread's own acts it has these more and no others, whatever the other threads did in between
 pub record Did (old new : PassView) (acts : List Act) : Type 0 where
   pub config : new.config ≡ old.config
   pub last : new.last ≡ old.last
@@ -125,3 +130,8 @@ pub record Did (old new : PassView) (acts : List Act) : Type 0 where
   pub legal : IsLegal old.config old.last new.seen
   pub begins : IsPrefix old.seen new.seen
   pub own : mine new.seen old.thread ≡ mine old.seen old.thread ++ acts
+
+-- a pass met another: all that the other had seen is seen, and of the other's own acts just those
+pub record HasMet (other new : PassView) : Type 0 where
+  pub begins : IsPrefix other.seen new.seen
+  pub theirs : mine new.seen other.thread ≡ mine other.seen other.thread

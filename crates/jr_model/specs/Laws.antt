@@ -1,15 +1,25 @@
 -- The laws of every legal history.
-use Rattle.std.specs.Prelude.{◌≡◌, ◌≢◌, ◌⊎◌, ◌≤◌, ℕ, true, false, Some, List, ◌∷◌, ◌++◌}
+use Rattle.std.specs.Prelude.{◌≡◌, ◌≢◌, ◌⊎◌, ◌≤◌, ℕ, true, false, Some, List, [], ◌∷◌, ◌++◌, ◌↔◌, map, length}
 use Rattle.std.specs.List.{AllByRecursion}
 use Rattle.jr_word.specs.declared.config.Config.{Config}
 use Rattle.jr_model.specs.declared.event.Found.TheVariants.{Object, Cleared, Stale}
 use Rattle.jr_model.specs.declared.event.Found.{Found}
-use Rattle.jr_model.specs.declared.event.Act.TheVariants.{Create, Look, Delete, Read}
-use Rattle.jr_model.specs.State.{Handle, IsPresent, NobodyCollects, IsClosed, present_words}
-use Rattle.jr_model.specs.History.{History, by, state, IsLegal, is_collection_step, is_waiting, IsStay, IsCollection, IsLastWord, PassView, Did}
+use Rattle.jr_model.specs.declared.event.Act.TheVariants.{Create, Look, Delete, Read, Shut, Reopen}
+use Rattle.jr_model.specs.declared.event.Event.{Event}
+use Rattle.jr_model.specs.declared.frames.Mode.{Mode}
+use Rattle.jr_model.specs.Steps.{Step}
+use Rattle.jr_model.specs.State.{Contents, State, Handle, IsPresent, NobodyCollects, IsClosed, present_words}
+use Rattle.jr_model.specs.History.{History, by, state, state_from, IsLegal, mine, is_collection_step, is_waiting, IsStay, IsCollection, IsLastWord, PassView, Did}
 use Rattle.jr_model.specs.declared.event.Act.{Act}
 use Rattle.jr_model.specs.declared.frames.LocalRef.{LocalRef}
 use Rattle.jr_model.specs.Frames.{Frames, IsAdded, IsMove, LeadsTo, AreSound, Agree, object_of, object_at}
+use Rattle.jr_model.specs.Wholes.{sweeping_acts, IsWhole, IsExact, KeepsReached}
+use Rattle.jr_model.specs.Releases.{released, release_acts}
+
+-- the empty history is legal, and a longer one where its front is and its last event is a step
+abbrev pub LegalGoesByStep : Config → ℕ → Type 0
+LegalGoesByStep c last = IsLegal c last []
+    × ((es : History) (e : Event) → IsLegal c last (es ++ e ∷ []) ↔ IsLegal c last es × Step c last (state es) e (state (es ++ e ∷ [])))
 
 -- after a delete of h each look at it is stale
 abbrev pub DeletedIsStale : Config → ℕ → Type 0
@@ -82,3 +92,15 @@ FramesStayAgreed = (old new : PassView) (f g : Frames) (acts : List Act) → Are
 -- in sound frames a handle that stands is the one at its place
 abbrev pub HandleIsAtPlace : Type 0
 HandleIsAtPlace = (f : Frames) (h : Handle) (o : ℕ) → AreSound f → object_of f h ≡ Some o → object_at f h.index ≡ Some o
+
+-- a collection that leaves nothing out clears and drops exactly what is to be, each once, and keeps what is reached
+abbrev pub CollectionIsExact : Config → ℕ → Type 0
+CollectionIsExact c last = (t : ℕ) (before inside rest : History) (cleared : List Handle) (dropped : List ℕ) (used : ℕ)
+    → IsLegal c last (before ++ by t Shut ∷ inside ++ by t Reopen ∷ rest)
+    → mine inside t ≡ sweeping_acts cleared dropped used → IsWhole (state before) cleared dropped
+    → IsExact (state before) cleared dropped × KeepsReached c (state before) (state (before ++ by t Shut ∷ inside)) used
+
+-- where nobody writes in between, the acts of a release leave the array that the mode says
+abbrev pub ReleaseLeaves : Type 0
+ReleaseLeaves = (s : State) (t o : ℕ) (x : Contents) (buffer : List ℕ) (mode : Mode) → s.objects o ≡ Some x → length buffer ≡ length x.words
+    → (state_from s (map (by t) (release_acts mode o buffer))).objects o ≡ Some (record { kind = x.kind; words = (released mode x.words buffer).0 })

@@ -1,5 +1,5 @@
 -- The parts that calls are made of, among them the calls of gate, slots and heap.
-use Rattle.std.specs.Prelude.{◌≡◌, ◌+◌, ◌==◌, ◌||◌, ℕ, zero, suc, Bool, not, cond, nat_lt, nat_le, Option, Some, None, Ok, List, [], ◌∷◌, ◌++◌, map, length}
+use Rattle.std.specs.Prelude.{◌≡◌, ◌+◌, ◌==◌, ◌||◌, ℕ, zero, suc, Bool, not, cond, nat_lt, nat_le, Option, Some, None, Ok, List, [], ◌∷◌, map, length}
 use Rattle.jr_word.specs.declared.config.Config.{Config}
 use Rattle.jr_word.specs.declared.handle.RefKind.{RefKind}
 use Rattle.jr_word.specs.declared.kind.Kind.{Kind}
@@ -8,11 +8,12 @@ use Rattle.jr_word.specs.declared.fault.Fault.TheVariants as fault
 use Rattle.jr_model.specs.declared.event.Found.{Found}
 use Rattle.jr_model.specs.declared.event.Found.TheVariants.{Object, Cleared, Stale}
 use Rattle.jr_model.specs.declared.event.Act.{Act}
-use Rattle.jr_model.specs.declared.event.Act.TheVariants.{Enter, Knock, Leave, Withdraw, Shut, ShutBusy, Reopen, Create, Look, Probe, Delete, DeleteStale, Clear, LocalDrop, Reserve, ReserveFull, ReserveLost, New, Read, Write, Drop, Settle, Meet}
+use Rattle.jr_model.specs.declared.event.Act.TheVariants.{Enter, Knock, Leave, Withdraw, Shut, ShutBusy, Reopen, Create, Look, Probe, Delete, DeleteStale, LocalDrop, Reserve, ReserveFull, ReserveLost, New, Read, Write, Meet}
 use Rattle.jr_model.specs.declared.frames.TheConstants.{FRAMES}
 use Rattle.jr_model.specs.declared.summary.Summary.{Summary}
 use Rattle.jr_model.specs.State.{Handle, State, not_outside, summary}
 use Rattle.jr_model.specs.Frames.{object_of, pushed, popped, deleted, last_frame, drop_all}
+use Rattle.jr_model.specs.Wholes.{collection_acts}
 use Rattle.jr_model.specs.Calls.{Call, ◌>>=◌, ◌>>◌, act, done, one_of, refuse, refuse_if, some_act, with_header}
 use Rattle.jr_model.specs.Tests.{Word, Parts, is_local, is_plain, is_text, is_value, type_found, type_local}
 
@@ -150,20 +151,23 @@ write_element s o i v = with_header s o (λ k n. do
   refuse_if (not (is_value k v)) Value
   act (Write o i v))
 
--- n elements from start on, rising
-abbrev pub read : ℕ → ℕ → ℕ → Call (List ℕ)
-read o start zero = done []
-read o start (suc n) = do
-  v ← some_act (Read o start)
-  vs ← read o (start + 1) n
-  done (v ∷ vs)
+-- the reads that find these words from start on, rising
+abbrev pub read_acts : ℕ → ℕ → List ℕ → List Act
+read_acts o start [] = []
+read_acts o start (v ∷ vs) = Read o start v ∷ read_acts o (start + 1) vs
 
--- these words are written from start on, rising
+-- the writes of these words from start on, rising
+abbrev pub write_acts : ℕ → ℕ → List ℕ → List Act
+write_acts o start [] = []
+write_acts o start (v ∷ vs) = Write o start v ∷ write_acts o (start + 1) vs
+
+-- n elements from start on
+abbrev pub read : ℕ → ℕ → ℕ → Call (List ℕ)
+read o start n old acts answer new = (vs : List ℕ) × (length vs ≡ n) × (acts ≡ read_acts o start vs) × (answer ≡ Ok vs) × (new ≡ old)
+
+-- these words are written from start on
 abbrev pub write : ℕ → ℕ → List ℕ → Call (Unit {0})
-write o start [] = done tt
-write o start (v ∷ vs) = do
-  act (Write o start v)
-  write o (start + 1) vs
+write o start vs old acts answer new = (acts ≡ write_acts o start vs) × (answer ≡ Ok tt) × (new ≡ old)
 
 -- THE LOCAL REFERENCES
 
@@ -195,10 +199,6 @@ delete_local_at (Parts h) = do
 delete_local_at _ = done tt
 
 -- THE ROOM AS A WHOLE
-
--- the acts of a collection that clears and drops these
-abbrev pub collection_acts : List Handle → List ℕ → ℕ → List Act
-collection_acts cleared dropped used = Shut ∷ map Clear cleared ++ map Drop dropped ++ Settle used ∷ Reopen ∷ []
 
 -- a collection, which answers how many references it cleared, how many objects it dropped, and how many words are used
 abbrev pub collected : Call (ℕ × ℕ × ℕ)

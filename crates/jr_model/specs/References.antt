@@ -76,14 +76,19 @@ module _ (c : Config) (last thread : ℕ) where
     refuse_if (is_out_of_bounds c a) fault.Stale
     delete_at a)
 
+  -- a local reference of this thread is taken out of its frame
+  abbrev pub delete_local : Word → Call (Unit {0})
+  delete_local a = do
+    refuse_if (is_out_of_bounds c a) fault.Stale
+    refuse_if (is_foreign thread a) Foreign
+    delete_local_at a
+
   -- DeleteLocalRef
   abbrev pub delete_local_ref : Word → Call (Unit {0})
   delete_local_ref a = entered (do
     refuse_if (is_malformed a) fault.Stale
     refuse_if (not (is_of_kind Local a)) WrongKind
-    refuse_if (is_out_of_bounds c a) fault.Stale
-    refuse_if (is_foreign thread a) Foreign
-    delete_local_at a)
+    delete_local a)
 
   -- IsSameObject
   abbrev pub is_same_object : Word → Word → Call Bool

@@ -17,12 +17,14 @@ use Rattle.jr_model.specs.Maps.{sum_below, count_below}
 abbrev pub Handle : Type 0
 Handle = HandleParts
 
+-- both kinds are one
 abbrev pub same_kind : RefKind → RefKind → Bool
 same_kind Local Local = true
 same_kind Global Global = true
 same_kind Weak Weak = true
 same_kind _ _ = false
 
+-- both handles are one: their four numbers are
 abbrev pub same_handle : Handle → Handle → Bool
 same_handle g h = same_kind g.kind h.kind && (g.serial == h.serial) && (g.index == h.index) && (g.owner == h.owner)
 
@@ -31,14 +33,16 @@ pub record Contents : Type 0 where
   pub kind : Kind
   pub words : List ℕ
 
+-- the state of the machine
 pub record State : Type 0 where
-  pub role : ℕ → Role  -- of each thread
-  pub refs : Handle → Found  -- the global and weak references, Stale where none stands
-  pub given : Handle → Bool  -- whether it was ever created
-  pub locals : ℕ → ℕ → Option ℕ  -- of a thread and a place: the object
-  pub objects : ℕ → Option Contents  -- by number
-  pub used : ℕ  -- how many words are reserved
+  pub role : ℕ → Role  -- where each thread stands towards the gate
+  pub refs : Handle → Found  -- the global and weak references, each with its object or cleared; Stale where none stands. A reference's kind is its handle's
+  pub given : Handle → Bool  -- the handles of all references that were ever created
+  pub locals : ℕ → ℕ → Option ℕ  -- the local references: the object of a thread and a place
+  pub objects : ℕ → Option Contents  -- the objects that are present, by number
+  pub used : ℕ  -- how many words of array space are reserved
 
+-- the state in which a room is opened: all are outside, and nothing stands
 abbrev pub opening : State
 opening = record {
   role = λ t. Outside;
@@ -49,15 +53,19 @@ opening = record {
   used = 0;
 }
 
+-- an object has this number
 abbrev pub IsPresent : State → ℕ → Type 0
 IsPresent s o = IsSome (s.objects o)
 
+-- no thread collects
 abbrev pub NobodyCollects : State → Type 0
 NobodyCollects s = (t : ℕ) → s.role t ≢ Collecting
 
+-- some thread collects
 abbrev pub SomebodyCollects : State → Type 0
 SomebodyCollects s = (t : ℕ) × (s.role t ≡ Collecting)
 
+-- the role is Outside
 abbrev pub is_outside : Role → Bool
 is_outside Outside = true
 is_outside _ = false
@@ -66,6 +74,7 @@ is_outside _ = false
 abbrev pub not_outside : Config → State → ℕ
 not_outside c s = count_below c.threads (λ t. not (is_outside (s.role t)))
 
+-- the length of an object, 0 for none
 abbrev pub length_of : Option Contents → ℕ
 length_of None = 0
 length_of (Some x) = length x.words
@@ -74,7 +83,7 @@ length_of (Some x) = length x.words
 abbrev pub present_words : Config → State → ℕ
 present_words c s = sum_below (c.objects + 1) (λ o. length_of (s.objects o))
 
--- v may be an element of an object of the kind
+-- v may be an element of an object of the kind: a number of its bits, or 0 or a present object
 abbrev pub IsWord : State → Kind → ℕ → Type 0
 IsWord s Plain v = ⊥
 IsWord s Boolean v = v < 2
@@ -86,33 +95,36 @@ IsWord s Long v = v < 2 ^ 64
 IsWord s Objects v = (v ≡ 0) ⊎ IsPresent s v
 IsWord s Text v = v < 2 ^ 16
 
+-- each of the words may
 abbrev pub AreWords : State → Kind → List ℕ → Type 0
 AreWords s k ws = (i v : ℕ) → slice_get ws i ≡ Some v → IsWord s k v
 
--- each element of a present object array is 0 or present
+-- each element of a present object array is 0 or a present object
 abbrev pub IsClosed : State → Type 0
 IsClosed s = (o : ℕ) (x : Contents) → s.objects o ≡ Some x → x.kind ≡ Objects → AreWords s Objects x.words
 
--- an object that a global reference, or a local of any thread, leads to: through present objects, each an element of the object array before it
+-- the object is reached: from the object of a global reference, or of a local of any thread, through present objects, each an element of the object array before it
 pub data IsReached (s : State) : ℕ → Type 0 where
   from_global : {o : ℕ} (h : Handle) → h.kind ≡ Global → s.refs h ≡ Object o → IsPresent s o → IsReached s o
   from_local : {o : ℕ} (t p : ℕ) → s.locals t p ≡ Some o → IsPresent s o → IsReached s o
   from_element : {o : ℕ} (a i : ℕ) (x : Contents) → IsReached s a → s.objects a ≡ Some x → x.kind ≡ Objects → slice_get x.words i ≡ Some o → IsPresent s o → IsReached s o
 
--- a reference of the index stands, or each serial of it has been given
+-- nothing can be created at the index: a reference of it stands, or each of its serials has been given
 abbrev pub IsOccupied : ℕ → State → ℕ → Type 0
 IsOccupied last s i =
     ((h : Handle) × (h.index ≡ i) × (s.refs h ≢ Stale))
     ⊎ ((serial : ℕ) → serial ≤ last → (h : Handle) × (h.index ≡ i) × (h.serial ≡ serial) × (s.given h ≡ true))
 
+-- a reference stands, be it cleared
 abbrev pub is_there : Found → Bool
 is_there Stale = false
 is_there _ = true
 
--- how many references of the kind stand, cleared ones too
+-- how many references of the kind stand, cleared ones too: at all indexes, with all serials
 abbrev pub references : Config → ℕ → RefKind → State → ℕ
 references c last k s = sum_below c.slots (λ i. count_below (last + 1) (λ n. is_there (s.refs (record { kind = k; serial = n; index = i; owner = 0 }))))
 
+-- how many references and objects stand, and how many words are used
 abbrev pub summary : Config → ℕ → State → Summary
 summary c last s = record {
   globals = references c last Global s;
@@ -120,3 +132,11 @@ summary c last s = record {
   live = count_below (c.objects + 1) (λ o. is_some (s.objects o));
   used = s.used;
 }
+
+-- both states have the same references, locals, objects and used words
+pub record HaveSameTables (s s' : State) : Type 0 where
+  pub refs : s'.refs ≡ s.refs
+  pub given : s'.given ≡ s.given
+  pub locals : s'.locals ≡ s.locals
+  pub objects : s'.objects ≡ s.objects
+  pub used : s'.used ≡ s.used

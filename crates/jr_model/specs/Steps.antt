@@ -1,4 +1,4 @@
--- What each step needs, and what it changes. What is not named stays.
+-- THE STEPS: what each needs, and what it changes. What is not named stays.
 use Rattle.std.specs.Prelude.{◌≡◌, ◌≢◌, ◌↔◌, ◌+◌, ◌<◌, ◌≤◌, ℕ, true, false, IsTrue, Option, Some, None, length, slice_get, slice_set, nat_eq}
 use Rattle.jr_word.specs.declared.config.Config.{Config}
 use Rattle.jr_word.specs.declared.handle.RefKind.TheVariants.{Local, Weak}
@@ -11,11 +11,11 @@ use Rattle.jr_model.specs.declared.event.Act.TheVariants.{Enter, Knock, Leave, W
 use Rattle.jr_model.specs.Maps.{update}
 use Rattle.jr_model.specs.State.{Handle, same_handle, Contents, State, IsPresent, NobodyCollects, SomebodyCollects, not_outside, present_words, IsWord, AreWords, IsClosed, IsReached, IsOccupied}
 
--- a global or weak handle of the room's slots
+-- a handle that can be created: global or weak, of no owner, with an index and a serial of the room
 abbrev pub IsInRow : Config → ℕ → Handle → Type 0
 IsInRow c last h = (h.kind ≢ Local) × (h.owner ≡ 0) × (h.index < c.slots) × (h.serial ≤ last)
 
--- what the act of thread t needs
+-- what the act of thread t needs of the state
 abbrev pub ActNeeds : Config → ℕ → State → ℕ → Act → Type 0
 ActNeeds c last s t Enter = (s.role t ≡ Outside) × NobodyCollects s
 ActNeeds c last s t Knock = (s.role t ≡ Outside) × SomebodyCollects s
@@ -45,11 +45,11 @@ ActNeeds c last s t (Drop o) = (s.role t ≡ Collecting) × IsPresent s o × ¬ 
 ActNeeds c last s t (Settle u) = (s.role t ≡ Collecting) × (u ≡ present_words c s)
 ActNeeds c last s t Meet = Unit {0}
 
--- what the event needs
+-- what the event needs: its thread is one of the room, and its act has what it needs
 abbrev pub Needs : Config → ℕ → State → Event → Type 0
 Needs c last s e = (e.thread < c.threads) × ActNeeds c last s e.thread e.act
 
--- the object with v as its element i
+-- an object after v is written as its element i
 abbrev pub written : Option Contents → ℕ → ℕ → Option Contents
 written None i v = None
 written (Some x) i v = Some (record { kind = x.kind; words = slice_set x.words i v })
@@ -75,9 +75,10 @@ act_after s t (Settle u) = record s { used = u }
 -- no other act changes anything
 act_after s t _ = s
 
+-- the state after the event
 abbrev pub after : State → Event → State
 after s e = act_after s e.thread e.act
 
--- the event leads from s to s'
+-- A STEP: the event leads from s to s'
 abbrev pub Step : Config → ℕ → State → Event → State → Type 0
 Step c last s e s' = Needs c last s e × (s' ≡ after s e)

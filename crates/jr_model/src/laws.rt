@@ -1,5 +1,8 @@
 ghost use Rattle.std.specs.Prelude.{ℕ};
 ghost use Rattle.jr_word.specs.declared.config.Config.{Config};
+ghost use Rattle.jr_model.specs.State.{State};
+ghost use Rattle.jr_model.specs.Grounded.{BarredByCollector, BusyIsCounted, SpaceWasFull, FreeIndexIsFound};
+ghost use Rattle.jr_model.specs.Unchanged.{RefusalsChangeNothing, HarmlessChangesNothing};
 ghost use Rattle.jr_model.specs.Laws.{
   CreatedIsFound,
   DeletedIsStale,
@@ -13,10 +16,18 @@ ghost use Rattle.jr_model.specs.Laws.{
   ReadsLastWord,
   LengthsFit,
   GivenOnce,
+  CollectionIsExact,
+  LegalGoesByStep,
+  ReleaseLeaves,
   FramesStaySound,
   FramesStayAgreed,
   HandleIsAtPlace,
 };
+
+/// A history is legal where its events are steps, one after the other, from the opening state.
+pub fn legal_histories_go_by_steps()
+    ensures { (c : Config) (last : ℕ) → LegalGoesByStep c last }
+{}
 
 /// No deleted handle resolves again, and none is given again.
 pub fn no_deleted_handle_returns()
@@ -67,4 +78,28 @@ pub fn frames_agree_with_the_machine()
 /// A reference that was created is found until it is deleted.
 pub fn created_references_are_found()
     ensures { (c : Config) (last : ℕ) → CreatedIsFound c last }
+{}
+
+/// A collection that leaves nothing out clears and drops exactly what is to be, each once. What is reached keeps its kind and elements, and so many words are used as the present objects have.
+pub fn collections_are_exact()
+    ensures { (c : Config) (last : ℕ) → CollectionIsExact c last }
+{}
+
+/// Each mode of a release leaves the array that it says, where nobody writes in between.
+pub fn releases_leave_the_array()
+    ensures { ReleaseLeaves }
+{}
+
+/// A call that is refused leaves its frames and the machine as they were: its acts are harmless, but that space which was reserved before E11 stays reserved.
+pub fn refusals_change_nothing()
+    ensures calls { (c : Config) (last thread : ℕ) (s : State) → RefusalsChangeNothing c last thread s }
+    ensures acts { HarmlessChangesNothing }
+{}
+
+/// What a refusal says of the shared room was so at some moment of the call: E13, E14 and E10 by their events, and E8 only where no index was free all through.
+pub fn refusals_are_true()
+    ensures barred { BarredByCollector }
+    ensures busy { BusyIsCounted }
+    ensures space { SpaceWasFull }
+    ensures row { FreeIndexIsFound }
 {}

@@ -1,4 +1,5 @@
 //! Worked examples of the machine: each function's contract says which histories are legal, what they leave, and what may not come after them.
+ghost use Rattle.jr_model.specs.CallExamples.{LengthOfNothing, TypeOfNothing, CallsOnCleared, CallsOnNull};
 ghost use Rattle.jr_model.specs.Examples.{
   DropIsLegal,
   FindingDroppedIsIllegal,
@@ -48,4 +49,12 @@ pub fn space_is_reserved_and_read()
 pub fn a_collection_takes_what_nothing_reaches()
     ensures legal { CollectionIsLegal }
     ensures reached { CollectingReachedIsIllegal }
+{}
+
+/// What calls answer where nothing was made, for a cleared weak reference, and for NULL.
+pub fn calls_answer_as_their_checks_say()
+    ensures length { LengthOfNothing }
+    ensures types { TypeOfNothing }
+    ensures cleared { CallsOnCleared }
+    ensures null { CallsOnNull }
 {}

@@ -1,0 +1,151 @@
+-- The examples of calls.
+use Rattle.std.proofs.Common.{◌≡◌, ℕ, Ok, None, [], ◌∷◌, ◌++◌, inl, inr, refl, ap, ◌∙◌}
+use Rattle.jr_word.specs.declared.fault.Fault.TheVariants as fault
+use Rattle.jr_model.specs.declared.event.Found.TheVariants.{Cleared}
+use Rattle.jr_model.specs.declared.event.Act.TheVariants.{Enter, Leave, Look}
+use Rattle.jr_word.specs.declared.handle.RefKind.TheVariants.{Weak}
+use Rattle.jr_model.specs.Frames.{Frames}
+use Rattle.jr_model.specs.Tests.{Parts, type_found}
+use Rattle.jr_model.specs.References.{get_object_ref_type}
+use Rattle.jr_model.specs.Examples.{last_serial, w}
+use Rattle.jr_model.specs.CallExamples.{quiet_room, fresh, LengthOfNothing, TypeOfNothing, CallsOnCleared, CallsOnNull}
+
+pub length_of_nothing : LengthOfNothing
+length_of_nothing = record {
+  null = inr ([], refl, inl (None, fresh, [], [], refl, inl (tt, fresh, [], [], refl, (refl, refl, refl), inl (tt, fresh, [], [], refl, (refl, refl, refl), inl (tt, fresh, [], [], refl, (refl, refl, refl), (refl, refl, refl)))), inr (fault.Null, refl, (refl, refl, refl))));
+  malformed = inr ([], refl, inr (fault.Stale, refl, inr (fault.Stale, refl, (refl, refl, refl))));
+  outside = inr ([], refl, inr (fault.Stale, refl, inl (tt, fresh, [], [], refl, (refl, refl, refl), inr (fault.Stale, refl, (refl, refl, refl)))));
+  unknown = inr ([], refl, inr (fault.Stale, refl, inl (tt, fresh, [], [], refl, (refl, refl, refl), inl (tt, fresh, [], [], refl, (refl, refl, refl), inl (tt, fresh, [], [], refl, (refl, refl, refl), (refl, refl, refl))))));
+  foreign = inr ([], refl, inr (fault.Foreign, refl, inl (tt, fresh, [], [], refl, (refl, refl, refl), inl (tt, fresh, [], [], refl, (refl, refl, refl), inr (fault.Foreign, refl, (refl, refl, refl))))));
+  barred = inl (refl, refl, refl);
+}
+
+pub type_of_nothing : TypeOfNothing
+type_of_nothing = record {
+  null = inr ([], refl, (refl, refl, refl));
+  malformed = inr ([], refl, (refl, refl, refl));
+  outside = inr ([], refl, (refl, refl, refl));
+  unknown = inr ([], refl, (refl, refl, refl));
+  foreign = inr ([], refl, (refl, refl, refl));
+}
+
+type_only : (n : ℕ) (g : Frames) → get_object_ref_type quiet_room last_serial 0 (Parts w) fresh (Enter ∷ Look w Cleared ∷ Leave ∷ []) (Ok n) g → n ≡ 3
+type_only n g (inl r) = absurd (let bad = r.1 in cc)
+type_only n g (inr (inside, acts, inr q)) = absurd (let bad = q.1 in cc)
+type_only n g (inr (inside, acts, inl q)) =
+    let is : inside ≡ Look w q.5.0 ∷ [] = q.4 ∙ (ap (λ l. l ++ q.3) q.5.1 ∙ ap (λ l. Look w q.5.0 ∷ l) q.6.0) in
+    let whole : Enter ∷ Look w Cleared ∷ Leave ∷ [] ≡ Enter ∷ Look w q.5.0 ∷ Leave ∷ [] = acts ∙ ap (λ l. Enter ∷ l ++ Leave ∷ []) is in
+    let found : q.0 ≡ Cleared = let given = q.5.2 in cc in
+    let answer : n ≡ type_found Weak q.0 = let gives = q.6.1 in cc in
+    answer ∙ ap (type_found Weak) found
+
+pub calls_on_cleared : CallsOnCleared
+calls_on_cleared = record {
+  type = inr (Look w Cleared ∷ [], refl, inl (Cleared, fresh, Look w Cleared ∷ [], [], refl, (Cleared, refl, refl, refl), (refl, refl, refl)));
+  type_only = type_only;
+  same = inr (
+    Look w Cleared ∷ [],
+    refl,
+    inl (
+      (None, None),
+      fresh,
+      Look w Cleared ∷ [],
+      [],
+      refl,
+      inl (
+        tt,
+        fresh,
+        [],
+        Look w Cleared ∷ [],
+        refl,
+        (refl, refl, refl),
+        inl (
+          tt,
+          fresh,
+          [],
+          Look w Cleared ∷ [],
+          refl,
+          (refl, refl, refl),
+          inl (
+            tt,
+            fresh,
+            [],
+            Look w Cleared ∷ [],
+            refl,
+            (refl, refl, refl),
+            inl (
+              tt,
+              fresh,
+              [],
+              Look w Cleared ∷ [],
+              refl,
+              (refl, refl, refl),
+              inl (
+                tt,
+                fresh,
+                [],
+                Look w Cleared ∷ [],
+                refl,
+                (refl, refl, refl),
+                inl (
+                  tt,
+                  fresh,
+                  [],
+                  Look w Cleared ∷ [],
+                  refl,
+                  (refl, refl, refl),
+                  inl (None, fresh, Look w Cleared ∷ [], [], refl, inl (Cleared, fresh, Look w Cleared ∷ [], [], refl, (Cleared, refl, refl, refl), (refl, refl, refl)), inl (None, fresh, [], [], refl, (refl, refl, refl), (refl, refl, refl))),
+                ),
+              ),
+            ),
+          ),
+        ),
+      ),
+      (refl, refl, refl),
+    ),
+  );
+  global = inr (
+    Look w Cleared ∷ [],
+    refl,
+    inl (
+      None,
+      fresh,
+      Look w Cleared ∷ [],
+      [],
+      refl,
+      inl (
+        tt,
+        fresh,
+        [],
+        Look w Cleared ∷ [],
+        refl,
+        (refl, refl, refl),
+        inl (
+          tt,
+          fresh,
+          [],
+          Look w Cleared ∷ [],
+          refl,
+          (refl, refl, refl),
+          inl (
+            tt,
+            fresh,
+            [],
+            Look w Cleared ∷ [],
+            refl,
+            (refl, refl, refl),
+            inl (Cleared, fresh, Look w Cleared ∷ [], [], refl, (Cleared, refl, refl, refl), (refl, refl, refl)),
+          ),
+        ),
+      ),
+      (refl, refl, refl),
+    ),
+  );
+  other_kind = inr ([], refl, inl (tt, fresh, [], [], refl, (refl, refl, refl), inr (fault.WrongKind, refl, (refl, refl, refl))));
+}
+
+pub calls_on_null : CallsOnNull
+calls_on_null = record {
+  delete = inr ([], refl, inl (tt, fresh, [], [], refl, (refl, refl, refl), inl (tt, fresh, [], [], refl, (refl, refl, refl), inl (tt, fresh, [], [], refl, (refl, refl, refl), (refl, refl, refl)))));
+  pop = inr ([], refl, inr (fault.NoFrame, refl, (refl, refl, refl)));
+}

@@ -1,0 +1,63 @@
+-- Worked examples of calls: the acts and the answer that they may have.
+use Rattle.std.specs.Prelude.{◌≡◌, ℕ, true, Ok, Err, None, [], ◌∷◌}
+use Rattle.jr_word.specs.declared.config.Config.{Config}
+use Rattle.jr_word.specs.declared.handle.RefKind.TheVariants.{Local, Global, Weak}
+use Rattle.jr_word.specs.declared.fault.Fault.TheVariants as fault
+use Rattle.jr_model.specs.declared.event.Found.TheVariants.{Cleared}
+use Rattle.jr_model.specs.declared.event.Act.TheVariants.{Enter, Knock, Leave, Withdraw, Look}
+use Rattle.jr_model.specs.State.{Handle, opening}
+use Rattle.jr_model.specs.Frames.{Frames, fresh_frames}
+use Rattle.jr_model.specs.Tests.{Nothing, Malformed, Parts}
+use Rattle.jr_model.specs.References.{new_reference, delete_reference, is_same_object, get_object_ref_type, pop_local_frame}
+use Rattle.jr_model.specs.Objects.{get_array_length}
+use Rattle.jr_model.specs.Examples.{last_serial, w}
+
+-- two threads, four slots and sixteen places, where nothing was made
+abbrev pub quiet_room : Config
+quiet_room = record { threads = 2; slots = 4; objects = 8; words = 16; locals = 16 }
+
+-- the frames of thread 0
+abbrev pub fresh : Frames
+fresh = fresh_frames 16
+
+-- a local reference that was never given
+abbrev pub never_given : Handle
+never_given = record { kind = Local; serial = 0; index = 0; owner = 0 }
+
+-- a global reference of an index past the row
+abbrev pub past_the_row : Handle
+past_the_row = record { kind = Global; serial = 0; index = 4; owner = 0 }
+
+-- a local reference of thread 1
+abbrev pub of_another : Handle
+of_another = record { kind = Local; serial = 0; index = 0; owner = 1 }
+
+-- GetArrayLength where nothing was made: E1 for NULL, E2 for a word that is no handle, for a handle past the row and for one that was never given, E3 for one of another thread. None of them is looked up
+pub record LengthOfNothing : Type 0 where
+  pub null : get_array_length quiet_room last_serial 0 opening Nothing fresh (Enter ∷ Leave ∷ []) (Err fault.Null) fresh
+  pub malformed : get_array_length quiet_room last_serial 0 opening Malformed fresh (Enter ∷ Leave ∷ []) (Err fault.Stale) fresh
+  pub outside : get_array_length quiet_room last_serial 0 opening (Parts past_the_row) fresh (Enter ∷ Leave ∷ []) (Err fault.Stale) fresh
+  pub unknown : get_array_length quiet_room last_serial 0 opening (Parts never_given) fresh (Enter ∷ Leave ∷ []) (Err fault.Stale) fresh
+  pub foreign : get_array_length quiet_room last_serial 0 opening (Parts of_another) fresh (Enter ∷ Leave ∷ []) (Err fault.Foreign) fresh
+  pub barred : get_array_length quiet_room last_serial 0 opening Nothing fresh (Knock ∷ Withdraw ∷ []) (Err fault.Barred) fresh
+
+-- GetObjectRefType of each of them is 0
+pub record TypeOfNothing : Type 0 where
+  pub null : get_object_ref_type quiet_room last_serial 0 Nothing fresh (Enter ∷ Leave ∷ []) (Ok 0) fresh
+  pub malformed : get_object_ref_type quiet_room last_serial 0 Malformed fresh (Enter ∷ Leave ∷ []) (Ok 0) fresh
+  pub outside : get_object_ref_type quiet_room last_serial 0 (Parts past_the_row) fresh (Enter ∷ Leave ∷ []) (Ok 0) fresh
+  pub unknown : get_object_ref_type quiet_room last_serial 0 (Parts never_given) fresh (Enter ∷ Leave ∷ []) (Ok 0) fresh
+  pub foreign : get_object_ref_type quiet_room last_serial 0 (Parts of_another) fresh (Enter ∷ Leave ∷ []) (Ok 0) fresh
+
+-- a cleared weak reference has type 3 and no other, is the same as NULL, and a new global reference to it is NULL; DeleteGlobalRef of it is E4 without a look
+pub record CallsOnCleared : Type 0 where
+  pub type : get_object_ref_type quiet_room last_serial 0 (Parts w) fresh (Enter ∷ Look w Cleared ∷ Leave ∷ []) (Ok 3) fresh
+  pub type_only : (n : ℕ) (g : Frames) → get_object_ref_type quiet_room last_serial 0 (Parts w) fresh (Enter ∷ Look w Cleared ∷ Leave ∷ []) (Ok n) g → n ≡ 3
+  pub same : is_same_object quiet_room last_serial 0 (Parts w) Nothing fresh (Enter ∷ Look w Cleared ∷ Leave ∷ []) (Ok true) fresh
+  pub global : new_reference quiet_room last_serial 0 Global (Parts w) fresh (Enter ∷ Look w Cleared ∷ Leave ∷ []) (Ok None) fresh
+  pub other_kind : delete_reference quiet_room last_serial 0 Global (Parts w) fresh (Enter ∷ Leave ∷ []) (Err fault.WrongKind) fresh
+
+-- deleting NULL does nothing, and the base frame can't be popped
+pub record CallsOnNull : Type 0 where
+  pub delete : delete_reference quiet_room last_serial 0 Weak Nothing fresh (Enter ∷ Leave ∷ []) (Ok tt) fresh
+  pub pop : pop_local_frame quiet_room last_serial 0 Nothing fresh (Enter ∷ Leave ∷ []) (Err fault.NoFrame) fresh
