@@ -10,6 +10,7 @@ slot_state (Retired serial) = 1
 slot_state (Global serial object) = 2
 slot_state (Weak serial object) = 3
 
+-- the serial of a slot's reference, or of its next one
 abbrev pub slot_serial : SlotParts → ℕ
 slot_serial (Free serial) = serial
 slot_serial (Retired serial) = serial

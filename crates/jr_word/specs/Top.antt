@@ -4,6 +4,7 @@ use Rattle.jr_word.specs.declared.top.Half.{Half}
 use Rattle.jr_word.specs.declared.top.Half.TheVariants.{First, Second}
 use Rattle.jr_word.specs.declared.top.TopParts.{TopParts}
 
+-- the number of a half
 abbrev pub half_number : Half → ℕ
 half_number First = 0
 half_number Second = 1
