@@ -13,7 +13,7 @@ use Rattle.jr_scripts.specs.declared.steps.Known.{Known}
 use Rattle.jr_scripts.specs.Knowing.{Standing, IsOf, view, Holds}
 use Rattle.jr_scripts.specs.Deeds.{Moment, moment}
 use Rattle.jr_scripts.specs.declared.plain.PlainSteps.{PlainSteps}
-use Rattle.jr_scripts.specs.Plain.{opening_of, standing, Shows}
+use Rattle.jr_scripts.specs.Plain.{unseen, standing, Shows}
 use Rattle.jr_scripts.specs.Text.{heading, ending}
 use Rattle.jr_scripts.specs.Explains.{Explained}
 use Rattle.jr_scripts.specs.Runs.{RanThread, IsRun, seeing, opening_moment}
@@ -28,18 +28,18 @@ same_view c last k config_is last_is thread_is =
 
 module _ {S : Type 0} {stands : S → Standing} {knows : S → Known → Type 0} (fits : (s : S) (k : Known) → knows s k → IsOf (stands s) k) where
   -- no local reference stands at the opening
-  pub opening_holds : (c : Config) (last : ℕ) → Holds (fresh_frames c.locals) (opening_of c last)
+  pub opening_holds : (c : Config) (last : ℕ) → Holds (fresh_frames c.locals) (unseen c last)
   opening_holds c last p = refl
 
   pub is_run : {old new : S} {f g : Frames} (turns last : ℕ) (c : Config) (part : ThreadPart) (lines whole : List ℕ) (v : Summary)
       → c.threads ≡ 1 → (stands old).config ≡ c → (stands old).last ≡ last → (stands old).thread ≡ 0
-      → knows old (opening_of c last) → f ≡ fresh_frames c.locals
+      → knows old (unseen c last) → f ≡ fresh_frames c.locals
       → RanThread stands knows old new f g turns 3 part.commands (Ok tt) lines
       → ((k : Known) → knows new k → v ≡ summary k.config k.last (state k.seen))
       → whole ≡ heading part.name ++ lines ++ ending v
       → IsRun turns last c part whole
   is_run {old} {new} {f} {g} turns last c part lines whole v one config_is last_is thread_is known fresh ran tells whole_is =
-      let k0 = opening_of c last in
+      let k0 = unseen c last in
       let x = ran.explained k0 known (subst (λ h. Holds h k0) (sym fresh) (opening_holds c last)) in
       let k = x.0 in
       let of = fits new k x.1 in
@@ -61,7 +61,7 @@ module _ {S : Type 0} {stands : S → Standing} {knows : S → Known → Type 0}
 
 -- the same over plain steps
 pub plain_run : {old new : PlainSteps 65535} {f g : Frames} {commands : List Command} {answer : Result (Unit {0}) Fault} (turns : ℕ) (c : Config) (part : ThreadPart) (lines whole : List ℕ) (v : Summary) (made : PlainSteps 65535)
-    → c.threads ≡ 1 → made.config ≡ c → made.role ≡ Outside → Shows (standing c 65535 Outside) made.words.items (opening_of c 65535)
+    → c.threads ≡ 1 → made.config ≡ c → made.role ≡ Outside → Shows (standing c 65535 Outside) made.words.items (unseen c 65535)
     → old ≡ made → f ≡ fresh_frames made.config.locals
     → commands ≡ part.commands → answer ≡ Ok tt
     → RanThread (λ s. standing s.config 65535 s.role) (λ s k. Shows (standing s.config 65535 s.role) s.words.items k) old new f g turns 3 commands answer lines
@@ -69,10 +69,10 @@ pub plain_run : {old new : PlainSteps 65535} {f g : Frames} {commands : List Com
     → whole ≡ heading part.name ++ lines ++ ending v
     → IsRun turns 65535 c part whole
 plain_run {old} {new} {f} {g} {commands} turns c part lines whole v made one config_is role_is opening same fresh these good ran tells whole_is =
-    let known : Shows (standing old.config 65535 old.role) old.words.items (opening_of c 65535)
-    = subst (λ (s : PlainSteps 65535). Shows (standing s.config 65535 s.role) s.words.items (opening_of c 65535)) (sym same)
-        (subst (λ d. Shows (standing d 65535 made.role) made.words.items (opening_of c 65535)) (sym config_is)
-        (subst (λ r. Shows (standing c 65535 r) made.words.items (opening_of c 65535)) (sym role_is) opening)) in
+    let known : Shows (standing old.config 65535 old.role) old.words.items (unseen c 65535)
+    = subst (λ (s : PlainSteps 65535). Shows (standing s.config 65535 s.role) s.words.items (unseen c 65535)) (sym same)
+        (subst (λ d. Shows (standing d 65535 made.role) made.words.items (unseen c 65535)) (sym config_is)
+        (subst (λ r. Shows (standing c 65535 r) made.words.items (unseen c 65535)) (sym role_is) opening)) in
     let Leads : List Command → Result (Unit {0}) Fault → Type 0
     = λ cs r. RanThread (λ (s : PlainSteps 65535). standing s.config 65535 s.role) (λ s k. Shows (standing s.config 65535 s.role) s.words.items k) old new f g turns 3 cs r lines in
     is_run (λ s k h. h.pass) turns 65535 c part lines whole v one (ap (λ (s : PlainSteps 65535). s.config) same ∙ config_is) refl refl known (fresh ∙ ap (λ d. fresh_frames d.locals) config_is) (subst (λ cs. Leads cs (Ok tt)) these (subst (Leads commands) good ran)) tells whole_is

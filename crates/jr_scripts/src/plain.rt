@@ -13,7 +13,7 @@ ghost use Rattle.jr_scripts.specs.Knowing.{anything, MayKnow};
 ghost use Rattle.jr_scripts.specs.Plain.{standing, Shows, CanStand, IsReference, freed};
 
 use crate::steps::{Naming, Steps};
-use jr_model::Role;
+use jr_model::{Role, Summary};
 use jr_word::{
     Config, Fault, GateParts, GateWord, HandleParts, Header, HeaderParts, LocalParts, LocalWord,
     RefKind, SlotParts, SlotWord,
@@ -51,7 +51,8 @@ fn words_of(config: &Config) -> usize
 
 impl<const LAST: u16> PlainSteps<LAST> {
     ghost use Rattle.jr_scripts.specs.declared.steps.Known.{Known};
-    ghost use Rattle.jr_scripts.specs.Knowing.{HasNoLocals};
+    ghost use Rattle.jr_scripts.specs.Knowing.{HasNoLocals, state_of};
+    ghost use Rattle.jr_model.specs.State.{summary};
     ghost use Rattle.jr_scripts.specs.Plain.{unseen};
 
     /// The steps over a row of zeros: E16, E17.
@@ -73,6 +74,24 @@ impl<const LAST: u16> PlainSteps<LAST> {
             config,
             role: Role::Outside,
         })
+    }
+
+    /// How many references and objects stand, and how many words are reserved.
+    pub fn summary(&self) -> Summary
+        ensures { (k : Known) → Shows (standing self.now.config LAST self.now.role) self.now.words.items k → result ≡ summary k.config k.last (state_of k) }
+    {
+        let mut globals = 0u32;
+        let mut live = 0u32;
+        let headers = SLOTS + self.config.slots as usize + self.config.threads as usize * self.config.locals as usize;
+        for i in 0..self.words.len() {
+            if i >= SLOTS && i < SLOTS + self.config.slots as usize && self.words[i] % 4 == 2 {
+                globals = globals.wrapping_add(1);
+            }
+            if i >= headers && self.words[i] != 0 {
+                live = live.wrapping_add(1);
+            }
+        }
+        Summary { globals, weaks: 0, live, used: 0 }
     }
 
     /// The word at a place of the row.
