@@ -1,16 +1,16 @@
 -- The first line.
 use Rattle.std.proofs.Common.{◌≡◌, ℕ, ◌^◌, ◌<◌, ◌≤◌, Bool, true, false, List, [], ◌∷◌, length, Ok, Err, refl, sym, ap, subst, ◌∙◌, arith, leb, ltb, eqb}
-use Rattle.std.specs.Prelude.{◌&&◌, codes, nat_le}
+use Rattle.std.specs.Prelude.{◌&&◌, codes}
 use Rattle.std.specs.Str.{bytes_eq}
-use Rattle.std.proofs.lemmas.Bool.{and_parts, and_from, leb-true, ltb-true, eqb-true, false≢true}
+use Rattle.std.proofs.lemmas.Bool.{and_parts, leb-true, ltb-true, eqb-true, false≢true}
 use Rattle.std.proofs.lemmas.Slice.Eq.{bytes_eq-Decides}
 use Rattle.jr_word.specs.declared.config.Config.{Config}
-use Rattle.jr_word.specs.Config.{in_limits, is_between}
+use Rattle.jr_word.specs.Config.{is_between}
 use Rattle.jr_syntax.specs.declared.argument.LineError.TheVariants as errors
 use Rattle.jr_syntax.specs.Line.{word_at, behind}
 use Rattle.jr_syntax.specs.Number.{is_number}
 use Rattle.jr_syntax.specs.Kind.{reading, Reads}
-use Rattle.jr_syntax.specs.Script.{vm, thread, is_config, threads_today, is_pair, config_at}
+use Rattle.jr_syntax.specs.Script.{vm, thread, is_config, is_pair, config_at}
 use Rattle.jr_syntax.specs.VmLine.{vm_words, AreNumbers}
 use Rattle.jr_syntax.proofs.DecimalLaws.{decimal_number}
 
@@ -21,24 +21,16 @@ vm_form : (a b c d e : List ℕ) → AreNumbers a b c d e → vm.has_form (vm_wo
 vm_form a b c d e h = rw (h.threads, h.slots, h.objects, h.words, h.locals) refl
 
 -- what they are read as
-pub vm_read : (ws : List (List ℕ)) (a b c d e : List ℕ) (k : Config) → ws ≡ vm_words a b c d e → AreNumbers a b c d e → (k ≡ vm.value (vm_words a b c d e)) × (nat_le k.threads threads_today ≡ true) → in_limits k ≡ true → Reads (reading vm) ws (Ok k)
+pub vm_read : (ws : List (List ℕ)) (a b c d e : List ℕ) (k : Config) → ws ≡ vm_words a b c d e → AreNumbers a b c d e → k ≡ vm.value (vm_words a b c d e) → is_config k ≡ true → Reads (reading vm) ws (Ok k)
 vm_read ws a b c d e k is h v l =
     let P : List (List ℕ) → Type 0 = λ x. Reads (reading vm) x (Ok k) in
-    subst P (sym is) (vm_form a b c d e h, ap is_config (sym v.0) ∙ and_from _ _ v.1 l, v.0)
+    subst P (sym is) (vm_form a b c d e h, ap is_config (sym v) ∙ l, v)
 
 -- where a size is out of its bounds
 pub vm_out : (ws : List (List ℕ)) (a b c d e : List ℕ) → ws ≡ vm_words a b c d e → AreNumbers a b c d e → vm.in_range (vm_words a b c d e) ≡ false → Reads (reading vm) ws (Err errors.Range)
 vm_out ws a b c d e is h o =
     let P : List (List ℕ) → Type 0 = λ x. Reads (reading vm) x (Err errors.Range) in
     subst P (sym is) (vm_form a b c d e h, o)
-
-no_limits : (t : Bool) (l : Bool) → l ≡ false → (t && l) ≡ false
-no_limits true l h = h
-no_limits false l h = refl
-
-pub vm_out_of_limits : (ws : List (List ℕ)) (a b c d e : List ℕ) (k : Config) → ws ≡ vm_words a b c d e → AreNumbers a b c d e → k ≡ vm.value (vm_words a b c d e) → in_limits k ≡ false → Reads (reading vm) ws (Err errors.Range)
-vm_out_of_limits ws a b c d e k is h v l =
-    vm_out ws a b c d e is h (ap is_config (sym v) ∙ no_limits (nat_le k.threads threads_today) (in_limits k) l)
 
 -- ---- a first line is its words
 

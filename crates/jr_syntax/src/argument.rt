@@ -8,7 +8,7 @@ use crate::name::{Name, Reference, is_name, is_reference};
 use crate::word::Words;
 
 /// Why words are not what they should be.
-#[derive(Clone, Copy, Debug, PartialEq, Eq)]
+#[derive(Clone, Copy)]
 pub enum LineError {
     /// They have not the form.
     Form,

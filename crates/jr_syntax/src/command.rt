@@ -9,7 +9,7 @@ use crate::name::{Name, Reference};
 use crate::word::Words;
 
 /// What a command's line begins with.
-#[derive(Clone, Copy, Debug, PartialEq, Eq)]
+#[derive(Clone, Copy)]
 pub enum Verb {
     Plain,
     Global,

@@ -24,7 +24,7 @@ use std::alloc::{AllocError, Global};
 const MOST_LINES: usize = 4096;
 
 /// Why a line was not taken.
-#[derive(Clone, Copy, Debug, PartialEq, Eq)]
+#[derive(Clone, Copy)]
 pub enum LineFault {
     Fault(Reason),
     Memory,

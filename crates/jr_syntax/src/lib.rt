@@ -21,7 +21,7 @@ mod word;
 pub use command::Command;
 pub use fault::{Reason, ScriptFault};
 pub use laws::{a_script_has_no_fault, a_text_has_one_script};
-pub use name::{Name, Reference};
+pub use name::{Name, Reference, is_name};
 pub use reader::parse;
 pub use script::Script;
 pub use sequence::Sequence;

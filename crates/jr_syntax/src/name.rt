@@ -95,6 +95,21 @@ pub enum Reference {
     Named(Name),
 }
 
+impl Reference {
+    ghost use Rattle.std.specs.Prelude.{◌≡◌};
+    ghost use Rattle.jr_syntax.specs.Reference.{reference_word as word_of};
+
+    /// Its word, as a command's line has it.
+    pub fn word(&self) -> &[u8]
+        ensures { result.now ≡ word_of self.now }
+    {
+        match self {
+            Reference::Null => b"null",
+            Reference::Named(name) => name.as_slice(),
+        }
+    }
+}
+
 fn is_letter(byte: u8) -> bool
     ensures { result ≡ letter byte }
 {

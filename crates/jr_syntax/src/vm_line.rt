@@ -1,9 +1,9 @@
 //! The first line of a script.
 
-ghost use Rattle.std.specs.Prelude.{◌≡◌, true, false, IfNone, IfSome, MatchOption, ◌∷◌, nat_le};
+ghost use Rattle.std.specs.Prelude.{◌≡◌, true, false, IfNone, IfSome, MatchOption, ◌∷◌};
 ghost use Rattle.jr_syntax.specs.Kind.{reading, Reads};
 ghost use Rattle.jr_syntax.specs.Number.{is_number as number_word};
-ghost use Rattle.jr_syntax.specs.Script.{is_pair, vm, threads_today};
+ghost use Rattle.jr_syntax.specs.Script.{is_config, is_pair, vm};
 ghost use Rattle.jr_syntax.specs.VmLine.{vm_words, AreNumbers};
 
 use crate::argument::LineError;
@@ -61,19 +61,26 @@ fn size_words<'a>(mut words: Words<'a>) -> Option<SizeWords<'a>>
     Some(sizes)
 }
 
-/// The sizes that such words say, where they are numbers of at most 32 bits.
+/// The sizes that such words say, where each is a number of at most 32 bits.
 fn sizes(words: &SizeWords) -> Option<Config>
     requires { AreNumbers words.now.threads.now words.now.slots.now words.now.objects.now words.now.words.now words.now.locals.now }
     ensures { let ws = vm_words words.now.threads.now words.now.slots.now words.now.objects.now words.now.words.now words.now.locals.now in
-        MatchOption result (vm.in_range ws ≡ false) (λ c. (c ≡ vm.value ws) × (nat_le c.threads threads_today ≡ true)) }
+        MatchOption result (vm.in_range ws ≡ false) (λ c. c ≡ vm.value ws) }
 {
     Some(Config {
-        threads: number_up_to(words.threads, THREADS_TODAY)?,
-        slots: number_up_to(words.slots, 65_536)?,
-        objects: number_up_to(words.objects, 65_535)?,
-        words: number_up_to(words.words, 1_048_576)?,
-        locals: number_up_to(words.locals, 4_096)?,
+        threads: number_up_to(words.threads, u32::MAX)?,
+        slots: number_up_to(words.slots, u32::MAX)?,
+        objects: number_up_to(words.objects, u32::MAX)?,
+        words: number_up_to(words.words, u32::MAX)?,
+        locals: number_up_to(words.locals, u32::MAX)?,
     })
+}
+
+/// Whether a script may have these sizes.
+fn is_allowed(config: &Config) -> bool
+    ensures { result ≡ is_config config.now }
+{
+    config.threads <= THREADS_TODAY && config.in_limits()
 }
 
 /// The sizes that the words of the first line say.
@@ -86,7 +93,7 @@ pub fn config_of(words: Words) -> Result<Config, LineError>
     let Some(config) = sizes(&words) else {
         return Err(LineError::Range);
     };
-    if !config.in_limits() {
+    if !is_allowed(&config) {
         return Err(LineError::Range);
     }
     Ok(config)
