@@ -16,7 +16,7 @@ use Rattle.jr_model.specs.History.{History, by, state, state_from, IsLegal, IsLe
 use Rattle.jr_model.proofs.Updates.{at_handle, at_handle_self}
 use Rattle.jr_model.proofs.Histories.{legal_append, state_append}
 use Rattle.jr_model.proofs.Gates.{IsApart, apart_state, apart_after, stay_act}
-use Rattle.jr_model.proofs.Stays.{no_leave}
+use Rattle.jr_model.proofs.Stays.{never}
 use Rattle.jr_model.proofs.References.{IsKept, kept_state}
 use Rattle.jr_model.proofs.Presence.{sound_state}
 use Rattle.jr_scripts.specs.declared.steps.Known.{Known}
@@ -72,7 +72,7 @@ looked_at c last h o k legal q =
     let room = in_room c last q.before both.0 in
     let row = kept.in_row h given in
     let end : state k.seen ≡ state_from was q.since = ap state q.is ∙ state_append q.before (look ∷ q.since) in
-    let still = still_along c last t h (found_object o) was q.since (apart_state c last q.before both.0) needs.0 (no_leave q.since t q.stays) (record { given = given; stands = inl needs.1 }) both.1.1 in
+    let still = still_along c last t h (found_object o) was q.since (apart_state c last q.before both.0) needs.0 (never Leave q.since t q.stays) (record { given = given; stands = inl needs.1 }) both.1.1 in
     record {
       row = row;
       can = can_stand h.kind o row.0 (λ e. room.cleared h (needs.1 ∙ ap found_object e));
