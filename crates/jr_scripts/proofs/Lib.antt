@@ -14,3 +14,4 @@ pub mod PlainTurns
 pub mod PlainSlots
 pub mod PlainPlaces
 pub mod Zeros
+pub mod Summaries
