@@ -16,7 +16,7 @@ use Rattle.jr_scripts.specs.Image.{is_inside, IsGateOf, IsImage}
 use Rattle.jr_scripts.proofs.Turns.{Turn, turn_one}
 use Rattle.jr_scripts.proofs.Images.{gate_set}
 
-bit_most : (b : Bool) → bit b ≤ 1
+pub bit_most : (b : Bool) → bit b ≤ 1
 bit_most true = omega arith
 bit_most false = omega arith
 

@@ -38,3 +38,4 @@ pub mod PlainTurns
 pub mod PlainSlots
 pub mod PlainPlaces
 pub mod Zeros
+pub mod Summaries

@@ -72,15 +72,12 @@ module _ (config : Config) (last : ℕ) (few : IsFew config last) (role : Role) 
         (subst (λ i. Turn k.config k.last k.seen k.thread (putting p o ∷ []) (slice_set words i (local_word (local_parts o)))) (own_word k p s) t, tt);
   }
 
-  header_word_at : (k : Known) (o : ℕ) → Shows old words k → header_at k.config o ≡ header_at config o
-  header_word_at k o s = ap (λ (c : Config). header_at c o) s.pass.config
-
-  pub published : (o : ℕ) (parts : HeaderParts) → (1 ≤ o) × (o ≤ config.objects) → (parts.length ≡ 0) × (parts.place ≡ 0) → get_or words (header_at config o) 0 ≡ 0 → role ≡ Within
-      → Turned old words old (slice_set words (header_at config o) (header_word parts)) (publishing o parts.kind true) anything (λ _ k. HasObject o k)
-  published o parts number empty found within = record {
+  pub published : (o at : ℕ) (parts : HeaderParts) → at ≡ header_at config o → (1 ≤ o) × (o ≤ config.objects) → (parts.length ≡ 0) × (parts.place ≡ 0) → get_or words at 0 ≡ 0 → role ≡ Within
+      → Turned old words old (slice_set words at (header_word parts)) (publishing o parts.kind true) anything (λ _ k. HasObject o k)
+  published o at parts place number empty found within = record {
     stands_is = refl;
     turn = λ k s m.
-        let i = header_word_at k o s in
+        let i : header_at k.config o ≡ at = ap (λ (c : Config). header_at c o) s.pass.config ∙ sym place in
         let high = subst (λ (c : Config). o ≤ c.objects) (sym s.pass.config) number.1 in
         let t = publishes k.config k.last k.seen k.thread words s.pass.legal s.image (row k s) (s.pass.role ∙ within) o parts number.0 high (header_fits parts empty) empty.0 (ap (λ j. get_or words j 0) i ∙ found) in
         (
@@ -90,12 +87,12 @@ module _ (config : Config) (last : ℕ) (few : IsFew config last) (role : Role) 
         );
   }
 
-  pub unpublished : (o : ℕ) (parts : HeaderParts) → (1 ≤ o) × (o ≤ config.objects) → get_or words (header_at config o) 0 ≢ 0
+  pub unpublished : (o at : ℕ) (parts : HeaderParts) → at ≡ header_at config o → (1 ≤ o) × (o ≤ config.objects) → get_or words at 0 ≢ 0
       → Turned old words old words (publishing o parts.kind false) anything (λ _ k. HasObject o k)
-  unpublished o parts number found = record {
+  unpublished o at parts place number found = record {
     stands_is = refl;
     turn = λ k s m.
-        let i = header_word_at k o s in
+        let i : header_at k.config o ≡ at = ap (λ (c : Config). header_at c o) s.pass.config ∙ sym place in
         let high = subst (λ (c : Config). o ≤ c.objects) (sym s.pass.config) number.1 in
         let t = turn_none k.config k.last k.seen k.thread words s.pass.legal s.image in
         (

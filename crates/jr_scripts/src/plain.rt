@@ -8,20 +8,23 @@ ghost use Rattle.jr_word.specs.Slot.{slot_word, IsSlot};
 ghost use Rattle.jr_model.specs.declared.event.Role.TheVariants.{Outside};
 ghost use Rattle.jr_model.specs.History.{role_after};
 ghost use Rattle.jr_scripts.specs.Acts.{entered_as};
-ghost use Rattle.jr_scripts.specs.Image.{row_words, slot_at, local_parts as parts_of_local};
+ghost use Rattle.jr_scripts.specs.Image.{row_words, slot_at, header_at, local_parts as parts_of_local};
 ghost use Rattle.jr_scripts.specs.Knowing.{anything, MayKnow};
-ghost use Rattle.jr_scripts.specs.Plain.{standing, Shows, CanStand, IsReference, freed};
+ghost use Rattle.jr_scripts.specs.Plain.{standing, Shows, CanStand, IsReference, is_of_kind, freed};
 
 use crate::steps::{Naming, Steps};
 use jr_model::{Role, Summary};
 use jr_word::{
     Config, Fault, GateParts, GateWord, HandleParts, Header, HeaderParts, LocalParts, LocalWord,
-    RefKind, SlotParts, SlotWord,
+    RefKind, SlotParts, SlotWord, TopWord,
 };
 use std::alloc::Global;
 
 /// The word of the gate.
 const GATE: usize = 0;
+
+/// The word of the top.
+const TOP: usize = 1;
 
 /// The word of the first slot.
 const SLOTS: usize = 2;
@@ -36,6 +39,7 @@ pub struct PlainSteps<const LAST: u16> {
     ghost slots: { config.slots ≤ 65536 },
     ghost objects: { config.objects ≤ 65535 },
     ghost locals: { config.locals ≤ 4096 },
+    ghost space: { config.words ≤ 1048576 },
     ghost wide: { vec_len words ≡ row_words config },
     ghost shown: { MayKnow (Shows (standing config LAST role)) words.items anything },
 }
@@ -51,9 +55,9 @@ fn words_of(config: &Config) -> usize
 
 impl<const LAST: u16> PlainSteps<LAST> {
     ghost use Rattle.jr_scripts.specs.declared.steps.Known.{Known};
+    ghost use Rattle.jr_model.specs.State.{references, summary as summary_of};
     ghost use Rattle.jr_scripts.specs.Knowing.{HasNoLocals, state_of};
-    ghost use Rattle.jr_model.specs.State.{summary};
-    ghost use Rattle.jr_scripts.specs.Plain.{unseen};
+    ghost use Rattle.jr_scripts.specs.Plain.{unseen, present_objects};
 
     /// The steps over a row of zeros: E16, E17.
     pub fn new(alloc: Global, config: Config) -> Result<Self, Fault>
@@ -76,22 +80,58 @@ impl<const LAST: u16> PlainSteps<LAST> {
         })
     }
 
-    /// How many references and objects stand, and how many words are reserved.
+    /// What stands in the room. It takes no memory.
     pub fn summary(&self) -> Summary
-        ensures { (k : Known) → Shows (standing self.now.config LAST self.now.role) self.now.words.items k → result ≡ summary k.config k.last (state_of k) }
+        ensures { (k : Known) → Shows (standing self.now.config LAST self.now.role) self.now.words.items k → result ≡ summary_of k.config k.last (state_of k) }
     {
-        let mut globals = 0u32;
-        let mut live = 0u32;
-        let headers = SLOTS + self.config.slots as usize + self.config.threads as usize * self.config.locals as usize;
-        for i in 0..self.words.len() {
-            if i >= SLOTS && i < SLOTS + self.config.slots as usize && self.words[i] % 4 == 2 {
-                globals = globals.wrapping_add(1);
-            }
-            if i >= headers && self.words[i] != 0 {
-                live = live.wrapping_add(1);
+        Summary {
+            globals: self.references(RefKind::Global),
+            weaks: self.references(RefKind::Weak),
+            live: self.objects(),
+            used: self.used(),
+        }
+    }
+
+    /// How many references of the kind stand.
+    fn references(&self, kind: RefKind) -> u32
+        ensures { (k : Known) → Shows (standing self.now.config LAST self.now.role) self.now.words.items k → result ≡ references k.config k.last kind (state_of k) }
+    {
+        let mut count = 0;
+        for index in 0..self.config.slots {
+            if is_reference(kind, self.slot(index as u16)) {
+                count += 1;
             }
         }
-        Summary { globals, weaks: 0, live, used: 0 }
+        count
+    }
+
+    /// How many objects are present.
+    fn objects(&self) -> u32
+        ensures { (k : Known) → Shows (standing self.now.config LAST self.now.role) self.now.words.items k → result ≡ present_objects k.config (state_of k) }
+    {
+        let mut count = 0;
+        for before in 0..self.config.objects {
+            if self.word(self.header_at(before + 1)) != 0 {
+                count += 1;
+            }
+        }
+        count
+    }
+
+    /// How many words of array space are reserved.
+    fn used(&self) -> u32
+        ensures { (k : Known) → Shows (standing self.now.config LAST self.now.role) self.now.words.items k → result ≡ (state_of k).used }
+    {
+        TopWord::parts(self.word(TOP)).unwrap().used
+    }
+
+    /// The place of an object's header in the row.
+    fn header_at(&self, object: u32) -> usize
+        requires { (1 ≤ object) × (object ≤ self.now.config.objects) }
+        ensures { result ≡ header_at self.now.config object }
+    {
+        let locals = self.config.threads as usize * self.config.locals as usize;
+        SLOTS + self.config.slots as usize + locals + (object as usize - 1)
     }
 
     /// The word at a place of the row.
@@ -119,6 +159,17 @@ fn is_shut(word: u64) -> bool
         GateWord::parts(word),
         Some(GateParts { shut: true, .. })
     )
+}
+
+/// Whether what the word of a slot says is a reference of the kind.
+fn is_reference(kind: RefKind, parts: SlotParts) -> bool
+    ensures { result ≡ is_of_kind kind parts }
+{
+    match parts {
+        SlotParts::Global { .. } => kind == RefKind::Global,
+        SlotParts::Weak { .. } => kind == RefKind::Weak,
+        _ => false,
+    }
 }
 
 /// The role of a thread whose entry went in, or did not.
@@ -234,8 +285,7 @@ impl<const LAST: u16> Steps for PlainSteps<LAST> {
     }
 
     fn claim_header(&mut self, object: u16, header: HeaderParts) -> bool {
-        let locals = self.config.threads as usize * self.config.locals as usize;
-        let at = SLOTS + self.config.slots as usize + locals + (object as usize - 1);
+        let at = self.header_at(u32::from(object));
         if self.word(at) != 0 {
             return false;
         }
