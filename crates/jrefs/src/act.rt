@@ -50,10 +50,10 @@ fn input_of<R: Read + Drop>(alloc: Global, reader: &mut R) -> Result<Vec<u8>, Tr
     let mut input = Vec::new(alloc);
     let mut piece = [0u8; PIECE];
     for _ in 0..u32::MAX {
-        let room = (MOST_INPUT - input.len()).min(PIECE);
-        if room == 0 {
+        if input.len() >= MOST_INPUT {
             break;
         }
+        let room = (MOST_INPUT - input.len()).min(PIECE);
         let n = reader
             .read(&mut piece[..room])
             .map_err(|_| Trouble::Input)?;
