@@ -1,5 +1,5 @@
 -- A reference is made to what was resolved.
-use Rattle.std.proofs.Common.{◌≡◌, ℕ, Bool, true, arith, Option, Some, None, List, [], ◌∷◌, ◌++◌, map, Result, Ok, Err, inl, inr, refl, sym, ap, subst, ◌∙◌}
+use Rattle.std.proofs.Common.{◌≡◌, ℕ, Bool, true, arith, Option, Some, None, List, [], ◌∷◌, Result, Ok, Err, inl, inr, refl, sym, ap, subst, ◌∙◌}
 use Rattle.std.proofs.lemmas.List.{append-nil}
 use Rattle.std.specs.List.{AllByRecursion}
 use Rattle.std.specs.Result.{IsErrAnd}
@@ -19,7 +19,7 @@ use Rattle.jr_model.proofs.Agreement.{spares_places}
 use Rattle.jr_model.proofs.Runs.{ran_done, ran_then, ran_err, ran_give, did_legal}
 use Rattle.jr_scripts.specs.declared.steps.Known.{Known}
 use Rattle.jr_scripts.specs.Knowing.{Standing, IsOf, view, HasObject, Holds, MayKnow}
-use Rattle.jr_scripts.specs.Performing.{Searched, search_acts, OfKind, Resolves, Calls}
+use Rattle.jr_scripts.specs.Performing.{Searched, search_acts, Resolves, Calls}
 use Rattle.jr_scripts.proofs.Known.{holds_did}
 use Rattle.jr_scripts.proofs.Refusing.{handed_on}
 
@@ -73,8 +73,7 @@ module _ {S : Type 0} {stands : S → Standing} {knows : S → Known → Type 0}
     ran = λ k s m.
         let x = p.ran k s m in
         let y = q.did x.0 x.1 x.3.1 in
-        let slots : x.0.config.slots ≡ (stands b).config.slots = ap (λ (z : Config). z.slots) (fits b x.0 x.1).config in
-        (
+        let slots : x.0.config.slots ≡ (stands b).config.slots = ap (λ (z : Config). z.slots) (fits b x.0 x.1).config in (
           y.0,
           y.1,
           ran_then {next = created kind} (Some o) x.2 (ran_err (λ h. done (Some h)) RowFull (full_ran f kind o y.4 (λ i l. y.3 i (omega arith) (omega arith)) y.5)),
@@ -87,8 +86,7 @@ module _ {S : Type 0} {stands : S → Standing} {knows : S → Known → Type 0}
     stands_is = q.stands_is ∙ p.stands_is;
     ran = λ k s m.
         let x = p.ran k s m in
-        let y = q.did x.0 x.1 x.3.1 in
-        (
+        let y = q.did x.0 x.1 x.3.1 in (
           y.0,
           y.1,
           ran_then {next = created kind} (Some o) x.2 (ran_give (λ z. Some z) h (won_ran f kind o h y.4 q.kind_is.0 y.5)),

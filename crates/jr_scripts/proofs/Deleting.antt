@@ -1,5 +1,5 @@
 -- A delete is one look and one exchange.
-use Rattle.std.proofs.Common.{◌≡◌, ℕ, Option, Some, None, true, List, [], ◌∷◌, ◌++◌, Result, Ok, Err, inl, inr, refl, sym, ap, subst, ◌∙◌}
+use Rattle.std.proofs.Common.{◌≡◌, ℕ, Option, Some, None, [], ◌∷◌, Result, Ok, Err, inl, inr, refl, ap, subst, ◌∙◌}
 use Rattle.std.specs.Result.{IsErrAnd}
 use mathlib.Core.Logic.{∥∥₁_map}
 use Rattle.jr_word.specs.declared.fault.Fault.{Fault}
@@ -10,7 +10,7 @@ use Rattle.jr_model.specs.declared.event.Act.TheVariants.{Look, Delete, DeleteSt
 use Rattle.jr_model.specs.State.{Handle}
 use Rattle.jr_model.specs.History.{PassView, Did}
 use Rattle.jr_model.specs.Frames.{Frames}
-use Rattle.jr_model.specs.Calls.{Ran, act, refuse, ◌>>◌, ◌>>=◌}
+use Rattle.jr_model.specs.Calls.{Ran, act, refuse, ◌>>◌}
 use Rattle.jr_model.specs.Parts.{delete, delete_found}
 use Rattle.jr_model.proofs.Runs.{ran_act, ran_some_act, ran_refuse, ran_then, did_legal}
 use Rattle.jr_scripts.specs.declared.steps.Known.{Known}

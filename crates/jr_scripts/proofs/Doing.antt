@@ -33,8 +33,7 @@ module _ {S : Type 0} {stands : S → Standing} {knows : S → Known → Type 0}
       stands_is = p.stands_is;
       did = λ k s m.
           let x = p.ran k s m in
-          let i = fits a k s in
-          (
+          let i = fits a k s in (
             x.0,
             x.1,
             x.3,

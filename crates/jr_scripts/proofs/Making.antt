@@ -1,5 +1,5 @@
 -- A plain object is made, and a local reference to it.
-use Rattle.std.proofs.Common.{◌≡◌, ◌≢◌, ◌<◌, ◌≤◌, ℕ, Bool, true, false, nat_lt, Some, None, [], ◌∷◌, Result, Ok, Err, length, inl, inr, refl, sym, ap, subst, ◌∙◌, arith, IsTrue}
+use Rattle.std.proofs.Common.{◌≡◌, ◌≢◌, ◌<◌, ◌≤◌, ℕ, false, nat_lt, Some, None, [], ◌∷◌, Result, Ok, Err, length, inl, inr, refl, sym, subst, ◌∙◌, arith, IsTrue}
 use Rattle.std.proofs.lemmas.Bool.Decides.{nat_tests}
 use Rattle.std.specs.Result.{IsErrAnd}
 use mathlib.Core.Logic.{∥∥₁_map, ∥∥₁_elim}
@@ -10,8 +10,8 @@ use Rattle.jr_word.specs.declared.fault.Fault.{Fault}
 use Rattle.jr_word.specs.declared.fault.Fault.TheVariants.{LocalsFull, ObjectsFull}
 use Rattle.jr_model.specs.declared.event.Role.TheVariants.{Within}
 use Rattle.jr_model.specs.declared.event.Act.TheVariants.{New, LocalPut}
-use Rattle.jr_model.specs.State.{Handle, State, IsPresent}
-use Rattle.jr_model.specs.History.{PassView, IsLegal, Did}
+use Rattle.jr_model.specs.State.{Handle}
+use Rattle.jr_model.specs.History.{PassView, Did}
 use Rattle.jr_model.specs.Frames.{Frames, IsAdded, free_places, is_free}
 use Rattle.jr_model.specs.Refusals.{ObjectsWereFull}
 use Rattle.jr_model.specs.Calls.{Ran, refuse_if, ◌>>=◌}
@@ -19,15 +19,14 @@ use Rattle.jr_model.specs.Parts.{publish}
 use Rattle.jr_model.specs.References.{added}
 use Rattle.jr_model.proofs.Counts.{count_none}
 use Rattle.jr_model.proofs.Moments.{sometime_last, one_act}
-use Rattle.jr_model.proofs.Runs.{ran_some_act, ran_done, ran_then, ran_err}
+use Rattle.jr_model.proofs.Runs.{ran_then, ran_err}
 use Rattle.jr_scripts.specs.declared.steps.Known.{Known}
 use Rattle.jr_scripts.specs.Works.{making}
 use Rattle.jr_scripts.specs.Table.{Table, IsNext, IsOnly}
-use Rattle.jr_scripts.specs.Knowing.{Standing, IsOf, view, state_of, anything, nothing, HasObject, HasOptional, Holds, MayKnow, Took}
-use Rattle.jr_scripts.specs.Performing.{EachPresent, Published, Calls}
+use Rattle.jr_scripts.specs.Knowing.{Standing, IsOf, view, anything, nothing, HasOptional, MayKnow, Took}
+use Rattle.jr_scripts.specs.Performing.{Published, Calls}
 use Rattle.jr_scripts.specs.Ready.{IsReady}
 use Rattle.jr_scripts.proofs.Known.{goes_did, holds_did, holds_put}
-use Rattle.jr_scripts.proofs.Reading.{ran_refused, ran_passed}
 use Rattle.jr_scripts.proofs.Refusing.{handed_on}
 
 below_one : (n : ℕ) → n ≢ 0 → nat_lt n 1 ≡ false
@@ -94,8 +93,7 @@ module _ {S : Type 0} {stands : S → Standing} {knows : S → Known → Type 0}
           let x = p.did k s in
           let y = u.goes x.0 x.1 x.2 in
           let d = goes_did y.2 in
-          let here = subst (λ n. IsAdded n (stands a).thread t.frames (record { handle = h; object = o }) g) r.last (subst (λ n. IsAdded t.last n t.frames (record { handle = h; object = o }) g) r.owner added) in
-          (
+          let here = subst (λ n. IsAdded n (stands a).thread t.frames (record { handle = h; object = o }) g) r.last (subst (λ n. IsAdded t.last n t.frames (record { handle = h; object = o }) g) r.owner added) in (
             y.0,
             y.1,
             made_ran (stands a).config (stands a).last (stands a).thread h o (room_at h r next) x.3 d here,

@@ -1,5 +1,5 @@
 -- Objects are published at the first number that is absent.
-use Rattle.std.proofs.Common.{◌≡◌, ◌≢◌, ◌≤◌, ◌<◌, ◌+◌, ◌⊎◌, inl, inr, ⊎_elim, ℕ, Option, Some, None, List, [], ◌∷◌, refl, sym, ap, subst, ◌∙◌, arith}
+use Rattle.std.proofs.Common.{◌≡◌, ◌≤◌, ◌+◌, ◌⊎◌, ⊎_elim, ℕ, Some, [], ◌∷◌, refl, ap, subst, ◌∙◌, arith}
 use Rattle.jr_word.specs.declared.kind.Kind.{Kind}
 use Rattle.jr_model.specs.declared.event.Role.TheVariants.{Within}
 use Rattle.jr_model.specs.declared.event.Act.TheVariants.{New}
@@ -7,7 +7,7 @@ use Rattle.jr_model.specs.History.{Did}
 use Rattle.jr_model.proofs.Stays.{did_then, did_nothing}
 use Rattle.jr_scripts.specs.declared.steps.Known.{Known}
 use Rattle.jr_scripts.specs.Knowing.{Standing, IsOf, view, anything, HasObject, Took}
-use Rattle.jr_scripts.specs.Performing.{Published, publication}
+use Rattle.jr_scripts.specs.Performing.{Published}
 use Rattle.jr_scripts.proofs.Known.{goes_did, present_stays}
 
 module _ {S : Type 0} (stands : S → Standing) (knows : S → Known → Type 0) where
@@ -30,8 +30,7 @@ module _ {S : Type 0} {stands : S → Standing} {knows : S → Known → Type 0}
         let x = p.did k s in
         let y = t.goes x.0 x.1 tt in
         let d = goes_did y.2 in
-        let within = (fits b x.0 x.1).role ∙ (ap (λ (z : Standing). z.role) p.stands_is ∙ w) in
-        (
+        let within = (fits b x.0 x.1).role ∙ (ap (λ (z : Standing). z.role) p.stands_is ∙ w) in (
           y.0,
           y.1,
           λ o l m. ⊎_elim (λ e. present_stays x.0 y.0 [] o d within tt (x.2 o l e)) (λ e. subst (λ z. HasObject z y.0) e y.3) (last_or o n m),

@@ -1,20 +1,19 @@
 -- References are deleted by the call for their kind.
-use Rattle.std.proofs.Common.{◌≡◌, ◌≢◌, ℕ, Bool, true, false, not, Option, Some, None, List, [], ◌∷◌, ◌++◌, Result, Ok, Err, inl, inr, ⊎_elim, refl, sym, ap, subst, ◌∙◌}
+use Rattle.std.proofs.Common.{◌≡◌, ℕ, true, false, not, Option, Some, None, List, [], ◌∷◌, ◌++◌, Result, Ok, Err, ⊎_elim, refl, sym, ap, subst}
 use Rattle.std.specs.List.{AllByRecursion}
 use Rattle.jr_word.specs.declared.config.Config.{Config}
 use Rattle.jr_word.specs.declared.handle.RefKind.{RefKind}
-use Rattle.jr_word.specs.declared.handle.RefKind.TheVariants.{Local}
 use Rattle.jr_word.specs.declared.fault.Fault.{Fault}
 use Rattle.jr_word.specs.declared.fault.Fault.TheVariants as fault
 use Rattle.jr_model.specs.declared.event.Found.{Found}
-use Rattle.jr_model.specs.declared.event.Found.TheVariants.{Object, Cleared, Stale}
+use Rattle.jr_model.specs.declared.event.Found.TheVariants.{Stale}
 use Rattle.jr_model.specs.declared.event.Act.{Act}
 use Rattle.jr_model.specs.declared.event.Act.TheVariants.{LocalDrop}
 use Rattle.jr_model.specs.State.{Handle, same_kind}
-use Rattle.jr_model.specs.History.{PassView, IsLegal, Did}
+use Rattle.jr_model.specs.History.{PassView, IsLegal}
 use Rattle.jr_model.specs.Frames.{Frames, deleted, object_of}
 use Rattle.jr_model.specs.Calls.{Ran, ◌>>=◌}
-use Rattle.jr_model.specs.Tests.{Word, Nothing, Malformed, Parts, is_local, is_out_of_bounds, is_foreign}
+use Rattle.jr_model.specs.Tests.{Nothing, Malformed, Parts, is_local, is_out_of_bounds, is_foreign}
 use Rattle.jr_model.specs.Parts.{delete, delete_found, drop_local, looked_at}
 use Rattle.jr_model.proofs.Agreement.{spares_places}
 use Rattle.jr_model.proofs.Runs.{ran_done, ran_then, ran_err}
@@ -22,7 +21,7 @@ use Rattle.jr_scripts.specs.declared.steps.Known.{Known}
 use Rattle.jr_scripts.specs.Works.{removal, local_removal}
 use Rattle.jr_scripts.specs.Table.{IsOnly}
 use Rattle.jr_scripts.specs.Reading.{local_answer}
-use Rattle.jr_scripts.specs.Knowing.{Standing, IsOf, view, anything, nothing, HasOptional, Holds, Took}
+use Rattle.jr_scripts.specs.Knowing.{Standing, IsOf, view, anything, nothing, HasOptional, Took}
 use Rattle.jr_scripts.specs.Performing.{Performed, Calls}
 use Rattle.jr_scripts.proofs.Known.{goes_did, holds_did, holds_put}
 use Rattle.jr_scripts.proofs.Reading.{ran_refused, ran_passed, ran_local}
@@ -41,9 +40,9 @@ found_spares h Stale f g acts answer r = subst Spare (sym r.0) tt
 found_spares h _ f g acts answer r = ⊎_elim
     (λ won. subst Spare (sym won.0) (refl, tt))
     (λ lost. ⊎_elim
-        (λ both. subst Spare (sym both.4) (spare_both both.2 both.3 (subst Spare (sym both.5.0) (refl, tt)) (subst Spare (sym both.6.0) tt)))
-        (λ first. subst Spare (sym first.2.0) (refl, tt))
-        lost)
+    (λ both. subst Spare (sym both.4) (spare_both both.2 both.3 (subst Spare (sym both.5.0) (refl, tt)) (subst Spare (sym both.6.0) tt)))
+    (λ first. subst Spare (sym first.2.0) (refl, tt))
+    lost)
     r
 
 delete_spares : (h : Handle) (f g : Frames) (acts : List Act) (answer : Result (Unit {0}) Fault) → delete h f acts answer g → Spare acts
@@ -109,9 +108,6 @@ module _ {S : Type 0} {stands : S → Standing} {knows : S → Known → Type 0}
     module _ (t : ℕ) where
       pub local_null : Calls stands knows a a f f (local_removal c t Nothing) (Ok tt)
       local_null = stays fits a f (λ p l. ran_passed false fault.Stale _ refl (ran_passed false fault.WrongKind _ refl (ran_passed false fault.Stale _ refl (ran_passed false fault.Foreign _ refl (ran_done p f tt l)))))
-
-      pub local_malformed : Calls stands knows a a f f (local_removal c t Malformed) (Err fault.Stale)
-      local_malformed = stays fits a f (λ p l. ran_refused p f true fault.Stale _ refl tt l)
 
       pub local_other : (h : Handle) → is_local h ≡ false → Calls stands knows a a f f (local_removal c t (Parts h)) (Err fault.WrongKind)
       local_other h e = stays fits a f (λ p l. ran_passed false fault.Stale _ refl (ran_refused p f (not (is_local h)) fault.WrongKind _ (ap not e) tt l))

@@ -1,5 +1,5 @@
 -- References are resolved, and their types are told.
-use Rattle.std.proofs.Common.{◌≡◌, ℕ, Bool, true, false, ◌||◌, cond, Option, Some, None, IfSome, [], ◌∷◌, Result, Ok, Err, refl, sym, ap, subst, ◌∙◌}
+use Rattle.std.proofs.Common.{◌≡◌, ℕ, Bool, true, false, ◌||◌, cond, Option, Some, None, IfSome, [], ◌∷◌, Result, Ok, Err, refl, sym, subst}
 use Rattle.jr_word.specs.declared.config.Config.{Config}
 use Rattle.jr_word.specs.declared.fault.Fault.{Fault}
 use Rattle.jr_word.specs.declared.fault.Fault.TheVariants as fault
@@ -10,16 +10,16 @@ use Rattle.jr_model.specs.State.{Handle}
 use Rattle.jr_model.specs.History.{PassView, IsLegal}
 use Rattle.jr_model.specs.Frames.{Frames, object_of, object_at}
 use Rattle.jr_model.specs.Calls.{Call, Ran, done}
-use Rattle.jr_model.specs.Tests.{Word, Nothing, Malformed, Parts, is_local, is_malformed, is_out_of_bounds, is_foreign, type_found, type_local}
+use Rattle.jr_model.specs.Tests.{Nothing, Parts, is_local, is_out_of_bounds, is_foreign, type_found}
 use Rattle.jr_model.specs.Parts.{looked_at, type_at}
 use Rattle.jr_model.specs.References.{resolved}
 use Rattle.jr_model.proofs.Runs.{ran_done}
 use Rattle.jr_scripts.specs.declared.steps.Known.{Known}
 use Rattle.jr_scripts.specs.Knowing.{Standing, IsOf, view, anything, nothing, Holds, Goes, Took}
-use Rattle.jr_scripts.specs.Performing.{FoundPresent, Performed, Resolves, Calls}
+use Rattle.jr_scripts.specs.Performing.{FoundPresent, Resolves, Calls}
 use Rattle.jr_scripts.specs.Reading.{found_answer, local_answer}
 use Rattle.jr_scripts.proofs.Known.{goes_did, looked_present, holds_did, local_present}
-use Rattle.jr_scripts.proofs.Reading.{ran_refused, ran_passed, ran_local, ran_remote, ran_local_type, ran_remote_type}
+use Rattle.jr_scripts.proofs.Reading.{ran_refused, ran_passed, ran_local, ran_remote, ran_remote_type}
 
 remote_present : (k k' : Known) (h : Handle) (r : Found) → Goes k (Look h r ∷ []) k' → FoundPresent (found_answer r) k'
 remote_present k k' h (Object o) g = looked_present h o g
@@ -61,15 +61,9 @@ module _ {S : Type 0} {stands : S → Standing} {knows : S → Known → Type 0}
           (k, s, subst (λ y. Ran (view k) (view k) f f (looked_at h) (local_answer y)) (sym is) (ran_local (view k) f h b l), (m, found_there f h z at k l m));
     }
 
-    pub types_local : (h : Handle) (z : Option ℕ) → is_local h ≡ true → z ≡ object_of f h → Calls stands knows a a f f (type_at (Parts h)) (Ok (type_local z))
-    types_local h z b is = subst (λ y. Calls stands knows a a f f (type_at (Parts h)) (Ok (type_local y))) (sym is) (stays (λ p l. ran_local_type p f h b l))
-
     module _ (c : Config) (last t : ℕ) where
       pub resolves_null : Resolves stands knows a a f (resolved c last t Nothing) (Ok None)
       resolves_null = resolves_none (λ k. tt) (λ p l. ran_passed false fault.Stale _ refl (ran_passed false fault.Stale _ refl (ran_passed false fault.Foreign _ refl (ran_done p f None l))))
-
-      pub resolves_malformed : Resolves stands knows a a f (resolved c last t Malformed) (Err fault.Stale)
-      resolves_malformed = resolves_none (λ k. tt) (λ p l. ran_refused p f true fault.Stale _ refl tt l)
 
       pub resolves_outside : (h : Handle) → is_out_of_bounds c (Parts h) ≡ true → Resolves stands knows a a f (resolved c last t (Parts h)) (Err fault.Stale)
       resolves_outside h e = resolves_none (λ k. tt) (λ p l. ran_passed false fault.Stale _ refl (ran_refused p f (is_out_of_bounds c (Parts h)) fault.Stale _ e tt l))
@@ -77,10 +71,6 @@ module _ {S : Type 0} {stands : S → Standing} {knows : S → Known → Type 0}
       pub resolves_foreign : (h : Handle) → is_out_of_bounds c (Parts h) ≡ false → is_foreign t (Parts h) ≡ true → Resolves stands knows a a f (resolved c last t (Parts h)) (Err fault.Foreign)
       resolves_foreign h e e' = resolves_none (λ k. tt)
           (λ p l. ran_passed false fault.Stale _ refl (ran_passed (is_out_of_bounds c (Parts h)) fault.Stale _ e (ran_refused p f (is_foreign t (Parts h)) fault.Foreign _ e' tt l)))
-
-    -- the type of a reference that a call would refuse
-    pub types_none : (b : Bool) (work : Call ℕ) → b ≡ true → Calls stands knows a a f f (cond b (done 0) work) (Ok 0)
-    types_none b work e = subst (λ z. Calls stands knows a a f f (cond z (done 0) work) (Ok 0)) (sym e) (stays (λ p l. ran_done p f 0 l))
 
   pub resolves_looked : (c : Config) (last t : ℕ) {a b : S} (f : Frames) (h : Handle) {answer : Result (Option ℕ) Fault} → is_out_of_bounds c (Parts h) ≡ false → is_foreign t (Parts h) ≡ false → Resolves stands knows a b f (looked_at h) answer → Resolves stands knows a b f (resolved c last t (Parts h)) answer
   resolves_looked c last t f h e e' p = record {

@@ -1,5 +1,5 @@
 -- One step after the other, for whatever was known.
-use Rattle.std.proofs.Common.{◌≡◌, ◌≢◌, ◌<◌, ◌≤◌, ◌+◌, ℕ, Bool, true, false, Option, Some, None, Result, Ok, Err, List, [], ◌∷◌, ◌++◌, map, refl, sym, ap, subst, ◌∙◌, append_assoc, arith, inl, inr, ◌⊎◌, ⊎_elim}
+use Rattle.std.proofs.Common.{◌≡◌, ◌≢◌, ◌<◌, ◌≤◌, ◌+◌, ℕ, Bool, true, false, Option, Some, None, Err, List, [], ◌∷◌, ◌++◌, map, refl, sym, ap, subst, ◌∙◌, append_assoc, arith, inl, inr, ◌⊎◌, ⊎_elim}
 use mathlib.Core.List.{map-append}
 use Rattle.jr_word.specs.declared.handle.RefKind.{RefKind}
 use Rattle.jr_word.specs.declared.slot.SlotParts.{SlotParts}
@@ -7,15 +7,15 @@ use Rattle.jr_word.specs.declared.slot.SlotParts.TheVariants as slot
 use Rattle.jr_model.specs.declared.event.Role.TheVariants.{Within}
 use Rattle.jr_model.specs.declared.event.Act.{Act}
 use Rattle.jr_model.specs.declared.event.Act.TheVariants.{Create, Leave, Probe}
-use Rattle.jr_model.specs.State.{Handle, State, IsOccupied}
-use Rattle.jr_model.specs.History.{PassView, Did}
+use Rattle.jr_model.specs.State.{Handle, IsOccupied}
+use Rattle.jr_model.specs.History.{PassView, Did, role_after}
 use Rattle.jr_model.specs.Refusals.{Sometime}
 use Rattle.jr_model.proofs.Moments.{prefix_self, sometime_wider, probed_occupied}
-use Rattle.jr_model.proofs.Stays.{did_then, did_nothing}
+use Rattle.jr_model.proofs.Stays.{did_then}
 use Rattle.jr_scripts.specs.declared.steps.Known.{Known}
-use Rattle.jr_scripts.specs.Acts.{claiming, handle_of, is_occupied}
+use Rattle.jr_scripts.specs.Acts.{handle_of, is_occupied}
 use Rattle.jr_scripts.specs.Knowing.{Standing, IsOf, view, moved, anything, HasObject, IsFreeSlot, LostClaim, Took, Acted}
-use Rattle.jr_scripts.specs.Performing.{Searched, search_acts, OfKind, EachOccupied}
+use Rattle.jr_scripts.specs.Performing.{Searched, search_acts, EachOccupied}
 use Rattle.jr_scripts.proofs.Known.{goes_did, present_stays}
 
 search_more : (o : ℕ) (xs ys : List (ℕ × Bool)) (made : Option Handle) → search_acts o xs None ++ search_acts o ys made ≡ search_acts o (xs ++ ys) made
@@ -71,6 +71,23 @@ module _ {S : Type 0} {stands : S → Standing} {knows : S → Known → Type 0}
     searched_seen i (slot.Free n) kind o ne t w = absurd (ne n refl)
     searched_seen i _ kind o ne t w = searched_occupied i kind o t w
 
+    -- a look at a slot and then an exchange there, for one thing that was known
+    record Exchanged (c : S) (shows : Known → Known → Type 0) (o : ℕ) (x y : Act) (k : Known) : Type 0 where
+      pub mid : Known
+      pub new : Known
+      pub known : knows c new
+      pub present : HasObject o new
+      pub looked : Did (view k) (view mid) (x ∷ [])
+      pub took : Did (view mid) (view new) (y ∷ [])
+      pub shown : shows mid new
+
+    exchanged : {a b c : S} {x y : Act} {shows : Known → Known → Type 0} (i n o : ℕ) → Took stands knows a b (x ∷ []) anything (λ _ k. IsFreeSlot i n k) → Took stands knows b c (y ∷ []) (λ k. HasObject o k × IsFreeSlot i n k) shows
+        → (stands a).role ≡ Within → x ≢ Leave → y ≢ Leave → role_after Within x ≡ Within → (k : Known) → knows a k → HasObject o k → Exchanged c shows o x y k
+    exchanged {x} i n o t u w ne ne' still k s p =
+        let m = took_present t w ne o k s tt p in
+        let e = took_present u (ap (λ (z : Standing). z.role) t.stands_is ∙ (ap (λ r. role_after r x) w ∙ still)) ne' o m.0 m.1 (m.2, m.4) m.2 in
+        record { mid = m.0; new = e.0; known = e.1; present = e.2; looked = m.3; took = e.3; shown = e.4 }
+
     -- an index that was found free, and lost to another thread
     pub searched_lost : {a b c : S} (i n : ℕ) (kind : RefKind) (o : ℕ) (found : SlotParts) → Took stands knows a b (Probe i false ∷ []) anything (λ _ k. IsFreeSlot i n k)
         → Took stands knows b c (Probe i (is_occupied found) ∷ []) (λ k. HasObject o k × IsFreeSlot i n k) (LostClaim i (Err found)) → (stands a).role ≡ Within → Searched stands knows a c kind o i (i + 1) None
@@ -78,16 +95,14 @@ module _ {S : Type 0} {stands : S → Standing} {knows : S → Known → Type 0}
       stands_is = u.stands_is ∙ t.stands_is;
       kind_is = tt;
       did = λ k s p.
-          let x = took_present t w (λ e. cc) o k s tt p in
-          let y = took_present u (ap (λ (z : Standing). z.role) t.stands_is ∙ w) (λ e. cc) o x.0 x.1 (x.2, x.4) x.2 in
-          (
-            y.0,
-            y.1,
-            y.2,
-            only_one (λ j. Sometime (λ z. IsOccupied k.last z j) k.seen y.0.seen) i
-                (occupied_between (view k) (view x.0) (view y.0) (Probe i false ∷ []) (Probe i (is_occupied found) ∷ []) x.3 y.3 i (inr y.4)),
+          let z = exchanged i n o t u w (λ e. cc) (λ e. cc) refl k s p in (
+            z.new,
+            z.known,
+            z.present,
+            only_one (λ j. Sometime (λ y. IsOccupied k.last y j) k.seen z.new.seen) i
+                (occupied_between (view k) (view z.mid) (view z.new) (Probe i false ∷ []) (Probe i (is_occupied found) ∷ []) z.looked z.took i (inr z.shown)),
             (i, false) ∷ (i, is_occupied found) ∷ [],
-            did_then (Probe i false ∷ []) (Probe i (is_occupied found) ∷ []) x.3 y.3,
+            did_then {new = view z.new} (Probe i false ∷ []) (Probe i (is_occupied found) ∷ []) z.looked z.took,
           );
     }
 
@@ -98,16 +113,8 @@ module _ {S : Type 0} {stands : S → Standing} {knows : S → Known → Type 0}
       stands_is = u.stands_is ∙ t.stands_is;
       kind_is = (refl, refl);
       did = λ k s p.
-          let x = took_present t w (λ e. cc) o k s tt p in
-          let y = took_present u (ap (λ (z : Standing). z.role) t.stands_is ∙ w) (λ e. cc) o x.0 x.1 (x.2, x.4) x.2 in
-          (y.0, y.1, y.2, tt, (i, false) ∷ [], did_then (Probe i false ∷ []) (Create (handle_of kind n i) o ∷ []) x.3 y.3);
-    }
-
-    pub searched_nothing : (a : S) (kind : RefKind) (o i : ℕ) → Searched stands knows a a kind o i i None
-    searched_nothing a kind o i = record {
-      stands_is = refl;
-      kind_is = tt;
-      did = λ k s p. (k, s, p, λ j l m. absurd (omega arith), [], did_nothing (view k) (fits a k s).legal);
+          let z = exchanged i n o t u w (λ e. cc) (λ e. cc) refl k s p in
+          (z.new, z.known, z.present, tt, (i, false) ∷ [], did_then {new = view z.new} (Probe i false ∷ []) (Create (handle_of kind n i) o ∷ []) z.looked z.took);
     }
 
   -- of a search that was won, the indices do not matter
@@ -118,13 +125,12 @@ module _ {S : Type 0} {stands : S → Standing} {knows : S → Known → Type 0}
   searched_then {o} {first} {mid} {last} {made} p q = record {
     stands_is = q.stands_is ∙ p.stands_is;
     kind_is = q.kind_is;
-    did = λ k s m. let x = p.did k s m in let y = q.did x.0 x.1 x.2 in
-        (
-          y.0,
-          y.1,
-          y.2,
-          occupied_more (view k) (view x.0) (view y.0) (search_acts o x.4 None) (search_acts o y.4 made) x.5 y.5 first mid last made x.3 y.3,
-          x.4 ++ y.4,
-          subst (Did (view k) (view y.0)) (search_more o x.4 y.4 made) (did_then (search_acts o x.4 None) (search_acts o y.4 made) x.5 y.5),
-        );
+    did = λ k s m. let x = p.did k s m in let y = q.did x.0 x.1 x.2 in (
+      y.0,
+      y.1,
+      y.2,
+      occupied_more (view k) (view x.0) (view y.0) (search_acts o x.4 None) (search_acts o y.4 made) x.5 y.5 first mid last made x.3 y.3,
+      x.4 ++ y.4,
+      subst (Did (view k) (view y.0)) (search_more o x.4 y.4 made) (did_then (search_acts o x.4 None) (search_acts o y.4 made) x.5 y.5),
+    );
   }

@@ -1,5 +1,5 @@
 -- What a call is, over any steps, for whatever was known.
-use Rattle.std.specs.Prelude.{◌≡◌, ◌≤◌, ◌<◌, ℕ, Bool, Result, Ok, Err, Option, Some, None, List, [], ◌∷◌, ◌++◌, map}
+use Rattle.std.specs.Prelude.{◌≡◌, ◌≤◌, ◌<◌, ℕ, Bool, Result, Ok, Option, Some, None, List, [], ◌∷◌, ◌++◌, map}
 use Rattle.jr_word.specs.declared.config.Config.{Config}
 use Rattle.jr_word.specs.declared.fault.Fault.{Fault}
 use Rattle.jr_word.specs.declared.handle.RefKind.{RefKind}

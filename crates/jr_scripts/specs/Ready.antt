@@ -1,5 +1,5 @@
 -- A thread and its frames, between the steps of a call and between calls.
-use Rattle.std.specs.Prelude.{◌≡◌, ℕ, Result, length}
+use Rattle.std.specs.Prelude.{◌≡◌, Result, length}
 use Rattle.jr_word.specs.declared.fault.Fault.{Fault}
 use Rattle.jr_model.specs.declared.event.Role.{Role}
 use Rattle.jr_model.specs.declared.event.Role.TheVariants.{Outside}

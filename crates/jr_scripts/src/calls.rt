@@ -136,11 +136,7 @@ fn create_within<S: Steps>(
 }
 
 /// Deletes a reference of the kind, within the gate: E2, E4.
-fn delete_within<S: Steps>(
-    steps: &mut S,
-    kind: RefKind,
-    reference: Reference,
-) -> Result<(), Fault>
+fn delete_within<S: Steps>(steps: &mut S, kind: RefKind, reference: Reference) -> Result<(), Fault>
     requires role { (S.stands steps.old).role ≡ Within }
     requires kind { kind ≢ Local }
     requires fits { OwnerFits reference }
@@ -153,11 +149,7 @@ fn delete_within<S: Steps>(
     }
 }
 
-fn delete_parts<S: Steps>(
-    steps: &mut S,
-    kind: RefKind,
-    handle: HandleParts,
-) -> Result<(), Fault>
+fn delete_parts<S: Steps>(steps: &mut S, kind: RefKind, handle: HandleParts) -> Result<(), Fault>
     requires role { (S.stands steps.old).role ≡ Within }
     requires kind { kind ≢ Local }
     requires fits { handle.kind ≢ Local → handle.owner ≡ 0 }

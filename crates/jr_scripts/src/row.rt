@@ -43,12 +43,7 @@ fn found(handle: HandleParts, word: SlotParts) -> Found
 }
 
 /// What the reference of a kind and serial, which stands in the handle's slot, says of the handle.
-fn found_standing(
-    handle: HandleParts,
-    kind: RefKind,
-    serial: u16,
-    object: Option<u16>,
-) -> Found
+fn found_standing(handle: HandleParts, kind: RefKind, serial: u16, object: Option<u16>) -> Found
     ensures { result ≡ cond (is_its handle kind serial) (found_object object) Stale }
 {
     if handle.kind != kind || handle.serial != serial {
@@ -72,12 +67,7 @@ pub fn object_found(found: Found) -> Result<Option<u16>, Fault>
 }
 
 /// One slot, looked at and claimed where it is free.
-fn try_slot<S: Steps>(
-    steps: &mut S,
-    index: u16,
-    kind: RefKind,
-    object: u16,
-) -> Option<HandleParts>
+fn try_slot<S: Steps>(steps: &mut S, index: u16, kind: RefKind, object: u16) -> Option<HandleParts>
     requires role { (S.stands steps.old).role ≡ Within }
     requires row { index < (S.stands steps.old).config.slots }
     requires kind { kind ≢ Local }
@@ -99,11 +89,7 @@ fn try_slot<S: Steps>(
 }
 
 /// A new reference to a present object, in the first slot that is found free: E8 where none is.
-pub fn create<S: Steps>(
-    steps: &mut S,
-    kind: RefKind,
-    object: u16,
-) -> Result<HandleParts, Fault>
+pub fn create<S: Steps>(steps: &mut S, kind: RefKind, object: u16) -> Result<HandleParts, Fault>
     requires role { (S.stands steps.old).role ≡ Within }
     requires kind { kind ≢ Local }
     requires object { MayKnow S.knows steps.old (HasObject object) }

@@ -1,4 +1,4 @@
-use Rattle.std.proofs.Common.{◌≡◌, true, false, sym, ◌∙◌}
+use Rattle.std.proofs.Common.{sym, ◌∙◌}
 use Rattle.jr_scripts.proofs.Removing.{removes_local, local_other, local_outside, local_foreign, local_absent}
 use Rattle.jr_scripts.proofs.calls.delete_local_parts.Goals as goal
 

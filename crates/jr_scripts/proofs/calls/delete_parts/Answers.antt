@@ -1,4 +1,3 @@
-use Rattle.std.proofs.Common.{◌≡◌, true, false}
 use Rattle.jr_scripts.proofs.Removing.{removes, removes_other, removes_outside}
 use Rattle.jr_scripts.proofs.calls.delete_parts.Goals as goal
 

@@ -1,6 +1,3 @@
-use Rattle.std.proofs.Common.{refl, sym, ap, ◌∙◌, arith}
-use Rattle.jr_word.specs.declared.config.Config.{Config}
-use Rattle.jr_scripts.specs.Knowing.{Standing}
 use Rattle.jr_scripts.proofs.Publishing.{passed_nothing, passed_more, published_new}
 use Rattle.jr_scripts.proofs.object.publish.Goals as goal
 

@@ -1,5 +1,4 @@
-use Rattle.std.proofs.Common.{Ok, Err, None, sym, ap, subst}
-use Rattle.jr_model.specs.Tests.{Word}
+use Rattle.std.proofs.Common.{Ok, None, sym, subst}
 use Rattle.jr_model.specs.References.{resolved}
 use Rattle.jr_scripts.specs.declared.reference.Reference.{Reference}
 use Rattle.jr_scripts.specs.Reading.{word_of}

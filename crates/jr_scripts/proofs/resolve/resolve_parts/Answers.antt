@@ -1,5 +1,3 @@
-use Rattle.std.proofs.Common.{◌≡◌, true, false}
-use Rattle.jr_model.specs.Tests.{Parts, is_out_of_bounds, is_foreign}
 use Rattle.jr_scripts.proofs.Resolving.{resolves_outside, resolves_foreign, resolves_looked}
 use Rattle.jr_scripts.proofs.resolve.resolve_parts.Goals as goal
 

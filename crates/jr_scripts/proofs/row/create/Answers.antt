@@ -1,8 +1,4 @@
-use Rattle.std.proofs.Common.{ap, refl, sym, subst, ◌∙◌, ◌<◌}
 use mathlib.Core.Logic.{∥∥₁_map}
-use Rattle.jr_word.specs.declared.config.Config.{Config}
-use Rattle.jr_scripts.specs.Knowing.{Standing}
-use Rattle.jr_scripts.specs.Performing.{Searched}
 use Rattle.jr_scripts.proofs.Took.{searched_some, searched_then}
 use Rattle.jr_scripts.proofs.row.create.Goals as goal
 

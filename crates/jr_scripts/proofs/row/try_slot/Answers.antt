@@ -1,4 +1,3 @@
-use Rattle.std.proofs.Common.{ap, subst, refl, ◌∙◌, [], ◌∷◌}
 use mathlib.Core.Logic.{∥∥₁_map}
 use Rattle.jr_scripts.proofs.Took.{took_present, searched_seen, searched_lost, searched_won}
 use Rattle.jr_scripts.proofs.row.try_slot.Goals as goal

@@ -1,6 +1,5 @@
 use Rattle.std.proofs.Common.{◌≡◌}
 use Rattle.jr_model.specs.Frames.{fresh_frames}
-use Rattle.jr_scripts.specs.Table.{Table}
 use Rattle.jr_scripts.proofs.Entering.{ready_new}
 use Rattle.jr_scripts.proofs.env.Env.new.Goals as goal
 
