@@ -1,4 +1,3 @@
-pub mod Limits
 pub mod InRoom
 pub mod SlotWords
 pub mod Images

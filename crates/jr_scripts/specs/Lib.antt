@@ -6,3 +6,6 @@ pub mod Works
 pub mod Table
 pub mod Places
 pub mod Deeds
+pub mod Image
+pub mod Slots
+pub mod Plain

@@ -5,6 +5,7 @@ pub mod env;
 pub mod frames;
 pub mod gate;
 pub mod object;
+pub mod plain;
 pub mod reference;
 pub mod resolve;
 pub mod row;
