@@ -336,7 +336,10 @@ mod tests {
             threads: 65,
             ..SMALL
         };
-        assert_eq!(rt; PlainSteps::<2>::new(rt.alloc(), config).err(), Some(Fault::Size));
+        assert_eq!(rt;
+            PlainSteps::<2>::new(rt.alloc(), config).err(),
+            Some(Fault::Size)
+        );
     }
 
     #[test]
