@@ -1,16 +1,14 @@
 -- What the steps of the gate owe.
-use Rattle.std.proofs.Common.{◌≡◌, ◌≢◌, ◌⊎◌, ⊎_elim, ◌↔◌, ◌+◌, ◌*◌, ◌^◌, ◌<◌, ◌≤◌, ℕ, zero, suc, Bool, true, false, not, IsTrue, if◌then◌else◌, List, [], ◌∷◌, get_or, slice_set, refl, sym, ap, subst, ◌∙◌, arith, nat_eq}
+use Rattle.std.proofs.Common.{◌≡◌, ◌≢◌, ◌⊎◌, ⊎_elim, ◌+◌, ◌^◌, ◌<◌, ◌≤◌, ℕ, zero, suc, Bool, true, false, not, if◌then◌else◌, List, [], ◌∷◌, get_or, slice_set, refl, sym, ap, ◌∙◌, arith, nat_eq}
 use Rattle.jr_word.specs.declared.config.Config.{Config}
-use Rattle.jr_word.specs.declared.gate.GateParts.{GateParts}
-use Rattle.jr_word.specs.Gate.{gate_word, IsGate}
+use Rattle.jr_word.specs.Gate.{IsGate}
 use Rattle.jr_model.specs.declared.event.Role.{Role}
 use Rattle.jr_model.specs.declared.event.Role.TheVariants.{Outside, Within, Knocking, Collecting}
 use Rattle.jr_model.specs.declared.event.Act.TheVariants.{Enter, Knock, Leave, Withdraw}
 use Rattle.jr_model.specs.Maps.{update, sum_below, count_below}
-use Rattle.jr_model.specs.State.{State}
-use Rattle.jr_model.specs.History.{History, by, state, IsLegal}
+use Rattle.jr_model.specs.History.{History, state, IsLegal}
 use Rattle.jr_model.proofs.Counts.{bit, count_role}
-use Rattle.jr_model.proofs.Updates.{at_number, at_number_self}
+use Rattle.jr_model.proofs.Updates.{at_number}
 use Rattle.jr_scripts.specs.Acts.{entered_as, leaving}
 use Rattle.jr_scripts.specs.Image.{is_inside, IsGateOf, IsImage}
 use Rattle.jr_scripts.proofs.Turns.{Turn, turn_one}

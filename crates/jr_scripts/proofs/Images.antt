@@ -1,5 +1,5 @@
 -- The image after one word and the part of the state that it shows were changed.
-use Rattle.std.proofs.Common.{◌≡◌, ◌≢◌, ◌⊎◌, ⊎_elim, ◌+◌, ◌*◌, ◌-◌, ◌<◌, ◌≤◌, ◌==◌, ◌&&◌, ℕ, Bool, true, false, Option, Some, None, List, length, get_or, slice_set, refl, sym, ap, subst, ◌∙◌, arith, nat_eq, length-set, get_or-set_same, get_or-set_other}
+use Rattle.std.proofs.Common.{◌≡◌, ◌≢◌, ⊎_elim, ◌+◌, ◌*◌, ◌<◌, ◌≤◌, ◌==◌, ℕ, Bool, true, false, Option, List, length, get_or, slice_set, refl, sym, ap, subst, ◌∙◌, arith, nat_eq, length-set, get_or-set_same, get_or-set_other}
 use Rattle.std.proofs.lemmas.Bool.{cases_lt}
 use Rattle.std.proofs.lemmas.Nat.{mul-add-lt}
 use Rattle.jr_word.specs.declared.config.Config.{Config}
@@ -13,7 +13,7 @@ use Rattle.jr_model.specs.Maps.{update}
 use Rattle.jr_model.specs.State.{Handle, Contents, State}
 use Rattle.jr_model.proofs.Updates.{eq_true, eq_false, at_number}
 use Rattle.jr_scripts.specs.Acts.{found_object, handle_of}
-use Rattle.jr_scripts.specs.Image.{gate_at, slot_at, local_at, header_at, row_words, IsGateOf, IsTopOf, AreGivenBelow, StandsAlone, SaysOfSlot, IsSlotOf, IsLocalOf, IsHeaderOf, IsImage}
+use Rattle.jr_scripts.specs.Image.{gate_at, slot_at, local_at, header_at, IsGateOf, IsTopOf, StandsAlone, SaysOfSlot, IsSlotOf, IsLocalOf, IsHeaderOf, IsImage}
 
 -- the local words lie below the headers
 pub local_below : (c : Config) (t p : ℕ) → t < c.threads → p < c.locals → local_at c t p < 2 + c.slots + c.threads * c.locals

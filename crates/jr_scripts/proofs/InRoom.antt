@@ -1,12 +1,12 @@
 -- What stands lies in the room: objects, local places and cleared references.
-use Rattle.std.proofs.Common.{◌≡◌, ◌≤◌, ◌<◌, ℕ, Option, Some, None, IsSome, refl, sym, ap, subst, arith, nat_eq}
+use Rattle.std.proofs.Common.{◌≡◌, ◌≤◌, ◌<◌, ℕ, Some, None, IsSome, refl, sym, subst, arith, nat_eq}
 use Rattle.jr_word.specs.declared.config.Config.{Config}
 use Rattle.jr_word.specs.declared.handle.RefKind.TheVariants.{Weak}
 use Rattle.jr_model.specs.declared.event.Found.TheVariants.{Object, Cleared, Stale}
 use Rattle.jr_model.specs.declared.event.Act.{Act}
 use Rattle.jr_model.specs.declared.event.Act.TheVariants.{Create, Delete, Clear, LocalPut, LocalDrop, New, Write, Drop}
 use Rattle.jr_model.specs.Maps.{update}
-use Rattle.jr_model.specs.State.{Handle, Contents, State, opening, IsPresent}
+use Rattle.jr_model.specs.State.{Handle, State, opening, IsPresent}
 use Rattle.jr_model.specs.Steps.{ActNeeds, act_after, written}
 use Rattle.jr_model.specs.History.{History, state, IsLegal}
 use Rattle.jr_model.proofs.Updates.{at_handle, at_number}

@@ -1,5 +1,5 @@
 -- What the steps of local words and headers owe.
-use Rattle.std.proofs.Common.{◌≡◌, ◌≢◌, ◌+◌, ◌*◌, ◌^◌, ◌<◌, ◌≤◌, ℕ, Option, Some, None, IsSome, List, [], ◌∷◌, length, get_or, slice_set, refl, sym, ap, subst, ◌∙◌, arith, nat_eq}
+use Rattle.std.proofs.Common.{◌≡◌, ◌≢◌, ◌<◌, ◌≤◌, ℕ, Option, Some, None, IsSome, List, [], ◌∷◌, get_or, slice_set, refl, arith}
 use Rattle.jr_word.specs.declared.config.Config.{Config}
 use Rattle.jr_word.specs.declared.kind.Kind.{Kind}
 use Rattle.jr_word.specs.declared.kind.Kind.TheVariants.{Plain, Boolean, Byte, Char, Short, Int, Long, Objects, Text}
@@ -12,10 +12,9 @@ use Rattle.jr_model.specs.declared.event.Act.TheVariants.{LocalPut, LocalDrop, N
 use Rattle.jr_model.specs.State.{Contents, State}
 use Rattle.jr_model.specs.History.{History, state, IsLegal}
 use Rattle.jr_model.proofs.Lengths.{lengths_fit}
-use Rattle.jr_scripts.specs.declared.steps.Known.{Known}
 use Rattle.jr_scripts.specs.Acts.{putting}
 use Rattle.jr_scripts.specs.Knowing.{HasOptional}
-use Rattle.jr_scripts.specs.Image.{local_at, header_at, local_parts, HasHeader, IsHeaderOf, IsImage}
+use Rattle.jr_scripts.specs.Image.{local_at, header_at, local_parts, IsHeaderOf, IsImage}
 use Rattle.jr_scripts.proofs.Turns.{Turn, turn_one}
 use Rattle.jr_scripts.proofs.Images.{local_set, header_set}
 

@@ -1,28 +1,33 @@
 -- A reference that a thread looked at in its stay: it stands as it was found, or is gone.
-use Rattle.std.proofs.Common.{◌≡◌, ◌≢◌, ◌⊎◌, inl, inr, ⊎_elim, ◌<◌, ◌≤◌, ℕ, true, false, Bool, cond, Option, Some, None, List, [], ◌∷◌, ◌++◌, refl, sym, ap, subst, ◌∙◌, ◌==◌}
+use Rattle.std.proofs.Common.{◌≡◌, ◌≢◌, ◌⊎◌, inl, inr, ◌≤◌, ℕ, true, Option, Some, None, [], ◌∷◌, refl, sym, ap, subst, ◌∙◌}
 use Rattle.std.specs.List.{AllByRecursion}
 use Rattle.jr_word.specs.declared.config.Config.{Config}
 use Rattle.jr_word.specs.declared.handle.RefKind.{RefKind}
 use Rattle.jr_word.specs.declared.handle.RefKind.TheVariants.{Local, Global, Weak}
 use Rattle.jr_model.specs.declared.event.Role.TheVariants.{Within}
 use Rattle.jr_model.specs.declared.event.Found.{Found}
-use Rattle.jr_model.specs.declared.event.Found.TheVariants.{Object, Cleared, Stale}
+use Rattle.jr_model.specs.declared.event.Found.TheVariants.{Object, Stale}
 use Rattle.jr_model.specs.declared.event.Event.{Event}
 use Rattle.jr_model.specs.declared.event.Act.{Act}
 use Rattle.jr_model.specs.declared.event.Act.TheVariants.{Create, Look, Delete, Clear, Leave}
-use Rattle.jr_model.specs.State.{Handle, State, IsPresent}
+use Rattle.jr_model.specs.State.{Handle, State}
 use Rattle.jr_model.specs.Steps.{IsInRow, ActNeeds, act_after, after}
-use Rattle.jr_model.specs.History.{History, by, state, state_from, IsLegal, IsLegalFrom, mine}
-use Rattle.jr_model.proofs.Updates.{at_handle, at_handle_self}
+use Rattle.jr_model.specs.History.{History, by, state, state_from, IsLegal, IsLegalFrom}
+use Rattle.jr_model.proofs.Updates.{at_handle}
 use Rattle.jr_model.proofs.Histories.{legal_append, state_append}
 use Rattle.jr_model.proofs.Gates.{IsApart, apart_state, apart_after, stay_act}
+<<<<<<< HEAD
 use Rattle.jr_model.proofs.Stays.{never}
 use Rattle.jr_model.proofs.References.{IsKept, kept_state}
+=======
+use Rattle.jr_model.proofs.Stays.{no_leave}
+use Rattle.jr_model.proofs.References.{kept_state}
+>>>>>>> plain
 use Rattle.jr_model.proofs.Presence.{sound_state}
 use Rattle.jr_scripts.specs.declared.steps.Known.{Known}
 use Rattle.jr_scripts.specs.Acts.{found_object}
 use Rattle.jr_scripts.specs.Knowing.{HasLooked}
-use Rattle.jr_scripts.specs.Plain.{CanStand}
+use Rattle.jr_scripts.specs.Slots.{CanStand}
 use Rattle.jr_scripts.proofs.InRoom.{in_room}
 use Rattle.jr_scripts.proofs.Slots.{found_there}
 

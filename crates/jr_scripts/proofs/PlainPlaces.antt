@@ -1,5 +1,5 @@
 -- The steps of local words and headers over plain words, each at whatever the words show.
-use Rattle.std.proofs.Common.{◌≡◌, ◌≢◌, ◌+◌, ◌-◌, ◌*◌, ◌^◌, ◌<◌, ◌≤◌, ℕ, true, false, Option, Some, None, IsSome, List, [], ◌∷◌, get_or, slice_set, refl, sym, ap, subst, ◌∙◌, arith, nat_eq}
+use Rattle.std.proofs.Common.{◌≡◌, ◌≢◌, ◌+◌, ◌*◌, ◌^◌, ◌<◌, ◌≤◌, ℕ, true, false, Option, Some, None, IsSome, List, [], ◌∷◌, get_or, slice_set, refl, sym, ap, subst, ◌∙◌, arith}
 use Rattle.std.proofs.lemmas.List.{append-nil}
 use Rattle.jr_word.specs.declared.config.Config.{Config}
 use Rattle.jr_word.specs.declared.header.HeaderParts.{HeaderParts}
@@ -14,13 +14,13 @@ use Rattle.jr_model.proofs.Histories.{state_push}
 use Rattle.jr_model.proofs.Updates.{at_number_self}
 use Rattle.jr_scripts.specs.declared.steps.Known.{Known}
 use Rattle.jr_scripts.specs.Acts.{putting, publishing}
-use Rattle.jr_scripts.specs.Knowing.{Standing, MayKnow, anything, nothing, state_of, HasObject, HasOptional}
+use Rattle.jr_scripts.specs.Knowing.{Standing, MayKnow, anything, nothing, HasObject, HasOptional}
 use Rattle.jr_scripts.specs.Image.{local_at, header_at, local_parts}
 use Rattle.jr_scripts.specs.Plain.{standing, Shows}
 use Rattle.jr_scripts.proofs.InRoom.{in_room}
 use Rattle.jr_scripts.proofs.LocalTurns.{puts, publishes, header_some}
 use Rattle.jr_scripts.proofs.Turns.{Turn, turn_none}
-use Rattle.jr_scripts.proofs.PlainTook.{known_then, Turned, IsFew, shown_most}
+use Rattle.jr_scripts.proofs.PlainTook.{Turned, IsFew, shown_most}
 
 -- the parts of an object's local word are those that a place can have
 pub place_fits : (o : Option ℕ) → ((x : ℕ) → o ≡ Some x → (0 < x) × (x < 2 ^ 16)) → IsLocalPlace (local_parts o)
@@ -32,7 +32,7 @@ putting_role p None r = refl
 putting_role p (Some o) r = refl
 
 -- a header of no elements
-pub header_fits : (p : HeaderParts) → (p.length ≡ 0) × (p.place ≡ 0) → IsHeader p
+header_fits : (p : HeaderParts) → (p.length ≡ 0) × (p.place ≡ 0) → IsHeader p
 header_fits p e = let a = e.0 in let b = e.1 in record { length = omega arith; place = omega arith; length_fits = λ k. a; place_fits = λ l. b }
 
 module _ (config : Config) (last : ℕ) (few : IsFew config last) (role : Role) (words : List ℕ) where
@@ -79,11 +79,10 @@ module _ (config : Config) (last : ℕ) (few : IsFew config last) (role : Role) 
     turn = λ k s m.
         let i : header_at k.config o ≡ at = ap (λ (c : Config). header_at c o) s.pass.config ∙ sym place in
         let high = subst (λ (c : Config). o ≤ c.objects) (sym s.pass.config) number.1 in
-        let t = publishes k.config k.last k.seen k.thread words s.pass.legal s.image (row k s) (s.pass.role ∙ within) o parts number.0 high (header_fits parts empty) empty.0 (ap (λ j. get_or words j 0) i ∙ found) in
-        (
+        let t = publishes k.config k.last k.seen k.thread words s.pass.legal s.image (row k s) (s.pass.role ∙ within) o parts number.0 high (header_fits parts empty) empty.0 (ap (λ j. get_or words j 0) i ∙ found) in (
           subst (λ j. Turn k.config k.last k.seen k.thread (publishing o parts.kind true) (slice_set words j (header_word parts))) i t,
           subst (λ (z : State). IsPresent z o) (sym (state_push k.seen (by k.thread (New o parts.kind []))))
-            (subst (λ (x : Option Contents). IsSome x) (sym (at_number_self (state k.seen).objects o (Some (record { kind = parts.kind; words = [] })))) refl),
+              (subst (λ (x : Option Contents). IsSome x) (sym (at_number_self (state k.seen).objects o (Some (record { kind = parts.kind; words = [] })))) refl),
         );
   }
 
@@ -94,10 +93,9 @@ module _ (config : Config) (last : ℕ) (few : IsFew config last) (role : Role) 
     turn = λ k s m.
         let i : header_at k.config o ≡ at = ap (λ (c : Config). header_at c o) s.pass.config ∙ sym place in
         let high = subst (λ (c : Config). o ≤ c.objects) (sym s.pass.config) number.1 in
-        let t = turn_none k.config k.last k.seen k.thread words s.pass.legal s.image in
-        (
+        let t = turn_none k.config k.last k.seen k.thread words s.pass.legal s.image in (
           t,
           subst (λ l. IsPresent (state l) o) (sym (append-nil k.seen))
-            (header_some ((state k.seen).objects o) (get_or words (header_at k.config o) 0) (s.image.header o number.0 high) (λ e. found (sym (ap (λ j. get_or words j 0) i) ∙ e))),
+              (header_some ((state k.seen).objects o) (get_or words (header_at k.config o) 0) (s.image.header o number.0 high) (λ e. found (sym (ap (λ j. get_or words j 0) i) ∙ e))),
         );
   }

@@ -1,5 +1,5 @@
 -- The steps of slots over plain words, each at whatever the words show.
-use Rattle.std.proofs.Common.{◌≡◌, ◌≢◌, ◌+◌, ◌^◌, ◌<◌, ◌≤◌, ℕ, true, false, Option, Some, None, IsSome, Result, Ok, Err, List, [], ◌∷◌, get_or, slice_set, refl, sym, ap, subst, ◌∙◌, arith}
+use Rattle.std.proofs.Common.{◌≡◌, ◌≢◌, ◌^◌, ◌<◌, ℕ, true, false, Option, Some, None, IsSome, Ok, Err, List, [], ◌∷◌, get_or, slice_set, refl, sym, ap, subst, ◌∙◌, arith}
 use Rattle.std.proofs.Math.Logic.{∥∥₁_elim}
 use Rattle.std.proofs.Props.{props}
 use Rattle.jr_word.specs.declared.config.Config.{Config}
@@ -7,11 +7,10 @@ use Rattle.jr_word.specs.declared.handle.RefKind.{RefKind}
 use Rattle.jr_word.specs.declared.handle.RefKind.TheVariants.{Local, Global, Weak}
 use Rattle.jr_word.specs.declared.slot.SlotParts.{SlotParts}
 use Rattle.jr_word.specs.declared.slot.SlotParts.TheVariants as slot
-use Rattle.jr_word.specs.Slot.{slot_word, slot_object, NamesObject, IsSlot}
+use Rattle.jr_word.specs.Slot.{slot_word, NamesObject, IsSlot}
 use Rattle.jr_model.specs.declared.event.Role.{Role}
 use Rattle.jr_model.specs.declared.event.Role.TheVariants.{Within}
-use Rattle.jr_model.specs.declared.event.Found.TheVariants.{Stale}
-use Rattle.jr_model.specs.declared.event.Act.TheVariants.{Probe, Delete, DeleteStale}
+use Rattle.jr_model.specs.declared.event.Act.TheVariants.{Probe, Delete}
 use Rattle.jr_model.specs.State.{Handle, State}
 use Rattle.jr_model.specs.History.{by, state, role_after}
 use Rattle.jr_model.proofs.Histories.{state_push}
@@ -19,10 +18,11 @@ use Rattle.jr_model.proofs.Moments.{prefix_self, sometime_wider}
 use Rattle.jr_scripts.specs.declared.steps.Known.{Known}
 use Rattle.jr_scripts.specs.declared.steps.Naming.{Naming}
 use Rattle.jr_scripts.specs.declared.steps.Naming.TheVariants as naming
-use Rattle.jr_scripts.specs.Acts.{found_object, named, NameFits, is_occupied, handle_of, claiming, freeing}
+use Rattle.jr_scripts.specs.Acts.{found_object, named, NameFits, is_occupied, claiming, freeing}
 use Rattle.jr_scripts.specs.Knowing.{Standing, MayKnow, anything, nothing, state_of, HasObject, HasLooked, IsFreeSlot, ShowsSlot, LostClaim}
 use Rattle.jr_scripts.specs.Image.{slot_at, SaysOfSlot, IsSlotOf}
-use Rattle.jr_scripts.specs.Plain.{standing, Shows, CanStand, IsReference, freed}
+use Rattle.jr_scripts.specs.Plain.{standing, Shows}
+use Rattle.jr_scripts.specs.Slots.{CanStand, IsReference, freed}
 use Rattle.jr_scripts.proofs.InRoom.{in_room}
 use Rattle.jr_scripts.proofs.Slots.{slot_fits, read_parts}
 use Rattle.jr_scripts.proofs.SlotTurns.{sees, claims, frees, frees_late}
@@ -109,8 +109,7 @@ module _ (config : Config) (last : ℕ) (few : IsFew config last) (role : Role) 
     turn = λ k s m.
         let row' = in_row i l k s in
         let x = s.image.slot i row' in
-        let read = read_parts k.config k.last k.seen s.pass.legal (few_serials k s) (few_objects k s) i (get_or words (slot_at i) 0) x p good is in
-        (
+        let read = read_parts k.config k.last k.seen s.pass.legal (few_serials k s) (few_objects k s) i (get_or words (slot_at i) 0) x p good is in (
           sees k.config k.last k.seen k.thread words s.pass.legal s.image (row k s) (s.pass.role ∙ within) i name p row' fits read,
           shows_slot k.last i (get_or words (slot_at i) 0) (state k.seen) (known_then k (named i name p ∷ [])) x p read refl (named_state k i name p),
         );
@@ -135,11 +134,10 @@ module _ (config : Config) (last : ℕ) (few : IsFew config last) (role : Role) 
     stands_is = refl;
     turn = λ k s m.
         let t = (saw i naming.Probe p l tt good is within).turn k s tt in
-        let x = s.image.slot i (in_row i l k s) in
-        (
+        let x = s.image.slot i (in_row i l k s) in (
           t.0,
           sometime_wider (prefix_self k.seen) (by k.thread (Probe i (is_occupied p)) ∷ [], refl)
-            (claim_lost k k.seen (prefix_self k.seen) s.pass.legal i serial (get_or words (slot_at i) 0) m.1 x differs),
+              (claim_lost k k.seen (prefix_self k.seen) s.pass.legal i serial (get_or words (slot_at i) 0) m.1 x differs),
         );
   }
 

@@ -1,5 +1,5 @@
 -- A step over plain words: what its kind of step owes is enough.
-use Rattle.std.proofs.Common.{◌≡◌, ◌<◌, ◌≤◌, ◌^◌, ℕ, List, [], ◌∷◌, ◌++◌, map, slice_set, refl, sym, ap, subst, ◌∙◌}
+use Rattle.std.proofs.Common.{◌≡◌, ◌<◌, ◌≤◌, ◌^◌, ℕ, List, [], ◌++◌, map, slice_set, refl, sym, ap, subst, ◌∙◌}
 use Rattle.std.proofs.Math.Logic.{∥∥₁_elim}
 use Rattle.std.proofs.Props.{props}
 use Rattle.std.proofs.lemmas.List.{append-nil}
@@ -9,7 +9,7 @@ use Rattle.jr_model.specs.declared.event.Act.{Act}
 use Rattle.jr_model.specs.History.{by, IsLegal, role_from}
 use Rattle.jr_scripts.specs.declared.plain.PlainSteps.{PlainSteps}
 use Rattle.jr_scripts.specs.declared.steps.Known.{Known}
-use Rattle.jr_scripts.specs.Knowing.{Standing, moved, IsOf, Goes, Took, MayKnow, anything}
+use Rattle.jr_scripts.specs.Knowing.{Standing, moved, Goes, Took, MayKnow, anything}
 use Rattle.jr_scripts.specs.Plain.{standing, Shows}
 use Rattle.jr_scripts.proofs.Turns.{then, Turn, role_then}
 

@@ -1,25 +1,17 @@
 -- The steps over plain words, each at whatever the words show.
-use Rattle.std.proofs.Common.{◌≡◌, ◌≢◌, ◌⊎◌, ⊎_elim, ◌+◌, ◌*◌, ◌-◌, ◌^◌, ◌<◌, ◌≤◌, ℕ, Bool, true, false, not, Option, Some, None, Result, Ok, Err, List, [], ◌∷◌, get_or, slice_set, refl, sym, ap, subst, ◌∙◌, arith}
+use Rattle.std.proofs.Common.{◌≡◌, ◌⊎◌, ⊎_elim, ◌+◌, ◌<◌, ◌≤◌, ℕ, Bool, not, List, [], ◌∷◌, get_or, slice_set, refl, sym, ap, subst, ◌∙◌, arith}
 use Rattle.jr_word.specs.declared.config.Config.{Config}
 use Rattle.jr_word.specs.declared.gate.GateParts.{GateParts}
-use Rattle.jr_word.specs.declared.handle.RefKind.{RefKind}
-use Rattle.jr_word.specs.declared.handle.RefKind.TheVariants.{Local}
-use Rattle.jr_word.specs.declared.header.HeaderParts.{HeaderParts}
-use Rattle.jr_word.specs.declared.slot.SlotParts.{SlotParts}
-use Rattle.jr_word.specs.declared.slot.SlotParts.TheVariants as slot
 use Rattle.jr_word.specs.Gate.{gate_word, IsGate}
-use Rattle.jr_word.specs.Slot.{slot_word, IsSlot}
 use Rattle.jr_model.specs.declared.event.Role.{Role}
 use Rattle.jr_model.specs.declared.event.Role.TheVariants.{Outside, Within, Knocking}
-use Rattle.jr_model.specs.State.{Handle, State}
 use Rattle.jr_model.specs.History.{state, role_after}
 use Rattle.jr_scripts.specs.declared.steps.Known.{Known}
-use Rattle.jr_scripts.specs.declared.steps.Naming.{Naming}
 use Rattle.jr_scripts.specs.Acts.{entered_as, leaving}
-use Rattle.jr_scripts.specs.Knowing.{Standing, MayKnow, anything, nothing, moved}
+use Rattle.jr_scripts.specs.Knowing.{Standing, MayKnow, anything, nothing}
 use Rattle.jr_scripts.specs.Plain.{standing, Shows}
 use Rattle.jr_scripts.proofs.GateTurns.{gate_fits, gate_most, goes_in, goes_out, counted}
-use Rattle.jr_scripts.proofs.PlainTook.{known_then, Turned, IsFew, shown_most}
+use Rattle.jr_scripts.proofs.PlainTook.{Turned, IsFew, shown_most}
 
 module _ (config : Config) (last : ℕ) (few : IsFew config last) (role : Role) (words : List ℕ) where
   abbrev old : Standing

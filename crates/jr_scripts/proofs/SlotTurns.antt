@@ -1,5 +1,5 @@
 -- What the steps of a slot owe.
-use Rattle.std.proofs.Common.{◌≡◌, ◌≢◌, ◌⊎◌, ⊎_elim, ◌↔◌, IsTrue, ◌+◌, ◌^◌, ◌<◌, ◌≤◌, ◌==◌, ℕ, Bool, true, false, cond, nat_lt, if◌then◌else◌, Option, Some, None, Result, Ok, Err, List, [], ◌∷◌, get_or, slice_set, refl, sym, ap, subst, ◌∙◌, arith, ltb}
+use Rattle.std.proofs.Common.{◌≡◌, ◌≢◌, ⊎_elim, ◌↔◌, IsTrue, ◌+◌, ◌^◌, ◌<◌, ◌≤◌, ◌==◌, ℕ, Bool, true, false, nat_lt, if◌then◌else◌, Option, Some, List, [], ◌∷◌, get_or, slice_set, refl, sym, ap, subst, ◌∙◌, arith}
 use Rattle.std.proofs.lemmas.Bool.Decides.{nat_tests}
 use Rattle.jr_word.specs.declared.config.Config.{Config}
 use Rattle.jr_word.specs.declared.handle.RefKind.{RefKind}
@@ -10,7 +10,7 @@ use Rattle.jr_word.specs.Slot.{slot_word, IsSlot}
 use Rattle.jr_model.specs.declared.event.Role.TheVariants.{Within}
 use Rattle.jr_model.specs.declared.event.Found.{Found}
 use Rattle.jr_model.specs.declared.event.Found.TheVariants.{Object, Stale}
-use Rattle.jr_model.specs.declared.event.Act.TheVariants.{Create, Look, Probe, Delete, DeleteStale}
+use Rattle.jr_model.specs.declared.event.Act.TheVariants.{Create, Probe, Delete, DeleteStale}
 use Rattle.jr_model.specs.Maps.{update}
 use Rattle.jr_model.specs.State.{Handle, same_handle, State, IsPresent, IsOccupied}
 use Rattle.jr_model.specs.History.{History, state, IsLegal}
@@ -19,7 +19,7 @@ use Rattle.jr_scripts.specs.declared.steps.Naming.{Naming}
 use Rattle.jr_scripts.specs.declared.steps.Naming.TheVariants as naming
 use Rattle.jr_scripts.specs.Acts.{found_object, reply, named, NameFits, is_occupied, handle_of}
 use Rattle.jr_scripts.specs.Image.{slot_at, AreGivenBelow, NoneStands, StandsAlone, SaysOfSlot, IsSlotOf, IsImage}
-use Rattle.jr_scripts.specs.Plain.{IsReference, freed}
+use Rattle.jr_scripts.specs.Slots.{IsReference, freed}
 use Rattle.jr_scripts.proofs.Turns.{Turn, turn_one}
 use Rattle.jr_scripts.proofs.Images.{slot_set}
 use Rattle.jr_scripts.proofs.Slots.{found_there, handle_is, looks, probes, read_parts, reference_is, stands_in, says_in, one_reference}

@@ -1,10 +1,10 @@
 -- A slot's word has one reading.
-use Rattle.std.proofs.Common.{◌≡◌, ◌≢◌, ◌+◌, ◌*◌, ◌^◌, ◌<◌, ◌%◌, ◌==◌, ℕ, Bool, true, false, Option, Some, None, unwrap_or, refl, sym, ap, subst, ◌∙◌, arith}
+use Rattle.std.proofs.Common.{◌≡◌, ◌<◌, ℕ, Option, Some, None, unwrap_or, ap, arith}
 use Rattle.jr_word.specs.declared.slot.SlotParts.{SlotParts}
 use Rattle.jr_word.specs.declared.slot.SlotParts.TheVariants.{Free, Retired, Global, Weak}
 use Rattle.jr_word.specs.Slot.{slot_word, slot_state, slot_serial, slot_object, NamesObject, IsSlot}
 
-pub state_few : (p : SlotParts) → slot_state p < 4
+state_few : (p : SlotParts) → slot_state p < 4
 state_few (Free n) = omega arith
 state_few (Retired n) = omega arith
 state_few (Global n o) = omega arith

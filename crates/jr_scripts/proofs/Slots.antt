@@ -1,22 +1,22 @@
 -- What the word of a slot tells.
-use Rattle.std.proofs.Common.{◌≡◌, ◌≢◌, ◌⊎◌, inl, inr, ⊎_elim, ◌↔◌, ◌+◌, ◌^◌, ◌<◌, ◌≤◌, ◌==◌, ◌&&◌, ℕ, Bool, true, false, cond, IsTrue, Option, Some, None, List, refl, sym, ap, subst, ◌∙◌, arith}
+use Rattle.std.proofs.Common.{◌≡◌, ◌≢◌, inl, inr, ⊎_elim, ◌↔◌, ◌^◌, ◌<◌, ◌≤◌, ◌==◌, ℕ, Bool, true, false, cond, IsTrue, Option, Some, None, refl, sym, ap, subst, ◌∙◌, arith}
 use Rattle.jr_word.specs.declared.config.Config.{Config}
 use Rattle.jr_word.specs.declared.handle.RefKind.{RefKind}
-use Rattle.jr_word.specs.declared.handle.RefKind.TheVariants.{Local, Global, Weak}
+use Rattle.jr_word.specs.declared.handle.RefKind.TheVariants.{Global, Weak}
 use Rattle.jr_word.specs.declared.slot.SlotParts.{SlotParts}
 use Rattle.jr_word.specs.declared.slot.SlotParts.TheVariants as slot
 use Rattle.jr_word.specs.Slot.{slot_word, IsSlot}
 use Rattle.jr_model.specs.declared.event.Found.{Found}
 use Rattle.jr_model.specs.declared.event.Found.TheVariants.{Object, Cleared, Stale}
-use Rattle.jr_model.specs.State.{Handle, State, same_kind, same_handle, IsPresent, IsOccupied}
+use Rattle.jr_model.specs.State.{Handle, State, same_kind, same_handle, IsOccupied}
 use Rattle.jr_model.specs.History.{History, state, IsLegal}
 use Rattle.jr_model.proofs.Updates.{and_left, and_right, kind_true, kind_self, eq_true, eq_self, handle_true, handle_false}
-use Rattle.jr_model.proofs.References.{IsKept, kept_state}
-use Rattle.jr_model.proofs.Presence.{IsSound, sound_state}
+use Rattle.jr_model.proofs.References.{kept_state}
+use Rattle.jr_model.proofs.Presence.{sound_state}
 use Rattle.jr_scripts.specs.Acts.{found_object, is_its, reply, is_occupied, handle_of}
-use Rattle.jr_scripts.specs.Image.{AreGivenBelow, NoneStands, StandsAlone, SaysOfSlot, IsSlotOf}
-use Rattle.jr_scripts.specs.Plain.{IsReference}
-use Rattle.jr_scripts.proofs.InRoom.{IsInRoom, in_room}
+use Rattle.jr_scripts.specs.Image.{StandsAlone, SaysOfSlot, IsSlotOf}
+use Rattle.jr_scripts.specs.Slots.{IsReference}
+use Rattle.jr_scripts.proofs.InRoom.{in_room}
 use Rattle.jr_scripts.proofs.SlotWords.{one_reading}
 
 same_handles : (k k' : RefKind) (n n' i i' o o' : ℕ) → k ≡ k' → n ≡ n' → i ≡ i' → o ≡ o'
@@ -120,12 +120,12 @@ module _ (last : ℕ) (s : State) (i w : ℕ) (x : IsSlotOf last s.refs s.given 
       go (slot.Free n) y = (
         λ e. absurd cc,
         λ o. absurd (⊎_elim
-        (λ (q : (h : Handle) × (h.index ≡ i) × (s.refs h ≢ Stale)). q.2 (y.0 q.0 q.1))
-        (λ (q : (serial : ℕ) → serial ≤ last → (h : Handle) × (h.index ≡ i) × (h.serial ≡ serial) × (s.given h ≡ true)).
-        let z = q x.next y.2 in
-        let not = x.serials.above z.0 z.1 (let e = z.2 in omega arith) in
-        let yes' = z.3 in cc)
-        o),
+            (λ (q : (h : Handle) × (h.index ≡ i) × (s.refs h ≢ Stale)). q.2 (y.0 q.0 q.1))
+            (λ (q : (serial : ℕ) → serial ≤ last → (h : Handle) × (h.index ≡ i) × (h.serial ≡ serial) × (s.given h ≡ true)).
+            let z = q x.next y.2 in
+            let not = x.serials.above z.0 z.1 (let e = z.2 in omega arith) in
+            let yes' = z.3 in cc)
+            o),
       )
       go (slot.Retired n) y = (λ e. inr (λ serial l. x.serials.below serial (let far = y.2 in omega arith)), λ o. refl)
       go (slot.Global n o) y = (λ e. inl (handle_of Global n i, refl, λ z. let f = y.found in cc), λ q. refl)

@@ -1,5 +1,5 @@
 -- What the words count: references, objects and reserved space.
-use Rattle.std.proofs.Common.{◌≡◌, ◌≢◌, ◌+◌, ◌*◌, ◌^◌, ◌<◌, ◌≤◌, ◌==◌, ℕ, zero, suc, Bool, true, false, if◌then◌else◌, Option, Some, None, is_some, IsSome, List, get_or, refl, sym, ap, subst, ◌∙◌, arith, add-one}
+use Rattle.std.proofs.Common.{◌≡◌, ◌≢◌, ◌+◌, ◌^◌, ◌<◌, ◌≤◌, ℕ, Bool, true, false, Option, Some, is_some, IsSome, List, get_or, refl, sym, ap, subst, ◌∙◌, arith, add-one}
 use Rattle.std.proofs.Math.Logic.{∥∥₁_elim}
 use Rattle.std.proofs.Props.{props}
 use Rattle.jr_word.specs.declared.config.Config.{Config}
@@ -15,7 +15,7 @@ use Rattle.jr_model.specs.declared.event.Role.{Role}
 use Rattle.jr_model.specs.declared.event.Found.{Found}
 use Rattle.jr_model.specs.declared.event.Found.TheVariants.{Object, Cleared, Stale}
 use Rattle.jr_model.specs.Maps.{sum_below, count_below}
-use Rattle.jr_model.specs.State.{Handle, State, is_there}
+use Rattle.jr_model.specs.State.{Handle, is_there}
 use Rattle.jr_model.specs.History.{History, state, IsLegal}
 use Rattle.jr_model.proofs.Counts.{bit, count_all_false, count_single}
 use Rattle.jr_model.proofs.Lengths.{lengths_fit}
@@ -24,7 +24,8 @@ use Rattle.jr_scripts.specs.Acts.{found_object, handle_of}
 use Rattle.jr_scripts.specs.Image.{slot_at, header_at, StandsAlone, SaysOfSlot, IsSlotOf, IsHeaderOf}
 use Rattle.jr_scripts.specs.declared.steps.Known.{Known}
 use Rattle.jr_scripts.specs.Knowing.{Standing, state_of, MayKnow, anything}
-use Rattle.jr_scripts.specs.Plain.{standing, Shows, is_of_kind}
+use Rattle.jr_scripts.specs.Plain.{standing, Shows}
+use Rattle.jr_scripts.specs.Slots.{is_of_kind}
 use Rattle.jr_scripts.proofs.InRoom.{in_room}
 use Rattle.jr_scripts.proofs.GateTurns.{bit_most}
 use Rattle.jr_scripts.proofs.Slots.{found_there, read_parts}
@@ -35,7 +36,7 @@ pub sum_none : (f : ℕ → ℕ) → sum_below 0 f ≡ 0
 unfolding sum_below
 sum_none f = refl
 
-pub sum_more : (n : ℕ) (f : ℕ → ℕ) → sum_below (n + 1) f ≡ sum_below n f + f n
+sum_more : (n : ℕ) (f : ℕ → ℕ) → sum_below (n + 1) f ≡ sum_below n f + f n
 unfolding sum_below
 sum_more n f = rw add-one refl
 

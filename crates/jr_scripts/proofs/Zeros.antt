@@ -1,5 +1,5 @@
 -- A row of zeros is the image of the opening.
-use Rattle.std.proofs.Common.{◌≡◌, ◌+◌, ◌*◌, ◌<◌, ◌≤◌, ℕ, zero, suc, Bool, true, false, Option, Some, None, List, [], ◌∷◌, length, replicate, get_or, refl, sym, ap, subst, ◌∙◌, arith}
+use Rattle.std.proofs.Common.{◌≡◌, ◌+◌, ℕ, zero, suc, false, Option, Some, None, List, length, replicate, get_or, refl, sym, ap, ◌∙◌, arith}
 use Rattle.std.proofs.lemmas.List.{length-replicate}
 use Rattle.jr_word.specs.declared.config.Config.{Config}
 use Rattle.jr_word.specs.declared.slot.SlotParts.TheVariants as slot
@@ -10,7 +10,7 @@ use Rattle.jr_model.specs.History.{state}
 use Rattle.jr_model.proofs.Counts.{count_all_false}
 use Rattle.jr_model.proofs.Presence.{sound_state}
 use Rattle.jr_scripts.specs.declared.steps.Known.{Known}
-use Rattle.jr_scripts.specs.Knowing.{HasNoLocals, MayKnow, anything}
+use Rattle.jr_scripts.specs.Knowing.{HasNoLocals}
 use Rattle.jr_scripts.specs.Image.{local_at, local_parts, row_words, is_inside, IsImage}
 use Rattle.jr_scripts.specs.Plain.{standing, unseen, Shows}
 use Rattle.jr_scripts.proofs.InRoom.{in_room}

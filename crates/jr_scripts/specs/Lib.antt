@@ -14,4 +14,5 @@ pub mod Text
 pub mod Explains
 pub mod Runs
 pub mod Image
+pub mod Slots
 pub mod Plain

@@ -10,7 +10,8 @@ ghost use Rattle.jr_model.specs.History.{role_after};
 ghost use Rattle.jr_scripts.specs.Acts.{entered_as};
 ghost use Rattle.jr_scripts.specs.Image.{row_words, slot_at, header_at, local_parts as parts_of_local};
 ghost use Rattle.jr_scripts.specs.Knowing.{anything, MayKnow};
-ghost use Rattle.jr_scripts.specs.Plain.{standing, Shows, CanStand, IsReference, is_of_kind, freed};
+ghost use Rattle.jr_scripts.specs.Plain.{standing, Shows};
+ghost use Rattle.jr_scripts.specs.Slots.{CanStand, IsReference, is_of_kind, freed};
 
 use crate::steps::{Naming, Steps};
 use jr_model::{Role, Summary};
@@ -155,10 +156,7 @@ impl<const LAST: u16> PlainSteps<LAST> {
 fn is_shut(word: u64) -> bool
     ensures { (parts : Gates) → IsGate parts → word ≡ gate_word parts → result ≡ parts.shut }
 {
-    matches!(
-        GateWord::parts(word),
-        Some(GateParts { shut: true, .. })
-    )
+    matches!(GateWord::parts(word), Some(GateParts { shut: true, .. }))
 }
 
 /// Whether what the word of a slot says is a reference of the kind.
@@ -304,4 +302,84 @@ impl<const LAST: u16> Steps for PlainSteps<LAST> {
     ghost few_locals = { λ s. s.locals };
 
     ghost few_threads = { λ s. lit< tt };
+}
+
+#[cfg(test)]
+mod tests {
+    use super::*;
+    use crate::env::Env;
+    use std::test::Fail;
+
+    /// A room of one thread with one slot and one object: 20 words.
+    const SMALL: Config = Config {
+        threads: 1,
+        slots: 1,
+        objects: 1,
+        words: 0,
+        locals: 16,
+    };
+
+    #[test]
+    fn begins_with_zeros_and_counts_who_is_inside(rt: HostRuntime) -> Result<(), Fail> {
+        let mut steps = PlainSteps::<2>::new(rt.alloc(), SMALL)?;
+        assert_eq!(rt; steps.words.as_slice(), [0; 20].as_slice());
+        assert!(rt; steps.go_in());
+        assert_eq!(rt; steps.words[0], 1);
+        steps.go_out();
+        assert_eq!(rt; steps.words[0], 0);
+        Ok(())
+    }
+
+    #[test]
+    fn has_at_most_64_threads(rt: HostRuntime) {
+        let config = Config {
+            threads: 65,
+            ..SMALL
+        };
+        assert_eq!(rt;
+            PlainSteps::<2>::new(rt.alloc(), config).err(),
+            Some(Fault::Size)
+        );
+    }
+
+    #[test]
+    fn is_refused_where_memory_is(rt: HostRuntime) {
+        if let Err(fault) = PlainSteps::<2>::new(rt.alloc(), SMALL) {
+            assert_eq!(rt; fault, Fault::Memory);
+        }
+    }
+
+    #[test]
+    fn retires_a_slot_after_its_last_serial(rt: HostRuntime) -> Result<(), Fail> {
+        let mut env = Env::new(PlainSteps::<2>::new(rt.alloc(), SMALL)?);
+        let local = env.new_plain()?;
+        for word in [2, 6, 10] {
+            let global = env.new_global_ref(local)?.ok_or("an object")?;
+            assert_eq!(rt; global.0, word);
+            env.delete_global_ref(global)?;
+        }
+        assert_eq!(rt; env.new_global_ref(local).err(), Some(Fault::RowFull));
+
+        let mut row = [0; 20];
+        row[2] = 9;
+        row[3] = 1;
+        row[19] = 1;
+        assert_eq!(rt; env.steps.words.as_slice(), row.as_slice());
+        Ok(())
+    }
+
+    #[test]
+    fn sums_up_what_stands(rt: HostRuntime) -> Result<(), Fail> {
+        let mut env = Env::new(PlainSteps::<2>::new(rt.alloc(), SMALL)?);
+        let local = env.new_plain()?;
+        env.new_global_ref(local)?;
+        let summary = Summary {
+            globals: 1,
+            weaks: 0,
+            live: 1,
+            used: 0,
+        };
+        assert_eq!(rt; env.steps.summary(), summary);
+        Ok(())
+    }
 }

@@ -1,5 +1,4 @@
-use Rattle.std.proofs.Common.{◌≡◌, ◌≢◌, ◌+◌, ◌∙◌, ℕ, true, false, get_or, refl, ap, sym, arith}
-use Rattle.jr_model.proofs.Counts.{bit}
+use Rattle.std.proofs.Common.{◌∙◌, true, false, get_or, ap, sym, arith}
 use Rattle.jr_scripts.proofs.PlainTook.{few_of}
 use Rattle.jr_scripts.proofs.Summaries.{no_object, one_more_object}
 use Rattle.jr_scripts.proofs.plain.PlainSteps.objects.Goals as goal

@@ -1,4 +1,4 @@
-use Rattle.std.proofs.Common.{◌≡◌, ◌+◌, ◌∙◌, ap, sym, arith}
+use Rattle.std.proofs.Common.{◌+◌, ◌∙◌, ap, sym, arith}
 use Rattle.jr_model.proofs.Counts.{bit}
 use Rattle.jr_scripts.proofs.PlainTook.{few_of}
 use Rattle.jr_scripts.proofs.Summaries.{sum_none, one_more_slot}

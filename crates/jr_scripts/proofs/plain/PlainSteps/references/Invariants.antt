@@ -1,5 +1,4 @@
-use Rattle.std.proofs.Common.{◌≡◌, ◌≤◌}
-use Rattle.jr_scripts.specs.Plain.{standing, Shows}
+use Rattle.jr_scripts.specs.Plain.{standing}
 use Rattle.jr_scripts.proofs.Summaries.{IsCounted, references_below}
 use Rattle.jr_scripts.proofs.plain.PlainSteps.references.Given as goal
 

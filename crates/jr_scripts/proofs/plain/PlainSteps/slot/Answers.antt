@@ -1,4 +1,4 @@
-use Rattle.std.proofs.Common.{arith, sym, ◌∙◌}
+use Rattle.std.proofs.Common.{arith, ◌∙◌}
 use Rattle.jr_scripts.proofs.PlainTook.{few_of}
 use Rattle.jr_scripts.proofs.PlainSlots.{slot_some}
 use Rattle.jr_scripts.proofs.plain.PlainSteps.slot.Goals as goal

@@ -1,4 +1,4 @@
-use Rattle.std.proofs.Common.{◌≡◌, ◌∙◌, sym, arith}
+use Rattle.std.proofs.Common.{◌∙◌, sym, arith}
 use Rattle.jr_scripts.proofs.PlainTook.{few_of}
 use Rattle.jr_scripts.proofs.Summaries.{top_some, top_used}
 use Rattle.jr_scripts.proofs.plain.PlainSteps.used.Goals as goal

@@ -1,4 +1,4 @@
-use Rattle.std.proofs.Common.{◌≡◌, ◌≢◌, ◌<◌, ◌∙◌, ℕ, Some, ap, sym, subst, arith}
+use Rattle.std.proofs.Common.{◌≡◌, ◌∙◌, Some, sym, arith}
 use Rattle.jr_word.specs.Slot.{slot_word}
 use Rattle.jr_scripts.specs.Image.{slot_at}
 use Rattle.jr_scripts.proofs.PlainTook.{few_of, took, shown, writes}

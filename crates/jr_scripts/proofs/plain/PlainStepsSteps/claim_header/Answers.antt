@@ -1,4 +1,4 @@
-use Rattle.std.proofs.Common.{◌≡◌, ◌∙◌, ℕ, ap, sym, subst, arith}
+use Rattle.std.proofs.Common.{◌∙◌, ap, sym, arith}
 use Rattle.jr_word.specs.Header.{header_word}
 use Rattle.jr_scripts.specs.Image.{header_at}
 use Rattle.jr_scripts.proofs.PlainTook.{few_of, took, shown, writes}

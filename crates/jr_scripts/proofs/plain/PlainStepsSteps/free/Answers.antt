@@ -1,7 +1,7 @@
-use Rattle.std.proofs.Common.{◌≡◌, ◌≢◌, ◌<◌, ◌∙◌, ℕ, ap, sym, subst, arith}
+use Rattle.std.proofs.Common.{◌∙◌, ap, sym, arith}
 use Rattle.jr_word.specs.Slot.{slot_word}
 use Rattle.jr_scripts.specs.Image.{slot_at}
-use Rattle.jr_scripts.specs.Plain.{freed}
+use Rattle.jr_scripts.specs.Slots.{freed}
 use Rattle.jr_scripts.proofs.PlainTook.{few_of, took, shown, writes}
 use Rattle.jr_scripts.proofs.PlainSlots.{looked_can, looked_object, names_object, deleted, deleted_late}
 use Rattle.jr_scripts.proofs.plain.PlainStepsSteps.free.Goals as goal

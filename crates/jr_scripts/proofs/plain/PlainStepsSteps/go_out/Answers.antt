@@ -1,4 +1,4 @@
-use Rattle.std.proofs.Common.{◌≡◌, ◌+◌, ◌-◌, ◌≤◌, ℕ, get_or, arith}
+use Rattle.std.proofs.Common.{◌≡◌, ◌-◌, get_or, arith}
 use Rattle.jr_scripts.proofs.PlainTook.{few_of, took, shown}
 use Rattle.jr_scripts.proofs.PlainTurns.{gate_some, left}
 use Rattle.jr_scripts.proofs.plain.PlainStepsSteps.go_out.Goals as goal

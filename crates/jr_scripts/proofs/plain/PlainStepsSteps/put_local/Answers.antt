@@ -1,4 +1,4 @@
-use Rattle.std.proofs.Common.{◌≡◌, ◌+◌, ◌<◌, ◌^◌, ◌∙◌, ℕ, ap, sym, subst, arith}
+use Rattle.std.proofs.Common.{◌+◌, ◌∙◌, ap, sym, subst, arith}
 use Rattle.jr_word.specs.Local.{local_word, IsLocalPlace}
 use Rattle.jr_scripts.specs.Image.{local_parts}
 use Rattle.jr_scripts.proofs.PlainTook.{few_of, took, shown, writes}
