@@ -22,7 +22,6 @@ pub mod Entering
 pub mod Creating
 pub mod Making
 pub mod Removing
-pub mod Limits
 pub mod InRoom
 pub mod SlotWords
 pub mod Images

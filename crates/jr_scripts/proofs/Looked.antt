@@ -16,13 +16,8 @@ use Rattle.jr_model.specs.History.{History, by, state, state_from, IsLegal, IsLe
 use Rattle.jr_model.proofs.Updates.{at_handle}
 use Rattle.jr_model.proofs.Histories.{legal_append, state_append}
 use Rattle.jr_model.proofs.Gates.{IsApart, apart_state, apart_after, stay_act}
-<<<<<<< HEAD
 use Rattle.jr_model.proofs.Stays.{never}
-use Rattle.jr_model.proofs.References.{IsKept, kept_state}
-=======
-use Rattle.jr_model.proofs.Stays.{no_leave}
 use Rattle.jr_model.proofs.References.{kept_state}
->>>>>>> plain
 use Rattle.jr_model.proofs.Presence.{sound_state}
 use Rattle.jr_scripts.specs.declared.steps.Known.{Known}
 use Rattle.jr_scripts.specs.Acts.{found_object}
