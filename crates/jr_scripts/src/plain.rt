@@ -259,8 +259,8 @@ impl<const LAST: u16> Steps for PlainSteps<LAST> {
         object: u16,
     ) -> Result<(), SlotParts> {
         let at = SLOTS + index as usize;
-        let looked = SlotWord::pack(SlotParts::Free { serial });
-        if self.word(at) != looked.0 {
+        let free = SlotWord::pack(SlotParts::Free { serial });
+        if self.word(at) != free.0 {
             return Err(self.slot(index));
         }
         self.words[at] = SlotWord::pack(reference(kind, serial, Some(object))).0;
