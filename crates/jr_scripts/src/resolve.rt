@@ -44,7 +44,7 @@ fn look_at<S: Steps>(
     }
 }
 
-/// The object of a handle, once it is known to be the thread's or of the row.
+/// The object of a handle: E2 out of bounds, E3 for a local of another thread.
 fn resolve_parts<S: Steps>(
     steps: &mut S,
     frames: &Frames,
