@@ -1,6 +1,5 @@
 -- A reference is made to what was resolved.
-use Rattle.std.proofs.Common.{◌≡◌, ℕ, Bool, true, arith, Option, Some, None, List, [], ◌∷◌, Result, Ok, Err, inl, inr, refl, sym, ap, subst, ◌∙◌}
-use Rattle.std.proofs.lemmas.List.{append-nil}
+use Rattle.std.proofs.Common.{◌≡◌, ℕ, Bool, true, arith, Option, Some, None, List, [], ◌∷◌, Result, Ok, Err, refl, ap, subst, ◌∙◌}
 use Rattle.std.specs.List.{AllByRecursion}
 use Rattle.std.specs.Result.{IsErrAnd}
 use mathlib.Core.Logic.{∥∥₁_map}
@@ -8,13 +7,10 @@ use Rattle.jr_word.specs.declared.config.Config.{Config}
 use Rattle.jr_word.specs.declared.handle.RefKind.{RefKind}
 use Rattle.jr_word.specs.declared.fault.Fault.{Fault}
 use Rattle.jr_word.specs.declared.fault.Fault.TheVariants.{RowFull}
-use Rattle.jr_model.specs.declared.event.Act.TheVariants.{Create}
 use Rattle.jr_model.specs.State.{Handle}
-use Rattle.jr_model.specs.History.{PassView, Did}
 use Rattle.jr_model.specs.Frames.{Frames}
-use Rattle.jr_model.specs.Refusals.{RowWasFull}
-use Rattle.jr_model.specs.Calls.{Call, Ran, done, ◌>>=◌}
-use Rattle.jr_model.specs.Parts.{create, created}
+use Rattle.jr_model.specs.Calls.{Call, done, ◌>>=◌}
+use Rattle.jr_model.specs.Parts.{created}
 use Rattle.jr_model.proofs.Agreement.{spares_places}
 use Rattle.jr_model.proofs.Runs.{ran_done, ran_then, ran_err, ran_give, did_legal, ran_created, ran_row_full}
 use Rattle.jr_scripts.specs.declared.steps.Known.{Known}

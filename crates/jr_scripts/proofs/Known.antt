@@ -1,6 +1,5 @@
 -- What follows from a step, for one thing that was known.
-use Rattle.std.proofs.Common.{◌≡◌, ◌≢◌, ◌==◌, ℕ, true, cond, List, [], ◌∷◌, ◌++◌, map, Option, Some, None, IsSome, refl, sym, ap, subst, ◌∙◌, append_assoc}
-use Rattle.std.proofs.lemmas.List.{append-nil}
+use Rattle.std.proofs.Common.{◌≡◌, ◌≢◌, ◌==◌, ℕ, true, cond, List, [], ◌∷◌, ◌++◌, Option, Some, None, IsSome, refl, sym, ap, subst, ◌∙◌}
 use Rattle.std.specs.List.{AllByRecursion}
 use Rattle.jr_model.specs.declared.event.Role.TheVariants.{Within}
 use Rattle.jr_model.specs.declared.event.Found.{Found}
@@ -8,9 +7,9 @@ use Rattle.jr_model.specs.declared.event.Found.TheVariants.{Object}
 use Rattle.jr_model.specs.declared.event.Act.{Act}
 use Rattle.jr_model.specs.declared.event.Act.TheVariants.{Look, Leave}
 use Rattle.jr_model.specs.State.{Handle, Contents, State, IsPresent}
-use Rattle.jr_model.specs.History.{by, state, mine, IsLegal, role_of, Did}
+use Rattle.jr_model.specs.History.{by, state, IsLegal, role_of, Did}
 use Rattle.jr_model.specs.Frames.{Frames, object_at}
-use Rattle.jr_model.proofs.Histories.{mine_append, mine_all, legal_push, state_push}
+use Rattle.jr_model.proofs.Histories.{legal_push, state_push}
 use Rattle.jr_model.proofs.Presence.{named_is_present}
 use Rattle.jr_model.proofs.Stays.{IsStill, still_did, did_added}
 use Rattle.jr_model.proofs.Agreement.{agree_spared, places_did, places_from, spares_places}

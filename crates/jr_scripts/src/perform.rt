@@ -5,10 +5,10 @@ ghost use Rattle.jr_word.specs.declared.handle.RefKind.TheVariants.{Local as Loc
 ghost use Rattle.jr_scripts.specs.Deeds.{Does, new_plain, new_reference, delete_reference, delete_local_ref, get_object_ref_type};
 ghost use Rattle.jr_scripts.specs.Commands.{tried as tried_deed, deleted_of, deleted, type_of as type_deed, deed};
 
-use crate::reply::Reply;
 use crate::env::Env;
 use crate::names::Names;
 use crate::reference::Reference;
+use crate::reply::Reply;
 use crate::steps::Steps;
 use crate::tries::tried;
 use jr_syntax::Command;
@@ -28,11 +28,7 @@ fn plain<S: Steps>(env: &mut Env<S>, turns: u64) -> Result<Handle, Fault>
 }
 
 /// A global reference to what a handle names, none for NULL.
-fn global<S: Steps>(
-    env: &mut Env<S>,
-    turns: u64,
-    handle: Handle,
-) -> Result<Option<Handle>, Fault>
+fn global<S: Steps>(env: &mut Env<S>, turns: u64, handle: Handle) -> Result<Option<Handle>, Fault>
     ensures { Does S.stands S.knows env.old.steps env.new.steps env.old.frames.frames env.new.frames.frames (tried_deed turns (new_reference GlobalKind handle.0)) result }
 {
     tried(
@@ -99,11 +95,7 @@ fn delete<S: Steps>(env: &mut Env<S>, turns: u64, handle: Handle) -> Result<(), 
 }
 
 /// The type of a reference: 0 where there is none.
-fn type_of<S: Steps>(
-    env: &mut Env<S>,
-    turns: u64,
-    referent: Option<Handle>,
-) -> Result<u8, Fault>
+fn type_of<S: Steps>(env: &mut Env<S>, turns: u64, referent: Option<Handle>) -> Result<u8, Fault>
     ensures { Does S.stands S.knows env.old.steps env.new.steps env.old.frames.frames env.new.frames.frames (type_deed turns referent) result }
 {
     let Some(handle) = referent else {

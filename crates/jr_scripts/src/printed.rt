@@ -1,7 +1,6 @@
 //! What commands print.
 
 ghost use Rattle.std.specs.Prelude.{◌≡◌, ◌∷◌, ◌++◌, [], IfOk};
-
 ghost use Rattle.jr_scripts.specs.Text.{line, says as what_is_said, refused as refusal, printed as text_printed, heading as text_heading, ending as text_ending};
 
 use crate::reply::Reply;
@@ -91,6 +90,8 @@ pub fn ending(alloc: Global, summary: Summary) -> Result<Vec<u8>, AllocError>
         live,
         used,
     } = summary;
-    let text = format!(in alloc; "[end]\nglobals {globals} weaks {weaks} live {live} used {used}\n")?;
+    let text = format!(in alloc;
+        "[end]\nglobals {globals} weaks {weaks} live {live} used {used}\n"
+    )?;
     Ok(text.into_bytes())
 }

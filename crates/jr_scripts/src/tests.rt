@@ -162,6 +162,9 @@ fn a_thread_without_turns(rt: HostRuntime) -> Result<(), Fail> {
     run_thread(alloc, &mut env, 10, &commands, 0, &mut out)?;
     assert_eq!(rt; out.as_slice(), b"before\n10 ! E20\ntype p 0\n".as_slice());
     run_thread(alloc, &mut env, 10, &commands, 1, &mut out)?;
-    assert_eq!(rt; out.as_slice(), b"before\n10 ! E20\ntype p 0\ntype p 1\n".as_slice());
+    assert_eq!(rt;
+        out.as_slice(),
+        b"before\n10 ! E20\ntype p 0\ntype p 1\n".as_slice()
+    );
     Ok(())
 }
