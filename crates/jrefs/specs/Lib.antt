@@ -1,2 +1,4 @@
 pub mod Trouble
 pub mod Answer
+pub mod Request
+pub mod Act
