@@ -1,4 +1,4 @@
-//! Laws of the grammar and its faults.
+//! Laws of the grammar and its faults, and of reading what was printed.
 
 ghost use Rattle.std.specs.Prelude.{◌≡◌, None, IfOk, IfErr};
 ghost use Rattle.jr_syntax.specs.declared.script.Script.{Script};
@@ -46,10 +46,7 @@ pub fn a_text_read_is_printed_again(alloc: Global, text: &[u8]) -> Result<Vec<u8
 /// # Errors
 ///
 /// What was given is no script, or memory was refused.
-pub fn a_script_printed_is_read_again(
-    alloc: Global,
-    script: &Script,
-) -> Result<Script, ScriptFault>
+pub fn a_script_printed_is_read_again(alloc: Global, script: &Script) -> Result<Script, ScriptFault>
     ensures { IsScript script.now → ReadsAs script.now result }
 {
     match print(alloc, script) {

@@ -25,7 +25,9 @@ fn vm_line(alloc: Global, config: Config) -> Result<Vec<u8>, AllocError>
         words,
         locals,
     } = config;
-    let text = format!(in alloc; "vm threads {threads} slots {slots} objects {objects} words {words} locals {locals}\n")?;
+    let text = format!(in alloc;
+        "vm threads {threads} slots {slots} objects {objects} words {words} locals {locals}\n"
+    )?;
     Ok(text.into_bytes())
 }
 
