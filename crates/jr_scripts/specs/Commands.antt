@@ -9,8 +9,8 @@ use Rattle.jr_model.specs.Tests.{Word, Nothing, Malformed, Parts}
 use Rattle.jr_syntax.specs.declared.name.Reference.{Reference}
 use Rattle.jr_syntax.specs.declared.command.Command.{Command}
 use Rattle.jr_syntax.specs.declared.command.Command.TheVariants as commands
-use Rattle.jr_scripts.specs.declared.command.Reply.{Reply}
-use Rattle.jr_scripts.specs.declared.command.Reply.TheVariants as replies
+use Rattle.jr_scripts.specs.declared.reply.Reply.{Reply}
+use Rattle.jr_scripts.specs.declared.reply.Reply.TheVariants as replies
 use Rattle.jr_scripts.specs.Reading.{IsReadAs}
 use Rattle.jr_scripts.specs.Names.{Names, referent, wanted}
 use Rattle.jr_scripts.specs.Deeds.{Deed, decided, done, new_plain, new_reference, delete_reference, delete_local_ref, get_object_ref_type, ◌>>=◌, ◌>>◌}

@@ -5,7 +5,7 @@ ghost use Rattle.jr_word.specs.declared.handle.RefKind.TheVariants.{Local as Loc
 ghost use Rattle.jr_scripts.specs.Deeds.{Does, new_plain, new_reference, delete_reference, delete_local_ref, get_object_ref_type};
 ghost use Rattle.jr_scripts.specs.Commands.{tried as tried_deed, deleted_of, deleted, type_of as type_deed, deed};
 
-use crate::command::Reply;
+use crate::reply::Reply;
 use crate::env::Env;
 use crate::names::Names;
 use crate::reference::Reference;
@@ -14,6 +14,7 @@ use crate::tries::tried;
 use jr_syntax::Command;
 use jr_word::{Fault, Handle, RefKind};
 
+/// A plain object and a local reference to it.
 fn plain<S: Steps>(env: &mut Env<S>, turns: u64) -> Result<Handle, Fault>
     ensures { Does S.stands S.knows env.old.steps env.new.steps env.old.frames.frames env.new.frames.frames (tried_deed turns new_plain) result }
 {
@@ -26,6 +27,7 @@ fn plain<S: Steps>(env: &mut Env<S>, turns: u64) -> Result<Handle, Fault>
     )
 }
 
+/// A global reference to what a handle names, none for NULL.
 fn global<S: Steps>(
     env: &mut Env<S>,
     turns: u64,
@@ -42,6 +44,7 @@ fn global<S: Steps>(
     )
 }
 
+/// Deletes a global reference.
 fn delete_global<S: Steps>(env: &mut Env<S>, turns: u64, handle: Handle) -> Result<(), Fault>
     ensures { Does S.stands S.knows env.old.steps env.new.steps env.old.frames.frames env.new.frames.frames (deleted_of turns GlobalKind handle.0) result }
 {
@@ -54,6 +57,7 @@ fn delete_global<S: Steps>(env: &mut Env<S>, turns: u64, handle: Handle) -> Resu
     )
 }
 
+/// Deletes a weak global reference.
 fn delete_weak<S: Steps>(env: &mut Env<S>, turns: u64, handle: Handle) -> Result<(), Fault>
     ensures { Does S.stands S.knows env.old.steps env.new.steps env.old.frames.frames env.new.frames.frames (deleted_of turns WeakKind handle.0) result }
 {
@@ -66,6 +70,7 @@ fn delete_weak<S: Steps>(env: &mut Env<S>, turns: u64, handle: Handle) -> Result
     )
 }
 
+/// Deletes a local reference.
 fn delete_local<S: Steps>(env: &mut Env<S>, turns: u64, handle: Handle) -> Result<(), Fault>
     ensures { Does S.stands S.knows env.old.steps env.new.steps env.old.frames.frames env.new.frames.frames (deleted_of turns LocalKind handle.0) result }
 {

@@ -1,5 +1,5 @@
 //! The steps of one thread over a plain vector of words. No history is stored.
-ghost use Rattle.std.specs.Prelude.{◌≡◌, ◌≢◌, ◌⊎◌, ◌↔◌, ◌<◌, ◌≤◌, vec_len, slice_index, true, false, IfOk, IfErr, Ok, Err};
+ghost use Rattle.std.specs.Prelude.{◌≡◌, ◌⊎◌, ◌↔◌, ◌<◌, ◌≤◌, vec_len, slice_index, true, false, IfOk, IfErr, Ok, Err};
 ghost use Rattle.jr_word.specs.declared.fault.Fault.TheVariants.{Memory, Size};
 ghost use Rattle.jr_word.specs.declared.gate.GateParts.{GateParts as Gates};
 ghost use Rattle.jr_word.specs.Config.{in_limits};
@@ -259,8 +259,8 @@ impl<const LAST: u16> Steps for PlainSteps<LAST> {
         object: u16,
     ) -> Result<(), SlotParts> {
         let at = SLOTS + index as usize;
-        let looked = SlotWord::pack(SlotParts::Free { serial });
-        if self.word(at) != looked.0 {
+        let free = SlotWord::pack(SlotParts::Free { serial });
+        if self.word(at) != free.0 {
             return Err(self.slot(index));
         }
         self.words[at] = SlotWord::pack(reference(kind, serial, Some(object))).0;

@@ -49,7 +49,7 @@ fn run_part(
     Ok(text)
 }
 
-/// Runs a script of one thread, and appends what it prints. A call that is raced or barred is made again, up to `turns` times.
+/// Runs a script of one thread, and appends what it prints. A call that is raced or barred is made again, up to `turns` calls in all.
 ///
 /// # Errors
 ///

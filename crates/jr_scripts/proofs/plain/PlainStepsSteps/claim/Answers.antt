@@ -5,12 +5,12 @@ use Rattle.jr_scripts.proofs.PlainTook.{few_of, took, shown, writes}
 use Rattle.jr_scripts.proofs.PlainSlots.{claimed, lost, object_some, names_object}
 use Rattle.jr_scripts.proofs.plain.PlainStepsSteps.claim.Goals as goal
 
-pub returns-then-word-looked : goal.returns-then-word-looked
-returns-then-word-looked g c =
+pub returns-then-word-free : goal.returns-then-word-free
+returns-then-word-free g c =
     let s = c.args.self.now in
     took g.row.LAST s s
     (lost s.config g.row.LAST (few_of g.row.LAST s (omega arith)) s.role s.words.items c.args.index c.args.serial c.args.kind c.args.object c.slot.result c.requires.row c.slot.ensures.0 c.slot.ensures.1
-    (λ e. c.if-word-looked.true (c.word.ensures ∙ (e ∙ sym c.pack-looked.ensures))) c.requires.role)
+    (λ e. c.if-word-free.true (c.word.ensures ∙ (e ∙ sym c.pack-free.ensures))) c.requires.role)
 
 pub pack-requires : goal.pack-requires
 pack-requires g c =
@@ -24,7 +24,7 @@ returns g c =
     took g.row.LAST s _
     (writes (slot_at c.args.index) (slot_word c.reference.result) c.pack.result.0 c.pack.ensures
     (claimed s.config g.row.LAST (few_of g.row.LAST s (omega arith)) s.role s.words.items c.args.index c.args.serial c.args.kind c.args.object c.reference.result c.requires.row c.requires.kind c.reference.ensures
-    (sym c.word.ensures ∙ (c.if-word-looked.false ∙ c.pack-looked.ensures)) c.requires.role))
+    (sym c.word.ensures ∙ (c.if-word-free.false ∙ c.pack-free.ensures)) c.requires.role))
 
 pub invariant_of-self-clause-shown : goal.invariant_of-self-clause-shown
 invariant_of-self-clause-shown g c =
@@ -32,5 +32,5 @@ invariant_of-self-clause-shown g c =
     shown
     (writes (slot_at c.args.index) (slot_word c.reference.result) c.pack.result.0 c.pack.ensures
     (claimed s.config g.row.LAST (few_of g.row.LAST s (omega arith)) s.role s.words.items c.args.index c.args.serial c.args.kind c.args.object c.reference.result c.requires.row c.requires.kind c.reference.ensures
-    (sym c.word.ensures ∙ (c.if-word-looked.false ∙ c.pack-looked.ensures)) c.requires.role))
+    (sym c.word.ensures ∙ (c.if-word-free.false ∙ c.pack-free.ensures)) c.requires.role))
     c.requires.looked
