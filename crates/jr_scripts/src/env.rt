@@ -106,6 +106,8 @@ impl<S: Steps> Env<S> {
     {
         calls::get_object_ref_type(&mut self.steps, &self.frames, Reference::of(handle))
     }
+
+    /// A global or weak global reference to what the handle names, or none for null.
     fn new_reference(&mut self, kind: RefKind, handle: Handle) -> Result<Option<Handle>, Fault>
         requires { kind ≢ Local }
         ensures { Does S.stands S.knows self.old.steps self.new.steps self.old.frames.frames self.new.frames.frames (new_reference kind handle.0) result }

@@ -5,10 +5,10 @@ ghost use Rattle.jr_word.specs.declared.handle.RefKind.TheVariants.{Local as Loc
 ghost use Rattle.jr_scripts.specs.Deeds.{Does, new_plain, new_reference, new_local_ref, delete_reference, delete_local_ref, is_same_object, get_object_ref_type};
 ghost use Rattle.jr_scripts.specs.Commands.{tried as tried_deed, makes, deleted_of, deleted, type_of as type_deed, deed};
 
-use crate::reply::Reply;
 use crate::env::Env;
 use crate::names::Names;
 use crate::reference::Reference;
+use crate::reply::Reply;
 use crate::steps::Steps;
 use crate::tries::tried;
 use jr_syntax::Command;
@@ -124,11 +124,7 @@ fn delete<S: Steps>(env: &mut Env<S>, turns: u64, handle: Handle) -> Result<(), 
 }
 
 /// The type of a reference: 0 where there is none.
-fn type_of<S: Steps>(
-    env: &mut Env<S>,
-    turns: u64,
-    referent: Option<Handle>,
-) -> Result<u8, Fault>
+fn type_of<S: Steps>(env: &mut Env<S>, turns: u64, referent: Option<Handle>) -> Result<u8, Fault>
     ensures { Does S.stands S.knows env.old.steps env.new.steps env.old.frames.frames env.new.frames.frames (type_deed turns referent) result }
 {
     let Some(handle) = referent else {
@@ -144,12 +140,7 @@ fn type_of<S: Steps>(
 }
 
 /// Whether two references are to one object, or both to none.
-fn same<S: Steps>(
-    env: &mut Env<S>,
-    turns: u64,
-    left: Handle,
-    right: Handle,
-) -> Result<bool, Fault>
+fn same<S: Steps>(env: &mut Env<S>, turns: u64, left: Handle, right: Handle) -> Result<bool, Fault>
     ensures { Does S.stands S.knows env.old.steps env.new.steps env.old.frames.frames env.new.frames.frames (tried_deed turns (is_same_object left.0 right.0)) result }
 {
     tried(

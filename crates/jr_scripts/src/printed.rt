@@ -1,7 +1,6 @@
 //! What commands print.
 
 ghost use Rattle.std.specs.Prelude.{◌≡◌, ◌∷◌, ◌++◌, [], IfOk, OnOk, codes};
-
 ghost use Rattle.jr_scripts.specs.Text.{line, verdict, says as what_is_said, refused as refusal, printed as text_printed, heading as text_heading, ending as text_ending};
 
 use crate::reply::Reply;
@@ -36,12 +35,7 @@ fn line_of_three(
 }
 
 /// The line of `same`.
-fn same_line(
-    alloc: Global,
-    left: &[u8],
-    right: &[u8],
-    same: bool,
-) -> Result<Vec<u8>, AllocError>
+fn same_line(alloc: Global, left: &[u8], right: &[u8], same: bool) -> Result<Vec<u8>, AllocError>
     ensures { IfOk result (λ text. text.items ≡ line (codes "same" ∷ left.now ∷ right.now ∷ verdict same ∷ [])) }
 {
     let mut text = Vec::from_slice(alloc, b"same")?;
@@ -124,6 +118,8 @@ pub fn ending(alloc: Global, summary: Summary) -> Result<Vec<u8>, AllocError>
         live,
         used,
     } = summary;
-    let text = format!(in alloc; "[end]\nglobals {globals} weaks {weaks} live {live} used {used}\n")?;
+    let text = format!(in alloc;
+        "[end]\nglobals {globals} weaks {weaks} live {live} used {used}\n"
+    )?;
     Ok(text.into_bytes())
 }
