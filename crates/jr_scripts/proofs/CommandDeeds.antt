@@ -1,8 +1,7 @@
 -- What calls make up a command, for whatever was known.
-use Rattle.std.proofs.Common.{MutBor, ◌≡◌, ℕ, List, Result, Ok, Err, Option, Some, subst, sym, refl, ◌∙◌, inl, inr}
+use Rattle.std.proofs.Common.{MutBor, ◌≡◌, ℕ, Bool, Result, Ok, Err, Option, Some, None, subst, sym, refl, ◌∙◌, inl, inr}
 use Rattle.jr_word.specs.declared.fault.Fault.{Fault}
 use Rattle.jr_word.specs.declared.handle.RefKind.{RefKind}
-use Rattle.jr_word.specs.declared.handle.RefKind.TheVariants.{Global}
 use Rattle.jr_word.specs.declared.handle.Handle.{Handle as HandleWord}
 use Rattle.jr_model.specs.State.{Handle}
 use Rattle.jr_model.specs.Frames.{Frames}
@@ -10,12 +9,13 @@ use Rattle.jr_model.specs.Tests.{Parts}
 use Rattle.jr_syntax.specs.declared.name.Reference.{Reference}
 use Rattle.jr_syntax.specs.declared.command.Command.{Command}
 use Rattle.jr_syntax.specs.declared.command.Command.TheVariants as commands
+use Rattle.jr_scripts.specs.declared.reply.Reply.TheVariants as replies
 use Rattle.jr_scripts.specs.declared.steps.Known.{Known}
 use Rattle.jr_scripts.specs.Names.{Names, referent, wanted}
 use Rattle.jr_scripts.specs.Knowing.{Standing}
 use Rattle.jr_scripts.specs.Reading.{IsReadAs}
-use Rattle.jr_scripts.specs.Deeds.{Moment, Deed, Does, get_object_ref_type, new_reference}
-use Rattle.jr_scripts.specs.Tries.{Tried, answered, again, gave_up}
+use Rattle.jr_scripts.specs.Deeds.{Moment, Deed, Does, get_object_ref_type, is_same_object}
+use Rattle.jr_scripts.specs.Tries.{Tried, answered, again, gave_up, is_tried_again}
 use Rattle.jr_scripts.specs.Commands.{deleted_of, deleted, type_of, tried, deed}
 
 module _ {S : Type 0} {stands : S → Standing} {knows : S → Known → Type 0} where
@@ -59,10 +59,14 @@ module _ {S : Type 0} {stands : S → Standing} {knows : S → Known → Type 0}
   does_type {answer} turns referent h is = does_more (λ p q d. subst (λ r. type_of turns r p answer q) (sym is) d)
 
   module _ (turns : ℕ) (names : Names) (c : Command) (r : Reference) (v : HandleWord) (e : Fault) where
-    -- a new reference that is refused
-    pub does_global_err : {old new : S} {f g : Frames} (n : List ℕ) → c ≡ commands.Global n r → Ok v ≡ wanted (referent names r) → Does stands knows old new f g (tried turns (new_reference Global v.0)) (Err e) → Does stands knows old new f g (deed turns names c) (Err e)
-    does_global_err n is found = does_more (λ p q d. subst (λ c. deed turns names c p (Err e) q) (sym is) (inl (v, p, (found, refl), inr (e, refl, d))))
-
     -- a deletion that is refused
     pub does_drop_err : {old new : S} {f g : Frames} → c ≡ commands.Drop r → Ok v ≡ wanted (referent names r) → Does stands knows old new f g (deleted turns v.0) (Err e) → Does stands knows old new f g (deed turns names c) (Err e)
     does_drop_err is found = does_more (λ p q d. subst (λ c. deed turns names c p (Err e) q) (sym is) (inl (v, p, (found, refl), inr (e, refl, d))))
+
+  module _ (turns : ℕ) (names : Names) (c : Command) (q r : Reference) (v w : HandleWord) (is : c ≡ commands.Same q r) (left : Ok v ≡ wanted (referent names q)) (right : Ok w ≡ wanted (referent names r)) where
+    -- a comparison, and one that is refused
+    pub does_same : {old new : S} {f g : Frames} (same : Bool) → Does stands knows old new f g (tried turns (is_same_object v.0 w.0)) (Ok same) → Does stands knows old new f g (deed turns names c) (Ok (replies.Same same))
+    does_same same = does_more (λ x y d. subst (λ c. deed turns names c x (Ok (replies.Same same)) y) (sym is) (inl (v, x, (left, refl), inl (w, x, (right, refl), inl (same, y, d, (refl, refl))))))
+
+    pub does_same_err : {old new : S} {f g : Frames} (e : Fault) → Does stands knows old new f g (tried turns (is_same_object v.0 w.0)) (Err e) → Does stands knows old new f g (deed turns names c) (Err e)
+    does_same_err e = does_more (λ x y d. subst (λ c. deed turns names c x (Err e) y) (sym is) (inl (v, x, (left, refl), inl (w, x, (right, refl), inr (e, refl, d)))))

@@ -26,10 +26,10 @@ search_spares o (l ∷ ls) None = (refl, search_spares o ls None)
 search_spares o (l ∷ ls) (Some h) = (refl, search_spares o ls (Some h))
 
 module _ {S : Type 0} {stands : S → Standing} {knows : S → Known → Type 0} {a b : S} {f : Frames} {first : Call (Option ℕ)} where
-  pub creates_refused : {e : Fault} (kind : RefKind) (answer : Result (Option Handle) Fault) → IsErrAnd answer (λ y. y ≡ e) → Resolves stands knows a b f first (Err e) → Calls stands knows a b f f (first >>= created kind) answer
-  creates_refused {e} kind answer given p = handed_on answer given (record {
+  pub creates_refused : {B : Type 0} {e : Fault} (next : Option ℕ → Call B) (answer : Result B Fault) → IsErrAnd answer (λ y. y ≡ e) → Resolves stands knows a b f first (Err e) → Calls stands knows a b f f (first >>= next) answer
+  creates_refused {e = e} next answer given p = handed_on answer given (record {
     stands_is = p.stands_is;
-    ran = λ k s m. let x = p.ran k s m in (x.0, x.1, ran_err (created kind) e x.2, x.3.0);
+    ran = λ k s m. let x = p.ran k s m in (x.0, x.1, ran_err next e x.2, x.3.0);
   })
 
   resolves_at : {z y : Option ℕ} → z ≡ y → Resolves stands knows a b f first (Ok z) → Resolves stands knows a b f first (Ok y)

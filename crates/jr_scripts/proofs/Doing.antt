@@ -15,7 +15,7 @@ use Rattle.jr_scripts.specs.declared.steps.Known.{Known}
 use Rattle.jr_scripts.specs.Knowing.{Standing, IsOf, view}
 use Rattle.jr_scripts.specs.Performing.{Calls}
 use Rattle.jr_scripts.specs.Reading.{IsReadAs}
-use Rattle.jr_scripts.specs.Deeds.{Deed, Does, answered_by, call, call_on, packed, packed_if}
+use Rattle.jr_scripts.specs.Deeds.{Deed, Does, answered_by, call, call_on, call_on_both, packed, packed_if}
 
 -- the word of a handle that was packed
 pub packed_is : (w : HandleWord) (h : Handle) → w.0 ≡ handle_word h → w ≡ packed h
@@ -48,6 +48,13 @@ module _ {S : Type 0} {stands : S → Standing} {knows : S → Known → Type 0}
     does_call_on work w r reads p =
         let d = does_call (λ c last t. work c last t r) p in
         record { stands_is = d.stands_is; did = λ k s m. let x = d.did k s m in (x.0, x.1, x.2, (r, reads, x.3)) }
+
+    -- a call that is handed two reference words
+    pub does_call_on_both : {answer : Result A Fault} (work : Config → ℕ → ℕ → Word → Word → Call A) (v w : ℕ) (q r : Word) → IsReadAs v q → IsReadAs w r → Calls stands knows a b f g (work (stands a).config (stands a).last (stands a).thread q r) answer
+        → Does stands knows a b f g (call_on_both v w (λ c last t s x y. work c last t x y)) answer
+    does_call_on_both work v w q r reads reads' p =
+        let d = does_call (λ c last t. work c last t q r) p in
+        record { stands_is = d.stands_is; did = λ k s m. let x = d.did k s m in (x.0, x.1, x.2, (q, r, reads, reads', x.3)) }
 
   -- the answer in another form
   pub does_answer : {B : Type 0} {deed : Deed A} {x : A} {y : B} (form : A → B) → y ≡ form x → Does stands knows a b f g deed (Ok x) → Does stands knows a b f g (answered_by form deed) (Ok y)

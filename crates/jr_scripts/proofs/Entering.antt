@@ -32,7 +32,7 @@ fresh_table s = record { frames = fresh_frames s.config.locals; thread = s.threa
 
 module _ {S : Type 0} {stands : S → Standing} {knows : S → Known → Type 0} where
   -- after a call the frames are as ready as before
-  ready_after : {A : Type 0} {a b : S} {t u : Table} {role : Role} {work : Call A} {answer : Result A Fault} → IsReady stands knows role a t → KeepsOwner t u → Calls stands knows a b t.frames u.frames work answer → IsReady stands knows role b u
+  pub ready_after : {A : Type 0} {a b : S} {t u : Table} {role : Role} {work : Call A} {answer : Result A Fault} → IsReady stands knows role a t → KeepsOwner t u → Calls stands knows a b t.frames u.frames work answer → IsReady stands knows role b u
   ready_after r o p = record {
     role_is = ap (λ (s : Standing). s.role) p.stands_is ∙ r.role_is;
     owner = o.thread ∙ (r.owner ∙ sym (ap (λ (s : Standing). s.thread) p.stands_is));

@@ -18,9 +18,11 @@ pub mod Deleting
 pub mod Publishing
 pub mod Reading
 pub mod Resolving
+pub mod ResolvingBoth
 pub mod Entering
 pub mod Creating
 pub mod Making
+pub mod MakingLocals
 pub mod Removing
 pub mod InRoom
 pub mod SlotWords

@@ -14,9 +14,9 @@ use Rattle.jr_model.specs.State.{Handle}
 use Rattle.jr_model.specs.History.{PassView, Did}
 use Rattle.jr_model.specs.Frames.{Frames, IsAdded, free_places, is_free}
 use Rattle.jr_model.specs.Refusals.{ObjectsWereFull}
-use Rattle.jr_model.specs.Calls.{Ran, refuse_if, ◌>>=◌}
+use Rattle.jr_model.specs.Calls.{Call, Ran, refuse_if, ◌>>=◌}
 use Rattle.jr_model.specs.Parts.{publish}
-use Rattle.jr_model.specs.References.{added}
+use Rattle.jr_model.specs.References.{added, room_for}
 use Rattle.jr_model.proofs.Counts.{count_none}
 use Rattle.jr_model.proofs.Moments.{sometime_last, one_act}
 use Rattle.jr_model.proofs.Runs.{ran_then, ran_err}
@@ -38,13 +38,16 @@ free_room last f p l free = below_one (free_places last f) (λ e. let no = count
 
 module _ (c : Config) (last t : ℕ) where
   -- what follows the test for room
-  roomy : {p q : PassView} (f : Frames) {g : Frames} {answer : Result Handle Fault} → nat_lt (free_places last f) 1 ≡ false → Ran p q f g (publish Plain [] >>= added c last t) answer → Ran p q f g (making c last t) answer
-  roomy f room r = record {
+  pub room_ran : {B : Type 0} {p q : PassView} (f : Frames) {g : Frames} {next : Unit {0} → Call B} {answer : Result B Fault} → nat_lt (free_places last f) 1 ≡ false → Ran p q f g (next tt) answer → Ran p q f g (room_for c last t 1 >>= next) answer
+  room_ran f room r = record {
     acts = r.acts;
     did = r.did;
-    is = inl (tt, f, [], r.acts, refl, subst (λ b. refuse_if b LocalsFull f [] (Ok tt) f) (sym room) (refl, refl, refl), inl (tt, f, [], r.acts, refl, (refl, refl, refl), r.is));
+    is = inl (tt, f, [], r.acts, refl, subst (λ b. refuse_if b LocalsFull f [] (Ok tt) f) (sym room) (refl, refl, refl), r.is);
     grounds = r.grounds;
   }
+
+  roomy : {p q : PassView} (f : Frames) {g : Frames} {answer : Result Handle Fault} → nat_lt (free_places last f) 1 ≡ false → Ran p q f g (publish Plain [] >>= added c last t) answer → Ran p q f g (making c last t) answer
+  roomy f room r = room_ran f room (record { acts = r.acts; did = r.did; is = inl (tt, f, [], r.acts, refl, (refl, refl, refl), r.is); grounds = r.grounds })
 
   full_ran : {p q : PassView} (f : Frames) → nat_lt (free_places last f) 1 ≡ false → ObjectsWereFull p q → Did p q [] → Ran p q f f (making c last t) (Err ObjectsFull)
   full_ran {p} {q} f room full d =
@@ -58,7 +61,7 @@ module _ (c : Config) (last t : ℕ) where
       roomy f room (ran_then {next = added c last t} o x y)
 
 module _ {S : Type 0} {stands : S → Standing} {knows : S → Known → Type 0} where
-  room_at : {a : S} {t : Table} (h : Handle) → IsReady stands knows Within a t → IsNext t h → nat_lt (free_places (stands a).last t.frames) 1 ≡ false
+  pub room_at : {a : S} {t : Table} (h : Handle) → IsReady stands knows Within a t → IsNext t h → nat_lt (free_places (stands a).last t.frames) 1 ≡ false
   room_at {t = t} h r next = subst (λ n. nat_lt (free_places n t.frames) 1 ≡ false) r.last (free_room t.last t.frames h.index next.place next.free)
 
 module _ {S : Type 0} {stands : S → Standing} {knows : S → Known → Type 0} {a b : S} where

@@ -1,5 +1,5 @@
 -- Tests and looks, for one thing that was known.
-use Rattle.std.proofs.Common.{◌≡◌, ℕ, Bool, true, false, cond, Option, Some, None, [], ◌∷◌, Result, Ok, Err, IfErr, inl, inr, refl, sym, subst}
+use Rattle.std.proofs.Common.{◌≡◌, ℕ, Bool, true, false, ◌||◌, cond, Option, Some, None, [], ◌∷◌, Result, Ok, Err, IfErr, inl, inr, refl, sym, subst}
 use Rattle.jr_word.specs.declared.fault.Fault.{Fault}
 use Rattle.jr_word.specs.declared.fault.Fault.TheVariants as fault
 use Rattle.jr_model.specs.declared.event.Found.{Found}
@@ -25,6 +25,28 @@ ran_refused p f false e next is g l = absurd cc
 pub ran_passed : {B : Type 0} {p q : PassView} {f g : Frames} {answer : Result B Fault} (b : Bool) (e : Fault) (next : Unit {0} → Call B) → b ≡ false → Ran p q f g (next tt) answer → Ran p q f g (refuse_if b e >>= next) answer
 ran_passed {f} false e next is r = record { acts = r.acts; did = r.did; is = inl (tt, f, [], r.acts, refl, (refl, refl, refl), r.is); grounds = r.grounds }
 ran_passed true e next is r = absurd cc
+
+-- one of two tests holds, or neither
+pub either_first : (b d : Bool) → b ≡ true → (b || d) ≡ true
+either_first true d e = refl
+either_first false d e = absurd cc
+
+pub either_second : (b d : Bool) → d ≡ true → (b || d) ≡ true
+either_second true d e = refl
+either_second false d e = e
+
+pub neither : (b d : Bool) → b ≡ false → d ≡ false → (b || d) ≡ false
+neither false d e e' = e'
+neither true d e e' = absurd cc
+
+-- two tests with one refusal
+pub ran_either : {B : Type 0} (p : PassView) (f : Frames) (b d : Bool) (e : Fault) (next : Unit {0} → Call B) → (b || d) ≡ true → Grounds p p e → IsLegal p.config p.last p.seen → Ran p p f f (refuse_if b e >>= (λ u. refuse_if d e >>= next)) (Err e)
+ran_either p f true d e next is g l = ran_refused p f true e _ refl g l
+ran_either p f false d e next is g l = ran_passed false e _ refl (ran_refused p f d e next is g l)
+
+pub ran_neither : {B : Type 0} {p q : PassView} {f g : Frames} {answer : Result B Fault} (b d : Bool) (e : Fault) (next : Unit {0} → Call B) → (b || d) ≡ false → Ran p q f g (next tt) answer → Ran p q f g (refuse_if b e >>= (λ u. refuse_if d e >>= next)) answer
+ran_neither false d e next is r = ran_passed false e _ refl (ran_passed d e next is r)
+ran_neither true d e next is r = absurd cc
 
 found_ran : (p : PassView) (f : Frames) (r : Found) → IsLegal p.config p.last p.seen → Ran p p f f (found_object r) (found_answer r)
 found_ran p f (Object o) l = ran_done p f (Some o) l

@@ -10,16 +10,15 @@ use Rattle.jr_model.specs.State.{Handle}
 use Rattle.jr_model.specs.History.{PassView, IsLegal}
 use Rattle.jr_model.specs.Frames.{Frames, object_of, object_at}
 use Rattle.jr_model.specs.Calls.{Call, Ran, done}
-use Rattle.jr_model.specs.Tests.{Nothing, Parts, is_local, is_out_of_bounds, is_foreign, type_found}
-use Rattle.jr_model.specs.Parts.{looked_at, type_at}
+use Rattle.jr_model.specs.Tests.{Word, Parts, is_local, is_malformed, is_out_of_bounds, is_foreign, type_found}
+use Rattle.jr_model.specs.Parts.{looked, looked_at, type_at}
 use Rattle.jr_model.specs.References.{resolved}
-use Rattle.jr_model.proofs.Runs.{ran_done}
 use Rattle.jr_scripts.specs.declared.steps.Known.{Known}
 use Rattle.jr_scripts.specs.Knowing.{Standing, IsOf, view, anything, nothing, Holds, Goes, Took}
 use Rattle.jr_scripts.specs.Performing.{FoundPresent, Resolves, Calls}
 use Rattle.jr_scripts.specs.Reading.{found_answer, local_answer}
 use Rattle.jr_scripts.proofs.Known.{goes_did, looked_present, holds_did, local_present}
-use Rattle.jr_scripts.proofs.Reading.{ran_refused, ran_passed, ran_local, ran_remote, ran_remote_type}
+use Rattle.jr_scripts.proofs.Reading.{ran_refused, ran_passed, ran_either, ran_neither, ran_local, ran_remote, ran_remote_type}
 
 remote_present : (k k' : Known) (h : Handle) (r : Found) → Goes k (Look h r ∷ []) k' → FoundPresent (found_answer r) k'
 remote_present k k' h (Object o) g = looked_present h o g
@@ -61,22 +60,18 @@ module _ {S : Type 0} {stands : S → Standing} {knows : S → Known → Type 0}
           (k, s, subst (λ y. Ran (view k) (view k) f f (looked_at h) (local_answer y)) (sym is) (ran_local (view k) f h b l), (m, found_there f h z at k l m));
     }
 
-    module _ (c : Config) (last t : ℕ) where
-      pub resolves_null : Resolves stands knows a a f (resolved c last t Nothing) (Ok None)
-      resolves_null = resolves_none (λ k. tt) (λ p l. ran_passed false fault.Stale _ refl (ran_passed false fault.Stale _ refl (ran_passed false fault.Foreign _ refl (ran_done p f None l))))
+    module _ (c : Config) (last t : ℕ) (w : Word) where
+      pub resolves_outside : (is_malformed w || is_out_of_bounds c w) ≡ true → Resolves stands knows a a f (resolved c last t w) (Err fault.Stale)
+      resolves_outside e = resolves_none (λ k. tt) (λ p l. ran_either p f (is_malformed w) (is_out_of_bounds c w) fault.Stale _ e tt l)
 
-      pub resolves_outside : (h : Handle) → is_out_of_bounds c (Parts h) ≡ true → Resolves stands knows a a f (resolved c last t (Parts h)) (Err fault.Stale)
-      resolves_outside h e = resolves_none (λ k. tt) (λ p l. ran_passed false fault.Stale _ refl (ran_refused p f (is_out_of_bounds c (Parts h)) fault.Stale _ e tt l))
+      pub resolves_foreign : (is_malformed w || is_out_of_bounds c w) ≡ false → is_foreign t w ≡ true → Resolves stands knows a a f (resolved c last t w) (Err fault.Foreign)
+      resolves_foreign e e' = resolves_none (λ k. tt) (λ p l. ran_neither (is_malformed w) (is_out_of_bounds c w) fault.Stale _ e (ran_refused p f (is_foreign t w) fault.Foreign _ e' tt l))
 
-      pub resolves_foreign : (h : Handle) → is_out_of_bounds c (Parts h) ≡ false → is_foreign t (Parts h) ≡ true → Resolves stands knows a a f (resolved c last t (Parts h)) (Err fault.Foreign)
-      resolves_foreign h e e' = resolves_none (λ k. tt)
-          (λ p l. ran_passed false fault.Stale _ refl (ran_passed (is_out_of_bounds c (Parts h)) fault.Stale _ e (ran_refused p f (is_foreign t (Parts h)) fault.Foreign _ e' tt l)))
-
-  pub resolves_looked : (c : Config) (last t : ℕ) {a b : S} (f : Frames) (h : Handle) {answer : Result (Option ℕ) Fault} → is_out_of_bounds c (Parts h) ≡ false → is_foreign t (Parts h) ≡ false → Resolves stands knows a b f (looked_at h) answer → Resolves stands knows a b f (resolved c last t (Parts h)) answer
-  resolves_looked c last t f h e e' p = record {
+  pub resolves_looked : (c : Config) (last t : ℕ) {a b : S} (f : Frames) (w : Word) {answer : Result (Option ℕ) Fault} → (is_malformed w || is_out_of_bounds c w) ≡ false → is_foreign t w ≡ false → Resolves stands knows a b f (looked w) answer → Resolves stands knows a b f (resolved c last t w) answer
+  resolves_looked c last t f w e e' p = record {
     stands_is = p.stands_is;
     ran = λ k s m. let r = p.ran k s m in
-        (r.0, r.1, ran_passed false fault.Stale _ refl (ran_passed (is_out_of_bounds c (Parts h)) fault.Stale _ e (ran_passed (is_foreign t (Parts h)) fault.Foreign _ e' r.2)), r.3);
+        (r.0, r.1, ran_neither (is_malformed w) (is_out_of_bounds c w) fault.Stale _ e (ran_passed (is_foreign t w) fault.Foreign _ e' r.2), r.3);
   }
 
   pub types_some : {a b : S} {f : Frames} {answer : Result ℕ Fault} (x y : Bool) (work : Call ℕ) → x ≡ false → y ≡ false → Calls stands knows a b f f work answer → Calls stands knows a b f f (cond (x || y) (done 0) work) answer

@@ -12,13 +12,19 @@ use Rattle.jr_scripts.specs.declared.reply.Reply.{Reply}
 use Rattle.jr_scripts.specs.declared.reply.Reply.TheVariants as replies
 use Rattle.jr_scripts.specs.Reading.{IsReadAs}
 use Rattle.jr_scripts.specs.Names.{Names, referent, wanted}
-use Rattle.jr_scripts.specs.Deeds.{Deed, decided, done, new_plain, new_reference, delete_reference, delete_local_ref, get_object_ref_type, ◌>>=◌, ◌>>◌}
+use Rattle.jr_scripts.specs.Deeds.{Deed, decided, done, new_plain, new_reference, new_local_ref, delete_reference, delete_local_ref, is_same_object, get_object_ref_type, ◌>>=◌, ◌>>◌}
 use Rattle.jr_scripts.specs.Tries.{Tried}
 
 module _ (turns : ℕ) where
   -- a call, made again where it was raced or barred
   abbrev pub tried : {A : Type 0} → Deed A → Deed A
   tried one = Tried one turns
+
+  -- a call that makes a reference, or answers NULL
+  abbrev pub makes : Deed (Option Handle) → Deed Reply
+  makes one = do
+    h ← tried one
+    done (replies.Made h)
 
   -- the delete call of the kind
   abbrev pub deleted_of : RefKind → ℕ → Deed (Unit {0})
@@ -51,8 +57,13 @@ module _ (turns : ℕ) (names : Names) where
     done (replies.Made (Some h))
   deed (commands.Global n r) = do
     w ← the_reference r
-    h ← tried turns (new_reference Global w.0)
-    done (replies.Made h)
+    makes turns (new_reference Global w.0)
+  deed (commands.Weak n r) = do
+    w ← the_reference r
+    makes turns (new_reference Weak w.0)
+  deed (commands.Local n r) = do
+    w ← the_reference r
+    makes turns (new_local_ref w.0)
   deed (commands.Drop r) = do
     w ← the_reference r
     deleted turns w.0
@@ -60,3 +71,8 @@ module _ (turns : ℕ) (names : Names) where
   deed (commands.Type r) = do
     n ← type_of turns (referent names r)
     done (replies.Type n)
+  deed (commands.Same q r) = do
+    v ← the_reference q
+    w ← the_reference r
+    same ← tried turns (is_same_object v.0 w.0)
+    done (replies.Same same)

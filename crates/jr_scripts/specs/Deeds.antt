@@ -1,5 +1,5 @@
 -- What the calls of an env do, from one moment of its pass and frames to another.
-use Rattle.std.specs.Prelude.{◌≡◌, ◌⊎◌, ℕ, Option, Some, None, Result, Ok, Err}
+use Rattle.std.specs.Prelude.{◌≡◌, ◌⊎◌, ℕ, Bool, Option, Some, None, Result, Ok, Err}
 use Rattle.jr_word.specs.declared.handle.RefKind.{RefKind}
 use Rattle.jr_word.specs.declared.handle.Handle.{Handle as HandleWord}
 use Rattle.jr_word.specs.Handle.{handle_word}
@@ -34,6 +34,10 @@ call asked old answer new = Ran old.pass new.pass old.frames new.frames (asked o
 -- a call that is handed a reference word
 abbrev pub call_on : {A : Type 0} → ℕ → (Config → ℕ → ℕ → State → Word → Call A) → Deed A
 call_on w asked old answer new = (a : Word) × IsReadAs w a × call (λ c last t s. asked c last t s a) old answer new
+
+-- a call that is handed two reference words
+abbrev pub call_on_both : {A : Type 0} → ℕ → ℕ → (Config → ℕ → ℕ → State → Word → Word → Call A) → Deed A
+call_on_both v w asked old answer new = (a b : Word) × IsReadAs v a × IsReadAs w b × call (λ c last t s. asked c last t s a b) old answer new
 
 -- an answer, with no event
 abbrev pub done : {A : Type 0} → A → Deed A
@@ -74,6 +78,10 @@ new_plain = answered_by packed (call (λ c last t s. references.new_plain c last
 abbrev pub new_reference : RefKind → ℕ → Deed (Option HandleWord)
 new_reference kind w = answered_by packed_if (call_on w (λ c last t s a. references.new_reference c last t kind a))
 
+-- NewLocalRef
+abbrev pub new_local_ref : ℕ → Deed (Option HandleWord)
+new_local_ref w = answered_by packed_if (call_on w (λ c last t s a. references.new_local_ref c last t a))
+
 -- DeleteGlobalRef, DeleteWeakGlobalRef
 abbrev pub delete_reference : RefKind → ℕ → Deed (Unit {0})
 delete_reference kind w = call_on w (λ c last t s a. references.delete_reference c last t kind a)
@@ -81,6 +89,10 @@ delete_reference kind w = call_on w (λ c last t s a. references.delete_referenc
 -- DeleteLocalRef
 abbrev pub delete_local_ref : ℕ → Deed (Unit {0})
 delete_local_ref w = call_on w (λ c last t s a. references.delete_local_ref c last t a)
+
+-- IsSameObject
+abbrev pub is_same_object : ℕ → ℕ → Deed Bool
+is_same_object v w = call_on_both v w (λ c last t s a b. references.is_same_object c last t a b)
 
 -- GetObjectRefType
 abbrev pub get_object_ref_type : ℕ → Deed ℕ

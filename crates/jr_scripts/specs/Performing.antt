@@ -12,7 +12,7 @@ use Rattle.jr_model.specs.Refusals.{Sometime}
 use Rattle.jr_model.specs.Frames.{Frames}
 use Rattle.jr_model.specs.Calls.{Call, Ran}
 use Rattle.jr_scripts.specs.declared.steps.Known.{Known}
-use Rattle.jr_scripts.specs.Knowing.{Standing, view, state_of, HasObject, Holds}
+use Rattle.jr_scripts.specs.Knowing.{Standing, view, state_of, HasObject, HasOptional, Holds}
 
 -- every object number of the room is present
 abbrev pub EachPresent : Config → State → Type 0
@@ -76,3 +76,7 @@ module _ {S : Type 0} (stands : S → Standing) (knows : S → Known → Type 0)
   -- a call was made, and the frames go on agreeing with the locals
   abbrev pub Calls : {A : Type 0} → S → S → Frames → Frames → Call A → Result A Fault → Type 0
   Calls old new f g call answer = Performed stands knows old new f g (Holds f) (λ s. call) answer (Holds g)
+
+  -- a local reference was made to a present object, or none to none, and the frames go on agreeing with the locals
+  abbrev pub MakesLocal : S → S → Frames → Frames → Option ℕ → Call (Option Handle) → Result (Option Handle) Fault → Type 0
+  MakesLocal old new f g o call answer = Performed stands knows old new f g (λ k. Holds f k × HasOptional o k) (λ s. call) answer (Holds g)

@@ -1,5 +1,5 @@
 -- What commands print, and the names that they set.
-use Rattle.std.specs.Prelude.{ℕ, Option, Some, None, List, [], ◌∷◌, ◌++◌, Result, Ok, Err, codes}
+use Rattle.std.specs.Prelude.{ℕ, Bool, true, false, Option, Some, None, List, [], ◌∷◌, ◌++◌, Result, Ok, Err, codes}
 use Rattle.std.specs.Fmt.{decimal}
 use Rattle.jr_word.specs.declared.fault.Fault.{Fault}
 use Rattle.jr_word.specs.declared.fault.Fault.TheVariants as fault
@@ -18,10 +18,18 @@ use Rattle.jr_scripts.specs.Names.{Names, named, null}
 abbrev pub line : List (List ℕ) → List ℕ
 line words = words_line words ++ 10 ∷ []
 
+-- the word of an answer
+abbrev pub verdict : Bool → List ℕ
+verdict true = codes "true"
+verdict false = codes "false"
+
 -- what is printed for a command that was not refused
 abbrev pub says : Command → Reply → List ℕ
 says (commands.Global n r) (replies.Made None) = line (codes "global" ∷ n ∷ codes "null" ∷ [])
+says (commands.Weak n r) (replies.Made None) = line (codes "weak" ∷ n ∷ codes "null" ∷ [])
+says (commands.Local n r) (replies.Made None) = line (codes "local" ∷ n ∷ codes "null" ∷ [])
 says (commands.Type r) (replies.Type t) = line (codes "type" ∷ reference_word r ∷ decimal t ∷ [])
+says (commands.Same q r) (replies.Same same) = line (codes "same" ∷ reference_word q ∷ reference_word r ∷ verdict same ∷ [])
 says _ _ = []
 
 -- a number that stands behind the fault's
@@ -42,6 +50,8 @@ printed number c (Err e) = refused number e
 abbrev pub sets : Command → Option (List ℕ)
 sets (commands.Plain n) = Some n
 sets (commands.Global n r) = Some n
+sets (commands.Weak n r) = Some n
+sets (commands.Local n r) = Some n
 sets _ = None
 
 -- the reference that was made, NULL for none

@@ -5,16 +5,18 @@ ghost use Rattle.jr_model.specs.declared.event.Role.TheVariants.{Outside, Within
 ghost use Rattle.jr_model.specs.Frames.{Frames as LocalFrames};
 ghost use Rattle.jr_model.specs.Tests.{Parts};
 ghost use Rattle.jr_model.specs.References as references;
+ghost use Rattle.jr_model.specs.References.{new_local};
 ghost use Rattle.jr_scripts.specs.Reading.{word_of, OwnerFits};
-ghost use Rattle.jr_scripts.specs.Works.{creation, making, removal, local_removal};
-ghost use Rattle.jr_scripts.specs.Performing.{Calls};
+ghost use Rattle.jr_scripts.specs.Works.{creation, local_creation, comparison, making, removal, local_removal};
+ghost use Rattle.jr_scripts.specs.Performing.{Calls, MakesLocal};
+ghost use Rattle.jr_scripts.specs.Knowing.{MayKnow, HasOptional};
 ghost use Rattle.jr_scripts.specs.Ready.{IsReady, KeepsOwner, Completes};
 
 use crate::frames::Frames;
 use crate::gate::enter;
 use crate::object::publish;
 use crate::reference::{Reference, belongs_elsewhere, lies_outside, names_kind, names_local};
-use crate::resolve::{resolve, type_of};
+use crate::resolve::{resolve, resolve_both, type_of};
 use crate::row::{create, delete};
 use crate::steps::Steps;
 use jr_word::{Fault, HandleParts, Kind, RefKind};
@@ -50,6 +52,23 @@ pub fn new_reference<S: Steps>(
     made
 }
 
+/// A local reference to what a reference names, none for NULL.
+pub fn new_local_ref<S: Steps>(
+    steps: &mut S,
+    frames: &mut Frames,
+    reference: Reference,
+) -> Result<Option<HandleParts>, Fault>
+    requires ready { IsReady S.stands S.knows Outside steps.old frames.old }
+    requires fits { OwnerFits reference }
+    ensures call { Completes S.stands S.knows steps.old steps.new frames.old frames.new (references.new_local_ref (S.stands steps.old).config (S.stands steps.old).last (S.stands steps.old).thread (word_of reference)) result }
+    ensures owner { IfOk result (λ made. IfSome made (λ h. (h.kind ≡ Local) × (h.owner ≡ (S.stands steps.old).thread))) }
+{
+    let inside = enter(steps)?;
+    let made = create_local_within(steps, frames, reference);
+    inside.leave(steps);
+    made
+}
+
 /// Deletes a global or weak global reference by the call for the kind: E2, E4, E13.
 pub fn delete_reference<S: Steps>(
     steps: &mut S,
@@ -81,6 +100,24 @@ pub fn delete_local_ref<S: Steps>(
     let deleted = delete_local_within(steps, frames, reference);
     inside.leave(steps);
     deleted
+}
+
+/// Whether two references are to one object, or both to none.
+pub fn is_same_object<S: Steps>(
+    steps: &mut S,
+    frames: &Frames,
+    left: Reference,
+    right: Reference,
+) -> Result<bool, Fault>
+    requires ready { IsReady S.stands S.knows Outside steps.old frames.now }
+    requires left { OwnerFits left }
+    requires right { OwnerFits right }
+    ensures { Completes S.stands S.knows steps.old steps.new frames.now frames.now (references.is_same_object (S.stands steps.old).config (S.stands steps.old).last (S.stands steps.old).thread (word_of left) (word_of right)) result }
+{
+    let inside = enter(steps)?;
+    let same = compare_within(steps, frames, left, right);
+    inside.leave(steps);
+    same
 }
 
 /// The type of a reference: 1 local, 2 global, 3 weak global, else 0: E13 alone.
@@ -133,6 +170,61 @@ fn create_within<S: Steps>(
     };
     let handle = create(steps, kind, object)?;
     Ok(Some(handle))
+}
+
+/// A local reference to what a reference names, within the gate: E2, E3, E9.
+fn create_local_within<S: Steps>(
+    steps: &mut S,
+    frames: &mut Frames,
+    reference: Reference,
+) -> Result<Option<HandleParts>, Fault>
+    requires ready { IsReady S.stands S.knows Within steps.old frames.old }
+    requires fits { OwnerFits reference }
+    ensures call { Calls S.stands S.knows steps.old steps.new frames.old.frames frames.new.frames (local_creation (S.stands steps.old).config (S.stands steps.old).last (S.stands steps.old).thread (word_of reference)) result }
+    ensures same { KeepsOwner frames.old frames.new }
+    ensures owner { IfOk result (λ made. IfSome made (λ h. (h.kind ≡ Local) × (h.owner ≡ (S.stands steps.old).thread))) }
+{
+    let object = resolve(steps, frames, reference)?;
+    make_local(steps, frames, object)
+}
+
+/// A local reference to a present object, none to none, within the gate: E9.
+fn make_local<S: Steps>(
+    steps: &mut S,
+    frames: &mut Frames,
+    object: Option<u16>,
+) -> Result<Option<HandleParts>, Fault>
+    requires ready { IsReady S.stands S.knows Within steps.old frames.old }
+    requires object { MayKnow S.knows steps.old (HasOptional object) }
+    ensures call { MakesLocal S.stands S.knows steps.old steps.new frames.old.frames frames.new.frames object (new_local (S.stands steps.old).config (S.stands steps.old).last (S.stands steps.old).thread object) result }
+    ensures same { KeepsOwner frames.old frames.new }
+    ensures owner { IfOk result (λ made. IfSome made (λ h. (h.kind ≡ Local) × (h.owner ≡ (S.stands steps.old).thread))) }
+{
+    let Some(object) = object else {
+        return Ok(None);
+    };
+    let Some(handle) = frames.next() else {
+        return Err(Fault::LocalsFull);
+    };
+    steps.put_local(handle.index, Some(object));
+    frames.add(handle, object);
+    Ok(Some(handle))
+}
+
+/// Whether two references are to one object, within the gate: E2, E3.
+fn compare_within<S: Steps>(
+    steps: &mut S,
+    frames: &Frames,
+    left: Reference,
+    right: Reference,
+) -> Result<bool, Fault>
+    requires role { (S.stands steps.old).role ≡ Within }
+    requires left { OwnerFits left }
+    requires right { OwnerFits right }
+    ensures { Calls S.stands S.knows steps.old steps.new frames.now.frames frames.now.frames (comparison (S.stands steps.old).config (S.stands steps.old).last (S.stands steps.old).thread (word_of left) (word_of right)) result }
+{
+    let (first, second) = resolve_both(steps, frames, left, right)?;
+    Ok(first == second)
 }
 
 /// Deletes a reference of the kind, within the gate: E2, E4.

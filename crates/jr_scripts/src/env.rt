@@ -17,13 +17,13 @@ pub struct Env<S: Steps> {
 }
 
 impl<S: Steps> Env<S> {
-    ghost use Rattle.std.specs.Prelude.{◌≡◌};
-    ghost use Rattle.jr_word.specs.declared.handle.RefKind.TheVariants.{Global, Weak};
+    ghost use Rattle.std.specs.Prelude.{◌≡◌, ◌≢◌};
+    ghost use Rattle.jr_word.specs.declared.handle.RefKind.TheVariants.{Local, Global, Weak};
     ghost use Rattle.jr_model.specs.declared.event.Role.TheVariants.{Outside};
     ghost use Rattle.jr_model.specs.Frames.{fresh_frames};
     ghost use Rattle.jr_scripts.specs.Knowing.{HasNoLocals};
     ghost use Rattle.jr_scripts.specs.declared.steps.Known.{Known};
-    ghost use Rattle.jr_scripts.specs.Deeds.{Does, new_plain, new_reference, delete_reference, delete_local_ref, get_object_ref_type};
+    ghost use Rattle.jr_scripts.specs.Deeds.{Does, new_plain, new_reference, new_local_ref, delete_reference, delete_local_ref, is_same_object, get_object_ref_type};
 
     /// The env of a thread that has no local reference.
     pub fn new(steps: S) -> Self
@@ -49,8 +49,22 @@ impl<S: Steps> Env<S> {
     pub fn new_global_ref(&mut self, handle: Handle) -> Result<Option<Handle>, Fault>
         ensures { Does S.stands S.knows self.old.steps self.new.steps self.old.frames.frames self.new.frames.frames (new_reference Global handle.0) result }
     {
+        self.new_reference(RefKind::Global, handle)
+    }
+
+    /// Makes a weak global reference to what the handle names, or none for null: E2, E3, E8, E13. (JNI Specification, chapter 4, "NewWeakGlobalRef")
+    pub fn new_weak_global_ref(&mut self, handle: Handle) -> Result<Option<Handle>, Fault>
+        ensures { Does S.stands S.knows self.old.steps self.new.steps self.old.frames.frames self.new.frames.frames (new_reference Weak handle.0) result }
+    {
+        self.new_reference(RefKind::Weak, handle)
+    }
+
+    /// Makes a local reference to what the handle names, or none for null, which needs no place: E2, E3, E9, E13. (JNI Specification, chapter 4, "NewLocalRef")
+    pub fn new_local_ref(&mut self, handle: Handle) -> Result<Option<Handle>, Fault>
+        ensures { Does S.stands S.knows self.old.steps self.new.steps self.old.frames.frames self.new.frames.frames (new_local_ref handle.0) result }
+    {
         let target = Reference::of(handle);
-        let made = calls::new_reference(&mut self.steps, &self.frames, RefKind::Global, target)?;
+        let made = calls::new_local_ref(&mut self.steps, &mut self.frames, target)?;
         Ok(made.map(Handle::pack))
     }
 
@@ -77,10 +91,29 @@ impl<S: Steps> Env<S> {
         calls::delete_local_ref(&mut self.steps, &mut self.frames, Reference::of(handle))
     }
 
+    /// Whether two references are to one object, or both to null: E2, E3, E13. (JNI Specification, chapter 4, "IsSameObject")
+    pub fn is_same_object(&mut self, left: Handle, right: Handle) -> Result<bool, Fault>
+        ensures { Does S.stands S.knows self.old.steps self.new.steps self.old.frames.frames self.new.frames.frames (is_same_object left.0 right.0) result }
+    {
+        let left = Reference::of(left);
+        let right = Reference::of(right);
+        calls::is_same_object(&mut self.steps, &self.frames, left, right)
+    }
+
     /// The type of a reference: 0 invalid, 1 local, 2 global, 3 weak global: E13 alone. (JNI Specification, chapter 4, "GetObjectRefType")
     pub fn get_object_ref_type(&mut self, handle: Handle) -> Result<u8, Fault>
         ensures { Does S.stands S.knows self.old.steps self.new.steps self.old.frames.frames self.new.frames.frames (get_object_ref_type handle.0) result }
     {
         calls::get_object_ref_type(&mut self.steps, &self.frames, Reference::of(handle))
+    }
+
+    /// A global or weak global reference to what the handle names, or none for null.
+    fn new_reference(&mut self, kind: RefKind, handle: Handle) -> Result<Option<Handle>, Fault>
+        requires { kind ≢ Local }
+        ensures { Does S.stands S.knows self.old.steps self.new.steps self.old.frames.frames self.new.frames.frames (new_reference kind handle.0) result }
+    {
+        let target = Reference::of(handle);
+        let made = calls::new_reference(&mut self.steps, &self.frames, kind, target)?;
+        Ok(made.map(Handle::pack))
     }
 }

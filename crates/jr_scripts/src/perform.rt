@@ -2,8 +2,8 @@
 
 ghost use Rattle.std.specs.Prelude.{◌≡◌};
 ghost use Rattle.jr_word.specs.declared.handle.RefKind.TheVariants.{Local as LocalKind, Global as GlobalKind, Weak as WeakKind};
-ghost use Rattle.jr_scripts.specs.Deeds.{Does, new_plain, new_reference, delete_reference, delete_local_ref, get_object_ref_type};
-ghost use Rattle.jr_scripts.specs.Commands.{tried as tried_deed, deleted_of, deleted, type_of as type_deed, deed};
+ghost use Rattle.jr_scripts.specs.Deeds.{Does, new_plain, new_reference, new_local_ref, delete_reference, delete_local_ref, is_same_object, get_object_ref_type};
+ghost use Rattle.jr_scripts.specs.Commands.{tried as tried_deed, makes, deleted_of, deleted, type_of as type_deed, deed};
 
 use crate::env::Env;
 use crate::names::Names;
@@ -28,16 +28,45 @@ fn plain<S: Steps>(env: &mut Env<S>, turns: u64) -> Result<Handle, Fault>
 }
 
 /// A global reference to what a handle names, none for NULL.
-fn global<S: Steps>(env: &mut Env<S>, turns: u64, handle: Handle) -> Result<Option<Handle>, Fault>
-    ensures { Does S.stands S.knows env.old.steps env.new.steps env.old.frames.frames env.new.frames.frames (tried_deed turns (new_reference GlobalKind handle.0)) result }
+fn global<S: Steps>(env: &mut Env<S>, turns: u64, handle: Handle) -> Result<Reply, Fault>
+    ensures { Does S.stands S.knows env.old.steps env.new.steps env.old.frames.frames env.new.frames.frames (makes turns (new_reference GlobalKind handle.0)) result }
 {
-    tried(
+    let made = tried(
         env,
         turns,
         |env: &mut Env<S>|
             ensures { Does S.stands S.knows env.old.steps env.new.steps env.old.frames.frames env.new.frames.frames (new_reference GlobalKind handle.0) result }
         { env.new_global_ref(handle) },
-    )
+    )?;
+    Ok(Reply::Made(made))
+}
+
+/// A weak global reference to what a handle names, none for NULL.
+fn weak<S: Steps>(env: &mut Env<S>, turns: u64, handle: Handle) -> Result<Reply, Fault>
+    ensures { Does S.stands S.knows env.old.steps env.new.steps env.old.frames.frames env.new.frames.frames (makes turns (new_reference WeakKind handle.0)) result }
+{
+    let made = tried(
+        env,
+        turns,
+        |env: &mut Env<S>|
+            ensures { Does S.stands S.knows env.old.steps env.new.steps env.old.frames.frames env.new.frames.frames (new_reference WeakKind handle.0) result }
+        { env.new_weak_global_ref(handle) },
+    )?;
+    Ok(Reply::Made(made))
+}
+
+/// A local reference to what a handle names, none for NULL.
+fn local<S: Steps>(env: &mut Env<S>, turns: u64, handle: Handle) -> Result<Reply, Fault>
+    ensures { Does S.stands S.knows env.old.steps env.new.steps env.old.frames.frames env.new.frames.frames (makes turns (new_local_ref handle.0)) result }
+{
+    let made = tried(
+        env,
+        turns,
+        |env: &mut Env<S>|
+            ensures { Does S.stands S.knows env.old.steps env.new.steps env.old.frames.frames env.new.frames.frames (new_local_ref handle.0) result }
+        { env.new_local_ref(handle) },
+    )?;
+    Ok(Reply::Made(made))
 }
 
 /// Deletes a global reference.
@@ -110,6 +139,19 @@ fn type_of<S: Steps>(env: &mut Env<S>, turns: u64, referent: Option<Handle>) -> 
     )
 }
 
+/// Whether two references are to one object, or both to none.
+fn same<S: Steps>(env: &mut Env<S>, turns: u64, left: Handle, right: Handle) -> Result<bool, Fault>
+    ensures { Does S.stands S.knows env.old.steps env.new.steps env.old.frames.frames env.new.frames.frames (tried_deed turns (is_same_object left.0 right.0)) result }
+{
+    tried(
+        env,
+        turns,
+        |env: &mut Env<S>|
+            ensures { Does S.stands S.knows env.old.steps env.new.steps env.old.frames.frames env.new.frames.frames (is_same_object left.0 right.0) result }
+        { env.is_same_object(left, right) },
+    )
+}
+
 /// Makes the calls of a command.
 pub fn perform<S: Steps>(
     env: &mut Env<S>,
@@ -124,11 +166,9 @@ pub fn perform<S: Steps>(
             let handle = plain(env, turns)?;
             Ok(Reply::Made(Some(handle)))
         }
-        Command::Global { target, .. } => {
-            let target = names.wanted(target)?;
-            let handle = global(env, turns, target)?;
-            Ok(Reply::Made(handle))
-        }
+        Command::Global { target, .. } => global(env, turns, names.wanted(target)?),
+        Command::Weak { target, .. } => weak(env, turns, names.wanted(target)?),
+        Command::Local { target, .. } => local(env, turns, names.wanted(target)?),
         Command::Drop { target } => {
             let target = names.wanted(target)?;
             delete(env, turns, target)?;
@@ -137,6 +177,12 @@ pub fn perform<S: Steps>(
         Command::Type { target } => {
             let number = type_of(env, turns, names.referent(target))?;
             Ok(Reply::Type(number))
+        }
+        Command::Same { left, right } => {
+            let left = names.wanted(left)?;
+            let right = names.wanted(right)?;
+            let same = same(env, turns, left, right)?;
+            Ok(Reply::Same(same))
         }
     }
 }

@@ -316,6 +316,7 @@ impl<const LAST: u16> Steps for PlainSteps<LAST> {
 mod tests {
     use super::*;
     use crate::env::Env;
+    use jr_word::Handle;
     use std::test::Fail;
 
     /// A room of one thread with one slot and one object: 20 words.
@@ -367,6 +368,9 @@ mod tests {
             env.delete_global_ref(global)?;
         }
         assert_eq!(rt; env.new_global_ref(local).err(), Some(Fault::RowFull));
+        for word in [2, 6, 10] {
+            assert_eq!(rt; env.get_object_ref_type(Handle(word))?, 0);
+        }
 
         let mut row = [0; 20];
         row[2] = 9;

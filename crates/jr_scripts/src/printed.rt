@@ -1,13 +1,22 @@
 //! What commands print.
 
-ghost use Rattle.std.specs.Prelude.{◌≡◌, ◌∷◌, ◌++◌, [], IfOk};
-ghost use Rattle.jr_scripts.specs.Text.{line, says as what_is_said, refused as refusal, printed as text_printed, heading as text_heading, ending as text_ending};
+ghost use Rattle.std.specs.Prelude.{◌≡◌, ◌∷◌, ◌++◌, [], IfOk, OnOk, codes};
+ghost use Rattle.jr_scripts.specs.Text.{line, verdict, says as what_is_said, refused as refusal, printed as text_printed, heading as text_heading, ending as text_ending};
 
 use crate::reply::Reply;
 use jr_model::Summary;
 use jr_syntax::{Command, Name};
 use jr_word::Fault;
 use std::alloc::{AllocError, Global};
+
+/// Adds a space and a word.
+fn add_word(text: &mut Vec<u8>, word: &[u8]) -> Result<(), AllocError>
+    ensures { OnOk result (text.new.items ≡ text.old.items ++ 32 ∷ word.now) }
+{
+    text.push(b' ')?;
+    text.extend_from_slice(word)?;
+    Ok(())
+}
 
 /// A line of three words.
 fn line_of_three(
@@ -19,10 +28,20 @@ fn line_of_three(
     ensures { IfOk result (λ text. text.items ≡ line (first.now ∷ second.now ∷ third.now ∷ [])) }
 {
     let mut text = Vec::from_slice(alloc, first)?;
-    text.push(b' ')?;
-    text.extend_from_slice(second)?;
-    text.push(b' ')?;
-    text.extend_from_slice(third)?;
+    add_word(&mut text, second)?;
+    add_word(&mut text, third)?;
+    text.push(b'\n')?;
+    Ok(text)
+}
+
+/// The line of `same`.
+fn same_line(alloc: Global, left: &[u8], right: &[u8], same: bool) -> Result<Vec<u8>, AllocError>
+    ensures { IfOk result (λ text. text.items ≡ line (codes "same" ∷ left.now ∷ right.now ∷ verdict same ∷ [])) }
+{
+    let mut text = Vec::from_slice(alloc, b"same")?;
+    add_word(&mut text, left)?;
+    add_word(&mut text, right)?;
+    add_word(&mut text, if same { b"true" } else { b"false" })?;
     text.push(b'\n')?;
     Ok(text)
 }
@@ -35,9 +54,18 @@ fn says(alloc: Global, command: &Command, reply: Reply) -> Result<Vec<u8>, Alloc
         (Command::Global { name, .. }, Reply::Made(None)) => {
             line_of_three(alloc, b"global", name.as_slice(), b"null")
         }
+        (Command::Weak { name, .. }, Reply::Made(None)) => {
+            line_of_three(alloc, b"weak", name.as_slice(), b"null")
+        }
+        (Command::Local { name, .. }, Reply::Made(None)) => {
+            line_of_three(alloc, b"local", name.as_slice(), b"null")
+        }
         (Command::Type { target }, Reply::Type(number)) => {
             let number = number.to_string(alloc)?;
             line_of_three(alloc, b"type", target.word(), number.as_bytes())
+        }
+        (Command::Same { left, right }, Reply::Same(same)) => {
+            same_line(alloc, left.word(), right.word(), same)
         }
         _ => Ok(Vec::new(alloc)),
     }

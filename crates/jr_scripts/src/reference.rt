@@ -14,6 +14,7 @@ pub enum Reference {
 
 impl Reference {
     ghost use Rattle.std.specs.Prelude.{◌≡◌};
+    ghost use Rattle.jr_model.specs.Tests.{is_malformed, is_out_of_bounds, is_foreign};
     ghost use Rattle.jr_scripts.specs.Reading.{IsReadAs, word_of, OwnerFits};
 
     /// Reads a handle.
@@ -27,6 +28,33 @@ impl Reference {
         match Handle::parts(handle.0) {
             Some(parts) => Reference::Parts(parts),
             None => Reference::Malformed,
+        }
+    }
+
+    /// Whether it is neither NULL nor a handle.
+    pub fn is_malformed(self) -> bool
+        ensures { result ≡ is_malformed (word_of self) }
+    {
+        matches!(self, Reference::Malformed)
+    }
+
+    /// Whether it is a handle that lies outside the room.
+    pub fn lies_outside(self, config: Config) -> bool
+        ensures { result ≡ is_out_of_bounds config (word_of self) }
+    {
+        match self {
+            Reference::Parts(handle) => lies_outside(config, handle),
+            _ => false,
+        }
+    }
+
+    /// Whether it is a local of another thread.
+    pub fn belongs_elsewhere(self, thread: u8) -> bool
+        ensures { result ≡ is_foreign thread (word_of self) }
+    {
+        match self {
+            Reference::Parts(handle) => belongs_elsewhere(thread, handle),
+            _ => false,
         }
     }
 }

@@ -11,4 +11,6 @@ pub enum Reply {
     Made(Option<Handle>),
     /// The type of a reference.
     Type(u8),
+    /// Whether two references are to one object, or both to none.
+    Same(bool),
 }

@@ -3,8 +3,8 @@ ghost use Rattle.std.specs.Prelude.{◌≡◌, ◌≢◌, Some, None, Ok, false}
 ghost use Rattle.jr_word.specs.declared.handle.RefKind.TheVariants.{Local};
 ghost use Rattle.jr_model.specs.declared.event.Role.TheVariants.{Within};
 ghost use Rattle.jr_model.specs.Tests.{Parts, is_out_of_bounds, type_found, type_local};
-ghost use Rattle.jr_model.specs.Parts.{looked_at};
-ghost use Rattle.jr_model.specs.References.{resolved};
+ghost use Rattle.jr_model.specs.Parts.{looked, looked_at};
+ghost use Rattle.jr_model.specs.References.{resolved, resolved_both};
 ghost use Rattle.jr_scripts.specs.Reading.{word_of, OwnerFits, local_answer};
 ghost use Rattle.jr_scripts.specs.Works.{typing};
 ghost use Rattle.jr_scripts.specs.Performing.{Resolves, Calls};
@@ -44,23 +44,21 @@ fn look_at<S: Steps>(
     }
 }
 
-/// The object of a handle: E2 out of bounds, E3 for a local of another thread.
-fn resolve_parts<S: Steps>(
+/// The object of a reference that lies in bounds: none for NULL.
+fn look_up<S: Steps>(
     steps: &mut S,
     frames: &Frames,
-    handle: HandleParts,
+    reference: Reference,
 ) -> Result<Option<u16>, Fault>
     requires role { (S.stands steps.old).role ≡ Within }
-    requires owner { handle.kind ≢ Local → handle.owner ≡ 0 }
-    ensures { Resolves S.stands S.knows steps.old steps.new frames.now.frames (resolved (S.stands steps.old).config (S.stands steps.old).last (S.stands steps.old).thread (Parts handle)) result }
+    requires bounds { is_out_of_bounds (S.stands steps.old).config (word_of reference) ≡ false }
+    requires owner { OwnerFits reference }
+    ensures { Resolves S.stands S.knows steps.old steps.new frames.now.frames (looked (word_of reference)) result }
 {
-    if lies_outside(steps.config(), handle) {
-        return Err(Fault::Stale);
+    match reference {
+        Reference::Parts(handle) => look_at(steps, frames, handle),
+        _ => Ok(None),
     }
-    if belongs_elsewhere(steps.thread(), handle) {
-        return Err(Fault::Foreign);
-    }
-    look_at(steps, frames, handle)
 }
 
 /// The object of a reference: none for NULL and a cleared one, E2 and E3 for what is no reference here.
@@ -73,11 +71,41 @@ pub fn resolve<S: Steps>(
     requires owner { OwnerFits reference }
     ensures { Resolves S.stands S.knows steps.old steps.new frames.now.frames (resolved (S.stands steps.old).config (S.stands steps.old).last (S.stands steps.old).thread (word_of reference)) result }
 {
-    match reference {
-        Reference::Null => Ok(None),
-        Reference::Malformed => Err(Fault::Stale),
-        Reference::Parts(handle) => resolve_parts(steps, frames, handle),
+    if reference.is_malformed() || reference.lies_outside(steps.config()) {
+        return Err(Fault::Stale);
     }
+    if reference.belongs_elsewhere(steps.thread()) {
+        return Err(Fault::Foreign);
+    }
+    look_up(steps, frames, reference)
+}
+
+/// The objects of two references: each check is made of the first and then of the second, before the next check. E2, E3.
+pub fn resolve_both<S: Steps>(
+    steps: &mut S,
+    frames: &Frames,
+    left: Reference,
+    right: Reference,
+) -> Result<(Option<u16>, Option<u16>), Fault>
+    requires role { (S.stands steps.old).role ≡ Within }
+    requires left { OwnerFits left }
+    requires right { OwnerFits right }
+    ensures { Calls S.stands S.knows steps.old steps.new frames.now.frames frames.now.frames (resolved_both (S.stands steps.old).config (S.stands steps.old).last (S.stands steps.old).thread (word_of left) (word_of right)) result }
+{
+    let config = steps.config();
+    let thread = steps.thread();
+    if left.is_malformed() || right.is_malformed() {
+        return Err(Fault::Stale);
+    }
+    if left.lies_outside(config) || right.lies_outside(config) {
+        return Err(Fault::Stale);
+    }
+    if left.belongs_elsewhere(thread) || right.belongs_elsewhere(thread) {
+        return Err(Fault::Foreign);
+    }
+    let first = look_up(steps, frames, left)?;
+    let second = look_up(steps, frames, right)?;
+    Ok((first, second))
 }
 
 /// The type of a local reference, by its object.

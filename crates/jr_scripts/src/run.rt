@@ -20,7 +20,10 @@ fn set_by(command: &Command) -> Option<&Name>
     ensures { MatchOption result (sets command.now ≡ None) (λ name. sets command.now ≡ Some name.now) }
 {
     match command {
-        Command::Plain { name } | Command::Global { name, .. } => Some(name),
+        Command::Plain { name }
+        | Command::Global { name, .. }
+        | Command::Weak { name, .. }
+        | Command::Local { name, .. } => Some(name),
         _ => None,
     }
 }

@@ -97,6 +97,76 @@ fn sixteen_local_references(rt: HostRuntime) -> Result<(), Fail> {
     )
 }
 
+#[test]
+fn a_deleted_reference_and_null(rt: HostRuntime) -> Result<(), Fail> {
+    prints(
+        &rt,
+        rt.alloc(),
+        b"vm threads 1 slots 4 objects 8 words 16 locals 16\nthread a\nplain p\nglobal g p\ndrop g\ndrop g\ndrop null\nsame null null\ntype null\n",
+        b"[a]\n6 ! E2\nsame null null true\ntype null 0\n[end]\nglobals 0 weaks 0 live 1 used 0\n",
+    )
+}
+
+#[test]
+fn weak_and_local_references_to_one_object(rt: HostRuntime) -> Result<(), Fail> {
+    prints(
+        &rt,
+        rt.alloc(),
+        b"vm threads 1 slots 4 objects 8 words 16 locals 16\nthread a\nplain p\nweak w p\nlocal q w\nsame p q\nsame w null\ntype w\ndrop q\nsame p q\ndrop p\ndrop w\nglobal g null\ntype g\n",
+        b"[a]\nsame p q true\nsame w null false\ntype w 3\n10 ! E2\nglobal g null\ntype g 0\n[end]\nglobals 0 weaks 0 live 1 used 0\n",
+    )
+}
+
+#[test]
+fn null_in_every_command(rt: HostRuntime) -> Result<(), Fail> {
+    prints(
+        &rt,
+        rt.alloc(),
+        b"vm threads 1 slots 4 objects 8 words 16 locals 16\nthread a\nplain p\nsame p null\nsame null p\nweak w null\nlocal p null\nglobal g null\ntype w\ntype p\ntype g\nsame w p\nsame g null\ndrop w\ndrop p\ndrop g\n",
+        b"[a]\nsame p null false\nsame null p false\nweak w null\nlocal p null\nglobal g null\ntype w 0\ntype p 0\ntype g 0\nsame w p true\nsame g null true\n[end]\nglobals 0 weaks 0 live 1 used 0\n",
+    )
+}
+
+#[test]
+fn names_for_nothing_in_new_references_and_same(rt: HostRuntime) -> Result<(), Fail> {
+    prints(
+        &rt,
+        rt.alloc(),
+        b"vm threads 1 slots 4 objects 8 words 16 locals 16\nthread a\nplain p\nweak w never\nlocal q never\nsame p never\nsame never p\ntype w\ntype q\n",
+        b"[a]\n4 ! E2\n5 ! E2\n6 ! E2\n7 ! E2\ntype w 0\ntype q 0\n[end]\nglobals 0 weaks 0 live 1 used 0\n",
+    )
+}
+
+#[test]
+fn references_to_two_objects(rt: HostRuntime) -> Result<(), Fail> {
+    prints(
+        &rt,
+        rt.alloc(),
+        b"vm threads 1 slots 4 objects 8 words 16 locals 16\nthread a\nplain p\nplain q\nweak w p\nglobal g q\nlocal l g\nsame w g\nsame l g\nsame w p\ntype l\n",
+        b"[a]\nsame w g false\nsame l g true\nsame w p true\ntype l 1\n[end]\nglobals 1 weaks 1 live 2 used 0\n",
+    )
+}
+
+#[test]
+fn null_needs_no_slot(rt: HostRuntime) -> Result<(), Fail> {
+    prints(
+        &rt,
+        rt.alloc(),
+        b"vm threads 1 slots 1 objects 8 words 16 locals 16\nthread a\nplain p\nweak w p\nweak v p\nweak v null\nglobal g p\nglobal g null\ntype w\n",
+        b"[a]\n5 ! E8\nweak v null\n7 ! E8\nglobal g null\ntype w 3\n[end]\nglobals 0 weaks 1 live 1 used 0\n",
+    )
+}
+
+#[test]
+fn null_needs_no_local_place(rt: HostRuntime) -> Result<(), Fail> {
+    prints(
+        &rt,
+        rt.alloc(),
+        b"vm threads 1 slots 4 objects 32 words 16 locals 16\nthread a\nplain p1\nplain p2\nplain p3\nplain p4\nplain p5\nplain p6\nplain p7\nplain p8\nplain p9\nplain p10\nplain p11\nplain p12\nplain p13\nplain p14\nplain p15\nplain p16\nweak w p1\ndrop w\nlocal q p1\nlocal q w\nlocal q null\ndrop p16\nlocal q p1\nsame q p1\n",
+        b"[a]\n21 ! E9\n22 ! E2\nlocal q null\nsame q p1 true\n[end]\nglobals 0 weaks 0 live 16 used 0\n",
+    )
+}
+
 /// The name that a word is.
 fn name(rt: &impl Abort, word: &[u8]) -> Name {
     assert!(rt; is_name(word));

@@ -1,8 +1,9 @@
+use Rattle.jr_model.specs.Parts.{created}
 use Rattle.jr_scripts.proofs.Creating.{creates_refused, creates_none, creates_full, creates_won, may_create}
 use Rattle.jr_scripts.proofs.calls.create_within.Goals as goal
 
 pub returns-in_err-object-clause-call : goal.returns-in_err-object-clause-call
-returns-in_err-object-clause-call g c = creates_refused c.args.kind c.from_residual.result c.from_residual.ensures.1 c.in_err-object.ensures
+returns-in_err-object-clause-call g c = creates_refused (created c.args.kind) c.from_residual.result c.from_residual.ensures.1 c.in_err-object.ensures
 
 pub returns-in_default-clause-call : goal.returns-in_default-clause-call
 returns-in_default-clause-call g c = creates_none c.args.kind c.in_default.is c.in_ok-object.ensures

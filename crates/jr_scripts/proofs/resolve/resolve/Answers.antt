@@ -1,17 +1,21 @@
-use Rattle.std.proofs.Common.{Ok, None, sym, subst}
-use Rattle.jr_model.specs.References.{resolved}
-use Rattle.jr_scripts.specs.declared.reference.Reference.{Reference}
+use Rattle.jr_model.specs.Tests.{is_malformed, is_out_of_bounds}
 use Rattle.jr_scripts.specs.Reading.{word_of}
-use Rattle.jr_scripts.specs.Performing.{Resolves}
-use Rattle.jr_scripts.proofs.Resolving.{resolves_null}
+use Rattle.jr_scripts.proofs.Reading.{either_first, either_second, neither}
+use Rattle.jr_scripts.proofs.Resolving.{resolves_outside, resolves_foreign, resolves_looked}
 use Rattle.jr_scripts.proofs.resolve.resolve.Goals as goal
+use Rattle.jr_scripts.proofs.resolve.resolve.Goals.{then-is_malformed-via-then-is_malformed, then-is_malformed-via-else-is_malformed+then-lies_outside}
 
-pub returns-in-Null : goal.returns-in-Null
-returns-in-Null g c = let T = g.S.Steps in let s = T.stands c.args.steps.now in let f = c.args.frames.now.frames in
-    subst (λ (r : Reference). Resolves T.stands T.knows c.args.steps.now c.args.steps.now f (resolved s.config s.last s.thread (word_of r)) (Ok None)) (sym c.in-Null.is)
-    (resolves_null g.met.S.Steps.fits c.args.steps.now f s.config s.last s.thread)
+pub returns-then-is_malformed : goal.returns-then-is_malformed
+returns-then-is_malformed g c = let s = g.S.Steps.stands c.args.steps.now in let w = word_of c.args.reference in
+    resolves_outside g.met.S.Steps.fits c.args.steps.now c.args.frames.now.frames s.config s.last s.thread w (elim c.then-is_malformed.branch [
+      | then-is_malformed-via-then-is_malformed b ↦ either_first (is_malformed w) (is_out_of_bounds s.config w) (cc)
+      | then-is_malformed-via-else-is_malformed+then-lies_outside b ↦ either_second (is_malformed w) (is_out_of_bounds s.config w) (cc)
+    ])
 
-pub returns-in-Parts : goal.returns-in-Parts
-returns-in-Parts g c = let T = g.S.Steps in let s = T.stands c.args.steps.now in let f = c.args.frames.now.frames in
-    subst (λ (r : Reference). Resolves T.stands T.knows c.args.steps.now c.resolve_parts.new.steps f (resolved s.config s.last s.thread (word_of r)) c.resolve_parts.result) (sym c.in-Parts.is)
-    c.resolve_parts.ensures
+pub returns-then-belongs_elsewhere : goal.returns-then-belongs_elsewhere
+returns-then-belongs_elsewhere g c = let s = g.S.Steps.stands c.args.steps.now in let w = word_of c.args.reference in
+    resolves_foreign g.met.S.Steps.fits c.args.steps.now c.args.frames.now.frames s.config s.last s.thread w (neither (is_malformed w) (is_out_of_bounds s.config w) (cc) (cc)) (cc)
+
+pub returns : goal.returns
+returns g c = let s = g.S.Steps.stands c.args.steps.now in let w = word_of c.args.reference in
+    resolves_looked s.config s.last s.thread c.args.frames.now.frames w (neither (is_malformed w) (is_out_of_bounds s.config w) (cc) (cc)) (cc) c.look_up.ensures

@@ -1,0 +1,10 @@
+use Rattle.jr_scripts.specs.Works.{comparison}
+use Rattle.jr_scripts.specs.Reading.{word_of}
+use Rattle.jr_scripts.proofs.Entering.{same_owner, completes_barred, completes_entered}
+use Rattle.jr_scripts.proofs.calls.is_same_object.Goals as goal
+
+pub returns-in_err-inside : goal.returns-in_err-inside
+returns-in_err-inside g c = completes_barred (λ r last thread. comparison r last thread (word_of c.args.left) (word_of c.args.right)) c.requires.ready c.from_residual.result c.from_residual.ensures.1 c.in_err-inside.ensures.err
+
+pub returns : goal.returns
+returns g c = completes_entered (λ r last thread. comparison r last thread (word_of c.args.left) (word_of c.args.right)) c.requires.ready c.in_ok-inside.ensures.ok.1 c.compare_within-same.ensures (same_owner c.args.frames.now) c.leave.ensures
