@@ -21,5 +21,6 @@ pub mod steps;
 mod tests;
 mod tries;
 
+pub use jr_syntax as syntax;
 pub use run::run_thread;
 pub use single::run_one;
