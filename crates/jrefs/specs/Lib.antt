@@ -1,2 +1,3 @@
 pub mod Trouble
 pub mod Answer
+pub mod Describe
