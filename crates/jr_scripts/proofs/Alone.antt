@@ -1,16 +1,14 @@
 -- One thread alone is never barred.
-use Rattle.std.proofs.Common.{◌≡◌, ◌≢◌, ℕ, ◌<◌, ◌==◌, Bool, true, false, cond, List, [], ◌∷◌, refl, sym, ap, subst, ◌∙◌, arith}
+use Rattle.std.proofs.Common.{◌≡◌, ◌≢◌, ℕ, ◌<◌, ◌==◌, Bool, true, false, cond, [], ◌∷◌, refl, sym, ap, subst, ◌∙◌, arith}
 use Rattle.std.specs.List.{AllByRecursion}
 use mathlib.Core.Logic.{dite}
 use native.Mathlib.Decide.{ℕ_discrete}
 use Rattle.jr_word.specs.declared.config.Config.{Config}
-use Rattle.jr_model.specs.declared.event.Role.{Role}
-use Rattle.jr_model.specs.declared.event.Role.TheVariants.{Outside, Collecting}
+use Rattle.jr_model.specs.declared.event.Role.TheVariants.{Outside}
 use Rattle.jr_model.specs.declared.event.Event.{Event}
-use Rattle.jr_model.specs.declared.event.Act.{Act}
 use Rattle.jr_model.specs.declared.event.Act.TheVariants.{Knock}
 use Rattle.jr_model.specs.State.{State, opening}
-use Rattle.jr_model.specs.Steps.{ActNeeds, act_after, after}
+use Rattle.jr_model.specs.Steps.{ActNeeds, after}
 use Rattle.jr_model.specs.History.{History, IsLegalFrom, IsLegal, role_after}
 use Rattle.jr_model.proofs.Stays.{role_step}
 use Rattle.jr_scripts.specs.Runs.{IsUnbarred}

@@ -1,12 +1,12 @@
 -- What calls make up a command, for whatever was known.
-use Rattle.std.proofs.Common.{MutBor, ◌≡◌, ℕ, List, Result, Ok, Err, Option, Some, None, subst, sym, refl, ◌∙◌, inl, inr}
+use Rattle.std.proofs.Common.{MutBor, ◌≡◌, ℕ, List, Result, Ok, Err, Option, Some, subst, sym, refl, ◌∙◌, inl, inr}
 use Rattle.jr_word.specs.declared.fault.Fault.{Fault}
 use Rattle.jr_word.specs.declared.handle.RefKind.{RefKind}
 use Rattle.jr_word.specs.declared.handle.RefKind.TheVariants.{Global}
 use Rattle.jr_word.specs.declared.handle.Handle.{Handle as HandleWord}
 use Rattle.jr_model.specs.State.{Handle}
 use Rattle.jr_model.specs.Frames.{Frames}
-use Rattle.jr_model.specs.Tests.{Word, Nothing, Malformed, Parts}
+use Rattle.jr_model.specs.Tests.{Parts}
 use Rattle.jr_syntax.specs.declared.name.Reference.{Reference}
 use Rattle.jr_syntax.specs.declared.command.Command.{Command}
 use Rattle.jr_syntax.specs.declared.command.Command.TheVariants as commands
@@ -15,7 +15,7 @@ use Rattle.jr_scripts.specs.Names.{Names, referent, wanted}
 use Rattle.jr_scripts.specs.Knowing.{Standing}
 use Rattle.jr_scripts.specs.Reading.{IsReadAs}
 use Rattle.jr_scripts.specs.Deeds.{Moment, Deed, Does, get_object_ref_type, new_reference}
-use Rattle.jr_scripts.specs.Tries.{Tried, answered, again, gave_up, is_tried_again}
+use Rattle.jr_scripts.specs.Tries.{Tried, answered, again, gave_up}
 use Rattle.jr_scripts.specs.Commands.{deleted_of, deleted, type_of, tried, deed}
 
 module _ {S : Type 0} {stands : S → Standing} {knows : S → Known → Type 0} where

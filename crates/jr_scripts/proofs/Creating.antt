@@ -1,6 +1,5 @@
 -- A reference is made to what was resolved.
-use Rattle.std.proofs.Common.{◌≡◌, ℕ, Bool, true, arith, Option, Some, None, List, [], ◌∷◌, Result, Ok, Err, inl, inr, refl, sym, ap, subst, ◌∙◌}
-use Rattle.std.proofs.lemmas.List.{append-nil}
+use Rattle.std.proofs.Common.{◌≡◌, ℕ, Bool, true, arith, Option, Some, None, List, [], ◌∷◌, Result, Ok, Err, refl, ap, subst, ◌∙◌}
 use Rattle.std.specs.List.{AllByRecursion}
 use Rattle.std.specs.Result.{IsErrAnd}
 use mathlib.Core.Logic.{∥∥₁_map}
@@ -8,15 +7,12 @@ use Rattle.jr_word.specs.declared.config.Config.{Config}
 use Rattle.jr_word.specs.declared.handle.RefKind.{RefKind}
 use Rattle.jr_word.specs.declared.fault.Fault.{Fault}
 use Rattle.jr_word.specs.declared.fault.Fault.TheVariants.{RowFull}
-use Rattle.jr_model.specs.declared.event.Act.TheVariants.{Create}
 use Rattle.jr_model.specs.State.{Handle}
-use Rattle.jr_model.specs.History.{PassView, Did}
 use Rattle.jr_model.specs.Frames.{Frames}
-use Rattle.jr_model.specs.Refusals.{RowWasFull}
-use Rattle.jr_model.specs.Calls.{Call, Ran, done, ◌>>=◌}
-use Rattle.jr_model.specs.Parts.{create, created}
+use Rattle.jr_model.specs.Calls.{Call, done, ◌>>=◌}
+use Rattle.jr_model.specs.Parts.{created}
 use Rattle.jr_model.proofs.Agreement.{spares_places}
-use Rattle.jr_model.proofs.Runs.{ran_done, ran_then, ran_err, ran_give, did_legal}
+use Rattle.jr_model.proofs.Runs.{ran_done, ran_then, ran_err, ran_give, did_legal, ran_created, ran_row_full}
 use Rattle.jr_scripts.specs.declared.steps.Known.{Known}
 use Rattle.jr_scripts.specs.Knowing.{Standing, IsOf, view, HasObject, Holds, MayKnow}
 use Rattle.jr_scripts.specs.Performing.{Searched, search_acts, Resolves, Calls}
@@ -28,22 +24,6 @@ search_spares o [] None = tt
 search_spares o [] (Some h) = (refl, tt)
 search_spares o (l ∷ ls) None = (refl, search_spares o ls None)
 search_spares o (l ∷ ls) (Some h) = (refl, search_spares o ls (Some h))
-
-won_ran : {p q : PassView} (f : Frames) (kind : RefKind) (o : ℕ) (h : Handle) (looks : List (ℕ × Bool)) → h.kind ≡ kind → Did p q (search_acts o looks (Some h)) → Ran p q f f (create kind o) (Ok h)
-won_ran f kind o h looks is d = record {
-  acts = search_acts o looks (Some h);
-  did = d;
-  is = inl (tt, f, search_acts o looks None, Create h o ∷ [], refl, (looks, refl, refl, refl), inl (h, is, refl, refl, refl));
-  grounds = tt;
-}
-
-full_ran : {p q : PassView} (f : Frames) (kind : RefKind) (o : ℕ) (looks : List (ℕ × Bool)) → RowWasFull p q → Did p q (search_acts o looks None) → Ran p q f f (create kind o) (Err RowFull)
-full_ran f kind o looks full d = record {
-  acts = search_acts o looks None;
-  did = d;
-  is = inl (tt, f, search_acts o looks None, [], sym (append-nil (search_acts o looks None)), (looks, refl, refl, refl), inr (refl, refl, refl));
-  grounds = full;
-}
 
 module _ {S : Type 0} {stands : S → Standing} {knows : S → Known → Type 0} {a b : S} {f : Frames} {first : Call (Option ℕ)} where
   pub creates_refused : {e : Fault} (kind : RefKind) (answer : Result (Option Handle) Fault) → IsErrAnd answer (λ y. y ≡ e) → Resolves stands knows a b f first (Err e) → Calls stands knows a b f f (first >>= created kind) answer
@@ -76,7 +56,7 @@ module _ {S : Type 0} {stands : S → Standing} {knows : S → Known → Type 0}
         let slots : x.0.config.slots ≡ (stands b).config.slots = ap (λ (z : Config). z.slots) (fits b x.0 x.1).config in (
           y.0,
           y.1,
-          ran_then {next = created kind} (Some o) x.2 (ran_err (λ h. done (Some h)) RowFull (full_ran f kind o y.4 (λ i l. y.3 i (omega arith) (omega arith)) y.5)),
+          ran_then {next = created kind} (Some o) x.2 (ran_err (λ h. done (Some h)) RowFull (ran_row_full f kind o y.4 y.5 (λ i l. y.3 i (omega arith) (omega arith)))),
           holds_did x.0 y.0 f (search_acts o y.4 None) y.5 (search_spares o y.4 None) x.3.0,
         );
   })
@@ -89,7 +69,7 @@ module _ {S : Type 0} {stands : S → Standing} {knows : S → Known → Type 0}
         let y = q.did x.0 x.1 x.3.1 in (
           y.0,
           y.1,
-          ran_then {next = created kind} (Some o) x.2 (ran_give (λ z. Some z) h (won_ran f kind o h y.4 q.kind_is.0 y.5)),
+          ran_then {next = created kind} (Some o) x.2 (ran_give (λ z. Some z) h (ran_created f kind o h y.4 q.kind_is.0 y.5)),
           holds_did x.0 y.0 f (search_acts o y.4 (Some h)) y.5 (search_spares o y.4 (Some h)) x.3.0,
         );
   }

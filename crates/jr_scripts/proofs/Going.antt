@@ -7,14 +7,14 @@ use Rattle.jr_word.specs.declared.fault.Fault.{Fault}
 use Rattle.jr_word.specs.declared.fault.Fault.TheVariants as fault
 use Rattle.jr_model.specs.Frames.{Frames}
 use Rattle.jr_syntax.specs.declared.command.Command.{Command}
-use Rattle.jr_scripts.specs.declared.command.Reply.{Reply}
+use Rattle.jr_scripts.specs.declared.reply.Reply.{Reply}
 use Rattle.jr_scripts.specs.declared.steps.Known.{Known}
 use Rattle.jr_scripts.specs.Knowing.{Standing, Holds}
 use Rattle.jr_scripts.specs.Names.{Names}
 use Rattle.jr_scripts.specs.Deeds.{moment, Does}
 use Rattle.jr_scripts.specs.Commands.{deed}
 use Rattle.jr_scripts.specs.Text.{printed, names_after}
-use Rattle.jr_scripts.specs.Explains.{Explains, nothing, then, without_line}
+use Rattle.jr_scripts.specs.Explains.{Explains, nothing, then}
 use Rattle.jr_scripts.specs.Runs.{RanThread, WritesDown}
 
 module _ {S : Type 0} (stands : S → Standing) (knows : S → Known → Type 0) where
@@ -90,9 +90,17 @@ module _ {S : Type 0} {stands : S → Standing} {knows : S → Known → Type 0}
                   y.2,
                   (
                     refl,
-                    without_line (take i commands) (drop (suc i) commands) c (moment x.0 g) names answer
-                        (sym (take-append-drop (suc i) commands) ∙ (ap (λ cs. cs ++ drop (suc i) commands) (done_so_far commands i c small is) ∙ append_assoc (take i commands) (c ∷ []) (drop (suc i) commands)))
-                        x.3 y.3,
+                    record {
+                      before = take i commands;
+                      last = c;
+                      rest = drop (suc i) commands;
+                      parts = sym (take-append-drop (suc i) commands) ∙ (ap (λ cs. cs ++ drop (suc i) commands) (done_so_far commands i c small is) ∙ append_assoc (take i commands) (c ∷ []) (drop (suc i) commands));
+                      mid = moment x.0 g;
+                      names = names;
+                      answer = answer;
+                      lines = x.3;
+                      unwritten = y.3;
+                    },
                   ),
                 );
           },

@@ -1,6 +1,5 @@
 -- What follows from a step, for one thing that was known.
-use Rattle.std.proofs.Common.{◌≡◌, ◌≢◌, ◌==◌, ℕ, true, cond, List, [], ◌∷◌, ◌++◌, map, Option, Some, None, IsSome, refl, sym, ap, subst, ◌∙◌, append_assoc}
-use Rattle.std.proofs.lemmas.List.{append-nil}
+use Rattle.std.proofs.Common.{◌≡◌, ◌≢◌, ◌==◌, ℕ, true, cond, List, [], ◌∷◌, ◌++◌, Option, Some, None, IsSome, refl, sym, ap, subst, ◌∙◌}
 use Rattle.std.specs.List.{AllByRecursion}
 use Rattle.jr_model.specs.declared.event.Role.TheVariants.{Within}
 use Rattle.jr_model.specs.declared.event.Found.{Found}
@@ -8,11 +7,11 @@ use Rattle.jr_model.specs.declared.event.Found.TheVariants.{Object}
 use Rattle.jr_model.specs.declared.event.Act.{Act}
 use Rattle.jr_model.specs.declared.event.Act.TheVariants.{Look, Leave}
 use Rattle.jr_model.specs.State.{Handle, Contents, State, IsPresent}
-use Rattle.jr_model.specs.History.{by, state, mine, IsLegal, role_of, Did}
+use Rattle.jr_model.specs.History.{by, state, IsLegal, role_of, Did}
 use Rattle.jr_model.specs.Frames.{Frames, object_at}
-use Rattle.jr_model.proofs.Histories.{mine_append, mine_all, legal_push, state_push}
+use Rattle.jr_model.proofs.Histories.{legal_push, state_push}
 use Rattle.jr_model.proofs.Presence.{named_is_present}
-use Rattle.jr_model.proofs.Stays.{IsStill, still_did}
+use Rattle.jr_model.proofs.Stays.{IsStill, still_did, did_added}
 use Rattle.jr_model.proofs.Agreement.{agree_spared, places_did, places_from, spares_places}
 use Rattle.jr_scripts.specs.declared.steps.Known.{Known}
 use Rattle.jr_scripts.specs.Acts.{putting}
@@ -21,17 +20,7 @@ use Rattle.jr_scripts.specs.Table.{IsOnly}
 
 -- a step is what the thread did
 pub goes_did : {k k' : Known} {acts : List Act} → Goes k acts k' → Did (view k) (view k') acts
-goes_did {k} {k'} {acts} g = record {
-  config = g.config;
-  last = g.last;
-  thread = g.thread;
-  legal = g.legal;
-  begins = (g.between ++ map (by k.thread) acts, sym (append_assoc k.seen g.between (map (by k.thread) acts)) ∙ sym g.seen);
-  own = ap (λ l. mine l k.thread) g.seen
-      ∙ (mine_append (k.seen ++ g.between) (map (by k.thread) acts) k.thread
-      ∙ (ap (λ l. mine (k.seen ++ g.between) k.thread ++ l) (mine_all k.thread acts)
-      ∙ ap (λ l. l ++ acts) (mine_append k.seen g.between k.thread ∙ (ap (λ l. mine k.seen k.thread ++ l) g.others ∙ append-nil (mine k.seen k.thread)))));
-}
+goes_did {acts = acts} g = did_added g.between acts g.config g.last g.thread g.seen g.others g.legal
 
 -- a look finds what the reference names in the state after it
 looked_refs : {k k' : Known} (h : Handle) (r : Found) → Goes k (Look h r ∷ []) k' → (state_of k').refs h ≡ r

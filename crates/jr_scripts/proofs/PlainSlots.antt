@@ -24,6 +24,7 @@ use Rattle.jr_scripts.specs.Image.{slot_at, SaysOfSlot, IsSlotOf}
 use Rattle.jr_scripts.specs.Plain.{standing, Shows}
 use Rattle.jr_scripts.specs.Slots.{CanStand, IsReference, freed}
 use Rattle.jr_scripts.proofs.InRoom.{in_room}
+use Rattle.jr_scripts.proofs.SlotWords.{one_reading}
 use Rattle.jr_scripts.proofs.Slots.{slot_fits, read_parts}
 use Rattle.jr_scripts.proofs.SlotTurns.{sees, claims, frees, frees_late}
 use Rattle.jr_scripts.proofs.LostClaims.{claim_lost}
@@ -118,26 +119,30 @@ module _ (config : Config) (last : ℕ) (few : IsFew config last) (role : Role) 
   pub object_some : {T : Known → Type 0} (o : ℕ) → MayKnow (Shows old) words (λ k. HasObject o k × T k) → 0 < o
   object_some o may = shown_most 1 o may (λ k s m. ((in_room k.config k.last k.seen s.pass.legal).objects o m.0).0)
 
-  pub claimed : (i serial : ℕ) (kind : RefKind) (o : ℕ) (p : SlotParts) → i < config.slots → kind ≢ Local → IsReference kind serial (Some o) p → get_or words (slot_at i) 0 ≡ slot_word (slot.Free serial) → role ≡ Within
+  pub claimed : (i serial : ℕ) (kind : RefKind) (o : ℕ) (p : SlotParts) → i < config.slots → kind ≢ Local → IsReference kind serial (Some o) p → (found : SlotParts) → get_or words (slot_at i) 0 ≡ slot_word found → found ≡ slot.Free serial → role ≡ Within
       → Turned old words old (slice_set words (slot_at i) (slot_word p)) (claiming i serial kind o (Ok tt) ∷ []) (λ k. HasObject o k × IsFreeSlot i serial k) (LostClaim i (Ok tt))
-  claimed i serial kind o p l global is found within = record {
+  claimed i serial kind o p l global is found at free within = record {
     stands_is = refl;
     turn = λ k s m.
         let fits = m.1.fits in
         let small = few_serials k s in
-        (claims k.config k.last k.seen k.thread words s.pass.legal s.image (row k s) (s.pass.role ∙ within) small (few_objects k s) i serial kind o p (in_row i l k s) (omega arith) global is m.0 found, tt);
+        (claims k.config k.last k.seen k.thread words s.pass.legal s.image (row k s) (s.pass.role ∙ within) small (few_objects k s) i serial kind o p (in_row i l k s) (omega arith) global is m.0 (at ∙ ap slot_word free), tt);
   }
 
-  pub lost : (i serial : ℕ) (kind : RefKind) (o : ℕ) (p : SlotParts) → i < config.slots → IsSlot p → get_or words (slot_at i) 0 ≡ slot_word p → get_or words (slot_at i) 0 ≢ slot_word (slot.Free serial) → role ≡ Within
+  pub lost : (i serial : ℕ) (kind : RefKind) (o : ℕ) (p : SlotParts) → i < config.slots → IsSlot p → get_or words (slot_at i) 0 ≡ slot_word p → p ≢ slot.Free serial → role ≡ Within
       → Turned old words old words (claiming i serial kind o (Err p) ∷ []) (λ k. HasObject o k × IsFreeSlot i serial k) (LostClaim i (Err p))
   lost i serial kind o p l good is differs within = record {
     stands_is = refl;
     turn = λ k s m.
         let t = (saw i naming.Probe p l tt good is within).turn k s tt in
-        let x = s.image.slot i (in_row i l k s) in (
+        let x = s.image.slot i (in_row i l k s) in
+        let small = few_serials k s in
+        let below = m.1.fits in
+        let other : get_or words (slot_at i) 0 ≢ slot_word (slot.Free serial)
+        = λ e. differs (one_reading p (slot.Free serial) good (record { serial = omega arith; object = omega arith; names = tt }) (sym is ∙ e)) in (
           t.0,
           sometime_wider (prefix_self k.seen) (by k.thread (Probe i (is_occupied p)) ∷ [], refl)
-              (claim_lost k k.seen (prefix_self k.seen) s.pass.legal i serial (get_or words (slot_at i) 0) m.1 x differs),
+              (claim_lost k k.seen (prefix_self k.seen) s.pass.legal i serial (get_or words (slot_at i) 0) m.1 x other),
         );
   }
 

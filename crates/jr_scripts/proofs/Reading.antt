@@ -48,11 +48,7 @@ pub ran_remote : {p q : PassView} (f : Frames) (h : Handle) (r : Found) → is_l
 ran_remote {p} {q} f h r b d = subst (λ c. Ran p q f f (cond c (λ old. local_object (object_of old h) old) (some_act (Look h) >>= found_object)) (found_answer r)) (sym b)
     (ran_then r (ran_some_act f (Look h) r d) (found_ran q f r (did_legal (Look h r ∷ []) d)))
 
--- the type of a local reference, and of any other
-pub ran_local_type : (p : PassView) (f : Frames) (h : Handle) → is_local h ≡ true → IsLegal p.config p.last p.seen → Ran p p f f (type_at (Parts h)) (Ok (type_local (object_of f h)))
-ran_local_type p f h b l = subst (λ y. Ran p p f f (cond y (λ old. done (type_local (object_of old h)) old) (some_act (Look h) >>= (λ r. done (type_found h.kind r)))) (Ok (type_local (object_of f h)))) (sym b)
-    (record { acts = []; did = did_nothing p l; is = (refl, refl, refl); grounds = tt })
-
+-- the type of a reference that is not local
 pub ran_remote_type : {p q : PassView} (f : Frames) (h : Handle) (r : Found) → is_local h ≡ false → Did p q (Look h r ∷ []) → Ran p q f f (type_at (Parts h)) (Ok (type_found h.kind r))
 ran_remote_type {p} {q} f h r b d = subst (λ y. Ran p q f f (cond y (λ old. done (type_local (object_of old h)) old) (some_act (Look h) >>= (λ x. done (type_found h.kind x)))) (Ok (type_found h.kind r))) (sym b)
     (ran_give (type_found h.kind) r (ran_some_act f (Look h) r d))

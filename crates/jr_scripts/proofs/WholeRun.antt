@@ -1,17 +1,17 @@
 -- A script of one thread, from the opening state to the last line.
-use Rattle.std.proofs.Common.{◌≡◌, ℕ, List, [], ◌++◌, Result, Ok, refl, sym, ap, subst, ◌∙◌}
+use Rattle.std.proofs.Common.{◌≡◌, ℕ, List, ◌++◌, Result, Ok, refl, sym, ap, subst, ◌∙◌}
 use Rattle.jr_word.specs.declared.config.Config.{Config}
 use Rattle.jr_word.specs.declared.fault.Fault.{Fault}
 use Rattle.jr_model.specs.declared.event.Role.TheVariants.{Outside}
 use Rattle.jr_model.specs.declared.summary.Summary.{Summary}
 use Rattle.jr_model.specs.State.{summary}
-use Rattle.jr_model.specs.History.{History, PassView, IsLegal, state}
+use Rattle.jr_model.specs.History.{PassView, IsLegal, state}
 use Rattle.jr_model.specs.Frames.{Frames, fresh_frames}
 use Rattle.jr_syntax.specs.declared.command.Command.{Command}
 use Rattle.jr_syntax.specs.declared.thread.ThreadPart.{ThreadPart}
 use Rattle.jr_scripts.specs.declared.steps.Known.{Known}
 use Rattle.jr_scripts.specs.Knowing.{Standing, IsOf, view, Holds}
-use Rattle.jr_scripts.specs.Deeds.{Moment, moment}
+use Rattle.jr_scripts.specs.Deeds.{moment}
 use Rattle.jr_scripts.specs.declared.plain.PlainSteps.{PlainSteps}
 use Rattle.jr_scripts.specs.Plain.{unseen, standing, Shows}
 use Rattle.jr_scripts.specs.Text.{heading, ending}
@@ -71,8 +71,8 @@ pub plain_run : {old new : PlainSteps 65535} {f g : Frames} {commands : List Com
 plain_run {old} {new} {f} {g} {commands} turns c part lines whole v made one config_is role_is opening same fresh these good ran tells whole_is =
     let known : Shows (standing old.config 65535 old.role) old.words.items (unseen c 65535)
     = subst (λ (s : PlainSteps 65535). Shows (standing s.config 65535 s.role) s.words.items (unseen c 65535)) (sym same)
-        (subst (λ d. Shows (standing d 65535 made.role) made.words.items (unseen c 65535)) (sym config_is)
-        (subst (λ r. Shows (standing c 65535 r) made.words.items (unseen c 65535)) (sym role_is) opening)) in
+    (subst (λ d. Shows (standing d 65535 made.role) made.words.items (unseen c 65535)) (sym config_is)
+    (subst (λ r. Shows (standing c 65535 r) made.words.items (unseen c 65535)) (sym role_is) opening)) in
     let Leads : List Command → Result (Unit {0}) Fault → Type 0
     = λ cs r. RanThread (λ (s : PlainSteps 65535). standing s.config 65535 s.role) (λ s k. Shows (standing s.config 65535 s.role) s.words.items k) old new f g turns 3 cs r lines in
     is_run (λ s k h. h.pass) turns 65535 c part lines whole v one (ap (λ (s : PlainSteps 65535). s.config) same ∙ config_is) refl refl known (fresh ∙ ap (λ d. fresh_frames d.locals) config_is) (subst (λ cs. Leads cs (Ok tt)) these (subst (Leads commands) good ran)) tells whole_is

@@ -15,10 +15,12 @@ use Rattle.jr_model.specs.State.{Handle, same_kind}
 use Rattle.jr_scripts.specs.declared.steps.Naming.{Naming}
 use Rattle.jr_scripts.specs.declared.steps.Naming.TheVariants as naming
 
+-- an entry, by whether the gate was open
 abbrev pub entered_as : Bool → Act
 entered_as true = Enter
 entered_as false = Knock
 
+-- how a thread of this role goes out
 abbrev pub leaving : Role → Act
 leaving Knocking = Withdraw
 leaving _ = Leave
@@ -38,6 +40,7 @@ reply h (slot.Global serial o) = cond (is_its h Global serial) (Object o) Stale
 reply h (slot.Weak serial o) = cond (is_its h Weak serial) (found_object o) Stale
 reply h _ = Stale
 
+-- the word is not free: a reference stands there, or each serial was given
 abbrev pub is_occupied : SlotParts → Bool
 is_occupied (slot.Free serial) = false
 is_occupied _ = true
@@ -66,6 +69,7 @@ abbrev pub freeing : Handle → Bool → Act
 freeing h true = Delete h
 freeing h false = DeleteStale h
 
+-- the store of an object, or of none, at a place
 abbrev pub putting : ℕ → Option ℕ → Act
 putting p None = LocalDrop p
 putting p (Some o) = LocalPut p o

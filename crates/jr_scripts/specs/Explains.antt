@@ -3,7 +3,7 @@ use Rattle.std.specs.Prelude.{◌≡◌, ◌+◌, ℕ, List, [], ◌∷◌, ◌+
 use Rattle.jr_word.specs.declared.fault.Fault.{Fault}
 use Rattle.jr_word.specs.declared.fault.Fault.TheVariants as fault
 use Rattle.jr_syntax.specs.declared.command.Command.{Command}
-use Rattle.jr_scripts.specs.declared.command.Reply.{Reply}
+use Rattle.jr_scripts.specs.declared.reply.Reply.{Reply}
 use Rattle.jr_scripts.specs.Names.{Names}
 use Rattle.jr_scripts.specs.Deeds.{Moment}
 use Rattle.jr_scripts.specs.Commands.{deed}
@@ -21,11 +21,17 @@ module _ (turns first : ℕ) (old : Moment) where
   abbrev pub Explained : List Command → List ℕ → Moment → Type 0
   Explained commands text new = (names : Names) × Explains commands text new names
 
-  -- the first commands were done and no others, and printed the text; or the line of the last of them is missing
-  pub data IsCutOff (commands : List Command) (text : List ℕ) (new : Moment) : Type 0 where
-    with_line : (done rest : List Command) → commands ≡ done ++ rest → Explained done text new → IsCutOff commands text new
-    without_line : (done rest : List Command) (c : Command) (mid : Moment) (names : Names) (answer : Result Reply Fault)
-        → commands ≡ done ++ c ∷ rest → Explains done text mid names → deed turns names c mid answer new → IsCutOff commands text new
+  -- the first commands were done and no others, and the text has their lines, but for that of the last
+  pub record IsCutOff (commands : List Command) (text : List ℕ) (new : Moment) : Type 0 where
+    pub before : List Command
+    pub last : Command
+    pub rest : List Command
+    pub parts : commands ≡ before ++ last ∷ rest
+    pub mid : Moment
+    pub names : Names
+    pub answer : Result Reply Fault
+    pub lines : Explains before text mid names
+    pub unwritten : deed turns names last mid answer new
 
   -- WHAT A RUN of the commands leaves, where it added the text: all of it explained, or memory was refused
   abbrev pub Leaves : List Command → Result (Unit {0}) Fault → List ℕ → Moment → Type 0

@@ -22,9 +22,11 @@ pub record Standing : Type 0 where
   pub thread : ℕ
   pub role : Role
 
+-- what the model calls a pass
 abbrev pub view : Known → PassView
 view k = record { config = k.config; last = k.last; thread = k.thread; seen = k.seen }
 
+-- the state after all that was seen
 abbrev pub state_of : Known → State
 state_of k = state k.seen
 
@@ -58,6 +60,7 @@ anything k = Unit {0}
 abbrev pub nothing : Known → Known → Type 0
 nothing k k' = Unit {0}
 
+-- the object is present
 abbrev pub HasObject : ℕ → Known → Type 0
 HasObject o k = IsPresent (state_of k) o
 

@@ -45,6 +45,7 @@ abbrev pub publication : Kind → Option ℕ → List Act
 publication kind None = []
 publication kind (Some o) = New o kind [] ∷ []
 
+-- the new object is present, or every object number is
 abbrev pub IsPublished : Config → Option ℕ → Known → Type 0
 IsPublished c None k = EachPresent c (state_of k)
 IsPublished c (Some o) k = HasObject o k

@@ -17,6 +17,7 @@ IsReadAs w Nothing = w ≡ 0
 IsReadAs w Malformed = (w ≢ 0) × ((h : Handle) → IsHandle h → w ≢ handle_word h)
 IsReadAs w (Parts h) = IsHandle h × (w ≡ handle_word h)
 
+-- a reference that was read, as the model has it
 abbrev pub word_of : Reference → Word
 word_of reference.Null = Nothing
 word_of reference.Malformed = Malformed

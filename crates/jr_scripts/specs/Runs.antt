@@ -16,7 +16,7 @@ use Rattle.jr_syntax.specs.declared.script.Script.{Script}
 use Rattle.jr_scripts.specs.declared.steps.Known.{Known}
 use Rattle.jr_scripts.specs.Knowing.{Standing, Holds}
 use Rattle.jr_scripts.specs.Deeds.{Moment, moment}
-use Rattle.jr_scripts.specs.declared.command.Reply.{Reply}
+use Rattle.jr_scripts.specs.declared.reply.Reply.{Reply}
 use Rattle.jr_scripts.specs.Names.{Names}
 use Rattle.jr_scripts.specs.Text.{printed, names_after, heading, ending}
 use Rattle.jr_scripts.specs.Explains.{Explained, Leaves}

@@ -10,8 +10,8 @@ use Rattle.jr_syntax.specs.Line.{line as words_line}
 use Rattle.jr_syntax.specs.Reference.{reference_word}
 use Rattle.jr_syntax.specs.declared.command.Command.{Command}
 use Rattle.jr_syntax.specs.declared.command.Command.TheVariants as commands
-use Rattle.jr_scripts.specs.declared.command.Reply.{Reply}
-use Rattle.jr_scripts.specs.declared.command.Reply.TheVariants as replies
+use Rattle.jr_scripts.specs.declared.reply.Reply.{Reply}
+use Rattle.jr_scripts.specs.declared.reply.Reply.TheVariants as replies
 use Rattle.jr_scripts.specs.Names.{Names, named, null}
 
 -- a line of words with its line feed

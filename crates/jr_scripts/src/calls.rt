@@ -19,7 +19,7 @@ use crate::row::{create, delete};
 use crate::steps::Steps;
 use jr_word::{Fault, HandleParts, Kind, RefKind};
 
-/// A plain object and a local reference to it.
+/// Makes a plain object and a local reference to it: E9, E11, E13.
 pub fn new_plain<S: Steps>(steps: &mut S, frames: &mut Frames) -> Result<HandleParts, Fault>
     requires { IsReady S.stands S.knows Outside steps.old frames.old }
     ensures call { Completes S.stands S.knows steps.old steps.new frames.old frames.new (references.new_plain (S.stands steps.old).config (S.stands steps.old).last (S.stands steps.old).thread) result }
@@ -31,7 +31,7 @@ pub fn new_plain<S: Steps>(steps: &mut S, frames: &mut Frames) -> Result<HandleP
     made
 }
 
-/// A global or weak global reference to what a reference names, none for NULL.
+/// Makes a global or weak global reference to what a reference names, none for NULL: E2, E3, E8, E13.
 pub fn new_reference<S: Steps>(
     steps: &mut S,
     frames: &Frames,
@@ -50,7 +50,7 @@ pub fn new_reference<S: Steps>(
     made
 }
 
-/// Deletes a reference by the call for its kind.
+/// Deletes a global or weak global reference by the call for the kind: E2, E4, E13.
 pub fn delete_reference<S: Steps>(
     steps: &mut S,
     frames: &Frames,
@@ -68,7 +68,7 @@ pub fn delete_reference<S: Steps>(
     deleted
 }
 
-/// Deletes a local reference.
+/// Deletes a local reference of the thread: E2, E3, E4, E13.
 pub fn delete_local_ref<S: Steps>(
     steps: &mut S,
     frames: &mut Frames,
@@ -83,7 +83,7 @@ pub fn delete_local_ref<S: Steps>(
     deleted
 }
 
-/// The type of a reference: 1 local, 2 global, 3 weak global, else 0.
+/// The type of a reference: 1 local, 2 global, 3 weak global, else 0: E13 alone.
 pub fn get_object_ref_type<S: Steps>(
     steps: &mut S,
     frames: &Frames,
@@ -149,6 +149,7 @@ fn delete_within<S: Steps>(steps: &mut S, kind: RefKind, reference: Reference) -
     }
 }
 
+/// Deletes the reference of a handle, if it is of the kind.
 fn delete_parts<S: Steps>(steps: &mut S, kind: RefKind, handle: HandleParts) -> Result<(), Fault>
     requires role { (S.stands steps.old).role ≡ Within }
     requires kind { kind ≢ Local }
@@ -181,6 +182,7 @@ fn delete_local_within<S: Steps>(
     }
 }
 
+/// Deletes the local reference of a handle.
 fn delete_local_parts<S: Steps>(
     steps: &mut S,
     frames: &mut Frames,

@@ -1,7 +1,6 @@
-//! Scripts: what they are, and how they are run.
+//! Runs scripts of JNI calls: the calls of one thread over atomic steps, and what a script of one thread prints.
 #![tactic(auto)]
 
-mod command;
 pub mod calls;
 pub mod env;
 pub mod frames;
@@ -12,11 +11,14 @@ mod perform;
 pub mod plain;
 mod printed;
 pub mod reference;
+mod reply;
 pub mod resolve;
 pub mod row;
 mod run;
 mod single;
 pub mod steps;
+#[cfg(test)]
+mod tests;
 mod tries;
 
 pub use run::run_thread;

@@ -5,15 +5,16 @@ ghost use Rattle.jr_word.specs.declared.handle.RefKind.TheVariants.{Local as Loc
 ghost use Rattle.jr_scripts.specs.Deeds.{Does, new_plain, new_reference, delete_reference, delete_local_ref, get_object_ref_type};
 ghost use Rattle.jr_scripts.specs.Commands.{tried as tried_deed, deleted_of, deleted, type_of as type_deed, deed};
 
-use crate::command::Reply;
 use crate::env::Env;
 use crate::names::Names;
 use crate::reference::Reference;
+use crate::reply::Reply;
 use crate::steps::Steps;
 use crate::tries::tried;
 use jr_syntax::Command;
 use jr_word::{Fault, Handle, RefKind};
 
+/// A plain object and a local reference to it.
 fn plain<S: Steps>(env: &mut Env<S>, turns: u64) -> Result<Handle, Fault>
     ensures { Does S.stands S.knows env.old.steps env.new.steps env.old.frames.frames env.new.frames.frames (tried_deed turns new_plain) result }
 {
@@ -26,11 +27,8 @@ fn plain<S: Steps>(env: &mut Env<S>, turns: u64) -> Result<Handle, Fault>
     )
 }
 
-fn global<S: Steps>(
-    env: &mut Env<S>,
-    turns: u64,
-    handle: Handle,
-) -> Result<Option<Handle>, Fault>
+/// A global reference to what a handle names, none for NULL.
+fn global<S: Steps>(env: &mut Env<S>, turns: u64, handle: Handle) -> Result<Option<Handle>, Fault>
     ensures { Does S.stands S.knows env.old.steps env.new.steps env.old.frames.frames env.new.frames.frames (tried_deed turns (new_reference GlobalKind handle.0)) result }
 {
     tried(
@@ -42,6 +40,7 @@ fn global<S: Steps>(
     )
 }
 
+/// Deletes a global reference.
 fn delete_global<S: Steps>(env: &mut Env<S>, turns: u64, handle: Handle) -> Result<(), Fault>
     ensures { Does S.stands S.knows env.old.steps env.new.steps env.old.frames.frames env.new.frames.frames (deleted_of turns GlobalKind handle.0) result }
 {
@@ -54,6 +53,7 @@ fn delete_global<S: Steps>(env: &mut Env<S>, turns: u64, handle: Handle) -> Resu
     )
 }
 
+/// Deletes a weak global reference.
 fn delete_weak<S: Steps>(env: &mut Env<S>, turns: u64, handle: Handle) -> Result<(), Fault>
     ensures { Does S.stands S.knows env.old.steps env.new.steps env.old.frames.frames env.new.frames.frames (deleted_of turns WeakKind handle.0) result }
 {
@@ -66,6 +66,7 @@ fn delete_weak<S: Steps>(env: &mut Env<S>, turns: u64, handle: Handle) -> Result
     )
 }
 
+/// Deletes a local reference.
 fn delete_local<S: Steps>(env: &mut Env<S>, turns: u64, handle: Handle) -> Result<(), Fault>
     ensures { Does S.stands S.knows env.old.steps env.new.steps env.old.frames.frames env.new.frames.frames (deleted_of turns LocalKind handle.0) result }
 {
@@ -94,11 +95,7 @@ fn delete<S: Steps>(env: &mut Env<S>, turns: u64, handle: Handle) -> Result<(), 
 }
 
 /// The type of a reference: 0 where there is none.
-fn type_of<S: Steps>(
-    env: &mut Env<S>,
-    turns: u64,
-    referent: Option<Handle>,
-) -> Result<u8, Fault>
+fn type_of<S: Steps>(env: &mut Env<S>, turns: u64, referent: Option<Handle>) -> Result<u8, Fault>
     ensures { Does S.stands S.knows env.old.steps env.new.steps env.old.frames.frames env.new.frames.frames (type_deed turns referent) result }
 {
     let Some(handle) = referent else {

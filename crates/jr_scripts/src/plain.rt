@@ -1,7 +1,8 @@
 //! The steps of one thread over a plain vector of words. No history is stored.
-ghost use Rattle.std.specs.Prelude.{◌≡◌, ◌≢◌, ◌⊎◌, ◌↔◌, ◌<◌, ◌≤◌, vec_len, slice_index, true, false, IfOk, IfErr, Ok, Err};
+ghost use Rattle.std.specs.Prelude.{◌≡◌, ◌⊎◌, ◌↔◌, ◌<◌, ◌≤◌, vec_len, slice_index, true, false, IsTrue, IfOk, IfErr, Ok, Err};
 ghost use Rattle.jr_word.specs.declared.fault.Fault.TheVariants.{Memory, Size};
 ghost use Rattle.jr_word.specs.declared.gate.GateParts.{GateParts as Gates};
+ghost use Rattle.jr_word.specs.declared.slot.SlotParts.TheVariants.{Free};
 ghost use Rattle.jr_word.specs.Config.{in_limits};
 ghost use Rattle.jr_word.specs.Gate.{gate_word, IsGate};
 ghost use Rattle.jr_word.specs.Slot.{slot_word, IsSlot};
@@ -170,6 +171,13 @@ fn is_reference(kind: RefKind, parts: SlotParts) -> bool
     }
 }
 
+/// Whether what the word of a slot says is that it is free with the serial.
+fn is_free(parts: SlotParts, serial: u16) -> bool
+    ensures { IsTrue result ↔ (parts ≡ Free serial) }
+{
+    matches!(parts, SlotParts::Free { serial: next } if next == serial)
+}
+
 /// The role of a thread whose entry went in, or did not.
 fn role_of_entry(entered: bool) -> Role
     ensures { result ≡ role_after Outside (entered_as entered) }
@@ -258,12 +266,12 @@ impl<const LAST: u16> Steps for PlainSteps<LAST> {
         kind: RefKind,
         object: u16,
     ) -> Result<(), SlotParts> {
-        let at = SLOTS + index as usize;
-        let looked = SlotWord::pack(SlotParts::Free { serial });
-        if self.word(at) != looked.0 {
-            return Err(self.slot(index));
+        let found = self.slot(index);
+        if !is_free(found, serial) {
+            return Err(found);
         }
-        self.words[at] = SlotWord::pack(reference(kind, serial, Some(object))).0;
+        let made = SlotWord::pack(reference(kind, serial, Some(object)));
+        self.words[SLOTS + index as usize] = made.0;
         Ok(())
     }
 

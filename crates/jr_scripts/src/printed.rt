@@ -1,13 +1,11 @@
 //! What commands print.
 
 ghost use Rattle.std.specs.Prelude.{◌≡◌, ◌∷◌, ◌++◌, [], IfOk};
-
-ghost use Rattle.jr_syntax.specs.Reference.{reference_word};
 ghost use Rattle.jr_scripts.specs.Text.{line, says as what_is_said, refused as refusal, printed as text_printed, heading as text_heading, ending as text_ending};
 
-use crate::command::Reply;
+use crate::reply::Reply;
 use jr_model::Summary;
-use jr_syntax::{Command, Name, Reference};
+use jr_syntax::{Command, Name};
 use jr_word::Fault;
 use std::alloc::{AllocError, Global};
 
@@ -29,16 +27,6 @@ fn line_of_three(
     Ok(text)
 }
 
-/// A reference as its command spells it.
-fn word_of(reference: &Reference) -> &[u8]
-    ensures { result.now ≡ reference_word reference.now }
-{
-    match reference {
-        Reference::Null => b"null",
-        Reference::Named(name) => name.as_slice(),
-    }
-}
-
 /// What is printed for a command that was not refused.
 fn says(alloc: Global, command: &Command, reply: Reply) -> Result<Vec<u8>, AllocError>
     ensures { IfOk result (λ text. text.items ≡ what_is_said command.now reply) }
@@ -49,7 +37,7 @@ fn says(alloc: Global, command: &Command, reply: Reply) -> Result<Vec<u8>, Alloc
         }
         (Command::Type { target }, Reply::Type(number)) => {
             let number = number.to_string(alloc)?;
-            line_of_three(alloc, b"type", word_of(target), number.as_bytes())
+            line_of_three(alloc, b"type", target.word(), number.as_bytes())
         }
         _ => Ok(Vec::new(alloc)),
     }
@@ -102,6 +90,8 @@ pub fn ending(alloc: Global, summary: Summary) -> Result<Vec<u8>, AllocError>
         live,
         used,
     } = summary;
-    let text = format!(in alloc; "[end]\nglobals {globals} weaks {weaks} live {live} used {used}\n")?;
+    let text = format!(in alloc;
+        "[end]\nglobals {globals} weaks {weaks} live {live} used {used}\n"
+    )?;
     Ok(text.into_bytes())
 }

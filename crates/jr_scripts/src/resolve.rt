@@ -44,6 +44,7 @@ fn look_at<S: Steps>(
     }
 }
 
+/// The object of a handle: E2 out of bounds, E3 for a local of another thread.
 fn resolve_parts<S: Steps>(
     steps: &mut S,
     frames: &Frames,
@@ -79,12 +80,14 @@ pub fn resolve<S: Steps>(
     }
 }
 
+/// The type of a local reference, by its object.
 fn type_of_local(object: Option<u16>) -> u8
     ensures { result ≡ type_local object }
 {
     if object.is_some() { 1 } else { 0 }
 }
 
+/// The type of a global or weak global reference, by what a look found.
 fn type_of_found(kind: RefKind, found: Found) -> u8
     ensures { result ≡ type_found kind found }
 {
@@ -98,6 +101,7 @@ fn type_of_found(kind: RefKind, found: Found) -> u8
     }
 }
 
+/// The type of a handle's reference.
 fn type_of_parts<S: Steps>(steps: &mut S, frames: &Frames, handle: HandleParts) -> u8
     requires role { (S.stands steps.old).role ≡ Within }
     requires owner { handle.kind ≢ Local → handle.owner ≡ 0 }

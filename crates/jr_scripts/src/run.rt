@@ -5,11 +5,11 @@ ghost use Rattle.jr_word.specs.declared.fault.Fault.TheVariants.{Memory};
 ghost use Rattle.jr_scripts.specs.Text.{sets, names_after};
 ghost use Rattle.jr_scripts.specs.Runs.{RanThread, WritesDown};
 
-use crate::command::Reply;
 use crate::env::Env;
 use crate::names::Names;
 use crate::perform::perform;
 use crate::printed::printed;
+use crate::reply::Reply;
 use crate::steps::Steps;
 use jr_syntax::{Command, Name};
 use jr_word::{Fault, Handle};
@@ -59,11 +59,11 @@ fn record(
     Ok(())
 }
 
-/// Runs the commands of a thread, of which the first stands on this line of the script, and appends what they print. A call that is raced or barred is made again, up to `turns` times.
+/// Runs the commands of a thread, of which the first stands on this line of the script, and appends what they print. A call that is raced or barred is made again, up to `turns` calls in all.
 ///
 /// # Errors
 ///
-/// E16 alone: memory was refused. What the commands already done have changed stays, and the text has their lines, perhaps without the last.
+/// E16 alone: memory was refused after a command. What the commands up to this one have changed stays, and the text has their lines, but for the last one's.
 pub fn run_thread<S: Steps>(
     alloc: Global,
     env: &mut Env<S>,

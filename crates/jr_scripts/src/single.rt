@@ -27,12 +27,7 @@ fn out_of_memory(_: AllocError) -> Fault
 }
 
 /// Runs the part of the one thread, and gives what is printed.
-fn run_part(
-    alloc: Global,
-    config: Config,
-    part: &ThreadPart,
-    turns: u64,
-) -> Result<Vec<u8>, Fault>
+fn run_part(alloc: Global, config: Config, part: &ThreadPart, turns: u64) -> Result<Vec<u8>, Fault>
     requires one { config.threads ≡ 1 }
     requires limits { in_limits config ≡ true }
     ensures ok { IfOk result (λ text. IsRun turns LAST config part.now text.items) }
@@ -49,17 +44,12 @@ fn run_part(
     Ok(text)
 }
 
-/// Runs a script of one thread, and appends what it prints. A call that is raced or barred is made again, up to `turns` times.
+/// Runs a script of one thread, and appends what it prints. A call that is raced or barred is made again, up to `turns` calls in all.
 ///
 /// # Errors
 ///
 /// E17 where the script has not one thread, or sizes outside the limits, and E16 where memory was refused: the output is as it was.
-pub fn run_one(
-    alloc: Global,
-    script: &Script,
-    turns: u64,
-    out: &mut Vec<u8>,
-) -> Result<(), Fault>
+pub fn run_one(alloc: Global, script: &Script, turns: u64, out: &mut Vec<u8>) -> Result<(), Fault>
     ensures size { (result ≡ Err Size) ↔ (¬ (IsSingle script.now)) }
     ensures memory { IfErr result (λ e. (e ≡ Size) ⊎ (e ≡ Memory)) }
     ensures ok { OnOk result (RunsSingle turns LAST script.now out.old.items out.new.items) }

@@ -12,7 +12,7 @@ fn is_made_again<A>(answer: &Result<A, Fault>) -> bool
     matches!(answer, Err(Fault::Raced(..)) | Err(Fault::Barred))
 }
 
-/// Makes a call, and again as long as it is raced or barred: E20 after so many turns.
+/// Makes a call, and again as long as it is raced or barred: E20 once it was made so many times.
 pub fn tried<E, A: Drop, F: Fn(&mut E) -> Result<A, Fault>>(
     env: &mut E,
     turns: u64,

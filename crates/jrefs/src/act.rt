@@ -54,9 +54,7 @@ fn input_of<R: Read + Drop>(alloc: Global, reader: &mut R) -> Result<Vec<u8>, Tr
             break;
         }
         let room = (MOST_INPUT - input.len()).min(PIECE);
-        let n = reader
-            .read(&mut piece[..room])
-            .map_err(|_| Trouble::Input)?;
+        let n = reader.read(&mut piece[..room]).map_err(|_| Trouble::Input)?;
         if n == 0 {
             break;
         }

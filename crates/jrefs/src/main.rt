@@ -4,6 +4,8 @@
 mod act;
 mod answer;
 mod request;
+#[cfg(test)]
+mod tests;
 mod trouble;
 
 use crate::trouble::Trouble;

@@ -1,6 +1,3 @@
-use Rattle.std.proofs.Common.{◌≡◌, subst, sym, ap, ◌∙◌}
-use Rattle.jr_model.specs.Tests.{Word, Parts}
-use Rattle.jr_scripts.specs.Reading.{IsReadAs, word_of}
 use Rattle.jr_scripts.proofs.CommandDeeds.{does_delete}
 use Rattle.jr_scripts.proofs.perform.delete.Goals as goal
 

@@ -1,4 +1,4 @@
-use Rattle.std.proofs.Common.{◌≡◌, ◌++◌, Ok, rules, subst, sym, ap, ◌∙◌, append_assoc}
+use Rattle.std.proofs.Common.{◌≡◌, ◌++◌, rules, ap, ◌∙◌}
 use Rattle.jr_scripts.specs.Text.{heading, ending}
 use Rattle.jr_scripts.proofs.WholeRun.{plain_run}
 use Rattle.jr_scripts.proofs.single.run_part.Goals as goal

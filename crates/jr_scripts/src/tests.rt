@@ -1,0 +1,170 @@
+//! Worked examples of scripts, from their text to what they print.
+//!
+//! A refused growth ends a test with `Memory`, once it is checked that nothing was printed. Any other answer than the
+//! one that is wanted fails an assertion: so each growth may be refused in turn, and the assertions stand.
+
+use crate::env::Env;
+use crate::plain::PlainSteps;
+use crate::run::run_thread;
+use crate::single::run_one;
+use jr_syntax::{Command, Name, Reference, Script, Sequence, ThreadPart, is_name, parse};
+use jr_word::{Config, Fault};
+use std::alloc::{AllocError, Global};
+use std::process::Abort;
+use std::test::Fail;
+
+/// What stands in the output before a run.
+const BEFORE: &[u8] = b"before\n";
+
+/// How often a call is made that is raced or barred.
+const TURNS: u64 = 3;
+
+/// Sizes of a room.
+const SIZES: Config = Config {
+    threads: 1,
+    slots: 1,
+    objects: 2,
+    words: 0,
+    locals: 16,
+};
+
+/// Checks what a script prints behind other output.
+fn prints(rt: &impl Abort, alloc: Global, script: &[u8], wanted: &[u8]) -> Result<(), Fail> {
+    let script = parse(alloc, script)?;
+    let mut out = Vec::from_slice(alloc, BEFORE)?;
+    let mut whole = Vec::from_slice(alloc, BEFORE)?;
+    whole.extend_from_slice(wanted)?;
+    match run_one(alloc, &script, TURNS, &mut out) {
+        Ok(()) => {
+            assert_eq!(rt; out.as_slice(), whole.as_slice());
+            Ok(())
+        }
+        Err(fault) => {
+            assert_eq!(rt; fault, Fault::Memory);
+            assert_eq!(rt; out.as_slice(), BEFORE);
+            Err(fault)?
+        }
+    }
+}
+
+#[test]
+fn a_global_reference_and_its_end(rt: HostRuntime) -> Result<(), Fail> {
+    prints(
+        &rt,
+        rt.alloc(),
+        b"vm threads 1 slots 4 objects 8 words 16 locals 16\nthread a\nplain p\nglobal g p\ntype g\ndrop g\ntype g\n",
+        b"[a]\ntype g 2\ntype g 0\n[end]\nglobals 0 weaks 0 live 1 used 0\n",
+    )
+}
+
+#[test]
+fn one_slot_for_two_references(rt: HostRuntime) -> Result<(), Fail> {
+    prints(
+        &rt,
+        rt.alloc(),
+        b"vm threads 1 slots 1 objects 8 words 16 locals 16\nthread a\nplain p\nglobal g p\nglobal h p\ndrop g\nglobal h p\ntype h\n",
+        b"[a]\n5 ! E8\ntype h 2\n[end]\nglobals 1 weaks 0 live 1 used 0\n",
+    )
+}
+
+#[test]
+fn null_and_names_that_stand_for_nothing(rt: HostRuntime) -> Result<(), Fail> {
+    prints(
+        &rt,
+        rt.alloc(),
+        b"vm threads 1 slots 4 objects 8 words 16 locals 16\nthread a\nplain p\nglobal g p\ndrop g\ndrop g\ndrop null\ntype null\ntype never\ndrop never\nglobal h never\ntype h\nglobal g null\ndrop g\ntype g\n",
+        b"[a]\n6 ! E2\ntype null 0\ntype never 0\n10 ! E2\n11 ! E2\ntype h 0\nglobal g null\ntype g 0\n[end]\nglobals 0 weaks 0 live 1 used 0\n",
+    )
+}
+
+#[test]
+fn a_refused_command_sets_no_name(rt: HostRuntime) -> Result<(), Fail> {
+    prints(
+        &rt,
+        rt.alloc(),
+        b"vm threads 1 slots 4 objects 1 words 16 locals 16\nthread a\nplain p\nplain p\ntype p\nglobal p p\nglobal p never\ntype p\n",
+        b"[a]\n4 ! E11\ntype p 1\n7 ! E2\ntype p 2\n[end]\nglobals 1 weaks 0 live 1 used 0\n",
+    )
+}
+
+#[test]
+fn sixteen_local_references(rt: HostRuntime) -> Result<(), Fail> {
+    prints(
+        &rt,
+        rt.alloc(),
+        b"vm threads 1 slots 4 objects 32 words 16 locals 16\nthread a\nplain p1\nplain p2\nplain p3\nplain p4\nplain p5\nplain p6\nplain p7\nplain p8\nplain p9\nplain p10\nplain p11\nplain p12\nplain p13\nplain p14\nplain p15\nplain p16\nplain q\n",
+        b"[a]\n19 ! E9\n[end]\nglobals 0 weaks 0 live 16 used 0\n",
+    )
+}
+
+/// The name that a word is.
+fn name(rt: &impl Abort, word: &[u8]) -> Name {
+    assert!(rt; is_name(word));
+    Name::new(word)
+}
+
+/// Adds a part without commands.
+fn add_part(script: &mut Script, alloc: Global, name: Name) -> Result<(), AllocError> {
+    script.threads.push(ThreadPart {
+        name,
+        commands: Sequence::new(alloc),
+    })
+}
+
+#[test]
+fn a_script_that_has_not_one_thread(rt: HostRuntime) -> Result<(), Fail> {
+    let alloc = rt.alloc();
+    let mut script = Script {
+        config: SIZES,
+        threads: Sequence::new(alloc),
+    };
+    let mut out = Vec::from_slice(alloc, BEFORE)?;
+    assert_eq!(rt; run_one(alloc, &script, TURNS, &mut out), Err(Fault::Size));
+    add_part(&mut script, alloc, name(&rt, b"a"))?;
+    add_part(&mut script, alloc, name(&rt, b"b"))?;
+    assert_eq!(rt; run_one(alloc, &script, TURNS, &mut out), Err(Fault::Size));
+    assert_eq!(rt; out.as_slice(), BEFORE);
+    Ok(())
+}
+
+#[test]
+fn a_script_whose_sizes_do_not_fit(rt: HostRuntime) -> Result<(), Fail> {
+    let alloc = rt.alloc();
+    let mut script = Script {
+        config: Config {
+            threads: 2,
+            ..SIZES
+        },
+        threads: Sequence::new(alloc),
+    };
+    let mut out = Vec::from_slice(alloc, BEFORE)?;
+    add_part(&mut script, alloc, name(&rt, b"a"))?;
+    assert_eq!(rt; run_one(alloc, &script, TURNS, &mut out), Err(Fault::Size));
+    script.config = Config { slots: 0, ..SIZES };
+    assert_eq!(rt; run_one(alloc, &script, TURNS, &mut out), Err(Fault::Size));
+    assert_eq!(rt; out.as_slice(), BEFORE);
+    Ok(())
+}
+
+#[test]
+fn a_thread_without_turns(rt: HostRuntime) -> Result<(), Fail> {
+    let alloc = rt.alloc();
+    let commands = [
+        Command::Plain {
+            name: name(&rt, b"p"),
+        },
+        Command::Type {
+            target: Reference::Named(name(&rt, b"p")),
+        },
+    ];
+    let mut env = Env::new(PlainSteps::<2>::new(alloc, SIZES)?);
+    let mut out = Vec::from_slice(alloc, BEFORE)?;
+    run_thread(alloc, &mut env, 10, &commands, 0, &mut out)?;
+    assert_eq!(rt; out.as_slice(), b"before\n10 ! E20\ntype p 0\n".as_slice());
+    run_thread(alloc, &mut env, 10, &commands, 1, &mut out)?;
+    assert_eq!(rt;
+        out.as_slice(),
+        b"before\n10 ! E20\ntype p 0\ntype p 1\n".as_slice()
+    );
+    Ok(())
+}
