@@ -1,0 +1,2 @@
+mod ReadBytes
+mod CommandLine

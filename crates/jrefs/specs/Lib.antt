@@ -1,3 +1,5 @@
 pub mod Trouble
 pub mod Answer
 pub mod Describe
+pub mod Request
+pub mod Act

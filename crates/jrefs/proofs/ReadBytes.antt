@@ -1,0 +1,66 @@
+-- What was read of a reader whose bytes are known.
+use Rattle.std.proofs.Common.{◌≡◌, ◌≤◌, ◌<◌, ℕ, List, ◌++◌, length, take, Option, None, Some, IfSome, refl, sym, ap, ◌∙◌, subst, arith, inl, inr, take_all}
+use Rattle.std.specs.Prelude.{◌⊎◌}
+use Rattle.std.specs.Io.KnownBytes.{Consumes, IsAtEnd}
+use Rattle.std.proofs.KnownBytes.{Consumes-whole}
+use Rattle.std.proofs.lemmas.Option.{IfSome_then}
+use Rattle.std.proofs.lemmas.Bool.{lt-ltb, leb-true, cases_lt}
+use lib.Seq.{take-append_seam}
+use lib.ListN.{length-take}
+use Rattle.jr_syntax.specs.declared.fault.Reason.TheVariants.{TooLong}
+use Rattle.jr_syntax.specs.Faults.{first_fault}
+use Rattle.jrefs.specs.declared.trouble.Trouble.{Trouble}
+use Rattle.jrefs.specs.declared.trouble.Trouble.TheVariants as troubles
+use Rattle.jrefs.specs.Answer.{IsAnswer, IsRefused}
+use Rattle.jrefs.specs.Act.{IsOutput, Prevents}
+
+-- a reader that is at its end gave all that it had, and that is within the limit
+pub all_read : (most : ℕ) (known rest : Option (List ℕ)) (bytes : List ℕ) → Consumes known rest bytes → IsAtEnd rest → length bytes ≤ most → IfSome known (λ all. bytes ≡ take most all)
+all_read most known rest bytes gone end within = Consumes-whole known rest bytes (λ all. bytes ≡ take most all) gone end (sym (take_all most bytes within))
+
+-- a reader gave as much as the limit
+pub most_read : (most : ℕ) (known rest : Option (List ℕ)) (bytes : List ℕ) → Consumes known rest bytes → length bytes ≡ most → IfSome known (λ all. bytes ≡ take most all)
+most_read most None rest bytes gone full = tt
+most_read most (Some all) None bytes gone full = absurd gone
+most_read most (Some all) (Some left) bytes gone full = sym (ap (take most) gone ∙ ap (λ n. take n (bytes ++ left)) (sym full) ∙ take-append_seam bytes left)
+
+-- ---- the limit
+
+-- bytes over the limit are too long, whatever they are
+too_long : (bytes : List ℕ) → 65536 < length bytes → first_fault bytes ≡ Some (1, TooLong)
+too_long bytes over = rw (lt-ltb 65536 (length bytes) over) refl
+
+-- what was read of bytes has their first fault
+pub first_fault-take : (bytes : List ℕ) → first_fault (take 65537 bytes) ≡ first_fault bytes
+first_fault-take bytes = by_cases (cases_lt 65536 (length bytes))
+  where
+    by_cases : (65536 < length bytes) ⊎ (length bytes ≤ 65536) → first_fault (take 65537 bytes) ≡ first_fault bytes
+    by_cases (inr within) = ap first_fault (take_all 65537 bytes (omega arith))
+    by_cases (inl over) = too_long (take 65537 bytes) (omega (arith, length-take 65537 bytes)) ∙ sym (too_long bytes over)
+
+-- what was read of bytes is all of them, if it is within the limit
+pub take-within : (bytes : List ℕ) → length (take 65537 bytes) ≤ 65536 → take 65537 bytes ≡ bytes
+take-within bytes within = take_all 65537 bytes (omega (arith, length-take 65537 bytes, within))
+
+-- what is refused of what was read prevents an output to all that was there
+pub fault_prevents : (known : Option (List ℕ)) (text : List ℕ) (t : Trouble) → IfSome known (λ bytes. text ≡ take 65537 bytes) → IsRefused text t → Prevents t known
+fault_prevents known text (troubles.Script line reason) read fault = IfSome_then known read (λ bytes e. sym (first_fault-take bytes) ∙ ap first_fault (sym e) ∙ fault)
+fault_prevents known text troubles.Memory read fault = tt
+fault_prevents known text troubles.Usage read fault = absurd fault
+fault_prevents known text troubles.Input read fault = absurd fault
+fault_prevents known text troubles.Output read fault = absurd fault
+
+-- the answer to what was read is one to all that was there
+pub answer_is_output : (known : Option (List ℕ)) (text output : List ℕ) → IfSome known (λ bytes. text ≡ take 65537 bytes) → IsAnswer 10000000 65535 text output → IsOutput known output
+answer_is_output known text output read answer =
+    let within : length text ≤ 65536 = subst (λ (t : List ℕ). length t ≤ 65536) (sym answer.2) (leb-true _ _ answer.1.bytes) in
+    record {
+      text = text;
+      read = IfSome_then known read (λ bytes e. sym (e ∙ take-within bytes (subst (λ (t : List ℕ). length t ≤ 65536) e within)));
+      answer = answer;
+    }
+
+-- words that are refused prevent an output, whatever was there to be read
+pub words_prevent : (known : Option (List ℕ)) (t : Trouble) → (t ≡ troubles.Memory) ⊎ (t ≡ troubles.Usage) → Prevents t known
+words_prevent known t (inl e) = subst (λ (u : Trouble). Prevents u known) (sym e) tt
+words_prevent known t (inr e) = subst (λ (u : Trouble). Prevents u known) (sym e) tt
