@@ -156,8 +156,11 @@ verb_again : (v : Verb) → verb_of (verb_word v) ≡ Some v
 unfolding verb_of
 verb_again verbs.Plain = refl
 verb_again verbs.Global = refl
+verb_again verbs.Weak = refl
+verb_again verbs.Local = refl
 verb_again verbs.Drop = refl
 verb_again verbs.Type = refl
+verb_again verbs.Same = refl
 
 -- what the line of a command is read as
 pub record IsLineOf (ws : List (List ℕ)) (c : Command) : Type 0 where
@@ -183,5 +186,8 @@ pub command_again : (c : Command) → is_command c ≡ true → IsLineOf (words_
 unfolding behind_verb spelling_of
 command_again (commands.Plain n) g = by _ (one_again name name_again) verbs.Plain refl refl (λ x. commands.Plain x) (λ _. refl) (λ _. refl) (λ _. refl) n g
 command_again (commands.Global n r) g = by _ (two_again name reference name_again reference_again) verbs.Global refl refl (λ x. commands.Global x.0 x.1) (λ _. refl) (λ _. refl) (λ _. refl) (n, r) g
+command_again (commands.Weak n r) g = by _ (two_again name reference name_again reference_again) verbs.Weak refl refl (λ x. commands.Weak x.0 x.1) (λ _. refl) (λ _. refl) (λ _. refl) (n, r) g
+command_again (commands.Local n r) g = by _ (two_again name reference name_again reference_again) verbs.Local refl refl (λ x. commands.Local x.0 x.1) (λ _. refl) (λ _. refl) (λ _. refl) (n, r) g
 command_again (commands.Drop r) g = by _ (one_again reference reference_again) verbs.Drop refl refl (λ x. commands.Drop x) (λ _. refl) (λ _. refl) (λ _. refl) r g
 command_again (commands.Type r) g = by _ (one_again reference reference_again) verbs.Type refl refl (λ x. commands.Type x) (λ _. refl) (λ _. refl) (λ _. refl) r g
+command_again (commands.Same l r) g = by _ (two_again reference reference reference_again reference_again) verbs.Same refl refl (λ x. commands.Same x.0 x.1) (λ _. refl) (λ _. refl) (λ _. refl) (l, r) g

@@ -10,3 +10,4 @@ pub mod Steps
 pub mod Reading
 pub mod Again
 pub mod Texts
+pub mod PrintLaws

@@ -90,8 +90,11 @@ command_takes : (v : Verb) (ws : List (List ℕ)) → (behind_verb v).has_form w
 unfolding behind_verb spelling_of
 command_takes verbs.Plain = by _ (one_takes name name_takes) _
 command_takes verbs.Global = by _ (two_takes name reference name_takes reference_takes) _
+command_takes verbs.Weak = by _ (two_takes name reference name_takes reference_takes) _
+command_takes verbs.Local = by _ (two_takes name reference name_takes reference_takes) _
 command_takes verbs.Drop = by _ (one_takes reference reference_takes) _
 command_takes verbs.Type = by _ (one_takes reference reference_takes) _
+command_takes verbs.Same = by _ (two_takes reference reference reference_takes reference_takes) _
 
 -- ---- lines
 

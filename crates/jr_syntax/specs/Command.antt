@@ -18,12 +18,15 @@ use Rattle.jr_syntax.specs.Reference.{reference}
 abbrev pub verb_word : Verb → List ℕ
 verb_word verbs.Plain = codes "plain"
 verb_word verbs.Global = codes "global"
+verb_word verbs.Weak = codes "weak"
+verb_word verbs.Local = codes "local"
 verb_word verbs.Drop = codes "drop"
 verb_word verbs.Type = codes "type"
+verb_word verbs.Same = codes "same"
 
 -- every verb
 abbrev pub all_verbs : List Verb
-all_verbs = verbs.Plain ∷ verbs.Global ∷ verbs.Drop ∷ verbs.Type ∷ []
+all_verbs = verbs.Plain ∷ verbs.Global ∷ verbs.Weak ∷ verbs.Local ∷ verbs.Drop ∷ verbs.Type ∷ verbs.Same ∷ []
 
 -- how arguments are read as a command
 abbrev pub made : {X : Type 0} → Arguments X → (X → Command) → Reading (List (List ℕ)) Command
@@ -33,8 +36,11 @@ made a make = record { has_form = a.has_form; in_range = a.in_range; value = λ 
 unfoldable pub behind_verb : Verb → Reading (List (List ℕ)) Command
 behind_verb verbs.Plain = made (one name) (λ n. commands.Plain n)
 behind_verb verbs.Global = made (two name reference) (λ x. commands.Global x.0 x.1)
+behind_verb verbs.Weak = made (two name reference) (λ x. commands.Weak x.0 x.1)
+behind_verb verbs.Local = made (two name reference) (λ x. commands.Local x.0 x.1)
 behind_verb verbs.Drop = made (one reference) (λ r. commands.Drop r)
 behind_verb verbs.Type = made (one reference) (λ r. commands.Type r)
+behind_verb verbs.Same = made (two reference reference) (λ x. commands.Same x.0 x.1)
 
 -- A command's words, and whether its names are names and its numbers within bounds.
 pub record Spelling : Type 0 where
@@ -48,8 +54,11 @@ spelled v a x = record { words = verb_word v ∷ a.spell x; is_good = a.is_good 
 unfoldable pub spelling_of : Command → Spelling
 spelling_of (commands.Plain n) = spelled verbs.Plain (one name) n
 spelling_of (commands.Global n r) = spelled verbs.Global (two name reference) (n, r)
+spelling_of (commands.Weak n r) = spelled verbs.Weak (two name reference) (n, r)
+spelling_of (commands.Local n r) = spelled verbs.Local (two name reference) (n, r)
 spelling_of (commands.Drop r) = spelled verbs.Drop (one reference) r
 spelling_of (commands.Type r) = spelled verbs.Type (one reference) r
+spelling_of (commands.Same l r) = spelled verbs.Same (two reference reference) (l, r)
 
 -- ---- what follows from them
 

@@ -1,11 +1,13 @@
 //! The arguments of a command, each one word.
 
-ghost use Rattle.std.specs.Prelude.{◌≡◌, true};
+ghost use Rattle.std.specs.Prelude.{◌≡◌, ◌∷◌, ◌++◌, true, OnOk};
 ghost use Rattle.jr_syntax.specs.Kind.{WordKind, reading, ReadsWord, Reads, one as one_of, two as two_of, name};
+ghost use Rattle.jr_syntax.specs.Line.{line};
 ghost use Rattle.jr_syntax.specs.Reference.{reference};
 
 use crate::name::{Name, Reference, is_name, is_reference};
 use crate::word::Words;
+use std::alloc::AllocError;
 
 /// Why words are not what they should be.
 #[derive(Clone, Copy)]
@@ -28,6 +30,10 @@ pub trait Argument: Sized + Drop {
     fn read(word: &[u8]) -> Option<Self>
         requires { kind.has_form word.now ≡ true }
         ensures { ReadsWord kind word.now result };
+
+    /// Writes its word.
+    fn put(&self, out: &mut Vec<u8>) -> Result<(), AllocError>
+        ensures { OnOk result (out.new.items ≡ out.old.items ++ kind.spell self.now) };
 }
 
 impl Argument for Name {
@@ -39,6 +45,11 @@ impl Argument for Name {
 
     fn read(word: &[u8]) -> Option<Name> {
         Some(Name::new(word))
+    }
+
+    fn put(&self, out: &mut Vec<u8>) -> Result<(), AllocError> {
+        out.extend_from_slice(self.as_slice())?;
+        Ok(())
     }
 }
 
@@ -55,6 +66,11 @@ impl Argument for Reference {
         } else {
             Some(Reference::Named(Name::new(word)))
         }
+    }
+
+    fn put(&self, out: &mut Vec<u8>) -> Result<(), AllocError> {
+        out.extend_from_slice(self.word())?;
+        Ok(())
     }
 }
 
@@ -88,4 +104,29 @@ pub fn two<A: Argument, B: Argument>(mut words: Words) -> Result<(A, B), LineErr
         return Err(LineError::Range);
     };
     Ok((a, b))
+}
+
+/// Writes a word and one argument behind it.
+pub fn put_one<A: Argument>(out: &mut Vec<u8>, word: &[u8], a: &A) -> Result<(), AllocError>
+    ensures { OnOk result (out.new.items ≡ out.old.items ++ line (word.now ∷ (one_of A.kind).spell a.now)) }
+{
+    out.extend_from_slice(word)?;
+    out.push(b' ')?;
+    a.put(out)?;
+    Ok(())
+}
+
+/// Writes a word and two arguments behind it.
+pub fn put_two<A: Argument, B: Argument>(
+    out: &mut Vec<u8>,
+    word: &[u8],
+    a: &A,
+    b: &B,
+) -> Result<(), AllocError>
+    ensures { OnOk result (out.new.items ≡ out.old.items ++ line (word.now ∷ (two_of A.kind B.kind).spell (a.now, b.now))) }
+{
+    put_one(out, word, a)?;
+    out.push(b' ')?;
+    b.put(out)?;
+    Ok(())
 }

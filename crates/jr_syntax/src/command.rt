@@ -1,23 +1,36 @@
 //! Commands, and the lines that they are.
 
-ghost use Rattle.std.specs.Prelude.{◌≡◌};
+ghost use Rattle.std.specs.Prelude.{◌≡◌, ◌++◌, OnOk};
 ghost use Rattle.jr_syntax.specs.Kind.{Reads};
-ghost use Rattle.jr_syntax.specs.Command.{verb_word, verb_of, behind_verb, ReadsLine};
+ghost use Rattle.jr_syntax.specs.Line.{line};
+ghost use Rattle.jr_syntax.specs.Command.{verb_word, verb_of, behind_verb, words_of_command, ReadsLine};
 
-use crate::argument::{LineError, one, two};
+use crate::argument::{LineError, one, put_one, put_two, two};
 use crate::name::{Name, Reference};
 use crate::word::Words;
+use std::alloc::AllocError;
 
 /// What a command's line begins with.
 #[derive(Clone, Copy)]
 pub enum Verb {
     Plain,
     Global,
+    Weak,
+    Local,
     Drop,
     Type,
+    Same,
 }
 
-const VERBS: [Verb; 4] = [Verb::Plain, Verb::Global, Verb::Drop, Verb::Type];
+const VERBS: [Verb; 7] = [
+    Verb::Plain,
+    Verb::Global,
+    Verb::Weak,
+    Verb::Local,
+    Verb::Drop,
+    Verb::Type,
+    Verb::Same,
+];
 
 /// A command of a thread.
 #[derive(Debug, Drop, PartialEq, Eq)]
@@ -26,10 +39,16 @@ pub enum Command {
     Plain { name: Name },
     /// `global N REF`: makes a global reference.
     Global { name: Name, target: Reference },
+    /// `weak N REF`: makes a weak global reference.
+    Weak { name: Name, target: Reference },
+    /// `local N REF`: makes a local reference.
+    Local { name: Name, target: Reference },
     /// `drop REF`: deletes a reference.
     Drop { target: Reference },
     /// `type REF`: prints what kind of reference it is.
     Type { target: Reference },
+    /// `same REF REF`: prints whether both refer to one object, or neither to any.
+    Same { left: Reference, right: Reference },
 }
 
 impl Verb {
@@ -40,8 +59,11 @@ impl Verb {
         match self {
             Verb::Plain => b"plain",
             Verb::Global => b"global",
+            Verb::Weak => b"weak",
+            Verb::Local => b"local",
             Verb::Drop => b"drop",
             Verb::Type => b"type",
+            Verb::Same => b"same",
         }
     }
 
@@ -67,6 +89,14 @@ impl Verb {
                 let (name, target) = two(words)?;
                 Ok(Command::Global { name, target })
             }
+            Verb::Weak => {
+                let (name, target) = two(words)?;
+                Ok(Command::Weak { name, target })
+            }
+            Verb::Local => {
+                let (name, target) = two(words)?;
+                Ok(Command::Local { name, target })
+            }
             Verb::Drop => {
                 let target = one(words)?;
                 Ok(Command::Drop { target })
@@ -75,6 +105,28 @@ impl Verb {
                 let target = one(words)?;
                 Ok(Command::Type { target })
             }
+            Verb::Same => {
+                let (left, right) = two(words)?;
+                Ok(Command::Same { left, right })
+            }
+        }
+    }
+}
+
+impl Command {
+    /// Writes its line, without the line feed.
+    #[tactic(auto, unfolding(crate::specs::Command::spelling_of))]
+    pub(crate) fn put(&self, out: &mut Vec<u8>) -> Result<(), AllocError>
+        ensures { OnOk result (out.new.items ≡ out.old.items ++ line (words_of_command self.now)) }
+    {
+        match self {
+            Command::Plain { name } => put_one(out, Verb::Plain.word(), name),
+            Command::Global { name, target } => put_two(out, Verb::Global.word(), name, target),
+            Command::Weak { name, target } => put_two(out, Verb::Weak.word(), name, target),
+            Command::Local { name, target } => put_two(out, Verb::Local.word(), name, target),
+            Command::Drop { target } => put_one(out, Verb::Drop.word(), target),
+            Command::Type { target } => put_one(out, Verb::Type.word(), target),
+            Command::Same { left, right } => put_two(out, Verb::Same.word(), left, right),
         }
     }
 }

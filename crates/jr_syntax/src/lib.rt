@@ -17,12 +17,17 @@ mod tests;
 mod thread;
 mod vm_line;
 mod word;
+mod writer;
 
 pub use command::Command;
 pub use fault::{Reason, ScriptFault};
-pub use laws::{a_script_has_no_fault, a_text_has_one_script};
+pub use laws::{
+    a_script_has_no_fault, a_script_printed_is_read_again, a_text_has_one_script,
+    a_text_read_is_printed_again,
+};
 pub use name::{Name, Reference, is_name};
 pub use reader::parse;
 pub use script::Script;
 pub use sequence::Sequence;
 pub use thread::ThreadPart;
+pub use writer::print;

@@ -5,9 +5,14 @@
 
 use crate::command::Command;
 use crate::fault::{Reason, ScriptFault};
+use crate::laws::{a_script_printed_is_read_again, a_text_read_is_printed_again};
 use crate::name::{Name, Reference, is_name};
 use crate::reader::parse;
 use crate::script::Script;
+use crate::sequence::Sequence;
+use crate::thread::ThreadPart;
+use crate::writer::print;
+use jr_word::Config;
 use std::alloc::{AllocError, Global};
 use std::process::Abort;
 use std::test::Fail;
@@ -95,6 +100,79 @@ fn a_global_reference_and_its_end(rt: HostRuntime) -> Result<(), Fail> {
         },
     ];
     commands(&rt, &script, &wanted);
+    let printed = print(rt.alloc(), &script)?;
+    assert_eq!(rt; printed, text);
+    Ok(())
+}
+
+#[test]
+fn references_of_each_kind(rt: HostRuntime) -> Result<(), Fail> {
+    let text = behind_head(rt.alloc(), b"weak w p\nlocal q w\nsame p q\nsame w null\n")?;
+    let script = parse(rt.alloc(), &text)?;
+    let named = |it: &[u8]| Reference::Named(name(&rt, it));
+    let wanted = [
+        Command::Weak {
+            name: name(&rt, b"w"),
+            target: named(b"p"),
+        },
+        Command::Local {
+            name: name(&rt, b"q"),
+            target: named(b"w"),
+        },
+        Command::Same {
+            left: named(b"p"),
+            right: named(b"q"),
+        },
+        Command::Same {
+            left: named(b"w"),
+            right: Reference::Null,
+        },
+    ];
+    commands(&rt, &script, &wanted);
+    let printed = a_text_read_is_printed_again(rt.alloc(), &text)?;
+    assert_eq!(rt; printed, text);
+    Ok(())
+}
+
+#[test]
+fn a_script_is_printed_and_read_again(rt: HostRuntime) -> Result<(), Fail> {
+    let mut part = ThreadPart {
+        name: name(&rt, b"main9"),
+        commands: Sequence::new(rt.alloc()),
+    };
+    part.commands.push(Command::Local {
+        name: name(&rt, b"l"),
+        target: Reference::Null,
+    })?;
+    part.commands.push(Command::Same {
+        left: Reference::Null,
+        right: Reference::Named(name(&rt, b"l")),
+    })?;
+    let mut script = Script {
+        config: Config {
+            threads: 1,
+            slots: 65_536,
+            objects: 10,
+            words: 0,
+            locals: 4_096,
+        },
+        threads: Sequence::new(rt.alloc()),
+    };
+    script.threads.push(part)?;
+    let printed = print(rt.alloc(), &script)?;
+    assert_eq!(rt;
+        printed.as_slice(),
+        b"vm threads 1 slots 65536 objects 10 words 0 locals 4096\nthread main9\nlocal l null\nsame null l\n".as_slice()
+    );
+    let again = a_script_printed_is_read_again(rt.alloc(), &script)?;
+    assert_eq!(rt; again.config, script.config);
+    assert_eq!(rt; again.threads.as_slice().len(), 1);
+    let part = &again.threads.as_slice()[0];
+    assert!(rt; part.name.is(b"main9"));
+    assert_eq!(rt;
+        part.commands.as_slice(),
+        script.threads.as_slice()[0].commands.as_slice()
+    );
     Ok(())
 }
 
@@ -265,8 +343,26 @@ fn faults_of_a_command_line(rt: HostRuntime) -> Result<(), Fail> {
     third_line(&rt, alloc, b"global null p\n", Reason::CommandExpected)?;
     third_line(&rt, alloc, b"global g\n", Reason::CommandExpected)?;
     third_line(&rt, alloc, b"global g p q\n", Reason::CommandExpected)?;
-    third_line(&rt, alloc, b"weak w p\n", Reason::CommandExpected)?;
+    third_line(&rt, alloc, b"int x 1\n", Reason::CommandExpected)?;
     third_line(&rt, alloc, b"Drop p\n", Reason::CommandExpected)?;
+    Ok(())
+}
+
+#[test]
+fn faults_of_lines_with_two_words_behind_the_verb(rt: HostRuntime) -> Result<(), Fail> {
+    let alloc = rt.alloc();
+    third_line(&rt, alloc, b"weak w\n", Reason::CommandExpected)?;
+    third_line(&rt, alloc, b"weak w p q\n", Reason::CommandExpected)?;
+    third_line(&rt, alloc, b"weak null p\n", Reason::CommandExpected)?;
+    third_line(&rt, alloc, b"weak w 9p\n", Reason::CommandExpected)?;
+    third_line(&rt, alloc, b"local l\n", Reason::CommandExpected)?;
+    third_line(&rt, alloc, b"local l p q\n", Reason::CommandExpected)?;
+    third_line(&rt, alloc, b"local null p\n", Reason::CommandExpected)?;
+    third_line(&rt, alloc, b"local l P\n", Reason::CommandExpected)?;
+    third_line(&rt, alloc, b"same p\n", Reason::CommandExpected)?;
+    third_line(&rt, alloc, b"same p q r\n", Reason::CommandExpected)?;
+    third_line(&rt, alloc, b"same p 1\n", Reason::CommandExpected)?;
+    third_line(&rt, alloc, b"same -p q\n", Reason::CommandExpected)?;
     Ok(())
 }
 
