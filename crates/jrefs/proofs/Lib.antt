@@ -1,2 +1,3 @@
 mod ReadBytes
 mod CommandLine
+mod HexWord

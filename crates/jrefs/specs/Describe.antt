@@ -1,20 +1,17 @@
 -- What `jrefs word` prints.
 use Rattle.std.specs.Prelude.{◌≡◌, ◌≢◌, ℕ, Bool, ◌&&◌, ◌||◌, nat_le, List, [], ◌∷◌, ◌++◌, length, Option, Some, None, codes, if◌then◌else◌}
 use Rattle.std.specs.List.{list_all}
-use Rattle.std.specs.Str.{digits_value}
+use Rattle.std.specs.Char.{is_ascii_hexdigit}
+use Rattle.std.specs.Str.Parse.{digits_value}
 use Rattle.std.specs.Fmt.{decimal}
 use Rattle.jr_word.specs.declared.handle.RefKind.{RefKind}
 use Rattle.jr_word.specs.declared.handle.RefKind.TheVariants.{Local, Global, Weak}
 use Rattle.jr_word.specs.declared.handle.HandleParts.{HandleParts}
 use Rattle.jr_word.specs.Handle.{handle_word, IsHandle}
 
--- a hexadecimal digit of either case
-abbrev pub is_hex_digit : ℕ → Bool
-is_hex_digit b = (nat_le 48 b && nat_le b 57) || ((nat_le 65 b && nat_le b 70) || (nat_le 97 b && nat_le b 102))
-
 -- the number that 1 to 16 hexadecimal digits stand for
 abbrev pub hex_value : List ℕ → Option ℕ
-hex_value text = if nat_le 1 (length text) && nat_le (length text) 16 && list_all is_hex_digit text then Some (digits_value 16 text) else None
+hex_value text = if nat_le 1 (length text) && (nat_le (length text) 16 && list_all is_ascii_hexdigit text) then Some (digits_value 16 text) else None
 
 abbrev pub kind_word : RefKind → List ℕ
 kind_word Local = codes "local"

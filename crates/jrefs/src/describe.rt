@@ -1,6 +1,8 @@
 //! What a word says as a handle, in words.
 
 ghost use Rattle.std.specs.Prelude.{◌≡◌, IfOk, string_bytes};
+ghost use Rattle.std.specs.Char.{is_ascii_hexdigit};
+ghost use Rattle.std.specs.List.{list_all};
 ghost use Rattle.jrefs.specs.Describe.{kind_word, hex_value, parts_line, Describes};
 
 use jr_word::{Handle, HandleParts, RefKind};
@@ -13,15 +15,17 @@ const MOST_DIGITS: usize = 16;
 pub fn word_of_hex(text: &str) -> Option<u64>
     ensures { result ≡ hex_value text.now }
 {
-    if text.len() > MOST_DIGITS || !is_hex(text.as_bytes()) {
+    if text.is_empty() || text.len() > MOST_DIGITS || !are_digits(text.as_bytes()) {
         return None;
     }
     u64::from_str_radix(text, 16).ok()
 }
 
-/// Whether there is a digit, and all are hexadecimal digits.
-fn is_hex(text: &[u8]) -> bool {
-    !text.is_empty() && text.iter().all(|byte| byte.is_ascii_hexdigit())
+/// Whether all bytes are hexadecimal digits.
+fn are_digits(text: &[u8]) -> bool
+    ensures { result ≡ list_all is_ascii_hexdigit text.now }
+{
+    text.iter().all(|byte| byte.is_ascii_hexdigit())
 }
 
 /// The name of a kind of reference.

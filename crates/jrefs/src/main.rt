@@ -3,6 +3,7 @@
 
 mod act;
 mod answer;
+mod describe;
 mod input;
 mod request;
 #[cfg(test)]
