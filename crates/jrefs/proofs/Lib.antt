@@ -1,3 +1,4 @@
 mod ReadBytes
 mod CommandLine
+mod CommandCount
 mod HexWord
