@@ -1,7 +1,6 @@
 -- What the program answers to the text of a script.
 use Rattle.std.specs.Prelude.{◌≡◌, ℕ, List, [], Some}
 use Rattle.jr_syntax.specs.declared.script.Script.{Script}
-use Rattle.jr_syntax.specs.declared.fault.Reason.{Reason}
 use Rattle.jr_syntax.specs.Script.{IsScript, text_of}
 use Rattle.jr_syntax.specs.Faults.{first_fault}
 use Rattle.jr_scripts.specs.Runs.{RunsSingle}

@@ -40,11 +40,16 @@ pub fn act<'a, R: Read + Drop, W: Write + Drop, F: Write + Drop>(
 {
     match carried_out(alloc, words, reader, writer) {
         Ok(()) => 0,
-        Err(trouble) => {
-            let _ = writeln!(faults, "{trouble}");
-            trouble.status()
-        }
+        Err(trouble) => tell(&trouble, faults),
     }
+}
+
+/// Writes why the program failed, and gives its exit status, also where the writer fails.
+pub fn tell<F: Write + Drop>(trouble: &Trouble, faults: &mut F) -> u8
+    ensures { result ≡ status_of trouble.now }
+{
+    let _ = writeln!(faults, "{trouble}");
+    trouble.status()
 }
 
 /// Does what the words ask for.

@@ -12,33 +12,48 @@ mod script;
 mod tests;
 mod trouble;
 
+use crate::act::tell;
 use crate::trouble::Trouble;
-use std::io;
+use std::io::ErrorKind;
 use std::process::ExitCode;
+use std::{env, io};
 
 fn main(rt: HostRuntime) -> ExitCode {
     ExitCode::from(run(&rt))
 }
 
+/// Runs the program, and gives the exit status.
 fn run(rt: &HostRuntime) -> u8 {
-    let alloc = rt.alloc();
-    let Ok(arguments) = std::env::args(rt) else {
-        return Trouble::Memory.status();
-    };
-    let Ok(words) = arguments.collect::<Vec<String>>(alloc) else {
-        return Trouble::Memory.status();
-    };
-    let mut texts = Vec::new(alloc);
-    for word in words.iter().skip(1) {
-        if texts.push(word.as_str()).is_err() {
-            return Trouble::Memory.status();
-        }
+    match act_on_arguments(rt) {
+        Ok(status) => status,
+        Err(trouble) => tell(&trouble, &mut rt.stderr()),
     }
-    act::act(
-        alloc,
-        texts.as_slice(),
+}
+
+/// Acts on the words of the command line, and gives the exit status.
+fn act_on_arguments(rt: &HostRuntime) -> Result<u8, Trouble> {
+    let arguments = arguments(rt)?;
+    let mut words = Vec::new(rt.alloc());
+    for argument in &arguments {
+        words.push(argument.as_str()).map_err(|_| Trouble::Memory)?;
+    }
+    Ok(act::act(
+        rt.alloc(),
+        words.as_slice(),
         &mut rt.reader(),
         &mut io::writer(rt),
         &mut rt.stderr(),
-    )
+    ))
+}
+
+/// The words of the command line, without the program's name. A word that is no text is refused as any other that is no command.
+fn arguments(rt: &HostRuntime) -> Result<Vec<String>, Trouble> {
+    match env::args(rt) {
+        Ok(all) => all
+            .skip(1)
+            .collect::<Vec<String>>(rt.alloc())
+            .map_err(|_| Trouble::Memory),
+        Err(error) if error.kind() == ErrorKind::OutOfMemory => Err(Trouble::Memory),
+        Err(_) => Err(Trouble::Usage),
+    }
 }

@@ -55,10 +55,10 @@ fn answered(output: &[u8]) -> Wanted<'_> {
 }
 
 /// Runs the program, and gives its status. Where memory was refused, nothing was written but that.
-fn run(
+fn run<'a>(
     rt: &impl Abort,
     alloc: Global,
-    words: &[&str],
+    words: &'a [&'a str],
     mut source: Source<'_>,
     output: &mut Sink,
     faults: &mut Sink,
@@ -78,10 +78,10 @@ fn sink(alloc: Global, most: usize, failing: usize) -> Result<Sink, Trouble> {
 }
 
 /// Runs the program over a reader, and checks its answer.
-fn reads(
+fn reads<'a>(
     rt: &impl Abort,
     alloc: Global,
-    words: &[&str],
+    words: &'a [&'a str],
     source: Source<'_>,
     wanted: Wanted<'_>,
 ) -> Result<(), Trouble> {

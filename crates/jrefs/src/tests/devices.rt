@@ -52,16 +52,7 @@ impl Read for Source<'_> {
     fn read(&mut self, buffer: &mut [u8]) -> io::Result<usize> {
         self.calls.make()?;
         let most = self.most.min(buffer.len());
-        let mut given = 0;
-        for place in buffer[..most].iter_mut() {
-            let Some((first, rest)) = self.rest.split_first() else {
-                break;
-            };
-            *place = *first;
-            self.rest = rest;
-            given += 1;
-        }
-        Ok(given)
+        self.rest.read(&mut buffer[..most])
     }
 }
 
