@@ -3,8 +3,8 @@
 //! Where memory is refused a test ends with `Trouble::Memory`: `act` has then answered status 3 with its text, and has
 //! written no output. Any other answer than the one that is wanted fails an assertion.
 
-mod commands;
 mod devices;
+mod replies;
 
 use crate::act::act;
 use crate::trouble::Trouble;
