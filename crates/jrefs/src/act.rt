@@ -1,14 +1,15 @@
 //! What the program does, over any reader and writers.
 
-ghost use Rattle.std.specs.Prelude.{◌≡◌, ◌≢◌, ◌≤◌, map, IfSome, IsSome, OnOk, IfOk, IfErr};
+ghost use Rattle.std.specs.Prelude.{◌≡◌, ◌≢◌, ◌≤◌, ◌⊎◌, map, ℕ, Some, None, IfSome, IsSome, OnOk, IfOk, IfErr, IsErrAnd};
 ghost use Rattle.std.specs.Io.KnownBytes.{Appends, Keeps};
 ghost use Rattle.jr_syntax.specs.Faults.{first_fault};
 ghost use Rattle.jrefs.specs.Act.{IsOutput, IsOutputFor, Prevents, Answers, AnswersWords, Leaves};
 ghost use Rattle.jrefs.specs.Describe.{Describes};
-ghost use Rattle.jrefs.specs.Request.{Asks};
+ghost use Rattle.jrefs.specs.Request.{Asks, asked_for};
 ghost use Rattle.jrefs.specs.declared.request.Request.{Request as AnyRequest};
+ghost use Rattle.jrefs.specs.declared.request.Request.TheVariants.{Word};
 ghost use Rattle.jrefs.specs.Trouble.{status_of};
-ghost use Rattle.jrefs.specs.declared.trouble.Trouble.TheVariants.{Memory, Output};
+ghost use Rattle.jrefs.specs.declared.trouble.Trouble.TheVariants.{Memory, Output, Usage};
 
 use crate::answer::answer_of;
 use crate::check::check_of;
@@ -32,10 +33,14 @@ pub fn act<'a, R: Read + Drop, W: Write + Drop, F: Write + Drop>(
     // Each request is taken, and is answered at status 0.
     ensures taken { (r : AnyRequest) → Asks r (map (λ w. w.now) words.entry.now)
         → (result ≢ 2) × (result ≡ 0 → Answers r (R.remaining reader.old) (W.contents writer.old) (W.contents writer.new)) }
+    // Words that ask for nothing are refused, unless memory runs out.
+    ensures refused { asked_for (map (λ w. w.now) words.entry.now) ≡ None → (result ≡ 2) ⊎ (result ≡ 3) }
     // Status 1: what was there to be read is no script.
     ensures faulty { result ≡ 1 → IfSome (R.remaining reader.old) (λ text. IsSome (first_fault text)) }
     // Nothing is written but an answer, unless a device fails.
     ensures silent { result ≢ 0 → result ≢ 4 → Keeps (W.contents writer.old) (W.contents writer.new) }
+    // A word is described without reading.
+    ensures unread { (w : ℕ) → asked_for (map (λ w. w.now) words.entry.now) ≡ Some (Word w) → R.remaining reader.new ≡ R.remaining reader.old }
     ensures known { result ≤ 4 }
 {
     match carried_out(alloc, words, reader, writer) {
@@ -59,9 +64,11 @@ fn carried_out<'a, R: Read + Drop, W: Write + Drop>(
     reader: &mut R,
     writer: &mut W,
 ) -> Result<(), Trouble>
+    ensures refused { asked_for (map (λ w. w.now) words.entry.now) ≡ None → IsErrAnd result (λ t. (t ≡ Memory) ⊎ (t ≡ Usage)) }
     ensures ok { OnOk result (AnswersWords (map (λ w. w.now) words.entry.now) (R.remaining reader.old) (W.contents writer.old) (W.contents writer.new)) }
     ensures err { IfErr result (λ t. Leaves t (R.remaining reader.old) (W.contents writer.old) (W.contents writer.new)) }
     ensures taken { (r : AnyRequest) → Asks r (map (λ w. w.now) words.entry.now) → IfErr result (λ t. status_of t ≢ 2) }
+    ensures unread { (w : ℕ) → asked_for (map (λ w. w.now) words.entry.now) ≡ Some (Word w) → R.remaining reader.new ≡ R.remaining reader.old }
 {
     let output = output_of(alloc, words, reader)?;
     write_out(writer, &output)
@@ -73,9 +80,11 @@ fn output_of<'a, R: Read + Drop>(
     words: &'a [&'a str],
     reader: &mut R,
 ) -> Result<Vec<u8>, Trouble>
+    ensures refused { asked_for (map (λ w. w.now) words.entry.now) ≡ None → IsErrAnd result (λ t. (t ≡ Memory) ⊎ (t ≡ Usage)) }
     ensures ok { IfOk result (λ output. IsOutputFor (map (λ w. w.now) words.entry.now) (R.remaining reader.old) output.items) }
     ensures err { IfErr result (λ t. Prevents t (R.remaining reader.old)) }
     ensures taken { (r : AnyRequest) → Asks r (map (λ w. w.now) words.entry.now) → IfErr result (λ t. status_of t ≢ 2) }
+    ensures unread { (w : ℕ) → asked_for (map (λ w. w.now) words.entry.now) ≡ Some (Word w) → R.remaining reader.new ≡ R.remaining reader.old }
 {
     let request = request_of(alloc, words)?;
     reply_to(alloc, request, reader)
@@ -90,6 +99,7 @@ fn reply_to<R: Read + Drop>(
     ensures ok { IfOk result (λ output. IsOutput request (R.remaining reader.old) output.items) }
     ensures err { IfErr result (λ t. Prevents t (R.remaining reader.old)) }
     ensures taken { IfErr result (λ t. status_of t ≢ 2) }
+    ensures unread { (w : ℕ) → request ≡ Word w → R.remaining reader.new ≡ R.remaining reader.old }
 {
     match request {
         Request::Run => {
