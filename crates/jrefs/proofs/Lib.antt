@@ -1,2 +1,5 @@
 mod ReadBytes
 mod CommandLine
+mod CommandCount
+mod FoundRequest
+mod HexWord

@@ -1,5 +1,5 @@
 -- What was read of a reader whose bytes are known.
-use Rattle.std.proofs.Common.{◌≡◌, ◌≤◌, ◌<◌, ℕ, List, ◌++◌, length, take, Option, None, Some, IfSome, refl, sym, ap, ◌∙◌, subst, arith, inl, inr, take_all}
+use Rattle.std.proofs.Common.{◌≡◌, ◌≤◌, ◌<◌, ℕ, List, [], ◌++◌, length, take, Option, None, Some, IfSome, refl, sym, ap, ◌∙◌, subst, arith, inl, inr, take_all}
 use Rattle.std.specs.Prelude.{◌⊎◌}
 use Rattle.std.specs.Io.KnownBytes.{Consumes, IsAtEnd}
 use Rattle.std.proofs.KnownBytes.{Consumes-whole}
@@ -13,6 +13,11 @@ use Rattle.jrefs.specs.declared.trouble.Trouble.{Trouble}
 use Rattle.jrefs.specs.declared.trouble.Trouble.TheVariants as troubles
 use Rattle.jrefs.specs.Answer.{IsAnswer, IsRefused}
 use Rattle.jrefs.specs.Act.{IsOutput, Prevents}
+use Rattle.jrefs.specs.Check.{IsCheck}
+use Rattle.jrefs.specs.Describe.{Describes}
+use Rattle.jrefs.specs.declared.request.Request.TheVariants.{Run, Check, Word}
+use Rattle.jr_syntax.specs.declared.script.Script.{Script}
+use Rattle.jr_syntax.specs.Script.{IsScript, text_of}
 
 -- a reader that is at its end gave all that it had, and that is within the limit
 pub all_read : (most : ℕ) (known rest : Option (List ℕ)) (bytes : List ℕ) → Consumes known rest bytes → IsAtEnd rest → length bytes ≤ most → IfSome known (λ all. bytes ≡ take most all)
@@ -50,15 +55,32 @@ fault_prevents known text troubles.Usage read fault = absurd fault
 fault_prevents known text troubles.Input read fault = absurd fault
 fault_prevents known text troubles.Output read fault = absurd fault
 
+-- a script that was read is all that was there
+pub script_is_all : (known : Option (List ℕ)) (s : Script) → IsScript s → IfSome known (λ bytes. text_of s ≡ take 65537 bytes) → IfSome known (λ bytes. bytes ≡ text_of s)
+script_is_all known s is read =
+    let within : length (text_of s) ≤ 65536 = leb-true _ _ is.bytes in
+    IfSome_then known read (λ bytes e. sym (e ∙ take-within bytes (subst (λ (t : List ℕ). length t ≤ 65536) e within)))
+
 -- the answer to what was read is one to all that was there
-pub answer_is_output : (known : Option (List ℕ)) (text output : List ℕ) → IfSome known (λ bytes. text ≡ take 65537 bytes) → IsAnswer 10000000 65535 text output → IsOutput known output
-answer_is_output known text output read answer =
-    let within : length text ≤ 65536 = subst (λ (t : List ℕ). length t ≤ 65536) (sym answer.2) (leb-true _ _ answer.1.bytes) in
-    record {
-      text = text;
-      read = IfSome_then known read (λ bytes e. sym (e ∙ take-within bytes (subst (λ (t : List ℕ). length t ≤ 65536) e within)));
-      answer = answer;
-    }
+pub answer_is_output : (known : Option (List ℕ)) (text output : List ℕ) → IfSome known (λ bytes. text ≡ take 65537 bytes) → IsAnswer 10000000 65535 text output → IsOutput Run known output
+answer_is_output known text output read answer = record {
+  text = text;
+  read = subst (λ (t : List ℕ). IfSome known (λ bytes. bytes ≡ t)) (sym answer.2) (script_is_all known answer.0 answer.1 (subst (λ (t : List ℕ). IfSome known (λ bytes. t ≡ take 65537 bytes)) answer.2 read));
+  reply = answer;
+}
+
+-- and so is the line of its script
+pub check_is_output : (known : Option (List ℕ)) (text output : List ℕ) → IfSome known (λ bytes. text ≡ take 65537 bytes) → IsCheck text output → IsOutput Check known output
+check_is_output known text output read checked = record {
+  text = text;
+  read = subst (λ (t : List ℕ). IfSome known (λ bytes. bytes ≡ t)) (sym checked.2) (script_is_all known checked.0 checked.1 (subst (λ (t : List ℕ). IfSome known (λ bytes. t ≡ take 65537 bytes)) checked.2 read));
+  reply = checked;
+}
+
+-- what a word says is output, whatever was there to be read
+pub word_is_output : (known : Option (List ℕ)) (w : ℕ) (output : List ℕ) → Describes w output → IsOutput (Word w) known output
+word_is_output None w output says = record { text = []; read = tt; reply = says }
+word_is_output (Some bytes) w output says = record { text = bytes; read = refl; reply = says }
 
 -- words that are refused prevent an output, whatever was there to be read
 pub words_prevent : (known : Option (List ℕ)) (t : Trouble) → (t ≡ troubles.Memory) ⊎ (t ≡ troubles.Usage) → Prevents t known

@@ -1,14 +1,19 @@
 //! What the program does, over any reader and writers.
 
-ghost use Rattle.std.specs.Prelude.{◌≡◌, ◌≢◌, ◌≤◌, IfSome, IsSome, OnOk, IfOk, IfErr};
+ghost use Rattle.std.specs.Prelude.{◌≡◌, ◌≢◌, ◌≤◌, ◌⊎◌, map, ℕ, Some, None, IfSome, IsSome, OnOk, IfOk, IfErr, IsErrAnd};
 ghost use Rattle.std.specs.Io.KnownBytes.{Appends, Keeps};
 ghost use Rattle.jr_syntax.specs.Faults.{first_fault};
-ghost use Rattle.jrefs.specs.Act.{IsOutput, Prevents, Answers, Leaves};
-ghost use Rattle.jrefs.specs.Request.{AsksToRun};
+ghost use Rattle.jrefs.specs.Act.{IsOutput, IsOutputFor, Prevents, Answers, AnswersWords, Leaves};
+ghost use Rattle.jrefs.specs.Describe.{Describes};
+ghost use Rattle.jrefs.specs.Request.{Asks, asked_for};
+ghost use Rattle.jrefs.specs.declared.request.Request.{Request as AnyRequest};
+ghost use Rattle.jrefs.specs.declared.request.Request.TheVariants.{Word};
 ghost use Rattle.jrefs.specs.Trouble.{status_of};
-ghost use Rattle.jrefs.specs.declared.trouble.Trouble.TheVariants.{Output};
+ghost use Rattle.jrefs.specs.declared.trouble.Trouble.TheVariants.{Memory, Output, Usage};
 
 use crate::answer::answer_of;
+use crate::check::check_of;
+use crate::describe::description_of;
 use crate::input::input_of;
 use crate::request::{Request, request_of};
 use crate::trouble::Trouble;
@@ -23,14 +28,19 @@ pub fn act<'a, R: Read + Drop, W: Write + Drop, F: Write + Drop>(
     writer: &mut W,
     faults: &mut F,
 ) -> u8
-    // Status 0: what was written answers what was there to be read.
-    ensures answered { result ≡ 0 → Answers (R.remaining reader.old) (W.contents writer.old) (W.contents writer.new) }
+    // Status 0: what was written answers what the words ask for.
+    ensures answered { result ≡ 0 → AnswersWords (map (λ w. w.now) words.entry.now) (R.remaining reader.old) (W.contents writer.old) (W.contents writer.new) }
+    // Each request is taken, and is answered at status 0.
+    ensures taken { (r : AnyRequest) → Asks r (map (λ w. w.now) words.entry.now)
+        → (result ≢ 2) × (result ≡ 0 → Answers r (R.remaining reader.old) (W.contents writer.old) (W.contents writer.new)) }
+    // Words that ask for nothing are refused, unless memory runs out.
+    ensures refused { asked_for (map (λ w. w.now) words.entry.now) ≡ None → (result ≡ 2) ⊎ (result ≡ 3) }
     // Status 1: what was there to be read is no script.
     ensures faulty { result ≡ 1 → IfSome (R.remaining reader.old) (λ text. IsSome (first_fault text)) }
     // Nothing is written but an answer, unless a device fails.
     ensures silent { result ≢ 0 → result ≢ 4 → Keeps (W.contents writer.old) (W.contents writer.new) }
-    // `run` is taken.
-    ensures run { AsksToRun words.entry.now → result ≢ 2 }
+    // A word is described without reading.
+    ensures unread { (w : ℕ) → asked_for (map (λ w. w.now) words.entry.now) ≡ Some (Word w) → R.remaining reader.new ≡ R.remaining reader.old }
     ensures known { result ≤ 4 }
 {
     match carried_out(alloc, words, reader, writer) {
@@ -54,9 +64,11 @@ fn carried_out<'a, R: Read + Drop, W: Write + Drop>(
     reader: &mut R,
     writer: &mut W,
 ) -> Result<(), Trouble>
-    ensures ok { OnOk result (Answers (R.remaining reader.old) (W.contents writer.old) (W.contents writer.new)) }
+    ensures refused { asked_for (map (λ w. w.now) words.entry.now) ≡ None → IsErrAnd result (λ t. (t ≡ Memory) ⊎ (t ≡ Usage)) }
+    ensures ok { OnOk result (AnswersWords (map (λ w. w.now) words.entry.now) (R.remaining reader.old) (W.contents writer.old) (W.contents writer.new)) }
     ensures err { IfErr result (λ t. Leaves t (R.remaining reader.old) (W.contents writer.old) (W.contents writer.new)) }
-    ensures run { AsksToRun words.entry.now → IfErr result (λ t. status_of t ≢ 2) }
+    ensures taken { (r : AnyRequest) → Asks r (map (λ w. w.now) words.entry.now) → IfErr result (λ t. status_of t ≢ 2) }
+    ensures unread { (w : ℕ) → asked_for (map (λ w. w.now) words.entry.now) ≡ Some (Word w) → R.remaining reader.new ≡ R.remaining reader.old }
 {
     let output = output_of(alloc, words, reader)?;
     write_out(writer, &output)
@@ -68,15 +80,48 @@ fn output_of<'a, R: Read + Drop>(
     words: &'a [&'a str],
     reader: &mut R,
 ) -> Result<Vec<u8>, Trouble>
-    ensures ok { IfOk result (λ output. IsOutput (R.remaining reader.old) output.items) }
+    ensures refused { asked_for (map (λ w. w.now) words.entry.now) ≡ None → IsErrAnd result (λ t. (t ≡ Memory) ⊎ (t ≡ Usage)) }
+    ensures ok { IfOk result (λ output. IsOutputFor (map (λ w. w.now) words.entry.now) (R.remaining reader.old) output.items) }
     ensures err { IfErr result (λ t. Prevents t (R.remaining reader.old)) }
-    ensures run { AsksToRun words.entry.now → IfErr result (λ t. status_of t ≢ 2) }
+    ensures taken { (r : AnyRequest) → Asks r (map (λ w. w.now) words.entry.now) → IfErr result (λ t. status_of t ≢ 2) }
+    ensures unread { (w : ℕ) → asked_for (map (λ w. w.now) words.entry.now) ≡ Some (Word w) → R.remaining reader.new ≡ R.remaining reader.old }
 {
-    match request_of(alloc, words)? {
+    let request = request_of(alloc, words)?;
+    reply_to(alloc, request, reader)
+}
+
+/// The output of a request.
+fn reply_to<R: Read + Drop>(
+    alloc: Global,
+    request: Request,
+    reader: &mut R,
+) -> Result<Vec<u8>, Trouble>
+    ensures ok { IfOk result (λ output. IsOutput request (R.remaining reader.old) output.items) }
+    ensures err { IfErr result (λ t. Prevents t (R.remaining reader.old)) }
+    ensures taken { IfErr result (λ t. status_of t ≢ 2) }
+    ensures unread { (w : ℕ) → request ≡ Word w → R.remaining reader.new ≡ R.remaining reader.old }
+{
+    match request {
         Request::Run => {
             let input = input_of(alloc, reader)?;
             answer_of(alloc, &input)
         }
+        Request::Check => {
+            let input = input_of(alloc, reader)?;
+            check_of(alloc, &input)
+        }
+        Request::Word(word) => line_of_word(alloc, word),
+    }
+}
+
+/// The line of a word.
+fn line_of_word(alloc: Global, word: u64) -> Result<Vec<u8>, Trouble>
+    ensures ok { IfOk result (λ output. Describes word output.items) }
+    ensures err { IfErr result (λ t. t ≡ Memory) }
+{
+    match description_of(alloc, word) {
+        Ok(text) => Ok(text.into_bytes()),
+        Err(_) => Err(Trouble::Memory),
     }
 }
 

@@ -3,9 +3,9 @@
 ghost use Rattle.std.specs.Prelude.{◌≡◌, IfOk, IfErr};
 ghost use Rattle.jrefs.specs.Answer.{IsAnswer, IsRefused};
 
+use crate::script::script_of;
 use crate::trouble::Trouble;
 use jr_scripts::run_one;
-use jr_syntax::{ScriptFault, parse};
 use std::alloc::Global;
 
 /// How often a call is made that is raced or barred.
@@ -16,11 +16,7 @@ pub fn answer_of(alloc: Global, text: &[u8]) -> Result<Vec<u8>, Trouble>
     ensures answer { IfOk result (λ output. IsAnswer 10000000 65535 text.now output.items) }
     ensures refused { IfErr result (IsRefused text.now) }
 {
-    let script = match parse(alloc, text) {
-        Ok(script) => script,
-        Err(ScriptFault::At(line, reason)) => return Err(Trouble::Script { line, reason }),
-        Err(ScriptFault::Memory) => return Err(Trouble::Memory),
-    };
+    let script = script_of(alloc, text)?;
     let mut output = Vec::new(alloc);
     match run_one(alloc, &script, TURNS, &mut output) {
         Ok(()) => Ok(output),

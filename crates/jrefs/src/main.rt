@@ -3,8 +3,11 @@
 
 mod act;
 mod answer;
+mod check;
+mod describe;
 mod input;
 mod request;
+mod script;
 #[cfg(test)]
 mod tests;
 mod trouble;

@@ -4,6 +4,7 @@
 //! written no output. Any other answer than the one that is wanted fails an assertion.
 
 mod devices;
+mod replies;
 
 use crate::act::act;
 use crate::trouble::Trouble;
@@ -272,14 +273,16 @@ fn faults_of_scripts(rt: HostRuntime) -> Result<(), Fail> {
 
 #[test]
 fn words_that_are_no_command(rt: HostRuntime) -> Result<(), Fail> {
-    let rows: [&[&str]; 16] = [
+    let rows: [&[&str]; 18] = [
         &[],
         &[""],
         &["walk"],
         &["Run"],
-        &["check"],
+        &["Check"],
+        &["check", "x"],
+        &["check", "run"],
         &["word"],
-        &["word", "c0016"],
+        &["word", "--help"],
         &["--help"],
         &["-h"],
         &["--version"],

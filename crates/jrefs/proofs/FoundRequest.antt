@@ -1,0 +1,46 @@
+-- The request that was found, by the command's name and its argument.
+use Rattle.std.proofs.Common.{◌≡◌, ◌≢◌, List, Option, Some, None, codes, Bool, true, false, ap, ap₂, sym, refl, ◌∙◌, option_map}
+use Rattle.std.specs.Prelude.{option_and_then}
+use Rattle.std.specs.Borrow.{Bor}
+use Rattle.std.specs.Str.{bytes_eq}
+use Rattle.std.proofs.lemmas.Slice.Eq.{bytes_eq-Decides}
+use Rattle.clap.specs.Words.{Text, Row, first_of, first_value, found_of, rows_of, subcommand_name_of, subcommand_rows_of}
+use Rattle.clap.specs.declared.parser.matches.ArgMatches.{ArgMatches}
+use Rattle.clap.specs.declared.parser.matches.ArgMatches.TheViews.{out-ArgMatches}
+use Rattle.clap.proofs.WalkLemmas.{first_value-rows}
+use Rattle.jrefs.specs.declared.request.Request.{Request}
+use Rattle.jrefs.specs.declared.request.Request.TheVariants.{Word}
+use Rattle.jrefs.specs.Describe.{hex_value}
+use Rattle.jrefs.specs.Request.{request_found, request_of_command}
+
+option_map-twice : {A B C : Type 0} (f : B → C) (g : A → B) (o : Option A) → option_map f (option_map g o) ≡ option_map (λ x. f (g x)) o
+option_map-twice f g None = refl
+option_map-twice f g (Some x) = refl
+
+-- the name of the command that was found
+name_is : (m : ArgMatches) → option_map (λ p. p.0) (subcommand_rows_of m) ≡ subcommand_name_of m
+name_is m = option_map-twice (λ p. p.0) _ (out-ArgMatches m).subcommand
+
+pair_is : (o : Option (Text × List Row)) (name : Text) (rows : List Row) → option_map (λ p. p.0) o ≡ Some name → option_map (λ p. p.1) o ≡ Some rows → o ≡ Some (name, rows)
+pair_is None name rows e f = cc
+pair_is (Some p) name rows e f =
+    let first : p.0 ≡ name = cc in
+    let second : p.1 ≡ rows = cc in
+    ap₂ (λ (x : Text) (y : List Row). Some (x, y)) first second
+
+refuted : (t : Bool) → (t ≡ true → ⊥) → t ≡ false
+refuted false never = refl
+refuted true never = absurd (never refl)
+
+-- a command of another name than `run` and `check` asks for the word that its argument says
+pub word_found : (m inner : ArgMatches) (name : Text) (argument : Option (Bor Text)) → Some name ≡ subcommand_name_of m → Some (rows_of (found_of inner)) ≡ option_map (λ p. p.1) (subcommand_rows_of m) → name ≢ codes "run" → name ≢ codes "check" → option_map (λ s. s.now) argument ≡ first_value (found_of inner) (codes "hex") → request_found (subcommand_rows_of m) ≡ option_map Word (option_and_then hex_value (option_map (λ s. s.now) argument))
+word_found m inner name argument named rows not_run not_check first =
+    let row = pair_is (subcommand_rows_of m) name (rows_of (found_of inner)) (name_is m ∙ sym named) (sym rows) in
+    ap request_found row
+    ∙ other name (first_of (codes "hex") (rows_of (found_of inner))) (unequal name (codes "run") not_run) (unequal name (codes "check") not_check)
+    ∙ ap (λ (t : Option Text). option_map Word (option_and_then hex_value t)) (sym (first ∙ first_value-rows (found_of inner) (codes "hex")))
+  where
+    unequal : (x y : Text) → x ≢ y → bytes_eq x y ≡ false
+    unequal x y apart = refuted (bytes_eq x y) (λ e. apart ((bytes_eq-Decides x y).0 e))
+    other : (name : Text) (t : Option Text) → bytes_eq name (codes "run") ≡ false → bytes_eq name (codes "check") ≡ false → request_of_command name t ≡ option_map Word (option_and_then hex_value t)
+    other name t e f = rw (e, f) refl
