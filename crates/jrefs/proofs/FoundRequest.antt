@@ -42,5 +42,6 @@ word_found m inner name argument named rows not_run not_check first =
   where
     unequal : (x y : Text) → x ≢ y → bytes_eq x y ≡ false
     unequal x y apart = refuted (bytes_eq x y) (λ e. apart ((bytes_eq-Decides x y).0 e))
+
     other : (name : Text) (t : Option Text) → bytes_eq name (codes "run") ≡ false → bytes_eq name (codes "check") ≡ false → request_of_command name t ≡ option_map Word (option_and_then hex_value t)
     other name t e f = rw (e, f) refl
