@@ -8,7 +8,6 @@ use Rattle.clap.specs.Words.{Text, Row, first_of, first_value, found_of, rows_of
 use Rattle.clap.specs.declared.parser.matches.ArgMatches.{ArgMatches}
 use Rattle.clap.specs.declared.parser.matches.ArgMatches.TheViews.{out-ArgMatches}
 use Rattle.clap.proofs.WalkLemmas.{first_value-rows}
-use Rattle.jrefs.specs.declared.request.Request.{Request}
 use Rattle.jrefs.specs.declared.request.Request.TheVariants.{Word}
 use Rattle.jrefs.specs.Describe.{hex_value}
 use Rattle.jrefs.specs.Request.{request_found, request_of_command}
@@ -42,5 +41,6 @@ word_found m inner name argument named rows not_run not_check first =
   where
     unequal : (x y : Text) → x ≢ y → bytes_eq x y ≡ false
     unequal x y apart = refuted (bytes_eq x y) (λ e. apart ((bytes_eq-Decides x y).0 e))
+
     other : (name : Text) (t : Option Text) → bytes_eq name (codes "run") ≡ false → bytes_eq name (codes "check") ≡ false → request_of_command name t ≡ option_map Word (option_and_then hex_value t)
     other name t e f = rw (e, f) refl
