@@ -8,7 +8,6 @@ use Rattle.clap.specs.Words.{Text, Row, first_of, first_value, found_of, rows_of
 use Rattle.clap.specs.declared.parser.matches.ArgMatches.{ArgMatches}
 use Rattle.clap.specs.declared.parser.matches.ArgMatches.TheViews.{out-ArgMatches}
 use Rattle.clap.proofs.WalkLemmas.{first_value-rows}
-use Rattle.jrefs.specs.declared.request.Request.{Request}
 use Rattle.jrefs.specs.declared.request.Request.TheVariants.{Word}
 use Rattle.jrefs.specs.Describe.{hex_value}
 use Rattle.jrefs.specs.Request.{request_found, request_of_command}

@@ -1,5 +1,5 @@
 -- The word that the argument says, if it says one.
-use Rattle.std.proofs.Common.{◌≡◌, ◌∙◌, ap, sym, option_map, Option, None, Some}
+use Rattle.std.proofs.Common.{◌∙◌, ap, sym, option_map, Option}
 use Rattle.std.specs.Prelude.{option_and_then}
 use Rattle.std.specs.Borrow.{Bor}
 use Rattle.clap.specs.Words.{Text}
