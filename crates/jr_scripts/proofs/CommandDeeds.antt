@@ -10,9 +10,9 @@ use Rattle.jr_syntax.specs.declared.name.Reference.{Reference}
 use Rattle.jr_syntax.specs.declared.command.Command.{Command}
 use Rattle.jr_syntax.specs.declared.command.Command.TheVariants as commands
 use Rattle.jr_scripts.specs.declared.reply.Reply.TheVariants as replies
-use Rattle.jr_scripts.specs.declared.steps.Known.{Known}
+use Rattle.jr_rule.specs.declared.steps.Known.{Known}
 use Rattle.jr_scripts.specs.Names.{Names, referent, wanted}
-use Rattle.jr_scripts.specs.Knowing.{Standing}
+use Rattle.jr_rule.specs.Knowing.{Standing}
 use Rattle.jr_scripts.specs.Reading.{IsReadAs}
 use Rattle.jr_scripts.specs.Deeds.{Moment, Deed, Does, get_object_ref_type, is_same_object}
 use Rattle.jr_scripts.specs.Tries.{Tried, answered, again, gave_up, is_tried_again}

@@ -13,9 +13,9 @@ use Rattle.jr_model.specs.Frames.{Frames}
 use Rattle.jr_model.specs.Calls.{Ran, act, refuse, ◌>>◌}
 use Rattle.jr_model.specs.Parts.{delete, delete_found}
 use Rattle.jr_model.proofs.Runs.{ran_act, ran_some_act, ran_refuse, ran_then, did_legal}
-use Rattle.jr_scripts.specs.declared.steps.Known.{Known}
-use Rattle.jr_scripts.specs.Acts.{found_object}
-use Rattle.jr_scripts.specs.Knowing.{Standing, view, anything, nothing, HasLooked, MayKnow, Took, Goes}
+use Rattle.jr_rule.specs.declared.steps.Known.{Known}
+use Rattle.jr_rule.specs.Acts.{found_object}
+use Rattle.jr_rule.specs.Knowing.{Standing, view, anything, nothing, HasLooked, MayKnow, Took, Goes}
 use Rattle.jr_scripts.specs.Performing.{Performed}
 use Rattle.jr_scripts.specs.Reading.{found_answer}
 use Rattle.jr_scripts.proofs.Known.{goes_did, looked_now}

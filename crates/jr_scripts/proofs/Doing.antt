@@ -11,8 +11,8 @@ use Rattle.jr_model.specs.State.{Handle}
 use Rattle.jr_model.specs.Frames.{Frames}
 use Rattle.jr_model.specs.Calls.{Call, Ran}
 use Rattle.jr_model.specs.Tests.{Word}
-use Rattle.jr_scripts.specs.declared.steps.Known.{Known}
-use Rattle.jr_scripts.specs.Knowing.{Standing, IsOf, view}
+use Rattle.jr_rule.specs.declared.steps.Known.{Known}
+use Rattle.jr_rule.specs.Knowing.{Standing, IsOf, view}
 use Rattle.jr_scripts.specs.Performing.{Calls}
 use Rattle.jr_scripts.specs.Reading.{IsReadAs}
 use Rattle.jr_scripts.specs.Deeds.{Deed, Does, answered_by, call, call_on, call_on_both, packed, packed_if}

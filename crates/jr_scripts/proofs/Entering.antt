@@ -12,9 +12,9 @@ use Rattle.jr_model.specs.declared.event.Act.TheVariants.{Enter, Knock, Leave, W
 use Rattle.jr_model.specs.Frames.{Frames, fresh_frames, object_at}
 use Rattle.jr_model.specs.Calls.{Call, entered}
 use Rattle.jr_model.proofs.Runs.{ran_entered}
-use Rattle.jr_scripts.specs.declared.steps.Known.{Known}
+use Rattle.jr_rule.specs.declared.steps.Known.{Known}
 use Rattle.jr_scripts.specs.Table.{Table}
-use Rattle.jr_scripts.specs.Knowing.{Standing, moved, anything, nothing, HasNoLocals, MayKnow, Took, Acted}
+use Rattle.jr_rule.specs.Knowing.{Standing, moved, anything, nothing, HasNoLocals, MayKnow, Took, Acted}
 use Rattle.jr_scripts.specs.Performing.{Calls}
 use Rattle.jr_scripts.specs.Ready.{IsReady, KeepsOwner, Completes}
 use Rattle.jr_scripts.proofs.Known.{goes_did, holds_did}

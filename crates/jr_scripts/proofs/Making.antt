@@ -20,10 +20,10 @@ use Rattle.jr_model.specs.References.{added, room_for}
 use Rattle.jr_model.proofs.Counts.{count_none}
 use Rattle.jr_model.proofs.Moments.{sometime_last, one_act}
 use Rattle.jr_model.proofs.Runs.{ran_then, ran_err}
-use Rattle.jr_scripts.specs.declared.steps.Known.{Known}
+use Rattle.jr_rule.specs.declared.steps.Known.{Known}
 use Rattle.jr_scripts.specs.Works.{making}
 use Rattle.jr_scripts.specs.Table.{Table, IsNext, IsOnly}
-use Rattle.jr_scripts.specs.Knowing.{Standing, IsOf, view, anything, nothing, HasOptional, MayKnow, Took}
+use Rattle.jr_rule.specs.Knowing.{Standing, IsOf, view, anything, nothing, HasOptional, MayKnow, Took}
 use Rattle.jr_scripts.specs.Performing.{Published, Calls}
 use Rattle.jr_scripts.specs.Ready.{IsReady}
 use Rattle.jr_scripts.proofs.Known.{goes_did, holds_did, holds_put}

@@ -12,14 +12,14 @@ use Rattle.jr_model.specs.Frames.{Frames, IsAdded, free_places}
 use Rattle.jr_model.specs.Calls.{Call, Ran, ◌>>=◌}
 use Rattle.jr_model.specs.References.{added, new_local, room_for}
 use Rattle.jr_model.proofs.Runs.{ran_then, ran_give}
-use Rattle.jr_scripts.specs.declared.steps.Known.{Known}
+use Rattle.jr_rule.specs.declared.steps.Known.{Known}
 use Rattle.jr_scripts.specs.Works.{local_creation}
 use Rattle.jr_scripts.specs.Table.{Table, IsNext, IsOnly}
-use Rattle.jr_scripts.specs.Knowing.{Standing, IsOf, view, nothing, HasObject, HasOptional, Holds, MayKnow, Took}
+use Rattle.jr_rule.specs.Knowing.{Standing, IsOf, view, nothing, HasObject, HasOptional, Holds, MayKnow, Took}
 use Rattle.jr_scripts.specs.Performing.{FoundPresent, Resolves, Calls, MakesLocal}
 use Rattle.jr_scripts.specs.Ready.{IsReady}
 use Rattle.jr_scripts.proofs.Entering.{same_owner, ready_after}
-use Rattle.jr_scripts.proofs.InRoom.{in_room}
+use Rattle.jr_rule.proofs.InRoom.{in_room}
 use Rattle.jr_scripts.proofs.Known.{goes_did, holds_put}
 use Rattle.jr_scripts.proofs.Reading.{ran_refused}
 use Rattle.jr_scripts.proofs.Making.{room_at, room_ran}

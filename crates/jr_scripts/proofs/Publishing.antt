@@ -5,8 +5,8 @@ use Rattle.jr_model.specs.declared.event.Role.TheVariants.{Within}
 use Rattle.jr_model.specs.declared.event.Act.TheVariants.{New}
 use Rattle.jr_model.specs.History.{Did}
 use Rattle.jr_model.proofs.Stays.{did_then, did_nothing}
-use Rattle.jr_scripts.specs.declared.steps.Known.{Known}
-use Rattle.jr_scripts.specs.Knowing.{Standing, IsOf, view, anything, HasObject, Took}
+use Rattle.jr_rule.specs.declared.steps.Known.{Known}
+use Rattle.jr_rule.specs.Knowing.{Standing, IsOf, view, anything, HasObject, Took}
 use Rattle.jr_scripts.specs.Performing.{Published}
 use Rattle.jr_scripts.proofs.Known.{goes_did, present_stays}
 

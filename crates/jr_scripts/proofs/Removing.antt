@@ -17,11 +17,11 @@ use Rattle.jr_model.specs.Tests.{Nothing, Malformed, Parts, is_local, is_out_of_
 use Rattle.jr_model.specs.Parts.{delete, delete_found, drop_local, looked_at}
 use Rattle.jr_model.proofs.Agreement.{spares_places}
 use Rattle.jr_model.proofs.Runs.{ran_done, ran_then, ran_err}
-use Rattle.jr_scripts.specs.declared.steps.Known.{Known}
+use Rattle.jr_rule.specs.declared.steps.Known.{Known}
 use Rattle.jr_scripts.specs.Works.{removal, local_removal}
 use Rattle.jr_scripts.specs.Table.{IsOnly}
 use Rattle.jr_scripts.specs.Reading.{local_answer}
-use Rattle.jr_scripts.specs.Knowing.{Standing, IsOf, view, anything, nothing, HasOptional, Took}
+use Rattle.jr_rule.specs.Knowing.{Standing, IsOf, view, anything, nothing, HasOptional, Took}
 use Rattle.jr_scripts.specs.Performing.{Performed, Calls}
 use Rattle.jr_scripts.proofs.Known.{goes_did, holds_did, holds_put}
 use Rattle.jr_scripts.proofs.Reading.{ran_refused, ran_passed, ran_local}

@@ -13,8 +13,8 @@ use Rattle.jr_model.specs.Calls.{Call, Ran, done}
 use Rattle.jr_model.specs.Tests.{Word, Parts, is_local, is_malformed, is_out_of_bounds, is_foreign, type_found}
 use Rattle.jr_model.specs.Parts.{looked, looked_at, type_at}
 use Rattle.jr_model.specs.References.{resolved}
-use Rattle.jr_scripts.specs.declared.steps.Known.{Known}
-use Rattle.jr_scripts.specs.Knowing.{Standing, IsOf, view, anything, nothing, Holds, Goes, Took}
+use Rattle.jr_rule.specs.declared.steps.Known.{Known}
+use Rattle.jr_rule.specs.Knowing.{Standing, IsOf, view, anything, nothing, Holds, Goes, Took}
 use Rattle.jr_scripts.specs.Performing.{FoundPresent, Resolves, Calls}
 use Rattle.jr_scripts.specs.Reading.{found_answer, local_answer}
 use Rattle.jr_scripts.proofs.Known.{goes_did, looked_present, holds_did, local_present}

@@ -12,8 +12,8 @@ use Rattle.jr_model.specs.Tests.{Word, is_malformed, is_out_of_bounds, is_foreig
 use Rattle.jr_model.specs.Parts.{looked}
 use Rattle.jr_model.specs.References.{resolved_both}
 use Rattle.jr_model.proofs.Runs.{ran_then, ran_err, ran_give}
-use Rattle.jr_scripts.specs.declared.steps.Known.{Known}
-use Rattle.jr_scripts.specs.Knowing.{Standing, IsOf}
+use Rattle.jr_rule.specs.declared.steps.Known.{Known}
+use Rattle.jr_rule.specs.Knowing.{Standing, IsOf}
 use Rattle.jr_scripts.specs.Performing.{Resolves, Calls}
 use Rattle.jr_scripts.proofs.Reading.{neither, ran_either, ran_neither}
 use Rattle.jr_scripts.proofs.Resolving.{stays}

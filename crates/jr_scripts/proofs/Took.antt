@@ -12,9 +12,9 @@ use Rattle.jr_model.specs.History.{PassView, Did, role_after}
 use Rattle.jr_model.specs.Refusals.{Sometime}
 use Rattle.jr_model.proofs.Moments.{prefix_self, sometime_wider, probed_occupied}
 use Rattle.jr_model.proofs.Stays.{did_then}
-use Rattle.jr_scripts.specs.declared.steps.Known.{Known}
-use Rattle.jr_scripts.specs.Acts.{handle_of, is_occupied}
-use Rattle.jr_scripts.specs.Knowing.{Standing, IsOf, view, moved, anything, HasObject, IsFreeSlot, LostClaim, Took, Acted}
+use Rattle.jr_rule.specs.declared.steps.Known.{Known}
+use Rattle.jr_rule.specs.Acts.{handle_of, is_occupied}
+use Rattle.jr_rule.specs.Knowing.{Standing, IsOf, view, moved, anything, HasObject, IsFreeSlot, LostClaim, Took, Acted}
 use Rattle.jr_scripts.specs.Performing.{Searched, search_acts, EachOccupied}
 use Rattle.jr_scripts.proofs.Known.{goes_did, present_stays}
 
@@ -39,16 +39,6 @@ only_one : (P : ℕ → Type 0) (i : ℕ) → P i → (j : ℕ) → i ≤ j → 
 only_one P i p j l m = subst P (let e : i ≡ j = omega arith in e) p
 
 module _ {S : Type 0} {stands : S → Standing} {knows : S → Known → Type 0} where
-  pub took_acted : {old new : S} {acts : List Act} {met : Known → Type 0} {shows : Known → Known → Type 0} → Took stands knows old new acts met shows → Acted stands knows old new acts met
-  took_acted t = record { stands_is = t.stands_is; did = λ k s m. let g = t.goes k s m in (g.0, g.1, goes_did g.2) }
-
-  -- an act and then others
-  pub acted_more : {a b c : S} {x : Act} {ys : List Act} {met : Known → Type 0} → Acted stands knows a b (x ∷ []) met → Acted stands knows b c ys anything → Acted stands knows a c (x ∷ ys) met
-  acted_more {x} {ys} p q = record {
-    stands_is = q.stands_is ∙ ap (λ s. moved s ys) p.stands_is;
-    did = λ k s m. let g = p.did k s m in let h = q.did g.0 g.1 tt in (h.0, h.1, did_then (x ∷ []) ys g.2 h.2);
-  }
-
   module _ (fits : (s : S) (k : Known) → knows s k → IsOf (stands s) k) where
     -- a step inside keeps what is present
     pub took_present : {a b : S} {x : Act} {met : Known → Type 0} {shows : Known → Known → Type 0} → Took stands knows a b (x ∷ []) met shows → (stands a).role ≡ Within → x ≢ Leave

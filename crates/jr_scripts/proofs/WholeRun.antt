@@ -9,11 +9,11 @@ use Rattle.jr_model.specs.History.{PassView, IsLegal, state}
 use Rattle.jr_model.specs.Frames.{Frames, fresh_frames}
 use Rattle.jr_syntax.specs.declared.command.Command.{Command}
 use Rattle.jr_syntax.specs.declared.thread.ThreadPart.{ThreadPart}
-use Rattle.jr_scripts.specs.declared.steps.Known.{Known}
-use Rattle.jr_scripts.specs.Knowing.{Standing, IsOf, view, Holds}
+use Rattle.jr_rule.specs.declared.steps.Known.{Known}
+use Rattle.jr_rule.specs.Knowing.{Standing, IsOf, view, Holds}
 use Rattle.jr_scripts.specs.Deeds.{moment}
-use Rattle.jr_scripts.specs.declared.plain.PlainSteps.{PlainSteps}
-use Rattle.jr_scripts.specs.Plain.{unseen, standing, Shows}
+use Rattle.jr_rule.specs.declared.plain.PlainSteps.{PlainSteps}
+use Rattle.jr_rule.specs.Plain.{unseen, standing, Shows}
 use Rattle.jr_scripts.specs.Text.{heading, ending}
 use Rattle.jr_scripts.specs.Explains.{Explained}
 use Rattle.jr_scripts.specs.Runs.{RanThread, IsRun, seeing, opening_moment}

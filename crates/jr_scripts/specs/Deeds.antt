@@ -11,8 +11,8 @@ use Rattle.jr_model.specs.History.{PassView, state}
 use Rattle.jr_model.specs.Frames.{Frames}
 use Rattle.jr_model.specs.Calls.{Call, Ran}
 use Rattle.jr_model.specs.Tests.{Word}
-use Rattle.jr_scripts.specs.declared.steps.Known.{Known}
-use Rattle.jr_scripts.specs.Knowing.{Standing, view, Holds}
+use Rattle.jr_rule.specs.declared.steps.Known.{Known}
+use Rattle.jr_rule.specs.Knowing.{Standing, view, Holds}
 use Rattle.jr_scripts.specs.Reading.{IsReadAs}
 
 -- a moment of an env: what its pass knows, and the frames

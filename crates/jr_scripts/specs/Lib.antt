@@ -1,5 +1,3 @@
-pub mod Acts
-pub mod Knowing
 pub mod Performing
 pub mod Reading
 pub mod Works
@@ -13,6 +11,3 @@ pub mod Commands
 pub mod Text
 pub mod Explains
 pub mod Runs
-pub mod Image
-pub mod Slots
-pub mod Plain

@@ -11,8 +11,8 @@ use Rattle.jr_model.specs.History.{PassView, Did}
 use Rattle.jr_model.specs.Refusals.{Sometime}
 use Rattle.jr_model.specs.Frames.{Frames}
 use Rattle.jr_model.specs.Calls.{Call, Ran}
-use Rattle.jr_scripts.specs.declared.steps.Known.{Known}
-use Rattle.jr_scripts.specs.Knowing.{Standing, view, state_of, HasObject, HasOptional, Holds}
+use Rattle.jr_rule.specs.declared.steps.Known.{Known}
+use Rattle.jr_rule.specs.Knowing.{Standing, view, state_of, HasObject, HasOptional, Holds}
 
 -- every object number of the room is present
 abbrev pub EachPresent : Config → State → Type 0

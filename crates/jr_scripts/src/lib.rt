@@ -4,11 +4,9 @@
 pub mod calls;
 pub mod env;
 pub mod frames;
-pub mod gate;
 mod names;
 pub mod object;
 mod perform;
-pub mod plain;
 mod printed;
 pub mod reference;
 mod reply;
@@ -16,7 +14,6 @@ pub mod resolve;
 pub mod row;
 mod run;
 mod single;
-pub mod steps;
 #[cfg(test)]
 mod tests;
 mod tries;

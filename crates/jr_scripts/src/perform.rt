@@ -9,7 +9,7 @@ use crate::env::Env;
 use crate::names::Names;
 use crate::reference::Reference;
 use crate::reply::Reply;
-use crate::steps::Steps;
+use jr_rule::Steps;
 use crate::tries::tried;
 use jr_syntax::Command;
 use jr_word::{Fault, Handle, RefKind};

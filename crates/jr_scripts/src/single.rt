@@ -6,7 +6,7 @@ ghost use Rattle.jr_word.specs.Config.{in_limits};
 ghost use Rattle.jr_scripts.specs.Runs.{IsRun, IsSingle, RunsSingle};
 
 use crate::env::Env;
-use crate::plain::PlainSteps;
+use jr_rule::PlainSteps;
 use crate::printed::{ending, heading};
 use crate::run::run_thread;
 use jr_syntax::{Script, ThreadPart};

@@ -4,7 +4,7 @@
 //! one that is wanted fails an assertion: so each growth may be refused in turn, and the assertions stand.
 
 use crate::env::Env;
-use crate::plain::PlainSteps;
+use jr_rule::PlainSteps;
 use crate::run::run_thread;
 use crate::single::run_one;
 use jr_syntax::{Command, Name, Reference, Script, Sequence, ThreadPart, is_name, parse};

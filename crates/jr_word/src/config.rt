@@ -16,8 +16,8 @@ pub struct Config {
 }
 
 impl Config {
-    ghost use Rattle.std.specs.Prelude.{◌≡◌};
-    ghost use Rattle.jr_word.specs.Config.{in_limits};
+    ghost use Rattle.std.specs.Prelude.{◌≡◌, true};
+    ghost use Rattle.jr_word.specs.Config.{in_limits, row_words};
 
     /// Whether the sizes are within the limits.
     pub fn in_limits(&self) -> bool
@@ -28,5 +28,14 @@ impl Config {
             && (1..=65_535).contains(&self.objects)
             && self.words <= 1_048_576
             && (16..=4_096).contains(&self.locals)
+    }
+
+    /// How many words the row of a room has: the gate, the top, a word for each slot, for each place of each thread and for each object's header, and the element words, for two halves that change roles.
+    pub fn row_words(&self) -> usize
+        requires { in_limits self.now ≡ true }
+        ensures { result ≡ row_words self.now }
+    {
+        let locals = self.threads as usize * self.locals as usize;
+        2 + self.slots as usize + locals + self.objects as usize + 2 * self.words as usize
     }
 }

@@ -1,5 +1,5 @@
 use Rattle.std.proofs.Common.{ap, sym, ◌∙◌}
-use Rattle.jr_scripts.specs.Knowing.{Standing}
+use Rattle.jr_rule.specs.Knowing.{Standing}
 use Rattle.jr_scripts.specs.Works.{removal}
 use Rattle.jr_scripts.specs.Reading.{word_of}
 use Rattle.jr_scripts.proofs.Entering.{same_owner, completes_barred, completes_entered}

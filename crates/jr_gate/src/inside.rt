@@ -1,0 +1,41 @@
+//! Stays inside the gate.
+ghost use Rattle.std.specs.Prelude.{◌≡◌, [], ◌∷◌, IfOk, IfErr};
+ghost use Rattle.jr_word.specs.declared.fault.Fault.TheVariants.{Barred};
+ghost use Rattle.jr_model.specs.declared.event.Role.TheVariants.{Outside, Within};
+ghost use Rattle.jr_model.specs.declared.event.Act.TheVariants.{Enter, Knock, Leave, Withdraw};
+ghost use Rattle.jr_rule.specs.Knowing.{anything, nothing, Took, Acted};
+
+use jr_rule::Steps;
+use jr_word::Fault;
+
+/// A stay inside the gate. It has to be spent.
+pub struct Inside {
+    thread: u8,
+}
+
+impl Inside {
+    /// Ends the stay of the pass that made it.
+    pub fn leave<S: Steps>(self, steps: &mut S)
+        requires own { self.thread ≡ (S.stands steps.old).thread }
+        requires inside { (S.stands steps.old).role ≡ Within }
+        ensures { Took S.stands S.knows steps.old steps.new (Leave ∷ []) anything nothing }
+    {
+        let Inside { thread: _ } = self;
+        steps.go_out();
+    }
+}
+
+/// Enters the gate: E13 only where a thread was collecting at the entry step.
+pub fn enter<S: Steps>(steps: &mut S) -> Result<Inside, Fault>
+    requires { (S.stands steps.old).role ≡ Outside }
+    ensures ok { IfOk result (λ i. (i.thread ≡ (S.stands steps.new).thread) × Took S.stands S.knows steps.old steps.new (Enter ∷ []) anything nothing) }
+    ensures err { IfErr result (λ e. (e ≡ Barred) × Acted S.stands S.knows steps.old steps.new (Knock ∷ Withdraw ∷ []) anything) }
+{
+    if steps.go_in() {
+        return Ok(Inside {
+            thread: steps.thread(),
+        });
+    }
+    steps.go_out();
+    Err(Fault::Barred)
+}

@@ -1,0 +1,41 @@
+//! The gate while it is shut for a collection.
+ghost use Rattle.std.specs.Prelude.{◌≡◌, ℕ, [], ◌∷◌, IfOk, IfErr};
+ghost use Rattle.jr_word.specs.declared.fault.Fault.TheVariants.{Busy};
+ghost use Rattle.jr_model.specs.declared.event.Role.TheVariants.{Outside, Collecting};
+ghost use Rattle.jr_model.specs.declared.event.Act.TheVariants.{Shut as Shuts, ShutBusy, Reopen};
+ghost use Rattle.jr_rule.specs.Knowing.{anything, nothing, IsClosedNow, MayKnow, Took};
+
+use jr_rule::Steps;
+use jr_word::Fault;
+
+/// A collection, in which the gate is shut. It has to be spent.
+pub struct Shut {
+    thread: u8,
+}
+
+impl Shut {
+    /// Opens the gate after the collection of the pass that shut it. No present object array may name an absent object.
+    pub fn reopen<S: Steps>(self, steps: &mut S)
+        requires own { self.thread ≡ (S.stands steps.old).thread }
+        requires collecting { (S.stands steps.old).role ≡ Collecting }
+        requires closed { MayKnow S.knows steps.old IsClosedNow }
+        ensures { Took S.stands S.knows steps.old steps.new (Reopen ∷ []) IsClosedNow nothing }
+    {
+        let Shut { thread: _ } = self;
+        steps.unbar();
+    }
+}
+
+/// Shuts the gate: E14 with the number of threads inside, knocking or collecting at the one step, which is at least 1.
+pub fn shut<S: Steps>(steps: &mut S) -> Result<Shut, Fault>
+    requires { (S.stands steps.old).role ≡ Outside }
+    ensures ok { IfOk result (λ s. (s.thread ≡ (S.stands steps.new).thread) × Took S.stands S.knows steps.old steps.new (Shuts ∷ []) anything nothing) }
+    ensures err { IfErr result (λ e. (n : ℕ) × (e ≡ Busy n) × Took S.stands S.knows steps.old steps.new (ShutBusy n ∷ []) anything nothing) }
+{
+    match steps.bar() {
+        Ok(()) => Ok(Shut {
+            thread: steps.thread(),
+        }),
+        Err(count) => Err(Fault::Busy(count)),
+    }
+}

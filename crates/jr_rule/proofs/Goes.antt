@@ -1,0 +1,66 @@
+-- What follows from a step, and one step after the other.
+use Rattle.std.proofs.Common.{◌≡◌, ◌≢◌, ℕ, List, [], ◌∷◌, ◌++◌, Option, Some, None, IsSome, refl, sym, ap, subst, ◌∙◌}
+use Rattle.std.specs.List.{AllByRecursion}
+use Rattle.jr_model.specs.declared.event.Role.TheVariants.{Within}
+use Rattle.jr_model.specs.declared.event.Found.{Found}
+use Rattle.jr_model.specs.declared.event.Found.TheVariants.{Object}
+use Rattle.jr_model.specs.declared.event.Act.{Act}
+use Rattle.jr_model.specs.declared.event.Act.TheVariants.{Look, Leave}
+use Rattle.jr_model.specs.State.{Handle, Contents, State, IsPresent}
+use Rattle.jr_model.specs.History.{by, state, role_of, Did}
+use Rattle.jr_model.proofs.Histories.{legal_push, state_push}
+use Rattle.jr_model.proofs.Presence.{named_is_present}
+use Rattle.jr_model.proofs.Stays.{IsStill, still_did, did_added, did_then}
+use Rattle.jr_rule.specs.declared.known.Known.{Known}
+use Rattle.jr_rule.specs.Knowing.{Standing, view, moved, anything, state_of, Goes, HasObject, HasLooked, Took, Acted}
+
+-- a step is what the thread did
+pub goes_did : {k k' : Known} {acts : List Act} → Goes k acts k' → Did (view k) (view k') acts
+goes_did {acts = acts} g = did_added g.between acts g.config g.last g.thread g.seen g.others g.legal
+
+-- a look finds what the reference names in the state after it
+pub looked_refs : {k k' : Known} (h : Handle) (r : Found) → Goes k (Look h r ∷ []) k' → (state_of k').refs h ≡ r
+pub looked_refs {k} {k'} h r g =
+    let before = k.seen ++ g.between in
+    let e = by k.thread (Look h r) in
+    let legal = (legal_push k.config k.last before e).0 (subst (IsLegal k.config k.last) g.seen g.legal) in
+    ap (λ (s : State). s.refs h) (ap state g.seen ∙ state_push before e) ∙ legal.1.1.1
+
+-- an object that was found is present
+pub looked_present : {k k' : Known} (h : Handle) (o : ℕ) → Goes k (Look h (Object o) ∷ []) k' → HasObject o k'
+looked_present {k} {k'} h o g = (named_is_present k.config k.last k'.seen g.legal).0 h o (looked_refs h (Object o) g)
+
+-- the look was made in this stay
+pub looked_now : {k k' : Known} (h : Handle) (r : Found) → Goes k (Look h r ∷ []) k' → HasLooked h r k'
+looked_now {k} {k'} h r g = record {
+  before = k.seen ++ g.between;
+  since = [];
+  is = subst (λ t. k'.seen ≡ (k.seen ++ g.between) ++ by t (Look h r) ∷ []) (sym g.thread) g.seen;
+  stays = tt;
+}
+
+pub present_still : (s s' : State) (o : ℕ) → IsStill s s' → IsPresent s o → IsPresent s' o
+pub present_still s s' o still = go (s.objects o) refl
+  where
+    go : (z : Option Contents) → s.objects o ≡ z → IsSome z → IsSome (s'.objects o)
+    go None e p = absurd cc
+    go (Some x) e p = let y = still.objects o x e in subst (λ z. IsSome z) (sym y.1) refl
+
+-- what is present stays, until the thread leaves
+pub present_stays : (k k' : Known) (acts : List Act) (o : ℕ) → Did (view k) (view k') acts → role_of (view k) ≡ Within → AllByRecursion (λ a. a ≢ Leave) acts → HasObject o k → HasObject o k'
+present_stays k k' acts o d w q p = present_still (state_of k) (state_of k') o (still_did acts d w q) p
+
+module _ {S : Type 0} {stands : S → Standing} {knows : S → Known → Type 0} where
+  pub took_acted : {old new : S} {acts : List Act} {met : Known → Type 0} {shows : Known → Known → Type 0} → Took stands knows old new acts met shows → Acted stands knows old new acts met
+  took_acted t = record { stands_is = t.stands_is; did = λ k s m. let g = t.goes k s m in (g.0, g.1, goes_did g.2) }
+
+  -- an act and then others
+  pub acted_more : {a b c : S} {x : Act} {ys : List Act} {met : Known → Type 0} → Acted stands knows a b (x ∷ []) met → Acted stands knows b c ys anything → Acted stands knows a c (x ∷ ys) met
+  acted_more {x} {ys} p q = record {
+    stands_is = q.stands_is ∙ ap (λ s. moved s ys) p.stands_is;
+    did = λ k s m. let g = p.did k s m in let h = q.did g.0 g.1 tt in (h.0, h.1, did_then (x ∷ []) ys g.2 h.2);
+  }
+
+  -- a step shows less, too
+  pub took_less : {old new : S} {acts : List Act} {met : Known → Type 0} {shows shows' : Known → Known → Type 0} → ((k k' : Known) → shows k k' → shows' k k') → Took stands knows old new acts met shows → Took stands knows old new acts met shows'
+  took_less less t = record { stands_is = t.stands_is; goes = λ k s m. let g = t.goes k s m in (g.0, g.1, g.2, less k g.0 g.3) }

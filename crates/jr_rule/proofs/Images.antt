@@ -1,0 +1,120 @@
+-- The image after one word and the part of the state that it shows were changed.
+use Rattle.std.proofs.Common.{◌≡◌, ◌≢◌, ⊎_elim, ◌+◌, ◌*◌, ◌<◌, ◌≤◌, ◌==◌, ℕ, Bool, true, false, Option, List, length, get_or, slice_set, refl, sym, ap, subst, ◌∙◌, arith, nat_eq, length-set, get_or-set_same, get_or-set_other}
+use Rattle.std.proofs.lemmas.Bool.{cases_lt}
+use Rattle.std.proofs.lemmas.Nat.{mul-add-lt}
+use Rattle.jr_word.specs.declared.config.Config.{Config}
+use Rattle.jr_word.specs.declared.slot.SlotParts.{SlotParts}
+use Rattle.jr_word.specs.declared.slot.SlotParts.TheVariants as slot
+use Rattle.jr_word.specs.declared.handle.RefKind.TheVariants.{Global, Weak}
+use Rattle.jr_model.specs.declared.event.Role.{Role}
+use Rattle.jr_model.specs.declared.event.Found.{Found}
+use Rattle.jr_model.specs.declared.event.Found.TheVariants.{Object}
+use Rattle.jr_model.specs.Maps.{update}
+use Rattle.jr_model.specs.State.{Handle, Contents, State}
+use Rattle.jr_model.proofs.Updates.{eq_true, eq_false, at_number}
+use Rattle.jr_rule.specs.Acts.{found_object, handle_of}
+use Rattle.jr_rule.specs.Image.{gate_at, slot_at, local_at, header_at, IsGateOf, IsTopOf, StandsAlone, SaysOfSlot, IsSlotOf, IsLocalOf, IsHeaderOf, IsImage}
+
+-- the local words lie below the headers
+pub local_below : (c : Config) (t p : ℕ) → t < c.threads → p < c.locals → local_at c t p < 2 + c.slots + c.threads * c.locals
+local_below c t p l m = let k = mul-add-lt t c.locals p c.threads l m in omega arith
+
+-- two places have two words
+local_apart : (c : Config) (t p u q : ℕ) → p < c.locals → q < c.locals → local_at c t p ≡ local_at c u q → (t ≡ u) × (p ≡ q)
+local_apart c t p u q l m e = ⊎_elim
+    (λ (z : t < u). let k = mul-add-lt t c.locals p u z l in absurd (omega arith))
+    (λ (z : u ≤ t). ⊎_elim
+    (λ (y : u < t). let k = mul-add-lt u c.locals q t y m in absurd (omega arith))
+    (λ (y : t ≤ u). let same : t ≡ u = omega arith in let k = ap (λ x. x * c.locals) same in (same, omega arith))
+    (cases_lt u t))
+    (cases_lt t u)
+
+-- what a slot's word says goes by the handles of its index
+pub same_slot : (last i w : ℕ) (refs refs' : Handle → Found) (given given' : Handle → Bool) → ((g : Handle) → g.index ≡ i → (refs' g ≡ refs g) × (given' g ≡ given g)) → IsSlotOf last refs given i w → IsSlotOf last refs' given' i w
+same_slot last i w refs refs' given given' same x = record {
+  parts = x.parts;
+  word = x.word;
+  next = x.next;
+  serials = record {
+    below = λ n l. let h = x.serials.below n l in (h.0, h.1, h.2, (same h.0 h.1).1 ∙ h.3);
+    above = λ h at l. (same h at).1 ∙ x.serials.above h at l;
+  };
+  says = says x.parts x.says;
+}
+  where
+    alone : (h : Handle) (r : Found) → h.index ≡ i → StandsAlone refs x.next h r → StandsAlone refs' x.next h r
+    alone h r at y = record { latest = y.latest; found = (same h at).0 ∙ y.found; alone = λ g e ne. (same g (e ∙ at)).0 ∙ y.alone g e ne }
+
+    says : (p : SlotParts) → SaysOfSlot last refs i x.next p → SaysOfSlot last refs' i x.next p
+    says (slot.Free n) y = (λ h at. (same h at).0 ∙ y.0 h at, y.1, y.2)
+    says (slot.Retired n) y = (λ h at. (same h at).0 ∙ y.0 h at, y.1, y.2)
+    says (slot.Global n o) y = alone (handle_of Global n i) (Object o) refl y
+    says (slot.Weak n o) y = alone (handle_of Weak n i) (found_object o) refl y
+
+module _ (c : Config) (last : ℕ) (words : List ℕ) (s : State) (image : IsImage c last words s) (n : ℕ) where
+  -- another word stays
+  other : (i j : ℕ) (P : ℕ → Type 0) → j ≢ i → P (get_or words j 0) → P (get_or (slice_set words i n) j 0)
+  other i j P ne p = subst P (sym (get_or-set_other words i j n 0 ne)) p
+
+  -- the word itself
+  here : (i : ℕ) (P : ℕ → Type 0) → i < length words → P n → P (get_or (slice_set words i n) i 0)
+  here i P l p = subst P (sym (get_or-set_same words i n 0 l)) p
+
+  pub gate_set : (role : ℕ → Role) → IsGateOf c role n → IsImage c last (slice_set words gate_at n) (record s { role = role })
+  gate_set role g = let wide = image.wide in record {
+    wide = length-set words gate_at n ∙ image.wide;
+    gate = here 0 (IsGateOf c role) (omega arith) g;
+    top = other 0 1 (IsTopOf s.used) (λ e. absurd (omega arith)) image.top;
+    slot = λ i l. other 0 (slot_at i) (IsSlotOf last s.refs s.given i) (λ e. absurd (omega arith)) (image.slot i l);
+    local = λ t p l m. other 0 (local_at c t p) (IsLocalOf (s.locals t p)) (λ e. absurd (omega arith)) (image.local t p l m);
+    header = λ o l m. other 0 (header_at c o) (IsHeaderOf (s.objects o)) (λ e. absurd (omega arith)) (image.header o l m);
+  }
+
+  pub slot_set : (i : ℕ) (refs : Handle → Found) (given : Handle → Bool) → i < c.slots → IsSlotOf last refs given i n → ((g : Handle) → g.index ≢ i → (refs g ≡ s.refs g) × (given g ≡ s.given g))
+      → IsImage c last (slice_set words (slot_at i) n) (record s { refs = refs; given = given })
+  slot_set i refs given row x same = let wide = image.wide in record {
+    wide = length-set words (slot_at i) n ∙ image.wide;
+    gate = other (slot_at i) 0 (IsGateOf c s.role) (λ e. absurd (omega arith)) image.gate;
+    top = other (slot_at i) 1 (IsTopOf s.used) (λ e. absurd (omega arith)) image.top;
+    slot = λ j l. by_index j l (i == j) refl;
+    local = λ t p l m. other (slot_at i) (local_at c t p) (IsLocalOf (s.locals t p)) (λ e. absurd (omega arith)) (image.local t p l m);
+    header = λ o l m. other (slot_at i) (header_at c o) (IsHeaderOf (s.objects o)) (λ e. absurd (omega arith)) (image.header o l m);
+  }
+    where
+      by_index : (j : ℕ) → j < c.slots → (b : Bool) → (i == j) ≡ b → IsSlotOf last refs given j (get_or (slice_set words (slot_at i) n) (slot_at j) 0)
+      by_index j l true e =
+          let wide = image.wide in
+          subst (λ k. IsSlotOf last refs given k (get_or (slice_set words (slot_at i) n) (slot_at k) 0)) (eq_true i j e) (here (slot_at i) (IsSlotOf last refs given i) (omega arith) x)
+      by_index j l false e =
+          let apart = eq_false i j e in
+          other (slot_at i) (slot_at j) (IsSlotOf last refs given j) (λ z. apart (omega arith))
+          (same_slot last j (get_or words (slot_at j) 0) s.refs refs s.given given (λ g at. same g (λ z. apart (sym z ∙ at))) (image.slot j l))
+
+  pub local_set : (t p : ℕ) (o : Option ℕ) → t < c.threads → p < c.locals → IsLocalOf o n
+      → IsImage c last (slice_set words (local_at c t p) n) (record s { locals = update nat_eq s.locals t (update nat_eq (s.locals t) p o) })
+  local_set t p o row place x = let wide = image.wide in let below = local_below c t p row place in record {
+    wide = length-set words (local_at c t p) n ∙ image.wide;
+    gate = other (local_at c t p) 0 (IsGateOf c s.role) (λ e. absurd (omega arith)) image.gate;
+    top = other (local_at c t p) 1 (IsTopOf s.used) (λ e. absurd (omega arith)) image.top;
+    slot = λ i l. other (local_at c t p) (slot_at i) (IsSlotOf last s.refs s.given i) (λ e. absurd (omega arith)) (image.slot i l);
+    local = λ u q l m. at_number (λ f. IsLocalOf (f q) (get_or (slice_set words (local_at c t p) n) (local_at c u q) 0)) s.locals t u (update nat_eq (s.locals t) p o)
+        (λ e. at_number (λ r. IsLocalOf r (get_or (slice_set words (local_at c t p) n) (local_at c u q) 0)) (s.locals t) p q o
+        (λ e'. subst (λ k. IsLocalOf o (get_or (slice_set words (local_at c t p) n) k 0)) (ap (λ k. local_at c k p) e ∙ ap (λ k. local_at c u k) e') (here (local_at c t p) (IsLocalOf o) (omega arith) x))
+        (λ ne. subst (λ k. IsLocalOf (s.locals k q) (get_or (slice_set words (local_at c t p) n) (local_at c u q) 0)) (sym e)
+        (other (local_at c t p) (local_at c u q) (IsLocalOf (s.locals u q)) (λ z. ne (sym (local_apart c u q t p m place z).1)) (image.local u q l m))))
+        (λ ne. other (local_at c t p) (local_at c u q) (IsLocalOf (s.locals u q)) (λ z. ne (sym (local_apart c u q t p m place z).0)) (image.local u q l m));
+    header = λ r l m. other (local_at c t p) (header_at c r) (IsHeaderOf (s.objects r)) (λ e. absurd (omega arith)) (image.header r l m);
+  }
+
+  pub header_set : (o : ℕ) (x : Option Contents) → 1 ≤ o → o ≤ c.objects → IsHeaderOf x n
+      → IsImage c last (slice_set words (header_at c o) n) (record s { objects = update nat_eq s.objects o x })
+  header_set o x low high h = let wide = image.wide in record {
+    wide = length-set words (header_at c o) n ∙ image.wide;
+    gate = other (header_at c o) 0 (IsGateOf c s.role) (λ e. absurd (omega arith)) image.gate;
+    top = other (header_at c o) 1 (IsTopOf s.used) (λ e. absurd (omega arith)) image.top;
+    slot = λ i l. other (header_at c o) (slot_at i) (IsSlotOf last s.refs s.given i) (λ e. absurd (omega arith)) (image.slot i l);
+    local = λ t p l m. other (header_at c o) (local_at c t p) (IsLocalOf (s.locals t p)) (λ e. let below = local_below c t p l m in absurd (omega arith)) (image.local t p l m);
+    header = λ r l m. at_number (λ y. IsHeaderOf y (get_or (slice_set words (header_at c o) n) (header_at c r) 0)) s.objects o r x
+        (λ e. subst (λ k. IsHeaderOf x (get_or (slice_set words (header_at c o) n) (header_at c k) 0)) e (here (header_at c o) (IsHeaderOf x) (omega arith) h))
+        (λ ne. other (header_at c o) (header_at c r) (IsHeaderOf (s.objects r)) (λ z. ne (omega arith)) (image.header r l m));
+  }

@@ -1,0 +1,17 @@
+pub mod Goes
+pub mod InRoom
+pub mod SlotWords
+pub mod Images
+pub mod Turns
+pub mod GateTurns
+pub mod Looked
+pub mod Slots
+pub mod SlotTurns
+pub mod LostClaims
+pub mod LocalTurns
+pub mod PlainTook
+pub mod PlainTurns
+pub mod PlainSlots
+pub mod PlainPlaces
+pub mod Zeros
+pub mod Summaries

@@ -1,0 +1,82 @@
+-- A step over plain words: what its kind of step owes is enough.
+use Rattle.std.proofs.Common.{◌≡◌, ◌<◌, ◌≤◌, ◌^◌, ℕ, List, [], ◌++◌, map, slice_set, refl, sym, ap, subst, ◌∙◌}
+use Rattle.std.proofs.Math.Logic.{∥∥₁_elim}
+use Rattle.std.proofs.Props.{props}
+use Rattle.std.proofs.lemmas.List.{append-nil}
+use mathlib.Core.Logic.{∥∥₁_map}
+use Rattle.jr_word.specs.declared.config.Config.{Config}
+use Rattle.jr_model.specs.declared.event.Act.{Act}
+use Rattle.jr_model.specs.History.{by, IsLegal, role_from}
+use Rattle.jr_rule.specs.declared.plain.PlainSteps.{PlainSteps}
+use Rattle.jr_rule.specs.declared.known.Known.{Known}
+use Rattle.jr_rule.specs.Knowing.{Standing, moved, Goes, Took, MayKnow, anything}
+use Rattle.jr_rule.specs.Plain.{standing, Shows}
+use Rattle.jr_rule.proofs.Turns.{then, Turn, role_then}
+
+-- what is known after acts of one's own, with none of others in between
+abbrev pub known_then : Known → List Act → Known
+known_then k acts = record { config = k.config; last = k.last; thread = k.thread; seen = then k.seen k.thread acts }
+
+goes_then : (k : Known) (acts : List Act) → IsLegal k.config k.last (then k.seen k.thread acts) → Goes k acts (known_then k acts)
+goes_then k acts legal = record {
+  config = refl;
+  last = refl;
+  thread = refl;
+  between = [];
+  seen = ap (λ l. l ++ map (by k.thread) acts) (sym (append-nil k.seen));
+  others = refl;
+  legal = legal;
+}
+
+-- after a turn the words show what is known then
+shows_then : (s : Standing) (words words' : List ℕ) (k : Known) (acts : List Act) → Shows s words k → Turn k.config k.last k.seen k.thread acts words' → Shows (moved s acts) words' (known_then k acts)
+shows_then s words words' k acts shows turn = record {
+  pass = record {
+    config = shows.pass.config;
+    last = shows.pass.last;
+    thread = shows.pass.thread;
+    role = role_then k.seen k.thread acts ∙ ap (λ r. role_from r acts) shows.pass.role;
+    legal = turn.legal;
+  };
+  image = turn.image;
+}
+
+-- the acts are a turn at whatever the words show, and show this
+pub record Turned (old : Standing) (words : List ℕ) (new : Standing) (words' : List ℕ) (acts : List Act) (met : Known → Type 0) (shows : Known → Known → Type 0) : Type 0 where
+  pub stands_is : new ≡ moved old acts
+  pub turn : (k : Known) → Shows old words k → met k → Turn k.config k.last k.seen k.thread acts words' × shows k (known_then k acts)
+
+-- the same with the number that was written named otherwise
+pub writes : {old new : Standing} {words : List ℕ} {acts : List Act} {met : Known → Type 0} {shows : Known → Known → Type 0} (i m n : ℕ) → n ≡ m
+    → Turned old words new (slice_set words i m) acts met shows → Turned old words new (slice_set words i n) acts met shows
+writes {old} {new} {words} {acts} {met} {shows} i m n e t = subst (λ z. Turned old words new (slice_set words i z) acts met shows) (sym e) t
+
+module _ {old new : Standing} {words words' : List ℕ} {acts : List Act} {met : Known → Type 0} {shows : Known → Known → Type 0} (t : Turned old words new words' acts met shows) where
+  shown_next : (k : Known) → Shows old words k → met k → Shows new words' (known_then k acts)
+  shown_next k s m = subst (λ z. Shows z words' (known_then k acts)) (sym t.stands_is) (shows_then old words words' k acts s (t.turn k s m).0)
+
+  -- so something is known afterwards
+  pub shown : MayKnow (Shows old) words met → MayKnow (Shows new) words' anything
+  shown may = ∥∥₁_map may (λ k. (known_then k.0 acts, shown_next k.0 k.1 k.2, tt))
+
+-- and the step was taken
+pub took : (LAST : ℕ) (s s' : PlainSteps LAST) {acts : List Act} {met : Known → Type 0} {shows : Known → Known → Type 0}
+    → Turned (standing s.config LAST s.role) s.words.items (standing s'.config LAST s'.role) s'.words.items acts met shows
+    → Took (λ (z : PlainSteps LAST). standing z.config LAST z.role) (λ (z : PlainSteps LAST) k. Shows (standing z.config LAST z.role) z.words.items k) s s' acts met shows
+took LAST s s' {acts} t = record {
+  stands_is = t.stands_is;
+  goes = λ k h m. let r = t.turn k h m in (known_then k acts, shown_next t k h m, goes_then k acts r.0.legal, r.1);
+}
+
+-- a bound that holds of whatever is known
+pub shown_most : {s : Standing} {words : List ℕ} {met : Known → Type 0} (a b : ℕ) → MayKnow (Shows s) words met → ((k : Known) → Shows s words k → met k → a ≤ b) → a ≤ b
+shown_most a b may each = ∥∥₁_elim may (hlevel props) (λ k. each k.0 k.1 k.2)
+
+-- the limits that the steps lean on
+pub record IsFew (c : Config) (last : ℕ) : Type 0 where
+  pub threads : (1 ≤ c.threads) × (c.threads ≤ 64)
+  pub objects : c.objects ≤ 65535
+  pub serials : last < 2 ^ 16
+
+pub few_of : (LAST : ℕ) (s : PlainSteps LAST) → LAST < 2 ^ 16 → IsFew s.config LAST
+few_of LAST s small = record { threads = s.threads; objects = s.objects; serials = small }

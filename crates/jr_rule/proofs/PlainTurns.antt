@@ -1,0 +1,54 @@
+-- The steps over plain words, each at whatever the words show.
+use Rattle.std.proofs.Common.{◌≡◌, ◌⊎◌, ⊎_elim, ◌+◌, ◌<◌, ◌≤◌, ℕ, Bool, not, List, [], ◌∷◌, get_or, slice_set, refl, sym, ap, subst, ◌∙◌, arith}
+use Rattle.jr_word.specs.declared.config.Config.{Config}
+use Rattle.jr_word.specs.declared.gate.GateParts.{GateParts}
+use Rattle.jr_word.specs.Gate.{gate_word, IsGate}
+use Rattle.jr_model.specs.declared.event.Role.{Role}
+use Rattle.jr_model.specs.declared.event.Role.TheVariants.{Outside, Within, Knocking}
+use Rattle.jr_model.specs.History.{state, role_after}
+use Rattle.jr_rule.specs.declared.known.Known.{Known}
+use Rattle.jr_rule.specs.Acts.{entered_as, leaving}
+use Rattle.jr_rule.specs.Knowing.{Standing, MayKnow, anything, nothing}
+use Rattle.jr_rule.specs.Plain.{standing, Shows}
+use Rattle.jr_rule.proofs.GateTurns.{gate_fits, gate_most, goes_in, goes_out, counted}
+use Rattle.jr_rule.proofs.PlainTook.{Turned, IsFew, shown_most}
+
+module _ (config : Config) (last : ℕ) (few : IsFew config last) (role : Role) (words : List ℕ) where
+  abbrev old : Standing
+  old = standing config last role
+
+  few_threads : (k : Known) → Shows old words k → k.config.threads ≤ 64
+  few_threads k s = let f = few.threads.1 in let e = ap (λ (c : Config). c.threads) s.pass.config in omega arith
+
+  row : (k : Known) → Shows old words k → k.thread < k.config.threads
+  row k s = let f = few.threads.0 in let e = ap (λ (c : Config). c.threads) s.pass.config in let t = s.pass.thread in omega arith
+
+  -- the gate's word neither overflows nor falls below 0
+  pub gate_few : MayKnow (Shows old) words anything → get_or words 0 0 ≤ 65600
+  gate_few may = shown_most (get_or words 0 0) 65600 may (λ k s m. gate_most k.config (state k.seen).role (get_or words 0 0) (few_threads k s) s.image.gate)
+
+  pub gate_some : (role ≡ Within) ⊎ (role ≡ Knocking) → MayKnow (Shows old) words anything → 1 ≤ get_or words 0 0
+  gate_some counts may = shown_most 1 (get_or words 0 0) may (λ k s m. counted k.config k.last k.seen k.thread words s.pass.legal s.image (row k s) role counts s.pass.role)
+
+  pub entered : (role' : Role) (found : ℕ) (shut : Bool) → found ≡ get_or words 0 0 → ((parts : GateParts) → IsGate parts → found ≡ gate_word parts → shut ≡ parts.shut) → role ≡ Outside → role' ≡ role_after Outside (entered_as (not shut))
+      → Turned old words (standing config last role') (slice_set words 0 (found + 1)) (entered_as (not shut) ∷ []) anything nothing
+  entered role' found shut is read out then = record {
+    stands_is = ap (standing config last) (then ∙ ap (λ r. role_after r (entered_as (not shut))) (sym out));
+    turn = λ k s m.
+        let g = s.image.gate in
+        let same = read g.parts (gate_fits k.config (state k.seen).role (get_or words 0 0) (few_threads k s) g) (is ∙ g.word) in
+        (goes_in k.config k.last k.seen k.thread words s.pass.legal s.image (row k s) found shut is same (s.pass.role ∙ out), tt);
+  }
+
+  left_role : (r : Role) → (r ≡ Within) ⊎ (r ≡ Knocking) → Outside ≡ role_after r (leaving r)
+  left_role r counts = ⊎_elim
+      (λ (e : r ≡ Within). subst (λ z. Outside ≡ role_after z (leaving z)) (sym e) refl)
+      (λ (e : r ≡ Knocking). subst (λ z. Outside ≡ role_after z (leaving z)) (sym e) refl)
+      counts
+
+  pub left : (n : ℕ) → n + 1 ≡ get_or words 0 0 → (role ≡ Within) ⊎ (role ≡ Knocking)
+      → Turned old words (standing config last Outside) (slice_set words 0 n) (leaving role ∷ []) anything nothing
+  left n is counts = record {
+    stands_is = ap (standing config last) (left_role role counts);
+    turn = λ k s m. (goes_out k.config k.last k.seen k.thread words s.pass.legal s.image (row k s) role n is counts s.pass.role, tt);
+  }

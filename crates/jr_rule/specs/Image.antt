@@ -1,0 +1,117 @@
+-- The words of the row as the image of the machine's state: what each word says, word by word.
+use Rattle.std.specs.Prelude.{◌≡◌, ◌≢◌, ◌↔◌, ◌+◌, ◌-◌, ◌*◌, ◌<◌, ◌≤◌, ℕ, Bool, true, false, IsTrue, Option, Some, None, List, length, slice_index}
+use Rattle.jr_word.specs.declared.config.Config.{Config}
+use Rattle.jr_word.specs.declared.gate.GateParts.{GateParts}
+use Rattle.jr_word.specs.declared.handle.RefKind.TheVariants.{Global, Weak}
+use Rattle.jr_word.specs.declared.header.HeaderParts.{HeaderParts}
+use Rattle.jr_word.specs.declared.local.LocalParts.{LocalParts}
+use Rattle.jr_word.specs.declared.local.LocalParts.TheVariants as local
+use Rattle.jr_word.specs.declared.slot.SlotParts.{SlotParts}
+use Rattle.jr_word.specs.declared.slot.SlotParts.TheVariants as slot
+use Rattle.jr_word.specs.declared.top.Half.TheVariants.{First}
+use Rattle.jr_word.specs.Config.{row_words}
+use Rattle.jr_word.specs.Gate.{gate_word}
+use Rattle.jr_word.specs.Header.{header_word, IsHeader}
+use Rattle.jr_word.specs.Local.{local_word}
+use Rattle.jr_word.specs.Slot.{slot_word}
+use Rattle.jr_word.specs.Top.{top_word}
+use Rattle.jr_model.specs.declared.event.Role.{Role}
+use Rattle.jr_model.specs.declared.event.Role.TheVariants.{Within, Knocking, Collecting}
+use Rattle.jr_model.specs.declared.event.Found.{Found}
+use Rattle.jr_model.specs.declared.event.Found.TheVariants.{Object, Stale}
+use Rattle.jr_model.specs.Maps.{count_below}
+use Rattle.jr_model.specs.State.{Handle, Contents, State}
+use Rattle.jr_rule.specs.Acts.{found_object, handle_of}
+
+-- THE ROW: word 0 the gate, word 1 the top, then the slots, the local words thread by thread, the headers of objects 1 upward, and the element words
+abbrev pub gate_at : ℕ
+gate_at = 0
+
+abbrev pub top_at : ℕ
+top_at = 1
+
+abbrev pub slot_at : ℕ → ℕ
+slot_at i = 2 + i
+
+abbrev pub local_at : Config → ℕ → ℕ → ℕ
+local_at c t p = 2 + c.slots + t * c.locals + p
+
+abbrev pub header_at : Config → ℕ → ℕ
+header_at c o = 2 + c.slots + c.threads * c.locals + (o - 1)
+
+abbrev pub is_inside : Role → Bool
+is_inside Within = true
+is_inside Knocking = true
+is_inside _ = false
+
+-- THE GATE counts the threads within or knocking, and is shut exactly where one is collecting
+pub record IsGateOf (c : Config) (role : ℕ → Role) (w : ℕ) : Type 0 where
+  pub parts : GateParts
+  pub word : w ≡ gate_word parts
+  pub count : parts.count ≡ count_below c.threads (λ t. is_inside (role t))
+  pub shut : IsTrue parts.shut ↔ ((t : ℕ) × (role t ≡ Collecting))
+
+-- THE TOP has the words that are reserved
+abbrev pub IsTopOf : ℕ → ℕ → Type 0
+IsTopOf used w = w ≡ top_word (record { used = used; half = First })
+
+-- the serials given at the index are those below `next`
+pub record AreGivenBelow (given : Handle → Bool) (i next : ℕ) : Type 0 where
+  pub below : (n : ℕ) → n < next → (h : Handle) × (h.index ≡ i) × (h.serial ≡ n) × (given h ≡ true)
+  pub above : (h : Handle) → h.index ≡ i → next ≤ h.serial → given h ≡ false
+
+-- no reference of the index stands
+abbrev pub NoneStands : (Handle → Found) → ℕ → Type 0
+NoneStands refs i = (h : Handle) → h.index ≡ i → refs h ≡ Stale
+
+-- the handle, the last that was given at its index, stands with this object or cleared, and no other of the index does
+pub record StandsAlone (refs : Handle → Found) (next : ℕ) (h : Handle) (r : Found) : Type 0 where
+  pub latest : h.serial + 1 ≡ next
+  pub found : refs h ≡ r
+  pub alone : (g : Handle) → g.index ≡ h.index → g ≢ h → refs g ≡ Stale
+
+-- what the parts of a slot's word say, where `next` is the next serial of its index
+abbrev pub SaysOfSlot : ℕ → (Handle → Found) → ℕ → ℕ → SlotParts → Type 0
+SaysOfSlot last refs i next (slot.Free serial) = NoneStands refs i × (serial ≡ next) × (next ≤ last)
+SaysOfSlot last refs i next (slot.Retired serial) = NoneStands refs i × (serial ≡ last) × (last < next)
+SaysOfSlot last refs i next (slot.Global serial o) = StandsAlone refs next (handle_of Global serial i) (Object o)
+SaysOfSlot last refs i next (slot.Weak serial o) = StandsAlone refs next (handle_of Weak serial i) (found_object o)
+
+-- THE SLOT of an index has the kind, serial and object of the reference that stands there; else it is free with the next serial, or retired
+pub record IsSlotOf (last : ℕ) (refs : Handle → Found) (given : Handle → Bool) (i w : ℕ) : Type 0 where
+  pub parts : SlotParts
+  pub word : w ≡ slot_word parts
+  pub next : ℕ
+  pub serials : AreGivenBelow given i next
+  pub says : SaysOfSlot last refs i next parts
+
+-- a place for a local reference has its object, if one stands there
+abbrev pub local_parts : Option ℕ → LocalParts
+local_parts None = local.Free
+local_parts (Some o) = local.Object o
+
+-- THE LOCAL WORD of a place is its object, 0 where none stands there
+abbrev pub IsLocalOf : Option ℕ → ℕ → Type 0
+IsLocalOf o w = w ≡ local_word (local_parts o)
+
+-- the header has the kind and the length of the object, at some place
+pub record HasHeader (x : Contents) (w : ℕ) : Type 0 where
+  pub parts : HeaderParts
+  pub fits : IsHeader parts
+  pub word : w ≡ header_word parts
+  pub same_kind : parts.kind ≡ x.kind
+  pub same_length : parts.length ≡ length x.words
+
+-- THE HEADER of an object, 0 where it is not present
+abbrev pub IsHeaderOf : Option Contents → ℕ → Type 0
+IsHeaderOf None w = w ≡ 0
+IsHeaderOf (Some x) w = HasHeader x w
+
+-- THE IMAGE: each word says what the state has
+pub record IsImage (c : Config) (last : ℕ) (words : List ℕ) (s : State) : Type 0 where
+  pub wide : length words ≡ row_words c
+  pub gate : IsGateOf c s.role (slice_index words gate_at)
+  pub top : IsTopOf s.used (slice_index words top_at)
+  pub slot : (i : ℕ) → i < c.slots → IsSlotOf last s.refs s.given i (slice_index words (slot_at i))
+  pub local : (t p : ℕ) → t < c.threads → p < c.locals → IsLocalOf (s.locals t p) (slice_index words (local_at c t p))
+  pub header : (o : ℕ) → 1 ≤ o → o ≤ c.objects → IsHeaderOf (s.objects o) (slice_index words (header_at c o))

@@ -1,0 +1,147 @@
+-- What a caller of the steps knows of them.
+use Rattle.std.specs.Prelude.{◌≡◌, ◌≢◌, ◌↔◌, ◌≤◌, ◌<◌, ℕ, Bool, true, false, IsTrue, Result, Ok, Err, Option, Some, None, List, [], ◌∷◌, ◌++◌, map}
+use Rattle.std.specs.List.{AllByRecursion}
+use Rattle.jr_word.specs.declared.config.Config.{Config}
+use Rattle.jr_word.specs.declared.gate.GateParts.{GateParts}
+use Rattle.jr_word.specs.declared.slot.SlotParts.{SlotParts}
+use Rattle.jr_model.specs.declared.event.Role.{Role}
+use Rattle.jr_model.specs.declared.event.Act.{Act}
+use Rattle.jr_model.specs.declared.event.Act.TheVariants.{Look, Leave, LocalPut, LocalDrop}
+use Rattle.jr_model.specs.declared.event.Found.{Found}
+use Rattle.jr_model.specs.declared.event.Found.TheVariants.{Stale}
+use Rattle.jr_model.specs.Maps.{count_below}
+use Rattle.jr_model.specs.State.{Handle, State, IsPresent, IsOccupied, IsClosed, SomebodyCollects, not_outside}
+use Rattle.jr_model.specs.History.{History, by, state, IsLegal, mine, PassView, role_of, role_from, Did}
+use Rattle.jr_model.specs.Refusals.{Sometime}
+use Rattle.jr_model.specs.Frames.{Frames, Agree}
+use Rattle.jr_rule.specs.declared.known.Known.{Known}
+use Rattle.jr_rule.specs.Acts.{all_counted}
+use Rattle.jr_rule.specs.Image.{is_inside, AreGivenBelow, SaysOfSlot}
+
+-- the room, the thread, its role, and whether the pass is fresh
+pub record Standing : Type 0 where
+  pub config : Config
+  pub last : ℕ
+  pub thread : ℕ
+  pub role : Role
+  pub fresh : Bool
+
+-- a pass is fresh until its first store to a local word
+abbrev pub fresh_after : Bool → Act → Bool
+fresh_after f (LocalPut p o) = false
+fresh_after f (LocalDrop p) = false
+fresh_after f _ = f
+
+abbrev pub fresh_from : Bool → List Act → Bool
+fresh_from f [] = f
+fresh_from f (a ∷ acts) = fresh_from (fresh_after f a) acts
+
+-- what the model calls a pass
+abbrev pub view : Known → PassView
+view k = record { config = k.config; last = k.last; thread = k.thread; seen = k.seen }
+
+-- the state after all that was seen
+abbrev pub state_of : Known → State
+state_of k = state k.seen
+
+-- the standing after acts
+abbrev pub moved : Standing → List Act → Standing
+moved s acts = record { config = s.config; last = s.last; thread = s.thread; role = role_from s.role acts; fresh = fresh_from s.fresh acts }
+
+-- what is known is of this room and thread, and its history is legal
+pub record IsOf (s : Standing) (k : Known) : Type 0 where
+  pub config : k.config ≡ s.config
+  pub last : k.last ≡ s.last
+  pub thread : k.thread ≡ s.thread
+  pub role : role_of (view k) ≡ s.role
+  pub legal : IsLegal k.config k.last k.seen
+
+-- what a step makes of what was known: what others did in between, and then the acts of the step, one or none
+pub record Goes (k : Known) (acts : List Act) (k' : Known) : Type 0 where
+  pub config : k'.config ≡ k.config
+  pub last : k'.last ≡ k.last
+  pub thread : k'.thread ≡ k.thread
+  pub between : History
+  pub seen : k'.seen ≡ (k.seen ++ between) ++ map (by k.thread) acts
+  pub others : mine between k.thread ≡ []
+  pub legal : IsLegal k.config k.last k'.seen
+
+-- no condition
+abbrev pub anything : Known → Type 0
+anything k = Unit {0}
+
+-- nothing is shown
+abbrev pub nothing : Known → Known → Type 0
+nothing k k' = Unit {0}
+
+-- the object is present
+abbrev pub HasObject : ℕ → Known → Type 0
+HasObject o k = IsPresent (state_of k) o
+
+-- the object, if one is given
+abbrev pub HasOptional : Option ℕ → Known → Type 0
+HasOptional None k = Unit {0}
+HasOptional (Some o) k = HasObject o k
+
+-- something that may be known meets the condition
+abbrev pub MayKnow : {S : Type 0} → (S → Known → Type 0) → S → (Known → Type 0) → Type 0
+MayKnow knows s met = ∥ ((k : Known) × knows s k × met k) ∥₁
+
+-- the thread looked at the handle in this stay, and found r
+pub record HasLooked (h : Handle) (r : Found) (k : Known) : Type 0 where
+  pub before : History
+  pub since : History
+  pub is : k.seen ≡ before ++ by k.thread (Look h r) ∷ since
+  pub stays : AllByRecursion (λ a. a ≢ Leave) (mine since k.thread)
+
+-- no reference of the index stands, and the serials given at it are those below `serial`
+pub record IsFreeSlot (i serial : ℕ) (k : Known) : Type 0 where
+  pub fits : serial ≤ k.last
+  pub none : (g : Handle) → g.index ≡ i → (state_of k).refs g ≡ Stale
+  pub below : (n : ℕ) → n < serial → (g : Handle) × (g.index ≡ i) × (g.serial ≡ n) × ((state_of k).given g ≡ true)
+  pub above : (g : Handle) → g.index ≡ i → serial ≤ g.serial → (state_of k).given g ≡ false
+
+-- WHAT A LOAD OF A SLOT SHOWS: what the parts of its word say of the state then
+pub record ShowsSlot (i : ℕ) (parts : SlotParts) (k : Known) : Type 0 where
+  pub next : ℕ
+  pub serials : AreGivenBelow (state_of k).given i next
+  pub says : SaysOfSlot k.last (state_of k).refs i next parts
+
+-- WHAT A LOAD OF THE GATE SHOWS: how many threads are inside or knocking then, and whether one collects
+pub record ShowsGate (parts : GateParts) (k : Known) : Type 0 where
+  pub count : parts.count ≡ count_below k.config.threads (λ t. is_inside ((state_of k).role t))
+  pub shut : IsTrue parts.shut ↔ SomebodyCollects (state_of k)
+  pub all : all_counted parts ≡ not_outside k.config (state_of k)
+
+-- no present object array names an absent object
+abbrev pub IsClosedNow : Known → Type 0
+IsClosedNow k = IsClosed (state_of k)
+
+-- a lost claim: the index was occupied in between, and the word that was found stands there
+abbrev pub LostClaim : ℕ → Result (Unit {0}) SlotParts → Known → Known → Type 0
+LostClaim i (Ok _) k k' = Unit {0}
+LostClaim i (Err found) k k' = Sometime (λ s. IsOccupied k.last s i) k.seen k'.seen × ShowsSlot i found k'
+
+-- the thread has no local reference
+abbrev pub HasNoLocals : Known → Type 0
+HasNoLocals k = (p : ℕ) → (state_of k).locals k.thread p ≡ None
+
+-- the frames are those of the thread's locals
+abbrev pub Holds : Frames → Known → Type 0
+Holds f k = Agree k.thread f (state_of k)
+
+module _ {S : Type 0} (stands : S → Standing) (knows : S → Known → Type 0) where
+  -- a step was taken: for whatever was known and meets the condition, something is known that the step made of it, and that shows this
+  pub record Took (old new : S) (acts : List Act) (met : Known → Type 0) (shows : Known → Known → Type 0) : Type 0 where
+    pub stands_is : stands new ≡ moved (stands old) acts
+    pub goes : (k : Known) → knows old k → met k → (k' : Known) × knows new k' × Goes k acts k' × shows k k'
+
+  -- the pass is not fresh any more, and nothing else changed
+  pub record Spent (old new : S) : Type 0 where
+    pub stands_is : stands new ≡ record (stands old) { fresh = false }
+    pub same : (k : Known) → knows old k ↔ knows new k
+
+  -- several steps were taken
+  pub record Acted (old new : S) (acts : List Act) (met : Known → Type 0) : Type 0 where
+    pub stands_is : stands new ≡ moved (stands old) acts
+    pub did : (k : Known) → knows old k → met k → (k' : Known) × knows new k' × Did (view k) (view k') acts

@@ -1,0 +1,5 @@
+pub mod Acts
+pub mod Image
+pub mod Knowing
+pub mod Slots
+pub mod Plain

@@ -1,0 +1,31 @@
+-- What plain words show: any history whose image they are.
+use Rattle.std.specs.Prelude.{◌≡◌, ℕ, ◌+◌, ◌<◌, Bool, is_some, List, [], slice_index}
+use Rattle.jr_word.specs.declared.config.Config.{Config}
+use Rattle.jr_model.specs.declared.event.Role.{Role}
+use Rattle.jr_model.specs.Maps.{count_below}
+use Rattle.jr_model.specs.State.{State}
+use Rattle.jr_rule.specs.declared.known.Known.{Known}
+use Rattle.jr_rule.specs.Knowing.{Standing, IsOf, HasNoLocals, state_of}
+use Rattle.jr_rule.specs.Image.{local_at, IsImage}
+
+-- the one thread of the row: thread 0
+abbrev pub standing : Config → ℕ → Role → Bool → Standing
+standing c last role fresh = record { config = c; last = last; thread = 0; role = role; fresh = fresh }
+
+-- what is known where nothing has happened yet
+abbrev pub unseen : Config → ℕ → Known
+unseen config last = record { config = config; last = last; thread = 0; seen = [] }
+
+-- the words are the image of the history
+pub record Shows (s : Standing) (words : List ℕ) (k : Known) : Type 0 where
+  pub pass : IsOf s k
+  pub image : IsImage k.config k.last words (state_of k)
+
+-- how many objects are present
+abbrev pub present_objects : Config → State → ℕ
+present_objects c s = count_below (c.objects + 1) (λ o. is_some (s.objects o))
+
+-- the local words of thread 0 are 0, and so it has no local reference
+pub record IsUnused (s : Standing) (words : List ℕ) : Type 0 where
+  pub empty : (p : ℕ) → p < s.config.locals → slice_index words (local_at s.config 0 p) ≡ 0
+  pub none : (k : Known) → Shows s words k → HasNoLocals k

@@ -1,0 +1,22 @@
+//! As what a load counts.
+use jr_word::HandleParts;
+
+/// As what a load of a slot counts.
+#[derive(Clone, Copy)]
+pub enum SlotNaming {
+    /// A look at a handle.
+    Look(HandleParts),
+    /// Whether the slot is occupied.
+    Probe,
+    /// Nothing but what others did.
+    Meet,
+}
+
+/// As what a load of the gate counts.
+#[derive(Clone, Copy)]
+pub enum GateNaming {
+    /// Nothing but what others did.
+    Meet,
+    /// A refusal to shut the gate, where threads are inside, knocking or collecting.
+    Busy,
+}

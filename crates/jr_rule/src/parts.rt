@@ -1,0 +1,98 @@
+//! What the words of the row say, as the steps make and read them.
+ghost use Rattle.std.specs.Prelude.{◌≡◌, ◌↔◌, IsTrue};
+ghost use Rattle.jr_word.specs.declared.gate.GateParts.{GateParts as Gates};
+ghost use Rattle.jr_word.specs.declared.slot.SlotParts.TheVariants.{Free};
+ghost use Rattle.jr_word.specs.Gate.{gate_word, IsGate};
+ghost use Rattle.jr_model.specs.declared.event.Role.TheVariants.{Outside};
+ghost use Rattle.jr_model.specs.History.{role_after};
+ghost use Rattle.jr_rule.specs.Acts.{entered_as, all_counted as all_of};
+ghost use Rattle.jr_rule.specs.Image.{local_parts as parts_of_local};
+ghost use Rattle.jr_rule.specs.Slots.{CanStand, IsReference, is_of_kind, freed};
+
+use jr_model::Role;
+use jr_word::{GateParts, GateWord, LocalParts, RefKind, SlotParts};
+
+/// The word of the gate.
+pub(crate) const GATE: usize = 0;
+
+/// The word of the top.
+pub(crate) const TOP: usize = 1;
+
+/// The word of the first slot.
+pub(crate) const SLOTS: usize = 2;
+
+/// Whether the word of a gate is that of a shut one.
+pub(crate) fn is_shut(word: u64) -> bool
+    ensures { (parts : Gates) → IsGate parts → word ≡ gate_word parts → result ≡ parts.shut }
+{
+    matches!(GateWord::parts(word), Some(GateParts { shut: true, .. }))
+}
+
+/// How many threads are inside, knocking or collecting, as the gate says.
+pub(crate) fn all_counted(parts: GateParts) -> u32
+    ensures { result ≡ all_of parts }
+{
+    u32::from(parts.count) + u32::from(parts.shut)
+}
+
+/// Whether what the word of a slot says is a reference of the kind.
+pub(crate) fn is_reference(kind: RefKind, parts: SlotParts) -> bool
+    ensures { result ≡ is_of_kind kind parts }
+{
+    match parts {
+        SlotParts::Global { .. } => kind == RefKind::Global,
+        SlotParts::Weak { .. } => kind == RefKind::Weak,
+        _ => false,
+    }
+}
+
+/// Whether what the word of a slot says is that it is free with the serial.
+pub(crate) fn is_free(parts: SlotParts, serial: u16) -> bool
+    ensures { IsTrue result ↔ (parts ≡ Free serial) }
+{
+    matches!(parts, SlotParts::Free { serial: next } if next == serial)
+}
+
+/// The role of a thread whose entry went in, or did not.
+pub(crate) fn role_of_entry(entered: bool) -> Role
+    ensures { result ≡ role_after Outside (entered_as entered) }
+{
+    if entered {
+        Role::Within
+    } else {
+        Role::Knocking
+    }
+}
+
+/// What the word of a slot says in which a reference stands.
+pub(crate) fn reference(kind: RefKind, serial: u16, object: Option<u16>) -> SlotParts
+    requires { CanStand kind object }
+    ensures { IsReference kind serial object result }
+{
+    match (kind, object) {
+        (RefKind::Global, Some(object)) => SlotParts::Global { serial, object },
+        (RefKind::Weak, object) => SlotParts::Weak { serial, object },
+        _ => unreachable!(),
+    }
+}
+
+/// What the word of a place for a local reference says.
+pub(crate) fn local_parts(object: Option<u16>) -> LocalParts
+    ensures { result ≡ parts_of_local object }
+{
+    match object {
+        Some(object) => LocalParts::Object(object),
+        None => LocalParts::Free,
+    }
+}
+
+/// What the word of a slot says once its reference of the serial is deleted.
+pub(crate) fn freed_slot(serial: u16, last: u16) -> SlotParts
+    ensures { result ≡ freed last serial }
+{
+    if serial < last {
+        SlotParts::Free { serial: serial + 1 }
+    } else {
+        SlotParts::Retired { serial: last }
+    }
+}

@@ -1,0 +1,358 @@
+//! The steps of one thread over a plain vector of words. No history is stored.
+ghost use Rattle.std.specs.Prelude.{◌≡◌, ◌⊎◌, ◌↔◌, ◌<◌, ◌≤◌, vec_len, slice_index, true, false, IsTrue, IfOk, IfErr, Ok, Err};
+ghost use Rattle.jr_word.specs.declared.fault.Fault.TheVariants.{Memory, Size};
+ghost use Rattle.jr_word.specs.Config.{in_limits, row_words};
+ghost use Rattle.jr_word.specs.Gate.{gate_word, IsGate};
+ghost use Rattle.jr_word.specs.Slot.{slot_word, IsSlot};
+ghost use Rattle.jr_model.specs.declared.event.Role.TheVariants.{Outside};
+ghost use Rattle.jr_rule.specs.Image.{gate_at, slot_at, header_at};
+ghost use Rattle.jr_rule.specs.Knowing.{anything, MayKnow, HasNoLocals};
+ghost use Rattle.jr_rule.specs.declared.known.Known.{Known};
+ghost use Rattle.jr_rule.specs.Plain.{standing, Shows, IsUnused};
+
+use crate::naming::{GateNaming, SlotNaming};
+use crate::parts::{
+    GATE, SLOTS, TOP, all_counted, freed_slot, is_free, is_reference, is_shut, local_parts,
+    reference, role_of_entry,
+};
+use crate::steps::Steps;
+use jr_model::{Role, Summary};
+use jr_word::{
+    Config, Fault, GateParts, GateWord, HandleParts, Header, HeaderParts, LocalParts, LocalWord,
+    RefKind, SlotParts, SlotWord, TopWord,
+};
+use std::alloc::Global;
+
+/// The steps of thread 0 over a row of plain words, with `LAST` as the last serial.
+#[derive(Drop)]
+pub struct PlainSteps<const LAST: u16> {
+    pub words: Vec<u64>,
+    pub config: Config,
+    pub role: Role,
+    pub fresh: bool,
+    ghost threads: { (1 ≤ config.threads) × (config.threads ≤ 64) },
+    ghost slots: { config.slots ≤ 65536 },
+    ghost objects: { config.objects ≤ 65535 },
+    ghost locals: { config.locals ≤ 4096 },
+    ghost space: { config.words ≤ 1048576 },
+    ghost wide: { vec_len words ≡ row_words config },
+    ghost unused: { fresh ≡ true → IsUnused (standing config LAST role fresh) words.items },
+    ghost shown: { MayKnow (Shows (standing config LAST role fresh)) words.items anything },
+}
+
+impl<const LAST: u16> PlainSteps<LAST> {
+    ghost use Rattle.jr_model.specs.State.{references, summary as summary_of};
+    ghost use Rattle.jr_rule.specs.Knowing.{HasNoLocals, state_of};
+    ghost use Rattle.jr_rule.specs.Plain.{unseen, present_objects};
+
+    /// The steps over a row of zeros: E16, E17.
+    pub fn new(alloc: Global, config: Config) -> Result<Self, Fault>
+        ensures size { (result ≡ Err Size) ↔ (in_limits config ≡ false) }
+        ensures memory { IfErr result (λ e. (e ≡ Size) ⊎ (e ≡ Memory)) }
+        ensures room { IfOk result (λ s. (s.config ≡ config) × (s.role ≡ Outside) × (s.fresh ≡ true)) }
+        ensures fresh { IfOk result (λ s. Shows (standing config LAST Outside true) s.words.items (unseen config LAST)) }
+        ensures locals { IfOk result (λ s. (k : Known) → Shows (standing config LAST Outside true) s.words.items k → HasNoLocals k) }
+    {
+        if !config.in_limits() {
+            return Err(Fault::Size);
+        }
+        let Ok(words) = vec![in alloc; 0u64; config.row_words()] else {
+            return Err(Fault::Memory);
+        };
+        Ok(PlainSteps {
+            words,
+            config,
+            role: Role::Outside,
+            fresh: true,
+        })
+    }
+
+    /// What stands in the room. It takes no memory.
+    pub fn summary(&self) -> Summary
+        ensures { (k : Known) → Shows (standing self.now.config LAST self.now.role self.now.fresh) self.now.words.items k → result ≡ summary_of k.config k.last (state_of k) }
+    {
+        Summary {
+            globals: self.references(RefKind::Global),
+            weaks: self.references(RefKind::Weak),
+            live: self.objects(),
+            used: self.used(),
+        }
+    }
+
+    /// How many references of the kind stand.
+    fn references(&self, kind: RefKind) -> u32
+        ensures { (k : Known) → Shows (standing self.now.config LAST self.now.role self.now.fresh) self.now.words.items k → result ≡ references k.config k.last kind (state_of k) }
+    {
+        let mut count = 0;
+        for index in 0..self.config.slots {
+            if is_reference(kind, self.slot(index as u16)) {
+                count += 1;
+            }
+        }
+        count
+    }
+
+    /// How many objects are present.
+    fn objects(&self) -> u32
+        ensures { (k : Known) → Shows (standing self.now.config LAST self.now.role self.now.fresh) self.now.words.items k → result ≡ present_objects k.config (state_of k) }
+    {
+        let mut count = 0;
+        for before in 0..self.config.objects {
+            if self.word(self.header_at(before + 1)) != 0 {
+                count += 1;
+            }
+        }
+        count
+    }
+
+    /// How many words of array space are reserved.
+    fn used(&self) -> u32
+        ensures { (k : Known) → Shows (standing self.now.config LAST self.now.role self.now.fresh) self.now.words.items k → result ≡ (state_of k).used }
+    {
+        TopWord::parts(self.word(TOP)).unwrap().used
+    }
+
+    /// The place of an object's header in the row.
+    fn header_at(&self, object: u32) -> usize
+        requires { (1 ≤ object) × (object ≤ self.now.config.objects) }
+        ensures { result ≡ header_at self.now.config object }
+    {
+        let locals = self.config.threads as usize * self.config.locals as usize;
+        SLOTS + self.config.slots as usize + locals + (object as usize - 1)
+    }
+
+    /// The word at a place of the row.
+    fn word(&self, at: usize) -> u64
+        requires { at < vec_len self.now.words }
+        ensures { result ≡ slice_index self.now.words.items at }
+    {
+        self.words[at]
+    }
+
+    /// What the word of the gate says.
+    fn gate(&self) -> GateParts
+        ensures { IsGate result × (slice_index self.now.words.items gate_at ≡ gate_word result) }
+    {
+        GateWord::parts(self.word(GATE)).unwrap()
+    }
+
+    /// What the word of a slot says.
+    fn slot(&self, index: u16) -> SlotParts
+        requires { index < self.now.config.slots }
+        ensures { IsSlot result × (slice_index self.now.words.items (slot_at index) ≡ slot_word result) }
+    {
+        SlotWord::parts(self.word(SLOTS + index as usize)).unwrap()
+    }
+}
+
+impl<const LAST: u16> Steps for PlainSteps<LAST> {
+    ghost use Rattle.std.proofs.Common.{lit<};
+
+    ghost stands = { λ s. standing s.config LAST s.role s.fresh };
+
+    ghost knows = { λ s k. Shows (standing s.config LAST s.role s.fresh) s.words.items k };
+
+    fn config(&self) -> Config {
+        self.config
+    }
+
+    fn thread(&self) -> u8 {
+        0
+    }
+
+    fn last(&self) -> u16 {
+        LAST
+    }
+
+    fn role(&self) -> Role {
+        self.role
+    }
+
+    fn fresh(&self) -> bool {
+        self.fresh
+    }
+
+    fn spend(&mut self) {
+        self.fresh = false;
+    }
+
+    fn go_in(&mut self) -> bool {
+        let found = self.word(GATE);
+        let entered = !is_shut(found);
+        self.words[GATE] = found + 1;
+        self.role = role_of_entry(entered);
+        entered
+    }
+
+    fn go_out(&mut self) {
+        let found = self.word(GATE);
+        self.words[GATE] = found - 1;
+        self.role = Role::Outside;
+    }
+
+    fn bar(&mut self) -> Result<(), u32> {
+        let found = self.gate();
+        let inside = all_counted(found);
+        if inside != 0 {
+            return Err(inside);
+        }
+        self.words[GATE] = GateWord::SHUT;
+        self.role = Role::Collecting;
+        Ok(())
+    }
+
+    fn unbar(&mut self) {
+        let found = self.word(GATE);
+        self.words[GATE] = found - GateWord::SHUT;
+        self.role = Role::Outside;
+    }
+
+    fn see_gate(&mut self, _name: GateNaming) -> GateParts {
+        self.gate()
+    }
+
+    fn see_slot(&mut self, index: u16, _name: SlotNaming) -> SlotParts {
+        self.slot(index)
+    }
+
+    fn claim(
+        &mut self,
+        index: u16,
+        serial: u16,
+        kind: RefKind,
+        object: u16,
+    ) -> Result<(), SlotParts> {
+        let found = self.slot(index);
+        if !is_free(found, serial) {
+            return Err(found);
+        }
+        let made = SlotWord::pack(reference(kind, serial, Some(object)));
+        self.words[SLOTS + index as usize] = made.0;
+        Ok(())
+    }
+
+    fn free(&mut self, handle: HandleParts, object: Option<u16>) -> bool {
+        let at = SLOTS + handle.index as usize;
+        let looked = SlotWord::pack(reference(handle.kind, handle.serial, object));
+        if self.word(at) != looked.0 {
+            return false;
+        }
+        self.words[at] = SlotWord::pack(freed_slot(handle.serial, LAST)).0;
+        true
+    }
+
+    fn put_local(&mut self, place: u16, object: Option<u16>) {
+        let at = SLOTS + self.config.slots as usize + place as usize;
+        self.words[at] = LocalWord::pack(local_parts(object)).0;
+        self.fresh = false;
+    }
+
+    fn claim_header(&mut self, object: u16, header: HeaderParts) -> bool {
+        let at = self.header_at(u32::from(object));
+        if self.word(at) != 0 {
+            return false;
+        }
+        self.words[at] = Header::pack(header).0;
+        true
+    }
+
+    ghost fits = { λ s k h. h.pass };
+
+    ghost some_known = { λ s. s.shown };
+
+    ghost unused = { λ s k f h. (s.unused f).none k h };
+
+    ghost few_slots = { λ s. s.slots };
+
+    ghost few_objects = { λ s. s.objects };
+
+    ghost few_locals = { λ s. s.locals };
+
+    ghost few_words = { λ s. s.space };
+
+    ghost few_threads = { λ s. lit< tt };
+}
+
+#[cfg(test)]
+mod tests {
+    use super::*;
+    use crate::env::Env;
+    use jr_word::Handle;
+    use std::test::Fail;
+
+    /// A room of one thread with one slot and one object: 20 words.
+    const SMALL: Config = Config {
+        threads: 1,
+        slots: 1,
+        objects: 1,
+        words: 0,
+        locals: 16,
+    };
+
+    #[test]
+    fn begins_with_zeros_and_counts_who_is_inside(rt: HostRuntime) -> Result<(), Fail> {
+        let mut steps = PlainSteps::<2>::new(rt.alloc(), SMALL)?;
+        assert_eq!(rt; steps.words.as_slice(), [0; 20].as_slice());
+        assert!(rt; steps.go_in());
+        assert_eq!(rt; steps.words[0], 1);
+        steps.go_out();
+        assert_eq!(rt; steps.words[0], 0);
+        Ok(())
+    }
+
+    #[test]
+    fn has_at_most_64_threads(rt: HostRuntime) {
+        let config = Config {
+            threads: 65,
+            ..SMALL
+        };
+        assert_eq!(rt;
+            PlainSteps::<2>::new(rt.alloc(), config).err(),
+            Some(Fault::Size)
+        );
+    }
+
+    #[test]
+    fn is_refused_where_memory_is(rt: HostRuntime) {
+        if let Err(fault) = PlainSteps::<2>::new(rt.alloc(), SMALL) {
+            assert_eq!(rt; fault, Fault::Memory);
+        }
+    }
+
+    #[test]
+    fn retires_a_slot_after_its_last_serial(rt: HostRuntime) -> Result<(), Fail> {
+        let mut env = Env::new(PlainSteps::<2>::new(rt.alloc(), SMALL)?);
+        let local = env.new_plain()?;
+        for word in [2, 6, 10] {
+            let global = env.new_global_ref(local)?.ok_or("an object")?;
+            assert_eq!(rt; global.0, word);
+            env.delete_global_ref(global)?;
+        }
+        assert_eq!(rt; env.new_global_ref(local).err(), Some(Fault::RowFull));
+        for word in [2, 6, 10] {
+            assert_eq!(rt; env.get_object_ref_type(Handle(word))?, 0);
+        }
+
+        let mut row = [0; 20];
+        row[2] = 9;
+        row[3] = 1;
+        row[19] = 1;
+        assert_eq!(rt; env.steps.words.as_slice(), row.as_slice());
+        Ok(())
+    }
+
+    #[test]
+    fn sums_up_what_stands(rt: HostRuntime) -> Result<(), Fail> {
+        let mut env = Env::new(PlainSteps::<2>::new(rt.alloc(), SMALL)?);
+        let local = env.new_plain()?;
+        env.new_global_ref(local)?;
+        let summary = Summary {
+            globals: 1,
+            weaks: 0,
+            live: 1,
+            used: 0,
+        };
+        assert_eq!(rt; env.steps.summary(), summary);
+        Ok(())
+    }
+}
