@@ -15,3 +15,8 @@ pub mod PlainSlots
 pub mod PlainPlaces
 pub mod Zeros
 pub mod Summaries
+pub mod Openings
+pub mod Plays
+pub mod Seats
+pub mod Stepped
+pub mod Found

@@ -3,3 +3,6 @@ pub mod Image
 pub mod Knowing
 pub mod Slots
 pub mod Plain
+pub mod Rule
+pub mod Holding
+pub mod Passes

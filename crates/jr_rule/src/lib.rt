@@ -4,10 +4,15 @@
 mod known;
 mod naming;
 mod parts;
+mod pass;
 mod plain;
+mod room;
+mod rule;
 mod steps;
 
 pub use known::{Known, View};
 pub use naming::{GateNaming, SlotNaming};
+pub use pass::Pass;
 pub use plain::PlainSteps;
+pub use room::Room;
 pub use steps::Steps;

@@ -1,0 +1,74 @@
+-- How a step finds the row: what its pass had seen, later.
+use Rattle.std.proofs.Common.{◌≡◌, ◌≢◌, ◌<◌, ◌≤◌, ◌==◌, ℕ, Bool, true, false, Option, List, [], ◌∷◌, ◌++◌, cond, get_or, refl, sym, ap, subst, ◌∙◌, inl, inr, ⊎_elim, append_assoc}
+use Rattle.std.proofs.lemmas.List.{append-nil}
+use Rattle.std.proofs.Math.Logic.{∥∥₁_elim}
+use Rattle.std.proofs.Props.{props}
+use Rattle.std.specs.List.{AllByRecursion}
+use mathlib.Core.Logic.{dite}
+use native.Mathlib.Decide.{ℕ_discrete}
+use Rattle.jr_model.specs.declared.event.Role.{Role}
+use Rattle.jr_model.specs.declared.event.Role.TheVariants.{Outside, Within, Collecting}
+use Rattle.jr_model.specs.declared.event.Found.{Found}
+use Rattle.jr_model.specs.declared.event.Event.{Event}
+use Rattle.jr_model.specs.declared.event.Act.{Act}
+use Rattle.jr_model.specs.declared.event.Act.TheVariants.{Look, Leave}
+use Rattle.jr_model.specs.State.{Handle, Contents, State, IsPresent, IsClosed}
+use Rattle.jr_model.specs.History.{History, by, state, state_from, IsLegal, IsLegalFrom, mine, role_of, role_from, Did}
+use Rattle.jr_model.proofs.Updates.{eq_true, eq_false}
+use Rattle.jr_model.proofs.Histories.{legal_append, state_append, mine_append}
+use Rattle.jr_model.proofs.Gates.{apart_state}
+use Rattle.jr_model.proofs.Stays.{append_cancel, role_of_state, same_along}
+use Rattle.jr_rule.specs.declared.known.Known.{Known}
+use Rattle.jr_rule.specs.Knowing.{view, state_of, HasObject, HasLooked, IsClosedNow}
+use Rattle.jr_rule.specs.Rule.{known, IsFound}
+use Rattle.jr_rule.proofs.Goes.{present_stays}
+
+-- who has no events of its own is not among the threads
+none_mine : (es : History) (t : ℕ) → mine es t ≡ [] → AllByRecursion (λ e. e.thread ≢ t) es
+none_mine [] t e = tt
+none_mine (f ∷ es) t e = go (f.thread == t) refl (none_mine es t)
+  where
+    go : (b : Bool) → (f.thread == t) ≡ b → (mine es t ≡ [] → AllByRecursion (λ (g : Event). g.thread ≢ t) es) → AllByRecursion (λ (g : Event). g.thread ≢ t) (f ∷ es)
+    go true q rest = let here : mine (f ∷ es) t ≡ f.act ∷ mine es t = ap (λ b. cond b (f.act ∷ mine es t) (mine es t)) q in absurd (let z = sym here ∙ e in cc)
+    go false q rest = let here : mine (f ∷ es) t ≡ mine es t = ap (λ b. cond b (f.act ∷ mine es t) (mine es t)) q in (eq_false f.thread t q, rest (sym here ∙ e))
+
+module _ (k : Known) (log : History) (words : List ℕ) (f : IsFound k log words) where
+  abbrev t : ℕ
+  t = k.thread
+
+  -- what the pass would know of the longest history
+  abbrev pub now : Known
+  now = known k.config k.last k.thread log
+
+  abbrev between : History
+  between = f.fits.begins.0
+
+  quiet : mine between t ≡ []
+  quiet = append_cancel (mine k.seen t) (mine between t) [] (sym (mine_append k.seen between t) ∙ (ap (λ l. mine l t) f.fits.begins.1 ∙ (f.fits.own ∙ sym (append-nil (mine k.seen t)))))
+
+  pub role_at : (state log).role t ≡ role_of (view k)
+  role_at = role_of_state log t ∙ (ap (role_from Outside) f.fits.own ∙ sym (role_of_state k.seen t))
+
+  pub did_wait : Did (view k) (view now) []
+  did_wait = record { config = refl; last = refl; thread = refl; legal = f.legal; begins = f.fits.begins; own = f.fits.own ∙ sym (append-nil (mine k.seen t)) }
+
+  -- while a thread is inside, what was present is
+  pub present_now : (o : ℕ) → role_of (view k) ≡ Within → HasObject o k → IsPresent (state log) o
+  present_now o within h = present_stays k now [] o did_wait within tt h
+
+  -- a look in this stay is one
+  pub looked_later : (h : Handle) (r : Found) → HasLooked h r k → HasLooked h r now
+  looked_later h r q = record {
+    before = q.before;
+    since = q.since ++ between;
+    is = sym f.fits.begins.1 ∙ (ap (λ l. l ++ between) q.is ∙ append_assoc q.before (by t (Look h r) ∷ q.since) between);
+    stays = subst (AllByRecursion (λ a. a ≢ Leave)) (sym (mine_append q.since between t ∙ (ap (λ l. mine q.since t ++ l) quiet ∙ append-nil (mine q.since t)))) q.stays;
+  }
+
+  -- while a thread collects, no array names an absent object that did not before
+  pub closed_now : role_of (view k) ≡ Collecting → IsClosedNow k → IsClosed (state log)
+  closed_now collecting closed =
+      let both = (legal_append k.config k.last k.seen between).0 (subst (IsLegal k.config k.last) (sym f.fits.begins.1) f.legal) in
+      let same = same_along k.config k.last t (state k.seen) between (apart_state k.config k.last k.seen both.0) collecting (none_mine between t quiet) both.1 in
+      let end : (state log).objects ≡ (state k.seen).objects = ap (λ es. (state es).objects) (sym f.fits.begins.1) ∙ (ap (λ (s : State). s.objects) (state_append k.seen between) ∙ same.objects) in
+      subst (λ (x : ℕ → Option Contents). IsClosed (record (state log) { objects = x })) (sym end) closed

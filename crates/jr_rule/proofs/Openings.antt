@@ -1,0 +1,43 @@
+-- A row of zeros is the image of the opening.
+use Rattle.std.proofs.Common.{◌≡◌, ◌+◌, ℕ, zero, suc, false, List, length, replicate, get_or, refl, sym, ap, ◌∙◌, arith}
+use Rattle.std.proofs.lemmas.List.{length-replicate}
+use Rattle.jr_word.specs.declared.config.Config.{Config}
+use Rattle.jr_word.specs.declared.slot.SlotParts.TheVariants as slot
+use Rattle.jr_word.specs.Config.{row_words}
+use Rattle.jr_model.specs.declared.event.Role.TheVariants.{Outside}
+use Rattle.jr_model.specs.State.{opening}
+use Rattle.jr_model.proofs.Counts.{count_all_false}
+use Rattle.jr_rule.specs.Image.{local_at, is_inside, IsImage}
+
+zeros : (n j : ℕ) → ◌≡◌ {A = ℕ} (get_or (replicate n 0) j 0) 0
+zeros zero j = refl
+zeros (suc n) zero = refl
+zeros (suc n) (suc j) = zeros n j
+
+pub all_zero : (words : List ℕ) (n : ℕ) → words ≡ replicate n 0 → (j : ℕ) → get_or words j 0 ≡ 0
+all_zero words n e j = ap (λ l. get_or l j 0) e ∙ zeros n j
+
+pub zeros_wide : (words : List ℕ) (n : ℕ) → words ≡ replicate n 0 → length words ≡ n
+zeros_wide words n e = ap length e ∙ length-replicate n 0
+
+module _ (config : Config) (last : ℕ) (words : List ℕ) (none : (j : ℕ) → get_or words j 0 ≡ 0) where
+  pub opening_image : length words ≡ row_words config → IsImage config last words opening
+  opening_image wide = record {
+    wide = wide;
+    gate = record {
+      parts = record { count = 0; shut = false };
+      word = none 0;
+      count = sym (count_all_false config.threads (λ t. is_inside Outside) (λ t l. refl));
+      shut = (λ e. absurd cc, λ u. absurd (let e = u.1 in cc));
+    };
+    top = none 1;
+    slot = λ i l. record {
+      parts = slot.Free 0;
+      word = none (2 + i);
+      next = 0;
+      serials = record { below = λ n l'. absurd (omega arith); above = λ h at l'. refl };
+      says = (λ h at. refl, refl, omega arith);
+    };
+    local = λ t p l m. none (local_at config t p);
+    header = λ o l m. none _;
+  }

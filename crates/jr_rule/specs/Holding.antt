@@ -1,0 +1,21 @@
+-- What a pass holds beside its seat.
+use Rattle.std.specs.Prelude.{◌≡◌, ◌<◌, ℕ, Bool, true, [], ◌∷◌}
+use Rattle.jr_model.specs.declared.event.Role.{Role}
+use Rattle.jr_model.specs.History.{IsLegal, role_of}
+use Rattle.jr_rule.specs.declared.known.Known.{Known}
+use Rattle.jr_rule.specs.Knowing.{view, HasNoLocals}
+use Rattle.jr_rule.specs.Rule.{Sat, acting, others_of, IsAlone, IsSized, view as rule_view}
+
+-- the pass sits alone, and its thread, role and freshness are those of what it knows
+pub record IsHeld (m : Sat) (thread : ℕ) (role : Role) (fresh : Bool) : Type 0 where
+  pub alone : IsAlone m
+  pub thread_is : (acting m).thread ≡ thread
+  pub role_is : role_of (view (acting m)) ≡ role
+  pub legal : ∥ IsLegal (acting m).config (acting m).last (acting m).seen ∥₁
+  pub sized : IsSized (acting m).config (acting m).last
+  pub row : thread < (acting m).config.threads
+  pub unused : fresh ≡ true → HasNoLocals (acting m)
+
+-- the seat has a pass to step, and no slots
+abbrev pub IsSeated : Sat → Type 0
+IsSeated m = m ≡ (rule_view (acting m ∷ others_of m.0.passes), [])

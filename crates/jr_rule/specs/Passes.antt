@@ -1,0 +1,68 @@
+-- What a pass shows, and what a room gives.
+use Rattle.std.specs.Prelude.{◌≡◌, ◌+◌, ◌≤◌, ◌<◌, ℕ, zero, suc, true, List, [], ◌∷◌, ◌++◌, map}
+use Rattle.std.specs.List.{All}
+use mathlib.Core.List.{IsPrefix}
+use Rattle.jr_word.specs.declared.config.Config.{Config}
+use Rattle.jr_model.specs.declared.event.Role.TheVariants.{Outside}
+use Rattle.jr_model.specs.declared.event.Act.TheVariants.{Meet}
+use Rattle.jr_model.specs.declared.summary.Summary.{Summary}
+use Rattle.jr_model.specs.State.{not_outside, summary}
+use Rattle.jr_model.specs.History.{History, state, mine, IsLegal}
+use Rattle.jr_rule.specs.declared.known.Known.{Known}
+use Rattle.jr_rule.specs.declared.pass.Pass.{Pass}
+use Rattle.jr_rule.specs.declared.room.Room.{Room}
+use Rattle.jr_rule.specs.Knowing.{Standing, Goes, state_of}
+use Rattle.jr_rule.specs.Rule.{known, acting}
+
+-- what a pass knows: its room and thread, and what it has seen
+abbrev pub known_of : Pass → Known
+known_of p = acting p.seat.me
+
+abbrev pub standing_of : Pass → Standing
+standing_of p = record { config = (known_of p).config; last = (known_of p).last; thread = p.thread; role = p.role; fresh = p.fresh }
+
+-- a pass knows one history: its own
+pub record Knows (p : Pass) (k : Known) : Type 0 where
+  pub is : k ≡ known_of p
+  pub legal : IsLegal k.config k.last k.seen
+
+-- THE PASS IS ONE OF THE ROOM'S OWN
+pub record IsOfRoom {LAST : ℕ} (r : Room LAST) (p : Pass) : Type 0 where
+  pub row : p.seat.table_id ≡ r.table.shared.table_id
+  pub config : (known_of p).config ≡ r.config
+  pub last : (known_of p).last ≡ LAST
+
+-- a pass of the room, as it was opened
+pub record IsOpened {LAST : ℕ} (r : Room LAST) (p : Pass) : Type 0 where
+  pub room : IsOfRoom r p
+  pub knows : known_of p ≡ known r.config LAST p.thread []
+  pub role : p.role ≡ Outside
+  pub fresh : p.fresh ≡ true
+
+abbrev pub numbers_below : ℕ → List ℕ
+numbers_below zero = []
+numbers_below (suc n) = numbers_below n ++ n ∷ []
+
+-- A ROOM AS IT WAS OPENED: one pass a thread, from thread 0 upward
+pub record AreOpened {LAST : ℕ} (c : Config) (r : Room LAST) (passes : List Pass) : Type 0 where
+  pub config : r.config ≡ c
+  pub threads : map (λ (p : Pass). p.thread) passes ≡ numbers_below c.threads
+  pub each : All (λ p. IsOpened r p) passes
+
+-- a pass is as it was
+pub record IsSame (old new : Pass) : Type 0 where
+  pub knows : known_of new ≡ known_of old
+  pub thread : new.thread ≡ old.thread
+  pub role : new.role ≡ old.role
+  pub fresh : new.fresh ≡ old.fresh
+
+-- A ROOM IS CLOSED: the pass found nobody inside, knocking or collecting, and the summary is that of one legal history, which begins with all that the pass has seen and has no more of its events
+pub record Closes (k : Known) (s : Summary) : Type 0 where
+  pub met : Known
+  pub goes : Goes k (Meet ∷ []) met
+  pub nobody : not_outside k.config (state_of met) ≡ 0
+  pub whole : History
+  pub legal : IsLegal k.config k.last whole
+  pub begins : IsPrefix met.seen whole
+  pub own : mine whole k.thread ≡ mine met.seen k.thread
+  pub is : s ≡ summary k.config k.last (state whole)

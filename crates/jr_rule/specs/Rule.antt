@@ -1,0 +1,134 @@
+-- THE RULE OF THE ROW: its words are the image of the machine's state after one legal history, the longest that any pass has seen, and each pass has seen a beginning of it, with all its own events.
+use Rattle.std.specs.Prelude.{◌≡◌, ◌+◌, ◌<◌, ◌≤◌, ◌^◌, ◌==◌, ℕ, zero, suc, cond, List, [], ◌∷◌, ◌++◌, map, slice_index, slice_set}
+use mathlib.Core.List.{IsPrefix}
+use mathlib.Core.Option.{some}
+use lib.ListN.{get_elem?}
+use Rattle.atomic_table.specs.Table.{State as Table, Me}
+use Rattle.jr_word.specs.declared.config.Config.{Config}
+use Rattle.jr_model.specs.declared.event.Act.{Act}
+use Rattle.jr_model.specs.History.{History, by, state, IsLegal, mine}
+use Rattle.jr_rule.specs.declared.known.Known.{Known}
+use Rattle.jr_rule.specs.declared.known.View.{View}
+use Rattle.jr_rule.specs.Image.{IsImage}
+use Rattle.jr_rule.specs.Knowing.{Goes}
+
+abbrev pub known : Config → ℕ → ℕ → History → Known
+known c last t seen = record { config = c; last = last; thread = t; seen = seen }
+
+abbrev pub view : List Known → View
+view ks = record { passes = ks }
+
+-- the sizes of a room
+pub record IsSized (c : Config) (last : ℕ) : Type 0 where
+  pub threads : (1 ≤ c.threads) × (c.threads ≤ 64)
+  pub slots : c.slots ≤ 65536
+  pub objects : c.objects ≤ 65535
+  pub words : c.words ≤ 1048576
+  pub locals : c.locals ≤ 4096
+  pub serials : last < 2 ^ 16
+
+-- A PASS has seen a beginning of the history, in which all its own events stand
+pub record Fits (c : Config) (last : ℕ) (log : History) (k : Known) : Type 0 where
+  pub same_config : k.config ≡ c
+  pub same_last : k.last ≡ last
+  pub row : k.thread < c.threads
+  pub begins : IsPrefix k.seen log
+  pub own : mine log k.thread ≡ mine k.seen k.thread
+
+abbrev pub EachFits : Config → ℕ → History → List Known → Type 0
+EachFits c last log [] = Unit {0}
+EachFits c last log (k ∷ ks) = Fits c last log k × EachFits c last log ks
+
+abbrev pub total : {A : Type 0} → (A → ℕ) → List A → ℕ
+total f [] = 0
+total f (x ∷ xs) = f x + total f xs
+
+-- how many passes of the thread a view stands for
+abbrev pub is_of : ℕ → Known → ℕ
+is_of t k = cond (k.thread == t) 1 0
+
+abbrev pub passes_of : ℕ → View → ℕ
+passes_of t v = total (is_of t) v.passes
+
+-- the row, with what each seat at it knows
+abbrev pub Row : Type 0
+Row = Table (Unit {0}) View
+
+pub record Kept (last : ℕ) (c : Config) (r : Row) : Type 0 where
+  pub log : History
+  pub legal : IsLegal c last log
+  pub sized : IsSized c last
+  pub image : IsImage c last r.words (state log)
+  pub each : (j : ℕ) (v : View) → get_elem? r.views j ≡ some v → EachFits c last log v.passes
+  pub once : (t : ℕ) → total (passes_of t) r.views ≤ 1
+
+-- AT THE OPENING the one seat stands for all passes, of so many threads from t on, which have seen nothing
+abbrev pub newcomers : Config → ℕ → ℕ → ℕ → List Known
+newcomers c last zero t = []
+newcomers c last (suc n) t = known c last t [] ∷ newcomers c last n (suc t)
+
+-- a seat, without slots of its own
+abbrev pub Sat : Type 0
+Sat = Me (Unit {0}) View
+
+abbrev pub nobody : Known
+nobody = known (record { threads = 0; slots = 0; objects = 0; words = 0; locals = 0 }) 0 0 []
+
+abbrev pub first_of : List Known → Known
+first_of [] = nobody
+first_of (k ∷ ks) = k
+
+abbrev pub others_of : List Known → List Known
+others_of [] = []
+others_of (k ∷ ks) = ks
+
+-- the first of a seat's passes is the one that steps
+abbrev pub acting : Sat → Known
+acting m = first_of m.0.passes
+
+-- a seat of one pass
+abbrev pub IsAlone : Sat → Type 0
+IsAlone m = m ≡ (view (acting m ∷ []), [])
+
+-- WHAT A STEP TELLS: what others did in between and then its acts, one or none, end what its pass has seen, and this holds of the number found
+pub record Tells (told : Known → ℕ → List Act → Known → Type 0) (m : Sat) (n : ℕ) (m' : Sat) : Type 0 where
+  pub acts : List Act
+  pub new : Known
+  pub is : m' ≡ (view (new ∷ others_of m.0.passes), m.1)
+  pub goes : Goes (acting m) acts new
+  pub says : told (acting m) n acts new
+  pub others : EachFits (acting m).config (acting m).last new.seen (others_of m.0.passes)
+
+-- HOW A SEAT IS CUT: the first pass alone, and the others
+abbrev pub first_alone : View → View
+first_alone v = view (first_of v.passes ∷ [])
+
+abbrev pub without_first : View → View
+without_first v = view (others_of v.passes)
+
+-- HOW TWO SEATS ARE JOINED: one stands for the passes of both, and the other for none
+abbrev pub together : View → View → View
+together v w = view (v.passes ++ w.passes)
+
+abbrev pub spent : View
+spent = view []
+
+-- WHAT A KIND OF STEP OWES, which turns the word i into f of what it finds: whatever the history and the words are, its acts are steps of the machine, the words are then the image, and what it tells is so
+pub record IsFound (k : Known) (log : History) (words : List ℕ) : Type 0 where
+  pub fits : Fits k.config k.last log k
+  pub legal : IsLegal k.config k.last log
+  pub sized : IsSized k.config k.last
+  pub image : IsImage k.config k.last words (state log)
+
+-- what is known after acts at the end of the history
+abbrev pub known_at : Known → History → List Act → Known
+known_at k log acts = known k.config k.last k.thread (log ++ map (by k.thread) acts)
+
+pub record Makes (k : Known) (log : History) (words : List ℕ) (told : List Act → Known → Type 0) : Type 0 where
+  pub acts : List Act
+  pub legal : IsLegal k.config k.last (log ++ map (by k.thread) acts)
+  pub image : IsImage k.config k.last words (state (log ++ map (by k.thread) acts))
+  pub says : told acts (known_at k log acts)
+
+abbrev pub Owes : Known → ℕ → (ℕ → ℕ) → (ℕ → List Act → Known → Type 0) → Type 0
+Owes k i f told = (log : History) (words : List ℕ) → IsFound k log words → Makes k log (slice_set words i (f (slice_index words i))) (told (slice_index words i))

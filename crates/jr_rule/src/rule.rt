@@ -1,0 +1,74 @@
+//! The rule of the row, and what its steps tell.
+use crate::known::View;
+use atomic_table::{Join, Play, Split, TableRule};
+use jr_word::Config;
+use std::marker::{Brand, PhantomData};
+
+/// The rule of a row with `LAST` as the last serial.
+pub struct Rule<const LAST: u16>;
+
+impl<const LAST: u16> TableRule<(), View, Config> for Rule<LAST> {
+    ghost use Rattle.jr_rule.specs.Rule.{Kept, view, newcomers};
+
+    ghost holds = { Kept LAST };
+
+    ghost first = { λ c. view (newcomers c LAST c.threads 0) };
+}
+
+/// What a step tells of what was known, the number that it found, its acts, and what is known then.
+pub trait Telling {
+    ghost use Rattle.std.specs.Prelude.{ℕ, List};
+    ghost use Rattle.jr_model.specs.declared.event.Act.{Act};
+    ghost use Rattle.jr_rule.specs.declared.known.Known.{Known};
+
+    ghost told: { Known → ℕ → List Act → Known → Type 0 };
+}
+
+/// The call that steps picks what is told.
+impl Telling for Brand {
+    ghost told = { λ k n acts k'. Unit {0} };
+}
+
+/// A step that tells this.
+pub struct Tell<T> {
+    telling: PhantomData<T>,
+}
+
+impl<T: Telling> Play<(), View> for Tell<T> {
+    ghost use Rattle.jr_rule.specs.Rule.{Tells};
+
+    ghost then = { λ s m n m'. Tells T.told m n m' };
+}
+
+/// The first pass leaves the seat.
+pub struct Deal;
+
+impl Split<View> for Deal {
+    ghost use Rattle.jr_rule.specs.Rule.{first_alone, without_first};
+
+    ghost left = { without_first };
+
+    ghost right = { first_alone };
+}
+
+/// All passes but the first leave the seat.
+pub struct Part;
+
+impl Split<View> for Part {
+    ghost use Rattle.jr_rule.specs.Rule.{first_alone, without_first};
+
+    ghost left = { first_alone };
+
+    ghost right = { without_first };
+}
+
+/// The passes of both seats.
+pub struct Gather;
+
+impl Join<View> for Gather {
+    ghost use Rattle.jr_rule.specs.Rule.{together, spent};
+
+    ghost both = { together };
+
+    ghost spent = { spent };
+}
