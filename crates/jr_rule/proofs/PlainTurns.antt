@@ -1,21 +1,32 @@
 -- The steps over plain words, each at whatever the words show.
-use Rattle.std.proofs.Common.{◌≡◌, ◌⊎◌, ⊎_elim, ◌+◌, ◌<◌, ◌≤◌, ℕ, Bool, not, List, [], ◌∷◌, get_or, slice_set, refl, sym, ap, subst, ◌∙◌, arith}
+use Rattle.std.proofs.Common.{◌≡◌, ◌⊎◌, ⊎_elim, ◌+◌, ◌<◌, ◌≤◌, ℕ, Bool, true, false, not, List, [], ◌∷◌, get_or, slice_set, refl, sym, ap, subst, ◌∙◌, arith}
 use Rattle.jr_word.specs.declared.config.Config.{Config}
 use Rattle.jr_word.specs.declared.gate.GateParts.{GateParts}
 use Rattle.jr_word.specs.Gate.{gate_word, IsGate}
 use Rattle.jr_model.specs.declared.event.Role.{Role}
-use Rattle.jr_model.specs.declared.event.Role.TheVariants.{Outside, Within, Knocking}
+use Rattle.jr_model.specs.declared.event.Role.TheVariants.{Outside, Within, Knocking, Collecting}
 use Rattle.jr_model.specs.History.{state, role_after}
 use Rattle.jr_rule.specs.declared.known.Known.{Known}
 use Rattle.jr_rule.specs.Acts.{entered_as, leaving}
-use Rattle.jr_rule.specs.Knowing.{Standing, MayKnow, anything, nothing}
+use Rattle.jr_rule.specs.Knowing.{Standing, fresh_after, MayKnow, anything, nothing}
 use Rattle.jr_rule.specs.Plain.{standing, Shows}
 use Rattle.jr_rule.proofs.GateTurns.{gate_fits, gate_most, goes_in, goes_out, counted}
-use Rattle.jr_rule.proofs.PlainTook.{Turned, IsFew, shown_most}
+use Rattle.jr_rule.proofs.PlainTook.{stands_same, Turned, IsFew, shown_most}
 
-module _ (config : Config) (last : ℕ) (few : IsFew config last) (role : Role) (words : List ℕ) where
+-- no step of the gate leaves the pass less fresh
+entered_fresh : (b f : Bool) → f ≡ fresh_after f (entered_as b)
+entered_fresh true f = refl
+entered_fresh false f = refl
+
+left_fresh : (r : Role) (f : Bool) → f ≡ fresh_after f (leaving r)
+left_fresh Outside f = refl
+left_fresh Within f = refl
+left_fresh Knocking f = refl
+left_fresh Collecting f = refl
+
+module _ (config : Config) (last : ℕ) (few : IsFew config last) (role : Role) (fresh : Bool) (words : List ℕ) where
   abbrev old : Standing
-  old = standing config last role
+  old = standing config last role fresh
 
   few_threads : (k : Known) → Shows old words k → k.config.threads ≤ 64
   few_threads k s = let f = few.threads.1 in let e = ap (λ (c : Config). c.threads) s.pass.config in omega arith
@@ -31,9 +42,9 @@ module _ (config : Config) (last : ℕ) (few : IsFew config last) (role : Role) 
   gate_some counts may = shown_most 1 (get_or words 0 0) may (λ k s m. counted k.config k.last k.seen k.thread words s.pass.legal s.image (row k s) role counts s.pass.role)
 
   pub entered : (role' : Role) (found : ℕ) (shut : Bool) → found ≡ get_or words 0 0 → ((parts : GateParts) → IsGate parts → found ≡ gate_word parts → shut ≡ parts.shut) → role ≡ Outside → role' ≡ role_after Outside (entered_as (not shut))
-      → Turned old words (standing config last role') (slice_set words 0 (found + 1)) (entered_as (not shut) ∷ []) anything nothing
+      → Turned old words (standing config last role' fresh) (slice_set words 0 (found + 1)) (entered_as (not shut) ∷ []) anything nothing
   entered role' found shut is read out then = record {
-    stands_is = ap (standing config last) (then ∙ ap (λ r. role_after r (entered_as (not shut))) (sym out));
+    stands_is = stands_same config last (then ∙ ap (λ r. role_after r (entered_as (not shut))) (sym out)) (entered_fresh (not shut) fresh);
     turn = λ k s m.
         let g = s.image.gate in
         let same = read g.parts (gate_fits k.config (state k.seen).role (get_or words 0 0) (few_threads k s) g) (is ∙ g.word) in
@@ -47,8 +58,8 @@ module _ (config : Config) (last : ℕ) (few : IsFew config last) (role : Role) 
       counts
 
   pub left : (n : ℕ) → n + 1 ≡ get_or words 0 0 → (role ≡ Within) ⊎ (role ≡ Knocking)
-      → Turned old words (standing config last Outside) (slice_set words 0 n) (leaving role ∷ []) anything nothing
+      → Turned old words (standing config last Outside fresh) (slice_set words 0 n) (leaving role ∷ []) anything nothing
   left n is counts = record {
-    stands_is = ap (standing config last) (left_role role counts);
+    stands_is = stands_same config last (left_role role counts) (left_fresh role fresh);
     turn = λ k s m. (goes_out k.config k.last k.seen k.thread words s.pass.legal s.image (row k s) role n is counts s.pass.role, tt);
   }
