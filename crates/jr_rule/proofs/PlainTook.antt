@@ -73,6 +73,16 @@ took LAST s s' {acts} t = record {
   goes = λ k h m. let r = t.turn k h m in (known_then k acts, shown_next t k h m, goes_then k acts r.0.legal, r.1);
 }
 
+-- what the words show does not depend on whether the pass is fresh
+pub shows_spent : {c : Config} {last : ℕ} {r : Role} {words : List ℕ} {k : Known} (f f' : Bool) → Shows (standing c last r f) words k → Shows (standing c last r f') words k
+shows_spent f f' s = record {
+  pass = record { config = s.pass.config; last = s.pass.last; thread = s.pass.thread; role = s.pass.role; legal = s.pass.legal };
+  image = s.image;
+}
+
+pub shown_spent : {c : Config} {last : ℕ} {r : Role} {words : List ℕ} (f f' : Bool) → MayKnow (Shows (standing c last r f)) words anything → MayKnow (Shows (standing c last r f')) words anything
+shown_spent f f' may = ∥∥₁_map may (λ k. (k.0, shows_spent f f' k.1, tt))
+
 -- a bound that holds of whatever is known
 pub shown_most : {s : Standing} {words : List ℕ} {met : Known → Type 0} (a b : ℕ) → MayKnow (Shows s) words met → ((k : Known) → Shows s words k → met k → a ≤ b) → a ≤ b
 shown_most a b may each = ∥∥₁_elim may (hlevel props) (λ k. each k.0 k.1 k.2)

@@ -1,5 +1,7 @@
 -- The steps over plain words, each at whatever the words show.
-use Rattle.std.proofs.Common.{◌≡◌, ◌⊎◌, ⊎_elim, ◌+◌, ◌<◌, ◌≤◌, ℕ, Bool, true, false, not, List, [], ◌∷◌, get_or, slice_set, refl, sym, ap, subst, ◌∙◌, arith}
+use Rattle.std.proofs.Common.{◌≡◌, ◌⊎◌, ⊎_elim, ◌+◌, ◌<◌, ◌≤◌, ℕ, Bool, true, false, not, Option, Some, IsSome, List, [], ◌∷◌, get_or, slice_set, refl, sym, ap, subst, ◌∙◌, arith}
+use Rattle.std.proofs.Math.Logic.{∥∥₁_elim}
+use Rattle.std.proofs.Props.{props}
 use Rattle.jr_word.specs.declared.config.Config.{Config}
 use Rattle.jr_word.specs.declared.gate.GateParts.{GateParts}
 use Rattle.jr_word.specs.Gate.{gate_word, IsGate}
@@ -40,6 +42,14 @@ module _ (config : Config) (last : ℕ) (few : IsFew config last) (role : Role) 
 
   pub gate_some : (role ≡ Within) ⊎ (role ≡ Knocking) → MayKnow (Shows old) words anything → 1 ≤ get_or words 0 0
   gate_some counts may = shown_most 1 (get_or words 0 0) may (λ k s m. counted k.config k.last k.seen k.thread words s.pass.legal s.image (row k s) role counts s.pass.role)
+
+  -- the gate's word has a reading
+  pub gate_read : (r : Option GateParts) → MayKnow (Shows old) words anything → ((p : GateParts) → IsGate p → get_or words 0 0 ≡ gate_word p → r ≡ Some p) → IsSome r
+  gate_read r may read = ∥∥₁_elim may (hlevel props)
+      (λ k.
+      let g = k.1.image.gate in
+      let e = read g.parts (gate_fits k.0.config (state k.0.seen).role (get_or words 0 0) (few_threads k.0 k.1) g) g.word in
+      subst (λ z. IsSome z) (sym e) refl)
 
   pub entered : (role' : Role) (found : ℕ) (shut : Bool) → found ≡ get_or words 0 0 → ((parts : GateParts) → IsGate parts → found ≡ gate_word parts → shut ≡ parts.shut) → role ≡ Outside → role' ≡ role_after Outside (entered_as (not shut))
       → Turned old words (standing config last role' fresh) (slice_set words 0 (found + 1)) (entered_as (not shut) ∷ []) anything nothing
