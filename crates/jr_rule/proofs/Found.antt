@@ -32,6 +32,12 @@ none_mine (f ∷ es) t e = go (f.thread == t) refl (none_mine es t)
     go true q rest = let here : mine (f ∷ es) t ≡ f.act ∷ mine es t = ap (λ b. cond b (f.act ∷ mine es t) (mine es t)) q in absurd (let z = sym here ∙ e in cc)
     go false q rest = let here : mine (f ∷ es) t ≡ mine es t = ap (λ b. cond b (f.act ∷ mine es t) (mine es t)) q in (eq_false f.thread t q, rest (sym here ∙ e))
 
+-- a closed heap is one without a choice: an element is 0, or else an object's number
+closed_is : (s : State) → ∥ IsClosed s ∥₁ → IsClosed s
+closed_is s closed o x at kind i v there = dite (ℕ_discrete v 0)
+    (λ none. inl none)
+    (λ some. inr (∥∥₁_elim closed (hlevel props) (λ c. ⊎_elim (λ none. absurd (some none)) (λ p. p) (c o x at kind i v there))))
+
 module _ (k : Known) (log : History) (words : List ℕ) (f : IsFound k log words) where
   abbrev t : ℕ
   t = k.thread
@@ -66,9 +72,9 @@ module _ (k : Known) (log : History) (words : List ℕ) (f : IsFound k log words
   }
 
   -- while a thread collects, no array names an absent object that did not before
-  pub closed_now : role_of (view k) ≡ Collecting → IsClosedNow k → IsClosed (state log)
+  pub closed_now : role_of (view k) ≡ Collecting → ∥ IsClosedNow k ∥₁ → IsClosed (state log)
   closed_now collecting closed =
       let both = (legal_append k.config k.last k.seen between).0 (subst (IsLegal k.config k.last) (sym f.fits.begins.1) f.legal) in
       let same = same_along k.config k.last t (state k.seen) between (apart_state k.config k.last k.seen both.0) collecting (none_mine between t quiet) both.1 in
       let end : (state log).objects ≡ (state k.seen).objects = ap (λ es. (state es).objects) (sym f.fits.begins.1) ∙ (ap (λ (s : State). s.objects) (state_append k.seen between) ∙ same.objects) in
-      subst (λ (x : ℕ → Option Contents). IsClosed (record (state log) { objects = x })) (sym end) closed
+      subst (λ (x : ℕ → Option Contents). IsClosed (record (state log) { objects = x })) (sym end) (closed_is (state k.seen) closed)

@@ -21,3 +21,5 @@ pub mod Plays
 pub mod Seats
 pub mod Stepped
 pub mod Found
+pub mod Told
+pub mod GateOwed

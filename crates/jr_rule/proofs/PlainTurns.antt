@@ -20,17 +20,17 @@ use Rattle.jr_rule.proofs.Turns.{Turn}
 use Rattle.jr_rule.proofs.PlainTook.{known_then, stands_same, Turned, IsFew, shown_most}
 
 -- no step of the gate leaves the pass less fresh
-entered_fresh : (b f : Bool) → f ≡ fresh_after f (entered_as b)
+pub entered_fresh : (b f : Bool) → f ≡ fresh_after f (entered_as b)
 entered_fresh true f = refl
 entered_fresh false f = refl
 
-left_fresh : (r : Role) (f : Bool) → f ≡ fresh_after f (leaving r)
+pub left_fresh : (r : Role) (f : Bool) → f ≡ fresh_after f (leaving r)
 left_fresh Outside f = refl
 left_fresh Within f = refl
 left_fresh Knocking f = refl
 left_fresh Collecting f = refl
 
-named_fresh : (name : GateNaming) (n : ℕ) (f : Bool) → f ≡ fresh_after f (gate_named name n)
+pub named_fresh : (name : GateNaming) (n : ℕ) (f : Bool) → f ≡ fresh_after f (gate_named name n)
 named_fresh gate.Meet n f = refl
 named_fresh gate.Busy zero f = refl
 named_fresh gate.Busy (suc n) f = refl
@@ -78,7 +78,7 @@ module _ (config : Config) (last : ℕ) (few : IsFew config last) (role : Role) 
         (goes_in k.config k.last k.seen k.thread words s.pass.legal s.image (row k s) found shut is same (s.pass.role ∙ out), tt);
   }
 
-  left_role : (r : Role) → (r ≡ Within) ⊎ (r ≡ Knocking) → Outside ≡ role_after r (leaving r)
+  pub left_role : (r : Role) → (r ≡ Within) ⊎ (r ≡ Knocking) → Outside ≡ role_after r (leaving r)
   left_role r counts = ⊎_elim
       (λ (e : r ≡ Within). subst (λ z. Outside ≡ role_after z (leaving z)) (sym e) refl)
       (λ (e : r ≡ Knocking). subst (λ z. Outside ≡ role_after z (leaving z)) (sym e) refl)

@@ -11,11 +11,11 @@ use Rattle.jr_model.proofs.Agreement.{spares_places, places_did, all_spared}
 use Rattle.jr_model.proofs.Stays.{role_did}
 use Rattle.jr_rule.specs.declared.known.Known.{Known}
 use Rattle.jr_rule.specs.declared.pass.Pass.{Pass}
-use Rattle.jr_rule.specs.declared.room.Room.{Room}
+use Rattle.jr_rule.specs.declared.row.Row.{Row}
 use Rattle.jr_rule.specs.Knowing.{Standing, view, moved, fresh_from, HasNoLocals, Goes, Took}
 use Rattle.jr_rule.specs.Rule.{view as seats, Sat, acting, others_of, Tells}
 use Rattle.jr_rule.specs.Holding.{IsHeld, IsSeated}
-use Rattle.jr_rule.specs.Passes.{known_of, standing_of, Knows, IsOfRoom}
+use Rattle.jr_rule.specs.Passes.{known_of, standing_of, Knows, IsAt}
 use Rattle.jr_rule.proofs.Goes.{goes_did}
 
 -- who is fresh afterwards was so, and has stored no local
@@ -39,24 +39,24 @@ module _ {told : Known → ℕ → List Act → Known → Type 0} (m : Sat) (n :
   pub acting_is : acting m' ≡ s.new
   acting_is = ap acting s.is
 
-  pub held_next : (thread : ℕ) (role : Role) (fresh : Bool) → IsHeld m thread role fresh → (role' : Role) (fresh' : Bool) → role' ≡ role_from role s.acts → fresh' ≡ fresh_from fresh s.acts → IsHeld m' thread role' fresh'
-  held_next thread role fresh h role' fresh' role_is fresh_is =
+  pub held_next : (thread : ℕ) (role : Role) (fresh : Bool) → IsHeld m thread role fresh → (role' : Role) (fresh' : Bool) (acts : List Act) → s.acts ≡ acts → role' ≡ role_from role acts → fresh' ≡ fresh_from fresh acts → IsHeld m' thread role' fresh'
+  held_next thread role fresh h role' fresh' acts are role_is fresh_is =
       let g = s.goes in
       let same_config : (acting m').config ≡ (acting m).config = ap (λ (k : Known). k.config) acting_is ∙ g.config in
       let same_last : (acting m').last ≡ (acting m).last = ap (λ (k : Known). k.last) acting_is ∙ g.last in record {
         alone = s.is ∙ (λ i. (seats (sym acting_is i ∷ ap (λ (z : Sat). others_of z.0.passes) h.alone i), ap (λ (z : Sat). z.1) h.alone i));
         thread_is = ap (λ (k : Known). k.thread) acting_is ∙ (g.thread ∙ h.thread_is);
-        role_is = ap (λ k. role_of (view k)) acting_is ∙ (role_did s.acts (goes_did g) ∙ (ap (λ r. role_from r s.acts) h.role_is ∙ sym role_is));
+        role_is = ap (λ k. role_of (view k)) acting_is ∙ (role_did s.acts (goes_did g) ∙ (ap (λ r. role_from r s.acts) h.role_is ∙ (ap (role_from role) are ∙ sym role_is)));
         legal = ∣ subst (λ (z : Config × ℕ × History). IsLegal z.0 z.1 z.2) (λ i. (sym same_config i, sym same_last i, sym (ap (λ (k : Known). k.seen) acting_is) i)) g.legal ∣₁;
         sized = subst (λ (z : Config × ℕ). Rattle.jr_rule.specs.Rule.IsSized z.0 z.1) (λ i. (sym same_config i, sym same_last i)) h.sized;
         row = subst (λ (c : Config). thread < c.threads) (sym same_config) h.row;
-        unused = λ e. subst HasNoLocals (sym acting_is) (no_locals_next (acting m) s.new s.acts fresh g (sym fresh_is ∙ e) h.unused);
+        unused = λ e. subst HasNoLocals (sym acting_is) (no_locals_next (acting m) s.new s.acts fresh g (ap (fresh_from fresh) are ∙ (sym fresh_is ∙ e)) h.unused);
       }
 
 module _ {told : Known → ℕ → List Act → Known → Type 0} (old new : Pass) (n : ℕ) (s : Tells told old.seat.me n new.seat.me) where
-  -- the pass is still one of the room
-  pub of_room : {LAST : ℕ} (r : Room LAST) → IsOfRoom {LAST = LAST} r old → new.seat.table_id ≡ old.seat.table_id → IsOfRoom {LAST = LAST} r new
-  of_room r h e = let g = s.goes in let a = acting_is old.seat.me n new.seat.me s in record {
+  -- the pass is still one of the row
+  pub still_at : (r : Row) → IsAt r old → new.seat.table_id ≡ old.seat.table_id → IsAt r new
+  still_at r h e = let g = s.goes in let a = acting_is old.seat.me n new.seat.me s in record {
     row = e ∙ h.row;
     config = ap (λ (k : Known). k.config) a ∙ (g.config ∙ h.config);
     last = ap (λ (k : Known). k.last) a ∙ (g.last ∙ h.last);

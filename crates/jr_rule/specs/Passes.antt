@@ -10,7 +10,7 @@ use Rattle.jr_model.specs.State.{not_outside, summary}
 use Rattle.jr_model.specs.History.{History, state, mine, IsLegal}
 use Rattle.jr_rule.specs.declared.known.Known.{Known}
 use Rattle.jr_rule.specs.declared.pass.Pass.{Pass}
-use Rattle.jr_rule.specs.declared.room.Room.{Room}
+use Rattle.jr_rule.specs.declared.row.Row.{Row}
 use Rattle.jr_rule.specs.Knowing.{Standing, Goes, state_of}
 use Rattle.jr_rule.specs.Rule.{known, acting}
 
@@ -26,16 +26,16 @@ pub record Knows (p : Pass) (k : Known) : Type 0 where
   pub is : k ≡ known_of p
   pub legal : IsLegal k.config k.last k.seen
 
--- THE PASS IS ONE OF THE ROOM'S OWN
-pub record IsOfRoom {LAST : ℕ} (r : Room LAST) (p : Pass) : Type 0 where
+-- THE PASS IS ONE OF THE ROW'S OWN
+pub record IsAt (r : Row) (p : Pass) : Type 0 where
   pub row : p.seat.table_id ≡ r.table.shared.table_id
   pub config : (known_of p).config ≡ r.config
-  pub last : (known_of p).last ≡ LAST
+  pub last : (known_of p).last ≡ r.last
 
--- a pass of the room, as it was opened
-pub record IsOpened {LAST : ℕ} (r : Room LAST) (p : Pass) : Type 0 where
-  pub room : IsOfRoom r p
-  pub knows : known_of p ≡ known r.config LAST p.thread []
+-- a pass of the row, as it was opened
+pub record IsOpened (r : Row) (p : Pass) : Type 0 where
+  pub row : IsAt r p
+  pub knows : known_of p ≡ known r.config r.last p.thread []
   pub role : p.role ≡ Outside
   pub fresh : p.fresh ≡ true
 
@@ -43,9 +43,10 @@ abbrev pub numbers_below : ℕ → List ℕ
 numbers_below zero = []
 numbers_below (suc n) = numbers_below n ++ n ∷ []
 
--- A ROOM AS IT WAS OPENED: one pass a thread, from thread 0 upward
-pub record AreOpened {LAST : ℕ} (c : Config) (r : Room LAST) (passes : List Pass) : Type 0 where
-  pub config : r.config ≡ c
+-- A ROW AS IT WAS OPENED: one pass a thread, from thread 0 upward
+pub record AreOpened (c : Config) (last : ℕ) (r : Row) (passes : List Pass) : Type 0 where
+  pub same_config : r.config ≡ c
+  pub same_last : r.last ≡ last
   pub threads : map (λ (p : Pass). p.thread) passes ≡ numbers_below c.threads
   pub each : All (λ p. IsOpened r p) passes
 

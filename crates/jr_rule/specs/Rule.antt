@@ -9,8 +9,12 @@ use Rattle.jr_model.specs.declared.event.Act.{Act}
 use Rattle.jr_model.specs.History.{History, by, state, IsLegal, mine}
 use Rattle.jr_rule.specs.declared.known.Known.{Known}
 use Rattle.jr_rule.specs.declared.known.View.{View}
+use Rattle.jr_rule.specs.declared.rule.Sizes.{Sizes}
 use Rattle.jr_rule.specs.Image.{IsImage}
 use Rattle.jr_rule.specs.Knowing.{Goes}
+
+abbrev pub sizes : Config → ℕ → Sizes
+sizes c last = record { config = c; last = last }
 
 abbrev pub known : Config → ℕ → ℕ → History → Known
 known c last t seen = record { config = c; last = last; thread = t; seen = seen }

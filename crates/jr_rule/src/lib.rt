@@ -7,7 +7,9 @@ mod parts;
 mod pass;
 mod plain;
 mod room;
+mod row;
 mod rule;
+mod stepping;
 mod steps;
 
 pub use known::{Known, View};

@@ -1,141 +1,35 @@
-//! The room: its row of words, the passes at it, and the steps of a pass.
-ghost use Rattle.std.specs.Prelude.{◌≡◌, ◌≢◌, ◌⊎◌, ◌↔◌, ◌+◌, ◌<◌, ◌≤◌, ◌^◌, ◌%◌, ◌-◌, ◌==◌, [], ◌∷◌, IfOk, IfErr, Ok, Err, true, false};
-ghost use prog.Atomic.{either};
+//! Rooms: opened, shared by the holders of their passes, and closed.
+ghost use Rattle.std.specs.Prelude.{◌≡◌, ◌⊎◌, ◌↔◌, IfOk, IfErr, Ok, Err, false};
 ghost use Rattle.jr_word.specs.declared.fault.Fault.TheVariants.{Memory, Size};
-ghost use Rattle.jr_word.specs.Config.{in_limits, row_words};
-ghost use Rattle.jr_model.specs.declared.event.Role.TheVariants.{Outside};
-ghost use Rattle.jr_rule.specs.Rule.{IsSized, known, view, newcomers, others_of, acting, IsAlone, Owes, Tells};
+ghost use Rattle.jr_word.specs.Config.{in_limits};
 
-use crate::known::View;
 use crate::pass::Pass;
-use crate::rule::{Deal, Rule, Tell, Telling};
-use atomic_table::{Seat, Table};
-use jr_model::Role;
+use crate::row::Row;
 use jr_word::{Config, Fault};
-use std::alloc::{AllocError, Global};
+use std::alloc::Global;
 
 /// A room: one row of atomic words, which the holders of its passes share, with `LAST` as the last serial.
 #[derive(Drop)]
 pub struct Room<const LAST: u16> {
-    pub(crate) table: Table<(), View, Config, Rule<LAST>, Global>,
-    pub(crate) config: Config,
-    ghost key: { table.shared.key ≡ config },
-    ghost no_slots: { table.shared.table_id.slots ≡ 0 },
-    ghost words: { table.shared.table_id.words ≡ row_words config },
-    ghost sized: { IsSized config LAST },
+    pub(crate) row: Row,
+    ghost last: { row.last ≡ LAST },
 }
 
 impl<const LAST: u16> Room<LAST> {
-    ghost use Rattle.jr_rule.specs.Passes.{AreOpened, IsOpened};
-    ghost use Rattle.jr_rule.specs.Holding.{IsSeated};
+    ghost use Rattle.jr_rule.specs.Passes.{AreOpened};
 
     /// Opens a room of zeros, with one pass a thread, from thread 0 upward: E16, E17.
     pub fn open(alloc: Global, config: Config) -> Result<(Room<LAST>, Vec<Pass>), Fault>
         ensures size { (result ≡ Err Size) ↔ (in_limits config ≡ false) }
         ensures memory { IfErr result (λ e. (e ≡ Size) ⊎ (e ≡ Memory)) }
-        ensures opened { IfOk result (λ r. AreOpened config r.0 r.1.items) }
+        ensures opened { IfOk result (λ r. AreOpened config LAST r.0.row r.1.items) }
     {
         if !config.in_limits() {
             return Err(Fault::Size);
         }
-        let Ok(words) = vec![in alloc; 0u64; config.row_words()] else {
+        let Ok((row, passes)) = Row::open(alloc, config, LAST) else {
             return Err(Fault::Memory);
         };
-        let Ok((table, seat)) = Table::of_words(alloc, words.as_slice(), &config) else {
-            return Err(Fault::Memory);
-        };
-        let room = Room { table, config };
-        let Ok(passes) = room.deal_all(alloc, seat) else {
-            return Err(Fault::Memory);
-        };
-        Ok((room, passes))
-    }
-
-    /// One pass a thread, from thread 0 upward.
-    fn deal_all(&self, alloc: Global, mut seat: Seat<(), View>) -> Result<Vec<Pass>, AllocError>
-        requires room { seat.table_id ≡ self.now.table.shared.table_id }
-        requires all { seat.me ≡ (view (newcomers self.now.config LAST self.now.config.threads 0), []) }
-        ensures { IfOk result (λ passes. AreOpened self.now.config self.now passes.items) }
-    {
-        let mut passes = Vec::with_capacity(alloc, self.config.threads as usize)?;
-        for thread in 0..self.config.threads {
-            passes.push(self.deal(&mut seat, thread as u8))?;
-        }
-        Ok(passes)
-    }
-
-    /// The seat's first pass, which is this thread's.
-    fn deal(&self, seat: &mut Seat<(), View>, thread: u8) -> Pass
-        requires room { seat.old.table_id ≡ self.now.table.shared.table_id }
-        requires thread { thread < self.now.config.threads }
-        requires first { seat.old.me ≡ (view (known self.now.config LAST thread [] ∷ others_of seat.old.me.0.passes), []) }
-        ensures seat { (seat.new.table_id ≡ seat.old.table_id) × (seat.new.me ≡ (view (others_of seat.old.me.0.passes), [])) }
-        ensures pass { IsOpened self.now result × (result.thread ≡ thread) }
-    {
-        let dealt = self.table.shared.split_seat::<Deal>(seat);
-        Pass {
-            seat: dealt,
-            thread,
-            role: Role::Outside,
-            fresh: true,
-        }
-    }
-
-    /// Loads a word.
-    pub(crate) fn load<T: Telling>(&self, seat: &mut Seat<(), View>, at: usize) -> u64
-        requires room { (seat.old.table_id ≡ self.now.table.shared.table_id) × (at < row_words self.now.config) }
-        requires seated { IsSeated seat.old.me }
-        requires owes { Owes (acting seat.old.me) at (λ n. n) (T.told (acting seat.old.me)) }
-        ensures { (seat.new.table_id ≡ seat.old.table_id) × Tells T.told seat.old.me result seat.new.me }
-    {
-        self.table.shared.load::<Tell<T>>(seat, at)
-    }
-
-    /// Stores a word.
-    pub(crate) fn store<T: Telling>(&self, seat: &mut Seat<(), View>, at: usize, new: u64)
-        requires room { (seat.old.table_id ≡ self.now.table.shared.table_id) × (at < row_words self.now.config) }
-        requires seated { IsSeated seat.old.me }
-        requires owes { Owes (acting seat.old.me) at (λ n. new) (λ n. T.told (acting seat.old.me) new) }
-        ensures { (seat.new.table_id ≡ seat.old.table_id) × Tells T.told seat.old.me new seat.new.me }
-    {
-        self.table.shared.store::<Tell<T>>(seat, at, new);
-    }
-
-    /// Adds to a word. The number that was found.
-    pub(crate) fn add<T: Telling>(&self, seat: &mut Seat<(), View>, at: usize, more: u64) -> u64
-        requires room { (seat.old.table_id ≡ self.now.table.shared.table_id) × (at < row_words self.now.config) }
-        requires seated { IsSeated seat.old.me }
-        requires owes { Owes (acting seat.old.me) at (λ n. (n + more) % 2 ^ 64) (T.told (acting seat.old.me)) }
-        ensures { (seat.new.table_id ≡ seat.old.table_id) × Tells T.told seat.old.me result seat.new.me }
-    {
-        self.table.shared.fetch_add::<Tell<T>>(seat, at, more)
-    }
-
-    /// Takes away from a word. The number that was found.
-    pub(crate) fn take<T: Telling>(&self, seat: &mut Seat<(), View>, at: usize, less: u64) -> u64
-        requires room { (seat.old.table_id ≡ self.now.table.shared.table_id) × (at < row_words self.now.config) }
-        requires seated { IsSeated seat.old.me }
-        requires owes { Owes (acting seat.old.me) at (λ n. (n + (2 ^ 64 - less)) % 2 ^ 64) (T.told (acting seat.old.me)) }
-        ensures { (seat.new.table_id ≡ seat.old.table_id) × Tells T.told seat.old.me result seat.new.me }
-    {
-        self.table.shared.fetch_sub::<Tell<T>>(seat, at, less)
-    }
-
-    /// Exchanges a word for a new one where it is `old`. The number that was found.
-    pub(crate) fn exchange<T: Telling>(
-        &self,
-        seat: &mut Seat<(), View>,
-        at: usize,
-        old: u64,
-        new: u64,
-    ) -> u64
-        requires room { (seat.old.table_id ≡ self.now.table.shared.table_id) × (at < row_words self.now.config) }
-        requires seated { IsSeated seat.old.me }
-        requires owes { Owes (acting seat.old.me) at (λ n. either (n == old) new n) (T.told (acting seat.old.me)) }
-        ensures { (seat.new.table_id ≡ seat.old.table_id) × Tells T.told seat.old.me result seat.new.me }
-    {
-        self.table
-            .shared
-            .compare_exchange::<Tell<T>>(seat, at, old, new)
+        Ok((Room { row }, passes))
     }
 }

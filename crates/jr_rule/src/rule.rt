@@ -4,15 +4,22 @@ use atomic_table::{Join, Play, Split, TableRule};
 use jr_word::Config;
 use std::marker::{Brand, PhantomData};
 
-/// The rule of a row with `LAST` as the last serial.
-pub struct Rule<const LAST: u16>;
+/// The sizes of a row, and the last serial of its slots and local places.
+#[derive(Clone, Copy)]
+pub struct Sizes {
+    pub config: Config,
+    pub last: u16,
+}
 
-impl<const LAST: u16> TableRule<(), View, Config> for Rule<LAST> {
+/// The rule of a row.
+pub struct Rule;
+
+impl TableRule<(), View, Sizes> for Rule {
     ghost use Rattle.jr_rule.specs.Rule.{Kept, view, newcomers};
 
-    ghost holds = { Kept LAST };
+    ghost holds = { λ z. Kept z.last z.config };
 
-    ghost first = { λ c. view (newcomers c LAST c.threads 0) };
+    ghost first = { λ z. view (newcomers z.config z.last z.config.threads 0) };
 }
 
 /// What a step tells of what was known, the number that it found, its acts, and what is known then.

@@ -2,7 +2,7 @@ use Rattle.std.proofs.Common.{rules, [], refl, sym, ap, subst, ◌∙◌}
 use Rattle.jr_model.specs.declared.event.Role.TheVariants.{Outside}
 use Rattle.jr_rule.specs.Rule.{known, others_of, Sat, acting}
 use Rattle.jr_rule.proofs.Seats.{deals}
-use Rattle.jr_rule.proofs.room.Room.deal.Goals as goal
+use Rattle.jr_rule.proofs.row.Row.deal.Goals as goal
 
 pub split_seat-dealt-requires : goal.split_seat-dealt-requires
-split_seat-dealt-requires g c = (search rules, search rules, deals _ _ _ _ (known c.args.self.now.config g.row.LAST c.args.thread []) _ (ap (λ (m : Sat). m.0) c.requires.first))
+split_seat-dealt-requires c = (search rules, search rules, deals _ _ _ _ (known c.args.self.now.config c.args.self.now.last c.args.thread []) _ (ap (λ (m : Sat). m.0) c.requires.first))

@@ -1,0 +1,34 @@
+use Rattle.std.proofs.Common.{[], ◌∷◌, refl, sym, ap, subst, ◌∙◌}
+use Rattle.jr_rule.specs.Acts.{all_counted, gate_named, GateNameFits}
+use Rattle.jr_rule.specs.Knowing.{ShowsGate}
+use Rattle.jr_rule.proofs.GateTurns.{gate_named_role}
+use Rattle.jr_rule.proofs.GateOwed.{sees_gate, gate_some, gate_is}
+use Rattle.jr_rule.proofs.PlainTurns.{named_fresh}
+use Rattle.jr_rule.proofs.Stepped.{held_next, took}
+use Rattle.jr_rule.proofs.row.Row.see_gate.Goals as goal
+
+pub load-found-requires-clause-owes : goal.load-found-requires-clause-owes
+load-found-requires-clause-owes c = sees_gate _ c.args.name (subst (λ r. GateNameFits r c.args.name) (sym c.args.pass.now.held.role_is) c.requires.fits)
+
+pub invariant_of-pass : goal.invariant_of-pass
+invariant_of-pass c =
+    let p = c.args.pass.now in
+    let t = c.load-found.ensures.1 in
+    let s = t.says in
+    let n = all_counted s.0 in
+    record { held = held_next p.seat.me c.load-found.result _ t p.thread p.role p.fresh p.held _ _ _ s.3 (gate_named_role c.args.name n p.role) (named_fresh c.args.name n p.fresh) }
+
+pub unwrap-requires : goal.unwrap-requires
+unwrap-requires c =
+    let s = (c.load-found.ensures.1).says in
+    gate_some c.load-found.result c.parts.result s.0 s.1 s.2 c.parts.ensures.complete
+
+pub returns-clause-step : goal.returns-clause-step
+returns-clause-step c =
+    let p = c.args.pass.now in
+    let t = c.load-found.ensures.1 in
+    let s = t.says in
+    let read = gate_is c.parts.result s.0 c.unwrap.result (c.parts.ensures.complete s.0 s.1 s.2) c.unwrap.ensures in
+    let n = all_counted c.unwrap.result in
+    took p _ c.load-found.result t _ (s.3 ∙ ap (λ q. gate_named c.args.name (all_counted q) ∷ []) (sym read)) refl (gate_named_role c.args.name n p.role) (named_fresh c.args.name n p.fresh)
+    (λ m. subst (λ q. ShowsGate q t.new) (sym read) s.4)

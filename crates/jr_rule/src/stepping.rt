@@ -1,0 +1,76 @@
+//! The steps of a pass at its row: each is one operation on one word.
+ghost use Rattle.std.specs.Prelude.{◌≡◌, ◌≢◌, ◌⊎◌, ◌<◌, ◌≤◌, [], ◌∷◌};
+ghost use Rattle.jr_word.specs.declared.handle.RefKind.TheVariants.{Local};
+ghost use Rattle.jr_model.specs.declared.event.Role.TheVariants.{Outside, Within, Knocking, Collecting};
+ghost use Rattle.jr_model.specs.declared.event.Act.TheVariants.{Reopen};
+ghost use Rattle.jr_rule.specs.Acts.{entered_as, leaving, barring, gate_named, GateNameFits, all_counted as all_of, slot_named, SlotNameFits, claiming, freeing, putting, publishing, found_object};
+ghost use Rattle.jr_rule.specs.Knowing.{anything, nothing, HasObject, HasOptional, HasLooked, IsClosedNow, IsFreeSlot, ShowsGate, ShowsSlot, LostClaim, MayKnow, Took};
+
+use crate::naming::GateNaming;
+use crate::parts::{GATE, all_counted, is_shut, role_of_entry};
+use crate::pass::Pass;
+use crate::row::Row;
+use jr_model::Role;
+use jr_word::{GateParts, GateWord};
+use std::marker::Brand;
+
+impl Row {
+    ghost use Rattle.jr_rule.specs.Passes.{standing_of, Knows, IsAt};
+
+    pub(crate) fn go_in(&self, pass: &mut Pass) -> bool
+        requires row { IsAt self.now pass.old }
+        requires role { pass.old.role ≡ Outside }
+        ensures row { IsAt self.now pass.new }
+        ensures step { Took standing_of Knows pass.old pass.new (entered_as result ∷ []) anything nothing }
+    {
+        let found = self.add::<Brand, ()>(&mut pass.seat, GATE, 1, ());
+        let entered = !is_shut(found);
+        pass.role = role_of_entry(entered);
+        entered
+    }
+
+    pub(crate) fn go_out(&self, pass: &mut Pass)
+        requires row { IsAt self.now pass.old }
+        requires role { (pass.old.role ≡ Within) ⊎ (pass.old.role ≡ Knocking) }
+        ensures row { IsAt self.now pass.new }
+        ensures step { Took standing_of Knows pass.old pass.new (leaving pass.old.role ∷ []) anything nothing }
+    {
+        self.take::<Brand, ()>(&mut pass.seat, GATE, 1, ());
+        pass.role = Role::Outside;
+    }
+
+    pub(crate) fn bar(&self, pass: &mut Pass) -> Result<(), u32>
+        requires row { IsAt self.now pass.old }
+        requires role { pass.old.role ≡ Outside }
+        ensures row { IsAt self.now pass.new }
+        ensures step { Took standing_of Knows pass.old pass.new (barring result ∷ []) anything nothing }
+    {
+        let found = self.exchange::<Brand, ()>(&mut pass.seat, GATE, 0, GateWord::SHUT, ());
+        if found != 0 {
+            return Err(all_counted(GateWord::parts(found).unwrap()));
+        }
+        pass.role = Role::Collecting;
+        Ok(())
+    }
+
+    pub(crate) fn unbar(&self, pass: &mut Pass)
+        requires row { IsAt self.now pass.old }
+        requires role { pass.old.role ≡ Collecting }
+        requires closed { MayKnow Knows pass.old IsClosedNow }
+        ensures row { IsAt self.now pass.new }
+        ensures step { Took standing_of Knows pass.old pass.new (Reopen ∷ []) IsClosedNow nothing }
+    {
+        self.take::<Brand, ()>(&mut pass.seat, GATE, GateWord::SHUT, ());
+        pass.role = Role::Outside;
+    }
+
+    pub(crate) fn see_gate(&self, pass: &mut Pass, name: GateNaming) -> GateParts
+        requires row { IsAt self.now pass.old }
+        requires fits { GateNameFits pass.old.role name }
+        ensures row { IsAt self.now pass.new }
+        ensures step { Took standing_of Knows pass.old pass.new (gate_named name (all_of result) ∷ []) anything (λ _ k. ShowsGate result k) }
+    {
+        let found = self.load::<Brand, GateNaming>(&mut pass.seat, GATE, name);
+        GateWord::parts(found).unwrap()
+    }
+}
