@@ -23,3 +23,6 @@ pub mod Stepped
 pub mod Found
 pub mod Told
 pub mod GateOwed
+pub mod SlotOwed
+pub mod Allowed
+pub mod PlaceOwed

@@ -27,17 +27,17 @@ pub place_fits : (o : Option ℕ) → ((x : ℕ) → o ≡ Some x → (0 < x) ×
 place_fits None h = tt
 place_fits (Some o) h = h o refl
 
-putting_role : (p : ℕ) (o : Option ℕ) (r : Role) → r ≡ role_after r (putting p o)
+pub putting_role : (p : ℕ) (o : Option ℕ) (r : Role) → r ≡ role_after r (putting p o)
 putting_role p None r = refl
 putting_role p (Some o) r = refl
 
 -- a store to a local word leaves the pass not fresh
-putting_spends : (p : ℕ) (o : Option ℕ) (f : Bool) → false ≡ fresh_after f (putting p o)
+pub putting_spends : (p : ℕ) (o : Option ℕ) (f : Bool) → false ≡ fresh_after f (putting p o)
 putting_spends p None f = refl
 putting_spends p (Some o) f = refl
 
 -- a header of no elements
-header_fits : (p : HeaderParts) → (p.length ≡ 0) × (p.place ≡ 0) → IsHeader p
+pub header_fits : (p : HeaderParts) → (p.length ≡ 0) × (p.place ≡ 0) → IsHeader p
 header_fits p e = let a = e.0 in let b = e.1 in record { length = omega arith; place = omega arith; length_fits = λ k. a; place_fits = λ l. b }
 
 module _ (config : Config) (last : ℕ) (few : IsFew config last) (role : Role) (fresh : Bool) (words : List ℕ) where

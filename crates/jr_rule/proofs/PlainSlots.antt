@@ -33,25 +33,25 @@ use Rattle.jr_rule.proofs.Turns.{Turn}
 use Rattle.jr_rule.proofs.PlainTook.{stands_same, known_then, Turned, IsFew, shown_most}
 
 -- the name of a load leaves the role
-named_role : (i : ℕ) (name : SlotNaming) (p : SlotParts) (r : Role) → r ≡ role_after r (slot_named i name p)
+pub named_role : (i : ℕ) (name : SlotNaming) (p : SlotParts) (r : Role) → r ≡ role_after r (slot_named i name p)
 named_role i (naming.Look h) p r = refl
 named_role i naming.Probe p r = refl
 named_role i naming.Meet p r = refl
 
 -- and the state
-named_state : (k : Known) (i : ℕ) (name : SlotNaming) (p : SlotParts) → state_of (known_then k (slot_named i name p ∷ [])) ≡ state_of k
+pub named_state : (k : Known) (i : ℕ) (name : SlotNaming) (p : SlotParts) → state_of (known_then k (slot_named i name p ∷ [])) ≡ state_of k
 named_state k i (naming.Look h) p = state_push k.seen (by k.thread (slot_named i (naming.Look h) p))
 named_state k i naming.Probe p = state_push k.seen (by k.thread (slot_named i naming.Probe p))
 named_state k i naming.Meet p = state_push k.seen (by k.thread (slot_named i naming.Meet p))
 
 -- the name of a load leaves the pass as fresh as it was
-named_fresh : (i : ℕ) (name : SlotNaming) (p : SlotParts) (f : Bool) → f ≡ fresh_after f (slot_named i name p)
+pub named_fresh : (i : ℕ) (name : SlotNaming) (p : SlotParts) (f : Bool) → f ≡ fresh_after f (slot_named i name p)
 named_fresh i (naming.Look h) p f = refl
 named_fresh i naming.Probe p f = refl
 named_fresh i naming.Meet p f = refl
 
 -- what a slot's word shows
-shows_slot : (i w : ℕ) (s : State) (k : Known) (x : IsSlotOf k.last s.refs s.given i w) (p : SlotParts) → x.parts ≡ p → s ≡ state_of k → ShowsSlot i p k
+pub shows_slot : (i w : ℕ) (s : State) (k : Known) (x : IsSlotOf k.last s.refs s.given i w) (p : SlotParts) → x.parts ≡ p → s ≡ state_of k → ShowsSlot i p k
 shows_slot i w s k x p is same = record {
   next = x.next;
   serials = subst (λ (z : State). AreGivenBelow z.given i x.next) same x.serials;
@@ -66,14 +66,14 @@ names_object kind n o (slot.Global m r) is some = some r is.2
 names_object kind n o (slot.Weak m None) is some = tt
 names_object kind n o (slot.Weak m (Some r)) is some = some r is.2
 
-reference_fits : (kind : RefKind) (n : ℕ) (o : Option ℕ) (p : SlotParts) → IsReference kind n o p → n < 2 ^ 16 → ((x : ℕ) → o ≡ Some x → (0 < x) × (x < 2 ^ 16)) → IsSlot p
+pub reference_fits : (kind : RefKind) (n : ℕ) (o : Option ℕ) (p : SlotParts) → IsReference kind n o p → n < 2 ^ 16 → ((x : ℕ) → o ≡ Some x → (0 < x) × (x < 2 ^ 16)) → IsSlot p
 reference_fits kind n o (slot.Free m) is l some = absurd is
 reference_fits kind n o (slot.Retired m) is l some = absurd is
 reference_fits kind n o (slot.Global m r) is l some = let x = some r is.2 in let e = is.1 in record { serial = omega arith; object = x.1; names = x.0 }
 reference_fits kind n o (slot.Weak m None) is l some = let e = is.1 in record { serial = omega arith; object = omega arith; names = tt }
 reference_fits kind n o (slot.Weak m (Some r)) is l some = let x = some r is.2 in let e = is.1 in record { serial = omega arith; object = x.1; names = x.0 }
 
-can_prop : (kind : RefKind) (o : Option ℕ) → IsProp (CanStand kind o)
+pub can_prop : (kind : RefKind) (o : Option ℕ) → IsProp (CanStand kind o)
 can_prop Local o = hlevel props
 can_prop Global None = hlevel props
 can_prop Global (Some o) = hlevel props

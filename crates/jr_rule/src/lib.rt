@@ -1,15 +1,17 @@
 //! The room: one row of atomic words that threads step on without locks, under a rule that ties it to one legal history of the machine.
 #![tactic(auto)]
 
+mod gate_stepping;
 mod known;
 mod naming;
 mod parts;
 mod pass;
+mod place_stepping;
 mod plain;
 mod room;
 mod row;
 mod rule;
-mod stepping;
+mod slot_stepping;
 mod steps;
 
 pub use known::{Known, View};

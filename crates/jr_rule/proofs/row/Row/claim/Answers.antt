@@ -1,0 +1,57 @@
+use Rattle.std.proofs.Common.{◌≡◌, ◌+◌, ℕ, Some, Err, [], ◌∷◌, refl, sym, ap, subst, ◌∙◌, arith, eqb}
+use prog.Atomic.{either}
+use Rattle.jr_word.specs.declared.slot.SlotParts.TheVariants as slot
+use Rattle.jr_word.specs.Slot.{slot_word}
+use Rattle.jr_rule.specs.Acts.{claiming}
+use Rattle.jr_rule.specs.Image.{slot_at}
+use Rattle.jr_rule.specs.Knowing.{LostClaim}
+use Rattle.jr_rule.specs.Passes.{known_of}
+use Rattle.jr_rule.specs.Rule.{Owes}
+use Rattle.jr_rule.proofs.Allowed.{object_known, object_some, serial_fits}
+use Rattle.jr_rule.proofs.PlainSlots.{names_object}
+use Rattle.jr_rule.proofs.SlotOwed.{claims_slot, claim_done, claiming_role, claiming_fresh, slot_some, slot_is}
+use Rattle.jr_rule.proofs.Told.{Claimed}
+use Rattle.jr_rule.proofs.Stepped.{held_next, took}
+use Rattle.jr_rule.proofs.row.Row.claim.Goals as goal
+
+pub pack-made-requires : goal.pack-made-requires
+pack-made-requires c =
+    let some = object_some c.args.pass.now c.args.object c.requires.looked in
+    names_object c.args.kind c.args.serial (Some c.args.object) c.reference.result c.reference.ensures (λ x e. let same : c.args.object ≡ x = cc in omega arith)
+
+pub exchange-found-requires-clause-owes : goal.exchange-found-requires-clause-owes
+exchange-found-requires-clause-owes c =
+    let p = c.args.pass.now in
+    subst (λ (z : ℕ × ℕ). Owes (known_of p) (slot_at c.args.index) (λ n. either (eqb n z.0) z.1 n) (Claimed c.args.index c.args.serial c.args.kind c.args.object (known_of p))) (λ j. (sym c.pack-looked.ensures j, sym c.pack-made.ensures j))
+    (claims_slot (known_of p) (p.held.role_is ∙ c.requires.role) c.args.index c.args.serial c.args.kind c.args.object c.reference.result c.requires.index (serial_fits p c.args.index c.args.serial c.requires.looked) c.requires.kind c.reference.ensures
+    (object_known p c.args.object c.requires.looked))
+
+pub invariant_of-pass : goal.invariant_of-pass
+invariant_of-pass c =
+    let p = c.args.pass.now in
+    let t = c.exchange-found.ensures.1 in
+    let i = c.args.index in
+    let done = claim_done i c.args.serial c.args.kind c.args.object (known_of p) c.exchange-found.result t.acts t.new t.says in
+    record { held = held_next p.seat.me c.exchange-found.result _ t p.thread p.role p.fresh p.held _ _ _ done.1 (claiming_role i c.args.serial c.args.kind c.args.object done.0 p.role) (claiming_fresh i c.args.serial c.args.kind c.args.object done.0 p.fresh) }
+
+pub unwrap-requires : goal.unwrap-requires
+unwrap-requires c =
+    let s = (c.exchange-found.ensures.1).says.1 (λ e. c.if-found-looked.true (e ∙ sym c.pack-looked.ensures)) in
+    slot_some c.exchange-found.result c.parts.result s.0 s.1 s.2 c.parts.ensures.complete
+
+pub returns-then-found-looked-clause-step : goal.returns-then-found-looked-clause-step
+returns-then-found-looked-clause-step c =
+    let p = c.args.pass.now in
+    let t = c.exchange-found.ensures.1 in
+    let s = (t.says).1 (λ e. c.if-found-looked.true (e ∙ sym c.pack-looked.ensures)) in
+    let i = c.args.index in
+    let q = c.unwrap.result in
+    let read = slot_is c.parts.result s.0 q (c.parts.ensures.complete s.0 s.1 s.2) c.unwrap.ensures in
+    took p _ c.exchange-found.result t _ (s.3 ∙ ap (λ z. claiming i c.args.serial c.args.kind c.args.object (Err z) ∷ []) (sym read)) refl refl refl
+    (λ m. subst (λ z. LostClaim i (Err z) (known_of p) t.new) (sym read) (s.4 m.1))
+
+pub returns-clause-step : goal.returns-clause-step
+returns-clause-step c =
+    let p = c.args.pass.now in
+    let t = c.exchange-found.ensures.1 in
+    took p _ c.exchange-found.result t _ ((t.says).0 (c.if-found-looked.false ∙ c.pack-looked.ensures)) refl refl refl (λ m. tt)

@@ -1,0 +1,34 @@
+use Rattle.std.proofs.Common.{[], ◌∷◌, refl, sym, ap, subst, ◌∙◌}
+use Rattle.jr_rule.specs.Acts.{slot_named}
+use Rattle.jr_rule.specs.Knowing.{ShowsSlot}
+use Rattle.jr_rule.proofs.SlotOwed.{sees_slot, slot_some, slot_is}
+use Rattle.jr_rule.proofs.PlainSlots.{named_role, named_fresh}
+use Rattle.jr_rule.proofs.Stepped.{held_next, took}
+use Rattle.jr_rule.proofs.row.Row.see_slot.Goals as goal
+
+pub load-found-requires-clause-owes : goal.load-found-requires-clause-owes
+load-found-requires-clause-owes c = sees_slot _ (c.args.pass.now.held.role_is ∙ c.requires.role) c.args.index c.args.name c.requires.index c.requires.fits
+
+pub invariant_of-pass : goal.invariant_of-pass
+invariant_of-pass c =
+    let p = c.args.pass.now in
+    let t = c.load-found.ensures.1 in
+    let s = t.says in
+    record { held = held_next p.seat.me c.load-found.result _ t p.thread p.role p.fresh p.held _ _ _ s.3 (named_role c.args.index c.args.name s.0 p.role) (named_fresh c.args.index c.args.name s.0 p.fresh) }
+
+pub unwrap-requires : goal.unwrap-requires
+unwrap-requires c =
+    let s = (c.load-found.ensures.1).says in
+    slot_some c.load-found.result c.parts.result s.0 s.1 s.2 c.parts.ensures.complete
+
+pub returns-clause-step : goal.returns-clause-step
+returns-clause-step c =
+    let p = c.args.pass.now in
+    let t = c.load-found.ensures.1 in
+    let s = t.says in
+    let i = c.args.index in
+    let name = c.args.name in
+    let q = c.unwrap.result in
+    let read = slot_is c.parts.result s.0 q (c.parts.ensures.complete s.0 s.1 s.2) c.unwrap.ensures in
+    took p _ c.load-found.result t _ (s.3 ∙ ap (λ z. slot_named i name z ∷ []) (sym read)) refl (named_role i name q p.role) (named_fresh i name q p.fresh)
+    (λ m. subst (λ z. ShowsSlot i z t.new) (sym read) s.4)

@@ -1,0 +1,85 @@
+//! The steps of a pass at a slot: each is one operation on its word.
+ghost use Rattle.std.specs.Prelude.{◌≡◌, ◌≢◌, ◌<◌, [], ◌∷◌};
+ghost use Rattle.jr_word.specs.declared.handle.RefKind.TheVariants.{Local};
+ghost use Rattle.jr_model.specs.declared.event.Role.TheVariants.{Within};
+ghost use Rattle.jr_rule.specs.Acts.{slot_named, SlotNameFits, claiming, freeing, found_object};
+ghost use Rattle.jr_rule.specs.Knowing.{anything, nothing, HasObject, HasLooked, IsFreeSlot, ShowsSlot, LostClaim, MayKnow, Took};
+
+use crate::naming::SlotNaming;
+use crate::parts::{SLOTS, freed_slot, reference};
+use crate::pass::Pass;
+use crate::row::Row;
+use jr_word::{HandleParts, RefKind, SlotParts, SlotWord};
+use std::marker::Brand;
+
+impl Row {
+    ghost use Rattle.jr_rule.specs.Passes.{standing_of, Knows, IsAt};
+
+    pub(crate) fn see_slot(&self, pass: &mut Pass, index: u16, name: SlotNaming) -> SlotParts
+        requires row { IsAt self.now pass.old }
+        requires role { pass.old.role ≡ Within }
+        requires index { index < (standing_of pass.old).config.slots }
+        requires fits { SlotNameFits index name }
+        ensures row { IsAt self.now pass.new }
+        ensures step { Took standing_of Knows pass.old pass.new (slot_named index name result ∷ []) anything (λ _ k. ShowsSlot index result k) }
+    {
+        let at = SLOTS + index as usize;
+        let about = (index, name);
+        let found = self.load::<Brand, (u16, SlotNaming)>(&mut pass.seat, at, about);
+        SlotWord::parts(found).unwrap()
+    }
+
+    pub(crate) fn claim(
+        &self,
+        pass: &mut Pass,
+        index: u16,
+        serial: u16,
+        kind: RefKind,
+        object: u16,
+    ) -> Result<(), SlotParts>
+        requires row { IsAt self.now pass.old }
+        requires role { pass.old.role ≡ Within }
+        requires index { index < (standing_of pass.old).config.slots }
+        requires kind { kind ≢ Local }
+        requires looked { MayKnow Knows pass.old (λ k. HasObject object k × IsFreeSlot index serial k) }
+        ensures row { IsAt self.now pass.new }
+        ensures step { Took standing_of Knows pass.old pass.new (claiming index serial kind object result ∷ []) (λ k. HasObject object k × IsFreeSlot index serial k) (LostClaim index result) }
+    {
+        let at = SLOTS + index as usize;
+        let looked = SlotWord::pack(SlotParts::Free { serial });
+        let made = SlotWord::pack(reference(kind, serial, Some(object)));
+        let about = (index, serial, kind, object);
+        let found = self.exchange::<Brand, (u16, u16, RefKind, u16)>(
+            &mut pass.seat,
+            at,
+            looked.0,
+            made.0,
+            about,
+        );
+        if found != looked.0 {
+            return Err(SlotWord::parts(found).unwrap());
+        }
+        Ok(())
+    }
+
+    pub(crate) fn free(&self, pass: &mut Pass, handle: HandleParts, object: Option<u16>) -> bool
+        requires row { IsAt self.now pass.old }
+        requires role { pass.old.role ≡ Within }
+        requires index { handle.index < (standing_of pass.old).config.slots }
+        requires looked { MayKnow Knows pass.old (HasLooked handle (found_object object)) }
+        ensures row { IsAt self.now pass.new }
+        ensures step { Took standing_of Knows pass.old pass.new (freeing handle result ∷ []) (HasLooked handle (found_object object)) nothing }
+    {
+        let at = SLOTS + handle.index as usize;
+        let looked = SlotWord::pack(reference(handle.kind, handle.serial, object));
+        let freed = SlotWord::pack(freed_slot(handle.serial, self.last));
+        let found = self.exchange::<Brand, HandleParts>(
+            &mut pass.seat,
+            at,
+            looked.0,
+            freed.0,
+            handle,
+        );
+        found == looked.0
+    }
+}
