@@ -15,3 +15,4 @@ pub mod PlainSlots
 pub mod PlainPlaces
 pub mod Zeros
 pub mod Summaries
+pub mod Totals

@@ -3,3 +3,4 @@ pub mod Image
 pub mod Knowing
 pub mod Slots
 pub mod Plain
+pub mod Shown

@@ -6,6 +6,7 @@ mod naming;
 mod parts;
 mod plain;
 mod steps;
+mod summing;
 
 pub use known::{Known, View};
 pub use naming::{GateNaming, SlotNaming};
