@@ -13,6 +13,7 @@ pub mod PlainTook
 pub mod PlainTurns
 pub mod PlainSlots
 pub mod PlainPlaces
+pub mod Unused
 pub mod Zeros
 pub mod Summaries
 pub mod Totals
