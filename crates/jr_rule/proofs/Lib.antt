@@ -15,5 +15,5 @@ pub mod PlainSlots
 pub mod PlainPlaces
 pub mod Unused
 pub mod Zeros
+pub mod PlainHistories
 pub mod Summaries
-pub mod Totals

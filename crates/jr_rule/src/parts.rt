@@ -1,13 +1,13 @@
 //! What the words of the row say, as the steps make and read them.
-ghost use Rattle.std.specs.Prelude.{◌≡◌, ◌↔◌, ◌≤◌, true, IsTrue};
+ghost use Rattle.std.specs.Prelude.{◌≡◌, ◌↔◌, ◌≤◌, IsTrue};
 ghost use Rattle.jr_word.specs.declared.gate.GateParts.{GateParts as Gates};
 ghost use Rattle.jr_word.specs.declared.slot.SlotParts.TheVariants.{Free};
-ghost use Rattle.jr_word.specs.Config.{in_limits};
 ghost use Rattle.jr_word.specs.Gate.{gate_word, IsGate};
 ghost use Rattle.jr_model.specs.declared.event.Role.TheVariants.{Outside};
 ghost use Rattle.jr_model.specs.History.{role_after};
 ghost use Rattle.jr_rule.specs.Acts.{entered_as, all_counted as all_of};
 ghost use Rattle.jr_rule.specs.Image.{header_at as place_of_header, local_parts as parts_of_local};
+ghost use Rattle.jr_rule.specs.Shown.{IsSmall};
 ghost use Rattle.jr_rule.specs.Slots.{CanStand, IsReference, is_of_kind, freed};
 
 use jr_model::Role;
@@ -24,7 +24,7 @@ pub(crate) const SLOTS: usize = 2;
 
 /// The place of an object's header in the row.
 pub(crate) fn header_at(config: &Config, object: u32) -> usize
-    requires limits { in_limits config.now ≡ true }
+    requires small { IsSmall config.now }
     requires object { (1 ≤ object) × (object ≤ config.now.objects) }
     ensures { result ≡ place_of_header config.now object }
 {

@@ -1,9 +1,8 @@
 //! What stands in a room, counted over its words.
-ghost use Rattle.std.specs.Prelude.{◌≡◌, ◌<◌, ◌≤◌, ℕ, List, length, slice_index, true};
-ghost use Rattle.jr_word.specs.Config.{in_limits};
+ghost use Rattle.std.specs.Prelude.{◌≡◌, ◌<◌, ℕ, List, length, slice_index};
 ghost use Rattle.jr_model.specs.State.{references, summary as summary_of};
 ghost use Rattle.jr_model.specs.History.{History, state};
-ghost use Rattle.jr_rule.specs.Shown.{IsHistoryOf, HasHistory};
+ghost use Rattle.jr_rule.specs.Shown.{IsSmall, IsHistoryOf, HasHistory};
 
 use crate::parts::{SLOTS, TOP, header_at, is_reference};
 use jr_model::Summary;
@@ -29,7 +28,7 @@ impl Words for Vec<u64> {
 
 /// What stands in the room. It takes no memory.
 pub(crate) fn summary<W: Words>(row: &W, config: &Config) -> Summary
-    requires limits { in_limits config.now ≡ true }
+    requires small { IsSmall config.now }
     requires history { HasHistory config.now (W.words row.now) }
     ensures { (last : ℕ) (log : History) → IsHistoryOf config.now (W.words row.now) last log → result ≡ summary_of config.now last (state log) }
 {
@@ -44,7 +43,7 @@ pub(crate) fn summary<W: Words>(row: &W, config: &Config) -> Summary
 
 /// How many references of the kind stand.
 fn references<W: Words>(row: &W, config: &Config, kind: RefKind) -> u32
-    requires limits { in_limits config.now ≡ true }
+    requires small { IsSmall config.now }
     requires history { HasHistory config.now (W.words row.now) }
     ensures { (last : ℕ) (log : History) → IsHistoryOf config.now (W.words row.now) last log → result ≡ references config.now last kind (state log) }
 {
@@ -60,7 +59,7 @@ fn references<W: Words>(row: &W, config: &Config, kind: RefKind) -> u32
 
 /// How many objects are present.
 fn objects<W: Words>(row: &W, config: &Config) -> u32
-    requires limits { in_limits config.now ≡ true }
+    requires small { IsSmall config.now }
     requires history { HasHistory config.now (W.words row.now) }
     ensures { (last : ℕ) (log : History) → IsHistoryOf config.now (W.words row.now) last log → result ≡ (summary_of config.now last (state log)).live }
 {

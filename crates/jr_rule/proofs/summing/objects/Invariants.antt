@@ -1,5 +1,5 @@
 use Rattle.std.proofs.Common.{◌+◌}
-use Rattle.jr_rule.proofs.Totals.{IsCounted, objects_below}
+use Rattle.jr_rule.proofs.Summaries.{IsCounted, objects_below}
 use Rattle.jr_rule.proofs.summing.objects.Given as goal
 
 abbrev pub invariant-loop-before : goal.invariant-loop-before

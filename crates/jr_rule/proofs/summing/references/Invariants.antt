@@ -1,4 +1,4 @@
-use Rattle.jr_rule.proofs.Totals.{IsCounted, references_below}
+use Rattle.jr_rule.proofs.Summaries.{IsCounted, references_below}
 use Rattle.jr_rule.proofs.summing.references.Given as goal
 
 abbrev pub invariant-loop-index : goal.invariant-loop-index
