@@ -255,6 +255,11 @@ mod tests {
         assert_eq!(rt; steps.words.as_slice(), [0; 20].as_slice());
         assert!(rt; steps.go_in());
         assert_eq!(rt; steps.words[0], 1);
+        let one = GateParts {
+            count: 1,
+            shut: false,
+        };
+        assert_eq!(rt; steps.see_gate(GateNaming::Meet), one);
         steps.go_out();
         assert_eq!(rt; steps.words[0], 0);
         Ok(())
@@ -287,12 +292,9 @@ mod tests {
             shut: false,
         };
         assert_eq!(rt; steps.see_gate(GateNaming::Busy), empty);
-        assert!(rt; steps.bar().is_ok());
-        let shut = GateParts {
-            count: 0,
-            shut: true,
+        let Ok(()) = steps.bar() else {
+            return Err("the gate is not empty")?;
         };
-        assert_eq!(rt; steps.see_gate(GateNaming::Meet), shut);
         assert_eq!(rt; steps.words[0], 0x1_0000);
         steps.unbar();
         assert_eq!(rt; steps.words[0], 0);
@@ -344,7 +346,9 @@ mod tests {
         let SlotParts::Free { serial: 0 } = steps.see_slot(0, SlotNaming::Probe) else {
             return Err("the slot is not free")?;
         };
-        assert!(rt; steps.claim(0, 0, RefKind::Global, 1).is_ok());
+        let Ok(()) = steps.claim(0, 0, RefKind::Global, 1) else {
+            return Err("the slot was taken")?;
+        };
         let handle = HandleParts {
             kind: RefKind::Global,
             serial: 0,
