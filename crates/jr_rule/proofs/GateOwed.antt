@@ -61,7 +61,7 @@ module _ (k : Known) where
   enters out log words f =
       let n : ℕ = get_or words 0 0 in
       let g = f.image.gate in
-      let few = (f.sized).threads.1 in
+      let few = (f.sized).small.threads in
       let most = gate_most k.config (state log).role n few g in
       let t = goes_in k.config k.last log k.thread words f.legal f.image f.fits.row n g.parts.shut refl refl (role_at k log words f ∙ out) in
       makes k log (slice_set words 0 ((n + 1) % 2 ^ 64)) (Entered k n) (entered_as (not g.parts.shut) ∷ []) (written k log words 0 (n + 1) ((n + 1) % 2 ^ 64) (omega arith) t)
@@ -71,7 +71,7 @@ module _ (k : Known) where
   leaves counts log words f =
       let n : ℕ = get_or words 0 0 in
       let role = role_of (view k) in
-      let most = gate_most k.config (state log).role n (f.sized).threads.1 f.image.gate in
+      let most = gate_most k.config (state log).role n (f.sized).small.threads f.image.gate in
       let some = counted k.config k.last log k.thread words f.legal f.image f.fits.row role counts (role_at k log words f) in
       let t = goes_out k.config k.last log k.thread words f.legal f.image f.fits.row role ((n + (2 ^ 64 - 1)) % 2 ^ 64) (omega arith) counts (role_at k log words f) in
       makes k log (slice_set words 0 ((n + (2 ^ 64 - 1)) % 2 ^ 64)) (Left k n) (leaving role ∷ []) t refl
@@ -86,12 +86,12 @@ module _ (k : Known) where
       (λ e. refl, λ ne. absurd (ne none)))
       (λ some. makes k log (slice_set words 0 (either (eqb n 0) 65536 n)) (Barred k n) (ShutBusy (all_counted g.parts) ∷ [])
       (written k log words 0 n (either (eqb n 0) 65536 n) (lost 0 65536 n some) (unwritten k log words 0 (bars_lost k.config k.last log k.thread words f.legal f.image f.fits.row some (role_at k log words f ∙ out))))
-      (λ e. absurd (some e), λ ne. (g.parts, gate_fits k.config (state log).role n (f.sized).threads.1 g, g.word, refl)))
+      (λ e. absurd (some e), λ ne. (g.parts, gate_fits k.config (state log).role n (f.sized).small.threads g, g.word, refl)))
 
   pub reopens : role_of (view k) ≡ Collecting → ∥ IsClosedNow k ∥₁ → Owes k 0 (λ n. (n + (2 ^ 64 - 65536)) % 2 ^ 64) (Reopened k)
   reopens collects closed log words f =
       let n : ℕ = get_or words 0 0 in
-      let most = gate_most k.config (state log).role n (f.sized).threads.1 f.image.gate in
+      let most = gate_most k.config (state log).role n (f.sized).small.threads f.image.gate in
       let some = shut_counted k.config k.last log k.thread words f.legal f.image f.fits.row (role_at k log words f ∙ collects) in
       let t = unbars k.config k.last log k.thread words f.legal f.image f.fits.row ((n + (2 ^ 64 - 65536)) % 2 ^ 64) (omega arith) (role_at k log words f ∙ collects) (closed_now k log words f collects closed) in
       makes k log (slice_set words 0 ((n + (2 ^ 64 - 65536)) % 2 ^ 64)) (Reopened k n) (Reopen ∷ []) t refl
@@ -103,4 +103,4 @@ module _ (k : Known) where
       let acts : List Act = gate_named name (all_counted g.parts) ∷ [] in
       let t = gate_seen k.config k.last log k.thread words f.legal f.image f.fits.row name (subst (λ r. GateNameFits r name) (sym (role_at k log words f)) fits) in
       makes k log (slice_set words 0 n) (SawGate name k n) acts (unwritten k log words 0 t)
-      (g.parts, gate_fits k.config (state log).role n (f.sized).threads.1 g, g.word, refl, shows_gate k.config k.last log f.legal n g g.parts (known_at k log acts) refl refl (gate_named_state log k.thread name (all_counted g.parts)))
+      (g.parts, gate_fits k.config (state log).role n (f.sized).small.threads g, g.word, refl, shows_gate k.config k.last log f.legal n g g.parts (known_at k log acts) refl refl (gate_named_state log k.thread name (all_counted g.parts)))

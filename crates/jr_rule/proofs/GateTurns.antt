@@ -113,7 +113,8 @@ unfolding sum_below
 sum_split zero f g h e = refl
 sum_split (suc n) f g h e = let rest = sum_split n f g h e in let here = e n in omega arith
 
-not_true : (b : Bool) → (b ≡ true → ⊥) → b ≡ false
+-- what is not true is false
+pub not_true : (b : Bool) → (b ≡ true → ⊥) → b ≡ false
 not_true true no' = absurd (no' refl)
 not_true false no' = refl
 

@@ -15,8 +15,8 @@ pub mod PlainSlots
 pub mod PlainPlaces
 pub mod Unused
 pub mod Zeros
+pub mod PlainHistories
 pub mod Summaries
-pub mod Openings
 pub mod Plays
 pub mod Seats
 pub mod Stepped

@@ -47,7 +47,7 @@ slot_is r p q e f = let z = sym e ∙ f in cc
 
 -- the sizes bound what a slot's word has
 few_objects : (c : Config) (last : ℕ) → IsSized c last → c.objects < 2 ^ 16
-few_objects c last s = let o = s.objects in omega arith
+few_objects c last s = let o = s.small.objects in omega arith
 
 -- what stands as it was found or is gone is one of the two
 still_or_gone : (r s : Found) → ∥ ((r ≡ s) ⊎ (r ≡ Stale)) ∥₁ → (r ≡ s) ⊎ (r ≡ Stale)

@@ -1,7 +1,8 @@
--- What the words count: references, objects and reserved space.
-use Rattle.std.proofs.Common.{◌≡◌, ◌≢◌, ◌+◌, ◌^◌, ◌<◌, ◌≤◌, ℕ, Bool, true, false, Option, Some, is_some, IsSome, List, get_or, refl, sym, ap, subst, ◌∙◌, arith, add-one}
+-- What a row of words counts: references, objects and reserved space.
+use Rattle.std.proofs.Common.{◌≡◌, ◌≢◌, ◌+◌, ◌<◌, ◌≤◌, ℕ, Bool, true, false, Option, Some, is_some, IsSome, List, length, get_or, refl, sym, ap, subst, ◌∙◌, arith, add-one}
 use Rattle.std.proofs.Math.Logic.{∥∥₁_elim}
 use Rattle.std.proofs.Props.{props}
+use Rattle.std.proofs.lemmas.Bool.Decides.{nat_tests}
 use Rattle.jr_word.specs.declared.config.Config.{Config}
 use Rattle.jr_word.specs.declared.handle.RefKind.{RefKind}
 use Rattle.jr_word.specs.declared.handle.RefKind.TheVariants.{Local, Global, Weak}
@@ -9,28 +10,26 @@ use Rattle.jr_word.specs.declared.slot.SlotParts.{SlotParts}
 use Rattle.jr_word.specs.declared.slot.SlotParts.TheVariants as slot
 use Rattle.jr_word.specs.declared.top.TopParts.{TopParts}
 use Rattle.jr_word.specs.declared.top.Half.TheVariants.{First}
+use Rattle.jr_word.specs.Config.{in_limits, row_words}
 use Rattle.jr_word.specs.Slot.{slot_word, IsSlot}
 use Rattle.jr_word.specs.Top.{top_word, IsTop}
-use Rattle.jr_model.specs.declared.event.Role.{Role}
 use Rattle.jr_model.specs.declared.event.Found.{Found}
 use Rattle.jr_model.specs.declared.event.Found.TheVariants.{Object, Cleared, Stale}
+use Rattle.jr_model.specs.declared.summary.Summary.{Summary}
 use Rattle.jr_model.specs.Maps.{sum_below, count_below}
-use Rattle.jr_model.specs.State.{Handle, is_there}
+use Rattle.jr_model.specs.State.{Handle, State, is_there}
 use Rattle.jr_model.specs.History.{History, state, IsLegal}
 use Rattle.jr_model.proofs.Counts.{bit, count_all_false, count_single}
 use Rattle.jr_model.proofs.Lengths.{lengths_fit}
 use Rattle.jr_model.proofs.References.{kept_state}
 use Rattle.jr_rule.specs.Acts.{found_object, handle_of}
 use Rattle.jr_rule.specs.Image.{slot_at, header_at, StandsAlone, SaysOfSlot, IsSlotOf, IsHeaderOf}
-use Rattle.jr_rule.specs.declared.known.Known.{Known}
-use Rattle.jr_rule.specs.Knowing.{Standing, state_of, MayKnow, anything}
-use Rattle.jr_rule.specs.Plain.{standing, Shows}
+use Rattle.jr_rule.specs.Shown.{IsSmall, IsHistoryOf, HasHistory}
 use Rattle.jr_rule.specs.Slots.{is_of_kind}
 use Rattle.jr_rule.proofs.InRoom.{in_room}
-use Rattle.jr_rule.proofs.GateTurns.{bit_most}
-use Rattle.jr_rule.proofs.Slots.{found_there, read_parts}
+use Rattle.jr_rule.proofs.GateTurns.{bit_most, not_true}
+use Rattle.jr_rule.proofs.Slots.{found_there, slot_fits}
 use Rattle.jr_rule.proofs.LocalTurns.{header_none, header_some}
-use Rattle.jr_rule.proofs.PlainTook.{IsFew}
 
 pub sum_none : (f : ℕ → ℕ) → sum_below 0 f ≡ 0
 unfolding sum_below
@@ -67,7 +66,7 @@ module _ (c : Config) (last : ℕ) (log : History) (legal : IsLegal c last log) 
       count_all_false (last + 1) (there refs kind i) (λ m l. ap is_there (y.alone (handle_of kind m i) refl (λ e. apart (ap (λ (h : Handle). h.kind) e))))
 
   -- the references of a kind at an index are those that its slot's word says
-  pub at_slot : (w : ℕ) (kind : RefKind) (x : IsSlotOf last refs (state log).given i w) → count_below (last + 1) (there refs kind i) ≡ bit (is_of_kind kind x.parts)
+  at_slot : (w : ℕ) (kind : RefKind) (x : IsSlotOf last refs (state log).given i w) → count_below (last + 1) (there refs kind i) ≡ bit (is_of_kind kind x.parts)
   at_slot w kind x = go kind x.parts x.says
     where
       go : (k : RefKind) (p : SlotParts) → SaysOfSlot last refs i x.next p → count_below (last + 1) (there refs k i) ≡ bit (is_of_kind k p)
@@ -85,85 +84,115 @@ module _ (c : Config) (last : ℕ) (log : History) (legal : IsLegal c last log) 
       go Weak (slot.Retired n) y = count_all_false (last + 1) (there refs Weak i) (λ m l. ap is_there (y.0 (handle_of Weak m i) refl))
 
 -- so many were counted, of at most so many
-pub record IsCounted (s : Standing) (words : List ℕ) (of : Known → ℕ) (count most : ℕ) : Type 0 where
+pub record IsCounted (c : Config) (words : List ℕ) (of : ℕ → State → ℕ) (count most : ℕ) : Type 0 where
   pub few : count ≤ most
-  pub is : (k : Known) → Shows s words k → count ≡ of k
+  pub is : (last : ℕ) (log : History) → IsHistoryOf c words last log → count ≡ of last (state log)
 
 -- the references of a kind at the indexes below n
-abbrev pub references_below : Known → RefKind → ℕ → ℕ
-references_below k kind n = sum_below n (λ i. count_below (k.last + 1) (there (state_of k).refs kind i))
+abbrev pub references_below : RefKind → ℕ → ℕ → State → ℕ
+references_below kind n last s = sum_below n (λ i. count_below (last + 1) (there s.refs kind i))
 
 -- the objects below n
-abbrev pub objects_below : Known → ℕ → ℕ
-objects_below k n = count_below n (λ o. is_some ((state_of k).objects o))
+abbrev pub objects_below : ℕ → ℕ → State → ℕ
+objects_below n last s = count_below n (λ o. is_some (s.objects o))
 
-module _ (config : Config) (last : ℕ) (few : IsFew config last) (role : Role) (fresh : Bool) (words : List ℕ) where
-  abbrev old : Standing
-  old = standing config last role fresh
+-- the parts of the slot's word are read
+abbrev pub ReadsSlot : List ℕ → ℕ → Option SlotParts → Type 0
+ReadsSlot words i r = (p : SlotParts) → IsSlot p → get_or words (slot_at i) 0 ≡ slot_word p → r ≡ Some p
 
-  pub one_more_slot : (kind : RefKind) (i count count' : ℕ) (p : SlotParts) → IsCounted old words (λ k. references_below k kind i) count i → i < config.slots → IsSlot p → get_or words (slot_at i) 0 ≡ slot_word p
-      → count' ≡ count + bit (is_of_kind kind p) → IsCounted old words (λ k. references_below k kind (i + 1)) count' (i + 1)
-  one_more_slot kind i count count' p c l fits is next = record {
-    few = let f = c.few in let b = bit_most (is_of_kind kind p) in omega arith;
-    is = λ k s.
-        let row = subst (λ (z : Config). i < z.slots) (sym s.pass.config) l in
-        let x = s.image.slot i row in
-        let small : k.last < 2 ^ 16 = let f = few.serials in let e = s.pass.last in omega arith in
-        let objects : k.config.objects < 2 ^ 16 = let f = few.objects in let e = ap (λ (z : Config). z.objects) s.pass.config in omega arith in
-        let read = read_parts k.config k.last k.seen s.pass.legal small objects i (get_or words (slot_at i) 0) x p fits is in
-        let here = at_slot k.config k.last k.seen s.pass.legal i (get_or words (slot_at i) 0) kind x ∙ ap (λ q. bit (is_of_kind kind q)) read in
-        let more = sum_more i (λ j. count_below (k.last + 1) (there (state_of k).refs kind j)) in
-        let was = c.is k s in omega arith;
+-- the parts of the top are read
+abbrev pub ReadsTop : List ℕ → Option TopParts → Type 0
+ReadsTop words r = (p : TopParts) → IsTop p → get_or words 1 0 ≡ top_word p → r ≡ Some p
+
+-- a room within its limits
+pub small_of : (c : Config) → in_limits c ≡ true → IsSmall c
+small_of c e = record { threads = grind (arith, nat_tests); slots = grind (arith, nat_tests); objects = grind (arith, nat_tests); words = grind (arith, nat_tests); locals = grind (arith, nat_tests) }
+
+module _ (c : Config) (words : List ℕ) (small : IsSmall c) where
+  -- the row has all its words
+  wide : HasHistory c words → row_words c ≤ length words
+  wide has = ∥∥₁_elim has (hlevel props) (λ h. let w = h.2.image.wide in omega arith)
+
+  pub slot_in : HasHistory c words → (i : ℕ) → i < c.slots → slot_at i < length words
+  slot_in has i l = let w = wide has in omega arith
+
+  pub header_in : HasHistory c words → (o : ℕ) → 1 ≤ o → o ≤ c.objects → header_at c o < length words
+  header_in has o low high = let w = wide has in omega arith
+
+  pub top_in : HasHistory c words → 1 < length words
+  top_in has = let w = wide has in omega arith
+
+  slot_parts : (last : ℕ) (log : History) → IsHistoryOf c words last log → (i : ℕ) → i < c.slots → IsSlotOf last (state log).refs (state log).given i (get_or words (slot_at i) 0)
+  slot_parts last log h i l = h.image.slot i l
+
+  slot_read : (last : ℕ) (log : History) (h : IsHistoryOf c words last log) (i : ℕ) (l : i < c.slots) (r : Option SlotParts) → ReadsSlot words i r → r ≡ Some (slot_parts last log h i l).parts
+  slot_read last log h i l r reads =
+      let x = slot_parts last log h i l in
+      let few = small.objects in
+      reads x.parts (slot_fits c last log h.legal h.few (omega arith) i (get_or words (slot_at i) 0) x) x.word
+
+  -- a slot's word has a reading
+  pub slot_some : HasHistory c words → (i : ℕ) (r : Option SlotParts) → i < c.slots → ReadsSlot words i r → IsSome r
+  slot_some has i r l reads = ∥∥₁_elim has (hlevel props) (λ h. subst (λ z. IsSome z) (sym (slot_read h.0 h.1 h.2 i l r reads)) refl)
+
+  pub one_more_slot : (kind : RefKind) (i count count' : ℕ) (p : SlotParts) → IsCounted c words (references_below kind i) count i → i < c.slots → ReadsSlot words i (Some p)
+      → (b : Bool) → b ≡ is_of_kind kind p → count' ≡ count + bit b → IsCounted c words (references_below kind (i + 1)) count' (i + 1)
+  one_more_slot kind i count count' p counted l reads b test next = record {
+    few = let f = counted.few in let m = bit_most b in omega arith;
+    is = λ last log h.
+        let x = slot_parts last log h i l in
+        let read : x.parts ≡ p = let e = slot_read last log h i l (Some p) reads in cc in
+        let here = at_slot c last log h.legal i (get_or words (slot_at i) 0) kind x ∙ ap (λ q. bit (is_of_kind kind q)) read in
+        let same = ap bit test in
+        let more = sum_more i (λ j. count_below (last + 1) (there (state log).refs kind j)) in
+        let was = counted.is last log h in omega arith;
   }
 
   -- number 0 is no object's
-  pub no_object : (k : Known) → Shows old words k → 0 ≡ objects_below k 1
-  no_object k s =
-      let room = in_room k.config k.last k.seen s.pass.legal in
-      sym (count_all_false 1 (λ o. is_some ((state_of k).objects o)) (λ o l. none (is_some ((state_of k).objects o)) (λ e. let r = (room.objects o e).0 in omega arith)))
-    where
-      none : (b : Bool) → (b ≡ true → ⊥) → b ≡ false
-      none true h = absurd (h refl)
-      none false h = refl
+  pub no_object : IsCounted c words (objects_below 1) 0 0
+  no_object = record {
+    few = omega arith;
+    is = λ last log h.
+        let room = in_room c last log h.legal in
+        sym (count_all_false 1 (λ o. is_some ((state log).objects o)) (λ o l. not_true (is_some ((state log).objects o)) (λ e. let r = (room.objects o e).0 in omega arith)));
+  }
 
-  pub one_more_object : (n count count' : ℕ) (b : Bool) → IsCounted old words (λ k. objects_below k (n + 1)) count n → n < config.objects → (b ≡ true → get_or words (header_at config (n + 1)) 0 ≢ 0) → (b ≡ false → get_or words (header_at config (n + 1)) 0 ≡ 0)
-      → count' ≡ count + bit b → IsCounted old words (λ k. objects_below k (n + 1 + 1)) count' (n + 1)
-  one_more_object n count count' b c l some none next = record {
-    few = let f = c.few in let m = bit_most b in omega arith;
-    is = λ k s.
-        let here = at_header k s b refl in
-        let more = sum_more (n + 1) (λ o. bit (is_some ((state_of k).objects o))) in
-        let was = c.is k s in
+  pub one_more_object : (n count count' place w : ℕ) → IsCounted c words (objects_below (n + 1)) count n → n < c.objects → place ≡ header_at c (n + 1) → w ≡ get_or words place 0
+      → (b : Bool) → (b ≡ true → w ≢ 0) → (b ≡ false → w ≡ 0) → count' ≡ count + bit b → IsCounted c words (objects_below (n + 1 + 1)) count' (n + 1)
+  one_more_object n count count' place w counted l at found b some none next = record {
+    few = let f = counted.few in let m = bit_most b in omega arith;
+    is = λ last log h.
+        let here = at_header last log h b refl in
+        let more = sum_more (n + 1) (λ o. bit (is_some ((state log).objects o))) in
+        let was = counted.is last log h in
         let same = ap bit here in omega arith;
   }
     where
-      at_header : (k : Known) → Shows old words k → (d : Bool) → b ≡ d → is_some ((state_of k).objects (n + 1)) ≡ b
-      at_header k s d e = go d e
+      at_header : (last : ℕ) (log : History) → IsHistoryOf c words last log → (d : Bool) → b ≡ d → is_some ((state log).objects (n + 1)) ≡ b
+      at_header last log h d e = go d e
         where
-          place : header_at k.config (n + 1) ≡ header_at config (n + 1)
-          place = ap (λ (z : Config). header_at z (n + 1)) s.pass.config
+          header : IsHeaderOf ((state log).objects (n + 1)) w
+          header = subst (IsHeaderOf ((state log).objects (n + 1))) (sym (found ∙ ap (λ j. get_or words j 0) at)) (h.image.header (n + 1) (omega arith) (omega arith))
 
-          header : IsHeaderOf ((state_of k).objects (n + 1)) (get_or words (header_at config (n + 1)) 0)
-          header =
-              let high : n + 1 ≤ k.config.objects = let e = ap (λ (z : Config). z.objects) s.pass.config in omega arith in
-              subst (λ j. IsHeaderOf ((state_of k).objects (n + 1)) (get_or words j 0)) place (s.image.header (n + 1) (omega arith) high)
-
-          go : (d : Bool) → b ≡ d → is_some ((state_of k).objects (n + 1)) ≡ b
-          go true e = header_some ((state_of k).objects (n + 1)) (get_or words (header_at config (n + 1)) 0) header (some e) ∙ sym e
-          go false e = ap is_some (header_none ((state_of k).objects (n + 1)) (get_or words (header_at config (n + 1)) 0) header (none e)) ∙ sym e
+          go : (d : Bool) → b ≡ d → is_some ((state log).objects (n + 1)) ≡ b
+          go true e = header_some ((state log).objects (n + 1)) w header (some e) ∙ sym e
+          go false e = ap is_some (header_none ((state log).objects (n + 1)) w header (none e)) ∙ sym e
 
   -- the top says how many words are reserved
-  top_fits : config.words ≤ 1048576 → (k : Known) → Shows old words k → IsTop (record { used = (state_of k).used; half = First })
-  top_fits space k s =
-      let fit = (lengths_fit k.config k.last k.seen s.pass.legal).1 in
-      let e = ap (λ (z : Config). z.words) s.pass.config in record { used = omega arith }
+  top_read : (last : ℕ) (log : History) → IsHistoryOf c words last log → (r : Option TopParts) → ReadsTop words r → r ≡ Some (record { used = (state log).used; half = First })
+  top_read last log h r reads =
+      let fit = (lengths_fit c last log h.legal).1 in
+      let few = small.words in
+      reads (record { used = (state log).used; half = First }) (record { used = omega arith }) h.image.top
 
-  pub top_some : (r : Option TopParts) → config.words ≤ 1048576 → MayKnow (Shows old) words anything → ((p : TopParts) → IsTop p → get_or words 1 0 ≡ top_word p → r ≡ Some p) → IsSome r
-  top_some r space may read = ∥∥₁_elim may (hlevel props)
-      (λ k. let e = read (record { used = (state_of k.0).used; half = First }) (top_fits space k.0 k.1) k.1.image.top in subst (λ z. IsSome z) (sym e) refl)
+  pub top_some : HasHistory c words → (r : Option TopParts) → ReadsTop words r → IsSome r
+  top_some has r reads = ∥∥₁_elim has (hlevel props) (λ h. subst (λ z. IsSome z) (sym (top_read h.0 h.1 h.2 r reads)) refl)
 
-  pub top_used : (p : TopParts) → config.words ≤ 1048576 → ((q : TopParts) → IsTop q → get_or words 1 0 ≡ top_word q → Some p ≡ Some q) → (k : Known) → Shows old words k → p.used ≡ (state_of k).used
-  top_used p space read k s =
-      let e = read (record { used = (state_of k).used; half = First }) (top_fits space k s) s.image.top in
-      let same : p ≡ record { used = (state_of k).used; half = First } = cc in
+  pub top_used : (p : TopParts) → ReadsTop words (Some p) → (last : ℕ) (log : History) → IsHistoryOf c words last log → p.used ≡ (state log).used
+  top_used p reads last log h =
+      let same : p ≡ record { used = (state log).used; half = First } = let e = top_read last log h (Some p) reads in cc in
       ap (λ (z : TopParts). z.used) same
+
+pub same_summary : {globals globals' weaks weaks' live live' used used' : ℕ} → globals ≡ globals' → weaks ≡ weaks' → live ≡ live' → used ≡ used'
+    → ◌≡◌ {A = Summary} (record { globals = globals; weaks = weaks; live = live; used = used }) (record { globals = globals'; weaks = weaks'; live = live'; used = used' })
+same_summary a b c d = λ j. record { globals = a j; weaks = b j; live = c j; used = d j }

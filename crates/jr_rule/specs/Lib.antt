@@ -2,6 +2,7 @@ pub mod Acts
 pub mod Image
 pub mod Knowing
 pub mod Slots
+pub mod Shown
 pub mod Plain
 pub mod Rule
 pub mod Holding

@@ -1,9 +1,7 @@
 -- What plain words show: any history whose image they are.
-use Rattle.std.specs.Prelude.{◌≡◌, ℕ, ◌+◌, ◌<◌, Bool, is_some, List, [], slice_index}
+use Rattle.std.specs.Prelude.{◌≡◌, ℕ, ◌<◌, Bool, List, [], slice_index}
 use Rattle.jr_word.specs.declared.config.Config.{Config}
 use Rattle.jr_model.specs.declared.event.Role.{Role}
-use Rattle.jr_model.specs.Maps.{count_below}
-use Rattle.jr_model.specs.State.{State}
 use Rattle.jr_rule.specs.declared.known.Known.{Known}
 use Rattle.jr_rule.specs.Knowing.{Standing, IsOf, HasNoLocals, state_of}
 use Rattle.jr_rule.specs.Image.{local_at, IsImage}
@@ -20,10 +18,6 @@ unseen config last = record { config = config; last = last; thread = 0; seen = [
 pub record Shows (s : Standing) (words : List ℕ) (k : Known) : Type 0 where
   pub pass : IsOf s k
   pub image : IsImage k.config k.last words (state_of k)
-
--- how many objects are present
-abbrev pub present_objects : Config → State → ℕ
-present_objects c s = count_below (c.objects + 1) (λ o. is_some (s.objects o))
 
 -- the local words of thread 0 are 0, and so it has no local reference
 pub record IsUnused (s : Standing) (words : List ℕ) : Type 0 where

@@ -12,6 +12,7 @@ use Rattle.jr_rule.specs.declared.known.View.{View}
 use Rattle.jr_rule.specs.declared.rule.Sizes.{Sizes}
 use Rattle.jr_rule.specs.Image.{IsImage}
 use Rattle.jr_rule.specs.Knowing.{Goes}
+use Rattle.jr_rule.specs.Shown.{IsSmall}
 
 abbrev pub sizes : Config → ℕ → Sizes
 sizes c last = record { config = c; last = last }
@@ -22,13 +23,9 @@ known c last t seen = record { config = c; last = last; thread = t; seen = seen 
 abbrev pub view : List Known → View
 view ks = record { passes = ks }
 
--- the sizes of a room
+-- the sizes of a room, and its last serial
 pub record IsSized (c : Config) (last : ℕ) : Type 0 where
-  pub threads : (1 ≤ c.threads) × (c.threads ≤ 64)
-  pub slots : c.slots ≤ 65536
-  pub objects : c.objects ≤ 65535
-  pub words : c.words ≤ 1048576
-  pub locals : c.locals ≤ 4096
+  pub small : IsSmall c
   pub serials : last < 2 ^ 16
 
 -- A PASS has seen a beginning of the history, in which all its own events stand

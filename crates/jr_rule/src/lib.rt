@@ -13,6 +13,7 @@ mod row;
 mod rule;
 mod slot_stepping;
 mod steps;
+mod summing;
 
 pub use known::{Known, View};
 pub use naming::{GateNaming, SlotNaming};

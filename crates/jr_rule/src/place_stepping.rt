@@ -2,10 +2,10 @@
 ghost use Rattle.std.specs.Prelude.{◌≡◌, ◌<◌, ◌≤◌, [], ◌∷◌};
 ghost use Rattle.jr_model.specs.declared.event.Role.TheVariants.{Within};
 ghost use Rattle.jr_rule.specs.Acts.{putting, publishing};
-ghost use Rattle.jr_rule.specs.Image.{local_at, header_at};
+ghost use Rattle.jr_rule.specs.Image.{local_at};
 ghost use Rattle.jr_rule.specs.Knowing.{anything, nothing, HasObject, HasOptional, MayKnow, Took};
 
-use crate::parts::{SLOTS, local_parts};
+use crate::parts::{SLOTS, header_at, local_parts};
 use crate::pass::Pass;
 use crate::row::Row;
 use jr_word::{Header, HeaderParts, Kind, LocalWord};
@@ -22,15 +22,6 @@ impl Row {
     {
         let before = usize::from(thread) * self.config.locals as usize;
         SLOTS + self.config.slots as usize + before + usize::from(place)
-    }
-
-    /// Where an object's header is in the row.
-    fn header_at(&self, object: u16) -> usize
-        requires { (1 ≤ object) × (object ≤ self.now.config.objects) }
-        ensures { result ≡ header_at self.now.config object }
-    {
-        let locals = self.config.threads as usize * self.config.locals as usize;
-        SLOTS + self.config.slots as usize + locals + (usize::from(object) - 1)
     }
 
     pub(crate) fn put_local(&self, pass: &mut Pass, place: u16, object: Option<u16>)
@@ -56,7 +47,7 @@ impl Row {
         ensures row { IsAt self.now pass.new }
         ensures step { Took standing_of Knows pass.old pass.new (publishing object header.kind result) anything (λ _ k. HasObject object k) }
     {
-        let at = self.header_at(object);
+        let at = header_at(&self.config, u32::from(object));
         let new = Header::pack(header);
         let about = (object, header.kind);
         let found = self.exchange::<Brand, (u16, Kind)>(&mut pass.seat, at, 0, new.0, about);

@@ -5,21 +5,22 @@ ghost use Rattle.jr_word.specs.Config.{in_limits, row_words};
 ghost use Rattle.jr_word.specs.Gate.{gate_word, IsGate};
 ghost use Rattle.jr_word.specs.Slot.{slot_word, IsSlot};
 ghost use Rattle.jr_model.specs.declared.event.Role.TheVariants.{Outside};
-ghost use Rattle.jr_rule.specs.Image.{gate_at, slot_at, header_at};
+ghost use Rattle.jr_rule.specs.Image.{gate_at, slot_at};
 ghost use Rattle.jr_rule.specs.Knowing.{anything, MayKnow, HasNoLocals};
 ghost use Rattle.jr_rule.specs.declared.known.Known.{Known};
 ghost use Rattle.jr_rule.specs.Plain.{standing, Shows, IsUnused};
 
 use crate::naming::{GateNaming, SlotNaming};
 use crate::parts::{
-    GATE, SLOTS, TOP, all_counted, freed_slot, is_free, is_reference, is_shut, local_parts,
-    reference, role_of_entry,
+    GATE, SLOTS, all_counted, freed_slot, header_at, is_free, is_shut, local_parts, reference,
+    role_of_entry,
 };
 use crate::steps::Steps;
+use crate::summing::summary;
 use jr_model::{Role, Summary};
 use jr_word::{
     Config, Fault, GateParts, GateWord, HandleParts, Header, HeaderParts, LocalParts, LocalWord,
-    RefKind, SlotParts, SlotWord, TopWord,
+    RefKind, SlotParts, SlotWord,
 };
 use std::alloc::Global;
 
@@ -41,9 +42,9 @@ pub struct PlainSteps<const LAST: u16> {
 }
 
 impl<const LAST: u16> PlainSteps<LAST> {
-    ghost use Rattle.jr_model.specs.State.{references, summary as summary_of};
+    ghost use Rattle.jr_model.specs.State.{summary as summary_of};
     ghost use Rattle.jr_rule.specs.Knowing.{HasNoLocals, state_of};
-    ghost use Rattle.jr_rule.specs.Plain.{unseen, present_objects};
+    ghost use Rattle.jr_rule.specs.Plain.{unseen};
 
     /// The steps over a row of zeros: E16, E17.
     pub fn new(alloc: Global, config: Config) -> Result<Self, Fault>
@@ -71,54 +72,7 @@ impl<const LAST: u16> PlainSteps<LAST> {
     pub fn summary(&self) -> Summary
         ensures { (k : Known) → Shows (standing self.now.config LAST self.now.role self.now.fresh) self.now.words.items k → result ≡ summary_of k.config k.last (state_of k) }
     {
-        Summary {
-            globals: self.references(RefKind::Global),
-            weaks: self.references(RefKind::Weak),
-            live: self.objects(),
-            used: self.used(),
-        }
-    }
-
-    /// How many references of the kind stand.
-    fn references(&self, kind: RefKind) -> u32
-        ensures { (k : Known) → Shows (standing self.now.config LAST self.now.role self.now.fresh) self.now.words.items k → result ≡ references k.config k.last kind (state_of k) }
-    {
-        let mut count = 0;
-        for index in 0..self.config.slots {
-            if is_reference(kind, self.slot(index as u16)) {
-                count += 1;
-            }
-        }
-        count
-    }
-
-    /// How many objects are present.
-    fn objects(&self) -> u32
-        ensures { (k : Known) → Shows (standing self.now.config LAST self.now.role self.now.fresh) self.now.words.items k → result ≡ present_objects k.config (state_of k) }
-    {
-        let mut count = 0;
-        for before in 0..self.config.objects {
-            if self.word(self.header_at(before + 1)) != 0 {
-                count += 1;
-            }
-        }
-        count
-    }
-
-    /// How many words of array space are reserved.
-    fn used(&self) -> u32
-        ensures { (k : Known) → Shows (standing self.now.config LAST self.now.role self.now.fresh) self.now.words.items k → result ≡ (state_of k).used }
-    {
-        TopWord::parts(self.word(TOP)).unwrap().used
-    }
-
-    /// The place of an object's header in the row.
-    fn header_at(&self, object: u32) -> usize
-        requires { (1 ≤ object) × (object ≤ self.now.config.objects) }
-        ensures { result ≡ header_at self.now.config object }
-    {
-        let locals = self.config.threads as usize * self.config.locals as usize;
-        SLOTS + self.config.slots as usize + locals + (object as usize - 1)
+        summary(&self.words, &self.config)
     }
 
     /// The word at a place of the row.
@@ -248,7 +202,7 @@ impl<const LAST: u16> Steps for PlainSteps<LAST> {
     }
 
     fn claim_header(&mut self, object: u16, header: HeaderParts) -> bool {
-        let at = self.header_at(u32::from(object));
+        let at = header_at(&self.config, u32::from(object));
         if self.word(at) != 0 {
             return false;
         }

@@ -15,7 +15,7 @@ exchange-found-requires-clause-owes c =
     let p = c.args.pass.now in
     let o = c.args.object in
     let h = c.args.header in
-    let at : header_at (known_of p).config o ≡ c.header_at-at.result = ap (λ z. header_at z o) (c.requires.row).config ∙ sym c.header_at-at.ensures in
+    let at : header_at (known_of p).config o ≡ c.header_at-at.result = ap (λ z. header_at z o) (c.requires.row).config ∙ sym (c.header_at-at.ensures ∙ ap (header_at c.args.self.now.config) c.from.ensures) in
     subst (λ (z : ℕ × ℕ). Owes (known_of p) z.0 (λ n. either (eqb n 0) z.1 n) (Published o h.kind (known_of p))) (λ j. (at j, sym c.pack-new.ensures j))
     (publishes_header (known_of p) (p.held.role_is ∙ c.requires.role) o h c.requires.number c.requires.empty)
 
