@@ -23,23 +23,23 @@ module _ (p : Pass) where
   object_known o may = ∥∥₁_elim may (hlevel props) (λ k. subst (HasObject o) (k.1).is k.2.0)
 
   pub object_some : {T : Known → Type 0} (o : ℕ) → MayKnow Knows p (λ k. HasObject o k × T k) → 0 < o
-  object_some o may = ∥∥₁_elim may (hlevel props) (λ k. let low = ((in_room k.0.config k.0.last k.0.seen (k.1).legal).objects o k.2.0).0 in omega arith)
+  object_some o may = ∥∥₁_elim may (hlevel props) (λ k. let low = ((in_room k.0.config k.0.last k.0.seen (k.1).pass.legal).objects o k.2.0).0 in omega arith)
 
   pub serial_fits : {T : Known → Type 0} (i serial : ℕ) → MayKnow Knows p (λ k. T k × IsFreeSlot i serial k) → serial ≤ (known_of p).last
   serial_fits i serial may = ∥∥₁_elim may (hlevel props) (λ k. subst (λ (z : Known). serial ≤ z.last) (k.1).is (k.2.1).fits)
 
   module _ (h : Handle) (o : Option ℕ) (may : MayKnow Knows p (HasLooked h (found_object o))) where
     pub looked_can : CanStand h.kind o
-    looked_can = ∥∥₁_elim may (can_prop h.kind o) (λ k. (looked_at k.0.config k.0.last h o k.0 (k.1).legal k.2).can)
+    looked_can = ∥∥₁_elim may (can_prop h.kind o) (λ k. (looked_at k.0.config k.0.last h o k.0 (k.1).pass.legal k.2).can)
 
     pub looked_object : (x : ℕ) → o ≡ Some x → 0 < x
-    looked_object x e = ∥∥₁_elim may (hlevel props) (λ k. let low = ((looked_at k.0.config k.0.last h o k.0 (k.1).legal k.2).object x e).0 in omega arith)
+    looked_object x e = ∥∥₁_elim may (hlevel props) (λ k. let low = ((looked_at k.0.config k.0.last h o k.0 (k.1).pass.legal k.2).object x e).0 in omega arith)
 
   -- the number of an object, if one is given, is one of the room
   pub optional_few : (o : Option ℕ) → MayKnow Knows p (HasOptional o) → (known_of p).config.objects ≤ 65535 → (x : ℕ) → o ≡ Some x → (0 < x) × (x < 2 ^ 16)
   optional_few o may few x e = ∥∥₁_elim may (hlevel props)
       (λ k.
-      let r = (in_room k.0.config k.0.last k.0.seen (k.1).legal).objects x (subst (λ z. HasOptional z k.0) e k.2) in
+      let r = (in_room k.0.config k.0.last k.0.seen (k.1).pass.legal).objects x (subst (λ z. HasOptional z k.0) e k.2) in
       let same = ap (λ (z : Known). z.config.objects) (k.1).is in
       let low = r.0 in
       let high = r.1 in (omega arith, omega arith))

@@ -9,7 +9,7 @@ use Rattle.jr_word.specs.Gate.{gate_word, IsGate}
 use Rattle.jr_model.specs.declared.event.Role.{Role}
 use Rattle.jr_model.specs.declared.event.Role.TheVariants.{Outside, Within, Knocking, Collecting}
 use Rattle.jr_model.specs.declared.event.Act.{Act}
-use Rattle.jr_model.specs.declared.event.Act.TheVariants.{Shut, ShutBusy, Reopen}
+use Rattle.jr_model.specs.declared.event.Act.TheVariants.{Shut, ShutBusy, Reopen, Meet}
 use Rattle.jr_model.specs.History.{History, state, role_of, role_after}
 use Rattle.jr_rule.specs.declared.known.Known.{Known}
 use Rattle.jr_rule.specs.declared.naming.GateNaming.{GateNaming}
@@ -19,8 +19,8 @@ use Rattle.jr_rule.specs.Knowing.{view, IsClosedNow}
 use Rattle.jr_rule.specs.Rule.{IsFound, known_at, Makes, Owes}
 use Rattle.jr_rule.proofs.Found.{role_at, closed_now}
 use Rattle.jr_rule.proofs.GateTurns.{gate_fits, gate_most, gate_named_state, shows_gate, goes_in, goes_out, counted, shut_counted, gate_seen, bars, bars_lost, unbars}
-use Rattle.jr_rule.proofs.Told.{Told, Entered, Left, Barred, Reopened, SawGate}
-use Rattle.jr_rule.proofs.Turns.{Turn}
+use Rattle.jr_rule.proofs.Told.{Told, Entered, Left, Barred, Reopened, SawGate, Met}
+use Rattle.jr_rule.proofs.Turns.{Turn, turn_one}
 
 -- a turn is what a step makes
 pub makes : (k : Known) (log : History) (words : List ℕ) (told : List Act → Known → Type 0) (acts : List Act) → Turn k.config k.last log k.thread acts words → told acts (known_at k log acts) → Makes k log words told
@@ -104,3 +104,9 @@ module _ (k : Known) where
       let t = gate_seen k.config k.last log k.thread words f.legal f.image f.fits.row name (subst (λ r. GateNameFits r name) (sym (role_at k log words f)) fits) in
       makes k log (slice_set words 0 n) (SawGate name k n) acts (unwritten k log words 0 t)
       (g.parts, gate_fits k.config (state log).role n (f.sized).small.threads g, g.word, refl, shows_gate k.config k.last log f.legal n g g.parts (known_at k log acts) refl refl (gate_named_state log k.thread name (all_counted g.parts)))
+
+  -- a load that only shows what others did
+  pub meets : Owes k 0 (λ n. n) (Met k)
+  meets log words f =
+      let n : ℕ = get_or words 0 0 in
+      makes k log (slice_set words 0 n) (Met k n) (Meet ∷ []) (unwritten k log words 0 (turn_one k.config k.last log k.thread words f.legal Meet (f.fits.row, tt) f.image)) refl

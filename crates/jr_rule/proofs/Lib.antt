@@ -26,3 +26,5 @@ pub mod GateOwed
 pub mod SlotOwed
 pub mod Allowed
 pub mod PlaceOwed
+pub mod Meeting
+pub mod Ended

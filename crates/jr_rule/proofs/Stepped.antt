@@ -12,7 +12,7 @@ use Rattle.jr_model.proofs.Stays.{role_did}
 use Rattle.jr_rule.specs.declared.known.Known.{Known}
 use Rattle.jr_rule.specs.declared.pass.Pass.{Pass}
 use Rattle.jr_rule.specs.declared.row.Row.{Row}
-use Rattle.jr_rule.specs.Knowing.{Standing, view, moved, fresh_from, HasNoLocals, Goes, Took}
+use Rattle.jr_rule.specs.Knowing.{Standing, IsOf, view, moved, fresh_from, HasNoLocals, Goes, Took}
 use Rattle.jr_rule.specs.Rule.{view as seats, Sat, acting, others_of, Tells}
 use Rattle.jr_rule.specs.Holding.{IsHeld, IsSeated}
 use Rattle.jr_rule.specs.Passes.{known_of, standing_of, Knows, IsAt}
@@ -50,6 +50,7 @@ module _ {told : Known → ℕ → List Act → Known → Type 0} (m : Sat) (n :
         legal = ∣ subst (λ (z : Config × ℕ × History). IsLegal z.0 z.1 z.2) (λ i. (sym same_config i, sym same_last i, sym (ap (λ (k : Known). k.seen) acting_is) i)) g.legal ∣₁;
         sized = subst (λ (z : Config × ℕ). Rattle.jr_rule.specs.Rule.IsSized z.0 z.1) (λ i. (sym same_config i, sym same_last i)) h.sized;
         row = subst (λ (c : Config). thread < c.threads) (sym same_config) h.row;
+        few = h.few;
         unused = λ e. subst HasNoLocals (sym acting_is) (no_locals_next (acting m) s.new s.acts fresh g (ap (fresh_from fresh) are ∙ (sym fresh_is ∙ e)) h.unused);
       }
 
@@ -61,6 +62,17 @@ module _ {told : Known → ℕ → List Act → Known → Type 0} (old new : Pas
     config = ap (λ (k : Known). k.config) a ∙ (g.config ∙ h.config);
     last = ap (λ (k : Known). k.last) a ∙ (g.last ∙ h.last);
   }
+
+  -- what is known of the pass
+  known_is : IsLegal (s.new).config (s.new).last (s.new).seen → IsOf (standing_of new) s.new
+  known_is legal =
+      let a = acting_is old.seat.me n new.seat.me s in record {
+        config = ap (λ (k : Known). k.config) (sym a);
+        last = ap (λ (k : Known). k.last) (sym a);
+        thread = ap (λ (k : Known). k.thread) (sym a) ∙ new.held.thread_is;
+        role = ap (λ k. role_of (view k)) (sym a) ∙ new.held.role_is;
+        legal = legal;
+      }
 
   -- the step was taken
   pub took : {met : Known → Type 0} {shows : Known → Known → Type 0} (acts : List Act) → s.acts ≡ acts → new.thread ≡ old.thread → new.role ≡ role_from old.role acts → new.fresh ≡ fresh_from old.fresh acts
@@ -78,5 +90,5 @@ module _ {told : Known → ℕ → List Act → Known → Type 0} (old new : Pas
         goes = λ k h q.
             let here : Goes k acts s.new = subst (λ (z : Known × List Act). Goes z.0 z.1 s.new) (λ i. (sym h.is i, acts_are i)) g in
             let legal = subst (λ (z : Config × ℕ). IsLegal z.0 z.1 (s.new).seen) (λ i. (sym g.config i, sym g.last i)) g.legal in
-            (s.new, record { is = sym a; legal = legal }, here, subst (λ z. shows z s.new) (sym h.is) (shown (subst met h.is q)));
+            (s.new, record { is = sym a; pass = known_is legal }, here, subst (λ z. shows z s.new) (sym h.is) (shown (subst met h.is q)));
       }

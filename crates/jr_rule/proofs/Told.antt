@@ -56,3 +56,6 @@ Put p o k n acts k' = acts ≡ putting p o ∷ []
 -- a header that was found 0 is the object's
 abbrev pub Published : ℕ → Kind → Told
 Published o kind k n acts k' = (n ≡ 0 → acts ≡ publishing o kind true) × (n ≢ 0 → acts ≡ publishing o kind false) × HasObject o k'
+
+abbrev pub Met : Told
+Met k n acts k' = acts ≡ Meet ∷ []

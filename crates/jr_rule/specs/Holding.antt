@@ -14,6 +14,7 @@ pub record IsHeld (m : Sat) (thread : ℕ) (role : Role) (fresh : Bool) : Type 0
   pub legal : ∥ IsLegal (acting m).config (acting m).last (acting m).seen ∥₁
   pub sized : IsSized (acting m).config (acting m).last
   pub row : thread < (acting m).config.threads
+  pub few : thread < 64
   pub unused : fresh ≡ true → HasNoLocals (acting m)
 
 -- the seat has a pass to step, and no slots

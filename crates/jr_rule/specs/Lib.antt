@@ -7,3 +7,5 @@ pub mod Plain
 pub mod Rule
 pub mod Holding
 pub mod Passes
+pub mod PassLaws
+pub mod Rooms

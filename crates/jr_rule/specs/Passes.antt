@@ -11,7 +11,7 @@ use Rattle.jr_model.specs.History.{History, state, mine, IsLegal}
 use Rattle.jr_rule.specs.declared.known.Known.{Known}
 use Rattle.jr_rule.specs.declared.pass.Pass.{Pass}
 use Rattle.jr_rule.specs.declared.row.Row.{Row}
-use Rattle.jr_rule.specs.Knowing.{Standing, Goes, state_of}
+use Rattle.jr_rule.specs.Knowing.{Standing, IsOf, Goes, state_of}
 use Rattle.jr_rule.specs.Rule.{known, acting}
 
 -- what a pass knows: its room and thread, and what it has seen
@@ -24,7 +24,7 @@ standing_of p = record { config = (known_of p).config; last = (known_of p).last;
 -- a pass knows one history: its own
 pub record Knows (p : Pass) (k : Known) : Type 0 where
   pub is : k ≡ known_of p
-  pub legal : IsLegal k.config k.last k.seen
+  pub pass : IsOf (standing_of p) k
 
 -- THE PASS IS ONE OF THE ROW'S OWN
 pub record IsAt (r : Row) (p : Pass) : Type 0 where
@@ -57,13 +57,17 @@ pub record IsSame (old new : Pass) : Type 0 where
   pub role : new.role ≡ old.role
   pub fresh : new.fresh ≡ old.fresh
 
--- A ROOM IS CLOSED: the pass found nobody inside, knocking or collecting, and the summary is that of one legal history, which begins with all that the pass has seen and has no more of its events
+-- AT THE END the summary is that of one legal history, which begins with all that the pass has seen and has no more of its events
+pub record Ends (k : Known) (s : Summary) : Type 0 where
+  pub whole : History
+  pub legal : IsLegal k.config k.last whole
+  pub begins : IsPrefix k.seen whole
+  pub own : mine whole k.thread ≡ mine k.seen k.thread
+  pub is : s ≡ summary k.config k.last (state whole)
+
+-- A ROOM IS CLOSED: the pass found nobody inside, knocking or collecting, and then it ends
 pub record Closes (k : Known) (s : Summary) : Type 0 where
   pub met : Known
   pub goes : Goes k (Meet ∷ []) met
   pub nobody : not_outside k.config (state_of met) ≡ 0
-  pub whole : History
-  pub legal : IsLegal k.config k.last whole
-  pub begins : IsPrefix met.seen whole
-  pub own : mine whole k.thread ≡ mine met.seen k.thread
-  pub is : s ≡ summary k.config k.last (state whole)
+  pub ends : Ends met s

@@ -1,21 +1,22 @@
 //! The steps of a pass at its row: each is one operation on one word.
-ghost use Rattle.std.specs.Prelude.{◌≡◌, ◌≢◌, ◌⊎◌, ◌<◌, ◌≤◌, [], ◌∷◌};
-ghost use Rattle.jr_word.specs.declared.handle.RefKind.TheVariants.{Local};
+ghost use Rattle.std.specs.Prelude.{◌≡◌, ◌⊎◌, [], ◌∷◌};
 ghost use Rattle.jr_model.specs.declared.event.Role.TheVariants.{Outside, Within, Knocking, Collecting};
-ghost use Rattle.jr_model.specs.declared.event.Act.TheVariants.{Reopen};
-ghost use Rattle.jr_rule.specs.Acts.{entered_as, leaving, barring, gate_named, GateNameFits, all_counted as all_of, slot_named, SlotNameFits, claiming, freeing, putting, publishing, found_object};
-ghost use Rattle.jr_rule.specs.Knowing.{anything, nothing, HasObject, HasOptional, HasLooked, IsClosedNow, IsFreeSlot, ShowsGate, ShowsSlot, LostClaim, MayKnow, Took};
+ghost use Rattle.jr_model.specs.declared.event.Act.TheVariants.{Reopen, Meet};
+ghost use Rattle.jr_model.specs.History.{HasMet};
+ghost use Rattle.jr_rule.specs.Acts.{entered_as, leaving, barring, gate_named, GateNameFits, all_counted as all_of};
+ghost use Rattle.jr_rule.specs.Knowing.{view, anything, nothing, Goes, IsClosedNow, ShowsGate, MayKnow, Took};
 
 use crate::naming::GateNaming;
 use crate::parts::{GATE, all_counted, is_shut, role_of_entry};
 use crate::pass::Pass;
 use crate::row::Row;
+use crate::rule::{Gather, Part};
 use jr_model::Role;
 use jr_word::{GateParts, GateWord};
 use std::marker::Brand;
 
 impl Row {
-    ghost use Rattle.jr_rule.specs.Passes.{standing_of, Knows, IsAt};
+    ghost use Rattle.jr_rule.specs.Passes.{known_of, standing_of, Knows, IsAt, IsSame};
 
     pub(crate) fn go_in(&self, pass: &mut Pass) -> bool
         requires row { IsAt self.now pass.old }
@@ -69,8 +70,35 @@ impl Row {
         requires fits { GateNameFits pass.old.role name }
         ensures row { IsAt self.now pass.new }
         ensures step { Took standing_of Knows pass.old pass.new (gate_named name (all_of result) ∷ []) anything (λ _ k. ShowsGate result k) }
+        ensures seen { Goes (known_of pass.old) (gate_named name (all_of result) ∷ []) (known_of pass.new) × ShowsGate result (known_of pass.new) }
     {
         let found = self.load::<Brand, GateNaming>(&mut pass.seat, GATE, name);
         GateWord::parts(found).unwrap()
+    }
+
+    /// The seats of both passes are joined, look at the gate together, and part.
+    pub(crate) fn meet(&self, pass: &mut Pass, other: Pass) -> Pass
+        requires row { IsAt self.now pass.old }
+        requires other { IsAt self.now other }
+        ensures row { IsAt self.now pass.new }
+        ensures step { Took standing_of Knows pass.old pass.new (Meet ∷ []) anything nothing }
+        ensures met { HasMet (view (known_of other)) (view (known_of pass.new)) }
+        ensures other { IsAt self.now result × IsSame other result }
+    {
+        let Pass {
+            seat,
+            thread,
+            role,
+            fresh,
+        } = other;
+        self.table.shared.join_seat::<Gather>(&mut pass.seat, seat);
+        self.load::<Brand, ()>(&mut pass.seat, GATE, ());
+        let seat = self.table.shared.split_seat::<Part>(&mut pass.seat);
+        Pass {
+            seat,
+            thread,
+            role,
+            fresh,
+        }
     }
 }

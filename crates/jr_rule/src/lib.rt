@@ -1,6 +1,7 @@
 //! The room: one row of atomic words that threads step on without locks, under a rule that ties it to one legal history of the machine.
 #![tactic(auto)]
 
+mod closing;
 mod gate_stepping;
 mod known;
 mod naming;
@@ -9,15 +10,18 @@ mod pass;
 mod place_stepping;
 mod plain;
 mod room;
+mod room_steps;
 mod row;
 mod rule;
 mod slot_stepping;
 mod steps;
 mod summing;
 
+pub use closing::Left;
 pub use known::{Known, View};
 pub use naming::{GateNaming, SlotNaming};
 pub use pass::Pass;
 pub use plain::PlainSteps;
 pub use room::Room;
+pub use room_steps::RoomSteps;
 pub use steps::Steps;

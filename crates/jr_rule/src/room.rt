@@ -16,13 +16,13 @@ pub struct Room<const LAST: u16> {
 }
 
 impl<const LAST: u16> Room<LAST> {
-    ghost use Rattle.jr_rule.specs.Passes.{AreOpened};
+    ghost use Rattle.jr_rule.specs.Rooms.{IsOpening};
 
     /// Opens a room of zeros, with one pass a thread, from thread 0 upward: E16, E17.
     pub fn open(alloc: Global, config: Config) -> Result<(Room<LAST>, Vec<Pass>), Fault>
         ensures size { (result ≡ Err Size) ↔ (in_limits config ≡ false) }
         ensures memory { IfErr result (λ e. (e ≡ Size) ⊎ (e ≡ Memory)) }
-        ensures opened { IfOk result (λ r. AreOpened config LAST r.0.row r.1.items) }
+        ensures opened { IfOk result (λ r. IsOpening LAST config r.0 r.1.items) }
     {
         if !config.in_limits() {
             return Err(Fault::Size);

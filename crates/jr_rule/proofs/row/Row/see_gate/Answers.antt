@@ -1,10 +1,14 @@
-use Rattle.std.proofs.Common.{[], ◌∷◌, refl, sym, ap, subst, ◌∙◌}
+use Rattle.std.proofs.Common.{List, [], ◌∷◌, refl, sym, ap, subst, ◌∙◌}
 use Rattle.jr_rule.specs.Acts.{all_counted, gate_named, GateNameFits}
-use Rattle.jr_rule.specs.Knowing.{ShowsGate}
+use Rattle.jr_word.specs.declared.gate.GateParts.{GateParts}
+use Rattle.jr_model.specs.declared.event.Act.{Act}
+use Rattle.jr_rule.specs.declared.known.Known.{Known}
+use Rattle.jr_rule.specs.Knowing.{Goes, ShowsGate}
+use Rattle.jr_rule.specs.Passes.{known_of}
 use Rattle.jr_rule.proofs.GateTurns.{gate_named_role}
 use Rattle.jr_rule.proofs.GateOwed.{sees_gate, gate_some, gate_is}
 use Rattle.jr_rule.proofs.PlainTurns.{named_fresh}
-use Rattle.jr_rule.proofs.Stepped.{held_next, took}
+use Rattle.jr_rule.proofs.Stepped.{acting_is, held_next, took}
 use Rattle.jr_rule.proofs.row.Row.see_gate.Goals as goal
 
 pub load-found-requires-clause-owes : goal.load-found-requires-clause-owes
@@ -32,3 +36,15 @@ returns-clause-step c =
     let n = all_counted c.unwrap.result in
     took p _ c.load-found.result t _ (s.3 ∙ ap (λ q. gate_named c.args.name (all_counted q) ∷ []) (sym read)) refl (gate_named_role c.args.name n p.role) (named_fresh c.args.name n p.fresh)
     (λ m. subst (λ q. ShowsGate q t.new) (sym read) s.4)
+
+pub returns-clause-seen : goal.returns-clause-seen
+returns-clause-seen c =
+    let p = c.args.pass.now in
+    let t = c.load-found.ensures.1 in
+    let s = t.says in
+    let read = gate_is c.parts.result s.0 c.unwrap.result (c.parts.ensures.complete s.0 s.1 s.2) c.unwrap.ensures in
+    let acts_are = s.3 ∙ ap (λ q. gate_named c.args.name (all_counted q) ∷ []) (sym read) in
+    let new = acting_is p.seat.me c.load-found.result _ t in (
+      subst (λ (z : List Act × Known). Goes (known_of p) z.0 z.1) (λ i. (acts_are i, sym new i)) t.goes,
+      subst (λ (z : GateParts × Known). ShowsGate z.0 z.1) (λ i. (sym read i, sym new i)) s.4,
+    )

@@ -1,0 +1,51 @@
+-- Two passes at one seat, while they meet.
+use Rattle.std.proofs.Common.{◌≡◌, ℕ, List, [], ◌∷◌, refl, sym, ap, subst, ◌∙◌}
+use Rattle.jr_word.specs.declared.config.Config.{Config}
+use Rattle.jr_model.specs.declared.event.Act.{Act}
+use Rattle.jr_model.specs.History.{History, PassView, HasMet}
+use Rattle.jr_rule.specs.declared.known.Known.{Known}
+use Rattle.jr_rule.specs.Knowing.{view}
+use Rattle.jr_rule.specs.Rule.{view as seats, EachFits, Sat, acting, others_of, Tells, IsAlone, together, first_alone, without_first}
+use Rattle.jr_rule.specs.Holding.{IsSeated}
+use Rattle.jr_rule.proofs.Seats.{joined_is}
+
+module _ (a b m : Sat) (alone : IsAlone a) (other : IsAlone b) (joined : m ≡ (together a.0 b.0, a.1)) where
+  -- the seat that was joined has both passes
+  pub both : m ≡ (seats (acting a ∷ acting b ∷ []), [])
+  both = joined_is m a b (acting a) (acting b) alone other joined
+
+  pub acting_both : acting m ≡ acting a
+  acting_both = ap acting both
+
+  pub others_both : others_of m.0.passes ≡ acting b ∷ []
+  others_both = ap (λ (z : Sat). others_of z.0.passes) both
+
+  pub seated_both : IsSeated m
+  seated_both = both ∙ (λ i. (seats (sym acting_both i ∷ sym others_both i), []))
+
+  module _ {told : Known → ℕ → List Act → Known → Type 0} (n : ℕ) (m' : Sat) (s : Tells told m n m') (first : Sat) (parted : first ≡ (first_alone m'.0, m'.1)) where
+    -- after the look the first pass sits alone again, and was told what the look told
+    pub first_is : first ≡ (seats (s.new ∷ []), [])
+    first_is = parted ∙ (ap (λ (z : Sat). (first_alone z.0, z.1)) s.is ∙ ap (λ (z : Sat). (seats (s.new ∷ []), z.1)) both)
+
+    -- as if it had looked alone
+    pub told_alone : Tells told a n first
+    told_alone = record {
+      acts = s.acts;
+      new = s.new;
+      is = first_is ∙ (λ i. (seats (s.new ∷ ap (λ (z : Sat). others_of z.0.passes) (sym alone) i), ap (λ (z : Sat). z.1) (sym alone) i));
+      goes = subst (λ k. Rattle.jr_rule.specs.Knowing.Goes k s.acts s.new) acting_both s.goes;
+      says = subst (λ k. told k n s.acts s.new) acting_both s.says;
+      others = subst (λ ks. EachFits (acting a).config (acting a).last (s.new).seen ks) (sym (ap (λ (z : Sat). others_of z.0.passes) alone)) tt;
+    }
+
+    -- all that the other pass has seen is seen, and of its events just those
+    pub has_met : HasMet (view (acting b)) (view (acting first))
+    has_met =
+        let fit = (subst (λ ks. EachFits (acting m).config (acting m).last (s.new).seen ks) others_both s.others).0 in
+        let here : acting first ≡ s.new = ap acting first_is in
+        subst (λ k. HasMet (view (acting b)) (view k)) (sym here) record { begins = fit.begins; theirs = fit.own }
+
+    -- the second pass is as it was
+    pub second_is : (second : Sat) → second ≡ (without_first m'.0, []) → second ≡ (seats (acting b ∷ []), [])
+    second_is second e = e ∙ (ap (λ (z : Sat). (without_first z.0, [])) s.is ∙ ap (λ ks. (seats ks, [])) others_both)

@@ -1,0 +1,150 @@
+//! The steps of one thread in a room that it shares.
+ghost use Rattle.std.specs.Prelude.{◌≡◌, [], ◌∷◌};
+ghost use Rattle.jr_model.specs.declared.event.Act.TheVariants.{Meet};
+ghost use Rattle.jr_model.specs.History.{HasMet};
+ghost use Rattle.jr_rule.specs.Knowing.{view, anything, nothing, Took};
+ghost use Rattle.jr_rule.specs.Passes.{IsAt};
+
+use crate::naming::{GateNaming, SlotNaming};
+use crate::pass::Pass;
+use crate::room::Room;
+use crate::steps::Steps;
+use jr_model::Role;
+use jr_word::{Config, GateParts, HandleParts, HeaderParts, RefKind, SlotParts};
+
+/// The steps that the holder of a pass takes in its room.
+#[derive(Drop)]
+pub struct RoomSteps<'a, const LAST: u16> {
+    pub room: &'a Room<LAST>,
+    pub pass: Pass,
+    ghost at: { IsAt room.now.row pass },
+}
+
+impl<'a, const LAST: u16> RoomSteps<'a, LAST> {
+    ghost use Rattle.jr_rule.specs.Passes.{known_of, standing_of, Knows, IsSame};
+    ghost use Rattle.jr_rule.specs.Rooms.{IsOfRoom};
+
+    /// The steps of a pass in its own room.
+    pub fn new(room: &'a Room<LAST>, pass: Pass) -> Self
+        requires { IsOfRoom room.now pass }
+        ensures { (result.room ≡ room.entry) × (result.pass ≡ pass) }
+    {
+        RoomSteps { room, pass }
+    }
+
+    /// The pass, as it is.
+    pub fn into_pass(self) -> Pass
+        ensures { (result ≡ self.entry.pass) × IsOfRoom self.entry.room.now result }
+    {
+        let RoomSteps { room: _, pass } = self;
+        pass
+    }
+
+    /// Learns all that the holder of another pass of the room has seen, which gets its pass back as it was.
+    pub fn meet(&mut self, other: Pass) -> Pass
+        requires { IsOfRoom self.old.room.now other }
+        ensures room { self.new.room ≡ self.old.room }
+        ensures step { Took standing_of Knows self.old.pass self.new.pass (Meet ∷ []) anything nothing }
+        ensures met { HasMet (view (known_of other)) (view (known_of self.new.pass)) }
+        ensures other { IsOfRoom self.old.room.now result × IsSame other result }
+    {
+        self.room.row.meet(&mut self.pass, other)
+    }
+}
+
+impl<const LAST: u16> Steps for RoomSteps<'_, LAST> {
+    ghost use Rattle.jr_rule.specs.Passes.{standing_of, Knows};
+    ghost use Rattle.jr_rule.specs.PassLaws.{some_of, unused_of};
+
+    ghost stands = { λ s. standing_of s.pass };
+
+    ghost knows = { λ s k. Knows s.pass k };
+
+    fn config(&self) -> Config {
+        self.room.row.config
+    }
+
+    fn thread(&self) -> u8 {
+        self.pass.thread
+    }
+
+    fn last(&self) -> u16 {
+        LAST
+    }
+
+    fn role(&self) -> Role {
+        self.pass.role
+    }
+
+    fn fresh(&self) -> bool {
+        self.pass.fresh
+    }
+
+    fn spend(&mut self) {
+        self.pass.fresh = false;
+    }
+
+    fn go_in(&mut self) -> bool {
+        self.room.row.go_in(&mut self.pass)
+    }
+
+    fn go_out(&mut self) {
+        self.room.row.go_out(&mut self.pass);
+    }
+
+    fn bar(&mut self) -> Result<(), u32> {
+        self.room.row.bar(&mut self.pass)
+    }
+
+    fn unbar(&mut self) {
+        self.room.row.unbar(&mut self.pass);
+    }
+
+    fn see_gate(&mut self, name: GateNaming) -> GateParts {
+        self.room.row.see_gate(&mut self.pass, name)
+    }
+
+    fn see_slot(&mut self, index: u16, name: SlotNaming) -> SlotParts {
+        self.room.row.see_slot(&mut self.pass, index, name)
+    }
+
+    fn claim(
+        &mut self,
+        index: u16,
+        serial: u16,
+        kind: RefKind,
+        object: u16,
+    ) -> Result<(), SlotParts> {
+        self.room
+            .row
+            .claim(&mut self.pass, index, serial, kind, object)
+    }
+
+    fn free(&mut self, handle: HandleParts, object: Option<u16>) -> bool {
+        self.room.row.free(&mut self.pass, handle, object)
+    }
+
+    fn put_local(&mut self, place: u16, object: Option<u16>) {
+        self.room.row.put_local(&mut self.pass, place, object);
+    }
+
+    fn claim_header(&mut self, object: u16, header: HeaderParts) -> bool {
+        self.room.row.claim_header(&mut self.pass, object, header)
+    }
+
+    ghost fits = { λ s k h. h.pass };
+
+    ghost some_known = { λ s. some_of s.pass };
+
+    ghost unused = { λ s k f h. unused_of s.pass k f h };
+
+    ghost few_slots = { λ s. s.pass.held.sized.small.slots };
+
+    ghost few_objects = { λ s. s.pass.held.sized.small.objects };
+
+    ghost few_locals = { λ s. s.pass.held.sized.small.locals };
+
+    ghost few_words = { λ s. s.pass.held.sized.small.words };
+
+    ghost few_threads = { λ s. s.pass.held.few };
+}
