@@ -27,7 +27,7 @@ impl Shut {
 }
 
 /// Shuts the gate: E14 with the number of threads inside, knocking or collecting at the one step, which is at least 1.
-pub fn shut<S: Steps>(steps: &mut S) -> Result<Shut, Fault>
+pub fn shut_gate<S: Steps>(steps: &mut S) -> Result<Shut, Fault>
     requires { (S.stands steps.old).role ≡ Outside }
     ensures ok { IfOk result (λ s. (s.thread ≡ (S.stands steps.new).thread) × Took S.stands S.knows steps.old steps.new (Shuts ∷ []) anything nothing) }
     ensures err { IfErr result (λ e. (n : ℕ) × (e ≡ Busy n) × Took S.stands S.knows steps.old steps.new (ShutBusy n ∷ []) anything nothing) }
