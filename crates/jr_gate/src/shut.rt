@@ -1,5 +1,5 @@
 //! The gate while it is shut for a collection.
-ghost use Rattle.std.specs.Prelude.{◌≡◌, ℕ, [], ◌∷◌, IfOk, IfErr};
+ghost use Rattle.std.specs.Prelude.{◌≡◌, ◌≤◌, ℕ, [], ◌∷◌, IfOk, IfErr};
 ghost use Rattle.jr_word.specs.declared.fault.Fault.TheVariants.{Busy};
 ghost use Rattle.jr_model.specs.declared.event.Role.TheVariants.{Outside, Collecting};
 ghost use Rattle.jr_model.specs.declared.event.Act.TheVariants.{Shut as Shuts, ShutBusy, Reopen};
@@ -30,7 +30,7 @@ impl Shut {
 pub fn shut_gate<S: Steps>(steps: &mut S) -> Result<Shut, Fault>
     requires { (S.stands steps.old).role ≡ Outside }
     ensures ok { IfOk result (λ s. (s.thread ≡ (S.stands steps.new).thread) × Took S.stands S.knows steps.old steps.new (Shuts ∷ []) anything nothing) }
-    ensures err { IfErr result (λ e. (n : ℕ) × (e ≡ Busy n) × Took S.stands S.knows steps.old steps.new (ShutBusy n ∷ []) anything nothing) }
+    ensures err { IfErr result (λ e. (n : ℕ) × (e ≡ Busy n) × (1 ≤ n) × Took S.stands S.knows steps.old steps.new (ShutBusy n ∷ []) anything nothing) }
 {
     match steps.bar() {
         Ok(()) => Ok(Shut {
