@@ -26,10 +26,11 @@ impl Shut {
     }
 }
 
-/// Shuts the gate: E14 with the number of threads inside, knocking or collecting at the one step, which is at least 1.
+/// Shuts the gate, at a moment when no present object array names an absent object: E14 with the number of threads inside, knocking or collecting at the one step, which is at least 1.
 pub fn shut_gate<S: Steps>(steps: &mut S) -> Result<Shut, Fault>
     requires { (S.stands steps.old).role ≡ Outside }
-    ensures ok { IfOk result (λ s. (s.thread ≡ (S.stands steps.new).thread) × Took S.stands S.knows steps.old steps.new (Shuts ∷ []) anything nothing) }
+    ensures ok { IfOk result (λ s. (s.thread ≡ (S.stands steps.new).thread) × Took S.stands S.knows steps.old steps.new (Shuts ∷ []) anything (λ _ k. IsClosedNow k)) }
+    ensures closed { IfOk result (λ _. MayKnow S.knows steps.new IsClosedNow) }
     ensures err { IfErr result (λ e. (n : ℕ) × (e ≡ Busy n) × (1 ≤ n) × Took S.stands S.knows steps.old steps.new (ShutBusy n ∷ []) anything nothing) }
 {
     match steps.bar() {
