@@ -5,4 +5,4 @@ mod inside;
 mod shut;
 
 pub use inside::{Inside, enter};
-pub use shut::{Shut, shut};
+pub use shut::{Shut, shut_gate};
