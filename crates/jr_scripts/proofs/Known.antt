@@ -13,7 +13,7 @@ use Rattle.jr_model.proofs.Histories.{legal_push, state_push}
 use Rattle.jr_model.proofs.Presence.{named_is_present}
 use Rattle.jr_model.proofs.Stays.{IsStill, still_did, did_added}
 use Rattle.jr_model.proofs.Agreement.{agree_spared, places_did, places_from, spares_places}
-use Rattle.jr_rule.specs.declared.steps.Known.{Known}
+use Rattle.jr_rule.specs.declared.known.Known.{Known}
 use Rattle.jr_rule.specs.Acts.{putting}
 use Rattle.jr_rule.specs.Knowing.{view, state_of, Goes, HasObject, HasLooked, Holds}
 use Rattle.jr_scripts.specs.Table.{IsOnly}
