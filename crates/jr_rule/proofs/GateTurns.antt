@@ -1,16 +1,25 @@
 -- What the steps of the gate owe.
-use Rattle.std.proofs.Common.{◌≡◌, ◌≢◌, ◌⊎◌, ⊎_elim, ◌+◌, ◌^◌, ◌<◌, ◌≤◌, ℕ, zero, suc, Bool, true, false, not, if◌then◌else◌, List, [], ◌∷◌, get_or, slice_set, refl, sym, ap, ◌∙◌, arith, nat_eq}
+use Rattle.std.proofs.Common.{◌≡◌, ◌≢◌, ◌⊎◌, ⊎_elim, ◌↔◌, ◌+◌, ◌^◌, ◌<◌, ◌≤◌, ℕ, zero, suc, Bool, true, false, not, IsTrue, if◌then◌else◌, List, [], ◌∷◌, ◌++◌, get_or, slice_set, refl, sym, ap, subst, ◌∙◌, arith, nat_eq}
+use Rattle.std.proofs.lemmas.Bool.{cases_lt}
 use Rattle.jr_word.specs.declared.config.Config.{Config}
-use Rattle.jr_word.specs.Gate.{IsGate}
+use Rattle.jr_word.specs.declared.gate.GateParts.{GateParts}
+use Rattle.jr_word.specs.Gate.{gate_word, IsGate}
 use Rattle.jr_model.specs.declared.event.Role.{Role}
 use Rattle.jr_model.specs.declared.event.Role.TheVariants.{Outside, Within, Knocking, Collecting}
-use Rattle.jr_model.specs.declared.event.Act.TheVariants.{Enter, Knock, Leave, Withdraw}
+use Rattle.jr_model.specs.declared.event.Act.TheVariants.{Enter, Knock, Leave, Withdraw, Shut, ShutBusy, Reopen, Meet}
 use Rattle.jr_model.specs.Maps.{update, sum_below, count_below}
-use Rattle.jr_model.specs.History.{History, state, IsLegal}
-use Rattle.jr_model.proofs.Counts.{bit, count_role}
-use Rattle.jr_model.proofs.Updates.{at_number}
-use Rattle.jr_rule.specs.Acts.{entered_as, leaving}
+use Rattle.jr_model.specs.State.{State, IsClosed, SomebodyCollects, is_outside, not_outside}
+use Rattle.jr_model.specs.History.{History, by, state, IsLegal, role_after}
+use Rattle.jr_model.proofs.Counts.{bit, count_role, count_all_false, count_single, outside_beyond, all_outside}
+use Rattle.jr_model.proofs.Gates.{IsApart, apart_state}
+use Rattle.jr_model.proofs.Histories.{state_push}
+use Rattle.jr_model.proofs.Updates.{at_number, at_number_self}
+use Rattle.jr_rule.specs.declared.known.Known.{Known}
+use Rattle.jr_rule.specs.declared.naming.GateNaming.{GateNaming}
+use Rattle.jr_rule.specs.declared.naming.GateNaming.TheVariants as gate
+use Rattle.jr_rule.specs.Acts.{entered_as, leaving, all_counted, gate_named, GateNameFits}
 use Rattle.jr_rule.specs.Image.{is_inside, IsGateOf, IsImage}
+use Rattle.jr_rule.specs.Knowing.{state_of, ShowsGate}
 use Rattle.jr_rule.proofs.Turns.{Turn, turn_one}
 use Rattle.jr_rule.proofs.Images.{gate_set}
 
@@ -52,6 +61,135 @@ moved_gate c role t old new w n row was quiet still word g = record {
   );
 }
 
+-- a thread shuts a gate that counts nobody
+barred_gate : (c : Config) (role : ℕ → Role) (t w : ℕ) → t < c.threads → role t ≡ Outside → w ≡ 0 → IsGateOf c role w → IsGateOf c (update nat_eq role t Collecting) 65536
+barred_gate c role t w row was zero' g = record {
+  parts = record { count = 0; shut = true };
+  word = omega arith;
+  count =
+      let count = count_role c.threads is_inside role t Collecting row in
+      let here = ap (λ r. bit (is_inside r)) was in
+      let a = g.count in
+      let b = g.word in omega arith;
+  shut = (λ s. (t, at_number_self role t Collecting), λ u. refl);
+}
+
+-- the thread that collects opens the gate
+unbarred_gate : (c : Config) (role : ℕ → Role) (t w n : ℕ) → t < c.threads → role t ≡ Collecting → IsApart role → n + 65536 ≡ w → IsGateOf c role w → IsGateOf c (update nat_eq role t Outside) n
+unbarred_gate c role t w n row was alone is g = record {
+  parts = record { count = count_below c.threads (λ u. is_inside (update nat_eq role t Outside u)); shut = false };
+  word =
+      let count = count_role c.threads is_inside role t Outside row in
+      let here = ap (λ r. bit (is_inside r)) was in
+      let shut : (if g.parts.shut then 2 ^ 16 else 0) ≡ 65536 = ap (λ (b : Bool). if b then 2 ^ 16 else 0) (g.shut.1 (t, was)) in
+      let a = g.count in
+      let b = g.word in omega arith;
+  count = refl;
+  shut = (
+    λ s. absurd (cc),
+    λ u. absurd (at_number (λ r. r ≡ Collecting → ⊥) role t u.0 Outside (λ e q. cc) (λ ne q. ne (alone.alone t u.0 was q)) u.1),
+  );
+}
+
+-- whether a thread of the role collects
+abbrev pub collects : Role → Bool
+collects Collecting = true
+collects _ = false
+
+bit_outside : (r : Role) → bit (not (is_outside r)) ≡ bit (is_inside r) + bit (collects r)
+bit_outside Outside = refl
+bit_outside Within = refl
+bit_outside Knocking = refl
+bit_outside Collecting = refl
+
+collects_true : (r : Role) → collects r ≡ true → r ≡ Collecting
+collects_true Outside e = absurd cc
+collects_true Within e = absurd cc
+collects_true Knocking e = absurd cc
+collects_true Collecting e = refl
+
+sum_split : (n : ℕ) (f g h : ℕ → ℕ) → ((k : ℕ) → h k ≡ f k + g k) → sum_below n h ≡ sum_below n f + sum_below n g
+unfolding sum_below
+sum_split zero f g h e = refl
+sum_split (suc n) f g h e = let rest = sum_split n f g h e in let here = e n in omega arith
+
+not_true : (b : Bool) → (b ≡ true → ⊥) → b ≡ false
+not_true true no' = absurd (no' refl)
+not_true false no' = refl
+
+-- one thread collects where the gate is shut, and none where it is not
+count_collects : (n : ℕ) (role : ℕ → Role) (shut : Bool) → IsApart role → ((t : ℕ) → n ≤ t → role t ≡ Outside) → (shut ≡ true → (t : ℕ) × (role t ≡ Collecting)) → ((t : ℕ) × (role t ≡ Collecting) → shut ≡ true)
+    → count_below n (λ t. collects (role t)) ≡ bit shut
+count_collects n role true alone beyond some none =
+    let u = some refl in
+    let row : u.0 < n = ⊎_elim (λ (l : u.0 < n). l) (λ (l : n ≤ u.0). absurd (let o = beyond u.0 l in let k = u.1 in cc)) (cases_lt u.0 n) in
+    count_single n (λ t. collects (role t)) u.0 row (ap collects u.1)
+    (λ j ne. not_true (collects (role j)) (λ e. ne (alone.alone u.0 j u.1 (collects_true (role j) e))))
+count_collects n role false alone beyond some none =
+    count_all_false n (λ t. collects (role t)) (λ t l. not_true (collects (role t)) (λ e. let z = none (t, collects_true (role t) e) in cc))
+
+-- two readings of one word are one
+one_gate : (p q : GateParts) → IsGate p → IsGate q → gate_word p ≡ gate_word q → p ≡ q
+one_gate p q f g e = parts p.count q.count p.shut q.shut f.count g.count e
+  where
+    parts : (m n : ℕ) (a b : Bool) → m < 2 ^ 16 → n < 2 ^ 16 → m + (if a then 2 ^ 16 else 0) ≡ n + (if b then 2 ^ 16 else 0)
+        → ◌≡◌ {A = GateParts} (record { count = m; shut = a }) (record { count = n; shut = b })
+    parts m n true true l k is = let z : m ≡ n = omega arith in cc
+    parts m n false false l k is = let z : m ≡ n = omega arith in cc
+    parts m n true false l k is = absurd (omega arith)
+    parts m n false true l k is = absurd (omega arith)
+
+-- a word of 0 counts nobody
+pub nobody : (p : GateParts) → gate_word p ≡ 0 → all_counted p ≡ 0
+nobody p e = go p.count p.shut e
+  where
+    go : (n : ℕ) (b : Bool) → n + (if b then 2 ^ 16 else 0) ≡ 0 → n + bit b ≡ 0
+    go n true e = absurd (omega arith)
+    go n false e = e
+
+-- and no other word does
+pub somebody : (p : GateParts) → gate_word p ≢ 0 → 1 ≤ all_counted p
+somebody p ne = go p.count p.shut ne
+  where
+    go : (n : ℕ) (b : Bool) → n + (if b then 2 ^ 16 else 0) ≢ 0 → 1 ≤ n + bit b
+    go n true ne = omega arith
+    go n false ne = omega arith
+
+-- a load of the gate changes no role
+pub gate_named_role : (name : GateNaming) (n : ℕ) (r : Role) → r ≡ role_after r (gate_named name n)
+gate_named_role gate.Meet n r = refl
+gate_named_role gate.Busy zero r = refl
+gate_named_role gate.Busy (suc n) r = refl
+
+-- and nothing else
+pub gate_named_state : (log : History) (t : ℕ) (name : GateNaming) (n : ℕ) → state (log ++ by t (gate_named name n) ∷ []) ≡ state log
+gate_named_state log t gate.Meet n = state_push log (by t (gate_named gate.Meet n))
+gate_named_state log t gate.Busy zero = state_push log (by t (gate_named gate.Busy zero))
+gate_named_state log t gate.Busy (suc n) = state_push log (by t (gate_named gate.Busy (suc n)))
+
+module _ (c : Config) (last : ℕ) (log : History) (legal : IsLegal c last log) (w : ℕ) (g : IsGateOf c (state log).role w) where
+  -- the gate counts the threads that are not outside
+  pub all_counted_is : all_counted g.parts ≡ not_outside c (state log)
+  all_counted_is =
+      let role : ℕ → Role = (state log).role in
+      let both = sum_split c.threads (λ t. bit (is_inside (role t))) (λ t. bit (collects (role t))) (λ t. bit (not (is_outside (role t)))) (λ t. bit_outside (role t)) in
+      let one = count_collects c.threads role g.parts.shut (apart_state c last log legal) (outside_beyond c last log legal) g.shut.0 g.shut.1 in
+      let a = g.count in omega arith
+
+  -- what its parts show
+  pub shows_gate : (p : GateParts) (k : Known) → g.parts ≡ p → k.config ≡ c → state_of k ≡ state log → ShowsGate p k
+  shows_gate p k is room same = subst (λ (q : GateParts). ShowsGate q k) is record {
+    count =
+        let a = ap (λ (d : Config). count_below d.threads (λ t. is_inside ((state_of k).role t))) room in
+        let b = ap (λ (s : State). count_below c.threads (λ t. is_inside (s.role t))) same in
+        g.count ∙ sym (a ∙ b);
+    shut = subst (λ (s : State). IsTrue g.parts.shut ↔ SomebodyCollects s) (sym same) g.shut;
+    all =
+        let a = ap (λ (d : Config). not_outside d (state_of k)) room in
+        let b = ap (λ (s : State). not_outside c s) same in
+        all_counted_is ∙ sym (a ∙ b);
+  }
+
 module _ (c : Config) (last : ℕ) (log : History) (t : ℕ) (words : List ℕ) (legal : IsLegal c last log) (image : IsImage c last words (state log)) (row : t < c.threads) where
   -- an entry adds 1, and goes in where the gate is not shut
   pub goes_in : (found : ℕ) (shut : Bool) → found ≡ get_or words 0 0 → shut ≡ image.gate.parts.shut → (state log).role t ≡ Outside
@@ -84,3 +222,41 @@ module _ (c : Config) (last : ℕ) (log : History) (t : ℕ) (words : List ℕ) 
       let one : bit (is_inside ((state log).role t)) ≡ 1 = ap (λ r. bit (is_inside r)) at ∙ ⊎_elim (λ e. ap (λ r. bit (is_inside r)) e) (λ e. ap (λ r. bit (is_inside r)) e) counts in
       let a = image.gate.count in
       let b = image.gate.word in omega arith
+
+  -- who collects is counted
+  pub shut_counted : (state log).role t ≡ Collecting → 65536 ≤ get_or words 0 0
+  shut_counted at =
+      let shut : (if image.gate.parts.shut then 2 ^ 16 else 0) ≡ 65536 = ap (λ (b : Bool). if b then 2 ^ 16 else 0) (image.gate.shut.1 (t, at)) in
+      let b = image.gate.word in omega arith
+
+  -- the parts that were read are those of the image
+  pub gate_read : c.threads ≤ 64 → (p : GateParts) → IsGate p → get_or words 0 0 ≡ gate_word p → image.gate.parts ≡ p
+  gate_read few p fits is = one_gate image.gate.parts p (gate_fits c (state log).role (get_or words 0 0) few image.gate) fits (sym image.gate.word ∙ is)
+
+  -- a load of the gate counts as what it is named
+  pub gate_seen : (name : GateNaming) → GateNameFits ((state log).role t) name → Turn c last log t (gate_named name (all_counted image.gate.parts) ∷ []) words
+  gate_seen name fits = go name (all_counted image.gate.parts) fits (all_counted_is c last log legal (get_or words 0 0) image.gate)
+    where
+      go : (name : GateNaming) (n : ℕ) → GateNameFits ((state log).role t) name → n ≡ not_outside c (state log) → Turn c last log t (gate_named name n ∷ []) words
+      go gate.Meet n fits is = turn_one c last log t words legal Meet (row, tt) image
+      go gate.Busy zero fits is = turn_one c last log t words legal Meet (row, tt) image
+      go gate.Busy (suc n) out is = turn_one c last log t words legal (ShutBusy (suc n)) (row, (out, is, omega arith)) image
+
+  -- an empty gate is shut
+  pub bars : get_or words 0 0 ≡ 0 → (state log).role t ≡ Outside → Turn c last log t (Shut ∷ []) (slice_set words 0 65536)
+  bars empty out = turn_one c last log t (slice_set words 0 65536) legal Shut
+      (row, all_outside c last log legal (sym (all_counted_is c last log legal (get_or words 0 0) image.gate) ∙ nobody image.gate.parts (sym image.gate.word ∙ empty)))
+      (gate_set c last words (state log) image 65536 (update nat_eq (state log).role t Collecting)
+      (barred_gate c (state log).role t (get_or words 0 0) row out empty image.gate))
+
+  -- a gate that counts somebody is not
+  pub bars_lost : get_or words 0 0 ≢ 0 → (state log).role t ≡ Outside → Turn c last log t (ShutBusy (all_counted image.gate.parts) ∷ []) words
+  bars_lost busy out = turn_one c last log t words legal (ShutBusy (all_counted image.gate.parts))
+      (row, (out, all_counted_is c last log legal (get_or words 0 0) image.gate, somebody image.gate.parts (λ e. busy (image.gate.word ∙ e)))) image
+
+  -- a shut gate is opened
+  pub unbars : (n : ℕ) → n + 65536 ≡ get_or words 0 0 → (state log).role t ≡ Collecting → IsClosed (state log) → Turn c last log t (Reopen ∷ []) (slice_set words 0 n)
+  unbars n is at closed = turn_one c last log t (slice_set words 0 n) legal Reopen
+      (row, (at, closed))
+      (gate_set c last words (state log) image n (update nat_eq (state log).role t Outside)
+      (unbarred_gate c (state log).role t (get_or words 0 0) n row at (apart_state c last log legal) is image.gate))

@@ -1,18 +1,19 @@
 -- What follows from a step, and one step after the other.
-use Rattle.std.proofs.Common.{◌≡◌, ◌≢◌, ℕ, List, [], ◌∷◌, ◌++◌, Option, Some, None, IsSome, refl, sym, ap, subst, ◌∙◌}
+use Rattle.std.proofs.Common.{◌≡◌, ◌≢◌, ◌<◌, ◌≤◌, ℕ, List, [], ◌∷◌, ◌++◌, Option, Some, None, IsSome, refl, sym, ap, subst, ◌∙◌, arith}
 use Rattle.std.specs.List.{AllByRecursion}
+use Rattle.jr_word.specs.declared.slot.SlotParts.TheVariants as slot
 use Rattle.jr_model.specs.declared.event.Role.TheVariants.{Within}
 use Rattle.jr_model.specs.declared.event.Found.{Found}
 use Rattle.jr_model.specs.declared.event.Found.TheVariants.{Object}
 use Rattle.jr_model.specs.declared.event.Act.{Act}
 use Rattle.jr_model.specs.declared.event.Act.TheVariants.{Look, Leave}
 use Rattle.jr_model.specs.State.{Handle, Contents, State, IsPresent}
-use Rattle.jr_model.specs.History.{by, state, role_of, Did}
+use Rattle.jr_model.specs.History.{by, state, IsLegal, role_of, Did}
 use Rattle.jr_model.proofs.Histories.{legal_push, state_push}
 use Rattle.jr_model.proofs.Presence.{named_is_present}
 use Rattle.jr_model.proofs.Stays.{IsStill, still_did, did_added, did_then}
 use Rattle.jr_rule.specs.declared.known.Known.{Known}
-use Rattle.jr_rule.specs.Knowing.{Standing, view, moved, anything, state_of, Goes, HasObject, HasLooked, Took, Acted}
+use Rattle.jr_rule.specs.Knowing.{Standing, view, moved, anything, state_of, Goes, HasObject, HasLooked, IsFreeSlot, ShowsSlot, Took, Acted}
 
 -- a step is what the thread did
 pub goes_did : {k k' : Known} {acts : List Act} → Goes k acts k' → Did (view k) (view k') acts
@@ -20,7 +21,7 @@ goes_did {acts = acts} g = did_added g.between acts g.config g.last g.thread g.s
 
 -- a look finds what the reference names in the state after it
 pub looked_refs : {k k' : Known} (h : Handle) (r : Found) → Goes k (Look h r ∷ []) k' → (state_of k').refs h ≡ r
-pub looked_refs {k} {k'} h r g =
+looked_refs {k} {k'} h r g =
     let before = k.seen ++ g.between in
     let e = by k.thread (Look h r) in
     let legal = (legal_push k.config k.last before e).0 (subst (IsLegal k.config k.last) g.seen g.legal) in
@@ -40,11 +41,23 @@ looked_now {k} {k'} h r g = record {
 }
 
 pub present_still : (s s' : State) (o : ℕ) → IsStill s s' → IsPresent s o → IsPresent s' o
-pub present_still s s' o still = go (s.objects o) refl
+present_still s s' o still = go (s.objects o) refl
   where
     go : (z : Option Contents) → s.objects o ≡ z → IsSome z → IsSome (s'.objects o)
     go None e p = absurd cc
     go (Some x) e p = let y = still.objects o x e in subst (λ z. IsSome z) (sym y.1) refl
+
+-- a slot that a load showed free
+pub shown_free : (i n : ℕ) (k : Known) → ShowsSlot i (slot.Free n) k → IsFreeSlot i n k
+shown_free i n k x =
+    let is = x.says.1 in
+    let fits = x.says.2 in
+    record {
+      fits = omega arith;
+      none = x.says.0;
+      below = λ m l. x.serials.below m (omega arith);
+      above = λ g at l. x.serials.above g at (omega arith);
+    }
 
 -- what is present stays, until the thread leaves
 pub present_stays : (k k' : Known) (acts : List Act) (o : ℕ) → Did (view k) (view k') acts → role_of (view k) ≡ Within → AllByRecursion (λ a. a ≢ Leave) acts → HasObject o k → HasObject o k'

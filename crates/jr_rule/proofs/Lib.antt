@@ -13,5 +13,6 @@ pub mod PlainTook
 pub mod PlainTurns
 pub mod PlainSlots
 pub mod PlainPlaces
+pub mod Unused
 pub mod Zeros
 pub mod Summaries

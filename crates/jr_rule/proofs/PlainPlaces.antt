@@ -1,5 +1,5 @@
 -- The steps of local words and headers over plain words, each at whatever the words show.
-use Rattle.std.proofs.Common.{◌≡◌, ◌≢◌, ◌+◌, ◌*◌, ◌^◌, ◌<◌, ◌≤◌, ℕ, true, false, Option, Some, None, IsSome, List, [], ◌∷◌, get_or, slice_set, refl, sym, ap, subst, ◌∙◌, arith}
+use Rattle.std.proofs.Common.{◌≡◌, ◌≢◌, ◌+◌, ◌*◌, ◌^◌, ◌<◌, ◌≤◌, ℕ, Bool, true, false, Option, Some, None, IsSome, List, [], ◌∷◌, get_or, slice_set, refl, sym, ap, subst, ◌∙◌, arith}
 use Rattle.std.proofs.lemmas.List.{append-nil}
 use Rattle.jr_word.specs.declared.config.Config.{Config}
 use Rattle.jr_word.specs.declared.header.HeaderParts.{HeaderParts}
@@ -14,13 +14,13 @@ use Rattle.jr_model.proofs.Histories.{state_push}
 use Rattle.jr_model.proofs.Updates.{at_number_self}
 use Rattle.jr_rule.specs.declared.known.Known.{Known}
 use Rattle.jr_rule.specs.Acts.{putting, publishing}
-use Rattle.jr_rule.specs.Knowing.{Standing, MayKnow, anything, nothing, HasObject, HasOptional}
+use Rattle.jr_rule.specs.Knowing.{Standing, fresh_after, MayKnow, anything, nothing, HasObject, HasOptional}
 use Rattle.jr_rule.specs.Image.{local_at, header_at, local_parts}
 use Rattle.jr_rule.specs.Plain.{standing, Shows}
 use Rattle.jr_rule.proofs.InRoom.{in_room}
 use Rattle.jr_rule.proofs.LocalTurns.{puts, publishes, header_some}
 use Rattle.jr_rule.proofs.Turns.{Turn, turn_none}
-use Rattle.jr_rule.proofs.PlainTook.{Turned, IsFew, shown_most}
+use Rattle.jr_rule.proofs.PlainTook.{stands_same, Turned, IsFew, shown_most}
 
 -- the parts of an object's local word are those that a place can have
 pub place_fits : (o : Option ℕ) → ((x : ℕ) → o ≡ Some x → (0 < x) × (x < 2 ^ 16)) → IsLocalPlace (local_parts o)
@@ -31,13 +31,18 @@ putting_role : (p : ℕ) (o : Option ℕ) (r : Role) → r ≡ role_after r (put
 putting_role p None r = refl
 putting_role p (Some o) r = refl
 
+-- a store to a local word leaves the pass not fresh
+putting_spends : (p : ℕ) (o : Option ℕ) (f : Bool) → false ≡ fresh_after f (putting p o)
+putting_spends p None f = refl
+putting_spends p (Some o) f = refl
+
 -- a header of no elements
 header_fits : (p : HeaderParts) → (p.length ≡ 0) × (p.place ≡ 0) → IsHeader p
 header_fits p e = let a = e.0 in let b = e.1 in record { length = omega arith; place = omega arith; length_fits = λ k. a; place_fits = λ l. b }
 
-module _ (config : Config) (last : ℕ) (few : IsFew config last) (role : Role) (words : List ℕ) where
+module _ (config : Config) (last : ℕ) (few : IsFew config last) (role : Role) (fresh : Bool) (words : List ℕ) where
   abbrev old : Standing
-  old = standing config last role
+  old = standing config last role fresh
 
   row : (k : Known) → Shows old words k → k.thread < k.config.threads
   row k s = let f = few.threads.0 in let e = ap (λ (c : Config). c.threads) s.pass.config in let t = s.pass.thread in omega arith
@@ -64,9 +69,9 @@ module _ (config : Config) (last : ℕ) (few : IsFew config last) (role : Role) 
       omega arith
 
   pub put : (p : ℕ) (o : Option ℕ) → p < config.locals → role ≡ Within
-      → Turned old words old (slice_set words (2 + config.slots + p) (local_word (local_parts o))) (putting p o ∷ []) (HasOptional o) nothing
+      → Turned old words (standing config last role false) (slice_set words (2 + config.slots + p) (local_word (local_parts o))) (putting p o ∷ []) (HasOptional o) nothing
   put p o l within = record {
-    stands_is = ap (standing config last) (putting_role p o role);
+    stands_is = stands_same config last (putting_role p o role) (putting_spends p o fresh);
     turn = λ k s m.
         let t = puts k.config k.last k.seen k.thread words s.pass.legal s.image (row k s) (s.pass.role ∙ within) p o (subst (λ (c : Config). p < c.locals) (sym s.pass.config) l) m in
         (subst (λ i. Turn k.config k.last k.seen k.thread (putting p o ∷ []) (slice_set words i (local_word (local_parts o)))) (own_word k p s) t, tt);

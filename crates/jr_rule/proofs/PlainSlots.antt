@@ -1,5 +1,5 @@
 -- The steps of slots over plain words, each at whatever the words show.
-use Rattle.std.proofs.Common.{◌≡◌, ◌≢◌, ◌^◌, ◌<◌, ℕ, true, false, Option, Some, None, IsSome, Ok, Err, List, [], ◌∷◌, get_or, slice_set, refl, sym, ap, subst, ◌∙◌, arith}
+use Rattle.std.proofs.Common.{◌≡◌, ◌≢◌, ◌^◌, ◌<◌, ℕ, Bool, true, false, Option, Some, None, IsSome, Ok, Err, List, [], ◌∷◌, get_or, slice_set, refl, sym, ap, subst, ◌∙◌, arith}
 use Rattle.std.proofs.Math.Logic.{∥∥₁_elim}
 use Rattle.std.proofs.Props.{props}
 use Rattle.jr_word.specs.declared.config.Config.{Config}
@@ -19,8 +19,8 @@ use Rattle.jr_rule.specs.declared.known.Known.{Known}
 use Rattle.jr_rule.specs.declared.naming.SlotNaming.{SlotNaming}
 use Rattle.jr_rule.specs.declared.naming.SlotNaming.TheVariants as naming
 use Rattle.jr_rule.specs.Acts.{found_object, slot_named, SlotNameFits, is_occupied, claiming, freeing}
-use Rattle.jr_rule.specs.Knowing.{Standing, MayKnow, anything, nothing, state_of, HasObject, HasLooked, IsFreeSlot, ShowsSlot, LostClaim}
-use Rattle.jr_rule.specs.Image.{slot_at, SaysOfSlot, IsSlotOf}
+use Rattle.jr_rule.specs.Knowing.{Standing, fresh_after, MayKnow, anything, nothing, state_of, HasObject, HasLooked, IsFreeSlot, ShowsSlot, LostClaim}
+use Rattle.jr_rule.specs.Image.{slot_at, AreGivenBelow, SaysOfSlot, IsSlotOf}
 use Rattle.jr_rule.specs.Plain.{standing, Shows}
 use Rattle.jr_rule.specs.Slots.{CanStand, IsReference, freed}
 use Rattle.jr_rule.proofs.InRoom.{in_room}
@@ -30,33 +30,33 @@ use Rattle.jr_rule.proofs.SlotTurns.{sees, claims, frees, frees_late}
 use Rattle.jr_rule.proofs.LostClaims.{claim_lost}
 use Rattle.jr_rule.proofs.Looked.{IsLooked, looked_at}
 use Rattle.jr_rule.proofs.Turns.{Turn}
-use Rattle.jr_rule.proofs.PlainTook.{known_then, Turned, IsFew, shown_most}
+use Rattle.jr_rule.proofs.PlainTook.{stands_same, known_then, Turned, IsFew, shown_most}
 
 -- the name of a load leaves the role
 named_role : (i : ℕ) (name : SlotNaming) (p : SlotParts) (r : Role) → r ≡ role_after r (slot_named i name p)
 named_role i (naming.Look h) p r = refl
 named_role i naming.Probe p r = refl
+named_role i naming.Meet p r = refl
 
 -- and the state
 named_state : (k : Known) (i : ℕ) (name : SlotNaming) (p : SlotParts) → state_of (known_then k (slot_named i name p ∷ [])) ≡ state_of k
 named_state k i (naming.Look h) p = state_push k.seen (by k.thread (slot_named i (naming.Look h) p))
 named_state k i naming.Probe p = state_push k.seen (by k.thread (slot_named i naming.Probe p))
+named_state k i naming.Meet p = state_push k.seen (by k.thread (slot_named i naming.Meet p))
 
--- what a free slot shows
-shows_slot : (last i w : ℕ) (s : State) (k : Known) (x : IsSlotOf last s.refs s.given i w) (p : SlotParts) → x.parts ≡ p → k.last ≡ last → state_of k ≡ s → ShowsSlot i p k
-shows_slot last i w s k x (slot.Free n) is e same =
-    let says = subst (SaysOfSlot last s.refs i x.next) is x.says in
-    let a = says.1 in
-    let b = says.2 in
-    record {
-      fits = omega arith;
-      none = λ g at. ap (λ (z : State). z.refs g) same ∙ says.0 g at;
-      below = λ m l. let g = x.serials.below m (omega arith) in (g.0, g.1, g.2, ap (λ (z : State). z.given g.0) same ∙ g.3);
-      above = λ g at l. ap (λ (z : State). z.given g) same ∙ x.serials.above g at (omega arith);
-    }
-shows_slot last i w s k x (slot.Retired n) is e same = tt
-shows_slot last i w s k x (slot.Global n o) is e same = tt
-shows_slot last i w s k x (slot.Weak n o) is e same = tt
+-- the name of a load leaves the pass as fresh as it was
+named_fresh : (i : ℕ) (name : SlotNaming) (p : SlotParts) (f : Bool) → f ≡ fresh_after f (slot_named i name p)
+named_fresh i (naming.Look h) p f = refl
+named_fresh i naming.Probe p f = refl
+named_fresh i naming.Meet p f = refl
+
+-- what a slot's word shows
+shows_slot : (i w : ℕ) (s : State) (k : Known) (x : IsSlotOf k.last s.refs s.given i w) (p : SlotParts) → x.parts ≡ p → s ≡ state_of k → ShowsSlot i p k
+shows_slot i w s k x p is same = record {
+  next = x.next;
+  serials = subst (λ (z : State). AreGivenBelow z.given i x.next) same x.serials;
+  says = subst (λ (z : State). SaysOfSlot k.last z.refs i x.next p) same (subst (SaysOfSlot k.last s.refs i x.next) is x.says);
+}
 
 -- the parts of a reference are those that a slot can have
 pub names_object : (kind : RefKind) (n : ℕ) (o : Option ℕ) (p : SlotParts) → IsReference kind n o p → ((x : ℕ) → o ≡ Some x → 0 < x) → NamesObject p
@@ -79,9 +79,9 @@ can_prop Global None = hlevel props
 can_prop Global (Some o) = hlevel props
 can_prop Weak o = hlevel props
 
-module _ (config : Config) (last : ℕ) (few : IsFew config last) (role : Role) (words : List ℕ) where
+module _ (config : Config) (last : ℕ) (few : IsFew config last) (role : Role) (fresh : Bool) (words : List ℕ) where
   abbrev old : Standing
-  old = standing config last role
+  old = standing config last role fresh
 
   few_serials : (k : Known) → Shows old words k → k.last < 2 ^ 16
   few_serials k s = let f = few.serials in let e = s.pass.last in omega arith
@@ -106,13 +106,13 @@ module _ (config : Config) (last : ℕ) (few : IsFew config last) (role : Role) 
   pub saw : (i : ℕ) (name : SlotNaming) (p : SlotParts) → i < config.slots → SlotNameFits i name → IsSlot p → get_or words (slot_at i) 0 ≡ slot_word p → role ≡ Within
       → Turned old words old words (slot_named i name p ∷ []) anything (λ _ k. ShowsSlot i p k)
   saw i name p l fits good is within = record {
-    stands_is = ap (standing config last) (named_role i name p role);
+    stands_is = stands_same config last (named_role i name p role) (named_fresh i name p fresh);
     turn = λ k s m.
         let row' = in_row i l k s in
         let x = s.image.slot i row' in
         let read = read_parts k.config k.last k.seen s.pass.legal (few_serials k s) (few_objects k s) i (get_or words (slot_at i) 0) x p good is in (
           sees k.config k.last k.seen k.thread words s.pass.legal s.image (row k s) (s.pass.role ∙ within) i name p row' fits read,
-          shows_slot k.last i (get_or words (slot_at i) 0) (state k.seen) (known_then k (slot_named i name p ∷ [])) x p read refl (named_state k i name p),
+          shows_slot i (get_or words (slot_at i) 0) (state k.seen) (known_then k (slot_named i name p ∷ [])) x p read (sym (named_state k i name p)),
         );
   }
 
@@ -141,8 +141,11 @@ module _ (config : Config) (last : ℕ) (few : IsFew config last) (role : Role) 
         let other : get_or words (slot_at i) 0 ≢ slot_word (slot.Free serial)
         = λ e. differs (one_reading p (slot.Free serial) good (record { serial = omega arith; object = omega arith; names = tt }) (sym is ∙ e)) in (
           t.0,
-          sometime_wider (prefix_self k.seen) (by k.thread (Probe i (is_occupied p)) ∷ [], refl)
-              (claim_lost k k.seen (prefix_self k.seen) s.pass.legal i serial (get_or words (slot_at i) 0) m.1 x other),
+          (
+            sometime_wider (prefix_self k.seen) (by k.thread (Probe i (is_occupied p)) ∷ [], refl)
+                (claim_lost k k.seen (prefix_self k.seen) s.pass.legal i serial (get_or words (slot_at i) 0) m.1 x other),
+            t.1,
+          ),
         );
   }
 

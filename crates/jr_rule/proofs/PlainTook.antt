@@ -1,10 +1,11 @@
 -- A step over plain words: what its kind of step owes is enough.
-use Rattle.std.proofs.Common.{◌≡◌, ◌<◌, ◌≤◌, ◌^◌, ℕ, List, [], ◌++◌, map, slice_set, refl, sym, ap, subst, ◌∙◌}
+use Rattle.std.proofs.Common.{◌≡◌, ◌<◌, ◌≤◌, ◌^◌, ℕ, Bool, List, [], ◌++◌, map, slice_set, refl, sym, ap, subst, ◌∙◌}
 use Rattle.std.proofs.Math.Logic.{∥∥₁_elim}
 use Rattle.std.proofs.Props.{props}
 use Rattle.std.proofs.lemmas.List.{append-nil}
 use mathlib.Core.Logic.{∥∥₁_map}
 use Rattle.jr_word.specs.declared.config.Config.{Config}
+use Rattle.jr_model.specs.declared.event.Role.{Role}
 use Rattle.jr_model.specs.declared.event.Act.{Act}
 use Rattle.jr_model.specs.History.{by, IsLegal, role_from}
 use Rattle.jr_rule.specs.declared.plain.PlainSteps.{PlainSteps}
@@ -12,6 +13,10 @@ use Rattle.jr_rule.specs.declared.known.Known.{Known}
 use Rattle.jr_rule.specs.Knowing.{Standing, moved, Goes, Took, MayKnow, anything}
 use Rattle.jr_rule.specs.Plain.{standing, Shows}
 use Rattle.jr_rule.proofs.Turns.{then, Turn, role_then}
+
+-- a standing by its role and freshness
+pub stands_same : (c : Config) (last : ℕ) {r r' : Role} {f f' : Bool} → r ≡ r' → f ≡ f' → standing c last r f ≡ standing c last r' f'
+stands_same c last a b = cc
 
 -- what is known after acts of one's own, with none of others in between
 abbrev pub known_then : Known → List Act → Known
@@ -61,12 +66,22 @@ module _ {old new : Standing} {words words' : List ℕ} {acts : List Act} {met :
 
 -- and the step was taken
 pub took : (LAST : ℕ) (s s' : PlainSteps LAST) {acts : List Act} {met : Known → Type 0} {shows : Known → Known → Type 0}
-    → Turned (standing s.config LAST s.role) s.words.items (standing s'.config LAST s'.role) s'.words.items acts met shows
-    → Took (λ (z : PlainSteps LAST). standing z.config LAST z.role) (λ (z : PlainSteps LAST) k. Shows (standing z.config LAST z.role) z.words.items k) s s' acts met shows
+    → Turned (standing s.config LAST s.role s.fresh) s.words.items (standing s'.config LAST s'.role s'.fresh) s'.words.items acts met shows
+    → Took (λ (z : PlainSteps LAST). standing z.config LAST z.role z.fresh) (λ (z : PlainSteps LAST) k. Shows (standing z.config LAST z.role z.fresh) z.words.items k) s s' acts met shows
 took LAST s s' {acts} t = record {
   stands_is = t.stands_is;
   goes = λ k h m. let r = t.turn k h m in (known_then k acts, shown_next t k h m, goes_then k acts r.0.legal, r.1);
 }
+
+-- what the words show does not depend on whether the pass is fresh
+pub shows_spent : {c : Config} {last : ℕ} {r : Role} {words : List ℕ} {k : Known} (f f' : Bool) → Shows (standing c last r f) words k → Shows (standing c last r f') words k
+shows_spent f f' s = record {
+  pass = record { config = s.pass.config; last = s.pass.last; thread = s.pass.thread; role = s.pass.role; legal = s.pass.legal };
+  image = s.image;
+}
+
+pub shown_spent : {c : Config} {last : ℕ} {r : Role} {words : List ℕ} (f f' : Bool) → MayKnow (Shows (standing c last r f)) words anything → MayKnow (Shows (standing c last r f')) words anything
+shown_spent f f' may = ∥∥₁_map may (λ k. (k.0, shows_spent f f' k.1, tt))
 
 -- a bound that holds of whatever is known
 pub shown_most : {s : Standing} {words : List ℕ} {met : Known → Type 0} (a b : ℕ) → MayKnow (Shows s) words met → ((k : Known) → Shows s words k → met k → a ≤ b) → a ≤ b

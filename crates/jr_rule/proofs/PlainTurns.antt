@@ -1,21 +1,51 @@
 -- The steps over plain words, each at whatever the words show.
-use Rattle.std.proofs.Common.{◌≡◌, ◌⊎◌, ⊎_elim, ◌+◌, ◌<◌, ◌≤◌, ℕ, Bool, not, List, [], ◌∷◌, get_or, slice_set, refl, sym, ap, subst, ◌∙◌, arith}
+use Rattle.std.proofs.Common.{◌≡◌, ◌≢◌, ◌⊎◌, ⊎_elim, ◌+◌, ◌^◌, ◌<◌, ◌≤◌, ℕ, zero, suc, if◌then◌else◌, Bool, true, false, not, Option, Some, IsSome, List, [], ◌∷◌, get_or, slice_set, refl, sym, ap, subst, ◌∙◌, arith}
+use Rattle.std.proofs.Math.Logic.{∥∥₁_elim}
+use Rattle.std.proofs.Props.{props}
 use Rattle.jr_word.specs.declared.config.Config.{Config}
 use Rattle.jr_word.specs.declared.gate.GateParts.{GateParts}
 use Rattle.jr_word.specs.Gate.{gate_word, IsGate}
 use Rattle.jr_model.specs.declared.event.Role.{Role}
-use Rattle.jr_model.specs.declared.event.Role.TheVariants.{Outside, Within, Knocking}
+use Rattle.jr_model.specs.declared.event.Role.TheVariants.{Outside, Within, Knocking, Collecting}
+use Rattle.jr_model.specs.declared.event.Act.TheVariants.{Shut, ShutBusy, Reopen}
 use Rattle.jr_model.specs.History.{state, role_after}
 use Rattle.jr_rule.specs.declared.known.Known.{Known}
-use Rattle.jr_rule.specs.Acts.{entered_as, leaving}
-use Rattle.jr_rule.specs.Knowing.{Standing, MayKnow, anything, nothing}
+use Rattle.jr_rule.specs.declared.naming.GateNaming.{GateNaming}
+use Rattle.jr_rule.specs.declared.naming.GateNaming.TheVariants as gate
+use Rattle.jr_rule.specs.Acts.{entered_as, leaving, all_counted, gate_named, GateNameFits}
+use Rattle.jr_rule.specs.Knowing.{Standing, fresh_after, MayKnow, anything, nothing, IsClosedNow, ShowsGate}
 use Rattle.jr_rule.specs.Plain.{standing, Shows}
-use Rattle.jr_rule.proofs.GateTurns.{gate_fits, gate_most, goes_in, goes_out, counted}
-use Rattle.jr_rule.proofs.PlainTook.{Turned, IsFew, shown_most}
+use Rattle.jr_rule.proofs.GateTurns.{gate_fits, gate_most, goes_in, goes_out, counted, shut_counted, gate_read, gate_seen, gate_named_role, gate_named_state, shows_gate, nobody, bars, bars_lost, unbars}
+use Rattle.jr_rule.proofs.Turns.{Turn}
+use Rattle.jr_rule.proofs.PlainTook.{known_then, stands_same, Turned, IsFew, shown_most}
 
-module _ (config : Config) (last : ℕ) (few : IsFew config last) (role : Role) (words : List ℕ) where
+-- no step of the gate leaves the pass less fresh
+entered_fresh : (b f : Bool) → f ≡ fresh_after f (entered_as b)
+entered_fresh true f = refl
+entered_fresh false f = refl
+
+left_fresh : (r : Role) (f : Bool) → f ≡ fresh_after f (leaving r)
+left_fresh Outside f = refl
+left_fresh Within f = refl
+left_fresh Knocking f = refl
+left_fresh Collecting f = refl
+
+named_fresh : (name : GateNaming) (n : ℕ) (f : Bool) → f ≡ fresh_after f (gate_named name n)
+named_fresh gate.Meet n f = refl
+named_fresh gate.Busy zero f = refl
+named_fresh gate.Busy (suc n) f = refl
+
+-- a gate that counts nobody has the word 0
+empty_word : (p : GateParts) → all_counted p ≡ 0 → gate_word p ≡ 0
+empty_word p e = go p.count p.shut e
+  where
+    go : (n : ℕ) (b : Bool) → n + (if b then 1 else 0) ≡ 0 → n + (if b then 2 ^ 16 else 0) ≡ 0
+    go n true e = absurd (omega arith)
+    go n false e = e
+
+module _ (config : Config) (last : ℕ) (few : IsFew config last) (role : Role) (fresh : Bool) (words : List ℕ) where
   abbrev old : Standing
-  old = standing config last role
+  old = standing config last role fresh
 
   few_threads : (k : Known) → Shows old words k → k.config.threads ≤ 64
   few_threads k s = let f = few.threads.1 in let e = ap (λ (c : Config). c.threads) s.pass.config in omega arith
@@ -30,10 +60,18 @@ module _ (config : Config) (last : ℕ) (few : IsFew config last) (role : Role) 
   pub gate_some : (role ≡ Within) ⊎ (role ≡ Knocking) → MayKnow (Shows old) words anything → 1 ≤ get_or words 0 0
   gate_some counts may = shown_most 1 (get_or words 0 0) may (λ k s m. counted k.config k.last k.seen k.thread words s.pass.legal s.image (row k s) role counts s.pass.role)
 
+  -- the gate's word has a reading
+  pub gate_parts : (r : Option GateParts) → MayKnow (Shows old) words anything → ((p : GateParts) → IsGate p → get_or words 0 0 ≡ gate_word p → r ≡ Some p) → IsSome r
+  gate_parts r may read = ∥∥₁_elim may (hlevel props)
+      (λ k.
+      let g = k.1.image.gate in
+      let e = read g.parts (gate_fits k.0.config (state k.0.seen).role (get_or words 0 0) (few_threads k.0 k.1) g) g.word in
+      subst (λ z. IsSome z) (sym e) refl)
+
   pub entered : (role' : Role) (found : ℕ) (shut : Bool) → found ≡ get_or words 0 0 → ((parts : GateParts) → IsGate parts → found ≡ gate_word parts → shut ≡ parts.shut) → role ≡ Outside → role' ≡ role_after Outside (entered_as (not shut))
-      → Turned old words (standing config last role') (slice_set words 0 (found + 1)) (entered_as (not shut) ∷ []) anything nothing
-  entered role' found shut is read out then = record {
-    stands_is = ap (standing config last) (then ∙ ap (λ r. role_after r (entered_as (not shut))) (sym out));
+      → Turned old words (standing config last role' fresh) (slice_set words 0 (found + 1)) (entered_as (not shut) ∷ []) anything nothing
+  entered role' found shut is read out at = record {
+    stands_is = stands_same config last (at ∙ ap (λ r. role_after r (entered_as (not shut))) (sym out)) (entered_fresh (not shut) fresh);
     turn = λ k s m.
         let g = s.image.gate in
         let same = read g.parts (gate_fits k.config (state k.seen).role (get_or words 0 0) (few_threads k s) g) (is ∙ g.word) in
@@ -47,8 +85,49 @@ module _ (config : Config) (last : ℕ) (few : IsFew config last) (role : Role) 
       counts
 
   pub left : (n : ℕ) → n + 1 ≡ get_or words 0 0 → (role ≡ Within) ⊎ (role ≡ Knocking)
-      → Turned old words (standing config last Outside) (slice_set words 0 n) (leaving role ∷ []) anything nothing
+      → Turned old words (standing config last Outside fresh) (slice_set words 0 n) (leaving role ∷ []) anything nothing
   left n is counts = record {
-    stands_is = ap (standing config last) (left_role role counts);
+    stands_is = stands_same config last (left_role role counts) (left_fresh role fresh);
     turn = λ k s m. (goes_out k.config k.last k.seen k.thread words s.pass.legal s.image (row k s) role n is counts s.pass.role, tt);
+  }
+
+  -- who collects has the gate shut
+  pub shut_some : role ≡ Collecting → MayKnow (Shows old) words anything → 65536 ≤ get_or words 0 0
+  shut_some collects may = shown_most 65536 (get_or words 0 0) may (λ k s m. shut_counted k.config k.last k.seen k.thread words s.pass.legal s.image (row k s) (s.pass.role ∙ collects))
+
+  pub barred : (p : GateParts) → get_or words 0 0 ≡ gate_word p → all_counted p ≡ 0 → role ≡ Outside
+      → Turned old words (standing config last Collecting fresh) (slice_set words 0 65536) (Shut ∷ []) anything nothing
+  barred p is none out = record {
+    stands_is = refl;
+    turn = λ k s m. (bars k.config k.last k.seen k.thread words s.pass.legal s.image (row k s) (is ∙ empty_word p none) (s.pass.role ∙ out), tt);
+  }
+
+  pub bar_lost : (n : ℕ) (p : GateParts) → IsGate p → get_or words 0 0 ≡ gate_word p → n ≡ all_counted p → n ≢ 0 → role ≡ Outside
+      → Turned old words old words (ShutBusy n ∷ []) anything nothing
+  bar_lost n p fits is counts some out = record {
+    stands_is = refl;
+    turn = λ k s m.
+        let read = gate_read k.config k.last k.seen k.thread words s.pass.legal s.image (row k s) (few_threads k s) p fits is in
+        let busy : get_or words 0 0 ≢ 0 = λ e. some (counts ∙ nobody p (sym is ∙ e)) in
+        let t = bars_lost k.config k.last k.seen k.thread words s.pass.legal s.image (row k s) busy (s.pass.role ∙ out) in
+        (subst (λ m. Turn k.config k.last k.seen k.thread (ShutBusy m ∷ []) words) (ap all_counted read ∙ sym counts) t, tt);
+  }
+
+  pub unbarred : (n : ℕ) → n + 65536 ≡ get_or words 0 0 → role ≡ Collecting
+      → Turned old words (standing config last Outside fresh) (slice_set words 0 n) (Reopen ∷ []) IsClosedNow nothing
+  unbarred n is collects = record {
+    stands_is = refl;
+    turn = λ k s m. (unbars k.config k.last k.seen k.thread words s.pass.legal s.image (row k s) n is (s.pass.role ∙ collects) m, tt);
+  }
+
+  pub gate_saw : (name : GateNaming) (p : GateParts) → IsGate p → get_or words 0 0 ≡ gate_word p → GateNameFits role name
+      → Turned old words old words (gate_named name (all_counted p) ∷ []) anything (λ _ k. ShowsGate p k)
+  gate_saw name p fits is named = record {
+    stands_is = stands_same config last (gate_named_role name (all_counted p) role) (named_fresh name (all_counted p) fresh);
+    turn = λ k s m.
+        let read = gate_read k.config k.last k.seen k.thread words s.pass.legal s.image (row k s) (few_threads k s) p fits is in
+        let t = gate_seen k.config k.last k.seen k.thread words s.pass.legal s.image (row k s) name (subst (λ r. GateNameFits r name) (sym s.pass.role) named) in (
+          subst (λ q. Turn k.config k.last k.seen k.thread (gate_named name (all_counted q) ∷ []) words) read t,
+          shows_gate k.config k.last k.seen s.pass.legal (get_or words 0 0) s.image.gate p (known_then k (gate_named name (all_counted p) ∷ [])) read refl (gate_named_state k.seen k.thread name (all_counted p)),
+        );
   }

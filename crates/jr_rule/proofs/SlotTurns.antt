@@ -74,6 +74,7 @@ freed_slot last s h next r y given = record {
 module _ (c : Config) (last : ℕ) (log : History) (t : ℕ) (words : List ℕ) (legal : IsLegal c last log) (image : IsImage c last words (state log)) (row : t < c.threads) (within : (state log).role t ≡ Within) where
   -- a load of a slot counts as what it is named
   pub sees : (i : ℕ) (name : SlotNaming) (p : SlotParts) (l : i < c.slots) → SlotNameFits i name → (image.slot i l).parts ≡ p → Turn c last log t (slot_named i name p ∷ []) words
+  sees i naming.Meet p l fits e = turn_one c last log t words legal (slot_named i naming.Meet p) (row, tt) image
   sees i (naming.Look h) p l fits e = turn_one c last log t words legal (slot_named i (naming.Look h) p)
       (row, (within, sym (looks last (state log).refs (state log).given i (get_or words (slot_at i) 0) (image.slot i l) h fits.0 fits.2) ∙ ap (reply h) e)) image
   sees i naming.Probe p l fits e = turn_one c last log t words legal (Probe i (is_occupied p))

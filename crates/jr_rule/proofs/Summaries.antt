@@ -97,9 +97,9 @@ references_below k kind n = sum_below n (λ i. count_below (k.last + 1) (there (
 abbrev pub objects_below : Known → ℕ → ℕ
 objects_below k n = count_below n (λ o. is_some ((state_of k).objects o))
 
-module _ (config : Config) (last : ℕ) (few : IsFew config last) (role : Role) (words : List ℕ) where
+module _ (config : Config) (last : ℕ) (few : IsFew config last) (role : Role) (fresh : Bool) (words : List ℕ) where
   abbrev old : Standing
-  old = standing config last role
+  old = standing config last role fresh
 
   pub one_more_slot : (kind : RefKind) (i count count' : ℕ) (p : SlotParts) → IsCounted old words (λ k. references_below k kind i) count i → i < config.slots → IsSlot p → get_or words (slot_at i) 0 ≡ slot_word p
       → count' ≡ count + bit (is_of_kind kind p) → IsCounted old words (λ k. references_below k kind (i + 1)) count' (i + 1)

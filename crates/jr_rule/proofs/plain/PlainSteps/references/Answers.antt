@@ -12,7 +12,7 @@ pub loop-index-preserved : goal.loop-index-preserved
 loop-index-preserved g c =
     let s = c.args.self.now in
     let test = c.is_reference.ensures in
-    one_more_slot s.config g.row.LAST (few_of g.row.LAST s (omega arith)) s.role s.words.items c.args.kind c.loop-index.index c.loop-index.count c.if-is_reference.count c.slot.result c.loop-index.invariant c.loop-index-test.true c.slot.ensures.0 c.slot.ensures.1
+    one_more_slot s.config g.row.LAST (few_of g.row.LAST s (omega arith)) s.role s.fresh s.words.items c.args.kind c.loop-index.index c.loop-index.count c.if-is_reference.count c.slot.result c.loop-index.invariant c.loop-index-test.true c.slot.ensures.0 c.slot.ensures.1
     (elim c.if-is_reference.branch [
       | then-is_reference w ↦ w.count-is ∙ ap (λ b. c.loop-index.count + bit b) (sym w.if-is_reference.true ∙ test)
       | else-is_reference w ↦

@@ -3,19 +3,20 @@ use Rattle.jr_word.specs.Slot.{slot_word}
 use Rattle.jr_rule.specs.Image.{slot_at}
 use Rattle.jr_rule.proofs.PlainTook.{few_of, took, shown, writes}
 use Rattle.jr_rule.proofs.PlainSlots.{claimed, lost, object_some, names_object}
+use Rattle.jr_rule.proofs.Unused.{unused_slot}
 use Rattle.jr_rule.proofs.plain.PlainStepsSteps.claim.Goals as goal
 
 pub returns-then-not-is_free : goal.returns-then-not-is_free
 returns-then-not-is_free g c =
     let s = c.args.self.now in
     took g.row.LAST s s
-    (lost s.config g.row.LAST (few_of g.row.LAST s (omega arith)) s.role s.words.items c.args.index c.args.serial c.args.kind c.args.object c.slot-found.result c.requires.row c.slot-found.ensures.0 c.slot-found.ensures.1
+    (lost s.config g.row.LAST (few_of g.row.LAST s (omega arith)) s.role s.fresh s.words.items c.args.index c.args.serial c.args.kind c.args.object c.slot-found.result c.requires.row c.slot-found.ensures.0 c.slot-found.ensures.1
     (λ e. let yes' = c.is_free.ensures.1 e in let no' = c.if-not-is_free.true in cc) c.requires.role)
 
 pub pack-made-requires : goal.pack-made-requires
 pack-made-requires g c =
     let s = c.args.self.now in
-    let some = object_some s.config g.row.LAST (few_of g.row.LAST s (omega arith)) s.role s.words.items c.args.object c.requires.looked in
+    let some = object_some s.config g.row.LAST (few_of g.row.LAST s (omega arith)) s.role s.fresh s.words.items c.args.object c.requires.looked in
     names_object c.args.kind c.args.serial (Some c.args.object) c.reference.result c.reference.ensures (λ x e. let same : c.args.object ≡ x = cc in omega arith)
 
 pub returns : goal.returns
@@ -23,7 +24,7 @@ returns g c =
     let s = c.args.self.now in
     took g.row.LAST s _
     (writes (slot_at c.args.index) (slot_word c.reference.result) c.pack-made.result.0 c.pack-made.ensures
-    (claimed s.config g.row.LAST (few_of g.row.LAST s (omega arith)) s.role s.words.items c.args.index c.args.serial c.args.kind c.args.object c.reference.result c.requires.row c.requires.kind c.reference.ensures
+    (claimed s.config g.row.LAST (few_of g.row.LAST s (omega arith)) s.role s.fresh s.words.items c.args.index c.args.serial c.args.kind c.args.object c.reference.result c.requires.row c.requires.kind c.reference.ensures
     c.slot-found.result c.slot-found.ensures.1 (c.is_free.ensures.0 c.if-not-is_free.false) c.requires.role))
 
 pub invariant_of-self-clause-shown : goal.invariant_of-self-clause-shown
@@ -31,6 +32,9 @@ invariant_of-self-clause-shown g c =
     let s = c.args.self.now in
     shown
     (writes (slot_at c.args.index) (slot_word c.reference.result) c.pack-made.result.0 c.pack-made.ensures
-    (claimed s.config g.row.LAST (few_of g.row.LAST s (omega arith)) s.role s.words.items c.args.index c.args.serial c.args.kind c.args.object c.reference.result c.requires.row c.requires.kind c.reference.ensures
+    (claimed s.config g.row.LAST (few_of g.row.LAST s (omega arith)) s.role s.fresh s.words.items c.args.index c.args.serial c.args.kind c.args.object c.reference.result c.requires.row c.requires.kind c.reference.ensures
     c.slot-found.result c.slot-found.ensures.1 (c.is_free.ensures.0 c.if-not-is_free.false) c.requires.role))
     c.requires.looked
+
+pub invariant_of-self-clause-unused : goal.invariant_of-self-clause-unused
+invariant_of-self-clause-unused g c = let s = c.args.self.now in λ e. unused_slot s.config g.row.LAST s.role s.role s.fresh s.fresh s.words.items _ (s.unused e) c.args.index c.requires.row

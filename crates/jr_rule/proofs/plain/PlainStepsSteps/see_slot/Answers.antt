@@ -7,4 +7,4 @@ pub returns : goal.returns
 returns g c =
     let s = c.args.self.now in
     took g.row.LAST s s
-    (saw s.config g.row.LAST (few_of g.row.LAST s (omega arith)) s.role s.words.items c.args.index c.args._name c.slot.result c.requires.row c.requires.fits c.slot.ensures.0 c.slot.ensures.1 c.requires.role)
+    (saw s.config g.row.LAST (few_of g.row.LAST s (omega arith)) s.role s.fresh s.words.items c.args.index c.args._name c.slot.result c.requires.row c.requires.fits c.slot.ensures.0 c.slot.ensures.1 c.requires.role)
