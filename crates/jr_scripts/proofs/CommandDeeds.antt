@@ -1,5 +1,5 @@
 -- What calls make up a command, for whatever was known.
-use Rattle.std.proofs.Common.{MutBor, ◌≡◌, ℕ, Bool, Result, Ok, Err, Option, Some, None, subst, sym, refl, ◌∙◌, inl, inr}
+use Rattle.std.proofs.Common.{MutBor, ◌≡◌, ℕ, Bool, Result, Ok, Err, Option, Some, subst, sym, refl, inl, inr}
 use Rattle.jr_word.specs.declared.fault.Fault.{Fault}
 use Rattle.jr_word.specs.declared.handle.RefKind.{RefKind}
 use Rattle.jr_word.specs.declared.handle.Handle.{Handle as HandleWord}
@@ -9,13 +9,13 @@ use Rattle.jr_model.specs.Tests.{Parts}
 use Rattle.jr_syntax.specs.declared.name.Reference.{Reference}
 use Rattle.jr_syntax.specs.declared.command.Command.{Command}
 use Rattle.jr_syntax.specs.declared.command.Command.TheVariants as commands
-use Rattle.jr_scripts.specs.declared.reply.Reply.TheVariants as replies
 use Rattle.jr_rule.specs.declared.known.Known.{Known}
-use Rattle.jr_scripts.specs.Names.{Names, referent, wanted}
 use Rattle.jr_rule.specs.Knowing.{Standing}
+use Rattle.jr_scripts.specs.declared.reply.Reply.TheVariants as replies
+use Rattle.jr_scripts.specs.Names.{Names, referent, wanted}
 use Rattle.jr_scripts.specs.Reading.{IsReadAs}
 use Rattle.jr_scripts.specs.Deeds.{Moment, Deed, Does, get_object_ref_type, is_same_object}
-use Rattle.jr_scripts.specs.Tries.{Tried, answered, again, gave_up, is_tried_again}
+use Rattle.jr_scripts.specs.Tries.{Tried, answered, again, gave_up}
 use Rattle.jr_scripts.specs.Commands.{deleted_of, deleted, type_of, tried, deed}
 use Rattle.jr_scripts.proofs.Standings.{nothing_changed, still_before}
 

@@ -1,5 +1,5 @@
 -- A reference is made to what was resolved.
-use Rattle.std.proofs.Common.{◌≡◌, ℕ, Bool, true, arith, Option, Some, None, List, [], ◌∷◌, Result, Ok, Err, refl, ap, subst, ◌∙◌}
+use Rattle.std.proofs.Common.{◌≡◌, ℕ, Bool, true, arith, Option, Some, None, List, [], ◌∷◌, Result, Ok, Err, refl, ap, subst}
 use Rattle.std.specs.List.{AllByRecursion}
 use Rattle.std.specs.Result.{IsErrAnd}
 use mathlib.Core.Logic.{∥∥₁_map}

@@ -1,5 +1,5 @@
 -- A delete is one look and one exchange.
-use Rattle.std.proofs.Common.{◌≡◌, ℕ, Option, Some, None, [], ◌∷◌, Result, Ok, Err, inl, inr, refl, ap, subst, ◌∙◌}
+use Rattle.std.proofs.Common.{◌≡◌, ℕ, Option, Some, None, [], ◌∷◌, Result, Ok, Err, inl, inr, refl, ap, subst}
 use Rattle.std.specs.Result.{IsErrAnd}
 use mathlib.Core.Logic.{∥∥₁_map}
 use Rattle.jr_word.specs.declared.fault.Fault.{Fault}
@@ -16,10 +16,10 @@ use Rattle.jr_model.proofs.Runs.{ran_act, ran_some_act, ran_refuse, ran_then, di
 use Rattle.jr_rule.specs.declared.known.Known.{Known}
 use Rattle.jr_rule.specs.Acts.{found_object}
 use Rattle.jr_rule.specs.Knowing.{Standing, view, anything, nothing, HasLooked, MayKnow, Took, Goes}
+use Rattle.jr_rule.proofs.Goes.{goes_did, looked_now}
 use Rattle.jr_scripts.specs.Performing.{Performed}
 use Rattle.jr_scripts.specs.Reading.{found_answer}
 use Rattle.jr_scripts.proofs.Standings.{as_before, still_before}
-use Rattle.jr_rule.proofs.Goes.{goes_did, looked_now}
 use Rattle.jr_scripts.proofs.Refusing.{handed_on}
 
 -- what a look found, by what it answers

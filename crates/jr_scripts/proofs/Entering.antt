@@ -13,12 +13,12 @@ use Rattle.jr_model.specs.Frames.{Frames, fresh_frames, object_at}
 use Rattle.jr_model.specs.Calls.{Call, entered}
 use Rattle.jr_model.proofs.Runs.{ran_entered}
 use Rattle.jr_rule.specs.declared.known.Known.{Known}
-use Rattle.jr_scripts.specs.Table.{Table}
 use Rattle.jr_rule.specs.Knowing.{Standing, moved, anything, nothing, HasNoLocals, MayKnow, Took, Acted}
+use Rattle.jr_rule.proofs.Goes.{goes_did}
+use Rattle.jr_scripts.specs.Table.{Table}
 use Rattle.jr_scripts.specs.Performing.{Calls, IsAsBefore}
 use Rattle.jr_scripts.specs.Ready.{IsReady, KeepsOwner, Completes}
 use Rattle.jr_scripts.proofs.Standings.{as_before}
-use Rattle.jr_rule.proofs.Goes.{goes_did}
 use Rattle.jr_scripts.proofs.Known.{holds_did}
 use Rattle.jr_scripts.proofs.Refusing.{handed_on}
 

@@ -1,5 +1,5 @@
 -- A plain object is made, and a local reference to it.
-use Rattle.std.proofs.Common.{◌≡◌, ◌≢◌, ◌<◌, ◌≤◌, ℕ, false, nat_lt, Some, None, [], ◌∷◌, Result, Ok, Err, length, inl, inr, refl, sym, subst, ◌∙◌, arith, IsTrue}
+use Rattle.std.proofs.Common.{◌≡◌, ◌≢◌, ◌<◌, ◌≤◌, ℕ, false, nat_lt, Some, None, [], ◌∷◌, Result, Ok, Err, length, inl, inr, refl, sym, subst, arith, IsTrue}
 use Rattle.std.proofs.lemmas.Bool.Decides.{nat_tests}
 use Rattle.std.specs.Result.{IsErrAnd}
 use mathlib.Core.Logic.{∥∥₁_map, ∥∥₁_elim}
@@ -21,13 +21,13 @@ use Rattle.jr_model.proofs.Counts.{count_none}
 use Rattle.jr_model.proofs.Moments.{sometime_last, one_act}
 use Rattle.jr_model.proofs.Runs.{ran_then, ran_err}
 use Rattle.jr_rule.specs.declared.known.Known.{Known}
+use Rattle.jr_rule.specs.Knowing.{Standing, IsOf, view, anything, nothing, HasOptional, MayKnow, Took}
+use Rattle.jr_rule.proofs.Goes.{goes_did}
 use Rattle.jr_scripts.specs.Works.{making}
 use Rattle.jr_scripts.specs.Table.{Table, IsNext, IsOnly}
-use Rattle.jr_rule.specs.Knowing.{Standing, IsOf, view, anything, nothing, HasOptional, MayKnow, Took}
 use Rattle.jr_scripts.specs.Performing.{Published, Calls}
 use Rattle.jr_scripts.specs.Ready.{IsReady}
 use Rattle.jr_scripts.proofs.Standings.{as_before, still_before}
-use Rattle.jr_rule.proofs.Goes.{goes_did}
 use Rattle.jr_scripts.proofs.Known.{holds_did, holds_put}
 use Rattle.jr_scripts.proofs.Refusing.{handed_on}
 

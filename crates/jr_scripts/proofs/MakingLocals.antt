@@ -1,5 +1,5 @@
 -- A local reference is made to what was resolved.
-use Rattle.std.proofs.Common.{◌≡◌, ◌≢◌, ◌≤◌, ℕ, Option, Some, None, [], ◌∷◌, Result, Ok, Err, nat_lt, refl, sym, ap, subst, ◌∙◌, arith}
+use Rattle.std.proofs.Common.{◌≡◌, ◌≢◌, ℕ, Option, Some, None, [], ◌∷◌, Result, Ok, Err, nat_lt, refl, sym, ap, subst, arith}
 use mathlib.Core.Logic.{∥∥₁_map, ∥∥₁_elim}
 use Rattle.jr_word.specs.declared.config.Config.{Config}
 use Rattle.jr_word.specs.declared.fault.Fault.{Fault}
@@ -13,15 +13,14 @@ use Rattle.jr_model.specs.Calls.{Call, Ran, ◌>>=◌}
 use Rattle.jr_model.specs.References.{added, new_local, room_for}
 use Rattle.jr_model.proofs.Runs.{ran_then, ran_give}
 use Rattle.jr_rule.specs.declared.known.Known.{Known}
-use Rattle.jr_scripts.specs.Works.{local_creation}
+use Rattle.jr_rule.specs.Knowing.{Standing, IsOf, nothing, HasObject, HasOptional, Holds, MayKnow, Took}
+use Rattle.jr_rule.proofs.InRoom.{in_room}
+use Rattle.jr_rule.proofs.Goes.{goes_did}
 use Rattle.jr_scripts.specs.Table.{Table, IsNext, IsOnly}
-use Rattle.jr_rule.specs.Knowing.{Standing, IsOf, view, nothing, HasObject, HasOptional, Holds, MayKnow, Took}
 use Rattle.jr_scripts.specs.Performing.{FoundPresent, Resolves, Calls, MakesLocal}
 use Rattle.jr_scripts.specs.Ready.{IsReady}
 use Rattle.jr_scripts.proofs.Standings.{nothing_changed, as_before, still_before, but_fresh}
 use Rattle.jr_scripts.proofs.Entering.{same_owner, ready_after}
-use Rattle.jr_rule.proofs.InRoom.{in_room}
-use Rattle.jr_rule.proofs.Goes.{goes_did}
 use Rattle.jr_scripts.proofs.Known.{holds_put}
 use Rattle.jr_scripts.proofs.Reading.{ran_refused}
 use Rattle.jr_scripts.proofs.Making.{room_at, room_ran}

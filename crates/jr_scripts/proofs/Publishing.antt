@@ -7,8 +7,8 @@ use Rattle.jr_model.specs.History.{Did}
 use Rattle.jr_model.proofs.Stays.{did_then, did_nothing}
 use Rattle.jr_rule.specs.declared.known.Known.{Known}
 use Rattle.jr_rule.specs.Knowing.{Standing, IsOf, view, anything, HasObject, Took}
-use Rattle.jr_scripts.specs.Performing.{Published}
 use Rattle.jr_rule.proofs.Goes.{goes_did, present_stays}
+use Rattle.jr_scripts.specs.Performing.{Published}
 
 module _ {S : Type 0} (stands : S → Standing) (knows : S → Known → Type 0) where
   -- the numbers up to n were found present, and nothing was done

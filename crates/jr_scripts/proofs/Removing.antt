@@ -18,13 +18,13 @@ use Rattle.jr_model.specs.Parts.{delete, delete_found, drop_local, looked_at}
 use Rattle.jr_model.proofs.Agreement.{spares_places}
 use Rattle.jr_model.proofs.Runs.{ran_done, ran_then, ran_err}
 use Rattle.jr_rule.specs.declared.known.Known.{Known}
+use Rattle.jr_rule.specs.Knowing.{Standing, IsOf, view, anything, nothing, HasOptional, Took}
+use Rattle.jr_rule.proofs.Goes.{goes_did}
 use Rattle.jr_scripts.specs.Works.{removal, local_removal}
 use Rattle.jr_scripts.specs.Table.{IsOnly}
 use Rattle.jr_scripts.specs.Reading.{local_answer}
-use Rattle.jr_rule.specs.Knowing.{Standing, IsOf, view, anything, nothing, HasOptional, Took}
 use Rattle.jr_scripts.specs.Performing.{Performed, Calls}
 use Rattle.jr_scripts.proofs.Standings.{as_before}
-use Rattle.jr_rule.proofs.Goes.{goes_did}
 use Rattle.jr_scripts.proofs.Known.{holds_did, holds_put}
 use Rattle.jr_scripts.proofs.Reading.{ran_refused, ran_passed, ran_local}
 use Rattle.jr_scripts.proofs.Resolving.{stays}

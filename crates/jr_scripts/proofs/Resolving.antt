@@ -15,10 +15,10 @@ use Rattle.jr_model.specs.Parts.{looked, looked_at, type_at}
 use Rattle.jr_model.specs.References.{resolved}
 use Rattle.jr_rule.specs.declared.known.Known.{Known}
 use Rattle.jr_rule.specs.Knowing.{Standing, IsOf, view, anything, nothing, Holds, Goes, Took}
+use Rattle.jr_rule.proofs.Goes.{goes_did, looked_present}
 use Rattle.jr_scripts.specs.Performing.{FoundPresent, Resolves, Calls}
 use Rattle.jr_scripts.specs.Reading.{found_answer, local_answer}
 use Rattle.jr_scripts.proofs.Standings.{nothing_changed, as_before}
-use Rattle.jr_rule.proofs.Goes.{goes_did, looked_present}
 use Rattle.jr_scripts.proofs.Known.{holds_did, local_present}
 use Rattle.jr_scripts.proofs.Reading.{ran_refused, ran_passed, ran_either, ran_neither, ran_local, ran_remote, ran_remote_type}
 

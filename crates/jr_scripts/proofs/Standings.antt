@@ -1,5 +1,5 @@
 -- The same room, thread and role, from moment to moment.
-use Rattle.std.proofs.Common.{◌≡◌, Bool, refl, sym, ap, ◌∙◌}
+use Rattle.std.proofs.Common.{◌≡◌, Bool, refl, ap, ◌∙◌}
 use Rattle.jr_rule.specs.Knowing.{Standing}
 use Rattle.jr_scripts.specs.Performing.{IsAsBefore}
 

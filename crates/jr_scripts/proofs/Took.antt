@@ -14,9 +14,9 @@ use Rattle.jr_model.proofs.Moments.{prefix_self, sometime_wider, probed_occupied
 use Rattle.jr_model.proofs.Stays.{did_then}
 use Rattle.jr_rule.specs.declared.known.Known.{Known}
 use Rattle.jr_rule.specs.Acts.{handle_of, is_occupied}
-use Rattle.jr_rule.specs.Knowing.{Standing, IsOf, view, moved, anything, HasObject, IsFreeSlot, ShowsSlot, LostClaim, Took, Acted}
-use Rattle.jr_scripts.specs.Performing.{Searched, search_acts, EachOccupied}
+use Rattle.jr_rule.specs.Knowing.{Standing, IsOf, view, anything, HasObject, IsFreeSlot, ShowsSlot, LostClaim, Took}
 use Rattle.jr_rule.proofs.Goes.{goes_did, present_stays, shown_free}
+use Rattle.jr_scripts.specs.Performing.{Searched, search_acts, EachOccupied}
 
 search_more : (o : ℕ) (xs ys : List (ℕ × Bool)) (made : Option Handle) → search_acts o xs None ++ search_acts o ys made ≡ search_acts o (xs ++ ys) made
 search_more o xs ys None = sym (map-append (λ (l : ℕ × Bool). Probe l.0 l.1) xs ys)
