@@ -1,19 +1,20 @@
 -- What follows from a step, and one step after the other.
 use Rattle.std.proofs.Common.{◌≡◌, ◌≢◌, ◌<◌, ◌≤◌, ℕ, List, [], ◌∷◌, ◌++◌, Option, Some, None, IsSome, refl, sym, ap, subst, ◌∙◌, arith}
 use Rattle.std.specs.List.{AllByRecursion}
+use mathlib.Core.Logic.{∥∥₁_map}
 use Rattle.jr_word.specs.declared.slot.SlotParts.TheVariants as slot
 use Rattle.jr_model.specs.declared.event.Role.TheVariants.{Within}
 use Rattle.jr_model.specs.declared.event.Found.{Found}
 use Rattle.jr_model.specs.declared.event.Found.TheVariants.{Object}
 use Rattle.jr_model.specs.declared.event.Act.{Act}
-use Rattle.jr_model.specs.declared.event.Act.TheVariants.{Look, Leave}
-use Rattle.jr_model.specs.State.{Handle, Contents, State, IsPresent}
+use Rattle.jr_model.specs.declared.event.Act.TheVariants.{Look, Leave, Shut}
+use Rattle.jr_model.specs.State.{Handle, Contents, State, IsPresent, IsClosed}
 use Rattle.jr_model.specs.History.{by, state, IsLegal, role_of, Did}
 use Rattle.jr_model.proofs.Histories.{legal_push, state_push}
-use Rattle.jr_model.proofs.Presence.{named_is_present}
+use Rattle.jr_model.proofs.Presence.{named_is_present, sound_state}
 use Rattle.jr_model.proofs.Stays.{IsStill, still_did, did_added, did_then}
 use Rattle.jr_rule.specs.declared.known.Known.{Known}
-use Rattle.jr_rule.specs.Knowing.{Standing, view, moved, anything, state_of, Goes, HasObject, HasLooked, IsFreeSlot, ShowsSlot, Took, Acted}
+use Rattle.jr_rule.specs.Knowing.{Standing, MayKnow, IsClosedNow, view, moved, anything, state_of, Goes, HasObject, HasLooked, IsFreeSlot, ShowsSlot, Took, Acted}
 
 -- a step is what the thread did
 pub goes_did : {k k' : Known} {acts : List Act} → Goes k acts k' → Did (view k) (view k') acts
@@ -59,6 +60,15 @@ shown_free i n k x =
       above = λ g at l. x.serials.above g at (omega arith);
     }
 
+-- whoever has just shut the gate finds no array that names an absent object
+pub shut_closed : {k k' : Known} → Goes k (Shut ∷ []) k' → IsClosedNow k'
+shut_closed {k} {k'} g =
+    let before = k.seen ++ g.between in
+    let e = by k.thread Shut in
+    let both = (legal_push k.config k.last before e).0 (subst (IsLegal k.config k.last) g.seen g.legal) in
+    let closed : IsClosed (state before) = (sound_state k.config k.last before both.0).closed (λ u z. let out = both.1.1 u in cc) in
+    subst (λ (s : State). IsClosed s) (sym (ap state g.seen ∙ state_push before e)) closed
+
 -- what is present stays, until the thread leaves
 pub present_stays : (k k' : Known) (acts : List Act) (o : ℕ) → Did (view k) (view k') acts → role_of (view k) ≡ Within → AllByRecursion (λ a. a ≢ Leave) acts → HasObject o k → HasObject o k'
 present_stays k k' acts o d w q p = present_still (state_of k) (state_of k') o (still_did acts d w q) p
@@ -77,3 +87,8 @@ module _ {S : Type 0} {stands : S → Standing} {knows : S → Known → Type 0}
   -- a step shows less, too
   pub took_less : {old new : S} {acts : List Act} {met : Known → Type 0} {shows shows' : Known → Known → Type 0} → ((k k' : Known) → shows k k' → shows' k k') → Took stands knows old new acts met shows → Took stands knows old new acts met shows'
   took_less less t = record { stands_is = t.stands_is; goes = λ k s m. let g = t.goes k s m in (g.0, g.1, g.2, less k g.0 g.3) }
+
+  -- what may be known after a step
+  pub may_then : {old new : S} {acts : List Act} {met : Known → Type 0} {shows : Known → Known → Type 0} {was is : Known → Type 0} → Took stands knows old new acts met shows → ((k : Known) → knows old k → was k → met k) → MayKnow knows old was
+      → ((k k' : Known) → knows old k → was k → Goes k acts k' → shows k k' → is k') → MayKnow knows new is
+  may_then t meets may then' = ∥∥₁_map may (λ k. let g = t.goes k.0 k.1 (meets k.0 k.1 k.2) in (g.0, g.1, then' k.0 g.0 k.1 k.2 g.2 g.3))

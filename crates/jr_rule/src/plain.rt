@@ -276,8 +276,7 @@ impl<const LAST: u16> Steps for PlainSteps<LAST> {
 #[cfg(test)]
 mod tests {
     use super::*;
-    use crate::env::Env;
-    use jr_word::Handle;
+    use jr_word::Kind;
     use std::test::Fail;
 
     /// A room of one thread with one slot and one object: 20 words.
@@ -289,12 +288,24 @@ mod tests {
         locals: 16,
     };
 
+    /// The header of a plain object.
+    const PLAIN: HeaderParts = HeaderParts {
+        kind: Kind::Plain,
+        length: 0,
+        place: 0,
+    };
+
     #[test]
     fn begins_with_zeros_and_counts_who_is_inside(rt: HostRuntime) -> Result<(), Fail> {
         let mut steps = PlainSteps::<2>::new(rt.alloc(), SMALL)?;
         assert_eq!(rt; steps.words.as_slice(), [0; 20].as_slice());
         assert!(rt; steps.go_in());
         assert_eq!(rt; steps.words[0], 1);
+        let one = GateParts {
+            count: 1,
+            shut: false,
+        };
+        assert_eq!(rt; steps.see_gate(GateNaming::Meet), one);
         steps.go_out();
         assert_eq!(rt; steps.words[0], 0);
         Ok(())
@@ -320,39 +331,100 @@ mod tests {
     }
 
     #[test]
-    fn retires_a_slot_after_its_last_serial(rt: HostRuntime) -> Result<(), Fail> {
-        let mut env = Env::new(PlainSteps::<2>::new(rt.alloc(), SMALL)?);
-        let local = env.new_plain()?;
-        for word in [2, 6, 10] {
-            let global = env.new_global_ref(local)?.ok_or("an object")?;
-            assert_eq!(rt; global.0, word);
-            env.delete_global_ref(global)?;
-        }
-        assert_eq!(rt; env.new_global_ref(local).err(), Some(Fault::RowFull));
-        for word in [2, 6, 10] {
-            assert_eq!(rt; env.get_object_ref_type(Handle(word))?, 0);
-        }
-
-        let mut row = [0; 20];
-        row[2] = 9;
-        row[3] = 1;
-        row[19] = 1;
-        assert_eq!(rt; env.steps.words.as_slice(), row.as_slice());
+    fn shuts_and_opens_the_gate(rt: HostRuntime) -> Result<(), Fail> {
+        let mut steps = PlainSteps::<2>::new(rt.alloc(), SMALL)?;
+        let empty = GateParts {
+            count: 0,
+            shut: false,
+        };
+        assert_eq!(rt; steps.see_gate(GateNaming::Busy), empty);
+        let Ok(()) = steps.bar() else {
+            return Err("the gate is not empty")?;
+        };
+        assert_eq!(rt; steps.words[0], 0x1_0000);
+        steps.unbar();
+        assert_eq!(rt; steps.words[0], 0);
         Ok(())
     }
 
     #[test]
-    fn sums_up_what_stands(rt: HostRuntime) -> Result<(), Fail> {
-        let mut env = Env::new(PlainSteps::<2>::new(rt.alloc(), SMALL)?);
-        let local = env.new_plain()?;
-        env.new_global_ref(local)?;
+    fn is_fresh_until_it_is_spent(rt: HostRuntime) -> Result<(), Fail> {
+        let mut steps = PlainSteps::<2>::new(rt.alloc(), SMALL)?;
+        assert!(rt; steps.fresh());
+        steps.spend();
+        assert!(rt; !steps.fresh());
+        assert_eq!(rt; steps.words.as_slice(), [0; 20].as_slice());
+        Ok(())
+    }
+
+    #[test]
+    fn is_fresh_until_a_local_word_is_stored(rt: HostRuntime) -> Result<(), Fail> {
+        let mut steps = PlainSteps::<2>::new(rt.alloc(), SMALL)?;
+        assert!(rt; steps.go_in());
+        assert!(rt; steps.fresh());
+        steps.put_local(3, None);
+        assert!(rt; !steps.fresh());
+        Ok(())
+    }
+
+    #[test]
+    fn publishes_an_object_once(rt: HostRuntime) -> Result<(), Fail> {
+        let mut steps = PlainSteps::<2>::new(rt.alloc(), SMALL)?;
+        assert!(rt; steps.go_in());
+        assert!(rt; steps.claim_header(1, PLAIN));
+        assert!(rt; !steps.claim_header(1, PLAIN));
+        let summary = Summary {
+            globals: 0,
+            weaks: 0,
+            live: 1,
+            used: 0,
+        };
+        assert_eq!(rt; steps.summary(), summary);
+        Ok(())
+    }
+
+    /// The one slot with its one serial: free, taken, and retired once its reference is deleted.
+    #[test]
+    fn retires_a_slot_after_its_last_serial(rt: HostRuntime) -> Result<(), Fail> {
+        let mut steps = PlainSteps::<0>::new(rt.alloc(), SMALL)?;
+        assert!(rt; steps.go_in());
+        assert!(rt; steps.claim_header(1, PLAIN));
+        let SlotParts::Free { serial: 0 } = steps.see_slot(0, SlotNaming::Probe) else {
+            return Err("the slot is not free")?;
+        };
+        let Ok(()) = steps.claim(0, 0, RefKind::Global, 1) else {
+            return Err("the slot was taken")?;
+        };
+        let handle = HandleParts {
+            kind: RefKind::Global,
+            serial: 0,
+            index: 0,
+            owner: 0,
+        };
         let summary = Summary {
             globals: 1,
             weaks: 0,
             live: 1,
             used: 0,
         };
-        assert_eq!(rt; env.steps.summary(), summary);
+        assert_eq!(rt; steps.summary(), summary);
+        let SlotParts::Global {
+            serial: 0,
+            object: 1,
+        } = steps.see_slot(0, SlotNaming::Look(handle))
+        else {
+            return Err("no reference stands in the slot")?;
+        };
+        assert!(rt; steps.free(handle, Some(1)));
+        let SlotParts::Retired { serial: 0 } = steps.see_slot(0, SlotNaming::Meet) else {
+            return Err("the slot is not retired")?;
+        };
+
+        let mut row = [0; 20];
+        row[0] = 1;
+        row[2] = 1;
+        row[19] = 1;
+        assert_eq!(rt; steps.words.as_slice(), row.as_slice());
         Ok(())
     }
 }

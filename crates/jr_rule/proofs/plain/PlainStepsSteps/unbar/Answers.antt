@@ -22,3 +22,9 @@ invariant_of-self-clause-shown g c =
 
 pub invariant_of-self-clause-unused : goal.invariant_of-self-clause-unused
 invariant_of-self-clause-unused g c = let s = c.args.self.now in λ e. unused_gate s.config g.row.LAST s.role _ s.fresh s.fresh s.words.items _ (s.unused e)
+
+pub overflow_sub-found : goal.overflow_sub-found
+overflow_sub-found g c =
+    let s = c.args.self.now in
+    let least = shut_some s.config g.row.LAST (few_of g.row.LAST s (omega arith)) s.role s.fresh s.words.items c.requires.role s.shown in
+    let e : c.word-found.result ≡ get_or s.words.items 0 0 = c.word-found.ensures in omega arith
