@@ -1,12 +1,12 @@
 -- Local words of thread 0 that are 0: it has no local reference.
-use Rattle.std.proofs.Common.{◌≡◌, ◌≢◌, ◌+◌, ◌*◌, ◌<◌, ◌≤◌, ℕ, Bool, Option, Some, None, List, get_or, slice_set, refl, sym, ap, subst, ◌∙◌, arith, get_or-set_other}
+use Rattle.std.proofs.Common.{◌≡◌, ◌≢◌, ◌<◌, ◌≤◌, ℕ, Bool, Option, Some, None, List, get_or, slice_set, refl, sym, ap, subst, ◌∙◌, arith, get_or-set_other}
 use Rattle.jr_word.specs.declared.config.Config.{Config}
 use Rattle.jr_word.specs.Local.{local_word}
 use Rattle.jr_model.specs.declared.event.Role.{Role}
 use Rattle.jr_model.proofs.Presence.{sound_state}
 use Rattle.jr_rule.specs.declared.known.Known.{Known}
 use Rattle.jr_rule.specs.Knowing.{Standing, HasNoLocals, state_of}
-use Rattle.jr_rule.specs.Image.{gate_at, slot_at, local_at, header_at, local_parts, IsLocalOf}
+use Rattle.jr_rule.specs.Image.{gate_at, slot_at, local_at, header_at, local_parts}
 use Rattle.jr_rule.specs.Plain.{standing, Shows, IsUnused}
 use Rattle.jr_rule.proofs.InRoom.{in_room}
 use Rattle.jr_rule.proofs.Images.{local_below}

@@ -15,7 +15,7 @@ pub trait Steps {
     ghost use Rattle.jr_rule.specs.Knowing.{Standing, IsOf};
     ghost use Rattle.jr_rule.specs.declared.known.Known.{Known};
 
-    /// The room, the thread and its role.
+    /// The room, the thread, its role, and whether the pass is fresh.
     ghost stands: { Self → Standing };
 
     /// What may be known.

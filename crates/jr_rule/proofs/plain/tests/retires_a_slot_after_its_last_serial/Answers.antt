@@ -1,4 +1,4 @@
-use Rattle.std.proofs.Common.{◌≡◌, ◌∙◌, ◌∷◌, [], ap, subst, sym, arith, rules}
+use Rattle.std.proofs.Common.{◌≡◌, ◌∙◌, ◌∷◌, [], ap, subst, arith, rules}
 use Rattle.jr_word.specs.declared.handle.RefKind.TheVariants.{Global}
 use Rattle.jr_word.specs.declared.slot.SlotParts.TheVariants as slot
 use Rattle.jr_word.specs.declared.slot.SlotParts.TheVariants.{Free}
@@ -11,16 +11,30 @@ use Rattle.jr_rule.proofs.plain.tests.retires_a_slot_after_its_last_serial.Goals
 
 pub claim-requires : goal.claim-requires
 claim-requires g c =
-    let within : c.claim_header.new.self.role ≡ Within = search rules in
-    (omega arith, (search rules, (search rules, (
-      λ e. cc,
-      may_then c.see_slot.ensures (λ k s m. tt) (may_then c.claim_header.ensures (λ k s m. tt) c.go_in.new.self.shown (λ k k' s m d shown. shown))
-          (λ k k' s m d shown. (present_stays k k' _ 1 (goes_did d) (s.pass.role ∙ within) (λ e. cc, tt) m, shown_free 0 0 k' (subst (λ p. ShowsSlot 0 p k') (c.in-Free-eq0.is ∙ ap Free c.in-Free-eq0.serial-test) shown))),
-    ))))
+    let within : c.claim_header.new.self.role ≡ Within = search rules in (
+      omega arith,
+      (
+        search rules,
+        (
+          search rules,
+          (
+            λ e. cc,
+            may_then c.see_slot.ensures (λ k s m. tt) (may_then c.claim_header.ensures (λ k s m. tt) c.go_in.new.self.shown (λ k k' s m d shown. shown))
+                (λ k k' s m d shown. (present_stays k k' _ 1 (goes_did d) (s.pass.role ∙ within) (λ e. cc, tt) m, shown_free 0 0 k' (subst (λ p. ShowsSlot 0 p k') (c.in-Free-eq0.is ∙ ap Free c.in-Free-eq0.serial-test) shown))),
+          ),
+        ),
+      ),
+    )
 
 pub free-requires : goal.free-requires
 free-requires g c =
-    let stands : c.see_slot-2.result ≡ slot.Global 0 1 = search rules in
-    (omega arith, (search rules, (search rules,
-      may_then c.see_slot-2.ensures (λ k s m. tt) c.claim.new.self.shown (λ k k' s m d shown. looked_now (handle_of Global 0 0) _ (subst (λ p. Goes k (slot_named 0 (Look (handle_of Global 0 0)) p ∷ []) k') stands d))
-    )))
+    let stands : c.see_slot-2.result ≡ slot.Global 0 1 = search rules in (
+      omega arith,
+      (
+        search rules,
+        (
+          search rules,
+          may_then c.see_slot-2.ensures (λ k s m. tt) c.claim.new.self.shown (λ k k' s m d shown. looked_now (handle_of Global 0 0) _ (subst (λ p. Goes k (slot_named 0 (Look (handle_of Global 0 0)) p ∷ []) k') stands d)),
+        ),
+      ),
+    )

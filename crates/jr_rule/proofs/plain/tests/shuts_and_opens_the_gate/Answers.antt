@@ -7,8 +7,10 @@ use Rattle.jr_rule.proofs.plain.tests.shuts_and_opens_the_gate.Goals as goal
 
 pub unbar-requires : goal.unbar-requires
 unbar-requires g c =
-    let shuts : barring c.bar.result ≡ Shut = ap barring c.in-Ok.is in
-    (omega arith, (
-      search rules,
-      may_then c.bar.ensures (λ k s m. tt) c.see_gate.new.self.shown (λ k k' s m d shown. shut_closed (subst (λ a. Goes k (a ∷ []) k') shuts d)),
-    ))
+    let shuts : barring c.bar.result ≡ Shut = ap barring c.in-Ok.is in (
+      omega arith,
+      (
+        search rules,
+        may_then c.bar.ensures (λ k s m. tt) c.see_gate.new.self.shown (λ k k' s m d shown. shut_closed (subst (λ a. Goes k (a ∷ []) k') shuts d)),
+      ),
+    )
