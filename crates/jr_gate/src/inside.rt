@@ -39,3 +39,33 @@ pub fn enter<S: Steps>(steps: &mut S) -> Result<Inside, Fault>
     steps.go_out();
     Err(Fault::Barred)
 }
+
+#[cfg(test)]
+mod tests {
+    use super::*;
+    use jr_rule::PlainSteps;
+    use jr_word::Config;
+    use std::test::Fail;
+
+    /// A room of one thread.
+    const SMALL: Config = Config {
+        threads: 1,
+        slots: 1,
+        objects: 1,
+        words: 0,
+        locals: 16,
+    };
+
+    #[test]
+    fn is_counted_until_it_ends(rt: HostRuntime) -> Result<(), Fail> {
+        let mut steps = PlainSteps::<2>::new(rt.alloc(), SMALL)?;
+        let Ok(stay) = enter(&mut steps) else {
+            return Err("nobody collects")?;
+        };
+        assert_eq!(rt; stay.thread, 0);
+        assert_eq!(rt; steps.words[0], 1);
+        stay.leave(&mut steps);
+        assert_eq!(rt; steps.words[0], 0);
+        Ok(())
+    }
+}

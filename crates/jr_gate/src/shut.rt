@@ -1,5 +1,5 @@
 //! The gate while it is shut for a collection.
-ghost use Rattle.std.specs.Prelude.{◌≡◌, ℕ, [], ◌∷◌, IfOk, IfErr};
+ghost use Rattle.std.specs.Prelude.{◌≡◌, ◌≤◌, ℕ, [], ◌∷◌, IfOk, IfErr};
 ghost use Rattle.jr_word.specs.declared.fault.Fault.TheVariants.{Busy};
 ghost use Rattle.jr_model.specs.declared.event.Role.TheVariants.{Outside, Collecting};
 ghost use Rattle.jr_model.specs.declared.event.Act.TheVariants.{Shut as Shuts, ShutBusy, Reopen};
@@ -26,16 +26,47 @@ impl Shut {
     }
 }
 
-/// Shuts the gate: E14 with the number of threads inside, knocking or collecting at the one step, which is at least 1.
+/// Shuts the gate, at a moment when no present object array names an absent object: E14 with the number of threads inside, knocking or collecting at the one step, which is at least 1.
 pub fn shut_gate<S: Steps>(steps: &mut S) -> Result<Shut, Fault>
     requires { (S.stands steps.old).role ≡ Outside }
-    ensures ok { IfOk result (λ s. (s.thread ≡ (S.stands steps.new).thread) × Took S.stands S.knows steps.old steps.new (Shuts ∷ []) anything nothing) }
-    ensures err { IfErr result (λ e. (n : ℕ) × (e ≡ Busy n) × Took S.stands S.knows steps.old steps.new (ShutBusy n ∷ []) anything nothing) }
+    ensures ok { IfOk result (λ s. (s.thread ≡ (S.stands steps.new).thread) × Took S.stands S.knows steps.old steps.new (Shuts ∷ []) anything (λ _ k. IsClosedNow k)) }
+    ensures closed { IfOk result (λ _. MayKnow S.knows steps.new IsClosedNow) }
+    ensures err { IfErr result (λ e. (n : ℕ) × (e ≡ Busy n) × (1 ≤ n) × Took S.stands S.knows steps.old steps.new (ShutBusy n ∷ []) anything nothing) }
 {
     match steps.bar() {
         Ok(()) => Ok(Shut {
             thread: steps.thread(),
         }),
         Err(count) => Err(Fault::Busy(count)),
+    }
+}
+
+#[cfg(test)]
+mod tests {
+    use super::*;
+    use jr_rule::PlainSteps;
+    use jr_word::Config;
+    use std::test::Fail;
+
+    /// A room of one thread.
+    const SMALL: Config = Config {
+        threads: 1,
+        slots: 1,
+        objects: 1,
+        words: 0,
+        locals: 16,
+    };
+
+    #[test]
+    fn keeps_the_gate_shut_until_it_ends(rt: HostRuntime) -> Result<(), Fail> {
+        let mut steps = PlainSteps::<2>::new(rt.alloc(), SMALL)?;
+        let Ok(collection) = shut_gate(&mut steps) else {
+            return Err("nobody is inside")?;
+        };
+        assert_eq!(rt; collection.thread, 0);
+        assert_eq!(rt; steps.words[0], 0x1_0000);
+        collection.reopen(&mut steps);
+        assert_eq!(rt; steps.words[0], 0);
+        Ok(())
     }
 }

@@ -1,0 +1,39 @@
+-- What a step that shuts the gate shows, and one that is refused it.
+use Rattle.std.proofs.Common.{◌≤◌, ℕ, [], ◌∷◌, ◌++◌, ap, sym, subst, ◌∙◌}
+use Rattle.std.proofs.Math.Bridge.{le_prop}
+use Rattle.std.proofs.Math.Logic.{∥∥₁_elim, ∥∥₁_map}
+use Rattle.jr_model.specs.declared.event.Act.TheVariants.{Shut, ShutBusy}
+use Rattle.jr_model.specs.State.{IsClosed}
+use Rattle.jr_model.specs.History.{by, state, IsLegal}
+use Rattle.jr_model.proofs.Histories.{legal_push, state_push}
+use Rattle.jr_model.proofs.Presence.{elements_are_present}
+use Rattle.jr_rule.specs.declared.known.Known.{Known}
+use Rattle.jr_rule.specs.Knowing.{Standing, anything, nothing, Goes, IsClosedNow, MayKnow, Took}
+
+-- who is refused a shut was told of one thread at least
+counted : {k k' : Known} (n : ℕ) → Goes k (ShutBusy n ∷ []) k' → 1 ≤ n
+counted {k} {k'} n g =
+    let legal = (legal_push k.config k.last (k.seen ++ g.between) (by k.thread (ShutBusy n))).0 (subst (IsLegal k.config k.last) g.seen g.legal) in
+    legal.1.1.2
+
+-- nobody collected before the shut, and so each object array named present objects
+closes : {k k' : Known} → Goes k (Shut ∷ []) k' → IsClosedNow k'
+closes {k} {k'} g =
+    let before = k.seen ++ g.between in
+    let e = by k.thread Shut in
+    let legal = (legal_push k.config k.last before e).0 (subst (IsLegal k.config k.last) g.seen g.legal) in
+    let closed : IsClosed (state before) = elements_are_present k.config k.last before legal.0 (λ t c. let outside = legal.1.1 t in cc) in
+    subst IsClosed (sym (ap state g.seen ∙ state_push before e)) closed
+
+module _ {S : Type 0} {stands : S → Standing} {knows : S → Known → Type 0} {old new : S} (some : MayKnow knows old anything) where
+  pub busy_counts : (n : ℕ) → Took stands knows old new (ShutBusy n ∷ []) anything nothing → 1 ≤ n
+  busy_counts n t =
+      let each : ((k : Known) × knows old k × anything k) → 1 ≤ n = λ k. counted n (t.goes k.0 k.1 tt).2 in
+      ∥∥₁_elim some le_prop each
+
+  pub shut_closes : Took stands knows old new (Shut ∷ []) anything nothing → MayKnow knows new IsClosedNow
+  shut_closes t = ∥∥₁_map some (λ k. let g = t.goes k.0 k.1 tt in (g.0, g.1, closes g.2))
+
+module _ {S : Type 0} {stands : S → Standing} {knows : S → Known → Type 0} {old new : S} where
+  pub shut_shows : Took stands knows old new (Shut ∷ []) anything nothing → Took stands knows old new (Shut ∷ []) anything (λ _ k. IsClosedNow k)
+  shut_shows t = record { stands_is = t.stands_is; goes = λ k s m. let g = t.goes k s m in (g.0, g.1, g.2, closes g.2) }
