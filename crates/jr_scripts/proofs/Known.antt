@@ -1,4 +1,4 @@
--- What follows from a step, for one thing that was known.
+-- Frames that hold, from one thing that was known to the next.
 use Rattle.std.proofs.Common.{◌≡◌, ◌==◌, ℕ, true, cond, List, [], ◌∷◌, Option, Some, None, refl, sym, ap, ◌∙◌}
 use Rattle.std.specs.List.{AllByRecursion}
 use Rattle.jr_model.specs.declared.event.Act.{Act}

@@ -1,4 +1,4 @@
--- One step after the other, for whatever was known.
+-- Slots are searched one after the other, for whatever was known.
 use Rattle.std.proofs.Common.{◌≡◌, ◌≢◌, ◌<◌, ◌≤◌, ◌+◌, ℕ, Bool, true, false, Option, Some, None, Err, List, [], ◌∷◌, ◌++◌, map, refl, sym, ap, subst, ◌∙◌, append_assoc, arith, inl, inr, ◌⊎◌, ⊎_elim}
 use mathlib.Core.List.{map-append}
 use Rattle.jr_word.specs.declared.handle.RefKind.{RefKind}

@@ -18,7 +18,7 @@ use Rattle.jr_rule.specs.Knowing.{Standing, view, state_of, HasObject, HasOption
 abbrev pub EachPresent : Config → State → Type 0
 EachPresent c s = (o : ℕ) → 1 ≤ o → o ≤ c.objects → IsPresent s o
 
--- the same room, thread and role
+-- the same room, thread and role, whether or not the pass is fresh
 pub record IsAsBefore (old new : Standing) : Type 0 where
   pub config : new.config ≡ old.config
   pub last : new.last ≡ old.last
