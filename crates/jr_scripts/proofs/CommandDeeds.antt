@@ -1,5 +1,5 @@
 -- What calls make up a command, for whatever was known.
-use Rattle.std.proofs.Common.{MutBor, ◌≡◌, ℕ, Bool, Result, Ok, Err, Option, Some, None, subst, sym, refl, ◌∙◌, inl, inr}
+use Rattle.std.proofs.Common.{MutBor, ◌≡◌, ℕ, Bool, Result, Ok, Err, Option, Some, subst, sym, refl, inl, inr}
 use Rattle.jr_word.specs.declared.fault.Fault.{Fault}
 use Rattle.jr_word.specs.declared.handle.RefKind.{RefKind}
 use Rattle.jr_word.specs.declared.handle.Handle.{Handle as HandleWord}
@@ -9,14 +9,15 @@ use Rattle.jr_model.specs.Tests.{Parts}
 use Rattle.jr_syntax.specs.declared.name.Reference.{Reference}
 use Rattle.jr_syntax.specs.declared.command.Command.{Command}
 use Rattle.jr_syntax.specs.declared.command.Command.TheVariants as commands
-use Rattle.jr_scripts.specs.declared.reply.Reply.TheVariants as replies
-use Rattle.jr_rule.specs.declared.steps.Known.{Known}
-use Rattle.jr_scripts.specs.Names.{Names, referent, wanted}
+use Rattle.jr_rule.specs.declared.known.Known.{Known}
 use Rattle.jr_rule.specs.Knowing.{Standing}
+use Rattle.jr_scripts.specs.declared.reply.Reply.TheVariants as replies
+use Rattle.jr_scripts.specs.Names.{Names, referent, wanted}
 use Rattle.jr_scripts.specs.Reading.{IsReadAs}
 use Rattle.jr_scripts.specs.Deeds.{Moment, Deed, Does, get_object_ref_type, is_same_object}
-use Rattle.jr_scripts.specs.Tries.{Tried, answered, again, gave_up, is_tried_again}
+use Rattle.jr_scripts.specs.Tries.{Tried, answered, again, gave_up}
 use Rattle.jr_scripts.specs.Commands.{deleted_of, deleted, type_of, tried, deed}
+use Rattle.jr_scripts.proofs.Standings.{nothing_changed, still_before}
 
 module _ {S : Type 0} {stands : S → Standing} {knows : S → Known → Type 0} where
   -- a deed that leads on to another
@@ -25,7 +26,7 @@ module _ {S : Type 0} {stands : S → Standing} {knows : S → Known → Type 0}
 
   -- no deed leads nowhere
   pub does_nothing : {A : Type 0} {old : S} {f : Frames} {deed : Deed A} {answer : Result A Fault} → ((p : _) → deed p answer p) → Does stands knows old old f f deed answer
-  does_nothing w = record { stands_is = refl; did = λ k s h. (k, s, h, w _) }
+  does_nothing w = record { stands_is = nothing_changed; did = λ k s h. (k, s, h, w _) }
 
   -- tries of what is a deed are tries of the deed
   pub does_tried : {A E : Type 0} (steps : E → S) (frames : E → Frames) (deed : Deed A) (one : E → Result A Fault → E → Type 0)
@@ -36,7 +37,7 @@ module _ {S : Type 0} {stands : S → Standing} {knows : S → Known → Type 0}
       let a = w _ _ _ o in
       let b = does_tried steps frames deed one w t in
       record {
-        stands_is = b.stands_is ∙ a.stands_is;
+        stands_is = still_before a.stands_is b.stands_is;
         did = λ k s h. let x = a.did k s h in let y = b.did x.0 x.1 x.2 in (y.0, y.1, y.2, again x.3 e y.3);
       }
   does_tried steps frames deed one w gave_up = does_nothing (λ p. gave_up)

@@ -1,5 +1,5 @@
 -- A reference is made to what was resolved.
-use Rattle.std.proofs.Common.{◌≡◌, ℕ, Bool, true, arith, Option, Some, None, List, [], ◌∷◌, Result, Ok, Err, refl, ap, subst, ◌∙◌}
+use Rattle.std.proofs.Common.{◌≡◌, ℕ, Bool, true, arith, Option, Some, None, List, [], ◌∷◌, Result, Ok, Err, refl, ap, subst}
 use Rattle.std.specs.List.{AllByRecursion}
 use Rattle.std.specs.Result.{IsErrAnd}
 use mathlib.Core.Logic.{∥∥₁_map}
@@ -13,9 +13,10 @@ use Rattle.jr_model.specs.Calls.{Call, done, ◌>>=◌}
 use Rattle.jr_model.specs.Parts.{created}
 use Rattle.jr_model.proofs.Agreement.{spares_places}
 use Rattle.jr_model.proofs.Runs.{ran_done, ran_then, ran_err, ran_give, did_legal, ran_created, ran_row_full}
-use Rattle.jr_rule.specs.declared.steps.Known.{Known}
+use Rattle.jr_rule.specs.declared.known.Known.{Known}
 use Rattle.jr_rule.specs.Knowing.{Standing, IsOf, view, HasObject, Holds, MayKnow}
 use Rattle.jr_scripts.specs.Performing.{Searched, search_acts, Resolves, Calls}
+use Rattle.jr_scripts.proofs.Standings.{as_before, still_before}
 use Rattle.jr_scripts.proofs.Known.{holds_did}
 use Rattle.jr_scripts.proofs.Refusing.{handed_on}
 
@@ -49,7 +50,7 @@ module _ {S : Type 0} {stands : S → Standing} {knows : S → Known → Type 0}
   pub creates_full : {c : S} {z : Option ℕ} {o : ℕ} {e : Fault} (fits : (s : S) (k : Known) → knows s k → IsOf (stands s) k) (kind : RefKind) (answer : Result (Option Handle) Fault) → IsErrAnd answer (λ y. y ≡ e)
       → z ≡ Some o → Resolves stands knows a b f first (Ok z) → (e ≡ RowFull) × Searched stands knows b c kind o 0 (stands b).config.slots None → Calls stands knows a c f f (first >>= created kind) answer
   creates_full {c} {o = o} fits kind answer given is r why = let p = resolves_at is r in let q = why.1 in handed_on answer (subst (λ y. IsErrAnd answer (λ z. z ≡ y)) why.0 given) (record {
-    stands_is = q.stands_is ∙ p.stands_is;
+    stands_is = still_before p.stands_is (as_before _ q.stands_is);
     ran = λ k s m.
         let x = p.ran k s m in
         let y = q.did x.0 x.1 x.3.1 in
@@ -63,7 +64,7 @@ module _ {S : Type 0} {stands : S → Standing} {knows : S → Known → Type 0}
 
   pub creates_won : {c : S} {z : Option ℕ} {o from to : ℕ} {kind : RefKind} {h : Handle} → z ≡ Some o → Resolves stands knows a b f first (Ok z) → Searched stands knows b c kind o from to (Some h) → Calls stands knows a c f f (first >>= created kind) (Ok (Some h))
   creates_won {o = o} {kind = kind} {h = h} is r q = let p = resolves_at is r in record {
-    stands_is = q.stands_is ∙ p.stands_is;
+    stands_is = still_before p.stands_is (as_before _ q.stands_is);
     ran = λ k s m.
         let x = p.ran k s m in
         let y = q.did x.0 x.1 x.3.1 in (

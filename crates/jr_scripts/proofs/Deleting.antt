@@ -1,5 +1,5 @@
 -- A delete is one look and one exchange.
-use Rattle.std.proofs.Common.{◌≡◌, ℕ, Option, Some, None, [], ◌∷◌, Result, Ok, Err, inl, inr, refl, ap, subst, ◌∙◌}
+use Rattle.std.proofs.Common.{◌≡◌, ℕ, Option, Some, None, [], ◌∷◌, Result, Ok, Err, inl, inr, refl, ap, subst}
 use Rattle.std.specs.Result.{IsErrAnd}
 use mathlib.Core.Logic.{∥∥₁_map}
 use Rattle.jr_word.specs.declared.fault.Fault.{Fault}
@@ -13,12 +13,13 @@ use Rattle.jr_model.specs.Frames.{Frames}
 use Rattle.jr_model.specs.Calls.{Ran, act, refuse, ◌>>◌}
 use Rattle.jr_model.specs.Parts.{delete, delete_found}
 use Rattle.jr_model.proofs.Runs.{ran_act, ran_some_act, ran_refuse, ran_then, did_legal}
-use Rattle.jr_rule.specs.declared.steps.Known.{Known}
+use Rattle.jr_rule.specs.declared.known.Known.{Known}
 use Rattle.jr_rule.specs.Acts.{found_object}
 use Rattle.jr_rule.specs.Knowing.{Standing, view, anything, nothing, HasLooked, MayKnow, Took, Goes}
+use Rattle.jr_rule.proofs.Goes.{goes_did, looked_now}
 use Rattle.jr_scripts.specs.Performing.{Performed}
 use Rattle.jr_scripts.specs.Reading.{found_answer}
-use Rattle.jr_scripts.proofs.Known.{goes_did, looked_now}
+use Rattle.jr_scripts.proofs.Standings.{as_before, still_before}
 use Rattle.jr_scripts.proofs.Refusing.{handed_on}
 
 -- what a look found, by what it answers
@@ -52,7 +53,7 @@ module _ {S : Type 0} {stands : S → Standing} {knows : S → Known → Type 0}
   deleted_none {e} answer is given f =
       let why = found_none r e is in
       handed_on answer (subst (λ y. IsErrAnd answer (λ z. z ≡ y)) why.1 given) (record {
-        stands_is = t.stands_is;
+        stands_is = as_before _ t.stands_is;
         ran = λ k s m. let g = t.goes k s m in (g.0, g.1, stale_ran why.0 k g.0 g.2 f, tt);
       })
 
@@ -68,14 +69,14 @@ module _ {S : Type 0} {stands : S → Standing} {knows : S → Known → Type 0}
 
     pub deleted_won : {c : S} → Took stands knows b c (Delete h ∷ []) (HasLooked h (found_object z)) nothing → (f : Frames) → Performed stands knows a c f f anything (λ s. delete h) (Ok tt) anything
     deleted_won u f = record {
-      stands_is = u.stands_is ∙ t.stands_is;
+      stands_is = still_before (as_before _ t.stands_is) (as_before _ u.stands_is);
       ran = λ k s m. let g = t.goes k s m in let e = u.goes g.0 g.1 (looked k g.0 g.2) in
           (e.0, e.1, ran_then (found_object z) (ran_some_act f (Look h) (found_object z) (looked_did k g.0 g.2)) (won (view g.0) (view e.0) f h z (goes_did e.2)), tt);
     }
 
     pub deleted_lost : {c : S} → Took stands knows b c (DeleteStale h ∷ []) (HasLooked h (found_object z)) nothing → (f : Frames) → Performed stands knows a c f f anything (λ s. delete h) (Err fault.Stale) anything
     deleted_lost u f = record {
-      stands_is = u.stands_is ∙ t.stands_is;
+      stands_is = still_before (as_before _ t.stands_is) (as_before _ u.stands_is);
       ran = λ k s m. let g = t.goes k s m in let e = u.goes g.0 g.1 (looked k g.0 g.2) in
           (e.0, e.1, ran_then (found_object z) (ran_some_act f (Look h) (found_object z) (looked_did k g.0 g.2)) (lost (view g.0) (view e.0) f h z (goes_did e.2)), tt);
     }

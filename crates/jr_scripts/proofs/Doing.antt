@@ -11,7 +11,7 @@ use Rattle.jr_model.specs.State.{Handle}
 use Rattle.jr_model.specs.Frames.{Frames}
 use Rattle.jr_model.specs.Calls.{Call, Ran}
 use Rattle.jr_model.specs.Tests.{Word}
-use Rattle.jr_rule.specs.declared.steps.Known.{Known}
+use Rattle.jr_rule.specs.declared.known.Known.{Known}
 use Rattle.jr_rule.specs.Knowing.{Standing, IsOf, view}
 use Rattle.jr_scripts.specs.Performing.{Calls}
 use Rattle.jr_scripts.specs.Reading.{IsReadAs}

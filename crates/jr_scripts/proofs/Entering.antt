@@ -12,12 +12,14 @@ use Rattle.jr_model.specs.declared.event.Act.TheVariants.{Enter, Knock, Leave, W
 use Rattle.jr_model.specs.Frames.{Frames, fresh_frames, object_at}
 use Rattle.jr_model.specs.Calls.{Call, entered}
 use Rattle.jr_model.proofs.Runs.{ran_entered}
-use Rattle.jr_rule.specs.declared.steps.Known.{Known}
-use Rattle.jr_scripts.specs.Table.{Table}
+use Rattle.jr_rule.specs.declared.known.Known.{Known}
 use Rattle.jr_rule.specs.Knowing.{Standing, moved, anything, nothing, HasNoLocals, MayKnow, Took, Acted}
-use Rattle.jr_scripts.specs.Performing.{Calls}
+use Rattle.jr_rule.proofs.Goes.{goes_did}
+use Rattle.jr_scripts.specs.Table.{Table}
+use Rattle.jr_scripts.specs.Performing.{Calls, IsAsBefore}
 use Rattle.jr_scripts.specs.Ready.{IsReady, KeepsOwner, Completes}
-use Rattle.jr_scripts.proofs.Known.{goes_did, holds_did}
+use Rattle.jr_scripts.proofs.Standings.{as_before}
+use Rattle.jr_scripts.proofs.Known.{holds_did}
 use Rattle.jr_scripts.proofs.Refusing.{handed_on}
 
 -- frames that are left as they are
@@ -25,19 +27,28 @@ pub same_owner : (t : Table) → KeepsOwner t t
 same_owner t = record { thread = refl; last = refl; places = refl }
 
 abbrev with_role : Standing → Role → Standing
-with_role s r = record { config = s.config; last = s.last; thread = s.thread; role = r }
+with_role s r = record s { role = r }
 
 abbrev fresh_table : Standing → Table
 fresh_table s = record { frames = fresh_frames s.config.locals; thread = s.thread; last = s.last }
+
+-- an entry, work in between, and an exit
+left_before : {r s t u : Standing} → r.role ≡ Outside → s ≡ moved r (Enter ∷ []) → IsAsBefore s t → u ≡ moved t (Leave ∷ []) → IsAsBefore r u
+left_before {r} out e p l = record {
+  config = ap (λ (x : Standing). x.config) l ∙ (p.config ∙ ap (λ (x : Standing). x.config) e);
+  last = ap (λ (x : Standing). x.last) l ∙ (p.last ∙ ap (λ (x : Standing). x.last) e);
+  thread = ap (λ (x : Standing). x.thread) l ∙ (p.thread ∙ ap (λ (x : Standing). x.thread) e);
+  role = ap (λ (x : Standing). x.role) l ∙ sym out;
+}
 
 module _ {S : Type 0} {stands : S → Standing} {knows : S → Known → Type 0} where
   -- after a call the frames are as ready as before
   pub ready_after : {A : Type 0} {a b : S} {t u : Table} {role : Role} {work : Call A} {answer : Result A Fault} → IsReady stands knows role a t → KeepsOwner t u → Calls stands knows a b t.frames u.frames work answer → IsReady stands knows role b u
   ready_after r o p = record {
-    role_is = ap (λ (s : Standing). s.role) p.stands_is ∙ r.role_is;
-    owner = o.thread ∙ (r.owner ∙ sym (ap (λ (s : Standing). s.thread) p.stands_is));
-    last = o.last ∙ (r.last ∙ sym (ap (λ (s : Standing). s.last) p.stands_is));
-    places = o.places ∙ (r.places ∙ sym (ap (λ (s : Standing). s.config.locals) p.stands_is));
+    role_is = p.stands_is.role ∙ r.role_is;
+    owner = o.thread ∙ (r.owner ∙ sym p.stands_is.thread);
+    last = o.last ∙ (r.last ∙ sym p.stands_is.last);
+    places = o.places ∙ (r.places ∙ sym (ap (λ (r : Config). r.locals) p.stands_is.config));
     agrees = ∥∥₁_map r.agrees (λ k. let x = p.ran k.0 k.1 k.2 in (x.0, x.1, x.3));
   }
 
@@ -63,7 +74,7 @@ module _ {S : Type 0} {stands : S → Standing} {knows : S → Known → Type 0}
   module _ {A : Type 0} (work : Config → ℕ → ℕ → Call A) where
     calls_barred : {a b : S} (f : Frames) → (stands a).role ≡ Outside → Acted stands knows a b (Knock ∷ Withdraw ∷ []) anything → Calls stands knows a b f f (entered (work (stands a).config (stands a).last (stands a).thread)) (Err Barred)
     calls_barred {a} f out t = record {
-      stands_is = t.stands_is ∙ ap (with_role (stands a)) (sym out);
+      stands_is = as_before _ (t.stands_is ∙ ap (with_role (stands a)) (sym out));
       ran = λ k s m. let g = t.did k s tt in
           (g.0, g.1, record { acts = Knock ∷ Withdraw ∷ []; did = g.2; is = inl (refl, refl, refl); grounds = tt }, holds_did k g.0 f (Knock ∷ Withdraw ∷ []) g.2 (refl, (refl, tt)) m);
     }
@@ -74,7 +85,7 @@ module _ {S : Type 0} {stands : S → Standing} {knows : S → Known → Type 0}
     calls_entered {a} {b} {c} {f} {g} {answer} out e p u =
         let q = subst (λ (s : Standing). Calls stands knows b c f g (work s.config s.last s.thread) answer) e.stands_is p in
         record {
-          stands_is = u.stands_is ∙ (ap (λ s. moved s (Leave ∷ [])) (p.stands_is ∙ e.stands_is) ∙ ap (with_role (stands a)) (sym out));
+          stands_is = left_before out e.stands_is p.stands_is u.stands_is;
           ran = λ k s m.
               let x = e.goes k s tt in
               let y = q.ran x.0 x.1 (holds_did k x.0 f (Enter ∷ []) (goes_did x.2) (refl, tt) m) in

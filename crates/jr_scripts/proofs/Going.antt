@@ -7,22 +7,24 @@ use Rattle.jr_word.specs.declared.fault.Fault.{Fault}
 use Rattle.jr_word.specs.declared.fault.Fault.TheVariants as fault
 use Rattle.jr_model.specs.Frames.{Frames}
 use Rattle.jr_syntax.specs.declared.command.Command.{Command}
-use Rattle.jr_scripts.specs.declared.reply.Reply.{Reply}
-use Rattle.jr_rule.specs.declared.steps.Known.{Known}
+use Rattle.jr_rule.specs.declared.known.Known.{Known}
 use Rattle.jr_rule.specs.Knowing.{Standing, Holds}
+use Rattle.jr_scripts.specs.declared.reply.Reply.{Reply}
 use Rattle.jr_scripts.specs.Names.{Names}
 use Rattle.jr_scripts.specs.Deeds.{moment, Does}
 use Rattle.jr_scripts.specs.Commands.{deed}
 use Rattle.jr_scripts.specs.Text.{printed, names_after}
 use Rattle.jr_scripts.specs.Explains.{Explains, nothing, then}
 use Rattle.jr_scripts.specs.Runs.{RanThread, WritesDown}
+use Rattle.jr_scripts.specs.Performing.{IsAsBefore}
+use Rattle.jr_scripts.proofs.Standings.{nothing_changed, still_before}
 
 module _ {S : Type 0} (stands : S → Standing) (knows : S → Known → Type 0) where
   -- so far these commands were done, the output grew, and what was known explains by how much
   pub record Going (old now : S) (before after : Frames) (turns first : ℕ) (done : List Command) (out out' : List ℕ) (names : Names) : Type 0 where
     pub text : List ℕ
     pub grew : out' ≡ out ++ text
-    pub stands_is : stands now ≡ stands old
+    pub stands_is : IsAsBefore (stands old) (stands now)
     pub explained : (k : Known) → knows old k → Holds before k → (k' : Known) × knows now k' × Holds after k' × Explains turns first (moment k before) done text (moment k' after) names
 
 done_so_far : (commands : List Command) (i : ℕ) (c : Command) → i < length commands → get_or commands i c ≡ c → take (suc i) commands ≡ take i commands ++ c ∷ []
@@ -33,7 +35,7 @@ module _ {S : Type 0} {stands : S → Standing} {knows : S → Known → Type 0}
   begun old f turns first out names e = record {
     text = [];
     grew = sym (append-nil out);
-    stands_is = refl;
+    stands_is = nothing_changed;
     explained = λ k s h. (k, s, h, subst (λ n. Explains turns first (moment k f) [] [] (moment k f) n) (sym e) nothing);
   }
 
@@ -60,7 +62,7 @@ module _ {S : Type 0} {stands : S → Standing} {knows : S → Known → Type 0}
         record {
           text = d.text ++ printed (first + i) c answer;
           grew = w.1 ∙ (ap (λ o. o ++ printed (first + i) c answer) d.grew ∙ append_assoc out d.text (printed (first + i) c answer));
-          stands_is = does.stands_is ∙ d.stands_is;
+          stands_is = still_before d.stands_is does.stands_is;
           explained = λ k s a.
               let x = d.explained k s a in
               let y = does.did x.0 x.1 x.2 in (
@@ -81,7 +83,7 @@ module _ {S : Type 0} {stands : S → Standing} {knows : S → Known → Type 0}
           d.text,
           w ∙ d.grew,
           record {
-            stands_is = does.stands_is ∙ d.stands_is;
+            stands_is = still_before d.stands_is does.stands_is;
             explained = λ k s a.
                 let x = d.explained k s a in
                 let y = does.did x.0 x.1 x.2 in (

@@ -1,21 +1,14 @@
--- What follows from a step, for one thing that was known.
-use Rattle.std.proofs.Common.{◌≡◌, ◌≢◌, ◌==◌, ℕ, true, cond, List, [], ◌∷◌, ◌++◌, Option, Some, None, IsSome, refl, sym, ap, subst, ◌∙◌}
+-- Frames that hold, from one thing that was known to the next.
+use Rattle.std.proofs.Common.{◌≡◌, ◌==◌, ℕ, true, cond, List, [], ◌∷◌, Option, Some, None, refl, sym, ap, ◌∙◌}
 use Rattle.std.specs.List.{AllByRecursion}
-use Rattle.jr_model.specs.declared.event.Role.TheVariants.{Within}
-use Rattle.jr_model.specs.declared.event.Found.{Found}
-use Rattle.jr_model.specs.declared.event.Found.TheVariants.{Object}
 use Rattle.jr_model.specs.declared.event.Act.{Act}
-use Rattle.jr_model.specs.declared.event.Act.TheVariants.{Look, Leave}
-use Rattle.jr_model.specs.State.{Handle, Contents, State, IsPresent}
-use Rattle.jr_model.specs.History.{by, state, IsLegal, role_of, Did}
+use Rattle.jr_model.specs.History.{IsLegal, Did}
 use Rattle.jr_model.specs.Frames.{Frames, object_at}
-use Rattle.jr_model.proofs.Histories.{legal_push, state_push}
 use Rattle.jr_model.proofs.Presence.{named_is_present}
-use Rattle.jr_model.proofs.Stays.{IsStill, still_did, did_added}
 use Rattle.jr_model.proofs.Agreement.{agree_spared, places_did, places_from, spares_places}
-use Rattle.jr_rule.specs.declared.steps.Known.{Known}
+use Rattle.jr_rule.specs.declared.known.Known.{Known}
 use Rattle.jr_rule.specs.Acts.{putting}
-use Rattle.jr_rule.specs.Knowing.{view, state_of, Goes, HasObject, HasLooked, Holds}
+use Rattle.jr_rule.specs.Knowing.{view, state_of, HasObject, Holds}
 use Rattle.jr_scripts.specs.Table.{IsOnly}
 
 -- the object of a local reference is present

@@ -12,6 +12,7 @@ pub mod PlacesFree
 pub mod PlacesNamed
 pub mod PlacesRoom
 pub mod Known
+pub mod Standings
 pub mod Took
 pub mod Refusing
 pub mod Deleting

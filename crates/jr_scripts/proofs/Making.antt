@@ -1,5 +1,5 @@
 -- A plain object is made, and a local reference to it.
-use Rattle.std.proofs.Common.{◌≡◌, ◌≢◌, ◌<◌, ◌≤◌, ℕ, false, nat_lt, Some, None, [], ◌∷◌, Result, Ok, Err, length, inl, inr, refl, sym, subst, ◌∙◌, arith, IsTrue}
+use Rattle.std.proofs.Common.{◌≡◌, ◌≢◌, ◌<◌, ◌≤◌, ℕ, false, nat_lt, Some, None, [], ◌∷◌, Result, Ok, Err, length, inl, inr, refl, sym, subst, arith, IsTrue}
 use Rattle.std.proofs.lemmas.Bool.Decides.{nat_tests}
 use Rattle.std.specs.Result.{IsErrAnd}
 use mathlib.Core.Logic.{∥∥₁_map, ∥∥₁_elim}
@@ -20,13 +20,15 @@ use Rattle.jr_model.specs.References.{added, room_for}
 use Rattle.jr_model.proofs.Counts.{count_none}
 use Rattle.jr_model.proofs.Moments.{sometime_last, one_act}
 use Rattle.jr_model.proofs.Runs.{ran_then, ran_err}
-use Rattle.jr_rule.specs.declared.steps.Known.{Known}
+use Rattle.jr_rule.specs.declared.known.Known.{Known}
+use Rattle.jr_rule.specs.Knowing.{Standing, IsOf, view, anything, nothing, HasOptional, MayKnow, Took}
+use Rattle.jr_rule.proofs.Goes.{goes_did}
 use Rattle.jr_scripts.specs.Works.{making}
 use Rattle.jr_scripts.specs.Table.{Table, IsNext, IsOnly}
-use Rattle.jr_rule.specs.Knowing.{Standing, IsOf, view, anything, nothing, HasOptional, MayKnow, Took}
 use Rattle.jr_scripts.specs.Performing.{Published, Calls}
 use Rattle.jr_scripts.specs.Ready.{IsReady}
-use Rattle.jr_scripts.proofs.Known.{goes_did, holds_did, holds_put}
+use Rattle.jr_scripts.proofs.Standings.{as_before, still_before}
+use Rattle.jr_scripts.proofs.Known.{holds_did, holds_put}
 use Rattle.jr_scripts.proofs.Refusing.{handed_on}
 
 below_one : (n : ℕ) → n ≢ 0 → nat_lt n 1 ≡ false
@@ -80,7 +82,7 @@ module _ {S : Type 0} {stands : S → Standing} {knows : S → Known → Type 0}
     pub makes_full : {e : Fault} (fits : (s : S) (k : Known) → knows s k → IsOf (stands s) k) (answer : Result Handle Fault) → IsErrAnd answer (λ y. y ≡ e) → (e ≡ ObjectsFull) × Published stands knows a b Plain None
         → Calls stands knows a b t.frames t.frames (making (stands a).config (stands a).last (stands a).thread) answer
     makes_full fits answer given why = let p = why.1 in handed_on answer (subst (λ y. IsErrAnd answer (λ z. z ≡ y)) why.0 given) (record {
-      stands_is = p.stands_is;
+      stands_is = as_before _ p.stands_is;
       ran = λ k s m.
           let x = p.did k s in
           let full : ObjectsWereFull (view k) (view x.0) = sometime_last x.3.begins (λ o l n. x.2 o l (subst (λ (c : Config). o ≤ c.objects) (fits a k s).config n)) in
@@ -91,7 +93,7 @@ module _ {S : Type 0} {stands : S → Standing} {knows : S → Known → Type 0}
         → IsAdded t.last t.thread t.frames (record { handle = h; object = o }) g → IsOnly t.frames h.index (Some o) g
         → Calls stands knows a c t.frames g (making (stands a).config (stands a).last (stands a).thread) (Ok h)
     makes {o = o} {g = g} p u added only = record {
-      stands_is = u.stands_is ∙ p.stands_is;
+      stands_is = still_before (as_before _ p.stands_is) (as_before _ u.stands_is);
       ran = λ k s m.
           let x = p.did k s in
           let y = u.goes x.0 x.1 x.2 in

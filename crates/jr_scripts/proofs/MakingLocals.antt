@@ -1,5 +1,5 @@
 -- A local reference is made to what was resolved.
-use Rattle.std.proofs.Common.{◌≡◌, ◌≢◌, ◌≤◌, ℕ, Option, Some, None, [], ◌∷◌, Result, Ok, Err, nat_lt, refl, sym, ap, subst, ◌∙◌, arith}
+use Rattle.std.proofs.Common.{◌≡◌, ◌≢◌, ℕ, Option, Some, None, [], ◌∷◌, Result, Ok, Err, nat_lt, refl, sym, ap, subst, arith}
 use mathlib.Core.Logic.{∥∥₁_map, ∥∥₁_elim}
 use Rattle.jr_word.specs.declared.config.Config.{Config}
 use Rattle.jr_word.specs.declared.fault.Fault.{Fault}
@@ -12,15 +12,16 @@ use Rattle.jr_model.specs.Frames.{Frames, IsAdded, free_places}
 use Rattle.jr_model.specs.Calls.{Call, Ran, ◌>>=◌}
 use Rattle.jr_model.specs.References.{added, new_local, room_for}
 use Rattle.jr_model.proofs.Runs.{ran_then, ran_give}
-use Rattle.jr_rule.specs.declared.steps.Known.{Known}
-use Rattle.jr_scripts.specs.Works.{local_creation}
+use Rattle.jr_rule.specs.declared.known.Known.{Known}
+use Rattle.jr_rule.specs.Knowing.{Standing, IsOf, nothing, HasObject, HasOptional, Holds, MayKnow, Took}
+use Rattle.jr_rule.proofs.InRoom.{in_room}
+use Rattle.jr_rule.proofs.Goes.{goes_did}
 use Rattle.jr_scripts.specs.Table.{Table, IsNext, IsOnly}
-use Rattle.jr_rule.specs.Knowing.{Standing, IsOf, view, nothing, HasObject, HasOptional, Holds, MayKnow, Took}
 use Rattle.jr_scripts.specs.Performing.{FoundPresent, Resolves, Calls, MakesLocal}
 use Rattle.jr_scripts.specs.Ready.{IsReady}
+use Rattle.jr_scripts.proofs.Standings.{nothing_changed, as_before, still_before, but_fresh}
 use Rattle.jr_scripts.proofs.Entering.{same_owner, ready_after}
-use Rattle.jr_rule.proofs.InRoom.{in_room}
-use Rattle.jr_scripts.proofs.Known.{goes_did, holds_put}
+use Rattle.jr_scripts.proofs.Known.{holds_put}
 use Rattle.jr_scripts.proofs.Reading.{ran_refused}
 use Rattle.jr_scripts.proofs.Making.{room_at, room_ran}
 
@@ -51,7 +52,7 @@ module _ {S : Type 0} {stands : S → Standing} {knows : S → Known → Type 0}
       let s = stands a in
       let none_here = subst (λ n. free_places n t.frames ≡ 0) r.last none in
       subst (λ y. MakesLocal stands knows a a t.frames t.frames y (new_local s.config s.last s.thread y) (Err LocalsFull)) (sym is) (record {
-        stands_is = refl;
+        stands_is = nothing_changed;
         ran = λ k v m. (k, v, full_ran s.config s.last s.thread _ none_here (fits a k v).legal, m.0);
       })
 
@@ -62,7 +63,7 @@ module _ {S : Type 0} {stands : S → Standing} {knows : S → Known → Type 0}
       let s = stands a in
       let here = subst (λ n. IsAdded n s.thread t.frames (record { handle = h; object = o }) g) r.last (subst (λ n. IsAdded t.last n t.frames (record { handle = h; object = o }) g) r.owner added_is) in
       subst (λ y. MakesLocal stands knows a b t.frames g y (new_local s.config s.last s.thread y) (Ok (Some h))) (sym is) (record {
-        stands_is = u.stands_is;
+        stands_is = as_before _ u.stands_is;
         ran = λ k v m.
             let y = u.goes k v m.1 in
             let d = goes_did y.2 in
@@ -84,9 +85,9 @@ module _ {S : Type 0} {stands : S → Standing} {knows : S → Known → Type 0}
         → Calls stands knows a d f g (first >>= new_local (stands a).config (stands a).last (stands a).thread) answer
     creates_local {d} {f} {g} {first} {answer} p q =
         let s = stands a in
-        let r = subst (λ (y : Standing). MakesLocal stands knows b d f g z (new_local y.config y.last y.thread z) answer) p.stands_is q in
+        let r = subst (λ (y : Standing). MakesLocal stands knows b d f g z (new_local y.config y.last y.thread z) answer) (but_fresh p.stands_is) q in
         record {
-          stands_is = r.stands_is ∙ p.stands_is;
+          stands_is = still_before p.stands_is r.stands_is;
           ran = λ k v m.
               let x = p.ran k v m in
               let y = r.ran x.0 x.1 (x.3.0, found_optional z x.0 x.3.1) in

@@ -5,10 +5,10 @@ use Rattle.jr_model.specs.declared.event.Role.TheVariants.{Within}
 use Rattle.jr_model.specs.declared.event.Act.TheVariants.{New}
 use Rattle.jr_model.specs.History.{Did}
 use Rattle.jr_model.proofs.Stays.{did_then, did_nothing}
-use Rattle.jr_rule.specs.declared.steps.Known.{Known}
+use Rattle.jr_rule.specs.declared.known.Known.{Known}
 use Rattle.jr_rule.specs.Knowing.{Standing, IsOf, view, anything, HasObject, Took}
+use Rattle.jr_rule.proofs.Goes.{goes_did, present_stays}
 use Rattle.jr_scripts.specs.Performing.{Published}
-use Rattle.jr_scripts.proofs.Known.{goes_did, present_stays}
 
 module _ {S : Type 0} (stands : S → Standing) (knows : S → Known → Type 0) where
   -- the numbers up to n were found present, and nothing was done

@@ -13,11 +13,13 @@ use Rattle.jr_model.specs.Calls.{Call, Ran, done}
 use Rattle.jr_model.specs.Tests.{Word, Parts, is_local, is_malformed, is_out_of_bounds, is_foreign, type_found}
 use Rattle.jr_model.specs.Parts.{looked, looked_at, type_at}
 use Rattle.jr_model.specs.References.{resolved}
-use Rattle.jr_rule.specs.declared.steps.Known.{Known}
+use Rattle.jr_rule.specs.declared.known.Known.{Known}
 use Rattle.jr_rule.specs.Knowing.{Standing, IsOf, view, anything, nothing, Holds, Goes, Took}
+use Rattle.jr_rule.proofs.Goes.{goes_did, looked_present}
 use Rattle.jr_scripts.specs.Performing.{FoundPresent, Resolves, Calls}
 use Rattle.jr_scripts.specs.Reading.{found_answer, local_answer}
-use Rattle.jr_scripts.proofs.Known.{goes_did, looked_present, holds_did, local_present}
+use Rattle.jr_scripts.proofs.Standings.{nothing_changed, as_before}
+use Rattle.jr_scripts.proofs.Known.{holds_did, local_present}
 use Rattle.jr_scripts.proofs.Reading.{ran_refused, ran_passed, ran_either, ran_neither, ran_local, ran_remote, ran_remote_type}
 
 remote_present : (k k' : Known) (h : Handle) (r : Found) → Goes k (Look h r ∷ []) k' → FoundPresent (found_answer r) k'
@@ -32,14 +34,14 @@ found_there f h (Some o) at k l m = local_present k f h.index o l m at
 module _ {S : Type 0} {stands : S → Standing} {knows : S → Known → Type 0} where
   pub resolves_remote : {a b : S} (f : Frames) (h : Handle) (r : Found) → is_local h ≡ false → Took stands knows a b (Look h r ∷ []) anything nothing → Resolves stands knows a b f (looked_at h) (found_answer r)
   resolves_remote f h r b t = record {
-    stands_is = t.stands_is;
+    stands_is = as_before _ t.stands_is;
     ran = λ k s m. let g = t.goes k s tt in let d = goes_did g.2 in
         (g.0, g.1, ran_remote f h r b d, (holds_did k g.0 f (Look h r ∷ []) d (refl, tt) m, remote_present k g.0 h r g.2));
   }
 
   pub types_remote : {a b : S} (f : Frames) (h : Handle) (r : Found) → is_local h ≡ false → Took stands knows a b (Look h r ∷ []) anything nothing → Calls stands knows a b f f (type_at (Parts h)) (Ok (type_found h.kind r))
   types_remote f h r b t = record {
-    stands_is = t.stands_is;
+    stands_is = as_before _ t.stands_is;
     ran = λ k s m. let g = t.goes k s tt in let d = goes_did g.2 in
         (g.0, g.1, ran_remote_type f h r b d, holds_did k g.0 f (Look h r ∷ []) d (refl, tt) m);
   }
@@ -47,15 +49,15 @@ module _ {S : Type 0} {stands : S → Standing} {knows : S → Known → Type 0}
   module _ (fits : (s : S) (k : Known) → knows s k → IsOf (stands s) k) (a : S) (f : Frames) where
     -- a call that takes no step
     pub stays : {A : Type 0} {call : Call A} {answer : Result A Fault} → ((p : PassView) → IsLegal p.config p.last p.seen → Ran p p f f call answer) → Calls stands knows a a f f call answer
-    stays each = record { stands_is = refl; ran = λ k s m. (k, s, each (view k) (fits a k s).legal, m) }
+    stays each = record { stands_is = nothing_changed; ran = λ k s m. (k, s, each (view k) (fits a k s).legal, m) }
 
     -- a resolution that takes no step and finds no object
     pub resolves_none : {call : Call (Option ℕ)} {answer : Result (Option ℕ) Fault} → ((k : Known) → FoundPresent answer k) → ((p : PassView) → IsLegal p.config p.last p.seen → Ran p p f f call answer) → Resolves stands knows a a f call answer
-    resolves_none none each = record { stands_is = refl; ran = λ k s m. (k, s, each (view k) (fits a k s).legal, (m, none k)) }
+    resolves_none none each = record { stands_is = nothing_changed; ran = λ k s m. (k, s, each (view k) (fits a k s).legal, (m, none k)) }
 
     pub resolves_local : (h : Handle) (z : Option ℕ) → is_local h ≡ true → z ≡ object_of f h → IfSome z (λ o. object_at f h.index ≡ Some o) → Resolves stands knows a a f (looked_at h) (local_answer z)
     resolves_local h z b is at = record {
-      stands_is = refl;
+      stands_is = nothing_changed;
       ran = λ k s m. let l = (fits a k s).legal in
           (k, s, subst (λ y. Ran (view k) (view k) f f (looked_at h) (local_answer y)) (sym is) (ran_local (view k) f h b l), (m, found_there f h z at k l m));
     }

@@ -12,9 +12,10 @@ use Rattle.jr_model.specs.Tests.{Word, is_malformed, is_out_of_bounds, is_foreig
 use Rattle.jr_model.specs.Parts.{looked}
 use Rattle.jr_model.specs.References.{resolved_both}
 use Rattle.jr_model.proofs.Runs.{ran_then, ran_err, ran_give}
-use Rattle.jr_rule.specs.declared.steps.Known.{Known}
+use Rattle.jr_rule.specs.declared.known.Known.{Known}
 use Rattle.jr_rule.specs.Knowing.{Standing, IsOf}
 use Rattle.jr_scripts.specs.Performing.{Resolves, Calls}
+use Rattle.jr_scripts.proofs.Standings.{still_before}
 use Rattle.jr_scripts.proofs.Reading.{neither, ran_either, ran_neither}
 use Rattle.jr_scripts.proofs.Resolving.{stays}
 use Rattle.jr_scripts.proofs.Refusing.{handed_on}
@@ -67,14 +68,14 @@ module _ (c : Config) (last t : ℕ) (v w : Word) where
       -- the second is refused
       pub both_err_right : {d : S} {x : Option ℕ} {e : Fault} (answer : Result (Option ℕ × Option ℕ) Fault) → IsErrAnd answer (λ y. y ≡ e) → Resolves stands knows a b f (looked v) (Ok x) → Resolves stands knows b d f (looked w) (Err e) → Calls stands knows a d f f (resolved_both c last t v w) answer
       both_err_right {x = x} {e = e} answer given p q = handed_on answer given (record {
-        stands_is = q.stands_is ∙ p.stands_is;
+        stands_is = still_before p.stands_is q.stands_is;
         ran = λ k s m. let y = p.ran k s m in let z = q.ran y.0 y.1 y.3.0 in
             (z.0, z.1, passed_ran passes (ran_then x y.2 (ran_err _ e z.2)), z.3.0);
       })
 
       pub both_looked : {d : S} {x y : Option ℕ} → Resolves stands knows a b f (looked v) (Ok x) → Resolves stands knows b d f (looked w) (Ok y) → Calls stands knows a d f f (resolved_both c last t v w) (Ok (x, y))
       both_looked {x = x} {y = y} p q = record {
-        stands_is = q.stands_is ∙ p.stands_is;
+        stands_is = still_before p.stands_is q.stands_is;
         ran = λ k s m. let u = p.ran k s m in let z = q.ran u.0 u.1 u.3.0 in
             (z.0, z.1, passed_ran passes (ran_then x u.2 (ran_give (λ n. (x, n)) y z.2)), z.3.0);
       }

@@ -1,4 +1,4 @@
--- One step after the other, for whatever was known.
+-- Slots are searched one after the other, for whatever was known.
 use Rattle.std.proofs.Common.{◌≡◌, ◌≢◌, ◌<◌, ◌≤◌, ◌+◌, ℕ, Bool, true, false, Option, Some, None, Err, List, [], ◌∷◌, ◌++◌, map, refl, sym, ap, subst, ◌∙◌, append_assoc, arith, inl, inr, ◌⊎◌, ⊎_elim}
 use mathlib.Core.List.{map-append}
 use Rattle.jr_word.specs.declared.handle.RefKind.{RefKind}
@@ -12,11 +12,11 @@ use Rattle.jr_model.specs.History.{PassView, Did, role_after}
 use Rattle.jr_model.specs.Refusals.{Sometime}
 use Rattle.jr_model.proofs.Moments.{prefix_self, sometime_wider, probed_occupied}
 use Rattle.jr_model.proofs.Stays.{did_then}
-use Rattle.jr_rule.specs.declared.steps.Known.{Known}
+use Rattle.jr_rule.specs.declared.known.Known.{Known}
 use Rattle.jr_rule.specs.Acts.{handle_of, is_occupied}
-use Rattle.jr_rule.specs.Knowing.{Standing, IsOf, view, moved, anything, HasObject, IsFreeSlot, LostClaim, Took, Acted}
+use Rattle.jr_rule.specs.Knowing.{Standing, IsOf, view, anything, HasObject, IsFreeSlot, ShowsSlot, LostClaim, Took}
+use Rattle.jr_rule.proofs.Goes.{goes_did, present_stays, shown_free}
 use Rattle.jr_scripts.specs.Performing.{Searched, search_acts, EachOccupied}
-use Rattle.jr_scripts.proofs.Known.{goes_did, present_stays}
 
 search_more : (o : ℕ) (xs ys : List (ℕ × Bool)) (made : Option Handle) → search_acts o xs None ++ search_acts o ys made ≡ search_acts o (xs ++ ys) made
 search_more o xs ys None = sym (map-append (λ (l : ℕ × Bool). Probe l.0 l.1) xs ys)
@@ -71,15 +71,15 @@ module _ {S : Type 0} {stands : S → Standing} {knows : S → Known → Type 0}
       pub took : Did (view mid) (view new) (y ∷ [])
       pub shown : shows mid new
 
-    exchanged : {a b c : S} {x y : Act} {shows : Known → Known → Type 0} (i n o : ℕ) → Took stands knows a b (x ∷ []) anything (λ _ k. IsFreeSlot i n k) → Took stands knows b c (y ∷ []) (λ k. HasObject o k × IsFreeSlot i n k) shows
+    exchanged : {a b c : S} {x y : Act} {shows : Known → Known → Type 0} (i n o : ℕ) → Took stands knows a b (x ∷ []) anything (λ _ k. ShowsSlot i (slot.Free n) k) → Took stands knows b c (y ∷ []) (λ k. HasObject o k × IsFreeSlot i n k) shows
         → (stands a).role ≡ Within → x ≢ Leave → y ≢ Leave → role_after Within x ≡ Within → (k : Known) → knows a k → HasObject o k → Exchanged c shows o x y k
     exchanged {x} i n o t u w ne ne' still k s p =
         let m = took_present t w ne o k s tt p in
-        let e = took_present u (ap (λ (z : Standing). z.role) t.stands_is ∙ (ap (λ r. role_after r x) w ∙ still)) ne' o m.0 m.1 (m.2, m.4) m.2 in
+        let e = took_present u (ap (λ (z : Standing). z.role) t.stands_is ∙ (ap (λ r. role_after r x) w ∙ still)) ne' o m.0 m.1 (m.2, shown_free i n m.0 m.4) m.2 in
         record { mid = m.0; new = e.0; known = e.1; present = e.2; looked = m.3; took = e.3; shown = e.4 }
 
     -- an index that was found free, and lost to another thread
-    pub searched_lost : {a b c : S} (i n : ℕ) (kind : RefKind) (o : ℕ) (found : SlotParts) → Took stands knows a b (Probe i false ∷ []) anything (λ _ k. IsFreeSlot i n k)
+    pub searched_lost : {a b c : S} (i n : ℕ) (kind : RefKind) (o : ℕ) (found : SlotParts) → Took stands knows a b (Probe i false ∷ []) anything (λ _ k. ShowsSlot i (slot.Free n) k)
         → Took stands knows b c (Probe i (is_occupied found) ∷ []) (λ k. HasObject o k × IsFreeSlot i n k) (LostClaim i (Err found)) → (stands a).role ≡ Within → Searched stands knows a c kind o i (i + 1) None
     searched_lost i n kind o found t u w = record {
       stands_is = u.stands_is ∙ t.stands_is;
@@ -90,14 +90,14 @@ module _ {S : Type 0} {stands : S → Standing} {knows : S → Known → Type 0}
             z.known,
             z.present,
             only_one (λ j. Sometime (λ y. IsOccupied k.last y j) k.seen z.new.seen) i
-                (occupied_between (view k) (view z.mid) (view z.new) (Probe i false ∷ []) (Probe i (is_occupied found) ∷ []) z.looked z.took i (inr z.shown)),
+                (occupied_between (view k) (view z.mid) (view z.new) (Probe i false ∷ []) (Probe i (is_occupied found) ∷ []) z.looked z.took i (inr z.shown.0)),
             (i, false) ∷ (i, is_occupied found) ∷ [],
             did_then {new = view z.new} (Probe i false ∷ []) (Probe i (is_occupied found) ∷ []) z.looked z.took,
           );
     }
 
     -- an index that was found free, and won
-    pub searched_won : {a b c : S} (i n : ℕ) (kind : RefKind) (o : ℕ) {shows : Known → Known → Type 0} → Took stands knows a b (Probe i false ∷ []) anything (λ _ k. IsFreeSlot i n k)
+    pub searched_won : {a b c : S} (i n : ℕ) (kind : RefKind) (o : ℕ) {shows : Known → Known → Type 0} → Took stands knows a b (Probe i false ∷ []) anything (λ _ k. ShowsSlot i (slot.Free n) k)
         → Took stands knows b c (Create (handle_of kind n i) o ∷ []) (λ k. HasObject o k × IsFreeSlot i n k) shows → (stands a).role ≡ Within → Searched stands knows a c kind o i (i + 1) (Some (handle_of kind n i))
     searched_won i n kind o t u w = record {
       stands_is = u.stands_is ∙ t.stands_is;

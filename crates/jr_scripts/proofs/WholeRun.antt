@@ -1,5 +1,5 @@
 -- A script of one thread, from the opening state to the last line.
-use Rattle.std.proofs.Common.{◌≡◌, ℕ, List, ◌++◌, Result, Ok, refl, sym, ap, subst, ◌∙◌}
+use Rattle.std.proofs.Common.{◌≡◌, ℕ, true, List, ◌++◌, Result, Ok, refl, sym, ap, subst, ◌∙◌}
 use Rattle.jr_word.specs.declared.config.Config.{Config}
 use Rattle.jr_word.specs.declared.fault.Fault.{Fault}
 use Rattle.jr_model.specs.declared.event.Role.TheVariants.{Outside}
@@ -9,11 +9,11 @@ use Rattle.jr_model.specs.History.{PassView, IsLegal, state}
 use Rattle.jr_model.specs.Frames.{Frames, fresh_frames}
 use Rattle.jr_syntax.specs.declared.command.Command.{Command}
 use Rattle.jr_syntax.specs.declared.thread.ThreadPart.{ThreadPart}
-use Rattle.jr_rule.specs.declared.steps.Known.{Known}
+use Rattle.jr_rule.specs.declared.known.Known.{Known}
 use Rattle.jr_rule.specs.Knowing.{Standing, IsOf, view, Holds}
-use Rattle.jr_scripts.specs.Deeds.{moment}
 use Rattle.jr_rule.specs.declared.plain.PlainSteps.{PlainSteps}
 use Rattle.jr_rule.specs.Plain.{unseen, standing, Shows}
+use Rattle.jr_scripts.specs.Deeds.{moment}
 use Rattle.jr_scripts.specs.Text.{heading, ending}
 use Rattle.jr_scripts.specs.Explains.{Explained}
 use Rattle.jr_scripts.specs.Runs.{RanThread, IsRun, seeing, opening_moment}
@@ -43,9 +43,9 @@ module _ {S : Type 0} {stands : S → Standing} {knows : S → Known → Type 0}
       let x = ran.explained k0 known (subst (λ h. Holds h k0) (sym fresh) (opening_holds c last)) in
       let k = x.0 in
       let of = fits new k x.1 in
-      let config_of : k.config ≡ c = of.config ∙ (ap (λ (s : Standing). s.config) ran.stands_is ∙ config_is) in
-      let last_of : k.last ≡ last = of.last ∙ (ap (λ (s : Standing). s.last) ran.stands_is ∙ last_is) in
-      let thread_of : k.thread ≡ 0 = of.thread ∙ (ap (λ (s : Standing). s.thread) ran.stands_is ∙ thread_is) in
+      let config_of : k.config ≡ c = of.config ∙ (ran.stands_is.config ∙ config_is) in
+      let last_of : k.last ≡ last = of.last ∙ (ran.stands_is.last ∙ last_is) in
+      let thread_of : k.thread ≡ 0 = of.thread ∙ (ran.stands_is.thread ∙ thread_is) in
       let legal : IsLegal c last k.seen = subst (λ d. IsLegal d last k.seen) config_of (subst (λ l. IsLegal k.config l k.seen) last_of of.legal) in
       let sum : v ≡ summary c last (state k.seen) = tells k x.1 ∙ (ap (λ d. summary d k.last (state k.seen)) config_of ∙ ap (λ l. summary c l (state k.seen)) last_of) in
       let from : Explained turns 3 (opening_moment c last) part.commands lines (moment k g) = subst (λ h. Explained turns 3 (moment k0 h) part.commands lines (moment k g)) fresh x.3 in
@@ -61,18 +61,19 @@ module _ {S : Type 0} {stands : S → Standing} {knows : S → Known → Type 0}
 
 -- the same over plain steps
 pub plain_run : {old new : PlainSteps 65535} {f g : Frames} {commands : List Command} {answer : Result (Unit {0}) Fault} (turns : ℕ) (c : Config) (part : ThreadPart) (lines whole : List ℕ) (v : Summary) (made : PlainSteps 65535)
-    → c.threads ≡ 1 → made.config ≡ c → made.role ≡ Outside → Shows (standing c 65535 Outside) made.words.items (unseen c 65535)
+    → c.threads ≡ 1 → made.config ≡ c → made.role ≡ Outside → made.fresh ≡ true → Shows (standing c 65535 Outside true) made.words.items (unseen c 65535)
     → old ≡ made → f ≡ fresh_frames made.config.locals
     → commands ≡ part.commands → answer ≡ Ok tt
-    → RanThread (λ s. standing s.config 65535 s.role) (λ s k. Shows (standing s.config 65535 s.role) s.words.items k) old new f g turns 3 commands answer lines
-    → ((k : Known) → Shows (standing new.config 65535 new.role) new.words.items k → v ≡ summary k.config k.last (state k.seen))
+    → RanThread (λ s. standing s.config 65535 s.role s.fresh) (λ s k. Shows (standing s.config 65535 s.role s.fresh) s.words.items k) old new f g turns 3 commands answer lines
+    → ((k : Known) → Shows (standing new.config 65535 new.role new.fresh) new.words.items k → v ≡ summary k.config k.last (state k.seen))
     → whole ≡ heading part.name ++ lines ++ ending v
     → IsRun turns 65535 c part whole
-plain_run {old} {new} {f} {g} {commands} turns c part lines whole v made one config_is role_is opening same fresh these good ran tells whole_is =
-    let known : Shows (standing old.config 65535 old.role) old.words.items (unseen c 65535)
-    = subst (λ (s : PlainSteps 65535). Shows (standing s.config 65535 s.role) s.words.items (unseen c 65535)) (sym same)
-    (subst (λ d. Shows (standing d 65535 made.role) made.words.items (unseen c 65535)) (sym config_is)
-    (subst (λ r. Shows (standing c 65535 r) made.words.items (unseen c 65535)) (sym role_is) opening)) in
+plain_run {old} {new} {f} {g} {commands} turns c part lines whole v made one config_is role_is fresh_is opening same fresh these good ran tells whole_is =
+    let known : Shows (standing old.config 65535 old.role old.fresh) old.words.items (unseen c 65535)
+    = subst (λ (s : PlainSteps 65535). Shows (standing s.config 65535 s.role s.fresh) s.words.items (unseen c 65535)) (sym same)
+    (subst (λ d. Shows (standing d 65535 made.role made.fresh) made.words.items (unseen c 65535)) (sym config_is)
+    (subst (λ r. Shows (standing c 65535 r made.fresh) made.words.items (unseen c 65535)) (sym role_is)
+    (subst (λ b. Shows (standing c 65535 Outside b) made.words.items (unseen c 65535)) (sym fresh_is) opening))) in
     let Leads : List Command → Result (Unit {0}) Fault → Type 0
-    = λ cs r. RanThread (λ (s : PlainSteps 65535). standing s.config 65535 s.role) (λ s k. Shows (standing s.config 65535 s.role) s.words.items k) old new f g turns 3 cs r lines in
+    = λ cs r. RanThread (λ (s : PlainSteps 65535). standing s.config 65535 s.role s.fresh) (λ s k. Shows (standing s.config 65535 s.role s.fresh) s.words.items k) old new f g turns 3 cs r lines in
     is_run (λ s k h. h.pass) turns 65535 c part lines whole v one (ap (λ (s : PlainSteps 65535). s.config) same ∙ config_is) refl refl known (fresh ∙ ap (λ d. fresh_frames d.locals) config_is) (subst (λ cs. Leads cs (Ok tt)) these (subst (Leads commands) good ran)) tells whole_is

@@ -11,9 +11,10 @@ use Rattle.jr_model.specs.History.{PassView, state}
 use Rattle.jr_model.specs.Frames.{Frames}
 use Rattle.jr_model.specs.Calls.{Call, Ran}
 use Rattle.jr_model.specs.Tests.{Word}
-use Rattle.jr_rule.specs.declared.steps.Known.{Known}
+use Rattle.jr_rule.specs.declared.known.Known.{Known}
 use Rattle.jr_rule.specs.Knowing.{Standing, view, Holds}
 use Rattle.jr_scripts.specs.Reading.{IsReadAs}
+use Rattle.jr_scripts.specs.Performing.{IsAsBefore}
 
 -- a moment of an env: what its pass knows, and the frames
 pub record Moment : Type 0 where
@@ -101,5 +102,5 @@ get_object_ref_type w = call_on w (λ c last t s a. references.get_object_ref_ty
 module _ {S : Type 0} (stands : S → Standing) (knows : S → Known → Type 0) where
   -- the deed was done: for whatever was known, something is known that it may lead to
   pub record Does {A : Type 0} (old new : S) (before after : Frames) (deed : Deed A) (answer : Result A Fault) : Type 0 where
-    pub stands_is : stands new ≡ stands old
+    pub stands_is : IsAsBefore (stands old) (stands new)
     pub did : (k : Known) → knows old k → Holds before k → (k' : Known) × knows new k' × Holds after k' × deed (moment k before) answer (moment k' after)

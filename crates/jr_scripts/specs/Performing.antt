@@ -11,17 +11,24 @@ use Rattle.jr_model.specs.History.{PassView, Did}
 use Rattle.jr_model.specs.Refusals.{Sometime}
 use Rattle.jr_model.specs.Frames.{Frames}
 use Rattle.jr_model.specs.Calls.{Call, Ran}
-use Rattle.jr_rule.specs.declared.steps.Known.{Known}
+use Rattle.jr_rule.specs.declared.known.Known.{Known}
 use Rattle.jr_rule.specs.Knowing.{Standing, view, state_of, HasObject, HasOptional, Holds}
 
 -- every object number of the room is present
 abbrev pub EachPresent : Config → State → Type 0
 EachPresent c s = (o : ℕ) → 1 ≤ o → o ≤ c.objects → IsPresent s o
 
+-- the same room, thread and role, whether or not the pass is fresh
+pub record IsAsBefore (old new : Standing) : Type 0 where
+  pub config : new.config ≡ old.config
+  pub last : new.last ≡ old.last
+  pub thread : new.thread ≡ old.thread
+  pub role : new.role ≡ old.role
+
 module _ {S : Type 0} (stands : S → Standing) (knows : S → Known → Type 0) where
   -- a call was made: for whatever was known and meets the condition, something is known from which the thread did what the call does, with this answer. The call may name the state that it leaves
   pub record Performed {A : Type 0} (old new : S) (before after : Frames) (met : Known → Type 0) (call : State → Call A) (answer : Result A Fault) (so : Known → Type 0) : Type 0 where
-    pub stands_is : stands new ≡ stands old
+    pub stands_is : IsAsBefore (stands old) (stands new)
     pub ran : (k : Known) → knows old k → met k
         → (k' : Known) × knows new k' × Ran (view k) (view k') before after (call (state_of k')) answer × so k'
 

@@ -13,8 +13,9 @@ use Rattle.jr_model.specs.Frames.{Frames, fresh_frames}
 use Rattle.jr_syntax.specs.declared.command.Command.{Command}
 use Rattle.jr_syntax.specs.declared.thread.ThreadPart.{ThreadPart}
 use Rattle.jr_syntax.specs.declared.script.Script.{Script}
-use Rattle.jr_rule.specs.declared.steps.Known.{Known}
+use Rattle.jr_rule.specs.declared.known.Known.{Known}
 use Rattle.jr_rule.specs.Knowing.{Standing, Holds}
+use Rattle.jr_scripts.specs.Performing.{IsAsBefore}
 use Rattle.jr_scripts.specs.Deeds.{Moment, moment}
 use Rattle.jr_scripts.specs.declared.reply.Reply.{Reply}
 use Rattle.jr_scripts.specs.Names.{Names}
@@ -24,7 +25,7 @@ use Rattle.jr_scripts.specs.Explains.{Explained, Leaves}
 module _ {S : Type 0} (stands : S → Standing) (knows : S → Known → Type 0) where
   -- the commands were run: for whatever was known, something is known that explains the text
   pub record RanThread (old new : S) (before after : Frames) (turns first : ℕ) (commands : List Command) (answer : Result (Unit {0}) Fault) (text : List ℕ) : Type 0 where
-    pub stands_is : stands new ≡ stands old
+    pub stands_is : IsAsBefore (stands old) (stands new)
     pub explained : (k : Known) → knows old k → Holds before k → (k' : Known) × knows new k' × Holds after k' × Leaves turns first (moment k before) commands answer text (moment k' after)
 
 -- what is kept of a command that was done: its line is written and its name set, or memory was refused and nothing is written

@@ -6,18 +6,18 @@ ghost use Rattle.jr_model.specs.Frames.{Frames as LocalFrames};
 ghost use Rattle.jr_model.specs.Tests.{Parts};
 ghost use Rattle.jr_model.specs.References as references;
 ghost use Rattle.jr_model.specs.References.{new_local};
+ghost use Rattle.jr_rule.specs.Knowing.{MayKnow, HasOptional};
 ghost use Rattle.jr_scripts.specs.Reading.{word_of, OwnerFits};
 ghost use Rattle.jr_scripts.specs.Works.{creation, local_creation, comparison, making, removal, local_removal};
 ghost use Rattle.jr_scripts.specs.Performing.{Calls, MakesLocal};
-ghost use Rattle.jr_rule.specs.Knowing.{MayKnow, HasOptional};
 ghost use Rattle.jr_scripts.specs.Ready.{IsReady, KeepsOwner, Completes};
 
 use crate::frames::Frames;
-use jr_gate::enter;
 use crate::object::publish;
 use crate::reference::{Reference, belongs_elsewhere, lies_outside, names_kind, names_local};
 use crate::resolve::{resolve, resolve_both, type_of};
 use crate::row::{create, delete};
+use jr_gate::enter;
 use jr_rule::Steps;
 use jr_word::{Fault, HandleParts, Kind, RefKind};
 

@@ -22,7 +22,7 @@ impl<S: Steps> Env<S> {
     ghost use Rattle.jr_model.specs.declared.event.Role.TheVariants.{Outside};
     ghost use Rattle.jr_model.specs.Frames.{fresh_frames};
     ghost use Rattle.jr_rule.specs.Knowing.{HasNoLocals};
-    ghost use Rattle.jr_rule.specs.declared.steps.Known.{Known};
+    ghost use Rattle.jr_rule.specs.declared.known.Known.{Known};
     ghost use Rattle.jr_scripts.specs.Deeds.{Does, new_plain, new_reference, new_local_ref, delete_reference, delete_local_ref, is_same_object, get_object_ref_type};
 
     /// The env of a thread that has no local reference.

@@ -9,8 +9,8 @@ use crate::env::Env;
 use crate::names::Names;
 use crate::reference::Reference;
 use crate::reply::Reply;
-use jr_rule::Steps;
 use crate::tries::tried;
+use jr_rule::Steps;
 use jr_syntax::Command;
 use jr_word::{Fault, Handle, RefKind};
 

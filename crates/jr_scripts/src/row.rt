@@ -8,12 +8,12 @@ ghost use Rattle.jr_model.specs.declared.event.Found.TheVariants.{Stale};
 ghost use Rattle.jr_model.specs.Frames.{Frames};
 ghost use Rattle.jr_model.specs.Parts.{delete as deletion};
 ghost use Rattle.jr_rule.specs.Acts.{reply, is_its, found_object};
-ghost use Rattle.jr_scripts.specs.Reading.{found_answer};
 ghost use Rattle.jr_rule.specs.Knowing.{anything, nothing, HasObject, MayKnow, Took};
+ghost use Rattle.jr_scripts.specs.Reading.{found_answer};
 ghost use Rattle.jr_scripts.specs.Performing.{Searched, Performed};
 
-use jr_rule::{Naming, Steps};
 use jr_model::Found;
+use jr_rule::{SlotNaming, Steps};
 use jr_word::{Fault, HandleParts, RefKind, SlotParts};
 
 /// Looks a handle up in its slot.
@@ -23,7 +23,7 @@ pub fn look<S: Steps>(steps: &mut S, handle: HandleParts) -> Found
     requires kind { (handle.kind ≢ Local) × (handle.owner ≡ 0) }
     ensures { Took S.stands S.knows steps.old steps.new (Look handle result ∷ []) anything nothing }
 {
-    let word = steps.see_slot(handle.index, Naming::Look(handle));
+    let word = steps.see_slot(handle.index, SlotNaming::Look(handle));
     found(handle, word)
 }
 
@@ -74,7 +74,7 @@ fn try_slot<S: Steps>(steps: &mut S, index: u16, kind: RefKind, object: u16) -> 
     requires object { MayKnow S.knows steps.old (HasObject object) }
     ensures { Searched S.stands S.knows steps.old steps.new kind object index (index + 1) result }
 {
-    let SlotParts::Free { serial } = steps.see_slot(index, Naming::Probe) else {
+    let SlotParts::Free { serial } = steps.see_slot(index, SlotNaming::Probe) else {
         return None;
     };
     match steps.claim(index, serial, kind, object) {

@@ -12,7 +12,7 @@ pub returns : goal.returns
 returns g c = completes_entered (λ r last thread. removal r c.args.kind (word_of c.args.reference)) c.requires.ready c.in_ok-inside.ensures.ok.1 (c.delete_within-deleted.ensures c.args.frames.now.frames) (same_owner c.args.frames.now) c.leave.ensures
 
 pub leave-requires-clause-own : goal.leave-requires-clause-own
-leave-requires-clause-own g c = c.in_ok-inside.ensures.ok.0 ∙ sym (ap (λ (s : Standing). s.thread) (c.delete_within-deleted.ensures c.args.frames.now.frames).stands_is)
+leave-requires-clause-own g c = c.in_ok-inside.ensures.ok.0 ∙ sym (c.delete_within-deleted.ensures c.args.frames.now.frames).stands_is.thread
 
 pub leave-requires-clause-inside : goal.leave-requires-clause-inside
-leave-requires-clause-inside g c = ap (λ (s : Standing). s.role) ((c.delete_within-deleted.ensures c.args.frames.now.frames).stands_is ∙ c.in_ok-inside.ensures.ok.1.stands_is)
+leave-requires-clause-inside g c = (c.delete_within-deleted.ensures c.args.frames.now.frames).stands_is.role ∙ ap (λ (s : Standing). s.role) c.in_ok-inside.ensures.ok.1.stands_is
