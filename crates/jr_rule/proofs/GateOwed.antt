@@ -1,5 +1,5 @@
 -- What the steps of the gate owe, wherever they find the row.
-use Rattle.std.proofs.Common.{◌≡◌, ◌≢◌, ◌⊎◌, ⊎_elim, ◌+◌, ◌-◌, ◌%◌, ◌^◌, ◌==◌, ℕ, Bool, true, false, not, Option, Some, IsSome, List, [], ◌∷◌, get_or, slice_set, eqb, eq-eqb, ne_eqb, refl, sym, ap, subst, ◌∙◌, arith}
+use Rattle.std.proofs.Common.{◌≡◌, ◌≢◌, ◌⊎◌, ⊎_elim, ◌+◌, ◌-◌, ◌%◌, ◌^◌, ℕ, not, Option, Some, IsSome, List, [], ◌∷◌, get_or, slice_set, eqb, eq-eqb, ne_eqb, refl, sym, ap, subst, ◌∙◌, arith}
 use lib.Seq.{set-get_or}
 use mathlib.Core.Logic.{dite}
 use native.Mathlib.Decide.{ℕ_discrete}
@@ -14,12 +14,11 @@ use Rattle.jr_model.specs.History.{History, state, role_of, role_after}
 use Rattle.jr_rule.specs.declared.known.Known.{Known}
 use Rattle.jr_rule.specs.declared.naming.GateNaming.{GateNaming}
 use Rattle.jr_rule.specs.Acts.{entered_as, leaving, all_counted, gate_named, GateNameFits}
-use Rattle.jr_rule.specs.Image.{IsImage}
 use Rattle.jr_rule.specs.Knowing.{view, IsClosedNow}
-use Rattle.jr_rule.specs.Rule.{IsFound, known_at, Makes, Owes}
+use Rattle.jr_rule.specs.Rule.{known_at, Makes, Owes}
 use Rattle.jr_rule.proofs.Found.{role_at, closed_now}
 use Rattle.jr_rule.proofs.GateTurns.{gate_fits, gate_most, gate_named_state, shows_gate, goes_in, goes_out, counted, shut_counted, gate_seen, bars, bars_lost, unbars}
-use Rattle.jr_rule.proofs.Told.{Told, Entered, Left, Barred, Reopened, SawGate, Met}
+use Rattle.jr_rule.proofs.Told.{Entered, Left, Barred, Reopened, SawGate, Met}
 use Rattle.jr_rule.proofs.Turns.{Turn, turn_one}
 
 -- a turn is what a step makes

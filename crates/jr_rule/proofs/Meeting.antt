@@ -1,8 +1,7 @@
 -- Two passes at one seat, while they meet.
-use Rattle.std.proofs.Common.{◌≡◌, ℕ, List, [], ◌∷◌, refl, sym, ap, subst, ◌∙◌}
-use Rattle.jr_word.specs.declared.config.Config.{Config}
+use Rattle.std.proofs.Common.{◌≡◌, ℕ, List, [], ◌∷◌, sym, ap, subst, ◌∙◌}
 use Rattle.jr_model.specs.declared.event.Act.{Act}
-use Rattle.jr_model.specs.History.{History, PassView, HasMet}
+use Rattle.jr_model.specs.History.{HasMet}
 use Rattle.jr_rule.specs.declared.known.Known.{Known}
 use Rattle.jr_rule.specs.Knowing.{view}
 use Rattle.jr_rule.specs.Rule.{view as seats, EachFits, Sat, acting, others_of, Tells, IsAlone, together, first_alone, without_first}

@@ -1,5 +1,5 @@
 -- What the steps of local words and headers owe, wherever they find the row.
-use Rattle.std.proofs.Common.{◌≡◌, ◌≢◌, ◌+◌, ◌<◌, ◌≤◌, ◌==◌, ℕ, Bool, true, false, Option, Some, None, IsSome, List, [], ◌∷◌, get_or, slice_set, eqb, eq-eqb, ne_eqb, refl, sym, ap, subst, ◌∙◌}
+use Rattle.std.proofs.Common.{◌≡◌, ◌<◌, ◌≤◌, ◌==◌, ℕ, Bool, true, false, Option, Some, None, IsSome, List, [], ◌∷◌, get_or, slice_set, eqb, eq-eqb, ne_eqb, refl, sym, ap, subst, ◌∙◌}
 use Rattle.std.proofs.lemmas.List.{append-nil}
 use Rattle.std.proofs.Math.Logic.{∥∥₁_elim}
 use Rattle.std.proofs.Props.{props}
@@ -21,14 +21,14 @@ use Rattle.jr_model.proofs.Updates.{at_number_self}
 use Rattle.jr_rule.specs.declared.known.Known.{Known}
 use Rattle.jr_rule.specs.Acts.{putting, publishing}
 use Rattle.jr_rule.specs.Image.{local_at, header_at, local_parts}
-use Rattle.jr_rule.specs.Knowing.{view, fresh_from, HasObject, HasOptional}
-use Rattle.jr_rule.specs.Rule.{IsFound, known_at, Owes}
+use Rattle.jr_rule.specs.Knowing.{view, fresh_from, HasOptional}
+use Rattle.jr_rule.specs.Rule.{IsFound, Owes}
 use Rattle.jr_rule.proofs.Found.{now, role_at, present_now}
 use Rattle.jr_rule.proofs.GateOwed.{makes, written, unwritten, won, lost}
 use Rattle.jr_rule.proofs.LocalTurns.{puts, publishes, header_some}
 use Rattle.jr_rule.proofs.PlainPlaces.{header_fits}
 use Rattle.jr_rule.proofs.Told.{Put, Published}
-use Rattle.jr_rule.proofs.Turns.{Turn, turn_none}
+use Rattle.jr_rule.proofs.Turns.{turn_none}
 
 -- an object, if one is given, without a choice
 pub optional_is : (o : Option ℕ) (k : Known) → ∥ HasOptional o k ∥₁ → HasOptional o k

@@ -1,9 +1,9 @@
 -- A step of a pass keeps the rule, where it owes nothing more.
-use Rattle.std.proofs.Common.{◌≡◌, ◌≢◌, ⊎_elim, ◌+◌, ◌≤◌, ◌==◌, ℕ, zero, suc, cond, List, [], ◌∷◌, ◌++◌, map, get_or, slice_set, refl, sym, ap, subst, ◌∙◌, arith, eq-eqb, ne_eqb}
+use Rattle.std.proofs.Common.{◌≡◌, ◌≢◌, ⊎_elim, ◌+◌, ◌≤◌, ℕ, zero, suc, cond, List, [], ◌∷◌, ◌++◌, map, get_or, slice_set, refl, sym, ap, subst, ◌∙◌, arith, eq-eqb, ne_eqb}
 use Rattle.std.proofs.lemmas.List.{append-nil}
 use mathlib.Core.Option.{some}
 use lib.ListN.{get_elem?}
-use Rattle.atomic_table.specs.Table.{State as Table, Act as Taking, Valid, carried_after, keeps, stepped, Allows}
+use Rattle.atomic_table.specs.Table.{Act as Taking, Valid, carried_after, keeps, stepped, Allows}
 use Rattle.atomic_table.proofs.Lists.{at_set}
 use Rattle.jr_word.specs.declared.config.Config.{Config}
 use Rattle.jr_model.specs.declared.event.Act.{Act}
@@ -15,7 +15,7 @@ use Rattle.jr_rule.specs.declared.known.Known.{Known}
 use Rattle.jr_rule.specs.declared.known.View.{View}
 use Rattle.jr_rule.specs.Image.{IsImage}
 use Rattle.jr_rule.specs.Knowing.{Goes}
-use Rattle.jr_rule.specs.Rule.{view, IsSized, Fits, EachFits, total, is_of, passes_of, Row, Kept, Sat, acting, Tells, IsFound, known_at, Makes, Owes}
+use Rattle.jr_rule.specs.Rule.{view, Fits, EachFits, total, is_of, passes_of, Row, Kept, Sat, acting, Tells, known_at, Owes}
 
 -- COUNTS OF A LIST
 

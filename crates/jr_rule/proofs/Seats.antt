@@ -12,7 +12,7 @@ use Rattle.jr_model.specs.History.{History}
 use Rattle.jr_rule.specs.declared.known.Known.{Known}
 use Rattle.jr_rule.specs.declared.known.View.{View}
 use Rattle.jr_rule.specs.Image.{IsImage}
-use Rattle.jr_rule.specs.Rule.{known, view, IsSized, Fits, EachFits, total, is_of, passes_of, Kept, newcomers, Sat, first_alone, without_first, together, spent}
+use Rattle.jr_rule.specs.Rule.{known, view, IsSized, EachFits, total, is_of, passes_of, Kept, newcomers, Sat, first_alone, without_first, together, spent}
 use Rattle.jr_rule.proofs.Plays.{total_append, total_at}
 
 each_append : (c : Config) (last : ℕ) (log : History) (ks ls : List Known) → EachFits c last log ks → EachFits c last log ls → EachFits c last log (ks ++ ls)

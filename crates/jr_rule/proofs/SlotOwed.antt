@@ -1,5 +1,5 @@
 -- What the steps of slots owe, wherever they find the row.
-use Rattle.std.proofs.Common.{◌≡◌, ◌≢◌, ◌⊎◌, ⊎_elim, inl, inr, ◌+◌, ◌<◌, ◌≤◌, ◌^◌, ℕ, Bool, true, false, ◌==◌, Result, Option, Some, None, IsSome, Ok, Err, List, [], ◌∷◌, get_or, slice_set, eqb, eq-eqb, ne_eqb, refl, sym, ap, subst, ◌∙◌, arith}
+use Rattle.std.proofs.Common.{◌≡◌, ◌≢◌, ◌⊎◌, ⊎_elim, inl, inr, ◌<◌, ◌≤◌, ◌^◌, ℕ, Bool, true, false, ◌==◌, Result, Option, Some, IsSome, Ok, Err, List, [], ◌∷◌, get_or, slice_set, eqb, eq-eqb, ne_eqb, refl, sym, ap, subst, ◌∙◌, arith}
 use Rattle.std.proofs.Math.Logic.{∥∥₁_elim}
 use Rattle.std.proofs.Props.{props}
 use mathlib.Core.Logic.{dite, ∥∥₁_map}
@@ -18,16 +18,16 @@ use Rattle.jr_model.specs.declared.event.Found.TheVariants.{Object, Cleared, Sta
 use Rattle.jr_model.specs.declared.event.Act.{Act}
 use Rattle.jr_model.specs.declared.event.Act.TheVariants.{Probe}
 use Rattle.jr_model.specs.State.{Handle, State}
-use Rattle.jr_model.specs.History.{History, by, state, role_of, role_after}
+use Rattle.jr_model.specs.History.{by, state, role_of, role_after}
 use Rattle.jr_model.proofs.Moments.{prefix_self, sometime_wider}
 use Rattle.jr_rule.specs.declared.known.Known.{Known}
 use Rattle.jr_rule.specs.declared.naming.SlotNaming.{SlotNaming}
 use Rattle.jr_rule.specs.declared.naming.SlotNaming.TheVariants as naming
 use Rattle.jr_rule.specs.Acts.{found_object, slot_named, SlotNameFits, is_occupied, claiming, freeing}
 use Rattle.jr_rule.specs.Image.{slot_at}
-use Rattle.jr_rule.specs.Knowing.{view, fresh_after, HasObject, HasLooked, IsFreeSlot}
-use Rattle.jr_rule.specs.Rule.{IsSized, IsFound, known_at, Owes}
-use Rattle.jr_rule.specs.Slots.{CanStand, IsReference, freed}
+use Rattle.jr_rule.specs.Knowing.{view, fresh_after, HasObject, HasLooked}
+use Rattle.jr_rule.specs.Rule.{IsSized, known_at, Owes}
+use Rattle.jr_rule.specs.Slots.{IsReference, freed}
 use Rattle.jr_rule.proofs.Found.{now, role_at, present_now, looked_later}
 use Rattle.jr_rule.proofs.GateOwed.{makes, written, unwritten, won, lost}
 use Rattle.jr_rule.proofs.LostClaims.{claim_lost}

@@ -1,7 +1,6 @@
 -- What a step told makes of its pass.
 use Rattle.std.proofs.Common.{◌≡◌, ◌<◌, ℕ, Bool, true, List, [], ◌∷◌, refl, sym, ap, subst, ◌∙◌}
 use Rattle.std.specs.List.{AllByRecursion}
-use mathlib.Core.Logic.{∥∥₁_map}
 use Rattle.jr_word.specs.declared.config.Config.{Config}
 use Rattle.jr_model.specs.declared.event.Role.{Role}
 use Rattle.jr_model.specs.declared.event.Act.{Act}
@@ -12,7 +11,7 @@ use Rattle.jr_model.proofs.Stays.{role_did}
 use Rattle.jr_rule.specs.declared.known.Known.{Known}
 use Rattle.jr_rule.specs.declared.pass.Pass.{Pass}
 use Rattle.jr_rule.specs.declared.row.Row.{Row}
-use Rattle.jr_rule.specs.Knowing.{Standing, IsOf, view, moved, fresh_from, HasNoLocals, Goes, Took}
+use Rattle.jr_rule.specs.Knowing.{IsOf, view, fresh_from, HasNoLocals, Goes, Took}
 use Rattle.jr_rule.specs.Rule.{view as seats, Sat, acting, others_of, Tells}
 use Rattle.jr_rule.specs.Holding.{IsHeld, IsSeated}
 use Rattle.jr_rule.specs.Passes.{known_of, standing_of, Knows, IsAt}

@@ -2,7 +2,6 @@
 use Rattle.std.specs.Prelude.{◌≡◌, ◌<◌, ℕ, Bool, true, [], ◌∷◌}
 use Rattle.jr_model.specs.declared.event.Role.{Role}
 use Rattle.jr_model.specs.History.{IsLegal, role_of}
-use Rattle.jr_rule.specs.declared.known.Known.{Known}
 use Rattle.jr_rule.specs.Knowing.{view, HasNoLocals}
 use Rattle.jr_rule.specs.Rule.{Sat, acting, others_of, IsAlone, IsSized, view as rule_view}
 

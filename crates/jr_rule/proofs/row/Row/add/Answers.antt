@@ -1,4 +1,4 @@
-use Rattle.std.proofs.Common.{rules, ◌+◌, ◌-◌, ◌%◌, ◌^◌}
+use Rattle.std.proofs.Common.{rules, ◌+◌, ◌%◌, ◌^◌}
 use Rattle.jr_rule.proofs.Plays.{plays}
 use Rattle.jr_rule.proofs.row.Row.add.Goals as goal
 

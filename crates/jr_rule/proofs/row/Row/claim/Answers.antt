@@ -1,7 +1,5 @@
-use Rattle.std.proofs.Common.{◌≡◌, ◌+◌, ℕ, Some, Err, [], ◌∷◌, refl, sym, ap, subst, ◌∙◌, arith, eqb}
+use Rattle.std.proofs.Common.{◌≡◌, ℕ, Some, Err, [], ◌∷◌, refl, sym, ap, subst, ◌∙◌, arith, eqb}
 use prog.Atomic.{either}
-use Rattle.jr_word.specs.declared.slot.SlotParts.TheVariants as slot
-use Rattle.jr_word.specs.Slot.{slot_word}
 use Rattle.jr_rule.specs.Acts.{claiming}
 use Rattle.jr_rule.specs.Image.{slot_at}
 use Rattle.jr_rule.specs.Knowing.{LostClaim}

@@ -1,7 +1,5 @@
 use Rattle.std.proofs.Common.{◌≡◌, ◌==◌, ℕ, refl, sym, ap, subst, ◌∙◌, eqb}
 use prog.Atomic.{either}
-use Rattle.jr_word.specs.declared.config.Config.{Config}
-use Rattle.jr_word.specs.Header.{header_word}
 use Rattle.jr_rule.specs.Image.{header_at}
 use Rattle.jr_rule.specs.Passes.{known_of}
 use Rattle.jr_rule.specs.Rule.{Owes}

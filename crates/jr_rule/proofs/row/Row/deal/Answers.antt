@@ -1,6 +1,5 @@
-use Rattle.std.proofs.Common.{rules, [], refl, sym, ap, subst, ◌∙◌}
-use Rattle.jr_model.specs.declared.event.Role.TheVariants.{Outside}
-use Rattle.jr_rule.specs.Rule.{known, others_of, Sat, acting}
+use Rattle.std.proofs.Common.{rules, [], ap}
+use Rattle.jr_rule.specs.Rule.{known, Sat}
 use Rattle.jr_rule.proofs.Seats.{deals}
 use Rattle.jr_rule.proofs.row.Row.deal.Goals as goal
 

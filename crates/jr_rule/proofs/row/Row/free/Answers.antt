@@ -1,4 +1,4 @@
-use Rattle.std.proofs.Common.{◌≡◌, ◌+◌, ◌==◌, ℕ, [], ◌∷◌, refl, sym, ap, subst, ◌∙◌, arith, eqb}
+use Rattle.std.proofs.Common.{◌≡◌, ◌==◌, ℕ, refl, sym, ap, subst, ◌∙◌, eqb}
 use prog.Atomic.{either}
 use Rattle.jr_word.specs.Slot.{slot_word}
 use Rattle.jr_rule.specs.Image.{slot_at}

@@ -1,7 +1,5 @@
 use Rattle.std.proofs.Common.{rules}
 use Rattle.jr_rule.proofs.Plays.{plays}
-use Rattle.jr_rule.proofs.Stepped.{took}
-use Rattle.jr_rule.proofs.Found.{present_now}
 use Rattle.jr_rule.proofs.row.Row.load.Goals as goal
 
 pub load-requires : goal.load-requires

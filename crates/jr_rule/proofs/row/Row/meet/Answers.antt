@@ -1,10 +1,9 @@
-use Rattle.std.proofs.Common.{rules, refl, sym, ap, ◌∙◌, [], ◌∷◌}
-use Rattle.jr_rule.specs.Passes.{known_of}
-use Rattle.jr_rule.specs.Rule.{Sat, acting, others_of}
+use Rattle.std.proofs.Common.{rules, refl, ap}
+use Rattle.jr_rule.specs.Rule.{Sat, others_of}
 use Rattle.jr_rule.proofs.GateOwed.{meets}
-use Rattle.jr_rule.proofs.Meeting.{seated_both, told_alone, has_met, second_is}
+use Rattle.jr_rule.proofs.Meeting.{seated_both, told_alone}
 use Rattle.jr_rule.proofs.Seats.{gathers, parts}
-use Rattle.jr_rule.proofs.Stepped.{held_next, took, still_at}
+use Rattle.jr_rule.proofs.Stepped.{held_next}
 use Rattle.jr_rule.proofs.row.Row.meet.Goals as goal
 
 pub join_seat-requires : goal.join_seat-requires

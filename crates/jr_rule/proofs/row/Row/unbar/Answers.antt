@@ -1,4 +1,4 @@
-use Rattle.std.proofs.Common.{refl, sym, subst, ◌∙◌}
+use Rattle.std.proofs.Common.{refl, subst, ◌∙◌}
 use mathlib.Core.Logic.{∥∥₁_map}
 use Rattle.jr_rule.specs.Knowing.{IsClosedNow}
 use Rattle.jr_rule.proofs.GateOwed.{reopens}
