@@ -12,7 +12,7 @@ use Rattle.jr_rule.specs.Passes.{known_of, Knows}
 use Rattle.jr_rule.specs.Slots.{CanStand}
 use Rattle.jr_rule.proofs.InRoom.{in_room}
 use Rattle.jr_rule.proofs.Looked.{looked_at}
-use Rattle.jr_rule.proofs.PlainSlots.{can_prop}
+use Rattle.jr_rule.proofs.SlotWords.{can_prop}
 
 module _ (p : Pass) where
   -- a fact that may be known is one of what the pass knows

@@ -1,25 +1,25 @@
 -- What the steps of the gate owe, wherever they find the row.
-use Rattle.std.proofs.Common.{◌≡◌, ◌≢◌, ◌⊎◌, ⊎_elim, ◌+◌, ◌-◌, ◌%◌, ◌^◌, ℕ, not, Option, Some, IsSome, List, [], ◌∷◌, get_or, slice_set, eqb, eq-eqb, ne_eqb, refl, sym, ap, subst, ◌∙◌, arith}
+use Rattle.std.proofs.Common.{◌≡◌, ◌≢◌, ◌⊎◌, ◌+◌, ◌-◌, ◌%◌, ◌^◌, ℕ, not, Option, Some, IsSome, List, [], ◌∷◌, get_or, slice_set, eqb, eq-eqb, ne_eqb, refl, sym, ap, subst, ◌∙◌, arith}
 use lib.Seq.{set-get_or}
 use mathlib.Core.Logic.{dite}
 use native.Mathlib.Decide.{ℕ_discrete}
 use prog.Atomic.{either}
 use Rattle.jr_word.specs.declared.gate.GateParts.{GateParts}
 use Rattle.jr_word.specs.Gate.{gate_word, IsGate}
-use Rattle.jr_model.specs.declared.event.Role.{Role}
 use Rattle.jr_model.specs.declared.event.Role.TheVariants.{Outside, Within, Knocking, Collecting}
 use Rattle.jr_model.specs.declared.event.Act.{Act}
 use Rattle.jr_model.specs.declared.event.Act.TheVariants.{Shut, ShutBusy, Reopen, Meet}
-use Rattle.jr_model.specs.History.{History, state, role_of, role_after}
+use Rattle.jr_model.specs.History.{History, state, role_of}
 use Rattle.jr_rule.specs.declared.known.Known.{Known}
 use Rattle.jr_rule.specs.declared.naming.GateNaming.{GateNaming}
 use Rattle.jr_rule.specs.Acts.{entered_as, leaving, all_counted, gate_named, GateNameFits}
 use Rattle.jr_rule.specs.Knowing.{view, IsClosedNow}
 use Rattle.jr_rule.specs.Rule.{known_at, Makes, Owes}
 use Rattle.jr_rule.proofs.Found.{role_at, closed_now}
-use Rattle.jr_rule.proofs.GateTurns.{gate_fits, gate_most, gate_named_state, shows_gate, goes_in, goes_out, counted, shut_counted, gate_seen, bars, bars_lost, unbars}
+use Rattle.jr_rule.proofs.GateTurns.{gate_fits, gate_most, shows_gate, goes_in, goes_out, counted, shut_counted, gate_seen, bars, bars_lost, unbars}
 use Rattle.jr_rule.proofs.Told.{Entered, Left, Barred, Reopened, SawGate, Met}
 use Rattle.jr_rule.proofs.Turns.{Turn, turn_one}
+use Rattle.jr_rule.proofs.Effects.{gate_named_state}
 
 -- a turn is what a step makes
 pub makes : (k : Known) (log : History) (words : List ℕ) (told : List Act → Known → Type 0) (acts : List Act) → Turn k.config k.last log k.thread acts words → told acts (known_at k log acts) → Makes k log words told
@@ -39,13 +39,6 @@ won old new n e = ap (λ b. either b new n) (eq-eqb n old e)
 
 pub lost : (old new n : ℕ) → n ≢ old → either (eqb n old) new n ≡ n
 lost old new n ne = ap (λ b. either b new n) (ne_eqb n old ne)
-
--- who goes out is outside
-pub left_role : (r : Role) → (r ≡ Within) ⊎ (r ≡ Knocking) → Outside ≡ role_after r (leaving r)
-left_role r counts = ⊎_elim
-    (λ (e : r ≡ Within). subst (λ z. Outside ≡ role_after z (leaving z)) (sym e) refl)
-    (λ (e : r ≡ Knocking). subst (λ z. Outside ≡ role_after z (leaving z)) (sym e) refl)
-    counts
 
 -- the gate's word has a reading
 pub gate_some : (n : ℕ) (r : Option GateParts) (p : GateParts) → IsGate p → n ≡ gate_word p → ((q : GateParts) → IsGate q → n ≡ gate_word q → r ≡ Some q) → IsSome r

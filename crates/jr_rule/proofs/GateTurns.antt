@@ -1,5 +1,5 @@
 -- What the steps of the gate owe.
-use Rattle.std.proofs.Common.{◌≡◌, ◌≢◌, ◌⊎◌, ⊎_elim, ◌↔◌, ◌+◌, ◌^◌, ◌<◌, ◌≤◌, ℕ, zero, suc, Bool, true, false, not, IsTrue, if◌then◌else◌, List, [], ◌∷◌, ◌++◌, get_or, slice_set, refl, sym, ap, subst, ◌∙◌, arith, nat_eq}
+use Rattle.std.proofs.Common.{◌≡◌, ◌≢◌, ◌⊎◌, ⊎_elim, ◌↔◌, ◌+◌, ◌^◌, ◌<◌, ◌≤◌, ℕ, zero, suc, Bool, true, false, not, IsTrue, if◌then◌else◌, List, [], ◌∷◌, get_or, slice_set, refl, sym, ap, subst, ◌∙◌, arith, nat_eq}
 use Rattle.std.proofs.lemmas.Bool.{cases_lt}
 use Rattle.jr_word.specs.declared.config.Config.{Config}
 use Rattle.jr_word.specs.declared.gate.GateParts.{GateParts}
@@ -9,10 +9,9 @@ use Rattle.jr_model.specs.declared.event.Role.TheVariants.{Outside, Within, Knoc
 use Rattle.jr_model.specs.declared.event.Act.TheVariants.{Enter, Knock, Leave, Withdraw, Shut, ShutBusy, Reopen, Meet}
 use Rattle.jr_model.specs.Maps.{update, sum_below, count_below}
 use Rattle.jr_model.specs.State.{State, IsClosed, SomebodyCollects, is_outside, not_outside}
-use Rattle.jr_model.specs.History.{History, by, state, IsLegal, role_after}
+use Rattle.jr_model.specs.History.{History, state, IsLegal}
 use Rattle.jr_model.proofs.Counts.{bit, count_role, count_all_false, count_single, outside_beyond, all_outside}
 use Rattle.jr_model.proofs.Gates.{IsApart, apart_state}
-use Rattle.jr_model.proofs.Histories.{state_push}
 use Rattle.jr_model.proofs.Updates.{at_number, at_number_self}
 use Rattle.jr_rule.specs.declared.known.Known.{Known}
 use Rattle.jr_rule.specs.declared.naming.GateNaming.{GateNaming}
@@ -155,18 +154,6 @@ somebody p ne = go p.count p.shut ne
     go : (n : ℕ) (b : Bool) → n + (if b then 2 ^ 16 else 0) ≢ 0 → 1 ≤ n + bit b
     go n true ne = omega arith
     go n false ne = omega arith
-
--- a load of the gate changes no role
-pub gate_named_role : (name : GateNaming) (n : ℕ) (r : Role) → r ≡ role_after r (gate_named name n)
-gate_named_role gate.Meet n r = refl
-gate_named_role gate.Busy zero r = refl
-gate_named_role gate.Busy (suc n) r = refl
-
--- and nothing else
-pub gate_named_state : (log : History) (t : ℕ) (name : GateNaming) (n : ℕ) → state (log ++ by t (gate_named name n) ∷ []) ≡ state log
-gate_named_state log t gate.Meet n = state_push log (by t (gate_named gate.Meet n))
-gate_named_state log t gate.Busy zero = state_push log (by t (gate_named gate.Busy zero))
-gate_named_state log t gate.Busy (suc n) = state_push log (by t (gate_named gate.Busy (suc n)))
 
 module _ (c : Config) (last : ℕ) (log : History) (legal : IsLegal c last log) (w : ℕ) (g : IsGateOf c (state log).role w) where
   -- the gate counts the threads that are not outside

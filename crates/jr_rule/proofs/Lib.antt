@@ -3,6 +3,7 @@ pub mod InRoom
 pub mod SlotWords
 pub mod Images
 pub mod Turns
+pub mod Effects
 pub mod GateTurns
 pub mod Looked
 pub mod Slots

@@ -1,5 +1,6 @@
 -- What the steps of local words and headers owe.
-use Rattle.std.proofs.Common.{◌≡◌, ◌≢◌, ◌<◌, ◌≤◌, ℕ, Option, Some, None, IsSome, List, [], ◌∷◌, get_or, slice_set, refl, arith}
+use Rattle.std.proofs.Common.{◌≡◌, ◌≢◌, ◌<◌, ◌≤◌, ℕ, Option, Some, None, IsSome, List, [], ◌∷◌, get_or, slice_set, refl, arith, ◌^◌}
+use Rattle.jr_word.specs.Local.{IsLocalPlace}
 use Rattle.jr_word.specs.declared.config.Config.{Config}
 use Rattle.jr_word.specs.declared.kind.Kind.{Kind}
 use Rattle.jr_word.specs.declared.kind.Kind.TheVariants.{Plain, Boolean, Byte, Char, Short, Int, Long, Objects, Text}
@@ -37,6 +38,15 @@ header_none (Some x) w h e = let some = kind_some h.parts.kind in let is = h.wor
 pub header_some : (x : Option Contents) (w : ℕ) → IsHeaderOf x w → w ≢ 0 → IsSome x
 header_some None w h ne = absurd (ne h)
 header_some (Some x) w h ne = refl
+
+-- the parts of an object's local word are those that a place can have
+pub place_fits : (o : Option ℕ) → ((x : ℕ) → o ≡ Some x → (0 < x) × (x < 2 ^ 16)) → IsLocalPlace (local_parts o)
+place_fits None h = tt
+place_fits (Some o) h = h o refl
+
+-- a header of no elements
+pub header_fits : (p : HeaderParts) → (p.length ≡ 0) × (p.place ≡ 0) → IsHeader p
+header_fits p e = let a = e.0 in let b = e.1 in record { length = omega arith; place = omega arith; length_fits = λ k. a; place_fits = λ l. b }
 
 module _ (c : Config) (last : ℕ) (log : History) (t : ℕ) (words : List ℕ) (legal : IsLegal c last log) (image : IsImage c last words (state log)) (row : t < c.threads) (within : (state log).role t ≡ Within) where
   -- a store in one's own local word

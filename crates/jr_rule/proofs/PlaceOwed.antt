@@ -1,5 +1,5 @@
 -- What the steps of local words and headers owe, wherever they find the row.
-use Rattle.std.proofs.Common.{◌≡◌, ◌<◌, ◌≤◌, ◌==◌, ℕ, Bool, true, false, Option, Some, None, IsSome, List, [], ◌∷◌, get_or, slice_set, eqb, eq-eqb, ne_eqb, refl, sym, ap, subst, ◌∙◌}
+use Rattle.std.proofs.Common.{◌≡◌, ◌<◌, ◌≤◌, ◌==◌, ℕ, true, false, Option, Some, None, IsSome, List, [], ◌∷◌, get_or, slice_set, eqb, eq-eqb, ne_eqb, refl, sym, ap, subst, ◌∙◌}
 use Rattle.std.proofs.lemmas.List.{append-nil}
 use Rattle.std.proofs.Math.Logic.{∥∥₁_elim}
 use Rattle.std.proofs.Props.{props}
@@ -10,23 +10,21 @@ use Rattle.jr_word.specs.declared.header.HeaderParts.{HeaderParts}
 use Rattle.jr_word.specs.declared.kind.Kind.{Kind}
 use Rattle.jr_word.specs.Header.{header_word}
 use Rattle.jr_word.specs.Local.{local_word}
-use Rattle.jr_model.specs.declared.event.Role.{Role}
 use Rattle.jr_model.specs.declared.event.Role.TheVariants.{Within}
 use Rattle.jr_model.specs.declared.event.Act.{Act}
 use Rattle.jr_model.specs.declared.event.Act.TheVariants.{New}
 use Rattle.jr_model.specs.State.{Contents, State, IsPresent}
-use Rattle.jr_model.specs.History.{History, by, state, role_of, role_from}
+use Rattle.jr_model.specs.History.{History, by, state, role_of}
 use Rattle.jr_model.proofs.Histories.{state_push}
 use Rattle.jr_model.proofs.Updates.{at_number_self}
 use Rattle.jr_rule.specs.declared.known.Known.{Known}
 use Rattle.jr_rule.specs.Acts.{putting, publishing}
 use Rattle.jr_rule.specs.Image.{local_at, header_at, local_parts}
-use Rattle.jr_rule.specs.Knowing.{view, fresh_from, HasOptional}
+use Rattle.jr_rule.specs.Knowing.{view, HasOptional}
 use Rattle.jr_rule.specs.Rule.{IsFound, Owes}
 use Rattle.jr_rule.proofs.Found.{now, role_at, present_now}
 use Rattle.jr_rule.proofs.GateOwed.{makes, written, unwritten, won, lost}
-use Rattle.jr_rule.proofs.LocalTurns.{puts, publishes, header_some}
-use Rattle.jr_rule.proofs.PlainPlaces.{header_fits}
+use Rattle.jr_rule.proofs.LocalTurns.{puts, publishes, header_some, header_fits}
 use Rattle.jr_rule.proofs.Told.{Put, Published}
 use Rattle.jr_rule.proofs.Turns.{turn_none}
 
@@ -41,14 +39,6 @@ optional_now k log words f within (Some o) h = present_now k log words f o withi
 
 pub publish_done : (o : ℕ) (kind : Kind) (k : Known) (n : ℕ) (acts : List Act) (k' : Known) → Published o kind k n acts k' → acts ≡ publishing o kind (n == 0)
 publish_done o kind k n acts k' told = dite (ℕ_discrete n 0) (λ e. told.0 e ∙ ap (publishing o kind) (sym (eq-eqb n 0 e))) (λ ne. told.1 ne ∙ ap (publishing o kind) (sym (ne_eqb n 0 ne)))
-
-pub publishing_role : (o : ℕ) (kind : Kind) (b : Bool) (r : Role) → r ≡ role_from r (publishing o kind b)
-publishing_role o kind true r = refl
-publishing_role o kind false r = refl
-
-pub publishing_fresh : (o : ℕ) (kind : Kind) (b : Bool) (f : Bool) → f ≡ fresh_from f (publishing o kind b)
-publishing_fresh o kind true f = refl
-publishing_fresh o kind false f = refl
 
 module _ (k : Known) (within : role_of (view k) ≡ Within) where
   pub puts_local : (p : ℕ) (o : Option ℕ) → p < k.config.locals → HasOptional o k → Owes k (local_at k.config k.thread p) (λ n. local_word (local_parts o)) (λ n. Put p o k (local_word (local_parts o)))

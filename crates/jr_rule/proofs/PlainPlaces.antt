@@ -1,44 +1,27 @@
 -- The steps of local words and headers over plain words, each at whatever the words show.
-use Rattle.std.proofs.Common.{◌≡◌, ◌≢◌, ◌+◌, ◌*◌, ◌^◌, ◌<◌, ◌≤◌, ℕ, Bool, true, false, Option, Some, None, IsSome, List, [], ◌∷◌, get_or, slice_set, refl, sym, ap, subst, ◌∙◌, arith}
+use Rattle.std.proofs.Common.{◌≡◌, ◌≢◌, ◌+◌, ◌*◌, ◌^◌, ◌<◌, ◌≤◌, ℕ, Bool, true, false, Option, Some, IsSome, List, [], ◌∷◌, get_or, slice_set, refl, sym, ap, subst, ◌∙◌, arith}
 use Rattle.std.proofs.lemmas.List.{append-nil}
 use Rattle.jr_word.specs.declared.config.Config.{Config}
 use Rattle.jr_word.specs.declared.header.HeaderParts.{HeaderParts}
-use Rattle.jr_word.specs.Header.{header_word, IsHeader}
-use Rattle.jr_word.specs.Local.{local_word, IsLocalPlace}
+use Rattle.jr_word.specs.Header.{header_word}
+use Rattle.jr_word.specs.Local.{local_word}
 use Rattle.jr_model.specs.declared.event.Role.{Role}
 use Rattle.jr_model.specs.declared.event.Role.TheVariants.{Within}
 use Rattle.jr_model.specs.declared.event.Act.TheVariants.{New}
 use Rattle.jr_model.specs.State.{Contents, State, IsPresent}
-use Rattle.jr_model.specs.History.{by, state, role_after}
+use Rattle.jr_model.specs.History.{by, state}
 use Rattle.jr_model.proofs.Histories.{state_push}
 use Rattle.jr_model.proofs.Updates.{at_number_self}
 use Rattle.jr_rule.specs.declared.known.Known.{Known}
 use Rattle.jr_rule.specs.Acts.{putting, publishing}
-use Rattle.jr_rule.specs.Knowing.{Standing, fresh_after, MayKnow, anything, nothing, HasObject, HasOptional}
+use Rattle.jr_rule.specs.Knowing.{Standing, MayKnow, anything, nothing, HasObject, HasOptional}
 use Rattle.jr_rule.specs.Image.{local_at, header_at, local_parts}
 use Rattle.jr_rule.specs.Plain.{standing, Shows}
 use Rattle.jr_rule.proofs.InRoom.{in_room}
-use Rattle.jr_rule.proofs.LocalTurns.{puts, publishes, header_some}
+use Rattle.jr_rule.proofs.LocalTurns.{puts, publishes, header_some, header_fits}
 use Rattle.jr_rule.proofs.Turns.{Turn, turn_none}
 use Rattle.jr_rule.proofs.PlainTook.{stands_same, Turned, IsFew, shown_most}
-
--- the parts of an object's local word are those that a place can have
-pub place_fits : (o : Option ℕ) → ((x : ℕ) → o ≡ Some x → (0 < x) × (x < 2 ^ 16)) → IsLocalPlace (local_parts o)
-place_fits None h = tt
-place_fits (Some o) h = h o refl
-
-pub putting_role : (p : ℕ) (o : Option ℕ) (r : Role) → r ≡ role_after r (putting p o)
-putting_role p None r = refl
-putting_role p (Some o) r = refl
-
--- a store to a local word leaves the pass not fresh
-pub putting_spends : (p : ℕ) (o : Option ℕ) (f : Bool) → false ≡ fresh_after f (putting p o)
-putting_spends p None f = refl
-putting_spends p (Some o) f = refl
-
--- a header of no elements
-pub header_fits : (p : HeaderParts) → (p.length ≡ 0) × (p.place ≡ 0) → IsHeader p
-header_fits p e = let a = e.0 in let b = e.1 in record { length = omega arith; place = omega arith; length_fits = λ k. a; place_fits = λ l. b }
+use Rattle.jr_rule.proofs.Effects.{putting_role, putting_spends}
 
 module _ (config : Config) (last : ℕ) (few : IsFew config last) (role : Role) (fresh : Bool) (words : List ℕ) where
   abbrev old : Standing

@@ -1,83 +1,36 @@
 -- The steps of slots over plain words, each at whatever the words show.
-use Rattle.std.proofs.Common.{◌≡◌, ◌≢◌, ◌^◌, ◌<◌, ℕ, Bool, true, false, Option, Some, None, IsSome, Ok, Err, List, [], ◌∷◌, get_or, slice_set, refl, sym, ap, subst, ◌∙◌, arith}
+use Rattle.std.proofs.Common.{◌≡◌, ◌≢◌, ◌^◌, ◌<◌, ℕ, Bool, true, false, Option, Some, IsSome, Ok, Err, List, [], ◌∷◌, get_or, slice_set, refl, sym, ap, subst, ◌∙◌, arith}
 use Rattle.std.proofs.Math.Logic.{∥∥₁_elim}
 use Rattle.std.proofs.Props.{props}
 use Rattle.jr_word.specs.declared.config.Config.{Config}
 use Rattle.jr_word.specs.declared.handle.RefKind.{RefKind}
-use Rattle.jr_word.specs.declared.handle.RefKind.TheVariants.{Local, Global, Weak}
+use Rattle.jr_word.specs.declared.handle.RefKind.TheVariants.{Local}
 use Rattle.jr_word.specs.declared.slot.SlotParts.{SlotParts}
 use Rattle.jr_word.specs.declared.slot.SlotParts.TheVariants as slot
-use Rattle.jr_word.specs.Slot.{slot_word, NamesObject, IsSlot}
+use Rattle.jr_word.specs.Slot.{slot_word, IsSlot}
 use Rattle.jr_model.specs.declared.event.Role.{Role}
 use Rattle.jr_model.specs.declared.event.Role.TheVariants.{Within}
 use Rattle.jr_model.specs.declared.event.Act.TheVariants.{Probe, Delete}
-use Rattle.jr_model.specs.State.{Handle, State}
-use Rattle.jr_model.specs.History.{by, state, role_after}
-use Rattle.jr_model.proofs.Histories.{state_push}
+use Rattle.jr_model.specs.State.{Handle}
+use Rattle.jr_model.specs.History.{by, state}
 use Rattle.jr_model.proofs.Moments.{prefix_self, sometime_wider}
 use Rattle.jr_rule.specs.declared.known.Known.{Known}
 use Rattle.jr_rule.specs.declared.naming.SlotNaming.{SlotNaming}
 use Rattle.jr_rule.specs.declared.naming.SlotNaming.TheVariants as naming
 use Rattle.jr_rule.specs.Acts.{found_object, slot_named, SlotNameFits, is_occupied, claiming, freeing}
-use Rattle.jr_rule.specs.Knowing.{Standing, fresh_after, MayKnow, anything, nothing, state_of, HasObject, HasLooked, IsFreeSlot, ShowsSlot, LostClaim}
-use Rattle.jr_rule.specs.Image.{slot_at, AreGivenBelow, SaysOfSlot, IsSlotOf}
+use Rattle.jr_rule.specs.Knowing.{Standing, MayKnow, anything, nothing, HasObject, HasLooked, IsFreeSlot, ShowsSlot, LostClaim}
+use Rattle.jr_rule.specs.Image.{slot_at}
 use Rattle.jr_rule.specs.Plain.{standing, Shows}
 use Rattle.jr_rule.specs.Slots.{CanStand, IsReference, freed}
 use Rattle.jr_rule.proofs.InRoom.{in_room}
-use Rattle.jr_rule.proofs.SlotWords.{one_reading}
-use Rattle.jr_rule.proofs.Slots.{slot_fits, read_parts}
+use Rattle.jr_rule.proofs.SlotWords.{one_reading, reference_fits, can_prop}
+use Rattle.jr_rule.proofs.Slots.{slot_fits, read_parts, shows_slot}
 use Rattle.jr_rule.proofs.SlotTurns.{sees, claims, frees, frees_late}
 use Rattle.jr_rule.proofs.LostClaims.{claim_lost}
 use Rattle.jr_rule.proofs.Looked.{IsLooked, looked_at}
 use Rattle.jr_rule.proofs.Turns.{Turn}
 use Rattle.jr_rule.proofs.PlainTook.{stands_same, known_then, Turned, IsFew, shown_most}
-
--- the name of a load leaves the role
-pub named_role : (i : ℕ) (name : SlotNaming) (p : SlotParts) (r : Role) → r ≡ role_after r (slot_named i name p)
-named_role i (naming.Look h) p r = refl
-named_role i naming.Probe p r = refl
-named_role i naming.Meet p r = refl
-
--- and the state
-pub named_state : (k : Known) (i : ℕ) (name : SlotNaming) (p : SlotParts) → state_of (known_then k (slot_named i name p ∷ [])) ≡ state_of k
-named_state k i (naming.Look h) p = state_push k.seen (by k.thread (slot_named i (naming.Look h) p))
-named_state k i naming.Probe p = state_push k.seen (by k.thread (slot_named i naming.Probe p))
-named_state k i naming.Meet p = state_push k.seen (by k.thread (slot_named i naming.Meet p))
-
--- the name of a load leaves the pass as fresh as it was
-pub named_fresh : (i : ℕ) (name : SlotNaming) (p : SlotParts) (f : Bool) → f ≡ fresh_after f (slot_named i name p)
-named_fresh i (naming.Look h) p f = refl
-named_fresh i naming.Probe p f = refl
-named_fresh i naming.Meet p f = refl
-
--- what a slot's word shows
-pub shows_slot : (i w : ℕ) (s : State) (k : Known) (x : IsSlotOf k.last s.refs s.given i w) (p : SlotParts) → x.parts ≡ p → s ≡ state_of k → ShowsSlot i p k
-shows_slot i w s k x p is same = record {
-  next = x.next;
-  serials = subst (λ (z : State). AreGivenBelow z.given i x.next) same x.serials;
-  says = subst (λ (z : State). SaysOfSlot k.last z.refs i x.next p) same (subst (SaysOfSlot k.last s.refs i x.next) is x.says);
-}
-
--- the parts of a reference are those that a slot can have
-pub names_object : (kind : RefKind) (n : ℕ) (o : Option ℕ) (p : SlotParts) → IsReference kind n o p → ((x : ℕ) → o ≡ Some x → 0 < x) → NamesObject p
-names_object kind n o (slot.Free m) is some = absurd is
-names_object kind n o (slot.Retired m) is some = absurd is
-names_object kind n o (slot.Global m r) is some = some r is.2
-names_object kind n o (slot.Weak m None) is some = tt
-names_object kind n o (slot.Weak m (Some r)) is some = some r is.2
-
-pub reference_fits : (kind : RefKind) (n : ℕ) (o : Option ℕ) (p : SlotParts) → IsReference kind n o p → n < 2 ^ 16 → ((x : ℕ) → o ≡ Some x → (0 < x) × (x < 2 ^ 16)) → IsSlot p
-reference_fits kind n o (slot.Free m) is l some = absurd is
-reference_fits kind n o (slot.Retired m) is l some = absurd is
-reference_fits kind n o (slot.Global m r) is l some = let x = some r is.2 in let e = is.1 in record { serial = omega arith; object = x.1; names = x.0 }
-reference_fits kind n o (slot.Weak m None) is l some = let e = is.1 in record { serial = omega arith; object = omega arith; names = tt }
-reference_fits kind n o (slot.Weak m (Some r)) is l some = let x = some r is.2 in let e = is.1 in record { serial = omega arith; object = x.1; names = x.0 }
-
-pub can_prop : (kind : RefKind) (o : Option ℕ) → IsProp (CanStand kind o)
-can_prop Local o = hlevel props
-can_prop Global None = hlevel props
-can_prop Global (Some o) = hlevel props
-can_prop Weak o = hlevel props
+use Rattle.jr_rule.proofs.Effects.{slot_named_role, slot_named_fresh, slot_named_state}
 
 module _ (config : Config) (last : ℕ) (few : IsFew config last) (role : Role) (fresh : Bool) (words : List ℕ) where
   abbrev old : Standing
@@ -106,13 +59,13 @@ module _ (config : Config) (last : ℕ) (few : IsFew config last) (role : Role) 
   pub saw : (i : ℕ) (name : SlotNaming) (p : SlotParts) → i < config.slots → SlotNameFits i name → IsSlot p → get_or words (slot_at i) 0 ≡ slot_word p → role ≡ Within
       → Turned old words old words (slot_named i name p ∷ []) anything (λ _ k. ShowsSlot i p k)
   saw i name p l fits good is within = record {
-    stands_is = stands_same config last (named_role i name p role) (named_fresh i name p fresh);
+    stands_is = stands_same config last (slot_named_role i name p role) (slot_named_fresh i name p fresh);
     turn = λ k s m.
         let row' = in_row i l k s in
         let x = s.image.slot i row' in
         let read = read_parts k.config k.last k.seen s.pass.legal (few_serials k s) (few_objects k s) i (get_or words (slot_at i) 0) x p good is in (
           sees k.config k.last k.seen k.thread words s.pass.legal s.image (row k s) (s.pass.role ∙ within) i name p row' fits read,
-          shows_slot i (get_or words (slot_at i) 0) (state k.seen) (known_then k (slot_named i name p ∷ [])) x p read (sym (named_state k i name p)),
+          shows_slot i (get_or words (slot_at i) 0) (state k.seen) (known_then k (slot_named i name p ∷ [])) x p read (sym (slot_named_state k.seen k.thread i name p)),
         );
   }
 

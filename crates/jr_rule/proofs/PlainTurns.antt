@@ -1,5 +1,5 @@
 -- The steps over plain words, each at whatever the words show.
-use Rattle.std.proofs.Common.{◌≡◌, ◌≢◌, ◌⊎◌, ⊎_elim, ◌+◌, ◌^◌, ◌<◌, ◌≤◌, ℕ, zero, suc, if◌then◌else◌, Bool, true, false, not, Option, Some, IsSome, List, [], ◌∷◌, get_or, slice_set, refl, sym, ap, subst, ◌∙◌, arith}
+use Rattle.std.proofs.Common.{◌≡◌, ◌≢◌, ◌⊎◌, ◌+◌, ◌^◌, ◌<◌, ◌≤◌, ℕ, if◌then◌else◌, Bool, true, false, not, Option, Some, IsSome, List, [], ◌∷◌, get_or, slice_set, refl, sym, ap, subst, ◌∙◌, arith}
 use Rattle.std.proofs.Math.Logic.{∥∥₁_elim}
 use Rattle.std.proofs.Props.{props}
 use Rattle.jr_word.specs.declared.config.Config.{Config}
@@ -11,29 +11,13 @@ use Rattle.jr_model.specs.declared.event.Act.TheVariants.{Shut, ShutBusy, Reopen
 use Rattle.jr_model.specs.History.{state, role_after}
 use Rattle.jr_rule.specs.declared.known.Known.{Known}
 use Rattle.jr_rule.specs.declared.naming.GateNaming.{GateNaming}
-use Rattle.jr_rule.specs.declared.naming.GateNaming.TheVariants as gate
 use Rattle.jr_rule.specs.Acts.{entered_as, leaving, all_counted, gate_named, GateNameFits}
-use Rattle.jr_rule.specs.Knowing.{Standing, fresh_after, MayKnow, anything, nothing, IsClosedNow, ShowsGate}
+use Rattle.jr_rule.specs.Knowing.{Standing, MayKnow, anything, nothing, IsClosedNow, ShowsGate}
 use Rattle.jr_rule.specs.Plain.{standing, Shows}
-use Rattle.jr_rule.proofs.GateTurns.{gate_fits, gate_most, goes_in, goes_out, counted, shut_counted, gate_read, gate_seen, gate_named_role, gate_named_state, shows_gate, nobody, bars, bars_lost, unbars}
+use Rattle.jr_rule.proofs.GateTurns.{gate_fits, gate_most, goes_in, goes_out, counted, shut_counted, gate_read, gate_seen, shows_gate, nobody, bars, bars_lost, unbars}
 use Rattle.jr_rule.proofs.Turns.{Turn}
 use Rattle.jr_rule.proofs.PlainTook.{known_then, stands_same, Turned, IsFew, shown_most}
-
--- no step of the gate leaves the pass less fresh
-pub entered_fresh : (b f : Bool) → f ≡ fresh_after f (entered_as b)
-entered_fresh true f = refl
-entered_fresh false f = refl
-
-pub left_fresh : (r : Role) (f : Bool) → f ≡ fresh_after f (leaving r)
-left_fresh Outside f = refl
-left_fresh Within f = refl
-left_fresh Knocking f = refl
-left_fresh Collecting f = refl
-
-pub named_fresh : (name : GateNaming) (n : ℕ) (f : Bool) → f ≡ fresh_after f (gate_named name n)
-named_fresh gate.Meet n f = refl
-named_fresh gate.Busy zero f = refl
-named_fresh gate.Busy (suc n) f = refl
+use Rattle.jr_rule.proofs.Effects.{entered_fresh, left_role, left_fresh, gate_named_role, gate_named_fresh, gate_named_state}
 
 -- a gate that counts nobody has the word 0
 empty_word : (p : GateParts) → all_counted p ≡ 0 → gate_word p ≡ 0
@@ -78,12 +62,6 @@ module _ (config : Config) (last : ℕ) (few : IsFew config last) (role : Role) 
         (goes_in k.config k.last k.seen k.thread words s.pass.legal s.image (row k s) found shut is same (s.pass.role ∙ out), tt);
   }
 
-  pub left_role : (r : Role) → (r ≡ Within) ⊎ (r ≡ Knocking) → Outside ≡ role_after r (leaving r)
-  left_role r counts = ⊎_elim
-      (λ (e : r ≡ Within). subst (λ z. Outside ≡ role_after z (leaving z)) (sym e) refl)
-      (λ (e : r ≡ Knocking). subst (λ z. Outside ≡ role_after z (leaving z)) (sym e) refl)
-      counts
-
   pub left : (n : ℕ) → n + 1 ≡ get_or words 0 0 → (role ≡ Within) ⊎ (role ≡ Knocking)
       → Turned old words (standing config last Outside fresh) (slice_set words 0 n) (leaving role ∷ []) anything nothing
   left n is counts = record {
@@ -123,7 +101,7 @@ module _ (config : Config) (last : ℕ) (few : IsFew config last) (role : Role) 
   pub gate_saw : (name : GateNaming) (p : GateParts) → IsGate p → get_or words 0 0 ≡ gate_word p → GateNameFits role name
       → Turned old words old words (gate_named name (all_counted p) ∷ []) anything (λ _ k. ShowsGate p k)
   gate_saw name p fits is named = record {
-    stands_is = stands_same config last (gate_named_role name (all_counted p) role) (named_fresh name (all_counted p) fresh);
+    stands_is = stands_same config last (gate_named_role name (all_counted p) role) (gate_named_fresh name (all_counted p) fresh);
     turn = λ k s m.
         let read = gate_read k.config k.last k.seen k.thread words s.pass.legal s.image (row k s) (few_threads k s) p fits is in
         let t = gate_seen k.config k.last k.seen k.thread words s.pass.legal s.image (row k s) name (subst (λ r. GateNameFits r name) (sym s.pass.role) named) in (

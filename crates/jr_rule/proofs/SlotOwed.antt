@@ -1,5 +1,5 @@
 -- What the steps of slots owe, wherever they find the row.
-use Rattle.std.proofs.Common.{◌≡◌, ◌≢◌, ◌⊎◌, ⊎_elim, inl, inr, ◌<◌, ◌≤◌, ◌^◌, ℕ, Bool, true, false, ◌==◌, Result, Option, Some, IsSome, Ok, Err, List, [], ◌∷◌, get_or, slice_set, eqb, eq-eqb, ne_eqb, refl, sym, ap, subst, ◌∙◌, arith}
+use Rattle.std.proofs.Common.{◌≡◌, ◌≢◌, ◌⊎◌, ⊎_elim, inl, inr, ◌<◌, ◌≤◌, ◌^◌, ℕ, true, false, ◌==◌, Result, Option, Some, IsSome, Ok, Err, List, [], ◌∷◌, get_or, slice_set, eqb, eq-eqb, ne_eqb, refl, sym, ap, subst, ◌∙◌, arith}
 use Rattle.std.proofs.Math.Logic.{∥∥₁_elim}
 use Rattle.std.proofs.Props.{props}
 use mathlib.Core.Logic.{dite, ∥∥₁_map}
@@ -11,31 +11,31 @@ use Rattle.jr_word.specs.declared.handle.RefKind.TheVariants.{Local}
 use Rattle.jr_word.specs.declared.slot.SlotParts.{SlotParts}
 use Rattle.jr_word.specs.declared.slot.SlotParts.TheVariants as slot
 use Rattle.jr_word.specs.Slot.{slot_word, IsSlot}
-use Rattle.jr_model.specs.declared.event.Role.{Role}
 use Rattle.jr_model.specs.declared.event.Role.TheVariants.{Within}
 use Rattle.jr_model.specs.declared.event.Found.{Found}
 use Rattle.jr_model.specs.declared.event.Found.TheVariants.{Object, Cleared, Stale}
 use Rattle.jr_model.specs.declared.event.Act.{Act}
 use Rattle.jr_model.specs.declared.event.Act.TheVariants.{Probe}
 use Rattle.jr_model.specs.State.{Handle, State}
-use Rattle.jr_model.specs.History.{by, state, role_of, role_after}
+use Rattle.jr_model.specs.History.{by, state, role_of}
 use Rattle.jr_model.proofs.Moments.{prefix_self, sometime_wider}
 use Rattle.jr_rule.specs.declared.known.Known.{Known}
 use Rattle.jr_rule.specs.declared.naming.SlotNaming.{SlotNaming}
 use Rattle.jr_rule.specs.declared.naming.SlotNaming.TheVariants as naming
 use Rattle.jr_rule.specs.Acts.{found_object, slot_named, SlotNameFits, is_occupied, claiming, freeing}
 use Rattle.jr_rule.specs.Image.{slot_at}
-use Rattle.jr_rule.specs.Knowing.{view, fresh_after, HasObject, HasLooked}
+use Rattle.jr_rule.specs.Knowing.{view, HasObject, HasLooked}
 use Rattle.jr_rule.specs.Rule.{IsSized, known_at, Owes}
 use Rattle.jr_rule.specs.Slots.{IsReference, freed}
 use Rattle.jr_rule.proofs.Found.{now, role_at, present_now, looked_later}
 use Rattle.jr_rule.proofs.GateOwed.{makes, written, unwritten, won, lost}
 use Rattle.jr_rule.proofs.LostClaims.{claim_lost}
 use Rattle.jr_rule.proofs.Looked.{IsLooked, looked_at}
-use Rattle.jr_rule.proofs.PlainSlots.{named_state, shows_slot, reference_fits, can_prop}
-use Rattle.jr_rule.proofs.Slots.{slot_fits}
+use Rattle.jr_rule.proofs.Slots.{slot_fits, shows_slot}
 use Rattle.jr_rule.proofs.SlotTurns.{sees, claims, frees, frees_late}
 use Rattle.jr_rule.proofs.Told.{SawSlot, Claimed, Freed}
+use Rattle.jr_rule.proofs.Effects.{slot_named_state}
+use Rattle.jr_rule.proofs.SlotWords.{reference_fits, can_prop}
 
 -- a slot's word has a reading
 pub slot_some : (n : ℕ) (r : Option SlotParts) (p : SlotParts) → IsSlot p → n ≡ slot_word p → ((q : SlotParts) → IsSlot q → n ≡ slot_word q → r ≡ Some q) → IsSome r
@@ -63,23 +63,6 @@ looked_is c last h o s may = record {
   stands = still_or_gone (s.refs h) (found_object o) (∥∥₁_map may (λ q. q.stands));
 }
 
--- an exchange at a slot leaves the role, and the pass as fresh as it was
-pub claiming_role : (i serial : ℕ) (kind : RefKind) (o : ℕ) (x : Result (Unit {0}) SlotParts) (r : Role) → r ≡ role_after r (claiming i serial kind o x)
-claiming_role i serial kind o (Ok u) r = refl
-claiming_role i serial kind o (Err p) r = refl
-
-pub claiming_fresh : (i serial : ℕ) (kind : RefKind) (o : ℕ) (x : Result (Unit {0}) SlotParts) (f : Bool) → f ≡ fresh_after f (claiming i serial kind o x)
-claiming_fresh i serial kind o (Ok u) f = refl
-claiming_fresh i serial kind o (Err p) f = refl
-
-pub freeing_role : (h : Handle) (b : Bool) (r : Role) → r ≡ role_after r (freeing h b)
-freeing_role h true r = refl
-freeing_role h false r = refl
-
-pub freeing_fresh : (h : Handle) (b : Bool) (f : Bool) → f ≡ fresh_after f (freeing h b)
-freeing_fresh h true f = refl
-freeing_fresh h false f = refl
-
 -- what was done, by the number found
 pub claim_done : (i serial : ℕ) (kind : RefKind) (o : ℕ) (k : Known) (n : ℕ) (acts : List Act) (k' : Known) → Claimed i serial kind o k n acts k' → (x : Result (Unit {0}) SlotParts) × (acts ≡ claiming i serial kind o x ∷ [])
 claim_done i serial kind o k n acts k' told = dite (ℕ_discrete n (slot_word (slot.Free serial))) (λ e. (Ok tt, told.0 e)) (λ ne. let s = told.1 ne in (Err s.0, s.3))
@@ -99,7 +82,7 @@ module _ (k : Known) (within : role_of (view k) ≡ Within) where
         slot_fits k.config k.last log f.legal (f.sized).serials (few_objects k.config k.last f.sized) i n x,
         x.word,
         refl,
-        shows_slot i n (state log) (known_at k log acts) x x.parts refl (sym (named_state (now k log words f) i name x.parts)),
+        shows_slot i n (state log) (known_at k log acts) x x.parts refl (sym (slot_named_state log k.thread i name x.parts)),
       )
 
   pub claims_slot : (i serial : ℕ) (kind : RefKind) (o : ℕ) (p : SlotParts) → i < k.config.slots → serial ≤ k.last → kind ≢ Local → IsReference kind serial (Some o) p → HasObject o k
@@ -128,7 +111,7 @@ module _ (k : Known) (within : role_of (view k) ≡ Within) where
           refl,
           λ seen. (
             sometime_wider (prefix_self k.seen) (by k.thread (Probe i (is_occupied x.parts)) ∷ [], refl) (claim_lost k log f.fits.begins f.legal i serial n seen x other),
-            shows_slot i n (state log) (known_at k log acts) x x.parts refl (sym (named_state (now k log words f) i naming.Probe x.parts)),
+            shows_slot i n (state log) (known_at k log acts) x x.parts refl (sym (slot_named_state log k.thread i naming.Probe x.parts)),
           ),
         ),
       ))

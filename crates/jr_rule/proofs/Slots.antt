@@ -1,5 +1,8 @@
 -- What the word of a slot tells.
 use Rattle.std.proofs.Common.{◌≡◌, ◌≢◌, inl, inr, ⊎_elim, ◌↔◌, ◌^◌, ◌<◌, ◌≤◌, ◌==◌, ℕ, Bool, true, false, cond, IsTrue, Option, Some, None, refl, sym, ap, subst, ◌∙◌, arith}
+use Rattle.jr_rule.specs.declared.known.Known.{Known}
+use Rattle.jr_rule.specs.Image.{AreGivenBelow}
+use Rattle.jr_rule.specs.Knowing.{ShowsSlot, state_of}
 use Rattle.jr_word.specs.declared.config.Config.{Config}
 use Rattle.jr_word.specs.declared.handle.RefKind.{RefKind}
 use Rattle.jr_word.specs.declared.handle.RefKind.TheVariants.{Global, Weak}
@@ -156,3 +159,11 @@ module _ (c : Config) (last : ℕ) (log : History) (legal : IsLegal c last log) 
   -- the parts that were read are those of the image
   pub read_parts : (i w : ℕ) (x : IsSlotOf last (state log).refs (state log).given i w) (p : SlotParts) → IsSlot p → w ≡ slot_word p → x.parts ≡ p
   read_parts i w x p fits e = one_reading x.parts p (slot_fits i w x) fits (sym x.word ∙ e)
+
+-- what a slot's word shows
+pub shows_slot : (i w : ℕ) (s : State) (k : Known) (x : IsSlotOf k.last s.refs s.given i w) (p : SlotParts) → x.parts ≡ p → s ≡ state_of k → ShowsSlot i p k
+shows_slot i w s k x p is same = record {
+  next = x.next;
+  serials = subst (λ (z : State). AreGivenBelow z.given i x.next) same x.serials;
+  says = subst (λ (z : State). SaysOfSlot k.last z.refs i x.next p) same (subst (SaysOfSlot k.last s.refs i x.next) is x.says);
+}

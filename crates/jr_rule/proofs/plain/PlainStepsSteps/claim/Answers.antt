@@ -2,8 +2,9 @@ use Rattle.std.proofs.Common.{◌≡◌, Some, arith}
 use Rattle.jr_word.specs.Slot.{slot_word}
 use Rattle.jr_rule.specs.Image.{slot_at}
 use Rattle.jr_rule.proofs.PlainTook.{few_of, took, shown, writes}
-use Rattle.jr_rule.proofs.PlainSlots.{claimed, lost, object_some, names_object}
+use Rattle.jr_rule.proofs.PlainSlots.{claimed, lost, object_some}
 use Rattle.jr_rule.proofs.Unused.{unused_slot}
+use Rattle.jr_rule.proofs.SlotWords.{names_object}
 use Rattle.jr_rule.proofs.plain.PlainStepsSteps.claim.Goals as goal
 
 pub returns-then-not-is_free : goal.returns-then-not-is_free

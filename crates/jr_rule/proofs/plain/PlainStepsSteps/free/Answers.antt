@@ -3,8 +3,9 @@ use Rattle.jr_word.specs.Slot.{slot_word}
 use Rattle.jr_rule.specs.Image.{slot_at}
 use Rattle.jr_rule.specs.Slots.{freed}
 use Rattle.jr_rule.proofs.PlainTook.{few_of, took, shown, writes}
-use Rattle.jr_rule.proofs.PlainSlots.{looked_can, looked_object, names_object, deleted, deleted_late}
+use Rattle.jr_rule.proofs.PlainSlots.{looked_can, looked_object, deleted, deleted_late}
 use Rattle.jr_rule.proofs.Unused.{unused_slot}
+use Rattle.jr_rule.proofs.SlotWords.{names_object}
 use Rattle.jr_rule.proofs.plain.PlainStepsSteps.free.Goals as goal
 
 pub reference-requires : goal.reference-requires

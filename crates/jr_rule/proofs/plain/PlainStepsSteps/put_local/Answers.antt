@@ -2,7 +2,8 @@ use Rattle.std.proofs.Common.{◌+◌, ◌∙◌, ap, sym, subst, arith}
 use Rattle.jr_word.specs.Local.{local_word, IsLocalPlace}
 use Rattle.jr_rule.specs.Image.{local_parts}
 use Rattle.jr_rule.proofs.PlainTook.{few_of, took, shown, writes}
-use Rattle.jr_rule.proofs.PlainPlaces.{place_fits, optional_few, put}
+use Rattle.jr_rule.proofs.PlainPlaces.{optional_few, put}
+use Rattle.jr_rule.proofs.LocalTurns.{place_fits}
 use Rattle.jr_rule.proofs.plain.PlainStepsSteps.put_local.Goals as goal
 
 pub pack-requires : goal.pack-requires

@@ -6,10 +6,11 @@ use Rattle.jr_rule.specs.Knowing.{LostClaim}
 use Rattle.jr_rule.specs.Passes.{known_of}
 use Rattle.jr_rule.specs.Rule.{Owes}
 use Rattle.jr_rule.proofs.Allowed.{object_known, object_some, serial_fits}
-use Rattle.jr_rule.proofs.PlainSlots.{names_object}
-use Rattle.jr_rule.proofs.SlotOwed.{claims_slot, claim_done, claiming_role, claiming_fresh, slot_some, slot_is}
+use Rattle.jr_rule.proofs.SlotOwed.{claims_slot, claim_done, slot_some, slot_is}
 use Rattle.jr_rule.proofs.Told.{Claimed}
 use Rattle.jr_rule.proofs.Stepped.{held_next, took}
+use Rattle.jr_rule.proofs.Effects.{claiming_role, claiming_fresh}
+use Rattle.jr_rule.proofs.SlotWords.{names_object}
 use Rattle.jr_rule.proofs.row.Row.claim.Goals as goal
 
 pub pack-made-requires : goal.pack-made-requires

@@ -3,9 +3,10 @@ use prog.Atomic.{either}
 use Rattle.jr_rule.specs.Image.{header_at}
 use Rattle.jr_rule.specs.Passes.{known_of}
 use Rattle.jr_rule.specs.Rule.{Owes}
-use Rattle.jr_rule.proofs.PlaceOwed.{publishes_header, publish_done, publishing_role, publishing_fresh}
+use Rattle.jr_rule.proofs.PlaceOwed.{publishes_header, publish_done}
 use Rattle.jr_rule.proofs.Stepped.{held_next, took}
 use Rattle.jr_rule.proofs.Told.{Published}
+use Rattle.jr_rule.proofs.Effects.{publishing_role, publishing_fresh}
 use Rattle.jr_rule.proofs.row.Row.claim_header.Goals as goal
 
 pub exchange-found-requires-clause-owes : goal.exchange-found-requires-clause-owes

@@ -6,10 +6,11 @@ use Rattle.jr_rule.specs.Passes.{known_of}
 use Rattle.jr_rule.specs.Rule.{Owes}
 use Rattle.jr_rule.specs.Slots.{freed}
 use Rattle.jr_rule.proofs.Allowed.{of_pass, looked_can, looked_object}
-use Rattle.jr_rule.proofs.PlainSlots.{names_object}
-use Rattle.jr_rule.proofs.SlotOwed.{frees_slot, free_done, freeing_role, freeing_fresh}
+use Rattle.jr_rule.proofs.SlotOwed.{frees_slot, free_done}
 use Rattle.jr_rule.proofs.Told.{Freed}
 use Rattle.jr_rule.proofs.Stepped.{held_next, took}
+use Rattle.jr_rule.proofs.Effects.{freeing_role, freeing_fresh}
+use Rattle.jr_rule.proofs.SlotWords.{names_object}
 use Rattle.jr_rule.proofs.row.Row.free.Goals as goal
 
 pub reference-requires : goal.reference-requires

@@ -2,8 +2,8 @@ use Rattle.std.proofs.Common.{not, [], ◌∷◌, refl, sym, ap, ◌∙◌}
 use Rattle.jr_model.specs.History.{role_after}
 use Rattle.jr_rule.specs.Acts.{entered_as}
 use Rattle.jr_rule.proofs.GateOwed.{enters}
-use Rattle.jr_rule.proofs.PlainTurns.{entered_fresh}
 use Rattle.jr_rule.proofs.Stepped.{held_next, took}
+use Rattle.jr_rule.proofs.Effects.{entered_fresh}
 use Rattle.jr_rule.proofs.row.Row.go_in.Goals as goal
 
 pub add-found-requires-clause-owes : goal.add-found-requires-clause-owes

@@ -2,9 +2,9 @@ use Rattle.std.proofs.Common.{[], ◌∷◌, refl, sym, ap, ◌∙◌, subst, �
 use Rattle.jr_model.specs.declared.event.Role.{Role}
 use Rattle.jr_model.specs.declared.event.Role.TheVariants.{Within, Knocking}
 use Rattle.jr_rule.specs.Acts.{leaving}
-use Rattle.jr_rule.proofs.GateOwed.{leaves, left_role}
-use Rattle.jr_rule.proofs.PlainTurns.{left_fresh}
+use Rattle.jr_rule.proofs.GateOwed.{leaves}
 use Rattle.jr_rule.proofs.Stepped.{held_next, took}
+use Rattle.jr_rule.proofs.Effects.{left_role, left_fresh}
 use Rattle.jr_rule.proofs.row.Row.go_out.Goals as goal
 
 pub take-requires-clause-owes : goal.take-requires-clause-owes

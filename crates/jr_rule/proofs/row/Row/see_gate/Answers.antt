@@ -5,10 +5,9 @@ use Rattle.jr_model.specs.declared.event.Act.{Act}
 use Rattle.jr_rule.specs.declared.known.Known.{Known}
 use Rattle.jr_rule.specs.Knowing.{Goes, ShowsGate}
 use Rattle.jr_rule.specs.Passes.{known_of}
-use Rattle.jr_rule.proofs.GateTurns.{gate_named_role}
 use Rattle.jr_rule.proofs.GateOwed.{sees_gate, gate_some, gate_is}
-use Rattle.jr_rule.proofs.PlainTurns.{named_fresh}
 use Rattle.jr_rule.proofs.Stepped.{acting_is, held_next, took}
+use Rattle.jr_rule.proofs.Effects.{gate_named_role, gate_named_fresh}
 use Rattle.jr_rule.proofs.row.Row.see_gate.Goals as goal
 
 pub load-found-requires-clause-owes : goal.load-found-requires-clause-owes
@@ -20,7 +19,7 @@ invariant_of-pass c =
     let t = c.load-found.ensures.1 in
     let s = t.says in
     let n = all_counted s.0 in
-    record { held = held_next p.seat.me c.load-found.result _ t p.thread p.role p.fresh p.held _ _ _ s.3 (gate_named_role c.args.name n p.role) (named_fresh c.args.name n p.fresh) }
+    record { held = held_next p.seat.me c.load-found.result _ t p.thread p.role p.fresh p.held _ _ _ s.3 (gate_named_role c.args.name n p.role) (gate_named_fresh c.args.name n p.fresh) }
 
 pub unwrap-requires : goal.unwrap-requires
 unwrap-requires c =
@@ -34,7 +33,7 @@ returns-clause-step c =
     let s = t.says in
     let read = gate_is c.parts.result s.0 c.unwrap.result (c.parts.ensures.complete s.0 s.1 s.2) c.unwrap.ensures in
     let n = all_counted c.unwrap.result in
-    took p _ c.load-found.result t _ (s.3 ∙ ap (λ q. gate_named c.args.name (all_counted q) ∷ []) (sym read)) refl (gate_named_role c.args.name n p.role) (named_fresh c.args.name n p.fresh)
+    took p _ c.load-found.result t _ (s.3 ∙ ap (λ q. gate_named c.args.name (all_counted q) ∷ []) (sym read)) refl (gate_named_role c.args.name n p.role) (gate_named_fresh c.args.name n p.fresh)
     (λ m. subst (λ q. ShowsGate q t.new) (sym read) s.4)
 
 pub returns-clause-seen : goal.returns-clause-seen

@@ -2,8 +2,8 @@ use Rattle.std.proofs.Common.{[], ◌∷◌, refl, sym, ap, subst, ◌∙◌}
 use Rattle.jr_rule.specs.Acts.{slot_named}
 use Rattle.jr_rule.specs.Knowing.{ShowsSlot}
 use Rattle.jr_rule.proofs.SlotOwed.{sees_slot, slot_some, slot_is}
-use Rattle.jr_rule.proofs.PlainSlots.{named_role, named_fresh}
 use Rattle.jr_rule.proofs.Stepped.{held_next, took}
+use Rattle.jr_rule.proofs.Effects.{slot_named_role, slot_named_fresh}
 use Rattle.jr_rule.proofs.row.Row.see_slot.Goals as goal
 
 pub load-found-requires-clause-owes : goal.load-found-requires-clause-owes
@@ -14,7 +14,7 @@ invariant_of-pass c =
     let p = c.args.pass.now in
     let t = c.load-found.ensures.1 in
     let s = t.says in
-    record { held = held_next p.seat.me c.load-found.result _ t p.thread p.role p.fresh p.held _ _ _ s.3 (named_role c.args.index c.args.name s.0 p.role) (named_fresh c.args.index c.args.name s.0 p.fresh) }
+    record { held = held_next p.seat.me c.load-found.result _ t p.thread p.role p.fresh p.held _ _ _ s.3 (slot_named_role c.args.index c.args.name s.0 p.role) (slot_named_fresh c.args.index c.args.name s.0 p.fresh) }
 
 pub unwrap-requires : goal.unwrap-requires
 unwrap-requires c =
@@ -30,5 +30,5 @@ returns-clause-step c =
     let name = c.args.name in
     let q = c.unwrap.result in
     let read = slot_is c.parts.result s.0 q (c.parts.ensures.complete s.0 s.1 s.2) c.unwrap.ensures in
-    took p _ c.load-found.result t _ (s.3 ∙ ap (λ z. slot_named i name z ∷ []) (sym read)) refl (named_role i name q p.role) (named_fresh i name q p.fresh)
+    took p _ c.load-found.result t _ (s.3 ∙ ap (λ z. slot_named i name z ∷ []) (sym read)) refl (slot_named_role i name q p.role) (slot_named_fresh i name q p.fresh)
     (λ m. subst (λ z. ShowsSlot i z t.new) (sym read) s.4)

@@ -1,0 +1,106 @@
+-- What the acts of steps make of the role, of the freshness and of the state.
+use Rattle.std.proofs.Common.{◌≡◌, ◌⊎◌, ⊎_elim, ℕ, zero, suc, Bool, true, false, Option, Some, None, Result, Ok, Err, [], ◌∷◌, ◌++◌, refl, sym, subst}
+use Rattle.jr_word.specs.declared.handle.RefKind.{RefKind}
+use Rattle.jr_word.specs.declared.kind.Kind.{Kind}
+use Rattle.jr_word.specs.declared.slot.SlotParts.{SlotParts}
+use Rattle.jr_model.specs.declared.event.Role.{Role}
+use Rattle.jr_model.specs.declared.event.Role.TheVariants.{Outside, Within, Knocking, Collecting}
+use Rattle.jr_model.specs.State.{Handle}
+use Rattle.jr_model.specs.History.{History, by, state, role_after, role_from}
+use Rattle.jr_model.proofs.Histories.{state_push}
+use Rattle.jr_rule.specs.declared.naming.GateNaming.{GateNaming}
+use Rattle.jr_rule.specs.declared.naming.GateNaming.TheVariants as gate
+use Rattle.jr_rule.specs.declared.naming.SlotNaming.{SlotNaming}
+use Rattle.jr_rule.specs.declared.naming.SlotNaming.TheVariants as naming
+use Rattle.jr_rule.specs.Acts.{entered_as, leaving, gate_named, slot_named, claiming, freeing, putting, publishing}
+use Rattle.jr_rule.specs.Knowing.{fresh_after, fresh_from}
+
+-- THE GATE
+-- no step of the gate leaves the pass less fresh
+pub entered_fresh : (b f : Bool) → f ≡ fresh_after f (entered_as b)
+entered_fresh true f = refl
+entered_fresh false f = refl
+
+-- who goes out is outside
+pub left_role : (r : Role) → (r ≡ Within) ⊎ (r ≡ Knocking) → Outside ≡ role_after r (leaving r)
+left_role r counts = ⊎_elim
+    (λ (e : r ≡ Within). subst (λ z. Outside ≡ role_after z (leaving z)) (sym e) refl)
+    (λ (e : r ≡ Knocking). subst (λ z. Outside ≡ role_after z (leaving z)) (sym e) refl)
+    counts
+
+pub left_fresh : (r : Role) (f : Bool) → f ≡ fresh_after f (leaving r)
+left_fresh Outside f = refl
+left_fresh Within f = refl
+left_fresh Knocking f = refl
+left_fresh Collecting f = refl
+
+-- a load of the gate changes no role
+pub gate_named_role : (name : GateNaming) (n : ℕ) (r : Role) → r ≡ role_after r (gate_named name n)
+gate_named_role gate.Meet n r = refl
+gate_named_role gate.Busy zero r = refl
+gate_named_role gate.Busy (suc n) r = refl
+
+pub gate_named_fresh : (name : GateNaming) (n : ℕ) (f : Bool) → f ≡ fresh_after f (gate_named name n)
+gate_named_fresh gate.Meet n f = refl
+gate_named_fresh gate.Busy zero f = refl
+gate_named_fresh gate.Busy (suc n) f = refl
+
+-- and nothing else
+pub gate_named_state : (log : History) (t : ℕ) (name : GateNaming) (n : ℕ) → state (log ++ by t (gate_named name n) ∷ []) ≡ state log
+gate_named_state log t gate.Meet n = state_push log (by t (gate_named gate.Meet n))
+gate_named_state log t gate.Busy zero = state_push log (by t (gate_named gate.Busy zero))
+gate_named_state log t gate.Busy (suc n) = state_push log (by t (gate_named gate.Busy (suc n)))
+
+-- SLOTS
+-- the name of a load leaves the role
+pub slot_named_role : (i : ℕ) (name : SlotNaming) (p : SlotParts) (r : Role) → r ≡ role_after r (slot_named i name p)
+slot_named_role i (naming.Look h) p r = refl
+slot_named_role i naming.Probe p r = refl
+slot_named_role i naming.Meet p r = refl
+
+-- the name of a load leaves the pass as fresh as it was
+pub slot_named_fresh : (i : ℕ) (name : SlotNaming) (p : SlotParts) (f : Bool) → f ≡ fresh_after f (slot_named i name p)
+slot_named_fresh i (naming.Look h) p f = refl
+slot_named_fresh i naming.Probe p f = refl
+slot_named_fresh i naming.Meet p f = refl
+
+-- and the state
+pub slot_named_state : (log : History) (t i : ℕ) (name : SlotNaming) (p : SlotParts) → state (log ++ by t (slot_named i name p) ∷ []) ≡ state log
+slot_named_state log t i (naming.Look h) p = state_push log (by t (slot_named i (naming.Look h) p))
+slot_named_state log t i naming.Probe p = state_push log (by t (slot_named i naming.Probe p))
+slot_named_state log t i naming.Meet p = state_push log (by t (slot_named i naming.Meet p))
+
+-- an exchange at a slot leaves the role, and the pass as fresh as it was
+pub claiming_role : (i serial : ℕ) (kind : RefKind) (o : ℕ) (x : Result (Unit {0}) SlotParts) (r : Role) → r ≡ role_after r (claiming i serial kind o x)
+claiming_role i serial kind o (Ok u) r = refl
+claiming_role i serial kind o (Err p) r = refl
+
+pub claiming_fresh : (i serial : ℕ) (kind : RefKind) (o : ℕ) (x : Result (Unit {0}) SlotParts) (f : Bool) → f ≡ fresh_after f (claiming i serial kind o x)
+claiming_fresh i serial kind o (Ok u) f = refl
+claiming_fresh i serial kind o (Err p) f = refl
+
+pub freeing_role : (h : Handle) (b : Bool) (r : Role) → r ≡ role_after r (freeing h b)
+freeing_role h true r = refl
+freeing_role h false r = refl
+
+pub freeing_fresh : (h : Handle) (b : Bool) (f : Bool) → f ≡ fresh_after f (freeing h b)
+freeing_fresh h true f = refl
+freeing_fresh h false f = refl
+
+-- LOCAL WORDS AND HEADERS
+pub putting_role : (p : ℕ) (o : Option ℕ) (r : Role) → r ≡ role_after r (putting p o)
+putting_role p None r = refl
+putting_role p (Some o) r = refl
+
+-- a store to a local word leaves the pass not fresh
+pub putting_spends : (p : ℕ) (o : Option ℕ) (f : Bool) → false ≡ fresh_after f (putting p o)
+putting_spends p None f = refl
+putting_spends p (Some o) f = refl
+
+pub publishing_role : (o : ℕ) (kind : Kind) (b : Bool) (r : Role) → r ≡ role_from r (publishing o kind b)
+publishing_role o kind true r = refl
+publishing_role o kind false r = refl
+
+pub publishing_fresh : (o : ℕ) (kind : Kind) (b : Bool) (f : Bool) → f ≡ fresh_from f (publishing o kind b)
+publishing_fresh o kind true f = refl
+publishing_fresh o kind false f = refl
