@@ -356,3 +356,17 @@ fn limits(rt: HostRuntime) {
         assert_eq!(rt; config(below).in_limits(), i == 3, "below at {i}");
     }
 }
+
+#[test]
+fn sizes_of_rows(rt: HostRuntime) {
+    let rows = [
+        ([1, 4, 8, 9, 16], 48),
+        ([1, 1, 1, 0, 16], 20),
+        ([64, 65_536, 65_535, 1_048_576, 4_096], 2_490_369),
+    ];
+    for (sizes, words) in rows {
+        let config = config(sizes);
+        assert!(rt; config.in_limits());
+        assert_eq!(rt; config.row_words(), words);
+    }
+}
