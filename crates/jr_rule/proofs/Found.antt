@@ -18,6 +18,7 @@ use Rattle.jr_model.proofs.Gates.{apart_state}
 use Rattle.jr_model.proofs.Stays.{append_cancel, role_of_state, same_along}
 use Rattle.jr_rule.specs.declared.known.Known.{Known}
 use Rattle.jr_rule.specs.Knowing.{view, HasObject, HasLooked, IsClosedNow}
+use Rattle.jr_rule.specs.declared.known.Grasp.{Grasp}
 use Rattle.jr_rule.specs.Rule.{known, IsFound}
 use Rattle.jr_rule.proofs.Goes.{present_stays}
 
@@ -36,13 +37,13 @@ closed_is s closed o x at kind i v there = dite (ℕ_discrete v 0)
     (λ none. inl none)
     (λ some. inr (∥∥₁_elim closed (hlevel props) (λ c. ⊎_elim (λ none. absurd (some none)) (λ p. p) (c o x at kind i v there))))
 
-module _ (k : Known) (log : History) (words : List ℕ) (f : IsFound k log words) where
+module _ (k : Known) (log : History) (words : List ℕ) (held : ℕ → Grasp) (f : IsFound k log words held) where
   abbrev t : ℕ
   t = k.thread
 
   -- what the pass would know of the longest history
   abbrev pub now : Known
-  now = known k.config k.last k.thread log
+  now = known k.config k.last k.thread log k.grasp
 
   abbrev between : History
   between = f.fits.begins.0

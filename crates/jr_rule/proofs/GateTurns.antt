@@ -17,6 +17,7 @@ use Rattle.jr_rule.specs.declared.known.Known.{Known}
 use Rattle.jr_rule.specs.declared.naming.GateNaming.{GateNaming}
 use Rattle.jr_rule.specs.declared.naming.GateNaming.TheVariants as gate
 use Rattle.jr_rule.specs.Acts.{entered_as, leaving, all_counted, gate_named, GateNameFits}
+use Rattle.jr_rule.specs.declared.known.Grasp.{Grasp}
 use Rattle.jr_rule.specs.Image.{is_inside, IsGateOf, IsImage}
 use Rattle.jr_rule.specs.Knowing.{state_of, ShowsGate}
 use Rattle.jr_rule.proofs.Turns.{Turn, turn_one}
@@ -178,27 +179,27 @@ module _ (c : Config) (last : ℕ) (log : History) (legal : IsLegal c last log) 
         all_counted_is ∙ sym (a ∙ b);
   }
 
-module _ (c : Config) (last : ℕ) (log : History) (t : ℕ) (words : List ℕ) (legal : IsLegal c last log) (image : IsImage c last words (state log)) (row : t < c.threads) where
+module _ (c : Config) (last : ℕ) (log : History) (t : ℕ) (words : List ℕ) (legal : IsLegal c last log) (held : ℕ → Grasp) (image : IsImage c last words (state log) held) (row : t < c.threads) where
   -- an entry adds 1, and goes in where the gate is not shut
   pub goes_in : (found : ℕ) (shut : Bool) → found ≡ get_or words 0 0 → shut ≡ image.gate.parts.shut → (state log).role t ≡ Outside
-      → Turn c last log t (entered_as (not shut) ∷ []) (slice_set words 0 (found + 1))
-  goes_in found true is same out = turn_one c last log t (slice_set words 0 (found + 1)) legal Knock
+      → Turn c last log t (entered_as (not shut) ∷ []) (slice_set words 0 (found + 1)) held
+  goes_in found true is same out = turn_one c last log t (slice_set words 0 (found + 1)) held legal Knock
       (row, (out, image.gate.shut.0 (sym same)))
-      (gate_set c last words (state log) image (found + 1) (update nat_eq (state log).role t Knocking)
+      (gate_set c last words (state log) held image (found + 1) (update nat_eq (state log).role t Knocking)
       (moved_gate c (state log).role t Outside Knocking (get_or words 0 0) (found + 1) row out (λ e. cc) (λ e. cc) (omega arith) image.gate))
-  goes_in found false is same out = turn_one c last log t (slice_set words 0 (found + 1)) legal Enter
+  goes_in found false is same out = turn_one c last log t (slice_set words 0 (found + 1)) held legal Enter
       (row, (out, λ u e. let s = image.gate.shut.1 (u, e) in cc))
-      (gate_set c last words (state log) image (found + 1) (update nat_eq (state log).role t Within)
+      (gate_set c last words (state log) held image (found + 1) (update nat_eq (state log).role t Within)
       (moved_gate c (state log).role t Outside Within (get_or words 0 0) (found + 1) row out (λ e. cc) (λ e. cc) (omega arith) image.gate))
 
   -- an exit takes 1 away
   pub goes_out : (role : Role) (n : ℕ) → n + 1 ≡ get_or words 0 0 → (role ≡ Within) ⊎ (role ≡ Knocking) → (state log).role t ≡ role
-      → Turn c last log t (leaving role ∷ []) (slice_set words 0 n)
-  goes_out Within n is counts at = turn_one c last log t (slice_set words 0 n) legal Leave (row, at)
-      (gate_set c last words (state log) image n (update nat_eq (state log).role t Outside)
+      → Turn c last log t (leaving role ∷ []) (slice_set words 0 n) held
+  goes_out Within n is counts at = turn_one c last log t (slice_set words 0 n) held legal Leave (row, at)
+      (gate_set c last words (state log) held image n (update nat_eq (state log).role t Outside)
       (moved_gate c (state log).role t Within Outside (get_or words 0 0) n row at (λ e. cc) (λ e. cc) (omega arith) image.gate))
-  goes_out Knocking n is counts at = turn_one c last log t (slice_set words 0 n) legal Withdraw (row, at)
-      (gate_set c last words (state log) image n (update nat_eq (state log).role t Outside)
+  goes_out Knocking n is counts at = turn_one c last log t (slice_set words 0 n) held legal Withdraw (row, at)
+      (gate_set c last words (state log) held image n (update nat_eq (state log).role t Outside)
       (moved_gate c (state log).role t Knocking Outside (get_or words 0 0) n row at (λ e. cc) (λ e. cc) (omega arith) image.gate))
   goes_out Outside n is counts at = absurd (⊎_elim (λ e. cc) (λ e. cc) counts)
   goes_out Collecting n is counts at = absurd (⊎_elim (λ e. cc) (λ e. cc) counts)
@@ -222,29 +223,29 @@ module _ (c : Config) (last : ℕ) (log : History) (t : ℕ) (words : List ℕ) 
   gate_read few p fits is = one_gate image.gate.parts p (gate_fits c (state log).role (get_or words 0 0) few image.gate) fits (sym image.gate.word ∙ is)
 
   -- a load of the gate counts as what it is named
-  pub gate_seen : (name : GateNaming) → GateNameFits ((state log).role t) name → Turn c last log t (gate_named name (all_counted image.gate.parts) ∷ []) words
+  pub gate_seen : (name : GateNaming) → GateNameFits ((state log).role t) name → Turn c last log t (gate_named name (all_counted image.gate.parts) ∷ []) words held
   gate_seen name fits = go name (all_counted image.gate.parts) fits (all_counted_is c last log legal (get_or words 0 0) image.gate)
     where
-      go : (name : GateNaming) (n : ℕ) → GateNameFits ((state log).role t) name → n ≡ not_outside c (state log) → Turn c last log t (gate_named name n ∷ []) words
-      go gate.Meet n fits is = turn_one c last log t words legal Meet (row, tt) image
-      go gate.Busy zero fits is = turn_one c last log t words legal Meet (row, tt) image
-      go gate.Busy (suc n) out is = turn_one c last log t words legal (ShutBusy (suc n)) (row, (out, is, omega arith)) image
+      go : (name : GateNaming) (n : ℕ) → GateNameFits ((state log).role t) name → n ≡ not_outside c (state log) → Turn c last log t (gate_named name n ∷ []) words held
+      go gate.Meet n fits is = turn_one c last log t words held legal Meet (row, tt) image
+      go gate.Busy zero fits is = turn_one c last log t words held legal Meet (row, tt) image
+      go gate.Busy (suc n) out is = turn_one c last log t words held legal (ShutBusy (suc n)) (row, (out, is, omega arith)) image
 
   -- an empty gate is shut
-  pub bars : get_or words 0 0 ≡ 0 → (state log).role t ≡ Outside → Turn c last log t (Shut ∷ []) (slice_set words 0 65536)
-  bars empty out = turn_one c last log t (slice_set words 0 65536) legal Shut
+  pub bars : get_or words 0 0 ≡ 0 → (state log).role t ≡ Outside → Turn c last log t (Shut ∷ []) (slice_set words 0 65536) held
+  bars empty out = turn_one c last log t (slice_set words 0 65536) held legal Shut
       (row, all_outside c last log legal (sym (all_counted_is c last log legal (get_or words 0 0) image.gate) ∙ nobody image.gate.parts (sym image.gate.word ∙ empty)))
-      (gate_set c last words (state log) image 65536 (update nat_eq (state log).role t Collecting)
+      (gate_set c last words (state log) held image 65536 (update nat_eq (state log).role t Collecting)
       (barred_gate c (state log).role t (get_or words 0 0) row out empty image.gate))
 
   -- a gate that counts somebody is not
-  pub bars_lost : get_or words 0 0 ≢ 0 → (state log).role t ≡ Outside → Turn c last log t (ShutBusy (all_counted image.gate.parts) ∷ []) words
-  bars_lost busy out = turn_one c last log t words legal (ShutBusy (all_counted image.gate.parts))
+  pub bars_lost : get_or words 0 0 ≢ 0 → (state log).role t ≡ Outside → Turn c last log t (ShutBusy (all_counted image.gate.parts) ∷ []) words held
+  bars_lost busy out = turn_one c last log t words held legal (ShutBusy (all_counted image.gate.parts))
       (row, (out, all_counted_is c last log legal (get_or words 0 0) image.gate, somebody image.gate.parts (λ e. busy (image.gate.word ∙ e)))) image
 
   -- a shut gate is opened
-  pub unbars : (n : ℕ) → n + 65536 ≡ get_or words 0 0 → (state log).role t ≡ Collecting → IsClosed (state log) → Turn c last log t (Reopen ∷ []) (slice_set words 0 n)
-  unbars n is at closed = turn_one c last log t (slice_set words 0 n) legal Reopen
+  pub unbars : (n : ℕ) → n + 65536 ≡ get_or words 0 0 → (state log).role t ≡ Collecting → IsClosed (state log) → Turn c last log t (Reopen ∷ []) (slice_set words 0 n) held
+  unbars n is at closed = turn_one c last log t (slice_set words 0 n) held legal Reopen
       (row, (at, closed))
-      (gate_set c last words (state log) image n (update nat_eq (state log).role t Outside)
+      (gate_set c last words (state log) held image n (update nat_eq (state log).role t Outside)
       (unbarred_gate c (state log).role t (get_or words 0 0) n row at (apart_state c last log legal) is image.gate))

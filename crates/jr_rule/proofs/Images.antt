@@ -13,7 +13,10 @@ use Rattle.jr_model.specs.Maps.{update}
 use Rattle.jr_model.specs.State.{Handle, Contents, State}
 use Rattle.jr_model.proofs.Updates.{eq_true, eq_false, at_number}
 use Rattle.jr_rule.specs.Acts.{found_object, handle_of}
-use Rattle.jr_rule.specs.Image.{gate_at, slot_at, local_at, header_at, IsGateOf, IsTopOf, StandsAlone, SaysOfSlot, IsSlotOf, IsLocalOf, IsHeaderOf, IsImage}
+use Rattle.jr_rule.specs.declared.known.Grasp.{Grasp}
+use Rattle.jr_rule.proofs.Spaces.{space_low, space_same, space_let_go}
+use Rattle.jr_rule.specs.Grasping.{empty, hold}
+use Rattle.jr_rule.specs.Image.{gate_at, top_at, slot_at, local_at, header_at, element_at, IsSpace, IsGateOf, IsTopOf, StandsAlone, SaysOfSlot, IsSlotOf, IsLocalOf, IsHeaderOf, IsImage}
 
 -- the local words lie below the headers
 pub local_below : (c : Config) (t p : ℕ) → t < c.threads → p < c.locals → local_at c t p < 2 + c.slots + c.threads * c.locals
@@ -51,7 +54,7 @@ same_slot last i w refs refs' given given' same x = record {
     says (slot.Global n o) y = alone (handle_of Global n i) (Object o) refl y
     says (slot.Weak n o) y = alone (handle_of Weak n i) (found_object o) refl y
 
-module _ (c : Config) (last : ℕ) (words : List ℕ) (s : State) (image : IsImage c last words s) (n : ℕ) where
+module _ (c : Config) (last : ℕ) (words : List ℕ) (s : State) (held : ℕ → Grasp) (image : IsImage c last words s held) (n : ℕ) where
   -- another word stays
   other : (i j : ℕ) (P : ℕ → Type 0) → j ≢ i → P (get_or words j 0) → P (get_or (slice_set words i n) j 0)
   other i j P ne p = subst P (sym (get_or-set_other words i j n 0 ne)) p
@@ -60,7 +63,7 @@ module _ (c : Config) (last : ℕ) (words : List ℕ) (s : State) (image : IsIma
   here : (i : ℕ) (P : ℕ → Type 0) → i < length words → P n → P (get_or (slice_set words i n) i 0)
   here i P l p = subst P (sym (get_or-set_same words i n 0 l)) p
 
-  pub gate_set : (role : ℕ → Role) → IsGateOf c role n → IsImage c last (slice_set words gate_at n) (record s { role = role })
+  pub gate_set : (role : ℕ → Role) → IsGateOf c role n → IsImage c last (slice_set words gate_at n) (record s { role = role }) held
   gate_set role g = let wide = image.wide in record {
     wide = length-set words gate_at n ∙ image.wide;
     gate = here 0 (IsGateOf c role) (omega arith) g;
@@ -68,10 +71,11 @@ module _ (c : Config) (last : ℕ) (words : List ℕ) (s : State) (image : IsIma
     slot = λ i l. other 0 (slot_at i) (IsSlotOf last s.refs s.given i) (λ e. absurd (omega arith)) (image.slot i l);
     local = λ t p l m. other 0 (local_at c t p) (IsLocalOf (s.locals t p)) (λ e. absurd (omega arith)) (image.local t p l m);
     header = λ o l m. other 0 (header_at c o) (IsHeaderOf (s.objects o)) (λ e. absurd (omega arith)) (image.header o l m);
+    space = space_low c words gate_at n (omega arith) s.objects s.used held image.space;
   }
 
   pub slot_set : (i : ℕ) (refs : Handle → Found) (given : Handle → Bool) → i < c.slots → IsSlotOf last refs given i n → ((g : Handle) → g.index ≢ i → (refs g ≡ s.refs g) × (given g ≡ s.given g))
-      → IsImage c last (slice_set words (slot_at i) n) (record s { refs = refs; given = given })
+      → IsImage c last (slice_set words (slot_at i) n) (record s { refs = refs; given = given }) held
   slot_set i refs given row x same = let wide = image.wide in record {
     wide = length-set words (slot_at i) n ∙ image.wide;
     gate = other (slot_at i) 0 (IsGateOf c s.role) (λ e. absurd (omega arith)) image.gate;
@@ -79,6 +83,7 @@ module _ (c : Config) (last : ℕ) (words : List ℕ) (s : State) (image : IsIma
     slot = λ j l. by_index j l (i == j) refl;
     local = λ t p l m. other (slot_at i) (local_at c t p) (IsLocalOf (s.locals t p)) (λ e. absurd (omega arith)) (image.local t p l m);
     header = λ o l m. other (slot_at i) (header_at c o) (IsHeaderOf (s.objects o)) (λ e. absurd (omega arith)) (image.header o l m);
+    space = space_low c words (slot_at i) n (omega arith) s.objects s.used held image.space;
   }
     where
       by_index : (j : ℕ) → j < c.slots → (b : Bool) → (i == j) ≡ b → IsSlotOf last refs given j (get_or (slice_set words (slot_at i) n) (slot_at j) 0)
@@ -91,7 +96,7 @@ module _ (c : Config) (last : ℕ) (words : List ℕ) (s : State) (image : IsIma
           (same_slot last j (get_or words (slot_at j) 0) s.refs refs s.given given (λ g at. same g (λ z. apart (sym z ∙ at))) (image.slot j l))
 
   pub local_set : (t p : ℕ) (o : Option ℕ) → t < c.threads → p < c.locals → IsLocalOf o n
-      → IsImage c last (slice_set words (local_at c t p) n) (record s { locals = update nat_eq s.locals t (update nat_eq (s.locals t) p o) })
+      → IsImage c last (slice_set words (local_at c t p) n) (record s { locals = update nat_eq s.locals t (update nat_eq (s.locals t) p o) }) held
   local_set t p o row place x = let wide = image.wide in let below = local_below c t p row place in record {
     wide = length-set words (local_at c t p) n ∙ image.wide;
     gate = other (local_at c t p) 0 (IsGateOf c s.role) (λ e. absurd (omega arith)) image.gate;
@@ -104,11 +109,24 @@ module _ (c : Config) (last : ℕ) (words : List ℕ) (s : State) (image : IsIma
         (other (local_at c t p) (local_at c u q) (IsLocalOf (s.locals u q)) (λ z. ne (sym (local_apart c u q t p m place z).1)) (image.local u q l m))))
         (λ ne. other (local_at c t p) (local_at c u q) (IsLocalOf (s.locals u q)) (λ z. ne (sym (local_apart c u q t p m place z).0)) (image.local u q l m));
     header = λ r l m. other (local_at c t p) (header_at c r) (IsHeaderOf (s.objects r)) (λ e. absurd (omega arith)) (image.header r l m);
+    space = space_low c words (local_at c t p) n (omega arith) s.objects s.used held image.space;
   }
 
-  pub header_set : (o : ℕ) (x : Option Contents) → 1 ≤ o → o ≤ c.objects → IsHeaderOf x n
-      → IsImage c last (slice_set words (header_at c o) n) (record s { objects = update nat_eq s.objects o x })
-  header_set o x low high h = let wide = image.wide in record {
+  -- where the word of several parts changes, the space is the caller's to show
+  pub top_set : (used : ℕ) (held' : ℕ → Grasp) → IsTopOf used n → IsSpace c (slice_set words top_at n) s.objects used held' → IsImage c last (slice_set words top_at n) (record s { used = used }) held'
+  top_set used held' x space = let wide = image.wide in record {
+    wide = length-set words top_at n ∙ image.wide;
+    gate = other 1 0 (IsGateOf c s.role) (λ e. absurd (omega arith)) image.gate;
+    top = here 1 (IsTopOf used) (omega arith) x;
+    slot = λ i l. other 1 (slot_at i) (IsSlotOf last s.refs s.given i) (λ e. absurd (omega arith)) (image.slot i l);
+    local = λ t p l m. other 1 (local_at c t p) (IsLocalOf (s.locals t p)) (λ e. absurd (omega arith)) (image.local t p l m);
+    header = λ o l m. other 1 (header_at c o) (IsHeaderOf (s.objects o)) (λ e. absurd (omega arith)) (image.header o l m);
+    space = space;
+  }
+
+  pub header_set : (o : ℕ) (x : Option Contents) (held' : ℕ → Grasp) → 1 ≤ o → o ≤ c.objects → IsHeaderOf x n → IsSpace c (slice_set words (header_at c o) n) (update nat_eq s.objects o x) s.used held'
+      → IsImage c last (slice_set words (header_at c o) n) (record s { objects = update nat_eq s.objects o x }) held'
+  header_set o x held' low high h space = let wide = image.wide in record {
     wide = length-set words (header_at c o) n ∙ image.wide;
     gate = other (header_at c o) 0 (IsGateOf c s.role) (λ e. absurd (omega arith)) image.gate;
     top = other (header_at c o) 1 (IsTopOf s.used) (λ e. absurd (omega arith)) image.top;
@@ -117,4 +135,30 @@ module _ (c : Config) (last : ℕ) (words : List ℕ) (s : State) (image : IsIma
     header = λ r l m. at_number (λ y. IsHeaderOf y (get_or (slice_set words (header_at c o) n) (header_at c r) 0)) s.objects o r x
         (λ e. subst (λ k. IsHeaderOf x (get_or (slice_set words (header_at c o) n) (header_at c k) 0)) e (here (header_at c o) (IsHeaderOf x) (omega arith) h))
         (λ ne. other (header_at c o) (header_at c r) (IsHeaderOf (s.objects r)) (λ z. ne (omega arith)) (image.header r l m));
+    space = space;
   }
+
+  -- a word of array space, where the objects keep their headers
+  pub element_set : (x : ℕ) (objects : ℕ → Option Contents) (held' : ℕ → Grasp) → x < c.words → ((o w : ℕ) → IsHeaderOf (s.objects o) w → IsHeaderOf (objects o) w) → IsSpace c (slice_set words (element_at c x) n) objects s.used held'
+      → IsImage c last (slice_set words (element_at c x) n) (record s { objects = objects }) held'
+  element_set x objects held' row same space = let wide = image.wide in record {
+    wide = length-set words (element_at c x) n ∙ image.wide;
+    gate = other (element_at c x) 0 (IsGateOf c s.role) (λ e. absurd (omega arith)) image.gate;
+    top = other (element_at c x) 1 (IsTopOf s.used) (λ e. absurd (omega arith)) image.top;
+    slot = λ i l. other (element_at c x) (slot_at i) (IsSlotOf last s.refs s.given i) (λ e. absurd (omega arith)) (image.slot i l);
+    local = λ t p l m. other (element_at c x) (local_at c t p) (IsLocalOf (s.locals t p)) (λ e. let below = local_below c t p l m in absurd (omega arith)) (image.local t p l m);
+    header = λ o l m. other (element_at c x) (header_at c o) (IsHeaderOf (objects o)) (λ e. absurd (omega arith)) (same o (get_or words (header_at c o) 0) (image.header o l m));
+    space = space;
+  }
+
+module _ (c : Config) (last : ℕ) (words : List ℕ) (s : State) (held : ℕ → Grasp) (image : IsImage c last words s held) where
+  with_space : (held' : ℕ → Grasp) → IsSpace c words s.objects s.used held' → IsImage c last words s held'
+  with_space held' space = record { wide = image.wide; gate = image.gate; top = image.top; slot = image.slot; local = image.local; header = image.header; space = space }
+
+  -- who holds the same
+  pub image_same : (held' : ℕ → Grasp) → ((u : ℕ) → held' u ≡ held u) → IsImage c last words s held'
+  image_same held' same = with_space held' (space_same c words s.objects s.used held image.space held' same)
+
+  -- a thread holds nothing any more
+  pub image_let_go : (t : ℕ) → IsImage c last words s (hold held t empty)
+  image_let_go t = with_space (hold held t empty) (space_let_go c words s.objects s.used held image.space t)

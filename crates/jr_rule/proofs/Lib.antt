@@ -1,6 +1,7 @@
 pub mod Goes
 pub mod InRoom
 pub mod SlotWords
+pub mod Spaces
 pub mod Images
 pub mod Turns
 pub mod Effects
@@ -9,6 +10,9 @@ pub mod Looked
 pub mod Slots
 pub mod SlotTurns
 pub mod LostClaims
+pub mod Headers
+pub mod HeapSpaces
+pub mod Counting
 pub mod LocalTurns
 pub mod PlainTook
 pub mod PlainTurns
@@ -23,6 +27,7 @@ pub mod Seats
 pub mod Stepped
 pub mod Found
 pub mod Told
+pub mod Owing
 pub mod GateOwed
 pub mod SlotOwed
 pub mod Allowed

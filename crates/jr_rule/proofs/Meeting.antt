@@ -35,13 +35,14 @@ module _ (a b m : Sat) (alone : IsAlone a) (other : IsAlone b) (joined : m ≡ (
       is = first_is ∙ (λ i. (seats (s.new ∷ ap (λ (z : Sat). others_of z.0.passes) (sym alone) i), ap (λ (z : Sat). z.1) (sym alone) i));
       goes = subst (λ k. Rattle.jr_rule.specs.Knowing.Goes k s.acts s.new) acting_both s.goes;
       says = subst (λ k. told k n s.acts s.new) acting_both s.says;
-      others = subst (λ ks. EachFits (acting a).config (acting a).last (s.new).seen ks) (sym (ap (λ (z : Sat). others_of z.0.passes) alone)) tt;
+      held = s.held;
+      others = subst (λ ks. EachFits (acting a).config (acting a).last (s.new).seen s.held ks) (sym (ap (λ (z : Sat). others_of z.0.passes) alone)) tt;
     }
 
     -- all that the other pass has seen is seen, and of its events just those
     pub has_met : HasMet (view (acting b)) (view (acting first))
     has_met =
-        let fit = (subst (λ ks. EachFits (acting m).config (acting m).last (s.new).seen ks) others_both s.others).0 in
+        let fit = (subst (λ ks. EachFits (acting m).config (acting m).last (s.new).seen s.held ks) others_both s.others).0 in
         let here : acting first ≡ s.new = ap acting first_is in
         subst (λ k. HasMet (view (acting b)) (view k)) (sym here) record { begins = fit.begins; theirs = fit.own }
 

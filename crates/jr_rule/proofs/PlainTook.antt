@@ -7,11 +7,17 @@ use mathlib.Core.Logic.{∥∥₁_map}
 use Rattle.jr_word.specs.declared.config.Config.{Config}
 use Rattle.jr_model.specs.declared.event.Role.{Role}
 use Rattle.jr_model.specs.declared.event.Act.{Act}
-use Rattle.jr_model.specs.History.{by, IsLegal, role_from}
+use Rattle.jr_model.specs.History.{by, state, IsLegal, role_from}
 use Rattle.jr_rule.specs.declared.plain.PlainSteps.{PlainSteps}
 use Rattle.jr_rule.specs.declared.known.Known.{Known}
-use Rattle.jr_rule.specs.Knowing.{Standing, moved, Goes, Took, MayKnow, anything}
-use Rattle.jr_rule.specs.Plain.{standing, Shows}
+use Rattle.jr_rule.specs.declared.known.Grasp.{Grasp}
+use Rattle.jr_rule.specs.Grasping.{empty, hold}
+use Rattle.jr_rule.specs.Knowing.{Standing, moved, Goes, Took, MayKnow, anything, keeps, lets_go}
+use Rattle.jr_rule.proofs.Images.{image_same, image_let_go}
+use Rattle.jr_rule.proofs.Spaces.{hold_here, hold_else}
+use mathlib.Core.Logic.{dite}
+use native.Mathlib.Decide.{ℕ_discrete}
+use Rattle.jr_rule.specs.Plain.{alone, standing, Shows}
 use Rattle.jr_rule.proofs.Turns.{then, Turn, role_then}
 
 -- a standing by its role and freshness
@@ -19,11 +25,11 @@ pub stands_same : (c : Config) (last : ℕ) {r r' : Role} {f f' : Bool} → r �
 stands_same c last a b = cc
 
 -- what is known after acts of one's own, with none of others in between
-abbrev pub known_then : Known → List Act → Known
-known_then k acts = record { config = k.config; last = k.last; thread = k.thread; seen = then k.seen k.thread acts }
+abbrev pub known_then : Known → List Act → Grasp → Known
+known_then k acts g = record { config = k.config; last = k.last; thread = k.thread; seen = then k.seen k.thread acts; grasp = g }
 
-goes_then : (k : Known) (acts : List Act) → IsLegal k.config k.last (then k.seen k.thread acts) → Goes k acts (known_then k acts)
-goes_then k acts legal = record {
+goes_then : (k : Known) (acts : List Act) (g : Grasp) → IsLegal k.config k.last (then k.seen k.thread acts) → Goes k acts (known_then k acts g)
+goes_then k acts g legal = record {
   config = refl;
   last = refl;
   thread = refl;
@@ -34,8 +40,8 @@ goes_then k acts legal = record {
 }
 
 -- after a turn the words show what is known then
-shows_then : (s : Standing) (words words' : List ℕ) (k : Known) (acts : List Act) → Shows s words k → Turn k.config k.last k.seen k.thread acts words' → Shows (moved s acts) words' (known_then k acts)
-shows_then s words words' k acts shows turn = record {
+shows_then : (s : Standing) (words words' : List ℕ) (k : Known) (acts : List Act) (g : Grasp) → Shows s words k → Turn k.config k.last k.seen k.thread acts words' (alone g) → Shows (moved s acts) words' (known_then k acts g)
+shows_then s words words' k acts g shows turn = record {
   pass = record {
     config = shows.pass.config;
     last = shows.pass.last;
@@ -49,7 +55,29 @@ shows_then s words words' k acts shows turn = record {
 -- the acts are a turn at whatever the words show, and show this
 pub record Turned (old : Standing) (words : List ℕ) (new : Standing) (words' : List ℕ) (acts : List Act) (met : Known → Type 0) (shows : Known → Known → Type 0) : Type 0 where
   pub stands_is : new ≡ moved old acts
-  pub turn : (k : Known) → Shows old words k → met k → Turn k.config k.last k.seen k.thread acts words' × shows k (known_then k acts)
+  pub turn : (k : Known) → Shows old words k → met k → (g : Grasp) × Turn k.config k.last k.seen k.thread acts words' (alone g) × shows k (known_then k acts g)
+
+module _ {old new : Standing} {words words' : List ℕ} {acts : List Act} {met : Known → Type 0} (stands_is : new ≡ moved old acts) where
+  -- a turn that leaves what the thread holds
+  pub kept : ((k : Known) → Shows old words k → met k → Turn k.config k.last k.seen k.thread acts words' (alone k.grasp)) → Turned old words new words' acts met keeps
+  kept turn = record { stands_is = stands_is; turn = λ k s m. (k.grasp, turn k s m, refl) }
+
+  pub kept_showing : {shows : Known → Known → Type 0} → ((k : Known) → Shows old words k → met k → Turn k.config k.last k.seen k.thread acts words' (alone k.grasp) × shows k (known_then k acts k.grasp)) → Turned old words new words' acts met (λ j k. shows j k × keeps j k)
+  kept_showing turn = record { stands_is = stands_is; turn = λ k s m. let r = turn k s m in (k.grasp, r.0, (r.1, refl)) }
+
+  -- a turn after which it holds nothing
+  pub let_go : ((k : Known) → Shows old words k → met k → Turn k.config k.last k.seen k.thread acts words' (alone k.grasp)) → Turned old words new words' acts met lets_go
+  let_go turn = record {
+    stands_is = stands_is;
+    turn = λ k s m.
+        let t = turn k s m in
+        (empty, record { legal = t.legal; image = image_same k.config k.last words' (state (then k.seen k.thread acts)) (hold (alone k.grasp) 0 empty) (image_let_go k.config k.last words' (state (then k.seen k.thread acts)) (alone k.grasp) t.image 0) (alone empty) (alone_again k.grasp) }, refl);
+  }
+    where
+      alone_again : (g : Grasp) (u : ℕ) → alone empty u ≡ hold (alone g) 0 empty u
+      alone_again g u = dite (ℕ_discrete u 0)
+          (λ e. ap (alone empty) e ∙ (hold_here (λ t. empty) 0 empty ∙ (sym (hold_here (alone g) 0 empty) ∙ ap (hold (alone g) 0 empty) (sym e))))
+          (λ ne. hold_else (λ t. empty) 0 u empty ne ∙ (sym (hold_else (λ t. empty) 0 u g ne) ∙ sym (hold_else (alone g) 0 u empty ne)))
 
 -- the same with the number that was written named otherwise
 pub writes : {old new : Standing} {words : List ℕ} {acts : List Act} {met : Known → Type 0} {shows : Known → Known → Type 0} (i m n : ℕ) → n ≡ m
@@ -57,12 +85,12 @@ pub writes : {old new : Standing} {words : List ℕ} {acts : List Act} {met : Kn
 writes {old} {new} {words} {acts} {met} {shows} i m n e t = subst (λ z. Turned old words new (slice_set words i z) acts met shows) (sym e) t
 
 module _ {old new : Standing} {words words' : List ℕ} {acts : List Act} {met : Known → Type 0} {shows : Known → Known → Type 0} (t : Turned old words new words' acts met shows) where
-  shown_next : (k : Known) → Shows old words k → met k → Shows new words' (known_then k acts)
-  shown_next k s m = subst (λ z. Shows z words' (known_then k acts)) (sym t.stands_is) (shows_then old words words' k acts s (t.turn k s m).0)
+  shown_next : (k : Known) (s : Shows old words k) (m : met k) → Shows new words' (known_then k acts (t.turn k s m).0)
+  shown_next k s m = let r = t.turn k s m in subst (λ z. Shows z words' (known_then k acts r.0)) (sym t.stands_is) (shows_then old words words' k acts r.0 s r.1)
 
   -- so something is known afterwards
   pub shown : MayKnow (Shows old) words met → MayKnow (Shows new) words' anything
-  shown may = ∥∥₁_map may (λ k. (known_then k.0 acts, shown_next k.0 k.1 k.2, tt))
+  shown may = ∥∥₁_map may (λ k. (known_then k.0 acts (t.turn k.0 k.1 k.2).0, shown_next k.0 k.1 k.2, tt))
 
 -- and the step was taken
 pub took : (LAST : ℕ) (s s' : PlainSteps LAST) {acts : List Act} {met : Known → Type 0} {shows : Known → Known → Type 0}
@@ -70,7 +98,7 @@ pub took : (LAST : ℕ) (s s' : PlainSteps LAST) {acts : List Act} {met : Known 
     → Took (λ (z : PlainSteps LAST). standing z.config LAST z.role z.fresh) (λ (z : PlainSteps LAST) k. Shows (standing z.config LAST z.role z.fresh) z.words.items k) s s' acts met shows
 took LAST s s' {acts} t = record {
   stands_is = t.stands_is;
-  goes = λ k h m. let r = t.turn k h m in (known_then k acts, shown_next t k h m, goes_then k acts r.0.legal, r.1);
+  goes = λ k h m. let r = t.turn k h m in (known_then k acts r.0, shown_next t k h m, goes_then k acts r.0 (r.1).legal, r.2);
 }
 
 -- what the words show does not depend on whether the pass is fresh

@@ -12,11 +12,11 @@ use Rattle.jr_model.specs.History.{state, role_after}
 use Rattle.jr_rule.specs.declared.known.Known.{Known}
 use Rattle.jr_rule.specs.declared.naming.GateNaming.{GateNaming}
 use Rattle.jr_rule.specs.Acts.{entered_as, leaving, all_counted, gate_named, GateNameFits}
-use Rattle.jr_rule.specs.Knowing.{Standing, MayKnow, anything, nothing, IsClosedNow, ShowsGate}
-use Rattle.jr_rule.specs.Plain.{standing, Shows}
+use Rattle.jr_rule.specs.Knowing.{Standing, MayKnow, anything, IsClosedNow, ShowsGate, keeps, lets_go}
+use Rattle.jr_rule.specs.Plain.{alone, standing, Shows}
 use Rattle.jr_rule.proofs.GateTurns.{gate_fits, gate_most, goes_in, goes_out, counted, shut_counted, gate_read, gate_seen, shows_gate, nobody, bars, bars_lost, unbars}
 use Rattle.jr_rule.proofs.Turns.{Turn}
-use Rattle.jr_rule.proofs.PlainTook.{known_then, stands_same, Turned, IsFew, shown_most}
+use Rattle.jr_rule.proofs.PlainTook.{kept, kept_showing, let_go, known_then, stands_same, Turned, IsFew, shown_most}
 use Rattle.jr_rule.proofs.Effects.{entered_fresh, left_role, left_fresh, gate_named_role, gate_named_fresh, gate_named_state}
 
 -- a gate that counts nobody has the word 0
@@ -42,7 +42,7 @@ module _ (config : Config) (last : ℕ) (few : IsFew config last) (role : Role) 
   gate_few may = shown_most (get_or words 0 0) 65600 may (λ k s m. gate_most k.config (state k.seen).role (get_or words 0 0) (few_threads k s) s.image.gate)
 
   pub gate_some : (role ≡ Within) ⊎ (role ≡ Knocking) → MayKnow (Shows old) words anything → 1 ≤ get_or words 0 0
-  gate_some counts may = shown_most 1 (get_or words 0 0) may (λ k s m. counted k.config k.last k.seen k.thread words s.pass.legal s.image (row k s) role counts s.pass.role)
+  gate_some counts may = shown_most 1 (get_or words 0 0) may (λ k s m. counted k.config k.last k.seen k.thread words s.pass.legal (alone k.grasp) s.image (row k s) role counts s.pass.role)
 
   -- the gate's word has a reading
   pub gate_parts : (r : Option GateParts) → MayKnow (Shows old) words anything → ((p : GateParts) → IsGate p → get_or words 0 0 ≡ gate_word p → r ≡ Some p) → IsSome r
@@ -53,59 +53,41 @@ module _ (config : Config) (last : ℕ) (few : IsFew config last) (role : Role) 
       subst (λ z. IsSome z) (sym e) refl)
 
   pub entered : (role' : Role) (found : ℕ) (shut : Bool) → found ≡ get_or words 0 0 → ((parts : GateParts) → IsGate parts → found ≡ gate_word parts → shut ≡ parts.shut) → role ≡ Outside → role' ≡ role_after Outside (entered_as (not shut))
-      → Turned old words (standing config last role' fresh) (slice_set words 0 (found + 1)) (entered_as (not shut) ∷ []) anything nothing
-  entered role' found shut is read out at = record {
-    stands_is = stands_same config last (at ∙ ap (λ r. role_after r (entered_as (not shut))) (sym out)) (entered_fresh (not shut) fresh);
-    turn = λ k s m.
+      → Turned old words (standing config last role' fresh) (slice_set words 0 (found + 1)) (entered_as (not shut) ∷ []) anything keeps
+  entered role' found shut is read out at = kept (stands_same config last (at ∙ ap (λ r. role_after r (entered_as (not shut))) (sym out)) (entered_fresh (not shut) fresh)) (λ k s m.
         let g = s.image.gate in
         let same = read g.parts (gate_fits k.config (state k.seen).role (get_or words 0 0) (few_threads k s) g) (is ∙ g.word) in
-        (goes_in k.config k.last k.seen k.thread words s.pass.legal s.image (row k s) found shut is same (s.pass.role ∙ out), tt);
-  }
+        goes_in k.config k.last k.seen k.thread words s.pass.legal (alone k.grasp) s.image (row k s) found shut is same (s.pass.role ∙ out))
 
   pub left : (n : ℕ) → n + 1 ≡ get_or words 0 0 → (role ≡ Within) ⊎ (role ≡ Knocking)
-      → Turned old words (standing config last Outside fresh) (slice_set words 0 n) (leaving role ∷ []) anything nothing
-  left n is counts = record {
-    stands_is = stands_same config last (left_role role counts) (left_fresh role fresh);
-    turn = λ k s m. (goes_out k.config k.last k.seen k.thread words s.pass.legal s.image (row k s) role n is counts s.pass.role, tt);
-  }
+      → Turned old words (standing config last Outside fresh) (slice_set words 0 n) (leaving role ∷ []) anything lets_go
+  left n is counts = let_go (stands_same config last (left_role role counts) (left_fresh role fresh)) (λ k s m. goes_out k.config k.last k.seen k.thread words s.pass.legal (alone k.grasp) s.image (row k s) role n is counts s.pass.role)
 
   -- who collects has the gate shut
   pub shut_some : role ≡ Collecting → MayKnow (Shows old) words anything → 65536 ≤ get_or words 0 0
-  shut_some collects may = shown_most 65536 (get_or words 0 0) may (λ k s m. shut_counted k.config k.last k.seen k.thread words s.pass.legal s.image (row k s) (s.pass.role ∙ collects))
+  shut_some collects may = shown_most 65536 (get_or words 0 0) may (λ k s m. shut_counted k.config k.last k.seen k.thread words s.pass.legal (alone k.grasp) s.image (row k s) (s.pass.role ∙ collects))
 
   pub barred : (p : GateParts) → get_or words 0 0 ≡ gate_word p → all_counted p ≡ 0 → role ≡ Outside
-      → Turned old words (standing config last Collecting fresh) (slice_set words 0 65536) (Shut ∷ []) anything nothing
-  barred p is none out = record {
-    stands_is = refl;
-    turn = λ k s m. (bars k.config k.last k.seen k.thread words s.pass.legal s.image (row k s) (is ∙ empty_word p none) (s.pass.role ∙ out), tt);
-  }
+      → Turned old words (standing config last Collecting fresh) (slice_set words 0 65536) (Shut ∷ []) anything keeps
+  barred p is none out = kept (refl) (λ k s m. bars k.config k.last k.seen k.thread words s.pass.legal (alone k.grasp) s.image (row k s) (is ∙ empty_word p none) (s.pass.role ∙ out))
 
   pub bar_lost : (n : ℕ) (p : GateParts) → IsGate p → get_or words 0 0 ≡ gate_word p → n ≡ all_counted p → n ≢ 0 → role ≡ Outside
-      → Turned old words old words (ShutBusy n ∷ []) anything nothing
-  bar_lost n p fits is counts some out = record {
-    stands_is = refl;
-    turn = λ k s m.
-        let read = gate_read k.config k.last k.seen k.thread words s.pass.legal s.image (row k s) (few_threads k s) p fits is in
+      → Turned old words old words (ShutBusy n ∷ []) anything keeps
+  bar_lost n p fits is counts some out = kept (refl) (λ k s m.
+        let read = gate_read k.config k.last k.seen k.thread words s.pass.legal (alone k.grasp) s.image (row k s) (few_threads k s) p fits is in
         let busy : get_or words 0 0 ≢ 0 = λ e. some (counts ∙ nobody p (sym is ∙ e)) in
-        let t = bars_lost k.config k.last k.seen k.thread words s.pass.legal s.image (row k s) busy (s.pass.role ∙ out) in
-        (subst (λ m. Turn k.config k.last k.seen k.thread (ShutBusy m ∷ []) words) (ap all_counted read ∙ sym counts) t, tt);
-  }
+        let t = bars_lost k.config k.last k.seen k.thread words s.pass.legal (alone k.grasp) s.image (row k s) busy (s.pass.role ∙ out) in
+        subst (λ m. Turn k.config k.last k.seen k.thread (ShutBusy m ∷ []) words (alone k.grasp)) (ap all_counted read ∙ sym counts) t)
 
   pub unbarred : (n : ℕ) → n + 65536 ≡ get_or words 0 0 → role ≡ Collecting
-      → Turned old words (standing config last Outside fresh) (slice_set words 0 n) (Reopen ∷ []) IsClosedNow nothing
-  unbarred n is collects = record {
-    stands_is = refl;
-    turn = λ k s m. (unbars k.config k.last k.seen k.thread words s.pass.legal s.image (row k s) n is (s.pass.role ∙ collects) m, tt);
-  }
+      → Turned old words (standing config last Outside fresh) (slice_set words 0 n) (Reopen ∷ []) IsClosedNow lets_go
+  unbarred n is collects = let_go (refl) (λ k s m. unbars k.config k.last k.seen k.thread words s.pass.legal (alone k.grasp) s.image (row k s) n is (s.pass.role ∙ collects) m)
 
   pub gate_saw : (name : GateNaming) (p : GateParts) → IsGate p → get_or words 0 0 ≡ gate_word p → GateNameFits role name
-      → Turned old words old words (gate_named name (all_counted p) ∷ []) anything (λ _ k. ShowsGate p k)
-  gate_saw name p fits is named = record {
-    stands_is = stands_same config last (gate_named_role name (all_counted p) role) (gate_named_fresh name (all_counted p) fresh);
-    turn = λ k s m.
-        let read = gate_read k.config k.last k.seen k.thread words s.pass.legal s.image (row k s) (few_threads k s) p fits is in
-        let t = gate_seen k.config k.last k.seen k.thread words s.pass.legal s.image (row k s) name (subst (λ r. GateNameFits r name) (sym s.pass.role) named) in (
-          subst (λ q. Turn k.config k.last k.seen k.thread (gate_named name (all_counted q) ∷ []) words) read t,
-          shows_gate k.config k.last k.seen s.pass.legal (get_or words 0 0) s.image.gate p (known_then k (gate_named name (all_counted p) ∷ [])) read refl (gate_named_state k.seen k.thread name (all_counted p)),
-        );
-  }
+      → Turned old words old words (gate_named name (all_counted p) ∷ []) anything (λ j k. ShowsGate p k × keeps j k)
+  gate_saw name p fits is named = kept_showing (stands_same config last (gate_named_role name (all_counted p) role) (gate_named_fresh name (all_counted p) fresh)) (λ k s m.
+        let read = gate_read k.config k.last k.seen k.thread words s.pass.legal (alone k.grasp) s.image (row k s) (few_threads k s) p fits is in
+        let t = gate_seen k.config k.last k.seen k.thread words s.pass.legal (alone k.grasp) s.image (row k s) name (subst (λ r. GateNameFits r name) (sym s.pass.role) named) in (
+          subst (λ q. Turn k.config k.last k.seen k.thread (gate_named name (all_counted q) ∷ []) words (alone k.grasp)) read t,
+          shows_gate k.config k.last k.seen s.pass.legal (get_or words 0 0) s.image.gate p (known_then k (gate_named name (all_counted p) ∷ []) k.grasp) read refl (gate_named_state k.seen k.thread name (all_counted p)),
+        ))

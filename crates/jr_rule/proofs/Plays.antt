@@ -13,7 +13,10 @@ use Rattle.jr_model.proofs.Moments.{prefix_self, prefix_trans}
 use Rattle.jr_model.proofs.Stays.{append_cancel}
 use Rattle.jr_rule.specs.declared.known.Known.{Known}
 use Rattle.jr_rule.specs.declared.known.View.{View}
+use Rattle.jr_rule.specs.declared.known.Grasp.{Grasp}
+use Rattle.jr_rule.specs.Grasping.{hold}
 use Rattle.jr_rule.specs.Image.{IsImage}
+use Rattle.jr_rule.proofs.Spaces.{hold_here, hold_else}
 use Rattle.jr_rule.specs.Knowing.{Goes}
 use Rattle.jr_rule.specs.Rule.{view, Fits, EachFits, total, is_of, passes_of, Row, Kept, Sat, acting, Tells, known_at, Owes}
 
@@ -54,30 +57,31 @@ mine_none t u (a ∷ acts) ne = ap (λ b. cond b (a ∷ mine (map (by t) acts) u
 mine_else : (log : History) (t u : ℕ) (acts : List Act) → t ≢ u → mine (log ++ map (by t) acts) u ≡ mine log u
 mine_else log t u acts ne = mine_append log (map (by t) acts) u ∙ (ap (λ l. mine log u ++ l) (mine_none t u acts ne) ∙ append-nil (mine log u))
 
-module _ (c : Config) (last : ℕ) (log : History) where
+module _ (c : Config) (last : ℕ) (log : History) (held : ℕ → Grasp) where
   -- the pass that steps
-  fits_here : (k : Known) (acts : List Act) → Fits c last log k → Fits c last (log ++ map (by k.thread) acts) (known_at k log acts)
-  fits_here k acts f = record { same_config = f.same_config; same_last = f.same_last; row = f.row; begins = prefix_self (log ++ map (by k.thread) acts); own = refl }
+  fits_here : (k : Known) (acts : List Act) (g : Grasp) → Fits c last log held k → Fits c last (log ++ map (by k.thread) acts) (hold held k.thread g) (known_at k log acts g)
+  fits_here k acts g f = record { same_config = f.same_config; same_last = f.same_last; row = f.row; begins = prefix_self (log ++ map (by k.thread) acts); own = refl; grasp = hold_here held k.thread g }
 
   -- a pass of another thread
-  fits_else : (t : ℕ) (acts : List Act) (k : Known) → t ≢ k.thread → Fits c last log k → Fits c last (log ++ map (by t) acts) k
-  fits_else t acts k ne f = record {
+  fits_else : (t : ℕ) (acts : List Act) (g : Grasp) (k : Known) → t ≢ k.thread → Fits c last log held k → Fits c last (log ++ map (by t) acts) (hold held t g) k
+  fits_else t acts g k ne f = record {
     same_config = f.same_config;
     same_last = f.same_last;
     row = f.row;
     begins = prefix_trans k.seen log (log ++ map (by t) acts) f.begins (map (by t) acts, refl);
     own = mine_else log t k.thread acts ne ∙ f.own;
+    grasp = hold_else held t k.thread g (λ e. ne (sym e)) ∙ f.grasp;
   }
 
-  others_fit : (t : ℕ) (acts : List Act) (ks : List Known) → total (is_of t) ks ≡ 0 → EachFits c last log ks → EachFits c last (log ++ map (by t) acts) ks
-  others_fit t acts [] none fit = tt
-  others_fit t acts (k ∷ ks) none fit =
+  others_fit : (t : ℕ) (acts : List Act) (g : Grasp) (ks : List Known) → total (is_of t) ks ≡ 0 → EachFits c last log held ks → EachFits c last (log ++ map (by t) acts) (hold held t g) ks
+  others_fit t acts g [] none fit = tt
+  others_fit t acts g (k ∷ ks) none fit =
       let other : t ≢ k.thread = λ e. let one = one_here t k (sym e) in absurd (omega arith) in
-      (fits_else t acts k other fit.0, others_fit t acts ks (omega arith) fit.1)
+      (fits_else t acts g k other fit.0, others_fit t acts g ks (omega arith) fit.1)
 
 -- what the step makes of what its pass had seen
-pub goes_at : (k : Known) (log : History) (acts : List Act) → Fits k.config k.last log k → IsLegal k.config k.last (log ++ map (by k.thread) acts) → Goes k acts (known_at k log acts)
-goes_at k log acts f legal =
+pub goes_at : (k : Known) (log : History) (held : ℕ → Grasp) (acts : List Act) (g : Grasp) → Fits k.config k.last log held k → IsLegal k.config k.last (log ++ map (by k.thread) acts) → Goes k acts (known_at k log acts g)
+goes_at k log held acts g f legal =
     let between = f.begins.0 in record {
       config = refl;
       last = refl;
@@ -107,20 +111,21 @@ module _ (c : Config) (last : ℕ) where
       )
 
   -- the acts go to the end of the longest history
-  adds : (r : Row) (kept : Kept last c r) (id : ℕ) (k : Known) (ks : List Known) → get_elem? r.views id ≡ some (view (k ∷ ks)) → (i n : ℕ) (acts : List Act) → IsLegal c last (kept.log ++ map (by k.thread) acts)
-      → IsImage c last (slice_set r.words i n) (state (kept.log ++ map (by k.thread) acts)) → Kept last c (stepped r i n id [] (view (known_at k kept.log acts ∷ ks)) keeps)
-  adds r kept id k ks at i n acts legal image =
-      let w : View = view (known_at k kept.log acts ∷ ks) in
+  adds : (r : Row) (kept : Kept last c r) (id : ℕ) (k : Known) (ks : List Known) → get_elem? r.views id ≡ some (view (k ∷ ks)) → (i n : ℕ) (acts : List Act) (g : Grasp) → IsLegal c last (kept.log ++ map (by k.thread) acts)
+      → IsImage c last (slice_set r.words i n) (state (kept.log ++ map (by k.thread) acts)) (hold kept.held k.thread g) → Kept last c (stepped r i n id [] (view (known_at k kept.log acts g ∷ ks)) keeps)
+  adds r kept id k ks at i n acts g legal image =
+      let w : View = view (known_at k kept.log acts g ∷ ks) in
       let fit = kept.each id (view (k ∷ ks)) at in
       let far = apart r kept id k ks at in
       let t : ℕ = k.thread in record {
         log = kept.log ++ map (by t) acts;
+        held = hold kept.held t g;
         legal = legal;
         sized = kept.sized;
         image = image;
         each = λ j v there. ⊎_elim
-            (λ (q : (j ≡ id) × (w ≡ v)). subst (λ (z : View). EachFits c last (kept.log ++ map (by t) acts) z.passes) q.1 (fits_here c last kept.log k acts fit.0, others_fit c last kept.log t acts ks far.0 fit.1))
-            (λ (q : (j ≢ id) × (get_elem? r.views j ≡ some v)). others_fit c last kept.log t acts v.passes (far.1 j v q.0 q.1) (kept.each j v q.1))
+            (λ (q : (j ≡ id) × (w ≡ v)). subst (λ (z : View). EachFits c last (kept.log ++ map (by t) acts) (hold kept.held t g) z.passes) q.1 (fits_here c last kept.log kept.held k acts g fit.0, others_fit c last kept.log kept.held t acts g ks far.0 fit.1))
+            (λ (q : (j ≢ id) × (get_elem? r.views j ≡ some v)). others_fit c last kept.log kept.held t acts g v.passes (far.1 j v q.0 q.1) (kept.each j v q.1))
             (at_set r.views id j w v there);
         once = λ u. let same = total_at (passes_of u) r.views id (view (k ∷ ks)) w at in let most = kept.once u in omega arith;
       }
@@ -132,19 +137,20 @@ module _ (c : Config) (last slots id : ℕ) (k : Known) (ks : List Known) (i : �
   here r kept at =
       let n : ℕ = get_or r.words i 0 in
       let fit = kept.each id (view (k ∷ ks)) at in
-      let made = owes kept.log r.words (record { fits = fit.0; legal = kept.legal; sized = kept.sized; image = kept.image }) in
+      let made = owes kept.log r.words kept.held (record { fits = fit.0; legal = kept.legal; sized = kept.sized; image = kept.image }) in
       let far = apart k.config k.last r kept id k ks at in (
-        view (known_at k kept.log made.acts ∷ ks),
+        view (known_at k kept.log made.acts made.grasp ∷ ks),
         keeps,
         tt,
-        adds k.config k.last r kept id k ks at i (f n) made.acts made.legal made.image,
+        adds k.config k.last r kept id k ks at i (f n) made.acts made.grasp made.legal made.image,
         record {
           acts = made.acts;
-          new = known_at k kept.log made.acts;
+          new = known_at k kept.log made.acts made.grasp;
           is = refl;
-          goes = goes_at k kept.log made.acts fit.0 made.legal;
+          goes = goes_at k kept.log kept.held made.acts made.grasp fit.0 made.legal;
           says = made.says;
-          others = others_fit k.config k.last kept.log k.thread made.acts ks far.0 fit.1;
+          held = hold kept.held k.thread made.grasp;
+          others = others_fit k.config k.last kept.log kept.held k.thread made.acts made.grasp ks far.0 fit.1;
         },
       )
 

@@ -11,29 +11,32 @@ use Rattle.jr_model.specs.State.{opening as nothing_stands}
 use Rattle.jr_model.specs.History.{History}
 use Rattle.jr_rule.specs.declared.known.Known.{Known}
 use Rattle.jr_rule.specs.declared.known.View.{View}
+use Rattle.jr_rule.specs.declared.known.Grasp.{Grasp}
+use Rattle.jr_rule.specs.Grasping.{empty}
 use Rattle.jr_rule.specs.Image.{IsImage}
 use Rattle.jr_rule.specs.Rule.{known, view, IsSized, EachFits, total, is_of, passes_of, Kept, newcomers, Sat, first_alone, without_first, together, spent}
 use Rattle.jr_rule.proofs.Plays.{total_append, total_at}
 
-each_append : (c : Config) (last : ℕ) (log : History) (ks ls : List Known) → EachFits c last log ks → EachFits c last log ls → EachFits c last log (ks ++ ls)
-each_append c last log [] ls a b = b
-each_append c last log (k ∷ ks) ls a b = (a.0, each_append c last log ks ls a.1 b)
+each_append : (c : Config) (last : ℕ) (log : History) (held : ℕ → Grasp) (ks ls : List Known) → EachFits c last log held ks → EachFits c last log held ls → EachFits c last log held (ks ++ ls)
+each_append c last log held [] ls a b = b
+each_append c last log held (k ∷ ks) ls a b = (a.0, each_append c last log held ks ls a.1 b)
 
 module _ (c : Config) (last : ℕ) where
   -- a seat's passes are cut in two
-  cuts : (id : ℕ) (v left right : View) → ((log : History) → EachFits c last log v.passes → EachFits c last log left.passes × EachFits c last log right.passes)
+  cuts : (id : ℕ) (v left right : View) → ((log : History) (held : ℕ → Grasp) → EachFits c last log held v.passes → EachFits c last log held left.passes × EachFits c last log held right.passes)
       → ((t : ℕ) → passes_of t left + passes_of t right ≡ passes_of t v) → Splits (Kept last c) id v left right
   cuts id v left right parts counts r kept at = record {
     log = kept.log;
+    held = kept.held;
     legal = kept.legal;
     sized = kept.sized;
     image = kept.image;
     each = λ j w there. ⊎_elim
         (λ (in_front : get_elem? (slice_set r.views id left) j ≡ some w). ⊎_elim
-        (λ (t : (j ≡ id) × (left ≡ w)). subst (λ (z : View). EachFits c last kept.log z.passes) t.1 (parts kept.log (kept.each id v at)).0)
+        (λ (t : (j ≡ id) × (left ≡ w)). subst (λ (z : View). EachFits c last kept.log kept.held z.passes) t.1 (parts kept.log kept.held (kept.each id v at)).0)
         (λ (t : (j ≢ id) × (get_elem? r.views j ≡ some w)). kept.each j w t.1)
         (at_set r.views id j left w in_front))
-        (λ (new : right ≡ w). subst (λ (z : View). EachFits c last kept.log z.passes) new (parts kept.log (kept.each id v at)).1)
+        (λ (new : right ≡ w). subst (λ (z : View). EachFits c last kept.log kept.held z.passes) new (parts kept.log kept.held (kept.each id v at)).1)
         (at_snoc (slice_set r.views id left) right w j there);
     once = λ t.
         let f : View → ℕ = passes_of t in
@@ -45,24 +48,25 @@ module _ (c : Config) (last : ℕ) where
 
   pub deals : (id : ℕ) (v : View) (k : Known) (ks : List Known) → v ≡ view (k ∷ ks) → Splits (Kept last c) id v (without_first v) (first_alone v)
   deals id v k ks is = subst (λ (w : View). Splits (Kept last c) id w (without_first w) (first_alone w)) (sym is)
-      (cuts id (view (k ∷ ks)) (view ks) (view (k ∷ [])) (λ log fit. (fit.1, (fit.0, tt))) (λ t. omega arith))
+      (cuts id (view (k ∷ ks)) (view ks) (view (k ∷ [])) (λ log held fit. (fit.1, (fit.0, tt))) (λ t. omega arith))
 
   pub parts : (id : ℕ) (v : View) (k : Known) (ks : List Known) → v ≡ view (k ∷ ks) → Splits (Kept last c) id v (first_alone v) (without_first v)
   parts id v k ks is = subst (λ (w : View). Splits (Kept last c) id w (first_alone w) (without_first w)) (sym is)
-      (cuts id (view (k ∷ ks)) (view (k ∷ [])) (view ks) (λ log fit. ((fit.0, tt), fit.1)) (λ t. omega arith))
+      (cuts id (view (k ∷ ks)) (view (k ∷ [])) (view ks) (λ log held fit. ((fit.0, tt), fit.1)) (λ t. omega arith))
 
   pub gathers : (id : ℕ) (v : View) (other : ℕ) (w : View) → Joins (Kept last c) id v other w (together v w) spent
   gathers id v other w r kept at apart there =
       let here = at_set r.views id other (together v w) w there in
       let was : get_elem? r.views other ≡ some w = ⊎_elim (λ (t : (other ≡ id) × (together v w ≡ w)). absurd (apart t.0)) (λ (t : (other ≢ id) × (get_elem? r.views other ≡ some w)). t.1) here in record {
         log = kept.log;
+        held = kept.held;
         legal = kept.legal;
         sized = kept.sized;
         image = kept.image;
         each = λ j u there'. ⊎_elim
-            (λ (t : (j ≡ other) × (spent ≡ u)). subst (λ (z : View). EachFits c last kept.log z.passes) t.1 tt)
+            (λ (t : (j ≡ other) × (spent ≡ u)). subst (λ (z : View). EachFits c last kept.log kept.held z.passes) t.1 tt)
             (λ (t : (j ≢ other) × (get_elem? (slice_set r.views id (together v w)) j ≡ some u)). ⊎_elim
-            (λ (q : (j ≡ id) × (together v w ≡ u)). subst (λ (z : View). EachFits c last kept.log z.passes) q.1 (each_append c last kept.log v.passes w.passes (kept.each id v at) (kept.each other w was)))
+            (λ (q : (j ≡ id) × (together v w ≡ u)). subst (λ (z : View). EachFits c last kept.log kept.held z.passes) q.1 (each_append c last kept.log kept.held v.passes w.passes (kept.each id v at) (kept.each other w was)))
             (λ (q : (j ≢ id) × (get_elem? r.views j ≡ some u)). kept.each j u q.1)
             (at_set r.views id j (together v w) u t.1))
             (at_set (slice_set r.views id (together v w)) other j spent u there');
@@ -74,27 +78,28 @@ module _ (c : Config) (last : ℕ) where
             let most = kept.once t in omega arith;
       }
 
-  newcomers_fit : (n t : ℕ) → t + n ≤ c.threads → EachFits c last [] (newcomers c last n t)
+  newcomers_fit : (n t : ℕ) → t + n ≤ c.threads → EachFits c last [] (λ u. empty) (newcomers c last n t)
   newcomers_fit zero t h = tt
-  newcomers_fit (suc n) t h = (record { same_config = refl; same_last = refl; row = omega arith; begins = ([], refl); own = refl }, newcomers_fit n (suc t) (omega arith))
+  newcomers_fit (suc n) t h = (record { same_config = refl; same_last = refl; row = omega arith; begins = ([], refl); own = refl; grasp = refl }, newcomers_fit n (suc t) (omega arith))
 
   not_yet : (u n t : ℕ) → u < t → total (is_of u) (newcomers c last n t) ≡ 0
   not_yet u zero t h = refl
   not_yet u (suc n) t h =
       let other : t ≢ u = λ e. omega arith in
-      let none : is_of u (known c last t []) ≡ 0 = ap (λ b. cond b 1 0) (ne_eqb t u other) in
+      let none : is_of u (known c last t [] empty) ≡ 0 = ap (λ b. cond b 1 0) (ne_eqb t u other) in
       let rest = not_yet u n (suc t) (omega arith) in omega arith
 
   at_most_once : (u n t : ℕ) → total (is_of u) (newcomers c last n t) ≤ 1
   at_most_once u zero t = omega arith
   at_most_once u (suc n) t = dite (ℕ_discrete t u)
-      (λ e. let one : is_of u (known c last t []) ≡ 1 = ap (λ b. cond b 1 0) (eq-eqb t u e) in let rest = not_yet u n (suc t) (omega arith) in omega arith)
-      (λ other. let none : is_of u (known c last t []) ≡ 0 = ap (λ b. cond b 1 0) (ne_eqb t u other) in let rest = at_most_once u n (suc t) in omega arith)
+      (λ e. let one : is_of u (known c last t [] empty) ≡ 1 = ap (λ b. cond b 1 0) (eq-eqb t u e) in let rest = not_yet u n (suc t) (omega arith) in omega arith)
+      (λ other. let none : is_of u (known c last t [] empty) ≡ 0 = ap (λ b. cond b 1 0) (ne_eqb t u other) in let rest = at_most_once u n (suc t) in omega arith)
 
   -- a row that shows the opening meets the rule
-  pub opens : (words : List ℕ) → IsSized c last → IsImage c last words nothing_stands → Kept last c (opening words [] (view (newcomers c last c.threads 0)))
+  pub opens : (words : List ℕ) → IsSized c last → IsImage c last words nothing_stands (λ t. empty) → Kept last c (opening words [] (view (newcomers c last c.threads 0)))
   opens words sized image = record {
     log = [];
+    held = λ t. empty;
     legal = tt;
     sized = sized;
     image = image;
@@ -102,17 +107,17 @@ module _ (c : Config) (last : ℕ) where
     once = λ t. let one = at_most_once t c.threads 0 in omega arith;
   }
     where
-      alone : (v : View) (j : ℕ) → get_elem? (view (newcomers c last c.threads 0) ∷ []) j ≡ some v → EachFits c last [] v.passes
-      alone v zero there = subst (λ (z : View). EachFits c last [] z.passes) (some-injective _ v there) (newcomers_fit c.threads 0 (omega arith))
+      alone : (v : View) (j : ℕ) → get_elem? (view (newcomers c last c.threads 0) ∷ []) j ≡ some v → EachFits c last [] (λ t. empty) v.passes
+      alone v zero there = subst (λ (z : View). EachFits c last [] (λ t. empty) z.passes) (some-injective _ v there) (newcomers_fit c.threads 0 (omega arith))
       alone v (suc j) there = absurd (some-ne-none v (sym there))
 
   -- the next of the newcomers
-  pub next_newcomer : (m : Sat) (t : ℕ) → t < c.threads → m ≡ (view (newcomers c last (c.threads - t) t), []) → m ≡ (view (known c last t [] ∷ newcomers c last (c.threads - (t + 1)) (t + 1)), [])
+  pub next_newcomer : (m : Sat) (t : ℕ) → t < c.threads → m ≡ (view (newcomers c last (c.threads - t) t), []) → m ≡ (view (known c last t [] empty ∷ newcomers c last (c.threads - (t + 1)) (t + 1)), [])
   next_newcomer m t h e =
       let n : ℕ = c.threads - (t + 1) in
       let more : c.threads - t ≡ suc n = omega arith in
       let next : suc t ≡ t + 1 = omega arith in
-      e ∙ (ap (λ (k : ℕ). (view (newcomers c last k t), [])) more ∙ ap (λ (k : ℕ). (view (known c last t [] ∷ newcomers c last n k), [])) next)
+      e ∙ (ap (λ (k : ℕ). (view (newcomers c last k t), [])) more ∙ ap (λ (k : ℕ). (view (known c last t [] empty ∷ newcomers c last n k), [])) next)
 
 -- the seat of two passes that were joined
 pub joined_is : (m v w : Sat) (k l : Known) → v ≡ (view (k ∷ []), []) → w ≡ (view (l ∷ []), []) → m ≡ (together v.0 w.0, v.1) → m ≡ (view (k ∷ l ∷ []), [])

@@ -28,7 +28,7 @@ use Rattle.jr_rule.specs.Knowing.{view, HasObject, HasLooked}
 use Rattle.jr_rule.specs.Rule.{IsSized, known_at, Owes}
 use Rattle.jr_rule.specs.Slots.{IsReference, freed}
 use Rattle.jr_rule.proofs.Found.{now, role_at, present_now, looked_later}
-use Rattle.jr_rule.proofs.GateOwed.{makes, written, unwritten, won, lost}
+use Rattle.jr_rule.proofs.Owing.{quiet, written, unwritten, won, lost}
 use Rattle.jr_rule.proofs.LostClaims.{claim_lost}
 use Rattle.jr_rule.proofs.Looked.{IsLooked, looked_at}
 use Rattle.jr_rule.proofs.Slots.{slot_fits, shows_slot}
@@ -72,37 +72,38 @@ free_done h w k n acts k' told = dite (ℕ_discrete n w) (λ e. told.0 e ∙ ap 
 
 module _ (k : Known) (within : role_of (view k) ≡ Within) where
   pub sees_slot : (i : ℕ) (name : SlotNaming) → i < k.config.slots → SlotNameFits i name → Owes k (slot_at i) (λ n. n) (SawSlot i name k)
-  sees_slot i name l fits log words f =
+  sees_slot i name l fits log words held f =
       let n : ℕ = get_or words (slot_at i) 0 in
       let x = f.image.slot i l in
       let acts : List Act = slot_named i name x.parts ∷ [] in
-      let t = sees k.config k.last log k.thread words f.legal f.image f.fits.row (role_at k log words f ∙ within) i name x.parts l fits refl in
-      makes k log (slice_set words (slot_at i) n) (SawSlot i name k n) acts (unwritten k log words (slot_at i) t) (
+      let t = sees k.config k.last log k.thread words f.legal held f.image f.fits.row (role_at k log words held f ∙ within) i name x.parts l fits refl in
+      quiet k log words held f (slice_set words (slot_at i) n) (SawSlot i name k n) acts (unwritten k log words held (slot_at i) t) (
         x.parts,
         slot_fits k.config k.last log f.legal (f.sized).serials (few_objects k.config k.last f.sized) i n x,
         x.word,
         refl,
-        shows_slot i n (state log) (known_at k log acts) x x.parts refl (sym (slot_named_state log k.thread i name x.parts)),
+        shows_slot i n (state log) (known_at k log acts k.grasp) x x.parts refl (sym (slot_named_state log k.thread i name x.parts)),
+        refl,
       )
 
   pub claims_slot : (i serial : ℕ) (kind : RefKind) (o : ℕ) (p : SlotParts) → i < k.config.slots → serial ≤ k.last → kind ≢ Local → IsReference kind serial (Some o) p → HasObject o k
       → Owes k (slot_at i) (λ n. either (eqb n (slot_word (slot.Free serial))) (slot_word p) n) (Claimed i serial kind o k)
-  claims_slot i serial kind o p l small global is present log words f =
+  claims_slot i serial kind o p l small global is present log words held f =
       let n : ℕ = get_or words (slot_at i) 0 in
       let free : ℕ = slot_word (slot.Free serial) in
       let x = f.image.slot i l in
-      let inside = role_at k log words f ∙ within in
+      let inside = role_at k log words held f ∙ within in
       let few = (f.sized).serials in
       let objects = few_objects k.config k.last f.sized in
       let acts : List Act = claiming i serial kind o (Err x.parts) ∷ [] in
       dite (ℕ_discrete n free)
-      (λ here. makes k log (slice_set words (slot_at i) (either (eqb n free) (slot_word p) n)) (Claimed i serial kind o k n) (claiming i serial kind o (Ok tt) ∷ [])
-      (written k log words (slot_at i) (slot_word p) (either (eqb n free) (slot_word p) n) (won free (slot_word p) n here)
-      (claims k.config k.last log k.thread words f.legal f.image f.fits.row inside few objects i serial kind o p l (omega arith) global is (present_now k log words f o within present) here))
-      (λ e. refl, λ ne. absurd (ne here)))
-      (λ other. makes k log (slice_set words (slot_at i) (either (eqb n free) (slot_word p) n)) (Claimed i serial kind o k n) acts
-      (written k log words (slot_at i) n (either (eqb n free) (slot_word p) n) (lost free (slot_word p) n other)
-      (unwritten k log words (slot_at i) (sees k.config k.last log k.thread words f.legal f.image f.fits.row inside i naming.Probe x.parts l tt refl))) (
+      (λ here. quiet k log words held f (slice_set words (slot_at i) (either (eqb n free) (slot_word p) n)) (Claimed i serial kind o k n) (claiming i serial kind o (Ok tt) ∷ [])
+      (written k log words held (slot_at i) (slot_word p) (either (eqb n free) (slot_word p) n) (won free (slot_word p) n here)
+      (claims k.config k.last log k.thread words f.legal held f.image f.fits.row inside few objects i serial kind o p l (omega arith) global is (present_now k log words held f o within present) here))
+      (λ e. refl, λ ne. absurd (ne here), refl))
+      (λ other. quiet k log words held f (slice_set words (slot_at i) (either (eqb n free) (slot_word p) n)) (Claimed i serial kind o k n) acts
+      (written k log words held (slot_at i) n (either (eqb n free) (slot_word p) n) (lost free (slot_word p) n other)
+      (unwritten k log words held (slot_at i) (sees k.config k.last log k.thread words f.legal held f.image f.fits.row inside i naming.Probe x.parts l tt refl))) (
         λ e. absurd (other e),
         λ ne. (
           x.parts,
@@ -111,29 +112,30 @@ module _ (k : Known) (within : role_of (view k) ≡ Within) where
           refl,
           λ seen. (
             sometime_wider (prefix_self k.seen) (by k.thread (Probe i (is_occupied x.parts)) ∷ [], refl) (claim_lost k log f.fits.begins f.legal i serial n seen x other),
-            shows_slot i n (state log) (known_at k log acts) x x.parts refl (sym (slot_named_state log k.thread i naming.Probe x.parts)),
+            shows_slot i n (state log) (known_at k log acts k.grasp) x x.parts refl (sym (slot_named_state log k.thread i naming.Probe x.parts)),
           ),
         ),
+        refl,
       ))
 
   pub frees_slot : (h : Handle) (o : Option ℕ) (p : SlotParts) → IsReference h.kind h.serial o p → ∥ HasLooked h (found_object o) k ∥₁
       → Owes k (slot_at h.index) (λ n. either (eqb n (slot_word p)) (slot_word (freed k.last h.serial)) n) (Freed h (slot_word p) k)
-  frees_slot h o p is may log words f =
+  frees_slot h o p is may log words held f =
       let n : ℕ = get_or words (slot_at h.index) 0 in
       let w : ℕ = slot_word p in
       let new : ℕ = slot_word (freed k.last h.serial) in
-      let inside = role_at k log words f ∙ within in
+      let inside = role_at k log words held f ∙ within in
       let few = (f.sized).serials in
       let objects = few_objects k.config k.last f.sized in
-      let looked = looked_is k.config k.last h o (state log) (∥∥₁_map may (λ q. looked_at k.config k.last h o (now k log words f) f.legal (looked_later k log words f h (found_object o) q))) in
+      let looked = looked_is k.config k.last h o (state log) (∥∥₁_map may (λ q. looked_at k.config k.last h o (now k log words held f) f.legal (looked_later k log words held f h (found_object o) q))) in
       let serial = looked.row.3 in
       let fits = reference_fits h.kind h.serial o p is (omega arith) (λ x e. let b = looked.object x e in let c = b.1 in (b.0, omega arith)) in
       dite (ℕ_discrete n w)
-      (λ here. makes k log (slice_set words (slot_at h.index) (either (eqb n w) new n)) (Freed h w k n) (freeing h true ∷ [])
-      (written k log words (slot_at h.index) new (either (eqb n w) new n) (won w new n here)
-      (frees k.config k.last log k.thread words f.legal f.image f.fits.row inside few objects h o p looked is fits here))
-      (λ e. refl, λ ne. absurd (ne here)))
-      (λ other. makes k log (slice_set words (slot_at h.index) (either (eqb n w) new n)) (Freed h w k n) (freeing h false ∷ [])
-      (written k log words (slot_at h.index) n (either (eqb n w) new n) (lost w new n other)
-      (unwritten k log words (slot_at h.index) (frees_late k.config k.last log k.thread words f.legal f.image f.fits.row inside few objects h o p looked is other)))
-      (λ e. absurd (other e), λ ne. refl))
+      (λ here. quiet k log words held f (slice_set words (slot_at h.index) (either (eqb n w) new n)) (Freed h w k n) (freeing h true ∷ [])
+      (written k log words held (slot_at h.index) new (either (eqb n w) new n) (won w new n here)
+      (frees k.config k.last log k.thread words f.legal held f.image f.fits.row inside few objects h o p looked is fits here))
+      (λ e. refl, λ ne. absurd (ne here), refl))
+      (λ other. quiet k log words held f (slice_set words (slot_at h.index) (either (eqb n w) new n)) (Freed h w k n) (freeing h false ∷ [])
+      (written k log words held (slot_at h.index) n (either (eqb n w) new n) (lost w new n other)
+      (unwritten k log words held (slot_at h.index) (frees_late k.config k.last log k.thread words f.legal held f.image f.fits.row inside few objects h o p looked is other)))
+      (λ e. absurd (other e), λ ne. refl, refl))

@@ -18,6 +18,7 @@ use Rattle.jr_model.proofs.Updates.{at_handle, at_handle_self, eq_true, eq_false
 use Rattle.jr_rule.specs.declared.naming.SlotNaming.{SlotNaming}
 use Rattle.jr_rule.specs.declared.naming.SlotNaming.TheVariants as naming
 use Rattle.jr_rule.specs.Acts.{found_object, reply, slot_named, SlotNameFits, is_occupied, handle_of}
+use Rattle.jr_rule.specs.declared.known.Grasp.{Grasp}
 use Rattle.jr_rule.specs.Image.{slot_at, AreGivenBelow, NoneStands, StandsAlone, SaysOfSlot, IsSlotOf, IsImage}
 use Rattle.jr_rule.specs.Slots.{IsReference, freed}
 use Rattle.jr_rule.proofs.Turns.{Turn, turn_one}
@@ -71,19 +72,19 @@ freed_slot last s h next r y given = record {
     go true e = let l : h.serial < last = grind (arith, nat_tests) in let n = y.latest in (none, n, omega arith)
     go false e = let l : last ≤ h.serial = grind (arith, nat_tests) in let n = y.latest in (none, refl, omega arith)
 
-module _ (c : Config) (last : ℕ) (log : History) (t : ℕ) (words : List ℕ) (legal : IsLegal c last log) (image : IsImage c last words (state log)) (row : t < c.threads) (within : (state log).role t ≡ Within) where
+module _ (c : Config) (last : ℕ) (log : History) (t : ℕ) (words : List ℕ) (legal : IsLegal c last log) (held : ℕ → Grasp) (image : IsImage c last words (state log) held) (row : t < c.threads) (within : (state log).role t ≡ Within) where
   -- a load of a slot counts as what it is named
-  pub sees : (i : ℕ) (name : SlotNaming) (p : SlotParts) (l : i < c.slots) → SlotNameFits i name → (image.slot i l).parts ≡ p → Turn c last log t (slot_named i name p ∷ []) words
-  sees i naming.Meet p l fits e = turn_one c last log t words legal (slot_named i naming.Meet p) (row, tt) image
-  sees i (naming.Look h) p l fits e = turn_one c last log t words legal (slot_named i (naming.Look h) p)
+  pub sees : (i : ℕ) (name : SlotNaming) (p : SlotParts) (l : i < c.slots) → SlotNameFits i name → (image.slot i l).parts ≡ p → Turn c last log t (slot_named i name p ∷ []) words held
+  sees i naming.Meet p l fits e = turn_one c last log t words held legal (slot_named i naming.Meet p) (row, tt) image
+  sees i (naming.Look h) p l fits e = turn_one c last log t words held legal (slot_named i (naming.Look h) p)
       (row, (within, sym (looks last (state log).refs (state log).given i (get_or words (slot_at i) 0) (image.slot i l) h fits.0 fits.2) ∙ ap (reply h) e)) image
-  sees i naming.Probe p l fits e = turn_one c last log t words legal (Probe i (is_occupied p))
+  sees i naming.Probe p l fits e = turn_one c last log t words held legal (Probe i (is_occupied p))
       (row, (within, subst (λ q. IsTrue (is_occupied q) ↔ IsOccupied last (state log) i) e (probes last (state log) i (get_or words (slot_at i) 0) (image.slot i l)))) image
 
   module _ (few_serials : last < 2 ^ 16) (few_objects : c.objects < 2 ^ 16) where
     -- a claim of a free slot
     pub claims : (i serial : ℕ) (kind : RefKind) (o : ℕ) (p : SlotParts) → i < c.slots → serial < 2 ^ 16 → kind ≢ Local → IsReference kind serial (Some o) p → IsPresent (state log) o → get_or words (slot_at i) 0 ≡ slot_word (slot.Free serial)
-        → Turn c last log t (Create (handle_of kind serial i) o ∷ []) (slice_set words (slot_at i) (slot_word p))
+        → Turn c last log t (Create (handle_of kind serial i) o ∷ []) (slice_set words (slot_at i) (slot_word p)) held
     claims i serial kind o p l small global is present found =
         let s : State = state log in
         let h : Handle = handle_of kind serial i in
@@ -92,9 +93,9 @@ module _ (c : Config) (last : ℕ) (log : History) (t : ℕ) (words : List ℕ) 
         let says = subst (SaysOfSlot last s.refs i x.next) free x.says in
         let next = says.1 in
         let fits = says.2 in
-        turn_one c last log t (slice_set words (slot_at i) (slot_word p)) legal (Create h o)
+        turn_one c last log t (slice_set words (slot_at i) (slot_word p)) held legal (Create h o)
         (row, (within, present, (global, refl, l, omega arith), says.0, λ g at same. x.serials.above g at (omega arith)))
-        (slot_set c last words s image (slot_word p) i (update same_handle s.refs h (Object o)) (update same_handle s.given h true) l
+        (slot_set c last words s held image (slot_word p) i (update same_handle s.refs h (Object o)) (update same_handle s.given h true) l
         (claimed_slot last s i serial x.next kind o p is next says.0 x.serials)
         (λ g apart. (
           at_handle (λ r. r ≡ s.refs g) s.refs h g (Object o) (λ z. absurd (apart (sym (ap (λ (f : Handle). f.index) z)))) (λ ne. refl),
@@ -103,7 +104,7 @@ module _ (c : Config) (last : ℕ) (log : History) (t : ℕ) (words : List ℕ) 
 
     -- a delete of a reference that still stands
     pub frees : (h : Handle) (o : Option ℕ) (p : SlotParts) → IsLooked c last h o (state log) → IsReference h.kind h.serial o p → IsSlot p → get_or words (slot_at h.index) 0 ≡ slot_word p
-        → Turn c last log t (Delete h ∷ []) (slice_set words (slot_at h.index) (slot_word (freed last h.serial)))
+        → Turn c last log t (Delete h ∷ []) (slice_set words (slot_at h.index) (slot_word (freed last h.serial))) held
     frees h o p looked is fits found =
         let s : State = state log in
         let i : ℕ = h.index in
@@ -112,15 +113,15 @@ module _ (c : Config) (last : ℕ) (log : History) (t : ℕ) (words : List ℕ) 
         let read : x.parts ≡ p = read_parts c last log legal few_serials few_objects i (get_or words (slot_at i) 0) x p fits found in
         let named = stands_in last s.refs i x.next h.kind h.serial o p is (subst (SaysOfSlot last s.refs i x.next) read x.says) in
         let alone : StandsAlone s.refs x.next h (found_object o) = subst (λ g. StandsAlone s.refs x.next g (found_object o)) (handle_is h h.kind h.serial i refl refl refl looked.row.1) named in
-        turn_one c last log t (slice_set words (slot_at i) (slot_word (freed last h.serial))) legal (Delete h)
+        turn_one c last log t (slice_set words (slot_at i) (slot_word (freed last h.serial))) held legal (Delete h)
         (row, (within, λ e. found_there o (sym alone.found ∙ e)))
-        (slot_set c last words s image (slot_word (freed last h.serial)) i (update same_handle s.refs h Stale) s.given l
+        (slot_set c last words s held image (slot_word (freed last h.serial)) i (update same_handle s.refs h Stale) s.given l
         (freed_slot last s h x.next (found_object o) alone x.serials)
         (λ g apart. (at_handle (λ r. r ≡ s.refs g) s.refs h g Stale (λ z. absurd (apart (sym (ap (λ (f : Handle). f.index) z)))) (λ ne. refl), refl)))
 
     -- a delete that comes too late
     pub frees_late : (h : Handle) (o : Option ℕ) (p : SlotParts) → IsLooked c last h o (state log) → IsReference h.kind h.serial o p → get_or words (slot_at h.index) 0 ≢ slot_word p
-        → Turn c last log t (DeleteStale h ∷ []) words
+        → Turn c last log t (DeleteStale h ∷ []) words held
     frees_late h o p looked is lost =
         let s : State = state log in
         let i : ℕ = h.index in
@@ -129,4 +130,4 @@ module _ (c : Config) (last : ℕ) (log : History) (t : ℕ) (words : List ℕ) 
         (λ e. absurd (lost (x.word ∙ ap slot_word (one_reference h.kind h.serial o x.parts p (reference_is last s.refs i x.next h o refl e x.parts x.says) is))))
         (λ e. e)
         looked.stands in
-        turn_one c last log t words legal (DeleteStale h) (row, (within, stale)) image
+        turn_one c last log t words held legal (DeleteStale h) (row, (within, stale)) image

@@ -29,7 +29,7 @@ use Rattle.jr_rule.specs.Slots.{is_of_kind}
 use Rattle.jr_rule.proofs.InRoom.{in_room}
 use Rattle.jr_rule.proofs.GateTurns.{bit_most, not_true}
 use Rattle.jr_rule.proofs.Slots.{found_there, slot_fits}
-use Rattle.jr_rule.proofs.LocalTurns.{header_none, header_some}
+use Rattle.jr_rule.proofs.Headers.{header_none, header_some}
 
 pub sum_none : (f : ℕ → ℕ) → sum_below 0 f ≡ 0
 unfolding sum_below

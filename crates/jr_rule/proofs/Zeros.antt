@@ -7,8 +7,11 @@ use Rattle.jr_word.specs.Config.{row_words}
 use Rattle.jr_model.specs.declared.event.Role.TheVariants.{Outside}
 use Rattle.jr_model.specs.State.{opening}
 use Rattle.jr_model.proofs.Counts.{count_all_false}
-use Rattle.jr_rule.specs.Image.{local_at, is_inside, IsImage}
-use Rattle.jr_rule.specs.Plain.{standing, unseen, Shows, IsUnused}
+use Rattle.jr_rule.specs.Image.{local_at, is_inside, unowned, IsImage}
+use Rattle.jr_rule.specs.Grasping.{empty}
+use Rattle.jr_rule.proofs.Images.{image_same}
+use Rattle.jr_rule.proofs.Spaces.{hold_same}
+use Rattle.jr_rule.specs.Plain.{alone, standing, unseen, Shows, IsUnused}
 use Rattle.jr_rule.proofs.Unused.{unused_zeros}
 
 zeros : (n j : ℕ) → ◌≡◌ {A = ℕ} (get_or (replicate n 0) j 0) 0
@@ -23,7 +26,7 @@ pub zeros_wide : (words : List ℕ) (n : ℕ) → words ≡ replicate n 0 → le
 zeros_wide words n e = ap length e ∙ length-replicate n 0
 
 module _ (config : Config) (last : ℕ) (words : List ℕ) (none : (j : ℕ) → get_or words j 0 ≡ 0) where
-  pub opening_image : length words ≡ row_words config → IsImage config last words opening
+  pub opening_image : length words ≡ row_words config → IsImage config last words opening (λ t. empty)
   opening_image wide = record {
     wide = wide;
     gate = record {
@@ -42,12 +45,19 @@ module _ (config : Config) (last : ℕ) (words : List ℕ) (none : (j : ℕ) →
     };
     local = λ t p l m. none (local_at config t p);
     header = λ o l m. none _;
+    space = record {
+      owner = λ x. unowned;
+      above = λ x l. refl;
+      object = λ o x h a b e. absurd (let z = e in cc);
+      range = λ t p. record { owns = λ j l. absurd (omega arith); reads = λ j l. absurd (omega arith) };
+      header = λ t o h e. absurd (let z = e in cc);
+    };
   }
 
   pub shows_unseen : length words ≡ row_words config → Shows (standing config last Outside true) words (unseen config last)
   shows_unseen wide = record {
     pass = record { config = refl; last = refl; thread = refl; role = refl; legal = tt };
-    image = opening_image wide;
+    image = image_same config last words opening (λ t. empty) (opening_image wide) (alone empty) (hold_same (λ t. empty) 0 empty refl);
   }
 
   -- nobody has a local reference where the words are zeros

@@ -21,7 +21,9 @@ use Rattle.jr_model.specs.declared.event.Found.{Found}
 use Rattle.jr_model.specs.declared.event.Found.TheVariants.{Object, Stale}
 use Rattle.jr_model.specs.Maps.{count_below}
 use Rattle.jr_model.specs.State.{Handle, Contents, State}
+use Rattle.jr_rule.specs.declared.known.Grasp.{Grasp}
 use Rattle.jr_rule.specs.Acts.{found_object, handle_of}
+use Rattle.jr_rule.specs.Grasping.{words_at, header_in}
 
 -- THE ROW: word 0 the gate, word 1 the top, then the slots, the local words thread by thread, the headers of objects 1 upward, and the element words
 abbrev pub gate_at : ℕ
@@ -38,6 +40,9 @@ local_at c t p = 2 + c.slots + t * c.locals + p
 
 abbrev pub header_at : Config → ℕ → ℕ
 header_at c o = 2 + c.slots + c.threads * c.locals + (o - 1)
+
+abbrev pub element_at : Config → ℕ → ℕ
+element_at c x = 2 + c.slots + c.threads * c.locals + c.objects + x
 
 abbrev pub is_inside : Role → Bool
 is_inside Within = true
@@ -107,11 +112,37 @@ abbrev pub IsHeaderOf : Option Contents → ℕ → Type 0
 IsHeaderOf None w = w ≡ 0
 IsHeaderOf (Some x) w = HasHeader x w
 
--- THE IMAGE: each word says what the state has
-pub record IsImage (c : Config) (last : ℕ) (words : List ℕ) (s : State) : Type 0 where
+-- the header of the object is this one
+pub record IsKnown (c : Config) (words : List ℕ) (o : ℕ) (h : HeaderParts) : Type 0 where
+  pub number : (1 ≤ o) × (o ≤ c.objects)
+  pub fits : IsHeader h
+  pub word : slice_index words (header_at c o) ≡ header_word h
+
+-- WHO OWNS A WORD OF ARRAY SPACE: nobody, an object's element, or an element of a range that a thread has reserved and not published. So none overlap
+pub data Owner : Type 0 where
+  unowned : Owner
+  of_object : ℕ → ℕ → Owner
+  of_range : ℕ → ℕ → ℕ → Owner
+
+-- a list stands from a place on, each of its words owned by its element
+pub record Stands (c : Config) (owner : ℕ → Owner) (words : List ℕ) (whose : ℕ → Owner) (place : ℕ) (items : List ℕ) : Type 0 where
+  pub owns : (j : ℕ) → j < length items → owner (place + j) ≡ whose j
+  pub reads : (j : ℕ) → j < length items → slice_index words (element_at c (place + j)) ≡ slice_index items j
+
+-- THE SPACE: nothing stands above the top; each present object's list stands at the place that its header says, and each range that a thread holds at its own; and what a thread knows of a header is so
+pub record IsSpace (c : Config) (words : List ℕ) (objects : ℕ → Option Contents) (used : ℕ) (held : ℕ → Grasp) : Type 0 where
+  pub owner : ℕ → Owner
+  pub above : (x : ℕ) → used ≤ x → owner x ≡ unowned
+  pub object : (o : ℕ) (x : Contents) (h : HeaderParts) → 1 ≤ o → o ≤ c.objects → objects o ≡ Some x → IsHeader h → slice_index words (header_at c o) ≡ header_word h → Stands c owner words (of_object o) h.place x.words
+  pub range : (t p : ℕ) → Stands c owner words (of_range t p) p (words_at p (held t).ranges)
+  pub header : (t o : ℕ) (h : HeaderParts) → header_in o (held t).headers ≡ Some h → IsKnown c words o h
+
+-- THE IMAGE: each word says what the state has, and what each thread holds
+pub record IsImage (c : Config) (last : ℕ) (words : List ℕ) (s : State) (held : ℕ → Grasp) : Type 0 where
   pub wide : length words ≡ row_words c
   pub gate : IsGateOf c s.role (slice_index words gate_at)
   pub top : IsTopOf s.used (slice_index words top_at)
   pub slot : (i : ℕ) → i < c.slots → IsSlotOf last s.refs s.given i (slice_index words (slot_at i))
   pub local : (t p : ℕ) → t < c.threads → p < c.locals → IsLocalOf (s.locals t p) (slice_index words (local_at c t p))
   pub header : (o : ℕ) → 1 ≤ o → o ≤ c.objects → IsHeaderOf (s.objects o) (slice_index words (header_at c o))
+  pub space : IsSpace c words s.objects s.used held

@@ -16,6 +16,7 @@ use Rattle.jr_model.specs.Refusals.{Sometime}
 use Rattle.jr_model.specs.Frames.{Frames, Agree}
 use Rattle.jr_rule.specs.declared.known.Known.{Known}
 use Rattle.jr_rule.specs.Acts.{all_counted}
+use Rattle.jr_rule.specs.Grasping.{empty}
 use Rattle.jr_rule.specs.Image.{is_inside, AreGivenBelow, SaysOfSlot}
 
 -- the room, the thread, its role, and whether the pass is fresh
@@ -69,6 +70,14 @@ pub record Goes (k : Known) (acts : List Act) (k' : Known) : Type 0 where
 -- no condition
 abbrev pub anything : Known → Type 0
 anything k = Unit {0}
+
+-- the pass holds what it held
+abbrev pub keeps : Known → Known → Type 0
+keeps k k' = k'.grasp ≡ k.grasp
+
+-- the pass holds nothing any more
+abbrev pub lets_go : Known → Known → Type 0
+lets_go k k' = k'.grasp ≡ empty
 
 -- nothing is shown
 abbrev pub nothing : Known → Known → Type 0

@@ -1,4 +1,5 @@
 pub mod Acts
+pub mod Grasping
 pub mod Image
 pub mod Knowing
 pub mod Slots

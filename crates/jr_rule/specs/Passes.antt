@@ -12,6 +12,7 @@ use Rattle.jr_rule.specs.declared.known.Known.{Known}
 use Rattle.jr_rule.specs.declared.pass.Pass.{Pass}
 use Rattle.jr_rule.specs.declared.row.Row.{Row}
 use Rattle.jr_rule.specs.Knowing.{Standing, IsOf, Goes, state_of}
+use Rattle.jr_rule.specs.Grasping.{empty}
 use Rattle.jr_rule.specs.Rule.{known, acting}
 
 -- what a pass knows: its room and thread, and what it has seen
@@ -35,7 +36,7 @@ pub record IsAt (r : Row) (p : Pass) : Type 0 where
 -- a pass of the row, as it was opened
 pub record IsOpened (r : Row) (p : Pass) : Type 0 where
   pub row : IsAt r p
-  pub knows : known_of p ≡ known r.config r.last p.thread []
+  pub knows : known_of p ≡ known r.config r.last p.thread [] empty
   pub role : p.role ≡ Outside
   pub fresh : p.fresh ≡ true
 

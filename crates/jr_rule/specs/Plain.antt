@@ -3,6 +3,8 @@ use Rattle.std.specs.Prelude.{◌≡◌, ℕ, ◌<◌, Bool, List, [], slice_ind
 use Rattle.jr_word.specs.declared.config.Config.{Config}
 use Rattle.jr_model.specs.declared.event.Role.{Role}
 use Rattle.jr_rule.specs.declared.known.Known.{Known}
+use Rattle.jr_rule.specs.declared.known.Grasp.{Grasp}
+use Rattle.jr_rule.specs.Grasping.{empty, hold}
 use Rattle.jr_rule.specs.Knowing.{Standing, IsOf, HasNoLocals, state_of}
 use Rattle.jr_rule.specs.Image.{local_at, IsImage}
 
@@ -12,12 +14,16 @@ standing c last role fresh = record { config = c; last = last; thread = 0; role 
 
 -- what is known where nothing has happened yet
 abbrev pub unseen : Config → ℕ → Known
-unseen config last = record { config = config; last = last; thread = 0; seen = [] }
+unseen config last = record { config = config; last = last; thread = 0; seen = []; grasp = empty }
+
+-- thread 0 alone holds something
+abbrev pub alone : Grasp → ℕ → Grasp
+alone g = hold (λ t. empty) 0 g
 
 -- the words are the image of the history
 pub record Shows (s : Standing) (words : List ℕ) (k : Known) : Type 0 where
   pub pass : IsOf s k
-  pub image : IsImage k.config k.last words (state_of k)
+  pub image : IsImage k.config k.last words (state_of k) (alone k.grasp)
 
 -- the local words of thread 0 are 0, and so it has no local reference
 pub record IsUnused (s : Standing) (words : List ℕ) : Type 0 where

@@ -7,7 +7,7 @@ use Rattle.jr_model.specs.State.{not_outside}
 use Rattle.jr_rule.specs.declared.closing.Left.{Left}
 use Rattle.jr_rule.specs.declared.pass.Pass.{Pass}
 use Rattle.jr_rule.specs.declared.room.Room.{Room}
-use Rattle.jr_rule.specs.Knowing.{anything, nothing, state_of, Took}
+use Rattle.jr_rule.specs.Knowing.{anything, keeps, state_of, Took}
 use Rattle.jr_rule.specs.Passes.{known_of, standing_of, Knows, IsAt, AreOpened}
 
 -- THE PASS IS ONE OF THE ROOM'S OWN
@@ -26,4 +26,4 @@ pub record IsLeft {LAST : ℕ} (r : Room LAST) (p : Pass) (l : Left LAST) : Type
   pub is : count ≡ not_outside (known_of l.pass).config (state_of (known_of l.pass))
   pub same : l.room ≡ r
   pub of_room : IsAt r.row l.pass
-  pub took : Took standing_of Knows p l.pass (Meet ∷ []) anything nothing
+  pub took : Took standing_of Knows p l.pass (Meet ∷ []) anything keeps

@@ -10,6 +10,8 @@ use Rattle.jr_model.specs.History.{History, by, state, IsLegal, mine}
 use Rattle.jr_rule.specs.declared.known.Known.{Known}
 use Rattle.jr_rule.specs.declared.known.View.{View}
 use Rattle.jr_rule.specs.declared.rule.Sizes.{Sizes}
+use Rattle.jr_rule.specs.declared.known.Grasp.{Grasp}
+use Rattle.jr_rule.specs.Grasping.{empty, hold}
 use Rattle.jr_rule.specs.Image.{IsImage}
 use Rattle.jr_rule.specs.Knowing.{Goes}
 use Rattle.jr_rule.specs.Shown.{IsSmall}
@@ -17,8 +19,8 @@ use Rattle.jr_rule.specs.Shown.{IsSmall}
 abbrev pub sizes : Config → ℕ → Sizes
 sizes c last = record { config = c; last = last }
 
-abbrev pub known : Config → ℕ → ℕ → History → Known
-known c last t seen = record { config = c; last = last; thread = t; seen = seen }
+abbrev pub known : Config → ℕ → ℕ → History → Grasp → Known
+known c last t seen grasp = record { config = c; last = last; thread = t; seen = seen; grasp = grasp }
 
 abbrev pub view : List Known → View
 view ks = record { passes = ks }
@@ -28,17 +30,18 @@ pub record IsSized (c : Config) (last : ℕ) : Type 0 where
   pub small : IsSmall c
   pub serials : last < 2 ^ 16
 
--- A PASS has seen a beginning of the history, in which all its own events stand
-pub record Fits (c : Config) (last : ℕ) (log : History) (k : Known) : Type 0 where
+-- A PASS has seen a beginning of the history, in which all its own events stand, and holds what its thread does
+pub record Fits (c : Config) (last : ℕ) (log : History) (held : ℕ → Grasp) (k : Known) : Type 0 where
   pub same_config : k.config ≡ c
   pub same_last : k.last ≡ last
   pub row : k.thread < c.threads
   pub begins : IsPrefix k.seen log
   pub own : mine log k.thread ≡ mine k.seen k.thread
+  pub grasp : held k.thread ≡ k.grasp
 
-abbrev pub EachFits : Config → ℕ → History → List Known → Type 0
-EachFits c last log [] = Unit {0}
-EachFits c last log (k ∷ ks) = Fits c last log k × EachFits c last log ks
+abbrev pub EachFits : Config → ℕ → History → (ℕ → Grasp) → List Known → Type 0
+EachFits c last log held [] = Unit {0}
+EachFits c last log held (k ∷ ks) = Fits c last log held k × EachFits c last log held ks
 
 abbrev pub total : {A : Type 0} → (A → ℕ) → List A → ℕ
 total f [] = 0
@@ -57,23 +60,24 @@ Row = Table (Unit {0}) View
 
 pub record Kept (last : ℕ) (c : Config) (r : Row) : Type 0 where
   pub log : History
+  pub held : ℕ → Grasp
   pub legal : IsLegal c last log
   pub sized : IsSized c last
-  pub image : IsImage c last r.words (state log)
-  pub each : (j : ℕ) (v : View) → get_elem? r.views j ≡ some v → EachFits c last log v.passes
+  pub image : IsImage c last r.words (state log) held
+  pub each : (j : ℕ) (v : View) → get_elem? r.views j ≡ some v → EachFits c last log held v.passes
   pub once : (t : ℕ) → total (passes_of t) r.views ≤ 1
 
 -- AT THE OPENING the one seat stands for all passes, of so many threads from t on, which have seen nothing
 abbrev pub newcomers : Config → ℕ → ℕ → ℕ → List Known
 newcomers c last zero t = []
-newcomers c last (suc n) t = known c last t [] ∷ newcomers c last n (suc t)
+newcomers c last (suc n) t = known c last t [] empty ∷ newcomers c last n (suc t)
 
 -- a seat, without slots of its own
 abbrev pub Sat : Type 0
 Sat = Me (Unit {0}) View
 
 abbrev pub nobody : Known
-nobody = known (record { threads = 0; slots = 0; objects = 0; words = 0; locals = 0 }) 0 0 []
+nobody = known (record { threads = 0; slots = 0; objects = 0; words = 0; locals = 0 }) 0 0 [] empty
 
 abbrev pub first_of : List Known → Known
 first_of [] = nobody
@@ -98,7 +102,8 @@ pub record Tells (told : Known → ℕ → List Act → Known → Type 0) (m : S
   pub is : m' ≡ (view (new ∷ others_of m.0.passes), m.1)
   pub goes : Goes (acting m) acts new
   pub says : told (acting m) n acts new
-  pub others : EachFits (acting m).config (acting m).last new.seen (others_of m.0.passes)
+  pub held : ℕ → Grasp
+  pub others : EachFits (acting m).config (acting m).last new.seen held (others_of m.0.passes)
 
 -- HOW A SEAT IS CUT: the first pass alone, and the others
 abbrev pub first_alone : View → View
@@ -115,21 +120,22 @@ abbrev pub spent : View
 spent = view []
 
 -- WHAT A KIND OF STEP OWES, which turns the word i into f of what it finds: whatever the history and the words are, its acts are steps of the machine, the words are then the image, and what it tells is so
-pub record IsFound (k : Known) (log : History) (words : List ℕ) : Type 0 where
-  pub fits : Fits k.config k.last log k
+pub record IsFound (k : Known) (log : History) (words : List ℕ) (held : ℕ → Grasp) : Type 0 where
+  pub fits : Fits k.config k.last log held k
   pub legal : IsLegal k.config k.last log
   pub sized : IsSized k.config k.last
-  pub image : IsImage k.config k.last words (state log)
+  pub image : IsImage k.config k.last words (state log) held
 
 -- what is known after acts at the end of the history
-abbrev pub known_at : Known → History → List Act → Known
-known_at k log acts = known k.config k.last k.thread (log ++ map (by k.thread) acts)
+abbrev pub known_at : Known → History → List Act → Grasp → Known
+known_at k log acts grasp = known k.config k.last k.thread (log ++ map (by k.thread) acts) grasp
 
-pub record Makes (k : Known) (log : History) (words : List ℕ) (told : List Act → Known → Type 0) : Type 0 where
+pub record Makes (k : Known) (log : History) (words : List ℕ) (held : ℕ → Grasp) (told : List Act → Known → Type 0) : Type 0 where
   pub acts : List Act
+  pub grasp : Grasp
   pub legal : IsLegal k.config k.last (log ++ map (by k.thread) acts)
-  pub image : IsImage k.config k.last words (state (log ++ map (by k.thread) acts))
-  pub says : told acts (known_at k log acts)
+  pub image : IsImage k.config k.last words (state (log ++ map (by k.thread) acts)) (hold held k.thread grasp)
+  pub says : told acts (known_at k log acts grasp)
 
 abbrev pub Owes : Known → ℕ → (ℕ → ℕ) → (ℕ → List Act → Known → Type 0) → Type 0
-Owes k i f told = (log : History) (words : List ℕ) → IsFound k log words → Makes k log (slice_set words i (f (slice_index words i))) (told (slice_index words i))
+Owes k i f told = (log : History) (words : List ℕ) (held : ℕ → Grasp) → IsFound k log words held → Makes k log (slice_set words i (f (slice_index words i))) held (told (slice_index words i))

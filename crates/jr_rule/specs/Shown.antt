@@ -2,6 +2,7 @@
 use Rattle.std.specs.Prelude.{ℕ, ◌^◌, ◌<◌, ◌≤◌, List}
 use Rattle.jr_word.specs.declared.config.Config.{Config}
 use Rattle.jr_model.specs.History.{History, state, IsLegal}
+use Rattle.jr_rule.specs.declared.known.Grasp.{Grasp}
 use Rattle.jr_rule.specs.Image.{IsImage}
 
 -- the sizes are at most those of the largest room
@@ -16,7 +17,8 @@ pub record IsSmall (c : Config) : Type 0 where
 pub record IsHistoryOf (c : Config) (words : List ℕ) (last : ℕ) (log : History) : Type 0 where
   pub few : last < 2 ^ 16
   pub legal : IsLegal c last log
-  pub image : IsImage c last words (state log)
+  pub held : ℕ → Grasp
+  pub image : IsImage c last words (state log) held
 
 -- the words are the image of some legal history
 abbrev pub HasHistory : Config → List ℕ → Type 0

@@ -4,7 +4,7 @@ ghost use Rattle.jr_model.specs.declared.event.Role.TheVariants.{Outside, Within
 ghost use Rattle.jr_model.specs.declared.event.Act.TheVariants.{Reopen, Meet};
 ghost use Rattle.jr_model.specs.History.{HasMet};
 ghost use Rattle.jr_rule.specs.Acts.{entered_as, leaving, barring, gate_named, GateNameFits, all_counted as all_of};
-ghost use Rattle.jr_rule.specs.Knowing.{view, anything, nothing, Goes, IsClosedNow, ShowsGate, MayKnow, Took};
+ghost use Rattle.jr_rule.specs.Knowing.{view, anything, Goes, IsClosedNow, ShowsGate, MayKnow, Took, keeps, lets_go};
 
 use crate::naming::GateNaming;
 use crate::parts::{GATE, all_counted, is_shut, role_of_entry};
@@ -22,7 +22,7 @@ impl Row {
         requires row { IsAt self.now pass.old }
         requires role { pass.old.role ≡ Outside }
         ensures row { IsAt self.now pass.new }
-        ensures step { Took standing_of Knows pass.old pass.new (entered_as result ∷ []) anything nothing }
+        ensures step { Took standing_of Knows pass.old pass.new (entered_as result ∷ []) anything keeps }
     {
         let found = self.add::<Brand, ()>(&mut pass.seat, GATE, 1, ());
         let entered = !is_shut(found);
@@ -34,7 +34,7 @@ impl Row {
         requires row { IsAt self.now pass.old }
         requires role { (pass.old.role ≡ Within) ⊎ (pass.old.role ≡ Knocking) }
         ensures row { IsAt self.now pass.new }
-        ensures step { Took standing_of Knows pass.old pass.new (leaving pass.old.role ∷ []) anything nothing }
+        ensures step { Took standing_of Knows pass.old pass.new (leaving pass.old.role ∷ []) anything lets_go }
     {
         self.take::<Brand, ()>(&mut pass.seat, GATE, 1, ());
         pass.role = Role::Outside;
@@ -44,7 +44,7 @@ impl Row {
         requires row { IsAt self.now pass.old }
         requires role { pass.old.role ≡ Outside }
         ensures row { IsAt self.now pass.new }
-        ensures step { Took standing_of Knows pass.old pass.new (barring result ∷ []) anything nothing }
+        ensures step { Took standing_of Knows pass.old pass.new (barring result ∷ []) anything keeps }
     {
         let found = self.exchange::<Brand, ()>(&mut pass.seat, GATE, 0, GateWord::SHUT, ());
         if found != 0 {
@@ -59,7 +59,7 @@ impl Row {
         requires role { pass.old.role ≡ Collecting }
         requires closed { MayKnow Knows pass.old IsClosedNow }
         ensures row { IsAt self.now pass.new }
-        ensures step { Took standing_of Knows pass.old pass.new (Reopen ∷ []) IsClosedNow nothing }
+        ensures step { Took standing_of Knows pass.old pass.new (Reopen ∷ []) IsClosedNow lets_go }
     {
         self.take::<Brand, ()>(&mut pass.seat, GATE, GateWord::SHUT, ());
         pass.role = Role::Outside;
@@ -69,7 +69,7 @@ impl Row {
         requires row { IsAt self.now pass.old }
         requires fits { GateNameFits pass.old.role name }
         ensures row { IsAt self.now pass.new }
-        ensures step { Took standing_of Knows pass.old pass.new (gate_named name (all_of result) ∷ []) anything (λ _ k. ShowsGate result k) }
+        ensures step { Took standing_of Knows pass.old pass.new (gate_named name (all_of result) ∷ []) anything (λ j k. ShowsGate result k × keeps j k) }
         ensures seen { Goes (known_of pass.old) (gate_named name (all_of result) ∷ []) (known_of pass.new) × ShowsGate result (known_of pass.new) }
     {
         let found = self.load::<Brand, GateNaming>(&mut pass.seat, GATE, name);
@@ -81,7 +81,7 @@ impl Row {
         requires row { IsAt self.now pass.old }
         requires other { IsAt self.now other }
         ensures row { IsAt self.now pass.new }
-        ensures step { Took standing_of Knows pass.old pass.new (Meet ∷ []) anything nothing }
+        ensures step { Took standing_of Knows pass.old pass.new (Meet ∷ []) anything keeps }
         ensures met { HasMet (view (known_of other)) (view (known_of pass.new)) }
         ensures other { IsAt self.now result × IsSame other result }
     {

@@ -1,14 +1,33 @@
 //! What passes know. Contracts and the rule of the row speak of it; no value of it is made.
 use jr_model::Event;
-use jr_word::Config;
+use jr_word::{Config, HeaderParts};
 use std::collections::LinkedList;
 
-/// What one pass knows: its room and thread, and the history that it has seen, in which all its own events stand.
+/// Words of array space that are a pass's own, from a place on, until it publishes them.
+pub struct OwnRange {
+    pub place: u32,
+    pub words: LinkedList<u64>,
+}
+
+/// A header that a pass knows.
+pub struct KnownHeader {
+    pub object: u16,
+    pub header: HeaderParts,
+}
+
+/// What a pass holds in its stay, beside what it has seen: the newest first, so that it hides an older one of its place or object.
+pub struct Grasp {
+    pub ranges: LinkedList<OwnRange>,
+    pub headers: LinkedList<KnownHeader>,
+}
+
+/// What one pass knows: its room and thread, the history that it has seen, in which all its own events stand, and what it holds.
 pub struct Known {
     pub config: Config,
     pub last: u16,
     pub thread: u8,
     pub seen: LinkedList<Event>,
+    pub grasp: Grasp,
 }
 
 /// What a seat at the row stands for: one pass mostly, two while they meet, none once it is spent.

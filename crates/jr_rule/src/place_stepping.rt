@@ -3,7 +3,7 @@ ghost use Rattle.std.specs.Prelude.{◌≡◌, ◌<◌, ◌≤◌, [], ◌∷◌
 ghost use Rattle.jr_model.specs.declared.event.Role.TheVariants.{Within};
 ghost use Rattle.jr_rule.specs.Acts.{putting, publishing};
 ghost use Rattle.jr_rule.specs.Image.{local_at};
-ghost use Rattle.jr_rule.specs.Knowing.{anything, nothing, HasObject, HasOptional, MayKnow, Took};
+ghost use Rattle.jr_rule.specs.Knowing.{anything, HasObject, HasOptional, MayKnow, Took, keeps};
 
 use crate::parts::{SLOTS, header_at, local_parts};
 use crate::pass::Pass;
@@ -30,7 +30,7 @@ impl Row {
         requires place { place < (standing_of pass.old).config.locals }
         requires object { MayKnow Knows pass.old (HasOptional object) }
         ensures row { IsAt self.now pass.new }
-        ensures step { Took standing_of Knows pass.old pass.new (putting place object ∷ []) (HasOptional object) nothing }
+        ensures step { Took standing_of Knows pass.old pass.new (putting place object ∷ []) (HasOptional object) keeps }
     {
         let at = self.local_at(pass.thread, place);
         let new = LocalWord::pack(local_parts(object));
@@ -45,7 +45,7 @@ impl Row {
         requires number { (1 ≤ object) × (object ≤ (standing_of pass.old).config.objects) }
         requires empty { (header.length ≡ 0) × (header.place ≡ 0) }
         ensures row { IsAt self.now pass.new }
-        ensures step { Took standing_of Knows pass.old pass.new (publishing object header.kind result) anything (λ _ k. HasObject object k) }
+        ensures step { Took standing_of Knows pass.old pass.new (publishing object header.kind result) anything (λ j k. HasObject object k × keeps j k) }
     {
         let at = header_at(&self.config, u32::from(object));
         let new = Header::pack(header);

@@ -2,7 +2,7 @@
 ghost use Rattle.std.specs.Prelude.{◌≡◌, [], ◌∷◌};
 ghost use Rattle.jr_model.specs.declared.event.Act.TheVariants.{Meet};
 ghost use Rattle.jr_model.specs.History.{HasMet};
-ghost use Rattle.jr_rule.specs.Knowing.{view, anything, nothing, Took};
+ghost use Rattle.jr_rule.specs.Knowing.{view, anything, Took, keeps};
 ghost use Rattle.jr_rule.specs.Passes.{IsAt};
 
 use crate::naming::{GateNaming, SlotNaming};
@@ -44,7 +44,7 @@ impl<'a, const LAST: u16> RoomSteps<'a, LAST> {
     pub fn meet(&mut self, other: Pass) -> Pass
         requires { IsOfRoom self.old.room.now other }
         ensures room { self.new.room ≡ self.old.room }
-        ensures step { Took standing_of Knows self.old.pass self.new.pass (Meet ∷ []) anything nothing }
+        ensures step { Took standing_of Knows self.old.pass self.new.pass (Meet ∷ []) anything keeps }
         ensures met { HasMet (view (known_of other)) (view (known_of self.new.pass)) }
         ensures other { IsOfRoom self.old.room.now result × IsSame other result }
     {

@@ -3,6 +3,7 @@ ghost use Rattle.std.specs.Prelude.{◌≡◌, ◌+◌, ◌<◌, ◌≤◌, ◌^
 ghost use prog.Atomic.{either};
 ghost use Rattle.jr_word.specs.Config.{in_limits, row_words};
 ghost use Rattle.jr_model.specs.declared.event.Role.TheVariants.{Outside};
+ghost use Rattle.jr_rule.specs.Grasping.{empty};
 ghost use Rattle.jr_rule.specs.Rule.{IsSized, sizes, known, view, newcomers, others_of, acting, IsAlone, Owes, Tells};
 
 use crate::known::View;
@@ -66,7 +67,7 @@ impl Row {
     fn deal(&self, seat: &mut Seat<(), View>, thread: u8) -> Pass
         requires room { seat.old.table_id ≡ self.now.table.shared.table_id }
         requires thread { thread < self.now.config.threads }
-        requires first { seat.old.me ≡ (view (known self.now.config self.now.last thread [] ∷ others_of seat.old.me.0.passes), []) }
+        requires first { seat.old.me ≡ (view (known self.now.config self.now.last thread [] empty ∷ others_of seat.old.me.0.passes), []) }
         ensures seat { (seat.new.table_id ≡ seat.old.table_id) × (seat.new.me ≡ (view (others_of seat.old.me.0.passes), [])) }
         ensures pass { IsOpened self.now result × (result.thread ≡ thread) }
     {

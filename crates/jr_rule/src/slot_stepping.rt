@@ -3,7 +3,7 @@ ghost use Rattle.std.specs.Prelude.{◌≡◌, ◌≢◌, ◌<◌, [], ◌∷◌
 ghost use Rattle.jr_word.specs.declared.handle.RefKind.TheVariants.{Local};
 ghost use Rattle.jr_model.specs.declared.event.Role.TheVariants.{Within};
 ghost use Rattle.jr_rule.specs.Acts.{slot_named, SlotNameFits, claiming, freeing, found_object};
-ghost use Rattle.jr_rule.specs.Knowing.{anything, nothing, HasObject, HasLooked, IsFreeSlot, ShowsSlot, LostClaim, MayKnow, Took};
+ghost use Rattle.jr_rule.specs.Knowing.{anything, HasObject, HasLooked, IsFreeSlot, ShowsSlot, LostClaim, MayKnow, Took, keeps};
 
 use crate::naming::SlotNaming;
 use crate::parts::{SLOTS, freed_slot, reference};
@@ -21,7 +21,7 @@ impl Row {
         requires index { index < (standing_of pass.old).config.slots }
         requires fits { SlotNameFits index name }
         ensures row { IsAt self.now pass.new }
-        ensures step { Took standing_of Knows pass.old pass.new (slot_named index name result ∷ []) anything (λ _ k. ShowsSlot index result k) }
+        ensures step { Took standing_of Knows pass.old pass.new (slot_named index name result ∷ []) anything (λ j k. ShowsSlot index result k × keeps j k) }
     {
         let at = SLOTS + index as usize;
         let about = (index, name);
@@ -43,7 +43,7 @@ impl Row {
         requires kind { kind ≢ Local }
         requires looked { MayKnow Knows pass.old (λ k. HasObject object k × IsFreeSlot index serial k) }
         ensures row { IsAt self.now pass.new }
-        ensures step { Took standing_of Knows pass.old pass.new (claiming index serial kind object result ∷ []) (λ k. HasObject object k × IsFreeSlot index serial k) (LostClaim index result) }
+        ensures step { Took standing_of Knows pass.old pass.new (claiming index serial kind object result ∷ []) (λ k. HasObject object k × IsFreeSlot index serial k) (λ j k. LostClaim index result j k × keeps j k) }
     {
         let at = SLOTS + index as usize;
         let looked = SlotWord::pack(SlotParts::Free { serial });
@@ -68,7 +68,7 @@ impl Row {
         requires index { handle.index < (standing_of pass.old).config.slots }
         requires looked { MayKnow Knows pass.old (HasLooked handle (found_object object)) }
         ensures row { IsAt self.now pass.new }
-        ensures step { Took standing_of Knows pass.old pass.new (freeing handle result ∷ []) (HasLooked handle (found_object object)) nothing }
+        ensures step { Took standing_of Knows pass.old pass.new (freeing handle result ∷ []) (HasLooked handle (found_object object)) keeps }
     {
         let at = SLOTS + handle.index as usize;
         let looked = SlotWord::pack(reference(handle.kind, handle.serial, object));

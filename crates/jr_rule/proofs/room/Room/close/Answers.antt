@@ -18,7 +18,7 @@ returns-then-inside-ne0-clause-err g c =
       is = c.all_counted-inside.ensures ∙ (seen.1).all;
       same = refl;
       of_room = c.see_gate.ensures.row;
-      took = took_less (λ k new s. tt) c.see_gate.ensures.step;
+      took = took_less (λ k new s. s.1) c.see_gate.ensures.step;
     }
 
 pub returns-clause-ok : goal.returns-clause-ok

@@ -5,6 +5,7 @@ use mathlib.Core.List.{map-append}
 use Rattle.std.proofs.Math.Numerals.{add-one}
 use Rattle.jr_rule.specs.declared.known.Known.{Known}
 use Rattle.jr_rule.specs.declared.pass.Pass.{Pass}
+use Rattle.jr_rule.specs.Grasping.{empty}
 use Rattle.jr_rule.specs.Rule.{known, view, others_of, Sat}
 use Rattle.jr_rule.specs.Passes.{IsOpened, numbers_below}
 use Rattle.jr_rule.proofs.Seats.{next_newcomer}
@@ -22,7 +23,7 @@ all_more P items p old new = All-append P items (p ∷ []) old (λ k d h. let fi
 pub deal-requires : goal.deal-requires
 deal-requires c =
     let e = next_newcomer c.args.self.now.config c.args.self.now.last c.loop-thread.seat.me c.loop-thread.thread c.loop-thread-test.true c.loop-thread.invariant.left in
-    let first = e ∙ ap (λ (ks : List Known). (view (known c.args.self.now.config c.args.self.now.last c.loop-thread.thread [] ∷ ks), [])) (sym (ap (λ (z : Sat). others_of z.0.passes) e)) in
+    let first = e ∙ ap (λ (ks : List Known). (view (known c.args.self.now.config c.args.self.now.last c.loop-thread.thread [] empty ∷ ks), [])) (sym (ap (λ (z : Sat). others_of z.0.passes) e)) in
     record { room = search rules; thread = search rules; first = first }
 
 pub loop-thread-preserved : goal.loop-thread-preserved

@@ -14,10 +14,10 @@ pub invariant_of-pass : goal.invariant_of-pass
 invariant_of-pass c =
     let p = c.args.pass.now in
     let t = c.take.ensures.1 in
-    record { held = held_next p.seat.me c.take.result _ t p.thread p.role p.fresh p.held _ _ _ (t.says ∙ ap (λ r. leaving r ∷ []) p.held.role_is) (left_role p.role c.requires.role) (left_fresh p.role p.fresh) }
+    record { held = held_next p.seat.me c.take.result _ t p.thread p.role p.fresh p.held _ _ _ ((t.says).0 ∙ ap (λ r. leaving r ∷ []) p.held.role_is) (left_role p.role c.requires.role) (left_fresh p.role p.fresh) }
 
 pub returns-clause-step : goal.returns-clause-step
 returns-clause-step c =
     let p = c.args.pass.now in
     let t = c.take.ensures.1 in
-    took p _ c.take.result t _ (t.says ∙ ap (λ r. leaving r ∷ []) p.held.role_is) refl (left_role p.role c.requires.role) (left_fresh p.role p.fresh) (λ m. tt)
+    took p _ c.take.result t _ ((t.says).0 ∙ ap (λ r. leaving r ∷ []) p.held.role_is) refl (left_role p.role c.requires.role) (left_fresh p.role p.fresh) (λ m. (t.says).1)

@@ -25,4 +25,4 @@ invariant_of-pass c =
     let p = c.args.pass.now in
     let q = c.args.other in
     let t = told_alone p.seat.me q.seat.me _ p.held.alone q.held.alone c.join_seat.ensures.2 c.load.result _ c.load.ensures.1 _ c.split_seat-seat.ensures.2 in
-    record { held = held_next p.seat.me c.load.result _ t p.thread p.role p.fresh p.held _ _ _ t.says refl refl }
+    record { held = held_next p.seat.me c.load.result _ t p.thread p.role p.fresh p.held _ _ _ (t.says).0 refl refl }

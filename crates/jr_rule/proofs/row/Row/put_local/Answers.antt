@@ -31,10 +31,10 @@ pub invariant_of-pass : goal.invariant_of-pass
 invariant_of-pass c =
     let p = c.args.pass.now in
     let t = c.store.ensures.1 in
-    record { held = held_next p.seat.me c.pack-new.result.0 _ t p.thread p.role p.fresh p.held _ _ _ t.says (putting_role c.args.place c.args.object p.role) (putting_spends c.args.place c.args.object p.fresh) }
+    record { held = held_next p.seat.me c.pack-new.result.0 _ t p.thread p.role p.fresh p.held _ _ _ (t.says).0 (putting_role c.args.place c.args.object p.role) (putting_spends c.args.place c.args.object p.fresh) }
 
 pub returns-clause-step : goal.returns-clause-step
 returns-clause-step c =
     let p = c.args.pass.now in
     let t = c.store.ensures.1 in
-    took p _ c.pack-new.result.0 t _ t.says refl (putting_role c.args.place c.args.object p.role) (putting_spends c.args.place c.args.object p.fresh) (λ m. tt)
+    took p _ c.pack-new.result.0 t _ (t.says).0 refl (putting_role c.args.place c.args.object p.role) (putting_spends c.args.place c.args.object p.fresh) (λ m. (t.says).1)

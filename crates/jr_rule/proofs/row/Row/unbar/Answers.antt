@@ -12,10 +12,10 @@ pub invariant_of-pass : goal.invariant_of-pass
 invariant_of-pass c =
     let p = c.args.pass.now in
     let t = c.take.ensures.1 in
-    record { held = held_next p.seat.me c.take.result _ t p.thread p.role p.fresh p.held _ _ _ t.says refl refl }
+    record { held = held_next p.seat.me c.take.result _ t p.thread p.role p.fresh p.held _ _ _ (t.says).0 refl refl }
 
 pub returns-clause-step : goal.returns-clause-step
 returns-clause-step c =
     let p = c.args.pass.now in
     let t = c.take.ensures.1 in
-    took p _ c.take.result t _ t.says refl refl refl (λ m. tt)
+    took p _ c.take.result t _ (t.says).0 refl refl refl (λ m. (t.says).1)

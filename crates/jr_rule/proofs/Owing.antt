@@ -1,0 +1,52 @@
+-- How what a step owes is made of a turn.
+use Rattle.std.proofs.Common.{◌≡◌, ◌≢◌, ℕ, List, get_or, slice_set, eqb, eq-eqb, ne_eqb, sym, ap, subst}
+use lib.Seq.{set-get_or}
+use prog.Atomic.{either}
+use Rattle.jr_model.specs.declared.event.Act.{Act}
+use Rattle.jr_model.specs.History.{History, state}
+use Rattle.jr_rule.specs.declared.known.Known.{Known}
+use Rattle.jr_rule.specs.declared.known.Grasp.{Grasp}
+use Rattle.jr_rule.specs.Grasping.{empty, hold}
+use Rattle.jr_rule.specs.Rule.{IsFound, known_at, Makes}
+use Rattle.jr_rule.proofs.Images.{image_same, image_let_go}
+use Rattle.jr_rule.proofs.Spaces.{hold_same}
+use Rattle.jr_rule.proofs.Turns.{then, Turn}
+
+-- a turn after which the thread holds this
+pub gaining : (k : Known) (log : History) (words : List ℕ) (held : ℕ → Grasp) (told : List Act → Known → Type 0) (acts : List Act) (g : Grasp) → Turn k.config k.last log k.thread acts words (hold held k.thread g) → told acts (known_at k log acts g) → Makes k log words held told
+gaining k log words held told acts g t says = record { acts = acts; grasp = g; legal = t.legal; image = t.image; says = says }
+
+-- a turn after which each thread holds what it held
+pub quiet : (k : Known) (log : History) (words : List ℕ) (held : ℕ → Grasp) → IsFound k log words held → (words' : List ℕ) (told : List Act → Known → Type 0) (acts : List Act) → Turn k.config k.last log k.thread acts words' held → told acts (known_at k log acts k.grasp) → Makes k log words' held told
+quiet k log words held f words' told acts t says = record {
+  acts = acts;
+  grasp = k.grasp;
+  legal = t.legal;
+  image = image_same k.config k.last words' (state (then log k.thread acts)) held t.image (hold held k.thread k.grasp) (hold_same held k.thread k.grasp f.fits.grasp);
+  says = says;
+}
+
+-- a turn after which the thread holds nothing
+pub letting_go : (k : Known) (log : History) (held : ℕ → Grasp) (words' : List ℕ) (told : List Act → Known → Type 0) (acts : List Act) → Turn k.config k.last log k.thread acts words' held → told acts (known_at k log acts empty) → Makes k log words' held told
+letting_go k log held words' told acts t says = record {
+  acts = acts;
+  grasp = empty;
+  legal = t.legal;
+  image = image_let_go k.config k.last words' (state (then log k.thread acts)) held t.image k.thread;
+  says = says;
+}
+
+-- the same where the number that was written is named otherwise
+pub written : (k : Known) (log : History) (words : List ℕ) (held : ℕ → Grasp) {acts : List Act} (i m n : ℕ) → n ≡ m → Turn k.config k.last log k.thread acts (slice_set words i m) held → Turn k.config k.last log k.thread acts (slice_set words i n) held
+written k log words held {acts} i m n e t = subst (λ z. Turn k.config k.last log k.thread acts (slice_set words i z) held) (sym e) t
+
+-- a word that is only read stays
+pub unwritten : (k : Known) (log : History) (words : List ℕ) (held : ℕ → Grasp) {acts : List Act} (i : ℕ) → Turn k.config k.last log k.thread acts words held → Turn k.config k.last log k.thread acts (slice_set words i (get_or words i 0)) held
+unwritten k log words held {acts} i t = subst (λ ws. Turn k.config k.last log k.thread acts ws held) (sym (set-get_or words i 0)) t
+
+-- the word after an exchange that was won, or lost
+pub won : (old new n : ℕ) → n ≡ old → either (eqb n old) new n ≡ new
+won old new n e = ap (λ b. either b new n) (eq-eqb n old e)
+
+pub lost : (old new n : ℕ) → n ≢ old → either (eqb n old) new n ≡ n
+lost old new n ne = ap (λ b. either b new n) (ne_eqb n old ne)
