@@ -102,9 +102,9 @@ pub lists_fit : (owner : ℕ → Owner) (m used t p n : ℕ) (length_at : ℕ �
     → sum_below m length_at + n ≤ used
 lists_fit owner m used t p n length_at each range =
     let objects = sum_less m length_at (λ o. sum_below used (λ x. of_object_bit o (owner x)))
-        (λ o l. let z = each o l in ones (length_at o) z.0 used (λ x. of_object_bit o (owner x)) (λ j k. let q = z.1 j k in (q.0, subst (λ (a : Owner). 1 ≤ of_object_bit o a) (sym q.1) (object_counted o j)))) in
+    (λ o l. let z = each o l in ones (length_at o) z.0 used (λ x. of_object_bit o (owner x)) (λ j k. let q = z.1 j k in (q.0, subst (λ (a : Owner). 1 ≤ of_object_bit o a) (sym q.1) (object_counted o j)))) in
     let own = ones n p used (λ x. of_range_bit t p (owner x))
-        (λ j k. let q = range j k in (q.0, subst (λ (a : Owner). 1 ≤ of_range_bit t p a) (sym q.1) (range_counted t p j))) in
+    (λ j k. let q = range j k in (q.0, subst (λ (a : Owner). 1 ≤ of_range_bit t p a) (sym q.1) (range_counted t p j))) in
     let swap = sum_swap m used (λ o x. of_object_bit o (owner x)) in
     let both = sum_both used (λ x. sum_below m (λ o. of_object_bit o (owner x))) (λ x. of_range_bit t p (owner x)) in
     let most = sum_most used (λ x. sum_below m (λ o. of_object_bit o (owner x)) + of_range_bit t p (owner x)) (λ x. one_owner m t p (owner x)) in omega arith

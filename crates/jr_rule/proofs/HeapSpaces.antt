@@ -46,7 +46,7 @@ range_cases : (held : ℕ → Grasp) (t p : ℕ) (ws : List ℕ) (P : ℕ → �
 range_cases held t p ws P here else u q = dite (ℕ_discrete u t)
     (λ e. dite (ℕ_discrete q p)
     (λ f. subst (λ z. P u q z) (sym (ap (λ (g : Grasp). words_at q g.ranges) (ap (hold held t (with_range (held t) p ws)) e ∙ hold_here held t (with_range (held t) p ws)) ∙ (ap (λ z. words_at z (with_range (held t) p ws).ranges) f ∙ newer_here (held t) p ws)))
-        (subst (λ (z : ℕ × ℕ). P z.0 z.1 ws) (λ i. (sym e i, sym f i)) here))
+    (subst (λ (z : ℕ × ℕ). P z.0 z.1 ws) (λ i. (sym e i, sym f i)) here))
     (λ f. subst (λ z. P u q z) (sym (ap (λ (g : Grasp). words_at q g.ranges) (ap (hold held t (with_range (held t) p ws)) e ∙ hold_here held t (with_range (held t) p ws)) ∙ (newer_else (held t) p q ws f ∙ ap (λ z. words_at q (held z).ranges) (sym e)))) (else u q (λ _. f))))
     (λ e. subst (λ (g : Grasp). P u q (words_at q g.ranges)) (sym (hold_else held t u (with_range (held t) p ws) e)) (else u q (λ z. absurd (e z))))
 

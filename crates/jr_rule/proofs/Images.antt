@@ -152,7 +152,7 @@ module _ (c : Config) (last : ℕ) (words : List ℕ) (s : State) (held : ℕ �
   }
 
 module _ (c : Config) (last : ℕ) (words : List ℕ) (s : State) (held : ℕ → Grasp) (image : IsImage c last words s held) where
-  with_space : (held' : ℕ → Grasp) → IsSpace c words s.objects s.used held' → IsImage c last words s held'
+  pub with_space : (held' : ℕ → Grasp) → IsSpace c words s.objects s.used held' → IsImage c last words s held'
   with_space held' space = record { wide = image.wide; gate = image.gate; top = image.top; slot = image.slot; local = image.local; header = image.header; space = space }
 
   -- who holds the same

@@ -32,5 +32,6 @@ pub mod GateOwed
 pub mod SlotOwed
 pub mod Allowed
 pub mod PlaceOwed
+pub mod HeapOwed
 pub mod Meeting
 pub mod Ended

@@ -59,12 +59,12 @@ module _ (config : Config) (last : ℕ) (few : IsFew config last) (role : Role) 
   pub saw : (i : ℕ) (name : SlotNaming) (p : SlotParts) → i < config.slots → SlotNameFits i name → IsSlot p → get_or words (slot_at i) 0 ≡ slot_word p → role ≡ Within
       → Turned old words old words (slot_named i name p ∷ []) anything (λ j k. ShowsSlot i p k × keeps j k)
   saw i name p l fits good is within = kept_showing (stands_same config last (slot_named_role i name p role) (slot_named_fresh i name p fresh)) (λ k s m.
-        let row' = in_row i l k s in
-        let x = s.image.slot i row' in
-        let read = read_parts k.config k.last k.seen s.pass.legal (few_serials k s) (few_objects k s) i (get_or words (slot_at i) 0) x p good is in (
-          sees k.config k.last k.seen k.thread words s.pass.legal (alone k.grasp) s.image (row k s) (s.pass.role ∙ within) i name p row' fits read,
-          shows_slot i (get_or words (slot_at i) 0) (state k.seen) (known_then k (slot_named i name p ∷ []) k.grasp) x p read (sym (slot_named_state k.seen k.thread i name p)),
-        ))
+      let row' = in_row i l k s in
+      let x = s.image.slot i row' in
+      let read = read_parts k.config k.last k.seen s.pass.legal (few_serials k s) (few_objects k s) i (get_or words (slot_at i) 0) x p good is in (
+        sees k.config k.last k.seen k.thread words s.pass.legal (alone k.grasp) s.image (row k s) (s.pass.role ∙ within) i name p row' fits read,
+        shows_slot i (get_or words (slot_at i) 0) (state k.seen) (known_then k (slot_named i name p ∷ []) k.grasp) x p read (sym (slot_named_state k.seen k.thread i name p)),
+      ))
 
   pub object_some : {T : Known → Type 0} (o : ℕ) → MayKnow (Shows old) words (λ k. HasObject o k × T k) → 0 < o
   object_some o may = shown_most 1 o may (λ k s m. ((in_room k.config k.last k.seen s.pass.legal).objects o m.0).0)
@@ -72,26 +72,26 @@ module _ (config : Config) (last : ℕ) (few : IsFew config last) (role : Role) 
   pub claimed : (i serial : ℕ) (kind : RefKind) (o : ℕ) (p : SlotParts) → i < config.slots → kind ≢ Local → IsReference kind serial (Some o) p → (found : SlotParts) → get_or words (slot_at i) 0 ≡ slot_word found → found ≡ slot.Free serial → role ≡ Within
       → Turned old words old (slice_set words (slot_at i) (slot_word p)) (claiming i serial kind o (Ok tt) ∷ []) (λ k. HasObject o k × IsFreeSlot i serial k) (λ j k. LostClaim i (Ok tt) j k × keeps j k)
   claimed i serial kind o p l global is found at free within = kept_showing (refl) (λ k s m.
-        let fits = m.1.fits in
-        let small = few_serials k s in
-        (claims k.config k.last k.seen k.thread words s.pass.legal (alone k.grasp) s.image (row k s) (s.pass.role ∙ within) small (few_objects k s) i serial kind o p (in_row i l k s) (omega arith) global is m.0 (at ∙ ap slot_word free), tt))
+      let fits = m.1.fits in
+      let small = few_serials k s in
+      (claims k.config k.last k.seen k.thread words s.pass.legal (alone k.grasp) s.image (row k s) (s.pass.role ∙ within) small (few_objects k s) i serial kind o p (in_row i l k s) (omega arith) global is m.0 (at ∙ ap slot_word free), tt))
 
   pub lost : (i serial : ℕ) (kind : RefKind) (o : ℕ) (p : SlotParts) → i < config.slots → IsSlot p → get_or words (slot_at i) 0 ≡ slot_word p → p ≢ slot.Free serial → role ≡ Within
       → Turned old words old words (claiming i serial kind o (Err p) ∷ []) (λ k. HasObject o k × IsFreeSlot i serial k) (λ j k. LostClaim i (Err p) j k × keeps j k)
   lost i serial kind o p l good is differs within = kept_showing (refl) (λ k s m.
-        let t = (saw i naming.Probe p l tt good is within).turn k s tt in
-        let x = s.image.slot i (in_row i l k s) in
-        let small = few_serials k s in
-        let below = m.1.fits in
-        let other : get_or words (slot_at i) 0 ≢ slot_word (slot.Free serial)
-        = λ e. differs (one_reading p (slot.Free serial) good (record { serial = omega arith; object = omega arith; names = tt }) (sym is ∙ e)) in (
-          t.0,
-          (
-            sometime_wider (prefix_self k.seen) (by k.thread (Probe i (is_occupied p)) ∷ [], refl)
-                (claim_lost k k.seen (prefix_self k.seen) s.pass.legal i serial (get_or words (slot_at i) 0) m.1 x other),
-            t.1,
-          ),
-        ))
+      let t = (saw i naming.Probe p l tt good is within).turn k s tt in
+      let x = s.image.slot i (in_row i l k s) in
+      let small = few_serials k s in
+      let below = m.1.fits in
+      let other : get_or words (slot_at i) 0 ≢ slot_word (slot.Free serial)
+      = λ e. differs (one_reading p (slot.Free serial) good (record { serial = omega arith; object = omega arith; names = tt }) (sym is ∙ e)) in (
+        t.0,
+        (
+          sometime_wider (prefix_self k.seen) (by k.thread (Probe i (is_occupied p)) ∷ [], refl)
+              (claim_lost k k.seen (prefix_self k.seen) s.pass.legal i serial (get_or words (slot_at i) 0) m.1 x other),
+          t.1,
+        ),
+      ))
 
   module _ (h : Handle) (o : Option ℕ) where
     looked : (k : Known) → Shows old words k → HasLooked h (found_object o) k → IsLooked k.config k.last h o (state k.seen)
@@ -106,13 +106,13 @@ module _ (config : Config) (last : ℕ) (few : IsFew config last) (role : Role) 
     pub deleted : (p : SlotParts) → IsReference h.kind h.serial o p → get_or words (slot_at h.index) 0 ≡ slot_word p → role ≡ Within
         → Turned old words old (slice_set words (slot_at h.index) (slot_word (freed last h.serial))) (freeing h true ∷ []) (HasLooked h (found_object o)) keeps
     deleted p is found within = kept (refl) (λ k s m.
-          let q = looked k s m in
-          let small = few_serials k s in
-          let few' = few_objects k s in
-          let serial = q.row.3 in
-          let fits = reference_fits h.kind h.serial o p is (omega arith) (λ x e. let b = q.object x e in let c = b.1 in (b.0, omega arith)) in
-          let t = frees k.config k.last k.seen k.thread words s.pass.legal (alone k.grasp) s.image (row k s) (s.pass.role ∙ within) small few' h o p q is fits found in
-          subst (λ n. Turn k.config k.last k.seen k.thread (Delete h ∷ []) (slice_set words (slot_at h.index) (slot_word (freed n h.serial))) (alone k.grasp)) s.pass.last t)
+        let q = looked k s m in
+        let small = few_serials k s in
+        let few' = few_objects k s in
+        let serial = q.row.3 in
+        let fits = reference_fits h.kind h.serial o p is (omega arith) (λ x e. let b = q.object x e in let c = b.1 in (b.0, omega arith)) in
+        let t = frees k.config k.last k.seen k.thread words s.pass.legal (alone k.grasp) s.image (row k s) (s.pass.role ∙ within) small few' h o p q is fits found in
+        subst (λ n. Turn k.config k.last k.seen k.thread (Delete h ∷ []) (slice_set words (slot_at h.index) (slot_word (freed n h.serial))) (alone k.grasp)) s.pass.last t)
 
     pub deleted_late : (p : SlotParts) → IsReference h.kind h.serial o p → get_or words (slot_at h.index) 0 ≢ slot_word p → role ≡ Within
         → Turned old words old words (freeing h false ∷ []) (HasLooked h (found_object o)) keeps

@@ -55,9 +55,9 @@ module _ (config : Config) (last : ℕ) (few : IsFew config last) (role : Role) 
   pub entered : (role' : Role) (found : ℕ) (shut : Bool) → found ≡ get_or words 0 0 → ((parts : GateParts) → IsGate parts → found ≡ gate_word parts → shut ≡ parts.shut) → role ≡ Outside → role' ≡ role_after Outside (entered_as (not shut))
       → Turned old words (standing config last role' fresh) (slice_set words 0 (found + 1)) (entered_as (not shut) ∷ []) anything keeps
   entered role' found shut is read out at = kept (stands_same config last (at ∙ ap (λ r. role_after r (entered_as (not shut))) (sym out)) (entered_fresh (not shut) fresh)) (λ k s m.
-        let g = s.image.gate in
-        let same = read g.parts (gate_fits k.config (state k.seen).role (get_or words 0 0) (few_threads k s) g) (is ∙ g.word) in
-        goes_in k.config k.last k.seen k.thread words s.pass.legal (alone k.grasp) s.image (row k s) found shut is same (s.pass.role ∙ out))
+      let g = s.image.gate in
+      let same = read g.parts (gate_fits k.config (state k.seen).role (get_or words 0 0) (few_threads k s) g) (is ∙ g.word) in
+      goes_in k.config k.last k.seen k.thread words s.pass.legal (alone k.grasp) s.image (row k s) found shut is same (s.pass.role ∙ out))
 
   pub left : (n : ℕ) → n + 1 ≡ get_or words 0 0 → (role ≡ Within) ⊎ (role ≡ Knocking)
       → Turned old words (standing config last Outside fresh) (slice_set words 0 n) (leaving role ∷ []) anything lets_go
@@ -74,10 +74,10 @@ module _ (config : Config) (last : ℕ) (few : IsFew config last) (role : Role) 
   pub bar_lost : (n : ℕ) (p : GateParts) → IsGate p → get_or words 0 0 ≡ gate_word p → n ≡ all_counted p → n ≢ 0 → role ≡ Outside
       → Turned old words old words (ShutBusy n ∷ []) anything keeps
   bar_lost n p fits is counts some out = kept (refl) (λ k s m.
-        let read = gate_read k.config k.last k.seen k.thread words s.pass.legal (alone k.grasp) s.image (row k s) (few_threads k s) p fits is in
-        let busy : get_or words 0 0 ≢ 0 = λ e. some (counts ∙ nobody p (sym is ∙ e)) in
-        let t = bars_lost k.config k.last k.seen k.thread words s.pass.legal (alone k.grasp) s.image (row k s) busy (s.pass.role ∙ out) in
-        subst (λ m. Turn k.config k.last k.seen k.thread (ShutBusy m ∷ []) words (alone k.grasp)) (ap all_counted read ∙ sym counts) t)
+      let read = gate_read k.config k.last k.seen k.thread words s.pass.legal (alone k.grasp) s.image (row k s) (few_threads k s) p fits is in
+      let busy : get_or words 0 0 ≢ 0 = λ e. some (counts ∙ nobody p (sym is ∙ e)) in
+      let t = bars_lost k.config k.last k.seen k.thread words s.pass.legal (alone k.grasp) s.image (row k s) busy (s.pass.role ∙ out) in
+      subst (λ m. Turn k.config k.last k.seen k.thread (ShutBusy m ∷ []) words (alone k.grasp)) (ap all_counted read ∙ sym counts) t)
 
   pub unbarred : (n : ℕ) → n + 65536 ≡ get_or words 0 0 → role ≡ Collecting
       → Turned old words (standing config last Outside fresh) (slice_set words 0 n) (Reopen ∷ []) IsClosedNow lets_go
@@ -86,8 +86,8 @@ module _ (config : Config) (last : ℕ) (few : IsFew config last) (role : Role) 
   pub gate_saw : (name : GateNaming) (p : GateParts) → IsGate p → get_or words 0 0 ≡ gate_word p → GateNameFits role name
       → Turned old words old words (gate_named name (all_counted p) ∷ []) anything (λ j k. ShowsGate p k × keeps j k)
   gate_saw name p fits is named = kept_showing (stands_same config last (gate_named_role name (all_counted p) role) (gate_named_fresh name (all_counted p) fresh)) (λ k s m.
-        let read = gate_read k.config k.last k.seen k.thread words s.pass.legal (alone k.grasp) s.image (row k s) (few_threads k s) p fits is in
-        let t = gate_seen k.config k.last k.seen k.thread words s.pass.legal (alone k.grasp) s.image (row k s) name (subst (λ r. GateNameFits r name) (sym s.pass.role) named) in (
-          subst (λ q. Turn k.config k.last k.seen k.thread (gate_named name (all_counted q) ∷ []) words (alone k.grasp)) read t,
-          shows_gate k.config k.last k.seen s.pass.legal (get_or words 0 0) s.image.gate p (known_then k (gate_named name (all_counted p) ∷ []) k.grasp) read refl (gate_named_state k.seen k.thread name (all_counted p)),
-        ))
+      let read = gate_read k.config k.last k.seen k.thread words s.pass.legal (alone k.grasp) s.image (row k s) (few_threads k s) p fits is in
+      let t = gate_seen k.config k.last k.seen k.thread words s.pass.legal (alone k.grasp) s.image (row k s) name (subst (λ r. GateNameFits r name) (sym s.pass.role) named) in (
+        subst (λ q. Turn k.config k.last k.seen k.thread (gate_named name (all_counted q) ∷ []) words (alone k.grasp)) read t,
+        shows_gate k.config k.last k.seen s.pass.legal (get_or words 0 0) s.image.gate p (known_then k (gate_named name (all_counted p) ∷ []) k.grasp) read refl (gate_named_state k.seen k.thread name (all_counted p)),
+      ))

@@ -1,6 +1,11 @@
 -- What each kind of step tells of the number that it found.
-use Rattle.std.specs.Prelude.{◌≡◌, ◌≢◌, ℕ, true, false, not, Ok, Err, Option, List, [], ◌∷◌}
+use Rattle.std.specs.Prelude.{◌≡◌, ◌≢◌, ◌<◌, ◌^◌, ℕ, true, false, not, Ok, Err, Option, Some, None, List, [], ◌∷◌}
 use Rattle.jr_word.specs.declared.gate.GateParts.{GateParts}
+use Rattle.jr_word.specs.declared.header.HeaderParts.{HeaderParts}
+use Rattle.jr_word.specs.declared.top.Half.TheVariants.{First}
+use Rattle.jr_word.specs.Header.{header_word, IsHeader}
+use Rattle.jr_word.specs.Top.{top_word}
+use Rattle.jr_rule.specs.declared.naming.TopNaming.{TopNaming}
 use Rattle.jr_word.specs.declared.handle.RefKind.{RefKind}
 use Rattle.jr_word.specs.declared.kind.Kind.{Kind}
 use Rattle.jr_word.specs.declared.slot.SlotParts.{SlotParts}
@@ -8,14 +13,14 @@ use Rattle.jr_word.specs.declared.slot.SlotParts.TheVariants as slot
 use Rattle.jr_word.specs.Gate.{gate_word, IsGate}
 use Rattle.jr_word.specs.Slot.{slot_word, IsSlot}
 use Rattle.jr_model.specs.declared.event.Act.{Act}
-use Rattle.jr_model.specs.declared.event.Act.TheVariants.{Shut, ShutBusy, Reopen, Meet}
+use Rattle.jr_model.specs.declared.event.Act.TheVariants.{Shut, ShutBusy, Reopen, Meet, Read, Write}
 use Rattle.jr_model.specs.State.{Handle}
 use Rattle.jr_model.specs.History.{role_of}
 use Rattle.jr_rule.specs.declared.known.Known.{Known}
 use Rattle.jr_rule.specs.declared.naming.GateNaming.{GateNaming}
 use Rattle.jr_rule.specs.declared.naming.SlotNaming.{SlotNaming}
-use Rattle.jr_rule.specs.Acts.{entered_as, leaving, all_counted, gate_named, slot_named, claiming, freeing, putting, publishing}
-use Rattle.jr_rule.specs.Knowing.{view, keeps, lets_go, HasObject, IsFreeSlot, ShowsGate, ShowsSlot, LostClaim}
+use Rattle.jr_rule.specs.Acts.{entered_as, leaving, all_counted, gate_named, slot_named, claiming, freeing, putting, publishing, top_named, reserving}
+use Rattle.jr_rule.specs.Knowing.{view, keeps, lets_go, words_for, published, ShowsHeader, ShowsUsed, ShowsRange, ShowsWord, HasObject, IsFreeSlot, ShowsGate, ShowsSlot, LostClaim}
 
 -- what is told of the number found, where its word has these parts
 abbrev pub Told : Type 1
@@ -54,9 +59,42 @@ Freed h w k n acts k' = (n ≡ w → acts ≡ freeing h true ∷ []) × (n ≢ w
 abbrev pub Put : ℕ → Option ℕ → Told
 Put p o k n acts k' = (acts ≡ putting p o ∷ []) × keeps k k'
 
--- a header that was found 0 is the object's
-abbrev pub Published : ℕ → Kind → Told
-Published o kind k n acts k' = (n ≡ 0 → acts ≡ publishing o kind true) × (n ≢ 0 → acts ≡ publishing o kind false) × HasObject o k' × keeps k k'
+-- a header that was found 0 is the object's, with the words of the pass's own range
+abbrev pub Published : ℕ → HeaderParts → Told
+Published o h k n acts k' =
+    (n ≡ 0 → (acts ≡ publishing o h.kind (words_for h k) true) × (k'.grasp ≡ published h k.grasp))
+    × (n ≢ 0 → (acts ≡ publishing o h.kind (words_for h k) false) × keeps k k')
+    × HasObject o k'
+
+-- the word of a header, 0 where there is none
+abbrev pub IsHeaderWord : Option HeaderParts → ℕ → Type 0
+IsHeaderWord None n = n ≡ 0
+IsHeaderWord (Some h) n = IsHeader h × (n ≡ header_word h)
+
+abbrev pub SawHeader : ℕ → Told
+SawHeader o k n acts k' = (r : Option HeaderParts) × IsHeaderWord r n × (acts ≡ []) × ShowsHeader o r k k'
+
+-- the word of a top that has so many words used
+abbrev pub used_word : ℕ → ℕ
+used_word u = top_word (record { used = u; half = First })
+
+abbrev pub SawTop : TopNaming → Told
+SawTop name k n acts k' = (u : ℕ) × (u < 2 ^ 24) × (n ≡ used_word u) × (acts ≡ top_named k.config.words name u) × ShowsUsed u k' × keeps k k'
+
+-- a top that was found as it was looked at goes up
+abbrev pub ClaimedTop : ℕ → ℕ → Told
+ClaimedTop looked more k n acts k' =
+    (n ≡ used_word looked → (acts ≡ reserving looked more (Ok tt) ∷ []) × ShowsRange looked more (Ok tt) k k')
+    × (n ≢ used_word looked → (u : ℕ) × (u < 2 ^ 24) × (n ≡ used_word u) × (acts ≡ reserving looked more (Err u) ∷ []) × keeps k k')
+
+abbrev pub SawElement : ℕ → ℕ → Told
+SawElement o i k n acts k' = (acts ≡ Read o i n ∷ []) × keeps k k'
+
+abbrev pub PutElement : ℕ → ℕ → ℕ → Told
+PutElement o i v k n acts k' = (acts ≡ Write o i v ∷ []) × keeps k k'
+
+abbrev pub PutOwn : ℕ → ℕ → ℕ → Told
+PutOwn place i v k n acts k' = (acts ≡ []) × ShowsWord place i v k k'
 
 abbrev pub Met : Told
 Met k n acts k' = (acts ≡ Meet ∷ []) × keeps k k'

@@ -1,5 +1,5 @@
 -- The acts of steps, by what they found.
-use Rattle.std.specs.Prelude.{◌≡◌, ◌≢◌, ℕ, suc, ◌+◌, if◌then◌else◌, ◌==◌, ◌&&◌, cond, Bool, true, false, Option, Some, None, Result, Ok, Err, List, [], ◌∷◌}
+use Rattle.std.specs.Prelude.{◌≡◌, ◌≢◌, ℕ, suc, ◌+◌, if◌then◌else◌, ◌==◌, ◌&&◌, nat_lt, cond, Bool, true, false, Option, Some, None, Result, Ok, Err, List, [], ◌∷◌}
 use Rattle.jr_word.specs.declared.handle.RefKind.{RefKind}
 use Rattle.jr_word.specs.declared.handle.RefKind.TheVariants.{Local, Global, Weak}
 use Rattle.jr_word.specs.declared.gate.GateParts.{GateParts}
@@ -11,10 +11,12 @@ use Rattle.jr_model.specs.declared.event.Role.TheVariants.{Outside, Knocking}
 use Rattle.jr_model.specs.declared.event.Found.{Found}
 use Rattle.jr_model.specs.declared.event.Found.TheVariants.{Object, Cleared, Stale}
 use Rattle.jr_model.specs.declared.event.Act.{Act}
-use Rattle.jr_model.specs.declared.event.Act.TheVariants.{Enter, Knock, Leave, Withdraw, Shut, ShutBusy, Meet, Create, Look, Probe, Delete, DeleteStale, LocalPut, LocalDrop, New}
+use Rattle.jr_model.specs.declared.event.Act.TheVariants.{Enter, Knock, Leave, Withdraw, Shut, ShutBusy, Meet, Create, Look, Probe, Delete, DeleteStale, LocalPut, LocalDrop, New, Reserve, ReserveFull, ReserveLost}
 use Rattle.jr_model.specs.State.{Handle, same_kind}
 use Rattle.jr_rule.specs.declared.naming.SlotNaming.{SlotNaming}
 use Rattle.jr_rule.specs.declared.naming.SlotNaming.TheVariants as naming
+use Rattle.jr_rule.specs.declared.naming.TopNaming.{TopNaming}
+use Rattle.jr_rule.specs.declared.naming.TopNaming.TheVariants as top
 use Rattle.jr_rule.specs.declared.naming.GateNaming.{GateNaming}
 use Rattle.jr_rule.specs.declared.naming.GateNaming.TheVariants as gate
 
@@ -97,7 +99,17 @@ abbrev pub putting : ℕ → Option ℕ → Act
 putting p None = LocalDrop p
 putting p (Some o) = LocalPut p o
 
--- the exchange of an absent header for one of an object without elements
-abbrev pub publishing : ℕ → Kind → Bool → List Act
-publishing o kind true = New o kind [] ∷ []
-publishing o kind false = []
+-- the exchange of an absent header for that of an object with these words
+abbrev pub publishing : ℕ → Kind → List ℕ → Bool → List Act
+publishing o kind ws true = New o kind ws ∷ []
+publishing o kind ws false = []
+
+-- a load of the top that found so many words used, in a room of so many
+abbrev pub top_named : ℕ → TopNaming → ℕ → List Act
+top_named words top.Look u = []
+top_named words (top.Full n) u = cond (nat_lt words (u + n)) (ReserveFull n u ∷ []) []
+
+-- the exchange of a top that was looked at for one with so many more words
+abbrev pub reserving : ℕ → ℕ → Result (Unit {0}) ℕ → Act
+reserving looked n (Ok _) = Reserve n
+reserving looked n (Err found) = ReserveLost n looked found

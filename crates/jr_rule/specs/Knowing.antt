@@ -1,5 +1,5 @@
 -- What a caller of the steps knows of them.
-use Rattle.std.specs.Prelude.{◌≡◌, ◌≢◌, ◌↔◌, ◌≤◌, ◌<◌, ℕ, Bool, true, false, IsTrue, Result, Ok, Err, Option, Some, None, List, [], ◌∷◌, ◌++◌, map}
+use Rattle.std.specs.Prelude.{◌≡◌, ◌≢◌, ◌↔◌, ◌≤◌, ◌<◌, ℕ, Bool, true, false, IsTrue, Result, Ok, Err, Option, Some, None, List, [], ◌∷◌, ◌++◌, ◌==◌, cond, map, length, slice_set}
 use Rattle.std.specs.List.{AllByRecursion}
 use Rattle.jr_word.specs.declared.config.Config.{Config}
 use Rattle.jr_word.specs.declared.gate.GateParts.{GateParts}
@@ -10,13 +10,16 @@ use Rattle.jr_model.specs.declared.event.Act.TheVariants.{Look, Leave, LocalPut,
 use Rattle.jr_model.specs.declared.event.Found.{Found}
 use Rattle.jr_model.specs.declared.event.Found.TheVariants.{Stale}
 use Rattle.jr_model.specs.Maps.{count_below}
-use Rattle.jr_model.specs.State.{Handle, State, IsPresent, IsOccupied, IsClosed, SomebodyCollects, not_outside}
+use Rattle.jr_model.specs.State.{Handle, State, Contents, IsPresent, IsOccupied, IsClosed, IsWord, AreWords, SomebodyCollects, not_outside}
 use Rattle.jr_model.specs.History.{History, by, state, IsLegal, mine, PassView, role_of, role_from, Did}
 use Rattle.jr_model.specs.Refusals.{Sometime}
 use Rattle.jr_model.specs.Frames.{Frames, Agree}
 use Rattle.jr_rule.specs.declared.known.Known.{Known}
 use Rattle.jr_rule.specs.Acts.{all_counted}
-use Rattle.jr_rule.specs.Grasping.{empty}
+use Rattle.jr_word.specs.declared.header.HeaderParts.{HeaderParts}
+use Rattle.jr_word.specs.declared.kind.Kind.{Kind}
+use Rattle.jr_rule.specs.declared.known.Grasp.{Grasp}
+use Rattle.jr_rule.specs.Grasping.{empty, words_at, header_in, with_range, with_header}
 use Rattle.jr_rule.specs.Image.{is_inside, AreGivenBelow, SaysOfSlot}
 
 -- the room, the thread, its role, and whether the pass is fresh
@@ -122,6 +125,60 @@ pub record ShowsGate (parts : GateParts) (k : Known) : Type 0 where
   pub shut : IsTrue parts.shut ↔ SomebodyCollects (state_of k)
   pub all : all_counted parts ≡ not_outside k.config (state_of k)
 
+-- the pass knows the header of the object
+abbrev pub KnowsHeader : ℕ → HeaderParts → Known → Type 0
+KnowsHeader o h k = header_in o k.grasp.headers ≡ Some h
+
+-- the pass has a range of its own at the place, with a word of this index
+abbrev pub HasWord : ℕ → ℕ → Known → Type 0
+HasWord place i k = i < length (words_at place k.grasp.ranges)
+
+-- the word may be an element of an object of the kind
+abbrev pub IsWordNow : Kind → ℕ → Known → Type 0
+IsWordNow kind v k = IsWord (state_of k) kind v
+
+-- the words that an object with this header would have: none, or those of the pass's own range at its place
+abbrev pub words_for : HeaderParts → Known → List ℕ
+words_for h k = cond (h.length == 0) [] (words_at h.place k.grasp.ranges)
+
+-- they are so many as the header says, and words of its kind
+pub record IsFilled (h : HeaderParts) (k : Known) : Type 0 where
+  pub long : length (words_for h k) ≡ h.length
+  pub words : AreWords (state_of k) h.kind (words_for h k)
+
+-- what the pass holds once the object is published: its range no more
+abbrev pub published : HeaderParts → Grasp → Grasp
+published h g = cond (h.length == 0) g (with_range g h.place [])
+
+-- WHAT A LOAD OF A HEADER SHOWS: the object that is present then, and its header is known from now on; or that none is
+pub record ShowsObject (o : ℕ) (h : HeaderParts) (k : Known) : Type 0 where
+  pub contents : Contents
+  pub is : (state_of k).objects o ≡ Some contents
+  pub kind : contents.kind ≡ h.kind
+  pub long : length contents.words ≡ h.length
+
+abbrev pub ShowsHeader : ℕ → Option HeaderParts → Known → Known → Type 0
+ShowsHeader o None k k' = ((state_of k').objects o ≡ None) × keeps k k'
+ShowsHeader o (Some h) k k' = ShowsObject o h k' × (k'.grasp ≡ with_header k.grasp o h)
+
+-- what a load of the top shows: how many words are used then
+abbrev pub ShowsUsed : ℕ → Known → Type 0
+ShowsUsed u k = (state_of k).used ≡ u
+
+-- what a reservation shows: a range of the pass's own, of some words
+abbrev pub ShowsRange : ℕ → ℕ → Result (Unit {0}) ℕ → Known → Known → Type 0
+ShowsRange looked n (Ok _) k k' = (ws : List ℕ) × (length ws ≡ n) × (k'.grasp ≡ with_range k.grasp looked ws)
+ShowsRange looked n (Err found) k k' = keeps k k'
+
+-- what a store in a range of the pass's own shows
+abbrev pub ShowsWord : ℕ → ℕ → ℕ → Known → Known → Type 0
+ShowsWord place i v k k' = k'.grasp ≡ with_range k.grasp place (slice_set (words_at place k.grasp.ranges) i v)
+
+-- what an exchange of a header shows: the object is present, and the range is no more the pass's own where it is new
+abbrev pub ShowsPublished : ℕ → HeaderParts → Bool → Known → Known → Type 0
+ShowsPublished o h true k k' = HasObject o k' × (k'.grasp ≡ published h k.grasp)
+ShowsPublished o h false k k' = HasObject o k' × keeps k k'
+
 -- no present object array names an absent object
 abbrev pub IsClosedNow : Known → Type 0
 IsClosedNow k = IsClosed (state_of k)
@@ -144,6 +201,11 @@ module _ {S : Type 0} (stands : S → Standing) (knows : S → Known → Type 0)
   pub record Took (old new : S) (acts : List Act) (met : Known → Type 0) (shows : Known → Known → Type 0) : Type 0 where
     pub stands_is : stands new ≡ moved (stands old) acts
     pub goes : (k : Known) → knows old k → met k → (k' : Known) × knows new k' × Goes k acts k' × shows k k'
+
+  -- one step was taken, with acts that depend on what was known, none of them of the gate or a local word
+  pub record TookWith (old new : S) (acts : Known → List Act) (met : Known → Type 0) (shows : Known → Known → Type 0) : Type 0 where
+    pub stands_is : stands new ≡ stands old
+    pub goes : (k : Known) → knows old k → met k → (k' : Known) × knows new k' × Goes k (acts k) k' × shows k k'
 
   -- the pass is not fresh any more, and nothing else changed
   pub record Spent (old new : S) : Type 0 where

@@ -3,6 +3,7 @@
 
 mod closing;
 mod gate_stepping;
+mod heap_stepping;
 mod known;
 mod naming;
 mod parts;
@@ -18,8 +19,8 @@ mod steps;
 mod summing;
 
 pub use closing::Left;
-pub use known::{Known, View};
-pub use naming::{GateNaming, SlotNaming};
+pub use known::{Grasp, Known, KnownHeader, OwnRange, View};
+pub use naming::{GateNaming, SlotNaming, TopNaming};
 pub use pass::Pass;
 pub use plain::PlainSteps;
 pub use room::Room;

@@ -20,3 +20,12 @@ pub enum GateNaming {
     /// A refusal to shut the gate, where threads are inside, knocking or collecting.
     Busy,
 }
+
+/// As what a load of the top counts.
+#[derive(Clone, Copy)]
+pub enum TopNaming {
+    /// Nothing but what others did.
+    Look,
+    /// A refusal of space, where this many words don't fit beside those that are reserved.
+    Full { words: u32 },
+}

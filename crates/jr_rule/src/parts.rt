@@ -1,17 +1,21 @@
 //! What the words of the row say, as the steps make and read them.
-ghost use Rattle.std.specs.Prelude.{◌≡◌, ◌↔◌, ◌≤◌, IsTrue};
+ghost use Rattle.std.specs.Prelude.{◌≡◌, ◌↔◌, ◌≤◌, ◌<◌, ◌^◌, IsTrue};
 ghost use Rattle.jr_word.specs.declared.gate.GateParts.{GateParts as Gates};
 ghost use Rattle.jr_word.specs.declared.slot.SlotParts.TheVariants.{Free};
+ghost use Rattle.jr_word.specs.declared.top.Half.TheVariants.{First};
 ghost use Rattle.jr_word.specs.Gate.{gate_word, IsGate};
+ghost use Rattle.jr_word.specs.Top.{top_word as word_of_top};
 ghost use Rattle.jr_model.specs.declared.event.Role.TheVariants.{Outside};
 ghost use Rattle.jr_model.specs.History.{role_after};
 ghost use Rattle.jr_rule.specs.Acts.{entered_as, all_counted as all_of};
-ghost use Rattle.jr_rule.specs.Image.{header_at as place_of_header, local_parts as parts_of_local};
+ghost use Rattle.jr_rule.specs.Image.{header_at as place_of_header, element_at as place_of_element, local_parts as parts_of_local};
 ghost use Rattle.jr_rule.specs.Shown.{IsSmall};
 ghost use Rattle.jr_rule.specs.Slots.{CanStand, IsReference, is_of_kind, freed};
 
 use jr_model::Role;
-use jr_word::{Config, GateParts, GateWord, LocalParts, RefKind, SlotParts};
+use jr_word::{
+    Config, GateParts, GateWord, Half, LocalParts, RefKind, SlotParts, TopParts, TopWord,
+};
 
 /// The word of the gate.
 pub(crate) const GATE: usize = 0;
@@ -30,6 +34,28 @@ pub(crate) fn header_at(config: &Config, object: u32) -> usize
 {
     let locals = config.threads as usize * config.locals as usize;
     SLOTS + config.slots as usize + locals + (object as usize - 1)
+}
+
+/// The place of a word of array space in the row.
+pub(crate) fn element_at(config: &Config, place: u32) -> usize
+    requires small { IsSmall config.now }
+    requires place { place < config.now.words }
+    ensures { result ≡ place_of_element config.now place }
+{
+    let locals = config.threads as usize * config.locals as usize;
+    SLOTS + config.slots as usize + locals + config.objects as usize + place as usize
+}
+
+/// The word of a top that has so many words used.
+pub(crate) fn top_word(used: u32) -> u64
+    requires { used < 2 ^ 24 }
+    ensures { result ≡ word_of_top (record { used = used; half = First }) }
+{
+    TopWord::pack(TopParts {
+        used,
+        half: Half::First,
+    })
+    .0
 }
 
 /// Whether the word of a gate is that of a shut one.

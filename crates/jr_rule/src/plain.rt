@@ -1,26 +1,28 @@
 //! The steps of one thread over a plain vector of words. No history is stored.
-ghost use Rattle.std.specs.Prelude.{◌≡◌, ◌⊎◌, ◌↔◌, ◌<◌, ◌≤◌, vec_len, slice_index, true, false, IsTrue, IfOk, IfErr, Ok, Err};
+ghost use Rattle.std.specs.Prelude.{◌≡◌, ◌⊎◌, ◌↔◌, ◌<◌, ◌≤◌, ◌^◌, vec_len, slice_index, true, false, IsTrue, IfOk, IfErr, Ok, Err};
 ghost use Rattle.jr_word.specs.declared.fault.Fault.TheVariants.{Memory, Size};
 ghost use Rattle.jr_word.specs.Config.{in_limits, row_words};
 ghost use Rattle.jr_word.specs.Gate.{gate_word, IsGate};
 ghost use Rattle.jr_word.specs.Slot.{slot_word, IsSlot};
+ghost use Rattle.jr_word.specs.Top.{top_word};
+ghost use Rattle.jr_word.specs.declared.top.Half.TheVariants.{First};
 ghost use Rattle.jr_model.specs.declared.event.Role.TheVariants.{Outside};
-ghost use Rattle.jr_rule.specs.Image.{gate_at, slot_at};
+ghost use Rattle.jr_rule.specs.Image.{gate_at, top_at, slot_at};
 ghost use Rattle.jr_rule.specs.Knowing.{anything, MayKnow, HasNoLocals};
 ghost use Rattle.jr_rule.specs.declared.known.Known.{Known};
 ghost use Rattle.jr_rule.specs.Plain.{standing, Shows, IsUnused};
 
-use crate::naming::{GateNaming, SlotNaming};
+use crate::naming::{GateNaming, SlotNaming, TopNaming};
 use crate::parts::{
-    GATE, SLOTS, all_counted, freed_slot, header_at, is_free, is_shut, local_parts, reference,
-    role_of_entry,
+    GATE, SLOTS, TOP, all_counted, element_at, freed_slot, header_at, is_free, is_shut,
+    local_parts, reference, role_of_entry, top_word,
 };
 use crate::steps::Steps;
 use crate::summing::summary;
 use jr_model::{Role, Summary};
 use jr_word::{
     Config, Fault, GateParts, GateWord, HandleParts, Header, HeaderParts, LocalParts, LocalWord,
-    RefKind, SlotParts, SlotWord,
+    RefKind, SlotParts, SlotWord, TopWord,
 };
 use std::alloc::Global;
 
@@ -88,6 +90,13 @@ impl<const LAST: u16> PlainSteps<LAST> {
         ensures { IsGate result × (slice_index self.now.words.items gate_at ≡ gate_word result) }
     {
         GateWord::parts(self.word(GATE)).unwrap()
+    }
+
+    /// How many words are reserved, as the top says.
+    fn top(&self) -> u32
+        ensures { (result < 2 ^ 24) × (slice_index self.now.words.items top_at ≡ top_word (record { used = result; half = First })) }
+    {
+        TopWord::parts(self.word(TOP)).unwrap().used
     }
 
     /// What the word of a slot says.
@@ -201,6 +210,10 @@ impl<const LAST: u16> Steps for PlainSteps<LAST> {
         self.fresh = false;
     }
 
+    fn see_header(&mut self, object: u16) -> Option<HeaderParts> {
+        Header::parts(self.word(header_at(&self.config, u32::from(object))))
+    }
+
     fn claim_header(&mut self, object: u16, header: HeaderParts) -> bool {
         let at = header_at(&self.config, u32::from(object));
         if self.word(at) != 0 {
@@ -208,6 +221,33 @@ impl<const LAST: u16> Steps for PlainSteps<LAST> {
         }
         self.words[at] = Header::pack(header).0;
         true
+    }
+
+    fn see_top(&mut self, _name: TopNaming) -> u32 {
+        self.top()
+    }
+
+    fn claim_top(&mut self, looked: u32, more: u32) -> Result<(), u32> {
+        let found = self.top();
+        if found != looked {
+            return Err(found);
+        }
+        self.words[TOP] = top_word(looked + more);
+        Ok(())
+    }
+
+    fn see_element(&mut self, _object: u16, header: HeaderParts, index: u32) -> u64 {
+        self.word(element_at(&self.config, header.place + index))
+    }
+
+    fn put_element(&mut self, _object: u16, header: HeaderParts, index: u32, word: u64) {
+        let at = element_at(&self.config, header.place + index);
+        self.words[at] = word;
+    }
+
+    fn put_own(&mut self, place: u32, index: u32, word: u64) {
+        let at = element_at(&self.config, place + index);
+        self.words[at] = word;
     }
 
     ghost fits = { λ s k h. h.pass };

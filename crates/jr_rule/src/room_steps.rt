@@ -5,7 +5,7 @@ ghost use Rattle.jr_model.specs.History.{HasMet};
 ghost use Rattle.jr_rule.specs.Knowing.{view, anything, Took, keeps};
 ghost use Rattle.jr_rule.specs.Passes.{IsAt};
 
-use crate::naming::{GateNaming, SlotNaming};
+use crate::naming::{GateNaming, SlotNaming, TopNaming};
 use crate::pass::Pass;
 use crate::room::Room;
 use crate::steps::Steps;
@@ -128,8 +128,36 @@ impl<const LAST: u16> Steps for RoomSteps<'_, LAST> {
         self.room.row.put_local(&mut self.pass, place, object);
     }
 
+    fn see_header(&mut self, object: u16) -> Option<HeaderParts> {
+        self.room.row.see_header(&mut self.pass, object)
+    }
+
     fn claim_header(&mut self, object: u16, header: HeaderParts) -> bool {
         self.room.row.claim_header(&mut self.pass, object, header)
+    }
+
+    fn see_top(&mut self, name: TopNaming) -> u32 {
+        self.room.row.see_top(&mut self.pass, name)
+    }
+
+    fn claim_top(&mut self, looked: u32, more: u32) -> Result<(), u32> {
+        self.room.row.claim_top(&mut self.pass, looked, more)
+    }
+
+    fn see_element(&mut self, object: u16, header: HeaderParts, index: u32) -> u64 {
+        self.room
+            .row
+            .see_element(&mut self.pass, object, header, index)
+    }
+
+    fn put_element(&mut self, object: u16, header: HeaderParts, index: u32, word: u64) {
+        self.room
+            .row
+            .put_element(&mut self.pass, object, header, index, word);
+    }
+
+    fn put_own(&mut self, place: u32, index: u32, word: u64) {
+        self.room.row.put_own(&mut self.pass, place, index, word);
     }
 
     ghost fits = { λ s k h. h.pass };

@@ -1,12 +1,14 @@
 //! The kinds of atomic step, over any row of words.
-ghost use Rattle.std.specs.Prelude.{◌≡◌, ◌≢◌, ◌⊎◌, ◌<◌, ◌≤◌, [], ◌∷◌, true};
+ghost use Rattle.std.specs.Prelude.{◌≡◌, ◌≢◌, ◌⊎◌, ◌<◌, ◌≤◌, ◌+◌, [], ◌∷◌, true};
 ghost use Rattle.jr_word.specs.declared.handle.RefKind.TheVariants.{Local};
-ghost use Rattle.jr_model.specs.declared.event.Act.TheVariants.{Reopen};
+ghost use Rattle.jr_word.specs.declared.kind.Kind.TheVariants.{Text};
+ghost use Rattle.jr_word.specs.Header.{IsHeader};
+ghost use Rattle.jr_model.specs.declared.event.Act.TheVariants.{Reopen, Read, Write};
 ghost use Rattle.jr_model.specs.declared.event.Role.TheVariants.{Outside, Within, Knocking, Collecting};
-ghost use Rattle.jr_rule.specs.Acts.{entered_as, leaving, barring, gate_named, GateNameFits, all_counted, slot_named, SlotNameFits, claiming, freeing, putting, publishing, found_object};
-ghost use Rattle.jr_rule.specs.Knowing.{anything, HasObject, HasOptional, HasLooked, HasNoLocals, IsClosedNow, IsFreeSlot, ShowsGate, ShowsSlot, LostClaim, MayKnow, Took, Spent, keeps, lets_go};
+ghost use Rattle.jr_rule.specs.Acts.{entered_as, leaving, barring, gate_named, GateNameFits, all_counted, slot_named, SlotNameFits, claiming, freeing, putting, publishing, top_named, reserving, found_object};
+ghost use Rattle.jr_rule.specs.Knowing.{anything, KnowsHeader, HasWord, IsWordNow, IsFilled, words_for, ShowsHeader, ShowsPublished, ShowsUsed, ShowsRange, ShowsWord, TookWith, HasObject, HasOptional, HasLooked, HasNoLocals, IsClosedNow, IsFreeSlot, ShowsGate, ShowsSlot, LostClaim, MayKnow, Took, Spent, keeps, lets_go};
 
-use crate::naming::{GateNaming, SlotNaming};
+use crate::naming::{GateNaming, SlotNaming, TopNaming};
 use jr_model::Role;
 use jr_word::{Config, GateParts, HandleParts, HeaderParts, RefKind, SlotParts};
 
@@ -104,12 +106,51 @@ pub trait Steps {
         requires object { MayKnow knows self.old (HasOptional object) }
         ensures { Took stands knows self.old self.new (putting place object ∷ []) (HasOptional object) keeps };
 
-    /// Gives an object its header, unless one with this number is present: true where it is new. It has no elements.
+    /// Loads the header of an object, which the pass knows from then on: none where it is not present.
+    fn see_header(&mut self, object: u16) -> Option<HeaderParts>
+        requires role { (stands self.old).role ≡ Within }
+        requires number { (1 ≤ object) × (object ≤ (stands self.old).config.objects) }
+        ensures { Took stands knows self.old self.new [] anything (ShowsHeader object result) };
+
+    /// Gives an object its header, unless one with this number is present: true where it is new. Its elements are those of a range of the pass's own, which it gives away.
     fn claim_header(&mut self, object: u16, header: HeaderParts) -> bool
         requires role { (stands self.old).role ≡ Within }
         requires number { (1 ≤ object) × (object ≤ (stands self.old).config.objects) }
-        requires empty { (header.length ≡ 0) × (header.place ≡ 0) }
-        ensures { Took stands knows self.old self.new (publishing object header.kind result) anything (λ j k. HasObject object k × keeps j k) };
+        requires header { IsHeader header }
+        requires filled { MayKnow knows self.old (IsFilled header) }
+        ensures { TookWith stands knows self.old self.new (λ k. publishing object header.kind (words_for header k) result) (IsFilled header) (ShowsPublished object header result) };
+
+    /// Loads the top, which counts as what it is named: how many words are reserved.
+    fn see_top(&mut self, name: TopNaming) -> u32
+        requires { (stands self.old).role ≡ Within }
+        ensures { Took stands knows self.old self.new (top_named (stands self.old).config.words name result) anything (λ j k. ShowsUsed result k × keeps j k) };
+
+    /// Reserves words beside those that were looked at, or tells how many are reserved now.
+    fn claim_top(&mut self, looked: u32, more: u32) -> Result<(), u32>
+        requires role { (stands self.old).role ≡ Within }
+        requires room { looked + more ≤ (stands self.old).config.words }
+        ensures { Took stands knows self.old self.new (reserving looked more result ∷ []) anything (ShowsRange looked more result) };
+
+    /// Loads an element of an object whose header the pass knows.
+    fn see_element(&mut self, object: u16, header: HeaderParts, index: u32) -> u64
+        requires role { (stands self.old).role ≡ Within }
+        requires index { index < header.length }
+        requires known { MayKnow knows self.old (KnowsHeader object header) }
+        ensures { Took stands knows self.old self.new (Read object index result ∷ []) (KnowsHeader object header) keeps };
+
+    /// Stores an element of an object whose header the pass knows. It is no string.
+    fn put_element(&mut self, object: u16, header: HeaderParts, index: u32, word: u64)
+        requires role { (stands self.old).role ≡ Within }
+        requires index { index < header.length }
+        requires kind { header.kind ≢ Text }
+        requires known { MayKnow knows self.old (λ k. KnowsHeader object header k × IsWordNow header.kind word k) }
+        ensures { Took stands knows self.old self.new (Write object index word ∷ []) (λ k. KnowsHeader object header k × IsWordNow header.kind word k) keeps };
+
+    /// Stores a word of a range of the pass's own.
+    fn put_own(&mut self, place: u32, index: u32, word: u64)
+        requires role { (stands self.old).role ≡ Within }
+        requires own { MayKnow knows self.old (HasWord place index) }
+        ensures { Took stands knows self.old self.new [] (HasWord place index) (ShowsWord place index word) };
 
     /// What is known is legal, and of this thread.
     ghost fits: { (s : Self) (k : Known) → knows s k → IsOf (stands s) k };
