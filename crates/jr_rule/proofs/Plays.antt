@@ -96,7 +96,7 @@ module _ (c : Config) (last : ℕ) where
   apart r kept id k ks at =
       let f : View → ℕ = passes_of k.thread in
       let own = one_here k.thread k refl in
-      let most = kept.once k.thread in
+      let most = kept.once k.thread ((kept.each id (view (k ∷ ks)) at).0).row in
       let all = total_above f r.views id (view (k ∷ ks)) at in (
         omega arith,
         λ j v other there.
@@ -122,7 +122,7 @@ module _ (c : Config) (last : ℕ) where
             (λ (q : (j ≡ id) × (w ≡ v)). subst (λ (z : View). EachFits c last (kept.log ++ map (by t) acts) z.passes) q.1 (fits_here c last kept.log k acts fit.0, others_fit c last kept.log t acts ks far.0 fit.1))
             (λ (q : (j ≢ id) × (get_elem? r.views j ≡ some v)). others_fit c last kept.log t acts v.passes (far.1 j v q.0 q.1) (kept.each j v q.1))
             (at_set r.views id j w v there);
-        once = λ u. let same = total_at (passes_of u) r.views id (view (k ∷ ks)) w at in let most = kept.once u in omega arith;
+        once = λ u h. let same = total_at (passes_of u) r.views id (view (k ∷ ks)) w at in let most = kept.once u h in omega arith;
       }
 
 -- WHAT A STEP OWES IS ENOUGH for the row to take it, whoever else steps in between

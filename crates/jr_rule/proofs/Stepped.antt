@@ -1,5 +1,5 @@
 -- What a step told makes of its pass.
-use Rattle.std.proofs.Common.{◌≡◌, ◌<◌, ℕ, Bool, true, List, [], ◌∷◌, refl, sym, ap, subst, ◌∙◌}
+use Rattle.std.proofs.Common.{◌≡◌, ◌<◌, ℕ, Bool, true, Some, List, [], ◌∷◌, refl, sym, ap, subst, ◌∙◌}
 use Rattle.std.specs.List.{AllByRecursion}
 use Rattle.jr_word.specs.declared.config.Config.{Config}
 use Rattle.jr_model.specs.declared.event.Role.{Role}
@@ -74,12 +74,13 @@ module _ {told : Known → ℕ → List Act → Known → Type 0} (old new : Pas
       }
 
   -- the step was taken
-  pub took : {met : Known → Type 0} {shows : Known → Known → Type 0} (acts : List Act) → s.acts ≡ acts → new.thread ≡ old.thread → new.role ≡ role_from old.role acts → new.fresh ≡ fresh_from old.fresh acts
+  pub took : {met : Known → Type 0} {shows : Known → Known → Type 0} (acts : List Act) → new.seat.table_id ≡ old.seat.table_id → s.acts ≡ acts → new.thread ≡ old.thread → new.role ≡ role_from old.role acts → new.fresh ≡ fresh_from old.fresh acts
       → (met (known_of old) → shows (known_of old) s.new) → Took standing_of Knows old new acts met shows
-  took {met} {shows} acts acts_are same_thread role_is fresh_is shown =
+  took {met} {shows} acts same_table acts_are same_thread role_is fresh_is shown =
       let g = s.goes in
       let a = acting_is old.seat.me n new.seat.me s in record {
         stands_is = λ i. record {
+          room = Some (same_table i);
           config = (ap (λ (k : Known). k.config) a ∙ g.config) i;
           last = (ap (λ (k : Known). k.last) a ∙ g.last) i;
           thread = same_thread i;

@@ -18,6 +18,7 @@ mod steps;
 mod summing;
 
 pub use closing::Left;
+pub use jr_model::{Role, Summary};
 pub use known::{Known, View};
 pub use naming::{GateNaming, SlotNaming};
 pub use pass::Pass;

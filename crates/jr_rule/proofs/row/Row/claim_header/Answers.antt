@@ -34,4 +34,4 @@ returns-clause-step c =
     let o = c.args.object in
     let kind = c.args.header.kind in
     let n = c.exchange-found.result in
-    took p _ n t _ (publish_done o kind (known_of p) n t.acts t.new t.says) refl (publishing_role o kind (n == 0) p.role) (publishing_fresh o kind (n == 0) p.fresh) (λ m. (t.says).2)
+    took p _ n t _ c.exchange-found.ensures.0 (publish_done o kind (known_of p) n t.acts t.new t.says) refl (publishing_role o kind (n == 0) p.role) (publishing_fresh o kind (n == 0) p.fresh) (λ m. (t.says).2)
