@@ -3,11 +3,13 @@ use Rattle.std.proofs.Common.{◌≡◌, ◌<◌, ◌≤◌, ◌^◌, ℕ, Optio
 use Rattle.std.proofs.Math.Logic.{∥∥₁_elim}
 use Rattle.std.proofs.Props.{props}
 use mathlib.Core.Logic.{∥∥₁_map}
+use Rattle.jr_word.specs.declared.header.HeaderParts.{HeaderParts}
+use Rattle.jr_word.specs.declared.kind.Kind.{Kind}
 use Rattle.jr_model.specs.State.{Handle}
 use Rattle.jr_rule.specs.declared.known.Known.{Known}
 use Rattle.jr_rule.specs.declared.pass.Pass.{Pass}
 use Rattle.jr_rule.specs.Acts.{found_object}
-use Rattle.jr_rule.specs.Knowing.{MayKnow, HasObject, HasOptional, HasLooked, IsFreeSlot}
+use Rattle.jr_rule.specs.Knowing.{MayKnow, HasObject, HasOptional, HasLooked, IsFreeSlot, KnowsHeader, HasWord, IsWordNow}
 use Rattle.jr_rule.specs.Passes.{known_of, Knows}
 use Rattle.jr_rule.specs.Slots.{CanStand}
 use Rattle.jr_rule.proofs.InRoom.{in_room}
@@ -43,3 +45,16 @@ module _ (p : Pass) where
       let same = ap (λ (z : Known). z.config.objects) (k.1).is in
       let low = r.0 in
       let high = r.1 in (omega arith, omega arith))
+
+  -- the header that is known, the range that is held, and the word of a kind
+  pub header_known : {T : Known → Type 0} (o : ℕ) (h : HeaderParts) → MayKnow Knows p (λ k. KnowsHeader o h k × T k) → KnowsHeader o h (known_of p)
+  header_known o h may = ∥∥₁_elim may (hlevel props) (λ k. subst (KnowsHeader o h) (k.1).is k.2.0)
+
+  pub header_alone : (o : ℕ) (h : HeaderParts) → MayKnow Knows p (KnowsHeader o h) → KnowsHeader o h (known_of p)
+  header_alone o h may = ∥∥₁_elim may (hlevel props) (λ k. subst (KnowsHeader o h) (k.1).is k.2)
+
+  pub word_held : (place i : ℕ) → MayKnow Knows p (HasWord place i) → HasWord place i (known_of p)
+  word_held place i may = ∥∥₁_elim may (hlevel props) (λ k. subst (HasWord place i) (k.1).is k.2)
+
+  pub word_known : {T : Known → Type 0} (kind : Kind) (v : ℕ) → MayKnow Knows p (λ k. T k × IsWordNow kind v k) → ∥ IsWordNow kind v (known_of p) ∥₁
+  word_known kind v may = ∥∥₁_map may (λ k. subst (IsWordNow kind v) (k.1).is k.2.1)

@@ -1,15 +1,19 @@
 -- What the steps of the heap owe, wherever they find the row.
-use Rattle.std.proofs.Common.{◌≡◌, ◌≢◌, ◌⊎◌, ⊎_elim, inl, inr, ◌+◌, ◌*◌, ◌<◌, ◌≤◌, ◌==◌, ◌^◌, ℕ, Bool, true, false, cond, nat_lt, Option, Some, None, IsSome, Ok, Err, List, [], ◌∷◌, ◌++◌, map, length, get_or, slice_get, slice_set, eqb, eq-eqb, ne_eqb, nat_eq, refl, sym, ap, subst, ◌∙◌, arith, length-set}
+use Rattle.std.proofs.Common.{◌≡◌, ◌≢◌, ◌⊎◌, ⊎_elim, inl, inr, ◌+◌, ◌*◌, ◌<◌, ◌≤◌, ◌==◌, ◌^◌, ℕ, Bool, true, false, cond, nat_lt, Option, Some, None, IsSome, IfSome, Ok, Err, List, [], ◌∷◌, ◌++◌, map, length, get_or, slice_get, slice_set, eqb, eq-eqb, ne_eqb, nat_eq, refl, sym, ap, subst, ◌∙◌, arith, length-set}
 use Rattle.std.proofs.lemmas.List.{append-nil}
 use Rattle.std.proofs.lemmas.Option.{slice_get-get_or}
 use Rattle.std.proofs.lemmas.Bool.Decides.{nat_tests}
 use Rattle.std.proofs.Math.Logic.{∥∥₁_elim}
+use mathlib.Core.Logic.{∥∥₁_map}
 use Rattle.std.proofs.Props.{props}
 use mathlib.Core.Logic.{dite}
 use native.Mathlib.Decide.{ℕ_discrete}
 use prog.Atomic.{either}
 use Rattle.jr_word.specs.declared.config.Config.{Config}
 use Rattle.jr_word.specs.declared.header.HeaderParts.{HeaderParts}
+use Rattle.jr_word.specs.declared.top.TopParts.{TopParts}
+use Rattle.jr_word.specs.declared.top.Half.TheVariants.{First}
+use Rattle.jr_word.specs.Top.{top_word, IsTop}
 use Rattle.jr_word.specs.declared.kind.Kind.{Kind}
 use Rattle.jr_word.specs.declared.kind.Kind.TheVariants.{Plain, Boolean, Byte, Char, Short, Int, Long, Objects, Text}
 use Rattle.jr_word.specs.Header.{header_word, IsHeader}
@@ -20,7 +24,8 @@ use Rattle.jr_model.specs.declared.event.Act.TheVariants.{New, Reserve, ReserveF
 use Rattle.jr_model.specs.Maps.{update, sum_below}
 use Rattle.jr_model.specs.State.{Contents, State, IsPresent, IsWord, AreWords, length_of, present_words}
 use Rattle.jr_model.specs.Steps.{written}
-use Rattle.jr_model.specs.History.{History, by, state, IsLegal, role_of}
+use Rattle.jr_model.specs.declared.event.Role.{Role}
+use Rattle.jr_model.specs.History.{History, by, state, IsLegal, role_of, role_from}
 use Rattle.jr_model.proofs.Histories.{state_push}
 use Rattle.jr_model.proofs.Lengths.{lengths_fit}
 use Rattle.jr_model.proofs.Updates.{at_number, at_number_self}
@@ -30,18 +35,20 @@ use Rattle.jr_rule.specs.declared.naming.TopNaming.{TopNaming}
 use Rattle.jr_rule.specs.declared.naming.TopNaming.TheVariants as top
 use Rattle.jr_rule.specs.Acts.{publishing, top_named, reserving}
 use Rattle.jr_rule.specs.Grasping.{words_at, header_in, with_range, with_header, hold}
-use Rattle.jr_rule.specs.Image.{top_at, header_at, element_at, Stands, IsHeaderOf, IsKnown, IsSpace, IsImage}
-use Rattle.jr_rule.specs.Knowing.{view, state_of, HasObject, KnowsHeader, HasWord, IsWordNow, IsFilled, words_for, published}
+use Rattle.jr_rule.specs.Image.{of_object, top_at, header_at, element_at, Stands, IsHeaderOf, IsKnown, IsSpace, IsImage}
+use Rattle.jr_rule.specs.Knowing.{view, state_of, HasObject, KnowsHeader, HasWord, IsWordNow, IsFilled, words_for, published, fresh_from, ShowsPublished}
 use Rattle.jr_rule.specs.Rule.{IsFound, known_at, Makes, Owes}
 use Rattle.jr_rule.proofs.Counting.{lists_fit}
 use Rattle.jr_rule.proofs.Found.{role_at, present_now}
+use Rattle.jr_rule.proofs.Grasped.{there}
 use Rattle.jr_rule.proofs.Headers.{header_none, header_some, header_positive}
 use Rattle.jr_rule.proofs.HeapSpaces.{elements_from, elements_length, object_below, range_below, space_reserved, space_put, space_written, space_empty, space_published, space_known}
 use Rattle.jr_rule.proofs.Images.{top_set, element_set, with_space}
+use Rattle.jr_rule.proofs.Spaces.{space_same, hold_same}
 use Rattle.jr_rule.proofs.InRoom.{in_room}
 use Rattle.jr_rule.proofs.LocalTurns.{publishes}
 use Rattle.jr_rule.proofs.Owing.{gaining, quiet, written as renamed, unwritten, won, lost}
-use Rattle.jr_rule.proofs.Told.{SawHeader, Published, used_word, SawTop, ClaimedTop, SawElement, PutElement, PutOwn}
+use Rattle.jr_rule.proofs.Told.{IsHeaderWord, SawHeader, Published, used_word, SawTop, ClaimedTop, SawElement, PutElement, PutOwn}
 use Rattle.jr_rule.proofs.Turns.{Turn, turn_one, turn_none}
 
 -- a word of a kind is one without a choice: an element of an object array is 0, or else an object's number
@@ -69,28 +76,6 @@ word_stays s s' Int v stay w = w
 word_stays s s' Long v stay w = w
 word_stays s s' Text v stay w = w
 word_stays s s' Objects v stay w = ⊎_elim (λ e. inl e) (λ p. inr (stay v p)) w
-
--- the object whose header is known
-record IsThere (c : Config) (words : List ℕ) (s : State) (held : ℕ → Grasp) (space : IsSpace c words s.objects s.used held) (o : ℕ) (h : HeaderParts) : Type 0 where
-  contents : Contents
-  is : s.objects o ≡ Some contents
-  kind : contents.kind ≡ h.kind
-  long : length contents.words ≡ h.length
-  stands : Stands c space.owner words (Rattle.jr_rule.specs.Image.of_object o) h.place contents.words
-
-there : (c : Config) (last : ℕ) (words : List ℕ) (s : State) (held : ℕ → Grasp) (image : IsImage c last words s held) (o : ℕ) (h : HeaderParts) → IsKnown c words o h → IsThere c words s held image.space o h
-there c last words s held image o h known = go (s.objects o) refl (image.header o known.number.0 known.number.1)
-  where
-    go : (z : Option Contents) → s.objects o ≡ z → IsHeaderOf z (get_or words (header_at c o) 0) → IsThere c words s held image.space o h
-    go None e w = absurd (let p = header_positive h in let q = known.word in omega arith)
-    go (Some x) e w =
-        let same : w.parts ≡ h = header_word-injective w.parts h w.fits known.fits (sym w.word ∙ known.word) in record {
-          contents = x;
-          is = e;
-          kind = sym (ap (λ (p : HeaderParts). p.kind) (sym same) ∙ w.same_kind);
-          long = sym (ap (λ (p : HeaderParts). p.length) (sym same) ∙ w.same_length);
-          stands = image.space.object o x h known.number.0 known.number.1 e known.fits known.word;
-        }
 
 module _ (k : Known) (within : role_of (view k) ≡ Within) where
   pub sees_header : (o : ℕ) → 1 ≤ o → o ≤ k.config.objects → Owes k (header_at k.config o) (λ n. n) (SawHeader o k)
@@ -155,3 +140,175 @@ module _ (k : Known) (within : role_of (view k) ≡ Within) where
       (renamed k log words held top_at n (either (eqb n old) new n) (lost old new n other)
       (unwritten k log words held top_at (turn_one k.config k.last log k.thread words held f.legal (ReserveLost more looked s.used) (f.fits.row, (inside, refl, λ e. other (is ∙ ap used_word e))) f.image)))
       (λ e. absurd (other e), λ ne. (s.used, omega arith, is, refl, refl)))
+
+-- what each of several words of a kind is, without a choice
+words_are : (s : State) (kind : Kind) (ws : List ℕ) → ∥ AreWords s kind ws ∥₁ → AreWords s kind ws
+words_are s kind ws h i v at = word_is s kind v (∥∥₁_map h (λ (z : AreWords s kind ws). z i v at))
+
+-- the words of the present objects and those of a thread's own range lie below the top together
+range_fits : (c : Config) (last : ℕ) (log : History) (words : List ℕ) (held : ℕ → Grasp) → IsLegal c last log → (image : IsImage c last words (state log) held) → (t p : ℕ) → present_words c (state log) + length (words_at p (held t).ranges) ≤ (state log).used
+range_fits c last log words held legal image t p =
+    lists_fit image.space.owner (c.objects + 1) s.used t p (length own) (λ o. length_of (s.objects o)) (λ o l. each o (s.objects o) refl)
+    (λ j l. let e = (image.space.range t p).owns j l in (range_below c words s.objects s.used held image.space (p + j) t p j e, e))
+  where
+    s : State
+    s = state log
+
+    own : List ℕ
+    own = words_at p (held t).ranges
+
+    each : (o : ℕ) (z : Option Contents) → s.objects o ≡ z → (a : ℕ) × ((j : ℕ) → j < length_of (s.objects o) → (a + j < s.used) × (image.space.owner (a + j) ≡ of_object o j))
+    each o None e = (0, λ j l. absurd (let n = ap length_of e in omega arith))
+    each o (Some x) e =
+        let number = (in_room c last log legal).objects o (subst IsSome (sym e) refl) in
+        let w = subst (λ z. IsHeaderOf z (get_or words (header_at c o) 0)) e (image.header o number.0 number.1) in
+        let list = image.space.object o x w.parts number.0 number.1 e w.fits w.word in
+        ((w.parts).place, λ j l. let at = list.owns j (subst (λ n. j < n) (ap length_of e) l) in (object_below c words s.objects s.used held image.space ((w.parts).place + j) o j at, at))
+
+-- an element after a write
+abbrev rewritten : Contents → ℕ → ℕ → Contents
+rewritten x i v = record { kind = x.kind; words = slice_set x.words i v }
+
+module _ (k : Known) (within : role_of (view k) ≡ Within) where
+  module _ (o : ℕ) (h : HeaderParts) (knows : KnowsHeader o h k) (i : ℕ) (row : i < h.length) where
+    known_now : (log : History) (words : List ℕ) (held : ℕ → Grasp) → IsFound k log words held → IsKnown k.config words o h
+    known_now log words held f = f.image.space.header k.thread o h (subst (λ (g : Grasp). header_in o g.headers ≡ Some h) (sym f.fits.grasp) knows)
+
+    pub sees_element : Owes k (element_at k.config (h.place + i)) (λ n. n) (SawElement o i k)
+    sees_element log words held f =
+        let at : ℕ = element_at k.config (h.place + i) in
+        let n : ℕ = get_or words at 0 in
+        let x = there k.config k.last words (state log) held f.image o h (known_now log words held f) in
+        let inside : i < length x.contents.words = subst (λ m. i < m) (sym x.long) row in
+        let read : slice_get x.contents.words i ≡ Some n = slice_get-get_or x.contents.words i 0 inside ∙ ap Some (sym (x.stands.reads i inside)) in
+        quiet k log words held f _ (SawElement o i k n) (Read o i n ∷ []) (unwritten k log words held at (turn_one k.config k.last log k.thread words held f.legal (Read o i n) (f.fits.row, (role_at k log words held f ∙ within, x.contents, x.is, read)) f.image)) (refl, refl)
+
+    pub puts_element : (v : ℕ) → h.kind ≢ Text → ∥ IsWordNow h.kind v k ∥₁ → Owes k (element_at k.config (h.place + i)) (λ n. v) (λ n. PutElement o i v k v)
+    puts_element v no_text word log words held f =
+        let c = k.config in
+        let s : State = state log in
+        let at : ℕ = h.place + i in
+        let known = known_now log words held f in
+        let x = there c k.last words s held f.image o h known in
+        let inside : i < length x.contents.words = subst (λ m. i < m) (sym x.long) row in
+        let fit = (lengths_fit c k.last log f.legal).1 in
+        let below = object_below c words s.objects s.used held f.image.space at o i (x.stands.owns i inside) in
+        let new : Option Contents = Some (rewritten x.contents i v) in
+        let kept : (r w : ℕ) → IsHeaderOf (s.objects r) w → IsHeaderOf (update nat_eq s.objects o new r) w = λ r w a.
+            at_number (λ z. IsHeaderOf z w) s.objects o r new
+            (λ e. let b = subst (λ z. IsHeaderOf z w) (ap s.objects (sym e) ∙ x.is) a in record { parts = b.parts; fits = b.fits; word = b.word; same_kind = b.same_kind; same_length = b.same_length ∙ sym (length-set x.contents.words i v) })
+            (λ ne. a) in
+        let space = space_written c words s.objects s.used held f.image.space f.image.wide fit o i v x.contents h known.number.0 known.number.1 x.is known.fits known.word inside in
+        let image = element_set c k.last words s held f.image v at (update nat_eq s.objects o new) held (omega arith) kept space in
+        let now = subst (λ z. IsImage c k.last (slice_set words (element_at c at) v) (record s { objects = update nat_eq s.objects o z }) held) (sym (ap (λ z. written z i v) x.is)) image in
+        let here = word_stays (state_of k) s h.kind v (λ r p. present_now k log words held f r within p) (word_is (state_of k) h.kind v word) in
+        quiet k log words held f _ (PutElement o i v k v) (Write o i v ∷ [])
+        (turn_one c k.last log k.thread (slice_set words (element_at c at) v) held f.legal (Write o i v) (f.fits.row, (role_at k log words held f ∙ within, x.contents, x.is, (λ e. no_text (sym x.kind ∙ e)), inside, subst (λ z. IsWord s z v) (sym x.kind) here)) now) (refl, refl)
+
+  pub puts_own : (place i v : ℕ) → HasWord place i k → Owes k (element_at k.config (place + i)) (λ n. v) (λ n. PutOwn place i v k v)
+  puts_own place i v own log words held f =
+      let c = k.config in
+      let s : State = state log in
+      let t : ℕ = k.thread in
+      let inside : i < length (words_at place (held t).ranges) = subst (λ (g : Grasp). i < length (words_at place g.ranges)) (sym f.fits.grasp) own in
+      let fit = (lengths_fit c k.last log f.legal).1 in
+      let below = range_below c words s.objects s.used held f.image.space (place + i) t place i ((f.image.space.range t place).owns i inside) in
+      let g : Grasp = with_range k.grasp place (slice_set (words_at place k.grasp.ranges) i v) in
+      let space = subst (λ (z : Grasp). IsSpace c (slice_set words (element_at c (place + i)) v) s.objects s.used (hold held t (with_range z place (slice_set (words_at place z.ranges) i v)))) f.fits.grasp (space_put c words s.objects s.used held f.image.space f.image.wide fit t place i v inside) in
+      gaining k log _ held (PutOwn place i v k v) [] g
+      (turn_none c k.last log t (slice_set words (element_at c (place + i)) v) (hold held t g) f.legal (element_set c k.last words s held f.image v (place + i) s.objects (hold held t g) (omega arith) (λ r w a. a) space))
+      (refl, refl)
+
+  -- a header that was found 0 is the object's: one of no elements, or one whose elements are a range of the thread's own
+  pub publishes_header : (o : ℕ) (h : HeaderParts) → 1 ≤ o → o ≤ k.config.objects → IsHeader h → ∥ IsFilled h k ∥₁ → Owes k (header_at k.config o) (λ n. either (eqb n 0) (header_word h) n) (Published o h k)
+  publishes_header o h low high good filled log words held f = dite (ℕ_discrete n 0) wins loses
+    where
+      c : Config
+      c = k.config
+
+      s : State
+      s = state log
+
+      n : ℕ
+      n = get_or words (header_at c o) 0
+
+      ws : List ℕ
+      ws = words_for h k
+
+      word : ℕ
+      word = either (eqb n 0) (header_word h) n
+
+      there_now : (acts : List Act) (g : Grasp) → state (log ++ map (by k.thread) acts) ≡ s → IsPresent s o → HasObject o (known_at k log acts g)
+      there_now acts g same p = subst (λ z. IsPresent z o) (sym same) p
+
+      loses : n ≢ 0 → Makes k log (slice_set words (header_at c o) word) held (Published o h k n)
+      loses some = quiet k log words held f (slice_set words (header_at c o) word) (Published o h k n) []
+          (renamed k log words held (header_at c o) n word (lost 0 (header_word h) n some) (unwritten k log words held (header_at c o) (turn_none c k.last log k.thread words held f.legal f.image)))
+          (λ e. absurd (some e), λ ne. (refl, refl), there_now [] k.grasp (ap state (append-nil log)) (header_some (s.objects o) n (f.image.header o low high) some))
+
+      are : AreWords s h.kind ws
+      are i v at = word_stays (state_of k) s h.kind v (λ r p. present_now k log words held f r within p) (words_are (state_of k) h.kind ws (∥∥₁_map filled (λ (z : IsFilled h k). z.words)) i v at)
+
+      long : h.length ≡ length ws
+      long = ∥∥₁_elim filled (hlevel props) (λ (z : IsFilled h k). sym z.long)
+
+      wins : n ≡ 0 → Makes k log (slice_set words (header_at c o) word) held (Published o h k n)
+      wins none = by_length (h.length == 0) refl
+        where
+          made : (g : Grasp) (ws' : List ℕ) → ws ≡ ws' → g ≡ published h k.grasp → present_words c s + length ws' ≤ s.used
+              → IsSpace c (slice_set words (header_at c o) (header_word h)) (update nat_eq s.objects o (Some (record { kind = h.kind; words = ws' }))) s.used (hold held k.thread g)
+              → Makes k log (slice_set words (header_at c o) word) held (Published o h k n)
+          made g ws' same is room space =
+              let inside = role_at k log words held f ∙ within in
+              let turn = publishes c k.last log k.thread words f.legal held f.image f.fits.row inside o h ws' (hold held k.thread g) low high good (long ∙ ap length same) (subst (AreWords s h.kind) same are) room none space in
+              gaining k log (slice_set words (header_at c o) word) held (Published o h k n) (New o h.kind ws' ∷ []) g
+              (renamed k log words (hold held k.thread g) (header_at c o) (header_word h) word (won 0 (header_word h) n none) turn)
+              (λ e. (ap (λ z. New o h.kind z ∷ []) (sym same), is), λ ne. absurd (ne none),
+               subst (λ z. IsPresent z o) (sym (state_push log (by k.thread (New o h.kind ws')))) (subst IsSome (sym (at_number_self s.objects o (Some (record { kind = h.kind; words = ws' })))) refl))
+
+          by_length : (b : Bool) → (h.length == 0) ≡ b → Makes k log (slice_set words (header_at c o) word) held (Published o h k n)
+          by_length true e =
+              let empty_ws : ws ≡ [] = ap (λ z. cond z [] (words_at h.place k.grasp.ranges)) e in
+              let same_grasp : k.grasp ≡ published h k.grasp = sym (ap (λ z. cond z k.grasp (with_range k.grasp h.place [])) e) in
+              let fit = (lengths_fit c k.last log f.legal).0 in
+              let space = space_empty c words s.objects s.used held f.image.space o h h.kind low high good f.image.wide none in
+              made k.grasp [] empty_ws same_grasp (omega arith) (space_same c (slice_set words (header_at c o) (header_word h)) (update nat_eq s.objects o (Some (record { kind = h.kind; words = [] }))) s.used held space (hold held k.thread k.grasp) (hold_same held k.thread k.grasp f.fits.grasp))
+          by_length false e =
+              let own : List ℕ = words_at h.place k.grasp.ranges in
+              let own_ws : ws ≡ own = ap (λ z. cond z [] own) e in
+              let same_grasp : with_range k.grasp h.place [] ≡ published h k.grasp = sym (ap (λ z. cond z k.grasp (with_range k.grasp h.place [])) e) in
+              let room = subst (λ (g : Grasp). present_words c s + length (words_at h.place g.ranges) ≤ s.used) f.fits.grasp (range_fits c k.last log words held f.legal f.image k.thread h.place) in
+              let space = subst (λ (g : Grasp). IsSpace c (slice_set words (header_at c o) (header_word h)) (update nat_eq s.objects o (Some (record { kind = h.kind; words = words_at h.place g.ranges }))) s.used (hold held k.thread (with_range g h.place []))) f.fits.grasp
+                  (space_published c words s.objects s.used held f.image.space o h h.kind low high good f.image.wide none k.thread) in
+              made (with_range k.grasp h.place []) own own_ws same_grasp room space
+
+-- what is read of a header, and of the top
+pub header_read : (q r : Option HeaderParts) (n : ℕ) → IsHeaderWord r n → IfSome q (λ p. IsHeader p × (n ≡ header_word p)) → ((p : HeaderParts) → IsHeader p → n ≡ header_word p → q ≡ Some p) → q ≡ r
+header_read q (Some h) n is sound complete = complete h is.0 is.1
+header_read None None n is sound complete = refl
+header_read (Some p) None n is sound complete = let some = header_positive p in let a = sound.1 in absurd (omega arith)
+
+pub top_some : (n : ℕ) (q : Option TopParts) (u : ℕ) → u < 2 ^ 24 → n ≡ used_word u → ((p : TopParts) → IsTop p → n ≡ top_word p → q ≡ Some p) → IsSome q
+top_some n q u few is complete = subst IsSome (sym (complete (record { used = u; half = First }) (record { used = few }) is)) refl
+
+pub top_is : (n : ℕ) (q : Option TopParts) (u : ℕ) (p : TopParts) → u < 2 ^ 24 → n ≡ used_word u → ((p : TopParts) → IsTop p → n ≡ top_word p → q ≡ Some p) → q ≡ Some p → p.used ≡ u
+top_is n q u p few is complete read = let same : Some p ≡ Some (record { used = u; half = First }) = sym read ∙ complete (record { used = u; half = First }) (record { used = few }) is in let equal : p ≡ record { used = u; half = First } = cc in ap (λ (z : TopParts). z.used) equal
+
+-- the acts of an exchange of the top, which leave the role and the freshness
+pub claimed_acts : (looked more : ℕ) (k : Known) (n : ℕ) (acts : List Act) (k' : Known) → ClaimedTop looked more k n acts k'
+    → (a : List Act) × (acts ≡ a) × ((r : Role) → r ≡ role_from r a) × ((f : Bool) → f ≡ fresh_from f a)
+claimed_acts looked more k n acts k' says = dite (ℕ_discrete n (used_word looked))
+    (λ e. (Reserve more ∷ [], (says.0 e).0, λ r. refl, λ f. refl))
+    (λ ne. let s = says.1 ne in (ReserveLost more looked s.0 ∷ [], s.3, λ r. refl, λ f. refl))
+
+-- the acts of an exchange of a header
+pub published_acts : (o : ℕ) (h : HeaderParts) (k : Known) (n : ℕ) (acts : List Act) (k' : Known) → Published o h k n acts k' → acts ≡ publishing o h.kind (words_for h k) (n == 0)
+published_acts o h k n acts k' says = dite (ℕ_discrete n 0)
+    (λ e. (says.0 e).0 ∙ ap (publishing o h.kind (words_for h k)) (sym (eq-eqb n 0 e)))
+    (λ ne. (says.1 ne).0 ∙ ap (publishing o h.kind (words_for h k)) (sym (ne_eqb n 0 ne)))
+
+-- what it shows
+pub published_shows : (o : ℕ) (h : HeaderParts) (k : Known) (n : ℕ) (acts : List Act) (k' : Known) → Published o h k n acts k' → ShowsPublished o h (n == 0) k k'
+published_shows o h k n acts k' says = dite (ℕ_discrete n 0)
+    (λ e. subst (λ b. ShowsPublished o h b k k') (sym (eq-eqb n 0 e)) (says.2, (says.0 e).1))
+    (λ ne. subst (λ b. ShowsPublished o h b k k') (sym (ne_eqb n 0 ne)) (says.2, (says.1 ne).1))

@@ -32,6 +32,7 @@ pub mod GateOwed
 pub mod SlotOwed
 pub mod Allowed
 pub mod PlaceOwed
+pub mod Grasped
 pub mod HeapOwed
 pub mod Meeting
 pub mod Ended

@@ -16,6 +16,7 @@ use Rattle.jr_rule.specs.declared.known.View.{View}
 use Rattle.jr_rule.specs.declared.known.Grasp.{Grasp}
 use Rattle.jr_rule.specs.Grasping.{hold}
 use Rattle.jr_rule.specs.Image.{IsImage}
+use Rattle.jr_rule.proofs.Grasped.{grasp_in_space}
 use Rattle.jr_rule.proofs.Spaces.{hold_here, hold_else}
 use Rattle.jr_rule.specs.Knowing.{Goes}
 use Rattle.jr_rule.specs.Rule.{view, Fits, EachFits, total, is_of, passes_of, Row, Kept, Sat, acting, Tells, known_at, Owes}
@@ -100,7 +101,7 @@ module _ (c : Config) (last : ℕ) where
   apart r kept id k ks at =
       let f : View → ℕ = passes_of k.thread in
       let own = one_here k.thread k refl in
-      let most = kept.once k.thread in
+      let most = kept.once k.thread ((kept.each id (view (k ∷ ks)) at).0).row in
       let all = total_above f r.views id (view (k ∷ ks)) at in (
         omega arith,
         λ j v other there.
@@ -127,7 +128,7 @@ module _ (c : Config) (last : ℕ) where
             (λ (q : (j ≡ id) × (w ≡ v)). subst (λ (z : View). EachFits c last (kept.log ++ map (by t) acts) (hold kept.held t g) z.passes) q.1 (fits_here c last kept.log kept.held k acts g fit.0, others_fit c last kept.log kept.held t acts g ks far.0 fit.1))
             (λ (q : (j ≢ id) × (get_elem? r.views j ≡ some v)). others_fit c last kept.log kept.held t acts g v.passes (far.1 j v q.0 q.1) (kept.each j v q.1))
             (at_set r.views id j w v there);
-        once = λ u. let same = total_at (passes_of u) r.views id (view (k ∷ ks)) w at in let most = kept.once u in omega arith;
+        once = λ u h. let same = total_at (passes_of u) r.views id (view (k ∷ ks)) w at in let most = kept.once u h in omega arith;
       }
 
 -- WHAT A STEP OWES IS ENOUGH for the row to take it, whoever else steps in between
@@ -149,6 +150,7 @@ module _ (c : Config) (last slots id : ℕ) (k : Known) (ks : List Known) (i : �
           is = refl;
           goes = goes_at k kept.log kept.held made.acts made.grasp fit.0 made.legal;
           says = made.says;
+          space = grasp_in_space k.config k.last (kept.log ++ map (by k.thread) made.acts) (slice_set r.words i (f n)) (hold kept.held k.thread made.grasp) made.legal made.image k.thread made.grasp (hold_here kept.held k.thread made.grasp);
           held = hold kept.held k.thread made.grasp;
           others = others_fit k.config k.last kept.log kept.held k.thread made.acts made.grasp ks far.0 fit.1;
         },

@@ -38,12 +38,12 @@ module _ (c : Config) (last : ℕ) where
         (at_set r.views id j left w in_front))
         (λ (new : right ≡ w). subst (λ (z : View). EachFits c last kept.log kept.held z.passes) new (parts kept.log kept.held (kept.each id v at)).1)
         (at_snoc (slice_set r.views id left) right w j there);
-    once = λ t.
+    once = λ t h.
         let f : View → ℕ = passes_of t in
         let one = total_at f r.views id v left at in
         let two = total_append f (slice_set r.views id left) (right ∷ []) in
         let n = counts t in
-        let most = kept.once t in omega arith;
+        let most = kept.once t h in omega arith;
   }
 
   pub deals : (id : ℕ) (v : View) (k : Known) (ks : List Known) → v ≡ view (k ∷ ks) → Splits (Kept last c) id v (without_first v) (first_alone v)
@@ -70,12 +70,12 @@ module _ (c : Config) (last : ℕ) where
             (λ (q : (j ≢ id) × (get_elem? r.views j ≡ some u)). kept.each j u q.1)
             (at_set r.views id j (together v w) u t.1))
             (at_set (slice_set r.views id (together v w)) other j spent u there');
-        once = λ t.
+        once = λ t h.
             let f : View → ℕ = passes_of t in
             let one = total_at f r.views id v (together v w) at in
             let two = total_at f (slice_set r.views id (together v w)) other w spent there in
             let sum = total_append (is_of t) v.passes w.passes in
-            let most = kept.once t in omega arith;
+            let most = kept.once t h in omega arith;
       }
 
   newcomers_fit : (n t : ℕ) → t + n ≤ c.threads → EachFits c last [] (λ u. empty) (newcomers c last n t)
@@ -89,11 +89,11 @@ module _ (c : Config) (last : ℕ) where
       let none : is_of u (known c last t [] empty) ≡ 0 = ap (λ b. cond b 1 0) (ne_eqb t u other) in
       let rest = not_yet u n (suc t) (omega arith) in omega arith
 
-  at_most_once : (u n t : ℕ) → total (is_of u) (newcomers c last n t) ≤ 1
-  at_most_once u zero t = omega arith
-  at_most_once u (suc n) t = dite (ℕ_discrete t u)
+  just_once : (u n t : ℕ) → t ≤ u → u < t + n → total (is_of u) (newcomers c last n t) ≡ 1
+  just_once u zero t from to = absurd (omega arith)
+  just_once u (suc n) t from to = dite (ℕ_discrete t u)
       (λ e. let one : is_of u (known c last t [] empty) ≡ 1 = ap (λ b. cond b 1 0) (eq-eqb t u e) in let rest = not_yet u n (suc t) (omega arith) in omega arith)
-      (λ other. let none : is_of u (known c last t [] empty) ≡ 0 = ap (λ b. cond b 1 0) (ne_eqb t u other) in let rest = at_most_once u n (suc t) in omega arith)
+      (λ other. let none : is_of u (known c last t [] empty) ≡ 0 = ap (λ b. cond b 1 0) (ne_eqb t u other) in let rest = just_once u n (suc t) (omega arith) (omega arith) in omega arith)
 
   -- a row that shows the opening meets the rule
   pub opens : (words : List ℕ) → IsSized c last → IsImage c last words nothing_stands (λ t. empty) → Kept last c (opening words [] (view (newcomers c last c.threads 0)))
@@ -104,7 +104,7 @@ module _ (c : Config) (last : ℕ) where
     sized = sized;
     image = image;
     each = λ j v there. alone v j there;
-    once = λ t. let one = at_most_once t c.threads 0 in omega arith;
+    once = λ t h. let one = just_once t c.threads 0 (omega arith) (omega arith) in omega arith;
   }
     where
       alone : (v : View) (j : ℕ) → get_elem? (view (newcomers c last c.threads 0) ∷ []) j ≡ some v → EachFits c last [] (λ t. empty) v.passes

@@ -1,5 +1,5 @@
 -- What a step told makes of its pass.
-use Rattle.std.proofs.Common.{◌≡◌, ◌<◌, ℕ, Bool, true, List, [], ◌∷◌, refl, sym, ap, subst, ◌∙◌}
+use Rattle.std.proofs.Common.{◌≡◌, ◌<◌, ℕ, Bool, true, Some, List, [], ◌∷◌, refl, sym, ap, subst, ◌∙◌}
 use Rattle.std.specs.List.{AllByRecursion}
 use Rattle.jr_word.specs.declared.config.Config.{Config}
 use Rattle.jr_model.specs.declared.event.Role.{Role}
@@ -11,7 +11,8 @@ use Rattle.jr_model.proofs.Stays.{role_did}
 use Rattle.jr_rule.specs.declared.known.Known.{Known}
 use Rattle.jr_rule.specs.declared.pass.Pass.{Pass}
 use Rattle.jr_rule.specs.declared.row.Row.{Row}
-use Rattle.jr_rule.specs.Knowing.{IsOf, view, fresh_from, HasNoLocals, Goes, Took}
+use Rattle.jr_rule.specs.Grasping.{InSpace}
+use Rattle.jr_rule.specs.Knowing.{IsOf, view, fresh_from, HasNoLocals, Goes, Took, TookWith}
 use Rattle.jr_rule.specs.Rule.{view as seats, Sat, acting, others_of, Tells}
 use Rattle.jr_rule.specs.Holding.{IsHeld, IsSeated}
 use Rattle.jr_rule.specs.Passes.{known_of, standing_of, Knows, IsAt}
@@ -51,6 +52,7 @@ module _ {told : Known → ℕ → List Act → Known → Type 0} (m : Sat) (n :
         row = subst (λ (c : Config). thread < c.threads) (sym same_config) h.row;
         few = h.few;
         unused = λ e. subst HasNoLocals (sym acting_is) (no_locals_next (acting m) s.new s.acts fresh g (ap (fresh_from fresh) are ∙ (sym fresh_is ∙ e)) h.unused);
+        space = subst (λ (k : Known). InSpace k.config k.grasp) (sym acting_is) (subst (λ (c : Config). InSpace c (s.new).grasp) (sym g.config) s.space);
       }
 
 module _ {told : Known → ℕ → List Act → Known → Type 0} (old new : Pass) (n : ℕ) (s : Tells told old.seat.me n new.seat.me) where
@@ -74,12 +76,13 @@ module _ {told : Known → ℕ → List Act → Known → Type 0} (old new : Pas
       }
 
   -- the step was taken
-  pub took : {met : Known → Type 0} {shows : Known → Known → Type 0} (acts : List Act) → s.acts ≡ acts → new.thread ≡ old.thread → new.role ≡ role_from old.role acts → new.fresh ≡ fresh_from old.fresh acts
+  pub took : {met : Known → Type 0} {shows : Known → Known → Type 0} (acts : List Act) → new.seat.table_id ≡ old.seat.table_id → s.acts ≡ acts → new.thread ≡ old.thread → new.role ≡ role_from old.role acts → new.fresh ≡ fresh_from old.fresh acts
       → (met (known_of old) → shows (known_of old) s.new) → Took standing_of Knows old new acts met shows
-  took {met} {shows} acts acts_are same_thread role_is fresh_is shown =
+  took {met} {shows} acts same_table acts_are same_thread role_is fresh_is shown =
       let g = s.goes in
       let a = acting_is old.seat.me n new.seat.me s in record {
         stands_is = λ i. record {
+          room = Some (same_table i);
           config = (ap (λ (k : Known). k.config) a ∙ g.config) i;
           last = (ap (λ (k : Known). k.last) a ∙ g.last) i;
           thread = same_thread i;
@@ -88,6 +91,26 @@ module _ {told : Known → ℕ → List Act → Known → Type 0} (old new : Pas
         };
         goes = λ k h q.
             let here : Goes k acts s.new = subst (λ (z : Known × List Act). Goes z.0 z.1 s.new) (λ i. (sym h.is i, acts_are i)) g in
+            let legal = subst (λ (z : Config × ℕ). IsLegal z.0 z.1 (s.new).seen) (λ i. (sym g.config i, sym g.last i)) g.legal in
+            (s.new, record { is = sym a; pass = known_is legal }, here, subst (λ z. shows z s.new) (sym h.is) (shown (subst met h.is q)));
+      }
+
+  -- the step was taken, with acts that depend on what was known
+  pub took_with : {met : Known → Type 0} {shows : Known → Known → Type 0} (acts : Known → List Act) → new.seat.table_id ≡ old.seat.table_id → s.acts ≡ acts (known_of old) → new.thread ≡ old.thread → new.role ≡ old.role → new.fresh ≡ old.fresh
+      → (met (known_of old) → shows (known_of old) s.new) → TookWith standing_of Knows old new acts met shows
+  took_with {met} {shows} acts same_table acts_are same_thread role_is fresh_is shown =
+      let g = s.goes in
+      let a = acting_is old.seat.me n new.seat.me s in record {
+        stands_is = λ i. record {
+          room = Some (same_table i);
+          config = (ap (λ (k : Known). k.config) a ∙ g.config) i;
+          last = (ap (λ (k : Known). k.last) a ∙ g.last) i;
+          thread = same_thread i;
+          role = role_is i;
+          fresh = fresh_is i;
+        };
+        goes = λ k h q.
+            let here : Goes k (acts k) s.new = subst (λ (z : Known × List Act). Goes z.0 z.1 s.new) (λ i. (sym h.is i, (acts_are ∙ ap acts (sym h.is)) i)) g in
             let legal = subst (λ (z : Config × ℕ). IsLegal z.0 z.1 (s.new).seen) (λ i. (sym g.config i, sym g.last i)) g.legal in
             (s.new, record { is = sym a; pass = known_is legal }, here, subst (λ z. shows z s.new) (sym h.is) (shown (subst met h.is q)));
       }

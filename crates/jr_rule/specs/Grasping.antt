@@ -1,6 +1,8 @@
 -- What a pass holds in its stay: ranges of its own, and headers that it knows.
-use Rattle.std.specs.Prelude.{◌≡◌, ◌==◌, ℕ, cond, Option, Some, None, List, [], ◌∷◌}
+use Rattle.std.specs.Prelude.{◌≡◌, ◌==◌, ◌+◌, ◌<◌, ℕ, cond, length, Option, Some, None, List, [], ◌∷◌}
+use Rattle.jr_word.specs.declared.config.Config.{Config}
 use Rattle.jr_word.specs.declared.header.HeaderParts.{HeaderParts}
+use Rattle.jr_word.specs.Header.{IsHeader}
 use Rattle.jr_rule.specs.declared.known.OwnRange.{OwnRange}
 use Rattle.jr_rule.specs.declared.known.KnownHeader.{KnownHeader}
 use Rattle.jr_rule.specs.declared.known.Grasp.{Grasp}
@@ -30,3 +32,9 @@ with_header g o h = record { ranges = g.ranges; headers = record { object = o; h
 -- what the threads hold, once t holds g
 abbrev pub hold : (ℕ → Grasp) → ℕ → Grasp → ℕ → Grasp
 hold held t g u = cond (u == t) g (held u)
+
+-- what is held lies in the space: each word of an own range, and each element of an object whose header is known
+pub record InSpace (c : Config) (g : Grasp) : Type 0 where
+  pub own : (p i : ℕ) → i < length (words_at p g.ranges) → p + i < c.words
+  pub good : (o : ℕ) (h : HeaderParts) → header_in o g.headers ≡ Some h → IsHeader h
+  pub elements : (o : ℕ) (h : HeaderParts) → header_in o g.headers ≡ Some h → (i : ℕ) → i < h.length → h.place + i < c.words

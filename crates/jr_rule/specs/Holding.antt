@@ -2,6 +2,7 @@
 use Rattle.std.specs.Prelude.{◌≡◌, ◌<◌, ℕ, Bool, true, [], ◌∷◌}
 use Rattle.jr_model.specs.declared.event.Role.{Role}
 use Rattle.jr_model.specs.History.{IsLegal, role_of}
+use Rattle.jr_rule.specs.Grasping.{InSpace}
 use Rattle.jr_rule.specs.Knowing.{view, HasNoLocals}
 use Rattle.jr_rule.specs.Rule.{Sat, acting, others_of, IsAlone, IsSized, view as rule_view}
 
@@ -15,6 +16,7 @@ pub record IsHeld (m : Sat) (thread : ℕ) (role : Role) (fresh : Bool) : Type 0
   pub row : thread < (acting m).config.threads
   pub few : thread < 64
   pub unused : fresh ≡ true → HasNoLocals (acting m)
+  pub space : InSpace (acting m).config (acting m).grasp
 
 -- the seat has a pass to step, and no slots
 abbrev pub IsSeated : Sat → Type 0

@@ -1,6 +1,7 @@
 -- What a caller of the steps knows of them.
 use Rattle.std.specs.Prelude.{◌≡◌, ◌≢◌, ◌↔◌, ◌≤◌, ◌<◌, ℕ, Bool, true, false, IsTrue, Result, Ok, Err, Option, Some, None, List, [], ◌∷◌, ◌++◌, ◌==◌, cond, map, length, slice_set}
 use Rattle.std.specs.List.{AllByRecursion}
+use Rattle.atomic_table.specs.Seated.{TableId}
 use Rattle.jr_word.specs.declared.config.Config.{Config}
 use Rattle.jr_word.specs.declared.gate.GateParts.{GateParts}
 use Rattle.jr_word.specs.declared.slot.SlotParts.{SlotParts}
@@ -22,15 +23,16 @@ use Rattle.jr_rule.specs.declared.known.Grasp.{Grasp}
 use Rattle.jr_rule.specs.Grasping.{empty, words_at, header_in, with_range, with_header}
 use Rattle.jr_rule.specs.Image.{is_inside, AreGivenBelow, SaysOfSlot}
 
--- the room, the thread, its role, and whether the pass is fresh
+-- the room (none over plain words), the thread, its role, and whether the pass is fresh
 pub record Standing : Type 0 where
+  pub room : Option TableId
   pub config : Config
   pub last : ℕ
   pub thread : ℕ
   pub role : Role
   pub fresh : Bool
 
--- a pass is fresh until its first store to a local word
+-- a pass that was not spent is fresh until its first store to a local word
 abbrev pub fresh_after : Bool → Act → Bool
 fresh_after f (LocalPut p o) = false
 fresh_after f (LocalDrop p) = false
@@ -50,7 +52,7 @@ state_of k = state k.seen
 
 -- the standing after acts
 abbrev pub moved : Standing → List Act → Standing
-moved s acts = record { config = s.config; last = s.last; thread = s.thread; role = role_from s.role acts; fresh = fresh_from s.fresh acts }
+moved s acts = record { room = s.room; config = s.config; last = s.last; thread = s.thread; role = role_from s.role acts; fresh = fresh_from s.fresh acts }
 
 -- what is known is of this room and thread, and its history is legal
 pub record IsOf (s : Standing) (k : Known) : Type 0 where

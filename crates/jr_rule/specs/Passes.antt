@@ -1,5 +1,5 @@
 -- What a pass shows, and what a room gives.
-use Rattle.std.specs.Prelude.{◌≡◌, ℕ, zero, suc, true, List, [], ◌∷◌, ◌++◌, map}
+use Rattle.std.specs.Prelude.{◌≡◌, ℕ, zero, suc, true, Some, List, [], ◌∷◌, ◌++◌, map}
 use Rattle.std.specs.List.{All}
 use mathlib.Core.List.{IsPrefix}
 use Rattle.jr_word.specs.declared.config.Config.{Config}
@@ -20,7 +20,7 @@ abbrev pub known_of : Pass → Known
 known_of p = acting p.seat.me
 
 abbrev pub standing_of : Pass → Standing
-standing_of p = record { config = (known_of p).config; last = (known_of p).last; thread = p.thread; role = p.role; fresh = p.fresh }
+standing_of p = record { room = Some p.seat.table_id; config = (known_of p).config; last = (known_of p).last; thread = p.thread; role = p.role; fresh = p.fresh }
 
 -- a pass knows one history: its own
 pub record Knows (p : Pass) (k : Known) : Type 0 where

@@ -1,5 +1,5 @@
 -- What plain words show: any history whose image they are.
-use Rattle.std.specs.Prelude.{◌≡◌, ℕ, ◌<◌, Bool, List, [], slice_index}
+use Rattle.std.specs.Prelude.{◌≡◌, ℕ, ◌<◌, Bool, None, List, [], slice_index}
 use Rattle.jr_word.specs.declared.config.Config.{Config}
 use Rattle.jr_model.specs.declared.event.Role.{Role}
 use Rattle.jr_rule.specs.declared.known.Known.{Known}
@@ -10,7 +10,7 @@ use Rattle.jr_rule.specs.Image.{local_at, IsImage}
 
 -- the one thread of the row: thread 0
 abbrev pub standing : Config → ℕ → Role → Bool → Standing
-standing c last role fresh = record { config = c; last = last; thread = 0; role = role; fresh = fresh }
+standing c last role fresh = record { room = None; config = c; last = last; thread = 0; role = role; fresh = fresh }
 
 -- what is known where nothing has happened yet
 abbrev pub unseen : Config → ℕ → Known

@@ -1,17 +1,18 @@
 -- THE RULE OF THE ROW: its words are the image of the machine's state after one legal history, the longest that any pass has seen, and each pass has seen a beginning of it, with all its own events.
-use Rattle.std.specs.Prelude.{◌≡◌, ◌+◌, ◌<◌, ◌≤◌, ◌^◌, ◌==◌, ℕ, zero, suc, cond, List, [], ◌∷◌, ◌++◌, map, slice_index, slice_set}
+use Rattle.std.specs.Prelude.{◌≡◌, ◌+◌, ◌<◌, ◌^◌, ◌==◌, ℕ, zero, suc, true, cond, List, [], ◌∷◌, ◌++◌, map, slice_index, slice_set}
 use mathlib.Core.List.{IsPrefix}
 use mathlib.Core.Option.{some}
 use lib.ListN.{get_elem?}
 use Rattle.atomic_table.specs.Table.{State as Table, Me}
 use Rattle.jr_word.specs.declared.config.Config.{Config}
+use Rattle.jr_word.specs.Config.{in_limits}
 use Rattle.jr_model.specs.declared.event.Act.{Act}
 use Rattle.jr_model.specs.History.{History, by, state, IsLegal, mine}
 use Rattle.jr_rule.specs.declared.known.Known.{Known}
 use Rattle.jr_rule.specs.declared.known.View.{View}
 use Rattle.jr_rule.specs.declared.rule.Sizes.{Sizes}
 use Rattle.jr_rule.specs.declared.known.Grasp.{Grasp}
-use Rattle.jr_rule.specs.Grasping.{empty, hold}
+use Rattle.jr_rule.specs.Grasping.{InSpace, empty, hold}
 use Rattle.jr_rule.specs.Image.{IsImage}
 use Rattle.jr_rule.specs.Knowing.{Goes}
 use Rattle.jr_rule.specs.Shown.{IsSmall}
@@ -27,6 +28,7 @@ view ks = record { passes = ks }
 
 -- the sizes of a room, and its last serial
 pub record IsSized (c : Config) (last : ℕ) : Type 0 where
+  pub limits : in_limits c ≡ true
   pub small : IsSmall c
   pub serials : last < 2 ^ 16
 
@@ -65,7 +67,7 @@ pub record Kept (last : ℕ) (c : Config) (r : Row) : Type 0 where
   pub sized : IsSized c last
   pub image : IsImage c last r.words (state log) held
   pub each : (j : ℕ) (v : View) → get_elem? r.views j ≡ some v → EachFits c last log held v.passes
-  pub once : (t : ℕ) → total (passes_of t) r.views ≤ 1
+  pub once : (t : ℕ) → t < c.threads → total (passes_of t) r.views ≡ 1
 
 -- AT THE OPENING the one seat stands for all passes, of so many threads from t on, which have seen nothing
 abbrev pub newcomers : Config → ℕ → ℕ → ℕ → List Known
@@ -95,13 +97,14 @@ acting m = first_of m.0.passes
 abbrev pub IsAlone : Sat → Type 0
 IsAlone m = m ≡ (view (acting m ∷ []), [])
 
--- WHAT A STEP TELLS: what others did in between and then its acts, one or none, end what its pass has seen, and this holds of the number found
+-- WHAT A STEP TELLS: its pass has then seen what it had, what others did since, and last the step's acts, none or one; and this holds of the number that it found
 pub record Tells (told : Known → ℕ → List Act → Known → Type 0) (m : Sat) (n : ℕ) (m' : Sat) : Type 0 where
   pub acts : List Act
   pub new : Known
   pub is : m' ≡ (view (new ∷ others_of m.0.passes), m.1)
   pub goes : Goes (acting m) acts new
   pub says : told (acting m) n acts new
+  pub space : InSpace (acting m).config new.grasp
   pub held : ℕ → Grasp
   pub others : EachFits (acting m).config (acting m).last new.seen held (others_of m.0.passes)
 

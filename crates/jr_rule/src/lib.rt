@@ -19,6 +19,7 @@ mod steps;
 mod summing;
 
 pub use closing::Left;
+pub use jr_model::{Role, Summary};
 pub use known::{Grasp, Known, KnownHeader, OwnRange, View};
 pub use naming::{GateNaming, SlotNaming, TopNaming};
 pub use pass::Pass;

@@ -1,7 +1,7 @@
-//! As what a load counts.
+//! What a load counts as.
 use jr_word::HandleParts;
 
-/// As what a load of a slot counts.
+/// What a load of a slot counts as.
 #[derive(Clone, Copy)]
 pub enum SlotNaming {
     /// A look at a handle.
@@ -12,7 +12,7 @@ pub enum SlotNaming {
     Meet,
 }
 
-/// As what a load of the gate counts.
+/// What a load of the gate counts as.
 #[derive(Clone, Copy)]
 pub enum GateNaming {
     /// Nothing but what others did.

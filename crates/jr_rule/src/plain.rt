@@ -33,6 +33,7 @@ pub struct PlainSteps<const LAST: u16> {
     pub config: Config,
     pub role: Role,
     pub fresh: bool,
+    ghost limits: { in_limits config ≡ true },
     ghost threads: { (1 ≤ config.threads) × (config.threads ≤ 64) },
     ghost slots: { config.slots ≤ 65536 },
     ghost objects: { config.objects ≤ 65535 },
@@ -256,15 +257,9 @@ impl<const LAST: u16> Steps for PlainSteps<LAST> {
 
     ghost unused = { λ s k f h. (s.unused f).none k h };
 
-    ghost few_slots = { λ s. s.slots };
+    ghost limits = { λ s. s.limits };
 
-    ghost few_objects = { λ s. s.objects };
-
-    ghost few_locals = { λ s. s.locals };
-
-    ghost few_words = { λ s. s.space };
-
-    ghost few_threads = { λ s. lit< tt };
+    ghost row = { λ s. s.threads.0 };
 }
 
 #[cfg(test)]

@@ -166,13 +166,7 @@ impl<const LAST: u16> Steps for RoomSteps<'_, LAST> {
 
     ghost unused = { λ s k f h. unused_of s.pass k f h };
 
-    ghost few_slots = { λ s. s.pass.held.sized.small.slots };
+    ghost limits = { λ s. s.pass.held.sized.limits };
 
-    ghost few_objects = { λ s. s.pass.held.sized.small.objects };
-
-    ghost few_locals = { λ s. s.pass.held.sized.small.locals };
-
-    ghost few_words = { λ s. s.pass.held.sized.small.words };
-
-    ghost few_threads = { λ s. s.pass.held.few };
+    ghost row = { λ s. s.pass.held.row };
 }

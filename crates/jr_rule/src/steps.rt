@@ -1,5 +1,6 @@
 //! The kinds of atomic step, over any row of words.
 ghost use Rattle.std.specs.Prelude.{◌≡◌, ◌≢◌, ◌⊎◌, ◌<◌, ◌≤◌, ◌+◌, [], ◌∷◌, true};
+ghost use Rattle.jr_word.specs.Config.{in_limits};
 ghost use Rattle.jr_word.specs.declared.handle.RefKind.TheVariants.{Local};
 ghost use Rattle.jr_word.specs.declared.kind.Kind.TheVariants.{Text};
 ghost use Rattle.jr_word.specs.Header.{IsHeader};
@@ -12,7 +13,7 @@ use crate::naming::{GateNaming, SlotNaming, TopNaming};
 use jr_model::Role;
 use jr_word::{Config, GateParts, HandleParts, HeaderParts, RefKind, SlotParts};
 
-/// The steps of one thread. Each is one atomic operation on one word of the row.
+/// The steps of one thread: each from `go_in` to `put_own` is one atomic operation on one word of the row. The others tell what the pass is, or spend it, and touch no word.
 pub trait Steps {
     ghost use Rattle.jr_rule.specs.Knowing.{Standing, IsOf};
     ghost use Rattle.jr_rule.specs.declared.known.Known.{Known};
@@ -23,9 +24,11 @@ pub trait Steps {
     /// What may be known.
     ghost knows: { Self → Known → Type 0 };
 
+    /// The sizes of the room.
     fn config(&self) -> Config
         ensures { result ≡ (stands self.now).config };
 
+    /// The number of the thread.
     fn thread(&self) -> u8
         ensures { result ≡ (stands self.now).thread };
 
@@ -160,13 +163,9 @@ pub trait Steps {
     /// A fresh pass has no local reference.
     ghost unused: { (s : Self) (k : Known) → (stands s).fresh ≡ true → knows s k → HasNoLocals k };
 
-    ghost few_slots: { (s : Self) → (stands s).config.slots ≤ 65536 };
+    /// The sizes are within the limits of a room.
+    ghost limits: { (s : Self) → in_limits (stands s).config ≡ true };
 
-    ghost few_objects: { (s : Self) → (stands s).config.objects ≤ 65535 };
-
-    ghost few_locals: { (s : Self) → (stands s).config.locals ≤ 4096 };
-
-    ghost few_words: { (s : Self) → (stands s).config.words ≤ 1048576 };
-
-    ghost few_threads: { (s : Self) → (stands s).thread < 64 };
+    /// The thread is one of the room's.
+    ghost row: { (s : Self) → (stands s).thread < (stands s).config.threads };
 }

@@ -35,6 +35,7 @@ fresh_table s = record { frames = fresh_frames s.config.locals; thread = s.threa
 -- an entry, work in between, and an exit
 left_before : {r s t u : Standing} → r.role ≡ Outside → s ≡ moved r (Enter ∷ []) → IsAsBefore s t → u ≡ moved t (Leave ∷ []) → IsAsBefore r u
 left_before {r} out e p l = record {
+  room = ap (λ (x : Standing). x.room) l ∙ (p.room ∙ ap (λ (x : Standing). x.room) e);
   config = ap (λ (x : Standing). x.config) l ∙ (p.config ∙ ap (λ (x : Standing). x.config) e);
   last = ap (λ (x : Standing). x.last) l ∙ (p.last ∙ ap (λ (x : Standing). x.last) e);
   thread = ap (λ (x : Standing). x.thread) l ∙ (p.thread ∙ ap (λ (x : Standing). x.thread) e);

@@ -23,6 +23,8 @@ use Rattle.jr_scripts.proofs.Standings.{nothing_changed, as_before, still_before
 use Rattle.jr_scripts.proofs.Entering.{same_owner, ready_after}
 use Rattle.jr_scripts.proofs.Known.{holds_put}
 use Rattle.jr_scripts.proofs.Reading.{ran_refused}
+use Rattle.jr_scripts.proofs.Resolving.{stays}
+use Rattle.jr_scripts.specs.Works.{making}
 use Rattle.jr_scripts.proofs.Making.{room_at, room_ran}
 
 local_ran : (c : Config) (last t : ℕ) {p q : PassView} {f g : Frames} (h : Handle) (o : ℕ) → Did p q (LocalPut h.index o ∷ []) → IsAdded last t f (record { handle = h; object = o }) g → Ran p q f g (added c last t o) (Ok h)
@@ -44,6 +46,13 @@ module _ {S : Type 0} {stands : S → Standing} {knows : S → Known → Type 0}
   present_number fits a o there none =
       let each : ((k : Known) × knows a k × HasObject o k) → ⊥ = λ k. let low = ((in_room k.0.config k.0.last k.0.seen (fits a k.0 k.1).legal).objects o k.2).0 in omega arith in
       ∥∥₁_elim {P = ⊥} there (hlevel) each
+
+  -- no place is free for a new object's reference
+  pub makes_nothing : {a : S} {t : Table} → ((s : S) (k : Known) → knows s k → IsOf (stands s) k) → IsReady stands knows Within a t → free_places t.last t.frames ≡ 0 → Calls stands knows a a t.frames t.frames (making (stands a).config (stands a).last (stands a).thread) (Err LocalsFull)
+  makes_nothing {a} {t} fits r none =
+      let s = stands a in
+      let none_here = subst (λ n. free_places n t.frames ≡ 0) r.last none in
+      stays fits a t.frames (λ p l. full_ran s.config s.last s.thread _ none_here l)
 
   -- no place is free
   pub makes_no_local : {a : S} {t : Table} {z : Option ℕ} {o : ℕ} → ((s : S) (k : Known) → knows s k → IsOf (stands s) k) → z ≡ Some o → IsReady stands knows Within a t → free_places t.last t.frames ≡ 0

@@ -111,6 +111,9 @@ module _ {S : Type 0} {stands : S → Standing} {knows : S → Known → Type 0}
       pub local_null : Calls stands knows a a f f (local_removal c t Nothing) (Ok tt)
       local_null = stays fits a f (λ p l. ran_passed false fault.Stale _ refl (ran_passed false fault.WrongKind _ refl (ran_passed false fault.Stale _ refl (ran_passed false fault.Foreign _ refl (ran_done p f tt l)))))
 
+      pub local_malformed : Calls stands knows a a f f (local_removal c t Malformed) (Err fault.Stale)
+      local_malformed = stays fits a f (λ p l. ran_refused p f true fault.Stale _ refl tt l)
+
       pub local_other : (h : Handle) → is_local h ≡ false → Calls stands knows a a f f (local_removal c t (Parts h)) (Err fault.WrongKind)
       local_other h e = stays fits a f (λ p l. ran_passed false fault.Stale _ refl (ran_refused p f (not (is_local h)) fault.WrongKind _ (ap not e) tt l))
 

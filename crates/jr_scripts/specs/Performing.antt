@@ -20,6 +20,7 @@ EachPresent c s = (o : ℕ) → 1 ≤ o → o ≤ c.objects → IsPresent s o
 
 -- the same room, thread and role, whether or not the pass is fresh
 pub record IsAsBefore (old new : Standing) : Type 0 where
+  pub room : new.room ≡ old.room
   pub config : new.config ≡ old.config
   pub last : new.last ≡ old.last
   pub thread : new.thread ≡ old.thread

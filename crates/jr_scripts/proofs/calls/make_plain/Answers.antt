@@ -1,5 +1,9 @@
 use Rattle.jr_scripts.proofs.Making.{may_put, published_number, makes_full, makes}
+use Rattle.jr_scripts.proofs.MakingLocals.{makes_nothing}
 use Rattle.jr_scripts.proofs.calls.make_plain.Goals as goal
+
+pub returns-in_default-clause-call : goal.returns-in_default-clause-call
+returns-in_default-clause-call g c = makes_nothing g.met.S.Steps.fits c.requires c.in_default.ensures.none
 
 pub returns-in_err-object-clause-call : goal.returns-in_err-object-clause-call
 returns-in_err-object-clause-call g c = makes_full c.requires c.in-Some.ensures.some g.met.S.Steps.fits c.from_residual.result c.from_residual.ensures.1 c.in_err-object.ensures.err

@@ -26,7 +26,7 @@ returns-then-found-ne0-clause-step c =
     let t = c.exchange-found.ensures.1 in
     let s = (t.says).1 c.if-found-ne0.true in
     let read = gate_is c.parts.result s.0 c.unwrap.result (c.parts.ensures.complete s.0 s.1 s.2) c.unwrap.ensures in
-    took p _ c.exchange-found.result t _ (s.3 ∙ ap (λ n. ShutBusy n ∷ []) (ap all_counted (sym read) ∙ sym c.all_counted.ensures)) refl refl refl (λ m. (t.says).2)
+    took p _ c.exchange-found.result t _ c.exchange-found.ensures.0 (s.3 ∙ ap (λ n. ShutBusy n ∷ []) (ap all_counted (sym read) ∙ sym c.all_counted.ensures)) refl refl refl (λ m. (t.says).2)
 
 pub invariant_of-pass-2 : goal.invariant_of-pass-2
 invariant_of-pass-2 c =
@@ -38,4 +38,4 @@ pub returns-clause-step : goal.returns-clause-step
 returns-clause-step c =
     let p = c.args.pass.now in
     let t = c.exchange-found.ensures.1 in
-    took p _ c.exchange-found.result t _ ((t.says).0 c.if-found-ne0.false) refl refl refl (λ m. (t.says).2)
+    took p _ c.exchange-found.result t _ c.exchange-found.ensures.0 ((t.says).0 c.if-found-ne0.false) refl refl refl (λ m. (t.says).2)

@@ -46,11 +46,11 @@ returns-then-found-looked-clause-step c =
     let i = c.args.index in
     let q = c.unwrap.result in
     let read = slot_is c.parts.result s.0 q (c.parts.ensures.complete s.0 s.1 s.2) c.unwrap.ensures in
-    took p _ c.exchange-found.result t _ (s.3 ∙ ap (λ z. claiming i c.args.serial c.args.kind c.args.object (Err z) ∷ []) (sym read)) refl refl refl
+    took p _ c.exchange-found.result t _ c.exchange-found.ensures.0 (s.3 ∙ ap (λ z. claiming i c.args.serial c.args.kind c.args.object (Err z) ∷ []) (sym read)) refl refl refl
     (λ m. (subst (λ z. LostClaim i (Err z) (known_of p) t.new) (sym read) (s.4 m.1), (t.says).2))
 
 pub returns-clause-step : goal.returns-clause-step
 returns-clause-step c =
     let p = c.args.pass.now in
     let t = c.exchange-found.ensures.1 in
-    took p _ c.exchange-found.result t _ ((t.says).0 (c.if-found-looked.false ∙ c.pack-looked.ensures)) refl refl refl (λ m. (tt, (t.says).2))
+    took p _ c.exchange-found.result t _ c.exchange-found.ensures.0 ((t.says).0 (c.if-found-looked.false ∙ c.pack-looked.ensures)) refl refl refl (λ m. (tt, (t.says).2))

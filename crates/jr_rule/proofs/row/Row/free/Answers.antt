@@ -43,4 +43,4 @@ returns-clause-step c =
     let h = c.args.handle in
     let n = c.exchange-found.result in
     let w = c.pack-looked.result.0 in
-    took p _ n t _ (free_done h w (known_of p) n t.acts t.new t.says) refl (freeing_role h (n == w) p.role) (freeing_fresh h (n == w) p.fresh) (λ m. (t.says).2)
+    took p _ n t _ c.exchange-found.ensures.0 (free_done h w (known_of p) n t.acts t.new t.says) refl (freeing_role h (n == w) p.role) (freeing_fresh h (n == w) p.fresh) (λ m. (t.says).2)

@@ -25,4 +25,4 @@ returns-clause-step c =
     let s = t.says in
     let acts_are = s.3 ∙ ap (λ b. entered_as (not b) ∷ []) (sym (c.is_shut-entered.ensures s.0 s.1 s.2)) in
     let role_is = c.role_of_entry-pass.ensures ∙ ap (λ r. role_after r (entered_as (not c.is_shut-entered.result))) (sym c.requires.role) in
-    took p _ c.add-found.result t _ acts_are refl role_is (entered_fresh (not c.is_shut-entered.result) p.fresh) (λ m. s.4)
+    took p _ c.add-found.result t _ c.add-found.ensures.0 acts_are refl role_is (entered_fresh (not c.is_shut-entered.result) p.fresh) (λ m. s.4)

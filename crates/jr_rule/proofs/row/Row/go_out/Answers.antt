@@ -20,4 +20,4 @@ pub returns-clause-step : goal.returns-clause-step
 returns-clause-step c =
     let p = c.args.pass.now in
     let t = c.take.ensures.1 in
-    took p _ c.take.result t _ ((t.says).0 ∙ ap (λ r. leaving r ∷ []) p.held.role_is) refl (left_role p.role c.requires.role) (left_fresh p.role p.fresh) (λ m. (t.says).1)
+    took p _ c.take.result t _ c.take.ensures.0 ((t.says).0 ∙ ap (λ r. leaving r ∷ []) p.held.role_is) refl (left_role p.role c.requires.role) (left_fresh p.role p.fresh) (λ m. (t.says).1)

@@ -37,4 +37,4 @@ pub returns-clause-step : goal.returns-clause-step
 returns-clause-step c =
     let p = c.args.pass.now in
     let t = c.store.ensures.1 in
-    took p _ c.pack-new.result.0 t _ (t.says).0 refl (putting_role c.args.place c.args.object p.role) (putting_spends c.args.place c.args.object p.fresh) (λ m. (t.says).1)
+    took p _ c.pack-new.result.0 t _ c.store.ensures.0 (t.says).0 refl (putting_role c.args.place c.args.object p.role) (putting_spends c.args.place c.args.object p.fresh) (λ m. (t.says).1)

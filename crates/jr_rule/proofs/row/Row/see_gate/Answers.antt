@@ -33,7 +33,7 @@ returns-clause-step c =
     let s = t.says in
     let read = gate_is c.parts.result s.0 c.unwrap.result (c.parts.ensures.complete s.0 s.1 s.2) c.unwrap.ensures in
     let n = all_counted c.unwrap.result in
-    took p _ c.load-found.result t _ (s.3 ∙ ap (λ q. gate_named c.args.name (all_counted q) ∷ []) (sym read)) refl (gate_named_role c.args.name n p.role) (gate_named_fresh c.args.name n p.fresh)
+    took p _ c.load-found.result t _ c.load-found.ensures.0 (s.3 ∙ ap (λ q. gate_named c.args.name (all_counted q) ∷ []) (sym read)) refl (gate_named_role c.args.name n p.role) (gate_named_fresh c.args.name n p.fresh)
     (λ m. (subst (λ q. ShowsGate q t.new) (sym read) s.4, s.5))
 
 pub returns-clause-seen : goal.returns-clause-seen

@@ -30,5 +30,5 @@ returns-clause-step c =
     let name = c.args.name in
     let q = c.unwrap.result in
     let read = slot_is c.parts.result s.0 q (c.parts.ensures.complete s.0 s.1 s.2) c.unwrap.ensures in
-    took p _ c.load-found.result t _ (s.3 ∙ ap (λ z. slot_named i name z ∷ []) (sym read)) refl (slot_named_role i name q p.role) (slot_named_fresh i name q p.fresh)
+    took p _ c.load-found.result t _ c.load-found.ensures.0 (s.3 ∙ ap (λ z. slot_named i name z ∷ []) (sym read)) refl (slot_named_role i name q p.role) (slot_named_fresh i name q p.fresh)
     (λ m. (subst (λ z. ShowsSlot i z t.new) (sym read) s.4, s.5))
