@@ -1,10 +1,11 @@
 -- What the acts of steps make of the role, of the freshness and of the state.
-use Rattle.std.proofs.Common.{◌≡◌, ◌⊎◌, ⊎_elim, ℕ, zero, suc, Bool, true, false, Option, Some, None, Result, Ok, Err, [], ◌∷◌, ◌++◌, refl, sym, subst}
+use Rattle.std.proofs.Common.{◌≡◌, ◌⊎◌, ⊎_elim, ◌+◌, ℕ, zero, suc, Bool, true, false, cond, nat_lt, Option, Some, None, Result, Ok, Err, List, [], ◌∷◌, ◌++◌, refl, sym, subst}
 use Rattle.jr_word.specs.declared.handle.RefKind.{RefKind}
 use Rattle.jr_word.specs.declared.kind.Kind.{Kind}
 use Rattle.jr_word.specs.declared.slot.SlotParts.{SlotParts}
 use Rattle.jr_model.specs.declared.event.Role.{Role}
 use Rattle.jr_model.specs.declared.event.Role.TheVariants.{Outside, Within, Knocking, Collecting}
+use Rattle.jr_model.specs.declared.event.Act.TheVariants.{ReserveFull}
 use Rattle.jr_model.specs.State.{Handle}
 use Rattle.jr_model.specs.History.{History, by, state, role_after, role_from}
 use Rattle.jr_model.proofs.Histories.{state_push}
@@ -12,7 +13,9 @@ use Rattle.jr_rule.specs.declared.naming.GateNaming.{GateNaming}
 use Rattle.jr_rule.specs.declared.naming.GateNaming.TheVariants as gate
 use Rattle.jr_rule.specs.declared.naming.SlotNaming.{SlotNaming}
 use Rattle.jr_rule.specs.declared.naming.SlotNaming.TheVariants as naming
-use Rattle.jr_rule.specs.Acts.{entered_as, leaving, gate_named, slot_named, claiming, freeing, putting, publishing}
+use Rattle.jr_rule.specs.declared.naming.TopNaming.{TopNaming}
+use Rattle.jr_rule.specs.declared.naming.TopNaming.TheVariants as top
+use Rattle.jr_rule.specs.Acts.{entered_as, leaving, gate_named, slot_named, claiming, freeing, putting, publishing, top_named}
 use Rattle.jr_rule.specs.Knowing.{fresh_after, fresh_from}
 
 -- THE GATE
@@ -97,10 +100,28 @@ pub putting_spends : (p : ℕ) (o : Option ℕ) (f : Bool) → false ≡ fresh_a
 putting_spends p None f = refl
 putting_spends p (Some o) f = refl
 
-pub publishing_role : (o : ℕ) (kind : Kind) (b : Bool) (r : Role) → r ≡ role_from r (publishing o kind b)
-publishing_role o kind true r = refl
-publishing_role o kind false r = refl
+pub publishing_role : (o : ℕ) (kind : Kind) (ws : List ℕ) (b : Bool) (r : Role) → r ≡ role_from r (publishing o kind ws b)
+publishing_role o kind ws true r = refl
+publishing_role o kind ws false r = refl
 
-pub publishing_fresh : (o : ℕ) (kind : Kind) (b : Bool) (f : Bool) → f ≡ fresh_from f (publishing o kind b)
-publishing_fresh o kind true f = refl
-publishing_fresh o kind false f = refl
+pub publishing_fresh : (o : ℕ) (kind : Kind) (ws : List ℕ) (b : Bool) (f : Bool) → f ≡ fresh_from f (publishing o kind ws b)
+publishing_fresh o kind ws true f = refl
+publishing_fresh o kind ws false f = refl
+
+-- THE TOP
+-- the name of a load of the top leaves the role, and the pass as fresh as it was
+pub top_named_role : (words : ℕ) (name : TopNaming) (u : ℕ) (r : Role) → r ≡ role_from r (top_named words name u)
+top_named_role words top.Look u r = refl
+top_named_role words (top.Full n) u r = go (nat_lt words (u + n))
+  where
+    go : (b : Bool) → r ≡ role_from r (cond b (ReserveFull n u ∷ []) [])
+    go true = refl
+    go false = refl
+
+pub top_named_fresh : (words : ℕ) (name : TopNaming) (u : ℕ) (f : Bool) → f ≡ fresh_from f (top_named words name u)
+top_named_fresh words top.Look u f = refl
+top_named_fresh words (top.Full n) u f = go (nat_lt words (u + n))
+  where
+    go : (b : Bool) → f ≡ fresh_from f (cond b (ReserveFull n u ∷ []) [])
+    go true = refl
+    go false = refl

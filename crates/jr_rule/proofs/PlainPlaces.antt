@@ -55,7 +55,7 @@ module _ (config : Config) (last : ℕ) (few : IsFew config last) (role : Role) 
   pub put : (p : ℕ) (o : Option ℕ) → p < config.locals → role ≡ Within
       → Turned old words (standing config last role false) (slice_set words (2 + config.slots + p) (local_word (local_parts o))) (putting p o ∷ []) (HasOptional o) keeps
   put p o l within = kept (stands_same config last (putting_role p o role) (putting_spends p o fresh)) (λ k s m.
-      let t = puts k.config k.last k.seen k.thread words s.pass.legal (alone k.grasp) s.image (row k s) (s.pass.role ∙ within) p o (subst (λ (c : Config). p < c.locals) (sym s.pass.config) l) m in
+      let t = puts k.config k.last k.seen k.thread words s.pass.legal (alone k.grasp) s.image (row k s) (s.pass.role ∙ within) p o (subst (λ (c : Config). p < c.locals) (sym s.pass.config) l) (optional o k m) in
       subst (λ i. Turn k.config k.last k.seen k.thread (putting p o ∷ []) (slice_set words i (local_word (local_parts o))) (alone k.grasp)) (own_word k p s) t)
 
   pub published : (o at : ℕ) (parts : HeaderParts) → at ≡ header_at config o → (1 ≤ o) × (o ≤ config.objects) → (parts.length ≡ 0) × (parts.place ≡ 0) → get_or words at 0 ≡ 0 → role ≡ Within
