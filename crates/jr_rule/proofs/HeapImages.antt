@@ -83,10 +83,7 @@ module _ (c : Config) (last : ℕ) (words : List ℕ) (s : State) (held : ℕ �
       → IsSpace c (slice_set words (header_at c o) (header_word h)) (update nat_eq s.objects o (Some (record { kind = h.kind; words = given_words h (held t) }))) s.used (hold held t (published h (held t)))
   space_headed t o h low high fits none = go (h.length == 0)
     where
-      abbrev headed : List ℕ
-      headed = slice_set words (header_at c o) (header_word h)
-
-      go : (b : Bool) → IsSpace c headed (update nat_eq s.objects o (Some (record { kind = h.kind; words = cond b [] (words_at h.place (held t).ranges) }))) s.used (hold held t (cond b (held t) (with_range (held t) h.place [])))
-      go true = space_same c headed (update nat_eq s.objects o (Some (record { kind = h.kind; words = [] }))) s.used held
+      go : (b : Bool) → IsSpace c (slice_set words (header_at c o) (header_word h)) (update nat_eq s.objects o (Some (record { kind = h.kind; words = cond b [] (words_at h.place (held t).ranges) }))) s.used (hold held t (cond b (held t) (with_range (held t) h.place [])))
+      go true = space_same c (slice_set words (header_at c o) (header_word h)) (update nat_eq s.objects o (Some (record { kind = h.kind; words = [] }))) s.used held
           (space_empty c words s.objects s.used held image.space o h h.kind low high fits image.wide none) (hold held t (held t)) (hold_same held t (held t) refl)
       go false = space_published c words s.objects s.used held image.space o h h.kind low high fits image.wide none t

@@ -62,7 +62,7 @@ alone_then g g' t first u = dite (ℕ_discrete u 0)
     (λ e. alone_here g' u e ∙ (sym (hold_here (alone g) t g') ∙ ap (hold (alone g) t g') (first ∙ sym e)))
     (λ ne. hold_else (λ t. empty) 0 u g' ne ∙ (sym (hold_else (λ t. empty) 0 u g ne) ∙ sym (hold_else (alone g) t u g' (λ e. ne (e ∙ first)))))
 
-turn_alone : (k : Known) (acts : List Act) (words' : List ℕ) (g : Grasp) (t : ℕ) → t ≡ 0 → Turn k.config k.last k.seen k.thread acts words' (hold (alone k.grasp) t g) → Turn k.config k.last k.seen k.thread acts words' (alone g)
+pub turn_alone : (k : Known) (acts : List Act) (words' : List ℕ) (g : Grasp) (t : ℕ) → t ≡ 0 → Turn k.config k.last k.seen k.thread acts words' (hold (alone k.grasp) t g) → Turn k.config k.last k.seen k.thread acts words' (alone g)
 turn_alone k acts words' g t first r = record {
   legal = r.legal;
   image = image_same k.config k.last words' (state (then k.seen k.thread acts)) (hold (alone k.grasp) t g) r.image (alone g) (alone_then k.grasp g t first);

@@ -1,22 +1,16 @@
-use Rattle.std.proofs.Common.{rules, ◌≡◌, ◌⊎◌, ◌↔◌, ◌<◌, ◌≤◌, ◌^◌, vec_len, slice_index, true, false, IsTrue, IfOk, IfErr, Ok, Err, ℕ, ◌+◌, ◌-◌, ◌*◌, length, ◌/◌, ◌%◌, Bool, nat_eq, nat_lt, List, [], ◌∷◌, ◌++◌, slice_index_or, slice_set, bit_and, bit_or, Fits, w8, w32, w64, Bor, MutBor}
-use Rattle.jr_word.specs.declared.fault.Fault.TheVariants.{Memory, Size}
-use Rattle.jr_word.specs.Config.{in_limits, row_words}
-use Rattle.jr_word.specs.Gate.{gate_word, IsGate}
-use Rattle.jr_word.specs.Slot.{slot_word, IsSlot}
-use Rattle.jr_word.specs.Top.{top_word}
-use Rattle.jr_word.specs.declared.top.Half.TheVariants.{First}
-use Rattle.jr_model.specs.declared.event.Role.TheVariants.{Outside}
-use Rattle.jr_rule.specs.Image.{gate_at, top_at, slot_at}
-use Rattle.jr_rule.specs.Knowing.{anything, MayKnow, HasNoLocals, state_of}
-use Rattle.jr_rule.specs.declared.known.Known.{Known}
-use Rattle.jr_rule.specs.Plain.{standing, Shows, IsUnused, unseen}
-use Rattle.jr_model.specs.State.{summary as summary_of}
+use Rattle.std.proofs.Common.{◌∙◌, sym, arith}
+use Rattle.jr_rule.proofs.PlainTook.{few_of}
+use Rattle.jr_rule.proofs.PlainHeap.{top_some, top_first}
 use Rattle.jr_rule.proofs.plain.PlainSteps.top.Goals as goal
 
--- src/plain.rt:99:9
 pub unwrap-requires : goal.unwrap-requires
-unwrap-requires g c = ?
+unwrap-requires g c =
+    let s = c.args.self.now in
+    top_some s.config g.row.LAST (few_of g.row.LAST s (omega arith)) s.role s.fresh s.words.items c.parts.result s.shown
+    (λ p fits is. c.parts.ensures.complete p fits (c.word.ensures ∙ is))
 
--- src/plain.rt:96:5
 pub returns : goal.returns
-returns g c = ?
+returns g c =
+    let s = c.args.self.now in
+    top_first s.config g.row.LAST (few_of g.row.LAST s (omega arith)) s.role s.fresh s.words.items c.unwrap.result s.shown
+    (λ p fits is. sym c.unwrap.ensures ∙ c.parts.ensures.complete p fits (c.word.ensures ∙ is))
