@@ -1,25 +1,31 @@
-use Rattle.std.proofs.Common.{rules, ◌≡◌, ◌⊎◌, ◌↔◌, ◌<◌, ◌≤◌, ◌^◌, vec_len, slice_index, true, false, IsTrue, IfOk, IfErr, Ok, Err, lit<, ℕ, ◌+◌, ◌-◌, ◌*◌, length, ◌/◌, ◌%◌, Bool, nat_eq, nat_lt, List, [], ◌∷◌, ◌++◌, slice_index_or, slice_set, bit_and, bit_or, Fits, w8, w32, w64, Bor, MutBor}
-use Rattle.jr_word.specs.declared.fault.Fault.TheVariants.{Memory, Size}
-use Rattle.jr_word.specs.Config.{in_limits, row_words}
-use Rattle.jr_word.specs.Gate.{gate_word, IsGate}
-use Rattle.jr_word.specs.Slot.{slot_word, IsSlot}
+use Rattle.std.proofs.Common.{◌≡◌, ◌∙◌, ap, arith}
 use Rattle.jr_word.specs.Top.{top_word}
 use Rattle.jr_word.specs.declared.top.Half.TheVariants.{First}
-use Rattle.jr_model.specs.declared.event.Role.TheVariants.{Outside}
-use Rattle.jr_rule.specs.Image.{gate_at, top_at, slot_at}
-use Rattle.jr_rule.specs.Knowing.{anything, MayKnow, HasNoLocals}
-use Rattle.jr_rule.specs.declared.known.Known.{Known}
-use Rattle.jr_rule.specs.Plain.{standing, Shows, IsUnused}
+use Rattle.jr_rule.proofs.PlainTook.{few_of, took, shown}
+use Rattle.jr_rule.proofs.PlainHeap.{reserved, reserve_lost}
+use Rattle.jr_rule.proofs.Unused.{unused_top}
 use Rattle.jr_rule.proofs.plain.PlainStepsSteps.claim_top.Goals as goal
 
--- src/plain.rt:233:13
 pub returns-then-found-looked : goal.returns-then-found-looked
-returns-then-found-looked g c = ?
+returns-then-found-looked g c =
+    let s = c.args.self.now in
+    took g.row.LAST s s
+    (reserve_lost s.config g.row.LAST (few_of g.row.LAST s (omega arith)) s.role s.fresh s.words.items c.args.looked c.args.more c.top-found.result c.top-found.ensures.1 c.if-found-looked.true c.requires.role)
 
--- src/plain.rt:235:9
-pub invariant_of-self : goal.invariant_of-self
-invariant_of-self g c = ?
-
--- src/plain.rt:230:5
 pub returns : goal.returns
-returns g c = ?
+returns g c =
+    let s = c.args.self.now in
+    took g.row.LAST s _
+    (reserved s.config g.row.LAST (few_of g.row.LAST s (omega arith)) s.role s.fresh s.words.items c.args.looked c.args.more c.top_word.result
+    (c.top-found.ensures.1 ∙ ap (λ u. top_word (record { used = u; half = First })) c.if-found-looked.false) c.top_word.ensures c.requires.room c.requires.role)
+
+pub invariant_of-self-clause-shown : goal.invariant_of-self-clause-shown
+invariant_of-self-clause-shown g c =
+    let s = c.args.self.now in
+    shown
+    (reserved s.config g.row.LAST (few_of g.row.LAST s (omega arith)) s.role s.fresh s.words.items c.args.looked c.args.more c.top_word.result
+    (c.top-found.ensures.1 ∙ ap (λ u. top_word (record { used = u; half = First })) c.if-found-looked.false) c.top_word.ensures c.requires.room c.requires.role)
+    s.shown
+
+pub invariant_of-self-clause-unused : goal.invariant_of-self-clause-unused
+invariant_of-self-clause-unused g c = let s = c.args.self.now in λ e. unused_top s.config g.row.LAST s.role s.role s.fresh s.fresh s.words.items _ (s.unused e)

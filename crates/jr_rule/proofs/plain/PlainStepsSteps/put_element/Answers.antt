@@ -1,33 +1,39 @@
-use Rattle.std.proofs.Common.{rules, ◌≡◌, ◌⊎◌, ◌↔◌, ◌<◌, ◌≤◌, ◌^◌, vec_len, slice_index, true, false, IsTrue, IfOk, IfErr, Ok, Err, lit<, ℕ, ◌+◌, ◌-◌, ◌*◌, length, ◌/◌, ◌%◌, Bool, nat_eq, nat_lt, List, [], ◌∷◌, ◌++◌, slice_index_or, slice_set, bit_and, bit_or, Fits, w8, w32, w64, Bor, MutBor}
-use Rattle.jr_word.specs.declared.fault.Fault.TheVariants.{Memory, Size}
-use Rattle.jr_word.specs.Config.{in_limits, row_words}
-use Rattle.jr_word.specs.Gate.{gate_word, IsGate}
-use Rattle.jr_word.specs.Slot.{slot_word, IsSlot}
-use Rattle.jr_word.specs.Top.{top_word}
-use Rattle.jr_word.specs.declared.top.Half.TheVariants.{First}
-use Rattle.jr_model.specs.declared.event.Role.TheVariants.{Outside}
-use Rattle.jr_rule.specs.Image.{gate_at, top_at, slot_at}
-use Rattle.jr_rule.specs.Knowing.{anything, MayKnow, HasNoLocals}
-use Rattle.jr_rule.specs.declared.known.Known.{Known}
-use Rattle.jr_rule.specs.Plain.{standing, Shows, IsUnused}
+use Rattle.std.proofs.Common.{◌+◌, arith}
+use Rattle.jr_rule.proofs.PlainTook.{few_of, took, shown}
+use Rattle.jr_rule.proofs.PlainHeap.{known_few, wrote_element}
+use Rattle.jr_rule.proofs.Unused.{unused_element}
 use Rattle.jr_rule.proofs.plain.PlainStepsSteps.put_element.Goals as goal
 
--- src/plain.rt:244:43
-pub overflow_add-header : goal.overflow_add-header
-overflow_add-header g c = ?
-
--- src/plain.rt:244:13
 pub element_at-at-requires-clause-place : goal.element_at-at-requires-clause-place
-element_at-at-requires-clause-place g c = ?
+element_at-at-requires-clause-place g c =
+    let s = c.args.self.now in
+    known_few s.config g.row.LAST (few_of g.row.LAST s (omega arith)) s.role s.fresh s.words.items c.args._object c.args.header c.args.index c.requires.known (λ k m. m.0) c.requires.index c.requires.role
 
--- src/plain.rt:245:9
+pub overflow_add-header : goal.overflow_add-header
+overflow_add-header g c =
+    let s = c.args.self.now in
+    let few = s.space in
+    let below = known_few s.config g.row.LAST (few_of g.row.LAST s (omega arith)) s.role s.fresh s.words.items c.args._object c.args.header c.args.index c.requires.known (λ k m. m.0) c.requires.index c.requires.role in omega arith
+
 pub index_mut-requires : goal.index_mut-requires
-index_mut-requires g c = ?
+index_mut-requires g c =
+    let s = c.args.self.now in
+    let below = known_few s.config g.row.LAST (few_of g.row.LAST s (omega arith)) s.role s.fresh s.words.items c.args._object c.args.header c.args.index c.requires.known (λ k m. m.0) c.requires.index c.requires.role in
+    let at = c.element_at-at.ensures in
+    let wide = s.wide in omega arith
 
--- src/plain.rt:245:9
-pub invariant_of-self : goal.invariant_of-self
-invariant_of-self g c = ?
-
--- src/plain.rt:243:5
 pub returns : goal.returns
-returns g c = ?
+returns g c =
+    let s = c.args.self.now in
+    took g.row.LAST s _
+    (wrote_element s.config g.row.LAST (few_of g.row.LAST s (omega arith)) s.role s.fresh s.words.items c.args._object c.args.header c.args.index c.element_at-at.result c.args.word c.element_at-at.ensures c.requires.index c.requires.kind c.requires.role)
+
+pub invariant_of-self-clause-shown : goal.invariant_of-self-clause-shown
+invariant_of-self-clause-shown g c =
+    let s = c.args.self.now in
+    shown
+    (wrote_element s.config g.row.LAST (few_of g.row.LAST s (omega arith)) s.role s.fresh s.words.items c.args._object c.args.header c.args.index c.element_at-at.result c.args.word c.element_at-at.ensures c.requires.index c.requires.kind c.requires.role)
+    c.requires.known
+
+pub invariant_of-self-clause-unused : goal.invariant_of-self-clause-unused
+invariant_of-self-clause-unused g c = let s = c.args.self.now in λ e. unused_element s.config g.row.LAST s.role s.role s.fresh s.fresh s.words.items c.args.word (s.unused e) c.element_at-at.result (c.args.header.place + c.args.index) c.element_at-at.ensures s.threads.0

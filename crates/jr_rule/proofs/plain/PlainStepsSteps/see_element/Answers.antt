@@ -1,29 +1,28 @@
-use Rattle.std.proofs.Common.{rules, ◌≡◌, ◌⊎◌, ◌↔◌, ◌<◌, ◌≤◌, ◌^◌, vec_len, slice_index, true, false, IsTrue, IfOk, IfErr, Ok, Err, lit<, ℕ, ◌+◌, ◌-◌, ◌*◌, length, ◌/◌, ◌%◌, Bool, nat_eq, nat_lt, List, [], ◌∷◌, ◌++◌, slice_index_or, slice_set, bit_and, bit_or, Fits, w8, w32, w64, Bor, MutBor}
-use Rattle.jr_word.specs.declared.fault.Fault.TheVariants.{Memory, Size}
-use Rattle.jr_word.specs.Config.{in_limits, row_words}
-use Rattle.jr_word.specs.Gate.{gate_word, IsGate}
-use Rattle.jr_word.specs.Slot.{slot_word, IsSlot}
-use Rattle.jr_word.specs.Top.{top_word}
-use Rattle.jr_word.specs.declared.top.Half.TheVariants.{First}
-use Rattle.jr_model.specs.declared.event.Role.TheVariants.{Outside}
-use Rattle.jr_rule.specs.Image.{gate_at, top_at, slot_at}
-use Rattle.jr_rule.specs.Knowing.{anything, MayKnow, HasNoLocals}
-use Rattle.jr_rule.specs.declared.known.Known.{Known}
-use Rattle.jr_rule.specs.Plain.{standing, Shows, IsUnused}
+use Rattle.std.proofs.Common.{lit<, arith}
+use Rattle.jr_rule.proofs.PlainTook.{few_of, took}
+use Rattle.jr_rule.proofs.PlainHeap.{known_few, read_element}
 use Rattle.jr_rule.proofs.plain.PlainStepsSteps.see_element.Goals as goal
 
--- src/plain.rt:240:44
-pub overflow_add-header : goal.overflow_add-header
-overflow_add-header g c = ?
-
--- src/plain.rt:240:19
 pub element_at-requires-clause-place : goal.element_at-requires-clause-place
-element_at-requires-clause-place g c = ?
+element_at-requires-clause-place g c =
+    let s = c.args.self.now in
+    known_few s.config g.row.LAST (few_of g.row.LAST s (omega arith)) s.role s.fresh s.words.items c.args._object c.args.header c.args.index c.requires.known (λ k m. m) c.requires.index c.requires.role
 
--- src/plain.rt:240:9
+pub overflow_add-header : goal.overflow_add-header
+overflow_add-header g c =
+    let s = c.args.self.now in
+    let few = s.space in
+    let below = known_few s.config g.row.LAST (few_of g.row.LAST s (omega arith)) s.role s.fresh s.words.items c.args._object c.args.header c.args.index c.requires.known (λ k m. m) c.requires.index c.requires.role in omega arith
+
 pub word-requires : goal.word-requires
-word-requires g c = ?
+word-requires g c =
+    let s = c.args.self.now in
+    let below = known_few s.config g.row.LAST (few_of g.row.LAST s (omega arith)) s.role s.fresh s.words.items c.args._object c.args.header c.args.index c.requires.known (λ k m. m) c.requires.index c.requires.role in
+    let at = c.element_at.ensures in
+    let wide = s.wide in (lit< tt, omega arith)
 
--- src/plain.rt:239:5
 pub returns : goal.returns
-returns g c = ?
+returns g c =
+    let s = c.args.self.now in
+    took g.row.LAST s s
+    (read_element s.config g.row.LAST (few_of g.row.LAST s (omega arith)) s.role s.fresh s.words.items c.args._object c.args.header c.args.index c.element_at.result c.word.result c.element_at.ensures c.word.ensures c.requires.index c.requires.role)
