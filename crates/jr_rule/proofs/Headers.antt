@@ -1,5 +1,5 @@
 -- What the word of a header tells.
-use Rattle.std.proofs.Common.{◌≡◌, ◌≢◌, ◌<◌, ◌≤◌, ◌==◌, ℕ, cond, Option, Some, None, IsSome, [], length, eq-eqb, refl, sym, ap, subst, ◌∙◌, arith}
+use Rattle.std.proofs.Common.{◌≡◌, ◌≢◌, ◌≤◌, ℕ, cond, Option, Some, None, IsSome, [], length, eq-eqb, refl, sym, ap, subst, ◌∙◌, arith}
 use Rattle.jr_word.specs.declared.kind.Kind.{Kind}
 use Rattle.jr_word.specs.declared.kind.Kind.TheVariants.{Plain, Boolean, Byte, Char, Short, Int, Long, Objects, Text}
 use Rattle.jr_word.specs.declared.header.HeaderParts.{HeaderParts}

@@ -5,7 +5,7 @@ use Rattle.jr_word.specs.declared.header.HeaderParts.{HeaderParts}
 use Rattle.jr_word.specs.Header.{header_word, IsHeader}
 use Rattle.jr_word.proofs.OneWord.{header_word-injective}
 use Rattle.jr_model.specs.Maps.{update}
-use Rattle.jr_model.specs.State.{Contents, State, IsPresent, length_of, present_words}
+use Rattle.jr_model.specs.State.{Contents, State, length_of, present_words}
 use Rattle.jr_rule.specs.declared.known.Grasp.{Grasp}
 use Rattle.jr_rule.specs.Grasping.{words_at, with_range, hold}
 use Rattle.jr_rule.specs.Image.{header_at, of_object, Stands, IsHeaderOf, IsKnown, IsSpace, IsImage}

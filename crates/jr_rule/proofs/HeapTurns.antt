@@ -1,5 +1,5 @@
 -- What the steps of the heap owe, over any words and any history.
-use Rattle.std.proofs.Common.{◌≡◌, ◌≢◌, ◌+◌, ◌<◌, ◌≤◌, ℕ, Option, Some, None, List, [], ◌∷◌, length, get_or, slice_get, slice_set, nat_eq, refl, sym, ap, subst, ◌∙◌, arith, length-set}
+use Rattle.std.proofs.Common.{◌≡◌, ◌≢◌, ◌+◌, ◌<◌, ◌≤◌, ℕ, Option, Some, None, List, [], ◌∷◌, length, get_or, slice_set, nat_eq, sym, ap, subst, ◌∙◌, arith, length-set}
 use Rattle.std.proofs.lemmas.Option.{slice_get-get_or}
 use Rattle.jr_word.specs.declared.config.Config.{Config}
 use Rattle.jr_word.specs.declared.header.HeaderParts.{HeaderParts}
@@ -7,7 +7,7 @@ use Rattle.jr_word.specs.declared.kind.Kind.{Kind}
 use Rattle.jr_word.specs.declared.kind.Kind.TheVariants.{Text}
 use Rattle.jr_word.specs.Header.{header_word, IsHeader}
 use Rattle.jr_model.specs.declared.event.Role.TheVariants.{Within}
-use Rattle.jr_model.specs.declared.event.Act.TheVariants.{New, Reserve, ReserveLost, Read, Write}
+use Rattle.jr_model.specs.declared.event.Act.TheVariants.{New, Reserve, Read, Write}
 use Rattle.jr_model.specs.Maps.{update}
 use Rattle.jr_model.specs.State.{Contents, State, IsWord, AreWords, present_words}
 use Rattle.jr_model.specs.Steps.{written}
@@ -18,7 +18,7 @@ use Rattle.jr_rule.specs.declared.known.Grasp.{Grasp}
 use Rattle.jr_rule.specs.Grasping.{words_at, header_in, with_range, with_header, hold}
 use Rattle.jr_rule.specs.Image.{top_at, header_at, element_at, IsTopOf, IsHeaderOf, IsKnown, IsSpace, IsImage}
 use Rattle.jr_rule.specs.Knowing.{published}
-use Rattle.jr_rule.proofs.HeapImages.{IsThere, given_words, there, own_element, known_element, given_fit, space_headed}
+use Rattle.jr_rule.proofs.HeapImages.{given_words, there, own_element, known_element, given_fit, space_headed}
 use Rattle.jr_rule.proofs.HeapSpaces.{elements_from, space_reserved, space_put, space_written, space_known}
 use Rattle.jr_rule.proofs.Images.{top_set, element_set, with_space}
 use Rattle.jr_rule.proofs.InRoom.{in_room}

@@ -18,7 +18,7 @@ use Rattle.jr_rule.specs.declared.known.Known.{Known}
 use Rattle.jr_rule.specs.declared.naming.SlotNaming.{SlotNaming}
 use Rattle.jr_rule.specs.declared.naming.SlotNaming.TheVariants as naming
 use Rattle.jr_rule.specs.Acts.{found_object, slot_named, SlotNameFits, is_occupied, claiming, freeing}
-use Rattle.jr_rule.specs.Knowing.{Standing, MayKnow, anything, HasObject, HasLooked, IsFreeSlot, ShowsSlot, LostClaim, keeps, lets_go}
+use Rattle.jr_rule.specs.Knowing.{Standing, MayKnow, anything, HasObject, HasLooked, IsFreeSlot, ShowsSlot, LostClaim, keeps}
 use Rattle.jr_rule.specs.Image.{slot_at}
 use Rattle.jr_rule.specs.Plain.{alone, standing, Shows}
 use Rattle.jr_rule.specs.Slots.{CanStand, IsReference, freed}
@@ -29,7 +29,7 @@ use Rattle.jr_rule.proofs.SlotTurns.{sees, claims, frees, frees_late}
 use Rattle.jr_rule.proofs.LostClaims.{claim_lost}
 use Rattle.jr_rule.proofs.Looked.{IsLooked, looked_at}
 use Rattle.jr_rule.proofs.Turns.{Turn}
-use Rattle.jr_rule.proofs.PlainTook.{kept, kept_showing, let_go, stands_same, known_then, Turned, IsFew, shown_most}
+use Rattle.jr_rule.proofs.PlainTook.{kept, kept_showing, stands_same, known_then, Turned, IsFew, shown_most}
 use Rattle.jr_rule.proofs.Effects.{slot_named_role, slot_named_fresh, slot_named_state}
 
 module _ (config : Config) (last : ℕ) (few : IsFew config last) (role : Role) (fresh : Bool) (words : List ℕ) where

@@ -1,4 +1,4 @@
-use Rattle.std.proofs.Common.{◌≡◌, ◌+◌, ◌<◌, ◌∙◌, length, true, false, sym, ap, subst, arith}
+use Rattle.std.proofs.Common.{◌+◌, ◌<◌, ◌∙◌, length, true, false, sym, ap, subst, arith}
 use Rattle.jr_model.specs.History.{state}
 use Rattle.jr_rule.proofs.Summaries.{objects_below, header_in, no_object, one_more_object}
 use Rattle.jr_rule.proofs.summing.objects.Goals as goal

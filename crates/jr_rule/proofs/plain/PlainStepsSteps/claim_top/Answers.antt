@@ -1,4 +1,4 @@
-use Rattle.std.proofs.Common.{◌≡◌, ◌∙◌, ap, arith}
+use Rattle.std.proofs.Common.{◌∙◌, ap, arith}
 use Rattle.jr_word.specs.Top.{top_word}
 use Rattle.jr_word.specs.declared.top.Half.TheVariants.{First}
 use Rattle.jr_rule.proofs.PlainTook.{few_of, took, shown}
