@@ -1,11 +1,11 @@
 -- What the acts of steps make of the role, of the freshness and of the state.
-use Rattle.std.proofs.Common.{◌≡◌, ◌⊎◌, ⊎_elim, ◌+◌, ℕ, zero, suc, Bool, true, false, cond, nat_lt, Option, Some, None, Result, Ok, Err, List, [], ◌∷◌, ◌++◌, refl, sym, subst}
+use Rattle.std.proofs.Common.{◌≡◌, ◌⊎◌, ⊎_elim, ◌+◌, nat_lt, cond, List, ℕ, zero, suc, Bool, true, false, Option, Some, None, Result, Ok, Err, [], ◌∷◌, ◌++◌, refl, sym, subst}
 use Rattle.jr_word.specs.declared.handle.RefKind.{RefKind}
 use Rattle.jr_word.specs.declared.kind.Kind.{Kind}
 use Rattle.jr_word.specs.declared.slot.SlotParts.{SlotParts}
 use Rattle.jr_model.specs.declared.event.Role.{Role}
-use Rattle.jr_model.specs.declared.event.Role.TheVariants.{Outside, Within, Knocking, Collecting}
 use Rattle.jr_model.specs.declared.event.Act.TheVariants.{ReserveFull}
+use Rattle.jr_model.specs.declared.event.Role.TheVariants.{Outside, Within, Knocking, Collecting}
 use Rattle.jr_model.specs.State.{Handle}
 use Rattle.jr_model.specs.History.{History, by, state, role_after, role_from}
 use Rattle.jr_model.proofs.Histories.{state_push}
@@ -109,7 +109,6 @@ publishing_fresh o kind ws true f = refl
 publishing_fresh o kind ws false f = refl
 
 -- THE TOP
--- the name of a load of the top leaves the role, and the pass as fresh as it was
 pub top_named_role : (words : ℕ) (name : TopNaming) (u : ℕ) (r : Role) → r ≡ role_from r (top_named words name u)
 top_named_role words top.Look u r = refl
 top_named_role words (top.Full n) u r = go (nat_lt words (u + n))

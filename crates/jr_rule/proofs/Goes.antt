@@ -1,5 +1,5 @@
 -- What follows from a step, and one step after the other.
-use Rattle.std.proofs.Common.{◌≡◌, ◌≢◌, ℕ, Bool, true, false, List, [], ◌∷◌, ◌++◌, Option, Some, None, IsSome, refl, sym, ap, subst, ◌∙◌, arith}
+use Rattle.std.proofs.Common.{◌≡◌, ◌≢◌, ◌<◌, ℕ, Bool, true, false, cond, Ok, eq-eqb, length, List, [], ◌∷◌, ◌++◌, Option, Some, None, IsSome, refl, sym, ap, subst, ◌∙◌, arith}
 use Rattle.std.specs.List.{AllByRecursion}
 use mathlib.Core.Logic.{∥∥₁_map}
 use Rattle.jr_word.specs.declared.header.HeaderParts.{HeaderParts}
@@ -15,7 +15,9 @@ use Rattle.jr_model.proofs.Histories.{legal_push, state_push}
 use Rattle.jr_model.proofs.Presence.{named_is_present, sound_state}
 use Rattle.jr_model.proofs.Stays.{IsStill, still_did, did_added, did_then}
 use Rattle.jr_rule.specs.declared.known.Known.{Known}
-use Rattle.jr_rule.specs.Knowing.{Standing, MayKnow, IsClosedNow, view, moved, anything, state_of, Goes, HasObject, HasLooked, IsFreeSlot, ShowsSlot, ShowsPublished, Took, TookWith, Acted}
+use Rattle.jr_rule.specs.declared.known.Grasp.{Grasp}
+use Rattle.jr_rule.specs.Grasping.{words_at}
+use Rattle.jr_rule.specs.Knowing.{Standing, MayKnow, IsClosedNow, view, moved, anything, state_of, Goes, HasObject, HasLooked, IsFreeSlot, ShowsSlot, ShowsPublished, ShowsRange, HasWord, Took, TookWith, Acted}
 
 -- a step is what the thread did
 pub goes_did : {k k' : Known} {acts : List Act} → Goes k acts k' → Did (view k) (view k') acts
@@ -73,6 +75,13 @@ shut_closed {k} {k'} g =
 -- what is present stays, until the thread leaves
 pub present_stays : (k k' : Known) (acts : List Act) (o : ℕ) → Did (view k) (view k') acts → role_of (view k) ≡ Within → AllByRecursion (λ a. a ≢ Leave) acts → HasObject o k → HasObject o k'
 present_stays k k' acts o d w q p = present_still (state_of k) (state_of k') o (still_did acts d w q) p
+
+-- the words that were reserved are the pass's own
+pub reserved_word : (looked n i : ℕ) (k k' : Known) → i < n → ShowsRange looked n (Ok tt) k k' → HasWord looked i k'
+reserved_word looked n i k k' l shown =
+    let here : words_at looked k'.grasp.ranges ≡ shown.0 = ap (λ (g : Grasp). words_at looked g.ranges) shown.2 ∙ ap (λ b. cond b shown.0 (words_at looked k.grasp.ranges)) (eq-eqb looked looked refl) in
+    let long = shown.1 in
+    subst (λ ws. i < length ws) (sym here) (omega arith)
 
 -- an object is present after an exchange of its header, won or lost
 pub shown_published : (o : ℕ) (h : HeaderParts) (b : Bool) (k k' : Known) → ShowsPublished o h b k k' → HasObject o k'

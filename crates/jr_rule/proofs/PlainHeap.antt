@@ -94,10 +94,10 @@ module _ (config : Config) (last : ℕ) (few : IsFew config last) (role : Role) 
           let t = publishes_own k.config k.last k.seen k.thread words s.pass.legal (alone k.grasp) s.image (row k s) (s.pass.role ∙ within) k.grasp (own k s) o h number.0 (in_room k s) fits m.long m.words (word_is k s ∙ found) in (
             published h k.grasp,
             turn_alone k (a ∷ []) (slice_set words at n) (published h k.grasp) k.thread s.pass.thread
-            (subst (λ (z : ℕ × ℕ). Turn k.config k.last k.seen k.thread (a ∷ []) (slice_set words z.0 z.1) (hold (alone k.grasp) k.thread (published h k.grasp))) (λ i. (header_is k s i, sym is i)) t),
+                (subst (λ (z : ℕ × ℕ). Turn k.config k.last k.seen k.thread (a ∷ []) (slice_set words z.0 z.1) (hold (alone k.grasp) k.thread (published h k.grasp))) (λ i. (header_is k s i, sym is i)) t),
             (
               subst (λ (z : State). IsPresent z o) (sym (state_push k.seen (by k.thread a)))
-              (subst (λ (x : Option Contents). IsSome x) (sym (at_number_self (state k.seen).objects o (Some (record { kind = h.kind; words = words_for h k })))) refl),
+                  (subst (λ (x : Option Contents). IsSome x) (sym (at_number_self (state k.seen).objects o (Some (record { kind = h.kind; words = words_for h k })))) refl),
               refl,
             ),
           );
@@ -112,7 +112,7 @@ module _ (config : Config) (last : ℕ) (few : IsFew config last) (role : Role) 
         turn_none k.config k.last k.seen k.thread words (alone k.grasp) s.pass.legal s.image,
         (
           subst (λ l. IsPresent (state l) o) (sym (append-nil k.seen))
-          (header_some ((state k.seen).objects o) (get_or words (header_at k.config o) 0) (s.image.header o number.0 (in_room k s)) (λ e. found (sym (word_is k s) ∙ e))),
+              (header_some ((state k.seen).objects o) (get_or words (header_at k.config o) 0) (s.image.header o number.0 (in_room k s)) (λ e. found (sym (word_is k s) ∙ e))),
           refl,
         ),
       );
@@ -174,7 +174,7 @@ module _ (config : Config) (last : ℕ) (few : IsFew config last) (role : Role) 
       let ws : List ℕ = elements_from k.config words (state k.seen).used n in (
         with_range k.grasp looked ws,
         subst (λ p. Turn k.config k.last k.seen k.thread (Reserve n ∷ []) (slice_set words top_at w) (hold (alone k.grasp) k.thread (with_range k.grasp p ws))) (sym used)
-        (reserves k.config k.last k.seen k.thread words s.pass.legal (alone k.grasp) s.image (row k s) (s.pass.role ∙ within) k.grasp (own k s) n w (omega arith) (new ∙ ap (λ u. top_word (record { used = u + n; half = First })) used)),
+            (reserves k.config k.last k.seen k.thread words s.pass.legal (alone k.grasp) s.image (row k s) (s.pass.role ∙ within) k.grasp (own k s) n w (omega arith) (new ∙ ap (λ u. top_word (record { used = u + n; half = First })) used)),
         (ws, elements_length k.config words (state k.seen).used n, refl),
       ))
 
@@ -212,6 +212,6 @@ module _ (config : Config) (last : ℕ) (few : IsFew config last) (role : Role) 
       let g : Grasp = with_range k.grasp p (slice_set (words_at p k.grasp.ranges) i v) in (
         g,
         subst (λ j. Turn k.config k.last k.seen k.thread [] (slice_set words j v) (hold (alone k.grasp) k.thread g)) (element_is k s (p + i) ∙ sym place)
-        (puts_own k.config k.last k.seen k.thread words s.pass.legal (alone k.grasp) s.image (row k s) (s.pass.role ∙ within) k.grasp (own k s) p i v m),
+            (puts_own k.config k.last k.seen k.thread words s.pass.legal (alone k.grasp) s.image (row k s) (s.pass.role ∙ within) k.grasp (own k s) p i v m),
         refl,
       ))
