@@ -1,7 +1,8 @@
 -- What follows from a step, and one step after the other.
-use Rattle.std.proofs.Common.{◌≡◌, ◌≢◌, ℕ, List, [], ◌∷◌, ◌++◌, Option, Some, None, IsSome, refl, sym, ap, subst, ◌∙◌, arith}
+use Rattle.std.proofs.Common.{◌≡◌, ◌≢◌, ◌<◌, ℕ, Bool, true, false, cond, Ok, eq-eqb, length, List, [], ◌∷◌, ◌++◌, Option, Some, None, IsSome, refl, sym, ap, subst, ◌∙◌, arith}
 use Rattle.std.specs.List.{AllByRecursion}
 use mathlib.Core.Logic.{∥∥₁_map}
+use Rattle.jr_word.specs.declared.header.HeaderParts.{HeaderParts}
 use Rattle.jr_word.specs.declared.slot.SlotParts.TheVariants as slot
 use Rattle.jr_model.specs.declared.event.Role.TheVariants.{Within}
 use Rattle.jr_model.specs.declared.event.Found.{Found}
@@ -14,7 +15,9 @@ use Rattle.jr_model.proofs.Histories.{legal_push, state_push}
 use Rattle.jr_model.proofs.Presence.{named_is_present, sound_state}
 use Rattle.jr_model.proofs.Stays.{IsStill, still_did, did_added, did_then}
 use Rattle.jr_rule.specs.declared.known.Known.{Known}
-use Rattle.jr_rule.specs.Knowing.{Standing, MayKnow, IsClosedNow, view, moved, anything, state_of, Goes, HasObject, HasLooked, IsFreeSlot, ShowsSlot, Took, Acted}
+use Rattle.jr_rule.specs.declared.known.Grasp.{Grasp}
+use Rattle.jr_rule.specs.Grasping.{words_at}
+use Rattle.jr_rule.specs.Knowing.{Standing, MayKnow, IsClosedNow, view, moved, anything, state_of, Goes, HasObject, HasLooked, IsFreeSlot, ShowsSlot, ShowsPublished, ShowsRange, HasWord, Took, TookWith, Acted}
 
 -- a step is what the thread did
 pub goes_did : {k k' : Known} {acts : List Act} → Goes k acts k' → Did (view k) (view k') acts
@@ -73,6 +76,18 @@ shut_closed {k} {k'} g =
 pub present_stays : (k k' : Known) (acts : List Act) (o : ℕ) → Did (view k) (view k') acts → role_of (view k) ≡ Within → AllByRecursion (λ a. a ≢ Leave) acts → HasObject o k → HasObject o k'
 present_stays k k' acts o d w q p = present_still (state_of k) (state_of k') o (still_did acts d w q) p
 
+-- the words that were reserved are the pass's own
+pub reserved_word : (looked n i : ℕ) (k k' : Known) → i < n → ShowsRange looked n (Ok tt) k k' → HasWord looked i k'
+reserved_word looked n i k k' l shown =
+    let here : words_at looked k'.grasp.ranges ≡ shown.0 = ap (λ (g : Grasp). words_at looked g.ranges) shown.2 ∙ ap (λ b. cond b shown.0 (words_at looked k.grasp.ranges)) (eq-eqb looked looked refl) in
+    let long = shown.1 in
+    subst (λ ws. i < length ws) (sym here) (omega arith)
+
+-- an object is present after an exchange of its header, won or lost
+pub shown_published : (o : ℕ) (h : HeaderParts) (b : Bool) (k k' : Known) → ShowsPublished o h b k k' → HasObject o k'
+shown_published o h true k k' shown = shown.0
+shown_published o h false k k' shown = shown.0
+
 module _ {S : Type 0} {stands : S → Standing} {knows : S → Known → Type 0} where
   pub took_acted : {old new : S} {acts : List Act} {met : Known → Type 0} {shows : Known → Known → Type 0} → Took stands knows old new acts met shows → Acted stands knows old new acts met
   took_acted t = record { stands_is = t.stands_is; did = λ k s m. let g = t.goes k s m in (g.0, g.1, goes_did g.2) }
@@ -92,3 +107,7 @@ module _ {S : Type 0} {stands : S → Standing} {knows : S → Known → Type 0}
   pub may_then : {old new : S} {acts : List Act} {met : Known → Type 0} {shows : Known → Known → Type 0} {was is : Known → Type 0} → Took stands knows old new acts met shows → ((k : Known) → knows old k → was k → met k) → MayKnow knows old was
       → ((k k' : Known) → knows old k → was k → Goes k acts k' → shows k k' → is k') → MayKnow knows new is
   may_then t meets may then' = ∥∥₁_map may (λ k. let g = t.goes k.0 k.1 (meets k.0 k.1 k.2) in (g.0, g.1, then' k.0 g.0 k.1 k.2 g.2 g.3))
+
+  pub may_with : {old new : S} {acts : Known → List Act} {met : Known → Type 0} {shows : Known → Known → Type 0} {was is : Known → Type 0} → TookWith stands knows old new acts met shows → ((k : Known) → knows old k → was k → met k) → MayKnow knows old was
+      → ((k k' : Known) → knows old k → was k → Goes k (acts k) k' → shows k k' → is k') → MayKnow knows new is
+  may_with t meets may then' = ∥∥₁_map may (λ k. let g = t.goes k.0 k.1 (meets k.0 k.1 k.2) in (g.0, g.1, then' k.0 g.0 k.1 k.2 g.2 g.3))

@@ -1,12 +1,15 @@
 -- What the word of a header tells.
-use Rattle.std.proofs.Common.{◌≡◌, ◌≢◌, ◌<◌, ◌≤◌, ℕ, Option, Some, None, IsSome, refl, arith}
+use Rattle.std.proofs.Common.{◌≡◌, ◌≢◌, ◌≤◌, ℕ, cond, Option, Some, None, IsSome, [], length, eq-eqb, refl, sym, ap, subst, ◌∙◌, arith}
 use Rattle.jr_word.specs.declared.kind.Kind.{Kind}
 use Rattle.jr_word.specs.declared.kind.Kind.TheVariants.{Plain, Boolean, Byte, Char, Short, Int, Long, Objects, Text}
 use Rattle.jr_word.specs.declared.header.HeaderParts.{HeaderParts}
 use Rattle.jr_word.specs.Header.{header_word, IsHeader}
 use Rattle.jr_word.specs.Kind.{kind_code}
-use Rattle.jr_model.specs.State.{Contents}
+use Rattle.jr_model.specs.State.{Contents, AreWords}
+use Rattle.jr_rule.specs.declared.known.Known.{Known}
+use Rattle.jr_rule.specs.Grasping.{words_at}
 use Rattle.jr_rule.specs.Image.{IsHeaderOf}
+use Rattle.jr_rule.specs.Knowing.{state_of, words_for, IsFilled}
 
 pub kind_some : (k : Kind) → 1 ≤ kind_code k
 kind_some Plain = omega arith
@@ -35,3 +38,11 @@ header_fits p e = let a = e.0 in let b = e.1 in record { length = omega arith; p
 -- no header's word is 0
 pub header_positive : (p : HeaderParts) → 1 ≤ header_word p
 header_positive p = let some = kind_some p.kind in omega arith
+
+-- an object without elements needs no range
+pub filled_none : (p : HeaderParts) (k : Known) → p.length ≡ 0 → IsFilled p k
+filled_none p k e =
+    let none : words_for p k ≡ [] = ap (λ b. cond b [] (words_at p.place k.grasp.ranges)) (eq-eqb p.length 0 e) in record {
+      long = ap length none ∙ sym e;
+      words = subst (λ ws. AreWords (state_of k) p.kind ws) (sym none) (λ i v q. absurd cc);
+    }

@@ -13,11 +13,14 @@ pub mod LostClaims
 pub mod Headers
 pub mod HeapSpaces
 pub mod Counting
+pub mod HeapImages
 pub mod LocalTurns
+pub mod HeapTurns
 pub mod PlainTook
 pub mod PlainTurns
 pub mod PlainSlots
 pub mod PlainPlaces
+pub mod PlainHeap
 pub mod Unused
 pub mod Zeros
 pub mod PlainHistories

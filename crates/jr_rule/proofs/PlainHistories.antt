@@ -6,14 +6,15 @@ use Rattle.jr_model.specs.History.{IsLegal}
 use Rattle.jr_rule.specs.declared.known.Known.{Known}
 use Rattle.jr_rule.specs.Image.{IsImage}
 use Rattle.jr_rule.specs.Knowing.{Standing, state_of, MayKnow, anything}
-use Rattle.jr_rule.specs.Plain.{Shows}
+use Rattle.jr_rule.specs.Plain.{alone, Shows}
 use Rattle.jr_rule.specs.Shown.{IsHistoryOf, HasHistory}
 
 pub history_of : (s : Standing) (words : List ℕ) → s.last < 2 ^ 16 → (k : Known) → Shows s words k → IsHistoryOf s.config words k.last k.seen
 history_of s words few k shows = record {
   few = let e = shows.pass.last in omega arith;
   legal = subst (λ (c : Config). IsLegal c k.last k.seen) shows.pass.config shows.pass.legal;
-  image = subst (λ (c : Config). IsImage c k.last words (state_of k)) shows.pass.config shows.image;
+  held = alone k.grasp;
+  image = subst (λ (c : Config). IsImage c k.last words (state_of k) (alone k.grasp)) shows.pass.config shows.image;
 }
 
 pub has_history : (s : Standing) (words : List ℕ) → s.last < 2 ^ 16 → MayKnow (Shows s) words anything → HasHistory s.config words

@@ -1,27 +1,18 @@
--- The steps of local words and headers over plain words, each at whatever the words show.
-use Rattle.std.proofs.Common.{◌≡◌, ◌≢◌, ◌+◌, ◌*◌, ◌^◌, ◌<◌, ◌≤◌, ℕ, Bool, true, false, Option, Some, IsSome, List, [], ◌∷◌, get_or, slice_set, refl, sym, ap, subst, ◌∙◌, arith}
-use Rattle.std.proofs.lemmas.List.{append-nil}
+-- The steps of local words over plain words, each at whatever the words show.
+use Rattle.std.proofs.Common.{◌≡◌, ◌+◌, ◌*◌, ◌^◌, ◌<◌, ◌≤◌, ℕ, Bool, false, Option, Some, List, [], ◌∷◌, slice_set, sym, ap, subst, ◌∙◌, arith}
 use Rattle.jr_word.specs.declared.config.Config.{Config}
-use Rattle.jr_word.specs.declared.header.HeaderParts.{HeaderParts}
-use Rattle.jr_word.specs.Header.{header_word}
 use Rattle.jr_word.specs.Local.{local_word}
 use Rattle.jr_model.specs.declared.event.Role.{Role}
 use Rattle.jr_model.specs.declared.event.Role.TheVariants.{Within}
-use Rattle.jr_model.specs.declared.event.Act.TheVariants.{New}
-use Rattle.jr_model.specs.State.{Contents, State, IsPresent}
-use Rattle.jr_model.specs.History.{by, state}
-use Rattle.jr_model.proofs.Histories.{state_push}
-use Rattle.jr_model.proofs.Updates.{at_number_self}
 use Rattle.jr_rule.specs.declared.known.Known.{Known}
-use Rattle.jr_rule.specs.Acts.{putting, publishing}
-use Rattle.jr_rule.specs.Knowing.{Standing, MayKnow, anything, HasObject, HasOptional, keeps, lets_go}
-use Rattle.jr_rule.specs.Image.{local_at, header_at, local_parts}
+use Rattle.jr_rule.specs.Acts.{putting}
+use Rattle.jr_rule.specs.Knowing.{Standing, MayKnow, HasObject, HasOptional, keeps}
+use Rattle.jr_rule.specs.Image.{local_at, local_parts}
 use Rattle.jr_rule.specs.Plain.{alone, standing, Shows}
 use Rattle.jr_rule.proofs.InRoom.{in_room}
-use Rattle.jr_rule.proofs.Headers.{header_some, header_fits}
-use Rattle.jr_rule.proofs.LocalTurns.{puts, publishes}
-use Rattle.jr_rule.proofs.Turns.{Turn, turn_none}
-use Rattle.jr_rule.proofs.PlainTook.{kept, kept_showing, let_go, stands_same, Turned, IsFew, shown_most}
+use Rattle.jr_rule.proofs.LocalTurns.{puts}
+use Rattle.jr_rule.proofs.Turns.{Turn}
+use Rattle.jr_rule.proofs.PlainTook.{kept, stands_same, Turned, IsFew, shown_most}
 use Rattle.jr_rule.proofs.Effects.{putting_role, putting_spends}
 
 module _ (config : Config) (last : ℕ) (few : IsFew config last) (role : Role) (fresh : Bool) (words : List ℕ) where
@@ -55,27 +46,5 @@ module _ (config : Config) (last : ℕ) (few : IsFew config last) (role : Role) 
   pub put : (p : ℕ) (o : Option ℕ) → p < config.locals → role ≡ Within
       → Turned old words (standing config last role false) (slice_set words (2 + config.slots + p) (local_word (local_parts o))) (putting p o ∷ []) (HasOptional o) keeps
   put p o l within = kept (stands_same config last (putting_role p o role) (putting_spends p o fresh)) (λ k s m.
-      let t = puts k.config k.last k.seen k.thread words s.pass.legal (alone k.grasp) s.image (row k s) (s.pass.role ∙ within) p o (subst (λ (c : Config). p < c.locals) (sym s.pass.config) l) m in
+      let t = puts k.config k.last k.seen k.thread words s.pass.legal (alone k.grasp) s.image (row k s) (s.pass.role ∙ within) p o (subst (λ (c : Config). p < c.locals) (sym s.pass.config) l) (optional o k m) in
       subst (λ i. Turn k.config k.last k.seen k.thread (putting p o ∷ []) (slice_set words i (local_word (local_parts o))) (alone k.grasp)) (own_word k p s) t)
-
-  pub published : (o at : ℕ) (parts : HeaderParts) → at ≡ header_at config o → (1 ≤ o) × (o ≤ config.objects) → (parts.length ≡ 0) × (parts.place ≡ 0) → get_or words at 0 ≡ 0 → role ≡ Within
-      → Turned old words old (slice_set words at (header_word parts)) (publishing o parts.kind true) anything (λ j k. HasObject o k × keeps j k)
-  published o at parts place number empty found within = kept_showing (refl) (λ k s m.
-      let i : header_at k.config o ≡ at = ap (λ (c : Config). header_at c o) s.pass.config ∙ sym place in
-      let high = subst (λ (c : Config). o ≤ c.objects) (sym s.pass.config) number.1 in
-      let t = publishes k.config k.last k.seen k.thread words s.pass.legal (alone k.grasp) s.image (row k s) (s.pass.role ∙ within) o parts number.0 high (header_fits parts empty) empty.0 (ap (λ j. get_or words j 0) i ∙ found) in (
-        subst (λ j. Turn k.config k.last k.seen k.thread (publishing o parts.kind true) (slice_set words j (header_word parts)) (alone k.grasp)) i t,
-        subst (λ (z : State). IsPresent z o) (sym (state_push k.seen (by k.thread (New o parts.kind []))))
-            (subst (λ (x : Option Contents). IsSome x) (sym (at_number_self (state k.seen).objects o (Some (record { kind = parts.kind; words = [] })))) refl),
-      ))
-
-  pub unpublished : (o at : ℕ) (parts : HeaderParts) → at ≡ header_at config o → (1 ≤ o) × (o ≤ config.objects) → get_or words at 0 ≢ 0
-      → Turned old words old words (publishing o parts.kind false) anything (λ j k. HasObject o k × keeps j k)
-  unpublished o at parts place number found = kept_showing (refl) (λ k s m.
-      let i : header_at k.config o ≡ at = ap (λ (c : Config). header_at c o) s.pass.config ∙ sym place in
-      let high = subst (λ (c : Config). o ≤ c.objects) (sym s.pass.config) number.1 in
-      let t = turn_none k.config k.last k.seen k.thread words s.pass.legal (alone k.grasp) s.image in (
-        t,
-        subst (λ l. IsPresent (state l) o) (sym (append-nil k.seen))
-            (header_some ((state k.seen).objects o) (get_or words (header_at k.config o) 0) (s.image.header o number.0 high) (λ e. found (sym (ap (λ j. get_or words j 0) i) ∙ e))),
-      ))

@@ -18,7 +18,7 @@ use Rattle.jr_rule.specs.declared.known.Known.{Known}
 use Rattle.jr_rule.specs.declared.naming.SlotNaming.{SlotNaming}
 use Rattle.jr_rule.specs.declared.naming.SlotNaming.TheVariants as naming
 use Rattle.jr_rule.specs.Acts.{found_object, slot_named, SlotNameFits, is_occupied, claiming, freeing}
-use Rattle.jr_rule.specs.Knowing.{Standing, MayKnow, anything, HasObject, HasLooked, IsFreeSlot, ShowsSlot, LostClaim, keeps, lets_go}
+use Rattle.jr_rule.specs.Knowing.{Standing, MayKnow, anything, HasObject, HasLooked, IsFreeSlot, ShowsSlot, LostClaim, keeps}
 use Rattle.jr_rule.specs.Image.{slot_at}
 use Rattle.jr_rule.specs.Plain.{alone, standing, Shows}
 use Rattle.jr_rule.specs.Slots.{CanStand, IsReference, freed}
@@ -29,7 +29,7 @@ use Rattle.jr_rule.proofs.SlotTurns.{sees, claims, frees, frees_late}
 use Rattle.jr_rule.proofs.LostClaims.{claim_lost}
 use Rattle.jr_rule.proofs.Looked.{IsLooked, looked_at}
 use Rattle.jr_rule.proofs.Turns.{Turn}
-use Rattle.jr_rule.proofs.PlainTook.{kept, kept_showing, let_go, stands_same, known_then, Turned, IsFew, shown_most}
+use Rattle.jr_rule.proofs.PlainTook.{kept, kept_showing, stands_same, known_then, Turned, IsFew, shown_most}
 use Rattle.jr_rule.proofs.Effects.{slot_named_role, slot_named_fresh, slot_named_state}
 
 module _ (config : Config) (last : ℕ) (few : IsFew config last) (role : Role) (fresh : Bool) (words : List ℕ) where
@@ -56,15 +56,20 @@ module _ (config : Config) (last : ℕ) (few : IsFew config last) (role : Role) 
       let e = read x.parts (slot_fits k.0.config k.0.last k.0.seen k.1.pass.legal (few_serials k.0 k.1) (few_objects k.0 k.1) i (get_or words (slot_at i) 0) x) x.word in
       subst (λ z. IsSome z) (sym e) refl)
 
-  pub saw : (i : ℕ) (name : SlotNaming) (p : SlotParts) → i < config.slots → SlotNameFits i name → IsSlot p → get_or words (slot_at i) 0 ≡ slot_word p → role ≡ Within
-      → Turned old words old words (slot_named i name p ∷ []) anything (λ j k. ShowsSlot i p k × keeps j k)
-  saw i name p l fits good is within = kept_showing (stands_same config last (slot_named_role i name p role) (slot_named_fresh i name p fresh)) (λ k s m.
+  -- a load of a slot at what the words show
+  seen_slot : (i : ℕ) (name : SlotNaming) (p : SlotParts) → i < config.slots → SlotNameFits i name → IsSlot p → get_or words (slot_at i) 0 ≡ slot_word p → role ≡ Within → (k : Known) → Shows old words k
+      → Turn k.config k.last k.seen k.thread (slot_named i name p ∷ []) words (alone k.grasp) × ShowsSlot i p (known_then k (slot_named i name p ∷ []) k.grasp)
+  seen_slot i name p l fits good is within k s =
       let row' = in_row i l k s in
       let x = s.image.slot i row' in
       let read = read_parts k.config k.last k.seen s.pass.legal (few_serials k s) (few_objects k s) i (get_or words (slot_at i) 0) x p good is in (
         sees k.config k.last k.seen k.thread words s.pass.legal (alone k.grasp) s.image (row k s) (s.pass.role ∙ within) i name p row' fits read,
         shows_slot i (get_or words (slot_at i) 0) (state k.seen) (known_then k (slot_named i name p ∷ []) k.grasp) x p read (sym (slot_named_state k.seen k.thread i name p)),
-      ))
+      )
+
+  pub saw : (i : ℕ) (name : SlotNaming) (p : SlotParts) → i < config.slots → SlotNameFits i name → IsSlot p → get_or words (slot_at i) 0 ≡ slot_word p → role ≡ Within
+      → Turned old words old words (slot_named i name p ∷ []) anything (λ j k. ShowsSlot i p k × keeps j k)
+  saw i name p l fits good is within = kept_showing (stands_same config last (slot_named_role i name p role) (slot_named_fresh i name p fresh)) (λ k s m. seen_slot i name p l fits good is within k s)
 
   pub object_some : {T : Known → Type 0} (o : ℕ) → MayKnow (Shows old) words (λ k. HasObject o k × T k) → 0 < o
   object_some o may = shown_most 1 o may (λ k s m. ((in_room k.config k.last k.seen s.pass.legal).objects o m.0).0)
@@ -79,7 +84,7 @@ module _ (config : Config) (last : ℕ) (few : IsFew config last) (role : Role) 
   pub lost : (i serial : ℕ) (kind : RefKind) (o : ℕ) (p : SlotParts) → i < config.slots → IsSlot p → get_or words (slot_at i) 0 ≡ slot_word p → p ≢ slot.Free serial → role ≡ Within
       → Turned old words old words (claiming i serial kind o (Err p) ∷ []) (λ k. HasObject o k × IsFreeSlot i serial k) (λ j k. LostClaim i (Err p) j k × keeps j k)
   lost i serial kind o p l good is differs within = kept_showing (refl) (λ k s m.
-      let t = (saw i naming.Probe p l tt good is within).turn k s tt in
+      let t = seen_slot i naming.Probe p l tt good is within k s in
       let x = s.image.slot i (in_row i l k s) in
       let small = few_serials k s in
       let below = m.1.fits in

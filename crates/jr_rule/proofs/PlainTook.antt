@@ -12,7 +12,7 @@ use Rattle.jr_rule.specs.declared.plain.PlainSteps.{PlainSteps}
 use Rattle.jr_rule.specs.declared.known.Known.{Known}
 use Rattle.jr_rule.specs.declared.known.Grasp.{Grasp}
 use Rattle.jr_rule.specs.Grasping.{empty, hold}
-use Rattle.jr_rule.specs.Knowing.{Standing, moved, Goes, Took, MayKnow, anything, keeps, lets_go}
+use Rattle.jr_rule.specs.Knowing.{Standing, moved, Goes, Took, TookWith, MayKnow, anything, keeps, lets_go}
 use Rattle.jr_rule.proofs.Images.{image_same, image_let_go}
 use Rattle.jr_rule.proofs.Spaces.{hold_here, hold_else}
 use mathlib.Core.Logic.{dite}
@@ -52,6 +52,22 @@ shows_then s words words' k acts g shows turn = record {
   image = turn.image;
 }
 
+-- what thread 0 holds
+pub alone_here : (g : Grasp) (t : ℕ) → t ≡ 0 → alone g t ≡ g
+alone_here g t first = ap (alone g) first ∙ hold_here (λ t. empty) 0 g
+
+-- once it holds something else
+alone_then : (g g' : Grasp) (t : ℕ) → t ≡ 0 → (u : ℕ) → alone g' u ≡ hold (alone g) t g' u
+alone_then g g' t first u = dite (ℕ_discrete u 0)
+    (λ e. alone_here g' u e ∙ (sym (hold_here (alone g) t g') ∙ ap (hold (alone g) t g') (first ∙ sym e)))
+    (λ ne. hold_else (λ t. empty) 0 u g' ne ∙ (sym (hold_else (λ t. empty) 0 u g ne) ∙ sym (hold_else (alone g) t u g' (λ e. ne (e ∙ first)))))
+
+pub turn_alone : (k : Known) (acts : List Act) (words' : List ℕ) (g : Grasp) (t : ℕ) → t ≡ 0 → Turn k.config k.last k.seen k.thread acts words' (hold (alone k.grasp) t g) → Turn k.config k.last k.seen k.thread acts words' (alone g)
+turn_alone k acts words' g t first r = record {
+  legal = r.legal;
+  image = image_same k.config k.last words' (state (then k.seen k.thread acts)) (hold (alone k.grasp) t g) r.image (alone g) (alone_then k.grasp g t first);
+}
+
 -- the acts are a turn at whatever the words show, and show this
 pub record Turned (old : Standing) (words : List ℕ) (new : Standing) (words' : List ℕ) (acts : List Act) (met : Known → Type 0) (shows : Known → Known → Type 0) : Type 0 where
   pub stands_is : new ≡ moved old acts
@@ -65,19 +81,21 @@ module _ {old new : Standing} {words words' : List ℕ} {acts : List Act} {met :
   pub kept_showing : {shows : Known → Known → Type 0} → ((k : Known) → Shows old words k → met k → Turn k.config k.last k.seen k.thread acts words' (alone k.grasp) × shows k (known_then k acts k.grasp)) → Turned old words new words' acts met (λ j k. shows j k × keeps j k)
   kept_showing turn = record { stands_is = stands_is; turn = λ k s m. let r = turn k s m in (k.grasp, r.0, (r.1, refl)) }
 
+  -- a turn that changes what it holds
+  pub gained : {shows : Known → Known → Type 0} → old.thread ≡ 0 → ((k : Known) → Shows old words k → met k → (g : Grasp) × Turn k.config k.last k.seen k.thread acts words' (hold (alone k.grasp) k.thread g) × shows k (known_then k acts g)) → Turned old words new words' acts met shows
+  gained first turn = record {
+    stands_is = stands_is;
+    turn = λ k s m. let r = turn k s m in (r.0, turn_alone k acts words' r.0 k.thread (s.pass.thread ∙ first) r.1, r.2);
+  }
+
   -- a turn after which it holds nothing
   pub let_go : ((k : Known) → Shows old words k → met k → Turn k.config k.last k.seen k.thread acts words' (alone k.grasp)) → Turned old words new words' acts met lets_go
   let_go turn = record {
     stands_is = stands_is;
     turn = λ k s m.
         let t = turn k s m in
-        (empty, record { legal = t.legal; image = image_same k.config k.last words' (state (then k.seen k.thread acts)) (hold (alone k.grasp) 0 empty) (image_let_go k.config k.last words' (state (then k.seen k.thread acts)) (alone k.grasp) t.image 0) (alone empty) (alone_again k.grasp) }, refl);
+        (empty, turn_alone k acts words' empty 0 refl (record { legal = t.legal; image = image_let_go k.config k.last words' (state (then k.seen k.thread acts)) (alone k.grasp) t.image 0 }), refl);
   }
-    where
-      alone_again : (g : Grasp) (u : ℕ) → alone empty u ≡ hold (alone g) 0 empty u
-      alone_again g u = dite (ℕ_discrete u 0)
-          (λ e. ap (alone empty) e ∙ (hold_here (λ t. empty) 0 empty ∙ (sym (hold_here (alone g) 0 empty) ∙ ap (hold (alone g) 0 empty) (sym e))))
-          (λ ne. hold_else (λ t. empty) 0 u empty ne ∙ (sym (hold_else (λ t. empty) 0 u g ne) ∙ sym (hold_else (alone g) 0 u empty ne)))
 
 -- the same with the number that was written named otherwise
 pub writes : {old new : Standing} {words : List ℕ} {acts : List Act} {met : Known → Type 0} {shows : Known → Known → Type 0} (i m n : ℕ) → n ≡ m
@@ -101,6 +119,27 @@ took LAST s s' {acts} t = record {
   goes = λ k h m. let r = t.turn k h m in (known_then k acts r.0, shown_next t k h m, goes_then k acts r.0 (r.1).legal, r.2);
 }
 
+-- one step at whatever the words show, with acts that depend on what is known
+pub record TurnedWith (s : Standing) (words words' : List ℕ) (acts : Known → List Act) (met : Known → Type 0) (shows : Known → Known → Type 0) : Type 0 where
+  pub stays : (k : Known) → s ≡ moved s (acts k)
+  pub turn : (k : Known) → Shows s words k → met k → (g : Grasp) × Turn k.config k.last k.seen k.thread (acts k) words' (alone g) × shows k (known_then k (acts k) g)
+
+module _ {s : Standing} {words words' : List ℕ} {acts : Known → List Act} {met : Known → Type 0} {shows : Known → Known → Type 0} (t : TurnedWith s words words' acts met shows) where
+  shown_with_next : (k : Known) (h : Shows s words k) (m : met k) → Shows s words' (known_then k (acts k) (t.turn k h m).0)
+  shown_with_next k h m = let r = t.turn k h m in subst (λ z. Shows z words' (known_then k (acts k) r.0)) (sym (t.stays k)) (shows_then s words words' k (acts k) r.0 h r.1)
+
+  pub shown_with : MayKnow (Shows s) words met → MayKnow (Shows s) words' anything
+  shown_with may = ∥∥₁_map may (λ k. (known_then k.0 (acts k.0) (t.turn k.0 k.1 k.2).0, shown_with_next k.0 k.1 k.2, tt))
+
+pub took_with : (LAST : ℕ) (s s' : PlainSteps LAST) {acts : Known → List Act} {met : Known → Type 0} {shows : Known → Known → Type 0}
+    → standing s'.config LAST s'.role s'.fresh ≡ standing s.config LAST s.role s.fresh
+    → TurnedWith (standing s.config LAST s.role s.fresh) s.words.items s'.words.items acts met shows
+    → TookWith (λ (z : PlainSteps LAST). standing z.config LAST z.role z.fresh) (λ (z : PlainSteps LAST) k. Shows (standing z.config LAST z.role z.fresh) z.words.items k) s s' acts met shows
+took_with LAST s s' {acts} same t = record {
+  stands_is = same;
+  goes = λ k h m. let r = t.turn k h m in (known_then k (acts k) r.0, subst (λ z. Shows z s'.words.items (known_then k (acts k) r.0)) (sym same) (shown_with_next t k h m), goes_then k (acts k) r.0 (r.1).legal, r.2);
+}
+
 -- what the words show does not depend on whether the pass is fresh
 pub shows_spent : {c : Config} {last : ℕ} {r : Role} {words : List ℕ} {k : Known} (f f' : Bool) → Shows (standing c last r f) words k → Shows (standing c last r f') words k
 shows_spent f f' s = record {
@@ -119,7 +158,8 @@ shown_most a b may each = ∥∥₁_elim may (hlevel props) (λ k. each k.0 k.1 
 pub record IsFew (c : Config) (last : ℕ) : Type 0 where
   pub threads : (1 ≤ c.threads) × (c.threads ≤ 64)
   pub objects : c.objects ≤ 65535
+  pub words : c.words ≤ 1048576
   pub serials : last < 2 ^ 16
 
 pub few_of : (LAST : ℕ) (s : PlainSteps LAST) → LAST < 2 ^ 16 → IsFew s.config LAST
-few_of LAST s small = record { threads = s.threads; objects = s.objects; serials = small }
+few_of LAST s small = record { threads = s.threads; objects = s.objects; words = s.space; serials = small }

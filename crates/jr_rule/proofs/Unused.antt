@@ -6,7 +6,7 @@ use Rattle.jr_model.specs.declared.event.Role.{Role}
 use Rattle.jr_model.proofs.Presence.{sound_state}
 use Rattle.jr_rule.specs.declared.known.Known.{Known}
 use Rattle.jr_rule.specs.Knowing.{Standing, HasNoLocals, state_of}
-use Rattle.jr_rule.specs.Image.{gate_at, slot_at, local_at, header_at, local_parts}
+use Rattle.jr_rule.specs.Image.{gate_at, top_at, slot_at, local_at, header_at, element_at, local_parts}
 use Rattle.jr_rule.specs.Plain.{standing, Shows, IsUnused}
 use Rattle.jr_rule.proofs.InRoom.{in_room}
 use Rattle.jr_rule.proofs.Images.{local_below}
@@ -45,3 +45,9 @@ module _ (c : Config) (last : ℕ) (role role' : Role) (fresh fresh' : Bool) (wo
 
   pub unused_header : (i o : ℕ) → i ≡ header_at c o → 1 ≤ c.threads → IsUnused (standing c last role' fresh') (slice_set words i n)
   unused_header i o is some = elsewhere i (λ p l e. let below = local_below c 0 p (omega arith) l in absurd (omega arith))
+
+  pub unused_top : IsUnused (standing c last role' fresh') (slice_set words top_at n)
+  unused_top = elsewhere top_at (λ p l e. absurd (omega arith))
+
+  pub unused_element : (i x : ℕ) → i ≡ element_at c x → 1 ≤ c.threads → IsUnused (standing c last role' fresh') (slice_set words i n)
+  unused_element i x is some = elsewhere i (λ p l e. let below = local_below c 0 p (omega arith) l in absurd (omega arith))

@@ -372,6 +372,38 @@ mod tests {
         Ok(())
     }
 
+    /// A row of 24 words: the last four are array space, two for each half.
+    #[test]
+    fn reserves_words_and_puts_its_own(rt: HostRuntime) -> Result<(), Fail> {
+        let config = Config { words: 2, ..SMALL };
+        let mut steps = PlainSteps::<2>::new(rt.alloc(), config)?;
+        assert!(rt; steps.go_in());
+        assert_eq!(rt; steps.see_top(TopNaming::Look), 0);
+        let Ok(()) = steps.claim_top(0, 2) else {
+            return Err("the top is another")?;
+        };
+        steps.put_own(0, 1, 7);
+        assert_eq!(rt; steps.claim_top(0, 1).err(), Some(2));
+        assert_eq!(rt; steps.see_top(TopNaming::Full { words: 1 }), 2);
+
+        let mut row = [0; 24];
+        row[0] = 1;
+        row[1] = 2;
+        row[21] = 7;
+        assert_eq!(rt; steps.words.as_slice(), row.as_slice());
+        Ok(())
+    }
+
+    #[test]
+    fn sees_the_header_that_it_published(rt: HostRuntime) -> Result<(), Fail> {
+        let mut steps = PlainSteps::<2>::new(rt.alloc(), SMALL)?;
+        assert!(rt; steps.go_in());
+        assert_eq!(rt; steps.see_header(1), None);
+        assert!(rt; steps.claim_header(1, PLAIN));
+        assert_eq!(rt; steps.see_header(1), Some(PLAIN));
+        Ok(())
+    }
+
     /// The one slot with its one serial: free, taken, and retired once its reference is deleted.
     #[test]
     fn retires_a_slot_after_its_last_serial(rt: HostRuntime) -> Result<(), Fail> {

@@ -1,5 +1,6 @@
-use Rattle.std.proofs.Common.{◌+◌, ◌<◌, length, true, false, sym, subst, arith}
-use Rattle.jr_rule.proofs.Summaries.{header_in, no_object, one_more_object}
+use Rattle.std.proofs.Common.{◌+◌, ◌<◌, ◌∙◌, length, true, false, sym, ap, subst, arith}
+use Rattle.jr_model.specs.History.{state}
+use Rattle.jr_rule.proofs.Summaries.{objects_below, header_in, no_object, one_more_object}
 use Rattle.jr_rule.proofs.summing.objects.Goals as goal
 use Rattle.jr_rule.proofs.summing.objects.Goals.{then-word-ne0, else-word-ne0}
 
@@ -18,3 +19,8 @@ loop-before-preserved g c =
       | then-word-ne0 w ↦ one true (λ e. w.if-word-ne0.true) (λ e. absurd cc) w.count-is
       | else-word-ne0 w ↦ one false (λ e. absurd cc) (λ e. w.if-word-ne0.false) (let is = w.count-is in omega arith)
     ]
+
+pub returns : goal.returns
+returns g c last log h =
+    c.loop-before.invariant.is last log h
+    ∙ ap (λ n. objects_below (n + 1) last (state log)) (let l = c.loop-before.auto.before-end in let past = c.loop-before-test.false in omega arith)

@@ -1,5 +1,6 @@
-use Rattle.std.proofs.Common.{◌∙◌, true, false, sym, arith}
-use Rattle.jr_rule.proofs.Summaries.{sum_none, slot_in, slot_some, one_more_slot}
+use Rattle.std.proofs.Common.{◌∙◌, true, false, sym, ap, arith}
+use Rattle.jr_model.specs.History.{state}
+use Rattle.jr_rule.proofs.Summaries.{references_below, sum_none, slot_in, slot_some, one_more_slot}
 use Rattle.jr_rule.proofs.summing.references.Goals as goal
 use Rattle.jr_rule.proofs.summing.references.Goals.{then-is_reference, else-is_reference}
 
@@ -22,3 +23,8 @@ loop-index-preserved g c =
       | then-is_reference w ↦ one true (sym w.if-is_reference.true ∙ c.is_reference.ensures) w.count-is
       | else-is_reference w ↦ one false (sym w.if-is_reference.false ∙ c.is_reference.ensures) (let is = w.count-is in omega arith)
     ]
+
+pub returns : goal.returns
+returns g c last log h =
+    c.loop-index.invariant.is last log h
+    ∙ ap (λ n. references_below c.args.kind n last (state log)) (let l = c.loop-index.auto.index-end in let past = c.loop-index-test.false in omega arith)

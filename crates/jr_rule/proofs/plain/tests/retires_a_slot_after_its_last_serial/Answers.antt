@@ -1,4 +1,7 @@
-use Rattle.std.proofs.Common.{◌≡◌, ◌∙◌, ◌∷◌, [], ap, subst, arith, rules}
+use Rattle.std.proofs.Common.{◌≡◌, ◌∙◌, ◌∷◌, [], refl, ap, subst, arith, rules}
+use mathlib.Core.Logic.{∥∥₁_map}
+use Rattle.jr_word.specs.declared.header.HeaderParts.{HeaderParts}
+use Rattle.jr_word.specs.declared.kind.Kind.TheVariants.{Plain}
 use Rattle.jr_word.specs.declared.handle.RefKind.TheVariants.{Global}
 use Rattle.jr_word.specs.declared.slot.SlotParts.TheVariants as slot
 use Rattle.jr_word.specs.declared.slot.SlotParts.TheVariants.{Free}
@@ -6,8 +9,16 @@ use Rattle.jr_model.specs.declared.event.Role.TheVariants.{Within}
 use Rattle.jr_rule.specs.Acts.{slot_named, handle_of}
 use Rattle.jr_rule.specs.declared.naming.SlotNaming.TheVariants.{Look}
 use Rattle.jr_rule.specs.Knowing.{Goes, ShowsSlot}
-use Rattle.jr_rule.proofs.Goes.{goes_did, looked_now, present_stays, shown_free, may_then}
+use Rattle.jr_rule.proofs.Goes.{goes_did, looked_now, present_stays, shown_free, shown_published, may_then, may_with}
+use Rattle.jr_rule.proofs.Headers.{header_fits, filled_none}
 use Rattle.jr_rule.proofs.plain.tests.retires_a_slot_after_its_last_serial.Goals as goal
+
+-- the header of a plain object
+abbrev plain : HeaderParts
+plain = record { kind = Plain; length = 0; place = 0 }
+
+pub claim_header-requires : goal.claim_header-requires
+claim_header-requires g c = (omega arith, (search rules, (search rules, (header_fits plain (refl, refl), ∥∥₁_map c.go_in.new.self.shown (λ k. (k.0, k.1, filled_none plain k.0 refl))))))
 
 pub claim-requires : goal.claim-requires
 claim-requires g c =
@@ -19,8 +30,8 @@ claim-requires g c =
           search rules,
           (
             λ e. cc,
-            may_then c.see_slot.ensures (λ k s m. tt) (may_then c.claim_header.ensures (λ k s m. tt) c.go_in.new.self.shown (λ k k' s m d shown. shown))
-                (λ k k' s m d shown. (present_stays k k' _ 1 (goes_did d) (s.pass.role ∙ within) (λ e. cc, tt) m, shown_free 0 0 k' (subst (λ p. ShowsSlot 0 p k') (c.in-Free-eq0.is ∙ ap Free c.in-Free-eq0.serial-test) shown))),
+            may_then c.see_slot.ensures (λ k s m. tt) (may_with c.claim_header.ensures (λ k s m. filled_none plain k refl) c.go_in.new.self.shown (λ k k' s m d shown. shown_published 1 plain c.claim_header.result k k' shown))
+                (λ k k' s m d shown. (present_stays k k' _ 1 (goes_did d) (s.pass.role ∙ within) (λ e. cc, tt) m, shown_free 0 0 k' (subst (λ p. ShowsSlot 0 p k') (c.in-Free-eq0.is ∙ ap Free c.in-Free-eq0.serial-test) shown.0))),
           ),
         ),
       ),
