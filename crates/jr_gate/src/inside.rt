@@ -3,7 +3,8 @@ ghost use Rattle.std.specs.Prelude.{◌≡◌, [], ◌∷◌, IfOk, IfErr};
 ghost use Rattle.jr_word.specs.declared.fault.Fault.TheVariants.{Barred};
 ghost use Rattle.jr_model.specs.declared.event.Role.TheVariants.{Outside, Within};
 ghost use Rattle.jr_model.specs.declared.event.Act.TheVariants.{Enter, Knock, Leave, Withdraw};
-ghost use Rattle.jr_rule.specs.Knowing.{anything, nothing, Took, Acted};
+ghost use Rattle.jr_rule.specs.Knowing.{anything, keeps, lets_go, Took};
+ghost use Rattle.jr_gate.specs.Acting.{ActedTo};
 
 use jr_rule::Steps;
 use jr_word::Fault;
@@ -18,7 +19,7 @@ impl Inside {
     pub fn leave<S: Steps>(self, steps: &mut S)
         requires own { self.thread ≡ (S.stands steps.old).thread }
         requires inside { (S.stands steps.old).role ≡ Within }
-        ensures { Took S.stands S.knows steps.old steps.new (Leave ∷ []) anything nothing }
+        ensures { Took S.stands S.knows steps.old steps.new (Leave ∷ []) anything lets_go }
     {
         let Inside { thread: _ } = self;
         steps.go_out();
@@ -28,8 +29,8 @@ impl Inside {
 /// Enters the gate: E13 only where a thread was collecting at the entry step.
 pub fn enter<S: Steps>(steps: &mut S) -> Result<Inside, Fault>
     requires { (S.stands steps.old).role ≡ Outside }
-    ensures ok { IfOk result (λ i. (i.thread ≡ (S.stands steps.new).thread) × Took S.stands S.knows steps.old steps.new (Enter ∷ []) anything nothing) }
-    ensures err { IfErr result (λ e. (e ≡ Barred) × Acted S.stands S.knows steps.old steps.new (Knock ∷ Withdraw ∷ []) anything) }
+    ensures ok { IfOk result (λ i. (i.thread ≡ (S.stands steps.new).thread) × Took S.stands S.knows steps.old steps.new (Enter ∷ []) anything keeps) }
+    ensures err { IfErr result (λ e. (e ≡ Barred) × ActedTo S.stands S.knows steps.old steps.new (Knock ∷ Withdraw ∷ []) anything lets_go) }
 {
     if steps.go_in() {
         return Ok(Inside {

@@ -3,7 +3,7 @@ ghost use Rattle.std.specs.Prelude.{◌≡◌, ◌≤◌, ℕ, [], ◌∷◌, If
 ghost use Rattle.jr_word.specs.declared.fault.Fault.TheVariants.{Busy};
 ghost use Rattle.jr_model.specs.declared.event.Role.TheVariants.{Outside, Collecting};
 ghost use Rattle.jr_model.specs.declared.event.Act.TheVariants.{Shut as Shuts, ShutBusy, Reopen};
-ghost use Rattle.jr_rule.specs.Knowing.{anything, nothing, IsClosedNow, MayKnow, Took};
+ghost use Rattle.jr_rule.specs.Knowing.{anything, keeps, lets_go, IsClosedNow, MayKnow, Took};
 
 use jr_rule::Steps;
 use jr_word::Fault;
@@ -19,7 +19,7 @@ impl Shut {
         requires own { self.thread ≡ (S.stands steps.old).thread }
         requires collecting { (S.stands steps.old).role ≡ Collecting }
         requires closed { MayKnow S.knows steps.old IsClosedNow }
-        ensures { Took S.stands S.knows steps.old steps.new (Reopen ∷ []) IsClosedNow nothing }
+        ensures { Took S.stands S.knows steps.old steps.new (Reopen ∷ []) IsClosedNow lets_go }
     {
         let Shut { thread: _ } = self;
         steps.unbar();
@@ -29,9 +29,9 @@ impl Shut {
 /// Shuts the gate, at a moment when no present object array names an absent object: E14 with the number of threads inside, knocking or collecting at the one step, which is at least 1.
 pub fn shut_gate<S: Steps>(steps: &mut S) -> Result<Shut, Fault>
     requires { (S.stands steps.old).role ≡ Outside }
-    ensures ok { IfOk result (λ s. (s.thread ≡ (S.stands steps.new).thread) × Took S.stands S.knows steps.old steps.new (Shuts ∷ []) anything (λ _ k. IsClosedNow k)) }
+    ensures ok { IfOk result (λ s. (s.thread ≡ (S.stands steps.new).thread) × Took S.stands S.knows steps.old steps.new (Shuts ∷ []) anything (λ j k. IsClosedNow k × keeps j k)) }
     ensures closed { IfOk result (λ _. MayKnow S.knows steps.new IsClosedNow) }
-    ensures err { IfErr result (λ e. (n : ℕ) × (e ≡ Busy n) × (1 ≤ n) × Took S.stands S.knows steps.old steps.new (ShutBusy n ∷ []) anything nothing) }
+    ensures err { IfErr result (λ e. (n : ℕ) × (e ≡ Busy n) × (1 ≤ n) × Took S.stands S.knows steps.old steps.new (ShutBusy n ∷ []) anything keeps) }
 {
     match steps.bar() {
         Ok(()) => Ok(Shut {

@@ -15,7 +15,7 @@ use Rattle.jr_model.specs.Parts.{delete, delete_found}
 use Rattle.jr_model.proofs.Runs.{ran_act, ran_some_act, ran_refuse, ran_then, did_legal}
 use Rattle.jr_rule.specs.declared.known.Known.{Known}
 use Rattle.jr_rule.specs.Acts.{found_object}
-use Rattle.jr_rule.specs.Knowing.{Standing, view, anything, nothing, HasLooked, MayKnow, Took, Goes}
+use Rattle.jr_rule.specs.Knowing.{Standing, view, anything, keeps, HasLooked, MayKnow, Took, Goes}
 use Rattle.jr_rule.proofs.Goes.{goes_did, looked_now}
 use Rattle.jr_scripts.specs.Performing.{Performed}
 use Rattle.jr_scripts.specs.Reading.{found_answer}
@@ -44,7 +44,7 @@ lost : (p q : PassView) (f : Frames) (h : Handle) (z : Option ℕ) → Did p q (
 lost p q f h (Some o) d = let r = lost_then p q f h d in record { acts = r.acts; did = r.did; is = inr r.is; grounds = tt }
 lost p q f h None d = let r = lost_then p q f h d in record { acts = r.acts; did = r.did; is = inr r.is; grounds = tt }
 
-module _ {S : Type 0} {stands : S → Standing} {knows : S → Known → Type 0} {a b : S} (h : Handle) (r : Found) (t : Took stands knows a b (Look h r ∷ []) anything nothing) where
+module _ {S : Type 0} {stands : S → Standing} {knows : S → Known → Type 0} {a b : S} (h : Handle) (r : Found) (t : Took stands knows a b (Look h r ∷ []) anything keeps) where
   stale_ran : r ≡ found.Stale → (k k' : Known) → Goes k (Look h r ∷ []) k' → (f : Frames) → Ran (view k) (view k') f f (delete h) (Err fault.Stale)
   stale_ran is k k' g f = let d = goes_did (subst (λ x. Goes k (Look h x ∷ []) k') is g) in
       ran_then found.Stale (ran_some_act f (Look h) found.Stale d) (ran_refuse (view k') f fault.Stale tt (did_legal (Look h found.Stale ∷ []) d))
@@ -67,14 +67,14 @@ module _ {S : Type 0} {stands : S → Standing} {knows : S → Known → Type 0}
     pub may_delete : MayKnow knows a anything → MayKnow knows b (HasLooked h (found_object z))
     may_delete some = ∥∥₁_map some (λ k. let g = t.goes k.0 k.1 tt in (g.0, g.1, looked k.0 g.0 g.2))
 
-    pub deleted_won : {c : S} → Took stands knows b c (Delete h ∷ []) (HasLooked h (found_object z)) nothing → (f : Frames) → Performed stands knows a c f f anything (λ s. delete h) (Ok tt) anything
+    pub deleted_won : {c : S} → Took stands knows b c (Delete h ∷ []) (HasLooked h (found_object z)) keeps → (f : Frames) → Performed stands knows a c f f anything (λ s. delete h) (Ok tt) anything
     deleted_won u f = record {
       stands_is = still_before (as_before _ t.stands_is) (as_before _ u.stands_is);
       ran = λ k s m. let g = t.goes k s m in let e = u.goes g.0 g.1 (looked k g.0 g.2) in
           (e.0, e.1, ran_then (found_object z) (ran_some_act f (Look h) (found_object z) (looked_did k g.0 g.2)) (won (view g.0) (view e.0) f h z (goes_did e.2)), tt);
     }
 
-    pub deleted_lost : {c : S} → Took stands knows b c (DeleteStale h ∷ []) (HasLooked h (found_object z)) nothing → (f : Frames) → Performed stands knows a c f f anything (λ s. delete h) (Err fault.Stale) anything
+    pub deleted_lost : {c : S} → Took stands knows b c (DeleteStale h ∷ []) (HasLooked h (found_object z)) keeps → (f : Frames) → Performed stands knows a c f f anything (λ s. delete h) (Err fault.Stale) anything
     deleted_lost u f = record {
       stands_is = still_before (as_before _ t.stands_is) (as_before _ u.stands_is);
       ran = λ k s m. let g = t.goes k s m in let e = u.goes g.0 g.1 (looked k g.0 g.2) in

@@ -13,8 +13,9 @@ use Rattle.jr_model.specs.Frames.{Frames, fresh_frames, object_at}
 use Rattle.jr_model.specs.Calls.{Call, entered}
 use Rattle.jr_model.proofs.Runs.{ran_entered}
 use Rattle.jr_rule.specs.declared.known.Known.{Known}
-use Rattle.jr_rule.specs.Knowing.{Standing, moved, anything, nothing, HasNoLocals, MayKnow, Took, Acted}
+use Rattle.jr_rule.specs.Knowing.{Standing, moved, anything, keeps, lets_go, HasNoLocals, MayKnow, Took}
 use Rattle.jr_rule.proofs.Goes.{goes_did}
+use Rattle.jr_gate.specs.Acting.{ActedTo}
 use Rattle.jr_scripts.specs.Table.{Table}
 use Rattle.jr_scripts.specs.Performing.{Calls, IsAsBefore}
 use Rattle.jr_scripts.specs.Ready.{IsReady, KeepsOwner, Completes}
@@ -63,7 +64,7 @@ module _ {S : Type 0} {stands : S → Standing} {knows : S → Known → Type 0}
     agrees = ∥∥₁_map some (λ k. (k.0, k.1, λ p. fresh k.0 k.1 p ∙ sym (ap (λ (u : Table). object_at u.frames p) is)));
   }
 
-  pub ready_entered : {a b : S} {t : Table} → IsReady stands knows Outside a t → Took stands knows a b (Enter ∷ []) anything nothing → IsReady stands knows Within b t
+  pub ready_entered : {a b : S} {t : Table} → IsReady stands knows Outside a t → Took stands knows a b (Enter ∷ []) anything keeps → IsReady stands knows Within b t
   ready_entered {t} r e = record {
     role_is = ap (λ (s : Standing). s.role) e.stands_is;
     owner = r.owner ∙ sym (ap (λ (s : Standing). s.thread) e.stands_is);
@@ -73,15 +74,15 @@ module _ {S : Type 0} {stands : S → Standing} {knows : S → Known → Type 0}
   }
 
   module _ {A : Type 0} (work : Config → ℕ → ℕ → Call A) where
-    calls_barred : {a b : S} (f : Frames) → (stands a).role ≡ Outside → Acted stands knows a b (Knock ∷ Withdraw ∷ []) anything → Calls stands knows a b f f (entered (work (stands a).config (stands a).last (stands a).thread)) (Err Barred)
+    calls_barred : {a b : S} (f : Frames) → (stands a).role ≡ Outside → ActedTo stands knows a b (Knock ∷ Withdraw ∷ []) anything lets_go → Calls stands knows a b f f (entered (work (stands a).config (stands a).last (stands a).thread)) (Err Barred)
     calls_barred {a} f out t = record {
       stands_is = as_before _ (t.stands_is ∙ ap (with_role (stands a)) (sym out));
       ran = λ k s m. let g = t.did k s tt in
           (g.0, g.1, record { acts = Knock ∷ Withdraw ∷ []; did = g.2; is = inl (refl, refl, refl); grounds = tt }, holds_did k g.0 f (Knock ∷ Withdraw ∷ []) g.2 (refl, (refl, tt)) m);
     }
 
-    calls_entered : {a b c d : S} {f g : Frames} {answer : Result A Fault} → (stands a).role ≡ Outside → Took stands knows a b (Enter ∷ []) anything nothing
-        → Calls stands knows b c f g (work (stands b).config (stands b).last (stands b).thread) answer → Took stands knows c d (Leave ∷ []) anything nothing
+    calls_entered : {a b c d : S} {f g : Frames} {answer : Result A Fault} → (stands a).role ≡ Outside → Took stands knows a b (Enter ∷ []) anything keeps
+        → Calls stands knows b c f g (work (stands b).config (stands b).last (stands b).thread) answer → Took stands knows c d (Leave ∷ []) anything lets_go
         → Calls stands knows a d f g (entered (work (stands a).config (stands a).last (stands a).thread)) answer
     calls_entered {a} {b} {c} {f} {g} {answer} out e p u =
         let q = subst (λ (s : Standing). Calls stands knows b c f g (work s.config s.last s.thread) answer) e.stands_is p in
@@ -95,14 +96,14 @@ module _ {S : Type 0} {stands : S → Standing} {knows : S → Known → Type 0}
         }
 
     -- an entry that found the gate shut
-    pub completes_barred : {a b : S} {t : Table} {e : Fault} → IsReady stands knows Outside a t → (answer : Result A Fault) → IsErrAnd answer (λ y. y ≡ e) → (e ≡ Barred) × Acted stands knows a b (Knock ∷ Withdraw ∷ []) anything
+    pub completes_barred : {a b : S} {t : Table} {e : Fault} → IsReady stands knows Outside a t → (answer : Result A Fault) → IsErrAnd answer (λ y. y ≡ e) → (e ≡ Barred) × ActedTo stands knows a b (Knock ∷ Withdraw ∷ []) anything lets_go
         → Completes stands knows a b t t (entered (work (stands a).config (stands a).last (stands a).thread)) answer
     completes_barred {t} r answer given why =
         let p = handed_on answer (subst (λ y. IsErrAnd answer (λ z. z ≡ y)) why.0 given) (calls_barred t.frames r.role_is why.1) in
         record { call = p; ready = ready_after r (same_owner t) p }
 
     -- work between an entry and its exit
-    pub completes_entered : {a b c d : S} {t u : Table} {answer : Result A Fault} → IsReady stands knows Outside a t → Took stands knows a b (Enter ∷ []) anything nothing
-        → Calls stands knows b c t.frames u.frames (work (stands b).config (stands b).last (stands b).thread) answer → KeepsOwner t u → Took stands knows c d (Leave ∷ []) anything nothing
+    pub completes_entered : {a b c d : S} {t u : Table} {answer : Result A Fault} → IsReady stands knows Outside a t → Took stands knows a b (Enter ∷ []) anything keeps
+        → Calls stands knows b c t.frames u.frames (work (stands b).config (stands b).last (stands b).thread) answer → KeepsOwner t u → Took stands knows c d (Leave ∷ []) anything lets_go
         → Completes stands knows a d t u (entered (work (stands a).config (stands a).last (stands a).thread)) answer
     completes_entered r e p o l = let q = calls_entered r.role_is e p l in record { call = q; ready = ready_after r o q }

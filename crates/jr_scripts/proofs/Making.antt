@@ -21,7 +21,7 @@ use Rattle.jr_model.proofs.Counts.{count_none}
 use Rattle.jr_model.proofs.Moments.{sometime_last, one_act}
 use Rattle.jr_model.proofs.Runs.{ran_then, ran_err}
 use Rattle.jr_rule.specs.declared.known.Known.{Known}
-use Rattle.jr_rule.specs.Knowing.{Standing, IsOf, view, anything, nothing, HasOptional, MayKnow, Took}
+use Rattle.jr_rule.specs.Knowing.{Standing, IsOf, view, anything, keeps, HasOptional, MayKnow, Took}
 use Rattle.jr_rule.proofs.Goes.{goes_did}
 use Rattle.jr_scripts.specs.Works.{making}
 use Rattle.jr_scripts.specs.Table.{Table, IsNext, IsOnly}
@@ -89,7 +89,7 @@ module _ {S : Type 0} {stands : S → Standing} {knows : S → Known → Type 0}
           (x.0, x.1, full_ran (stands a).config (stands a).last (stands a).thread t.frames (room_at h r next) full x.3, holds_did k x.0 t.frames [] x.3 tt m);
     })
 
-    pub makes : {c : S} {o : ℕ} {g : Frames} → Published stands knows a b Plain (Some o) → Took stands knows b c (LocalPut h.index o ∷ []) (HasOptional (Some o)) nothing
+    pub makes : {c : S} {o : ℕ} {g : Frames} → Published stands knows a b Plain (Some o) → Took stands knows b c (LocalPut h.index o ∷ []) (HasOptional (Some o)) keeps
         → IsAdded t.last t.thread t.frames (record { handle = h; object = o }) g → IsOnly t.frames h.index (Some o) g
         → Calls stands knows a c t.frames g (making (stands a).config (stands a).last (stands a).thread) (Ok h)
     makes {o = o} {g = g} p u added only = record {

@@ -13,7 +13,7 @@ use Rattle.jr_model.specs.Calls.{Call, Ran, ◌>>=◌}
 use Rattle.jr_model.specs.References.{added, new_local, room_for}
 use Rattle.jr_model.proofs.Runs.{ran_then, ran_give}
 use Rattle.jr_rule.specs.declared.known.Known.{Known}
-use Rattle.jr_rule.specs.Knowing.{Standing, IsOf, nothing, HasObject, HasOptional, Holds, MayKnow, Took}
+use Rattle.jr_rule.specs.Knowing.{Standing, IsOf, keeps, HasObject, HasOptional, Holds, MayKnow, Took}
 use Rattle.jr_rule.proofs.InRoom.{in_room}
 use Rattle.jr_rule.proofs.Goes.{goes_did}
 use Rattle.jr_scripts.specs.Table.{Table, IsNext, IsOnly}
@@ -65,7 +65,7 @@ module _ {S : Type 0} {stands : S → Standing} {knows : S → Known → Type 0}
         ran = λ k v m. (k, v, full_ran s.config s.last s.thread _ none_here (fits a k v).legal, m.0);
       })
 
-  pub makes_local : {a b : S} {t : Table} {g : Frames} {z : Option ℕ} {o : ℕ} {h : Handle} → z ≡ Some o → IsReady stands knows Within a t → IsNext t h → Took stands knows a b (LocalPut h.index o ∷ []) (HasOptional (Some o)) nothing
+  pub makes_local : {a b : S} {t : Table} {g : Frames} {z : Option ℕ} {o : ℕ} {h : Handle} → z ≡ Some o → IsReady stands knows Within a t → IsNext t h → Took stands knows a b (LocalPut h.index o ∷ []) (HasOptional (Some o)) keeps
       → IsAdded t.last t.thread t.frames (record { handle = h; object = o }) g → IsOnly t.frames h.index (Some o) g
       → MakesLocal stands knows a b t.frames g z (new_local (stands a).config (stands a).last (stands a).thread z) (Ok (Some h))
   makes_local {a} {b} {t} {g} {z} {o} {h} is r next u added_is only =

@@ -1,12 +1,15 @@
 -- Objects are published at the first number that is absent.
-use Rattle.std.proofs.Common.{◌≡◌, ◌≤◌, ◌+◌, ◌⊎◌, ⊎_elim, ℕ, Some, [], ◌∷◌, refl, ap, subst, ◌∙◌, arith}
+use Rattle.std.proofs.Common.{◌≡◌, ◌≤◌, ◌+◌, ◌⊎◌, ⊎_elim, ℕ, Bool, true, false, Some, [], ◌∷◌, refl, ap, subst, ◌∙◌, arith}
+use Rattle.std.proofs.Math.Logic.{∥∥₁_map}
+use Rattle.jr_word.specs.declared.header.HeaderParts.{HeaderParts}
 use Rattle.jr_word.specs.declared.kind.Kind.{Kind}
 use Rattle.jr_model.specs.declared.event.Role.TheVariants.{Within}
 use Rattle.jr_model.specs.declared.event.Act.TheVariants.{New}
 use Rattle.jr_model.specs.History.{Did}
 use Rattle.jr_model.proofs.Stays.{did_then, did_nothing}
 use Rattle.jr_rule.specs.declared.known.Known.{Known}
-use Rattle.jr_rule.specs.Knowing.{Standing, IsOf, view, anything, HasObject, Took}
+use Rattle.jr_rule.specs.Acts.{publishing}
+use Rattle.jr_rule.specs.Knowing.{Standing, IsOf, view, anything, HasObject, IsFilled, words_for, ShowsPublished, MayKnow, TookWith}
 use Rattle.jr_rule.proofs.Goes.{goes_did, present_stays}
 use Rattle.jr_scripts.specs.Performing.{Published}
 
@@ -16,33 +19,48 @@ module _ {S : Type 0} (stands : S → Standing) (knows : S → Known → Type 0)
     pub stands_is : stands new ≡ stands old
     pub did : (k : Known) → knows old k → (k' : Known) × knows new k' × ((o : ℕ) → 1 ≤ o → o ≤ n → HasObject o k') × Did (view k) (view k') []
 
+-- the header of an object without elements
+abbrev bare : Kind → HeaderParts
+bare kind = record { kind = kind; length = 0; place = 0 }
+
+no_words : (kind : Kind) (k : Known) → IsFilled (bare kind) k
+no_words kind k = record { long = refl; words = λ i v e. cc }
+
 last_or : (o n : ℕ) → o ≤ n + 1 → (o ≤ n) ⊎ (n + 1 ≡ o)
 last_or o n l = grind arith
 
 module _ {S : Type 0} {stands : S → Standing} {knows : S → Known → Type 0} (fits : (s : S) (k : Known) → knows s k → IsOf (stands s) k) where
+  -- what the exchange of a header without elements did
+  abbrev Claimed : S → S → ℕ → Kind → Bool → Type 0
+  Claimed b c o kind new = TookWith stands knows b c (λ k. publishing o kind (words_for (bare kind) k) new) (IsFilled (bare kind)) (ShowsPublished o (bare kind) new)
+
+  -- a header without elements can be given at any time
+  pub may_claim : (a : S) (kind : Kind) → MayKnow knows a anything → MayKnow knows a (IsFilled (bare kind))
+  may_claim a kind some = ∥∥₁_map some (λ k. (k.0, k.1, no_words kind k.0))
+
   pub passed_nothing : (a : S) → Passed stands knows a a 0
   passed_nothing a = record { stands_is = refl; did = λ k s. (k, s, λ o l m. absurd (omega arith), did_nothing (view k) (fits a k s).legal) }
 
-  pub passed_more : {a b c : S} (n : ℕ) → (stands a).role ≡ Within → Passed stands knows a b n → Took stands knows b c [] anything (λ _ k. HasObject (n + 1) k) → Passed stands knows a c (n + 1)
-  passed_more {a} {b} n w p t = record {
+  pub passed_more : {a b c : S} (kind : Kind) (n : ℕ) → (stands a).role ≡ Within → Passed stands knows a b n → Claimed b c (n + 1) kind false → Passed stands knows a c (n + 1)
+  passed_more {a} {b} kind n w p t = record {
     stands_is = t.stands_is ∙ p.stands_is;
     did = λ k s.
         let x = p.did k s in
-        let y = t.goes x.0 x.1 tt in
+        let y = t.goes x.0 x.1 (no_words kind x.0) in
         let d = goes_did y.2 in
         let within = (fits b x.0 x.1).role ∙ (ap (λ (z : Standing). z.role) p.stands_is ∙ w) in (
           y.0,
           y.1,
-          λ o l m. ⊎_elim (λ e. present_stays x.0 y.0 [] o d within tt (x.2 o l e)) (λ e. subst (λ z. HasObject z y.0) e y.3) (last_or o n m),
+          λ o l m. ⊎_elim (λ e. present_stays x.0 y.0 [] o d within tt (x.2 o l e)) (λ e. subst (λ z. HasObject z y.0) e y.3.0) (last_or o n m),
           did_then [] [] x.3 d,
         );
   }
 
-  pub published_new : {a b c : S} {n : ℕ} {kind : Kind} → Passed stands knows a b n → Took stands knows b c (New (n + 1) kind [] ∷ []) anything (λ _ k. HasObject (n + 1) k) → Published stands knows a c kind (Some (n + 1))
+  pub published_new : {a b c : S} {n : ℕ} {kind : Kind} → Passed stands knows a b n → Claimed b c (n + 1) kind true → Published stands knows a c kind (Some (n + 1))
   published_new {n} {kind} p t = record {
     stands_is = t.stands_is ∙ p.stands_is;
     did = λ k s.
         let x = p.did k s in
-        let y = t.goes x.0 x.1 tt in
-        (y.0, y.1, y.3, did_then [] (New (n + 1) kind [] ∷ []) x.3 (goes_did y.2));
+        let y = t.goes x.0 x.1 (no_words kind x.0) in
+        (y.0, y.1, y.3.0, did_then [] (New (n + 1) kind [] ∷ []) x.3 (goes_did y.2));
   }

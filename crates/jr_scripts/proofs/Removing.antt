@@ -18,7 +18,7 @@ use Rattle.jr_model.specs.Parts.{delete, delete_found, drop_local, looked_at}
 use Rattle.jr_model.proofs.Agreement.{spares_places}
 use Rattle.jr_model.proofs.Runs.{ran_done, ran_then, ran_err}
 use Rattle.jr_rule.specs.declared.known.Known.{Known}
-use Rattle.jr_rule.specs.Knowing.{Standing, IsOf, view, anything, nothing, HasOptional, Took}
+use Rattle.jr_rule.specs.Knowing.{Standing, IsOf, view, anything, keeps, HasOptional, Took}
 use Rattle.jr_rule.proofs.Goes.{goes_did}
 use Rattle.jr_scripts.specs.Works.{removal, local_removal}
 use Rattle.jr_scripts.specs.Table.{IsOnly}
@@ -84,7 +84,7 @@ module _ {S : Type 0} {stands : S → Standing} {knows : S → Known → Type 0}
 
   -- the local reference of a handle that stands
   pub removes_local : {a b : S} {f g : Frames} (fits : (s : S) (k : Known) → knows s k → IsOf (stands s) k) (c : Config) (t : ℕ) (h : Handle) (o : ℕ) → is_local h ≡ true → is_out_of_bounds c (Parts h) ≡ false → is_foreign t (Parts h) ≡ false → Some o ≡ object_of f h
-      → Took stands knows a b (LocalDrop h.index ∷ []) (HasOptional None) nothing → g ≡ deleted f h → IsOnly f h.index None g → Calls stands knows a b f g (local_removal c t (Parts h)) (Ok tt)
+      → Took stands knows a b (LocalDrop h.index ∷ []) (HasOptional None) keeps → g ≡ deleted f h → IsOnly f h.index None g → Calls stands knows a b f g (local_removal c t (Parts h)) (Ok tt)
   removes_local {a} {f = f} {g = g} fits c t h o e e' e'' is u gone only = record {
     stands_is = as_before _ u.stands_is;
     ran = λ k s m.

@@ -14,7 +14,7 @@ use Rattle.jr_model.specs.Tests.{Word, Parts, is_local, is_malformed, is_out_of_
 use Rattle.jr_model.specs.Parts.{looked, looked_at, type_at}
 use Rattle.jr_model.specs.References.{resolved}
 use Rattle.jr_rule.specs.declared.known.Known.{Known}
-use Rattle.jr_rule.specs.Knowing.{Standing, IsOf, view, anything, nothing, Holds, Goes, Took}
+use Rattle.jr_rule.specs.Knowing.{Standing, IsOf, view, anything, keeps, Holds, Goes, Took}
 use Rattle.jr_rule.proofs.Goes.{goes_did, looked_present}
 use Rattle.jr_scripts.specs.Performing.{FoundPresent, Resolves, Calls}
 use Rattle.jr_scripts.specs.Reading.{found_answer, local_answer}
@@ -32,14 +32,14 @@ found_there f h None at k l m = tt
 found_there f h (Some o) at k l m = local_present k f h.index o l m at
 
 module _ {S : Type 0} {stands : S → Standing} {knows : S → Known → Type 0} where
-  pub resolves_remote : {a b : S} (f : Frames) (h : Handle) (r : Found) → is_local h ≡ false → Took stands knows a b (Look h r ∷ []) anything nothing → Resolves stands knows a b f (looked_at h) (found_answer r)
+  pub resolves_remote : {a b : S} (f : Frames) (h : Handle) (r : Found) → is_local h ≡ false → Took stands knows a b (Look h r ∷ []) anything keeps → Resolves stands knows a b f (looked_at h) (found_answer r)
   resolves_remote f h r b t = record {
     stands_is = as_before _ t.stands_is;
     ran = λ k s m. let g = t.goes k s tt in let d = goes_did g.2 in
         (g.0, g.1, ran_remote f h r b d, (holds_did k g.0 f (Look h r ∷ []) d (refl, tt) m, remote_present k g.0 h r g.2));
   }
 
-  pub types_remote : {a b : S} (f : Frames) (h : Handle) (r : Found) → is_local h ≡ false → Took stands knows a b (Look h r ∷ []) anything nothing → Calls stands knows a b f f (type_at (Parts h)) (Ok (type_found h.kind r))
+  pub types_remote : {a b : S} (f : Frames) (h : Handle) (r : Found) → is_local h ≡ false → Took stands knows a b (Look h r ∷ []) anything keeps → Calls stands knows a b f f (type_at (Parts h)) (Ok (type_found h.kind r))
   types_remote f h r b t = record {
     stands_is = as_before _ t.stands_is;
     ran = λ k s m. let g = t.goes k s tt in let d = goes_did g.2 in

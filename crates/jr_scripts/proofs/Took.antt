@@ -14,7 +14,7 @@ use Rattle.jr_model.proofs.Moments.{prefix_self, sometime_wider, probed_occupied
 use Rattle.jr_model.proofs.Stays.{did_then}
 use Rattle.jr_rule.specs.declared.known.Known.{Known}
 use Rattle.jr_rule.specs.Acts.{handle_of, is_occupied}
-use Rattle.jr_rule.specs.Knowing.{Standing, IsOf, view, anything, HasObject, IsFreeSlot, ShowsSlot, LostClaim, Took}
+use Rattle.jr_rule.specs.Knowing.{Standing, IsOf, view, anything, HasObject, IsFreeSlot, ShowsSlot, LostClaim, Took, keeps}
 use Rattle.jr_rule.proofs.Goes.{goes_did, present_stays, shown_free}
 use Rattle.jr_scripts.specs.Performing.{Searched, search_acts, EachOccupied}
 
@@ -71,16 +71,16 @@ module _ {S : Type 0} {stands : S → Standing} {knows : S → Known → Type 0}
       pub took : Did (view mid) (view new) (y ∷ [])
       pub shown : shows mid new
 
-    exchanged : {a b c : S} {x y : Act} {shows : Known → Known → Type 0} (i n o : ℕ) → Took stands knows a b (x ∷ []) anything (λ _ k. ShowsSlot i (slot.Free n) k) → Took stands knows b c (y ∷ []) (λ k. HasObject o k × IsFreeSlot i n k) shows
+    exchanged : {a b c : S} {x y : Act} {shows : Known → Known → Type 0} (i n o : ℕ) → Took stands knows a b (x ∷ []) anything (λ j k. ShowsSlot i (slot.Free n) k × keeps j k) → Took stands knows b c (y ∷ []) (λ k. HasObject o k × IsFreeSlot i n k) shows
         → (stands a).role ≡ Within → x ≢ Leave → y ≢ Leave → role_after Within x ≡ Within → (k : Known) → knows a k → HasObject o k → Exchanged c shows o x y k
     exchanged {x} i n o t u w ne ne' still k s p =
         let m = took_present t w ne o k s tt p in
-        let e = took_present u (ap (λ (z : Standing). z.role) t.stands_is ∙ (ap (λ r. role_after r x) w ∙ still)) ne' o m.0 m.1 (m.2, shown_free i n m.0 m.4) m.2 in
+        let e = took_present u (ap (λ (z : Standing). z.role) t.stands_is ∙ (ap (λ r. role_after r x) w ∙ still)) ne' o m.0 m.1 (m.2, shown_free i n m.0 m.4.0) m.2 in
         record { mid = m.0; new = e.0; known = e.1; present = e.2; looked = m.3; took = e.3; shown = e.4 }
 
     -- an index that was found free, and lost to another thread
-    pub searched_lost : {a b c : S} (i n : ℕ) (kind : RefKind) (o : ℕ) (found : SlotParts) → Took stands knows a b (Probe i false ∷ []) anything (λ _ k. ShowsSlot i (slot.Free n) k)
-        → Took stands knows b c (Probe i (is_occupied found) ∷ []) (λ k. HasObject o k × IsFreeSlot i n k) (LostClaim i (Err found)) → (stands a).role ≡ Within → Searched stands knows a c kind o i (i + 1) None
+    pub searched_lost : {a b c : S} (i n : ℕ) (kind : RefKind) (o : ℕ) (found : SlotParts) → Took stands knows a b (Probe i false ∷ []) anything (λ j k. ShowsSlot i (slot.Free n) k × keeps j k)
+        → Took stands knows b c (Probe i (is_occupied found) ∷ []) (λ k. HasObject o k × IsFreeSlot i n k) (λ j k. LostClaim i (Err found) j k × keeps j k) → (stands a).role ≡ Within → Searched stands knows a c kind o i (i + 1) None
     searched_lost i n kind o found t u w = record {
       stands_is = u.stands_is ∙ t.stands_is;
       kind_is = tt;
@@ -90,14 +90,14 @@ module _ {S : Type 0} {stands : S → Standing} {knows : S → Known → Type 0}
             z.known,
             z.present,
             only_one (λ j. Sometime (λ y. IsOccupied k.last y j) k.seen z.new.seen) i
-                (occupied_between (view k) (view z.mid) (view z.new) (Probe i false ∷ []) (Probe i (is_occupied found) ∷ []) z.looked z.took i (inr z.shown.0)),
+                (occupied_between (view k) (view z.mid) (view z.new) (Probe i false ∷ []) (Probe i (is_occupied found) ∷ []) z.looked z.took i (inr z.shown.0.0)),
             (i, false) ∷ (i, is_occupied found) ∷ [],
             did_then {new = view z.new} (Probe i false ∷ []) (Probe i (is_occupied found) ∷ []) z.looked z.took,
           );
     }
 
     -- an index that was found free, and won
-    pub searched_won : {a b c : S} (i n : ℕ) (kind : RefKind) (o : ℕ) {shows : Known → Known → Type 0} → Took stands knows a b (Probe i false ∷ []) anything (λ _ k. ShowsSlot i (slot.Free n) k)
+    pub searched_won : {a b c : S} (i n : ℕ) (kind : RefKind) (o : ℕ) {shows : Known → Known → Type 0} → Took stands knows a b (Probe i false ∷ []) anything (λ j k. ShowsSlot i (slot.Free n) k × keeps j k)
         → Took stands knows b c (Create (handle_of kind n i) o ∷ []) (λ k. HasObject o k × IsFreeSlot i n k) shows → (stands a).role ≡ Within → Searched stands knows a c kind o i (i + 1) (Some (handle_of kind n i))
     searched_won i n kind o t u w = record {
       stands_is = u.stands_is ∙ t.stands_is;

@@ -8,7 +8,7 @@ ghost use Rattle.jr_model.specs.declared.event.Found.TheVariants.{Stale};
 ghost use Rattle.jr_model.specs.Frames.{Frames};
 ghost use Rattle.jr_model.specs.Parts.{delete as deletion};
 ghost use Rattle.jr_rule.specs.Acts.{reply, is_its, found_object};
-ghost use Rattle.jr_rule.specs.Knowing.{anything, nothing, HasObject, MayKnow, Took};
+ghost use Rattle.jr_rule.specs.Knowing.{anything, keeps, HasObject, MayKnow, Took};
 ghost use Rattle.jr_scripts.specs.Reading.{found_answer};
 ghost use Rattle.jr_scripts.specs.Performing.{Searched, Performed};
 
@@ -21,7 +21,7 @@ pub fn look<S: Steps>(steps: &mut S, handle: HandleParts) -> Found
     requires role { (S.stands steps.old).role ≡ Within }
     requires row { handle.index < (S.stands steps.old).config.slots }
     requires kind { (handle.kind ≢ Local) × (handle.owner ≡ 0) }
-    ensures { Took S.stands S.knows steps.old steps.new (Look handle result ∷ []) anything nothing }
+    ensures { Took S.stands S.knows steps.old steps.new (Look handle result ∷ []) anything keeps }
 {
     let word = steps.see_slot(handle.index, SlotNaming::Look(handle));
     found(handle, word)

@@ -1,10 +1,6 @@
-use Rattle.std.proofs.Common.{ap, subst, refl, [], ◌∷◌}
-use Rattle.jr_model.specs.declared.event.Role.{Role}
-use Rattle.jr_rule.specs.Acts.{leaving}
-use Rattle.jr_rule.specs.Knowing.{Standing, Took, anything, nothing}
-use Rattle.jr_rule.proofs.Goes.{took_acted, acted_more}
+use Rattle.std.proofs.Common.{refl}
+use Rattle.jr_gate.proofs.Withdrawing.{withdrawn}
 use Rattle.jr_gate.proofs.inside.enter.Goals as goal
 
 pub returns-clause-err : goal.returns-clause-err
-returns-clause-err g c = let T = g.S.Steps in let t = c.if-go_in.ensures in
-    (refl, acted_more (took_acted t) (took_acted (subst (λ (r : Role). Took T.stands T.knows c.go_in.new.self c.go_out.new.self (leaving r ∷ []) anything nothing) (ap (λ (s : Standing). s.role) t.stands_is) c.go_out.ensures)))
+returns-clause-err g c = (refl, withdrawn c.if-go_in.ensures c.go_out.ensures)

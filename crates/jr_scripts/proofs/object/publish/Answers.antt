@@ -1,11 +1,14 @@
-use Rattle.jr_scripts.proofs.Publishing.{passed_nothing, passed_more, published_new}
+use Rattle.jr_scripts.proofs.Publishing.{may_claim, passed_nothing, passed_more, published_new}
 use Rattle.jr_scripts.proofs.object.publish.Goals as goal
 
 pub loop-object-init : goal.loop-object-init
 loop-object-init g c = passed_nothing g.met.S.Steps.fits c.args.steps.now
 
+pub claim_header-requires-clause-filled : goal.claim_header-requires-clause-filled
+claim_header-requires-clause-filled g c = may_claim g.met.S.Steps.fits c.loop-object.steps c.args.kind (g.met.S.Steps.some_known c.loop-object.steps)
+
 pub returns-then-claim_header-clause-ok : goal.returns-then-claim_header-clause-ok
 returns-then-claim_header-clause-ok g c = published_new g.met.S.Steps.fits c.loop-object.invariant c.if-claim_header.ensures
 
 pub loop-object-preserved : goal.loop-object-preserved
-loop-object-preserved g c = passed_more g.met.S.Steps.fits c.loop-object.object c.requires c.loop-object.invariant c.if-claim_header.ensures
+loop-object-preserved g c = passed_more g.met.S.Steps.fits c.args.kind c.loop-object.object c.requires c.loop-object.invariant c.if-claim_header.ensures

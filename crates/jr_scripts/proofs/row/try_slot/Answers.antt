@@ -8,7 +8,7 @@ returns-in_default g c = searched_seen g.met.S.Steps.fits c.args.index c.see_slo
 
 pub claim-requires-clause-looked : goal.claim-requires-clause-looked
 claim-requires-clause-looked g c =
-    ∥∥₁_map c.requires.object (λ k. let r = took_present g.met.S.Steps.fits c.in-Free.ensures c.requires.role (λ e. cc) c.args.object k.0 k.1 tt k.2 in (r.0, r.1, (r.2, shown_free c.args.index c.in-Free.serial r.0 r.4)))
+    ∥∥₁_map c.requires.object (λ k. let r = took_present g.met.S.Steps.fits c.in-Free.ensures c.requires.role (λ e. cc) c.args.object k.0 k.1 tt k.2 in (r.0, r.1, (r.2, shown_free c.args.index c.in-Free.serial r.0 r.4.0)))
 
 pub returns-in-Ok : goal.returns-in-Ok
 returns-in-Ok g c = searched_won g.met.S.Steps.fits c.args.index c.in-Free.serial c.args.kind c.args.object c.in-Free.ensures c.in-Ok.ensures c.requires.role
