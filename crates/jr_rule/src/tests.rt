@@ -47,7 +47,8 @@ fn open_gate(count: u16) -> GateParts {
 
 /// A room, and the passes of threads 0, 1 and 2.
 fn opened(alloc: Global) -> Result<(Room<2>, Pass, Pass, Pass), Fail>
-    ensures { IfOk result (λ r. IsOpened r.0.row r.1 × IsOpened r.0.row r.2 × IsOpened r.0.row r.3) }
+    ensures passes { IfOk result (λ r. IsOpened r.0.row r.1 × IsOpened r.0.row r.2 × IsOpened r.0.row r.3) }
+    ensures sizes { IfOk result (λ r. (r.0.row.config.slots ≡ 2) × (r.0.row.config.objects ≡ 2)) }
 {
     let (room, mut passes) = Room::<2>::open(alloc, SMALL)?;
     let (Some(third), Some(second), Some(first)) = (passes.pop(), passes.pop(), passes.pop()) else {
@@ -185,5 +186,96 @@ fn a_room_is_handed_back_while_a_thread_is_inside(rt: HostRuntime) -> Result<(),
     room.row.go_out(&mut first);
     room.row.go_out(&mut second);
     assert_eq!(rt; room.close(first).ok(), Some(NOTHING));
+    Ok(())
+}
+
+/// Both threads see slot 0 free: one claims it, and the other finds what stands there. Both look the handle up, and only one of them frees it.
+#[test]
+fn a_slot_is_claimed_by_one_and_freed_by_one(rt: HostRuntime) -> Result<(), Fail> {
+    let (room, first, second, third) = opened(rt.alloc())?;
+    let mut first = RoomSteps::new(&room, first);
+    let mut second = RoomSteps::new(&room, second);
+    assert!(rt; first.go_in());
+    assert!(rt; second.go_in());
+    assert!(rt; first.claim_header(1, PLAIN));
+    assert!(rt; !second.claim_header(1, PLAIN));
+    let SlotParts::Free { serial: 0 } = first.see_slot(0, SlotNaming::Probe) else {
+        return Err("the slot is not free")?;
+    };
+    let SlotParts::Free { serial: 0 } = second.see_slot(0, SlotNaming::Probe) else {
+        return Err("the slot is not free")?;
+    };
+    let stands = SlotParts::Global {
+        serial: 0,
+        object: 1,
+    };
+    assert_eq!(rt; first.claim(0, 0, RefKind::Global, 1), Ok(()));
+    assert_eq!(rt; second.claim(0, 0, RefKind::Global, 1), Err(stands));
+    let SlotParts::Global {
+        serial: 0,
+        object: 1,
+    } = first.see_slot(0, SlotNaming::Look(FIRST))
+    else {
+        return Err("no reference stands in the slot")?;
+    };
+    let SlotParts::Global {
+        serial: 0,
+        object: 1,
+    } = second.see_slot(0, SlotNaming::Look(FIRST))
+    else {
+        return Err("no reference stands in the slot")?;
+    };
+    assert!(rt; second.free(FIRST, Some(1)));
+    assert!(rt; !first.free(FIRST, Some(1)));
+    let free = SlotParts::Free { serial: 1 };
+    assert_eq!(rt; first.see_slot(0, SlotNaming::Meet), free);
+    assert_eq!(rt; second.see_slot(0, SlotNaming::Look(FIRST)), free);
+    assert_eq!(rt;
+        first.see_slot(1, SlotNaming::Probe),
+        SlotParts::Free { serial: 0 }
+    );
+    first.go_out();
+    second.go_out();
+    let (_first, _second) = (first.into_pass(), second.into_pass());
+    let summary = Summary { live: 1, ..NOTHING };
+    assert_eq!(rt; room.close(third).ok(), Some(summary));
+    Ok(())
+}
+
+/// In one stay makes object 1, where it is not present yet, and claims a slot for the slot's first reference to it.
+fn refer<S: Steps>(steps: &mut S, index: u16, kind: RefKind) -> Result<(), Fail> {
+    let config = steps.config();
+    if u32::from(index) >= config.slots || config.objects == 0 || kind == RefKind::Local {
+        return Err("there is no such slot")?;
+    }
+    if steps.role() != Role::Outside || !steps.go_in() {
+        return Err("the thread does not come in")?;
+    }
+    steps.claim_header(1, PLAIN);
+    let SlotParts::Free { serial: 0 } = steps.see_slot(index, SlotNaming::Probe) else {
+        return Err("the slot is not free")?;
+    };
+    let Ok(()) = steps.claim(index, 0, kind, 1) else {
+        return Err("the slot was taken")?;
+    };
+    steps.go_out();
+    Ok(())
+}
+
+#[test]
+fn a_room_that_closes_counts_what_stands(rt: HostRuntime) -> Result<(), Fail> {
+    let (room, first, second, third) = opened(rt.alloc())?;
+    let mut first = RoomSteps::new(&room, first);
+    refer(&mut first, 0, RefKind::Global)?;
+    let mut second = RoomSteps::new(&room, second);
+    refer(&mut second, 1, RefKind::Weak)?;
+    let (_first, _second) = (first.into_pass(), second.into_pass());
+    let summary = Summary {
+        globals: 1,
+        weaks: 1,
+        live: 1,
+        used: 0,
+    };
+    assert_eq!(rt; room.close(third).ok(), Some(summary));
     Ok(())
 }
