@@ -48,7 +48,7 @@ fn open_gate(count: u16) -> GateParts {
 /// A room, and the passes of threads 0, 1 and 2.
 fn opened(alloc: Global) -> Result<(Room<2>, Pass, Pass, Pass), Fail>
     ensures passes { IfOk result (λ r. IsOpened r.0.row r.1 × IsOpened r.0.row r.2 × IsOpened r.0.row r.3) }
-    ensures sizes { IfOk result (λ r. (r.0.row.config.slots ≡ 2) × (r.0.row.config.objects ≡ 2)) }
+    ensures sizes { IfOk result (λ r. (r.0.row.config.slots ≡ 2) × (r.0.row.config.objects ≡ 2) × (r.0.row.config.locals ≡ 16)) }
 {
     let (room, mut passes) = Room::<2>::open(alloc, SMALL)?;
     let (Some(third), Some(second), Some(first)) = (passes.pop(), passes.pop(), passes.pop()) else {
@@ -107,13 +107,13 @@ fn passes_share_one_gate(rt: HostRuntime) -> Result<(), Fail> {
     assert_eq!(rt; second.see_gate(GateNaming::Meet), open_gate(1));
     assert!(rt; second.go_in());
     assert_eq!(rt; first.see_gate(GateNaming::Meet), open_gate(2));
+    assert!(rt; first.fresh() && second.fresh());
+    first.put_local(15, None);
+    assert!(rt; !first.fresh() && second.fresh());
     second.go_out();
     first.go_out();
     assert_eq!(rt; second.see_gate(GateNaming::Meet), open_gate(0));
-    assert!(rt; first.fresh());
-    assert!(rt; second.fresh());
     second.spend();
-    assert!(rt; first.fresh());
     assert!(rt; !second.fresh());
     let (_first, _second) = (first.into_pass(), second.into_pass());
     assert_eq!(rt; room.close(third).ok(), Some(NOTHING));
