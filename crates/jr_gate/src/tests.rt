@@ -5,7 +5,7 @@ ghost use Rattle.jr_rule.specs.Passes.{IsOpened};
 
 use crate::*;
 use jr_model::{Role, Summary};
-use jr_rule::{GateNaming, Pass, Room, RoomSteps, Steps};
+use jr_rule::{GateNaming, Left, Pass, Room, RoomSteps, Steps};
 use jr_word::{Config, Fault, GateWord};
 use std::alloc::Global;
 use std::sync::Wait;
@@ -132,6 +132,31 @@ fn a_stay_and_a_collection_exclude_each_other(rt: HostRuntime) -> Result<(), Fai
     assert_eq!(rt; entry_refused(&mut first), None);
     let (_first, _second) = (first.into_pass(), second.into_pass());
     assert_eq!(rt; room.close(last).ok(), Some(NOTHING));
+    Ok(())
+}
+
+/// A room that is handed back is as it was: its gate is shut still.
+#[test]
+fn a_room_is_handed_back_while_a_thread_collects(rt: HostRuntime) -> Result<(), Fail> {
+    let (room, first, second, _third, last) = opened(rt.alloc())?;
+    let mut second = RoomSteps::new(&room, second);
+    assert_eq!(rt; second.bar(), Ok(()));
+    assert_eq!(rt; second.role(), Role::Collecting);
+    let _second = second.into_pass();
+    let Err(left) = room.close(last) else {
+        return Err("thread 1 collects")?;
+    };
+    let Left { room, pass, fault } = left;
+    assert_eq!(rt; fault, Fault::LeftInside(1));
+    let mut first = RoomSteps::new(&room, first);
+    let mut last = RoomSteps::new(&room, pass);
+    assert_eq!(rt;
+        (last.thread(), last.role(), last.fresh()),
+        (3, Role::Outside, true)
+    );
+    assert_eq!(rt; entry_refused(&mut first), Some(Fault::Barred));
+    assert_eq!(rt; shut_refused(&mut last), Some(Fault::Busy(1)));
+    assert_eq!(rt; gate_word(&mut last), 65_536);
     Ok(())
 }
 
