@@ -37,7 +37,7 @@ const STAYS: u32 = 10_000;
 const TRIES: u32 = 5_000_000;
 
 /// How often a thread collects.
-const COLLECTIONS: u32 = 100;
+const COLLECTIONS: u32 = 10_000;
 
 /// The last of the passes.
 fn last_of(_room: &Room<2>, passes: &mut Vec<Pass>) -> Result<Pass, Fail>
