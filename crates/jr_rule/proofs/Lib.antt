@@ -29,3 +29,4 @@ pub mod Allowed
 pub mod PlaceOwed
 pub mod Meeting
 pub mod Ended
+mod Claimable
