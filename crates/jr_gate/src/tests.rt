@@ -73,7 +73,7 @@ fn gate_word<S: Steps>(steps: &mut S) -> u64
 /// Why an entry is refused, if it is. It is ended at once.
 fn entry_refused<S: Steps>(steps: &mut S) -> Option<Fault>
     requires { (S.stands steps.old).role ≡ Outside }
-    ensures { (S.stands steps.new).role ≡ Outside }
+    ensures { S.stands steps.new ≡ S.stands steps.old }
 {
     match enter(steps) {
         Ok(stay) => {
@@ -87,7 +87,7 @@ fn entry_refused<S: Steps>(steps: &mut S) -> Option<Fault>
 /// Why a collection is refused, if it is. It is ended at once.
 fn shut_refused<S: Steps>(steps: &mut S) -> Option<Fault>
     requires { (S.stands steps.old).role ≡ Outside }
-    ensures { (S.stands steps.new).role ≡ Outside }
+    ensures { S.stands steps.new ≡ S.stands steps.old }
 {
     match shut_gate(steps) {
         Ok(collection) => {
@@ -127,36 +127,22 @@ fn a_stay_and_a_collection_exclude_each_other(rt: HostRuntime) -> Result<(), Fai
     assert_eq!(rt; gate_word(&mut first), 65_536);
     assert_eq!(rt; shut_refused(&mut first), Some(Fault::Busy(1)));
     assert_eq!(rt; gate_word(&mut first), 65_536);
+    let (first, second) = (first.into_pass(), second.into_pass());
+    let left = room.close(first).err();
+    let Left {
+        room,
+        pass: first,
+        fault,
+    } = left.expect(&rt, "thread 1 collects");
+    assert_eq!(rt; fault, Fault::LeftInside(1));
+    let mut first = RoomSteps::new(&room, first);
+    let mut second = RoomSteps::new(&room, second);
+    assert_eq!(rt; gate_word(&mut first), 65_536);
     collection.reopen(&mut second);
     assert_eq!(rt; gate_word(&mut first), 0);
     assert_eq!(rt; entry_refused(&mut first), None);
-    let (_first, _second) = (first.into_pass(), second.into_pass());
-    assert_eq!(rt; room.close(last).ok(), Some(NOTHING));
-    Ok(())
-}
-
-/// A room that is handed back is as it was: its gate is shut still.
-#[test]
-fn a_room_is_handed_back_while_a_thread_collects(rt: HostRuntime) -> Result<(), Fail> {
-    let (room, first, second, _third, last) = opened(rt.alloc())?;
-    let mut second = RoomSteps::new(&room, second);
-    assert_eq!(rt; second.bar(), Ok(()));
-    assert_eq!(rt; second.role(), Role::Collecting);
-    let _second = second.into_pass();
-    let Err(left) = room.close(last) else {
-        return Err("thread 1 collects")?;
-    };
-    let Left { room, pass, fault } = left;
-    assert_eq!(rt; fault, Fault::LeftInside(1));
-    let mut first = RoomSteps::new(&room, first);
-    let mut last = RoomSteps::new(&room, pass);
-    assert_eq!(rt;
-        (last.thread(), last.role(), last.fresh()),
-        (3, Role::Outside, true)
-    );
-    assert_eq!(rt; entry_refused(&mut first), Some(Fault::Barred));
-    assert_eq!(rt; shut_refused(&mut last), Some(Fault::Busy(1)));
-    assert_eq!(rt; gate_word(&mut last), 65_536);
+    let (first, _second) = (first.into_pass(), second.into_pass());
+    assert_eq!(rt; room.close(first).ok(), Some(NOTHING));
     Ok(())
 }
 
