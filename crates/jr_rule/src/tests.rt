@@ -1,5 +1,5 @@
 //! Rooms whose passes are held by one thread.
-ghost use Rattle.std.specs.Prelude.{◌≡◌, IfOk};
+ghost use Rattle.std.specs.Prelude.{◌≡◌, All, IfOk};
 ghost use Rattle.jr_rule.specs.Passes.{IsOpened};
 
 use crate::*;
@@ -45,15 +45,27 @@ fn open_gate(count: u16) -> GateParts {
     GateParts { count, shut: false }
 }
 
+/// The last of the passes.
+fn last_of(_room: &Room<2>, passes: &mut Vec<Pass>) -> Result<Pass, Fail>
+    requires { All (λ p. IsOpened _room.now.row p) passes.old.items }
+    ensures others { All (λ p. IsOpened _room.now.row p) passes.new.items }
+    ensures pass { IfOk result (λ p. IsOpened _room.now.row p) }
+{
+    let Some(pass) = passes.pop() else {
+        return Err("there is no pass for each thread")?;
+    };
+    Ok(pass)
+}
+
 /// A room, and the passes of threads 0, 1 and 2.
 fn opened(alloc: Global) -> Result<(Room<2>, Pass, Pass, Pass), Fail>
     ensures passes { IfOk result (λ r. IsOpened r.0.row r.1 × IsOpened r.0.row r.2 × IsOpened r.0.row r.3) }
     ensures sizes { IfOk result (λ r. (r.0.row.config.slots ≡ 2) × (r.0.row.config.objects ≡ 2) × (r.0.row.config.locals ≡ 16)) }
 {
     let (room, mut passes) = Room::<2>::open(alloc, SMALL)?;
-    let (Some(third), Some(second), Some(first)) = (passes.pop(), passes.pop(), passes.pop()) else {
-        return Err("there is no pass for each thread")?;
-    };
+    let third = last_of(&room, &mut passes)?;
+    let second = last_of(&room, &mut passes)?;
+    let first = last_of(&room, &mut passes)?;
     Ok((room, first, second, third))
 }
 
