@@ -1,2 +1,3 @@
+mod Alone
 mod Closing
 mod Withdrawing

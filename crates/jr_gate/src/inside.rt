@@ -1,10 +1,11 @@
 //! Stays inside the gate.
-ghost use Rattle.std.specs.Prelude.{◌≡◌, [], ◌∷◌, IfOk, IfErr};
+ghost use Rattle.std.specs.Prelude.{◌≡◌, [], ◌∷◌, IsOk, IfOk, IfErr};
 ghost use Rattle.jr_word.specs.declared.fault.Fault.TheVariants.{Barred};
-ghost use Rattle.jr_model.specs.declared.event.Role.TheVariants.{Outside, Within};
+ghost use Rattle.jr_model.specs.declared.event.Role.TheVariants.{Outside};
 ghost use Rattle.jr_model.specs.declared.event.Act.TheVariants.{Enter, Knock, Leave, Withdraw};
 ghost use Rattle.jr_rule.specs.Knowing.{anything, keeps, lets_go, Took};
 ghost use Rattle.jr_gate.specs.Acting.{ActedTo};
+ghost use Rattle.jr_gate.specs.Stays.{IsOwnStay};
 
 use jr_rule::Steps;
 use jr_word::Fault;
@@ -15,10 +16,9 @@ pub struct Inside {
 }
 
 impl Inside {
-    /// Ends the stay of the pass that made it.
+    /// Ends the steps' own stay. Own is by the number of the thread and the role of the steps: the stay has their thread's number, and they are within.
     pub fn leave<S: Steps>(self, steps: &mut S)
-        requires own { self.thread ≡ (S.stands steps.old).thread }
-        requires inside { (S.stands steps.old).role ≡ Within }
+        requires { IsOwnStay self (S.stands steps.old) }
         ensures { Took S.stands S.knows steps.old steps.new (Leave ∷ []) anything lets_go }
     {
         let Inside { thread: _ } = self;
@@ -26,11 +26,12 @@ impl Inside {
     }
 }
 
-/// Enters the gate: E13 only where a thread was collecting at the entry step.
+/// Enters the gate: E13 only where a thread was collecting at the entry step. Over one thread it is never refused. The stay is the steps' own, by the number of the thread and the role of the steps.
 pub fn enter<S: Steps>(steps: &mut S) -> Result<Inside, Fault>
     requires { (S.stands steps.old).role ≡ Outside }
-    ensures ok { IfOk result (λ i. (i.thread ≡ (S.stands steps.new).thread) × Took S.stands S.knows steps.old steps.new (Enter ∷ []) anything keeps) }
+    ensures ok { IfOk result (λ i. IsOwnStay i (S.stands steps.new) × Took S.stands S.knows steps.old steps.new (Enter ∷ []) anything keeps) }
     ensures err { IfErr result (λ e. (e ≡ Barred) × ActedTo S.stands S.knows steps.old steps.new (Knock ∷ Withdraw ∷ []) anything lets_go) }
+    ensures alone { (S.stands steps.old).config.threads ≡ 1 → IsOk result }
 {
     if steps.go_in() {
         return Ok(Inside {

@@ -3,6 +3,8 @@
 
 mod inside;
 mod shut;
+#[cfg(test)]
+mod tests;
 
 pub use inside::{Inside, enter};
 pub use shut::{Shut, shut_gate};

@@ -1,9 +1,8 @@
 -- What stands in the space and a range that is held fit below the top together: no word has two owners.
-use Rattle.std.proofs.Common.{◌≡◌, ◌≢◌, ◌+◌, ◌<◌, ◌≤◌, ◌==◌, ℕ, zero, suc, Bool, true, false, cond, Option, Some, None, length, eq-eqb, ne_eqb, refl, sym, ap, subst, ◌∙◌, arith}
+use Rattle.std.proofs.Common.{◌≡◌, ◌≢◌, ◌+◌, ◌<◌, ◌≤◌, ◌==◌, ℕ, zero, suc, Bool, true, false, cond, eq-eqb, ne_eqb, refl, sym, ap, subst, arith}
 use mathlib.Core.Logic.{dite}
 use native.Mathlib.Decide.{ℕ_discrete}
 use Rattle.jr_model.specs.Maps.{sum_below}
-use Rattle.jr_model.specs.State.{Contents, length_of}
 use Rattle.jr_model.proofs.Counts.{sum_at}
 use Rattle.jr_rule.specs.Image.{Owner, unowned, of_object, of_range}
 

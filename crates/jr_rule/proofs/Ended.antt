@@ -1,11 +1,17 @@
--- What is read of a closed row.
-use Rattle.std.proofs.Common.{◌≡◌, ℕ, zero, suc, List, [], ◌∷◌, get_or, sym, subst}
+-- The end of a room: what is read of a closed row, and what its history is.
+use Rattle.std.proofs.Common.{◌≡◌, ℕ, zero, suc, List, [], ◌∷◌, get_or, sym, ap, subst, ◌∙◌}
 use mathlib.Core.Option.{some, some-injective, some-ne-none}
 use lib.ListN.{get_elem?}
 use Rattle.jr_word.specs.declared.config.Config.{Config}
+use Rattle.jr_model.specs.declared.summary.Summary.{Summary}
+use Rattle.jr_model.specs.State.{summary}
+use Rattle.jr_model.specs.History.{History, state, IsLegal}
+use Rattle.jr_rule.specs.declared.known.View.{View}
 use Rattle.jr_rule.specs.declared.rule.Sizes.{Sizes}
-use Rattle.jr_rule.specs.Rule.{Kept, Row, sizes}
-use Rattle.jr_rule.specs.Shown.{HasHistory}
+use Rattle.jr_rule.specs.Image.{IsImage}
+use Rattle.jr_rule.specs.Passes.{Ends}
+use Rattle.jr_rule.specs.Rule.{sizes, Fits, EachFits, Row, Kept, Sat, acting, IsAlone}
+use Rattle.jr_rule.specs.Shown.{IsHistoryOf, HasHistory}
 
 pub read_at : (xs : List ℕ) (i x : ℕ) → get_elem? xs i ≡ some x → get_or xs i 0 ≡ x
 read_at [] i x e = absurd (some-ne-none x (sym e))
@@ -17,3 +23,19 @@ pub kept_shows : (c : Config) (last : ℕ) (key : Sizes) (r : Row) (words : List
 kept_shows c last key r words is kept same =
     let k = subst (λ (z : Sizes). Kept z.last z.config r) is kept in
     subst (HasHistory c) same ∣ (last, k.log, record { few = k.sized.serials; legal = k.legal; held = k.held; image = k.image }) ∣₁
+
+-- THE END: the history of the rule, whose image the words are, begins with what the pass has seen
+pub ends_kept : (c : Config) (last : ℕ) (key : Sizes) (r : Row) (words : List ℕ) (j : ℕ) (m : Sat) (s : Summary) → key ≡ sizes c last → Kept key.last key.config r → r.words ≡ words → get_elem? r.views j ≡ some m.0 → IsAlone m → (acting m).config ≡ c → (acting m).last ≡ last
+    → ((n : ℕ) (log : History) → IsHistoryOf c words n log → s ≡ summary c n (state log)) → Ends (acting m) s
+ends_kept c last key r words j m s is kept same at alone room serial counted = go (subst (λ (z : Sizes). Kept z.last z.config r) is kept)
+  where
+    go : Kept last c r → Ends (acting m) s
+    go kept =
+        let fits : Fits c last kept.log kept.held (acting m) = (subst (λ (v : View). EachFits c last kept.log kept.held v.passes) (ap (λ (z : Sat). z.0) alone) (kept.each j m.0 at)).0 in record {
+          whole = kept.log;
+          legal = subst (λ (z : Config × ℕ). IsLegal z.0 z.1 kept.log) (λ i. (sym room i, sym serial i)) kept.legal;
+          begins = fits.begins;
+          own = fits.own;
+          is = counted last kept.log (record { few = kept.sized.serials; legal = kept.legal; held = kept.held; image = subst (λ ws. IsImage c last ws (state kept.log) kept.held) same kept.image })
+              ∙ ap (λ (z : Config × ℕ). summary z.0 z.1 (state kept.log)) (λ i. (sym room i, sym serial i));
+        }

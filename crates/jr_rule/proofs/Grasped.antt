@@ -8,7 +8,7 @@ use Rattle.jr_model.specs.State.{Contents, State}
 use Rattle.jr_model.specs.History.{History, state, IsLegal}
 use Rattle.jr_model.proofs.Lengths.{lengths_fit}
 use Rattle.jr_rule.specs.declared.known.Grasp.{Grasp}
-use Rattle.jr_rule.specs.Grasping.{words_at, header_in, InSpace}
+use Rattle.jr_rule.specs.Grasping.{InSpace}
 use Rattle.jr_rule.specs.Image.{of_object, header_at, element_at, Stands, IsHeaderOf, IsKnown, IsSpace, IsImage}
 use Rattle.jr_rule.proofs.Headers.{header_positive}
 use Rattle.jr_rule.proofs.HeapSpaces.{object_below, range_below}

@@ -1,5 +1,5 @@
 -- What the steps of the heap owe, wherever they find the row.
-use Rattle.std.proofs.Common.{◌≡◌, ◌≢◌, ◌⊎◌, ⊎_elim, inl, inr, ◌+◌, ◌*◌, ◌<◌, ◌≤◌, ◌==◌, ◌^◌, ℕ, Bool, true, false, cond, nat_lt, Option, Some, None, IsSome, IfSome, Ok, Err, List, [], ◌∷◌, ◌++◌, map, length, get_or, slice_get, slice_set, eqb, eq-eqb, ne_eqb, nat_eq, refl, sym, ap, subst, ◌∙◌, arith, length-set}
+use Rattle.std.proofs.Common.{◌≡◌, ◌≢◌, ⊎_elim, inl, inr, ◌+◌, ◌<◌, ◌≤◌, ◌==◌, ◌^◌, ℕ, Bool, true, false, cond, nat_lt, Option, Some, None, IsSome, IfSome, List, [], ◌∷◌, ◌++◌, map, length, get_or, slice_get, slice_set, eqb, eq-eqb, ne_eqb, nat_eq, refl, sym, ap, subst, ◌∙◌, arith, length-set}
 use Rattle.std.proofs.lemmas.List.{append-nil}
 use Rattle.std.proofs.lemmas.Option.{slice_get-get_or}
 use Rattle.std.proofs.lemmas.Bool.Decides.{nat_tests}
@@ -17,11 +17,10 @@ use Rattle.jr_word.specs.Top.{top_word, IsTop}
 use Rattle.jr_word.specs.declared.kind.Kind.{Kind}
 use Rattle.jr_word.specs.declared.kind.Kind.TheVariants.{Plain, Boolean, Byte, Char, Short, Int, Long, Objects, Text}
 use Rattle.jr_word.specs.Header.{header_word, IsHeader}
-use Rattle.jr_word.proofs.OneWord.{header_word-injective}
 use Rattle.jr_model.specs.declared.event.Role.TheVariants.{Within}
 use Rattle.jr_model.specs.declared.event.Act.{Act}
 use Rattle.jr_model.specs.declared.event.Act.TheVariants.{New, Reserve, ReserveFull, ReserveLost, Read, Write}
-use Rattle.jr_model.specs.Maps.{update, sum_below}
+use Rattle.jr_model.specs.Maps.{update}
 use Rattle.jr_model.specs.State.{Contents, State, IsPresent, IsWord, AreWords, length_of, present_words}
 use Rattle.jr_model.specs.Steps.{written}
 use Rattle.jr_model.specs.declared.event.Role.{Role}
@@ -33,15 +32,15 @@ use Rattle.jr_rule.specs.declared.known.Known.{Known}
 use Rattle.jr_rule.specs.declared.known.Grasp.{Grasp}
 use Rattle.jr_rule.specs.declared.naming.TopNaming.{TopNaming}
 use Rattle.jr_rule.specs.declared.naming.TopNaming.TheVariants as top
-use Rattle.jr_rule.specs.Acts.{publishing, top_named, reserving}
+use Rattle.jr_rule.specs.Acts.{publishing}
 use Rattle.jr_rule.specs.Grasping.{words_at, header_in, with_range, with_header, hold}
-use Rattle.jr_rule.specs.Image.{of_object, top_at, header_at, element_at, Stands, IsHeaderOf, IsKnown, IsSpace, IsImage}
+use Rattle.jr_rule.specs.Image.{of_object, top_at, header_at, element_at, IsHeaderOf, IsKnown, IsSpace, IsImage}
 use Rattle.jr_rule.specs.Knowing.{view, state_of, HasObject, KnowsHeader, HasWord, IsWordNow, IsFilled, words_for, published, fresh_from, ShowsPublished}
 use Rattle.jr_rule.specs.Rule.{IsFound, known_at, Makes, Owes}
 use Rattle.jr_rule.proofs.Counting.{lists_fit}
 use Rattle.jr_rule.proofs.Found.{role_at, present_now}
 use Rattle.jr_rule.proofs.Grasped.{there}
-use Rattle.jr_rule.proofs.Headers.{header_none, header_some, header_positive}
+use Rattle.jr_rule.proofs.Headers.{header_some, header_positive}
 use Rattle.jr_rule.proofs.HeapSpaces.{elements_from, elements_length, object_below, range_below, space_reserved, space_put, space_written, space_empty, space_published, space_known}
 use Rattle.jr_rule.proofs.Images.{top_set, element_set, with_space}
 use Rattle.jr_rule.proofs.Spaces.{space_same, hold_same}
@@ -49,7 +48,7 @@ use Rattle.jr_rule.proofs.InRoom.{in_room}
 use Rattle.jr_rule.proofs.LocalTurns.{publishes}
 use Rattle.jr_rule.proofs.Owing.{gaining, quiet, written as renamed, unwritten, won, lost}
 use Rattle.jr_rule.proofs.Told.{IsHeaderWord, SawHeader, Published, used_word, SawTop, ClaimedTop, SawElement, PutElement, PutOwn}
-use Rattle.jr_rule.proofs.Turns.{Turn, turn_one, turn_none}
+use Rattle.jr_rule.proofs.Turns.{turn_one, turn_none}
 
 -- a word of a kind is one without a choice: an element of an object array is 0, or else an object's number
 word_is : (s : State) (kind : Kind) (v : ℕ) → ∥ IsWord s kind v ∥₁ → IsWord s kind v

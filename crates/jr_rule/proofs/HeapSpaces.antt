@@ -1,5 +1,5 @@
 -- The space after space was reserved, a word was put or written, or an object was published.
-use Rattle.std.proofs.Common.{◌≡◌, ◌≢◌, ◌+◌, ◌*◌, ◌-◌, ◌<◌, ◌≤◌, ◌==◌, ℕ, zero, suc, Bool, true, false, cond, Option, Some, None, List, [], ◌∷◌, length, get_or, slice_set, eq-eqb, ne_eqb, refl, sym, ap, subst, ◌∙◌, arith, nat_eq, nat_lt, length-set, get_or-set_same, get_or-set_other}
+use Rattle.std.proofs.Common.{◌≡◌, ◌≢◌, ◌+◌, ◌-◌, ◌<◌, ◌≤◌, ◌==◌, ℕ, zero, suc, cond, Option, Some, List, [], ◌∷◌, length, get_or, slice_set, eq-eqb, ne_eqb, refl, sym, ap, subst, ◌∙◌, arith, nat_eq, nat_lt, length-set, get_or-set_same, get_or-set_other}
 use mathlib.Core.Logic.{dite}
 use native.Mathlib.Decide.{ℕ_discrete, dec_lt}
 use Rattle.std.proofs.lemmas.Bool.{lt-ltb, le-ltb}
@@ -10,9 +10,9 @@ use Rattle.jr_word.specs.Config.{row_words}
 use Rattle.jr_word.specs.Header.{header_word, IsHeader}
 use Rattle.jr_model.specs.Maps.{update}
 use Rattle.jr_model.specs.State.{Contents}
-use Rattle.jr_model.proofs.Updates.{at_number, at_number_self}
+use Rattle.jr_model.proofs.Updates.{at_number_self}
 use Rattle.jr_rule.specs.declared.known.Grasp.{Grasp}
-use Rattle.jr_rule.specs.Grasping.{empty, words_at, header_in, with_range, with_header, hold}
+use Rattle.jr_rule.specs.Grasping.{words_at, header_in, with_range, with_header, hold}
 use Rattle.jr_rule.specs.Image.{top_at, header_at, element_at, Owner, unowned, of_object, of_range, Stands, IsKnown, IsSpace}
 use Rattle.jr_word.proofs.OneWord.{header_word-injective}
 use Rattle.jr_rule.proofs.Headers.{header_positive}

@@ -39,3 +39,4 @@ pub mod Grasped
 pub mod HeapOwed
 pub mod Meeting
 pub mod Ended
+mod Claimable

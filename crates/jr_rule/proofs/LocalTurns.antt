@@ -1,23 +1,18 @@
 -- What the steps of local words and headers owe.
-use Rattle.std.proofs.Common.{◌≡◌, ◌+◌, ◌≢◌, ◌<◌, ◌≤◌, ℕ, Option, Some, None, IsSome, List, [], ◌∷◌, length, get_or, slice_set, nat_eq, refl, arith, ◌^◌}
+use Rattle.std.proofs.Common.{◌≡◌, ◌+◌, ◌<◌, ◌≤◌, ℕ, Option, Some, None, List, [], ◌∷◌, length, get_or, slice_set, nat_eq, refl, ◌^◌}
 use Rattle.jr_word.specs.Local.{IsLocalPlace}
 use Rattle.jr_word.specs.declared.config.Config.{Config}
-use Rattle.jr_word.specs.declared.kind.Kind.{Kind}
-use Rattle.jr_word.specs.declared.kind.Kind.TheVariants.{Plain, Boolean, Byte, Char, Short, Int, Long, Objects, Text}
 use Rattle.jr_word.specs.declared.header.HeaderParts.{HeaderParts}
 use Rattle.jr_word.specs.Header.{header_word, IsHeader}
-use Rattle.jr_word.specs.Kind.{kind_code}
 use Rattle.jr_word.specs.Local.{local_word}
 use Rattle.jr_model.specs.declared.event.Role.TheVariants.{Within}
 use Rattle.jr_model.specs.declared.event.Act.TheVariants.{LocalPut, LocalDrop, New}
 use Rattle.jr_model.specs.Maps.{update}
-use Rattle.jr_model.specs.State.{Contents, State, IsPresent, AreWords, present_words}
+use Rattle.jr_model.specs.State.{State, IsPresent, AreWords, present_words}
 use Rattle.jr_model.specs.History.{History, state, IsLegal}
-use Rattle.jr_model.proofs.Lengths.{lengths_fit}
 use Rattle.jr_rule.specs.Acts.{putting}
-use Rattle.jr_rule.specs.Knowing.{HasOptional}
 use Rattle.jr_rule.specs.declared.known.Grasp.{Grasp}
-use Rattle.jr_rule.specs.Image.{local_at, header_at, local_parts, IsHeaderOf, IsImage, IsSpace}
+use Rattle.jr_rule.specs.Image.{local_at, header_at, local_parts, IsImage, IsSpace}
 use Rattle.jr_rule.proofs.Headers.{header_none}
 use Rattle.jr_rule.proofs.Turns.{Turn, turn_one}
 use Rattle.jr_rule.proofs.Images.{local_set, header_set}

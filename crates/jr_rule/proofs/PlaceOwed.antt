@@ -1,33 +1,19 @@
 -- What a store to a local word owes, wherever they find the row.
-use Rattle.std.proofs.Common.{◌≡◌, ◌<◌, ◌≤◌, ◌==◌, ℕ, true, false, Option, Some, None, IsSome, List, [], ◌∷◌, get_or, slice_set, eqb, eq-eqb, ne_eqb, refl, sym, ap, subst, ◌∙◌}
-use Rattle.std.proofs.lemmas.List.{append-nil}
+use Rattle.std.proofs.Common.{◌≡◌, ◌<◌, ℕ, Option, Some, None, [], ◌∷◌, slice_set, refl, subst, ◌∙◌}
 use Rattle.std.proofs.Math.Logic.{∥∥₁_elim}
 use Rattle.std.proofs.Props.{props}
-use mathlib.Core.Logic.{dite}
-use native.Mathlib.Decide.{ℕ_discrete}
-use prog.Atomic.{either}
-use Rattle.jr_word.specs.declared.header.HeaderParts.{HeaderParts}
-use Rattle.jr_word.specs.declared.kind.Kind.{Kind}
-use Rattle.jr_word.specs.Header.{header_word}
 use Rattle.jr_word.specs.Local.{local_word}
 use Rattle.jr_model.specs.declared.event.Role.TheVariants.{Within}
-use Rattle.jr_model.specs.declared.event.Act.{Act}
-use Rattle.jr_model.specs.declared.event.Act.TheVariants.{New}
-use Rattle.jr_model.specs.State.{Contents, State, IsPresent}
-use Rattle.jr_model.specs.History.{History, by, state, role_of}
-use Rattle.jr_model.proofs.Histories.{state_push}
-use Rattle.jr_model.proofs.Updates.{at_number_self}
+use Rattle.jr_model.specs.History.{role_of}
 use Rattle.jr_rule.specs.declared.known.Known.{Known}
-use Rattle.jr_rule.specs.Acts.{putting, publishing}
-use Rattle.jr_rule.specs.Image.{local_at, header_at, local_parts}
+use Rattle.jr_rule.specs.Acts.{putting}
+use Rattle.jr_rule.specs.Image.{local_at, local_parts}
 use Rattle.jr_rule.specs.Knowing.{view, HasOptional}
-use Rattle.jr_rule.specs.Rule.{IsFound, Owes}
-use Rattle.jr_rule.proofs.Found.{now, role_at, present_now}
-use Rattle.jr_rule.proofs.Owing.{quiet, written, unwritten, won, lost}
-use Rattle.jr_rule.proofs.Headers.{header_some, header_fits}
-use Rattle.jr_rule.proofs.LocalTurns.{puts, publishes}
-use Rattle.jr_rule.proofs.Told.{Put, Published}
-use Rattle.jr_rule.proofs.Turns.{turn_none}
+use Rattle.jr_rule.specs.Rule.{Owes}
+use Rattle.jr_rule.proofs.Found.{role_at, present_now}
+use Rattle.jr_rule.proofs.Owing.{quiet}
+use Rattle.jr_rule.proofs.LocalTurns.{puts}
+use Rattle.jr_rule.proofs.Told.{Put}
 
 -- an object, if one is given, without a choice
 pub optional_is : (o : Option ℕ) (k : Known) → ∥ HasOptional o k ∥₁ → HasOptional o k

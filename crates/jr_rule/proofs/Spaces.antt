@@ -1,12 +1,12 @@
 -- The space after one word was changed.
-use Rattle.std.proofs.Common.{◌≡◌, ◌≢◌, ◌+◌, ◌*◌, ◌-◌, ◌<◌, ◌≤◌, ℕ, ◌==◌, cond, Option, Some, List, [], length, get_or, slice_set, eq-eqb, ne_eqb, refl, sym, ap, subst, ◌∙◌, arith, get_or-set_other}
+use Rattle.std.proofs.Common.{◌≡◌, ◌≢◌, ◌+◌, ◌*◌, ◌<◌, ◌≤◌, ℕ, cond, Option, List, get_or, slice_set, eq-eqb, ne_eqb, refl, sym, ap, subst, ◌∙◌, arith, get_or-set_other}
 use mathlib.Core.Logic.{dite}
 use native.Mathlib.Decide.{ℕ_discrete}
 use Rattle.jr_word.specs.declared.config.Config.{Config}
 use Rattle.jr_model.specs.State.{Contents}
 use Rattle.jr_rule.specs.declared.known.Grasp.{Grasp}
 use Rattle.jr_rule.specs.Grasping.{empty, words_at, header_in, hold}
-use Rattle.jr_rule.specs.Image.{header_at, element_at, Owner, of_object, of_range, Stands, IsKnown, IsSpace}
+use Rattle.jr_rule.specs.Image.{header_at, element_at, Owner, of_object, of_range, Stands, IsSpace}
 
 -- the words before the headers
 abbrev pub before_headers : Config → ℕ

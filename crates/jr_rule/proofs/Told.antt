@@ -7,7 +7,6 @@ use Rattle.jr_word.specs.Header.{header_word, IsHeader}
 use Rattle.jr_word.specs.Top.{top_word}
 use Rattle.jr_rule.specs.declared.naming.TopNaming.{TopNaming}
 use Rattle.jr_word.specs.declared.handle.RefKind.{RefKind}
-use Rattle.jr_word.specs.declared.kind.Kind.{Kind}
 use Rattle.jr_word.specs.declared.slot.SlotParts.{SlotParts}
 use Rattle.jr_word.specs.declared.slot.SlotParts.TheVariants as slot
 use Rattle.jr_word.specs.Gate.{gate_word, IsGate}

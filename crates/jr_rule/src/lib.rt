@@ -17,6 +17,8 @@ mod rule;
 mod slot_stepping;
 mod steps;
 mod summing;
+#[cfg(test)]
+mod tests;
 
 pub use closing::Left;
 pub use jr_model::{Role, Summary};

@@ -1,4 +1,4 @@
-use Rattle.std.proofs.Common.{◌≡◌, ℕ, [], ◌∷◌, Err, refl, sym, ap, subst, ◌∙◌, eqb}
+use Rattle.std.proofs.Common.{ℕ, [], ◌∷◌, Err, refl, sym, ap, subst, ◌∙◌, eqb}
 use prog.Atomic.{either}
 use Rattle.jr_rule.specs.Acts.{reserving}
 use Rattle.jr_rule.specs.Image.{top_at}

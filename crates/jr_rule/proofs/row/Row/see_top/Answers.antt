@@ -1,4 +1,4 @@
-use Rattle.std.proofs.Common.{◌≡◌, refl, sym, ap, subst, ◌∙◌}
+use Rattle.std.proofs.Common.{refl, sym, ap, subst, ◌∙◌}
 use Rattle.jr_rule.specs.Acts.{top_named}
 use Rattle.jr_rule.specs.Knowing.{ShowsUsed}
 use Rattle.jr_rule.specs.Passes.{known_of}

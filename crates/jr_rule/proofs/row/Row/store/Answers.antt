@@ -1,7 +1,4 @@
 use Rattle.std.proofs.Common.{rules}
-use Rattle.jr_rule.proofs.HeapSpaces.{space_published, space_known}
-use Rattle.jr_rule.proofs.LocalTurns.{publishes}
-use Rattle.jr_rule.proofs.HeapOwed.{sees_top}
 use Rattle.jr_rule.proofs.Plays.{plays}
 use Rattle.jr_rule.proofs.row.Row.store.Goals as goal
 

@@ -1,0 +1,58 @@
+-- One thread alone is never refused.
+use Rattle.std.proofs.Common.{◌≡◌, ℕ, ◌<◌, ◌≤◌, ⊎_elim, not, [], ◌∷◌, ◌++◌, ap, subst, ◌∙◌, arith}
+use Rattle.std.proofs.lemmas.Bool.{cases_lt}
+use Rattle.std.proofs.Math.Logic.{∥∥₁_elim}
+use Rattle.jr_word.specs.declared.config.Config.{Config}
+use Rattle.jr_model.specs.declared.event.Role.TheVariants.{Outside}
+use Rattle.jr_model.specs.declared.event.Act.{Act}
+use Rattle.jr_model.specs.declared.event.Act.TheVariants.{Knock, ShutBusy}
+use Rattle.jr_model.specs.State.{is_outside}
+use Rattle.jr_model.specs.Steps.{Needs}
+use Rattle.jr_model.specs.History.{History, by, state, IsLegal}
+use Rattle.jr_model.proofs.Histories.{legal_push}
+use Rattle.jr_model.proofs.Counts.{count_all_false, outside_beyond}
+use Rattle.jr_rule.specs.declared.known.Known.{Known}
+use Rattle.jr_rule.specs.Knowing.{Standing, anything, Goes, IsOf, MayKnow, Took}
+
+-- what a step needed of the state before it
+needed : {k k' : Known} (a : Act) (g : Goes k (a ∷ []) k') → let before = k.seen ++ g.between in IsLegal k.config k.last before × Needs k.config k.last (state before) (by k.thread a)
+needed {k} a g = (legal_push k.config k.last (k.seen ++ g.between) (by k.thread a)).0 (subst (IsLegal k.config k.last) g.seen g.legal)
+
+-- where the one thread is outside, all are
+all_outside : (c : Config) (last : ℕ) (es : History) (mine : ℕ) → c.threads ≡ 1 → IsLegal c last es → mine < c.threads → (state es).role mine ≡ Outside → (t : ℕ) → (state es).role t ≡ Outside
+all_outside c last es mine one legal below out t = ⊎_elim
+    (λ (h : t < c.threads). let same : t ≡ mine = omega arith in ap (state es).role same ∙ out)
+    (λ (h : c.threads ≤ t). outside_beyond c last es legal t h)
+    (cases_lt t c.threads)
+
+-- who knocks is outside while another thread collects
+knocks_beside : {k k' : Known} → k.config.threads ≡ 1 → Goes k (Knock ∷ []) k' → ⊥
+knocks_beside {k} {k'} one g =
+    let n = needed Knock g in
+    let collects = n.1.1.1 in
+    let is = collects.1 in
+    let out = all_outside k.config k.last (k.seen ++ g.between) k.thread one n.0 n.1.0 n.1.1.0 collects.0 in
+    cc
+
+-- who is refused a shut is outside while others are counted
+busy_beside : {k k' : Known} (n : ℕ) → k.config.threads ≡ 1 → Goes k (ShutBusy n ∷ []) k' → ⊥
+busy_beside {k} {k'} n one g =
+    let before = k.seen ++ g.between in
+    let needs = needed (ShutBusy n) g in
+    let out = all_outside k.config k.last before k.thread one needs.0 needs.1.0 needs.1.1.0 in
+    let none = count_all_false k.config.threads (λ t. not (is_outside ((state before).role t))) (λ t h. ap (λ r. not (is_outside r)) (out t)) in
+    let least : 1 ≤ n = needs.1.1.2 in
+    let zero_is : n ≡ 0 = needs.1.1.1 ∙ none in
+    omega arith
+
+module _ {S : Type 0} {stands : S → Standing} {knows : S → Known → Type 0} {old new : S} {shows : Known → Known → Type 0} (fits : (k : Known) → knows old k → IsOf (stands old) k) (some : MayKnow knows old anything) (one : (stands old).config.threads ≡ 1) where
+  never : (a : Act) → ((k k' : Known) → k.config.threads ≡ 1 → Goes k (a ∷ []) k' → ⊥) → Took stands knows old new (a ∷ []) anything shows → ⊥
+  never a refused t =
+      let each : ((k : Known) × knows old k × anything k) → ⊥ = λ k. let g = t.goes k.0 k.1 tt in refused k.0 g.0 (ap (λ (c : Config). c.threads) (fits k.0 k.1).config ∙ one) g.2 in
+      ∥∥₁_elim some (λ x y. absurd x) each
+
+  pub never_knocks : Took stands knows old new (Knock ∷ []) anything shows → ⊥
+  never_knocks t = never Knock (λ k k' e g. knocks_beside e g) t
+
+  pub never_busy : (n : ℕ) → Took stands knows old new (ShutBusy n ∷ []) anything shows → ⊥
+  never_busy n t = never (ShutBusy n) (λ k k' e g. busy_beside n e g) t

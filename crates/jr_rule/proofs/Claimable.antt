@@ -1,0 +1,17 @@
+-- What may be known where a slot is claimed after an object was made and a load showed the slot free.
+use Rattle.std.proofs.Common.{◌≡◌, ℕ, List, [], ◌∷◌, subst, ◌∙◌}
+use Rattle.jr_word.specs.declared.slot.SlotParts.{SlotParts}
+use Rattle.jr_word.specs.declared.slot.SlotParts.TheVariants.{Free}
+use Rattle.jr_model.specs.declared.event.Act.{Act}
+use Rattle.jr_model.specs.declared.event.Role.TheVariants.{Within}
+use Rattle.jr_rule.specs.declared.known.Known.{Known}
+use Rattle.jr_rule.specs.declared.naming.SlotNaming.TheVariants.{Probe}
+use Rattle.jr_rule.specs.Acts.{slot_named}
+use Rattle.jr_rule.specs.Knowing.{Standing, IsOf, MayKnow, Took, anything, HasObject, IsFreeSlot, ShowsSlot}
+use Rattle.jr_rule.proofs.Goes.{goes_did, present_stays, shown_free, may_then}
+
+pub claimable : {S : Type 0} {stands : S → Standing} {knows : S → Known → Type 0} {a b c : S} {acts : List Act} {parts : SlotParts} {o i n : ℕ} → ((k : Known) → knows b k → IsOf (stands b) k) → MayKnow knows a anything → (stands b).role ≡ Within
+    → Took stands knows a b acts anything (λ _ k. HasObject o k) → Took stands knows b c (slot_named i Probe parts ∷ []) anything (λ _ k. ShowsSlot i parts k) → parts ≡ Free n → MayKnow knows c (λ k. HasObject o k × IsFreeSlot i n k)
+claimable {o} {i} {n} fits some within made probed free =
+    may_then probed (λ k s m. tt) (may_then made (λ k s m. tt) some (λ k k' s m d shown. shown))
+    (λ k k' s m d shown. (present_stays k k' _ o (goes_did d) ((fits k s).role ∙ within) (λ e. cc, tt) m, shown_free i n k' (subst (λ p. ShowsSlot i p k') free shown)))

@@ -1,0 +1,293 @@
+//! Rooms whose passes are held by one thread.
+ghost use Rattle.std.specs.Prelude.{◌≡◌, All, IfOk};
+ghost use Rattle.jr_rule.specs.Passes.{IsOpened};
+
+use crate::*;
+use jr_model::{Role, Summary};
+use jr_word::{Config, Fault, GateParts, HandleParts, HeaderParts, Kind, RefKind, SlotParts};
+use std::alloc::Global;
+use std::test::Fail;
+
+/// A room of three threads with two slots and two objects.
+const SMALL: Config = Config {
+    threads: 3,
+    slots: 2,
+    objects: 2,
+    words: 0,
+    locals: 16,
+};
+
+/// The header of a plain object.
+const PLAIN: HeaderParts = HeaderParts {
+    kind: Kind::Plain,
+    length: 0,
+    place: 0,
+};
+
+/// The first global handle of slot 0.
+const FIRST: HandleParts = HandleParts {
+    kind: RefKind::Global,
+    serial: 0,
+    index: 0,
+    owner: 0,
+};
+
+/// What a room has in which nothing stands.
+const NOTHING: Summary = Summary {
+    globals: 0,
+    weaks: 0,
+    live: 0,
+    used: 0,
+};
+
+/// The gate with so many threads inside.
+fn open_gate(count: u16) -> GateParts {
+    GateParts { count, shut: false }
+}
+
+/// The last of the passes.
+fn last_of(_room: &Room<2>, passes: &mut Vec<Pass>) -> Result<Pass, Fail>
+    requires { All (λ p. IsOpened _room.now.row p) passes.old.items }
+    ensures others { All (λ p. IsOpened _room.now.row p) passes.new.items }
+    ensures pass { IfOk result (λ p. IsOpened _room.now.row p) }
+{
+    let Some(pass) = passes.pop() else {
+        return Err("there is no pass for each thread")?;
+    };
+    Ok(pass)
+}
+
+/// A room, and the passes of threads 0, 1 and 2.
+fn opened(alloc: Global) -> Result<(Room<2>, Pass, Pass, Pass), Fail>
+    ensures passes { IfOk result (λ r. IsOpened r.0.row r.1 × IsOpened r.0.row r.2 × IsOpened r.0.row r.3) }
+    ensures sizes { IfOk result (λ r. (r.0.row.config.slots ≡ 2) × (r.0.row.config.objects ≡ 2) × (r.0.row.config.locals ≡ 16)) }
+{
+    let (room, mut passes) = Room::<2>::open(alloc, SMALL)?;
+    let third = last_of(&room, &mut passes)?;
+    let second = last_of(&room, &mut passes)?;
+    let first = last_of(&room, &mut passes)?;
+    Ok((room, first, second, third))
+}
+
+#[test]
+fn a_room_has_at_most_64_threads(rt: HostRuntime) {
+    let config = Config {
+        threads: 65,
+        ..SMALL
+    };
+    assert_eq!(rt;
+        Room::<2>::open(rt.alloc(), config).err(),
+        Some(Fault::Size)
+    );
+}
+
+#[test]
+fn a_room_opens_with_one_pass_a_thread(rt: HostRuntime) -> Result<(), Fail> {
+    for threads in [1, 2, 64] {
+        let config = Config { threads, ..SMALL };
+        let (room, passes) = Room::<2>::open(rt.alloc(), config)?;
+        assert_eq!(rt; passes.len(), threads as usize);
+        for (thread, pass) in passes.iter().enumerate() {
+            assert_eq!(rt; usize::from(pass.thread), thread);
+            assert_eq!(rt; pass.role, Role::Outside);
+            assert!(rt; pass.fresh);
+        }
+        drop(room);
+    }
+    Ok(())
+}
+
+#[test]
+fn a_room_is_refused_where_memory_is(rt: HostRuntime) {
+    if let Err(fault) = Room::<2>::open(rt.alloc(), SMALL) {
+        assert_eq!(rt; fault, Fault::Memory);
+    }
+}
+
+#[test]
+fn passes_share_one_gate(rt: HostRuntime) -> Result<(), Fail> {
+    let (room, first, second, third) = opened(rt.alloc())?;
+    let mut first = RoomSteps::new(&room, first);
+    let mut second = RoomSteps::new(&room, second);
+    assert_eq!(rt; (first.thread(), second.thread()), (0, 1));
+    assert_eq!(rt; (first.last(), first.config()), (2, SMALL));
+    assert!(rt; first.go_in());
+    assert_eq!(rt;
+        (first.role(), second.role()),
+        (Role::Within, Role::Outside)
+    );
+    assert_eq!(rt; second.see_gate(GateNaming::Meet), open_gate(1));
+    assert!(rt; second.go_in());
+    assert_eq!(rt; first.see_gate(GateNaming::Meet), open_gate(2));
+    assert!(rt; first.fresh() && second.fresh());
+    first.put_local(15, None);
+    assert!(rt; !first.fresh() && second.fresh());
+    second.go_out();
+    first.go_out();
+    assert_eq!(rt; second.see_gate(GateNaming::Meet), open_gate(0));
+    second.spend();
+    assert!(rt; !second.fresh());
+    let (_first, _second) = (first.into_pass(), second.into_pass());
+    assert_eq!(rt; room.close(third).ok(), Some(NOTHING));
+    Ok(())
+}
+
+/// A pass that others meet is handed back with its thread, role and freshness.
+#[test]
+fn passes_that_meet_stay_as_they_are(rt: HostRuntime) -> Result<(), Fail> {
+    let (room, mut first, mut second, third) = opened(rt.alloc())?;
+    assert!(rt; room.row.go_in(&mut first));
+    second.fresh = false;
+    let mut steps = RoomSteps::new(&room, third);
+    let mut first = steps.meet(first);
+    let second = steps.meet(second);
+    assert_eq!(rt;
+        (first.thread, first.role, first.fresh),
+        (0, Role::Within, true)
+    );
+    assert_eq!(rt;
+        (second.thread, second.role, second.fresh),
+        (1, Role::Outside, false)
+    );
+    assert_eq!(rt;
+        (steps.thread(), steps.role(), steps.fresh()),
+        (2, Role::Outside, true)
+    );
+    let third = steps.into_pass();
+    assert_eq!(rt;
+        (third.thread, third.role, third.fresh),
+        (2, Role::Outside, true)
+    );
+
+    let steps = RoomSteps::new(&room, first);
+    assert_eq!(rt; steps.role(), Role::Within);
+    first = steps.into_pass();
+    room.row.go_out(&mut first);
+    assert_eq!(rt; room.close(second).ok(), Some(NOTHING));
+    Ok(())
+}
+
+#[test]
+fn a_room_is_handed_back_while_a_thread_is_inside(rt: HostRuntime) -> Result<(), Fail> {
+    let (room, mut first, second, _third) = opened(rt.alloc())?;
+    assert!(rt; room.row.go_in(&mut first));
+    let Err(left) = room.close(second) else {
+        return Err("thread 0 is inside")?;
+    };
+    let Left {
+        room,
+        pass: mut second,
+        fault,
+    } = left;
+    assert_eq!(rt; fault, Fault::LeftInside(1));
+    assert_eq!(rt;
+        (second.thread, second.role, second.fresh),
+        (1, Role::Outside, true)
+    );
+    assert!(rt; room.row.go_in(&mut second));
+    let Err(left) = room.close(first) else {
+        return Err("threads 0 and 1 are inside")?;
+    };
+    let Left {
+        room,
+        pass: mut first,
+        fault,
+    } = left;
+    assert_eq!(rt; fault, Fault::LeftInside(2));
+    assert_eq!(rt; first.role, Role::Within);
+    room.row.go_out(&mut first);
+    room.row.go_out(&mut second);
+    assert_eq!(rt; room.close(first).ok(), Some(NOTHING));
+    Ok(())
+}
+
+/// Both threads see slot 0 free: one claims it, and the other finds what stands there. Both look the handle up, and only one of them frees it.
+#[test]
+fn a_slot_is_claimed_by_one_and_freed_by_one(rt: HostRuntime) -> Result<(), Fail> {
+    let (room, first, second, third) = opened(rt.alloc())?;
+    let mut first = RoomSteps::new(&room, first);
+    let mut second = RoomSteps::new(&room, second);
+    assert!(rt; first.go_in());
+    assert!(rt; second.go_in());
+    assert!(rt; first.claim_header(1, PLAIN));
+    assert!(rt; !second.claim_header(1, PLAIN));
+    let SlotParts::Free { serial: 0 } = first.see_slot(0, SlotNaming::Probe) else {
+        return Err("the slot is not free")?;
+    };
+    let SlotParts::Free { serial: 0 } = second.see_slot(0, SlotNaming::Probe) else {
+        return Err("the slot is not free")?;
+    };
+    let stands = SlotParts::Global {
+        serial: 0,
+        object: 1,
+    };
+    assert_eq!(rt; first.claim(0, 0, RefKind::Global, 1), Ok(()));
+    assert_eq!(rt; second.claim(0, 0, RefKind::Global, 1), Err(stands));
+    let SlotParts::Global {
+        serial: 0,
+        object: 1,
+    } = first.see_slot(0, SlotNaming::Look(FIRST))
+    else {
+        return Err("no reference stands in the slot")?;
+    };
+    let SlotParts::Global {
+        serial: 0,
+        object: 1,
+    } = second.see_slot(0, SlotNaming::Look(FIRST))
+    else {
+        return Err("no reference stands in the slot")?;
+    };
+    assert!(rt; second.free(FIRST, Some(1)));
+    assert!(rt; !first.free(FIRST, Some(1)));
+    let free = SlotParts::Free { serial: 1 };
+    assert_eq!(rt; first.see_slot(0, SlotNaming::Meet), free);
+    assert_eq!(rt; second.see_slot(0, SlotNaming::Look(FIRST)), free);
+    assert_eq!(rt;
+        first.see_slot(1, SlotNaming::Probe),
+        SlotParts::Free { serial: 0 }
+    );
+    first.go_out();
+    second.go_out();
+    let (_first, _second) = (first.into_pass(), second.into_pass());
+    let summary = Summary { live: 1, ..NOTHING };
+    assert_eq!(rt; room.close(third).ok(), Some(summary));
+    Ok(())
+}
+
+/// In one stay makes object 1, where it is not present yet, and claims a slot for the slot's first reference to it.
+fn refer<S: Steps>(steps: &mut S, index: u16, kind: RefKind) -> Result<(), Fail> {
+    let config = steps.config();
+    if u32::from(index) >= config.slots || config.objects == 0 || kind == RefKind::Local {
+        return Err("there is no such slot")?;
+    }
+    if steps.role() != Role::Outside || !steps.go_in() {
+        return Err("the thread does not come in")?;
+    }
+    steps.claim_header(1, PLAIN);
+    let SlotParts::Free { serial: 0 } = steps.see_slot(index, SlotNaming::Probe) else {
+        return Err("the slot is not free")?;
+    };
+    let Ok(()) = steps.claim(index, 0, kind, 1) else {
+        return Err("the slot was taken")?;
+    };
+    steps.go_out();
+    Ok(())
+}
+
+#[test]
+fn a_room_that_closes_counts_what_stands(rt: HostRuntime) -> Result<(), Fail> {
+    let (room, first, second, third) = opened(rt.alloc())?;
+    let mut first = RoomSteps::new(&room, first);
+    refer(&mut first, 0, RefKind::Global)?;
+    let mut second = RoomSteps::new(&room, second);
+    refer(&mut second, 1, RefKind::Weak)?;
+    let (_first, _second) = (first.into_pass(), second.into_pass());
+    let summary = Summary {
+        globals: 1,
+        weaks: 1,
+        live: 1,
+        used: 0,
+    };
+    assert_eq!(rt; room.close(third).ok(), Some(summary));
+    Ok(())
+}
