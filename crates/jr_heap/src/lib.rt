@@ -1,0 +1,12 @@
+//! The heap: objects, their headers and elements, and array space, over any steps.
+#![tactic(auto)]
+
+mod element;
+mod object;
+mod range;
+mod space;
+
+pub use element::{read, read_element, write, write_element};
+pub use object::{Numbers, header, publish};
+pub use range::Range;
+pub use space::{fill, reserve};
