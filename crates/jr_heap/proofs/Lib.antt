@@ -1,0 +1,4 @@
+pub mod Calling
+pub mod Staying
+mod Reserving
+mod Filling

@@ -6,7 +6,7 @@ use Rattle.jr_word.specs.declared.kind.Kind.{Kind}
 use Rattle.jr_word.specs.declared.kind.Kind.TheVariants.{Objects}
 use Rattle.jr_model.specs.State.{Contents}
 use Rattle.jr_model.specs.Frames.{Frames}
-use Rattle.jr_model.specs.Calls.{Call, Ran}
+use Rattle.jr_model.specs.Calls.{Call, Ran, done}
 use Rattle.jr_rule.specs.declared.known.Known.{Known}
 use Rattle.jr_rule.specs.Grasping.{words_at, with_range, with_header}
 use Rattle.jr_rule.specs.Knowing.{view, state_of, keeps, words_for, published, KnowsHeader, IsFilled, IsWordNow, ShowsObject}
@@ -16,6 +16,10 @@ module _ {S : Type 0} (knows : S → Known → Type 0) where
   pub record Called {A : Type 0} (old new : S) (met : Known → Type 0) (call : Known → Known → Call A) (answer : Result A Fault) (shows : Known → Known → Type 0) : Type 0 where
     pub ran : (k : Known) → knows old k → met k
         → (k' : Known) × knows new k' × ((f : Frames) → Ran (view k) (view k') f f (call k k') answer) × shows k k'
+
+-- nothing that others could see
+abbrev pub no_act : Call (Unit {0})
+no_act = done tt
 
 -- SPACE
 

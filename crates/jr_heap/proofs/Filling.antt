@@ -1,0 +1,2 @@
+-- Ranges are filled word by word.
+use Rattle.std.proofs.Common.{◌≡◌, ℕ}
