@@ -2,3 +2,8 @@ pub mod Calling
 pub mod Staying
 mod Reserving
 mod Filling
+mod Headers
+mod Checks
+mod Elements
+mod Turns
+mod Publishing

@@ -1,5 +1,5 @@
 -- What stays so in a stay.
-use Rattle.std.proofs.Common.{◌≡◌, ◌≢◌, ℕ, List, Option, Some, None, inl, inr, ⊎_elim, ap, subst, sym, ◌∙◌, cond, ◌==◌}
+use Rattle.std.proofs.Common.{◌≡◌, ◌≢◌, ℕ, List, Option, Some, None, IsSome, refl, inl, inr, ⊎_elim, ap, subst, sym, ◌∙◌, cond, ◌==◌}
 use Rattle.std.specs.List.{AllByRecursion}
 use Rattle.jr_word.specs.declared.header.HeaderParts.{HeaderParts}
 use Rattle.jr_word.specs.declared.kind.Kind.{Kind}
@@ -12,7 +12,10 @@ use Rattle.jr_model.specs.History.{role_of, Did}
 use Rattle.jr_model.proofs.Stays.{IsStill, still_did}
 use Rattle.jr_rule.specs.declared.known.Known.{Known}
 use Rattle.jr_rule.specs.Knowing.{view, state_of, HasObject, IsWordNow, ShowsObject}
+use Rattle.jr_rule.specs.declared.known.Grasp.{Grasp}
+use Rattle.jr_rule.specs.Grasping.{header_in}
 use Rattle.jr_rule.proofs.Goes.{present_still}
+use Rattle.jr_heap.specs.Heap.{HoldsHeader}
 
 -- no act is a Leave
 abbrev pub NoLeave : List Act → Type 0
@@ -29,7 +32,7 @@ word_still s s' still Int v w = w
 word_still s s' still Long v w = w
 word_still s s' still Text v w = w
 
-module _ {k k' : Known} (acts : List Act) (d : Did (view k) (view k') acts) (within : role_of (view k) ≡ Within) (stays : NoLeave acts) where
+module _ (k k' : Known) (acts : List Act) (d : Did (view k) (view k') acts) (within : role_of (view k) ≡ Within) (stays : NoLeave acts) where
   pub still : IsStill (state_of k) (state_of k')
   still = still_did acts d within stays
 
@@ -44,3 +47,10 @@ module _ {k k' : Known} (acts : List Act) (d : Did (view k) (view k') acts) (wit
   object_later o h x =
       let y = still.objects o x.contents x.is in
       record { contents = y.0; is = y.1; kind = y.2 ∙ x.kind; long = y.3 ∙ x.long }
+
+  -- so does a header that is known, where the pass holds what it held
+  pub header_later : (o : ℕ) (h : HeaderParts) → k'.grasp ≡ k.grasp → HoldsHeader o h k → HoldsHeader o h k'
+  header_later o h e x = record { known = ap (λ (g : Grasp). header_in o g.headers) e ∙ x.known; shown = object_later o h x.shown }
+
+pub shown_present : (o : ℕ) (h : HeaderParts) (k : Known) → ShowsObject o h k → HasObject o k
+shown_present o h k x = subst (λ y. IsSome y) (sym x.is) refl

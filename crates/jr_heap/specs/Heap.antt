@@ -70,7 +70,11 @@ pub record HoldsHeader (o : ℕ) (h : HeaderParts) (k : Known) : Type 0 where
 abbrev pub Learns : ℕ → HeaderParts → Known → Known → Type 0
 Learns o h j k = ShowsObject o h k × (k.grasp ≡ with_header j.grasp o h)
 
--- the pass read the header of the object, and holds what it held
+-- what a call at an element leaves: the object has this kind and length still, and the pass holds what it held
+abbrev pub Leaves : ℕ → HeaderParts → Known → Known → Type 0
+Leaves o h j k = ShowsObject o h k × keeps j k
+
+-- the pass read the header of the object, beside what it holds
 abbrev pub Relearns : ℕ → Known → Known → Type 0
 Relearns o j k = (h : HeaderParts) × Learns o h j k
 

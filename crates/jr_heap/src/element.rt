@@ -1,10 +1,10 @@
 //! Elements of objects, over any steps.
-ghost use Rattle.std.specs.Prelude.{◌≡◌};
+ghost use Rattle.std.specs.Prelude.{◌≡◌, ◌||◌};
 ghost use Rattle.jr_model.specs.declared.event.Role.TheVariants.{Within};
 ghost use Rattle.jr_model.specs.Parts.{read_element as reading, write_element as writing};
-ghost use Rattle.jr_model.specs.Tests.{is_value as is_value_of};
-ghost use Rattle.jr_rule.specs.Knowing.{keeps, state_of, HasObject, MayKnow};
-ghost use Rattle.jr_heap.specs.Heap.{Called, HoldsHeader, Relearns, MayBeNamed, MayBeNamedIn};
+ghost use Rattle.jr_model.specs.Tests.{is_plain as is_plain_of, is_text as is_text_of, is_value as is_value_of};
+ghost use Rattle.jr_rule.specs.Knowing.{state_of, HasObject, MayKnow};
+ghost use Rattle.jr_heap.specs.Heap.{Called, HoldsHeader, Leaves, Relearns, MayBeNamed, MayBeNamedIn};
 
 use crate::object::header;
 use jr_rule::Steps;
@@ -32,10 +32,10 @@ pub fn read_element<S: Steps>(
     requires role { (S.stands steps.old).role ≡ Within }
     requires known { MayKnow S.knows steps.old (HoldsHeader object header) }
     ensures stands { S.stands steps.new ≡ S.stands steps.old }
-    ensures call { Called S.knows steps.old steps.new (HoldsHeader object header) (λ j k. reading (state_of k) object index) result keeps }
+    ensures call { Called S.knows steps.old steps.new (HoldsHeader object header) (λ j k. reading (state_of k) object index) result (Leaves object header) }
     ensures known { MayKnow S.knows steps.new (HoldsHeader object header) }
 {
-    if header.kind == Kind::Plain {
+    if is_plain(header.kind) {
         return Err(Fault::NotArray);
     }
     if index >= header.length {
@@ -67,10 +67,10 @@ pub fn write_element<S: Steps>(
     requires role { (S.stands steps.old).role ≡ Within }
     requires known { MayKnow S.knows steps.old (λ k. HoldsHeader object header k × MayBeNamed header.kind word k) }
     ensures stands { S.stands steps.new ≡ S.stands steps.old }
-    ensures call { Called S.knows steps.old steps.new (λ k. HoldsHeader object header k × MayBeNamed header.kind word k) (λ j k. writing (state_of k) object index word) result keeps }
+    ensures call { Called S.knows steps.old steps.new (λ k. HoldsHeader object header k × MayBeNamed header.kind word k) (λ j k. writing (state_of k) object index word) result (Leaves object header) }
     ensures known { MayKnow S.knows steps.new (HoldsHeader object header) }
 {
-    if header.kind == Kind::Plain || header.kind == Kind::Text {
+    if is_constant(header.kind) {
         return Err(Fault::NotArray);
     }
     if index >= header.length {
@@ -81,6 +81,20 @@ pub fn write_element<S: Steps>(
     }
     steps.put_element(object, header, index, word);
     Ok(())
+}
+
+/// Whether objects of the kind have no elements.
+fn is_plain(kind: Kind) -> bool
+    ensures { result ≡ is_plain_of kind }
+{
+    matches!(kind, Kind::Plain)
+}
+
+/// Whether no element of an object of the kind is ever written: it has none, or it is a string.
+fn is_constant(kind: Kind) -> bool
+    ensures { result ≡ (is_plain_of kind || is_text_of kind) }
+{
+    matches!(kind, Kind::Plain | Kind::Text)
 }
 
 /// Whether a word may be an element of the kind, but for the object that it names.

@@ -22,6 +22,13 @@ impl Numbers {
     pub fn new() -> Self {
         Numbers { next: 0 }
     }
+
+    /// How many of so many numbers stand before the one at which a look begins.
+    fn first(&self, objects: u32) -> u32
+        ensures { 1 ≤ objects → result < objects }
+    {
+        if self.next < objects { self.next } else { 0 }
+    }
 }
 
 /// The number of the turn of a look that began behind so many, and goes round once.
@@ -59,11 +66,7 @@ pub fn publish<S: Steps>(
         place: range.place,
     };
     let objects = steps.config().objects;
-    let first = if numbers.next < objects {
-        numbers.next
-    } else {
-        0
-    };
+    let first = numbers.first(objects);
     for turn in 0..objects {
         let number = number(first, turn, objects);
         if steps.claim_header(number, header) {
