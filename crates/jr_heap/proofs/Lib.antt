@@ -7,3 +7,4 @@ mod Checks
 mod Elements
 mod Turns
 mod Publishing
+mod Whole

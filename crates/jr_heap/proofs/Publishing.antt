@@ -85,12 +85,12 @@ module _ {S : Type 0} {stands : S → Standing} {knows : S → Known → Type 0}
   pub passed_ready : {a b : S} {n : ℕ} → MayKnow knows a (IsFilled h) → Passed stands knows h first objects a b n → MayKnow knows b (IsFilled h)
   passed_ready may p = ∥∥₁_map may (λ k. let x = p.did k.0 k.1 k.2 in (x.0, x.1, x.2))
 
-  pub passed_all : {a b : S} → ((k : Known) → knows a k → k.config.objects ≡ objects) → (1 ≤ objects → first < objects) → Passed stands knows h first objects a b objects
+  pub passed_all : {a b : S} (n : ℕ) → objects ≤ n → ((k : Known) → knows a k → k.config.objects ≡ objects) → (1 ≤ objects → first < objects) → Passed stands knows h first objects a b n
       → Called knows a b (IsFilled h) (λ j k. publish h.kind (words_for h j)) (Err ObjectsFull) (λ j k. k.grasp ≡ j.grasp)
-  passed_all same low p = called_by (λ k s m.
+  passed_all n end same low p = called_by (λ k s m.
       let x = p.did k s m in
       let each : (o : ℕ) → 1 ≤ o → o ≤ k.config.objects → HasObject o x.0 = λ o l u.
           let top : o ≤ objects = subst (λ z. o ≤ z) (same k s) u in
           let t = turn_of first objects o (low (omega arith)) l top in
-          subst (λ z. HasObject z x.0) t.2 (x.4 t.0 t.1) in
+          subst (λ z. HasObject z x.0) t.2 (x.4 t.0 (let b = t.1 in omega arith)) in
       (x.0, x.1, [], record { did = x.5; is = λ f. inr (refl, refl, refl); grounds = sometime_last x.5.begins each; shows = x.3 }))
