@@ -21,8 +21,8 @@ use Rattle.jr_heap.proofs.Headers.{learnt}
 use Rattle.jr_heap.proofs.Staying.{still, word_later, shown_present}
 
 -- the header was read, with no act
-read_header : {k j : Known} (o : ℕ) (h : HeaderParts) (f : Frames) → Ran (view k) (view j) f f (header (state_of j) o) (Ok (h.kind, h.length)) → Did (view k) (view j) []
-read_header {k} {j} o h f r = subst (λ (xs : List Act). Did (view k) (view j) xs) r.is.2.0 r.did
+read_header : (k j : Known) (o : ℕ) (h : HeaderParts) (f : Frames) → Ran (view k) (view j) f f (header (state_of j) o) (Ok (h.kind, h.length)) → Did (view k) (view j) []
+read_header k j o h f r = subst (λ (xs : List Act). Did (view k) (view j) xs) r.is.2.0 r.did
 
 module _ {S : Type 0} {knows : S → Known → Type 0} {a b : S} (o : ℕ) (h : HeaderParts) {first : Known → Type 0} (t : Called knows a b first (λ j k. header (state_of k) o) (Ok (h.kind, h.length)) (Learns o h)) where
   pub called_at : {A : Type 0} {c : S} {met then' : Known → Type 0} {answer : Result A Fault} (call : State → Call A) → Called knows b c then' (λ j k. call (state_of k)) answer (Leaves o h)
@@ -30,7 +30,7 @@ module _ {S : Type 0} {knows : S → Known → Type 0} {a b : S} (o : ℕ) (h : 
   called_at {answer = answer} call u meets next = record {
     ran = λ k s m.
         let r = t.ran k s (meets k m) in
-        let d = λ (f : Frames). read_header o h f (r.2 f) in
+        let d = λ (f : Frames). read_header k r.0 o h f (r.2 f) in
         let q = u.ran r.0 r.1 (next k r.0 s m (d (record { frames = []; given = [] })) r.3) in (
           q.0,
           q.1,
@@ -40,7 +40,7 @@ module _ {S : Type 0} {knows : S → Known → Type 0} {a b : S} (o : ℕ) (h : 
             is = (q.2 f).is;
             grounds = answer_wider [] (d f) (view q.0) (view q.0) answer (prefix_self q.0.seen) (q.2 f).grounds;
           },
-          (h, q.3.0, q.3.1 ∙ r.3.1),
+          (h, (q.3.0, q.3.1 ∙ r.3.1)),
         );
   }
 
@@ -48,16 +48,16 @@ module _ {S : Type 0} {knows : S → Known → Type 0} {a b : S} (o : ℕ) (h : 
   pub may_at : {met then' : Known → Type 0} → ((k : Known) → met k → first k) → ((k j : Known) → knows a k → met k → Did (view k) (view j) [] → Learns o h k j → then' j) → MayKnow knows a met → MayKnow knows b then'
   may_at meets next may = ∥∥₁_map may (λ k.
       let r = t.ran k.0 k.1 (meets k.0 k.2) in
-      (r.0, r.1, next k.0 r.0 k.1 k.2 (read_header o h (record { frames = []; given = [] }) (r.2 (record { frames = []; given = [] }))) r.3))
+      (r.0, r.1, next k.0 r.0 k.1 k.2 (read_header k.0 r.0 o h (record { frames = []; given = [] }) (r.2 (record { frames = []; given = [] }))) r.3))
 
-pub may_present : {S : Type 0} {knows : S → Known → Type 0} {a : S} (o : ℕ) (h : HeaderParts) → MayKnow knows a (HoldsHeader o h) → MayKnow knows a (HasObject o)
-may_present o h may = ∥∥₁_map may (λ k. (k.0, k.1, shown_present o h k.0 k.2.shown))
+pub may_present : {S : Type 0} (knows : S → Known → Type 0) (a : S) (o : ℕ) (h : HeaderParts) → MayKnow knows a (HoldsHeader o h) → MayKnow knows a (HasObject o)
+may_present knows a o h may = ∥∥₁_map may (λ k. (k.0, k.1, shown_present o h k.0 k.2.shown))
 
 some_of : (z : Option Contents) → IsSome z → (x : Contents) × (z ≡ Some x)
 some_of None p = absurd cc
 some_of (Some x) p = (x, refl)
 
-kind_in : Option Contents → Kind
+abbrev kind_in : Option Contents → Kind
 kind_in None = Plain
 kind_in (Some x) = x.kind
 

@@ -5,6 +5,8 @@ mod element;
 mod object;
 mod range;
 mod space;
+#[cfg(test)]
+mod tests;
 
 pub use element::{read, read_element, write, write_element};
 pub use object::{Numbers, header, publish};

@@ -19,4 +19,4 @@ returns-clause-call g c =
     (λ k j s m d l. (learnt c.args.object c.header-header.result k j l, named_at c.args.object c.header-header.result c.args.word k j ((g.met.S.Steps.fits c.args.steps.now k s).role ∙ c.requires.role) m d l))
 
 pub returns-clause-object : goal.returns-clause-object
-returns-clause-object g c = may_present c.args.object c.header-header.result c.write_element.ensures.known
+returns-clause-object g c = may_present g.S.Steps.knows c.write_element.new.steps c.args.object c.header-header.result c.write_element.ensures.known
