@@ -1,13 +1,13 @@
 -- A call of the heap from its steps, for whatever was known.
-use Rattle.std.proofs.Common.{◌≡◌, ℕ, List, [], ◌∷◌, ◌++◌, Result, IfErr, refl}
+use Rattle.std.proofs.Common.{List, [], Result, IfErr}
 use mathlib.Core.Logic.{∥∥₁_map}
 use Rattle.jr_word.specs.declared.fault.Fault.{Fault}
 use Rattle.jr_model.specs.declared.event.Act.{Act}
 use Rattle.jr_model.specs.History.{Did}
 use Rattle.jr_model.specs.Frames.{Frames}
-use Rattle.jr_model.specs.Calls.{Call, Ran}
+use Rattle.jr_model.specs.Calls.{Call}
 use Rattle.jr_model.specs.Refusals.{Grounds}
-use Rattle.jr_model.proofs.Stays.{did_nothing, did_then}
+use Rattle.jr_model.proofs.Stays.{did_nothing}
 use Rattle.jr_rule.specs.declared.known.Known.{Known}
 use Rattle.jr_rule.specs.Knowing.{Standing, IsOf, MayKnow, view}
 use Rattle.jr_heap.specs.Heap.{Called}

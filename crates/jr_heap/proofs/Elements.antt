@@ -1,5 +1,5 @@
 -- Elements are read and written where the header of their object is known.
-use Rattle.std.proofs.Common.{◌≡◌, ◌≢◌, ◌<◌, ◌≤◌, ◌||◌, not, ℕ, Bool, true, false, nat_le, length, Some, List, [], ◌∷◌, Result, Ok, Err, refl, ap, ◌∙◌, subst, sym}
+use Rattle.std.proofs.Common.{◌≡◌, ◌≢◌, ◌<◌, ◌≤◌, ◌||◌, not, ℕ, true, false, nat_le, length, Some, [], ◌∷◌, Ok, Err, refl, ap, ◌∙◌, subst, sym}
 use mathlib.Core.Logic.{∥∥₁_map}
 use Rattle.jr_word.specs.declared.fault.Fault.{Fault}
 use Rattle.jr_word.specs.declared.fault.Fault.TheVariants.{NotArray, Range, Value}

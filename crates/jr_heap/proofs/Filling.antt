@@ -1,5 +1,5 @@
 -- Ranges are filled word by word.
-use Rattle.std.proofs.Common.{◌≡◌, ◌≢◌, ◌<◌, ◌≤◌, ◌+◌, ◌==◌, ℕ, zero, suc, pred, Bool, true, false, cond, List, [], ◌∷◌, take, length, replicate, slice_set, refl, sym, ap, subst, ◌∙◌, arith, Ok, Some, slice_get, ◌⊎◌, ⊎_elim}
+use Rattle.std.proofs.Common.{◌≡◌, ◌≢◌, ◌<◌, ◌≤◌, ◌+◌, ◌==◌, ℕ, zero, suc, false, cond, List, [], ◌∷◌, take, length, replicate, slice_set, refl, sym, ap, subst, ◌∙◌, arith, Ok, Some, slice_get, ◌⊎◌, ⊎_elim}
 use Rattle.std.proofs.lemmas.List.{length-set}
 use Rattle.std.proofs.lemmas.Bool.Decides.{nat_tests}
 use Rattle.std.proofs.Math.Seq.{take-length}
@@ -11,7 +11,7 @@ use Rattle.jr_model.proofs.Updates.{eq_self}
 use Rattle.jr_model.proofs.Stays.{did_then, did_nothing}
 use Rattle.jr_rule.specs.declared.known.Known.{Known}
 use Rattle.jr_rule.specs.declared.known.Grasp.{Grasp}
-use Rattle.jr_rule.specs.Grasping.{words_at, with_range}
+use Rattle.jr_rule.specs.Grasping.{words_at}
 use Rattle.jr_rule.specs.Knowing.{Standing, IsOf, MayKnow, view, HasWord, IsWordNow, ShowsWord, Took}
 use Rattle.jr_rule.proofs.Goes.{goes_did}
 use Rattle.jr_heap.specs.Heap.{Called, words_of, IsOwn, IsReady, Fills, no_act}

@@ -1,5 +1,5 @@
 -- Headers of present objects are read.
-use Rattle.std.proofs.Common.{length, ◌≡◌, ◌≢◌, ◌≤◌, ℕ, Option, Some, None, IsSome, List, [], Ok, refl, sym, ap, subst, ◌∙◌, cond, ◌==◌}
+use Rattle.std.proofs.Common.{length, ◌≡◌, ◌≢◌, ◌≤◌, ℕ, Option, Some, None, IsSome, [], Ok, refl, sym, ap, subst, ◌∙◌, cond}
 use Rattle.std.proofs.Math.Bridge.{le_prop}
 use Rattle.std.proofs.Math.Logic.{∥∥₁_elim, ∥∥₁_map}
 use Rattle.std.proofs.Props.{props}
@@ -12,8 +12,8 @@ use Rattle.jr_model.specs.Parts.{header}
 use Rattle.jr_model.proofs.Updates.{eq_self}
 use Rattle.jr_rule.specs.declared.known.Known.{Known}
 use Rattle.jr_rule.specs.declared.known.Grasp.{Grasp}
-use Rattle.jr_rule.specs.Grasping.{header_in, with_header}
-use Rattle.jr_rule.specs.Knowing.{Standing, IsOf, MayKnow, anything, state_of, HasObject, ShowsHeader, ShowsObject, Took}
+use Rattle.jr_rule.specs.Grasping.{header_in}
+use Rattle.jr_rule.specs.Knowing.{Standing, IsOf, MayKnow, anything, state_of, HasObject, ShowsHeader, Took}
 use Rattle.jr_rule.proofs.Goes.{goes_did, present_stays}
 use Rattle.jr_rule.proofs.InRoom.{in_room}
 use Rattle.jr_heap.specs.Heap.{Called, HoldsHeader, Learns}

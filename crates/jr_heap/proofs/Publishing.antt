@@ -1,15 +1,13 @@
 -- Objects are published at the first absent number that a look comes to.
-use Rattle.std.proofs.Common.{◌≡◌, ◌≢◌, ◌≤◌, ◌<◌, ◌+◌, ◌⊎◌, ⊎_elim, ℕ, Bool, true, false, Option, Some, None, IsSome, length, List, [], ◌∷◌, ◌++◌, Result, Ok, Err, inl, inr, refl, sym, ap, subst, ◌∙◌, arith}
+use Rattle.std.proofs.Common.{◌≡◌, ◌≤◌, ◌<◌, ◌+◌, ◌⊎◌, ⊎_elim, ℕ, true, false, Some, length, List, [], ◌∷◌, ◌++◌, Ok, Err, inl, inr, refl, sym, ap, subst, ◌∙◌, arith}
 use mathlib.Core.Logic.{∥∥₁_map}
-use Rattle.jr_word.specs.declared.config.Config.{Config}
 use Rattle.jr_word.specs.declared.fault.Fault.TheVariants.{ObjectsFull}
 use Rattle.jr_word.specs.declared.header.HeaderParts.{HeaderParts}
 use Rattle.jr_word.specs.declared.kind.Kind.{Kind}
 use Rattle.jr_model.specs.declared.event.Role.TheVariants.{Within}
-use Rattle.jr_model.specs.declared.event.Act.TheVariants.{Leave, New}
-use Rattle.jr_model.specs.State.{Contents, State, AreWords}
-use Rattle.jr_model.specs.History.{by, state, IsLegal, role_of, Did}
-use Rattle.jr_model.specs.Refusals.{ObjectsWereFull}
+use Rattle.jr_model.specs.declared.event.Act.TheVariants.{New}
+use Rattle.jr_model.specs.State.{State, AreWords}
+use Rattle.jr_model.specs.History.{by, state, role_of, Did}
 use Rattle.jr_model.specs.Parts.{publish}
 use Rattle.jr_model.proofs.Updates.{at_number_self}
 use Rattle.jr_model.proofs.Histories.{state_push}
@@ -20,7 +18,7 @@ use Rattle.jr_rule.specs.declared.known.Grasp.{Grasp}
 use Rattle.jr_rule.specs.Acts.{publishing}
 use Rattle.jr_rule.specs.Knowing.{Standing, IsOf, MayKnow, Goes, view, state_of, words_for, published, HasObject, IsFilled, ShowsPublished, TookWith}
 use Rattle.jr_rule.proofs.Goes.{goes_did}
-use Rattle.jr_heap.specs.Heap.{Called, number_of, words_of, IsReady, Publishes}
+use Rattle.jr_heap.specs.Heap.{Called, number_of}
 use Rattle.jr_heap.proofs.Calling.{called_by}
 use Rattle.jr_heap.proofs.Staying.{present_later, word_later}
 use Rattle.jr_heap.proofs.Turns.{turn_of}

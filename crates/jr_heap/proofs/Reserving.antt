@@ -1,10 +1,8 @@
 -- Space is reserved by one look and one exchange.
-use Rattle.std.proofs.Common.{arith, ◌≡◌, ◌≢◌, ◌≤◌, ◌<◌, ◌+◌, ◌==◌, ℕ, zero, suc, Bool, true, false, cond, nat_lt, List, [], ◌∷◌, length, Ok, Err, inl, inr, refl, sym, ap, subst, ◌∙◌}
+use Rattle.std.proofs.Common.{arith, ◌≡◌, ◌≢◌, ◌≤◌, ◌<◌, ◌+◌, ◌==◌, ℕ, zero, suc, false, cond, List, [], ◌∷◌, length, Ok, Err, inl, inr, refl, sym, ap, subst, ◌∙◌}
 use Rattle.std.proofs.lemmas.Bool.{lt-ltb, le-ltb}
 use Rattle.std.proofs.lemmas.Bool.Decides.{nat_tests}
-use Rattle.jr_word.specs.declared.config.Config.{Config}
 use Rattle.jr_word.specs.declared.fault.Fault.TheVariants.{SpaceFull, Raced}
-use Rattle.jr_model.specs.declared.event.Act.{Act}
 use Rattle.jr_model.specs.declared.event.Act.TheVariants.{Reserve, ReserveFull, ReserveLost}
 use Rattle.jr_model.specs.History.{Did}
 use Rattle.jr_model.specs.Frames.{Frames}
@@ -15,9 +13,9 @@ use Rattle.jr_model.proofs.Stays.{did_then}
 use Rattle.jr_rule.specs.declared.known.Known.{Known}
 use Rattle.jr_rule.specs.declared.known.Grasp.{Grasp}
 use Rattle.jr_rule.specs.declared.naming.TopNaming.TheVariants as top
-use Rattle.jr_rule.specs.Acts.{top_named, reserving}
+use Rattle.jr_rule.specs.Acts.{top_named}
 use Rattle.jr_rule.specs.Grasping.{words_at, with_range}
-use Rattle.jr_rule.specs.Knowing.{Standing, IsOf, MayKnow, view, anything, keeps, ShowsUsed, ShowsRange, Took}
+use Rattle.jr_rule.specs.Knowing.{Standing, MayKnow, view, anything, keeps, ShowsUsed, ShowsRange, Took}
 use Rattle.jr_rule.proofs.Goes.{goes_did, may_then}
 use Rattle.jr_heap.specs.Heap.{Called, IsOwn, Gains}
 use Rattle.jr_heap.proofs.Calling.{called_by}

@@ -15,9 +15,8 @@ use Rattle.jr_model.specs.Parts.{header}
 use Rattle.jr_model.proofs.Moments.{answer_wider, prefix_self}
 use Rattle.jr_model.proofs.Stays.{did_then}
 use Rattle.jr_rule.specs.declared.known.Known.{Known}
-use Rattle.jr_rule.specs.Knowing.{Standing, IsOf, MayKnow, view, state_of, HasObject, ShowsObject}
+use Rattle.jr_rule.specs.Knowing.{MayKnow, view, state_of, HasObject}
 use Rattle.jr_heap.specs.Heap.{Called, HoldsHeader, Learns, Leaves, Relearns, MayBeNamed, MayBeNamedIn}
-use Rattle.jr_heap.proofs.Headers.{learnt}
 use Rattle.jr_heap.proofs.Staying.{still, word_later, shown_present}
 
 -- the header was read, with no act

@@ -70,6 +70,55 @@ fn opened(alloc: Global, config: Config) -> Result<(Room<2>, Pass, Pass), Fail>
     Ok((room, first, second))
 }
 
+/// An array of three numbers is made, written and read.
+fn make_and_write<S: Steps>(
+    rt: &impl Abort,
+    steps: &mut S,
+    numbers: &mut Numbers,
+) -> Result<u16, Fail>
+    requires { (S.stands steps.old).role ≡ Within }
+    ensures { S.stands steps.new ≡ S.stands steps.old }
+{
+    let range = reserve(steps, 3)?;
+    assert_eq!(rt; range.length(), 3);
+    fill(steps, &range, 0);
+    let object = publish(steps, numbers, Kind::Int, range)?;
+    let parts = HeaderParts {
+        kind: Kind::Int,
+        length: 3,
+        place: 0,
+    };
+    assert_eq!(rt; header(steps, object), parts);
+    assert_eq!(rt; write(steps, object, 2, 7), Ok(()));
+    assert_eq!(rt; read(steps, object, 2), Ok(7));
+    assert_eq!(rt; read(steps, object, 1), Ok(0));
+    assert_eq!(rt; read(steps, object, 3), Err(Fault::Range));
+    assert_eq!(rt; write(steps, object, 3, 1), Err(Fault::Range));
+    assert_eq!(rt; write(steps, object, 0, 4_294_967_296), Err(Fault::Value));
+    assert_eq!(rt; read(steps, object, 0), Ok(0));
+    assert_eq!(rt; reserve(steps, 6).err(), Some(Fault::SpaceFull(3)));
+    Ok(object)
+}
+
+/// A plain object is made, and no further one in a room of two objects.
+fn make_plain<S: Steps>(
+    rt: &impl Abort,
+    steps: &mut S,
+    numbers: &mut Numbers,
+) -> Result<u16, Fail>
+    requires { (S.stands steps.old).role ≡ Within }
+    ensures { S.stands steps.new ≡ S.stands steps.old }
+{
+    let empty = reserve(steps, 0)?;
+    let plain = publish(steps, numbers, Kind::Plain, empty)?;
+    assert_eq!(rt; read(steps, plain, 0), Err(Fault::NotArray));
+    assert_eq!(rt; write(steps, plain, 0, 0), Err(Fault::NotArray));
+    let empty = reserve(steps, 0)?;
+    let further = publish(steps, numbers, Kind::Plain, empty);
+    assert_eq!(rt; further, Err(Fault::ObjectsFull));
+    Ok(plain)
+}
+
 /// Two passes of one room share its space and its object numbers.
 #[test]
 fn two_passes_share_space_and_numbers(rt: HostRuntime) -> Result<(), Fail> {
@@ -77,49 +126,20 @@ fn two_passes_share_space_and_numbers(rt: HostRuntime) -> Result<(), Fail> {
     let mut first = RoomSteps::new(&room, first);
     let mut second = RoomSteps::new(&room, second);
     let mut numbers = Numbers::new();
-    let Ok(stay) = enter(&mut first) else {
-        return Err("nobody collects")?;
-    };
-    let Ok(other_stay) = enter(&mut second) else {
-        return Err("nobody collects")?;
-    };
+    assert!(rt; first.go_in());
+    assert!(rt; second.go_in());
 
-    let range = reserve(&mut first, 3)?;
-    assert_eq!(rt; range.length(), 3);
-    fill(&mut first, &range, 0);
-    let object = publish(&mut first, &mut numbers, Kind::Int, range)?;
-    let parts = HeaderParts {
-        kind: Kind::Int,
-        length: 3,
-        place: 0,
-    };
-    assert_eq!(rt; header(&mut first, object), parts);
-    assert_eq!(rt; write(&mut first, object, 2, 7), Ok(()));
-    assert_eq!(rt; read(&mut first, object, 2), Ok(7));
-    assert_eq!(rt; read(&mut first, object, 1), Ok(0));
-    assert_eq!(rt; read(&mut first, object, 3), Err(Fault::Range));
-    assert_eq!(rt; write(&mut first, object, 3, 1), Err(Fault::Range));
-    assert_eq!(rt; write(&mut first, object, 0, 4_294_967_296), Err(Fault::Value));
-    assert_eq!(rt; read(&mut first, object, 0), Ok(0));
-    assert_eq!(rt; reserve(&mut first, 6).err(), Some(Fault::SpaceFull(3)));
-
+    let object = make_and_write(&rt, &mut first, &mut numbers)?;
     let looked = second.see_top(TopNaming::Look);
     assert_eq!(rt; looked, 3);
     assert!(rt; reserve(&mut first, 2).is_ok());
     assert_eq!(rt; second.claim_top(looked, 1), Err(5));
     assert_eq!(rt; reserve(&mut second, 4).err(), Some(Fault::SpaceFull(5)));
-
-    let empty = reserve(&mut first, 0)?;
-    let plain = publish(&mut first, &mut numbers, Kind::Plain, empty)?;
+    let plain = make_plain(&rt, &mut first, &mut numbers)?;
     assert!(rt; plain != object);
-    assert_eq!(rt; read(&mut first, plain, 0), Err(Fault::NotArray));
-    assert_eq!(rt; write(&mut first, plain, 0, 0), Err(Fault::NotArray));
-    let empty = reserve(&mut first, 0)?;
-    let second_plain = publish(&mut first, &mut numbers, Kind::Plain, empty);
-    assert_eq!(rt; second_plain, Err(Fault::ObjectsFull));
 
-    stay.leave(&mut first);
-    other_stay.leave(&mut second);
+    first.go_out();
+    second.go_out();
     let (first, _second) = (first.into_pass(), second.into_pass());
     let summary = Summary {
         globals: 0,

@@ -1,4 +1,4 @@
-use Rattle.std.proofs.Common.{refl, sym, ◌∙◌, arith}
+use Rattle.std.proofs.Common.{sym, ◌∙◌, arith}
 use mathlib.Core.Logic.{∥∥₁_map}
 use Rattle.jr_heap.proofs.Elements.{read_plain, read_beyond, read_found, still_holds}
 use Rattle.jr_heap.proofs.element.read_element.Goals as goal

@@ -1,4 +1,3 @@
-use Rattle.jr_heap.specs.Heap.{header_of}
 use Rattle.jr_heap.proofs.Publishing.{Passed}
 use Rattle.jr_heap.proofs.object.publish.Given as goal
 
