@@ -8,3 +8,4 @@ mod Elements
 mod Turns
 mod Publishing
 mod Whole
+mod Lists

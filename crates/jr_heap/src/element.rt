@@ -73,7 +73,7 @@ pub fn write_element<S: Steps>(
     if is_constant(header.kind) {
         return Err(Fault::NotArray);
     }
-    if index >= header.length {
+    if header.length <= index {
         return Err(Fault::Range);
     }
     if !is_value(header.kind, word) {

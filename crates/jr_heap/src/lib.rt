@@ -2,6 +2,7 @@
 #![tactic(auto)]
 
 mod element;
+mod laws;
 mod object;
 mod range;
 mod space;
@@ -9,6 +10,7 @@ mod space;
 mod tests;
 
 pub use element::{read, read_element, write, write_element};
+pub use laws::{headers_hold, objects_are_lists};
 pub use object::{Numbers, header, publish};
 pub use range::Range;
 pub use space::{fill, reserve};

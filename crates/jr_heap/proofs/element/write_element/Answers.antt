@@ -11,17 +11,17 @@ returns-then-is_constant-clause-call g c = write_no_array g.met.S.Steps.fits c.a
 pub returns-then-is_constant-clause-known : goal.returns-then-is_constant-clause-known
 returns-then-is_constant-clause-known g c = ∥∥₁_map c.requires.known (λ k. (k.0, k.1, k.2.0))
 
-pub returns-then-index-header-clause-call : goal.returns-then-index-header-clause-call
-returns-then-index-header-clause-call g c =
-    write_beyond g.met.S.Steps.fits c.args.object c.args.header c.args.index c.args.word c.args.steps.now (sym c.is_constant.ensures ∙ c.if-is_constant.false) c.if-index-header.true
+pub returns-then-header-index-clause-call : goal.returns-then-header-index-clause-call
+returns-then-header-index-clause-call g c =
+    write_beyond g.met.S.Steps.fits c.args.object c.args.header c.args.index c.args.word c.args.steps.now (sym c.is_constant.ensures ∙ c.if-is_constant.false) c.if-header-index.true
 
-pub returns-then-index-header-clause-known : goal.returns-then-index-header-clause-known
-returns-then-index-header-clause-known g c = ∥∥₁_map c.requires.known (λ k. (k.0, k.1, k.2.0))
+pub returns-then-header-index-clause-known : goal.returns-then-header-index-clause-known
+returns-then-header-index-clause-known g c = ∥∥₁_map c.requires.known (λ k. (k.0, k.1, k.2.0))
 
 pub returns-then-not-is_value-clause-call : goal.returns-then-not-is_value-clause-call
 returns-then-not-is_value-clause-call g c =
     write_value g.met.S.Steps.fits c.args.object c.args.header c.args.index c.args.word c.args.steps.now (sym c.is_constant.ensures ∙ c.if-is_constant.false)
-    (let l = c.if-index-header.false in omega arith) (sym c.is_value.ensures ∙ c.if-not-is_value.true)
+    (let l = c.if-header-index.false in omega arith) (sym c.is_value.ensures ∙ c.if-not-is_value.true)
 
 pub returns-then-not-is_value-clause-known : goal.returns-then-not-is_value-clause-known
 returns-then-not-is_value-clause-known g c = ∥∥₁_map c.requires.known (λ k. (k.0, k.1, k.2.0))
@@ -32,7 +32,7 @@ put_element-requires-clause-known g c = may_write g.met.S.Steps.fits c.args.obje
 pub returns-clause-call : goal.returns-clause-call
 returns-clause-call g c =
     write_stored g.met.S.Steps.fits c.args.object c.args.header c.args.index c.args.word c.requires.role (sym c.is_constant.ensures ∙ c.if-is_constant.false)
-    (let l = c.if-index-header.false in omega arith) (sym c.is_value.ensures ∙ c.if-not-is_value.false) c.put_element.ensures
+    (let l = c.if-header-index.false in omega arith) (sym c.is_value.ensures ∙ c.if-not-is_value.false) c.put_element.ensures
 
 pub returns-clause-known : goal.returns-clause-known
 returns-clause-known g c = still_holds g.met.S.Steps.fits c.args.object c.args.header (λ e. cc) c.requires.role c.put_element.ensures
