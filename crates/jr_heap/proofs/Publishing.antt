@@ -88,7 +88,7 @@ module _ {S : Type 0} {stands : S → Standing} {knows : S → Known → Type 0}
   passed_all n end same low p = called_by (λ k s m.
       let x = p.did k s m in
       let each : (o : ℕ) → 1 ≤ o → o ≤ k.config.objects → HasObject o x.0 = λ o l u.
-          let top : o ≤ objects = subst (λ z. o ≤ z) (same k s) u in
-          let t = turn_of first objects o (low (omega arith)) l top in
-          subst (λ z. HasObject z x.0) t.2 (x.4 t.0 (let b = t.1 in omega arith)) in
+      let top : o ≤ objects = subst (λ z. o ≤ z) (same k s) u in
+      let t = turn_of first objects o (low (omega arith)) l top in
+      subst (λ z. HasObject z x.0) t.2 (x.4 t.0 (let b = t.1 in omega arith)) in
       (x.0, x.1, [], record { did = x.5; is = λ f. inr (refl, refl, refl); grounds = sometime_last x.5.begins each; shows = x.3 }))

@@ -101,11 +101,7 @@ fn make_and_write<S: Steps>(
 }
 
 /// A plain object is made, and no further one in a room of two objects.
-fn make_plain<S: Steps>(
-    rt: &impl Abort,
-    steps: &mut S,
-    numbers: &mut Numbers,
-) -> Result<u16, Fail>
+fn make_plain<S: Steps>(rt: &impl Abort, steps: &mut S, numbers: &mut Numbers) -> Result<u16, Fail>
     requires { (S.stands steps.old).role ≡ Within }
     ensures { S.stands steps.new ≡ S.stands steps.old }
 {
@@ -179,12 +175,54 @@ fn each_kind_keeps_its_least_and_greatest_word(rt: HostRuntime) -> Result<(), Fa
     let mut steps = PlainSteps::<2>::new(rt.alloc(), WIDE)?;
     assert!(rt; steps.go_in());
     let mut numbers = Numbers::new();
-    keeps_ends(&rt, &mut steps, &mut numbers, Kind::Boolean, false.to_word(), true.to_word())?;
-    keeps_ends(&rt, &mut steps, &mut numbers, Kind::Byte, i8::MIN.to_word(), i8::MAX.to_word())?;
-    keeps_ends(&rt, &mut steps, &mut numbers, Kind::Char, u16::MIN.to_word(), u16::MAX.to_word())?;
-    keeps_ends(&rt, &mut steps, &mut numbers, Kind::Short, i16::MIN.to_word(), i16::MAX.to_word())?;
-    keeps_ends(&rt, &mut steps, &mut numbers, Kind::Int, i32::MIN.to_word(), i32::MAX.to_word())?;
-    keeps_ends(&rt, &mut steps, &mut numbers, Kind::Long, i64::MIN.to_word(), i64::MAX.to_word())?;
+    keeps_ends(
+        &rt,
+        &mut steps,
+        &mut numbers,
+        Kind::Boolean,
+        false.to_word(),
+        true.to_word(),
+    )?;
+    keeps_ends(
+        &rt,
+        &mut steps,
+        &mut numbers,
+        Kind::Byte,
+        i8::MIN.to_word(),
+        i8::MAX.to_word(),
+    )?;
+    keeps_ends(
+        &rt,
+        &mut steps,
+        &mut numbers,
+        Kind::Char,
+        u16::MIN.to_word(),
+        u16::MAX.to_word(),
+    )?;
+    keeps_ends(
+        &rt,
+        &mut steps,
+        &mut numbers,
+        Kind::Short,
+        i16::MIN.to_word(),
+        i16::MAX.to_word(),
+    )?;
+    keeps_ends(
+        &rt,
+        &mut steps,
+        &mut numbers,
+        Kind::Int,
+        i32::MIN.to_word(),
+        i32::MAX.to_word(),
+    )?;
+    keeps_ends(
+        &rt,
+        &mut steps,
+        &mut numbers,
+        Kind::Long,
+        i64::MIN.to_word(),
+        i64::MAX.to_word(),
+    )?;
     keeps_ends(&rt, &mut steps, &mut numbers, Kind::Objects, 0, 1)?;
     let summary = Summary {
         globals: 0,
@@ -234,13 +272,25 @@ fn one_array_takes_the_whole_space(rt: HostRuntime) -> Result<(), Fail> {
     let mut steps = PlainSteps::<2>::new(rt.alloc(), LARGE)?;
     assert!(rt; steps.go_in());
     let mut numbers = Numbers::new();
-    assert_eq!(rt; reserve(&mut steps, 1_048_577).err(), Some(Fault::SpaceFull(0)));
-    assert_eq!(rt; reserve(&mut steps, u32::MAX).err(), Some(Fault::SpaceFull(0)));
+    assert_eq!(rt;
+        reserve(&mut steps, 1_048_577).err(),
+        Some(Fault::SpaceFull(0))
+    );
+    assert_eq!(rt;
+        reserve(&mut steps, u32::MAX).err(),
+        Some(Fault::SpaceFull(0))
+    );
     let range = reserve(&mut steps, 1_048_576)?;
     fill(&mut steps, &range, u64::MAX);
     let object = publish(&mut steps, &mut numbers, Kind::Long, range)?;
-    assert_eq!(rt; reserve(&mut steps, 1).err(), Some(Fault::SpaceFull(1_048_576)));
-    assert_eq!(rt; reserve(&mut steps, u32::MAX).err(), Some(Fault::SpaceFull(1_048_576)));
+    assert_eq!(rt;
+        reserve(&mut steps, 1).err(),
+        Some(Fault::SpaceFull(1_048_576))
+    );
+    assert_eq!(rt;
+        reserve(&mut steps, u32::MAX).err(),
+        Some(Fault::SpaceFull(1_048_576))
+    );
     assert_eq!(rt; read(&mut steps, object, 0), Ok(u64::MAX));
     assert_eq!(rt; read(&mut steps, object, 1_048_575), Ok(u64::MAX));
     assert_eq!(rt; read(&mut steps, object, 1_048_576), Err(Fault::Range));
@@ -260,10 +310,16 @@ fn each_number_is_given_once(rt: HostRuntime) -> Result<(), Fail> {
     }
     assert_eq!(rt; given, 65_535 * 65_536 / 2);
     let empty = reserve(&mut steps, 0)?;
-    assert_eq!(rt; publish(&mut steps, &mut numbers, Kind::Int, empty), Err(Fault::ObjectsFull));
+    assert_eq!(rt;
+        publish(&mut steps, &mut numbers, Kind::Int, empty),
+        Err(Fault::ObjectsFull)
+    );
     let empty = reserve(&mut steps, 0)?;
     let mut others = Numbers::new();
-    assert_eq!(rt; publish(&mut steps, &mut others, Kind::Int, empty), Err(Fault::ObjectsFull));
+    assert_eq!(rt;
+        publish(&mut steps, &mut others, Kind::Int, empty),
+        Err(Fault::ObjectsFull)
+    );
     Ok(())
 }
 
