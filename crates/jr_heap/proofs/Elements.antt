@@ -25,13 +25,13 @@ use Rattle.jr_heap.proofs.Staying.{object_later, header_later}
 use Rattle.jr_heap.proofs.Checks.{stop, pass, beyond, inside, word_is}
 
 -- what follows the check of the kind, in an object of n elements
-abbrev read_rest : ℕ → ℕ → ℕ → Call ℕ
+abbrev pub read_rest : ℕ → ℕ → ℕ → Call ℕ
 read_rest o i n = refuse_if (nat_le n i) Range >> some_act (Read o i)
 
-abbrev write_last : Kind → ℕ → ℕ → ℕ → Call (Unit {0})
+abbrev pub write_last : Kind → ℕ → ℕ → ℕ → Call (Unit {0})
 write_last kind o i v = refuse_if (not (is_value kind v)) Value >> act (Write o i v)
 
-abbrev write_rest : Kind → ℕ → ℕ → ℕ → ℕ → Call (Unit {0})
+abbrev pub write_rest : Kind → ℕ → ℕ → ℕ → ℕ → Call (Unit {0})
 write_rest kind o i v n = refuse_if (nat_le n i) Range >> write_last kind o i v
 
 -- how the checks end

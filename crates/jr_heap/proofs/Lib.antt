@@ -9,3 +9,4 @@ mod Turns
 mod Publishing
 mod Whole
 mod Lists
+mod Tried

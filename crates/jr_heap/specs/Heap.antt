@@ -66,6 +66,10 @@ pub record HoldsHeader (o : ℕ) (h : HeaderParts) (k : Known) : Type 0 where
   pub known : KnowsHeader o h k
   pub shown : ShowsObject o h k
 
+-- the object is present, and of the kind
+abbrev pub HasKind : ℕ → Kind → Known → Type 0
+HasKind o kind k = (x : Contents) × ((state_of k).objects o ≡ Some x) × (x.kind ≡ kind)
+
 -- what a look at a header shows: the pass knows it from then on
 abbrev pub Learns : ℕ → HeaderParts → Known → Known → Type 0
 Learns o h j k = ShowsObject o h k × (k.grasp ≡ with_header j.grasp o h)

@@ -1,13 +1,17 @@
 //! The heap of a room that several passes share.
-ghost use Rattle.std.specs.Prelude.{◌≡◌, All, IfOk};
+ghost use Rattle.std.specs.Prelude.{◌≡◌, ◌≢◌, All, IfOk};
+ghost use Rattle.jr_word.specs.declared.kind.Kind.TheVariants.{Plain};
 ghost use Rattle.jr_model.specs.declared.event.Role.TheVariants.{Outside, Within};
+ghost use Rattle.jr_rule.specs.declared.known.Known.{Known};
+ghost use Rattle.jr_rule.specs.Knowing.{IsWordNow, MayKnow};
 ghost use Rattle.jr_rule.specs.Passes.{IsOpened};
+ghost use Rattle.jr_heap.specs.Heap.{HasKind, MayBeNamed};
 
 use crate::*;
 use jr_gate::enter;
 use jr_model::Summary;
 use jr_rule::{Pass, PlainSteps, Room, RoomSteps, Steps, TopNaming};
-use jr_word::{Config, Elem, Fault, HeaderParts, Kind};
+use jr_word::{Config, Fault, Kind};
 use std::alloc::Global;
 use std::process::Abort;
 use std::sync::Wait;
@@ -42,6 +46,15 @@ const LARGE: Config = Config {
     locals: 16,
 };
 
+/// A room of two threads for the arrays of both.
+const SHARED: Config = Config {
+    threads: 2,
+    slots: 1,
+    objects: 20_000,
+    words: 20_000,
+    locals: 16,
+};
+
 /// How often a thread writes and reads.
 const ROUNDS: u32 = 10_000;
 
@@ -70,6 +83,52 @@ fn opened(alloc: Global, config: Config) -> Result<(Room<2>, Pass, Pass), Fail>
     Ok((room, first, second))
 }
 
+/// A new object with so many elements, each of which is the word.
+fn made<S: Steps>(
+    steps: &mut S,
+    numbers: &mut Numbers,
+    kind: Kind,
+    length: u32,
+    word: u64,
+) -> Result<u16, Fault>
+    requires role { (S.stands steps.old).role ≡ Within }
+    requires plain { kind ≡ Plain → length ≡ 0 }
+    requires word { (k : Known) → IsWordNow kind word k }
+    ensures stands { S.stands steps.new ≡ S.stands steps.old }
+    ensures object { IfOk result (λ o. MayKnow S.knows steps.new (HasKind o kind)) }
+{
+    let range = reserve(steps, length)?;
+    fill(steps, &range, word);
+    publish(steps, numbers, kind, range)
+}
+
+/// The element at an index of an object of the kind.
+fn got<S: Steps>(steps: &mut S, object: u16, _kind: Kind, index: u32) -> Result<u64, Fault>
+    requires role { (S.stands steps.old).role ≡ Within }
+    requires object { MayKnow S.knows steps.old (HasKind object _kind) }
+    ensures stands { S.stands steps.new ≡ S.stands steps.old }
+    ensures object { MayKnow S.knows steps.new (HasKind object _kind) }
+{
+    read(steps, object, index)
+}
+
+/// Writes the element at an index of an object of the kind.
+fn put<S: Steps>(
+    steps: &mut S,
+    object: u16,
+    _kind: Kind,
+    index: u32,
+    word: u64,
+) -> Result<(), Fault>
+    requires role { (S.stands steps.old).role ≡ Within }
+    requires object { MayKnow S.knows steps.old (HasKind object _kind) }
+    requires named { (k : Known) → MayBeNamed _kind word k }
+    ensures stands { S.stands steps.new ≡ S.stands steps.old }
+    ensures object { MayKnow S.knows steps.new (HasKind object _kind) }
+{
+    write(steps, object, index, word)
+}
+
 /// An array of three numbers is made, written and read.
 fn make_and_write<S: Steps>(
     rt: &impl Abort,
@@ -79,25 +138,30 @@ fn make_and_write<S: Steps>(
     requires { (S.stands steps.old).role ≡ Within }
     ensures { S.stands steps.new ≡ S.stands steps.old }
 {
-    let range = reserve(steps, 3)?;
-    assert_eq!(rt; range.length(), 3);
-    fill(steps, &range, 0);
-    let object = publish(steps, numbers, Kind::Int, range)?;
-    let parts = HeaderParts {
-        kind: Kind::Int,
-        length: 3,
-        place: 0,
-    };
-    assert_eq!(rt; header(steps, object), parts);
-    assert_eq!(rt; write(steps, object, 2, 7), Ok(()));
-    assert_eq!(rt; read(steps, object, 2), Ok(7));
-    assert_eq!(rt; read(steps, object, 1), Ok(0));
-    assert_eq!(rt; read(steps, object, 3), Err(Fault::Range));
-    assert_eq!(rt; write(steps, object, 3, 1), Err(Fault::Range));
-    assert_eq!(rt; write(steps, object, 0, 4_294_967_296), Err(Fault::Value));
-    assert_eq!(rt; read(steps, object, 0), Ok(0));
+    let object = made(steps, numbers, Kind::Int, 3, 0)?;
+    assert_eq!(rt; put(steps, object, Kind::Int, 2, 7), Ok(()));
+    assert_eq!(rt; got(steps, object, Kind::Int, 2), Ok(7));
+    assert_eq!(rt; got(steps, object, Kind::Int, 1), Ok(0));
+    assert_eq!(rt; got(steps, object, Kind::Int, 3), Err(Fault::Range));
+    assert_eq!(rt; put(steps, object, Kind::Int, 3, 1), Err(Fault::Range));
+    assert_eq!(rt;
+        put(steps, object, Kind::Int, 0, 4_294_967_296),
+        Err(Fault::Value)
+    );
+    assert_eq!(rt; got(steps, object, Kind::Int, 0), Ok(0));
+    assert_eq!(rt; parts_of(steps, object, Kind::Int), (Kind::Int, 3, 0));
     assert_eq!(rt; reserve(steps, 6).err(), Some(Fault::SpaceFull(3)));
     Ok(object)
+}
+
+/// The kind, length and place of an object of the kind.
+fn parts_of<S: Steps>(steps: &mut S, object: u16, _kind: Kind) -> (Kind, u32, u32)
+    requires role { (S.stands steps.old).role ≡ Within }
+    requires object { MayKnow S.knows steps.old (HasKind object _kind) }
+    ensures { S.stands steps.new ≡ S.stands steps.old }
+{
+    let parts = header(steps, object);
+    (parts.kind, parts.length, parts.place)
 }
 
 /// A plain object is made, and no further one in a room of two objects.
@@ -105,14 +169,95 @@ fn make_plain<S: Steps>(rt: &impl Abort, steps: &mut S, numbers: &mut Numbers) -
     requires { (S.stands steps.old).role ≡ Within }
     ensures { S.stands steps.new ≡ S.stands steps.old }
 {
-    let empty = reserve(steps, 0)?;
-    let plain = publish(steps, numbers, Kind::Plain, empty)?;
-    assert_eq!(rt; read(steps, plain, 0), Err(Fault::NotArray));
-    assert_eq!(rt; write(steps, plain, 0, 0), Err(Fault::NotArray));
-    let empty = reserve(steps, 0)?;
-    let further = publish(steps, numbers, Kind::Plain, empty);
+    let plain = made(steps, numbers, Kind::Int, 0, 0)?;
+    assert_eq!(rt; got(steps, plain, Kind::Int, 0), Err(Fault::Range));
+    let further = made(steps, numbers, Kind::Int, 0, 0);
     assert_eq!(rt; further, Err(Fault::ObjectsFull));
     Ok(plain)
+}
+
+/// Two elements are the least word, and then the second one is the greatest.
+fn keeps_ends<S: Steps>(
+    rt: &impl Abort,
+    steps: &mut S,
+    numbers: &mut Numbers,
+    kind: Kind,
+    greatest: u64,
+) -> Result<(), Fail>
+    requires role { (S.stands steps.old).role ≡ Within }
+    requires kind { kind ≢ Plain }
+    requires least { (k : Known) → IsWordNow kind 0 k }
+    requires greatest { (k : Known) → MayBeNamed kind greatest k }
+    ensures { S.stands steps.new ≡ S.stands steps.old }
+{
+    let object = made(steps, numbers, kind, 2, 0)?;
+    assert_eq!(rt; got(steps, object, kind, 0), Ok(0));
+    assert_eq!(rt; got(steps, object, kind, 1), Ok(0));
+    assert_eq!(rt; put(steps, object, kind, 1, greatest), Ok(()));
+    assert_eq!(rt; got(steps, object, kind, 0), Ok(0));
+    assert_eq!(rt; got(steps, object, kind, 1), Ok(greatest));
+    let (found, length, _) = parts_of(steps, object, kind);
+    assert_eq!(rt; (found, length), (kind, 2));
+    Ok(())
+}
+
+/// Makes an array of its own so often, writes it and reads it, or until it has tried so often. How often it read what it had written.
+fn write_and_read<S: Steps>(steps: &mut S, rounds: u32, tries: u32) -> u32
+    requires { (S.stands steps.old).role ≡ Within }
+    ensures { S.stands steps.new ≡ S.stands steps.old }
+{
+    let mut numbers = Numbers::new();
+    let mut right = 0;
+    for _ in 0..tries {
+        if right >= rounds {
+            break;
+        }
+        match made(steps, &mut numbers, Kind::Int, 1, 0) {
+            Ok(object) => {
+                let word = u64::from(right) + 1;
+                let wrote = put(steps, object, Kind::Int, 0, word);
+                if wrote.is_ok() && got(steps, object, Kind::Int, 0) == Ok(word) {
+                    right += 1;
+                }
+            }
+            Err(_) => thread::yield_now(),
+        }
+    }
+    right
+}
+
+/// A word that is one too large is refused, and an index past the length before it.
+fn refuses_past<S: Steps>(
+    rt: &impl Abort,
+    steps: &mut S,
+    numbers: &mut Numbers,
+    kind: Kind,
+    past: u64,
+) -> Result<(), Fail>
+    requires role { (S.stands steps.old).role ≡ Within }
+    requires kind { kind ≢ Plain }
+    requires least { (k : Known) → IsWordNow kind 0 k }
+    requires named { (k : Known) → MayBeNamed kind past k }
+    ensures { S.stands steps.new ≡ S.stands steps.old }
+{
+    let object = made(steps, numbers, kind, 1, 0)?;
+    assert_eq!(rt; put(steps, object, kind, 0, past), Err(Fault::Value));
+    assert_eq!(rt; put(steps, object, kind, 1, past), Err(Fault::Range));
+    assert_eq!(rt; got(steps, object, kind, 0), Ok(0));
+    Ok(())
+}
+
+/// Makes so many objects without elements. The sum of their numbers.
+fn make_many<S: Steps>(steps: &mut S, numbers: &mut Numbers, count: u32) -> Result<u64, Fail>
+    requires { (S.stands steps.old).role ≡ Within }
+    ensures { S.stands steps.new ≡ S.stands steps.old }
+{
+    let mut sum = 0u64;
+    for _ in 0..count {
+        let object = made(steps, numbers, Kind::Int, 0, 0)?;
+        sum = sum.saturating_add(u64::from(object));
+    }
+    Ok(sum)
 }
 
 /// Two passes of one room share its space and its object numbers.
@@ -147,83 +292,21 @@ fn two_passes_share_space_and_numbers(rt: HostRuntime) -> Result<(), Fail> {
     Ok(())
 }
 
-/// Reserves two words, fills them with the least one, publishes them, and writes the greatest one in the second.
-fn keeps_ends<S: Steps>(
-    rt: &impl Abort,
-    steps: &mut S,
-    numbers: &mut Numbers,
-    kind: Kind,
-    least: u64,
-    greatest: u64,
-) -> Result<(), Fail> {
-    let range = reserve(steps, 2)?;
-    fill(steps, &range, least);
-    let object = publish(steps, numbers, kind, range)?;
-    assert_eq!(rt; read(steps, object, 0), Ok(least));
-    assert_eq!(rt; read(steps, object, 1), Ok(least));
-    assert_eq!(rt; write(steps, object, 1, greatest), Ok(()));
-    assert_eq!(rt; read(steps, object, 0), Ok(least));
-    assert_eq!(rt; read(steps, object, 1), Ok(greatest));
-    let parts = header(steps, object);
-    assert_eq!(rt; (parts.kind, parts.length), (kind, 2));
-    Ok(())
-}
-
-/// Each element type, with its least and its greatest value.
+/// Each kind with its least word, 0, and its greatest.
 #[test]
 fn each_kind_keeps_its_least_and_greatest_word(rt: HostRuntime) -> Result<(), Fail> {
     let mut steps = PlainSteps::<2>::new(rt.alloc(), WIDE)?;
-    assert!(rt; steps.go_in());
+    if !steps.go_in() {
+        return Err("nobody collects")?;
+    }
     let mut numbers = Numbers::new();
-    keeps_ends(
-        &rt,
-        &mut steps,
-        &mut numbers,
-        Kind::Boolean,
-        false.to_word(),
-        true.to_word(),
-    )?;
-    keeps_ends(
-        &rt,
-        &mut steps,
-        &mut numbers,
-        Kind::Byte,
-        i8::MIN.to_word(),
-        i8::MAX.to_word(),
-    )?;
-    keeps_ends(
-        &rt,
-        &mut steps,
-        &mut numbers,
-        Kind::Char,
-        u16::MIN.to_word(),
-        u16::MAX.to_word(),
-    )?;
-    keeps_ends(
-        &rt,
-        &mut steps,
-        &mut numbers,
-        Kind::Short,
-        i16::MIN.to_word(),
-        i16::MAX.to_word(),
-    )?;
-    keeps_ends(
-        &rt,
-        &mut steps,
-        &mut numbers,
-        Kind::Int,
-        i32::MIN.to_word(),
-        i32::MAX.to_word(),
-    )?;
-    keeps_ends(
-        &rt,
-        &mut steps,
-        &mut numbers,
-        Kind::Long,
-        i64::MIN.to_word(),
-        i64::MAX.to_word(),
-    )?;
-    keeps_ends(&rt, &mut steps, &mut numbers, Kind::Objects, 0, 1)?;
+    keeps_ends(&rt, &mut steps, &mut numbers, Kind::Boolean, 1)?;
+    keeps_ends(&rt, &mut steps, &mut numbers, Kind::Byte, 0xff)?;
+    keeps_ends(&rt, &mut steps, &mut numbers, Kind::Char, 0xffff)?;
+    keeps_ends(&rt, &mut steps, &mut numbers, Kind::Short, 0xffff)?;
+    keeps_ends(&rt, &mut steps, &mut numbers, Kind::Int, 0xffff_ffff)?;
+    keeps_ends(&rt, &mut steps, &mut numbers, Kind::Long, u64::MAX)?;
+    keeps_ends(&rt, &mut steps, &mut numbers, Kind::Objects, 0)?;
     let summary = Summary {
         globals: 0,
         weaks: 0,
@@ -232,37 +315,30 @@ fn each_kind_keeps_its_least_and_greatest_word(rt: HostRuntime) -> Result<(), Fa
     };
     assert_eq!(rt; steps.summary(), summary);
 
-    let range = reserve(&mut steps, 2)?;
-    fill(&mut steps, &range, 0xffff);
-    let text = publish(&mut steps, &mut numbers, Kind::Text, range)?;
-    assert_eq!(rt; read(&mut steps, text, 1), Ok(0xffff));
-    assert_eq!(rt; write(&mut steps, text, 1, 0), Err(Fault::NotArray));
-    assert_eq!(rt; read(&mut steps, text, 1), Ok(0xffff));
+    let text = made(&mut steps, &mut numbers, Kind::Text, 2, 0xffff)?;
+    assert_eq!(rt; got(&mut steps, text, Kind::Text, 1), Ok(0xffff));
+    let refused = put(&mut steps, text, Kind::Text, 1, 0);
+    assert_eq!(rt; refused, Err(Fault::NotArray));
+    assert_eq!(rt; got(&mut steps, text, Kind::Text, 1), Ok(0xffff));
     assert_eq!(rt; reserve(&mut steps, 1).err(), Some(Fault::SpaceFull(16)));
     Ok(())
 }
 
-/// A word one too large is refused for each kind, before the index of another kind is.
+/// A word that is one too large is refused, and an index past the length before it.
 #[test]
-fn a_word_of_another_kind_is_refused(rt: HostRuntime) -> Result<(), Fail> {
+fn a_word_past_the_kind_is_refused(rt: HostRuntime) -> Result<(), Fail> {
     let mut steps = PlainSteps::<2>::new(rt.alloc(), WIDE)?;
-    assert!(rt; steps.go_in());
-    let mut numbers = Numbers::new();
-    for (kind, past) in [
-        (Kind::Boolean, 2),
-        (Kind::Byte, 0x100),
-        (Kind::Char, 0x1_0000),
-        (Kind::Short, 0x1_0000),
-        (Kind::Int, 0x1_0000_0000),
-    ] {
-        let range = reserve(&mut steps, 1)?;
-        fill(&mut steps, &range, 0);
-        let object = publish(&mut steps, &mut numbers, kind, range)?;
-        assert_eq!(rt; write(&mut steps, object, 0, past), Err(Fault::Value));
-        assert_eq!(rt; write(&mut steps, object, 1, past), Err(Fault::Range));
-        assert_eq!(rt; write(&mut steps, object, 0, past - 1), Ok(()));
-        assert_eq!(rt; read(&mut steps, object, 0), Ok(past - 1));
+    if !steps.go_in() {
+        return Err("nobody collects")?;
     }
+    let mut numbers = Numbers::new();
+    refuses_past(&rt, &mut steps, &mut numbers, Kind::Boolean, 2)?;
+    refuses_past(&rt, &mut steps, &mut numbers, Kind::Byte, 0x100)?;
+    refuses_past(&rt, &mut steps, &mut numbers, Kind::Char, 0x1_0000)?;
+    refuses_past(&rt, &mut steps, &mut numbers, Kind::Short, 0x1_0000)?;
+    refuses_past(&rt, &mut steps, &mut numbers, Kind::Int, 0x1_0000_0000)?;
+    let plain = made(&mut steps, &mut numbers, Kind::Plain, 0, 0);
+    assert!(rt; plain.is_ok());
     Ok(())
 }
 
@@ -270,105 +346,63 @@ fn a_word_of_another_kind_is_refused(rt: HostRuntime) -> Result<(), Fail> {
 #[test]
 fn one_array_takes_the_whole_space(rt: HostRuntime) -> Result<(), Fail> {
     let mut steps = PlainSteps::<2>::new(rt.alloc(), LARGE)?;
-    assert!(rt; steps.go_in());
+    if !steps.go_in() {
+        return Err("nobody collects")?;
+    }
     let mut numbers = Numbers::new();
-    assert_eq!(rt;
-        reserve(&mut steps, 1_048_577).err(),
-        Some(Fault::SpaceFull(0))
-    );
-    assert_eq!(rt;
-        reserve(&mut steps, u32::MAX).err(),
-        Some(Fault::SpaceFull(0))
-    );
-    let range = reserve(&mut steps, 1_048_576)?;
-    fill(&mut steps, &range, u64::MAX);
-    let object = publish(&mut steps, &mut numbers, Kind::Long, range)?;
-    assert_eq!(rt;
-        reserve(&mut steps, 1).err(),
-        Some(Fault::SpaceFull(1_048_576))
-    );
-    assert_eq!(rt;
-        reserve(&mut steps, u32::MAX).err(),
-        Some(Fault::SpaceFull(1_048_576))
-    );
-    assert_eq!(rt; read(&mut steps, object, 0), Ok(u64::MAX));
-    assert_eq!(rt; read(&mut steps, object, 1_048_575), Ok(u64::MAX));
-    assert_eq!(rt; read(&mut steps, object, 1_048_576), Err(Fault::Range));
+    let past = reserve(&mut steps, 1_048_577);
+    assert_eq!(rt; past.err(), Some(Fault::SpaceFull(0)));
+    let far_past = reserve(&mut steps, u32::MAX);
+    assert_eq!(rt; far_past.err(), Some(Fault::SpaceFull(0)));
+    let array = made(&mut steps, &mut numbers, Kind::Long, 1_048_576, u64::MAX)?;
+    assert_eq!(rt; got(&mut steps, array, Kind::Long, 0), Ok(u64::MAX));
+    assert_eq!(rt; got(&mut steps, array, Kind::Long, 1_048_575), Ok(u64::MAX));
+    let beyond = got(&mut steps, array, Kind::Long, 1_048_576);
+    assert_eq!(rt; beyond, Err(Fault::Range));
+    let full = reserve(&mut steps, 1);
+    assert_eq!(rt; full.err(), Some(Fault::SpaceFull(1_048_576)));
     Ok(())
 }
 
-/// Each number is given once, wherever the look begins, and then none.
+/// Each number is given once, and then none, wherever a look begins.
 #[test]
 fn each_number_is_given_once(rt: HostRuntime) -> Result<(), Fail> {
     let mut steps = PlainSteps::<2>::new(rt.alloc(), LARGE)?;
-    assert!(rt; steps.go_in());
-    let mut numbers = Numbers::new();
-    let mut given = 0u64;
-    for _ in 0..65_535u32 {
-        let empty = reserve(&mut steps, 0)?;
-        given += u64::from(publish(&mut steps, &mut numbers, Kind::Int, empty)?);
+    if !steps.go_in() {
+        return Err("nobody collects")?;
     }
-    assert_eq!(rt; given, 65_535 * 65_536 / 2);
-    let empty = reserve(&mut steps, 0)?;
-    assert_eq!(rt;
-        publish(&mut steps, &mut numbers, Kind::Int, empty),
-        Err(Fault::ObjectsFull)
-    );
-    let empty = reserve(&mut steps, 0)?;
+    let mut numbers = Numbers::new();
+    let sum = make_many(&mut steps, &mut numbers, 65_535)?;
+    assert_eq!(rt; sum, 65_535 * 65_536 / 2);
+    let further = made(&mut steps, &mut numbers, Kind::Int, 0, 0);
+    assert_eq!(rt; further, Err(Fault::ObjectsFull));
     let mut others = Numbers::new();
-    assert_eq!(rt;
-        publish(&mut steps, &mut others, Kind::Int, empty),
-        Err(Fault::ObjectsFull)
-    );
+    let further = made(&mut steps, &mut others, Kind::Int, 0, 0);
+    assert_eq!(rt; further, Err(Fault::ObjectsFull));
     Ok(())
 }
 
-/// An array of the thread's own, of two words, which are 0.
-fn own_array<S: Steps>(steps: &mut S, numbers: &mut Numbers, tries: u32) -> Option<u16> {
-    for _ in 0..tries {
-        match reserve(steps, 2) {
-            Ok(range) => {
-                fill(steps, &range, 0);
-                return publish(steps, numbers, Kind::Int, range).ok();
-            }
-            Err(Fault::Raced(..)) => thread::yield_now(),
-            Err(_) => return None,
-        }
-    }
-    None
-}
-
-/// How many of so many writes in an array of the thread's own are read as they were written.
-fn write_and_read<S: Steps>(steps: &mut S, rounds: u32) -> u32 {
-    let mut numbers = Numbers::new();
+/// The same in a stay of its own.
+fn write_and_read_inside<S: Steps>(steps: &mut S) -> u32
+    requires { (S.stands steps.old).role ≡ Outside }
+{
     let Ok(stay) = enter(steps) else {
         return 0;
     };
-    let Some(object) = own_array(steps, &mut numbers, TRIES) else {
-        stay.leave(steps);
-        return 0;
-    };
-    let mut right = 0;
-    for round in 0..rounds {
-        let word = u64::from(round);
-        let index = round % 2;
-        if write(steps, object, index, word).is_ok() && read(steps, object, index) == Ok(word) {
-            right += 1;
-        }
-    }
+    let right = write_and_read(steps, ROUNDS, TRIES);
     stay.leave(steps);
     right
 }
 
-/// Two threads write and read arrays of their own at once.
+/// Two threads make, write and read arrays of their own at once.
 #[test]
 fn each_thread_reads_its_own_last_write(rt: HostRuntime) -> Result<(), Fail> {
-    let (room, first, second) = opened(rt.alloc(), SMALL)?;
+    let (room, first, second) = opened(rt.alloc(), SHARED)?;
     let mut first = RoomSteps::new(&room, first);
     let mut second = RoomSteps::new(&room, second);
     let both = thread::scope(thread::scope_env(), &rt, |scope| {
-        let one = scope.spawn(|| write_and_read(&mut first, ROUNDS));
-        let two = scope.spawn(|| write_and_read(&mut second, ROUNDS));
+        let one = scope.spawn(|| write_and_read_inside(&mut first));
+        let two = scope.spawn(|| write_and_read_inside(&mut second));
         (
             one.map(|one| one.join(&rt)).ok(),
             two.map(|two| two.join(&rt)).ok(),
@@ -379,8 +413,8 @@ fn each_thread_reads_its_own_last_write(rt: HostRuntime) -> Result<(), Fail> {
     let summary = Summary {
         globals: 0,
         weaks: 0,
-        live: 2,
-        used: 4,
+        live: 2 * ROUNDS,
+        used: 2 * ROUNDS,
     };
     assert_eq!(rt; room.close(first).ok(), Some(summary));
     Ok(())
