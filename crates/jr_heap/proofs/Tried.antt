@@ -1,5 +1,5 @@
 -- Tests make objects of a kind, and read and write them.
-use Rattle.std.proofs.Common.{◌≡◌, ◌≢◌, ◌++◌, ℕ, Bool, true, false, not, nat_le, length, ◌||◌, Option, Some, None, IsSome, List, [], ◌∷◌, Result, Ok, Err, IfOk, inl, inr, ◌⊎◌, ⊎_elim, refl, sym, ap, subst, ◌∙◌}
+use Rattle.std.proofs.Common.{zero, suc, ◌≡◌, ◌≢◌, ◌++◌, ℕ, Bool, true, false, not, nat_le, length, ◌||◌, Option, Some, None, IsSome, List, [], ◌∷◌, Result, Ok, Err, IfOk, inl, inr, ◌⊎◌, ⊎_elim, refl, sym, ap, subst, ◌∙◌}
 use mathlib.Core.Logic.{∥∥₁_map}
 use Rattle.jr_word.specs.declared.fault.Fault.{Fault}
 use Rattle.jr_word.specs.declared.fault.Fault.TheVariants.{NotArray, Range, Value}
@@ -16,7 +16,7 @@ use Rattle.jr_model.specs.Parts.{publish, read_element, write_element}
 use Rattle.jr_model.specs.Tests.{is_plain, is_text, is_value}
 use Rattle.jr_rule.specs.declared.known.Known.{Known}
 use Rattle.jr_rule.specs.Knowing.{Standing, IsOf, MayKnow, view, state_of, HasObject}
-use Rattle.jr_heap.specs.Heap.{Called, HasKind, IsReady, Publishes, words_of, Relearns, MayBeNamed, MayBeNamedIn}
+use Rattle.jr_heap.specs.Heap.{Called, HasKind, IsOwn, IsReady, Publishes, words_of, Relearns, MayBeNamed, MayBeNamedIn}
 use Rattle.jr_heap.proofs.Elements.{read_rest, write_rest, write_last}
 use Rattle.jr_heap.proofs.Staying.{NoLeave, still}
 
@@ -85,3 +85,8 @@ module _ {S : Type 0} (stands : S → Standing) (knows : S → Known → Type 0)
 pub kind_made : {S : Type 0} (knows : S → Known → Type 0) (a b : S) (kind : Kind) (place n : ℕ) (answer : Result ℕ Fault) → Called knows a b (IsReady kind place n) (λ j k. publish kind (words_of place n j)) answer (Publishes kind place n answer) → MayKnow knows a (IsReady kind place n) → IfOk answer (λ o. MayKnow knows b (HasKind o kind))
 kind_made knows a b kind place n (Ok o) c may = ∥∥₁_map may (λ k. let r = c.ran k.0 k.1 k.2 in (r.0, r.1, (record { kind = kind; words = words_of place n k.0 }, r.3.0, refl)))
 kind_made knows a b kind place n (Err e) c may = tt
+
+-- a plain object has no words
+pub plain_ready : (place n : ℕ) (k : Known) → n ≡ 0 → IsOwn place n k → IsReady Plain place n k
+plain_ready place zero k e o = record { long = refl; words = λ i v there. absurd cc }
+plain_ready place (suc n) k e o = absurd cc

@@ -164,14 +164,25 @@ fn parts_of<S: Steps>(steps: &mut S, object: u16, _kind: Kind) -> (Kind, u32, u3
     (parts.kind, parts.length, parts.place)
 }
 
+/// A new plain object.
+fn made_plain<S: Steps>(steps: &mut S, numbers: &mut Numbers) -> Result<u16, Fault>
+    requires { (S.stands steps.old).role ≡ Within }
+    ensures stands { S.stands steps.new ≡ S.stands steps.old }
+    ensures object { IfOk result (λ o. MayKnow S.knows steps.new (HasKind o Plain)) }
+{
+    let empty = reserve(steps, 0)?;
+    publish(steps, numbers, Kind::Plain, empty)
+}
+
 /// A plain object is made, and no further one in a room of two objects.
 fn make_plain<S: Steps>(rt: &impl Abort, steps: &mut S, numbers: &mut Numbers) -> Result<u16, Fail>
     requires { (S.stands steps.old).role ≡ Within }
     ensures { S.stands steps.new ≡ S.stands steps.old }
 {
-    let plain = made(steps, numbers, Kind::Int, 0, 0)?;
-    assert_eq!(rt; got(steps, plain, Kind::Int, 0), Err(Fault::Range));
-    let further = made(steps, numbers, Kind::Int, 0, 0);
+    let plain = made_plain(steps, numbers)?;
+    assert_eq!(rt; got(steps, plain, Kind::Plain, 0), Err(Fault::NotArray));
+    assert_eq!(rt; put(steps, plain, Kind::Plain, 0, 0), Err(Fault::NotArray));
+    let further = made_plain(steps, numbers);
     assert_eq!(rt; further, Err(Fault::ObjectsFull));
     Ok(plain)
 }
@@ -337,8 +348,6 @@ fn a_word_past_the_kind_is_refused(rt: HostRuntime) -> Result<(), Fail> {
     refuses_past(&rt, &mut steps, &mut numbers, Kind::Char, 0x1_0000)?;
     refuses_past(&rt, &mut steps, &mut numbers, Kind::Short, 0x1_0000)?;
     refuses_past(&rt, &mut steps, &mut numbers, Kind::Int, 0x1_0000_0000)?;
-    let plain = made(&mut steps, &mut numbers, Kind::Plain, 0, 0);
-    assert!(rt; plain.is_ok());
     Ok(())
 }
 
