@@ -1,0 +1,41 @@
+-- A call of the heap from its steps, for whatever was known.
+use Rattle.std.proofs.Common.{List, [], Result, IfErr}
+use mathlib.Core.Logic.{∥∥₁_map}
+use Rattle.jr_word.specs.declared.fault.Fault.{Fault}
+use Rattle.jr_model.specs.declared.event.Act.{Act}
+use Rattle.jr_model.specs.History.{Did}
+use Rattle.jr_model.specs.Frames.{Frames}
+use Rattle.jr_model.specs.Calls.{Call}
+use Rattle.jr_model.specs.Refusals.{Grounds}
+use Rattle.jr_model.proofs.Stays.{did_nothing}
+use Rattle.jr_rule.specs.declared.known.Known.{Known}
+use Rattle.jr_rule.specs.Knowing.{Standing, IsOf, MayKnow, view}
+use Rattle.jr_heap.specs.Heap.{Called}
+
+-- what the acts between two moments are to the call, and what it shows
+pub record IsCall {A : Type 0} (k k' : Known) (acts : List Act) (call : Call A) (answer : Result A Fault) (so : Type 0) : Type 0 where
+  pub did : Did (view k) (view k') acts
+  pub is : (f : Frames) → call f acts answer f
+  pub grounds : IfErr answer (Grounds (view k) (view k'))
+  pub shows : so
+
+module _ {S : Type 0} {knows : S → Known → Type 0} where
+  pub called_by : {A : Type 0} {old new : S} {met : Known → Type 0} {call : Known → Known → Call A} {answer : Result A Fault} {shows : Known → Known → Type 0}
+      → ((k : Known) → knows old k → met k → (k' : Known) × knows new k' × (acts : List Act) × IsCall k k' acts (call k k') answer (shows k k')) → Called knows old new met call answer shows
+  called_by go = record {
+    ran = λ k s m.
+        let g = go k s m in
+        (g.0, g.1, λ f. record { acts = g.2; did = g.3.did; is = g.3.is f; grounds = g.3.grounds }, g.3.shows);
+  }
+
+  pub called_none : {A : Type 0} {old : S} {met : Known → Type 0} {call : Known → Known → Call A} {answer : Result A Fault} {shows : Known → Known → Type 0} {stands : S → Standing} (fits : (s : S) (k : Known) → knows s k → IsOf (stands s) k)
+      → ((k : Known) → knows old k → met k → (f : Frames) → call k k f [] answer f) → ((k : Known) → IfErr answer (Grounds (view k) (view k))) → ((k : Known) → shows k k) → Called knows old old met call answer shows
+  called_none {old} fits is grounds shows = record {
+    ran = λ k s m. (k, s, λ f. record { acts = []; did = did_nothing (view k) (fits old k s).legal; is = is k s m f; grounds = grounds k }, shows k);
+  }
+
+  -- what may be known after a call
+  pub may_called : {A : Type 0} {old new : S} {met : Known → Type 0} {call : Known → Known → Call A} {answer : Result A Fault} {shows : Known → Known → Type 0} {was so : Known → Type 0}
+      → Called knows old new met call answer shows → MayKnow knows old was → ((k : Known) → was k → met k)
+      → ((k k' : Known) → knows old k → was k → (acts : List Act) → Did (view k) (view k') acts → shows k k' → so k') → MayKnow knows new so
+  may_called {so = so} c may meets then' = ∥∥₁_map may (λ k. let r = c.ran k.0 k.1 (meets k.0 k.2) in let f = (r.2 (record { frames = []; given = [] })) in (r.0, r.1, then' k.0 r.0 k.1 k.2 f.acts f.did r.3))

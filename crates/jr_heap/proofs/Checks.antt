@@ -1,0 +1,38 @@
+-- What a call refuses before its acts.
+use Rattle.std.proofs.Common.{◌≡◌, ◌<◌, ◌≤◌, ◌^◌, ℕ, Bool, true, false, nat_le, List, [], Result, Err, inl, inr, refl, arith}
+use Rattle.std.proofs.lemmas.Bool.{ltb-true}
+use Rattle.std.proofs.lemmas.Bool.Decides.{nat_tests}
+use Rattle.jr_word.specs.declared.fault.Fault.{Fault}
+use Rattle.jr_word.specs.declared.kind.Kind.{Kind}
+use Rattle.jr_word.specs.declared.kind.Kind.TheVariants.{Plain, Boolean, Byte, Char, Short, Int, Long, Objects, Text}
+use Rattle.jr_model.specs.declared.event.Act.{Act}
+use Rattle.jr_model.specs.State.{State, IsWord}
+use Rattle.jr_model.specs.Frames.{Frames}
+use Rattle.jr_model.specs.Calls.{Call, ◌>>◌, refuse_if}
+use Rattle.jr_model.specs.Tests.{is_value}
+
+pub stop : {A : Type 0} (b : Bool) (e : Fault) (next : Call A) (f : Frames) → b ≡ true → (refuse_if b e >> next) f [] (Err e) f
+stop true e next f is = inr (e, refl, (refl, refl, refl))
+stop false e next f is = absurd cc
+
+pub pass : {A : Type 0} (b : Bool) (e : Fault) (next : Call A) (f : Frames) (acts : List Act) (answer : Result A Fault) → b ≡ false → next f acts answer f → (refuse_if b e >> next) f acts answer f
+pass true e next f acts answer is p = absurd cc
+pass false e next f acts answer is p = inl (tt, f, [], acts, refl, (refl, refl, refl), p)
+
+pub beyond : (n i : ℕ) → n ≤ i → nat_le n i ≡ true
+beyond n i l = grind (arith, nat_tests)
+
+pub inside : (n i : ℕ) → i < n → nat_le n i ≡ false
+inside n i l = grind (arith, nat_tests)
+
+-- a word of the kind, but for the object that it names
+pub word_is : (s : State) (kind : Kind) (v : ℕ) → is_value kind v ≡ true → (kind ≡ Objects → IsWord s Objects v) → IsWord s kind v
+word_is s Plain v e m = absurd cc
+word_is s Boolean v e m = ltb-true v 2 e
+word_is s Byte v e m = ltb-true v (2 ^ 8) e
+word_is s Char v e m = ltb-true v (2 ^ 16) e
+word_is s Short v e m = ltb-true v (2 ^ 16) e
+word_is s Int v e m = ltb-true v (2 ^ 32) e
+word_is s Long v e m = ltb-true v (2 ^ 64) e
+word_is s Objects v e m = m refl
+word_is s Text v e m = ltb-true v (2 ^ 16) e

@@ -1,0 +1,116 @@
+-- Elements are read and written where the header of their object is known.
+use Rattle.std.proofs.Common.{◌≡◌, ◌≢◌, ◌<◌, ◌≤◌, ◌||◌, not, ℕ, true, false, nat_le, length, Some, [], ◌∷◌, Ok, Err, refl, ap, ◌∙◌, subst, sym}
+use mathlib.Core.Logic.{∥∥₁_map}
+use Rattle.jr_word.specs.declared.fault.Fault.{Fault}
+use Rattle.jr_word.specs.declared.fault.Fault.TheVariants.{NotArray, Range, Value}
+use Rattle.jr_word.specs.declared.header.HeaderParts.{HeaderParts}
+use Rattle.jr_word.specs.declared.kind.Kind.{Kind}
+use Rattle.jr_model.specs.declared.event.Role.TheVariants.{Within}
+use Rattle.jr_model.specs.declared.event.Act.{Act}
+use Rattle.jr_model.specs.declared.event.Act.TheVariants.{Leave, Read, Write}
+use Rattle.jr_model.specs.State.{Contents}
+use Rattle.jr_model.specs.History.{PassView}
+use Rattle.jr_model.specs.Frames.{Frames}
+use Rattle.jr_model.specs.Refusals.{Grounds}
+use Rattle.jr_model.specs.Calls.{Call, ◌>>◌, act, some_act, refuse_if}
+use Rattle.jr_model.proofs.Stays.{did_nothing}
+use Rattle.jr_model.specs.Parts.{read_element, write_element}
+use Rattle.jr_model.specs.Tests.{is_plain, is_text, is_value}
+use Rattle.jr_rule.specs.declared.known.Known.{Known}
+use Rattle.jr_rule.specs.Knowing.{Standing, IsOf, MayKnow, keeps, view, state_of, KnowsHeader, IsWordNow, Took}
+use Rattle.jr_rule.proofs.Goes.{goes_did}
+use Rattle.jr_heap.specs.Heap.{Called, HoldsHeader, Leaves, MayBeNamed}
+use Rattle.jr_heap.proofs.Calling.{called_by}
+use Rattle.jr_heap.proofs.Staying.{object_later, header_later}
+use Rattle.jr_heap.proofs.Checks.{stop, pass, beyond, inside, word_is}
+
+-- what follows the check of the kind, in an object of n elements
+abbrev pub read_rest : ℕ → ℕ → ℕ → Call ℕ
+read_rest o i n = refuse_if (nat_le n i) Range >> some_act (Read o i)
+
+abbrev pub write_last : Kind → ℕ → ℕ → ℕ → Call (Unit {0})
+write_last kind o i v = refuse_if (not (is_value kind v)) Value >> act (Write o i v)
+
+abbrev pub write_rest : Kind → ℕ → ℕ → ℕ → ℕ → Call (Unit {0})
+write_rest kind o i v n = refuse_if (nat_le n i) Range >> write_last kind o i v
+
+-- how the checks end
+no_elements : (o i n : ℕ) (kind : Kind) (f : Frames) → is_plain kind ≡ true → (refuse_if (is_plain kind) NotArray >> read_rest o i n) f [] (Err NotArray) f
+no_elements o i n kind f is = stop (is_plain kind) NotArray (read_rest o i n) f is
+
+too_far : (o i n : ℕ) (kind : Kind) (f : Frames) → is_plain kind ≡ false → n ≤ i → (refuse_if (is_plain kind) NotArray >> read_rest o i n) f [] (Err Range) f
+too_far o i n kind f is l = pass (is_plain kind) NotArray (read_rest o i n) f [] (Err Range) is (stop (nat_le n i) Range (some_act (Read o i)) f (beyond n i l))
+
+is_read : (o i v n : ℕ) (kind : Kind) (f : Frames) → is_plain kind ≡ false → i < n → (refuse_if (is_plain kind) NotArray >> read_rest o i n) f (Read o i v ∷ []) (Ok v) f
+is_read o i v n kind f is l = pass (is_plain kind) NotArray (read_rest o i n) f (Read o i v ∷ []) (Ok v) is (pass (nat_le n i) Range (some_act (Read o i)) f (Read o i v ∷ []) (Ok v) (inside n i l) (v, refl, refl, refl))
+
+no_array : (o i v n : ℕ) (kind : Kind) (f : Frames) → (is_plain kind || is_text kind) ≡ true → (refuse_if (is_plain kind || is_text kind) NotArray >> write_rest kind o i v n) f [] (Err NotArray) f
+no_array o i v n kind f is = stop (is_plain kind || is_text kind) NotArray (write_rest kind o i v n) f is
+
+too_far_to_write : (o i v n : ℕ) (kind : Kind) (f : Frames) → (is_plain kind || is_text kind) ≡ false → n ≤ i → (refuse_if (is_plain kind || is_text kind) NotArray >> write_rest kind o i v n) f [] (Err Range) f
+too_far_to_write o i v n kind f is l = pass (is_plain kind || is_text kind) NotArray (write_rest kind o i v n) f [] (Err Range) is (stop (nat_le n i) Range (write_last kind o i v) f (beyond n i l))
+
+no_value : (o i v n : ℕ) (kind : Kind) (f : Frames) → (is_plain kind || is_text kind) ≡ false → i < n → is_value kind v ≡ false → (refuse_if (is_plain kind || is_text kind) NotArray >> write_rest kind o i v n) f [] (Err Value) f
+no_value o i v n kind f is l bad = pass (is_plain kind || is_text kind) NotArray (write_rest kind o i v n) f [] (Err Value) is
+    (pass (nat_le n i) Range (write_last kind o i v) f [] (Err Value) (inside n i l) (stop (not (is_value kind v)) Value (act (Write o i v)) f (ap not bad)))
+
+is_written : (o i v n : ℕ) (kind : Kind) (f : Frames) → (is_plain kind || is_text kind) ≡ false → i < n → is_value kind v ≡ true → (refuse_if (is_plain kind || is_text kind) NotArray >> write_rest kind o i v n) f (Write o i v ∷ []) (Ok tt) f
+is_written o i v n kind f is l good = pass (is_plain kind || is_text kind) NotArray (write_rest kind o i v n) f (Write o i v ∷ []) (Ok tt) is
+    (pass (nat_le n i) Range (write_last kind o i v) f (Write o i v ∷ []) (Ok tt) (inside n i l) (pass (not (is_value kind v)) Value (act (Write o i v)) f (Write o i v ∷ []) (Ok tt) (ap not good) (refl, refl, refl)))
+
+module _ {S : Type 0} {stands : S → Standing} {knows : S → Known → Type 0} (fits : (s : S) (k : Known) → knows s k → IsOf (stands s) k) (o : ℕ) (h : HeaderParts) (i : ℕ) where
+  -- a refusal, before any act
+  refused : {A : Type 0} (a : S) (e : Fault) (met : Known → Type 0) (call : Known → Known → Call A) → ((k : Known) → met k → HoldsHeader o h k) → ((p : PassView) → Grounds p p e)
+      → ((k : Known) → (x : Contents) → (state_of k).objects o ≡ Some x → x.kind ≡ h.kind → length x.words ≡ h.length → (f : Frames) → call k k f [] (Err e) f) → Called knows a a met call (Err e) (Leaves o h)
+  refused a e met call holds grounds is = called_by (λ k s m. let x = (holds k m).shown in (k, s, [], record { did = did_nothing (view k) (fits a k s).legal; is = is k x.contents x.is x.kind x.long; grounds = grounds (view k); shows = (x, refl) }))
+
+  pub read_plain : (a : S) → is_plain h.kind ≡ true → Called knows a a (HoldsHeader o h) (λ j k. read_element (state_of k) o i) (Err NotArray) (Leaves o h)
+  read_plain a plain = refused a NotArray (HoldsHeader o h) (λ j k. read_element (state_of k) o i) (λ k m. m) (λ p. tt) (λ k x there kind long f. (x, there, no_elements o i (length x.words) x.kind f (ap is_plain kind ∙ plain)))
+
+  pub read_beyond : (a : S) → is_plain h.kind ≡ false → h.length ≤ i → Called knows a a (HoldsHeader o h) (λ j k. read_element (state_of k) o i) (Err Range) (Leaves o h)
+  read_beyond a plain l = refused a Range (HoldsHeader o h) (λ j k. read_element (state_of k) o i) (λ k m. m) (λ p. tt)
+      (λ k x there kind long f. (x, there, too_far o i (length x.words) x.kind f (ap is_plain kind ∙ plain) (subst (λ n. n ≤ i) (sym long) l)))
+
+  pub read_found : {a b : S} (v : ℕ) → (stands a).role ≡ Within → is_plain h.kind ≡ false → i < h.length → Took stands knows a b (Read o i v ∷ []) (KnowsHeader o h) keeps
+      → Called knows a b (HoldsHeader o h) (λ j k. read_element (state_of k) o i) (Ok v) (Leaves o h)
+  read_found {a} v w plain l t = called_by (λ k s m.
+      let g = t.goes k s m.known in
+      let d = goes_did g.2 in
+      let x = object_later k g.0 (Read o i v ∷ []) d ((fits a k s).role ∙ w) ((λ e. cc), tt) o h m.shown in
+      let is : (f : Frames) → read_element (state_of g.0) o i f (Read o i v ∷ []) (Ok v) f = λ f. (x.contents, x.is, is_read o i v (length x.contents.words) x.contents.kind f (ap is_plain x.kind ∙ plain) (subst (λ n. i < n) (sym x.long) l)) in
+      (g.0, g.1, Read o i v ∷ [], record { did = d; is = is; grounds = tt; shows = (x, g.3) }))
+
+-- what a write may be given: the header is known, and the word names no absent object
+abbrev pub MayWrite : ℕ → HeaderParts → ℕ → Known → Type 0
+MayWrite o h v k = HoldsHeader o h k × MayBeNamed h.kind v k
+
+module _ {S : Type 0} {stands : S → Standing} {knows : S → Known → Type 0} (fits : (s : S) (k : Known) → knows s k → IsOf (stands s) k) (o : ℕ) (h : HeaderParts) (i v : ℕ) where
+  pub write_no_array : (a : S) → (is_plain h.kind || is_text h.kind) ≡ true → Called knows a a (MayWrite o h v) (λ j k. write_element (state_of k) o i v) (Err NotArray) (Leaves o h)
+  write_no_array a plain = refused fits o h i a NotArray (MayWrite o h v) (λ j k. write_element (state_of k) o i v) (λ k m. m.0) (λ p. tt)
+      (λ k x there kind long f. (x, there, no_array o i v (length x.words) x.kind f (ap (λ z. is_plain z || is_text z) kind ∙ plain)))
+
+  pub write_beyond : (a : S) → (is_plain h.kind || is_text h.kind) ≡ false → h.length ≤ i → Called knows a a (MayWrite o h v) (λ j k. write_element (state_of k) o i v) (Err Range) (Leaves o h)
+  write_beyond a plain l = refused fits o h i a Range (MayWrite o h v) (λ j k. write_element (state_of k) o i v) (λ k m. m.0) (λ p. tt)
+      (λ k x there kind long f. (x, there, too_far_to_write o i v (length x.words) x.kind f (ap (λ z. is_plain z || is_text z) kind ∙ plain) (subst (λ n. n ≤ i) (sym long) l)))
+
+  pub write_value : (a : S) → (is_plain h.kind || is_text h.kind) ≡ false → i < h.length → is_value h.kind v ≡ false → Called knows a a (MayWrite o h v) (λ j k. write_element (state_of k) o i v) (Err Value) (Leaves o h)
+  write_value a plain l bad = refused fits o h i a Value (MayWrite o h v) (λ j k. write_element (state_of k) o i v) (λ k m. m.0) (λ p. tt)
+      (λ k x there kind long f. (x, there, no_value o i v (length x.words) x.kind f (ap (λ z. is_plain z || is_text z) kind ∙ plain) (subst (λ n. i < n) (sym long) l) (ap (λ z. is_value z v) kind ∙ bad)))
+
+  pub may_write : {a : S} → is_value h.kind v ≡ true → MayKnow knows a (MayWrite o h v) → MayKnow knows a (λ k. KnowsHeader o h k × IsWordNow h.kind v k)
+  may_write good may = ∥∥₁_map may (λ k. (k.0, k.1, (k.2.0.known, word_is (state_of k.0) h.kind v good k.2.1)))
+
+  pub write_stored : {a b : S} → (stands a).role ≡ Within → (is_plain h.kind || is_text h.kind) ≡ false → i < h.length → is_value h.kind v ≡ true → Took stands knows a b (Write o i v ∷ []) (λ k. KnowsHeader o h k × IsWordNow h.kind v k) keeps
+      → Called knows a b (MayWrite o h v) (λ j k. write_element (state_of k) o i v) (Ok tt) (Leaves o h)
+  write_stored {a} w plain l good t = called_by (λ k s m.
+      let g = t.goes k s (m.0.known, word_is (state_of k) h.kind v good m.1) in
+      let d = goes_did g.2 in
+      let x = object_later k g.0 (Write o i v ∷ []) d ((fits a k s).role ∙ w) ((λ e. cc), tt) o h m.0.shown in
+      let is : (f : Frames) → write_element (state_of g.0) o i v f (Write o i v ∷ []) (Ok tt) f
+      = λ f. (x.contents, x.is, is_written o i v (length x.contents.words) x.contents.kind f (ap (λ z. is_plain z || is_text z) x.kind ∙ plain) (subst (λ n. i < n) (sym x.long) l) (ap (λ z. is_value z v) x.kind ∙ good)) in
+      (g.0, g.1, Write o i v ∷ [], record { did = d; is = is; grounds = tt; shows = (x, g.3) }))
+
+-- what may be known after a step at an element
+module _ {S : Type 0} {stands : S → Standing} {knows : S → Known → Type 0} (fits : (s : S) (k : Known) → knows s k → IsOf (stands s) k) (o : ℕ) (h : HeaderParts) {a b : S} {x : Act} {met : Known → Type 0} where
+  pub still_holds : x ≢ Leave → (stands a).role ≡ Within → Took stands knows a b (x ∷ []) met keeps → MayKnow knows a (λ k. HoldsHeader o h k × met k) → MayKnow knows b (HoldsHeader o h)
+  still_holds ne w t may = ∥∥₁_map may (λ k. let g = t.goes k.0 k.1 k.2.1 in (g.0, g.1, header_later k.0 g.0 (x ∷ []) (goes_did g.2) ((fits a k.0 k.1).role ∙ w) (ne, tt) o h g.3 k.2.0))

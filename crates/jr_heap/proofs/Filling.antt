@@ -1,0 +1,139 @@
+-- Ranges are filled word by word.
+use Rattle.std.proofs.Common.{◌≡◌, ◌≢◌, ◌<◌, ◌≤◌, ◌+◌, ◌==◌, ℕ, zero, suc, false, cond, List, [], ◌∷◌, take, length, replicate, slice_set, refl, sym, ap, subst, ◌∙◌, arith, Ok, Some, slice_get, ◌⊎◌, ⊎_elim}
+use Rattle.std.proofs.lemmas.List.{length-set}
+use Rattle.std.proofs.lemmas.Bool.Decides.{nat_tests}
+use Rattle.std.proofs.Math.Seq.{take-length}
+use mathlib.Core.Logic.{∥∥₁_map}
+use Rattle.jr_word.specs.declared.kind.Kind.{Kind}
+use Rattle.jr_model.specs.declared.event.Role.TheVariants.{Within}
+use Rattle.jr_model.specs.History.{Did}
+use Rattle.jr_model.proofs.Updates.{eq_self}
+use Rattle.jr_model.proofs.Stays.{did_then, did_nothing}
+use Rattle.jr_rule.specs.declared.known.Known.{Known}
+use Rattle.jr_rule.specs.declared.known.Grasp.{Grasp}
+use Rattle.jr_rule.specs.Grasping.{words_at}
+use Rattle.jr_rule.specs.Knowing.{Standing, IsOf, MayKnow, view, HasWord, IsWordNow, ShowsWord, Took}
+use Rattle.jr_rule.proofs.Goes.{goes_did}
+use Rattle.jr_heap.specs.Heap.{Called, words_of, IsOwn, IsReady, Fills, no_act}
+use Rattle.jr_heap.proofs.Calling.{called_by}
+use Rattle.jr_heap.proofs.Staying.{word_later}
+
+abbrev tail : List ℕ → List ℕ
+tail [] = []
+tail (x ∷ xs) = xs
+
+abbrev head_or : ℕ → List ℕ → ℕ
+head_or v [] = v
+head_or v (x ∷ xs) = x
+
+-- one more word of a list is v
+filled_suc : (i v : ℕ) (ws : List ℕ) → take i ws ≡ replicate i v → i < length ws → take (suc i) (slice_set ws i v) ≡ replicate (suc i) v
+filled_suc i v [] e l = absurd (omega arith)
+filled_suc zero v (w ∷ ws) e l = refl
+filled_suc (suc i) v (w ∷ ws) e l =
+    ap (λ xs. w ∷ xs) (filled_suc i v ws (ap tail e) (shorter i (length ws) l)) ∙ ap (λ x. x ∷ replicate (suc i) v) (ap (head_or v) e)
+  where
+    shorter : (i n : ℕ) → suc i < suc n → i < n
+    shorter i n l = omega arith
+
+filled_next : (i v : ℕ) (ws : List ℕ) → take i ws ≡ replicate i v → i < length ws → take (i + 1) (slice_set ws i v) ≡ replicate (i + 1) v
+filled_next i v ws e l = let q : suc i ≡ i + 1 = omega arith in subst (λ m. take m (slice_set ws i v) ≡ replicate m v) q (filled_suc i v ws e l)
+
+-- the words at a place after a store, and at others
+stored_here : (place i v : ℕ) (j k : Known) → ShowsWord place i v j k → words_at place k.grasp.ranges ≡ slice_set (words_at place j.grasp.ranges) i v
+stored_here place i v j k e = ap (λ (g : Grasp). words_at place g.ranges) e ∙ ap (λ b. cond b (slice_set (words_at place j.grasp.ranges) i v) (words_at place j.grasp.ranges)) (eq_self place)
+
+other_place : (p place : ℕ) → p ≢ place → (place == p) ≡ false
+other_place p place ne = grind (arith, nat_tests)
+
+stored_elsewhere : (place i v : ℕ) (j k : Known) → ShowsWord place i v j k → (p : ℕ) → p ≢ place → words_at p k.grasp.ranges ≡ words_at p j.grasp.ranges
+stored_elsewhere place i v j k e p ne = ap (λ (g : Grasp). words_at p g.ranges) e ∙ ap (λ b. cond b (slice_set (words_at place j.grasp.ranges) i v) (words_at p j.grasp.ranges)) (other_place p place ne)
+
+-- the first i of the words at the place are v, and nothing else that the pass holds is other
+pub record IsFilledTo (place n v i : ℕ) (j k : Known) : Type 0 where
+  pub long : 1 ≤ n → length (words_at place k.grasp.ranges) ≡ n
+  pub words : 1 ≤ n → take i (words_at place k.grasp.ranges) ≡ replicate i v
+  pub headers : k.grasp.headers ≡ j.grasp.headers
+  pub others : (p : ℕ) → p ≢ place → words_at p k.grasp.ranges ≡ words_at p j.grasp.ranges
+
+-- what was done so far
+pub record FilledTo {S : Type 0} (stands : S → Standing) (knows : S → Known → Type 0) (place n v : ℕ) (old new : S) (i : ℕ) : Type 0 where
+  pub stands_is : stands new ≡ stands old
+  pub did : (k : Known) → knows old k → IsOwn place n k → (k' : Known) × knows new k' × Did (view k) (view k') [] × IsFilledTo place n v i k k'
+
+among : (n v i w : ℕ) → slice_get (replicate n v) i ≡ Some w → w ≡ v
+among zero v i w e = absurd cc
+among (suc n) v zero w e = let h : Some v ≡ Some w = e in cc
+among (suc n) v (suc i) w e = among n v i w e
+
+-- a range that is not empty has the words at its place
+words_some : (place n : ℕ) (k : Known) → 1 ≤ n → words_of place n k ≡ words_at place k.grasp.ranges
+words_some place n k l = ap (λ b. cond b [] (words_at place k.grasp.ranges)) (not_zero n l)
+  where
+    not_zero : (n : ℕ) → 1 ≤ n → (n == 0) ≡ false
+    not_zero n l = grind (arith, nat_tests)
+
+words_none : (place n : ℕ) (k : Known) → n ≡ 0 → words_of place n k ≡ []
+words_none place n k e = ap (λ m. words_of place m k) e
+
+none_or : (n : ℕ) → (n ≡ 0) ⊎ (1 ≤ n)
+none_or n = grind arith
+
+own_length : (place n : ℕ) (k : Known) → (1 ≤ n → length (words_at place k.grasp.ranges) ≡ n) → IsOwn place n k
+own_length place n k long = ⊎_elim (λ (e : n ≡ 0). ap (λ (ws : List ℕ). length ws) (words_none place n k e) ∙ sym e) (λ (l : 1 ≤ n). ap (λ (ws : List ℕ). length ws) (words_some place n k l) ∙ long l) (none_or n)
+
+-- all words are v at the end
+filled_all : (place n v : ℕ) (j k : Known) → IsFilledTo place n v n j k → Fills place n v j k
+filled_all place n v j k x = record {
+  words = ⊎_elim (λ (e : n ≡ 0). words_none place n k e ∙ ap (λ m. replicate m v) (sym e))
+      (λ (l : 1 ≤ n). words_some place n k l ∙ (sym (ap (λ m. take m (words_at place k.grasp.ranges)) (sym (x.long l)) ∙ take-length (words_at place k.grasp.ranges)) ∙ x.words l)) (none_or n);
+  headers = x.headers;
+  others = x.others;
+}
+
+module _ {S : Type 0} {stands : S → Standing} {knows : S → Known → Type 0} (fits : (s : S) (k : Known) → knows s k → IsOf (stands s) k) (place n v : ℕ) where
+  pub filled_nothing : (a : S) → FilledTo stands knows place n v a a 0
+  filled_nothing a = record {
+    stands_is = refl;
+    did = λ k s m. (k, s, did_nothing (view k) (fits a k s).legal, record { long = λ l. ap (λ (ws : List ℕ). length ws) (sym (words_some place n k l)) ∙ m; words = λ l. refl; headers = refl; others = λ p ne. refl });
+  }
+
+  pub filled_more : {a b c : S} (i : ℕ) → FilledTo stands knows place n v a b i → i < n → Took stands knows b c [] (HasWord place i) (ShowsWord place i v) → FilledTo stands knows place n v a c (i + 1)
+  filled_more i p l t = record {
+    stands_is = t.stands_is ∙ p.stands_is;
+    did = λ k s m.
+        let x = p.did k s m in
+        let has : i < length (words_at place x.0.grasp.ranges) = let e = x.3.long (omega arith) in omega arith in
+        let y = t.goes x.0 x.1 has in
+        let here = stored_here place i v x.0 y.0 y.3 in (
+          y.0,
+          y.1,
+          did_then [] [] x.2 (goes_did y.2),
+          record {
+            long = λ q. ap (λ (ws : List ℕ). length ws) here ∙ (length-set (words_at place x.0.grasp.ranges) i v ∙ x.3.long q);
+            words = λ q. ap (λ ws. take (i + 1) ws) here ∙ filled_next i v (words_at place x.0.grasp.ranges) (x.3.words q) has;
+            headers = ap (λ (g : Grasp). g.headers) y.3 ∙ x.3.headers;
+            others = λ r ne. stored_elsewhere place i v x.0 y.0 y.3 r ne ∙ x.3.others r ne;
+          },
+        );
+  }
+
+  pub filled_may : {a b : S} (i : ℕ) → i < n → MayKnow knows a (IsOwn place n) → FilledTo stands knows place n v a b i → MayKnow knows b (HasWord place i)
+  filled_may i l may p = ∥∥₁_map may (λ k. let x = p.did k.0 k.1 k.2 in let e = x.3.long (omega arith) in (x.0, x.1, omega arith))
+
+  module _ {a b : S} (i : ℕ) (end : i ≡ n) (p : FilledTo stands knows place n v a b i) where
+    whole : FilledTo stands knows place n v a b n
+    whole = subst (λ m. FilledTo stands knows place n v a b m) end p
+
+    pub filled_call : Called knows a b (IsOwn place n) (λ j k. no_act) (Ok tt) (Fills place n v)
+    filled_call = called_by (λ k s m. let x = whole.did k s m in (x.0, x.1, [], record { did = x.2; is = λ f. (refl, refl, refl); grounds = tt; shows = filled_all place n v k x.0 x.3 }))
+
+    pub filled_own : MayKnow knows a (IsOwn place n) → MayKnow knows b (IsOwn place n)
+    filled_own may = ∥∥₁_map may (λ k. let x = whole.did k.0 k.1 k.2 in (x.0, x.1, own_length place n x.0 x.3.long))
+
+    pub filled_ready : (stands a).role ≡ Within → (kind : Kind) → MayKnow knows a (λ k. IsOwn place n k × IsWordNow kind v k) → MayKnow knows b (IsReady kind place n)
+    filled_ready w kind may = ∥∥₁_map may (λ k.
+        let x = whole.did k.0 k.1 k.2.0 in
+        let word = word_later k.0 x.0 [] x.2 ((fits a k.0 k.1).role ∙ w) tt kind v k.2.1 in
+        let all = filled_all place n v k.0 x.0 x.3 in
+        (x.0, x.1, record { long = own_length place n x.0 x.3.long; words = λ q u there. subst (λ z. IsWordNow kind z x.0) (sym (among n v q u (ap (λ ws. slice_get ws q) (sym all.words) ∙ there))) word }))

@@ -1,0 +1,60 @@
+-- Headers of present objects are read.
+use Rattle.std.proofs.Common.{length, ◌≡◌, ◌≢◌, ◌≤◌, ℕ, Option, Some, None, IsSome, [], Ok, refl, sym, ap, subst, ◌∙◌, cond}
+use Rattle.std.proofs.Math.Bridge.{le_prop}
+use Rattle.std.proofs.Math.Logic.{∥∥₁_elim, ∥∥₁_map}
+use Rattle.std.proofs.Props.{props}
+use Rattle.jr_word.specs.declared.config.Config.{Config}
+use Rattle.jr_word.specs.declared.header.HeaderParts.{HeaderParts}
+use Rattle.jr_word.specs.declared.kind.Kind.{Kind}
+use Rattle.jr_model.specs.declared.event.Role.TheVariants.{Within}
+use Rattle.jr_model.specs.State.{Contents}
+use Rattle.jr_model.specs.Parts.{header}
+use Rattle.jr_model.proofs.Updates.{eq_self}
+use Rattle.jr_rule.specs.declared.known.Known.{Known}
+use Rattle.jr_rule.specs.declared.known.Grasp.{Grasp}
+use Rattle.jr_rule.specs.Grasping.{header_in}
+use Rattle.jr_rule.specs.Knowing.{Standing, IsOf, MayKnow, anything, state_of, HasObject, ShowsHeader, Took}
+use Rattle.jr_rule.proofs.Goes.{goes_did, present_stays}
+use Rattle.jr_rule.proofs.InRoom.{in_room}
+use Rattle.jr_heap.specs.Heap.{Called, HoldsHeader, Learns}
+use Rattle.jr_heap.proofs.Calling.{called_by}
+
+pub learnt : (o : ℕ) (h : HeaderParts) (j k : Known) → Learns o h j k → HoldsHeader o h k
+learnt o h j k l = record { known = ap (λ (g : Grasp). header_in o g.headers) l.1 ∙ ap (λ b. cond b (Some h) (header_in o j.grasp.headers)) (eq_self o); shown = l.0 }
+
+none_absent : (x : Option Contents) → x ≡ None → IsSome x → ⊥
+none_absent None e p = absurd cc
+none_absent (Some x) e p = absurd cc
+
+some_is : (r : Option HeaderParts) → r ≢ None → IsSome r
+some_is None n = absurd (n refl)
+some_is (Some h) n = refl
+
+module _ {S : Type 0} {stands : S → Standing} {knows : S → Known → Type 0} (fits : (s : S) (k : Known) → knows s k → IsOf (stands s) k) (a : S) (o : ℕ) where
+  pub is_number : MayKnow knows a (HasObject o) → (1 ≤ o) × (o ≤ (stands a).config.objects)
+  is_number may =
+      let both : ((k : Known) × knows a k × HasObject o k) → (1 ≤ o) × (o ≤ (stands a).config.objects) =
+      λ k. let is = fits a k.0 k.1 in let l = (in_room k.0.config k.0.last k.0.seen is.legal).objects o k.2 in (l.0, subst (λ (c : Config). o ≤ c.objects) is.config l.1) in
+      (∥∥₁_elim may le_prop (λ k. (both k).0), ∥∥₁_elim may le_prop (λ k. (both k).1))
+
+  module _ {b : S} (r : Option HeaderParts) (t : Took stands knows a b [] anything (ShowsHeader o r)) where
+    not_none : (stands a).role ≡ Within → MayKnow knows a (HasObject o) → r ≢ None
+    not_none w may e = ∥∥₁_elim may (hlevel props) (λ k.
+        let g = (subst (λ x. Took stands knows a b [] anything (ShowsHeader o x)) e t).goes k.0 k.1 tt in
+        none_absent ((state_of g.0).objects o) g.3.0 (present_stays k.0 g.0 [] o (goes_did g.2) ((fits a k.0 k.1).role ∙ w) tt k.2))
+
+    pub is_there : (stands a).role ≡ Within → MayKnow knows a (HasObject o) → IsSome r
+    is_there w may = some_is r (not_none w may)
+
+    module _ (h : HeaderParts) (is : r ≡ Some h) where
+      found : Took stands knows a b [] anything (ShowsHeader o (Some h))
+      found = subst (λ x. Took stands knows a b [] anything (ShowsHeader o x)) is t
+
+      pub called_header : Called knows a b (HasObject o) (λ j k. header (state_of k) o) (Ok (h.kind, h.length)) (Learns o h)
+      called_header = called_by (λ k s m.
+          let g = found.goes k s tt in
+          let x = g.3.0 in
+          (g.0, g.1, [], record { did = goes_did g.2; is = λ f. (x.contents, x.is, (refl, ap (λ n. Ok (h.kind, n)) (sym x.long) ∙ ap (λ (q : Kind). Ok (q, length x.contents.words)) (sym x.kind), refl)); grounds = tt; shows = g.3 }))
+
+      pub may_hold : MayKnow knows a (HasObject o) → MayKnow knows b (HoldsHeader o h)
+      may_hold may = ∥∥₁_map may (λ k. let g = found.goes k.0 k.1 tt in (g.0, g.1, learnt o h k.0 g.0 g.3))

@@ -1,0 +1,12 @@
+pub mod Calling
+pub mod Staying
+mod Reserving
+mod Filling
+mod Headers
+mod Checks
+mod Elements
+mod Turns
+mod Publishing
+mod Whole
+mod Lists
+mod Tried

@@ -1,0 +1,94 @@
+-- Objects are published at the first absent number that a look comes to.
+use Rattle.std.proofs.Common.{◌≡◌, ◌≤◌, ◌<◌, ◌+◌, ◌⊎◌, ⊎_elim, ℕ, true, false, Some, length, List, [], ◌∷◌, ◌++◌, Ok, Err, inl, inr, refl, sym, ap, subst, ◌∙◌, arith}
+use mathlib.Core.Logic.{∥∥₁_map}
+use Rattle.jr_word.specs.declared.fault.Fault.TheVariants.{ObjectsFull}
+use Rattle.jr_word.specs.declared.header.HeaderParts.{HeaderParts}
+use Rattle.jr_word.specs.declared.kind.Kind.{Kind}
+use Rattle.jr_model.specs.declared.event.Role.TheVariants.{Within}
+use Rattle.jr_model.specs.declared.event.Act.TheVariants.{New}
+use Rattle.jr_model.specs.State.{State, AreWords}
+use Rattle.jr_model.specs.History.{by, state, role_of, Did}
+use Rattle.jr_model.specs.Parts.{publish}
+use Rattle.jr_model.proofs.Updates.{at_number_self}
+use Rattle.jr_model.proofs.Histories.{state_push}
+use Rattle.jr_model.proofs.Moments.{sometime_last}
+use Rattle.jr_model.proofs.Stays.{did_then, did_nothing}
+use Rattle.jr_rule.specs.declared.known.Known.{Known}
+use Rattle.jr_rule.specs.declared.known.Grasp.{Grasp}
+use Rattle.jr_rule.specs.Acts.{publishing}
+use Rattle.jr_rule.specs.Knowing.{Standing, IsOf, MayKnow, Goes, view, state_of, words_for, published, HasObject, IsFilled, ShowsPublished, TookWith}
+use Rattle.jr_rule.proofs.Goes.{goes_did}
+use Rattle.jr_heap.specs.Heap.{Called, number_of}
+use Rattle.jr_heap.proofs.Calling.{called_by}
+use Rattle.jr_heap.proofs.Staying.{present_later, word_later}
+use Rattle.jr_heap.proofs.Turns.{turn_of}
+
+-- what stands after the event of a new object
+new_stands : (k k' : Known) (o : ℕ) (kind : Kind) (ws : List ℕ) → Goes k (New o kind ws ∷ []) k' → (state_of k').objects o ≡ Some (record { kind = kind; words = ws })
+new_stands k k' o kind ws g =
+    let before = k.seen ++ g.between in
+    ap (λ (s : State). s.objects o) (ap state g.seen ∙ state_push before (by k.thread (New o kind ws))) ∙ at_number_self (state before).objects o (Some (record { kind = kind; words = ws }))
+
+last_or : (t n : ℕ) → t < n + 1 → (t < n) ⊎ (n ≡ t)
+last_or t n l = grind arith
+
+module _ {S : Type 0} (stands : S → Standing) (knows : S → Known → Type 0) (h : HeaderParts) (first objects : ℕ) where
+  -- so many numbers were found present, and nothing was done
+  pub record Passed (old new : S) (n : ℕ) : Type 0 where
+    pub stands_is : stands new ≡ stands old
+    pub did : (k : Known) → knows old k → IsFilled h k
+        → (k' : Known) × knows new k' × IsFilled h k' × (k'.grasp ≡ k.grasp) × ((t : ℕ) → t < n → HasObject (number_of first t objects) k') × Did (view k) (view k') []
+
+-- a range that is ready stays so
+filled_later : (h : HeaderParts) (k k' : Known) → Did (view k) (view k') [] → role_of (view k) ≡ Within → k'.grasp ≡ k.grasp → IsFilled h k → IsFilled h k'
+filled_later h k k' d w e x =
+    let same : words_for h k' ≡ words_for h k = ap (λ (g : Grasp). words_for h (record k { grasp = g })) e in
+    record { long = ap (λ ws. length ws) same ∙ x.long; words = subst (AreWords (state_of k') h.kind) (sym same) (λ i v there. word_later k k' [] d w tt h.kind v (x.words i v there)) }
+
+module _ {S : Type 0} {stands : S → Standing} {knows : S → Known → Type 0} (fits : (s : S) (k : Known) → knows s k → IsOf (stands s) k) (h : HeaderParts) (first objects : ℕ) where
+  pub passed_nothing : (a : S) → Passed stands knows h first objects a a 0
+  passed_nothing a = record { stands_is = refl; did = λ k s m. (k, s, m, refl, (λ t l. absurd (omega arith)), did_nothing (view k) (fits a k s).legal) }
+
+  pub passed_more : {a b c : S} (n o : ℕ) → (stands a).role ≡ Within → o ≡ number_of first n objects → Passed stands knows h first objects a b n
+      → TookWith stands knows b c (λ k. publishing o h.kind (words_for h k) false) (IsFilled h) (ShowsPublished o h false) → Passed stands knows h first objects a c (n + 1)
+  passed_more {a} {b} n o w is p t = record {
+    stands_is = t.stands_is ∙ p.stands_is;
+    did = λ k s m.
+        let x = p.did k s m in
+        let y = t.goes x.0 x.1 x.2 in
+        let d = goes_did y.2 in
+        let within = (fits b x.0 x.1).role ∙ (ap (λ (z : Standing). z.role) p.stands_is ∙ w) in (
+          y.0,
+          y.1,
+          filled_later h x.0 y.0 d within y.3.1 x.2,
+          y.3.1 ∙ x.3,
+          λ u l. ⊎_elim (λ e. present_later x.0 y.0 [] d within tt (number_of first u objects) (x.4 u e)) (λ (e : n ≡ u). subst (λ z. HasObject z y.0) (is ∙ ap (λ z. number_of first z objects) e) y.3.0) (last_or u n l),
+          did_then [] [] x.5 d,
+        );
+  }
+
+  pub passed_new : {a b c : S} {n : ℕ} (o : ℕ) → Passed stands knows h first objects a b n → TookWith stands knows b c (λ k. publishing o h.kind (words_for h k) true) (IsFilled h) (ShowsPublished o h true)
+      → Called knows a c (IsFilled h) (λ j k. publish h.kind (words_for h j)) (Ok o) (λ j k. ((state_of k).objects o ≡ Some (record { kind = h.kind; words = words_for h j })) × (k.grasp ≡ published h j.grasp))
+  passed_new o p t = called_by (λ k s m.
+      let x = p.did k s m in
+      let y = t.goes x.0 x.1 x.2 in
+      let same : words_for h x.0 ≡ words_for h k = ap (λ (g : Grasp). words_for h (record k { grasp = g })) x.3 in
+      let d : Did (view k) (view y.0) (New o h.kind (words_for h k) ∷ []) = subst (λ ws. Did (view k) (view y.0) (New o h.kind ws ∷ [])) same (did_then [] (New o h.kind (words_for h x.0) ∷ []) x.5 (goes_did y.2)) in
+      let there : (state_of y.0).objects o ≡ Some (record { kind = h.kind; words = words_for h k }) = new_stands x.0 y.0 o h.kind (words_for h x.0) y.2 ∙ ap (λ ws. Some (record { kind = h.kind; words = ws })) same in
+      (y.0, y.1, New o h.kind (words_for h k) ∷ [], record { did = d; is = λ f. inl (o, refl, refl, refl); grounds = tt; shows = (there, y.3.1 ∙ ap (λ g. published h g) x.3) }))
+
+  pub passed_present : {a b c : S} {n : ℕ} (o : ℕ) → MayKnow knows a (IsFilled h) → Passed stands knows h first objects a b n → TookWith stands knows b c (λ k. publishing o h.kind (words_for h k) true) (IsFilled h) (ShowsPublished o h true) → MayKnow knows c (HasObject o)
+  passed_present o may p t = ∥∥₁_map may (λ k. let x = p.did k.0 k.1 k.2 in let y = t.goes x.0 x.1 x.2 in (y.0, y.1, y.3.0))
+
+  pub passed_ready : {a b : S} {n : ℕ} → MayKnow knows a (IsFilled h) → Passed stands knows h first objects a b n → MayKnow knows b (IsFilled h)
+  passed_ready may p = ∥∥₁_map may (λ k. let x = p.did k.0 k.1 k.2 in (x.0, x.1, x.2))
+
+  pub passed_all : {a b : S} (n : ℕ) → objects ≤ n → ((k : Known) → knows a k → k.config.objects ≡ objects) → (1 ≤ objects → first < objects) → Passed stands knows h first objects a b n
+      → Called knows a b (IsFilled h) (λ j k. publish h.kind (words_for h j)) (Err ObjectsFull) (λ j k. k.grasp ≡ j.grasp)
+  passed_all n end same low p = called_by (λ k s m.
+      let x = p.did k s m in
+      let each : (o : ℕ) → 1 ≤ o → o ≤ k.config.objects → HasObject o x.0 = λ o l u.
+      let top : o ≤ objects = subst (λ z. o ≤ z) (same k s) u in
+      let t = turn_of first objects o (low (omega arith)) l top in
+      subst (λ z. HasObject z x.0) t.2 (x.4 t.0 (let b = t.1 in omega arith)) in
+      (x.0, x.1, [], record { did = x.5; is = λ f. inr (refl, refl, refl); grounds = sometime_last x.5.begins each; shows = x.3 }))

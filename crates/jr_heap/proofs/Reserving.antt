@@ -1,0 +1,97 @@
+-- Space is reserved by one look and one exchange.
+use Rattle.std.proofs.Common.{arith, ◌≡◌, ◌≢◌, ◌≤◌, ◌<◌, ◌+◌, ◌==◌, ℕ, zero, suc, false, cond, List, [], ◌∷◌, length, Ok, Err, inl, inr, refl, sym, ap, subst, ◌∙◌}
+use Rattle.std.proofs.lemmas.Bool.{lt-ltb, le-ltb}
+use Rattle.std.proofs.lemmas.Bool.Decides.{nat_tests}
+use Rattle.jr_word.specs.declared.fault.Fault.TheVariants.{SpaceFull, Raced}
+use Rattle.jr_model.specs.declared.event.Act.TheVariants.{Reserve, ReserveFull, ReserveLost}
+use Rattle.jr_model.specs.History.{Did}
+use Rattle.jr_model.specs.Frames.{Frames}
+use Rattle.jr_model.specs.Parts.{reserve}
+use Rattle.jr_model.proofs.Updates.{eq_self}
+use Rattle.jr_model.proofs.Moments.{raced, sometime_last}
+use Rattle.jr_model.proofs.Stays.{did_then}
+use Rattle.jr_rule.specs.declared.known.Known.{Known}
+use Rattle.jr_rule.specs.declared.known.Grasp.{Grasp}
+use Rattle.jr_rule.specs.declared.naming.TopNaming.TheVariants as top
+use Rattle.jr_rule.specs.Acts.{top_named}
+use Rattle.jr_rule.specs.Grasping.{words_at, with_range}
+use Rattle.jr_rule.specs.Knowing.{Standing, MayKnow, view, anything, keeps, ShowsUsed, ShowsRange, Took}
+use Rattle.jr_rule.proofs.Goes.{goes_did, may_then}
+use Rattle.jr_heap.specs.Heap.{Called, IsOwn, Gains}
+use Rattle.jr_heap.proofs.Calling.{called_by}
+
+reserved : (n : ℕ) → n ≢ 0 → (f : Frames) → reserve n f (Reserve n ∷ []) (Ok tt) f
+reserved zero some f = absurd (some refl)
+reserved (suc n) some f = inl (refl, refl, refl)
+
+full : (n u : ℕ) → n ≢ 0 → (f : Frames) → reserve n f (ReserveFull n u ∷ []) (Err (SpaceFull u)) f
+full zero u some f = absurd (some refl)
+full (suc n) u some f = inr (inl (inl (u, f, ReserveFull (suc n) u ∷ [], [], refl, (u, refl, refl, refl), (refl, refl, refl))))
+
+lost : (n l u : ℕ) → n ≢ 0 → (f : Frames) → reserve n f (ReserveLost n l u ∷ []) (Err (Raced l u)) f
+lost zero l u some f = absurd (some refl)
+lost (suc n) l u some f = inr (inr (inl ((l, u), f, ReserveLost (suc n) l u ∷ [], [], refl, ((l, u), refl, refl, refl), (refl, refl, refl))))
+
+gains : (n place : ℕ) (j k : Known) → n ≢ 0 → (ws : List ℕ) → length ws ≡ n → k.grasp ≡ with_range j.grasp place ws → Gains n place j k
+gains zero place j k some ws long g = absurd (some refl)
+gains (suc n) place j k some ws long g = (ws, long, g)
+
+-- sums in wide numbers
+pub over : {u n w x y z : ℕ} → x ≡ u → y ≡ n → z ≡ w → z < x + y → w < u + n
+over p q r l = omega arith
+
+pub within : {u n w x y z : ℕ} → x ≡ u → y ≡ n → z ≡ w → x + y ≤ z → u + n ≤ w
+within p q r l = omega arith
+
+-- the look does not fit, or it does
+named_full : (words n u : ℕ) → words < u + n → top_named words (top.Full n) u ≡ ReserveFull n u ∷ []
+named_full words n u l = ap (λ b. cond b (ReserveFull n u ∷ []) []) (lt-ltb words (u + n) l)
+
+named_look : (words n u : ℕ) → u + n ≤ words → top_named words (top.Full n) u ≡ []
+named_look words n u l = ap (λ b. cond b (ReserveFull n u ∷ []) []) (le-ltb words (u + n) l)
+
+suc_not_zero : (n : ℕ) → (suc n == 0) ≡ false
+suc_not_zero n = grind (arith, nat_tests)
+
+-- the words of a range that was just reserved
+own_range : (place n : ℕ) (j k : Known) (ws : List ℕ) → length ws ≡ n → k.grasp ≡ with_range j.grasp place ws → IsOwn place n k
+own_range place zero j k ws long e = refl
+own_range place (suc n) j k ws long e = ap (λ b. length (cond b [] (words_at place k.grasp.ranges))) (suc_not_zero n) ∙ (ap (λ (h : Grasp). length (words_at place h.ranges)) e ∙ (ap (λ b. length (cond b ws (words_at place j.grasp.ranges))) (eq_self place) ∙ long))
+
+module _ {S : Type 0} {stands : S → Standing} {knows : S → Known → Type 0} {a b : S} (n u words : ℕ) (some : n ≢ 0) (looked : Took stands knows a b (top_named words (top.Full n) u) anything (λ j k. ShowsUsed u k × keeps j k)) where
+  pub reserve_full : words < u + n → Called knows a b anything (λ j k. reserve n) (Err (SpaceFull u)) keeps
+  reserve_full l = called_by (λ k s m.
+      let g = looked.goes k s tt in
+      (g.0, g.1, ReserveFull n u ∷ [], record { did = subst (λ xs. Did (view k) (view g.0) xs) (named_full words n u l) (goes_did g.2); is = full n u some; grounds = tt; shows = g.3.1 }))
+
+  module _ (room : u + n ≤ words) where
+    first : (k : Known) → knows a k → (j : Known) × knows b j × Did (view k) (view j) [] × ShowsUsed u j × keeps k j
+    first k s = let g = looked.goes k s tt in (g.0, g.1, subst (λ xs. Did (view k) (view g.0) xs) (named_look words n u room) (goes_did g.2), g.3.0, g.3.1)
+
+    pub reserve_won : {c : S} → Took stands knows b c (Reserve n ∷ []) anything (ShowsRange u n (Ok tt)) → Called knows a c anything (λ j k. reserve n) (Ok tt) (Gains n u)
+    reserve_won t = called_by (λ k s m.
+        let j = first k s in
+        let g = t.goes j.0 j.1 tt in
+        let e : g.0.grasp ≡ with_range k.grasp u g.3.0 = g.3.2 ∙ ap (λ h. with_range h u g.3.0) j.4 in
+        (g.0, g.1, Reserve n ∷ [], record { did = did_then [] (Reserve n ∷ []) j.2 (goes_did g.2); is = reserved n some; grounds = tt; shows = gains n u k g.0 some g.3.0 g.3.1 e }))
+
+    pub reserve_lost : {c : S} (found : ℕ) → ((k : Known) → knows a k → k.config.words ≡ words) → Took stands knows b c (ReserveLost n u found ∷ []) anything (ShowsRange u n (Err found)) → Called knows a c anything (λ j k. reserve n) (Err (Raced u found)) keeps
+    reserve_lost found same t = called_by (λ k s m.
+        let j = first k s in
+        let g = t.goes j.0 j.1 tt in
+        let fits : u + n ≤ k.config.words = subst (λ z. u + n ≤ z) (sym (same k s)) room in
+        let e : g.0.grasp ≡ k.grasp = g.3 ∙ j.4 in (
+          g.0,
+          g.1,
+          ReserveLost n u found ∷ [],
+          record {
+            did = did_then [] (ReserveLost n u found ∷ []) j.2 (goes_did g.2);
+            is = lost n u found some;
+            grounds = raced n u found (sometime_last j.2.begins j.3) j.2.thread fits (goes_did g.2);
+            shows = e;
+          },
+        ))
+
+module _ {S : Type 0} {stands : S → Standing} {knows : S → Known → Type 0} {b c : S} where
+  pub reserve_owned : (n u : ℕ) → MayKnow knows b anything → Took stands knows b c (Reserve n ∷ []) anything (ShowsRange u n (Ok tt)) → MayKnow knows c (IsOwn u n)
+  reserve_owned n u may t = may_then t (λ k s m. tt) may (λ j k s m g x. own_range u n j k x.0 x.1 x.2)

@@ -1,0 +1,70 @@
+-- A header is read, and then something is done at an element.
+use Rattle.std.proofs.Common.{◌≡◌, ℕ, Option, Some, None, IsSome, List, [], Result, Ok, refl, sym, ap, subst, ◌∙◌}
+use mathlib.Core.Logic.{∥∥₁_map}
+use Rattle.jr_word.specs.declared.fault.Fault.{Fault}
+use Rattle.jr_word.specs.declared.header.HeaderParts.{HeaderParts}
+use Rattle.jr_word.specs.declared.kind.Kind.{Kind}
+use Rattle.jr_word.specs.declared.kind.Kind.TheVariants.{Plain, Objects}
+use Rattle.jr_model.specs.declared.event.Role.TheVariants.{Within}
+use Rattle.jr_model.specs.declared.event.Act.{Act}
+use Rattle.jr_model.specs.State.{Contents, State}
+use Rattle.jr_model.specs.History.{role_of, Did}
+use Rattle.jr_model.specs.Frames.{Frames}
+use Rattle.jr_model.specs.Calls.{Call, Ran}
+use Rattle.jr_model.specs.Parts.{header}
+use Rattle.jr_model.proofs.Moments.{answer_wider, prefix_self}
+use Rattle.jr_model.proofs.Stays.{did_then}
+use Rattle.jr_rule.specs.declared.known.Known.{Known}
+use Rattle.jr_rule.specs.Knowing.{MayKnow, view, state_of, HasObject}
+use Rattle.jr_heap.specs.Heap.{Called, HoldsHeader, Learns, Leaves, Relearns, MayBeNamed, MayBeNamedIn}
+use Rattle.jr_heap.proofs.Staying.{still, word_later, shown_present}
+
+-- the header was read, with no act
+read_header : (k j : Known) (o : ℕ) (h : HeaderParts) (f : Frames) → Ran (view k) (view j) f f (header (state_of j) o) (Ok (h.kind, h.length)) → Did (view k) (view j) []
+read_header k j o h f r = subst (λ (xs : List Act). Did (view k) (view j) xs) r.is.2.0 r.did
+
+module _ {S : Type 0} {knows : S → Known → Type 0} {a b : S} (o : ℕ) (h : HeaderParts) {first : Known → Type 0} (t : Called knows a b first (λ j k. header (state_of k) o) (Ok (h.kind, h.length)) (Learns o h)) where
+  pub called_at : {A : Type 0} {c : S} {met then' : Known → Type 0} {answer : Result A Fault} (call : State → Call A) → Called knows b c then' (λ j k. call (state_of k)) answer (Leaves o h)
+      → ((k : Known) → met k → first k) → ((k j : Known) → knows a k → met k → Did (view k) (view j) [] → Learns o h k j → then' j) → Called knows a c met (λ j k. call (state_of k)) answer (Relearns o)
+  called_at {answer = answer} call u meets next = record {
+    ran = λ k s m.
+        let r = t.ran k s (meets k m) in
+        let d = λ (f : Frames). read_header k r.0 o h f (r.2 f) in
+        let q = u.ran r.0 r.1 (next k r.0 s m (d (record { frames = []; given = [] })) r.3) in (
+          q.0,
+          q.1,
+          λ f. record {
+            acts = (q.2 f).acts;
+            did = did_then [] (q.2 f).acts (d f) (q.2 f).did;
+            is = (q.2 f).is;
+            grounds = answer_wider [] (d f) (view q.0) (view q.0) answer (prefix_self q.0.seen) (q.2 f).grounds;
+          },
+          (h, (q.3.0, q.3.1 ∙ r.3.1)),
+        );
+  }
+
+  -- what may be known once the header was read
+  pub may_at : {met then' : Known → Type 0} → ((k : Known) → met k → first k) → ((k j : Known) → knows a k → met k → Did (view k) (view j) [] → Learns o h k j → then' j) → MayKnow knows a met → MayKnow knows b then'
+  may_at meets next may = ∥∥₁_map may (λ k.
+      let r = t.ran k.0 k.1 (meets k.0 k.2) in
+      (r.0, r.1, next k.0 r.0 k.1 k.2 (read_header k.0 r.0 o h (record { frames = []; given = [] }) (r.2 (record { frames = []; given = [] }))) r.3))
+
+pub may_present : {S : Type 0} (knows : S → Known → Type 0) (a : S) (o : ℕ) (h : HeaderParts) → MayKnow knows a (HoldsHeader o h) → MayKnow knows a (HasObject o)
+may_present knows a o h may = ∥∥₁_map may (λ k. (k.0, k.1, shown_present o h k.0 k.2.shown))
+
+some_of : (z : Option Contents) → IsSome z → (x : Contents) × (z ≡ Some x)
+some_of None p = absurd cc
+some_of (Some x) p = (x, refl)
+
+abbrev kind_in : Option Contents → Kind
+kind_in None = Plain
+kind_in (Some x) = x.kind
+
+-- a word that may be named in the object may be named in one of its header's kind
+pub named_at : (o : ℕ) (h : HeaderParts) (v : ℕ) (k j : Known) → role_of (view k) ≡ Within → HasObject o k × MayBeNamedIn o v k → Did (view k) (view j) [] → Learns o h k j → MayBeNamed h.kind v j
+named_at o h v k j w m d l e =
+    let x = some_of ((state_of k).objects o) m.0 in
+    let y = (still k j [] d w tt).objects o x.0 x.1 in
+    let same : y.0.kind ≡ l.0.contents.kind = ap kind_in (sym y.1 ∙ l.0.is) in
+    let kind : x.0.kind ≡ Objects = sym y.2 ∙ (same ∙ (l.0.kind ∙ e)) in
+    word_later k j [] d w tt Objects v (m.1 x.0 x.1 kind)

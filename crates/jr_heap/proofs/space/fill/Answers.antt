@@ -1,0 +1,21 @@
+use Rattle.std.proofs.Common.{arith}
+use Rattle.jr_heap.proofs.Filling.{filled_nothing, filled_more, filled_may, filled_call, filled_own, filled_ready}
+use Rattle.jr_heap.proofs.space.fill.Goals as goal
+
+pub loop-index-init : goal.loop-index-init
+loop-index-init g c = filled_nothing g.met.S.Steps.fits c.args.range.now.place c.args.range.now.length c.args.word c.args.steps.now
+
+pub put_own-requires-clause-own : goal.put_own-requires-clause-own
+put_own-requires-clause-own g c = filled_may g.met.S.Steps.fits c.args.range.now.place c.args.range.now.length c.args.word c.loop-index.index c.loop-index-test.true c.requires.own c.loop-index.invariant
+
+pub loop-index-preserved : goal.loop-index-preserved
+loop-index-preserved g c = filled_more g.met.S.Steps.fits c.args.range.now.place c.args.range.now.length c.args.word c.loop-index.index c.loop-index.invariant c.loop-index-test.true c.put_own.ensures
+
+pub returns-clause-call : goal.returns-clause-call
+returns-clause-call g c = filled_call g.met.S.Steps.fits c.args.range.now.place c.args.range.now.length c.args.word c.loop-index.index (let a = c.loop-index.auto.index-end in let b = c.loop-index-test.false in omega arith) c.loop-index.invariant
+
+pub returns-clause-own : goal.returns-clause-own
+returns-clause-own g c = filled_own g.met.S.Steps.fits c.args.range.now.place c.args.range.now.length c.args.word c.loop-index.index (let a = c.loop-index.auto.index-end in let b = c.loop-index-test.false in omega arith) c.loop-index.invariant c.requires.own
+
+pub returns-clause-ready : goal.returns-clause-ready
+returns-clause-ready g c = filled_ready g.met.S.Steps.fits c.args.range.now.place c.args.range.now.length c.args.word c.loop-index.index (let a = c.loop-index.auto.index-end in let b = c.loop-index-test.false in omega arith) c.loop-index.invariant c.requires.role

@@ -1,0 +1,93 @@
+-- What the calls of the heap do, for whatever was known.
+use Rattle.std.specs.Prelude.{◌≡◌, ◌≢◌, ◌==◌, ◌+◌, ◌-◌, ℕ, zero, suc, nat_lt, cond, Result, Ok, Err, Some, List, [], length, replicate}
+use Rattle.jr_word.specs.declared.fault.Fault.{Fault}
+use Rattle.jr_word.specs.declared.header.HeaderParts.{HeaderParts}
+use Rattle.jr_word.specs.declared.kind.Kind.{Kind}
+use Rattle.jr_word.specs.declared.kind.Kind.TheVariants.{Objects}
+use Rattle.jr_model.specs.State.{Contents}
+use Rattle.jr_model.specs.Frames.{Frames}
+use Rattle.jr_model.specs.Calls.{Call, Ran, done}
+use Rattle.jr_rule.specs.declared.known.Known.{Known}
+use Rattle.jr_rule.specs.Grasping.{words_at, with_range, with_header}
+use Rattle.jr_rule.specs.Knowing.{view, state_of, keeps, published, KnowsHeader, IsFilled, IsWordNow, ShowsObject}
+
+module _ {S : Type 0} (knows : S → Known → Type 0) where
+  -- A CALL WAS MADE in a stay: for whatever was known and meets the condition, something is known from which the thread did what the call does, with this answer, and left the frames as they were; and it shows this. The call may name what was known and what is
+  pub record Called {A : Type 0} (old new : S) (met : Known → Type 0) (call : Known → Known → Call A) (answer : Result A Fault) (shows : Known → Known → Type 0) : Type 0 where
+    pub ran : (k : Known) → knows old k → met k
+        → (k' : Known) × knows new k' × ((f : Frames) → Ran (view k) (view k') f f (call k k') answer) × shows k k'
+
+-- nothing that others could see
+abbrev pub no_act : Call (Unit {0})
+no_act = done tt
+
+-- SPACE
+
+-- the header of an object with the words of a range
+abbrev pub header_of : Kind → ℕ → ℕ → HeaderParts
+header_of kind place n = record { kind = kind; length = n; place = place }
+
+-- the n words of the pass's own range at a place: none of an empty one
+abbrev pub words_of : ℕ → ℕ → Known → List ℕ
+words_of place n k = cond (n == 0) [] (words_at place k.grasp.ranges)
+
+-- the n words at the place are the pass's own in this stay
+abbrev pub IsOwn : ℕ → ℕ → Known → Type 0
+IsOwn place n k = length (words_of place n k) ≡ n
+
+-- they are, and each of them may be an element of the kind
+abbrev pub IsReady : Kind → ℕ → ℕ → Known → Type 0
+IsReady kind place n k = IsFilled (header_of kind place n) k
+
+-- what a reservation of n words gives: so many words of the pass's own at the place
+abbrev pub Gains : ℕ → ℕ → Known → Known → Type 0
+Gains zero place j k = keeps j k
+Gains (suc n) place j k = (ws : List ℕ) × (length ws ≡ suc n) × (k.grasp ≡ with_range j.grasp place ws)
+
+-- what a filling changes: each of the n words at the place is v then, and nothing else that the pass holds is other
+pub record Fills (place n v : ℕ) (j k : Known) : Type 0 where
+  pub words : words_of place n k ≡ replicate n v
+  pub headers : k.grasp.headers ≡ j.grasp.headers
+  pub others : (p : ℕ) → p ≢ place → words_at p k.grasp.ranges ≡ words_at p j.grasp.ranges
+
+-- OBJECTS
+
+-- the number of a turn of a look that begins behind `first` and goes round
+abbrev pub number_of : ℕ → ℕ → ℕ → ℕ
+number_of first turn objects = cond (nat_lt (first + turn) objects) (first + turn + 1) (first + turn - objects + 1)
+
+-- what a publication shows: the object has the words of the range, which is the pass's own no more; and a refused one takes nothing from the pass
+abbrev pub Publishes : Kind → ℕ → ℕ → Result ℕ Fault → Known → Known → Type 0
+Publishes kind place n (Ok o) j k = ((state_of k).objects o ≡ Some (record { kind = kind; words = words_of place n j })) × (k.grasp ≡ published (header_of kind place n) j.grasp)
+Publishes kind place n (Err e) j k = keeps j k
+
+-- the pass knows the header, and the present object has its kind and length
+pub record HoldsHeader (o : ℕ) (h : HeaderParts) (k : Known) : Type 0 where
+  pub known : KnowsHeader o h k
+  pub shown : ShowsObject o h k
+
+-- the object is present, and of the kind
+abbrev pub HasKind : ℕ → Kind → Known → Type 0
+HasKind o kind k = (x : Contents) × ((state_of k).objects o ≡ Some x) × (x.kind ≡ kind)
+
+-- what a look at a header shows: the pass knows it from then on
+abbrev pub Learns : ℕ → HeaderParts → Known → Known → Type 0
+Learns o h j k = ShowsObject o h k × (k.grasp ≡ with_header j.grasp o h)
+
+-- what a call at an element leaves: the object has this kind and length still, and the pass holds what it held
+abbrev pub Leaves : ℕ → HeaderParts → Known → Known → Type 0
+Leaves o h j k = ShowsObject o h k × keeps j k
+
+-- the pass read the header of the object, beside what it holds
+abbrev pub Relearns : ℕ → Known → Known → Type 0
+Relearns o j k = (h : HeaderParts) × Learns o h j k
+
+-- ELEMENTS
+
+-- a word of an object array is 0 or names a present object
+abbrev pub MayBeNamed : Kind → ℕ → Known → Type 0
+MayBeNamed kind v k = kind ≡ Objects → IsWordNow Objects v k
+
+-- the same for the object's own kind
+abbrev pub MayBeNamedIn : ℕ → ℕ → Known → Type 0
+MayBeNamedIn o v k = (x : Contents) → (state_of k).objects o ≡ Some x → MayBeNamed x.kind v k

@@ -1,0 +1,112 @@
+//! Elements of objects, over any steps.
+ghost use Rattle.std.specs.Prelude.{◌≡◌, ◌||◌};
+ghost use Rattle.jr_model.specs.declared.event.Role.TheVariants.{Within};
+ghost use Rattle.jr_model.specs.Parts.{read_element as reading, write_element as writing};
+ghost use Rattle.jr_model.specs.Tests.{is_plain as is_plain_of, is_text as is_text_of, is_value as is_value_of};
+ghost use Rattle.jr_rule.specs.Knowing.{state_of, HasObject, MayKnow};
+ghost use Rattle.jr_heap.specs.Heap.{Called, HoldsHeader, Leaves, Relearns, MayBeNamed, MayBeNamedIn};
+
+use crate::object::header;
+use jr_rule::Steps;
+use jr_word::{Fault, HeaderParts, Kind};
+
+/// The element at an index of a present object: E5 of a plain object, E7 past its length.
+pub fn read<S: Steps>(steps: &mut S, object: u16, index: u32) -> Result<u64, Fault>
+    requires role { (S.stands steps.old).role ≡ Within }
+    requires object { MayKnow S.knows steps.old (HasObject object) }
+    ensures stands { S.stands steps.new ≡ S.stands steps.old }
+    ensures call { Called S.knows steps.old steps.new (HasObject object) (λ j k. reading (state_of k) object index) result (Relearns object) }
+    ensures object { MayKnow S.knows steps.new (HasObject object) }
+{
+    let header = header(steps, object);
+    read_element(steps, object, header, index)
+}
+
+/// The element at an index of an object whose header was read in this stay: E5 of a plain object, E7 past its length.
+pub fn read_element<S: Steps>(
+    steps: &mut S,
+    object: u16,
+    header: HeaderParts,
+    index: u32,
+) -> Result<u64, Fault>
+    requires role { (S.stands steps.old).role ≡ Within }
+    requires known { MayKnow S.knows steps.old (HoldsHeader object header) }
+    ensures stands { S.stands steps.new ≡ S.stands steps.old }
+    ensures call { Called S.knows steps.old steps.new (HoldsHeader object header) (λ j k. reading (state_of k) object index) result (Leaves object header) }
+    ensures known { MayKnow S.knows steps.new (HoldsHeader object header) }
+{
+    if is_plain(header.kind) {
+        return Err(Fault::NotArray);
+    }
+    if index >= header.length {
+        return Err(Fault::Range);
+    }
+    Ok(steps.see_element(object, header, index))
+}
+
+/// Writes the element at an index of a present object: E5 of a plain object or a string, E7 past its length, E18 where the word is not of its kind, all before the write. A word of an object array is 0 or a present object's number.
+pub fn write<S: Steps>(steps: &mut S, object: u16, index: u32, word: u64) -> Result<(), Fault>
+    requires role { (S.stands steps.old).role ≡ Within }
+    requires object { MayKnow S.knows steps.old (λ k. HasObject object k × MayBeNamedIn object word k) }
+    ensures stands { S.stands steps.new ≡ S.stands steps.old }
+    ensures call { Called S.knows steps.old steps.new (λ k. HasObject object k × MayBeNamedIn object word k) (λ j k. writing (state_of k) object index word) result (Relearns object) }
+    ensures object { MayKnow S.knows steps.new (HasObject object) }
+{
+    let header = header(steps, object);
+    write_element(steps, object, header, index, word)
+}
+
+/// Writes the element at an index of an object whose header was read in this stay: E5 of a plain object or a string, E7 past its length, E18 where the word is not of its kind, all before the write. A word of an object array is 0 or a present object's number.
+pub fn write_element<S: Steps>(
+    steps: &mut S,
+    object: u16,
+    header: HeaderParts,
+    index: u32,
+    word: u64,
+) -> Result<(), Fault>
+    requires role { (S.stands steps.old).role ≡ Within }
+    requires known { MayKnow S.knows steps.old (λ k. HoldsHeader object header k × MayBeNamed header.kind word k) }
+    ensures stands { S.stands steps.new ≡ S.stands steps.old }
+    ensures call { Called S.knows steps.old steps.new (λ k. HoldsHeader object header k × MayBeNamed header.kind word k) (λ j k. writing (state_of k) object index word) result (Leaves object header) }
+    ensures known { MayKnow S.knows steps.new (HoldsHeader object header) }
+{
+    if is_constant(header.kind) {
+        return Err(Fault::NotArray);
+    }
+    if header.length <= index {
+        return Err(Fault::Range);
+    }
+    if !is_value(header.kind, word) {
+        return Err(Fault::Value);
+    }
+    steps.put_element(object, header, index, word);
+    Ok(())
+}
+
+/// Whether objects of the kind have no elements.
+fn is_plain(kind: Kind) -> bool
+    ensures { result ≡ is_plain_of kind }
+{
+    matches!(kind, Kind::Plain)
+}
+
+/// Whether no element of an object of the kind is ever written: it has none, or it is a string.
+fn is_constant(kind: Kind) -> bool
+    ensures { result ≡ (is_plain_of kind || is_text_of kind) }
+{
+    matches!(kind, Kind::Plain | Kind::Text)
+}
+
+/// Whether a word may be an element of the kind, but for the object that it names.
+fn is_value(kind: Kind, word: u64) -> bool
+    ensures { result ≡ is_value_of kind word }
+{
+    match kind {
+        Kind::Plain => false,
+        Kind::Boolean => word < 2,
+        Kind::Byte => word < 0x100,
+        Kind::Char | Kind::Short | Kind::Text => word < 0x1_0000,
+        Kind::Int => word < 0x1_0000_0000,
+        Kind::Long | Kind::Objects => true,
+    }
+}

@@ -1,0 +1,16 @@
+//! The heap: objects, their headers and elements, and array space, over any steps.
+#![tactic(auto)]
+
+mod element;
+mod laws;
+mod object;
+mod range;
+mod space;
+#[cfg(test)]
+mod tests;
+
+pub use element::{read, read_element, write, write_element};
+pub use laws::{headers_hold, objects_are_lists};
+pub use object::{Numbers, header, publish};
+pub use range::Range;
+pub use space::{fill, reserve};

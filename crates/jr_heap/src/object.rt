@@ -1,0 +1,89 @@
+//! Objects: their numbers and headers, over any steps.
+ghost use Rattle.std.specs.Prelude.{◌≡◌, ◌<◌, ◌≤◌, IfOk, Ok};
+ghost use Rattle.jr_word.specs.declared.kind.Kind.TheVariants.{Plain};
+ghost use Rattle.jr_model.specs.declared.event.Role.TheVariants.{Within};
+ghost use Rattle.jr_model.specs.Parts.{publish as publication, header as header_call};
+ghost use Rattle.jr_rule.specs.Knowing.{state_of, HasObject, MayKnow};
+ghost use Rattle.jr_heap.specs.Heap.{Called, number_of, words_of, IsReady, Publishes, HoldsHeader, Learns};
+
+use crate::range::Range;
+use jr_rule::Steps;
+use jr_word::{Fault, HeaderParts, Kind};
+
+/// Where a pass begins to look for an object number. It is the pass's own business: which number an object has says nothing.
+#[derive(Debug, PartialEq, Eq, Drop)]
+pub struct Numbers {
+    next: u32,
+    ghost fits: { next ≤ 65535 },
+}
+
+impl Numbers {
+    /// At the first number.
+    pub fn new() -> Self {
+        Numbers { next: 0 }
+    }
+
+    /// How many of so many numbers stand before the one at which a look begins.
+    fn first(&self, objects: u32) -> u32
+        ensures { 1 ≤ objects → result < objects }
+    {
+        if self.next < objects { self.next } else { 0 }
+    }
+}
+
+/// The number of the turn of a look that began behind so many, and goes round once.
+fn number(first: u32, turn: u32, objects: u32) -> u16
+    requires first { first < objects }
+    requires turn { turn < objects }
+    requires few { objects ≤ 65535 }
+    ensures number { result ≡ number_of first turn objects }
+    ensures range { (1 ≤ result) × (result ≤ objects) }
+{
+    let next = first + turn;
+    if next < objects {
+        return (next + 1) as u16;
+    }
+    (next - objects + 1) as u16
+}
+
+/// A new object, whose elements are the words of a range of the pass's own, which it gives away: E11 where every number is present, and then its words stay reserved. A plain object has none.
+pub fn publish<S: Steps>(
+    steps: &mut S,
+    numbers: &mut Numbers,
+    kind: Kind,
+    range: Range,
+) -> Result<u16, Fault>
+    requires role { (S.stands steps.old).role ≡ Within }
+    requires plain { kind ≡ Plain → range.length ≡ 0 }
+    requires ready { MayKnow S.knows steps.old (IsReady kind range.place range.length) }
+    ensures stands { S.stands steps.new ≡ S.stands steps.old }
+    ensures call { Called S.knows steps.old steps.new (IsReady kind range.place range.length) (λ j k. publication kind (words_of range.place range.length j)) result (Publishes kind range.place range.length result) }
+    ensures object { IfOk result (λ o. MayKnow S.knows steps.new (HasObject o)) }
+{
+    let header = HeaderParts {
+        kind,
+        length: range.length,
+        place: range.place,
+    };
+    let objects = steps.config().objects;
+    let first = numbers.first(objects);
+    for turn in 0..objects {
+        let number = number(first, turn, objects);
+        if steps.claim_header(number, header) {
+            numbers.next = u32::from(number);
+            return Ok(number);
+        }
+    }
+    Err(Fault::ObjectsFull)
+}
+
+/// The header of a present object. It holds until the pass leaves.
+pub fn header<S: Steps>(steps: &mut S, object: u16) -> HeaderParts
+    requires role { (S.stands steps.old).role ≡ Within }
+    requires object { MayKnow S.knows steps.old (HasObject object) }
+    ensures stands { S.stands steps.new ≡ S.stands steps.old }
+    ensures call { Called S.knows steps.old steps.new (HasObject object) (λ j k. header_call (state_of k) object) (Ok (result.kind, result.length)) (Learns object result) }
+    ensures known { MayKnow S.knows steps.new (HoldsHeader object result) }
+{
+    steps.see_header(object).unwrap()
+}

@@ -1,0 +1,20 @@
+//! Words of array space.
+ghost use Rattle.std.specs.Prelude.{◌≡◌, ◌+◌, ◌≤◌};
+
+/// Words of array space that a pass reserved in its stay and did not publish. It may be dropped: its words stay reserved then.
+#[derive(Debug, PartialEq, Eq, Drop)]
+pub struct Range {
+    pub(crate) place: u32,
+    pub(crate) length: u32,
+    ghost fits: { place + length ≤ 1048576 },
+    ghost empty: { length ≡ 0 → place ≡ 0 },
+}
+
+impl Range {
+    /// How many words it has.
+    pub fn length(&self) -> u32
+        ensures { result ≡ self.now.length }
+    {
+        self.length
+    }
+}
