@@ -194,9 +194,9 @@ module _ (k : Known) (within : role_of (view k) ≡ Within) where
         let below = object_below c words s.objects s.used held f.image.space at o i (x.stands.owns i inside) in
         let new : Option Contents = Some (rewritten x.contents i v) in
         let kept : (r w : ℕ) → IsHeaderOf (s.objects r) w → IsHeaderOf (update nat_eq s.objects o new r) w = λ r w a.
-            at_number (λ z. IsHeaderOf z w) s.objects o r new
-            (λ e. let b = subst (λ z. IsHeaderOf z w) (ap s.objects (sym e) ∙ x.is) a in record { parts = b.parts; fits = b.fits; word = b.word; same_kind = b.same_kind; same_length = b.same_length ∙ sym (length-set x.contents.words i v) })
-            (λ ne. a) in
+        at_number (λ z. IsHeaderOf z w) s.objects o r new
+        (λ e. let b = subst (λ z. IsHeaderOf z w) (ap s.objects (sym e) ∙ x.is) a in record { parts = b.parts; fits = b.fits; word = b.word; same_kind = b.same_kind; same_length = b.same_length ∙ sym (length-set x.contents.words i v) })
+        (λ ne. a) in
         let space = space_written c words s.objects s.used held f.image.space f.image.wide fit o i v x.contents h known.number.0 known.number.1 x.is known.fits known.word inside in
         let image = element_set c k.last words s held f.image v at (update nat_eq s.objects o new) held (omega arith) kept space in
         let now = subst (λ z. IsImage c k.last (slice_set words (element_at c at) v) (record s { objects = update nat_eq s.objects o z }) held) (sym (ap (λ z. written z i v) x.is)) image in
@@ -261,9 +261,11 @@ module _ (k : Known) (within : role_of (view k) ≡ Within) where
               let inside = role_at k log words held f ∙ within in
               let turn = publishes c k.last log k.thread words f.legal held f.image f.fits.row inside o h ws' (hold held k.thread g) low high good (long ∙ ap length same) (subst (AreWords s h.kind) same are) room none space in
               gaining k log (slice_set words (header_at c o) word) held (Published o h k n) (New o h.kind ws' ∷ []) g
-              (renamed k log words (hold held k.thread g) (header_at c o) (header_word h) word (won 0 (header_word h) n none) turn)
-              (λ e. (ap (λ z. New o h.kind z ∷ []) (sym same), is), λ ne. absurd (ne none),
-               subst (λ z. IsPresent z o) (sym (state_push log (by k.thread (New o h.kind ws')))) (subst IsSome (sym (at_number_self s.objects o (Some (record { kind = h.kind; words = ws' })))) refl))
+              (renamed k log words (hold held k.thread g) (header_at c o) (header_word h) word (won 0 (header_word h) n none) turn) (
+                λ e. (ap (λ z. New o h.kind z ∷ []) (sym same), is),
+                λ ne. absurd (ne none),
+                subst (λ z. IsPresent z o) (sym (state_push log (by k.thread (New o h.kind ws')))) (subst IsSome (sym (at_number_self s.objects o (Some (record { kind = h.kind; words = ws' })))) refl),
+              )
 
           by_length : (b : Bool) → (h.length == 0) ≡ b → Makes k log (slice_set words (header_at c o) word) held (Published o h k n)
           by_length true e =
@@ -278,7 +280,7 @@ module _ (k : Known) (within : role_of (view k) ≡ Within) where
               let same_grasp : with_range k.grasp h.place [] ≡ published h k.grasp = sym (ap (λ z. cond z k.grasp (with_range k.grasp h.place [])) e) in
               let room = subst (λ (g : Grasp). present_words c s + length (words_at h.place g.ranges) ≤ s.used) f.fits.grasp (range_fits c k.last log words held f.legal f.image k.thread h.place) in
               let space = subst (λ (g : Grasp). IsSpace c (slice_set words (header_at c o) (header_word h)) (update nat_eq s.objects o (Some (record { kind = h.kind; words = words_at h.place g.ranges }))) s.used (hold held k.thread (with_range g h.place []))) f.fits.grasp
-                  (space_published c words s.objects s.used held f.image.space o h h.kind low high good f.image.wide none k.thread) in
+              (space_published c words s.objects s.used held f.image.space o h h.kind low high good f.image.wide none k.thread) in
               made (with_range k.grasp h.place []) own own_ws same_grasp room space
 
 -- what is read of a header, and of the top
