@@ -5,6 +5,7 @@ ghost use Rattle.jr_model.specs.declared.event.Role.TheVariants.{Within};
 ghost use Rattle.jr_model.specs.Parts.{publish as publication, header as header_call};
 ghost use Rattle.jr_rule.specs.Knowing.{state_of, HasObject, MayKnow};
 ghost use Rattle.jr_heap.specs.Heap.{Called, number_of, words_of, IsReady, Publishes, HoldsHeader, Learns};
+ghost use Rattle.jr_heap.specs.Ranges.{place_of, size_of};
 
 use crate::range::Range;
 use jr_rule::Steps;
@@ -54,10 +55,10 @@ pub fn publish<S: Steps>(
     range: Range,
 ) -> Result<u16, Fault>
     requires role { (S.stands steps.old).role ≡ Within }
-    requires plain { kind ≡ Plain → range.length ≡ 0 }
-    requires ready { MayKnow S.knows steps.old (IsReady kind range.place range.length) }
+    requires plain { kind ≡ Plain → size_of range ≡ 0 }
+    requires ready { MayKnow S.knows steps.old (IsReady kind (place_of range) (size_of range)) }
     ensures stands { S.stands steps.new ≡ S.stands steps.old }
-    ensures call { Called S.knows steps.old steps.new (IsReady kind range.place range.length) (λ j k. publication kind (words_of range.place range.length j)) result (Publishes kind range.place range.length result) }
+    ensures call { Called S.knows steps.old steps.new (IsReady kind (place_of range) (size_of range)) (λ j k. publication kind (words_of (place_of range) (size_of range) j)) result (Publishes kind (place_of range) (size_of range) result) }
     ensures object { IfOk result (λ o. MayKnow S.knows steps.new (HasObject o)) }
 {
     let header = HeaderParts {

@@ -9,12 +9,3 @@ pub struct Range {
     ghost fits: { place + length ≤ 1048576 },
     ghost empty: { length ≡ 0 → place ≡ 0 },
 }
-
-impl Range {
-    /// How many words it has.
-    pub fn length(&self) -> u32
-        ensures { result ≡ self.now.length }
-    {
-        self.length
-    }
-}
