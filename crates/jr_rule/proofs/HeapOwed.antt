@@ -1,7 +1,6 @@
 -- What the steps of the heap owe, wherever they find the row.
-use Rattle.std.proofs.Common.{◌≡◌, ◌≢◌, ⊎_elim, inl, inr, ◌+◌, ◌<◌, ◌≤◌, ◌==◌, ◌^◌, ℕ, Bool, true, false, cond, nat_lt, Option, Some, None, IsSome, IfSome, List, [], ◌∷◌, ◌++◌, map, length, get_or, slice_get, slice_set, eqb, eq-eqb, ne_eqb, nat_eq, refl, sym, ap, subst, ◌∙◌, arith, length-set}
+use Rattle.std.proofs.Common.{◌≡◌, ◌≢◌, ⊎_elim, inl, inr, ◌+◌, ◌<◌, ◌≤◌, ◌==◌, ◌^◌, ℕ, Bool, true, false, cond, nat_lt, Option, Some, None, IsSome, IfSome, List, [], ◌∷◌, length, get_or, slice_set, eqb, eq-eqb, ne_eqb, refl, sym, ap, subst, ◌∙◌, arith}
 use Rattle.std.proofs.lemmas.List.{append-nil}
-use Rattle.std.proofs.lemmas.Option.{slice_get-get_or}
 use Rattle.std.proofs.lemmas.Bool.Decides.{nat_tests}
 use Rattle.std.proofs.Math.Logic.{∥∥₁_elim}
 use mathlib.Core.Logic.{∥∥₁_map}
@@ -20,35 +19,28 @@ use Rattle.jr_word.specs.Header.{header_word, IsHeader}
 use Rattle.jr_model.specs.declared.event.Role.TheVariants.{Within}
 use Rattle.jr_model.specs.declared.event.Act.{Act}
 use Rattle.jr_model.specs.declared.event.Act.TheVariants.{New, Reserve, ReserveFull, ReserveLost, Read, Write}
-use Rattle.jr_model.specs.Maps.{update}
-use Rattle.jr_model.specs.State.{Contents, State, IsPresent, IsWord, AreWords, length_of, present_words}
-use Rattle.jr_model.specs.Steps.{written}
+use Rattle.jr_model.specs.State.{Contents, State, IsPresent, IsWord, AreWords}
 use Rattle.jr_model.specs.declared.event.Role.{Role}
-use Rattle.jr_model.specs.History.{History, by, state, IsLegal, role_of, role_from}
+use Rattle.jr_model.specs.History.{by, state, role_of, role_from}
 use Rattle.jr_model.proofs.Histories.{state_push}
 use Rattle.jr_model.proofs.Lengths.{lengths_fit}
-use Rattle.jr_model.proofs.Updates.{at_number, at_number_self}
+use Rattle.jr_model.proofs.Updates.{at_number_self}
 use Rattle.jr_rule.specs.declared.known.Known.{Known}
 use Rattle.jr_rule.specs.declared.known.Grasp.{Grasp}
 use Rattle.jr_rule.specs.declared.naming.TopNaming.{TopNaming}
 use Rattle.jr_rule.specs.declared.naming.TopNaming.TheVariants as top
 use Rattle.jr_rule.specs.Acts.{publishing}
-use Rattle.jr_rule.specs.Grasping.{words_at, header_in, with_range, with_header, hold}
-use Rattle.jr_rule.specs.Image.{of_object, top_at, header_at, element_at, IsHeaderOf, IsKnown, IsSpace, IsImage}
-use Rattle.jr_rule.specs.Knowing.{view, state_of, HasObject, KnowsHeader, HasWord, IsWordNow, IsFilled, words_for, published, fresh_from, ShowsPublished}
-use Rattle.jr_rule.specs.Rule.{IsFound, known_at, Makes, Owes}
-use Rattle.jr_rule.proofs.Counting.{lists_fit}
+use Rattle.jr_rule.specs.Grasping.{words_at, with_range, with_header, hold}
+use Rattle.jr_rule.specs.Image.{top_at, header_at, element_at, IsHeaderOf, IsKnown}
+use Rattle.jr_rule.specs.Knowing.{view, state_of, KnowsHeader, HasWord, IsWordNow, IsFilled, words_for, published, fresh_from, ShowsPublished}
+use Rattle.jr_rule.specs.Rule.{Makes, Owes}
 use Rattle.jr_rule.proofs.Found.{role_at, present_now}
-use Rattle.jr_rule.proofs.Grasped.{there}
+use Rattle.jr_rule.proofs.HeapTurns.{sees_there, reserves, publishes_own, reads, writes, puts_own as stores_own}
 use Rattle.jr_rule.proofs.Headers.{header_some, header_positive}
-use Rattle.jr_rule.proofs.HeapSpaces.{elements_from, elements_length, object_below, range_below, space_reserved, space_put, space_written, space_empty, space_published, space_known}
-use Rattle.jr_rule.proofs.Images.{top_set, element_set, with_space}
-use Rattle.jr_rule.proofs.Spaces.{space_same, hold_same}
-use Rattle.jr_rule.proofs.InRoom.{in_room}
-use Rattle.jr_rule.proofs.LocalTurns.{publishes}
+use Rattle.jr_rule.proofs.HeapSpaces.{elements_from, elements_length}
 use Rattle.jr_rule.proofs.Owing.{gaining, quiet, written as renamed, unwritten, won, lost}
 use Rattle.jr_rule.proofs.Told.{IsHeaderWord, SawHeader, Published, used_word, SawTop, ClaimedTop, SawElement, PutElement, PutOwn}
-use Rattle.jr_rule.proofs.Turns.{turn_one, turn_none}
+use Rattle.jr_rule.proofs.Turns.{Turn, turn_one, turn_none}
 
 -- a word of a kind is one without a choice: an element of an object array is 0, or else an object's number
 word_is : (s : State) (kind : Kind) (v : ℕ) → ∥ IsWord s kind v ∥₁ → IsWord s kind v
@@ -85,11 +77,10 @@ module _ (k : Known) (within : role_of (view k) ≡ Within) where
           (unwritten k log words held (header_at k.config o) (turn_none k.config k.last log k.thread words held f.legal f.image))
           (None, w, refl, (subst (λ l. (state l).objects o ≡ None) (sym (append-nil log)) e, refl))
       go (Some x) e w =
-          let g = with_header k.grasp o w.parts in
           let known : IsKnown k.config words o w.parts = record { number = (low, high); fits = w.fits; word = w.word } in
-          let space = subst (λ (h : Grasp). IsSpace k.config words (state log).objects (state log).used (hold held k.thread (with_header h o w.parts))) f.fits.grasp (space_known k.config words (state log).objects (state log).used held f.image.space k.thread o w.parts known) in
+          let g = with_header k.grasp o w.parts in
           gaining k log _ held (SawHeader o k (get_or words (header_at k.config o) 0)) [] g
-          (unwritten k log words (hold held k.thread g) (header_at k.config o) (turn_none k.config k.last log k.thread words (hold held k.thread g) f.legal (with_space k.config k.last words (state log) held f.image (hold held k.thread g) space)))
+          (unwritten k log words (hold held k.thread g) (header_at k.config o) (sees_there k.config k.last log k.thread words f.legal held f.image f.fits.row (role_at k log words held f ∙ within) k.grasp f.fits.grasp o w.parts known))
           (Some w.parts, (w.fits, w.word), refl, (record { contents = x; is = subst (λ l. (state l).objects o ≡ Some x) (sym (append-nil log)) e; kind = sym w.same_kind; long = sym w.same_length }, refl))
 
   pub sees_top : (name : TopNaming) → Owes k top_at (λ n. n) (SawTop name k)
@@ -129,11 +120,10 @@ module _ (k : Known) (within : role_of (view k) ≡ Within) where
       let same : s.used ≡ looked = omega arith in
       let ws : List ℕ = elements_from k.config words s.used more in
       let g : Grasp = with_range k.grasp looked ws in
-      let space = subst (λ (z : Grasp × ℕ). IsSpace k.config (slice_set words top_at new) s.objects (s.used + more) (hold held k.thread (with_range z.0 z.1 ws))) (λ i. (f.fits.grasp i, same i)) (space_reserved k.config words s.objects s.used held f.image.space k.thread more new) in
+      let turn = subst (λ u. Turn k.config k.last log k.thread (Reserve more ∷ []) (slice_set words top_at new) (hold held k.thread (with_range k.grasp u ws))) same
+          (reserves k.config k.last log k.thread words f.legal held f.image f.fits.row inside k.grasp f.fits.grasp more new (omega arith) (omega arith)) in
       gaining k log (slice_set words top_at (either (eqb n old) new n)) held (ClaimedTop looked more k n) (Reserve more ∷ []) g
-      (renamed k log words (hold held k.thread g) top_at new (either (eqb n old) new n) (won old new n won_it)
-      (turn_one k.config k.last log k.thread (slice_set words top_at new) (hold held k.thread g) f.legal (Reserve more) (f.fits.row, (inside, omega arith))
-      (top_set k.config k.last words s held f.image new (s.used + more) (hold held k.thread g) (omega arith) space)))
+      (renamed k log words (hold held k.thread g) top_at new (either (eqb n old) new n) (won old new n won_it) turn)
       (λ e. (refl, (ws, elements_length k.config words s.used more, refl)), λ ne. absurd (ne won_it)))
       (λ other. quiet k log words held f (slice_set words top_at (either (eqb n old) new n)) (ClaimedTop looked more k n) (ReserveLost more looked s.used ∷ [])
       (renamed k log words held top_at n (either (eqb n old) new n) (lost old new n other)
@@ -144,79 +134,25 @@ module _ (k : Known) (within : role_of (view k) ≡ Within) where
 words_are : (s : State) (kind : Kind) (ws : List ℕ) → ∥ AreWords s kind ws ∥₁ → AreWords s kind ws
 words_are s kind ws h i v at = word_is s kind v (∥∥₁_map h (λ (z : AreWords s kind ws). z i v at))
 
--- the words of the present objects and those of a thread's own range lie below the top together
-range_fits : (c : Config) (last : ℕ) (log : History) (words : List ℕ) (held : ℕ → Grasp) → IsLegal c last log → (image : IsImage c last words (state log) held) → (t p : ℕ) → present_words c (state log) + length (words_at p (held t).ranges) ≤ (state log).used
-range_fits c last log words held legal image t p =
-    lists_fit image.space.owner (c.objects + 1) s.used t p (length own) (λ o. length_of (s.objects o)) (λ o l. each o (s.objects o) refl)
-    (λ j l. let e = (image.space.range t p).owns j l in (range_below c words s.objects s.used held image.space (p + j) t p j e, e))
-  where
-    s : State
-    s = state log
-
-    own : List ℕ
-    own = words_at p (held t).ranges
-
-    each : (o : ℕ) (z : Option Contents) → s.objects o ≡ z → (a : ℕ) × ((j : ℕ) → j < length_of (s.objects o) → (a + j < s.used) × (image.space.owner (a + j) ≡ of_object o j))
-    each o None e = (0, λ j l. absurd (let n = ap length_of e in omega arith))
-    each o (Some x) e =
-        let number = (in_room c last log legal).objects o (subst IsSome (sym e) refl) in
-        let w = subst (λ z. IsHeaderOf z (get_or words (header_at c o) 0)) e (image.header o number.0 number.1) in
-        let list = image.space.object o x w.parts number.0 number.1 e w.fits w.word in
-        ((w.parts).place, λ j l. let at = list.owns j (subst (λ n. j < n) (ap length_of e) l) in (object_below c words s.objects s.used held image.space ((w.parts).place + j) o j at, at))
-
--- an element after a write
-abbrev rewritten : Contents → ℕ → ℕ → Contents
-rewritten x i v = record { kind = x.kind; words = slice_set x.words i v }
-
 module _ (k : Known) (within : role_of (view k) ≡ Within) where
-  module _ (o : ℕ) (h : HeaderParts) (knows : KnowsHeader o h k) (i : ℕ) (row : i < h.length) where
-    known_now : (log : History) (words : List ℕ) (held : ℕ → Grasp) → IsFound k log words held → IsKnown k.config words o h
-    known_now log words held f = f.image.space.header k.thread o h (subst (λ (g : Grasp). header_in o g.headers ≡ Some h) (sym f.fits.grasp) knows)
-
+  module _ (o : ℕ) (h : HeaderParts) (knows : KnowsHeader o h k) (i : ℕ) (inside : i < h.length) where
     pub sees_element : Owes k (element_at k.config (h.place + i)) (λ n. n) (SawElement o i k)
     sees_element log words held f =
         let at : ℕ = element_at k.config (h.place + i) in
         let n : ℕ = get_or words at 0 in
-        let x = there k.config k.last words (state log) held f.image o h (known_now log words held f) in
-        let inside : i < length x.contents.words = subst (λ m. i < m) (sym x.long) row in
-        let read : slice_get x.contents.words i ≡ Some n = slice_get-get_or x.contents.words i 0 inside ∙ ap Some (sym (x.stands.reads i inside)) in
-        quiet k log words held f _ (SawElement o i k n) (Read o i n ∷ []) (unwritten k log words held at (turn_one k.config k.last log k.thread words held f.legal (Read o i n) (f.fits.row, (role_at k log words held f ∙ within, x.contents, x.is, read)) f.image)) (refl, refl)
+        quiet k log words held f _ (SawElement o i k n) (Read o i n ∷ [])
+        (unwritten k log words held at (reads k.config k.last log k.thread words f.legal held f.image f.fits.row (role_at k log words held f ∙ within) k.grasp f.fits.grasp o h i knows inside)) (refl, refl)
 
     pub puts_element : (v : ℕ) → h.kind ≢ Text → ∥ IsWordNow h.kind v k ∥₁ → Owes k (element_at k.config (h.place + i)) (λ n. v) (λ n. PutElement o i v k v)
     puts_element v no_text word log words held f =
-        let c = k.config in
-        let s : State = state log in
-        let at : ℕ = h.place + i in
-        let known = known_now log words held f in
-        let x = there c k.last words s held f.image o h known in
-        let inside : i < length x.contents.words = subst (λ m. i < m) (sym x.long) row in
-        let fit = (lengths_fit c k.last log f.legal).1 in
-        let below = object_below c words s.objects s.used held f.image.space at o i (x.stands.owns i inside) in
-        let new : Option Contents = Some (rewritten x.contents i v) in
-        let kept : (r w : ℕ) → IsHeaderOf (s.objects r) w → IsHeaderOf (update nat_eq s.objects o new r) w = λ r w a.
-        at_number (λ z. IsHeaderOf z w) s.objects o r new
-        (λ e. let b = subst (λ z. IsHeaderOf z w) (ap s.objects (sym e) ∙ x.is) a in record { parts = b.parts; fits = b.fits; word = b.word; same_kind = b.same_kind; same_length = b.same_length ∙ sym (length-set x.contents.words i v) })
-        (λ ne. a) in
-        let space = space_written c words s.objects s.used held f.image.space f.image.wide fit o i v x.contents h known.number.0 known.number.1 x.is known.fits known.word inside in
-        let image = element_set c k.last words s held f.image v at (update nat_eq s.objects o new) held (omega arith) kept space in
-        let now = subst (λ z. IsImage c k.last (slice_set words (element_at c at) v) (record s { objects = update nat_eq s.objects o z }) held) (sym (ap (λ z. written z i v) x.is)) image in
-        let here = word_stays (state_of k) s h.kind v (λ r p. present_now k log words held f r within p) (word_is (state_of k) h.kind v word) in
+        let here = word_stays (state_of k) (state log) h.kind v (λ r p. present_now k log words held f r within p) (word_is (state_of k) h.kind v word) in
         quiet k log words held f _ (PutElement o i v k v) (Write o i v ∷ [])
-        (turn_one c k.last log k.thread (slice_set words (element_at c at) v) held f.legal (Write o i v) (f.fits.row, (role_at k log words held f ∙ within, x.contents, x.is, (λ e. no_text (sym x.kind ∙ e)), inside, subst (λ z. IsWord s z v) (sym x.kind) here)) now) (refl, refl)
+        (writes k.config k.last log k.thread words f.legal held f.image f.fits.row (role_at k log words held f ∙ within) k.grasp f.fits.grasp o h i v knows inside no_text here) (refl, refl)
 
   pub puts_own : (place i v : ℕ) → HasWord place i k → Owes k (element_at k.config (place + i)) (λ n. v) (λ n. PutOwn place i v k v)
   puts_own place i v own log words held f =
-      let c = k.config in
-      let s : State = state log in
-      let t : ℕ = k.thread in
-      let inside : i < length (words_at place (held t).ranges) = subst (λ (g : Grasp). i < length (words_at place g.ranges)) (sym f.fits.grasp) own in
-      let fit = (lengths_fit c k.last log f.legal).1 in
-      let below = range_below c words s.objects s.used held f.image.space (place + i) t place i ((f.image.space.range t place).owns i inside) in
-      let g : Grasp = with_range k.grasp place (slice_set (words_at place k.grasp.ranges) i v) in
-      let space = subst (λ (z : Grasp). IsSpace c (slice_set words (element_at c (place + i)) v) s.objects s.used (hold held t (with_range z place (slice_set (words_at place z.ranges) i v)))) f.fits.grasp (space_put c words s.objects s.used held f.image.space f.image.wide fit t place i v inside) in
-      gaining k log _ held (PutOwn place i v k v) [] g
-      (turn_none c k.last log t (slice_set words (element_at c (place + i)) v) (hold held t g) f.legal (element_set c k.last words s held f.image v (place + i) s.objects (hold held t g) (omega arith) (λ r w a. a) space))
-      (refl, refl)
+      gaining k log _ held (PutOwn place i v k v) [] (with_range k.grasp place (slice_set (words_at place k.grasp.ranges) i v))
+      (stores_own k.config k.last log k.thread words f.legal held f.image f.fits.row (role_at k log words held f ∙ within) k.grasp f.fits.grasp place i v own) (refl, refl)
 
   -- a header that was found 0 is the object's: one of no elements, or one whose elements are a range of the thread's own
   pub publishes_header : (o : ℕ) (h : HeaderParts) → 1 ≤ o → o ≤ k.config.objects → IsHeader h → ∥ IsFilled h k ∥₁ → Owes k (header_at k.config o) (λ n. either (eqb n 0) (header_word h) n) (Published o h k)
@@ -237,51 +173,24 @@ module _ (k : Known) (within : role_of (view k) ≡ Within) where
       word : ℕ
       word = either (eqb n 0) (header_word h) n
 
-      there_now : (acts : List Act) (g : Grasp) → state (log ++ map (by k.thread) acts) ≡ s → IsPresent s o → HasObject o (known_at k log acts g)
-      there_now acts g same p = subst (λ z. IsPresent z o) (sym same) p
+      are : AreWords s h.kind ws
+      are i v at = word_stays (state_of k) s h.kind v (λ r p. present_now k log words held f r within p) (words_are (state_of k) h.kind ws (∥∥₁_map filled (λ (z : IsFilled h k). z.words)) i v at)
+
+      long : length ws ≡ h.length
+      long = ∥∥₁_elim filled (hlevel props) (λ (z : IsFilled h k). z.long)
 
       loses : n ≢ 0 → Makes k log (slice_set words (header_at c o) word) held (Published o h k n)
       loses some = quiet k log words held f (slice_set words (header_at c o) word) (Published o h k n) []
           (renamed k log words held (header_at c o) n word (lost 0 (header_word h) n some) (unwritten k log words held (header_at c o) (turn_none c k.last log k.thread words held f.legal f.image)))
-          (λ e. absurd (some e), λ ne. (refl, refl), there_now [] k.grasp (ap state (append-nil log)) (header_some (s.objects o) n (f.image.header o low high) some))
-
-      are : AreWords s h.kind ws
-      are i v at = word_stays (state_of k) s h.kind v (λ r p. present_now k log words held f r within p) (words_are (state_of k) h.kind ws (∥∥₁_map filled (λ (z : IsFilled h k). z.words)) i v at)
-
-      long : h.length ≡ length ws
-      long = ∥∥₁_elim filled (hlevel props) (λ (z : IsFilled h k). sym z.long)
+          (λ e. absurd (some e), λ ne. (refl, refl), subst (λ l. IsPresent (state l) o) (sym (append-nil log)) (header_some (s.objects o) n (f.image.header o low high) some))
 
       wins : n ≡ 0 → Makes k log (slice_set words (header_at c o) word) held (Published o h k n)
-      wins none = by_length (h.length == 0) refl
-        where
-          made : (g : Grasp) (ws' : List ℕ) → ws ≡ ws' → g ≡ published h k.grasp → present_words c s + length ws' ≤ s.used
-              → IsSpace c (slice_set words (header_at c o) (header_word h)) (update nat_eq s.objects o (Some (record { kind = h.kind; words = ws' }))) s.used (hold held k.thread g)
-              → Makes k log (slice_set words (header_at c o) word) held (Published o h k n)
-          made g ws' same is room space =
-              let inside = role_at k log words held f ∙ within in
-              let turn = publishes c k.last log k.thread words f.legal held f.image f.fits.row inside o h ws' (hold held k.thread g) low high good (long ∙ ap length same) (subst (AreWords s h.kind) same are) room none space in
-              gaining k log (slice_set words (header_at c o) word) held (Published o h k n) (New o h.kind ws' ∷ []) g
-              (renamed k log words (hold held k.thread g) (header_at c o) (header_word h) word (won 0 (header_word h) n none) turn) (
-                λ e. (ap (λ z. New o h.kind z ∷ []) (sym same), is),
-                λ ne. absurd (ne none),
-                subst (λ z. IsPresent z o) (sym (state_push log (by k.thread (New o h.kind ws')))) (subst IsSome (sym (at_number_self s.objects o (Some (record { kind = h.kind; words = ws' })))) refl),
-              )
-
-          by_length : (b : Bool) → (h.length == 0) ≡ b → Makes k log (slice_set words (header_at c o) word) held (Published o h k n)
-          by_length true e =
-              let empty_ws : ws ≡ [] = ap (λ z. cond z [] (words_at h.place k.grasp.ranges)) e in
-              let same_grasp : k.grasp ≡ published h k.grasp = sym (ap (λ z. cond z k.grasp (with_range k.grasp h.place [])) e) in
-              let fit = (lengths_fit c k.last log f.legal).0 in
-              let space = space_empty c words s.objects s.used held f.image.space o h h.kind low high good f.image.wide none in
-              made k.grasp [] empty_ws same_grasp (omega arith) (space_same c (slice_set words (header_at c o) (header_word h)) (update nat_eq s.objects o (Some (record { kind = h.kind; words = [] }))) s.used held space (hold held k.thread k.grasp) (hold_same held k.thread k.grasp f.fits.grasp))
-          by_length false e =
-              let own : List ℕ = words_at h.place k.grasp.ranges in
-              let own_ws : ws ≡ own = ap (λ z. cond z [] own) e in
-              let same_grasp : with_range k.grasp h.place [] ≡ published h k.grasp = sym (ap (λ z. cond z k.grasp (with_range k.grasp h.place [])) e) in
-              let room = subst (λ (g : Grasp). present_words c s + length (words_at h.place g.ranges) ≤ s.used) f.fits.grasp (range_fits c k.last log words held f.legal f.image k.thread h.place) in
-              let space = subst (λ (g : Grasp). IsSpace c (slice_set words (header_at c o) (header_word h)) (update nat_eq s.objects o (Some (record { kind = h.kind; words = words_at h.place g.ranges }))) s.used (hold held k.thread (with_range g h.place []))) f.fits.grasp
-              (space_published c words s.objects s.used held f.image.space o h h.kind low high good f.image.wide none k.thread) in
-              made (with_range k.grasp h.place []) own own_ws same_grasp room space
+      wins none =
+          let turn = publishes_own c k.last log k.thread words f.legal held f.image f.fits.row (role_at k log words held f ∙ within) k.grasp f.fits.grasp o h low high good long are none in
+          gaining k log (slice_set words (header_at c o) word) held (Published o h k n) (New o h.kind ws ∷ []) (published h k.grasp)
+          (renamed k log words (hold held k.thread (published h k.grasp)) (header_at c o) (header_word h) word (won 0 (header_word h) n none) turn)
+          (λ e. (refl, refl), λ ne. absurd (ne none),
+           subst (λ z. IsPresent z o) (sym (state_push log (by k.thread (New o h.kind ws)))) (subst IsSome (sym (at_number_self s.objects o (Some (record { kind = h.kind; words = ws })))) refl))
 
 -- what is read of a header, and of the top
 pub header_read : (q r : Option HeaderParts) (n : ℕ) → IsHeaderWord r n → IfSome q (λ p. IsHeader p × (n ≡ header_word p)) → ((p : HeaderParts) → IsHeader p → n ≡ header_word p → q ≡ Some p) → q ≡ r
