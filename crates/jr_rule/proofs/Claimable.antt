@@ -1,5 +1,7 @@
 -- What may be known where a slot is claimed after an object was made and a load showed the slot free.
-use Rattle.std.proofs.Common.{◌≡◌, ℕ, List, [], ◌∷◌, subst, ◌∙◌}
+use Rattle.std.proofs.Common.{◌≡◌, ℕ, Bool, List, [], ◌∷◌, refl, subst, ◌∙◌}
+use Rattle.jr_word.specs.declared.header.HeaderParts.{HeaderParts}
+use Rattle.jr_word.specs.declared.kind.Kind.TheVariants.{Plain}
 use Rattle.jr_word.specs.declared.slot.SlotParts.{SlotParts}
 use Rattle.jr_word.specs.declared.slot.SlotParts.TheVariants.{Free}
 use Rattle.jr_model.specs.declared.event.Act.{Act}
@@ -7,11 +9,16 @@ use Rattle.jr_model.specs.declared.event.Role.TheVariants.{Within}
 use Rattle.jr_rule.specs.declared.known.Known.{Known}
 use Rattle.jr_rule.specs.declared.naming.SlotNaming.TheVariants.{Probe}
 use Rattle.jr_rule.specs.Acts.{slot_named}
-use Rattle.jr_rule.specs.Knowing.{Standing, IsOf, MayKnow, Took, anything, HasObject, IsFreeSlot, ShowsSlot}
-use Rattle.jr_rule.proofs.Goes.{goes_did, present_stays, shown_free, may_then}
+use Rattle.jr_rule.specs.Knowing.{Standing, IsOf, MayKnow, Took, TookWith, anything, keeps, HasObject, IsFilled, IsFreeSlot, ShowsSlot, ShowsPublished}
+use Rattle.jr_rule.proofs.Goes.{goes_did, present_stays, shown_free, shown_published, may_then, may_with}
+use Rattle.jr_rule.proofs.Headers.{filled_none}
 
-pub claimable : {S : Type 0} {stands : S → Standing} {knows : S → Known → Type 0} {a b c : S} {acts : List Act} {parts : SlotParts} {o i n : ℕ} → ((k : Known) → knows b k → IsOf (stands b) k) → MayKnow knows a anything → (stands b).role ≡ Within
-    → Took stands knows a b acts anything (λ _ k. HasObject o k) → Took stands knows b c (slot_named i Probe parts ∷ []) anything (λ _ k. ShowsSlot i parts k) → parts ≡ Free n → MayKnow knows c (λ k. HasObject o k × IsFreeSlot i n k)
-claimable {o} {i} {n} fits some within made probed free =
-    may_then probed (λ k s m. tt) (may_then made (λ k s m. tt) some (λ k k' s m d shown. shown))
-    (λ k k' s m d shown. (present_stays k k' _ o (goes_did d) ((fits k s).role ∙ within) (λ e. cc, tt) m, shown_free i n k' (subst (λ p. ShowsSlot i p k') free shown)))
+-- the header of a plain object
+abbrev pub plain : HeaderParts
+plain = record { kind = Plain; length = 0; place = 0 }
+
+pub claimable : {S : Type 0} {stands : S → Standing} {knows : S → Known → Type 0} {a b c : S} {acts : Known → List Act} {parts : SlotParts} {o i n : ℕ} (r : Bool) → ((k : Known) → knows b k → IsOf (stands b) k) → MayKnow knows a anything → (stands b).role ≡ Within
+    → TookWith stands knows a b acts (IsFilled plain) (ShowsPublished o plain r) → Took stands knows b c (slot_named i Probe parts ∷ []) anything (λ j k. ShowsSlot i parts k × keeps j k) → parts ≡ Free n → MayKnow knows c (λ k. HasObject o k × IsFreeSlot i n k)
+claimable {o} {i} {n} r fits some within made probed free =
+    may_then probed (λ k s m. tt) (may_with made (λ k s m. filled_none plain k refl) some (λ k k' s m d shown. shown_published o plain r k k' shown))
+    (λ k k' s m d shown. (present_stays k k' _ o (goes_did d) ((fits k s).role ∙ within) (λ e. cc, tt) m, shown_free i n k' (subst (λ p. ShowsSlot i p k') free shown.0)))

@@ -121,7 +121,7 @@ module _ (k : Known) (within : role_of (view k) ≡ Within) where
       let ws : List ℕ = elements_from k.config words s.used more in
       let g : Grasp = with_range k.grasp looked ws in
       let turn = subst (λ u. Turn k.config k.last log k.thread (Reserve more ∷ []) (slice_set words top_at new) (hold held k.thread (with_range k.grasp u ws))) same
-          (reserves k.config k.last log k.thread words f.legal held f.image f.fits.row inside k.grasp f.fits.grasp more new (omega arith) (omega arith)) in
+      (reserves k.config k.last log k.thread words f.legal held f.image f.fits.row inside k.grasp f.fits.grasp more new (omega arith) (omega arith)) in
       gaining k log (slice_set words top_at (either (eqb n old) new n)) held (ClaimedTop looked more k n) (Reserve more ∷ []) g
       (renamed k log words (hold held k.thread g) top_at new (either (eqb n old) new n) (won old new n won_it) turn)
       (λ e. (refl, (ws, elements_length k.config words s.used more, refl)), λ ne. absurd (ne won_it)))
@@ -188,9 +188,11 @@ module _ (k : Known) (within : role_of (view k) ≡ Within) where
       wins none =
           let turn = publishes_own c k.last log k.thread words f.legal held f.image f.fits.row (role_at k log words held f ∙ within) k.grasp f.fits.grasp o h low high good long are none in
           gaining k log (slice_set words (header_at c o) word) held (Published o h k n) (New o h.kind ws ∷ []) (published h k.grasp)
-          (renamed k log words (hold held k.thread (published h k.grasp)) (header_at c o) (header_word h) word (won 0 (header_word h) n none) turn)
-          (λ e. (refl, refl), λ ne. absurd (ne none),
-           subst (λ z. IsPresent z o) (sym (state_push log (by k.thread (New o h.kind ws)))) (subst IsSome (sym (at_number_self s.objects o (Some (record { kind = h.kind; words = ws })))) refl))
+          (renamed k log words (hold held k.thread (published h k.grasp)) (header_at c o) (header_word h) word (won 0 (header_word h) n none) turn) (
+            λ e. (refl, refl),
+            λ ne. absurd (ne none),
+            subst (λ z. IsPresent z o) (sym (state_push log (by k.thread (New o h.kind ws)))) (subst IsSome (sym (at_number_self s.objects o (Some (record { kind = h.kind; words = ws })))) refl),
+          )
 
 -- what is read of a header, and of the top
 pub header_read : (q r : Option HeaderParts) (n : ℕ) → IsHeaderWord r n → IfSome q (λ p. IsHeader p × (n ≡ header_word p)) → ((p : HeaderParts) → IsHeader p → n ≡ header_word p → q ≡ Some p) → q ≡ r

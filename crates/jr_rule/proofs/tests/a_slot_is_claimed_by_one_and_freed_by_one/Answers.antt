@@ -21,7 +21,7 @@ claim-requires g c =
           search rules,
           (
             λ e. cc,
-            claimable (λ k s. s.pass) (some_of c.go_in.new.self.pass) within c.claim_header.ensures c.see_slot.ensures (c.in-Free-eq0.is ∙ ap Free c.in-Free-eq0.serial-test),
+            claimable c.claim_header.result (λ k s. s.pass) (some_of c.go_in.new.self.pass) within c.claim_header.ensures c.see_slot.ensures (c.in-Free-eq0.is ∙ ap Free c.in-Free-eq0.serial-test),
           ),
         ),
       ),
@@ -37,7 +37,7 @@ claim-requires-2 g c =
           search rules,
           (
             λ e. cc,
-            claimable (λ k s. s.pass) (some_of c.go_in-2.new.self.pass) within c.claim_header-2.ensures c.see_slot-2.ensures (c.in-Free-eq0-see_slot.is ∙ ap Free c.in-Free-eq0-see_slot.serial-test),
+            claimable c.claim_header-2.result (λ k s. s.pass) (some_of c.go_in-2.new.self.pass) within c.claim_header-2.ensures c.see_slot-2.ensures (c.in-Free-eq0-see_slot.is ∙ ap Free c.in-Free-eq0-see_slot.serial-test),
           ),
         ),
       ),

@@ -1,4 +1,4 @@
-use Rattle.std.proofs.Common.{◌≡◌, Ok, refl, subst, arith, rules}
+use Rattle.std.proofs.Common.{subst, arith, rules}
 use Rattle.jr_rule.specs.Knowing.{ShowsRange}
 use Rattle.jr_rule.proofs.Goes.{reserved_word, may_then}
 use Rattle.jr_rule.proofs.plain.tests.reserves_words_and_puts_its_own.Goals as goal
