@@ -7,8 +7,9 @@ use Rattle.jr_model.specs.State.{IsClosed}
 use Rattle.jr_model.specs.History.{by, state, IsLegal}
 use Rattle.jr_model.proofs.Histories.{legal_push, state_push}
 use Rattle.jr_model.proofs.Presence.{elements_are_present}
+use Rattle.jr_rule.specs.declared.known.Grasp.{Grasp}
 use Rattle.jr_rule.specs.declared.known.Known.{Known}
-use Rattle.jr_rule.specs.Knowing.{Standing, anything, keeps, Goes, IsClosedNow, MayKnow, Took}
+use Rattle.jr_rule.specs.Knowing.{Standing, anything, keeps, lets_go, Goes, IsClosedNow, CanReopen, MayKnow, Took}
 
 -- who is refused a shut was told of one thread at least
 counted : {k k' : Known} (n : ℕ) → Goes k (ShutBusy n ∷ []) k' → 1 ≤ n
@@ -31,9 +32,9 @@ module _ {S : Type 0} {stands : S → Standing} {knows : S → Known → Type 0}
       let each : ((k : Known) × knows old k × anything k) → 1 ≤ n = λ k. counted n (t.goes k.0 k.1 tt).2 in
       ∥∥₁_elim some le_prop each
 
-  pub shut_closes : Took stands knows old new (Shut ∷ []) anything keeps → MayKnow knows new IsClosedNow
-  shut_closes t = ∥∥₁_map some (λ k. let g = t.goes k.0 k.1 tt in (g.0, g.1, closes g.2))
+  pub shut_closes : Took stands knows old new (Shut ∷ []) anything lets_go → MayKnow knows new CanReopen
+  shut_closes t = ∥∥₁_map some (λ k. let g = t.goes k.0 k.1 tt in (g.0, g.1, (closes g.2, ap (λ (z : Grasp). z.moving) g.3)))
 
 module _ {S : Type 0} {stands : S → Standing} {knows : S → Known → Type 0} {old new : S} where
-  pub shut_shows : Took stands knows old new (Shut ∷ []) anything keeps → Took stands knows old new (Shut ∷ []) anything (λ j k. IsClosedNow k × keeps j k)
+  pub shut_shows : Took stands knows old new (Shut ∷ []) anything lets_go → Took stands knows old new (Shut ∷ []) anything (λ j k. IsClosedNow k × lets_go j k)
   shut_shows t = record { stands_is = t.stands_is; goes = λ k s m. let g = t.goes k s m in (g.0, g.1, g.2, (closes g.2, g.3)) }

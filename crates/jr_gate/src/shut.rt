@@ -3,7 +3,7 @@ ghost use Rattle.std.specs.Prelude.{◌≡◌, ◌≤◌, ℕ, [], ◌∷◌, Is
 ghost use Rattle.jr_word.specs.declared.fault.Fault.TheVariants.{Busy};
 ghost use Rattle.jr_model.specs.declared.event.Role.TheVariants.{Outside};
 ghost use Rattle.jr_model.specs.declared.event.Act.TheVariants.{Shut as Shuts, ShutBusy, Reopen};
-ghost use Rattle.jr_rule.specs.Knowing.{anything, keeps, lets_go, IsClosedNow, MayKnow, Took};
+ghost use Rattle.jr_rule.specs.Knowing.{anything, keeps, lets_go, IsClosedNow, CanReopen, MayKnow, Took};
 ghost use Rattle.jr_gate.specs.Stays.{IsOwnCollection};
 
 use jr_rule::Steps;
@@ -15,22 +15,22 @@ pub struct Shut {
 }
 
 impl Shut {
-    /// Opens the gate after the steps' own collection. Own is by the number of the thread and the role of the steps: the collection has their thread's number, and they are collecting. No present object array may name an absent object.
+    /// Opens the gate after the steps' own collection. Own is by the number of the thread and the role of the steps: the collection has their thread's number, and they are collecting. No present object array may name an absent object, and no move may be unfinished.
     pub fn reopen<S: Steps>(self, steps: &mut S)
         requires own { IsOwnCollection self (S.stands steps.old) }
-        requires closed { MayKnow S.knows steps.old IsClosedNow }
-        ensures { Took S.stands S.knows steps.old steps.new (Reopen ∷ []) IsClosedNow lets_go }
+        requires closed { MayKnow S.knows steps.old CanReopen }
+        ensures { Took S.stands S.knows steps.old steps.new (Reopen ∷ []) CanReopen lets_go }
     {
         let Shut { thread: _ } = self;
         steps.unbar();
     }
 }
 
-/// Shuts the gate for a collection: E14 with how many threads are inside, knocking or collecting at that one step, at least 1. Where it is shut, no present object array names an absent object. Over one thread it is never refused. The collection is the steps' own, by the number of the thread and the role of the steps.
+/// Shuts the gate for a collection: E14 with how many threads are inside, knocking or collecting at that one step, at least 1. Where it is shut, no present object array names an absent object, and the pass holds nothing. Over one thread it is never refused. The collection is the steps' own, by the number of the thread and the role of the steps.
 pub fn shut_gate<S: Steps>(steps: &mut S) -> Result<Shut, Fault>
     requires { (S.stands steps.old).role ≡ Outside }
-    ensures ok { IfOk result (λ s. IsOwnCollection s (S.stands steps.new) × Took S.stands S.knows steps.old steps.new (Shuts ∷ []) anything (λ j k. IsClosedNow k × keeps j k)) }
-    ensures closed { IfOk result (λ _. MayKnow S.knows steps.new IsClosedNow) }
+    ensures ok { IfOk result (λ s. IsOwnCollection s (S.stands steps.new) × Took S.stands S.knows steps.old steps.new (Shuts ∷ []) anything (λ j k. IsClosedNow k × lets_go j k)) }
+    ensures closed { IfOk result (λ _. MayKnow S.knows steps.new CanReopen) }
     ensures err { IfErr result (λ e. (n : ℕ) × (e ≡ Busy n) × (1 ≤ n) × Took S.stands S.knows steps.old steps.new (ShutBusy n ∷ []) anything keeps) }
     ensures alone { (S.stands steps.old).config.threads ≡ 1 → IsOk result }
 {

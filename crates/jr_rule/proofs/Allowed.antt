@@ -9,7 +9,7 @@ use Rattle.jr_model.specs.State.{Handle}
 use Rattle.jr_rule.specs.declared.known.Known.{Known}
 use Rattle.jr_rule.specs.declared.pass.Pass.{Pass}
 use Rattle.jr_rule.specs.Acts.{found_object}
-use Rattle.jr_rule.specs.Knowing.{MayKnow, HasObject, HasOptional, HasLooked, IsFreeSlot, KnowsHeader, HasWord, IsWordNow}
+use Rattle.jr_rule.specs.Knowing.{MayKnow, HasObject, HasOptional, HasLooked, IsFreeSlot, KnowsHeader, HasWord, IsWordNow, IsSettled}
 use Rattle.jr_rule.specs.Passes.{known_of, Knows}
 use Rattle.jr_rule.specs.Slots.{CanStand}
 use Rattle.jr_rule.proofs.InRoom.{in_room}
@@ -45,6 +45,10 @@ module _ (p : Pass) where
       let same = ap (λ (z : Known). z.config.objects) (k.1).is in
       let low = r.0 in
       let high = r.1 in (omega arith, omega arith))
+
+  -- no move is unfinished
+  pub settled_known : {T : Known → Type 0} → MayKnow Knows p (λ k. T k × IsSettled k) → IsSettled (known_of p)
+  settled_known may = ∥∥₁_elim may (hlevel props) (λ k. subst IsSettled (k.1).is k.2.1)
 
   -- the header that is known, the range that is held, and the word of a kind
   pub header_known : {T : Known → Type 0} (o : ℕ) (h : HeaderParts) → MayKnow Knows p (λ k. KnowsHeader o h k × T k) → KnowsHeader o h (known_of p)

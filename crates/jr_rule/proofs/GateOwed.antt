@@ -1,5 +1,5 @@
 -- What the steps of the gate owe, wherever they find the row.
-use Rattle.std.proofs.Common.{◌≡◌, ◌⊎◌, ◌+◌, ◌-◌, ◌%◌, ◌^◌, ℕ, not, Option, Some, IsSome, List, [], ◌∷◌, get_or, slice_set, eqb, refl, sym, subst, ◌∙◌, arith}
+use Rattle.std.proofs.Common.{◌≡◌, ◌⊎◌, ⊎_elim, ap, ◌+◌, ◌-◌, ◌%◌, ◌^◌, ℕ, not, Option, Some, IsSome, List, [], ◌∷◌, get_or, slice_set, eqb, refl, sym, subst, ◌∙◌, arith}
 use mathlib.Core.Logic.{dite}
 use native.Mathlib.Decide.{ℕ_discrete}
 use prog.Atomic.{either}
@@ -8,15 +8,20 @@ use Rattle.jr_word.specs.Gate.{gate_word, IsGate}
 use Rattle.jr_model.specs.declared.event.Role.TheVariants.{Outside, Within, Knocking, Collecting}
 use Rattle.jr_model.specs.declared.event.Act.{Act}
 use Rattle.jr_model.specs.declared.event.Act.TheVariants.{Shut, ShutBusy, Reopen, Meet}
-use Rattle.jr_model.specs.History.{state, role_of}
+use Rattle.jr_model.specs.History.{History, state, role_of}
 use Rattle.jr_rule.specs.declared.known.Known.{Known}
 use Rattle.jr_rule.specs.declared.naming.GateNaming.{GateNaming}
 use Rattle.jr_rule.specs.Acts.{entered_as, leaving, all_counted, gate_named, GateNameFits}
-use Rattle.jr_rule.specs.Knowing.{view, IsClosedNow}
-use Rattle.jr_rule.specs.Rule.{known_at, Owes}
-use Rattle.jr_rule.proofs.Found.{role_at, closed_now}
+use Rattle.jr_rule.specs.Knowing.{view, IsClosedNow, IsSettled}
+use Rattle.jr_rule.specs.declared.known.Grasp.{Grasp}
+use Rattle.jr_rule.specs.Grasping.{empty, hold}
+use Rattle.jr_rule.specs.Image.{MayHold}
+use Rattle.jr_rule.specs.Rule.{known_at, IsFound, Owes}
+use Rattle.jr_rule.proofs.Found.{role_at, closed_now, moves_as_known}
+use Rattle.jr_rule.proofs.Images.{image_let_go}
+use Rattle.jr_rule.proofs.Spaces.{hold_here}
 use Rattle.jr_rule.proofs.GateTurns.{gate_fits, gate_most, shows_gate, goes_in, goes_out, counted, shut_counted, gate_seen, bars, bars_lost, unbars}
-use Rattle.jr_rule.proofs.Owing.{quiet, letting_go, written, unwritten, won, lost}
+use Rattle.jr_rule.proofs.Owing.{quiet, gaining, written, unwritten, won, lost}
 use Rattle.jr_rule.proofs.Told.{Entered, Left, Barred, Reopened, SawGate, Met}
 use Rattle.jr_rule.proofs.Turns.{turn_one}
 use Rattle.jr_rule.proofs.Effects.{gate_named_state}
@@ -28,6 +33,17 @@ gate_some n r p fits is read = subst (λ z. IsSome z) (sym (read p fits is)) ref
 -- and one only
 pub gate_is : (r : Option GateParts) (p q : GateParts) → r ≡ Some p → r ≡ Some q → q ≡ p
 gate_is r p q e f = let z = sym e ∙ f in cc
+
+-- who is within or knocking has no move unfinished
+may_let_go : (k : Known) (log : History) (words : List ℕ) (held : ℕ → Grasp) (f : IsFound k log words held) → (role_of (view k) ≡ Within) ⊎ (role_of (view k) ≡ Knocking) → MayHold f.image.moving ((state log).role k.thread) empty
+may_let_go k log words held f counts = ⊎_elim
+    (λ e. subst (λ r. MayHold f.image.moving r empty) (sym (role_at k log words held f ∙ e)) refl)
+    (λ e. subst (λ r. MayHold f.image.moving r empty) (sym (role_at k log words held f ∙ e)) refl)
+    counts
+
+-- who is outside holds nothing
+nothing_outside : (k : Known) (log : History) (words : List ℕ) (held : ℕ → Grasp) (f : IsFound k log words held) → role_of (view k) ≡ Outside → held k.thread ≡ empty
+nothing_outside k log words held f out = subst (λ r. MayHold f.image.moving r (held k.thread)) (role_at k log words held f ∙ out) (f.image.hands.each k.thread)
 
 module _ (k : Known) where
   pub enters : role_of (view k) ≡ Outside → Owes k 0 (λ n. (n + 1) % 2 ^ 64) (Entered k)
@@ -46,8 +62,9 @@ module _ (k : Known) where
       let role = role_of (view k) in
       let most = gate_most k.config (state log).role n (f.sized).small.threads f.image.gate in
       let some = counted k.config k.last log k.thread words f.legal held f.image f.fits.row role counts (role_at k log words held f) in
-      let t = goes_out k.config k.last log k.thread words f.legal held f.image f.fits.row role ((n + (2 ^ 64 - 1)) % 2 ^ 64) (omega arith) counts (role_at k log words held f) in
-      letting_go k log held (slice_set words 0 ((n + (2 ^ 64 - 1)) % 2 ^ 64)) (Left k n) (leaving role ∷ []) t (refl, refl)
+      let image = image_let_go k.config k.last words (state log) held f.image k.thread (may_let_go k log words held f counts) in
+      let t = goes_out k.config k.last log k.thread words f.legal (hold held k.thread empty) image f.fits.row role ((n + (2 ^ 64 - 1)) % 2 ^ 64) (hold_here held k.thread empty) (omega arith) counts (role_at k log words held f) in
+      gaining k log (slice_set words 0 ((n + (2 ^ 64 - 1)) % 2 ^ 64)) held (Left k n) (leaving role ∷ []) empty t (refl, refl)
 
   pub shuts : role_of (view k) ≡ Outside → Owes k 0 (λ n. either (eqb n 0) 65536 n) (Barred k)
   shuts out log words held f =
@@ -56,18 +73,21 @@ module _ (k : Known) where
       dite (ℕ_discrete n 0)
       (λ none. quiet k log words held f (slice_set words 0 (either (eqb n 0) 65536 n)) (Barred k n) (Shut ∷ [])
       (written k log words held 0 65536 (either (eqb n 0) 65536 n) (won 0 65536 n none) (bars k.config k.last log k.thread words f.legal held f.image f.fits.row none (role_at k log words held f ∙ out)))
-      (λ e. refl, λ ne. absurd (ne none), refl))
+      (λ e. (refl, sym f.fits.grasp ∙ nothing_outside k log words held f out), λ ne. absurd (ne none)))
       (λ some. quiet k log words held f (slice_set words 0 (either (eqb n 0) 65536 n)) (Barred k n) (ShutBusy (all_counted g.parts) ∷ [])
       (written k log words held 0 n (either (eqb n 0) 65536 n) (lost 0 65536 n some) (unwritten k log words held 0 (bars_lost k.config k.last log k.thread words f.legal held f.image f.fits.row some (role_at k log words held f ∙ out))))
-      (λ e. absurd (some e), λ ne. (g.parts, gate_fits k.config (state log).role n (f.sized).small.threads g, g.word, refl), refl))
+      (λ e. absurd (some e), λ ne. (g.parts, gate_fits k.config (state log).role n (f.sized).small.threads g, g.word, refl, refl)))
 
-  pub reopens : role_of (view k) ≡ Collecting → ∥ IsClosedNow k ∥₁ → Owes k 0 (λ n. (n + (2 ^ 64 - 65536)) % 2 ^ 64) (Reopened k)
-  reopens collects closed log words held f =
+  pub reopens : role_of (view k) ≡ Collecting → IsSettled k → ∥ IsClosedNow k ∥₁ → Owes k 0 (λ n. (n + (2 ^ 64 - 65536)) % 2 ^ 64) (Reopened k)
+  reopens collects settled closed log words held f =
       let n : ℕ = get_or words 0 0 in
       let most = gate_most k.config (state log).role n (f.sized).small.threads f.image.gate in
       let some = shut_counted k.config k.last log k.thread words f.legal held f.image f.fits.row (role_at k log words held f ∙ collects) in
-      let t = unbars k.config k.last log k.thread words f.legal held f.image f.fits.row ((n + (2 ^ 64 - 65536)) % 2 ^ 64) (omega arith) (role_at k log words held f ∙ collects) (closed_now k log words held f collects closed) in
-      letting_go k log held (slice_set words 0 ((n + (2 ^ 64 - 65536)) % 2 ^ 64)) (Reopened k n) (Reopen ∷ []) t (refl, refl)
+      let inside = role_at k log words held f ∙ collects in
+      let still = moves_as_known k log words held f collects ∙ settled in
+      let image = image_let_go k.config k.last words (state log) held f.image k.thread (subst (λ r. MayHold f.image.moving r empty) (sym inside) (sym still, refl)) in
+      let t = unbars k.config k.last log k.thread words f.legal (hold held k.thread empty) image f.fits.row ((n + (2 ^ 64 - 65536)) % 2 ^ 64) (hold_here held k.thread empty) (omega arith) inside (closed_now k log words held f collects closed) in
+      gaining k log (slice_set words 0 ((n + (2 ^ 64 - 65536)) % 2 ^ 64)) held (Reopened k n) (Reopen ∷ []) empty t (refl, refl)
 
   pub sees_gate : (name : GateNaming) → GateNameFits (role_of (view k)) name → Owes k 0 (λ n. n) (SawGate name k)
   sees_gate name fits log words held f =

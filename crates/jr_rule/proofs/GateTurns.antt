@@ -1,5 +1,5 @@
 -- What the steps of the gate owe.
-use Rattle.std.proofs.Common.{◌≡◌, ◌≢◌, ◌⊎◌, ⊎_elim, ◌↔◌, ◌+◌, ◌^◌, ◌<◌, ◌≤◌, ℕ, zero, suc, Bool, true, false, not, IsTrue, if◌then◌else◌, List, [], ◌∷◌, get_or, slice_set, refl, sym, ap, subst, ◌∙◌, arith, nat_eq}
+use Rattle.std.proofs.Common.{◌≡◌, ◌≢◌, ◌⊎◌, ⊎_elim, ◌↔◌, ◌+◌, ◌^◌, ◌<◌, ◌≤◌, ℕ, zero, suc, Bool, true, false, not, IsTrue, if◌then◌else◌, Option, None, List, [], ◌∷◌, get_or, slice_set, refl, sym, ap, subst, ◌∙◌, arith, nat_eq}
 use Rattle.std.proofs.lemmas.Bool.{cases_lt}
 use Rattle.jr_word.specs.declared.config.Config.{Config}
 use Rattle.jr_word.specs.declared.gate.GateParts.{GateParts}
@@ -18,7 +18,9 @@ use Rattle.jr_rule.specs.declared.naming.GateNaming.{GateNaming}
 use Rattle.jr_rule.specs.declared.naming.GateNaming.TheVariants as gate
 use Rattle.jr_rule.specs.Acts.{entered_as, leaving, all_counted, gate_named, GateNameFits}
 use Rattle.jr_rule.specs.declared.known.Grasp.{Grasp}
-use Rattle.jr_rule.specs.Image.{is_inside, IsGateOf, IsImage}
+use Rattle.jr_rule.specs.declared.known.Move.{Move}
+use Rattle.jr_rule.specs.Grasping.{empty}
+use Rattle.jr_rule.specs.Image.{is_inside, MayHold, AreHeld, IsGateOf, IsImage}
 use Rattle.jr_rule.specs.Knowing.{state_of, ShowsGate}
 use Rattle.jr_rule.proofs.Turns.{Turn, turn_one}
 use Rattle.jr_rule.proofs.Images.{gate_set}
@@ -59,6 +61,13 @@ moved_gate c role t old new w n row was quiet still word g = record {
     λ s. let u = g.shut.0 s in (u.0, at_number (λ r. r ≡ Collecting) role t u.0 new (λ e. absurd (quiet (sym was ∙ (ap role e ∙ u.1)))) (λ ne. u.1)),
     λ u. g.shut.1 (u.0, at_number (λ r. r ≡ Collecting → role u.0 ≡ Collecting) role t u.0 new (λ e q. absurd (still q)) (λ ne q. q) u.1),
   );
+}
+
+-- what the threads hold, once one that did not collect takes another role in which it may hold what it does
+hands_quiet : (role : ℕ → Role) (moving : Option Move) (held : ℕ → Grasp) (t : ℕ) (new : Role) → role t ≢ Collecting → MayHold moving new (held t) → AreHeld role moving held → AreHeld (update nat_eq role t new) moving held
+hands_quiet role moving held t new quiet may a = record {
+  each = λ u. at_number (λ r. MayHold moving r (held u)) role t u new (λ e. subst (λ v. MayHold moving new (held v)) e may) (λ ne. a.each u);
+  still = λ nobody. a.still (λ u q. nobody u (at_number (λ r. r ≡ Collecting) role t u new (λ e. absurd (quiet (ap role e ∙ q))) (λ ne. q)));
 }
 
 -- a thread shuts a gate that counts nobody
@@ -180,29 +189,33 @@ module _ (c : Config) (last : ℕ) (log : History) (legal : IsLegal c last log) 
   }
 
 module _ (c : Config) (last : ℕ) (log : History) (t : ℕ) (words : List ℕ) (legal : IsLegal c last log) (held : ℕ → Grasp) (image : IsImage c last words (state log) held) (row : t < c.threads) where
+  -- who is outside holds nothing
+  nothing : (state log).role t ≡ Outside → held t ≡ empty
+  nothing out = subst (λ r. MayHold image.moving r (held t)) out (image.hands.each t)
+
   -- an entry adds 1, and goes in where the gate is not shut
   pub goes_in : (found : ℕ) (shut : Bool) → found ≡ get_or words 0 0 → shut ≡ image.gate.parts.shut → (state log).role t ≡ Outside
       → Turn c last log t (entered_as (not shut) ∷ []) (slice_set words 0 (found + 1)) held
   goes_in found true is same out = turn_one c last log t (slice_set words 0 (found + 1)) held legal Knock
       (row, (out, image.gate.shut.0 (sym same)))
-      (gate_set c last words (state log) held image (found + 1) (update nat_eq (state log).role t Knocking)
+      (gate_set c last words (state log) held image (found + 1) (update nat_eq (state log).role t Knocking) (hands_quiet (state log).role image.moving held t Knocking (λ e. let z = sym out ∙ e in cc) (nothing out) image.hands)
       (moved_gate c (state log).role t Outside Knocking (get_or words 0 0) (found + 1) row out (λ e. cc) (λ e. cc) (omega arith) image.gate))
   goes_in found false is same out = turn_one c last log t (slice_set words 0 (found + 1)) held legal Enter
       (row, (out, λ u e. let s = image.gate.shut.1 (u, e) in cc))
-      (gate_set c last words (state log) held image (found + 1) (update nat_eq (state log).role t Within)
+      (gate_set c last words (state log) held image (found + 1) (update nat_eq (state log).role t Within) (hands_quiet (state log).role image.moving held t Within (λ e. let z = sym out ∙ e in cc) (ap (λ (g : Grasp). g.moving) (nothing out)) image.hands)
       (moved_gate c (state log).role t Outside Within (get_or words 0 0) (found + 1) row out (λ e. cc) (λ e. cc) (omega arith) image.gate))
 
-  -- an exit takes 1 away
-  pub goes_out : (role : Role) (n : ℕ) → n + 1 ≡ get_or words 0 0 → (role ≡ Within) ⊎ (role ≡ Knocking) → (state log).role t ≡ role
+  -- an exit takes 1 away, of a thread that holds nothing any more
+  pub goes_out : (role : Role) (n : ℕ) → held t ≡ empty → n + 1 ≡ get_or words 0 0 → (role ≡ Within) ⊎ (role ≡ Knocking) → (state log).role t ≡ role
       → Turn c last log t (leaving role ∷ []) (slice_set words 0 n) held
-  goes_out Within n is counts at = turn_one c last log t (slice_set words 0 n) held legal Leave (row, at)
-      (gate_set c last words (state log) held image n (update nat_eq (state log).role t Outside)
+  goes_out Within n none is counts at = turn_one c last log t (slice_set words 0 n) held legal Leave (row, at)
+      (gate_set c last words (state log) held image n (update nat_eq (state log).role t Outside) (hands_quiet (state log).role image.moving held t Outside (λ e. let z = sym at ∙ e in cc) none image.hands)
       (moved_gate c (state log).role t Within Outside (get_or words 0 0) n row at (λ e. cc) (λ e. cc) (omega arith) image.gate))
-  goes_out Knocking n is counts at = turn_one c last log t (slice_set words 0 n) held legal Withdraw (row, at)
-      (gate_set c last words (state log) held image n (update nat_eq (state log).role t Outside)
+  goes_out Knocking n none is counts at = turn_one c last log t (slice_set words 0 n) held legal Withdraw (row, at)
+      (gate_set c last words (state log) held image n (update nat_eq (state log).role t Outside) (hands_quiet (state log).role image.moving held t Outside (λ e. let z = sym at ∙ e in cc) none image.hands)
       (moved_gate c (state log).role t Knocking Outside (get_or words 0 0) n row at (λ e. cc) (λ e. cc) (omega arith) image.gate))
-  goes_out Outside n is counts at = absurd (⊎_elim (λ e. cc) (λ e. cc) counts)
-  goes_out Collecting n is counts at = absurd (⊎_elim (λ e. cc) (λ e. cc) counts)
+  goes_out Outside n none is counts at = absurd (⊎_elim (λ e. cc) (λ e. cc) counts)
+  goes_out Collecting n none is counts at = absurd (⊎_elim (λ e. cc) (λ e. cc) counts)
 
   -- whoever is inside is counted
   pub counted : (role : Role) → (role ≡ Within) ⊎ (role ≡ Knocking) → (state log).role t ≡ role → 1 ≤ get_or words 0 0
@@ -233,19 +246,38 @@ module _ (c : Config) (last : ℕ) (log : History) (t : ℕ) (words : List ℕ) 
 
   -- an empty gate is shut
   pub bars : get_or words 0 0 ≡ 0 → (state log).role t ≡ Outside → Turn c last log t (Shut ∷ []) (slice_set words 0 65536) held
-  bars empty out = turn_one c last log t (slice_set words 0 65536) held legal Shut
-      (row, all_outside c last log legal (sym (all_counted_is c last log legal (get_or words 0 0) image.gate) ∙ nobody image.gate.parts (sym image.gate.word ∙ empty)))
+  bars none out = turn_one c last log t (slice_set words 0 65536) held legal Shut
+      (row, outside)
       (gate_set c last words (state log) held image 65536 (update nat_eq (state log).role t Collecting)
-      (barred_gate c (state log).role t (get_or words 0 0) row out empty image.gate))
+      record {
+        each = λ u. at_number (λ r. MayHold image.moving r (held u)) (state log).role t u Collecting
+            (λ e. subst (λ v. MayHold image.moving Collecting (held v)) e (ap (λ (g : Grasp). g.moving) (nothing out) ∙ sym still, ap (λ (g : Grasp). g.ranges) (nothing out)))
+            (λ ne. image.hands.each u);
+        still = λ nobody'. absurd (nobody' t (at_number_self (state log).role t Collecting));
+      }
+      (barred_gate c (state log).role t (get_or words 0 0) row out none image.gate))
+    where
+      outside : (u : ℕ) → (state log).role u ≡ Outside
+      outside = all_outside c last log legal (sym (all_counted_is c last log legal (get_or words 0 0) image.gate) ∙ nobody image.gate.parts (sym image.gate.word ∙ none))
+
+      still : image.moving ≡ None
+      still = image.hands.still (λ u e. let z = sym (outside u) ∙ e in cc)
 
   -- a gate that counts somebody is not
   pub bars_lost : get_or words 0 0 ≢ 0 → (state log).role t ≡ Outside → Turn c last log t (ShutBusy (all_counted image.gate.parts) ∷ []) words held
   bars_lost busy out = turn_one c last log t words held legal (ShutBusy (all_counted image.gate.parts))
       (row, (out, all_counted_is c last log legal (get_or words 0 0) image.gate, somebody image.gate.parts (λ e. busy (image.gate.word ∙ e)))) image
 
-  -- a shut gate is opened
-  pub unbars : (n : ℕ) → n + 65536 ≡ get_or words 0 0 → (state log).role t ≡ Collecting → IsClosed (state log) → Turn c last log t (Reopen ∷ []) (slice_set words 0 n) held
-  unbars n is at closed = turn_one c last log t (slice_set words 0 n) held legal Reopen
+  -- a shut gate is opened by a thread that holds nothing any more
+  pub unbars : (n : ℕ) → held t ≡ empty → n + 65536 ≡ get_or words 0 0 → (state log).role t ≡ Collecting → IsClosed (state log) → Turn c last log t (Reopen ∷ []) (slice_set words 0 n) held
+  unbars n none is at closed = turn_one c last log t (slice_set words 0 n) held legal Reopen
       (row, (at, closed))
       (gate_set c last words (state log) held image n (update nat_eq (state log).role t Outside)
+      record {
+        each = λ u. at_number (λ r. MayHold image.moving r (held u)) (state log).role t u Outside (λ e. subst (λ v. held v ≡ empty) e none) (λ ne. image.hands.each u);
+        still = λ nobody'. sym own.0 ∙ ap (λ (g : Grasp). g.moving) none;
+      }
       (unbarred_gate c (state log).role t (get_or words 0 0) n row at (apart_state c last log legal) is image.gate))
+    where
+      own : MayHold image.moving Collecting (held t)
+      own = subst (λ r. MayHold image.moving r (held t)) at (image.hands.each t)

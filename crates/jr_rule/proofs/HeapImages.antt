@@ -7,8 +7,9 @@ use Rattle.jr_word.proofs.OneWord.{header_word-injective}
 use Rattle.jr_model.specs.Maps.{update}
 use Rattle.jr_model.specs.State.{Contents, State, length_of, present_words}
 use Rattle.jr_rule.specs.declared.known.Grasp.{Grasp}
+use Rattle.jr_rule.specs.declared.known.Move.{Move}
 use Rattle.jr_rule.specs.Grasping.{words_at, with_range, hold}
-use Rattle.jr_rule.specs.Image.{header_at, of_object, Stands, IsHeaderOf, IsKnown, IsSpace, IsImage}
+use Rattle.jr_rule.specs.Image.{header_at, of_object, Stands, spot, IsIn, IsHeaderOf, IsKnown, IsSpace, IsImage}
 use Rattle.jr_rule.specs.Knowing.{published}
 use Rattle.jr_rule.proofs.Counting.{lists_fit}
 use Rattle.jr_rule.proofs.Headers.{header_positive}
@@ -17,12 +18,13 @@ use Rattle.jr_rule.proofs.InRoom.{IsInRoom}
 use Rattle.jr_rule.proofs.Spaces.{hold_same, space_same}
 
 -- the object whose header is known
-pub record IsThere (c : Config) (words : List ℕ) (s : State) (held : ℕ → Grasp) (space : IsSpace c words s.objects s.used held) (o : ℕ) (h : HeaderParts) : Type 0 where
+pub record IsThere (c : Config) (words : List ℕ) (s : State) (held : ℕ → Grasp) (moving : Option Move) (space : IsSpace c words s.objects s.used moving held) (o : ℕ) (h : HeaderParts) : Type 0 where
   pub contents : Contents
   pub is : s.objects o ≡ Some contents
   pub kind : contents.kind ≡ h.kind
   pub long : length contents.words ≡ h.length
-  pub stands : Stands c space.owner words (of_object o) h.place contents.words
+  pub stands : Stands c space.owner words (of_object o) (spot moving o h.place) contents.words
+  pub low : (j : ℕ) → j < h.length → IsIn s.used (h.place + j)
 
 -- the words of an object that is published with the header: none, or those of a range that is held at its place
 abbrev pub given_words : HeaderParts → Grasp → List ℕ
@@ -30,10 +32,10 @@ given_words h g = cond (h.length == 0) [] (words_at h.place g.ranges)
 
 module _ (c : Config) (last : ℕ) (words : List ℕ) (s : State) (held : ℕ → Grasp) (image : IsImage c last words s held) where
   -- whoever has a header's word is there
-  pub there : (o : ℕ) (h : HeaderParts) → IsKnown c words o h → IsThere c words s held image.space o h
+  pub there : (o : ℕ) (h : HeaderParts) → IsKnown c words o h → IsThere c words s held image.moving image.space o h
   there o h known = go (s.objects o) refl (image.header o known.number.0 known.number.1)
     where
-      go : (z : Option Contents) → s.objects o ≡ z → IsHeaderOf z (get_or words (header_at c o) 0) → IsThere c words s held image.space o h
+      go : (z : Option Contents) → s.objects o ≡ z → IsHeaderOf z (get_or words (header_at c o) 0) → IsThere c words s held image.moving image.space o h
       go None e w = absurd (let p = header_positive h in let q = known.word in omega arith)
       go (Some x) e w =
           let same : w.parts ≡ h = header_word-injective w.parts h w.fits known.fits (sym w.word ∙ known.word) in record {
@@ -42,20 +44,19 @@ module _ (c : Config) (last : ℕ) (words : List ℕ) (s : State) (held : ℕ �
             kind = sym w.same_kind ∙ ap (λ (p : HeaderParts). p.kind) same;
             long = sym w.same_length ∙ ap (λ (p : HeaderParts). p.length) same;
             stands = image.space.object o x h known.number.0 known.number.1 e known.fits known.word;
+            low = λ j l. let long = w.same_length in let kept = ap (λ (p : HeaderParts). p.length) same in image.space.low o x h known.number.0 known.number.1 e known.fits known.word j (omega arith);
           }
 
   pub known_element : (o : ℕ) (h : HeaderParts) (i : ℕ) → IsKnown c words o h → i < h.length → h.place + i < s.used
   known_element o h i known l =
-      let x = there o h known in
-      let long = x.long in
-      object_below c words s.objects s.used held image.space (h.place + i) o i (x.stands.owns i (omega arith))
+      (there o h known).low i l
 
   pub own_element : (t p i : ℕ) → i < length (words_at p (held t).ranges) → p + i < s.used
-  own_element t p i l = range_below c words s.objects s.used held image.space (p + i) t p i ((image.space.range t p).owns i l)
+  own_element t p i l = range_below c words s.objects s.used image.moving held image.space (p + i) t p i ((image.space.range t p).owns i l)
 
   -- where the list of a present object stands
-  list_at : IsInRoom c s → (o : ℕ) → (a : ℕ) × ((j : ℕ) → j < length_of (s.objects o) → (a + j < s.used) × (image.space.owner (a + j) ≡ of_object o j))
-  list_at room o = go (s.objects o) refl
+  list_at : image.moving ≡ None → IsInRoom c s → (o : ℕ) → (a : ℕ) × ((j : ℕ) → j < length_of (s.objects o) → (a + j < s.used) × (image.space.owner (a + j) ≡ of_object o j))
+  list_at still room o = go (s.objects o) refl
     where
       go : (z : Option Contents) → s.objects o ≡ z → (a : ℕ) × ((j : ℕ) → j < length_of z → (a + j < s.used) × (image.space.owner (a + j) ≡ of_object o j))
       go None e = (0, λ j l. absurd (omega arith))
@@ -63,27 +64,27 @@ module _ (c : Config) (last : ℕ) (words : List ℕ) (s : State) (held : ℕ �
           let number = room.objects o (subst (λ y. IsSome y) (sym e) refl) in
           let w = subst (λ (y : Option Contents). IsHeaderOf y (get_or words (header_at c o) 0)) e (image.header o number.0 number.1) in
           let stands = image.space.object o x w.parts number.0 number.1 e w.fits w.word in
-          (w.parts.place, λ j l. let own = stands.owns j l in (object_below c words s.objects s.used held image.space (w.parts.place + j) o j own, own))
+          (w.parts.place, λ j l. let own = subst (λ m. image.space.owner (spot m o w.parts.place j) ≡ of_object o j) still (stands.owns j l) in (object_below c words s.objects s.used image.moving held image.space (w.parts.place + j) o j own, own))
 
   -- the present objects and a range that is held lie below the top together
-  range_fits : IsInRoom c s → (t p : ℕ) → present_words c s + length (words_at p (held t).ranges) ≤ s.used
-  range_fits room t p = lists_fit image.space.owner (c.objects + 1) s.used t p (length (words_at p (held t).ranges)) (λ o. length_of (s.objects o))
-      (λ o l. list_at room o)
-      (λ j l. let own = (image.space.range t p).owns j l in (range_below c words s.objects s.used held image.space (p + j) t p j own, own))
+  range_fits : image.moving ≡ None → IsInRoom c s → (t p : ℕ) → present_words c s + length (words_at p (held t).ranges) ≤ s.used
+  range_fits still room t p = lists_fit image.space.owner (c.objects + 1) s.used t p (length (words_at p (held t).ranges)) (λ o. length_of (s.objects o))
+      (λ o l. list_at still room o)
+      (λ j l. let own = (image.space.range t p).owns j l in (range_below c words s.objects s.used image.moving held image.space (p + j) t p j own, own))
 
-  pub given_fit : IsInRoom c s → present_words c s ≤ s.used → (t : ℕ) (h : HeaderParts) → present_words c s + length (given_words h (held t)) ≤ s.used
-  given_fit room fits t h = go (h.length == 0)
+  pub given_fit : image.moving ≡ None → IsInRoom c s → present_words c s ≤ s.used → (t : ℕ) (h : HeaderParts) → present_words c s + length (given_words h (held t)) ≤ s.used
+  given_fit still room fits t h = go (h.length == 0)
     where
       go : (b : Bool) → present_words c s + length (cond b [] (words_at h.place (held t).ranges)) ≤ s.used
       go true = omega arith
-      go false = range_fits room t h.place
+      go false = range_fits still room t h.place
 
   -- the space once an object has its header, with elements or without
-  pub space_headed : (t o : ℕ) (h : HeaderParts) → 1 ≤ o → o ≤ c.objects → IsHeader h → get_or words (header_at c o) 0 ≡ 0
-      → IsSpace c (slice_set words (header_at c o) (header_word h)) (update nat_eq s.objects o (Some (record { kind = h.kind; words = given_words h (held t) }))) s.used (hold held t (published h (held t)))
-  space_headed t o h low high fits none = go (h.length == 0)
+  pub space_headed : image.moving ≡ None → (t o : ℕ) (h : HeaderParts) → 1 ≤ o → o ≤ c.objects → IsHeader h → get_or words (header_at c o) 0 ≡ 0
+      → IsSpace c (slice_set words (header_at c o) (header_word h)) (update nat_eq s.objects o (Some (record { kind = h.kind; words = given_words h (held t) }))) s.used image.moving (hold held t (published h (held t)))
+  space_headed still t o h low high fits none = go (h.length == 0)
     where
-      go : (b : Bool) → IsSpace c (slice_set words (header_at c o) (header_word h)) (update nat_eq s.objects o (Some (record { kind = h.kind; words = cond b [] (words_at h.place (held t).ranges) }))) s.used (hold held t (cond b (held t) (with_range (held t) h.place [])))
-      go true = space_same c (slice_set words (header_at c o) (header_word h)) (update nat_eq s.objects o (Some (record { kind = h.kind; words = [] }))) s.used held
-          (space_empty c words s.objects s.used held image.space o h h.kind low high fits image.wide none) (hold held t (held t)) (hold_same held t (held t) refl)
-      go false = space_published c words s.objects s.used held image.space o h h.kind low high fits image.wide none t
+      go : (b : Bool) → IsSpace c (slice_set words (header_at c o) (header_word h)) (update nat_eq s.objects o (Some (record { kind = h.kind; words = cond b [] (words_at h.place (held t).ranges) }))) s.used image.moving (hold held t (cond b (held t) (with_range (held t) h.place [])))
+      go true = space_same c (slice_set words (header_at c o) (header_word h)) (update nat_eq s.objects o (Some (record { kind = h.kind; words = [] }))) s.used image.moving held
+          (space_empty c words s.objects s.used image.moving held image.space o h h.kind low high fits image.wide none) (hold held t (held t)) (hold_same held t (held t) refl)
+      go false = space_published c words s.objects s.used image.moving held image.space o h h.kind low high fits image.wide none t still

@@ -1,5 +1,5 @@
 -- The space after space was reserved, a word was put or written, or an object was published.
-use Rattle.std.proofs.Common.{◌≡◌, ◌≢◌, ◌+◌, ◌-◌, ◌<◌, ◌≤◌, ◌==◌, ℕ, zero, suc, cond, Option, Some, List, [], ◌∷◌, length, get_or, slice_set, eq-eqb, ne_eqb, refl, sym, ap, subst, ◌∙◌, arith, nat_eq, nat_lt, length-set, get_or-set_same, get_or-set_other}
+use Rattle.std.proofs.Common.{◌≡◌, ◌≢◌, ◌+◌, ◌-◌, ◌<◌, ◌≤◌, ◌==◌, ℕ, zero, suc, cond, Option, Some, None, List, [], ◌∷◌, length, get_or, slice_set, eq-eqb, ne_eqb, refl, sym, ap, subst, ◌∙◌, arith, nat_eq, nat_lt, length-set, get_or-set_same, get_or-set_other}
 use mathlib.Core.Logic.{dite}
 use native.Mathlib.Decide.{ℕ_discrete, dec_lt}
 use Rattle.std.proofs.lemmas.Bool.{lt-ltb, le-ltb}
@@ -12,8 +12,9 @@ use Rattle.jr_model.specs.Maps.{update}
 use Rattle.jr_model.specs.State.{Contents}
 use Rattle.jr_model.proofs.Updates.{at_number_self}
 use Rattle.jr_rule.specs.declared.known.Grasp.{Grasp}
+use Rattle.jr_rule.specs.declared.known.Move.{Move}
 use Rattle.jr_rule.specs.Grasping.{words_at, header_in, with_range, with_header, hold}
-use Rattle.jr_rule.specs.Image.{top_at, header_at, element_at, Owner, unowned, of_object, of_range, Stands, IsKnown, IsSpace}
+use Rattle.jr_rule.specs.Image.{top_at, header_at, element_at, Owner, unowned, of_object, of_range, Stands, spot, IsIn, IsKnown, IsSpace}
 use Rattle.jr_word.proofs.OneWord.{header_word-injective}
 use Rattle.jr_rule.proofs.Headers.{header_positive}
 use Rattle.jr_rule.proofs.Spaces.{header_stays, element_stays, hold_here, hold_else}
@@ -56,7 +57,7 @@ header_cases held t p ws u o = dite (ℕ_discrete u t)
     (λ ne. ap (λ (g : Grasp). header_in o g.headers) (hold_else held t u (with_range (held t) p ws) ne))
 
 -- no word has two owners
-not_unowned : (a : Owner) (o j : ℕ) → a ≡ unowned → a ≡ of_object o j → ⊥
+pub not_unowned : (a : Owner) (o j : ℕ) → a ≡ unowned → a ≡ of_object o j → ⊥
 not_unowned a o j e f = let z : unowned ≡ of_object o j = sym e ∙ f in cc
 
 not_unowned' : (a : Owner) (t p j : ℕ) → a ≡ unowned → a ≡ of_range t p j → ⊥
@@ -65,19 +66,26 @@ not_unowned' a t p j e f = let z : unowned ≡ of_range t p j = sym e ∙ f in c
 object_or_range : (a : Owner) (o i t p j : ℕ) → a ≡ of_object o i → a ≡ of_range t p j → ⊥
 object_or_range a o i t p j e f = let z : of_object o i ≡ of_range t p j = sym e ∙ f in cc
 
-one_object : (a : Owner) (o i r j : ℕ) → a ≡ of_object o i → a ≡ of_object r j → o ≡ r
+pub one_object : (a : Owner) (o i r j : ℕ) → a ≡ of_object o i → a ≡ of_object r j → o ≡ r
 one_object a o i r j e f = let z : of_object o i ≡ of_object r j = sym e ∙ f in cc
+
+-- and an owner names one word of its list
+one_of_object : (o j k : ℕ) → of_object o j ≡ of_object o k → j ≡ k
+one_of_object o j k e = cc
+
+one_of_range : (t p j k : ℕ) → of_range t p j ≡ of_range t p k → j ≡ k
+one_of_range t p j k e = cc
 
 one_range : (a : Owner) (t p i u q j : ℕ) → a ≡ of_range t p i → a ≡ of_range u q j → (t ≡ u) × (p ≡ q)
 one_range a t p i u q j e f = let z : of_range t p i ≡ of_range u q j = sym e ∙ f in (cc, cc)
 
-module _ (c : Config) (words : List ℕ) (objects : ℕ → Option Contents) (used : ℕ) (held : ℕ → Grasp) (s : IsSpace c words objects used held) where
+module _ (c : Config) (words : List ℕ) (objects : ℕ → Option Contents) (used : ℕ) (moving : Option Move) (held : ℕ → Grasp) (s : IsSpace c words objects used moving held) where
   -- what is owned lies below the top
-  pub object_below : (x o j : ℕ) → s.owner x ≡ of_object o j → x < used
-  object_below x o j e = dite (dec_lt x used) (λ l. l) (λ n. absurd (not_unowned (s.owner x) o j (s.above x (omega arith)) e))
+  pub object_below : (x o j : ℕ) → s.owner x ≡ of_object o j → IsIn used x
+  object_below x o j e = s.inside x (λ n. not_unowned (s.owner x) o j n e)
 
-  pub range_below : (x t p j : ℕ) → s.owner x ≡ of_range t p j → x < used
-  range_below x t p j e = dite (dec_lt x used) (λ l. l) (λ n. absurd (not_unowned' (s.owner x) t p j (s.above x (omega arith)) e))
+  pub range_below : (x t p j : ℕ) → s.owner x ≡ of_range t p j → IsIn used x
+  range_below x t p j e = s.inside x (λ n. not_unowned' (s.owner x) t p j n e)
 
   -- RESERVING: the top goes up by n, and the words between are the thread's
   module _ (t n w : ℕ) where
@@ -96,16 +104,17 @@ module _ (c : Config) (words : List ℕ) (objects : ℕ → Option Contents) (us
     top_element : (x : ℕ) → get_or (slice_set words top_at w) (element_at c x) 0 ≡ get_or words (element_at c x) 0
     top_element x = element_stays c words top_at w (omega arith) x
 
-    pub space_reserved : IsSpace c (slice_set words top_at w) objects (used + n) (hold held t (with_range (held t) used (elements_from c words used n)))
+    pub space_reserved : IsSpace c (slice_set words top_at w) objects (used + n) moving (hold held t (with_range (held t) used (elements_from c words used n)))
     space_reserved = record {
       owner = reserved;
-      above = reserved_above;
+      inside = λ x some. dite (dec_lt x (used + n)) (λ l. l) (λ m. absurd (some (reserved_above x (omega arith))));
       object = λ o x h some few is fits word.
           let old = s.object o x h some few is fits (sym (header_stays c words top_at w (omega arith) o some) ∙ word) in record {
-            owns = λ j l. let e = old.owns j l in reserved_old (h.place + j) (object_below (h.place + j) o j e) ∙ e;
-            reads = λ j l. top_element (h.place + j) ∙ old.reads j l;
+            owns = λ j l. let e = old.owns j l in reserved_old (spot moving o h.place j) (object_below (spot moving o h.place j) o j e) ∙ e;
+            reads = λ j l. top_element (spot moving o h.place j) ∙ old.reads j l;
           };
-      range = range_cases held t used (elements_from c words used n) (λ u q ws. Stands c reserved (slice_set words top_at w) (of_range u q) q ws)
+      low = λ o x h some few is fits word j l. let old = s.low o x h some few is fits (sym (header_stays c words top_at w (omega arith) o some) ∙ word) j l in omega arith;
+      range = range_cases held t used (elements_from c words used n) (λ u q ws. Stands c reserved (slice_set words top_at w) (of_range u q) (λ j. q + j) ws)
           record {
             owns = λ j l. let long = elements_length c words used n in reserved_new (used + j) (omega arith) (omega arith) ∙ ap (of_range t used) (omega arith);
             reads = λ j l. let long = elements_length c words used n in top_element (used + j) ∙ sym (elements_read c words used n j (omega arith));
@@ -124,26 +133,29 @@ module _ (c : Config) (words : List ℕ) (objects : ℕ → Option Contents) (us
     abbrev stored : List ℕ
     stored = slice_set words (element_at c at) v
 
-    there : at < used → get_or stored (element_at c at) 0 ≡ v
+    pub there : at < used → get_or stored (element_at c at) 0 ≡ v
     there l = get_or-set_same words (element_at c at) v 0 (omega arith)
 
-    elsewhere : (x : ℕ) → x ≢ at → get_or stored (element_at c x) 0 ≡ get_or words (element_at c x) 0
+    pub elsewhere : (x : ℕ) → x ≢ at → get_or stored (element_at c x) 0 ≡ get_or words (element_at c x) 0
     elsewhere x ne = get_or-set_other words (element_at c at) (element_at c x) v 0 (λ e. ne (omega arith))
 
-    no_header : (o : ℕ) → 1 ≤ o → o ≤ c.objects → get_or stored (header_at c o) 0 ≡ get_or words (header_at c o) 0
+    pub no_header : (o : ℕ) → 1 ≤ o → o ≤ c.objects → get_or stored (header_at c o) 0 ≡ get_or words (header_at c o) 0
     no_header o some few = get_or-set_other words (element_at c at) (header_at c o) v 0 (λ e. absurd (omega arith))
 
     -- a list with other owners stays
-    untouched : (whose : ℕ → Owner) (place : ℕ) (items : List ℕ) → ((j : ℕ) → s.owner at ≢ whose j) → Stands c s.owner words whose place items → Stands c s.owner stored whose place items
-    untouched whose place items other z = record { owns = z.owns; reads = λ j l. elsewhere (place + j) (λ e. other j (ap s.owner (sym e) ∙ z.owns j l)) ∙ z.reads j l }
+    untouched : (whose : ℕ → Owner) (spots : ℕ → ℕ) (items : List ℕ) → ((j : ℕ) → s.owner at ≢ whose j) → Stands c s.owner words whose spots items → Stands c s.owner stored whose spots items
+    untouched whose spots items other z = record { owns = z.owns; reads = λ j l. elsewhere (spots j) (λ e. other j (ap s.owner (sym e) ∙ z.owns j l)) ∙ z.reads j l }
 
     -- the list that the store is in
-    touched : (whose : ℕ → Owner) (place i : ℕ) (items : List ℕ) → at ≡ place + i → i < length items → at < used → Stands c s.owner words whose place items → Stands c s.owner stored whose place (slice_set items i v)
-    touched whose place i items e l below z = record {
+    touched : (whose : ℕ → Owner) (spots : ℕ → ℕ) (i : ℕ) (items : List ℕ) → ((j k : ℕ) → whose j ≡ whose k → j ≡ k) → at ≡ spots i → i < length items → at < used → Stands c s.owner words whose spots items → Stands c s.owner stored whose spots (slice_set items i v)
+    touched whose spots i items one e l below z = record {
       owns = λ j g. let long = length-set items i v in z.owns j (omega arith);
       reads = λ j g. dite (ℕ_discrete j i)
-          (λ is. ap (λ k. get_or stored (element_at c (place + k)) 0) is ∙ (ap (λ k. get_or stored (element_at c k) 0) (sym e) ∙ (there below ∙ (sym (get_or-set_same items i v 0 l) ∙ ap (λ k. get_or (slice_set items i v) k 0) (sym is)))))
-          (λ ne. let long = length-set items i v in elsewhere (place + j) (λ q. ne (omega arith)) ∙ (z.reads j (omega arith) ∙ sym (get_or-set_other items i j v 0 (λ q. ne q))));
+          (λ is. ap (λ k. get_or stored (element_at c (spots k)) 0) is ∙ (ap (λ k. get_or stored (element_at c k) 0) (sym e) ∙ (there below ∙ (sym (get_or-set_same items i v 0 l) ∙ ap (λ k. get_or (slice_set items i v) k 0) (sym is)))))
+          (λ ne.
+          let long = length-set items i v in
+          let m : j < length items = omega arith in
+          elsewhere (spots j) (λ q. ne (one j i (sym (z.owns j m) ∙ (ap s.owner (q ∙ e) ∙ z.owns i l)))) ∙ (z.reads j m ∙ sym (get_or-set_other items i j v 0 (λ q. ne q))));
     }
 
     known_stays : (u o : ℕ) (h : HeaderParts) → header_in o (held u).headers ≡ Some h → IsKnown c stored o h
@@ -151,41 +163,50 @@ module _ (c : Config) (words : List ℕ) (objects : ℕ → Option Contents) (us
 
   -- a word of one's own range is put
   pub space_put : (wide : length words ≡ row_words c) (fits : used ≤ c.words) (t p i v : ℕ) → i < length (words_at p (held t).ranges)
-      → IsSpace c (slice_set words (element_at c (p + i)) v) objects used (hold held t (with_range (held t) p (slice_set (words_at p (held t).ranges) i v)))
+      → IsSpace c (slice_set words (element_at c (p + i)) v) objects used moving (hold held t (with_range (held t) p (slice_set (words_at p (held t).ranges) i v)))
   space_put wide fits t p i v l =
       let own = (s.range t p).owns i l in
       let below = range_below (p + i) t p i own in record {
         owner = s.owner;
-        above = s.above;
-        object = λ o x h some few is good word. untouched wide fits (p + i) v (of_object o) h.place x.words (λ j e. object_or_range (s.owner (p + i)) o j t p i e own) (s.object o x h some few is good (sym (no_header wide fits (p + i) v o some few) ∙ word));
-        range = range_cases held t p (slice_set (words_at p (held t).ranges) i v) (λ u q ws. Stands c s.owner (slice_set words (element_at c (p + i)) v) (of_range u q) q ws)
-            (touched wide fits (p + i) v (of_range t p) p i (words_at p (held t).ranges) refl l below (s.range t p))
-            (λ u q other. untouched wide fits (p + i) v (of_range u q) q (words_at q (held u).ranges) (λ j e. let z = one_range (s.owner (p + i)) u q j t p i e own in other z.0 z.1) (s.range u q));
+        inside = s.inside;
+        object = λ o x h some few is good word. untouched wide fits (p + i) v (of_object o) (spot moving o h.place) x.words (λ j e. object_or_range (s.owner (p + i)) o j t p i e own) (s.object o x h some few is good (sym (no_header wide fits (p + i) v o some few) ∙ word));
+        low = λ o x h some few is good word. s.low o x h some few is good (sym (no_header wide fits (p + i) v o some few) ∙ word);
+        range = range_cases held t p (slice_set (words_at p (held t).ranges) i v) (λ u q ws. Stands c s.owner (slice_set words (element_at c (p + i)) v) (of_range u q) (λ j. q + j) ws)
+            (touched wide fits (p + i) v (of_range t p) (λ j. p + j) i (words_at p (held t).ranges) (λ j k e. one_of_range t p j k e) refl l below (s.range t p))
+            (λ u q other. untouched wide fits (p + i) v (of_range u q) (λ j. q + j) (words_at q (held u).ranges) (λ j e. let z = one_range (s.owner (p + i)) u q j t p i e own in other z.0 z.1) (s.range u q));
         header = λ u o h e. known_stays wide fits (p + i) v u o h (sym (header_cases held t p (slice_set (words_at p (held t).ranges) i v) u o) ∙ e);
       }
 
   -- an element of a present object is written
   pub space_written : (wide : length words ≡ row_words c) (fits : used ≤ c.words) (o i v : ℕ) (x : Contents) (h : HeaderParts) → 1 ≤ o → o ≤ c.objects → objects o ≡ Some x → IsHeader h → get_or words (header_at c o) 0 ≡ header_word h → i < length x.words
-      → IsSpace c (slice_set words (element_at c (h.place + i)) v) (update nat_eq objects o (Some (record { kind = x.kind; words = slice_set x.words i v }))) used held
+      → IsSpace c (slice_set words (element_at c (spot moving o h.place i)) v) (update nat_eq objects o (Some (record { kind = x.kind; words = slice_set x.words i v }))) used moving held
   space_written wide fits o i v x h some few is good word l =
-      let at : ℕ = h.place + i in
+      let at : ℕ = spot moving o h.place i in
       let list = s.object o x h some few is good word in
       let own = list.owns i l in
       let below = object_below at o i own in
       let new : Contents = record { kind = x.kind; words = slice_set x.words i v } in record {
         owner = s.owner;
-        above = s.above;
+        inside = s.inside;
+        low = λ r y k some' few' is' good' word' j m.
+            let kept = sym (no_header wide fits at v r some' few') ∙ word' in
+            dite (ℕ_discrete o r)
+            (λ e.
+            let y_is : new ≡ y = let z = sym (at_number_self objects o (Some new)) ∙ (ap (update nat_eq objects o (Some new)) e ∙ is') in cc in
+            let long : length y.words ≡ length x.words = ap (λ (z : Contents). length z.words) (sym y_is) ∙ length-set x.words i v in
+            s.low r x k some' few' (ap objects (sym e) ∙ is) good' kept j (omega arith))
+            (λ ne. s.low r y k some' few' (sym (ap (λ b. cond b (Some new) (objects r)) (ne_eqb o r ne)) ∙ is') good' kept j m);
         object = λ r y k some' few' is' good' word'.
             let kept = sym (no_header wide fits at v r some' few') ∙ word' in
             dite (ℕ_discrete o r)
             (λ e.
             let y_is : new ≡ y = let z = sym (at_number_self objects o (Some new)) ∙ (ap (update nat_eq objects o (Some new)) e ∙ is') in cc in
             let k_is : h ≡ k = header_word-injective h k good good' (sym word ∙ (ap (λ z. get_or words (header_at c z) 0) e ∙ kept)) in
-            subst (λ (z : ℕ × Contents × HeaderParts). Stands c s.owner (slice_set words (element_at c at) v) (of_object z.0) (z.2).place (z.1).words) (λ j. (e j, y_is j, k_is j))
-            (touched wide fits at v (of_object o) h.place i x.words refl l below list))
-            (λ ne. untouched wide fits at v (of_object r) k.place y.words (λ j e. ne (one_object (s.owner at) o i r j own e))
+            subst (λ (z : ℕ × Contents × HeaderParts). Stands c s.owner (slice_set words (element_at c at) v) (of_object z.0) (spot moving z.0 (z.2).place) (z.1).words) (λ j. (e j, y_is j, k_is j))
+            (touched wide fits at v (of_object o) (spot moving o h.place) i x.words (λ j k e. one_of_object o j k e) refl l below list))
+            (λ ne. untouched wide fits at v (of_object r) (spot moving r k.place) y.words (λ j e. ne (one_object (s.owner at) o i r j own e))
             (s.object r y k some' few' (sym (ap (λ b. cond b (Some new) (objects r)) (ne_eqb o r ne)) ∙ is') good' kept));
-        range = λ u q. untouched wide fits at v (of_range u q) q (words_at q (held u).ranges) (λ j e. object_or_range (s.owner at) o i u q j own e) (s.range u q);
+        range = λ u q. untouched wide fits at v (of_range u q) (λ j. q + j) (words_at q (held u).ranges) (λ j e. object_or_range (s.owner at) o i u q j own e) (s.range u q);
         header = λ u r k e. known_stays wide fits at v u r k e;
       }
 
@@ -211,26 +232,29 @@ module _ (c : Config) (words : List ℕ) (objects : ℕ → Option Contents) (us
     }
 
     -- the objects, where each that stands keeps its list under other names of owners
-    published_object : (owner : ℕ → Owner) (ws : List ℕ) → Stands c owner headed (of_object o) h.place ws → ((r : ℕ) (y : Contents) (k : HeaderParts) → Stands c s.owner words (of_object r) k.place y.words → Stands c owner headed (of_object r) k.place y.words)
-        → (r : ℕ) (y : Contents) (k : HeaderParts) → 1 ≤ r → r ≤ c.objects → update nat_eq objects o (Some (record { kind = kind; words = ws })) r ≡ Some y → IsHeader k → get_or headed (header_at c r) 0 ≡ header_word k → Stands c owner headed (of_object r) k.place y.words
-    published_object owner ws new old r y k some' few' is' good' word' =
+    published_object : (P : ℕ → Contents → HeaderParts → Type 0) (ws : List ℕ) → P o (record { kind = kind; words = ws }) h
+        → ((r : ℕ) (y : Contents) (k : HeaderParts) → 1 ≤ r → r ≤ c.objects → objects r ≡ Some y → IsHeader k → get_or words (header_at c r) 0 ≡ header_word k → P r y k)
+        → (r : ℕ) (y : Contents) (k : HeaderParts) → 1 ≤ r → r ≤ c.objects → update nat_eq objects o (Some (record { kind = kind; words = ws })) r ≡ Some y → IsHeader k → get_or headed (header_at c r) 0 ≡ header_word k → P r y k
+    published_object P ws new old r y k some' few' is' good' word' =
         let x : Contents = record { kind = kind; words = ws } in
         dite (ℕ_discrete o r)
         (λ e.
         let y_is : x ≡ y = let z = sym (at_number_self objects o (Some x)) ∙ (ap (update nat_eq objects o (Some x)) e ∙ is') in cc in
         let k_is : h ≡ k = header_word-injective h k good good' (sym at_header ∙ (ap (λ z. get_or headed (header_at c z) 0) e ∙ word')) in
-        subst (λ (z : ℕ × Contents × HeaderParts). Stands c owner headed (of_object z.0) (z.2).place (z.1).words) (λ j. (e j, y_is j, k_is j)) new)
-        (λ ne. old r y k (s.object r y k some' few' (sym (ap (λ b. cond b (Some x) (objects r)) (ne_eqb o r ne)) ∙ is') good' (sym (other_header r some' (λ e. ne (sym e))) ∙ word')))
+        subst (λ (z : ℕ × Contents × HeaderParts). P z.0 z.1 z.2) (λ j. (e j, y_is j, k_is j)) new)
+        (λ ne. old r y k some' few' (sym (ap (λ b. cond b (Some x) (objects r)) (ne_eqb o r ne)) ∙ is') good' (sym (other_header r some' (λ e. ne (sym e))) ∙ word'))
 
-    stays : (owner : ℕ → Owner) (whose : ℕ → Owner) (place : ℕ) (items : List ℕ) → ((x : ℕ) (j : ℕ) → s.owner x ≡ whose j → owner x ≡ whose j) → Stands c s.owner words whose place items → Stands c owner headed whose place items
-    stays owner whose place items same z = record { owns = λ j l. same (place + j) j (z.owns j l); reads = λ j l. same_element (place + j) ∙ z.reads j l }
+    stays : (owner : ℕ → Owner) (whose : ℕ → Owner) (spots : ℕ → ℕ) (items : List ℕ) → ((x : ℕ) (j : ℕ) → s.owner x ≡ whose j → owner x ≡ whose j) → Stands c s.owner words whose spots items → Stands c owner headed whose spots items
+    stays owner whose spots items same z = record { owns = λ j l. same (spots j) j (z.owns j l); reads = λ j l. same_element (spots j) ∙ z.reads j l }
 
-    pub space_empty : IsSpace c headed (update nat_eq objects o (Some (record { kind = kind; words = [] }))) used held
+    pub space_empty : IsSpace c headed (update nat_eq objects o (Some (record { kind = kind; words = [] }))) used moving held
     space_empty = record {
       owner = s.owner;
-      above = s.above;
-      object = published_object s.owner [] (record { owns = λ j l. absurd (omega arith); reads = λ j l. absurd (omega arith) }) (λ r y k z. stays s.owner (of_object r) k.place y.words (λ x j e. e) z);
-      range = λ u q. stays s.owner (of_range u q) q (words_at q (held u).ranges) (λ x j e. e) (s.range u q);
+      inside = s.inside;
+      object = published_object (λ r y k. Stands c s.owner headed (of_object r) (spot moving r k.place) y.words) [] (record { owns = λ j l. absurd (omega arith); reads = λ j l. absurd (omega arith) })
+          (λ r y k a b is g w. stays s.owner (of_object r) (spot moving r k.place) y.words (λ x j e. e) (s.object r y k a b is g w));
+      low = published_object (λ r y k. (j : ℕ) → j < length y.words → IsIn used (k.place + j)) [] (λ j l. absurd (omega arith)) s.low;
+      range = λ u q. stays s.owner (of_range u q) (λ j. q + j) (words_at q (held u).ranges) (λ x j e. e) (s.range u q);
       header = λ u r k e. known_apart r k (s.header u r k e);
     }
 
@@ -255,26 +279,30 @@ module _ (c : Config) (words : List ℕ) (objects : ℕ → Option Contents) (us
           (λ f. ap (λ b. cond b (cond (q == h.place) (of_object o j) (of_range u q j)) (of_range u q j)) (eq-eqb u t f) ∙ ap (λ b. cond b (of_object o j) (of_range u q j)) (ne_eqb q h.place (other f)))
           (λ f. ap (λ b. cond b (cond (q == h.place) (of_object o j) (of_range u q j)) (of_range u q j)) (ne_eqb u t f))
 
-      pub space_published : IsSpace c headed (update nat_eq objects o (Some (record { kind = kind; words = words_at h.place (held t).ranges }))) used (hold held t (with_range (held t) h.place []))
-      space_published = record {
+      -- where no move is unfinished
+      pub space_published : moving ≡ None → IsSpace c headed (update nat_eq objects o (Some (record { kind = kind; words = words_at h.place (held t).ranges }))) used moving (hold held t (with_range (held t) h.place []))
+      space_published still = record {
         owner = owner_then;
-        above = λ x l. ap renamed (s.above x l);
-        object = published_object owner_then (words_at h.place (held t).ranges)
-            (let z = s.range t h.place in record { owns = λ j l. renamed_here (h.place + j) j (z.owns j l); reads = λ j l. same_element (h.place + j) ∙ z.reads j l })
-            (λ r y k z. stays owner_then (of_object r) k.place y.words (λ x j e. renamed_object x r j e) z);
-        range = range_cases held t h.place [] (λ u q ws. Stands c owner_then headed (of_range u q) q ws)
+        inside = λ x some. s.inside x (λ none. some (ap renamed none));
+        object = published_object (λ r y k. Stands c owner_then headed (of_object r) (spot moving r k.place) y.words) (words_at h.place (held t).ranges)
+            (subst (λ m. Stands c owner_then headed (of_object o) (spot m o h.place) (words_at h.place (held t).ranges)) (sym still)
+            (let z = s.range t h.place in record { owns = λ j l. renamed_here (h.place + j) j (z.owns j l); reads = λ j l. same_element (h.place + j) ∙ z.reads j l }))
+            (λ r y k a b is g w. stays owner_then (of_object r) (spot moving r k.place) y.words (λ x j e. renamed_object x r j e) (s.object r y k a b is g w));
+        low = published_object (λ r y k. (j : ℕ) → j < length y.words → IsIn used (k.place + j)) (words_at h.place (held t).ranges) (λ j l. range_below (h.place + j) t h.place j ((s.range t h.place).owns j l)) s.low;
+        range = range_cases held t h.place [] (λ u q ws. Stands c owner_then headed (of_range u q) (λ j. q + j) ws)
             (record { owns = λ j l. absurd (omega arith); reads = λ j l. absurd (omega arith) })
-            (λ u q other. stays owner_then (of_range u q) q (words_at q (held u).ranges) (λ x j e. renamed_else x u q j other e) (s.range u q));
+            (λ u q other. stays owner_then (of_range u q) (λ j. q + j) (words_at q (held u).ranges) (λ x j e. renamed_else x u q j other e) (s.range u q));
         header = λ u r k e. known_apart r k (s.header u r k (sym (header_cases held t h.place [] u r) ∙ e));
       }
 
   -- A HEADER IS KNOWN
-  pub space_known : (t o : ℕ) (h : HeaderParts) → IsKnown c words o h → IsSpace c words objects used (hold held t (with_header (held t) o h))
+  pub space_known : (t o : ℕ) (h : HeaderParts) → IsKnown c words o h → IsSpace c words objects used moving (hold held t (with_header (held t) o h))
   space_known t o h known = record {
     owner = s.owner;
-    above = s.above;
+    inside = s.inside;
     object = s.object;
-    range = λ u p. subst (λ ws. Stands c s.owner words (of_range u p) p ws) (sym (same_ranges u p)) (s.range u p);
+    low = s.low;
+    range = λ u p. subst (λ ws. Stands c s.owner words (of_range u p) (λ j. p + j) ws) (sym (same_ranges u p)) (s.range u p);
     header = λ u r k e. dite (ℕ_discrete u t)
         (λ q. dite (ℕ_discrete o r)
         (λ f. let k_is : h ≡ k = let z = sym (ap (λ b. cond b (Some h) (header_in r (held t).headers)) (eq-eqb o r f)) ∙ (sym (ap (λ (g : Grasp). header_in r g.headers) (here u q)) ∙ e) in cc in

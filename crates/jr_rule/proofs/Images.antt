@@ -14,9 +14,12 @@ use Rattle.jr_model.specs.State.{Handle, Contents, State}
 use Rattle.jr_model.proofs.Updates.{eq_true, eq_false, at_number}
 use Rattle.jr_rule.specs.Acts.{found_object, handle_of}
 use Rattle.jr_rule.specs.declared.known.Grasp.{Grasp}
-use Rattle.jr_rule.proofs.Spaces.{space_low, space_same, space_let_go}
+use Rattle.jr_rule.specs.declared.known.Move.{Move}
+use mathlib.Core.Logic.{dite}
+use native.Mathlib.Decide.{ℕ_discrete}
+use Rattle.jr_rule.proofs.Spaces.{space_low, space_same, space_let_go, hold_here, hold_else}
 use Rattle.jr_rule.specs.Grasping.{empty, hold}
-use Rattle.jr_rule.specs.Image.{gate_at, top_at, slot_at, local_at, header_at, element_at, IsSpace, IsGateOf, IsTopOf, StandsAlone, SaysOfSlot, IsSlotOf, IsLocalOf, IsHeaderOf, IsImage}
+use Rattle.jr_rule.specs.Image.{gate_at, top_at, slot_at, local_at, header_at, element_at, MayHold, AreHeld, IsSpace, IsGateOf, IsTopOf, StandsAlone, SaysOfSlot, IsSlotOf, IsLocalOf, IsHeaderOf, IsImage}
 
 -- the local words lie below the headers
 pub local_below : (c : Config) (t p : ℕ) → t < c.threads → p < c.locals → local_at c t p < 2 + c.slots + c.threads * c.locals
@@ -54,6 +57,18 @@ same_slot last i w refs refs' given given' same x = record {
     says (slot.Global n o) y = alone (handle_of Global n i) (Object o) refl y
     says (slot.Weak n o) y = alone (handle_of Weak n i) (found_object o) refl y
 
+-- who holds the same, or one something else that it may
+pub hands_same : (role : ℕ → Role) (moving : Option Move) (held held' : ℕ → Grasp) → ((u : ℕ) → held' u ≡ held u) → AreHeld role moving held → AreHeld role moving held'
+hands_same role moving held held' same a = record { each = λ u. subst (MayHold moving (role u)) (sym (same u)) (a.each u); still = a.still }
+
+pub hands_held : (role : ℕ → Role) (moving : Option Move) (held : ℕ → Grasp) (t : ℕ) (g : Grasp) → MayHold moving (role t) g → AreHeld role moving held → AreHeld role moving (hold held t g)
+hands_held role moving held t g may a = record {
+  each = λ u. dite (ℕ_discrete u t)
+      (λ e. subst (λ (z : ℕ × Grasp). MayHold moving (role z.0) z.1) (λ i. (sym e i, sym (ap (hold held t g) e ∙ hold_here held t g) i)) may)
+      (λ ne. subst (MayHold moving (role u)) (sym (hold_else held t u g ne)) (a.each u));
+  still = a.still;
+}
+
 module _ (c : Config) (last : ℕ) (words : List ℕ) (s : State) (held : ℕ → Grasp) (image : IsImage c last words s held) (n : ℕ) where
   -- another word stays
   other : (i j : ℕ) (P : ℕ → Type 0) → j ≢ i → P (get_or words j 0) → P (get_or (slice_set words i n) j 0)
@@ -63,15 +78,17 @@ module _ (c : Config) (last : ℕ) (words : List ℕ) (s : State) (held : ℕ �
   here : (i : ℕ) (P : ℕ → Type 0) → i < length words → P n → P (get_or (slice_set words i n) i 0)
   here i P l p = subst P (sym (get_or-set_same words i n 0 l)) p
 
-  pub gate_set : (role : ℕ → Role) → IsGateOf c role n → IsImage c last (slice_set words gate_at n) (record s { role = role }) held
-  gate_set role g = let wide = image.wide in record {
+  pub gate_set : (role : ℕ → Role) → AreHeld role image.moving held → IsGateOf c role n → IsImage c last (slice_set words gate_at n) (record s { role = role }) held
+  gate_set role hands g = let wide = image.wide in record {
     wide = length-set words gate_at n ∙ image.wide;
     gate = here 0 (IsGateOf c role) (omega arith) g;
     top = other 0 1 (IsTopOf s.used) (λ e. absurd (omega arith)) image.top;
     slot = λ i l. other 0 (slot_at i) (IsSlotOf last s.refs s.given i) (λ e. absurd (omega arith)) (image.slot i l);
     local = λ t p l m. other 0 (local_at c t p) (IsLocalOf (s.locals t p)) (λ e. absurd (omega arith)) (image.local t p l m);
     header = λ o l m. other 0 (header_at c o) (IsHeaderOf (s.objects o)) (λ e. absurd (omega arith)) (image.header o l m);
-    space = space_low c words gate_at n (omega arith) s.objects s.used held image.space;
+    moving = image.moving;
+    hands = hands;
+    space = space_low c words gate_at n (omega arith) s.objects s.used image.moving held image.space;
   }
 
   pub slot_set : (i : ℕ) (refs : Handle → Found) (given : Handle → Bool) → i < c.slots → IsSlotOf last refs given i n → ((g : Handle) → g.index ≢ i → (refs g ≡ s.refs g) × (given g ≡ s.given g))
@@ -83,7 +100,9 @@ module _ (c : Config) (last : ℕ) (words : List ℕ) (s : State) (held : ℕ �
     slot = λ j l. by_index j l (i == j) refl;
     local = λ t p l m. other (slot_at i) (local_at c t p) (IsLocalOf (s.locals t p)) (λ e. absurd (omega arith)) (image.local t p l m);
     header = λ o l m. other (slot_at i) (header_at c o) (IsHeaderOf (s.objects o)) (λ e. absurd (omega arith)) (image.header o l m);
-    space = space_low c words (slot_at i) n (omega arith) s.objects s.used held image.space;
+    moving = image.moving;
+    hands = record { each = image.hands.each; still = image.hands.still };
+    space = space_low c words (slot_at i) n (omega arith) s.objects s.used image.moving held image.space;
   }
     where
       by_index : (j : ℕ) → j < c.slots → (b : Bool) → (i == j) ≡ b → IsSlotOf last refs given j (get_or (slice_set words (slot_at i) n) (slot_at j) 0)
@@ -109,24 +128,28 @@ module _ (c : Config) (last : ℕ) (words : List ℕ) (s : State) (held : ℕ �
         (other (local_at c t p) (local_at c u q) (IsLocalOf (s.locals u q)) (λ z. ne (sym (local_apart c u q t p m place z).1)) (image.local u q l m))))
         (λ ne. other (local_at c t p) (local_at c u q) (IsLocalOf (s.locals u q)) (λ z. ne (sym (local_apart c u q t p m place z).0)) (image.local u q l m));
     header = λ r l m. other (local_at c t p) (header_at c r) (IsHeaderOf (s.objects r)) (λ e. absurd (omega arith)) (image.header r l m);
-    space = space_low c words (local_at c t p) n (omega arith) s.objects s.used held image.space;
+    moving = image.moving;
+    hands = record { each = image.hands.each; still = image.hands.still };
+    space = space_low c words (local_at c t p) n (omega arith) s.objects s.used image.moving held image.space;
   }
 
   -- where the word of several parts changes, the space is the caller's to show
-  pub top_set : (used : ℕ) (held' : ℕ → Grasp) → IsTopOf used n → IsSpace c (slice_set words top_at n) s.objects used held' → IsImage c last (slice_set words top_at n) (record s { used = used }) held'
-  top_set used held' x space = let wide = image.wide in record {
+  pub top_set : (used : ℕ) (moving : Option Move) (held' : ℕ → Grasp) → AreHeld s.role moving held' → IsTopOf used n → IsSpace c (slice_set words top_at n) s.objects used moving held' → IsImage c last (slice_set words top_at n) (record s { used = used }) held'
+  top_set used moving held' hands x space = let wide = image.wide in record {
     wide = length-set words top_at n ∙ image.wide;
     gate = other 1 0 (IsGateOf c s.role) (λ e. absurd (omega arith)) image.gate;
     top = here 1 (IsTopOf used) (omega arith) x;
     slot = λ i l. other 1 (slot_at i) (IsSlotOf last s.refs s.given i) (λ e. absurd (omega arith)) (image.slot i l);
     local = λ t p l m. other 1 (local_at c t p) (IsLocalOf (s.locals t p)) (λ e. absurd (omega arith)) (image.local t p l m);
     header = λ o l m. other 1 (header_at c o) (IsHeaderOf (s.objects o)) (λ e. absurd (omega arith)) (image.header o l m);
+    moving = moving;
+    hands = record { each = hands.each; still = hands.still };
     space = space;
   }
 
-  pub header_set : (o : ℕ) (x : Option Contents) (held' : ℕ → Grasp) → 1 ≤ o → o ≤ c.objects → IsHeaderOf x n → IsSpace c (slice_set words (header_at c o) n) (update nat_eq s.objects o x) s.used held'
+  pub header_set : (o : ℕ) (x : Option Contents) (moving : Option Move) (held' : ℕ → Grasp) → AreHeld s.role moving held' → 1 ≤ o → o ≤ c.objects → IsHeaderOf x n → IsSpace c (slice_set words (header_at c o) n) (update nat_eq s.objects o x) s.used moving held'
       → IsImage c last (slice_set words (header_at c o) n) (record s { objects = update nat_eq s.objects o x }) held'
-  header_set o x held' low high h space = let wide = image.wide in record {
+  header_set o x moving held' hands low high h space = let wide = image.wide in record {
     wide = length-set words (header_at c o) n ∙ image.wide;
     gate = other (header_at c o) 0 (IsGateOf c s.role) (λ e. absurd (omega arith)) image.gate;
     top = other (header_at c o) 1 (IsTopOf s.used) (λ e. absurd (omega arith)) image.top;
@@ -135,30 +158,34 @@ module _ (c : Config) (last : ℕ) (words : List ℕ) (s : State) (held : ℕ �
     header = λ r l m. at_number (λ y. IsHeaderOf y (get_or (slice_set words (header_at c o) n) (header_at c r) 0)) s.objects o r x
         (λ e. subst (λ k. IsHeaderOf x (get_or (slice_set words (header_at c o) n) (header_at c k) 0)) e (here (header_at c o) (IsHeaderOf x) (omega arith) h))
         (λ ne. other (header_at c o) (header_at c r) (IsHeaderOf (s.objects r)) (λ z. ne (omega arith)) (image.header r l m));
+    moving = moving;
+    hands = record { each = hands.each; still = hands.still };
     space = space;
   }
 
   -- a word of array space, where the objects keep their headers
-  pub element_set : (x : ℕ) (objects : ℕ → Option Contents) (held' : ℕ → Grasp) → x < c.words → ((o w : ℕ) → IsHeaderOf (s.objects o) w → IsHeaderOf (objects o) w) → IsSpace c (slice_set words (element_at c x) n) objects s.used held'
+  pub element_set : (x : ℕ) (objects : ℕ → Option Contents) (moving : Option Move) (held' : ℕ → Grasp) → AreHeld s.role moving held' → x < c.words → ((o w : ℕ) → IsHeaderOf (s.objects o) w → IsHeaderOf (objects o) w) → IsSpace c (slice_set words (element_at c x) n) objects s.used moving held'
       → IsImage c last (slice_set words (element_at c x) n) (record s { objects = objects }) held'
-  element_set x objects held' row same space = let wide = image.wide in record {
+  element_set x objects moving held' hands row same space = let wide = image.wide in record {
     wide = length-set words (element_at c x) n ∙ image.wide;
     gate = other (element_at c x) 0 (IsGateOf c s.role) (λ e. absurd (omega arith)) image.gate;
     top = other (element_at c x) 1 (IsTopOf s.used) (λ e. absurd (omega arith)) image.top;
     slot = λ i l. other (element_at c x) (slot_at i) (IsSlotOf last s.refs s.given i) (λ e. absurd (omega arith)) (image.slot i l);
     local = λ t p l m. other (element_at c x) (local_at c t p) (IsLocalOf (s.locals t p)) (λ e. let below = local_below c t p l m in absurd (omega arith)) (image.local t p l m);
     header = λ o l m. other (element_at c x) (header_at c o) (IsHeaderOf (objects o)) (λ e. absurd (omega arith)) (same o (get_or words (header_at c o) 0) (image.header o l m));
+    moving = moving;
+    hands = record { each = hands.each; still = hands.still };
     space = space;
   }
 
 module _ (c : Config) (last : ℕ) (words : List ℕ) (s : State) (held : ℕ → Grasp) (image : IsImage c last words s held) where
-  pub with_space : (held' : ℕ → Grasp) → IsSpace c words s.objects s.used held' → IsImage c last words s held'
-  with_space held' space = record { wide = image.wide; gate = image.gate; top = image.top; slot = image.slot; local = image.local; header = image.header; space = space }
+  pub with_space : (moving : Option Move) (held' : ℕ → Grasp) → AreHeld s.role moving held' → IsSpace c words s.objects s.used moving held' → IsImage c last words s held'
+  with_space moving held' hands space = record { wide = image.wide; gate = image.gate; top = image.top; slot = image.slot; local = image.local; header = image.header; moving = moving; hands = hands; space = space }
 
   -- who holds the same
   pub image_same : (held' : ℕ → Grasp) → ((u : ℕ) → held' u ≡ held u) → IsImage c last words s held'
-  image_same held' same = with_space held' (space_same c words s.objects s.used held image.space held' same)
+  image_same held' same = with_space image.moving held' (hands_same s.role image.moving held held' same image.hands) (space_same c words s.objects s.used image.moving held image.space held' same)
 
-  -- a thread holds nothing any more
-  pub image_let_go : (t : ℕ) → IsImage c last words s (hold held t empty)
-  image_let_go t = with_space (hold held t empty) (space_let_go c words s.objects s.used held image.space t)
+  -- a thread holds nothing any more, where no move of its own is unfinished
+  pub image_let_go : (t : ℕ) → MayHold image.moving (s.role t) empty → IsImage c last words s (hold held t empty)
+  image_let_go t may = with_space image.moving (hold held t empty) (hands_held s.role image.moving held t empty may image.hands) (space_let_go c words s.objects s.used image.moving held image.space t)

@@ -12,10 +12,12 @@ pub mod SlotTurns
 pub mod LostClaims
 pub mod Headers
 pub mod HeapSpaces
+pub mod MoveSpaces
 pub mod Counting
 pub mod HeapImages
 pub mod LocalTurns
 pub mod HeapTurns
+pub mod CollectTurns
 pub mod PlainTook
 pub mod PlainTurns
 pub mod PlainSlots

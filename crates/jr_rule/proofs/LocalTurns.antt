@@ -12,7 +12,8 @@ use Rattle.jr_model.specs.State.{State, IsPresent, AreWords, present_words}
 use Rattle.jr_model.specs.History.{History, state, IsLegal}
 use Rattle.jr_rule.specs.Acts.{putting}
 use Rattle.jr_rule.specs.declared.known.Grasp.{Grasp}
-use Rattle.jr_rule.specs.Image.{local_at, header_at, local_parts, IsImage, IsSpace}
+use Rattle.jr_rule.specs.declared.known.Move.{Move}
+use Rattle.jr_rule.specs.Image.{local_at, header_at, local_parts, AreHeld, IsImage, IsSpace}
 use Rattle.jr_rule.proofs.Headers.{header_none}
 use Rattle.jr_rule.proofs.Turns.{Turn, turn_one}
 use Rattle.jr_rule.proofs.Images.{local_set, header_set}
@@ -31,13 +32,13 @@ module _ (c : Config) (last : ℕ) (log : History) (t : ℕ) (words : List ℕ) 
       (local_set c last words (state log) held image o t p (Some o) row l refl)
 
   -- a header for an object that is not present, with elements that stand already
-  pub publishes : (o : ℕ) (parts : HeaderParts) (ws : List ℕ) (held' : ℕ → Grasp) → 1 ≤ o → o ≤ c.objects → IsHeader parts → parts.length ≡ length ws → AreWords (state log) parts.kind ws → present_words c (state log) + length ws ≤ (state log).used → get_or words (header_at c o) 0 ≡ 0
-      → IsSpace c (slice_set words (header_at c o) (header_word parts)) (update nat_eq (state log).objects o (Some (record { kind = parts.kind; words = ws }))) (state log).used held'
+  pub publishes : (o : ℕ) (parts : HeaderParts) (ws : List ℕ) (moving : Option Move) (held' : ℕ → Grasp) → AreHeld (state log).role moving held' → 1 ≤ o → o ≤ c.objects → IsHeader parts → parts.length ≡ length ws → AreWords (state log) parts.kind ws → present_words c (state log) + length ws ≤ (state log).used → get_or words (header_at c o) 0 ≡ 0
+      → IsSpace c (slice_set words (header_at c o) (header_word parts)) (update nat_eq (state log).objects o (Some (record { kind = parts.kind; words = ws }))) (state log).used moving held'
       → Turn c last log t (New o parts.kind ws ∷ []) (slice_set words (header_at c o) (header_word parts)) held'
-  publishes o parts ws held' low high fits long good room found space =
+  publishes o parts ws moving held' hands low high fits long good room found space =
       let s : State = state log in
       let none = header_none (s.objects o) (get_or words (header_at c o) 0) (image.header o low high) found in
       turn_one c last log t (slice_set words (header_at c o) (header_word parts)) held' legal (New o parts.kind ws)
       (row, (within, low, high, none, good, room))
-      (header_set c last words s held image (header_word parts) o (Some (record { kind = parts.kind; words = ws })) held' low high
+      (header_set c last words s held image (header_word parts) o (Some (record { kind = parts.kind; words = ws })) moving held' hands low high
       (record { parts = parts; fits = fits; word = refl; same_kind = refl; same_length = long }) space)

@@ -6,9 +6,9 @@ use Rattle.jr_model.specs.declared.event.Act.{Act}
 use Rattle.jr_model.specs.History.{History, state}
 use Rattle.jr_rule.specs.declared.known.Known.{Known}
 use Rattle.jr_rule.specs.declared.known.Grasp.{Grasp}
-use Rattle.jr_rule.specs.Grasping.{empty, hold}
+use Rattle.jr_rule.specs.Grasping.{hold}
 use Rattle.jr_rule.specs.Rule.{IsFound, known_at, Makes}
-use Rattle.jr_rule.proofs.Images.{image_same, image_let_go}
+use Rattle.jr_rule.proofs.Images.{image_same}
 use Rattle.jr_rule.proofs.Spaces.{hold_same}
 use Rattle.jr_rule.proofs.Turns.{then, Turn}
 
@@ -26,15 +26,6 @@ quiet k log words held f words' told acts t says = record {
   says = says;
 }
 
--- a turn after which the thread holds nothing
-pub letting_go : (k : Known) (log : History) (held : ℕ → Grasp) (words' : List ℕ) (told : List Act → Known → Type 0) (acts : List Act) → Turn k.config k.last log k.thread acts words' held → told acts (known_at k log acts empty) → Makes k log words' held told
-letting_go k log held words' told acts t says = record {
-  acts = acts;
-  grasp = empty;
-  legal = t.legal;
-  image = image_let_go k.config k.last words' (state (then log k.thread acts)) held t.image k.thread;
-  says = says;
-}
 
 -- the same where the number that was written is named otherwise
 pub written : (k : Known) (log : History) (words : List ℕ) (held : ℕ → Grasp) {acts : List Act} (i m n : ℕ) → n ≡ m → Turn k.config k.last log k.thread acts (slice_set words i m) held → Turn k.config k.last log k.thread acts (slice_set words i n) held

@@ -13,8 +13,8 @@ use Rattle.jr_rule.specs.declared.known.Known.{Known}
 use Rattle.jr_rule.specs.declared.known.Grasp.{Grasp}
 use Rattle.jr_rule.specs.Grasping.{empty, hold}
 use Rattle.jr_rule.specs.Knowing.{Standing, moved, Goes, Took, TookWith, MayKnow, anything, keeps, lets_go}
-use Rattle.jr_rule.proofs.Images.{image_same, image_let_go}
-use Rattle.jr_rule.proofs.Spaces.{hold_here, hold_else}
+use Rattle.jr_rule.proofs.Images.{image_same}
+use Rattle.jr_rule.proofs.Spaces.{hold_here, hold_else, hold_same}
 use mathlib.Core.Logic.{dite}
 use native.Mathlib.Decide.{ℕ_discrete}
 use Rattle.jr_rule.specs.Plain.{alone, standing, Shows}
@@ -68,6 +68,13 @@ turn_alone k acts words' g t first r = record {
   image = image_same k.config k.last words' (state (then k.seen k.thread acts)) (hold (alone k.grasp) t g) r.image (alone g) (alone_then k.grasp g t first);
 }
 
+-- who holds nothing holds nothing after it, too
+pub turn_nothing : (k : Known) (acts : List Act) (words' : List ℕ) → alone k.grasp k.thread ≡ empty → Turn k.config k.last k.seen k.thread acts words' (alone k.grasp) → Turn k.config k.last k.seen k.thread acts words' (hold (alone k.grasp) k.thread empty)
+turn_nothing k acts words' nothing r = record {
+  legal = r.legal;
+  image = image_same k.config k.last words' (state (then k.seen k.thread acts)) (alone k.grasp) r.image (hold (alone k.grasp) k.thread empty) (hold_same (alone k.grasp) k.thread empty nothing);
+}
+
 -- the acts are a turn at whatever the words show, and show this
 pub record Turned (old : Standing) (words : List ℕ) (new : Standing) (words' : List ℕ) (acts : List Act) (met : Known → Type 0) (shows : Known → Known → Type 0) : Type 0 where
   pub stands_is : new ≡ moved old acts
@@ -89,13 +96,8 @@ module _ {old new : Standing} {words words' : List ℕ} {acts : List Act} {met :
   }
 
   -- a turn after which it holds nothing
-  pub let_go : ((k : Known) → Shows old words k → met k → Turn k.config k.last k.seen k.thread acts words' (alone k.grasp)) → Turned old words new words' acts met lets_go
-  let_go turn = record {
-    stands_is = stands_is;
-    turn = λ k s m.
-        let t = turn k s m in
-        (empty, turn_alone k acts words' empty 0 refl (record { legal = t.legal; image = image_let_go k.config k.last words' (state (then k.seen k.thread acts)) (alone k.grasp) t.image 0 }), refl);
-  }
+  pub let_go : old.thread ≡ 0 → ((k : Known) → Shows old words k → met k → Turn k.config k.last k.seen k.thread acts words' (hold (alone k.grasp) k.thread empty)) → Turned old words new words' acts met lets_go
+  let_go first turn = gained first (λ k s m. (empty, turn k s m, refl))
 
 -- the same with the number that was written named otherwise
 pub writes : {old new : Standing} {words : List ℕ} {acts : List Act} {met : Known → Type 0} {shows : Known → Known → Type 0} (i m n : ℕ) → n ≡ m

@@ -1,5 +1,5 @@
 -- The steps over plain words, each at whatever the words show.
-use Rattle.std.proofs.Common.{◌≡◌, ◌≢◌, ◌⊎◌, ◌+◌, ◌^◌, ◌<◌, ◌≤◌, ℕ, if◌then◌else◌, Bool, true, false, not, Option, Some, IsSome, List, [], ◌∷◌, get_or, slice_set, refl, sym, ap, subst, ◌∙◌, arith}
+use Rattle.std.proofs.Common.{◌≡◌, ◌≢◌, ◌⊎◌, ⊎_elim, ◌+◌, ◌^◌, ◌<◌, ◌≤◌, ℕ, if◌then◌else◌, Bool, true, false, not, Option, Some, IsSome, List, [], ◌∷◌, get_or, slice_set, refl, sym, ap, subst, ◌∙◌, arith}
 use Rattle.std.proofs.Math.Logic.{∥∥₁_elim}
 use Rattle.std.proofs.Props.{props}
 use Rattle.jr_word.specs.declared.config.Config.{Config}
@@ -12,11 +12,16 @@ use Rattle.jr_model.specs.History.{state, role_after}
 use Rattle.jr_rule.specs.declared.known.Known.{Known}
 use Rattle.jr_rule.specs.declared.naming.GateNaming.{GateNaming}
 use Rattle.jr_rule.specs.Acts.{entered_as, leaving, all_counted, gate_named, GateNameFits}
-use Rattle.jr_rule.specs.Knowing.{Standing, MayKnow, anything, IsClosedNow, ShowsGate, keeps, lets_go}
+use Rattle.jr_rule.specs.declared.known.Grasp.{Grasp}
+use Rattle.jr_rule.specs.Grasping.{empty, hold}
+use Rattle.jr_rule.specs.Image.{MayHold}
+use Rattle.jr_rule.proofs.Images.{image_let_go}
+use Rattle.jr_rule.proofs.Spaces.{hold_here}
+use Rattle.jr_rule.specs.Knowing.{Standing, MayKnow, anything, CanReopen, ShowsBarred, ShowsGate, keeps, lets_go}
 use Rattle.jr_rule.specs.Plain.{alone, standing, Shows}
 use Rattle.jr_rule.proofs.GateTurns.{gate_fits, gate_most, goes_in, goes_out, counted, shut_counted, gate_read, gate_seen, shows_gate, nobody, bars, bars_lost, unbars}
-use Rattle.jr_rule.proofs.Turns.{Turn}
-use Rattle.jr_rule.proofs.PlainTook.{kept, kept_showing, let_go, known_then, stands_same, Turned, IsFew, shown_most}
+use Rattle.jr_rule.proofs.Turns.{then, Turn}
+use Rattle.jr_rule.proofs.PlainTook.{alone_here, turn_nothing, kept, kept_showing, gained, let_go, known_then, stands_same, Turned, IsFew, shown_most}
 use Rattle.jr_rule.proofs.Effects.{entered_fresh, left_role, left_fresh, gate_named_role, gate_named_fresh, gate_named_state}
 
 -- a gate that counts nobody has the word 0
@@ -61,15 +66,24 @@ module _ (config : Config) (last : ℕ) (few : IsFew config last) (role : Role) 
 
   pub left : (n : ℕ) → n + 1 ≡ get_or words 0 0 → (role ≡ Within) ⊎ (role ≡ Knocking)
       → Turned old words (standing config last Outside fresh) (slice_set words 0 n) (leaving role ∷ []) anything lets_go
-  left n is counts = let_go (stands_same config last (left_role role counts) (left_fresh role fresh)) (λ k s m. goes_out k.config k.last k.seen k.thread words s.pass.legal (alone k.grasp) s.image (row k s) role n is counts s.pass.role)
+  left n is counts = let_go (stands_same config last (left_role role counts) (left_fresh role fresh)) refl (λ k s m.
+      let may = ⊎_elim
+          (λ e. subst (λ r. MayHold s.image.moving r empty) (sym (s.pass.role ∙ e)) refl)
+          (λ e. subst (λ r. MayHold s.image.moving r empty) (sym (s.pass.role ∙ e)) refl)
+          counts in
+      let image = image_let_go k.config k.last words (state k.seen) (alone k.grasp) s.image k.thread may in
+      goes_out k.config k.last k.seen k.thread words s.pass.legal (hold (alone k.grasp) k.thread empty) image (row k s) role n (hold_here (alone k.grasp) k.thread empty) is counts s.pass.role)
 
   -- who collects has the gate shut
   pub shut_some : role ≡ Collecting → MayKnow (Shows old) words anything → 65536 ≤ get_or words 0 0
   shut_some collects may = shown_most 65536 (get_or words 0 0) may (λ k s m. shut_counted k.config k.last k.seen k.thread words s.pass.legal (alone k.grasp) s.image (row k s) (s.pass.role ∙ collects))
 
   pub barred : (p : GateParts) → get_or words 0 0 ≡ gate_word p → all_counted p ≡ 0 → role ≡ Outside
-      → Turned old words (standing config last Collecting fresh) (slice_set words 0 65536) (Shut ∷ []) anything keeps
-  barred p is none out = kept (refl) (λ k s m. bars k.config k.last k.seen k.thread words s.pass.legal (alone k.grasp) s.image (row k s) (is ∙ empty_word p none) (s.pass.role ∙ out))
+      → Turned old words (standing config last Collecting fresh) (slice_set words 0 65536) (Shut ∷ []) anything lets_go
+  barred p is none out = gained refl refl (λ k s m.
+      let t = bars k.config k.last k.seen k.thread words s.pass.legal (alone k.grasp) s.image (row k s) (is ∙ empty_word p none) (s.pass.role ∙ out) in
+      let nothing = subst (λ r. MayHold s.image.moving r (alone k.grasp k.thread)) (s.pass.role ∙ out) (s.image.hands.each k.thread) in
+      (empty, turn_nothing k (Shut ∷ []) (slice_set words 0 65536) nothing t, refl))
 
   pub bar_lost : (n : ℕ) (p : GateParts) → IsGate p → get_or words 0 0 ≡ gate_word p → n ≡ all_counted p → n ≢ 0 → role ≡ Outside
       → Turned old words old words (ShutBusy n ∷ []) anything keeps
@@ -80,8 +94,12 @@ module _ (config : Config) (last : ℕ) (few : IsFew config last) (role : Role) 
       subst (λ m. Turn k.config k.last k.seen k.thread (ShutBusy m ∷ []) words (alone k.grasp)) (ap all_counted read ∙ sym counts) t)
 
   pub unbarred : (n : ℕ) → n + 65536 ≡ get_or words 0 0 → role ≡ Collecting
-      → Turned old words (standing config last Outside fresh) (slice_set words 0 n) (Reopen ∷ []) IsClosedNow lets_go
-  unbarred n is collects = let_go (refl) (λ k s m. unbars k.config k.last k.seen k.thread words s.pass.legal (alone k.grasp) s.image (row k s) n is (s.pass.role ∙ collects) m)
+      → Turned old words (standing config last Outside fresh) (slice_set words 0 n) (Reopen ∷ []) CanReopen lets_go
+  unbarred n is collects = let_go (refl) refl (λ k s m.
+      let own = subst (λ r. MayHold s.image.moving r (alone k.grasp k.thread)) (s.pass.role ∙ collects) (s.image.hands.each k.thread) in
+      let still = sym own.0 ∙ (ap (λ (g : Grasp). g.moving) (alone_here k.grasp k.thread s.pass.thread) ∙ m.1) in
+      let image = image_let_go k.config k.last words (state k.seen) (alone k.grasp) s.image k.thread (subst (λ r. MayHold s.image.moving r empty) (sym (s.pass.role ∙ collects)) (sym still, refl)) in
+      unbars k.config k.last k.seen k.thread words s.pass.legal (hold (alone k.grasp) k.thread empty) image (row k s) n (hold_here (alone k.grasp) k.thread empty) is (s.pass.role ∙ collects) m.0)
 
   pub gate_saw : (name : GateNaming) (p : GateParts) → IsGate p → get_or words 0 0 ≡ gate_word p → GateNameFits role name
       → Turned old words old words (gate_named name (all_counted p) ∷ []) anything (λ j k. ShowsGate p k × keeps j k)

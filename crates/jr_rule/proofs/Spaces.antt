@@ -5,8 +5,9 @@ use native.Mathlib.Decide.{ℕ_discrete}
 use Rattle.jr_word.specs.declared.config.Config.{Config}
 use Rattle.jr_model.specs.State.{Contents}
 use Rattle.jr_rule.specs.declared.known.Grasp.{Grasp}
+use Rattle.jr_rule.specs.declared.known.Move.{Move}
 use Rattle.jr_rule.specs.Grasping.{empty, words_at, header_in, hold}
-use Rattle.jr_rule.specs.Image.{header_at, element_at, Owner, of_object, of_range, Stands, IsSpace}
+use Rattle.jr_rule.specs.Image.{header_at, element_at, Owner, of_object, of_range, Stands, spot, IsSpace}
 
 -- the words before the headers
 abbrev pub before_headers : Config → ℕ
@@ -20,16 +21,17 @@ module _ (c : Config) (words : List ℕ) (i n : ℕ) (low : i < before_headers c
   pub element_stays : (x : ℕ) → get_or (slice_set words i n) (element_at c x) 0 ≡ get_or words (element_at c x) 0
   element_stays x = get_or-set_other words i (element_at c x) n 0 (λ e. absurd (omega arith))
 
-  stands_low : (owner : ℕ → Owner) (whose : ℕ → Owner) (place : ℕ) (items : List ℕ) → Stands c owner words whose place items → Stands c owner (slice_set words i n) whose place items
-  stands_low owner whose place items s = record { owns = s.owns; reads = λ j l. element_stays (place + j) ∙ s.reads j l }
+  stands_low : (owner : ℕ → Owner) (whose : ℕ → Owner) (at : ℕ → ℕ) (items : List ℕ) → Stands c owner words whose at items → Stands c owner (slice_set words i n) whose at items
+  stands_low owner whose at items s = record { owns = s.owns; reads = λ j l. element_stays (at j) ∙ s.reads j l }
 
   -- so the space stays
-  pub space_low : (objects : ℕ → Option Contents) (used : ℕ) (held : ℕ → Grasp) → IsSpace c words objects used held → IsSpace c (slice_set words i n) objects used held
-  space_low objects used held s = record {
+  pub space_low : (objects : ℕ → Option Contents) (used : ℕ) (moving : Option Move) (held : ℕ → Grasp) → IsSpace c words objects used moving held → IsSpace c (slice_set words i n) objects used moving held
+  space_low objects used moving held s = record {
     owner = s.owner;
-    above = s.above;
-    object = λ o x h some few is fits word. stands_low s.owner (of_object o) h.place x.words (s.object o x h some few is fits (sym (header_stays o some) ∙ word));
-    range = λ t p. stands_low s.owner (of_range t p) p _ (s.range t p);
+    inside = s.inside;
+    object = λ o x h some few is fits word. stands_low s.owner (of_object o) (spot moving o h.place) x.words (s.object o x h some few is fits (sym (header_stays o some) ∙ word));
+    low = λ o x h some few is fits word. s.low o x h some few is fits (sym (header_stays o some) ∙ word);
+    range = λ t p. stands_low s.owner (of_range t p) (λ j. p + j) _ (s.range t p);
     header = λ t o h e. let k = s.header t o h e in record { number = k.number; fits = k.fits; word = header_stays o k.number.0 ∙ k.word };
   }
 
@@ -45,26 +47,28 @@ hold_same held t g is u = dite (ℕ_discrete u t)
     (λ e. ap (hold held t g) e ∙ (hold_here held t g ∙ (sym is ∙ ap held (sym e))))
     (λ ne. hold_else held t u g ne)
 
-module _ (c : Config) (words : List ℕ) (objects : ℕ → Option Contents) (used : ℕ) (held : ℕ → Grasp) (s : IsSpace c words objects used held) where
+module _ (c : Config) (words : List ℕ) (objects : ℕ → Option Contents) (used : ℕ) (moving : Option Move) (held : ℕ → Grasp) (s : IsSpace c words objects used moving held) where
   -- who holds the same
-  pub space_same : (held' : ℕ → Grasp) → ((u : ℕ) → held' u ≡ held u) → IsSpace c words objects used held'
+  pub space_same : (held' : ℕ → Grasp) → ((u : ℕ) → held' u ≡ held u) → IsSpace c words objects used moving held'
   space_same held' same = record {
     owner = s.owner;
-    above = s.above;
+    inside = s.inside;
     object = s.object;
-    range = λ t p. subst (λ (g : Grasp). Stands c s.owner words (of_range t p) p (words_at p g.ranges)) (sym (same t)) (s.range t p);
+    low = s.low;
+    range = λ t p. subst (λ (g : Grasp). Stands c s.owner words (of_range t p) (λ j. p + j) (words_at p g.ranges)) (sym (same t)) (s.range t p);
     header = λ t o h e. s.header t o h (ap (λ (g : Grasp). header_in o g.headers) (sym (same t)) ∙ e);
   }
 
   -- a thread holds nothing any more
-  pub space_let_go : (t : ℕ) → IsSpace c words objects used (hold held t empty)
+  pub space_let_go : (t : ℕ) → IsSpace c words objects used moving (hold held t empty)
   space_let_go t = record {
     owner = s.owner;
-    above = s.above;
+    inside = s.inside;
     object = s.object;
+    low = s.low;
     range = λ u p. dite (ℕ_discrete u t)
-        (λ e. subst (λ (g : Grasp). Stands c s.owner words (of_range u p) p (words_at p g.ranges)) (sym (ap (hold held t empty) e ∙ hold_here held t empty)) (record { owns = λ j l. absurd (omega arith); reads = λ j l. absurd (omega arith) }))
-        (λ ne. subst (λ (g : Grasp). Stands c s.owner words (of_range u p) p (words_at p g.ranges)) (sym (hold_else held t u empty ne)) (s.range u p));
+        (λ e. subst (λ (g : Grasp). Stands c s.owner words (of_range u p) (λ j. p + j) (words_at p g.ranges)) (sym (ap (hold held t empty) e ∙ hold_here held t empty)) (record { owns = λ j l. absurd (omega arith); reads = λ j l. absurd (omega arith) }))
+        (λ ne. subst (λ (g : Grasp). Stands c s.owner words (of_range u p) (λ j. p + j) (words_at p g.ranges)) (sym (hold_else held t u empty ne)) (s.range u p));
     header = λ u o h e. dite (ℕ_discrete u t)
         (λ q. absurd (let z = ap (λ (g : Grasp). header_in o g.headers) (sym (ap (hold held t empty) q ∙ hold_here held t empty)) ∙ e in cc))
         (λ ne. s.header u o h (ap (λ (g : Grasp). header_in o g.headers) (sym (hold_else held t u empty ne)) ∙ e));

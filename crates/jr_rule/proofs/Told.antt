@@ -33,7 +33,7 @@ Left k n acts k' = (acts ≡ leaving (role_of (view k)) ∷ []) × lets_go k k'
 
 -- a gate that was found empty is shut
 abbrev pub Barred : Told
-Barred k n acts k' = (n ≡ 0 → acts ≡ Shut ∷ []) × (n ≢ 0 → (p : GateParts) × IsGate p × (n ≡ gate_word p) × (acts ≡ ShutBusy (all_counted p) ∷ [])) × keeps k k'
+Barred k n acts k' = (n ≡ 0 → (acts ≡ Shut ∷ []) × lets_go k k') × (n ≢ 0 → (p : GateParts) × IsGate p × (n ≡ gate_word p) × (acts ≡ ShutBusy (all_counted p) ∷ []) × keeps k k')
 
 abbrev pub Reopened : Told
 Reopened k n acts k' = (acts ≡ Reopen ∷ []) × lets_go k k'

@@ -1,5 +1,5 @@
 -- A row of zeros is the image of the opening.
-use Rattle.std.proofs.Common.{◌≡◌, ◌+◌, ℕ, zero, suc, true, false, List, length, replicate, get_or, refl, sym, ap, ◌∙◌, arith}
+use Rattle.std.proofs.Common.{◌≡◌, ◌+◌, ℕ, zero, suc, true, false, None, List, length, replicate, get_or, refl, sym, ap, ◌∙◌, arith}
 use Rattle.std.proofs.lemmas.List.{length-replicate}
 use Rattle.jr_word.specs.declared.config.Config.{Config}
 use Rattle.jr_word.specs.declared.slot.SlotParts.TheVariants as slot
@@ -45,10 +45,13 @@ module _ (config : Config) (last : ℕ) (words : List ℕ) (none : (j : ℕ) →
     };
     local = λ t p l m. none (local_at config t p);
     header = λ o l m. none _;
+    moving = None;
+    hands = record { each = λ t. refl; still = λ nobody. refl };
     space = record {
       owner = λ x. unowned;
-      above = λ x l. refl;
+      inside = λ x some. absurd (some refl);
       object = λ o x h a b e. absurd (let z = e in cc);
+      low = λ o x h a b e. absurd (let z = e in cc);
       range = λ t p. record { owns = λ j l. absurd (omega arith); reads = λ j l. absurd (omega arith) };
       header = λ t o h e. absurd (let z = e in cc);
     };

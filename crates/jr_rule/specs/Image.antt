@@ -1,5 +1,5 @@
 -- The words of the row as the image of the machine's state: what each word says, word by word.
-use Rattle.std.specs.Prelude.{◌≡◌, ◌≢◌, ◌↔◌, ◌+◌, ◌-◌, ◌*◌, ◌<◌, ◌≤◌, ℕ, Bool, true, false, IsTrue, Option, Some, None, List, length, slice_index}
+use Rattle.std.specs.Prelude.{◌≡◌, ◌≢◌, ◌↔◌, ◌+◌, ◌-◌, ◌*◌, ◌<◌, ◌≤◌, ◌==◌, ◌&&◌, nat_lt, cond, ℕ, Bool, true, false, IsTrue, Option, Some, None, List, [], length, slice_index}
 use Rattle.jr_word.specs.declared.config.Config.{Config}
 use Rattle.jr_word.specs.declared.gate.GateParts.{GateParts}
 use Rattle.jr_word.specs.declared.handle.RefKind.TheVariants.{Global, Weak}
@@ -22,8 +22,9 @@ use Rattle.jr_model.specs.declared.event.Found.TheVariants.{Object, Stale}
 use Rattle.jr_model.specs.Maps.{count_below}
 use Rattle.jr_model.specs.State.{Handle, Contents, State}
 use Rattle.jr_rule.specs.declared.known.Grasp.{Grasp}
+use Rattle.jr_rule.specs.declared.known.Move.{Move}
 use Rattle.jr_rule.specs.Acts.{found_object, handle_of}
-use Rattle.jr_rule.specs.Grasping.{words_at, header_in}
+use Rattle.jr_rule.specs.Grasping.{empty, words_at, header_in}
 
 -- THE ROW: word 0 the gate, word 1 the top, then the slots, the local words thread by thread, the headers of objects 1 upward, and the element words
 abbrev pub gate_at : ℕ
@@ -124,18 +125,39 @@ pub data Owner : Type 0 where
   of_object : ℕ → ℕ → Owner
   of_range : ℕ → ℕ → ℕ → Owner
 
--- a list stands from a place on, each of its words owned by its element
-pub record Stands (c : Config) (owner : ℕ → Owner) (words : List ℕ) (whose : ℕ → Owner) (place : ℕ) (items : List ℕ) : Type 0 where
-  pub owns : (j : ℕ) → j < length items → owner (place + j) ≡ whose j
-  pub reads : (j : ℕ) → j < length items → slice_index words (element_at c (place + j)) ≡ slice_index items j
+-- a list stands where `at` says for each of its words, which is owned by its element
+pub record Stands (c : Config) (owner : ℕ → Owner) (words : List ℕ) (whose : ℕ → Owner) (at : ℕ → ℕ) (items : List ℕ) : Type 0 where
+  pub owns : (j : ℕ) → j < length items → owner (at j) ≡ whose j
+  pub reads : (j : ℕ) → j < length items → slice_index words (element_at c (at j)) ≡ slice_index items j
 
--- THE SPACE: nothing stands above the top; each present object's list stands at the place that its header says, and each range that a thread holds at its own; and what a thread knows of a header is so
-pub record IsSpace (c : Config) (words : List ℕ) (objects : ℕ → Option Contents) (used : ℕ) (held : ℕ → Grasp) : Type 0 where
+-- where element j of an object stands whose header says the place p: those that an unfinished move has done stand at its new place
+abbrev pub spot : Option Move → ℕ → ℕ → ℕ → ℕ
+spot None o p j = p + j
+spot (Some m) o p j = cond ((m.object == o) && nat_lt j m.done) (m.place + j) (p + j)
+
+-- the place lies in the space: below the top
+abbrev pub IsIn : ℕ → ℕ → Type 0
+IsIn used x = x < used
+
+-- THE SPACE: what is owned lies below the top; each present object's list stands at the place that its header says, but for what was moved, and each range that a thread holds at its own; and what a thread knows of a header is so
+pub record IsSpace (c : Config) (words : List ℕ) (objects : ℕ → Option Contents) (used : ℕ) (moving : Option Move) (held : ℕ → Grasp) : Type 0 where
   pub owner : ℕ → Owner
-  pub above : (x : ℕ) → used ≤ x → owner x ≡ unowned
-  pub object : (o : ℕ) (x : Contents) (h : HeaderParts) → 1 ≤ o → o ≤ c.objects → objects o ≡ Some x → IsHeader h → slice_index words (header_at c o) ≡ header_word h → Stands c owner words (of_object o) h.place x.words
-  pub range : (t p : ℕ) → Stands c owner words (of_range t p) p (words_at p (held t).ranges)
+  pub inside : (x : ℕ) → owner x ≢ unowned → IsIn used x
+  pub object : (o : ℕ) (x : Contents) (h : HeaderParts) → 1 ≤ o → o ≤ c.objects → objects o ≡ Some x → IsHeader h → slice_index words (header_at c o) ≡ header_word h → Stands c owner words (of_object o) (spot moving o h.place) x.words
+  pub low : (o : ℕ) (x : Contents) (h : HeaderParts) → 1 ≤ o → o ≤ c.objects → objects o ≡ Some x → IsHeader h → slice_index words (header_at c o) ≡ header_word h → (j : ℕ) → j < length x.words → IsIn used (h.place + j)
+  pub range : (t p : ℕ) → Stands c owner words (of_range t p) (λ j. p + j) (words_at p (held t).ranges)
   pub header : (t o : ℕ) (h : HeaderParts) → header_in o (held t).headers ≡ Some h → IsKnown c words o h
+
+-- WHAT A THREAD MAY HOLD in its role: ranges and headers within, headers and the unfinished move while it collects, and nothing else
+abbrev pub MayHold : Option Move → Role → Grasp → Type 0
+MayHold moving Within g = g.moving ≡ None
+MayHold moving Collecting g = (g.moving ≡ moving) × (g.ranges ≡ [])
+MayHold moving _ g = g ≡ empty
+
+-- each thread holds what it may, and a move is unfinished only while one collects
+pub record AreHeld (role : ℕ → Role) (moving : Option Move) (held : ℕ → Grasp) : Type 0 where
+  pub each : (t : ℕ) → MayHold moving (role t) (held t)
+  pub still : ((t : ℕ) → role t ≢ Collecting) → moving ≡ None
 
 -- THE IMAGE: each word says what the state has, and what each thread holds
 pub record IsImage (c : Config) (last : ℕ) (words : List ℕ) (s : State) (held : ℕ → Grasp) : Type 0 where
@@ -145,4 +167,6 @@ pub record IsImage (c : Config) (last : ℕ) (words : List ℕ) (s : State) (hel
   pub slot : (i : ℕ) → i < c.slots → IsSlotOf last s.refs s.given i (slice_index words (slot_at i))
   pub local : (t p : ℕ) → t < c.threads → p < c.locals → IsLocalOf (s.locals t p) (slice_index words (local_at c t p))
   pub header : (o : ℕ) → 1 ≤ o → o ≤ c.objects → IsHeaderOf (s.objects o) (slice_index words (header_at c o))
-  pub space : IsSpace c words s.objects s.used held
+  pub moving : Option Move
+  pub hands : AreHeld s.role moving held
+  pub space : IsSpace c words s.objects s.used moving held

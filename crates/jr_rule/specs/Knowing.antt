@@ -185,6 +185,19 @@ ShowsPublished o h false k k' = HasObject o k' × keeps k k'
 abbrev pub IsClosedNow : Known → Type 0
 IsClosedNow k = IsClosed (state_of k)
 
+-- no move is unfinished
+abbrev pub IsSettled : Known → Type 0
+IsSettled k = k.grasp.moving ≡ None
+
+-- the gate may be opened after a collection
+abbrev pub CanReopen : Known → Type 0
+CanReopen k = IsClosedNow k × IsSettled k
+
+-- what an exchange of the gate shows: a collection begins with nothing held
+abbrev pub ShowsBarred : Result (Unit {0}) ℕ → Known → Known → Type 0
+ShowsBarred (Ok _) k k' = lets_go k k'
+ShowsBarred (Err n) k k' = keeps k k'
+
 -- a lost claim: the index was occupied in between, and the word that was found stands there
 abbrev pub LostClaim : ℕ → Result (Unit {0}) SlotParts → Known → Known → Type 0
 LostClaim i (Ok _) k k' = Unit {0}

@@ -2,6 +2,7 @@ pub mod Acts
 pub mod Grasping
 pub mod Image
 pub mod Knowing
+pub mod Collecting
 pub mod Slots
 pub mod Shown
 pub mod Plain

@@ -4,7 +4,7 @@ ghost use Rattle.jr_model.specs.declared.event.Role.TheVariants.{Outside, Within
 ghost use Rattle.jr_model.specs.declared.event.Act.TheVariants.{Reopen, Meet};
 ghost use Rattle.jr_model.specs.History.{HasMet};
 ghost use Rattle.jr_rule.specs.Acts.{entered_as, leaving, barring, gate_named, GateNameFits, all_counted as all_of};
-ghost use Rattle.jr_rule.specs.Knowing.{view, anything, Goes, IsClosedNow, ShowsGate, MayKnow, Took, keeps, lets_go};
+ghost use Rattle.jr_rule.specs.Knowing.{view, anything, Goes, CanReopen, ShowsBarred, ShowsGate, MayKnow, Took, keeps, lets_go};
 
 use crate::naming::GateNaming;
 use crate::parts::{GATE, all_counted, is_shut, role_of_entry};
@@ -44,7 +44,7 @@ impl Row {
         requires row { IsAt self.now pass.old }
         requires role { pass.old.role ≡ Outside }
         ensures row { IsAt self.now pass.new }
-        ensures step { Took standing_of Knows pass.old pass.new (barring result ∷ []) anything keeps }
+        ensures step { Took standing_of Knows pass.old pass.new (barring result ∷ []) anything (ShowsBarred result) }
     {
         let found = self.exchange::<Brand, ()>(&mut pass.seat, GATE, 0, GateWord::SHUT, ());
         if found != 0 {
@@ -57,9 +57,9 @@ impl Row {
     pub(crate) fn unbar(&self, pass: &mut Pass)
         requires row { IsAt self.now pass.old }
         requires role { pass.old.role ≡ Collecting }
-        requires closed { MayKnow Knows pass.old IsClosedNow }
+        requires closed { MayKnow Knows pass.old CanReopen }
         ensures row { IsAt self.now pass.new }
-        ensures step { Took standing_of Knows pass.old pass.new (Reopen ∷ []) IsClosedNow lets_go }
+        ensures step { Took standing_of Knows pass.old pass.new (Reopen ∷ []) CanReopen lets_go }
     {
         self.take::<Brand, ()>(&mut pass.seat, GATE, GateWord::SHUT, ());
         pass.role = Role::Outside;

@@ -9,16 +9,24 @@ pub struct OwnRange {
     pub words: LinkedList<u64>,
 }
 
-/// A header that a pass knows.
+/// A header that a pass knows, or knows no more.
 pub struct KnownHeader {
     pub object: u16,
-    pub header: HeaderParts,
+    pub header: Option<HeaderParts>,
 }
 
-/// What a pass holds in its stay, beside what it has seen: the newest first, so that it hides an older one of its place or object.
+/// A move that is not finished: so many elements of the object, from the first on, stand from the new place on.
+pub struct Move {
+    pub object: u16,
+    pub place: u32,
+    pub done: u32,
+}
+
+/// What a pass holds in its stay or its collection, beside what it has seen: the newest first, so that it hides an older one of its place or object; and the move that it has not finished.
 pub struct Grasp {
     pub ranges: LinkedList<OwnRange>,
     pub headers: LinkedList<KnownHeader>,
+    pub moving: Option<Move>,
 }
 
 /// What one pass knows: its room and thread, the history that it has seen, in which all its own events stand, and what it holds.

@@ -7,7 +7,7 @@ ghost use Rattle.jr_word.specs.Header.{IsHeader};
 ghost use Rattle.jr_model.specs.declared.event.Act.TheVariants.{Reopen, Read, Write};
 ghost use Rattle.jr_model.specs.declared.event.Role.TheVariants.{Outside, Within, Knocking, Collecting};
 ghost use Rattle.jr_rule.specs.Acts.{entered_as, leaving, barring, gate_named, GateNameFits, all_counted, slot_named, SlotNameFits, claiming, freeing, putting, publishing, top_named, reserving, found_object};
-ghost use Rattle.jr_rule.specs.Knowing.{anything, KnowsHeader, HasWord, IsWordNow, IsFilled, words_for, ShowsHeader, ShowsPublished, ShowsUsed, ShowsRange, ShowsWord, TookWith, HasObject, HasOptional, HasLooked, HasNoLocals, IsClosedNow, IsFreeSlot, ShowsGate, ShowsSlot, LostClaim, MayKnow, Took, Spent, keeps, lets_go};
+ghost use Rattle.jr_rule.specs.Knowing.{anything, KnowsHeader, HasWord, IsWordNow, IsFilled, words_for, ShowsHeader, ShowsPublished, ShowsUsed, ShowsRange, ShowsWord, TookWith, HasObject, HasOptional, HasLooked, HasNoLocals, CanReopen, ShowsBarred, IsFreeSlot, ShowsGate, ShowsSlot, LostClaim, MayKnow, Took, Spent, keeps, lets_go};
 
 use crate::naming::{GateNaming, SlotNaming, TopNaming};
 use jr_model::Role;
@@ -61,13 +61,13 @@ pub trait Steps {
     /// Shuts the gate for a collection where no thread is inside, knocking or collecting. Else how many are.
     fn bar(&mut self) -> Result<(), u32>
         requires { (stands self.old).role ≡ Outside }
-        ensures { Took stands knows self.old self.new (barring result ∷ []) anything keeps };
+        ensures { Took stands knows self.old self.new (barring result ∷ []) anything (ShowsBarred result) };
 
-    /// Opens the gate after a collection.
+    /// Opens the gate after a collection. No move may be unfinished.
     fn unbar(&mut self)
         requires role { (stands self.old).role ≡ Collecting }
-        requires closed { MayKnow knows self.old IsClosedNow }
-        ensures { Took stands knows self.old self.new (Reopen ∷ []) IsClosedNow lets_go };
+        requires closed { MayKnow knows self.old CanReopen }
+        ensures { Took stands knows self.old self.new (Reopen ∷ []) CanReopen lets_go };
 
     /// Loads the gate, which counts as what it is named.
     fn see_gate(&mut self, name: GateNaming) -> GateParts

@@ -1,7 +1,8 @@
 use Rattle.std.proofs.Common.{◌≡◌, ◌∷◌, [], ap, subst, arith, rules}
 use Rattle.jr_model.specs.declared.event.Act.TheVariants.{Shut}
+use Rattle.jr_rule.specs.declared.known.Grasp.{Grasp}
 use Rattle.jr_rule.specs.Acts.{barring}
-use Rattle.jr_rule.specs.Knowing.{Goes}
+use Rattle.jr_rule.specs.Knowing.{Goes, ShowsBarred}
 use Rattle.jr_rule.proofs.Goes.{shut_closed, may_then}
 use Rattle.jr_rule.proofs.plain.tests.shuts_and_opens_the_gate.Goals as goal
 
@@ -11,6 +12,6 @@ unbar-requires g c =
       omega arith,
       (
         search rules,
-        may_then c.bar.ensures (λ k s m. tt) c.see_gate.new.self.shown (λ k k' s m d shown. shut_closed (subst (λ a. Goes k (a ∷ []) k') shuts d)),
+        may_then c.bar.ensures (λ k s m. tt) c.see_gate.new.self.shown (λ k k' s m d shown. (shut_closed (subst (λ a. Goes k (a ∷ []) k') shuts d), ap (λ (z : Grasp). z.moving) (subst (λ r. ShowsBarred r k k') c.in-Ok.is shown))),
       ),
     )

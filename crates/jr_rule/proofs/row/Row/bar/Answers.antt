@@ -26,16 +26,16 @@ returns-then-found-ne0-clause-step c =
     let t = c.exchange-found.ensures.1 in
     let s = (t.says).1 c.if-found-ne0.true in
     let read = gate_is c.parts.result s.0 c.unwrap.result (c.parts.ensures.complete s.0 s.1 s.2) c.unwrap.ensures in
-    took p _ c.exchange-found.result t _ c.exchange-found.ensures.0 (s.3 ∙ ap (λ n. ShutBusy n ∷ []) (ap all_counted (sym read) ∙ sym c.all_counted.ensures)) refl refl refl (λ m. (t.says).2)
+    took p _ c.exchange-found.result t _ c.exchange-found.ensures.0 (s.3 ∙ ap (λ n. ShutBusy n ∷ []) (ap all_counted (sym read) ∙ sym c.all_counted.ensures)) refl refl refl (λ m. s.4)
 
 pub invariant_of-pass-2 : goal.invariant_of-pass-2
 invariant_of-pass-2 c =
     let p = c.args.pass.now in
     let t = c.exchange-found.ensures.1 in
-    record { held = held_next p.seat.me c.exchange-found.result _ t p.thread p.role p.fresh p.held _ _ _ ((t.says).0 c.if-found-ne0.false) refl refl }
+    record { held = held_next p.seat.me c.exchange-found.result _ t p.thread p.role p.fresh p.held _ _ _ ((t.says).0 c.if-found-ne0.false).0 refl refl }
 
 pub returns-clause-step : goal.returns-clause-step
 returns-clause-step c =
     let p = c.args.pass.now in
     let t = c.exchange-found.ensures.1 in
-    took p _ c.exchange-found.result t _ c.exchange-found.ensures.0 ((t.says).0 c.if-found-ne0.false) refl refl refl (λ m. (t.says).2)
+    took p _ c.exchange-found.result t _ c.exchange-found.ensures.0 ((t.says).0 c.if-found-ne0.false).0 refl refl refl (λ m. ((t.says).0 c.if-found-ne0.false).1)

@@ -1,12 +1,15 @@
 use Rattle.std.proofs.Common.{refl, subst, ◌∙◌}
 use mathlib.Core.Logic.{∥∥₁_map}
 use Rattle.jr_rule.specs.Knowing.{IsClosedNow}
+use Rattle.jr_rule.proofs.Allowed.{settled_known}
 use Rattle.jr_rule.proofs.GateOwed.{reopens}
 use Rattle.jr_rule.proofs.Stepped.{held_next, took}
 use Rattle.jr_rule.proofs.row.Row.unbar.Goals as goal
 
 pub take-requires-clause-owes : goal.take-requires-clause-owes
-take-requires-clause-owes c = reopens _ (c.args.pass.now.held.role_is ∙ c.requires.role) (∥∥₁_map c.requires.closed (λ k. subst IsClosedNow (k.1).is k.2))
+take-requires-clause-owes c =
+    let p = c.args.pass.now in
+    reopens _ (p.held.role_is ∙ c.requires.role) (settled_known p c.requires.closed) (∥∥₁_map c.requires.closed (λ k. subst IsClosedNow (k.1).is (k.2).0))
 
 pub invariant_of-pass : goal.invariant_of-pass
 invariant_of-pass c =
