@@ -1,14 +1,19 @@
 -- What a pass has to know for a step, without a choice.
-use Rattle.std.proofs.Common.{◌≡◌, ◌<◌, ◌≤◌, ◌^◌, ℕ, Option, Some, ap, subst, arith}
+use Rattle.std.proofs.Common.{◌≡◌, ◌+◌, ◌<◌, ◌≤◌, ◌^◌, ℕ, Option, Some, ap, subst, arith}
 use Rattle.std.proofs.Math.Logic.{∥∥₁_elim}
 use Rattle.std.proofs.Props.{props}
 use mathlib.Core.Logic.{∥∥₁_map}
 use Rattle.jr_word.specs.declared.header.HeaderParts.{HeaderParts}
 use Rattle.jr_word.specs.declared.kind.Kind.{Kind}
+use Rattle.jr_word.specs.declared.handle.RefKind.TheVariants.{Weak}
 use Rattle.jr_model.specs.State.{Handle}
+use Rattle.jr_model.proofs.Lengths.{lengths_fit}
+use Rattle.jr_model.proofs.Presence.{named_is_present}
+use Rattle.jr_rule.specs.Collecting.{IsThere, CanWipe, CanDrop, CanMove, CanPlace}
+use Rattle.jr_rule.proofs.CollectOwed.{done_is, element_is, free_is}
 use Rattle.jr_rule.specs.declared.known.Known.{Known}
 use Rattle.jr_rule.specs.declared.pass.Pass.{Pass}
-use Rattle.jr_rule.specs.Acts.{found_object}
+use Rattle.jr_rule.specs.Acts.{found_object, handle_of}
 use Rattle.jr_rule.specs.Knowing.{MayKnow, HasObject, HasOptional, HasLooked, IsFreeSlot, KnowsHeader, HasWord, IsWordNow, IsSettled}
 use Rattle.jr_rule.specs.Passes.{known_of, Knows}
 use Rattle.jr_rule.specs.Slots.{CanStand}
@@ -45,6 +50,58 @@ module _ (p : Pass) where
       let same = ap (λ (z : Known). z.config.objects) (k.1).is in
       let low = r.0 in
       let high = r.1 in (omega arith, omega arith))
+
+  -- what a collector has to know
+  pub there_known : (o : ℕ) (h : HeaderParts) (i : ℕ) → MayKnow Knows p (IsThere o h i) → IsThere o h i (known_of p)
+  there_known o h i may = (
+    ∥∥₁_elim may (hlevel props) (λ k. subst (KnowsHeader o h) (k.1).is (k.2).0),
+    ∥∥₁_elim may (hlevel props) (λ k. (k.2).1),
+    ∥∥₁_elim may (hlevel props) (λ k. subst IsSettled (k.1).is (k.2).2),
+  )
+
+  pub wipe_known : (i serial o : ℕ) → MayKnow Knows p (CanWipe i serial o) → CanWipe i serial o (known_of p)
+  wipe_known i serial o may = (
+    ∥∥₁_elim may (hlevel props) (λ k. (subst (CanWipe i serial o) (k.1).is k.2).0),
+    λ r. ∥∥₁_elim may (hlevel props) (λ k. (subst (CanWipe i serial o) (k.1).is k.2).1 r),
+  )
+
+  pub wipe_some : (i serial o : ℕ) → MayKnow Knows p (CanWipe i serial o) → 0 < o
+  wipe_some i serial o may = ∥∥₁_elim may (hlevel props) (λ k.
+      let present = (named_is_present k.0.config k.0.last k.0.seen (k.1).pass.legal).0 (handle_of Weak serial i) o (k.2).0 in
+      let low = ((in_room k.0.config k.0.last k.0.seen (k.1).pass.legal).objects o present).0 in omega arith)
+
+  pub drop_known : (o : ℕ) → MayKnow Knows p (CanDrop o) → CanDrop o (known_of p)
+  drop_known o may = record {
+    present = ∥∥₁_elim may (hlevel props) (λ k. (subst (CanDrop o) (k.1).is k.2).present);
+    unreached = λ r. ∥∥₁_elim may (hlevel props) (λ k. (subst (CanDrop o) (k.1).is k.2).unreached r);
+    unnamed = λ h weak e. ∥∥₁_elim may (hlevel props) (λ k. (subst (CanDrop o) (k.1).is k.2).unnamed h weak e);
+    settled = ∥∥₁_elim may (hlevel props) (λ k. (subst (CanDrop o) (k.1).is k.2).settled);
+  }
+
+  pub move_known : (o : ℕ) (h : HeaderParts) (place i v : ℕ) → MayKnow Knows p (CanMove o h place i v) → CanMove o h place i v (known_of p)
+  move_known o h place i v may =
+      let can : ∥ CanMove o h place i v (known_of p) ∥₁ = of_pass may in record {
+        known = ∥∥₁_elim can (hlevel props) (λ q. q.known);
+        done = done_is (known_of p).grasp.moving o place i (∥∥₁_map can (λ q. q.done));
+        element = element_is o i v (known_of p) (∥∥₁_map can (λ q. q.element));
+        room = ∥∥₁_elim can (hlevel props) (λ q. q.room);
+        later = λ j l m e. ∥∥₁_elim can (hlevel props) (λ q. q.later j l m e);
+        free = free_is o (place + i) (known_of p) (∥∥₁_map can (λ q. q.free));
+      }
+
+  -- where it is moved to lies in the array space
+  pub move_few : (o : ℕ) (h : HeaderParts) (place i v : ℕ) → MayKnow Knows p (CanMove o h place i v) → place + i < (known_of p).config.words
+  move_few o h place i v may = ∥∥₁_elim may (hlevel props) (λ k.
+      let below = (k.2).room in
+      let most = (lengths_fit k.0.config k.0.last k.0.seen (k.1).pass.legal).1 in
+      subst (λ (z : Known). place + i < z.config.words) (k.1).is (omega arith))
+
+  pub place_known : (o : ℕ) (h : HeaderParts) (place : ℕ) → MayKnow Knows p (CanPlace o h place) → CanPlace o h place (known_of p)
+  place_known o h place may =
+      let can : ∥ CanPlace o h place (known_of p) ∥₁ = of_pass may in record {
+        known = ∥∥₁_elim can (hlevel props) (λ q. q.known);
+        done = done_is (known_of p).grasp.moving o place h.length (∥∥₁_map can (λ q. q.done));
+      }
 
   -- no move is unfinished
   pub settled_known : {T : Known → Type 0} → MayKnow Knows p (λ k. T k × IsSettled k) → IsSettled (known_of p)

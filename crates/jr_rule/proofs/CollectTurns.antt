@@ -13,7 +13,7 @@ use Rattle.jr_word.specs.Slot.{slot_word}
 use Rattle.jr_model.specs.declared.event.Role.{Role}
 use Rattle.jr_model.specs.declared.event.Role.TheVariants.{Outside, Within, Knocking, Collecting}
 use Rattle.jr_model.specs.declared.event.Found.{Found}
-use Rattle.jr_model.specs.declared.event.Found.TheVariants.{Object, Cleared}
+use Rattle.jr_model.specs.declared.event.Found.TheVariants.{Object, Cleared, Stale}
 use Rattle.jr_model.specs.declared.event.Act.TheVariants.{Clear, Drop, Settle}
 use Rattle.jr_model.specs.Maps.{update}
 use Rattle.jr_model.specs.State.{Handle, same_handle, Contents, State, IsPresent, IsReached, present_words}
@@ -32,6 +32,7 @@ use Rattle.jr_rule.proofs.HeapImages.{there}
 use Rattle.jr_rule.proofs.Images.{top_set, header_set, element_set, slot_set, with_space}
 use Rattle.jr_rule.proofs.HeapSpaces.{space_known}
 use Rattle.jr_rule.proofs.MoveSpaces.{space_moved, space_set, space_dropped, space_settled}
+use Rattle.jr_rule.proofs.Slots.{reference_is, stands_in, one_reference}
 use Rattle.jr_rule.proofs.Spaces.{hold_here, hold_else, header_stays}
 use Rattle.jr_rule.proofs.Turns.{Turn, turn_one, turn_none}
 
@@ -96,21 +97,56 @@ module _ (c : Config) (last : ℕ) (log : History) (t : ℕ) (words : List ℕ) 
   headers_else : (o w : ℕ) (r : ℕ) (k : HeaderParts) → 1 ≤ o → o ≢ r → IsKnown c words r k → IsKnown c (slice_set words (header_at c o) w) r k
   headers_else o w r k some ne z = record { number = z.number; fits = z.fits; word = get_or-set_other words (header_at c o) (header_at c r) w 0 (λ e. let a = z.number.0 in ne (omega arith)) ∙ z.word }
 
+  -- A HEADER IS KNOWN
+  pub knows_header : (o : ℕ) (h : HeaderParts) → IsKnown c words o h → Turn c last log t [] words (hold held t (with_header g o h))
+  knows_header o h known =
+      let g' : Grasp = with_header g o h in
+      let for : IsFor g' image.moving = record { moves = own.0; ranges = own.1 } in
+      turn_none c last log t words (hold held t g') legal
+      (with_space c last words now held image image.moving (hold held t g') (hands g' image.moving for)
+      (subst (λ (z : Grasp). IsSpace c words now.objects now.used image.moving (hold held t (with_header z o h))) is (space_known c words now.objects now.used image.moving held image.space t o h known)))
+
+  -- A WEAK REFERENCE IS CLEARED
+  pub wipes : (i serial o : ℕ) → i < c.slots → now.refs (handle_of Weak serial i) ≡ Object o → ¬ (IsReached now o)
+      → (get_or words (slot_at i) 0 ≡ slot_word (slot.Weak serial (Some o))) × Turn c last log t (Clear (handle_of Weak serial i) ∷ []) (slice_set words (slot_at i) (slot_word (slot.Weak serial None))) held
+  wipes i serial o l stands unreached =
+      let h : Handle = handle_of Weak serial i in
+      let x = image.slot i l in
+      let ref = reference_is last now.refs i x.next h (Some o) refl stands x.parts x.says in
+      let alone = stands_in last now.refs i x.next Weak serial (Some o) x.parts ref x.says in (
+        x.word ∙ ap slot_word (one_reference Weak serial (Some o) x.parts (slot.Weak serial (Some o)) ref (refl, refl, refl)),
+        turn_one c last log t (slice_set words (slot_at i) (slot_word (slot.Weak serial None))) held legal (Clear h) (row, (collects, refl, o, stands, unreached))
+            (slot_set c last words now held image (slot_word (slot.Weak serial None)) i (update same_handle now.refs h Cleared) now.given l
+            (record {
+              parts = slot.Weak serial None;
+              word = refl;
+              next = x.next;
+              serials = x.serials;
+              says = record {
+                latest = alone.latest;
+                found = at_handle_self now.refs h Cleared;
+                alone = λ q e ne. at_handle (λ r. r ≡ Stale) now.refs h q Cleared (λ z. absurd (ne (sym z))) (λ z. alone.alone q e ne);
+              };
+            })
+            (λ q apart. (at_handle (λ r. r ≡ now.refs q) now.refs h q Cleared (λ z. absurd (apart (sym (ap (λ (f : Handle). f.index) z)))) (λ ne. refl), refl))),
+      )
+
   -- AN ELEMENT IS MOVED
-  pub moves : (o : ℕ) (h : HeaderParts) (place j v : ℕ) (x : Contents) → header_in o g.headers ≡ Some h → HasDone g.moving o place j → now.objects o ≡ Some x → get_or x.words j 0 ≡ v → j < length x.words → place ≤ h.place
+  pub moves : (o : ℕ) (h : HeaderParts) (place j v : ℕ) (x : Contents) → header_in o g.headers ≡ Some h → HasDone g.moving o place j → now.objects o ≡ Some x → get_or x.words j 0 ≡ v → j < length x.words → place + j < now.used → ((i : ℕ) → j < i → i < h.length → h.place + i ≢ place + j)
       → ((r : ℕ) (y : Contents) → o ≢ r → now.objects r ≡ Some y → 1 ≤ length y.words → (k : HeaderParts) × (header_in r g.headers ≡ Some k) × ((i : ℕ) → i < k.length → k.place + i ≢ place + j))
       → Turn c last log t [] (slice_set words (element_at c (place + j)) v) (hold held t (with_move g (Some (move_of o place (j + 1)))))
-  moves o h place j v x knows done at value short down free =
+  moves o h place j v x knows done at value short room later free =
       let g' : Grasp = with_move g (Some (move_of o place (j + 1))) in
       let for : IsFor g' (Some (move_of o place (j + 1))) = record { moves = refl; ranges = own.1 } in
       let known = known_is o h knows in
       let z = there c last words now held image o h known in
-      let below : place + j < now.used = let l = z.low j (let a = z.long in let q : x ≡ z.contents = let e = sym at ∙ z.is in cc in let n = ap (λ (y : Contents). length y.words) q in omega arith) in omega arith in
+      let q : x ≡ z.contents = let e = sym at ∙ z.is in cc in
+      let long : length x.words ≡ h.length = ap (λ (y : Contents). length y.words) q ∙ z.long in
       let words' : List ℕ = slice_set words (element_at c (place + j)) v in
       turn_none c last log t words' (hold held t g') legal
-      (element_set c last words now held image v (place + j) now.objects (Some (move_of o place (j + 1))) (hold held t g') (hands g' (Some (move_of o place (j + 1))) for) (omega (arith, below, most)) (λ r w q. q)
+      (element_set c last words now held image v (place + j) now.objects (Some (move_of o place (j + 1))) (hold held t g') (hands g' (Some (move_of o place (j + 1))) for) (omega (arith, room, most)) (λ r w q. q)
       (space_moved c words now.objects now.used image.moving held image.space image.wide most (hold held t g') (no_range g' (Some (move_of o place (j + 1))) for) o place j v x h known.number.0 known.number.1 at known.fits known.word
-      (subst (λ m. HasDone m o place j) own.0 done) short down value
+      (subst (λ m. HasDone m o place j) own.0 done) short room (λ i l m. later i l (omega arith)) value
       (λ r y k ne some few is' good word i l.
       let f = free r y ne is' (omega arith) in
       let same : f.0 ≡ k = header_is r f.0 k (known_is r f.0 f.1) good word in

@@ -11,7 +11,7 @@ use Rattle.jr_model.specs.declared.event.Role.TheVariants.{Outside, Within, Knoc
 use Rattle.jr_model.specs.declared.event.Found.{Found}
 use Rattle.jr_model.specs.declared.event.Event.{Event}
 use Rattle.jr_model.specs.declared.event.Act.TheVariants.{Look, Leave}
-use Rattle.jr_model.specs.State.{Handle, Contents, State, IsPresent, IsClosed}
+use Rattle.jr_model.specs.State.{Handle, Contents, State, IsPresent, IsClosed, HaveSameTables}
 use Rattle.jr_model.specs.History.{History, by, state, IsLegal, mine, role_of, role_from, Did}
 use Rattle.jr_model.proofs.Updates.{eq_false}
 use Rattle.jr_model.proofs.Histories.{legal_append, state_append, mine_append}
@@ -94,6 +94,13 @@ module _ (k : Known) (log : History) (words : List ℕ) (held : ℕ → Grasp) (
     is = sym f.fits.begins.1 ∙ (ap (λ l. l ++ between) q.is ∙ append_assoc q.before (by t (Look h r) ∷ q.since) between);
     stays = subst (AllByRecursion (λ a. a ≢ Leave)) (sym (mine_append q.since between t ∙ (ap (λ l. mine q.since t ++ l) quiet ∙ append-nil (mine q.since t)))) q.stays;
   }
+
+  -- while a thread collects, nobody else changes references, locals, objects or used words
+  pub tables_now : role_of (view k) ≡ Collecting → HaveSameTables (state k.seen) (state log)
+  tables_now collecting =
+      let both = (legal_append k.config k.last k.seen between).0 (subst (IsLegal k.config k.last) (sym f.fits.begins.1) f.legal) in
+      let same = same_along k.config k.last t (state k.seen) between (apart_state k.config k.last k.seen both.0) collecting (none_mine between t quiet) both.1 in
+      subst (HaveSameTables (state k.seen)) (sym (ap state (sym f.fits.begins.1) ∙ state_append k.seen between)) same
 
   -- while a thread collects, no array names an absent object that did not before
   pub closed_now : role_of (view k) ≡ Collecting → ∥ IsClosedNow k ∥₁ → IsClosed (state log)

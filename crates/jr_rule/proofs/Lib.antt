@@ -35,10 +35,13 @@ pub mod Told
 pub mod Owing
 pub mod GateOwed
 pub mod SlotOwed
+pub mod CollectTold
+pub mod CollectOwed
 pub mod Allowed
 pub mod PlaceOwed
 pub mod Grasped
 pub mod HeapOwed
+pub mod PlainCollect
 pub mod Meeting
 pub mod Ended
 mod Claimable

@@ -46,8 +46,8 @@ none_own : (c : Config) (owner : ℕ → Owner) (words : List ℕ) (whose also :
 none_own c owner words whose also spots items e = record { owns = λ j l. absurd (let z = ap length e in omega arith); reads = λ j l. absurd (let z = ap length e in omega arith) }
 
 module _ (c : Config) (words : List ℕ) (objects : ℕ → Option Contents) (used : ℕ) (moving : Option Move) (held : ℕ → Grasp) (s : IsSpace c words objects used moving held) (wide : length words ≡ row_words c) (fits : used ≤ c.words) (held' : ℕ → Grasp) (none : (u p : ℕ) → words_at p (held' u).ranges ≡ []) where
-  -- AN ELEMENT IS MOVED down to its new place, which no other list has
-  module _ (o place j v : ℕ) (x : Contents) (h : HeaderParts) (some : 1 ≤ o) (few : o ≤ c.objects) (is : objects o ≡ Some x) (good : IsHeader h) (word : get_or words (header_at c o) 0 ≡ header_word h) (done : HasDone moving o place j) (short : j < length x.words) (down : place ≤ h.place) (value : get_or x.words j 0 ≡ v)
+  -- AN ELEMENT IS MOVED to its new place, which no other list has, and no element of its own that is still to be moved
+  module _ (o place j v : ℕ) (x : Contents) (h : HeaderParts) (some : 1 ≤ o) (few : o ≤ c.objects) (is : objects o ≡ Some x) (good : IsHeader h) (word : get_or words (header_at c o) 0 ≡ header_word h) (done : HasDone moving o place j) (short : j < length x.words) (room : IsIn used (place + j)) (later : (i : ℕ) → j < i → i < length x.words → h.place + i ≢ place + j) (value : get_or x.words j 0 ≡ v)
       (free : (r : ℕ) (y : Contents) (k : HeaderParts) → o ≢ r → 1 ≤ r → r ≤ c.objects → objects r ≡ Some y → IsHeader k → get_or words (header_at c r) 0 ≡ header_word k → (i : ℕ) → i < length y.words → k.place + i ≢ place + j)
       (known : (u r : ℕ) (k : HeaderParts) → header_in r (held' u).headers ≡ Some k → IsKnown c (slice_set words (element_at c (place + j)) v) r k) where
     abbrev at : ℕ
@@ -68,8 +68,8 @@ module _ (c : Config) (words : List ℕ) (objects : ℕ → Option Contents) (us
     owner_else : (y : ℕ) → y ≢ at → owner' y ≡ s.owner y
     owner_else y ne = ap (λ b. cond b (of_object o j) (s.owner y)) (ne_eqb y at ne)
 
-    below : at < used
-    below = let l = s.low o x h some few is good word j short in omega arith
+    below : IsIn used at
+    below = room
 
     old : Stands c s.owner words (of_object o) (spot moving o h.place) x.words
     old = s.object o x h some few is good word
@@ -91,7 +91,7 @@ module _ (c : Config) (words : List ℕ) (objects : ℕ → Option Contents) (us
         (λ here. subst (IsAt o i (get_or x.words i 0)) (sym (spot_done o place (j + 1) h.place i (omega arith)))
         (subst (λ z. IsAt o z (get_or x.words z 0) (place + z)) (sym here) record { owns = owner_here; reads = there c words objects used moving held s wide fits at v below ∙ sym value }))
         (λ after. subst (IsAt o i (get_or x.words i 0)) (at_left moving o place j done h.place i (omega arith) ∙ sym (spot_left o place (j + 1) h.place i (omega arith)))
-        (stays o i (get_or x.words i 0) (spot moving o h.place i) (λ e. let q = at_left moving o place j done h.place i (omega arith) in absurd (omega arith)) (old.owns i l) (old.reads i l))))
+        (stays o i (get_or x.words i 0) (spot moving o h.place i) (λ e. later i (omega arith) l (sym (at_left moving o place j done h.place i (omega arith)) ∙ e)) (old.owns i l) (old.reads i l))))
 
     -- and each of another's
     theirs : (r : ℕ) (y : Contents) (k : HeaderParts) → o ≢ r → 1 ≤ r → r ≤ c.objects → objects r ≡ Some y → IsHeader k → get_or words (header_at c r) 0 ≡ header_word k → (i : ℕ) → i < length y.words → IsAt r i (get_or y.words i 0) (spot move r k.place i)

@@ -46,7 +46,7 @@ pub slot_is : (r : Option SlotParts) (p q : SlotParts) → r ≡ Some p → r �
 slot_is r p q e f = let z = sym e ∙ f in cc
 
 -- the sizes bound what a slot's word has
-few_objects : (c : Config) (last : ℕ) → IsSized c last → c.objects < 2 ^ 16
+pub few_objects : (c : Config) (last : ℕ) → IsSized c last → c.objects < 2 ^ 16
 few_objects c last s = let o = s.small.objects in omega arith
 
 -- what stands as it was found or is gone is one of the two

@@ -2,6 +2,7 @@
 #![tactic(auto)]
 
 mod closing;
+mod collect_stepping;
 mod gate_stepping;
 mod heap_stepping;
 mod known;

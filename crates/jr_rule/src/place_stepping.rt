@@ -15,7 +15,7 @@ impl Row {
     ghost use Rattle.jr_rule.specs.Passes.{standing_of, Knows, IsAt};
 
     /// Where a thread's local word is in the row.
-    fn local_at(&self, thread: u8, place: u16) -> usize
+    pub(crate) fn local_at(&self, thread: u8, place: u16) -> usize
         requires thread { thread < self.now.config.threads }
         requires place { place < self.now.config.locals }
         ensures { result ≡ local_at self.now.config thread place }

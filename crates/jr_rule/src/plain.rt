@@ -251,6 +251,58 @@ impl<const LAST: u16> Steps for PlainSteps<LAST> {
         self.words[at] = word;
     }
 
+    fn scan_slot(&mut self, index: u16) -> SlotParts {
+        self.slot(index)
+    }
+
+    fn scan_local(&mut self, thread: u8, place: u16) -> LocalParts {
+        let before = usize::from(thread) * self.config.locals as usize;
+        let at = SLOTS + self.config.slots as usize + before + usize::from(place);
+        LocalWord::parts(self.word(at)).unwrap()
+    }
+
+    fn scan_header(&mut self, object: u16) -> Option<HeaderParts> {
+        Header::parts(self.word(header_at(&self.config, u32::from(object))))
+    }
+
+    fn scan_element(&mut self, _object: u16, header: HeaderParts, index: u32) -> u64 {
+        self.word(element_at(&self.config, header.place + index))
+    }
+
+    fn wipe(&mut self, index: u16, serial: u16, _object: u16) {
+        let cleared = SlotWord::pack(SlotParts::Weak {
+            serial,
+            object: None,
+        });
+        self.words[SLOTS + index as usize] = cleared.0;
+    }
+
+    fn drop_header(&mut self, object: u16) {
+        let at = header_at(&self.config, u32::from(object));
+        self.words[at] = 0;
+    }
+
+    fn move_element(
+        &mut self,
+        _object: u16,
+        _header: HeaderParts,
+        place: u32,
+        index: u32,
+        word: u64,
+    ) {
+        let at = element_at(&self.config, place + index);
+        self.words[at] = word;
+    }
+
+    fn set_header(&mut self, object: u16, header: HeaderParts, place: u32) {
+        let at = header_at(&self.config, u32::from(object));
+        self.words[at] = Header::pack(HeaderParts { place, ..header }).0;
+    }
+
+    fn set_top(&mut self, used: u32) {
+        self.words[TOP] = top_word(used);
+    }
+
     ghost fits = { λ s k h. h.pass };
 
     ghost some_known = { λ s. s.shown };

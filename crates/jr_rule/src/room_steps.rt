@@ -10,7 +10,7 @@ use crate::pass::Pass;
 use crate::room::Room;
 use crate::steps::Steps;
 use jr_model::Role;
-use jr_word::{Config, GateParts, HandleParts, HeaderParts, RefKind, SlotParts};
+use jr_word::{Config, GateParts, HandleParts, HeaderParts, LocalParts, RefKind, SlotParts};
 
 /// The steps that the holder of a pass takes in its room.
 #[derive(Drop)]
@@ -158,6 +158,55 @@ impl<const LAST: u16> Steps for RoomSteps<'_, LAST> {
 
     fn put_own(&mut self, place: u32, index: u32, word: u64) {
         self.room.row.put_own(&mut self.pass, place, index, word);
+    }
+
+    fn scan_slot(&mut self, index: u16) -> SlotParts {
+        self.room.row.scan_slot(&mut self.pass, index)
+    }
+
+    fn scan_local(&mut self, thread: u8, place: u16) -> LocalParts {
+        self.room.row.scan_local(&mut self.pass, thread, place)
+    }
+
+    fn scan_header(&mut self, object: u16) -> Option<HeaderParts> {
+        self.room.row.scan_header(&mut self.pass, object)
+    }
+
+    fn scan_element(&mut self, object: u16, header: HeaderParts, index: u32) -> u64 {
+        self.room
+            .row
+            .scan_element(&mut self.pass, object, header, index)
+    }
+
+    fn wipe(&mut self, index: u16, serial: u16, object: u16) {
+        self.room.row.wipe(&mut self.pass, index, serial, object);
+    }
+
+    fn drop_header(&mut self, object: u16) {
+        self.room.row.drop_header(&mut self.pass, object);
+    }
+
+    fn move_element(
+        &mut self,
+        object: u16,
+        header: HeaderParts,
+        place: u32,
+        index: u32,
+        word: u64,
+    ) {
+        self.room
+            .row
+            .move_element(&mut self.pass, object, header, place, index, word);
+    }
+
+    fn set_header(&mut self, object: u16, header: HeaderParts, place: u32) {
+        self.room
+            .row
+            .set_header(&mut self.pass, object, header, place);
+    }
+
+    fn set_top(&mut self, used: u32) {
+        self.room.row.set_top(&mut self.pass, used);
     }
 
     ghost fits = { λ s k h. h.pass };

@@ -1,17 +1,18 @@
 //! The kinds of atomic step, over any row of words.
 ghost use Rattle.std.specs.Prelude.{◌≡◌, ◌≢◌, ◌⊎◌, ◌<◌, ◌≤◌, ◌+◌, [], ◌∷◌, true};
 ghost use Rattle.jr_word.specs.Config.{in_limits};
-ghost use Rattle.jr_word.specs.declared.handle.RefKind.TheVariants.{Local};
+ghost use Rattle.jr_word.specs.declared.handle.RefKind.TheVariants.{Local, Weak};
 ghost use Rattle.jr_word.specs.declared.kind.Kind.TheVariants.{Text};
 ghost use Rattle.jr_word.specs.Header.{IsHeader};
-ghost use Rattle.jr_model.specs.declared.event.Act.TheVariants.{Reopen, Read, Write};
+ghost use Rattle.jr_model.specs.declared.event.Act.TheVariants.{Reopen, Read, Write, Clear, Drop, Settle};
+ghost use Rattle.jr_rule.specs.Collecting.{ShowsLocal, ShowsElement, IsThere, CanWipe, CanDrop, ShowsDropped, CanMove, ShowsMoved, placed, CanPlace, ShowsPlaced, CanSettle};
 ghost use Rattle.jr_model.specs.declared.event.Role.TheVariants.{Outside, Within, Knocking, Collecting};
-ghost use Rattle.jr_rule.specs.Acts.{entered_as, leaving, barring, gate_named, GateNameFits, all_counted, slot_named, SlotNameFits, claiming, freeing, putting, publishing, top_named, reserving, found_object};
+ghost use Rattle.jr_rule.specs.Acts.{entered_as, leaving, barring, gate_named, GateNameFits, all_counted, slot_named, SlotNameFits, claiming, freeing, putting, publishing, top_named, reserving, found_object, handle_of};
 ghost use Rattle.jr_rule.specs.Knowing.{anything, KnowsHeader, HasWord, IsWordNow, IsFilled, words_for, ShowsHeader, ShowsPublished, ShowsUsed, ShowsRange, ShowsWord, TookWith, HasObject, HasOptional, HasLooked, HasNoLocals, CanReopen, ShowsBarred, IsFreeSlot, ShowsGate, ShowsSlot, LostClaim, MayKnow, Took, Spent, keeps, lets_go};
 
 use crate::naming::{GateNaming, SlotNaming, TopNaming};
 use jr_model::Role;
-use jr_word::{Config, GateParts, HandleParts, HeaderParts, RefKind, SlotParts};
+use jr_word::{Config, GateParts, HandleParts, HeaderParts, LocalParts, RefKind, SlotParts};
 
 /// The steps of one thread: each from `go_in` to `put_own` is one atomic operation on one word of the row. The others tell what the pass is, or spend it, and touch no word.
 pub trait Steps {
@@ -154,6 +155,75 @@ pub trait Steps {
         requires role { (stands self.old).role ≡ Within }
         requires own { MayKnow knows self.old (HasWord place index) }
         ensures { Took stands knows self.old self.new [] (HasWord place index) (ShowsWord place index word) };
+
+    /// Loads a slot during a collection.
+    fn scan_slot(&mut self, index: u16) -> SlotParts
+        requires role { (stands self.old).role ≡ Collecting }
+        requires row { index < (stands self.old).config.slots }
+        ensures { Took stands knows self.old self.new [] anything (λ j k. ShowsSlot index result k × keeps j k) };
+
+    /// Loads a local word of any thread during a collection.
+    fn scan_local(&mut self, thread: u8, place: u16) -> LocalParts
+        requires role { (stands self.old).role ≡ Collecting }
+        requires thread { thread < (stands self.old).config.threads }
+        requires place { place < (stands self.old).config.locals }
+        ensures { Took stands knows self.old self.new [] anything (λ j k. ShowsLocal thread place result k × keeps j k) };
+
+    /// Loads the header of an object during a collection. The pass knows it from then on.
+    fn scan_header(&mut self, object: u16) -> Option<HeaderParts>
+        requires role { (stands self.old).role ≡ Collecting }
+        requires number { (1 ≤ object) × (object ≤ (stands self.old).config.objects) }
+        ensures { Took stands knows self.old self.new [] anything (ShowsHeader object result) };
+
+    /// Loads an element of an object whose header the pass knows, during a collection.
+    fn scan_element(&mut self, object: u16, header: HeaderParts, index: u32) -> u64
+        requires role { (stands self.old).role ≡ Collecting }
+        requires index { index < header.length }
+        requires there { MayKnow knows self.old (IsThere object header index) }
+        ensures { Took stands knows self.old self.new [] (IsThere object header index) (λ j k. ShowsElement object index result k × keeps j k) };
+
+    /// Takes its object from a weak reference, which stays.
+    fn wipe(&mut self, index: u16, serial: u16, object: u16)
+        requires role { (stands self.old).role ≡ Collecting }
+        requires row { index < (stands self.old).config.slots }
+        requires can { MayKnow knows self.old (CanWipe index serial object) }
+        ensures { Took stands knows self.old self.new (Clear (handle_of Weak serial index) ∷ []) (CanWipe index serial object) keeps };
+
+    /// Takes an object away that nothing reaches and no weak reference names.
+    fn drop_header(&mut self, object: u16)
+        requires role { (stands self.old).role ≡ Collecting }
+        requires number { (1 ≤ object) × (object ≤ (stands self.old).config.objects) }
+        requires can { MayKnow knows self.old (CanDrop object) }
+        ensures { Took stands knows self.old self.new (Drop object ∷ []) (CanDrop object) (ShowsDropped object) };
+
+    /// Stores the next element of an object that moves down to a new place.
+    fn move_element(
+        &mut self,
+        object: u16,
+        header: HeaderParts,
+        place: u32,
+        index: u32,
+        word: u64,
+    )
+        requires role { (stands self.old).role ≡ Collecting }
+        requires index { index < header.length }
+        requires can { MayKnow knows self.old (CanMove object header place index word) }
+        ensures { Took stands knows self.old self.new [] (CanMove object header place index word) (ShowsMoved object place index) };
+
+    /// Gives an object the header of its new place, once all its elements are there.
+    fn set_header(&mut self, object: u16, header: HeaderParts, place: u32)
+        requires role { (stands self.old).role ≡ Collecting }
+        requires number { (1 ≤ object) × (object ≤ (stands self.old).config.objects) }
+        requires header { IsHeader (placed header place) }
+        requires can { MayKnow knows self.old (CanPlace object header place) }
+        ensures { Took stands knows self.old self.new [] (CanPlace object header place) (ShowsPlaced object header place) };
+
+    /// Sets how many words are used.
+    fn set_top(&mut self, used: u32)
+        requires role { (stands self.old).role ≡ Collecting }
+        requires room { used ≤ (stands self.old).config.words }
+        requires can { MayKnow knows self.old (CanSettle used) }
+        ensures { Took stands knows self.old self.new (Settle used ∷ []) (CanSettle used) keeps };
 
     /// What is known is legal, and of this thread.
     ghost fits: { (s : Self) (k : Known) → knows s k → IsOf (stands s) k };

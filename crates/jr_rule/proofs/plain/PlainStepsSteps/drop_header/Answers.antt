@@ -1,0 +1,25 @@
+use Rattle.std.proofs.Common.{◌≡◌, ◌+◌, ◌∙◌, Some, IfSome, ap, sym, subst, arith, lit<}
+use Rattle.jr_word.specs.declared.header.HeaderParts.{HeaderParts}
+use Rattle.jr_word.specs.Header.{header_word, IsHeader}
+use Rattle.jr_word.specs.Local.{local_word}
+use Rattle.jr_rule.specs.Image.{local_at, header_at}
+use Rattle.jr_rule.proofs.PlainTook.{took, shown}
+use Rattle.jr_rule.proofs.PlainCollect.{sized_of, dropped}
+use Rattle.jr_rule.proofs.Unused.{unused_header}
+use Rattle.jr_rule.proofs.plain.PlainStepsSteps.drop_header.Goals as goal
+
+pub returns : goal.returns
+returns g c =
+    let s = c.args.self.now in
+    took g.row.LAST s _
+    (dropped s.config g.row.LAST (sized_of g.row.LAST s (omega arith)) s.threads.0 s.role c.requires.role s.fresh s.words.items c.args.object c.header_at-at.result (c.header_at-at.ensures ∙ ap (header_at s.config) c.from.ensures) c.requires.number)
+
+pub invariant_of-self-clause-shown : goal.invariant_of-self-clause-shown
+invariant_of-self-clause-shown g c =
+    let s = c.args.self.now in
+    shown
+    (dropped s.config g.row.LAST (sized_of g.row.LAST s (omega arith)) s.threads.0 s.role c.requires.role s.fresh s.words.items c.args.object c.header_at-at.result (c.header_at-at.ensures ∙ ap (header_at s.config) c.from.ensures) c.requires.number)
+    c.requires.can
+
+pub invariant_of-self-clause-unused : goal.invariant_of-self-clause-unused
+invariant_of-self-clause-unused g c = let s = c.args.self.now in λ e. unused_header s.config g.row.LAST s.role s.role s.fresh s.fresh s.words.items _ (s.unused e) c.header_at-at.result c.args.object (c.header_at-at.ensures ∙ ap (header_at s.config) c.from.ensures) s.threads.0

@@ -1,0 +1,36 @@
+use Rattle.std.proofs.Common.{◌≡◌, refl, sym, ap, subst, ◌∙◌}
+use Rattle.jr_rule.specs.Collecting.{ShowsLocal}
+use Rattle.jr_rule.specs.Image.{local_at}
+use Rattle.jr_rule.specs.Passes.{known_of}
+use Rattle.jr_rule.specs.Rule.{Owes}
+use Rattle.jr_rule.proofs.CollectOwed.{scans_local, local_some, local_is}
+use Rattle.jr_rule.proofs.CollectTold.{ScannedLocal}
+use Rattle.jr_rule.proofs.Stepped.{held_next, took}
+use Rattle.jr_rule.proofs.row.Row.scan_local.Goals as goal
+
+pub load-found-requires-clause-owes : goal.load-found-requires-clause-owes
+load-found-requires-clause-owes c =
+    let p = c.args.pass.now in
+    let t = c.args.thread in
+    let i = c.args.place in
+    let at : local_at (known_of p).config t i ≡ c.local_at-at.result = ap (λ z. local_at z t i) (c.requires.row).config ∙ sym c.local_at-at.ensures in
+    subst (λ z. Owes (known_of p) z (λ n. n) (ScannedLocal t i (known_of p))) at (scans_local (known_of p) (p.held.role_is ∙ c.requires.role) t i c.requires.thread c.requires.place)
+
+pub invariant_of-pass : goal.invariant_of-pass
+invariant_of-pass c =
+    let p = c.args.pass.now in
+    let t = c.load-found.ensures.1 in
+    record { held = held_next p.seat.me c.load-found.result _ t p.thread p.role p.fresh p.held _ _ _ t.says.3 refl refl }
+
+pub unwrap-requires : goal.unwrap-requires
+unwrap-requires c =
+    let s = (c.load-found.ensures.1).says in
+    local_some c.load-found.result c.parts.result s.0 s.1 s.2 c.parts.ensures.complete
+
+pub returns-clause-step : goal.returns-clause-step
+returns-clause-step c =
+    let p = c.args.pass.now in
+    let t = c.load-found.ensures.1 in
+    let s = t.says in
+    let read = local_is c.parts.result s.0 c.unwrap.result (c.parts.ensures.complete s.0 s.1 s.2) c.unwrap.ensures in
+    took p _ c.load-found.result t _ c.load-found.ensures.0 s.3 refl refl refl (λ m. (subst (λ q. ShowsLocal c.args.thread c.args.place q t.new) (sym read) s.4, s.5))
