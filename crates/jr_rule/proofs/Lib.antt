@@ -18,6 +18,7 @@ pub mod HeapImages
 pub mod LocalTurns
 pub mod HeapTurns
 pub mod CollectTurns
+pub mod Grasped
 pub mod PlainTook
 pub mod PlainTurns
 pub mod PlainSlots
@@ -39,7 +40,6 @@ pub mod CollectTold
 pub mod CollectOwed
 pub mod Allowed
 pub mod PlaceOwed
-pub mod Grasped
 pub mod HeapOwed
 pub mod PlainCollect
 pub mod Meeting

@@ -13,6 +13,7 @@ use Rattle.jr_rule.specs.declared.known.Known.{Known}
 use Rattle.jr_rule.specs.declared.known.Grasp.{Grasp}
 use Rattle.jr_rule.specs.Grasping.{empty, hold}
 use Rattle.jr_rule.specs.Knowing.{Standing, moved, Goes, Took, TookWith, MayKnow, anything, keeps, lets_go}
+use Rattle.jr_rule.proofs.Grasped.{grasp_in_space}
 use Rattle.jr_rule.proofs.Images.{image_same}
 use Rattle.jr_rule.proofs.Spaces.{hold_here, hold_else, hold_same}
 use mathlib.Core.Logic.{dite}
@@ -50,6 +51,7 @@ shows_then s words words' k acts g shows turn = record {
     legal = turn.legal;
   };
   image = turn.image;
+  space = grasp_in_space k.config k.last (then k.seen k.thread acts) words' (alone g) turn.legal turn.image 0 g (hold_here (λ t. empty) 0 g);
 }
 
 -- what thread 0 holds
@@ -147,6 +149,7 @@ pub shows_spent : {c : Config} {last : ℕ} {r : Role} {words : List ℕ} {k : K
 shows_spent f f' s = record {
   pass = record { config = s.pass.config; last = s.pass.last; thread = s.pass.thread; role = s.pass.role; legal = s.pass.legal };
   image = s.image;
+  space = s.space;
 }
 
 pub shown_spent : {c : Config} {last : ℕ} {r : Role} {words : List ℕ} (f f' : Bool) → MayKnow (Shows (standing c last r f)) words anything → MayKnow (Shows (standing c last r f')) words anything

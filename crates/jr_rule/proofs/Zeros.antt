@@ -1,5 +1,5 @@
 -- A row of zeros is the image of the opening.
-use Rattle.std.proofs.Common.{◌≡◌, ◌+◌, ℕ, zero, suc, true, false, None, List, length, replicate, get_or, refl, sym, ap, ◌∙◌, arith}
+use Rattle.std.proofs.Common.{◌≡◌, ◌+◌, ℕ, zero, suc, true, false, None, List, [], length, replicate, get_or, refl, sym, ap, ◌∙◌, arith}
 use Rattle.std.proofs.lemmas.List.{length-replicate}
 use Rattle.jr_word.specs.declared.config.Config.{Config}
 use Rattle.jr_word.specs.declared.slot.SlotParts.TheVariants as slot
@@ -9,6 +9,7 @@ use Rattle.jr_model.specs.State.{opening}
 use Rattle.jr_model.proofs.Counts.{count_all_false}
 use Rattle.jr_rule.specs.Image.{local_at, is_inside, unowned, IsImage}
 use Rattle.jr_rule.specs.Grasping.{empty}
+use Rattle.jr_rule.proofs.Grasped.{grasp_in_space}
 use Rattle.jr_rule.proofs.Images.{image_same}
 use Rattle.jr_rule.proofs.Spaces.{hold_same}
 use Rattle.jr_rule.specs.Plain.{alone, standing, unseen, Shows, IsUnused}
@@ -61,6 +62,7 @@ module _ (config : Config) (last : ℕ) (words : List ℕ) (none : (j : ℕ) →
   shows_unseen wide = record {
     pass = record { config = refl; last = refl; thread = refl; role = refl; legal = tt };
     image = image_same config last words opening (λ t. empty) (opening_image wide) (alone empty) (hold_same (λ t. empty) 0 empty refl);
+    space = grasp_in_space config last [] words (λ t. empty) tt (opening_image wide) 0 empty refl;
   }
 
   -- nobody has a local reference where the words are zeros

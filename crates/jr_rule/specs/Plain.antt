@@ -4,7 +4,7 @@ use Rattle.jr_word.specs.declared.config.Config.{Config}
 use Rattle.jr_model.specs.declared.event.Role.{Role}
 use Rattle.jr_rule.specs.declared.known.Known.{Known}
 use Rattle.jr_rule.specs.declared.known.Grasp.{Grasp}
-use Rattle.jr_rule.specs.Grasping.{empty, hold}
+use Rattle.jr_rule.specs.Grasping.{InSpace, empty, hold}
 use Rattle.jr_rule.specs.Knowing.{Standing, IsOf, HasNoLocals, state_of}
 use Rattle.jr_rule.specs.Image.{local_at, IsImage}
 
@@ -24,6 +24,7 @@ alone g = hold (λ t. empty) 0 g
 pub record Shows (s : Standing) (words : List ℕ) (k : Known) : Type 0 where
   pub pass : IsOf s k
   pub image : IsImage k.config k.last words (state_of k) (alone k.grasp)
+  pub space : InSpace k.config k.grasp
 
 -- the local words of thread 0 are 0, and so it has no local reference
 pub record IsUnused (s : Standing) (words : List ℕ) : Type 0 where

@@ -309,6 +309,8 @@ impl<const LAST: u16> Steps for PlainSteps<LAST> {
 
     ghost unused = { λ s k f h. (s.unused f).none k h };
 
+    ghost in_space = { λ s k h. h.space };
+
     ghost limits = { λ s. s.limits };
 
     ghost row = { λ s. s.threads.0 };

@@ -54,7 +54,7 @@ impl<'a, const LAST: u16> RoomSteps<'a, LAST> {
 
 impl<const LAST: u16> Steps for RoomSteps<'_, LAST> {
     ghost use Rattle.jr_rule.specs.Passes.{standing_of, Knows};
-    ghost use Rattle.jr_rule.specs.PassLaws.{some_of, unused_of};
+    ghost use Rattle.jr_rule.specs.PassLaws.{some_of, unused_of, space_of};
 
     ghost stands = { λ s. standing_of s.pass };
 
@@ -214,6 +214,8 @@ impl<const LAST: u16> Steps for RoomSteps<'_, LAST> {
     ghost some_known = { λ s. some_of s.pass };
 
     ghost unused = { λ s k f h. unused_of s.pass k f h };
+
+    ghost in_space = { λ s k h. space_of s.pass k h };
 
     ghost limits = { λ s. s.pass.held.sized.limits };
 

@@ -18,6 +18,7 @@ use jr_word::{Config, GateParts, HandleParts, HeaderParts, LocalParts, RefKind, 
 pub trait Steps {
     ghost use Rattle.jr_rule.specs.Knowing.{Standing, IsOf};
     ghost use Rattle.jr_rule.specs.declared.known.Known.{Known};
+    ghost use Rattle.jr_rule.specs.Grasping.{InSpace};
 
     /// The room, the thread, its role, and whether the pass is fresh.
     ghost stands: { Self → Standing };
@@ -232,6 +233,9 @@ pub trait Steps {
 
     /// A fresh pass has no local reference.
     ghost unused: { (s : Self) (k : Known) → (stands s).fresh ≡ true → knows s k → HasNoLocals k };
+
+    /// What the pass holds lies in the space.
+    ghost in_space: { (s : Self) (k : Known) → knows s k → InSpace k.config k.grasp };
 
     /// The sizes are within the limits of a room.
     ghost limits: { (s : Self) → in_limits (stands s).config ≡ true };
