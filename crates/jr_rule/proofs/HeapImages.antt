@@ -18,7 +18,7 @@ use Rattle.jr_rule.proofs.InRoom.{IsInRoom}
 use Rattle.jr_rule.proofs.Spaces.{hold_same, space_same}
 
 -- the object whose header is known
-pub record IsThere (c : Config) (words : List ℕ) (s : State) (held : ℕ → Grasp) (moving : Option Move) (space : IsSpace c words s.objects s.used moving held) (o : ℕ) (h : HeaderParts) : Type 0 where
+pub record IsThere (c : Config) (words : List ℕ) (s : State) (held : ℕ → Grasp) (moving : Option Move) (space : IsSpace c words s.objects (IsIn s.used) moving held) (o : ℕ) (h : HeaderParts) : Type 0 where
   pub contents : Contents
   pub is : s.objects o ≡ Some contents
   pub kind : contents.kind ≡ h.kind
@@ -52,7 +52,7 @@ module _ (c : Config) (last : ℕ) (words : List ℕ) (s : State) (held : ℕ �
       (there o h known).low i l
 
   pub own_element : (t p i : ℕ) → i < length (words_at p (held t).ranges) → p + i < s.used
-  own_element t p i l = range_below c words s.objects s.used image.moving held image.space (p + i) t p i ((image.space.range t p).owns i l)
+  own_element t p i l = range_below c words s.objects (IsIn s.used) image.moving held image.space (p + i) t p i ((image.space.range t p).owns i l)
 
   -- where the list of a present object stands
   list_at : image.moving ≡ None → IsInRoom c s → (o : ℕ) → (a : ℕ) × ((j : ℕ) → j < length_of (s.objects o) → (a + j < s.used) × (image.space.owner (a + j) ≡ of_object o j))
@@ -64,13 +64,13 @@ module _ (c : Config) (last : ℕ) (words : List ℕ) (s : State) (held : ℕ �
           let number = room.objects o (subst (λ y. IsSome y) (sym e) refl) in
           let w = subst (λ (y : Option Contents). IsHeaderOf y (get_or words (header_at c o) 0)) e (image.header o number.0 number.1) in
           let stands = image.space.object o x w.parts number.0 number.1 e w.fits w.word in
-          (w.parts.place, λ j l. let own = subst (λ m. image.space.owner (spot m o w.parts.place j) ≡ of_object o j) still (stands.owns j l) in (object_below c words s.objects s.used image.moving held image.space (w.parts.place + j) o j own, own))
+          (w.parts.place, λ j l. let own = subst (λ m. image.space.owner (spot m o w.parts.place j) ≡ of_object o j) still (stands.owns j l) in (object_below c words s.objects (IsIn s.used) image.moving held image.space (w.parts.place + j) o j own, own))
 
   -- the present objects and a range that is held lie below the top together
   range_fits : image.moving ≡ None → IsInRoom c s → (t p : ℕ) → present_words c s + length (words_at p (held t).ranges) ≤ s.used
   range_fits still room t p = lists_fit image.space.owner (c.objects + 1) s.used t p (length (words_at p (held t).ranges)) (λ o. length_of (s.objects o))
       (λ o l. list_at still room o)
-      (λ j l. let own = (image.space.range t p).owns j l in (range_below c words s.objects s.used image.moving held image.space (p + j) t p j own, own))
+      (λ j l. let own = (image.space.range t p).owns j l in (range_below c words s.objects (IsIn s.used) image.moving held image.space (p + j) t p j own, own))
 
   pub given_fit : image.moving ≡ None → IsInRoom c s → present_words c s ≤ s.used → (t : ℕ) (h : HeaderParts) → present_words c s + length (given_words h (held t)) ≤ s.used
   given_fit still room fits t h = go (h.length == 0)
@@ -81,10 +81,10 @@ module _ (c : Config) (last : ℕ) (words : List ℕ) (s : State) (held : ℕ �
 
   -- the space once an object has its header, with elements or without
   pub space_headed : image.moving ≡ None → (t o : ℕ) (h : HeaderParts) → 1 ≤ o → o ≤ c.objects → IsHeader h → get_or words (header_at c o) 0 ≡ 0
-      → IsSpace c (slice_set words (header_at c o) (header_word h)) (update nat_eq s.objects o (Some (record { kind = h.kind; words = given_words h (held t) }))) s.used image.moving (hold held t (published h (held t)))
+      → IsSpace c (slice_set words (header_at c o) (header_word h)) (update nat_eq s.objects o (Some (record { kind = h.kind; words = given_words h (held t) }))) (IsIn s.used) image.moving (hold held t (published h (held t)))
   space_headed still t o h low high fits none = go (h.length == 0)
     where
-      go : (b : Bool) → IsSpace c (slice_set words (header_at c o) (header_word h)) (update nat_eq s.objects o (Some (record { kind = h.kind; words = cond b [] (words_at h.place (held t).ranges) }))) s.used image.moving (hold held t (cond b (held t) (with_range (held t) h.place [])))
-      go true = space_same c (slice_set words (header_at c o) (header_word h)) (update nat_eq s.objects o (Some (record { kind = h.kind; words = [] }))) s.used image.moving held
-          (space_empty c words s.objects s.used image.moving held image.space o h h.kind low high fits image.wide none) (hold held t (held t)) (hold_same held t (held t) refl)
-      go false = space_published c words s.objects s.used image.moving held image.space o h h.kind low high fits image.wide none t still
+      go : (b : Bool) → IsSpace c (slice_set words (header_at c o) (header_word h)) (update nat_eq s.objects o (Some (record { kind = h.kind; words = cond b [] (words_at h.place (held t).ranges) }))) (IsIn s.used) image.moving (hold held t (cond b (held t) (with_range (held t) h.place [])))
+      go true = space_same c (slice_set words (header_at c o) (header_word h)) (update nat_eq s.objects o (Some (record { kind = h.kind; words = [] }))) (IsIn s.used) image.moving held
+          (space_empty c words s.objects (IsIn s.used) image.moving held image.space o h h.kind low high fits image.wide none) (hold held t (held t)) (hold_same held t (held t) refl)
+      go false = space_published c words s.objects (IsIn s.used) image.moving held image.space o h h.kind low high fits image.wide none t still

@@ -14,7 +14,7 @@ use Rattle.jr_model.proofs.Updates.{at_number_self}
 use Rattle.jr_rule.specs.declared.known.Grasp.{Grasp}
 use Rattle.jr_rule.specs.declared.known.Move.{Move}
 use Rattle.jr_rule.specs.Grasping.{words_at, header_in, with_range, with_header, hold}
-use Rattle.jr_rule.specs.Image.{top_at, header_at, element_at, Owner, unowned, of_object, of_range, Stands, spot, IsIn, IsKnown, IsSpace}
+use Rattle.jr_rule.specs.Image.{top_at, header_at, element_at, Owner, unowned, of_object, of_range, Stands, spot, IsKnown, IsSpace}
 use Rattle.jr_word.proofs.OneWord.{header_word-injective}
 use Rattle.jr_rule.proofs.Headers.{header_positive}
 use Rattle.jr_rule.proofs.Spaces.{header_stays, element_stays, hold_here, hold_else}
@@ -79,62 +79,70 @@ one_of_range t p j k e = cc
 one_range : (a : Owner) (t p i u q j : ℕ) → a ≡ of_range t p i → a ≡ of_range u q j → (t ≡ u) × (p ≡ q)
 one_range a t p i u q j e f = let z : of_range t p i ≡ of_range u q j = sym e ∙ f in (cc, cc)
 
-module _ (c : Config) (words : List ℕ) (objects : ℕ → Option Contents) (used : ℕ) (moving : Option Move) (held : ℕ → Grasp) (s : IsSpace c words objects used moving held) where
+module _ (c : Config) (words : List ℕ) (objects : ℕ → Option Contents) (area : ℕ → Type 0) (moving : Option Move) (held : ℕ → Grasp) (s : IsSpace c words objects area moving held) where
   -- what is owned lies below the top
-  pub object_below : (x o j : ℕ) → s.owner x ≡ of_object o j → IsIn used x
+  pub object_below : (x o j : ℕ) → s.owner x ≡ of_object o j → area x
   object_below x o j e = s.inside x (λ n. not_unowned (s.owner x) o j n e)
 
-  pub range_below : (x t p j : ℕ) → s.owner x ≡ of_range t p j → IsIn used x
+  pub range_below : (x t p j : ℕ) → s.owner x ≡ of_range t p j → area x
   range_below x t p j e = s.inside x (λ n. not_unowned' (s.owner x) t p j n e)
 
-  -- RESERVING: the top goes up by n, and the words between are the thread's
-  module _ (t n w : ℕ) where
+  -- RESERVING: the area in use grows by n words from a place on, which are the thread's
+  module _ (t base n w : ℕ) (area' : ℕ → Type 0) (wider : (x : ℕ) → area x → area' x) (grown : (x : ℕ) → base ≤ x → x < base + n → area' x) (fresh : (x : ℕ) → base ≤ x → x < base + n → ¬ (area x)) where
     abbrev reserved : ℕ → Owner
-    reserved x = cond (nat_lt x used) (s.owner x) (cond (nat_lt x (used + n)) (of_range t used (x - used)) unowned)
+    reserved x = cond (nat_lt x base) (s.owner x) (cond (nat_lt x (base + n)) (of_range t base (x - base)) (s.owner x))
 
-    reserved_old : (x : ℕ) → x < used → reserved x ≡ s.owner x
-    reserved_old x l = ap (λ b. cond b (s.owner x) (cond (nat_lt x (used + n)) (of_range t used (x - used)) unowned)) (lt-ltb x used l)
+    reserved_low : (x : ℕ) → x < base → reserved x ≡ s.owner x
+    reserved_low x l = ap (λ b. cond b (s.owner x) (cond (nat_lt x (base + n)) (of_range t base (x - base)) (s.owner x))) (lt-ltb x base l)
 
-    reserved_new : (x : ℕ) → used ≤ x → x < used + n → reserved x ≡ of_range t used (x - used)
-    reserved_new x l m = ap (λ b. cond b (s.owner x) (cond (nat_lt x (used + n)) (of_range t used (x - used)) unowned)) (le-ltb x used l) ∙ ap (λ b. cond b (of_range t used (x - used)) unowned) (lt-ltb x (used + n) m)
+    reserved_new : (x : ℕ) → base ≤ x → x < base + n → reserved x ≡ of_range t base (x - base)
+    reserved_new x l m = ap (λ b. cond b (s.owner x) (cond (nat_lt x (base + n)) (of_range t base (x - base)) (s.owner x))) (le-ltb x base l) ∙ ap (λ b. cond b (of_range t base (x - base)) (s.owner x)) (lt-ltb x (base + n) m)
 
-    reserved_above : (x : ℕ) → used + n ≤ x → reserved x ≡ unowned
-    reserved_above x l = ap (λ b. cond b (s.owner x) (cond (nat_lt x (used + n)) (of_range t used (x - used)) unowned)) (le-ltb x used (omega arith)) ∙ ap (λ b. cond b (of_range t used (x - used)) unowned) (le-ltb x (used + n) l)
+    reserved_high : (x : ℕ) → base + n ≤ x → reserved x ≡ s.owner x
+    reserved_high x l = ap (λ b. cond b (s.owner x) (cond (nat_lt x (base + n)) (of_range t base (x - base)) (s.owner x))) (le-ltb x base (omega arith)) ∙ ap (λ b. cond b (of_range t base (x - base)) (s.owner x)) (le-ltb x (base + n) l)
+
+    reserved_old : (x : ℕ) → area x → reserved x ≡ s.owner x
+    reserved_old x l = dite (dec_lt x base) (reserved_low x) (λ m. dite (dec_lt x (base + n)) (λ k. absurd (fresh x (omega arith) k l)) (λ k. reserved_high x (omega arith)))
+
+    reserved_in : (x : ℕ) → reserved x ≢ unowned → area' x
+    reserved_in x owned = dite (dec_lt x base)
+        (λ l. wider x (s.inside x (λ q. owned (reserved_low x l ∙ q))))
+        (λ m. dite (dec_lt x (base + n)) (λ k. grown x (omega arith) k) (λ k. wider x (s.inside x (λ q. owned (reserved_high x (omega arith) ∙ q)))))
 
     top_element : (x : ℕ) → get_or (slice_set words top_at w) (element_at c x) 0 ≡ get_or words (element_at c x) 0
     top_element x = element_stays c words top_at w (omega arith) x
 
-    pub space_reserved : IsSpace c (slice_set words top_at w) objects (used + n) moving (hold held t (with_range (held t) used (elements_from c words used n)))
+    pub space_reserved : IsSpace c (slice_set words top_at w) objects area' moving (hold held t (with_range (held t) base (elements_from c words base n)))
     space_reserved = record {
       owner = reserved;
-      inside = λ x some. dite (dec_lt x (used + n)) (λ l. l) (λ m. absurd (some (reserved_above x (omega arith))));
+      inside = reserved_in;
       object = λ o x h some few is fits word.
           let old = s.object o x h some few is fits (sym (header_stays c words top_at w (omega arith) o some) ∙ word) in record {
             owns = λ j l. let e = old.owns j l in reserved_old (spot moving o h.place j) (object_below (spot moving o h.place j) o j e) ∙ e;
             reads = λ j l. top_element (spot moving o h.place j) ∙ old.reads j l;
           };
-      low = λ o x h some few is fits word j l. let old = s.low o x h some few is fits (sym (header_stays c words top_at w (omega arith) o some) ∙ word) j l in omega arith;
-      range = range_cases held t used (elements_from c words used n) (λ u q ws. Stands c reserved (slice_set words top_at w) (of_range u q) (λ j. q + j) ws)
+      low = λ o x h some few is fits word j l. wider (h.place + j) (s.low o x h some few is fits (sym (header_stays c words top_at w (omega arith) o some) ∙ word) j l);
+      range = range_cases held t base (elements_from c words base n) (λ u q ws. Stands c reserved (slice_set words top_at w) (of_range u q) (λ j. q + j) ws)
           record {
-            owns = λ j l. let long = elements_length c words used n in reserved_new (used + j) (omega arith) (omega arith) ∙ ap (of_range t used) (omega arith);
-            reads = λ j l. let long = elements_length c words used n in top_element (used + j) ∙ sym (elements_read c words used n j (omega arith));
+            owns = λ j l. let long = elements_length c words base n in reserved_new (base + j) (omega arith) (omega arith) ∙ ap (of_range t base) (omega arith);
+            reads = λ j l. let long = elements_length c words base n in top_element (base + j) ∙ sym (elements_read c words base n j (omega arith));
           }
           (λ u q other. let old = s.range u q in record {
             owns = λ j l. let e = old.owns j l in reserved_old (q + j) (range_below (q + j) u q j e) ∙ e;
             reads = λ j l. top_element (q + j) ∙ old.reads j l;
           });
       header = λ u o h e.
-          let k = s.header u o h (sym (header_cases held t used (elements_from c words used n) u o) ∙ e) in
+          let k = s.header u o h (sym (header_cases held t base (elements_from c words base n) u o) ∙ e) in
           record { number = k.number; fits = k.fits; word = header_stays c words top_at w (omega arith) o k.number.0 ∙ k.word };
     }
 
   -- A STORE TO ONE WORD, whose owner is known
-  module _ (wide : length words ≡ row_words c) (fits : used ≤ c.words) (at v : ℕ) where
+  module _ (wide : length words ≡ row_words c) (fits : (x : ℕ) → area x → x < c.words) (at v : ℕ) where
     abbrev stored : List ℕ
     stored = slice_set words (element_at c at) v
 
-    pub there : at < used → get_or stored (element_at c at) 0 ≡ v
-    there l = get_or-set_same words (element_at c at) v 0 (omega arith)
+    pub there : area at → get_or stored (element_at c at) 0 ≡ v
+    there l = let m = fits at l in get_or-set_same words (element_at c at) v 0 (omega arith)
 
     pub elsewhere : (x : ℕ) → x ≢ at → get_or stored (element_at c x) 0 ≡ get_or words (element_at c x) 0
     elsewhere x ne = get_or-set_other words (element_at c at) (element_at c x) v 0 (λ e. ne (omega arith))
@@ -147,7 +155,7 @@ module _ (c : Config) (words : List ℕ) (objects : ℕ → Option Contents) (us
     untouched whose spots items other z = record { owns = z.owns; reads = λ j l. elsewhere (spots j) (λ e. other j (ap s.owner (sym e) ∙ z.owns j l)) ∙ z.reads j l }
 
     -- the list that the store is in
-    touched : (whose : ℕ → Owner) (spots : ℕ → ℕ) (i : ℕ) (items : List ℕ) → ((j k : ℕ) → whose j ≡ whose k → j ≡ k) → at ≡ spots i → i < length items → at < used → Stands c s.owner words whose spots items → Stands c s.owner stored whose spots (slice_set items i v)
+    touched : (whose : ℕ → Owner) (spots : ℕ → ℕ) (i : ℕ) (items : List ℕ) → ((j k : ℕ) → whose j ≡ whose k → j ≡ k) → at ≡ spots i → i < length items → area at → Stands c s.owner words whose spots items → Stands c s.owner stored whose spots (slice_set items i v)
     touched whose spots i items one e l below z = record {
       owns = λ j g. let long = length-set items i v in z.owns j (omega arith);
       reads = λ j g. dite (ℕ_discrete j i)
@@ -162,8 +170,8 @@ module _ (c : Config) (words : List ℕ) (objects : ℕ → Option Contents) (us
     known_stays u o h e = let k = s.header u o h e in record { number = k.number; fits = k.fits; word = no_header o k.number.0 k.number.1 ∙ k.word }
 
   -- a word of one's own range is put
-  pub space_put : (wide : length words ≡ row_words c) (fits : used ≤ c.words) (t p i v : ℕ) → i < length (words_at p (held t).ranges)
-      → IsSpace c (slice_set words (element_at c (p + i)) v) objects used moving (hold held t (with_range (held t) p (slice_set (words_at p (held t).ranges) i v)))
+  pub space_put : (wide : length words ≡ row_words c) (fits : (x : ℕ) → area x → x < c.words) (t p i v : ℕ) → i < length (words_at p (held t).ranges)
+      → IsSpace c (slice_set words (element_at c (p + i)) v) objects area moving (hold held t (with_range (held t) p (slice_set (words_at p (held t).ranges) i v)))
   space_put wide fits t p i v l =
       let own = (s.range t p).owns i l in
       let below = range_below (p + i) t p i own in record {
@@ -178,8 +186,8 @@ module _ (c : Config) (words : List ℕ) (objects : ℕ → Option Contents) (us
       }
 
   -- an element of a present object is written
-  pub space_written : (wide : length words ≡ row_words c) (fits : used ≤ c.words) (o i v : ℕ) (x : Contents) (h : HeaderParts) → 1 ≤ o → o ≤ c.objects → objects o ≡ Some x → IsHeader h → get_or words (header_at c o) 0 ≡ header_word h → i < length x.words
-      → IsSpace c (slice_set words (element_at c (spot moving o h.place i)) v) (update nat_eq objects o (Some (record { kind = x.kind; words = slice_set x.words i v }))) used moving held
+  pub space_written : (wide : length words ≡ row_words c) (fits : (x : ℕ) → area x → x < c.words) (o i v : ℕ) (x : Contents) (h : HeaderParts) → 1 ≤ o → o ≤ c.objects → objects o ≡ Some x → IsHeader h → get_or words (header_at c o) 0 ≡ header_word h → i < length x.words
+      → IsSpace c (slice_set words (element_at c (spot moving o h.place i)) v) (update nat_eq objects o (Some (record { kind = x.kind; words = slice_set x.words i v }))) area moving held
   space_written wide fits o i v x h some few is good word l =
       let at : ℕ = spot moving o h.place i in
       let list = s.object o x h some few is good word in
@@ -247,13 +255,13 @@ module _ (c : Config) (words : List ℕ) (objects : ℕ → Option Contents) (us
     stays : (owner : ℕ → Owner) (whose : ℕ → Owner) (spots : ℕ → ℕ) (items : List ℕ) → ((x : ℕ) (j : ℕ) → s.owner x ≡ whose j → owner x ≡ whose j) → Stands c s.owner words whose spots items → Stands c owner headed whose spots items
     stays owner whose spots items same z = record { owns = λ j l. same (spots j) j (z.owns j l); reads = λ j l. same_element (spots j) ∙ z.reads j l }
 
-    pub space_empty : IsSpace c headed (update nat_eq objects o (Some (record { kind = kind; words = [] }))) used moving held
+    pub space_empty : IsSpace c headed (update nat_eq objects o (Some (record { kind = kind; words = [] }))) area moving held
     space_empty = record {
       owner = s.owner;
       inside = s.inside;
       object = published_object (λ r y k. Stands c s.owner headed (of_object r) (spot moving r k.place) y.words) [] (record { owns = λ j l. absurd (omega arith); reads = λ j l. absurd (omega arith) })
           (λ r y k a b is g w. stays s.owner (of_object r) (spot moving r k.place) y.words (λ x j e. e) (s.object r y k a b is g w));
-      low = published_object (λ r y k. (j : ℕ) → j < length y.words → IsIn used (k.place + j)) [] (λ j l. absurd (omega arith)) s.low;
+      low = published_object (λ r y k. (j : ℕ) → j < length y.words → area (k.place + j)) [] (λ j l. absurd (omega arith)) s.low;
       range = λ u q. stays s.owner (of_range u q) (λ j. q + j) (words_at q (held u).ranges) (λ x j e. e) (s.range u q);
       header = λ u r k e. known_apart r k (s.header u r k e);
     }
@@ -280,7 +288,7 @@ module _ (c : Config) (words : List ℕ) (objects : ℕ → Option Contents) (us
           (λ f. ap (λ b. cond b (cond (q == h.place) (of_object o j) (of_range u q j)) (of_range u q j)) (ne_eqb u t f))
 
       -- where no move is unfinished
-      pub space_published : moving ≡ None → IsSpace c headed (update nat_eq objects o (Some (record { kind = kind; words = words_at h.place (held t).ranges }))) used moving (hold held t (with_range (held t) h.place []))
+      pub space_published : moving ≡ None → IsSpace c headed (update nat_eq objects o (Some (record { kind = kind; words = words_at h.place (held t).ranges }))) area moving (hold held t (with_range (held t) h.place []))
       space_published still = record {
         owner = owner_then;
         inside = λ x some. s.inside x (λ none. some (ap renamed none));
@@ -288,7 +296,7 @@ module _ (c : Config) (words : List ℕ) (objects : ℕ → Option Contents) (us
             (subst (λ m. Stands c owner_then headed (of_object o) (spot m o h.place) (words_at h.place (held t).ranges)) (sym still)
             (let z = s.range t h.place in record { owns = λ j l. renamed_here (h.place + j) j (z.owns j l); reads = λ j l. same_element (h.place + j) ∙ z.reads j l }))
             (λ r y k a b is g w. stays owner_then (of_object r) (spot moving r k.place) y.words (λ x j e. renamed_object x r j e) (s.object r y k a b is g w));
-        low = published_object (λ r y k. (j : ℕ) → j < length y.words → IsIn used (k.place + j)) (words_at h.place (held t).ranges) (λ j l. range_below (h.place + j) t h.place j ((s.range t h.place).owns j l)) s.low;
+        low = published_object (λ r y k. (j : ℕ) → j < length y.words → area (k.place + j)) (words_at h.place (held t).ranges) (λ j l. range_below (h.place + j) t h.place j ((s.range t h.place).owns j l)) s.low;
         range = range_cases held t h.place [] (λ u q ws. Stands c owner_then headed (of_range u q) (λ j. q + j) ws)
             (record { owns = λ j l. absurd (omega arith); reads = λ j l. absurd (omega arith) })
             (λ u q other. stays owner_then (of_range u q) (λ j. q + j) (words_at q (held u).ranges) (λ x j e. renamed_else x u q j other e) (s.range u q));
@@ -296,7 +304,7 @@ module _ (c : Config) (words : List ℕ) (objects : ℕ → Option Contents) (us
       }
 
   -- A HEADER IS KNOWN
-  pub space_known : (t o : ℕ) (h : HeaderParts) → IsKnown c words o h → IsSpace c words objects used moving (hold held t (with_header (held t) o h))
+  pub space_known : (t o : ℕ) (h : HeaderParts) → IsKnown c words o h → IsSpace c words objects area moving (hold held t (with_header (held t) o h))
   space_known t o h known = record {
     owner = s.owner;
     inside = s.inside;

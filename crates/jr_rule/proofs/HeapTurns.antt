@@ -17,7 +17,7 @@ use Rattle.jr_model.proofs.Lengths.{lengths_fit}
 use Rattle.jr_model.proofs.Updates.{at_number}
 use Rattle.jr_rule.specs.declared.known.Grasp.{Grasp}
 use Rattle.jr_rule.specs.Grasping.{words_at, header_in, with_range, with_header, hold}
-use Rattle.jr_rule.specs.Image.{top_at, header_at, element_at, spot, MayHold, AreHeld, IsTopOf, IsHeaderOf, IsKnown, IsSpace, IsImage}
+use Rattle.jr_rule.specs.Image.{top_at, header_at, element_at, spot, MayHold, AreHeld, IsIn, IsTopOf, IsHeaderOf, IsKnown, IsSpace, IsImage}
 use Rattle.jr_rule.specs.Knowing.{published}
 use Rattle.jr_rule.proofs.HeapImages.{given_words, there, own_element, known_element, given_fit, space_headed}
 use Rattle.jr_rule.proofs.HeapSpaces.{elements_from, space_reserved, space_put, space_written, space_known}
@@ -48,8 +48,8 @@ module _ (c : Config) (last : ℕ) (log : History) (t : ℕ) (words : List ℕ) 
       (subst (λ r. MayHold image.moving r z) (sym within) (same ∙ subst (λ r. MayHold image.moving r (held t)) within (image.hands.each t))) image.hands
 
   -- so the elements stand where the headers say
-  at_header : IsSpace c words now.objects now.used None held
-  at_header = subst (λ m. IsSpace c words now.objects now.used m held) unmoved image.space
+  at_header : IsSpace c words now.objects (IsIn now.used) None held
+  at_header = subst (λ m. IsSpace c words now.objects (IsIn now.used) m held) unmoved image.space
 
   held_still : AreHeld now.role None held
   held_still = subst (λ m. AreHeld now.role m held) unmoved image.hands
@@ -58,7 +58,7 @@ module _ (c : Config) (last : ℕ) (log : History) (t : ℕ) (words : List ℕ) 
   pub sees_there : (o : ℕ) (h : HeaderParts) → IsKnown c words o h → Turn c last log t [] words (hold held t (with_header g o h))
   sees_there o h known = subst (λ (z : Grasp). Turn c last log t [] words (hold held t (with_header z o h))) is
       (turn_none c last log t words (hold held t (with_header (held t) o h)) legal
-      (with_space c last words now held image image.moving (hold held t (with_header (held t) o h)) (holds (with_header (held t) o h) refl) (space_known c words now.objects now.used image.moving held image.space t o h known)))
+      (with_space c last words now held image image.moving (hold held t (with_header (held t) o h)) (holds (with_header (held t) o h) refl) (space_known c words now.objects (IsIn now.used) image.moving held image.space t o h known)))
 
   -- the top goes up, and the words between are the thread's own
   pub reserves : (n w : ℕ) → now.used + n ≤ c.words → IsTopOf (now.used + n) w → Turn c last log t (Reserve n ∷ []) (slice_set words top_at w) (hold held t (with_range g now.used (elements_from c words now.used n)))
@@ -66,7 +66,7 @@ module _ (c : Config) (last : ℕ) (log : History) (t : ℕ) (words : List ℕ) 
       let ws : List ℕ = elements_from c words now.used n in
       subst (λ (z : Grasp). Turn c last log t (Reserve n ∷ []) (slice_set words top_at w) (hold held t (with_range z now.used ws))) is
       (turn_one c last log t (slice_set words top_at w) (hold held t (with_range (held t) now.used ws)) legal (Reserve n) (row, (within, room))
-      (top_set c last words now held image w (now.used + n) image.moving (hold held t (with_range (held t) now.used ws)) (holds (with_range (held t) now.used ws) refl) top (space_reserved c words now.objects now.used image.moving held image.space t n w)))
+      (top_set c last words now held image w (now.used + n) image.moving (hold held t (with_range (held t) now.used ws)) (holds (with_range (held t) now.used ws) refl) top (space_reserved c words now.objects (IsIn now.used) image.moving held image.space t now.used n w (IsIn (now.used + n)) (λ x l. omega arith) (λ x a b. b) (λ x a b l. absurd (omega arith)))))
 
   -- a header for an object that is not present, whose elements are the thread's own range at its place
   pub publishes_own : (o : ℕ) (h : HeaderParts) → 1 ≤ o → o ≤ c.objects → IsHeader h → length (given_words h g) ≡ h.length → AreWords now h.kind (given_words h g) → get_or words (header_at c o) 0 ≡ 0
@@ -75,7 +75,7 @@ module _ (c : Config) (last : ℕ) (log : History) (t : ℕ) (words : List ℕ) 
       let room = given_fit c last words now held image unmoved (in_room c last log legal) (lengths_fit c last log legal).0 t h in
       publishes c last log t words legal held image row within o h (given_words h g) image.moving (hold held t (published h g)) (subst (λ (z : Grasp). AreHeld now.role image.moving (hold held t (published h z))) is (holds (published h (held t)) (published_moves h (held t)))) low high fits (sym long) good
       (subst (λ (z : Grasp). present_words c now + length (given_words h z) ≤ now.used) is room) none
-      (subst (λ (z : Grasp). IsSpace c (slice_set words (header_at c o) (header_word h)) (update nat_eq now.objects o (Some (record { kind = h.kind; words = given_words h z }))) now.used image.moving (hold held t (published h z))) is
+      (subst (λ (z : Grasp). IsSpace c (slice_set words (header_at c o) (header_word h)) (update nat_eq now.objects o (Some (record { kind = h.kind; words = given_words h z }))) (IsIn now.used) image.moving (hold held t (published h z))) is
       (space_headed c last words now held image unmoved t o h low high fits none))
 
   -- a header that the thread knows is so
@@ -108,13 +108,13 @@ module _ (c : Config) (last : ℕ) (log : History) (t : ℕ) (words : List ℕ) 
       let long = x.long in
       let short : i < length x.contents.words = omega arith in
       let most = (lengths_fit c last log legal).1 in
-      let space = space_written c words now.objects now.used None held at_header image.wide most o i v x.contents h known.number.0 known.number.1 x.is known.fits known.word short in
+      let space = space_written c words now.objects (IsIn now.used) None held at_header image.wide (λ x l. omega (arith, l, most)) o i v x.contents h known.number.0 known.number.1 x.is known.fits known.word short in
       let same : Some (record { kind = x.contents.kind; words = slice_set x.contents.words i v }) ≡ written (now.objects o) i v = sym (ap (λ y. written y i v) x.is) in
       turn_one c last log t (slice_set words (element_at c (h.place + i)) v) held legal (Write o i v)
       (row, (within, x.contents, x.is, (λ z. kind (sym x.kind ∙ z)), short, subst (λ (k : Kind). IsWord now k v) (sym x.kind) word))
       (element_set c last words now held image v (h.place + i) (update nat_eq now.objects o (written (now.objects o) i v)) None held held_still (known_below o h i e l)
       (λ r w. at_number (λ y. IsHeaderOf (now.objects r) w → IsHeaderOf y w) now.objects o r (written (now.objects o) i v) (λ q z. header_written (now.objects o) w i v (subst (λ k. IsHeaderOf (now.objects k) w) (sym q) z)) (λ ne z. z))
-      (subst (λ y. IsSpace c (slice_set words (element_at c (h.place + i)) v) (update nat_eq now.objects o y) now.used None held) same space))
+      (subst (λ y. IsSpace c (slice_set words (element_at c (h.place + i)) v) (update nat_eq now.objects o y) (IsIn now.used) None held) same space))
     where
       header_written : (y : Option Contents) (w i v : ℕ) → IsHeaderOf y w → IsHeaderOf (written y i v) w
       header_written None w i v z = z
@@ -128,4 +128,4 @@ module _ (c : Config) (last : ℕ) (log : History) (t : ℕ) (words : List ℕ) 
       subst (λ (z : Grasp). Turn c last log t [] (slice_set words (element_at c (p + i)) v) (hold held t (with_range z p (slice_set (words_at p z.ranges) i v)))) is
       (turn_none c last log t (slice_set words (element_at c (p + i)) v) (hold held t (with_range (held t) p (slice_set (words_at p (held t).ranges) i v))) legal
       (element_set c last words now held image v (p + i) now.objects image.moving (hold held t (with_range (held t) p (slice_set (words_at p (held t).ranges) i v))) (holds (with_range (held t) p (slice_set (words_at p (held t).ranges) i v)) refl) (own_below p i l) (λ o w z. z)
-      (space_put c words now.objects now.used image.moving held image.space image.wide most t p i v own)))
+      (space_put c words now.objects (IsIn now.used) image.moving held image.space image.wide (λ x l. omega (arith, l, most)) t p i v own)))

@@ -19,7 +19,7 @@ use mathlib.Core.Logic.{dite}
 use native.Mathlib.Decide.{ℕ_discrete}
 use Rattle.jr_rule.proofs.Spaces.{space_low, space_same, space_let_go, hold_here, hold_else}
 use Rattle.jr_rule.specs.Grasping.{empty, hold}
-use Rattle.jr_rule.specs.Image.{gate_at, top_at, slot_at, local_at, header_at, element_at, MayHold, AreHeld, IsSpace, IsGateOf, IsTopOf, StandsAlone, SaysOfSlot, IsSlotOf, IsLocalOf, IsHeaderOf, IsImage}
+use Rattle.jr_rule.specs.Image.{gate_at, top_at, slot_at, local_at, header_at, element_at, MayHold, AreHeld, IsIn, IsSpace, IsGateOf, IsTopOf, StandsAlone, SaysOfSlot, IsSlotOf, IsLocalOf, IsHeaderOf, IsImage}
 
 -- the local words lie below the headers
 pub local_below : (c : Config) (t p : ℕ) → t < c.threads → p < c.locals → local_at c t p < 2 + c.slots + c.threads * c.locals
@@ -88,7 +88,7 @@ module _ (c : Config) (last : ℕ) (words : List ℕ) (s : State) (held : ℕ �
     header = λ o l m. other 0 (header_at c o) (IsHeaderOf (s.objects o)) (λ e. absurd (omega arith)) (image.header o l m);
     moving = image.moving;
     hands = hands;
-    space = space_low c words gate_at n (omega arith) s.objects s.used image.moving held image.space;
+    space = space_low c words gate_at n (omega arith) s.objects (IsIn s.used) image.moving held image.space;
   }
 
   pub slot_set : (i : ℕ) (refs : Handle → Found) (given : Handle → Bool) → i < c.slots → IsSlotOf last refs given i n → ((g : Handle) → g.index ≢ i → (refs g ≡ s.refs g) × (given g ≡ s.given g))
@@ -102,7 +102,7 @@ module _ (c : Config) (last : ℕ) (words : List ℕ) (s : State) (held : ℕ �
     header = λ o l m. other (slot_at i) (header_at c o) (IsHeaderOf (s.objects o)) (λ e. absurd (omega arith)) (image.header o l m);
     moving = image.moving;
     hands = record { each = image.hands.each; still = image.hands.still };
-    space = space_low c words (slot_at i) n (omega arith) s.objects s.used image.moving held image.space;
+    space = space_low c words (slot_at i) n (omega arith) s.objects (IsIn s.used) image.moving held image.space;
   }
     where
       by_index : (j : ℕ) → j < c.slots → (b : Bool) → (i == j) ≡ b → IsSlotOf last refs given j (get_or (slice_set words (slot_at i) n) (slot_at j) 0)
@@ -130,11 +130,11 @@ module _ (c : Config) (last : ℕ) (words : List ℕ) (s : State) (held : ℕ �
     header = λ r l m. other (local_at c t p) (header_at c r) (IsHeaderOf (s.objects r)) (λ e. absurd (omega arith)) (image.header r l m);
     moving = image.moving;
     hands = record { each = image.hands.each; still = image.hands.still };
-    space = space_low c words (local_at c t p) n (omega arith) s.objects s.used image.moving held image.space;
+    space = space_low c words (local_at c t p) n (omega arith) s.objects (IsIn s.used) image.moving held image.space;
   }
 
   -- where the word of several parts changes, the space is the caller's to show
-  pub top_set : (used : ℕ) (moving : Option Move) (held' : ℕ → Grasp) → AreHeld s.role moving held' → IsTopOf used n → IsSpace c (slice_set words top_at n) s.objects used moving held' → IsImage c last (slice_set words top_at n) (record s { used = used }) held'
+  pub top_set : (used : ℕ) (moving : Option Move) (held' : ℕ → Grasp) → AreHeld s.role moving held' → IsTopOf used n → IsSpace c (slice_set words top_at n) s.objects (IsIn used) moving held' → IsImage c last (slice_set words top_at n) (record s { used = used }) held'
   top_set used moving held' hands x space = let wide = image.wide in record {
     wide = length-set words top_at n ∙ image.wide;
     gate = other 1 0 (IsGateOf c s.role) (λ e. absurd (omega arith)) image.gate;
@@ -147,7 +147,7 @@ module _ (c : Config) (last : ℕ) (words : List ℕ) (s : State) (held : ℕ �
     space = space;
   }
 
-  pub header_set : (o : ℕ) (x : Option Contents) (moving : Option Move) (held' : ℕ → Grasp) → AreHeld s.role moving held' → 1 ≤ o → o ≤ c.objects → IsHeaderOf x n → IsSpace c (slice_set words (header_at c o) n) (update nat_eq s.objects o x) s.used moving held'
+  pub header_set : (o : ℕ) (x : Option Contents) (moving : Option Move) (held' : ℕ → Grasp) → AreHeld s.role moving held' → 1 ≤ o → o ≤ c.objects → IsHeaderOf x n → IsSpace c (slice_set words (header_at c o) n) (update nat_eq s.objects o x) (IsIn s.used) moving held'
       → IsImage c last (slice_set words (header_at c o) n) (record s { objects = update nat_eq s.objects o x }) held'
   header_set o x moving held' hands low high h space = let wide = image.wide in record {
     wide = length-set words (header_at c o) n ∙ image.wide;
@@ -164,7 +164,7 @@ module _ (c : Config) (last : ℕ) (words : List ℕ) (s : State) (held : ℕ �
   }
 
   -- a word of array space, where the objects keep their headers
-  pub element_set : (x : ℕ) (objects : ℕ → Option Contents) (moving : Option Move) (held' : ℕ → Grasp) → AreHeld s.role moving held' → x < c.words → ((o w : ℕ) → IsHeaderOf (s.objects o) w → IsHeaderOf (objects o) w) → IsSpace c (slice_set words (element_at c x) n) objects s.used moving held'
+  pub element_set : (x : ℕ) (objects : ℕ → Option Contents) (moving : Option Move) (held' : ℕ → Grasp) → AreHeld s.role moving held' → x < c.words → ((o w : ℕ) → IsHeaderOf (s.objects o) w → IsHeaderOf (objects o) w) → IsSpace c (slice_set words (element_at c x) n) objects (IsIn s.used) moving held'
       → IsImage c last (slice_set words (element_at c x) n) (record s { objects = objects }) held'
   element_set x objects moving held' hands row same space = let wide = image.wide in record {
     wide = length-set words (element_at c x) n ∙ image.wide;
@@ -179,13 +179,13 @@ module _ (c : Config) (last : ℕ) (words : List ℕ) (s : State) (held : ℕ �
   }
 
 module _ (c : Config) (last : ℕ) (words : List ℕ) (s : State) (held : ℕ → Grasp) (image : IsImage c last words s held) where
-  pub with_space : (moving : Option Move) (held' : ℕ → Grasp) → AreHeld s.role moving held' → IsSpace c words s.objects s.used moving held' → IsImage c last words s held'
+  pub with_space : (moving : Option Move) (held' : ℕ → Grasp) → AreHeld s.role moving held' → IsSpace c words s.objects (IsIn s.used) moving held' → IsImage c last words s held'
   with_space moving held' hands space = record { wide = image.wide; gate = image.gate; top = image.top; slot = image.slot; local = image.local; header = image.header; moving = moving; hands = hands; space = space }
 
   -- who holds the same
   pub image_same : (held' : ℕ → Grasp) → ((u : ℕ) → held' u ≡ held u) → IsImage c last words s held'
-  image_same held' same = with_space image.moving held' (hands_same s.role image.moving held held' same image.hands) (space_same c words s.objects s.used image.moving held image.space held' same)
+  image_same held' same = with_space image.moving held' (hands_same s.role image.moving held held' same image.hands) (space_same c words s.objects (IsIn s.used) image.moving held image.space held' same)
 
   -- a thread holds nothing any more, where no move of its own is unfinished
   pub image_let_go : (t : ℕ) → MayHold image.moving (s.role t) empty → IsImage c last words s (hold held t empty)
-  image_let_go t may = with_space image.moving (hold held t empty) (hands_held s.role image.moving held t empty may image.hands) (space_let_go c words s.objects s.used image.moving held image.space t)
+  image_let_go t may = with_space image.moving (hold held t empty) (hands_held s.role image.moving held t empty may image.hands) (space_let_go c words s.objects (IsIn s.used) image.moving held image.space t)

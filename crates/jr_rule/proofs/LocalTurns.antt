@@ -13,7 +13,7 @@ use Rattle.jr_model.specs.History.{History, state, IsLegal}
 use Rattle.jr_rule.specs.Acts.{putting}
 use Rattle.jr_rule.specs.declared.known.Grasp.{Grasp}
 use Rattle.jr_rule.specs.declared.known.Move.{Move}
-use Rattle.jr_rule.specs.Image.{local_at, header_at, local_parts, AreHeld, IsImage, IsSpace}
+use Rattle.jr_rule.specs.Image.{local_at, header_at, local_parts, AreHeld, IsIn, IsImage, IsSpace}
 use Rattle.jr_rule.proofs.Headers.{header_none}
 use Rattle.jr_rule.proofs.Turns.{Turn, turn_one}
 use Rattle.jr_rule.proofs.Images.{local_set, header_set}
@@ -33,7 +33,7 @@ module _ (c : Config) (last : ℕ) (log : History) (t : ℕ) (words : List ℕ) 
 
   -- a header for an object that is not present, with elements that stand already
   pub publishes : (o : ℕ) (parts : HeaderParts) (ws : List ℕ) (moving : Option Move) (held' : ℕ → Grasp) → AreHeld (state log).role moving held' → 1 ≤ o → o ≤ c.objects → IsHeader parts → parts.length ≡ length ws → AreWords (state log) parts.kind ws → present_words c (state log) + length ws ≤ (state log).used → get_or words (header_at c o) 0 ≡ 0
-      → IsSpace c (slice_set words (header_at c o) (header_word parts)) (update nat_eq (state log).objects o (Some (record { kind = parts.kind; words = ws }))) (state log).used moving held'
+      → IsSpace c (slice_set words (header_at c o) (header_word parts)) (update nat_eq (state log).objects o (Some (record { kind = parts.kind; words = ws }))) (IsIn (state log).used) moving held'
       → Turn c last log t (New o parts.kind ws ∷ []) (slice_set words (header_at c o) (header_word parts)) held'
   publishes o parts ws moving held' hands low high fits long good room found space =
       let s : State = state log in

@@ -1,5 +1,5 @@
 -- The space while a thread collects, and so nobody holds a range: an element was moved, a header was set, an object was dropped, the top was set.
-use Rattle.std.proofs.Common.{◌≡◌, ◌≢◌, ◌+◌, ◌<◌, ◌≤◌, ◌==◌, ◌&&◌, ℕ, cond, Option, Some, None, List, [], length, get_or, slice_set, eq-eqb, ne_eqb, refl, sym, ap, subst, ◌∙◌, arith, nat_eq, nat_lt, get_or-set_same, get_or-set_other}
+use Rattle.std.proofs.Common.{◌≡◌, ◌≢◌, ◌+◌, ◌<◌, ◌≤◌, ◌==◌, ◌&&◌, ℕ, Bool, true, false, cond, Option, Some, None, List, [], length, get_or, slice_set, eq-eqb, ne_eqb, refl, sym, ap, subst, ◌∙◌, arith, nat_eq, nat_lt, get_or-set_same, get_or-set_other}
 use mathlib.Core.Logic.{dite}
 use native.Mathlib.Decide.{ℕ_discrete, dec_lt}
 use Rattle.std.proofs.lemmas.Bool.{lt-ltb, le-ltb}
@@ -13,7 +13,7 @@ use Rattle.jr_model.proofs.Updates.{at_number}
 use Rattle.jr_rule.specs.declared.known.Grasp.{Grasp}
 use Rattle.jr_rule.specs.declared.known.Move.{Move}
 use Rattle.jr_rule.specs.Grasping.{words_at, header_in, move_of, HasDone}
-use Rattle.jr_rule.specs.Image.{top_at, header_at, element_at, Owner, unowned, of_object, of_range, Stands, spot, IsIn, IsKnown, IsSpace}
+use Rattle.jr_rule.specs.Image.{top_at, header_at, element_at, Owner, unowned, of_object, of_range, Stands, spot, IsKnown, IsSpace}
 use Rattle.jr_word.proofs.OneWord.{header_word-injective}
 use Rattle.jr_rule.proofs.HeapSpaces.{not_unowned, there, elsewhere, no_header}
 use Rattle.jr_rule.proofs.Spaces.{header_stays, element_stays}
@@ -45,9 +45,9 @@ at_left (Some m) o place n d p i l = ap (λ z. spot (Some z) o p i) d ∙ spot_l
 none_own : (c : Config) (owner : ℕ → Owner) (words : List ℕ) (whose also : ℕ → Owner) (spots : ℕ → ℕ) (items : List ℕ) → items ≡ [] → Stands c owner words whose spots items
 none_own c owner words whose also spots items e = record { owns = λ j l. absurd (let z = ap length e in omega arith); reads = λ j l. absurd (let z = ap length e in omega arith) }
 
-module _ (c : Config) (words : List ℕ) (objects : ℕ → Option Contents) (used : ℕ) (moving : Option Move) (held : ℕ → Grasp) (s : IsSpace c words objects used moving held) (wide : length words ≡ row_words c) (fits : used ≤ c.words) (held' : ℕ → Grasp) (none : (u p : ℕ) → words_at p (held' u).ranges ≡ []) where
+module _ (c : Config) (words : List ℕ) (objects : ℕ → Option Contents) (area : ℕ → Type 0) (moving : Option Move) (held : ℕ → Grasp) (s : IsSpace c words objects area moving held) (wide : length words ≡ row_words c) (fits : (x : ℕ) → area x → x < c.words) (held' : ℕ → Grasp) (none : (u p : ℕ) → words_at p (held' u).ranges ≡ []) where
   -- AN ELEMENT IS MOVED to its new place, which no other list has, and no element of its own that is still to be moved
-  module _ (o place j v : ℕ) (x : Contents) (h : HeaderParts) (some : 1 ≤ o) (few : o ≤ c.objects) (is : objects o ≡ Some x) (good : IsHeader h) (word : get_or words (header_at c o) 0 ≡ header_word h) (done : HasDone moving o place j) (short : j < length x.words) (room : IsIn used (place + j)) (later : (i : ℕ) → j < i → i < length x.words → h.place + i ≢ place + j) (value : get_or x.words j 0 ≡ v)
+  module _ (o place j v : ℕ) (x : Contents) (h : HeaderParts) (some : 1 ≤ o) (few : o ≤ c.objects) (is : objects o ≡ Some x) (good : IsHeader h) (word : get_or words (header_at c o) 0 ≡ header_word h) (done : HasDone moving o place j) (short : j < length x.words) (room : area (place + j)) (later : (i : ℕ) → j < i → i < length x.words → h.place + i ≢ place + j) (value : get_or x.words j 0 ≡ v)
       (free : (r : ℕ) (y : Contents) (k : HeaderParts) → o ≢ r → 1 ≤ r → r ≤ c.objects → objects r ≡ Some y → IsHeader k → get_or words (header_at c r) 0 ≡ header_word k → (i : ℕ) → i < length y.words → k.place + i ≢ place + j)
       (known : (u r : ℕ) (k : HeaderParts) → header_in r (held' u).headers ≡ Some k → IsKnown c (slice_set words (element_at c (place + j)) v) r k) where
     abbrev at : ℕ
@@ -68,7 +68,7 @@ module _ (c : Config) (words : List ℕ) (objects : ℕ → Option Contents) (us
     owner_else : (y : ℕ) → y ≢ at → owner' y ≡ s.owner y
     owner_else y ne = ap (λ b. cond b (of_object o j) (s.owner y)) (ne_eqb y at ne)
 
-    below : IsIn used at
+    below : area at
     below = room
 
     old : Stands c s.owner words (of_object o) (spot moving o h.place) x.words
@@ -80,7 +80,7 @@ module _ (c : Config) (words : List ℕ) (objects : ℕ → Option Contents) (us
       pub reads : get_or then' (element_at c a) 0 ≡ w
 
     stays : (r i w a : ℕ) → a ≢ at → s.owner a ≡ of_object r i → get_or words (element_at c a) 0 ≡ w → IsAt r i w a
-    stays r i w a ne own read = record { owns = owner_else a ne ∙ own; reads = elsewhere c words objects used moving held s wide fits at v a ne ∙ read }
+    stays r i w a ne own read = record { owns = owner_else a ne ∙ own; reads = elsewhere c words objects area moving held s wide fits at v a ne ∙ read }
 
     -- each element of the object stands
     mine : (i : ℕ) → i < length x.words → IsAt o i (get_or x.words i 0) (spot move o h.place i)
@@ -89,7 +89,7 @@ module _ (c : Config) (words : List ℕ) (objects : ℕ → Option Contents) (us
         (stays o i (get_or x.words i 0) (spot moving o h.place i) (λ e. let q = at_done moving o place j done h.place i before in absurd (omega arith)) (old.owns i l) (old.reads i l)))
         (λ not. dite (ℕ_discrete i j)
         (λ here. subst (IsAt o i (get_or x.words i 0)) (sym (spot_done o place (j + 1) h.place i (omega arith)))
-        (subst (λ z. IsAt o z (get_or x.words z 0) (place + z)) (sym here) record { owns = owner_here; reads = there c words objects used moving held s wide fits at v below ∙ sym value }))
+        (subst (λ z. IsAt o z (get_or x.words z 0) (place + z)) (sym here) record { owns = owner_here; reads = there c words objects area moving held s wide fits at v below ∙ sym value }))
         (λ after. subst (IsAt o i (get_or x.words i 0)) (at_left moving o place j done h.place i (omega arith) ∙ sym (spot_left o place (j + 1) h.place i (omega arith)))
         (stays o i (get_or x.words i 0) (spot moving o h.place i) (λ e. later i (omega arith) l (sym (at_left moving o place j done h.place i (omega arith)) ∙ e)) (old.owns i l) (old.reads i l))))
 
@@ -101,12 +101,12 @@ module _ (c : Config) (words : List ℕ) (objects : ℕ → Option Contents) (us
         subst (IsAt r i (get_or y.words i 0)) (before ∙ sym (spot_else o place (j + 1) r k.place i ne))
         (stays r i (get_or y.words i 0) (spot moving r k.place i) (λ e. free r y k ne some' few' is' good' word' i l (sym before ∙ e)) (z.owns i l) (z.reads i l))
 
-    pub space_moved : IsSpace c then' objects used move held'
+    pub space_moved : IsSpace c then' objects area move held'
     space_moved = record {
       owner = owner';
-      inside = λ y owned. dite (ℕ_discrete y at) (λ e. subst (IsIn used) (sym e) below) (λ ne. s.inside y (λ q. owned (owner_else y ne ∙ q)));
+      inside = λ y owned. dite (ℕ_discrete y at) (λ e. subst area (sym e) below) (λ ne. s.inside y (λ q. owned (owner_else y ne ∙ q)));
       object = λ r y k some' few' is' good' word'.
-          let kept = sym (no_header c words objects used moving held s wide fits at v r some' few') ∙ word' in
+          let kept = sym (no_header c words objects area moving held s wide fits at v r some' few') ∙ word' in
           dite (ℕ_discrete o r)
           (λ e.
           let y_is : x ≡ y = let z = sym is ∙ (ap objects e ∙ is') in cc in
@@ -114,7 +114,7 @@ module _ (c : Config) (words : List ℕ) (objects : ℕ → Option Contents) (us
           subst (λ (z : ℕ × Contents × HeaderParts). Stands c owner' then' (of_object z.0) (spot move z.0 (z.2).place) (z.1).words) (λ q. (e q, y_is q, k_is q))
           record { owns = λ i l. (mine i l).owns; reads = λ i l. (mine i l).reads })
           (λ ne. record { owns = λ i l. (theirs r y k ne some' few' is' good' kept i l).owns; reads = λ i l. (theirs r y k ne some' few' is' good' kept i l).reads });
-      low = λ r y k some' few' is' good' word'. s.low r y k some' few' is' good' (sym (no_header c words objects used moving held s wide fits at v r some' few') ∙ word');
+      low = λ r y k some' few' is' good' word'. s.low r y k some' few' is' good' (sym (no_header c words objects area moving held s wide fits at v r some' few') ∙ word');
       range = λ u p. none_own c owner' then' (of_range u p) (of_range u p) (λ i. p + i) (words_at p (held' u).ranges) (none u p);
       header = known;
     }
@@ -147,7 +147,7 @@ module _ (c : Config) (words : List ℕ) (objects : ℕ → Option Contents) (us
     arrived : (i : ℕ) → i < length x.words → spot moving o h.place i ≡ new.place + i
     arrived i l = at_done moving o place (length x.words) done h.place i l ∙ ap (λ z. z + i) (sym to)
 
-    pub space_set : IsSpace c headed objects used None held'
+    pub space_set : IsSpace c headed objects area None held'
     space_set = record {
       owner = s.owner;
       inside = s.inside;
@@ -164,7 +164,7 @@ module _ (c : Config) (words : List ℕ) (objects : ℕ → Option Contents) (us
           (λ e.
           let y_is : x ≡ y = let z = sym is ∙ (ap objects e ∙ is') in cc in
           let k_is : new ≡ k = header_word-injective new k fits' good' (sym at_header ∙ (ap (λ z. get_or headed (header_at c z) 0) e ∙ word')) in
-          subst (λ (z : Contents × HeaderParts). (i : ℕ) → i < length (z.0).words → IsIn used ((z.1).place + i)) (λ q. (y_is q, k_is q))
+          subst (λ (z : Contents × HeaderParts). (i : ℕ) → i < length (z.0).words → area ((z.1).place + i)) (λ q. (y_is q, k_is q))
           (λ i l. s.inside (new.place + i) (λ q. not_unowned (s.owner (new.place + i)) o i q (subst (λ a. s.owner a ≡ of_object o i) (arrived i l) (old_list.owns i l)))))
           (λ ne. s.low r y k some' few' is' good' (sym (other_header r some' ne) ∙ word'));
       range = λ u p. none_own c s.owner headed (of_range u p) (of_range u p) (λ i. p + i) (words_at p (held' u).ranges) (none u p);
@@ -187,43 +187,47 @@ module _ (c : Config) (words : List ℕ) (objects : ℕ → Option Contents) (us
         → (r : ℕ) (y : Contents) (k : HeaderParts) → 1 ≤ r → r ≤ c.objects → update nat_eq objects o None r ≡ Some y → IsHeader k → get_or headless (header_at c r) 0 ≡ header_word k → P r y k
     left P old r y k some' few' is' good' word' = at_number (λ z. z ≡ Some y → P r y k) objects o r None (λ e z. absurd cc) (λ ne z. old r y k some' few' z good' (sym (its_header r some' ne) ∙ word')) is'
 
-    pub space_dropped : IsSpace c headless (update nat_eq objects o None) used moving held'
+    pub space_dropped : IsSpace c headless (update nat_eq objects o None) area moving held'
     space_dropped = record {
       owner = s.owner;
       inside = s.inside;
       object = left (λ r y k. Stands c s.owner headless (of_object r) (spot moving r k.place) y.words)
           (λ r y k a b e g w. let z = s.object r y k a b e g w in record { owns = z.owns; reads = λ i l. each_element (spot moving r k.place i) ∙ z.reads i l });
-      low = left (λ r y k. (i : ℕ) → i < length y.words → IsIn used (k.place + i)) s.low;
+      low = left (λ r y k. (i : ℕ) → i < length y.words → area (k.place + i)) s.low;
       range = λ u p. none_own c s.owner headless (of_range u p) (of_range u p) (λ i. p + i) (words_at p (held' u).ranges) (none u p);
       header = known;
     }
 
   -- THE TOP IS SET, with each list below it
-  module _ (w used' : ℕ) (still : moving ≡ None)
-      (below : (r : ℕ) (y : Contents) (k : HeaderParts) → 1 ≤ r → r ≤ c.objects → objects r ≡ Some y → IsHeader k → get_or words (header_at c r) 0 ≡ header_word k → (i : ℕ) → i < length y.words → k.place + i < used')
+  module _ (w : ℕ) (area' : ℕ → Type 0) (test : ℕ → Bool) (passes : (y : ℕ) → area' y → test y ≡ true) (means : (y : ℕ) → test y ≡ true → area' y) (still : moving ≡ None)
+      (below : (r : ℕ) (y : Contents) (k : HeaderParts) → 1 ≤ r → r ≤ c.objects → objects r ≡ Some y → IsHeader k → get_or words (header_at c r) 0 ≡ header_word k → (i : ℕ) → i < length y.words → area' (k.place + i))
       (known : (u r : ℕ) (k : HeaderParts) → header_in r (held' u).headers ≡ Some k → IsKnown c (slice_set words top_at w) r k) where
     abbrev settled : List ℕ
     settled = slice_set words top_at w
 
     abbrev left_owner : ℕ → Owner
-    left_owner y = cond (nat_lt y used') (s.owner y) unowned
+    left_owner y = cond (test y) (s.owner y) unowned
 
-    left_below : (y : ℕ) → y < used' → left_owner y ≡ s.owner y
-    left_below y l = ap (λ b. cond b (s.owner y) unowned) (lt-ltb y used' l)
+    left_below : (y : ℕ) → area' y → left_owner y ≡ s.owner y
+    left_below y l = ap (λ b. cond b (s.owner y) unowned) (passes y l)
 
-    left_above : (y : ℕ) → used' ≤ y → left_owner y ≡ unowned
-    left_above y l = ap (λ b. cond b (s.owner y) unowned) (le-ltb y used' l)
+    left_in : (y : ℕ) → left_owner y ≢ unowned → area' y
+    left_in y owned = go (test y) refl
+      where
+        go : (b : Bool) → test y ≡ b → area' y
+        go true e = means y e
+        go false e = absurd (owned (ap (λ b. cond b (s.owner y) unowned) e))
 
     here : (r : ℕ) (y : Contents) (k : HeaderParts) → 1 ≤ r → r ≤ c.objects → objects r ≡ Some y → IsHeader k → get_or settled (header_at c r) 0 ≡ header_word k → get_or words (header_at c r) 0 ≡ header_word k
     here r y k a b e g z = sym (header_stays c words top_at w (omega arith) r a) ∙ z
 
-    pub space_settled : IsSpace c settled objects used' moving held'
+    pub space_settled : IsSpace c settled objects area' moving held'
     space_settled = record {
       owner = left_owner;
-      inside = λ y owned. dite (dec_lt y used') (λ l. l) (λ n. absurd (owned (left_above y (omega arith))));
+      inside = left_in;
       object = λ r y k a b e g z.
           let q = s.object r y k a b e g (here r y k a b e g z) in record {
-            owns = λ i l. left_below (spot moving r k.place i) (subst (λ m. spot m r k.place i < used') (sym still) (below r y k a b e g (here r y k a b e g z) i l)) ∙ q.owns i l;
+            owns = λ i l. left_below (spot moving r k.place i) (subst (λ m. area' (spot m r k.place i)) (sym still) (below r y k a b e g (here r y k a b e g z) i l)) ∙ q.owns i l;
             reads = λ i l. element_stays c words top_at w (omega arith) (spot moving r k.place i) ∙ q.reads i l;
           };
       low = λ r y k a b e g z i l. below r y k a b e g (here r y k a b e g z) i l;

@@ -25,8 +25,8 @@ module _ (c : Config) (words : List ℕ) (i n : ℕ) (low : i < before_headers c
   stands_low owner whose at items s = record { owns = s.owns; reads = λ j l. element_stays (at j) ∙ s.reads j l }
 
   -- so the space stays
-  pub space_low : (objects : ℕ → Option Contents) (used : ℕ) (moving : Option Move) (held : ℕ → Grasp) → IsSpace c words objects used moving held → IsSpace c (slice_set words i n) objects used moving held
-  space_low objects used moving held s = record {
+  pub space_low : (objects : ℕ → Option Contents) (area : ℕ → Type 0) (moving : Option Move) (held : ℕ → Grasp) → IsSpace c words objects area moving held → IsSpace c (slice_set words i n) objects area moving held
+  space_low objects area moving held s = record {
     owner = s.owner;
     inside = s.inside;
     object = λ o x h some few is fits word. stands_low s.owner (of_object o) (spot moving o h.place) x.words (s.object o x h some few is fits (sym (header_stays o some) ∙ word));
@@ -47,9 +47,9 @@ hold_same held t g is u = dite (ℕ_discrete u t)
     (λ e. ap (hold held t g) e ∙ (hold_here held t g ∙ (sym is ∙ ap held (sym e))))
     (λ ne. hold_else held t u g ne)
 
-module _ (c : Config) (words : List ℕ) (objects : ℕ → Option Contents) (used : ℕ) (moving : Option Move) (held : ℕ → Grasp) (s : IsSpace c words objects used moving held) where
+module _ (c : Config) (words : List ℕ) (objects : ℕ → Option Contents) (area : ℕ → Type 0) (moving : Option Move) (held : ℕ → Grasp) (s : IsSpace c words objects area moving held) where
   -- who holds the same
-  pub space_same : (held' : ℕ → Grasp) → ((u : ℕ) → held' u ≡ held u) → IsSpace c words objects used moving held'
+  pub space_same : (held' : ℕ → Grasp) → ((u : ℕ) → held' u ≡ held u) → IsSpace c words objects area moving held'
   space_same held' same = record {
     owner = s.owner;
     inside = s.inside;
@@ -60,7 +60,7 @@ module _ (c : Config) (words : List ℕ) (objects : ℕ → Option Contents) (us
   }
 
   -- a thread holds nothing any more
-  pub space_let_go : (t : ℕ) → IsSpace c words objects used moving (hold held t empty)
+  pub space_let_go : (t : ℕ) → IsSpace c words objects area moving (hold held t empty)
   space_let_go t = record {
     owner = s.owner;
     inside = s.inside;
