@@ -26,7 +26,7 @@ use Rattle.jr_rule.specs.Rule.{known, IsFound}
 use Rattle.jr_rule.proofs.Goes.{present_stays}
 
 -- who has no events of its own is not among the threads
-none_mine : (es : History) (t : ℕ) → mine es t ≡ [] → AllByRecursion (λ e. e.thread ≢ t) es
+pub none_mine : (es : History) (t : ℕ) → mine es t ≡ [] → AllByRecursion (λ e. e.thread ≢ t) es
 none_mine [] t e = tt
 none_mine (f ∷ es) t e = go (f.thread == t) refl (none_mine es t)
   where

@@ -44,4 +44,5 @@ pub mod HeapOwed
 pub mod PlainCollect
 pub mod Meeting
 pub mod Ended
+pub mod Collected
 mod Claimable
