@@ -15,6 +15,7 @@ use Rattle.jr_rule.specs.declared.known.Known.{Known}
 use Rattle.jr_rule.specs.declared.pass.Pass.{Pass}
 use Rattle.jr_rule.specs.Acts.{found_object, handle_of}
 use Rattle.jr_rule.specs.Knowing.{MayKnow, HasObject, HasOptional, HasLooked, IsFreeSlot, KnowsHeader, HasWord, IsWordNow, IsSettled}
+use Rattle.jr_rule.specs.Image.{spot}
 use Rattle.jr_rule.specs.Passes.{known_of, Knows}
 use Rattle.jr_rule.specs.Slots.{CanStand}
 use Rattle.jr_rule.proofs.InRoom.{in_room}
@@ -56,7 +57,7 @@ module _ (p : Pass) where
   there_known o h i may = (
     ∥∥₁_elim may (hlevel props) (λ k. subst (KnowsHeader o h) (k.1).is (k.2).0),
     ∥∥₁_elim may (hlevel props) (λ k. (k.2).1),
-    ∥∥₁_elim may (hlevel props) (λ k. subst IsSettled (k.1).is (k.2).2),
+    ∥∥₁_elim may (hlevel props) (λ k. subst (λ (z : Known). spot z.grasp.moving o h.place i ≡ h.place + i) (k.1).is (k.2).2),
   )
 
   pub wipe_known : (i serial o : ℕ) → MayKnow Knows p (CanWipe i serial o) → CanWipe i serial o (known_of p)
