@@ -54,7 +54,7 @@ pub record IsFilledTo (place n v i : ℕ) (j k : Known) : Type 0 where
   pub long : 1 ≤ n → length (words_at place k.grasp.ranges) ≡ n
   pub words : 1 ≤ n → take i (words_at place k.grasp.ranges) ≡ replicate i v
   pub headers : k.grasp.headers ≡ j.grasp.headers
-  pub others : (p : ℕ) → p ≢ place → words_at p k.grasp.ranges ≡ words_at p j.grasp.ranges
+  pub others : (p : ℕ) → (p ≢ place) ⊎ (n ≡ 0) → words_at p k.grasp.ranges ≡ words_at p j.grasp.ranges
 
 -- what was done so far
 pub record FilledTo {S : Type 0} (stands : S → Standing) (knows : S → Known → Type 0) (place n v : ℕ) (old new : S) (i : ℕ) : Type 0 where
@@ -113,7 +113,7 @@ module _ {S : Type 0} {stands : S → Standing} {knows : S → Known → Type 0}
             long = λ q. ap (λ (ws : List ℕ). length ws) here ∙ (length-set (words_at place x.0.grasp.ranges) i v ∙ x.3.long q);
             words = λ q. ap (λ ws. take (i + 1) ws) here ∙ filled_next i v (words_at place x.0.grasp.ranges) (x.3.words q) has;
             headers = ap (λ (g : Grasp). g.headers) y.3 ∙ x.3.headers;
-            others = λ r ne. stored_elsewhere place i v x.0 y.0 y.3 r ne ∙ x.3.others r ne;
+            others = λ r ne. ⊎_elim (λ (d : r ≢ place). stored_elsewhere place i v x.0 y.0 y.3 r d) (λ (z : n ≡ 0). absurd (omega arith)) ne ∙ x.3.others r ne;
           },
         );
   }

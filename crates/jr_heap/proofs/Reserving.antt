@@ -32,9 +32,9 @@ lost : (n l u : ℕ) → n ≢ 0 → (f : Frames) → reserve n f (ReserveLost n
 lost zero l u some f = absurd (some refl)
 lost (suc n) l u some f = inr (inr (inl ((l, u), f, ReserveLost (suc n) l u ∷ [], [], refl, ((l, u), refl, refl, refl), (refl, refl, refl))))
 
-gains : (n place : ℕ) (j k : Known) → n ≢ 0 → (ws : List ℕ) → length ws ≡ n → k.grasp ≡ with_range j.grasp place ws → Gains n place j k
-gains zero place j k some ws long g = absurd (some refl)
-gains (suc n) place j k some ws long g = (ws, long, g)
+gains : (n place : ℕ) (j k : Known) → n ≢ 0 → (ws : List ℕ) → length ws ≡ n → k.grasp ≡ with_range j.grasp place ws → words_at place j.grasp.ranges ≡ [] → Gains n place j k
+gains zero place j k some ws long g none = absurd (some refl)
+gains (suc n) place j k some ws long g none = (ws, long, g, none)
 
 -- sums in wide numbers
 pub over : {u n w x y z : ℕ} → x ≡ u → y ≡ n → z ≡ w → z < x + y → w < u + n
@@ -73,7 +73,7 @@ module _ {S : Type 0} {stands : S → Standing} {knows : S → Known → Type 0}
         let j = first k s in
         let g = t.goes j.0 j.1 tt in
         let e : g.0.grasp ≡ with_range k.grasp u g.3.0 = g.3.2 ∙ ap (λ h. with_range h u g.3.0) j.4 in
-        (g.0, g.1, Reserve n ∷ [], record { did = did_then [] (Reserve n ∷ []) j.2 (goes_did g.2); is = reserved n some; grounds = tt; shows = gains n u k g.0 some g.3.0 g.3.1 e }))
+        (g.0, g.1, Reserve n ∷ [], record { did = did_then [] (Reserve n ∷ []) j.2 (goes_did g.2); is = reserved n some; grounds = tt; shows = gains n u k g.0 some g.3.0 g.3.1 e (subst (λ (h : Grasp). words_at u h.ranges ≡ []) j.4 g.3.3) }))
 
     pub reserve_lost : {c : S} (found : ℕ) → ((k : Known) → knows a k → k.config.words ≡ words) → Took stands knows b c (ReserveLost n u found ∷ []) anything (ShowsRange u n (Err found)) → Called knows a c anything (λ j k. reserve n) (Err (Raced u found)) keeps
     reserve_lost found same t = called_by (λ k s m.

@@ -1,5 +1,5 @@
 -- What the calls of the heap do, for whatever was known.
-use Rattle.std.specs.Prelude.{◌≡◌, ◌≢◌, ◌==◌, ◌+◌, ◌-◌, ℕ, zero, suc, nat_lt, cond, Result, Ok, Err, Some, List, [], length, replicate}
+use Rattle.std.specs.Prelude.{◌≡◌, ◌≢◌, ◌⊎◌, ◌==◌, ◌+◌, ◌-◌, ℕ, zero, suc, nat_lt, cond, Result, Ok, Err, Some, List, [], length, replicate}
 use Rattle.jr_word.specs.declared.fault.Fault.{Fault}
 use Rattle.jr_word.specs.declared.header.HeaderParts.{HeaderParts}
 use Rattle.jr_word.specs.declared.kind.Kind.{Kind}
@@ -39,16 +39,16 @@ IsOwn place n k = length (words_of place n k) ≡ n
 abbrev pub IsReady : Kind → ℕ → ℕ → Known → Type 0
 IsReady kind place n k = IsFilled (header_of kind place n) k
 
--- what a reservation of n words gives: so many words of the pass's own at the place
+-- what a reservation of n words gives: so many words of the pass's own at the place, where it had none
 abbrev pub Gains : ℕ → ℕ → Known → Known → Type 0
 Gains zero place j k = keeps j k
-Gains (suc n) place j k = (ws : List ℕ) × (length ws ≡ suc n) × (k.grasp ≡ with_range j.grasp place ws)
+Gains (suc n) place j k = (ws : List ℕ) × (length ws ≡ suc n) × (k.grasp ≡ with_range j.grasp place ws) × (words_at place j.grasp.ranges ≡ [])
 
 -- what a filling changes: each of the n words at the place is v then, and nothing else that the pass holds is other
 pub record Fills (place n v : ℕ) (j k : Known) : Type 0 where
   pub words : words_of place n k ≡ replicate n v
   pub headers : k.grasp.headers ≡ j.grasp.headers
-  pub others : (p : ℕ) → p ≢ place → words_at p k.grasp.ranges ≡ words_at p j.grasp.ranges
+  pub others : (p : ℕ) → (p ≢ place) ⊎ (n ≡ 0) → words_at p k.grasp.ranges ≡ words_at p j.grasp.ranges
 
 -- OBJECTS
 

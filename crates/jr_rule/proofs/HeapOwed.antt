@@ -31,13 +31,13 @@ use Rattle.jr_rule.specs.declared.naming.TopNaming.{TopNaming}
 use Rattle.jr_rule.specs.declared.naming.TopNaming.TheVariants as top
 use Rattle.jr_rule.specs.Acts.{publishing}
 use Rattle.jr_rule.specs.Grasping.{words_at, with_range, with_header, hold}
-use Rattle.jr_rule.specs.Image.{top_at, header_at, element_at, IsHeaderOf, IsKnown}
+use Rattle.jr_rule.specs.Image.{top_at, header_at, element_at, IsIn, IsHeaderOf, IsKnown}
 use Rattle.jr_rule.specs.Knowing.{view, state_of, KnowsHeader, HasWord, IsWordNow, IsFilled, words_for, published, fresh_from, ShowsPublished}
 use Rattle.jr_rule.specs.Rule.{Makes, Owes}
 use Rattle.jr_rule.proofs.Found.{role_at, present_now}
 use Rattle.jr_rule.proofs.HeapTurns.{sees_there, reserves, publishes_own, reads, writes, puts_own as stores_own}
 use Rattle.jr_rule.proofs.Headers.{header_some, header_positive}
-use Rattle.jr_rule.proofs.HeapSpaces.{elements_from, elements_length}
+use Rattle.jr_rule.proofs.HeapSpaces.{elements_from, elements_length, none_beyond}
 use Rattle.jr_rule.proofs.Owing.{gaining, quiet, written as renamed, unwritten, won, lost}
 use Rattle.jr_rule.proofs.Told.{IsHeaderWord, SawHeader, Published, used_word, SawTop, ClaimedTop, SawElement, PutElement, PutOwn}
 use Rattle.jr_rule.proofs.Turns.{Turn, turn_one, turn_none}
@@ -119,12 +119,13 @@ module _ (k : Known) (within : role_of (view k) ≡ Within) where
       (λ won_it.
       let same : s.used ≡ looked = omega arith in
       let ws : List ℕ = elements_from k.config words s.used more in
+      let nothing : words_at looked k.grasp.ranges ≡ [] = subst (λ u. words_at u k.grasp.ranges ≡ []) same (subst (λ (h : Grasp). words_at s.used h.ranges ≡ []) f.fits.grasp (none_beyond k.config words s.objects (IsIn s.used) f.image.moving held f.image.space s.used k.thread (λ (l : s.used < s.used). absurd (omega arith)))) in
       let g : Grasp = with_range k.grasp looked ws in
       let turn = subst (λ u. Turn k.config k.last log k.thread (Reserve more ∷ []) (slice_set words top_at new) (hold held k.thread (with_range k.grasp u ws))) same
       (reserves k.config k.last log k.thread words f.legal held f.image f.fits.row inside k.grasp f.fits.grasp more new (omega arith) (omega arith)) in
       gaining k log (slice_set words top_at (either (eqb n old) new n)) held (ClaimedTop looked more k n) (Reserve more ∷ []) g
       (renamed k log words (hold held k.thread g) top_at new (either (eqb n old) new n) (won old new n won_it) turn)
-      (λ e. (refl, (ws, elements_length k.config words s.used more, refl)), λ ne. absurd (ne won_it)))
+      (λ e. (refl, (ws, elements_length k.config words s.used more, refl, nothing)), λ ne. absurd (ne won_it)))
       (λ other. quiet k log words held f (slice_set words top_at (either (eqb n old) new n)) (ClaimedTop looked more k n) (ReserveLost more looked s.used ∷ [])
       (renamed k log words held top_at n (either (eqb n old) new n) (lost old new n other)
       (unwritten k log words held top_at (turn_one k.config k.last log k.thread words held f.legal (ReserveLost more looked s.used) (f.fits.row, (inside, refl, λ e. other (is ∙ ap used_word e))) f.image)))

@@ -87,6 +87,16 @@ module _ (c : Config) (words : List ℕ) (objects : ℕ → Option Contents) (ar
   pub range_below : (x t p j : ℕ) → s.owner x ≡ of_range t p j → area x
   range_below x t p j e = s.inside x (λ n. not_unowned' (s.owner x) t p j n e)
 
+  -- no range of a thread's own begins at a word that is not in the area
+  pub none_beyond : (p t : ℕ) → ¬ (area p) → words_at p (held t).ranges ≡ []
+  none_beyond p t out = go (words_at p (held t).ranges) refl
+    where
+      go : (ws : List ℕ) → words_at p (held t).ranges ≡ ws → ws ≡ []
+      go [] e = refl
+      go (x ∷ ws) e =
+          let some : 0 < length (words_at p (held t).ranges) = subst (λ (l : List ℕ). 0 < length l) (sym e) (omega arith) in
+          let at : p + 0 ≡ p = omega arith in absurd (out (subst area at (range_below (p + 0) t p 0 ((s.range t p).owns 0 some))))
+
   -- RESERVING: the area in use grows by n words from a place on, which are the thread's
   module _ (t base n w : ℕ) (area' : ℕ → Type 0) (wider : (x : ℕ) → area x → area' x) (grown : (x : ℕ) → base ≤ x → x < base + n → area' x) (fresh : (x : ℕ) → base ≤ x → x < base + n → ¬ (area x)) where
     abbrev reserved : ℕ → Owner

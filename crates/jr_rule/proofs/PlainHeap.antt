@@ -25,13 +25,13 @@ use Rattle.jr_rule.specs.declared.naming.TopNaming.{TopNaming}
 use Rattle.jr_rule.specs.declared.naming.TopNaming.TheVariants as top
 use Rattle.jr_rule.specs.Acts.{publishing, top_named, reserving}
 use Rattle.jr_rule.specs.Grasping.{words_at, with_range, with_header, hold}
-use Rattle.jr_rule.specs.Image.{top_at, header_at, element_at, IsHeaderOf, IsKnown}
+use Rattle.jr_rule.specs.Image.{top_at, header_at, element_at, IsIn, IsHeaderOf, IsKnown}
 use Rattle.jr_rule.specs.Knowing.{Standing, moved, MayKnow, anything, keeps, KnowsHeader, HasWord, IsWordNow, IsFilled, words_for, published, ShowsHeader, ShowsPublished, ShowsUsed, ShowsRange, ShowsWord}
 use Rattle.jr_rule.specs.Plain.{alone, standing, Shows}
 use Rattle.jr_rule.proofs.Effects.{publishing_role, publishing_fresh, top_named_role, top_named_fresh}
 use Rattle.jr_rule.proofs.Headers.{header_some}
 use Rattle.jr_rule.proofs.HeapImages.{there}
-use Rattle.jr_rule.proofs.HeapSpaces.{elements_from, elements_length}
+use Rattle.jr_rule.proofs.HeapSpaces.{elements_from, elements_length, none_beyond}
 use Rattle.jr_rule.proofs.HeapTurns.{sees_there, reserves, publishes_own, known_below, own_below, reads, writes, puts_own}
 use Rattle.jr_rule.proofs.Images.{image_same}
 use Rattle.jr_rule.proofs.Spaces.{hold_same}
@@ -175,7 +175,7 @@ module _ (config : Config) (last : ℕ) (few : IsFew config last) (role : Role) 
         with_range k.grasp looked ws,
         subst (λ p. Turn k.config k.last k.seen k.thread (Reserve n ∷ []) (slice_set words top_at w) (hold (alone k.grasp) k.thread (with_range k.grasp p ws))) (sym used)
             (reserves k.config k.last k.seen k.thread words s.pass.legal (alone k.grasp) s.image (row k s) (s.pass.role ∙ within) k.grasp (own k s) n w (omega arith) (new ∙ ap (λ u. top_word (record { used = u + n; half = First })) used)),
-        (ws, elements_length k.config words (state k.seen).used n, refl),
+        (ws, elements_length k.config words (state k.seen).used n, refl, subst (λ u. words_at u k.grasp.ranges ≡ []) (sym used) (subst (λ (h : Grasp). words_at (state k.seen).used h.ranges ≡ []) (own k s) (none_beyond k.config words (state k.seen).objects (IsIn (state k.seen).used) s.image.moving (alone k.grasp) s.image.space (state k.seen).used k.thread (λ (l : (state k.seen).used < (state k.seen).used). absurd (omega arith))))),
       ))
 
   pub reserve_lost : (looked n found : ℕ) → get_or words top_at 0 ≡ top_word (record { used = found; half = First }) → found ≢ looked → role ≡ Within

@@ -167,9 +167,9 @@ ShowsHeader o (Some h) k k' = ShowsObject o h k' × (k'.grasp ≡ with_header k.
 abbrev pub ShowsUsed : ℕ → Known → Type 0
 ShowsUsed u k = (state_of k).used ≡ u
 
--- what a reservation shows: a range of the pass's own, of some words
+-- what a reservation shows: a range of the pass's own, of some words, where it had none before
 abbrev pub ShowsRange : ℕ → ℕ → Result (Unit {0}) ℕ → Known → Known → Type 0
-ShowsRange looked n (Ok _) k k' = (ws : List ℕ) × (length ws ≡ n) × (k'.grasp ≡ with_range k.grasp looked ws)
+ShowsRange looked n (Ok _) k k' = (ws : List ℕ) × (length ws ≡ n) × (k'.grasp ≡ with_range k.grasp looked ws) × (words_at looked k.grasp.ranges ≡ [])
 ShowsRange looked n (Err found) k k' = keeps k k'
 
 -- what a store in a range of the pass's own shows
