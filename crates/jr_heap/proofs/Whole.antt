@@ -39,7 +39,7 @@ module _ {S : Type 0} {knows : S → Known → Type 0} {a b : S} (o : ℕ) (h : 
             is = (q.2 f).is;
             grounds = answer_wider [] (d f) (view q.0) (view q.0) answer (prefix_self q.0.seen) (q.2 f).grounds;
           },
-          (h, (q.3.0, q.3.1 ∙ r.3.1)),
+          (h, (q.3.0, q.3.1 ∙ r.3.1, r.3.2)),
         );
   }
 

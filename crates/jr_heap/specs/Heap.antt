@@ -8,7 +8,7 @@ use Rattle.jr_model.specs.State.{Contents}
 use Rattle.jr_model.specs.Frames.{Frames}
 use Rattle.jr_model.specs.Calls.{Call, Ran, done}
 use Rattle.jr_rule.specs.declared.known.Known.{Known}
-use Rattle.jr_rule.specs.Grasping.{words_at, with_range, with_header}
+use Rattle.jr_rule.specs.Grasping.{words_at, header_in, with_range, with_header}
 use Rattle.jr_rule.specs.Knowing.{view, state_of, keeps, published, KnowsHeader, IsFilled, IsWordNow, ShowsObject}
 
 module _ {S : Type 0} (knows : S → Known → Type 0) where
@@ -70,9 +70,9 @@ pub record HoldsHeader (o : ℕ) (h : HeaderParts) (k : Known) : Type 0 where
 abbrev pub HasKind : ℕ → Kind → Known → Type 0
 HasKind o kind k = (x : Contents) × ((state_of k).objects o ≡ Some x) × (x.kind ≡ kind)
 
--- what a look at a header shows: the pass knows it from then on
+-- what a look at a header shows: the pass knows it from then on, and it is the one that it knew before, if any
 abbrev pub Learns : ℕ → HeaderParts → Known → Known → Type 0
-Learns o h j k = ShowsObject o h k × (k.grasp ≡ with_header j.grasp o h)
+Learns o h j k = ShowsObject o h k × (k.grasp ≡ with_header j.grasp o h) × ((g : HeaderParts) → header_in o j.grasp.headers ≡ Some g → g ≡ h)
 
 -- what a call at an element leaves: the object has this kind and length still, and the pass holds what it held
 abbrev pub Leaves : ℕ → HeaderParts → Known → Known → Type 0

@@ -8,7 +8,7 @@ use Rattle.jr_model.specs.Maps.{update}
 use Rattle.jr_model.specs.State.{Contents, State, length_of, present_words}
 use Rattle.jr_rule.specs.declared.known.Grasp.{Grasp}
 use Rattle.jr_rule.specs.declared.known.Move.{Move}
-use Rattle.jr_rule.specs.Grasping.{words_at, with_range, hold}
+use Rattle.jr_rule.specs.Grasping.{words_at, header_in, with_range, hold}
 use Rattle.jr_rule.specs.Image.{header_at, of_object, Stands, spot, IsIn, IsHeaderOf, IsKnown, IsSpace, IsImage}
 use Rattle.jr_rule.specs.Knowing.{published}
 use Rattle.jr_rule.proofs.Counting.{lists_fit}
@@ -46,6 +46,10 @@ module _ (c : Config) (last : ℕ) (words : List ℕ) (s : State) (held : ℕ �
             stands = image.space.object o x h known.number.0 known.number.1 e known.fits known.word;
             low = λ j l. let long = w.same_length in let kept = ap (λ (p : HeaderParts). p.length) same in image.space.low o x h known.number.0 known.number.1 e known.fits known.word j (omega arith);
           }
+
+  -- a header that a thread knows is the one that stands there
+  pub one_header : (t o : ℕ) (g : Grasp) → held t ≡ g → (h : HeaderParts) → IsKnown c words o h → (z : HeaderParts) → header_in o g.headers ≡ Some z → z ≡ h
+  one_header t o g own h known z e = let is = image.space.header t o z (subst (λ (y : Grasp). header_in o y.headers ≡ Some z) (sym own) e) in header_word-injective z h is.fits known.fits (sym is.word ∙ known.word)
 
   pub known_element : (o : ℕ) (h : HeaderParts) (i : ℕ) → IsKnown c words o h → i < h.length → h.place + i < s.used
   known_element o h i known l =

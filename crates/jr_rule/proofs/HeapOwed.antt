@@ -35,6 +35,7 @@ use Rattle.jr_rule.specs.Image.{top_at, header_at, element_at, IsIn, IsHeaderOf,
 use Rattle.jr_rule.specs.Knowing.{view, state_of, KnowsHeader, HasWord, IsWordNow, IsFilled, words_for, published, fresh_from, ShowsPublished}
 use Rattle.jr_rule.specs.Rule.{Makes, Owes}
 use Rattle.jr_rule.proofs.Found.{role_at, present_now}
+use Rattle.jr_rule.proofs.HeapImages.{one_header}
 use Rattle.jr_rule.proofs.HeapTurns.{sees_there, reserves, publishes_own, reads, writes, puts_own as stores_own}
 use Rattle.jr_rule.proofs.Headers.{header_some, header_positive}
 use Rattle.jr_rule.proofs.HeapSpaces.{elements_from, elements_length, none_beyond}
@@ -81,7 +82,7 @@ module _ (k : Known) (within : role_of (view k) ≡ Within) where
           let g = with_header k.grasp o w.parts in
           gaining k log _ held (SawHeader o k (get_or words (header_at k.config o) 0)) [] g
           (unwritten k log words (hold held k.thread g) (header_at k.config o) (sees_there k.config k.last log k.thread words f.legal held f.image f.fits.row (role_at k log words held f ∙ within) k.grasp f.fits.grasp o w.parts known))
-          (Some w.parts, (w.fits, w.word), refl, (record { contents = x; is = subst (λ l. (state l).objects o ≡ Some x) (sym (append-nil log)) e; kind = sym w.same_kind; long = sym w.same_length }, refl))
+          (Some w.parts, (w.fits, w.word), refl, (record { contents = x; is = subst (λ l. (state l).objects o ≡ Some x) (sym (append-nil log)) e; kind = sym w.same_kind; long = sym w.same_length }, refl, one_header k.config k.last words (state log) held f.image k.thread o k.grasp f.fits.grasp w.parts known))
 
   pub sees_top : (name : TopNaming) → Owes k top_at (λ n. n) (SawTop name k)
   sees_top name log words held f =

@@ -30,7 +30,7 @@ use Rattle.jr_rule.specs.Knowing.{Standing, moved, MayKnow, anything, keeps, Kno
 use Rattle.jr_rule.specs.Plain.{alone, standing, Shows}
 use Rattle.jr_rule.proofs.Effects.{publishing_role, publishing_fresh, top_named_role, top_named_fresh}
 use Rattle.jr_rule.proofs.Headers.{header_some}
-use Rattle.jr_rule.proofs.HeapImages.{there}
+use Rattle.jr_rule.proofs.HeapImages.{there, one_header}
 use Rattle.jr_rule.proofs.HeapSpaces.{elements_from, elements_length, none_beyond}
 use Rattle.jr_rule.proofs.HeapTurns.{sees_there, reserves, publishes_own, known_below, own_below, reads, writes, puts_own}
 use Rattle.jr_rule.proofs.Images.{image_same}
@@ -79,7 +79,7 @@ module _ (config : Config) (last : ℕ) (few : IsFew config last) (role : Role) 
         let x = there k.config k.last words (state k.seen) (alone k.grasp) s.image o h known in (
           with_header k.grasp o h,
           sees_there k.config k.last k.seen k.thread words s.pass.legal (alone k.grasp) s.image (row k s) (s.pass.role ∙ within) k.grasp (own k s) o h known,
-          (record { contents = x.contents; is = subst (λ l. (state l).objects o ≡ Some x.contents) (sym (append-nil k.seen)) x.is; kind = x.kind; long = x.long }, refl),
+          (record { contents = x.contents; is = subst (λ l. (state l).objects o ≡ Some x.contents) (sym (append-nil k.seen)) x.is; kind = x.kind; long = x.long }, refl, one_header k.config k.last words (state k.seen) (alone k.grasp) s.image k.thread o k.grasp (own k s) h known),
         ))
 
     publishing_stays : (h : HeaderParts) (b : Bool) (k : Known) → old ≡ moved old (publishing o h.kind (words_for h k) b)

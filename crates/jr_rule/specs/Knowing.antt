@@ -152,7 +152,7 @@ pub record IsFilled (h : HeaderParts) (k : Known) : Type 0 where
 abbrev pub published : HeaderParts → Grasp → Grasp
 published h g = cond (h.length == 0) g (with_range g h.place [])
 
--- WHAT A LOAD OF A HEADER SHOWS: the object that is present then, and its header is known from now on; or that none is
+-- WHAT A LOAD OF A HEADER SHOWS: the object that is present then, and its header is known from now on, the one that was known before if any was; or that none is
 pub record ShowsObject (o : ℕ) (h : HeaderParts) (k : Known) : Type 0 where
   pub contents : Contents
   pub is : (state_of k).objects o ≡ Some contents
@@ -161,7 +161,7 @@ pub record ShowsObject (o : ℕ) (h : HeaderParts) (k : Known) : Type 0 where
 
 abbrev pub ShowsHeader : ℕ → Option HeaderParts → Known → Known → Type 0
 ShowsHeader o None k k' = ((state_of k').objects o ≡ None) × keeps k k'
-ShowsHeader o (Some h) k k' = ShowsObject o h k' × (k'.grasp ≡ with_header k.grasp o h)
+ShowsHeader o (Some h) k k' = ShowsObject o h k' × (k'.grasp ≡ with_header k.grasp o h) × ((g : HeaderParts) → header_in o k.grasp.headers ≡ Some g → g ≡ h)
 
 -- what a load of the top shows: how many words are used then
 abbrev pub ShowsUsed : ℕ → Known → Type 0
