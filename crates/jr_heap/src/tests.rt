@@ -3,7 +3,7 @@ ghost use Rattle.std.specs.Prelude.{◌≡◌, ◌≢◌, All, IfOk};
 ghost use Rattle.jr_word.specs.declared.kind.Kind.TheVariants.{Plain};
 ghost use Rattle.jr_model.specs.declared.event.Role.TheVariants.{Within};
 ghost use Rattle.jr_rule.specs.declared.known.Known.{Known};
-ghost use Rattle.jr_rule.specs.Knowing.{IsWordNow, MayKnow};
+ghost use Rattle.jr_rule.specs.Knowing.{HasObject, IsWordNow, MayKnow};
 ghost use Rattle.jr_rule.specs.Passes.{IsOpened};
 ghost use Rattle.jr_heap.specs.Heap.{HasKind, MayBeNamed};
 
@@ -271,6 +271,28 @@ fn make_many<S: Steps>(steps: &mut S, numbers: &mut Numbers, count: u32) -> Resu
     Ok(sum)
 }
 
+/// An array of three words, made of a range that stays filled while another is reserved.
+fn made_beside<S: Steps>(steps: &mut S, numbers: &mut Numbers) -> Result<u16, Fault>
+    requires { (S.stands steps.old).role ≡ Within }
+    ensures stands { S.stands steps.new ≡ S.stands steps.old }
+    ensures object { IfOk result (λ o. MayKnow S.knows steps.new (HasObject o)) }
+{
+    let first = reserve(steps, 3)?;
+    fill(steps, &first, 7);
+    let _second = reserve(steps, 2)?;
+    publish(steps, numbers, Kind::Int, first)
+}
+
+/// The first element of an object, read by a header that was looked up before another read of it.
+fn read_again<S: Steps>(steps: &mut S, object: u16) -> Result<u64, Fault>
+    requires role { (S.stands steps.old).role ≡ Within }
+    requires object { MayKnow S.knows steps.old (HasObject object) }
+{
+    let found = header(steps, object);
+    read(steps, object, 0)?;
+    read_element(steps, object, found, 0)
+}
+
 /// Two passes of one room share its space and its object numbers.
 #[test]
 fn two_passes_share_space_and_numbers(rt: HostRuntime) -> Result<(), Fail> {
@@ -431,5 +453,18 @@ fn each_thread_reads_its_own_last_write(rt: HostRuntime) -> Result<(), Fail> {
         used: 2 * ROUNDS,
     };
     assert_eq!(rt; room.close(last).ok(), Some(summary));
+    Ok(())
+}
+
+/// A range stays filled while another is reserved, and a header serves after other reads of the object.
+#[test]
+fn ranges_and_headers_serve_later(rt: HostRuntime) -> Result<(), Fail> {
+    let mut steps = PlainSteps::<2>::new(rt.alloc(), WIDE)?;
+    if !steps.go_in() {
+        return Err("nobody collects")?;
+    }
+    let mut numbers = Numbers::new();
+    let object = made_beside(&mut steps, &mut numbers)?;
+    assert_eq!(rt; read_again(&mut steps, object), Ok(7));
     Ok(())
 }
