@@ -26,7 +26,6 @@ quiet k log words held f words' told acts t says = record {
   says = says;
 }
 
-
 -- the same where the number that was written is named otherwise
 pub written : (k : Known) (log : History) (words : List ℕ) (held : ℕ → Grasp) {acts : List Act} (i m n : ℕ) → n ≡ m → Turn k.config k.last log k.thread acts (slice_set words i m) held → Turn k.config k.last log k.thread acts (slice_set words i n) held
 written k log words held {acts} i m n e t = subst (λ z. Turn k.config k.last log k.thread acts (slice_set words i z) held) (sym e) t

@@ -17,10 +17,10 @@ use Rattle.jr_rule.specs.Grasping.{empty, hold}
 use Rattle.jr_rule.specs.Image.{MayHold}
 use Rattle.jr_rule.proofs.Images.{image_let_go}
 use Rattle.jr_rule.proofs.Spaces.{hold_here}
-use Rattle.jr_rule.specs.Knowing.{Standing, MayKnow, anything, CanReopen, ShowsBarred, ShowsGate, keeps, lets_go}
+use Rattle.jr_rule.specs.Knowing.{Standing, MayKnow, anything, CanReopen, ShowsGate, keeps, lets_go}
 use Rattle.jr_rule.specs.Plain.{alone, standing, Shows}
 use Rattle.jr_rule.proofs.GateTurns.{gate_fits, gate_most, goes_in, goes_out, counted, shut_counted, gate_read, gate_seen, shows_gate, nobody, bars, bars_lost, unbars}
-use Rattle.jr_rule.proofs.Turns.{then, Turn}
+use Rattle.jr_rule.proofs.Turns.{Turn}
 use Rattle.jr_rule.proofs.PlainTook.{alone_here, turn_nothing, kept, kept_showing, gained, let_go, known_then, stands_same, Turned, IsFew, shown_most}
 use Rattle.jr_rule.proofs.Effects.{entered_fresh, left_role, left_fresh, gate_named_role, gate_named_fresh, gate_named_state}
 
@@ -68,9 +68,9 @@ module _ (config : Config) (last : ℕ) (few : IsFew config last) (role : Role) 
       → Turned old words (standing config last Outside fresh) (slice_set words 0 n) (leaving role ∷ []) anything lets_go
   left n is counts = let_go (stands_same config last (left_role role counts) (left_fresh role fresh)) refl (λ k s m.
       let may = ⊎_elim
-          (λ e. subst (λ r. MayHold s.image.moving r empty) (sym (s.pass.role ∙ e)) refl)
-          (λ e. subst (λ r. MayHold s.image.moving r empty) (sym (s.pass.role ∙ e)) refl)
-          counts in
+      (λ e. subst (λ r. MayHold s.image.moving r empty) (sym (s.pass.role ∙ e)) refl)
+      (λ e. subst (λ r. MayHold s.image.moving r empty) (sym (s.pass.role ∙ e)) refl)
+      counts in
       let image = image_let_go k.config k.last words (state k.seen) (alone k.grasp) s.image k.thread may in
       goes_out k.config k.last k.seen k.thread words s.pass.legal (hold (alone k.grasp) k.thread empty) image (row k s) role n (hold_here (alone k.grasp) k.thread empty) is counts s.pass.role)
 

@@ -262,11 +262,13 @@ impl<const LAST: u16> Steps for PlainSteps<LAST> {
     }
 
     fn scan_header(&mut self, object: u16) -> Option<HeaderParts> {
-        Header::parts(self.word(header_at(&self.config, u32::from(object))))
+        let at: usize = header_at(&self.config, u32::from(object));
+        Header::parts(self.word(at))
     }
 
     fn scan_element(&mut self, _object: u16, header: HeaderParts, index: u32) -> u64 {
-        self.word(element_at(&self.config, header.place + index))
+        let at: usize = element_at(&self.config, header.place + index);
+        self.word(at)
     }
 
     fn wipe(&mut self, index: u16, serial: u16, _object: u16) {
@@ -290,7 +292,7 @@ impl<const LAST: u16> Steps for PlainSteps<LAST> {
         index: u32,
         word: u64,
     ) {
-        let at = element_at(&self.config, place + index);
+        let at: usize = element_at(&self.config, place + index);
         self.words[at] = word;
     }
 

@@ -14,7 +14,7 @@ use crate::naming::{GateNaming, SlotNaming, TopNaming};
 use jr_model::Role;
 use jr_word::{Config, GateParts, HandleParts, HeaderParts, LocalParts, RefKind, SlotParts};
 
-/// The steps of one thread: each from `go_in` to `put_own` is one atomic operation on one word of the row. The others tell what the pass is, or spend it, and touch no word.
+/// The steps of one thread: each from `go_in` to `set_top` is one atomic operation on one word of the row. The others tell what the pass is, or spend it, and touch no word.
 pub trait Steps {
     ghost use Rattle.jr_rule.specs.Knowing.{Standing, IsOf};
     ghost use Rattle.jr_rule.specs.declared.known.Known.{Known};
@@ -198,14 +198,7 @@ pub trait Steps {
         ensures { Took stands knows self.old self.new (Drop object ∷ []) (CanDrop object) (ShowsDropped object) };
 
     /// Stores the next element of an object that moves down to a new place.
-    fn move_element(
-        &mut self,
-        object: u16,
-        header: HeaderParts,
-        place: u32,
-        index: u32,
-        word: u64,
-    )
+    fn move_element(&mut self, object: u16, header: HeaderParts, place: u32, index: u32, word: u64)
         requires role { (stands self.old).role ≡ Collecting }
         requires index { index < header.length }
         requires can { MayKnow knows self.old (CanMove object header place index word) }

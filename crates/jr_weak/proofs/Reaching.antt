@@ -137,10 +137,16 @@ module _ {S : Type 0} {stands : S → Standing} {knows : S → Known → Type 0}
     more = p.more;
     did = λ k s sound.
         let x = p.did k s sound in
-        let of = fits b x.0 x.1 in
-        (x.0, x.1, x.2, x.3, x.4, λ h o kind is.
-            let kept = kept_state (x.0).config (x.0).last (x.0).seen of.legal in
-            let row = (kept.in_row h (kept.was_given h (λ e. let z = sym e ∙ is in cc))).2 in
-            let same = ap (λ (c : Config). c.slots) of.config ∙ ap (λ (z : Standing). z.config.slots) p.stands_is in
-            x.5 h o kind (omega arith) is);
+        let of = fits b x.0 x.1 in (
+          x.0,
+          x.1,
+          x.2,
+          x.3,
+          x.4,
+          λ h o kind is.
+              let kept = kept_state (x.0).config (x.0).last (x.0).seen of.legal in
+              let row = (kept.in_row h (kept.was_given h (λ e. let z = sym e ∙ is in cc))).2 in
+              let same = ap (λ (c : Config). c.slots) of.config ∙ ap (λ (z : Standing). z.config.slots) p.stands_is in
+              x.5 h o kind (omega arith) is,
+        );
   }

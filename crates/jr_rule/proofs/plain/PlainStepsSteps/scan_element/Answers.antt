@@ -1,14 +1,10 @@
-use Rattle.std.proofs.Common.{◌≡◌, ◌+◌, ◌∙◌, Some, IfSome, ap, sym, subst, arith, lit<}
-use Rattle.jr_word.specs.declared.header.HeaderParts.{HeaderParts}
-use Rattle.jr_word.specs.Header.{header_word, IsHeader}
-use Rattle.jr_word.specs.Local.{local_word}
-use Rattle.jr_rule.specs.Image.{local_at, header_at}
+use Rattle.std.proofs.Common.{arith, lit<}
 use Rattle.jr_rule.proofs.PlainTook.{took}
 use Rattle.jr_rule.proofs.PlainCollect.{sized_of, scanned_element, there_few}
 use Rattle.jr_rule.proofs.plain.PlainStepsSteps.scan_element.Goals as goal
 
-pub element_at-requires-clause-place : goal.element_at-requires-clause-place
-element_at-requires-clause-place g c =
+pub element_at-at-requires-clause-place : goal.element_at-at-requires-clause-place
+element_at-at-requires-clause-place g c =
     let s = c.args.self.now in
     there_few s.config g.row.LAST (sized_of g.row.LAST s (omega arith)) s.threads.0 s.role c.requires.role s.fresh s.words.items c.args._object c.args.header c.args.index c.requires.there
 
@@ -22,11 +18,11 @@ pub word-requires : goal.word-requires
 word-requires g c =
     let s = c.args.self.now in
     let below = there_few s.config g.row.LAST (sized_of g.row.LAST s (omega arith)) s.threads.0 s.role c.requires.role s.fresh s.words.items c.args._object c.args.header c.args.index c.requires.there in
-    let at = c.element_at.ensures in
+    let at = c.element_at-at.ensures in
     let wide = s.wide in (lit< tt, omega arith)
 
 pub returns : goal.returns
 returns g c =
     let s = c.args.self.now in
     took g.row.LAST s s
-    (scanned_element s.config g.row.LAST (sized_of g.row.LAST s (omega arith)) s.threads.0 s.role c.requires.role s.fresh s.words.items c.args._object c.args.index c.element_at.result c.word.result c.args.header c.element_at.ensures c.word.ensures)
+    (scanned_element s.config g.row.LAST (sized_of g.row.LAST s (omega arith)) s.threads.0 s.role c.requires.role s.fresh s.words.items c.args._object c.args.index c.element_at-at.result c.word.result c.args.header c.element_at-at.ensures c.word.ensures)

@@ -1,8 +1,7 @@
-use Rattle.std.proofs.Common.{◌≡◌, ◌+◌, ◌∙◌, Some, IfSome, ap, sym, subst, arith, lit<}
+use Rattle.std.proofs.Common.{◌≡◌, ◌∙◌, IfSome, ap, subst, arith}
 use Rattle.jr_word.specs.declared.header.HeaderParts.{HeaderParts}
 use Rattle.jr_word.specs.Header.{header_word, IsHeader}
-use Rattle.jr_word.specs.Local.{local_word}
-use Rattle.jr_rule.specs.Image.{local_at, header_at}
+use Rattle.jr_rule.specs.Image.{header_at}
 use Rattle.jr_rule.proofs.PlainTook.{took}
 use Rattle.jr_rule.proofs.PlainCollect.{sized_of, scanned_header}
 use Rattle.jr_rule.proofs.plain.PlainStepsSteps.scan_header.Goals as goal
@@ -11,4 +10,4 @@ pub returns : goal.returns
 returns g c =
     let s = c.args.self.now in
     took g.row.LAST s s
-    (scanned_header s.config g.row.LAST (sized_of g.row.LAST s (omega arith)) s.threads.0 s.role c.requires.role s.fresh s.words.items c.args.object c.header_at.result c.parts.result (c.header_at.ensures ∙ ap (header_at s.config) c.from.ensures) c.requires.number (subst (λ w. IfSome c.parts.result (λ (h : HeaderParts). IsHeader h × (w ≡ header_word h))) c.word.ensures c.parts.ensures.sound) (λ h fits is. c.parts.ensures.complete h fits (c.word.ensures ∙ is)))
+    (scanned_header s.config g.row.LAST (sized_of g.row.LAST s (omega arith)) s.threads.0 s.role c.requires.role s.fresh s.words.items c.args.object c.header_at-at.result c.parts.result (c.header_at-at.ensures ∙ ap (header_at s.config) c.from.ensures) c.requires.number (subst (λ w. IfSome c.parts.result (λ (h : HeaderParts). IsHeader h × (w ≡ header_word h))) c.word.ensures c.parts.ensures.sound) (λ h fits is. c.parts.ensures.complete h fits (c.word.ensures ∙ is)))

@@ -1,8 +1,4 @@
-use Rattle.std.proofs.Common.{◌≡◌, ◌+◌, ◌∙◌, Some, IfSome, ap, sym, subst, arith, lit<}
-use Rattle.jr_word.specs.declared.header.HeaderParts.{HeaderParts}
-use Rattle.jr_word.specs.Header.{header_word, IsHeader}
-use Rattle.jr_word.specs.Local.{local_word}
-use Rattle.jr_rule.specs.Image.{local_at, header_at}
+use Rattle.std.proofs.Common.{arith}
 use Rattle.jr_rule.proofs.PlainTook.{took}
 use Rattle.jr_rule.proofs.PlainCollect.{sized_of, scanned_slot}
 use Rattle.jr_rule.proofs.plain.PlainStepsSteps.scan_slot.Goals as goal

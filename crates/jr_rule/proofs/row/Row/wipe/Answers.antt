@@ -1,6 +1,5 @@
-use Rattle.std.proofs.Common.{◌≡◌, ℕ, Some, None, refl, sym, subst, ◌∙◌, arith, eqb}
+use Rattle.std.proofs.Common.{ℕ, refl, sym, subst, ◌∙◌, eqb}
 use prog.Atomic.{either}
-use Rattle.jr_word.specs.declared.handle.RefKind.TheVariants.{Weak}
 use Rattle.jr_rule.specs.Image.{slot_at}
 use Rattle.jr_rule.specs.Passes.{known_of}
 use Rattle.jr_rule.specs.Rule.{Owes}

@@ -32,18 +32,18 @@ loop-index-preserved g c =
     let n = c.requires.room in
     let f = p.1 in
     elim c.match-scan_slot.branch [
-    in-Global w ↦
-        let few = object_few T.fits c.loop-index.index w.in-Global.serial w.in-Global.object (T.some_known c.loop-index.steps) w.in-Global.ensures in
-        let l = few.1 in
-        let at = ap (λ (z : Standing). z.config.objects) ((c.scan_slot.ensures).stands_is ∙ (p.0).stands_is) in
-        let wide = c.args.self.now.queue.wide in (
-          subst (λ ms. GlobalsTo g.S.Steps.stands g.S.Steps.knows c.args.self.now.marked.items ms c.args.steps.now c.scan_slot.new.self (c.loop-index.index + 1)) (sym (ap (λ (m : Marker). m.marked.items) w.self-is ∙ w.reach.ensures.marked))
-              (globals_one T.fits c.requires.role c.loop-index.index p.0 w.in-Global.serial w.in-Global.object (omega arith) w.in-Global.ensures),
-          ap (λ (m : Marker). vec_len m.found) w.self-is ∙ (w.reach.ensures.room ∙ p.1),
-        )
-    | in_default w ↦ (
-      subst (λ ms. GlobalsTo g.S.Steps.stands g.S.Steps.knows c.args.self.now.marked.items ms c.args.steps.now c.scan_slot.new.self (c.loop-index.index + 1)) (sym (ap (λ (m : Marker). m.marked.items) w.self-is))
-          (globals_other T.fits c.requires.role c.loop-index.index p.0 c.scan_slot.result (λ a b e. w.in_default.not-Global a b e) c.scan_slot.ensures),
-      ap (λ (m : Marker). vec_len m.found) w.self-is ∙ p.1,
-    )
+      | in-Global w ↦
+          let few = object_few T.fits c.loop-index.index w.in-Global.serial w.in-Global.object (T.some_known c.loop-index.steps) w.in-Global.ensures in
+          let l = few.1 in
+          let at = ap (λ (z : Standing). z.config.objects) ((c.scan_slot.ensures).stands_is ∙ (p.0).stands_is) in
+          let wide = c.args.self.now.queue.wide in (
+            subst (λ ms. GlobalsTo g.S.Steps.stands g.S.Steps.knows c.args.self.now.marked.items ms c.args.steps.now c.scan_slot.new.self (c.loop-index.index + 1)) (sym (ap (λ (m : Marker). m.marked.items) w.self-is ∙ w.reach.ensures.marked))
+                (globals_one T.fits c.requires.role c.loop-index.index p.0 w.in-Global.serial w.in-Global.object (omega arith) w.in-Global.ensures),
+            ap (λ (m : Marker). vec_len m.found) w.self-is ∙ (w.reach.ensures.room ∙ p.1),
+          )
+      | in_default w ↦ (
+        subst (λ ms. GlobalsTo g.S.Steps.stands g.S.Steps.knows c.args.self.now.marked.items ms c.args.steps.now c.scan_slot.new.self (c.loop-index.index + 1)) (sym (ap (λ (m : Marker). m.marked.items) w.self-is))
+            (globals_other T.fits c.requires.role c.loop-index.index p.0 c.scan_slot.result (λ a b e. w.in_default.not-Global a b e) c.scan_slot.ensures),
+        ap (λ (m : Marker). vec_len m.found) w.self-is ∙ p.1,
+      )
     ]
