@@ -9,8 +9,11 @@ use Rattle.jr_model.specs.History.{History, state, IsLegal}
 use Rattle.jr_rule.specs.declared.known.View.{View}
 use Rattle.jr_rule.specs.declared.rule.Sizes.{Sizes}
 use Rattle.jr_rule.specs.Image.{IsImage}
-use Rattle.jr_rule.specs.Passes.{Ends}
-use Rattle.jr_rule.specs.Rule.{sizes, Fits, EachFits, Row, Kept, Sat, acting, IsAlone}
+use Rattle.std.specs.List.{AllByRecursion}
+use Rattle.jr_rule.specs.declared.known.Known.{Known}
+use Rattle.jr_rule.specs.declared.known.Grasp.{Grasp}
+use Rattle.jr_rule.specs.Passes.{Ends, EndsAll, IsSeenIn}
+use Rattle.jr_rule.specs.Rule.{view, sizes, Fits, EachFits, Row, Kept, Sat, acting, IsAlone}
 use Rattle.jr_rule.specs.Shown.{IsHistoryOf, HasHistory}
 
 pub read_at : (xs : List ℕ) (i x : ℕ) → get_elem? xs i ≡ some x → get_or xs i 0 ≡ x
@@ -36,6 +39,26 @@ ends_kept c last key r words j m s is kept same at alone room serial counted = g
           legal = subst (λ (z : Config × ℕ). IsLegal z.0 z.1 kept.log) (λ i. (sym room i, sym serial i)) kept.legal;
           begins = fits.begins;
           own = fits.own;
+          is = counted last kept.log (record { few = kept.sized.serials; legal = kept.legal; held = kept.held; image = subst (λ ws. IsImage c last ws (state kept.log) kept.held) same kept.image })
+              ∙ ap (λ (z : Config × ℕ). summary z.0 z.1 (state kept.log)) (λ i. (sym room i, sym serial i));
+        }
+
+seen_in : (c : Config) (last : ℕ) (log : History) (held : ℕ → Grasp) (ks : List Known) → EachFits c last log held ks → AllByRecursion (IsSeenIn log) ks
+seen_in c last log held [] fit = tt
+seen_in c last log held (k ∷ ks) fit = (record { begins = (fit.0).begins; own = (fit.0).own }, seen_in c last log held ks fit.1)
+
+-- the same where the seat stands for several passes
+pub ends_all : (c : Config) (last : ℕ) (key : Sizes) (r : Row) (words : List ℕ) (j : ℕ) (v : View) (k : Known) (ks : List Known) (s : Summary) → key ≡ sizes c last → Kept key.last key.config r → r.words ≡ words → get_elem? r.views j ≡ some v → v ≡ view (k ∷ ks) → k.config ≡ c → k.last ≡ last
+    → ((n : ℕ) (log : History) → IsHistoryOf c words n log → s ≡ summary c n (state log)) → EndsAll k ks s
+ends_all c last key r words j v k ks s is kept same at all room serial counted = go (subst (λ (z : Sizes). Kept z.last z.config r) is kept)
+  where
+    go : Kept last c r → EndsAll k ks s
+    go kept =
+        let fits : EachFits c last kept.log kept.held (k ∷ ks) = subst (λ (w : View). EachFits c last kept.log kept.held w.passes) all (kept.each j v at) in record {
+          whole = kept.log;
+          legal = subst (λ (z : Config × ℕ). IsLegal z.0 z.1 kept.log) (λ i. (sym room i, sym serial i)) kept.legal;
+          first = record { begins = (fits.0).begins; own = (fits.0).own };
+          others = seen_in c last kept.log kept.held ks fits.1;
           is = counted last kept.log (record { few = kept.sized.serials; legal = kept.legal; held = kept.held; image = subst (λ ws. IsImage c last ws (state kept.log) kept.held) same kept.image })
               ∙ ap (λ (z : Config × ℕ). summary z.0 z.1 (state kept.log)) (λ i. (sym room i, sym serial i));
         }

@@ -44,5 +44,6 @@ pub mod HeapOwed
 pub mod PlainCollect
 pub mod Meeting
 pub mod Ended
+pub mod Gathered
 pub mod Collected
 mod Claimable

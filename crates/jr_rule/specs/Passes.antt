@@ -1,6 +1,6 @@
 -- What a pass shows, and what a room gives.
-use Rattle.std.specs.Prelude.{◌≡◌, ℕ, zero, suc, true, Some, List, [], ◌∷◌, ◌++◌, map}
-use Rattle.std.specs.List.{All}
+use Rattle.std.specs.Prelude.{◌≡◌, ◌⊎◌, ◌<◌, ℕ, zero, suc, true, Some, List, [], ◌∷◌, ◌++◌, map}
+use Rattle.std.specs.List.{All, AllByRecursion}
 use mathlib.Core.List.{IsPrefix}
 use Rattle.jr_word.specs.declared.config.Config.{Config}
 use Rattle.jr_model.specs.declared.event.Role.TheVariants.{Outside}
@@ -72,3 +72,32 @@ pub record Closes (k : Known) (s : Summary) : Type 0 where
   pub goes : Goes k (Meet ∷ []) met
   pub nobody : not_outside k.config (state_of met) ≡ 0
   pub ends : Ends met s
+
+-- what a pass has seen begins the history, which has no more of its events
+pub record IsSeenIn (whole : History) (k : Known) : Type 0 where
+  pub begins : IsPrefix k.seen whole
+  pub own : mine whole k.thread ≡ mine k.seen k.thread
+
+-- AT THE END OF ALL PASSES the summary is that of one legal history, which begins with all that each of them has seen and has no more of their events
+pub record EndsAll (k : Known) (ks : List Known) (s : Summary) : Type 0 where
+  pub whole : History
+  pub legal : IsLegal k.config k.last whole
+  pub first : IsSeenIn whole k
+  pub others : AllByRecursion (IsSeenIn whole) ks
+  pub is : s ≡ summary k.config k.last (state whole)
+
+-- A ROOM IS CLOSED WITH ALL THESE PASSES: the first found nobody inside, knocking or collecting, and then they end together
+pub record ClosesAll (k : Known) (ks : List Known) (s : Summary) : Type 0 where
+  pub met : Known
+  pub goes : Goes k (Meet ∷ []) met
+  pub nobody : not_outside k.config (state_of met) ≡ 0
+  pub ends : EndsAll met ks s
+
+-- one of these passes is the thread's, and all that it has seen is seen
+abbrev pub IsSeenOf : Known → ℕ → List Known → Type 0
+IsSeenOf k t [] = ⊥
+IsSeenOf k t (p ∷ ps) = ((p.thread ≡ t) × IsPrefix p.seen k.seen) ⊎ IsSeenOf k t ps
+
+-- ALL WERE MET: each thread of the room is the pass's own, or one of these passes is its, and all that it has seen is seen
+abbrev pub HasSeenAll : Known → List Known → Type 0
+HasSeenAll k others = (t : ℕ) → t < k.config.threads → (t ≡ k.thread) ⊎ IsSeenOf k t others

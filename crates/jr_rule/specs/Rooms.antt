@@ -5,6 +5,7 @@ use Rattle.jr_word.specs.declared.fault.Fault.TheVariants.{LeftInside}
 use Rattle.jr_model.specs.declared.event.Act.TheVariants.{Meet}
 use Rattle.jr_model.specs.State.{not_outside}
 use Rattle.jr_rule.specs.declared.closing.Left.{Left}
+use Rattle.jr_rule.specs.declared.closing_all.AllLeft.{AllLeft}
 use Rattle.jr_rule.specs.declared.pass.Pass.{Pass}
 use Rattle.jr_rule.specs.declared.room.Room.{Room}
 use Rattle.jr_rule.specs.Knowing.{anything, keeps, state_of, Took}
@@ -27,3 +28,8 @@ pub record IsLeft {LAST : ℕ} (r : Room LAST) (p : Pass) (l : Left LAST) : Type
   pub same : l.room ≡ r
   pub of_room : IsAt r.row l.pass
   pub took : Took standing_of Knows p l.pass (Meet ∷ []) anything keeps
+
+-- a room is not closed, and the other passes are handed back as they are
+pub record AreLeft {LAST : ℕ} (r : Room LAST) (p : Pass) (others : List Pass) (l : AllLeft LAST) : Type 0 where
+  pub left : IsLeft r p l.left
+  pub same_others : l.others.items ≡ others

@@ -45,8 +45,8 @@ impl<const LAST: u16> Room<LAST> {
 }
 
 /// The words of a row that no thread shares any more.
-struct ClosedWords {
-    closed: Closed<(), Global>,
+pub(crate) struct ClosedWords {
+    pub(crate) closed: Closed<(), Global>,
     ghost full: { IsFull closed.words × (slots_len closed.words ≡ length (slots_items closed.words)) },
 }
 

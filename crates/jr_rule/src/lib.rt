@@ -2,6 +2,7 @@
 #![tactic(auto)]
 
 mod closing;
+mod closing_all;
 mod collect_stepping;
 mod gate_stepping;
 mod heap_stepping;
@@ -22,6 +23,7 @@ mod summing;
 mod tests;
 
 pub use closing::Left;
+pub use closing_all::AllLeft;
 pub use jr_model::{Role, Summary};
 pub use known::{Grasp, Known, KnownHeader, OwnRange, View};
 pub use naming::{GateNaming, SlotNaming, TopNaming};

@@ -201,6 +201,28 @@ fn a_room_is_handed_back_while_a_thread_is_inside(rt: HostRuntime) -> Result<(),
     Ok(())
 }
 
+/// A room closes with the passes of all its threads, and hands them back while a thread is inside.
+#[test]
+fn a_room_closes_with_all_its_passes(rt: HostRuntime) -> Result<(), Fail> {
+    let (room, mut first, second, third) = opened(rt.alloc())?;
+    assert!(rt; room.row.go_in(&mut first));
+    let others = vec![in rt.alloc(); second, third]?;
+    let Err(refused) = room.close_all(first, others) else {
+        return Err("thread 0 is inside")?;
+    };
+    let AllLeft { left, others } = refused;
+    let Left {
+        room,
+        pass: mut first,
+        fault,
+    } = left;
+    assert_eq!(rt; fault, Fault::LeftInside(1));
+    assert_eq!(rt; others.len(), 2);
+    room.row.go_out(&mut first);
+    assert_eq!(rt; room.close_all(first, others).ok(), Some(NOTHING));
+    Ok(())
+}
+
 /// Both threads see slot 0 free: one claims it, and the other finds what stands there. Both look the handle up, and only one of them frees it.
 #[test]
 fn a_slot_is_claimed_by_one_and_freed_by_one(rt: HostRuntime) -> Result<(), Fail> {

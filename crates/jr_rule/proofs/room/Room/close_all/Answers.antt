@@ -1,0 +1,39 @@
+use Rattle.std.proofs.Common.{◌≢◌, ◌≤◌, ℕ, refl, sym, ap, ◌∙◌, map, arith}
+use Rattle.jr_word.specs.declared.config.Config.{Config}
+use Rattle.jr_model.specs.State.{not_outside}
+use Rattle.jr_rule.specs.Knowing.{state_of}
+use Rattle.jr_rule.specs.Passes.{known_of}
+use Rattle.jr_rule.proofs.Gathered.{exactly}
+use Rattle.jr_rule.proofs.Goes.{took_less}
+use Rattle.jr_rule.proofs.room.Room.close_all.Goals as goal
+
+some_more : (n : ℕ) → n ≢ 0 → 1 ≤ n
+some_more n some = grind arith
+
+pub returns-then-inside-ne0-clause-err : goal.returns-then-inside-ne0-clause-err
+returns-then-inside-ne0-clause-err g c =
+    let seen = c.see_gate.ensures.seen in record {
+      left = record {
+        count = c.all_counted-inside.result;
+        fault = refl;
+        some = some_more c.all_counted-inside.result c.if-inside-ne0.true;
+        is = c.all_counted-inside.ensures ∙ (seen.1).all;
+        same = refl;
+        of_room = c.see_gate.ensures.row;
+        took = took_less (λ k new s. s.1) c.see_gate.ensures.step;
+      };
+      same_others = refl;
+    }
+
+pub returns-clause-ok : goal.returns-clause-ok
+returns-clause-ok g c =
+    let seen = c.see_gate.ensures.seen in
+    let met = known_of c.see_gate.new.pass in record {
+      met = met;
+      goes = seen.0;
+      nobody = ap (λ (d : Config). not_outside d (state_of met)) (sym (seen.0).config) ∙ (sym (c.all_counted-inside.ensures ∙ (seen.1).all) ∙ c.if-inside-ne0.false);
+      ends = c.close_all.ensures;
+    }
+
+pub returns-clause-exact : goal.returns-clause-exact
+returns-clause-exact g c all = exactly (known_of c.args.pass) (map known_of c.args.others.items) c.close_all.result (returns-clause-ok g c) all
