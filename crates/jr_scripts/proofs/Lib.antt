@@ -25,3 +25,7 @@ pub mod Creating
 pub mod Making
 pub mod MakingLocals
 pub mod Removing
+pub mod JobHandles
+pub mod OneOfAll
+pub mod AllTogether
+pub mod JobLists

@@ -11,3 +11,6 @@ pub mod Commands
 pub mod Text
 pub mod Explains
 pub mod Runs
+pub mod AllRuns
+pub mod Jobs
+pub mod Given

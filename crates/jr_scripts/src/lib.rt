@@ -1,11 +1,13 @@
 //! Runs scripts of JNI calls: the calls of one thread over atomic steps, and what a script of one thread prints.
 #![tactic(auto)]
 
+mod all;
 pub mod calls;
 pub mod env;
 pub mod frames;
 mod names;
 pub mod object;
+mod part;
 mod perform;
 mod printed;
 pub mod reference;
@@ -14,10 +16,12 @@ pub mod resolve;
 pub mod row;
 mod run;
 mod single;
+mod starting;
 #[cfg(test)]
 mod tests;
 mod tries;
 
+pub use all::run_all;
 pub use jr_syntax as syntax;
 pub use run::run_thread;
 pub use single::run_one;

@@ -282,3 +282,86 @@ fn sums_up_what_stands(rt: HostRuntime) -> Result<(), Fail> {
     assert_eq!(rt; env.steps.summary(), summary);
     Ok(())
 }
+
+/// The name of these bytes.
+fn name_of(word: &[u8]) -> Result<Name, Fail> {
+    if !is_name(word) {
+        return Err("the word is no name")?;
+    }
+    Ok(Name::new(word))
+}
+
+/// A thread that makes an object and two references to it, of which it deletes one.
+fn busy_part(alloc: Global, name: &[u8]) -> Result<ThreadPart, Fail> {
+    let mut commands = Sequence::new(alloc);
+    commands.push(Command::Plain {
+        name: name_of(b"p")?,
+    })?;
+    commands.push(Command::Global {
+        name: name_of(b"g")?,
+        target: Reference::Named(name_of(b"p")?),
+    })?;
+    commands.push(Command::Weak {
+        name: name_of(b"w")?,
+        target: Reference::Named(name_of(b"g")?),
+    })?;
+    commands.push(Command::Type {
+        target: Reference::Named(name_of(b"g")?),
+    })?;
+    commands.push(Command::Drop {
+        target: Reference::Named(name_of(b"g")?),
+    })?;
+    commands.push(Command::Type {
+        target: Reference::Named(name_of(b"g")?),
+    })?;
+    commands.push(Command::Global {
+        name: name_of(b"z")?,
+        target: Reference::Named(name_of(b"g")?),
+    })?;
+    Ok(ThreadPart {
+        name: name_of(name)?,
+        commands,
+    })
+}
+
+#[test]
+fn three_threads_of_one_script_run_in_one_room(rt: HostRuntime) -> Result<(), Fail> {
+    let alloc = rt.alloc();
+    let mut threads = Sequence::new(alloc);
+    threads.push(busy_part(alloc, b"a")?)?;
+    threads.push(busy_part(alloc, b"b")?)?;
+    threads.push(busy_part(alloc, b"c")?)?;
+    let config = Config {
+        threads: 3,
+        slots: 6,
+        objects: 3,
+        words: 0,
+        locals: 16,
+    };
+    let script = Script { config, threads };
+    let mut out = Vec::from_slice(alloc, BEFORE)?;
+    crate::run_all(&rt, alloc, &script, 1_000_000, &mut out)?;
+    let wanted =
+        b"before\n[a]\ntype g 2\ntype g 0\n9 ! E2\n[b]\ntype g 2\ntype g 0\n17 ! E2\n[c]\ntype g 2\ntype g 0\n25 ! E2\n[end]\nglobals 0 weaks 3 live 3 used 0\n";
+    assert_eq!(rt; out.as_slice(), wanted.as_slice());
+    Ok(())
+}
+
+#[test]
+fn a_script_with_a_part_too_few_is_refused(rt: HostRuntime) -> Result<(), Fail> {
+    let alloc = rt.alloc();
+    let mut threads = Sequence::new(alloc);
+    threads.push(busy_part(alloc, b"a")?)?;
+    let config = Config {
+        threads: 2,
+        ..SIZES
+    };
+    let script = Script { config, threads };
+    let mut out = Vec::from_slice(alloc, BEFORE)?;
+    assert_eq!(rt;
+        crate::run_all(&rt, alloc, &script, TURNS, &mut out),
+        Err(Fault::Size)
+    );
+    assert_eq!(rt; out.as_slice(), BEFORE);
+    Ok(())
+}

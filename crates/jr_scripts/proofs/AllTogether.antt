@@ -1,0 +1,253 @@
+-- What all threads of a script did, in one history.
+use Rattle.std.proofs.Common.{◌≡◌, ◌+◌, ◌<◌, ◌≤◌, ◌^◌, ◌++◌, ℕ, zero, suc, List, [], ◌∷◌, map, length, Result, Ok, refl, sym, ap, subst, ◌∙◌, arith, append_assoc}
+use Rattle.std.proofs.lemmas.List.{append-nil}
+use Rattle.std.specs.List.{All, AllZip, AllByRecursion}
+use Rattle.std.proofs.lemmas.List.Elements.{recursion_from_All, All-from_recursion, All-head, All-tail}
+use mathlib.Core.List.{IsPrefix}
+use Rattle.jr_word.specs.declared.config.Config.{Config}
+use Rattle.jr_word.specs.declared.fault.Fault.{Fault}
+use Rattle.jr_model.specs.declared.event.Act.TheVariants.{Meet}
+use Rattle.jr_model.specs.declared.summary.Summary.{Summary}
+use Rattle.jr_model.specs.State.{summary}
+use Rattle.jr_model.specs.History.{History, state, mine, IsLegal, PassView, Did}
+use Rattle.jr_model.specs.Frames.{Frames, fresh_frames}
+use Rattle.jr_model.proofs.Moments.{prefix_trans}
+use Rattle.jr_syntax.specs.declared.command.Command.{Command}
+use Rattle.jr_syntax.specs.declared.thread.ThreadPart.{ThreadPart}
+use Rattle.jr_syntax.specs.declared.script.Script.{Script}
+use Rattle.jr_rule.specs.declared.known.Known.{Known}
+use Rattle.jr_rule.specs.declared.pass.Pass.{Pass}
+use Rattle.jr_rule.specs.declared.row.Row.{Row}
+use Rattle.jr_rule.specs.Grasping.{empty}
+use Rattle.jr_rule.specs.Knowing.{Standing, view, Holds}
+use Rattle.jr_rule.specs.Rule.{known}
+use Rattle.jr_rule.specs.PassLaws.{still_of}
+use Rattle.jr_rule.specs.Passes.{known_of, standing_of, Knows, IsAt, IsOpened, AreOpened, numbers_below, IsSeenIn, ClosesAll}
+use Rattle.jr_rule.proofs.Goes.{goes_did}
+use Rattle.jr_scripts.specs.declared.part.Job.{Job}
+use Rattle.jr_scripts.specs.declared.part.ThreadRun.{ThreadRun}
+use Rattle.jr_scripts.specs.Deeds.{Moment, moment}
+use Rattle.jr_scripts.specs.Explains.{Explained, Leaves}
+use Rattle.jr_scripts.specs.Text.{heading, ending}
+use Rattle.jr_scripts.specs.Runs.{RanThread}
+use Rattle.jr_scripts.specs.AllRuns.{RanPass, seeing_as, opening_of, closing_acts, IsPartOf, ArePartsOf, text_of_parts, IsRunOfAll}
+use Rattle.jr_scripts.specs.Jobs.{HasRun, IsFor, IsJobOf, AreJobsOf, IsDone, AreTold}
+
+-- a pass that was opened knows what it shows
+opened_knows : (r : Row) (p : Pass) → IsOpened r p → Knows p (known_of p)
+opened_knows r p o = record {
+  is = refl;
+  pass = record {
+    config = refl;
+    last = refl;
+    thread = p.held.thread_is;
+    role = p.held.role_is;
+    legal = subst (λ (k : Known). IsLegal k.config k.last k.seen) (sym o.knows) tt;
+  };
+}
+
+-- what a thread did since its pass was opened
+record Played (turns last : ℕ) (c : Config) (t first : ℕ) (commands : List Command) (lines : List ℕ) (k : Known) : Type 0 where
+  pub same_config : k.config ≡ c
+  pub same_last : k.last ≡ last
+  pub is_of : k.thread ≡ t
+  pub frames : Frames
+  pub explained : Explained turns first (opening_of c last t) commands lines (record { pass = seeing_as c last t k.seen; frames = frames })
+
+view_is : (c : Config) (last t : ℕ) (k : Known) → k.config ≡ c → k.last ≡ last → k.thread ≡ t → view k ≡ seeing_as c last t k.seen
+view_is c last t k a b d = λ i. record { config = a i; last = b i; thread = d i; seen = k.seen }
+
+played : (turns last : ℕ) (c : Config) (r : Row) (p q : Pass) (first : ℕ) (commands : List Command) (answer : Result (Unit {0}) Fault) (lines : List ℕ) → r.config ≡ c → r.last ≡ last → IsOpened r p → RanPass turns first commands p q answer lines → answer ≡ Ok tt
+    → Played turns last c p.thread first commands lines (known_of q)
+played turns last c r p q first commands answer lines config_is last_is o x done =
+    let t = p.thread in
+    let k0 : Known = known c last t [] empty in
+    let knows0 : known_of p ≡ k0 = o.knows ∙ (λ i. known (config_is i) (last_is i) t [] empty) in
+    let fresh : fresh_frames (standing_of p).config.locals ≡ fresh_frames c.locals = ap (λ (k : Known). fresh_frames k.config.locals) knows0 in
+    let ran : RanThread standing_of Knows p q (fresh_frames c.locals) x.frames turns first commands (Ok tt) lines
+    = subst (λ a. RanThread standing_of Knows p q (fresh_frames c.locals) x.frames turns first commands a lines) done
+    (subst (λ f. RanThread standing_of Knows p q f x.frames turns first commands answer lines) fresh x.ran) in
+    let holds0 : Holds (fresh_frames c.locals) k0 = λ place. refl in
+    let y = ran.explained (known_of p) (opened_knows r p o) (subst (Holds (fresh_frames c.locals)) (sym knows0) holds0) in
+    let is : y.0 ≡ known_of q = (y.1).is in
+    let s = ran.stands_is in
+    let same_config : (known_of q).config ≡ c = s.config ∙ ap (λ (k : Known). k.config) knows0 in
+    let same_last : (known_of q).last ≡ last = s.last ∙ ap (λ (k : Known). k.last) knows0 in
+    let is_of : (known_of q).thread ≡ t = q.held.thread_is ∙ s.thread in
+    let from : Explained turns first (opening_of c last t) commands lines (moment y.0 x.frames) = subst (λ (k : Known). Explained turns first (moment k (fresh_frames c.locals)) commands lines (moment y.0 x.frames)) knows0 y.3 in
+    let here : Explained turns first (opening_of c last t) commands lines (moment (known_of q) x.frames) = subst (λ (k : Known). Explained turns first (opening_of c last t) commands lines (moment k x.frames)) is from in
+    record {
+      same_config = same_config;
+      same_last = same_last;
+      is_of = is_of;
+      frames = x.frames;
+      explained = subst (λ (v : PassView). Explained turns first (opening_of c last t) commands lines (record { pass = v; frames = x.frames })) (view_is c last t (known_of q) same_config same_last is_of) here;
+    }
+
+-- the same of a job
+job_played : (turns last : ℕ) (c : Config) (r : Row) (line : ℕ) (p p' : Pass) (q : ThreadPart) (j : Job) (x : ThreadRun) → r.config ≡ c → r.last ≡ last → IsOpened r p → IsJobOf turns line p q j → HasRun j x → IsDone x → x.pass ≡ p'
+    → Played turns last c p.thread (line + 1) q.commands x.text.items (known_of p')
+job_played turns last c r line p p' q j x config_is last_is o i ran done is =
+    let one : RanPass j.turns j.first j.part.now.commands p x.pass x.answer x.text.items = subst (λ z. RanPass j.turns j.first j.part.now.commands z x.pass x.answer x.text.items) i.pass ran in
+    let two : RanPass j.turns j.first q.commands p x.pass x.answer x.text.items = subst (λ (z : ThreadPart). RanPass j.turns j.first z.commands p x.pass x.answer x.text.items) i.part one in
+    let three : RanPass j.turns (line + 1) q.commands p x.pass x.answer x.text.items = subst (λ n. RanPass j.turns n q.commands p x.pass x.answer x.text.items) i.line_is two in
+    let four : RanPass turns (line + 1) q.commands p x.pass x.answer x.text.items = subst (λ n. RanPass n (line + 1) q.commands p x.pass x.answer x.text.items) i.same_turns three in
+    let five : RanPass turns (line + 1) q.commands p p' x.answer x.text.items = subst (λ z. RanPass turns (line + 1) q.commands p z x.answer x.text.items) is four in
+    played turns last c r p p' (line + 1) q.commands x.answer x.text.items config_is last_is o five done
+
+-- the part of a thread that is not the first
+part_of_other : (turns last : ℕ) (c : Config) (whole : History) (t first : ℕ) (part : ThreadPart) (lines : List ℕ) (k : Known) → 0 < t → Played turns last c t first part.commands lines k → IsSeenIn whole k → IsPartOf turns last c whole t first part lines
+part_of_other turns last c whole zero first part lines k some p s = absurd (omega arith)
+part_of_other turns last c whole (suc t) first part lines k some p s = record {
+  seen = k.seen;
+  frames = p.frames;
+  explained = p.explained;
+  begins = s.begins;
+  own = ap (mine whole) (sym p.is_of) ∙ (s.own ∙ (ap (mine k.seen) p.is_of ∙ sym (append-nil (mine k.seen (suc t)))));
+}
+
+-- the part of the first, which looks at the gate at the end
+part_of_first : (turns last : ℕ) (c : Config) (whole : History) (first : ℕ) (part : ThreadPart) (lines : List ℕ) (k met : Known) → Played turns last c 0 first part.commands lines k → Did (view k) (view met) (Meet ∷ []) → IsSeenIn whole met → IsPartOf turns last c whole 0 first part lines
+part_of_first turns last c whole first part lines k met p d s = record {
+  seen = k.seen;
+  frames = p.frames;
+  explained = p.explained;
+  begins = prefix_trans k.seen met.seen whole d.begins s.begins;
+  own = ap (mine whole) (sym (d.thread ∙ p.is_of)) ∙ (s.own ∙ (ap (mine met.seen) d.thread ∙ (d.own ∙ ap (λ l. l ++ Meet ∷ []) (ap (mine k.seen) p.is_of))));
+}
+
+-- so many numbers from a on
+abbrev counted : ℕ → ℕ → List ℕ
+counted a zero = []
+counted a (suc n) = a ∷ counted (suc a) n
+
+counted_more : (a n : ℕ) → counted a (suc n) ≡ counted a n ++ (a + n) ∷ []
+counted_more a zero = ap (λ b. b ∷ []) (omega arith)
+counted_more a (suc n) = ap (λ l. a ∷ l) (counted_more (suc a) n ∙ ap (λ b. counted (suc a) n ++ b ∷ []) (omega arith))
+
+numbers_counted : (n : ℕ) → numbers_below n ≡ counted 0 n
+numbers_counted zero = refl
+numbers_counted (suc n) = let same : n ≡ 0 + n = omega arith in ap (λ l. l ++ n ∷ []) (numbers_counted n) ∙ (ap (λ b. counted 0 n ++ b ∷ []) same ∙ sym (counted_more 0 n))
+
+head_is : (x y : ℕ) (xs ys : List ℕ) → x ∷ xs ≡ y ∷ ys → x ≡ y
+head_is x y xs ys e = cc
+
+tail_is : (x y : ℕ) (xs ys : List ℕ) → x ∷ xs ≡ y ∷ ys → xs ≡ ys
+tail_is x y xs ys e = cc
+
+-- the lines of the threads
+abbrev lines_of : List ThreadRun → List (List ℕ)
+lines_of [] = []
+lines_of (x ∷ xs) = x.text.items ∷ lines_of xs
+
+module _ (turns last : ℕ) (c : Config) (r : Row) (config_is : r.config ≡ c) (last_is : r.last ≡ last) (whole : History) where
+  parts_of_others : (a n line : ℕ) (ps : List Pass) (qs : List ThreadPart) (js : List Job) (xs : List ThreadRun) (ends : List Pass) (text : List ℕ) → 0 < a → map (λ (p : Pass). p.thread) ps ≡ counted a n
+      → AllByRecursion (IsOpened r) ps → AreJobsOf turns line ps qs js → AllZip HasRun js xs → AreTold qs xs ends text → AllByRecursion (IsSeenIn whole) (map known_of ends) → ArePartsOf turns last c whole a line qs (lines_of xs)
+  parts_of_others a n line [] [] [] [] ends text some are o jobs ran told seen = tt
+  parts_of_others a n line [] [] [] (x ∷ xs) ends text some are o jobs ran told seen = absurd ran
+  parts_of_others a n line [] [] (j ∷ js) xs ends text some are o jobs ran told seen = absurd jobs
+  parts_of_others a n line [] (q ∷ qs) js xs ends text some are o jobs ran told seen = absurd jobs
+  parts_of_others a n line (p ∷ ps) [] js xs ends text some are o jobs ran told seen = absurd jobs
+  parts_of_others a n line (p ∷ ps) (q ∷ qs) [] xs ends text some are o jobs ran told seen = absurd jobs
+  parts_of_others a n line (p ∷ ps) (q ∷ qs) (j ∷ js) [] ends text some are o jobs ran told seen = absurd ran
+  parts_of_others a n line (p ∷ ps) (q ∷ qs) (j ∷ js) (x ∷ xs) [] text some are o jobs ran told seen = absurd told
+  parts_of_others a zero line (p ∷ ps) (q ∷ qs) (j ∷ js) (x ∷ xs) (e ∷ ends) text some are o jobs ran told seen = absurd cc
+  parts_of_others a (suc n) line (p ∷ ps) (q ∷ qs) (j ∷ js) (x ∷ xs) (e ∷ ends) text some are o jobs ran told seen = (
+    part_of_other turns last c whole a (line + 1) q x.text.items (known_of e) some
+        (subst (λ t. Played turns last c t (line + 1) q.commands x.text.items (known_of e)) (head_is p.thread a _ _ are)
+        (job_played turns last c r line p e q j x config_is last_is o.0 jobs.0 ran.0 told.0 told.1)) seen.0,
+    parts_of_others (suc a) n (line + 1 + length q.commands) ps qs js xs ends told.2 (omega arith) (tail_is p.thread a _ _ are) o.1 jobs.1 ran.1 told.4 seen.1,
+  )
+
+text_told : (qs : List ThreadPart) (xs : List ThreadRun) (ends : List Pass) (text : List ℕ) → AreTold qs xs ends text → text ≡ text_of_parts qs (lines_of xs)
+text_told [] [] [] text t = t
+text_told [] (x ∷ xs) [] text t = t
+text_told [] [] (e ∷ ends) text t = absurd t
+text_told [] (x ∷ xs) (e ∷ ends) text t = absurd t
+text_told (q ∷ qs) [] ends text t = absurd t
+text_told (q ∷ qs) (x ∷ xs) [] text t = absurd t
+text_told (q ∷ qs) (x ∷ xs) (e ∷ ends) text t = t.3 ∙ ap (λ l. heading q.name ++ x.text.items ++ l) (text_told qs xs ends t.2 t.4)
+
+-- the jobs can be done in the room
+jobs_for : (r : Row) (turns line : ℕ) (ps : List Pass) (qs : List ThreadPart) (js : List Job) → AllByRecursion (IsOpened r) ps → AreJobsOf turns line ps qs js → AllByRecursion (IsFor r) js
+jobs_for r turns line [] [] [] o jobs = tt
+jobs_for r turns line [] [] (j ∷ js) o jobs = absurd jobs
+jobs_for r turns line [] (q ∷ qs) js o jobs = absurd jobs
+jobs_for r turns line (p ∷ ps) [] js o jobs = absurd jobs
+jobs_for r turns line (p ∷ ps) (q ∷ qs) [] o jobs = absurd jobs
+jobs_for r turns line (p ∷ ps) (q ∷ qs) (j ∷ js) o jobs =
+    let i = jobs.0 in
+    let first = i.line_is in
+    let long : length j.part.now.commands ≡ length q.commands = ap (λ (z : ThreadPart). length z.commands) i.part in
+    let few = i.fits in
+    (record { opened = subst (IsOpened r) (sym i.pass) o.0; fits = omega arith }, jobs_for r turns (line + 1 + length q.commands) ps qs js o.1 jobs.1)
+
+pub all_for : (c : Config) (last : ℕ) (r : Row) (turns line : ℕ) (ps : List Pass) (qs : List ThreadPart) (js : List Job) → AreOpened c last r ps → AreJobsOf turns line ps qs js → All (IsFor r) js
+all_for c last r turns line ps qs js o jobs = All-from_recursion (IsFor r) js (jobs_for r turns line ps qs js (recursion_from_All (IsOpened r) ps o.each) jobs)
+
+-- the passes that are handed back are of the room
+ends_at : (r : Row) (qs : List ThreadPart) (js : List Job) (xs : List ThreadRun) (ends : List Pass) (text : List ℕ) → AllByRecursion (IsFor r) js → AllZip HasRun js xs → AreTold qs xs ends text → AllByRecursion (IsAt r) ends
+ends_at r qs js xs [] text for ran told = tt
+ends_at r [] js [] (e ∷ ends) text for ran told = absurd told
+ends_at r [] js (x ∷ xs) (e ∷ ends) text for ran told = absurd told
+ends_at r (q ∷ qs) js [] (e ∷ ends) text for ran told = absurd told
+ends_at r (q ∷ qs) [] (x ∷ xs) (e ∷ ends) text for ran told = absurd ran
+ends_at r (q ∷ qs) (j ∷ js) (x ∷ xs) (e ∷ ends) text for ran told =
+    let s = ((ran.0).ran).stands_is in
+    (subst (IsAt r) told.1 (still_of r j.pass x.pass s.room s.config s.last ((for.0).opened).row), ends_at r qs js xs ends told.2 for.1 ran.1 told.4)
+
+module _ (c : Config) (last : ℕ) (r : Row) (turns line : ℕ) (ps : List Pass) (qs : List ThreadPart) (js : List Job) (xs : List ThreadRun) (ends : List Pass) (text : List ℕ) (q : Pass) (others : List Pass)
+    (o : AreOpened c last r ps) (jobs : AreJobsOf turns line ps qs js) (ran : AllZip HasRun js xs) (told : AreTold qs xs ends text) (is : ends ≡ q ∷ others) where
+  all_at : All (IsAt r) (q ∷ others)
+  all_at = subst (All (IsAt r)) is (All-from_recursion (IsAt r) ends (ends_at r qs js xs ends text (jobs_for r turns line ps qs js (recursion_from_All (IsOpened r) ps o.each) jobs) ran told))
+
+  pub first_at : IsAt r q
+  first_at = All-head (IsAt r) q others all_at
+
+  pub others_at : All (IsAt r) others
+  others_at = All-tail (IsAt r) q others all_at
+
+module _ (turns last : ℕ) (c : Config) (r : Row) (config_is : r.config ≡ c) (last_is : r.last ≡ last) where
+  all_parts : (n : ℕ) (ps : List Pass) (qs : List ThreadPart) (js : List Job) (xs : List ThreadRun) (e : Pass) (ends : List Pass) (text : List ℕ) (s : Summary) → map (λ (p : Pass). p.thread) ps ≡ counted 0 n
+      → AllByRecursion (IsOpened r) ps → AreJobsOf turns 2 ps qs js → AllZip HasRun js xs → AreTold qs xs (e ∷ ends) text → ClosesAll (known_of e) (map known_of ends) s
+      → (whole : History) × IsLegal c last whole × ArePartsOf turns last c whole 0 2 qs (lines_of xs) × (s ≡ summary c last (state whole))
+  all_parts n [] [] js [] e ends text s are o jobs ran told closes = absurd told
+  all_parts n [] [] js (x ∷ xs) e ends text s are o jobs ran told closes = absurd told
+  all_parts n [] (q ∷ qs) js xs e ends text s are o jobs ran told closes = absurd jobs
+  all_parts n (p ∷ ps) [] js xs e ends text s are o jobs ran told closes = absurd jobs
+  all_parts n (p ∷ ps) (q ∷ qs) [] xs e ends text s are o jobs ran told closes = absurd jobs
+  all_parts n (p ∷ ps) (q ∷ qs) (j ∷ js) [] e ends text s are o jobs ran told closes = absurd ran
+  all_parts zero (p ∷ ps) (q ∷ qs) (j ∷ js) (x ∷ xs) e ends text s are o jobs ran told closes = absurd cc
+  all_parts (suc n) (p ∷ ps) (q ∷ qs) (j ∷ js) (x ∷ xs) e ends text s are o jobs ran told closes =
+      let here : Played turns last c 0 (2 + 1) q.commands x.text.items (known_of e)
+      = subst (λ t. Played turns last c t (2 + 1) q.commands x.text.items (known_of e)) (head_is p.thread 0 _ _ are) (job_played turns last c r 2 p e q j x config_is last_is o.0 jobs.0 ran.0 told.0 told.1) in
+      let d = goes_did closes.goes in
+      let end = closes.ends in
+      let met = closes.met in
+      let met_config : met.config ≡ c = d.config ∙ here.same_config in
+      let met_last : met.last ≡ last = d.last ∙ here.same_last in (
+        end.whole,
+        subst (λ (z : Config × ℕ). IsLegal z.0 z.1 end.whole) (λ i. (met_config i, met_last i)) end.legal,
+        (
+          part_of_first turns last c end.whole (2 + 1) q x.text.items (known_of e) met here d end.first,
+          parts_of_others turns last c r config_is last_is end.whole 1 n (2 + 1 + length q.commands) ps qs js xs ends told.2 (omega arith) (tail_is p.thread 0 _ _ are) o.1 jobs.1 ran.1 told.4 end.others,
+        ),
+        end.is ∙ ap (λ (z : Config × ℕ). summary z.0 z.1 (state end.whole)) (λ i. (met_config i, met_last i)),
+      )
+
+-- ALL TOGETHER
+pub together : (turns last : ℕ) (script : Script) (r : Row) (ps : List Pass) (js : List Job) (xs : List ThreadRun) (passes : List Pass) (e : Pass) (ends : List Pass) (text whole : List ℕ) (s : Summary)
+    → length script.threads ≡ script.config.threads → AreOpened script.config last r ps → AreJobsOf turns 2 ps script.threads js → AllZip HasRun js xs → AreTold script.threads xs passes text → passes ≡ e ∷ ends
+    → ClosesAll (known_of e) (map known_of ends) s → whole ≡ text ++ ending s → IsRunOfAll turns last script whole
+together turns last script r ps js xs passes e ends text whole s long o jobs ran told is closes whole_is =
+    let c = script.config in
+    let told' : AreTold script.threads xs (e ∷ ends) text = subst (λ z. AreTold script.threads xs z text) is told in
+    let x = all_parts turns last c r o.same_config o.same_last c.threads ps script.threads js xs e ends text s (o.threads ∙ numbers_counted c.threads) (recursion_from_All (IsOpened r) ps o.each) jobs ran told' closes in
+    record {
+      whole = x.0;
+      legal = x.1;
+      lines = lines_of xs;
+      one_each = long;
+      parts = x.2;
+      text_is = whole_is ∙ (ap (λ t. t ++ ending s) (text_told script.threads xs (e ∷ ends) text told') ∙ ap (λ v. text_of_parts script.threads (lines_of xs) ++ ending v) x.3);
+    }

@@ -1,0 +1,73 @@
+-- What threads promised, and what they gave back.
+use Rattle.std.proofs.Common.{◌≡◌, ◌<◌, ◌++◌, ℕ, zero, suc, List, [], ◌∷◌, map, length, slice_index_or, refl, sym, ap, subst, ◌∙◌, arith}
+use Rattle.std.proofs.lemmas.List.{append-nil, map-append, append_assoc}
+use Rattle.std.proofs.lemmas.List.Elements.{All-head, All-tail}
+use Rattle.std.specs.List.{All, AllZip, remove}
+use Rattle.std.specs.PromisedHandle.{KeepsEach}
+use Rattle.std.specs.declared.thread.PromisedHandle.{PromisedHandle}
+use Rattle.std.specs.declared.thread.Promise as Promise
+use Rattle.jr_scripts.specs.declared.part.Job.{Job}
+use Rattle.jr_scripts.specs.declared.part.ThreadRun.{ThreadRun}
+use Rattle.jr_scripts.specs.declared.starting.Doing.{Doing}
+use Rattle.jr_scripts.specs.AllRuns.{RanPass}
+use Rattle.jr_scripts.specs.Given.{IsGiven}
+use Rattle.jr_rule.specs.declared.row.Row.{Row}
+use Rattle.jr_scripts.specs.Jobs.{HasRun, IsFor}
+
+abbrev pub Thread : Type 0
+Thread = PromisedHandle ThreadRun Doing
+
+-- the job that a thread was given
+abbrev pub given_to : Thread → Job
+given_to h = record { first = h.promise.first; turns = h.promise.turns; part = h.promise.part; pass = h.promise.pass.value }
+
+-- it is the job
+pub given_is : (h : Thread) (j : Job) → IsGiven h.promise j → given_to h ≡ j
+given_is h j g i = record { first = g.first i; turns = g.turns i; part = g.part i; pass = g.pass i }
+
+-- what a thread promised
+abbrev DidIt : Doing → ThreadRun → Type 0
+DidIt d r = RanPass d.turns d.first d.part.now.commands d.pass.value r.pass r.answer r.text.items
+
+kept_each : (kept : Doing → ThreadRun → Type 0) → ((p : Doing) (r : ThreadRun) → kept p r → DidIt p r) → (hs : List Thread) (rs : List ThreadRun) → length rs ≡ length hs
+    → ((i : ℕ) (d : ThreadRun) → i < length hs → (h : Thread) × (h ≡ slice_index_or hs i h) × kept h.promise (slice_index_or rs i d)) → AllZip HasRun (map given_to hs) rs
+kept_each kept same [] [] long each = tt
+kept_each kept same [] (r ∷ rs) long each = absurd (omega arith)
+kept_each kept same (h ∷ hs) [] long each = absurd (omega arith)
+kept_each kept same (h ∷ hs) (r ∷ rs) long each =
+    let x = each 0 r (omega arith) in
+    (same h.promise r (subst (λ (z : Thread). kept z.promise r) x.1 x.2), kept_each kept same hs rs (omega arith) (λ i d l. each (suc i) d (omega arith)))
+
+-- each thread kept its promise
+all_kept : (g : Promise.Ghosts Doing ThreadRun) → ((p : Doing) (r : ThreadRun) → g.kept_by p r → DidIt p r) → (hs : List Thread) (rs : List ThreadRun) → length rs ≡ length hs → KeepsEach g (length hs) hs rs → AllZip HasRun (map given_to hs) rs
+all_kept g same hs rs long each = kept_each g.kept_by same hs rs long (λ i d l. let x = (each i d l).1 in (x.handle, x.handle_is, x.kept))
+
+-- a list of which the first was removed
+pub taken : {A : Type 0} (xs ys : List A) (x : A) → 0 < length xs → x ≡ slice_index_or xs 0 x → ys ≡ remove xs 0 → xs ≡ x ∷ ys
+taken [] ys x some is rest = absurd (omega arith)
+taken (z ∷ zs) ys x some is rest = λ i. sym is i ∷ sym rest i
+
+pub none_left : {A : Type 0} (xs : List A) → length xs ≡ 0 → xs ≡ []
+none_left [] e = refl
+none_left (x ∷ xs) e = absurd (omega arith)
+
+-- all were started, and have kept their promises
+pub all_done : (g : Promise.Ghosts Doing ThreadRun) → ((p : Doing) (r : ThreadRun) → g.kept_by p r → DidIt p r) → (hs : List Thread) (rs : List ThreadRun) (xs js : List Job) (n : ℕ) → n ≡ length hs → length rs ≡ length hs → KeepsEach g n hs rs → length xs ≡ 0 → map given_to hs ++ xs ≡ js → AllZip HasRun js rs
+all_done g same hs rs xs js n count long each none so =
+    subst (λ z. AllZip HasRun z rs) (sym (append-nil (map given_to hs)) ∙ (ap (λ z. map given_to hs ++ z) (sym (none_left xs none)) ∙ so))
+    (all_kept g same hs rs long (subst (λ m. KeepsEach g m hs rs) count each))
+
+-- one more thread was started
+pub one_started : (hs hs' : List Thread) (h : Thread) (xs ys js : List Job) (j : Job) → hs' ≡ hs ++ h ∷ [] → IsGiven h.promise j → xs ≡ j ∷ ys → map given_to hs ++ xs ≡ js → map given_to hs' ++ ys ≡ js
+one_started hs hs' h xs ys js j more is first so =
+    ap (λ z. map given_to z ++ ys) more
+    ∙ (ap (λ z. z ++ ys) (map-append given_to hs (h ∷ []))
+    ∙ (append_assoc (map given_to hs) (given_to h ∷ []) ys
+    ∙ (ap (λ z. map given_to hs ++ z ∷ ys) (given_is h j is)
+    ∙ (ap (λ z. map given_to hs ++ z) (sym first) ∙ so))))
+
+pub at_first : (r : Row) (xs ys : List Job) (x : Job) → xs ≡ x ∷ ys → All (IsFor r) xs → IsFor r x
+at_first r xs ys x e all = All-head (IsFor r) x ys (subst (All (IsFor r)) e all)
+
+pub at_rest : (r : Row) (xs ys : List Job) (x : Job) → xs ≡ x ∷ ys → All (IsFor r) xs → All (IsFor r) ys
+at_rest r xs ys x e all = All-tail (IsFor r) x ys (subst (All (IsFor r)) e all)

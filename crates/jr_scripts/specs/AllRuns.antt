@@ -1,0 +1,65 @@
+-- Runs of scripts of several threads, in one room and one history.
+use Rattle.std.specs.Prelude.{◌≡◌, ◌+◌, ◌<◌, ◌^◌, ℕ, zero, suc, List, [], ◌∷◌, ◌++◌, map, length, Result, Ok, Err}
+use mathlib.Core.List.{IsPrefix}
+use Rattle.jr_word.specs.declared.config.Config.{Config}
+use Rattle.jr_word.specs.declared.fault.Fault.{Fault}
+use Rattle.jr_model.specs.declared.event.Act.{Act}
+use Rattle.jr_model.specs.declared.event.Act.TheVariants.{Meet}
+use Rattle.jr_model.specs.State.{summary}
+use Rattle.jr_model.specs.History.{History, state, mine, IsLegal, PassView}
+use Rattle.jr_model.specs.Frames.{Frames, fresh_frames}
+use Rattle.jr_syntax.specs.declared.command.Command.{Command}
+use Rattle.jr_syntax.specs.declared.thread.ThreadPart.{ThreadPart}
+use Rattle.jr_syntax.specs.declared.script.Script.{Script}
+use Rattle.jr_rule.specs.declared.pass.Pass.{Pass}
+use Rattle.jr_rule.specs.Passes.{standing_of, Knows}
+use Rattle.jr_scripts.specs.Deeds.{Moment}
+use Rattle.jr_scripts.specs.Text.{heading, ending}
+use Rattle.jr_scripts.specs.Explains.{Explained}
+use Rattle.jr_scripts.specs.Runs.{RanThread}
+
+-- a thread ran these commands with its pass, which it hands back
+pub record RanPass (turns first : ℕ) (commands : List Command) (old new : Pass) (answer : Result (Unit {0}) Fault) (text : List ℕ) : Type 0 where
+  pub frames : Frames
+  pub ran : RanThread standing_of Knows old new (fresh_frames (standing_of old).config.locals) frames turns first commands answer text
+
+-- a pass of the thread that has seen this
+abbrev pub seeing_as : Config → ℕ → ℕ → History → PassView
+seeing_as c last t seen = record { config = c; last = last; thread = t; seen = seen }
+
+-- before the thread's first command: it has seen nothing, and no local reference stands
+abbrev pub opening_of : Config → ℕ → ℕ → Moment
+opening_of c last t = record { pass = seeing_as c last t []; frames = fresh_frames c.locals }
+
+-- what closing the room adds: the first thread looks at the gate
+abbrev pub closing_acts : ℕ → List Act
+closing_acts zero = Meet ∷ []
+closing_acts (suc t) = []
+
+-- A THREAD'S PART in the one history: a beginning of it explains the thread's lines, and it has no more of the thread's events
+pub record IsPartOf (turns last : ℕ) (c : Config) (whole : History) (t first : ℕ) (part : ThreadPart) (lines : List ℕ) : Type 0 where
+  pub seen : History
+  pub frames : Frames
+  pub explained : Explained turns first (opening_of c last t) part.commands lines (record { pass = seeing_as c last t seen; frames = frames })
+  pub begins : IsPrefix seen whole
+  pub own : mine whole t ≡ mine seen t ++ closing_acts t
+
+-- the parts of the threads from t on, of which the first stands on this line
+abbrev pub ArePartsOf : ℕ → ℕ → Config → History → ℕ → ℕ → List ThreadPart → List (List ℕ) → Type 0
+ArePartsOf turns last c whole t line [] [] = Unit {0}
+ArePartsOf turns last c whole t line (p ∷ ps) (lines ∷ rest) = IsPartOf turns last c whole t (line + 1) p lines × ArePartsOf turns last c whole (suc t) (line + 1 + length p.commands) ps rest
+ArePartsOf turns last c whole t line _ _ = ⊥
+
+-- what the threads print, one after the other
+abbrev pub text_of_parts : List ThreadPart → List (List ℕ) → List ℕ
+text_of_parts (p ∷ ps) (lines ∷ rest) = heading p.name ++ lines ++ text_of_parts ps rest
+text_of_parts _ _ = []
+
+-- A RUN OF ALL: there is one legal history, with the events of the threads' calls and no others, but for the look at the end, that explains each thread's part of the text, and the last lines tell of its last state
+pub record IsRunOfAll (turns last : ℕ) (s : Script) (text : List ℕ) : Type 0 where
+  pub whole : History
+  pub legal : IsLegal s.config last whole
+  pub lines : List (List ℕ)
+  pub one_each : length s.threads ≡ s.config.threads
+  pub parts : ArePartsOf turns last s.config whole 0 2 s.threads lines
+  pub text_is : text ≡ text_of_parts s.threads lines ++ ending (summary s.config last (state whole))

@@ -1,0 +1,11 @@
+-- What a thread was given.
+use Rattle.std.specs.Prelude.{◌≡◌}
+use Rattle.jr_scripts.specs.declared.part.Job.{Job}
+use Rattle.jr_scripts.specs.declared.starting.Doing.{Doing}
+
+-- the promise is of this job
+pub record IsGiven (d : Doing) (j : Job) : Type 0 where
+  pub first : d.first ≡ j.first
+  pub turns : d.turns ≡ j.turns
+  pub part : d.part ≡ j.part
+  pub pass : d.pass.value ≡ j.pass

@@ -1,0 +1,48 @@
+-- What the threads of a script are given, and what they give back.
+use Rattle.std.specs.Prelude.{◌≡◌, ◌+◌, ◌<◌, ◌^◌, ℕ, true, List, [], ◌∷◌, ◌++◌, length, Result, Ok}
+use Rattle.jr_model.specs.declared.event.Role.TheVariants.{Outside}
+use Rattle.jr_syntax.specs.declared.thread.ThreadPart.{ThreadPart}
+use Rattle.jr_rule.specs.declared.pass.Pass.{Pass}
+use Rattle.jr_rule.specs.declared.row.Row.{Row}
+use Rattle.jr_rule.specs.Passes.{IsOpened}
+use Rattle.jr_scripts.specs.declared.part.Job.{Job}
+use Rattle.jr_scripts.specs.declared.part.ThreadRun.{ThreadRun}
+use Rattle.jr_scripts.specs.Text.{heading}
+use Rattle.jr_scripts.specs.AllRuns.{RanPass}
+
+-- the thread did its job
+abbrev pub HasRun : Job → ThreadRun → Type 0
+HasRun j r = RanPass j.turns j.first j.part.now.commands j.pass r.pass r.answer r.text.items
+
+-- the part can be run in the room with this pass
+pub record IsForPart (r : Row) (first : ℕ) (part : ThreadPart) (p : Pass) : Type 0 where
+  pub opened : IsOpened r p
+  pub fits : first + length part.commands < 2 ^ 64
+
+-- the job can be done in the room
+abbrev pub IsFor : Row → Job → Type 0
+IsFor r j = IsForPart r j.first j.part.now j.pass
+
+-- the job is this part's, with this pass
+pub record IsJobOf (turns line : ℕ) (p : Pass) (q : ThreadPart) (j : Job) : Type 0 where
+  pub pass : j.pass ≡ p
+  pub part : j.part.now ≡ q
+  pub line_is : j.first ≡ line + 1
+  pub fits : line + 1 + length q.commands < 2 ^ 64
+  pub same_turns : j.turns ≡ turns
+
+-- the jobs of the parts, of which the first stands on this line
+abbrev pub AreJobsOf : ℕ → ℕ → List Pass → List ThreadPart → List Job → Type 0
+AreJobsOf turns line [] [] [] = Unit {0}
+AreJobsOf turns line (p ∷ ps) (q ∷ qs) (j ∷ js) = IsJobOf turns line p q j × AreJobsOf turns (line + 1 + length q.commands) ps qs js
+AreJobsOf turns line _ _ _ = ⊥
+
+-- the thread was not refused memory
+abbrev pub IsDone : ThreadRun → Type 0
+IsDone r = r.answer ≡ Ok tt
+
+-- none of the threads was refused memory, these are their passes, and this is what they print
+abbrev pub AreTold : List ThreadPart → List ThreadRun → List Pass → List ℕ → Type 0
+AreTold [] rs [] text = text ≡ []
+AreTold (q ∷ qs) (r ∷ rs) (p ∷ ps) text = IsDone r × (r.pass ≡ p) × (rest : List ℕ) × (text ≡ heading q.name ++ r.text.items ++ rest) × AreTold qs rs ps rest
+AreTold _ _ _ text = ⊥

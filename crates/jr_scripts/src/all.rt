@@ -1,0 +1,162 @@
+//! Runs scripts of several threads, each in a thread of its own, in one room.
+
+ghost use Rattle.std.specs.Prelude.{◌≡◌, ◌+◌, ◌++◌, List, ℕ, All, length, map, IfOk, IfSome, OnOk, OnErr};
+ghost use Rattle.jr_rule.specs.Passes.{known_of, ClosesAll};
+ghost use Rattle.jr_rule.specs.Rooms.{IsOfRoom};
+ghost use Rattle.jr_word.specs.declared.fault.Fault.TheVariants.{Memory};
+ghost use Rattle.jr_scripts.specs.AllRuns.{IsRunOfAll};
+ghost use Rattle.jr_scripts.specs.Jobs.{AreJobsOf, AreTold};
+
+use crate::part::{Job, ThreadRun};
+use crate::printed::{ending, heading};
+use crate::starting::run_threads;
+use jr_rule::{Pass, Room, Summary};
+use jr_syntax::{Script, ThreadPart};
+use jr_word::Fault;
+use std::alloc::{AllocError, Global};
+use std::sync::Wait;
+use std::thread::Threads;
+
+/// The last serial of a slot and of a local place.
+const LAST: u16 = 65_535;
+
+/// The line of a script on which its first thread's part begins.
+const FIRST_PART: usize = 2;
+
+/// A growth was refused.
+fn out_of_memory(_: AllocError) -> Fault
+    ensures { result ≡ Memory }
+{
+    Fault::Memory
+}
+
+/// Closes the room with the passes of all its threads.
+fn closed(room: Room<LAST>, first: Pass, others: Vec<Pass>) -> Result<Summary, Fault>
+    requires first { IsOfRoom room first }
+    requires others { All (λ p. IsOfRoom room p) others.items }
+    ensures { IfOk result (λ s. ClosesAll (known_of first) (map known_of others.items) s) }
+{
+    match room.close_all(first, others) {
+        Ok(summary) => Ok(summary),
+        Err(refused) => Err(refused.left.fault),
+    }
+}
+
+/// The line behind a part that begins on a line, where it has a number.
+fn line_behind(line: usize, part: &ThreadPart) -> Option<usize>
+    ensures { IfSome result (λ n. n ≡ line + 1 + length part.now.commands) }
+{
+    line.checked_add(1)?
+        .checked_add(part.commands.as_slice().len())
+}
+
+/// What the threads of the parts are given.
+fn jobs_of(
+    alloc: Global,
+    parts: &[ThreadPart],
+    mut passes: Vec<Pass>,
+    turns: u64,
+) -> Result<Vec<Job<'_>>, Fault>
+    ensures { IfOk result (λ jobs. AreJobsOf turns FIRST_PART passes.items parts.now jobs.items) }
+{
+    let mut jobs = Vec::new(alloc);
+    let mut line = FIRST_PART;
+    for part in parts {
+        if jobs.reserve(1).is_err() {
+            return Err(Fault::Memory);
+        }
+        if passes.is_empty() {
+            return Err(Fault::Size);
+        }
+        let pass = passes.remove(0);
+        let Some(behind) = line_behind(line, part) else {
+            return Err(Fault::Size);
+        };
+        jobs.push_reserved(Job {
+            first: line + 1,
+            turns,
+            part,
+            pass,
+        });
+        line = behind;
+    }
+    if !passes.is_empty() {
+        return Err(Fault::Size);
+    }
+    Ok(jobs)
+}
+
+/// The passes of threads that were not refused memory, and what the threads print.
+fn told(
+    alloc: Global,
+    parts: &[ThreadPart],
+    mut runs: Vec<ThreadRun>,
+) -> Result<(Vec<Pass>, Vec<u8>), Fault>
+    ensures { IfOk result (λ r. AreTold parts.now runs.items r.0.items r.1.items) }
+{
+    let mut passes = Vec::new(alloc);
+    let mut text = Vec::new(alloc);
+    for part in parts {
+        if passes.reserve(1).is_err() {
+            return Err(Fault::Memory);
+        }
+        if runs.is_empty() {
+            return Err(Fault::Size);
+        }
+        let run = runs.remove(0);
+        run.answer?;
+        let head = heading(alloc, &part.name).map_err(out_of_memory)?;
+        text.extend_from_slice(&head).map_err(out_of_memory)?;
+        text.extend_from_slice(&run.text).map_err(out_of_memory)?;
+        let ThreadRun { pass, .. } = run;
+        passes.push_reserved(pass);
+    }
+    Ok((passes, text))
+}
+
+/// Runs the threads of a script, and gives what is printed.
+fn text_of_all<R: Threads + Wait>(
+    rt: &R,
+    alloc: Global,
+    script: &Script,
+    turns: u64,
+) -> Result<Vec<u8>, Fault>
+    ensures { IfOk result (λ text. IsRunOfAll turns LAST script.now text.items) }
+{
+    let parts = script.threads.as_slice();
+    if parts.len() != script.config.threads as usize {
+        return Err(Fault::Size);
+    }
+    let (room, passes) = Room::<LAST>::open(alloc, script.config)?;
+    let jobs = jobs_of(alloc, parts, passes, turns)?;
+    let runs = run_threads(rt, alloc, &room, jobs)?;
+    let (mut passes, mut text) = told(alloc, parts, runs)?;
+    if passes.is_empty() {
+        return Err(Fault::Size);
+    }
+    let first = passes.remove(0);
+    let summary = closed(room, first, passes)?;
+    let end = ending(alloc, summary).map_err(out_of_memory)?;
+    text.extend_from_slice(&end).map_err(out_of_memory)?;
+    Ok(text)
+}
+
+/// Runs the threads of a script side by side, and appends what they print.
+///
+/// # Errors
+///
+/// E16 where memory was refused or a thread could not be started, E17 where the script has not one part a thread, or sizes outside the limits, and E22 where a thread is left inside: the output is as it was.
+pub fn run_all<R: Threads + Wait>(
+    rt: &R,
+    alloc: Global,
+    script: &Script,
+    turns: u64,
+    out: &mut Vec<u8>,
+) -> Result<(), Fault>
+    ensures ok { OnOk result ((text : List ℕ) × (out.new.items ≡ out.old.items ++ text) × IsRunOfAll turns LAST script.now text) }
+    ensures err { OnErr result (out.new.items ≡ out.old.items) }
+{
+    let text = text_of_all(rt, alloc, script, turns)?;
+    out.extend_from_slice(&text).map_err(out_of_memory)?;
+    Ok(())
+}

@@ -1,0 +1,52 @@
+//! What one thread of a script does in the room that it shares.
+
+ghost use Rattle.jr_scripts.specs.AllRuns.{RanPass};
+ghost use Rattle.jr_scripts.specs.Jobs.{IsForPart};
+
+use crate::env::Env;
+use crate::run::run_thread;
+use jr_rule::{Pass, Room, RoomSteps};
+use jr_syntax::ThreadPart;
+use jr_word::Fault;
+use std::alloc::Global;
+
+/// What a thread is given: its pass, its part of the script, the line of its first command, and how often a call is made.
+#[derive(Drop)]
+pub(crate) struct Job<'a> {
+    pub(crate) first: usize,
+    pub(crate) turns: u64,
+    pub(crate) part: &'a ThreadPart,
+    pub(crate) pass: Pass,
+}
+
+/// What a thread gives back: its pass, its lines, and whether memory was refused.
+#[derive(Drop)]
+pub(crate) struct ThreadRun {
+    pub(crate) pass: Pass,
+    pub(crate) text: Vec<u8>,
+    pub(crate) answer: Result<(), Fault>,
+}
+
+/// Does a job.
+pub(crate) fn run_job<const LAST: u16>(
+    alloc: Global,
+    room: &Room<LAST>,
+    first: usize,
+    turns: u64,
+    part: &ThreadPart,
+    pass: Pass,
+) -> ThreadRun
+    requires { IsForPart room.now.row first part.now pass }
+    ensures { RanPass turns first part.now.commands pass result.pass result.answer result.text.items }
+{
+    let mut text = Vec::new(alloc);
+    let mut env = Env::new(RoomSteps::new(room, pass));
+    let commands = part.commands.as_slice();
+    let answer = run_thread(alloc, &mut env, first, commands, turns, &mut text);
+    let Env { steps, frames: _ } = env;
+    ThreadRun {
+        pass: steps.into_pass(),
+        text,
+        answer,
+    }
+}

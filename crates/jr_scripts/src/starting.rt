@@ -1,0 +1,121 @@
+//! Starts the threads of a script, and joins them.
+
+ghost use Rattle.std.specs.Prelude.{◌≡◌, Err, IfSome, MatchResult, All};
+ghost use Rattle.std.specs.List.{AllZip};
+ghost use Rattle.jr_word.specs.declared.fault.Fault.TheVariants.{Memory};
+ghost use Rattle.jr_scripts.specs.Jobs.{HasRun, IsFor, IsForPart};
+ghost use Rattle.jr_scripts.specs.AllRuns.{RanPass};
+ghost use Rattle.jr_scripts.specs.Given.{IsGiven};
+
+use crate::part::{Job, ThreadRun, run_job};
+use jr_rule::{Pass, Room};
+use jr_syntax::ThreadPart;
+use jr_word::Fault;
+use std::alloc::Global;
+use std::snapshot::Snapshot;
+use std::sync::Wait;
+use std::thread;
+use std::thread::{Promise, PromisedHandle, Scope, Threads};
+
+/// The promise of a thread: it has done this job.
+#[derive(Drop)]
+pub(crate) struct Doing<'a> {
+    first: usize,
+    turns: u64,
+    part: &'a ThreadPart,
+    pass: Snapshot<Pass>,
+}
+
+impl<'a> Promise<ThreadRun> for Doing<'a> {
+    ghost kept_by = { λ p r. RanPass p.turns p.first p.part.now.commands p.pass.value r.pass r.answer r.text.items };
+}
+
+/// Does a job in a thread of its own, where one can be started.
+fn start<'s, E, const LAST: u16>(
+    alloc: Global,
+    scope: &Scope<'s, E>,
+    room: &'s Room<LAST>,
+    job: Job<'s>,
+) -> Option<PromisedHandle<ThreadRun, Doing<'s>>>
+    requires { IsFor room.now.row job }
+    ensures { IfSome result (λ h. IsGiven h.promise job.entry) }
+{
+    let Job {
+        first,
+        turns,
+        part,
+        pass,
+    } = job;
+    let promise = Doing {
+        first,
+        turns,
+        part,
+        pass: Snapshot::of(&pass),
+    };
+    let there = move || -> ThreadRun
+        requires { IsForPart room.now.row first part.now pass }
+        ensures { RanPass turns first part.entry.now.commands pass result.pass result.answer result.text.items }
+    { run_job(alloc, room, first, turns, part, pass) };
+    scope.spawn_with(promise, there).ok()
+}
+
+/// Joins the threads, and gives up.
+fn given_up<'s, R: Threads>(
+    rt: &R,
+    handles: Vec<PromisedHandle<ThreadRun, Doing<'s>>>,
+) -> Result<Vec<ThreadRun>, Fault>
+    ensures { result ≡ Err Memory }
+{
+    for handle in handles {
+        drop(handle.join(rt));
+    }
+    Err(Fault::Memory)
+}
+
+/// Does jobs, each in a thread of its own.
+fn run_jobs<'s, E, const LAST: u16, R: Threads>(
+    rt: &R,
+    alloc: Global,
+    scope: &Scope<'s, E>,
+    room: &'s Room<LAST>,
+    mut jobs: Vec<Job<'s>>,
+) -> Result<Vec<ThreadRun>, Fault>
+    requires { All (λ j. IsFor room.now.row j) jobs.items }
+    ensures { MatchResult result (λ runs. AllZip HasRun jobs.entry.items runs.items) (λ e. e ≡ Memory) }
+{
+    let mut handles = Vec::new(alloc);
+    while !jobs.is_empty() {
+        if handles.reserve(1).is_err() {
+            return given_up(rt, handles);
+        }
+        let job = jobs.remove(0);
+        let Some(handle) = start(alloc, scope, room, job) else {
+            return given_up(rt, handles);
+        };
+        handles.push_reserved(handle);
+    }
+    match thread::join_promised(rt, handles) {
+        Ok(runs) => Ok(runs),
+        Err(refused) => given_up(rt, refused.value),
+    }
+}
+
+/// The same, and each thread has ended.
+pub(crate) fn run_threads<'a, const LAST: u16, R: Threads + Wait>(
+    rt: &R,
+    alloc: Global,
+    room: &'a Room<LAST>,
+    jobs: Vec<Job<'a>>,
+) -> Result<Vec<ThreadRun>, Fault>
+    requires { All (λ j. IsFor room.now.row j) jobs.items }
+    ensures { MatchResult result (λ runs. AllZip HasRun jobs.entry.items runs.items) (λ e. e ≡ Memory) }
+{
+    thread::scope(
+        thread::scope_env(),
+        rt,
+        move |scope| -> Result<Vec<ThreadRun>, Fault>
+            requires { All (λ j. IsFor room.now.row j) jobs.items }
+            ensures { MatchResult result (λ runs. AllZip HasRun jobs.entry.items runs.items) (λ e. e ≡ Memory) }
+        { run_jobs(rt, alloc, scope, room, jobs) },
+    )
+}
