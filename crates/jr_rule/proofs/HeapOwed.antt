@@ -11,7 +11,6 @@ use prog.Atomic.{either}
 use Rattle.jr_word.specs.declared.config.Config.{Config}
 use Rattle.jr_word.specs.declared.header.HeaderParts.{HeaderParts}
 use Rattle.jr_word.specs.declared.top.TopParts.{TopParts}
-use Rattle.jr_word.specs.declared.top.Half.TheVariants.{First}
 use Rattle.jr_word.specs.Top.{top_word, IsTop}
 use Rattle.jr_word.specs.declared.kind.Kind.{Kind}
 use Rattle.jr_word.specs.declared.kind.Kind.TheVariants.{Plain, Boolean, Byte, Char, Short, Int, Long, Objects, Text}
@@ -203,10 +202,10 @@ header_read None None n is sound complete = refl
 header_read (Some p) None n is sound complete = let some = header_positive p in let a = sound.1 in absurd (omega arith)
 
 pub top_some : (n : ℕ) (q : Option TopParts) (u : ℕ) → u < 2 ^ 24 → n ≡ used_word u → ((p : TopParts) → IsTop p → n ≡ top_word p → q ≡ Some p) → IsSome q
-top_some n q u few is complete = subst IsSome (sym (complete (record { used = u; half = First }) (record { used = few }) is)) refl
+top_some n q u few is complete = subst IsSome (sym (complete (record { used = u }) (record { used = few }) is)) refl
 
 pub top_is : (n : ℕ) (q : Option TopParts) (u : ℕ) (p : TopParts) → u < 2 ^ 24 → n ≡ used_word u → ((p : TopParts) → IsTop p → n ≡ top_word p → q ≡ Some p) → q ≡ Some p → p.used ≡ u
-top_is n q u p few is complete read = let same : Some p ≡ Some (record { used = u; half = First }) = sym read ∙ complete (record { used = u; half = First }) (record { used = few }) is in let equal : p ≡ record { used = u; half = First } = cc in ap (λ (z : TopParts). z.used) equal
+top_is n q u p few is complete read = let same : Some p ≡ Some (record { used = u }) = sym read ∙ complete (record { used = u }) (record { used = few }) is in let equal : p ≡ record { used = u } = cc in ap (λ (z : TopParts). z.used) equal
 
 -- the acts of an exchange of the top, which leave the role and the freshness
 pub claimed_acts : (looked more : ℕ) (k : Known) (n : ℕ) (acts : List Act) (k' : Known) → ClaimedTop looked more k n acts k'

@@ -7,7 +7,6 @@ use Rattle.std.proofs.Props.{props}
 use Rattle.jr_word.specs.declared.config.Config.{Config}
 use Rattle.jr_word.specs.declared.header.HeaderParts.{HeaderParts}
 use Rattle.jr_word.specs.declared.kind.Kind.TheVariants.{Text}
-use Rattle.jr_word.specs.declared.top.Half.TheVariants.{First}
 use Rattle.jr_word.specs.declared.top.TopParts.{TopParts}
 use Rattle.jr_word.specs.Header.{header_word, IsHeader}
 use Rattle.jr_word.specs.Top.{top_word, IsTop}
@@ -125,25 +124,25 @@ module _ (config : Config) (last : ℕ) (few : IsFew config last) (role : Role) 
       let f = few.words in
       let e = ap (λ (c : Config). c.words) s.pass.config in omega arith
 
-  top_parts : (k : Known) → Shows old words k → (r : Option TopParts) → ((p : TopParts) → IsTop p → get_or words top_at 0 ≡ top_word p → r ≡ Some p) → r ≡ Some (record { used = (state k.seen).used; half = First })
-  top_parts k s r read = let most = few_used k s in read (record { used = (state k.seen).used; half = First }) (record { used = omega arith }) s.image.top
+  top_parts : (k : Known) → Shows old words k → (r : Option TopParts) → ((p : TopParts) → IsTop p → get_or words top_at 0 ≡ top_word p → r ≡ Some p) → r ≡ Some (record { used = (state k.seen).used })
+  top_parts k s r read = let most = few_used k s in read (record { used = (state k.seen).used }) (record { used = omega arith }) s.image.top
 
   -- the top's word has a reading
   pub top_some : (r : Option TopParts) → MayKnow (Shows old) words anything → ((p : TopParts) → IsTop p → get_or words top_at 0 ≡ top_word p → r ≡ Some p) → IsSome r
   top_some r may read = ∥∥₁_elim may (hlevel props) (λ k. subst (λ z. IsSome z) (sym (top_parts k.0 k.1 r read)) refl)
 
-  -- and its half is the first
-  pub top_first : (p : TopParts) → MayKnow (Shows old) words anything → ((q : TopParts) → IsTop q → get_or words top_at 0 ≡ top_word q → Some p ≡ Some q) → (p.used < 2 ^ 24) × (get_or words top_at 0 ≡ top_word (record { used = p.used; half = First }))
+  -- and it says how many words are used
+  pub top_first : (p : TopParts) → MayKnow (Shows old) words anything → ((q : TopParts) → IsTop q → get_or words top_at 0 ≡ top_word q → Some p ≡ Some q) → (p.used < 2 ^ 24) × (get_or words top_at 0 ≡ top_word (record { used = p.used }))
   top_first p may read = ∥∥₁_elim may (hlevel props) (λ k.
-      let same : p ≡ record { used = (state k.0.seen).used; half = First } = let e = top_parts k.0 k.1 (Some p) read in cc in
+      let same : p ≡ record { used = (state k.0.seen).used } = let e = top_parts k.0 k.1 (Some p) read in cc in
       let used : p.used ≡ (state k.0.seen).used = ap (λ (z : TopParts). z.used) same in
       let most = few_used k.0 k.1 in
-      (omega arith, k.1.image.top ∙ ap (λ u. top_word (record { used = u; half = First })) (sym used)))
+      (omega arith, k.1.image.top ∙ ap (λ u. top_word (record { used = u })) (sym used)))
 
-  used_is : (k : Known) → Shows old words k → (u : ℕ) → get_or words top_at 0 ≡ top_word (record { used = u; half = First }) → u ≡ (state k.seen).used
+  used_is : (k : Known) → Shows old words k → (u : ℕ) → get_or words top_at 0 ≡ top_word (record { used = u }) → u ≡ (state k.seen).used
   used_is k s u is = let e = s.image.top in omega arith
 
-  pub saw_top : (name : TopNaming) (u : ℕ) → get_or words top_at 0 ≡ top_word (record { used = u; half = First }) → role ≡ Within
+  pub saw_top : (name : TopNaming) (u : ℕ) → get_or words top_at 0 ≡ top_word (record { used = u }) → role ≡ Within
       → Turned old words old words (top_named config.words name u) anything (λ j k. ShowsUsed u k × keeps j k)
   saw_top name u is within = kept_showing (stands_same config last (top_named_role config.words name u role) (top_named_fresh config.words name u fresh)) (λ k s m. go name k s)
     where
@@ -166,7 +165,7 @@ module _ (config : Config) (last : ℕ) (few : IsFew config last) (role : Role) 
               )
           by_room false e = quiet k s
 
-  pub reserved : (looked n w : ℕ) → get_or words top_at 0 ≡ top_word (record { used = looked; half = First }) → w ≡ top_word (record { used = looked + n; half = First }) → looked + n ≤ config.words → role ≡ Within
+  pub reserved : (looked n w : ℕ) → get_or words top_at 0 ≡ top_word (record { used = looked }) → w ≡ top_word (record { used = looked + n }) → looked + n ≤ config.words → role ≡ Within
       → Turned old words old (slice_set words top_at w) (reserving looked n (Ok tt) ∷ []) anything (ShowsRange looked n (Ok tt))
   reserved looked n w is new room within = gained refl refl (λ k s m.
       let used : looked ≡ (state k.seen).used = used_is k s looked is in
@@ -174,11 +173,11 @@ module _ (config : Config) (last : ℕ) (few : IsFew config last) (role : Role) 
       let ws : List ℕ = elements_from k.config words (state k.seen).used n in (
         with_range k.grasp looked ws,
         subst (λ p. Turn k.config k.last k.seen k.thread (Reserve n ∷ []) (slice_set words top_at w) (hold (alone k.grasp) k.thread (with_range k.grasp p ws))) (sym used)
-            (reserves k.config k.last k.seen k.thread words s.pass.legal (alone k.grasp) s.image (row k s) (s.pass.role ∙ within) k.grasp (own k s) n w (omega arith) (new ∙ ap (λ u. top_word (record { used = u + n; half = First })) used)),
+            (reserves k.config k.last k.seen k.thread words s.pass.legal (alone k.grasp) s.image (row k s) (s.pass.role ∙ within) k.grasp (own k s) n w (omega arith) (new ∙ ap (λ u. top_word (record { used = u + n })) used)),
         (ws, elements_length k.config words (state k.seen).used n, refl, subst (λ u. words_at u k.grasp.ranges ≡ []) (sym used) (subst (λ (h : Grasp). words_at (state k.seen).used h.ranges ≡ []) (own k s) (none_beyond k.config words (state k.seen).objects (IsIn (state k.seen).used) s.image.moving (alone k.grasp) s.image.space (state k.seen).used k.thread (λ (l : (state k.seen).used < (state k.seen).used). absurd (omega arith))))),
       ))
 
-  pub reserve_lost : (looked n found : ℕ) → get_or words top_at 0 ≡ top_word (record { used = found; half = First }) → found ≢ looked → role ≡ Within
+  pub reserve_lost : (looked n found : ℕ) → get_or words top_at 0 ≡ top_word (record { used = found }) → found ≢ looked → role ≡ Within
       → Turned old words old words (reserving looked n (Err found) ∷ []) anything (ShowsRange looked n (Err found))
   reserve_lost looked n found is other within = kept refl (λ k s m.
       turn_one k.config k.last k.seen k.thread words (alone k.grasp) s.pass.legal (ReserveLost n looked found) (row k s, (s.pass.role ∙ within, used_is k s found is, other)) s.image)

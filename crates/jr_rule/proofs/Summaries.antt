@@ -9,7 +9,6 @@ use Rattle.jr_word.specs.declared.handle.RefKind.TheVariants.{Local, Global, Wea
 use Rattle.jr_word.specs.declared.slot.SlotParts.{SlotParts}
 use Rattle.jr_word.specs.declared.slot.SlotParts.TheVariants as slot
 use Rattle.jr_word.specs.declared.top.TopParts.{TopParts}
-use Rattle.jr_word.specs.declared.top.Half.TheVariants.{First}
 use Rattle.jr_word.specs.Config.{in_limits, row_words}
 use Rattle.jr_word.specs.Slot.{slot_word, IsSlot}
 use Rattle.jr_word.specs.Top.{top_word, IsTop}
@@ -179,18 +178,18 @@ module _ (c : Config) (words : List ℕ) (small : IsSmall c) where
           go false e = ap is_some (header_none ((state log).objects (n + 1)) w header (none e)) ∙ sym e
 
   -- the top says how many words are reserved
-  top_read : (last : ℕ) (log : History) → IsHistoryOf c words last log → (r : Option TopParts) → ReadsTop words r → r ≡ Some (record { used = (state log).used; half = First })
+  top_read : (last : ℕ) (log : History) → IsHistoryOf c words last log → (r : Option TopParts) → ReadsTop words r → r ≡ Some (record { used = (state log).used })
   top_read last log h r reads =
       let fit = (lengths_fit c last log h.legal).1 in
       let few = small.words in
-      reads (record { used = (state log).used; half = First }) (record { used = omega arith }) h.image.top
+      reads (record { used = (state log).used }) (record { used = omega arith }) h.image.top
 
   pub top_some : HasHistory c words → (r : Option TopParts) → ReadsTop words r → IsSome r
   top_some has r reads = ∥∥₁_elim has (hlevel props) (λ h. subst (λ z. IsSome z) (sym (top_read h.0 h.1 h.2 r reads)) refl)
 
   pub top_used : (p : TopParts) → ReadsTop words (Some p) → (last : ℕ) (log : History) → IsHistoryOf c words last log → p.used ≡ (state log).used
   top_used p reads last log h =
-      let same : p ≡ record { used = (state log).used; half = First } = let e = top_read last log h (Some p) reads in cc in
+      let same : p ≡ record { used = (state log).used } = let e = top_read last log h (Some p) reads in cc in
       ap (λ (z : TopParts). z.used) same
 
 pub same_summary : {globals globals' weaks weaks' live live' used used' : ℕ} → globals ≡ globals' → weaks ≡ weaks' → live ≡ live' → used ≡ used'

@@ -2,7 +2,6 @@
 use Rattle.std.specs.Prelude.{◌≡◌, ◌≢◌, ◌<◌, ◌^◌, ℕ, true, false, not, Ok, Err, Option, Some, None, List, [], ◌∷◌}
 use Rattle.jr_word.specs.declared.gate.GateParts.{GateParts}
 use Rattle.jr_word.specs.declared.header.HeaderParts.{HeaderParts}
-use Rattle.jr_word.specs.declared.top.Half.TheVariants.{First}
 use Rattle.jr_word.specs.Header.{header_word, IsHeader}
 use Rattle.jr_word.specs.Top.{top_word}
 use Rattle.jr_rule.specs.declared.naming.TopNaming.{TopNaming}
@@ -75,7 +74,7 @@ SawHeader o k n acts k' = (r : Option HeaderParts) × IsHeaderWord r n × (acts 
 
 -- the word of a top that has so many words used
 abbrev pub used_word : ℕ → ℕ
-used_word u = top_word (record { used = u; half = First })
+used_word u = top_word (record { used = u })
 
 abbrev pub SawTop : TopNaming → Told
 SawTop name k n acts k' = (u : ℕ) × (u < 2 ^ 24) × (n ≡ used_word u) × (acts ≡ top_named k.config.words name u) × ShowsUsed u k' × keeps k k'

@@ -2,7 +2,6 @@
 ghost use Rattle.std.specs.Prelude.{◌≡◌, ◌↔◌, ◌≤◌, ◌<◌, ◌^◌, IsTrue};
 ghost use Rattle.jr_word.specs.declared.gate.GateParts.{GateParts as Gates};
 ghost use Rattle.jr_word.specs.declared.slot.SlotParts.TheVariants.{Free};
-ghost use Rattle.jr_word.specs.declared.top.Half.TheVariants.{First};
 ghost use Rattle.jr_word.specs.Gate.{gate_word, IsGate};
 ghost use Rattle.jr_word.specs.Top.{top_word as word_of_top};
 ghost use Rattle.jr_model.specs.declared.event.Role.TheVariants.{Outside};
@@ -13,9 +12,7 @@ ghost use Rattle.jr_rule.specs.Shown.{IsSmall};
 ghost use Rattle.jr_rule.specs.Slots.{CanStand, IsReference, is_of_kind, freed};
 
 use jr_model::Role;
-use jr_word::{
-    Config, GateParts, GateWord, Half, LocalParts, RefKind, SlotParts, TopParts, TopWord,
-};
+use jr_word::{Config, GateParts, GateWord, LocalParts, RefKind, SlotParts, TopParts, TopWord};
 
 /// The word of the gate.
 pub(crate) const GATE: usize = 0;
@@ -49,13 +46,9 @@ pub(crate) fn element_at(config: &Config, place: u32) -> usize
 /// The word of a top that has so many words used.
 pub(crate) fn top_word(used: u32) -> u64
     requires { used < 2 ^ 24 }
-    ensures { result ≡ word_of_top (record { used = used; half = First }) }
+    ensures { result ≡ word_of_top (record { used = used }) }
 {
-    TopWord::pack(TopParts {
-        used,
-        half: Half::First,
-    })
-    .0
+    TopWord::pack(TopParts { used }).0
 }
 
 /// Whether the word of a gate is that of a shut one.

@@ -5,7 +5,6 @@ ghost use Rattle.jr_word.specs.Config.{in_limits, row_words};
 ghost use Rattle.jr_word.specs.Gate.{gate_word, IsGate};
 ghost use Rattle.jr_word.specs.Slot.{slot_word, IsSlot};
 ghost use Rattle.jr_word.specs.Top.{top_word};
-ghost use Rattle.jr_word.specs.declared.top.Half.TheVariants.{First};
 ghost use Rattle.jr_model.specs.declared.event.Role.TheVariants.{Outside};
 ghost use Rattle.jr_rule.specs.Image.{gate_at, top_at, slot_at};
 ghost use Rattle.jr_rule.specs.Knowing.{anything, MayKnow, HasNoLocals};
@@ -95,7 +94,7 @@ impl<const LAST: u16> PlainSteps<LAST> {
 
     /// How many words are reserved, as the top says.
     fn top(&self) -> u32
-        ensures { (result < 2 ^ 24) × (slice_index self.now.words.items top_at ≡ top_word (record { used = result; half = First })) }
+        ensures { (result < 2 ^ 24) × (slice_index self.now.words.items top_at ≡ top_word (record { used = result })) }
     {
         TopWord::parts(self.word(TOP)).unwrap().used
     }
@@ -428,7 +427,7 @@ mod tests {
         Ok(())
     }
 
-    /// A row of 24 words: the last four are array space, two for each half.
+    /// A row of 22 words: the last two are array space.
     #[test]
     fn reserves_words_and_puts_its_own(rt: HostRuntime) -> Result<(), Fail> {
         let config = Config { words: 2, ..SMALL };
@@ -442,7 +441,7 @@ mod tests {
         assert_eq!(rt; steps.claim_top(0, 1).err(), Some(2));
         assert_eq!(rt; steps.see_top(TopNaming::Full { words: 1 }), 2);
 
-        let mut row = [0; 24];
+        let mut row = [0; 22];
         row[0] = 1;
         row[1] = 2;
         row[21] = 7;

@@ -30,12 +30,12 @@ impl Config {
             && (16..=4_096).contains(&self.locals)
     }
 
-    /// How many words the row of a room has: the gate, the top, a word for each slot, for each place of each thread and for each object's header, and the element words, for two halves that change roles.
+    /// How many words the row of a room has: the gate, the top, a word for each slot, for each place of each thread and for each object's header, and the element words.
     pub fn row_words(&self) -> usize
         requires { in_limits self.now ≡ true }
         ensures { result ≡ row_words self.now }
     {
         let locals = self.threads as usize * self.locals as usize;
-        2 + self.slots as usize + locals + self.objects as usize + 2 * self.words as usize
+        2 + self.slots as usize + locals + self.objects as usize + self.words as usize
     }
 }

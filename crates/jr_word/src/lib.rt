@@ -22,7 +22,7 @@ pub use header::{Header, HeaderParts};
 pub use kind::Kind;
 pub use local::{LocalParts, LocalWord};
 pub use slot::{SlotParts, SlotWord};
-pub use top::{Half, TopParts, TopWord};
+pub use top::{TopParts, TopWord};
 
 #[cfg(test)]
 mod tests;

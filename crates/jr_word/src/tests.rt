@@ -135,23 +135,15 @@ fn gates(rt: HostRuntime) {
     }
 }
 
-fn top(used: u32, half: Half) -> Option<TopParts> {
-    Some(TopParts { used, half })
-}
-
 #[test]
 fn tops(rt: HostRuntime) {
-    let full = TopParts {
-        used: 0xff_ffff,
-        half: Half::Second,
-    };
-    assert_eq!(rt; TopWord::pack(full), TopWord(0x1ff_ffff));
-    assert_eq!(rt; TopWord::parts(0), top(0, Half::First));
-    assert_eq!(rt; TopWord::parts(0x1ff_ffff), Some(full));
+    let full = TopParts { used: 0xff_ffff };
+    assert_eq!(rt; TopWord::pack(full), TopWord(0xff_ffff));
+    assert_eq!(rt; TopWord::parts(0), Some(TopParts { used: 0 }));
+    assert_eq!(rt; TopWord::parts(0xff_ffff), Some(full));
     for k in 0..64_u32 {
         let alone = match k {
-            0..=23 => top(1 << k, Half::First),
-            24 => top(0, Half::Second),
+            0..=23 => Some(TopParts { used: 1 << k }),
             _ => None,
         };
         assert_eq!(rt; TopWord::parts(1 << k), alone, "bit {k}");
@@ -360,9 +352,9 @@ fn limits(rt: HostRuntime) {
 #[test]
 fn sizes_of_rows(rt: HostRuntime) {
     let rows = [
-        ([1, 4, 8, 9, 16], 48),
+        ([1, 4, 8, 9, 16], 39),
         ([1, 1, 1, 0, 16], 20),
-        ([64, 65_536, 65_535, 1_048_576, 4_096], 2_490_369),
+        ([64, 65_536, 65_535, 1_048_576, 4_096], 1_441_793),
     ];
     for (sizes, words) in rows {
         let config = config(sizes);

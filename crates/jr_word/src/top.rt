@@ -2,20 +2,11 @@
 
 use crate::bits::u24_at;
 
-/// A half of the array space.
-#[derive(Clone, Copy, Debug, PartialEq, Eq)]
-pub enum Half {
-    First,
-    Second,
-}
-
 /// What the word of the top says.
 #[derive(Clone, Copy, Debug, PartialEq, Eq)]
 pub struct TopParts {
     /// Words reserved, below 2^24.
     pub used: u32,
-    /// The half in which they are.
-    pub half: Half,
 }
 
 /// The word of the top.
@@ -32,11 +23,7 @@ impl TopWord {
         requires { IsTop parts }
         ensures { result.0 ≡ top_word parts }
     {
-        let half = match parts.half {
-            Half::First => 0,
-            Half::Second => 1,
-        };
-        TopWord(u64::from(parts.used) + (half << 24))
+        TopWord(u64::from(parts.used))
     }
 
     /// What a word says of the top, if it is well formed.
@@ -45,12 +32,10 @@ impl TopWord {
         ensures sound { IfSome result (λ parts. IsTop parts × (word ≡ top_word parts)) }
         ensures complete { (parts : _) → IsTop parts → word ≡ top_word parts → result ≡ Some parts }
     {
-        let half = match word >> 24 {
-            0 => Half::First,
-            1 => Half::Second,
-            _ => return None,
-        };
+        if word >> 24 != 0 {
+            return None;
+        }
         let used = u24_at(word, 0);
-        Some(TopParts { used, half })
+        Some(TopParts { used })
     }
 }

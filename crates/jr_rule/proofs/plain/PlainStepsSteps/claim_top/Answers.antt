@@ -1,6 +1,5 @@
 use Rattle.std.proofs.Common.{◌∙◌, ap, arith}
 use Rattle.jr_word.specs.Top.{top_word}
-use Rattle.jr_word.specs.declared.top.Half.TheVariants.{First}
 use Rattle.jr_rule.proofs.PlainTook.{few_of, took, shown}
 use Rattle.jr_rule.proofs.PlainHeap.{reserved, reserve_lost}
 use Rattle.jr_rule.proofs.Unused.{unused_top}
@@ -17,14 +16,14 @@ returns g c =
     let s = c.args.self.now in
     took g.row.LAST s _
     (reserved s.config g.row.LAST (few_of g.row.LAST s (omega arith)) s.role s.fresh s.words.items c.args.looked c.args.more c.top_word.result
-    (c.top-found.ensures.1 ∙ ap (λ u. top_word (record { used = u; half = First })) c.if-found-looked.false) c.top_word.ensures c.requires.room c.requires.role)
+    (c.top-found.ensures.1 ∙ ap (λ u. top_word (record { used = u })) c.if-found-looked.false) c.top_word.ensures c.requires.room c.requires.role)
 
 pub invariant_of-self-clause-shown : goal.invariant_of-self-clause-shown
 invariant_of-self-clause-shown g c =
     let s = c.args.self.now in
     shown
     (reserved s.config g.row.LAST (few_of g.row.LAST s (omega arith)) s.role s.fresh s.words.items c.args.looked c.args.more c.top_word.result
-    (c.top-found.ensures.1 ∙ ap (λ u. top_word (record { used = u; half = First })) c.if-found-looked.false) c.top_word.ensures c.requires.room c.requires.role)
+    (c.top-found.ensures.1 ∙ ap (λ u. top_word (record { used = u })) c.if-found-looked.false) c.top_word.ensures c.requires.room c.requires.role)
     s.shown
 
 pub invariant_of-self-clause-unused : goal.invariant_of-self-clause-unused
