@@ -1,21 +1,26 @@
 -- A knock at the shut gate, and the exit after it.
-use Rattle.std.proofs.Common.{[], ◌∷◌, ap, subst, ◌∙◌}
+use Rattle.std.proofs.Common.{List, [], ◌∷◌, ap, subst, ◌∙◌, arith}
 use Rattle.jr_model.specs.declared.event.Role.{Role}
+use Rattle.jr_model.specs.declared.event.Act.{Act}
 use Rattle.jr_model.specs.declared.event.Act.TheVariants.{Knock, Withdraw}
 use Rattle.jr_model.proofs.Stays.{did_then}
 use Rattle.jr_rule.specs.declared.known.Known.{Known}
 use Rattle.jr_rule.specs.Acts.{leaving}
-use Rattle.jr_rule.specs.Knowing.{Standing, moved, anything, lets_go, Took}
+use Rattle.jr_rule.specs.Knowing.{Standing, moved, anything, lets_go, Goes, Took, Takes}
 use Rattle.jr_rule.proofs.Goes.{goes_did}
-use Rattle.jr_gate.specs.Acting.{ActedTo}
+use Rattle.jr_gate.specs.Acting.{ActedTo, IsWithdrawn}
+
+-- one step and one more are two
+two : {j k l : Known} {xs ys : List Act} → Goes j xs k → Goes k ys l → Takes 2 j l
+two g h = let a = g.taken in let b = h.taken in omega arith
 
 module _ {S : Type 0} {stands : S → Standing} {knows : S → Known → Type 0} {a b c : S} {shows : Known → Known → Type 0} where
-  withdraws : Took stands knows a b (Knock ∷ []) anything shows → Took stands knows b c (Withdraw ∷ []) anything lets_go → ActedTo stands knows a c (Knock ∷ Withdraw ∷ []) anything lets_go
+  withdraws : Took stands knows a b (Knock ∷ []) anything shows → Took stands knows b c (Withdraw ∷ []) anything lets_go → ActedTo stands knows a c (Knock ∷ Withdraw ∷ []) anything IsWithdrawn
   withdraws p q = record {
     stands_is = q.stands_is ∙ ap (λ s. moved s (Withdraw ∷ [])) p.stands_is;
-    did = λ k s m. let g = p.goes k s m in let h = q.goes g.0 g.1 tt in (h.0, h.1, did_then (Knock ∷ []) (Withdraw ∷ []) (goes_did g.2) (goes_did h.2), h.3);
+    did = λ k s m. let g = p.goes k s m in let h = q.goes g.0 g.1 tt in (h.0, h.1, did_then (Knock ∷ []) (Withdraw ∷ []) (goes_did g.2) (goes_did h.2), (h.3, two g.2 h.2));
   }
 
   -- who leaves after a knock withdraws it
-  pub withdrawn : Took stands knows a b (Knock ∷ []) anything shows → Took stands knows b c (leaving (stands b).role ∷ []) anything lets_go → ActedTo stands knows a c (Knock ∷ Withdraw ∷ []) anything lets_go
+  pub withdrawn : Took stands knows a b (Knock ∷ []) anything shows → Took stands knows b c (leaving (stands b).role ∷ []) anything lets_go → ActedTo stands knows a c (Knock ∷ Withdraw ∷ []) anything IsWithdrawn
   withdrawn p q = withdraws p (subst (λ (r : Role). Took stands knows b c (leaving r ∷ []) anything lets_go) (ap (λ (s : Standing). s.role) p.stands_is) q)

@@ -3,7 +3,11 @@ use Rattle.std.specs.Prelude.{◌≡◌, List}
 use Rattle.jr_model.specs.declared.event.Act.{Act}
 use Rattle.jr_model.specs.History.{Did}
 use Rattle.jr_rule.specs.declared.known.Known.{Known}
-use Rattle.jr_rule.specs.Knowing.{Standing, view, moved}
+use Rattle.jr_rule.specs.Knowing.{Standing, view, moved, lets_go, Takes}
+
+-- what a knock and its withdrawal show: nothing is held then, and they were two operations
+abbrev pub IsWithdrawn : Known → Known → Type 0
+IsWithdrawn j k = lets_go j k × Takes 2 j k
 
 module _ {S : Type 0} (stands : S → Standing) (knows : S → Known → Type 0) where
   -- several steps were taken, which show this

@@ -4,7 +4,7 @@ ghost use Rattle.jr_word.specs.declared.fault.Fault.TheVariants.{Barred};
 ghost use Rattle.jr_model.specs.declared.event.Role.TheVariants.{Outside};
 ghost use Rattle.jr_model.specs.declared.event.Act.TheVariants.{Enter, Knock, Leave, Withdraw};
 ghost use Rattle.jr_rule.specs.Knowing.{anything, keeps, lets_go, Took};
-ghost use Rattle.jr_gate.specs.Acting.{ActedTo};
+ghost use Rattle.jr_gate.specs.Acting.{ActedTo, IsWithdrawn};
 ghost use Rattle.jr_gate.specs.Stays.{IsOwnStay};
 
 use jr_rule::Steps;
@@ -26,11 +26,11 @@ impl Inside {
     }
 }
 
-/// Enters the gate: E13 only where a thread was collecting at the entry step. Over one thread it is never refused. The stay is the steps' own, by the number of the thread and the role of the steps.
+/// Enters the gate by one operation: E13 only where a thread was collecting at the entry step, and then a second operation withdraws. Over one thread it is never refused. The stay is the steps' own, by the number of the thread and the role of the steps.
 pub fn enter<S: Steps>(steps: &mut S) -> Result<Inside, Fault>
     requires { (S.stands steps.old).role ≡ Outside }
     ensures ok { IfOk result (λ i. IsOwnStay i (S.stands steps.new) × Took S.stands S.knows steps.old steps.new (Enter ∷ []) anything keeps) }
-    ensures err { IfErr result (λ e. (e ≡ Barred) × ActedTo S.stands S.knows steps.old steps.new (Knock ∷ Withdraw ∷ []) anything lets_go) }
+    ensures err { IfErr result (λ e. (e ≡ Barred) × ActedTo S.stands S.knows steps.old steps.new (Knock ∷ Withdraw ∷ []) anything IsWithdrawn) }
     ensures alone { (S.stands steps.old).config.threads ≡ 1 → IsOk result }
 {
     if steps.go_in() {

@@ -46,7 +46,7 @@ module _ (k : Known) (log : History) (words : List ℕ) (held : ℕ → Grasp) (
 
   -- what the pass would know of the longest history
   abbrev pub now : Known
-  now = known k.config k.last k.thread log k.grasp
+  now = known k.config k.last k.thread log k.grasp k.taken
 
   abbrev between : History
   between = f.fits.begins.0

@@ -1,5 +1,5 @@
 -- A step over plain words: what its kind of step owes is enough.
-use Rattle.std.proofs.Common.{◌≡◌, ◌<◌, ◌≤◌, ◌^◌, ℕ, Bool, List, [], ◌++◌, map, slice_set, refl, sym, ap, subst, ◌∙◌}
+use Rattle.std.proofs.Common.{◌≡◌, ◌<◌, ◌≤◌, ◌^◌, ℕ, Bool, List, [], ◌++◌, ◌+◌, map, slice_set, refl, sym, ap, subst, ◌∙◌}
 use Rattle.std.proofs.Math.Logic.{∥∥₁_elim}
 use Rattle.std.proofs.Props.{props}
 use Rattle.std.proofs.lemmas.List.{append-nil}
@@ -27,7 +27,7 @@ stands_same c last a b = cc
 
 -- what is known after acts of one's own, with none of others in between
 abbrev pub known_then : Known → List Act → Grasp → Known
-known_then k acts g = record { config = k.config; last = k.last; thread = k.thread; seen = then k.seen k.thread acts; grasp = g }
+known_then k acts g = record { config = k.config; last = k.last; thread = k.thread; seen = then k.seen k.thread acts; grasp = g; taken = k.taken + 1 }
 
 goes_then : (k : Known) (acts : List Act) (g : Grasp) → IsLegal k.config k.last (then k.seen k.thread acts) → Goes k acts (known_then k acts g)
 goes_then k acts g legal = record {
@@ -38,6 +38,7 @@ goes_then k acts g legal = record {
   seen = ap (λ l. l ++ map (by k.thread) acts) (sym (append-nil k.seen));
   others = refl;
   legal = legal;
+  taken = refl;
 }
 
 -- after a turn the words show what is known then

@@ -92,6 +92,7 @@ goes_at k log held acts g f legal =
       others = append_cancel (mine k.seen k.thread) (mine between k.thread) []
           (sym (mine_append k.seen between k.thread) ∙ (ap (λ l. mine l k.thread) f.begins.1 ∙ (f.own ∙ sym (append-nil (mine k.seen k.thread)))));
       legal = legal;
+      taken = refl;
     }
 
 module _ (c : Config) (last : ℕ) where

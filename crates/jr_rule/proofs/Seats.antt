@@ -86,14 +86,14 @@ module _ (c : Config) (last : ℕ) where
   not_yet u zero t h = refl
   not_yet u (suc n) t h =
       let other : t ≢ u = λ e. omega arith in
-      let none : is_of u (known c last t [] empty) ≡ 0 = ap (λ b. cond b 1 0) (ne_eqb t u other) in
+      let none : is_of u (known c last t [] empty 0) ≡ 0 = ap (λ b. cond b 1 0) (ne_eqb t u other) in
       let rest = not_yet u n (suc t) (omega arith) in omega arith
 
   just_once : (u n t : ℕ) → t ≤ u → u < t + n → total (is_of u) (newcomers c last n t) ≡ 1
   just_once u zero t from to = absurd (omega arith)
   just_once u (suc n) t from to = dite (ℕ_discrete t u)
-      (λ e. let one : is_of u (known c last t [] empty) ≡ 1 = ap (λ b. cond b 1 0) (eq-eqb t u e) in let rest = not_yet u n (suc t) (omega arith) in omega arith)
-      (λ other. let none : is_of u (known c last t [] empty) ≡ 0 = ap (λ b. cond b 1 0) (ne_eqb t u other) in let rest = just_once u n (suc t) (omega arith) (omega arith) in omega arith)
+      (λ e. let one : is_of u (known c last t [] empty 0) ≡ 1 = ap (λ b. cond b 1 0) (eq-eqb t u e) in let rest = not_yet u n (suc t) (omega arith) in omega arith)
+      (λ other. let none : is_of u (known c last t [] empty 0) ≡ 0 = ap (λ b. cond b 1 0) (ne_eqb t u other) in let rest = just_once u n (suc t) (omega arith) (omega arith) in omega arith)
 
   -- a row that shows the opening meets the rule
   pub opens : (words : List ℕ) → IsSized c last → IsImage c last words nothing_stands (λ t. empty) → Kept last c (opening words [] (view (newcomers c last c.threads 0)))
@@ -112,12 +112,12 @@ module _ (c : Config) (last : ℕ) where
       alone v (suc j) there = absurd (some-ne-none v (sym there))
 
   -- the next of the newcomers
-  pub next_newcomer : (m : Sat) (t : ℕ) → t < c.threads → m ≡ (view (newcomers c last (c.threads - t) t), []) → m ≡ (view (known c last t [] empty ∷ newcomers c last (c.threads - (t + 1)) (t + 1)), [])
+  pub next_newcomer : (m : Sat) (t : ℕ) → t < c.threads → m ≡ (view (newcomers c last (c.threads - t) t), []) → m ≡ (view (known c last t [] empty 0 ∷ newcomers c last (c.threads - (t + 1)) (t + 1)), [])
   next_newcomer m t h e =
       let n : ℕ = c.threads - (t + 1) in
       let more : c.threads - t ≡ suc n = omega arith in
       let next : suc t ≡ t + 1 = omega arith in
-      e ∙ (ap (λ (k : ℕ). (view (newcomers c last k t), [])) more ∙ ap (λ (k : ℕ). (view (known c last t [] empty ∷ newcomers c last n k), [])) next)
+      e ∙ (ap (λ (k : ℕ). (view (newcomers c last k t), [])) more ∙ ap (λ (k : ℕ). (view (known c last t [] empty 0 ∷ newcomers c last n k), [])) next)
 
 -- the seat of two passes that were joined
 pub joined_is : (m v w : Sat) (k l : Known) → v ≡ (view (k ∷ []), []) → w ≡ (view (l ∷ []), []) → m ≡ (together v.0 w.0, v.1) → m ≡ (view (k ∷ l ∷ []), [])

@@ -1,5 +1,5 @@
 -- What a caller of the steps knows of them.
-use Rattle.std.specs.Prelude.{◌≡◌, ◌≢◌, ◌↔◌, ◌≤◌, ◌<◌, ℕ, Bool, true, false, IsTrue, Result, Ok, Err, Option, Some, None, List, [], ◌∷◌, ◌++◌, ◌==◌, cond, map, length, slice_set}
+use Rattle.std.specs.Prelude.{◌≡◌, ◌≢◌, ◌↔◌, ◌≤◌, ◌<◌, ◌+◌, ℕ, Bool, true, false, IsTrue, Result, Ok, Err, Option, Some, None, List, [], ◌∷◌, ◌++◌, ◌==◌, cond, map, length, slice_set}
 use Rattle.std.specs.List.{AllByRecursion}
 use Rattle.atomic_table.specs.Seated.{TableId}
 use Rattle.jr_word.specs.declared.config.Config.{Config}
@@ -62,7 +62,7 @@ pub record IsOf (s : Standing) (k : Known) : Type 0 where
   pub role : role_of (view k) ≡ s.role
   pub legal : IsLegal k.config k.last k.seen
 
--- what a step makes of what was known: what others did in between, and then the acts of the step, one or none
+-- WHAT A STEP makes of what was known: what others did in between, and then the acts of the step, one or none; and it is one step more
 pub record Goes (k : Known) (acts : List Act) (k' : Known) : Type 0 where
   pub config : k'.config ≡ k.config
   pub last : k'.last ≡ k.last
@@ -71,6 +71,11 @@ pub record Goes (k : Known) (acts : List Act) (k' : Known) : Type 0 where
   pub seen : k'.seen ≡ (k.seen ++ between) ++ map (by k.thread) acts
   pub others : mine between k.thread ≡ []
   pub legal : IsLegal k.config k.last k'.seen
+  pub taken : k'.taken ≡ k.taken + 1
+
+-- so many steps were taken, each one operation on one word
+abbrev pub Takes : ℕ → Known → Known → Type 0
+Takes n k k' = k'.taken ≡ k.taken + n
 
 -- no condition
 abbrev pub anything : Known → Type 0

@@ -36,7 +36,7 @@ pub record IsAt (r : Row) (p : Pass) : Type 0 where
 -- a pass of the row, as it was opened
 pub record IsOpened (r : Row) (p : Pass) : Type 0 where
   pub row : IsAt r p
-  pub knows : known_of p ≡ known r.config r.last p.thread [] empty
+  pub knows : known_of p ≡ known r.config r.last p.thread [] empty 0
   pub role : p.role ≡ Outside
   pub fresh : p.fresh ≡ true
 

@@ -14,7 +14,7 @@ standing c last role fresh = record { room = None; config = c; last = last; thre
 
 -- what is known where nothing has happened yet
 abbrev pub unseen : Config → ℕ → Known
-unseen config last = record { config = config; last = last; thread = 0; seen = []; grasp = empty }
+unseen config last = record { config = config; last = last; thread = 0; seen = []; grasp = empty; taken = 0 }
 
 -- thread 0 alone holds something
 abbrev pub alone : Grasp → ℕ → Grasp

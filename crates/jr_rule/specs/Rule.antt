@@ -20,8 +20,8 @@ use Rattle.jr_rule.specs.Shown.{IsSmall}
 abbrev pub sizes : Config → ℕ → Sizes
 sizes c last = record { config = c; last = last }
 
-abbrev pub known : Config → ℕ → ℕ → History → Grasp → Known
-known c last t seen grasp = record { config = c; last = last; thread = t; seen = seen; grasp = grasp }
+abbrev pub known : Config → ℕ → ℕ → History → Grasp → ℕ → Known
+known c last t seen grasp taken = record { config = c; last = last; thread = t; seen = seen; grasp = grasp; taken = taken }
 
 abbrev pub view : List Known → View
 view ks = record { passes = ks }
@@ -72,14 +72,14 @@ pub record Kept (last : ℕ) (c : Config) (r : Row) : Type 0 where
 -- AT THE OPENING the one seat stands for all passes, of so many threads from t on, which have seen nothing
 abbrev pub newcomers : Config → ℕ → ℕ → ℕ → List Known
 newcomers c last zero t = []
-newcomers c last (suc n) t = known c last t [] empty ∷ newcomers c last n (suc t)
+newcomers c last (suc n) t = known c last t [] empty 0 ∷ newcomers c last n (suc t)
 
 -- a seat, without slots of its own
 abbrev pub Sat : Type 0
 Sat = Me (Unit {0}) View
 
 abbrev pub nobody : Known
-nobody = known (record { threads = 0; slots = 0; objects = 0; words = 0; locals = 0 }) 0 0 [] empty
+nobody = known (record { threads = 0; slots = 0; objects = 0; words = 0; locals = 0 }) 0 0 [] empty 0
 
 abbrev pub first_of : List Known → Known
 first_of [] = nobody
@@ -129,9 +129,9 @@ pub record IsFound (k : Known) (log : History) (words : List ℕ) (held : ℕ �
   pub sized : IsSized k.config k.last
   pub image : IsImage k.config k.last words (state log) held
 
--- what is known after acts at the end of the history
+-- what is known after a step, with its acts at the end of the history
 abbrev pub known_at : Known → History → List Act → Grasp → Known
-known_at k log acts grasp = known k.config k.last k.thread (log ++ map (by k.thread) acts) grasp
+known_at k log acts grasp = known k.config k.last k.thread (log ++ map (by k.thread) acts) grasp (k.taken + 1)
 
 pub record Makes (k : Known) (log : History) (words : List ℕ) (held : ℕ → Grasp) (told : List Act → Known → Type 0) : Type 0 where
   pub acts : List Act

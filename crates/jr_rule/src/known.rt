@@ -29,13 +29,14 @@ pub struct Grasp {
     pub moving: Option<Move>,
 }
 
-/// What one pass knows: its room and thread, the history that it has seen, in which all its own events stand, and what it holds.
+/// What one pass knows: its room and thread, the history that it has seen, in which all its own events stand, what it holds, and how many steps it has taken, each one operation on one word.
 pub struct Known {
     pub config: Config,
     pub last: u16,
     pub thread: u8,
     pub seen: LinkedList<Event>,
     pub grasp: Grasp,
+    pub taken: u64,
 }
 
 /// What a seat at the row stands for: one pass mostly, two while they meet, none once it is spent.

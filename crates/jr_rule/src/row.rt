@@ -67,7 +67,7 @@ impl Row {
     fn deal(&self, seat: &mut Seat<(), View>, thread: u8) -> Pass
         requires room { seat.old.table_id ≡ self.now.table.shared.table_id }
         requires thread { thread < self.now.config.threads }
-        requires first { seat.old.me ≡ (view (known self.now.config self.now.last thread [] empty ∷ others_of seat.old.me.0.passes), []) }
+        requires first { seat.old.me ≡ (view (known self.now.config self.now.last thread [] empty 0 ∷ others_of seat.old.me.0.passes), []) }
         ensures seat { (seat.new.table_id ≡ seat.old.table_id) × (seat.new.me ≡ (view (others_of seat.old.me.0.passes), [])) }
         ensures pass { IsOpened self.now result × (result.thread ≡ thread) }
     {

@@ -61,8 +61,8 @@ played : (turns last : ℕ) (c : Config) (r : Row) (p q : Pass) (first : ℕ) (c
     → Played turns last c p.thread first commands lines (known_of q)
 played turns last c r p q first commands answer lines config_is last_is o x done =
     let t = p.thread in
-    let k0 : Known = known c last t [] empty in
-    let knows0 : known_of p ≡ k0 = o.knows ∙ (λ i. known (config_is i) (last_is i) t [] empty) in
+    let k0 : Known = known c last t [] empty 0 in
+    let knows0 : known_of p ≡ k0 = o.knows ∙ (λ i. known (config_is i) (last_is i) t [] empty 0) in
     let fresh : fresh_frames (standing_of p).config.locals ≡ fresh_frames c.locals = ap (λ (k : Known). fresh_frames k.config.locals) knows0 in
     let ran : RanThread standing_of Knows p q (fresh_frames c.locals) x.frames turns first commands (Ok tt) lines
     = subst (λ a. RanThread standing_of Knows p q (fresh_frames c.locals) x.frames turns first commands a lines) done

@@ -15,7 +15,7 @@ use Rattle.jr_model.proofs.Runs.{ran_entered}
 use Rattle.jr_rule.specs.declared.known.Known.{Known}
 use Rattle.jr_rule.specs.Knowing.{Standing, moved, anything, keeps, lets_go, HasNoLocals, MayKnow, Took}
 use Rattle.jr_rule.proofs.Goes.{goes_did}
-use Rattle.jr_gate.specs.Acting.{ActedTo}
+use Rattle.jr_gate.specs.Acting.{ActedTo, IsWithdrawn}
 use Rattle.jr_scripts.specs.Table.{Table}
 use Rattle.jr_scripts.specs.Performing.{Calls, IsAsBefore}
 use Rattle.jr_scripts.specs.Ready.{IsReady, KeepsOwner, Completes}
@@ -74,7 +74,7 @@ module _ {S : Type 0} {stands : S → Standing} {knows : S → Known → Type 0}
   }
 
   module _ {A : Type 0} (work : Config → ℕ → ℕ → Call A) where
-    calls_barred : {a b : S} (f : Frames) → (stands a).role ≡ Outside → ActedTo stands knows a b (Knock ∷ Withdraw ∷ []) anything lets_go → Calls stands knows a b f f (entered (work (stands a).config (stands a).last (stands a).thread)) (Err Barred)
+    calls_barred : {a b : S} (f : Frames) → (stands a).role ≡ Outside → ActedTo stands knows a b (Knock ∷ Withdraw ∷ []) anything IsWithdrawn → Calls stands knows a b f f (entered (work (stands a).config (stands a).last (stands a).thread)) (Err Barred)
     calls_barred {a} f out t = record {
       stands_is = as_before _ (t.stands_is ∙ ap (with_role (stands a)) (sym out));
       ran = λ k s m. let g = t.did k s tt in
@@ -96,7 +96,7 @@ module _ {S : Type 0} {stands : S → Standing} {knows : S → Known → Type 0}
         }
 
     -- an entry that found the gate shut
-    pub completes_barred : {a b : S} {t : Table} {e : Fault} → IsReady stands knows Outside a t → (answer : Result A Fault) → IsErrAnd answer (λ y. y ≡ e) → (e ≡ Barred) × ActedTo stands knows a b (Knock ∷ Withdraw ∷ []) anything lets_go
+    pub completes_barred : {a b : S} {t : Table} {e : Fault} → IsReady stands knows Outside a t → (answer : Result A Fault) → IsErrAnd answer (λ y. y ≡ e) → (e ≡ Barred) × ActedTo stands knows a b (Knock ∷ Withdraw ∷ []) anything IsWithdrawn
         → Completes stands knows a b t t (entered (work (stands a).config (stands a).last (stands a).thread)) answer
     completes_barred {t} r answer given why =
         let p = handed_on answer (subst (λ y. IsErrAnd answer (λ z. z ≡ y)) why.0 given) (calls_barred t.frames r.role_is why.1) in

@@ -23,7 +23,7 @@ all_more P items p old new = All-append P items (p ∷ []) old (λ k d h. let fi
 pub deal-requires : goal.deal-requires
 deal-requires c =
     let e = next_newcomer c.args.self.now.config c.args.self.now.last c.loop-thread.seat.me c.loop-thread.thread c.loop-thread-test.true c.loop-thread.invariant.left in
-    let first = e ∙ ap (λ (ks : List Known). (view (known c.args.self.now.config c.args.self.now.last c.loop-thread.thread [] empty ∷ ks), [])) (sym (ap (λ (z : Sat). others_of z.0.passes) e)) in
+    let first = e ∙ ap (λ (ks : List Known). (view (known c.args.self.now.config c.args.self.now.last c.loop-thread.thread [] empty 0 ∷ ks), [])) (sym (ap (λ (z : Sat). others_of z.0.passes) e)) in
     record { room = search rules; thread = search rules; first = first }
 
 pub loop-thread-preserved : goal.loop-thread-preserved
