@@ -14,7 +14,7 @@ use Rattle.jr_scripts.specs.Names.{Names}
 use Rattle.jr_scripts.specs.Deeds.{moment, Does}
 use Rattle.jr_scripts.specs.Commands.{deed}
 use Rattle.jr_scripts.specs.Text.{printed, names_after}
-use Rattle.jr_scripts.specs.Explains.{Explains, nothing, then}
+use Rattle.jr_scripts.specs.Explains.{Explains, nothing, then, unwritten}
 use Rattle.jr_scripts.specs.Runs.{RanThread, WritesDown}
 use Rattle.jr_scripts.specs.Performing.{IsAsBefore}
 use Rattle.jr_scripts.proofs.Standings.{nothing_changed, still_before}
@@ -92,17 +92,7 @@ module _ {S : Type 0} {stands : S → Standing} {knows : S → Known → Type 0}
                   y.2,
                   (
                     refl,
-                    record {
-                      before = take i commands;
-                      last = c;
-                      rest = drop (suc i) commands;
-                      parts = sym (take-append-drop (suc i) commands) ∙ (ap (λ cs. cs ++ drop (suc i) commands) (done_so_far commands i c small is) ∙ append_assoc (take i commands) (c ∷ []) (drop (suc i) commands));
-                      mid = moment x.0 g;
-                      names = names;
-                      answer = answer;
-                      lines = x.3;
-                      unwritten = y.3;
-                    },
+                    unwritten (take i commands) c (drop (suc i) commands) (moment x.0 g) names answer (sym (take-append-drop (suc i) commands) ∙ (ap (λ cs. cs ++ drop (suc i) commands) (done_so_far commands i c small is) ∙ append_assoc (take i commands) (c ∷ []) (drop (suc i) commands))) x.3 y.3,
                   ),
                 );
           },

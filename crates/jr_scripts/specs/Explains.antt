@@ -21,17 +21,11 @@ module _ (turns first : ℕ) (old : Moment) where
   abbrev pub Explained : List Command → List ℕ → Moment → Type 0
   Explained commands text new = (names : Names) × Explains commands text new names
 
-  -- the first commands were done and no others, and the text has their lines, but for that of the last
-  pub record IsCutOff (commands : List Command) (text : List ℕ) (new : Moment) : Type 0 where
-    pub before : List Command
-    pub last : Command
-    pub rest : List Command
-    pub parts : commands ≡ before ++ last ∷ rest
-    pub mid : Moment
-    pub names : Names
-    pub answer : Result Reply Fault
-    pub lines : Explains before text mid names
-    pub unwritten : deed turns names last mid answer new
+  -- the first commands were done and no others; the text has all their lines, or lacks that of the last
+  pub data IsCutOff (commands : List Command) (text : List ℕ) (new : Moment) : Type 0 where
+    written : (before rest : List Command) (names : Names) → commands ≡ before ++ rest → Explains before text new names → IsCutOff commands text new
+    unwritten : (before : List Command) (last : Command) (rest : List Command) (mid : Moment) (names : Names) (answer : Result Reply Fault)
+        → commands ≡ before ++ last ∷ rest → Explains before text mid names → deed turns names last mid answer new → IsCutOff commands text new
 
   -- WHAT A RUN of the commands leaves, where it added the text: all of it explained, or memory was refused
   abbrev pub Leaves : List Command → Result (Unit {0}) Fault → List ℕ → Moment → Type 0

@@ -66,7 +66,7 @@ fn record(
 ///
 /// # Errors
 ///
-/// E16 alone: memory was refused after a command. What the commands up to this one have changed stays, and the text has their lines, but for the last one's.
+/// E16 alone: memory was refused. What the commands that were done have changed stays, and the text has their lines, perhaps but for the last one's.
 pub fn run_thread<S: Steps>(
     alloc: Global,
     env: &mut Env<S>,
