@@ -3,6 +3,7 @@ pub mod Staying
 mod Reserving
 mod Filling
 mod Headers
+mod KnownHeaders
 mod Checks
 mod Elements
 mod Turns

@@ -1,21 +1,17 @@
 -- Reads and writes at their moments.
-use Rattle.std.proofs.Common.{◌≡◌, ◌<◌, ◌++◌, ℕ, zero, suc, Some, List, [], ◌∷◌, length, slice_get, slice_set, refl, sym, ap, subst, ◌∙◌, append_assoc, arith}
-use mathlib.Core.List.{IsPrefix}
+use Rattle.std.proofs.Common.{◌≡◌, ◌<◌, ◌++◌, ℕ, zero, suc, Some, List, [], ◌∷◌, length, slice_get, slice_set, refl, sym, ap, ◌∙◌, append_assoc, arith}
 use Rattle.jr_model.specs.declared.event.Act.TheVariants.{Read, Write}
-use Rattle.jr_model.specs.State.{Contents, State}
+use Rattle.jr_model.specs.State.{State}
 use Rattle.jr_model.specs.Steps.{written}
-use Rattle.jr_model.specs.History.{by, state, Did}
+use Rattle.jr_model.specs.History.{by, state}
 use Rattle.jr_model.proofs.Updates.{at_number_self}
 use Rattle.jr_model.proofs.Histories.{state_push}
 use Rattle.jr_model.proofs.Moments.{one_act, before_new, prefix_trans}
-use Rattle.jr_rule.specs.declared.known.Grasp.{Grasp}
-use Rattle.jr_rule.specs.declared.known.KnownHeader.{KnownHeader}
-use Rattle.jr_rule.specs.Grasping.{header_in}
 use Rattle.jr_heap.specs.Laws.{HeadersHold, ReadsElement, WritesElement}
 use Rattle.jr_heap.proofs.Staying.{object_later}
 
 pub headers_hold : HeadersHold
-headers_hold k k' acts o h d w q e x = record { known = ap (λ (hs : List KnownHeader). header_in o hs) e ∙ x.known; shown = object_later k k' acts d w q o h x.shown }
+headers_hold k k' acts o h d w q known x = record { known = known; shown = object_later k k' acts d w q o h x.shown }
 
 pub reads_element : ReadsElement
 reads_element old new o i v d =

@@ -10,7 +10,7 @@ mod space;
 mod tests;
 
 pub use element::{read, read_element, write, write_element};
-pub use laws::{headers_hold, objects_are_lists};
+pub use laws::{headers_hold, headers_stay_known, objects_are_lists};
 pub use object::{Numbers, header, publish};
 pub use range::Range;
 pub use space::{fill, reserve};
