@@ -23,7 +23,7 @@ use Rattle.jr_rule.specs.Image.{StandsAlone}
 use Rattle.jr_rule.specs.Knowing.{Standing, IsOf, MayKnow, Took, anything, view, state_of, keeps, ShowsSlot}
 use Rattle.jr_rule.proofs.Collected.{same_tables, reached_on}
 use Rattle.jr_rule.proofs.Goes.{goes_did}
-use Rattle.jr_rule.proofs.InRoom.{IsInRoom, in_room}
+use Rattle.jr_model.proofs.InRoom.{IsInRoom, in_room}
 use Rattle.jr_weak.specs.Marking.{IsMarked, IsSound, HasGlobals, HasLocals, HasElements, IsExactly, MarksGlobals}
 use Rattle.jr_weak.proofs.Marks.{marked_here, marked_more, marked_less}
 
