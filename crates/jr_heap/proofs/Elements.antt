@@ -1,6 +1,8 @@
 -- Elements are read and written where the header of their object is known.
-use Rattle.std.proofs.Common.{◌≡◌, ◌≢◌, ◌<◌, ◌≤◌, ◌||◌, not, ℕ, true, false, nat_le, length, Some, [], ◌∷◌, Ok, Err, refl, ap, ◌∙◌, subst, sym}
+use Rattle.std.proofs.Common.{◌≡◌, ◌≢◌, ◌<◌, ◌≤◌, ◌||◌, not, ℕ, true, false, nat_le, length, Some, [], ◌∷◌, ◌++◌, Result, Ok, Err, refl, ap, ◌∙◌, subst, sym}
 use mathlib.Core.Logic.{∥∥₁_map}
+use Rattle.std.proofs.Math.Logic.{∥∥₁_elim}
+use Rattle.std.proofs.Props.{props}
 use Rattle.jr_word.specs.declared.fault.Fault.{Fault}
 use Rattle.jr_word.specs.declared.fault.Fault.TheVariants.{NotArray, Range, Value}
 use Rattle.jr_word.specs.declared.header.HeaderParts.{HeaderParts}
@@ -8,21 +10,24 @@ use Rattle.jr_word.specs.declared.kind.Kind.{Kind}
 use Rattle.jr_model.specs.declared.event.Role.TheVariants.{Within}
 use Rattle.jr_model.specs.declared.event.Act.{Act}
 use Rattle.jr_model.specs.declared.event.Act.TheVariants.{Leave, Read, Write}
-use Rattle.jr_model.specs.State.{Contents}
-use Rattle.jr_model.specs.History.{PassView}
+use Rattle.jr_model.specs.State.{Contents, State, IsWord}
+use Rattle.jr_model.specs.History.{by, state, IsLegal, PassView}
 use Rattle.jr_model.specs.Frames.{Frames}
 use Rattle.jr_model.specs.Refusals.{Grounds}
 use Rattle.jr_model.specs.Calls.{Call, ◌>>◌, act, some_act, refuse_if}
+use Rattle.jr_model.proofs.Histories.{legal_push, state_push}
+use Rattle.jr_model.proofs.Gates.{apart_state}
+use Rattle.jr_model.proofs.Words.{elements_are_words}
 use Rattle.jr_model.proofs.Stays.{did_nothing}
 use Rattle.jr_model.specs.Parts.{read_element, write_element}
 use Rattle.jr_model.specs.Tests.{is_plain, is_text, is_value}
 use Rattle.jr_rule.specs.declared.known.Known.{Known}
-use Rattle.jr_rule.specs.Knowing.{Standing, IsOf, MayKnow, keeps, view, state_of, KnowsHeader, IsWordNow, Took}
+use Rattle.jr_rule.specs.Knowing.{Standing, IsOf, MayKnow, keeps, view, state_of, KnowsHeader, IsWordNow, ShowsObject, Goes, Took}
 use Rattle.jr_rule.proofs.Goes.{goes_did}
-use Rattle.jr_heap.specs.Heap.{Called, HoldsHeader, Leaves, MayBeNamed}
+use Rattle.jr_heap.specs.Heap.{Called, HoldsHeader, Leaves, MayBeNamed, ShowsElement}
 use Rattle.jr_heap.proofs.Calling.{called_by}
-use Rattle.jr_heap.proofs.Staying.{object_later, header_later}
-use Rattle.jr_heap.proofs.Checks.{stop, pass, beyond, inside, word_is}
+use Rattle.jr_heap.proofs.Staying.{kind_in, object_later, header_later}
+use Rattle.jr_heap.proofs.Checks.{stop, pass, beyond, inside, word_is, value_is}
 
 -- what follows the check of the kind, in an object of n elements
 abbrev pub read_rest : ℕ → ℕ → ℕ → Call ℕ
@@ -58,27 +63,52 @@ is_written : (o i v n : ℕ) (kind : Kind) (f : Frames) → (is_plain kind || is
 is_written o i v n kind f is l good = pass (is_plain kind || is_text kind) NotArray (write_rest kind o i v n) f (Write o i v ∷ []) (Ok tt) is
     (pass (nat_le n i) Range (write_last kind o i v) f (Write o i v ∷ []) (Ok tt) (inside n i l) (pass (not (is_value kind v)) Value (act (Write o i v)) f (Write o i v ∷ []) (Ok tt) (ap not good) (refl, refl, refl)))
 
+-- an element that was read is a word of its object's kind
+read_word : {k k' : Known} (o i v : ℕ) (h : HeaderParts) → Goes k (Read o i v ∷ []) k' → ShowsObject o h k' → IsWordNow h.kind v k'
+read_word {k} {k'} o i v h g shown =
+    let before = k.seen ++ g.between in
+    let e = by k.thread (Read o i v) in
+    let legal = (legal_push k.config k.last before e).0 (subst (IsLegal k.config k.last) g.seen g.legal) in
+    let needs = legal.1.1 in
+    let same : state before ≡ state_of k' = sym (ap state g.seen ∙ state_push before e) in
+    let there : Some needs.1 ≡ Some shown.contents = sym needs.2 ∙ (ap (λ (s : State). s.objects o) same ∙ shown.is) in
+    let word : IsWord (state before) needs.1.kind v
+    = elements_are_words k.config k.last before o needs.1 legal.0 needs.2 (λ is t collects. (apart_state k.config k.last before legal.0).apart t k.thread collects needs.0) i v needs.3 in
+    let kinds : needs.1.kind ≡ h.kind = ap kind_in there ∙ shown.kind in
+    subst (λ s. IsWord s h.kind v) same (subst (λ kind. IsWord (state before) kind v) kinds word)
+
 module _ {S : Type 0} {stands : S → Standing} {knows : S → Known → Type 0} (fits : (s : S) (k : Known) → knows s k → IsOf (stands s) k) (o : ℕ) (h : HeaderParts) (i : ℕ) where
   -- a refusal, before any act
-  refused : {A : Type 0} (a : S) (e : Fault) (met : Known → Type 0) (call : Known → Known → Call A) → ((k : Known) → met k → HoldsHeader o h k) → ((p : PassView) → Grounds p p e)
-      → ((k : Known) → (x : Contents) → (state_of k).objects o ≡ Some x → x.kind ≡ h.kind → length x.words ≡ h.length → (f : Frames) → call k k f [] (Err e) f) → Called knows a a met call (Err e) (Leaves o h)
-  refused a e met call holds grounds is = called_by (λ k s m. let x = (holds k m).shown in (k, s, [], record { did = did_nothing (view k) (fits a k s).legal; is = is k x.contents x.is x.kind x.long; grounds = grounds (view k); shows = (x, refl) }))
+  refused : {A : Type 0} (a : S) (e : Fault) (met : Known → Type 0) (call : Known → Known → Call A) (shows : Known → Known → Type 0) → ((k : Known) → Leaves o h k k → shows k k) → ((k : Known) → met k → HoldsHeader o h k) → ((p : PassView) → Grounds p p e)
+      → ((k : Known) → (x : Contents) → (state_of k).objects o ≡ Some x → x.kind ≡ h.kind → length x.words ≡ h.length → (f : Frames) → call k k f [] (Err e) f) → Called knows a a met call (Err e) shows
+  refused a e met call shows leaves holds grounds is = called_by (λ k s m. let x = (holds k m).shown in (k, s, [], record { did = did_nothing (view k) (fits a k s).legal; is = is k x.contents x.is x.kind x.long; grounds = grounds (view k); shows = leaves k (x, refl) }))
 
-  pub read_plain : (a : S) → is_plain h.kind ≡ true → Called knows a a (HoldsHeader o h) (λ j k. read_element (state_of k) o i) (Err NotArray) (Leaves o h)
-  read_plain a plain = refused a NotArray (HoldsHeader o h) (λ j k. read_element (state_of k) o i) (λ k m. m) (λ p. tt) (λ k x there kind long f. (x, there, no_elements o i (length x.words) x.kind f (ap is_plain kind ∙ plain)))
+  -- what a read leaves and shows
+  abbrev Finds : Result ℕ Fault → Known → Known → Type 0
+  Finds answer j k = Leaves o h j k × ShowsElement h.kind answer k
 
-  pub read_beyond : (a : S) → is_plain h.kind ≡ false → h.length ≤ i → Called knows a a (HoldsHeader o h) (λ j k. read_element (state_of k) o i) (Err Range) (Leaves o h)
-  read_beyond a plain l = refused a Range (HoldsHeader o h) (λ j k. read_element (state_of k) o i) (λ k m. m) (λ p. tt)
+  pub read_plain : (a : S) → is_plain h.kind ≡ true → Called knows a a (HoldsHeader o h) (λ j k. read_element (state_of k) o i) (Err NotArray) (Finds (Err NotArray))
+  read_plain a plain = refused a NotArray (HoldsHeader o h) (λ j k. read_element (state_of k) o i) (Finds (Err NotArray)) (λ k l. (l, tt)) (λ k m. m) (λ p. tt) (λ k x there kind long f. (x, there, no_elements o i (length x.words) x.kind f (ap is_plain kind ∙ plain)))
+
+  pub read_beyond : (a : S) → is_plain h.kind ≡ false → h.length ≤ i → Called knows a a (HoldsHeader o h) (λ j k. read_element (state_of k) o i) (Err Range) (Finds (Err Range))
+  read_beyond a plain l = refused a Range (HoldsHeader o h) (λ j k. read_element (state_of k) o i) (Finds (Err Range)) (λ k l. (l, tt)) (λ k m. m) (λ p. tt)
       (λ k x there kind long f. (x, there, too_far o i (length x.words) x.kind f (ap is_plain kind ∙ plain) (subst (λ n. n ≤ i) (sym long) l)))
 
   pub read_found : {a b : S} (v : ℕ) → (stands a).role ≡ Within → is_plain h.kind ≡ false → i < h.length → Took stands knows a b (Read o i v ∷ []) (KnowsHeader o h) keeps
-      → Called knows a b (HoldsHeader o h) (λ j k. read_element (state_of k) o i) (Ok v) (Leaves o h)
+      → Called knows a b (HoldsHeader o h) (λ j k. read_element (state_of k) o i) (Ok v) (Finds (Ok v))
   read_found {a} v w plain l t = called_by (λ k s m.
       let g = t.goes k s m.known in
       let d = goes_did g.2 in
       let x = object_later k g.0 (Read o i v ∷ []) d ((fits a k s).role ∙ w) ((λ e. cc), tt) o h m.shown in
       let is : (f : Frames) → read_element (state_of g.0) o i f (Read o i v ∷ []) (Ok v) f = λ f. (x.contents, x.is, is_read o i v (length x.contents.words) x.contents.kind f (ap is_plain x.kind ∙ plain) (subst (λ n. i < n) (sym x.long) l)) in
-      (g.0, g.1, Read o i v ∷ [], record { did = d; is = is; grounds = tt; shows = (x, g.3) }))
+      (g.0, g.1, Read o i v ∷ [], record { did = d; is = is; grounds = tt; shows = ((x, g.3), read_word o i v h g.2 x) }))
+
+  -- its word has the bits of the kind
+  pub read_value : {a b : S} (v : ℕ) → (stands a).role ≡ Within → MayKnow knows a (HoldsHeader o h) → Took stands knows a b (Read o i v ∷ []) (KnowsHeader o h) keeps → is_value h.kind v ≡ true
+  read_value {a} v w may t = ∥∥₁_elim may (hlevel props) (λ k.
+      let g = t.goes k.0 k.1 k.2.known in
+      let x = object_later k.0 g.0 (Read o i v ∷ []) (goes_did g.2) ((fits a k.0 k.1).role ∙ w) ((λ e. cc), tt) o h k.2.shown in
+      value_is (state_of g.0) h.kind v (read_word o i v h g.2 x))
 
 -- what a write may be given: the header is known, and the word names no absent object
 abbrev pub MayWrite : ℕ → HeaderParts → ℕ → Known → Type 0
@@ -86,15 +116,15 @@ MayWrite o h v k = HoldsHeader o h k × MayBeNamed h.kind v k
 
 module _ {S : Type 0} {stands : S → Standing} {knows : S → Known → Type 0} (fits : (s : S) (k : Known) → knows s k → IsOf (stands s) k) (o : ℕ) (h : HeaderParts) (i v : ℕ) where
   pub write_no_array : (a : S) → (is_plain h.kind || is_text h.kind) ≡ true → Called knows a a (MayWrite o h v) (λ j k. write_element (state_of k) o i v) (Err NotArray) (Leaves o h)
-  write_no_array a plain = refused fits o h i a NotArray (MayWrite o h v) (λ j k. write_element (state_of k) o i v) (λ k m. m.0) (λ p. tt)
+  write_no_array a plain = refused fits o h i a NotArray (MayWrite o h v) (λ j k. write_element (state_of k) o i v) (Leaves o h) (λ k l. l) (λ k m. m.0) (λ p. tt)
       (λ k x there kind long f. (x, there, no_array o i v (length x.words) x.kind f (ap (λ z. is_plain z || is_text z) kind ∙ plain)))
 
   pub write_beyond : (a : S) → (is_plain h.kind || is_text h.kind) ≡ false → h.length ≤ i → Called knows a a (MayWrite o h v) (λ j k. write_element (state_of k) o i v) (Err Range) (Leaves o h)
-  write_beyond a plain l = refused fits o h i a Range (MayWrite o h v) (λ j k. write_element (state_of k) o i v) (λ k m. m.0) (λ p. tt)
+  write_beyond a plain l = refused fits o h i a Range (MayWrite o h v) (λ j k. write_element (state_of k) o i v) (Leaves o h) (λ k l. l) (λ k m. m.0) (λ p. tt)
       (λ k x there kind long f. (x, there, too_far_to_write o i v (length x.words) x.kind f (ap (λ z. is_plain z || is_text z) kind ∙ plain) (subst (λ n. n ≤ i) (sym long) l)))
 
   pub write_value : (a : S) → (is_plain h.kind || is_text h.kind) ≡ false → i < h.length → is_value h.kind v ≡ false → Called knows a a (MayWrite o h v) (λ j k. write_element (state_of k) o i v) (Err Value) (Leaves o h)
-  write_value a plain l bad = refused fits o h i a Value (MayWrite o h v) (λ j k. write_element (state_of k) o i v) (λ k m. m.0) (λ p. tt)
+  write_value a plain l bad = refused fits o h i a Value (MayWrite o h v) (λ j k. write_element (state_of k) o i v) (Leaves o h) (λ k l. l) (λ k m. m.0) (λ p. tt)
       (λ k x there kind long f. (x, there, no_value o i v (length x.words) x.kind f (ap (λ z. is_plain z || is_text z) kind ∙ plain) (subst (λ n. i < n) (sym long) l) (ap (λ z. is_value z v) kind ∙ bad)))
 
   pub may_write : {a : S} → is_value h.kind v ≡ true → MayKnow knows a (MayWrite o h v) → MayKnow knows a (λ k. KnowsHeader o h k × IsWordNow h.kind v k)

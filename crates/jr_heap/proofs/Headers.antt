@@ -15,7 +15,7 @@ use Rattle.jr_rule.specs.declared.known.Grasp.{Grasp}
 use Rattle.jr_rule.specs.Grasping.{header_in}
 use Rattle.jr_rule.specs.Knowing.{Standing, IsOf, MayKnow, anything, state_of, HasObject, ShowsHeader, Took}
 use Rattle.jr_rule.proofs.Goes.{goes_did, present_stays}
-use Rattle.jr_rule.proofs.InRoom.{in_room}
+use Rattle.jr_model.proofs.InRoom.{in_room}
 use Rattle.jr_heap.specs.Heap.{Called, HoldsHeader, Learns}
 use Rattle.jr_heap.proofs.Calling.{called_by}
 

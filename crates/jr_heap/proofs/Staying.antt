@@ -1,5 +1,5 @@
 -- What stays so in a stay.
-use Rattle.std.proofs.Common.{◌≡◌, ◌≢◌, ℕ, List, IsSome, refl, inl, inr, ⊎_elim, ap, subst, sym, ◌∙◌}
+use Rattle.std.proofs.Common.{◌≡◌, ◌≢◌, ℕ, List, Option, Some, None, IsSome, refl, inl, inr, ⊎_elim, ap, subst, sym, ◌∙◌}
 use Rattle.std.specs.List.{AllByRecursion}
 use Rattle.jr_word.specs.declared.header.HeaderParts.{HeaderParts}
 use Rattle.jr_word.specs.declared.kind.Kind.{Kind}
@@ -7,7 +7,7 @@ use Rattle.jr_word.specs.declared.kind.Kind.TheVariants.{Plain, Boolean, Byte, C
 use Rattle.jr_model.specs.declared.event.Role.TheVariants.{Within}
 use Rattle.jr_model.specs.declared.event.Act.{Act}
 use Rattle.jr_model.specs.declared.event.Act.TheVariants.{Leave}
-use Rattle.jr_model.specs.State.{State, IsWord}
+use Rattle.jr_model.specs.State.{Contents, State, IsWord}
 use Rattle.jr_model.specs.History.{role_of, Did}
 use Rattle.jr_model.proofs.Stays.{IsStill, still_did}
 use Rattle.jr_rule.specs.declared.known.Known.{Known}
@@ -54,3 +54,8 @@ module _ (k k' : Known) (acts : List Act) (d : Did (view k) (view k') acts) (wit
 
 pub shown_present : (o : ℕ) (h : HeaderParts) (k : Known) → ShowsObject o h k → HasObject o k
 shown_present o h k x = subst (λ y. IsSome y) (sym x.is) refl
+
+-- the kind of an object, Plain where there is none
+abbrev pub kind_in : Option Contents → Kind
+kind_in None = Plain
+kind_in (Some x) = x.kind

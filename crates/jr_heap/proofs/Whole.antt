@@ -4,7 +4,7 @@ use mathlib.Core.Logic.{∥∥₁_map}
 use Rattle.jr_word.specs.declared.fault.Fault.{Fault}
 use Rattle.jr_word.specs.declared.header.HeaderParts.{HeaderParts}
 use Rattle.jr_word.specs.declared.kind.Kind.{Kind}
-use Rattle.jr_word.specs.declared.kind.Kind.TheVariants.{Plain, Objects}
+use Rattle.jr_word.specs.declared.kind.Kind.TheVariants.{Objects}
 use Rattle.jr_model.specs.declared.event.Role.TheVariants.{Within}
 use Rattle.jr_model.specs.declared.event.Act.{Act}
 use Rattle.jr_model.specs.State.{Contents, State}
@@ -16,17 +16,30 @@ use Rattle.jr_model.proofs.Moments.{answer_wider, prefix_self}
 use Rattle.jr_model.proofs.Stays.{did_then}
 use Rattle.jr_rule.specs.declared.known.Known.{Known}
 use Rattle.jr_rule.specs.Knowing.{MayKnow, view, state_of, HasObject}
-use Rattle.jr_heap.specs.Heap.{Called, HoldsHeader, Learns, Leaves, Relearns, MayBeNamed, MayBeNamedIn}
-use Rattle.jr_heap.proofs.Staying.{still, word_later, shown_present}
+use Rattle.jr_heap.specs.Heap.{Called, HoldsHeader, Learns, Leaves, Relearns, MayBeNamed, MayBeNamedIn, ShowsElement, ShowsElementOf}
+use Rattle.jr_heap.proofs.Staying.{kind_in, still, word_later, shown_present}
 
 -- the header was read, with no act
 read_header : (k j : Known) (o : ℕ) (h : HeaderParts) (f : Frames) → Ran (view k) (view j) f f (header (state_of j) o) (Ok (h.kind, h.length)) → Did (view k) (view j) []
 read_header k j o h f r = subst (λ (xs : List Act). Did (view k) (view j) xs) r.is.2.0 r.did
 
+-- a header was read, and then a call at an element left the object as the header says
+pub relearnt : (o : ℕ) (h : HeaderParts) (k j q : Known) → Learns o h k j → Leaves o h j q → Relearns o k q
+relearnt o h k j q l s = (h, (s.0, s.1 ∙ l.1, l.2))
+
+-- the same with the element that was read
+pub reread : (o : ℕ) (h : HeaderParts) (answer : Result ℕ Fault) (k j q : Known) → Learns o h k j → Leaves o h j q × ShowsElement h.kind answer q → Relearns o k q × ShowsElementOf o answer q
+reread o h answer k j q l s = (
+  relearnt o h k j q l s.0,
+  λ x is.
+      let same : h.kind ≡ x.kind = sym s.0.0.kind ∙ ap kind_in (sym s.0.0.is ∙ is) in
+      subst (λ (kind : Kind). ShowsElement kind answer q) same s.1,
+)
+
 module _ {S : Type 0} {knows : S → Known → Type 0} {a b : S} (o : ℕ) (h : HeaderParts) {first : Known → Type 0} (t : Called knows a b first (λ j k. header (state_of k) o) (Ok (h.kind, h.length)) (Learns o h)) where
-  pub called_at : {A : Type 0} {c : S} {met then' : Known → Type 0} {answer : Result A Fault} (call : State → Call A) → Called knows b c then' (λ j k. call (state_of k)) answer (Leaves o h)
-      → ((k : Known) → met k → first k) → ((k j : Known) → knows a k → met k → Did (view k) (view j) [] → Learns o h k j → then' j) → Called knows a c met (λ j k. call (state_of k)) answer (Relearns o)
-  called_at {answer = answer} call u meets next = record {
+  pub called_at : {A : Type 0} {c : S} {met then' : Known → Type 0} {answer : Result A Fault} {shows shows' : Known → Known → Type 0} (call : State → Call A) → Called knows b c then' (λ j k. call (state_of k)) answer shows
+      → ((k : Known) → met k → first k) → ((k j : Known) → knows a k → met k → Did (view k) (view j) [] → Learns o h k j → then' j) → ((k j q : Known) → Learns o h k j → shows j q → shows' k q) → Called knows a c met (λ j k. call (state_of k)) answer shows'
+  called_at {answer = answer} call u meets next more = record {
     ran = λ k s m.
         let r = t.ran k s (meets k m) in
         let d = λ (f : Frames). read_header k r.0 o h f (r.2 f) in
@@ -39,7 +52,7 @@ module _ {S : Type 0} {knows : S → Known → Type 0} {a b : S} (o : ℕ) (h : 
             is = (q.2 f).is;
             grounds = answer_wider [] (d f) (view q.0) (view q.0) answer (prefix_self q.0.seen) (q.2 f).grounds;
           },
-          (h, (q.3.0, q.3.1 ∙ r.3.1, r.3.2)),
+          more k r.0 q.0 r.3 q.3,
         );
   }
 
@@ -55,10 +68,6 @@ may_present knows a o h may = ∥∥₁_map may (λ k. (k.0, k.1, shown_present 
 some_of : (z : Option Contents) → IsSome z → (x : Contents) × (z ≡ Some x)
 some_of None p = absurd cc
 some_of (Some x) p = (x, refl)
-
-abbrev kind_in : Option Contents → Kind
-kind_in None = Plain
-kind_in (Some x) = x.kind
 
 -- a word that may be named in the object may be named in one of its header's kind
 pub named_at : (o : ℕ) (h : HeaderParts) (v : ℕ) (k j : Known) → role_of (view k) ≡ Within → HasObject o k × MayBeNamedIn o v k → Did (view k) (view j) [] → Learns o h k j → MayBeNamed h.kind v j

@@ -1,5 +1,5 @@
 -- What the calls of the heap do, for whatever was known.
-use Rattle.std.specs.Prelude.{◌≡◌, ◌≢◌, ◌⊎◌, ◌==◌, ◌+◌, ◌-◌, ℕ, zero, suc, nat_lt, cond, Result, Ok, Err, Some, List, [], length, replicate}
+use Rattle.std.specs.Prelude.{◌≡◌, ◌≢◌, ◌⊎◌, ◌==◌, ◌+◌, ◌-◌, ℕ, zero, suc, nat_lt, cond, Result, Ok, Err, IfOk, Some, List, [], length, replicate}
 use Rattle.jr_word.specs.declared.fault.Fault.{Fault}
 use Rattle.jr_word.specs.declared.header.HeaderParts.{HeaderParts}
 use Rattle.jr_word.specs.declared.kind.Kind.{Kind}
@@ -91,3 +91,11 @@ MayBeNamed kind v k = kind ≡ Objects → IsWordNow Objects v k
 -- the same for the object's own kind
 abbrev pub MayBeNamedIn : ℕ → ℕ → Known → Type 0
 MayBeNamedIn o v k = (x : Contents) → (state_of k).objects o ≡ Some x → MayBeNamed x.kind v k
+
+-- the element that was read is a word of the kind: in an object array 0, or the number of an object that is present then
+abbrev pub ShowsElement : Kind → Result ℕ Fault → Known → Type 0
+ShowsElement kind answer k = IfOk answer (λ v. IsWordNow kind v k)
+
+-- the same for the object's own kind
+abbrev pub ShowsElementOf : ℕ → Result ℕ Fault → Known → Type 0
+ShowsElementOf o answer k = (x : Contents) → (state_of k).objects o ≡ Some x → ShowsElement x.kind answer k

@@ -1,28 +1,37 @@
 //! Elements of objects, over any steps.
-ghost use Rattle.std.specs.Prelude.{◌≡◌, ◌||◌};
+ghost use Rattle.std.specs.Prelude.{◌≡◌, ◌||◌, true, IfOk};
 ghost use Rattle.jr_model.specs.declared.event.Role.TheVariants.{Within};
 ghost use Rattle.jr_model.specs.Parts.{read_element as reading, write_element as writing};
 ghost use Rattle.jr_model.specs.Tests.{is_plain as is_plain_of, is_text as is_text_of, is_value as is_value_of};
 ghost use Rattle.jr_rule.specs.Knowing.{state_of, HasObject, MayKnow};
-ghost use Rattle.jr_heap.specs.Heap.{Called, HoldsHeader, Leaves, Relearns, MayBeNamed, MayBeNamedIn};
+ghost use Rattle.jr_heap.specs.Heap.{
+  Called,
+  HoldsHeader,
+  Leaves,
+  Relearns,
+  MayBeNamed,
+  MayBeNamedIn,
+  ShowsElement,
+  ShowsElementOf,
+};
 
 use crate::object::header;
 use jr_rule::Steps;
 use jr_word::{Fault, HeaderParts, Kind};
 
-/// The element at an index of a present object: E5 of a plain object, E7 past its length.
+/// The element at an index of a present object: E5 of a plain object, E7 past its length. It is a word of the object's kind.
 pub fn read<S: Steps>(steps: &mut S, object: u16, index: u32) -> Result<u64, Fault>
     requires role { (S.stands steps.old).role ≡ Within }
     requires object { MayKnow S.knows steps.old (HasObject object) }
     ensures stands { S.stands steps.new ≡ S.stands steps.old }
-    ensures call { Called S.knows steps.old steps.new (HasObject object) (λ j k. reading (state_of k) object index) result (Relearns object) }
+    ensures call { Called S.knows steps.old steps.new (HasObject object) (λ j k. reading (state_of k) object index) result (λ j k. Relearns object j k × ShowsElementOf object result k) }
     ensures object { MayKnow S.knows steps.new (HasObject object) }
 {
     let header = header(steps, object);
     read_element(steps, object, header, index)
 }
 
-/// The element at an index of an object whose header was read in this stay: E5 of a plain object, E7 past its length.
+/// The element at an index of an object whose header was read in this stay: E5 of a plain object, E7 past its length. It is a word of the object's kind.
 pub fn read_element<S: Steps>(
     steps: &mut S,
     object: u16,
@@ -32,7 +41,8 @@ pub fn read_element<S: Steps>(
     requires role { (S.stands steps.old).role ≡ Within }
     requires known { MayKnow S.knows steps.old (HoldsHeader object header) }
     ensures stands { S.stands steps.new ≡ S.stands steps.old }
-    ensures call { Called S.knows steps.old steps.new (HoldsHeader object header) (λ j k. reading (state_of k) object index) result (Leaves object header) }
+    ensures call { Called S.knows steps.old steps.new (HoldsHeader object header) (λ j k. reading (state_of k) object index) result (λ j k. Leaves object header j k × ShowsElement header.kind result k) }
+    ensures value { IfOk result (λ v. is_value_of header.kind v ≡ true) }
     ensures known { MayKnow S.knows steps.new (HoldsHeader object header) }
 {
     if is_plain(header.kind) {

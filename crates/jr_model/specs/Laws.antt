@@ -2,13 +2,14 @@
 use Rattle.std.specs.Prelude.{◌≡◌, ◌≢◌, ◌⊎◌, ◌≤◌, ℕ, true, false, Some, List, [], ◌∷◌, ◌++◌, ◌↔◌, map, length}
 use Rattle.std.specs.List.{AllByRecursion}
 use Rattle.jr_word.specs.declared.config.Config.{Config}
+use Rattle.jr_word.specs.declared.kind.Kind.TheVariants.{Plain, Objects}
 use Rattle.jr_model.specs.declared.event.Found.TheVariants.{Object, Cleared, Stale}
 use Rattle.jr_model.specs.declared.event.Found.{Found}
 use Rattle.jr_model.specs.declared.event.Act.TheVariants.{Create, Look, Delete, Read, Shut, Reopen}
 use Rattle.jr_model.specs.declared.event.Event.{Event}
 use Rattle.jr_model.specs.declared.frames.Mode.{Mode}
 use Rattle.jr_model.specs.Steps.{Step}
-use Rattle.jr_model.specs.State.{Contents, State, Handle, IsPresent, NobodyCollects, IsClosed, present_words}
+use Rattle.jr_model.specs.State.{Contents, State, Handle, IsPresent, NobodyCollects, AreWords, IsClosed, present_words}
 use Rattle.jr_model.specs.History.{History, by, state, state_from, IsLegal, mine, is_collection_step, is_waiting, IsStay, IsCollection, IsLastWord, PassView, Did}
 use Rattle.jr_model.specs.declared.event.Act.{Act}
 use Rattle.jr_model.specs.declared.frames.LocalRef.{LocalRef}
@@ -60,6 +61,19 @@ NamedIsPresent c last = (es : History) → IsLegal c last es
 -- outside collections each element of a present object array is 0 or present
 abbrev pub ElementsArePresent : Config → ℕ → Type 0
 ElementsArePresent c last = (es : History) → IsLegal c last es → NobodyCollects (state es) → IsClosed (state es)
+
+-- each element of a present object is a word of its kind: of an object array outside collections, of any other at each moment
+abbrev pub ElementsAreWords : Config → ℕ → Type 0
+ElementsAreWords c last = (es : History) (o : ℕ) (x : Contents) → IsLegal c last es → (state es).objects o ≡ Some x
+    → (x.kind ≡ Objects → NobodyCollects (state es)) → AreWords (state es) x.kind x.words
+
+-- a plain object has no elements
+abbrev pub PlainHasNoElements : Config → ℕ → Type 0
+PlainHasNoElements c last = (es : History) (o : ℕ) (x : Contents) → IsLegal c last es → (state es).objects o ≡ Some x → x.kind ≡ Plain → x.words ≡ []
+
+-- the number of a present object lies in 1 to the room's number of objects
+abbrev pub PresentIsInRoom : Config → ℕ → Type 0
+PresentIsInRoom c last = (es : History) (o : ℕ) → IsLegal c last es → IsPresent (state es) o → (1 ≤ o) × (o ≤ c.objects)
 
 -- the present objects fit in what is reserved, and that in the room
 abbrev pub LengthsFit : Config → ℕ → Type 0

@@ -13,6 +13,9 @@ ghost use Rattle.jr_model.specs.Laws.{
   OthersWait,
   NamedIsPresent,
   ElementsArePresent,
+  ElementsAreWords,
+  PlainHasNoElements,
+  PresentIsInRoom,
   ReadsLastWord,
   LengthsFit,
   GivenOnce,
@@ -51,6 +54,17 @@ pub fn stays_exclude_collections()
 pub fn named_objects_are_present()
     ensures named { (c : Config) (last : ℕ) → NamedIsPresent c last }
     ensures elements { (c : Config) (last : ℕ) → ElementsArePresent c last }
+{}
+
+/// Each element of a present object is a word of its kind: of an object array outside collections, of any other at each moment. A plain object has no elements.
+pub fn elements_are_words()
+    ensures words { (c : Config) (last : ℕ) → ElementsAreWords c last }
+    ensures plain { (c : Config) (last : ℕ) → PlainHasNoElements c last }
+{}
+
+/// The number of a present object lies in 1 to the room's number of objects.
+pub fn present_objects_lie_in_the_room()
+    ensures { (c : Config) (last : ℕ) → PresentIsInRoom c last }
 {}
 
 /// A read finds the word that was last written.

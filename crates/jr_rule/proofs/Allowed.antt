@@ -18,7 +18,7 @@ use Rattle.jr_rule.specs.Knowing.{MayKnow, HasObject, HasOptional, HasLooked, Is
 use Rattle.jr_rule.specs.Image.{spot}
 use Rattle.jr_rule.specs.Passes.{known_of, Knows}
 use Rattle.jr_rule.specs.Slots.{CanStand}
-use Rattle.jr_rule.proofs.InRoom.{in_room}
+use Rattle.jr_model.proofs.InRoom.{in_room}
 use Rattle.jr_rule.proofs.Looked.{looked_at}
 use Rattle.jr_rule.proofs.SlotWords.{can_prop}
 

@@ -14,7 +14,7 @@ use Rattle.jr_rule.specs.Knowing.{published}
 use Rattle.jr_rule.proofs.Counting.{lists_fit}
 use Rattle.jr_rule.proofs.Headers.{header_positive}
 use Rattle.jr_rule.proofs.HeapSpaces.{object_below, range_below, space_empty, space_published}
-use Rattle.jr_rule.proofs.InRoom.{IsInRoom}
+use Rattle.jr_model.proofs.InRoom.{IsInRoom}
 use Rattle.jr_rule.proofs.Spaces.{hold_same, space_same}
 
 -- the object whose header is known

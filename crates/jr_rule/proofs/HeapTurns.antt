@@ -22,7 +22,7 @@ use Rattle.jr_rule.specs.Knowing.{published}
 use Rattle.jr_rule.proofs.HeapImages.{given_words, there, own_element, known_element, given_fit, space_headed}
 use Rattle.jr_rule.proofs.HeapSpaces.{elements_from, space_reserved, space_put, space_written, space_known}
 use Rattle.jr_rule.proofs.Images.{hands_held, top_set, element_set, with_space}
-use Rattle.jr_rule.proofs.InRoom.{in_room}
+use Rattle.jr_model.proofs.InRoom.{in_room}
 use Rattle.jr_rule.proofs.LocalTurns.{publishes}
 use Rattle.jr_rule.proofs.Turns.{Turn, turn_one, turn_none}
 

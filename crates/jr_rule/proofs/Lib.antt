@@ -1,5 +1,4 @@
 pub mod Goes
-pub mod InRoom
 pub mod SlotWords
 pub mod Spaces
 pub mod Images

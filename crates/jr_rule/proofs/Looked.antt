@@ -23,7 +23,7 @@ use Rattle.jr_rule.specs.declared.known.Known.{Known}
 use Rattle.jr_rule.specs.Acts.{found_object}
 use Rattle.jr_rule.specs.Knowing.{HasLooked}
 use Rattle.jr_rule.specs.Slots.{CanStand}
-use Rattle.jr_rule.proofs.InRoom.{in_room}
+use Rattle.jr_model.proofs.InRoom.{in_room}
 use Rattle.jr_rule.proofs.Slots.{found_there}
 
 -- the handle was given, and stands as it was found or is gone

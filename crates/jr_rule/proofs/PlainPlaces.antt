@@ -9,7 +9,7 @@ use Rattle.jr_rule.specs.Acts.{putting}
 use Rattle.jr_rule.specs.Knowing.{Standing, MayKnow, HasObject, HasOptional, keeps}
 use Rattle.jr_rule.specs.Image.{local_at, local_parts}
 use Rattle.jr_rule.specs.Plain.{alone, standing, Shows}
-use Rattle.jr_rule.proofs.InRoom.{in_room}
+use Rattle.jr_model.proofs.InRoom.{in_room}
 use Rattle.jr_rule.proofs.LocalTurns.{puts}
 use Rattle.jr_rule.proofs.Turns.{Turn}
 use Rattle.jr_rule.proofs.PlainTook.{kept, stands_same, Turned, IsFew, shown_most}

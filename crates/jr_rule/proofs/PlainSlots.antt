@@ -22,7 +22,7 @@ use Rattle.jr_rule.specs.Knowing.{Standing, MayKnow, anything, HasObject, HasLoo
 use Rattle.jr_rule.specs.Image.{slot_at}
 use Rattle.jr_rule.specs.Plain.{alone, standing, Shows}
 use Rattle.jr_rule.specs.Slots.{CanStand, IsReference, freed}
-use Rattle.jr_rule.proofs.InRoom.{in_room}
+use Rattle.jr_model.proofs.InRoom.{in_room}
 use Rattle.jr_rule.proofs.SlotWords.{one_reading, reference_fits, can_prop}
 use Rattle.jr_rule.proofs.Slots.{slot_fits, read_parts, shows_slot}
 use Rattle.jr_rule.proofs.SlotTurns.{sees, claims, frees, frees_late}

@@ -19,7 +19,7 @@ use Rattle.jr_model.proofs.Presence.{sound_state}
 use Rattle.jr_rule.specs.Acts.{found_object, is_its, reply, is_occupied, handle_of}
 use Rattle.jr_rule.specs.Image.{StandsAlone, SaysOfSlot, IsSlotOf}
 use Rattle.jr_rule.specs.Slots.{IsReference}
-use Rattle.jr_rule.proofs.InRoom.{in_room}
+use Rattle.jr_model.proofs.InRoom.{in_room}
 use Rattle.jr_rule.proofs.SlotWords.{one_reading}
 
 same_handles : (k k' : RefKind) (n n' i i' o o' : ℕ) → k ≡ k' → n ≡ n' → i ≡ i' → o ≡ o'

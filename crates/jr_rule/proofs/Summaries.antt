@@ -25,7 +25,7 @@ use Rattle.jr_rule.specs.Acts.{found_object, handle_of}
 use Rattle.jr_rule.specs.Image.{slot_at, header_at, StandsAlone, SaysOfSlot, IsSlotOf, IsHeaderOf}
 use Rattle.jr_rule.specs.Shown.{IsSmall, IsHistoryOf, HasHistory}
 use Rattle.jr_rule.specs.Slots.{is_of_kind}
-use Rattle.jr_rule.proofs.InRoom.{in_room}
+use Rattle.jr_model.proofs.InRoom.{in_room}
 use Rattle.jr_rule.proofs.GateTurns.{bit_most, not_true}
 use Rattle.jr_rule.proofs.Slots.{found_there, slot_fits}
 use Rattle.jr_rule.proofs.Headers.{header_none, header_some}

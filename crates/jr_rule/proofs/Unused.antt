@@ -8,7 +8,7 @@ use Rattle.jr_rule.specs.declared.known.Known.{Known}
 use Rattle.jr_rule.specs.Knowing.{Standing, HasNoLocals, state_of}
 use Rattle.jr_rule.specs.Image.{gate_at, top_at, slot_at, local_at, header_at, element_at, local_parts}
 use Rattle.jr_rule.specs.Plain.{standing, Shows, IsUnused}
-use Rattle.jr_rule.proofs.InRoom.{in_room}
+use Rattle.jr_model.proofs.InRoom.{in_room}
 use Rattle.jr_rule.proofs.Images.{local_below}
 
 -- where its local words are 0 the thread has no local reference

@@ -14,7 +14,7 @@ use Rattle.jr_model.specs.References.{added, new_local, room_for}
 use Rattle.jr_model.proofs.Runs.{ran_then, ran_give}
 use Rattle.jr_rule.specs.declared.known.Known.{Known}
 use Rattle.jr_rule.specs.Knowing.{Standing, IsOf, keeps, HasObject, HasOptional, Holds, MayKnow, Took}
-use Rattle.jr_rule.proofs.InRoom.{in_room}
+use Rattle.jr_model.proofs.InRoom.{in_room}
 use Rattle.jr_rule.proofs.Goes.{goes_did}
 use Rattle.jr_scripts.specs.Table.{Table, IsNext, IsOnly}
 use Rattle.jr_scripts.specs.Performing.{FoundPresent, Resolves, Calls, MakesLocal}

@@ -9,6 +9,7 @@ use Rattle.jr_model.specs.Maps.{update}
 use Rattle.jr_model.specs.State.{Handle, State, opening, IsPresent}
 use Rattle.jr_model.specs.Steps.{ActNeeds, act_after, written}
 use Rattle.jr_model.specs.History.{History, state, IsLegal}
+use Rattle.jr_model.specs.Laws.{PresentIsInRoom}
 use Rattle.jr_model.proofs.Updates.{at_handle, at_number}
 use Rattle.jr_model.proofs.Histories.{kept_from}
 
@@ -79,3 +80,6 @@ module _ (c : Config) (last : ℕ) where
   -- what stands after a legal history lies in the room
   pub in_room : (es : History) → IsLegal c last es → IsInRoom c (state es)
   in_room es l = kept_from c last (IsInRoom c) (λ s e i n. in_room_act s e.thread e.act n.0 i n.1) opening es in_room_opening l
+
+  pub present_is_in_room : PresentIsInRoom c last
+  present_is_in_room es o l = (in_room es l).objects o
