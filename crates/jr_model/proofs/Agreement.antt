@@ -1,5 +1,5 @@
 -- Frames stay sound, and go on agreeing with the locals of their thread.
-use Rattle.std.proofs.Common.{◌≡◌, ◌≢◌, ◌<◌, ◌≤◌, ℕ, suc, lit≤, ◌==◌, ◌&&◌, ◌||◌, Bool, true, false, not, cond, Option, Some, None, IsSome, List, [], ◌∷◌, ◌++◌, map, length, nat_le, slice_index, nat_eq, refl, sym, ap, subst, ◌∙◌, arith, append_assoc}
+use Rattle.std.proofs.Common.{◌≡◌, ◌≢◌, ◌<◌, ◌≤◌, ℕ, suc, lit≤, ◌==◌, ◌&&◌, ◌||◌, Bool, true, false, not, cond, Option, Some, None, IsSome, List, [], ◌∷◌, ◌++◌, map, length, nat_le, slice_index, slice_set, get_or-set_same, get_or-set_other, ◌+◌, nat_eq, refl, sym, ap, subst, ◌∙◌, arith, append_assoc}
 use Rattle.std.proofs.lemmas.List.{append-nil, length-append, length-map}
 use Rattle.std.proofs.lemmas.List.Elements.{filter-append}
 use Rattle.std.specs.List.{filter, list_any, AllByRecursion}
@@ -11,8 +11,8 @@ use Rattle.jr_model.specs.Maps.{update}
 use Rattle.jr_model.specs.State.{Handle, same_handle, State}
 use Rattle.jr_model.specs.Steps.{act_after, after}
 use Rattle.jr_model.specs.History.{History, state_from, state, mine, PassView, Did}
-use Rattle.jr_model.specs.Frames.{Frames, Agree, AreApart, AreSound, IsAdded, IsMove, pushes, adds, deletes, pops, frees, all_refs, deleted, drop_all, frames_before, freed, is_held, joined, last_frame, object_at, object_of, object_where, popped, pushed, with_last}
-use Rattle.jr_model.specs.Laws.{FramesStaySound, FramesStayAgreed, HandleIsAtPlace}
+use Rattle.jr_model.specs.Frames.{Frames, Agree, AreApart, AreSound, IsNewest, IsAdded, IsMove, pushes, adds, deletes, pops, frees, all_refs, deleted, drop_all, frames_before, freed, is_held, joined, last_frame, object_at, object_of, object_where, popped, pushed, with_last}
+use Rattle.jr_model.specs.Laws.{FreshAreSound, FramesStaySound, FramesStayAgreed, HandleIsAtPlace}
 use Rattle.jr_model.proofs.Updates.{at_number, eq_self, eq_other, eq_true, eq_false, handle_true}
 use Rattle.jr_model.proofs.Histories.{state_append}
 use Rattle.jr_model.proofs.Stays.{cond_same, mine_did}
@@ -135,9 +135,36 @@ apart_push (x ∷ xs) r a e =
     let one : is_held (r ∷ []) x.handle.index ≡ false = rw (eq_other r.handle.index x.handle.index (λ z. other (sym z))) refl in
     (held_append xs (r ∷ []) x.handle.index ∙ (ap (λ b. b || is_held (r ∷ []) x.handle.index) a.0 ∙ one), apart_push xs r a.1 (or_right (x.handle.index == r.handle.index) (is_held xs r.handle.index) e))
 
+-- WHAT HOLDS OF ALL REFERENCES OF A LIST
+
+all_push : (P : LocalRef → Type 0) (xs : List LocalRef) (r : LocalRef) → AllByRecursion P xs → P r → AllByRecursion P (xs ++ r ∷ [])
+all_push P [] r h p = (p, tt)
+all_push P (x ∷ xs) r h p = (h.0, all_push P xs r h.1 p)
+
+all_front : (P : LocalRef → Type 0) (xs ys : List LocalRef) → AllByRecursion P (xs ++ ys) → AllByRecursion P xs
+all_front P [] ys h = tt
+all_front P (x ∷ xs) ys h = (h.0, all_front P xs ys h.1)
+
+all_filter : (P : LocalRef → Type 0) (k : LocalRef → Bool) (xs : List LocalRef) → AllByRecursion P xs → AllByRecursion P (filter k xs)
+all_filter P k [] h = tt
+all_filter P k (x ∷ xs) h = go (k x) (all_filter P k xs h.1)
+  where
+    go : (b : Bool) → AllByRecursion P (filter k xs) → AllByRecursion P (cond b (x ∷ filter k xs) (filter k xs))
+    go true rest = (h.0, rest)
+    go false rest = rest
+
+-- what the places have given, but for a place that none holds
+newest_set : (given : List ℕ) (p n : ℕ) (xs : List LocalRef) → is_held xs p ≡ false → AllByRecursion (λ r. slice_index given r.handle.index ≡ r.handle.serial + 1) xs
+    → AllByRecursion (λ r. slice_index (slice_set given p n) r.handle.index ≡ r.handle.serial + 1) xs
+newest_set given p n [] e h = tt
+newest_set given p n (x ∷ xs) e h = (
+  get_or-set_other given p x.handle.index n 0 (eq_false x.handle.index p (or_left (x.handle.index == p) (is_held xs p) e)) ∙ h.0,
+  newest_set given p n xs (or_right (x.handle.index == p) (is_held xs p) e) h.1,
+)
+
 -- A NEW LOCAL REFERENCE
 
-joined_last : (xs : List (List LocalRef)) (r : LocalRef) → 1 ≤ length xs → joined (with_last xs r) ≡ joined xs ++ r ∷ []
+pub joined_last : (xs : List (List LocalRef)) (r : LocalRef) → 1 ≤ length xs → joined (with_last xs r) ≡ joined xs ++ r ∷ []
 joined_last [] r l = absurd (omega arith)
 joined_last (x ∷ []) r l = append_assoc x (r ∷ []) [] ∙ sym (append_assoc x [] (r ∷ []))
 joined_last (x ∷ y ∷ xs) r l = ap (λ z. x ++ z) (joined_last (y ∷ xs) r (omega arith)) ∙ sym (append_assoc x (joined (y ∷ xs)) (r ∷ []))
@@ -147,7 +174,7 @@ length_last [] r = refl
 length_last (x ∷ []) r = refl
 length_last (x ∷ y ∷ xs) r = ap suc (length_last (y ∷ xs) r)
 
-object_last : (p : LocalRef → Bool) (xs : List LocalRef) (r : LocalRef) → p r ≡ false → object_where p (xs ++ r ∷ []) ≡ object_where p xs
+pub object_last : (p : LocalRef → Bool) (xs : List LocalRef) (r : LocalRef) → p r ≡ false → object_where p (xs ++ r ∷ []) ≡ object_where p xs
 object_last p [] r e = rw e refl
 object_last p (x ∷ xs) r e = ap (λ z. cond (p x) (Some x.object) z) (object_last p xs r e)
 
@@ -181,7 +208,21 @@ module _ (last thread : ℕ) (f g : Frames) (r : LocalRef) (a : IsAdded last thr
         some_frame = let l = s.some_frame in omega arith;
         few_frames = let l = s.few_frames in omega arith;
         apart = subst AreApart (sym (added_refs s.some_frame)) (apart_push (all_refs f) r s.apart unheld);
+        newest = subst (AllByRecursion (IsNewest g)) (sym (added_refs s.some_frame)) (all_push (IsNewest g) (all_refs f) r newest_before newest_here);
       }
+    where
+      set : List ℕ
+      set = slice_set f.given r.handle.index (r.handle.serial + 1)
+
+      given_is : set ≡ g.given
+      given_is = sym (ap (λ (x : Frames). x.given) a.new_is)
+
+      newest_before : AllByRecursion (IsNewest g) (all_refs f)
+      newest_before = subst (λ given. AllByRecursion (λ x. slice_index given x.handle.index ≡ x.handle.serial + 1) (all_refs f)) given_is
+          (newest_set f.given r.handle.index (r.handle.serial + 1) (all_refs f) unheld s.newest)
+
+      newest_here : IsNewest g r
+      newest_here = subst (λ given. slice_index given r.handle.index ≡ r.handle.serial + 1) given_is (get_or-set_same f.given r.handle.index (r.handle.serial + 1) 0 a.place)
 
   pub added_at : AreSound f → (l : ℕ → Option ℕ) → ((p : ℕ) → l p ≡ object_at f p) → (p : ℕ) → update nat_eq l r.handle.index (Some r.object) p ≡ object_at g p
   added_at s l agree q =
@@ -193,10 +234,10 @@ module _ (last thread : ℕ) (f g : Frames) (r : LocalRef) (a : IsAdded last thr
 
 -- A DELETED LOCAL REFERENCE
 
-abbrev other_than : Handle → LocalRef → Bool
+abbrev pub other_than : Handle → LocalRef → Bool
 other_than h r = not (same_handle r.handle h)
 
-joined_filter : (k : LocalRef → Bool) (xs : List (List LocalRef)) → joined (map (filter k) xs) ≡ filter k (joined xs)
+pub joined_filter : (k : LocalRef → Bool) (xs : List (List LocalRef)) → joined (map (filter k) xs) ≡ filter k (joined xs)
 joined_filter k [] = refl
 joined_filter k (x ∷ xs) = ap (λ z. filter k x ++ z) (joined_filter k xs) ∙ sym (filter-append k x (joined xs))
 
@@ -217,7 +258,7 @@ apart_filter k (x ∷ xs) a = go (k x) (held_filter k xs x.handle.index a.0) (ap
     go false h r = r
 
 -- a handle that stands holds its place
-standing_held : (h : Handle) (xs : List LocalRef) → IsSome (object_where (λ r. same_handle r.handle h) xs) → is_held xs h.index ≡ true
+pub standing_held : (h : Handle) (xs : List LocalRef) → IsSome (object_where (λ r. same_handle r.handle h) xs) → is_held xs h.index ≡ true
 standing_held h [] e = absurd cc
 standing_held h (x ∷ xs) e = go (same_handle x.handle h) refl e (standing_held h xs)
   where
@@ -280,7 +321,7 @@ handle_is_at_place f h o s = at_list (all_refs f) s.apart
         go false is e rest = rw (elsewhere h x xs a.0 (standing_held h xs (subst (λ z. IsSome z) (sym e) refl))) (rest e)
 
 module _ (f : Frames) (h : Handle) (s : AreSound f) where
-  deleted_refs : all_refs (deleted f h) ≡ filter (other_than h) (all_refs f)
+  pub deleted_refs : all_refs (deleted f h) ≡ filter (other_than h) (all_refs f)
   deleted_refs = joined_filter (other_than h) f.frames
 
   pub deleted_sound : AreSound (deleted f h)
@@ -290,6 +331,7 @@ module _ (f : Frames) (h : Handle) (s : AreSound f) where
         some_frame = let l = s.some_frame in omega arith;
         few_frames = let l = s.few_frames in omega arith;
         apart = subst AreApart (sym deleted_refs) (apart_filter (other_than h) (all_refs f) s.apart);
+        newest = subst (AllByRecursion (IsNewest f)) (sym deleted_refs) (all_filter (IsNewest f) (other_than h) (all_refs f) s.newest);
       }
 
   pub deleted_at : IsSome (object_of f h) → (l : ℕ → Option ℕ) → ((p : ℕ) → l p ≡ object_at f p) → (p : ℕ) → update nat_eq l h.index None p ≡ object_at (deleted f h) p
@@ -315,7 +357,7 @@ object_front : (xs ys : List LocalRef) (p : ℕ) → is_held ys p ≡ false → 
 object_front [] ys p e = object_free ys p e
 object_front (x ∷ xs) ys p e = ap (λ z. cond (x.handle.index == p) (Some x.object) z) (object_front xs ys p e)
 
-joined_before : (xs : List (List LocalRef)) → joined xs ≡ joined (frames_before xs) ++ last_frame xs
+pub joined_before : (xs : List (List LocalRef)) → joined xs ≡ joined (frames_before xs) ++ last_frame xs
 joined_before [] = refl
 joined_before (x ∷ []) = append-nil x
 joined_before (x ∷ y ∷ xs) = ap (λ z. x ++ z) (joined_before (y ∷ xs)) ∙ sym (append_assoc x (joined (frames_before (y ∷ xs))) (last_frame (y ∷ xs)))
@@ -328,7 +370,7 @@ fewer : (xs : List (List LocalRef)) → 2 ≤ length xs → (1 ≤ length (frame
 fewer [] l = absurd (omega arith)
 fewer (x ∷ xs) l = let n = length_before x xs in (omega arith, omega arith)
 
-not_both : (xs ys : List LocalRef) (p : ℕ) → (is_held xs p ≡ true → is_held ys p ≡ false) → is_held ys p ≡ true → is_held xs p ≡ false
+pub not_both : (xs ys : List LocalRef) (p : ℕ) → (is_held xs p ≡ true → is_held ys p ≡ false) → is_held ys p ≡ true → is_held xs p ≡ false
 not_both xs ys p between held = go (is_held xs p) refl
   where
     go : (b : Bool) → is_held xs p ≡ b → b ≡ false
@@ -336,19 +378,24 @@ not_both xs ys p between held = go (is_held xs p) refl
     go false e = refl
 
 module _ (f : Frames) (s : AreSound f) where
-  cut : AreApartFrom (joined (frames_before f.frames)) (last_frame f.frames)
-  cut = apart_cut (joined (frames_before f.frames)) (last_frame f.frames) (subst AreApart (joined_before f.frames) s.apart)
+  pub cut_last : AreApartFrom (joined (frames_before f.frames)) (last_frame f.frames)
+  cut_last = apart_cut (joined (frames_before f.frames)) (last_frame f.frames) (subst AreApart (joined_before f.frames) s.apart)
 
   pub popped_sound : 2 ≤ length f.frames → AreSound (popped f)
   popped_sound l =
       let n = fewer f.frames l in
-      record { some_frame = n.0; few_frames = let a = s.few_frames in let b = n.1 in omega arith; apart = cut.left }
+      record {
+        some_frame = n.0;
+        few_frames = let a = s.few_frames in let b = n.1 in omega arith;
+        apart = cut_last.left;
+        newest = all_front (IsNewest f) (joined (frames_before f.frames)) (last_frame f.frames) (subst (AllByRecursion (IsNewest f)) (joined_before f.frames) s.newest);
+      }
 
   pub popped_at : (l : ℕ → Option ℕ) → ((p : ℕ) → l p ≡ object_at f p) → (p : ℕ) → places_from l (drop_all (last_frame f.frames)) p ≡ object_at (popped f) p
   popped_at l agree p = places_dropped (last_frame f.frames) l p ∙ go (is_held (last_frame f.frames) p) refl
     where
       go : (b : Bool) → is_held (last_frame f.frames) p ≡ b → cond b None (l p) ≡ object_where (λ r. r.handle.index == p) (joined (frames_before f.frames))
-      go true e = sym (object_free (joined (frames_before f.frames)) p (not_both (joined (frames_before f.frames)) (last_frame f.frames) p (cut.between p) e))
+      go true e = sym (object_free (joined (frames_before f.frames)) p (not_both (joined (frames_before f.frames)) (last_frame f.frames) p (cut_last.between p) e))
       go false e = agree p ∙ (ap (object_where (λ r. r.handle.index == p)) (joined_before f.frames) ∙ object_front (joined (frames_before f.frames)) (last_frame f.frames) p e)
 
   pub freed_at : (l : ℕ → Option ℕ) → ((p : ℕ) → l p ≡ object_at f p) → (p : ℕ) → places_from l (drop_all (all_refs f)) p ≡ object_at (freed f) p
@@ -358,17 +405,25 @@ module _ (f : Frames) (s : AreSound f) where
       go true e = refl
       go false e = agree p ∙ object_free (all_refs f) p e
 
-joined_push : (xs : List (List LocalRef)) → joined (xs ++ [] ∷ []) ≡ joined xs
+pub joined_push : (xs : List (List LocalRef)) → joined (xs ++ [] ∷ []) ≡ joined xs
 joined_push [] = refl
 joined_push (x ∷ xs) = ap (λ z. x ++ z) (joined_push xs)
 
 pub pushed_sound : (f : Frames) → AreSound f → length f.frames < FRAMES → AreSound (pushed f)
 pushed_sound f s l =
     let n = length-append f.frames ([] ∷ []) in
-    record { some_frame = omega arith; few_frames = omega arith; apart = subst AreApart (sym (joined_push f.frames)) s.apart }
+    record {
+      some_frame = omega arith;
+      few_frames = omega arith;
+      apart = subst AreApart (sym (joined_push f.frames)) s.apart;
+      newest = subst (AllByRecursion (IsNewest f)) (sym (joined_push f.frames)) s.newest;
+    }
 
 pub freed_sound : (f : Frames) → AreSound (freed f)
-freed_sound f = record { some_frame = lit≤ tt; few_frames = lit≤ tt; apart = tt }
+freed_sound f = record { some_frame = lit≤ tt; few_frames = lit≤ tt; apart = tt; newest = tt }
+
+pub fresh_are_sound : FreshAreSound
+fresh_are_sound locals = record { some_frame = lit≤ tt; few_frames = lit≤ tt; apart = tt; newest = tt }
 
 -- ALL MOVES
 

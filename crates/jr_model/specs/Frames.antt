@@ -1,6 +1,6 @@
 -- The local references of a thread, in frames.
 use Rattle.std.specs.Prelude.{◌≡◌, ◌+◌, ◌<◌, ◌≤◌, ◌==◌, ◌&&◌, ℕ, Bool, false, not, cond, nat_le, IsTrue, Option, Some, None, IsSome, List, [], ◌∷◌, ◌++◌, map, length, slice_index, slice_set, replicate}
-use Rattle.std.specs.List.{filter, list_any}
+use Rattle.std.specs.List.{filter, list_any, AllByRecursion}
 use Rattle.jr_word.specs.declared.handle.RefKind.TheVariants.{Local}
 use Rattle.jr_model.specs.declared.event.Act.{Act}
 use Rattle.jr_model.specs.declared.event.Act.TheVariants.{LocalPut, LocalDrop}
@@ -102,11 +102,16 @@ abbrev pub AreApart : List LocalRef → Type 0
 AreApart [] = Unit {0}
 AreApart (r ∷ rs) = (is_held rs r.handle.index ≡ false) × AreApart rs
 
--- frames as a thread may have them: one at least and no more than there may be, and one reference a place at most
+-- its serial is the last that its place has given
+abbrev pub IsNewest : Frames → LocalRef → Type 0
+IsNewest f r = slice_index f.given r.handle.index ≡ r.handle.serial + 1
+
+-- frames as a thread may have them: one at least and no more than there may be, one reference a place at most, and each with the last handle of its place
 pub record AreSound (f : Frames) : Type 0 where
   pub some_frame : 1 ≤ length f.frames
   pub few_frames : length f.frames ≤ FRAMES
   pub apart : AreApart (all_refs f)
+  pub newest : AllByRecursion (IsNewest f) (all_refs f)
 
 -- the places of these references are left empty, in order
 abbrev pub drop_all : List LocalRef → List Act

@@ -1,5 +1,5 @@
 -- The laws of every legal history.
-use Rattle.std.specs.Prelude.{◌≡◌, ◌≢◌, ◌⊎◌, ◌≤◌, ℕ, true, false, Some, List, [], ◌∷◌, ◌++◌, ◌↔◌, map, length}
+use Rattle.std.specs.Prelude.{◌≡◌, ◌≢◌, ◌⊎◌, ◌≤◌, ℕ, true, false, Some, None, IsSome, List, [], ◌∷◌, ◌++◌, ◌↔◌, map, length}
 use Rattle.std.specs.List.{AllByRecursion}
 use Rattle.jr_word.specs.declared.config.Config.{Config}
 use Rattle.jr_word.specs.declared.kind.Kind.TheVariants.{Plain, Objects}
@@ -9,11 +9,11 @@ use Rattle.jr_model.specs.declared.event.Act.TheVariants.{Create, Look, Delete, 
 use Rattle.jr_model.specs.declared.event.Event.{Event}
 use Rattle.jr_model.specs.declared.frames.Mode.{Mode}
 use Rattle.jr_model.specs.Steps.{Step}
-use Rattle.jr_model.specs.State.{Contents, State, Handle, IsPresent, NobodyCollects, AreWords, IsClosed, present_words}
+use Rattle.jr_model.specs.State.{Contents, State, Handle, same_handle, IsPresent, NobodyCollects, AreWords, IsClosed, present_words}
 use Rattle.jr_model.specs.History.{History, by, state, state_from, IsLegal, mine, is_collection_step, is_waiting, IsStay, IsCollection, IsLastWord, PassView, Did}
 use Rattle.jr_model.specs.declared.event.Act.{Act}
 use Rattle.jr_model.specs.declared.frames.LocalRef.{LocalRef}
-use Rattle.jr_model.specs.Frames.{Frames, IsAdded, IsMove, LeadsTo, AreSound, Agree, object_of, object_at}
+use Rattle.jr_model.specs.Frames.{Frames, IsAdded, IsMove, LeadsTo, AreSound, Agree, fresh_frames, object_where, object_of, object_at, last_frame, deleted, popped, freed}
 use Rattle.jr_model.specs.Wholes.{sweeping_acts, IsWhole, IsExact, KeepsReached}
 use Rattle.jr_model.specs.Releases.{released, release_acts}
 
@@ -93,6 +93,22 @@ CreatedIsFound c last = (h : Handle) (t u o : ℕ) (r : Found) (before between r
 abbrev pub GivenOnce : ℕ → ℕ → Type 0
 GivenOnce last thread = (f g old new : Frames) (r q : LocalRef)
     → IsAdded last thread f r g → LeadsTo last thread g old → IsAdded last thread old q new → q.handle ≢ r.handle
+
+-- a local handle that stood and stands no more never stands again, whatever the thread does with its frames
+abbrev pub GoneStaysGone : ℕ → ℕ → Type 0
+GoneStaysGone last thread = (f g later : Frames) (h : Handle) → AreSound f → IsSome (object_of f h)
+    → LeadsTo last thread f g → object_of g h ≡ None → LeadsTo last thread g later → object_of later h ≡ None
+
+-- a handle stands no more once it is deleted, once the last frame is popped where it stood there, and once all are freed
+abbrev pub TakenIsGone : Type 0
+TakenIsGone = (f : Frames) (h : Handle) → AreSound f
+    → (object_of (deleted f h) h ≡ None)
+    × (IsSome (object_where (λ r. same_handle r.handle h) (last_frame f.frames)) → object_of (popped f) h ≡ None)
+    × (object_of (freed f) h ≡ None)
+
+-- the frames with which a thread begins are sound
+abbrev pub FreshAreSound : Type 0
+FreshAreSound = (locals : ℕ) → AreSound (fresh_frames locals)
 
 -- what a thread may do with its frames leaves them sound
 abbrev pub FramesStaySound : ℕ → ℕ → Type 0

@@ -19,6 +19,9 @@ ghost use Rattle.jr_model.specs.Laws.{
   ReadsLastWord,
   LengthsFit,
   GivenOnce,
+  GoneStaysGone,
+  TakenIsGone,
+  FreshAreSound,
   CollectionIsExact,
   LegalGoesByStep,
   ReleaseLeaves,
@@ -82,8 +85,15 @@ pub fn local_handles_are_given_once()
     ensures { (last thread : ℕ) → GivenOnce last thread }
 {}
 
-/// A thread's frames stay sound, agree with its locals in the machine, and a handle that stands is the one at its place.
+/// A local handle that was deleted, or popped or freed with its frame, never stands again.
+pub fn no_dropped_local_handle_returns()
+    ensures gone { (last thread : ℕ) → GoneStaysGone last thread }
+    ensures taken { TakenIsGone }
+{}
+
+/// A thread's frames are sound at the beginning and stay so, agree with its locals in the machine, and a handle that stands is the one at its place.
 pub fn frames_agree_with_the_machine()
+    ensures fresh { FreshAreSound }
     ensures sound { (last thread : ℕ) → FramesStaySound last thread }
     ensures agreed { FramesStayAgreed }
     ensures place { HandleIsAtPlace }
