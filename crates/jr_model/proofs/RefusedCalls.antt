@@ -1,9 +1,9 @@
 -- No call changes anything where it is refused.
-use Rattle.std.proofs.Common.{◌≡◌, inl, inr, ℕ, zero, suc, ◌+◌, ◌==◌, Bool, true, false, not, cond, nat_lt, nat_le, Option, Some, None, List, [], ◌∷◌, map, length, Ok, Err, refl, sym, ap, subst, ◌∙◌, arith}
+use Rattle.std.proofs.Common.{◌≡◌, inl, inr, ℕ, zero, suc, ◌+◌, ◌==◌, ◌||◌, Bool, true, false, not, cond, nat_lt, nat_le, Option, Some, None, List, [], ◌∷◌, map, length, Ok, Err, refl, sym, ap, subst, ◌∙◌, arith}
 use Rattle.std.proofs.lemmas.Bool.Decides.{nat_tests}
 use Rattle.std.specs.List.{AllByRecursion}
 use Rattle.jr_word.specs.declared.fault.Fault.{Fault}
-use Rattle.jr_word.specs.declared.fault.Fault.TheVariants.{ObjectsFull, LocalsFull, NoFrame, NotArray, WrongElement, WrongKind, Range, Memory, Size}
+use Rattle.jr_word.specs.declared.fault.Fault.TheVariants.{ObjectsFull, LocalsFull, NoFrame, NotArray, WrongElement, WrongKind, Range, Value, Memory, Size}
 use Rattle.jr_word.specs.declared.config.Config.{Config}
 use Rattle.jr_word.specs.declared.handle.RefKind.{RefKind}
 use Rattle.jr_word.specs.declared.kind.Kind.{Kind}
@@ -16,11 +16,11 @@ use Rattle.jr_model.specs.declared.frames.Mode.{Mode}
 use Rattle.jr_model.specs.declared.frames.Mode.TheVariants.{Copy, Commit, Abort}
 use Rattle.jr_model.specs.State.{Handle, State}
 use Rattle.jr_model.specs.Frames.{Frames, free_places, object_of, popped}
-use Rattle.jr_model.specs.Calls.{Call, ◌>>=◌, ◌>>◌, done, refuse_if, with_header}
-use Rattle.jr_model.specs.Tests.{Word, Nothing, Malformed, Parts, is_array, is_local, is_objects, is_primitive, is_read_as, is_text, same_element, type_local}
-use Rattle.jr_model.specs.Parts.{collect, create, created, delete_at, delete_found, delete_local_at, found_object, frame_left, frame_to_pop, local_object, look, looked, looked_at, not_null, probes, publish, read, reserve, take_frame, type_at, write}
-use Rattle.jr_model.specs.References.{resolved, resolved_both, room_for, room_after, added, new_local, made, delete_local}
-use Rattle.jr_model.specs.Objects.{part_of, copied_back, length_where, level_array, level_string, release_array_elements}
+use Rattle.jr_model.specs.Calls.{Call, ◌>>=◌, ◌>>◌, done, entered, refuse_if, with_header}
+use Rattle.jr_model.specs.Tests.{Word, Nothing, Malformed, Parts, is_array, is_local, is_objects, is_plain, is_primitive, is_read_as, is_text, is_value, same_element, type_local}
+use Rattle.jr_model.specs.Parts.{collect, create, created, delete, delete_at, delete_found, delete_local_at, found_object, frame_left, frame_to_pop, enter, local_object, look, looked, looked_at, not_null, probes, publish, read, reserve, shut, take_frame, type_at, write}
+use Rattle.jr_model.specs.References.{resolved, resolved_both, room_for, room_after, added, new_local, made, delete_local, freeing, popping}
+use Rattle.jr_model.specs.Objects.{part_of, copying_back, length_reading, level_array, level_string, region_release, release_array_elements}
 use Rattle.jr_model.specs.Unchanged.{may_precede, ChangesNothing, RefusalsChangeNothing, HarmlessChangesNothing}
 use Rattle.jr_model.proofs.Exactly.{append_all}
 use Rattle.jr_model.proofs.Refused.{AreHarmless, NeverRefuses, IsCalm, never_safe, done_never, done_calm, refuse_calm, refuse_if_calm, act_never, act_calm, some_act_never, some_act_calm, bind_safe, bind_never, never_bind, bind_calm, one_of_safe, header_safe, header_calm, entered_safe, opened_safe}
@@ -89,10 +89,13 @@ delete_found_safe h Stale = (refuse_calm _).safe
 delete_found_safe h (Object o) = one_of_safe (never_safe (act_never _)) (bind_calm (act_calm (DeleteStale h) refl) (λ x. refuse_calm _)).safe
 delete_found_safe h Cleared = one_of_safe (never_safe (act_never _)) (bind_calm (act_calm (DeleteStale h) refl) (λ x. refuse_calm _)).safe
 
+delete_safe : (h : Handle) → ChangesNothing (delete h)
+delete_safe h = bind_safe (look_calm h) (delete_found_safe h)
+
 delete_at_safe : (a : Word) → ChangesNothing (delete_at a)
 delete_at_safe Nothing = (done_calm tt).safe
 delete_at_safe Malformed = (done_calm tt).safe
-delete_at_safe (Parts h) = bind_safe (look_calm h) (delete_found_safe h)
+delete_at_safe (Parts h) = delete_safe h
 
 delete_local_at_safe : (a : Word) → ChangesNothing (delete_local_at a)
 delete_local_at_safe Nothing = (done_calm tt).safe
@@ -195,22 +198,42 @@ module _ (c : Config) (last thread : ℕ) where
   popping_never o old new acts e room (inr r) = let bad = r.2.1 in cc
 
   -- where a place is left for the result, a pop is not refused any more
-  popping_safe : (o : Option ℕ) → ChangesNothing (room_after c last thread o >> (take_frame >> new_local c last thread o))
+  popping_safe : (o : Option ℕ) → ChangesNothing (popping c last thread o)
   popping_safe o = record { frames = frames; acts = acts_of }
     where
-      frames : (old new : Frames) (acts : List Act) (e : Fault) → (room_after c last thread o >> (take_frame >> new_local c last thread o)) old acts (Err e) new → new ≡ old
+      frames : (old new : Frames) (acts : List Act) (e : Fault) → popping c last thread o old acts (Err e) new → new ≡ old
       frames old new acts e (inl r) = absurd (popping_never o r.1 new r.3 e (after_room o old r.1 r.2 r.5) r.6)
       frames old new acts e (inr r) = (after_calm o).safe.frames old new acts r.0 r.2
 
-      acts_of : (old new : Frames) (acts : List Act) (e : Fault) → (room_after c last thread o >> (take_frame >> new_local c last thread o)) old acts (Err e) new → AllByRecursion (λ a. may_precede e a ≡ true) acts
+      acts_of : (old new : Frames) (acts : List Act) (e : Fault) → popping c last thread o old acts (Err e) new → AllByRecursion (λ a. may_precede e a ≡ true) acts
       acts_of old new acts e (inl r) = absurd (popping_never o r.1 new r.3 e (after_room o old r.1 r.2 r.5) r.6)
       acts_of old new acts e (inr r) = subst (λ z. AllByRecursion (λ a. may_precede z a ≡ true) acts) (let same = r.1 in cc) ((after_calm o).safe.acts old new acts r.0 r.2)
 
-  local_safe : (a : Word) → ChangesNothing (delete_local c last thread a)
+  local_safe : (a : Word) → ChangesNothing (delete_local c thread a)
   local_safe a = bind_safe (refuse_if_calm _ _) (λ x. bind_safe (refuse_if_calm _ _) (λ y. delete_local_at_safe a))
 
   left_calm : IsCalm frame_left
   left_calm = framed_calm (λ old. refuse_if (nat_le FRAMES (length old.frames)) LocalsFull) (λ f. refuse_if_calm (nat_le FRAMES (length f.frames)) LocalsFull)
+
+enter_safe : ChangesNothing enter
+enter_safe = one_of_safe (never_safe (act_never _)) (bind_calm (act_calm Knock refl) (λ x. bind_calm (act_calm Withdraw refl) (λ y. refuse_calm _))).safe
+
+shut_safe : ChangesNothing shut
+shut_safe = one_of_safe (never_safe (act_never _)) (bind_calm (some_act_calm ShutBusy (λ n. refl)) (λ n. refuse_calm _)).safe
+
+publish_safe : (k : Kind) (ws : List ℕ) → ChangesNothing (publish k ws)
+publish_safe k ws = one_of_safe (never_safe (some_act_never _)) (refuse_calm _).safe
+
+freeing_safe : ChangesNothing freeing
+freeing_safe = never_safe (record { never = λ old new acts e r. let bad = r.1 in cc })
+
+to_pop_calm : IsCalm frame_to_pop
+to_pop_calm = framed_calm (λ old. refuse_if (nat_lt (length old.frames) 2) NoFrame) (λ f. refuse_if_calm (nat_lt (length f.frames) 2) NoFrame)
+
+released_safe : (levels : ℕ) → ChangesNothing (region_release levels)
+released_safe zero = (done_calm tt).safe
+released_safe (suc zero) = never_safe (act_never _)
+released_safe (suc (suc n)) = (done_calm tt).safe
 
 -- CALLS
 
@@ -226,7 +249,7 @@ module _ (c : Config) (last thread : ℕ) (s : State) where
       bind_calm (resolved_calm c last thread a) (λ x. bind_calm (not_null_calm x) (λ o. header_calm s o (λ l m.
       bind_calm (refuse_if_calm (not (is_array l)) NotArray) (λ y. bind_calm (refuse_if_calm (not (same_element k l)) WrongElement) (λ z. bind_calm (refuse_if_calm (nat_lt m (start + n)) Range) (λ u. done_calm o))))))
 
-  length_safe : (p : Kind → Bool) (e : Fault) (a : Word) → ChangesNothing (length_where c last thread s p e a)
+  length_safe : (p : Kind → Bool) (e : Fault) (a : Word) → ChangesNothing (entered (length_reading c last thread s p e a))
   length_safe p e a =
       entered_safe (bind_safe (resolved_calm c last thread a) (λ x. bind_safe (not_null_calm x) (λ o. header_safe s o (λ k n.
       bind_safe (refuse_if_calm (not (p k)) e) (λ y. (done_calm n).safe)))))
@@ -241,7 +264,7 @@ module _ (c : Config) (last thread : ℕ) (s : State) where
       bind_calm (resolved_calm c last thread a) (λ x. bind_calm (not_null_calm x) (λ o. header_calm s o (λ k n.
       bind_calm (refuse_if_calm (not (is_text k)) WrongKind) (λ y. bind_calm (refuse_if_calm (nat_le LEVELS levels) Size) (λ z. done_calm o)))))
 
-  copied_safe : (k : Kind) (a : Word) (buffer : List ℕ) → ChangesNothing (copied_back c last thread s k a buffer)
+  copied_safe : (k : Kind) (a : Word) (buffer : List ℕ) → ChangesNothing (entered (copying_back c last thread s k a buffer))
   copied_safe k a buffer =
       entered_safe (bind_safe (resolved_calm c last thread a) (λ x. bind_safe (not_null_calm x) (λ o. header_safe s o (λ l n.
       bind_safe (refuse_if_calm (not (is_array l)) NotArray) (λ y. bind_safe (refuse_if_calm (not (same_element k l)) WrongElement) (λ z. bind_safe (refuse_if_calm (not (n == length buffer)) Range) (λ u. never_safe (write_never o 0 buffer))))))))
@@ -256,6 +279,24 @@ module _ (c : Config) (last thread : ℕ) (s : State) where
 
   pub refusals_change_nothing : RefusalsChangeNothing c last thread s
   refusals_change_nothing = record {
+    enter = enter_safe;
+    leave = never_safe (act_never _);
+    shut = shut_safe;
+    reopen = never_safe (act_never _);
+    create = create_safe;
+    look = λ h. (look_calm h).safe;
+    delete = delete_safe;
+    reserve = reserve_safe;
+    publish = publish_safe;
+    header = λ o. header_safe s o (λ k n. (done_calm (k, n)).safe);
+    read_element = λ o i. header_safe s o (λ k n. bind_safe (refuse_if_calm (is_plain k) NotArray) (λ x. bind_safe (refuse_if_calm (nat_le n i) Range) (λ y. never_safe (some_act_never (Read o i)))));
+    write_element = λ o i v. header_safe s o (λ k n. bind_safe (refuse_if_calm (is_plain k || is_text k) NotArray) (λ x. bind_safe (refuse_if_calm (nat_le n i) Range) (λ y.
+        bind_safe (refuse_if_calm (not (is_value k v)) Value) (λ z. never_safe (act_never (Write o i v))))));
+    resolved = λ a. (resolved_calm c last thread a).safe;
+    new_local = new_local_safe c last thread;
+    delete_local = local_safe c last thread;
+    pop_frame = λ o. bind_safe to_pop_calm (λ x. popping_safe c last thread o);
+    freeing = freeing_safe;
     new_reference = λ k a. entered_safe (bind_safe (resolved_calm c last thread a) (created_safe k));
     new_local_ref = λ a. entered_safe (bind_safe (resolved_calm c last thread a) (new_local_safe c last thread));
     delete_reference = λ k a. entered_safe (bind_safe (refuse_if_calm _ _) (λ x. bind_safe (refuse_if_calm _ _) (λ y. bind_safe (refuse_if_calm _ _) (λ z. delete_at_safe a))));
@@ -264,12 +305,13 @@ module _ (c : Config) (last thread : ℕ) (s : State) where
     get_object_ref_type = λ a. entered_safe (cond_calm _ (done_calm 0) (type_calm a)).safe;
     ensure_local_capacity = λ n. (room_calm c last thread n).safe;
     push_local_frame = λ n. bind_safe (left_calm c last thread) (λ x. bind_safe (room_calm c last thread n) (λ y. never_safe (record { never = λ old new acts e r. let bad = r.1 in cc })));
-    pop_local_frame = λ a. entered_safe (bind_safe popped_calm (λ x. bind_safe (resolved_calm c last thread a) (popping_safe c last thread)));
+    pop_local_frame = λ a. entered_safe (bind_safe to_pop_calm (λ x. bind_safe (resolved_calm c last thread a) (popping_safe c last thread)));
     new_plain = entered_safe (made_safe c last thread _ _);
     new_array = λ k n. entered_safe (made_safe c last thread _ _);
     new_object_array = λ n a. entered_safe (bind_safe (resolved_calm c last thread a) (λ x. made_safe c last thread _ _));
     new_string = λ units. entered_safe (made_safe c last thread _ _);
-    free_locals = entered_safe (never_safe (record { never = λ old new acts e r. let bad = r.1 in cc }));
+    free_locals = entered_safe freeing_safe;
+    into_pass = (done_calm tt).safe;
     kind_of = λ a. entered_safe (bind_safe (resolved_calm c last thread a) (λ x. bind_safe (not_null_calm x) (λ o. header_safe s o (λ k n. (done_calm k).safe))));
     get_array_length = length_safe _ _;
     get_string_length = length_safe _ _;
@@ -285,16 +327,20 @@ module _ (c : Config) (last thread : ℕ) (s : State) where
     release_array_elements = release_safe;
     get_array_critical = λ a. opened_safe (level_array_calm 0 a).safe;
     get_string_critical = λ a. opened_safe (level_string_calm 0 a).safe;
-    nest_array = λ levels a. (level_array_calm levels a).safe;
-    nest_string = λ levels a. (level_string_calm levels a).safe;
+    nest_array = λ levels a. bind_safe (level_array_calm (length levels) a) (λ o. (done_calm _).safe);
+    nest_string = λ levels a. bind_safe (level_string_calm (length levels) a) (λ o. (done_calm _).safe);
+    region_kind = λ o. header_safe s o (λ k n. (done_calm k).safe);
+    region_length = λ o. header_safe s o (λ k n. (done_calm n).safe);
     region_get = λ k o i. header_safe s o (λ l n. bind_safe (refuse_if_calm (not (is_read_as k l)) WrongElement) (λ y. bind_safe (refuse_if_calm (nat_le n i) Range) (λ z. never_safe (some_act_never (Read o i)))));
     region_set = λ k o i v. header_safe s o (λ l n. bind_safe (refuse_if_calm (is_text l) NotArray) (λ y. bind_safe (refuse_if_calm (not (is_read_as k l)) WrongElement) (λ z. bind_safe (refuse_if_calm (nat_le n i) Range) (λ u. never_safe (act_never (Write o i v))))));
+    region_release = released_safe;
+    elements_get = λ buffer i. bind_safe (refuse_if_calm (nat_le (length buffer) i) Range) (λ x. (done_calm _).safe);
+    elements_set = λ buffer i v. bind_safe (refuse_if_calm (nat_le (length buffer) i) Range) (λ x. (done_calm _).safe);
+    elements_length = λ buffer. (done_calm _).safe;
     collect = collect_safe;
+    meet = never_safe (act_never _);
   }
     where
-      popped_calm : IsCalm frame_to_pop
-      popped_calm = framed_calm (λ old. refuse_if (nat_lt (length old.frames) 2) NoFrame) (λ f. refuse_if_calm (nat_lt (length f.frames) 2) NoFrame)
-
       element_calm : (o i : ℕ) → IsCalm (with_header s o (λ k n. refuse_if (not (is_array k)) NotArray >> (refuse_if (not (is_objects k)) WrongElement >> refuse_if (nat_le n i) Range)))
       element_calm o i = header_calm s o (λ k n. bind_calm (refuse_if_calm (not (is_array k)) NotArray) (λ x. bind_calm (refuse_if_calm (not (is_objects k)) WrongElement) (λ y. refuse_if_calm (nat_le n i) Range)))
 

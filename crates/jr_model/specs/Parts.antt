@@ -1,17 +1,15 @@
 -- The parts that calls are made of, among them the calls of gate, slots and heap.
-use Rattle.std.specs.Prelude.{◌≡◌, ◌+◌, ◌==◌, ◌||◌, ℕ, zero, suc, Bool, not, cond, nat_lt, nat_le, Option, Some, None, Ok, List, [], ◌∷◌, map, length}
-use Rattle.jr_word.specs.declared.config.Config.{Config}
+use Rattle.std.specs.Prelude.{◌≡◌, ◌+◌, ◌||◌, ℕ, zero, suc, Bool, not, cond, nat_lt, nat_le, Option, Some, None, Ok, List, [], ◌∷◌, map, length}
 use Rattle.jr_word.specs.declared.handle.RefKind.{RefKind}
 use Rattle.jr_word.specs.declared.kind.Kind.{Kind}
-use Rattle.jr_word.specs.declared.fault.Fault.TheVariants.{Null, NotArray, Range, RowFull, LocalsFull, SpaceFull, ObjectsFull, Raced, Barred, Busy, NoFrame, Value, LeftInside}
+use Rattle.jr_word.specs.declared.fault.Fault.TheVariants.{Null, NotArray, Range, RowFull, LocalsFull, SpaceFull, ObjectsFull, Raced, Barred, Busy, NoFrame, Value}
 use Rattle.jr_word.specs.declared.fault.Fault.TheVariants as fault
 use Rattle.jr_model.specs.declared.event.Found.{Found}
 use Rattle.jr_model.specs.declared.event.Found.TheVariants.{Object, Cleared, Stale}
 use Rattle.jr_model.specs.declared.event.Act.{Act}
 use Rattle.jr_model.specs.declared.event.Act.TheVariants.{Enter, Knock, Leave, Withdraw, Shut, ShutBusy, Reopen, Create, Look, Probe, Delete, DeleteStale, LocalDrop, Reserve, ReserveFull, ReserveLost, New, Read, Write, Meet}
 use Rattle.jr_model.specs.declared.frames.TheConstants.{FRAMES}
-use Rattle.jr_model.specs.declared.summary.Summary.{Summary}
-use Rattle.jr_model.specs.State.{Handle, State, not_outside, summary}
+use Rattle.jr_model.specs.State.{Handle, State}
 use Rattle.jr_model.specs.Frames.{object_of, pushed, popped, deleted, last_frame, drop_all}
 use Rattle.jr_model.specs.Wholes.{collection_acts}
 use Rattle.jr_model.specs.Calls.{Call, ◌>>=◌, ◌>>◌, act, done, one_of, refuse, refuse_if, some_act, with_header}
@@ -207,7 +205,7 @@ collected old acts answer new =
     × (acts ≡ collection_acts cleared dropped used)
     × (answer ≡ Ok (length cleared, length dropped, used)) × (new ≡ old)
 
--- a collection, or so many threads are not outside
+-- a collection, or so many threads are not outside. This names the acts alone, and would let one pass that clears and drops nothing: what a collection must take is `Collects` of Wholes.antt, and a contract of one cites that beside its answer
 abbrev pub collect : Call (ℕ × ℕ × ℕ)
 collect = one_of collected (do
   n ← some_act ShutBusy
@@ -216,10 +214,3 @@ collect = one_of collected (do
 -- what another pass saw is learned
 abbrev pub meet : Call (Unit {0})
 meet = act Meet
-
--- the room is closed where all threads are outside in s, the state that the call leaves
-abbrev pub close : Config → ℕ → State → Call Summary
-close c last s = do
-  meet
-  refuse_if (not (not_outside c s == 0)) (LeftInside (not_outside c s))
-  done (summary c last s)

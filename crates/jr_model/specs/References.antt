@@ -1,4 +1,4 @@
--- The calls of references and frames, and those that make objects.
+-- The calls of references and frames, and those that make objects: first what each does within its stay, and then the calls.
 use Rattle.std.specs.Prelude.{◌≡◌, ◌==◌, ◌||◌, ℕ, Bool, not, cond, nat_lt, Option, Some, None, Ok, List, [], ◌∷◌, length, replicate}
 use Rattle.jr_word.specs.declared.config.Config.{Config}
 use Rattle.jr_word.specs.declared.handle.RefKind.{RefKind}
@@ -13,6 +13,36 @@ use Rattle.jr_model.specs.Frames.{all_refs, drop_all, free_places, popped, freed
 use Rattle.jr_model.specs.Calls.{Call, done, entered, refuse_if, ◌>>=◌, ◌>>◌}
 use Rattle.jr_model.specs.Tests.{Word, is_foreign, is_malformed, is_of_kind, is_out_of_bounds, same_object, word_of}
 use Rattle.jr_model.specs.Parts.{created, delete_at, delete_local_at, frame_left, frame_to_pop, looked, new_frame, publish, reserve, take_frame, type_at}
+
+-- a deletion by the call of the kind
+abbrev pub removal : Config → RefKind → Word → Call (Unit {0})
+removal c k a = do
+  refuse_if (is_malformed a) fault.Stale
+  refuse_if (not (is_of_kind k a)) WrongKind
+  refuse_if (is_out_of_bounds c a) fault.Stale
+  delete_at a
+
+-- a local reference of this thread is taken out of its frame
+abbrev pub delete_local : Config → ℕ → Word → Call (Unit {0})
+delete_local c thread a = do
+  refuse_if (is_out_of_bounds c a) fault.Stale
+  refuse_if (is_foreign thread a) Foreign
+  delete_local_at a
+
+-- a deletion of a local reference
+abbrev pub local_removal : Config → ℕ → Word → Call (Unit {0})
+local_removal c thread a = do
+  refuse_if (is_malformed a) fault.Stale
+  refuse_if (not (is_of_kind Local a)) WrongKind
+  delete_local c thread a
+
+-- the type of a reference: 0 where a call would refuse it for another, and for NULL
+abbrev pub typing : Config → ℕ → Word → Call ℕ
+typing c thread a = cond (is_malformed a || is_out_of_bounds c a || is_foreign thread a) (done 0) (type_at a)
+
+-- no reference is left, and one frame
+abbrev pub freeing : Call (Unit {0})
+freeing old acts answer new = (acts ≡ drop_all (all_refs old)) × (answer ≡ Ok tt) × (new ≡ freed old)
 
 module _ (c : Config) (last thread : ℕ) where
   -- the object of a reference, none for NULL and for a cleared one
@@ -60,74 +90,93 @@ module _ (c : Config) (last thread : ℕ) where
     o ← publish k ws
     added o
 
-  -- NewGlobalRef and NewWeakGlobalRef
-  abbrev pub new_reference : RefKind → Word → Call (Option Handle)
-  new_reference k a = entered (resolved a >>= created k)
+  -- a reference of the kind to what is resolved
+  abbrev pub creation : RefKind → Word → Call (Option Handle)
+  creation k a = resolved a >>= created k
 
-  -- NewLocalRef
-  abbrev pub new_local_ref : Word → Call (Option Handle)
-  new_local_ref a = entered (resolved a >>= new_local)
+  -- a local reference to what is resolved
+  abbrev pub local_creation : Word → Call (Option Handle)
+  local_creation a = resolved a >>= new_local
 
-  -- DeleteGlobalRef and DeleteWeakGlobalRef
-  abbrev pub delete_reference : RefKind → Word → Call (Unit {0})
-  delete_reference k a = entered (do
-    refuse_if (is_malformed a) fault.Stale
-    refuse_if (not (is_of_kind k a)) WrongKind
-    refuse_if (is_out_of_bounds c a) fault.Stale
-    delete_at a)
-
-  -- a local reference of this thread is taken out of its frame
-  abbrev pub delete_local : Word → Call (Unit {0})
-  delete_local a = do
-    refuse_if (is_out_of_bounds c a) fault.Stale
-    refuse_if (is_foreign thread a) Foreign
-    delete_local_at a
-
-  -- DeleteLocalRef
-  abbrev pub delete_local_ref : Word → Call (Unit {0})
-  delete_local_ref a = entered (do
-    refuse_if (is_malformed a) fault.Stale
-    refuse_if (not (is_of_kind Local a)) WrongKind
-    delete_local a)
-
-  -- IsSameObject
-  abbrev pub is_same_object : Word → Word → Call Bool
-  is_same_object a b = entered (do
+  -- whether two references are to one object
+  abbrev pub comparison : Word → Word → Call Bool
+  comparison a b = do
     x ← resolved_both a b
-    done (same_object x.0 x.1))
-
-  -- GetObjectRefType: 0 where the call would be refused for another, and for NULL
-  abbrev pub get_object_ref_type : Word → Call ℕ
-  get_object_ref_type a = entered (cond (is_malformed a || is_out_of_bounds c a || is_foreign thread a) (done 0) (type_at a))
-
-  -- EnsureLocalCapacity
-  abbrev pub ensure_local_capacity : ℕ → Call (Unit {0})
-  ensure_local_capacity n = room_for n
-
-  -- PushLocalFrame
-  abbrev pub push_local_frame : ℕ → Call (Unit {0})
-  push_local_frame n = do
-    frame_left
-    room_for n
-    new_frame
+    done (same_object x.0 x.1)
 
   -- a place for the result, once those of the last frame are free
   abbrev pub room_after : Option ℕ → Call (Unit {0})
   room_after None old = done tt old
   room_after (Some o) old = refuse_if (free_places last (popped old) == 0) LocalsFull old
 
+  -- the last frame is taken away, and its result goes to the one before it
+  abbrev pub popping : Option ℕ → Call (Option Handle)
+  popping x = do
+    room_after x
+    take_frame
+    new_local x
+
+  -- the same where there is a frame above the base frame
+  abbrev pub pop_frame : Option ℕ → Call (Option Handle)
+  pop_frame x = do
+    frame_to_pop
+    popping x
+
+  -- a plain object, and a local reference to it
+  abbrev pub making : Call Handle
+  making = made Plain []
+
+  -- an object array, n times of what is resolved, and a local reference to it
+  abbrev pub array_making : ℕ → Word → Call Handle
+  array_making n a = do
+    x ← resolved a
+    made Objects (replicate n (word_of x))
+
+  -- NewGlobalRef and NewWeakGlobalRef
+  abbrev pub new_reference : RefKind → Word → Call (Option Handle)
+  new_reference k a = entered (creation k a)
+
+  -- NewLocalRef
+  abbrev pub new_local_ref : Word → Call (Option Handle)
+  new_local_ref a = entered (local_creation a)
+
+  -- DeleteGlobalRef and DeleteWeakGlobalRef
+  abbrev pub delete_reference : RefKind → Word → Call (Unit {0})
+  delete_reference k a = entered (removal c k a)
+
+  -- DeleteLocalRef
+  abbrev pub delete_local_ref : Word → Call (Unit {0})
+  delete_local_ref a = entered (local_removal c thread a)
+
+  -- IsSameObject
+  abbrev pub is_same_object : Word → Word → Call Bool
+  is_same_object a b = entered (comparison a b)
+
+  -- GetObjectRefType
+  abbrev pub get_object_ref_type : Word → Call ℕ
+  get_object_ref_type a = entered (typing c thread a)
+
+  -- EnsureLocalCapacity, which enters no gate
+  abbrev pub ensure_local_capacity : ℕ → Call (Unit {0})
+  ensure_local_capacity n = room_for n
+
+  -- PushLocalFrame, which enters no gate
+  abbrev pub push_local_frame : ℕ → Call (Unit {0})
+  push_local_frame n = do
+    frame_left
+    room_for n
+    new_frame
+
   -- PopLocalFrame
   abbrev pub pop_local_frame : Word → Call (Option Handle)
   pop_local_frame a = entered (do
     frame_to_pop
     x ← resolved a
-    room_after x
-    take_frame
-    new_local x)
+    popping x)
 
   -- a new object without elements
   abbrev pub new_plain : Call Handle
-  new_plain = entered (made Plain [])
+  new_plain = entered making
 
   -- NewBooleanArray and its like: n zeros
   abbrev pub new_array : Kind → ℕ → Call Handle
@@ -135,14 +184,16 @@ module _ (c : Config) (last thread : ℕ) where
 
   -- NewObjectArray: n times the initial element
   abbrev pub new_object_array : ℕ → Word → Call Handle
-  new_object_array n a = entered (do
-    x ← resolved a
-    made Objects (replicate n (word_of x)))
+  new_object_array n a = entered (array_making n a)
 
   -- NewString
   abbrev pub new_string : List ℕ → Call Handle
   new_string units = entered (made Text units)
 
--- at the end of a native method: no local reference is left, and one frame
+-- at the end of a native method
 abbrev pub free_locals : Call (Unit {0})
-free_locals = entered (λ old acts answer new. (acts ≡ drop_all (all_refs old)) × (answer ≡ Ok tt) × (new ≡ freed old))
+free_locals = entered freeing
+
+-- an env is given up: the locals that stand stay in the row
+abbrev pub into_pass : Call (Unit {0})
+into_pass = done tt

@@ -57,6 +57,10 @@ opening = record {
 abbrev pub IsPresent : State → ℕ → Type 0
 IsPresent s o = IsSome (s.objects o)
 
+-- every object number of the room is present
+abbrev pub EachPresent : Config → State → Type 0
+EachPresent c s = (o : ℕ) → 1 ≤ o → o ≤ c.objects → IsPresent s o
+
 -- no thread collects
 abbrev pub NobodyCollects : State → Type 0
 NobodyCollects s = (t : ℕ) → s.role t ≢ Collecting

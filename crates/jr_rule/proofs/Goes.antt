@@ -13,11 +13,11 @@ use Rattle.jr_model.specs.State.{Handle, Contents, State, IsPresent, IsClosed}
 use Rattle.jr_model.specs.History.{by, state, IsLegal, role_of, Did}
 use Rattle.jr_model.proofs.Histories.{legal_push, state_push}
 use Rattle.jr_model.proofs.Presence.{named_is_present, sound_state}
-use Rattle.jr_model.proofs.Stays.{IsStill, still_did, did_added, did_then}
+use Rattle.jr_model.proofs.Stays.{IsStill, still_did, did_added}
 use Rattle.jr_rule.specs.declared.known.Known.{Known}
 use Rattle.jr_rule.specs.declared.known.Grasp.{Grasp}
 use Rattle.jr_rule.specs.Grasping.{words_at}
-use Rattle.jr_rule.specs.Knowing.{Standing, MayKnow, IsClosedNow, view, moved, anything, state_of, Goes, HasObject, HasLooked, IsFreeSlot, ShowsSlot, ShowsPublished, ShowsRange, HasWord, Took, TookWith, Acted}
+use Rattle.jr_rule.specs.Knowing.{Standing, MayKnow, IsClosedNow, view, state_of, Goes, HasObject, HasLooked, IsFreeSlot, ShowsSlot, ShowsPublished, ShowsRange, HasWord, Took, TookWith}
 
 -- a step is what the thread did
 pub goes_did : {k k' : Known} {acts : List Act} → Goes k acts k' → Did (view k) (view k') acts
@@ -89,16 +89,6 @@ shown_published o h true k k' shown = shown.0
 shown_published o h false k k' shown = shown.0
 
 module _ {S : Type 0} {stands : S → Standing} {knows : S → Known → Type 0} where
-  pub took_acted : {old new : S} {acts : List Act} {met : Known → Type 0} {shows : Known → Known → Type 0} → Took stands knows old new acts met shows → Acted stands knows old new acts met
-  took_acted t = record { stands_is = t.stands_is; did = λ k s m. let g = t.goes k s m in (g.0, g.1, goes_did g.2) }
-
-  -- an act and then others
-  pub acted_more : {a b c : S} {x : Act} {ys : List Act} {met : Known → Type 0} → Acted stands knows a b (x ∷ []) met → Acted stands knows b c ys anything → Acted stands knows a c (x ∷ ys) met
-  acted_more {x} {ys} p q = record {
-    stands_is = q.stands_is ∙ ap (λ s. moved s ys) p.stands_is;
-    did = λ k s m. let g = p.did k s m in let h = q.did g.0 g.1 tt in (h.0, h.1, did_then (x ∷ []) ys g.2 h.2);
-  }
-
   -- a step shows less, too
   pub took_less : {old new : S} {acts : List Act} {met : Known → Type 0} {shows shows' : Known → Known → Type 0} → ((k k' : Known) → shows k k' → shows' k k') → Took stands knows old new acts met shows → Took stands knows old new acts met shows'
   took_less less t = record { stands_is = t.stands_is; goes = λ k s m. let g = t.goes k s m in (g.0, g.1, g.2, less k g.0 g.3) }

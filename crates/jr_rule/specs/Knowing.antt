@@ -12,7 +12,7 @@ use Rattle.jr_model.specs.declared.event.Found.{Found}
 use Rattle.jr_model.specs.declared.event.Found.TheVariants.{Stale}
 use Rattle.jr_model.specs.Maps.{count_below}
 use Rattle.jr_model.specs.State.{Handle, State, Contents, IsPresent, IsOccupied, IsClosed, IsWord, AreWords, SomebodyCollects, not_outside}
-use Rattle.jr_model.specs.History.{History, by, state, IsLegal, mine, PassView, role_of, role_from, Did}
+use Rattle.jr_model.specs.History.{History, by, state, IsLegal, mine, PassView, role_of, role_from}
 use Rattle.jr_model.specs.Refusals.{Sometime}
 use Rattle.jr_model.specs.Frames.{Frames, Agree}
 use Rattle.jr_rule.specs.declared.known.Known.{Known}
@@ -231,8 +231,3 @@ module _ {S : Type 0} (stands : S → Standing) (knows : S → Known → Type 0)
   pub record Spent (old new : S) : Type 0 where
     pub stands_is : stands new ≡ record (stands old) { fresh = false }
     pub same : (k : Known) → knows old k ↔ knows new k
-
-  -- several steps were taken
-  pub record Acted (old new : S) (acts : List Act) (met : Known → Type 0) : Type 0 where
-    pub stands_is : stands new ≡ moved (stands old) acts
-    pub did : (k : Known) → knows old k → met k → (k' : Known) × knows new k' × Did (view k) (view k') acts

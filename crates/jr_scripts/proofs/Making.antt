@@ -16,14 +16,13 @@ use Rattle.jr_model.specs.Frames.{Frames, IsAdded, free_places, is_free}
 use Rattle.jr_model.specs.Refusals.{ObjectsWereFull}
 use Rattle.jr_model.specs.Calls.{Call, Ran, refuse_if, ◌>>=◌}
 use Rattle.jr_model.specs.Parts.{publish}
-use Rattle.jr_model.specs.References.{added, room_for}
+use Rattle.jr_model.specs.References.{added, room_for, making}
 use Rattle.jr_model.proofs.Counts.{count_none}
 use Rattle.jr_model.proofs.Moments.{sometime_last, one_act}
 use Rattle.jr_model.proofs.Runs.{ran_then, ran_err}
 use Rattle.jr_rule.specs.declared.known.Known.{Known}
 use Rattle.jr_rule.specs.Knowing.{Standing, IsOf, view, anything, keeps, HasOptional, MayKnow, Took}
 use Rattle.jr_rule.proofs.Goes.{goes_did}
-use Rattle.jr_scripts.specs.Works.{making}
 use Rattle.jr_scripts.specs.Table.{Table, IsNext, IsOnly}
 use Rattle.jr_scripts.specs.Performing.{Published, Calls}
 use Rattle.jr_scripts.specs.Ready.{IsReady}

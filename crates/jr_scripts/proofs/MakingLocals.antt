@@ -10,7 +10,7 @@ use Rattle.jr_model.specs.State.{Handle}
 use Rattle.jr_model.specs.History.{PassView, IsLegal, Did}
 use Rattle.jr_model.specs.Frames.{Frames, IsAdded, free_places}
 use Rattle.jr_model.specs.Calls.{Call, Ran, ◌>>=◌}
-use Rattle.jr_model.specs.References.{added, new_local, room_for}
+use Rattle.jr_model.specs.References.{added, new_local, room_for, making}
 use Rattle.jr_model.proofs.Runs.{ran_then, ran_give}
 use Rattle.jr_rule.specs.declared.known.Known.{Known}
 use Rattle.jr_rule.specs.Knowing.{Standing, IsOf, keeps, HasObject, HasOptional, Holds, MayKnow, Took}
@@ -24,7 +24,6 @@ use Rattle.jr_scripts.proofs.Entering.{same_owner, ready_after}
 use Rattle.jr_scripts.proofs.Known.{holds_put}
 use Rattle.jr_scripts.proofs.Reading.{ran_refused}
 use Rattle.jr_scripts.proofs.Resolving.{stays}
-use Rattle.jr_scripts.specs.Works.{making}
 use Rattle.jr_scripts.proofs.Making.{room_at, room_ran}
 
 local_ran : (c : Config) (last t : ℕ) {p q : PassView} {f g : Frames} (h : Handle) (o : ℕ) → Did p q (LocalPut h.index o ∷ []) → IsAdded last t f (record { handle = h; object = o }) g → Ran p q f g (added c last t o) (Ok h)

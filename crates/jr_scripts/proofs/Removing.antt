@@ -20,7 +20,7 @@ use Rattle.jr_model.proofs.Runs.{ran_done, ran_then, ran_err}
 use Rattle.jr_rule.specs.declared.known.Known.{Known}
 use Rattle.jr_rule.specs.Knowing.{Standing, IsOf, view, anything, keeps, HasOptional, Took}
 use Rattle.jr_rule.proofs.Goes.{goes_did}
-use Rattle.jr_scripts.specs.Works.{removal, local_removal}
+use Rattle.jr_model.specs.References.{removal, local_removal}
 use Rattle.jr_scripts.specs.Table.{IsOnly}
 use Rattle.jr_scripts.specs.Reading.{local_answer}
 use Rattle.jr_scripts.specs.Performing.{Performed, Calls}

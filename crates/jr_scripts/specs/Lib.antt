@@ -1,6 +1,5 @@
 pub mod Performing
 pub mod Reading
-pub mod Works
 pub mod Table
 pub mod Places
 pub mod Ready

@@ -6,17 +6,13 @@ use Rattle.jr_word.specs.declared.handle.RefKind.{RefKind}
 use Rattle.jr_word.specs.declared.kind.Kind.{Kind}
 use Rattle.jr_model.specs.declared.event.Act.{Act}
 use Rattle.jr_model.specs.declared.event.Act.TheVariants.{Create, Probe, New}
-use Rattle.jr_model.specs.State.{Handle, State, IsPresent, IsOccupied}
+use Rattle.jr_model.specs.State.{Handle, State, EachPresent, IsOccupied}
 use Rattle.jr_model.specs.History.{PassView, Did}
 use Rattle.jr_model.specs.Refusals.{Sometime}
 use Rattle.jr_model.specs.Frames.{Frames}
 use Rattle.jr_model.specs.Calls.{Call, Ran}
 use Rattle.jr_rule.specs.declared.known.Known.{Known}
 use Rattle.jr_rule.specs.Knowing.{Standing, view, state_of, HasObject, HasOptional, Holds}
-
--- every object number of the room is present
-abbrev pub EachPresent : Config → State → Type 0
-EachPresent c s = (o : ℕ) → 1 ≤ o → o ≤ c.objects → IsPresent s o
 
 -- the same room, thread and role, whether or not the pass is fresh
 pub record IsAsBefore (old new : Standing) : Type 0 where

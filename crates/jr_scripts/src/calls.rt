@@ -5,10 +5,9 @@ ghost use Rattle.jr_model.specs.declared.event.Role.TheVariants.{Outside, Within
 ghost use Rattle.jr_model.specs.Frames.{Frames as LocalFrames};
 ghost use Rattle.jr_model.specs.Tests.{Parts};
 ghost use Rattle.jr_model.specs.References as references;
-ghost use Rattle.jr_model.specs.References.{new_local};
+ghost use Rattle.jr_model.specs.References.{new_local, creation, local_creation, comparison, making, removal, local_removal};
 ghost use Rattle.jr_rule.specs.Knowing.{MayKnow, HasOptional};
 ghost use Rattle.jr_scripts.specs.Reading.{word_of, OwnerFits};
-ghost use Rattle.jr_scripts.specs.Works.{creation, local_creation, comparison, making, removal, local_removal};
 ghost use Rattle.jr_scripts.specs.Performing.{Calls, MakesLocal};
 ghost use Rattle.jr_scripts.specs.Ready.{IsReady, KeepsOwner, Completes};
 

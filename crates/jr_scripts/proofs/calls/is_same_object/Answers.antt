@@ -1,4 +1,4 @@
-use Rattle.jr_scripts.specs.Works.{comparison}
+use Rattle.jr_model.specs.References.{comparison}
 use Rattle.jr_scripts.specs.Reading.{word_of}
 use Rattle.jr_scripts.proofs.Entering.{same_owner, completes_barred, completes_entered}
 use Rattle.jr_scripts.proofs.calls.is_same_object.Goals as goal

@@ -1,4 +1,4 @@
-use Rattle.jr_scripts.specs.Works.{making}
+use Rattle.jr_model.specs.References.{making}
 use Rattle.jr_scripts.proofs.Entering.{ready_entered, completes_barred, completes_entered}
 use Rattle.jr_scripts.proofs.calls.new_plain.Goals as goal
 

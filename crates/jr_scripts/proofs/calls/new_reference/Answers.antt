@@ -1,4 +1,4 @@
-use Rattle.jr_scripts.specs.Works.{creation}
+use Rattle.jr_model.specs.References.{creation}
 use Rattle.jr_scripts.specs.Reading.{word_of}
 use Rattle.jr_scripts.proofs.Entering.{same_owner, ready_entered, completes_barred, completes_entered}
 use Rattle.jr_scripts.proofs.calls.new_reference.Goals as goal

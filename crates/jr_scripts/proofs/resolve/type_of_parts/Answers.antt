@@ -1,7 +1,7 @@
 use Rattle.std.proofs.Common.{ℕ, Ok, sym, subst}
 use Rattle.jr_model.specs.Tests.{Parts, is_out_of_bounds, is_foreign}
 use Rattle.jr_model.specs.Parts.{type_at}
-use Rattle.jr_scripts.specs.Works.{typing}
+use Rattle.jr_model.specs.References.{typing}
 use Rattle.jr_scripts.specs.Performing.{Calls}
 use Rattle.jr_scripts.proofs.Resolving.{types_some, types_remote}
 use Rattle.jr_scripts.proofs.resolve.type_of_parts.Goals as goal
