@@ -31,7 +31,11 @@ by_further j k g o h e same one r x known =
     ap (λ (z : Grasp). header_in r z.headers) e
     ∙ further g o h (λ z at. one z (ap (λ (hs : List KnownHeader). header_in o hs) (sym same) ∙ at)) r x (ap (λ (hs : List KnownHeader). header_in r hs) same ∙ known)
 
--- a publication leaves the headers
+none_known : (x : Option HeaderParts) (z h : HeaderParts) → x ≡ None → x ≡ Some z → z ≡ h
+none_known None z h none at = absurd cc
+none_known (Some y) z h none at = absurd cc
+
+-- a publication leaves the headers that were known
 published_headers : (h : HeaderParts) (g : Grasp) → (published h g).headers ≡ g.headers
 published_headers h g = go (h.length == 0)
   where
@@ -44,7 +48,7 @@ loaded j k o None s = by_grasp j k j.grasp s.1 refl
 loaded j k o (Some h) s = by_further j k j.grasp o h s.1 refl s.2
 
 stored_header : (j k : Known) (o : ℕ) (h : HeaderParts) (new : Bool) → ShowsPublished o h new j k → GoesOnKnowing j k
-stored_header j k o h true s = by_grasp j k (published h j.grasp) s.1 (published_headers h j.grasp)
+stored_header j k o h true s = by_further j k (published h j.grasp) o h s.1 (published_headers h j.grasp) (λ z at. none_known (header_in o j.grasp.headers) z h s.2 at)
 stored_header j k o h false s = by_grasp j k j.grasp s.1 refl
 
 reserved_top : (j k : Known) (looked n : ℕ) (answer : Result (Unit {0}) ℕ) → ShowsRange looked n answer j k → GoesOnKnowing j k
@@ -56,7 +60,7 @@ gained j k zero place s = by_grasp j k j.grasp s refl
 gained j k (suc n) place s = by_grasp j k (with_range j.grasp place s.0) s.2 refl
 
 given : (j k : Known) (kind : Kind) (place n : ℕ) (answer : Result ℕ Fault) → Publishes kind place n answer j k → GoesOnKnowing j k
-given j k kind place n (Ok o) s = by_grasp j k (published (header_of kind place n) j.grasp) s.1 (published_headers (header_of kind place n) j.grasp)
+given j k kind place n (Ok o) s = by_further j k (published (header_of kind place n) j.grasp) o (header_of kind place n) s.1 (published_headers (header_of kind place n) j.grasp) (λ z at. none_known (header_in o j.grasp.headers) z (header_of kind place n) s.2 at)
 given j k kind place n (Err e) s = by_grasp j k j.grasp s refl
 
 learned : (j k : Known) (o : ℕ) (h : HeaderParts) → Learns o h j k → GoesOnKnowing j k

@@ -1,5 +1,5 @@
 -- Objects are published at the first absent number that a look comes to.
-use Rattle.std.proofs.Common.{◌≡◌, ◌≤◌, ◌<◌, ◌+◌, ◌⊎◌, ⊎_elim, ℕ, true, false, Some, length, List, [], ◌∷◌, ◌++◌, Ok, Err, inl, inr, refl, sym, ap, subst, ◌∙◌, arith}
+use Rattle.std.proofs.Common.{◌≡◌, ◌≤◌, ◌<◌, ◌+◌, ◌⊎◌, ⊎_elim, ℕ, Bool, true, false, cond, Some, None, length, List, [], ◌∷◌, ◌++◌, Ok, Err, inl, inr, refl, sym, ap, subst, ◌∙◌, arith}
 use mathlib.Core.Logic.{∥∥₁_map}
 use Rattle.jr_word.specs.declared.fault.Fault.TheVariants.{ObjectsFull}
 use Rattle.jr_word.specs.declared.header.HeaderParts.{HeaderParts}
@@ -9,16 +9,17 @@ use Rattle.jr_model.specs.declared.event.Act.TheVariants.{New}
 use Rattle.jr_model.specs.State.{State, AreWords}
 use Rattle.jr_model.specs.History.{by, state, role_of, Did}
 use Rattle.jr_model.specs.Parts.{publish}
-use Rattle.jr_model.proofs.Updates.{at_number_self}
+use Rattle.jr_model.proofs.Updates.{at_number_self, eq_self}
 use Rattle.jr_model.proofs.Histories.{state_push}
 use Rattle.jr_model.proofs.Moments.{sometime_last}
 use Rattle.jr_model.proofs.Stays.{did_then, did_nothing}
 use Rattle.jr_rule.specs.declared.known.Known.{Known}
 use Rattle.jr_rule.specs.declared.known.Grasp.{Grasp}
 use Rattle.jr_rule.specs.Acts.{publishing}
-use Rattle.jr_rule.specs.Knowing.{Standing, IsOf, MayKnow, Goes, view, state_of, words_for, published, HasObject, IsFilled, ShowsPublished, TookWith}
+use Rattle.jr_rule.specs.Grasping.{header_in, with_header}
+use Rattle.jr_rule.specs.Knowing.{Standing, IsOf, MayKnow, Goes, view, state_of, words_for, published, HasObject, KnowsHeader, IsFilled, ShowsPublished, TookWith}
 use Rattle.jr_rule.proofs.Goes.{goes_did}
-use Rattle.jr_heap.specs.Heap.{Called, number_of}
+use Rattle.jr_heap.specs.Heap.{Called, HoldsHeader, number_of}
 use Rattle.jr_heap.proofs.Calling.{called_by}
 use Rattle.jr_heap.proofs.Staying.{present_later, word_later}
 use Rattle.jr_heap.proofs.Turns.{turn_of}
@@ -38,6 +39,11 @@ module _ {S : Type 0} (stands : S → Standing) (knows : S → Known → Type 0)
     pub stands_is : stands new ≡ stands old
     pub did : (k : Known) → knows old k → IsFilled h k
         → (k' : Known) × knows new k' × IsFilled h k' × (k'.grasp ≡ k.grasp) × ((t : ℕ) → t < n → HasObject (number_of first t objects) k') × Did (view k) (view k') []
+
+-- an exchange of a header that is named otherwise
+pub tried : {S : Type 0} {stands : S → Standing} {knows : S → Known → Type 0} {b c : S} (o : ℕ) (new : Bool) (h z : HeaderParts) → z ≡ h
+    → TookWith stands knows b c (λ k. publishing o z.kind (words_for z k) new) (IsFilled z) (ShowsPublished o z new) → TookWith stands knows b c (λ k. publishing o h.kind (words_for h k) new) (IsFilled h) (ShowsPublished o h new)
+tried {stands = stands} {knows = knows} {b = b} {c = c} o new h z is t = subst (λ (y : HeaderParts). TookWith stands knows b c (λ k. publishing o y.kind (words_for y k) new) (IsFilled y) (ShowsPublished o y new)) is t
 
 -- a range that is ready stays so
 filled_later : (h : HeaderParts) (k k' : Known) → Did (view k) (view k') [] → role_of (view k) ≡ Within → k'.grasp ≡ k.grasp → IsFilled h k → IsFilled h k'
@@ -68,17 +74,25 @@ module _ {S : Type 0} {stands : S → Standing} {knows : S → Known → Type 0}
   }
 
   pub passed_new : {a b c : S} {n : ℕ} (o : ℕ) → Passed stands knows h first objects a b n → TookWith stands knows b c (λ k. publishing o h.kind (words_for h k) true) (IsFilled h) (ShowsPublished o h true)
-      → Called knows a c (IsFilled h) (λ j k. publish h.kind (words_for h j)) (Ok o) (λ j k. ((state_of k).objects o ≡ Some (record { kind = h.kind; words = words_for h j })) × (k.grasp ≡ published h j.grasp))
+      → Called knows a c (IsFilled h) (λ j k. publish h.kind (words_for h j)) (Ok o) (λ j k. ((state_of k).objects o ≡ Some (record { kind = h.kind; words = words_for h j })) × (k.grasp ≡ with_header (published h j.grasp) o h) × (header_in o j.grasp.headers ≡ None))
   passed_new o p t = called_by (λ k s m.
       let x = p.did k s m in
       let y = t.goes x.0 x.1 x.2 in
       let same : words_for h x.0 ≡ words_for h k = ap (λ (g : Grasp). words_for h (record k { grasp = g })) x.3 in
       let d : Did (view k) (view y.0) (New o h.kind (words_for h k) ∷ []) = subst (λ ws. Did (view k) (view y.0) (New o h.kind ws ∷ [])) same (did_then [] (New o h.kind (words_for h x.0) ∷ []) x.5 (goes_did y.2)) in
       let there : (state_of y.0).objects o ≡ Some (record { kind = h.kind; words = words_for h k }) = new_stands x.0 y.0 o h.kind (words_for h x.0) y.2 ∙ ap (λ ws. Some (record { kind = h.kind; words = ws })) same in
-      (y.0, y.1, New o h.kind (words_for h k) ∷ [], record { did = d; is = λ f. inl (o, refl, refl, refl); grounds = tt; shows = (there, y.3.1 ∙ ap (λ g. published h g) x.3) }))
+      (y.0, y.1, New o h.kind (words_for h k) ∷ [], record { did = d; is = λ f. inl (o, refl, refl, refl); grounds = tt; shows = (there, y.3.1 ∙ ap (λ g. with_header (published h g) o h) x.3, subst (λ (g : Grasp). header_in o g.headers ≡ None) x.3 y.3.2) }))
 
   pub passed_present : {a b c : S} {n : ℕ} (o : ℕ) → MayKnow knows a (IsFilled h) → Passed stands knows h first objects a b n → TookWith stands knows b c (λ k. publishing o h.kind (words_for h k) true) (IsFilled h) (ShowsPublished o h true) → MayKnow knows c (HasObject o)
   passed_present o may p t = ∥∥₁_map may (λ k. let x = p.did k.0 k.1 k.2 in let y = t.goes x.0 x.1 x.2 in (y.0, y.1, y.3.0))
+
+  -- the pass knows the header of what it published
+  pub passed_held : {a b c : S} {n : ℕ} (o : ℕ) → MayKnow knows a (IsFilled h) → Passed stands knows h first objects a b n → TookWith stands knows b c (λ k. publishing o h.kind (words_for h k) true) (IsFilled h) (ShowsPublished o h true) → MayKnow knows c (HoldsHeader o h)
+  passed_held o may p t = ∥∥₁_map may (λ k.
+      let x = p.did k.0 k.1 k.2 in
+      let y = t.goes x.0 x.1 x.2 in
+      let known : KnowsHeader o h y.0 = ap (λ (g : Grasp). header_in o g.headers) y.3.1 ∙ ap (λ b. cond b (Some h) (header_in o (published h x.0.grasp).headers)) (eq_self o) in
+      (y.0, y.1, record { known = known; shown = record { contents = record { kind = h.kind; words = words_for h x.0 }; is = new_stands x.0 y.0 o h.kind (words_for h x.0) y.2; kind = refl; long = (x.2).long } }))
 
   pub passed_ready : {a b : S} {n : ℕ} → MayKnow knows a (IsFilled h) → Passed stands knows h first objects a b n → MayKnow knows b (IsFilled h)
   passed_ready may p = ∥∥₁_map may (λ k. let x = p.did k.0 k.1 k.2 in (x.0, x.1, x.2))

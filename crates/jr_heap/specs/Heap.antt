@@ -1,5 +1,5 @@
 -- What the calls of the heap do, for whatever was known.
-use Rattle.std.specs.Prelude.{◌≡◌, ◌≢◌, ◌⊎◌, ◌==◌, ◌+◌, ◌-◌, ℕ, zero, suc, nat_lt, cond, Result, Ok, Err, IfOk, Some, List, [], length, replicate}
+use Rattle.std.specs.Prelude.{◌≡◌, ◌≢◌, ◌⊎◌, ◌==◌, ◌+◌, ◌-◌, ℕ, zero, suc, nat_lt, cond, Result, Ok, Err, IfOk, Some, None, List, [], length, replicate}
 use Rattle.jr_word.specs.declared.fault.Fault.{Fault}
 use Rattle.jr_word.specs.declared.header.HeaderParts.{HeaderParts}
 use Rattle.jr_word.specs.declared.kind.Kind.{Kind}
@@ -56,9 +56,9 @@ pub record Fills (place n v : ℕ) (j k : Known) : Type 0 where
 abbrev pub number_of : ℕ → ℕ → ℕ → ℕ
 number_of first turn objects = cond (nat_lt (first + turn) objects) (first + turn + 1) (first + turn - objects + 1)
 
--- what a publication shows: the object has the words of the range, which is the pass's own no more; and a refused one takes nothing from the pass
+-- what a publication shows: the object has the words of the range, which is the pass's own no more, and its header, of an object of which the pass knew none, is known from now on; and a refused one takes nothing from the pass
 abbrev pub Publishes : Kind → ℕ → ℕ → Result ℕ Fault → Known → Known → Type 0
-Publishes kind place n (Ok o) j k = ((state_of k).objects o ≡ Some (record { kind = kind; words = words_of place n j })) × (k.grasp ≡ published (header_of kind place n) j.grasp)
+Publishes kind place n (Ok o) j k = ((state_of k).objects o ≡ Some (record { kind = kind; words = words_of place n j })) × (k.grasp ≡ with_header (published (header_of kind place n) j.grasp) o (header_of kind place n)) × (header_in o j.grasp.headers ≡ None)
 Publishes kind place n (Err e) j k = keeps j k
 
 -- the pass knows the header, and the present object has its kind and length

@@ -4,7 +4,7 @@ ghost use Rattle.jr_word.specs.declared.kind.Kind.TheVariants.{Plain};
 ghost use Rattle.jr_model.specs.declared.event.Role.TheVariants.{Within};
 ghost use Rattle.jr_model.specs.Parts.{publish as publication, header as header_call};
 ghost use Rattle.jr_rule.specs.Knowing.{state_of, HasObject, MayKnow};
-ghost use Rattle.jr_heap.specs.Heap.{Called, number_of, words_of, IsReady, Publishes, HoldsHeader, Learns};
+ghost use Rattle.jr_heap.specs.Heap.{Called, header_of, number_of, words_of, IsReady, Publishes, HoldsHeader, Learns};
 ghost use Rattle.jr_heap.specs.Ranges.{place_of, size_of};
 
 use crate::range::Range;
@@ -47,7 +47,7 @@ fn number(first: u32, turn: u32, objects: u32) -> u16
     (next - objects + 1) as u16
 }
 
-/// A new object, whose elements are the words of a range of the pass's own, which it gives away: E11 where every number is present, and then its words stay reserved. A plain object has none.
+/// A new object, whose elements are the words of a range of the pass's own, which it gives away; its header holds until the pass leaves. E11 where every number is present, and then its words stay reserved. A plain object has none.
 pub fn publish<S: Steps>(
     steps: &mut S,
     numbers: &mut Numbers,
@@ -60,12 +60,9 @@ pub fn publish<S: Steps>(
     ensures stands { S.stands steps.new ≡ S.stands steps.old }
     ensures call { Called S.knows steps.old steps.new (IsReady kind (place_of range) (size_of range)) (λ j k. publication kind (words_of (place_of range) (size_of range) j)) result (Publishes kind (place_of range) (size_of range) result) }
     ensures object { IfOk result (λ o. MayKnow S.knows steps.new (HasObject o)) }
+    ensures known { IfOk result (λ o. MayKnow S.knows steps.new (HoldsHeader o (header_of kind (place_of range) (size_of range)))) }
 {
-    let header = HeaderParts {
-        kind,
-        length: range.length,
-        place: range.place,
-    };
+    let header = range.header(kind);
     let objects = steps.config().objects;
     let first = numbers.first(objects);
     for turn in 0..objects {

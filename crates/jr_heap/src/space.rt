@@ -1,15 +1,14 @@
 //! Array space: reserved, and filled before it is published, over any steps.
 ghost use Rattle.std.specs.Prelude.{◌≡◌, IfOk, IfErr, Ok, Err};
-ghost use Rattle.jr_word.specs.declared.kind.Kind.{Kind};
 ghost use Rattle.jr_model.specs.declared.event.Role.TheVariants.{Within};
 ghost use Rattle.jr_model.specs.Parts.{reserve as reservation};
 ghost use Rattle.jr_rule.specs.Knowing.{anything, keeps, IsWordNow, MayKnow};
-ghost use Rattle.jr_heap.specs.Heap.{Called, IsOwn, IsReady, Gains, Fills, no_act};
+ghost use Rattle.jr_heap.specs.Heap.{Called, header_of, IsOwn, IsReady, Gains, Fills, no_act};
 ghost use Rattle.jr_heap.specs.Ranges.{place_of, size_of};
 
 use crate::range::Range;
 use jr_rule::{Steps, TopNaming};
-use jr_word::Fault;
+use jr_word::{Fault, HeaderParts, Kind};
 
 impl Range {
     /// How many words it has.
@@ -17,6 +16,17 @@ impl Range {
         ensures { result ≡ size_of self.now }
     {
         self.length
+    }
+
+    /// The header of an object of the kind whose elements are its words.
+    pub fn header(&self, kind: Kind) -> HeaderParts
+        ensures { result ≡ header_of kind (place_of self.now) (size_of self.now) }
+    {
+        HeaderParts {
+            kind,
+            length: self.length,
+            place: self.place,
+        }
     }
 }
 

@@ -8,14 +8,14 @@ use Rattle.jr_model.specs.Maps.{update}
 use Rattle.jr_model.specs.State.{Contents, State, length_of, present_words}
 use Rattle.jr_rule.specs.declared.known.Grasp.{Grasp}
 use Rattle.jr_rule.specs.declared.known.Move.{Move}
-use Rattle.jr_rule.specs.Grasping.{words_at, header_in, with_range, hold}
+use Rattle.jr_rule.specs.Grasping.{words_at, header_in, with_range, with_header, hold}
 use Rattle.jr_rule.specs.Image.{header_at, of_object, Stands, spot, IsIn, IsHeaderOf, IsKnown, IsSpace, IsImage}
 use Rattle.jr_rule.specs.Knowing.{published}
 use Rattle.jr_rule.proofs.Counting.{lists_fit}
 use Rattle.jr_rule.proofs.Headers.{header_positive}
-use Rattle.jr_rule.proofs.HeapSpaces.{object_below, range_below, space_empty, space_published}
+use Rattle.jr_rule.proofs.HeapSpaces.{object_below, range_below, at_header, space_empty, space_published, space_known}
 use Rattle.jr_model.proofs.InRoom.{IsInRoom}
-use Rattle.jr_rule.proofs.Spaces.{hold_same, space_same}
+use Rattle.jr_rule.proofs.Spaces.{hold_here, hold_same, hold_again, space_same}
 
 -- the object whose header is known
 pub record IsThere (c : Config) (words : List ℕ) (s : State) (held : ℕ → Grasp) (moving : Option Move) (space : IsSpace c words s.objects (IsIn s.used) moving held) (o : ℕ) (h : HeaderParts) : Type 0 where
@@ -83,12 +83,34 @@ module _ (c : Config) (last : ℕ) (words : List ℕ) (s : State) (held : ℕ �
       go true = omega arith
       go false = range_fits still room t h.place
 
-  -- the space once an object has its header, with elements or without
-  pub space_headed : image.moving ≡ None → (t o : ℕ) (h : HeaderParts) → 1 ≤ o → o ≤ c.objects → IsHeader h → get_or words (header_at c o) 0 ≡ 0
-      → IsSpace c (slice_set words (header_at c o) (header_word h)) (update nat_eq s.objects o (Some (record { kind = h.kind; words = given_words h (held t) }))) (IsIn s.used) image.moving (hold held t (published h (held t)))
-  space_headed still t o h low high fits none = go (h.length == 0)
+  -- a header that is 0 is known to nobody
+  pub none_known : (t o : ℕ) (g : Grasp) → held t ≡ g → get_or words (header_at c o) 0 ≡ 0 → header_in o g.headers ≡ None
+  none_known t o g own none = go (header_in o g.headers) refl
     where
-      go : (b : Bool) → IsSpace c (slice_set words (header_at c o) (header_word h)) (update nat_eq s.objects o (Some (record { kind = h.kind; words = cond b [] (words_at h.place (held t).ranges) }))) (IsIn s.used) image.moving (hold held t (cond b (held t) (with_range (held t) h.place [])))
-      go true = space_same c (slice_set words (header_at c o) (header_word h)) (update nat_eq s.objects o (Some (record { kind = h.kind; words = [] }))) (IsIn s.used) image.moving held
+      go : (z : Option HeaderParts) → header_in o g.headers ≡ z → z ≡ None
+      go None e = refl
+      go (Some h) e =
+          let is = image.space.header t o h (subst (λ (y : Grasp). header_in o y.headers ≡ Some h) (sym own) e) in
+          let p = header_positive h in let w = is.word in absurd (omega arith)
+
+  -- the space once an object has its header, with elements or without, and the thread knows it
+  pub space_headed : image.moving ≡ None → (t o : ℕ) (h : HeaderParts) → 1 ≤ o → o ≤ c.objects → IsHeader h → get_or words (header_at c o) 0 ≡ 0
+      → IsSpace c (slice_set words (header_at c o) (header_word h)) (update nat_eq s.objects o (Some (record { kind = h.kind; words = given_words h (held t) }))) (IsIn s.used) image.moving (hold held t (with_header (published h (held t)) o h))
+  space_headed still t o h low high fits none =
+      space_same c words' objects' (IsIn s.used) image.moving (hold held' t (with_header (held' t) o h)) (space_known c words' objects' (IsIn s.used) image.moving held' (go (h.length == 0)) t o h (record { number = (low, high); fits = fits; word = at_header c words s.objects (IsIn s.used) image.moving held image.space o h h.kind low high fits image.wide none }))
+      (hold held t (with_header (published h (held t)) o h))
+      (hold_again held t (published h (held t)) (with_header (published h (held t)) o h) (with_header (held' t) o h) (ap (λ z. with_header z o h) (hold_here held t (published h (held t)))))
+    where
+      words' : List ℕ
+      words' = slice_set words (header_at c o) (header_word h)
+
+      objects' : ℕ → Option Contents
+      objects' = update nat_eq s.objects o (Some (record { kind = h.kind; words = given_words h (held t) }))
+
+      held' : ℕ → Grasp
+      held' = hold held t (published h (held t))
+
+      go : (b : Bool) → IsSpace c words' (update nat_eq s.objects o (Some (record { kind = h.kind; words = cond b [] (words_at h.place (held t).ranges) }))) (IsIn s.used) image.moving (hold held t (cond b (held t) (with_range (held t) h.place [])))
+      go true = space_same c words' (update nat_eq s.objects o (Some (record { kind = h.kind; words = [] }))) (IsIn s.used) image.moving held
           (space_empty c words s.objects (IsIn s.used) image.moving held image.space o h h.kind low high fits image.wide none) (hold held t (held t)) (hold_same held t (held t) refl)
       go false = space_published c words s.objects (IsIn s.used) image.moving held image.space o h h.kind low high fits image.wide none t still

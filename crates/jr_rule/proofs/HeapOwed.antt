@@ -34,7 +34,7 @@ use Rattle.jr_rule.specs.Image.{top_at, header_at, element_at, IsIn, IsHeaderOf,
 use Rattle.jr_rule.specs.Knowing.{view, state_of, KnowsHeader, HasWord, IsWordNow, IsFilled, words_for, published, fresh_from, ShowsPublished}
 use Rattle.jr_rule.specs.Rule.{Makes, Owes}
 use Rattle.jr_rule.proofs.Found.{role_at, present_now}
-use Rattle.jr_rule.proofs.HeapImages.{one_header}
+use Rattle.jr_rule.proofs.HeapImages.{one_header, none_known}
 use Rattle.jr_rule.proofs.HeapTurns.{sees_there, reserves, publishes_own, reads, writes, puts_own as stores_own}
 use Rattle.jr_rule.proofs.Headers.{header_some, header_positive}
 use Rattle.jr_rule.proofs.HeapSpaces.{elements_from, elements_length, none_beyond}
@@ -188,9 +188,9 @@ module _ (k : Known) (within : role_of (view k) ≡ Within) where
       wins : n ≡ 0 → Makes k log (slice_set words (header_at c o) word) held (Published o h k n)
       wins none =
           let turn = publishes_own c k.last log k.thread words f.legal held f.image f.fits.row (role_at k log words held f ∙ within) k.grasp f.fits.grasp o h low high good long are none in
-          gaining k log (slice_set words (header_at c o) word) held (Published o h k n) (New o h.kind ws ∷ []) (published h k.grasp)
-          (renamed k log words (hold held k.thread (published h k.grasp)) (header_at c o) (header_word h) word (won 0 (header_word h) n none) turn) (
-            λ e. (refl, refl),
+          gaining k log (slice_set words (header_at c o) word) held (Published o h k n) (New o h.kind ws ∷ []) (with_header (published h k.grasp) o h)
+          (renamed k log words (hold held k.thread (with_header (published h k.grasp) o h)) (header_at c o) (header_word h) word (won 0 (header_word h) n none) turn) (
+            λ e. (refl, refl, none_known c k.last words s held f.image k.thread o k.grasp f.fits.grasp none),
             λ ne. absurd (ne none),
             subst (λ z. IsPresent z o) (sym (state_push log (by k.thread (New o h.kind ws)))) (subst IsSome (sym (at_number_self s.objects o (Some (record { kind = h.kind; words = ws })))) refl),
           )
@@ -223,5 +223,5 @@ published_acts o h k n acts k' says = dite (ℕ_discrete n 0)
 -- what it shows
 pub published_shows : (o : ℕ) (h : HeaderParts) (k : Known) (n : ℕ) (acts : List Act) (k' : Known) → Published o h k n acts k' → ShowsPublished o h (n == 0) k k'
 published_shows o h k n acts k' says = dite (ℕ_discrete n 0)
-    (λ e. subst (λ b. ShowsPublished o h b k k') (sym (eq-eqb n 0 e)) (says.2, (says.0 e).1))
+    (λ e. subst (λ b. ShowsPublished o h b k k') (sym (eq-eqb n 0 e)) (says.2, (says.0 e).1, (says.0 e).2))
     (λ ne. subst (λ b. ShowsPublished o h b k k') (sym (ne_eqb n 0 ne)) (says.2, (says.1 ne).1))

@@ -233,7 +233,7 @@ module _ (c : Config) (words : List ℕ) (objects : ℕ → Option Contents) (ar
     abbrev headed : List ℕ
     headed = slice_set words (header_at c o) (header_word h)
 
-    at_header : get_or headed (header_at c o) 0 ≡ header_word h
+    pub at_header : get_or headed (header_at c o) 0 ≡ header_word h
     at_header = get_or-set_same words (header_at c o) (header_word h) 0 (omega arith)
 
     other_header : (r : ℕ) → 1 ≤ r → r ≢ o → get_or headed (header_at c r) 0 ≡ get_or words (header_at c r) 0

@@ -68,14 +68,14 @@ module _ (c : Config) (last : ℕ) (log : History) (t : ℕ) (words : List ℕ) 
       (turn_one c last log t (slice_set words top_at w) (hold held t (with_range (held t) now.used ws)) legal (Reserve n) (row, (within, room))
       (top_set c last words now held image w (now.used + n) image.moving (hold held t (with_range (held t) now.used ws)) (holds (with_range (held t) now.used ws) refl) top (space_reserved c words now.objects (IsIn now.used) image.moving held image.space t now.used n w (IsIn (now.used + n)) (λ x l. omega arith) (λ x a b. b) (λ x a b l. absurd (omega arith)))))
 
-  -- a header for an object that is not present, whose elements are the thread's own range at its place
+  -- a header for an object that is not present, whose elements are the thread's own range at its place; it is known from now on
   pub publishes_own : (o : ℕ) (h : HeaderParts) → 1 ≤ o → o ≤ c.objects → IsHeader h → length (given_words h g) ≡ h.length → AreWords now h.kind (given_words h g) → get_or words (header_at c o) 0 ≡ 0
-      → Turn c last log t (New o h.kind (given_words h g) ∷ []) (slice_set words (header_at c o) (header_word h)) (hold held t (published h g))
+      → Turn c last log t (New o h.kind (given_words h g) ∷ []) (slice_set words (header_at c o) (header_word h)) (hold held t (with_header (published h g) o h))
   publishes_own o h low high fits long good none =
       let room = given_fit c last words now held image unmoved (in_room c last log legal) (lengths_fit c last log legal).0 t h in
-      publishes c last log t words legal held image row within o h (given_words h g) image.moving (hold held t (published h g)) (subst (λ (z : Grasp). AreHeld now.role image.moving (hold held t (published h z))) is (holds (published h (held t)) (published_moves h (held t)))) low high fits (sym long) good
+      publishes c last log t words legal held image row within o h (given_words h g) image.moving (hold held t (with_header (published h g) o h)) (subst (λ (z : Grasp). AreHeld now.role image.moving (hold held t (with_header (published h z) o h))) is (holds (with_header (published h (held t)) o h) (published_moves h (held t)))) low high fits (sym long) good
       (subst (λ (z : Grasp). present_words c now + length (given_words h z) ≤ now.used) is room) none
-      (subst (λ (z : Grasp). IsSpace c (slice_set words (header_at c o) (header_word h)) (update nat_eq now.objects o (Some (record { kind = h.kind; words = given_words h z }))) (IsIn now.used) image.moving (hold held t (published h z))) is
+      (subst (λ (z : Grasp). IsSpace c (slice_set words (header_at c o) (header_word h)) (update nat_eq now.objects o (Some (record { kind = h.kind; words = given_words h z }))) (IsIn now.used) image.moving (hold held t (with_header (published h z) o h))) is
       (space_headed c last words now held image unmoved t o h low high fits none))
 
   -- a header that the thread knows is so

@@ -29,7 +29,7 @@ use Rattle.jr_rule.specs.Knowing.{Standing, moved, MayKnow, anything, keeps, Kno
 use Rattle.jr_rule.specs.Plain.{alone, standing, Shows}
 use Rattle.jr_rule.proofs.Effects.{publishing_role, publishing_fresh, top_named_role, top_named_fresh}
 use Rattle.jr_rule.proofs.Headers.{header_some}
-use Rattle.jr_rule.proofs.HeapImages.{there, one_header}
+use Rattle.jr_rule.proofs.HeapImages.{there, one_header, none_known}
 use Rattle.jr_rule.proofs.HeapSpaces.{elements_from, elements_length, none_beyond}
 use Rattle.jr_rule.proofs.HeapTurns.{sees_there, reserves, publishes_own, known_below, own_below, reads, writes, puts_own}
 use Rattle.jr_rule.proofs.Images.{image_same}
@@ -91,13 +91,14 @@ module _ (config : Config) (last : ℕ) (few : IsFew config last) (role : Role) 
       turn = λ k s m.
           let a = New o h.kind (words_for h k) in
           let t = publishes_own k.config k.last k.seen k.thread words s.pass.legal (alone k.grasp) s.image (row k s) (s.pass.role ∙ within) k.grasp (own k s) o h number.0 (in_room k s) fits m.long m.words (word_is k s ∙ found) in (
-            published h k.grasp,
-            turn_alone k (a ∷ []) (slice_set words at n) (published h k.grasp) k.thread s.pass.thread
-                (subst (λ (z : ℕ × ℕ). Turn k.config k.last k.seen k.thread (a ∷ []) (slice_set words z.0 z.1) (hold (alone k.grasp) k.thread (published h k.grasp))) (λ i. (header_is k s i, sym is i)) t),
+            with_header (published h k.grasp) o h,
+            turn_alone k (a ∷ []) (slice_set words at n) (with_header (published h k.grasp) o h) k.thread s.pass.thread
+                (subst (λ (z : ℕ × ℕ). Turn k.config k.last k.seen k.thread (a ∷ []) (slice_set words z.0 z.1) (hold (alone k.grasp) k.thread (with_header (published h k.grasp) o h))) (λ i. (header_is k s i, sym is i)) t),
             (
               subst (λ (z : State). IsPresent z o) (sym (state_push k.seen (by k.thread a)))
                   (subst (λ (x : Option Contents). IsSome x) (sym (at_number_self (state k.seen).objects o (Some (record { kind = h.kind; words = words_for h k })))) refl),
               refl,
+              none_known k.config k.last words (state k.seen) (alone k.grasp) s.image k.thread o k.grasp (own k s) (word_is k s ∙ found),
             ),
           );
     }

@@ -47,6 +47,12 @@ hold_same held t g is u = dite (ℕ_discrete u t)
     (λ e. ap (hold held t g) e ∙ (hold_here held t g ∙ (sym is ∙ ap held (sym e))))
     (λ ne. hold_else held t u g ne)
 
+-- a thread that held something else in between
+pub hold_again : (held : ℕ → Grasp) (t : ℕ) (g y z : Grasp) → z ≡ y → (u : ℕ) → hold held t y u ≡ hold (hold held t g) t z u
+hold_again held t g y z is u = dite (ℕ_discrete u t)
+    (λ e. ap (hold held t y) e ∙ (hold_here held t y ∙ (sym is ∙ (sym (hold_here (hold held t g) t z) ∙ ap (hold (hold held t g) t z) (sym e)))))
+    (λ ne. hold_else held t u y ne ∙ (sym (hold_else held t u g ne) ∙ sym (hold_else (hold held t g) t u z ne)))
+
 module _ (c : Config) (words : List ℕ) (objects : ℕ → Option Contents) (area : ℕ → Type 0) (moving : Option Move) (held : ℕ → Grasp) (s : IsSpace c words objects area moving held) where
   -- who holds the same
   pub space_same : (held' : ℕ → Grasp) → ((u : ℕ) → held' u ≡ held u) → IsSpace c words objects area moving held'

@@ -18,6 +18,7 @@ use Rattle.jr_rule.specs.declared.known.Known.{Known}
 use Rattle.jr_rule.specs.declared.naming.GateNaming.{GateNaming}
 use Rattle.jr_rule.specs.declared.naming.SlotNaming.{SlotNaming}
 use Rattle.jr_rule.specs.Acts.{entered_as, leaving, all_counted, gate_named, slot_named, claiming, freeing, putting, publishing, top_named, reserving}
+use Rattle.jr_rule.specs.Grasping.{header_in, with_header}
 use Rattle.jr_rule.specs.Knowing.{view, keeps, lets_go, words_for, published, ShowsHeader, ShowsUsed, ShowsRange, ShowsWord, HasObject, IsFreeSlot, ShowsGate, ShowsSlot, LostClaim}
 
 -- what is told of the number found, where its word has these parts
@@ -60,7 +61,7 @@ Put p o k n acts k' = (acts ≡ putting p o ∷ []) × keeps k k'
 -- a header that was found 0 is the object's, with the words of the pass's own range
 abbrev pub Published : ℕ → HeaderParts → Told
 Published o h k n acts k' =
-    (n ≡ 0 → (acts ≡ publishing o h.kind (words_for h k) true) × (k'.grasp ≡ published h k.grasp))
+    (n ≡ 0 → (acts ≡ publishing o h.kind (words_for h k) true) × (k'.grasp ≡ with_header (published h k.grasp) o h) × (header_in o k.grasp.headers ≡ None))
     × (n ≢ 0 → (acts ≡ publishing o h.kind (words_for h k) false) × keeps k k')
     × HasObject o k'
 

@@ -181,9 +181,9 @@ ShowsRange looked n (Err found) k k' = keeps k k'
 abbrev pub ShowsWord : ℕ → ℕ → ℕ → Known → Known → Type 0
 ShowsWord place i v k k' = k'.grasp ≡ with_range k.grasp place (slice_set (words_at place k.grasp.ranges) i v)
 
--- what an exchange of a header shows: the object is present, and the range is no more the pass's own where it is new
+-- WHAT AN EXCHANGE OF A HEADER SHOWS: the object is present; and where it is new, the range is no more the pass's own, and the header, of an object of which the pass knew none, is known from now on
 abbrev pub ShowsPublished : ℕ → HeaderParts → Bool → Known → Known → Type 0
-ShowsPublished o h true k k' = HasObject o k' × (k'.grasp ≡ published h k.grasp)
+ShowsPublished o h true k k' = HasObject o k' × (k'.grasp ≡ with_header (published h k.grasp) o h) × (header_in o k.grasp.headers ≡ None)
 ShowsPublished o h false k k' = HasObject o k' × keeps k k'
 
 -- no present object array names an absent object
