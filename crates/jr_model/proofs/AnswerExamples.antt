@@ -1,14 +1,20 @@
 -- The examples of calls.
-use Rattle.std.proofs.Common.{◌≡◌, ℕ, Ok, None, [], ◌∷◌, ◌++◌, inl, inr, refl, ap, ◌∙◌}
+use Rattle.std.proofs.Common.{◌≡◌, ℕ, not, nat_le, Result, Ok, Some, None, [], ◌∷◌, ◌++◌, inl, inr, refl, ap, ◌∙◌}
+use Rattle.jr_word.specs.declared.fault.Fault.{Fault}
 use Rattle.jr_word.specs.declared.fault.Fault.TheVariants as fault
+use Rattle.jr_word.specs.declared.kind.Kind.TheVariants.{Text}
 use Rattle.jr_model.specs.declared.event.Found.TheVariants.{Cleared}
 use Rattle.jr_model.specs.declared.event.Act.TheVariants.{Enter, Leave, Look}
 use Rattle.jr_word.specs.declared.handle.RefKind.TheVariants.{Weak}
 use Rattle.jr_model.specs.Frames.{Frames}
-use Rattle.jr_model.specs.Tests.{Parts, type_found}
-use Rattle.jr_model.specs.References.{get_object_ref_type}
+use Rattle.jr_model.specs.Tests.{Parts, is_array, is_primitive, is_text, type_found}
+use Rattle.jr_model.specs.References.{get_object_ref_type, resolved}
+use Rattle.jr_model.specs.Parts.{not_null}
+use Rattle.jr_model.specs.Calls.{Call, ◌>>=◌, ◌>>◌, done, refuse_if, with_header}
+use Rattle.jr_model.specs.declared.frames.TheConstants.{LEVELS}
+use Rattle.jr_model.specs.State.{Contents}
 use Rattle.jr_model.specs.Examples.{last_serial, w}
-use Rattle.jr_model.specs.CallExamples.{quiet_room, fresh, LengthOfNothing, TypeOfNothing, CallsOnCleared, CallsOnNull}
+use Rattle.jr_model.specs.CallExamples.{quiet_room, fresh, LengthOfNothing, TypeOfNothing, CallsOnCleared, CallsOnNull, named, never_given, with_text, SecondLevel, CopiedElements}
 
 pub length_of_nothing : LengthOfNothing
 length_of_nothing = record {
@@ -148,4 +154,35 @@ pub calls_on_null : CallsOnNull
 calls_on_null = record {
   delete = inr ([], refl, inl (tt, fresh, [], [], refl, (refl, refl, refl), inl (tt, fresh, [], [], refl, (refl, refl, refl), inl (tt, fresh, [], [], refl, (refl, refl, refl), (refl, refl, refl)))));
   pop = inr ([], refl, inr (fault.NoFrame, refl, (refl, refl, refl)));
+}
+
+pub second_level : SecondLevel
+second_level = record {
+  nested = inl (3, named, [], [], refl, found (text_level 1) (string, refl, inl (tt, named, [], [], refl, (refl, refl, refl), inl (tt, named, [], [], refl, (refl, refl, refl), (refl, refl, refl)))), (refl, refl, refl));
+  full = inr (fault.Size, refl, found (text_level 16) (string, refl, inl (tt, named, [], [], refl, (refl, refl, refl), inr (fault.Size, refl, (refl, refl, refl)))));
+  array = inr (fault.NotArray, refl, found array_level (string, refl, inr (fault.NotArray, refl, (refl, refl, refl))));
+  kind = (string, refl, (refl, refl, refl));
+  long = (string, refl, (refl, refl, refl));
+}
+  where
+    string : Contents
+    string = record { kind = Text; words = 104 ∷ 105 ∷ [] }
+
+    text_level : ℕ → ℕ → Call ℕ
+    text_level levels o = with_header with_text o (λ k n. refuse_if (not (is_text k)) fault.WrongKind >> (refuse_if (nat_le LEVELS levels) fault.Size >> done o))
+
+    array_level : ℕ → Call ℕ
+    array_level o = with_header with_text o (λ k n. refuse_if (not (is_array k)) fault.NotArray >> (refuse_if (not (is_primitive k)) fault.WrongElement >> (refuse_if (nat_le LEVELS 1) fault.Size >> done o)))
+
+    -- the reference is resolved without an act, and then this follows
+    found : {A : Type 0} {answer : Result A Fault} (next : ℕ → Call A) → next 3 named [] answer named → (resolved quiet_room last_serial 0 (Parts never_given) >>= (λ x. not_null x >>= next)) named [] answer named
+    found next is = inl (Some 3, named, [], [], refl, inl (tt, named, [], [], refl, (refl, refl, refl), inl (tt, named, [], [], refl, (refl, refl, refl), inl (tt, named, [], [], refl, (refl, refl, refl), (refl, refl, refl)))), inl (3, named, [], [], refl, (refl, refl, refl), is))
+
+pub copied_elements : CopiedElements
+copied_elements = record {
+  got = inl (tt, fresh, [], [], refl, (refl, refl, refl), (refl, refl, refl));
+  got_past = inr (fault.Range, refl, (refl, refl, refl));
+  set = inl (tt, fresh, [], [], refl, (refl, refl, refl), (refl, refl, refl));
+  set_past = inr (fault.Range, refl, (refl, refl, refl));
+  long = (refl, refl, refl);
 }

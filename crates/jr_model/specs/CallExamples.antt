@@ -1,15 +1,17 @@
 -- Worked examples of calls: the acts and the answer that they may have.
-use Rattle.std.specs.Prelude.{◌≡◌, ℕ, true, Ok, Err, None, [], ◌∷◌}
+use Rattle.std.specs.Prelude.{◌≡◌, ℕ, true, Ok, Err, Some, None, [], ◌∷◌, replicate, nat_eq}
 use Rattle.jr_word.specs.declared.config.Config.{Config}
 use Rattle.jr_word.specs.declared.handle.RefKind.TheVariants.{Local, Global, Weak}
 use Rattle.jr_word.specs.declared.fault.Fault.TheVariants as fault
+use Rattle.jr_word.specs.declared.kind.Kind.TheVariants.{Text}
 use Rattle.jr_model.specs.declared.event.Found.TheVariants.{Cleared}
 use Rattle.jr_model.specs.declared.event.Act.TheVariants.{Enter, Knock, Leave, Withdraw, Look}
-use Rattle.jr_model.specs.State.{Handle, opening}
+use Rattle.jr_model.specs.Maps.{update}
+use Rattle.jr_model.specs.State.{Handle, State, opening}
 use Rattle.jr_model.specs.Frames.{Frames, fresh_frames}
 use Rattle.jr_model.specs.Tests.{Nothing, Malformed, Parts}
 use Rattle.jr_model.specs.References.{new_reference, delete_reference, is_same_object, get_object_ref_type, pop_local_frame}
-use Rattle.jr_model.specs.Objects.{get_array_length}
+use Rattle.jr_model.specs.Objects.{get_array_length, nest_array, nest_string, region_kind, region_length, elements_get, elements_set, elements_length}
 use Rattle.jr_model.specs.Examples.{last_serial, w}
 
 -- two threads, four slots and sixteen places, where nothing was made
@@ -61,3 +63,26 @@ pub record CallsOnCleared : Type 0 where
 pub record CallsOnNull : Type 0 where
   pub delete : delete_reference quiet_room last_serial 0 Weak Nothing fresh (Enter ∷ Leave ∷ []) (Ok tt) fresh
   pub pop : pop_local_frame quiet_room last_serial 0 Nothing fresh (Enter ∷ Leave ∷ []) (Err fault.NoFrame) fresh
+
+-- a string of two units, and its local reference
+abbrev pub with_text : State
+with_text = record opening { objects = update nat_eq opening.objects 3 (Some (record { kind = Text; words = 104 ∷ 105 ∷ [] })) }
+
+abbrev pub named : Frames
+named = record { frames = (record { handle = never_given; object = 3 } ∷ []) ∷ []; given = 1 ∷ replicate 15 0 }
+
+-- a further level of a region at the string: it is number 1, has two units, and has no act; the 17th is E17, and the string is no array
+pub record SecondLevel : Type 0 where
+  pub nested : nest_string quiet_room last_serial 0 with_text (5 ∷ []) (Parts never_given) named [] (Ok (1, 5 ∷ 3 ∷ [])) named
+  pub full : nest_string quiet_room last_serial 0 with_text (replicate 16 5) (Parts never_given) named [] (Err fault.Size) named
+  pub array : nest_array quiet_room last_serial 0 with_text (5 ∷ []) (Parts never_given) named [] (Err fault.NotArray) named
+  pub kind : region_kind quiet_room last_serial 0 with_text 3 named [] (Ok Text) named
+  pub long : region_length quiet_room last_serial 0 with_text 3 named [] (Ok 2) named
+
+-- elements that were copied: read, set, counted, and E7 past the last
+pub record CopiedElements : Type 0 where
+  pub got : elements_get (7 ∷ 8 ∷ []) 1 fresh [] (Ok 8) fresh
+  pub got_past : elements_get (7 ∷ 8 ∷ []) 2 fresh [] (Err fault.Range) fresh
+  pub set : elements_set (7 ∷ 8 ∷ []) 0 9 fresh [] (Ok (9 ∷ 8 ∷ [])) fresh
+  pub set_past : elements_set (7 ∷ 8 ∷ []) 2 9 fresh [] (Err fault.Range) fresh
+  pub long : elements_length (7 ∷ 8 ∷ []) fresh [] (Ok 2) fresh

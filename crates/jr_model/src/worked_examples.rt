@@ -1,5 +1,5 @@
 //! Worked examples of the machine: each function's contract says which histories are legal, what they leave, and what may not come after them.
-ghost use Rattle.jr_model.specs.CallExamples.{LengthOfNothing, TypeOfNothing, CallsOnCleared, CallsOnNull};
+ghost use Rattle.jr_model.specs.CallExamples.{LengthOfNothing, TypeOfNothing, CallsOnCleared, CallsOnNull, SecondLevel, CopiedElements};
 ghost use Rattle.jr_model.specs.Examples.{
   DropIsLegal,
   FindingDroppedIsIllegal,
@@ -51,10 +51,12 @@ pub fn a_collection_takes_what_nothing_reaches()
     ensures reached { CollectingReachedIsIllegal }
 {}
 
-/// What calls answer where nothing was made, for a cleared weak reference, and for NULL.
+/// What calls answer where nothing was made, for a cleared weak reference, for NULL, for a further level of a region, and for copied elements.
 pub fn calls_answer_as_their_checks_say()
     ensures length { LengthOfNothing }
     ensures types { TypeOfNothing }
     ensures cleared { CallsOnCleared }
     ensures null { CallsOnNull }
+    ensures level { SecondLevel }
+    ensures copied { CopiedElements }
 {}

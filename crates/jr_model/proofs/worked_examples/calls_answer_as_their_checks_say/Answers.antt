@@ -1,4 +1,4 @@
-use Rattle.jr_model.proofs.AnswerExamples.{length_of_nothing, type_of_nothing, calls_on_cleared, calls_on_null}
+use Rattle.jr_model.proofs.AnswerExamples.{length_of_nothing, type_of_nothing, calls_on_cleared, calls_on_null, second_level, copied_elements}
 use Rattle.jr_model.proofs.worked_examples.calls_answer_as_their_checks_say.Goals as goal
 
 pub returns-clause-length : goal.returns-clause-length
@@ -12,3 +12,9 @@ returns-clause-cleared c = calls_on_cleared
 
 pub returns-clause-null : goal.returns-clause-null
 returns-clause-null c = calls_on_null
+
+pub returns-clause-level : goal.returns-clause-level
+returns-clause-level c = second_level
+
+pub returns-clause-copied : goal.returns-clause-copied
+returns-clause-copied c = copied_elements
