@@ -122,7 +122,7 @@ reserve_ok (suc n) old new acts (inr (inr (inl r))) = absurd (let bad = r.6.1 in
 reserve_ok (suc n) old new acts (inr (inr (inr r))) = absurd (let bad = r.1 in cc)
 
 module _ (c : Config) (last thread : ℕ) where
-  resolved_calm : (a : Word) → IsCalm (resolved c last thread a)
+  pub resolved_calm : (a : Word) → IsCalm (resolved c last thread a)
   resolved_calm a = bind_calm (refuse_if_calm _ _) (λ x. bind_calm (refuse_if_calm _ _) (λ y. bind_calm (refuse_if_calm _ _) (λ z. looked_calm a)))
 
   both_calm : (a b : Word) → IsCalm (resolved_both c last thread a b)
@@ -130,7 +130,7 @@ module _ (c : Config) (last thread : ℕ) where
       bind_calm (refuse_if_calm _ _) (λ x1. bind_calm (refuse_if_calm _ _) (λ x2. bind_calm (refuse_if_calm _ _) (λ x3. bind_calm (refuse_if_calm _ _) (λ x4.
       bind_calm (refuse_if_calm _ _) (λ x5. bind_calm (refuse_if_calm _ _) (λ x6. bind_calm (looked_calm a) (λ x. bind_calm (looked_calm b) (λ y. done_calm _))))))))
 
-  room_calm : (n : ℕ) → IsCalm (room_for c last thread n)
+  pub room_calm : (n : ℕ) → IsCalm (room_for c last thread n)
   room_calm n = framed_calm (λ old. refuse_if (nat_lt (free_places last old) n) LocalsFull) (λ f. refuse_if_calm (nat_lt (free_places last f) n) LocalsFull)
 
   added_never : (o : ℕ) → NeverRefuses (added c last thread o)
@@ -162,7 +162,7 @@ module _ (c : Config) (last thread : ℕ) where
   made_safe : (k : Kind) (ws : List ℕ) → ChangesNothing (made c last thread k ws)
   made_safe k ws = bind_safe (room_calm 1) (λ x. filled_safe k ws)
 
-  after_calm : (o : Option ℕ) → IsCalm (room_after c last thread o)
+  pub after_calm : (o : Option ℕ) → IsCalm (room_after c last thread o)
   after_calm None = framed_calm (λ old. done tt) (λ f. done_calm tt)
   after_calm (Some o) = framed_calm (λ old. refuse_if (free_places last (popped old) == 0) LocalsFull) (λ f. refuse_if_calm (free_places last (popped f) == 0) LocalsFull)
 

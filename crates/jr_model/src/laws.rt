@@ -2,6 +2,7 @@ ghost use Rattle.std.specs.Prelude.{ℕ};
 ghost use Rattle.jr_word.specs.declared.config.Config.{Config};
 ghost use Rattle.jr_model.specs.State.{State};
 ghost use Rattle.jr_model.specs.Grounded.{BarredByCollector, BusyIsCounted, SpaceWasFull, FreeIndexIsFound};
+ghost use Rattle.jr_model.specs.Moves.{CallsMoveFrames};
 ghost use Rattle.jr_model.specs.Unchanged.{RefusalsChangeNothing, HarmlessChangesNothing};
 ghost use Rattle.jr_model.specs.Laws.{
   CreatedIsFound,
@@ -97,6 +98,11 @@ pub fn frames_agree_with_the_machine()
     ensures sound { (last thread : ℕ) → FramesStaySound last thread }
     ensures agreed { FramesStayAgreed }
     ensures place { HandleIsAtPlace }
+{}
+
+/// Each call, whatever it answers, leads its thread's frames on by what a thread may do with frames, of which the laws of frames speak.
+pub fn calls_move_frames()
+    ensures { (c : Config) (last thread : ℕ) (s : State) → CallsMoveFrames c last thread s }
 {}
 
 /// A reference that was created is found until it is deleted.
