@@ -121,7 +121,7 @@ fn text_of_all<R: Threads + Wait>(
     script: &Script,
     turns: u64,
 ) -> Result<Vec<u8>, Fault>
-    ensures { IfOk result (λ text. IsRunOfAll turns LAST script.now text.items) }
+    ensures { IfOk result (λ text. IsRunOfAll turns 65535 script.now text.items) }
 {
     let parts = script.threads.as_slice();
     if parts.len() != script.config.threads as usize {
@@ -153,7 +153,7 @@ pub fn run_all<R: Threads + Wait>(
     turns: u64,
     out: &mut Vec<u8>,
 ) -> Result<(), Fault>
-    ensures ok { OnOk result ((text : List ℕ) × (out.new.items ≡ out.old.items ++ text) × IsRunOfAll turns LAST script.now text) }
+    ensures ok { OnOk result ((text : List ℕ) × (out.new.items ≡ out.old.items ++ text) × IsRunOfAll turns 65535 script.now text) }
     ensures err { OnErr result (out.new.items ≡ out.old.items) }
 {
     let text = text_of_all(rt, alloc, script, turns)?;

@@ -22,6 +22,6 @@ mod tests;
 mod tries;
 
 pub use all::run_all;
-pub use jr_syntax as syntax;
+pub use jr_syntax::{Reason, Script, ScriptFault, parse, print};
 pub use run::run_thread;
 pub use single::run_one;

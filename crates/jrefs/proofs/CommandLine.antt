@@ -88,7 +88,7 @@ asks_taken Run words asks = ap (takes command_line) asks ∙ run_is_taken
 asks_taken Check words asks = ap (takes command_line) asks ∙ check_is_taken
 asks_taken (Word w) words asks = ap (takes command_line) asks.2 ∙ digits_are_taken asks.0 w asks.1
 
-asks_found : (r : Request) (words : List Text) → Asks r words → asked_for words ≡ Some r
+pub asks_found : (r : Request) (words : List Text) → Asks r words → asked_for words ≡ Some r
 asks_found Run words asks = ap asked_for asks ∙ run_is_found
 asks_found Check words asks = ap asked_for asks ∙ check_is_found
 asks_found (Word w) words asks = ap asked_for asks.2 ∙ digits_are_found asks.0 w asks.1

@@ -1,5 +1,7 @@
 mod ReadBytes
+mod TakenBytes
 mod CommandLine
+mod Ending
 mod CommandCount
 mod FoundRequest
 mod HexWord

@@ -12,9 +12,11 @@ use Rattle.jr_syntax.specs.Faults.{first_fault}
 use Rattle.jrefs.specs.declared.trouble.Trouble.{Trouble}
 use Rattle.jrefs.specs.declared.trouble.Trouble.TheVariants as troubles
 use Rattle.jrefs.specs.Answer.{IsAnswer, IsRefused}
-use Rattle.jrefs.specs.Act.{IsOutput, Prevents}
+use Rattle.jrefs.specs.Act.{IsOutput, Stops}
 use Rattle.jrefs.specs.Check.{IsCheck}
 use Rattle.jrefs.specs.Describe.{Describes}
+use Rattle.jrefs.specs.Request.{AsksOfScript}
+use Rattle.jrefs.specs.declared.request.Request.{Request}
 use Rattle.jrefs.specs.declared.request.Request.TheVariants.{Run, Check, Word}
 use Rattle.jr_syntax.specs.declared.script.Script.{Script}
 use Rattle.jr_syntax.specs.Script.{IsScript, text_of}
@@ -47,13 +49,13 @@ first_fault-take bytes = by_cases (cases_lt 65536 (length bytes))
 pub take-within : (bytes : List ℕ) → length (take 65537 bytes) ≤ 65536 → take 65537 bytes ≡ bytes
 take-within bytes within = take_all 65537 bytes (omega (arith, length-take 65537 bytes, within))
 
--- what is refused of what was read prevents an output to all that was there
-pub fault_prevents : (known : Option (List ℕ)) (text : List ℕ) (t : Trouble) → IfSome known (λ bytes. text ≡ take 65537 bytes) → IsRefused text t → Prevents t known
-fault_prevents known text (troubles.Script line reason) read fault = IfSome_then known read (λ bytes e. sym (first_fault-take bytes) ∙ ap first_fault (sym e) ∙ fault)
-fault_prevents known text troubles.Memory read fault = tt
-fault_prevents known text troubles.Usage read fault = absurd fault
-fault_prevents known text troubles.Input read fault = absurd fault
-fault_prevents known text troubles.Output read fault = absurd fault
+-- what is refused of what was read stops a request for a script
+pub fault_stops : (known left : Option (List ℕ)) (r : Request) (text : List ℕ) (t : Trouble) → AsksOfScript r → IfSome known (λ bytes. text ≡ take 65537 bytes) → IsRefused text t → Stops t r known left
+fault_stops known left r text (troubles.Script line reason) asks read fault = (asks, IfSome_then known read (λ bytes e. sym (first_fault-take bytes) ∙ ap first_fault (sym e) ∙ fault))
+fault_stops known left r text troubles.Memory asks read fault = tt
+fault_stops known left r text troubles.Usage asks read fault = absurd fault
+fault_stops known left r text troubles.Input asks read fault = absurd fault
+fault_stops known left r text troubles.Output asks read fault = absurd fault
 
 -- a script that was read is all that was there
 pub script_is_all : (known : Option (List ℕ)) (s : Script) → IsScript s → IfSome known (λ bytes. text_of s ≡ take 65537 bytes) → IfSome known (λ bytes. bytes ≡ text_of s)
@@ -81,8 +83,3 @@ check_is_output known text output read checked = record {
 pub word_is_output : (known : Option (List ℕ)) (w : ℕ) (output : List ℕ) → Describes w output → IsOutput (Word w) known output
 word_is_output None w output says = record { text = []; read = tt; reply = says }
 word_is_output (Some bytes) w output says = record { text = bytes; read = refl; reply = says }
-
--- words that are refused prevent an output, whatever was there to be read
-pub words_prevent : (known : Option (List ℕ)) (t : Trouble) → (t ≡ troubles.Memory) ⊎ (t ≡ troubles.Usage) → Prevents t known
-words_prevent known t (inl e) = subst (λ (u : Trouble). Prevents u known) (sym e) tt
-words_prevent known t (inr e) = subst (λ (u : Trouble). Prevents u known) (sym e) tt

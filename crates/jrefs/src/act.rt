@@ -1,26 +1,27 @@
 //! What the program does, over any reader and writers.
 
-ghost use Rattle.std.specs.Prelude.{◌≡◌, ◌≢◌, ◌≤◌, ◌⊎◌, map, ℕ, Some, None, IfSome, IsSome, OnOk, IfOk, IfErr, IsErrAnd};
-ghost use Rattle.std.specs.Io.KnownBytes.{Appends, Keeps};
+ghost use Rattle.std.specs.Prelude.{◌≡◌, ◌≢◌, ◌⊎◌, map, ℕ, Some, None, IfSome, IsSome, IfOk, IfErr, OnOk, IsErrAnd};
+ghost use Rattle.std.specs.Io.KnownBytes.{Keeps};
 ghost use Rattle.jr_syntax.specs.Faults.{first_fault};
-ghost use Rattle.jrefs.specs.Act.{IsOutput, IsOutputFor, Prevents, Answers, AnswersWords, Leaves};
+ghost use Rattle.jrefs.specs.Act.{IsOutput, IsOutputFor, Stops, Prevents, Answers, AnswersWords, Leaves, Fails, TakesAtMost};
 ghost use Rattle.jrefs.specs.Describe.{Describes};
-ghost use Rattle.jrefs.specs.Request.{Asks, asked_for};
+ghost use Rattle.jrefs.specs.Request.{Asks, AsksOfScript, asked_for};
 ghost use Rattle.jrefs.specs.declared.request.Request.{Request as AnyRequest};
 ghost use Rattle.jrefs.specs.declared.request.Request.TheVariants.{Word};
 ghost use Rattle.jrefs.specs.Trouble.{status_of};
-ghost use Rattle.jrefs.specs.declared.trouble.Trouble.TheVariants.{Memory, Output, Usage};
+ghost use Rattle.jrefs.specs.declared.trouble.Trouble.TheVariants.{Memory, Usage};
 
 use crate::answer::answer_of;
 use crate::check::check_of;
 use crate::describe::description_of;
 use crate::input::input_of;
+use crate::output::{tell, write_out};
 use crate::request::{Request, request_of};
 use crate::trouble::Trouble;
 use std::alloc::Global;
 use std::io::{Read, Write};
 
-/// Does what the words ask for, and gives the exit status. Output is written only once all of it is there; a fault's text goes to the second writer.
+/// Does what the words ask for, and gives the exit status. Output is written only once all of it is there; a fault's line goes to the second writer.
 pub fn act<'a, R: Read + Drop, W: Write + Drop, F: Write + Drop>(
     alloc: Global,
     words: &'a [&'a str],
@@ -28,33 +29,30 @@ pub fn act<'a, R: Read + Drop, W: Write + Drop, F: Write + Drop>(
     writer: &mut W,
     faults: &mut F,
 ) -> u8
-    // Status 0: what was written answers what the words ask for.
-    ensures answered { result ≡ 0 → AnswersWords (map (λ w. w.now) words.entry.now) (R.remaining reader.old) (W.contents writer.old) (W.contents writer.new) }
+    // Status 0: what was written answers what the words ask for, and nothing is told.
+    ensures answered { result ≡ 0 → AnswersWords (map (λ w. w.now) words.entry.now) (R.remaining reader.old) (W.contents writer.old) (W.contents writer.new)
+        × Keeps (F.contents faults.old) (F.contents faults.new) }
+    // Any other status: that of a trouble. A beginning of its line is told, and nothing is written but, where a write fails, a beginning of the answer.
+    ensures failed { result ≢ 0 → Fails result (map (λ w. w.now) words.entry.now) (R.remaining reader.old) (R.remaining reader.new)
+        (W.contents writer.old) (W.contents writer.new) (F.contents faults.old) (F.contents faults.new) }
     // Each request is taken, and is answered at status 0.
     ensures taken { (r : AnyRequest) → Asks r (map (λ w. w.now) words.entry.now)
         → (result ≢ 2) × (result ≡ 0 → Answers r (R.remaining reader.old) (W.contents writer.old) (W.contents writer.new)) }
     // Words that ask for nothing are refused, unless memory runs out.
     ensures refused { asked_for (map (λ w. w.now) words.entry.now) ≡ None → (result ≡ 2) ⊎ (result ≡ 3) }
-    // Status 1: what was there to be read is no script.
-    ensures faulty { result ≡ 1 → IfSome (R.remaining reader.old) (λ text. IsSome (first_fault text)) }
-    // Nothing is written but an answer, unless a device fails.
-    ensures silent { result ≢ 0 → result ≢ 4 → Keeps (W.contents writer.old) (W.contents writer.new) }
+    // Where a text with a fault was there to be read, the status is 1, unless memory runs out or the reader fails.
+    ensures faulty { (r : AnyRequest) → Asks r (map (λ w. w.now) words.entry.now) → AsksOfScript r
+        → IfSome (R.remaining reader.old) (λ text. IsSome (first_fault text)
+        → (result ≡ 1) ⊎ (result ≡ 3) ⊎ ((result ≡ 4) × Keeps (W.contents writer.old) (W.contents writer.new))) }
+    // No more is read than a script may have, and one byte.
+    ensures reads { TakesAtMost 65537 (R.remaining reader.old) (R.remaining reader.new) }
     // A word is described without reading.
     ensures unread { (w : ℕ) → asked_for (map (λ w. w.now) words.entry.now) ≡ Some (Word w) → R.remaining reader.new ≡ R.remaining reader.old }
-    ensures known { result ≤ 4 }
 {
     match carried_out(alloc, words, reader, writer) {
         Ok(()) => 0,
         Err(trouble) => tell(&trouble, faults),
     }
-}
-
-/// Writes why the program failed, and gives its exit status, also where the writer fails.
-pub fn tell<F: Write + Drop>(trouble: &Trouble, faults: &mut F) -> u8
-    ensures { result ≡ status_of trouble.now }
-{
-    let _ = writeln!(faults, "{trouble}");
-    trouble.status()
 }
 
 /// Does what the words ask for.
@@ -66,8 +64,9 @@ fn carried_out<'a, R: Read + Drop, W: Write + Drop>(
 ) -> Result<(), Trouble>
     ensures refused { asked_for (map (λ w. w.now) words.entry.now) ≡ None → IsErrAnd result (λ t. (t ≡ Memory) ⊎ (t ≡ Usage)) }
     ensures ok { OnOk result (AnswersWords (map (λ w. w.now) words.entry.now) (R.remaining reader.old) (W.contents writer.old) (W.contents writer.new)) }
-    ensures err { IfErr result (λ t. Leaves t (R.remaining reader.old) (W.contents writer.old) (W.contents writer.new)) }
+    ensures err { IfErr result (λ t. Leaves t (map (λ w. w.now) words.entry.now) (R.remaining reader.old) (R.remaining reader.new) (W.contents writer.old) (W.contents writer.new)) }
     ensures taken { (r : AnyRequest) → Asks r (map (λ w. w.now) words.entry.now) → IfErr result (λ t. status_of t ≢ 2) }
+    ensures reads { TakesAtMost 65537 (R.remaining reader.old) (R.remaining reader.new) }
     ensures unread { (w : ℕ) → asked_for (map (λ w. w.now) words.entry.now) ≡ Some (Word w) → R.remaining reader.new ≡ R.remaining reader.old }
 {
     let output = output_of(alloc, words, reader)?;
@@ -82,8 +81,9 @@ fn output_of<'a, R: Read + Drop>(
 ) -> Result<Vec<u8>, Trouble>
     ensures refused { asked_for (map (λ w. w.now) words.entry.now) ≡ None → IsErrAnd result (λ t. (t ≡ Memory) ⊎ (t ≡ Usage)) }
     ensures ok { IfOk result (λ output. IsOutputFor (map (λ w. w.now) words.entry.now) (R.remaining reader.old) output.items) }
-    ensures err { IfErr result (λ t. Prevents t (R.remaining reader.old)) }
+    ensures err { IfErr result (λ t. Prevents t (map (λ w. w.now) words.entry.now) (R.remaining reader.old) (R.remaining reader.new)) }
     ensures taken { (r : AnyRequest) → Asks r (map (λ w. w.now) words.entry.now) → IfErr result (λ t. status_of t ≢ 2) }
+    ensures reads { TakesAtMost 65537 (R.remaining reader.old) (R.remaining reader.new) }
     ensures unread { (w : ℕ) → asked_for (map (λ w. w.now) words.entry.now) ≡ Some (Word w) → R.remaining reader.new ≡ R.remaining reader.old }
 {
     let request = request_of(alloc, words)?;
@@ -97,8 +97,8 @@ fn reply_to<R: Read + Drop>(
     reader: &mut R,
 ) -> Result<Vec<u8>, Trouble>
     ensures ok { IfOk result (λ output. IsOutput request (R.remaining reader.old) output.items) }
-    ensures err { IfErr result (λ t. Prevents t (R.remaining reader.old)) }
-    ensures taken { IfErr result (λ t. status_of t ≢ 2) }
+    ensures err { IfErr result (λ t. Stops t request (R.remaining reader.old) (R.remaining reader.new)) }
+    ensures reads { TakesAtMost 65537 (R.remaining reader.old) (R.remaining reader.new) }
     ensures unread { (w : ℕ) → request ≡ Word w → R.remaining reader.new ≡ R.remaining reader.old }
 {
     match request {
@@ -123,13 +123,4 @@ fn line_of_word(alloc: Global, word: u64) -> Result<Vec<u8>, Trouble>
         Ok(text) => Ok(text.into_bytes()),
         Err(_) => Err(Trouble::Memory),
     }
-}
-
-/// Writes all of the output.
-fn write_out<W: Write + Drop>(writer: &mut W, output: &[u8]) -> Result<(), Trouble>
-    ensures ok { OnOk result (Appends (W.contents writer.old) (W.contents writer.new) output.now) }
-    ensures err { IfErr result (λ t. t ≡ Output) }
-{
-    writer.write_all(output).map_err(|_| Trouble::Output)?;
-    writer.flush().map_err(|_| Trouble::Output)
 }

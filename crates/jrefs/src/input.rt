@@ -1,7 +1,8 @@
 //! The program's input.
 
-ghost use Rattle.std.specs.Prelude.{◌≡◌, ◌≤◌, ◌<◌, ◌++◌, ◌⊎◌, ℕ, List, length, take, IfOk, IfErr, IfSome};
-ghost use Rattle.std.specs.Io.KnownBytes.{Consumes, IsAtEnd};
+ghost use Rattle.std.specs.Prelude.{◌≡◌, ◌≤◌, ◌<◌, ◌-◌, ◌++◌, ◌⊎◌, ℕ, List, length, take, IfOk, IfErr, IfSome, OnErr};
+ghost use Rattle.std.specs.Io.KnownBytes.{Consumes, IsAtEnd, Keeps};
+ghost use Rattle.jrefs.specs.Act.{TakesAtMost};
 ghost use Rattle.jrefs.specs.declared.trouble.Trouble.TheVariants.{Memory, Input};
 
 use crate::trouble::Trouble;
@@ -22,6 +23,9 @@ fn read_piece<R: Read + Drop>(reader: &mut R, input: &mut Vec<u8>) -> Result<usi
     ensures most { IfOk result (λ n. length input.new.items ≤ MOST_INPUT) }
     ensures end { IfOk result (λ n. n ≡ 0 → IsAtEnd (R.remaining reader.new)) }
     ensures err { IfErr result (λ t. (t ≡ Memory) ⊎ (t ≡ Input)) }
+    // A read that fails takes nothing.
+    ensures failed { IfErr result (λ t. t ≡ Input → Keeps (R.remaining reader.old) (R.remaining reader.new)) }
+    ensures refused { OnErr result (TakesAtMost (MOST_INPUT - length input.old.items) (R.remaining reader.old) (R.remaining reader.new)) }
 {
     let mut piece = [0u8; PIECE];
     let room = (MOST_INPUT - input.len()).min(PIECE);
@@ -38,6 +42,9 @@ fn read_piece<R: Read + Drop>(reader: &mut R, input: &mut Vec<u8>) -> Result<usi
 pub fn input_of<R: Read + Drop>(alloc: Global, reader: &mut R) -> Result<Vec<u8>, Trouble>
     ensures ok { IfOk result (λ input. IfSome (R.remaining reader.old) (λ bytes. input.items ≡ take MOST_INPUT bytes)) }
     ensures err { IfErr result (λ t. (t ≡ Memory) ⊎ (t ≡ Input)) }
+    ensures reads { TakesAtMost MOST_INPUT (R.remaining reader.old) (R.remaining reader.new) }
+    // A read that fails is one before the limit.
+    ensures failed { IfErr result (λ t. t ≡ Input → TakesAtMost (MOST_INPUT - 1) (R.remaining reader.old) (R.remaining reader.new)) }
 {
     let mut input = Vec::new(alloc);
     while input.len() < MOST_INPUT {

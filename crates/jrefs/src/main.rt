@@ -6,13 +6,14 @@ mod answer;
 mod check;
 mod describe;
 mod input;
+mod output;
 mod request;
 mod script;
 #[cfg(test)]
 mod tests;
 mod trouble;
 
-use crate::act::tell;
+use crate::output::tell;
 use crate::trouble::Trouble;
 use std::io::ErrorKind;
 use std::process::ExitCode;

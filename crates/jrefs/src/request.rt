@@ -1,9 +1,9 @@
 //! What the words of the command line ask for.
 
-ghost use Rattle.std.specs.Prelude.{◌≡◌, ◌⊎◌, map, Some, IfOk, IfErr};
+ghost use Rattle.std.specs.Prelude.{◌≡◌, ◌≢◌, ◌⊎◌, map, Some, IfOk, IfErr};
 ghost use Rattle.clap.specs.Words.{app_of, kind_of, subcommand_rows_of};
 ghost use Rattle.clap.specs.declared.error.ErrorKind.TheVariants.{OutOfMemory};
-ghost use Rattle.jrefs.specs.Request.{command_line, request_found, asked_for, Asks};
+ghost use Rattle.jrefs.specs.Request.{command_line, request_found, asked_for, Asks, AskNothing};
 ghost use Rattle.jrefs.specs.declared.request.Request.{Request as AnyRequest};
 ghost use Rattle.jrefs.specs.declared.trouble.Trouble.TheVariants.{Memory, Usage};
 
@@ -53,7 +53,7 @@ fn found(matches: &ArgMatches<'_>) -> Option<Request>
 /// Why the words are refused.
 fn refusal(error: &Error) -> Trouble
     ensures memory { kind_of error.now ≡ OutOfMemory → result ≡ Memory }
-    ensures known { (result ≡ Memory) ⊎ (result ≡ Usage) }
+    ensures other { kind_of error.now ≢ OutOfMemory → result ≡ Usage }
 {
     match error.kind() {
         ErrorKind::OutOfMemory => Trouble::Memory,
@@ -65,6 +65,7 @@ fn refusal(error: &Error) -> Trouble
 pub fn request_of<'a>(alloc: Global, words: &'a [&'a str]) -> Result<Request, Trouble>
     ensures ok { IfOk result (λ r. asked_for (map (λ w. w.now) words.entry.now) ≡ Some r) }
     ensures err { IfErr result (λ t. (t ≡ Memory) ⊎ (t ≡ Usage)) }
+    ensures nothing { IfErr result (λ t. t ≡ Usage → AskNothing (map (λ w. w.now) words.entry.now)) }
     // A request is taken, unless memory runs out.
     ensures taken { (r : AnyRequest) → Asks r (map (λ w. w.now) words.entry.now) → IfErr result (λ t. t ≡ Memory) }
 {

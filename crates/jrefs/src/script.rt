@@ -5,7 +5,7 @@ ghost use Rattle.jr_syntax.specs.Script.{IsScript, text_of};
 ghost use Rattle.jrefs.specs.Answer.{IsRefused};
 
 use crate::trouble::Trouble;
-use jr_syntax::{Script, ScriptFault, parse};
+use jr_scripts::{Script, parse};
 use std::alloc::Global;
 
 /// The script of a text.
@@ -13,9 +13,6 @@ pub fn script_of(alloc: Global, text: &[u8]) -> Result<Script, Trouble>
     ensures read { IfOk result (λ s. IsScript s × (text.now ≡ text_of s)) }
     ensures refused { IfErr result (IsRefused text.now) }
 {
-    match parse(alloc, text) {
-        Ok(script) => Ok(script),
-        Err(ScriptFault::At(line, reason)) => Err(Trouble::Script { line, reason }),
-        Err(ScriptFault::Memory) => Err(Trouble::Memory),
-    }
+    let script = parse(alloc, text)?;
+    Ok(script)
 }
