@@ -1,22 +1,24 @@
 -- Space is reserved by one look and one exchange.
 use Rattle.std.proofs.Common.{arith, ◌≡◌, ◌≢◌, ◌≤◌, ◌<◌, ◌+◌, ◌==◌, ℕ, zero, suc, false, cond, List, [], ◌∷◌, length, Ok, Err, inl, inr, refl, sym, ap, subst, ◌∙◌}
+use mathlib.Core.Logic.{∥∥₁_map}
 use Rattle.std.proofs.lemmas.Bool.{lt-ltb, le-ltb}
 use Rattle.std.proofs.lemmas.Bool.Decides.{nat_tests}
 use Rattle.jr_word.specs.declared.fault.Fault.TheVariants.{SpaceFull, Raced}
+use Rattle.jr_model.specs.declared.event.Role.TheVariants.{Within}
 use Rattle.jr_model.specs.declared.event.Act.TheVariants.{Reserve, ReserveFull, ReserveLost}
 use Rattle.jr_model.specs.History.{Did}
 use Rattle.jr_model.specs.Frames.{Frames}
 use Rattle.jr_model.specs.Parts.{reserve}
 use Rattle.jr_model.proofs.Updates.{eq_self}
 use Rattle.jr_model.proofs.Moments.{raced, sometime_last}
-use Rattle.jr_model.proofs.Stays.{did_then}
+use Rattle.jr_model.proofs.Stays.{did_then, role_did}
 use Rattle.jr_rule.specs.declared.known.Known.{Known}
 use Rattle.jr_rule.specs.declared.known.Grasp.{Grasp}
 use Rattle.jr_rule.specs.declared.naming.TopNaming.TheVariants as top
 use Rattle.jr_rule.specs.Acts.{top_named}
 use Rattle.jr_rule.specs.Grasping.{words_at, with_range}
-use Rattle.jr_rule.specs.Knowing.{Standing, MayKnow, view, anything, keeps, ShowsUsed, ShowsRange, Took}
-use Rattle.jr_rule.proofs.Goes.{goes_did, may_then}
+use Rattle.jr_rule.specs.Knowing.{Standing, IsOf, MayKnow, view, anything, keeps, ShowsUsed, WasUsed, ShowsRange, Took}
+use Rattle.jr_rule.proofs.Goes.{goes_did, used_now, may_then}
 use Rattle.jr_heap.specs.Heap.{Called, IsOwn, Gains}
 use Rattle.jr_heap.proofs.Calling.{called_by}
 
@@ -58,7 +60,7 @@ own_range : (place n : ℕ) (j k : Known) (ws : List ℕ) → length ws ≡ n �
 own_range place zero j k ws long e = refl
 own_range place (suc n) j k ws long e = ap (λ b. length (cond b [] (words_at place k.grasp.ranges))) (suc_not_zero n) ∙ (ap (λ (h : Grasp). length (words_at place h.ranges)) e ∙ (ap (λ b. length (cond b ws (words_at place j.grasp.ranges))) (eq_self place) ∙ long))
 
-module _ {S : Type 0} {stands : S → Standing} {knows : S → Known → Type 0} {a b : S} (n u words : ℕ) (some : n ≢ 0) (looked : Took stands knows a b (top_named words (top.Full n) u) anything (λ j k. ShowsUsed u k × keeps j k)) where
+module _ {S : Type 0} {stands : S → Standing} {knows : S → Known → Type 0} {a b : S} (fits : (s : S) (k : Known) → knows s k → IsOf (stands s) k) (inside : (stands a).role ≡ Within) (n u words : ℕ) (some : n ≢ 0) (looked : Took stands knows a b (top_named words (top.Full n) u) anything (λ j k. ShowsUsed u k × keeps j k)) where
   pub reserve_full : words < u + n → Called knows a b anything (λ j k. reserve n) (Err (SpaceFull u)) keeps
   reserve_full l = called_by (λ k s m.
       let g = looked.goes k s tt in
@@ -68,18 +70,25 @@ module _ {S : Type 0} {stands : S → Standing} {knows : S → Known → Type 0}
     first : (k : Known) → knows a k → (j : Known) × knows b j × Did (view k) (view j) [] × ShowsUsed u j × keeps k j
     first k s = let g = looked.goes k s tt in (g.0, g.1, subst (λ xs. Did (view k) (view g.0) xs) (named_look words n u room) (goes_did g.2), g.3.0, g.3.1)
 
-    pub reserve_won : {c : S} → Took stands knows b c (Reserve n ∷ []) anything (ShowsRange u n (Ok tt)) → Called knows a c anything (λ j k. reserve n) (Ok tt) (Gains n u)
+    -- what was looked at was used in this stay
+    was_used : (k : Known) (s : knows a k) → WasUsed u (first k s).0
+    was_used k s = let j = first k s in used_now u j.0 (role_did [] j.2 ∙ ((fits a k s).role ∙ inside)) j.3
+
+    pub may_reserve : MayKnow knows a anything → MayKnow knows b (WasUsed u)
+    may_reserve some = ∥∥₁_map some (λ k. let j = first k.0 k.1 in (j.0, j.1, was_used k.0 k.1))
+
+    pub reserve_won : {c : S} → Took stands knows b c (Reserve n ∷ []) (WasUsed u) (ShowsRange u n (Ok tt)) → Called knows a c anything (λ j k. reserve n) (Ok tt) (Gains n u)
     reserve_won t = called_by (λ k s m.
         let j = first k s in
-        let g = t.goes j.0 j.1 tt in
+        let g = t.goes j.0 j.1 (was_used k s) in
         let e : g.0.grasp ≡ with_range k.grasp u g.3.0 = g.3.2 ∙ ap (λ h. with_range h u g.3.0) j.4 in
         (g.0, g.1, Reserve n ∷ [], record { did = did_then [] (Reserve n ∷ []) j.2 (goes_did g.2); is = reserved n some; grounds = tt; shows = gains n u k g.0 some g.3.0 g.3.1 e (subst (λ (h : Grasp). words_at u h.ranges ≡ []) j.4 g.3.3) }))
 
-    pub reserve_lost : {c : S} (found : ℕ) → ((k : Known) → knows a k → k.config.words ≡ words) → Took stands knows b c (ReserveLost n u found ∷ []) anything (ShowsRange u n (Err found)) → Called knows a c anything (λ j k. reserve n) (Err (Raced u found)) keeps
+    pub reserve_lost : {c : S} (found : ℕ) → ((k : Known) → knows a k → k.config.words ≡ words) → Took stands knows b c (ReserveLost n u found ∷ []) (WasUsed u) (ShowsRange u n (Err found)) → Called knows a c anything (λ j k. reserve n) (Err (Raced u found)) keeps
     reserve_lost found same t = called_by (λ k s m.
         let j = first k s in
-        let g = t.goes j.0 j.1 tt in
-        let fits : u + n ≤ k.config.words = subst (λ z. u + n ≤ z) (sym (same k s)) room in
+        let g = t.goes j.0 j.1 (was_used k s) in
+        let room_here : u + n ≤ k.config.words = subst (λ z. u + n ≤ z) (sym (same k s)) room in
         let e : g.0.grasp ≡ k.grasp = g.3 ∙ j.4 in (
           g.0,
           g.1,
@@ -87,11 +96,11 @@ module _ {S : Type 0} {stands : S → Standing} {knows : S → Known → Type 0}
           record {
             did = did_then [] (ReserveLost n u found ∷ []) j.2 (goes_did g.2);
             is = lost n u found some;
-            grounds = raced n u found (sometime_last j.2.begins j.3) j.2.thread fits (goes_did g.2);
+            grounds = raced n u found (sometime_last j.2.begins j.3) j.2.thread room_here (goes_did g.2);
             shows = e;
           },
         ))
 
 module _ {S : Type 0} {stands : S → Standing} {knows : S → Known → Type 0} {b c : S} where
-  pub reserve_owned : (n u : ℕ) → MayKnow knows b anything → Took stands knows b c (Reserve n ∷ []) anything (ShowsRange u n (Ok tt)) → MayKnow knows c (IsOwn u n)
-  reserve_owned n u may t = may_then t (λ k s m. tt) may (λ j k s m g x. own_range u n j k x.0 x.1 x.2)
+  pub reserve_owned : (n u : ℕ) → MayKnow knows b (WasUsed u) → Took stands knows b c (Reserve n ∷ []) (WasUsed u) (ShowsRange u n (Ok tt)) → MayKnow knows c (IsOwn u n)
+  reserve_owned n u may t = may_then t (λ k s m. m) may (λ j k s m g x. own_range u n j k x.0 x.1 x.2)

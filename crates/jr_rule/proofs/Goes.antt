@@ -1,5 +1,6 @@
 -- What follows from a step, and one step after the other.
-use Rattle.std.proofs.Common.{◌≡◌, ◌≢◌, ◌<◌, ℕ, Bool, true, false, cond, Ok, eq-eqb, length, List, [], ◌∷◌, ◌++◌, Option, Some, None, IsSome, refl, sym, ap, subst, ◌∙◌, arith}
+use Rattle.std.proofs.Common.{◌≡◌, ◌≢◌, ◌<◌, ℕ, Bool, true, false, cond, Result, Ok, Err, eq-eqb, length, List, [], ◌∷◌, ◌++◌, Option, Some, None, IsSome, refl, sym, ap, subst, ◌∙◌, arith, append_assoc}
+use Rattle.std.proofs.lemmas.List.{append-nil}
 use Rattle.std.specs.List.{AllByRecursion}
 use mathlib.Core.Logic.{∥∥₁_map}
 use Rattle.jr_word.specs.declared.header.HeaderParts.{HeaderParts}
@@ -10,14 +11,15 @@ use Rattle.jr_model.specs.declared.event.Found.TheVariants.{Object}
 use Rattle.jr_model.specs.declared.event.Act.{Act}
 use Rattle.jr_model.specs.declared.event.Act.TheVariants.{Look, Leave, Shut}
 use Rattle.jr_model.specs.State.{Handle, Contents, State, IsPresent, IsClosed}
-use Rattle.jr_model.specs.History.{by, state, IsLegal, role_of, Did}
-use Rattle.jr_model.proofs.Histories.{legal_push, state_push}
+use Rattle.jr_model.specs.History.{History, by, mine, state, IsLegal, role_of, Did}
+use Rattle.jr_model.proofs.Histories.{legal_push, state_push, mine_append}
 use Rattle.jr_model.proofs.Presence.{named_is_present, sound_state}
-use Rattle.jr_model.proofs.Stays.{IsStill, still_did, did_added}
+use Rattle.jr_model.proofs.Stays.{IsStill, still_did, did_added, did_then, mine_did}
 use Rattle.jr_rule.specs.declared.known.Known.{Known}
 use Rattle.jr_rule.specs.declared.known.Grasp.{Grasp}
+use Rattle.jr_rule.specs.Acts.{reserving}
 use Rattle.jr_rule.specs.Grasping.{words_at}
-use Rattle.jr_rule.specs.Knowing.{Standing, MayKnow, IsClosedNow, view, state_of, Goes, HasObject, HasLooked, IsFreeSlot, ShowsSlot, ShowsPublished, ShowsRange, HasWord, Took, TookWith}
+use Rattle.jr_rule.specs.Knowing.{Standing, IsOf, MayKnow, keeps, ShowsUsed, IsClosedNow, view, moved, anything, state_of, Goes, HasObject, HasLooked, WasUsed, IsFreeSlot, ShowsSlot, ShowsPublished, ShowsRange, HasWord, Took, TookWith}
 
 -- a step is what the thread did
 pub goes_did : {k k' : Known} {acts : List Act} → Goes k acts k' → Did (view k) (view k') acts
@@ -43,6 +45,34 @@ looked_now {k} {k'} h r g = record {
   is = subst (λ t. k'.seen ≡ (k.seen ++ g.between) ++ by t (Look h r) ∷ []) (sym g.thread) g.seen;
   stays = tt;
 }
+
+-- so many words were used just now, in this stay
+pub used_now : (u : ℕ) (k : Known) → role_of (view k) ≡ Within → (state_of k).used ≡ u → WasUsed u k
+used_now u k within used = record { before = k.seen; since = []; is = sym (append-nil k.seen); used = used; within = within; stays = tt }
+
+-- and were so at a moment of the stay, whatever the thread has done since but leave
+pub used_later : (u : ℕ) (k k' : Known) (acts : List Act) → Did (view k) (view k') acts → AllByRecursion (λ a. a ≢ Leave) acts → WasUsed u k → WasUsed u k'
+used_later u k k' acts d q w =
+    let more : History = d.begins.0 in
+    let own : mine more k.thread ≡ acts = mine_did acts d in
+    record {
+      before = w.before;
+      since = w.since ++ more;
+      is = sym d.begins.1 ∙ (ap (λ l. l ++ more) w.is ∙ append_assoc w.before w.since more);
+      used = w.used;
+      within = subst (λ t. (state w.before).role t ≡ Within) (sym d.thread) w.within;
+      stays = subst (λ t. AllByRecursion (λ a. a ≢ Leave) (mine (w.since ++ more) t)) (sym d.thread)
+          (subst (λ l. AllByRecursion (λ a. a ≢ Leave) l) (sym (mine_append w.since more k.thread ∙ ap (λ l. mine w.since k.thread ++ l) own)) (all_append (mine w.since k.thread) acts w.stays q));
+    }
+  where
+    all_append : (xs ys : List Act) → AllByRecursion (λ a. a ≢ Leave) xs → AllByRecursion (λ a. a ≢ Leave) ys → AllByRecursion (λ a. a ≢ Leave) (xs ++ ys)
+    all_append [] ys p r = r
+    all_append (x ∷ xs) ys p r = (p.0, all_append xs ys p.1 r)
+
+-- an exchange of the top is no leave
+pub reserving_stays : (looked n : ℕ) (r : Result (Unit {0}) ℕ) → AllByRecursion (λ a. a ≢ Leave) (reserving looked n r ∷ [])
+reserving_stays looked n (Ok u) = ((λ e. cc), tt)
+reserving_stays looked n (Err f) = ((λ e. cc), tt)
 
 pub present_still : (s s' : State) (o : ℕ) → IsStill s s' → IsPresent s o → IsPresent s' o
 present_still s s' o still = go (s.objects o) refl
@@ -97,6 +127,10 @@ module _ {S : Type 0} {stands : S → Standing} {knows : S → Known → Type 0}
   pub may_then : {old new : S} {acts : List Act} {met : Known → Type 0} {shows : Known → Known → Type 0} {was is : Known → Type 0} → Took stands knows old new acts met shows → ((k : Known) → knows old k → was k → met k) → MayKnow knows old was
       → ((k k' : Known) → knows old k → was k → Goes k acts k' → shows k k' → is k') → MayKnow knows new is
   may_then t meets may then' = ∥∥₁_map may (λ k. let g = t.goes k.0 k.1 (meets k.0 k.1 k.2) in (g.0, g.1, then' k.0 g.0 k.1 k.2 g.2 g.3))
+
+  -- how many words were used is known from a look on, until the thread leaves
+  pub used_seen : {old new : S} {acts : List Act} {u : ℕ} → ((k : Known) → knows new k → IsOf (stands new) k) → MayKnow knows old anything → (stands new).role ≡ Within → Took stands knows old new acts anything (λ j k. ShowsUsed u k × keeps j k) → MayKnow knows new (WasUsed u)
+  used_seen {u = u} fits some within t = ∥∥₁_map some (λ k. let g = t.goes k.0 k.1 tt in (g.0, g.1, used_now u g.0 ((fits g.0 g.1).role ∙ within) g.3.0))
 
   pub may_with : {old new : S} {acts : Known → List Act} {met : Known → Type 0} {shows : Known → Known → Type 0} {was is : Known → Type 0} → TookWith stands knows old new acts met shows → ((k : Known) → knows old k → was k → met k) → MayKnow knows old was
       → ((k k' : Known) → knows old k → was k → Goes k (acts k) k' → shows k k' → is k') → MayKnow knows new is

@@ -25,7 +25,7 @@ use Rattle.jr_rule.specs.declared.naming.TopNaming.TheVariants as top
 use Rattle.jr_rule.specs.Acts.{publishing, top_named, reserving}
 use Rattle.jr_rule.specs.Grasping.{words_at, with_range, with_header, hold}
 use Rattle.jr_rule.specs.Image.{top_at, header_at, element_at, IsIn, IsHeaderOf, IsKnown}
-use Rattle.jr_rule.specs.Knowing.{Standing, moved, MayKnow, anything, keeps, KnowsHeader, HasWord, IsWordNow, IsFilled, words_for, published, ShowsHeader, ShowsPublished, ShowsUsed, ShowsRange, ShowsWord}
+use Rattle.jr_rule.specs.Knowing.{Standing, moved, MayKnow, anything, keeps, KnowsHeader, HasWord, IsWordNow, IsFilled, words_for, published, ShowsHeader, ShowsPublished, ShowsUsed, WasUsed, ShowsRange, ShowsWord}
 use Rattle.jr_rule.specs.Plain.{alone, standing, Shows}
 use Rattle.jr_rule.proofs.Effects.{publishing_role, publishing_fresh, top_named_role, top_named_fresh}
 use Rattle.jr_rule.proofs.Headers.{header_some}
@@ -167,7 +167,7 @@ module _ (config : Config) (last : ℕ) (few : IsFew config last) (role : Role) 
           by_room false e = quiet k s
 
   pub reserved : (looked n w : ℕ) → get_or words top_at 0 ≡ top_word (record { used = looked }) → w ≡ top_word (record { used = looked + n }) → looked + n ≤ config.words → role ≡ Within
-      → Turned old words old (slice_set words top_at w) (reserving looked n (Ok tt) ∷ []) anything (ShowsRange looked n (Ok tt))
+      → Turned old words old (slice_set words top_at w) (reserving looked n (Ok tt) ∷ []) (WasUsed looked) (ShowsRange looked n (Ok tt))
   reserved looked n w is new room within = gained refl refl (λ k s m.
       let used : looked ≡ (state k.seen).used = used_is k s looked is in
       let same = ap (λ (c : Config). c.words) s.pass.config in
@@ -179,7 +179,7 @@ module _ (config : Config) (last : ℕ) (few : IsFew config last) (role : Role) 
       ))
 
   pub reserve_lost : (looked n found : ℕ) → get_or words top_at 0 ≡ top_word (record { used = found }) → found ≢ looked → role ≡ Within
-      → Turned old words old words (reserving looked n (Err found) ∷ []) anything (ShowsRange looked n (Err found))
+      → Turned old words old words (reserving looked n (Err found) ∷ []) (WasUsed looked) (ShowsRange looked n (Err found))
   reserve_lost looked n found is other within = kept refl (λ k s m.
       turn_one k.config k.last k.seen k.thread words (alone k.grasp) s.pass.legal (ReserveLost n looked found) (row k s, (s.pass.role ∙ within, used_is k s found is, other)) s.image)
 

@@ -6,6 +6,7 @@ use Rattle.jr_word.specs.declared.config.Config.{Config}
 use Rattle.jr_word.specs.declared.gate.GateParts.{GateParts}
 use Rattle.jr_word.specs.declared.slot.SlotParts.{SlotParts}
 use Rattle.jr_model.specs.declared.event.Role.{Role}
+use Rattle.jr_model.specs.declared.event.Role.TheVariants.{Within}
 use Rattle.jr_model.specs.declared.event.Act.{Act}
 use Rattle.jr_model.specs.declared.event.Act.TheVariants.{Look, Leave, LocalPut, LocalDrop}
 use Rattle.jr_model.specs.declared.event.Found.{Found}
@@ -111,6 +112,15 @@ pub record HasLooked (h : Handle) (r : Found) (k : Known) : Type 0 where
   pub before : History
   pub since : History
   pub is : k.seen ≡ before ++ by k.thread (Look h r) ∷ since
+  pub stays : AllByRecursion (λ a. a ≢ Leave) (mine since k.thread)
+
+-- at a moment of this stay so many words were used
+pub record WasUsed (u : ℕ) (k : Known) : Type 0 where
+  pub before : History
+  pub since : History
+  pub is : k.seen ≡ before ++ since
+  pub used : (state before).used ≡ u
+  pub within : (state before).role k.thread ≡ Within
   pub stays : AllByRecursion (λ a. a ≢ Leave) (mine since k.thread)
 
 -- no reference of the index stands, and the serials given at it are those below `serial`

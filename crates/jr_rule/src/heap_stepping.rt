@@ -6,7 +6,7 @@ ghost use Rattle.jr_model.specs.declared.event.Role.TheVariants.{Within};
 ghost use Rattle.jr_model.specs.declared.event.Act.TheVariants.{Read, Write};
 ghost use Rattle.jr_rule.specs.Acts.{publishing, top_named, reserving};
 ghost use Rattle.jr_rule.specs.Image.{element_at};
-ghost use Rattle.jr_rule.specs.Knowing.{anything, keeps, KnowsHeader, HasWord, IsWordNow, IsFilled, words_for, ShowsHeader, ShowsPublished, ShowsUsed, ShowsRange, ShowsWord, MayKnow, Took, TookWith};
+ghost use Rattle.jr_rule.specs.Knowing.{anything, keeps, KnowsHeader, HasWord, IsWordNow, IsFilled, words_for, ShowsHeader, ShowsPublished, ShowsUsed, WasUsed, ShowsRange, ShowsWord, MayKnow, Took, TookWith};
 
 use crate::naming::TopNaming;
 use crate::parts::{TOP, element_at, header_at, top_word};
@@ -60,8 +60,9 @@ impl Row {
         requires row { IsAt self.now pass.old }
         requires role { pass.old.role ≡ Within }
         requires room { looked + more ≤ (standing_of pass.old).config.words }
+        requires looked { MayKnow Knows pass.old (WasUsed looked) }
         ensures row { IsAt self.now pass.new }
-        ensures step { Took standing_of Knows pass.old pass.new (reserving looked more result ∷ []) anything (ShowsRange looked more result) }
+        ensures step { Took standing_of Knows pass.old pass.new (reserving looked more result ∷ []) (WasUsed looked) (ShowsRange looked more result) }
     {
         let old = top_word(looked);
         let new = top_word(looked + more);

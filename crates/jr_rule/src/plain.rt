@@ -433,12 +433,15 @@ mod tests {
         let config = Config { words: 2, ..SMALL };
         let mut steps = PlainSteps::<2>::new(rt.alloc(), config)?;
         assert!(rt; steps.go_in());
-        assert_eq!(rt; steps.see_top(TopNaming::Look), 0);
-        let Ok(()) = steps.claim_top(0, 2) else {
+        let looked = steps.see_top(TopNaming::Look);
+        if looked != 0 {
+            return Err("some words are used")?;
+        }
+        let Ok(()) = steps.claim_top(looked, 2) else {
             return Err("the top is another")?;
         };
-        steps.put_own(0, 1, 7);
-        assert_eq!(rt; steps.claim_top(0, 1).err(), Some(2));
+        steps.put_own(looked, 1, 7);
+        assert_eq!(rt; steps.claim_top(looked, 1).err(), Some(2));
         assert_eq!(rt; steps.see_top(TopNaming::Full { words: 1 }), 2);
 
         let mut row = [0; 22];

@@ -8,7 +8,7 @@ ghost use Rattle.jr_model.specs.declared.event.Act.TheVariants.{Reopen, Read, Wr
 ghost use Rattle.jr_rule.specs.Collecting.{ShowsLocal, ShowsElement, IsThere, CanWipe, CanDrop, ShowsDropped, CanMove, ShowsMoved, placed, CanPlace, ShowsPlaced, CanSettle};
 ghost use Rattle.jr_model.specs.declared.event.Role.TheVariants.{Outside, Within, Knocking, Collecting};
 ghost use Rattle.jr_rule.specs.Acts.{entered_as, leaving, barring, gate_named, GateNameFits, all_counted, slot_named, SlotNameFits, claiming, freeing, putting, publishing, top_named, reserving, found_object, handle_of};
-ghost use Rattle.jr_rule.specs.Knowing.{anything, KnowsHeader, HasWord, IsWordNow, IsFilled, words_for, ShowsHeader, ShowsPublished, ShowsUsed, ShowsRange, ShowsWord, TookWith, HasObject, HasOptional, HasLooked, HasNoLocals, CanReopen, ShowsBarred, IsFreeSlot, ShowsGate, ShowsSlot, LostClaim, MayKnow, Took, Spent, keeps, lets_go};
+ghost use Rattle.jr_rule.specs.Knowing.{anything, KnowsHeader, HasWord, IsWordNow, IsFilled, words_for, ShowsHeader, ShowsPublished, ShowsUsed, WasUsed, ShowsRange, ShowsWord, TookWith, HasObject, HasOptional, HasLooked, HasNoLocals, CanReopen, ShowsBarred, IsFreeSlot, ShowsGate, ShowsSlot, LostClaim, MayKnow, Took, Spent, keeps, lets_go};
 
 use crate::naming::{GateNaming, SlotNaming, TopNaming};
 use jr_model::Role;
@@ -130,11 +130,12 @@ pub trait Steps {
         requires { (stands self.old).role ≡ Within }
         ensures { Took stands knows self.old self.new (top_named (stands self.old).config.words name result) anything (λ j k. ShowsUsed result k × keeps j k) };
 
-    /// Reserves words beside those that were looked at, or tells how many are reserved now.
+    /// Reserves words beside those that were looked at in this stay, or tells how many are reserved now.
     fn claim_top(&mut self, looked: u32, more: u32) -> Result<(), u32>
         requires role { (stands self.old).role ≡ Within }
         requires room { looked + more ≤ (stands self.old).config.words }
-        ensures { Took stands knows self.old self.new (reserving looked more result ∷ []) anything (ShowsRange looked more result) };
+        requires looked { MayKnow knows self.old (WasUsed looked) }
+        ensures { Took stands knows self.old self.new (reserving looked more result ∷ []) (WasUsed looked) (ShowsRange looked more result) };
 
     /// Loads an element of an object whose header the pass knows.
     fn see_element(&mut self, object: u16, header: HeaderParts, index: u32) -> u64

@@ -24,7 +24,7 @@ invariant_of-self-clause-shown g c =
     shown
     (reserved s.config g.row.LAST (few_of g.row.LAST s (omega arith)) s.role s.fresh s.words.items c.args.looked c.args.more c.top_word.result
     (c.top-found.ensures.1 ∙ ap (λ u. top_word (record { used = u })) c.if-found-looked.false) c.top_word.ensures c.requires.room c.requires.role)
-    s.shown
+    c.requires.looked
 
 pub invariant_of-self-clause-unused : goal.invariant_of-self-clause-unused
 invariant_of-self-clause-unused g c = let s = c.args.self.now in λ e. unused_top s.config g.row.LAST s.role s.role s.fresh s.fresh s.words.items _ (s.unused e)
