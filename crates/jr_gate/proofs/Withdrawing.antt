@@ -3,11 +3,13 @@ use Rattle.std.proofs.Common.{List, [], ◌∷◌, ap, subst, ◌∙◌, arith}
 use Rattle.jr_model.specs.declared.event.Role.{Role}
 use Rattle.jr_model.specs.declared.event.Act.{Act}
 use Rattle.jr_model.specs.declared.event.Act.TheVariants.{Knock, Withdraw}
-use Rattle.jr_model.proofs.Stays.{did_then}
+use Rattle.jr_model.proofs.Stays.{did_then, did_nothing}
+use Rattle.jr_model.proofs.Runs.{did_legal}
+use Rattle.jr_model.proofs.Windows.{window_stay, stepped_last}
 use Rattle.jr_rule.specs.declared.known.Known.{Known}
 use Rattle.jr_rule.specs.Acts.{leaving}
-use Rattle.jr_rule.specs.Knowing.{Standing, moved, anything, lets_go, Goes, Took, Takes}
-use Rattle.jr_rule.proofs.Goes.{goes_did}
+use Rattle.jr_rule.specs.Knowing.{Standing, view, moved, anything, lets_go, Goes, Took, Takes}
+use Rattle.jr_rule.proofs.Goes.{goes_stepped}
 use Rattle.jr_gate.specs.Acting.{ActedTo, IsWithdrawn}
 
 -- one step and one more are two
@@ -18,7 +20,13 @@ module _ {S : Type 0} {stands : S → Standing} {knows : S → Known → Type 0}
   withdraws : Took stands knows a b (Knock ∷ []) anything shows → Took stands knows b c (Withdraw ∷ []) anything lets_go → ActedTo stands knows a c (Knock ∷ Withdraw ∷ []) anything IsWithdrawn
   withdraws p q = record {
     stands_is = q.stands_is ∙ ap (λ s. moved s (Withdraw ∷ [])) p.stands_is;
-    did = λ k s m. let g = p.goes k s m in let h = q.goes g.0 g.1 tt in (h.0, h.1, did_then (Knock ∷ []) (Withdraw ∷ []) (goes_did g.2) (goes_did h.2), (h.3, two g.2 h.2));
+    did = λ k s m.
+        let g = p.goes k s m in
+        let h = q.goes g.0 g.1 tt in
+        let first = goes_stepped g.2 in
+        let last = goes_stepped h.2 in
+        let none = did_nothing (view g.0) (did_legal (Knock ∷ []) first.did) in
+        (h.0, h.1, did_then (Knock ∷ []) (Withdraw ∷ []) first.did last.did, (h.3, two g.2 h.2), g.0.seen, window_stay Knock [] Withdraw first first.behind none last (stepped_last last));
   }
 
   -- who leaves after a knock withdraws it

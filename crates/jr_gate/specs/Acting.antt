@@ -1,7 +1,8 @@
 -- What several steps did, and what they show.
 use Rattle.std.specs.Prelude.{◌≡◌, List}
 use Rattle.jr_model.specs.declared.event.Act.{Act}
-use Rattle.jr_model.specs.History.{Did}
+use Rattle.jr_model.specs.History.{History, Did}
+use Rattle.jr_model.specs.Windows.{IsWindow}
 use Rattle.jr_rule.specs.declared.known.Known.{Known}
 use Rattle.jr_rule.specs.Knowing.{Standing, view, moved, lets_go, Takes}
 
@@ -10,7 +11,7 @@ abbrev pub IsWithdrawn : Known → Known → Type 0
 IsWithdrawn j k = lets_go j k × Takes 2 j k
 
 module _ {S : Type 0} (stands : S → Standing) (knows : S → Known → Type 0) where
-  -- several steps were taken, which show this
+  -- several steps were taken, in this window, which show this
   pub record ActedTo (old new : S) (acts : List Act) (met : Known → Type 0) (shows : Known → Known → Type 0) : Type 0 where
     pub stands_is : stands new ≡ moved (stands old) acts
-    pub did : (k : Known) → knows old k → met k → (k' : Known) × knows new k' × Did (view k) (view k') acts × shows k k'
+    pub did : (k : Known) → knows old k → met k → (k' : Known) × knows new k' × Did (view k) (view k') acts × shows k k' × (begun : History) × IsWindow (view k) (view k') acts begun

@@ -6,8 +6,10 @@ use Rattle.jr_model.specs.declared.event.Act.{Act}
 use Rattle.jr_model.specs.History.{Did}
 use Rattle.jr_model.specs.Frames.{Frames}
 use Rattle.jr_model.specs.Calls.{Call}
+use Rattle.jr_model.specs.Windows.{IsWindow}
 use Rattle.jr_model.specs.Refusals.{Grounds}
 use Rattle.jr_model.proofs.Stays.{did_nothing}
+use Rattle.jr_model.proofs.Windows.{window_nothing}
 use Rattle.jr_rule.specs.declared.known.Known.{Known}
 use Rattle.jr_rule.specs.Knowing.{Standing, IsOf, MayKnow, view}
 use Rattle.jr_heap.specs.Heap.{Called}
@@ -16,7 +18,8 @@ use Rattle.jr_heap.specs.Heap.{Called}
 pub record IsCall {A : Type 0} (k k' : Known) (acts : List Act) (call : Call A) (answer : Result A Fault) (so : Type 0) : Type 0 where
   pub did : Did (view k) (view k') acts
   pub is : (f : Frames) → call f acts answer f
-  pub grounds : IfErr answer (Grounds (view k) (view k'))
+  pub window : IsWindow (view k) (view k') acts k.seen
+  pub grounds : IfErr answer (Grounds k.seen (view k'))
   pub shows : so
 
 module _ {S : Type 0} {knows : S → Known → Type 0} where
@@ -25,13 +28,13 @@ module _ {S : Type 0} {knows : S → Known → Type 0} where
   called_by go = record {
     ran = λ k s m.
         let g = go k s m in
-        (g.0, g.1, λ f. record { acts = g.2; did = g.3.did; is = g.3.is f; grounds = g.3.grounds }, g.3.shows);
+        (g.0, g.1, λ f. record { acts = g.2; did = g.3.did; is = g.3.is f; begun = k.seen; window = g.3.window; grounds = g.3.grounds }, g.3.shows);
   }
 
   pub called_none : {A : Type 0} {old : S} {met : Known → Type 0} {call : Known → Known → Call A} {answer : Result A Fault} {shows : Known → Known → Type 0} {stands : S → Standing} (fits : (s : S) (k : Known) → knows s k → IsOf (stands s) k)
-      → ((k : Known) → knows old k → met k → (f : Frames) → call k k f [] answer f) → ((k : Known) → IfErr answer (Grounds (view k) (view k))) → ((k : Known) → shows k k) → Called knows old old met call answer shows
+      → ((k : Known) → knows old k → met k → (f : Frames) → call k k f [] answer f) → ((k : Known) → IfErr answer (Grounds k.seen (view k))) → ((k : Known) → shows k k) → Called knows old old met call answer shows
   called_none {old} fits is grounds shows = record {
-    ran = λ k s m. (k, s, λ f. record { acts = []; did = did_nothing (view k) (fits old k s).legal; is = is k s m f; grounds = grounds k }, shows k);
+    ran = λ k s m. (k, s, λ f. record { acts = []; did = did_nothing (view k) (fits old k s).legal; is = is k s m f; begun = k.seen; window = window_nothing (view k); grounds = grounds k }, shows k);
   }
 
   -- what may be known after a call

@@ -19,6 +19,7 @@ use Rattle.jr_model.proofs.Histories.{legal_push, state_push}
 use Rattle.jr_model.proofs.Gates.{apart_state}
 use Rattle.jr_model.proofs.Words.{elements_are_words}
 use Rattle.jr_model.proofs.Stays.{did_nothing}
+use Rattle.jr_model.proofs.Windows.{window_act, window_nothing}
 use Rattle.jr_model.specs.Parts.{read_element, write_element}
 use Rattle.jr_model.specs.Tests.{is_plain, is_text, is_value}
 use Rattle.jr_rule.specs.declared.known.Known.{Known}
@@ -79,9 +80,9 @@ read_word {k} {k'} o i v h g shown =
 
 module _ {S : Type 0} {stands : S → Standing} {knows : S → Known → Type 0} (fits : (s : S) (k : Known) → knows s k → IsOf (stands s) k) (o : ℕ) (h : HeaderParts) (i : ℕ) where
   -- a refusal, before any act
-  refused : {A : Type 0} (a : S) (e : Fault) (met : Known → Type 0) (call : Known → Known → Call A) (shows : Known → Known → Type 0) → ((k : Known) → Leaves o h k k → shows k k) → ((k : Known) → met k → HoldsHeader o h k) → ((p : PassView) → Grounds p p e)
+  refused : {A : Type 0} (a : S) (e : Fault) (met : Known → Type 0) (call : Known → Known → Call A) (shows : Known → Known → Type 0) → ((k : Known) → Leaves o h k k → shows k k) → ((k : Known) → met k → HoldsHeader o h k) → ((p : PassView) → Grounds p.seen p e)
       → ((k : Known) → (x : Contents) → (state_of k).objects o ≡ Some x → x.kind ≡ h.kind → length x.words ≡ h.length → (f : Frames) → call k k f [] (Err e) f) → Called knows a a met call (Err e) shows
-  refused a e met call shows leaves holds grounds is = called_by (λ k s m. let x = (holds k m).shown in (k, s, [], record { did = did_nothing (view k) (fits a k s).legal; is = is k x.contents x.is x.kind x.long; grounds = grounds (view k); shows = leaves k (x, refl) }))
+  refused a e met call shows leaves holds grounds is = called_by (λ k s m. let x = (holds k m).shown in (k, s, [], record { did = did_nothing (view k) (fits a k s).legal; is = is k x.contents x.is x.kind x.long; window = window_nothing (view k); grounds = grounds (view k); shows = leaves k (x, refl) }))
 
   -- what a read leaves and shows
   abbrev Finds : Result ℕ Fault → Known → Known → Type 0
@@ -101,7 +102,7 @@ module _ {S : Type 0} {stands : S → Standing} {knows : S → Known → Type 0}
       let d = goes_did g.2 in
       let x = object_later k g.0 (Read o i v ∷ []) d ((fits a k s).role ∙ w) ((λ e. cc), tt) o h m.shown in
       let is : (f : Frames) → read_element (state_of g.0) o i f (Read o i v ∷ []) (Ok v) f = λ f. (x.contents, x.is, is_read o i v (length x.contents.words) x.contents.kind f (ap is_plain x.kind ∙ plain) (subst (λ n. i < n) (sym x.long) l)) in
-      (g.0, g.1, Read o i v ∷ [], record { did = d; is = is; grounds = tt; shows = ((x, g.3), read_word o i v h g.2 x) }))
+      (g.0, g.1, Read o i v ∷ [], record { did = d; is = is; window = window_act (Read o i v) d tt tt; grounds = tt; shows = ((x, g.3), read_word o i v h g.2 x) }))
 
   -- its word has the bits of the kind
   pub read_value : {a b : S} (v : ℕ) → (stands a).role ≡ Within → MayKnow knows a (HoldsHeader o h) → Took stands knows a b (Read o i v ∷ []) (KnowsHeader o h) keeps → is_value h.kind v ≡ true
@@ -138,7 +139,7 @@ module _ {S : Type 0} {stands : S → Standing} {knows : S → Known → Type 0}
       let x = object_later k g.0 (Write o i v ∷ []) d ((fits a k s).role ∙ w) ((λ e. cc), tt) o h m.0.shown in
       let is : (f : Frames) → write_element (state_of g.0) o i v f (Write o i v ∷ []) (Ok tt) f
       = λ f. (x.contents, x.is, is_written o i v (length x.contents.words) x.contents.kind f (ap (λ z. is_plain z || is_text z) x.kind ∙ plain) (subst (λ n. i < n) (sym x.long) l) (ap (λ z. is_value z v) x.kind ∙ good)) in
-      (g.0, g.1, Write o i v ∷ [], record { did = d; is = is; grounds = tt; shows = (x, g.3) }))
+      (g.0, g.1, Write o i v ∷ [], record { did = d; is = is; window = window_act (Write o i v) d tt tt; grounds = tt; shows = (x, g.3) }))
 
 -- what may be known after a step at an element
 module _ {S : Type 0} {stands : S → Standing} {knows : S → Known → Type 0} (fits : (s : S) (k : Known) → knows s k → IsOf (stands s) k) (o : ℕ) (h : HeaderParts) {a b : S} {x : Act} {met : Known → Type 0} where

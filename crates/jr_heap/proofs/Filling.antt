@@ -9,6 +9,7 @@ use Rattle.jr_model.specs.declared.event.Role.TheVariants.{Within}
 use Rattle.jr_model.specs.History.{Did}
 use Rattle.jr_model.proofs.Updates.{eq_self}
 use Rattle.jr_model.proofs.Stays.{did_then, did_nothing}
+use Rattle.jr_model.proofs.Windows.{window_within}
 use Rattle.jr_rule.specs.declared.known.Known.{Known}
 use Rattle.jr_rule.specs.declared.known.Grasp.{Grasp}
 use Rattle.jr_rule.specs.Grasping.{words_at}
@@ -125,8 +126,8 @@ module _ {S : Type 0} {stands : S → Standing} {knows : S → Known → Type 0}
     whole : FilledTo stands knows place n v a b n
     whole = subst (λ m. FilledTo stands knows place n v a b m) end p
 
-    pub filled_call : Called knows a b (IsOwn place n) (λ j k. no_act) (Ok tt) (Fills place n v)
-    filled_call = called_by (λ k s m. let x = whole.did k s m in (x.0, x.1, [], record { did = x.2; is = λ f. (refl, refl, refl); grounds = tt; shows = filled_all place n v k x.0 x.3 }))
+    pub filled_call : (stands a).role ≡ Within → Called knows a b (IsOwn place n) (λ j k. no_act) (Ok tt) (Fills place n v)
+    filled_call w = called_by (λ k s m. let x = whole.did k s m in (x.0, x.1, [], record { did = x.2; is = λ f. (refl, refl, refl); window = window_within [] x.2 ((fits a k s).role ∙ w) tt; grounds = tt; shows = filled_all place n v k x.0 x.3 }))
 
     pub filled_own : MayKnow knows a (IsOwn place n) → MayKnow knows b (IsOwn place n)
     filled_own may = ∥∥₁_map may (λ k. let x = whole.did k.0 k.1 k.2 in (x.0, x.1, own_length place n x.0 x.3.long))

@@ -10,6 +10,7 @@ use Rattle.jr_model.specs.declared.event.Role.TheVariants.{Within}
 use Rattle.jr_model.specs.State.{Contents}
 use Rattle.jr_model.specs.Parts.{header}
 use Rattle.jr_model.proofs.Updates.{eq_self}
+use Rattle.jr_model.proofs.Windows.{window_within}
 use Rattle.jr_rule.specs.declared.known.Known.{Known}
 use Rattle.jr_rule.specs.declared.known.Grasp.{Grasp}
 use Rattle.jr_rule.specs.Grasping.{header_in}
@@ -50,11 +51,12 @@ module _ {S : Type 0} {stands : S → Standing} {knows : S → Known → Type 0}
       found : Took stands knows a b [] anything (ShowsHeader o (Some h))
       found = subst (λ x. Took stands knows a b [] anything (ShowsHeader o x)) is t
 
-      pub called_header : Called knows a b (HasObject o) (λ j k. header (state_of k) o) (Ok (h.kind, h.length)) (Learns o h)
-      called_header = called_by (λ k s m.
+      pub called_header : (stands a).role ≡ Within → Called knows a b (HasObject o) (λ j k. header (state_of k) o) (Ok (h.kind, h.length)) (Learns o h)
+      called_header w = called_by (λ k s m.
           let g = found.goes k s tt in
           let x = g.3.0 in
-          (g.0, g.1, [], record { did = goes_did g.2; is = λ f. (x.contents, x.is, (refl, ap (λ n. Ok (h.kind, n)) (sym x.long) ∙ ap (λ (q : Kind). Ok (q, length x.contents.words)) (sym x.kind), refl)); grounds = tt; shows = g.3 }))
+          let d = goes_did g.2 in
+          (g.0, g.1, [], record { did = d; window = window_within [] d ((fits a k s).role ∙ w) tt; is = λ f. (x.contents, x.is, (refl, ap (λ n. Ok (h.kind, n)) (sym x.long) ∙ ap (λ (q : Kind). Ok (q, length x.contents.words)) (sym x.kind), refl)); grounds = tt; shows = g.3 }))
 
       pub may_hold : MayKnow knows a (HasObject o) → MayKnow knows b (HoldsHeader o h)
       may_hold may = ∥∥₁_map may (λ k. let g = found.goes k.0 k.1 tt in (g.0, g.1, learnt o h k.0 g.0 g.3))

@@ -2,6 +2,7 @@
 use Rattle.std.proofs.Common.{◌≡◌, ◌≤◌, ◌<◌, ◌+◌, ◌⊎◌, ⊎_elim, ℕ, Bool, true, false, cond, Some, None, length, List, [], ◌∷◌, ◌++◌, Ok, Err, inl, inr, refl, sym, ap, subst, ◌∙◌, arith}
 use mathlib.Core.Logic.{∥∥₁_map}
 use Rattle.jr_word.specs.declared.fault.Fault.TheVariants.{ObjectsFull}
+use Rattle.jr_word.specs.declared.config.Config.{Config}
 use Rattle.jr_word.specs.declared.header.HeaderParts.{HeaderParts}
 use Rattle.jr_word.specs.declared.kind.Kind.{Kind}
 use Rattle.jr_model.specs.declared.event.Role.TheVariants.{Within}
@@ -13,6 +14,7 @@ use Rattle.jr_model.proofs.Updates.{at_number_self, eq_self}
 use Rattle.jr_model.proofs.Histories.{state_push}
 use Rattle.jr_model.proofs.Moments.{sometime_last}
 use Rattle.jr_model.proofs.Stays.{did_then, did_nothing}
+use Rattle.jr_model.proofs.Windows.{window_act, window_within}
 use Rattle.jr_rule.specs.declared.known.Known.{Known}
 use Rattle.jr_rule.specs.declared.known.Grasp.{Grasp}
 use Rattle.jr_rule.specs.Acts.{publishing}
@@ -81,7 +83,7 @@ module _ {S : Type 0} {stands : S → Standing} {knows : S → Known → Type 0}
       let same : words_for h x.0 ≡ words_for h k = ap (λ (g : Grasp). words_for h (record k { grasp = g })) x.3 in
       let d : Did (view k) (view y.0) (New o h.kind (words_for h k) ∷ []) = subst (λ ws. Did (view k) (view y.0) (New o h.kind ws ∷ [])) same (did_then [] (New o h.kind (words_for h x.0) ∷ []) x.5 (goes_did y.2)) in
       let there : (state_of y.0).objects o ≡ Some (record { kind = h.kind; words = words_for h k }) = new_stands x.0 y.0 o h.kind (words_for h x.0) y.2 ∙ ap (λ ws. Some (record { kind = h.kind; words = ws })) same in
-      (y.0, y.1, New o h.kind (words_for h k) ∷ [], record { did = d; is = λ f. inl (o, refl, refl, refl); grounds = tt; shows = (there, y.3.1 ∙ ap (λ g. with_header (published h g) o h) x.3, subst (λ (g : Grasp). header_in o g.headers ≡ None) x.3 y.3.2) }))
+      (y.0, y.1, New o h.kind (words_for h k) ∷ [], record { did = d; is = λ f. inl (o, refl, refl, refl); window = window_act (New o h.kind (words_for h k)) d tt tt; grounds = tt; shows = (there, y.3.1 ∙ ap (λ g. with_header (published h g) o h) x.3, subst (λ (g : Grasp). header_in o g.headers ≡ None) x.3 y.3.2) }))
 
   pub passed_present : {a b c : S} {n : ℕ} (o : ℕ) → MayKnow knows a (IsFilled h) → Passed stands knows h first objects a b n → TookWith stands knows b c (λ k. publishing o h.kind (words_for h k) true) (IsFilled h) (ShowsPublished o h true) → MayKnow knows c (HasObject o)
   passed_present o may p t = ∥∥₁_map may (λ k. let x = p.did k.0 k.1 k.2 in let y = t.goes x.0 x.1 x.2 in (y.0, y.1, y.3.0))
@@ -97,12 +99,12 @@ module _ {S : Type 0} {stands : S → Standing} {knows : S → Known → Type 0}
   pub passed_ready : {a b : S} {n : ℕ} → MayKnow knows a (IsFilled h) → Passed stands knows h first objects a b n → MayKnow knows b (IsFilled h)
   passed_ready may p = ∥∥₁_map may (λ k. let x = p.did k.0 k.1 k.2 in (x.0, x.1, x.2))
 
-  pub passed_all : {a b : S} (n : ℕ) → objects ≤ n → ((k : Known) → knows a k → k.config.objects ≡ objects) → (1 ≤ objects → first < objects) → Passed stands knows h first objects a b n
+  pub passed_all : {a b : S} (n : ℕ) → (stands a).role ≡ Within → objects ≤ n → ((k : Known) → knows a k → k.config.objects ≡ objects) → (1 ≤ objects → first < objects) → Passed stands knows h first objects a b n
       → Called knows a b (IsFilled h) (λ j k. publish h.kind (words_for h j)) (Err ObjectsFull) (λ j k. k.grasp ≡ j.grasp)
-  passed_all n end same low p = called_by (λ k s m.
+  passed_all {a} n w end same low p = called_by (λ k s m.
       let x = p.did k s m in
-      let each : (o : ℕ) → 1 ≤ o → o ≤ k.config.objects → HasObject o x.0 = λ o l u.
-      let top : o ≤ objects = subst (λ z. o ≤ z) (same k s) u in
+      let each : (o : ℕ) → 1 ≤ o → o ≤ x.0.config.objects → HasObject o x.0 = λ o l u.
+      let top : o ≤ objects = subst (λ z. o ≤ z) (ap (λ (c : Config). c.objects) x.5.config ∙ same k s) u in
       let t = turn_of first objects o (low (omega arith)) l top in
       subst (λ z. HasObject z x.0) t.2 (x.4 t.0 (let b = t.1 in omega arith)) in
-      (x.0, x.1, [], record { did = x.5; is = λ f. inr (refl, refl, refl); grounds = sometime_last x.5.begins each; shows = x.3 }))
+      (x.0, x.1, [], record { did = x.5; is = λ f. inr (refl, refl, refl); window = window_within [] x.5 ((fits a k s).role ∙ w) tt; grounds = sometime_last x.5.begins each; shows = x.3 }))

@@ -3,6 +3,7 @@ use Rattle.std.proofs.Common.{arith, ◌≡◌, ◌≢◌, ◌≤◌, ◌<◌, �
 use mathlib.Core.Logic.{∥∥₁_map}
 use Rattle.std.proofs.lemmas.Bool.{lt-ltb, le-ltb}
 use Rattle.std.proofs.lemmas.Bool.Decides.{nat_tests}
+use Rattle.jr_word.specs.declared.config.Config.{Config}
 use Rattle.jr_word.specs.declared.fault.Fault.TheVariants.{SpaceFull, Raced}
 use Rattle.jr_model.specs.declared.event.Role.TheVariants.{Within}
 use Rattle.jr_model.specs.declared.event.Act.TheVariants.{Reserve, ReserveFull, ReserveLost}
@@ -12,6 +13,7 @@ use Rattle.jr_model.specs.Parts.{reserve}
 use Rattle.jr_model.proofs.Updates.{eq_self}
 use Rattle.jr_model.proofs.Moments.{raced, sometime_last}
 use Rattle.jr_model.proofs.Stays.{did_then, role_did}
+use Rattle.jr_model.proofs.Windows.{window_act}
 use Rattle.jr_rule.specs.declared.known.Known.{Known}
 use Rattle.jr_rule.specs.declared.known.Grasp.{Grasp}
 use Rattle.jr_rule.specs.declared.naming.TopNaming.TheVariants as top
@@ -20,7 +22,7 @@ use Rattle.jr_rule.specs.Grasping.{words_at, with_range}
 use Rattle.jr_rule.specs.Knowing.{Standing, IsOf, MayKnow, view, anything, keeps, ShowsUsed, WasUsed, ShowsRange, Took}
 use Rattle.jr_rule.proofs.Goes.{goes_did, used_now, may_then}
 use Rattle.jr_heap.specs.Heap.{Called, IsOwn, Gains}
-use Rattle.jr_heap.proofs.Calling.{called_by}
+use Rattle.jr_heap.proofs.Calling.{called_by, called_none}
 
 reserved : (n : ℕ) → n ≢ 0 → (f : Frames) → reserve n f (Reserve n ∷ []) (Ok tt) f
 reserved zero some f = absurd (some refl)
@@ -64,7 +66,8 @@ module _ {S : Type 0} {stands : S → Standing} {knows : S → Known → Type 0}
   pub reserve_full : words < u + n → Called knows a b anything (λ j k. reserve n) (Err (SpaceFull u)) keeps
   reserve_full l = called_by (λ k s m.
       let g = looked.goes k s tt in
-      (g.0, g.1, ReserveFull n u ∷ [], record { did = subst (λ xs. Did (view k) (view g.0) xs) (named_full words n u l) (goes_did g.2); is = full n u some; grounds = tt; shows = g.3.1 }))
+      let d : Did (view k) (view g.0) (ReserveFull n u ∷ []) = subst (λ xs. Did (view k) (view g.0) xs) (named_full words n u l) (goes_did g.2) in
+      (g.0, g.1, ReserveFull n u ∷ [], record { did = d; is = full n u some; window = window_act (ReserveFull n u) d tt tt; grounds = tt; shows = g.3.1 }))
 
   module _ (room : u + n ≤ words) where
     first : (k : Known) → knows a k → (j : Known) × knows b j × Did (view k) (view j) [] × ShowsUsed u j × keeps k j
@@ -82,21 +85,24 @@ module _ {S : Type 0} {stands : S → Standing} {knows : S → Known → Type 0}
         let j = first k s in
         let g = t.goes j.0 j.1 (was_used k s) in
         let e : g.0.grasp ≡ with_range k.grasp u g.3.0 = g.3.2 ∙ ap (λ h. with_range h u g.3.0) j.4 in
-        (g.0, g.1, Reserve n ∷ [], record { did = did_then [] (Reserve n ∷ []) j.2 (goes_did g.2); is = reserved n some; grounds = tt; shows = gains n u k g.0 some g.3.0 g.3.1 e (subst (λ (h : Grasp). words_at u h.ranges ≡ []) j.4 g.3.3) }))
+        let d = did_then [] (Reserve n ∷ []) j.2 (goes_did g.2) in
+        (g.0, g.1, Reserve n ∷ [], record { did = d; is = reserved n some; window = window_act (Reserve n) d tt tt; grounds = tt; shows = gains n u k g.0 some g.3.0 g.3.1 e (subst (λ (h : Grasp). words_at u h.ranges ≡ []) j.4 g.3.3) }))
 
     pub reserve_lost : {c : S} (found : ℕ) → ((k : Known) → knows a k → k.config.words ≡ words) → Took stands knows b c (ReserveLost n u found ∷ []) (WasUsed u) (ShowsRange u n (Err found)) → Called knows a c anything (λ j k. reserve n) (Err (Raced u found)) keeps
     reserve_lost found same t = called_by (λ k s m.
         let j = first k s in
         let g = t.goes j.0 j.1 (was_used k s) in
-        let room_here : u + n ≤ k.config.words = subst (λ z. u + n ≤ z) (sym (same k s)) room in
+        let d = did_then [] (ReserveLost n u found ∷ []) j.2 (goes_did g.2) in
+        let room_here : u + n ≤ g.0.config.words = subst (λ z. u + n ≤ z) (sym (ap (λ (c : Config). c.words) d.config ∙ same k s)) room in
         let e : g.0.grasp ≡ k.grasp = g.3 ∙ j.4 in (
           g.0,
           g.1,
           ReserveLost n u found ∷ [],
           record {
-            did = did_then [] (ReserveLost n u found ∷ []) j.2 (goes_did g.2);
+            did = d;
             is = lost n u found some;
-            grounds = raced n u found (sometime_last j.2.begins j.3) j.2.thread room_here (goes_did g.2);
+            window = window_act (ReserveLost n u found) d tt tt;
+            grounds = raced k.seen n u found (sometime_last j.2.begins j.3) (goes_did g.2) room_here;
             shows = e;
           },
         ))
@@ -104,3 +110,8 @@ module _ {S : Type 0} {stands : S → Standing} {knows : S → Known → Type 0}
 module _ {S : Type 0} {stands : S → Standing} {knows : S → Known → Type 0} {b c : S} where
   pub reserve_owned : (n u : ℕ) → MayKnow knows b (WasUsed u) → Took stands knows b c (Reserve n ∷ []) (WasUsed u) (ShowsRange u n (Ok tt)) → MayKnow knows c (IsOwn u n)
   reserve_owned n u may t = may_then t (λ k s m. m) may (λ j k s m g x. own_range u n j k x.0 x.1 x.2)
+
+module _ {S : Type 0} {stands : S → Standing} {knows : S → Known → Type 0} (fits : (s : S) (k : Known) → knows s k → IsOf (stands s) k) where
+  -- no words are reserved by no step
+  pub reserve_none : (a : S) (n : ℕ) → n ≡ 0 → Called knows a a anything (λ j k. reserve n) (Ok tt) (Gains n 0)
+  reserve_none a n e = subst (λ m. Called knows a a anything (λ j k. reserve m) (Ok tt) (Gains m 0)) (sym e) (called_none fits (λ k s m f. (refl, refl, refl)) (λ k. tt) (λ k. refl))

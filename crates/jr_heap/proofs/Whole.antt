@@ -10,10 +10,10 @@ use Rattle.jr_model.specs.declared.event.Act.{Act}
 use Rattle.jr_model.specs.State.{Contents, State}
 use Rattle.jr_model.specs.History.{role_of, Did}
 use Rattle.jr_model.specs.Frames.{Frames}
+use Rattle.jr_model.specs.Windows.{IsWindow}
 use Rattle.jr_model.specs.Calls.{Call, Ran}
 use Rattle.jr_model.specs.Parts.{header}
-use Rattle.jr_model.proofs.Moments.{answer_wider, prefix_self}
-use Rattle.jr_model.proofs.Stays.{did_then}
+use Rattle.jr_model.proofs.Runs.{ran_behind}
 use Rattle.jr_rule.specs.declared.known.Known.{Known}
 use Rattle.jr_rule.specs.Knowing.{MayKnow, view, state_of, HasObject}
 use Rattle.jr_heap.specs.Heap.{Called, HoldsHeader, Learns, Leaves, Relearns, MayBeNamed, MayBeNamedIn, ShowsElement, ShowsElementOf}
@@ -36,22 +36,20 @@ reread o h answer k j q l s = (
       subst (λ (kind : Kind). ShowsElement kind answer q) same s.1,
 )
 
+read_window : (k j : Known) (o : ℕ) (h : HeaderParts) (f : Frames) → (r : Ran (view k) (view j) f f (header (state_of j) o) (Ok (h.kind, h.length))) → IsWindow (view k) (view j) [] r.begun
+read_window k j o h f r = subst (λ (xs : List Act). IsWindow (view k) (view j) xs r.begun) r.is.2.0 r.window
+
 module _ {S : Type 0} {knows : S → Known → Type 0} {a b : S} (o : ℕ) (h : HeaderParts) {first : Known → Type 0} (t : Called knows a b first (λ j k. header (state_of k) o) (Ok (h.kind, h.length)) (Learns o h)) where
   pub called_at : {A : Type 0} {c : S} {met then' : Known → Type 0} {answer : Result A Fault} {shows shows' : Known → Known → Type 0} (call : State → Call A) → Called knows b c then' (λ j k. call (state_of k)) answer shows
       → ((k : Known) → met k → first k) → ((k j : Known) → knows a k → met k → Did (view k) (view j) [] → Learns o h k j → then' j) → ((k j q : Known) → Learns o h k j → shows j q → shows' k q) → Called knows a c met (λ j k. call (state_of k)) answer shows'
-  called_at {answer = answer} call u meets next more = record {
+  called_at call u meets next more = record {
     ran = λ k s m.
         let r = t.ran k s (meets k m) in
         let d = λ (f : Frames). read_header k r.0 o h f (r.2 f) in
         let q = u.ran r.0 r.1 (next k r.0 s m (d (record { frames = []; given = [] })) r.3) in (
           q.0,
           q.1,
-          λ f. record {
-            acts = (q.2 f).acts;
-            did = did_then [] (q.2 f).acts (d f) (q.2 f).did;
-            is = (q.2 f).is;
-            grounds = answer_wider [] (d f) (view q.0) (view q.0) answer (prefix_self q.0.seen) (q.2 f).grounds;
-          },
+          λ f. ran_behind (d f) (read_window k r.0 o h f (r.2 f)) (q.2 f),
           more k r.0 q.0 r.3 q.3,
         );
   }

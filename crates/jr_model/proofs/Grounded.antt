@@ -1,33 +1,41 @@
 -- The refusals that speak of the shared room are true.
-use Rattle.std.proofs.Common.{◌≡◌, inl, inr, ℕ, zero, suc, ◌+◌, ◌<◌, ◌≤◌, List, ◌++◌, Err, ap, subst, ◌∙◌}
-use Rattle.jr_word.specs.declared.fault.Fault.TheVariants.{SpaceFull, Barred, Busy}
+use Rattle.std.proofs.Common.{◌≡◌, inl, inr, ℕ, Bool, zero, suc, ◌+◌, ◌<◌, ◌≤◌, List, [], ◌∷◌, ◌++◌, Err, ap, sym, subst, ◌∙◌}
+use mathlib.Core.List.{IsPrefix}
+use Rattle.jr_word.specs.declared.handle.RefKind.{RefKind}
+use Rattle.jr_word.specs.declared.fault.Fault.TheVariants.{RowFull, SpaceFull, Barred, Busy}
 use Rattle.jr_model.specs.declared.event.Act.{Act}
-use Rattle.jr_model.specs.declared.event.Act.TheVariants.{Knock, ShutBusy, ReserveFull}
-use Rattle.jr_model.specs.State.{SomebodyCollects, not_outside}
-use Rattle.jr_model.specs.History.{state, PassView, Did}
+use Rattle.jr_model.specs.declared.event.Act.TheVariants.{Enter, Knock, Leave, ShutBusy, Probe, ReserveFull}
+use Rattle.jr_model.specs.State.{State, SomebodyCollects, not_outside, IsOccupied}
+use Rattle.jr_model.specs.History.{History, by, state, PassView, Did}
 use Rattle.jr_model.specs.Frames.{Frames}
-use Rattle.jr_model.specs.Refusals.{Sometime}
-use Rattle.jr_model.specs.Parts.{enter, shut, reserve}
-use Rattle.jr_model.specs.Grounded.{BarredByCollector, BusyIsCounted, SpaceWasFull, FreeIndexIsFound}
-use Rattle.jr_model.proofs.Moments.{first_done, before_new}
+use Rattle.jr_model.specs.Windows.{IsBehind, IsLastSeen, Begins, Ends}
+use Rattle.jr_model.specs.Refusals.{RowWasFull}
+use Rattle.jr_model.specs.Calls.{Call, Ran, entered}
+use Rattle.jr_model.specs.Parts.{enter, shut, reserve, create}
+use Rattle.jr_model.specs.Grounded.{TookWhere, BarredByCollector, BusyIsCounted, SpaceWasFull, FreeIndexIsFound, RefusedInItsStay}
+use Rattle.jr_model.proofs.Moments.{OneAct, first_done, prefix_trans}
+use Rattle.jr_model.proofs.Windows.{ends_last}
+
+taken : {P : State → Type 0} {old new : PassView} {a : Act} (o : OneAct old new a) → P (state o.before) → TookWhere P old new a
+taken o met = record { before = o.before; since = o.since; took = o.parts; from = o.from; met = met }
 
 module _ (old new : PassView) (f g : Frames) where
-  knocked : (acts : List Act) → Did old new acts → enter f acts (Err Barred) g → Sometime SomebodyCollects old.seen new.seen
+  knocked : (acts : List Act) → Did old new acts → enter f acts (Err Barred) g → TookWhere SomebodyCollects old new Knock
   knocked acts d (inl r) = absurd (let bad = r.1 in cc)
   knocked acts d (inr (inr r)) = absurd (let bad = r.2.1 in cc)
   knocked acts d (inr (inl r)) =
       let o = first_done Knock r.3 (subst (Did old new) (r.4 ∙ ap (λ l. l ++ r.3) r.5.0) d) in
-      record { moment = o.before; from = o.from; to = before_new o; met = o.needs.1.1 }
+      taken o o.needs.1.1
 
-  counted : (n : ℕ) (acts : List Act) → Did old new acts → shut f acts (Err (Busy n)) g → Sometime (λ s. (n ≡ not_outside old.config s) × (1 ≤ n)) old.seen new.seen
+  counted : (n : ℕ) (acts : List Act) → Did old new acts → shut f acts (Err (Busy n)) g → TookWhere (λ s. (n ≡ not_outside old.config s) × (1 ≤ n)) old new (ShutBusy n)
   counted n acts d (inl r) = absurd (let bad = r.1 in cc)
   counted n acts d (inr (inr r)) = absurd (let bad = r.2.2 in cc)
   counted n acts d (inr (inl r)) =
       let same : r.5.0 ≡ n = let a = r.5.2 in let b = r.6.1 in cc in
       let o = first_done (ShutBusy r.5.0) r.3 (subst (Did old new) (r.4 ∙ ap (λ l. l ++ r.3) r.5.1) d) in
-      record { moment = o.before; from = o.from; to = before_new o; met = subst (λ m. (m ≡ not_outside old.config (state o.before)) × (1 ≤ m)) same (o.needs.1.1, o.needs.1.2) }
+      subst (λ m. TookWhere (λ s. (m ≡ not_outside old.config s) × (1 ≤ m)) old new (ShutBusy m)) same (taken o (o.needs.1.1, o.needs.1.2))
 
-  filled : (words used : ℕ) (acts : List Act) → Did old new acts → reserve words f acts (Err (SpaceFull used)) g → Sometime (λ s. (used ≡ s.used) × (old.config.words < used + words)) old.seen new.seen
+  filled : (words used : ℕ) (acts : List Act) → Did old new acts → reserve words f acts (Err (SpaceFull used)) g → TookWhere (λ s. (used ≡ s.used) × (old.config.words < used + words)) old new (ReserveFull words used)
   filled zero used acts d r = absurd (let bad = r.1 in cc)
   filled (suc n) used acts d (inl r) = absurd (let bad = r.1 in cc)
   filled (suc n) used acts d (inr (inl (inr r))) = absurd (let bad = r.2.2 in cc)
@@ -36,7 +44,7 @@ module _ (old new : PassView) (f g : Frames) where
   filled (suc n) used acts d (inr (inl (inl r))) =
       let same : r.5.0 ≡ used = let a = r.5.2 in let b = r.6.1 in cc in
       let o = first_done (ReserveFull (suc n) r.5.0) r.3 (subst (Did old new) (r.4 ∙ ap (λ l. l ++ r.3) r.5.1) d) in
-      record { moment = o.before; from = o.from; to = before_new o; met = subst (λ (u : ℕ). (u ≡ (state o.before).used) × (old.config.words < u + suc n)) same (o.needs.1.1, o.needs.1.2) }
+      subst (λ (u : ℕ). TookWhere (λ s. (u ≡ s.used) × (old.config.words < u + suc n)) old new (ReserveFull (suc n) u)) same (taken o (o.needs.1.1, o.needs.1.2))
 
 pub barred_by_collector : BarredByCollector
 barred_by_collector old new f g r = knocked old new f g r.acts r.did r.is
@@ -47,5 +55,34 @@ busy_is_counted old new f g n r = counted old new f g n r.acts r.did r.is
 pub space_was_full : SpaceWasFull
 space_was_full old new f g words used r = filled old new f g words used r.acts r.did r.is
 
+module _ (old new : PassView) (f g : Frames) where
+  -- where an index was free since its probes, none of them was of a refused creation
+  found_free : (k : RefKind) (o i : ℕ) → i < old.config.slots
+      → ((before since moment : History) (found : Bool) → IsPrefix old.seen before → new.seen ≡ before ++ by old.thread (Probe i found) ∷ since
+      → IsPrefix (before ++ by old.thread (Probe i found) ∷ []) moment → IsPrefix moment new.seen → ¬ (IsOccupied old.last (state moment) i))
+      → ¬ (Ran old new f g (create k o) (Err RowFull))
+  found_free k o i l free r =
+      let w = r.grounds i (subst (λ c. i < c.slots) (sym r.did.config) l) in
+      let m = w.occupied in
+      free w.before w.since m.moment w.found (prefix_trans old.seen r.begun w.before r.window.from w.own)
+      (subst (λ t. new.seen ≡ w.before ++ by t (Probe i w.found) ∷ w.since) r.did.thread w.probed)
+      (subst (λ t. IsPrefix (w.before ++ by t (Probe i w.found) ∷ []) m.moment) r.did.thread m.from)
+      m.to
+      (subst (λ n. IsOccupied n (state m.moment) i) r.did.last m.met)
+
+  -- what was refused within a stay was refused between its entry and its exit
+  refused_inside : {A : Type 0} (work : Call A) → Ran old new f g (entered work) (Err RowFull) → (begun : History) × IsBehind old Enter begun × IsLastSeen new Leave × RowWasFull begun new
+  refused_inside work r = go r.is
+    where
+      go : entered work f r.acts (Err RowFull) g → (begun : History) × IsBehind old Enter begun × IsLastSeen new Leave × RowWasFull begun new
+      go (inl x) = absurd (let bad = x.1 in cc)
+      go (inr x) =
+          let first : Begins old (Enter ∷ x.0 ++ Leave ∷ []) r.begun = subst (λ acts. Begins old acts r.begun) x.1 r.window.first in
+          let last : Ends old new (Enter ∷ x.0 ++ Leave ∷ []) = subst (Ends old new) x.1 r.window.last in
+          (r.begun, first, ends_last old new (Enter ∷ x.0) Leave last, r.grounds)
+
 pub free_index_is_found : FreeIndexIsFound
-free_index_is_found old new f g k o i l free r = let m = r.grounds i l in free m.moment m.from m.to m.met
+free_index_is_found old new f g k o i l free r = found_free old new f g k o i l free r
+
+pub refused_in_its_stay : RefusedInItsStay
+refused_in_its_stay old new f g k a r = refused_inside old new f g _ r

@@ -11,9 +11,9 @@ use Rattle.jr_model.specs.declared.event.Act.TheVariants.{Probe, ReserveLost}
 use Rattle.jr_model.specs.State.{Handle, State, IsPresent, IsOccupied}
 use Rattle.jr_model.specs.Steps.{Needs}
 use Rattle.jr_model.specs.History.{History, by, state, state_from, IsLegal, mine, PassView, Did}
-use Rattle.jr_model.specs.Refusals.{Sometime, RowWasFull, ObjectsWereFull, WasRaced, Grounds}
+use Rattle.jr_model.specs.Refusals.{Sometime, WasOccupied, ObjectsWereFull, WasRaced, Grounds}
 use Rattle.jr_model.proofs.Updates.{eq_true}
-use Rattle.jr_model.proofs.Histories.{legal_append, state_append}
+use Rattle.jr_model.proofs.Histories.{legal_append, state_append, state_push}
 use Rattle.jr_model.proofs.Stays.{mine_did}
 use Rattle.jr_model.proofs.References.{occupied_between}
 
@@ -76,11 +76,25 @@ one_act a d = first_done a [] d
 pub before_new : {old new : PassView} {a : Act} (o : OneAct old new a) → IsPrefix o.before new.seen
 before_new {old} {a} o = (by old.thread a ∷ o.since, sym o.parts)
 
+-- a probe changes nothing
+probed_state : (before : History) (t i : ℕ) (found : Bool) → state (before ++ by t (Probe i found) ∷ []) ≡ state before
+probed_state before t i found = state_push before (by t (Probe i found))
+
 -- a probe that found the index occupied
-pub probed_occupied : {old new : PassView} (i : ℕ) → Did old new (Probe i true ∷ []) → Sometime (λ s. IsOccupied old.last s i) old.seen new.seen
-probed_occupied i d =
+pub probed_occupied : {old new : PassView} (i : ℕ) → Did old new (Probe i true ∷ []) → WasOccupied old.seen new i
+probed_occupied {old} {new} i d =
     let o = one_act (Probe i true) d in
-    record { moment = o.before; from = o.from; to = before_new o; met = o.needs.1.1.0 refl }
+    let parts = subst (λ t. new.seen ≡ o.before ++ by t (Probe i true) ∷ o.since) (sym d.thread) o.parts in
+    let here = o.before ++ by new.thread (Probe i true) ∷ [] in
+    let met : IsOccupied old.last (state here) i = subst (λ s. IsOccupied old.last s i) (sym (probed_state o.before new.thread i true)) (o.needs.1.1.0 refl) in
+    record {
+      found = true;
+      before = o.before;
+      since = o.since;
+      probed = parts;
+      own = o.from;
+      occupied = record { moment = here; from = prefix_self here; to = (o.since, append_assoc o.before (by new.thread (Probe i true) ∷ []) o.since ∙ sym parts); met = subst (λ l. IsOccupied l (state here) i) (sym d.last) met };
+    }
 
 -- an index at which a handle was given in between
 pub given_occupied : {old new : PassView} (h : Handle) (acts : List Act) → Did old new acts → (state old.seen).given h ≡ false → (state new.seen).given h ≡ true → Sometime (λ s. IsOccupied old.last s h.index) old.seen new.seen
@@ -97,47 +111,75 @@ given_occupied {old} {new} h acts d fresh there =
     }
 
 -- a lost reservation, after a moment of the call at which so many words were used
-pub raced : {old mid new : PassView} (n looked found : ℕ) → Sometime (λ s. s.used ≡ looked) old.seen mid.seen → mid.thread ≡ old.thread → looked + n ≤ old.config.words → Did mid new (ReserveLost n looked found ∷ []) → WasRaced old new looked found
-raced {old} {mid} {new} n looked found m t room d =
+pub raced : (old : History) {mid new : PassView} (n looked found : ℕ) → Sometime (λ s. s.used ≡ looked) old mid.seen → Did mid new (ReserveLost n looked found ∷ []) → looked + n ≤ new.config.words → WasRaced old new looked found
+raced old {mid} {new} n looked found m d room =
     let o = one_act (ReserveLost n looked found) d in
     record {
       words = n;
       before = o.before;
       since = o.since;
-      lost = subst (λ u. new.seen ≡ o.before ++ by u (ReserveLost n looked found) ∷ o.since) t o.parts;
+      lost = subst (λ u. new.seen ≡ o.before ++ by u (ReserveLost n looked found) ∷ o.since) (sym d.thread) o.parts;
       room = room;
-      looked_at = sometime_wider (prefix_self old.seen) o.from m;
+      looked_at = sometime_wider (prefix_self old) o.from m;
     }
 
-module _ {p q : PassView} (xs : List Act) (d : Did p q xs) where
-  row_earlier : (r s : PassView) → IsPrefix r.seen s.seen → RowWasFull q r → RowWasFull p s
-  row_earlier r s after w i l =
-      subst (λ n. Sometime (λ z. IsOccupied n z i) p.seen s.seen) d.last
-      (sometime_wider d.begins after (w i (subst (λ (c : Config). i < c.slots) (sym d.config) l)))
+module _ {r s : PassView} (acts : List Act) (d : Did r s acts) where
+  -- an event that was seen is seen later
+  seen_later : (before since : History) (a : Act) → r.seen ≡ before ++ by r.thread a ∷ since → s.seen ≡ before ++ by s.thread a ∷ (since ++ d.begins.0)
+  seen_later before since a e = subst (λ t. s.seen ≡ before ++ by t a ∷ (since ++ d.begins.0)) (sym d.thread)
+      (sym d.begins.1 ∙ (ap (λ z. z ++ d.begins.0) e ∙ append_assoc before (by r.thread a ∷ since) d.begins.0))
 
-  objects_earlier : (r s : PassView) → IsPrefix r.seen s.seen → ObjectsWereFull q r → ObjectsWereFull p s
-  objects_earlier r s after w =
-      subst (λ (c : Config). Sometime (λ z. (o : ℕ) → 1 ≤ o → o ≤ c.objects → IsPresent z o) p.seen s.seen) d.config
-      (sometime_wider d.begins after w)
-
-  raced_earlier : (r s : PassView) (l f : ℕ) → IsPrefix r.seen s.seen → WasRaced q r l f → WasRaced p s l f
-  raced_earlier r s l f after w = record {
-    words = w.words;
+module _ {begun first : History} (earlier : IsPrefix first begun) {r s : PassView} (acts : List Act) (d : Did r s acts) where
+  -- an index that was probed and occupied in a part of a call was so in the call
+  pub occupied_wider : (i : ℕ) → WasOccupied begun r i → WasOccupied first s i
+  occupied_wider i w = record {
+    found = w.found;
     before = w.before;
-    since = w.since ++ after.0;
-    lost = subst (λ t. s.seen ≡ w.before ++ by t (ReserveLost w.words l f) ∷ (w.since ++ after.0)) d.thread
-        (sym after.1 ∙ (ap (λ z. z ++ after.0) w.lost ∙ append_assoc w.before (by q.thread (ReserveLost w.words l f) ∷ w.since) after.0));
-    room = subst (λ (c : Config). l + w.words ≤ c.words) d.config w.room;
-    looked_at = sometime_wider d.begins (prefix_self w.before) w.looked_at;
+    since = w.since ++ d.begins.0;
+    probed = seen_later acts d w.before w.since (Probe i w.found) w.probed;
+    own = prefix_trans first begun w.before earlier w.own;
+    occupied = subst (λ t. Sometime (λ z. IsOccupied s.last z i) (w.before ++ by t (Probe i w.found) ∷ []) s.seen) (sym d.thread)
+        (subst (λ n. Sometime (λ z. IsOccupied n z i) (w.before ++ by r.thread (Probe i w.found) ∷ []) s.seen) (sym d.last) (sometime_wider (prefix_self _) d.begins w.occupied));
   }
 
-  -- the grounds of a part of a call are grounds of the call
-  pub grounds_wider : (r s : PassView) (e : Fault) → IsPrefix r.seen s.seen → Grounds q r e → Grounds p s e
-  grounds_wider r s RowFull after g = row_earlier r s after g
-  grounds_wider r s ObjectsFull after g = objects_earlier r s after g
-  grounds_wider r s (Raced l f) after g = raced_earlier r s l f after g
-  grounds_wider r s _ after g = tt
+  objects_wider : ObjectsWereFull begun r → ObjectsWereFull first s
+  objects_wider w = subst (λ (c : Config). Sometime (λ z. (o : ℕ) → 1 ≤ o → o ≤ c.objects → IsPresent z o) first s.seen) (sym d.config) (sometime_wider earlier d.begins w)
 
-  pub answer_wider : {A : Type 0} (r s : PassView) (answer : Result A Fault) → IsPrefix r.seen s.seen → IfErr answer (Grounds q r) → IfErr answer (Grounds p s)
-  answer_wider r s (Ok x) after g = tt
-  answer_wider r s (Err e) after g = grounds_wider r s e after g
+  raced_wider : (l f : ℕ) → WasRaced begun r l f → WasRaced first s l f
+  raced_wider l f w = record {
+    words = w.words;
+    before = w.before;
+    since = w.since ++ d.begins.0;
+    lost = seen_later acts d w.before w.since (ReserveLost w.words l f) w.lost;
+    room = subst (λ (c : Config). l + w.words ≤ c.words) (sym d.config) w.room;
+    looked_at = sometime_wider earlier (prefix_self w.before) w.looked_at;
+  }
+
+-- an index that was occupied at some moment after the call had probed it
+pub probed_then : {old mid new : PassView} (i : ℕ) (found : Bool) (acts : List Act) → Did old mid (Probe i found ∷ []) → Did mid new acts → Sometime (λ s. IsOccupied mid.last s i) mid.seen new.seen → WasOccupied old.seen new i
+probed_then {old} {mid} {new} i found acts d e m =
+    let o = one_act (Probe i found) d in
+    let seen : mid.seen ≡ o.before ++ by mid.thread (Probe i found) ∷ o.since = subst (λ t. mid.seen ≡ o.before ++ by t (Probe i found) ∷ o.since) (sym d.thread) o.parts in
+    let here = o.before ++ by mid.thread (Probe i found) ∷ [] in
+    let begins : IsPrefix here mid.seen = (o.since, append_assoc o.before (by mid.thread (Probe i found) ∷ []) o.since ∙ sym seen) in
+    let later : Sometime (λ s. IsOccupied new.last s i) here new.seen = subst (λ n. Sometime (λ s. IsOccupied n s i) here new.seen) (sym e.last) (sometime_wider begins (prefix_self new.seen) m) in
+    record {
+      found = found;
+      before = o.before;
+      since = o.since ++ e.begins.0;
+      probed = seen_later acts e o.before o.since (Probe i found) seen;
+      own = o.from;
+      occupied = subst (λ t. Sometime (λ s. IsOccupied new.last s i) (o.before ++ by t (Probe i found) ∷ []) new.seen) (sym e.thread) later;
+    }
+
+module _ (begun first : History) (earlier : IsPrefix first begun) {r s : PassView} (acts : List Act) (d : Did r s acts) where
+  -- the grounds of a part of a call are grounds of the call
+  grounds_wider : (e : Fault) → Grounds begun r e → Grounds first s e
+  grounds_wider RowFull g = λ i l. occupied_wider earlier acts d i (g i (subst (λ (c : Config). i < c.slots) d.config l))
+  grounds_wider ObjectsFull g = objects_wider earlier acts d g
+  grounds_wider (Raced l f) g = raced_wider earlier acts d l f g
+  grounds_wider _ g = tt
+
+  pub answer_wider : {A : Type 0} (answer : Result A Fault) → IfErr answer (Grounds begun r) → IfErr answer (Grounds first s)
+  answer_wider (Ok x) g = tt
+  answer_wider (Err e) g = grounds_wider e g

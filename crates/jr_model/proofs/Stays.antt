@@ -152,7 +152,7 @@ did_then {old} {mid} {new} xs ys p q = record {
   own = subst (λ t. mine new.seen t ≡ mine mid.seen t ++ ys) p.thread q.own ∙ (ap (λ l. l ++ ys) p.own ∙ append_assoc (mine old.seen old.thread) xs ys);
 }
 
-role_from_append : (r : Role) (xs ys : List Act) → role_from r (xs ++ ys) ≡ role_from (role_from r xs) ys
+pub role_from_append : (r : Role) (xs ys : List Act) → role_from r (xs ++ ys) ≡ role_from (role_from r xs) ys
 role_from_append r [] ys = refl
 role_from_append r (x ∷ xs) ys = role_from_append (role_after r x) xs ys
 

@@ -6,8 +6,9 @@ use Rattle.jr_word.specs.declared.fault.Fault.TheVariants.{Barred, Memory}
 use Rattle.jr_model.specs.declared.event.Act.{Act}
 use Rattle.jr_model.specs.declared.event.Act.TheVariants.{Enter, Knock, Leave, Withdraw}
 use Rattle.jr_model.specs.State.{Contents, State}
-use Rattle.jr_model.specs.History.{PassView, Did}
+use Rattle.jr_model.specs.History.{History, PassView, Did}
 use Rattle.jr_model.specs.Frames.{Frames}
+use Rattle.jr_model.specs.Windows.{IsWindow}
 use Rattle.jr_model.specs.Refusals.{Grounds}
 
 -- a call: from these frames it may have these acts, give this answer, and leave those frames
@@ -71,9 +72,11 @@ opened work old acts answer new =
     ((acts ≡ Knock ∷ Withdraw ∷ []) × (answer ≡ Err Barred) × (new ≡ old))
     ⊎ ((inside : List Act) × MatchResult answer (λ x. (acts ≡ Enter ∷ inside) × work old inside answer new) (λ e. (acts ≡ Enter ∷ inside ++ Leave ∷ []) × work old inside answer new))
 
--- A CALL THAT WAS MADE: between two moments of a pass and its frames the thread did what the call does, with this answer; and a refusal that speaks of the room has its grounds
+-- A CALL THAT WAS MADE: between two moments of a pass and its frames the thread did what the call does, with this answer. The call has its window, and a refusal that speaks of the room has its grounds there
 pub record Ran {A : Type 0} (old new : PassView) (before after : Frames) (call : Call A) (answer : Result A Fault) : Type 0 where
   pub acts : List Act
   pub did : Did old new acts
   pub is : call before acts answer after
-  pub grounds : IfErr answer (Grounds old new)
+  pub begun : History
+  pub window : IsWindow old new acts begun
+  pub grounds : IfErr answer (Grounds begun new)

@@ -1,9 +1,9 @@
 -- What the refusals say of the room that all threads share.
-use Rattle.std.specs.Prelude.{◌≡◌, ◌+◌, ◌<◌, ◌≤◌, ℕ, ◌∷◌, ◌++◌}
+use Rattle.std.specs.Prelude.{◌≡◌, ◌+◌, ◌<◌, ◌≤◌, ℕ, Bool, [], ◌∷◌, ◌++◌}
 use mathlib.Core.List.{IsPrefix}
 use Rattle.jr_word.specs.declared.fault.Fault.{Fault}
 use Rattle.jr_word.specs.declared.fault.Fault.TheVariants.{RowFull, ObjectsFull, Raced}
-use Rattle.jr_model.specs.declared.event.Act.TheVariants.{ReserveLost}
+use Rattle.jr_model.specs.declared.event.Act.TheVariants.{Probe, ReserveLost}
 use Rattle.jr_model.specs.State.{State, IsPresent, IsOccupied}
 use Rattle.jr_model.specs.History.{History, by, state, PassView}
 
@@ -14,26 +14,35 @@ pub record Sometime (P : State → Type 0) (old new : History) : Type 0 where
   pub to : IsPrefix moment new
   pub met : P (state moment)
 
--- each index was occupied at some moment of the call, not all at one moment
-abbrev pub RowWasFull : PassView → PassView → Type 0
-RowWasFull old new = (i : ℕ) → i < old.config.slots → Sometime (λ s. IsOccupied old.last s i) old.seen new.seen
+-- the call probed the index after this moment, and the index was occupied then or later in the call
+pub record WasOccupied (begun : History) (new : PassView) (i : ℕ) : Type 0 where
+  pub found : Bool
+  pub before : History
+  pub since : History
+  pub probed : new.seen ≡ before ++ by new.thread (Probe i found) ∷ since
+  pub own : IsPrefix begun before
+  pub occupied : Sometime (λ s. IsOccupied new.last s i) (before ++ by new.thread (Probe i found) ∷ []) new.seen
+
+-- each index was probed in the call and occupied since, not all at one moment
+abbrev pub RowWasFull : History → PassView → Type 0
+RowWasFull begun new = (i : ℕ) → i < new.config.slots → WasOccupied begun new i
 
 -- at one moment of the call each object number was present
-abbrev pub ObjectsWereFull : PassView → PassView → Type 0
-ObjectsWereFull old new = Sometime (λ s. (o : ℕ) → 1 ≤ o → o ≤ old.config.objects → IsPresent s o) old.seen new.seen
+abbrev pub ObjectsWereFull : History → PassView → Type 0
+ObjectsWereFull begun new = Sometime (λ s. (o : ℕ) → 1 ≤ o → o ≤ new.config.objects → IsPresent s o) begun new.seen
 
 -- the call lost a reservation, for which there was room beside what it had looked at; and so many words were used at an earlier moment of the call
-pub record WasRaced (old new : PassView) (looked found : ℕ) : Type 0 where
+pub record WasRaced (begun : History) (new : PassView) (looked found : ℕ) : Type 0 where
   pub words : ℕ
   pub before : History
   pub since : History
-  pub lost : new.seen ≡ before ++ by old.thread (ReserveLost words looked found) ∷ since
-  pub room : looked + words ≤ old.config.words
-  pub looked_at : Sometime (λ s. s.used ≡ looked) old.seen before
+  pub lost : new.seen ≡ before ++ by new.thread (ReserveLost words looked found) ∷ since
+  pub room : looked + words ≤ new.config.words
+  pub looked_at : Sometime (λ s. s.used ≡ looked) begun before
 
--- THE GROUNDS of a refusal, beside what the acts of the call show
-abbrev pub Grounds : PassView → PassView → Fault → Type 0
-Grounds old new RowFull = RowWasFull old new
-Grounds old new ObjectsFull = ObjectsWereFull old new
-Grounds old new (Raced looked found) = WasRaced old new looked found
-Grounds old new _ = Unit {0}
+-- THE GROUNDS of a refusal in a call that began at this moment, beside what the acts of the call show
+abbrev pub Grounds : History → PassView → Fault → Type 0
+Grounds begun new RowFull = RowWasFull begun new
+Grounds begun new ObjectsFull = ObjectsWereFull begun new
+Grounds begun new (Raced looked found) = WasRaced begun new looked found
+Grounds begun new _ = Unit {0}

@@ -1,7 +1,7 @@
 ghost use Rattle.std.specs.Prelude.{ℕ};
 ghost use Rattle.jr_word.specs.declared.config.Config.{Config};
 ghost use Rattle.jr_model.specs.State.{State};
-ghost use Rattle.jr_model.specs.Grounded.{BarredByCollector, BusyIsCounted, SpaceWasFull, FreeIndexIsFound};
+ghost use Rattle.jr_model.specs.Grounded.{BarredByCollector, BusyIsCounted, SpaceWasFull, FreeIndexIsFound, RefusedInItsStay};
 ghost use Rattle.jr_model.specs.Moves.{CallsMoveFrames};
 ghost use Rattle.jr_model.specs.Unchanged.{RefusalsChangeNothing, HarmlessChangesNothing};
 ghost use Rattle.jr_model.specs.Laws.{
@@ -126,10 +126,11 @@ pub fn refusals_change_nothing()
     ensures acts { HarmlessChangesNothing }
 {}
 
-/// What a refusal says of the shared room was so at some moment of the call: E13, E14 and E10 by their events, and E8 only where no index was free all through.
+/// What a refusal says of the shared room was so in the call: E13, E14 and E10 at the very act that they tell of, and E8 only where no index was free all the time since it was probed, within the stay alone.
 pub fn refusals_are_true()
     ensures barred { BarredByCollector }
     ensures busy { BusyIsCounted }
     ensures space { SpaceWasFull }
     ensures row { FreeIndexIsFound }
+    ensures stay { RefusedInItsStay }
 {}

@@ -12,6 +12,7 @@ use Rattle.jr_model.specs.declared.event.Act.{Act}
 use Rattle.jr_model.specs.declared.event.Act.TheVariants.{Look, Leave, Shut}
 use Rattle.jr_model.specs.State.{Handle, Contents, State, IsPresent, IsClosed}
 use Rattle.jr_model.specs.History.{History, by, mine, state, IsLegal, role_of, Did}
+use Rattle.jr_model.specs.Windows.{Stepped}
 use Rattle.jr_model.proofs.Histories.{legal_push, state_push, mine_append}
 use Rattle.jr_model.proofs.Presence.{named_is_present, sound_state}
 use Rattle.jr_model.proofs.Stays.{IsStill, still_did, did_added, did_then, mine_did}
@@ -24,6 +25,10 @@ use Rattle.jr_rule.specs.Knowing.{Standing, IsOf, MayKnow, keeps, ShowsUsed, IsC
 -- a step is what the thread did
 pub goes_did : {k k' : Known} {acts : List Act} → Goes k acts k' → Did (view k) (view k') acts
 goes_did {acts = acts} g = did_added g.between acts g.config g.last g.thread g.seen g.others g.legal
+
+-- its event is the last that was seen
+pub goes_stepped : {k k' : Known} {a : Act} → Goes k (a ∷ []) k' → Stepped (view k) (view k') a
+goes_stepped g = record { did = goes_did g; behind = record { between = g.between; others = g.others; is = g.seen } }
 
 -- a look finds what the reference names in the state after it
 pub looked_refs : {k k' : Known} (h : Handle) (r : Found) → Goes k (Look h r ∷ []) k' → (state_of k').refs h ≡ r

@@ -1,5 +1,5 @@
 -- A reference is made to what was resolved.
-use Rattle.std.proofs.Common.{◌≡◌, ℕ, Bool, true, arith, Option, Some, None, List, [], ◌∷◌, Result, Ok, Err, refl, ap, subst}
+use Rattle.std.proofs.Common.{◌≡◌, ℕ, Bool, true, arith, Option, Some, None, List, [], ◌∷◌, Result, Ok, Err, refl, ap, subst, ◌∙◌}
 use Rattle.std.specs.List.{AllByRecursion}
 use Rattle.std.specs.Result.{IsErrAnd}
 use mathlib.Core.Logic.{∥∥₁_map}
@@ -7,6 +7,7 @@ use Rattle.jr_word.specs.declared.config.Config.{Config}
 use Rattle.jr_word.specs.declared.handle.RefKind.{RefKind}
 use Rattle.jr_word.specs.declared.fault.Fault.{Fault}
 use Rattle.jr_word.specs.declared.fault.Fault.TheVariants.{RowFull}
+use Rattle.jr_model.specs.declared.event.Role.TheVariants.{Within}
 use Rattle.jr_model.specs.State.{Handle}
 use Rattle.jr_model.specs.Frames.{Frames}
 use Rattle.jr_model.specs.Calls.{Call, done, ◌>>=◌}
@@ -47,17 +48,17 @@ module _ {S : Type 0} {stands : S → Standing} {knows : S → Known → Type 0}
   pub may_create : {z : Option ℕ} {o : ℕ} → z ≡ Some o → Resolves stands knows a b f first (Ok z) → MayKnow knows a (Holds f) → MayKnow knows b (HasObject o)
   may_create is r some = let p = resolves_at is r in ∥∥₁_map some (λ k. let x = p.ran k.0 k.1 k.2 in (x.0, x.1, x.3.1))
 
-  pub creates_full : {c : S} {z : Option ℕ} {o : ℕ} {e : Fault} (fits : (s : S) (k : Known) → knows s k → IsOf (stands s) k) (kind : RefKind) (answer : Result (Option Handle) Fault) → IsErrAnd answer (λ y. y ≡ e)
+  pub creates_full : {c : S} {z : Option ℕ} {o : ℕ} {e : Fault} (fits : (s : S) (k : Known) → knows s k → IsOf (stands s) k) → (stands a).role ≡ Within → (kind : RefKind) (answer : Result (Option Handle) Fault) → IsErrAnd answer (λ y. y ≡ e)
       → z ≡ Some o → Resolves stands knows a b f first (Ok z) → (e ≡ RowFull) × Searched stands knows b c kind o 0 (stands b).config.slots None → Calls stands knows a c f f (first >>= created kind) answer
-  creates_full {c} {o = o} fits kind answer given is r why = let p = resolves_at is r in let q = why.1 in handed_on answer (subst (λ y. IsErrAnd answer (λ z. z ≡ y)) why.0 given) (record {
+  creates_full {c} {o = o} fits w kind answer given is r why = let p = resolves_at is r in let q = why.1 in handed_on answer (subst (λ y. IsErrAnd answer (λ z. z ≡ y)) why.0 given) (record {
     stands_is = still_before p.stands_is (as_before _ q.stands_is);
     ran = λ k s m.
         let x = p.ran k s m in
         let y = q.did x.0 x.1 x.3.1 in
-        let slots : x.0.config.slots ≡ (stands b).config.slots = ap (λ (z : Config). z.slots) (fits b x.0 x.1).config in (
+        let slots : y.0.config.slots ≡ (stands b).config.slots = ap (λ (z : Config). z.slots) (y.5.config ∙ (fits b x.0 x.1).config) in (
           y.0,
           y.1,
-          ran_then {next = created kind} (Some o) x.2 (ran_err (λ h. done (Some h)) RowFull (ran_row_full f kind o y.4 y.5 (λ i l. y.3 i (omega arith) (omega arith)))),
+          ran_then {next = created kind} (Some o) x.2 (ran_err (λ h. done (Some h)) RowFull (ran_row_full f kind o y.4 ((fits b x.0 x.1).role ∙ (p.stands_is.role ∙ w)) y.5 (λ i l. y.3 i (omega arith) (omega arith)))),
           holds_did x.0 y.0 f (search_acts o y.4 None) y.5 (search_spares o y.4 None) x.3.0,
         );
   })

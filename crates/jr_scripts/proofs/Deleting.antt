@@ -34,20 +34,20 @@ found_none found.Cleared e is = absurd cc
 found_none found.Stale e is = (refl, cc)
 
 won : (p q : PassView) (f : Frames) (h : Handle) (z : Option ℕ) → Did p q (Delete h ∷ []) → Ran p q f f (delete_found h (found_object z)) (Ok tt)
-won p q f h (Some o) d = let r = ran_act f (Delete h) d in record { acts = r.acts; did = r.did; is = inl r.is; grounds = tt }
-won p q f h None d = let r = ran_act f (Delete h) d in record { acts = r.acts; did = r.did; is = inl r.is; grounds = tt }
+won p q f h (Some o) d = let r = ran_act f (Delete h) tt tt d in record { acts = r.acts; did = r.did; is = inl r.is; begun = r.begun; window = r.window; grounds = tt }
+won p q f h None d = let r = ran_act f (Delete h) tt tt d in record { acts = r.acts; did = r.did; is = inl r.is; begun = r.begun; window = r.window; grounds = tt }
 
 lost_then : (p q : PassView) (f : Frames) (h : Handle) → Did p q (DeleteStale h ∷ []) → Ran p q f f (act (DeleteStale h) >> refuse {A = Unit {0}} fault.Stale) (Err fault.Stale)
-lost_then p q f h d = ran_then {g = f} {next = λ u. refuse {A = Unit {0}} fault.Stale} tt (ran_act f (DeleteStale h) d) (ran_refuse q f fault.Stale tt (did_legal (DeleteStale h ∷ []) d))
+lost_then p q f h d = ran_then {g = f} {next = λ u. refuse {A = Unit {0}} fault.Stale} tt (ran_act f (DeleteStale h) tt tt d) (ran_refuse q f fault.Stale tt (did_legal (DeleteStale h ∷ []) d))
 
 lost : (p q : PassView) (f : Frames) (h : Handle) (z : Option ℕ) → Did p q (DeleteStale h ∷ []) → Ran p q f f (delete_found h (found_object z)) (Err fault.Stale)
-lost p q f h (Some o) d = let r = lost_then p q f h d in record { acts = r.acts; did = r.did; is = inr r.is; grounds = tt }
-lost p q f h None d = let r = lost_then p q f h d in record { acts = r.acts; did = r.did; is = inr r.is; grounds = tt }
+lost p q f h (Some o) d = let r = lost_then p q f h d in record { acts = r.acts; did = r.did; is = inr r.is; begun = r.begun; window = r.window; grounds = tt }
+lost p q f h None d = let r = lost_then p q f h d in record { acts = r.acts; did = r.did; is = inr r.is; begun = r.begun; window = r.window; grounds = tt }
 
 module _ {S : Type 0} {stands : S → Standing} {knows : S → Known → Type 0} {a b : S} (h : Handle) (r : Found) (t : Took stands knows a b (Look h r ∷ []) anything keeps) where
   stale_ran : r ≡ found.Stale → (k k' : Known) → Goes k (Look h r ∷ []) k' → (f : Frames) → Ran (view k) (view k') f f (delete h) (Err fault.Stale)
   stale_ran is k k' g f = let d = goes_did (subst (λ x. Goes k (Look h x ∷ []) k') is g) in
-      ran_then found.Stale (ran_some_act f (Look h) found.Stale d) (ran_refuse (view k') f fault.Stale tt (did_legal (Look h found.Stale ∷ []) d))
+      ran_then found.Stale (ran_some_act f (Look h) found.Stale tt tt d) (ran_refuse (view k') f fault.Stale tt (did_legal (Look h found.Stale ∷ []) d))
 
   pub deleted_none : {e : Fault} (answer : Result (Unit {0}) Fault) → found_answer r ≡ Err e → IsErrAnd answer (λ y. y ≡ e) → (f : Frames) → Performed stands knows a b f f anything (λ s. delete h) answer anything
   deleted_none {e} answer is given f =
@@ -71,12 +71,12 @@ module _ {S : Type 0} {stands : S → Standing} {knows : S → Known → Type 0}
     deleted_won u f = record {
       stands_is = still_before (as_before _ t.stands_is) (as_before _ u.stands_is);
       ran = λ k s m. let g = t.goes k s m in let e = u.goes g.0 g.1 (looked k g.0 g.2) in
-          (e.0, e.1, ran_then (found_object z) (ran_some_act f (Look h) (found_object z) (looked_did k g.0 g.2)) (won (view g.0) (view e.0) f h z (goes_did e.2)), tt);
+          (e.0, e.1, ran_then (found_object z) (ran_some_act f (Look h) (found_object z) tt tt (looked_did k g.0 g.2)) (won (view g.0) (view e.0) f h z (goes_did e.2)), tt);
     }
 
     pub deleted_lost : {c : S} → Took stands knows b c (DeleteStale h ∷ []) (HasLooked h (found_object z)) keeps → (f : Frames) → Performed stands knows a c f f anything (λ s. delete h) (Err fault.Stale) anything
     deleted_lost u f = record {
       stands_is = still_before (as_before _ t.stands_is) (as_before _ u.stands_is);
       ran = λ k s m. let g = t.goes k s m in let e = u.goes g.0 g.1 (looked k g.0 g.2) in
-          (e.0, e.1, ran_then (found_object z) (ran_some_act f (Look h) (found_object z) (looked_did k g.0 g.2)) (lost (view g.0) (view e.0) f h z (goes_did e.2)), tt);
+          (e.0, e.1, ran_then (found_object z) (ran_some_act f (Look h) (found_object z) tt tt (looked_did k g.0 g.2)) (lost (view g.0) (view e.0) f h z (goes_did e.2)), tt);
     }

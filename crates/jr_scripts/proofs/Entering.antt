@@ -1,5 +1,5 @@
 -- A call between an entry and its exit.
-use Rattle.std.proofs.Common.{◌≡◌, ℕ, [], ◌∷◌, Result, Err, length, inl, refl, sym, ap, subst, ◌∙◌}
+use Rattle.std.proofs.Common.{◌≡◌, ℕ, [], ◌∷◌, Result, Err, length, refl, sym, ap, subst, ◌∙◌}
 use Rattle.std.proofs.lemmas.List.{length-replicate}
 use mathlib.Core.Logic.{∥∥₁_map}
 use Rattle.std.specs.Result.{IsErrAnd}
@@ -11,10 +11,10 @@ use Rattle.jr_model.specs.declared.event.Role.TheVariants.{Outside, Within}
 use Rattle.jr_model.specs.declared.event.Act.TheVariants.{Enter, Knock, Leave, Withdraw}
 use Rattle.jr_model.specs.Frames.{Frames, fresh_frames, object_at}
 use Rattle.jr_model.specs.Calls.{Call, entered}
-use Rattle.jr_model.proofs.Runs.{ran_entered}
+use Rattle.jr_model.proofs.Runs.{ran_barred, ran_entered}
 use Rattle.jr_rule.specs.declared.known.Known.{Known}
 use Rattle.jr_rule.specs.Knowing.{Standing, moved, anything, keeps, lets_go, HasNoLocals, MayKnow, Took}
-use Rattle.jr_rule.proofs.Goes.{goes_did}
+use Rattle.jr_rule.proofs.Goes.{goes_did, goes_stepped}
 use Rattle.jr_gate.specs.Acting.{ActedTo, IsWithdrawn}
 use Rattle.jr_scripts.specs.Table.{Table}
 use Rattle.jr_scripts.specs.Performing.{Calls, IsAsBefore}
@@ -78,7 +78,7 @@ module _ {S : Type 0} {stands : S → Standing} {knows : S → Known → Type 0}
     calls_barred {a} f out t = record {
       stands_is = as_before _ (t.stands_is ∙ ap (with_role (stands a)) (sym out));
       ran = λ k s m. let g = t.did k s tt in
-          (g.0, g.1, record { acts = Knock ∷ Withdraw ∷ []; did = g.2; is = inl (refl, refl, refl); grounds = tt }, holds_did k g.0 f (Knock ∷ Withdraw ∷ []) g.2 (refl, (refl, tt)) m);
+          (g.0, g.1, ran_barred f (work (stands a).config (stands a).last (stands a).thread) g.2 g.5, holds_did k g.0 f (Knock ∷ Withdraw ∷ []) g.2 (refl, (refl, tt)) m);
     }
 
     calls_entered : {a b c d : S} {f g : Frames} {answer : Result A Fault} → (stands a).role ≡ Outside → Took stands knows a b (Enter ∷ []) anything keeps
@@ -92,7 +92,7 @@ module _ {S : Type 0} {stands : S → Standing} {knows : S → Known → Type 0}
               let x = e.goes k s tt in
               let y = q.ran x.0 x.1 (holds_did k x.0 f (Enter ∷ []) (goes_did x.2) (refl, tt) m) in
               let z = u.goes y.0 y.1 tt in
-              (z.0, z.1, ran_entered (goes_did x.2) y.2 (goes_did z.2), holds_did y.0 z.0 g (Leave ∷ []) (goes_did z.2) (refl, tt) y.3);
+              (z.0, z.1, ran_entered (goes_stepped x.2) y.2 (goes_stepped z.2), holds_did y.0 z.0 g (Leave ∷ []) (goes_did z.2) (refl, tt) y.3);
         }
 
     -- an entry that found the gate shut

@@ -1,5 +1,5 @@
 -- A plain object is made, and a local reference to it.
-use Rattle.std.proofs.Common.{◌≡◌, ◌≢◌, ◌<◌, ◌≤◌, ℕ, false, nat_lt, Some, None, [], ◌∷◌, Result, Ok, Err, length, inl, inr, refl, sym, subst, arith, IsTrue}
+use Rattle.std.proofs.Common.{◌≡◌, ◌≢◌, ◌<◌, ◌≤◌, ℕ, false, nat_lt, Some, None, [], ◌∷◌, Result, Ok, Err, length, inl, inr, refl, sym, subst, ◌∙◌, arith, IsTrue}
 use Rattle.std.proofs.lemmas.Bool.Decides.{nat_tests}
 use Rattle.std.specs.Result.{IsErrAnd}
 use mathlib.Core.Logic.{∥∥₁_map, ∥∥₁_elim}
@@ -11,7 +11,7 @@ use Rattle.jr_word.specs.declared.fault.Fault.TheVariants.{LocalsFull, ObjectsFu
 use Rattle.jr_model.specs.declared.event.Role.TheVariants.{Within}
 use Rattle.jr_model.specs.declared.event.Act.TheVariants.{New, LocalPut}
 use Rattle.jr_model.specs.State.{Handle}
-use Rattle.jr_model.specs.History.{PassView, Did}
+use Rattle.jr_model.specs.History.{PassView, role_of, Did}
 use Rattle.jr_model.specs.Frames.{Frames, IsAdded, free_places, is_free}
 use Rattle.jr_model.specs.Refusals.{ObjectsWereFull}
 use Rattle.jr_model.specs.Calls.{Call, Ran, refuse_if, ◌>>=◌}
@@ -19,6 +19,7 @@ use Rattle.jr_model.specs.Parts.{publish}
 use Rattle.jr_model.specs.References.{added, room_for, making}
 use Rattle.jr_model.proofs.Counts.{count_none}
 use Rattle.jr_model.proofs.Moments.{sometime_last, one_act}
+use Rattle.jr_model.proofs.Windows.{window_act, window_within}
 use Rattle.jr_model.proofs.Runs.{ran_then, ran_err}
 use Rattle.jr_rule.specs.declared.known.Known.{Known}
 use Rattle.jr_rule.specs.Knowing.{Standing, IsOf, view, anything, keeps, HasOptional, MayKnow, Took}
@@ -44,21 +45,23 @@ module _ (c : Config) (last t : ℕ) where
     acts = r.acts;
     did = r.did;
     is = inl (tt, f, [], r.acts, refl, subst (λ b. refuse_if b LocalsFull f [] (Ok tt) f) (sym room) (refl, refl, refl), r.is);
+    begun = r.begun;
+    window = r.window;
     grounds = r.grounds;
   }
 
   roomy : {p q : PassView} (f : Frames) {g : Frames} {answer : Result Handle Fault} → nat_lt (free_places last f) 1 ≡ false → Ran p q f g (publish Plain [] >>= added c last t) answer → Ran p q f g (making c last t) answer
-  roomy f room r = room_ran f room (record { acts = r.acts; did = r.did; is = inl (tt, f, [], r.acts, refl, (refl, refl, refl), r.is); grounds = r.grounds })
+  roomy f room r = room_ran f room (record { acts = r.acts; did = r.did; is = inl (tt, f, [], r.acts, refl, (refl, refl, refl), r.is); begun = r.begun; window = r.window; grounds = r.grounds })
 
-  full_ran : {p q : PassView} (f : Frames) → nat_lt (free_places last f) 1 ≡ false → ObjectsWereFull p q → Did p q [] → Ran p q f f (making c last t) (Err ObjectsFull)
-  full_ran {p} {q} f room full d =
-      let r : Ran p q f f (publish Plain []) (Err ObjectsFull) = record { acts = []; did = d; is = inr (refl, refl, refl); grounds = full } in
+  full_ran : {p q : PassView} (f : Frames) → nat_lt (free_places last f) 1 ≡ false → role_of p ≡ Within → ObjectsWereFull p.seen q → Did p q [] → Ran p q f f (making c last t) (Err ObjectsFull)
+  full_ran {p} {q} f room w full d =
+      let r : Ran p q f f (publish Plain []) (Err ObjectsFull) = record { acts = []; did = d; is = inr (refl, refl, refl); begun = p.seen; window = window_within [] d w tt; grounds = full } in
       roomy f room (ran_err (added c last t) ObjectsFull r)
 
   made_ran : {p q r : PassView} {f g : Frames} (h : Handle) (o : ℕ) → nat_lt (free_places last f) 1 ≡ false → Did p q (New o Plain [] ∷ []) → Did q r (LocalPut h.index o ∷ []) → IsAdded last t f (record { handle = h; object = o }) g → Ran p r f g (making c last t) (Ok h)
   made_ran {p} {q} {r} {f} {g} h o room d e a =
-      let x : Ran p q f f (publish Plain []) (Ok o) = record { acts = New o Plain [] ∷ []; did = d; is = inl (o, refl, refl, refl); grounds = tt } in
-      let y : Ran q r f g (added c last t o) (Ok h) = record { acts = LocalPut h.index o ∷ []; did = e; is = (h, refl, refl, a); grounds = tt } in
+      let x : Ran p q f f (publish Plain []) (Ok o) = record { acts = New o Plain [] ∷ []; did = d; is = inl (o, refl, refl, refl); begun = p.seen; window = window_act (New o Plain []) d tt tt; grounds = tt } in
+      let y : Ran q r f g (added c last t o) (Ok h) = record { acts = LocalPut h.index o ∷ []; did = e; is = (h, refl, refl, a); begun = q.seen; window = window_act (LocalPut h.index o) e tt tt; grounds = tt } in
       roomy f room (ran_then {next = added c last t} o x y)
 
 module _ {S : Type 0} {stands : S → Standing} {knows : S → Known → Type 0} where
@@ -84,8 +87,8 @@ module _ {S : Type 0} {stands : S → Standing} {knows : S → Known → Type 0}
       stands_is = as_before _ p.stands_is;
       ran = λ k s m.
           let x = p.did k s in
-          let full : ObjectsWereFull (view k) (view x.0) = sometime_last x.3.begins (λ o l n. x.2 o l (subst (λ (c : Config). o ≤ c.objects) (fits a k s).config n)) in
-          (x.0, x.1, full_ran (stands a).config (stands a).last (stands a).thread t.frames (room_at h r next) full x.3, holds_did k x.0 t.frames [] x.3 tt m);
+          let full : ObjectsWereFull k.seen (view x.0) = sometime_last x.3.begins (λ o l n. x.2 o l (subst (λ (c : Config). o ≤ c.objects) (x.3.config ∙ (fits a k s).config) n)) in
+          (x.0, x.1, full_ran (stands a).config (stands a).last (stands a).thread t.frames (room_at h r next) ((fits a k s).role ∙ r.role_is) full x.3, holds_did k x.0 t.frames [] x.3 tt m);
     })
 
     pub makes : {c : S} {o : ℕ} {g : Frames} → Published stands knows a b Plain (Some o) → Took stands knows b c (LocalPut h.index o ∷ []) (HasOptional (Some o)) keeps

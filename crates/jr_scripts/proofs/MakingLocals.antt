@@ -11,9 +11,10 @@ use Rattle.jr_model.specs.History.{PassView, IsLegal, Did}
 use Rattle.jr_model.specs.Frames.{Frames, IsAdded, free_places}
 use Rattle.jr_model.specs.Calls.{Call, Ran, ◌>>=◌}
 use Rattle.jr_model.specs.References.{added, new_local, room_for, making}
-use Rattle.jr_model.proofs.Runs.{ran_then, ran_give}
+use Rattle.jr_model.proofs.Windows.{window_act}
+use Rattle.jr_model.proofs.Runs.{ran_done, ran_then, ran_give}
 use Rattle.jr_rule.specs.declared.known.Known.{Known}
-use Rattle.jr_rule.specs.Knowing.{Standing, IsOf, keeps, HasObject, HasOptional, Holds, MayKnow, Took}
+use Rattle.jr_rule.specs.Knowing.{Standing, IsOf, view, keeps, HasObject, HasOptional, Holds, MayKnow, Took}
 use Rattle.jr_model.proofs.InRoom.{in_room}
 use Rattle.jr_rule.proofs.Goes.{goes_did}
 use Rattle.jr_scripts.specs.Table.{Table, IsNext, IsOnly}
@@ -27,12 +28,12 @@ use Rattle.jr_scripts.proofs.Resolving.{stays}
 use Rattle.jr_scripts.proofs.Making.{room_at, room_ran}
 
 local_ran : (c : Config) (last t : ℕ) {p q : PassView} {f g : Frames} (h : Handle) (o : ℕ) → Did p q (LocalPut h.index o ∷ []) → IsAdded last t f (record { handle = h; object = o }) g → Ran p q f g (added c last t o) (Ok h)
-local_ran c last t h o d a = record { acts = LocalPut h.index o ∷ []; did = d; is = (h, refl, refl, a); grounds = tt }
+local_ran c last t {p} h o d a = record { acts = LocalPut h.index o ∷ []; did = d; is = (h, refl, refl, a); begun = p.seen; window = window_act (LocalPut h.index o) d tt tt; grounds = tt }
 
 full_ran : (c : Config) (last t : ℕ) {p : PassView} {f : Frames} {B : Type 0} (next : Unit {0} → Call B) → free_places last f ≡ 0 → IsLegal p.config p.last p.seen → Ran p p f f (room_for c last t 1 >>= next) (Err LocalsFull)
 full_ran c last t {p} {f} next none l =
     let r = ran_refused p f (nat_lt (free_places last f) 1) LocalsFull next (ap (λ n. nat_lt n 1) none) tt l in
-    record { acts = r.acts; did = r.did; is = r.is; grounds = r.grounds }
+    record { acts = r.acts; did = r.did; is = r.is; begun = r.begun; window = r.window; grounds = r.grounds }
 
 -- the object that was found, if there is one, is present
 found_optional : (z : Option ℕ) (k : Known) → FoundPresent (Ok z) k → HasOptional z k
@@ -52,6 +53,15 @@ module _ {S : Type 0} {stands : S → Standing} {knows : S → Known → Type 0}
       let s = stands a in
       let none_here = subst (λ n. free_places n t.frames ≡ 0) r.last none in
       stays fits a t.frames (λ p l. full_ran s.config s.last s.thread _ none_here l)
+
+  -- no reference is made to no object
+  pub makes_none : ((s : S) (k : Known) → knows s k → IsOf (stands s) k) → (a : S) (f : Frames) (z : Option ℕ) → z ≡ None → MakesLocal stands knows a a f f z (new_local (stands a).config (stands a).last (stands a).thread z) (Ok None)
+  makes_none fits a f z is =
+      let s = stands a in
+      subst (λ y. MakesLocal stands knows a a f f y (new_local s.config s.last s.thread y) (Ok None)) (sym is) (record {
+        stands_is = nothing_changed;
+        ran = λ k v m. (k, v, ran_done (view k) f None (fits a k v).legal, m.0);
+      })
 
   -- no place is free
   pub makes_no_local : {a : S} {t : Table} {z : Option ℕ} {o : ℕ} → ((s : S) (k : Known) → knows s k → IsOf (stands s) k) → z ≡ Some o → IsReady stands knows Within a t → free_places t.last t.frames ≡ 0

@@ -14,16 +14,17 @@ use Rattle.jr_model.specs.Tests.{is_local, type_found, type_local}
 use Rattle.jr_model.specs.Parts.{looked_at, local_object, found_object, type_at}
 use Rattle.jr_model.specs.Tests.{Parts}
 use Rattle.jr_model.proofs.Stays.{did_nothing}
+use Rattle.jr_model.proofs.Windows.{window_nothing}
 use Rattle.jr_model.proofs.Runs.{ran_some_act, ran_refuse, ran_done, ran_then, ran_give, did_legal}
 use Rattle.jr_scripts.specs.Reading.{found_answer, local_answer}
 
 -- a test that refuses, and one that is passed
-pub ran_refused : {B : Type 0} (p : PassView) (f : Frames) (b : Bool) (e : Fault) (next : Unit {0} → Call B) → b ≡ true → Grounds p p e → IsLegal p.config p.last p.seen → Ran p p f f (refuse_if b e >>= next) (Err e)
-ran_refused p f true e next is g l = record { acts = []; did = did_nothing p l; is = inr (e, refl, (refl, refl, refl)); grounds = g }
+pub ran_refused : {B : Type 0} (p : PassView) (f : Frames) (b : Bool) (e : Fault) (next : Unit {0} → Call B) → b ≡ true → Grounds p.seen p e → IsLegal p.config p.last p.seen → Ran p p f f (refuse_if b e >>= next) (Err e)
+ran_refused p f true e next is g l = record { acts = []; did = did_nothing p l; is = inr (e, refl, (refl, refl, refl)); begun = p.seen; window = window_nothing p; grounds = g }
 ran_refused p f false e next is g l = absurd cc
 
 pub ran_passed : {B : Type 0} {p q : PassView} {f g : Frames} {answer : Result B Fault} (b : Bool) (e : Fault) (next : Unit {0} → Call B) → b ≡ false → Ran p q f g (next tt) answer → Ran p q f g (refuse_if b e >>= next) answer
-ran_passed {f} false e next is r = record { acts = r.acts; did = r.did; is = inl (tt, f, [], r.acts, refl, (refl, refl, refl), r.is); grounds = r.grounds }
+ran_passed {f} false e next is r = record { acts = r.acts; did = r.did; is = inl (tt, f, [], r.acts, refl, (refl, refl, refl), r.is); begun = r.begun; window = r.window; grounds = r.grounds }
 ran_passed true e next is r = absurd cc
 
 -- one of two tests holds, or neither
@@ -40,7 +41,7 @@ neither false d e e' = e'
 neither true d e e' = absurd cc
 
 -- two tests with one refusal
-pub ran_either : {B : Type 0} (p : PassView) (f : Frames) (b d : Bool) (e : Fault) (next : Unit {0} → Call B) → (b || d) ≡ true → Grounds p p e → IsLegal p.config p.last p.seen → Ran p p f f (refuse_if b e >>= (λ u. refuse_if d e >>= next)) (Err e)
+pub ran_either : {B : Type 0} (p : PassView) (f : Frames) (b d : Bool) (e : Fault) (next : Unit {0} → Call B) → (b || d) ≡ true → Grounds p.seen p e → IsLegal p.config p.last p.seen → Ran p p f f (refuse_if b e >>= (λ u. refuse_if d e >>= next)) (Err e)
 ran_either p f true d e next is g l = ran_refused p f true e _ refl g l
 ran_either p f false d e next is g l = ran_passed false e _ refl (ran_refused p f d e next is g l)
 
@@ -57,20 +58,20 @@ local_is : (z : Option ℕ) (f : Frames) → local_object z f [] (local_answer z
 local_is (Some o) f = (refl, refl, refl)
 local_is None f = (refl, refl, refl)
 
-local_grounds : (p : PassView) (z : Option ℕ) → IfErr (local_answer z) (Grounds p p)
+local_grounds : (p : PassView) (z : Option ℕ) → IfErr (local_answer z) (Grounds p.seen p)
 local_grounds p (Some o) = tt
 local_grounds p None = tt
 
 -- a look at a local reference takes no step
 pub ran_local : (p : PassView) (f : Frames) (h : Handle) → is_local h ≡ true → IsLegal p.config p.last p.seen → Ran p p f f (looked_at h) (local_answer (object_of f h))
 ran_local p f h b l = subst (λ c. Ran p p f f (cond c (λ old. local_object (object_of old h) old) (some_act (Look h) >>= found_object)) (local_answer (object_of f h))) (sym b)
-    (record { acts = []; did = did_nothing p l; is = local_is (object_of f h) f; grounds = local_grounds p (object_of f h) })
+    (record { acts = []; did = did_nothing p l; is = local_is (object_of f h) f; begun = p.seen; window = window_nothing p; grounds = local_grounds p (object_of f h) })
 
 pub ran_remote : {p q : PassView} (f : Frames) (h : Handle) (r : Found) → is_local h ≡ false → Did p q (Look h r ∷ []) → Ran p q f f (looked_at h) (found_answer r)
 ran_remote {p} {q} f h r b d = subst (λ c. Ran p q f f (cond c (λ old. local_object (object_of old h) old) (some_act (Look h) >>= found_object)) (found_answer r)) (sym b)
-    (ran_then r (ran_some_act f (Look h) r d) (found_ran q f r (did_legal (Look h r ∷ []) d)))
+    (ran_then r (ran_some_act f (Look h) r tt tt d) (found_ran q f r (did_legal (Look h r ∷ []) d)))
 
 -- the type of a reference that is not local
 pub ran_remote_type : {p q : PassView} (f : Frames) (h : Handle) (r : Found) → is_local h ≡ false → Did p q (Look h r ∷ []) → Ran p q f f (type_at (Parts h)) (Ok (type_found h.kind r))
 ran_remote_type {p} {q} f h r b d = subst (λ y. Ran p q f f (cond y (λ old. done (type_local (object_of old h)) old) (some_act (Look h) >>= (λ x. done (type_found h.kind x)))) (Ok (type_found h.kind r))) (sym b)
-    (ran_give (type_found h.kind) r (ran_some_act f (Look h) r d))
+    (ran_give (type_found h.kind) r (ran_some_act f (Look h) r tt tt d))

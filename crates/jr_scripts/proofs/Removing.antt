@@ -16,6 +16,7 @@ use Rattle.jr_model.specs.Calls.{Ran, ◌>>=◌}
 use Rattle.jr_model.specs.Tests.{Nothing, Malformed, Parts, is_local, is_out_of_bounds, is_foreign}
 use Rattle.jr_model.specs.Parts.{delete, delete_found, drop_local, looked_at}
 use Rattle.jr_model.proofs.Agreement.{spares_places}
+use Rattle.jr_model.proofs.Windows.{window_act}
 use Rattle.jr_model.proofs.Runs.{ran_done, ran_then, ran_err}
 use Rattle.jr_rule.specs.declared.known.Known.{Known}
 use Rattle.jr_rule.specs.Knowing.{Standing, IsOf, view, anything, keeps, HasOptional, Took}
@@ -90,7 +91,7 @@ module _ {S : Type 0} {stands : S → Standing} {knows : S → Known → Type 0}
     ran = λ k s m.
         let y = u.goes k s tt in
         let d = goes_did y.2 in
-        let dropped : Ran (view k) (view y.0) f g (drop_local h) (Ok tt) = record { acts = LocalDrop h.index ∷ []; did = d; is = (refl, refl, gone); grounds = tt } in
+        let dropped : Ran (view k) (view y.0) f g (drop_local h) (Ok tt) = record { acts = LocalDrop h.index ∷ []; did = d; is = (refl, refl, gone); begun = k.seen; window = window_act (LocalDrop h.index) d tt tt; grounds = tt } in
         (y.0, y.1, local_ran c t h e e' e'' (ran_then {next = λ _. drop_local h} (Some o) (looked_ran h (Some o) e is (fits a k s).legal) dropped), holds_put k y.0 f g h.index None d only m);
   }
 

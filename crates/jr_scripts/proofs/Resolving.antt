@@ -1,5 +1,5 @@
 -- References are resolved, and their types are told.
-use Rattle.std.proofs.Common.{◌≡◌, ℕ, Bool, true, false, ◌||◌, cond, Option, Some, None, IfSome, [], ◌∷◌, Result, Ok, Err, refl, sym, subst}
+use Rattle.std.proofs.Common.{◌≡◌, ◌≢◌, ◌⊎◌, inl, inr, ℕ, Bool, true, false, ◌||◌, cond, Option, Some, None, IfSome, [], ◌∷◌, Result, Ok, Err, refl, sym, ap, subst, ◌∙◌}
 use Rattle.jr_word.specs.declared.config.Config.{Config}
 use Rattle.jr_word.specs.declared.fault.Fault.{Fault}
 use Rattle.jr_word.specs.declared.fault.Fault.TheVariants as fault
@@ -9,15 +9,21 @@ use Rattle.jr_model.specs.declared.event.Act.TheVariants.{Look}
 use Rattle.jr_model.specs.State.{Handle}
 use Rattle.jr_model.specs.History.{PassView, IsLegal}
 use Rattle.jr_model.specs.Frames.{Frames, object_of, object_at}
-use Rattle.jr_model.specs.Calls.{Call, Ran, done}
-use Rattle.jr_model.specs.Tests.{Word, Parts, is_local, is_malformed, is_out_of_bounds, is_foreign, type_found}
-use Rattle.jr_model.specs.Parts.{looked, looked_at, type_at}
+use Rattle.jr_model.specs.Calls.{Call, Ran, done, ◌>>=◌}
+use Rattle.jr_model.specs.Tests.{Word, Parts, is_local, is_malformed, is_out_of_bounds, is_foreign, type_found, type_local}
+use Rattle.jr_model.specs.Parts.{look, looked, looked_at, type_at}
 use Rattle.jr_model.specs.References.{resolved}
+use Rattle.jr_model.proofs.Stays.{did_nothing}
+use Rattle.jr_model.proofs.Windows.{window_nothing}
+use Rattle.jr_model.proofs.Runs.{ran_done}
 use Rattle.jr_rule.specs.declared.known.Known.{Known}
 use Rattle.jr_rule.specs.Knowing.{Standing, IsOf, view, anything, keeps, Holds, Goes, Took}
 use Rattle.jr_rule.proofs.Goes.{goes_did, looked_present}
 use Rattle.jr_scripts.specs.Performing.{FoundPresent, Resolves, Calls}
-use Rattle.jr_scripts.specs.Reading.{found_answer, local_answer}
+use Rattle.jr_scripts.specs.Reading.{word_of, found_answer, local_answer}
+use Rattle.jr_scripts.specs.Works.{typing}
+use Rattle.jr_scripts.specs.declared.reference.Reference.{Reference}
+use Rattle.jr_scripts.specs.declared.reference.Reference.TheVariants as reference
 use Rattle.jr_scripts.proofs.Standings.{nothing_changed, as_before}
 use Rattle.jr_scripts.proofs.Known.{holds_did, local_present}
 use Rattle.jr_scripts.proofs.Reading.{ran_refused, ran_passed, ran_either, ran_neither, ran_local, ran_remote, ran_remote_type}
@@ -54,6 +60,26 @@ module _ {S : Type 0} {stands : S → Standing} {knows : S → Known → Type 0}
     -- a resolution that takes no step and finds no object
     pub resolves_none : {call : Call (Option ℕ)} {answer : Result (Option ℕ) Fault} → ((k : Known) → FoundPresent answer k) → ((p : PassView) → IsLegal p.config p.last p.seen → Ran p p f f call answer) → Resolves stands knows a a f call answer
     resolves_none none each = record { stands_is = nothing_changed; ran = λ k s m. (k, s, each (view k) (fits a k s).legal, (m, none k)) }
+
+    -- NULL and a malformed reference name no object
+    pub resolves_void : (r : Reference) → ((h : Handle) → r ≢ reference.Parts h) → Resolves stands knows a a f (looked (word_of r)) (Ok None)
+    resolves_void reference.Null ne = resolves_none (λ k. tt) (λ p l. ran_done p f None l)
+    resolves_void reference.Malformed ne = resolves_none (λ k. tt) (λ p l. ran_done p f None l)
+    resolves_void (reference.Parts h) ne = absurd (ne h refl)
+
+    pub types_void : (c : Config) (t : ℕ) (r : Reference) → (r ≡ reference.Null) ⊎ (r ≡ reference.Malformed) → Calls stands knows a a f f (typing c t (word_of r)) (Ok 0)
+    types_void c t r (inl e) = subst (λ z. Calls stands knows a a f f (typing c t (word_of z)) (Ok 0)) (sym e) (stays (λ p l. ran_done p f 0 l))
+    types_void c t r (inr e) = subst (λ z. Calls stands knows a a f f (typing c t (word_of z)) (Ok 0)) (sym e) (stays (λ p l. ran_done p f 0 l))
+
+    -- the type of what a call would refuse
+    pub types_none : (x y : Bool) (work : Call ℕ) → (x || y) ≡ true → Calls stands knows a a f f (cond (x || y) (done 0) work) (Ok 0)
+    types_none x y work e = subst (λ b. Calls stands knows a a f f (cond b (done 0) work) (Ok 0)) (sym e) (stays (λ p l. ran_done p f 0 l))
+
+    pub types_local : (h : Handle) (z : Option ℕ) (n : ℕ) → is_local h ≡ true → z ≡ object_of f h → n ≡ type_local z → Calls stands knows a a f f (type_at (Parts h)) (Ok n)
+    types_local h z n b is same =
+        subst (λ m. Calls stands knows a a f f (type_at (Parts h)) (Ok m)) (sym (same ∙ ap type_local is))
+        (subst (λ y. Calls stands knows a a f f (cond y (λ old. done (type_local (object_of old h)) old) (look h >>= (λ r. done (type_found h.kind r)))) (Ok (type_local (object_of f h)))) (sym b)
+        (stays (λ p l. record { acts = []; did = did_nothing p l; is = (refl, refl, refl); begun = p.seen; window = window_nothing p; grounds = tt })))
 
     pub resolves_local : (h : Handle) (z : Option ℕ) → is_local h ≡ true → z ≡ object_of f h → IfSome z (λ o. object_at f h.index ≡ Some o) → Resolves stands knows a a f (looked_at h) (local_answer z)
     resolves_local h z b is at = record {

@@ -7,11 +7,12 @@ use Rattle.jr_word.specs.declared.slot.SlotParts.TheVariants as slot
 use Rattle.jr_model.specs.declared.event.Role.TheVariants.{Within}
 use Rattle.jr_model.specs.declared.event.Act.{Act}
 use Rattle.jr_model.specs.declared.event.Act.TheVariants.{Create, Leave, Probe}
-use Rattle.jr_model.specs.State.{Handle, IsOccupied}
+use Rattle.jr_model.specs.State.{Handle}
 use Rattle.jr_model.specs.History.{PassView, Did, role_after}
-use Rattle.jr_model.specs.Refusals.{Sometime}
-use Rattle.jr_model.proofs.Moments.{prefix_self, sometime_wider, probed_occupied}
-use Rattle.jr_model.proofs.Stays.{did_then}
+use Rattle.jr_model.specs.Refusals.{WasOccupied}
+use Rattle.jr_model.proofs.Moments.{prefix_self, occupied_wider, probed_occupied, probed_then}
+use Rattle.jr_model.proofs.Stays.{did_then, did_nothing}
+use Rattle.jr_model.proofs.Runs.{did_legal}
 use Rattle.jr_rule.specs.declared.known.Known.{Known}
 use Rattle.jr_rule.specs.Acts.{handle_of, is_occupied}
 use Rattle.jr_rule.specs.Knowing.{Standing, IsOf, view, anything, HasObject, IsFreeSlot, ShowsSlot, LostClaim, Took, keeps}
@@ -25,13 +26,12 @@ search_more o xs ys (Some h) = sym (append_assoc (map (λ (l : ℕ × Bool). Pro
 below_or : (i n : ℕ) → (i < n) ⊎ (n ≤ i)
 below_or i n = grind arith
 
--- an index that was occupied in the one search or in the other
-occupied_between : (p q r : PassView) (xs ys : List Act) → Did p q xs → Did q r ys → (i : ℕ)
-    → (Sometime (λ s. IsOccupied p.last s i) p.seen q.seen ⊎ Sometime (λ s. IsOccupied q.last s i) q.seen r.seen) → Sometime (λ s. IsOccupied p.last s i) p.seen r.seen
-occupied_between p q r xs ys d e i (inl m) = sometime_wider (prefix_self p.seen) e.begins m
-occupied_between p q r xs ys d e i (inr m) = sometime_wider d.begins (prefix_self r.seen) (subst (λ n. Sometime (λ s. IsOccupied n s i) q.seen r.seen) d.last m)
+-- an index that was probed and occupied in the one search or in the other
+occupied_between : (p q r : PassView) (xs ys : List Act) → Did p q xs → Did q r ys → (i : ℕ) → (WasOccupied p.seen q i ⊎ WasOccupied q.seen r i) → WasOccupied p.seen r i
+occupied_between p q r xs ys d e i (inl w) = occupied_wider (prefix_self p.seen) ys e i w
+occupied_between p q r xs ys d e i (inr w) = occupied_wider d.begins [] (did_nothing r (did_legal ys e)) i w
 
-occupied_more : (p q r : PassView) (xs ys : List Act) → Did p q xs → Did q r ys → (first mid last : ℕ) (made : Option Handle) → EachOccupied p q first mid None → EachOccupied q r mid last made → EachOccupied p r first last made
+occupied_more : (p q r : PassView) (xs ys : List Act) → Did p q xs → Did q r ys → (first mid last : ℕ) (made : Option Handle) → EachOccupied p.seen q first mid None → EachOccupied q.seen r mid last made → EachOccupied p.seen r first last made
 occupied_more p q r xs ys d e first mid last (Some h) here there = tt
 occupied_more p q r xs ys d e first mid last None here there = λ i low high. occupied_between p q r xs ys d e i (⊎_elim (λ l. inl (here i low l)) (λ l. inr (there i l high)) (below_or i mid))
 
@@ -54,7 +54,7 @@ module _ {S : Type 0} {stands : S → Standing} {knows : S → Known → Type 0}
       stands_is = t.stands_is;
       kind_is = tt;
       did = λ k s p. let r = took_present t w (λ e. cc) o k s tt p in
-          (r.0, r.1, r.2, only_one (λ j. Sometime (λ z. IsOccupied k.last z j) k.seen r.0.seen) i (probed_occupied i r.3), (i, true) ∷ [], r.3);
+          (r.0, r.1, r.2, only_one (λ j. WasOccupied k.seen (view r.0) j) i (probed_occupied i r.3), (i, true) ∷ [], r.3);
     }
 
     pub searched_seen : {a b : S} {shows : Known → Known → Type 0} (i : ℕ) (word : SlotParts) (kind : RefKind) (o : ℕ) → ((n : ℕ) → word ≢ slot.Free n) → Took stands knows a b (Probe i (is_occupied word) ∷ []) anything shows → (stands a).role ≡ Within → Searched stands knows a b kind o i (i + 1) None
@@ -89,8 +89,7 @@ module _ {S : Type 0} {stands : S → Standing} {knows : S → Known → Type 0}
             z.new,
             z.known,
             z.present,
-            only_one (λ j. Sometime (λ y. IsOccupied k.last y j) k.seen z.new.seen) i
-                (occupied_between (view k) (view z.mid) (view z.new) (Probe i false ∷ []) (Probe i (is_occupied found) ∷ []) z.looked z.took i (inr z.shown.0.0)),
+            only_one (λ j. WasOccupied k.seen (view z.new) j) i (probed_then i false (Probe i (is_occupied found) ∷ []) z.looked z.took z.shown.0.0),
             (i, false) ∷ (i, is_occupied found) ∷ [],
             did_then {new = view z.new} (Probe i false ∷ []) (Probe i (is_occupied found) ∷ []) z.looked z.took,
           );

@@ -6,9 +6,9 @@ use Rattle.jr_word.specs.declared.handle.RefKind.{RefKind}
 use Rattle.jr_word.specs.declared.kind.Kind.{Kind}
 use Rattle.jr_model.specs.declared.event.Act.{Act}
 use Rattle.jr_model.specs.declared.event.Act.TheVariants.{Create, Probe, New}
-use Rattle.jr_model.specs.State.{Handle, State, EachPresent, IsOccupied}
-use Rattle.jr_model.specs.History.{PassView, Did}
-use Rattle.jr_model.specs.Refusals.{Sometime}
+use Rattle.jr_model.specs.State.{Handle, State, EachPresent}
+use Rattle.jr_model.specs.History.{History, PassView, Did}
+use Rattle.jr_model.specs.Refusals.{WasOccupied}
 use Rattle.jr_model.specs.Frames.{Frames}
 use Rattle.jr_model.specs.Calls.{Call, Ran}
 use Rattle.jr_rule.specs.declared.known.Known.{Known}
@@ -39,10 +39,10 @@ abbrev pub OfKind : RefKind → Option Handle → Type 0
 OfKind k None = Unit {0}
 OfKind k (Some h) = (h.kind ≡ k) × (h.owner ≡ 0)
 
--- where none was won, each index from the first to the last was occupied at some moment
-abbrev pub EachOccupied : PassView → PassView → ℕ → ℕ → Option Handle → Type 0
-EachOccupied old new first last (Some h) = Unit {0}
-EachOccupied old new first last None = (i : ℕ) → first ≤ i → i < last → Sometime (λ s. IsOccupied old.last s i) old.seen new.seen
+-- where none was won, each index from the first to the last was probed since this moment, and occupied then or later
+abbrev pub EachOccupied : History → PassView → ℕ → ℕ → Option Handle → Type 0
+EachOccupied begun new first last (Some h) = Unit {0}
+EachOccupied begun new first last None = (i : ℕ) → first ≤ i → i < last → WasOccupied begun new i
 
 -- the acts of a publication
 abbrev pub publication : Kind → Option ℕ → List Act
@@ -60,7 +60,7 @@ module _ {S : Type 0} (stands : S → Standing) (knows : S → Known → Type 0)
     pub stands_is : stands new ≡ stands old
     pub kind_is : OfKind kind made
     pub did : (k : Known) → knows old k → HasObject o k
-        → (k' : Known) × knows new k' × HasObject o k' × EachOccupied (view k) (view k') first last made × (looks : List (ℕ × Bool)) × Did (view k) (view k') (search_acts o looks made)
+        → (k' : Known) × knows new k' × HasObject o k' × EachOccupied k.seen (view k') first last made × (looks : List (ℕ × Bool)) × Did (view k) (view k') (search_acts o looks made)
 
   -- a new object without elements, or every object number is present
   pub record Published (old new : S) (kind : Kind) (made : Option ℕ) : Type 0 where

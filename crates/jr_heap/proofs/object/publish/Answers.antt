@@ -24,5 +24,5 @@ loop-turn-preserved g c = passed_more g.met.S.Steps.fits (header_of c.args.kind 
 
 pub returns-clause-call : goal.returns-clause-call
 returns-clause-call g c =
-    passed_all g.met.S.Steps.fits (header_of c.args.kind c.args.range.place c.args.range.length) c.first-first.result c.config-objects.result.objects c.loop-turn.turn c.loop-turn-test.false
+    passed_all g.met.S.Steps.fits (header_of c.args.kind c.args.range.place c.args.range.length) c.first-first.result c.config-objects.result.objects c.loop-turn.turn c.requires.role c.loop-turn-test.false
     (λ (k : Known) s. ap (λ (z : Config). z.objects) ((g.met.S.Steps.fits c.args.steps.now k s).config ∙ sym c.config-objects.ensures)) c.first-first.ensures c.loop-turn.invariant

@@ -12,7 +12,7 @@ pub loop-index-preserved : goal.loop-index-preserved
 loop-index-preserved g c = filled_more g.met.S.Steps.fits c.args.range.now.place c.args.range.now.length c.args.word c.loop-index.index c.loop-index.invariant c.loop-index-test.true c.put_own.ensures
 
 pub returns-clause-call : goal.returns-clause-call
-returns-clause-call g c = filled_call g.met.S.Steps.fits c.args.range.now.place c.args.range.now.length c.args.word c.loop-index.index (let a = c.loop-index.auto.index-end in let b = c.loop-index-test.false in omega arith) c.loop-index.invariant
+returns-clause-call g c = filled_call g.met.S.Steps.fits c.args.range.now.place c.args.range.now.length c.args.word c.loop-index.index (let a = c.loop-index.auto.index-end in let b = c.loop-index-test.false in omega arith) c.loop-index.invariant c.requires.role
 
 pub returns-clause-own : goal.returns-clause-own
 returns-clause-own g c = filled_own g.met.S.Steps.fits c.args.range.now.place c.args.range.now.length c.args.word c.loop-index.index (let a = c.loop-index.auto.index-end in let b = c.loop-index-test.false in omega arith) c.loop-index.invariant c.requires.own

@@ -13,7 +13,7 @@ create-requires-clause-object g c = may_create c.in-Some.is c.in_ok-object.ensur
 
 pub returns-in_err-handle-clause-call : goal.returns-in_err-handle-clause-call
 returns-in_err-handle-clause-call g c =
-    creates_full g.met.S.Steps.fits c.args.kind c.from_residual-in_err-handle.result c.from_residual-in_err-handle.ensures.1 c.in-Some.is c.in_ok-object.ensures c.in_err-handle.ensures.err
+    creates_full g.met.S.Steps.fits c.requires.ready.role_is c.args.kind c.from_residual-in_err-handle.result c.from_residual-in_err-handle.ensures.1 c.in-Some.is c.in_ok-object.ensures c.in_err-handle.ensures.err
 
 pub returns-clause-call : goal.returns-clause-call
 returns-clause-call g c = creates_won c.in-Some.is c.in_ok-object.ensures c.in_ok-handle.ensures.ok

@@ -1,5 +1,8 @@
-use Rattle.jr_scripts.proofs.MakingLocals.{makes_no_local, present_number, makes_local}
+use Rattle.jr_scripts.proofs.MakingLocals.{makes_none, makes_no_local, present_number, makes_local}
 use Rattle.jr_scripts.proofs.calls.make_local.Goals as goal
+
+pub returns-in_default-clause-call : goal.returns-in_default-clause-call
+returns-in_default-clause-call g c = makes_none g.met.S.Steps.fits c.args.steps.now c.args.frames.now.frames c.args.object c.in_default.is
 
 pub returns-in_default-next-clause-call : goal.returns-in_default-next-clause-call
 returns-in_default-next-clause-call g c = makes_no_local g.met.S.Steps.fits c.in-Some.is c.requires.ready c.in_default-next.ensures.none
