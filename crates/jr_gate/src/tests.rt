@@ -113,27 +113,24 @@ fn a_stay_and_a_collection_exclude_each_other(rt: HostRuntime) -> Result<(), Fai
     assert_eq!(rt; gate_word(&mut second), 1);
     stay.leave(&mut first);
     assert_eq!(rt; gate_word(&mut second), 0);
-
     let Ok(collection) = shut_gate(&mut second) else {
         return Err("nobody is inside")?;
     };
     assert_eq!(rt; gate_word(&mut first), 65_536);
     assert_eq!(rt; entry_refused(&mut first), Some(Fault::Barred));
     assert_eq!(rt; gate_word(&mut first), 65_536);
-    let entered = first.go_in();
-    assert!(rt; !entered);
+    assert!(rt; !first.go_in());
     assert_eq!(rt; gate_word(&mut first), 65_537);
     first.go_out();
     assert_eq!(rt; gate_word(&mut first), 65_536);
     assert_eq!(rt; shut_refused(&mut first), Some(Fault::Busy(1)));
     assert_eq!(rt; gate_word(&mut first), 65_536);
     let (first, second) = (first.into_pass(), second.into_pass());
-    let left = room.close(first).err();
     let Left {
         room,
         pass: first,
         fault,
-    } = left.expect(&rt, "thread 1 collects");
+    } = room.close(first).err().expect(&rt, "thread 1 collects");
     assert_eq!(rt; fault, Fault::LeftInside(1));
     let mut first = RoomSteps::new(&room, first);
     let mut second = RoomSteps::new(&room, second);

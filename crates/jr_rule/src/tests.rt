@@ -32,6 +32,18 @@ const FIRST: HandleParts = HandleParts {
     owner: 0,
 };
 
+/// A slot that was never used.
+const NEVER_USED: SlotParts = SlotParts::Free { serial: 0 };
+
+/// A slot with its first reference, to object 1.
+const CLAIMED: SlotParts = SlotParts::Global {
+    serial: 0,
+    object: 1,
+};
+
+/// A slot whose first reference was deleted.
+const FREED: SlotParts = SlotParts::Free { serial: 1 };
+
 /// What a room has in which nothing stands.
 const NOTHING: Summary = Summary {
     globals: 0,
@@ -239,12 +251,8 @@ fn a_slot_is_claimed_by_one_and_freed_by_one(rt: HostRuntime) -> Result<(), Fail
     let SlotParts::Free { serial: 0 } = second.see_slot(0, SlotNaming::Probe) else {
         return Err("the slot is not free")?;
     };
-    let stands = SlotParts::Global {
-        serial: 0,
-        object: 1,
-    };
     assert_eq!(rt; first.claim(0, 0, RefKind::Global, 1), Ok(()));
-    assert_eq!(rt; second.claim(0, 0, RefKind::Global, 1), Err(stands));
+    assert_eq!(rt; second.claim(0, 0, RefKind::Global, 1), Err(CLAIMED));
     let SlotParts::Global {
         serial: 0,
         object: 1,
@@ -261,13 +269,9 @@ fn a_slot_is_claimed_by_one_and_freed_by_one(rt: HostRuntime) -> Result<(), Fail
     };
     assert!(rt; second.free(FIRST, Some(1)));
     assert!(rt; !first.free(FIRST, Some(1)));
-    let free = SlotParts::Free { serial: 1 };
-    assert_eq!(rt; first.see_slot(0, SlotNaming::Meet), free);
-    assert_eq!(rt; second.see_slot(0, SlotNaming::Look(FIRST)), free);
-    assert_eq!(rt;
-        first.see_slot(1, SlotNaming::Probe),
-        SlotParts::Free { serial: 0 }
-    );
+    assert_eq!(rt; first.see_slot(0, SlotNaming::Meet), FREED);
+    assert_eq!(rt; second.see_slot(0, SlotNaming::Look(FIRST)), FREED);
+    assert_eq!(rt; first.see_slot(1, SlotNaming::Probe), NEVER_USED);
     first.go_out();
     second.go_out();
     let (_first, _second) = (first.into_pass(), second.into_pass());

@@ -228,7 +228,7 @@ fn least_scripts(rt: HostRuntime) -> Result<(), Fail> {
 }
 
 #[test]
-fn faults_of_the_first_lines(rt: HostRuntime) -> Result<(), Fail> {
+fn first_lines_of_another_form(rt: HostRuntime) -> Result<(), Fail> {
     let alloc = rt.alloc();
     faulty(&rt, alloc, b"", 1, Reason::EmptyInput)?;
     faulty(&rt, alloc, b"vm", 1, Reason::UnfinishedLine)?;
@@ -248,6 +248,12 @@ fn faults_of_the_first_lines(rt: HostRuntime) -> Result<(), Fail> {
         1,
         Reason::VmLineExpected,
     )?;
+    Ok(())
+}
+
+#[test]
+fn numbers_of_the_first_line_out_of_range(rt: HostRuntime) -> Result<(), Fail> {
+    let alloc = rt.alloc();
     faulty(
         &rt,
         alloc,
@@ -283,6 +289,12 @@ fn faults_of_the_first_lines(rt: HostRuntime) -> Result<(), Fail> {
         1,
         Reason::NumberOutOfRange,
     )?;
+    Ok(())
+}
+
+#[test]
+fn second_lines_that_name_no_thread(rt: HostRuntime) -> Result<(), Fail> {
+    let alloc = rt.alloc();
     faulty(
         &rt,
         alloc,
