@@ -47,3 +47,4 @@ pub mod Ended
 pub mod Gathered
 pub mod Collected
 mod Claimable
+pub mod Emptying
