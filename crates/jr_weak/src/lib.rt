@@ -2,5 +2,7 @@
 #![tactic(auto)]
 
 mod marker;
+mod sliding;
 
 pub use marker::Marker;
+pub use sliding::slide;
