@@ -1,18 +1,19 @@
 -- The end of a room: what is read of a closed row, and what its history is.
-use Rattle.std.proofs.Common.{◌≡◌, ℕ, zero, suc, List, [], ◌∷◌, get_or, sym, ap, subst, ◌∙◌}
+use Rattle.std.proofs.Common.{◌≡◌, ◌<◌, ℕ, zero, suc, List, [], ◌∷◌, get_or, sym, ap, subst, ◌∙◌}
 use mathlib.Core.Option.{some, some-injective, some-ne-none}
 use lib.ListN.{get_elem?}
 use Rattle.jr_word.specs.declared.config.Config.{Config}
 use Rattle.jr_model.specs.declared.summary.Summary.{Summary}
-use Rattle.jr_model.specs.State.{summary}
-use Rattle.jr_model.specs.History.{History, state, IsLegal}
+use Rattle.jr_model.specs.State.{State, opening, summary}
+use Rattle.jr_model.specs.Steps.{after}
+use Rattle.jr_model.specs.History.{History, state, IsLegal, IsLegalFrom}
 use Rattle.jr_rule.specs.declared.known.View.{View}
 use Rattle.jr_rule.specs.declared.rule.Sizes.{Sizes}
 use Rattle.jr_rule.specs.Image.{IsImage}
 use Rattle.std.specs.List.{AllByRecursion}
 use Rattle.jr_rule.specs.declared.known.Known.{Known}
 use Rattle.jr_rule.specs.declared.known.Grasp.{Grasp}
-use Rattle.jr_rule.specs.Passes.{Ends, EndsAll, IsSeenIn}
+use Rattle.jr_rule.specs.Passes.{Ends, EndsAll, IsSeenIn, HasPass, HasEachPass, HasNoOthers}
 use Rattle.jr_rule.specs.Rule.{view, sizes, Fits, EachFits, Row, Kept, Sat, acting, IsAlone}
 use Rattle.jr_rule.specs.Shown.{IsHistoryOf, HasHistory}
 
@@ -47,6 +48,11 @@ seen_in : (c : Config) (last : ℕ) (log : History) (held : ℕ → Grasp) (ks :
 seen_in c last log held [] fit = tt
 seen_in c last log held (k ∷ ks) fit = (record { begins = (fit.0).begins; own = (fit.0).own }, seen_in c last log held ks fit.1)
 
+-- each event of a legal history is of a thread of the room, and so of one that has its pass
+no_others : (c : Config) (last : ℕ) (s : State) (es : History) (ks : List Known) → IsLegalFrom c last s es → HasEachPass c ks → HasNoOthers es ks
+no_others c last s [] ks legal each = tt
+no_others c last s (e ∷ es) ks legal each = (each e.thread (legal.0).0, no_others c last (after s e) es ks legal.1 each)
+
 -- the same where the seat stands for several passes
 pub ends_all : (c : Config) (last : ℕ) (key : Sizes) (r : Row) (words : List ℕ) (j : ℕ) (v : View) (k : Known) (ks : List Known) (s : Summary) → key ≡ sizes c last → Kept key.last key.config r → r.words ≡ words → get_elem? r.views j ≡ some v → v ≡ view (k ∷ ks) → k.config ≡ c → k.last ≡ last
     → ((n : ℕ) (log : History) → IsHistoryOf c words n log → s ≡ summary c n (state log)) → EndsAll k ks s
@@ -59,6 +65,7 @@ ends_all c last key r words j v k ks s is kept same at all room serial counted =
           legal = subst (λ (z : Config × ℕ). IsLegal z.0 z.1 kept.log) (λ i. (sym room i, sym serial i)) kept.legal;
           first = record { begins = (fits.0).begins; own = (fits.0).own };
           others = seen_in c last kept.log kept.held ks fits.1;
+          alone = λ each. no_others c last opening kept.log (k ∷ ks) kept.legal (λ t l. each t (subst (λ (d : Config). t < d.threads) (sym room) l));
           is = counted last kept.log (record { few = kept.sized.serials; legal = kept.legal; held = kept.held; image = subst (λ ws. IsImage c last ws (state kept.log) kept.held) same kept.image })
               ∙ ap (λ (z : Config × ℕ). summary z.0 z.1 (state kept.log)) (λ i. (sym room i, sym serial i));
         }

@@ -46,3 +46,4 @@ pub mod Ended
 pub mod Gathered
 pub mod Collected
 mod Claimable
+pub mod Emptying

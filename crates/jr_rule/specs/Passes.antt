@@ -78,12 +78,26 @@ pub record IsSeenIn (whole : History) (k : Known) : Type 0 where
   pub begins : IsPrefix k.seen whole
   pub own : mine whole k.thread ≡ mine k.seen k.thread
 
--- AT THE END OF ALL PASSES the summary is that of one legal history, which begins with all that each of them has seen and has no more of their events
+-- one of these passes is the thread's
+abbrev pub HasPass : List Known → ℕ → Type 0
+HasPass [] t = ⊥
+HasPass (k ∷ ks) t = (k.thread ≡ t) ⊎ HasPass ks t
+
+-- each thread of the room has its pass among these
+abbrev pub HasEachPass : Config → List Known → Type 0
+HasEachPass c ks = (t : ℕ) → t < c.threads → HasPass ks t
+
+-- each event is of a thread that has its pass among these
+abbrev pub HasNoOthers : History → List Known → Type 0
+HasNoOthers es ks = AllByRecursion (λ e. HasPass ks e.thread) es
+
+-- AT THE END OF ALL PASSES the summary is that of one legal history, which begins with all that each of them has seen and has no more of their events; and where each thread of the room has its pass among them, it has no others
 pub record EndsAll (k : Known) (ks : List Known) (s : Summary) : Type 0 where
   pub whole : History
   pub legal : IsLegal k.config k.last whole
   pub first : IsSeenIn whole k
   pub others : AllByRecursion (IsSeenIn whole) ks
+  pub alone : HasEachPass k.config (k ∷ ks) → HasNoOthers whole (k ∷ ks)
   pub is : s ≡ summary k.config k.last (state whole)
 
 -- A ROOM IS CLOSED WITH ALL THESE PASSES: the first found nobody inside, knocking or collecting, and then they end together

@@ -3,7 +3,11 @@
 
 mod closing;
 mod closing_all;
+#[cfg(test)]
+mod closing_tests;
 mod collect_stepping;
+#[cfg(test)]
+mod collect_tests;
 mod gate_stepping;
 mod heap_stepping;
 mod known;

@@ -18,7 +18,7 @@ const SMALL: Config = Config {
 };
 
 /// The header of a plain object.
-const PLAIN: HeaderParts = HeaderParts {
+pub(crate) const PLAIN: HeaderParts = HeaderParts {
     kind: Kind::Plain,
     length: 0,
     place: 0,
@@ -45,7 +45,7 @@ const CLAIMED: SlotParts = SlotParts::Global {
 const FREED: SlotParts = SlotParts::Free { serial: 1 };
 
 /// What a room has in which nothing stands.
-const NOTHING: Summary = Summary {
+pub(crate) const NOTHING: Summary = Summary {
     globals: 0,
     weaks: 0,
     live: 0,
@@ -58,7 +58,7 @@ fn open_gate(count: u16) -> GateParts {
 }
 
 /// The last of the passes.
-fn last_of(_room: &Room<2>, passes: &mut Vec<Pass>) -> Result<Pass, Fail>
+pub(crate) fn last_of(_room: &Room<2>, passes: &mut Vec<Pass>) -> Result<Pass, Fail>
     requires { All (λ p. IsOpened _room.now.row p) passes.old.items }
     ensures others { All (λ p. IsOpened _room.now.row p) passes.new.items }
     ensures pass { IfOk result (λ p. IsOpened _room.now.row p) }
@@ -281,7 +281,7 @@ fn a_slot_is_claimed_by_one_and_freed_by_one(rt: HostRuntime) -> Result<(), Fail
 }
 
 /// In one stay makes object 1, where it is not present yet, and claims a slot for the slot's first reference to it.
-fn refer<S: Steps>(steps: &mut S, index: u16, kind: RefKind) -> Result<(), Fail> {
+pub(crate) fn refer<S: Steps>(steps: &mut S, index: u16, kind: RefKind) -> Result<(), Fail> {
     let config = steps.config();
     if u32::from(index) >= config.slots || config.objects == 0 || kind == RefKind::Local {
         return Err("there is no such slot")?;
