@@ -37,4 +37,4 @@ module _ {S : Type 0} {stands : S → Standing} {knows : S → Known → Type 0}
 
 module _ {S : Type 0} {stands : S → Standing} {knows : S → Known → Type 0} {old new : S} where
   pub shut_shows : Took stands knows old new (Shut ∷ []) anything lets_go → Took stands knows old new (Shut ∷ []) anything (λ j k. IsClosedNow k × lets_go j k)
-  shut_shows t = record { stands_is = t.stands_is; goes = λ k s m. let g = t.goes k s m in (g.0, g.1, g.2, (closes g.2, g.3)) }
+  shut_shows t = record { stands_is = t.stands_is; goes = λ k s m. let g = t.goes k s m in (g.0, g.1, g.2, (closes g.2, g.3)); alone = λ e k s m. t.alone e k s m }

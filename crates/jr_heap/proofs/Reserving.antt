@@ -1,16 +1,20 @@
 -- Space is reserved by one look and one exchange.
-use Rattle.std.proofs.Common.{arith, ◌≡◌, ◌≢◌, ◌≤◌, ◌<◌, ◌+◌, ◌==◌, ℕ, zero, suc, false, cond, List, [], ◌∷◌, length, Ok, Err, inl, inr, refl, sym, ap, subst, ◌∙◌}
+use Rattle.std.proofs.Common.{arith, ◌≡◌, ◌≢◌, ◌≤◌, ◌<◌, ◌+◌, ◌==◌, ℕ, zero, suc, false, cond, None, List, [], ◌∷◌, ◌++◌, length, Ok, Err, inl, inr, refl, sym, ap, subst, ◌∙◌}
 use mathlib.Core.Logic.{∥∥₁_map}
+use Rattle.std.proofs.Math.Logic.{∥∥₁_elim}
+use Rattle.std.proofs.lemmas.List.{append-nil}
 use Rattle.std.proofs.lemmas.Bool.{lt-ltb, le-ltb}
 use Rattle.std.proofs.lemmas.Bool.Decides.{nat_tests}
 use Rattle.jr_word.specs.declared.config.Config.{Config}
 use Rattle.jr_word.specs.declared.fault.Fault.TheVariants.{SpaceFull, Raced}
 use Rattle.jr_model.specs.declared.event.Role.TheVariants.{Within}
 use Rattle.jr_model.specs.declared.event.Act.TheVariants.{Reserve, ReserveFull, ReserveLost}
-use Rattle.jr_model.specs.History.{Did}
+use Rattle.jr_model.specs.State.{State}
+use Rattle.jr_model.specs.History.{History, by, state, IsLegal, Did}
 use Rattle.jr_model.specs.Frames.{Frames}
 use Rattle.jr_model.specs.Parts.{reserve}
 use Rattle.jr_model.proofs.Updates.{eq_self}
+use Rattle.jr_model.proofs.Histories.{legal_push}
 use Rattle.jr_model.proofs.Moments.{raced, sometime_last}
 use Rattle.jr_model.proofs.Stays.{did_then, role_did}
 use Rattle.jr_model.proofs.Windows.{window_act}
@@ -106,6 +110,19 @@ module _ {S : Type 0} {stands : S → Standing} {knows : S → Known → Type 0}
             shows = e;
           },
         ))
+
+    -- where nobody else does anything, the reservation is not lost
+    pub never_lost : {c : S} (found : ℕ) → (stands a).room ≡ None → MayKnow knows a anything → Took stands knows b c (ReserveLost n u found ∷ []) (WasUsed u) (ShowsRange u n (Err found)) → ⊥
+    never_lost found none some t =
+        let each : ((k : Known) × knows a k × anything k) → ⊥ = λ k.
+        let j = first k.0 k.1 in
+        let g = t.goes j.0 j.1 (was_used k.0 k.1) in
+        let nobody : g.2.between ≡ [] = t.alone (ap (λ (z : Standing). z.room) looked.stands_is ∙ none) j.0 j.1 (was_used k.0 k.1) in
+        let before : History = j.0.seen ++ g.2.between in
+        let needs = ((legal_push j.0.config j.0.last before (by j.0.thread (ReserveLost n u found))).0 (subst (IsLegal j.0.config j.0.last) g.2.seen g.2.legal)).1.1 in
+        let same : state before ≡ state j.0.seen = ap state (ap (λ l. j.0.seen ++ l) nobody ∙ append-nil j.0.seen) in
+        needs.2 (needs.1 ∙ (ap (λ (s : State). s.used) same ∙ j.3)) in
+        ∥∥₁_elim some (λ x y. absurd x) each
 
 module _ {S : Type 0} {stands : S → Standing} {knows : S → Known → Type 0} {b c : S} where
   pub reserve_owned : (n u : ℕ) → MayKnow knows b (WasUsed u) → Took stands knows b c (Reserve n ∷ []) (WasUsed u) (ShowsRange u n (Ok tt)) → MayKnow knows c (IsOwn u n)

@@ -1,6 +1,7 @@
 -- What the calls of the heap do, for whatever was known.
 use Rattle.std.specs.Prelude.{◌≡◌, ◌≢◌, ◌⊎◌, ◌==◌, ◌+◌, ◌-◌, ℕ, zero, suc, nat_lt, cond, Result, Ok, Err, IfOk, Some, None, List, [], length, replicate}
 use Rattle.jr_word.specs.declared.fault.Fault.{Fault}
+use Rattle.jr_word.specs.declared.fault.Fault.TheVariants.{Raced}
 use Rattle.jr_word.specs.declared.header.HeaderParts.{HeaderParts}
 use Rattle.jr_word.specs.declared.kind.Kind.{Kind}
 use Rattle.jr_word.specs.declared.kind.Kind.TheVariants.{Objects}
@@ -43,6 +44,10 @@ IsReady kind place n k = IsFilled (header_of kind place n) k
 abbrev pub Gains : ℕ → ℕ → Known → Known → Type 0
 Gains zero place j k = keeps j k
 Gains (suc n) place j k = (ws : List ℕ) × (length ws ≡ suc n) × (k.grasp ≡ with_range j.grasp place ws) × (words_at place j.grasp.ranges ≡ [])
+
+-- the refusal is none of a lost race
+abbrev pub IsNotRaced : Fault → Type 0
+IsNotRaced e = (looked found : ℕ) → e ≢ Raced looked found
 
 -- what a filling changes: each of the n words at the place is v then, and nothing else that the pass holds is other
 pub record Fills (place n v : ℕ) (j k : Known) : Type 0 where

@@ -1,9 +1,9 @@
 //! Array space: reserved, and filled before it is published, over any steps.
-ghost use Rattle.std.specs.Prelude.{◌≡◌, IfOk, IfErr, Ok, Err};
+ghost use Rattle.std.specs.Prelude.{◌≡◌, IfOk, IfErr, Ok, Err, None};
 ghost use Rattle.jr_model.specs.declared.event.Role.TheVariants.{Within};
 ghost use Rattle.jr_model.specs.Parts.{reserve as reservation};
 ghost use Rattle.jr_rule.specs.Knowing.{anything, keeps, IsWordNow, MayKnow};
-ghost use Rattle.jr_heap.specs.Heap.{Called, header_of, IsOwn, IsReady, Gains, Fills, no_act};
+ghost use Rattle.jr_heap.specs.Heap.{Called, header_of, IsOwn, IsReady, Gains, Fills, IsNotRaced, no_act};
 ghost use Rattle.jr_heap.specs.Ranges.{place_of, size_of};
 
 use crate::range::Range;
@@ -30,13 +30,14 @@ impl Range {
     }
 }
 
-/// Reserves so many words, by one look at the top and one exchange; none are reserved by no step. E10 with the number of words that are reserved where these don't fit beside them; E12 with what was looked at and what was found where another thread reserved words in between.
+/// Reserves so many words, by one look at the top and one exchange; none are reserved by no step. E10 with the number of words that are reserved where these don't fit beside them; E12 with what was looked at and what was found where another thread reserved words in between, and so never over plain words.
 pub fn reserve<S: Steps>(steps: &mut S, words: u32) -> Result<Range, Fault>
     requires role { (S.stands steps.old).role ≡ Within }
     ensures stands { S.stands steps.new ≡ S.stands steps.old }
     ensures ok { IfOk result (λ r. (size_of r ≡ words) × Called S.knows steps.old steps.new anything (λ j k. reservation words) (Ok tt) (Gains words (place_of r))) }
     ensures own { IfOk result (λ r. MayKnow S.knows steps.new (IsOwn (place_of r) (size_of r))) }
     ensures err { IfErr result (λ e. Called S.knows steps.old steps.new anything (λ j k. reservation words) (Err e) keeps) }
+    ensures alone { (S.stands steps.old).room ≡ None → IfErr result IsNotRaced }
 {
     if words == 0 {
         return Ok(Range {

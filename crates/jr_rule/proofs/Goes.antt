@@ -126,7 +126,7 @@ shown_published o h false k k' shown = shown.0
 module _ {S : Type 0} {stands : S → Standing} {knows : S → Known → Type 0} where
   -- a step shows less, too
   pub took_less : {old new : S} {acts : List Act} {met : Known → Type 0} {shows shows' : Known → Known → Type 0} → ((k k' : Known) → shows k k' → shows' k k') → Took stands knows old new acts met shows → Took stands knows old new acts met shows'
-  took_less less t = record { stands_is = t.stands_is; goes = λ k s m. let g = t.goes k s m in (g.0, g.1, g.2, less k g.0 g.3) }
+  took_less less t = record { stands_is = t.stands_is; goes = λ k s m. let g = t.goes k s m in (g.0, g.1, g.2, less k g.0 g.3); alone = λ e k s m. t.alone e k s m }
 
   -- what may be known after a step
   pub may_then : {old new : S} {acts : List Act} {met : Known → Type 0} {shows : Known → Known → Type 0} {was is : Known → Type 0} → Took stands knows old new acts met shows → ((k : Known) → knows old k → was k → met k) → MayKnow knows old was

@@ -41,6 +41,11 @@ goes_then k acts g legal = record {
   taken = refl;
 }
 
+-- with nobody else's acts
+nobody_then : (k : Known) (acts : List Act) (g : Grasp) (legal : IsLegal k.config k.last (then k.seen k.thread acts)) → (goes_then k acts g legal).between ≡ []
+unfolding goes_then
+nobody_then k acts g legal = refl
+
 -- after a turn the words show what is known then
 shows_then : (s : Standing) (words words' : List ℕ) (k : Known) (acts : List Act) (g : Grasp) → Shows s words k → Turn k.config k.last k.seen k.thread acts words' (alone g) → Shows (moved s acts) words' (known_then k acts g)
 shows_then s words words' k acts g shows turn = record {
@@ -122,6 +127,7 @@ pub took : (LAST : ℕ) (s s' : PlainSteps LAST) {acts : List Act} {met : Known 
 took LAST s s' {acts} t = record {
   stands_is = t.stands_is;
   goes = λ k h m. let r = t.turn k h m in (known_then k acts r.0, shown_next t k h m, goes_then k acts r.0 (r.1).legal, r.2);
+  alone = λ e k h m. let r = t.turn k h m in nobody_then k acts r.0 (r.1).legal;
 }
 
 -- one step at whatever the words show, with acts that depend on what is known
@@ -143,6 +149,7 @@ pub took_with : (LAST : ℕ) (s s' : PlainSteps LAST) {acts : Known → List Act
 took_with LAST s s' {acts} same t = record {
   stands_is = same;
   goes = λ k h m. let r = t.turn k h m in (known_then k (acts k) r.0, subst (λ z. Shows z s'.words.items (known_then k (acts k) r.0)) (sym same) (shown_with_next t k h m), goes_then k (acts k) r.0 (r.1).legal, r.2);
+  alone = λ e k h m. let r = t.turn k h m in nobody_then k (acts k) r.0 (r.1).legal;
 }
 
 -- what the words show does not depend on whether the pass is fresh

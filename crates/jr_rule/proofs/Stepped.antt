@@ -1,5 +1,5 @@
 -- What a step told makes of its pass.
-use Rattle.std.proofs.Common.{◌≡◌, ◌<◌, ℕ, Bool, true, Some, List, [], ◌∷◌, refl, sym, ap, subst, ◌∙◌}
+use Rattle.std.proofs.Common.{◌≡◌, ◌<◌, ℕ, Bool, true, Some, None, List, [], ◌∷◌, refl, sym, ap, subst, ◌∙◌}
 use Rattle.std.specs.List.{AllByRecursion}
 use Rattle.jr_word.specs.declared.config.Config.{Config}
 use Rattle.jr_model.specs.declared.event.Role.{Role}
@@ -75,6 +75,9 @@ module _ {told : Known → ℕ → List Act → Known → Type 0} (old new : Pas
         legal = legal;
       }
 
+  in_a_room : Some old.seat.table_id ≡ None → ⊥
+  in_a_room e = cc
+
   -- the step was taken
   pub took : {met : Known → Type 0} {shows : Known → Known → Type 0} (acts : List Act) → new.seat.table_id ≡ old.seat.table_id → s.acts ≡ acts → new.thread ≡ old.thread → new.role ≡ role_from old.role acts → new.fresh ≡ fresh_from old.fresh acts
       → (met (known_of old) → shows (known_of old) s.new) → Took standing_of Knows old new acts met shows
@@ -93,6 +96,7 @@ module _ {told : Known → ℕ → List Act → Known → Type 0} (old new : Pas
             let here : Goes k acts s.new = subst (λ (z : Known × List Act). Goes z.0 z.1 s.new) (λ i. (sym h.is i, acts_are i)) g in
             let legal = subst (λ (z : Config × ℕ). IsLegal z.0 z.1 (s.new).seen) (λ i. (sym g.config i, sym g.last i)) g.legal in
             (s.new, record { is = sym a; pass = known_is legal }, here, subst (λ z. shows z s.new) (sym h.is) (shown (subst met h.is q)));
+        alone = λ e k h q. absurd (in_a_room e);
       }
 
   -- the step was taken, with acts that depend on what was known
@@ -113,4 +117,5 @@ module _ {told : Known → ℕ → List Act → Known → Type 0} (old new : Pas
             let here : Goes k (acts k) s.new = subst (λ (z : Known × List Act). Goes z.0 z.1 s.new) (λ i. (sym h.is i, (acts_are ∙ ap acts (sym h.is)) i)) g in
             let legal = subst (λ (z : Config × ℕ). IsLegal z.0 z.1 (s.new).seen) (λ i. (sym g.config i, sym g.last i)) g.legal in
             (s.new, record { is = sym a; pass = known_is legal }, here, subst (λ z. shows z s.new) (sym h.is) (shown (subst met h.is q)));
+        alone = λ e k h q. absurd (in_a_room e);
       }

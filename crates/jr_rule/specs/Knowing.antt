@@ -227,15 +227,17 @@ abbrev pub Holds : Frames → Known → Type 0
 Holds f k = Agree k.thread f (state_of k)
 
 module _ {S : Type 0} (stands : S → Standing) (knows : S → Known → Type 0) where
-  -- a step was taken: for whatever was known and meets the condition, something is known that the step made of it, and that shows this
+  -- a step was taken: for whatever was known and meets the condition, something is known that the step made of it, and that shows this; and nobody else did anything in between where the pass is of no room
   pub record Took (old new : S) (acts : List Act) (met : Known → Type 0) (shows : Known → Known → Type 0) : Type 0 where
     pub stands_is : stands new ≡ moved (stands old) acts
     pub goes : (k : Known) → knows old k → met k → (k' : Known) × knows new k' × Goes k acts k' × shows k k'
+    pub alone : (stands old).room ≡ None → (k : Known) (s : knows old k) (m : met k) → (goes k s m).2.between ≡ []
 
   -- one step was taken, with acts that depend on what was known, none of them of the gate or a local word
   pub record TookWith (old new : S) (acts : Known → List Act) (met : Known → Type 0) (shows : Known → Known → Type 0) : Type 0 where
     pub stands_is : stands new ≡ stands old
     pub goes : (k : Known) → knows old k → met k → (k' : Known) × knows new k' × Goes k (acts k) k' × shows k k'
+    pub alone : (stands old).room ≡ None → (k : Known) (s : knows old k) (m : met k) → (goes k s m).2.between ≡ []
 
   -- the pass is not fresh any more, and nothing else changed
   pub record Spent (old new : S) : Type 0 where

@@ -1,15 +1,16 @@
--- One thread alone is never barred.
-use Rattle.std.proofs.Common.{◌≡◌, ◌≢◌, ℕ, ◌<◌, ◌==◌, Bool, true, false, cond, [], ◌∷◌, refl, sym, ap, subst, ◌∙◌, arith}
+-- One thread alone is never barred, and nobody is in its way.
+use Rattle.std.proofs.Common.{◌≡◌, ◌≢◌, ℕ, ◌<◌, ◌≤◌, ◌==◌, not, Bool, true, false, cond, [], ◌∷◌, refl, sym, ap, subst, ◌∙◌, arith}
 use Rattle.std.specs.List.{AllByRecursion}
 use mathlib.Core.Logic.{dite}
 use native.Mathlib.Decide.{ℕ_discrete}
 use Rattle.jr_word.specs.declared.config.Config.{Config}
 use Rattle.jr_model.specs.declared.event.Role.TheVariants.{Outside}
 use Rattle.jr_model.specs.declared.event.Event.{Event}
-use Rattle.jr_model.specs.declared.event.Act.TheVariants.{Knock}
-use Rattle.jr_model.specs.State.{State, opening}
+use Rattle.jr_model.specs.declared.event.Act.TheVariants.{Knock, ShutBusy}
+use Rattle.jr_model.specs.State.{State, opening, is_outside}
 use Rattle.jr_model.specs.Steps.{ActNeeds, after}
 use Rattle.jr_model.specs.History.{History, IsLegalFrom, IsLegal, role_after}
+use Rattle.jr_model.proofs.Counts.{count_all_false}
 use Rattle.jr_model.proofs.Stays.{role_step}
 use Rattle.jr_scripts.specs.Runs.{IsUnbarred}
 
@@ -26,6 +27,15 @@ module _ (c : Config) (last : ℕ) (one : c.threads ≡ 1) where
       (λ same. absurd (let a : s.role collects.0 ≡ Outside = ap s.role (same ∙ sym zero_th) ∙ n.0 in let b = collects.1 in cc))
       (λ other. absurd (let a = o collects.0 other in let b = collects.1 in cc))
 
+  never_busy : (s : State) (e : Event) → OthersOutside s → ActNeeds c last s e.thread e.act → e.thread ≡ 0 → (n : ℕ) → e.act ≢ ShutBusy n
+  never_busy s e o needs zero_th n is =
+      let m = subst (λ a. ActNeeds c last s e.thread a) is needs in
+      let out : (t : ℕ) → s.role t ≡ Outside = λ t. dite (ℕ_discrete t 0) (λ first. ap s.role (first ∙ sym zero_th) ∙ m.0) (o t) in
+      let none = count_all_false c.threads (λ t. not (is_outside (s.role t))) (λ t h. ap (λ r. not (is_outside r)) (out t)) in
+      let least : 1 ≤ n = m.2 in
+      let zero_is : n ≡ 0 = m.1 ∙ none in
+      absurd (omega arith)
+
   others_stay : (s : State) (e : Event) → OthersOutside s → e.thread ≡ 0 → OthersOutside (after s e)
   others_stay s e o zero_th t other = role_step s e.thread e.act t ∙ go (e.thread == t) refl
     where
@@ -38,8 +48,8 @@ module _ (c : Config) (last : ℕ) (one : c.threads ≡ 1) where
   unbarred_from s (e ∷ es) o l =
       let below : e.thread < c.threads = l.0.0 in
       let zero_th : e.thread ≡ 0 = omega arith in
-      ((zero_th, never_knocks s e o l.0.1 zero_th), unbarred_from (after s e) es (others_stay s e o zero_th) l.1)
+      (record { own = zero_th; enters = never_knocks s e o l.0.1 zero_th; shuts = never_busy s e o l.0.1 zero_th }, unbarred_from (after s e) es (others_stay s e o zero_th) l.1)
 
-  -- each event of a legal history in a room of one thread is that thread's, and no knock
+  -- each event of a legal history in a room of one thread is that thread's, no knock, and no shut that was refused
   pub unbarred : (es : History) → IsLegal c last es → AllByRecursion IsUnbarred es
   unbarred es l = unbarred_from opening es (λ t other. refl) l

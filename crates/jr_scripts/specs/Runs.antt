@@ -6,7 +6,7 @@ use Rattle.jr_word.specs.declared.config.Config.{Config}
 use Rattle.jr_word.specs.declared.fault.Fault.{Fault}
 use Rattle.jr_word.specs.Config.{in_limits}
 use Rattle.jr_model.specs.declared.event.Event.{Event}
-use Rattle.jr_model.specs.declared.event.Act.TheVariants.{Knock}
+use Rattle.jr_model.specs.declared.event.Act.TheVariants.{Knock, ShutBusy}
 use Rattle.jr_model.specs.State.{summary}
 use Rattle.jr_model.specs.History.{History, state, IsLegal, PassView}
 use Rattle.jr_model.specs.Frames.{Frames, fresh_frames}
@@ -41,11 +41,13 @@ seeing c last seen = record { config = c; last = last; thread = 0; seen = seen }
 abbrev pub opening_moment : Config → ℕ → Moment
 opening_moment c last = record { pass = seeing c last []; frames = fresh_frames c.locals }
 
--- thread 0 did it, and it is no knock at a shut gate
-abbrev pub IsUnbarred : Event → Type 0
-IsUnbarred e = (e.thread ≡ 0) × (e.act ≢ Knock)
+-- thread 0 did it, and it is no knock at a shut gate, and no shut that others were in the way of
+pub record IsUnbarred (e : Event) : Type 0 where
+  pub own : e.thread ≡ 0
+  pub enters : e.act ≢ Knock
+  pub shuts : (n : ℕ) → e.act ≢ ShutBusy n
 
--- A RUN of a script of one thread: there is a legal history of the sequential machine, with the events of its commands' calls and no others, that explains the text; no call was barred; and the last lines tell of the last state
+-- A RUN of a script of one thread: there is a legal history of the sequential machine, with the events of its commands' calls and no others, that explains the text; no call was barred or refused a shut; and the last lines tell of the last state
 pub record IsRun (turns last : ℕ) (c : Config) (part : ThreadPart) (text : List ℕ) : Type 0 where
   pub seen : History
   pub frames : Frames

@@ -2,7 +2,7 @@ use Rattle.std.proofs.Common.{sym, refl, ap, arith, ◌∙◌}
 use mathlib.Core.Logic.{∥∥₁_map}
 use Rattle.jr_word.specs.declared.config.Config.{Config}
 use Rattle.jr_rule.specs.declared.known.Known.{Known}
-use Rattle.jr_heap.proofs.Reserving.{reserve_none, over, within, reserve_full, may_reserve, reserve_won, reserve_owned, reserve_lost}
+use Rattle.jr_heap.proofs.Reserving.{reserve_none, over, within, reserve_full, may_reserve, reserve_won, reserve_owned, reserve_lost, never_lost}
 use Rattle.jr_heap.proofs.space.reserve.Goals as goal
 
 pub returns-then-words-eq0-clause-own : goal.returns-then-words-eq0-clause-own
@@ -27,3 +27,9 @@ returns-in-Err-clause-err g c =
 
 pub returns-then-words-eq0-clause-ok : goal.returns-then-words-eq0-clause-ok
 returns-then-words-eq0-clause-ok g c = (sym c.if-words-eq0.true, reserve_none g.met.S.Steps.fits c.args.steps.now c.args.words c.if-words-eq0.true)
+
+pub returns-then-from-clause-alone : goal.returns-then-from-clause-alone
+returns-then-from-clause-alone g c = λ none looked found e. cc
+
+pub returns-in-Err-clause-alone : goal.returns-in-Err-clause-alone
+returns-in-Err-clause-alone g c = λ none. absurd (never_lost g.met.S.Steps.fits c.requires.role c.args.words c.see_top-used.result (g.S.Steps.stands c.args.steps.now).config.words (search) c.see_top-used.ensures (within c.from.ensures c.from-2.ensures (c.from-3.ensures ∙ ap (λ (z : Config). z.words) c.config-space.ensures) (let l = c.if-from.false in omega arith)) c.in-Err.found none (g.met.S.Steps.some_known c.args.steps.now) c.in-Err.ensures)
