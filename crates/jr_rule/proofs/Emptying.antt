@@ -25,10 +25,10 @@ use Rattle.jr_rule.specs.declared.known.Known.{Known}
 use Rattle.jr_rule.specs.Acts.{handle_of}
 use Rattle.jr_rule.specs.Collecting.{ShowsLocal, CanWipe, CanDrop, ShowsDropped, CanSettle}
 use Rattle.jr_rule.specs.Image.{local_parts}
-use Rattle.jr_rule.specs.Knowing.{Standing, IsOf, Goes, Took, MayKnow, anything, view, state_of, keeps, lets_go, IsSettled, CanReopen, ShowsHeader, ShowsSlot}
-use Rattle.jr_rule.proofs.Collected.{same_tables, goes_nothing, goes_both, goes_act}
+use Rattle.jr_rule.specs.Knowing.{Standing, IsOf, Goes, Took, Saw, MayKnow, anything, view, state_of, keeps, lets_go, IsSettled, CanReopen, ShowsHeader, ShowsSlot}
+use Rattle.jr_rule.proofs.Collected.{same_tables, tables_seen, sees_nothing, sees_more, goes_act}
 use Rattle.jr_rule.proofs.Goes.{may_then, took_less}
-use Rattle.jr_rule.proofs.InRoom.{in_room}
+use Rattle.jr_model.proofs.InRoom.{in_room}
 
 -- LOCAL WORDS
 parts_free : (o : Option ℕ) → local_parts o ≡ local.Free → o ≡ None
@@ -40,19 +40,19 @@ abbrev pub HasNoneTo : ℕ → ℕ → Known → Known → Type 0
 HasNoneTo t n j k = keeps j k × ((p : ℕ) → p < n → (state_of k).locals t p ≡ None)
 
 module _ {S : Type 0} {stands : S → Standing} {knows : S → Known → Type 0} (fits : (s : S) (k : Known) → knows s k → IsOf (stands s) k) (t : ℕ) where
-  pub none_looked : (a : S) → Took stands knows a a [] anything (HasNoneTo t 0)
-  none_looked a = record { stands_is = refl; goes = λ k s m. (k, s, goes_nothing (fits a k s).legal, (refl, λ p l. absurd (omega arith))) }
+  pub none_looked : (a : S) → Saw stands knows a a anything (HasNoneTo t 0)
+  none_looked a = record { stands_is = refl; sees = λ k s m. (k, s, sees_nothing (fits a k s).legal, (refl, λ p l. absurd (omega arith))) }
 
-  pub one_looked : {a b c : S} {i : ℕ} → (stands a).role ≡ Collecting → Took stands knows a b [] anything (HasNoneTo t i) → Took stands knows b c [] anything (λ j k. ShowsLocal t i local.Free k × keeps j k) → Took stands knows a c [] anything (HasNoneTo t (i + 1))
+  pub one_looked : {a b c : S} {i : ℕ} → (stands a).role ≡ Collecting → Saw stands knows a b anything (HasNoneTo t i) → Took stands knows b c [] anything (λ j k. ShowsLocal t i local.Free k × keeps j k) → Saw stands knows a c anything (HasNoneTo t (i + 1))
   one_looked {a} {b} {i = i} collects p q = record {
     stands_is = q.stands_is ∙ p.stands_is;
-    goes = λ k s m.
-        let x = p.goes k s tt in
+    sees = λ k s m.
+        let x = p.sees k s tt in
         let y = q.goes x.0 x.1 tt in
         let same = same_tables y.2 ((fits b x.0 x.1).role ∙ (ap (λ (z : Standing). z.role) p.stands_is ∙ collects)) in (
           y.0,
           y.1,
-          goes_both x.2 y.2,
+          sees_more x.2 y.2,
           (
             y.3.1 ∙ x.3.0,
             λ n l. dite (ℕ_discrete n i)
@@ -144,10 +144,10 @@ module _ {S : Type 0} {stands : S → Standing} {knows : S → Known → Type 0}
   abbrev pub NoLocalsBelow : ℕ → Known → Type 0
   NoLocalsBelow n k = IsSettled k × ((t p : ℕ) → t < n → (state_of k).locals t p ≡ None)
 
-  pub looked_thread : {a b : S} (t : ℕ) → (stands a).role ≡ Collecting → Took stands knows a b [] anything (λ j k. keeps j k × ((p : ℕ) → p < (stands a).config.locals → (state_of k).locals t p ≡ None)) → MayKnow knows a (NoLocalsBelow t) → MayKnow knows b (NoLocalsBelow (t + 1))
+  pub looked_thread : {a b : S} (t : ℕ) → (stands a).role ≡ Collecting → Saw stands knows a b anything (λ j k. keeps j k × ((p : ℕ) → p < (stands a).config.locals → (state_of k).locals t p ≡ None)) → MayKnow knows a (NoLocalsBelow t) → MayKnow knows b (NoLocalsBelow (t + 1))
   looked_thread {a} {b} t collects took may = ∥∥₁_map may (λ k.
-      let y = took.goes k.0 k.1 tt in
-      let same = same_tables y.2 ((fits a k.0 k.1).role ∙ collects) in
+      let y = took.sees k.0 k.1 tt in
+      let same = tables_seen y.2 ((fits a k.0 k.1).role ∙ collects) in
       let of = fits b y.0 y.1 in
       let room = in_room (y.0).config (y.0).last (y.0).seen of.legal in
       let sizes : (y.0).config.locals ≡ (stands a).config.locals = ap (λ (c : Config). c.locals) (of.config ∙ ap (λ (z : Standing). z.config) took.stands_is) in (
@@ -285,7 +285,7 @@ module _ {S : Type 0} {stands : S → Standing} {knows : S → Known → Type 0}
 
   -- FROM STEP TO STEP of a collection that takes all away
   abbrev FindsNone : ℕ → S → S → Type 0
-  FindsNone t a b = Took stands knows a b [] anything (λ j k. keeps j k × ((p : ℕ) → p < (stands a).config.locals → (state_of k).locals t p ≡ None))
+  FindsNone t a b = Saw stands knows a b anything (λ j k. keeps j k × ((p : ℕ) → p < (stands a).config.locals → (state_of k).locals t p ≡ None))
 
   module _ {z a b c d e : S} {p : SlotParts} (r : Option HeaderParts) (two : (stands z).config.threads ≡ 2) (one : (stands z).config.slots ≡ 1) (shut : Took stands knows z a (Shut ∷ []) anything lets_go) (first : FindsNone 0 a b) (second : FindsNone 1 b c) (seen : Took stands knows c d [] anything (λ j k. ShowsSlot 0 p k × keeps j k)) (weak : p ≡ slot.Weak 0 (Some 1)) (header : Took stands knows d e [] anything (ShowsHeader 1 r)) where
     collects_at : (stands a).role ≡ Collecting

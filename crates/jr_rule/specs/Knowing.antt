@@ -74,6 +74,16 @@ pub record Goes (k : Known) (acts : List Act) (k' : Known) : Type 0 where
   pub legal : IsLegal k.config k.last k'.seen
   pub taken : k'.taken ≡ k.taken + 1
 
+-- WHAT SEVERAL STEPS WITHOUT AN ACT make of what was known: what others did in between
+pub record Sees (k k' : Known) : Type 0 where
+  pub config : k'.config ≡ k.config
+  pub last : k'.last ≡ k.last
+  pub thread : k'.thread ≡ k.thread
+  pub between : History
+  pub seen : k'.seen ≡ k.seen ++ between
+  pub others : mine between k.thread ≡ []
+  pub legal : IsLegal k.config k.last k'.seen
+
 -- so many steps were taken, each one operation on one word
 abbrev pub Takes : ℕ → Known → Known → Type 0
 Takes n k k' = k'.taken ≡ k.taken + n
@@ -238,6 +248,11 @@ module _ {S : Type 0} (stands : S → Standing) (knows : S → Known → Type 0)
     pub stands_is : stands new ≡ stands old
     pub goes : (k : Known) → knows old k → met k → (k' : Known) × knows new k' × Goes k (acts k) k' × shows k k'
     pub alone : (stands old).room ≡ None → (k : Known) (s : knows old k) (m : met k) → (goes k s m).2.between ≡ []
+
+  -- several steps were taken, none of which has an act: for whatever was known and meets the condition, something is known that they made of it, and that shows this
+  pub record Saw (old new : S) (met : Known → Type 0) (shows : Known → Known → Type 0) : Type 0 where
+    pub stands_is : stands new ≡ stands old
+    pub sees : (k : Known) → knows old k → met k → (k' : Known) × knows new k' × Sees k k' × shows k k'
 
   -- the pass is not fresh any more, and nothing else changed
   pub record Spent (old new : S) : Type 0 where

@@ -1,7 +1,7 @@
 //! A collection by one pass of a room, and what another pass finds after it.
-ghost use Rattle.std.specs.Prelude.{◌≡◌, ◌<◌, ℕ, [], IfOk, None};
+ghost use Rattle.std.specs.Prelude.{◌≡◌, ◌<◌, ℕ, IfOk, None};
 ghost use Rattle.jr_model.specs.declared.event.Role.TheVariants.{Collecting};
-ghost use Rattle.jr_rule.specs.Knowing.{anything, keeps, state_of, Took};
+ghost use Rattle.jr_rule.specs.Knowing.{anything, keeps, state_of, Saw};
 ghost use Rattle.jr_rule.specs.Passes.{IsOpened};
 
 use crate::tests::{PLAIN, last_of, refer};
@@ -42,7 +42,7 @@ fn opened_pair(alloc: Global) -> Result<(Room<2>, Pass, Pass), Fail>
 fn look_for_locals<S: Steps>(steps: &mut S, thread: u8) -> Result<(), Fail>
     requires role { (S.stands steps.old).role ≡ Collecting }
     requires thread { thread < (S.stands steps.old).config.threads }
-    ensures { IfOk result (λ _. Took S.stands S.knows steps.old steps.new [] anything (λ j k. keeps j k × ((p : ℕ) → p < (S.stands steps.old).config.locals → (state_of k).locals thread p ≡ None))) }
+    ensures { IfOk result (λ _. Saw S.stands S.knows steps.old steps.new anything (λ j k. keeps j k × ((p : ℕ) → p < (S.stands steps.old).config.locals → (state_of k).locals thread p ≡ None))) }
 {
     let locals = steps.config().locals;
     for place in 0..locals {
