@@ -1,20 +1,25 @@
 -- The refusals that speak of the shared room are true.
-use Rattle.std.proofs.Common.{◌≡◌, inl, inr, ℕ, Bool, zero, suc, ◌+◌, ◌<◌, ◌≤◌, List, [], ◌∷◌, ◌++◌, Err, ap, sym, subst, ◌∙◌}
+use Rattle.std.proofs.Common.{◌≡◌, ◌⊎◌, ⊎_elim, inl, inr, ℕ, Bool, cond, zero, suc, ◌+◌, ◌<◌, ◌≤◌, List, [], ◌∷◌, ◌++◌, Result, Err, ap, sym, subst, ◌∙◌, append_assoc}
 use mathlib.Core.List.{IsPrefix}
+use Rattle.jr_word.specs.declared.config.Config.{Config}
 use Rattle.jr_word.specs.declared.handle.RefKind.{RefKind}
+use Rattle.jr_word.specs.declared.fault.Fault.{Fault}
 use Rattle.jr_word.specs.declared.fault.Fault.TheVariants.{RowFull, SpaceFull, Barred, Busy}
 use Rattle.jr_model.specs.declared.event.Act.{Act}
-use Rattle.jr_model.specs.declared.event.Act.TheVariants.{Enter, Knock, Leave, ShutBusy, Probe, ReserveFull}
+use Rattle.jr_model.specs.declared.event.Act.TheVariants.{Enter, Knock, Leave, Withdraw, ShutBusy, Probe, ReserveFull}
 use Rattle.jr_model.specs.State.{State, SomebodyCollects, not_outside, IsOccupied}
-use Rattle.jr_model.specs.History.{History, by, state, PassView, Did}
+use Rattle.jr_model.specs.History.{History, by, state, mine, PassView, Did}
 use Rattle.jr_model.specs.Frames.{Frames}
 use Rattle.jr_model.specs.Windows.{IsBehind, IsLastSeen, Begins, Ends}
 use Rattle.jr_model.specs.Refusals.{RowWasFull}
 use Rattle.jr_model.specs.Calls.{Call, Ran, entered}
 use Rattle.jr_model.specs.Parts.{enter, shut, reserve, create}
-use Rattle.jr_model.specs.Grounded.{TookWhere, BarredByCollector, BusyIsCounted, SpaceWasFull, FreeIndexIsFound, RefusedInItsStay}
+use Rattle.jr_model.specs.Grounded.{TookWhere, BarredByCollector, BusyIsCounted, SpaceWasFull, FreeIndexIsFound, RefusedInItsStay, EachIsProbed, IsItsStay, CallsAreTheirStays}
 use Rattle.jr_model.proofs.Moments.{OneAct, first_done, prefix_trans}
 use Rattle.jr_model.proofs.Windows.{ends_last}
+use Rattle.jr_model.proofs.Updates.{eq_self}
+use Rattle.jr_model.proofs.Histories.{mine_append}
+use Rattle.jr_model.proofs.Stays.{append_cancel}
 
 taken : {P : State → Type 0} {old new : PassView} {a : Act} (o : OneAct old new a) → P (state o.before) → TookWhere P old new a
 taken o met = record { before = o.before; since = o.since; took = o.parts; from = o.from; met = met }
@@ -70,19 +75,56 @@ module _ (old new : PassView) (f g : Frames) where
       m.to
       (subst (λ n. IsOccupied n (state m.moment) i) r.did.last m.met)
 
+  -- the entry and the exit of a call
+  stay_of : {A : Type 0} (work : Call A) (answer : Result A Fault) (r : Ran old new f g (entered work) answer)
+      → ((answer ≡ Err Barred) × IsBehind old Knock r.begun × IsLastSeen new Withdraw) ⊎ (IsBehind old Enter r.begun × IsLastSeen new Leave)
+  stay_of work answer r = go r.is
+    where
+      go : entered work f r.acts answer g → ((answer ≡ Err Barred) × IsBehind old Knock r.begun × IsLastSeen new Withdraw) ⊎ (IsBehind old Enter r.begun × IsLastSeen new Leave)
+      go (inl x) = inl (x.1, subst (λ acts. Begins old acts r.begun) x.0 r.window.first, subst (Ends old new) x.0 r.window.last)
+      go (inr x) = inr (subst (λ acts. Begins old acts r.begun) x.1 r.window.first, ends_last old new (Enter ∷ x.0) Leave (subst (Ends old new) x.1 r.window.last))
+
   -- what was refused within a stay was refused between its entry and its exit
   refused_inside : {A : Type 0} (work : Call A) → Ran old new f g (entered work) (Err RowFull) → (begun : History) × IsBehind old Enter begun × IsLastSeen new Leave × RowWasFull begun new
-  refused_inside work r = go r.is
-    where
-      go : entered work f r.acts (Err RowFull) g → (begun : History) × IsBehind old Enter begun × IsLastSeen new Leave × RowWasFull begun new
-      go (inl x) = absurd (let bad = x.1 in cc)
-      go (inr x) =
-          let first : Begins old (Enter ∷ x.0 ++ Leave ∷ []) r.begun = subst (λ acts. Begins old acts r.begun) x.1 r.window.first in
-          let last : Ends old new (Enter ∷ x.0 ++ Leave ∷ []) = subst (Ends old new) x.1 r.window.last in
-          (r.begun, first, ends_last old new (Enter ∷ x.0) Leave last, r.grounds)
+  refused_inside work r = ⊎_elim (λ barred. absurd (let bad = barred.0 in cc)) (λ stay. (r.begun, stay.0, stay.1, r.grounds)) (stay_of work (Err RowFull) r)
+
+  -- a probe after the beginning of a call is one of its acts
+  probed_act : {A : Type 0} (call : Call A) (r : Ran old new f g call (Err RowFull)) (i : ℕ) → i < old.config.slots → (front rest : List Act) × (found : Bool) × (r.acts ≡ front ++ Probe i found ∷ rest)
+  probed_act call r i l =
+      let w = r.grounds i (subst (λ c. i < c.slots) (sym r.did.config) l) in
+      let t = old.thread in
+      let p = prefix_trans old.seen r.begun w.before r.window.from w.own in
+      let probe = by t (Probe i w.found) in
+      let seen : new.seen ≡ w.before ++ probe ∷ w.since = subst (λ u. new.seen ≡ w.before ++ by u (Probe i w.found) ∷ w.since) r.did.thread w.probed in
+      let cut : new.seen ≡ old.seen ++ (p.0 ++ probe ∷ w.since) = seen ∙ (ap (λ es. es ++ probe ∷ w.since) (sym p.1) ∙ append_assoc old.seen p.0 (probe ∷ w.since)) in
+      let here : mine (probe ∷ w.since) t ≡ Probe i w.found ∷ mine w.since t = ap (λ b. cond b (Probe i w.found ∷ mine w.since t) (mine w.since t)) (eq_self t) in
+      let rest : mine (p.0 ++ probe ∷ w.since) t ≡ mine p.0 t ++ Probe i w.found ∷ mine w.since t = mine_append p.0 (probe ∷ w.since) t ∙ ap (λ acts. mine p.0 t ++ acts) here in
+      let both : mine old.seen t ++ r.acts ≡ mine old.seen t ++ (mine p.0 t ++ Probe i w.found ∷ mine w.since t)
+      = sym r.did.own ∙ (ap (λ es. mine es t) cut ∙ (mine_append old.seen (p.0 ++ probe ∷ w.since) t ∙ ap (λ acts. mine old.seen t ++ acts) rest)) in
+      (mine p.0 t, mine w.since t, w.found, append_cancel (mine old.seen t) r.acts (mine p.0 t ++ Probe i w.found ∷ mine w.since t) both)
 
 pub free_index_is_found : FreeIndexIsFound
 free_index_is_found old new f g k o i l free r = found_free old new f g k o i l free r
 
 pub refused_in_its_stay : RefusedInItsStay
 refused_in_its_stay old new f g k a r = refused_inside old new f g _ r
+
+pub each_is_probed : EachIsProbed
+each_is_probed old new f g k a r i l = probed_act old new f g _ r i l
+
+its_stay : {A : Type 0} (old new : PassView) (work : Call A) → IsItsStay old new (entered work)
+its_stay old new work f g answer r = stay_of old new f g work answer r
+
+pub calls_are_their_stays : (c : Config) (last thread : ℕ) (old new : PassView) → CallsAreTheirStays c last thread old new
+calls_are_their_stays c last thread old new = record {
+  new_reference = λ k a. its_stay old new _;
+  new_local_ref = λ a. its_stay old new _;
+  delete_reference = λ k a. its_stay old new _;
+  delete_local_ref = λ a. its_stay old new _;
+  is_same_object = λ a b. its_stay old new _;
+  get_object_ref_type = λ a. its_stay old new _;
+  new_plain = its_stay old new _;
+  kind_of = λ a. its_stay old new _;
+  get_array_length = λ a. its_stay old new _;
+  get_string_length = λ a. its_stay old new _;
+}

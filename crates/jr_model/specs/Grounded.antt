@@ -1,19 +1,23 @@
 -- What the refusals that speak of the shared room tell of it.
-use Rattle.std.specs.Prelude.{◌≡◌, ◌+◌, ◌<◌, ◌≤◌, ℕ, Bool, Err, [], ◌∷◌, ◌++◌}
+use Rattle.std.specs.Prelude.{◌≡◌, ◌⊎◌, ◌+◌, ◌<◌, ◌≤◌, ℕ, Bool, Result, Err, List, [], ◌∷◌, ◌++◌}
 use mathlib.Core.List.{IsPrefix}
+use Rattle.jr_word.specs.declared.config.Config.{Config}
 use Rattle.jr_word.specs.declared.handle.RefKind.{RefKind}
+use Rattle.jr_word.specs.declared.fault.Fault.{Fault}
 use Rattle.jr_word.specs.declared.fault.Fault.TheVariants.{RowFull, SpaceFull, Barred, Busy}
 use Rattle.jr_model.specs.declared.event.Act.{Act}
-use Rattle.jr_model.specs.declared.event.Act.TheVariants.{Enter, Knock, Leave, ShutBusy, Probe, ReserveFull}
+use Rattle.jr_model.specs.declared.event.Act.TheVariants.{Enter, Knock, Leave, Withdraw, ShutBusy, Probe, ReserveFull}
 use Rattle.jr_model.specs.State.{State, SomebodyCollects, not_outside, IsOccupied}
 use Rattle.jr_model.specs.History.{History, by, state, PassView}
 use Rattle.jr_model.specs.Frames.{Frames}
 use Rattle.jr_model.specs.Windows.{IsBehind, IsLastSeen}
 use Rattle.jr_model.specs.Refusals.{RowWasFull}
-use Rattle.jr_model.specs.Calls.{Ran}
+use Rattle.jr_model.specs.Calls.{Call, Ran}
 use Rattle.jr_model.specs.Tests.{Word}
 use Rattle.jr_model.specs.Parts.{enter, shut, create, reserve}
 use Rattle.jr_model.specs.References.{new_reference}
+use Rattle.jr_model.specs.References as references
+use Rattle.jr_model.specs.Objects as objects
 
 -- what was so in the state in which the thread took this act, after the first history
 pub record TookWhere (P : State → Type 0) (old new : PassView) (a : Act) : Type 0 where
@@ -43,6 +47,29 @@ FreeIndexIsFound = (old new : PassView) (f g : Frames) (k : RefKind) (o i : ℕ)
     → ((before since moment : History) (found : Bool) → IsPrefix old.seen before → new.seen ≡ before ++ by old.thread (Probe i found) ∷ since
     → IsPrefix (before ++ by old.thread (Probe i found) ∷ []) moment → IsPrefix moment new.seen → ¬ (IsOccupied old.last (state moment) i))
     → ¬ (Ran old new f g (create k o) (Err RowFull))
+
+-- the call is its stay: it begins right behind its own Enter, or its own Knock where it is barred, and ends with its own Leave or Withdraw
+abbrev pub IsItsStay : {A : Type 0} → PassView → PassView → Call A → Type 0
+IsItsStay {A} old new call = (f g : Frames) (answer : Result A Fault) (r : Ran old new f g call answer)
+    → ((answer ≡ Err Barred) × IsBehind old Knock r.begun × IsLastSeen new Withdraw) ⊎ (IsBehind old Enter r.begun × IsLastSeen new Leave)
+
+-- each call that says what a reference is to, or what its object is like, and those that make and delete one
+pub record CallsAreTheirStays (c : Config) (last thread : ℕ) (old new : PassView) : Type 0 where
+  pub new_reference : (k : RefKind) (a : Word) → IsItsStay old new (references.new_reference c last thread k a)
+  pub new_local_ref : (a : Word) → IsItsStay old new (references.new_local_ref c last thread a)
+  pub delete_reference : (k : RefKind) (a : Word) → IsItsStay old new (references.delete_reference c last thread k a)
+  pub delete_local_ref : (a : Word) → IsItsStay old new (references.delete_local_ref c last thread a)
+  pub is_same_object : (a b : Word) → IsItsStay old new (references.is_same_object c last thread a b)
+  pub get_object_ref_type : (a : Word) → IsItsStay old new (references.get_object_ref_type c last thread a)
+  pub new_plain : IsItsStay old new (references.new_plain c last thread)
+  pub kind_of : (a : Word) → IsItsStay old new (objects.kind_of c last thread (state new.seen) a)
+  pub get_array_length : (a : Word) → IsItsStay old new (objects.get_array_length c last thread (state new.seen) a)
+  pub get_string_length : (a : Word) → IsItsStay old new (objects.get_string_length c last thread (state new.seen) a)
+
+-- a new reference that is refused for want of an index has a probe of each among its own acts
+abbrev pub EachIsProbed : Type 0
+EachIsProbed = (old new : PassView) (f g : Frames) (k : RefKind) (a : Word) (r : Ran old new f g (new_reference old.config old.last old.thread k a) (Err RowFull)) (i : ℕ) → i < old.config.slots
+    → (front rest : List Act) × (found : Bool) × (r.acts ≡ front ++ Probe i found ∷ rest)
 
 -- a new reference is refused for want of an index within its own stay alone: behind its own entry it probed each index, and before its own exit the index was occupied
 abbrev pub RefusedInItsStay : Type 0

@@ -1,7 +1,8 @@
 ghost use Rattle.std.specs.Prelude.{ℕ};
 ghost use Rattle.jr_word.specs.declared.config.Config.{Config};
 ghost use Rattle.jr_model.specs.State.{State};
-ghost use Rattle.jr_model.specs.Grounded.{BarredByCollector, BusyIsCounted, SpaceWasFull, FreeIndexIsFound, RefusedInItsStay};
+ghost use Rattle.jr_model.specs.History.{PassView};
+ghost use Rattle.jr_model.specs.Grounded.{BarredByCollector, BusyIsCounted, SpaceWasFull, FreeIndexIsFound, RefusedInItsStay, EachIsProbed, CallsAreTheirStays};
 ghost use Rattle.jr_model.specs.Moves.{CallsMoveFrames};
 ghost use Rattle.jr_model.specs.Unchanged.{RefusalsChangeNothing, HarmlessChangesNothing};
 ghost use Rattle.jr_model.specs.Laws.{
@@ -133,4 +134,10 @@ pub fn refusals_are_true()
     ensures space { SpaceWasFull }
     ensures row { FreeIndexIsFound }
     ensures stay { RefusedInItsStay }
+    ensures probes { EachIsProbed }
+{}
+
+/// A whole call is its stay: it begins right behind its own entry, and ends with its own exit, the last event that it has seen.
+pub fn calls_are_their_stays()
+    ensures { (c : Config) (last thread : ℕ) (old new : PassView) → CallsAreTheirStays c last thread old new }
 {}
