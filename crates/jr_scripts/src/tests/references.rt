@@ -1,0 +1,173 @@
+//! Words that are no reference of the thread, through the calls that take them, over plain words and over a room.
+
+ghost use Rattle.std.specs.Prelude.{All, IfOk};
+ghost use Rattle.jr_rule.specs.Passes.{IsOpened};
+
+use crate::env::Env;
+use jr_rule::{Pass, PlainSteps, Room, RoomSteps};
+use jr_word::{Config, Fault, Handle};
+use std::alloc::Global;
+use std::test::Fail;
+
+/// A room of two threads with four slots and 16 local places each.
+const TWO: Config = Config {
+    threads: 2,
+    slots: 4,
+    objects: 8,
+    words: 16,
+    locals: 16,
+};
+
+/// Malformed: all ones.
+const ONES: Handle = Handle(u64::MAX);
+
+/// Local, of thread 0 and of thread 1, with serial 0 at the first place.
+const OWN: Handle = Handle(1);
+
+const FOREIGN: Handle = Handle(0x4_0000_0001);
+
+/// Local, of a third thread.
+const NO_THREAD: Handle = Handle(0x8_0000_0001);
+
+/// Local, at a seventeenth place of thread 0 and of thread 1.
+const NO_PLACE: Handle = Handle(0x40_0001);
+
+const NO_FOREIGN_PLACE: Handle = Handle(0x4_0040_0001);
+
+/// Global, and weak, with a fifth slot.
+const NO_SLOT: Handle = Handle(0x10_0002);
+
+const NO_WEAK_SLOT: Handle = Handle(0x10_0003);
+
+#[test]
+fn words_that_are_no_reference(rt: HostRuntime) -> Result<(), Fail> {
+    let mut env = Env::new(PlainSteps::<65_535>::new(rt.alloc(), TWO)?);
+    let rows = [
+        (ONES, Fault::Stale),
+        (Handle(4), Fault::Stale),
+        (Handle(0x4_0000_0002), Fault::Stale),
+        (NO_SLOT, Fault::Stale),
+        (NO_WEAK_SLOT, Fault::Stale),
+        (NO_THREAD, Fault::Stale),
+        (NO_PLACE, Fault::Stale),
+        (NO_FOREIGN_PLACE, Fault::Stale),
+        (FOREIGN, Fault::Foreign),
+        (OWN, Fault::Stale),
+    ];
+    for (word, fault) in rows {
+        assert_eq!(rt; env.new_global_ref(word).err(), Some(fault));
+        assert_eq!(rt; env.new_weak_global_ref(word).err(), Some(fault));
+        assert_eq!(rt; env.new_local_ref(word).err(), Some(fault));
+        assert_eq!(rt; env.is_same_object(word, Handle::NULL).err(), Some(fault));
+        assert_eq!(rt; env.is_same_object(Handle::NULL, word).err(), Some(fault));
+        assert_eq!(rt; env.get_object_ref_type(word)?, 0);
+    }
+    assert_eq!(rt; env.get_object_ref_type(Handle::NULL)?, 0);
+    Ok(())
+}
+
+// Each kind of check is made of the first reference and then of the second, before the next kind.
+#[test]
+fn checks_of_two_references(rt: HostRuntime) -> Result<(), Fail> {
+    let mut env = Env::new(PlainSteps::<65_535>::new(rt.alloc(), TWO)?);
+    let rows = [
+        (FOREIGN, ONES, Fault::Stale),
+        (FOREIGN, NO_SLOT, Fault::Stale),
+        (OWN, FOREIGN, Fault::Foreign),
+        (FOREIGN, OWN, Fault::Foreign),
+    ];
+    for (left, right, fault) in rows {
+        assert_eq!(rt; env.is_same_object(left, right).err(), Some(fault));
+    }
+    Ok(())
+}
+
+#[test]
+fn references_of_another_kind(rt: HostRuntime) -> Result<(), Fail> {
+    let mut env = Env::new(PlainSteps::<65_535>::new(rt.alloc(), TWO)?);
+    let local = env.new_plain()?;
+    let global = env.new_global_ref(local)?.ok_or("an object")?;
+    let weak = env.new_weak_global_ref(local)?.ok_or("an object")?;
+    let kinds = [
+        (local, Some(Fault::WrongKind), Some(Fault::WrongKind)),
+        (weak, Some(Fault::WrongKind), None),
+        (FOREIGN, Some(Fault::WrongKind), Some(Fault::WrongKind)),
+        (NO_WEAK_SLOT, Some(Fault::WrongKind), Some(Fault::Stale)),
+        (NO_SLOT, Some(Fault::Stale), Some(Fault::WrongKind)),
+        (ONES, Some(Fault::Stale), Some(Fault::Stale)),
+        (global, None, Some(Fault::WrongKind)),
+    ];
+    for word in [global, weak, NO_SLOT, NO_WEAK_SLOT] {
+        assert_eq!(rt; env.delete_local_ref(word).err(), Some(Fault::WrongKind));
+    }
+    for (word, fault) in [
+        (ONES, Fault::Stale),
+        (NO_PLACE, Fault::Stale),
+        (NO_THREAD, Fault::Stale),
+        (FOREIGN, Fault::Foreign),
+    ] {
+        assert_eq!(rt; env.delete_local_ref(word).err(), Some(fault));
+    }
+    // What was refused stands.
+    assert_eq!(rt; env.get_object_ref_type(local)?, 1);
+    assert_eq!(rt; env.get_object_ref_type(global)?, 2);
+    assert_eq!(rt; env.get_object_ref_type(weak)?, 3);
+    for (word, of_global, of_weak) in kinds {
+        assert_eq!(rt; env.delete_global_ref(word).err(), of_global);
+        assert_eq!(rt; env.delete_weak_global_ref(word).err(), of_weak);
+    }
+    assert_eq!(rt; env.get_object_ref_type(local)?, 1);
+    assert_eq!(rt; env.get_object_ref_type(global)?, 0);
+    assert_eq!(rt; env.get_object_ref_type(weak)?, 0);
+    Ok(())
+}
+
+/// The last of the passes.
+fn last_of(_room: &Room<2>, passes: &mut Vec<Pass>) -> Result<Pass, Fail>
+    requires { All (λ p. IsOpened _room.now.row p) passes.old.items }
+    ensures others { All (λ p. IsOpened _room.now.row p) passes.new.items }
+    ensures pass { IfOk result (λ p. IsOpened _room.now.row p) }
+{
+    let Some(pass) = passes.pop() else {
+        return Err("there is no pass for each thread")?;
+    };
+    Ok(pass)
+}
+
+/// A room, and the passes of its two threads.
+fn opened(alloc: Global) -> Result<(Room<2>, Pass, Pass), Fail>
+    ensures { IfOk result (λ r. IsOpened r.0.row r.1 × IsOpened r.0.row r.2) }
+{
+    let (room, mut passes) = Room::<2>::open(alloc, TWO)?;
+    let second = last_of(&room, &mut passes)?;
+    let first = last_of(&room, &mut passes)?;
+    Ok((room, first, second))
+}
+
+#[test]
+fn two_passes_share_a_global_reference(rt: HostRuntime) -> Result<(), Fail> {
+    let (room, first, second) = opened(rt.alloc())?;
+    let mut first = Env::new(RoomSteps::new(&room, first));
+    let mut second = Env::new(RoomSteps::new(&room, second));
+    let object = first.new_plain()?;
+    let shared = first.new_global_ref(object)?.ok_or("an object")?;
+    let own = second.new_local_ref(shared)?.ok_or("an object")?;
+    assert_eq!(rt; object, OWN);
+    assert_eq!(rt; shared, Handle(2));
+    assert_eq!(rt; own, FOREIGN);
+    assert_eq!(rt; second.get_object_ref_type(shared)?, 2);
+    assert!(rt; second.is_same_object(own, shared)?);
+    assert_eq!(rt; second.new_global_ref(object).err(), Some(Fault::Foreign));
+    assert_eq!(rt;
+        second.is_same_object(shared, object).err(),
+        Some(Fault::Foreign)
+    );
+    assert_eq!(rt; first.delete_local_ref(own).err(), Some(Fault::Foreign));
+    assert_eq!(rt; first.get_object_ref_type(own)?, 0);
+    second.delete_global_ref(shared)?;
+    assert_eq!(rt; first.get_object_ref_type(shared)?, 0);
+    assert_eq!(rt; first.new_local_ref(shared).err(), Some(Fault::Stale));
+    assert_eq!(rt; first.delete_global_ref(shared).err(), Some(Fault::Stale));
+    assert_eq!(rt; second.get_object_ref_type(own)?, 1);
+    Ok(())
+}
