@@ -98,10 +98,11 @@ fn prepare<S: Steps>(steps: &mut S) -> Result<(), Fail> {
     if steps.config().words != 4 || steps.role() != Role::Outside || !steps.go_in() {
         return Err("the thread does not come in")?;
     }
-    if steps.see_top(TopNaming::Look) != 0 {
+    let looked = steps.see_top(TopNaming::Look);
+    if looked != 0 {
         return Err("a word is reserved")?;
     }
-    let Ok(()) = steps.claim_top(0, 2) else {
+    let Ok(()) = steps.claim_top(looked, 2) else {
         return Err("the top is another")?;
     };
     steps.go_out();

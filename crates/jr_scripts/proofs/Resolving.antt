@@ -21,7 +21,7 @@ use Rattle.jr_rule.specs.Knowing.{Standing, IsOf, view, anything, keeps, Holds, 
 use Rattle.jr_rule.proofs.Goes.{goes_did, looked_present}
 use Rattle.jr_scripts.specs.Performing.{FoundPresent, Resolves, Calls}
 use Rattle.jr_scripts.specs.Reading.{word_of, found_answer, local_answer}
-use Rattle.jr_scripts.specs.Works.{typing}
+use Rattle.jr_model.specs.References.{typing}
 use Rattle.jr_scripts.specs.declared.reference.Reference.{Reference}
 use Rattle.jr_scripts.specs.declared.reference.Reference.TheVariants as reference
 use Rattle.jr_scripts.proofs.Standings.{nothing_changed, as_before}

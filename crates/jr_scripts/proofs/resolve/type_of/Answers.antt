@@ -1,6 +1,6 @@
 use Rattle.std.proofs.Common.{Ok, sym, subst}
 use Rattle.jr_scripts.specs.Reading.{word_of}
-use Rattle.jr_scripts.specs.Works.{typing}
+use Rattle.jr_model.specs.References.{typing}
 use Rattle.jr_scripts.specs.Performing.{Calls}
 use Rattle.jr_scripts.specs.declared.reference.Reference.{Reference}
 use Rattle.jr_scripts.proofs.Resolving.{types_void}
