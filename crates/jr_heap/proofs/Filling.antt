@@ -62,7 +62,7 @@ pub record FilledTo {S : Type 0} (stands : S → Standing) (knows : S → Known 
   pub stands_is : stands new ≡ stands old
   pub did : (k : Known) → knows old k → IsOwn place n k → (k' : Known) × knows new k' × Did (view k) (view k') [] × IsFilledTo place n v i k k'
 
-among : (n v i w : ℕ) → slice_get (replicate n v) i ≡ Some w → w ≡ v
+pub among : (n v i w : ℕ) → slice_get (replicate n v) i ≡ Some w → w ≡ v
 among zero v i w e = absurd cc
 among (suc n) v zero w e = let h : Some v ≡ Some w = e in cc
 among (suc n) v (suc i) w e = among n v i w e

@@ -11,3 +11,4 @@ mod Publishing
 mod Whole
 mod Lists
 mod Tried
+mod Beside

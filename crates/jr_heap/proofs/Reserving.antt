@@ -62,7 +62,7 @@ suc_not_zero : (n : ℕ) → (suc n == 0) ≡ false
 suc_not_zero n = grind (arith, nat_tests)
 
 -- the words of a range that was just reserved
-own_range : (place n : ℕ) (j k : Known) (ws : List ℕ) → length ws ≡ n → k.grasp ≡ with_range j.grasp place ws → IsOwn place n k
+pub own_range : (place n : ℕ) (j k : Known) (ws : List ℕ) → length ws ≡ n → k.grasp ≡ with_range j.grasp place ws → IsOwn place n k
 own_range place zero j k ws long e = refl
 own_range place (suc n) j k ws long e = ap (λ b. length (cond b [] (words_at place k.grasp.ranges))) (suc_not_zero n) ∙ (ap (λ (h : Grasp). length (words_at place h.ranges)) e ∙ (ap (λ b. length (cond b ws (words_at place j.grasp.ranges))) (eq_self place) ∙ long))
 

@@ -1,5 +1,5 @@
 -- Tests make objects of a kind, and read and write them.
-use Rattle.std.proofs.Common.{zero, suc, ◌≡◌, ◌≢◌, ◌++◌, ℕ, Bool, true, false, not, nat_le, length, ◌||◌, Option, Some, None, IsSome, List, [], ◌∷◌, Result, Ok, Err, IfOk, inl, inr, ◌⊎◌, ⊎_elim, refl, sym, ap, subst, ◌∙◌}
+use Rattle.std.proofs.Common.{zero, suc, ◌≡◌, ◌++◌, ℕ, Bool, true, false, not, nat_le, length, ◌||◌, Option, Some, None, IsSome, List, [], ◌∷◌, Result, Ok, Err, IfOk, inl, inr, refl, sym, ap, subst, ◌∙◌}
 use mathlib.Core.Logic.{∥∥₁_map}
 use Rattle.jr_word.specs.declared.fault.Fault.{Fault}
 use Rattle.jr_word.specs.declared.fault.Fault.TheVariants.{NotArray, Range, Value}

@@ -1,11 +1,12 @@
 //! The heap of a room that several passes share.
 ghost use Rattle.std.specs.Prelude.{◌≡◌, ◌≢◌, All, IfOk};
-ghost use Rattle.jr_word.specs.declared.kind.Kind.TheVariants.{Plain};
+ghost use Rattle.jr_word.specs.declared.kind.Kind.TheVariants.{Int, Plain};
 ghost use Rattle.jr_model.specs.declared.event.Role.TheVariants.{Within};
 ghost use Rattle.jr_rule.specs.declared.known.Known.{Known};
 ghost use Rattle.jr_rule.specs.Knowing.{HasObject, IsWordNow, MayKnow};
 ghost use Rattle.jr_rule.specs.Passes.{IsOpened};
-ghost use Rattle.jr_heap.specs.Heap.{HasKind, MayBeNamed};
+ghost use Rattle.jr_heap.specs.Heap.{HasKind, IsReady, MayBeNamed};
+ghost use Rattle.jr_heap.specs.Ranges.{place_of, size_of, AreReady};
 
 use crate::*;
 use jr_gate::enter;
@@ -283,14 +284,79 @@ fn made_beside<S: Steps>(steps: &mut S, numbers: &mut Numbers) -> Result<u16, Fa
     publish(steps, numbers, Kind::Int, first)
 }
 
-/// The first element of an object, read by a header that was looked up before another read of it.
-fn read_again<S: Steps>(steps: &mut S, object: u16) -> Result<u64, Fault>
+/// The first element of an object, read by a header that was looked up before another pass published and the object was looked up again.
+fn read_again<S: Steps, T: Steps>(
+    steps: &mut S,
+    other: &mut T,
+    numbers: &mut Numbers,
+    object: u16,
+) -> Result<u64, Fault>
     requires role { (S.stands steps.old).role ≡ Within }
+    requires beside { (T.stands other.old).role ≡ Within }
     requires object { MayKnow S.knows steps.old (HasObject object) }
+    ensures stands { S.stands steps.new ≡ S.stands steps.old }
+    ensures beside { T.stands other.new ≡ T.stands other.old }
 {
     let found = header(steps, object);
+    made_plain(other, numbers)?;
     read(steps, object, 0)?;
     read_element(steps, object, found, 0)
+}
+
+/// Publishes a range, and reads its object's first element by the header that was built for it.
+fn published<S: Steps>(steps: &mut S, numbers: &mut Numbers, range: Range) -> Result<u64, Fault>
+    requires role { (S.stands steps.old).role ≡ Within }
+    requires ready { MayKnow S.knows steps.old (IsReady Int (place_of range) (size_of range)) }
+    ensures stands { S.stands steps.new ≡ S.stands steps.old }
+{
+    let header = range.header(Kind::Int);
+    let object = publish(steps, numbers, Kind::Int, range)?;
+    read_element(steps, object, header, 0)
+}
+
+/// The same beside another range, which stays ready.
+fn published_beside<S: Steps>(
+    steps: &mut S,
+    numbers: &mut Numbers,
+    range: Range,
+    _other: &Range,
+) -> Result<u64, Fault>
+    requires role { (S.stands steps.old).role ≡ Within }
+    requires ready { MayKnow S.knows steps.old (AreReady range _other.now) }
+    requires apart { place_of range ≢ place_of _other.now }
+    ensures stands { S.stands steps.new ≡ S.stands steps.old }
+    ensures other { MayKnow S.knows steps.new (IsReady Int (place_of _other.now) (size_of _other.now)) }
+{
+    let header = range.header(Kind::Int);
+    let object = publish(steps, numbers, Kind::Int, range)?;
+    read_element(steps, object, header, 0)
+}
+
+/// Two ranges are reserved and filled, one after the other, and published in either order while another pass publishes. The first elements of their objects.
+fn both_published<S: Steps, T: Steps>(
+    steps: &mut S,
+    other: &mut T,
+    numbers: &mut Numbers,
+    later_first: bool,
+) -> Result<(u64, u64), Fault>
+    requires role { (S.stands steps.old).role ≡ Within }
+    requires beside { (T.stands other.old).role ≡ Within }
+    ensures stands { S.stands steps.new ≡ S.stands steps.old }
+    ensures beside { T.stands other.new ≡ T.stands other.old }
+{
+    let first = reserve(steps, 3)?;
+    fill(steps, &first, 7);
+    let second = reserve(steps, 2)?;
+    fill(steps, &second, 8);
+    made_plain(other, numbers)?;
+    if later_first {
+        let two = published_beside(steps, numbers, second, &first)?;
+        let one = published(steps, numbers, first)?;
+        return Ok((one, two));
+    }
+    let one = published_beside(steps, numbers, first, &second)?;
+    let two = published(steps, numbers, second)?;
+    Ok((one, two))
 }
 
 /// Two passes of one room share its space and its object numbers.
@@ -456,15 +522,33 @@ fn each_thread_reads_its_own_last_write(rt: HostRuntime) -> Result<(), Fail> {
     Ok(())
 }
 
-/// A range stays filled while another is reserved, and a header serves after other reads of the object.
+/// A range stays filled while another is reserved, and a header serves after another pass published and after other reads of the object.
 #[test]
 fn ranges_and_headers_serve_later(rt: HostRuntime) -> Result<(), Fail> {
-    let mut steps = PlainSteps::<2>::new(rt.alloc(), WIDE)?;
-    if !steps.go_in() {
-        return Err("nobody collects")?;
-    }
+    let (room, first, second) = opened(rt.alloc(), SHARED)?;
+    let mut first = RoomSteps::new(&room, first);
+    let mut second = RoomSteps::new(&room, second);
+    assert!(rt; first.go_in());
+    assert!(rt; second.go_in());
+
     let mut numbers = Numbers::new();
-    let object = made_beside(&mut steps, &mut numbers)?;
-    assert_eq!(rt; read_again(&mut steps, object), Ok(7));
+    let object = made_beside(&mut first, &mut numbers)?;
+    let again = read_again(&mut first, &mut second, &mut numbers, object);
+    assert_eq!(rt; again, Ok(7));
+    let in_order = both_published(&mut first, &mut second, &mut numbers, false);
+    assert_eq!(rt; in_order, Ok((7, 8)));
+    let turned = both_published(&mut first, &mut second, &mut numbers, true);
+    assert_eq!(rt; turned, Ok((7, 8)));
+
+    first.go_out();
+    second.go_out();
+    let (first, _second) = (first.into_pass(), second.into_pass());
+    let summary = Summary {
+        globals: 0,
+        weaks: 0,
+        live: 8,
+        used: 15,
+    };
+    assert_eq!(rt; room.close(first).ok(), Some(summary));
     Ok(())
 }

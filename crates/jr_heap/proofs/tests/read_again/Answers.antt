@@ -1,4 +1,4 @@
-use Rattle.std.proofs.Common.{◌≡◌, sym, subst}
+use Rattle.std.proofs.Common.{sym, subst}
 use Rattle.jr_word.specs.declared.header.HeaderParts.{HeaderParts}
 use Rattle.jr_heap.specs.Heap.{HoldsHeader}
 use Rattle.jr_heap.proofs.Calling.{may_called}
