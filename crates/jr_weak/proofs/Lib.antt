@@ -1,3 +1,4 @@
 pub mod Marks
 pub mod Reaching
 mod Slides
+mod OneArray

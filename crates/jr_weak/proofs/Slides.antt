@@ -1,19 +1,15 @@
 -- An object moves down, element by element.
-use Rattle.std.proofs.Common.{◌≡◌, ◌≢◌, ◌+◌, ◌<◌, ◌≤◌, ℕ, Option, Some, None, [], ◌++◌, refl, sym, ap, subst, ◌∙◌, arith, append_assoc}
-use Rattle.std.proofs.lemmas.List.{append-nil}
+use Rattle.std.proofs.Common.{◌≡◌, ◌+◌, ◌<◌, ◌≤◌, ℕ, Option, Some, None, [], refl, sym, ap, subst, ◌∙◌, arith}
 use mathlib.Core.Logic.{∥∥₁_map}
-use Rattle.jr_word.specs.declared.config.Config.{Config}
 use Rattle.jr_word.specs.declared.header.HeaderParts.{HeaderParts}
 use Rattle.jr_model.specs.declared.event.Role.TheVariants.{Collecting}
 use Rattle.jr_model.specs.State.{Contents, HaveSameTables}
-use Rattle.jr_model.specs.History.{IsLegal, mine, role_of}
-use Rattle.jr_model.proofs.Histories.{mine_append}
 use Rattle.jr_rule.specs.declared.known.Known.{Known}
 use Rattle.jr_rule.specs.declared.known.Grasp.{Grasp}
 use Rattle.jr_rule.specs.declared.known.Move.{Move}
 use Rattle.jr_rule.specs.Grasping.{with_move, with_header, header_in, move_of, HasDone}
-use Rattle.jr_rule.specs.Collecting.{IsThere, IsFree, ShowsElement, CanMove, ShowsMoved, placed, CanPlace, ShowsPlaced}
-use Rattle.jr_rule.specs.Knowing.{Standing, IsOf, MayKnow, Goes, Took, view, state_of, keeps, KnowsHeader}
+use Rattle.jr_rule.specs.Collecting.{IsThere, ShowsElement, CanMove, ShowsMoved, placed, CanPlace, ShowsPlaced}
+use Rattle.jr_rule.specs.Knowing.{Standing, IsOf, MayKnow, Goes, Took, state_of, keeps, KnowsHeader}
 use Rattle.jr_rule.proofs.Collected.{same_tables, goes_nothing, goes_both, there_left}
 use Rattle.jr_weak.specs.Sliding.{CanSlide}
 
@@ -42,6 +38,27 @@ module _ {S : Type 0} {stands : S → Standing} {knows : S → Known → Type 0}
   module _ {a b : S} {i : ℕ} (p : SlidTo stands knows o h place a b i) where
     known_still : (k k' : Known) → CanSlide o h place k → IsSlidTo o place i k k' → KnowsHeader o h k'
     known_still k k' can s = ap (λ (g : Grasp). header_in o g.headers) s.others ∙ can.known
+
+    -- an element that is still to be moved stands where its header says
+    pub later_there : (j : ℕ) → i ≤ j → j < h.length → MayKnow knows a (CanSlide o h place) → MayKnow knows b (IsThere o h j)
+    later_there j m l may = ∥∥₁_map may (λ k. let x = p.did k.0 k.1 k.2 in (x.0, x.1, there_left o j place i h x.0 (known_still k.0 x.0 k.2 x.3) l (x.3).done m))
+
+    -- and a look at it changes nothing
+    pub slid_looked : {c : S} {v : ℕ} (j : ℕ) → i ≤ j → j < h.length → Took stands knows b c [] (IsThere o h j) (λ j' k. ShowsElement o j v k × keeps j' k) → SlidTo stands knows o h place a c i
+    slid_looked j m l looked = record {
+      stands_is = looked.stands_is ∙ p.stands_is;
+      did = λ k s can.
+          let x = p.did k s can in
+          let y = looked.goes x.0 x.1 (there_left o j place i h x.0 (known_still k x.0 can x.3) l (x.3).done m) in (
+            y.0,
+            y.1,
+            goes_both x.2 y.2,
+            record {
+              done = subst (λ (g : Grasp). HasDone g.moving o place i) (sym y.3.1) (x.3).done;
+              others = ap (λ g. with_move g None) y.3.1 ∙ (x.3).others;
+            },
+          );
+    }
 
     -- the next element stands where its header says
     pub next_there : i < h.length → MayKnow knows a (CanSlide o h place) → MayKnow knows b (IsThere o h i)

@@ -3,6 +3,8 @@
 
 mod marker;
 mod sliding;
+#[cfg(test)]
+mod tests;
 
 pub use marker::Marker;
 pub use sliding::slide;
