@@ -1,0 +1,2 @@
+mod Slides
+mod OneArray
