@@ -1,6 +1,6 @@
--- How the program ends where a text with a fault was there to be read.
-use Rattle.std.proofs.Common.{◌≡◌, ◌≢◌, ◌⊎◌, List, ℕ, Option, Some, None, IfSome, IsSome, is_some, refl, sym, ap, ◌∙◌, subst, inl, inr}
-use Rattle.std.specs.Io.KnownBytes.{Keeps}
+-- How the program ends.
+use Rattle.std.proofs.Common.{Result, Ok, Err, OnOk, OnErr, IfErr, ◌≡◌, ◌≢◌, ◌⊎◌, List, ℕ, Option, Some, None, IfSome, IsSome, is_some, refl, sym, ap, ◌∙◌, subst, inl, inr}
+use Rattle.std.specs.Io.KnownBytes.{Appends, Keeps}
 use Rattle.std.proofs.lemmas.Bool.{false≢true}
 use Rattle.clap.specs.Words.{Text}
 use Rattle.jr_syntax.specs.Faults.{first_fault}
@@ -9,8 +9,8 @@ use Rattle.jrefs.specs.declared.request.Request.{Request}
 use Rattle.jrefs.specs.declared.request.Request.TheVariants.{Run, Check, Word}
 use Rattle.jrefs.specs.declared.trouble.Trouble.{Trouble}
 use Rattle.jrefs.specs.declared.trouble.Trouble.TheVariants as troubles
-use Rattle.jrefs.specs.Act.{AnswersWords, IsOutput, IsOutputFor, Leaves}
-use Rattle.jrefs.specs.Request.{Asks, AsksOfScript}
+use Rattle.jrefs.specs.Act.{AnswersWords, AppendsBeginning, IsOutput, IsOutputFor, Leaves, Prevents, Stops}
+use Rattle.jrefs.specs.Request.{Asks, AsksOfScript, asked_for}
 use Rattle.jrefs.specs.Trouble.{status_of}
 use Rattle.jrefs.proofs.CommandLine.{asks_found}
 
@@ -46,3 +46,24 @@ stopped_by troubles.Output words text left old new r asks of_script apart leaves
 pub faulty_stopped : (t : Trouble) (words : List Text) (known left old new : Option (List ℕ)) (r : Request) → Asks r words → AsksOfScript r → status_of t ≢ 2 → Leaves t words known left old new → IfSome known (λ text. IsSome (first_fault text) → IsFaulty (status_of t) old new)
 faulty_stopped t words None left old new r asks of_script apart leaves = tt
 faulty_stopped t words (Some text) left old new r asks of_script apart leaves = stopped_by t words text left old new r asks of_script apart leaves
+
+-- ---- what is written
+
+-- what stops the request of words prevents their output
+pub stopped_prevents : (t : Trouble) (words : List Text) (old new : Option (List ℕ)) (r : Request) → asked_for words ≡ Some r → Stops t r old new → Prevents t words old new
+stopped_prevents (troubles.Script line reason) words old new r asked stops = (r, asked, stops)
+stopped_prevents troubles.Usage words old new r asked stops = absurd stops
+stopped_prevents troubles.Memory words old new r asked stops = tt
+stopped_prevents troubles.Input words old new r asked stops = (r, asked, stops)
+stopped_prevents troubles.Output words old new r asked stops = absurd stops
+
+-- an output that was written whole
+pub written_answers : (words : List Text) (known old new : Option (List ℕ)) (output bytes : List ℕ) (r : Result (Unit {0}) Trouble) → bytes ≡ output → IsOutputFor words known output → OnOk r (Appends old new bytes) → OnOk r (AnswersWords words known old new)
+written_answers words known old new output bytes (Ok _) same is written = (is.0, is.1, record { output = output; is_output = is.2; written = subst (Appends old new) same written })
+written_answers words known old new output bytes (Err _) same is written = tt
+
+-- an output that was cut off
+pub cut_off_leaves : (words : List Text) (known left old new : Option (List ℕ)) (output bytes : List ℕ) (r : Result (Unit {0}) Trouble) → bytes ≡ output → IsOutputFor words known output → OnErr r (AppendsBeginning old new bytes) → IfErr r (λ t. t ≡ troubles.Output) → IfErr r (λ t. Leaves t words known left old new)
+cut_off_leaves words known left old new output bytes (Ok _) same is begins fault = tt
+cut_off_leaves words known left old new output bytes (Err t) same is begins fault =
+    subst (λ (u : Trouble). Leaves u words known left old new) (sym fault) (output, is, subst (AppendsBeginning old new) same begins)

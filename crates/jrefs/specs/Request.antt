@@ -1,7 +1,7 @@
 -- The program's command line.
-use Rattle.std.specs.Prelude.{◌≡◌, ◌⊎◌, true, false, List, [], ◌∷◌, Option, Some, None, ⊤, codes, if◌then◌else◌, option_and_then, option_map}
+use Rattle.std.specs.Prelude.{◌≡◌, ◌≢◌, ◌⊎◌, true, List, [], ◌∷◌, Option, Some, None, ⊤, codes, if◌then◌else◌, option_and_then, option_map}
 use Rattle.std.specs.Str.{bytes_eq}
-use Rattle.clap.specs.Words.{App, Row, Rule, Shape, Text, first_of, new_app, new_rule, subcommand_of, takes, with_subcommand}
+use Rattle.clap.specs.Words.{App, Row, Rule, Shape, Text, first_of, new_app, new_rule, subcommand_of, fault_of, with_subcommand}
 use Rattle.clap.specs.Simple.{on_top, new_shape}
 use Rattle.jrefs.specs.declared.request.Request.{Request}
 use Rattle.jrefs.specs.declared.request.Request.TheVariants.{Run, Check, Word}
@@ -37,9 +37,9 @@ request_found found = option_and_then (λ c. request_of_command c.0 (first_of (c
 abbrev pub asked_for : List Text → Option Request
 asked_for words = request_found (subcommand_of command_line words)
 
--- the words ask for nothing: the command line doesn't take them, or finds no request in them
+-- the words ask for nothing: the command line has a fault for them, or finds no request in them
 abbrev pub AskNothing : List Text → Type 0
-AskNothing words = (takes command_line words ≡ false) ⊎ (asked_for words ≡ None)
+AskNothing words = (fault_of command_line words ≢ []) ⊎ (asked_for words ≡ None)
 
 -- the request is about a script, which is there to be read
 abbrev pub AsksOfScript : Request → Type 0

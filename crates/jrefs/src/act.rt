@@ -1,11 +1,11 @@
 //! What the program does, over any reader and writers.
 
-ghost use Rattle.std.specs.Prelude.{◌≡◌, ◌≢◌, ◌⊎◌, map, ℕ, Some, None, IfSome, IsSome, IfOk, IfErr, OnOk, IsErrAnd};
+ghost use Rattle.std.specs.Prelude.{◌≡◌, ◌≢◌, ◌⊎◌, map, ℕ, Some, IfSome, IsSome, IfOk, IfErr, OnOk, IsErrAnd};
 ghost use Rattle.std.specs.Io.KnownBytes.{Keeps};
 ghost use Rattle.jr_syntax.specs.Faults.{first_fault};
 ghost use Rattle.jrefs.specs.Act.{IsOutput, IsOutputFor, Stops, Prevents, Answers, AnswersWords, Leaves, Fails, TakesAtMost};
 ghost use Rattle.jrefs.specs.Describe.{Describes};
-ghost use Rattle.jrefs.specs.Request.{Asks, AsksOfScript, asked_for};
+ghost use Rattle.jrefs.specs.Request.{Asks, AskNothing, AsksOfScript, asked_for};
 ghost use Rattle.jrefs.specs.declared.request.Request.{Request as AnyRequest};
 ghost use Rattle.jrefs.specs.declared.request.Request.TheVariants.{Word};
 ghost use Rattle.jrefs.specs.Trouble.{status_of};
@@ -39,7 +39,7 @@ pub fn act<'a, R: Read + Drop, W: Write + Drop, F: Write + Drop>(
     ensures taken { (r : AnyRequest) → Asks r (map (λ w. w.now) words.entry.now)
         → (result ≢ 2) × (result ≡ 0 → Answers r (R.remaining reader.old) (W.contents writer.old) (W.contents writer.new)) }
     // Words that ask for nothing are refused, unless memory runs out.
-    ensures refused { asked_for (map (λ w. w.now) words.entry.now) ≡ None → (result ≡ 2) ⊎ (result ≡ 3) }
+    ensures refused { AskNothing (map (λ w. w.now) words.entry.now) → (result ≡ 2) ⊎ (result ≡ 3) }
     // Where a text with a fault was there to be read, the status is 1, unless memory runs out or the reader fails.
     ensures faulty { (r : AnyRequest) → Asks r (map (λ w. w.now) words.entry.now) → AsksOfScript r
         → IfSome (R.remaining reader.old) (λ text. IsSome (first_fault text)
@@ -62,7 +62,7 @@ fn carried_out<'a, R: Read + Drop, W: Write + Drop>(
     reader: &mut R,
     writer: &mut W,
 ) -> Result<(), Trouble>
-    ensures refused { asked_for (map (λ w. w.now) words.entry.now) ≡ None → IsErrAnd result (λ t. (t ≡ Memory) ⊎ (t ≡ Usage)) }
+    ensures refused { AskNothing (map (λ w. w.now) words.entry.now) → IsErrAnd result (λ t. (t ≡ Memory) ⊎ (t ≡ Usage)) }
     ensures ok { OnOk result (AnswersWords (map (λ w. w.now) words.entry.now) (R.remaining reader.old) (W.contents writer.old) (W.contents writer.new)) }
     ensures err { IfErr result (λ t. Leaves t (map (λ w. w.now) words.entry.now) (R.remaining reader.old) (R.remaining reader.new) (W.contents writer.old) (W.contents writer.new)) }
     ensures taken { (r : AnyRequest) → Asks r (map (λ w. w.now) words.entry.now) → IfErr result (λ t. status_of t ≢ 2) }
@@ -79,7 +79,7 @@ fn output_of<'a, R: Read + Drop>(
     words: &'a [&'a str],
     reader: &mut R,
 ) -> Result<Vec<u8>, Trouble>
-    ensures refused { asked_for (map (λ w. w.now) words.entry.now) ≡ None → IsErrAnd result (λ t. (t ≡ Memory) ⊎ (t ≡ Usage)) }
+    ensures refused { AskNothing (map (λ w. w.now) words.entry.now) → IsErrAnd result (λ t. (t ≡ Memory) ⊎ (t ≡ Usage)) }
     ensures ok { IfOk result (λ output. IsOutputFor (map (λ w. w.now) words.entry.now) (R.remaining reader.old) output.items) }
     ensures err { IfErr result (λ t. Prevents t (map (λ w. w.now) words.entry.now) (R.remaining reader.old) (R.remaining reader.new)) }
     ensures taken { (r : AnyRequest) → Asks r (map (λ w. w.now) words.entry.now) → IfErr result (λ t. status_of t ≢ 2) }

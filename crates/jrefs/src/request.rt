@@ -1,6 +1,6 @@
 //! What the words of the command line ask for.
 
-ghost use Rattle.std.specs.Prelude.{◌≡◌, ◌≢◌, ◌⊎◌, map, Some, IfOk, IfErr};
+ghost use Rattle.std.specs.Prelude.{◌≡◌, ◌≢◌, ◌⊎◌, map, Some, IfOk, IfErr, IsErrAnd};
 ghost use Rattle.clap.specs.Words.{app_of, kind_of, subcommand_rows_of};
 ghost use Rattle.clap.specs.declared.error.ErrorKind.TheVariants.{OutOfMemory};
 ghost use Rattle.jrefs.specs.Request.{command_line, request_found, asked_for, Asks, AskNothing};
@@ -65,6 +65,7 @@ fn refusal(error: &Error) -> Trouble
 pub fn request_of<'a>(alloc: Global, words: &'a [&'a str]) -> Result<Request, Trouble>
     ensures ok { IfOk result (λ r. asked_for (map (λ w. w.now) words.entry.now) ≡ Some r) }
     ensures err { IfErr result (λ t. (t ≡ Memory) ⊎ (t ≡ Usage)) }
+    ensures refused { AskNothing (map (λ w. w.now) words.entry.now) → IsErrAnd result (λ t. (t ≡ Memory) ⊎ (t ≡ Usage)) }
     ensures nothing { IfErr result (λ t. t ≡ Usage → AskNothing (map (λ w. w.now) words.entry.now)) }
     // A request is taken, unless memory runs out.
     ensures taken { (r : AnyRequest) → Asks r (map (λ w. w.now) words.entry.now) → IfErr result (λ t. t ≡ Memory) }

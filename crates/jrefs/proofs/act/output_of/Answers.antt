@@ -1,0 +1,10 @@
+-- The request that was replied to is the one that the words ask for.
+use Rattle.std.proofs.lemmas.Result.{IfOk-weaker, IfErr-weaker}
+use Rattle.jrefs.proofs.Ending.{stopped_prevents}
+use Rattle.jrefs.proofs.act.output_of.Goals as goal
+
+pub returns-clause-ok : goal.returns-clause-ok
+returns-clause-ok g c = IfOk-weaker c.reply_to.result _ _ (λ output is. (c.in_ok-request.request, c.in_ok-request.ensures.ok, is)) c.reply_to.ensures.ok
+
+pub returns-clause-err : goal.returns-clause-err
+returns-clause-err g c = IfErr-weaker c.reply_to.result _ _ (λ t stops. stopped_prevents t _ _ _ c.in_ok-request.request c.in_ok-request.ensures.ok stops) c.reply_to.ensures.err
