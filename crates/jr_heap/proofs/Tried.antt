@@ -69,7 +69,7 @@ module _ {S : Type 0} (stands : S → Standing) (knows : S → Known → Type 0)
   may_be_written v named may = ∥∥₁_map may (λ k. (k.0, k.1, (kind_present o kind k.0 k.2, kind_of_some k.0 o kind v k.2 (named k.0))))
 
   module _ (b : S) (w : (stands a).role ≡ Within) where
-    pub kind_read : (i : ℕ) (answer : Result ℕ Fault) → Called knows a b (HasObject o) (λ j k. read_element (state_of k) o i) answer (Relearns o) → MayKnow knows a (HasKind o kind) → MayKnow knows b (HasKind o kind)
+    pub kind_read : {shows : Known → Known → Type 0} (i : ℕ) (answer : Result ℕ Fault) → Called knows a b (HasObject o) (λ j k. read_element (state_of k) o i) answer shows → MayKnow knows a (HasKind o kind) → MayKnow knows b (HasKind o kind)
     kind_read i answer c may = ∥∥₁_map may (λ k.
         let r = c.ran k.0 k.1 (kind_present o kind k.0 k.2) in
         let f = r.2 (record { frames = []; given = [] }) in

@@ -30,4 +30,4 @@ returns-clause-other g c =
       ready_published c.args._other.now.place c.args._other.now.length c.args.range.place c.args.range.length (Ok c.in_ok-object.object) k j (λ e. c.requires.apart (sym e)) l w.1,
     )) in
     may_called c.read_element.ensures.call both (λ k w. w.0)
-    (λ k j s w acts d l. ready_same c.args._other.now.place c.args._other.now.length k j (ap (λ (h : Grasp). words_at c.args._other.now.place h.ranges) l.1) w.1)
+    (λ k j s w acts d l. ready_same c.args._other.now.place c.args._other.now.length k j (ap (λ (h : Grasp). words_at c.args._other.now.place h.ranges) l.0.1) w.1)

@@ -15,4 +15,4 @@ read_element-requires-clause-known g c =
     let o = c.args.object in
     let found = c.header-found.result in
     may_called c.read.ensures.call c.header-found.ensures.known (λ k w. shown_present o found k w.shown)
-    (λ k j s w acts d l. subst (λ (h : HeaderParts). HoldsHeader o h j) (sym ((l.1).2 found w.known)) (learnt o l.0 k j l.1))
+    (λ k j s w acts d l. subst (λ (h : HeaderParts). HoldsHeader o h j) (sym (l.0.1.2 found w.known)) (learnt o l.0.0 k j l.0.1))
