@@ -13,9 +13,9 @@ use Rattle.jr_model.proofs.Windows.{window_within}
 use Rattle.jr_rule.specs.declared.known.Known.{Known}
 use Rattle.jr_rule.specs.declared.known.Grasp.{Grasp}
 use Rattle.jr_rule.specs.Grasping.{words_at}
-use Rattle.jr_rule.specs.Knowing.{Standing, IsOf, MayKnow, view, HasWord, IsWordNow, ShowsWord, Took}
+use Rattle.jr_rule.specs.Knowing.{Standing, IsOf, MayKnow, view, HasWord, IsWordNow, ShowsWord, Took, Takes}
 use Rattle.jr_rule.proofs.Goes.{goes_did}
-use Rattle.jr_heap.specs.Heap.{Called, words_of, IsOwn, IsReady, Fills, no_act}
+use Rattle.jr_heap.specs.Heap.{Called, by_steps, words_of, IsOwn, IsReady, Fills, no_act}
 use Rattle.jr_heap.proofs.Calling.{called_by}
 use Rattle.jr_heap.proofs.Staying.{word_later}
 
@@ -56,6 +56,7 @@ pub record IsFilledTo (place n v i : ℕ) (j k : Known) : Type 0 where
   pub words : 1 ≤ n → take i (words_at place k.grasp.ranges) ≡ replicate i v
   pub headers : k.grasp.headers ≡ j.grasp.headers
   pub others : (p : ℕ) → (p ≢ place) ⊎ (n ≡ 0) → words_at p k.grasp.ranges ≡ words_at p j.grasp.ranges
+  pub counted : Takes i j k
 
 -- what was done so far
 pub record FilledTo {S : Type 0} (stands : S → Standing) (knows : S → Known → Type 0) (place n v : ℕ) (old new : S) (i : ℕ) : Type 0 where
@@ -96,7 +97,7 @@ module _ {S : Type 0} {stands : S → Standing} {knows : S → Known → Type 0}
   pub filled_nothing : (a : S) → FilledTo stands knows place n v a a 0
   filled_nothing a = record {
     stands_is = refl;
-    did = λ k s m. (k, s, did_nothing (view k) (fits a k s).legal, record { long = λ l. ap (λ (ws : List ℕ). length ws) (sym (words_some place n k l)) ∙ m; words = λ l. refl; headers = refl; others = λ p ne. refl });
+    did = λ k s m. (k, s, did_nothing (view k) (fits a k s).legal, record { long = λ l. ap (λ (ws : List ℕ). length ws) (sym (words_some place n k l)) ∙ m; words = λ l. refl; headers = refl; others = λ p ne. refl; counted = omega arith });
   }
 
   pub filled_more : {a b c : S} (i : ℕ) → FilledTo stands knows place n v a b i → i < n → Took stands knows b c [] (HasWord place i) (ShowsWord place i v) → FilledTo stands knows place n v a c (i + 1)
@@ -115,6 +116,7 @@ module _ {S : Type 0} {stands : S → Standing} {knows : S → Known → Type 0}
             words = λ q. ap (λ ws. take (i + 1) ws) here ∙ filled_next i v (words_at place x.0.grasp.ranges) (x.3.words q) has;
             headers = ap (λ (g : Grasp). g.headers) y.3 ∙ x.3.headers;
             others = λ r ne. ⊎_elim (λ (d : r ≢ place). stored_elsewhere place i v x.0 y.0 y.3 r d) (λ (z : n ≡ 0). absurd (omega arith)) ne ∙ x.3.others r ne;
+            counted = let a = x.3.counted in let b = y.2.taken in omega arith;
           },
         );
   }
@@ -126,8 +128,8 @@ module _ {S : Type 0} {stands : S → Standing} {knows : S → Known → Type 0}
     whole : FilledTo stands knows place n v a b n
     whole = subst (λ m. FilledTo stands knows place n v a b m) end p
 
-    pub filled_call : (stands a).role ≡ Within → Called knows a b (IsOwn place n) (λ j k. no_act) (Ok tt) (Fills place n v)
-    filled_call w = called_by (λ k s m. let x = whole.did k s m in (x.0, x.1, [], record { did = x.2; is = λ f. (refl, refl, refl); window = window_within [] x.2 ((fits a k s).role ∙ w) tt; grounds = tt; shows = filled_all place n v k x.0 x.3 }))
+    pub filled_call : (stands a).role ≡ Within → Called knows a b (IsOwn place n) (λ j k. no_act) (Ok tt) (by_steps n (Fills place n v))
+    filled_call w = called_by (λ k s m. let x = whole.did k s m in (x.0, x.1, [], record { did = x.2; is = λ f. (refl, refl, refl); window = window_within [] x.2 ((fits a k s).role ∙ w) tt; grounds = tt; shows = (filled_all place n v k x.0 x.3, x.3.counted) }))
 
     pub filled_own : MayKnow knows a (IsOwn place n) → MayKnow knows b (IsOwn place n)
     filled_own may = ∥∥₁_map may (λ k. let x = whole.did k.0 k.1 k.2 in (x.0, x.1, own_length place n x.0 x.3.long))

@@ -17,7 +17,7 @@ use Rattle.jr_rule.specs.Grasping.{header_in}
 use Rattle.jr_rule.specs.Knowing.{Standing, IsOf, MayKnow, anything, state_of, HasObject, ShowsHeader, Took}
 use Rattle.jr_rule.proofs.Goes.{goes_did, present_stays}
 use Rattle.jr_model.proofs.InRoom.{in_room}
-use Rattle.jr_heap.specs.Heap.{Called, HoldsHeader, Learns}
+use Rattle.jr_heap.specs.Heap.{Called, by_steps, HoldsHeader, Learns}
 use Rattle.jr_heap.proofs.Calling.{called_by}
 
 pub learnt : (o : ℕ) (h : HeaderParts) (j k : Known) → Learns o h j k → HoldsHeader o h k
@@ -51,12 +51,12 @@ module _ {S : Type 0} {stands : S → Standing} {knows : S → Known → Type 0}
       found : Took stands knows a b [] anything (ShowsHeader o (Some h))
       found = subst (λ x. Took stands knows a b [] anything (ShowsHeader o x)) is t
 
-      pub called_header : (stands a).role ≡ Within → Called knows a b (HasObject o) (λ j k. header (state_of k) o) (Ok (h.kind, h.length)) (Learns o h)
+      pub called_header : (stands a).role ≡ Within → Called knows a b (HasObject o) (λ j k. header (state_of k) o) (Ok (h.kind, h.length)) (by_steps 1 (Learns o h))
       called_header w = called_by (λ k s m.
           let g = found.goes k s tt in
           let x = g.3.0 in
           let d = goes_did g.2 in
-          (g.0, g.1, [], record { did = d; window = window_within [] d ((fits a k s).role ∙ w) tt; is = λ f. (x.contents, x.is, (refl, ap (λ n. Ok (h.kind, n)) (sym x.long) ∙ ap (λ (q : Kind). Ok (q, length x.contents.words)) (sym x.kind), refl)); grounds = tt; shows = g.3 }))
+          (g.0, g.1, [], record { did = d; window = window_within [] d ((fits a k s).role ∙ w) tt; is = λ f. (x.contents, x.is, (refl, ap (λ n. Ok (h.kind, n)) (sym x.long) ∙ ap (λ (q : Kind). Ok (q, length x.contents.words)) (sym x.kind), refl)); grounds = tt; shows = (g.3, g.2.taken) }))
 
       pub may_hold : MayKnow knows a (HasObject o) → MayKnow knows b (HoldsHeader o h)
       may_hold may = ∥∥₁_map may (λ k. let g = found.goes k.0 k.1 tt in (g.0, g.1, learnt o h k.0 g.0 g.3))

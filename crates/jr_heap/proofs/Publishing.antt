@@ -19,9 +19,9 @@ use Rattle.jr_rule.specs.declared.known.Known.{Known}
 use Rattle.jr_rule.specs.declared.known.Grasp.{Grasp}
 use Rattle.jr_rule.specs.Acts.{publishing}
 use Rattle.jr_rule.specs.Grasping.{header_in, with_header}
-use Rattle.jr_rule.specs.Knowing.{Standing, IsOf, MayKnow, Goes, view, state_of, words_for, published, HasObject, KnowsHeader, IsFilled, ShowsPublished, TookWith}
+use Rattle.jr_rule.specs.Knowing.{Standing, IsOf, MayKnow, Goes, view, state_of, words_for, published, HasObject, KnowsHeader, IsFilled, ShowsPublished, TookWith, Takes}
 use Rattle.jr_rule.proofs.Goes.{goes_did}
-use Rattle.jr_heap.specs.Heap.{Called, HoldsHeader, number_of}
+use Rattle.jr_heap.specs.Heap.{Called, by_at_most, HoldsHeader, number_of}
 use Rattle.jr_heap.proofs.Calling.{called_by}
 use Rattle.jr_heap.proofs.Staying.{present_later, word_later}
 use Rattle.jr_heap.proofs.Turns.{turn_of}
@@ -40,7 +40,7 @@ module _ {S : Type 0} (stands : S → Standing) (knows : S → Known → Type 0)
   pub record Passed (old new : S) (n : ℕ) : Type 0 where
     pub stands_is : stands new ≡ stands old
     pub did : (k : Known) → knows old k → IsFilled h k
-        → (k' : Known) × knows new k' × IsFilled h k' × (k'.grasp ≡ k.grasp) × ((t : ℕ) → t < n → HasObject (number_of first t objects) k') × Did (view k) (view k') []
+        → (k' : Known) × knows new k' × IsFilled h k' × (k'.grasp ≡ k.grasp) × ((t : ℕ) → t < n → HasObject (number_of first t objects) k') × Did (view k) (view k') [] × Takes n k k'
 
 -- an exchange of a header that is named otherwise
 pub tried : {S : Type 0} {stands : S → Standing} {knows : S → Known → Type 0} {b c : S} (o : ℕ) (new : Bool) (h z : HeaderParts) → z ≡ h
@@ -55,7 +55,7 @@ filled_later h k k' d w e x =
 
 module _ {S : Type 0} {stands : S → Standing} {knows : S → Known → Type 0} (fits : (s : S) (k : Known) → knows s k → IsOf (stands s) k) (h : HeaderParts) (first objects : ℕ) where
   pub passed_nothing : (a : S) → Passed stands knows h first objects a a 0
-  passed_nothing a = record { stands_is = refl; did = λ k s m. (k, s, m, refl, (λ t l. absurd (omega arith)), did_nothing (view k) (fits a k s).legal) }
+  passed_nothing a = record { stands_is = refl; did = λ k s m. (k, s, m, refl, (λ t l. absurd (omega arith)), did_nothing (view k) (fits a k s).legal, omega arith) }
 
   pub passed_more : {a b c : S} (n o : ℕ) → (stands a).role ≡ Within → o ≡ number_of first n objects → Passed stands knows h first objects a b n
       → TookWith stands knows b c (λ k. publishing o h.kind (words_for h k) false) (IsFilled h) (ShowsPublished o h false) → Passed stands knows h first objects a c (n + 1)
@@ -72,18 +72,19 @@ module _ {S : Type 0} {stands : S → Standing} {knows : S → Known → Type 0}
           y.3.1 ∙ x.3,
           λ u l. ⊎_elim (λ e. present_later x.0 y.0 [] d within tt (number_of first u objects) (x.4 u e)) (λ (e : n ≡ u). subst (λ z. HasObject z y.0) (is ∙ ap (λ z. number_of first z objects) e) y.3.0) (last_or u n l),
           did_then [] [] x.5 d,
+          (let u = x.6 in let v = y.2.taken in omega arith),
         );
   }
 
-  pub passed_new : {a b c : S} {n : ℕ} (o : ℕ) → Passed stands knows h first objects a b n → TookWith stands knows b c (λ k. publishing o h.kind (words_for h k) true) (IsFilled h) (ShowsPublished o h true)
-      → Called knows a c (IsFilled h) (λ j k. publish h.kind (words_for h j)) (Ok o) (λ j k. ((state_of k).objects o ≡ Some (record { kind = h.kind; words = words_for h j })) × (k.grasp ≡ with_header (published h j.grasp) o h) × (header_in o j.grasp.headers ≡ None))
-  passed_new o p t = called_by (λ k s m.
+  pub passed_new : {a b c : S} {n : ℕ} (o all : ℕ) → objects ≡ all → n < objects → Passed stands knows h first objects a b n → TookWith stands knows b c (λ k. publishing o h.kind (words_for h k) true) (IsFilled h) (ShowsPublished o h true)
+      → Called knows a c (IsFilled h) (λ j k. publish h.kind (words_for h j)) (Ok o) (by_at_most all (λ j k. ((state_of k).objects o ≡ Some (record { kind = h.kind; words = words_for h j })) × (k.grasp ≡ with_header (published h j.grasp) o h) × (header_in o j.grasp.headers ≡ None)))
+  passed_new {n = n} o all same_all small p t = called_by (λ k s m.
       let x = p.did k s m in
       let y = t.goes x.0 x.1 x.2 in
       let same : words_for h x.0 ≡ words_for h k = ap (λ (g : Grasp). words_for h (record k { grasp = g })) x.3 in
       let d : Did (view k) (view y.0) (New o h.kind (words_for h k) ∷ []) = subst (λ ws. Did (view k) (view y.0) (New o h.kind ws ∷ [])) same (did_then [] (New o h.kind (words_for h x.0) ∷ []) x.5 (goes_did y.2)) in
       let there : (state_of y.0).objects o ≡ Some (record { kind = h.kind; words = words_for h k }) = new_stands x.0 y.0 o h.kind (words_for h x.0) y.2 ∙ ap (λ ws. Some (record { kind = h.kind; words = ws })) same in
-      (y.0, y.1, New o h.kind (words_for h k) ∷ [], record { did = d; is = λ f. inl (o, refl, refl, refl); window = window_act (New o h.kind (words_for h k)) d tt tt; grounds = tt; shows = (there, y.3.1 ∙ ap (λ g. with_header (published h g) o h) x.3, subst (λ (g : Grasp). header_in o g.headers ≡ None) x.3 y.3.2) }))
+      (y.0, y.1, New o h.kind (words_for h k) ∷ [], record { did = d; is = λ f. inl (o, refl, refl, refl); window = window_act (New o h.kind (words_for h k)) d tt tt; grounds = tt; shows = ((there, y.3.1 ∙ ap (λ g. with_header (published h g) o h) x.3, subst (λ (g : Grasp). header_in o g.headers ≡ None) x.3 y.3.2), n + 1, omega arith, (let u = x.6 in let v = y.2.taken in omega arith)) }))
 
   pub passed_present : {a b c : S} {n : ℕ} (o : ℕ) → MayKnow knows a (IsFilled h) → Passed stands knows h first objects a b n → TookWith stands knows b c (λ k. publishing o h.kind (words_for h k) true) (IsFilled h) (ShowsPublished o h true) → MayKnow knows c (HasObject o)
   passed_present o may p t = ∥∥₁_map may (λ k. let x = p.did k.0 k.1 k.2 in let y = t.goes x.0 x.1 x.2 in (y.0, y.1, y.3.0))
@@ -99,12 +100,12 @@ module _ {S : Type 0} {stands : S → Standing} {knows : S → Known → Type 0}
   pub passed_ready : {a b : S} {n : ℕ} → MayKnow knows a (IsFilled h) → Passed stands knows h first objects a b n → MayKnow knows b (IsFilled h)
   passed_ready may p = ∥∥₁_map may (λ k. let x = p.did k.0 k.1 k.2 in (x.0, x.1, x.2))
 
-  pub passed_all : {a b : S} (n : ℕ) → (stands a).role ≡ Within → objects ≤ n → ((k : Known) → knows a k → k.config.objects ≡ objects) → (1 ≤ objects → first < objects) → Passed stands knows h first objects a b n
-      → Called knows a b (IsFilled h) (λ j k. publish h.kind (words_for h j)) (Err ObjectsFull) (λ j k. k.grasp ≡ j.grasp)
-  passed_all {a} n w end same low p = called_by (λ k s m.
+  pub passed_all : {a b : S} (n all : ℕ) → objects ≡ all → (stands a).role ≡ Within → n ≤ objects → objects ≤ n → ((k : Known) → knows a k → k.config.objects ≡ objects) → (1 ≤ objects → first < objects) → Passed stands knows h first objects a b n
+      → Called knows a b (IsFilled h) (λ j k. publish h.kind (words_for h j)) (Err ObjectsFull) (by_at_most all (λ j k. k.grasp ≡ j.grasp))
+  passed_all {a} n all same_all w most end same low p = called_by (λ k s m.
       let x = p.did k s m in
       let each : (o : ℕ) → 1 ≤ o → o ≤ x.0.config.objects → HasObject o x.0 = λ o l u.
       let top : o ≤ objects = subst (λ z. o ≤ z) (ap (λ (c : Config). c.objects) x.5.config ∙ same k s) u in
       let t = turn_of first objects o (low (omega arith)) l top in
       subst (λ z. HasObject z x.0) t.2 (x.4 t.0 (let b = t.1 in omega arith)) in
-      (x.0, x.1, [], record { did = x.5; is = λ f. inr (refl, refl, refl); window = window_within [] x.5 ((fits a k s).role ∙ w) tt; grounds = sometime_last x.5.begins each; shows = x.3 }))
+      (x.0, x.1, [], record { did = x.5; is = λ f. inr (refl, refl, refl); window = window_within [] x.5 ((fits a k s).role ∙ w) tt; grounds = sometime_last x.5.begins each; shows = (x.3, n, omega arith, x.6) }))

@@ -23,9 +23,9 @@ use Rattle.jr_rule.specs.declared.known.Grasp.{Grasp}
 use Rattle.jr_rule.specs.declared.naming.TopNaming.TheVariants as top
 use Rattle.jr_rule.specs.Acts.{top_named}
 use Rattle.jr_rule.specs.Grasping.{words_at, with_range}
-use Rattle.jr_rule.specs.Knowing.{Standing, IsOf, MayKnow, view, anything, keeps, ShowsUsed, WasUsed, ShowsRange, Took}
+use Rattle.jr_rule.specs.Knowing.{Standing, IsOf, MayKnow, view, anything, keeps, ShowsUsed, WasUsed, ShowsRange, Took, Takes}
 use Rattle.jr_rule.proofs.Goes.{goes_did, used_now, may_then}
-use Rattle.jr_heap.specs.Heap.{Called, IsOwn, Gains}
+use Rattle.jr_heap.specs.Heap.{Called, by_steps, reserve_steps, IsOwn, Gains}
 use Rattle.jr_heap.proofs.Calling.{called_by, called_none}
 
 reserved : (n : ℕ) → n ≢ 0 → (f : Frames) → reserve n f (Reserve n ∷ []) (Ok tt) f
@@ -43,6 +43,16 @@ lost (suc n) l u some f = inr (inr (inl ((l, u), f, ReserveLost (suc n) l u ∷ 
 gains : (n place : ℕ) (j k : Known) → n ≢ 0 → (ws : List ℕ) → length ws ≡ n → k.grasp ≡ with_range j.grasp place ws → words_at place j.grasp.ranges ≡ [] → Gains n place j k
 gains zero place j k some ws long g none = absurd (some refl)
 gains (suc n) place j k some ws long g none = (ws, long, g, none)
+
+no_step : (k : Known) → Takes 0 k k
+no_step k = omega arith
+
+two_steps : (k j l : Known) → Takes 1 k j → Takes 1 j l → Takes 2 k l
+two_steps k j l a b = omega arith
+
+reserved_steps : (n : ℕ) (k l : Known) → n ≢ 0 → Takes 2 k l → Takes (reserve_steps n) k l
+reserved_steps zero k l some t = absurd (some refl)
+reserved_steps (suc n) k l some t = t
 
 -- sums in wide numbers
 pub over : {u n w x y z : ℕ} → x ≡ u → y ≡ n → z ≡ w → z < x + y → w < u + n
@@ -67,15 +77,15 @@ own_range place zero j k ws long e = refl
 own_range place (suc n) j k ws long e = ap (λ b. length (cond b [] (words_at place k.grasp.ranges))) (suc_not_zero n) ∙ (ap (λ (h : Grasp). length (words_at place h.ranges)) e ∙ (ap (λ b. length (cond b ws (words_at place j.grasp.ranges))) (eq_self place) ∙ long))
 
 module _ {S : Type 0} {stands : S → Standing} {knows : S → Known → Type 0} {a b : S} (fits : (s : S) (k : Known) → knows s k → IsOf (stands s) k) (inside : (stands a).role ≡ Within) (n u words : ℕ) (some : n ≢ 0) (looked : Took stands knows a b (top_named words (top.Full n) u) anything (λ j k. ShowsUsed u k × keeps j k)) where
-  pub reserve_full : words < u + n → Called knows a b anything (λ j k. reserve n) (Err (SpaceFull u)) keeps
+  pub reserve_full : words < u + n → Called knows a b anything (λ j k. reserve n) (Err (SpaceFull u)) (by_steps 1 keeps)
   reserve_full l = called_by (λ k s m.
       let g = looked.goes k s tt in
       let d : Did (view k) (view g.0) (ReserveFull n u ∷ []) = subst (λ xs. Did (view k) (view g.0) xs) (named_full words n u l) (goes_did g.2) in
-      (g.0, g.1, ReserveFull n u ∷ [], record { did = d; is = full n u some; window = window_act (ReserveFull n u) d tt tt; grounds = tt; shows = g.3.1 }))
+      (g.0, g.1, ReserveFull n u ∷ [], record { did = d; is = full n u some; window = window_act (ReserveFull n u) d tt tt; grounds = tt; shows = (g.3.1, g.2.taken) }))
 
   module _ (room : u + n ≤ words) where
-    first : (k : Known) → knows a k → (j : Known) × knows b j × Did (view k) (view j) [] × ShowsUsed u j × keeps k j
-    first k s = let g = looked.goes k s tt in (g.0, g.1, subst (λ xs. Did (view k) (view g.0) xs) (named_look words n u room) (goes_did g.2), g.3.0, g.3.1)
+    first : (k : Known) → knows a k → (j : Known) × knows b j × Did (view k) (view j) [] × ShowsUsed u j × keeps k j × Takes 1 k j
+    first k s = let g = looked.goes k s tt in (g.0, g.1, subst (λ xs. Did (view k) (view g.0) xs) (named_look words n u room) (goes_did g.2), g.3.0, g.3.1, g.2.taken)
 
     -- what was looked at was used in this stay
     was_used : (k : Known) (s : knows a k) → WasUsed u (first k s).0
@@ -84,15 +94,15 @@ module _ {S : Type 0} {stands : S → Standing} {knows : S → Known → Type 0}
     pub may_reserve : MayKnow knows a anything → MayKnow knows b (WasUsed u)
     may_reserve some = ∥∥₁_map some (λ k. let j = first k.0 k.1 in (j.0, j.1, was_used k.0 k.1))
 
-    pub reserve_won : {c : S} → Took stands knows b c (Reserve n ∷ []) (WasUsed u) (ShowsRange u n (Ok tt)) → Called knows a c anything (λ j k. reserve n) (Ok tt) (Gains n u)
+    pub reserve_won : {c : S} → Took stands knows b c (Reserve n ∷ []) (WasUsed u) (ShowsRange u n (Ok tt)) → Called knows a c anything (λ j k. reserve n) (Ok tt) (by_steps (reserve_steps n) (Gains n u))
     reserve_won t = called_by (λ k s m.
         let j = first k s in
         let g = t.goes j.0 j.1 (was_used k s) in
         let e : g.0.grasp ≡ with_range k.grasp u g.3.0 = g.3.2 ∙ ap (λ h. with_range h u g.3.0) j.4 in
         let d = did_then [] (Reserve n ∷ []) j.2 (goes_did g.2) in
-        (g.0, g.1, Reserve n ∷ [], record { did = d; is = reserved n some; window = window_act (Reserve n) d tt tt; grounds = tt; shows = gains n u k g.0 some g.3.0 g.3.1 e (subst (λ (h : Grasp). words_at u h.ranges ≡ []) j.4 g.3.3) }))
+        (g.0, g.1, Reserve n ∷ [], record { did = d; is = reserved n some; window = window_act (Reserve n) d tt tt; grounds = tt; shows = (gains n u k g.0 some g.3.0 g.3.1 e (subst (λ (h : Grasp). words_at u h.ranges ≡ []) j.4 g.3.3), reserved_steps n k g.0 some (two_steps k j.0 g.0 j.5 g.2.taken)) }))
 
-    pub reserve_lost : {c : S} (found : ℕ) → ((k : Known) → knows a k → k.config.words ≡ words) → Took stands knows b c (ReserveLost n u found ∷ []) (WasUsed u) (ShowsRange u n (Err found)) → Called knows a c anything (λ j k. reserve n) (Err (Raced u found)) keeps
+    pub reserve_lost : {c : S} (found : ℕ) → ((k : Known) → knows a k → k.config.words ≡ words) → Took stands knows b c (ReserveLost n u found ∷ []) (WasUsed u) (ShowsRange u n (Err found)) → Called knows a c anything (λ j k. reserve n) (Err (Raced u found)) (by_steps 2 keeps)
     reserve_lost found same t = called_by (λ k s m.
         let j = first k s in
         let g = t.goes j.0 j.1 (was_used k s) in
@@ -107,7 +117,7 @@ module _ {S : Type 0} {stands : S → Standing} {knows : S → Known → Type 0}
             is = lost n u found some;
             window = window_act (ReserveLost n u found) d tt tt;
             grounds = raced k.seen n u found (sometime_last j.2.begins j.3) (goes_did g.2) room_here;
-            shows = e;
+            shows = (e, two_steps k j.0 g.0 j.5 g.2.taken);
           },
         ))
 
@@ -130,5 +140,5 @@ module _ {S : Type 0} {stands : S → Standing} {knows : S → Known → Type 0}
 
 module _ {S : Type 0} {stands : S → Standing} {knows : S → Known → Type 0} (fits : (s : S) (k : Known) → knows s k → IsOf (stands s) k) where
   -- no words are reserved by no step
-  pub reserve_none : (a : S) (n : ℕ) → n ≡ 0 → Called knows a a anything (λ j k. reserve n) (Ok tt) (Gains n 0)
-  reserve_none a n e = subst (λ m. Called knows a a anything (λ j k. reserve m) (Ok tt) (Gains m 0)) (sym e) (called_none fits (λ k s m f. (refl, refl, refl)) (λ k. tt) (λ k. refl))
+  pub reserve_none : (a : S) (n : ℕ) → n ≡ 0 → Called knows a a anything (λ j k. reserve n) (Ok tt) (by_steps (reserve_steps n) (Gains n 0))
+  reserve_none a n e = subst (λ m. Called knows a a anything (λ j k. reserve m) (Ok tt) (by_steps (reserve_steps m) (Gains m 0))) (sym e) (called_none fits (λ k s m f. (refl, refl, refl)) (λ k. tt) (λ k. (refl, no_step k)))

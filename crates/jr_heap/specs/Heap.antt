@@ -1,7 +1,7 @@
 -- What the calls of the heap do, for whatever was known.
-use Rattle.std.specs.Prelude.{◌≡◌, ◌≢◌, ◌⊎◌, ◌==◌, ◌+◌, ◌-◌, ℕ, zero, suc, nat_lt, cond, Result, Ok, Err, IfOk, Some, None, List, [], length, replicate}
+use Rattle.std.specs.Prelude.{◌≡◌, ◌≢◌, ◌⊎◌, ◌==◌, ◌+◌, ◌-◌, ◌≤◌, ℕ, zero, suc, nat_lt, cond, Result, Ok, Err, IfOk, Some, None, List, [], length, replicate}
 use Rattle.jr_word.specs.declared.fault.Fault.{Fault}
-use Rattle.jr_word.specs.declared.fault.Fault.TheVariants.{Raced}
+use Rattle.jr_word.specs.declared.fault.Fault.TheVariants.{SpaceFull, Raced}
 use Rattle.jr_word.specs.declared.header.HeaderParts.{HeaderParts}
 use Rattle.jr_word.specs.declared.kind.Kind.{Kind}
 use Rattle.jr_word.specs.declared.kind.Kind.TheVariants.{Objects}
@@ -10,13 +10,21 @@ use Rattle.jr_model.specs.Frames.{Frames}
 use Rattle.jr_model.specs.Calls.{Call, Ran, done}
 use Rattle.jr_rule.specs.declared.known.Known.{Known}
 use Rattle.jr_rule.specs.Grasping.{words_at, header_in, with_range, with_header}
-use Rattle.jr_rule.specs.Knowing.{view, state_of, keeps, published, KnowsHeader, IsFilled, IsWordNow, ShowsObject}
+use Rattle.jr_rule.specs.Knowing.{view, state_of, keeps, published, KnowsHeader, IsFilled, IsWordNow, ShowsObject, Takes}
 
 module _ {S : Type 0} (knows : S → Known → Type 0) where
   -- A CALL WAS MADE in a stay: for whatever was known and meets the condition, something is known from which the thread did what the call does, with this answer, and left the frames as they were; and it shows this. The call may name what was known and what is
   pub record Called {A : Type 0} (old new : S) (met : Known → Type 0) (call : Known → Known → Call A) (answer : Result A Fault) (shows : Known → Known → Type 0) : Type 0 where
     pub ran : (k : Known) → knows old k → met k
         → (k' : Known) × knows new k' × ((f : Frames) → Ran (view k) (view k') f f (call k k') answer) × shows k k'
+
+-- what a call shows, and that it took so many steps
+abbrev pub by_steps : ℕ → (Known → Known → Type 0) → Known → Known → Type 0
+by_steps n shows j k = shows j k × Takes n j k
+
+-- the same, by so many steps at the most
+abbrev pub by_at_most : ℕ → (Known → Known → Type 0) → Known → Known → Type 0
+by_at_most n shows j k = shows j k × (m : ℕ) × (m ≤ n) × Takes m j k
 
 -- nothing that others could see
 abbrev pub no_act : Call (Unit {0})
@@ -48,6 +56,16 @@ Gains (suc n) place j k = (ws : List ℕ) × (length ws ≡ suc n) × (k.grasp �
 -- the refusal is none of a lost race
 abbrev pub IsNotRaced : Fault → Type 0
 IsNotRaced e = (looked found : ℕ) → e ≢ Raced looked found
+
+-- a reservation of n words takes a look and an exchange, and none of no words
+abbrev pub reserve_steps : ℕ → ℕ
+reserve_steps zero = 0
+reserve_steps (suc n) = 2
+
+-- one that is refused takes the look, and the exchange where that was lost
+abbrev pub refused_steps : Fault → ℕ
+refused_steps (SpaceFull used) = 1
+refused_steps _ = 2
 
 -- what a filling changes: each of the n words at the place is v then, and nothing else that the pass holds is other
 pub record Fills (place n v : ℕ) (j k : Known) : Type 0 where
@@ -88,6 +106,11 @@ abbrev pub Relearns : ℕ → Known → Known → Type 0
 Relearns o j k = (h : HeaderParts) × Learns o h j k
 
 -- ELEMENTS
+
+-- a call at an element whose header is known takes one operation, and none where it is refused
+abbrev pub element_steps : {A : Type 0} → Result A Fault → ℕ
+element_steps (Ok x) = 1
+element_steps (Err e) = 0
 
 -- a word of an object array is 0 or names a present object
 abbrev pub MayBeNamed : Kind → ℕ → Known → Type 0

@@ -1,5 +1,5 @@
 //! Elements of objects, over any steps.
-ghost use Rattle.std.specs.Prelude.{◌≡◌, ◌||◌, true, IfOk};
+ghost use Rattle.std.specs.Prelude.{◌≡◌, ◌+◌, ◌||◌, true, IfOk};
 ghost use Rattle.jr_model.specs.declared.event.Role.TheVariants.{Within};
 ghost use Rattle.jr_model.specs.Parts.{read_element as reading, write_element as writing};
 ghost use Rattle.jr_model.specs.Tests.{is_plain as is_plain_of, is_text as is_text_of, is_value as is_value_of};
@@ -13,6 +13,8 @@ ghost use Rattle.jr_heap.specs.Heap.{
   MayBeNamedIn,
   ShowsElement,
   ShowsElementOf,
+  by_steps,
+  element_steps,
 };
 
 use crate::object::header;
@@ -24,7 +26,7 @@ pub fn read<S: Steps>(steps: &mut S, object: u16, index: u32) -> Result<u64, Fau
     requires role { (S.stands steps.old).role ≡ Within }
     requires object { MayKnow S.knows steps.old (HasObject object) }
     ensures stands { S.stands steps.new ≡ S.stands steps.old }
-    ensures call { Called S.knows steps.old steps.new (HasObject object) (λ j k. reading (state_of k) object index) result (λ j k. Relearns object j k × ShowsElementOf object result k) }
+    ensures call { Called S.knows steps.old steps.new (HasObject object) (λ j k. reading (state_of k) object index) result (by_steps (1 + element_steps result) (λ j k. Relearns object j k × ShowsElementOf object result k)) }
     ensures object { MayKnow S.knows steps.new (HasObject object) }
 {
     let header = header(steps, object);
@@ -41,7 +43,7 @@ pub fn read_element<S: Steps>(
     requires role { (S.stands steps.old).role ≡ Within }
     requires known { MayKnow S.knows steps.old (HoldsHeader object header) }
     ensures stands { S.stands steps.new ≡ S.stands steps.old }
-    ensures call { Called S.knows steps.old steps.new (HoldsHeader object header) (λ j k. reading (state_of k) object index) result (λ j k. Leaves object header j k × ShowsElement header.kind result k) }
+    ensures call { Called S.knows steps.old steps.new (HoldsHeader object header) (λ j k. reading (state_of k) object index) result (by_steps (element_steps result) (λ j k. Leaves object header j k × ShowsElement header.kind result k)) }
     ensures value { IfOk result (λ v. is_value_of header.kind v ≡ true) }
     ensures known { MayKnow S.knows steps.new (HoldsHeader object header) }
 {
@@ -59,7 +61,7 @@ pub fn write<S: Steps>(steps: &mut S, object: u16, index: u32, word: u64) -> Res
     requires role { (S.stands steps.old).role ≡ Within }
     requires object { MayKnow S.knows steps.old (λ k. HasObject object k × MayBeNamedIn object word k) }
     ensures stands { S.stands steps.new ≡ S.stands steps.old }
-    ensures call { Called S.knows steps.old steps.new (λ k. HasObject object k × MayBeNamedIn object word k) (λ j k. writing (state_of k) object index word) result (Relearns object) }
+    ensures call { Called S.knows steps.old steps.new (λ k. HasObject object k × MayBeNamedIn object word k) (λ j k. writing (state_of k) object index word) result (by_steps (1 + element_steps result) (Relearns object)) }
     ensures object { MayKnow S.knows steps.new (HasObject object) }
 {
     let header = header(steps, object);
@@ -77,7 +79,7 @@ pub fn write_element<S: Steps>(
     requires role { (S.stands steps.old).role ≡ Within }
     requires known { MayKnow S.knows steps.old (λ k. HoldsHeader object header k × MayBeNamed header.kind word k) }
     ensures stands { S.stands steps.new ≡ S.stands steps.old }
-    ensures call { Called S.knows steps.old steps.new (λ k. HoldsHeader object header k × MayBeNamed header.kind word k) (λ j k. writing (state_of k) object index word) result (Leaves object header) }
+    ensures call { Called S.knows steps.old steps.new (λ k. HoldsHeader object header k × MayBeNamed header.kind word k) (λ j k. writing (state_of k) object index word) result (by_steps (element_steps result) (Leaves object header)) }
     ensures known { MayKnow S.knows steps.new (HoldsHeader object header) }
 {
     if is_constant(header.kind) {

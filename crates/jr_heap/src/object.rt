@@ -4,7 +4,7 @@ ghost use Rattle.jr_word.specs.declared.kind.Kind.TheVariants.{Plain};
 ghost use Rattle.jr_model.specs.declared.event.Role.TheVariants.{Within};
 ghost use Rattle.jr_model.specs.Parts.{publish as publication, header as header_call};
 ghost use Rattle.jr_rule.specs.Knowing.{state_of, HasObject, MayKnow};
-ghost use Rattle.jr_heap.specs.Heap.{Called, header_of, number_of, words_of, IsReady, Publishes, HoldsHeader, Learns};
+ghost use Rattle.jr_heap.specs.Heap.{Called, header_of, number_of, words_of, IsReady, Publishes, HoldsHeader, Learns, by_at_most, by_steps};
 ghost use Rattle.jr_heap.specs.Ranges.{place_of, size_of};
 
 use crate::range::Range;
@@ -58,7 +58,7 @@ pub fn publish<S: Steps>(
     requires plain { kind ≡ Plain → size_of range ≡ 0 }
     requires ready { MayKnow S.knows steps.old (IsReady kind (place_of range) (size_of range)) }
     ensures stands { S.stands steps.new ≡ S.stands steps.old }
-    ensures call { Called S.knows steps.old steps.new (IsReady kind (place_of range) (size_of range)) (λ j k. publication kind (words_of (place_of range) (size_of range) j)) result (Publishes kind (place_of range) (size_of range) result) }
+    ensures call { Called S.knows steps.old steps.new (IsReady kind (place_of range) (size_of range)) (λ j k. publication kind (words_of (place_of range) (size_of range) j)) result (by_at_most (S.stands steps.old).config.objects (Publishes kind (place_of range) (size_of range) result)) }
     ensures object { IfOk result (λ o. MayKnow S.knows steps.new (HasObject o)) }
     ensures known { IfOk result (λ o. MayKnow S.knows steps.new (HoldsHeader o (header_of kind (place_of range) (size_of range)))) }
 {
@@ -80,7 +80,7 @@ pub fn header<S: Steps>(steps: &mut S, object: u16) -> HeaderParts
     requires role { (S.stands steps.old).role ≡ Within }
     requires object { MayKnow S.knows steps.old (HasObject object) }
     ensures stands { S.stands steps.new ≡ S.stands steps.old }
-    ensures call { Called S.knows steps.old steps.new (HasObject object) (λ j k. header_call (state_of k) object) (Ok (result.kind, result.length)) (Learns object result) }
+    ensures call { Called S.knows steps.old steps.new (HasObject object) (λ j k. header_call (state_of k) object) (Ok (result.kind, result.length)) (by_steps 1 (Learns object result)) }
     ensures known { MayKnow S.knows steps.new (HoldsHeader object result) }
 {
     steps.see_header(object).unwrap()

@@ -3,7 +3,7 @@ ghost use Rattle.std.specs.Prelude.{◌≡◌, IfOk, IfErr, Ok, Err, None};
 ghost use Rattle.jr_model.specs.declared.event.Role.TheVariants.{Within};
 ghost use Rattle.jr_model.specs.Parts.{reserve as reservation};
 ghost use Rattle.jr_rule.specs.Knowing.{anything, keeps, IsWordNow, MayKnow};
-ghost use Rattle.jr_heap.specs.Heap.{Called, header_of, IsOwn, IsReady, Gains, Fills, IsNotRaced, no_act};
+ghost use Rattle.jr_heap.specs.Heap.{Called, header_of, IsOwn, IsReady, Gains, Fills, IsNotRaced, no_act, by_steps, reserve_steps, refused_steps};
 ghost use Rattle.jr_heap.specs.Ranges.{place_of, size_of};
 
 use crate::range::Range;
@@ -34,9 +34,9 @@ impl Range {
 pub fn reserve<S: Steps>(steps: &mut S, words: u32) -> Result<Range, Fault>
     requires role { (S.stands steps.old).role ≡ Within }
     ensures stands { S.stands steps.new ≡ S.stands steps.old }
-    ensures ok { IfOk result (λ r. (size_of r ≡ words) × Called S.knows steps.old steps.new anything (λ j k. reservation words) (Ok tt) (Gains words (place_of r))) }
+    ensures ok { IfOk result (λ r. (size_of r ≡ words) × Called S.knows steps.old steps.new anything (λ j k. reservation words) (Ok tt) (by_steps (reserve_steps words) (Gains words (place_of r)))) }
     ensures own { IfOk result (λ r. MayKnow S.knows steps.new (IsOwn (place_of r) (size_of r))) }
-    ensures err { IfErr result (λ e. Called S.knows steps.old steps.new anything (λ j k. reservation words) (Err e) keeps) }
+    ensures err { IfErr result (λ e. Called S.knows steps.old steps.new anything (λ j k. reservation words) (Err e) (by_steps (refused_steps e) keeps)) }
     ensures alone { (S.stands steps.old).room ≡ None → IfErr result IsNotRaced }
 {
     if words == 0 {
@@ -64,7 +64,7 @@ pub fn fill<S: Steps>(steps: &mut S, range: &Range, word: u64)
     requires role { (S.stands steps.old).role ≡ Within }
     requires own { MayKnow S.knows steps.old (IsOwn (place_of range.now) (size_of range.now)) }
     ensures stands { S.stands steps.new ≡ S.stands steps.old }
-    ensures call { Called S.knows steps.old steps.new (IsOwn (place_of range.now) (size_of range.now)) (λ j k. no_act) (Ok tt) (Fills (place_of range.now) (size_of range.now) word) }
+    ensures call { Called S.knows steps.old steps.new (IsOwn (place_of range.now) (size_of range.now)) (λ j k. no_act) (Ok tt) (by_steps (size_of range.now) (Fills (place_of range.now) (size_of range.now) word)) }
     ensures own { MayKnow S.knows steps.new (IsOwn (place_of range.now) (size_of range.now)) }
     ensures ready { (kind : Kind) → MayKnow S.knows steps.old (λ k. IsOwn (place_of range.now) (size_of range.now) k × IsWordNow kind word k) → MayKnow S.knows steps.new (IsReady kind (place_of range.now) (size_of range.now)) }
 {
