@@ -37,6 +37,11 @@ module _ {S : Type 0} {knows : S → Known → Type 0} where
     ran = λ k s m. (k, s, λ f. record { acts = []; did = did_nothing (view k) (fits old k s).legal; is = is k s m f; begun = k.seen; window = window_nothing (view k); grounds = grounds k }, shows k);
   }
 
+  -- what a call shows, without how many steps it took
+  pub uncounted : {A : Type 0} {old new : S} {met : Known → Type 0} {call : Known → Known → Call A} {answer : Result A Fault} {shows counts : Known → Known → Type 0}
+      → Called knows old new met call answer (λ j k. shows j k × counts j k) → Called knows old new met call answer shows
+  uncounted c = record { ran = λ k s m. let r = c.ran k s m in (r.0, r.1, r.2, r.3.0) }
+
   -- what may be known after a call
   pub may_called : {A : Type 0} {old new : S} {met : Known → Type 0} {call : Known → Known → Call A} {answer : Result A Fault} {shows : Known → Known → Type 0} {was so : Known → Type 0}
       → Called knows old new met call answer shows → MayKnow knows old was → ((k : Known) → was k → met k)

@@ -84,7 +84,7 @@ module _ {S : Type 0} {stands : S → Standing} {knows : S → Known → Type 0}
       let same : words_for h x.0 ≡ words_for h k = ap (λ (g : Grasp). words_for h (record k { grasp = g })) x.3 in
       let d : Did (view k) (view y.0) (New o h.kind (words_for h k) ∷ []) = subst (λ ws. Did (view k) (view y.0) (New o h.kind ws ∷ [])) same (did_then [] (New o h.kind (words_for h x.0) ∷ []) x.5 (goes_did y.2)) in
       let there : (state_of y.0).objects o ≡ Some (record { kind = h.kind; words = words_for h k }) = new_stands x.0 y.0 o h.kind (words_for h x.0) y.2 ∙ ap (λ ws. Some (record { kind = h.kind; words = ws })) same in
-      (y.0, y.1, New o h.kind (words_for h k) ∷ [], record { did = d; is = λ f. inl (o, refl, refl, refl); window = window_act (New o h.kind (words_for h k)) d tt tt; grounds = tt; shows = ((there, y.3.1 ∙ ap (λ g. with_header (published h g) o h) x.3, subst (λ (g : Grasp). header_in o g.headers ≡ None) x.3 y.3.2), n + 1, omega arith, (let u = x.6 in let v = y.2.taken in omega arith)) }))
+      (y.0, y.1, New o h.kind (words_for h k) ∷ [], record { did = d; is = λ f. inl (o, refl, refl, refl); window = window_act (New o h.kind (words_for h k)) d tt tt; grounds = tt; shows = ((there, y.3.1 ∙ ap (λ g. with_header (published h g) o h) x.3, subst (λ (g : Grasp). header_in o g.headers ≡ None) x.3 y.3.2), record { count = n + 1; most = omega arith; takes = let u = x.6 in let v = y.2.taken in omega arith }) }))
 
   pub passed_present : {a b c : S} {n : ℕ} (o : ℕ) → MayKnow knows a (IsFilled h) → Passed stands knows h first objects a b n → TookWith stands knows b c (λ k. publishing o h.kind (words_for h k) true) (IsFilled h) (ShowsPublished o h true) → MayKnow knows c (HasObject o)
   passed_present o may p t = ∥∥₁_map may (λ k. let x = p.did k.0 k.1 k.2 in let y = t.goes x.0 x.1 x.2 in (y.0, y.1, y.3.0))
@@ -108,4 +108,4 @@ module _ {S : Type 0} {stands : S → Standing} {knows : S → Known → Type 0}
       let top : o ≤ objects = subst (λ z. o ≤ z) (ap (λ (c : Config). c.objects) x.5.config ∙ same k s) u in
       let t = turn_of first objects o (low (omega arith)) l top in
       subst (λ z. HasObject z x.0) t.2 (x.4 t.0 (let b = t.1 in omega arith)) in
-      (x.0, x.1, [], record { did = x.5; is = λ f. inr (refl, refl, refl); window = window_within [] x.5 ((fits a k s).role ∙ w) tt; grounds = sometime_last x.5.begins each; shows = (x.3, n, omega arith, x.6) }))
+      (x.0, x.1, [], record { did = x.5; is = λ f. inr (refl, refl, refl); window = window_within [] x.5 ((fits a k s).role ∙ w) tt; grounds = sometime_last x.5.begins each; shows = (x.3, record { count = n; most = omega arith; takes = x.6 }) }))

@@ -22,9 +22,15 @@ module _ {S : Type 0} (knows : S → Known → Type 0) where
 abbrev pub by_steps : ℕ → (Known → Known → Type 0) → Known → Known → Type 0
 by_steps n shows j k = shows j k × Takes n j k
 
+-- so many steps at the most
+pub record TakesAtMost (n : ℕ) (j k : Known) : Type 0 where
+  pub count : ℕ
+  pub most : count ≤ n
+  pub takes : Takes count j k
+
 -- the same, by so many steps at the most
 abbrev pub by_at_most : ℕ → (Known → Known → Type 0) → Known → Known → Type 0
-by_at_most n shows j k = shows j k × (m : ℕ) × (m ≤ n) × Takes m j k
+by_at_most n shows j k = shows j k × TakesAtMost n j k
 
 -- nothing that others could see
 abbrev pub no_act : Call (Unit {0})

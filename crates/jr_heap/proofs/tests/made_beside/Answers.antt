@@ -8,7 +8,7 @@ use Rattle.jr_rule.specs.declared.known.Grasp.{Grasp}
 use Rattle.jr_rule.specs.Grasping.{words_at}
 use Rattle.jr_rule.specs.Knowing.{MayKnow, state_of}
 use Rattle.jr_heap.specs.Heap.{IsReady, Gains}
-use Rattle.jr_heap.proofs.Calling.{may_called}
+use Rattle.jr_heap.proofs.Calling.{may_called, uncounted}
 use Rattle.jr_heap.proofs.tests.made_beside.Goals as goal
 
 other_place : (p place : ℕ) → p ≢ place → (place == p) ≡ false
@@ -27,4 +27,4 @@ publish-requires-clause-ready g c =
     let three = (c.in_ok-first.ensures.ok).0 in
     let filled = c.fill.ensures.ready Int (∥∥₁_map c.in_ok-first.ensures.own (λ k. (k.0, k.1, (k.2, omega arith)))) in
     subst (λ m. MayKnow knows c.reserve-2.new.steps (IsReady Int p m)) (sym three)
-    (may_called (c.in_ok-_second.ensures.ok).1 (subst (λ m. MayKnow knows c.fill.new.steps (IsReady Int p m)) three filled) (λ k w. tt) (λ k j s w acts d l. keep p c.in_ok-_second._second.place k j w l))
+    (may_called (uncounted (c.in_ok-_second.ensures.ok).1) (subst (λ m. MayKnow knows c.fill.new.steps (IsReady Int p m)) three filled) (λ k w. tt) (λ k j s w acts d l. keep p c.in_ok-_second._second.place k j w l))

@@ -2,6 +2,7 @@ use mathlib.Core.Logic.{∥∥₁_map}
 use Rattle.jr_word.specs.declared.kind.Kind.TheVariants.{Plain}
 use Rattle.jr_rule.specs.Knowing.{MayKnow}
 use Rattle.jr_heap.specs.Heap.{IsReady}
+use Rattle.jr_heap.proofs.Calling.{uncounted}
 use Rattle.jr_heap.proofs.Tried.{kind_made, plain_ready}
 use Rattle.jr_heap.proofs.tests.made_plain.Goals as goal
 
@@ -13,4 +14,4 @@ pub returns-clause-object : goal.returns-clause-object
 returns-clause-object g c =
     let ready : MayKnow g.S.Steps.knows c.reserve.new.steps (IsReady Plain c.in_ok-empty.empty.place c.in_ok-empty.empty.length)
     = ∥∥₁_map c.in_ok-empty.ensures.own (λ k. (k.0, k.1, plain_ready c.in_ok-empty.empty.place c.in_ok-empty.empty.length k.0 c.in_ok-empty.ensures.ok.0 k.2)) in
-    kind_made g.S.Steps.knows c.reserve.new.steps c.publish.new.steps Plain c.in_ok-empty.empty.place c.in_ok-empty.empty.length c.publish.result c.publish.ensures.call ready
+    kind_made g.S.Steps.knows c.reserve.new.steps c.publish.new.steps Plain c.in_ok-empty.empty.place c.in_ok-empty.empty.length c.publish.result (uncounted c.publish.ensures.call) ready

@@ -6,7 +6,7 @@ use Rattle.jr_rule.specs.declared.known.Grasp.{Grasp}
 use Rattle.jr_rule.specs.Grasping.{words_at}
 use Rattle.jr_rule.specs.Knowing.{MayKnow}
 use Rattle.jr_heap.specs.Heap.{IsReady, HoldsHeader}
-use Rattle.jr_heap.proofs.Calling.{may_called}
+use Rattle.jr_heap.proofs.Calling.{may_called, uncounted}
 use Rattle.jr_heap.proofs.Beside.{ready_same, ready_published, published_holds}
 use Rattle.jr_heap.proofs.tests.published_beside.Goals as goal
 
@@ -15,7 +15,7 @@ publish-requires-clause-ready g c = ∥∥₁_map c.requires.ready (λ k. (k.0, 
 
 pub returns-in_err-object-clause-other : goal.returns-in_err-object-clause-other
 returns-in_err-object-clause-other g c =
-    may_called c.publish.ensures.call c.requires.ready (λ k w. w.0)
+    may_called (uncounted c.publish.ensures.call) c.requires.ready (λ k w. w.0)
     (λ k j s w acts d l. ready_published c.args._other.now.place c.args._other.now.length c.args.range.place c.args.range.length c.publish.result k j (λ e. c.requires.apart (sym e)) l w.1)
 
 pub read_element-requires-clause-known : goal.read_element-requires-clause-known
@@ -25,9 +25,9 @@ read_element-requires-clause-known g c =
 pub returns-clause-other : goal.returns-clause-other
 returns-clause-other g c =
     let both : MayKnow g.S.Steps.knows c.publish.new.steps (λ k. HoldsHeader c.in_ok-object.object c.header-header.result k × IsReady Int c.args._other.now.place c.args._other.now.length k)
-    = may_called c.in_ok-object.ensures.call c.requires.ready (λ k w. w.0) (λ k j s w acts d l. (
+    = may_called (uncounted c.in_ok-object.ensures.call) c.requires.ready (λ k w. w.0) (λ k j s w acts d l. (
       subst (λ (h : HeaderParts). HoldsHeader c.in_ok-object.object h j) (sym c.header-header.ensures) (published_holds c.args.range.place c.args.range.length c.in_ok-object.object k j l w.0),
       ready_published c.args._other.now.place c.args._other.now.length c.args.range.place c.args.range.length (Ok c.in_ok-object.object) k j (λ e. c.requires.apart (sym e)) l w.1,
     )) in
-    may_called c.read_element.ensures.call both (λ k w. w.0)
+    may_called (uncounted c.read_element.ensures.call) both (λ k w. w.0)
     (λ k j s w acts d l. ready_same c.args._other.now.place c.args._other.now.length k j (ap (λ (h : Grasp). words_at c.args._other.now.place h.ranges) l.0.1) w.1)

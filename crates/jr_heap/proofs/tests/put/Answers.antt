@@ -1,3 +1,4 @@
+use Rattle.jr_heap.proofs.Calling.{uncounted}
 use Rattle.jr_heap.proofs.Tried.{may_be_written, kind_written}
 use Rattle.jr_heap.proofs.tests.put.Goals as goal
 
@@ -6,4 +7,4 @@ write-requires-clause-object g c = may_be_written g.S.Steps.stands g.S.Steps.kno
 
 pub returns-clause-object : goal.returns-clause-object
 returns-clause-object g c =
-    kind_written g.S.Steps.stands g.S.Steps.knows g.met.S.Steps.fits c.args.steps.now c.args.object c.args._kind c.write.new.steps c.requires.role c.args.index c.args.word c.write.result c.requires.named c.write.ensures.call c.requires.object
+    kind_written g.S.Steps.stands g.S.Steps.knows g.met.S.Steps.fits c.args.steps.now c.args.object c.args._kind c.write.new.steps c.requires.role c.args.index c.args.word c.write.result c.requires.named (uncounted c.write.ensures.call) c.requires.object
