@@ -26,7 +26,7 @@ use Rattle.jr_rule.specs.Passes.{known_of, standing_of, Knows, IsAt, IsOpened, A
 use Rattle.jr_rule.proofs.Goes.{goes_did}
 use Rattle.jr_scripts.specs.declared.part.Job.{Job}
 use Rattle.jr_scripts.specs.declared.part.ThreadRun.{ThreadRun}
-use Rattle.jr_scripts.specs.Deeds.{Moment, moment}
+use Rattle.jr_scripts.specs.Performing.{Moment, moment}
 use Rattle.jr_scripts.specs.Explains.{Explained, Leaves}
 use Rattle.jr_scripts.specs.Text.{heading, ending}
 use Rattle.jr_scripts.specs.Runs.{RanThread}
@@ -51,8 +51,9 @@ record Played (turns last : ℕ) (c : Config) (t first : ℕ) (commands : List C
   pub same_config : k.config ≡ c
   pub same_last : k.last ≡ last
   pub is_of : k.thread ≡ t
-  pub frames : Frames
-  pub explained : Explained turns first (opening_of c last t) commands lines (record { pass = seeing_as c last t k.seen; frames = frames })
+  pub closing : Moment
+  pub saw : closing.pass ≡ seeing_as c last t k.seen
+  pub explained : Explained turns first (opening_of c last t) commands lines closing
 
 view_is : (c : Config) (last t : ℕ) (k : Known) → k.config ≡ c → k.last ≡ last → k.thread ≡ t → view k ≡ seeing_as c last t k.seen
 view_is c last t k a b d = λ i. record { config = a i; last = b i; thread = d i; seen = k.seen }
@@ -74,14 +75,16 @@ played turns last c r p q first commands answer lines config_is last_is o x done
     let same_config : (known_of q).config ≡ c = s.config ∙ ap (λ (k : Known). k.config) knows0 in
     let same_last : (known_of q).last ≡ last = s.last ∙ ap (λ (k : Known). k.last) knows0 in
     let is_of : (known_of q).thread ≡ t = q.held.thread_is ∙ s.thread in
-    let from : Explained turns first (opening_of c last t) commands lines (moment y.0 x.frames) = subst (λ (k : Known). Explained turns first (moment k (fresh_frames c.locals)) commands lines (moment y.0 x.frames)) knows0 y.3 in
-    let here : Explained turns first (opening_of c last t) commands lines (moment (known_of q) x.frames) = subst (λ (k : Known). Explained turns first (opening_of c last t) commands lines (moment k x.frames)) is from in
+    let end : Known → Moment = λ k. moment (standing_of q).fresh k x.frames in
+    let from : Explained turns first (opening_of c last t) commands lines (end y.0)
+    = subst (λ b. Explained turns first (moment b k0 (fresh_frames c.locals)) commands lines (end y.0)) o.fresh (subst (λ (k : Known). Explained turns first (moment (standing_of p).fresh k (fresh_frames c.locals)) commands lines (end y.0)) knows0 y.3) in
     record {
       same_config = same_config;
       same_last = same_last;
       is_of = is_of;
-      frames = x.frames;
-      explained = subst (λ (v : PassView). Explained turns first (opening_of c last t) commands lines (record { pass = v; frames = x.frames })) (view_is c last t (known_of q) same_config same_last is_of) here;
+      closing = end (known_of q);
+      saw = view_is c last t (known_of q) same_config same_last is_of;
+      explained = subst (λ (k : Known). Explained turns first (opening_of c last t) commands lines (end k)) is from;
     }
 
 -- the same of a job
@@ -100,7 +103,8 @@ part_of_other : (turns last : ℕ) (c : Config) (whole : History) (t first : ℕ
 part_of_other turns last c whole zero first part lines k some p s = absurd (omega arith)
 part_of_other turns last c whole (suc t) first part lines k some p s = record {
   seen = k.seen;
-  frames = p.frames;
+  closing = p.closing;
+  saw = p.saw;
   explained = p.explained;
   begins = s.begins;
   own = ap (mine whole) (sym p.is_of) ∙ (s.own ∙ (ap (mine k.seen) p.is_of ∙ sym (append-nil (mine k.seen (suc t)))));
@@ -110,7 +114,8 @@ part_of_other turns last c whole (suc t) first part lines k some p s = record {
 part_of_first : (turns last : ℕ) (c : Config) (whole : History) (first : ℕ) (part : ThreadPart) (lines : List ℕ) (k met : Known) → Played turns last c 0 first part.commands lines k → Did (view k) (view met) (Meet ∷ []) → IsSeenIn whole met → IsPartOf turns last c whole 0 first part lines
 part_of_first turns last c whole first part lines k met p d s = record {
   seen = k.seen;
-  frames = p.frames;
+  closing = p.closing;
+  saw = p.saw;
   explained = p.explained;
   begins = prefix_trans k.seen met.seen whole d.begins s.begins;
   own = ap (mine whole) (sym (d.thread ∙ p.is_of)) ∙ (s.own ∙ (ap (mine met.seen) d.thread ∙ (d.own ∙ ap (λ l. l ++ Meet ∷ []) (ap (mine k.seen) p.is_of))));

@@ -14,7 +14,8 @@ use Rattle.jr_rule.specs.Knowing.{Standing}
 use Rattle.jr_scripts.specs.declared.reply.Reply.TheVariants as replies
 use Rattle.jr_scripts.specs.Names.{Names, referent, wanted}
 use Rattle.jr_scripts.specs.Reading.{IsReadAs}
-use Rattle.jr_scripts.specs.Deeds.{Moment, Deed, Does, get_object_ref_type, is_same_object}
+use Rattle.jr_scripts.specs.Performing.{Moment}
+use Rattle.jr_scripts.specs.Deeds.{Deed, Does, get_object_ref_type, is_same_object}
 use Rattle.jr_scripts.specs.Tries.{Tried, answered, again, gave_up}
 use Rattle.jr_scripts.specs.Commands.{deleted_of, deleted, type_of, tried, deed}
 use Rattle.jr_scripts.proofs.Standings.{nothing_changed, still_before}

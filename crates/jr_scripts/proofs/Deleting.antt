@@ -1,11 +1,12 @@
 -- A delete is one look and one exchange.
-use Rattle.std.proofs.Common.{◌≡◌, ℕ, Option, Some, None, [], ◌∷◌, Result, Ok, Err, inl, inr, refl, ap, subst}
+use Rattle.std.proofs.Common.{◌≡◌, ℕ, Option, Some, None, [], ◌∷◌, Result, Ok, Err, inl, inr, refl, ap, subst, ◌∙◌}
 use Rattle.std.specs.Result.{IsErrAnd}
 use mathlib.Core.Logic.{∥∥₁_map}
 use Rattle.jr_word.specs.declared.fault.Fault.{Fault}
 use Rattle.jr_word.specs.declared.fault.Fault.TheVariants as fault
 use Rattle.jr_model.specs.declared.event.Found.{Found}
 use Rattle.jr_model.specs.declared.event.Found.TheVariants as found
+use Rattle.jr_model.specs.declared.event.Act.{Act}
 use Rattle.jr_model.specs.declared.event.Act.TheVariants.{Look, Delete, DeleteStale}
 use Rattle.jr_model.specs.State.{Handle}
 use Rattle.jr_model.specs.History.{PassView, Did}
@@ -17,9 +18,10 @@ use Rattle.jr_rule.specs.declared.known.Known.{Known}
 use Rattle.jr_rule.specs.Acts.{found_object}
 use Rattle.jr_rule.specs.Knowing.{Standing, view, anything, keeps, HasLooked, MayKnow, Took, Goes}
 use Rattle.jr_rule.proofs.Goes.{goes_did, looked_now}
-use Rattle.jr_scripts.specs.Performing.{Performed}
+use Rattle.jr_scripts.specs.Performing.{Performed, moment}
 use Rattle.jr_scripts.specs.Reading.{found_answer}
 use Rattle.jr_scripts.proofs.Standings.{as_before, still_before}
+use Rattle.jr_scripts.proofs.Spending.{Spending, made_of, spend_first, spend_step}
 use Rattle.jr_scripts.proofs.Refusing.{handed_on}
 
 -- what a look found, by what it answers
@@ -49,12 +51,12 @@ module _ {S : Type 0} {stands : S → Standing} {knows : S → Known → Type 0}
   stale_ran is k k' g f = let d = goes_did (subst (λ x. Goes k (Look h x ∷ []) k') is g) in
       ran_then found.Stale (ran_some_act f (Look h) found.Stale tt tt d) (ran_refuse (view k') f fault.Stale tt (did_legal (Look h found.Stale ∷ []) d))
 
-  pub deleted_none : {e : Fault} (answer : Result (Unit {0}) Fault) → found_answer r ≡ Err e → IsErrAnd answer (λ y. y ≡ e) → (f : Frames) → Performed stands knows a b f f anything (λ s. delete h) answer anything
+  pub deleted_none : {e : Fault} (answer : Result (Unit {0}) Fault) → found_answer r ≡ Err e → IsErrAnd answer (λ y. y ≡ e) → (f : Frames) → Performed stands knows a b f f 0 anything (λ s. delete h) answer keeps
   deleted_none {e} answer is given f =
       let why = found_none r e is in
       handed_on answer (subst (λ y. IsErrAnd answer (λ z. z ≡ y)) why.1 given) (record {
         stands_is = as_before _ t.stands_is;
-        ran = λ k s m. let g = t.goes k s m in (g.0, g.1, stale_ran why.0 k g.0 g.2 f, tt);
+        ran = λ k s m. let g = t.goes k s m in (g.0, g.1, made_of (spend_step t k s m f f) (stale_ran why.0 k g.0 g.2 f), g.3);
       })
 
   module _ (z : Option ℕ) (is : found_answer r ≡ Ok z) where
@@ -67,16 +69,21 @@ module _ {S : Type 0} {stands : S → Standing} {knows : S → Known → Type 0}
     pub may_delete : MayKnow knows a anything → MayKnow knows b (HasLooked h (found_object z))
     may_delete some = ∥∥₁_map some (λ k. let g = t.goes k.0 k.1 tt in (g.0, g.1, looked k.0 g.0 g.2))
 
-    pub deleted_won : {c : S} → Took stands knows b c (Delete h ∷ []) (HasLooked h (found_object z)) keeps → (f : Frames) → Performed stands knows a c f f anything (λ s. delete h) (Ok tt) anything
+    -- a look and an exchange
+    spent_both : {c : S} {x : Act} (u : Took stands knows b c (x ∷ []) (HasLooked h (found_object z)) keeps) (k : Known) (s : knows a k) (m : anything k) (f : Frames)
+        → let g = t.goes k s m in Spending 0 (moment (stands a).fresh k f) (moment (stands c).fresh (u.goes g.0 g.1 (looked k g.0 g.2)).0 f)
+    spent_both u k s m f = let g = t.goes k s m in spend_first (spend_step t k s m f f) (spend_step u g.0 g.1 (looked k g.0 g.2) f f)
+
+    pub deleted_won : {c : S} → Took stands knows b c (Delete h ∷ []) (HasLooked h (found_object z)) keeps → (f : Frames) → Performed stands knows a c f f 0 anything (λ s. delete h) (Ok tt) keeps
     deleted_won u f = record {
       stands_is = still_before (as_before _ t.stands_is) (as_before _ u.stands_is);
       ran = λ k s m. let g = t.goes k s m in let e = u.goes g.0 g.1 (looked k g.0 g.2) in
-          (e.0, e.1, ran_then (found_object z) (ran_some_act f (Look h) (found_object z) tt tt (looked_did k g.0 g.2)) (won (view g.0) (view e.0) f h z (goes_did e.2)), tt);
+          (e.0, e.1, made_of (spent_both u k s m f) (ran_then (found_object z) (ran_some_act f (Look h) (found_object z) tt tt (looked_did k g.0 g.2)) (won (view g.0) (view e.0) f h z (goes_did e.2))), e.3 ∙ g.3);
     }
 
-    pub deleted_lost : {c : S} → Took stands knows b c (DeleteStale h ∷ []) (HasLooked h (found_object z)) keeps → (f : Frames) → Performed stands knows a c f f anything (λ s. delete h) (Err fault.Stale) anything
+    pub deleted_lost : {c : S} → Took stands knows b c (DeleteStale h ∷ []) (HasLooked h (found_object z)) keeps → (f : Frames) → Performed stands knows a c f f 0 anything (λ s. delete h) (Err fault.Stale) keeps
     deleted_lost u f = record {
       stands_is = still_before (as_before _ t.stands_is) (as_before _ u.stands_is);
       ran = λ k s m. let g = t.goes k s m in let e = u.goes g.0 g.1 (looked k g.0 g.2) in
-          (e.0, e.1, ran_then (found_object z) (ran_some_act f (Look h) (found_object z) tt tt (looked_did k g.0 g.2)) (lost (view g.0) (view e.0) f h z (goes_did e.2)), tt);
+          (e.0, e.1, made_of (spent_both u k s m f) (ran_then (found_object z) (ran_some_act f (Look h) (found_object z) tt tt (looked_did k g.0 g.2)) (lost (view g.0) (view e.0) f h z (goes_did e.2))), e.3 ∙ g.3);
     }

@@ -9,13 +9,13 @@ use Rattle.jr_word.specs.declared.handle.Handle.{Handle as HandleWord}
 use Rattle.jr_word.specs.Handle.{handle_word}
 use Rattle.jr_model.specs.State.{Handle}
 use Rattle.jr_model.specs.Frames.{Frames}
-use Rattle.jr_model.specs.Calls.{Call, Ran}
+use Rattle.jr_model.specs.Calls.{Call}
 use Rattle.jr_model.specs.Tests.{Word}
 use Rattle.jr_rule.specs.declared.known.Known.{Known}
-use Rattle.jr_rule.specs.Knowing.{Standing, IsOf, view}
-use Rattle.jr_scripts.specs.Performing.{Calls}
+use Rattle.jr_rule.specs.Knowing.{Standing, IsOf}
+use Rattle.jr_scripts.specs.Performing.{CallsWhole, moment, IsMade}
 use Rattle.jr_scripts.specs.Reading.{IsReadAs}
-use Rattle.jr_scripts.specs.Deeds.{Deed, Does, answered_by, call, call_on, call_on_both, packed, packed_if}
+use Rattle.jr_scripts.specs.Deeds.{Deed, Does, answered_by, call_by, call, call_on, call_on_both, packed, packed_if}
 
 -- the word of a handle that was packed
 pub packed_is : (w : HandleWord) (h : Handle) → w.0 ≡ handle_word h → w ≡ packed h
@@ -28,29 +28,37 @@ packed_if_is None (Some h) e = absurd e
 
 module _ {S : Type 0} {stands : S → Standing} {knows : S → Known → Type 0} {a b : S} {f g : Frames} {A : Type 0} where
   module _ (fits : (s : S) (k : Known) → knows s k → IsOf (stands s) k) where
-    pub does_call : {answer : Result A Fault} (work : Config → ℕ → ℕ → Call A) → Calls stands knows a b f g (work (stands a).config (stands a).last (stands a).thread) answer → Does stands knows a b f g (call (λ c last t s. work c last t)) answer
-    does_call {answer} work p = record {
+    pub does_call_by : {answer : Result A Fault} (silent : Config → ℕ) (work : Config → ℕ → ℕ → Call A) → CallsWhole stands knows a b f g (silent (stands a).config) (work (stands a).config (stands a).last (stands a).thread) answer → Does stands knows a b f g (call_by silent (λ c last t s. work c last t)) answer
+    does_call_by {answer} silent work p = record {
       stands_is = p.stands_is;
       did = λ k s m.
           let x = p.ran k s m in
-          let i = fits a k s in (
+          let i = fits a k s in
+          let old = moment (stands a).fresh k f in
+          let new = moment (stands b).fresh x.0 g in (
             x.0,
             x.1,
-            x.3,
-            subst (λ c. Ran (view k) (view x.0) f g (work c k.last k.thread) answer) (sym i.config)
-                (subst (λ l. Ran (view k) (view x.0) f g (work (stands a).config l k.thread) answer) (sym i.last)
-                (subst (λ t. Ran (view k) (view x.0) f g (work (stands a).config (stands a).last t) answer) (sym i.thread) x.2)),
+            x.3.1,
+            (
+              subst (λ c. IsMade (silent c) old new (work c k.last k.thread) answer) (sym i.config)
+                  (subst (λ l. IsMade (silent (stands a).config) old new (work (stands a).config l k.thread) answer) (sym i.last)
+                  (subst (λ t. IsMade (silent (stands a).config) old new (work (stands a).config (stands a).last t) answer) (sym i.thread) x.2)),
+              x.3.0,
+            ),
           );
     }
 
+    pub does_call : {answer : Result A Fault} (work : Config → ℕ → ℕ → Call A) → CallsWhole stands knows a b f g 0 (work (stands a).config (stands a).last (stands a).thread) answer → Does stands knows a b f g (call (λ c last t s. work c last t)) answer
+    does_call work p = does_call_by (λ c. 0) work p
+
     -- a call that is handed a reference word
-    pub does_call_on : {answer : Result A Fault} (work : Config → ℕ → ℕ → Word → Call A) (w : ℕ) (r : Word) → IsReadAs w r → Calls stands knows a b f g (work (stands a).config (stands a).last (stands a).thread r) answer → Does stands knows a b f g (call_on w (λ c last t s x. work c last t x)) answer
+    pub does_call_on : {answer : Result A Fault} (work : Config → ℕ → ℕ → Word → Call A) (w : ℕ) (r : Word) → IsReadAs w r → CallsWhole stands knows a b f g 0 (work (stands a).config (stands a).last (stands a).thread r) answer → Does stands knows a b f g (call_on w (λ c last t s x. work c last t x)) answer
     does_call_on work w r reads p =
         let d = does_call (λ c last t. work c last t r) p in
         record { stands_is = d.stands_is; did = λ k s m. let x = d.did k s m in (x.0, x.1, x.2, (r, reads, x.3)) }
 
     -- a call that is handed two reference words
-    pub does_call_on_both : {answer : Result A Fault} (work : Config → ℕ → ℕ → Word → Word → Call A) (v w : ℕ) (q r : Word) → IsReadAs v q → IsReadAs w r → Calls stands knows a b f g (work (stands a).config (stands a).last (stands a).thread q r) answer
+    pub does_call_on_both : {answer : Result A Fault} (work : Config → ℕ → ℕ → Word → Word → Call A) (v w : ℕ) (q r : Word) → IsReadAs v q → IsReadAs w r → CallsWhole stands knows a b f g 0 (work (stands a).config (stands a).last (stands a).thread q r) answer
         → Does stands knows a b f g (call_on_both v w (λ c last t s x y. work c last t x y)) answer
     does_call_on_both work v w q r reads reads' p =
         let d = does_call (λ c last t. work c last t q r) p in

@@ -11,12 +11,12 @@ use Rattle.jr_rule.specs.declared.known.Known.{Known}
 use Rattle.jr_rule.specs.Knowing.{Standing, Holds}
 use Rattle.jr_scripts.specs.declared.reply.Reply.{Reply}
 use Rattle.jr_scripts.specs.Names.{Names}
-use Rattle.jr_scripts.specs.Deeds.{moment, Does}
+use Rattle.jr_scripts.specs.Deeds.{Does}
 use Rattle.jr_scripts.specs.Commands.{deed}
 use Rattle.jr_scripts.specs.Text.{printed, names_after}
 use Rattle.jr_scripts.specs.Explains.{Explains, nothing, then, unwritten}
 use Rattle.jr_scripts.specs.Runs.{RanThread, WritesDown}
-use Rattle.jr_scripts.specs.Performing.{IsAsBefore}
+use Rattle.jr_scripts.specs.Performing.{IsAsBefore, moment}
 use Rattle.jr_scripts.proofs.Standings.{nothing_changed, still_before}
 
 module _ {S : Type 0} (stands : S → Standing) (knows : S → Known → Type 0) where
@@ -25,7 +25,7 @@ module _ {S : Type 0} (stands : S → Standing) (knows : S → Known → Type 0)
     pub text : List ℕ
     pub grew : out' ≡ out ++ text
     pub stands_is : IsAsBefore (stands old) (stands now)
-    pub explained : (k : Known) → knows old k → Holds before k → (k' : Known) × knows now k' × Holds after k' × Explains turns first (moment k before) done text (moment k' after) names
+    pub explained : (k : Known) → knows old k → Holds before k → (k' : Known) × knows now k' × Holds after k' × Explains turns first (moment (stands old).fresh k before) done text (moment (stands now).fresh k' after) names
 
 done_so_far : (commands : List Command) (i : ℕ) (c : Command) → i < length commands → get_or commands i c ≡ c → take (suc i) commands ≡ take i commands ++ c ∷ []
 done_so_far commands i c small is = take-suc commands i c small ∙ ap (λ x. take i commands ++ x ∷ []) is
@@ -36,18 +36,18 @@ module _ {S : Type 0} {stands : S → Standing} {knows : S → Known → Type 0}
     text = [];
     grew = sym (append-nil out);
     stands_is = nothing_changed;
-    explained = λ k s h. (k, s, h, subst (λ n. Explains turns first (moment k f) [] [] (moment k f) n) (sym e) nothing);
+    explained = λ k s h. (k, s, h, subst (λ n. Explains turns first (moment (stands old).fresh k f) [] [] (moment (stands old).fresh k f) n) (sym e) nothing);
   }
 
   -- all commands were done
   pub finished : {old now : S} {f g : Frames} {turns first : ℕ} {commands : List Command} {out out' : List ℕ} {names : Names} (i : ℕ) → length commands ≤ i → Going stands knows old now f g turns first (take i commands) out out' names
       → (text : List ℕ) × (out' ≡ out ++ text) × RanThread stands knows old now f g turns first commands (Ok tt) text
-  finished {f} {g} {turns} {first} {commands} {names} i all d = (
+  finished {old} {now} {f} {g} {turns} {first} {commands} {out} {out'} {names} i all d = (
     d.text,
     d.grew,
     record {
       stands_is = d.stands_is;
-      explained = λ k s h. let x = d.explained k s h in (x.0, x.1, x.2, (names, subst (λ cs. Explains turns first (moment k f) cs d.text (moment x.0 g) names) (take_all i commands all) x.3));
+      explained = λ k s h. let x = d.explained k s h in (x.0, x.1, x.2, (names, subst (λ cs. Explains turns first (moment (stands old).fresh k f) cs d.text (moment (stands now).fresh x.0 g) names) (take_all i commands all) x.3));
     },
   )
 
@@ -69,9 +69,9 @@ module _ {S : Type 0} {stands : S → Standing} {knows : S → Known → Type 0}
                 y.0,
                 y.1,
                 y.2,
-                subst (λ cs. Explains turns first (moment k f) cs (d.text ++ printed (first + i) c answer) (moment y.0 h) names') (sym (done_so_far commands i c small is) ∙ ap (λ n. take n commands) next)
-                    (subst (λ n. Explains turns first (moment k f) (take i commands ++ c ∷ []) (d.text ++ printed (first + i) c answer) (moment y.0 h) n) (sym w.0)
-                    (subst (λ m. Explains turns first (moment k f) (take i commands ++ c ∷ []) (d.text ++ printed (first + m) c answer) (moment y.0 h) (names_after c answer names)) count (then c answer x.3 y.3))),
+                subst (λ cs. Explains turns first (moment (stands old).fresh k f) cs (d.text ++ printed (first + i) c answer) (moment (stands new).fresh y.0 h) names') (sym (done_so_far commands i c small is) ∙ ap (λ n. take n commands) next)
+                    (subst (λ n. Explains turns first (moment (stands old).fresh k f) (take i commands ++ c ∷ []) (d.text ++ printed (first + i) c answer) (moment (stands new).fresh y.0 h) n) (sym w.0)
+                    (subst (λ m. Explains turns first (moment (stands old).fresh k f) (take i commands ++ c ∷ []) (d.text ++ printed (first + m) c answer) (moment (stands new).fresh y.0 h) (names_after c answer names)) count (then c answer x.3 y.3))),
               );
         }
 
@@ -92,7 +92,7 @@ module _ {S : Type 0} {stands : S → Standing} {knows : S → Known → Type 0}
                   y.2,
                   (
                     refl,
-                    unwritten (take i commands) c (drop (suc i) commands) (moment x.0 g) names answer (sym (take-append-drop (suc i) commands) ∙ (ap (λ cs. cs ++ drop (suc i) commands) (done_so_far commands i c small is) ∙ append_assoc (take i commands) (c ∷ []) (drop (suc i) commands))) x.3 y.3,
+                    unwritten (take i commands) c (drop (suc i) commands) (moment (stands mid).fresh x.0 g) names answer (sym (take-append-drop (suc i) commands) ∙ (ap (λ cs. cs ++ drop (suc i) commands) (done_so_far commands i c small is) ∙ append_assoc (take i commands) (c ∷ []) (drop (suc i) commands))) x.3 y.3,
                   ),
                 );
           },

@@ -13,6 +13,7 @@ pub mod PlacesNamed
 pub mod PlacesRoom
 pub mod Known
 pub mod Standings
+pub mod Spending
 pub mod Took
 pub mod Refusing
 pub mod Deleting

@@ -1,5 +1,5 @@
 -- A plain object is made, and a local reference to it.
-use Rattle.std.proofs.Common.{◌≡◌, ◌≢◌, ◌<◌, ◌≤◌, ℕ, false, nat_lt, Some, None, [], ◌∷◌, Result, Ok, Err, length, inl, inr, refl, sym, subst, ◌∙◌, arith, IsTrue}
+use Rattle.std.proofs.Common.{◌≡◌, ◌≢◌, ◌<◌, ◌≤◌, ℕ, Bool, false, nat_lt, Option, Some, None, [], ◌∷◌, Result, Ok, Err, length, inl, inr, refl, sym, ap, subst, ◌∙◌, arith, IsTrue}
 use Rattle.std.proofs.lemmas.Bool.Decides.{nat_tests}
 use Rattle.std.specs.Result.{IsErrAnd}
 use mathlib.Core.Logic.{∥∥₁_map, ∥∥₁_elim}
@@ -22,13 +22,14 @@ use Rattle.jr_model.proofs.Moments.{sometime_last, one_act}
 use Rattle.jr_model.proofs.Windows.{window_act, window_within}
 use Rattle.jr_model.proofs.Runs.{ran_then, ran_err}
 use Rattle.jr_rule.specs.declared.known.Known.{Known}
-use Rattle.jr_rule.specs.Knowing.{Standing, IsOf, view, anything, keeps, HasOptional, MayKnow, Took}
+use Rattle.jr_rule.specs.Knowing.{Standing, IsOf, view, anything, keeps, HasOptional, MayKnow, Took, fresh_from}
 use Rattle.jr_rule.proofs.Goes.{goes_did}
 use Rattle.jr_scripts.specs.Table.{Table, IsNext, IsOnly}
-use Rattle.jr_scripts.specs.Performing.{Published, Calls}
+use Rattle.jr_scripts.specs.Performing.{Published, moment, MakesObject, publication, bare}
 use Rattle.jr_scripts.specs.Ready.{IsReady}
 use Rattle.jr_scripts.proofs.Standings.{as_before, still_before}
 use Rattle.jr_scripts.proofs.Known.{holds_did, holds_put}
+use Rattle.jr_scripts.proofs.Spending.{Spending, made_of, spend_first, spend_step, spend_acts}
 use Rattle.jr_scripts.proofs.Refusing.{handed_on}
 
 below_one : (n : ℕ) → n ≢ 0 → nat_lt n 1 ≡ false
@@ -68,7 +69,18 @@ module _ {S : Type 0} {stands : S → Standing} {knows : S → Known → Type 0}
   pub room_at : {a : S} {t : Table} (h : Handle) → IsReady stands knows Within a t → IsNext t h → nat_lt (free_places (stands a).last t.frames) 1 ≡ false
   room_at {t = t} h r next = subst (λ n. nat_lt (free_places n t.frames) 1 ≡ false) r.last (free_room t.last t.frames h.index next.place next.free)
 
+-- a publication stores no local word
+publication_fresh : (b : Bool) (kind : Kind) (made : Option ℕ) → fresh_from b (publication kind made) ≡ b
+publication_fresh b kind None = refl
+publication_fresh b kind (Some o) = refl
+
 module _ {S : Type 0} {stands : S → Standing} {knows : S → Known → Type 0} {a b : S} where
+  -- what a publication takes
+  spent_publishing : {kind : Kind} {made : Option ℕ} (p : Published stands knows a b kind made) (k : Known) (s : knows a k) (f : Frames) → Spending (stands a).config.objects (moment (stands a).fresh k f) (moment (stands b).fresh (p.did k s).0 f)
+  spent_publishing {kind} {made} p k s f =
+      let x = p.did k s in
+      spend_acts f f (stands a).config.objects (publication kind made) x.5 x.6 x.3 x.7 (ap (λ (z : Standing). z.fresh) p.stands_is ∙ sym (publication_fresh (stands a).fresh kind made))
+
   module _ {kind : Kind} {o : ℕ} (p : Published stands knows a b kind (Some o)) (some : MayKnow knows a anything) where
     -- the object that was published may be stored
     pub may_put : MayKnow knows b (HasOptional (Some o))
@@ -82,18 +94,18 @@ module _ {S : Type 0} {stands : S → Standing} {knows : S → Known → Type 0}
 
   module _ {t : Table} {h : Handle} (r : IsReady stands knows Within a t) (next : IsNext t h) where
     pub makes_full : {e : Fault} (fits : (s : S) (k : Known) → knows s k → IsOf (stands s) k) (answer : Result Handle Fault) → IsErrAnd answer (λ y. y ≡ e) → (e ≡ ObjectsFull) × Published stands knows a b Plain None
-        → Calls stands knows a b t.frames t.frames (making (stands a).config (stands a).last (stands a).thread) answer
+        → MakesObject stands knows a b t.frames t.frames (stands a).config.objects (making (stands a).config (stands a).last (stands a).thread) answer
     makes_full fits answer given why = let p = why.1 in handed_on answer (subst (λ y. IsErrAnd answer (λ z. z ≡ y)) why.0 given) (record {
       stands_is = as_before _ p.stands_is;
       ran = λ k s m.
           let x = p.did k s in
           let full : ObjectsWereFull k.seen (view x.0) = sometime_last x.3.begins (λ o l n. x.2 o l (subst (λ (c : Config). o ≤ c.objects) (x.3.config ∙ (fits a k s).config) n)) in
-          (x.0, x.1, full_ran (stands a).config (stands a).last (stands a).thread t.frames (room_at h r next) ((fits a k s).role ∙ r.role_is) full x.3, holds_did k x.0 t.frames [] x.3 tt m);
+          (x.0, x.1, made_of (spent_publishing p k s t.frames) (full_ran (stands a).config (stands a).last (stands a).thread t.frames (room_at h r next) ((fits a k s).role ∙ r.role_is) full x.3), (inl x.4, holds_did k x.0 t.frames [] x.3 tt m));
     })
 
     pub makes : {c : S} {o : ℕ} {g : Frames} → Published stands knows a b Plain (Some o) → Took stands knows b c (LocalPut h.index o ∷ []) (HasOptional (Some o)) keeps
         → IsAdded t.last t.thread t.frames (record { handle = h; object = o }) g → IsOnly t.frames h.index (Some o) g
-        → Calls stands knows a c t.frames g (making (stands a).config (stands a).last (stands a).thread) (Ok h)
+        → MakesObject stands knows a c t.frames g (stands a).config.objects (making (stands a).config (stands a).last (stands a).thread) (Ok h)
     makes {o = o} {g = g} p u added only = record {
       stands_is = still_before (as_before _ p.stands_is) (as_before _ u.stands_is);
       ran = λ k s m.
@@ -103,7 +115,7 @@ module _ {S : Type 0} {stands : S → Standing} {knows : S → Known → Type 0}
           let here = subst (λ n. IsAdded n (stands a).thread t.frames (record { handle = h; object = o }) g) r.last (subst (λ n. IsAdded t.last n t.frames (record { handle = h; object = o }) g) r.owner added) in (
             y.0,
             y.1,
-            made_ran (stands a).config (stands a).last (stands a).thread h o (room_at h r next) x.3 d here,
-            holds_put x.0 y.0 t.frames g h.index (Some o) d only (holds_did k x.0 t.frames (New o Plain [] ∷ []) x.3 (refl, tt) m),
+            made_of (spend_first (spent_publishing p k s t.frames) (spend_step u x.0 x.1 x.2 t.frames g)) (made_ran (stands a).config (stands a).last (stands a).thread h o (room_at h r next) x.3 d here),
+            (inr (o, bare Plain, y.3 ∙ x.4), holds_put x.0 y.0 t.frames g h.index (Some o) d only (holds_did k x.0 t.frames (New o Plain [] ∷ []) x.3 (refl, tt) m)),
           );
     }

@@ -1,5 +1,5 @@
 -- A local reference is made to what was resolved.
-use Rattle.std.proofs.Common.{◌≡◌, ◌≢◌, ℕ, Option, Some, None, [], ◌∷◌, Result, Ok, Err, nat_lt, refl, sym, ap, subst, arith}
+use Rattle.std.proofs.Common.{◌≡◌, ◌≢◌, ℕ, Option, Some, None, [], ◌∷◌, Result, Ok, Err, nat_lt, inl, refl, sym, ap, subst, arith, ◌∙◌}
 use mathlib.Core.Logic.{∥∥₁_map, ∥∥₁_elim}
 use Rattle.jr_word.specs.declared.config.Config.{Config}
 use Rattle.jr_word.specs.declared.fault.Fault.{Fault}
@@ -18,10 +18,11 @@ use Rattle.jr_rule.specs.Knowing.{Standing, IsOf, view, keeps, HasObject, HasOpt
 use Rattle.jr_model.proofs.InRoom.{in_room}
 use Rattle.jr_rule.proofs.Goes.{goes_did}
 use Rattle.jr_scripts.specs.Table.{Table, IsNext, IsOnly}
-use Rattle.jr_scripts.specs.Performing.{FoundPresent, Resolves, Calls, MakesLocal}
+use Rattle.jr_scripts.specs.Performing.{FoundPresent, Resolves, Calls, MakesLocal, MakesObject}
 use Rattle.jr_scripts.specs.Ready.{IsReady}
 use Rattle.jr_scripts.proofs.Standings.{nothing_changed, as_before, still_before, but_fresh}
-use Rattle.jr_scripts.proofs.Entering.{same_owner, ready_after}
+use Rattle.jr_scripts.proofs.Entering.{same_owner, ready_called}
+use Rattle.jr_scripts.proofs.Spending.{made_of, spending, spend_first, spend_step, spend_none, spend_more}
 use Rattle.jr_scripts.proofs.Known.{holds_put}
 use Rattle.jr_scripts.proofs.Reading.{ran_refused}
 use Rattle.jr_scripts.proofs.Resolving.{stays}
@@ -47,12 +48,19 @@ module _ {S : Type 0} {stands : S → Standing} {knows : S → Known → Type 0}
       let each : ((k : Known) × knows a k × HasObject o k) → ⊥ = λ k. let low = ((in_room k.0.config k.0.last k.0.seen (fits a k.0 k.1).legal).objects o k.2).0 in omega arith in
       ∥∥₁_elim {P = ⊥} there (hlevel) each
 
+  -- a call that makes no object
+  object_of_call : {A : Type 0} {a b : S} {f g : Frames} {call : Call A} {answer : Result A Fault} (silent : ℕ) → Calls stands knows a b f g call answer → MakesObject stands knows a b f g silent call answer
+  object_of_call silent p = record {
+    stands_is = p.stands_is;
+    ran = λ k s m. let x = p.ran k s m in (x.0, x.1, made_of (spend_more silent (spending x.2)) x.2.ran, (inl x.3.0, x.3.1));
+  }
+
   -- no place is free for a new object's reference
-  pub makes_nothing : {a : S} {t : Table} → ((s : S) (k : Known) → knows s k → IsOf (stands s) k) → IsReady stands knows Within a t → free_places t.last t.frames ≡ 0 → Calls stands knows a a t.frames t.frames (making (stands a).config (stands a).last (stands a).thread) (Err LocalsFull)
+  pub makes_nothing : {a : S} {t : Table} → ((s : S) (k : Known) → knows s k → IsOf (stands s) k) → IsReady stands knows Within a t → free_places t.last t.frames ≡ 0 → MakesObject stands knows a a t.frames t.frames (stands a).config.objects (making (stands a).config (stands a).last (stands a).thread) (Err LocalsFull)
   makes_nothing {a} {t} fits r none =
       let s = stands a in
       let none_here = subst (λ n. free_places n t.frames ≡ 0) r.last none in
-      stays fits a t.frames (λ p l. full_ran s.config s.last s.thread _ none_here l)
+      object_of_call s.config.objects (stays fits a t.frames (λ p l. full_ran s.config s.last s.thread _ none_here l))
 
   -- no reference is made to no object
   pub makes_none : ((s : S) (k : Known) → knows s k → IsOf (stands s) k) → (a : S) (f : Frames) (z : Option ℕ) → z ≡ None → MakesLocal stands knows a a f f z (new_local (stands a).config (stands a).last (stands a).thread z) (Ok None)
@@ -60,7 +68,7 @@ module _ {S : Type 0} {stands : S → Standing} {knows : S → Known → Type 0}
       let s = stands a in
       subst (λ y. MakesLocal stands knows a a f f y (new_local s.config s.last s.thread y) (Ok None)) (sym is) (record {
         stands_is = nothing_changed;
-        ran = λ k v m. (k, v, ran_done (view k) f None (fits a k v).legal, m.0);
+        ran = λ k v m. let l = (fits a k v).legal in (k, v, made_of (spend_none s.fresh k f f l) (ran_done (view k) f None l), (refl, m.0));
       })
 
   -- no place is free
@@ -71,7 +79,7 @@ module _ {S : Type 0} {stands : S → Standing} {knows : S → Known → Type 0}
       let none_here = subst (λ n. free_places n t.frames ≡ 0) r.last none in
       subst (λ y. MakesLocal stands knows a a t.frames t.frames y (new_local s.config s.last s.thread y) (Err LocalsFull)) (sym is) (record {
         stands_is = nothing_changed;
-        ran = λ k v m. (k, v, full_ran s.config s.last s.thread _ none_here (fits a k v).legal, m.0);
+        ran = λ k v m. let l = (fits a k v).legal in (k, v, made_of (spend_none s.fresh k t.frames t.frames l) (full_ran s.config s.last s.thread _ none_here l), (refl, m.0));
       })
 
   pub makes_local : {a b : S} {t : Table} {g : Frames} {z : Option ℕ} {o : ℕ} {h : Handle} → z ≡ Some o → IsReady stands knows Within a t → IsNext t h → Took stands knows a b (LocalPut h.index o ∷ []) (HasOptional (Some o)) keeps
@@ -85,18 +93,18 @@ module _ {S : Type 0} {stands : S → Standing} {knows : S → Known → Type 0}
         ran = λ k v m.
             let y = u.goes k v m.1 in
             let d = goes_did y.2 in
-            (y.0, y.1, room_ran s.config s.last s.thread t.frames (room_at h r next) (ran_give (λ x. Some x) h (local_ran s.config s.last s.thread h o d here)), holds_put k y.0 t.frames g h.index (Some o) d only m.0);
+            (y.0, y.1, made_of (spend_step u k v m.1 t.frames g) (room_ran s.config s.last s.thread t.frames (room_at h r next) (ran_give (λ x. Some x) h (local_ran s.config s.last s.thread h o d here))), (y.3, holds_put k y.0 t.frames g h.index (Some o) d only m.0));
       })
 
   module _ {a b : S} {z : Option ℕ} where
     -- what was resolved may be stored
     pub may_find : {f : Frames} {first : Call (Option ℕ)} → Resolves stands knows a b f first (Ok z) → MayKnow knows a (Holds f) → MayKnow knows b (HasOptional z)
-    may_find p some = ∥∥₁_map some (λ k. let x = p.ran k.0 k.1 k.2 in (x.0, x.1, found_optional z x.0 x.3.1))
+    may_find p some = ∥∥₁_map some (λ k. let x = p.ran k.0 k.1 k.2 in (x.0, x.1, found_optional z x.0 x.3.2))
 
     pub ready_resolved : {t : Table} {first : Call (Option ℕ)} → IsReady stands knows Within a t → Resolves stands knows a b t.frames first (Ok z) → IsReady stands knows Within b t
     ready_resolved {t} {first} r p =
-        let q : Calls stands knows a b t.frames t.frames first (Ok z) = record { stands_is = p.stands_is; ran = λ k s m. let x = p.ran k s m in (x.0, x.1, x.2, x.3.0) } in
-        ready_after r (same_owner t) q
+        let q : Calls stands knows a b t.frames t.frames first (Ok z) = record { stands_is = p.stands_is; ran = λ k s m. let x = p.ran k s m in (x.0, x.1, x.2, (x.3.0, x.3.1)) } in
+        ready_called r (same_owner t) q
 
     pub creates_local : {d : S} {f g : Frames} {first : Call (Option ℕ)} {answer : Result (Option Handle) Fault} → Resolves stands knows a b f first (Ok z)
         → MakesLocal stands knows b d f g z (new_local (stands b).config (stands b).last (stands b).thread z) answer
@@ -108,6 +116,6 @@ module _ {S : Type 0} {stands : S → Standing} {knows : S → Known → Type 0}
           stands_is = still_before p.stands_is r.stands_is;
           ran = λ k v m.
               let x = p.ran k v m in
-              let y = r.ran x.0 x.1 (x.3.0, found_optional z x.0 x.3.1) in
-              (y.0, y.1, ran_then {next = new_local s.config s.last s.thread} z x.2 y.2, y.3);
+              let y = r.ran x.0 x.1 (x.3.1, found_optional z x.0 x.3.2) in
+              (y.0, y.1, made_of (spend_first (spending x.2) (spending y.2)) (ran_then {next = new_local s.config s.last s.thread} z x.2.ran y.2.ran), (y.3.0 ∙ x.3.0, y.3.1));
         }

@@ -1,5 +1,5 @@
 -- Objects are published at the first number that is absent.
-use Rattle.std.proofs.Common.{◌≡◌, ◌≤◌, ◌+◌, ◌⊎◌, ⊎_elim, ℕ, Bool, true, false, Some, [], ◌∷◌, refl, ap, subst, ◌∙◌, arith}
+use Rattle.std.proofs.Common.{◌≡◌, ◌≤◌, ◌+◌, ◌⊎◌, ⊎_elim, ℕ, Bool, true, false, Some, None, [], ◌∷◌, refl, ap, subst, ◌∙◌, arith}
 use Rattle.std.proofs.Math.Logic.{∥∥₁_map}
 use Rattle.jr_word.specs.declared.header.HeaderParts.{HeaderParts}
 use Rattle.jr_word.specs.declared.kind.Kind.{Kind}
@@ -9,19 +9,16 @@ use Rattle.jr_model.specs.History.{Did}
 use Rattle.jr_model.proofs.Stays.{did_then, did_nothing}
 use Rattle.jr_rule.specs.declared.known.Known.{Known}
 use Rattle.jr_rule.specs.Acts.{publishing}
-use Rattle.jr_rule.specs.Knowing.{Standing, IsOf, view, anything, HasObject, IsFilled, words_for, ShowsPublished, MayKnow, TookWith}
+use Rattle.jr_rule.specs.Grasping.{with_header}
+use Rattle.jr_rule.specs.Knowing.{Standing, IsOf, view, anything, HasObject, IsFilled, words_for, ShowsPublished, MayKnow, TookWith, Takes, keeps}
 use Rattle.jr_rule.proofs.Goes.{goes_did, present_stays}
-use Rattle.jr_scripts.specs.Performing.{Published}
+use Rattle.jr_scripts.specs.Performing.{Published, bare}
 
 module _ {S : Type 0} (stands : S → Standing) (knows : S → Known → Type 0) where
-  -- the numbers up to n were found present, and nothing was done
+  -- the numbers up to n were found present, each by one operation, and nothing was done
   pub record Passed (old new : S) (n : ℕ) : Type 0 where
     pub stands_is : stands new ≡ stands old
-    pub did : (k : Known) → knows old k → (k' : Known) × knows new k' × ((o : ℕ) → 1 ≤ o → o ≤ n → HasObject o k') × Did (view k) (view k') []
-
--- the header of an object without elements
-abbrev bare : Kind → HeaderParts
-bare kind = record { kind = kind; length = 0; place = 0 }
+    pub did : (k : Known) → knows old k → (k' : Known) × knows new k' × ((o : ℕ) → 1 ≤ o → o ≤ n → HasObject o k') × Did (view k) (view k') [] × Takes n k k' × keeps k k'
 
 no_words : (kind : Kind) (k : Known) → IsFilled (bare kind) k
 no_words kind k = record { long = refl; words = λ i v e. cc }
@@ -39,7 +36,7 @@ module _ {S : Type 0} {stands : S → Standing} {knows : S → Known → Type 0}
   may_claim a kind some = ∥∥₁_map some (λ k. (k.0, k.1, no_words kind k.0))
 
   pub passed_nothing : (a : S) → Passed stands knows a a 0
-  passed_nothing a = record { stands_is = refl; did = λ k s. (k, s, λ o l m. absurd (omega arith), did_nothing (view k) (fits a k s).legal) }
+  passed_nothing a = record { stands_is = refl; did = λ k s. (k, s, λ o l m. absurd (omega arith), did_nothing (view k) (fits a k s).legal, omega arith, refl) }
 
   pub passed_more : {a b c : S} (kind : Kind) (n : ℕ) → (stands a).role ≡ Within → Passed stands knows a b n → Claimed b c (n + 1) kind false → Passed stands knows a c (n + 1)
   passed_more {a} {b} kind n w p t = record {
@@ -48,19 +45,32 @@ module _ {S : Type 0} {stands : S → Standing} {knows : S → Known → Type 0}
         let x = p.did k s in
         let y = t.goes x.0 x.1 (no_words kind x.0) in
         let d = goes_did y.2 in
+        let before = x.4 in
+        let one = y.2.taken in
         let within = (fits b x.0 x.1).role ∙ (ap (λ (z : Standing). z.role) p.stands_is ∙ w) in (
           y.0,
           y.1,
           λ o l m. ⊎_elim (λ e. present_stays x.0 y.0 [] o d within tt (x.2 o l e)) (λ e. subst (λ z. HasObject z y.0) e y.3.0) (last_or o n m),
           did_then [] [] x.3 d,
+          omega arith,
+          y.3.1 ∙ x.5,
         );
   }
 
-  pub published_new : {a b c : S} {n : ℕ} {kind : Kind} → Passed stands knows a b n → Claimed b c (n + 1) kind true → Published stands knows a c kind (Some (n + 1))
-  published_new {n} {kind} p t = record {
+  -- all numbers were found present
+  pub published_none : {a b : S} {n : ℕ} (kind : Kind) → n ≡ (stands a).config.objects → Passed stands knows a b n → Published stands knows a b kind None
+  published_none {a} {n = n} kind is p = record {
+    stands_is = p.stands_is;
+    did = λ k s. let x = p.did k s in let count = x.4 in (x.0, x.1, λ o l m. x.2 o l (omega arith), x.3, x.5, n, omega arith, omega arith);
+  }
+
+  pub published_new : {a b c : S} {n : ℕ} {kind : Kind} → n ≤ (stands a).config.objects → Passed stands knows a b n → Claimed b c (n + 1) kind true → Published stands knows a c kind (Some (n + 1))
+  published_new {n = n} {kind = kind} few p t = record {
     stands_is = t.stands_is ∙ p.stands_is;
     did = λ k s.
         let x = p.did k s in
         let y = t.goes x.0 x.1 (no_words kind x.0) in
-        (y.0, y.1, y.3.0, did_then [] (New (n + 1) kind [] ∷ []) x.3 (goes_did y.2));
+        let before = x.4 in
+        let one = y.2.taken in
+        (y.0, y.1, y.3.0, did_then [] (New (n + 1) kind [] ∷ []) x.3 (goes_did y.2), y.3.1 ∙ ap (λ g. with_header g (n + 1) (bare kind)) x.5, n, few, omega arith);
   }

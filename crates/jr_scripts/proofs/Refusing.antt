@@ -1,5 +1,5 @@
 -- A refusal that is handed on.
-use Rattle.std.proofs.Common.{◌≡◌, Result, Err, sym, subst, ◌∙◌, ap}
+use Rattle.std.proofs.Common.{◌≡◌, ℕ, Result, Err, sym, subst, ◌∙◌, ap}
 use Rattle.std.specs.Result.{IsErrAnd}
 use Rattle.std.proofs.lemmas.Result.{err_from_is_err_and}
 use Rattle.jr_word.specs.declared.fault.Fault.{Fault}
@@ -11,8 +11,8 @@ use Rattle.jr_rule.specs.Knowing.{Standing}
 use Rattle.jr_scripts.specs.Performing.{Performed}
 
 module _ {S : Type 0} {stands : S → Standing} {knows : S → Known → Type 0} where
-  pub handed_on : {A : Type 0} {a b : S} {f g : Frames} {met so : Known → Type 0} {call : State → Call A} {e : Fault} (r : Result A Fault) → IsErrAnd r (λ y. y ≡ e)
-      → Performed stands knows a b f g met call (Err e) so → Performed stands knows a b f g met call r so
-  handed_on {a} {b} {f} {g} {met} {so} {call} r h p =
+  pub handed_on : {A : Type 0} {a b : S} {f g : Frames} {silent : ℕ} {met : Known → Type 0} {shows : Known → Known → Type 0} {call : State → Call A} {e : Fault} (r : Result A Fault) → IsErrAnd r (λ y. y ≡ e)
+      → Performed stands knows a b f g silent met call (Err e) shows → Performed stands knows a b f g silent met call r shows
+  handed_on {a} {b} {f} {g} {silent} {met} {shows} {call} r h p =
       let x = err_from_is_err_and r h in
-      subst (λ z. Performed stands knows a b f g met call z so) (sym (x.1 ∙ ap (λ (y : Fault). Err y) x.2)) p
+      subst (λ z. Performed stands knows a b f g silent met call z shows) (sym (x.1 ∙ ap (λ (y : Fault). Err y) x.2)) p

@@ -25,6 +25,7 @@ use Rattle.jr_model.specs.References.{removal, local_removal}
 use Rattle.jr_scripts.specs.Table.{IsOnly}
 use Rattle.jr_scripts.specs.Reading.{local_answer}
 use Rattle.jr_scripts.specs.Performing.{Performed, Calls}
+use Rattle.jr_scripts.proofs.Spending.{made_of, spending, spend_step}
 use Rattle.jr_scripts.proofs.Standings.{as_before}
 use Rattle.jr_scripts.proofs.Known.{holds_did, holds_put}
 use Rattle.jr_scripts.proofs.Reading.{ran_refused, ran_passed, ran_local}
@@ -69,18 +70,18 @@ looked_ran {p} {f} h z e is l = subst (λ y. Ran p p f f (looked_at h) (local_an
 
 module _ {S : Type 0} {stands : S → Standing} {knows : S → Known → Type 0} where
   -- a delete leaves the frames in agreement
-  deletes : {a b : S} {h : Handle} {answer : Result (Unit {0}) Fault} → ((f : Frames) → Performed stands knows a b f f anything (λ s. delete h) answer anything) → (f : Frames) → Calls stands knows a b f f (delete h) answer
+  deletes : {a b : S} {h : Handle} {answer : Result (Unit {0}) Fault} → ((f : Frames) → Performed stands knows a b f f 0 anything (λ s. delete h) answer keeps) → (f : Frames) → Calls stands knows a b f f (delete h) answer
   deletes {h = h} {answer = answer} p f = record {
     stands_is = (p f).stands_is;
     ran = λ k s m. let x = (p f).ran k s tt in
-        (x.0, x.1, x.2, holds_did k x.0 f x.2.acts x.2.did (delete_spares h f f x.2.acts answer x.2.is) m);
+        let r = x.2.ran in (x.0, x.1, x.2, (x.3, holds_did k x.0 f r.acts r.did (delete_spares h f f r.acts answer r.is) m));
   }
 
-  pub removes : {a b : S} (c : Config) (k : RefKind) (h : Handle) {answer : Result (Unit {0}) Fault} → same_kind k h.kind ≡ true → is_out_of_bounds c (Parts h) ≡ false → ((f : Frames) → Performed stands knows a b f f anything (λ s. delete h) answer anything)
+  pub removes : {a b : S} (c : Config) (k : RefKind) (h : Handle) {answer : Result (Unit {0}) Fault} → same_kind k h.kind ≡ true → is_out_of_bounds c (Parts h) ≡ false → ((f : Frames) → Performed stands knows a b f f 0 anything (λ s. delete h) answer keeps)
       → (f : Frames) → Calls stands knows a b f f (removal c k (Parts h)) answer
   removes c k h e e' p f = let r = deletes p f in record {
     stands_is = r.stands_is;
-    ran = λ k' s m. let x = r.ran k' s m in (x.0, x.1, removed_ran c k h e e' x.2, x.3);
+    ran = λ k' s m. let x = r.ran k' s m in (x.0, x.1, made_of (spending x.2) (removed_ran c k h e e' x.2.ran), x.3);
   }
 
   -- the local reference of a handle that stands
@@ -92,7 +93,7 @@ module _ {S : Type 0} {stands : S → Standing} {knows : S → Known → Type 0}
         let y = u.goes k s tt in
         let d = goes_did y.2 in
         let dropped : Ran (view k) (view y.0) f g (drop_local h) (Ok tt) = record { acts = LocalDrop h.index ∷ []; did = d; is = (refl, refl, gone); begun = k.seen; window = window_act (LocalDrop h.index) d tt tt; grounds = tt } in
-        (y.0, y.1, local_ran c t h e e' e'' (ran_then {next = λ _. drop_local h} (Some o) (looked_ran h (Some o) e is (fits a k s).legal) dropped), holds_put k y.0 f g h.index None d only m);
+        (y.0, y.1, made_of (spend_step u k s tt f g) (local_ran c t h e e' e'' (ran_then {next = λ _. drop_local h} (Some o) (looked_ran h (Some o) e is (fits a k s).legal) dropped)), (y.3, holds_put k y.0 f g h.index None d only m));
   }
 
   module _ (fits : (s : S) (k : Known) → knows s k → IsOf (stands s) k) (a : S) (f : Frames) (c : Config) where

@@ -24,6 +24,7 @@ use Rattle.jr_scripts.specs.Reading.{word_of, found_answer, local_answer}
 use Rattle.jr_model.specs.References.{typing}
 use Rattle.jr_scripts.specs.declared.reference.Reference.{Reference}
 use Rattle.jr_scripts.specs.declared.reference.Reference.TheVariants as reference
+use Rattle.jr_scripts.proofs.Spending.{made_of, spending, spend_step, spend_none}
 use Rattle.jr_scripts.proofs.Standings.{nothing_changed, as_before}
 use Rattle.jr_scripts.proofs.Known.{holds_did, local_present}
 use Rattle.jr_scripts.proofs.Reading.{ran_refused, ran_passed, ran_either, ran_neither, ran_local, ran_remote, ran_remote_type}
@@ -42,24 +43,24 @@ module _ {S : Type 0} {stands : S → Standing} {knows : S → Known → Type 0}
   resolves_remote f h r b t = record {
     stands_is = as_before _ t.stands_is;
     ran = λ k s m. let g = t.goes k s tt in let d = goes_did g.2 in
-        (g.0, g.1, ran_remote f h r b d, (holds_did k g.0 f (Look h r ∷ []) d (refl, tt) m, remote_present k g.0 h r g.2));
+        (g.0, g.1, made_of (spend_step t k s tt f f) (ran_remote f h r b d), (g.3, holds_did k g.0 f (Look h r ∷ []) d (refl, tt) m, remote_present k g.0 h r g.2));
   }
 
   pub types_remote : {a b : S} (f : Frames) (h : Handle) (r : Found) → is_local h ≡ false → Took stands knows a b (Look h r ∷ []) anything keeps → Calls stands knows a b f f (type_at (Parts h)) (Ok (type_found h.kind r))
   types_remote f h r b t = record {
     stands_is = as_before _ t.stands_is;
     ran = λ k s m. let g = t.goes k s tt in let d = goes_did g.2 in
-        (g.0, g.1, ran_remote_type f h r b d, holds_did k g.0 f (Look h r ∷ []) d (refl, tt) m);
+        (g.0, g.1, made_of (spend_step t k s tt f f) (ran_remote_type f h r b d), (g.3, holds_did k g.0 f (Look h r ∷ []) d (refl, tt) m));
   }
 
   module _ (fits : (s : S) (k : Known) → knows s k → IsOf (stands s) k) (a : S) (f : Frames) where
     -- a call that takes no step
     pub stays : {A : Type 0} {call : Call A} {answer : Result A Fault} → ((p : PassView) → IsLegal p.config p.last p.seen → Ran p p f f call answer) → Calls stands knows a a f f call answer
-    stays each = record { stands_is = nothing_changed; ran = λ k s m. (k, s, each (view k) (fits a k s).legal, m) }
+    stays each = record { stands_is = nothing_changed; ran = λ k s m. let l = (fits a k s).legal in (k, s, made_of (spend_none (stands a).fresh k f f l) (each (view k) l), (refl, m)) }
 
     -- a resolution that takes no step and finds no object
     pub resolves_none : {call : Call (Option ℕ)} {answer : Result (Option ℕ) Fault} → ((k : Known) → FoundPresent answer k) → ((p : PassView) → IsLegal p.config p.last p.seen → Ran p p f f call answer) → Resolves stands knows a a f call answer
-    resolves_none none each = record { stands_is = nothing_changed; ran = λ k s m. (k, s, each (view k) (fits a k s).legal, (m, none k)) }
+    resolves_none none each = record { stands_is = nothing_changed; ran = λ k s m. let l = (fits a k s).legal in (k, s, made_of (spend_none (stands a).fresh k f f l) (each (view k) l), (refl, m, none k)) }
 
     -- NULL and a malformed reference name no object
     pub resolves_void : (r : Reference) → ((h : Handle) → r ≢ reference.Parts h) → Resolves stands knows a a f (looked (word_of r)) (Ok None)
@@ -85,7 +86,7 @@ module _ {S : Type 0} {stands : S → Standing} {knows : S → Known → Type 0}
     resolves_local h z b is at = record {
       stands_is = nothing_changed;
       ran = λ k s m. let l = (fits a k s).legal in
-          (k, s, subst (λ y. Ran (view k) (view k) f f (looked_at h) (local_answer y)) (sym is) (ran_local (view k) f h b l), (m, found_there f h z at k l m));
+          (k, s, made_of (spend_none (stands a).fresh k f f l) (subst (λ y. Ran (view k) (view k) f f (looked_at h) (local_answer y)) (sym is) (ran_local (view k) f h b l)), (refl, m, found_there f h z at k l m));
     }
 
     module _ (c : Config) (last t : ℕ) (w : Word) where
@@ -99,7 +100,7 @@ module _ {S : Type 0} {stands : S → Standing} {knows : S → Known → Type 0}
   resolves_looked c last t f w e e' p = record {
     stands_is = p.stands_is;
     ran = λ k s m. let r = p.ran k s m in
-        (r.0, r.1, ran_neither (is_malformed w) (is_out_of_bounds c w) fault.Stale _ e (ran_passed (is_foreign t w) fault.Foreign _ e' r.2), r.3);
+        (r.0, r.1, made_of (spending r.2) (ran_neither (is_malformed w) (is_out_of_bounds c w) fault.Stale _ e (ran_passed (is_foreign t w) fault.Foreign _ e' r.2.ran)), r.3);
   }
 
   pub types_some : {a b : S} {f : Frames} {answer : Result ℕ Fault} (x y : Bool) (work : Call ℕ) → x ≡ false → y ≡ false → Calls stands knows a b f f work answer → Calls stands knows a b f f (cond (x || y) (done 0) work) answer

@@ -18,6 +18,7 @@ use Rattle.jr_scripts.specs.Performing.{Resolves, Calls}
 use Rattle.jr_scripts.proofs.Standings.{still_before}
 use Rattle.jr_scripts.proofs.Reading.{neither, ran_either, ran_neither}
 use Rattle.jr_scripts.proofs.Resolving.{stays}
+use Rattle.jr_scripts.proofs.Spending.{made_of, spending, spend_first}
 use Rattle.jr_scripts.proofs.Refusing.{handed_on}
 
 -- what follows the tests: both are looked at
@@ -62,22 +63,22 @@ module _ (c : Config) (last t : ℕ) (v w : Word) where
       pub both_err_left : {e : Fault} (answer : Result (Option ℕ × Option ℕ) Fault) → IsErrAnd answer (λ y. y ≡ e) → Resolves stands knows a b f (looked v) (Err e) → Calls stands knows a b f f (resolved_both c last t v w) answer
       both_err_left {e} answer given p = handed_on answer given (record {
         stands_is = p.stands_is;
-        ran = λ k s m. let x = p.ran k s m in (x.0, x.1, passed_ran passes (ran_err _ e x.2), x.3.0);
+        ran = λ k s m. let x = p.ran k s m in (x.0, x.1, made_of (spending x.2) (passed_ran passes (ran_err _ e x.2.ran)), (x.3.0, x.3.1));
       })
 
       -- the second is refused
       pub both_err_right : {d : S} {x : Option ℕ} {e : Fault} (answer : Result (Option ℕ × Option ℕ) Fault) → IsErrAnd answer (λ y. y ≡ e) → Resolves stands knows a b f (looked v) (Ok x) → Resolves stands knows b d f (looked w) (Err e) → Calls stands knows a d f f (resolved_both c last t v w) answer
       both_err_right {x = x} {e = e} answer given p q = handed_on answer given (record {
         stands_is = still_before p.stands_is q.stands_is;
-        ran = λ k s m. let y = p.ran k s m in let z = q.ran y.0 y.1 y.3.0 in
-            (z.0, z.1, passed_ran passes (ran_then x y.2 (ran_err _ e z.2)), z.3.0);
+        ran = λ k s m. let y = p.ran k s m in let z = q.ran y.0 y.1 y.3.1 in
+            (z.0, z.1, made_of (spend_first (spending y.2) (spending z.2)) (passed_ran passes (ran_then x y.2.ran (ran_err _ e z.2.ran))), (z.3.0 ∙ y.3.0, z.3.1));
       })
 
       pub both_looked : {d : S} {x y : Option ℕ} → Resolves stands knows a b f (looked v) (Ok x) → Resolves stands knows b d f (looked w) (Ok y) → Calls stands knows a d f f (resolved_both c last t v w) (Ok (x, y))
       both_looked {x = x} {y = y} p q = record {
         stands_is = still_before p.stands_is q.stands_is;
-        ran = λ k s m. let u = p.ran k s m in let z = q.ran u.0 u.1 u.3.0 in
-            (z.0, z.1, passed_ran passes (ran_then x u.2 (ran_give (λ n. (x, n)) y z.2)), z.3.0);
+        ran = λ k s m. let u = p.ran k s m in let z = q.ran u.0 u.1 u.3.1 in
+            (z.0, z.1, made_of (spend_first (spending u.2) (spending z.2)) (passed_ran passes (ran_then x u.2.ran (ran_give (λ n. (x, n)) y z.2.ran))), (z.3.0 ∙ u.3.0, z.3.1));
       }
 
 same_is : (x y : Option ℕ) → option_eq nat_eq x y ≡ same_object x y
@@ -90,11 +91,11 @@ module _ {S : Type 0} {stands : S → Standing} {knows : S → Known → Type 0}
   pub compares_refused : {e : Fault} (answer : Result Bool Fault) → IsErrAnd answer (λ y. y ≡ e) → Calls stands knows a b f f both (Err e) → Calls stands knows a b f f (both >>= (λ z. done (same_object z.0 z.1))) answer
   compares_refused {e} answer given p = handed_on answer given (record {
     stands_is = p.stands_is;
-    ran = λ k s m. let x = p.ran k s m in (x.0, x.1, ran_err _ e x.2, x.3);
+    ran = λ k s m. let x = p.ran k s m in (x.0, x.1, made_of (spending x.2) (ran_err _ e x.2.ran), x.3);
   })
 
   pub compares : {x y : Option ℕ} {same : Bool} → same ≡ option_eq nat_eq x y → Calls stands knows a b f f both (Ok (x, y)) → Calls stands knows a b f f (both >>= (λ z. done (same_object z.0 z.1))) (Ok same)
   compares {x} {y} is p = subst (λ r. Calls stands knows a b f f (both >>= (λ z. done (same_object z.0 z.1))) (Ok r)) (sym (is ∙ same_is x y)) (record {
     stands_is = p.stands_is;
-    ran = λ k s m. let u = p.ran k s m in (u.0, u.1, ran_give (λ z. same_object z.0 z.1) (x, y) u.2, u.3);
+    ran = λ k s m. let u = p.ran k s m in (u.0, u.1, made_of (spending u.2) (ran_give (λ z. same_object z.0 z.1) (x, y) u.2.ran), u.3);
   })

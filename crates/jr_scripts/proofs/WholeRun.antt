@@ -13,7 +13,7 @@ use Rattle.jr_rule.specs.declared.known.Known.{Known}
 use Rattle.jr_rule.specs.Knowing.{Standing, IsOf, view, Holds}
 use Rattle.jr_rule.specs.declared.plain.PlainSteps.{PlainSteps}
 use Rattle.jr_rule.specs.Plain.{unseen, standing, Shows}
-use Rattle.jr_scripts.specs.Deeds.{moment}
+use Rattle.jr_scripts.specs.Performing.{moment}
 use Rattle.jr_scripts.specs.Text.{heading, ending}
 use Rattle.jr_scripts.specs.Explains.{Explained}
 use Rattle.jr_scripts.specs.Runs.{RanThread, IsRun, seeing, opening_moment}
@@ -32,13 +32,13 @@ module _ {S : Type 0} {stands : S → Standing} {knows : S → Known → Type 0}
   opening_holds c last p = refl
 
   pub is_run : {old new : S} {f g : Frames} (turns last : ℕ) (c : Config) (part : ThreadPart) (lines whole : List ℕ) (v : Summary)
-      → c.threads ≡ 1 → (stands old).config ≡ c → (stands old).last ≡ last → (stands old).thread ≡ 0
+      → c.threads ≡ 1 → (stands old).config ≡ c → (stands old).last ≡ last → (stands old).thread ≡ 0 → (stands old).fresh ≡ true
       → knows old (unseen c last) → f ≡ fresh_frames c.locals
       → RanThread stands knows old new f g turns 3 part.commands (Ok tt) lines
       → ((k : Known) → knows new k → v ≡ summary k.config k.last (state k.seen))
       → whole ≡ heading part.name ++ lines ++ ending v
       → IsRun turns last c part whole
-  is_run {old} {new} {f} {g} turns last c part lines whole v one config_is last_is thread_is known fresh ran tells whole_is =
+  is_run {old} {new} {f} {g} turns last c part lines whole v one config_is last_is thread_is unspent known fresh ran tells whole_is =
       let k0 = unseen c last in
       let x = ran.explained k0 known (subst (λ h. Holds h k0) (sym fresh) (opening_holds c last)) in
       let k = x.0 in
@@ -48,14 +48,16 @@ module _ {S : Type 0} {stands : S → Standing} {knows : S → Known → Type 0}
       let thread_of : k.thread ≡ 0 = of.thread ∙ (ran.stands_is.thread ∙ thread_is) in
       let legal : IsLegal c last k.seen = subst (λ d. IsLegal d last k.seen) config_of (subst (λ l. IsLegal k.config l k.seen) last_of of.legal) in
       let sum : v ≡ summary c last (state k.seen) = tells k x.1 ∙ (ap (λ d. summary d k.last (state k.seen)) config_of ∙ ap (λ l. summary c l (state k.seen)) last_of) in
-      let from : Explained turns 3 (opening_moment c last) part.commands lines (moment k g) = subst (λ h. Explained turns 3 (moment k0 h) part.commands lines (moment k g)) fresh x.3 in
+      let end = moment (stands new).fresh k g in
+      let from : Explained turns 3 (opening_moment c last) part.commands lines end = subst (λ b. Explained turns 3 (moment b k0 (fresh_frames c.locals)) part.commands lines end) unspent (subst (λ h. Explained turns 3 (moment (stands old).fresh k0 h) part.commands lines end) fresh x.3) in
       record {
         seen = k.seen;
-        frames = g;
         lines = lines;
         legal = legal;
         alone = unbarred c last one k.seen legal;
-        explained = subst (λ (p : PassView). Explained turns 3 (opening_moment c last) part.commands lines (record { pass = p; frames = g })) (same_view c last k config_of last_of thread_of) from;
+        closing = end;
+        saw = same_view c last k config_of last_of thread_of;
+        explained = from;
         text_is = whole_is ∙ ap (λ s. heading part.name ++ lines ++ ending s) sum;
       }
 
@@ -76,4 +78,4 @@ plain_run {old} {new} {f} {g} {commands} turns c part lines whole v made one con
     (subst (λ b. Shows (standing c 65535 Outside b) made.words.items (unseen c 65535)) (sym fresh_is) opening))) in
     let Leads : List Command → Result (Unit {0}) Fault → Type 0
     = λ cs r. RanThread (λ (s : PlainSteps 65535). standing s.config 65535 s.role s.fresh) (λ s k. Shows (standing s.config 65535 s.role s.fresh) s.words.items k) old new f g turns 3 cs r lines in
-    is_run (λ s k h. h.pass) turns 65535 c part lines whole v one (ap (λ (s : PlainSteps 65535). s.config) same ∙ config_is) refl refl known (fresh ∙ ap (λ d. fresh_frames d.locals) config_is) (subst (λ cs. Leads cs (Ok tt)) these (subst (Leads commands) good ran)) tells whole_is
+    is_run (λ s k h. h.pass) turns 65535 c part lines whole v one (ap (λ (s : PlainSteps 65535). s.config) same ∙ config_is) refl refl (ap (λ (s : PlainSteps 65535). s.fresh) same ∙ fresh_is) known (fresh ∙ ap (λ d. fresh_frames d.locals) config_is) (subst (λ cs. Leads cs (Ok tt)) these (subst (Leads commands) good ran)) tells whole_is

@@ -1,5 +1,5 @@
 -- Runs of scripts of several threads, in one room and one history.
-use Rattle.std.specs.Prelude.{◌≡◌, ◌+◌, ◌<◌, ◌^◌, ℕ, zero, suc, List, [], ◌∷◌, ◌++◌, map, length, Result, Ok, Err}
+use Rattle.std.specs.Prelude.{◌≡◌, ◌+◌, ◌<◌, ◌^◌, ℕ, zero, suc, true, List, [], ◌∷◌, ◌++◌, map, length, Result, Ok, Err}
 use mathlib.Core.List.{IsPrefix}
 use Rattle.jr_word.specs.declared.config.Config.{Config}
 use Rattle.jr_word.specs.declared.fault.Fault.{Fault}
@@ -13,7 +13,8 @@ use Rattle.jr_syntax.specs.declared.thread.ThreadPart.{ThreadPart}
 use Rattle.jr_syntax.specs.declared.script.Script.{Script}
 use Rattle.jr_rule.specs.declared.pass.Pass.{Pass}
 use Rattle.jr_rule.specs.Passes.{standing_of, Knows}
-use Rattle.jr_scripts.specs.Deeds.{Moment}
+use Rattle.jr_scripts.specs.Performing.{Moment}
+use Rattle.jr_rule.specs.Grasping.{empty}
 use Rattle.jr_scripts.specs.Text.{heading, ending}
 use Rattle.jr_scripts.specs.Explains.{Explained}
 use Rattle.jr_scripts.specs.Runs.{RanThread}
@@ -29,7 +30,7 @@ seeing_as c last t seen = record { config = c; last = last; thread = t; seen = s
 
 -- before the thread's first command: it has seen nothing, and no local reference stands
 abbrev pub opening_of : Config → ℕ → ℕ → Moment
-opening_of c last t = record { pass = seeing_as c last t []; frames = fresh_frames c.locals }
+opening_of c last t = record { pass = seeing_as c last t []; frames = fresh_frames c.locals; held = empty; fresh = true; taken = 0 }
 
 -- what closing the room adds: the first thread looks at the gate
 abbrev pub closing_acts : ℕ → List Act
@@ -39,8 +40,9 @@ closing_acts (suc t) = []
 -- A THREAD'S PART in the one history: a beginning of it explains the thread's lines, and it has no more of the thread's events
 pub record IsPartOf (turns last : ℕ) (c : Config) (whole : History) (t first : ℕ) (part : ThreadPart) (lines : List ℕ) : Type 0 where
   pub seen : History
-  pub frames : Frames
-  pub explained : Explained turns first (opening_of c last t) part.commands lines (record { pass = seeing_as c last t seen; frames = frames })
+  pub closing : Moment
+  pub saw : closing.pass ≡ seeing_as c last t seen
+  pub explained : Explained turns first (opening_of c last t) part.commands lines closing
   pub begins : IsPrefix seen whole
   pub own : mine whole t ≡ mine seen t ++ closing_acts t
 

@@ -7,30 +7,27 @@ use Rattle.jr_word.specs.declared.config.Config.{Config}
 use Rattle.jr_word.specs.declared.fault.Fault.{Fault}
 use Rattle.jr_model.specs.State.{Handle, State}
 use Rattle.jr_model.specs.References as references
-use Rattle.jr_model.specs.History.{PassView, state}
+use Rattle.jr_model.specs.History.{state}
 use Rattle.jr_model.specs.Frames.{Frames}
-use Rattle.jr_model.specs.Calls.{Call, Ran}
+use Rattle.jr_model.specs.Calls.{Call}
 use Rattle.jr_model.specs.Tests.{Word}
 use Rattle.jr_rule.specs.declared.known.Known.{Known}
-use Rattle.jr_rule.specs.Knowing.{Standing, view, Holds}
+use Rattle.jr_rule.specs.Grasping.{empty}
+use Rattle.jr_rule.specs.Knowing.{Standing, Holds}
 use Rattle.jr_scripts.specs.Reading.{IsReadAs}
-use Rattle.jr_scripts.specs.Performing.{IsAsBefore}
-
--- a moment of an env: what its pass knows, and the frames
-pub record Moment : Type 0 where
-  pub pass : PassView
-  pub frames : Frames
-
-abbrev pub moment : Known → Frames → Moment
-moment k f = record { pass = view k; frames = f }
+use Rattle.jr_scripts.specs.Performing.{IsAsBefore, Moment, moment, IsMade}
 
 -- from an old moment this answer and the new moment may come
 abbrev pub Deed : Type 0 → Type 1
 Deed A = Moment → Result A Fault → Moment → Type 0
 
--- a call of the env: its events, and the answer that it may have
+-- a call of the env: its events, and the answer that it may have; it takes one operation for each event, and at most so many more; and afterwards the thread holds nothing
+abbrev pub call_by : {A : Type 0} → (Config → ℕ) → (Config → ℕ → ℕ → State → Call A) → Deed A
+call_by silent asked old answer new = IsMade (silent old.pass.config) old new (asked old.pass.config old.pass.last old.pass.thread (state new.pass.seen)) answer × (new.held ≡ empty)
+
+-- a call that takes no operation but its events
 abbrev pub call : {A : Type 0} → (Config → ℕ → ℕ → State → Call A) → Deed A
-call asked old answer new = Ran old.pass new.pass old.frames new.frames (asked old.pass.config old.pass.last old.pass.thread (state new.pass.seen)) answer
+call asked = call_by (λ c. 0) asked
 
 -- a call that is handed a reference word
 abbrev pub call_on : {A : Type 0} → ℕ → (Config → ℕ → ℕ → State → Word → Call A) → Deed A
@@ -71,9 +68,9 @@ abbrev pub packed_if : Option Handle → Option HandleWord
 packed_if None = None
 packed_if (Some h) = Some (packed h)
 
--- NewPlain: a plain object and a local reference to it
+-- NewPlain: a plain object and a local reference to it, with at most one operation for each object number beside its events
 abbrev pub new_plain : Deed HandleWord
-new_plain = answered_by packed (call (λ c last t s. references.new_plain c last t))
+new_plain = answered_by packed (call_by (λ c. c.objects) (λ c last t s. references.new_plain c last t))
 
 -- NewGlobalRef, NewWeakGlobalRef
 abbrev pub new_reference : RefKind → ℕ → Deed (Option HandleWord)
@@ -103,4 +100,4 @@ module _ {S : Type 0} (stands : S → Standing) (knows : S → Known → Type 0)
   -- the deed was done: for whatever was known, something is known that it may lead to
   pub record Does {A : Type 0} (old new : S) (before after : Frames) (deed : Deed A) (answer : Result A Fault) : Type 0 where
     pub stands_is : IsAsBefore (stands old) (stands new)
-    pub did : (k : Known) → knows old k → Holds before k → (k' : Known) × knows new k' × Holds after k' × deed (moment k before) answer (moment k' after)
+    pub did : (k : Known) → knows old k → Holds before k → (k' : Known) × knows new k' × Holds after k' × deed (moment (stands old).fresh k before) answer (moment (stands new).fresh k' after)

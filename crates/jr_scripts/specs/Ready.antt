@@ -1,5 +1,5 @@
 -- A thread and its frames, between the steps of a call and between calls.
-use Rattle.std.specs.Prelude.{◌≡◌, Result, length}
+use Rattle.std.specs.Prelude.{◌≡◌, ℕ, Result, length}
 use Rattle.jr_word.specs.declared.fault.Fault.{Fault}
 use Rattle.jr_model.specs.declared.event.Role.{Role}
 use Rattle.jr_model.specs.declared.event.Role.TheVariants.{Outside}
@@ -7,7 +7,7 @@ use Rattle.jr_model.specs.Calls.{Call}
 use Rattle.jr_rule.specs.declared.known.Known.{Known}
 use Rattle.jr_rule.specs.Knowing.{Standing, MayKnow, Holds}
 use Rattle.jr_scripts.specs.Table.{Table}
-use Rattle.jr_scripts.specs.Performing.{Calls}
+use Rattle.jr_scripts.specs.Performing.{CallsWhole}
 
 -- frames of the same thread, with as many places
 pub record KeepsOwner (old new : Table) : Type 0 where
@@ -24,7 +24,7 @@ module _ {S : Type 0} (stands : S → Standing) (knows : S → Known → Type 0)
     pub places : length t.frames.given ≡ (stands s).config.locals
     pub agrees : MayKnow knows s (Holds t.frames)
 
-  -- a whole call was made, and the next can be
-  pub record Completes {A : Type 0} (old new : S) (before after : Table) (asked : Call A) (answer : Result A Fault) : Type 0 where
-    pub call : Calls stands knows old new before.frames after.frames asked answer
+  -- a whole call was made, by at most so many operations beside its acts, and the next can be
+  pub record Completes {A : Type 0} (old new : S) (before after : Table) (silent : ℕ) (asked : Call A) (answer : Result A Fault) : Type 0 where
+    pub call : CallsWhole stands knows old new before.frames after.frames silent asked answer
     pub ready : IsReady Outside new after

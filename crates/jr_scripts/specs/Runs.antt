@@ -15,8 +15,8 @@ use Rattle.jr_syntax.specs.declared.thread.ThreadPart.{ThreadPart}
 use Rattle.jr_syntax.specs.declared.script.Script.{Script}
 use Rattle.jr_rule.specs.declared.known.Known.{Known}
 use Rattle.jr_rule.specs.Knowing.{Standing, Holds}
-use Rattle.jr_scripts.specs.Performing.{IsAsBefore}
-use Rattle.jr_scripts.specs.Deeds.{Moment, moment}
+use Rattle.jr_rule.specs.Grasping.{empty}
+use Rattle.jr_scripts.specs.Performing.{IsAsBefore, Moment, moment}
 use Rattle.jr_scripts.specs.declared.reply.Reply.{Reply}
 use Rattle.jr_scripts.specs.Names.{Names}
 use Rattle.jr_scripts.specs.Text.{printed, names_after, heading, ending}
@@ -26,7 +26,7 @@ module _ {S : Type 0} (stands : S → Standing) (knows : S → Known → Type 0)
   -- the commands were run: for whatever was known, something is known that explains the text
   pub record RanThread (old new : S) (before after : Frames) (turns first : ℕ) (commands : List Command) (answer : Result (Unit {0}) Fault) (text : List ℕ) : Type 0 where
     pub stands_is : IsAsBefore (stands old) (stands new)
-    pub explained : (k : Known) → knows old k → Holds before k → (k' : Known) × knows new k' × Holds after k' × Leaves turns first (moment k before) commands answer text (moment k' after)
+    pub explained : (k : Known) → knows old k → Holds before k → (k' : Known) × knows new k' × Holds after k' × Leaves turns first (moment (stands old).fresh k before) commands answer text (moment (stands new).fresh k' after)
 
 -- what is kept of a command that was done: its line is written and its name set, or memory was refused and nothing is written
 abbrev pub WritesDown : ℕ → Command → Result Reply Fault → Names → Names → Result (Unit {0}) AllocError → List ℕ → List ℕ → Type 0
@@ -39,7 +39,7 @@ seeing c last seen = record { config = c; last = last; thread = 0; seen = seen }
 
 -- before the first command: nothing has happened, and no local reference stands
 abbrev pub opening_moment : Config → ℕ → Moment
-opening_moment c last = record { pass = seeing c last []; frames = fresh_frames c.locals }
+opening_moment c last = record { pass = seeing c last []; frames = fresh_frames c.locals; held = empty; fresh = true; taken = 0 }
 
 -- thread 0 did it, and it is no knock at a shut gate, and no shut that others were in the way of
 pub record IsUnbarred (e : Event) : Type 0 where
@@ -50,11 +50,12 @@ pub record IsUnbarred (e : Event) : Type 0 where
 -- A RUN of a script of one thread: there is a legal history of the sequential machine, with the events of its commands' calls and no others, that explains the text; no call was barred or refused a shut; and the last lines tell of the last state
 pub record IsRun (turns last : ℕ) (c : Config) (part : ThreadPart) (text : List ℕ) : Type 0 where
   pub seen : History
-  pub frames : Frames
   pub lines : List ℕ
   pub legal : IsLegal c last seen
   pub alone : AllByRecursion IsUnbarred seen
-  pub explained : Explained turns 3 (opening_moment c last) part.commands lines (record { pass = seeing c last seen; frames = frames })
+  pub closing : Moment
+  pub saw : closing.pass ≡ seeing c last seen
+  pub explained : Explained turns 3 (opening_moment c last) part.commands lines closing
   pub text_is : text ≡ heading part.name ++ lines ++ ending (summary c last (state seen))
 
 -- the part of a script of one thread, whose sizes are within the limits

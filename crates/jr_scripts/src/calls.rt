@@ -8,7 +8,7 @@ ghost use Rattle.jr_model.specs.References as references;
 ghost use Rattle.jr_model.specs.References.{new_local, creation, local_creation, comparison, making, removal, local_removal};
 ghost use Rattle.jr_rule.specs.Knowing.{MayKnow, HasOptional};
 ghost use Rattle.jr_scripts.specs.Reading.{word_of, OwnerFits};
-ghost use Rattle.jr_scripts.specs.Performing.{Calls, MakesLocal};
+ghost use Rattle.jr_scripts.specs.Performing.{Calls, MakesLocal, MakesObject};
 ghost use Rattle.jr_scripts.specs.Ready.{IsReady, KeepsOwner, Completes};
 
 use crate::frames::Frames;
@@ -23,7 +23,7 @@ use jr_word::{Fault, HandleParts, Kind, RefKind};
 /// Makes a plain object and a local reference to it: E9, E11, E13.
 pub fn new_plain<S: Steps>(steps: &mut S, frames: &mut Frames) -> Result<HandleParts, Fault>
     requires { IsReady S.stands S.knows Outside steps.old frames.old }
-    ensures call { Completes S.stands S.knows steps.old steps.new frames.old frames.new (references.new_plain (S.stands steps.old).config (S.stands steps.old).last (S.stands steps.old).thread) result }
+    ensures call { Completes S.stands S.knows steps.old steps.new frames.old frames.new (S.stands steps.old).config.objects (references.new_plain (S.stands steps.old).config (S.stands steps.old).last (S.stands steps.old).thread) result }
     ensures owner { IfOk result (λ h. (h.kind ≡ Local) × (h.owner ≡ (S.stands steps.old).thread)) }
 {
     let inside = enter(steps)?;
@@ -42,7 +42,7 @@ pub fn new_reference<S: Steps>(
     requires ready { IsReady S.stands S.knows Outside steps.old frames.now }
     requires kind { kind ≢ Local }
     requires fits { OwnerFits reference }
-    ensures call { Completes S.stands S.knows steps.old steps.new frames.now frames.now (references.new_reference (S.stands steps.old).config (S.stands steps.old).last (S.stands steps.old).thread kind (word_of reference)) result }
+    ensures call { Completes S.stands S.knows steps.old steps.new frames.now frames.now 0 (references.new_reference (S.stands steps.old).config (S.stands steps.old).last (S.stands steps.old).thread kind (word_of reference)) result }
     ensures owner { IfOk result (λ made. IfSome made (λ h. h.owner ≡ 0)) }
 {
     let inside = enter(steps)?;
@@ -59,7 +59,7 @@ pub fn new_local_ref<S: Steps>(
 ) -> Result<Option<HandleParts>, Fault>
     requires ready { IsReady S.stands S.knows Outside steps.old frames.old }
     requires fits { OwnerFits reference }
-    ensures call { Completes S.stands S.knows steps.old steps.new frames.old frames.new (references.new_local_ref (S.stands steps.old).config (S.stands steps.old).last (S.stands steps.old).thread (word_of reference)) result }
+    ensures call { Completes S.stands S.knows steps.old steps.new frames.old frames.new 0 (references.new_local_ref (S.stands steps.old).config (S.stands steps.old).last (S.stands steps.old).thread (word_of reference)) result }
     ensures owner { IfOk result (λ made. IfSome made (λ h. (h.kind ≡ Local) × (h.owner ≡ (S.stands steps.old).thread))) }
 {
     let inside = enter(steps)?;
@@ -78,7 +78,7 @@ pub fn delete_reference<S: Steps>(
     requires ready { IsReady S.stands S.knows Outside steps.old frames.now }
     requires kind { kind ≢ Local }
     requires fits { OwnerFits reference }
-    ensures { Completes S.stands S.knows steps.old steps.new frames.now frames.now (references.delete_reference (S.stands steps.old).config (S.stands steps.old).last (S.stands steps.old).thread kind (word_of reference)) result }
+    ensures { Completes S.stands S.knows steps.old steps.new frames.now frames.now 0 (references.delete_reference (S.stands steps.old).config (S.stands steps.old).last (S.stands steps.old).thread kind (word_of reference)) result }
 {
     let inside = enter(steps)?;
     let deleted = delete_within(steps, kind, reference);
@@ -93,7 +93,7 @@ pub fn delete_local_ref<S: Steps>(
     reference: Reference,
 ) -> Result<(), Fault>
     requires { IsReady S.stands S.knows Outside steps.old frames.old }
-    ensures { Completes S.stands S.knows steps.old steps.new frames.old frames.new (references.delete_local_ref (S.stands steps.old).config (S.stands steps.old).last (S.stands steps.old).thread (word_of reference)) result }
+    ensures { Completes S.stands S.knows steps.old steps.new frames.old frames.new 0 (references.delete_local_ref (S.stands steps.old).config (S.stands steps.old).last (S.stands steps.old).thread (word_of reference)) result }
 {
     let inside = enter(steps)?;
     let deleted = delete_local_within(steps, frames, reference);
@@ -111,7 +111,7 @@ pub fn is_same_object<S: Steps>(
     requires ready { IsReady S.stands S.knows Outside steps.old frames.now }
     requires left { OwnerFits left }
     requires right { OwnerFits right }
-    ensures { Completes S.stands S.knows steps.old steps.new frames.now frames.now (references.is_same_object (S.stands steps.old).config (S.stands steps.old).last (S.stands steps.old).thread (word_of left) (word_of right)) result }
+    ensures { Completes S.stands S.knows steps.old steps.new frames.now frames.now 0 (references.is_same_object (S.stands steps.old).config (S.stands steps.old).last (S.stands steps.old).thread (word_of left) (word_of right)) result }
 {
     let inside = enter(steps)?;
     let same = compare_within(steps, frames, left, right);
@@ -127,7 +127,7 @@ pub fn get_object_ref_type<S: Steps>(
 ) -> Result<u8, Fault>
     requires ready { IsReady S.stands S.knows Outside steps.old frames.now }
     requires fits { OwnerFits reference }
-    ensures { Completes S.stands S.knows steps.old steps.new frames.now frames.now (references.get_object_ref_type (S.stands steps.old).config (S.stands steps.old).last (S.stands steps.old).thread (word_of reference)) result }
+    ensures { Completes S.stands S.knows steps.old steps.new frames.now frames.now 0 (references.get_object_ref_type (S.stands steps.old).config (S.stands steps.old).last (S.stands steps.old).thread (word_of reference)) result }
 {
     let inside = enter(steps)?;
     let kind = type_of(steps, frames, reference);
@@ -138,7 +138,7 @@ pub fn get_object_ref_type<S: Steps>(
 /// A plain object and a local reference to it, within the gate: E9, E11.
 fn make_plain<S: Steps>(steps: &mut S, frames: &mut Frames) -> Result<HandleParts, Fault>
     requires { IsReady S.stands S.knows Within steps.old frames.old }
-    ensures call { Calls S.stands S.knows steps.old steps.new frames.old.frames frames.new.frames (making (S.stands steps.old).config (S.stands steps.old).last (S.stands steps.old).thread) result }
+    ensures call { MakesObject S.stands S.knows steps.old steps.new frames.old.frames frames.new.frames (S.stands steps.old).config.objects (making (S.stands steps.old).config (S.stands steps.old).last (S.stands steps.old).thread) result }
     ensures same { KeepsOwner frames.old frames.new }
     ensures owner { IfOk result (λ h. (h.kind ≡ Local) × (h.owner ≡ (S.stands steps.old).thread)) }
 {

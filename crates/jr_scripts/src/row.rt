@@ -88,7 +88,7 @@ fn try_slot<S: Steps>(steps: &mut S, index: u16, kind: RefKind, object: u16) -> 
     }
 }
 
-/// A new reference to a present object, in the first slot that is found free: E8 where none is.
+/// A new reference to a present object, in the first slot that is found free: E8 where none is. At most two operations a slot.
 pub fn create<S: Steps>(steps: &mut S, kind: RefKind, object: u16) -> Result<HandleParts, Fault>
     requires role { (S.stands steps.old).role ≡ Within }
     requires kind { kind ≢ Local }
@@ -111,7 +111,7 @@ pub fn delete<S: Steps>(steps: &mut S, handle: HandleParts) -> Result<(), Fault>
     requires role { (S.stands steps.old).role ≡ Within }
     requires row { handle.index < (S.stands steps.old).config.slots }
     requires kind { (handle.kind ≢ Local) × (handle.owner ≡ 0) }
-    ensures { (f : Frames) → Performed S.stands S.knows steps.old steps.new f f anything (λ s. deletion handle) result anything }
+    ensures { (f : Frames) → Performed S.stands S.knows steps.old steps.new f f 0 anything (λ s. deletion handle) result keeps }
 {
     let object = object_found(look(steps, handle))?;
     if steps.free(handle, object) {

@@ -1,3 +1,5 @@
+use Rattle.std.proofs.Common.{◌≡◌, ap, arith}
+use Rattle.jr_word.specs.declared.config.Config.{Config}
 use Rattle.jr_scripts.proofs.Publishing.{may_claim, passed_nothing, passed_more, published_new}
 use Rattle.jr_scripts.proofs.object.publish.Goals as goal
 
@@ -8,7 +10,8 @@ pub claim_header-requires-clause-filled : goal.claim_header-requires-clause-fill
 claim_header-requires-clause-filled g c = may_claim g.met.S.Steps.fits c.loop-object.steps c.args.kind (g.met.S.Steps.some_known c.loop-object.steps)
 
 pub returns-then-claim_header-clause-ok : goal.returns-then-claim_header-clause-ok
-returns-then-claim_header-clause-ok g c = published_new g.met.S.Steps.fits c.loop-object.invariant c.if-claim_header.ensures
+returns-then-claim_header-clause-ok g c = let e : c.config-objects.result.objects ≡ (g.S.Steps.stands c.args.steps.now).config.objects = ap (λ (r : Config). r.objects) c.config-objects.ensures in
+    published_new g.met.S.Steps.fits (omega arith) c.loop-object.invariant c.if-claim_header.ensures
 
 pub loop-object-preserved : goal.loop-object-preserved
 loop-object-preserved g c = passed_more g.met.S.Steps.fits c.args.kind c.loop-object.object c.requires c.loop-object.invariant c.if-claim_header.ensures
