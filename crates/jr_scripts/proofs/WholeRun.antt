@@ -17,7 +17,8 @@ use Rattle.jr_scripts.specs.Deeds.{moment}
 use Rattle.jr_scripts.specs.Text.{heading, ending}
 use Rattle.jr_scripts.specs.Explains.{Explained}
 use Rattle.jr_scripts.specs.Runs.{RanThread, IsRun, seeing, opening_moment}
-use Rattle.jr_scripts.proofs.Alone.{unbarred}
+use Rattle.jr_scripts.proofs.Alone.{undisturbed}
+use Rattle.jr_scripts.proofs.AloneAnswers.{lone_pass, unbarred, went_alone}
 
 -- a pass of thread 0 in this room
 same_view : (c : Config) (last : ℕ) (k : Known) → k.config ≡ c → k.last ≡ last → k.thread ≡ 0 → view k ≡ seeing c last k.seen
@@ -49,13 +50,18 @@ module _ {S : Type 0} {stands : S → Standing} {knows : S → Known → Type 0}
       let legal : IsLegal c last k.seen = subst (λ d. IsLegal d last k.seen) config_of (subst (λ l. IsLegal k.config l k.seen) last_of of.legal) in
       let sum : v ≡ summary c last (state k.seen) = tells k x.1 ∙ (ap (λ d. summary d k.last (state k.seen)) config_of ∙ ap (λ l. summary c l (state k.seen)) last_of) in
       let from : Explained turns 3 (opening_moment c last) part.commands lines (moment k g) = subst (λ h. Explained turns 3 (moment k0 h) part.commands lines (moment k g)) fresh x.3 in
+      let explained : Explained turns 3 (opening_moment c last) part.commands lines (record { pass = seeing c last k.seen; frames = g })
+      = subst (λ (p : PassView). Explained turns 3 (opening_moment c last) part.commands lines (record { pass = p; frames = g })) (same_view c last k config_of last_of thread_of) from in
+      let all = undisturbed c last one k.seen legal in
+      let went = went_alone turns 3 (opening_moment c last) (record { pass = seeing c last k.seen; frames = g }) part.commands lines explained.0 explained.1 (lone_pass (seeing c last k.seen) refl all) in
       record {
         seen = k.seen;
         frames = g;
         lines = lines;
         legal = legal;
-        alone = unbarred c last one k.seen legal;
-        explained = subst (λ (p : PassView). Explained turns 3 (opening_moment c last) part.commands lines (record { pass = p; frames = g })) (same_view c last k config_of last_of thread_of) from;
+        alone = unbarred k.seen all (went.mild tt);
+        explained = explained;
+        answers = went.answers;
         text_is = whole_is ∙ ap (λ s. heading part.name ++ lines ++ ending s) sum;
       }
 

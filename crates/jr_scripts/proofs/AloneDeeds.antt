@@ -1,0 +1,164 @@
+-- The commands of a thread that is alone.
+use Rattle.std.proofs.Common.{◌≡◌, ◌≢◌, inl, inr, ℕ, zero, suc, true, Option, Some, None, Result, Ok, Err, IfErr, refl, sym, subst, ◌∙◌}
+use Rattle.std.specs.List.{AllByRecursion}
+use mathlib.Core.List.{IsPrefix}
+use Rattle.jr_word.specs.declared.config.Config.{Config}
+use Rattle.jr_word.specs.declared.fault.Fault.{Fault}
+use Rattle.jr_word.specs.declared.fault.Fault.TheVariants.{Raced, Barred, Turns}
+use Rattle.jr_word.specs.declared.handle.RefKind.{RefKind}
+use Rattle.jr_word.specs.declared.handle.RefKind.TheVariants.{Local, Global, Weak}
+use Rattle.jr_word.specs.declared.handle.Handle.{Handle}
+use Rattle.jr_model.specs.declared.event.Act.TheVariants.{Knock}
+use Rattle.jr_model.specs.History.{PassView}
+use Rattle.jr_model.specs.State.{State}
+use Rattle.jr_model.specs.Frames.{Frames}
+use Rattle.jr_model.specs.Calls.{Call, entered}
+use Rattle.jr_model.specs.References as references
+use Rattle.jr_model.specs.Tests.{Word, Nothing, Malformed, Parts}
+use Rattle.jr_model.specs.Unchanged.{ChangesNothing}
+use Rattle.jr_model.proofs.Moments.{prefix_self, prefix_trans}
+use Rattle.jr_model.proofs.RefusedCalls.{refusals_change_nothing}
+use Rattle.jr_syntax.specs.declared.name.Reference.{Reference}
+use Rattle.jr_syntax.specs.declared.command.Command.{Command}
+use Rattle.jr_syntax.specs.declared.command.Command.TheVariants as commands
+use Rattle.jr_scripts.specs.Names.{Names, referent, wanted}
+use Rattle.jr_scripts.specs.Deeds.{Moment, Deed, call_on, call_on_both, decided, done, new_plain, new_reference, new_local_ref, delete_reference, delete_local_ref, is_same_object, get_object_ref_type, answered_by, ◌>>=◌}
+use Rattle.jr_scripts.specs.Tries.{Tried, answered, again, gave_up, is_tried_again}
+use Rattle.jr_scripts.specs.Commands.{deed, deleted, deleted_as, deleted_of, makes, the_reference, tried, type_of}
+use Rattle.jr_scripts.specs.AloneAnswers.{IsAloneFault}
+use Rattle.jr_scripts.proofs.AloneHistories.{all_prefix}
+use Rattle.jr_scripts.proofs.AloneCalls.{IsAlone, LedAlone, LeadsAlone, call_alone}
+use Rattle.jr_scripts.proofs.Mild.{IsMild, making_mild, creation_mild, local_creation_mild, comparison_mild, removal_mild, local_removal_mild, typing_mild}
+
+-- what is alone now was before
+pub was_alone : (old new : PassView) → new.thread ≡ old.thread → IsPrefix old.seen new.seen → IsAlone new → IsAlone old
+was_alone old new same begins a = record {
+  own = subst (λ t. AllByRecursion (λ e. e.thread ≡ t) old.seen) same (all_prefix (λ e. e.thread ≡ new.thread) old.seen new.seen begins a.own);
+  enters = all_prefix (λ e. e.act ≢ Knock) old.seen new.seen begins a.enters;
+}
+
+module _ (turns : ℕ) where
+  stayed : {A : Type 0} (p : PassView) (f : Frames) (answer : Result A Fault) → IfErr answer (IsAloneFault turns p f) → LedAlone turns p p f answer
+  stayed p f answer fault = record { thread = refl; begins = prefix_self p.seen; mild = λ m. m; fault = fault }
+
+  -- no event, and a refusal that is a lone thread's
+  decided_alone : {A : Type 0} (r : Result A Fault) → ((p : PassView) (f : Frames) → IfErr r (IsAloneFault turns p f)) → LeadsAlone turns (decided r)
+  decided_alone r fault = record {
+    led = λ old new answer alone d.
+        subst (λ (m : Moment). LedAlone turns old.pass m.pass m.frames answer) (sym d.1) (subst (LedAlone turns old.pass old.pass old.frames) (sym d.0) (stayed old.pass old.frames r (fault old.pass old.frames)));
+  }
+
+  done_alone : {A : Type 0} (x : A) → LeadsAlone turns (done x)
+  done_alone x = record {
+    led = λ old new answer alone d.
+        subst (λ (m : Moment). LedAlone turns old.pass m.pass m.frames answer) (sym d.1) (subst (LedAlone turns old.pass old.pass old.frames) (sym d.0) (stayed old.pass old.frames (Ok x) tt));
+  }
+
+  bind_alone : {A B : Type 0} {first : Deed A} {next : A → Deed B} → LeadsAlone turns first → ((x : A) → LeadsAlone turns (next x)) → LeadsAlone turns (first >>= next)
+  bind_alone {A} {B} {first} {next} p q = record { led = led }
+    where
+      led : (old new : Moment) (answer : Result B Fault) → IsAlone new.pass → (first >>= next) old answer new → LedAlone turns old.pass new.pass new.frames answer
+      led old new answer alone (inl r) =
+          let y = (q r.0).led r.1 new answer alone r.3 in
+          let x = p.led old r.1 (Ok r.0) (was_alone r.1.pass new.pass y.thread y.begins alone) r.2 in
+          record { thread = y.thread ∙ x.thread; begins = prefix_trans old.pass.seen r.1.pass.seen new.pass.seen x.begins y.begins; mild = λ m. y.mild (x.mild m); fault = y.fault }
+      led old new answer alone (inr r) =
+          let x = p.led old new (Err r.0) alone r.2 in
+          record { thread = x.thread; begins = x.begins; mild = x.mild; fault = subst (λ (z : Result B Fault). IfErr z (IsAloneFault turns new.pass new.frames)) (sym r.1) x.fault }
+
+  answered_alone : {A B : Type 0} (form : A → B) {one : Deed A} → LeadsAlone turns one → LeadsAlone turns (answered_by form one)
+  answered_alone form p = bind_alone p (λ x. done_alone (form x))
+
+-- no call of a lone thread is made again
+once_alone : {A : Type 0} (p : PassView) (f : Frames) (r : Result A Fault) → is_tried_again r ≡ true → IfErr r (IsAloneFault 0 p f) → ⊥
+once_alone p f (Err (Raced looked found)) m h = h
+once_alone p f (Err Barred) m h = h
+once_alone p f _ m h = cc
+
+tries_alone : {A : Type 0} {one : Deed A} → ((turns : ℕ) → LeadsAlone turns one) → (n : ℕ) (old new : Moment) (answer : Result A Fault) → IsAlone new.pass → Tried one n old answer new → LedAlone n old.pass new.pass new.frames answer
+tries_alone p (suc n) old new answer alone (answered d final) = (p (suc n)).led old new answer alone d
+tries_alone p (suc n) old new answer alone (again {mid = mid} {once = once} d more rest) =
+    let y = tries_alone p n mid new answer alone rest in
+    let x = (p 0).led old mid once (was_alone mid.pass new.pass y.thread y.begins alone) d in
+    absurd (once_alone mid.pass mid.frames once more x.fault)
+tries_alone p zero old new answer alone gave_up = stayed 0 old.pass old.frames (Err Turns) refl
+
+module _ (turns : ℕ) where
+  tried_alone : {A : Type 0} {one : Deed A} → ((n : ℕ) → LeadsAlone n one) → LeadsAlone turns (tried turns one)
+  tried_alone p = record { led = λ old new answer alone d. tries_alone p turns old new answer alone d }
+
+-- THE CALLS
+
+module _ (turns : ℕ) where
+  -- a call that is handed a reference word, and one that is handed two
+  on_alone : {A : Type 0} (w : ℕ) (work : Config → ℕ → ℕ → State → Word → Call A) → ((c : Config) (last t : ℕ) (s : State) (a : Word) → IsMild last (work c last t s a))
+      → ((c : Config) (last t : ℕ) (s : State) (a : Word) → ChangesNothing (entered (work c last t s a))) → LeadsAlone turns (call_on w (λ c last t s a. entered (work c last t s a)))
+  on_alone w work mild changes = record {
+    led = λ old new answer alone d. (call_alone turns (λ c last t s. work c last t s d.0) (λ c last t s. mild c last t s d.0) (λ c last t s. changes c last t s d.0)).led old new answer alone d.2;
+  }
+
+  on_both_alone : {A : Type 0} (v w : ℕ) (work : Config → ℕ → ℕ → State → Word → Word → Call A) → ((c : Config) (last t : ℕ) (s : State) (a b : Word) → IsMild last (work c last t s a b))
+      → ((c : Config) (last t : ℕ) (s : State) (a b : Word) → ChangesNothing (entered (work c last t s a b))) → LeadsAlone turns (call_on_both v w (λ c last t s a b. entered (work c last t s a b)))
+  on_both_alone v w work mild changes = record {
+    led = λ old new answer alone d. (call_alone turns (λ c last t s. work c last t s d.0 d.1) (λ c last t s. mild c last t s d.0 d.1) (λ c last t s. changes c last t s d.0 d.1)).led old new answer alone d.4;
+  }
+
+  plain_alone : LeadsAlone turns new_plain
+  plain_alone = answered_alone turns _ (call_alone turns (λ c last t s. references.making c last t) (λ c last t s. making_mild c last t) (λ c last t s. (refusals_change_nothing c last t s).new_plain))
+
+  reference_alone : (k : RefKind) (w : ℕ) → LeadsAlone turns (new_reference k w)
+  reference_alone k w = answered_alone turns _ (on_alone w (λ c last t s a. references.creation c last t k a) (λ c last t s a. creation_mild c last t k a) (λ c last t s a. (refusals_change_nothing c last t s).new_reference k a))
+
+  local_ref_alone : (w : ℕ) → LeadsAlone turns (new_local_ref w)
+  local_ref_alone w = answered_alone turns _ (on_alone w (λ c last t s a. references.local_creation c last t a) (λ c last t s a. local_creation_mild c last t a) (λ c last t s a. (refusals_change_nothing c last t s).new_local_ref a))
+
+  delete_alone : (k : RefKind) (w : ℕ) → LeadsAlone turns (delete_reference k w)
+  delete_alone k w = on_alone w (λ c last t s a. references.removal c k a) (λ c last t s a. removal_mild c last t k a) (λ c last t s a. (refusals_change_nothing c last t s).delete_reference k a)
+
+  delete_local_alone : (w : ℕ) → LeadsAlone turns (delete_local_ref w)
+  delete_local_alone w = on_alone w (λ c last t s a. references.local_removal c t a) (λ c last t s a. local_removal_mild c last t a) (λ c last t s a. (refusals_change_nothing c last t s).delete_local_ref a)
+
+  same_alone : (v w : ℕ) → LeadsAlone turns (is_same_object v w)
+  same_alone v w = on_both_alone v w (λ c last t s a b. references.comparison c last t a b) (λ c last t s a b. comparison_mild c last t a b) (λ c last t s a b. (refusals_change_nothing c last t s).is_same_object a b)
+
+  type_alone : (w : ℕ) → LeadsAlone turns (get_object_ref_type w)
+  type_alone w = on_alone w (λ c last t s a. references.typing c t a) (λ c last t s a. typing_mild c last t a) (λ c last t s a. (refusals_change_nothing c last t s).get_object_ref_type a)
+
+-- THE COMMANDS
+
+module _ (turns : ℕ) where
+  wanted_alone : (r : Option Handle) (p : PassView) (f : Frames) → IfErr (wanted r) (IsAloneFault turns p f)
+  wanted_alone (Some h) p f = tt
+  wanted_alone None p f = tt
+
+  the_reference_alone : (names : Names) (r : Reference) → LeadsAlone turns (the_reference turns names r)
+  the_reference_alone names r = decided_alone turns _ (wanted_alone (referent names r))
+
+  makes_alone : {one : Deed (Option Handle)} → ((n : ℕ) → LeadsAlone n one) → LeadsAlone turns (makes turns one)
+  makes_alone p = bind_alone turns (tried_alone turns p) (λ h. done_alone turns _)
+
+  deleted_of_alone : (k : RefKind) (w : ℕ) → LeadsAlone turns (deleted_of turns k w)
+  deleted_of_alone Local w = tried_alone turns (λ n. delete_local_alone n w)
+  deleted_of_alone Global w = tried_alone turns (λ n. delete_alone n Global w)
+  deleted_of_alone Weak w = tried_alone turns (λ n. delete_alone n Weak w)
+
+  deleted_as_alone : (w : ℕ) (a : Word) → LeadsAlone turns (deleted_as turns w a)
+  deleted_as_alone w Nothing = deleted_of_alone Local w
+  deleted_as_alone w Malformed = decided_alone turns _ (λ p f. tt)
+  deleted_as_alone w (Parts h) = deleted_of_alone h.kind w
+
+  deleted_alone : (w : ℕ) → LeadsAlone turns (deleted turns w)
+  deleted_alone w = record { led = λ old new answer alone d. (deleted_as_alone w d.0).led old new answer alone d.2 }
+
+  type_of_alone : (r : Option Handle) → LeadsAlone turns (type_of turns r)
+  type_of_alone None = done_alone turns 0
+  type_of_alone (Some h) = tried_alone turns (λ n. type_alone n h.0)
+
+  pub deed_alone : (names : Names) (c : Command) → LeadsAlone turns (deed turns names c)
+  deed_alone names (commands.Plain n) = bind_alone turns (tried_alone turns plain_alone) (λ h. done_alone turns _)
+  deed_alone names (commands.Global n r) = bind_alone turns (the_reference_alone names r) (λ w. makes_alone (λ n. reference_alone n Global w.0))
+  deed_alone names (commands.Weak n r) = bind_alone turns (the_reference_alone names r) (λ w. makes_alone (λ n. reference_alone n Weak w.0))
+  deed_alone names (commands.Local n r) = bind_alone turns (the_reference_alone names r) (λ w. makes_alone (λ n. local_ref_alone n w.0))
+  deed_alone names (commands.Drop r) = bind_alone turns (the_reference_alone names r) (λ w. bind_alone turns (deleted_alone w.0) (λ x. done_alone turns _))
+  deed_alone names (commands.Type r) = bind_alone turns (type_of_alone (referent names r)) (λ n. done_alone turns _)
+  deed_alone names (commands.Same q r) = bind_alone turns (the_reference_alone names q) (λ v. bind_alone turns (the_reference_alone names r) (λ w. bind_alone turns (tried_alone turns (λ n. same_alone n v.0 w.0)) (λ same. done_alone turns _)))
