@@ -28,13 +28,15 @@ pub went_alone : (turns first : ℕ) (old new : Moment) (commands : List Command
 went_alone turns first old new commands text names nothing alone = record { answers = tt; mild = λ m. m }
 went_alone turns first old new commands text names (then {before = done} {text = lines} {mid = mid} {names = set} c answer before did) alone =
     let y = (deed_alone turns set c).led mid new answer alone did in
-    let x = went_alone turns first old mid done lines set before (was_alone mid.pass new.pass y.thread y.begins alone) in
+    let x = went_alone turns first old mid done lines set before (was_alone y alone) in
     record { answers = (x.answers, y.fault); mild = λ m. y.mild (x.mild m) }
 
 -- a lone pass of thread 0 in a room of one thread
-pub lone_pass : (p : PassView) → p.thread ≡ 0 → AllByRecursion IsUndisturbed p.seen → IsAlone p
-lone_pass p same all = record {
-  own = all_map (λ e u. u.own ∙ sym same) p.seen all;
+pub lone_pass : (p : PassView) → p.config.threads ≡ 1 → p.thread ≡ 0 → AllByRecursion IsUndisturbed p.seen → IsAlone p
+lone_pass p one first all = record {
+  one = one;
+  first = first;
+  own = all_map (λ e u. u.own ∙ sym first) p.seen all;
   enters = all_map (λ e u. u.enters) p.seen all;
 }
 

@@ -1,10 +1,10 @@
 -- What the calls of a thread that is alone leave, and how they are refused.
-use Rattle.std.proofs.Common.{◌≡◌, ◌≢◌, inl, inr, ℕ, ◌<◌, ◌≤◌, true, List, [], ◌∷◌, Result, Ok, Err, IfErr, refl, sym, subst, ◌∙◌}
+use Rattle.std.proofs.Common.{◌≡◌, ◌≢◌, inl, inr, ℕ, ◌<◌, ◌≤◌, true, List, [], ◌∷◌, Result, Ok, Err, IfErr, refl, sym, subst, ◌∙◌, ap}
 use Rattle.std.specs.List.{AllByRecursion}
 use mathlib.Core.List.{IsPrefix}
 use Rattle.jr_word.specs.declared.config.Config.{Config}
 use Rattle.jr_word.specs.declared.fault.Fault.{Fault}
-use Rattle.jr_word.specs.declared.fault.Fault.TheVariants.{Stale, Foreign, WrongKind, RowFull, LocalsFull, ObjectsFull}
+use Rattle.jr_word.specs.declared.fault.Fault.TheVariants.{Stale, RowFull, LocalsFull, ObjectsFull}
 use Rattle.jr_model.specs.declared.event.Event.{Event}
 use Rattle.jr_model.specs.declared.event.Act.{Act}
 use Rattle.jr_model.specs.declared.event.Act.TheVariants.{Knock, Leave}
@@ -22,8 +22,10 @@ use Rattle.jr_scripts.specs.AloneAnswers.{IsAloneFault}
 use Rattle.jr_scripts.proofs.AloneHistories.{all_back, own_acts, own_events, still_so, stays_occupied, stays_present}
 use Rattle.jr_scripts.proofs.Mild.{IsMildFault, is_mild_act, AreMild, IsMild}
 
--- all events that the pass has seen are its own, and none is a knock
+-- the room has one thread; all events that its pass has seen are its own, and none is a knock
 pub record IsAlone (p : PassView) : Type 0 where
+  pub one : p.config.threads ≡ 1
+  pub first : p.thread ≡ 0
   pub own : AllByRecursion (λ e. e.thread ≡ p.thread) p.seen
   pub enters : AllByRecursion (λ e. e.act ≢ Knock) p.seen
 
@@ -33,6 +35,7 @@ AllMild es = AllByRecursion (λ e. is_mild_act e.act ≡ true) es
 
 -- from one moment of a lone pass to another: what was seen begins what is seen, no reservation was lost in between, and a refusal is a lone thread's
 pub record LedAlone (turns : ℕ) {A : Type 0} (old new : PassView) (g : Frames) (answer : Result A Fault) : Type 0 where
+  pub config : new.config ≡ old.config
   pub thread : new.thread ≡ old.thread
   pub begins : IsPrefix old.seen new.seen
   pub mild : AllMild old.seen → AllMild new.seen
@@ -78,8 +81,6 @@ module _ {A : Type 0} (old new : PassView) (f g : Frames) (work : Call A) (alone
   -- a refusal of a call that no other thread causes
   fault_alone : (turns : ℕ) (e : Fault) → IsMildFault new.last g e → ChangesNothing work → Ran old new f g work (Err e) → IsAloneFault turns new g e
   fault_alone turns Stale mild changes r = tt
-  fault_alone turns Foreign mild changes r = tt
-  fault_alone turns WrongKind mild changes r = tt
   fault_alone turns LocalsFull mild changes r = mild
   fault_alone turns RowFull mild changes r = row_is_full changes r
   fault_alone turns ObjectsFull mild changes r = objects_are_full changes r
@@ -105,6 +106,7 @@ module _ {A : Type 0} (last : ℕ) (work : Call A) (mild : IsMild last work) whe
 
     ran_alone : (answer : Result A Fault) → Ran old new f g (entered work) answer → LedAlone turns old new g answer
     ran_alone answer r = record {
+      config = r.did.config;
       thread = r.did.thread;
       begins = r.did.begins;
       mild = λ before. subst AllMild r.did.begins.1 (append_all (λ e. is_mild_act e.act ≡ true) old.seen r.did.begins.0 before (since old new f g (entered work) alone (λ a. is_mild_act a ≡ true) answer r (acts_mild f g r.acts answer r.is)));
@@ -112,10 +114,12 @@ module _ {A : Type 0} (last : ℕ) (work : Call A) (mild : IsMild last work) whe
     }
 
 -- a call with a stay of its own
-pub call_alone : {A : Type 0} (turns : ℕ) (work : Config → ℕ → ℕ → State → Call A) → ((c : Config) (last t : ℕ) (s : State) → IsMild last (work c last t s)) → ((c : Config) (last t : ℕ) (s : State) → ChangesNothing (entered (work c last t s)))
+pub call_alone : {A : Type 0} (turns : ℕ) (work : Config → ℕ → ℕ → State → Call A) → ((c : Config) (last t : ℕ) (s : State) → c.threads ≡ 1 → t ≡ 0 → IsMild last (work c last t s)) → ((c : Config) (last t : ℕ) (s : State) → ChangesNothing (entered (work c last t s)))
     → LeadsAlone turns (call (λ c last t s. entered (work c last t s)))
 call_alone turns work mild changes = record {
   led = λ old new answer alone r.
-      ran_alone old.pass.last (work old.pass.config old.pass.last old.pass.thread (state new.pass.seen)) (mild old.pass.config old.pass.last old.pass.thread (state new.pass.seen)) turns
-      (changes old.pass.config old.pass.last old.pass.thread (state new.pass.seen)) old.pass new.pass old.frames new.frames refl alone answer (ran_of (λ c last t s. entered (work c last t s)) old new answer r);
+      let x = ran_of (λ c last t s. entered (work c last t s)) old new answer r in
+      let now = state new.pass.seen in
+      ran_alone old.pass.last (work old.pass.config old.pass.last old.pass.thread now) (mild old.pass.config old.pass.last old.pass.thread now (ap (λ c. c.threads) (sym x.did.config) ∙ alone.one) (sym x.did.thread ∙ alone.first)) turns
+      (changes old.pass.config old.pass.last old.pass.thread now) old.pass new.pass old.frames new.frames refl alone answer x;
 }

@@ -53,7 +53,7 @@ module _ {S : Type 0} {stands : S → Standing} {knows : S → Known → Type 0}
       let explained : Explained turns 3 (opening_moment c last) part.commands lines (record { pass = seeing c last k.seen; frames = g })
       = subst (λ (p : PassView). Explained turns 3 (opening_moment c last) part.commands lines (record { pass = p; frames = g })) (same_view c last k config_of last_of thread_of) from in
       let all = undisturbed c last one k.seen legal in
-      let went = went_alone turns 3 (opening_moment c last) (record { pass = seeing c last k.seen; frames = g }) part.commands lines explained.0 explained.1 (lone_pass (seeing c last k.seen) refl all) in
+      let went = went_alone turns 3 (opening_moment c last) (record { pass = seeing c last k.seen; frames = g }) part.commands lines explained.0 explained.1 (lone_pass (seeing c last k.seen) one refl all) in
       record {
         seen = k.seen;
         frames = g;

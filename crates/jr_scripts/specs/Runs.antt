@@ -49,7 +49,7 @@ pub record IsUnbarred (e : Event) : Type 0 where
   pub shuts : (n : ℕ) → e.act ≢ ShutBusy n
   pub reserves : (n looked found : ℕ) → e.act ≢ ReserveLost n looked found
 
--- A RUN of a script of one thread: there is a legal history of the sequential machine, with the events of its commands' calls and no others, that explains the text; no call was barred, refused a shut or raced, and each line tells of an answer that a lone thread may have; and the last lines tell of the last state
+-- A RUN of a script of one thread: there is a legal history of the sequential machine, with the events of its commands' calls and no others, that explains the text; no call was barred, refused a shut or raced, and each answer that is a refusal is a lone thread's; and the last lines tell of the last state
 pub record IsRun (turns last : ℕ) (c : Config) (part : ThreadPart) (text : List ℕ) : Type 0 where
   pub seen : History
   pub frames : Frames
