@@ -12,7 +12,12 @@ use Rattle.jr_model.specs.Steps.{ActNeeds, after}
 use Rattle.jr_model.specs.History.{History, IsLegalFrom, IsLegal, role_after}
 use Rattle.jr_model.proofs.Counts.{count_all_false}
 use Rattle.jr_model.proofs.Stays.{role_step}
-use Rattle.jr_scripts.specs.Runs.{IsUnbarred}
+
+-- thread 0 did it, and nobody was in its way at the gate
+pub record IsUndisturbed (e : Event) : Type 0 where
+  pub own : e.thread ≡ 0
+  pub enters : e.act ≢ Knock
+  pub shuts : (n : ℕ) → e.act ≢ ShutBusy n
 
 -- all threads but 0 are outside
 abbrev OthersOutside : State → Type 0
@@ -43,13 +48,13 @@ module _ (c : Config) (last : ℕ) (one : c.threads ≡ 1) where
       go true is = absurd (other (sym (Rattle.jr_model.proofs.Updates.eq_true e.thread t is) ∙ zero_th))
       go false is = o t other
 
-  unbarred_from : (s : State) (es : History) → OthersOutside s → IsLegalFrom c last s es → AllByRecursion IsUnbarred es
-  unbarred_from s [] o l = tt
-  unbarred_from s (e ∷ es) o l =
+  undisturbed_from : (s : State) (es : History) → OthersOutside s → IsLegalFrom c last s es → AllByRecursion IsUndisturbed es
+  undisturbed_from s [] o l = tt
+  undisturbed_from s (e ∷ es) o l =
       let below : e.thread < c.threads = l.0.0 in
       let zero_th : e.thread ≡ 0 = omega arith in
-      (record { own = zero_th; enters = never_knocks s e o l.0.1 zero_th; shuts = never_busy s e o l.0.1 zero_th }, unbarred_from (after s e) es (others_stay s e o zero_th) l.1)
+      (record { own = zero_th; enters = never_knocks s e o l.0.1 zero_th; shuts = never_busy s e o l.0.1 zero_th }, undisturbed_from (after s e) es (others_stay s e o zero_th) l.1)
 
   -- each event of a legal history in a room of one thread is that thread's, no knock, and no shut that was refused
-  pub unbarred : (es : History) → IsLegal c last es → AllByRecursion IsUnbarred es
-  unbarred es l = unbarred_from opening es (λ t other. refl) l
+  pub undisturbed : (es : History) → IsLegal c last es → AllByRecursion IsUndisturbed es
+  undisturbed es l = undisturbed_from opening es (λ t other. refl) l

@@ -3,6 +3,11 @@ pub mod Doing
 pub mod CommandDeeds
 pub mod Going
 pub mod Alone
+pub mod AloneHistories
+pub mod Mild
+pub mod AloneCalls
+pub mod AloneDeeds
+pub mod AloneAnswers
 pub mod WholeRun
 pub mod Places
 pub mod PlacesAdded

@@ -17,7 +17,8 @@ use Rattle.jr_scripts.specs.Performing.{moment}
 use Rattle.jr_scripts.specs.Text.{heading, ending}
 use Rattle.jr_scripts.specs.Explains.{Explained}
 use Rattle.jr_scripts.specs.Runs.{RanThread, IsRun, seeing, opening_moment}
-use Rattle.jr_scripts.proofs.Alone.{unbarred}
+use Rattle.jr_scripts.proofs.Alone.{undisturbed}
+use Rattle.jr_scripts.proofs.AloneAnswers.{lone_pass, unbarred, went_alone}
 
 -- a pass of thread 0 in this room
 same_view : (c : Config) (last : ℕ) (k : Known) → k.config ≡ c → k.last ≡ last → k.thread ≡ 0 → view k ≡ seeing c last k.seen
@@ -50,14 +51,17 @@ module _ {S : Type 0} {stands : S → Standing} {knows : S → Known → Type 0}
       let sum : v ≡ summary c last (state k.seen) = tells k x.1 ∙ (ap (λ d. summary d k.last (state k.seen)) config_of ∙ ap (λ l. summary c l (state k.seen)) last_of) in
       let end = moment (stands new).fresh k g in
       let from : Explained turns 3 (opening_moment c last) part.commands lines end = subst (λ b. Explained turns 3 (moment b k0 (fresh_frames c.locals)) part.commands lines end) unspent (subst (λ h. Explained turns 3 (moment (stands old).fresh k0 h) part.commands lines end) fresh x.3) in
+      let all = undisturbed c last one k.seen legal in
+      let went = went_alone turns 3 (opening_moment c last) end part.commands lines from.0 from.1 (lone_pass (view k) (ap (λ d. d.threads) config_of ∙ one) thread_of all) in
       record {
         seen = k.seen;
         lines = lines;
         legal = legal;
-        alone = unbarred c last one k.seen legal;
+        alone = unbarred k.seen all (went.mild tt);
         closing = end;
         saw = same_view c last k config_of last_of thread_of;
         explained = from;
+        answers = went.answers;
         text_is = whole_is ∙ ap (λ s. heading part.name ++ lines ++ ending s) sum;
       }
 

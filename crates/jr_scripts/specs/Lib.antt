@@ -9,6 +9,7 @@ pub mod Tries
 pub mod Commands
 pub mod Text
 pub mod Explains
+pub mod AloneAnswers
 pub mod Runs
 pub mod AllRuns
 pub mod Jobs

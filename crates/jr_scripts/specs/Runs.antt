@@ -6,7 +6,7 @@ use Rattle.jr_word.specs.declared.config.Config.{Config}
 use Rattle.jr_word.specs.declared.fault.Fault.{Fault}
 use Rattle.jr_word.specs.Config.{in_limits}
 use Rattle.jr_model.specs.declared.event.Event.{Event}
-use Rattle.jr_model.specs.declared.event.Act.TheVariants.{Knock, ShutBusy}
+use Rattle.jr_model.specs.declared.event.Act.TheVariants.{Knock, ReserveLost, ShutBusy}
 use Rattle.jr_model.specs.State.{summary}
 use Rattle.jr_model.specs.History.{History, state, IsLegal, PassView}
 use Rattle.jr_model.specs.Frames.{Frames, fresh_frames}
@@ -21,6 +21,7 @@ use Rattle.jr_scripts.specs.declared.reply.Reply.{Reply}
 use Rattle.jr_scripts.specs.Names.{Names}
 use Rattle.jr_scripts.specs.Text.{printed, names_after, heading, ending}
 use Rattle.jr_scripts.specs.Explains.{Explained, Leaves}
+use Rattle.jr_scripts.specs.AloneAnswers.{AnswersAlone}
 
 module _ {S : Type 0} (stands : S → Standing) (knows : S → Known → Type 0) where
   -- the commands were run: for whatever was known, something is known that explains the text
@@ -41,13 +42,14 @@ seeing c last seen = record { config = c; last = last; thread = 0; seen = seen }
 abbrev pub opening_moment : Config → ℕ → Moment
 opening_moment c last = record { pass = seeing c last []; frames = fresh_frames c.locals; held = empty; fresh = true; taken = 0 }
 
--- thread 0 did it, and it is no knock at a shut gate, and no shut that others were in the way of
+-- thread 0 did it, and it is no knock at a shut gate, no shut that others were in the way of, and no reservation that another was faster at
 pub record IsUnbarred (e : Event) : Type 0 where
   pub own : e.thread ≡ 0
   pub enters : e.act ≢ Knock
   pub shuts : (n : ℕ) → e.act ≢ ShutBusy n
+  pub reserves : (n looked found : ℕ) → e.act ≢ ReserveLost n looked found
 
--- A RUN of a script of one thread: there is a legal history of the sequential machine, with the events of its commands' calls and no others, that explains the text; no call was barred or refused a shut; and the last lines tell of the last state
+-- A RUN of a script of one thread: there is a legal history of the sequential machine, with the events of its commands' calls and no others, that explains the text; no call was barred, refused a shut or raced, and each answer that is a refusal is a lone thread's; and the last lines tell of the last state
 pub record IsRun (turns last : ℕ) (c : Config) (part : ThreadPart) (text : List ℕ) : Type 0 where
   pub seen : History
   pub lines : List ℕ
@@ -56,6 +58,7 @@ pub record IsRun (turns last : ℕ) (c : Config) (part : ThreadPart) (text : Lis
   pub closing : Moment
   pub saw : closing.pass ≡ seeing c last seen
   pub explained : Explained turns 3 (opening_moment c last) part.commands lines closing
+  pub answers : AnswersAlone explained.1
   pub text_is : text ≡ heading part.name ++ lines ++ ending (summary c last (state seen))
 
 -- the part of a script of one thread, whose sizes are within the limits

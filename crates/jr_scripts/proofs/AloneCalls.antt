@@ -1,0 +1,126 @@
+-- What the calls of a thread that is alone leave, and how they are refused.
+use Rattle.std.proofs.Common.{◌≡◌, ◌≢◌, inl, inr, ℕ, ◌<◌, ◌≤◌, true, List, [], ◌∷◌, Result, Ok, Err, IfErr, refl, sym, subst, ◌∙◌, ap}
+use Rattle.std.specs.List.{AllByRecursion}
+use mathlib.Core.List.{IsPrefix}
+use Rattle.jr_word.specs.declared.config.Config.{Config}
+use Rattle.jr_word.specs.declared.fault.Fault.{Fault}
+use Rattle.jr_word.specs.declared.fault.Fault.TheVariants.{Stale, RowFull, LocalsFull, ObjectsFull}
+use Rattle.jr_model.specs.declared.event.Event.{Event}
+use Rattle.jr_model.specs.declared.event.Act.{Act}
+use Rattle.jr_model.specs.declared.event.Act.TheVariants.{Knock, Leave}
+use Rattle.jr_model.specs.State.{State, IsPresent, IsOccupied}
+use Rattle.jr_model.specs.History.{History, state, PassView}
+use Rattle.jr_model.specs.Frames.{Frames}
+use Rattle.jr_model.specs.Calls.{Call, Ran, entered}
+use Rattle.jr_model.specs.Refusals.{RowWasFull, ObjectsWereFull}
+use Rattle.jr_model.specs.Unchanged.{is_harmless, may_precede, ChangesNothing}
+use Rattle.jr_model.proofs.Exactly.{append_all}
+use Rattle.jr_model.proofs.Moments.{prefix_trans}
+use Rattle.jr_model.proofs.Stays.{mine_did}
+use Rattle.jr_scripts.specs.Performing.{Moment}
+use Rattle.jr_scripts.specs.Deeds.{Deed, call_by}
+use Rattle.jr_scripts.specs.AloneAnswers.{IsAloneFault}
+use Rattle.jr_scripts.proofs.AloneHistories.{all_back, own_acts, own_events, still_so, stays_occupied, stays_present}
+use Rattle.jr_scripts.proofs.Mild.{IsMildFault, is_mild_act, AreMild, IsMild}
+
+-- the room has one thread; all events that its pass has seen are its own, and none is a knock
+pub record IsAlone (p : PassView) : Type 0 where
+  pub one : p.config.threads ≡ 1
+  pub first : p.thread ≡ 0
+  pub own : AllByRecursion (λ e. e.thread ≡ p.thread) p.seen
+  pub enters : AllByRecursion (λ e. e.act ≢ Knock) p.seen
+
+-- no event is a reservation that was lost
+abbrev pub AllMild : History → Type 0
+AllMild es = AllByRecursion (λ e. is_mild_act e.act ≡ true) es
+
+-- from one moment of a lone pass to another: what was seen begins what is seen, no reservation was lost in between, and a refusal is a lone thread's
+pub record LedAlone (turns : ℕ) {A : Type 0} (old new : PassView) (g : Frames) (answer : Result A Fault) : Type 0 where
+  pub config : new.config ≡ old.config
+  pub thread : new.thread ≡ old.thread
+  pub begins : IsPrefix old.seen new.seen
+  pub mild : AllMild old.seen → AllMild new.seen
+  pub fault : IfErr answer (IsAloneFault turns new g)
+
+-- what the deed leads to, where all that happened is the thread's own
+pub record LeadsAlone (turns : ℕ) {A : Type 0} (deed : Deed A) : Type 0 where
+  pub led : (old new : Moment) (answer : Result A Fault) → IsAlone new.pass → deed old answer new → LedAlone turns old.pass new.pass new.frames answer
+
+-- the events that are seen were the call's
+ran_of : {A : Type 0} (silent : Config → ℕ) (asked : Config → ℕ → ℕ → State → Call A) (old new : Moment) (answer : Result A Fault) → call_by silent asked old answer new
+    → Ran old.pass new.pass old.frames new.frames (asked old.pass.config old.pass.last old.pass.thread (state new.pass.seen)) answer
+ran_of silent asked old new answer r = r.0.ran
+
+module _ {A : Type 0} (old new : PassView) (f g : Frames) (work : Call A) (alone : IsAlone new) where
+  since_own : (answer : Result A Fault) (r : Ran old new f g work answer) → AllByRecursion (λ e. e.thread ≡ old.thread) r.did.begins.0
+  since_own answer r = subst (λ t. AllByRecursion (λ e. e.thread ≡ t) r.did.begins.0) r.did.thread
+      (all_back (λ e. e.thread ≡ new.thread) old.seen r.did.begins.0 (subst (AllByRecursion (λ e. e.thread ≡ new.thread)) (sym r.did.begins.1) alone.own))
+
+  -- the acts of the call are those of the events since
+  since : (P : Act → Type 0) (answer : Result A Fault) (r : Ran old new f g work answer) → AllByRecursion P r.acts → AllByRecursion (λ e. P e.act) r.did.begins.0
+  since P answer r all = own_events P old.thread r.did.begins.0 (since_own answer r) (subst (AllByRecursion P) (sym (mine_did r.acts r.did)) all)
+
+  module _ (e : Fault) (changes : ChangesNothing work) (r : Ran old new f g work (Err e)) where
+    refused_since : AllByRecursion (λ x. may_precede e x.act ≡ true) r.did.begins.0
+    refused_since = since (λ a. may_precede e a ≡ true) (Err e) r (changes.acts f g r.acts e r.is)
+
+  row_is_full : ChangesNothing work → Ran old new f g work (Err RowFull) → (i : ℕ) → i < new.config.slots → IsOccupied new.last (state new.seen) i
+  row_is_full changes r i small =
+      let grounds : RowWasFull r.begun new = r.grounds in
+      let w = grounds i small in
+      still_so (λ e. is_harmless e.act ≡ true) (λ s. IsOccupied new.last s i) (λ s e. stays_occupied new.last i s e) old.seen _ new.seen r.did.begins
+      (refused_since RowFull changes r)
+      (prefix_trans old.seen w.before _ (prefix_trans old.seen r.begun w.before r.window.from w.own) (_, refl))
+      w.occupied
+
+  objects_are_full : ChangesNothing work → Ran old new f g work (Err ObjectsFull) → (o : ℕ) → 1 ≤ o → o ≤ new.config.objects → IsPresent (state new.seen) o
+  objects_are_full changes r =
+      let grounds : ObjectsWereFull r.begun new = r.grounds in
+      still_so (λ e. may_precede ObjectsFull e.act ≡ true) (λ s. (o : ℕ) → 1 ≤ o → o ≤ new.config.objects → IsPresent s o) (λ s e h all o least most. stays_present ObjectsFull o s e h (all o least most)) old.seen r.begun new.seen r.did.begins
+      (refused_since ObjectsFull changes r) r.window.from grounds
+
+  -- a refusal of a call that no other thread causes
+  fault_alone : (turns : ℕ) (e : Fault) → IsMildFault new.last g e → ChangesNothing work → Ran old new f g work (Err e) → IsAloneFault turns new g e
+  fault_alone turns Stale mild changes r = tt
+  fault_alone turns LocalsFull mild changes r = mild
+  fault_alone turns RowFull mild changes r = row_is_full changes r
+  fault_alone turns ObjectsFull mild changes r = objects_are_full changes r
+  fault_alone turns _ mild changes r = absurd mild
+
+module _ {A : Type 0} (last : ℕ) (work : Call A) (mild : IsMild last work) where
+  acts_mild : (old new : Frames) (acts : List Act) (answer : Result A Fault) → entered work old acts answer new → AreMild acts
+  acts_mild old new acts answer (inl r) = subst AreMild (sym r.0) (refl, (refl, tt))
+  acts_mild old new acts answer (inr r) = subst AreMild (sym r.1) (refl, append_all (λ a. is_mild_act a ≡ true) r.0 (Leave ∷ []) (mild.acts old new r.0 answer r.2) (refl, tt))
+
+  -- a call that was not barred is refused for what its work is
+  fault_mild : (old new : Frames) (acts : List Act) (e : Fault) → AllByRecursion (λ a. a ≢ Knock) acts → entered work old acts (Err e) new → IsMildFault last new e
+  fault_mild old new acts e enters (inl r) = absurd ((subst (AllByRecursion (λ a. a ≢ Knock)) r.0 enters).0 refl)
+  fault_mild old new acts e enters (inr r) = mild.fault old new r.0 e r.2
+
+  module _ (turns : ℕ) (changes : ChangesNothing (entered work)) (old new : PassView) (f g : Frames) (same : old.last ≡ last) (alone : IsAlone new) where
+    ran_fault : (answer : Result A Fault) → Ran old new f g (entered work) answer → IfErr answer (IsAloneFault turns new g)
+    ran_fault (Ok x) r = tt
+    ran_fault (Err e) r =
+        let enters = all_back (λ (x : Event). x.act ≢ Knock) old.seen r.did.begins.0 (subst (AllByRecursion (λ (x : Event). x.act ≢ Knock)) (sym r.did.begins.1) alone.enters) in
+        let acts : AllByRecursion (λ a. a ≢ Knock) r.acts = subst (AllByRecursion (λ a. a ≢ Knock)) (mine_did r.acts r.did) (own_acts (λ a. a ≢ Knock) old.thread r.did.begins.0 enters) in
+        fault_alone old new f g (entered work) alone turns e (subst (λ n. IsMildFault n g e) (sym (r.did.last ∙ same)) (fault_mild f g r.acts e acts r.is)) changes r
+
+    ran_alone : (answer : Result A Fault) → Ran old new f g (entered work) answer → LedAlone turns old new g answer
+    ran_alone answer r = record {
+      config = r.did.config;
+      thread = r.did.thread;
+      begins = r.did.begins;
+      mild = λ before. subst AllMild r.did.begins.1 (append_all (λ e. is_mild_act e.act ≡ true) old.seen r.did.begins.0 before (since old new f g (entered work) alone (λ a. is_mild_act a ≡ true) answer r (acts_mild f g r.acts answer r.is)));
+      fault = ran_fault answer r;
+    }
+
+-- a call with a stay of its own
+pub call_alone : {A : Type 0} (turns : ℕ) (silent : Config → ℕ) (work : Config → ℕ → ℕ → State → Call A) → ((c : Config) (last t : ℕ) (s : State) → c.threads ≡ 1 → t ≡ 0 → IsMild last (work c last t s)) → ((c : Config) (last t : ℕ) (s : State) → ChangesNothing (entered (work c last t s)))
+    → LeadsAlone turns (call_by silent (λ c last t s. entered (work c last t s)))
+call_alone turns silent work mild changes = record {
+  led = λ old new answer alone r.
+      let x = ran_of silent (λ c last t s. entered (work c last t s)) old new answer r in
+      let now = state new.pass.seen in
+      ran_alone old.pass.last (work old.pass.config old.pass.last old.pass.thread now) (mild old.pass.config old.pass.last old.pass.thread now (ap (λ c. c.threads) (sym x.did.config) ∙ alone.one) (sym x.did.thread ∙ alone.first)) turns
+      (changes old.pass.config old.pass.last old.pass.thread now) old.pass new.pass old.frames new.frames refl alone answer x;
+}
