@@ -116,6 +116,7 @@ class Scope:
     def says(self, text, hidden=()):
         """Returns the names that a text says, where these words hide what they mean elsewhere."""
         words = set(WORD.findall(LABEL.sub(" ", PROJECTION.sub("", text))))
+        words |= {">>=", ">>"} if "do" in words else set()
         return {self.meaning(it) for it in words if it.partition(".")[0] not in hidden} - {None}
 
 
@@ -252,6 +253,15 @@ class Source:
             if depth == 0:
                 return found.end()
         return len(self.code)
+
+
+def said_in(path):
+    """Returns all names that a file of src/, specs/ or proofs/ says anywhere."""
+    if path.endswith(".rt"):
+        code = Source(path).code
+        return Scope(code).says(IMPORT.sub("", code))
+    file = Specs(path)
+    return file.scope.says(COMMENT.sub("", file.code))
 
 
 class Shown:
