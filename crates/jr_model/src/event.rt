@@ -8,10 +8,13 @@ use std::collections::LinkedList;
 /// Where a thread stands towards the gate.
 #[derive(Clone, Copy, Debug, PartialEq, Eq)]
 pub enum Role {
+    /// Neither in the gate nor on its way in.
     Outside,
+    /// In a stay.
     Within,
     /// Its entry found the gate shut, and it has not withdrawn yet.
     Knocking,
+    /// It shut the gate, and has not opened it yet.
     Collecting,
 }
 
@@ -29,7 +32,9 @@ pub enum Found {
 /// One atomic step of a thread, with its reply.
 #[derive(Drop)]
 pub struct Event {
+    /// The thread that steps.
     pub thread: u8,
+    /// What it does.
     pub act: Act,
 }
 

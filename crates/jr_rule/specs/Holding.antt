@@ -1,4 +1,4 @@
--- What a pass holds beside its seat.
+-- For the crate's own functions: what a pass holds beside its seat.
 use Rattle.std.specs.Prelude.{◌≡◌, ◌<◌, ℕ, Bool, true, [], ◌∷◌}
 use Rattle.jr_model.specs.declared.event.Role.{Role}
 use Rattle.jr_model.specs.History.{IsLegal, role_of}

@@ -100,10 +100,6 @@ keeps k k' = k'.grasp ≡ k.grasp
 abbrev pub lets_go : Known → Known → Type 0
 lets_go k k' = k'.grasp ≡ empty
 
--- nothing is shown
-abbrev pub nothing : Known → Known → Type 0
-nothing k k' = Unit {0}
-
 -- the object is present
 abbrev pub HasObject : ℕ → Known → Type 0
 HasObject o k = IsPresent (state_of k) o

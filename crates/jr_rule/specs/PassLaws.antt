@@ -1,4 +1,4 @@
--- What is known of every pass.
+-- What is known of every pass: the impls cite these, and there is nothing to believe.
 use Rattle.std.specs.Prelude.{◌≡◌, true, Some}
 use Rattle.jr_rule.specs.declared.row.Row.{Row}
 use mathlib.Core.Logic.{∥∥₁_map}

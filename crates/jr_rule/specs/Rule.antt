@@ -93,6 +93,8 @@ others_of (k ∷ ks) = ks
 abbrev pub acting : Sat → Known
 acting m = first_of m.0.passes
 
+-- ---- for the crate's own functions
+
 -- a seat of one pass
 abbrev pub IsAlone : Sat → Type 0
 IsAlone m = m ≡ (view (acting m ∷ []), [])

@@ -13,6 +13,8 @@ pub record IsSmall (c : Config) : Type 0 where
   pub words : c.words ≤ 1048576
   pub locals : c.locals ≤ 4096
 
+-- ---- for the crate's own functions
+
 -- the history is legal, with this last serial, and the words are its image
 pub record IsHistoryOf (c : Config) (words : List ℕ) (last : ℕ) (log : History) : Type 0 where
   pub few : last < 2 ^ 16

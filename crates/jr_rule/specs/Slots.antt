@@ -1,4 +1,4 @@
--- The parts of a slot's word, as the steps make and read them.
+-- For the crate's own functions: the parts of a slot's word, as the steps make and read them.
 use Rattle.std.specs.Prelude.{◌≡◌, ℕ, ◌+◌, nat_lt, if◌then◌else◌, Option, Some, None, Bool, true, false}
 use Rattle.jr_word.specs.declared.handle.RefKind.{RefKind}
 use Rattle.jr_word.specs.declared.handle.RefKind.TheVariants.{Local, Global, Weak}

@@ -16,8 +16,11 @@ use std::alloc::Global;
 /// A room that was not closed, since threads are in it: the room and the pass, and E22.
 #[derive(Drop)]
 pub struct Left<const LAST: u16> {
+    /// The room, as it was.
     pub room: Room<LAST>,
+    /// The pass that looked at the gate.
     pub pass: Pass,
+    /// E22, with the number of threads that are not outside.
     pub fault: Fault,
 }
 

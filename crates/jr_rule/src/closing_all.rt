@@ -20,7 +20,9 @@ use jr_word::Fault;
 /// A room that was not closed, and the other passes.
 #[derive(Drop)]
 pub struct AllLeft<const LAST: u16> {
+    /// The room and the first pass, and E22.
     pub left: Left<LAST>,
+    /// The other passes, as they were.
     pub others: Vec<Pass>,
 }
 

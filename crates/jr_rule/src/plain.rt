@@ -28,9 +28,13 @@ use std::alloc::Global;
 /// The steps of thread 0 over a row of plain words, with `LAST` as the last serial.
 #[derive(Drop)]
 pub struct PlainSteps<const LAST: u16> {
+    /// The words of the row.
     pub words: Vec<u64>,
+    /// The sizes of the room.
     pub config: Config,
+    /// Where the thread stands towards the gate.
     pub role: Role,
+    /// Whether no local word was stored and the pass was not spent.
     pub fresh: bool,
     ghost limits: { in_limits config ≡ true },
     ghost threads: { (1 ≤ config.threads) × (config.threads ≤ 64) },

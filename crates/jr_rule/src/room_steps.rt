@@ -15,7 +15,9 @@ use jr_word::{Config, GateParts, HandleParts, HeaderParts, LocalParts, RefKind, 
 /// The steps that the holder of a pass takes in its room.
 #[derive(Drop)]
 pub struct RoomSteps<'a, const LAST: u16> {
+    /// The room that it steps in.
     pub room: &'a Room<LAST>,
+    /// The pass that it steps with.
     pub pass: Pass,
     ghost at: { IsAt room.now.row pass },
 }

@@ -7,7 +7,9 @@ use std::marker::{Brand, PhantomData};
 /// The sizes of a row, and the last serial of its slots and local places.
 #[derive(Clone, Copy)]
 pub struct Sizes {
+    /// The sizes of the room.
     pub config: Config,
+    /// The last serial.
     pub last: u16,
 }
 

@@ -1,4 +1,4 @@
--- What a thread was given.
+-- For the crate's own functions: what a thread was given.
 use Rattle.std.specs.Prelude.{◌≡◌}
 use Rattle.jr_scripts.specs.declared.part.Job.{Job}
 use Rattle.jr_scripts.specs.declared.starting.Doing.{Doing}

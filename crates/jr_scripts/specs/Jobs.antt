@@ -1,4 +1,4 @@
--- What the threads of a script are given, and what they give back.
+-- For the crate's own functions: what the threads of a script are given, and what they give back.
 use Rattle.std.specs.Prelude.{◌≡◌, ◌+◌, ◌<◌, ◌^◌, ℕ, true, List, [], ◌∷◌, ◌++◌, length, Result, Ok}
 use Rattle.jr_model.specs.declared.event.Role.TheVariants.{Outside}
 use Rattle.jr_syntax.specs.declared.thread.ThreadPart.{ThreadPart}

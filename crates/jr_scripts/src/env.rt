@@ -11,7 +11,9 @@ use jr_word::{Fault, Handle, RefKind};
 /// A thread's steps and its local references. The thread is outside the gate.
 #[derive(Drop)]
 pub struct Env<S: Steps> {
+    /// The thread's steps.
     pub steps: S,
+    /// Its local references.
     pub frames: Frames,
     ghost ready: { IsReady S.stands S.knows Outside steps frames },
 }

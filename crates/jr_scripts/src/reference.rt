@@ -7,8 +7,11 @@ use jr_word::{Config, Handle, HandleParts, RefKind};
 /// What a word says that a caller hands in as a reference.
 #[derive(Clone, Copy, Debug, PartialEq, Eq)]
 pub enum Reference {
+    /// NULL.
     Null,
+    /// A word that is no handle.
     Malformed,
+    /// A handle, which may name nothing.
     Parts(HandleParts),
 }
 

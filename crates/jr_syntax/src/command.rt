@@ -13,12 +13,19 @@ use std::alloc::AllocError;
 /// What a command's line begins with.
 #[derive(Clone, Copy)]
 pub enum Verb {
+    /// `plain`, with a name behind it.
     Plain,
+    /// `global`, with a name and a reference behind it.
     Global,
+    /// `weak`, with a name and a reference behind it.
     Weak,
+    /// `local`, with a name and a reference behind it.
     Local,
+    /// `drop`, with a reference behind it.
     Drop,
+    /// `type`, with a reference behind it.
     Type,
+    /// `same`, with two references behind it.
     Same,
 }
 

@@ -26,7 +26,9 @@ const MOST_LINES: usize = 4096;
 /// Why a line was not taken.
 #[derive(Clone, Copy)]
 pub enum LineFault {
+    /// The line has a fault.
     Fault(Reason),
+    /// Memory was refused.
     Memory,
 }
 
@@ -55,8 +57,11 @@ impl From<Reason> for LineFault {
 /// What was read so far: the parts that are whole, and the last one.
 #[derive(Drop)]
 pub struct Draft {
+    /// The sizes that the first line says.
     pub config: Config,
+    /// The parts that are whole.
     pub whole: Sequence<ThreadPart>,
+    /// The part that may get more commands, if one has begun.
     pub last: Option<ThreadPart>,
 }
 

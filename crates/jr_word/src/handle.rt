@@ -5,15 +5,20 @@ use crate::bits::u16_at;
 /// The kind of a reference.
 #[derive(Clone, Copy, Debug, PartialEq, Eq)]
 pub enum RefKind {
+    /// Of one thread, in a frame.
     Local,
+    /// Of all threads, until it is deleted.
     Global,
+    /// Of all threads, until it is deleted; it may be cleared by a collection.
     Weak,
 }
 
 /// What a handle says.
 #[derive(Clone, Copy, Debug, PartialEq, Eq)]
 pub struct HandleParts {
+    /// The kind of the reference.
     pub kind: RefKind,
+    /// Which of the handles of its slot or place it is, from 0.
     pub serial: u16,
     /// The slot, or the place of a local reference.
     pub index: u16,

@@ -6,6 +6,7 @@ use crate::kind::Kind;
 /// What the header of an object says.
 #[derive(Clone, Copy, Debug, PartialEq, Eq)]
 pub struct HeaderParts {
+    /// The kind of the object.
     pub kind: Kind,
     /// Elements, below 2^24: none of a plain object.
     pub length: u32,

@@ -5,11 +5,17 @@
 pub enum Kind {
     /// Without elements.
     Plain,
+    /// An array of booleans.
     Boolean,
+    /// An array of bytes.
     Byte,
+    /// An array of UTF-16 units.
     Char,
+    /// An array of 16-bit integers.
     Short,
+    /// An array of 32-bit integers.
     Int,
+    /// An array of 64-bit integers.
     Long,
     /// An array of objects.
     Objects,

@@ -3,6 +3,7 @@
 /// What the word of a local place says.
 #[derive(Clone, Copy, Debug, PartialEq, Eq)]
 pub enum LocalParts {
+    /// No reference.
     Free,
     /// A reference to an object, numbered from 1.
     Object(u16),

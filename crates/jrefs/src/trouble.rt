@@ -7,10 +7,15 @@ use std::fmt;
 /// Why the program failed, with the text that it prints.
 #[derive(Debug, Drop)]
 pub enum Trouble {
+    /// The first fault of the script, and its line.
     Script { line: usize, reason: Reason },
+    /// The words of the command line ask for nothing.
     Usage,
+    /// Memory was refused.
     Memory,
+    /// The reader failed.
     Input,
+    /// The writer failed.
     Output,
 }
 

@@ -1,0 +1,336 @@
+"""Reads the definitions of specs/, the items of src/ with their clauses, and which names each of them says, for the scripts beside this file.
+
+A *name* is a pair of a module and a word: (`jr_rule.specs.Knowing`, `Took`) for a definition, and for a Rust type the module that the prover gives it: (`jr_rule.specs.declared.known`, `Known`). Names of the kit's libraries are left out."""
+
+import glob
+import os
+import re
+from dataclasses import dataclass, field
+
+IMPORT = re.compile(r"^\s*(?:ghost )?use (?:Rattle\.)?([\w.@?]+?)(?:\.\{([^}]*)\}| as (\w+));?$", re.M)
+DEFINED = re.compile(r"(?:pub )?(?:abbrev|unfoldable|record|data) (?:pub )?(\S+)(?: |$)")
+PROVED = re.compile(r"(?:pub )?([^\s({]+) :(?: |$)")
+COMMENT = re.compile(r"(?:^|(?<=\s))--.*$", re.M)
+LABEL = re.compile(r"(?<=[{;])\s*[\w']+\s*=(?=\s)")
+PROJECTION = re.compile(r"(?<=\))(?:\.[\w']+)+")
+WORD = re.compile(r"[^\s(){}\[\];,.λ∥]+(?:\.[^\s(){}\[\];,.∥]+)*")
+TYPED = re.compile(r"[({]\s*((?:[\w'-]+ )+):|^\s+(?:pub )?([\w'-]+) :|\blet ([\w'-]+)|([\w']+) ←", re.M)
+LAMBDA = re.compile(r"λ ((?:\([^)]*\)|[^.(])*)\.")
+BLANKED = re.compile(r"//[^\n]*|/\*.*?\*/|\"(?:\\.|[^\"\\])*\"|'(?:\\.|[^\\'\n])'", re.S)
+ITEM = re.compile(r"(?P<public>pub(?:\((?P<within>\w+)\))? )?(?:const (?=fn))?(?P<kind>ghost use|ghost|fn|struct|enum|trait|impl|mod|const|use|type)\b\s*(?P<name>\w*)")
+PUBLIC_FIELD = re.compile(r"\bpub ([^,{;\n]*)")
+HELD_TYPE = re.compile(r"[(:<] ?([A-Z]\w*)")
+CLAUSE = re.compile(r"\b(?:requires|ensures)(?:\s+\w+)?\s*\Z")
+
+
+@dataclass
+class Definition:
+    """A definition, or a proof, of specs/: its lines without comments, and the names that it says."""
+    name: tuple
+    file: str
+    number: int
+    is_proof: bool
+    around: str
+    lines: list = field(default_factory=list)
+    says: set = field(default_factory=set)
+
+
+@dataclass
+class Item:
+    """A function, a type or a ghost member of src/: the trait, the type or `Trait for Type` that it stands in, the names that its clauses say, and the words of its signature or its public fields that may be Rust types, each with the crate that it is of."""
+    crate: str
+    module: str
+    kind: str
+    name: str
+    is_public: bool
+    inside: str
+    in_trait: bool
+    says: set
+    types: set
+
+
+def text_of(path):
+    with open(path, encoding="utf-8", errors="replace") as file:
+        return file.read()
+
+
+def crates():
+    """Returns the crates, the lowest first."""
+    lines = [line.partition("#")[0].partition(":")[0].split() for line in text_of("crates.txt").split("\n")]
+    return [words[0] for words in lines if words]
+
+
+def files_of(crate, folder, ending):
+    return sorted(glob.glob(f"crates/{crate}/{folder}/**/*{ending}", recursive=True))
+
+
+def target_of(path, word):
+    """Returns the name that a word of an imported module has: a variant's or a field's is its type's, and None where the module is none of a crate here."""
+    parts = path.split(".")
+    if len(parts) < 3 or parts[1] not in ("specs", "proofs") or not os.path.isdir(f"crates/{parts[0]}"):
+        return None
+    if parts[1:3] == ["specs", "declared"]:
+        if parts[-1] == "TheConstants":
+            return ".".join(parts[:-1]), word
+        parts = parts[:-1] if parts[-1].startswith("The") and parts[-2][0].isupper() else parts
+        return ".".join(parts[:-1]), parts[-1]
+    if not os.path.exists(f"crates/{'/'.join(parts)}.antt"):
+        return ".".join(parts[:-1]), parts[-1]
+    return path, word
+
+
+def bound_words(text):
+    """Returns the words that a text binds: with a type, as a field, by `let` or by `λ`."""
+    bound = {word for found in TYPED.findall(text) for words in found for word in words.split()}
+    for parameters in LAMBDA.findall(text):
+        bound.update(re.findall(r"[\w'-]+", re.sub(r":[^)]*\)", ")", parameters)))
+    return bound
+
+
+class Scope:
+    """What words mean: by themselves, and behind the name of a module."""
+
+    def __init__(self, text, above=None):
+        self.words = dict(above.words) if above else {}
+        self.modules = dict(above.modules) if above else {}
+        for path, words, module in IMPORT.findall(text):
+            if module:
+                self.modules[module] = path
+            for word, _, renamed in (it.strip().partition(" as ") for it in words.split(",")):
+                if target_of(path, word):
+                    self.define(renamed or word, target_of(path, word))
+
+    def define(self, word, name):
+        for piece in filter(None, word.split("◌")):
+            self.words[piece] = name
+
+    def meaning(self, word):
+        head, _, rest = word.partition(".")
+        if head == "Rattle":
+            path = re.match(r"Rattle\.(\w+\.(?:specs|proofs)(?:\.[A-Z]\w*)+?)\.(\w+)$", word)
+            return target_of(*path.groups()) if path else None
+        if head in self.modules and rest:
+            return target_of(self.modules[head], rest.partition(".")[0])
+        return self.words.get(head)
+
+    def says(self, text, hidden=()):
+        """Returns the names that a text says, where these words hide what they mean elsewhere."""
+        words = set(WORD.findall(LABEL.sub(" ", PROJECTION.sub("", text))))
+        words |= {">>=", ">>"} if "do" in words else set()
+        return {self.meaning(it) for it in words if it.partition(".")[0] not in hidden} - {None}
+
+
+class Specs:
+    """A file of specs/ or proofs/: its definitions, and its scope."""
+
+    def __init__(self, path):
+        self.path, self.module = path, path[len("crates/"):-len(".antt")].replace("/", ".")
+        self.text = text_of(path)
+        self.code = IMPORT.sub(lambda it: "\n" * it[0].count("\n"), self.text)
+        self.scope, self.definitions = Scope(self.text), []
+
+    def read(self):
+        """Finds the definitions: each begins at the margin, of the file or of a block `module _`, and ends before the next one or a comment there."""
+        current, margin, around = None, 0, ""
+        for number, line in enumerate(self.code.split("\n"), 1):
+            code, indent = COMMENT.sub("", line).rstrip(), len(line) - len(line.lstrip())
+            if code and indent == 0:
+                margin, around = (2, code) if code.startswith("module _") else (0, "")
+            if indent <= margin and line.strip().startswith(("--", "infix", "pub mod", "module _")):
+                current = None
+                continue
+            if not code:
+                continue
+            begun = (DEFINED.match(code, margin) or PROVED.match(code, margin)) if indent == margin else None
+            if begun:
+                current = Definition((self.module, begun[1]), self.path, number, begun.re is PROVED, around)
+                self.definitions.append(current)
+                self.scope.define(begun[1], current.name)
+            if current:
+                current.lines.append(code[margin:])
+        for it in self.definitions:
+            it.says = self.said_by(it)
+        return self
+
+    def constructors(self):
+        """Yields the constructors' names, each with its data's."""
+        for it in self.definitions:
+            for line in it.lines[1:] if "data " in it.lines[0] else ():
+                yield (self.module, line.split()[0]), it.name
+
+    def said_by(self, definition):
+        """Returns the names that a definition says, equation by equation, each with the words that its left side binds."""
+        own, chunks = definition.name[1], []
+        for line in definition.lines:
+            if not chunks or line.split(" ")[0] == own:
+                chunks.append([])
+            chunks[-1].append(line)
+        said = self.scope.says(definition.around)
+        for text in map("\n".join, chunks):
+            is_equation = text.split(" ")[0] == own and not text.startswith(f"{own} :")
+            left = re.split(r"\s=(?:\s|$)", text)[0] if is_equation else ""
+            hidden = bound_words(text).union(re.findall(r"(?<![\w.'])[a-z][\w']*(?![\w.'])", left))
+            said |= self.scope.says(text, hidden - {own})
+        return said - {definition.name}
+
+
+class Source:
+    """A file of src/: its items, without those of tests."""
+
+    def __init__(self, path):
+        parts = path[len("crates/"):-len(".rt")].split("/")
+        self.crate, self.module = parts[0], ".".join(parts[2:])
+        self.code = BLANKED.sub(lambda it: re.sub(r"[^\n]", " ", it[0]), text_of(path))
+        self.items, self.crates = [], {}
+
+    def read(self):
+        self.block(0, len(self.code), Scope(""), "", False)
+        return self
+
+    def block(self, at, end, above, inside, in_trait):
+        """Reads the items of the file, an impl or a trait."""
+        found = [*self.split(at, end)]
+        scope = Scope("\n".join(self.code[it.start():stop] for it, _, stop in found if it["kind"] == "ghost use"), above)
+        for head, braces, stop in found:
+            kind, text = head["kind"], self.code[head.start():braces[-1][0] if braces else stop]
+            if kind == "use":
+                crate, _, words = re.sub(r".*\buse ", "", text).partition("::")
+                self.crates.update({it: self.crate if crate == "crate" else crate for it in re.findall(r"\b[A-Z]\w*", words)})
+            elif kind in ("fn", "ghost", "struct", "enum", "trait"):
+                self.items.append(self.item(head, braces, stop, scope, inside, in_trait))
+            if kind in ("impl", "trait"):
+                plain = re.sub(r"<[^<>]*(?:<[^<>]*>[^<>]*)*>", "", text).partition("where")[0]
+                within = " ".join(plain.split()[1:]) if kind == "impl" else head["name"]
+                self.block(braces[-1][0] + 1, stop - 1, scope, within, kind == "trait")
+
+    def item(self, head, braces, stop, scope, inside, in_trait):
+        """Returns a function, a type or a ghost member."""
+        kind, first = head["kind"], braces[0][0] if braces else stop
+        signature = self.code[head.start():first] if kind == "fn" else ""
+        clauses = [self.code[start:close] for start, close, is_said in braces if is_said and kind in ("fn", "ghost")]
+        said = set().union(*(scope.says(it, bound_words(it).union(re.findall(r"(\w+):", signature))) for it in clauses))
+        held = {"struct": PUBLIC_FIELD, "enum": HELD_TYPE}
+        text = " ".join(held[kind].findall(self.code, head.end(), stop)) if kind in held else f"{inside} {signature}" if signature else ""
+        types = {(self.crates.get(it, self.crate), it) for it in re.findall(r"\b[A-Z]\w*", text)}
+        return Item(self.crate, self.module, kind, head["name"], bool(head["public"]) and not head["within"], inside, in_trait, said, types)
+
+    def split(self, at, end):
+        """Yields each item's head, its braces (and whether they are a clause or a ghost value), and its end."""
+        marks = re.compile(r"\s*(#!?\[[^\]]*\]\s*)*")
+        while True:
+            marked = marks.match(self.code, at, end)
+            head = ITEM.match(self.code, marked.end(), end)
+            if not head:
+                return
+            braces, at, brace, is_body = [], head.end(), "{", False
+            while brace == "{" and not is_body:
+                at, brace = self.next_brace(at, end)
+                if brace == "{":
+                    start, at = at - 1, self.closed_at(at - 1)
+                    is_said = head["kind"] == "ghost" or bool(CLAUSE.search(self.code, head.end(), start))
+                    is_body = not is_said and head["kind"] not in ("ghost use", "use", "const", "type")
+                    braces.append((start, at, is_said))
+            if "cfg(test)" not in marked[0]:
+                yield head, braces, at
+
+    def next_brace(self, at, end):
+        """Returns the place behind the next brace or semicolon that stands in no other bracket, and which it is."""
+        depth = 0
+        for found in re.compile(r"[(\[\])]|[{;]").finditer(self.code, at, end):
+            if found[0] in "([":
+                depth += 1
+            elif found[0] in ")]":
+                depth -= 1
+            elif depth == 0:
+                return found.end(), found[0]
+        return end, ""
+
+    def closed_at(self, start):
+        """Returns the place behind the brace that closes the one at a place."""
+        depth = 0
+        for found in re.compile(r"[{}]").finditer(self.code, start):
+            depth += 1 if found[0] == "{" else -1
+            if depth == 0:
+                return found.end()
+        return len(self.code)
+
+
+def said_in(path):
+    """Returns all names that a file of src/, specs/ or proofs/ says anywhere."""
+    if path.endswith(".rt"):
+        code = Source(path).code
+        return Scope(code).says(IMPORT.sub("", code))
+    file = Specs(path)
+    return file.scope.says(COMMENT.sub("", file.code))
+
+
+class Shown:
+    """What the root of a crate shows to others: modules, and words of other modules."""
+
+    def __init__(self, crate):
+        root = f"crates/{crate}/src/lib.rt"
+        text = text_of(root) if os.path.exists(root) else ""
+        self.modules = set(re.findall(r"^pub mod (\w+);", text, re.M))
+        self.words = {(module, it) for module, words in re.findall(r"^pub use (\w+)::\{?([^;}]*)\}?;", text, re.M) for it in re.findall(r"\w+", words)}
+
+    def has(self, item):
+        return item.is_public and (item.module in self.modules or (item.module, item.name) in self.words)
+
+
+def public_items(crate, items):
+    """Returns those of a crate's items that others can name. All of an impl of a trait is, where both the trait and the type are shown or another crate's, but no invariant of a model."""
+    shown = Shown(crate)
+    own = {it.name: it for it in items if it.kind in ("struct", "enum", "trait")}
+
+    def is_public(item):
+        around = item.inside.split(" for ")
+        is_member = item.is_public or item.in_trait or len(around) == 2 and (around[0], item.name) != ("Model", "invariant")
+        return is_member and all(word not in own or shown.has(own[word]) for word in around)
+
+    return [it for it in items if (is_public(it) if it.inside else shown.has(it))]
+
+
+class Repository:
+    """The definitions of specs/ by name, the items of src/, and what each name says: a definition what its text says, a type what its model says, or else the types of its public fields."""
+
+    def __init__(self):
+        self.definitions, self.said, self.items, self.public, self.types, self.constructors = {}, {}, [], [], {}, {}
+        for crate in crates():
+            for file in (Specs(it).read() for it in files_of(crate, "specs", ".antt")):
+                self.definitions.update({it.name: it for it in file.definitions})
+                self.constructors.update(file.constructors())
+            items = [it for path in files_of(crate, "src", ".rt") for it in Source(path).read().items]
+            self.items += items
+            self.public += public_items(crate, items)
+            self.types.update({(crate, it.name): (f"{crate}.specs.declared.{it.module}", it.name) for it in items if it.kind in ("struct", "enum")})
+        self.said.update({name: it.says for name, it in self.definitions.items()})
+        self.read_types()
+
+    def read_types(self):
+        """Adds to what items say the types of their signatures and fields: of the crate that the source names, or of the lowest one, where that has them from below."""
+        lowest = {word: name for (_, word), name in reversed(self.types.items())}
+        for it in self.items:
+            for crate, word in it.types:
+                name = self.types.get((crate, word)) or (lowest.get(word) if crate in crates() and crate != it.crate else None)
+                it.says |= {name} if name else set()
+            if it.kind in ("struct", "enum"):
+                self.said[self.types[it.crate, it.name]] = it.says
+        for it in self.items:
+            trait, _, of = it.inside.partition(" for ")
+            if trait == "Model" and it.name == "Value":
+                self.said[self.types[it.crate, of]] = set()
+        for it in self.items:
+            trait, _, of = it.inside.partition(" for ")
+            if trait == "Model" and it.name in ("Value", "view"):
+                self.said[self.types[it.crate, of]] |= it.says
+
+    def reach(self, names):
+        """Returns the names that one comes to from these, without proofs."""
+        found, left = set(), set(names)
+        while left:
+            name = left.pop()
+            name = self.constructors.get(name, name)
+            if name not in found and not (name in self.definitions and self.definitions[name].is_proof):
+                found.add(name)
+                left |= self.said.get(name, set())
+        return found
