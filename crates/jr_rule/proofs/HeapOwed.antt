@@ -38,6 +38,7 @@ use Rattle.jr_rule.proofs.HeapImages.{one_header, none_known}
 use Rattle.jr_rule.proofs.HeapTurns.{sees_there, reserves, publishes_own, reads, writes, puts_own as stores_own}
 use Rattle.jr_rule.proofs.Headers.{header_some, header_positive}
 use Rattle.jr_rule.proofs.HeapSpaces.{elements_from, elements_length, none_beyond}
+use Rattle.jr_rule.proofs.Readings.{is_read, read_once}
 use Rattle.jr_rule.proofs.Owing.{gaining, quiet, written as renamed, unwritten, won, lost}
 use Rattle.jr_rule.proofs.Told.{IsHeaderWord, SawHeader, Published, used_word, SawTop, ClaimedTop, SawElement, PutElement, PutOwn}
 use Rattle.jr_rule.proofs.Turns.{Turn, turn_one, turn_none}
@@ -202,10 +203,10 @@ header_read None None n is sound complete = refl
 header_read (Some p) None n is sound complete = let some = header_positive p in let a = sound.1 in absurd (omega arith)
 
 pub top_some : (n : ℕ) (q : Option TopParts) (u : ℕ) → u < 2 ^ 24 → n ≡ used_word u → ((p : TopParts) → IsTop p → n ≡ top_word p → q ≡ Some p) → IsSome q
-top_some n q u few is complete = subst IsSome (sym (complete (record { used = u }) (record { used = few }) is)) refl
+top_some n q u few is complete = is_read q (record { used = u }) (complete (record { used = u }) (record { used = few }) is)
 
 pub top_is : (n : ℕ) (q : Option TopParts) (u : ℕ) (p : TopParts) → u < 2 ^ 24 → n ≡ used_word u → ((p : TopParts) → IsTop p → n ≡ top_word p → q ≡ Some p) → q ≡ Some p → p.used ≡ u
-top_is n q u p few is complete read = let same : Some p ≡ Some (record { used = u }) = sym read ∙ complete (record { used = u }) (record { used = few }) is in let equal : p ≡ record { used = u } = cc in ap (λ (z : TopParts). z.used) equal
+top_is n q u p few is complete read = ap (λ (z : TopParts). z.used) (read_once q (record { used = u }) p (complete (record { used = u }) (record { used = few }) is) read)
 
 -- the acts of an exchange of the top, which leave the role and the freshness
 pub claimed_acts : (looked more : ℕ) (k : Known) (n : ℕ) (acts : List Act) (k' : Known) → ClaimedTop looked more k n acts k'
