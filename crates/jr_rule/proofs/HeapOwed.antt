@@ -20,7 +20,7 @@ use Rattle.jr_model.specs.declared.event.Act.{Act}
 use Rattle.jr_model.specs.declared.event.Act.TheVariants.{New, Reserve, ReserveFull, ReserveLost, Read, Write}
 use Rattle.jr_model.specs.State.{Contents, State, IsPresent, IsWord, AreWords}
 use Rattle.jr_model.specs.declared.event.Role.{Role}
-use Rattle.jr_model.specs.History.{by, state, role_of, role_from}
+use Rattle.jr_model.specs.History.{History, by, state, role_of, role_from}
 use Rattle.jr_model.proofs.Histories.{state_push}
 use Rattle.jr_model.proofs.Lengths.{lengths_fit}
 use Rattle.jr_model.proofs.Updates.{at_number_self}
@@ -32,7 +32,7 @@ use Rattle.jr_rule.specs.Acts.{publishing}
 use Rattle.jr_rule.specs.Grasping.{words_at, with_range, with_header, hold}
 use Rattle.jr_rule.specs.Image.{top_at, header_at, element_at, IsIn, IsHeaderOf, IsKnown}
 use Rattle.jr_rule.specs.Knowing.{view, state_of, KnowsHeader, HasWord, IsWordNow, IsFilled, words_for, published, fresh_from, ShowsPublished}
-use Rattle.jr_rule.specs.Rule.{Makes, Owes}
+use Rattle.jr_rule.specs.Rule.{IsFound, Makes, Owes}
 use Rattle.jr_rule.proofs.Found.{role_at, present_now}
 use Rattle.jr_rule.proofs.HeapImages.{one_header, none_known}
 use Rattle.jr_rule.proofs.HeapTurns.{sees_there, reserves, publishes_own, reads, writes, puts_own as stores_own}
@@ -69,9 +69,12 @@ word_stays s s' Long v stay w = w
 word_stays s s' Text v stay w = w
 word_stays s s' Objects v stay w = ⊎_elim (λ e. inl e) (λ p. inr (stay v p)) w
 
-module _ (k : Known) (within : role_of (view k) ≡ Within) where
-  pub sees_header : (o : ℕ) → 1 ≤ o → o ≤ k.config.objects → Owes k (header_at k.config o) (λ n. n) (SawHeader o k)
-  sees_header o low high log words held f = go ((state log).objects o) refl (f.image.header o low high)
+module _ (k : Known) where
+  -- a load of a header, from the turn after which the thread knows the one that stands there
+  pub loads_header : (o : ℕ) → 1 ≤ o → o ≤ k.config.objects
+      → ((log : History) (words : List ℕ) (held : ℕ → Grasp) → IsFound k log words held → (h : HeaderParts) → IsKnown k.config words o h → Turn k.config k.last log k.thread [] words (hold held k.thread (with_header k.grasp o h)))
+      → Owes k (header_at k.config o) (λ n. n) (SawHeader o k)
+  loads_header o low high turn log words held f = go ((state log).objects o) refl (f.image.header o low high)
     where
       go : (z : Option Contents) → (state log).objects o ≡ z → IsHeaderOf z (get_or words (header_at k.config o) 0) → Makes k log (slice_set words (header_at k.config o) (get_or words (header_at k.config o) 0)) held (SawHeader o k (get_or words (header_at k.config o) 0))
       go None e w = quiet k log words held f _ (SawHeader o k (get_or words (header_at k.config o) 0)) []
@@ -81,8 +84,12 @@ module _ (k : Known) (within : role_of (view k) ≡ Within) where
           let known : IsKnown k.config words o w.parts = record { number = (low, high); fits = w.fits; word = w.word } in
           let g = with_header k.grasp o w.parts in
           gaining k log _ held (SawHeader o k (get_or words (header_at k.config o) 0)) [] g
-          (unwritten k log words (hold held k.thread g) (header_at k.config o) (sees_there k.config k.last log k.thread words f.legal held f.image f.fits.row (role_at k log words held f ∙ within) k.grasp f.fits.grasp o w.parts known))
+          (unwritten k log words (hold held k.thread g) (header_at k.config o) (turn log words held f w.parts known))
           (Some w.parts, (w.fits, w.word), refl, (record { contents = x; is = subst (λ l. (state l).objects o ≡ Some x) (sym (append-nil log)) e; kind = sym w.same_kind; long = sym w.same_length }, refl, one_header k.config k.last words (state log) held f.image k.thread o k.grasp f.fits.grasp w.parts known))
+
+module _ (k : Known) (within : role_of (view k) ≡ Within) where
+  pub sees_header : (o : ℕ) → 1 ≤ o → o ≤ k.config.objects → Owes k (header_at k.config o) (λ n. n) (SawHeader o k)
+  sees_header o low high = loads_header k o low high (λ log words held f. sees_there k.config k.last log k.thread words f.legal held f.image f.fits.row (role_at k log words held f ∙ within) k.grasp f.fits.grasp o)
 
   pub sees_top : (name : TopNaming) → Owes k top_at (λ n. n) (SawTop name k)
   sees_top name log words held f =

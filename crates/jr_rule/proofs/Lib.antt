@@ -32,11 +32,11 @@ pub mod Told
 pub mod Owing
 pub mod GateOwed
 pub mod SlotOwed
+pub mod PlaceOwed
+pub mod HeapOwed
 pub mod CollectTold
 pub mod CollectOwed
 pub mod Allowed
-pub mod PlaceOwed
-pub mod HeapOwed
 pub mod PlainOwed
 pub mod Meeting
 pub mod Ended

@@ -1,5 +1,5 @@
 -- The steps over plain words: they are a row that its one pass finds as it left it, so what a kind of step owes is what it does there.
-use Rattle.std.proofs.Common.{◌≡◌, ◌≢◌, ◌⊎◌, ◌+◌, ◌-◌, ◌%◌, ◌^◌, ◌<◌, ◌≤◌, ℕ, if◌then◌else◌, Bool, true, false, not, Option, Some, None, IsSome, IfSome, Ok, Err, List, [], ◌∷◌, ◌++◌, map, get_or, slice_set, refl, sym, ap, subst, ◌∙◌, arith}
+use Rattle.std.proofs.Common.{◌≡◌, ◌≢◌, ◌⊎◌, ◌+◌, ◌-◌, ◌%◌, ◌^◌, ◌<◌, ◌≤◌, ℕ, if◌then◌else◌, Bool, true, false, not, Option, Some, None, IsSome, IfSome, Ok, Err, List, [], ◌∷◌, get_or, slice_set, refl, sym, ap, subst, ◌∙◌, arith}
 use Rattle.std.proofs.Math.Logic.{∥∥₁_elim}
 use Rattle.std.proofs.Props.{props}
 use lib.Seq.{set-get_or}
@@ -23,7 +23,7 @@ use Rattle.jr_model.specs.declared.event.Role.TheVariants.{Outside, Within, Knoc
 use Rattle.jr_model.specs.declared.event.Act.{Act}
 use Rattle.jr_model.specs.declared.event.Act.TheVariants.{Shut, ShutBusy, Reopen, Read, Write, Clear, Drop, Settle}
 use Rattle.jr_model.specs.State.{Handle}
-use Rattle.jr_model.specs.History.{History, by, state, role_after}
+use Rattle.jr_model.specs.History.{History, state, role_after}
 use Rattle.jr_model.proofs.InRoom.{in_room}
 use Rattle.jr_model.proofs.Lengths.{lengths_fit}
 use Rattle.jr_model.proofs.Moments.{prefix_self}
@@ -49,25 +49,13 @@ use Rattle.jr_rule.proofs.SlotOwed.{sees_slot, claims_slot, frees_slot}
 use Rattle.jr_rule.proofs.SlotWords.{some_reference, can_prop}
 use Rattle.jr_rule.proofs.PlaceOwed.{puts_local}
 use Rattle.jr_rule.proofs.HeapOwed.{header_read, top_is, sees_header, publishes_header, sees_top, claims_top, sees_element, puts_element, puts_own}
-use Rattle.jr_rule.proofs.CollectTold.{ScannedLocal}
 use Rattle.jr_rule.proofs.CollectOwed.{scans_slot, scans_local, scans_header, scans_element, wiped_word, wipes_slot, drops_header, moves_element, places_header, settles_top}
 use Rattle.jr_rule.proofs.Owing.{won, lost as unchanged}
 use Rattle.jr_rule.proofs.PlainTook.{stands_same, alone_here, turn_alone, Turned}
 use Rattle.jr_rule.proofs.Readings.{is_read, read_once}
 use Rattle.jr_rule.proofs.Summaries.{small_of}
-use Rattle.jr_rule.proofs.Told.{IsHeaderWord, used_word}
+use Rattle.jr_rule.proofs.Told.{IsHeaderWord, SawHeader, used_word}
 use Rattle.jr_rule.proofs.Turns.{Turn}
-
--- what a step makes where the words after it are named otherwise, and what it tells says these acts and shows this
-tells : {k : Known} {log : History} {held : ℕ → Grasp} {words words' : List ℕ} {told : List Act → Known → Type 0} {acts : List Act} {shows : Known → Type 0} → Makes k log words held told → words ≡ words'
-    → ((done : List Act) (k' : Known) → told done k' → (done ≡ acts) × shows k') → Makes k log words' held (λ done k'. (done ≡ acts) × shows k')
-tells {k} {log} {held} made same reads = record {
-  acts = made.acts;
-  grasp = made.grasp;
-  legal = made.legal;
-  image = subst (λ ws. IsImage k.config k.last ws (state (log ++ map (by k.thread) made.acts)) (hold held k.thread made.grasp)) same made.image;
-  says = reads made.acts (known_at k log made.acts made.grasp) made.says;
-}
 
 module _ (LAST : ℕ) (few : LAST < 2 ^ 16) (p : PlainSteps LAST) where
   abbrev old : Standing
@@ -107,7 +95,26 @@ module _ (LAST : ℕ) (few : LAST < 2 ^ 16) (p : PlainSteps LAST) where
     image = h.image;
   }
 
-  -- so what a step makes of a row that is found is what it does
+  -- so what a step owes is what it makes of them
+  made : {log : History} {g : Grasp} {n : ℕ} {after : List ℕ → List ℕ} {told : List ℕ → List Act → Known → Type 0} → Shows old words (own log g n)
+      → ((l : History) (ws : List ℕ) (held : ℕ → Grasp) → IsFound (own log g n) l ws held → Makes (own log g n) l (after ws) held (told ws)) → Makes (own log g n) log (after words) (alone g) (told words)
+  made {log} {g} {n} h owes = owes log words (alone g) (found log g n h)
+
+  -- which leaves these words, has these acts and shows this
+  tells : {log : History} {g : Grasp} {n : ℕ} {after : List ℕ → List ℕ} {told : List ℕ → List Act → Known → Type 0} {words' : List ℕ} {acts : List Act} {shows : Known → Type 0} → Shows old words (own log g n)
+      → ((l : History) (ws : List ℕ) (held : ℕ → Grasp) → IsFound (own log g n) l ws held → Makes (own log g n) l (after ws) held (told ws)) → after words ≡ words'
+      → ((done : List Act) (k' : Known) → told words done k' → (done ≡ acts) × shows k') → Makes (own log g n) log words' (alone g) (λ done k'. (done ≡ acts) × shows k')
+  tells {log} {g} {n} h owes same reads =
+      let m = made h owes in
+      let after : Known = known_at (own log g n) log m.acts m.grasp in record {
+        acts = m.acts;
+        grasp = m.grasp;
+        legal = m.legal;
+        image = subst (λ ws. IsImage p.config LAST ws (state after.seen) (hold (alone g) 0 m.grasp)) same m.image;
+        says = reads m.acts after m.says;
+      }
+
+  -- and that is the step
   owed : {new : Standing} {words' : List ℕ} {acts : Known → List Act} {met : Known → Type 0} {shows : Known → Known → Type 0} → ((k : Known) → new ≡ moved old (acts k))
       → ((log : History) (g : Grasp) (n : ℕ) → Shows old words (own log g n) → met (own log g n) → Makes (own log g n) log words' (alone g) (λ done k'. (done ≡ acts (own log g n)) × shows (own log g n) k'))
       → Turned old words new words' acts met shows
@@ -152,21 +159,21 @@ module _ (LAST : ℕ) (few : LAST < 2 ^ 16) (p : PlainSteps LAST) where
   entered role' n shut is says out at = owed (λ k. stands_same p.config LAST (at ∙ ap (λ r. role_after r (entered_as (not shut))) (sym out)) (entered_fresh (not shut) p.fresh)) (λ log g t h m.
       let few = most log g t h in
       let next : (get_or words 0 0 + 1) % 2 ^ 64 ≡ n + 1 = omega arith in
-      tells (enters (own log g t) (h.pass.role ∙ out) log words (alone g) (found log g t h)) (ap (slice_set words 0) next)
+      tells h (enters (own log g t) (h.pass.role ∙ out)) (ap (slice_set words 0) next)
       (λ done k' q. (q.3 ∙ ap (λ b. entered_as (not b) ∷ []) (sym (says q.0 q.1 (is ∙ q.2))), q.4)))
 
   pub left : (n : ℕ) → n + 1 ≡ get_or words 0 0 → (p.role ≡ Within) ⊎ (p.role ≡ Knocking) → Turned old words (standing p.config LAST Outside p.fresh) (slice_set words 0 n) (λ k. leaving p.role ∷ []) anything lets_go
   left n is counts = owed (λ k. stands_same p.config LAST (left_role p.role counts) (left_fresh p.role p.fresh)) (λ log g t h m.
       let few = most log g t h in
       let next : (get_or words 0 0 + (2 ^ 64 - 1)) % 2 ^ 64 ≡ n = omega arith in
-      tells (leaves (own log g t) (subst (λ r. (r ≡ Within) ⊎ (r ≡ Knocking)) (sym h.pass.role) counts) log words (alone g) (found log g t h)) (ap (slice_set words 0) next)
+      tells h (leaves (own log g t) (subst (λ r. (r ≡ Within) ⊎ (r ≡ Knocking)) (sym h.pass.role) counts)) (ap (slice_set words 0) next)
       (λ done k' q. (q.0 ∙ ap (λ r. leaving r ∷ []) h.pass.role, q.1)))
 
   -- a gate that counts nobody has the word 0
   pub barred : (q : GateParts) → get_or words 0 0 ≡ gate_word q → all_counted q ≡ 0 → p.role ≡ Outside → Turned old words (standing p.config LAST Collecting p.fresh) (slice_set words 0 65536) (λ k. Shut ∷ []) anything lets_go
   barred q is none out =
       let zero : get_or words 0 0 ≡ 0 = is ∙ empty_word q.count q.shut none in
-      owed (λ k. refl) (λ log g t h m. tells (shuts (own log g t) (h.pass.role ∙ out) log words (alone g) (found log g t h)) (ap (slice_set words 0) (won 0 65536 (get_or words 0 0) zero)) (λ done k' r. r.0 zero))
+      owed (λ k. refl) (λ log g t h m. tells h (shuts (own log g t) (h.pass.role ∙ out)) (ap (slice_set words 0) (won 0 65536 (get_or words 0 0) zero)) (λ done k' r. r.0 zero))
     where
       empty_word : (n : ℕ) (b : Bool) → n + (if b then 1 else 0) ≡ 0 → n + (if b then 2 ^ 16 else 0) ≡ 0
       empty_word n true e = absurd (omega arith)
@@ -175,18 +182,18 @@ module _ (LAST : ℕ) (few : LAST < 2 ^ 16) (p : PlainSteps LAST) where
   pub bar_lost : (n : ℕ) (q : GateParts) → IsGate q → get_or words 0 0 ≡ gate_word q → n ≡ all_counted q → n ≢ 0 → p.role ≡ Outside → Turned old words old words (λ k. ShutBusy n ∷ []) anything keeps
   bar_lost n q fits is counts some out =
       let busy : get_or words 0 0 ≢ 0 = λ e. some (counts ∙ nobody q (sym is ∙ e)) in
-      owed (λ k. refl) (λ log g t h m. tells (shuts (own log g t) (h.pass.role ∙ out) log words (alone g) (found log g t h)) (ap (slice_set words 0) (unchanged 0 65536 (get_or words 0 0) busy) ∙ read 0)
+      owed (λ k. refl) (λ log g t h m. tells h (shuts (own log g t) (h.pass.role ∙ out)) (ap (slice_set words 0) (unchanged 0 65536 (get_or words 0 0) busy) ∙ read 0)
       (λ done k' r. let s = r.1 busy in (s.3 ∙ ap (λ a. ShutBusy a ∷ []) (ap all_counted (gate_word-injective s.0 q s.1 fits (sym s.2 ∙ is)) ∙ sym counts), s.4)))
 
   pub unbarred : (n : ℕ) → n + 65536 ≡ get_or words 0 0 → p.role ≡ Collecting → Turned old words (standing p.config LAST Outside p.fresh) (slice_set words 0 n) (λ k. Reopen ∷ []) CanReopen lets_go
   unbarred n is collects = owed (λ k. refl) (λ log g t h m.
       let few = most log g t h in
       let next : (get_or words 0 0 + (2 ^ 64 - 65536)) % 2 ^ 64 ≡ n = omega arith in
-      tells (reopens (own log g t) (h.pass.role ∙ collects) m.1 ∣ m.0 ∣₁ log words (alone g) (found log g t h)) (ap (slice_set words 0) next) (λ done k' q. q))
+      tells h (reopens (own log g t) (h.pass.role ∙ collects) m.1 ∣ m.0 ∣₁) (ap (slice_set words 0) next) (λ done k' q. q))
 
   pub gate_saw : (name : GateNaming) (q : GateParts) → IsGate q → get_or words 0 0 ≡ gate_word q → GateNameFits p.role name → Turned old words old words (λ k. gate_named name (all_counted q) ∷ []) anything (λ j k. ShowsGate q k × keeps j k)
   gate_saw name q fits is named = owed (λ k. stands_same p.config LAST (gate_named_role name (all_counted q) p.role) (gate_named_fresh name (all_counted q) p.fresh)) (λ log g t h m.
-      tells (sees_gate (own log g t) name (subst (λ r. GateNameFits r name) (sym h.pass.role) named) log words (alone g) (found log g t h)) (read 0) (λ done k' s.
+      tells h (sees_gate (own log g t) name (subst (λ r. GateNameFits r name) (sym h.pass.role) named)) (read 0) (λ done k' s.
       let same = gate_word-injective s.0 q s.1 fits (sym s.2 ∙ is) in
       (s.3 ∙ ap (λ z. gate_named name (all_counted z) ∷ []) same, (subst (λ z. ShowsGate z k') same s.4, s.5))))
 
@@ -194,7 +201,7 @@ module _ (LAST : ℕ) (few : LAST < 2 ^ 16) (p : PlainSteps LAST) where
   pub saw : (i : ℕ) (name : SlotNaming) (q : SlotParts) → i < p.config.slots → SlotNameFits i name → IsSlot q → get_or words (slot_at i) 0 ≡ slot_word q → p.role ≡ Within
       → Turned old words old words (λ k. slot_named i name q ∷ []) anything (λ j k. ShowsSlot i q k × keeps j k)
   saw i name q l named fits is within = owed (λ k. stands_same p.config LAST (slot_named_role i name q p.role) (slot_named_fresh i name q p.fresh)) (λ log g n h m.
-      tells (sees_slot (own log g n) (h.pass.role ∙ within) i name l named log words (alone g) (found log g n h)) (read (slot_at i)) (λ done k' s.
+      tells h (sees_slot (own log g n) (h.pass.role ∙ within) i name l named) (read (slot_at i)) (λ done k' s.
       let same = slot_word-injective s.0 q s.1 fits (sym s.2 ∙ is) in
       (s.3 ∙ ap (λ z. slot_named i name z ∷ []) same, (subst (λ z. ShowsSlot i z k') same s.4, s.5))))
 
@@ -206,7 +213,7 @@ module _ (LAST : ℕ) (few : LAST < 2 ^ 16) (p : PlainSteps LAST) where
   claimed i serial kind o q w l global is was at free word within =
       let here : get_or words (slot_at i) 0 ≡ slot_word (slot.Free serial) = at ∙ ap slot_word free in
       owed (λ k. refl) (λ log g n h m.
-      tells (claims_slot (own log g n) (h.pass.role ∙ within) i serial kind o q l (m.1).fits global is m.0 log words (alone g) (found log g n h))
+      tells h (claims_slot (own log g n) (h.pass.role ∙ within) i serial kind o q l (m.1).fits global is m.0)
       (ap (slice_set words (slot_at i)) (won (slot_word (slot.Free serial)) (slot_word q) (get_or words (slot_at i) 0) here ∙ sym word))
       (λ done k' s. (s.0 here, (tt, s.2))))
 
@@ -217,7 +224,7 @@ module _ (LAST : ℕ) (few : LAST < 2 ^ 16) (p : PlainSteps LAST) where
       let below = (m.1).fits in
       let other : get_or words (slot_at i) 0 ≢ slot_word (slot.Free serial)
       = λ e. differs (slot_word-injective q (slot.Free serial) fits (record { serial = omega arith; object = omega arith; names = tt }) (sym is ∙ e)) in
-      tells (claims_slot (own log g n) (h.pass.role ∙ within) i serial kind o wanted.0 l below global wanted.1 m.0 log words (alone g) (found log g n h))
+      tells h (claims_slot (own log g n) (h.pass.role ∙ within) i serial kind o wanted.0 l below global wanted.1 m.0)
       (ap (slice_set words (slot_at i)) (unchanged (slot_word (slot.Free serial)) (slot_word wanted.0) (get_or words (slot_at i) 0) other) ∙ read (slot_at i)) (λ done k' t.
       let s = t.1 other in
       let same = slot_word-injective s.0 q s.1 fits (sym s.2 ∙ is) in
@@ -233,14 +240,14 @@ module _ (LAST : ℕ) (few : LAST < 2 ^ 16) (p : PlainSteps LAST) where
     pub deleted : (q : SlotParts) (w : ℕ) → IsReference a.kind a.serial o q → get_or words (slot_at a.index) 0 ≡ slot_word q → w ≡ slot_word (freed LAST a.serial) → p.role ≡ Within
         → Turned old words old (slice_set words (slot_at a.index) w) (λ k. freeing a true ∷ []) (HasLooked a (found_object o)) keeps
     deleted q w is here word within = owed (λ k. refl) (λ log g n h m.
-        tells (frees_slot (own log g n) (h.pass.role ∙ within) a o q is ∣ m ∣₁ log words (alone g) (found log g n h))
+        tells h (frees_slot (own log g n) (h.pass.role ∙ within) a o q is ∣ m ∣₁)
         (ap (slice_set words (slot_at a.index)) (won (slot_word q) (slot_word (freed LAST a.serial)) (get_or words (slot_at a.index) 0) here ∙ sym word))
         (λ done k' s. (s.0 here, s.2)))
 
     pub deleted_late : (q : SlotParts) → IsReference a.kind a.serial o q → get_or words (slot_at a.index) 0 ≢ slot_word q → p.role ≡ Within
         → Turned old words old words (λ k. freeing a false ∷ []) (HasLooked a (found_object o)) keeps
     deleted_late q is other within = owed (λ k. refl) (λ log g n h m.
-        tells (frees_slot (own log g n) (h.pass.role ∙ within) a o q is ∣ m ∣₁ log words (alone g) (found log g n h))
+        tells h (frees_slot (own log g n) (h.pass.role ∙ within) a o q is ∣ m ∣₁)
         (ap (slice_set words (slot_at a.index)) (unchanged (slot_word q) (slot_word (freed LAST a.serial)) (get_or words (slot_at a.index) 0) other) ∙ read (slot_at a.index))
         (λ done k' s. (s.1 other, s.2)))
 
@@ -256,22 +263,31 @@ module _ (LAST : ℕ) (few : LAST < 2 ^ 16) (p : PlainSteps LAST) where
       → Turned old words (standing p.config LAST p.role false) (slice_set words (2 + p.config.slots + at) w) (λ k. putting at o ∷ []) (HasOptional o) keeps
   put at o w l word within = owed (λ k. stands_same p.config LAST (putting_role at o p.role) (putting_spends at o p.fresh)) (λ log g n h m.
       let place : local_at p.config 0 at ≡ 2 + p.config.slots + at = omega arith in
-      tells (puts_local (own log g n) (h.pass.role ∙ within) at o l m log words (alone g) (found log g n h)) (λ i. slice_set words (place i) (sym word i)) (λ done k' s. s))
+      tells h (puts_local (own log g n) (h.pass.role ∙ within) at o l m) (λ i. slice_set words (place i) (sym word i)) (λ done k' s. s))
 
   -- HEADERS
   module _ (o at : ℕ) (here : at ≡ header_at p.config o) (number : (1 ≤ o) × (o ≤ p.config.objects)) where
-    pub saw_header : (r : Option HeaderParts) → IfSome r (λ e. IsHeader e × (get_or words at 0 ≡ header_word e)) → ((e : HeaderParts) → IsHeader e → get_or words at 0 ≡ header_word e → r ≡ Some e) → p.role ≡ Within
-        → Turned old words old words (λ k. []) anything (ShowsHeader o r)
-    saw_header r sound complete within = owed (λ k. refl) (λ log g n h m.
-        tells (sees_header (own log g n) (h.pass.role ∙ within) o number.0 number.1 log words (alone g) (found log g n h)) (read (header_at p.config o)) (λ done k' s.
-        (s.2, subst (λ z. ShowsHeader o z (own log g n) k') (sym (header_read r s.0 (get_or words at 0) (subst (λ j. IsHeaderWord s.0 (get_or words j 0)) (sym here) s.1) sound complete)) s.3)))
+    module _ (r : Option HeaderParts) (sound : IfSome r (λ e. IsHeader e × (get_or words at 0 ≡ header_word e))) (complete : (e : HeaderParts) → IsHeader e → get_or words at 0 ≡ header_word e → r ≡ Some e) where
+      -- what is told of the header's word is what it is read as
+      header_told : (j k : Known) (done : List Act) → SawHeader o j (get_or words (header_at p.config o) 0) done k → (done ≡ []) × ShowsHeader o r j k
+      header_told j k done s =
+          let same = header_read r s.0 (get_or words at 0) (subst (λ i. IsHeaderWord s.0 (get_or words i 0)) (sym here) s.1) sound complete in
+          (s.2, subst (λ z. ShowsHeader o z j k) (sym same) s.3)
+
+      pub saw_header : p.role ≡ Within → Turned old words old words (λ k. []) anything (ShowsHeader o r)
+      saw_header within = owed (λ k. refl) (λ log g n h m.
+          tells h (sees_header (own log g n) (h.pass.role ∙ within) o number.0 number.1) (read (header_at p.config o)) (λ done k' s. header_told (own log g n) k' done s))
+
+      pub scanned_header : p.role ≡ Collecting → Turned old words old words (λ k. []) anything (ShowsHeader o r)
+      scanned_header collects = owed (λ k. refl) (λ log g n h m.
+          tells h (scans_header (own log g n) (h.pass.role ∙ collects) o number.0 number.1) (read (header_at p.config o)) (λ done k' s. header_told (own log g n) k' done s))
 
     pub published_header : (e : HeaderParts) (w : ℕ) → w ≡ header_word e → IsHeader e → get_or words at 0 ≡ 0 → p.role ≡ Within
         → Turned old words old (slice_set words at w) (λ k. publishing o e.kind (words_for e k) true) (IsFilled e) (ShowsPublished o e true)
     published_header e w word fits none within =
         let zero : get_or words (header_at p.config o) 0 ≡ 0 = ap (λ j. get_or words j 0) (sym here) ∙ none in
         owed (λ k. stands_same p.config LAST (publishing_role o e.kind (words_for e k) true p.role) (publishing_fresh o e.kind (words_for e k) true p.fresh)) (λ log g n h m.
-        tells (publishes_header (own log g n) (h.pass.role ∙ within) o e number.0 number.1 fits ∣ m ∣₁ log words (alone g) (found log g n h))
+        tells h (publishes_header (own log g n) (h.pass.role ∙ within) o e number.0 number.1 fits ∣ m ∣₁)
         (λ i. slice_set words (sym here i) ((won 0 (header_word e) (get_or words (header_at p.config o) 0) zero ∙ sym word) i))
         (λ done k' s. let r = s.0 zero in (r.0, (s.2, r.1, r.2))))
 
@@ -279,7 +295,7 @@ module _ (LAST : ℕ) (few : LAST < 2 ^ 16) (p : PlainSteps LAST) where
     unpublished e fits some within =
         let other : get_or words (header_at p.config o) 0 ≢ 0 = λ z. some (ap (λ j. get_or words j 0) here ∙ z) in
         owed (λ k. stands_same p.config LAST (publishing_role o e.kind (words_for e k) false p.role) (publishing_fresh o e.kind (words_for e k) false p.fresh)) (λ log g n h m.
-        tells (publishes_header (own log g n) (h.pass.role ∙ within) o e number.0 number.1 fits ∣ m ∣₁ log words (alone g) (found log g n h))
+        tells h (publishes_header (own log g n) (h.pass.role ∙ within) o e number.0 number.1 fits ∣ m ∣₁)
         (ap (slice_set words (header_at p.config o)) (unchanged 0 (header_word e) (get_or words (header_at p.config o) 0) other) ∙ read (header_at p.config o))
         (λ done k' s. let r = s.1 other in (r.0, (s.2, r.1))))
 
@@ -298,14 +314,14 @@ module _ (LAST : ℕ) (few : LAST < 2 ^ 16) (p : PlainSteps LAST) where
 
   pub saw_top : (name : TopNaming) (u : ℕ) → get_or words top_at 0 ≡ used_word u → p.role ≡ Within → Turned old words old words (λ k. top_named p.config.words name u) anything (λ j k. ShowsUsed u k × keeps j k)
   saw_top name u is within = owed (λ k. stands_same p.config LAST (top_named_role p.config.words name u p.role) (top_named_fresh p.config.words name u p.fresh)) (λ log g n h m.
-      tells (sees_top (own log g n) (h.pass.role ∙ within) name log words (alone g) (found log g n h)) (read top_at) (λ done k' s.
+      tells h (sees_top (own log g n) (h.pass.role ∙ within) name) (read top_at) (λ done k' s.
       let same = used_once s.0 u (sym s.2 ∙ is) in
       (s.3 ∙ ap (top_named p.config.words name) same, (subst (λ z. ShowsUsed z k') same s.4, s.5))))
 
   pub reserved : (looked more w : ℕ) → get_or words top_at 0 ≡ used_word looked → w ≡ used_word (looked + more) → looked + more ≤ p.config.words → p.role ≡ Within
       → Turned old words old (slice_set words top_at w) (λ k. reserving looked more (Ok tt) ∷ []) (WasUsed looked) (ShowsRange looked more (Ok tt))
   reserved looked more w is word room within = owed (λ k. refl) (λ log g n h m.
-      tells (claims_top (own log g n) (h.pass.role ∙ within) looked more room log words (alone g) (found log g n h))
+      tells h (claims_top (own log g n) (h.pass.role ∙ within) looked more room)
       (ap (slice_set words top_at) (won (used_word looked) (used_word (looked + more)) (get_or words top_at 0) is ∙ sym word)) (λ done k' s. s.0 is))
 
   pub reserve_lost : (looked more u : ℕ) → get_or words top_at 0 ≡ used_word u → u ≢ looked → looked + more ≤ p.config.words → p.role ≡ Within
@@ -313,7 +329,7 @@ module _ (LAST : ℕ) (few : LAST < 2 ^ 16) (p : PlainSteps LAST) where
   reserve_lost looked more u is differs room within =
       let other : get_or words top_at 0 ≢ used_word looked = λ e. differs (used_once u looked (sym is ∙ e)) in
       owed (λ k. refl) (λ log g n h m.
-      tells (claims_top (own log g n) (h.pass.role ∙ within) looked more room log words (alone g) (found log g n h))
+      tells h (claims_top (own log g n) (h.pass.role ∙ within) looked more room)
       (ap (slice_set words top_at) (unchanged (used_word looked) (used_word (looked + more)) (get_or words top_at 0) other) ∙ read top_at)
       (λ done k' t. let s = t.1 other in (s.3 ∙ ap (λ z. reserving looked more (Err z) ∷ []) (used_once s.0 u (sym s.2 ∙ is)), s.4)))
 
@@ -327,65 +343,60 @@ module _ (LAST : ℕ) (few : LAST < 2 ^ 16) (p : PlainSteps LAST) where
 
   pub read_element : (o : ℕ) (e : HeaderParts) (i at v : ℕ) → at ≡ element_at p.config (e.place + i) → v ≡ get_or words at 0 → i < e.length → p.role ≡ Within → Turned old words old words (λ k. Read o i v ∷ []) (KnowsHeader o e) keeps
   read_element o e i at v here value l within = owed (λ k. refl) (λ log g n h m.
-      tells (sees_element (own log g n) (h.pass.role ∙ within) o e m i l log words (alone g) (found log g n h)) (read (element_at p.config (e.place + i)))
+      tells h (sees_element (own log g n) (h.pass.role ∙ within) o e m i l) (read (element_at p.config (e.place + i)))
       (λ done k' s. (s.0 ∙ ap (λ z. Read o i z ∷ []) (ap (λ j. get_or words j 0) (sym here) ∙ sym value), s.1)))
 
   pub wrote_element : (o : ℕ) (e : HeaderParts) (i at v : ℕ) → at ≡ element_at p.config (e.place + i) → i < e.length → e.kind ≢ Text → p.role ≡ Within → Turned old words old (slice_set words at v) (λ k. Write o i v ∷ []) (λ k. KnowsHeader o e k × IsWordNow e.kind v k) keeps
   wrote_element o e i at v here l kind within = owed (λ k. refl) (λ log g n h m.
-      tells (puts_element (own log g n) (h.pass.role ∙ within) o e m.0 i l v kind ∣ m.1 ∣₁ log words (alone g) (found log g n h)) (ap (λ j. slice_set words j v) (sym here)) (λ done k' s. s))
+      tells h (puts_element (own log g n) (h.pass.role ∙ within) o e m.0 i l v kind ∣ m.1 ∣₁) (ap (λ j. slice_set words j v) (sym here)) (λ done k' s. s))
 
   pub put_word : (place i at v : ℕ) → at ≡ element_at p.config (place + i) → p.role ≡ Within → Turned old words old (slice_set words at v) (λ k. []) (HasWord place i) (ShowsWord place i v)
   put_word place i at v here within = owed (λ k. refl) (λ log g n h m.
-      tells (puts_own (own log g n) (h.pass.role ∙ within) place i v m log words (alone g) (found log g n h)) (ap (λ j. slice_set words j v) (sym here)) (λ done k' s. s))
+      tells h (puts_own (own log g n) (h.pass.role ∙ within) place i v m) (ap (λ j. slice_set words j v) (sym here)) (λ done k' s. s))
 
   -- A COLLECTOR'S STEPS
   module _ (collects : p.role ≡ Collecting) where
     pub scanned_slot : (i : ℕ) (q : SlotParts) → i < p.config.slots → IsSlot q → get_or words (slot_at i) 0 ≡ slot_word q → Turned old words old words (λ k. []) anything (λ j k. ShowsSlot i q k × keeps j k)
     scanned_slot i q l fits is = owed (λ k. refl) (λ log g n h m.
-        tells (scans_slot (own log g n) (h.pass.role ∙ collects) i l log words (alone g) (found log g n h)) (read (slot_at i))
+        tells h (scans_slot (own log g n) (h.pass.role ∙ collects) i l) (read (slot_at i))
         (λ done k' s. (s.3, (subst (λ z. ShowsSlot i z k') (slot_word-injective s.0 q s.1 fits (sym s.2 ∙ is)) s.4, s.5))))
 
     module _ (t place at : ℕ) (r : Option LocalParts) (row : t < p.config.threads) (l : place < p.config.locals) (here : at ≡ local_at p.config t place) (complete : (q : LocalParts) → IsLocalPlace q → get_or words at 0 ≡ local_word q → r ≡ Some q) where
-      scan : (log : History) (g : Grasp) (n : ℕ) → Shows old words (own log g n) → Makes (own log g n) log (slice_set words at (get_or words at 0)) (alone g) (ScannedLocal t place (own log g n) (get_or words at 0))
-      scan log g n h = subst (λ j. Makes (own log g n) log (slice_set words j (get_or words j 0)) (alone g) (ScannedLocal t place (own log g n) (get_or words j 0))) (sym here) (scans_local (own log g n) (h.pass.role ∙ collects) t place row l log words (alone g) (found log g n h))
-
       pub scanned_local : (q : LocalParts) → r ≡ Some q → Turned old words old words (λ k. []) anything (λ j k. ShowsLocal t place q k × keeps j k)
       scanned_local q is = owed (λ k. refl) (λ log g n h m.
-          tells (scan log g n h) (read at) (λ done k' s. (s.3, (subst (λ z. ShowsLocal t place z k') (sym (read_once r s.0 q (complete s.0 s.1 s.2) is)) s.4, s.5))))
+          tells h (scans_local (own log g n) (h.pass.role ∙ collects) t place row l) (read (local_at p.config t place)) (λ done k' s.
+          (s.3, (subst (λ z. ShowsLocal t place z k') (sym (read_once r s.0 q (complete s.0 s.1 (ap (λ j. get_or words j 0) here ∙ s.2)) is)) s.4, s.5))))
 
       pub local_read : MayKnow (Shows old) words anything → IsSome r
-      local_read may = each (hlevel props) may (λ log g n h m. let s = (scan log g n h).says in is_read r s.0 (complete s.0 s.1 s.2))
-
-    pub scanned_header : (o at : ℕ) (r : Option HeaderParts) → at ≡ header_at p.config o → (1 ≤ o) × (o ≤ p.config.objects) → IfSome r (λ e. IsHeader e × (get_or words at 0 ≡ header_word e)) → ((e : HeaderParts) → IsHeader e → get_or words at 0 ≡ header_word e → r ≡ Some e) → Turned old words old words (λ k. []) anything (ShowsHeader o r)
-    scanned_header o at r here number sound complete = owed (λ k. refl) (λ log g n h m.
-        tells (scans_header (own log g n) (h.pass.role ∙ collects) o number.0 number.1 log words (alone g) (found log g n h)) (read (header_at p.config o)) (λ done k' s.
-        (s.2, subst (λ z. ShowsHeader o z (own log g n) k') (sym (header_read r s.0 (get_or words at 0) (subst (λ j. IsHeaderWord s.0 (get_or words j 0)) (sym here) s.1) sound complete)) s.3)))
+      local_read may = each (hlevel props) may (λ log g n h m.
+          let s = (made h (scans_local (own log g n) (h.pass.role ∙ collects) t place row l)).says in
+          is_read r s.0 (complete s.0 s.1 (ap (λ j. get_or words j 0) here ∙ s.2)))
 
     pub scanned_element : (o i at v : ℕ) (e : HeaderParts) → at ≡ element_at p.config (e.place + i) → v ≡ get_or words at 0 → Turned old words old words (λ k. []) (IsThere o e i) (λ j k. ShowsElement o i v k × keeps j k)
     scanned_element o i at v e here value = owed (λ k. refl) (λ log g n h m.
-        tells (scans_element (own log g n) (h.pass.role ∙ collects) o i e m log words (alone g) (found log g n h)) (read (element_at p.config (e.place + i)))
+        tells h (scans_element (own log g n) (h.pass.role ∙ collects) o i e m) (read (element_at p.config (e.place + i)))
         (λ done k' s. (s.0, (subst (λ z. ShowsElement o i z k') (ap (λ j. get_or words j 0) (sym here) ∙ sym value) s.1, s.2))))
 
     pub wiped : (i serial o w : ℕ) → i < p.config.slots → w ≡ slot_word (slot.Weak serial None) → Turned old words old (slice_set words (slot_at i) w) (λ k. Clear (handle_of Weak serial i) ∷ []) (CanWipe i serial o) keeps
     wiped i serial o w l word = owed (λ k. refl) (λ log g n h m.
-        tells (wipes_slot (own log g n) (h.pass.role ∙ collects) i serial o l m log words (alone g) (found log g n h))
+        tells h (wipes_slot (own log g n) (h.pass.role ∙ collects) i serial o l m)
         (ap (slice_set words (slot_at i)) (wiped_word (own log g n) (h.pass.role ∙ collects) i serial o l m log words (alone g) (found log g n h) ∙ sym word)) (λ done k' s. s))
 
     pub dropped : (o at : ℕ) → at ≡ header_at p.config o → (1 ≤ o) × (o ≤ p.config.objects) → Turned old words old (slice_set words at 0) (λ k. Drop o ∷ []) (CanDrop o) (ShowsDropped o)
     dropped o at here number = owed (λ k. refl) (λ log g n h m.
-        tells (drops_header (own log g n) (h.pass.role ∙ collects) o number.0 number.1 m log words (alone g) (found log g n h)) (ap (λ j. slice_set words j 0) (sym here)) (λ done k' s. s))
+        tells h (drops_header (own log g n) (h.pass.role ∙ collects) o number.0 number.1 m) (ap (λ j. slice_set words j 0) (sym here)) (λ done k' s. s))
 
     pub moved_element : (o : ℕ) (e : HeaderParts) (place i v at : ℕ) → at ≡ element_at p.config (place + i) → i < e.length → Turned old words old (slice_set words at v) (λ k. []) (CanMove o e place i v) (ShowsMoved o place i)
     moved_element o e place i v at here l = owed (λ k. refl) (λ log g n h m.
-        tells (moves_element (own log g n) (h.pass.role ∙ collects) o e place i v l m log words (alone g) (found log g n h)) (ap (λ j. slice_set words j v) (sym here)) (λ done k' s. s))
+        tells h (moves_element (own log g n) (h.pass.role ∙ collects) o e place i v l m) (ap (λ j. slice_set words j v) (sym here)) (λ done k' s. s))
 
     pub placed_header : (o : ℕ) (e : HeaderParts) (place at w : ℕ) → at ≡ header_at p.config o → w ≡ header_word (placed e place) → IsHeader (placed e place) → Turned old words old (slice_set words at w) (λ k. []) (CanPlace o e place) (ShowsPlaced o e place)
     placed_header o e place at w here word fits = owed (λ k. refl) (λ log g n h m.
-        tells (places_header (own log g n) (h.pass.role ∙ collects) o e place fits m log words (alone g) (found log g n h)) (λ i. slice_set words (sym here i) (sym word i)) (λ done k' s. s))
+        tells h (places_header (own log g n) (h.pass.role ∙ collects) o e place fits m) (λ i. slice_set words (sym here i) (sym word i)) (λ done k' s. s))
 
     pub settled_top : (used w : ℕ) → w ≡ used_word used → Turned old words old (slice_set words top_at w) (λ k. Settle used ∷ []) (CanSettle used) keeps
     settled_top used w word = owed (λ k. refl) (λ log g n h m.
-        tells (settles_top (own log g n) (h.pass.role ∙ collects) used m log words (alone g) (found log g n h)) (ap (slice_set words top_at) (sym word)) (λ done k' s. s))
+        tells h (settles_top (own log g n) (h.pass.role ∙ collects) used m) (ap (slice_set words top_at) (sym word)) (λ done k' s. s))
 
     pub there_few : (o : ℕ) (e : HeaderParts) (i : ℕ) → MayKnow (Shows old) words (IsThere o e i) → e.place + i < p.config.words
     there_few o e i may = each (hlevel props) may (λ log g n h m. (h.space).elements o e m.0 i m.1)

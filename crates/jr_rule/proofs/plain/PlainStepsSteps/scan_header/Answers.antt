@@ -10,4 +10,6 @@ pub returns : goal.returns
 returns g c =
     let s = c.args.self.now in
     took g.row.LAST s s
-    (scanned_header g.row.LAST (omega arith) s c.requires.role c.args.object c.header_at-at.result c.parts.result (c.header_at-at.ensures ∙ ap (header_at s.config) c.from.ensures) c.requires.number (subst (λ w. IfSome c.parts.result (λ (h : HeaderParts). IsHeader h × (w ≡ header_word h))) c.word.ensures c.parts.ensures.sound) (λ h fits is. c.parts.ensures.complete h fits (c.word.ensures ∙ is)))
+    (scanned_header g.row.LAST (omega arith) s c.args.object c.header_at-at.result (c.header_at-at.ensures ∙ ap (header_at s.config) c.from.ensures) c.requires.number c.parts.result
+    (subst (λ w. IfSome c.parts.result (λ (h : HeaderParts). IsHeader h × (w ≡ header_word h))) c.word.ensures c.parts.ensures.sound)
+    (λ h fits is. c.parts.ensures.complete h fits (c.word.ensures ∙ is)) c.requires.role)
