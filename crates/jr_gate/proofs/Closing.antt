@@ -1,12 +1,10 @@
 -- What a step that shuts the gate shows, and one that is refused it.
-use Rattle.std.proofs.Common.{◌≤◌, ℕ, [], ◌∷◌, ◌++◌, ap, sym, subst, ◌∙◌}
+use Rattle.std.proofs.Common.{◌≤◌, ℕ, [], ◌∷◌, ◌++◌, ap, subst}
 use Rattle.std.proofs.Math.Bridge.{le_prop}
 use Rattle.std.proofs.Math.Logic.{∥∥₁_elim, ∥∥₁_map}
 use Rattle.jr_model.specs.declared.event.Act.TheVariants.{Shut, ShutBusy}
-use Rattle.jr_model.specs.State.{IsClosed}
-use Rattle.jr_model.specs.History.{by, state, IsLegal}
-use Rattle.jr_model.proofs.Histories.{legal_push, state_push}
-use Rattle.jr_model.proofs.Presence.{elements_are_present}
+use Rattle.jr_model.specs.History.{by, IsLegal}
+use Rattle.jr_model.proofs.Histories.{legal_push}
 use Rattle.jr_rule.specs.declared.known.Grasp.{Grasp}
 use Rattle.jr_rule.specs.declared.known.Known.{Known}
 use Rattle.jr_rule.proofs.Goes.{shut_closed}

@@ -47,7 +47,7 @@ use Rattle.jr_rule.proofs.GateOwed.{enters, leaves, shuts, reopens, sees_gate}
 use Rattle.jr_rule.proofs.Looked.{looked_at}
 use Rattle.jr_rule.proofs.SlotOwed.{sees_slot, claims_slot, frees_slot}
 use Rattle.jr_rule.proofs.SlotWords.{some_reference, can_prop}
-use Rattle.jr_rule.proofs.PlaceOwed.{puts_local}
+use Rattle.jr_rule.proofs.PlaceOwed.{optional_fits, puts_local}
 use Rattle.jr_rule.proofs.HeapOwed.{header_read, top_is, sees_header, publishes_header, sees_top, claims_top, sees_element, puts_element, puts_own}
 use Rattle.jr_rule.proofs.CollectOwed.{scans_slot, scans_local, scans_header, scans_element, wiped_word, wipes_slot, drops_header, moves_element, places_header, settles_top}
 use Rattle.jr_rule.proofs.Owing.{won, lost as unchanged}
@@ -253,11 +253,7 @@ module _ (LAST : ℕ) (few : LAST < 2 ^ 16) (p : PlainSteps LAST) where
 
   -- LOCAL WORDS
   pub optional_few : (o : Option ℕ) → MayKnow (Shows old) words (HasOptional o) → (x : ℕ) → o ≡ Some x → (0 < x) × (x < 2 ^ 16)
-  optional_few o may x e = each (hlevel props) may (λ log g n h m.
-      let room = (in_room p.config LAST log h.pass.legal).objects x (subst (λ z. HasOptional z (own log g n)) e m) in
-      let most = p.objects in
-      let low = room.0 in
-      let high = room.1 in (omega arith, omega arith))
+  optional_few o may x e = each (hlevel props) may (λ log g n h m. optional_fits o (own log g n) h.pass.legal p.objects m x e)
 
   pub put : (at : ℕ) (o : Option ℕ) (w : ℕ) → at < p.config.locals → w ≡ local_word (local_parts o) → p.role ≡ Within
       → Turned old words (standing p.config LAST p.role false) (slice_set words (2 + p.config.slots + at) w) (λ k. putting at o ∷ []) (HasOptional o) keeps
