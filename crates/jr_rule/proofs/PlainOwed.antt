@@ -157,14 +157,14 @@ module _ (LAST : ℕ) (few : LAST < 2 ^ 16) (p : PlainSteps LAST) where
   pub entered : (role' : Role) (n : ℕ) (shut : Bool) → n ≡ get_or words 0 0 → ((q : GateParts) → IsGate q → n ≡ gate_word q → shut ≡ q.shut) → p.role ≡ Outside → role' ≡ role_after Outside (entered_as (not shut))
       → Turned old words (standing p.config LAST role' p.fresh) (slice_set words 0 (n + 1)) (λ k. entered_as (not shut) ∷ []) anything keeps
   entered role' n shut is says out at = owed (λ k. stands_same p.config LAST (at ∙ ap (λ r. role_after r (entered_as (not shut))) (sym out)) (entered_fresh (not shut) p.fresh)) (λ log g t h m.
-      let few = most log g t h in
+      let bound = most log g t h in
       let next : (get_or words 0 0 + 1) % 2 ^ 64 ≡ n + 1 = omega arith in
       tells h (enters (own log g t) (h.pass.role ∙ out)) (ap (slice_set words 0) next)
       (λ done k' q. (q.3 ∙ ap (λ b. entered_as (not b) ∷ []) (sym (says q.0 q.1 (is ∙ q.2))), q.4)))
 
   pub left : (n : ℕ) → n + 1 ≡ get_or words 0 0 → (p.role ≡ Within) ⊎ (p.role ≡ Knocking) → Turned old words (standing p.config LAST Outside p.fresh) (slice_set words 0 n) (λ k. leaving p.role ∷ []) anything lets_go
   left n is counts = owed (λ k. stands_same p.config LAST (left_role p.role counts) (left_fresh p.role p.fresh)) (λ log g t h m.
-      let few = most log g t h in
+      let bound = most log g t h in
       let next : (get_or words 0 0 + (2 ^ 64 - 1)) % 2 ^ 64 ≡ n = omega arith in
       tells h (leaves (own log g t) (subst (λ r. (r ≡ Within) ⊎ (r ≡ Knocking)) (sym h.pass.role) counts)) (ap (slice_set words 0) next)
       (λ done k' q. (q.0 ∙ ap (λ r. leaving r ∷ []) h.pass.role, q.1)))
@@ -187,7 +187,7 @@ module _ (LAST : ℕ) (few : LAST < 2 ^ 16) (p : PlainSteps LAST) where
 
   pub unbarred : (n : ℕ) → n + 65536 ≡ get_or words 0 0 → p.role ≡ Collecting → Turned old words (standing p.config LAST Outside p.fresh) (slice_set words 0 n) (λ k. Reopen ∷ []) CanReopen lets_go
   unbarred n is collects = owed (λ k. refl) (λ log g t h m.
-      let few = most log g t h in
+      let bound = most log g t h in
       let next : (get_or words 0 0 + (2 ^ 64 - 65536)) % 2 ^ 64 ≡ n = omega arith in
       tells h (reopens (own log g t) (h.pass.role ∙ collects) m.1 ∣ m.0 ∣₁) (ap (slice_set words 0) next) (λ done k' q. q))
 
