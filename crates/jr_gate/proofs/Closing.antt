@@ -1,14 +1,13 @@
 -- What a step that shuts the gate shows, and one that is refused it.
-use Rattle.std.proofs.Common.{◌≤◌, ℕ, [], ◌∷◌, ◌++◌, ap, sym, subst, ◌∙◌}
+use Rattle.std.proofs.Common.{◌≤◌, ℕ, [], ◌∷◌, ◌++◌, ap, subst}
 use Rattle.std.proofs.Math.Bridge.{le_prop}
 use Rattle.std.proofs.Math.Logic.{∥∥₁_elim, ∥∥₁_map}
 use Rattle.jr_model.specs.declared.event.Act.TheVariants.{Shut, ShutBusy}
-use Rattle.jr_model.specs.State.{IsClosed}
-use Rattle.jr_model.specs.History.{by, state, IsLegal}
-use Rattle.jr_model.proofs.Histories.{legal_push, state_push}
-use Rattle.jr_model.proofs.Presence.{elements_are_present}
+use Rattle.jr_model.specs.History.{by, IsLegal}
+use Rattle.jr_model.proofs.Histories.{legal_push}
 use Rattle.jr_rule.specs.declared.known.Grasp.{Grasp}
 use Rattle.jr_rule.specs.declared.known.Known.{Known}
+use Rattle.jr_rule.proofs.Goes.{shut_closed}
 use Rattle.jr_rule.specs.Knowing.{Standing, anything, keeps, lets_go, Goes, IsClosedNow, CanReopen, MayKnow, Took}
 
 -- who is refused a shut was told of one thread at least
@@ -17,15 +16,6 @@ counted {k} {k'} n g =
     let legal = (legal_push k.config k.last (k.seen ++ g.between) (by k.thread (ShutBusy n))).0 (subst (IsLegal k.config k.last) g.seen g.legal) in
     legal.1.1.2
 
--- nobody collected before the shut, and so each object array named present objects
-closes : {k k' : Known} → Goes k (Shut ∷ []) k' → IsClosedNow k'
-closes {k} {k'} g =
-    let before = k.seen ++ g.between in
-    let e = by k.thread Shut in
-    let legal = (legal_push k.config k.last before e).0 (subst (IsLegal k.config k.last) g.seen g.legal) in
-    let closed : IsClosed (state before) = elements_are_present k.config k.last before legal.0 (λ t c. let outside = legal.1.1 t in cc) in
-    subst IsClosed (sym (ap state g.seen ∙ state_push before e)) closed
-
 module _ {S : Type 0} {stands : S → Standing} {knows : S → Known → Type 0} {old new : S} (some : MayKnow knows old anything) where
   pub busy_counts : (n : ℕ) → Took stands knows old new (ShutBusy n ∷ []) anything keeps → 1 ≤ n
   busy_counts n t =
@@ -33,8 +23,8 @@ module _ {S : Type 0} {stands : S → Standing} {knows : S → Known → Type 0}
       ∥∥₁_elim some le_prop each
 
   pub shut_closes : Took stands knows old new (Shut ∷ []) anything lets_go → MayKnow knows new CanReopen
-  shut_closes t = ∥∥₁_map some (λ k. let g = t.goes k.0 k.1 tt in (g.0, g.1, (closes g.2, ap (λ (z : Grasp). z.moving) g.3)))
+  shut_closes t = ∥∥₁_map some (λ k. let g = t.goes k.0 k.1 tt in (g.0, g.1, (shut_closed g.2, ap (λ (z : Grasp). z.moving) g.3)))
 
 module _ {S : Type 0} {stands : S → Standing} {knows : S → Known → Type 0} {old new : S} where
   pub shut_shows : Took stands knows old new (Shut ∷ []) anything lets_go → Took stands knows old new (Shut ∷ []) anything (λ j k. IsClosedNow k × lets_go j k)
-  shut_shows t = record { stands_is = t.stands_is; goes = λ k s m. let g = t.goes k s m in (g.0, g.1, g.2, (closes g.2, g.3)); alone = λ e k s m. t.alone e k s m }
+  shut_shows t = record { stands_is = t.stands_is; goes = λ k s m. let g = t.goes k s m in (g.0, g.1, g.2, (shut_closed g.2, g.3)); alone = λ e k s m. t.alone e k s m }

@@ -1,5 +1,5 @@
 -- What a pass has to know for a step, without a choice.
-use Rattle.std.proofs.Common.{◌≡◌, ◌+◌, ◌<◌, ◌≤◌, ◌^◌, ℕ, Option, Some, ap, subst, arith}
+use Rattle.std.proofs.Common.{◌≡◌, ◌+◌, ◌<◌, ◌≤◌, ◌^◌, ℕ, Option, Some, sym, subst, arith}
 use Rattle.std.proofs.Math.Logic.{∥∥₁_elim}
 use Rattle.std.proofs.Props.{props}
 use mathlib.Core.Logic.{∥∥₁_map}
@@ -20,6 +20,7 @@ use Rattle.jr_rule.specs.Passes.{known_of, Knows}
 use Rattle.jr_rule.specs.Slots.{CanStand}
 use Rattle.jr_model.proofs.InRoom.{in_room}
 use Rattle.jr_rule.proofs.Looked.{looked_at}
+use Rattle.jr_rule.proofs.PlaceOwed.{optional_fits}
 use Rattle.jr_rule.proofs.SlotWords.{can_prop}
 
 module _ (p : Pass) where
@@ -46,11 +47,7 @@ module _ (p : Pass) where
   -- the number of an object, if one is given, is one of the room
   pub optional_few : (o : Option ℕ) → MayKnow Knows p (HasOptional o) → (known_of p).config.objects ≤ 65535 → (x : ℕ) → o ≡ Some x → (0 < x) × (x < 2 ^ 16)
   optional_few o may few x e = ∥∥₁_elim may (hlevel props)
-      (λ k.
-      let r = (in_room k.0.config k.0.last k.0.seen (k.1).pass.legal).objects x (subst (λ z. HasOptional z k.0) e k.2) in
-      let same = ap (λ (z : Known). z.config.objects) (k.1).is in
-      let low = r.0 in
-      let high = r.1 in (omega arith, omega arith))
+      (λ k. optional_fits o k.0 (k.1).pass.legal (subst (λ (z : Known). z.config.objects ≤ 65535) (sym (k.1).is) few) k.2 x e)
 
   -- what a collector has to know
   pub there_known : (o : ℕ) (h : HeaderParts) (i : ℕ) → MayKnow Knows p (IsThere o h i) → IsThere o h i (known_of p)

@@ -1,10 +1,8 @@
 -- What the steps of the gate owe, wherever they find the row.
-use Rattle.std.proofs.Common.{◌≡◌, ◌⊎◌, ⊎_elim, ◌+◌, ◌-◌, ◌%◌, ◌^◌, ℕ, not, Option, Some, IsSome, List, [], ◌∷◌, get_or, slice_set, eqb, refl, sym, subst, ◌∙◌, arith}
+use Rattle.std.proofs.Common.{◌≡◌, ◌⊎◌, ⊎_elim, ◌+◌, ◌-◌, ◌%◌, ◌^◌, ℕ, not, List, [], ◌∷◌, get_or, slice_set, eqb, refl, sym, subst, ◌∙◌, arith}
 use mathlib.Core.Logic.{dite}
 use native.Mathlib.Decide.{ℕ_discrete}
 use prog.Atomic.{either}
-use Rattle.jr_word.specs.declared.gate.GateParts.{GateParts}
-use Rattle.jr_word.specs.Gate.{gate_word, IsGate}
 use Rattle.jr_model.specs.declared.event.Role.TheVariants.{Outside, Within, Knocking, Collecting}
 use Rattle.jr_model.specs.declared.event.Act.{Act}
 use Rattle.jr_model.specs.declared.event.Act.TheVariants.{Shut, ShutBusy, Reopen, Meet}
@@ -25,14 +23,6 @@ use Rattle.jr_rule.proofs.Owing.{quiet, gaining, written, unwritten, won, lost}
 use Rattle.jr_rule.proofs.Told.{Entered, Left, Barred, Reopened, SawGate, Met}
 use Rattle.jr_rule.proofs.Turns.{turn_one}
 use Rattle.jr_rule.proofs.Effects.{gate_named_state}
-
--- the gate's word has a reading
-pub gate_some : (n : ℕ) (r : Option GateParts) (p : GateParts) → IsGate p → n ≡ gate_word p → ((q : GateParts) → IsGate q → n ≡ gate_word q → r ≡ Some q) → IsSome r
-gate_some n r p fits is read = subst (λ z. IsSome z) (sym (read p fits is)) refl
-
--- and one only
-pub gate_is : (r : Option GateParts) (p q : GateParts) → r ≡ Some p → r ≡ Some q → q ≡ p
-gate_is r p q e f = let z = sym e ∙ f in cc
 
 -- who is within or knocking has no move unfinished
 may_let_go : (k : Known) (log : History) (words : List ℕ) (held : ℕ → Grasp) (f : IsFound k log words held) → (role_of (view k) ≡ Within) ⊎ (role_of (view k) ≡ Knocking) → MayHold f.image.moving ((state log).role k.thread) empty

@@ -138,17 +138,6 @@ count_collects n role true alone beyond some none =
 count_collects n role false alone beyond some none =
     count_all_false n (λ t. collects (role t)) (λ t l. not_true (collects (role t)) (λ e. let z = none (t, collects_true (role t) e) in cc))
 
--- two readings of one word are one
-one_gate : (p q : GateParts) → IsGate p → IsGate q → gate_word p ≡ gate_word q → p ≡ q
-one_gate p q f g e = parts p.count q.count p.shut q.shut f.count g.count e
-  where
-    parts : (m n : ℕ) (a b : Bool) → m < 2 ^ 16 → n < 2 ^ 16 → m + (if a then 2 ^ 16 else 0) ≡ n + (if b then 2 ^ 16 else 0)
-        → ◌≡◌ {A = GateParts} (record { count = m; shut = a }) (record { count = n; shut = b })
-    parts m n true true l k is = let z : m ≡ n = omega arith in cc
-    parts m n false false l k is = let z : m ≡ n = omega arith in cc
-    parts m n true false l k is = absurd (omega arith)
-    parts m n false true l k is = absurd (omega arith)
-
 -- a word of 0 counts nobody
 pub nobody : (p : GateParts) → gate_word p ≡ 0 → all_counted p ≡ 0
 nobody p e = go p.count p.shut e
@@ -230,10 +219,6 @@ module _ (c : Config) (last : ℕ) (log : History) (t : ℕ) (words : List ℕ) 
   shut_counted at =
       let shut : (if image.gate.parts.shut then 2 ^ 16 else 0) ≡ 65536 = ap (λ (b : Bool). if b then 2 ^ 16 else 0) (image.gate.shut.1 (t, at)) in
       let b = image.gate.word in omega arith
-
-  -- the parts that were read are those of the image
-  pub gate_read : c.threads ≤ 64 → (p : GateParts) → IsGate p → get_or words 0 0 ≡ gate_word p → image.gate.parts ≡ p
-  gate_read few p fits is = one_gate image.gate.parts p (gate_fits c (state log).role (get_or words 0 0) few image.gate) fits (sym image.gate.word ∙ is)
 
   -- a load of the gate counts as what it is named
   pub gate_seen : (name : GateNaming) → GateNameFits ((state log).role t) name → Turn c last log t (gate_named name (all_counted image.gate.parts) ∷ []) words held

@@ -20,7 +20,7 @@ use Rattle.jr_model.specs.declared.event.Act.{Act}
 use Rattle.jr_model.specs.declared.event.Act.TheVariants.{New, Reserve, ReserveFull, ReserveLost, Read, Write}
 use Rattle.jr_model.specs.State.{Contents, State, IsPresent, IsWord, AreWords}
 use Rattle.jr_model.specs.declared.event.Role.{Role}
-use Rattle.jr_model.specs.History.{by, state, role_of, role_from}
+use Rattle.jr_model.specs.History.{History, by, state, role_of, role_from}
 use Rattle.jr_model.proofs.Histories.{state_push}
 use Rattle.jr_model.proofs.Lengths.{lengths_fit}
 use Rattle.jr_model.proofs.Updates.{at_number_self}
@@ -32,12 +32,13 @@ use Rattle.jr_rule.specs.Acts.{publishing}
 use Rattle.jr_rule.specs.Grasping.{words_at, with_range, with_header, hold}
 use Rattle.jr_rule.specs.Image.{top_at, header_at, element_at, IsIn, IsHeaderOf, IsKnown}
 use Rattle.jr_rule.specs.Knowing.{view, state_of, KnowsHeader, HasWord, IsWordNow, IsFilled, words_for, published, fresh_from, ShowsPublished}
-use Rattle.jr_rule.specs.Rule.{Makes, Owes}
+use Rattle.jr_rule.specs.Rule.{IsFound, Makes, Owes}
 use Rattle.jr_rule.proofs.Found.{role_at, present_now}
 use Rattle.jr_rule.proofs.HeapImages.{one_header, none_known}
 use Rattle.jr_rule.proofs.HeapTurns.{sees_there, reserves, publishes_own, reads, writes, puts_own as stores_own}
 use Rattle.jr_rule.proofs.Headers.{header_some, header_positive}
 use Rattle.jr_rule.proofs.HeapSpaces.{elements_from, elements_length, none_beyond}
+use Rattle.jr_rule.proofs.Readings.{is_read, read_once}
 use Rattle.jr_rule.proofs.Owing.{gaining, quiet, written as renamed, unwritten, won, lost}
 use Rattle.jr_rule.proofs.Told.{IsHeaderWord, SawHeader, Published, used_word, SawTop, ClaimedTop, SawElement, PutElement, PutOwn}
 use Rattle.jr_rule.proofs.Turns.{Turn, turn_one, turn_none}
@@ -68,9 +69,12 @@ word_stays s s' Long v stay w = w
 word_stays s s' Text v stay w = w
 word_stays s s' Objects v stay w = ⊎_elim (λ e. inl e) (λ p. inr (stay v p)) w
 
-module _ (k : Known) (within : role_of (view k) ≡ Within) where
-  pub sees_header : (o : ℕ) → 1 ≤ o → o ≤ k.config.objects → Owes k (header_at k.config o) (λ n. n) (SawHeader o k)
-  sees_header o low high log words held f = go ((state log).objects o) refl (f.image.header o low high)
+module _ (k : Known) where
+  -- a load of a header, from the turn after which the thread knows the one that stands there
+  pub loads_header : (o : ℕ) → 1 ≤ o → o ≤ k.config.objects
+      → ((log : History) (words : List ℕ) (held : ℕ → Grasp) → IsFound k log words held → (h : HeaderParts) → IsKnown k.config words o h → Turn k.config k.last log k.thread [] words (hold held k.thread (with_header k.grasp o h)))
+      → Owes k (header_at k.config o) (λ n. n) (SawHeader o k)
+  loads_header o low high turn log words held f = go ((state log).objects o) refl (f.image.header o low high)
     where
       go : (z : Option Contents) → (state log).objects o ≡ z → IsHeaderOf z (get_or words (header_at k.config o) 0) → Makes k log (slice_set words (header_at k.config o) (get_or words (header_at k.config o) 0)) held (SawHeader o k (get_or words (header_at k.config o) 0))
       go None e w = quiet k log words held f _ (SawHeader o k (get_or words (header_at k.config o) 0)) []
@@ -80,8 +84,12 @@ module _ (k : Known) (within : role_of (view k) ≡ Within) where
           let known : IsKnown k.config words o w.parts = record { number = (low, high); fits = w.fits; word = w.word } in
           let g = with_header k.grasp o w.parts in
           gaining k log _ held (SawHeader o k (get_or words (header_at k.config o) 0)) [] g
-          (unwritten k log words (hold held k.thread g) (header_at k.config o) (sees_there k.config k.last log k.thread words f.legal held f.image f.fits.row (role_at k log words held f ∙ within) k.grasp f.fits.grasp o w.parts known))
+          (unwritten k log words (hold held k.thread g) (header_at k.config o) (turn log words held f w.parts known))
           (Some w.parts, (w.fits, w.word), refl, (record { contents = x; is = subst (λ l. (state l).objects o ≡ Some x) (sym (append-nil log)) e; kind = sym w.same_kind; long = sym w.same_length }, refl, one_header k.config k.last words (state log) held f.image k.thread o k.grasp f.fits.grasp w.parts known))
+
+module _ (k : Known) (within : role_of (view k) ≡ Within) where
+  pub sees_header : (o : ℕ) → 1 ≤ o → o ≤ k.config.objects → Owes k (header_at k.config o) (λ n. n) (SawHeader o k)
+  sees_header o low high = loads_header k o low high (λ log words held f. sees_there k.config k.last log k.thread words f.legal held f.image f.fits.row (role_at k log words held f ∙ within) k.grasp f.fits.grasp o)
 
   pub sees_top : (name : TopNaming) → Owes k top_at (λ n. n) (SawTop name k)
   sees_top name log words held f =
@@ -202,10 +210,10 @@ header_read None None n is sound complete = refl
 header_read (Some p) None n is sound complete = let some = header_positive p in let a = sound.1 in absurd (omega arith)
 
 pub top_some : (n : ℕ) (q : Option TopParts) (u : ℕ) → u < 2 ^ 24 → n ≡ used_word u → ((p : TopParts) → IsTop p → n ≡ top_word p → q ≡ Some p) → IsSome q
-top_some n q u few is complete = subst IsSome (sym (complete (record { used = u }) (record { used = few }) is)) refl
+top_some n q u few is complete = is_read q (record { used = u }) (complete (record { used = u }) (record { used = few }) is)
 
 pub top_is : (n : ℕ) (q : Option TopParts) (u : ℕ) (p : TopParts) → u < 2 ^ 24 → n ≡ used_word u → ((p : TopParts) → IsTop p → n ≡ top_word p → q ≡ Some p) → q ≡ Some p → p.used ≡ u
-top_is n q u p few is complete read = let same : Some p ≡ Some (record { used = u }) = sym read ∙ complete (record { used = u }) (record { used = few }) is in let equal : p ≡ record { used = u } = cc in ap (λ (z : TopParts). z.used) equal
+top_is n q u p few is complete read = ap (λ (z : TopParts). z.used) (read_once q (record { used = u }) p (complete (record { used = u }) (record { used = few }) is) read)
 
 -- the acts of an exchange of the top, which leave the role and the freshness
 pub claimed_acts : (looked more : ℕ) (k : Known) (n : ℕ) (acts : List Act) (k' : Known) → ClaimedTop looked more k n acts k'

@@ -1,5 +1,6 @@
 pub mod Goes
 pub mod SlotWords
+pub mod Readings
 pub mod Spaces
 pub mod Images
 pub mod Turns
@@ -19,10 +20,6 @@ pub mod HeapTurns
 pub mod CollectTurns
 pub mod Grasped
 pub mod PlainTook
-pub mod PlainTurns
-pub mod PlainSlots
-pub mod PlainPlaces
-pub mod PlainHeap
 pub mod Unused
 pub mod Zeros
 pub mod PlainHistories
@@ -35,12 +32,12 @@ pub mod Told
 pub mod Owing
 pub mod GateOwed
 pub mod SlotOwed
+pub mod PlaceOwed
+pub mod HeapOwed
 pub mod CollectTold
 pub mod CollectOwed
 pub mod Allowed
-pub mod PlaceOwed
-pub mod HeapOwed
-pub mod PlainCollect
+pub mod PlainOwed
 pub mod Meeting
 pub mod Ended
 pub mod Gathered

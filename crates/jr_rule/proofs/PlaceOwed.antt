@@ -1,10 +1,11 @@
 -- What a store to a local word owes, wherever they find the row.
-use Rattle.std.proofs.Common.{◌≡◌, ◌<◌, ℕ, Option, Some, None, [], ◌∷◌, slice_set, refl, subst, ◌∙◌}
+use Rattle.std.proofs.Common.{◌≡◌, ◌<◌, ◌≤◌, ◌^◌, ℕ, Option, Some, None, [], ◌∷◌, slice_set, refl, subst, ◌∙◌, arith}
 use Rattle.std.proofs.Math.Logic.{∥∥₁_elim}
 use Rattle.std.proofs.Props.{props}
 use Rattle.jr_word.specs.Local.{local_word}
 use Rattle.jr_model.specs.declared.event.Role.TheVariants.{Within}
-use Rattle.jr_model.specs.History.{role_of}
+use Rattle.jr_model.specs.History.{IsLegal, role_of}
+use Rattle.jr_model.proofs.InRoom.{in_room}
 use Rattle.jr_rule.specs.declared.known.Known.{Known}
 use Rattle.jr_rule.specs.Acts.{putting}
 use Rattle.jr_rule.specs.Image.{local_at, local_parts}
@@ -19,6 +20,13 @@ use Rattle.jr_rule.proofs.Told.{Put}
 pub optional_is : (o : Option ℕ) (k : Known) → ∥ HasOptional o k ∥₁ → HasOptional o k
 optional_is None k may = tt
 optional_is (Some o) k may = ∥∥₁_elim may (hlevel props) (λ h. h)
+
+-- and its number is one of the room
+pub optional_fits : (o : Option ℕ) (k : Known) → IsLegal k.config k.last k.seen → k.config.objects ≤ 65535 → HasOptional o k → (x : ℕ) → o ≡ Some x → (0 < x) × (x < 2 ^ 16)
+optional_fits o k legal few has x e =
+    let room = (in_room k.config k.last k.seen legal).objects x (subst (λ z. HasOptional z k) e has) in
+    let low = room.0 in
+    let high = room.1 in (omega arith, omega arith)
 
 module _ (k : Known) (within : role_of (view k) ≡ Within) where
   pub puts_local : (p : ℕ) (o : Option ℕ) → p < k.config.locals → HasOptional o k → Owes k (local_at k.config k.thread p) (λ n. local_word (local_parts o)) (λ n. Put p o k (local_word (local_parts o)))

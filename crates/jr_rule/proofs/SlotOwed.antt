@@ -1,5 +1,5 @@
 -- What the steps of slots owe, wherever they find the row.
-use Rattle.std.proofs.Common.{◌≡◌, ◌≢◌, ◌⊎◌, ⊎_elim, inl, inr, ◌<◌, ◌≤◌, ◌^◌, ℕ, true, false, ◌==◌, Result, Option, Some, IsSome, Ok, Err, List, [], ◌∷◌, get_or, slice_set, eqb, eq-eqb, ne_eqb, refl, sym, ap, subst, ◌∙◌, arith}
+use Rattle.std.proofs.Common.{◌≡◌, ◌≢◌, ◌⊎◌, ⊎_elim, inl, inr, ◌<◌, ◌≤◌, ◌^◌, ℕ, true, false, ◌==◌, Result, Option, Some, Ok, Err, List, [], ◌∷◌, get_or, slice_set, eqb, eq-eqb, ne_eqb, refl, sym, ap, ◌∙◌, arith}
 use Rattle.std.proofs.Math.Logic.{∥∥₁_elim}
 use Rattle.std.proofs.Props.{props}
 use mathlib.Core.Logic.{dite, ∥∥₁_map}
@@ -10,7 +10,7 @@ use Rattle.jr_word.specs.declared.handle.RefKind.{RefKind}
 use Rattle.jr_word.specs.declared.handle.RefKind.TheVariants.{Local}
 use Rattle.jr_word.specs.declared.slot.SlotParts.{SlotParts}
 use Rattle.jr_word.specs.declared.slot.SlotParts.TheVariants as slot
-use Rattle.jr_word.specs.Slot.{slot_word, IsSlot}
+use Rattle.jr_word.specs.Slot.{slot_word}
 use Rattle.jr_model.specs.declared.event.Role.TheVariants.{Within}
 use Rattle.jr_model.specs.declared.event.Found.{Found}
 use Rattle.jr_model.specs.declared.event.Found.TheVariants.{Object, Cleared, Stale}
@@ -36,14 +36,6 @@ use Rattle.jr_rule.proofs.SlotTurns.{sees, claims, frees, frees_late}
 use Rattle.jr_rule.proofs.Told.{SawSlot, Claimed, Freed}
 use Rattle.jr_rule.proofs.Effects.{slot_named_state}
 use Rattle.jr_rule.proofs.SlotWords.{reference_fits, can_prop}
-
--- a slot's word has a reading
-pub slot_some : (n : ℕ) (r : Option SlotParts) (p : SlotParts) → IsSlot p → n ≡ slot_word p → ((q : SlotParts) → IsSlot q → n ≡ slot_word q → r ≡ Some q) → IsSome r
-slot_some n r p fits is read = subst (λ z. IsSome z) (sym (read p fits is)) refl
-
--- and one only
-pub slot_is : (r : Option SlotParts) (p q : SlotParts) → r ≡ Some p → r ≡ Some q → q ≡ p
-slot_is r p q e f = let z = sym e ∙ f in cc
 
 -- the sizes bound what a slot's word has
 pub few_objects : (c : Config) (last : ℕ) → IsSized c last → c.objects < 2 ^ 16

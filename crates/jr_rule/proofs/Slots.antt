@@ -9,6 +9,7 @@ use Rattle.jr_word.specs.declared.handle.RefKind.TheVariants.{Global, Weak}
 use Rattle.jr_word.specs.declared.slot.SlotParts.{SlotParts}
 use Rattle.jr_word.specs.declared.slot.SlotParts.TheVariants as slot
 use Rattle.jr_word.specs.Slot.{slot_word, IsSlot}
+use Rattle.jr_word.proofs.OneWord.{slot_word-injective}
 use Rattle.jr_model.specs.declared.event.Found.{Found}
 use Rattle.jr_model.specs.declared.event.Found.TheVariants.{Object, Cleared, Stale}
 use Rattle.jr_model.specs.State.{Handle, State, same_kind, same_handle, IsOccupied}
@@ -20,7 +21,6 @@ use Rattle.jr_rule.specs.Acts.{found_object, is_its, reply, is_occupied, handle_
 use Rattle.jr_rule.specs.Image.{StandsAlone, SaysOfSlot, IsSlotOf}
 use Rattle.jr_rule.specs.Slots.{IsReference}
 use Rattle.jr_model.proofs.InRoom.{in_room}
-use Rattle.jr_rule.proofs.SlotWords.{one_reading}
 
 same_handles : (k k' : RefKind) (n n' i i' o o' : ℕ) → k ≡ k' → n ≡ n' → i ≡ i' → o ≡ o'
     → ◌≡◌ {A = Handle} (record { kind = k; serial = n; index = i; owner = o }) (record { kind = k'; serial = n'; index = i'; owner = o' })
@@ -158,7 +158,7 @@ module _ (c : Config) (last : ℕ) (log : History) (legal : IsLegal c last log) 
 
   -- the parts that were read are those of the image
   pub read_parts : (i w : ℕ) (x : IsSlotOf last (state log).refs (state log).given i w) (p : SlotParts) → IsSlot p → w ≡ slot_word p → x.parts ≡ p
-  read_parts i w x p fits e = one_reading x.parts p (slot_fits i w x) fits (sym x.word ∙ e)
+  read_parts i w x p fits e = slot_word-injective x.parts p (slot_fits i w x) fits (sym x.word ∙ e)
 
 -- what a slot's word shows
 pub shows_slot : (i w : ℕ) (s : State) (k : Known) (x : IsSlotOf k.last s.refs s.given i w) (p : SlotParts) → x.parts ≡ p → s ≡ state_of k → ShowsSlot i p k

@@ -26,6 +26,7 @@ use Rattle.jr_rule.specs.Image.{slot_at, header_at, StandsAlone, SaysOfSlot, IsS
 use Rattle.jr_rule.specs.Shown.{IsSmall, IsHistoryOf, HasHistory}
 use Rattle.jr_rule.specs.Slots.{is_of_kind}
 use Rattle.jr_model.proofs.InRoom.{in_room}
+use Rattle.jr_rule.proofs.Readings.{is_read}
 use Rattle.jr_rule.proofs.GateTurns.{bit_most, not_true}
 use Rattle.jr_rule.proofs.Slots.{found_there, slot_fits}
 use Rattle.jr_rule.proofs.Headers.{header_none, header_some}
@@ -132,7 +133,7 @@ module _ (c : Config) (words : List ℕ) (small : IsSmall c) where
 
   -- a slot's word has a reading
   pub slot_some : HasHistory c words → (i : ℕ) (r : Option SlotParts) → i < c.slots → ReadsSlot words i r → IsSome r
-  slot_some has i r l reads = ∥∥₁_elim has (hlevel props) (λ h. subst (λ z. IsSome z) (sym (slot_read h.0 h.1 h.2 i l r reads)) refl)
+  slot_some has i r l reads = ∥∥₁_elim has (hlevel props) (λ h. is_read r _ (slot_read h.0 h.1 h.2 i l r reads))
 
   pub one_more_slot : (kind : RefKind) (i count count' : ℕ) (p : SlotParts) → IsCounted c words (references_below kind i) count i → i < c.slots → ReadsSlot words i (Some p)
       → (b : Bool) → b ≡ is_of_kind kind p → count' ≡ count + bit b → IsCounted c words (references_below kind (i + 1)) count' (i + 1)
@@ -185,7 +186,7 @@ module _ (c : Config) (words : List ℕ) (small : IsSmall c) where
       reads (record { used = (state log).used }) (record { used = omega arith }) h.image.top
 
   pub top_some : HasHistory c words → (r : Option TopParts) → ReadsTop words r → IsSome r
-  top_some has r reads = ∥∥₁_elim has (hlevel props) (λ h. subst (λ z. IsSome z) (sym (top_read h.0 h.1 h.2 r reads)) refl)
+  top_some has r reads = ∥∥₁_elim has (hlevel props) (λ h. is_read r _ (top_read h.0 h.1 h.2 r reads))
 
   pub top_used : (p : TopParts) → ReadsTop words (Some p) → (last : ℕ) (log : History) → IsHistoryOf c words last log → p.used ≡ (state log).used
   top_used p reads last log h =

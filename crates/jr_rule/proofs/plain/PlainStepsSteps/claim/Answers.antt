@@ -1,8 +1,6 @@
 use Rattle.std.proofs.Common.{◌≡◌, Some, arith}
-use Rattle.jr_word.specs.Slot.{slot_word}
-use Rattle.jr_rule.specs.Image.{slot_at}
-use Rattle.jr_rule.proofs.PlainTook.{few_of, took, shown, writes}
-use Rattle.jr_rule.proofs.PlainSlots.{claimed, lost, object_some}
+use Rattle.jr_rule.proofs.PlainTook.{took, shown}
+use Rattle.jr_rule.proofs.PlainOwed.{claimed, lost, object_some}
 use Rattle.jr_rule.proofs.Unused.{unused_slot}
 use Rattle.jr_rule.proofs.SlotWords.{names_object}
 use Rattle.jr_rule.proofs.plain.PlainStepsSteps.claim.Goals as goal
@@ -11,30 +9,28 @@ pub returns-then-not-is_free : goal.returns-then-not-is_free
 returns-then-not-is_free g c =
     let s = c.args.self.now in
     took g.row.LAST s s
-    (lost s.config g.row.LAST (few_of g.row.LAST s (omega arith)) s.role s.fresh s.words.items c.args.index c.args.serial c.args.kind c.args.object c.slot-found.result c.requires.row c.slot-found.ensures.0 c.slot-found.ensures.1
+    (lost g.row.LAST (omega arith) s c.args.index c.args.serial c.args.kind c.args.object c.slot-found.result c.requires.row c.requires.kind c.slot-found.ensures.0 c.slot-found.ensures.1
     (λ e. let yes' = c.is_free.ensures.1 e in let no' = c.if-not-is_free.true in cc) c.requires.role)
 
 pub pack-made-requires : goal.pack-made-requires
 pack-made-requires g c =
     let s = c.args.self.now in
-    let some = object_some s.config g.row.LAST (few_of g.row.LAST s (omega arith)) s.role s.fresh s.words.items c.args.object c.requires.looked in
+    let some = object_some g.row.LAST (omega arith) s c.args.object c.requires.looked in
     names_object c.args.kind c.args.serial (Some c.args.object) c.reference.result c.reference.ensures (λ x e. let same : c.args.object ≡ x = cc in omega arith)
 
 pub returns : goal.returns
 returns g c =
     let s = c.args.self.now in
     took g.row.LAST s _
-    (writes (slot_at c.args.index) (slot_word c.reference.result) c.pack-made.result.0 c.pack-made.ensures
-    (claimed s.config g.row.LAST (few_of g.row.LAST s (omega arith)) s.role s.fresh s.words.items c.args.index c.args.serial c.args.kind c.args.object c.reference.result c.requires.row c.requires.kind c.reference.ensures
-    c.slot-found.result c.slot-found.ensures.1 (c.is_free.ensures.0 c.if-not-is_free.false) c.requires.role))
+    (claimed g.row.LAST (omega arith) s c.args.index c.args.serial c.args.kind c.args.object c.reference.result c.pack-made.result.0 c.requires.row c.requires.kind c.reference.ensures
+    c.slot-found.result c.slot-found.ensures.1 (c.is_free.ensures.0 c.if-not-is_free.false) c.pack-made.ensures c.requires.role)
 
 pub invariant_of-self-clause-shown : goal.invariant_of-self-clause-shown
 invariant_of-self-clause-shown g c =
     let s = c.args.self.now in
     shown
-    (writes (slot_at c.args.index) (slot_word c.reference.result) c.pack-made.result.0 c.pack-made.ensures
-    (claimed s.config g.row.LAST (few_of g.row.LAST s (omega arith)) s.role s.fresh s.words.items c.args.index c.args.serial c.args.kind c.args.object c.reference.result c.requires.row c.requires.kind c.reference.ensures
-    c.slot-found.result c.slot-found.ensures.1 (c.is_free.ensures.0 c.if-not-is_free.false) c.requires.role))
+    (claimed g.row.LAST (omega arith) s c.args.index c.args.serial c.args.kind c.args.object c.reference.result c.pack-made.result.0 c.requires.row c.requires.kind c.reference.ensures
+    c.slot-found.result c.slot-found.ensures.1 (c.is_free.ensures.0 c.if-not-is_free.false) c.pack-made.ensures c.requires.role)
     c.requires.looked
 
 pub invariant_of-self-clause-unused : goal.invariant_of-self-clause-unused

@@ -1,7 +1,7 @@
 use Rattle.std.proofs.Common.{◌∙◌, ap, arith}
 use Rattle.jr_word.specs.Top.{top_word}
-use Rattle.jr_rule.proofs.PlainTook.{few_of, took, shown}
-use Rattle.jr_rule.proofs.PlainHeap.{reserved, reserve_lost}
+use Rattle.jr_rule.proofs.PlainTook.{took, shown}
+use Rattle.jr_rule.proofs.PlainOwed.{reserved, reserve_lost}
 use Rattle.jr_rule.proofs.Unused.{unused_top}
 use Rattle.jr_rule.proofs.plain.PlainStepsSteps.claim_top.Goals as goal
 
@@ -9,20 +9,20 @@ pub returns-then-found-looked : goal.returns-then-found-looked
 returns-then-found-looked g c =
     let s = c.args.self.now in
     took g.row.LAST s s
-    (reserve_lost s.config g.row.LAST (few_of g.row.LAST s (omega arith)) s.role s.fresh s.words.items c.args.looked c.args.more c.top-found.result c.top-found.ensures.1 c.if-found-looked.true c.requires.role)
+    (reserve_lost g.row.LAST (omega arith) s c.args.looked c.args.more c.top-found.result c.top-found.ensures.1 c.if-found-looked.true c.requires.room c.requires.role)
 
 pub returns : goal.returns
 returns g c =
     let s = c.args.self.now in
     took g.row.LAST s _
-    (reserved s.config g.row.LAST (few_of g.row.LAST s (omega arith)) s.role s.fresh s.words.items c.args.looked c.args.more c.top_word.result
+    (reserved g.row.LAST (omega arith) s c.args.looked c.args.more c.top_word.result
     (c.top-found.ensures.1 ∙ ap (λ u. top_word (record { used = u })) c.if-found-looked.false) c.top_word.ensures c.requires.room c.requires.role)
 
 pub invariant_of-self-clause-shown : goal.invariant_of-self-clause-shown
 invariant_of-self-clause-shown g c =
     let s = c.args.self.now in
     shown
-    (reserved s.config g.row.LAST (few_of g.row.LAST s (omega arith)) s.role s.fresh s.words.items c.args.looked c.args.more c.top_word.result
+    (reserved g.row.LAST (omega arith) s c.args.looked c.args.more c.top_word.result
     (c.top-found.ensures.1 ∙ ap (λ u. top_word (record { used = u })) c.if-found-looked.false) c.top_word.ensures c.requires.room c.requires.role)
     c.requires.looked
 

@@ -1,7 +1,7 @@
 use Rattle.std.proofs.Common.{◌∙◌, ap, arith}
 use Rattle.jr_rule.specs.Image.{header_at}
 use Rattle.jr_rule.proofs.PlainTook.{took, shown}
-use Rattle.jr_rule.proofs.PlainCollect.{sized_of, dropped}
+use Rattle.jr_rule.proofs.PlainOwed.{dropped}
 use Rattle.jr_rule.proofs.Unused.{unused_header}
 use Rattle.jr_rule.proofs.plain.PlainStepsSteps.drop_header.Goals as goal
 
@@ -9,13 +9,13 @@ pub returns : goal.returns
 returns g c =
     let s = c.args.self.now in
     took g.row.LAST s _
-    (dropped s.config g.row.LAST (sized_of g.row.LAST s (omega arith)) s.threads.0 s.role c.requires.role s.fresh s.words.items c.args.object c.header_at-at.result (c.header_at-at.ensures ∙ ap (header_at s.config) c.from.ensures) c.requires.number)
+    (dropped g.row.LAST (omega arith) s c.requires.role c.args.object c.header_at-at.result (c.header_at-at.ensures ∙ ap (header_at s.config) c.from.ensures) c.requires.number)
 
 pub invariant_of-self-clause-shown : goal.invariant_of-self-clause-shown
 invariant_of-self-clause-shown g c =
     let s = c.args.self.now in
     shown
-    (dropped s.config g.row.LAST (sized_of g.row.LAST s (omega arith)) s.threads.0 s.role c.requires.role s.fresh s.words.items c.args.object c.header_at-at.result (c.header_at-at.ensures ∙ ap (header_at s.config) c.from.ensures) c.requires.number)
+    (dropped g.row.LAST (omega arith) s c.requires.role c.args.object c.header_at-at.result (c.header_at-at.ensures ∙ ap (header_at s.config) c.from.ensures) c.requires.number)
     c.requires.can
 
 pub invariant_of-self-clause-unused : goal.invariant_of-self-clause-unused

@@ -1,24 +1,24 @@
 use Rattle.std.proofs.Common.{◌+◌, arith}
 use Rattle.jr_rule.proofs.PlainTook.{took, shown}
-use Rattle.jr_rule.proofs.PlainCollect.{sized_of, moved_element, move_few}
+use Rattle.jr_rule.proofs.PlainOwed.{moved_element, move_few}
 use Rattle.jr_rule.proofs.Unused.{unused_element}
 use Rattle.jr_rule.proofs.plain.PlainStepsSteps.move_element.Goals as goal
 
 pub element_at-at-requires-clause-place : goal.element_at-at-requires-clause-place
 element_at-at-requires-clause-place g c =
     let s = c.args.self.now in
-    move_few s.config g.row.LAST (sized_of g.row.LAST s (omega arith)) s.threads.0 s.role c.requires.role s.fresh s.words.items c.args._object c.args._header c.args.place c.args.index c.args.word c.requires.index c.requires.can
+    move_few g.row.LAST (omega arith) s c.requires.role c.args._object c.args._header c.args.place c.args.index c.args.word c.requires.index c.requires.can
 
 pub overflow_add-place : goal.overflow_add-place
 overflow_add-place g c =
     let s = c.args.self.now in
     let few = s.space in
-    let below = move_few s.config g.row.LAST (sized_of g.row.LAST s (omega arith)) s.threads.0 s.role c.requires.role s.fresh s.words.items c.args._object c.args._header c.args.place c.args.index c.args.word c.requires.index c.requires.can in omega arith
+    let below = move_few g.row.LAST (omega arith) s c.requires.role c.args._object c.args._header c.args.place c.args.index c.args.word c.requires.index c.requires.can in omega arith
 
 pub index_mut-requires : goal.index_mut-requires
 index_mut-requires g c =
     let s = c.args.self.now in
-    let below = move_few s.config g.row.LAST (sized_of g.row.LAST s (omega arith)) s.threads.0 s.role c.requires.role s.fresh s.words.items c.args._object c.args._header c.args.place c.args.index c.args.word c.requires.index c.requires.can in
+    let below = move_few g.row.LAST (omega arith) s c.requires.role c.args._object c.args._header c.args.place c.args.index c.args.word c.requires.index c.requires.can in
     let at = c.element_at-at.ensures in
     let wide = s.wide in omega arith
 
@@ -26,13 +26,13 @@ pub returns : goal.returns
 returns g c =
     let s = c.args.self.now in
     took g.row.LAST s _
-    (moved_element s.config g.row.LAST (sized_of g.row.LAST s (omega arith)) s.threads.0 s.role c.requires.role s.fresh s.words.items c.args._object c.args._header c.args.place c.args.index c.args.word c.element_at-at.result c.element_at-at.ensures c.requires.index)
+    (moved_element g.row.LAST (omega arith) s c.requires.role c.args._object c.args._header c.args.place c.args.index c.args.word c.element_at-at.result c.element_at-at.ensures c.requires.index)
 
 pub invariant_of-self-clause-shown : goal.invariant_of-self-clause-shown
 invariant_of-self-clause-shown g c =
     let s = c.args.self.now in
     shown
-    (moved_element s.config g.row.LAST (sized_of g.row.LAST s (omega arith)) s.threads.0 s.role c.requires.role s.fresh s.words.items c.args._object c.args._header c.args.place c.args.index c.args.word c.element_at-at.result c.element_at-at.ensures c.requires.index)
+    (moved_element g.row.LAST (omega arith) s c.requires.role c.args._object c.args._header c.args.place c.args.index c.args.word c.element_at-at.result c.element_at-at.ensures c.requires.index)
     c.requires.can
 
 pub invariant_of-self-clause-unused : goal.invariant_of-self-clause-unused

@@ -1,8 +1,7 @@
-use Rattle.std.proofs.Common.{◌+◌, ◌∙◌, ap, sym, subst, arith}
+use Rattle.std.proofs.Common.{◌∙◌, ap, sym, subst, arith}
 use Rattle.jr_word.specs.Local.{local_word, IsLocalPlace}
-use Rattle.jr_rule.specs.Image.{local_parts}
-use Rattle.jr_rule.proofs.PlainTook.{few_of, took, shown, writes}
-use Rattle.jr_rule.proofs.PlainPlaces.{optional_few, put}
+use Rattle.jr_rule.proofs.PlainTook.{took, shown}
+use Rattle.jr_rule.proofs.PlainOwed.{optional_few, put}
 use Rattle.jr_rule.proofs.LocalTurns.{place_fits}
 use Rattle.jr_rule.proofs.plain.PlainStepsSteps.put_local.Goals as goal
 
@@ -10,19 +9,17 @@ pub pack-requires : goal.pack-requires
 pack-requires g c =
     let s = c.args.self.now in
     subst (λ p. IsLocalPlace p) (sym c.local_parts.ensures)
-    (place_fits c.args.object (optional_few s.config g.row.LAST (few_of g.row.LAST s (omega arith)) s.role s.fresh s.words.items c.args.object c.requires.object))
+    (place_fits c.args.object (optional_few g.row.LAST (omega arith) s c.args.object c.requires.object))
 
 pub returns : goal.returns
 returns g c =
     let s = c.args.self.now in
     took g.row.LAST s _
-    (writes (2 + s.config.slots + c.args.place) (local_word (local_parts c.args.object)) c.pack.result.0 (c.pack.ensures ∙ ap local_word c.local_parts.ensures)
-    (put s.config g.row.LAST (few_of g.row.LAST s (omega arith)) s.role s.fresh s.words.items c.args.place c.args.object c.requires.place c.requires.role))
+    (put g.row.LAST (omega arith) s c.args.place c.args.object c.pack.result.0 c.requires.place (c.pack.ensures ∙ ap local_word c.local_parts.ensures) c.requires.role)
 
 pub invariant_of-self-clause-shown : goal.invariant_of-self-clause-shown
 invariant_of-self-clause-shown g c =
     let s = c.args.self.now in
     shown
-    (writes (2 + s.config.slots + c.args.place) (local_word (local_parts c.args.object)) c.pack.result.0 (c.pack.ensures ∙ ap local_word c.local_parts.ensures)
-    (put s.config g.row.LAST (few_of g.row.LAST s (omega arith)) s.role s.fresh s.words.items c.args.place c.args.object c.requires.place c.requires.role))
+    (put g.row.LAST (omega arith) s c.args.place c.args.object c.pack.result.0 c.requires.place (c.pack.ensures ∙ ap local_word c.local_parts.ensures) c.requires.role)
     c.requires.object

@@ -1,24 +1,24 @@
 use Rattle.std.proofs.Common.{◌+◌, arith}
-use Rattle.jr_rule.proofs.PlainTook.{few_of, took, shown}
-use Rattle.jr_rule.proofs.PlainHeap.{own_few, put_word}
+use Rattle.jr_rule.proofs.PlainTook.{took, shown}
+use Rattle.jr_rule.proofs.PlainOwed.{own_few, put_word}
 use Rattle.jr_rule.proofs.Unused.{unused_element}
 use Rattle.jr_rule.proofs.plain.PlainStepsSteps.put_own.Goals as goal
 
 pub element_at-at-requires-clause-place : goal.element_at-at-requires-clause-place
 element_at-at-requires-clause-place g c =
     let s = c.args.self.now in
-    own_few s.config g.row.LAST (few_of g.row.LAST s (omega arith)) s.role s.fresh s.words.items c.args.place c.args.index c.requires.own c.requires.role
+    own_few g.row.LAST (omega arith) s c.args.place c.args.index c.requires.own
 
 pub overflow_add-place : goal.overflow_add-place
 overflow_add-place g c =
     let s = c.args.self.now in
     let few = s.space in
-    let below = own_few s.config g.row.LAST (few_of g.row.LAST s (omega arith)) s.role s.fresh s.words.items c.args.place c.args.index c.requires.own c.requires.role in omega arith
+    let below = own_few g.row.LAST (omega arith) s c.args.place c.args.index c.requires.own in omega arith
 
 pub index_mut-requires : goal.index_mut-requires
 index_mut-requires g c =
     let s = c.args.self.now in
-    let below = own_few s.config g.row.LAST (few_of g.row.LAST s (omega arith)) s.role s.fresh s.words.items c.args.place c.args.index c.requires.own c.requires.role in
+    let below = own_few g.row.LAST (omega arith) s c.args.place c.args.index c.requires.own in
     let at = c.element_at-at.ensures in
     let wide = s.wide in omega arith
 
@@ -26,13 +26,13 @@ pub returns : goal.returns
 returns g c =
     let s = c.args.self.now in
     took g.row.LAST s _
-    (put_word s.config g.row.LAST (few_of g.row.LAST s (omega arith)) s.role s.fresh s.words.items c.args.place c.args.index c.element_at-at.result c.args.word c.element_at-at.ensures c.requires.role)
+    (put_word g.row.LAST (omega arith) s c.args.place c.args.index c.element_at-at.result c.args.word c.element_at-at.ensures c.requires.role)
 
 pub invariant_of-self-clause-shown : goal.invariant_of-self-clause-shown
 invariant_of-self-clause-shown g c =
     let s = c.args.self.now in
     shown
-    (put_word s.config g.row.LAST (few_of g.row.LAST s (omega arith)) s.role s.fresh s.words.items c.args.place c.args.index c.element_at-at.result c.args.word c.element_at-at.ensures c.requires.role)
+    (put_word g.row.LAST (omega arith) s c.args.place c.args.index c.element_at-at.result c.args.word c.element_at-at.ensures c.requires.role)
     c.requires.own
 
 pub invariant_of-self-clause-unused : goal.invariant_of-self-clause-unused

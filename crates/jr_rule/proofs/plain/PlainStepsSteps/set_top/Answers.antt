@@ -1,6 +1,6 @@
 use Rattle.std.proofs.Common.{arith}
 use Rattle.jr_rule.proofs.PlainTook.{took, shown}
-use Rattle.jr_rule.proofs.PlainCollect.{sized_of, settled_top}
+use Rattle.jr_rule.proofs.PlainOwed.{settled_top}
 use Rattle.jr_rule.proofs.Unused.{unused_top}
 use Rattle.jr_rule.proofs.plain.PlainStepsSteps.set_top.Goals as goal
 
@@ -8,13 +8,13 @@ pub returns : goal.returns
 returns g c =
     let s = c.args.self.now in
     took g.row.LAST s _
-    (settled_top s.config g.row.LAST (sized_of g.row.LAST s (omega arith)) s.threads.0 s.role c.requires.role s.fresh s.words.items c.args.used c.top_word.result c.top_word.ensures)
+    (settled_top g.row.LAST (omega arith) s c.requires.role c.args.used c.top_word.result c.top_word.ensures)
 
 pub invariant_of-self-clause-shown : goal.invariant_of-self-clause-shown
 invariant_of-self-clause-shown g c =
     let s = c.args.self.now in
     shown
-    (settled_top s.config g.row.LAST (sized_of g.row.LAST s (omega arith)) s.threads.0 s.role c.requires.role s.fresh s.words.items c.args.used c.top_word.result c.top_word.ensures)
+    (settled_top g.row.LAST (omega arith) s c.requires.role c.args.used c.top_word.result c.top_word.ensures)
     c.requires.can
 
 pub invariant_of-self-clause-unused : goal.invariant_of-self-clause-unused

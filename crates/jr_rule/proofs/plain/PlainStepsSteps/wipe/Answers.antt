@@ -1,6 +1,6 @@
 use Rattle.std.proofs.Common.{arith}
 use Rattle.jr_rule.proofs.PlainTook.{took, shown}
-use Rattle.jr_rule.proofs.PlainCollect.{sized_of, wiped}
+use Rattle.jr_rule.proofs.PlainOwed.{wiped}
 use Rattle.jr_rule.proofs.Unused.{unused_slot}
 use Rattle.jr_rule.proofs.plain.PlainStepsSteps.wipe.Goals as goal
 
@@ -8,13 +8,13 @@ pub returns : goal.returns
 returns g c =
     let s = c.args.self.now in
     took g.row.LAST s _
-    (wiped s.config g.row.LAST (sized_of g.row.LAST s (omega arith)) s.threads.0 s.role c.requires.role s.fresh s.words.items c.args.index c.args.serial c.args._object c.pack-cleared.result.0 c.requires.row c.pack-cleared.ensures)
+    (wiped g.row.LAST (omega arith) s c.requires.role c.args.index c.args.serial c.args._object c.pack-cleared.result.0 c.requires.row c.pack-cleared.ensures)
 
 pub invariant_of-self-clause-shown : goal.invariant_of-self-clause-shown
 invariant_of-self-clause-shown g c =
     let s = c.args.self.now in
     shown
-    (wiped s.config g.row.LAST (sized_of g.row.LAST s (omega arith)) s.threads.0 s.role c.requires.role s.fresh s.words.items c.args.index c.args.serial c.args._object c.pack-cleared.result.0 c.requires.row c.pack-cleared.ensures)
+    (wiped g.row.LAST (omega arith) s c.requires.role c.args.index c.args.serial c.args._object c.pack-cleared.result.0 c.requires.row c.pack-cleared.ensures)
     c.requires.can
 
 pub invariant_of-self-clause-unused : goal.invariant_of-self-clause-unused

@@ -1,8 +1,9 @@
 use Rattle.std.proofs.Common.{[], ◌∷◌, refl, sym, ap, ◌∙◌}
 use Rattle.jr_model.specs.declared.event.Act.TheVariants.{ShutBusy}
 use Rattle.jr_rule.specs.Acts.{all_counted}
-use Rattle.jr_rule.proofs.GateOwed.{shuts, gate_some, gate_is}
+use Rattle.jr_rule.proofs.GateOwed.{shuts}
 use Rattle.jr_rule.proofs.Stepped.{held_next, took}
+use Rattle.jr_rule.proofs.Readings.{is_read, read_once}
 use Rattle.jr_rule.proofs.row.Row.bar.Goals as goal
 
 pub exchange-found-requires-clause-owes : goal.exchange-found-requires-clause-owes
@@ -18,14 +19,14 @@ invariant_of-pass c =
 pub unwrap-requires : goal.unwrap-requires
 unwrap-requires c =
     let s = (c.exchange-found.ensures.1).says.1 c.if-found-ne0.true in
-    gate_some c.exchange-found.result c.parts.result s.0 s.1 s.2 c.parts.ensures.complete
+    is_read c.parts.result s.0 (c.parts.ensures.complete s.0 s.1 s.2)
 
 pub returns-then-found-ne0-clause-step : goal.returns-then-found-ne0-clause-step
 returns-then-found-ne0-clause-step c =
     let p = c.args.pass.now in
     let t = c.exchange-found.ensures.1 in
     let s = (t.says).1 c.if-found-ne0.true in
-    let read = gate_is c.parts.result s.0 c.unwrap.result (c.parts.ensures.complete s.0 s.1 s.2) c.unwrap.ensures in
+    let read = read_once c.parts.result s.0 c.unwrap.result (c.parts.ensures.complete s.0 s.1 s.2) c.unwrap.ensures in
     took p _ c.exchange-found.result t _ c.exchange-found.ensures.0 (s.3 ∙ ap (λ n. ShutBusy n ∷ []) (ap all_counted (sym read) ∙ sym c.all_counted.ensures)) refl refl refl (λ m. s.4)
 
 pub invariant_of-pass-2 : goal.invariant_of-pass-2

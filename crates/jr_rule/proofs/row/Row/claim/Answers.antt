@@ -6,11 +6,12 @@ use Rattle.jr_rule.specs.Knowing.{LostClaim}
 use Rattle.jr_rule.specs.Passes.{known_of}
 use Rattle.jr_rule.specs.Rule.{Owes}
 use Rattle.jr_rule.proofs.Allowed.{object_known, object_some, serial_fits}
-use Rattle.jr_rule.proofs.SlotOwed.{claims_slot, claim_done, slot_some, slot_is}
+use Rattle.jr_rule.proofs.SlotOwed.{claims_slot, claim_done}
 use Rattle.jr_rule.proofs.Told.{Claimed}
 use Rattle.jr_rule.proofs.Stepped.{held_next, took}
 use Rattle.jr_rule.proofs.Effects.{claiming_role, claiming_fresh}
 use Rattle.jr_rule.proofs.SlotWords.{names_object}
+use Rattle.jr_rule.proofs.Readings.{is_read, read_once}
 use Rattle.jr_rule.proofs.row.Row.claim.Goals as goal
 
 pub pack-made-requires : goal.pack-made-requires
@@ -36,7 +37,7 @@ invariant_of-pass c =
 pub unwrap-requires : goal.unwrap-requires
 unwrap-requires c =
     let s = (c.exchange-found.ensures.1).says.1 (λ e. c.if-found-looked.true (e ∙ sym c.pack-looked.ensures)) in
-    slot_some c.exchange-found.result c.parts.result s.0 s.1 s.2 c.parts.ensures.complete
+    is_read c.parts.result s.0 (c.parts.ensures.complete s.0 s.1 s.2)
 
 pub returns-then-found-looked-clause-step : goal.returns-then-found-looked-clause-step
 returns-then-found-looked-clause-step c =
@@ -45,7 +46,7 @@ returns-then-found-looked-clause-step c =
     let s = (t.says).1 (λ e. c.if-found-looked.true (e ∙ sym c.pack-looked.ensures)) in
     let i = c.args.index in
     let q = c.unwrap.result in
-    let read = slot_is c.parts.result s.0 q (c.parts.ensures.complete s.0 s.1 s.2) c.unwrap.ensures in
+    let read = read_once c.parts.result s.0 q (c.parts.ensures.complete s.0 s.1 s.2) c.unwrap.ensures in
     took p _ c.exchange-found.result t _ c.exchange-found.ensures.0 (s.3 ∙ ap (λ z. claiming i c.args.serial c.args.kind c.args.object (Err z) ∷ []) (sym read)) refl refl refl
     (λ m. (subst (λ z. LostClaim i (Err z) (known_of p) t.new) (sym read) (s.4 m.1), (t.says).2))
 

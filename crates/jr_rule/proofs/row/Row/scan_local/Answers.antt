@@ -3,9 +3,10 @@ use Rattle.jr_rule.specs.Collecting.{ShowsLocal}
 use Rattle.jr_rule.specs.Image.{local_at}
 use Rattle.jr_rule.specs.Passes.{known_of}
 use Rattle.jr_rule.specs.Rule.{Owes}
-use Rattle.jr_rule.proofs.CollectOwed.{scans_local, local_some, local_is}
+use Rattle.jr_rule.proofs.CollectOwed.{scans_local}
 use Rattle.jr_rule.proofs.CollectTold.{ScannedLocal}
 use Rattle.jr_rule.proofs.Stepped.{held_next, took}
+use Rattle.jr_rule.proofs.Readings.{is_read, read_once}
 use Rattle.jr_rule.proofs.row.Row.scan_local.Goals as goal
 
 pub load-found-requires-clause-owes : goal.load-found-requires-clause-owes
@@ -25,12 +26,12 @@ invariant_of-pass c =
 pub unwrap-requires : goal.unwrap-requires
 unwrap-requires c =
     let s = (c.load-found.ensures.1).says in
-    local_some c.load-found.result c.parts.result s.0 s.1 s.2 c.parts.ensures.complete
+    is_read c.parts.result s.0 (c.parts.ensures.complete s.0 s.1 s.2)
 
 pub returns-clause-step : goal.returns-clause-step
 returns-clause-step c =
     let p = c.args.pass.now in
     let t = c.load-found.ensures.1 in
     let s = t.says in
-    let read = local_is c.parts.result s.0 c.unwrap.result (c.parts.ensures.complete s.0 s.1 s.2) c.unwrap.ensures in
+    let read = read_once c.parts.result s.0 c.unwrap.result (c.parts.ensures.complete s.0 s.1 s.2) c.unwrap.ensures in
     took p _ c.load-found.result t _ c.load-found.ensures.0 s.3 refl refl refl (λ m. (subst (λ q. ShowsLocal c.args.thread c.args.place q t.new) (sym read) s.4, s.5))

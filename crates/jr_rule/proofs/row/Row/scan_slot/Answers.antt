@@ -2,8 +2,9 @@ use Rattle.std.proofs.Common.{refl, sym, subst, ◌∙◌}
 use Rattle.jr_rule.specs.Knowing.{ShowsSlot}
 use Rattle.jr_rule.specs.Passes.{known_of}
 use Rattle.jr_rule.proofs.CollectOwed.{scans_slot}
-use Rattle.jr_rule.proofs.SlotOwed.{slot_some, slot_is}
+use Rattle.jr_rule.proofs.SlotOwed.{}
 use Rattle.jr_rule.proofs.Stepped.{held_next, took}
+use Rattle.jr_rule.proofs.Readings.{is_read, read_once}
 use Rattle.jr_rule.proofs.row.Row.scan_slot.Goals as goal
 
 pub load-found-requires-clause-owes : goal.load-found-requires-clause-owes
@@ -18,12 +19,12 @@ invariant_of-pass c =
 pub unwrap-requires : goal.unwrap-requires
 unwrap-requires c =
     let s = (c.load-found.ensures.1).says in
-    slot_some c.load-found.result c.parts.result s.0 s.1 s.2 c.parts.ensures.complete
+    is_read c.parts.result s.0 (c.parts.ensures.complete s.0 s.1 s.2)
 
 pub returns-clause-step : goal.returns-clause-step
 returns-clause-step c =
     let p = c.args.pass.now in
     let t = c.load-found.ensures.1 in
     let s = t.says in
-    let read = slot_is c.parts.result s.0 c.unwrap.result (c.parts.ensures.complete s.0 s.1 s.2) c.unwrap.ensures in
+    let read = read_once c.parts.result s.0 c.unwrap.result (c.parts.ensures.complete s.0 s.1 s.2) c.unwrap.ensures in
     took p _ c.load-found.result t _ c.load-found.ensures.0 s.3 refl refl refl (λ m. (subst (λ q. ShowsSlot c.args.index q t.new) (sym read) s.4, s.5))

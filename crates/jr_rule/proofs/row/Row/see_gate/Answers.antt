@@ -5,9 +5,10 @@ use Rattle.jr_model.specs.declared.event.Act.{Act}
 use Rattle.jr_rule.specs.declared.known.Known.{Known}
 use Rattle.jr_rule.specs.Knowing.{Goes, ShowsGate}
 use Rattle.jr_rule.specs.Passes.{known_of}
-use Rattle.jr_rule.proofs.GateOwed.{sees_gate, gate_some, gate_is}
+use Rattle.jr_rule.proofs.GateOwed.{sees_gate}
 use Rattle.jr_rule.proofs.Stepped.{acting_is, held_next, took}
 use Rattle.jr_rule.proofs.Effects.{gate_named_role, gate_named_fresh}
+use Rattle.jr_rule.proofs.Readings.{is_read, read_once}
 use Rattle.jr_rule.proofs.row.Row.see_gate.Goals as goal
 
 pub load-found-requires-clause-owes : goal.load-found-requires-clause-owes
@@ -24,14 +25,14 @@ invariant_of-pass c =
 pub unwrap-requires : goal.unwrap-requires
 unwrap-requires c =
     let s = (c.load-found.ensures.1).says in
-    gate_some c.load-found.result c.parts.result s.0 s.1 s.2 c.parts.ensures.complete
+    is_read c.parts.result s.0 (c.parts.ensures.complete s.0 s.1 s.2)
 
 pub returns-clause-step : goal.returns-clause-step
 returns-clause-step c =
     let p = c.args.pass.now in
     let t = c.load-found.ensures.1 in
     let s = t.says in
-    let read = gate_is c.parts.result s.0 c.unwrap.result (c.parts.ensures.complete s.0 s.1 s.2) c.unwrap.ensures in
+    let read = read_once c.parts.result s.0 c.unwrap.result (c.parts.ensures.complete s.0 s.1 s.2) c.unwrap.ensures in
     let n = all_counted c.unwrap.result in
     took p _ c.load-found.result t _ c.load-found.ensures.0 (s.3 ∙ ap (λ q. gate_named c.args.name (all_counted q) ∷ []) (sym read)) refl (gate_named_role c.args.name n p.role) (gate_named_fresh c.args.name n p.fresh)
     (λ m. (subst (λ q. ShowsGate q t.new) (sym read) s.4, s.5))
@@ -41,7 +42,7 @@ returns-clause-seen c =
     let p = c.args.pass.now in
     let t = c.load-found.ensures.1 in
     let s = t.says in
-    let read = gate_is c.parts.result s.0 c.unwrap.result (c.parts.ensures.complete s.0 s.1 s.2) c.unwrap.ensures in
+    let read = read_once c.parts.result s.0 c.unwrap.result (c.parts.ensures.complete s.0 s.1 s.2) c.unwrap.ensures in
     let acts_are = s.3 ∙ ap (λ q. gate_named c.args.name (all_counted q) ∷ []) (sym read) in
     let new = acting_is p.seat.me c.load-found.result _ t in (
       subst (λ (z : List Act × Known). Goes (known_of p) z.0 z.1) (λ i. (acts_are i, sym new i)) t.goes,

@@ -1,9 +1,10 @@
 use Rattle.std.proofs.Common.{[], ◌∷◌, refl, sym, ap, subst, ◌∙◌}
 use Rattle.jr_rule.specs.Acts.{slot_named}
 use Rattle.jr_rule.specs.Knowing.{ShowsSlot}
-use Rattle.jr_rule.proofs.SlotOwed.{sees_slot, slot_some, slot_is}
+use Rattle.jr_rule.proofs.SlotOwed.{sees_slot}
 use Rattle.jr_rule.proofs.Stepped.{held_next, took}
 use Rattle.jr_rule.proofs.Effects.{slot_named_role, slot_named_fresh}
+use Rattle.jr_rule.proofs.Readings.{is_read, read_once}
 use Rattle.jr_rule.proofs.row.Row.see_slot.Goals as goal
 
 pub load-found-requires-clause-owes : goal.load-found-requires-clause-owes
@@ -19,7 +20,7 @@ invariant_of-pass c =
 pub unwrap-requires : goal.unwrap-requires
 unwrap-requires c =
     let s = (c.load-found.ensures.1).says in
-    slot_some c.load-found.result c.parts.result s.0 s.1 s.2 c.parts.ensures.complete
+    is_read c.parts.result s.0 (c.parts.ensures.complete s.0 s.1 s.2)
 
 pub returns-clause-step : goal.returns-clause-step
 returns-clause-step c =
@@ -29,6 +30,6 @@ returns-clause-step c =
     let i = c.args.index in
     let name = c.args.name in
     let q = c.unwrap.result in
-    let read = slot_is c.parts.result s.0 q (c.parts.ensures.complete s.0 s.1 s.2) c.unwrap.ensures in
+    let read = read_once c.parts.result s.0 q (c.parts.ensures.complete s.0 s.1 s.2) c.unwrap.ensures in
     took p _ c.load-found.result t _ c.load-found.ensures.0 (s.3 ∙ ap (λ z. slot_named i name z ∷ []) (sym read)) refl (slot_named_role i name q p.role) (slot_named_fresh i name q p.fresh)
     (λ m. (subst (λ z. ShowsSlot i z t.new) (sym read) s.4, s.5))
