@@ -36,7 +36,7 @@ module _ (config : Config) (last : ℕ) (few : IsFew config last) (role : Role) 
   abbrev old : Standing
   old = standing config last role fresh
 
-  few_serials : (k : Known) → Shows old words k → k.last < 2 ^ 16
+  few_serials : (k : Known) → Shows old words k → k.last < 2 ^ 32
   few_serials k s = let f = few.serials in let e = s.pass.last in omega arith
 
   few_objects : (k : Known) → Shows old words k → k.config.objects < 2 ^ 16

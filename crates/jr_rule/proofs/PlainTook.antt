@@ -172,7 +172,7 @@ pub record IsFew (c : Config) (last : ℕ) : Type 0 where
   pub threads : (1 ≤ c.threads) × (c.threads ≤ 64)
   pub objects : c.objects ≤ 65535
   pub words : c.words ≤ 1048576
-  pub serials : last < 2 ^ 16
+  pub serials : last < 2 ^ 32
 
-pub few_of : (LAST : ℕ) (s : PlainSteps LAST) → LAST < 2 ^ 16 → IsFew s.config LAST
+pub few_of : (LAST : ℕ) (s : PlainSteps LAST) → LAST < 2 ^ 32 → IsFew s.config LAST
 few_of LAST s small = record { threads = s.threads; objects = s.objects; words = s.space; serials = small }

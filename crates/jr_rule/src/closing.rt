@@ -15,13 +15,13 @@ use std::alloc::Global;
 
 /// A room that was not closed, since threads are in it: the room and the pass, and E22.
 #[derive(Drop)]
-pub struct Left<const LAST: u16> {
+pub struct Left<const LAST: u32> {
     pub room: Room<LAST>,
     pub pass: Pass,
     pub fault: Fault,
 }
 
-impl<const LAST: u16> Room<LAST> {
+impl<const LAST: u32> Room<LAST> {
     ghost use Rattle.jr_rule.specs.Passes.{known_of, Closes};
     ghost use Rattle.jr_rule.specs.Rooms.{IsOfRoom, IsLeft};
 

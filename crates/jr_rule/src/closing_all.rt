@@ -19,12 +19,12 @@ use jr_word::Fault;
 
 /// A room that was not closed, and the other passes.
 #[derive(Drop)]
-pub struct AllLeft<const LAST: u16> {
+pub struct AllLeft<const LAST: u32> {
     pub left: Left<LAST>,
     pub others: Vec<Pass>,
 }
 
-impl<const LAST: u16> Room<LAST> {
+impl<const LAST: u32> Room<LAST> {
     ghost use Rattle.jr_rule.specs.Passes.{known_of, ClosesAll, HasSeenAll};
     ghost use Rattle.jr_rule.specs.Rooms.{IsOfRoom, AreLeft};
 

@@ -32,7 +32,7 @@ pub struct Grasp {
 /// What one pass knows: its room and thread, the history that it has seen, in which all its own events stand, what it holds, and how many steps it has taken, each one operation on one word.
 pub struct Known {
     pub config: Config,
-    pub last: u16,
+    pub last: u32,
     pub thread: u8,
     pub seen: LinkedList<Event>,
     pub grasp: Grasp,

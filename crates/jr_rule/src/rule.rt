@@ -8,7 +8,7 @@ use std::marker::{Brand, PhantomData};
 #[derive(Clone, Copy)]
 pub struct Sizes {
     pub config: Config,
-    pub last: u16,
+    pub last: u32,
 }
 
 /// The rule of a row.
