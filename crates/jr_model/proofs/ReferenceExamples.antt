@@ -35,7 +35,7 @@ none_stands c last k s stale =
 pub same_counts : {a b c d a' b' c' d' : ℕ} → a ≡ a' → b ≡ b' → c ≡ c' → d ≡ d' → counts a b c d ≡ counts a' b' c' d'
 same_counts p q r s = cc
 
-free_index : ((h : Handle) × (h.index ≡ 0) × (Stale ≢ Stale)) ⊎ ((serial : ℕ) → serial ≤ 65535 → (h : Handle) × (h.index ≡ 0) × (h.serial ≡ serial) × (false ≡ true)) → ⊥
+free_index : ((h : Handle) × (h.index ≡ 0) × (Stale ≢ Stale)) ⊎ ((serial : ℕ) → serial ≤ 4294967295 → (h : Handle) × (h.index ≡ 0) × (h.serial ≡ serial) × (false ≡ true)) → ⊥
 free_index (inl h) = h.2 refl
 free_index (inr f) = let h = f 0 (lit≤ tt) in cc (h.3)
 

@@ -15,7 +15,7 @@ counts globals weaks live used = record { globals = globals; weaks = weaks; live
 
 -- the last serial
 abbrev pub last_serial : ℕ
-last_serial = 65535
+last_serial = 4294967295
 
 -- ONE THREAD MAKES A GLOBAL REFERENCE AND DROPS IT
 

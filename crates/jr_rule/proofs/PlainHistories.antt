@@ -9,7 +9,7 @@ use Rattle.jr_rule.specs.Knowing.{Standing, state_of, MayKnow, anything}
 use Rattle.jr_rule.specs.Plain.{alone, Shows}
 use Rattle.jr_rule.specs.Shown.{IsHistoryOf, HasHistory}
 
-pub history_of : (s : Standing) (words : List ℕ) → s.last < 2 ^ 16 → (k : Known) → Shows s words k → IsHistoryOf s.config words k.last k.seen
+pub history_of : (s : Standing) (words : List ℕ) → s.last < 2 ^ 32 → (k : Known) → Shows s words k → IsHistoryOf s.config words k.last k.seen
 history_of s words few k shows = record {
   few = let e = shows.pass.last in omega arith;
   legal = subst (λ (c : Config). IsLegal c k.last k.seen) shows.pass.config shows.pass.legal;
@@ -17,5 +17,5 @@ history_of s words few k shows = record {
   image = subst (λ (c : Config). IsImage c k.last words (state_of k) (alone k.grasp)) shows.pass.config shows.image;
 }
 
-pub has_history : (s : Standing) (words : List ℕ) → s.last < 2 ^ 16 → MayKnow (Shows s) words anything → HasHistory s.config words
+pub has_history : (s : Standing) (words : List ℕ) → s.last < 2 ^ 32 → MayKnow (Shows s) words anything → HasHistory s.config words
 has_history s words few may = ∥∥₁_map may (λ k. (k.0.last, k.0.seen, history_of s words few k.0 k.1))

@@ -57,7 +57,7 @@ use Rattle.jr_rule.proofs.Summaries.{small_of}
 use Rattle.jr_rule.proofs.Told.{IsHeaderWord, SawHeader, used_word}
 use Rattle.jr_rule.proofs.Turns.{Turn}
 
-module _ (LAST : ℕ) (few : LAST < 2 ^ 16) (p : PlainSteps LAST) where
+module _ (LAST : ℕ) (few : LAST < 2 ^ 32) (p : PlainSteps LAST) where
   abbrev old : Standing
   old = standing p.config LAST p.role p.fresh
 

@@ -81,9 +81,9 @@ module _ (c : Config) (last : ℕ) (log : History) (t : ℕ) (words : List ℕ) 
   sees i naming.Probe p l fits e = turn_one c last log t words held legal (Probe i (is_occupied p))
       (row, (within, subst (λ q. IsTrue (is_occupied q) ↔ IsOccupied last (state log) i) e (probes last (state log) i (get_or words (slot_at i) 0) (image.slot i l)))) image
 
-  module _ (few_serials : last < 2 ^ 16) (few_objects : c.objects < 2 ^ 16) where
+  module _ (few_serials : last < 2 ^ 32) (few_objects : c.objects < 2 ^ 16) where
     -- a claim of a free slot
-    pub claims : (i serial : ℕ) (kind : RefKind) (o : ℕ) (p : SlotParts) → i < c.slots → serial < 2 ^ 16 → kind ≢ Local → IsReference kind serial (Some o) p → IsPresent (state log) o → get_or words (slot_at i) 0 ≡ slot_word (slot.Free serial)
+    pub claims : (i serial : ℕ) (kind : RefKind) (o : ℕ) (p : SlotParts) → i < c.slots → serial < 2 ^ 32 → kind ≢ Local → IsReference kind serial (Some o) p → IsPresent (state log) o → get_or words (slot_at i) 0 ≡ slot_word (slot.Free serial)
         → Turn c last log t (Create (handle_of kind serial i) o ∷ []) (slice_set words (slot_at i) (slot_word p)) held
     claims i serial kind o p l small global is present found =
         let s : State = state log in

@@ -16,7 +16,7 @@ names_object kind n o (Global m r) is some = some r is.2
 names_object kind n o (Weak m None) is some = tt
 names_object kind n o (Weak m (Some r)) is some = some r is.2
 
-pub reference_fits : (kind : RefKind) (n : ℕ) (o : Option ℕ) (p : SlotParts) → IsReference kind n o p → n < 2 ^ 16 → ((x : ℕ) → o ≡ Some x → (0 < x) × (x < 2 ^ 16)) → IsSlot p
+pub reference_fits : (kind : RefKind) (n : ℕ) (o : Option ℕ) (p : SlotParts) → IsReference kind n o p → n < 2 ^ 32 → ((x : ℕ) → o ≡ Some x → (0 < x) × (x < 2 ^ 16)) → IsSlot p
 reference_fits kind n o (Free m) is l some = absurd is
 reference_fits kind n o (Retired m) is l some = absurd is
 reference_fits kind n o (Global m r) is l some = let x = some r is.2 in let e = is.1 in record { serial = omega arith; object = x.1; names = x.0 }

@@ -134,12 +134,12 @@ module _ (last : ℕ) (s : State) (i w : ℕ) (x : IsSlotOf last s.refs s.given 
       go (slot.Global n o) y = (λ e. inl (handle_of Global n i, refl, λ z. let f = y.found in cc), λ q. refl)
       go (slot.Weak n o) y = (λ e. inl (handle_of Weak n i, refl, λ z. found_there o (sym y.found ∙ z)), λ q. refl)
 
-module _ (c : Config) (last : ℕ) (log : History) (legal : IsLegal c last log) (few_serials : last < 2 ^ 16) (few_objects : c.objects < 2 ^ 16) where
+module _ (c : Config) (last : ℕ) (log : History) (legal : IsLegal c last log) (few_serials : last < 2 ^ 32) (few_objects : c.objects < 2 ^ 16) where
   -- the parts of a slot are those that a slot can have
   pub slot_fits : (i w : ℕ) (x : IsSlotOf last (state log).refs (state log).given i w) → IsSlot x.parts
   slot_fits i w x = go x.parts x.says
     where
-      standing : (h : Handle) → (state log).refs h ≢ Stale → h.serial < 2 ^ 16
+      standing : (h : Handle) → (state log).refs h ≢ Stale → h.serial < 2 ^ 32
       standing h ne = let kept = kept_state c last log legal in let row = kept.in_row h (kept.was_given h ne) in let fits = row.3 in omega arith
 
       object : (h : Handle) (o : ℕ) → (state log).refs h ≡ Object o → (0 < o) × (o < 2 ^ 16)

@@ -30,7 +30,7 @@ view ks = record { passes = ks }
 pub record IsSized (c : Config) (last : ℕ) : Type 0 where
   pub limits : in_limits c ≡ true
   pub small : IsSmall c
-  pub serials : last < 2 ^ 16
+  pub serials : last < 2 ^ 32
 
 -- A PASS has seen a beginning of the history, in which all its own events stand, and holds what its thread does
 pub record Fits (c : Config) (last : ℕ) (log : History) (held : ℕ → Grasp) (k : Known) : Type 0 where

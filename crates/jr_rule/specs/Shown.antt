@@ -17,7 +17,7 @@ pub record IsSmall (c : Config) : Type 0 where
 
 -- the history is legal, with this last serial, and the words are its image
 pub record IsHistoryOf (c : Config) (words : List ℕ) (last : ℕ) (log : History) : Type 0 where
-  pub few : last < 2 ^ 16
+  pub few : last < 2 ^ 32
   pub legal : IsLegal c last log
   pub held : ℕ → Grasp
   pub image : IsImage c last words (state log) held

@@ -15,7 +15,7 @@ use std::alloc::Global;
 
 /// A room that was not closed, since threads are in it: the room and the pass, and E22.
 #[derive(Drop)]
-pub struct Left<const LAST: u16> {
+pub struct Left<const LAST: u32> {
     /// The room, as it was.
     pub room: Room<LAST>,
     /// The pass that looked at the gate.
@@ -24,7 +24,7 @@ pub struct Left<const LAST: u16> {
     pub fault: Fault,
 }
 
-impl<const LAST: u16> Room<LAST> {
+impl<const LAST: u32> Room<LAST> {
     ghost use Rattle.jr_rule.specs.Passes.{known_of, Closes};
     ghost use Rattle.jr_rule.specs.Rooms.{IsOfRoom, IsLeft};
 

@@ -19,14 +19,14 @@ use jr_word::Fault;
 
 /// A room that was not closed, and the other passes.
 #[derive(Drop)]
-pub struct AllLeft<const LAST: u16> {
+pub struct AllLeft<const LAST: u32> {
     /// The room and the first pass, and E22.
     pub left: Left<LAST>,
     /// The other passes, as they were.
     pub others: Vec<Pass>,
 }
 
-impl<const LAST: u16> Room<LAST> {
+impl<const LAST: u32> Room<LAST> {
     ghost use Rattle.jr_rule.specs.Passes.{known_of, ClosesAll, HasSeenAll};
     ghost use Rattle.jr_rule.specs.Rooms.{IsOfRoom, AreLeft};
 

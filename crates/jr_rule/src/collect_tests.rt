@@ -146,7 +146,7 @@ fn a_collection_leaves_these_words(rt: HostRuntime) -> Result<(), Fail> {
     prepare(&mut steps)?;
     let mut row = [0; 40];
     row[1] = 2;
-    row[2] = 0x4_0003;
+    row[2] = 0x4_0000_0003;
     row[35] = 1;
     assert_eq!(rt; steps.words.as_slice(), row.as_slice());
     collect(&rt, &mut steps)?;

@@ -44,7 +44,7 @@ pub struct Known {
     /// The sizes of its room.
     pub config: Config,
     /// The last serial of a slot or a local place.
-    pub last: u16,
+    pub last: u32,
     /// The number of its thread.
     pub thread: u8,
     /// The history that it has seen.

@@ -77,7 +77,7 @@ pub(crate) fn is_reference(kind: RefKind, parts: SlotParts) -> bool
 }
 
 /// Whether what the word of a slot says is that it is free with the serial.
-pub(crate) fn is_free(parts: SlotParts, serial: u16) -> bool
+pub(crate) fn is_free(parts: SlotParts, serial: u32) -> bool
     ensures { IsTrue result ↔ (parts ≡ Free serial) }
 {
     matches!(parts, SlotParts::Free { serial: next } if next == serial)
@@ -95,7 +95,7 @@ pub(crate) fn role_of_entry(entered: bool) -> Role
 }
 
 /// What the word of a slot says in which a reference stands.
-pub(crate) fn reference(kind: RefKind, serial: u16, object: Option<u16>) -> SlotParts
+pub(crate) fn reference(kind: RefKind, serial: u32, object: Option<u16>) -> SlotParts
     requires { CanStand kind object }
     ensures { IsReference kind serial object result }
 {
@@ -117,7 +117,7 @@ pub(crate) fn local_parts(object: Option<u16>) -> LocalParts
 }
 
 /// What the word of a slot says once its reference of the serial is deleted.
-pub(crate) fn freed_slot(serial: u16, last: u16) -> SlotParts
+pub(crate) fn freed_slot(serial: u32, last: u32) -> SlotParts
     ensures { result ≡ freed last serial }
 {
     if serial < last {

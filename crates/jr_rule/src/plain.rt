@@ -27,7 +27,7 @@ use std::alloc::Global;
 
 /// The steps of thread 0 over a row of plain words, with `LAST` as the last serial.
 #[derive(Drop)]
-pub struct PlainSteps<const LAST: u16> {
+pub struct PlainSteps<const LAST: u32> {
     /// The words of the row.
     pub words: Vec<u64>,
     /// The sizes of the room.
@@ -47,7 +47,7 @@ pub struct PlainSteps<const LAST: u16> {
     ghost shown: { MayKnow (Shows (standing config LAST role fresh)) words.items anything },
 }
 
-impl<const LAST: u16> PlainSteps<LAST> {
+impl<const LAST: u32> PlainSteps<LAST> {
     ghost use Rattle.jr_model.specs.State.{summary as summary_of};
     ghost use Rattle.jr_rule.specs.Knowing.{HasNoLocals, state_of};
     ghost use Rattle.jr_rule.specs.Plain.{unseen};
@@ -112,7 +112,7 @@ impl<const LAST: u16> PlainSteps<LAST> {
     }
 }
 
-impl<const LAST: u16> Steps for PlainSteps<LAST> {
+impl<const LAST: u32> Steps for PlainSteps<LAST> {
     ghost use Rattle.std.proofs.Common.{lit<};
 
     ghost stands = { λ s. standing s.config LAST s.role s.fresh };
@@ -127,7 +127,7 @@ impl<const LAST: u16> Steps for PlainSteps<LAST> {
         0
     }
 
-    fn last(&self) -> u16 {
+    fn last(&self) -> u32 {
         LAST
     }
 
@@ -185,7 +185,7 @@ impl<const LAST: u16> Steps for PlainSteps<LAST> {
     fn claim(
         &mut self,
         index: u16,
-        serial: u16,
+        serial: u32,
         kind: RefKind,
         object: u16,
     ) -> Result<(), SlotParts> {
@@ -274,7 +274,7 @@ impl<const LAST: u16> Steps for PlainSteps<LAST> {
         self.word(at)
     }
 
-    fn wipe(&mut self, index: u16, serial: u16, _object: u16) {
+    fn wipe(&mut self, index: u16, serial: u32, _object: u16) {
         let cleared = SlotWord::pack(SlotParts::Weak {
             serial,
             object: None,

@@ -10,12 +10,12 @@ use std::alloc::Global;
 
 /// A room: one row of atomic words, which the holders of its passes share, with `LAST` as the last serial.
 #[derive(Drop)]
-pub struct Room<const LAST: u16> {
+pub struct Room<const LAST: u32> {
     pub(crate) row: Row,
     ghost last: { row.last ≡ LAST },
 }
 
-impl<const LAST: u16> Room<LAST> {
+impl<const LAST: u32> Room<LAST> {
     ghost use Rattle.jr_rule.specs.Rooms.{IsOpening};
 
     /// Opens a room of zeros, with one pass a thread, from thread 0 upward: E16, E17.

@@ -14,7 +14,7 @@ use jr_word::{Config, GateParts, HandleParts, HeaderParts, LocalParts, RefKind, 
 
 /// The steps that the holder of a pass takes in its room.
 #[derive(Drop)]
-pub struct RoomSteps<'a, const LAST: u16> {
+pub struct RoomSteps<'a, const LAST: u32> {
     /// The room that it steps in.
     pub room: &'a Room<LAST>,
     /// The pass that it steps with.
@@ -22,7 +22,7 @@ pub struct RoomSteps<'a, const LAST: u16> {
     ghost at: { IsAt room.now.row pass },
 }
 
-impl<'a, const LAST: u16> RoomSteps<'a, LAST> {
+impl<'a, const LAST: u32> RoomSteps<'a, LAST> {
     ghost use Rattle.jr_rule.specs.Passes.{known_of, standing_of, Knows, IsSame};
     ghost use Rattle.jr_rule.specs.Rooms.{IsOfRoom};
 
@@ -54,7 +54,7 @@ impl<'a, const LAST: u16> RoomSteps<'a, LAST> {
     }
 }
 
-impl<const LAST: u16> Steps for RoomSteps<'_, LAST> {
+impl<const LAST: u32> Steps for RoomSteps<'_, LAST> {
     ghost use Rattle.jr_rule.specs.Passes.{standing_of, Knows};
     ghost use Rattle.jr_rule.specs.PassLaws.{some_of, unused_of, space_of};
 
@@ -70,7 +70,7 @@ impl<const LAST: u16> Steps for RoomSteps<'_, LAST> {
         self.pass.thread
     }
 
-    fn last(&self) -> u16 {
+    fn last(&self) -> u32 {
         LAST
     }
 
@@ -113,7 +113,7 @@ impl<const LAST: u16> Steps for RoomSteps<'_, LAST> {
     fn claim(
         &mut self,
         index: u16,
-        serial: u16,
+        serial: u32,
         kind: RefKind,
         object: u16,
     ) -> Result<(), SlotParts> {
@@ -180,7 +180,7 @@ impl<const LAST: u16> Steps for RoomSteps<'_, LAST> {
             .scan_element(&mut self.pass, object, header, index)
     }
 
-    fn wipe(&mut self, index: u16, serial: u16, object: u16) {
+    fn wipe(&mut self, index: u16, serial: u32, object: u16) {
         self.room.row.wipe(&mut self.pass, index, serial, object);
     }
 

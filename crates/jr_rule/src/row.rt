@@ -47,7 +47,7 @@ use std::alloc::{AllocError, Global};
 pub struct Row {
     pub(crate) table: Table<(), View, Sizes, Rule, Global>,
     pub(crate) config: Config,
-    pub(crate) last: u16,
+    pub(crate) last: u32,
     ghost key: { table.shared.key ≡ sizes config last },
     ghost no_slots: { table.shared.table_id.slots ≡ 0 },
     ghost words: { table.shared.table_id.words ≡ row_words config },
@@ -62,7 +62,7 @@ impl Row {
     pub(crate) fn open(
         alloc: Global,
         config: Config,
-        last: u16,
+        last: u32,
     ) -> Result<(Row, Vec<Pass>), AllocError>
         requires { in_limits config ≡ true }
         ensures { IfOk result (λ r. AreOpened config last r.0 r.1.items) }

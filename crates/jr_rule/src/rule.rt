@@ -10,7 +10,7 @@ pub struct Sizes {
     /// The sizes of the room.
     pub config: Config,
     /// The last serial.
-    pub last: u16,
+    pub last: u32,
 }
 
 /// The rule of a row.

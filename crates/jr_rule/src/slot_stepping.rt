@@ -33,7 +33,7 @@ impl Row {
         &self,
         pass: &mut Pass,
         index: u16,
-        serial: u16,
+        serial: u32,
         kind: RefKind,
         object: u16,
     ) -> Result<(), SlotParts>
@@ -49,7 +49,7 @@ impl Row {
         let looked = SlotWord::pack(SlotParts::Free { serial });
         let made = SlotWord::pack(reference(kind, serial, Some(object)));
         let about = (index, serial, kind, object);
-        let found = self.exchange::<Brand, (u16, u16, RefKind, u16)>(
+        let found = self.exchange::<Brand, (u16, u32, RefKind, u16)>(
             &mut pass.seat,
             at,
             looked.0,

@@ -35,7 +35,7 @@ pub trait Steps {
         ensures { result ≡ (stands self.now).thread };
 
     /// The last serial of a slot or a local place.
-    fn last(&self) -> u16
+    fn last(&self) -> u32
         ensures { result ≡ (stands self.now).last };
 
     /// Where the thread stands towards the gate.
@@ -87,7 +87,7 @@ pub trait Steps {
     fn claim(
         &mut self,
         index: u16,
-        serial: u16,
+        serial: u32,
         kind: RefKind,
         object: u16,
     ) -> Result<(), SlotParts>
@@ -185,7 +185,7 @@ pub trait Steps {
         ensures { Took stands knows self.old self.new [] (IsThere object header index) (λ j k. ShowsElement object index result k × keeps j k) };
 
     /// Takes its object from a weak reference, which stays.
-    fn wipe(&mut self, index: u16, serial: u16, object: u16)
+    fn wipe(&mut self, index: u16, serial: u32, object: u16)
         requires role { (stands self.old).role ≡ Collecting }
         requires row { index < (stands self.old).config.slots }
         requires can { MayKnow knows self.old (CanWipe index serial object) }

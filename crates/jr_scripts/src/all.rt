@@ -18,7 +18,7 @@ use std::sync::Wait;
 use std::thread::Threads;
 
 /// The last serial of a slot and of a local place.
-const LAST: u16 = 65_535;
+const LAST: u32 = 4_294_967_295;
 
 /// The line of a script on which its first thread's part begins.
 const FIRST_PART: usize = 2;
@@ -121,7 +121,7 @@ fn text_of_all<R: Threads + Wait>(
     script: &Script,
     turns: u64,
 ) -> Result<Vec<u8>, Fault>
-    ensures { IfOk result (λ text. IsRunOfAll turns 65535 script.now text.items) }
+    ensures { IfOk result (λ text. IsRunOfAll turns 4294967295 script.now text.items) }
 {
     let parts = script.threads.as_slice();
     if parts.len() != script.config.threads as usize {
@@ -153,7 +153,7 @@ pub fn run_all<R: Threads + Wait>(
     turns: u64,
     out: &mut Vec<u8>,
 ) -> Result<(), Fault>
-    ensures ok { OnOk result ((text : List ℕ) × (out.new.items ≡ out.old.items ++ text) × IsRunOfAll turns 65535 script.now text) }
+    ensures ok { OnOk result ((text : List ℕ) × (out.new.items ≡ out.old.items ++ text) × IsRunOfAll turns 4294967295 script.now text) }
     ensures err { OnErr result (out.new.items ≡ out.old.items) }
 {
     let text = text_of_all(rt, alloc, script, turns)?;

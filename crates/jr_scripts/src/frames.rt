@@ -10,7 +10,7 @@ const MOST_PLACES: usize = 4_096;
 #[derive(Clone, Copy, Default)]
 struct Place {
     /// How many handles it has given: those of serials 0 upward.
-    given: u32,
+    given: u64,
     /// The object of the reference here, 0 where it is free or retired.
     object: u16,
 }
@@ -24,7 +24,7 @@ impl Place {
         ensures { IsTrue result ↔ ((handle.kind ≡ Local) × (handle.serial + 1 ≡ self.now.given) × (handle.owner ≡ thread)) }
     {
         handle.kind == RefKind::Local
-            && u32::from(handle.serial) + 1 == self.given
+            && u64::from(handle.serial) + 1 == self.given
             && handle.owner == thread
     }
 }
@@ -33,7 +33,7 @@ impl Place {
 #[derive(Drop)]
 pub struct Frames {
     thread: u8,
-    last: u16,
+    last: u32,
     /// Every place, by number.
     places: ArrayVec<Place, MOST_PLACES>,
     /// The places that hold a reference, the oldest reference first.
@@ -58,7 +58,7 @@ impl Frames {
     ghost use Rattle.jr_scripts.specs.Table.{IsNext, IsOnly};
 
     /// No reference, and as many places as the configuration says.
-    pub fn new(thread: u8, config: &Config, last: u16) -> Frames
+    pub fn new(thread: u8, config: &Config, last: u32) -> Frames
         requires { config.now.locals ≤ 4096 }
         ensures { result ≡ record { frames = fresh_frames config.now.locals; thread = thread; last = last } }
     {
@@ -79,14 +79,14 @@ impl Frames {
         ensures none { IfNone result (free_places self.now.last self.now.frames ≡ 0) }
         ensures some { IfSome result (IsNext self.now) }
     {
-        let last = u32::from(self.last);
+        let last = u64::from(self.last);
         let index = self
             .places
             .iter()
             .position(|place| place.object == 0 && place.given <= last)?;
         Some(HandleParts {
             kind: RefKind::Local,
-            serial: self.places[index].given as u16,
+            serial: self.places[index].given as u32,
             index: index as u16,
             owner: self.thread,
         })

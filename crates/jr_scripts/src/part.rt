@@ -28,7 +28,7 @@ pub(crate) struct ThreadRun {
 }
 
 /// Does a job.
-pub(crate) fn run_job<const LAST: u16>(
+pub(crate) fn run_job<const LAST: u32>(
     alloc: Global,
     room: &Room<LAST>,
     first: usize,

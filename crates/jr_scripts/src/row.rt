@@ -43,7 +43,7 @@ fn found(handle: HandleParts, word: SlotParts) -> Found
 }
 
 /// What the reference of a kind and serial, which stands in the handle's slot, says of the handle.
-fn found_standing(handle: HandleParts, kind: RefKind, serial: u16, object: Option<u16>) -> Found
+fn found_standing(handle: HandleParts, kind: RefKind, serial: u32, object: Option<u16>) -> Found
     ensures { result ≡ cond (is_its handle kind serial) (found_object object) Stale }
 {
     if handle.kind != kind || handle.serial != serial {

@@ -14,7 +14,7 @@ use jr_word::{Config, Fault};
 use std::alloc::{AllocError, Global};
 
 /// The last serial of a slot and of a local place.
-const LAST: u16 = 65_535;
+const LAST: u32 = 4_294_967_295;
 
 /// The line of a script on which the first command of its first thread stands.
 const FIRST_COMMAND: usize = 3;
@@ -30,7 +30,7 @@ fn out_of_memory(_: AllocError) -> Fault
 fn run_part(alloc: Global, config: Config, part: &ThreadPart, turns: u64) -> Result<Vec<u8>, Fault>
     requires one { config.threads ≡ 1 }
     requires limits { in_limits config ≡ true }
-    ensures ok { IfOk result (λ text. IsRun turns 65535 config part.now text.items) }
+    ensures ok { IfOk result (λ text. IsRun turns 4294967295 config part.now text.items) }
     ensures err { IfErr result (λ e. e ≡ Memory) }
 {
     let mut text = heading(alloc, &part.name).map_err(out_of_memory)?;
@@ -52,7 +52,7 @@ fn run_part(alloc: Global, config: Config, part: &ThreadPart, turns: u64) -> Res
 pub fn run_one(alloc: Global, script: &Script, turns: u64, out: &mut Vec<u8>) -> Result<(), Fault>
     ensures size { (result ≡ Err Size) ↔ (¬ (IsSingle script.now)) }
     ensures memory { IfErr result (λ e. (e ≡ Size) ⊎ (e ≡ Memory)) }
-    ensures ok { OnOk result (RunsSingle turns 65535 script.now out.old.items out.new.items) }
+    ensures ok { OnOk result (RunsSingle turns 4294967295 script.now out.old.items out.new.items) }
     ensures err { OnErr result (out.new.items ≡ out.old.items) }
 {
     let [part] = script.threads.as_slice() else {

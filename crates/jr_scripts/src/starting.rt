@@ -31,7 +31,7 @@ impl<'a> Promise<ThreadRun> for Doing<'a> {
 }
 
 /// Does a job in a thread of its own, where one can be started.
-fn start<'s, E, const LAST: u16>(
+fn start<'s, E, const LAST: u32>(
     alloc: Global,
     scope: &Scope<'s, E>,
     room: &'s Room<LAST>,
@@ -73,7 +73,7 @@ fn given_up<'s, R: Threads>(
 }
 
 /// Does jobs, each in a thread of its own.
-fn run_jobs<'s, E, const LAST: u16, R: Threads>(
+fn run_jobs<'s, E, const LAST: u32, R: Threads>(
     rt: &R,
     alloc: Global,
     scope: &Scope<'s, E>,
@@ -101,7 +101,7 @@ fn run_jobs<'s, E, const LAST: u16, R: Threads>(
 }
 
 /// The same, and each thread has ended.
-pub(crate) fn run_threads<'a, const LAST: u16, R: Threads + Wait>(
+pub(crate) fn run_threads<'a, const LAST: u32, R: Threads + Wait>(
     rt: &R,
     alloc: Global,
     room: &'a Room<LAST>,

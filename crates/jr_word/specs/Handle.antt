@@ -18,10 +18,10 @@ owner_limit Weak = 1
 
 -- the parts that a handle can have
 pub record IsHandle (p : HandleParts) : Type 0 where
-  pub serial : p.serial < 2 ^ 16
+  pub serial : p.serial < 2 ^ 32
   pub index : p.index < 2 ^ 16
   pub owner : p.owner < owner_limit p.kind
 
--- THE WORD of a handle: bits 0 to 1 its kind, 2 to 17 its serial, 18 to 33 its index, 34 to 39 its owner
+-- THE WORD of a handle: bits 0 to 1 its kind, 2 to 33 its serial, 34 to 49 its index, 50 to 55 its owner
 abbrev pub handle_word : HandleParts → ℕ
-handle_word p = reference_code p.kind + 4 * p.serial + 2 ^ 18 * p.index + 2 ^ 34 * p.owner
+handle_word p = reference_code p.kind + 4 * p.serial + 2 ^ 34 * p.index + 2 ^ 50 * p.owner

@@ -7,5 +7,6 @@ pub mod Handle
 pub mod Header
 pub mod Kind
 pub mod Local
+pub mod Narrow
 pub mod Slot
 pub mod Top

@@ -34,10 +34,10 @@ NamesObject (Weak serial (Some object)) = 0 < object
 
 -- the parts that a slot can have
 pub record IsSlot (p : SlotParts) : Type 0 where
-  pub serial : slot_serial p < 2 ^ 16
+  pub serial : slot_serial p < 2 ^ 32
   pub object : slot_object p < 2 ^ 16
   pub names : NamesObject p
 
--- THE WORD of a slot: bits 0 to 1 its state, 2 to 17 its serial, 18 to 33 its object
+-- THE WORD of a slot: bits 0 to 1 its state, 2 to 33 its serial, 34 to 49 its object
 abbrev pub slot_word : SlotParts → ℕ
-slot_word p = slot_state p + 4 * slot_serial p + 2 ^ 18 * slot_object p
+slot_word p = slot_state p + 4 * slot_serial p + 2 ^ 34 * slot_object p

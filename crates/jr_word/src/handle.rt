@@ -1,6 +1,6 @@
 //! Handles: references as native code holds them.
 
-use crate::bits::u16_at;
+use crate::bits::{u16_at, u32_at};
 
 /// The kind of a reference.
 #[derive(Clone, Copy, Debug, PartialEq, Eq)]
@@ -18,8 +18,8 @@ pub enum RefKind {
 pub struct HandleParts {
     /// The kind of the reference.
     pub kind: RefKind,
-    /// Which of the handles of its slot or place it is, from 0.
-    pub serial: u16,
+    /// The handles of one slot or local place have serials from 0 up, in the order in which it gave them.
+    pub serial: u32,
     /// The slot, or the place of a local reference.
     pub index: u16,
     /// The thread of a local reference, else 0.
@@ -62,7 +62,7 @@ impl RefKind {
 
     /// How many threads can own a reference of the kind: all 64, or thread 0 alone.
     #[inline]
-    fn owner_limit(self) -> u64
+    pub(crate) fn owner_limit(self) -> u64
         ensures { result ≡ owner_limit self }
     {
         match self {
@@ -86,8 +86,8 @@ impl Handle {
         ensures { result.0 ≡ handle_word parts }
     {
         let serial = u64::from(parts.serial) << 2;
-        let index = u64::from(parts.index) << 18;
-        let owner = u64::from(parts.owner) << 34;
+        let index = u64::from(parts.index) << 34;
+        let owner = u64::from(parts.owner) << 50;
         Handle(parts.kind.code() + serial + index + owner)
     }
 
@@ -98,14 +98,14 @@ impl Handle {
         ensures complete { (parts : _) → IsHandle parts → word ≡ handle_word parts → result ≡ Some parts }
     {
         let kind = RefKind::from_code(word & 3)?;
-        let owner = word >> 34;
+        let owner = word >> 50;
         if owner >= kind.owner_limit() {
             return None;
         }
         Some(HandleParts {
             kind,
-            serial: u16_at(word, 2),
-            index: u16_at(word, 18),
+            serial: u32_at(word, 2),
+            index: u16_at(word, 34),
             owner: owner as u8,
         })
     }

@@ -10,6 +10,7 @@ mod handle;
 mod header;
 mod kind;
 mod local;
+mod narrow;
 mod slot;
 mod top;
 

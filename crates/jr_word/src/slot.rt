@@ -1,18 +1,18 @@
 //! The words of slots.
 
-use crate::bits::u16_at;
+use crate::bits::{u16_at, u32_at};
 
 /// What the word of a slot says.
 #[derive(Clone, Copy, Debug, PartialEq, Eq)]
 pub enum SlotParts {
     /// The next reference here has this serial.
-    Free { serial: u16 },
+    Free { serial: u32 },
     /// Never used again.
-    Retired { serial: u16 },
+    Retired { serial: u32 },
     /// A global reference to an object, numbered from 1.
-    Global { serial: u16, object: u16 },
+    Global { serial: u32, object: u16 },
     /// A weak global reference, to no object where it is cleared.
-    Weak { serial: u16, object: Option<u16> },
+    Weak { serial: u32, object: Option<u16> },
 }
 
 /// The word of a slot.
@@ -35,7 +35,7 @@ impl SlotWord {
             SlotParts::Global { serial, object } => (2, serial, object),
             SlotParts::Weak { serial, object } => (3, serial, object.unwrap_or(0)),
         };
-        SlotWord(state + (u64::from(serial) << 2) + (u64::from(object) << 18))
+        SlotWord(state + (u64::from(serial) << 2) + (u64::from(object) << 34))
     }
 
     /// What a word says of a slot, if it is well formed.
@@ -44,11 +44,11 @@ impl SlotWord {
         ensures sound { IfSome result (λ parts. IsSlot parts × (word ≡ slot_word parts)) }
         ensures complete { (parts : _) → IsSlot parts → word ≡ slot_word parts → result ≡ Some parts }
     {
-        if word >> 34 != 0 {
+        if word >> 50 != 0 {
             return None;
         }
-        let serial = u16_at(word, 2);
-        let object = u16_at(word, 18);
+        let serial = u32_at(word, 2);
+        let object = u16_at(word, 34);
         match (word & 3, object) {
             (0, 0) => Some(SlotParts::Free { serial }),
             (1, 0) => Some(SlotParts::Retired { serial }),

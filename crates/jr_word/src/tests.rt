@@ -5,7 +5,7 @@ ghost use Rattle.std.specs.Prelude.{◌≡◌, Some};
 use crate::*;
 use std::test::Fail;
 
-fn handle(kind: RefKind, serial: u16, index: u16, owner: u8) -> Option<HandleParts> {
+fn handle(kind: RefKind, serial: u32, index: u16, owner: u8) -> Option<HandleParts> {
     Some(HandleParts {
         kind,
         serial,
@@ -18,17 +18,27 @@ fn handle(kind: RefKind, serial: u16, index: u16, owner: u8) -> Option<HandlePar
 fn handles(rt: HostRuntime) {
     assert_eq!(rt; Handle::NULL.0, 0);
     let rows = [
-        (0xc0016, handle(RefKind::Global, 5, 3, 0)),
-        (0x10_0002, handle(RefKind::Global, 0, 4, 0)),
+        (0xc_0000_0016, handle(RefKind::Global, 5, 3, 0)),
+        (0xc0016, handle(RefKind::Global, 196_613, 0, 0)),
+        (0x4_0000_0002, handle(RefKind::Global, 0, 1, 0)),
+        (0x10_0000_0002, handle(RefKind::Global, 0, 4, 0)),
         (10, handle(RefKind::Global, 2, 0, 0)),
-        (0x4_0000_0001, handle(RefKind::Local, 0, 0, 1)),
-        (0x3_ffff_ffff, handle(RefKind::Weak, 65_535, 65_535, 0)),
-        (0xff_ffff_fffd, handle(RefKind::Local, 65_535, 65_535, 63)),
+        (0x4_0002, handle(RefKind::Global, 65_536, 0, 0)),
+        (1, handle(RefKind::Local, 0, 0, 0)),
+        (0x4_0000_0000_0001, handle(RefKind::Local, 0, 0, 1)),
+        (
+            0x3_ffff_ffff_ffff,
+            handle(RefKind::Weak, u32::MAX, 65_535, 0),
+        ),
+        (
+            0xff_ffff_ffff_fffd,
+            handle(RefKind::Local, u32::MAX, 65_535, 63),
+        ),
         (0, None),
         (4, None),
-        (0x4_0000_0002, None),
-        (0x4_0000_0003, None),
-        (0x100_0000_0001, None),
+        (0x4_0000_0000_0002, None),
+        (0x4_0000_0000_0003, None),
+        (0x100_0000_0000_0001, None),
         (u64::MAX, None),
     ];
     for (word, parts) in rows {
@@ -36,11 +46,11 @@ fn handles(rt: HostRuntime) {
     }
     let last = HandleParts {
         kind: RefKind::Local,
-        serial: 65_535,
+        serial: u32::MAX,
         index: 65_535,
         owner: 63,
     };
-    assert_eq!(rt; Handle::pack(last), Handle(0xff_ffff_fffd));
+    assert_eq!(rt; Handle::pack(last), Handle(0xff_ffff_ffff_fffd));
 }
 
 #[test]
@@ -55,12 +65,51 @@ fn handles_of_one_bit(rt: HostRuntime) {
         let local = match k {
             0 => alone,
             1 => handle(RefKind::Weak, 0, 0, 0),
-            2..=17 => handle(RefKind::Local, 1 << (k - 2), 0, 0),
-            18..=33 => handle(RefKind::Local, 0, 1 << (k - 18), 0),
-            34..=39 => handle(RefKind::Local, 0, 0, 1 << (k - 34)),
+            2..=33 => handle(RefKind::Local, 1 << (k - 2), 0, 0),
+            34..=49 => handle(RefKind::Local, 0, 1 << (k - 34), 0),
+            50..=55 => handle(RefKind::Local, 0, 0, 1 << (k - 50)),
             _ => None,
         };
         assert_eq!(rt; Handle::parts(1 | 1 << k), local, "bits 0 and {k}");
+    }
+}
+
+#[test]
+fn widened_handles(rt: HostRuntime) {
+    let rows = [
+        (0xc0016, Some(0xc_0000_0016)),
+        (0x4_0000_0001, Some(0x4_0000_0000_0001)),
+        (0, Some(0)),
+        (1, Some(1)),
+        (0x3_fffe, Some(0x3_fffe)),
+        (0x4_0002, Some(0x4_0000_0002)),
+        (0x3_ffff_ffff, Some(0x3_fffc_0003_ffff)),
+        (0xff_ffff_fffd, Some(0xff_fffc_0003_fffd)),
+        (4, None),
+        (0x4_0000_0002, None),
+        (0x4_0000_0003, None),
+        (0x100_0000_0001, None),
+        (u64::MAX, None),
+    ];
+    for (word, wide) in rows {
+        assert_eq!(rt; Handle::widen(word), wide, "at {word:x}");
+    }
+}
+
+#[test]
+fn widened_handles_of_one_bit(rt: HostRuntime) {
+    for k in 0..64_u32 {
+        let alone = match k {
+            0 | 1 => Some(1 << k),
+            _ => None,
+        };
+        assert_eq!(rt; Handle::widen(1 << k), alone, "bit {k}");
+        let local = match k {
+            0..=17 => Some(1 | 1 << k),
+            18..=39 => Some(1 | 1 << (k + 16)),
+            _ => None,
+        };
+        assert_eq!(rt; Handle::widen(1 | 1 << k), local, "bits 0 and {k}");
     }
 }
 
@@ -70,18 +119,18 @@ fn slots(rt: HostRuntime) {
         serial: 5,
         object: 3,
     };
-    assert_eq!(rt; SlotWord::pack(global), SlotWord(0xc0016));
-    assert_eq!(rt; SlotWord::parts(0xc0016), Some(global));
+    assert_eq!(rt; SlotWord::pack(global), SlotWord(0xc_0000_0016));
+    assert_eq!(rt; SlotWord::parts(0xc_0000_0016), Some(global));
     assert_eq!(rt; SlotWord::parts(0), Some(SlotParts::Free { serial: 0 }));
     let retired = SlotParts::Retired { serial: 2 };
     assert_eq!(rt; SlotWord::pack(retired), SlotWord(9));
     assert_eq!(rt; SlotWord::parts(9), Some(retired));
     let cleared = SlotParts::Weak {
-        serial: 65_535,
+        serial: u32::MAX,
         object: None,
     };
-    assert_eq!(rt; SlotWord::pack(cleared), SlotWord(0x3_ffff));
-    assert_eq!(rt; SlotWord::parts(0x3_ffff), Some(cleared));
+    assert_eq!(rt; SlotWord::pack(cleared), SlotWord(0x3_ffff_ffff));
+    assert_eq!(rt; SlotWord::parts(0x3_ffff_ffff), Some(cleared));
     assert_eq!(rt; SlotWord::parts(u64::MAX), None);
 }
 
@@ -90,15 +139,15 @@ fn slots_of_one_bit(rt: HostRuntime) {
     for k in 0..64_u32 {
         let alone = match k {
             0 => Some(SlotParts::Retired { serial: 0 }),
-            2..=17 => Some(SlotParts::Free {
+            2..=33 => Some(SlotParts::Free {
                 serial: 1 << (k - 2),
             }),
             _ => None,
         };
         assert_eq!(rt; SlotWord::parts(1 << k), alone, "bit {k}");
     }
-    for k in 18..34_u32 {
-        let object = 1 << (k - 18);
+    for k in 34..50_u32 {
+        let object = 1 << (k - 34);
         let global = SlotParts::Global { serial: 0, object };
         let weak = SlotParts::Weak {
             serial: 0,

@@ -41,7 +41,7 @@ const NO_WEAK_SLOT: Handle = Handle(0x10_0003);
 
 #[test]
 fn words_that_are_no_reference(rt: HostRuntime) -> Result<(), Fail> {
-    let mut env = Env::new(PlainSteps::<65_535>::new(rt.alloc(), TWO)?);
+    let mut env = Env::new(PlainSteps::<4_294_967_295>::new(rt.alloc(), TWO)?);
     let rows = [
         (ONES, Fault::Stale),
         (Handle(4), Fault::Stale),
@@ -69,7 +69,7 @@ fn words_that_are_no_reference(rt: HostRuntime) -> Result<(), Fail> {
 // Each kind of check is made of the first reference and then of the second, before the next kind.
 #[test]
 fn checks_of_two_references(rt: HostRuntime) -> Result<(), Fail> {
-    let mut env = Env::new(PlainSteps::<65_535>::new(rt.alloc(), TWO)?);
+    let mut env = Env::new(PlainSteps::<4_294_967_295>::new(rt.alloc(), TWO)?);
     let rows = [
         (FOREIGN, ONES, Fault::Stale),
         (FOREIGN, NO_SLOT, Fault::Stale),
@@ -84,7 +84,7 @@ fn checks_of_two_references(rt: HostRuntime) -> Result<(), Fail> {
 
 #[test]
 fn references_of_another_kind(rt: HostRuntime) -> Result<(), Fail> {
-    let mut env = Env::new(PlainSteps::<65_535>::new(rt.alloc(), TWO)?);
+    let mut env = Env::new(PlainSteps::<4_294_967_295>::new(rt.alloc(), TWO)?);
     let local = env.new_plain()?;
     let global = env.new_global_ref(local)?.ok_or("an object")?;
     let weak = env.new_weak_global_ref(local)?.ok_or("an object")?;
