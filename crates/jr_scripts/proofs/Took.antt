@@ -134,14 +134,14 @@ module _ {S : Type 0} {stands : S → Standing} {knows : S → Known → Type 0}
         let two = y.6 in
         let low = x.7 in
         let high = y.7 in (
-      y.0,
-      y.1,
-      y.2,
-      occupied_more (view k) (view x.0) (view y.0) (search_acts o x.4 None) (search_acts o y.4 made) x.5 y.5 first mid last made x.3 y.3,
-      x.4 ++ y.4,
-      subst (Did (view k) (view y.0)) more (did_then (search_acts o x.4 None) (search_acts o y.4 made) x.5 y.5),
-      omega arith,
-      omega arith,
-      y.8 ∙ x.8,
-    );
+          y.0,
+          y.1,
+          y.2,
+          occupied_more (view k) (view x.0) (view y.0) (search_acts o x.4 None) (search_acts o y.4 made) x.5 y.5 first mid last made x.3 y.3,
+          x.4 ++ y.4,
+          subst (Did (view k) (view y.0)) more (did_then (search_acts o x.4 None) (search_acts o y.4 made) x.5 y.5),
+          omega arith,
+          omega arith,
+          y.8 ∙ x.8,
+        );
   }

@@ -24,20 +24,20 @@ const ONES: Handle = Handle(u64::MAX);
 /// Local, of thread 0 and of thread 1, with serial 0 at the first place.
 const OWN: Handle = Handle(1);
 
-const FOREIGN: Handle = Handle(0x4_0000_0001);
+const FOREIGN: Handle = Handle(0x4_0000_0000_0001);
 
 /// Local, of a third thread.
-const NO_THREAD: Handle = Handle(0x8_0000_0001);
+const NO_THREAD: Handle = Handle(0x8_0000_0000_0001);
 
 /// Local, at a seventeenth place of thread 0 and of thread 1.
-const NO_PLACE: Handle = Handle(0x40_0001);
+const NO_PLACE: Handle = Handle(0x40_0000_0001);
 
-const NO_FOREIGN_PLACE: Handle = Handle(0x4_0040_0001);
+const NO_FOREIGN_PLACE: Handle = Handle(0x4_0040_0000_0001);
 
 /// Global, and weak, with a fifth slot.
-const NO_SLOT: Handle = Handle(0x10_0002);
+const NO_SLOT: Handle = Handle(0x10_0000_0002);
 
-const NO_WEAK_SLOT: Handle = Handle(0x10_0003);
+const NO_WEAK_SLOT: Handle = Handle(0x10_0000_0003);
 
 #[test]
 fn words_that_are_no_reference(rt: HostRuntime) -> Result<(), Fail> {
@@ -45,7 +45,7 @@ fn words_that_are_no_reference(rt: HostRuntime) -> Result<(), Fail> {
     let rows = [
         (ONES, Fault::Stale),
         (Handle(4), Fault::Stale),
-        (Handle(0x4_0000_0002), Fault::Stale),
+        (Handle(0x4_0000_0000_0002), Fault::Stale),
         (NO_SLOT, Fault::Stale),
         (NO_WEAK_SLOT, Fault::Stale),
         (NO_THREAD, Fault::Stale),
@@ -119,6 +119,50 @@ fn references_of_another_kind(rt: HostRuntime) -> Result<(), Fail> {
     assert_eq!(rt; env.get_object_ref_type(local)?, 1);
     assert_eq!(rt; env.get_object_ref_type(global)?, 0);
     assert_eq!(rt; env.get_object_ref_type(weak)?, 0);
+    Ok(())
+}
+
+/// A room of one thread with one slot.
+const ONE_SLOT: Config = Config {
+    threads: 1,
+    slots: 1,
+    objects: 1,
+    words: 0,
+    locals: 16,
+};
+
+/// How often a handle is made and deleted: once more than there are numbers of 16 bits.
+const PAIRS: u32 = 65_537;
+
+// A slot gives a handle for each serial, of which there are 4,294,967,296.
+#[test]
+fn a_slot_gives_more_handles_than_16_bits_count(rt: HostRuntime) -> Result<(), Fail> {
+    let mut env = Env::new(PlainSteps::<4_294_967_295>::new(rt.alloc(), ONE_SLOT)?);
+    let object = env.new_plain()?;
+    let mut last = Handle::NULL;
+    for _ in 0..PAIRS {
+        last = env.new_global_ref(object)?.ok_or("an object")?;
+        env.delete_global_ref(last)?;
+    }
+    assert_eq!(rt; last, Handle(0x4_0002));
+    assert_eq!(rt; env.get_object_ref_type(last)?, 0);
+    assert_eq!(rt; env.get_object_ref_type(Handle(2))?, 0);
+    Ok(())
+}
+
+#[test]
+fn a_local_place_gives_more_handles_than_16_bits_count(rt: HostRuntime) -> Result<(), Fail> {
+    let mut env = Env::new(PlainSteps::<4_294_967_295>::new(rt.alloc(), ONE_SLOT)?);
+    let object = env.new_plain()?;
+    let mut last = Handle::NULL;
+    for _ in 0..PAIRS {
+        last = env.new_local_ref(object)?.ok_or("an object")?;
+        env.delete_local_ref(last)?;
+    }
+    assert_eq!(rt; object, OWN);
+    assert_eq!(rt; last, Handle(0x4_0004_0001));
+    assert_eq!(rt; env.get_object_ref_type(last)?, 0);
+    assert_eq!(rt; env.get_object_ref_type(Handle(0x4_0000_0001))?, 0);
     Ok(())
 }
 
