@@ -24,20 +24,20 @@ const ONES: Handle = Handle(u64::MAX);
 /// Local, of thread 0 and of thread 1, with serial 0 at the first place.
 const OWN: Handle = Handle(1);
 
-const FOREIGN: Handle = Handle(0x4_0000_0001);
+const FOREIGN: Handle = Handle(0x4_0000_0000_0001);
 
 /// Local, of a third thread.
-const NO_THREAD: Handle = Handle(0x8_0000_0001);
+const NO_THREAD: Handle = Handle(0x8_0000_0000_0001);
 
 /// Local, at a seventeenth place of thread 0 and of thread 1.
-const NO_PLACE: Handle = Handle(0x40_0001);
+const NO_PLACE: Handle = Handle(0x40_0000_0001);
 
-const NO_FOREIGN_PLACE: Handle = Handle(0x4_0040_0001);
+const NO_FOREIGN_PLACE: Handle = Handle(0x4_0040_0000_0001);
 
 /// Global, and weak, with a fifth slot.
-const NO_SLOT: Handle = Handle(0x10_0002);
+const NO_SLOT: Handle = Handle(0x10_0000_0002);
 
-const NO_WEAK_SLOT: Handle = Handle(0x10_0003);
+const NO_WEAK_SLOT: Handle = Handle(0x10_0000_0003);
 
 #[test]
 fn words_that_are_no_reference(rt: HostRuntime) -> Result<(), Fail> {
@@ -45,7 +45,7 @@ fn words_that_are_no_reference(rt: HostRuntime) -> Result<(), Fail> {
     let rows = [
         (ONES, Fault::Stale),
         (Handle(4), Fault::Stale),
-        (Handle(0x4_0000_0002), Fault::Stale),
+        (Handle(0x4_0000_0000_0002), Fault::Stale),
         (NO_SLOT, Fault::Stale),
         (NO_WEAK_SLOT, Fault::Stale),
         (NO_THREAD, Fault::Stale),
@@ -119,6 +119,54 @@ fn references_of_another_kind(rt: HostRuntime) -> Result<(), Fail> {
     assert_eq!(rt; env.get_object_ref_type(local)?, 1);
     assert_eq!(rt; env.get_object_ref_type(global)?, 0);
     assert_eq!(rt; env.get_object_ref_type(weak)?, 0);
+    Ok(())
+}
+
+/// A room of one thread with one slot and 16 local places.
+const ONE: Config = Config {
+    threads: 1,
+    slots: 1,
+    objects: 1,
+    words: 0,
+    locals: 16,
+};
+
+#[test]
+fn a_slot_gives_more_than_65_536_handles(rt: HostRuntime) -> Result<(), Fail> {
+    let mut env = Env::new(PlainSteps::<4_294_967_295>::new(rt.alloc(), ONE)?);
+    let local = env.new_plain()?;
+    let mut last = Handle::NULL;
+    for _ in 0..65_537 {
+        last = env.new_global_ref(local)?.ok_or("an object")?;
+        env.delete_global_ref(last)?;
+    }
+    assert_eq!(rt; last, Handle(0x4_0002));
+    assert_eq!(rt; env.get_object_ref_type(last)?, 0);
+    assert_eq!(rt; env.get_object_ref_type(Handle(2))?, 0);
+    // A later reference of the slot is told from the one whose serial has the same lower half.
+    let next = env.new_global_ref(local)?.ok_or("an object")?;
+    assert_eq!(rt; next, Handle(0x4_0006));
+    assert_eq!(rt; env.get_object_ref_type(next)?, 2);
+    assert_eq!(rt; env.get_object_ref_type(Handle(6))?, 0);
+    Ok(())
+}
+
+#[test]
+fn a_local_place_gives_more_than_65_536_handles(rt: HostRuntime) -> Result<(), Fail> {
+    let mut env = Env::new(PlainSteps::<4_294_967_295>::new(rt.alloc(), ONE)?);
+    let local = env.new_plain()?;
+    let mut last = Handle::NULL;
+    for _ in 0..65_537 {
+        last = env.new_local_ref(local)?.ok_or("an object")?;
+        env.delete_local_ref(last)?;
+    }
+    assert_eq!(rt; last, Handle(0x4_0004_0001));
+    assert_eq!(rt; env.get_object_ref_type(last)?, 0);
+    assert_eq!(rt; env.get_object_ref_type(Handle(0x4_0000_0001))?, 0);
+    let next = env.new_local_ref(local)?.ok_or("an object")?;
+    assert_eq!(rt; next, Handle(0x4_0004_0005));
+    assert_eq!(rt; env.get_object_ref_type(next)?, 1);
+    assert_eq!(rt; env.get_object_ref_type(Handle(0x4_0000_0005))?, 0);
     Ok(())
 }
 
