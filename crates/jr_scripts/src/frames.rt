@@ -165,6 +165,11 @@ mod tests {
     }
 
     #[test]
+    fn a_place_takes_16_bytes_at_most(rt: HostRuntime) {
+        assert!(rt; size_of::<Place>() <= 16);
+    }
+
+    #[test]
     fn sixteen_references_fill_the_places(rt: HostRuntime) -> Result<(), Fail> {
         let mut frames = frames_of_sixteen();
         for _ in 0..16 {

@@ -10,7 +10,7 @@ use Rattle.clap.specs.Words.{App, HasMatchesOf, is_simple, takes, subcommand_of,
 use Rattle.clap.specs.declared.parser.matches.ArgMatches.{ArgMatches}
 use Rattle.clap.proofs.OnLiterals.{clap_on_literals}
 use Rattle.jrefs.specs.declared.request.Request.{Request}
-use Rattle.jrefs.specs.declared.request.Request.TheVariants.{Run, Check, Word}
+use Rattle.jrefs.specs.declared.request.Request.TheVariants.{Run, Check, Word, Widen}
 use Rattle.jrefs.specs.Describe.{hex_value}
 use Rattle.jrefs.specs.Act.{Answers, AnswersWords}
 use Rattle.jrefs.specs.Request.{command_line, asked_for, request_found, request_of_command, Asks}
@@ -47,6 +47,14 @@ word_is_found : (b : ℕ) (bs : List ℕ) → (b == 45) ≡ false → argument_o
 unfolding clap_on_literals
 word_is_found b bs plain = rw (plain, plain) refl
 
+widen_is_taken : (b : ℕ) (bs : List ℕ) → (b == 45) ≡ false → takes command_line (codes "widen" ∷ (b ∷ bs) ∷ []) ≡ true
+unfolding clap_on_literals
+widen_is_taken b bs plain = rw (plain, plain) refl
+
+widen_is_found : (b : ℕ) (bs : List ℕ) → (b == 45) ≡ false → argument_of (subcommand_of command_line (codes "widen" ∷ (b ∷ bs) ∷ [])) ≡ Some (codes "widen", Some (b ∷ bs))
+unfolding clap_on_literals
+widen_is_found b bs plain = rw (plain, plain) refl
+
 request_by_argument : (o : Option (Text × List Row)) → request_found o ≡ option_and_then (λ c. request_of_command c.0 c.1) (argument_of o)
 request_by_argument None = refl
 request_by_argument (Some c) = refl
@@ -80,6 +88,17 @@ digits_are_found (b ∷ bs) w e =
     ∙ ap (option_and_then (λ c. request_of_command c.0 c.1)) (word_is_found b bs (begins_plainly b bs w e))
     ∙ ap (option_map Word) e
 
+narrow_digits_are_taken : (digits : Text) (w : ℕ) → hex_value digits ≡ Some w → takes command_line (codes "widen" ∷ digits ∷ []) ≡ true
+narrow_digits_are_taken [] w e = cc
+narrow_digits_are_taken (b ∷ bs) w e = widen_is_taken b bs (begins_plainly b bs w e)
+
+narrow_digits_are_found : (digits : Text) (w : ℕ) → hex_value digits ≡ Some w → asked_for (codes "widen" ∷ digits ∷ []) ≡ Some (Widen w)
+narrow_digits_are_found [] w e = cc
+narrow_digits_are_found (b ∷ bs) w e =
+    request_by_argument (subcommand_of command_line (codes "widen" ∷ (b ∷ bs) ∷ []))
+    ∙ ap (option_and_then (λ c. request_of_command c.0 c.1)) (widen_is_found b bs (begins_plainly b bs w e))
+    ∙ ap (option_map Widen) e
+
 -- ---- requests
 
 -- a request is taken, and is found
@@ -87,11 +106,13 @@ asks_taken : (r : Request) (words : List Text) → Asks r words → takes comman
 asks_taken Run words asks = ap (takes command_line) asks ∙ run_is_taken
 asks_taken Check words asks = ap (takes command_line) asks ∙ check_is_taken
 asks_taken (Word w) words asks = ap (takes command_line) asks.2 ∙ digits_are_taken asks.0 w asks.1
+asks_taken (Widen w) words asks = ap (takes command_line) asks.2 ∙ narrow_digits_are_taken asks.0 w asks.1
 
 pub asks_found : (r : Request) (words : List Text) → Asks r words → asked_for words ≡ Some r
 asks_found Run words asks = ap asked_for asks ∙ run_is_found
 asks_found Check words asks = ap asked_for asks ∙ check_is_found
 asks_found (Word w) words asks = ap asked_for asks.2 ∙ digits_are_found asks.0 w asks.1
+asks_found (Widen w) words asks = ap asked_for asks.2 ∙ narrow_digits_are_found asks.0 w asks.1
 
 pub takes_request : (line : App) (words : List Text) (r : Request) → line ≡ command_line → Asks r words → takes line words ≡ true
 takes_request line words r same asks = ap (λ (a : App). takes a words) same ∙ asks_taken r words asks

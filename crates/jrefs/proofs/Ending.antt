@@ -1,16 +1,16 @@
 -- How the program ends.
-use Rattle.std.proofs.Common.{Result, Ok, Err, OnOk, OnErr, IfErr, ◌≡◌, ◌≢◌, ◌⊎◌, List, ℕ, Option, Some, None, IfSome, IsSome, is_some, refl, sym, ap, ◌∙◌, subst, inl, inr}
+use Rattle.std.proofs.Common.{Result, Ok, Err, OnOk, OnErr, IfErr, IsErrAnd, ◌≡◌, ◌≢◌, ◌⊎◌, List, ℕ, Option, Some, None, IfSome, IsSome, is_some, refl, sym, ap, ◌∙◌, subst, inl, inr}
 use Rattle.std.specs.Io.KnownBytes.{Appends, Keeps}
 use Rattle.std.proofs.lemmas.Bool.{false≢true}
 use Rattle.clap.specs.Words.{Text}
 use Rattle.jr_syntax.specs.Faults.{first_fault}
 use Rattle.jr_syntax.proofs.Texts.{no_fault}
 use Rattle.jrefs.specs.declared.request.Request.{Request}
-use Rattle.jrefs.specs.declared.request.Request.TheVariants.{Run, Check, Word}
+use Rattle.jrefs.specs.declared.request.Request.TheVariants.{Run, Check, Word, Widen}
 use Rattle.jrefs.specs.declared.trouble.Trouble.{Trouble}
 use Rattle.jrefs.specs.declared.trouble.Trouble.TheVariants as troubles
 use Rattle.jrefs.specs.Act.{AnswersWords, AppendsBeginning, IsOutput, IsOutputFor, Leaves, Prevents, Stops}
-use Rattle.jrefs.specs.Request.{Asks, AsksOfScript, asked_for}
+use Rattle.jrefs.specs.Request.{Asks, AskNothing, AsksOfScript, asked_for}
 use Rattle.jrefs.specs.Trouble.{status_of}
 use Rattle.jrefs.proofs.CommandLine.{asks_found}
 
@@ -23,6 +23,7 @@ answered_whole : (r : Request) (text output : List ℕ) → AsksOfScript r → I
 answered_whole Run text output asks is = ap first_fault (is.read ∙ is.reply.2) ∙ no_fault is.reply.0 is.reply.1
 answered_whole Check text output asks is = ap first_fault (is.read ∙ is.reply.2) ∙ no_fault is.reply.0 is.reply.1
 answered_whole (Word w) text output asks is = absurd asks
+answered_whole (Widen w) text output asks is = absurd asks
 
 never_answered : (words : List Text) (text output : List ℕ) (r : Request) → Asks r words → AsksOfScript r → IsSome (first_fault text) → IsOutputFor words (Some text) output → ⊥
 never_answered words text output r asks of_script some is =
@@ -56,6 +57,15 @@ stopped_prevents troubles.Usage words old new r asked stops = absurd stops
 stopped_prevents troubles.Memory words old new r asked stops = tt
 stopped_prevents troubles.Input words old new r asked stops = (r, asked, stops)
 stopped_prevents troubles.Output words old new r asked stops = absurd stops
+
+by_cause : (t : Trouble) (words : List Text) (old new : Option (List ℕ)) → (t ≡ troubles.Memory) ⊎ (t ≡ troubles.Usage) → (t ≡ troubles.Usage → AskNothing words) → Prevents t words old new
+by_cause t words old new (inl memory) nothing = subst (λ (u : Trouble). Prevents u words old new) (sym memory) tt
+by_cause t words old new (inr usage) nothing = subst (λ (u : Trouble). Prevents u words old new) (sym usage) (nothing usage)
+
+-- words that are refused have no output
+pub refused_prevents : {A : Type 0} (r : Result A Trouble) (t : Trouble) (words : List Text) (old new : Option (List ℕ)) → IsErrAnd r (λ u. u ≡ t) → (t ≡ troubles.Memory) ⊎ (t ≡ troubles.Usage) → (t ≡ troubles.Usage → AskNothing words) → IfErr r (λ u. Prevents u words old new)
+refused_prevents (Ok a) t words old new e why nothing = tt
+refused_prevents (Err u) t words old new e why nothing = subst (λ (v : Trouble). Prevents v words old new) (sym e) (by_cause t words old new why nothing)
 
 -- an output that was written whole
 pub written_answers : (words : List Text) (known old new : Option (List ℕ)) (output bytes : List ℕ) (r : Result (Unit {0}) Trouble) → bytes ≡ output → IsOutputFor words known output → OnOk r (Appends old new bytes) → OnOk r (AnswersWords words known old new)

@@ -8,9 +8,8 @@ use Rattle.clap.specs.Words.{Text, Row, first_of, first_value, found_of, rows_of
 use Rattle.clap.specs.declared.parser.matches.ArgMatches.{ArgMatches}
 use Rattle.clap.specs.declared.parser.matches.ArgMatches.TheViews.{out-ArgMatches}
 use Rattle.clap.proofs.WalkLemmas.{first_value-rows}
-use Rattle.jrefs.specs.declared.request.Request.TheVariants.{Word}
-use Rattle.jrefs.specs.Describe.{hex_value}
-use Rattle.jrefs.specs.Request.{request_found, request_of_command}
+use Rattle.jrefs.specs.declared.request.Request.TheVariants.{Word, Widen}
+use Rattle.jrefs.specs.Request.{request_found, request_of_command, hex_found}
 
 option_map-twice : {A B C : Type 0} (f : B → C) (g : A → B) (o : Option A) → option_map f (option_map g o) ≡ option_map (λ x. f (g x)) o
 option_map-twice f g None = refl
@@ -31,16 +30,19 @@ refuted : (t : Bool) → (t ≡ true → ⊥) → t ≡ false
 refuted false never = refl
 refuted true never = absurd (never refl)
 
--- a command of another name than `run` and `check` asks for the word that its argument says
-pub word_found : (m inner : ArgMatches) (name : Text) (argument : Option (Bor Text)) → Some name ≡ subcommand_name_of m → Some (rows_of (found_of inner)) ≡ option_map (λ p. p.1) (subcommand_rows_of m) → name ≢ codes "run" → name ≢ codes "check" → option_map (λ s. s.now) argument ≡ first_value (found_of inner) (codes "hex") → request_found (subcommand_rows_of m) ≡ option_map Word (option_and_then hex_value (option_map (λ s. s.now) argument))
-word_found m inner name argument named rows not_run not_check first =
-    let row = pair_is (subcommand_rows_of m) name (rows_of (found_of inner)) (name_is m ∙ sym named) (sym rows) in
-    ap request_found row
-    ∙ other name (first_of (codes "hex") (rows_of (found_of inner))) (unequal name (codes "run") not_run) (unequal name (codes "check") not_check)
-    ∙ ap (λ (t : Option Text). option_map Word (option_and_then hex_value t)) (sym (first ∙ first_value-rows (found_of inner) (codes "hex")))
-  where
-    unequal : (x y : Text) → x ≢ y → bytes_eq x y ≡ false
-    unequal x y apart = refuted (bytes_eq x y) (λ e. apart ((bytes_eq-Decides x y).0 e))
+-- the request of the command that was found, by its name and its argument
+pub command_found : (m inner : ArgMatches) (name : Text) → Some name ≡ subcommand_name_of m → Some (rows_of (found_of inner)) ≡ option_map (λ p. p.1) (subcommand_rows_of m) → request_found (subcommand_rows_of m) ≡ request_of_command name (first_value (found_of inner) (codes "hex"))
+command_found m inner name named rows =
+    ap request_found (pair_is (subcommand_rows_of m) name (rows_of (found_of inner)) (name_is m ∙ sym named) (sym rows))
+    ∙ ap (request_of_command name) (sym (first_value-rows (found_of inner) (codes "hex")))
 
-    other : (name : Text) (t : Option Text) → bytes_eq name (codes "run") ≡ false → bytes_eq name (codes "check") ≡ false → request_of_command name t ≡ option_map Word (option_and_then hex_value t)
-    other name t e f = rw (e, f) refl
+unequal : (x y : Text) → x ≢ y → bytes_eq x y ≡ false
+unequal x y apart = refuted (bytes_eq x y) (λ e. apart ((bytes_eq-Decides x y).0 e))
+
+-- `word` asks for the word that its argument says
+pub asks_word : (name : Text) (t : Option Text) → name ≡ codes "word" → request_of_command name t ≡ option_map Word (hex_found t)
+asks_word name t e = ap (λ (n : Text). request_of_command n t) e
+
+-- a command of another name than the others asks to widen that word
+pub asks_widen : (name : Text) (t : Option Text) → name ≢ codes "run" → name ≢ codes "check" → name ≢ codes "word" → request_of_command name t ≡ option_map Widen (hex_found t)
+asks_widen name t a b c = rw (unequal name (codes "run") a, unequal name (codes "check") b, unequal name (codes "word") c) refl

@@ -5,3 +5,4 @@ mod Ending
 mod CommandCount
 mod FoundRequest
 mod HexWord
+mod Widened

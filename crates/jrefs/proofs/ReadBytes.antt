@@ -14,10 +14,10 @@ use Rattle.jrefs.specs.declared.trouble.Trouble.TheVariants as troubles
 use Rattle.jrefs.specs.Answer.{IsAnswer, IsRefused}
 use Rattle.jrefs.specs.Act.{IsOutput, Stops}
 use Rattle.jrefs.specs.Check.{IsCheck}
-use Rattle.jrefs.specs.Describe.{Describes}
+use Rattle.jrefs.specs.Describe.{Describes, SaysWidened}
 use Rattle.jrefs.specs.Request.{AsksOfScript}
 use Rattle.jrefs.specs.declared.request.Request.{Request}
-use Rattle.jrefs.specs.declared.request.Request.TheVariants.{Run, Check, Word}
+use Rattle.jrefs.specs.declared.request.Request.TheVariants.{Run, Check, Word, Widen}
 use Rattle.jr_syntax.specs.declared.script.Script.{Script}
 use Rattle.jr_syntax.specs.Script.{IsScript, text_of}
 
@@ -64,7 +64,7 @@ script_is_all known s is read =
     IfSome_then known read (λ bytes e. sym (e ∙ take-within bytes (subst (λ (t : List ℕ). length t ≤ 65536) e within)))
 
 -- the answer to what was read is one to all that was there
-pub answer_is_output : (known : Option (List ℕ)) (text output : List ℕ) → IfSome known (λ bytes. text ≡ take 65537 bytes) → IsAnswer 10000000 65535 text output → IsOutput Run known output
+pub answer_is_output : (known : Option (List ℕ)) (text output : List ℕ) → IfSome known (λ bytes. text ≡ take 65537 bytes) → IsAnswer 10000000 4294967295 text output → IsOutput Run known output
 answer_is_output known text output read answer = record {
   text = text;
   read = subst (λ (t : List ℕ). IfSome known (λ bytes. bytes ≡ t)) (sym answer.2) (script_is_all known answer.0 answer.1 (subst (λ (t : List ℕ). IfSome known (λ bytes. t ≡ take 65537 bytes)) answer.2 read));
@@ -83,3 +83,8 @@ check_is_output known text output read checked = record {
 pub word_is_output : (known : Option (List ℕ)) (w : ℕ) (output : List ℕ) → Describes w output → IsOutput (Word w) known output
 word_is_output None w output says = record { text = []; read = tt; reply = says }
 word_is_output (Some bytes) w output says = record { text = bytes; read = refl; reply = says }
+
+-- and so is what a word of the earlier layout is today
+pub widened_is_output : (known : Option (List ℕ)) (w : ℕ) (output : List ℕ) → SaysWidened w output → IsOutput (Widen w) known output
+widened_is_output None w output says = record { text = []; read = tt; reply = says }
+widened_is_output (Some bytes) w output says = record { text = bytes; read = refl; reply = says }

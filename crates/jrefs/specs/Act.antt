@@ -4,20 +4,21 @@ use Rattle.std.specs.Io.KnownBytes.{Appends, Consumes, Keeps}
 use Rattle.clap.specs.Words.{Text}
 use Rattle.jr_syntax.specs.Faults.{first_fault}
 use Rattle.jrefs.specs.declared.request.Request.{Request}
-use Rattle.jrefs.specs.declared.request.Request.TheVariants.{Run, Check, Word}
+use Rattle.jrefs.specs.declared.request.Request.TheVariants.{Run, Check, Word, Widen}
 use Rattle.jrefs.specs.declared.trouble.Trouble.{Trouble}
 use Rattle.jrefs.specs.declared.trouble.Trouble.TheVariants as troubles
 use Rattle.jrefs.specs.Answer.{IsAnswer}
 use Rattle.jrefs.specs.Check.{IsCheck}
-use Rattle.jrefs.specs.Describe.{Describes}
+use Rattle.jrefs.specs.Describe.{Describes, SaysWidened}
 use Rattle.jrefs.specs.Request.{AskNothing, AsksOfScript, asked_for}
 use Rattle.jrefs.specs.Trouble.{status_of, trouble_line}
 
 -- what each request is answered, where this text is given
 abbrev pub IsReply : Request → List ℕ → List ℕ → Type 0
-IsReply Run text output = IsAnswer 10000000 65535 text output
+IsReply Run text output = IsAnswer 10000000 4294967295 text output
 IsReply Check text output = IsCheck text output
 IsReply (Word w) text output = Describes w output
+IsReply (Widen w) text output = SaysWidened w output
 
 -- the output answers a request, where the text is all that was there to be read
 pub record IsOutput (r : Request) (known : Option (List ℕ)) (output : List ℕ) : Type 0 where

@@ -18,7 +18,7 @@ status_of Output = 4
 -- its text
 abbrev pub trouble_text : Trouble → List ℕ
 trouble_text (Script line reason) = codes "script fault at line " ++ decimal line ++ codes ": " ++ reason_text reason
-trouble_text Usage = codes "usage: jrefs run | check | word HEX"
+trouble_text Usage = codes "usage: jrefs run | check | word HEX | widen HEX"
 trouble_text Memory = codes "out of memory"
 trouble_text Input = codes "input fault"
 trouble_text Output = codes "output fault"

@@ -4,16 +4,16 @@ ghost use Rattle.std.specs.Prelude.{◌≡◌, ◌≢◌, ◌⊎◌, map, ℕ, S
 ghost use Rattle.std.specs.Io.KnownBytes.{Keeps};
 ghost use Rattle.jr_syntax.specs.Faults.{first_fault};
 ghost use Rattle.jrefs.specs.Act.{IsOutput, IsOutputFor, Stops, Prevents, Answers, AnswersWords, Leaves, Fails, TakesAtMost};
-ghost use Rattle.jrefs.specs.Describe.{Describes};
+ghost use Rattle.jrefs.specs.Describe.{Describes, SaysWidened};
 ghost use Rattle.jrefs.specs.Request.{Asks, AskNothing, AsksOfScript, asked_for};
 ghost use Rattle.jrefs.specs.declared.request.Request.{Request as AnyRequest};
-ghost use Rattle.jrefs.specs.declared.request.Request.TheVariants.{Word};
+ghost use Rattle.jrefs.specs.declared.request.Request.TheVariants.{Word, Widen};
 ghost use Rattle.jrefs.specs.Trouble.{status_of};
 ghost use Rattle.jrefs.specs.declared.trouble.Trouble.TheVariants.{Memory, Usage};
 
 use crate::answer::answer_of;
 use crate::check::check_of;
-use crate::describe::description_of;
+use crate::describe::{description_of, widened_of};
 use crate::input::input_of;
 use crate::output::{tell, write_out};
 use crate::request::{Request, request_of};
@@ -46,8 +46,9 @@ pub fn act<'a, R: Read + Drop, W: Write + Drop, F: Write + Drop>(
         → (result ≡ 1) ⊎ (result ≡ 3) ⊎ ((result ≡ 4) × Keeps (W.contents writer.old) (W.contents writer.new))) }
     // No more is read than a script may have, and one byte.
     ensures reads { TakesAtMost 65537 (R.remaining reader.old) (R.remaining reader.new) }
-    // A word is described without reading.
+    // A word is described, or widened, without reading.
     ensures unread { (w : ℕ) → asked_for (map (λ w. w.now) words.entry.now) ≡ Some (Word w) → R.remaining reader.new ≡ R.remaining reader.old }
+    ensures unread_narrow { (w : ℕ) → asked_for (map (λ w. w.now) words.entry.now) ≡ Some (Widen w) → R.remaining reader.new ≡ R.remaining reader.old }
 {
     match carried_out(alloc, words, reader, writer) {
         Ok(()) => 0,
@@ -68,6 +69,7 @@ fn carried_out<'a, R: Read + Drop, W: Write + Drop>(
     ensures taken { (r : AnyRequest) → Asks r (map (λ w. w.now) words.entry.now) → IfErr result (λ t. status_of t ≢ 2) }
     ensures reads { TakesAtMost 65537 (R.remaining reader.old) (R.remaining reader.new) }
     ensures unread { (w : ℕ) → asked_for (map (λ w. w.now) words.entry.now) ≡ Some (Word w) → R.remaining reader.new ≡ R.remaining reader.old }
+    ensures unread_narrow { (w : ℕ) → asked_for (map (λ w. w.now) words.entry.now) ≡ Some (Widen w) → R.remaining reader.new ≡ R.remaining reader.old }
 {
     let output = output_of(alloc, words, reader)?;
     write_out(writer, &output)
@@ -85,6 +87,7 @@ fn output_of<'a, R: Read + Drop>(
     ensures taken { (r : AnyRequest) → Asks r (map (λ w. w.now) words.entry.now) → IfErr result (λ t. status_of t ≢ 2) }
     ensures reads { TakesAtMost 65537 (R.remaining reader.old) (R.remaining reader.new) }
     ensures unread { (w : ℕ) → asked_for (map (λ w. w.now) words.entry.now) ≡ Some (Word w) → R.remaining reader.new ≡ R.remaining reader.old }
+    ensures unread_narrow { (w : ℕ) → asked_for (map (λ w. w.now) words.entry.now) ≡ Some (Widen w) → R.remaining reader.new ≡ R.remaining reader.old }
 {
     let request = request_of(alloc, words)?;
     reply_to(alloc, request, reader)
@@ -100,6 +103,7 @@ fn reply_to<R: Read + Drop>(
     ensures err { IfErr result (λ t. Stops t request (R.remaining reader.old) (R.remaining reader.new)) }
     ensures reads { TakesAtMost 65537 (R.remaining reader.old) (R.remaining reader.new) }
     ensures unread { (w : ℕ) → request ≡ Word w → R.remaining reader.new ≡ R.remaining reader.old }
+    ensures unread_narrow { (w : ℕ) → request ≡ Widen w → R.remaining reader.new ≡ R.remaining reader.old }
 {
     match request {
         Request::Run => {
@@ -111,6 +115,7 @@ fn reply_to<R: Read + Drop>(
             check_of(alloc, &input)
         }
         Request::Word(word) => line_of_word(alloc, word),
+        Request::Widen(word) => line_of_widened(alloc, word),
     }
 }
 
@@ -123,4 +128,15 @@ fn line_of_word(alloc: Global, word: u64) -> Result<Vec<u8>, Trouble>
         Ok(text) => Ok(text.into_bytes()),
         Err(_) => Err(Trouble::Memory),
     }
+}
+
+/// The line of a word of the earlier layout.
+fn line_of_widened(alloc: Global, word: u64) -> Result<Vec<u8>, Trouble>
+    ensures ok { IfOk result (λ output. SaysWidened word output.items) }
+    ensures err { IfErr result (λ t. t ≡ Memory) }
+{
+    let Ok(text) = widened_of(alloc, word) else {
+        return Err(Trouble::Memory);
+    };
+    Ok(text.into_bytes())
 }

@@ -13,7 +13,7 @@ const TURNS: u64 = 10_000_000;
 
 /// Runs the script of a text, and gives what it prints.
 pub fn answer_of(alloc: Global, text: &[u8]) -> Result<Vec<u8>, Trouble>
-    ensures answer { IfOk result (λ output. IsAnswer 10000000 65535 text.now output.items) }
+    ensures answer { IfOk result (λ output. IsAnswer 10000000 4294967295 text.now output.items) }
     ensures refused { IfErr result (IsRefused text.now) }
 {
     let script = script_of(alloc, text)?;

@@ -1,9 +1,10 @@
-//! What a word says as a handle, in words.
+//! What a word says as a handle, in words, and the word that it is today.
 
-ghost use Rattle.std.specs.Prelude.{◌≡◌, IfOk, string_bytes};
+ghost use Rattle.std.specs.Prelude.{◌≡◌, false, [], ◌∷◌, ◌++◌, IfOk, string_bytes};
+ghost use Rattle.std.specs.Fmt.{digits};
 ghost use Rattle.std.specs.Char.{is_ascii_hexdigit};
 ghost use Rattle.std.specs.List.{list_all};
-ghost use Rattle.jrefs.specs.Describe.{kind_word, hex_value, parts_line, Describes};
+ghost use Rattle.jrefs.specs.Describe.{kind_word, hex_value, parts_line, Describes, SaysWidened};
 
 use jr_word::{Handle, HandleParts, RefKind};
 use std::alloc::{AllocError, Global};
@@ -64,4 +65,22 @@ fn line_of(alloc: Global, parts: HandleParts) -> Result<String, AllocError>
     } = parts;
     let kind = name_of(kind);
     format!(in alloc; "{kind} serial {serial} index {index} owner {owner}\n")
+}
+
+/// A line that says what a word of the earlier layout is today: `null`, `invalid`, or the word in hexadecimal digits.
+pub fn widened_of(alloc: Global, word: u64) -> Result<String, AllocError>
+    ensures { IfOk result (λ text. SaysWidened word (string_bytes text)) }
+{
+    match Handle::widen(word) {
+        Some(0) => format!(in alloc; "null\n"),
+        Some(wide) => digits_line(alloc, wide),
+        _ => format!(in alloc; "invalid\n"),
+    }
+}
+
+/// A line of a word in hexadecimal digits.
+fn digits_line(alloc: Global, word: u64) -> Result<String, AllocError>
+    ensures { IfOk result (λ text. string_bytes text ≡ digits 16 false word ++ 10 ∷ []) }
+{
+    format!(in alloc; "{word:x}\n")
 }

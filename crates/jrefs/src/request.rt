@@ -1,9 +1,9 @@
 //! What the words of the command line ask for.
 
-ghost use Rattle.std.specs.Prelude.{◌≡◌, ◌≢◌, ◌⊎◌, map, Some, IfOk, IfErr, IsErrAnd};
-ghost use Rattle.clap.specs.Words.{app_of, kind_of, subcommand_rows_of};
+ghost use Rattle.std.specs.Prelude.{◌≡◌, ◌≢◌, ◌⊎◌, map, Some, IfOk, IfErr, IsErrAnd, codes};
+ghost use Rattle.clap.specs.Words.{app_of, kind_of, subcommand_rows_of, first_value, found_of};
 ghost use Rattle.clap.specs.declared.error.ErrorKind.TheVariants.{OutOfMemory};
-ghost use Rattle.jrefs.specs.Request.{command_line, request_found, asked_for, Asks, AskNothing};
+ghost use Rattle.jrefs.specs.Request.{command_line, IsHexCommand, hex_found, request_found, asked_for, Asks, AskNothing};
 ghost use Rattle.jrefs.specs.declared.request.Request.{Request as AnyRequest};
 ghost use Rattle.jrefs.specs.declared.trouble.Trouble.TheVariants.{Memory, Usage};
 
@@ -22,20 +22,38 @@ pub enum Request {
     Check,
     /// To say what this word is as a handle.
     Word(u64),
+    /// To say what this word of the earlier layout is today.
+    Widen(u64),
+}
+
+/// A command of this name that takes a word in hexadecimal digits.
+fn of_hex<'a>(alloc: Global, name: &'a str) -> Result<Command<'a>, AllocError>
+    ensures { IfOk result (IsHexCommand name.now) }
+{
+    let hex = Arg::new(alloc, "hex").required(true);
+    Command::new(alloc, name).arg(hex)
 }
 
 /// The program's command line.
 fn command<'a>(alloc: Global) -> Result<Command<'a>, AllocError>
     ensures { IfOk result (λ c. app_of c ≡ command_line) }
 {
-    let hex = Arg::new(alloc, "hex").required(true);
-    let word = Command::new(alloc, "word").arg(hex)?;
+    let word = of_hex(alloc, "word")?;
+    let widen = of_hex(alloc, "widen")?;
     Command::new(alloc, "jrefs")
         .no_binary_name(true)
         .subcommand_required(true)
         .subcommand(Command::new(alloc, "run"))?
         .subcommand(Command::new(alloc, "check"))?
-        .subcommand(word)
+        .subcommand(word)?
+        .subcommand(widen)
+}
+
+/// The word that a command was given in hexadecimal digits.
+fn digits_of(inner: &ArgMatches<'_>) -> Option<u64>
+    ensures { result ≡ hex_found (first_value (found_of inner.now) (codes "hex")) }
+{
+    word_of_hex(inner.get_str("hex")?)
 }
 
 /// The request that was found.
@@ -46,7 +64,8 @@ fn found(matches: &ArgMatches<'_>) -> Option<Request>
     match name {
         "run" => Some(Request::Run),
         "check" => Some(Request::Check),
-        _ => Some(Request::Word(word_of_hex(inner.get_str("hex")?)?)),
+        "word" => Some(Request::Word(digits_of(inner)?)),
+        _ => Some(Request::Widen(digits_of(inner)?)),
     }
 }
 

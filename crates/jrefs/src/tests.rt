@@ -21,7 +21,7 @@ const FIRST_PRINTS: &[u8] = b"[a]\ntype g 2\ntype g 0\n[end]\nglobals 0 weaks 0 
 
 const HEAD: &[u8] = b"vm threads 1 slots 4 objects 8 words 16 locals 16\nthread a\n";
 
-const USAGE: &[u8] = b"usage: jrefs run | check | word HEX\n";
+const USAGE: &[u8] = b"usage: jrefs run | check | word HEX | widen HEX\n";
 
 /// How many bytes a writer has room for.
 const ROOM: usize = 131_072;

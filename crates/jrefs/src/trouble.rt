@@ -47,7 +47,7 @@ impl fmt::Display for Trouble {
             Trouble::Script { line, reason } => {
                 write!(f, "script fault at line {line}: {}", reason.text())
             }
-            Trouble::Usage => f.write_str("usage: jrefs run | check | word HEX"),
+            Trouble::Usage => f.write_str("usage: jrefs run | check | word HEX | widen HEX"),
             Trouble::Memory => f.write_str("out of memory"),
             Trouble::Input => f.write_str("input fault"),
             Trouble::Output => f.write_str("output fault"),

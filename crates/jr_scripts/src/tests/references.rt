@@ -122,8 +122,8 @@ fn references_of_another_kind(rt: HostRuntime) -> Result<(), Fail> {
     Ok(())
 }
 
-/// A room of one thread with one slot.
-const ONE_SLOT: Config = Config {
+/// A room of one thread with one slot and 16 local places.
+const ONE: Config = Config {
     threads: 1,
     slots: 1,
     objects: 1,
@@ -131,38 +131,42 @@ const ONE_SLOT: Config = Config {
     locals: 16,
 };
 
-/// How often a handle is made and deleted: once more than there are numbers of 16 bits.
-const PAIRS: u32 = 65_537;
-
-// A slot gives a handle for each serial, of which there are 4,294,967,296.
 #[test]
-fn a_slot_gives_more_handles_than_16_bits_count(rt: HostRuntime) -> Result<(), Fail> {
-    let mut env = Env::new(PlainSteps::<4_294_967_295>::new(rt.alloc(), ONE_SLOT)?);
-    let object = env.new_plain()?;
+fn a_slot_gives_more_than_65_536_handles(rt: HostRuntime) -> Result<(), Fail> {
+    let mut env = Env::new(PlainSteps::<4_294_967_295>::new(rt.alloc(), ONE)?);
+    let local = env.new_plain()?;
     let mut last = Handle::NULL;
-    for _ in 0..PAIRS {
-        last = env.new_global_ref(object)?.ok_or("an object")?;
+    for _ in 0..65_537 {
+        last = env.new_global_ref(local)?.ok_or("an object")?;
         env.delete_global_ref(last)?;
     }
     assert_eq!(rt; last, Handle(0x4_0002));
     assert_eq!(rt; env.get_object_ref_type(last)?, 0);
     assert_eq!(rt; env.get_object_ref_type(Handle(2))?, 0);
+    // A later reference of the slot is told from the one whose serial has the same lower half.
+    let next = env.new_global_ref(local)?.ok_or("an object")?;
+    assert_eq!(rt; next, Handle(0x4_0006));
+    assert_eq!(rt; env.get_object_ref_type(next)?, 2);
+    assert_eq!(rt; env.get_object_ref_type(Handle(6))?, 0);
     Ok(())
 }
 
 #[test]
-fn a_local_place_gives_more_handles_than_16_bits_count(rt: HostRuntime) -> Result<(), Fail> {
-    let mut env = Env::new(PlainSteps::<4_294_967_295>::new(rt.alloc(), ONE_SLOT)?);
-    let object = env.new_plain()?;
+fn a_local_place_gives_more_than_65_536_handles(rt: HostRuntime) -> Result<(), Fail> {
+    let mut env = Env::new(PlainSteps::<4_294_967_295>::new(rt.alloc(), ONE)?);
+    let local = env.new_plain()?;
     let mut last = Handle::NULL;
-    for _ in 0..PAIRS {
-        last = env.new_local_ref(object)?.ok_or("an object")?;
+    for _ in 0..65_537 {
+        last = env.new_local_ref(local)?.ok_or("an object")?;
         env.delete_local_ref(last)?;
     }
-    assert_eq!(rt; object, OWN);
     assert_eq!(rt; last, Handle(0x4_0004_0001));
     assert_eq!(rt; env.get_object_ref_type(last)?, 0);
     assert_eq!(rt; env.get_object_ref_type(Handle(0x4_0000_0001))?, 0);
+    let next = env.new_local_ref(local)?.ok_or("an object")?;
+    assert_eq!(rt; next, Handle(0x4_0004_0005));
+    assert_eq!(rt; env.get_object_ref_type(next)?, 1);
+    assert_eq!(rt; env.get_object_ref_type(Handle(0x4_0000_0005))?, 0);
     Ok(())
 }
 

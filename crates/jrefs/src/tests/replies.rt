@@ -1,4 +1,4 @@
-//! What `jrefs check` and `jrefs word` print.
+//! What `jrefs check`, `jrefs word` and `jrefs widen` print.
 
 use super::devices::{NEVER, Source};
 use super::{ALL, FIRST, HEAD, USAGE, answered, joined, reads, refused, repeat};
@@ -7,33 +7,37 @@ use std::test::Fail;
 // The first read would fail: a word is described without reading.
 #[test]
 fn words_as_handles(rt: HostRuntime) -> Result<(), Fail> {
-    let rows: [(&[&str], &[u8]); 16] = [
-        (&["word", "c0016"], b"global serial 5 index 3 owner 0\n"),
-        (&["word", "C0016"], b"global serial 5 index 3 owner 0\n"),
+    let rows: [(&[&str], &[u8]); 17] = [
+        (&["word", "c00000016"], b"global serial 5 index 3 owner 0\n"),
+        (&["word", "C00000016"], b"global serial 5 index 3 owner 0\n"),
         (
-            &["word", "00000000000c0016"],
+            &["word", "0000000c00000016"],
             b"global serial 5 index 3 owner 0\n",
         ),
+        (
+            &["word", "c0016"],
+            b"global serial 196613 index 0 owner 0\n",
+        ),
+        (&["word", "400000002"], b"global serial 0 index 1 owner 0\n"),
         (&["word", "0"], b"null\n"),
         (&["word", "0000000000000000"], b"null\n"),
         (&["word", "1"], b"local serial 0 index 0 owner 0\n"),
-        (&["word", "400000001"], b"local serial 0 index 0 owner 1\n"),
         (
-            &["word", "3ffffffff"],
-            b"weak serial 65535 index 65535 owner 0\n",
+            &["word", "4000000000001"],
+            b"local serial 0 index 0 owner 1\n",
         ),
         (
-            &["word", "fffffffffd"],
-            b"local serial 65535 index 65535 owner 63\n",
+            &["word", "3ffffffffffff"],
+            b"weak serial 4294967295 index 65535 owner 0\n",
         ),
         (
-            &["word", "fFfFfFfFfD"],
-            b"local serial 65535 index 65535 owner 63\n",
+            &["word", "fffffffffffffd"],
+            b"local serial 4294967295 index 65535 owner 63\n",
         ),
         (&["word", "4"], b"invalid\n"),
-        (&["word", "400000002"], b"invalid\n"),
-        (&["word", "400000003"], b"invalid\n"),
-        (&["word", "10000000001"], b"invalid\n"),
+        (&["word", "4000000000002"], b"invalid\n"),
+        (&["word", "4000000000003"], b"invalid\n"),
+        (&["word", "100000000000001"], b"invalid\n"),
         (&["word", "ffffffffffffffff"], b"invalid\n"),
         (&["word", "FFFFFFFFFFFFFFFF"], b"invalid\n"),
     ];
@@ -44,9 +48,36 @@ fn words_as_handles(rt: HostRuntime) -> Result<(), Fail> {
     Ok(())
 }
 
+// And so is a word of the earlier layout.
+#[test]
+fn words_of_the_earlier_layout(rt: HostRuntime) -> Result<(), Fail> {
+    let rows: [(&[&str], &[u8]); 11] = [
+        (&["widen", "c0016"], b"c00000016\n"),
+        (&["widen", "C0016"], b"c00000016\n"),
+        (&["widen", "00000000000c0016"], b"c00000016\n"),
+        (&["widen", "400000001"], b"4000000000001\n"),
+        (&["widen", "fffffffffd"], b"fffffc0003fffd\n"),
+        (&["widen", "1"], b"1\n"),
+        (&["widen", "0"], b"null\n"),
+        (&["widen", "4"], b"invalid\n"),
+        (&["widen", "400000002"], b"invalid\n"),
+        (&["widen", "10000000001"], b"invalid\n"),
+        (&["widen", "ffffffffffffffff"], b"invalid\n"),
+    ];
+    for (words, line) in rows {
+        let source = Source::new(b"", ALL, 1);
+        reads(&rt, rt.alloc(), words, source, answered(line))?;
+    }
+    Ok(())
+}
+
 #[test]
 fn words_that_are_no_word(rt: HostRuntime) -> Result<(), Fail> {
-    let rows: [&[&str]; 14] = [
+    let rows: [&[&str]; 18] = [
+        &["widen", "xyz"],
+        &["widen", ""],
+        &["widen", "00000000000000000"],
+        &["widen", "1", "1"],
         &["word", "xyz"],
         &["word", ""],
         &["word", "g"],

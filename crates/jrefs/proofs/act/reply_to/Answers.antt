@@ -4,7 +4,7 @@ use Rattle.std.proofs.lemmas.Result.{IfOk-weaker, IfErr-weaker}
 use Rattle.jrefs.specs.declared.request.Request.{Request}
 use Rattle.jrefs.specs.declared.request.Request.TheVariants.{Run, Check}
 use Rattle.jrefs.specs.Act.{IsOutput, Stops}
-use Rattle.jrefs.proofs.ReadBytes.{answer_is_output, check_is_output, word_is_output, fault_stops}
+use Rattle.jrefs.proofs.ReadBytes.{answer_is_output, check_is_output, word_is_output, widened_is_output, fault_stops}
 use Rattle.jrefs.proofs.act.reply_to.Goals as goal
 
 pub returns-in_ok-input-in-Run-clause-ok : goal.returns-in_ok-input-in-Run-clause-ok
@@ -42,3 +42,9 @@ returns-in-Word-clause-ok g c =
     let known = g.R.Read.remaining c.args.reader.now in
     subst (λ (r : Request). IfOk c.line_of_word.result (λ output. IsOutput r known output.items)) (sym c.in-Word.is)
     (IfOk-weaker c.line_of_word.result _ _ (λ output says. word_is_output known c.in-Word.word output.items says) c.line_of_word.ensures.ok)
+
+pub returns-in-Widen-clause-ok : goal.returns-in-Widen-clause-ok
+returns-in-Widen-clause-ok g c =
+    let known = g.R.Read.remaining c.args.reader.now in
+    subst (λ (r : Request). IfOk c.line_of_widened.result (λ output. IsOutput r known output.items)) (sym c.in-Widen.is)
+    (IfOk-weaker c.line_of_widened.result _ _ (λ output says. widened_is_output known c.in-Widen.word output.items says) c.line_of_widened.ensures.ok)
