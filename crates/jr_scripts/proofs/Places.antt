@@ -8,7 +8,7 @@ use Rattle.jr_model.specs.Frames.{object_where, object_at, object_of, is_free}
 use Rattle.jr_model.proofs.Updates.{eq_true, eq_self}
 use Rattle.jr_scripts.specs.declared.frames.Place.{Place}
 use Rattle.jr_scripts.specs.declared.frames.Frames.TheInside.{Inside}
-use Rattle.jr_scripts.specs.Places.{unused, place_at, is_taken, ref_at, table, times, IsTable}
+use Rattle.jr_scripts.specs.Places.{given_of, unused, place_at, is_taken, ref_at, table, times, IsTable}
 
 -- the object at a place, none where no reference stands
 abbrev pub object_in : Place → Option ℕ
@@ -69,8 +69,8 @@ module _ (a : Inside) (is : IsTable a) where
       ∙ found_object a.thread a.places.items (λ r. same_handle r.handle h) h.index (λ q e. index_differs _ (q == h.index) _ e) a.standing.items
       ∙ ap (λ b. cond (b && same_handle (ref_at a.thread a.places.items h.index).handle h) (Some (place_at a.places.items h.index).object) None) (listed_taken h.index)
 
-  pub is_free_place : (last p : ℕ) → is_free last (table a).frames p ≡ (not (is_taken a.places.items p) && nat_le (place_at a.places.items p).given last)
+  pub is_free_place : (last p : ℕ) → is_free last (table a).frames p ≡ (not (is_taken a.places.items p) && nat_le (given_of (place_at a.places.items p)) last)
   is_free_place last p =
       ap (λ rs. not (list_any (λ r. r.handle.index == p) rs) && nat_le (slice_index (table a).frames.given p) last) (append-nil (map (ref_at a.thread a.places.items) a.standing.items))
       ∙ ap (λ b. not b && nat_le (slice_index (table a).frames.given p) last) (any_ref a.thread a.places.items p a.standing.items ∙ listed_taken p)
-      ∙ ap (λ n. not (is_taken a.places.items p) && nat_le n last) (get_or-map (λ place. place.given) a.places.items p unused)
+      ∙ ap (λ n. not (is_taken a.places.items p) && nat_le n last) (get_or-map given_of a.places.items p unused)

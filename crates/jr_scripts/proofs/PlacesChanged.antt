@@ -11,7 +11,7 @@ use Rattle.jr_model.proofs.Updates.{eq_true, eq_false, eq_self, eq_other}
 use Rattle.jr_scripts.specs.declared.frames.Place.{Place}
 use Rattle.jr_scripts.specs.declared.frames.Frames.TheInside.{Inside}
 use Rattle.jr_scripts.specs.Table.{IsOnly}
-use Rattle.jr_scripts.specs.Places.{unused, place_at, ref_at, table, times, IsTable}
+use Rattle.jr_scripts.specs.Places.{given_of, unused, place_at, ref_at, table, times, IsTable}
 use Rattle.jr_scripts.proofs.Places.{object_in, object_at_place}
 
 -- what holds of the new place, and of the others, holds of each place after the change
@@ -30,7 +30,7 @@ times_append p (x ∷ xs) ys = let rest : times p (xs ++ ys) ≡ times p xs + ti
 
 -- the reference that a place shows
 abbrev pub shown : ℕ → ℕ → Place → LocalRef
-shown thread q y = record { handle = record { kind = Local; serial = y.given - 1; index = q; owner = thread }; object = y.object }
+shown thread q y = record { handle = record { kind = Local; serial = given_of y - 1; index = q; owner = thread }; object = y.object }
 
 cons_same : (r s : LocalRef) (xs ys : List LocalRef) → r ≡ s → xs ≡ ys → r ∷ xs ≡ s ∷ ys
 cons_same r s xs ys e f = cc
@@ -63,12 +63,12 @@ changed a places standing = record { thread = a.thread; last = a.last; places = 
 module _ (a : Inside) (is : IsTable a) (p : ℕ) (l : p < length a.places.items) (x : Place) (places : ArrayVec Place) (set : places.items ≡ slice_set a.places.items p x) (standing : ArrayVec ℕ) where
   -- the table stands where the place that was changed is among the standing ones as it should be, and the others are as they were
   pub still_table : ((q : ℕ) → q ≢ p → times q standing.items ≡ times q a.standing.items) → times p standing.items ≡ (if not (x.object == 0) then 1 else 0)
-      → (IsTrue (not (x.object == 0)) → 1 ≤ x.given) → x.given ≤ a.last + 1 → IsTable (changed a places standing)
+      → (IsTrue (not (x.object == 0)) → 1 ≤ given_of x) → given_of x ≤ a.last + 1 → IsTable (changed a places standing)
   still_table others here given within = record {
     few = let e = is.few in rw (set, length-set) e;
     once = after_set (λ q y. times q standing.items ≡ (if not (y.object == 0) then 1 else 0)) a.places.items places.items p x l set here (λ q ne. others q ne ∙ is.once q);
-    given = after_set (λ q y. IsTrue (not (y.object == 0)) → 1 ≤ y.given) a.places.items places.items p x l set given (λ q ne. is.given q);
-    within = after_set (λ q y. y.given ≤ a.last + 1) a.places.items places.items p x l set within (λ q ne. is.within q);
+    given = after_set (λ q y. IsTrue (not (y.object == 0)) → 1 ≤ given_of y) a.places.items places.items p x l set given (λ q ne. is.given q);
+    within = after_set (λ q y. given_of y ≤ a.last + 1) a.places.items places.items p x l set within (λ q ne. is.within q);
   }
 
   pub changed_only : IsTable (changed a places standing) → IsOnly (table a).frames p (object_in x) (table (changed a places standing)).frames

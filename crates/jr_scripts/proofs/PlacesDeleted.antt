@@ -9,7 +9,7 @@ use Rattle.jr_model.specs.Frames.{object_of, deleted}
 use Rattle.jr_model.proofs.Updates.{eq_true, eq_other, handle_self}
 use Rattle.jr_scripts.specs.declared.frames.Place.{Place}
 use Rattle.jr_scripts.specs.declared.frames.Frames.TheInside.{Inside}
-use Rattle.jr_scripts.specs.Places.{unused, place_at, ref_at, table, times, IsTable}
+use Rattle.jr_scripts.specs.Places.{given_of, unused, place_at, ref_at, table, times, IsTable}
 use Rattle.jr_scripts.proofs.Places.{index_differs}
 use Rattle.jr_scripts.proofs.PlacesChanged.{changed, still_table, refs_other, frames_same}
 use Rattle.jr_scripts.proofs.PlacesNamed.{stands, taken_index}
@@ -49,7 +49,7 @@ filter_refs show keep passes alike (x ∷ xs) = map_kept show x (keep x) (passes
 
 -- the place of a handle without its reference
 abbrev pub emptied : Inside → Handle → Place
-emptied a h = record { given = (place_at a.places.items h.index).given; object = 0 }
+emptied a h = record { low = (place_at a.places.items h.index).low; high = (place_at a.places.items h.index).high; object = 0 }
 
 module _ (a : Inside) (is : IsTable a) (h : Handle) (some : IsSome (object_of (table a).frames h)) where
   pub standing_index : h.index < length a.places.items
@@ -76,4 +76,4 @@ module _ (a : Inside) (is : IsTable a) (h : Handle) (some : IsSome (object_of (t
         (ap (map (ref_at a.thread places.items)) kept
         ∙ refs_other a.thread a.places.items places.items h.index (λ q ne. ap (λ ps. place_at ps q) set ∙ get_or-set_other a.places.items h.index q (emptied a h) unused ne) (without h.index a.standing.items) (times_without_self h.index a.standing.items)
         ∙ filter_refs (ref_at a.thread a.places.items) (λ q. not (q == h.index)) (λ r. not (same_handle r.handle h)) (λ q. ap not (alike q)) a.standing.items)
-        (ap (map (λ place. place.given)) set ∙ map-set_same (λ place. place.given) a.places.items h.index (emptied a h) unused refl)
+        (ap (map given_of) set ∙ map-set_same given_of a.places.items h.index (emptied a h) unused refl)

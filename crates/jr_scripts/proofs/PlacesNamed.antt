@@ -10,7 +10,7 @@ use Rattle.jr_model.specs.Frames.{object_of}
 use Rattle.jr_model.proofs.Updates.{and_left, and_right, handle_true, handle_self}
 use Rattle.jr_scripts.specs.declared.frames.Place.{Place}
 use Rattle.jr_scripts.specs.declared.frames.Frames.TheInside.{Inside}
-use Rattle.jr_scripts.specs.Places.{unused, place_at, is_taken, ref_at, table, IsTable}
+use Rattle.jr_scripts.specs.Places.{given_of, unused, place_at, is_taken, ref_at, table, IsTable}
 use Rattle.jr_scripts.proofs.Places.{object_of_handle}
 
 pub not_zero : (n : ℕ) → n ≢ 0 → (n == 0) ≡ false
@@ -37,7 +37,7 @@ module _ (a : Inside) (is : IsTable a) (h : Handle) where
       let both = some_true _ _ (subst (λ o. IsSome o) (object_of_handle a is h) some) in
       (and_left _ _ both, handle_true _ h (and_right (is_taken a.places.items h.index) _ both))
 
-  pub named_object : (place_at a.places.items h.index).object ≢ 0 → h.kind ≡ Local → h.serial + 1 ≡ (place_at a.places.items h.index).given → h.owner ≡ a.thread
+  pub named_object : (place_at a.places.items h.index).object ≢ 0 → h.kind ≡ Local → h.serial + 1 ≡ given_of (place_at a.places.items h.index) → h.owner ≡ a.thread
       → object_of (table a).frames h ≡ Some (place_at a.places.items h.index).object
   named_object ne kind serial owner =
       let same : (ref_at a.thread a.places.items h.index).handle ≡ h = same_parts Local h.kind _ h.serial h.index a.thread h.owner (sym kind) (omega arith) (sym owner) in
@@ -51,13 +51,13 @@ module _ (a : Inside) (is : IsTable a) (h : Handle) where
       object_of_handle a is h
       ∙ ap (λ n. cond (not (n == 0) && same_handle (ref_at a.thread a.places.items h.index).handle h) (Some (place_at a.places.items h.index).object) None) e
 
-  pub unnamed_object : ((h.kind ≡ Local) × (h.serial + 1 ≡ (place_at a.places.items h.index).given) × (h.owner ≡ a.thread) → ⊥) → object_of (table a).frames h ≡ None
+  pub unnamed_object : ((h.kind ≡ Local) × (h.serial + 1 ≡ given_of (place_at a.places.items h.index)) × (h.owner ≡ a.thread) → ⊥) → object_of (table a).frames h ≡ None
   unnamed_object other = object_of_handle a is h ∙ go _ refl
     where
       go : (b : Bool) → (is_taken a.places.items h.index && same_handle (ref_at a.thread a.places.items h.index).handle h) ≡ b → cond (is_taken a.places.items h.index && same_handle (ref_at a.thread a.places.items h.index).handle h) (Some (place_at a.places.items h.index).object) None ≡ None
       go true e =
           let same = handle_true _ h (and_right (is_taken a.places.items h.index) _ e) in
-          let once : 1 ≤ (place_at a.places.items h.index).given = is.given h.index (and_left _ _ e) in
-          let serial : (place_at a.places.items h.index).given - 1 ≡ h.serial = ap (λ (k : Handle). k.serial) same in
+          let once : 1 ≤ given_of (place_at a.places.items h.index) = is.given h.index (and_left _ _ e) in
+          let serial : given_of (place_at a.places.items h.index) - 1 ≡ h.serial = ap (λ (k : Handle). k.serial) same in
           absurd (other (sym (ap (λ (k : Handle). k.kind) same), omega arith, sym (ap (λ (k : Handle). k.owner) same)))
       go false e = ap (λ b. cond b (Some (place_at a.places.items h.index).object) None) e

@@ -6,25 +6,50 @@ use std::marker::Model;
 /// The most places for local references that a thread can have.
 const MOST_PLACES: usize = 4_096;
 
-/// A place for a local reference.
+/// How many numbers the lower part of a count has.
+const ROUND: u64 = 1 << 32;
+
+/// A place for a local reference, which takes eight bytes.
 #[derive(Clone, Copy, Default)]
 struct Place {
-    /// How many handles it has given: those of serials 0 upward.
-    given: u64,
+    /// The lower 32 bits of how many handles it has given: those of serials 0 upward.
+    low: u32,
+    /// The upper 16 bits.
+    high: u16,
     /// The object of the reference here, 0 where it is free or retired.
     object: u16,
 }
 
 impl Place {
-    ghost use Rattle.std.specs.Prelude.{◌≡◌, ◌+◌, ◌↔◌, IsTrue};
+    ghost use Rattle.std.specs.Prelude.{◌≡◌, ◌<◌, ◌+◌, ◌^◌, ◌↔◌, IsTrue};
     ghost use Rattle.jr_word.specs.declared.handle.RefKind.TheVariants.{Local};
+    ghost use Rattle.jr_scripts.specs.Places.{given_of};
+
+    /// How many handles it has given.
+    fn given(&self) -> u64
+        ensures { result ≡ given_of self.now }
+    {
+        u64::from(self.low) + ROUND * u64::from(self.high)
+    }
+
+    /// Gives one more handle, to a reference to the object.
+    fn give(&mut self, object: u16)
+        requires { given_of self.old + 1 < 2 ^ 48 }
+        ensures given { given_of self.new ≡ given_of self.old + 1 }
+        ensures object { self.new.object ≡ object }
+    {
+        let given = self.given() + 1;
+        self.low = (given % ROUND) as u32;
+        self.high = (given / ROUND) as u16;
+        self.object = object;
+    }
 
     /// Whether a handle of this place is the last that it gave, to the thread.
     fn gave_last(&self, thread: u8, handle: HandleParts) -> bool
-        ensures { IsTrue result ↔ ((handle.kind ≡ Local) × (handle.serial + 1 ≡ self.now.given) × (handle.owner ≡ thread)) }
+        ensures { IsTrue result ↔ ((handle.kind ≡ Local) × (handle.serial + 1 ≡ given_of self.now) × (handle.owner ≡ thread)) }
     {
         handle.kind == RefKind::Local
-            && u64::from(handle.serial) + 1 == self.given
+            && u64::from(handle.serial) + 1 == self.given()
             && handle.owner == thread
     }
 }
@@ -83,10 +108,10 @@ impl Frames {
         let index = self
             .places
             .iter()
-            .position(|place| place.object == 0 && place.given <= last)?;
+            .position(|place| place.object == 0 && place.given() <= last)?;
         Some(HandleParts {
             kind: RefKind::Local,
-            serial: self.places[index].given as u32,
+            serial: self.places[index].given() as u32,
             index: index as u16,
             owner: self.thread,
         })
@@ -100,9 +125,7 @@ impl Frames {
         ensures only { IsOnly self.old.frames handle.index (Some object) self.new.frames }
         ensures same { (self.new.thread ≡ self.old.thread) × (self.new.last ≡ self.old.last) }
     {
-        let place = &mut self.places[usize::from(handle.index)];
-        place.given += 1;
-        place.object = object;
+        self.places[usize::from(handle.index)].give(object);
         self.standing.push(handle.index);
     }
 
@@ -165,8 +188,9 @@ mod tests {
     }
 
     #[test]
-    fn a_place_takes_16_bytes_at_most(rt: HostRuntime) {
-        assert!(rt; size_of::<Place>() <= 16);
+    fn a_place_takes_ten_bytes_with_its_turn(rt: HostRuntime) {
+        assert!(rt; size_of::<Place>() <= 8);
+        assert!(rt; size_of::<Frames>() <= 10 * MOST_PLACES + 64);
     }
 
     #[test]

@@ -10,10 +10,10 @@ use Rattle.jr_scripts.proofs.PlacesDeleted.{without, standing_index, emptied, de
 use Rattle.jr_scripts.proofs.frames.Frames.delete.Goals as goal
 
 abbrev places : goal.After-retain → ArrayVec Place
-places c = with_place c.self.inside.places c.deref_mut.result.now c.from.result (λ place. record { given = place.given; object = 0 })
+places c = with_place c.self.inside.places c.deref_mut.result.now c.from.result (λ place. record { low = place.low; high = place.high; object = 0 })
 
 places_are : (c : goal.After-retain) → (places c).items ≡ slice_set c.self.inside.places.items c.args.handle.index (emptied c.self.inside c.args.handle)
-places_are c = with_place_is c.self.inside.places c.deref_mut.result.now c.from.result c.args.handle.index (λ place. record { given = place.given; object = 0 }) c.deref_mut.ensures.value c.from.ensures
+places_are c = with_place_is c.self.inside.places c.deref_mut.result.now c.from.result c.args.handle.index (λ place. record { low = place.low; high = place.high; object = 0 }) c.deref_mut.ensures.value c.from.ensures
 
 kept : (c : goal.After-retain) → c.retain.new.self.items ≡ without c.args.handle.index c.self.inside.standing.items
 kept c = filter-from_retain _ (λ q. not (q == c.args.handle.index)) _ (λ x b f y called. search rules) _ _ c.retain.ensures.filtered

@@ -3,7 +3,7 @@ use Rattle.std.proofs.lemmas.List.{get_or_past}
 use Rattle.jr_model.specs.Frames.{object_at, object_of}
 use Rattle.jr_scripts.specs.declared.frames.Place.{Place}
 use Rattle.jr_scripts.specs.Table.{Table}
-use Rattle.jr_scripts.specs.Places.{unused, place_at, table}
+use Rattle.jr_scripts.specs.Places.{given_of, unused, place_at, table}
 use Rattle.jr_scripts.proofs.Places.{object_in, object_at_place}
 use Rattle.jr_scripts.proofs.PlacesNamed.{not_zero, named_object, empty_object, unnamed_object}
 use Rattle.jr_scripts.proofs.frames.Frames.object_of.Goals as goal
@@ -27,7 +27,7 @@ returns-then-gave_last-clause-object c =
     let place = seen_place _ _ _ _ _ (c.in_ok-place.ensures.lookup.3.1 _) c.deref.ensures.0 c.from.ensures in
     let last = c.gave_last.ensures.0 c.if-gave_last.true in
     ap (λ (x : Place). Some x.object) place
-    ∙ sym (named_object c.self.inside c.self.invariant c.args.handle (subst (λ (x : Place). x.object ≢ 0) place c.if-place-ne0.true) last.0 (last.1 ∙ ap (λ (x : Place). x.given) place) last.2)
+    ∙ sym (named_object c.self.inside c.self.invariant c.args.handle (subst (λ (x : Place). x.object ≢ 0) place c.if-place-ne0.true) last.0 (last.1 ∙ ap given_of place) last.2)
     ∙ ap (λ (t : Table). object_of t.frames c.args.handle) c.self.view_is
 
 pub returns-then-gave_last-clause-place : goal.returns-then-gave_last-clause-place
@@ -43,7 +43,7 @@ returns-else-place-ne0-clause-object c =
     let place = seen_place _ _ _ _ _ (c.in_ok-place.ensures.lookup.3.1 _) c.deref.ensures.0 c.from.ensures in
     let none : object_of (table c.self.inside).frames c.args.handle ≡ None = elim c.else-place-ne0.branch [
       | else-place-ne0-via-then-place-ne0+else-gave_last w ↦ unnamed_object c.self.inside c.self.invariant c.args.handle
-          (λ l. let last = w.gave_last.ensures.1 (l.0, l.1 ∙ sym (ap (λ (x : Place). x.given) place), l.2) in let other = w.if-gave_last.false in absurd (cc (last, other)))
+          (λ l. let last = w.gave_last.ensures.1 (l.0, l.1 ∙ sym (ap given_of place), l.2) in let other = w.if-gave_last.false in absurd (cc (last, other)))
       | else-place-ne0-via-else-place-ne0 w ↦ empty_object c.self.inside c.self.invariant c.args.handle (sym (ap (λ (x : Place). x.object) place) ∙ w.if-place-ne0.false)
     ] in
     sym none ∙ ap (λ (t : Table). object_of t.frames c.args.handle) c.self.view_is
