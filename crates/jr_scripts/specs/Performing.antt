@@ -33,6 +33,7 @@ pub record Moment : Type 0 where
   pub fresh : Bool
   pub taken : ℕ
 
+-- the moment at which so much is known
 abbrev pub moment : Bool → Known → Frames → Moment
 moment fresh k f = record { pass = view k; frames = f; held = k.grasp; fresh = fresh; taken = k.taken }
 
