@@ -1,2 +1,2 @@
-mod Slides
-mod OneArray
+pub mod Slides
+pub mod OneArray

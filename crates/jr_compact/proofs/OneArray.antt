@@ -10,13 +10,13 @@ use Rattle.jr_model.specs.Maps.{sum_below}
 use Rattle.jr_model.specs.State.{Contents, State, IsPresent, IsClosed, length_of, present_words}
 use Rattle.jr_model.proofs.Lengths.{lengths_fit}
 use Rattle.jr_model.proofs.Updates.{eq_self}
-use Rattle.jr_rule.specs.declared.known.Grasp.{Grasp}
-use Rattle.jr_rule.specs.declared.known.Known.{Known}
-use Rattle.jr_rule.specs.Collecting.{IsThere, ShowsElement, placed, ShowsPlaced, CanSettle}
-use Rattle.jr_rule.specs.Grasping.{header_in}
-use Rattle.jr_rule.specs.Knowing.{Standing, IsOf, Took, Saw, MayKnow, anything, state_of, keeps, lets_go, KnowsHeader, IsSettled, IsClosedNow, CanReopen, ShowsHeader}
-use Rattle.jr_rule.proofs.Collected.{same_tables, tables_seen, goes_act, there_settled}
-use Rattle.jr_rule.proofs.Goes.{may_then, shut_closed}
+use Rattle.jr_steps.specs.declared.known.Grasp.{Grasp}
+use Rattle.jr_steps.specs.declared.known.Known.{Known}
+use Rattle.jr_steps.specs.Collecting.{IsThere, ShowsElement, placed, ShowsPlaced, CanSettle}
+use Rattle.jr_steps.specs.Grasping.{header_in}
+use Rattle.jr_steps.specs.Knowing.{Standing, IsOf, Took, Saw, MayKnow, anything, state_of, keeps, lets_go, KnowsHeader, IsSettled, IsClosedNow, CanReopen, ShowsHeader}
+use Rattle.jr_steps.proofs.Collected.{same_tables, tables_seen, goes_act, there_settled}
+use Rattle.jr_steps.proofs.Goes.{may_then, shut_closed}
 use Rattle.jr_model.proofs.InRoom.{in_room}
 use Rattle.jr_compact.specs.Sliding.{CanSlide}
 

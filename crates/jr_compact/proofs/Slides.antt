@@ -4,13 +4,13 @@ use mathlib.Core.Logic.{∥∥₁_map}
 use Rattle.jr_word.specs.declared.header.HeaderParts.{HeaderParts}
 use Rattle.jr_model.specs.declared.event.Role.TheVariants.{Collecting}
 use Rattle.jr_model.specs.State.{Contents, HaveSameTables}
-use Rattle.jr_rule.specs.declared.known.Known.{Known}
-use Rattle.jr_rule.specs.declared.known.Grasp.{Grasp}
-use Rattle.jr_rule.specs.declared.known.Move.{Move}
-use Rattle.jr_rule.specs.Grasping.{with_move, with_header, header_in, move_of, HasDone}
-use Rattle.jr_rule.specs.Collecting.{IsThere, ShowsElement, CanMove, ShowsMoved, placed, CanPlace, ShowsPlaced}
-use Rattle.jr_rule.specs.Knowing.{Standing, IsOf, MayKnow, Sees, Saw, Took, state_of, keeps, KnowsHeader}
-use Rattle.jr_rule.proofs.Collected.{tables_seen, sees_nothing, sees_more, there_left}
+use Rattle.jr_steps.specs.declared.known.Known.{Known}
+use Rattle.jr_steps.specs.declared.known.Grasp.{Grasp}
+use Rattle.jr_steps.specs.declared.known.Move.{Move}
+use Rattle.jr_steps.specs.Grasping.{with_move, with_header, header_in, move_of, HasDone}
+use Rattle.jr_steps.specs.Collecting.{IsThere, ShowsElement, CanMove, ShowsMoved, placed, CanPlace, ShowsPlaced}
+use Rattle.jr_steps.specs.Knowing.{Standing, IsOf, MayKnow, Sees, Saw, Took, state_of, keeps, KnowsHeader}
+use Rattle.jr_steps.proofs.Collected.{tables_seen, sees_nothing, sees_more, there_left}
 use Rattle.jr_compact.specs.Sliding.{CanSlide}
 
 -- so many elements are moved, and nothing else that the pass holds is other

@@ -1,9 +1,9 @@
 -- What a collector has to know to move an object down, and to end its collection.
 use Rattle.std.specs.Prelude.{◌+◌, ◌<◌, ◌≤◌, ℕ}
 use Rattle.jr_word.specs.declared.header.HeaderParts.{HeaderParts}
-use Rattle.jr_rule.specs.declared.known.Known.{Known}
-use Rattle.jr_rule.specs.Collecting.{IsFree, IsRoom}
-use Rattle.jr_rule.specs.Knowing.{KnowsHeader, IsSettled}
+use Rattle.jr_steps.specs.declared.known.Known.{Known}
+use Rattle.jr_steps.specs.Collecting.{IsFree, IsRoom}
+use Rattle.jr_steps.specs.Knowing.{KnowsHeader, IsSettled}
 
 -- AN OBJECT MAY BE MOVED DOWN to the place: its header is known, no move is unfinished, the place is no higher, and the words there lie below the top and are of no other list
 pub record CanSlide (o : ℕ) (h : HeaderParts) (place : ℕ) (k : Known) : Type 0 where

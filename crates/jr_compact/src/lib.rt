@@ -2,7 +2,5 @@
 #![tactic(auto)]
 
 mod sliding;
-#[cfg(test)]
-mod tests;
 
 pub use sliding::slide;

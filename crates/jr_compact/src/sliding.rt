@@ -2,11 +2,11 @@
 ghost use Rattle.std.specs.Prelude.{◌≡◌, ◌≤◌, []};
 ghost use Rattle.jr_word.specs.Header.{IsHeader};
 ghost use Rattle.jr_model.specs.declared.event.Role.TheVariants.{Collecting};
-ghost use Rattle.jr_rule.specs.Collecting.{placed, ShowsPlaced};
-ghost use Rattle.jr_rule.specs.Knowing.{MayKnow, Saw};
+ghost use Rattle.jr_steps.specs.Collecting.{placed, ShowsPlaced};
+ghost use Rattle.jr_steps.specs.Knowing.{MayKnow, Saw};
 ghost use Rattle.jr_compact.specs.Sliding.{CanSlide};
 
-use jr_rule::Steps;
+use jr_steps::Steps;
 use jr_word::HeaderParts;
 
 /// Moves an object down to a place, element by element from the first on, since the two places may overlap, and then its header. No step of it is one of the machine.

@@ -5,10 +5,10 @@ use Rattle.std.proofs.Math.Logic.{∥∥₁_elim, ∥∥₁_map}
 use Rattle.jr_model.specs.declared.event.Act.TheVariants.{Shut, ShutBusy}
 use Rattle.jr_model.specs.History.{by, IsLegal}
 use Rattle.jr_model.proofs.Histories.{legal_push}
-use Rattle.jr_rule.specs.declared.known.Grasp.{Grasp}
-use Rattle.jr_rule.specs.declared.known.Known.{Known}
-use Rattle.jr_rule.proofs.Goes.{shut_closed}
-use Rattle.jr_rule.specs.Knowing.{Standing, anything, keeps, lets_go, Goes, IsClosedNow, CanReopen, MayKnow, Took}
+use Rattle.jr_steps.specs.declared.known.Grasp.{Grasp}
+use Rattle.jr_steps.specs.declared.known.Known.{Known}
+use Rattle.jr_steps.proofs.Goes.{shut_closed}
+use Rattle.jr_steps.specs.Knowing.{Standing, anything, keeps, lets_go, Goes, IsClosedNow, CanReopen, MayKnow, Took}
 
 -- who is refused a shut was told of one thread at least
 counted : {k k' : Known} (n : ℕ) → Goes k (ShutBusy n ∷ []) k' → 1 ≤ n

@@ -6,10 +6,10 @@ use Rattle.jr_model.specs.declared.event.Act.TheVariants.{Knock, Withdraw}
 use Rattle.jr_model.proofs.Stays.{did_then, did_nothing}
 use Rattle.jr_model.proofs.Runs.{did_legal}
 use Rattle.jr_model.proofs.Windows.{window_stay, stepped_last}
-use Rattle.jr_rule.specs.declared.known.Known.{Known}
-use Rattle.jr_rule.specs.Acts.{leaving}
-use Rattle.jr_rule.specs.Knowing.{Standing, view, moved, anything, lets_go, Goes, Took, Takes}
-use Rattle.jr_rule.proofs.Goes.{goes_stepped}
+use Rattle.jr_steps.specs.declared.known.Known.{Known}
+use Rattle.jr_steps.specs.Acts.{leaving}
+use Rattle.jr_steps.specs.Knowing.{Standing, view, moved, anything, lets_go, Goes, Took, Takes}
+use Rattle.jr_steps.proofs.Goes.{goes_stepped}
 use Rattle.jr_gate.specs.Acting.{ActedTo, IsWithdrawn}
 
 -- one step and one more are two

@@ -3,8 +3,8 @@ use Rattle.std.specs.Prelude.{◌≡◌, List}
 use Rattle.jr_model.specs.declared.event.Act.{Act}
 use Rattle.jr_model.specs.History.{History, Did}
 use Rattle.jr_model.specs.Windows.{IsWindow}
-use Rattle.jr_rule.specs.declared.known.Known.{Known}
-use Rattle.jr_rule.specs.Knowing.{Standing, view, moved, lets_go, Takes}
+use Rattle.jr_steps.specs.declared.known.Known.{Known}
+use Rattle.jr_steps.specs.Knowing.{Standing, view, moved, lets_go, Takes}
 
 -- what a knock and its withdrawal show: nothing is held then, and they were two operations
 abbrev pub IsWithdrawn : Known → Known → Type 0

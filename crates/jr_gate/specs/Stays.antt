@@ -1,7 +1,7 @@
 -- Whose a stay and a collection are: by the number of the thread and the role of the steps.
 use Rattle.std.specs.Prelude.{◌≡◌}
 use Rattle.jr_model.specs.declared.event.Role.TheVariants.{Within, Collecting}
-use Rattle.jr_rule.specs.Knowing.{Standing}
+use Rattle.jr_steps.specs.Knowing.{Standing}
 use Rattle.jr_gate.specs.declared.inside.Inside.{Inside}
 use Rattle.jr_gate.specs.declared.shut.Shut.{Shut}
 

@@ -3,11 +3,11 @@ ghost use Rattle.std.specs.Prelude.{◌≡◌, [], ◌∷◌, IsOk, IfOk, IfErr}
 ghost use Rattle.jr_word.specs.declared.fault.Fault.TheVariants.{Barred};
 ghost use Rattle.jr_model.specs.declared.event.Role.TheVariants.{Outside};
 ghost use Rattle.jr_model.specs.declared.event.Act.TheVariants.{Enter, Knock, Leave, Withdraw};
-ghost use Rattle.jr_rule.specs.Knowing.{anything, keeps, lets_go, Took};
+ghost use Rattle.jr_steps.specs.Knowing.{anything, keeps, lets_go, Took};
 ghost use Rattle.jr_gate.specs.Acting.{ActedTo, IsWithdrawn};
 ghost use Rattle.jr_gate.specs.Stays.{IsOwnStay};
 
-use jr_rule::Steps;
+use jr_steps::Steps;
 use jr_word::Fault;
 
 /// A stay inside the gate. It has to be spent.
@@ -40,34 +40,4 @@ pub fn enter<S: Steps>(steps: &mut S) -> Result<Inside, Fault>
     }
     steps.go_out();
     Err(Fault::Barred)
-}
-
-#[cfg(test)]
-mod tests {
-    use super::*;
-    use jr_rule::PlainSteps;
-    use jr_word::Config;
-    use std::test::Fail;
-
-    /// A room of one thread.
-    const SMALL: Config = Config {
-        threads: 1,
-        slots: 1,
-        objects: 1,
-        words: 0,
-        locals: 16,
-    };
-
-    #[test]
-    fn is_counted_until_it_ends(rt: HostRuntime) -> Result<(), Fail> {
-        let mut steps = PlainSteps::<2>::new(rt.alloc(), SMALL)?;
-        let Ok(stay) = enter(&mut steps) else {
-            return Err("nobody collects")?;
-        };
-        assert_eq!(rt; stay.thread, 0);
-        assert_eq!(rt; steps.words[0], 1);
-        stay.leave(&mut steps);
-        assert_eq!(rt; steps.words[0], 0);
-        Ok(())
-    }
 }

@@ -3,8 +3,6 @@
 
 mod inside;
 mod shut;
-#[cfg(test)]
-mod tests;
 
 pub use inside::{Inside, enter};
 pub use shut::{Shut, shut_gate};

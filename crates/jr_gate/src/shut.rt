@@ -3,10 +3,10 @@ ghost use Rattle.std.specs.Prelude.{◌≡◌, ◌≤◌, ℕ, [], ◌∷◌, Is
 ghost use Rattle.jr_word.specs.declared.fault.Fault.TheVariants.{Busy};
 ghost use Rattle.jr_model.specs.declared.event.Role.TheVariants.{Outside};
 ghost use Rattle.jr_model.specs.declared.event.Act.TheVariants.{Shut as Shuts, ShutBusy, Reopen};
-ghost use Rattle.jr_rule.specs.Knowing.{anything, keeps, lets_go, IsClosedNow, CanReopen, MayKnow, Took};
+ghost use Rattle.jr_steps.specs.Knowing.{anything, keeps, lets_go, IsClosedNow, CanReopen, MayKnow, Took};
 ghost use Rattle.jr_gate.specs.Stays.{IsOwnCollection};
 
-use jr_rule::Steps;
+use jr_steps::Steps;
 use jr_word::Fault;
 
 /// A collection, in which the gate is shut. It has to be spent.
@@ -39,35 +39,5 @@ pub fn shut_gate<S: Steps>(steps: &mut S) -> Result<Shut, Fault>
             thread: steps.thread(),
         }),
         Err(count) => Err(Fault::Busy(count)),
-    }
-}
-
-#[cfg(test)]
-mod tests {
-    use super::*;
-    use jr_rule::PlainSteps;
-    use jr_word::Config;
-    use std::test::Fail;
-
-    /// A room of one thread.
-    const SMALL: Config = Config {
-        threads: 1,
-        slots: 1,
-        objects: 1,
-        words: 0,
-        locals: 16,
-    };
-
-    #[test]
-    fn keeps_the_gate_shut_until_it_ends(rt: HostRuntime) -> Result<(), Fail> {
-        let mut steps = PlainSteps::<2>::new(rt.alloc(), SMALL)?;
-        let Ok(collection) = shut_gate(&mut steps) else {
-            return Err("nobody is inside")?;
-        };
-        assert_eq!(rt; collection.thread, 0);
-        assert_eq!(rt; steps.words[0], 0x1_0000);
-        collection.reopen(&mut steps);
-        assert_eq!(rt; steps.words[0], 0);
-        Ok(())
     }
 }

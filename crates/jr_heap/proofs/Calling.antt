@@ -10,8 +10,8 @@ use Rattle.jr_model.specs.Windows.{IsWindow}
 use Rattle.jr_model.specs.Refusals.{Grounds}
 use Rattle.jr_model.proofs.Stays.{did_nothing}
 use Rattle.jr_model.proofs.Windows.{window_nothing}
-use Rattle.jr_rule.specs.declared.known.Known.{Known}
-use Rattle.jr_rule.specs.Knowing.{Standing, IsOf, MayKnow, view}
+use Rattle.jr_steps.specs.declared.known.Known.{Known}
+use Rattle.jr_steps.specs.Knowing.{Standing, IsOf, MayKnow, view}
 use Rattle.jr_heap.specs.Heap.{Called}
 
 -- what the acts between two moments are to the call, and what it shows

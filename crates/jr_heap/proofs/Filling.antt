@@ -10,11 +10,11 @@ use Rattle.jr_model.specs.History.{Did}
 use Rattle.jr_model.proofs.Updates.{eq_self}
 use Rattle.jr_model.proofs.Stays.{did_then, did_nothing}
 use Rattle.jr_model.proofs.Windows.{window_within}
-use Rattle.jr_rule.specs.declared.known.Known.{Known}
-use Rattle.jr_rule.specs.declared.known.Grasp.{Grasp}
-use Rattle.jr_rule.specs.Grasping.{words_at}
-use Rattle.jr_rule.specs.Knowing.{Standing, IsOf, MayKnow, view, HasWord, IsWordNow, ShowsWord, Took, Takes}
-use Rattle.jr_rule.proofs.Goes.{goes_did}
+use Rattle.jr_steps.specs.declared.known.Known.{Known}
+use Rattle.jr_steps.specs.declared.known.Grasp.{Grasp}
+use Rattle.jr_steps.specs.Grasping.{words_at}
+use Rattle.jr_steps.specs.Knowing.{Standing, IsOf, MayKnow, view, HasWord, IsWordNow, ShowsWord, Took, Takes}
+use Rattle.jr_steps.proofs.Goes.{goes_did}
 use Rattle.jr_heap.specs.Heap.{Called, by_steps, words_of, IsOwn, IsReady, Fills, no_act}
 use Rattle.jr_heap.proofs.Calling.{called_by}
 use Rattle.jr_heap.proofs.Staying.{word_later}

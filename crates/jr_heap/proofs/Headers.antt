@@ -11,11 +11,11 @@ use Rattle.jr_model.specs.State.{Contents}
 use Rattle.jr_model.specs.Parts.{header}
 use Rattle.jr_model.proofs.Updates.{eq_self}
 use Rattle.jr_model.proofs.Windows.{window_within}
-use Rattle.jr_rule.specs.declared.known.Known.{Known}
-use Rattle.jr_rule.specs.declared.known.Grasp.{Grasp}
-use Rattle.jr_rule.specs.Grasping.{header_in}
-use Rattle.jr_rule.specs.Knowing.{Standing, IsOf, MayKnow, anything, state_of, HasObject, ShowsHeader, Took}
-use Rattle.jr_rule.proofs.Goes.{goes_did, present_stays}
+use Rattle.jr_steps.specs.declared.known.Known.{Known}
+use Rattle.jr_steps.specs.declared.known.Grasp.{Grasp}
+use Rattle.jr_steps.specs.Grasping.{header_in}
+use Rattle.jr_steps.specs.Knowing.{Standing, IsOf, MayKnow, anything, state_of, HasObject, ShowsHeader, Took}
+use Rattle.jr_steps.proofs.Goes.{goes_did, present_stays}
 use Rattle.jr_model.proofs.InRoom.{in_room}
 use Rattle.jr_heap.specs.Heap.{Called, by_steps, HoldsHeader, Learns}
 use Rattle.jr_heap.proofs.Calling.{called_by}
@@ -56,7 +56,7 @@ module _ {S : Type 0} {stands : S → Standing} {knows : S → Known → Type 0}
           let g = found.goes k s tt in
           let x = g.3.0 in
           let d = goes_did g.2 in
-          (g.0, g.1, [], record { did = d; window = window_within [] d ((fits a k s).role ∙ w) tt; is = λ f. (x.contents, x.is, (refl, ap (λ n. Ok (h.kind, n)) (sym x.long) ∙ ap (λ (q : Kind). Ok (q, length x.contents.words)) (sym x.kind), refl)); grounds = tt; shows = (g.3, g.2.taken) }))
+          (g.0, g.1, [], record { did = d; window = window_within [] d ((fits a k s).role ∙ w) tt; is = λ f. (x.contents, x.is, (refl, ap (λ n. Ok (h.kind, n)) (sym x.says.long) ∙ ap (λ (q : Kind). Ok (q, length x.contents.words)) (sym x.says.kind), refl)); grounds = tt; shows = (g.3, g.2.taken) }))
 
       pub may_hold : MayKnow knows a (HasObject o) → MayKnow knows b (HoldsHeader o h)
       may_hold may = ∥∥₁_map may (λ k. let g = found.goes k.0 k.1 tt in (g.0, g.1, learnt o h k.0 g.0 g.3))

@@ -5,11 +5,11 @@ use native.Mathlib.Decide.{ℕ_discrete}
 use Rattle.jr_word.specs.declared.fault.Fault.{Fault}
 use Rattle.jr_word.specs.declared.header.HeaderParts.{HeaderParts}
 use Rattle.jr_word.specs.declared.kind.Kind.{Kind}
-use Rattle.jr_rule.specs.declared.known.Known.{Known}
-use Rattle.jr_rule.specs.declared.known.Grasp.{Grasp}
-use Rattle.jr_rule.specs.declared.known.KnownHeader.{KnownHeader}
-use Rattle.jr_rule.specs.Grasping.{header_in, with_range, with_header}
-use Rattle.jr_rule.specs.Knowing.{published, ShowsHeader, ShowsPublished, ShowsRange}
+use Rattle.jr_steps.specs.declared.known.Known.{Known}
+use Rattle.jr_steps.specs.declared.known.Grasp.{Grasp}
+use Rattle.jr_steps.specs.declared.known.KnownHeader.{KnownHeader}
+use Rattle.jr_steps.specs.Grasping.{header_in, with_range, with_header}
+use Rattle.jr_steps.specs.Knowing.{published, ShowsHeader, ShowsPublished, ShowsRange}
 use Rattle.jr_heap.specs.Heap.{header_of, Gains, Publishes, Learns}
 use Rattle.jr_heap.specs.Laws.{GoesOnKnowing, StepsKeepHeaders, CallsKeepHeaders}
 

@@ -1,14 +1,12 @@
 pub mod Calling
 pub mod Staying
-mod Reserving
-mod Filling
-mod Headers
+pub mod Reserving
+pub mod Filling
+pub mod Headers
 mod KnownHeaders
 mod Checks
-mod Elements
+pub mod Elements
 mod Turns
 mod Publishing
-mod Whole
+pub mod Whole
 mod Lists
-mod Tried
-mod Beside

@@ -15,12 +15,12 @@ use Rattle.jr_model.proofs.Histories.{state_push}
 use Rattle.jr_model.proofs.Moments.{sometime_last}
 use Rattle.jr_model.proofs.Stays.{did_then, did_nothing}
 use Rattle.jr_model.proofs.Windows.{window_act, window_within}
-use Rattle.jr_rule.specs.declared.known.Known.{Known}
-use Rattle.jr_rule.specs.declared.known.Grasp.{Grasp}
-use Rattle.jr_rule.specs.Acts.{publishing}
-use Rattle.jr_rule.specs.Grasping.{header_in, with_header}
-use Rattle.jr_rule.specs.Knowing.{Standing, IsOf, MayKnow, Goes, view, state_of, words_for, published, HasObject, KnowsHeader, IsFilled, ShowsPublished, TookWith, Takes}
-use Rattle.jr_rule.proofs.Goes.{goes_did}
+use Rattle.jr_steps.specs.declared.known.Known.{Known}
+use Rattle.jr_steps.specs.declared.known.Grasp.{Grasp}
+use Rattle.jr_steps.specs.Acts.{publishing}
+use Rattle.jr_steps.specs.Grasping.{header_in, with_header}
+use Rattle.jr_steps.specs.Knowing.{Standing, IsOf, MayKnow, Goes, view, state_of, words_for, published, HasObject, KnowsHeader, IsFilled, ShowsPublished, TookWith, Takes}
+use Rattle.jr_steps.proofs.Goes.{goes_did}
 use Rattle.jr_heap.specs.Heap.{Called, by_at_most, HoldsHeader, number_of}
 use Rattle.jr_heap.proofs.Calling.{called_by}
 use Rattle.jr_heap.proofs.Staying.{present_later, word_later}
@@ -95,7 +95,7 @@ module _ {S : Type 0} {stands : S → Standing} {knows : S → Known → Type 0}
       let x = p.did k.0 k.1 k.2 in
       let y = t.goes x.0 x.1 x.2 in
       let known : KnowsHeader o h y.0 = ap (λ (g : Grasp). header_in o g.headers) y.3.1 ∙ ap (λ b. cond b (Some h) (header_in o (published h x.0.grasp).headers)) (eq_self o) in
-      (y.0, y.1, record { known = known; shown = record { contents = record { kind = h.kind; words = words_for h x.0 }; is = new_stands x.0 y.0 o h.kind (words_for h x.0) y.2; kind = refl; long = (x.2).long } }))
+      (y.0, y.1, record { known = known; shown = record { contents = record { kind = h.kind; words = words_for h x.0 }; is = new_stands x.0 y.0 o h.kind (words_for h x.0) y.2; says = record { kind = refl; long = (x.2).long } } }))
 
   pub passed_ready : {a b : S} {n : ℕ} → MayKnow knows a (IsFilled h) → Passed stands knows h first objects a b n → MayKnow knows b (IsFilled h)
   passed_ready may p = ∥∥₁_map may (λ k. let x = p.did k.0 k.1 k.2 in (x.0, x.1, x.2))

@@ -18,13 +18,13 @@ use Rattle.jr_model.proofs.Histories.{legal_push}
 use Rattle.jr_model.proofs.Moments.{raced, sometime_last}
 use Rattle.jr_model.proofs.Stays.{did_then, role_did}
 use Rattle.jr_model.proofs.Windows.{window_act}
-use Rattle.jr_rule.specs.declared.known.Known.{Known}
-use Rattle.jr_rule.specs.declared.known.Grasp.{Grasp}
-use Rattle.jr_rule.specs.declared.naming.TopNaming.TheVariants as top
-use Rattle.jr_rule.specs.Acts.{top_named}
-use Rattle.jr_rule.specs.Grasping.{words_at, with_range}
-use Rattle.jr_rule.specs.Knowing.{Standing, IsOf, MayKnow, view, anything, keeps, ShowsUsed, WasUsed, ShowsRange, Took, Takes}
-use Rattle.jr_rule.proofs.Goes.{goes_did, used_now, may_then}
+use Rattle.jr_steps.specs.declared.known.Known.{Known}
+use Rattle.jr_steps.specs.declared.known.Grasp.{Grasp}
+use Rattle.jr_steps.specs.declared.naming.TopNaming.TheVariants as top
+use Rattle.jr_steps.specs.Acts.{top_named}
+use Rattle.jr_steps.specs.Grasping.{words_at, with_range}
+use Rattle.jr_steps.specs.Knowing.{Standing, IsOf, MayKnow, view, anything, keeps, ShowsUsed, WasUsed, ShowsRange, Took, Takes}
+use Rattle.jr_steps.proofs.Goes.{goes_did, used_now, may_then}
 use Rattle.jr_heap.specs.Heap.{Called, by_steps, reserve_steps, IsOwn, Gains}
 use Rattle.jr_heap.proofs.Calling.{called_by, called_none}
 

@@ -10,11 +10,11 @@ use Rattle.jr_model.specs.declared.event.Act.TheVariants.{Leave}
 use Rattle.jr_model.specs.State.{Contents, State, IsWord}
 use Rattle.jr_model.specs.History.{role_of, Did}
 use Rattle.jr_model.proofs.Stays.{IsStill, still_did}
-use Rattle.jr_rule.specs.declared.known.Known.{Known}
-use Rattle.jr_rule.specs.Knowing.{view, state_of, HasObject, IsWordNow, ShowsObject}
-use Rattle.jr_rule.specs.declared.known.Grasp.{Grasp}
-use Rattle.jr_rule.specs.Grasping.{header_in}
-use Rattle.jr_rule.proofs.Goes.{present_still}
+use Rattle.jr_steps.specs.declared.known.Known.{Known}
+use Rattle.jr_steps.specs.Knowing.{view, state_of, HasObject, IsWordNow, ShowsObject}
+use Rattle.jr_steps.specs.declared.known.Grasp.{Grasp}
+use Rattle.jr_steps.specs.Grasping.{header_in}
+use Rattle.jr_steps.proofs.Goes.{present_still}
 use Rattle.jr_heap.specs.Heap.{HoldsHeader}
 
 -- no act is a Leave
@@ -46,7 +46,7 @@ module _ (k k' : Known) (acts : List Act) (d : Did (view k) (view k') acts) (wit
   pub object_later : (o : ℕ) (h : HeaderParts) → ShowsObject o h k → ShowsObject o h k'
   object_later o h x =
       let y = still.objects o x.contents x.is in
-      record { contents = y.0; is = y.1; kind = y.2 ∙ x.kind; long = y.3 ∙ x.long }
+      record { contents = y.0; is = y.1; says = record { kind = y.2 ∙ x.says.kind; long = y.3 ∙ x.says.long } }
 
   -- so does a header that is known, where the pass holds what it held
   pub header_later : (o : ℕ) (h : HeaderParts) → k'.grasp ≡ k.grasp → HoldsHeader o h k → HoldsHeader o h k'

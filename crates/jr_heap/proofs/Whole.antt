@@ -14,8 +14,8 @@ use Rattle.jr_model.specs.Windows.{IsWindow}
 use Rattle.jr_model.specs.Calls.{Call, Ran}
 use Rattle.jr_model.specs.Parts.{header}
 use Rattle.jr_model.proofs.Runs.{ran_behind}
-use Rattle.jr_rule.specs.declared.known.Known.{Known}
-use Rattle.jr_rule.specs.Knowing.{MayKnow, view, state_of, HasObject, Takes}
+use Rattle.jr_steps.specs.declared.known.Known.{Known}
+use Rattle.jr_steps.specs.Knowing.{MayKnow, view, state_of, HasObject, Takes}
 use Rattle.jr_heap.specs.Heap.{Called, by_steps, HoldsHeader, Learns, Leaves, Relearns, MayBeNamed, MayBeNamedIn, ShowsElement, ShowsElementOf}
 use Rattle.jr_heap.proofs.Staying.{kind_in, still, word_later, shown_present}
 

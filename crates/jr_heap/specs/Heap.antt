@@ -8,9 +8,9 @@ use Rattle.jr_word.specs.declared.kind.Kind.TheVariants.{Objects}
 use Rattle.jr_model.specs.State.{Contents}
 use Rattle.jr_model.specs.Frames.{Frames}
 use Rattle.jr_model.specs.Calls.{Call, Ran, done}
-use Rattle.jr_rule.specs.declared.known.Known.{Known}
-use Rattle.jr_rule.specs.Grasping.{words_at, header_in, with_range, with_header}
-use Rattle.jr_rule.specs.Knowing.{view, state_of, keeps, published, KnowsHeader, IsFilled, IsWordNow, ShowsObject, Takes}
+use Rattle.jr_steps.specs.declared.known.Known.{Known}
+use Rattle.jr_steps.specs.Grasping.{words_at, header_in, with_range, with_header}
+use Rattle.jr_steps.specs.Knowing.{view, state_of, keeps, published, KnowsHeader, IsFilled, IsWordNow, ShowsObject, Takes}
 
 module _ {S : Type 0} (knows : S → Known → Type 0) where
   -- A CALL WAS MADE in a stay: for whatever was known and meets the condition, something is known from which the thread did what the call does, with this answer, and left the frames as they were; and it shows this. The call may name what was known and what is

@@ -10,8 +10,8 @@ use Rattle.jr_model.specs.declared.event.Act.TheVariants.{Leave, Read, Write}
 use Rattle.jr_model.specs.State.{Contents, State}
 use Rattle.jr_model.specs.History.{PassView, role_of, Did}
 use Rattle.jr_model.specs.Refusals.{Sometime}
-use Rattle.jr_rule.specs.declared.known.Known.{Known}
-use Rattle.jr_rule.specs.Knowing.{view, keeps, KnowsHeader, ShowsHeader, ShowsPublished, ShowsRange, ShowsWord}
+use Rattle.jr_steps.specs.declared.known.Known.{Known}
+use Rattle.jr_steps.specs.Knowing.{view, keeps, KnowsHeader, ShowsHeader, ShowsPublished, ShowsRange, ShowsWord}
 use Rattle.jr_heap.specs.Heap.{Gains, Fills, Publishes, HoldsHeader, Learns, Relearns, Leaves}
 
 -- while the pass is within and does not leave, and goes on knowing the header, the object has its kind and length, whatever else the pass did and holds

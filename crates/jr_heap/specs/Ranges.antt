@@ -1,7 +1,7 @@
 -- What a range of words is.
 use Rattle.std.specs.Prelude.{ℕ}
 use Rattle.jr_word.specs.declared.kind.Kind.TheVariants.{Int}
-use Rattle.jr_rule.specs.declared.known.Known.{Known}
+use Rattle.jr_steps.specs.declared.known.Known.{Known}
 use Rattle.jr_heap.specs.declared.range.Range.{Range}
 use Rattle.jr_heap.specs.Heap.{IsReady}
 

@@ -3,7 +3,7 @@ ghost use Rattle.std.specs.Prelude.{◌≡◌, ◌+◌, ◌||◌, true, IfOk};
 ghost use Rattle.jr_model.specs.declared.event.Role.TheVariants.{Within};
 ghost use Rattle.jr_model.specs.Parts.{read_element as reading, write_element as writing};
 ghost use Rattle.jr_model.specs.Tests.{is_plain as is_plain_of, is_text as is_text_of, is_value as is_value_of};
-ghost use Rattle.jr_rule.specs.Knowing.{state_of, HasObject, MayKnow};
+ghost use Rattle.jr_steps.specs.Knowing.{state_of, HasObject, MayKnow};
 ghost use Rattle.jr_heap.specs.Heap.{
   Called,
   HoldsHeader,
@@ -18,7 +18,7 @@ ghost use Rattle.jr_heap.specs.Heap.{
 };
 
 use crate::object::header;
-use jr_rule::Steps;
+use jr_steps::Steps;
 use jr_word::{Fault, HeaderParts, Kind};
 
 /// The element at an index of a present object: E5 of a plain object, E7 past its length. It is a word of the object's kind.

@@ -6,8 +6,6 @@ mod laws;
 mod object;
 mod range;
 mod space;
-#[cfg(test)]
-mod tests;
 
 pub use element::{read, read_element, write, write_element};
 pub use laws::{headers_hold, headers_stay_known, objects_are_lists};

@@ -3,12 +3,12 @@ ghost use Rattle.std.specs.Prelude.{◌≡◌, ◌<◌, ◌≤◌, IfOk, Ok};
 ghost use Rattle.jr_word.specs.declared.kind.Kind.TheVariants.{Plain};
 ghost use Rattle.jr_model.specs.declared.event.Role.TheVariants.{Within};
 ghost use Rattle.jr_model.specs.Parts.{publish as publication, header as header_call};
-ghost use Rattle.jr_rule.specs.Knowing.{state_of, HasObject, MayKnow};
+ghost use Rattle.jr_steps.specs.Knowing.{state_of, HasObject, MayKnow};
 ghost use Rattle.jr_heap.specs.Heap.{Called, header_of, number_of, words_of, IsReady, Publishes, HoldsHeader, Learns, by_at_most, by_steps};
 ghost use Rattle.jr_heap.specs.Ranges.{place_of, size_of};
 
 use crate::range::Range;
-use jr_rule::Steps;
+use jr_steps::Steps;
 use jr_word::{Fault, HeaderParts, Kind};
 
 /// Where a pass begins to look for an object number. It is the pass's own business: which number an object has says nothing.

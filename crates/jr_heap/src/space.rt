@@ -2,12 +2,12 @@
 ghost use Rattle.std.specs.Prelude.{◌≡◌, IfOk, IfErr, Ok, Err, None};
 ghost use Rattle.jr_model.specs.declared.event.Role.TheVariants.{Within};
 ghost use Rattle.jr_model.specs.Parts.{reserve as reservation};
-ghost use Rattle.jr_rule.specs.Knowing.{anything, keeps, IsWordNow, MayKnow};
+ghost use Rattle.jr_steps.specs.Knowing.{anything, keeps, IsWordNow, MayKnow};
 ghost use Rattle.jr_heap.specs.Heap.{Called, header_of, IsOwn, IsReady, Gains, Fills, IsNotRaced, no_act, by_steps, reserve_steps, refused_steps};
 ghost use Rattle.jr_heap.specs.Ranges.{place_of, size_of};
 
 use crate::range::Range;
-use jr_rule::{Steps, TopNaming};
+use jr_steps::{Steps, TopNaming};
 use jr_word::{Fault, HeaderParts, Kind};
 
 impl Range {

@@ -9,19 +9,20 @@ use Rattle.jr_word.specs.declared.handle.RefKind.TheVariants.{Weak}
 use Rattle.jr_model.specs.State.{Handle}
 use Rattle.jr_model.proofs.Lengths.{lengths_fit}
 use Rattle.jr_model.proofs.Presence.{named_is_present}
-use Rattle.jr_rule.specs.Collecting.{IsThere, CanWipe, CanDrop, CanMove, CanPlace}
+use Rattle.jr_steps.specs.Collecting.{IsThere, CanWipe, CanDrop, CanMove, CanPlace}
 use Rattle.jr_rule.proofs.CollectOwed.{done_is, element_is, free_is}
-use Rattle.jr_rule.specs.declared.known.Known.{Known}
+use Rattle.jr_steps.specs.declared.known.Known.{Known}
 use Rattle.jr_rule.specs.declared.pass.Pass.{Pass}
-use Rattle.jr_rule.specs.Acts.{found_object, handle_of}
-use Rattle.jr_rule.specs.Knowing.{MayKnow, HasObject, HasOptional, HasLooked, IsFreeSlot, KnowsHeader, HasWord, IsWordNow, IsSettled}
-use Rattle.jr_rule.specs.Image.{spot}
+use Rattle.jr_steps.specs.Acts.{found_object, handle_of}
+use Rattle.jr_steps.specs.Knowing.{MayKnow, HasObject, HasOptional, HasLooked, IsFreeSlot, KnowsHeader, HasWord, IsWordNow, IsSettled}
+use Rattle.jr_steps.specs.Says.{spot}
 use Rattle.jr_rule.specs.Passes.{known_of, Knows}
 use Rattle.jr_rule.specs.Slots.{CanStand}
 use Rattle.jr_model.proofs.InRoom.{in_room}
 use Rattle.jr_rule.proofs.Looked.{looked_at}
 use Rattle.jr_rule.proofs.PlaceOwed.{optional_fits}
 use Rattle.jr_rule.proofs.SlotWords.{can_prop}
+use Rattle.jr_rule.proofs.Slots.{free_fits}
 
 module _ (p : Pass) where
   -- a fact that may be known is one of what the pass knows
@@ -35,7 +36,7 @@ module _ (p : Pass) where
   object_some o may = ∥∥₁_elim may (hlevel props) (λ k. let low = ((in_room k.0.config k.0.last k.0.seen (k.1).pass.legal).objects o k.2.0).0 in omega arith)
 
   pub serial_fits : {T : Known → Type 0} (i serial : ℕ) → MayKnow Knows p (λ k. T k × IsFreeSlot i serial k) → serial ≤ (known_of p).last
-  serial_fits i serial may = ∥∥₁_elim may (hlevel props) (λ k. subst (λ (z : Known). serial ≤ z.last) (k.1).is (k.2.1).fits)
+  serial_fits i serial may = ∥∥₁_elim may (hlevel props) (λ k. subst (λ (z : Known). serial ≤ z.last) (k.1).is (free_fits i serial k.0 k.2.1))
 
   module _ (h : Handle) (o : Option ℕ) (may : MayKnow Knows p (HasLooked h (found_object o))) where
     pub looked_can : CanStand h.kind o

@@ -9,14 +9,14 @@ use Rattle.jr_model.specs.declared.event.Role.TheVariants.{Outside, Within, Knoc
 use Rattle.jr_model.specs.State.{Handle}
 use Rattle.jr_model.specs.History.{History, by, state, role_after, role_from}
 use Rattle.jr_model.proofs.Histories.{state_push}
-use Rattle.jr_rule.specs.declared.naming.GateNaming.{GateNaming}
-use Rattle.jr_rule.specs.declared.naming.GateNaming.TheVariants as gate
-use Rattle.jr_rule.specs.declared.naming.SlotNaming.{SlotNaming}
-use Rattle.jr_rule.specs.declared.naming.SlotNaming.TheVariants as naming
-use Rattle.jr_rule.specs.declared.naming.TopNaming.{TopNaming}
-use Rattle.jr_rule.specs.declared.naming.TopNaming.TheVariants as top
-use Rattle.jr_rule.specs.Acts.{entered_as, leaving, gate_named, slot_named, claiming, freeing, putting, publishing, top_named}
-use Rattle.jr_rule.specs.Knowing.{fresh_after, fresh_from}
+use Rattle.jr_steps.specs.declared.naming.GateNaming.{GateNaming}
+use Rattle.jr_steps.specs.declared.naming.GateNaming.TheVariants as gate
+use Rattle.jr_steps.specs.declared.naming.SlotNaming.{SlotNaming}
+use Rattle.jr_steps.specs.declared.naming.SlotNaming.TheVariants as naming
+use Rattle.jr_steps.specs.declared.naming.TopNaming.{TopNaming}
+use Rattle.jr_steps.specs.declared.naming.TopNaming.TheVariants as top
+use Rattle.jr_steps.specs.Acts.{entered_as, leaving, gate_named, slot_named, claiming, freeing, putting, publishing, top_named}
+use Rattle.jr_steps.specs.Knowing.{fresh_after, fresh_from}
 
 -- THE GATE
 -- no step of the gate leaves the pass less fresh

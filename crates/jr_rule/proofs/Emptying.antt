@@ -20,14 +20,14 @@ use Rattle.jr_model.specs.History.{role_of}
 use Rattle.jr_model.proofs.Presence.{named_is_present}
 use Rattle.jr_model.proofs.References.{kept_state}
 use Rattle.jr_model.proofs.Updates.{at_handle, at_number, at_handle_self}
-use Rattle.jr_rule.specs.declared.known.Grasp.{Grasp}
-use Rattle.jr_rule.specs.declared.known.Known.{Known}
-use Rattle.jr_rule.specs.Acts.{handle_of}
-use Rattle.jr_rule.specs.Collecting.{ShowsLocal, CanWipe, CanDrop, ShowsDropped, CanSettle}
-use Rattle.jr_rule.specs.Image.{local_parts}
-use Rattle.jr_rule.specs.Knowing.{Standing, IsOf, Goes, Took, Saw, MayKnow, anything, view, state_of, keeps, lets_go, IsSettled, CanReopen, ShowsHeader, ShowsSlot}
-use Rattle.jr_rule.proofs.Collected.{same_tables, tables_seen, sees_nothing, sees_more, goes_act}
-use Rattle.jr_rule.proofs.Goes.{may_then, took_less}
+use Rattle.jr_steps.specs.declared.known.Grasp.{Grasp}
+use Rattle.jr_steps.specs.declared.known.Known.{Known}
+use Rattle.jr_steps.specs.Acts.{handle_of}
+use Rattle.jr_steps.specs.Collecting.{ShowsLocal, CanWipe, CanDrop, ShowsDropped, CanSettle}
+use Rattle.jr_steps.specs.Says.{local_parts}
+use Rattle.jr_steps.specs.Knowing.{Standing, IsOf, Goes, Took, Saw, MayKnow, anything, view, state_of, keeps, lets_go, IsSettled, CanReopen, ShowsHeader, ShowsSlot}
+use Rattle.jr_steps.proofs.Collected.{same_tables, tables_seen, sees_nothing, sees_more, goes_act}
+use Rattle.jr_steps.proofs.Goes.{may_then, took_less}
 use Rattle.jr_model.proofs.InRoom.{in_room}
 
 -- LOCAL WORDS
@@ -183,7 +183,7 @@ module _ {S : Type 0} {stands : S → Standing} {knows : S → Known → Type 0}
   -- nor another reference than the slot's, where there is no other slot
   no_others : {a : S} (r : Found) (n o : ℕ) (k : Known) → knows a k → (stands a).config.slots ≡ 1 → ShowsSlot 0 (slot.Weak 0 (Some o)) k → (g : Handle) → the_weak ≢ g → (state_of k).refs g ≡ Stale
   no_others {a} r n o k s one shown g ne = dite (ℕ_discrete g.index 0)
-      (λ e. (shown.says).alone g e (λ q. absurd (ne (sym q))))
+      (λ e. (shown.stands).alone g e (λ q. absurd (ne (sym q))))
       (λ far. go ((state_of k).refs g) refl far)
     where
       given : (state_of k).refs g ≢ Stale → g.index ≡ 0
@@ -209,7 +209,7 @@ module _ {S : Type 0} {stands : S → Standing} {knows : S → Known → Type 0}
         record {
           settled = none.0;
           locals = no_locals y.0 y.1 two none;
-          is = ((y.3.0).says).found;
+          is = ((y.3.0).stands).found;
           others = no_others (Object o) 0 o y.0 y.1 one y.3.0;
         },
       ))

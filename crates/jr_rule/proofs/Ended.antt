@@ -7,12 +7,12 @@ use Rattle.jr_model.specs.declared.summary.Summary.{Summary}
 use Rattle.jr_model.specs.State.{State, opening, summary}
 use Rattle.jr_model.specs.Steps.{after}
 use Rattle.jr_model.specs.History.{History, state, IsLegal, IsLegalFrom}
-use Rattle.jr_rule.specs.declared.known.View.{View}
+use Rattle.jr_rule.specs.declared.rule.View.{View}
 use Rattle.jr_rule.specs.declared.rule.Sizes.{Sizes}
 use Rattle.jr_rule.specs.Image.{IsImage}
 use Rattle.std.specs.List.{AllByRecursion}
-use Rattle.jr_rule.specs.declared.known.Known.{Known}
-use Rattle.jr_rule.specs.declared.known.Grasp.{Grasp}
+use Rattle.jr_steps.specs.declared.known.Known.{Known}
+use Rattle.jr_steps.specs.declared.known.Grasp.{Grasp}
 use Rattle.jr_rule.specs.Passes.{Ends, EndsAll, IsSeenIn, HasPass, HasEachPass, HasNoOthers}
 use Rattle.jr_rule.specs.Rule.{view, sizes, Fits, EachFits, Row, Kept, Sat, acting, IsAlone}
 use Rattle.jr_rule.specs.Shown.{IsHistoryOf, HasHistory}

@@ -17,22 +17,13 @@ use Rattle.jr_model.proofs.Updates.{eq_false}
 use Rattle.jr_model.proofs.Histories.{legal_append, state_append, mine_append}
 use Rattle.jr_model.proofs.Gates.{IsApart, apart_state}
 use Rattle.jr_model.proofs.Stays.{append_cancel, role_of_state, same_along}
-use Rattle.jr_rule.specs.declared.known.Known.{Known}
-use Rattle.jr_rule.specs.Knowing.{view, HasObject, HasLooked, IsClosedNow}
-use Rattle.jr_rule.specs.declared.known.Grasp.{Grasp}
-use Rattle.jr_rule.specs.Grasping.{empty}
+use Rattle.jr_steps.specs.declared.known.Known.{Known}
+use Rattle.jr_steps.specs.Knowing.{view, HasObject, HasLooked, IsClosedNow}
+use Rattle.jr_steps.specs.declared.known.Grasp.{Grasp}
+use Rattle.jr_steps.specs.Grasping.{empty}
 use Rattle.jr_rule.specs.Image.{MayHold}
 use Rattle.jr_rule.specs.Rule.{known, IsFound}
-use Rattle.jr_rule.proofs.Goes.{present_stays}
-
--- who has no events of its own is not among the threads
-pub none_mine : (es : History) (t : ℕ) → mine es t ≡ [] → AllByRecursion (λ e. e.thread ≢ t) es
-none_mine [] t e = tt
-none_mine (f ∷ es) t e = go (f.thread == t) refl (none_mine es t)
-  where
-    go : (b : Bool) → (f.thread == t) ≡ b → (mine es t ≡ [] → AllByRecursion (λ (g : Event). g.thread ≢ t) es) → AllByRecursion (λ (g : Event). g.thread ≢ t) (f ∷ es)
-    go true q rest = let here : mine (f ∷ es) t ≡ f.act ∷ mine es t = ap (λ b. cond b (f.act ∷ mine es t) (mine es t)) q in absurd (let z = sym here ∙ e in cc)
-    go false q rest = let here : mine (f ∷ es) t ≡ mine es t = ap (λ b. cond b (f.act ∷ mine es t) (mine es t)) q in (eq_false f.thread t q, rest (sym here ∙ e))
+use Rattle.jr_steps.proofs.Goes.{none_mine, present_stays}
 
 -- a closed heap is one without a choice: an element is 0, or else an object's number
 closed_is : (s : State) → ∥ IsClosed s ∥₁ → IsClosed s

@@ -7,12 +7,12 @@ use Rattle.jr_model.specs.declared.event.Role.TheVariants.{Outside, Within, Knoc
 use Rattle.jr_model.specs.declared.event.Act.{Act}
 use Rattle.jr_model.specs.declared.event.Act.TheVariants.{Shut, ShutBusy, Reopen, Meet}
 use Rattle.jr_model.specs.History.{History, state, role_of}
-use Rattle.jr_rule.specs.declared.known.Known.{Known}
-use Rattle.jr_rule.specs.declared.naming.GateNaming.{GateNaming}
-use Rattle.jr_rule.specs.Acts.{entered_as, leaving, all_counted, gate_named, GateNameFits}
-use Rattle.jr_rule.specs.Knowing.{view, IsClosedNow, IsSettled}
-use Rattle.jr_rule.specs.declared.known.Grasp.{Grasp}
-use Rattle.jr_rule.specs.Grasping.{empty, hold}
+use Rattle.jr_steps.specs.declared.known.Known.{Known}
+use Rattle.jr_steps.specs.declared.naming.GateNaming.{GateNaming}
+use Rattle.jr_steps.specs.Acts.{entered_as, leaving, all_counted, gate_named, GateNameFits}
+use Rattle.jr_steps.specs.Knowing.{view, IsClosedNow, IsSettled}
+use Rattle.jr_steps.specs.declared.known.Grasp.{Grasp}
+use Rattle.jr_steps.specs.Grasping.{empty, hold}
 use Rattle.jr_rule.specs.Image.{MayHold}
 use Rattle.jr_rule.specs.Rule.{known_at, IsFound, Owes}
 use Rattle.jr_rule.proofs.Found.{role_at, closed_now, moves_as_known}
@@ -86,7 +86,7 @@ module _ (k : Known) where
       let acts : List Act = gate_named name (all_counted g.parts) ∷ [] in
       let t = gate_seen k.config k.last log k.thread words f.legal held f.image f.fits.row name (subst (λ r. GateNameFits r name) (sym (role_at k log words held f)) fits) in
       quiet k log words held f (slice_set words 0 n) (SawGate name k n) acts (unwritten k log words held 0 t)
-      (g.parts, gate_fits k.config (state log).role n (f.sized).small.threads g, g.word, refl, shows_gate k.config k.last log f.legal n g g.parts (known_at k log acts k.grasp) refl refl (gate_named_state log k.thread name (all_counted g.parts)), refl)
+      (g.parts, gate_fits k.config (state log).role n (f.sized).small.threads g, g.word, refl, shows_gate g.parts k.config (state log) (known_at k log acts k.grasp) g.says refl (gate_named_state log k.thread name (all_counted g.parts)), refl)
 
   -- a load that only shows what others did
   pub meets : Owes k 0 (λ n. n) (Met k)

@@ -4,6 +4,7 @@ use Rattle.std.proofs.lemmas.Bool.{cases_lt}
 use Rattle.jr_word.specs.declared.config.Config.{Config}
 use Rattle.jr_word.specs.declared.gate.GateParts.{GateParts}
 use Rattle.jr_word.specs.Gate.{gate_word, IsGate}
+use Rattle.jr_model.specs.declared.event.Act.{Act}
 use Rattle.jr_model.specs.declared.event.Role.{Role}
 use Rattle.jr_model.specs.declared.event.Role.TheVariants.{Outside, Within, Knocking, Collecting}
 use Rattle.jr_model.specs.declared.event.Act.TheVariants.{Enter, Knock, Leave, Withdraw, Shut, ShutBusy, Reopen, Meet}
@@ -13,15 +14,16 @@ use Rattle.jr_model.specs.History.{History, state, IsLegal}
 use Rattle.jr_model.proofs.Counts.{bit, count_role, count_all_false, count_single, outside_beyond, all_outside}
 use Rattle.jr_model.proofs.Gates.{IsApart, apart_state}
 use Rattle.jr_model.proofs.Updates.{at_number, at_number_self}
-use Rattle.jr_rule.specs.declared.known.Known.{Known}
-use Rattle.jr_rule.specs.declared.naming.GateNaming.{GateNaming}
-use Rattle.jr_rule.specs.declared.naming.GateNaming.TheVariants as gate
-use Rattle.jr_rule.specs.Acts.{entered_as, leaving, all_counted, gate_named, GateNameFits}
-use Rattle.jr_rule.specs.declared.known.Grasp.{Grasp}
-use Rattle.jr_rule.specs.declared.known.Move.{Move}
-use Rattle.jr_rule.specs.Grasping.{empty}
-use Rattle.jr_rule.specs.Image.{is_inside, MayHold, AreHeld, IsGateOf, IsImage}
-use Rattle.jr_rule.specs.Knowing.{state_of, ShowsGate}
+use Rattle.jr_steps.specs.declared.known.Known.{Known}
+use Rattle.jr_steps.specs.declared.naming.GateNaming.{GateNaming}
+use Rattle.jr_steps.specs.declared.naming.GateNaming.TheVariants as gate
+use Rattle.jr_steps.specs.Acts.{entered_as, leaving, all_counted, gate_named, GateNameFits}
+use Rattle.jr_steps.specs.declared.known.Grasp.{Grasp}
+use Rattle.jr_steps.specs.declared.known.Move.{Move}
+use Rattle.jr_steps.specs.Grasping.{empty}
+use Rattle.jr_steps.specs.Says.{SaysOfGate, is_inside}
+use Rattle.jr_rule.specs.Image.{MayHold, AreHeld, IsGateOf, IsImage}
+use Rattle.jr_steps.specs.Knowing.{state_of, Goes, ShowsGate}
 use Rattle.jr_rule.proofs.Turns.{Turn, turn_one}
 use Rattle.jr_rule.proofs.Images.{gate_set}
 
@@ -41,10 +43,10 @@ shut_most false = omega arith
 module _ (c : Config) (role : ℕ → Role) (w : ℕ) (few : c.threads ≤ 64) (g : IsGateOf c role w) where
   -- the parts of the gate are those that a gate can have
   pub gate_fits : IsGate g.parts
-  gate_fits = let most = count_most c.threads (λ t. is_inside (role t)) in let is = g.count in record { count = omega arith }
+  gate_fits = let most = count_most c.threads (λ t. is_inside (role t)) in let is = g.says.count in record { count = omega arith }
 
   pub gate_most : w ≤ 65600
-  gate_most = let most = count_most c.threads (λ t. is_inside (role t)) in let is = g.count in let e = g.word in let shut = shut_most g.parts.shut in omega arith
+  gate_most = let most = count_most c.threads (λ t. is_inside (role t)) in let is = g.says.count in let e = g.word in let shut = shut_most g.parts.shut in omega arith
 
 -- a thread that does not collect takes another such role
 moved_gate : (c : Config) (role : ℕ → Role) (t : ℕ) (old new : Role) (w n : ℕ) → t < c.threads → role t ≡ old → old ≢ Collecting → new ≢ Collecting
@@ -54,13 +56,12 @@ moved_gate c role t old new w n row was quiet still word g = record {
   word =
       let count = count_role c.threads is_inside role t new row in
       let here = ap (λ r. bit (is_inside r)) was in
-      let a = g.count in
+      let a = g.says.count in
       let b = g.word in omega arith;
-  count = refl;
-  shut = (
-    λ s. let u = g.shut.0 s in (u.0, at_number (λ r. r ≡ Collecting) role t u.0 new (λ e. absurd (quiet (sym was ∙ (ap role e ∙ u.1)))) (λ ne. u.1)),
-    λ u. g.shut.1 (u.0, at_number (λ r. r ≡ Collecting → role u.0 ≡ Collecting) role t u.0 new (λ e q. absurd (still q)) (λ ne q. q) u.1),
-  );
+  says = record { count = refl; shut = (
+    λ s. let u = g.says.shut.0 s in (u.0, at_number (λ r. r ≡ Collecting) role t u.0 new (λ e. absurd (quiet (sym was ∙ (ap role e ∙ u.1)))) (λ ne. u.1)),
+    λ u. g.says.shut.1 (u.0, at_number (λ r. r ≡ Collecting → role u.0 ≡ Collecting) role t u.0 new (λ e q. absurd (still q)) (λ ne q. q) u.1),
+  ) };
 }
 
 -- what the threads hold, once one that did not collect takes another role in which it may hold what it does
@@ -75,12 +76,14 @@ barred_gate : (c : Config) (role : ℕ → Role) (t w : ℕ) → t < c.threads �
 barred_gate c role t w row was zero' g = record {
   parts = record { count = 0; shut = true };
   word = omega arith;
-  count =
-      let count = count_role c.threads is_inside role t Collecting row in
-      let here = ap (λ r. bit (is_inside r)) was in
-      let a = g.count in
-      let b = g.word in omega arith;
-  shut = (λ s. (t, at_number_self role t Collecting), λ u. refl);
+  says = record {
+    count =
+        let count = count_role c.threads is_inside role t Collecting row in
+        let here = ap (λ r. bit (is_inside r)) was in
+        let a = g.says.count in
+        let b = g.word in omega arith;
+    shut = (λ s. (t, at_number_self role t Collecting), λ u. refl);
+  };
 }
 
 -- the thread that collects opens the gate
@@ -90,14 +93,13 @@ unbarred_gate c role t w n row was alone is g = record {
   word =
       let count = count_role c.threads is_inside role t Outside row in
       let here = ap (λ r. bit (is_inside r)) was in
-      let shut : (if g.parts.shut then 2 ^ 16 else 0) ≡ 65536 = ap (λ (b : Bool). if b then 2 ^ 16 else 0) (g.shut.1 (t, was)) in
-      let a = g.count in
+      let shut : (if g.parts.shut then 2 ^ 16 else 0) ≡ 65536 = ap (λ (b : Bool). if b then 2 ^ 16 else 0) (g.says.shut.1 (t, was)) in
+      let a = g.says.count in
       let b = g.word in omega arith;
-  count = refl;
-  shut = (
+  says = record { count = refl; shut = (
     λ s. absurd (cc),
     λ u. absurd (at_number (λ r. r ≡ Collecting → ⊥) role t u.0 Outside (λ e q. cc) (λ ne q. ne (alone.alone t u.0 was q)) u.1),
-  );
+  ) };
 }
 
 -- whether a thread of the role collects
@@ -154,28 +156,21 @@ somebody p ne = go p.count p.shut ne
     go n true ne = omega arith
     go n false ne = omega arith
 
-module _ (c : Config) (last : ℕ) (log : History) (legal : IsLegal c last log) (w : ℕ) (g : IsGateOf c (state log).role w) where
-  -- the gate counts the threads that are not outside
-  pub all_counted_is : all_counted g.parts ≡ not_outside c (state log)
-  all_counted_is =
-      let role : ℕ → Role = (state log).role in
-      let both = sum_split c.threads (λ t. bit (is_inside (role t))) (λ t. bit (collects (role t))) (λ t. bit (not (is_outside (role t)))) (λ t. bit_outside (role t)) in
-      let one = count_collects c.threads role g.parts.shut (apart_state c last log legal) (outside_beyond c last log legal) g.shut.0 g.shut.1 in
-      let a = g.count in omega arith
+-- the gate counts the threads that are not outside
+pub all_counted_is : (c : Config) (last : ℕ) (log : History) → IsLegal c last log → (p : GateParts) → SaysOfGate c (state log).role p → all_counted p ≡ not_outside c (state log)
+all_counted_is c last log legal p g =
+    let role : ℕ → Role = (state log).role in
+    let both = sum_split c.threads (λ t. bit (is_inside (role t))) (λ t. bit (collects (role t))) (λ t. bit (not (is_outside (role t)))) (λ t. bit_outside (role t)) in
+    let one = count_collects c.threads role p.shut (apart_state c last log legal) (outside_beyond c last log legal) g.shut.0 g.shut.1 in
+    let a = g.count in omega arith
 
-  -- what its parts show
-  pub shows_gate : (p : GateParts) (k : Known) → g.parts ≡ p → k.config ≡ c → state_of k ≡ state log → ShowsGate p k
-  shows_gate p k is room same = subst (λ (q : GateParts). ShowsGate q k) is record {
-    count =
-        let a = ap (λ (d : Config). count_below d.threads (λ t. is_inside ((state_of k).role t))) room in
-        let b = ap (λ (s : State). count_below c.threads (λ t. is_inside (s.role t))) same in
-        g.count ∙ sym (a ∙ b);
-    shut = subst (λ (s : State). IsTrue g.parts.shut ↔ SomebodyCollects s) (sym same) g.shut;
-    all =
-        let a = ap (λ (d : Config). not_outside d (state_of k)) room in
-        let b = ap (λ (s : State). not_outside c s) same in
-        all_counted_is ∙ sym (a ∙ b);
-  }
+-- and so it does after a load
+pub counted_after : {k k' : Known} {acts : List Act} (p : GateParts) → Goes k acts k' → ShowsGate p k' → all_counted p ≡ not_outside k'.config (state_of k')
+counted_after {k} {k'} p g s = all_counted_is k'.config k.last k'.seen (subst (λ c. IsLegal c k.last k'.seen) (sym g.config) g.legal) p s
+
+-- what its parts show
+pub shows_gate : (p : GateParts) (c : Config) (s : State) (k : Known) → SaysOfGate c s.role p → k.config ≡ c → state_of k ≡ s → ShowsGate p k
+shows_gate p c s k g room same = subst (λ (z : Config × State). SaysOfGate z.0 (z.1).role p) (λ i. (sym room i, sym same i)) g
 
 module _ (c : Config) (last : ℕ) (log : History) (t : ℕ) (words : List ℕ) (legal : IsLegal c last log) (held : ℕ → Grasp) (image : IsImage c last words (state log) held) (row : t < c.threads) where
   -- who is outside holds nothing
@@ -186,11 +181,11 @@ module _ (c : Config) (last : ℕ) (log : History) (t : ℕ) (words : List ℕ) 
   pub goes_in : (found : ℕ) (shut : Bool) → found ≡ get_or words 0 0 → shut ≡ image.gate.parts.shut → (state log).role t ≡ Outside
       → Turn c last log t (entered_as (not shut) ∷ []) (slice_set words 0 (found + 1)) held
   goes_in found true is same out = turn_one c last log t (slice_set words 0 (found + 1)) held legal Knock
-      (row, (out, image.gate.shut.0 (sym same)))
+      (row, (out, image.gate.says.shut.0 (sym same)))
       (gate_set c last words (state log) held image (found + 1) (update nat_eq (state log).role t Knocking) (hands_quiet (state log).role image.moving held t Knocking (λ e. let z = sym out ∙ e in cc) (nothing out) image.hands)
       (moved_gate c (state log).role t Outside Knocking (get_or words 0 0) (found + 1) row out (λ e. cc) (λ e. cc) (omega arith) image.gate))
   goes_in found false is same out = turn_one c last log t (slice_set words 0 (found + 1)) held legal Enter
-      (row, (out, λ u e. let s = image.gate.shut.1 (u, e) in cc))
+      (row, (out, λ u e. let s = image.gate.says.shut.1 (u, e) in cc))
       (gate_set c last words (state log) held image (found + 1) (update nat_eq (state log).role t Within) (hands_quiet (state log).role image.moving held t Within (λ e. let z = sym out ∙ e in cc) (ap (λ (g : Grasp). g.moving) (nothing out)) image.hands)
       (moved_gate c (state log).role t Outside Within (get_or words 0 0) (found + 1) row out (λ e. cc) (λ e. cc) (omega arith) image.gate))
 
@@ -211,18 +206,18 @@ module _ (c : Config) (last : ℕ) (log : History) (t : ℕ) (words : List ℕ) 
   counted role counts at =
       let count = count_role c.threads is_inside (state log).role t Outside row in
       let one : bit (is_inside ((state log).role t)) ≡ 1 = ap (λ r. bit (is_inside r)) at ∙ ⊎_elim (λ e. ap (λ r. bit (is_inside r)) e) (λ e. ap (λ r. bit (is_inside r)) e) counts in
-      let a = image.gate.count in
+      let a = image.gate.says.count in
       let b = image.gate.word in omega arith
 
   -- who collects is counted
   pub shut_counted : (state log).role t ≡ Collecting → 65536 ≤ get_or words 0 0
   shut_counted at =
-      let shut : (if image.gate.parts.shut then 2 ^ 16 else 0) ≡ 65536 = ap (λ (b : Bool). if b then 2 ^ 16 else 0) (image.gate.shut.1 (t, at)) in
+      let shut : (if image.gate.parts.shut then 2 ^ 16 else 0) ≡ 65536 = ap (λ (b : Bool). if b then 2 ^ 16 else 0) (image.gate.says.shut.1 (t, at)) in
       let b = image.gate.word in omega arith
 
   -- a load of the gate counts as what it is named
   pub gate_seen : (name : GateNaming) → GateNameFits ((state log).role t) name → Turn c last log t (gate_named name (all_counted image.gate.parts) ∷ []) words held
-  gate_seen name fits = go name (all_counted image.gate.parts) fits (all_counted_is c last log legal (get_or words 0 0) image.gate)
+  gate_seen name fits = go name (all_counted image.gate.parts) fits (all_counted_is c last log legal image.gate.parts image.gate.says)
     where
       go : (name : GateNaming) (n : ℕ) → GateNameFits ((state log).role t) name → n ≡ not_outside c (state log) → Turn c last log t (gate_named name n ∷ []) words held
       go gate.Meet n fits is = turn_one c last log t words held legal Meet (row, tt) image
@@ -243,7 +238,7 @@ module _ (c : Config) (last : ℕ) (log : History) (t : ℕ) (words : List ℕ) 
       (barred_gate c (state log).role t (get_or words 0 0) row out none image.gate))
     where
       outside : (u : ℕ) → (state log).role u ≡ Outside
-      outside = all_outside c last log legal (sym (all_counted_is c last log legal (get_or words 0 0) image.gate) ∙ nobody image.gate.parts (sym image.gate.word ∙ none))
+      outside = all_outside c last log legal (sym (all_counted_is c last log legal image.gate.parts image.gate.says) ∙ nobody image.gate.parts (sym image.gate.word ∙ none))
 
       still : image.moving ≡ None
       still = image.hands.still (λ u e. let z = sym (outside u) ∙ e in cc)
@@ -251,7 +246,7 @@ module _ (c : Config) (last : ℕ) (log : History) (t : ℕ) (words : List ℕ) 
   -- a gate that counts somebody is not
   pub bars_lost : get_or words 0 0 ≢ 0 → (state log).role t ≡ Outside → Turn c last log t (ShutBusy (all_counted image.gate.parts) ∷ []) words held
   bars_lost busy out = turn_one c last log t words held legal (ShutBusy (all_counted image.gate.parts))
-      (row, (out, all_counted_is c last log legal (get_or words 0 0) image.gate, somebody image.gate.parts (λ e. busy (image.gate.word ∙ e)))) image
+      (row, (out, all_counted_is c last log legal image.gate.parts image.gate.says, somebody image.gate.parts (λ e. busy (image.gate.word ∙ e)))) image
 
   -- a shut gate is opened by a thread that holds nothing any more
   pub unbars : (n : ℕ) → held t ≡ empty → n + 65536 ≡ get_or words 0 0 → (state log).role t ≡ Collecting → IsClosed (state log) → Turn c last log t (Reopen ∷ []) (slice_set words 0 n) held

@@ -12,8 +12,8 @@ use Rattle.jr_model.specs.History.{History, by, state, mine, IsLegal, IsLegalFro
 use Rattle.jr_model.proofs.Histories.{legal_append, mine_append, state_push}
 use Rattle.jr_model.proofs.Updates.{eq_self}
 use Rattle.jr_model.proofs.Stays.{append_cancel}
-use Rattle.jr_rule.specs.declared.known.Known.{Known}
-use Rattle.jr_rule.specs.Knowing.{state_of}
+use Rattle.jr_steps.specs.declared.known.Known.{Known}
+use Rattle.jr_steps.specs.Knowing.{state_of}
 use Rattle.jr_rule.specs.Passes.{IsSeenIn, ClosesAll, IsSeenOf, HasSeenAll}
 
 nil_left : {A : Type 0} (xs ys : List A) → xs ++ ys ≡ [] → xs ≡ []

@@ -6,10 +6,10 @@ use Rattle.jr_word.specs.declared.header.HeaderParts.{HeaderParts}
 use Rattle.jr_word.specs.Header.{header_word, IsHeader}
 use Rattle.jr_word.specs.Kind.{kind_code}
 use Rattle.jr_model.specs.State.{Contents, AreWords}
-use Rattle.jr_rule.specs.declared.known.Known.{Known}
-use Rattle.jr_rule.specs.Grasping.{words_at}
+use Rattle.jr_steps.specs.declared.known.Known.{Known}
+use Rattle.jr_steps.specs.Grasping.{words_at}
 use Rattle.jr_rule.specs.Image.{IsHeaderOf}
-use Rattle.jr_rule.specs.Knowing.{state_of, words_for, IsFilled}
+use Rattle.jr_steps.specs.Knowing.{state_of, words_for, IsFilled}
 
 pub kind_some : (k : Kind) → 1 ≤ kind_code k
 kind_some Plain = omega arith

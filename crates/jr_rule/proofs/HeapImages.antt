@@ -6,11 +6,12 @@ use Rattle.jr_word.specs.Header.{header_word, IsHeader}
 use Rattle.jr_word.proofs.OneWord.{header_word-injective}
 use Rattle.jr_model.specs.Maps.{update}
 use Rattle.jr_model.specs.State.{Contents, State, length_of, present_words}
-use Rattle.jr_rule.specs.declared.known.Grasp.{Grasp}
-use Rattle.jr_rule.specs.declared.known.Move.{Move}
-use Rattle.jr_rule.specs.Grasping.{words_at, header_in, with_range, with_header, hold}
-use Rattle.jr_rule.specs.Image.{header_at, of_object, Stands, spot, IsIn, IsHeaderOf, IsKnown, IsSpace, IsImage}
-use Rattle.jr_rule.specs.Knowing.{published}
+use Rattle.jr_steps.specs.declared.known.Grasp.{Grasp}
+use Rattle.jr_steps.specs.declared.known.Move.{Move}
+use Rattle.jr_steps.specs.Grasping.{words_at, header_in, with_range, with_header, hold}
+use Rattle.jr_steps.specs.Says.{spot}
+use Rattle.jr_rule.specs.Image.{header_at, of_object, Stands, IsIn, IsHeaderOf, IsKnown, IsSpace, IsImage}
+use Rattle.jr_steps.specs.Knowing.{published}
 use Rattle.jr_rule.proofs.Counting.{lists_fit}
 use Rattle.jr_rule.proofs.Headers.{header_positive}
 use Rattle.jr_rule.proofs.HeapSpaces.{object_below, range_below, at_header, space_empty, space_published, space_known}
@@ -41,10 +42,10 @@ module _ (c : Config) (last : ℕ) (words : List ℕ) (s : State) (held : ℕ �
           let same : w.parts ≡ h = header_word-injective w.parts h w.fits known.fits (sym w.word ∙ known.word) in record {
             contents = x;
             is = e;
-            kind = sym w.same_kind ∙ ap (λ (p : HeaderParts). p.kind) same;
-            long = sym w.same_length ∙ ap (λ (p : HeaderParts). p.length) same;
+            kind = w.says.kind ∙ ap (λ (p : HeaderParts). p.kind) same;
+            long = w.says.long ∙ ap (λ (p : HeaderParts). p.length) same;
             stands = image.space.object o x h known.number.0 known.number.1 e known.fits known.word;
-            low = λ j l. let long = w.same_length in let kept = ap (λ (p : HeaderParts). p.length) same in image.space.low o x h known.number.0 known.number.1 e known.fits known.word j (omega arith);
+            low = λ j l. let long = w.says.long in let kept = ap (λ (p : HeaderParts). p.length) same in image.space.low o x h known.number.0 known.number.1 e known.fits known.word j (omega arith);
           }
 
   -- a header that a thread knows is the one that stands there

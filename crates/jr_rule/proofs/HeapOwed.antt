@@ -24,14 +24,14 @@ use Rattle.jr_model.specs.History.{History, by, state, role_of, role_from}
 use Rattle.jr_model.proofs.Histories.{state_push}
 use Rattle.jr_model.proofs.Lengths.{lengths_fit}
 use Rattle.jr_model.proofs.Updates.{at_number_self}
-use Rattle.jr_rule.specs.declared.known.Known.{Known}
-use Rattle.jr_rule.specs.declared.known.Grasp.{Grasp}
-use Rattle.jr_rule.specs.declared.naming.TopNaming.{TopNaming}
-use Rattle.jr_rule.specs.declared.naming.TopNaming.TheVariants as top
-use Rattle.jr_rule.specs.Acts.{publishing}
-use Rattle.jr_rule.specs.Grasping.{words_at, with_range, with_header, hold}
+use Rattle.jr_steps.specs.declared.known.Known.{Known}
+use Rattle.jr_steps.specs.declared.known.Grasp.{Grasp}
+use Rattle.jr_steps.specs.declared.naming.TopNaming.{TopNaming}
+use Rattle.jr_steps.specs.declared.naming.TopNaming.TheVariants as top
+use Rattle.jr_steps.specs.Acts.{publishing}
+use Rattle.jr_steps.specs.Grasping.{words_at, with_range, with_header, hold}
 use Rattle.jr_rule.specs.Image.{top_at, header_at, element_at, IsIn, IsHeaderOf, IsKnown}
-use Rattle.jr_rule.specs.Knowing.{view, state_of, KnowsHeader, HasWord, IsWordNow, IsFilled, words_for, published, fresh_from, ShowsPublished}
+use Rattle.jr_steps.specs.Knowing.{view, state_of, KnowsHeader, HasWord, IsWordNow, IsFilled, words_for, published, fresh_from, ShowsPublished}
 use Rattle.jr_rule.specs.Rule.{IsFound, Makes, Owes}
 use Rattle.jr_rule.proofs.Found.{role_at, present_now}
 use Rattle.jr_rule.proofs.HeapImages.{one_header, none_known}
@@ -85,7 +85,7 @@ module _ (k : Known) where
           let g = with_header k.grasp o w.parts in
           gaining k log _ held (SawHeader o k (get_or words (header_at k.config o) 0)) [] g
           (unwritten k log words (hold held k.thread g) (header_at k.config o) (turn log words held f w.parts known))
-          (Some w.parts, (w.fits, w.word), refl, (record { contents = x; is = subst (λ l. (state l).objects o ≡ Some x) (sym (append-nil log)) e; kind = sym w.same_kind; long = sym w.same_length }, refl, one_header k.config k.last words (state log) held f.image k.thread o k.grasp f.fits.grasp w.parts known))
+          (Some w.parts, (w.fits, w.word), refl, (record { contents = x; is = subst (λ l. (state l).objects o ≡ Some x) (sym (append-nil log)) e; says = w.says }, refl, one_header k.config k.last words (state log) held f.image k.thread o k.grasp f.fits.grasp w.parts known))
 
 module _ (k : Known) (within : role_of (view k) ≡ Within) where
   pub sees_header : (o : ℕ) → 1 ≤ o → o ≤ k.config.objects → Owes k (header_at k.config o) (λ n. n) (SawHeader o k)

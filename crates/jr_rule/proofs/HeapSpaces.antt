@@ -11,10 +11,11 @@ use Rattle.jr_word.specs.Header.{header_word, IsHeader}
 use Rattle.jr_model.specs.Maps.{update}
 use Rattle.jr_model.specs.State.{Contents}
 use Rattle.jr_model.proofs.Updates.{at_number_self}
-use Rattle.jr_rule.specs.declared.known.Grasp.{Grasp}
-use Rattle.jr_rule.specs.declared.known.Move.{Move}
-use Rattle.jr_rule.specs.Grasping.{words_at, header_in, with_range, with_header, hold}
-use Rattle.jr_rule.specs.Image.{top_at, header_at, element_at, Owner, unowned, of_object, of_range, Stands, spot, IsKnown, IsSpace}
+use Rattle.jr_steps.specs.declared.known.Grasp.{Grasp}
+use Rattle.jr_steps.specs.declared.known.Move.{Move}
+use Rattle.jr_steps.specs.Grasping.{words_at, header_in, with_range, with_header, hold}
+use Rattle.jr_steps.specs.Says.{spot}
+use Rattle.jr_rule.specs.Image.{top_at, header_at, element_at, Owner, unowned, of_object, of_range, Stands, IsKnown, IsSpace}
 use Rattle.jr_word.proofs.OneWord.{header_word-injective}
 use Rattle.jr_rule.proofs.Headers.{header_positive}
 use Rattle.jr_rule.proofs.Spaces.{header_stays, element_stays, hold_here, hold_else}

@@ -15,10 +15,11 @@ use Rattle.jr_model.specs.History.{History, state, IsLegal}
 use Rattle.jr_model.proofs.Gates.{apart_state}
 use Rattle.jr_model.proofs.Lengths.{lengths_fit}
 use Rattle.jr_model.proofs.Updates.{at_number}
-use Rattle.jr_rule.specs.declared.known.Grasp.{Grasp}
-use Rattle.jr_rule.specs.Grasping.{words_at, header_in, with_range, with_header, hold}
-use Rattle.jr_rule.specs.Image.{top_at, header_at, element_at, spot, MayHold, AreHeld, IsIn, IsTopOf, IsHeaderOf, IsKnown, IsSpace, IsImage}
-use Rattle.jr_rule.specs.Knowing.{published}
+use Rattle.jr_steps.specs.declared.known.Grasp.{Grasp}
+use Rattle.jr_steps.specs.Grasping.{words_at, header_in, with_range, with_header, hold}
+use Rattle.jr_steps.specs.Says.{spot}
+use Rattle.jr_rule.specs.Image.{top_at, header_at, element_at, MayHold, AreHeld, IsIn, IsTopOf, IsHeaderOf, IsKnown, IsSpace, IsImage}
+use Rattle.jr_steps.specs.Knowing.{published}
 use Rattle.jr_rule.proofs.HeapImages.{given_words, there, own_element, known_element, given_fit, space_headed}
 use Rattle.jr_rule.proofs.HeapSpaces.{elements_from, space_reserved, space_put, space_written, space_known}
 use Rattle.jr_rule.proofs.Images.{hands_held, top_set, element_set, with_space}
@@ -118,7 +119,7 @@ module _ (c : Config) (last : ℕ) (log : History) (t : ℕ) (words : List ℕ) 
     where
       header_written : (y : Option Contents) (w i v : ℕ) → IsHeaderOf y w → IsHeaderOf (written y i v) w
       header_written None w i v z = z
-      header_written (Some y) w i v z = record { parts = z.parts; fits = z.fits; word = z.word; same_kind = z.same_kind; same_length = z.same_length ∙ sym (length-set y.words i v) }
+      header_written (Some y) w i v z = record { parts = z.parts; fits = z.fits; word = z.word; says = record { kind = z.says.kind; long = length-set y.words i v ∙ z.says.long } }
 
   -- a store in a range of one's own
   pub puts_own : (p i v : ℕ) → i < length (words_at p g.ranges) → Turn c last log t [] (slice_set words (element_at c (p + i)) v) (hold held t (with_range g p (slice_set (words_at p g.ranges) i v)))

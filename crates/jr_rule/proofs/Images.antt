@@ -12,14 +12,15 @@ use Rattle.jr_model.specs.declared.event.Found.TheVariants.{Object}
 use Rattle.jr_model.specs.Maps.{update}
 use Rattle.jr_model.specs.State.{Handle, Contents, State}
 use Rattle.jr_model.proofs.Updates.{eq_true, eq_false, at_number}
-use Rattle.jr_rule.specs.Acts.{found_object, handle_of}
-use Rattle.jr_rule.specs.declared.known.Grasp.{Grasp}
-use Rattle.jr_rule.specs.declared.known.Move.{Move}
+use Rattle.jr_steps.specs.Acts.{found_object, handle_of}
+use Rattle.jr_steps.specs.declared.known.Grasp.{Grasp}
+use Rattle.jr_steps.specs.declared.known.Move.{Move}
 use mathlib.Core.Logic.{dite}
 use native.Mathlib.Decide.{ℕ_discrete}
 use Rattle.jr_rule.proofs.Spaces.{space_low, space_same, space_let_go, hold_here, hold_else}
-use Rattle.jr_rule.specs.Grasping.{empty, hold}
-use Rattle.jr_rule.specs.Image.{gate_at, top_at, slot_at, local_at, header_at, element_at, MayHold, AreHeld, IsIn, IsSpace, IsGateOf, IsTopOf, StandsAlone, SaysOfSlot, IsSlotOf, IsLocalOf, IsHeaderOf, IsImage}
+use Rattle.jr_steps.specs.Grasping.{empty, hold}
+use Rattle.jr_steps.specs.Says.{StandsAlone, StandsAs}
+use Rattle.jr_rule.specs.Image.{gate_at, top_at, slot_at, local_at, header_at, element_at, MayHold, AreHeld, IsIn, IsSpace, IsGateOf, IsTopOf, IsSlotOf, IsLocalOf, IsHeaderOf, IsImage}
 
 -- the local words lie below the headers
 pub local_below : (c : Config) (t p : ℕ) → t < c.threads → p < c.locals → local_at c t p < 2 + c.slots + c.threads * c.locals
@@ -40,18 +41,20 @@ pub same_slot : (last i w : ℕ) (refs refs' : Handle → Found) (given given' :
 same_slot last i w refs refs' given given' same x = record {
   parts = x.parts;
   word = x.word;
-  next = x.next;
-  serials = record {
-    below = λ n l. let h = x.serials.below n l in (h.0, h.1, h.2, (same h.0 h.1).1 ∙ h.3);
-    above = λ h at l. (same h at).1 ∙ x.serials.above h at l;
+  says = record {
+    next = x.says.next;
+    serials = record {
+      below = λ n l. let h = x.says.serials.below n l in (h.0, h.1, h.2, (same h.0 h.1).1 ∙ h.3);
+      above = λ h at l. (same h at).1 ∙ x.says.serials.above h at l;
+    };
+    stands = says x.parts x.says.stands;
   };
-  says = says x.parts x.says;
 }
   where
-    alone : (h : Handle) (r : Found) → h.index ≡ i → StandsAlone refs x.next h r → StandsAlone refs' x.next h r
+    alone : (h : Handle) (r : Found) → h.index ≡ i → StandsAlone refs x.says.next h r → StandsAlone refs' x.says.next h r
     alone h r at y = record { latest = y.latest; found = (same h at).0 ∙ y.found; alone = λ g e ne. (same g (e ∙ at)).0 ∙ y.alone g e ne }
 
-    says : (p : SlotParts) → SaysOfSlot last refs i x.next p → SaysOfSlot last refs' i x.next p
+    says : (p : SlotParts) → StandsAs last refs i x.says.next p → StandsAs last refs' i x.says.next p
     says (slot.Free n) y = (λ h at. (same h at).0 ∙ y.0 h at, y.1, y.2)
     says (slot.Retired n) y = (λ h at. (same h at).0 ∙ y.0 h at, y.1, y.2)
     says (slot.Global n o) y = alone (handle_of Global n i) (Object o) refl y

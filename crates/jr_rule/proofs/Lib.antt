@@ -1,4 +1,3 @@
-pub mod Goes
 pub mod SlotWords
 pub mod Readings
 pub mod Spaces
@@ -41,6 +40,5 @@ pub mod PlainOwed
 pub mod Meeting
 pub mod Ended
 pub mod Gathered
-pub mod Collected
 mod Claimable
 pub mod Emptying

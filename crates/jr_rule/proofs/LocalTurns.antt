@@ -1,5 +1,5 @@
 -- What the steps of local words and headers owe.
-use Rattle.std.proofs.Common.{◌≡◌, ◌+◌, ◌<◌, ◌≤◌, ℕ, Option, Some, None, List, [], ◌∷◌, length, get_or, slice_set, nat_eq, refl, ◌^◌}
+use Rattle.std.proofs.Common.{◌≡◌, ◌+◌, ◌<◌, ◌≤◌, ℕ, Option, Some, None, List, [], ◌∷◌, length, get_or, slice_set, nat_eq, refl, sym, ◌^◌}
 use Rattle.jr_word.specs.Local.{IsLocalPlace}
 use Rattle.jr_word.specs.declared.config.Config.{Config}
 use Rattle.jr_word.specs.declared.header.HeaderParts.{HeaderParts}
@@ -10,10 +10,11 @@ use Rattle.jr_model.specs.declared.event.Act.TheVariants.{LocalPut, LocalDrop, N
 use Rattle.jr_model.specs.Maps.{update}
 use Rattle.jr_model.specs.State.{State, IsPresent, AreWords, present_words}
 use Rattle.jr_model.specs.History.{History, state, IsLegal}
-use Rattle.jr_rule.specs.Acts.{putting}
-use Rattle.jr_rule.specs.declared.known.Grasp.{Grasp}
-use Rattle.jr_rule.specs.declared.known.Move.{Move}
-use Rattle.jr_rule.specs.Image.{local_at, header_at, local_parts, AreHeld, IsIn, IsImage, IsSpace}
+use Rattle.jr_steps.specs.Acts.{putting}
+use Rattle.jr_steps.specs.declared.known.Grasp.{Grasp}
+use Rattle.jr_steps.specs.declared.known.Move.{Move}
+use Rattle.jr_steps.specs.Says.{local_parts}
+use Rattle.jr_rule.specs.Image.{local_at, header_at, AreHeld, IsIn, IsImage, IsSpace}
 use Rattle.jr_rule.proofs.Headers.{header_none}
 use Rattle.jr_rule.proofs.Turns.{Turn, turn_one}
 use Rattle.jr_rule.proofs.Images.{local_set, header_set}
@@ -41,4 +42,4 @@ module _ (c : Config) (last : ℕ) (log : History) (t : ℕ) (words : List ℕ) 
       turn_one c last log t (slice_set words (header_at c o) (header_word parts)) held' legal (New o parts.kind ws)
       (row, (within, low, high, none, good, room))
       (header_set c last words s held image (header_word parts) o (Some (record { kind = parts.kind; words = ws })) moving held' hands low high
-      (record { parts = parts; fits = fits; word = refl; same_kind = refl; same_length = long }) space)
+      (record { parts = parts; fits = fits; word = refl; says = record { kind = refl; long = sym long } }) space)

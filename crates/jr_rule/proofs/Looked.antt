@@ -19,9 +19,9 @@ use Rattle.jr_model.proofs.Gates.{IsApart, apart_state, apart_after, stay_act}
 use Rattle.jr_model.proofs.Stays.{never}
 use Rattle.jr_model.proofs.References.{kept_state}
 use Rattle.jr_model.proofs.Presence.{sound_state}
-use Rattle.jr_rule.specs.declared.known.Known.{Known}
-use Rattle.jr_rule.specs.Acts.{found_object}
-use Rattle.jr_rule.specs.Knowing.{HasLooked}
+use Rattle.jr_steps.specs.declared.known.Known.{Known}
+use Rattle.jr_steps.specs.Acts.{found_object}
+use Rattle.jr_steps.specs.Knowing.{HasLooked}
 use Rattle.jr_rule.specs.Slots.{CanStand}
 use Rattle.jr_model.proofs.InRoom.{in_room}
 use Rattle.jr_rule.proofs.Slots.{found_there}

@@ -16,10 +16,11 @@ use Rattle.jr_model.proofs.Updates.{at_handle}
 use Rattle.jr_model.proofs.Histories.{legal_append, state_append, kept_from}
 use Rattle.jr_model.proofs.References.{occupied_between}
 use Rattle.jr_model.proofs.Moments.{sometime_last}
-use Rattle.jr_rule.specs.declared.known.Known.{Known}
-use Rattle.jr_rule.specs.Acts.{is_occupied}
-use Rattle.jr_rule.specs.Knowing.{IsFreeSlot}
-use Rattle.jr_rule.specs.Image.{SaysOfSlot, IsSlotOf}
+use Rattle.jr_steps.specs.declared.known.Known.{Known}
+use Rattle.jr_steps.specs.Acts.{is_occupied}
+use Rattle.jr_steps.specs.Knowing.{IsFreeSlot}
+use Rattle.jr_steps.specs.Says.{StandsAs}
+use Rattle.jr_rule.specs.Image.{IsSlotOf}
 use Rattle.jr_rule.proofs.Slots.{probes}
 
 module _ (c : Config) (last : ℕ) (old new : History) (later : IsPrefix old new) (legal : IsLegal c last new) where
@@ -51,28 +52,28 @@ module _ (c : Config) (last : ℕ) (old new : History) (later : IsPrefix old new
 -- a slot that was seen free with a serial, and does not have that word any more
 pub claim_lost : (k : Known) (log : History) → IsPrefix k.seen log → IsLegal k.config k.last log → (i serial w : ℕ) → IsFreeSlot i serial k → IsSlotOf k.last (state log).refs (state log).given i w → w ≢ slot_word (slot.Free serial)
     → Sometime (λ s. IsOccupied k.last s i) k.seen log
-claim_lost k log later legal i serial w seen x lost = go x.parts refl x.says
+claim_lost k log later legal i serial w seen x lost = go x.parts refl x.says.stands
   where
     -- the serial that was seen was given since
-    passed : serial < x.next → Sometime (λ s. IsOccupied k.last s i) k.seen log
+    passed : serial < x.says.next → Sometime (λ s. IsOccupied k.last s i) k.seen log
     passed l =
-        let g = x.serials.below serial l in
+        let g = x.says.serials.below serial l in
         subst (λ j. Sometime (λ s. IsOccupied k.last s j) k.seen log) g.1
-        (given_since k.config k.last k.seen log later legal g.0 (seen.above g.0 g.1 (let e = g.2 in omega arith)) g.3)
+        (given_since k.config k.last k.seen log later legal g.0 (seen.serials.above g.0 g.1 (let e = g.2 in let f = seen.stands.1 in omega arith)) g.3)
 
     occupied : is_occupied x.parts ≡ true → Sometime (λ s. IsOccupied k.last s i) k.seen log
     occupied e = sometime_last later ((probes k.last (state log) i w x).0 e)
 
-    behind : x.next < serial → ⊥
+    behind : x.says.next < serial → ⊥
     behind l =
-        let g = seen.below x.next l in
+        let g = seen.serials.below x.says.next (let f = seen.stands.1 in omega arith) in
         let there = given_later k.config k.last k.seen log later legal g.0 g.3 in
-        let not = x.serials.above g.0 g.1 (let e = g.2 in omega arith) in cc
+        let not = x.says.serials.above g.0 g.1 (let e = g.2 in omega arith) in cc
 
-    go : (p : SlotParts) → x.parts ≡ p → SaysOfSlot k.last (state log).refs i x.next p → Sometime (λ s. IsOccupied k.last s i) k.seen log
+    go : (p : SlotParts) → x.parts ≡ p → StandsAs k.last (state log).refs i x.says.next p → Sometime (λ s. IsOccupied k.last s i) k.seen log
     go (slot.Free n) is y = ⊎_elim passed
-        (λ (z : x.next ≤ serial). absurd (⊎_elim behind (λ (v : serial ≤ x.next). let same : n ≡ serial = let e = y.1 in omega arith in lost (x.word ∙ (ap slot_word is ∙ ap (λ m. slot_word (slot.Free m)) same))) (cases_lt x.next serial)))
-        (cases_lt serial x.next)
-    go (slot.Retired n) is y = passed (let far = y.2 in let fits = seen.fits in omega arith)
+        (λ (z : x.says.next ≤ serial). absurd (⊎_elim behind (λ (v : serial ≤ x.says.next). let same : n ≡ serial = let e = y.1 in omega arith in lost (x.word ∙ (ap slot_word is ∙ ap (λ m. slot_word (slot.Free m)) same))) (cases_lt x.says.next serial)))
+        (cases_lt serial x.says.next)
+    go (slot.Retired n) is y = passed (let far = y.2 in let same = seen.stands.1 in let fits = seen.stands.2 in omega arith)
     go (slot.Global n o) is y = occupied (ap is_occupied is)
     go (slot.Weak n o) is y = occupied (ap is_occupied is)

@@ -2,9 +2,9 @@
 use Rattle.std.proofs.Common.{◌≡◌, ℕ, List, [], ◌∷◌, sym, ap, subst, ◌∙◌}
 use Rattle.jr_model.specs.declared.event.Act.{Act}
 use Rattle.jr_model.specs.History.{HasMet}
-use Rattle.jr_rule.specs.declared.known.Known.{Known}
-use Rattle.jr_rule.specs.Grasping.{InSpace}
-use Rattle.jr_rule.specs.Knowing.{view}
+use Rattle.jr_steps.specs.declared.known.Known.{Known}
+use Rattle.jr_steps.specs.Grasping.{InSpace}
+use Rattle.jr_steps.specs.Knowing.{view}
 use Rattle.jr_rule.specs.Rule.{view as seats, EachFits, Sat, acting, others_of, Tells, IsAlone, together, first_alone, without_first}
 use Rattle.jr_rule.specs.Holding.{IsSeated}
 use Rattle.jr_rule.proofs.Seats.{joined_is}
@@ -34,7 +34,7 @@ module _ (a b m : Sat) (alone : IsAlone a) (other : IsAlone b) (joined : m ≡ (
       acts = s.acts;
       new = s.new;
       is = first_is ∙ (λ i. (seats (s.new ∷ ap (λ (z : Sat). others_of z.0.passes) (sym alone) i), ap (λ (z : Sat). z.1) (sym alone) i));
-      goes = subst (λ k. Rattle.jr_rule.specs.Knowing.Goes k s.acts s.new) acting_both s.goes;
+      goes = subst (λ k. Rattle.jr_steps.specs.Knowing.Goes k s.acts s.new) acting_both s.goes;
       says = subst (λ k. told k n s.acts s.new) acting_both s.says;
       space = subst (λ (k : Known). InSpace k.config (s.new).grasp) acting_both s.space;
       held = s.held;

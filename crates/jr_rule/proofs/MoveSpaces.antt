@@ -10,36 +10,15 @@ use Rattle.jr_word.specs.Header.{header_word, IsHeader}
 use Rattle.jr_model.specs.Maps.{update}
 use Rattle.jr_model.specs.State.{Contents}
 use Rattle.jr_model.proofs.Updates.{at_number}
-use Rattle.jr_rule.specs.declared.known.Grasp.{Grasp}
-use Rattle.jr_rule.specs.declared.known.Move.{Move}
-use Rattle.jr_rule.specs.Grasping.{words_at, header_in, move_of, HasDone}
-use Rattle.jr_rule.specs.Image.{top_at, header_at, element_at, Owner, unowned, of_object, of_range, Stands, spot, IsKnown, IsSpace}
+use Rattle.jr_steps.specs.declared.known.Grasp.{Grasp}
+use Rattle.jr_steps.specs.declared.known.Move.{Move}
+use Rattle.jr_steps.specs.Grasping.{words_at, header_in, move_of, HasDone}
+use Rattle.jr_steps.specs.Says.{spot}
+use Rattle.jr_steps.proofs.Spots.{spot_else, spot_done, spot_left, at_else, at_done, at_left}
+use Rattle.jr_rule.specs.Image.{top_at, header_at, element_at, Owner, unowned, of_object, of_range, Stands, IsKnown, IsSpace}
 use Rattle.jr_word.proofs.OneWord.{header_word-injective}
 use Rattle.jr_rule.proofs.HeapSpaces.{not_unowned, there, elsewhere, no_header}
 use Rattle.jr_rule.proofs.Spaces.{header_stays, element_stays}
-
--- WHERE ELEMENTS STAND
-spot_else : (o place n r p i : ℕ) → o ≢ r → spot (Some (move_of o place n)) r p i ≡ p + i
-spot_else o place n r p i ne = ap (λ b. cond (b && nat_lt i n) (place + i) (p + i)) (ne_eqb o r ne)
-
-spot_done : (o place n p i : ℕ) → i < n → spot (Some (move_of o place n)) o p i ≡ place + i
-spot_done o place n p i l = ap (λ b. cond (b && nat_lt i n) (place + i) (p + i)) (eq-eqb o o refl) ∙ ap (λ b. cond b (place + i) (p + i)) (lt-ltb i n l)
-
-spot_left : (o place n p i : ℕ) → n ≤ i → spot (Some (move_of o place n)) o p i ≡ p + i
-spot_left o place n p i l = ap (λ b. cond (b && nat_lt i n) (place + i) (p + i)) (eq-eqb o o refl) ∙ ap (λ b. cond b (place + i) (p + i)) (le-ltb i n l)
-
--- the same of a move that has done so many, be it begun or not
-pub at_else : (moving : Option Move) (o place n : ℕ) → HasDone moving o place n → (r p i : ℕ) → o ≢ r → spot moving r p i ≡ p + i
-at_else None o place n d r p i ne = refl
-at_else (Some m) o place n d r p i ne = ap (λ z. spot (Some z) r p i) d ∙ spot_else o place n r p i ne
-
-pub at_done : (moving : Option Move) (o place n : ℕ) → HasDone moving o place n → (p i : ℕ) → i < n → spot moving o p i ≡ place + i
-at_done None o place n d p i l = absurd (omega arith)
-at_done (Some m) o place n d p i l = ap (λ z. spot (Some z) o p i) d ∙ spot_done o place n p i l
-
-pub at_left : (moving : Option Move) (o place n : ℕ) → HasDone moving o place n → (p i : ℕ) → n ≤ i → spot moving o p i ≡ p + i
-at_left None o place n d p i l = refl
-at_left (Some m) o place n d p i l = ap (λ z. spot (Some z) o p i) d ∙ spot_left o place n p i l
 
 -- no list of a thread's own
 none_own : (c : Config) (owner : ℕ → Owner) (words : List ℕ) (whose also : ℕ → Owner) (spots : ℕ → ℕ) (items : List ℕ) → items ≡ [] → Stands c owner words whose spots items

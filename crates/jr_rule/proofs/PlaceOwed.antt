@@ -6,10 +6,11 @@ use Rattle.jr_word.specs.Local.{local_word}
 use Rattle.jr_model.specs.declared.event.Role.TheVariants.{Within}
 use Rattle.jr_model.specs.History.{IsLegal, role_of}
 use Rattle.jr_model.proofs.InRoom.{in_room}
-use Rattle.jr_rule.specs.declared.known.Known.{Known}
-use Rattle.jr_rule.specs.Acts.{putting}
-use Rattle.jr_rule.specs.Image.{local_at, local_parts}
-use Rattle.jr_rule.specs.Knowing.{view, HasOptional}
+use Rattle.jr_steps.specs.declared.known.Known.{Known}
+use Rattle.jr_steps.specs.Acts.{putting}
+use Rattle.jr_steps.specs.Says.{local_parts}
+use Rattle.jr_rule.specs.Image.{local_at}
+use Rattle.jr_steps.specs.Knowing.{view, HasOptional}
 use Rattle.jr_rule.specs.Rule.{Owes}
 use Rattle.jr_rule.proofs.Found.{role_at, present_now}
 use Rattle.jr_rule.proofs.Owing.{quiet}

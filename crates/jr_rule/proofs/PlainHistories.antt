@@ -3,9 +3,9 @@ use Rattle.std.proofs.Common.{◌^◌, ◌<◌, ℕ, List, subst, arith}
 use mathlib.Core.Logic.{∥∥₁_map}
 use Rattle.jr_word.specs.declared.config.Config.{Config}
 use Rattle.jr_model.specs.History.{IsLegal}
-use Rattle.jr_rule.specs.declared.known.Known.{Known}
+use Rattle.jr_steps.specs.declared.known.Known.{Known}
 use Rattle.jr_rule.specs.Image.{IsImage}
-use Rattle.jr_rule.specs.Knowing.{Standing, state_of, MayKnow, anything}
+use Rattle.jr_steps.specs.Knowing.{Standing, state_of, MayKnow, anything}
 use Rattle.jr_rule.specs.Plain.{alone, Shows}
 use Rattle.jr_rule.specs.Shown.{IsHistoryOf, HasHistory}
 

@@ -27,17 +27,18 @@ use Rattle.jr_model.specs.History.{History, state, role_after}
 use Rattle.jr_model.proofs.InRoom.{in_room}
 use Rattle.jr_model.proofs.Lengths.{lengths_fit}
 use Rattle.jr_model.proofs.Moments.{prefix_self}
-use Rattle.jr_rule.specs.declared.known.Known.{Known}
-use Rattle.jr_rule.specs.declared.known.Grasp.{Grasp}
-use Rattle.jr_rule.specs.declared.naming.GateNaming.{GateNaming}
-use Rattle.jr_rule.specs.declared.naming.SlotNaming.{SlotNaming}
-use Rattle.jr_rule.specs.declared.naming.TopNaming.{TopNaming}
+use Rattle.jr_steps.specs.declared.known.Known.{Known}
+use Rattle.jr_steps.specs.declared.known.Grasp.{Grasp}
+use Rattle.jr_steps.specs.declared.naming.GateNaming.{GateNaming}
+use Rattle.jr_steps.specs.declared.naming.SlotNaming.{SlotNaming}
+use Rattle.jr_steps.specs.declared.naming.TopNaming.{TopNaming}
 use Rattle.jr_rule.specs.declared.plain.PlainSteps.{PlainSteps}
-use Rattle.jr_rule.specs.Acts.{entered_as, leaving, all_counted, gate_named, GateNameFits, found_object, handle_of, slot_named, SlotNameFits, claiming, freeing, putting, publishing, top_named, reserving}
-use Rattle.jr_rule.specs.Collecting.{ShowsLocal, ShowsElement, IsThere, CanWipe, CanDrop, ShowsDropped, CanMove, ShowsMoved, placed, CanPlace, ShowsPlaced, CanSettle}
-use Rattle.jr_rule.specs.Grasping.{hold}
-use Rattle.jr_rule.specs.Image.{top_at, slot_at, local_at, local_parts, header_at, element_at, IsImage}
-use Rattle.jr_rule.specs.Knowing.{Standing, moved, MayKnow, anything, keeps, lets_go, CanReopen, ShowsGate, ShowsSlot, HasObject, HasOptional, HasLooked, IsFreeSlot, LostClaim, KnowsHeader, HasWord, IsWordNow, IsFilled, words_for, ShowsHeader, ShowsPublished, ShowsUsed, WasUsed, ShowsRange, ShowsWord}
+use Rattle.jr_steps.specs.Acts.{entered_as, leaving, all_counted, gate_named, GateNameFits, found_object, handle_of, slot_named, SlotNameFits, claiming, freeing, putting, publishing, top_named, reserving}
+use Rattle.jr_steps.specs.Collecting.{ShowsLocal, ShowsElement, IsThere, CanWipe, CanDrop, ShowsDropped, CanMove, ShowsMoved, placed, CanPlace, ShowsPlaced, CanSettle}
+use Rattle.jr_steps.specs.Grasping.{hold}
+use Rattle.jr_steps.specs.Says.{local_parts}
+use Rattle.jr_rule.specs.Image.{top_at, slot_at, local_at, header_at, element_at, IsImage}
+use Rattle.jr_steps.specs.Knowing.{Standing, moved, MayKnow, anything, keeps, lets_go, CanReopen, ShowsGate, ShowsSlot, HasObject, HasOptional, HasLooked, IsFreeSlot, LostClaim, KnowsHeader, HasWord, IsWordNow, IsFilled, words_for, ShowsHeader, ShowsPublished, ShowsUsed, WasUsed, ShowsRange, ShowsWord}
 use Rattle.jr_rule.specs.Plain.{alone, standing, Shows}
 use Rattle.jr_rule.specs.Rule.{IsFound, IsSized, known, known_at, Makes}
 use Rattle.jr_rule.specs.Slots.{CanStand, IsReference, freed}
@@ -46,6 +47,7 @@ use Rattle.jr_rule.proofs.GateTurns.{gate_fits, gate_most, counted, shut_counted
 use Rattle.jr_rule.proofs.GateOwed.{enters, leaves, shuts, reopens, sees_gate}
 use Rattle.jr_rule.proofs.Looked.{looked_at}
 use Rattle.jr_rule.proofs.SlotOwed.{sees_slot, claims_slot, frees_slot}
+use Rattle.jr_rule.proofs.Slots.{free_fits}
 use Rattle.jr_rule.proofs.SlotWords.{some_reference, can_prop}
 use Rattle.jr_rule.proofs.PlaceOwed.{optional_fits, puts_local}
 use Rattle.jr_rule.proofs.HeapOwed.{header_read, top_is, sees_header, publishes_header, sees_top, claims_top, sees_element, puts_element, puts_own}
@@ -213,7 +215,7 @@ module _ (LAST : ℕ) (few : LAST < 2 ^ 32) (p : PlainSteps LAST) where
   claimed i serial kind o q w l global is was at free word within =
       let here : get_or words (slot_at i) 0 ≡ slot_word (slot.Free serial) = at ∙ ap slot_word free in
       owed (λ k. refl) (λ log g n h m.
-      tells h (claims_slot (own log g n) (h.pass.role ∙ within) i serial kind o q l (m.1).fits global is m.0)
+      tells h (claims_slot (own log g n) (h.pass.role ∙ within) i serial kind o q l (free_fits i serial (own log g n) m.1) global is m.0)
       (ap (slice_set words (slot_at i)) (won (slot_word (slot.Free serial)) (slot_word q) (get_or words (slot_at i) 0) here ∙ sym word))
       (λ done k' s. (s.0 here, (tt, s.2))))
 
@@ -221,7 +223,7 @@ module _ (LAST : ℕ) (few : LAST < 2 ^ 32) (p : PlainSteps LAST) where
       → Turned old words old words (λ k. claiming i serial kind o (Err q) ∷ []) (λ k. HasObject o k × IsFreeSlot i serial k) (λ j k. LostClaim i (Err q) j k × keeps j k)
   lost i serial kind o q l global fits is differs within = owed (λ k. refl) (λ log g n h m.
       let wanted = some_reference kind serial o global in
-      let below = (m.1).fits in
+      let below = free_fits i serial (own log g n) m.1 in
       let other : get_or words (slot_at i) 0 ≢ slot_word (slot.Free serial)
       = λ e. differs (slot_word-injective q (slot.Free serial) fits (record { serial = omega arith; object = omega arith; names = tt }) (sym is ∙ e)) in
       tells h (claims_slot (own log g n) (h.pass.role ∙ within) i serial kind o wanted.0 l below global wanted.1 m.0)

@@ -8,10 +8,10 @@ use Rattle.jr_model.specs.declared.event.Role.{Role}
 use Rattle.jr_model.specs.declared.event.Act.{Act}
 use Rattle.jr_model.specs.History.{by, state, IsLegal, role_from}
 use Rattle.jr_rule.specs.declared.plain.PlainSteps.{PlainSteps}
-use Rattle.jr_rule.specs.declared.known.Known.{Known}
-use Rattle.jr_rule.specs.declared.known.Grasp.{Grasp}
-use Rattle.jr_rule.specs.Grasping.{empty, hold}
-use Rattle.jr_rule.specs.Knowing.{Standing, moved, Goes, Took, TookWith, MayKnow, anything}
+use Rattle.jr_steps.specs.declared.known.Known.{Known}
+use Rattle.jr_steps.specs.declared.known.Grasp.{Grasp}
+use Rattle.jr_steps.specs.Grasping.{empty, hold}
+use Rattle.jr_steps.specs.Knowing.{Standing, moved, Goes, Took, TookWith, MayKnow, anything}
 use Rattle.jr_rule.specs.Plain.{alone, standing, unseen, Shows}
 use Rattle.jr_rule.specs.Rule.{known_at}
 use Rattle.jr_rule.proofs.Grasped.{grasp_in_space}

@@ -11,14 +11,14 @@ use Rattle.jr_model.specs.History.{History, by, state, IsLegal, mine}
 use Rattle.jr_model.proofs.Histories.{mine_append}
 use Rattle.jr_model.proofs.Moments.{prefix_self, prefix_trans}
 use Rattle.jr_model.proofs.Stays.{append_cancel}
-use Rattle.jr_rule.specs.declared.known.Known.{Known}
-use Rattle.jr_rule.specs.declared.known.View.{View}
-use Rattle.jr_rule.specs.declared.known.Grasp.{Grasp}
-use Rattle.jr_rule.specs.Grasping.{hold}
+use Rattle.jr_steps.specs.declared.known.Known.{Known}
+use Rattle.jr_rule.specs.declared.rule.View.{View}
+use Rattle.jr_steps.specs.declared.known.Grasp.{Grasp}
+use Rattle.jr_steps.specs.Grasping.{hold}
 use Rattle.jr_rule.specs.Image.{IsImage}
 use Rattle.jr_rule.proofs.Grasped.{grasp_in_space}
 use Rattle.jr_rule.proofs.Spaces.{hold_here, hold_else}
-use Rattle.jr_rule.specs.Knowing.{Goes}
+use Rattle.jr_steps.specs.Knowing.{Goes}
 use Rattle.jr_rule.specs.Rule.{view, Fits, EachFits, total, is_of, passes_of, Row, Kept, Sat, acting, Tells, known_at, Owes}
 
 -- COUNTS OF A LIST

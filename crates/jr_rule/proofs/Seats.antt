@@ -9,10 +9,10 @@ use Rattle.atomic_table.proofs.Lists.{at_set, at_snoc}
 use Rattle.jr_word.specs.declared.config.Config.{Config}
 use Rattle.jr_model.specs.State.{opening as nothing_stands}
 use Rattle.jr_model.specs.History.{History}
-use Rattle.jr_rule.specs.declared.known.Known.{Known}
-use Rattle.jr_rule.specs.declared.known.View.{View}
-use Rattle.jr_rule.specs.declared.known.Grasp.{Grasp}
-use Rattle.jr_rule.specs.Grasping.{empty}
+use Rattle.jr_steps.specs.declared.known.Known.{Known}
+use Rattle.jr_rule.specs.declared.rule.View.{View}
+use Rattle.jr_steps.specs.declared.known.Grasp.{Grasp}
+use Rattle.jr_steps.specs.Grasping.{empty}
 use Rattle.jr_rule.specs.Image.{IsImage}
 use Rattle.jr_rule.specs.Rule.{known, view, IsSized, EachFits, total, is_of, passes_of, Kept, newcomers, Sat, first_alone, without_first, together, spent}
 use Rattle.jr_rule.proofs.Plays.{total_append, total_at}

@@ -19,12 +19,12 @@ use Rattle.jr_model.specs.declared.event.Act.TheVariants.{Probe}
 use Rattle.jr_model.specs.State.{Handle, State}
 use Rattle.jr_model.specs.History.{by, state, role_of}
 use Rattle.jr_model.proofs.Moments.{prefix_self, sometime_wider}
-use Rattle.jr_rule.specs.declared.known.Known.{Known}
-use Rattle.jr_rule.specs.declared.naming.SlotNaming.{SlotNaming}
-use Rattle.jr_rule.specs.declared.naming.SlotNaming.TheVariants as naming
-use Rattle.jr_rule.specs.Acts.{found_object, slot_named, SlotNameFits, is_occupied, claiming, freeing}
+use Rattle.jr_steps.specs.declared.known.Known.{Known}
+use Rattle.jr_steps.specs.declared.naming.SlotNaming.{SlotNaming}
+use Rattle.jr_steps.specs.declared.naming.SlotNaming.TheVariants as naming
+use Rattle.jr_steps.specs.Acts.{found_object, slot_named, SlotNameFits, is_occupied, claiming, freeing}
 use Rattle.jr_rule.specs.Image.{slot_at}
-use Rattle.jr_rule.specs.Knowing.{view, HasObject, HasLooked}
+use Rattle.jr_steps.specs.Knowing.{view, HasObject, HasLooked}
 use Rattle.jr_rule.specs.Rule.{IsSized, known_at, Owes}
 use Rattle.jr_rule.specs.Slots.{IsReference, freed}
 use Rattle.jr_rule.proofs.Found.{now, role_at, present_now, looked_later}

@@ -15,11 +15,12 @@ use Rattle.jr_model.specs.Maps.{update}
 use Rattle.jr_model.specs.State.{Handle, same_handle, State, IsPresent, IsOccupied}
 use Rattle.jr_model.specs.History.{History, state, IsLegal}
 use Rattle.jr_model.proofs.Updates.{at_handle, at_handle_self, eq_true, eq_false}
-use Rattle.jr_rule.specs.declared.naming.SlotNaming.{SlotNaming}
-use Rattle.jr_rule.specs.declared.naming.SlotNaming.TheVariants as naming
-use Rattle.jr_rule.specs.Acts.{found_object, reply, slot_named, SlotNameFits, is_occupied, handle_of}
-use Rattle.jr_rule.specs.declared.known.Grasp.{Grasp}
-use Rattle.jr_rule.specs.Image.{slot_at, AreGivenBelow, NoneStands, StandsAlone, SaysOfSlot, IsSlotOf, IsImage}
+use Rattle.jr_steps.specs.declared.naming.SlotNaming.{SlotNaming}
+use Rattle.jr_steps.specs.declared.naming.SlotNaming.TheVariants as naming
+use Rattle.jr_steps.specs.Acts.{found_object, reply, slot_named, SlotNameFits, is_occupied, handle_of}
+use Rattle.jr_steps.specs.declared.known.Grasp.{Grasp}
+use Rattle.jr_steps.specs.Says.{AreGivenBelow, NoneStands, StandsAlone, StandsAs}
+use Rattle.jr_rule.specs.Image.{slot_at, IsSlotOf, IsImage}
 use Rattle.jr_rule.specs.Slots.{IsReference, freed}
 use Rattle.jr_rule.proofs.Turns.{Turn, turn_one}
 use Rattle.jr_rule.proofs.Images.{slot_set}
@@ -35,15 +36,17 @@ claimed_slot last s i serial next kind o p is e none given =
     record {
       parts = p;
       word = refl;
-      next = next + 1;
-      serials = record {
-        below = λ n l. by_serial n l (n == next) refl;
-        above = λ g at l. at_handle (λ b. b ≡ false) s.given h g true (λ z. let same = ap (λ (f : Handle). f.serial) z in absurd (omega arith)) (λ ne. given.above g at (omega arith));
-      };
-      says = says_in last refs i (next + 1) kind serial (Some o) p is record {
-        latest = omega arith;
-        found = at_handle_self s.refs h (Object o);
-        alone = λ g at ne. at_handle (λ r. r ≡ Stale) s.refs h g (Object o) (λ z. absurd (ne (sym z))) (λ ne'. none g at);
+      says = record {
+        next = next + 1;
+        serials = record {
+          below = λ n l. by_serial n l (n == next) refl;
+          above = λ g at l. at_handle (λ b. b ≡ false) s.given h g true (λ z. let same = ap (λ (f : Handle). f.serial) z in absurd (omega arith)) (λ ne. given.above g at (omega arith));
+        };
+        stands = says_in last refs i (next + 1) kind serial (Some o) p is record {
+          latest = omega arith;
+          found = at_handle_self s.refs h (Object o);
+          alone = λ g at ne. at_handle (λ r. r ≡ Stale) s.refs h g (Object o) (λ z. absurd (ne (sym z))) (λ ne'. none g at);
+        };
       };
     }
   where
@@ -60,15 +63,13 @@ freed_slot : (last : ℕ) (s : State) (h : Handle) (next : ℕ) (r : Found) → 
 freed_slot last s h next r y given = record {
   parts = freed last h.serial;
   word = refl;
-  next = next;
-  serials = given;
-  says = go (nat_lt h.serial last) refl;
+  says = record { next = next; serials = given; stands = go (nat_lt h.serial last) refl };
 }
   where
     none : NoneStands (update same_handle s.refs h Stale) h.index
     none g at = at_handle (λ x. x ≡ Stale) s.refs h g Stale (λ e. refl) (λ ne. y.alone g at (λ z. ne (sym z)))
 
-    go : (b : Bool) → nat_lt h.serial last ≡ b → SaysOfSlot last (update same_handle s.refs h Stale) h.index next (if b then slot.Free (h.serial + 1) else slot.Retired last)
+    go : (b : Bool) → nat_lt h.serial last ≡ b → StandsAs last (update same_handle s.refs h Stale) h.index next (if b then slot.Free (h.serial + 1) else slot.Retired last)
     go true e = let l : h.serial < last = grind (arith, nat_tests) in let n = y.latest in (none, n, omega arith)
     go false e = let l : last ≤ h.serial = grind (arith, nat_tests) in let n = y.latest in (none, refl, omega arith)
 
@@ -90,13 +91,13 @@ module _ (c : Config) (last : ℕ) (log : History) (t : ℕ) (words : List ℕ) 
         let h : Handle = handle_of kind serial i in
         let x = image.slot i l in
         let free : x.parts ≡ slot.Free serial = read_parts c last log legal few_serials few_objects i (get_or words (slot_at i) 0) x (slot.Free serial) (record { serial = small; object = omega arith; names = tt }) found in
-        let says = subst (SaysOfSlot last s.refs i x.next) free x.says in
+        let says = subst (StandsAs last s.refs i x.says.next) free x.says.stands in
         let next = says.1 in
         let fits = says.2 in
         turn_one c last log t (slice_set words (slot_at i) (slot_word p)) held legal (Create h o)
-        (row, (within, present, (global, refl, l, omega arith), says.0, λ g at same. x.serials.above g at (omega arith)))
+        (row, (within, present, (global, refl, l, omega arith), says.0, λ g at same. x.says.serials.above g at (omega arith)))
         (slot_set c last words s held image (slot_word p) i (update same_handle s.refs h (Object o)) (update same_handle s.given h true) l
-        (claimed_slot last s i serial x.next kind o p is next says.0 x.serials)
+        (claimed_slot last s i serial x.says.next kind o p is next says.0 x.says.serials)
         (λ g apart. (
           at_handle (λ r. r ≡ s.refs g) s.refs h g (Object o) (λ z. absurd (apart (sym (ap (λ (f : Handle). f.index) z)))) (λ ne. refl),
           at_handle (λ b. b ≡ s.given g) s.given h g true (λ z. absurd (apart (sym (ap (λ (f : Handle). f.index) z)))) (λ ne. refl),
@@ -111,12 +112,12 @@ module _ (c : Config) (last : ℕ) (log : History) (t : ℕ) (words : List ℕ) 
         let l = looked.row.2 in
         let x = image.slot i l in
         let read : x.parts ≡ p = read_parts c last log legal few_serials few_objects i (get_or words (slot_at i) 0) x p fits found in
-        let named = stands_in last s.refs i x.next h.kind h.serial o p is (subst (SaysOfSlot last s.refs i x.next) read x.says) in
-        let alone : StandsAlone s.refs x.next h (found_object o) = subst (λ g. StandsAlone s.refs x.next g (found_object o)) (handle_is h h.kind h.serial i refl refl refl looked.row.1) named in
+        let named = stands_in last s.refs i x.says.next h.kind h.serial o p is (subst (StandsAs last s.refs i x.says.next) read x.says.stands) in
+        let alone : StandsAlone s.refs x.says.next h (found_object o) = subst (λ g. StandsAlone s.refs x.says.next g (found_object o)) (handle_is h h.kind h.serial i refl refl refl looked.row.1) named in
         turn_one c last log t (slice_set words (slot_at i) (slot_word (freed last h.serial))) held legal (Delete h)
         (row, (within, λ e. found_there o (sym alone.found ∙ e)))
         (slot_set c last words s held image (slot_word (freed last h.serial)) i (update same_handle s.refs h Stale) s.given l
-        (freed_slot last s h x.next (found_object o) alone x.serials)
+        (freed_slot last s h x.says.next (found_object o) alone x.says.serials)
         (λ g apart. (at_handle (λ r. r ≡ s.refs g) s.refs h g Stale (λ z. absurd (apart (sym (ap (λ (f : Handle). f.index) z)))) (λ ne. refl), refl)))
 
     -- a delete that comes too late
@@ -127,7 +128,7 @@ module _ (c : Config) (last : ℕ) (log : History) (t : ℕ) (words : List ℕ) 
         let i : ℕ = h.index in
         let x = image.slot i looked.row.2 in
         let stale : s.refs h ≡ Stale = ⊎_elim
-        (λ e. absurd (lost (x.word ∙ ap slot_word (one_reference h.kind h.serial o x.parts p (reference_is last s.refs i x.next h o refl e x.parts x.says) is))))
+        (λ e. absurd (lost (x.word ∙ ap slot_word (one_reference h.kind h.serial o x.parts p (reference_is last s.refs i x.says.next h o refl e x.parts x.says.stands) is))))
         (λ e. e)
         looked.stands in
         turn_one c last log t words held legal (DeleteStale h) (row, (within, stale)) image

@@ -1,8 +1,7 @@
 -- What the word of a slot tells.
 use Rattle.std.proofs.Common.{◌≡◌, ◌≢◌, inl, inr, ⊎_elim, ◌↔◌, ◌^◌, ◌<◌, ◌≤◌, ◌==◌, ℕ, Bool, true, false, cond, IsTrue, Option, Some, None, refl, sym, ap, subst, ◌∙◌, arith}
-use Rattle.jr_rule.specs.declared.known.Known.{Known}
-use Rattle.jr_rule.specs.Image.{AreGivenBelow}
-use Rattle.jr_rule.specs.Knowing.{ShowsSlot, state_of}
+use Rattle.jr_steps.specs.declared.known.Known.{Known}
+use Rattle.jr_steps.specs.Knowing.{IsFreeSlot, ShowsSlot, state_of}
 use Rattle.jr_word.specs.declared.config.Config.{Config}
 use Rattle.jr_word.specs.declared.handle.RefKind.{RefKind}
 use Rattle.jr_word.specs.declared.handle.RefKind.TheVariants.{Global, Weak}
@@ -17,8 +16,9 @@ use Rattle.jr_model.specs.History.{History, state, IsLegal}
 use Rattle.jr_model.proofs.Updates.{and_left, and_right, kind_true, kind_self, eq_true, eq_self, handle_true, handle_false}
 use Rattle.jr_model.proofs.References.{kept_state}
 use Rattle.jr_model.proofs.Presence.{sound_state}
-use Rattle.jr_rule.specs.Acts.{found_object, is_its, reply, is_occupied, handle_of}
-use Rattle.jr_rule.specs.Image.{StandsAlone, SaysOfSlot, IsSlotOf}
+use Rattle.jr_steps.specs.Acts.{found_object, is_its, reply, is_occupied, handle_of}
+use Rattle.jr_steps.specs.Says.{StandsAlone, StandsAs, SaysOfSlot}
+use Rattle.jr_rule.specs.Image.{IsSlotOf}
 use Rattle.jr_rule.specs.Slots.{IsReference}
 use Rattle.jr_model.proofs.InRoom.{in_room}
 
@@ -66,14 +66,14 @@ only refs next g h r at y there = go (same_handle g h) refl
     go false e = absurd (there (y.alone h at (λ z. handle_false g h e (sym z))))
 
 module _ (last : ℕ) (refs : Handle → Found) (i next : ℕ) where
-  reply_is : (h : Handle) → h.index ≡ i → h.owner ≡ 0 → (p : SlotParts) → SaysOfSlot last refs i next p → reply h p ≡ refs h
+  reply_is : (h : Handle) → h.index ≡ i → h.owner ≡ 0 → (p : SlotParts) → StandsAs last refs i next p → reply h p ≡ refs h
   reply_is h at owner (slot.Free n) y = sym (y.0 h at)
   reply_is h at owner (slot.Retired n) y = sym (y.0 h at)
   reply_is h at owner (slot.Global n o) y = its refs next h Global n i (Object o) at owner y
   reply_is h at owner (slot.Weak n o) y = its refs next h Weak n i (found_object o) at owner y
 
   -- a handle that stands is the slot's reference
-  pub reference_is : (h : Handle) (o : Option ℕ) → h.index ≡ i → refs h ≡ found_object o → (p : SlotParts) → SaysOfSlot last refs i next p → IsReference h.kind h.serial o p
+  pub reference_is : (h : Handle) (o : Option ℕ) → h.index ≡ i → refs h ≡ found_object o → (p : SlotParts) → StandsAs last refs i next p → IsReference h.kind h.serial o p
   reference_is h o at stands (slot.Free n) y = absurd (found_there o (sym stands ∙ y.0 h at))
   reference_is h o at stands (slot.Retired n) y = absurd (found_there o (sym stands ∙ y.0 h at))
   reference_is h o at stands (slot.Global n r) y =
@@ -84,14 +84,14 @@ module _ (last : ℕ) (refs : Handle → Found) (i next : ℕ) where
       (sym (ap (λ (g : Handle). g.kind) e), sym (ap (λ (g : Handle). g.serial) e), found_same o r (sym stands ∙ (ap refs (sym e) ∙ y.found)))
 
 -- the slot's reference, as its word's parts say it
-pub stands_in : (last : ℕ) (refs : Handle → Found) (i next : ℕ) (kind : RefKind) (n : ℕ) (o : Option ℕ) (p : SlotParts) → IsReference kind n o p → SaysOfSlot last refs i next p → StandsAlone refs next (handle_of kind n i) (found_object o)
+pub stands_in : (last : ℕ) (refs : Handle → Found) (i next : ℕ) (kind : RefKind) (n : ℕ) (o : Option ℕ) (p : SlotParts) → IsReference kind n o p → StandsAs last refs i next p → StandsAlone refs next (handle_of kind n i) (found_object o)
 stands_in last refs i next kind n o (slot.Free m) is y = absurd is
 stands_in last refs i next kind n o (slot.Retired m) is y = absurd is
 stands_in last refs i next kind n o (slot.Global m r) is y = subst (λ (z : RefKind × ℕ × Option ℕ). StandsAlone refs next (handle_of z.0 z.1 i) (found_object z.2)) (λ j. (sym is.0 j, sym is.1 j, sym is.2 j)) y
 stands_in last refs i next kind n o (slot.Weak m r) is y = subst (λ (z : RefKind × ℕ × Option ℕ). StandsAlone refs next (handle_of z.0 z.1 i) (found_object z.2)) (λ j. (sym is.0 j, sym is.1 j, sym is.2 j)) y
 
 -- and back
-pub says_in : (last : ℕ) (refs : Handle → Found) (i next : ℕ) (kind : RefKind) (n : ℕ) (o : Option ℕ) (p : SlotParts) → IsReference kind n o p → StandsAlone refs next (handle_of kind n i) (found_object o) → SaysOfSlot last refs i next p
+pub says_in : (last : ℕ) (refs : Handle → Found) (i next : ℕ) (kind : RefKind) (n : ℕ) (o : Option ℕ) (p : SlotParts) → IsReference kind n o p → StandsAlone refs next (handle_of kind n i) (found_object o) → StandsAs last refs i next p
 says_in last refs i next kind n o (slot.Free m) is y = absurd is
 says_in last refs i next kind n o (slot.Retired m) is y = absurd is
 says_in last refs i next kind n o (slot.Global m r) is y = subst (λ (z : RefKind × ℕ × Option ℕ). StandsAlone refs next (handle_of z.0 z.1 i) (found_object z.2)) (λ j. (is.0 j, is.1 j, is.2 j)) y
@@ -112,32 +112,32 @@ one_reference kind n o (slot.Weak a x) (slot.Retired b) i j = absurd j
 
 -- what a look finds
 pub looks : (last : ℕ) (refs : Handle → Found) (given : Handle → Bool) (i w : ℕ) (x : IsSlotOf last refs given i w) (h : Handle) → h.index ≡ i → h.owner ≡ 0 → reply h x.parts ≡ refs h
-looks last refs given i w x h at owner = reply_is last refs i x.next h at owner x.parts x.says
+looks last refs given i w x h at owner = reply_is last refs i x.says.next h at owner x.parts x.says.stands
 
 module _ (last : ℕ) (s : State) (i w : ℕ) (x : IsSlotOf last s.refs s.given i w) where
   -- whether the index is occupied
   pub probes : IsTrue (is_occupied x.parts) ↔ IsOccupied last s i
-  probes = go x.parts x.says
+  probes = go x.parts x.says.stands
     where
-      go : (p : SlotParts) → SaysOfSlot last s.refs i x.next p → IsTrue (is_occupied p) ↔ IsOccupied last s i
+      go : (p : SlotParts) → StandsAs last s.refs i x.says.next p → IsTrue (is_occupied p) ↔ IsOccupied last s i
       go (slot.Free n) y = (
         λ e. absurd cc,
         λ o. absurd (⊎_elim
             (λ (q : (h : Handle) × (h.index ≡ i) × (s.refs h ≢ Stale)). q.2 (y.0 q.0 q.1))
             (λ (q : (serial : ℕ) → serial ≤ last → (h : Handle) × (h.index ≡ i) × (h.serial ≡ serial) × (s.given h ≡ true)).
-            let z = q x.next y.2 in
-            let not = x.serials.above z.0 z.1 (let e = z.2 in omega arith) in
+            let z = q x.says.next y.2 in
+            let not = x.says.serials.above z.0 z.1 (let e = z.2 in omega arith) in
             let yes' = z.3 in cc)
             o),
       )
-      go (slot.Retired n) y = (λ e. inr (λ serial l. x.serials.below serial (let far = y.2 in omega arith)), λ o. refl)
+      go (slot.Retired n) y = (λ e. inr (λ serial l. x.says.serials.below serial (let far = y.2 in omega arith)), λ o. refl)
       go (slot.Global n o) y = (λ e. inl (handle_of Global n i, refl, λ z. let f = y.found in cc), λ q. refl)
       go (slot.Weak n o) y = (λ e. inl (handle_of Weak n i, refl, λ z. found_there o (sym y.found ∙ z)), λ q. refl)
 
 module _ (c : Config) (last : ℕ) (log : History) (legal : IsLegal c last log) (few_serials : last < 2 ^ 32) (few_objects : c.objects < 2 ^ 16) where
   -- the parts of a slot are those that a slot can have
   pub slot_fits : (i w : ℕ) (x : IsSlotOf last (state log).refs (state log).given i w) → IsSlot x.parts
-  slot_fits i w x = go x.parts x.says
+  slot_fits i w x = go x.parts x.says.stands
     where
       standing : (h : Handle) → (state log).refs h ≢ Stale → h.serial < 2 ^ 32
       standing h ne = let kept = kept_state c last log legal in let row = kept.in_row h (kept.was_given h ne) in let fits = row.3 in omega arith
@@ -145,7 +145,7 @@ module _ (c : Config) (last : ℕ) (log : History) (legal : IsLegal c last log) 
       object : (h : Handle) (o : ℕ) → (state log).refs h ≡ Object o → (0 < o) × (o < 2 ^ 16)
       object h o e = let r = (in_room c last log legal).objects o ((sound_state c last log legal).named h o e) in (omega arith, omega arith)
 
-      go : (p : SlotParts) → SaysOfSlot last (state log).refs i x.next p → IsSlot p
+      go : (p : SlotParts) → StandsAs last (state log).refs i x.says.next p → IsSlot p
       go (slot.Free n) y = let a = y.1 in let b = y.2 in record { serial = omega arith; object = omega arith; names = tt }
       go (slot.Retired n) y = let a = y.1 in record { serial = omega arith; object = omega arith; names = tt }
       go (slot.Global n o) y =
@@ -160,10 +160,10 @@ module _ (c : Config) (last : ℕ) (log : History) (legal : IsLegal c last log) 
   pub read_parts : (i w : ℕ) (x : IsSlotOf last (state log).refs (state log).given i w) (p : SlotParts) → IsSlot p → w ≡ slot_word p → x.parts ≡ p
   read_parts i w x p fits e = slot_word-injective x.parts p (slot_fits i w x) fits (sym x.word ∙ e)
 
+-- the next serial of a free slot is one that a slot has
+pub free_fits : (i serial : ℕ) (k : Known) → IsFreeSlot i serial k → serial ≤ k.last
+free_fits i serial k free = let same = free.stands.1 in let below = free.stands.2 in omega arith
+
 -- what a slot's word shows
 pub shows_slot : (i w : ℕ) (s : State) (k : Known) (x : IsSlotOf k.last s.refs s.given i w) (p : SlotParts) → x.parts ≡ p → s ≡ state_of k → ShowsSlot i p k
-shows_slot i w s k x p is same = record {
-  next = x.next;
-  serials = subst (λ (z : State). AreGivenBelow z.given i x.next) same x.serials;
-  says = subst (λ (z : State). SaysOfSlot k.last z.refs i x.next p) same (subst (SaysOfSlot k.last s.refs i x.next) is x.says);
-}
+shows_slot i w s k x p is same = subst (λ (z : State). SaysOfSlot k.last z.refs z.given i p) same (subst (SaysOfSlot k.last s.refs s.given i) is x.says)

@@ -4,10 +4,11 @@ use mathlib.Core.Logic.{dite}
 use native.Mathlib.Decide.{ℕ_discrete}
 use Rattle.jr_word.specs.declared.config.Config.{Config}
 use Rattle.jr_model.specs.State.{Contents}
-use Rattle.jr_rule.specs.declared.known.Grasp.{Grasp}
-use Rattle.jr_rule.specs.declared.known.Move.{Move}
-use Rattle.jr_rule.specs.Grasping.{empty, words_at, header_in, hold}
-use Rattle.jr_rule.specs.Image.{header_at, element_at, Owner, of_object, of_range, Stands, spot, IsSpace}
+use Rattle.jr_steps.specs.declared.known.Grasp.{Grasp}
+use Rattle.jr_steps.specs.declared.known.Move.{Move}
+use Rattle.jr_steps.specs.Grasping.{empty, words_at, header_in, hold}
+use Rattle.jr_steps.specs.Says.{spot}
+use Rattle.jr_rule.specs.Image.{header_at, element_at, Owner, of_object, of_range, Stands, IsSpace}
 
 -- the words before the headers
 abbrev pub before_headers : Config → ℕ

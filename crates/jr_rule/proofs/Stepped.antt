@@ -8,15 +8,15 @@ use Rattle.jr_model.specs.declared.event.Act.TheVariants.{LocalPut, LocalDrop}
 use Rattle.jr_model.specs.History.{History, state, IsLegal, role_of, role_from}
 use Rattle.jr_model.proofs.Agreement.{spares_places, places_did, all_spared}
 use Rattle.jr_model.proofs.Stays.{role_did}
-use Rattle.jr_rule.specs.declared.known.Known.{Known}
+use Rattle.jr_steps.specs.declared.known.Known.{Known}
 use Rattle.jr_rule.specs.declared.pass.Pass.{Pass}
 use Rattle.jr_rule.specs.declared.row.Row.{Row}
-use Rattle.jr_rule.specs.Grasping.{InSpace}
-use Rattle.jr_rule.specs.Knowing.{IsOf, view, fresh_from, HasNoLocals, Goes, Took, TookWith}
+use Rattle.jr_steps.specs.Grasping.{InSpace}
+use Rattle.jr_steps.specs.Knowing.{IsOf, view, fresh_from, HasNoLocals, Goes, Took, TookWith}
 use Rattle.jr_rule.specs.Rule.{view as seats, Sat, acting, others_of, Tells}
 use Rattle.jr_rule.specs.Holding.{IsHeld, IsSeated}
 use Rattle.jr_rule.specs.Passes.{known_of, standing_of, Knows, IsAt}
-use Rattle.jr_rule.proofs.Goes.{goes_did}
+use Rattle.jr_steps.proofs.Goes.{goes_did}
 
 -- who is fresh afterwards was so, and has stored no local
 fresh_spares : (f : Bool) (acts : List Act) → fresh_from f acts ≡ true → (f ≡ true) × AllByRecursion (λ a. spares_places a ≡ true) acts

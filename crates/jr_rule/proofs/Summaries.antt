@@ -21,8 +21,9 @@ use Rattle.jr_model.specs.History.{History, state, IsLegal}
 use Rattle.jr_model.proofs.Counts.{bit, count_all_false, count_single}
 use Rattle.jr_model.proofs.Lengths.{lengths_fit}
 use Rattle.jr_model.proofs.References.{kept_state}
-use Rattle.jr_rule.specs.Acts.{found_object, handle_of}
-use Rattle.jr_rule.specs.Image.{slot_at, header_at, StandsAlone, SaysOfSlot, IsSlotOf, IsHeaderOf}
+use Rattle.jr_steps.specs.Acts.{found_object, handle_of}
+use Rattle.jr_steps.specs.Says.{StandsAlone, StandsAs}
+use Rattle.jr_rule.specs.Image.{slot_at, header_at, IsSlotOf, IsHeaderOf}
 use Rattle.jr_rule.specs.Shown.{IsSmall, IsHistoryOf, HasHistory}
 use Rattle.jr_rule.specs.Slots.{is_of_kind}
 use Rattle.jr_model.proofs.InRoom.{in_room}
@@ -67,15 +68,15 @@ module _ (c : Config) (last : ℕ) (log : History) (legal : IsLegal c last log) 
 
   -- the references of a kind at an index are those that its slot's word says
   at_slot : (w : ℕ) (kind : RefKind) (x : IsSlotOf last refs (state log).given i w) → count_below (last + 1) (there refs kind i) ≡ bit (is_of_kind kind x.parts)
-  at_slot w kind x = go kind x.parts x.says
+  at_slot w kind x = go kind x.parts x.says.stands
     where
-      go : (k : RefKind) (p : SlotParts) → SaysOfSlot last refs i x.next p → count_below (last + 1) (there refs k i) ≡ bit (is_of_kind k p)
-      go Local (slot.Global n o) y = none Local Global n x.next (Object o) (λ e. cc) y
-      go Local (slot.Weak n o) y = none Local Weak n x.next (found_object o) (λ e. cc) y
-      go Global (slot.Global n o) y = one Global n x.next (Object o) (λ e. cc) y
-      go Global (slot.Weak n o) y = none Global Weak n x.next (found_object o) (λ e. cc) y
-      go Weak (slot.Global n o) y = none Weak Global n x.next (Object o) (λ e. cc) y
-      go Weak (slot.Weak n o) y = one Weak n x.next (found_object o) (found_there o) y
+      go : (k : RefKind) (p : SlotParts) → StandsAs last refs i x.says.next p → count_below (last + 1) (there refs k i) ≡ bit (is_of_kind k p)
+      go Local (slot.Global n o) y = none Local Global n x.says.next (Object o) (λ e. cc) y
+      go Local (slot.Weak n o) y = none Local Weak n x.says.next (found_object o) (λ e. cc) y
+      go Global (slot.Global n o) y = one Global n x.says.next (Object o) (λ e. cc) y
+      go Global (slot.Weak n o) y = none Global Weak n x.says.next (found_object o) (λ e. cc) y
+      go Weak (slot.Global n o) y = none Weak Global n x.says.next (Object o) (λ e. cc) y
+      go Weak (slot.Weak n o) y = one Weak n x.says.next (found_object o) (found_there o) y
       go Local (slot.Free n) y = count_all_false (last + 1) (there refs Local i) (λ m l. ap is_there (y.0 (handle_of Local m i) refl))
       go Local (slot.Retired n) y = count_all_false (last + 1) (there refs Local i) (λ m l. ap is_there (y.0 (handle_of Local m i) refl))
       go Global (slot.Free n) y = count_all_false (last + 1) (there refs Global i) (λ m l. ap is_there (y.0 (handle_of Global m i) refl))

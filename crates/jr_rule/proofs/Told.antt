@@ -4,7 +4,7 @@ use Rattle.jr_word.specs.declared.gate.GateParts.{GateParts}
 use Rattle.jr_word.specs.declared.header.HeaderParts.{HeaderParts}
 use Rattle.jr_word.specs.Header.{header_word, IsHeader}
 use Rattle.jr_word.specs.Top.{top_word}
-use Rattle.jr_rule.specs.declared.naming.TopNaming.{TopNaming}
+use Rattle.jr_steps.specs.declared.naming.TopNaming.{TopNaming}
 use Rattle.jr_word.specs.declared.handle.RefKind.{RefKind}
 use Rattle.jr_word.specs.declared.slot.SlotParts.{SlotParts}
 use Rattle.jr_word.specs.declared.slot.SlotParts.TheVariants as slot
@@ -14,12 +14,12 @@ use Rattle.jr_model.specs.declared.event.Act.{Act}
 use Rattle.jr_model.specs.declared.event.Act.TheVariants.{Shut, ShutBusy, Reopen, Meet, Read, Write}
 use Rattle.jr_model.specs.State.{Handle}
 use Rattle.jr_model.specs.History.{role_of}
-use Rattle.jr_rule.specs.declared.known.Known.{Known}
-use Rattle.jr_rule.specs.declared.naming.GateNaming.{GateNaming}
-use Rattle.jr_rule.specs.declared.naming.SlotNaming.{SlotNaming}
-use Rattle.jr_rule.specs.Acts.{entered_as, leaving, all_counted, gate_named, slot_named, claiming, freeing, putting, publishing, top_named, reserving}
-use Rattle.jr_rule.specs.Grasping.{header_in, with_header}
-use Rattle.jr_rule.specs.Knowing.{view, keeps, lets_go, words_for, published, ShowsHeader, ShowsUsed, ShowsRange, ShowsWord, HasObject, IsFreeSlot, ShowsGate, ShowsSlot, LostClaim}
+use Rattle.jr_steps.specs.declared.known.Known.{Known}
+use Rattle.jr_steps.specs.declared.naming.GateNaming.{GateNaming}
+use Rattle.jr_steps.specs.declared.naming.SlotNaming.{SlotNaming}
+use Rattle.jr_steps.specs.Acts.{entered_as, leaving, all_counted, gate_named, slot_named, claiming, freeing, putting, publishing, top_named, reserving}
+use Rattle.jr_steps.specs.Grasping.{header_in, with_header}
+use Rattle.jr_steps.specs.Knowing.{view, keeps, lets_go, words_for, published, ShowsHeader, ShowsUsed, ShowsRange, ShowsWord, HasObject, IsFreeSlot, ShowsGate, ShowsSlot, LostClaim}
 
 -- what is told of the number found, where its word has these parts
 abbrev pub Told : Type 1

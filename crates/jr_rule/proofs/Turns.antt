@@ -8,7 +8,7 @@ use Rattle.jr_model.specs.Steps.{Needs, after}
 use Rattle.jr_model.specs.History.{History, by, state, IsLegal, role_from}
 use Rattle.jr_model.proofs.Histories.{state_append, legal_push, state_push, mine_all}
 use Rattle.jr_model.proofs.Stays.{role_is_own}
-use Rattle.jr_rule.specs.declared.known.Grasp.{Grasp}
+use Rattle.jr_steps.specs.declared.known.Grasp.{Grasp}
 use Rattle.jr_rule.specs.Image.{IsImage}
 
 -- the history with these acts of thread t at its end

@@ -4,9 +4,10 @@ use Rattle.jr_word.specs.declared.config.Config.{Config}
 use Rattle.jr_word.specs.Local.{local_word}
 use Rattle.jr_model.specs.declared.event.Role.{Role}
 use Rattle.jr_model.proofs.Presence.{sound_state}
-use Rattle.jr_rule.specs.declared.known.Known.{Known}
-use Rattle.jr_rule.specs.Knowing.{Standing, HasNoLocals, state_of}
-use Rattle.jr_rule.specs.Image.{gate_at, top_at, slot_at, local_at, header_at, element_at, local_parts}
+use Rattle.jr_steps.specs.declared.known.Known.{Known}
+use Rattle.jr_steps.specs.Knowing.{Standing, HasNoLocals, state_of}
+use Rattle.jr_steps.specs.Says.{local_parts}
+use Rattle.jr_rule.specs.Image.{gate_at, top_at, slot_at, local_at, header_at, element_at}
 use Rattle.jr_rule.specs.Plain.{standing, Shows, IsUnused}
 use Rattle.jr_model.proofs.InRoom.{in_room}
 use Rattle.jr_rule.proofs.Images.{local_below}

@@ -7,8 +7,9 @@ use Rattle.jr_word.specs.Config.{row_words}
 use Rattle.jr_model.specs.declared.event.Role.TheVariants.{Outside}
 use Rattle.jr_model.specs.State.{opening}
 use Rattle.jr_model.proofs.Counts.{count_all_false}
-use Rattle.jr_rule.specs.Image.{local_at, is_inside, unowned, IsImage}
-use Rattle.jr_rule.specs.Grasping.{empty}
+use Rattle.jr_steps.specs.Says.{is_inside}
+use Rattle.jr_rule.specs.Image.{local_at, unowned, IsImage}
+use Rattle.jr_steps.specs.Grasping.{empty}
 use Rattle.jr_rule.proofs.Grasped.{grasp_in_space}
 use Rattle.jr_rule.proofs.Images.{image_same}
 use Rattle.jr_rule.proofs.Spaces.{hold_same}
@@ -33,16 +34,20 @@ module _ (config : Config) (last : ℕ) (words : List ℕ) (none : (j : ℕ) →
     gate = record {
       parts = record { count = 0; shut = false };
       word = none 0;
-      count = sym (count_all_false config.threads (λ t. is_inside Outside) (λ t l. refl));
-      shut = (λ e. absurd cc, λ u. absurd (let e = u.1 in cc));
+      says = record {
+        count = sym (count_all_false config.threads (λ t. is_inside Outside) (λ t l. refl));
+        shut = (λ e. absurd cc, λ u. absurd (let e = u.1 in cc));
+      };
     };
     top = none 1;
     slot = λ i l. record {
       parts = slot.Free 0;
       word = none (2 + i);
-      next = 0;
-      serials = record { below = λ n l'. absurd (omega arith); above = λ h at l'. refl };
-      says = (λ h at. refl, refl, omega arith);
+      says = record {
+        next = 0;
+        serials = record { below = λ n l'. absurd (omega arith); above = λ h at l'. refl };
+        stands = (λ h at. refl, refl, omega arith);
+      };
     };
     local = λ t p l m. none (local_at config t p);
     header = λ o l m. none _;

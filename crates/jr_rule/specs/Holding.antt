@@ -2,8 +2,8 @@
 use Rattle.std.specs.Prelude.{◌≡◌, ◌<◌, ℕ, Bool, true, [], ◌∷◌}
 use Rattle.jr_model.specs.declared.event.Role.{Role}
 use Rattle.jr_model.specs.History.{IsLegal, role_of}
-use Rattle.jr_rule.specs.Grasping.{InSpace}
-use Rattle.jr_rule.specs.Knowing.{view, HasNoLocals}
+use Rattle.jr_steps.specs.Grasping.{InSpace}
+use Rattle.jr_steps.specs.Knowing.{view, HasNoLocals}
 use Rattle.jr_rule.specs.Rule.{Sat, acting, others_of, IsAlone, IsSized, view as rule_view}
 
 -- the pass sits alone, and its thread, role and freshness are those of what it knows

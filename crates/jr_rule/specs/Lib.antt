@@ -1,8 +1,4 @@
-pub mod Acts
-pub mod Grasping
 pub mod Image
-pub mod Knowing
-pub mod Collecting
 pub mod Slots
 pub mod Shown
 pub mod Plain

@@ -3,10 +3,10 @@ use Rattle.std.specs.Prelude.{◌≡◌, true, Some}
 use Rattle.jr_rule.specs.declared.row.Row.{Row}
 use mathlib.Core.Logic.{∥∥₁_map}
 use mathlib.Core.Path.{sym, refl, subst, ◌∙◌}
-use Rattle.jr_rule.specs.declared.known.Known.{Known}
+use Rattle.jr_steps.specs.declared.known.Known.{Known}
 use Rattle.jr_rule.specs.declared.pass.Pass.{Pass}
-use Rattle.jr_rule.specs.Grasping.{InSpace}
-use Rattle.jr_rule.specs.Knowing.{anything, HasNoLocals, MayKnow}
+use Rattle.jr_steps.specs.Grasping.{InSpace}
+use Rattle.jr_steps.specs.Knowing.{anything, HasNoLocals, MayKnow}
 use Rattle.jr_rule.specs.Passes.{known_of, standing_of, Knows, IsAt}
 
 -- a pass knows something

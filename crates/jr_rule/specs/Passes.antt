@@ -8,11 +8,11 @@ use Rattle.jr_model.specs.declared.event.Act.TheVariants.{Meet}
 use Rattle.jr_model.specs.declared.summary.Summary.{Summary}
 use Rattle.jr_model.specs.State.{not_outside, summary}
 use Rattle.jr_model.specs.History.{History, state, mine, IsLegal}
-use Rattle.jr_rule.specs.declared.known.Known.{Known}
+use Rattle.jr_steps.specs.declared.known.Known.{Known}
 use Rattle.jr_rule.specs.declared.pass.Pass.{Pass}
 use Rattle.jr_rule.specs.declared.row.Row.{Row}
-use Rattle.jr_rule.specs.Knowing.{Standing, IsOf, Goes, state_of}
-use Rattle.jr_rule.specs.Grasping.{empty}
+use Rattle.jr_steps.specs.Knowing.{Standing, IsOf, Goes, state_of}
+use Rattle.jr_steps.specs.Grasping.{empty}
 use Rattle.jr_rule.specs.Rule.{known, acting}
 
 -- what a pass knows: its room and thread, and what it has seen

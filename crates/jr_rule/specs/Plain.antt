@@ -2,10 +2,10 @@
 use Rattle.std.specs.Prelude.{◌≡◌, ℕ, ◌<◌, Bool, None, List, [], slice_index}
 use Rattle.jr_word.specs.declared.config.Config.{Config}
 use Rattle.jr_model.specs.declared.event.Role.{Role}
-use Rattle.jr_rule.specs.declared.known.Known.{Known}
-use Rattle.jr_rule.specs.declared.known.Grasp.{Grasp}
-use Rattle.jr_rule.specs.Grasping.{InSpace, empty, hold}
-use Rattle.jr_rule.specs.Knowing.{Standing, IsOf, HasNoLocals, state_of}
+use Rattle.jr_steps.specs.declared.known.Known.{Known}
+use Rattle.jr_steps.specs.declared.known.Grasp.{Grasp}
+use Rattle.jr_steps.specs.Grasping.{InSpace, empty, hold}
+use Rattle.jr_steps.specs.Knowing.{Standing, IsOf, HasNoLocals, state_of}
 use Rattle.jr_rule.specs.Image.{local_at, IsImage}
 
 -- the one thread of the row: thread 0

@@ -8,7 +8,7 @@ use Rattle.jr_rule.specs.declared.closing.Left.{Left}
 use Rattle.jr_rule.specs.declared.closing_all.AllLeft.{AllLeft}
 use Rattle.jr_rule.specs.declared.pass.Pass.{Pass}
 use Rattle.jr_rule.specs.declared.room.Room.{Room}
-use Rattle.jr_rule.specs.Knowing.{anything, keeps, state_of, Took}
+use Rattle.jr_steps.specs.Knowing.{anything, keeps, state_of, Took}
 use Rattle.jr_rule.specs.Passes.{known_of, standing_of, Knows, IsAt, AreOpened}
 
 -- THE PASS IS ONE OF THE ROOM'S OWN

@@ -8,13 +8,13 @@ use Rattle.jr_word.specs.declared.config.Config.{Config}
 use Rattle.jr_word.specs.Config.{in_limits}
 use Rattle.jr_model.specs.declared.event.Act.{Act}
 use Rattle.jr_model.specs.History.{History, by, state, IsLegal, mine}
-use Rattle.jr_rule.specs.declared.known.Known.{Known}
-use Rattle.jr_rule.specs.declared.known.View.{View}
+use Rattle.jr_steps.specs.declared.known.Known.{Known}
+use Rattle.jr_rule.specs.declared.rule.View.{View}
 use Rattle.jr_rule.specs.declared.rule.Sizes.{Sizes}
-use Rattle.jr_rule.specs.declared.known.Grasp.{Grasp}
-use Rattle.jr_rule.specs.Grasping.{InSpace, empty, hold}
+use Rattle.jr_steps.specs.declared.known.Grasp.{Grasp}
+use Rattle.jr_steps.specs.Grasping.{InSpace, empty, hold}
 use Rattle.jr_rule.specs.Image.{IsImage}
-use Rattle.jr_rule.specs.Knowing.{Goes}
+use Rattle.jr_steps.specs.Knowing.{Goes}
 use Rattle.jr_rule.specs.Shown.{IsSmall}
 
 abbrev pub sizes : Config → ℕ → Sizes

@@ -2,7 +2,7 @@
 use Rattle.std.specs.Prelude.{ℕ, ◌^◌, ◌<◌, ◌≤◌, List}
 use Rattle.jr_word.specs.declared.config.Config.{Config}
 use Rattle.jr_model.specs.History.{History, state, IsLegal}
-use Rattle.jr_rule.specs.declared.known.Grasp.{Grasp}
+use Rattle.jr_steps.specs.declared.known.Grasp.{Grasp}
 use Rattle.jr_rule.specs.Image.{IsImage}
 
 -- the sizes are at most those of the largest room

@@ -2,7 +2,7 @@
 ghost use Rattle.std.specs.Prelude.{◌≡◌, length, IfOk, IfErr};
 ghost use Rattle.std.specs.Slots.{slots_items, slots_len, IsFull};
 
-use crate::naming::GateNaming;
+use jr_steps::GateNaming;
 use crate::parts::all_counted;
 use crate::pass::Pass;
 use crate::room::Room;

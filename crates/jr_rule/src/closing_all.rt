@@ -1,12 +1,12 @@
 //! A room is closed together with several of its passes.
 ghost use Rattle.std.specs.Prelude.{◌≡◌, ◌++◌, [], length, map, IfOk, IfErr, All};
 ghost use Rattle.jr_model.specs.State.{summary as summary_of};
-ghost use Rattle.jr_rule.specs.Knowing.{state_of};
+ghost use Rattle.jr_steps.specs.Knowing.{state_of};
 ghost use Rattle.std.specs.Slots.{slots_items, slots_len, IsFull};
 
 use crate::closing::{ClosedWords, Left};
-use crate::known::View;
-use crate::naming::GateNaming;
+use crate::rule::View;
+use jr_steps::GateNaming;
 use crate::parts::all_counted;
 use crate::pass::Pass;
 use crate::room::Room;

@@ -1,7 +1,7 @@
 //! A collection by one pass of a room, and what another pass finds after it.
 ghost use Rattle.std.specs.Prelude.{◌≡◌, ◌<◌, ℕ, IfOk, None};
 ghost use Rattle.jr_model.specs.declared.event.Role.TheVariants.{Collecting};
-ghost use Rattle.jr_rule.specs.Knowing.{anything, keeps, state_of, Saw};
+ghost use Rattle.jr_steps.specs.Knowing.{anything, keeps, state_of, Saw};
 ghost use Rattle.jr_rule.specs.Passes.{IsOpened};
 
 use crate::tests::{PLAIN, last_of, refer};

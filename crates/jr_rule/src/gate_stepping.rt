@@ -3,10 +3,10 @@ ghost use Rattle.std.specs.Prelude.{◌≡◌, ◌⊎◌, [], ◌∷◌};
 ghost use Rattle.jr_model.specs.declared.event.Role.TheVariants.{Outside, Within, Knocking, Collecting};
 ghost use Rattle.jr_model.specs.declared.event.Act.TheVariants.{Reopen, Meet};
 ghost use Rattle.jr_model.specs.History.{HasMet};
-ghost use Rattle.jr_rule.specs.Acts.{entered_as, leaving, barring, gate_named, GateNameFits, all_counted as all_of};
-ghost use Rattle.jr_rule.specs.Knowing.{view, anything, Goes, CanReopen, ShowsBarred, ShowsGate, MayKnow, Took, keeps, lets_go};
+ghost use Rattle.jr_steps.specs.Acts.{entered_as, leaving, barring, gate_named, GateNameFits, all_counted as all_of};
+ghost use Rattle.jr_steps.specs.Knowing.{view, anything, Goes, CanReopen, ShowsBarred, ShowsGate, MayKnow, Took, keeps, lets_go};
 
-use crate::naming::GateNaming;
+use jr_steps::GateNaming;
 use crate::parts::{GATE, all_counted, is_shut, role_of_entry};
 use crate::pass::Pass;
 use crate::row::Row;

@@ -4,11 +4,11 @@ ghost use Rattle.jr_word.specs.declared.kind.Kind.TheVariants.{Text};
 ghost use Rattle.jr_word.specs.Header.{IsHeader};
 ghost use Rattle.jr_model.specs.declared.event.Role.TheVariants.{Within};
 ghost use Rattle.jr_model.specs.declared.event.Act.TheVariants.{Read, Write};
-ghost use Rattle.jr_rule.specs.Acts.{publishing, top_named, reserving};
+ghost use Rattle.jr_steps.specs.Acts.{publishing, top_named, reserving};
 ghost use Rattle.jr_rule.specs.Image.{element_at};
-ghost use Rattle.jr_rule.specs.Knowing.{anything, keeps, KnowsHeader, HasWord, IsWordNow, IsFilled, words_for, ShowsHeader, ShowsPublished, ShowsUsed, WasUsed, ShowsRange, ShowsWord, MayKnow, Took, TookWith};
+ghost use Rattle.jr_steps.specs.Knowing.{anything, keeps, KnowsHeader, HasWord, IsWordNow, IsFilled, words_for, ShowsHeader, ShowsPublished, ShowsUsed, WasUsed, ShowsRange, ShowsWord, MayKnow, Took, TookWith};
 
-use crate::naming::TopNaming;
+use jr_steps::TopNaming;
 use crate::parts::{TOP, element_at, header_at, top_word};
 use crate::pass::Pass;
 use crate::row::Row;

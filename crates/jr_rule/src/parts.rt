@@ -6,8 +6,9 @@ ghost use Rattle.jr_word.specs.Gate.{gate_word, IsGate};
 ghost use Rattle.jr_word.specs.Top.{top_word as word_of_top};
 ghost use Rattle.jr_model.specs.declared.event.Role.TheVariants.{Outside};
 ghost use Rattle.jr_model.specs.History.{role_after};
-ghost use Rattle.jr_rule.specs.Acts.{entered_as, all_counted as all_of};
-ghost use Rattle.jr_rule.specs.Image.{header_at as place_of_header, element_at as place_of_element, local_parts as parts_of_local};
+ghost use Rattle.jr_steps.specs.Acts.{entered_as, all_counted as all_of};
+ghost use Rattle.jr_steps.specs.Says.{local_parts as parts_of_local};
+ghost use Rattle.jr_rule.specs.Image.{header_at as place_of_header, element_at as place_of_element};
 ghost use Rattle.jr_rule.specs.Shown.{IsSmall};
 ghost use Rattle.jr_rule.specs.Slots.{CanStand, IsReference, is_of_kind, freed};
 

@@ -1,7 +1,7 @@
 //! A thread's right to step.
 ghost use Rattle.jr_rule.specs.Holding.{IsHeld};
 
-use crate::known::View;
+use crate::rule::View;
 use atomic_table::Seat;
 use jr_model::Role;
 

@@ -1,9 +1,9 @@
 //! The step of a pass at its local words: one operation on one word.
 ghost use Rattle.std.specs.Prelude.{◌≡◌, ◌<◌, [], ◌∷◌};
 ghost use Rattle.jr_model.specs.declared.event.Role.TheVariants.{Within};
-ghost use Rattle.jr_rule.specs.Acts.{putting};
+ghost use Rattle.jr_steps.specs.Acts.{putting};
 ghost use Rattle.jr_rule.specs.Image.{local_at};
-ghost use Rattle.jr_rule.specs.Knowing.{HasOptional, MayKnow, Took, keeps};
+ghost use Rattle.jr_steps.specs.Knowing.{HasOptional, MayKnow, Took, keeps};
 
 use crate::parts::{SLOTS, local_parts};
 use crate::pass::Pass;

@@ -7,16 +7,16 @@ ghost use Rattle.jr_word.specs.Slot.{slot_word, IsSlot};
 ghost use Rattle.jr_word.specs.Top.{top_word};
 ghost use Rattle.jr_model.specs.declared.event.Role.TheVariants.{Outside};
 ghost use Rattle.jr_rule.specs.Image.{gate_at, top_at, slot_at};
-ghost use Rattle.jr_rule.specs.Knowing.{anything, MayKnow, HasNoLocals};
-ghost use Rattle.jr_rule.specs.declared.known.Known.{Known};
+ghost use Rattle.jr_steps.specs.Knowing.{anything, MayKnow, HasNoLocals};
+ghost use Rattle.jr_steps.specs.declared.known.Known.{Known};
 ghost use Rattle.jr_rule.specs.Plain.{standing, Shows, IsUnused};
 
-use crate::naming::{GateNaming, SlotNaming, TopNaming};
+use jr_steps::{GateNaming, SlotNaming, TopNaming};
 use crate::parts::{
     GATE, SLOTS, TOP, all_counted, element_at, freed_slot, header_at, is_free, is_shut,
     local_parts, reference, role_of_entry, top_word,
 };
-use crate::steps::Steps;
+use jr_steps::Steps;
 use crate::summing::summary;
 use jr_model::{Role, Summary};
 use jr_word::{
@@ -49,7 +49,7 @@ pub struct PlainSteps<const LAST: u32> {
 
 impl<const LAST: u32> PlainSteps<LAST> {
     ghost use Rattle.jr_model.specs.State.{summary as summary_of};
-    ghost use Rattle.jr_rule.specs.Knowing.{HasNoLocals, state_of};
+    ghost use Rattle.jr_steps.specs.Knowing.{HasNoLocals, state_of};
     ghost use Rattle.jr_rule.specs.Plain.{unseen};
 
     /// The steps over a row of zeros: E16, E17.

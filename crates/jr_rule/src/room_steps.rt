@@ -2,13 +2,13 @@
 ghost use Rattle.std.specs.Prelude.{◌≡◌, [], ◌∷◌};
 ghost use Rattle.jr_model.specs.declared.event.Act.TheVariants.{Meet};
 ghost use Rattle.jr_model.specs.History.{HasMet};
-ghost use Rattle.jr_rule.specs.Knowing.{view, anything, Took, keeps};
+ghost use Rattle.jr_steps.specs.Knowing.{view, anything, Took, keeps};
 ghost use Rattle.jr_rule.specs.Passes.{IsAt};
 
-use crate::naming::{GateNaming, SlotNaming, TopNaming};
+use jr_steps::{GateNaming, SlotNaming, TopNaming};
 use crate::pass::Pass;
 use crate::room::Room;
-use crate::steps::Steps;
+use jr_steps::Steps;
 use jr_model::Role;
 use jr_word::{Config, GateParts, HandleParts, HeaderParts, LocalParts, RefKind, SlotParts};
 

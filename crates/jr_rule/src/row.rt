@@ -31,10 +31,10 @@ ghost use Rattle.std.specs.Prelude.{◌≡◌, ◌+◌, ◌<◌, ◌≤◌, ◌^
 ghost use prog.Atomic.{either};
 ghost use Rattle.jr_word.specs.Config.{in_limits, row_words};
 ghost use Rattle.jr_model.specs.declared.event.Role.TheVariants.{Outside};
-ghost use Rattle.jr_rule.specs.Grasping.{empty};
+ghost use Rattle.jr_steps.specs.Grasping.{empty};
 ghost use Rattle.jr_rule.specs.Rule.{IsSized, sizes, known, view, newcomers, others_of, acting, IsAlone, Owes, Tells};
 
-use crate::known::View;
+use crate::rule::View;
 use crate::pass::Pass;
 use crate::rule::{Deal, Rule, Sizes, Tell, Telling};
 use atomic_table::{Seat, Table};

@@ -1,7 +1,8 @@
 //! The rule of the row, and what its steps tell.
-use crate::known::View;
 use atomic_table::{Join, Play, Split, TableRule};
+use jr_steps::Known;
 use jr_word::Config;
+use std::collections::LinkedList;
 use std::marker::{Brand, PhantomData};
 
 /// The sizes of a row, and the last serial of its slots and local places.
@@ -11,6 +12,12 @@ pub struct Sizes {
     pub config: Config,
     /// The last serial.
     pub last: u32,
+}
+
+/// What a seat at the row stands for: one pass mostly, two while they meet, none once it is spent.
+pub struct View {
+    /// What each of its passes knows. The first one steps.
+    pub passes: LinkedList<Known>,
 }
 
 /// The rule of a row.
@@ -28,7 +35,7 @@ impl TableRule<(), View, Sizes> for Rule {
 pub trait Telling {
     ghost use Rattle.std.specs.Prelude.{ℕ, List};
     ghost use Rattle.jr_model.specs.declared.event.Act.{Act};
-    ghost use Rattle.jr_rule.specs.declared.known.Known.{Known};
+    ghost use Rattle.jr_steps.specs.declared.known.Known.{Known};
 
     ghost told: { Known → ℕ → List Act → Known → Type 0 };
 }

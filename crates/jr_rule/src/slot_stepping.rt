@@ -2,10 +2,10 @@
 ghost use Rattle.std.specs.Prelude.{◌≡◌, ◌≢◌, ◌<◌, [], ◌∷◌};
 ghost use Rattle.jr_word.specs.declared.handle.RefKind.TheVariants.{Local};
 ghost use Rattle.jr_model.specs.declared.event.Role.TheVariants.{Within};
-ghost use Rattle.jr_rule.specs.Acts.{slot_named, SlotNameFits, claiming, freeing, found_object};
-ghost use Rattle.jr_rule.specs.Knowing.{anything, HasObject, HasLooked, IsFreeSlot, ShowsSlot, LostClaim, MayKnow, Took, keeps};
+ghost use Rattle.jr_steps.specs.Acts.{slot_named, SlotNameFits, claiming, freeing, found_object};
+ghost use Rattle.jr_steps.specs.Knowing.{anything, HasObject, HasLooked, IsFreeSlot, ShowsSlot, LostClaim, MayKnow, Took, keeps};
 
-use crate::naming::SlotNaming;
+use jr_steps::SlotNaming;
 use crate::parts::{SLOTS, freed_slot, reference};
 use crate::pass::Pass;
 use crate::row::Row;

@@ -15,15 +15,15 @@ use Rattle.jr_model.proofs.Moments.{prefix_trans}
 use Rattle.jr_syntax.specs.declared.command.Command.{Command}
 use Rattle.jr_syntax.specs.declared.thread.ThreadPart.{ThreadPart}
 use Rattle.jr_syntax.specs.declared.script.Script.{Script}
-use Rattle.jr_rule.specs.declared.known.Known.{Known}
+use Rattle.jr_steps.specs.declared.known.Known.{Known}
 use Rattle.jr_rule.specs.declared.pass.Pass.{Pass}
 use Rattle.jr_rule.specs.declared.row.Row.{Row}
-use Rattle.jr_rule.specs.Grasping.{empty}
-use Rattle.jr_rule.specs.Knowing.{Standing, view, Holds}
+use Rattle.jr_steps.specs.Grasping.{empty}
+use Rattle.jr_steps.specs.Knowing.{Standing, view, Holds}
 use Rattle.jr_rule.specs.Rule.{known}
 use Rattle.jr_rule.specs.PassLaws.{still_of}
 use Rattle.jr_rule.specs.Passes.{known_of, standing_of, Knows, IsAt, IsOpened, AreOpened, numbers_below, IsSeenIn, ClosesAll}
-use Rattle.jr_rule.proofs.Goes.{goes_did}
+use Rattle.jr_steps.proofs.Goes.{goes_did}
 use Rattle.jr_scripts.specs.declared.part.Job.{Job}
 use Rattle.jr_scripts.specs.declared.part.ThreadRun.{ThreadRun}
 use Rattle.jr_scripts.specs.Performing.{Moment, moment}

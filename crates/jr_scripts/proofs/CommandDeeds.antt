@@ -9,8 +9,8 @@ use Rattle.jr_model.specs.Tests.{Parts}
 use Rattle.jr_syntax.specs.declared.name.Reference.{Reference}
 use Rattle.jr_syntax.specs.declared.command.Command.{Command}
 use Rattle.jr_syntax.specs.declared.command.Command.TheVariants as commands
-use Rattle.jr_rule.specs.declared.known.Known.{Known}
-use Rattle.jr_rule.specs.Knowing.{Standing}
+use Rattle.jr_steps.specs.declared.known.Known.{Known}
+use Rattle.jr_steps.specs.Knowing.{Standing}
 use Rattle.jr_scripts.specs.declared.reply.Reply.TheVariants as replies
 use Rattle.jr_scripts.specs.Names.{Names, referent, wanted}
 use Rattle.jr_scripts.specs.Reading.{IsReadAs}

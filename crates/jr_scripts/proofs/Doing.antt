@@ -11,8 +11,8 @@ use Rattle.jr_model.specs.State.{Handle}
 use Rattle.jr_model.specs.Frames.{Frames}
 use Rattle.jr_model.specs.Calls.{Call}
 use Rattle.jr_model.specs.Tests.{Word}
-use Rattle.jr_rule.specs.declared.known.Known.{Known}
-use Rattle.jr_rule.specs.Knowing.{Standing, IsOf}
+use Rattle.jr_steps.specs.declared.known.Known.{Known}
+use Rattle.jr_steps.specs.Knowing.{Standing, IsOf}
 use Rattle.jr_scripts.specs.Performing.{CallsWhole, moment, IsMade}
 use Rattle.jr_scripts.specs.Reading.{IsReadAs}
 use Rattle.jr_scripts.specs.Deeds.{Deed, Does, answered_by, call_by, call, call_on, call_on_both, packed, packed_if}

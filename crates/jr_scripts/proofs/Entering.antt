@@ -12,9 +12,9 @@ use Rattle.jr_model.specs.declared.event.Act.TheVariants.{Enter, Knock, Leave, W
 use Rattle.jr_model.specs.Frames.{Frames, fresh_frames, object_at}
 use Rattle.jr_model.specs.Calls.{Call, entered}
 use Rattle.jr_model.proofs.Runs.{ran_barred, ran_entered}
-use Rattle.jr_rule.specs.declared.known.Known.{Known}
-use Rattle.jr_rule.specs.Knowing.{Standing, moved, anything, keeps, lets_go, Holds, HasNoLocals, MayKnow, Took}
-use Rattle.jr_rule.proofs.Goes.{goes_did, goes_stepped}
+use Rattle.jr_steps.specs.declared.known.Known.{Known}
+use Rattle.jr_steps.specs.Knowing.{Standing, moved, anything, keeps, lets_go, Holds, HasNoLocals, MayKnow, Took}
+use Rattle.jr_steps.proofs.Goes.{goes_did, goes_stepped}
 use Rattle.jr_gate.specs.Acting.{ActedTo, IsWithdrawn}
 use Rattle.jr_scripts.specs.Table.{Table}
 use Rattle.jr_scripts.specs.Performing.{Performed, Calls, CallsWhole, MakesObject, MayLearn, IsAsBefore}

@@ -6,9 +6,9 @@ use Rattle.jr_model.specs.History.{IsLegal, Did}
 use Rattle.jr_model.specs.Frames.{Frames, object_at}
 use Rattle.jr_model.proofs.Presence.{named_is_present}
 use Rattle.jr_model.proofs.Agreement.{agree_spared, places_did, places_from, spares_places}
-use Rattle.jr_rule.specs.declared.known.Known.{Known}
-use Rattle.jr_rule.specs.Acts.{putting}
-use Rattle.jr_rule.specs.Knowing.{view, state_of, HasObject, Holds}
+use Rattle.jr_steps.specs.declared.known.Known.{Known}
+use Rattle.jr_steps.specs.Acts.{putting}
+use Rattle.jr_steps.specs.Knowing.{view, state_of, HasObject, Holds}
 use Rattle.jr_scripts.specs.Table.{IsOnly}
 
 -- the object of a local reference is present

@@ -21,9 +21,9 @@ use Rattle.jr_model.proofs.Counts.{count_none}
 use Rattle.jr_model.proofs.Moments.{sometime_last, one_act}
 use Rattle.jr_model.proofs.Windows.{window_act, window_within}
 use Rattle.jr_model.proofs.Runs.{ran_then, ran_err}
-use Rattle.jr_rule.specs.declared.known.Known.{Known}
-use Rattle.jr_rule.specs.Knowing.{Standing, IsOf, view, anything, keeps, HasOptional, MayKnow, Took, fresh_from}
-use Rattle.jr_rule.proofs.Goes.{goes_did}
+use Rattle.jr_steps.specs.declared.known.Known.{Known}
+use Rattle.jr_steps.specs.Knowing.{Standing, IsOf, view, anything, keeps, HasOptional, MayKnow, Took, fresh_from}
+use Rattle.jr_steps.proofs.Goes.{goes_did}
 use Rattle.jr_scripts.specs.Table.{Table, IsNext, IsOnly}
 use Rattle.jr_scripts.specs.Performing.{Published, moment, MakesObject, publication, bare}
 use Rattle.jr_scripts.specs.Ready.{IsReady}

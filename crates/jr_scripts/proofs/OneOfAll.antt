@@ -3,7 +3,7 @@ use Rattle.std.proofs.Common.{◌≡◌, ◌++◌, ℕ, List, [], Result, Ok, re
 use Rattle.jr_word.specs.declared.fault.Fault.{Fault}
 use Rattle.jr_model.specs.Frames.{Frames, fresh_frames}
 use Rattle.jr_syntax.specs.declared.command.Command.{Command}
-use Rattle.jr_rule.specs.declared.known.Known.{Known}
+use Rattle.jr_steps.specs.declared.known.Known.{Known}
 use Rattle.jr_rule.specs.declared.pass.Pass.{Pass}
 use Rattle.jr_rule.specs.Passes.{standing_of, Knows}
 use Rattle.jr_scripts.specs.AllRuns.{RanPass}

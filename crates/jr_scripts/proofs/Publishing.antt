@@ -7,11 +7,11 @@ use Rattle.jr_model.specs.declared.event.Role.TheVariants.{Within}
 use Rattle.jr_model.specs.declared.event.Act.TheVariants.{New}
 use Rattle.jr_model.specs.History.{Did}
 use Rattle.jr_model.proofs.Stays.{did_then, did_nothing}
-use Rattle.jr_rule.specs.declared.known.Known.{Known}
-use Rattle.jr_rule.specs.Acts.{publishing}
-use Rattle.jr_rule.specs.Grasping.{with_header}
-use Rattle.jr_rule.specs.Knowing.{Standing, IsOf, view, anything, HasObject, IsFilled, words_for, ShowsPublished, MayKnow, TookWith, Takes, keeps}
-use Rattle.jr_rule.proofs.Goes.{goes_did, present_stays}
+use Rattle.jr_steps.specs.declared.known.Known.{Known}
+use Rattle.jr_steps.specs.Acts.{publishing}
+use Rattle.jr_steps.specs.Grasping.{with_header}
+use Rattle.jr_steps.specs.Knowing.{Standing, IsOf, view, anything, HasObject, IsFilled, words_for, ShowsPublished, MayKnow, TookWith, Takes, keeps}
+use Rattle.jr_steps.proofs.Goes.{goes_did, present_stays}
 use Rattle.jr_scripts.specs.Performing.{Published, bare}
 
 module _ {S : Type 0} (stands : S → Standing) (knows : S → Known → Type 0) where

@@ -6,8 +6,8 @@ use Rattle.jr_word.specs.declared.fault.Fault.{Fault}
 use Rattle.jr_model.specs.State.{State}
 use Rattle.jr_model.specs.Frames.{Frames}
 use Rattle.jr_model.specs.Calls.{Call}
-use Rattle.jr_rule.specs.declared.known.Known.{Known}
-use Rattle.jr_rule.specs.Knowing.{Standing}
+use Rattle.jr_steps.specs.declared.known.Known.{Known}
+use Rattle.jr_steps.specs.Knowing.{Standing}
 use Rattle.jr_scripts.specs.Performing.{Performed}
 
 module _ {S : Type 0} {stands : S → Standing} {knows : S → Known → Type 0} where

@@ -18,9 +18,9 @@ use Rattle.jr_model.specs.Parts.{delete, delete_found, drop_local, looked_at}
 use Rattle.jr_model.proofs.Agreement.{spares_places}
 use Rattle.jr_model.proofs.Windows.{window_act}
 use Rattle.jr_model.proofs.Runs.{ran_done, ran_then, ran_err}
-use Rattle.jr_rule.specs.declared.known.Known.{Known}
-use Rattle.jr_rule.specs.Knowing.{Standing, IsOf, view, anything, keeps, HasOptional, Took}
-use Rattle.jr_rule.proofs.Goes.{goes_did}
+use Rattle.jr_steps.specs.declared.known.Known.{Known}
+use Rattle.jr_steps.specs.Knowing.{Standing, IsOf, view, anything, keeps, HasOptional, Took}
+use Rattle.jr_steps.proofs.Goes.{goes_did}
 use Rattle.jr_model.specs.References.{removal, local_removal}
 use Rattle.jr_scripts.specs.Table.{IsOnly}
 use Rattle.jr_scripts.specs.Reading.{local_answer}

@@ -16,9 +16,9 @@ use Rattle.jr_model.specs.References.{resolved}
 use Rattle.jr_model.proofs.Stays.{did_nothing}
 use Rattle.jr_model.proofs.Windows.{window_nothing}
 use Rattle.jr_model.proofs.Runs.{ran_done}
-use Rattle.jr_rule.specs.declared.known.Known.{Known}
-use Rattle.jr_rule.specs.Knowing.{Standing, IsOf, view, anything, keeps, Holds, Goes, Took}
-use Rattle.jr_rule.proofs.Goes.{goes_did, looked_present}
+use Rattle.jr_steps.specs.declared.known.Known.{Known}
+use Rattle.jr_steps.specs.Knowing.{Standing, IsOf, view, anything, keeps, Holds, Goes, Took}
+use Rattle.jr_steps.proofs.Goes.{goes_did, looked_present}
 use Rattle.jr_scripts.specs.Performing.{FoundPresent, Resolves, Calls}
 use Rattle.jr_scripts.specs.Reading.{word_of, found_answer, local_answer}
 use Rattle.jr_model.specs.References.{typing}

@@ -1,6 +1,6 @@
 -- The same room, thread and role, from moment to moment.
 use Rattle.std.proofs.Common.{◌≡◌, Bool, refl, ap, ◌∙◌}
-use Rattle.jr_rule.specs.Knowing.{Standing}
+use Rattle.jr_steps.specs.Knowing.{Standing}
 use Rattle.jr_scripts.specs.Performing.{IsAsBefore}
 
 pub nothing_changed : {s : Standing} → IsAsBefore s s

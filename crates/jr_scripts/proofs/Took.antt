@@ -14,10 +14,10 @@ use Rattle.jr_model.specs.Refusals.{WasOccupied}
 use Rattle.jr_model.proofs.Moments.{prefix_self, occupied_wider, probed_occupied, probed_then}
 use Rattle.jr_model.proofs.Stays.{did_then, did_nothing}
 use Rattle.jr_model.proofs.Runs.{did_legal}
-use Rattle.jr_rule.specs.declared.known.Known.{Known}
-use Rattle.jr_rule.specs.Acts.{handle_of, is_occupied}
-use Rattle.jr_rule.specs.Knowing.{Standing, IsOf, view, anything, HasObject, IsFreeSlot, ShowsSlot, LostClaim, Took, Takes, keeps}
-use Rattle.jr_rule.proofs.Goes.{goes_did, present_stays, shown_free}
+use Rattle.jr_steps.specs.declared.known.Known.{Known}
+use Rattle.jr_steps.specs.Acts.{handle_of, is_occupied}
+use Rattle.jr_steps.specs.Knowing.{Standing, IsOf, view, anything, HasObject, IsFreeSlot, ShowsSlot, LostClaim, Took, Takes, keeps}
+use Rattle.jr_steps.proofs.Goes.{goes_did, present_stays}
 use Rattle.jr_scripts.specs.Performing.{Searched, search_acts, EachOccupied}
 
 search_more : (o : ℕ) (xs ys : List (ℕ × Bool)) (made : Option Handle) → search_acts o xs None ++ search_acts o ys made ≡ search_acts o (xs ++ ys) made
@@ -78,7 +78,7 @@ module _ {S : Type 0} {stands : S → Standing} {knows : S → Known → Type 0}
         → (stands a).role ≡ Within → x ≢ Leave → y ≢ Leave → role_after Within x ≡ Within → (k : Known) → knows a k → HasObject o k → Exchanged c shows o x y k
     exchanged {x} i n o t u w ne ne' still k s p =
         let m = took_present t w ne o k s tt p in
-        let e = took_present u (ap (λ (z : Standing). z.role) t.stands_is ∙ (ap (λ r. role_after r x) w ∙ still)) ne' o m.0 m.1 (m.2, shown_free i n m.0 m.4.0) m.2 in
+        let e = took_present u (ap (λ (z : Standing). z.role) t.stands_is ∙ (ap (λ r. role_after r x) w ∙ still)) ne' o m.0 m.1 (m.2, m.4.0) m.2 in
         let one = m.5 in
         let two = e.5 in
         record { mid = m.0; new = e.0; known = e.1; present = e.2; looked = m.3; took = e.3; shown = e.4; counted = omega arith; kept = m.4.1 }

@@ -12,10 +12,10 @@ use Rattle.jr_model.specs.Refusals.{WasOccupied}
 use Rattle.jr_model.specs.Frames.{Frames}
 use Rattle.jr_model.specs.Calls.{Call, Ran}
 use Rattle.jr_word.specs.declared.header.HeaderParts.{HeaderParts}
-use Rattle.jr_rule.specs.declared.known.Known.{Known}
-use Rattle.jr_rule.specs.declared.known.Grasp.{Grasp}
-use Rattle.jr_rule.specs.Grasping.{with_header}
-use Rattle.jr_rule.specs.Knowing.{Standing, view, state_of, fresh_from, keeps, lets_go, Takes, HasObject, HasOptional, Holds}
+use Rattle.jr_steps.specs.declared.known.Known.{Known}
+use Rattle.jr_steps.specs.declared.known.Grasp.{Grasp}
+use Rattle.jr_steps.specs.Grasping.{with_header}
+use Rattle.jr_steps.specs.Knowing.{Standing, view, state_of, fresh_from, keeps, lets_go, Takes, HasObject, HasOptional, Holds}
 
 -- the same room, thread and role, whether or not the pass is fresh
 pub record IsAsBefore (old new : Standing) : Type 0 where

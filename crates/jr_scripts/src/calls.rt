@@ -6,7 +6,7 @@ ghost use Rattle.jr_model.specs.Frames.{Frames as LocalFrames};
 ghost use Rattle.jr_model.specs.Tests.{Parts};
 ghost use Rattle.jr_model.specs.References as references;
 ghost use Rattle.jr_model.specs.References.{new_local, creation, local_creation, comparison, making, removal, local_removal};
-ghost use Rattle.jr_rule.specs.Knowing.{MayKnow, HasOptional};
+ghost use Rattle.jr_steps.specs.Knowing.{MayKnow, HasOptional};
 ghost use Rattle.jr_scripts.specs.Reading.{word_of, OwnerFits};
 ghost use Rattle.jr_scripts.specs.Performing.{Calls, MakesLocal, MakesObject};
 ghost use Rattle.jr_scripts.specs.Ready.{IsReady, KeepsOwner, Completes};
@@ -17,7 +17,7 @@ use crate::reference::{Reference, belongs_elsewhere, lies_outside, names_kind, n
 use crate::resolve::{resolve, resolve_both, type_of};
 use crate::row::{create, delete};
 use jr_gate::enter;
-use jr_rule::Steps;
+use jr_steps::Steps;
 use jr_word::{Fault, HandleParts, Kind, RefKind};
 
 /// Makes a plain object and a local reference to it: E9, E11, E13.

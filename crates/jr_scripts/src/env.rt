@@ -5,7 +5,7 @@ ghost use Rattle.jr_scripts.specs.Ready.{IsReady};
 use crate::calls;
 use crate::frames::Frames;
 use crate::reference::Reference;
-use jr_rule::Steps;
+use jr_steps::Steps;
 use jr_word::{Fault, Handle, RefKind};
 
 /// A thread's steps and its local references. The thread is outside the gate.
@@ -23,8 +23,8 @@ impl<S: Steps> Env<S> {
     ghost use Rattle.jr_word.specs.declared.handle.RefKind.TheVariants.{Local, Global, Weak};
     ghost use Rattle.jr_model.specs.declared.event.Role.TheVariants.{Outside};
     ghost use Rattle.jr_model.specs.Frames.{fresh_frames};
-    ghost use Rattle.jr_rule.specs.Knowing.{HasNoLocals};
-    ghost use Rattle.jr_rule.specs.declared.known.Known.{Known};
+    ghost use Rattle.jr_steps.specs.Knowing.{HasNoLocals};
+    ghost use Rattle.jr_steps.specs.declared.known.Known.{Known};
     ghost use Rattle.jr_scripts.specs.Deeds.{Does, new_plain, new_reference, new_local_ref, delete_reference, delete_local_ref, is_same_object, get_object_ref_type};
 
     /// The env of a thread that has no local reference.

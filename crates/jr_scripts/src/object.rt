@@ -4,7 +4,7 @@ ghost use Rattle.jr_word.specs.declared.fault.Fault.TheVariants.{ObjectsFull};
 ghost use Rattle.jr_model.specs.declared.event.Role.TheVariants.{Within};
 ghost use Rattle.jr_scripts.specs.Performing.{Published};
 
-use jr_rule::Steps;
+use jr_steps::Steps;
 use jr_word::{Fault, HeaderParts, Kind};
 
 /// A new object without elements: E11 where every number is present.

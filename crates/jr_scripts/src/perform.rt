@@ -10,7 +10,7 @@ use crate::names::Names;
 use crate::reference::Reference;
 use crate::reply::Reply;
 use crate::tries::tried;
-use jr_rule::Steps;
+use jr_steps::Steps;
 use jr_syntax::Command;
 use jr_word::{Fault, Handle, RefKind};
 

@@ -12,7 +12,7 @@ use crate::frames::Frames;
 use crate::reference::{Reference, belongs_elsewhere, lies_outside, names_local};
 use crate::row::{look, object_found};
 use jr_model::Found;
-use jr_rule::Steps;
+use jr_steps::Steps;
 use jr_word::{Fault, HandleParts, RefKind};
 
 /// The object of a local reference: E2 where it does not stand.

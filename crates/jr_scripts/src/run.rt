@@ -10,7 +10,7 @@ use crate::names::Names;
 use crate::perform::perform;
 use crate::printed::printed;
 use crate::reply::Reply;
-use jr_rule::Steps;
+use jr_steps::Steps;
 use jr_syntax::{Command, Name};
 use jr_word::{Fault, Handle};
 use std::alloc::{AllocError, Global};

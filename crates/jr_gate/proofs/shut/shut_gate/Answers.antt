@@ -1,5 +1,5 @@
 use Rattle.std.proofs.Common.{ap, refl}
-use Rattle.jr_rule.specs.Knowing.{Standing}
+use Rattle.jr_steps.specs.Knowing.{Standing}
 use Rattle.jr_gate.proofs.Alone.{never_busy}
 use Rattle.jr_gate.proofs.Closing.{busy_counts, shut_closes, shut_shows}
 use Rattle.jr_gate.proofs.shut.shut_gate.Goals as goal

@@ -1,6 +1,6 @@
 use Rattle.std.proofs.Common.{sym, ◌∙◌, arith}
 use mathlib.Core.Logic.{∥∥₁_map}
-use Rattle.jr_rule.specs.Knowing.{state_of}
+use Rattle.jr_steps.specs.Knowing.{state_of}
 use Rattle.jr_heap.proofs.Checks.{word_is}
 use Rattle.jr_heap.proofs.Elements.{write_no_array, write_beyond, write_value, write_stored, may_write, still_holds}
 use Rattle.jr_heap.proofs.element.write_element.Goals as goal

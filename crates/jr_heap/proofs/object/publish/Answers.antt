@@ -1,8 +1,8 @@
 use Rattle.std.proofs.Common.{arith, true, false, ap, sym, subst, ◌∙◌}
 use Rattle.jr_word.specs.declared.config.Config.{Config}
 use Rattle.jr_word.specs.declared.header.HeaderParts.{HeaderParts}
-use Rattle.jr_rule.specs.declared.known.Known.{Known}
-use Rattle.jr_rule.specs.Knowing.{MayKnow, IsFilled}
+use Rattle.jr_steps.specs.declared.known.Known.{Known}
+use Rattle.jr_steps.specs.Knowing.{MayKnow, IsFilled}
 use Rattle.jr_heap.specs.Heap.{header_of}
 use Rattle.jr_heap.proofs.Publishing.{tried, passed_more, passed_new, passed_present, passed_held, passed_ready, passed_all}
 use Rattle.jr_heap.proofs.object.publish.Goals as goal

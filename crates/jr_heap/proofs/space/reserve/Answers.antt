@@ -1,7 +1,7 @@
 use Rattle.std.proofs.Common.{sym, refl, ap, arith, ◌∙◌}
 use mathlib.Core.Logic.{∥∥₁_map}
 use Rattle.jr_word.specs.declared.config.Config.{Config}
-use Rattle.jr_rule.specs.declared.known.Known.{Known}
+use Rattle.jr_steps.specs.declared.known.Known.{Known}
 use Rattle.jr_heap.proofs.Reserving.{reserve_none, over, within, reserve_full, may_reserve, reserve_won, reserve_owned, reserve_lost, never_lost}
 use Rattle.jr_heap.proofs.space.reserve.Goals as goal
 

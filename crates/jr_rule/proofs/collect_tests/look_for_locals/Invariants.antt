@@ -1,4 +1,4 @@
-use Rattle.jr_rule.specs.Knowing.{Saw, anything}
+use Rattle.jr_steps.specs.Knowing.{Saw, anything}
 use Rattle.jr_rule.proofs.Emptying.{HasNoneTo}
 use Rattle.jr_rule.proofs.collect_tests.look_for_locals.Given as goal
 

@@ -3,12 +3,12 @@ use Rattle.jr_word.specs.declared.handle.RefKind.TheVariants.{Global}
 use Rattle.jr_word.specs.declared.slot.SlotParts.TheVariants as slot
 use Rattle.jr_word.specs.declared.slot.SlotParts.TheVariants.{Free}
 use Rattle.jr_model.specs.declared.event.Role.TheVariants.{Within}
-use Rattle.jr_rule.specs.Acts.{slot_named, handle_of}
-use Rattle.jr_rule.specs.declared.naming.SlotNaming.TheVariants.{Look}
-use Rattle.jr_rule.specs.Knowing.{Goes}
+use Rattle.jr_steps.specs.Acts.{slot_named, handle_of}
+use Rattle.jr_steps.specs.declared.naming.SlotNaming.TheVariants.{Look}
+use Rattle.jr_steps.specs.Knowing.{Goes}
 use Rattle.jr_rule.specs.PassLaws.{some_of}
 use Rattle.jr_rule.proofs.Claimable.{claimable}
-use Rattle.jr_rule.proofs.Goes.{looked_now, may_then}
+use Rattle.jr_steps.proofs.Goes.{looked_now, may_then}
 use Rattle.jr_rule.proofs.tests.a_slot_is_claimed_by_one_and_freed_by_one.Goals as goal
 
 pub claim-requires : goal.claim-requires

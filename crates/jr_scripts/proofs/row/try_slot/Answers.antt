@@ -1,5 +1,4 @@
 use mathlib.Core.Logic.{∥∥₁_map}
-use Rattle.jr_rule.proofs.Goes.{shown_free}
 use Rattle.jr_scripts.proofs.Took.{took_present, searched_seen, searched_lost, searched_won}
 use Rattle.jr_scripts.proofs.row.try_slot.Goals as goal
 
@@ -8,7 +7,7 @@ returns-in_default g c = searched_seen g.met.S.Steps.fits c.args.index c.see_slo
 
 pub claim-requires-clause-looked : goal.claim-requires-clause-looked
 claim-requires-clause-looked g c =
-    ∥∥₁_map c.requires.object (λ k. let r = took_present g.met.S.Steps.fits c.in-Free.ensures c.requires.role (λ e. cc) c.args.object k.0 k.1 tt k.2 in (r.0, r.1, (r.2, shown_free c.args.index c.in-Free.serial r.0 r.4.0)))
+    ∥∥₁_map c.requires.object (λ k. let r = took_present g.met.S.Steps.fits c.in-Free.ensures c.requires.role (λ e. cc) c.args.object k.0 k.1 tt k.2 in (r.0, r.1, (r.2, r.4.0)))
 
 pub returns-in-Ok : goal.returns-in-Ok
 returns-in-Ok g c = searched_won g.met.S.Steps.fits c.args.index c.in-Free.serial c.args.kind c.args.object c.in-Free.ensures c.in-Ok.ensures c.requires.role

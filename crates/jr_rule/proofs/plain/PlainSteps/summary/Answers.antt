@@ -1,7 +1,7 @@
 use Rattle.std.proofs.Common.{◌∙◌, ap, sym, arith}
 use Rattle.jr_word.specs.declared.config.Config.{Config}
 use Rattle.jr_model.specs.State.{summary as summary_of}
-use Rattle.jr_rule.specs.Knowing.{state_of}
+use Rattle.jr_steps.specs.Knowing.{state_of}
 use Rattle.jr_rule.specs.Plain.{standing}
 use Rattle.jr_rule.proofs.PlainHistories.{history_of, has_history}
 use Rattle.jr_rule.proofs.plain.PlainSteps.summary.Goals as goal

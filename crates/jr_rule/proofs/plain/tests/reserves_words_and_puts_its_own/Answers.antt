@@ -1,6 +1,6 @@
 use Rattle.std.proofs.Common.{◌≡◌, subst, arith, rules}
-use Rattle.jr_rule.specs.Knowing.{WasUsed, HasWord, ShowsRange}
-use Rattle.jr_rule.proofs.Goes.{goes_did, reserved_word, reserving_stays, used_seen, used_later, may_then}
+use Rattle.jr_steps.specs.Knowing.{WasUsed, HasWord, ShowsRange}
+use Rattle.jr_steps.proofs.Goes.{goes_did, reserved_word, reserving_stays, used_seen, used_later, may_then}
 use Rattle.jr_rule.proofs.plain.tests.reserves_words_and_puts_its_own.Goals as goal
 
 pub claim_top-requires : goal.claim_top-requires

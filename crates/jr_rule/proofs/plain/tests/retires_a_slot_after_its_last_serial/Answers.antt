@@ -6,10 +6,10 @@ use Rattle.jr_word.specs.declared.handle.RefKind.TheVariants.{Global}
 use Rattle.jr_word.specs.declared.slot.SlotParts.TheVariants as slot
 use Rattle.jr_word.specs.declared.slot.SlotParts.TheVariants.{Free}
 use Rattle.jr_model.specs.declared.event.Role.TheVariants.{Within}
-use Rattle.jr_rule.specs.Acts.{slot_named, handle_of}
-use Rattle.jr_rule.specs.declared.naming.SlotNaming.TheVariants.{Look}
-use Rattle.jr_rule.specs.Knowing.{Goes, ShowsSlot}
-use Rattle.jr_rule.proofs.Goes.{goes_did, looked_now, present_stays, shown_free, shown_published, may_then, may_with}
+use Rattle.jr_steps.specs.Acts.{slot_named, handle_of}
+use Rattle.jr_steps.specs.declared.naming.SlotNaming.TheVariants.{Look}
+use Rattle.jr_steps.specs.Knowing.{Goes, ShowsSlot}
+use Rattle.jr_steps.proofs.Goes.{goes_did, looked_now, present_stays, shown_published, may_then, may_with}
 use Rattle.jr_rule.proofs.Headers.{header_fits, filled_none}
 use Rattle.jr_rule.proofs.plain.tests.retires_a_slot_after_its_last_serial.Goals as goal
 
@@ -31,7 +31,7 @@ claim-requires g c =
           (
             λ e. cc,
             may_then c.see_slot.ensures (λ k s m. tt) (may_with c.claim_header.ensures (λ k s m. filled_none plain k refl) c.go_in.new.self.shown (λ k k' s m d shown. shown_published 1 plain c.claim_header.result k k' shown))
-                (λ k k' s m d shown. (present_stays k k' _ 1 (goes_did d) (s.pass.role ∙ within) (λ e. cc, tt) m, shown_free 0 0 k' (subst (λ p. ShowsSlot 0 p k') (c.in-Free-eq0.is ∙ ap Free c.in-Free-eq0.serial-test) shown.0))),
+                (λ k k' s m d shown. (present_stays k k' _ 1 (goes_did d) (s.pass.role ∙ within) (λ e. cc, tt) m, (subst (λ p. ShowsSlot 0 p k') (c.in-Free-eq0.is ∙ ap Free c.in-Free-eq0.serial-test) shown.0))),
           ),
         ),
       ),

@@ -1,9 +1,9 @@
 use Rattle.std.proofs.Common.{◌≡◌, ◌∷◌, [], ap, subst, arith, rules}
 use Rattle.jr_model.specs.declared.event.Act.TheVariants.{Shut}
-use Rattle.jr_rule.specs.declared.known.Grasp.{Grasp}
-use Rattle.jr_rule.specs.Acts.{barring}
-use Rattle.jr_rule.specs.Knowing.{Goes, ShowsBarred}
-use Rattle.jr_rule.proofs.Goes.{shut_closed, may_then}
+use Rattle.jr_steps.specs.declared.known.Grasp.{Grasp}
+use Rattle.jr_steps.specs.Acts.{barring}
+use Rattle.jr_steps.specs.Knowing.{Goes, ShowsBarred}
+use Rattle.jr_steps.proofs.Goes.{shut_closed, may_then}
 use Rattle.jr_rule.proofs.plain.tests.shuts_and_opens_the_gate.Goals as goal
 
 pub unbar-requires : goal.unbar-requires

@@ -1,10 +1,11 @@
 use Rattle.std.proofs.Common.{◌≢◌, ◌≤◌, ℕ, refl, sym, ap, ◌∙◌, map, arith}
 use Rattle.jr_word.specs.declared.config.Config.{Config}
 use Rattle.jr_model.specs.State.{not_outside}
-use Rattle.jr_rule.specs.Knowing.{state_of}
+use Rattle.jr_steps.specs.Knowing.{state_of}
 use Rattle.jr_rule.specs.Passes.{known_of}
 use Rattle.jr_rule.proofs.Gathered.{exactly}
-use Rattle.jr_rule.proofs.Goes.{took_less}
+use Rattle.jr_steps.proofs.Goes.{took_less}
+use Rattle.jr_rule.proofs.GateTurns.{counted_after}
 use Rattle.jr_rule.proofs.room.Room.close_all.Goals as goal
 
 some_more : (n : ℕ) → n ≢ 0 → 1 ≤ n
@@ -17,7 +18,7 @@ returns-then-inside-ne0-clause-err g c =
         count = c.all_counted-inside.result;
         fault = refl;
         some = some_more c.all_counted-inside.result c.if-inside-ne0.true;
-        is = c.all_counted-inside.ensures ∙ (seen.1).all;
+        is = c.all_counted-inside.ensures ∙ counted_after _ seen.0 seen.1;
         same = refl;
         of_room = c.see_gate.ensures.row;
         took = took_less (λ k new s. s.1) c.see_gate.ensures.step;
@@ -31,7 +32,7 @@ returns-clause-ok g c =
     let met = known_of c.see_gate.new.pass in record {
       met = met;
       goes = seen.0;
-      nobody = ap (λ (d : Config). not_outside d (state_of met)) (sym (seen.0).config) ∙ (sym (c.all_counted-inside.ensures ∙ (seen.1).all) ∙ c.if-inside-ne0.false);
+      nobody = ap (λ (d : Config). not_outside d (state_of met)) (sym (seen.0).config) ∙ (sym (c.all_counted-inside.ensures ∙ counted_after _ seen.0 seen.1) ∙ c.if-inside-ne0.false);
       ends = c.close_all.ensures;
     }
 

@@ -1,8 +1,8 @@
 use Rattle.std.proofs.Common.{◌≡◌, ℕ, Some, Err, [], ◌∷◌, refl, sym, ap, subst, ◌∙◌, arith, eqb}
 use prog.Atomic.{either}
-use Rattle.jr_rule.specs.Acts.{claiming}
+use Rattle.jr_steps.specs.Acts.{claiming}
 use Rattle.jr_rule.specs.Image.{slot_at}
-use Rattle.jr_rule.specs.Knowing.{LostClaim}
+use Rattle.jr_steps.specs.Knowing.{LostClaim}
 use Rattle.jr_rule.specs.Passes.{known_of}
 use Rattle.jr_rule.specs.Rule.{Owes}
 use Rattle.jr_rule.proofs.Allowed.{object_known, object_some, serial_fits}

@@ -1,8 +1,8 @@
 use Rattle.std.proofs.Common.{◌≡◌, ◌==◌, ℕ, refl, sym, ap, subst, ◌∙◌, eqb}
 use prog.Atomic.{either}
-use Rattle.jr_rule.specs.Acts.{publishing}
+use Rattle.jr_steps.specs.Acts.{publishing}
 use Rattle.jr_rule.specs.Image.{header_at}
-use Rattle.jr_rule.specs.Knowing.{words_for}
+use Rattle.jr_steps.specs.Knowing.{words_for}
 use Rattle.jr_rule.specs.Passes.{known_of}
 use Rattle.jr_rule.specs.Rule.{Owes}
 use Rattle.jr_rule.proofs.Allowed.{of_pass}

@@ -1,6 +1,6 @@
 use Rattle.std.proofs.Common.{ℕ, [], ◌∷◌, Err, refl, sym, ap, subst, ◌∙◌, eqb}
 use prog.Atomic.{either}
-use Rattle.jr_rule.specs.Acts.{reserving}
+use Rattle.jr_steps.specs.Acts.{reserving}
 use Rattle.jr_rule.specs.Image.{top_at}
 use Rattle.jr_rule.specs.Passes.{known_of}
 use Rattle.jr_rule.specs.Rule.{Owes}

@@ -3,9 +3,9 @@ use Rattle.std.specs.List.{All}
 use Rattle.std.proofs.lemmas.List.Elements.{All-append}
 use mathlib.Core.List.{map-append}
 use Rattle.std.proofs.Math.Numerals.{add-one}
-use Rattle.jr_rule.specs.declared.known.Known.{Known}
+use Rattle.jr_steps.specs.declared.known.Known.{Known}
 use Rattle.jr_rule.specs.declared.pass.Pass.{Pass}
-use Rattle.jr_rule.specs.Grasping.{empty}
+use Rattle.jr_steps.specs.Grasping.{empty}
 use Rattle.jr_rule.specs.Rule.{known, view, others_of, Sat}
 use Rattle.jr_rule.specs.Passes.{IsOpened, numbers_below}
 use Rattle.jr_rule.proofs.Seats.{next_newcomer}

@@ -1,6 +1,6 @@
 use Rattle.std.proofs.Common.{not, [], ◌∷◌, refl, sym, ap, ◌∙◌}
 use Rattle.jr_model.specs.History.{role_after}
-use Rattle.jr_rule.specs.Acts.{entered_as}
+use Rattle.jr_steps.specs.Acts.{entered_as}
 use Rattle.jr_rule.proofs.GateOwed.{enters}
 use Rattle.jr_rule.proofs.Stepped.{held_next, took}
 use Rattle.jr_rule.proofs.Effects.{entered_fresh}

@@ -1,7 +1,7 @@
 use Rattle.std.proofs.Common.{[], ◌∷◌, refl, sym, ap, ◌∙◌, subst, ◌⊎◌, ◌≡◌}
 use Rattle.jr_model.specs.declared.event.Role.{Role}
 use Rattle.jr_model.specs.declared.event.Role.TheVariants.{Within, Knocking}
-use Rattle.jr_rule.specs.Acts.{leaving}
+use Rattle.jr_steps.specs.Acts.{leaving}
 use Rattle.jr_rule.proofs.GateOwed.{leaves}
 use Rattle.jr_rule.proofs.Stepped.{held_next, took}
 use Rattle.jr_rule.proofs.Effects.{left_role, left_fresh}

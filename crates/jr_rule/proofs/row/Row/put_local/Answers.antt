@@ -1,7 +1,8 @@
 use Rattle.std.proofs.Common.{◌≡◌, ℕ, refl, sym, ap, subst, ◌∙◌}
 use Rattle.jr_word.specs.declared.config.Config.{Config}
 use Rattle.jr_word.specs.Local.{local_word, IsLocalPlace}
-use Rattle.jr_rule.specs.Image.{local_at, local_parts}
+use Rattle.jr_steps.specs.Says.{local_parts}
+use Rattle.jr_rule.specs.Image.{local_at}
 use Rattle.jr_rule.specs.Passes.{known_of}
 use Rattle.jr_rule.specs.Rule.{Owes}
 use Rattle.jr_rule.proofs.Allowed.{of_pass, optional_few}

@@ -1,6 +1,6 @@
 use Rattle.std.proofs.Common.{◌≡◌, refl, sym, ap, subst, ◌∙◌}
 use Rattle.jr_rule.specs.Image.{header_at}
-use Rattle.jr_rule.specs.Knowing.{ShowsHeader}
+use Rattle.jr_steps.specs.Knowing.{ShowsHeader}
 use Rattle.jr_rule.specs.Passes.{known_of}
 use Rattle.jr_rule.specs.Rule.{Owes}
 use Rattle.jr_rule.proofs.HeapOwed.{header_read}

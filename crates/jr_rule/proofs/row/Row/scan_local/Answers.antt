@@ -1,5 +1,5 @@
 use Rattle.std.proofs.Common.{◌≡◌, refl, sym, ap, subst, ◌∙◌}
-use Rattle.jr_rule.specs.Collecting.{ShowsLocal}
+use Rattle.jr_steps.specs.Collecting.{ShowsLocal}
 use Rattle.jr_rule.specs.Image.{local_at}
 use Rattle.jr_rule.specs.Passes.{known_of}
 use Rattle.jr_rule.specs.Rule.{Owes}

@@ -1,5 +1,5 @@
 use Rattle.std.proofs.Common.{refl, sym, subst, ◌∙◌}
-use Rattle.jr_rule.specs.Knowing.{ShowsSlot}
+use Rattle.jr_steps.specs.Knowing.{ShowsSlot}
 use Rattle.jr_rule.specs.Passes.{known_of}
 use Rattle.jr_rule.proofs.CollectOwed.{scans_slot}
 use Rattle.jr_rule.proofs.SlotOwed.{}

@@ -1,9 +1,9 @@
 use Rattle.std.proofs.Common.{List, [], ◌∷◌, refl, sym, ap, subst, ◌∙◌}
-use Rattle.jr_rule.specs.Acts.{all_counted, gate_named, GateNameFits}
+use Rattle.jr_steps.specs.Acts.{all_counted, gate_named, GateNameFits}
 use Rattle.jr_word.specs.declared.gate.GateParts.{GateParts}
 use Rattle.jr_model.specs.declared.event.Act.{Act}
-use Rattle.jr_rule.specs.declared.known.Known.{Known}
-use Rattle.jr_rule.specs.Knowing.{Goes, ShowsGate}
+use Rattle.jr_steps.specs.declared.known.Known.{Known}
+use Rattle.jr_steps.specs.Knowing.{Goes, ShowsGate}
 use Rattle.jr_rule.specs.Passes.{known_of}
 use Rattle.jr_rule.proofs.GateOwed.{sees_gate}
 use Rattle.jr_rule.proofs.Stepped.{acting_is, held_next, took}

@@ -1,6 +1,6 @@
 use Rattle.std.proofs.Common.{[], ◌∷◌, refl, sym, ap, subst, ◌∙◌}
-use Rattle.jr_rule.specs.Acts.{slot_named}
-use Rattle.jr_rule.specs.Knowing.{ShowsSlot}
+use Rattle.jr_steps.specs.Acts.{slot_named}
+use Rattle.jr_steps.specs.Knowing.{ShowsSlot}
 use Rattle.jr_rule.proofs.SlotOwed.{sees_slot}
 use Rattle.jr_rule.proofs.Stepped.{held_next, took}
 use Rattle.jr_rule.proofs.Effects.{slot_named_role, slot_named_fresh}

@@ -1,6 +1,6 @@
 use Rattle.std.proofs.Common.{refl, sym, ap, subst, ◌∙◌}
-use Rattle.jr_rule.specs.Acts.{top_named}
-use Rattle.jr_rule.specs.Knowing.{ShowsUsed}
+use Rattle.jr_steps.specs.Acts.{top_named}
+use Rattle.jr_steps.specs.Knowing.{ShowsUsed}
 use Rattle.jr_rule.specs.Passes.{known_of}
 use Rattle.jr_rule.proofs.Effects.{top_named_role, top_named_fresh}
 use Rattle.jr_rule.proofs.HeapOwed.{sees_top, top_some, top_is}

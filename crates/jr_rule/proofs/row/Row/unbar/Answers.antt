@@ -1,6 +1,6 @@
 use Rattle.std.proofs.Common.{refl, subst, ◌∙◌}
 use mathlib.Core.Logic.{∥∥₁_map}
-use Rattle.jr_rule.specs.Knowing.{IsClosedNow}
+use Rattle.jr_steps.specs.Knowing.{IsClosedNow}
 use Rattle.jr_rule.proofs.Allowed.{settled_known}
 use Rattle.jr_rule.proofs.GateOwed.{reopens}
 use Rattle.jr_rule.proofs.Stepped.{held_next, took}

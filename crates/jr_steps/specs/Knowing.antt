@@ -1,0 +1,246 @@
+-- What a caller of the steps knows of them.
+use Rattle.std.specs.Prelude.{◌≡◌, ◌≢◌, ◌↔◌, ◌≤◌, ◌<◌, ◌+◌, ℕ, Bool, true, false, IsTrue, Result, Ok, Err, Option, Some, None, List, [], ◌∷◌, ◌++◌, ◌==◌, cond, map, length, slice_set}
+use Rattle.std.specs.List.{AllByRecursion}
+use Rattle.atomic_table.specs.Seated.{TableId}
+use Rattle.jr_word.specs.declared.config.Config.{Config}
+use Rattle.jr_word.specs.declared.gate.GateParts.{GateParts}
+use Rattle.jr_word.specs.declared.slot.SlotParts.{SlotParts}
+use Rattle.jr_word.specs.declared.slot.SlotParts.TheVariants.{Free}
+use Rattle.jr_model.specs.declared.event.Role.{Role}
+use Rattle.jr_model.specs.declared.event.Role.TheVariants.{Within}
+use Rattle.jr_model.specs.declared.event.Act.{Act}
+use Rattle.jr_model.specs.declared.event.Act.TheVariants.{Look, Leave, LocalPut, LocalDrop}
+use Rattle.jr_model.specs.declared.event.Found.{Found}
+use Rattle.jr_model.specs.State.{Handle, State, Contents, IsPresent, IsOccupied, IsClosed, IsWord, AreWords}
+use Rattle.jr_model.specs.History.{History, by, state, IsLegal, mine, PassView, role_of, role_from}
+use Rattle.jr_model.specs.Refusals.{Sometime}
+use Rattle.jr_model.specs.Frames.{Frames, Agree}
+use Rattle.jr_steps.specs.declared.known.Known.{Known}
+use Rattle.jr_word.specs.declared.header.HeaderParts.{HeaderParts}
+use Rattle.jr_word.specs.declared.kind.Kind.{Kind}
+use Rattle.jr_steps.specs.declared.known.Grasp.{Grasp}
+use Rattle.jr_steps.specs.Grasping.{empty, words_at, header_in, with_range, with_header}
+use Rattle.jr_steps.specs.Says.{SaysOfGate, SaysOfSlot, SaysOfHeader}
+
+-- the room (none over plain words), the thread, its role, and whether the pass is fresh
+pub record Standing : Type 0 where
+  pub room : Option TableId
+  pub config : Config
+  pub last : ℕ
+  pub thread : ℕ
+  pub role : Role
+  pub fresh : Bool
+
+-- a pass that was not spent is fresh until its first store to a local word
+abbrev pub fresh_after : Bool → Act → Bool
+fresh_after f (LocalPut p o) = false
+fresh_after f (LocalDrop p) = false
+fresh_after f _ = f
+
+abbrev pub fresh_from : Bool → List Act → Bool
+fresh_from f [] = f
+fresh_from f (a ∷ acts) = fresh_from (fresh_after f a) acts
+
+-- what the model calls a pass
+abbrev pub view : Known → PassView
+view k = record { config = k.config; last = k.last; thread = k.thread; seen = k.seen }
+
+-- the state after all that was seen
+abbrev pub state_of : Known → State
+state_of k = state k.seen
+
+-- the standing after acts
+abbrev pub moved : Standing → List Act → Standing
+moved s acts = record { room = s.room; config = s.config; last = s.last; thread = s.thread; role = role_from s.role acts; fresh = fresh_from s.fresh acts }
+
+-- what is known is of this room and thread, and its history is legal
+pub record IsOf (s : Standing) (k : Known) : Type 0 where
+  pub config : k.config ≡ s.config
+  pub last : k.last ≡ s.last
+  pub thread : k.thread ≡ s.thread
+  pub role : role_of (view k) ≡ s.role
+  pub legal : IsLegal k.config k.last k.seen
+
+-- WHAT A STEP makes of what was known: what others did in between, and then the acts of the step, one or none; and it is one step more
+pub record Goes (k : Known) (acts : List Act) (k' : Known) : Type 0 where
+  pub config : k'.config ≡ k.config
+  pub last : k'.last ≡ k.last
+  pub thread : k'.thread ≡ k.thread
+  pub between : History
+  pub seen : k'.seen ≡ (k.seen ++ between) ++ map (by k.thread) acts
+  pub others : mine between k.thread ≡ []
+  pub legal : IsLegal k.config k.last k'.seen
+  pub taken : k'.taken ≡ k.taken + 1
+
+-- WHAT SEVERAL STEPS WITHOUT AN ACT make of what was known: what others did in between
+pub record Sees (k k' : Known) : Type 0 where
+  pub config : k'.config ≡ k.config
+  pub last : k'.last ≡ k.last
+  pub thread : k'.thread ≡ k.thread
+  pub between : History
+  pub seen : k'.seen ≡ k.seen ++ between
+  pub others : mine between k.thread ≡ []
+  pub legal : IsLegal k.config k.last k'.seen
+
+-- so many steps were taken, each one operation on one word
+abbrev pub Takes : ℕ → Known → Known → Type 0
+Takes n k k' = k'.taken ≡ k.taken + n
+
+-- no condition
+abbrev pub anything : Known → Type 0
+anything k = Unit {0}
+
+-- the pass holds what it held
+abbrev pub keeps : Known → Known → Type 0
+keeps k k' = k'.grasp ≡ k.grasp
+
+-- the pass holds nothing any more
+abbrev pub lets_go : Known → Known → Type 0
+lets_go k k' = k'.grasp ≡ empty
+
+-- the object is present
+abbrev pub HasObject : ℕ → Known → Type 0
+HasObject o k = IsPresent (state_of k) o
+
+-- the object, if one is given
+abbrev pub HasOptional : Option ℕ → Known → Type 0
+HasOptional None k = Unit {0}
+HasOptional (Some o) k = HasObject o k
+
+-- something that may be known meets the condition
+abbrev pub MayKnow : {S : Type 0} → (S → Known → Type 0) → S → (Known → Type 0) → Type 0
+MayKnow knows s met = ∥ ((k : Known) × knows s k × met k) ∥₁
+
+-- the thread looked at the handle in this stay, and found r
+pub record HasLooked (h : Handle) (r : Found) (k : Known) : Type 0 where
+  pub before : History
+  pub since : History
+  pub is : k.seen ≡ before ++ by k.thread (Look h r) ∷ since
+  pub stays : AllByRecursion (λ a. a ≢ Leave) (mine since k.thread)
+
+-- at a moment of this stay so many words were used
+pub record WasUsed (u : ℕ) (k : Known) : Type 0 where
+  pub before : History
+  pub since : History
+  pub is : k.seen ≡ before ++ since
+  pub used : (state before).used ≡ u
+  pub within : (state before).role k.thread ≡ Within
+  pub stays : AllByRecursion (λ a. a ≢ Leave) (mine since k.thread)
+
+-- A LOAD OF A SLOT shows what its parts say of the state then
+abbrev pub ShowsSlot : ℕ → SlotParts → Known → Type 0
+ShowsSlot i parts k = SaysOfSlot k.last (state_of k).refs (state_of k).given i parts
+
+-- the slot is free, and this serial is its next
+abbrev pub IsFreeSlot : ℕ → ℕ → Known → Type 0
+IsFreeSlot i serial k = ShowsSlot i (Free serial) k
+
+-- A LOAD OF THE GATE shows what its parts say of the state then
+abbrev pub ShowsGate : GateParts → Known → Type 0
+ShowsGate parts k = SaysOfGate k.config (state_of k).role parts
+
+-- the pass knows the header of the object
+abbrev pub KnowsHeader : ℕ → HeaderParts → Known → Type 0
+KnowsHeader o h k = header_in o k.grasp.headers ≡ Some h
+
+-- the pass has a range of its own at the place, with a word of this index
+abbrev pub HasWord : ℕ → ℕ → Known → Type 0
+HasWord place i k = i < length (words_at place k.grasp.ranges)
+
+-- the word may be an element of an object of the kind
+abbrev pub IsWordNow : Kind → ℕ → Known → Type 0
+IsWordNow kind v k = IsWord (state_of k) kind v
+
+-- the words that an object with this header would have: none, or those of the pass's own range at its place
+abbrev pub words_for : HeaderParts → Known → List ℕ
+words_for h k = cond (h.length == 0) [] (words_at h.place k.grasp.ranges)
+
+-- they are so many as the header says, and words of its kind
+pub record IsFilled (h : HeaderParts) (k : Known) : Type 0 where
+  pub long : length (words_for h k) ≡ h.length
+  pub words : AreWords (state_of k) h.kind (words_for h k)
+
+-- what the pass holds once the object is published: its range no more
+abbrev pub published : HeaderParts → Grasp → Grasp
+published h g = cond (h.length == 0) g (with_range g h.place [])
+
+-- WHAT A LOAD OF A HEADER SHOWS: the object that is present then, and its header is known from now on, the one that was known before if any was; or that none is
+pub record ShowsObject (o : ℕ) (h : HeaderParts) (k : Known) : Type 0 where
+  pub contents : Contents
+  pub is : (state_of k).objects o ≡ Some contents
+  pub says : SaysOfHeader contents h
+
+abbrev pub ShowsHeader : ℕ → Option HeaderParts → Known → Known → Type 0
+ShowsHeader o None k k' = ((state_of k').objects o ≡ None) × keeps k k'
+ShowsHeader o (Some h) k k' = ShowsObject o h k' × (k'.grasp ≡ with_header k.grasp o h) × ((g : HeaderParts) → header_in o k.grasp.headers ≡ Some g → g ≡ h)
+
+-- what a load of the top shows: how many words are used then
+abbrev pub ShowsUsed : ℕ → Known → Type 0
+ShowsUsed u k = (state_of k).used ≡ u
+
+-- what a reservation shows: a range of the pass's own, of some words, where it had none before
+abbrev pub ShowsRange : ℕ → ℕ → Result (Unit {0}) ℕ → Known → Known → Type 0
+ShowsRange looked n (Ok _) k k' = (ws : List ℕ) × (length ws ≡ n) × (k'.grasp ≡ with_range k.grasp looked ws) × (words_at looked k.grasp.ranges ≡ [])
+ShowsRange looked n (Err found) k k' = keeps k k'
+
+-- what a store in a range of the pass's own shows
+abbrev pub ShowsWord : ℕ → ℕ → ℕ → Known → Known → Type 0
+ShowsWord place i v k k' = k'.grasp ≡ with_range k.grasp place (slice_set (words_at place k.grasp.ranges) i v)
+
+-- WHAT AN EXCHANGE OF A HEADER SHOWS: the object is present; and where it is new, the range is no more the pass's own, and the header, of an object of which the pass knew none, is known from now on
+abbrev pub ShowsPublished : ℕ → HeaderParts → Bool → Known → Known → Type 0
+ShowsPublished o h true k k' = HasObject o k' × (k'.grasp ≡ with_header (published h k.grasp) o h) × (header_in o k.grasp.headers ≡ None)
+ShowsPublished o h false k k' = HasObject o k' × keeps k k'
+
+-- no present object array names an absent object
+abbrev pub IsClosedNow : Known → Type 0
+IsClosedNow k = IsClosed (state_of k)
+
+-- no move is unfinished
+abbrev pub IsSettled : Known → Type 0
+IsSettled k = k.grasp.moving ≡ None
+
+-- the gate may be opened after a collection
+abbrev pub CanReopen : Known → Type 0
+CanReopen k = IsClosedNow k × IsSettled k
+
+-- what an exchange of the gate shows: a collection begins with nothing held
+abbrev pub ShowsBarred : Result (Unit {0}) ℕ → Known → Known → Type 0
+ShowsBarred (Ok _) k k' = lets_go k k'
+ShowsBarred (Err n) k k' = keeps k k'
+
+-- a lost claim: the index was occupied in between, and the word that was found stands there
+abbrev pub LostClaim : ℕ → Result (Unit {0}) SlotParts → Known → Known → Type 0
+LostClaim i (Ok _) k k' = Unit {0}
+LostClaim i (Err found) k k' = Sometime (λ s. IsOccupied k.last s i) k.seen k'.seen × ShowsSlot i found k'
+
+-- the thread has no local reference
+abbrev pub HasNoLocals : Known → Type 0
+HasNoLocals k = (p : ℕ) → (state_of k).locals k.thread p ≡ None
+
+-- the frames are those of the thread's locals
+abbrev pub Holds : Frames → Known → Type 0
+Holds f k = Agree k.thread f (state_of k)
+
+module _ {S : Type 0} (stands : S → Standing) (knows : S → Known → Type 0) where
+  -- a step was taken: for whatever was known and meets the condition, something is known that the step made of it, and that shows this; and nobody else did anything in between where the pass is of no room
+  pub record Took (old new : S) (acts : List Act) (met : Known → Type 0) (shows : Known → Known → Type 0) : Type 0 where
+    pub stands_is : stands new ≡ moved (stands old) acts
+    pub goes : (k : Known) → knows old k → met k → (k' : Known) × knows new k' × Goes k acts k' × shows k k'
+    pub alone : (stands old).room ≡ None → (k : Known) (s : knows old k) (m : met k) → (goes k s m).2.between ≡ []
+
+  -- one step was taken, with acts that depend on what was known, none of them of the gate or a local word
+  pub record TookWith (old new : S) (acts : Known → List Act) (met : Known → Type 0) (shows : Known → Known → Type 0) : Type 0 where
+    pub stands_is : stands new ≡ stands old
+    pub goes : (k : Known) → knows old k → met k → (k' : Known) × knows new k' × Goes k (acts k) k' × shows k k'
+    pub alone : (stands old).room ≡ None → (k : Known) (s : knows old k) (m : met k) → (goes k s m).2.between ≡ []
+
+  -- several steps were taken, none of which has an act: for whatever was known and meets the condition, something is known that they made of it, and that shows this
+  pub record Saw (old new : S) (met : Known → Type 0) (shows : Known → Known → Type 0) : Type 0 where
+    pub stands_is : stands new ≡ stands old
+    pub sees : (k : Known) → knows old k → met k → (k' : Known) × knows new k' × Sees k k' × shows k k'
+
+  -- the pass is not fresh any more, and nothing else changed
+  pub record Spent (old new : S) : Type 0 where
+    pub stands_is : stands new ≡ record (stands old) { fresh = false }
+    pub same : (k : Known) → knows old k ↔ knows new k

@@ -1,0 +1,5 @@
+pub mod Acts
+pub mod Grasping
+pub mod Says
+pub mod Knowing
+pub mod Collecting

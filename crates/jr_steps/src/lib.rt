@@ -1,0 +1,11 @@
+//! The contract of the steps: what one thread may do to the words of a room, one atomic operation at a time, and what it knows of them.
+#![tactic(auto)]
+
+mod known;
+mod naming;
+mod steps;
+
+pub use jr_model::Role;
+pub use known::{Grasp, Known, KnownHeader, Move, OwnRange};
+pub use naming::{GateNaming, SlotNaming, TopNaming};
+pub use steps::Steps;

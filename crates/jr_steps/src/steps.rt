@@ -1,0 +1,239 @@
+//! The kinds of atomic step, over any row of words.
+ghost use Rattle.std.specs.Prelude.{◌≡◌, ◌≢◌, ◌⊎◌, ◌<◌, ◌≤◌, ◌+◌, [], ◌∷◌, true};
+ghost use Rattle.jr_word.specs.Config.{in_limits};
+ghost use Rattle.jr_word.specs.declared.handle.RefKind.TheVariants.{Local, Weak};
+ghost use Rattle.jr_word.specs.declared.kind.Kind.TheVariants.{Text};
+ghost use Rattle.jr_word.specs.Header.{IsHeader};
+ghost use Rattle.jr_model.specs.declared.event.Act.TheVariants.{Reopen, Read, Write, Clear, Drop, Settle};
+ghost use Rattle.jr_steps.specs.Collecting.{ShowsLocal, ShowsElement, IsThere, CanWipe, CanDrop, ShowsDropped, CanMove, ShowsMoved, placed, CanPlace, ShowsPlaced, CanSettle};
+ghost use Rattle.jr_model.specs.declared.event.Role.TheVariants.{Outside, Within, Knocking, Collecting};
+ghost use Rattle.jr_steps.specs.Acts.{entered_as, leaving, barring, gate_named, GateNameFits, all_counted, slot_named, SlotNameFits, claiming, freeing, putting, publishing, top_named, reserving, found_object, handle_of};
+ghost use Rattle.jr_steps.specs.Knowing.{anything, KnowsHeader, HasWord, IsWordNow, IsFilled, words_for, ShowsHeader, ShowsPublished, ShowsUsed, WasUsed, ShowsRange, ShowsWord, TookWith, HasObject, HasOptional, HasLooked, HasNoLocals, CanReopen, ShowsBarred, IsFreeSlot, ShowsGate, ShowsSlot, LostClaim, MayKnow, Took, Spent, keeps, lets_go};
+
+use crate::naming::{GateNaming, SlotNaming, TopNaming};
+use jr_model::Role;
+use jr_word::{Config, GateParts, HandleParts, HeaderParts, LocalParts, RefKind, SlotParts};
+
+/// The steps of one thread: each from `go_in` to `set_top` is one atomic operation on one word of the row. The others tell what the pass is, or spend it, and touch no word.
+pub trait Steps {
+    ghost use Rattle.jr_steps.specs.Knowing.{Standing, IsOf};
+    ghost use Rattle.jr_steps.specs.declared.known.Known.{Known};
+    ghost use Rattle.jr_steps.specs.Grasping.{InSpace};
+
+    /// The room, the thread, its role, and whether the pass is fresh.
+    ghost stands: { Self → Standing };
+
+    /// What may be known.
+    ghost knows: { Self → Known → Type 0 };
+
+    /// The sizes of the room.
+    fn config(&self) -> Config
+        ensures { result ≡ (stands self.now).config };
+
+    /// The number of the thread.
+    fn thread(&self) -> u8
+        ensures { result ≡ (stands self.now).thread };
+
+    /// The last serial of a slot or a local place.
+    fn last(&self) -> u32
+        ensures { result ≡ (stands self.now).last };
+
+    /// Where the thread stands towards the gate.
+    fn role(&self) -> Role
+        ensures { result ≡ (stands self.now).role };
+
+    /// Whether the pass is as it was opened: not spent, and with no store to a local word.
+    fn fresh(&self) -> bool
+        ensures { result ≡ (stands self.now).fresh };
+
+    /// Makes the pass one that is not fresh. It is no step.
+    fn spend(&mut self)
+        ensures { Spent stands knows self.old self.new };
+
+    /// Enters the gate: true where it was not shut.
+    fn go_in(&mut self) -> bool
+        requires { (stands self.old).role ≡ Outside }
+        ensures { Took stands knows self.old self.new (entered_as result ∷ []) anything keeps };
+
+    /// Leaves the gate.
+    fn go_out(&mut self)
+        requires { ((stands self.old).role ≡ Within) ⊎ ((stands self.old).role ≡ Knocking) }
+        ensures { Took stands knows self.old self.new (leaving (stands self.old).role ∷ []) anything lets_go };
+
+    /// Shuts the gate for a collection where no thread is inside, knocking or collecting. Else how many are.
+    fn bar(&mut self) -> Result<(), u32>
+        requires { (stands self.old).role ≡ Outside }
+        ensures { Took stands knows self.old self.new (barring result ∷ []) anything (ShowsBarred result) };
+
+    /// Opens the gate after a collection. No move may be unfinished.
+    fn unbar(&mut self)
+        requires role { (stands self.old).role ≡ Collecting }
+        requires closed { MayKnow knows self.old CanReopen }
+        ensures { Took stands knows self.old self.new (Reopen ∷ []) CanReopen lets_go };
+
+    /// Loads the gate, which counts as what it is named.
+    fn see_gate(&mut self, name: GateNaming) -> GateParts
+        requires { GateNameFits (stands self.old).role name }
+        ensures { Took stands knows self.old self.new (gate_named name (all_counted result) ∷ []) anything (λ j k. ShowsGate result k × keeps j k) };
+
+    /// Loads a slot, which counts as what it is named.
+    fn see_slot(&mut self, index: u16, name: SlotNaming) -> SlotParts
+        requires role { (stands self.old).role ≡ Within }
+        requires row { index < (stands self.old).config.slots }
+        requires fits { SlotNameFits index name }
+        ensures { Took stands knows self.old self.new (slot_named index name result ∷ []) anything (λ j k. ShowsSlot index result k × keeps j k) };
+
+    /// Exchanges the free word of a slot for a new reference's, or gives what was found in its place.
+    fn claim(
+        &mut self,
+        index: u16,
+        serial: u32,
+        kind: RefKind,
+        object: u16,
+    ) -> Result<(), SlotParts>
+        requires role { (stands self.old).role ≡ Within }
+        requires row { index < (stands self.old).config.slots }
+        requires kind { kind ≢ Local }
+        requires looked { MayKnow knows self.old (λ k. HasObject object k × IsFreeSlot index serial k) }
+        ensures { Took stands knows self.old self.new (claiming index serial kind object result ∷ []) (λ k. HasObject object k × IsFreeSlot index serial k) (λ j k. LostClaim index result j k × keeps j k) };
+
+    /// Exchanges the word of a reference that was looked at for a free one: true where it still stood.
+    fn free(&mut self, handle: HandleParts, object: Option<u16>) -> bool
+        requires role { (stands self.old).role ≡ Within }
+        requires row { handle.index < (stands self.old).config.slots }
+        requires looked { MayKnow knows self.old (HasLooked handle (found_object object)) }
+        ensures { Took stands knows self.old self.new (freeing handle result ∷ []) (HasLooked handle (found_object object)) keeps };
+
+    /// Stores an object, or none, in a local word of the thread's own.
+    fn put_local(&mut self, place: u16, object: Option<u16>)
+        requires role { (stands self.old).role ≡ Within }
+        requires place { place < (stands self.old).config.locals }
+        requires object { MayKnow knows self.old (HasOptional object) }
+        ensures { Took stands knows self.old self.new (putting place object ∷ []) (HasOptional object) keeps };
+
+    /// Loads the header of an object, which the pass knows from then on: none where it is not present.
+    fn see_header(&mut self, object: u16) -> Option<HeaderParts>
+        requires role { (stands self.old).role ≡ Within }
+        requires number { (1 ≤ object) × (object ≤ (stands self.old).config.objects) }
+        ensures { Took stands knows self.old self.new [] anything (ShowsHeader object result) };
+
+    /// Gives an object its header, unless one with this number is present: true where it is new. Its elements are those of a range of the pass's own, which it gives away.
+    fn claim_header(&mut self, object: u16, header: HeaderParts) -> bool
+        requires role { (stands self.old).role ≡ Within }
+        requires number { (1 ≤ object) × (object ≤ (stands self.old).config.objects) }
+        requires header { IsHeader header }
+        requires filled { MayKnow knows self.old (IsFilled header) }
+        ensures { TookWith stands knows self.old self.new (λ k. publishing object header.kind (words_for header k) result) (IsFilled header) (ShowsPublished object header result) };
+
+    /// Loads the top, which counts as what it is named: how many words are reserved.
+    fn see_top(&mut self, name: TopNaming) -> u32
+        requires { (stands self.old).role ≡ Within }
+        ensures { Took stands knows self.old self.new (top_named (stands self.old).config.words name result) anything (λ j k. ShowsUsed result k × keeps j k) };
+
+    /// Reserves words beside those that were looked at in this stay, or tells how many are reserved now.
+    fn claim_top(&mut self, looked: u32, more: u32) -> Result<(), u32>
+        requires role { (stands self.old).role ≡ Within }
+        requires room { looked + more ≤ (stands self.old).config.words }
+        requires looked { MayKnow knows self.old (WasUsed looked) }
+        ensures { Took stands knows self.old self.new (reserving looked more result ∷ []) (WasUsed looked) (ShowsRange looked more result) };
+
+    /// Loads an element of an object whose header the pass knows.
+    fn see_element(&mut self, object: u16, header: HeaderParts, index: u32) -> u64
+        requires role { (stands self.old).role ≡ Within }
+        requires index { index < header.length }
+        requires known { MayKnow knows self.old (KnowsHeader object header) }
+        ensures { Took stands knows self.old self.new (Read object index result ∷ []) (KnowsHeader object header) keeps };
+
+    /// Stores an element of an object whose header the pass knows. It is no string.
+    fn put_element(&mut self, object: u16, header: HeaderParts, index: u32, word: u64)
+        requires role { (stands self.old).role ≡ Within }
+        requires index { index < header.length }
+        requires kind { header.kind ≢ Text }
+        requires known { MayKnow knows self.old (λ k. KnowsHeader object header k × IsWordNow header.kind word k) }
+        ensures { Took stands knows self.old self.new (Write object index word ∷ []) (λ k. KnowsHeader object header k × IsWordNow header.kind word k) keeps };
+
+    /// Stores a word of a range of the pass's own.
+    fn put_own(&mut self, place: u32, index: u32, word: u64)
+        requires role { (stands self.old).role ≡ Within }
+        requires own { MayKnow knows self.old (HasWord place index) }
+        ensures { Took stands knows self.old self.new [] (HasWord place index) (ShowsWord place index word) };
+
+    /// Loads a slot during a collection.
+    fn scan_slot(&mut self, index: u16) -> SlotParts
+        requires role { (stands self.old).role ≡ Collecting }
+        requires row { index < (stands self.old).config.slots }
+        ensures { Took stands knows self.old self.new [] anything (λ j k. ShowsSlot index result k × keeps j k) };
+
+    /// Loads a local word of any thread during a collection.
+    fn scan_local(&mut self, thread: u8, place: u16) -> LocalParts
+        requires role { (stands self.old).role ≡ Collecting }
+        requires thread { thread < (stands self.old).config.threads }
+        requires place { place < (stands self.old).config.locals }
+        ensures { Took stands knows self.old self.new [] anything (λ j k. ShowsLocal thread place result k × keeps j k) };
+
+    /// Loads the header of an object during a collection. The pass knows it from then on.
+    fn scan_header(&mut self, object: u16) -> Option<HeaderParts>
+        requires role { (stands self.old).role ≡ Collecting }
+        requires number { (1 ≤ object) × (object ≤ (stands self.old).config.objects) }
+        ensures { Took stands knows self.old self.new [] anything (ShowsHeader object result) };
+
+    /// Loads an element of an object whose header the pass knows, during a collection.
+    fn scan_element(&mut self, object: u16, header: HeaderParts, index: u32) -> u64
+        requires role { (stands self.old).role ≡ Collecting }
+        requires index { index < header.length }
+        requires there { MayKnow knows self.old (IsThere object header index) }
+        ensures { Took stands knows self.old self.new [] (IsThere object header index) (λ j k. ShowsElement object index result k × keeps j k) };
+
+    /// Takes its object from a weak reference, which stays.
+    fn wipe(&mut self, index: u16, serial: u32, object: u16)
+        requires role { (stands self.old).role ≡ Collecting }
+        requires row { index < (stands self.old).config.slots }
+        requires can { MayKnow knows self.old (CanWipe index serial object) }
+        ensures { Took stands knows self.old self.new (Clear (handle_of Weak serial index) ∷ []) (CanWipe index serial object) keeps };
+
+    /// Takes an object away that nothing reaches and no weak reference names.
+    fn drop_header(&mut self, object: u16)
+        requires role { (stands self.old).role ≡ Collecting }
+        requires number { (1 ≤ object) × (object ≤ (stands self.old).config.objects) }
+        requires can { MayKnow knows self.old (CanDrop object) }
+        ensures { Took stands knows self.old self.new (Drop object ∷ []) (CanDrop object) (ShowsDropped object) };
+
+    /// Stores the next element of an object that moves down to a new place.
+    fn move_element(&mut self, object: u16, header: HeaderParts, place: u32, index: u32, word: u64)
+        requires role { (stands self.old).role ≡ Collecting }
+        requires index { index < header.length }
+        requires can { MayKnow knows self.old (CanMove object header place index word) }
+        ensures { Took stands knows self.old self.new [] (CanMove object header place index word) (ShowsMoved object place index) };
+
+    /// Gives an object the header of its new place, once all its elements are there.
+    fn set_header(&mut self, object: u16, header: HeaderParts, place: u32)
+        requires role { (stands self.old).role ≡ Collecting }
+        requires number { (1 ≤ object) × (object ≤ (stands self.old).config.objects) }
+        requires header { IsHeader (placed header place) }
+        requires can { MayKnow knows self.old (CanPlace object header place) }
+        ensures { Took stands knows self.old self.new [] (CanPlace object header place) (ShowsPlaced object header place) };
+
+    /// Sets how many words are used.
+    fn set_top(&mut self, used: u32)
+        requires role { (stands self.old).role ≡ Collecting }
+        requires room { used ≤ (stands self.old).config.words }
+        requires can { MayKnow knows self.old (CanSettle used) }
+        ensures { Took stands knows self.old self.new (Settle used ∷ []) (CanSettle used) keeps };
+
+    /// What is known is legal, and of this thread.
+    ghost fits: { (s : Self) (k : Known) → knows s k → IsOf (stands s) k };
+
+    ghost some_known: { (s : Self) → MayKnow knows s anything };
+
+    /// A fresh pass has no local reference.
+    ghost unused: { (s : Self) (k : Known) → (stands s).fresh ≡ true → knows s k → HasNoLocals k };
+
+    /// What the pass holds lies in the space.
+    ghost in_space: { (s : Self) (k : Known) → knows s k → InSpace k.config k.grasp };
+
+    /// The sizes are within the limits of a room.
+    ghost limits: { (s : Self) → in_limits (stands s).config ≡ true };
+
+    /// The thread is one of the room's.
+    ghost row: { (s : Self) → (stands s).thread < (stands s).config.threads };
+}

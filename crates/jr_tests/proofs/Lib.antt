@@ -1,0 +1,2 @@
+mod Tried
+mod Beside
