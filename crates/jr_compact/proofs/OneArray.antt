@@ -57,7 +57,7 @@ module _ {S : Type 0} {stands : S → Standing} {knows : S → Known → Type 0}
       let room = in_room (x.0).config (x.0).last (x.0).seen of.legal in
       let single : (x.0).config.objects ≡ 1 = ap (λ (c : Config). c.objects) (of.config ∙ ap (λ (s : Standing). s.config) took.stands_is) ∙ one in
       let shown = x.3.0 in
-      let long : length_of ((state_of x.0).objects 1) ≡ h.length = ap length_of shown.is ∙ shown.long in
+      let long : length_of ((state_of x.0).objects 1) ≡ h.length = ap length_of shown.is ∙ shown.says.long in
       let only = others (state_of x.0) (x.0).config single room.objects in
       let fit = (lengths_fit (x.0).config (x.0).last (x.0).seen of.legal).0 in
       let sum = two_words (x.0).config (state_of x.0) single (only 0 (λ e. absurd (omega arith))) in (

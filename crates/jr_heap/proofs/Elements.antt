@@ -78,13 +78,13 @@ read_word {k} {k'} o i v h g shown =
     let there : Some needs.1 ≡ Some shown.contents = sym needs.2 ∙ (ap (λ (s : State). s.objects o) same ∙ shown.is) in
     let word : IsWord (state before) needs.1.kind v
     = elements_are_words k.config k.last before o needs.1 legal.0 needs.2 (λ is t collects. (apart_state k.config k.last before legal.0).apart t k.thread collects needs.0) i v needs.3 in
-    let kinds : needs.1.kind ≡ h.kind = ap kind_in there ∙ shown.kind in
+    let kinds : needs.1.kind ≡ h.kind = ap kind_in there ∙ shown.says.kind in
     subst (λ s. IsWord s h.kind v) same (subst (λ kind. IsWord (state before) kind v) kinds word)
 
 module _ {S : Type 0} {stands : S → Standing} {knows : S → Known → Type 0} (fits : (s : S) (k : Known) → knows s k → IsOf (stands s) k) (o : ℕ) (h : HeaderParts) (i : ℕ) where
   -- a refusal, before any act
   refused : {A : Type 0} (a : S) (e : Fault) (met : Known → Type 0) (call : Known → Known → Call A) (shows : Known → Known → Type 0) → ((k : Known) → Leaves o h k k → shows k k) → ((k : Known) → met k → HoldsHeader o h k) → ((p : PassView) → Grounds p.seen p e)
-      → ((k : Known) → (x : Contents) → (state_of k).objects o ≡ Some x → x.says.kind ≡ h.kind → length x.words ≡ h.length → (f : Frames) → call k k f [] (Err e) f) → Called knows a a met call (Err e) (by_steps 0 shows)
+      → ((k : Known) → (x : Contents) → (state_of k).objects o ≡ Some x → x.kind ≡ h.kind → length x.words ≡ h.length → (f : Frames) → call k k f [] (Err e) f) → Called knows a a met call (Err e) (by_steps 0 shows)
   refused a e met call shows leaves holds grounds is = called_by (λ k s m. let x = (holds k m).shown in (k, s, [], record { did = did_nothing (view k) (fits a k s).legal; is = is k x.contents x.is x.says.kind x.says.long; window = window_nothing (view k); grounds = grounds (view k); shows = (leaves k (x, refl), no_step k) }))
 
   -- what a read leaves and shows
@@ -92,11 +92,11 @@ module _ {S : Type 0} {stands : S → Standing} {knows : S → Known → Type 0}
   Finds answer j k = Leaves o h j k × ShowsElement h.kind answer k
 
   pub read_plain : (a : S) → is_plain h.kind ≡ true → Called knows a a (HoldsHeader o h) (λ j k. read_element (state_of k) o i) (Err NotArray) (by_steps 0 (Finds (Err NotArray)))
-  read_plain a plain = refused a NotArray (HoldsHeader o h) (λ j k. read_element (state_of k) o i) (Finds (Err NotArray)) (λ k l. (l, tt)) (λ k m. m) (λ p. tt) (λ k x there kind long f. (x, there, no_elements o i (length x.words) x.says.kind f (ap is_plain kind ∙ plain)))
+  read_plain a plain = refused a NotArray (HoldsHeader o h) (λ j k. read_element (state_of k) o i) (Finds (Err NotArray)) (λ k l. (l, tt)) (λ k m. m) (λ p. tt) (λ k x there kind long f. (x, there, no_elements o i (length x.words) x.kind f (ap is_plain kind ∙ plain)))
 
   pub read_beyond : (a : S) → is_plain h.kind ≡ false → h.length ≤ i → Called knows a a (HoldsHeader o h) (λ j k. read_element (state_of k) o i) (Err Range) (by_steps 0 (Finds (Err Range)))
   read_beyond a plain l = refused a Range (HoldsHeader o h) (λ j k. read_element (state_of k) o i) (Finds (Err Range)) (λ k l. (l, tt)) (λ k m. m) (λ p. tt)
-      (λ k x there kind long f. (x, there, too_far o i (length x.words) x.says.kind f (ap is_plain kind ∙ plain) (subst (λ n. n ≤ i) (sym long) l)))
+      (λ k x there kind long f. (x, there, too_far o i (length x.words) x.kind f (ap is_plain kind ∙ plain) (subst (λ n. n ≤ i) (sym long) l)))
 
   pub read_found : {a b : S} (v : ℕ) → (stands a).role ≡ Within → is_plain h.kind ≡ false → i < h.length → Took stands knows a b (Read o i v ∷ []) (KnowsHeader o h) keeps
       → Called knows a b (HoldsHeader o h) (λ j k. read_element (state_of k) o i) (Ok v) (by_steps 1 (Finds (Ok v)))
@@ -121,15 +121,15 @@ MayWrite o h v k = HoldsHeader o h k × MayBeNamed h.kind v k
 module _ {S : Type 0} {stands : S → Standing} {knows : S → Known → Type 0} (fits : (s : S) (k : Known) → knows s k → IsOf (stands s) k) (o : ℕ) (h : HeaderParts) (i v : ℕ) where
   pub write_no_array : (a : S) → (is_plain h.kind || is_text h.kind) ≡ true → Called knows a a (MayWrite o h v) (λ j k. write_element (state_of k) o i v) (Err NotArray) (by_steps 0 (Leaves o h))
   write_no_array a plain = refused fits o h i a NotArray (MayWrite o h v) (λ j k. write_element (state_of k) o i v) (Leaves o h) (λ k l. l) (λ k m. m.0) (λ p. tt)
-      (λ k x there kind long f. (x, there, no_array o i v (length x.words) x.says.kind f (ap (λ z. is_plain z || is_text z) kind ∙ plain)))
+      (λ k x there kind long f. (x, there, no_array o i v (length x.words) x.kind f (ap (λ z. is_plain z || is_text z) kind ∙ plain)))
 
   pub write_beyond : (a : S) → (is_plain h.kind || is_text h.kind) ≡ false → h.length ≤ i → Called knows a a (MayWrite o h v) (λ j k. write_element (state_of k) o i v) (Err Range) (by_steps 0 (Leaves o h))
   write_beyond a plain l = refused fits o h i a Range (MayWrite o h v) (λ j k. write_element (state_of k) o i v) (Leaves o h) (λ k l. l) (λ k m. m.0) (λ p. tt)
-      (λ k x there kind long f. (x, there, too_far_to_write o i v (length x.words) x.says.kind f (ap (λ z. is_plain z || is_text z) kind ∙ plain) (subst (λ n. n ≤ i) (sym long) l)))
+      (λ k x there kind long f. (x, there, too_far_to_write o i v (length x.words) x.kind f (ap (λ z. is_plain z || is_text z) kind ∙ plain) (subst (λ n. n ≤ i) (sym long) l)))
 
   pub write_value : (a : S) → (is_plain h.kind || is_text h.kind) ≡ false → i < h.length → is_value h.kind v ≡ false → Called knows a a (MayWrite o h v) (λ j k. write_element (state_of k) o i v) (Err Value) (by_steps 0 (Leaves o h))
   write_value a plain l bad = refused fits o h i a Value (MayWrite o h v) (λ j k. write_element (state_of k) o i v) (Leaves o h) (λ k l. l) (λ k m. m.0) (λ p. tt)
-      (λ k x there kind long f. (x, there, no_value o i v (length x.words) x.says.kind f (ap (λ z. is_plain z || is_text z) kind ∙ plain) (subst (λ n. i < n) (sym long) l) (ap (λ z. is_value z v) kind ∙ bad)))
+      (λ k x there kind long f. (x, there, no_value o i v (length x.words) x.kind f (ap (λ z. is_plain z || is_text z) kind ∙ plain) (subst (λ n. i < n) (sym long) l) (ap (λ z. is_value z v) kind ∙ bad)))
 
   pub may_write : {a : S} → is_value h.kind v ≡ true → MayKnow knows a (MayWrite o h v) → MayKnow knows a (λ k. KnowsHeader o h k × IsWordNow h.kind v k)
   may_write good may = ∥∥₁_map may (λ k. (k.0, k.1, (k.2.0.known, word_is (state_of k.0) h.kind v good k.2.1)))

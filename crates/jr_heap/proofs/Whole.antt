@@ -36,7 +36,7 @@ pub reread : (o : ℕ) (h : HeaderParts) (answer : Result ℕ Fault) (k j q : Kn
 reread o h answer k j q l s = (
   relearnt o h k j q l s.0,
   λ x is.
-      let same : h.kind ≡ x.kind = sym s.0.0.kind ∙ ap kind_in (sym s.0.0.is ∙ is) in
+      let same : h.kind ≡ x.kind = sym s.0.0.says.kind ∙ ap kind_in (sym s.0.0.is ∙ is) in
       subst (λ (kind : Kind). ShowsElement kind answer q) same s.1,
 )
 
@@ -77,5 +77,5 @@ named_at o h v k j w m d l e =
     let x = some_of ((state_of k).objects o) m.0 in
     let y = (still k j [] d w tt).objects o x.0 x.1 in
     let same : y.0.kind ≡ l.0.contents.kind = ap kind_in (sym y.1 ∙ l.0.is) in
-    let kind : x.0.kind ≡ Objects = sym y.2 ∙ (same ∙ (l.0.kind ∙ e)) in
+    let kind : x.0.kind ≡ Objects = sym y.2 ∙ (same ∙ (l.0.says.kind ∙ e)) in
     word_later k j [] d w tt Objects v (m.1 x.0 x.1 kind)
