@@ -10,7 +10,7 @@ use Rattle.jr_steps.specs.declared.known.Move.{Move}
 use Rattle.jr_steps.specs.Grasping.{with_move, with_header, header_in, move_of, HasDone}
 use Rattle.jr_steps.specs.Collecting.{IsThere, ShowsElement, CanMove, ShowsMoved, placed, CanPlace, ShowsPlaced}
 use Rattle.jr_steps.specs.Knowing.{Standing, IsOf, MayKnow, Sees, Saw, Took, state_of, keeps, KnowsHeader}
-use Rattle.jr_steps.proofs.Collected.{tables_seen, sees_nothing, sees_more, there_left}
+use Rattle.jr_steps.proofs.Collected.{tables_seen, sees_more, there_left}
 use Rattle.jr_compact.specs.Sliding.{CanSlide}
 
 -- so many elements are moved, and nothing else that the pass holds is other
@@ -22,19 +22,10 @@ pub record SlidTo {S : Type 0} (stands : S → Standing) (knows : S → Known �
   pub stands_is : stands new ≡ stands old
   pub did : (k : Known) → knows old k → CanSlide o h place k → (k' : Known) × knows new k' × Sees k k' × IsSlidTo o place i k k'
 
-none_done : (m : Option Move) (o place : ℕ) → m ≡ None → HasDone m o place 0
-none_done m o place e = subst (λ z. HasDone z o place 0) (sym e) refl
-
 more_done : (m : Option Move) (o place i : ℕ) → m ≡ Some (move_of o place i) → HasDone m o place i
 more_done m o place i e = subst (λ z. HasDone z o place i) (sym e) refl
 
 module _ {S : Type 0} {stands : S → Standing} {knows : S → Known → Type 0} (fits : (s : S) (k : Known) → knows s k → IsOf (stands s) k) (o : ℕ) (h : HeaderParts) (place : ℕ) where
-  pub slid_none : (a : S) → SlidTo stands knows o h place a a 0
-  slid_none a = record {
-    stands_is = refl;
-    did = λ k s can. (k, s, sees_nothing (fits a k s).legal, record { done = none_done k.grasp.moving o place can.settled; others = refl });
-  }
-
   module _ {a b : S} {i : ℕ} (p : SlidTo stands knows o h place a b i) where
     known_still : (k k' : Known) → CanSlide o h place k → IsSlidTo o place i k k' → KnowsHeader o h k'
     known_still k k' can s = ap (λ (g : Grasp). header_in o g.headers) s.others ∙ can.known

@@ -13,7 +13,7 @@ use Rattle.jr_model.specs.Parts.{publish}
 use Rattle.jr_model.proofs.Updates.{at_number_self, eq_self}
 use Rattle.jr_model.proofs.Histories.{state_push}
 use Rattle.jr_model.proofs.Moments.{sometime_last}
-use Rattle.jr_model.proofs.Stays.{did_then, did_nothing}
+use Rattle.jr_model.proofs.Stays.{did_then}
 use Rattle.jr_model.proofs.Windows.{window_act, window_within}
 use Rattle.jr_steps.specs.declared.known.Known.{Known}
 use Rattle.jr_steps.specs.declared.known.Grasp.{Grasp}
@@ -54,9 +54,6 @@ filled_later h k k' d w e x =
     record { long = ap (λ ws. length ws) same ∙ x.long; words = subst (AreWords (state_of k') h.kind) (sym same) (λ i v there. word_later k k' [] d w tt h.kind v (x.words i v there)) }
 
 module _ {S : Type 0} {stands : S → Standing} {knows : S → Known → Type 0} (fits : (s : S) (k : Known) → knows s k → IsOf (stands s) k) (h : HeaderParts) (first objects : ℕ) where
-  pub passed_nothing : (a : S) → Passed stands knows h first objects a a 0
-  passed_nothing a = record { stands_is = refl; did = λ k s m. (k, s, m, refl, (λ t l. absurd (omega arith)), did_nothing (view k) (fits a k s).legal, omega arith) }
-
   pub passed_more : {a b c : S} (n o : ℕ) → (stands a).role ≡ Within → o ≡ number_of first n objects → Passed stands knows h first objects a b n
       → TookWith stands knows b c (λ k. publishing o h.kind (words_for h k) false) (IsFilled h) (ShowsPublished o h false) → Passed stands knows h first objects a c (n + 1)
   passed_more {a} {b} n o w is p t = record {

@@ -1,12 +1,9 @@
 -- Counts of threads and of references.
-use Rattle.std.proofs.Common.{◌≡◌, ◌≢◌, ⊎_elim, ℕ, zero, suc, ◌+◌, ◌<◌, ◌≤◌, ◌==◌, Bool, true, false, not, cond, if◌then◌else◌, refl, sym, ap, subst, ◌∙◌, arith, nat_eq}
+use Rattle.std.proofs.Common.{◌≡◌, ◌≢◌, ⊎_elim, ℕ, zero, suc, ◌+◌, ◌<◌, ◌≤◌, ◌==◌, Bool, true, false, not, cond, if◌then◌else◌, refl, ap, subst, ◌∙◌, arith, nat_eq}
 use Rattle.jr_word.specs.declared.config.Config.{Config}
-use Rattle.jr_word.specs.declared.handle.RefKind.{RefKind}
 use Rattle.jr_model.specs.declared.event.Role.{Role}
-use Rattle.jr_model.specs.declared.event.Found.{Found}
-use Rattle.jr_model.specs.declared.event.Found.TheVariants.{Object, Cleared, Stale}
 use Rattle.jr_model.specs.Maps.{update, sum_below, count_below}
-use Rattle.jr_model.specs.State.{Handle, State, opening, is_there, is_outside, not_outside, references}
+use Rattle.jr_model.specs.State.{State, opening, is_outside, not_outside}
 use Rattle.std.proofs.lemmas.Bool.{cases_lt}
 use Rattle.jr_model.specs.declared.event.Role.TheVariants.{Outside, Within, Knocking, Collecting}
 use Rattle.jr_model.specs.declared.event.Event.{Event}
@@ -16,7 +13,6 @@ use Rattle.jr_model.proofs.Histories.{kept_from}
 use Rattle.jr_model.proofs.Stays.{role_step}
 use Rattle.jr_model.proofs.Updates.{at_number, at_number_self, eq_true, eq_false, eq_other}
 use Rattle.jr_model.proofs.Lengths.{sum_same, sum_none}
-use Rattle.jr_model.proofs.References.{IsKept}
 
 -- a sum of which the part at k changes
 pub sum_at : (n : ℕ) (f g : ℕ → ℕ) (k : ℕ) → k < n → ((j : ℕ) → k ≢ j → g j ≡ f j) → sum_below n g + f k ≡ sum_below n f + g k
@@ -68,41 +64,6 @@ count_single n p k l here others =
     let z = sum_none n in
     let one : bit (p k) ≡ 1 = ap bit here in
     omega arith
-
-there_true : (r : Found) → is_there r ≡ true → r ≢ Stale
-there_true (Object o) e p = cc
-there_true Cleared e p = cc
-there_true Stale e p = cc
-
-there_false : (r : Found) → r ≡ Stale → is_there r ≡ false
-there_false r e = ap is_there e
-
--- the references of a kind are as many as the indexes at which one stands
-pub references_by_index : (c : Config) (last : ℕ) (k : RefKind) (s : State) (live : ℕ → Bool) → IsKept c last s
-    → ((i : ℕ) → live i ≡ true → (n : ℕ) × (is_there (s.refs (record { kind = k; serial = n; index = i; owner = 0 })) ≡ true))
-    → ((i : ℕ) → live i ≡ false → (n : ℕ) → is_there (s.refs (record { kind = k; serial = n; index = i; owner = 0 })) ≡ false)
-    → references c last k s ≡ count_below c.slots live
-references_by_index c last k s live kept some none = sum_same c.slots (λ i. bit (live i)) (λ i. count_below (last + 1) (λ n. there i n)) (λ i l. at_index i (live i) refl)
-  where
-    there : ℕ → ℕ → Bool
-    there i n = is_there (s.refs (record { kind = k; serial = n; index = i; owner = 0 }))
-
-    at_index : (i : ℕ) (b : Bool) → live i ≡ b → count_below (last + 1) (λ n. there i n) ≡ bit (live i)
-    at_index i true e =
-        let one = some i e in
-        let h : Handle = record { kind = k; serial = one.0; index = i; owner = 0 } in
-        let stands : s.refs h ≢ Stale = there_true (s.refs h) one.1 in
-        let row = kept.in_row h (kept.was_given h stands) in
-        count_single (last + 1) (λ n. there i n) one.0 (let m = row.3 in omega arith) one.1
-        (λ j ne. only i one.0 j stands ne (there i j) refl) ∙ ap bit (sym e)
-      where
-        only : (i m j : ℕ) → s.refs (record { kind = k; serial = m; index = i; owner = 0 }) ≢ Stale → m ≢ j → (b : Bool) → there i j ≡ b → there i j ≡ false
-        only i m j stands ne true e =
-            let g : Handle = record { kind = k; serial = m; index = i; owner = 0 } in
-            let h : Handle = record { kind = k; serial = j; index = i; owner = 0 } in
-            absurd (ne (ap (λ (x : Handle). x.serial) (kept.one g h stands (there_true (s.refs h) e) refl)))
-        only i m j stands ne false e = e
-    at_index i false e = count_all_false (last + 1) (λ n. there i n) (λ n l. none i e n) ∙ ap bit (sym e)
 
 outside_true : (r : Role) → not (is_outside r) ≡ false → r ≡ Outside
 outside_true Outside e = refl

@@ -1,8 +1,7 @@
 -- Histories that grow at their end.
-use Rattle.std.proofs.Common.{◌≡◌, ◌≢◌, ◌↔◌, ◌==◌, ℕ, Bool, true, false, cond, List, [], ◌∷◌, ◌++◌, map, refl, sym, subst, append_assoc}
+use Rattle.std.proofs.Common.{◌≡◌, ◌↔◌, ◌==◌, ℕ, Bool, true, false, cond, List, [], ◌∷◌, ◌++◌, map, refl, sym, subst, append_assoc}
 use Rattle.std.proofs.lemmas.List.{append-nil}
 use Rattle.std.specs.List.{AllByRecursion}
-use mathlib.Core.List.{IsPrefix}
 use Rattle.jr_word.specs.declared.config.Config.{Config}
 use Rattle.jr_model.specs.declared.event.Event.{Event}
 use Rattle.jr_model.specs.State.{State, opening}
@@ -10,7 +9,7 @@ use Rattle.jr_model.specs.Steps.{Needs, after}
 use Rattle.jr_model.specs.History.{History, state_from, state, IsLegalFrom, IsLegal, mine, by}
 use Rattle.jr_model.specs.declared.event.Act.{Act}
 use Rattle.jr_model.specs.Laws.{LegalGoesByStep}
-use Rattle.jr_model.proofs.Updates.{eq_self, eq_other}
+use Rattle.jr_model.proofs.Updates.{eq_self}
 
 pub state_from_append : (s : State) (xs ys : History) → state_from s (xs ++ ys) ≡ state_from (state_from s xs) ys
 state_from_append s [] ys = refl
@@ -34,9 +33,6 @@ mine_append (x ∷ xs) ys t = rw (mine_append xs ys t) (choice_append (x.thread 
 -- one more event of t is one more act of its own, and none of another thread's
 pub mine_push : (xs : History) (t : ℕ) (a : Act) → mine (xs ++ by t a ∷ []) t ≡ mine xs t ++ a ∷ []
 mine_push xs t a = rw (mine_append xs (by t a ∷ []) t, eq_self t) refl
-
-pub mine_push_other : (xs : History) (t u : ℕ) (a : Act) → t ≢ u → mine (xs ++ by t a ∷ []) u ≡ mine xs u
-mine_push_other xs t u a ne = rw (mine_append xs (by t a ∷ []) u, eq_other t u ne, append-nil (mine xs u)) refl
 
 -- a list of events of t alone
 pub mine_all : (t : ℕ) (acts : List Act) → mine (map (by t) acts) t ≡ acts
@@ -62,10 +58,6 @@ module _ (c : Config) (last : ℕ) where
   legal_push xs e =
       let both = legal_append xs (e ∷ []) in
       (λ l. ((both.0 l).0, (both.0 l).1.0), λ l. both.1 (l.0, (l.1, tt)))
-
-  -- a beginning of a legal history is legal
-  pub legal_front : (xs ys : History) → IsPrefix xs ys → IsLegal c last ys → IsLegal c last xs
-  legal_front xs ys p l = ((legal_append xs p.0).0 (subst (IsLegal c last) (sym p.1) l)).0
 
   extend : (I : History → Type 0) → ((es : History) (e : Event) → IsLegal c last es → I es → Needs c last (state es) e → I (es ++ e ∷ [])) → (xs ys : History) → IsLegal c last xs → I xs → IsLegalFrom c last (state xs) ys → I (xs ++ ys)
   extend I each xs [] l i m = subst I (sym (append-nil xs)) i

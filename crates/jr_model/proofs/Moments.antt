@@ -8,14 +8,13 @@ use Rattle.jr_word.specs.declared.fault.Fault.TheVariants.{RowFull, ObjectsFull,
 use Rattle.jr_model.specs.declared.event.Event.{Event}
 use Rattle.jr_model.specs.declared.event.Act.{Act}
 use Rattle.jr_model.specs.declared.event.Act.TheVariants.{Probe, ReserveLost}
-use Rattle.jr_model.specs.State.{Handle, State, IsPresent, IsOccupied}
+use Rattle.jr_model.specs.State.{State, IsPresent, IsOccupied}
 use Rattle.jr_model.specs.Steps.{Needs}
-use Rattle.jr_model.specs.History.{History, by, state, state_from, IsLegal, mine, PassView, Did}
+use Rattle.jr_model.specs.History.{History, by, state, IsLegal, mine, PassView, Did}
 use Rattle.jr_model.specs.Refusals.{Sometime, WasOccupied, ObjectsWereFull, WasRaced, Grounds}
 use Rattle.jr_model.proofs.Updates.{eq_true}
-use Rattle.jr_model.proofs.Histories.{legal_append, state_append, state_push}
+use Rattle.jr_model.proofs.Histories.{legal_append, state_push}
 use Rattle.jr_model.proofs.Stays.{mine_did}
-use Rattle.jr_model.proofs.References.{occupied_between}
 
 pub prefix_self : {A : Type 0} (xs : List A) → IsPrefix xs xs
 prefix_self xs = ([], append-nil xs)
@@ -94,20 +93,6 @@ probed_occupied {old} {new} i d =
       probed = parts;
       own = o.from;
       occupied = record { moment = here; from = prefix_self here; to = (o.since, append_assoc o.before (by new.thread (Probe i true) ∷ []) o.since ∙ sym parts); met = subst (λ l. IsOccupied l (state here) i) (sym d.last) met };
-    }
-
--- an index at which a handle was given in between
-pub given_occupied : {old new : PassView} (h : Handle) (acts : List Act) → Did old new acts → (state old.seen).given h ≡ false → (state new.seen).given h ≡ true → Sometime (λ s. IsOccupied old.last s h.index) old.seen new.seen
-given_occupied {old} {new} h acts d fresh there =
-    let rest = d.begins.0 in
-    let both = (legal_append old.config old.last old.seen rest).0 (subst (IsLegal old.config old.last) (sym d.begins.1) d.legal) in
-    let end : state new.seen ≡ state_from (state old.seen) rest = ap state (sym d.begins.1) ∙ state_append old.seen rest in
-    let o = occupied_between old.config old.last h (state old.seen) rest fresh (ap (λ (s : State). s.given h) (sym end) ∙ there) both.1 in
-    record {
-      moment = old.seen ++ o.0;
-      from = (o.0, refl);
-      to = (o.1, append_assoc old.seen o.0 o.1 ∙ (ap (λ l. old.seen ++ l) (sym o.2) ∙ d.begins.1));
-      met = subst (λ s. IsOccupied old.last s h.index) (sym (state_append old.seen o.0)) o.3;
     }
 
 -- a lost reservation, after a moment of the call at which so many words were used

@@ -1,9 +1,8 @@
 -- A collection in a room where nothing is rooted.
-use Rattle.std.proofs.Common.{◌≡◌, ◌≢◌, ◌+◌, ◌<◌, ◌≤◌, ℕ, zero, suc, Bool, true, false, Option, Some, None, IsSome, List, [], ◌∷◌, refl, sym, ap, subst, ◌∙◌, arith}
+use Rattle.std.proofs.Common.{◌≡◌, ◌≢◌, ◌+◌, ◌<◌, ◌≤◌, ℕ, zero, suc, Option, Some, None, IsSome, [], ◌∷◌, refl, sym, ap, subst, ◌∙◌, arith}
 use mathlib.Core.Logic.{dite, ∥∥₁_map}
 use native.Mathlib.Decide.{ℕ_discrete}
 use Rattle.jr_word.specs.declared.config.Config.{Config}
-use Rattle.jr_word.specs.declared.handle.RefKind.{RefKind}
 use Rattle.jr_word.specs.declared.handle.RefKind.TheVariants.{Global, Weak}
 use Rattle.jr_word.specs.declared.header.HeaderParts.{HeaderParts}
 use Rattle.jr_word.specs.declared.local.LocalParts.TheVariants as local
@@ -14,19 +13,18 @@ use Rattle.jr_model.specs.declared.event.Found.{Found}
 use Rattle.jr_model.specs.declared.event.Found.TheVariants.{Object, Cleared, Stale}
 use Rattle.jr_model.specs.declared.event.Role.TheVariants.{Collecting}
 use Rattle.jr_model.specs.Maps.{sum_below}
-use Rattle.jr_model.specs.State.{Handle, Contents, State, IsPresent, IsReached, from_global, from_local, from_element, length_of, present_words, HaveSameTables}
-use Rattle.jr_model.specs.Steps.{act_after}
+use Rattle.jr_model.specs.State.{Handle, Contents, State, IsPresent, IsReached, from_global, from_local, from_element, length_of}
 use Rattle.jr_model.specs.History.{role_of}
 use Rattle.jr_model.proofs.Presence.{named_is_present}
 use Rattle.jr_model.proofs.References.{kept_state}
-use Rattle.jr_model.proofs.Updates.{at_handle, at_number, at_handle_self}
+use Rattle.jr_model.proofs.Updates.{at_handle, at_handle_self}
 use Rattle.jr_steps.specs.declared.known.Grasp.{Grasp}
 use Rattle.jr_steps.specs.declared.known.Known.{Known}
 use Rattle.jr_steps.specs.Acts.{handle_of}
 use Rattle.jr_steps.specs.Collecting.{ShowsLocal, CanWipe, CanDrop, ShowsDropped, CanSettle}
 use Rattle.jr_steps.specs.Says.{local_parts}
 use Rattle.jr_steps.specs.Knowing.{Standing, IsOf, Goes, Took, Saw, MayKnow, anything, view, state_of, keeps, lets_go, IsSettled, CanReopen, ShowsHeader, ShowsSlot}
-use Rattle.jr_steps.proofs.Collected.{same_tables, tables_seen, sees_nothing, sees_more, goes_act}
+use Rattle.jr_steps.proofs.Collected.{same_tables, tables_seen, sees_more, goes_act}
 use Rattle.jr_steps.proofs.Goes.{may_then, took_less}
 use Rattle.jr_model.proofs.InRoom.{in_room}
 
@@ -40,9 +38,6 @@ abbrev pub HasNoneTo : ℕ → ℕ → Known → Known → Type 0
 HasNoneTo t n j k = keeps j k × ((p : ℕ) → p < n → (state_of k).locals t p ≡ None)
 
 module _ {S : Type 0} {stands : S → Standing} {knows : S → Known → Type 0} (fits : (s : S) (k : Known) → knows s k → IsOf (stands s) k) (t : ℕ) where
-  pub none_looked : (a : S) → Saw stands knows a a anything (HasNoneTo t 0)
-  none_looked a = record { stands_is = refl; sees = λ k s m. (k, s, sees_nothing (fits a k s).legal, (refl, λ p l. absurd (omega arith))) }
-
   pub one_looked : {a b c : S} {i : ℕ} → (stands a).role ≡ Collecting → Saw stands knows a b anything (HasNoneTo t i) → Took stands knows b c [] anything (λ j k. ShowsLocal t i local.Free k × keeps j k) → Saw stands knows a c anything (HasNoneTo t (i + 1))
   one_looked {a} {b} {i = i} collects p q = record {
     stands_is = q.stands_is ∙ p.stands_is;

@@ -6,8 +6,7 @@ use Rattle.std.proofs.Props.{props}
 use Rattle.std.specs.List.{AllByRecursion}
 use mathlib.Core.Logic.{dite}
 use native.Mathlib.Decide.{ℕ_discrete}
-use Rattle.jr_model.specs.declared.event.Role.{Role}
-use Rattle.jr_model.specs.declared.event.Role.TheVariants.{Outside, Within, Knocking, Collecting}
+use Rattle.jr_model.specs.declared.event.Role.TheVariants.{Outside, Within, Collecting}
 use Rattle.jr_model.specs.declared.event.Found.{Found}
 use Rattle.jr_model.specs.declared.event.Event.{Event}
 use Rattle.jr_model.specs.declared.event.Act.TheVariants.{Look, Leave}
@@ -15,12 +14,11 @@ use Rattle.jr_model.specs.State.{Handle, Contents, State, IsPresent, IsClosed, H
 use Rattle.jr_model.specs.History.{History, by, state, IsLegal, mine, role_of, role_from, Did}
 use Rattle.jr_model.proofs.Updates.{eq_false}
 use Rattle.jr_model.proofs.Histories.{legal_append, state_append, mine_append}
-use Rattle.jr_model.proofs.Gates.{IsApart, apart_state}
+use Rattle.jr_model.proofs.Gates.{apart_state}
 use Rattle.jr_model.proofs.Stays.{append_cancel, role_of_state, same_along}
 use Rattle.jr_steps.specs.declared.known.Known.{Known}
 use Rattle.jr_steps.specs.Knowing.{view, HasObject, HasLooked, IsClosedNow}
 use Rattle.jr_steps.specs.declared.known.Grasp.{Grasp}
-use Rattle.jr_steps.specs.Grasping.{empty}
 use Rattle.jr_rule.specs.Image.{MayHold}
 use Rattle.jr_rule.specs.Rule.{known, IsFound}
 use Rattle.jr_steps.proofs.Goes.{none_mine, present_stays}
@@ -60,22 +58,6 @@ module _ (k : Known) (log : History) (words : List ℕ) (held : ℕ → Grasp) (
   moves_as_known collects =
       let mine' = subst (λ r. MayHold f.image.moving r (held t)) (role_at ∙ collects) (f.image.hands.each t) in
       sym mine'.0 ∙ ap (λ (g : Grasp). g.moving) f.fits.grasp
-
-  -- and nobody else holds anything
-  pub others_empty : role_of (view k) ≡ Collecting → (u : ℕ) → u ≢ t → held u ≡ empty
-  others_empty collects u ne = go ((state log).role u) refl (f.image.hands.each u)
-    where
-      apart : IsApart (state log).role
-      apart = apart_state k.config k.last log f.legal
-
-      at : (state log).role t ≡ Collecting
-      at = role_at ∙ collects
-
-      go : (r : Role) → (state log).role u ≡ r → MayHold f.image.moving r (held u) → held u ≡ empty
-      go Within e h = absurd (apart.apart t u at e)
-      go Collecting e h = absurd (ne (apart.alone u t e at))
-      go Outside e h = h
-      go Knocking e h = h
 
   -- a look in this stay is one
   pub looked_later : (h : Handle) (r : Found) → HasLooked h r k → HasLooked h r now

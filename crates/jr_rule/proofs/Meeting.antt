@@ -1,11 +1,10 @@
 -- Two passes at one seat, while they meet.
 use Rattle.std.proofs.Common.{◌≡◌, ℕ, List, [], ◌∷◌, sym, ap, subst, ◌∙◌}
 use Rattle.jr_model.specs.declared.event.Act.{Act}
-use Rattle.jr_model.specs.History.{HasMet}
 use Rattle.jr_steps.specs.declared.known.Known.{Known}
 use Rattle.jr_steps.specs.Grasping.{InSpace}
 use Rattle.jr_steps.specs.Knowing.{view}
-use Rattle.jr_rule.specs.Rule.{view as seats, EachFits, Sat, acting, others_of, Tells, IsAlone, together, first_alone, without_first}
+use Rattle.jr_rule.specs.Rule.{view as seats, EachFits, Sat, acting, others_of, Tells, IsAlone, together, first_alone}
 use Rattle.jr_rule.specs.Holding.{IsSeated}
 use Rattle.jr_rule.proofs.Seats.{joined_is}
 
@@ -40,14 +39,3 @@ module _ (a b m : Sat) (alone : IsAlone a) (other : IsAlone b) (joined : m ≡ (
       held = s.held;
       others = subst (λ ks. EachFits (acting a).config (acting a).last (s.new).seen s.held ks) (sym (ap (λ (z : Sat). others_of z.0.passes) alone)) tt;
     }
-
-    -- all that the other pass has seen is seen, and of its events just those
-    pub has_met : HasMet (view (acting b)) (view (acting first))
-    has_met =
-        let fit = (subst (λ ks. EachFits (acting m).config (acting m).last (s.new).seen s.held ks) others_both s.others).0 in
-        let here : acting first ≡ s.new = ap acting first_is in
-        subst (λ k. HasMet (view (acting b)) (view k)) (sym here) record { begins = fit.begins; theirs = fit.own }
-
-    -- the second pass is as it was
-    pub second_is : (second : Sat) → second ≡ (without_first m'.0, []) → second ≡ (seats (acting b ∷ []), [])
-    second_is second e = e ∙ (ap (λ (z : Sat). (without_first z.0, [])) s.is ∙ ap (λ ks. (seats ks, [])) others_both)

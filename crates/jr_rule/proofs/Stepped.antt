@@ -10,12 +10,11 @@ use Rattle.jr_model.proofs.Agreement.{spares_places, places_did, all_spared}
 use Rattle.jr_model.proofs.Stays.{role_did}
 use Rattle.jr_steps.specs.declared.known.Known.{Known}
 use Rattle.jr_rule.specs.declared.pass.Pass.{Pass}
-use Rattle.jr_rule.specs.declared.row.Row.{Row}
 use Rattle.jr_steps.specs.Grasping.{InSpace}
 use Rattle.jr_steps.specs.Knowing.{IsOf, view, fresh_from, HasNoLocals, Goes, Took, TookWith}
 use Rattle.jr_rule.specs.Rule.{view as seats, Sat, acting, others_of, Tells}
-use Rattle.jr_rule.specs.Holding.{IsHeld, IsSeated}
-use Rattle.jr_rule.specs.Passes.{known_of, standing_of, Knows, IsAt}
+use Rattle.jr_rule.specs.Holding.{IsHeld}
+use Rattle.jr_rule.specs.Passes.{known_of, standing_of, Knows}
 use Rattle.jr_steps.proofs.Goes.{goes_did}
 
 -- who is fresh afterwards was so, and has stored no local
@@ -30,10 +29,6 @@ no_locals_next k k' acts f g e none p =
     let r = fresh_spares f acts e in
     let d = goes_did g in
     ap (λ l. l p) (places_did acts d ∙ all_spared ((state k.seen).locals k.thread) acts r.1) ∙ none r.0 p
-
--- a seat of one pass can step
-pub seated : (m : Sat) (thread : ℕ) (role : Role) (fresh : Bool) → IsHeld m thread role fresh → IsSeated m
-seated m thread role fresh h = h.alone ∙ ap (λ ks. (seats (acting m ∷ ks), [])) (sym (ap (λ (z : Sat). others_of z.0.passes) h.alone))
 
 module _ {told : Known → ℕ → List Act → Known → Type 0} (m : Sat) (n : ℕ) (m' : Sat) (s : Tells told m n m') where
   pub acting_is : acting m' ≡ s.new
@@ -56,14 +51,6 @@ module _ {told : Known → ℕ → List Act → Known → Type 0} (m : Sat) (n :
       }
 
 module _ {told : Known → ℕ → List Act → Known → Type 0} (old new : Pass) (n : ℕ) (s : Tells told old.seat.me n new.seat.me) where
-  -- the pass is still one of the row
-  pub still_at : (r : Row) → IsAt r old → new.seat.table_id ≡ old.seat.table_id → IsAt r new
-  still_at r h e = let g = s.goes in let a = acting_is old.seat.me n new.seat.me s in record {
-    row = e ∙ h.row;
-    config = ap (λ (k : Known). k.config) a ∙ (g.config ∙ h.config);
-    last = ap (λ (k : Known). k.last) a ∙ (g.last ∙ h.last);
-  }
-
   -- what is known of the pass
   known_is : IsLegal (s.new).config (s.new).last (s.new).seen → IsOf (standing_of new) s.new
   known_is legal =

@@ -33,7 +33,7 @@ use Rattle.jr_scripts.specs.Commands.{deed, deleted, deleted_as, deleted_of, mak
 use Rattle.jr_scripts.specs.AloneAnswers.{IsAloneFault}
 use Rattle.jr_scripts.proofs.AloneHistories.{all_prefix}
 use Rattle.jr_scripts.proofs.AloneCalls.{IsAlone, LedAlone, LeadsAlone, call_alone}
-use Rattle.jr_scripts.proofs.Mild.{IsMild, making_mild, creation_mild, local_creation_mild, comparison_mild, removal_mild, local_removal_mild, typing_mild}
+use Rattle.jr_scripts.proofs.Uncontended.{IsUncontended, making_uncontended, creation_uncontended, local_creation_uncontended, comparison_uncontended, removal_uncontended, local_removal_uncontended, typing_uncontended}
 
 -- what is alone now was before
 pub was_alone : {turns : ℕ} {A : Type 0} {old new : PassView} {g : Frames} {answer : Result A Fault} → LedAlone turns old new g answer → IsAlone new → IsAlone old
@@ -65,7 +65,7 @@ kind_fits w h (Parts g) is reads = subst (λ (x : HandleParts). same_kind h.kind
 
 module _ (turns : ℕ) where
   stayed : {A : Type 0} (p : PassView) (f : Frames) (answer : Result A Fault) → IfErr answer (IsAloneFault turns p f) → LedAlone turns p p f answer
-  stayed p f answer fault = record { config = refl; thread = refl; begins = prefix_self p.seen; mild = λ m. m; fault = fault }
+  stayed p f answer fault = record { config = refl; thread = refl; begins = prefix_self p.seen; uncontended = λ m. m; fault = fault }
 
   -- no event, and a refusal that is a lone thread's
   decided_alone : {A : Type 0} (r : Result A Fault) → ((p : PassView) (f : Frames) → IfErr r (IsAloneFault turns p f)) → LeadsAlone turns (decided r)
@@ -87,10 +87,10 @@ module _ (turns : ℕ) where
       led old new answer alone (inl r) =
           let y = (q r.0).led r.1 new answer alone r.3 in
           let x = p.led old r.1 (Ok r.0) (was_alone y alone) r.2 in
-          record { config = y.config ∙ x.config; thread = y.thread ∙ x.thread; begins = prefix_trans old.pass.seen r.1.pass.seen new.pass.seen x.begins y.begins; mild = λ m. y.mild (x.mild m); fault = y.fault }
+          record { config = y.config ∙ x.config; thread = y.thread ∙ x.thread; begins = prefix_trans old.pass.seen r.1.pass.seen new.pass.seen x.begins y.begins; uncontended = λ m. y.uncontended (x.uncontended m); fault = y.fault }
       led old new answer alone (inr r) =
           let x = p.led old new (Err r.0) alone r.2 in
-          record { config = x.config; thread = x.thread; begins = x.begins; mild = x.mild; fault = subst (λ (z : Result B Fault). IfErr z (IsAloneFault turns new.pass new.frames)) (sym r.1) x.fault }
+          record { config = x.config; thread = x.thread; begins = x.begins; uncontended = x.uncontended; fault = subst (λ (z : Result B Fault). IfErr z (IsAloneFault turns new.pass new.frames)) (sym r.1) x.fault }
 
   answered_alone : {A B : Type 0} (form : A → B) {one : Deed A} → LeadsAlone turns one → LeadsAlone turns (answered_by form one)
   answered_alone form p = bind_alone p (λ x. done_alone (form x))
@@ -117,38 +117,38 @@ module _ (turns : ℕ) where
 
 module _ (turns : ℕ) where
   -- a call that is handed a reference word, and one that is handed two
-  on_alone : {A : Type 0} (w : ℕ) (work : Config → ℕ → ℕ → State → Word → Call A) → ((c : Config) (last t : ℕ) (s : State) (a : Word) → IsReadAs w a → c.threads ≡ 1 → t ≡ 0 → IsMild last (work c last t s a))
+  on_alone : {A : Type 0} (w : ℕ) (work : Config → ℕ → ℕ → State → Word → Call A) → ((c : Config) (last t : ℕ) (s : State) (a : Word) → IsReadAs w a → c.threads ≡ 1 → t ≡ 0 → IsUncontended last (work c last t s a))
       → ((c : Config) (last t : ℕ) (s : State) (a : Word) → ChangesNothing (entered (work c last t s a))) → LeadsAlone turns (call_on w (λ c last t s a. entered (work c last t s a)))
-  on_alone w work mild changes = record {
-    led = λ old new answer alone d. (call_alone turns (λ c. 0) (λ c last t s. work c last t s d.0) (λ c last t s. mild c last t s d.0 d.1) (λ c last t s. changes c last t s d.0)).led old new answer alone d.2;
+  on_alone w work uncontended changes = record {
+    led = λ old new answer alone d. (call_alone turns (λ c. 0) (λ c last t s. work c last t s d.0) (λ c last t s. uncontended c last t s d.0 d.1) (λ c last t s. changes c last t s d.0)).led old new answer alone d.2;
   }
 
-  on_both_alone : {A : Type 0} (v w : ℕ) (work : Config → ℕ → ℕ → State → Word → Word → Call A) → ((c : Config) (last t : ℕ) (s : State) (a b : Word) → c.threads ≡ 1 → t ≡ 0 → IsMild last (work c last t s a b))
+  on_both_alone : {A : Type 0} (v w : ℕ) (work : Config → ℕ → ℕ → State → Word → Word → Call A) → ((c : Config) (last t : ℕ) (s : State) (a b : Word) → c.threads ≡ 1 → t ≡ 0 → IsUncontended last (work c last t s a b))
       → ((c : Config) (last t : ℕ) (s : State) (a b : Word) → ChangesNothing (entered (work c last t s a b))) → LeadsAlone turns (call_on_both v w (λ c last t s a b. entered (work c last t s a b)))
-  on_both_alone v w work mild changes = record {
-    led = λ old new answer alone d. (call_alone turns (λ c. 0) (λ c last t s. work c last t s d.0 d.1) (λ c last t s. mild c last t s d.0 d.1) (λ c last t s. changes c last t s d.0 d.1)).led old new answer alone d.4;
+  on_both_alone v w work uncontended changes = record {
+    led = λ old new answer alone d. (call_alone turns (λ c. 0) (λ c last t s. work c last t s d.0 d.1) (λ c last t s. uncontended c last t s d.0 d.1) (λ c last t s. changes c last t s d.0 d.1)).led old new answer alone d.4;
   }
 
   plain_alone : LeadsAlone turns new_plain
-  plain_alone = answered_alone turns _ (call_alone turns (λ c. c.objects) (λ c last t s. references.making c last t) (λ c last t s one first. making_mild c last t one first) (λ c last t s. (refusals_change_nothing c last t s).new_plain))
+  plain_alone = answered_alone turns _ (call_alone turns (λ c. c.objects) (λ c last t s. references.making c last t) (λ c last t s one first. making_uncontended c last t one first) (λ c last t s. (refusals_change_nothing c last t s).new_plain))
 
   reference_alone : (k : RefKind) (w : ℕ) → LeadsAlone turns (new_reference k w)
-  reference_alone k w = answered_alone turns _ (on_alone w (λ c last t s a. references.creation c last t k a) (λ c last t s a reads one first. creation_mild c last t one first k a) (λ c last t s a. (refusals_change_nothing c last t s).new_reference k a))
+  reference_alone k w = answered_alone turns _ (on_alone w (λ c last t s a. references.creation c last t k a) (λ c last t s a reads one first. creation_uncontended c last t one first k a) (λ c last t s a. (refusals_change_nothing c last t s).new_reference k a))
 
   local_ref_alone : (w : ℕ) → LeadsAlone turns (new_local_ref w)
-  local_ref_alone w = answered_alone turns _ (on_alone w (λ c last t s a. references.local_creation c last t a) (λ c last t s a reads one first. local_creation_mild c last t one first a) (λ c last t s a. (refusals_change_nothing c last t s).new_local_ref a))
+  local_ref_alone w = answered_alone turns _ (on_alone w (λ c last t s a. references.local_creation c last t a) (λ c last t s a reads one first. local_creation_uncontended c last t one first a) (λ c last t s a. (refusals_change_nothing c last t s).new_local_ref a))
 
   delete_alone : (k : RefKind) (w : ℕ) → ((a : Word) → IsReadAs w a → is_of_kind k a ≡ true) → LeadsAlone turns (delete_reference k w)
-  delete_alone k w is = on_alone w (λ c last t s a. references.removal c k a) (λ c last t s a reads one first. removal_mild c last t one first k a (is a reads)) (λ c last t s a. (refusals_change_nothing c last t s).delete_reference k a)
+  delete_alone k w is = on_alone w (λ c last t s a. references.removal c k a) (λ c last t s a reads one first. removal_uncontended c last t one first k a (is a reads)) (λ c last t s a. (refusals_change_nothing c last t s).delete_reference k a)
 
   delete_local_alone : (w : ℕ) → ((a : Word) → IsReadAs w a → is_of_kind Local a ≡ true) → LeadsAlone turns (delete_local_ref w)
-  delete_local_alone w is = on_alone w (λ c last t s a. references.local_removal c t a) (λ c last t s a reads one first. local_removal_mild c last t one first a (is a reads)) (λ c last t s a. (refusals_change_nothing c last t s).delete_local_ref a)
+  delete_local_alone w is = on_alone w (λ c last t s a. references.local_removal c t a) (λ c last t s a reads one first. local_removal_uncontended c last t one first a (is a reads)) (λ c last t s a. (refusals_change_nothing c last t s).delete_local_ref a)
 
   same_alone : (v w : ℕ) → LeadsAlone turns (is_same_object v w)
-  same_alone v w = on_both_alone v w (λ c last t s a b. references.comparison c last t a b) (λ c last t s a b one first. comparison_mild c last t one first a b) (λ c last t s a b. (refusals_change_nothing c last t s).is_same_object a b)
+  same_alone v w = on_both_alone v w (λ c last t s a b. references.comparison c last t a b) (λ c last t s a b one first. comparison_uncontended c last t one first a b) (λ c last t s a b. (refusals_change_nothing c last t s).is_same_object a b)
 
   type_alone : (w : ℕ) → LeadsAlone turns (get_object_ref_type w)
-  type_alone w = on_alone w (λ c last t s a. references.typing c t a) (λ c last t s a reads one first. typing_mild c last t one first a) (λ c last t s a. (refusals_change_nothing c last t s).get_object_ref_type a)
+  type_alone w = on_alone w (λ c last t s a. references.typing c t a) (λ c last t s a reads one first. typing_uncontended c last t one first a) (λ c last t s a. (refusals_change_nothing c last t s).get_object_ref_type a)
 
 -- THE COMMANDS
 

@@ -6,9 +6,11 @@ use Rattle.std.specs.Result.{IsErrAnd}
 use Rattle.jr_word.specs.declared.config.Config.{Config}
 use Rattle.jr_word.specs.declared.fault.Fault.{Fault}
 use Rattle.jr_word.specs.declared.fault.Fault.TheVariants.{Barred}
+use Rattle.jr_word.specs.declared.kind.Kind.TheVariants.{Plain}
 use Rattle.jr_model.specs.declared.event.Role.{Role}
 use Rattle.jr_model.specs.declared.event.Role.TheVariants.{Outside, Within}
 use Rattle.jr_model.specs.declared.event.Act.TheVariants.{Enter, Knock, Leave, Withdraw}
+use Rattle.jr_model.specs.State.{Handle}
 use Rattle.jr_model.specs.Frames.{Frames, fresh_frames, object_at}
 use Rattle.jr_model.specs.Calls.{Call, entered}
 use Rattle.jr_model.proofs.Runs.{ran_barred, ran_entered}
@@ -17,7 +19,7 @@ use Rattle.jr_steps.specs.Knowing.{Standing, moved, anything, keeps, lets_go, Ho
 use Rattle.jr_steps.proofs.Goes.{goes_did, goes_stepped}
 use Rattle.jr_gate.specs.Acting.{ActedTo, IsWithdrawn}
 use Rattle.jr_scripts.specs.Table.{Table}
-use Rattle.jr_scripts.specs.Performing.{Performed, Calls, CallsWhole, MakesObject, MayLearn, IsAsBefore}
+use Rattle.jr_scripts.specs.Performing.{Performed, Calls, CallsWhole, LearnsNew, MakesPlain, object_made, IsAsBefore}
 use Rattle.jr_scripts.specs.Ready.{IsReady, KeepsOwner, Completes}
 use Rattle.jr_scripts.proofs.Standings.{as_before}
 use Rattle.jr_scripts.proofs.Spending.{made_of, spending, spend_first, spend_last, spend_more, spend_step, spend_barred}
@@ -127,8 +129,8 @@ module _ {S : Type 0} {stands : S → Standing} {knows : S → Known → Type 0}
         → Completes stands knows a d t u 0 (entered (work (stands a).config (stands a).last (stands a).thread)) answer
     completes_entered r e p o l = completes (λ c. 0) {so = keeps} r e p o l
 
-    -- work that makes an object
-    pub completes_making : {a b c d : S} {t u : Table} (silent : Config → ℕ) {answer : Result A Fault} → IsReady stands knows Outside a t → Took stands knows a b (Enter ∷ []) anything keeps
-        → MakesObject stands knows b c t.frames u.frames (silent (stands b).config) (work (stands b).config (stands b).last (stands b).thread) answer → KeepsOwner t u → Took stands knows c d (Leave ∷ []) anything lets_go
-        → Completes stands knows a d t u (silent (stands a).config) (entered (work (stands a).config (stands a).last (stands a).thread)) answer
-    completes_making silent r e p o l = completes silent {so = MayLearn} r e p o l
+  -- work that makes a plain object
+  pub completes_making : (work : Config → ℕ → ℕ → Call Handle) {a b c d : S} {t u : Table} (silent : Config → ℕ) {answer : Result Handle Fault} → IsReady stands knows Outside a t → Took stands knows a b (Enter ∷ []) anything keeps
+      → MakesPlain stands knows b c t.frames u.frames (silent (stands b).config) (work (stands b).config (stands b).last (stands b).thread) answer → KeepsOwner t u → Took stands knows c d (Leave ∷ []) anything lets_go
+      → Completes stands knows a d t u (silent (stands a).config) (entered (work (stands a).config (stands a).last (stands a).thread)) answer
+  completes_making work {u = u} silent {answer} r e p o l = completes work silent {so = LearnsNew Plain (object_made u.frames answer)} r e p o l

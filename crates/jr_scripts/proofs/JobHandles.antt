@@ -21,10 +21,6 @@ Thread = PromisedHandle ThreadRun Doing
 abbrev pub given_to : Thread → Job
 given_to h = record { first = h.promise.first; turns = h.promise.turns; part = h.promise.part; pass = h.promise.pass.value }
 
--- it is the job
-pub given_is : (h : Thread) (j : Job) → IsGiven h.promise j → given_to h ≡ j
-given_is h j g i = record { first = g.first i; turns = g.turns i; part = g.part i; pass = g.pass i }
-
 -- what a thread promised
 abbrev DidIt : Doing → ThreadRun → Type 0
 DidIt d r = RanPass d.turns d.first d.part.now.commands d.pass.value r.pass r.answer r.text.items
@@ -56,18 +52,3 @@ pub all_done : (g : Promise.Ghosts Doing ThreadRun) → ((p : Doing) (r : Thread
 all_done g same hs rs xs js n count long each none so =
     subst (λ z. AllZip HasRun z rs) (sym (append-nil (map given_to hs)) ∙ (ap (λ z. map given_to hs ++ z) (sym (none_left xs none)) ∙ so))
     (all_kept g same hs rs long (subst (λ m. KeepsEach g m hs rs) count each))
-
--- one more thread was started
-pub one_started : (hs hs' : List Thread) (h : Thread) (xs ys js : List Job) (j : Job) → hs' ≡ hs ++ h ∷ [] → IsGiven h.promise j → xs ≡ j ∷ ys → map given_to hs ++ xs ≡ js → map given_to hs' ++ ys ≡ js
-one_started hs hs' h xs ys js j more is first so =
-    ap (λ z. map given_to z ++ ys) more
-    ∙ (ap (λ z. z ++ ys) (map-append given_to hs (h ∷ []))
-    ∙ (append_assoc (map given_to hs) (given_to h ∷ []) ys
-    ∙ (ap (λ z. map given_to hs ++ z ∷ ys) (given_is h j is)
-    ∙ (ap (λ z. map given_to hs ++ z) (sym first) ∙ so))))
-
-pub at_first : (r : Row) (xs ys : List Job) (x : Job) → xs ≡ x ∷ ys → All (IsFor r) xs → IsFor r x
-at_first r xs ys x e all = All-head (IsFor r) x ys (subst (All (IsFor r)) e all)
-
-pub at_rest : (r : Row) (xs ys : List Job) (x : Job) → xs ≡ x ∷ ys → All (IsFor r) xs → All (IsFor r) ys
-at_rest r xs ys x e all = All-tail (IsFor r) x ys (subst (All (IsFor r)) e all)

@@ -4,7 +4,7 @@ pub mod CommandDeeds
 pub mod Going
 pub mod Alone
 pub mod AloneHistories
-pub mod Mild
+pub mod Uncontended
 pub mod AloneCalls
 pub mod AloneDeeds
 pub mod AloneAnswers

@@ -1,7 +1,8 @@
 -- A plain object is made, and a local reference to it.
-use Rattle.std.proofs.Common.{◌≡◌, ◌≢◌, ◌<◌, ◌≤◌, ℕ, Bool, false, nat_lt, Option, Some, None, [], ◌∷◌, Result, Ok, Err, length, inl, inr, refl, sym, ap, subst, ◌∙◌, arith, IsTrue}
+use Rattle.std.proofs.Common.{◌≡◌, ◌≢◌, ◌<◌, ◌≤◌, ℕ, Bool, false, nat_lt, Option, Some, None, [], ◌∷◌, Result, Ok, Err, length, cond, eq-eqb, inl, inr, refl, sym, ap, subst, ◌∙◌, arith, IsTrue}
 use Rattle.std.proofs.lemmas.Bool.Decides.{nat_tests}
 use Rattle.std.specs.Result.{IsErrAnd}
+use Rattle.std.proofs.lemmas.Result.{err_from_is_err_and}
 use mathlib.Core.Logic.{∥∥₁_map, ∥∥₁_elim}
 use Rattle.jr_word.specs.declared.config.Config.{Config}
 use Rattle.jr_word.specs.declared.kind.Kind.{Kind}
@@ -12,7 +13,7 @@ use Rattle.jr_model.specs.declared.event.Role.TheVariants.{Within}
 use Rattle.jr_model.specs.declared.event.Act.TheVariants.{New, LocalPut}
 use Rattle.jr_model.specs.State.{Handle}
 use Rattle.jr_model.specs.History.{PassView, role_of, Did}
-use Rattle.jr_model.specs.Frames.{Frames, IsAdded, free_places, is_free}
+use Rattle.jr_model.specs.Frames.{Frames, IsAdded, free_places, is_free, object_at}
 use Rattle.jr_model.specs.Refusals.{ObjectsWereFull}
 use Rattle.jr_model.specs.Calls.{Call, Ran, refuse_if, ◌>>=◌}
 use Rattle.jr_model.specs.Parts.{publish}
@@ -25,12 +26,11 @@ use Rattle.jr_steps.specs.declared.known.Known.{Known}
 use Rattle.jr_steps.specs.Knowing.{Standing, IsOf, view, anything, keeps, HasOptional, MayKnow, Took, fresh_from}
 use Rattle.jr_steps.proofs.Goes.{goes_did}
 use Rattle.jr_scripts.specs.Table.{Table, IsNext, IsOnly}
-use Rattle.jr_scripts.specs.Performing.{Published, moment, MakesObject, publication, bare}
+use Rattle.jr_scripts.specs.Performing.{Published, LearnsNew, MakesPlain, moment, object_made, publication}
 use Rattle.jr_scripts.specs.Ready.{IsReady}
 use Rattle.jr_scripts.proofs.Standings.{as_before, still_before}
 use Rattle.jr_scripts.proofs.Known.{holds_did, holds_put}
 use Rattle.jr_scripts.proofs.Spending.{Spending, made_of, spend_first, spend_step, spend_acts}
-use Rattle.jr_scripts.proofs.Refusing.{handed_on}
 
 below_one : (n : ℕ) → n ≢ 0 → nat_lt n 1 ≡ false
 below_one n ne = grind (arith, nat_tests)
@@ -94,19 +94,19 @@ module _ {S : Type 0} {stands : S → Standing} {knows : S → Known → Type 0}
 
   module _ {t : Table} {h : Handle} (r : IsReady stands knows Within a t) (next : IsNext t h) where
     pub makes_full : {e : Fault} (fits : (s : S) (k : Known) → knows s k → IsOf (stands s) k) (answer : Result Handle Fault) → IsErrAnd answer (λ y. y ≡ e) → (e ≡ ObjectsFull) × Published stands knows a b Plain None
-        → MakesObject stands knows a b t.frames t.frames (stands a).config.objects (making (stands a).config (stands a).last (stands a).thread) answer
-    makes_full fits answer given why = let p = why.1 in handed_on answer (subst (λ y. IsErrAnd answer (λ z. z ≡ y)) why.0 given) (record {
+        → MakesPlain stands knows a b t.frames t.frames (stands a).config.objects (making (stands a).config (stands a).last (stands a).thread) answer
+    makes_full fits answer given why = let p = why.1 in let err = err_from_is_err_and answer given in subst (λ z. MakesPlain stands knows a b t.frames t.frames (stands a).config.objects (making (stands a).config (stands a).last (stands a).thread) z) (sym (err.1 ∙ ap (λ (y : Fault). Err y) (err.2 ∙ why.0))) (record {
       stands_is = as_before _ p.stands_is;
       ran = λ k s m.
           let x = p.did k s in
           let full : ObjectsWereFull k.seen (view x.0) = sometime_last x.3.begins (λ o l n. x.2 o l (subst (λ (c : Config). o ≤ c.objects) (x.3.config ∙ (fits a k s).config) n)) in
-          (x.0, x.1, made_of (spent_publishing p k s t.frames) (full_ran (stands a).config (stands a).last (stands a).thread t.frames (room_at h r next) ((fits a k s).role ∙ r.role_is) full x.3), (inl x.4, holds_did k x.0 t.frames [] x.3 tt m));
+          (x.0, x.1, made_of (spent_publishing p k s t.frames) (full_ran (stands a).config (stands a).last (stands a).thread t.frames (room_at h r next) ((fits a k s).role ∙ r.role_is) full x.3), (x.4, holds_did k x.0 t.frames [] x.3 tt m));
     })
 
     pub makes : {c : S} {o : ℕ} {g : Frames} → Published stands knows a b Plain (Some o) → Took stands knows b c (LocalPut h.index o ∷ []) (HasOptional (Some o)) keeps
         → IsAdded t.last t.thread t.frames (record { handle = h; object = o }) g → IsOnly t.frames h.index (Some o) g
-        → MakesObject stands knows a c t.frames g (stands a).config.objects (making (stands a).config (stands a).last (stands a).thread) (Ok h)
-    makes {o = o} {g = g} p u added only = record {
+        → MakesPlain stands knows a c t.frames g (stands a).config.objects (making (stands a).config (stands a).last (stands a).thread) (Ok h)
+    makes {o = o} {g = g} p u added only = let there : object_made g (Ok h) ≡ Some o = only h.index ∙ ap (λ b. cond b (Some o) (object_at t.frames h.index)) (eq-eqb h.index h.index refl) in record {
       stands_is = still_before (as_before _ p.stands_is) (as_before _ u.stands_is);
       ran = λ k s m.
           let x = p.did k s in
@@ -116,6 +116,6 @@ module _ {S : Type 0} {stands : S → Standing} {knows : S → Known → Type 0}
             y.0,
             y.1,
             made_of (spend_first (spent_publishing p k s t.frames) (spend_step u x.0 x.1 x.2 t.frames g)) (made_ran (stands a).config (stands a).last (stands a).thread h o (room_at h r next) x.3 d here),
-            (inr (o, bare Plain, y.3 ∙ x.4), holds_put x.0 y.0 t.frames g h.index (Some o) d only (holds_did k x.0 t.frames (New o Plain [] ∷ []) x.3 (refl, tt) m)),
+            (subst (λ z. LearnsNew Plain z k y.0) (sym there) (y.3 ∙ x.4), holds_put x.0 y.0 t.frames g h.index (Some o) d only (holds_did k x.0 t.frames (New o Plain [] ∷ []) x.3 (refl, tt) m)),
           );
     }

@@ -1,5 +1,5 @@
 -- A local reference is made to what was resolved.
-use Rattle.std.proofs.Common.{◌≡◌, ◌≢◌, ℕ, Option, Some, None, [], ◌∷◌, Result, Ok, Err, nat_lt, inl, refl, sym, ap, subst, arith, ◌∙◌}
+use Rattle.std.proofs.Common.{◌≡◌, ◌≢◌, ℕ, Option, Some, None, [], ◌∷◌, Result, Ok, Err, nat_lt, refl, sym, ap, subst, arith, ◌∙◌}
 use mathlib.Core.Logic.{∥∥₁_map, ∥∥₁_elim}
 use Rattle.jr_word.specs.declared.config.Config.{Config}
 use Rattle.jr_word.specs.declared.fault.Fault.{Fault}
@@ -18,7 +18,7 @@ use Rattle.jr_steps.specs.Knowing.{Standing, IsOf, view, keeps, HasObject, HasOp
 use Rattle.jr_model.proofs.InRoom.{in_room}
 use Rattle.jr_steps.proofs.Goes.{goes_did}
 use Rattle.jr_scripts.specs.Table.{Table, IsNext, IsOnly}
-use Rattle.jr_scripts.specs.Performing.{FoundPresent, Resolves, Calls, MakesLocal, MakesObject}
+use Rattle.jr_scripts.specs.Performing.{FoundPresent, Resolves, Calls, MakesLocal, MakesPlain}
 use Rattle.jr_scripts.specs.Ready.{IsReady}
 use Rattle.jr_scripts.proofs.Standings.{nothing_changed, as_before, still_before, but_fresh}
 use Rattle.jr_scripts.proofs.Entering.{same_owner, ready_called}
@@ -48,19 +48,19 @@ module _ {S : Type 0} {stands : S → Standing} {knows : S → Known → Type 0}
       let each : ((k : Known) × knows a k × HasObject o k) → ⊥ = λ k. let low = ((in_room k.0.config k.0.last k.0.seen (fits a k.0 k.1).legal).objects o k.2).0 in omega arith in
       ∥∥₁_elim {P = ⊥} there (hlevel) each
 
-  -- a call that makes no object
-  object_of_call : {A : Type 0} {a b : S} {f g : Frames} {call : Call A} {answer : Result A Fault} (silent : ℕ) → Calls stands knows a b f g call answer → MakesObject stands knows a b f g silent call answer
-  object_of_call silent p = record {
+  -- a call that makes no object is refused
+  refused_making : {a b : S} {f g : Frames} {call : Call Handle} {e : Fault} (silent : ℕ) → Calls stands knows a b f g call (Err e) → MakesPlain stands knows a b f g silent call (Err e)
+  refused_making silent p = record {
     stands_is = p.stands_is;
-    ran = λ k s m. let x = p.ran k s m in (x.0, x.1, made_of (spend_more silent (spending x.2)) x.2.ran, (inl x.3.0, x.3.1));
+    ran = λ k s m. let x = p.ran k s m in (x.0, x.1, made_of (spend_more silent (spending x.2)) x.2.ran, x.3);
   }
 
   -- no place is free for a new object's reference
-  pub makes_nothing : {a : S} {t : Table} → ((s : S) (k : Known) → knows s k → IsOf (stands s) k) → IsReady stands knows Within a t → free_places t.last t.frames ≡ 0 → MakesObject stands knows a a t.frames t.frames (stands a).config.objects (making (stands a).config (stands a).last (stands a).thread) (Err LocalsFull)
+  pub makes_nothing : {a : S} {t : Table} → ((s : S) (k : Known) → knows s k → IsOf (stands s) k) → IsReady stands knows Within a t → free_places t.last t.frames ≡ 0 → MakesPlain stands knows a a t.frames t.frames (stands a).config.objects (making (stands a).config (stands a).last (stands a).thread) (Err LocalsFull)
   makes_nothing {a} {t} fits r none =
       let s = stands a in
       let none_here = subst (λ n. free_places n t.frames ≡ 0) r.last none in
-      object_of_call s.config.objects (stays fits a t.frames (λ p l. full_ran s.config s.last s.thread _ none_here l))
+      refused_making s.config.objects (stays fits a t.frames (λ p l. full_ran s.config s.last s.thread _ none_here l))
 
   -- no reference is made to no object
   pub makes_none : ((s : S) (k : Known) → knows s k → IsOf (stands s) k) → (a : S) (f : Frames) (z : Option ℕ) → z ≡ None → MakesLocal stands knows a a f f z (new_local (stands a).config (stands a).last (stands a).thread z) (Ok None)

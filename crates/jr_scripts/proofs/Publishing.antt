@@ -57,13 +57,6 @@ module _ {S : Type 0} {stands : S → Standing} {knows : S → Known → Type 0}
         );
   }
 
-  -- all numbers were found present
-  pub published_none : {a b : S} {n : ℕ} (kind : Kind) → n ≡ (stands a).config.objects → Passed stands knows a b n → Published stands knows a b kind None
-  published_none {a} {n = n} kind is p = record {
-    stands_is = p.stands_is;
-    did = λ k s. let x = p.did k s in let count = x.4 in (x.0, x.1, λ o l m. x.2 o l (omega arith), x.3, x.5, n, omega arith, omega arith);
-  }
-
   pub published_new : {a b c : S} {n : ℕ} {kind : Kind} → n ≤ (stands a).config.objects → Passed stands knows a b n → Claimed b c (n + 1) kind true → Published stands knows a c kind (Some (n + 1))
   published_new {n = n} {kind = kind} few p t = record {
     stands_is = t.stands_is ∙ p.stands_is;

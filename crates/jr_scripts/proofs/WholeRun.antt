@@ -57,7 +57,7 @@ module _ {S : Type 0} {stands : S → Standing} {knows : S → Known → Type 0}
         seen = k.seen;
         lines = lines;
         legal = legal;
-        alone = unbarred k.seen all (went.mild tt);
+        alone = unbarred k.seen all (went.uncontended tt);
         closing = end;
         saw = same_view c last k config_of last_of thread_of;
         explained = from;

@@ -1,15 +1,16 @@
 -- What a call is, over any steps, for whatever was known.
-use Rattle.std.specs.Prelude.{◌≡◌, ◌⊎◌, ◌≤◌, ◌<◌, ◌+◌, ℕ, Bool, Result, Ok, Option, Some, None, List, [], ◌∷◌, ◌++◌, map, length}
+use Rattle.std.specs.Prelude.{◌≡◌, ◌≤◌, ◌<◌, ◌+◌, ℕ, Bool, Result, Ok, Err, Option, Some, None, List, [], ◌∷◌, ◌++◌, map, length}
 use Rattle.jr_word.specs.declared.config.Config.{Config}
 use Rattle.jr_word.specs.declared.fault.Fault.{Fault}
 use Rattle.jr_word.specs.declared.handle.RefKind.{RefKind}
 use Rattle.jr_word.specs.declared.kind.Kind.{Kind}
+use Rattle.jr_word.specs.declared.kind.Kind.TheVariants.{Plain}
 use Rattle.jr_model.specs.declared.event.Act.{Act}
 use Rattle.jr_model.specs.declared.event.Act.TheVariants.{Create, Probe, New}
 use Rattle.jr_model.specs.State.{Handle, State, EachPresent}
 use Rattle.jr_model.specs.History.{History, PassView, Did}
 use Rattle.jr_model.specs.Refusals.{WasOccupied}
-use Rattle.jr_model.specs.Frames.{Frames}
+use Rattle.jr_model.specs.Frames.{Frames, object_at}
 use Rattle.jr_model.specs.Calls.{Call, Ran}
 use Rattle.jr_word.specs.declared.header.HeaderParts.{HeaderParts}
 use Rattle.jr_steps.specs.declared.known.Known.{Known}
@@ -115,9 +116,10 @@ abbrev pub FoundPresent : Result (Option ℕ) Fault → Known → Type 0
 FoundPresent (Ok (Some o)) k = HasObject o k
 FoundPresent _ k = Unit {0}
 
--- the pass holds what it held, or knows the header of one object more
-abbrev pub MayLearn : Known → Known → Type 0
-MayLearn j k = keeps j k ⊎ ((o : ℕ) × (h : HeaderParts) × (k.grasp ≡ with_header j.grasp o h))
+-- the object that the local reference made stands for, none where the call was refused
+abbrev pub object_made : Frames → Result Handle Fault → Option ℕ
+object_made f (Ok h) = object_at f h.index
+object_made f (Err e) = None
 
 module _ {S : Type 0} (stands : S → Standing) (knows : S → Known → Type 0) where
   -- a reference was resolved: the object that was found is present
@@ -128,9 +130,9 @@ module _ {S : Type 0} (stands : S → Standing) (knows : S → Known → Type 0)
   abbrev pub Calls : {A : Type 0} → S → S → Frames → Frames → Call A → Result A Fault → Type 0
   Calls old new f g call answer = Performed stands knows old new f g 0 (Holds f) (λ s. call) answer (λ j k. keeps j k × Holds g k)
 
-  -- an object was made in a stay, by at most so many operations beside its acts: the pass may know its header, and the frames go on agreeing with the locals
-  abbrev pub MakesObject : {A : Type 0} → S → S → Frames → Frames → ℕ → Call A → Result A Fault → Type 0
-  MakesObject old new f g silent call answer = Performed stands knows old new f g silent (Holds f) (λ s. call) answer (λ j k. MayLearn j k × Holds g k)
+  -- a plain object and a local reference to it were made in a stay, by at most so many operations beside the acts: the pass holds the header of that very object beside what it held, and where the call was refused just what it held; the frames go on agreeing with the locals
+  abbrev pub MakesPlain : S → S → Frames → Frames → ℕ → Call Handle → Result Handle Fault → Type 0
+  MakesPlain old new f g silent call answer = Performed stands knows old new f g silent (Holds f) (λ s. call) answer (λ j k. LearnsNew Plain (object_made g answer) j k × Holds g k)
 
   -- a whole call was made: the pass holds nothing, and the frames go on agreeing with the locals
   abbrev pub CallsWhole : {A : Type 0} → S → S → Frames → Frames → ℕ → Call A → Result A Fault → Type 0

@@ -8,7 +8,7 @@ ghost use Rattle.jr_model.specs.References as references;
 ghost use Rattle.jr_model.specs.References.{new_local, creation, local_creation, comparison, making, removal, local_removal};
 ghost use Rattle.jr_steps.specs.Knowing.{MayKnow, HasOptional};
 ghost use Rattle.jr_scripts.specs.Reading.{word_of, OwnerFits};
-ghost use Rattle.jr_scripts.specs.Performing.{Calls, MakesLocal, MakesObject};
+ghost use Rattle.jr_scripts.specs.Performing.{Calls, MakesLocal, MakesPlain};
 ghost use Rattle.jr_scripts.specs.Ready.{IsReady, KeepsOwner, Completes};
 
 use crate::frames::Frames;
@@ -138,7 +138,7 @@ pub fn get_object_ref_type<S: Steps>(
 /// A plain object and a local reference to it, within the gate: E9, E11.
 fn make_plain<S: Steps>(steps: &mut S, frames: &mut Frames) -> Result<HandleParts, Fault>
     requires { IsReady S.stands S.knows Within steps.old frames.old }
-    ensures call { MakesObject S.stands S.knows steps.old steps.new frames.old.frames frames.new.frames (S.stands steps.old).config.objects (making (S.stands steps.old).config (S.stands steps.old).last (S.stands steps.old).thread) result }
+    ensures call { MakesPlain S.stands S.knows steps.old steps.new frames.old.frames frames.new.frames (S.stands steps.old).config.objects (making (S.stands steps.old).config (S.stands steps.old).last (S.stands steps.old).thread) result }
     ensures same { KeepsOwner frames.old frames.new }
     ensures owner { IfOk result (λ h. (h.kind ≡ Local) × (h.owner ≡ (S.stands steps.old).thread)) }
 {

@@ -1,14 +1,12 @@
 -- What a collector may rely on from step to step: nobody else changes the tables.
-use Rattle.std.proofs.Common.{◌≡◌, ◌<◌, ◌≤◌, ℕ, Option, [], ◌∷◌, ◌++◌, refl, sym, ap, subst, ◌∙◌, append_assoc}
+use Rattle.std.proofs.Common.{◌≡◌, ◌<◌, ◌≤◌, ℕ, [], ◌∷◌, ◌++◌, sym, ap, subst, ◌∙◌, append_assoc}
 use Rattle.std.proofs.lemmas.List.{append-nil}
 use Rattle.jr_word.specs.declared.config.Config.{Config}
 use Rattle.jr_model.specs.declared.event.Act.{Act}
 use Rattle.jr_model.specs.declared.event.Role.TheVariants.{Collecting}
-use Rattle.jr_model.specs.declared.event.Found.{Found}
-use Rattle.jr_model.specs.State.{Handle, Contents, State, IsReached, HaveSameTables}
+use Rattle.jr_model.specs.State.{State, HaveSameTables}
 use Rattle.jr_model.specs.Steps.{act_after}
 use Rattle.jr_model.specs.History.{by, state, IsLegal, mine, role_of}
-use Rattle.jr_model.proofs.Collections.{reached_mono}
 use Rattle.jr_model.proofs.Gates.{apart_state}
 use Rattle.jr_model.proofs.Histories.{legal_append, legal_push, mine_append, state_append, state_push}
 use Rattle.jr_model.proofs.Stays.{same_along}
@@ -34,10 +32,6 @@ tables_seen {k} {k'} g collects =
 
 pub same_tables : {k k' : Known} → Goes k [] k' → role_of (view k) ≡ Collecting → HaveSameTables (state_of k) (state_of k')
 same_tables g collects = tables_seen (goes_sees g) collects
-
--- no step was taken
-pub sees_nothing : {k : Known} → IsLegal k.config k.last k.seen → Sees k k
-sees_nothing {k} legal = record { config = refl; last = refl; thread = refl; between = []; seen = sym (append-nil k.seen); others = refl; legal = legal }
 
 -- and one step more
 pub sees_more : {k k' k'' : Known} → Sees k k' → Goes k' [] k'' → Sees k k''
@@ -67,11 +61,3 @@ there_settled o i h k known l settled = (known, l, ap (λ m. spot m o h.place i)
 -- and while one is moved, those that are not yet done
 pub there_left : (o i place n : ℕ) (h : HeaderParts) (k : Known) → KnowsHeader o h k → i < h.length → HasDone k.grasp.moving o place n → n ≤ i → IsThere o h i k
 there_left o i place n h k known l done more = (known, l, at_left k.grasp.moving o place n done h.place i more)
-
--- and so what is reached
-pub reached_on : {s s' : State} → HaveSameTables s s' → (o : ℕ) → IsReached s o → IsReached s' o
-reached_on {s} {s'} same o r = reached_mono s s' (record {
-  globals = λ h p g e. ap (λ (f : Handle → Found). f h) same.refs ∙ e;
-  locals = λ t q p e. ap (λ (f : ℕ → ℕ → Option ℕ). f t q) same.locals ∙ e;
-  objects = λ p x z e. ap (λ (f : ℕ → Option Contents). f p) same.objects ∙ e;
-}) r

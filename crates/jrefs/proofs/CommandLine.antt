@@ -13,7 +13,7 @@ use Rattle.jrefs.specs.declared.request.Request.{Request}
 use Rattle.jrefs.specs.declared.request.Request.TheVariants.{Run, Check, Word, Widen}
 use Rattle.jrefs.specs.Describe.{hex_value}
 use Rattle.jrefs.specs.Act.{Answers, AnswersWords}
-use Rattle.jrefs.specs.Request.{command_line, asked_for, request_found, request_of_command, Asks}
+use Rattle.jrefs.specs.Request.{command_line, asked_for, request_found, request_of_command, hex_found, Asks}
 
 is_simple_line : is_simple command_line ≡ true
 unfolding clap_on_literals
@@ -38,22 +38,19 @@ check_is_found = refl
 abbrev argument_of : Option (Text × List Row) → Option (Text × Option Text)
 argument_of = option_map (λ p. (p.0, first_of (codes "hex") p.1))
 
--- a text that does not begin with a hyphen is an argument
-word_is_taken : (b : ℕ) (bs : List ℕ) → (b == 45) ≡ false → takes command_line (codes "word" ∷ (b ∷ bs) ∷ []) ≡ true
-unfolding clap_on_literals
-word_is_taken b bs plain = rw (plain, plain) refl
+-- a command of this name reads one word: a text that does not begin with a hyphen is its argument, and a word's digits ask for this
+record ReadsWord (name : Text) (ask : ℕ → Request) : Type 0 where
+  taken : (b : ℕ) (bs : List ℕ) → (b == 45) ≡ false → takes command_line (name ∷ (b ∷ bs) ∷ []) ≡ true
+  found : (b : ℕ) (bs : List ℕ) → (b == 45) ≡ false → argument_of (subcommand_of command_line (name ∷ (b ∷ bs) ∷ [])) ≡ Some (name, Some (b ∷ bs))
+  asks : (argument : Option Text) → request_of_command name argument ≡ option_map ask (hex_found argument)
 
-word_is_found : (b : ℕ) (bs : List ℕ) → (b == 45) ≡ false → argument_of (subcommand_of command_line (codes "word" ∷ (b ∷ bs) ∷ [])) ≡ Some (codes "word", Some (b ∷ bs))
+word_reads : ReadsWord (codes "word") Word
 unfolding clap_on_literals
-word_is_found b bs plain = rw (plain, plain) refl
+word_reads = record { taken = λ b bs plain. rw (plain, plain) refl; found = λ b bs plain. rw (plain, plain) refl; asks = λ argument. refl }
 
-widen_is_taken : (b : ℕ) (bs : List ℕ) → (b == 45) ≡ false → takes command_line (codes "widen" ∷ (b ∷ bs) ∷ []) ≡ true
+widen_reads : ReadsWord (codes "widen") Widen
 unfolding clap_on_literals
-widen_is_taken b bs plain = rw (plain, plain) refl
-
-widen_is_found : (b : ℕ) (bs : List ℕ) → (b == 45) ≡ false → argument_of (subcommand_of command_line (codes "widen" ∷ (b ∷ bs) ∷ [])) ≡ Some (codes "widen", Some (b ∷ bs))
-unfolding clap_on_literals
-widen_is_found b bs plain = rw (plain, plain) refl
+widen_reads = record { taken = λ b bs plain. rw (plain, plain) refl; found = λ b bs plain. rw (plain, plain) refl; asks = λ argument. refl }
 
 request_by_argument : (o : Option (Text × List Row)) → request_found o ≡ option_and_then (λ c. request_of_command c.0 c.1) (argument_of o)
 request_by_argument None = refl
@@ -77,27 +74,18 @@ begins_plainly b bs w e =
     let are = (and_parts (nat_le (length text) 16) digits short).1 in
     no_hyphen b (and_parts (is_ascii_hexdigit b) (list_all is_ascii_hexdigit bs) are).0
 
-digits_are_taken : (digits : Text) (w : ℕ) → hex_value digits ≡ Some w → takes command_line (codes "word" ∷ digits ∷ []) ≡ true
-digits_are_taken [] w e = cc
-digits_are_taken (b ∷ bs) w e = word_is_taken b bs (begins_plainly b bs w e)
+module _ {name : Text} {ask : ℕ → Request} (reads : ReadsWord name ask) where
+  digits_are_taken : (digits : Text) (w : ℕ) → hex_value digits ≡ Some w → takes command_line (name ∷ digits ∷ []) ≡ true
+  digits_are_taken [] w e = cc
+  digits_are_taken (b ∷ bs) w e = reads.taken b bs (begins_plainly b bs w e)
 
-digits_are_found : (digits : Text) (w : ℕ) → hex_value digits ≡ Some w → asked_for (codes "word" ∷ digits ∷ []) ≡ Some (Word w)
-digits_are_found [] w e = cc
-digits_are_found (b ∷ bs) w e =
-    request_by_argument (subcommand_of command_line (codes "word" ∷ (b ∷ bs) ∷ []))
-    ∙ ap (option_and_then (λ c. request_of_command c.0 c.1)) (word_is_found b bs (begins_plainly b bs w e))
-    ∙ ap (option_map Word) e
-
-narrow_digits_are_taken : (digits : Text) (w : ℕ) → hex_value digits ≡ Some w → takes command_line (codes "widen" ∷ digits ∷ []) ≡ true
-narrow_digits_are_taken [] w e = cc
-narrow_digits_are_taken (b ∷ bs) w e = widen_is_taken b bs (begins_plainly b bs w e)
-
-narrow_digits_are_found : (digits : Text) (w : ℕ) → hex_value digits ≡ Some w → asked_for (codes "widen" ∷ digits ∷ []) ≡ Some (Widen w)
-narrow_digits_are_found [] w e = cc
-narrow_digits_are_found (b ∷ bs) w e =
-    request_by_argument (subcommand_of command_line (codes "widen" ∷ (b ∷ bs) ∷ []))
-    ∙ ap (option_and_then (λ c. request_of_command c.0 c.1)) (widen_is_found b bs (begins_plainly b bs w e))
-    ∙ ap (option_map Widen) e
+  digits_are_found : (digits : Text) (w : ℕ) → hex_value digits ≡ Some w → asked_for (name ∷ digits ∷ []) ≡ Some (ask w)
+  digits_are_found [] w e = cc
+  digits_are_found (b ∷ bs) w e =
+      request_by_argument (subcommand_of command_line (name ∷ (b ∷ bs) ∷ []))
+      ∙ ap (option_and_then (λ c. request_of_command c.0 c.1)) (reads.found b bs (begins_plainly b bs w e))
+      ∙ reads.asks (Some (b ∷ bs))
+      ∙ ap (option_map ask) e
 
 -- ---- requests
 
@@ -105,14 +93,14 @@ narrow_digits_are_found (b ∷ bs) w e =
 asks_taken : (r : Request) (words : List Text) → Asks r words → takes command_line words ≡ true
 asks_taken Run words asks = ap (takes command_line) asks ∙ run_is_taken
 asks_taken Check words asks = ap (takes command_line) asks ∙ check_is_taken
-asks_taken (Word w) words asks = ap (takes command_line) asks.2 ∙ digits_are_taken asks.0 w asks.1
-asks_taken (Widen w) words asks = ap (takes command_line) asks.2 ∙ narrow_digits_are_taken asks.0 w asks.1
+asks_taken (Word w) words asks = ap (takes command_line) asks.2 ∙ digits_are_taken word_reads asks.0 w asks.1
+asks_taken (Widen w) words asks = ap (takes command_line) asks.2 ∙ digits_are_taken widen_reads asks.0 w asks.1
 
 pub asks_found : (r : Request) (words : List Text) → Asks r words → asked_for words ≡ Some r
 asks_found Run words asks = ap asked_for asks ∙ run_is_found
 asks_found Check words asks = ap asked_for asks ∙ check_is_found
-asks_found (Word w) words asks = ap asked_for asks.2 ∙ digits_are_found asks.0 w asks.1
-asks_found (Widen w) words asks = ap asked_for asks.2 ∙ narrow_digits_are_found asks.0 w asks.1
+asks_found (Word w) words asks = ap asked_for asks.2 ∙ digits_are_found word_reads asks.0 w asks.1
+asks_found (Widen w) words asks = ap asked_for asks.2 ∙ digits_are_found widen_reads asks.0 w asks.1
 
 pub takes_request : (line : App) (words : List Text) (r : Request) → line ≡ command_line → Asks r words → takes line words ≡ true
 takes_request line words r same asks = ap (λ (a : App). takes a words) same ∙ asks_taken r words asks
