@@ -49,18 +49,9 @@ mod tests {
     use jr_word::Config;
     use std::test::Fail;
 
-    /// A room of one thread.
-    const SMALL: Config = Config {
-        threads: 1,
-        slots: 1,
-        objects: 1,
-        words: 0,
-        locals: 16,
-    };
-
     #[test]
     fn keeps_the_gate_shut_until_it_ends(rt: HostRuntime) -> Result<(), Fail> {
-        let mut steps = PlainSteps::<2>::new(rt.alloc(), SMALL)?;
+        let mut steps = PlainSteps::<2>::new(rt.alloc(), Config::LEAST)?;
         let Ok(collection) = shut_gate(&mut steps) else {
             return Err("nobody is inside")?;
         };

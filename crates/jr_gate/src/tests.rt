@@ -16,10 +16,7 @@ use std::thread::Threads;
 /// A room of four threads with one slot and one object.
 const SMALL: Config = Config {
     threads: 4,
-    slots: 1,
-    objects: 1,
-    words: 0,
-    locals: 16,
+    ..Config::LEAST
 };
 
 /// What a room has in which nothing stands.

@@ -1,9 +1,8 @@
 -- A collection in a room where nothing is rooted.
-use Rattle.std.proofs.Common.{◌≡◌, ◌≢◌, ◌+◌, ◌<◌, ◌≤◌, ℕ, zero, suc, Bool, true, false, Option, Some, None, IsSome, List, [], ◌∷◌, refl, sym, ap, subst, ◌∙◌, arith}
+use Rattle.std.proofs.Common.{◌≡◌, ◌≢◌, ◌+◌, ◌<◌, ◌≤◌, ℕ, zero, suc, Option, Some, None, IsSome, [], ◌∷◌, refl, sym, ap, subst, ◌∙◌, arith}
 use mathlib.Core.Logic.{dite, ∥∥₁_map}
 use native.Mathlib.Decide.{ℕ_discrete}
 use Rattle.jr_word.specs.declared.config.Config.{Config}
-use Rattle.jr_word.specs.declared.handle.RefKind.{RefKind}
 use Rattle.jr_word.specs.declared.handle.RefKind.TheVariants.{Global, Weak}
 use Rattle.jr_word.specs.declared.header.HeaderParts.{HeaderParts}
 use Rattle.jr_word.specs.declared.local.LocalParts.TheVariants as local
@@ -14,12 +13,11 @@ use Rattle.jr_model.specs.declared.event.Found.{Found}
 use Rattle.jr_model.specs.declared.event.Found.TheVariants.{Object, Cleared, Stale}
 use Rattle.jr_model.specs.declared.event.Role.TheVariants.{Collecting}
 use Rattle.jr_model.specs.Maps.{sum_below}
-use Rattle.jr_model.specs.State.{Handle, Contents, State, IsPresent, IsReached, from_global, from_local, from_element, length_of, present_words, HaveSameTables}
-use Rattle.jr_model.specs.Steps.{act_after}
+use Rattle.jr_model.specs.State.{Handle, Contents, State, IsPresent, IsReached, from_global, from_local, from_element, length_of}
 use Rattle.jr_model.specs.History.{role_of}
 use Rattle.jr_model.proofs.Presence.{named_is_present}
 use Rattle.jr_model.proofs.References.{kept_state}
-use Rattle.jr_model.proofs.Updates.{at_handle, at_number, at_handle_self}
+use Rattle.jr_model.proofs.Updates.{at_handle, at_handle_self}
 use Rattle.jr_rule.specs.declared.known.Grasp.{Grasp}
 use Rattle.jr_rule.specs.declared.known.Known.{Known}
 use Rattle.jr_rule.specs.Acts.{handle_of}

@@ -11,6 +11,7 @@ mod collect_tests;
 mod gate_stepping;
 mod heap_stepping;
 mod known;
+mod layout;
 mod naming;
 mod parts;
 mod pass;
