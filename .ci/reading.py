@@ -70,8 +70,8 @@ def target_of(path, word):
     if len(parts) < 3 or parts[1] not in ("specs", "proofs") or not os.path.isdir(f"crates/{parts[0]}"):
         return None
     if parts[1:3] == ["specs", "declared"]:
-        if parts[-1] == "TheConstants":
-            return ".".join(parts[:-1]), word
+        if "TheConstants" in parts:
+            return ".".join(parts[:parts.index("TheConstants")]), word
         parts = parts[:-1] if parts[-1].startswith("The") and parts[-2][0].isupper() else parts
         return ".".join(parts[:-1]), parts[-1]
     if not os.path.exists(f"crates/{'/'.join(parts)}.antt"):

@@ -1,5 +1,6 @@
 //! Objects: their numbers and headers, over any steps.
 ghost use Rattle.std.specs.Prelude.{◌≡◌, ◌<◌, ◌≤◌, IfOk, Ok};
+ghost use Rattle.jr_word.specs.declared.config.TheConstants.Config.{MOST_OBJECTS};
 ghost use Rattle.jr_word.specs.declared.kind.Kind.TheVariants.{Plain};
 ghost use Rattle.jr_model.specs.declared.event.Role.TheVariants.{Within};
 ghost use Rattle.jr_model.specs.Parts.{publish as publication, header as header_call};
@@ -15,7 +16,7 @@ use jr_word::{Fault, HeaderParts, Kind};
 #[derive(Debug, PartialEq, Eq, Drop)]
 pub struct Numbers {
     next: u32,
-    ghost fits: { next ≤ 65535 },
+    ghost fits: { next ≤ MOST_OBJECTS },
 }
 
 impl Numbers {
@@ -36,7 +37,7 @@ impl Numbers {
 fn number(first: u32, turn: u32, objects: u32) -> u16
     requires first { first < objects }
     requires turn { turn < objects }
-    requires few { objects ≤ 65535 }
+    requires few { objects ≤ MOST_OBJECTS }
     ensures number { result ≡ number_of first turn objects }
     ensures range { (1 ≤ result) × (result ≤ objects) }
 {

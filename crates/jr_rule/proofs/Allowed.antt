@@ -3,6 +3,7 @@ use Rattle.std.proofs.Common.{◌≡◌, ◌+◌, ◌<◌, ◌≤◌, ◌^◌, �
 use Rattle.std.proofs.Math.Logic.{∥∥₁_elim}
 use Rattle.std.proofs.Props.{props}
 use mathlib.Core.Logic.{∥∥₁_map}
+use Rattle.jr_word.specs.declared.config.TheConstants.Config.{MOST_OBJECTS}
 use Rattle.jr_word.specs.declared.header.HeaderParts.{HeaderParts}
 use Rattle.jr_word.specs.declared.kind.Kind.{Kind}
 use Rattle.jr_word.specs.declared.handle.RefKind.TheVariants.{Weak}
@@ -46,9 +47,9 @@ module _ (p : Pass) where
     looked_object x e = ∥∥₁_elim may (hlevel props) (λ k. let low = ((looked_at k.0.config k.0.last h o k.0 (k.1).pass.legal k.2).object x e).0 in omega arith)
 
   -- the number of an object, if one is given, is one of the room
-  pub optional_few : (o : Option ℕ) → MayKnow Knows p (HasOptional o) → (known_of p).config.objects ≤ 65535 → (x : ℕ) → o ≡ Some x → (0 < x) × (x < 2 ^ 16)
+  pub optional_few : (o : Option ℕ) → MayKnow Knows p (HasOptional o) → (known_of p).config.objects ≤ MOST_OBJECTS → (x : ℕ) → o ≡ Some x → (0 < x) × (x < 2 ^ 16)
   optional_few o may few x e = ∥∥₁_elim may (hlevel props)
-      (λ k. optional_fits o k.0 (k.1).pass.legal (subst (λ (z : Known). z.config.objects ≤ 65535) (sym (k.1).is) few) k.2 x e)
+      (λ k. optional_fits o k.0 (k.1).pass.legal (subst (λ (z : Known). z.config.objects ≤ MOST_OBJECTS) (sym (k.1).is) few) k.2 x e)
 
   -- what a collector has to know
   pub there_known : (o : ℕ) (h : HeaderParts) (i : ℕ) → MayKnow Knows p (IsThere o h i) → IsThere o h i (known_of p)

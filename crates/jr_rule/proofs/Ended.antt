@@ -13,7 +13,7 @@ use Rattle.jr_rule.specs.Image.{IsImage}
 use Rattle.std.specs.List.{AllByRecursion}
 use Rattle.jr_steps.specs.declared.known.Known.{Known}
 use Rattle.jr_steps.specs.declared.known.Grasp.{Grasp}
-use Rattle.jr_rule.specs.Passes.{Ends, EndsAll, IsSeenIn, HasPass, HasEachPass, HasNoOthers}
+use Rattle.jr_rule.specs.Passes.{Ends, EndsAll, IsSeenIn, HasEachPass, HasNoOthers}
 use Rattle.jr_rule.specs.Rule.{view, sizes, Fits, EachFits, Row, Kept, Sat, acting, IsAlone}
 use Rattle.jr_rule.specs.Shown.{IsHistoryOf, HasHistory}
 

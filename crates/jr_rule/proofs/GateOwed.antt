@@ -40,7 +40,7 @@ module _ (k : Known) where
   enters out log words held f =
       let n : ℕ = get_or words 0 0 in
       let g = f.image.gate in
-      let few = (f.sized).small.threads in
+      let few = (f.sized).limited.threads.1 in
       let most = gate_most k.config (state log).role n few g in
       let t = goes_in k.config k.last log k.thread words f.legal held f.image f.fits.row n g.parts.shut refl refl (role_at k log words held f ∙ out) in
       quiet k log words held f (slice_set words 0 ((n + 1) % 2 ^ 64)) (Entered k n) (entered_as (not g.parts.shut) ∷ []) (written k log words held 0 (n + 1) ((n + 1) % 2 ^ 64) (omega arith) t)
@@ -50,7 +50,7 @@ module _ (k : Known) where
   leaves counts log words held f =
       let n : ℕ = get_or words 0 0 in
       let role = role_of (view k) in
-      let most = gate_most k.config (state log).role n (f.sized).small.threads f.image.gate in
+      let most = gate_most k.config (state log).role n (f.sized).limited.threads.1 f.image.gate in
       let some = counted k.config k.last log k.thread words f.legal held f.image f.fits.row role counts (role_at k log words held f) in
       let image = image_let_go k.config k.last words (state log) held f.image k.thread (may_let_go k log words held f counts) in
       let t = goes_out k.config k.last log k.thread words f.legal (hold held k.thread empty) image f.fits.row role ((n + (2 ^ 64 - 1)) % 2 ^ 64) (hold_here held k.thread empty) (omega arith) counts (role_at k log words held f) in
@@ -66,12 +66,12 @@ module _ (k : Known) where
       (λ e. (refl, sym f.fits.grasp ∙ nothing_outside k log words held f out), λ ne. absurd (ne none)))
       (λ some. quiet k log words held f (slice_set words 0 (either (eqb n 0) 65536 n)) (Barred k n) (ShutBusy (all_counted g.parts) ∷ [])
       (written k log words held 0 n (either (eqb n 0) 65536 n) (lost 0 65536 n some) (unwritten k log words held 0 (bars_lost k.config k.last log k.thread words f.legal held f.image f.fits.row some (role_at k log words held f ∙ out))))
-      (λ e. absurd (some e), λ ne. (g.parts, gate_fits k.config (state log).role n (f.sized).small.threads g, g.word, refl, refl)))
+      (λ e. absurd (some e), λ ne. (g.parts, gate_fits k.config (state log).role n (f.sized).limited.threads.1 g, g.word, refl, refl)))
 
   pub reopens : role_of (view k) ≡ Collecting → IsSettled k → ∥ IsClosedNow k ∥₁ → Owes k 0 (λ n. (n + (2 ^ 64 - 65536)) % 2 ^ 64) (Reopened k)
   reopens collects settled closed log words held f =
       let n : ℕ = get_or words 0 0 in
-      let most = gate_most k.config (state log).role n (f.sized).small.threads f.image.gate in
+      let most = gate_most k.config (state log).role n (f.sized).limited.threads.1 f.image.gate in
       let some = shut_counted k.config k.last log k.thread words f.legal held f.image f.fits.row (role_at k log words held f ∙ collects) in
       let inside = role_at k log words held f ∙ collects in
       let still = moves_as_known k log words held f collects ∙ settled in
@@ -86,7 +86,7 @@ module _ (k : Known) where
       let acts : List Act = gate_named name (all_counted g.parts) ∷ [] in
       let t = gate_seen k.config k.last log k.thread words f.legal held f.image f.fits.row name (subst (λ r. GateNameFits r name) (sym (role_at k log words held f)) fits) in
       quiet k log words held f (slice_set words 0 n) (SawGate name k n) acts (unwritten k log words held 0 t)
-      (g.parts, gate_fits k.config (state log).role n (f.sized).small.threads g, g.word, refl, shows_gate g.parts k.config (state log) (known_at k log acts k.grasp) g.says refl (gate_named_state log k.thread name (all_counted g.parts)), refl)
+      (g.parts, gate_fits k.config (state log).role n (f.sized).limited.threads.1 g, g.word, refl, shows_gate g.parts k.config (state log) (known_at k log acts k.grasp) g.says refl (gate_named_state log k.thread name (all_counted g.parts)), refl)
 
   -- a load that only shows what others did
   pub meets : Owes k 0 (λ n. n) (Met k)

@@ -96,7 +96,7 @@ module _ (k : Known) (within : role_of (view k) ≡ Within) where
       let n : ℕ = get_or words top_at 0 in
       let s : State = state log in
       let room = (lengths_fit k.config k.last log f.legal).1 in
-      let most = (f.sized).small.words in
+      let most = (f.sized).limited.words in
       go name n f.image.top (omega arith)
     where
       go : (name : TopNaming) (n : ℕ) → n ≡ used_word (state log).used → (state log).used < 2 ^ 24 → Makes k log (slice_set words top_at (get_or words top_at 0)) held (SawTop name k n)
@@ -121,7 +121,7 @@ module _ (k : Known) (within : role_of (view k) ≡ Within) where
       let new : ℕ = used_word (looked + more) in
       let inside = role_at k log words held f ∙ within in
       let below = (lengths_fit k.config k.last log f.legal).1 in
-      let most = (f.sized).small.words in
+      let most = (f.sized).limited.words in
       let is = f.image.top in
       dite (ℕ_discrete n old)
       (λ won_it.

@@ -2,6 +2,7 @@
 use Rattle.std.proofs.Common.{◌≡◌, ◌<◌, ◌≤◌, ◌^◌, ℕ, Option, Some, None, [], ◌∷◌, slice_set, refl, subst, ◌∙◌, arith}
 use Rattle.std.proofs.Math.Logic.{∥∥₁_elim}
 use Rattle.std.proofs.Props.{props}
+use Rattle.jr_word.specs.declared.config.TheConstants.Config.{MOST_OBJECTS}
 use Rattle.jr_word.specs.Local.{local_word}
 use Rattle.jr_model.specs.declared.event.Role.TheVariants.{Within}
 use Rattle.jr_model.specs.History.{IsLegal, role_of}
@@ -23,7 +24,7 @@ optional_is None k may = tt
 optional_is (Some o) k may = ∥∥₁_elim may (hlevel props) (λ h. h)
 
 -- and its number is one of the room
-pub optional_fits : (o : Option ℕ) (k : Known) → IsLegal k.config k.last k.seen → k.config.objects ≤ 65535 → HasOptional o k → (x : ℕ) → o ≡ Some x → (0 < x) × (x < 2 ^ 16)
+pub optional_fits : (o : Option ℕ) (k : Known) → IsLegal k.config k.last k.seen → k.config.objects ≤ MOST_OBJECTS → HasOptional o k → (x : ℕ) → o ≡ Some x → (0 < x) × (x < 2 ^ 16)
 optional_fits o k legal few has x e =
     let room = (in_room k.config k.last k.seen legal).objects x (subst (λ z. HasOptional z k) e has) in
     let low = room.0 in

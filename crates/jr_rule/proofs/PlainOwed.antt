@@ -55,7 +55,6 @@ use Rattle.jr_rule.proofs.CollectOwed.{scans_slot, scans_local, scans_header, sc
 use Rattle.jr_rule.proofs.Owing.{won, lost as unchanged}
 use Rattle.jr_rule.proofs.PlainTook.{stands_same, alone_here, turn_alone, Turned}
 use Rattle.jr_rule.proofs.Readings.{is_read, read_once}
-use Rattle.jr_rule.proofs.Summaries.{small_of}
 use Rattle.jr_rule.proofs.Told.{IsHeaderWord, SawHeader, used_word}
 use Rattle.jr_rule.proofs.Turns.{Turn}
 
@@ -73,7 +72,7 @@ module _ (LAST : ℕ) (few : LAST < 2 ^ 32) (p : PlainSteps LAST) where
   sized : IsSized p.config LAST
   sized = record {
     limits = p.limits;
-    small = small_of p.config p.limits;
+    limited = p.limited;
     serials = few;
   }
 
@@ -91,7 +90,7 @@ module _ (LAST : ℕ) (few : LAST < 2 ^ 32) (p : PlainSteps LAST) where
   -- plain words are a row that is found
   found : (log : History) (g : Grasp) (n : ℕ) → Shows old words (own log g n) → IsFound (own log g n) log words (alone g)
   found log g n h = record {
-    fits = record { same_config = refl; same_last = refl; row = p.threads.0; begins = prefix_self log; own = refl; grasp = alone_here g 0 refl };
+    fits = record { same_config = refl; same_last = refl; row = p.limited.threads.0; begins = prefix_self log; own = refl; grasp = alone_here g 0 refl };
     legal = h.pass.legal;
     sized = sized;
     image = h.image;
@@ -138,23 +137,23 @@ module _ (LAST : ℕ) (few : LAST < 2 ^ 32) (p : PlainSteps LAST) where
   -- THE GATE
   -- the gate's word neither overflows nor falls below 0
   most : (log : History) (g : Grasp) (n : ℕ) → Shows old words (own log g n) → get_or words 0 0 ≤ 65600
-  most log g n h = gate_most p.config (state log).role (get_or words 0 0) p.threads.1 h.image.gate
+  most log g n h = gate_most p.config (state log).role (get_or words 0 0) p.limited.threads.1 h.image.gate
 
   pub gate_few : MayKnow (Shows old) words anything → get_or words 0 0 ≤ 65600
   gate_few may = each (hlevel props) may (λ log g n h m. most log g n h)
 
   pub gate_some : (p.role ≡ Within) ⊎ (p.role ≡ Knocking) → MayKnow (Shows old) words anything → 1 ≤ get_or words 0 0
-  gate_some counts may = each (hlevel props) may (λ log g n h m. counted p.config LAST log 0 words h.pass.legal (alone g) h.image p.threads.0 p.role counts h.pass.role)
+  gate_some counts may = each (hlevel props) may (λ log g n h m. counted p.config LAST log 0 words h.pass.legal (alone g) h.image p.limited.threads.0 p.role counts h.pass.role)
 
   -- who collects has the gate shut
   pub shut_some : p.role ≡ Collecting → MayKnow (Shows old) words anything → 65536 ≤ get_or words 0 0
-  shut_some collects may = each (hlevel props) may (λ log g n h m. shut_counted p.config LAST log 0 words h.pass.legal (alone g) h.image p.threads.0 (h.pass.role ∙ collects))
+  shut_some collects may = each (hlevel props) may (λ log g n h m. shut_counted p.config LAST log 0 words h.pass.legal (alone g) h.image p.limited.threads.0 (h.pass.role ∙ collects))
 
   -- the gate's word has a reading
   pub gate_parts : (r : Option GateParts) → MayKnow (Shows old) words anything → ((q : GateParts) → IsGate q → get_or words 0 0 ≡ gate_word q → r ≡ Some q) → IsSome r
   gate_parts r may complete = each (hlevel props) may (λ log g n h m.
       let gate = h.image.gate in
-      is_read r gate.parts (complete gate.parts (gate_fits p.config (state log).role (get_or words 0 0) p.threads.1 gate) gate.word))
+      is_read r gate.parts (complete gate.parts (gate_fits p.config (state log).role (get_or words 0 0) p.limited.threads.1 gate) gate.word))
 
   pub entered : (role' : Role) (n : ℕ) (shut : Bool) → n ≡ get_or words 0 0 → ((q : GateParts) → IsGate q → n ≡ gate_word q → shut ≡ q.shut) → p.role ≡ Outside → role' ≡ role_after Outside (entered_as (not shut))
       → Turned old words (standing p.config LAST role' p.fresh) (slice_set words 0 (n + 1)) (λ k. entered_as (not shut) ∷ []) anything keeps
@@ -210,13 +209,13 @@ module _ (LAST : ℕ) (few : LAST < 2 ^ 32) (p : PlainSteps LAST) where
   pub object_some : {T : Known → Type 0} (o : ℕ) → MayKnow (Shows old) words (λ k. HasObject o k × T k) → 0 < o
   object_some o may = each (hlevel props) may (λ log g n h m. ((in_room p.config LAST log h.pass.legal).objects o m.0).0)
 
-  pub claimed : (i serial : ℕ) (kind : RefKind) (o : ℕ) (q : SlotParts) (w : ℕ) → i < p.config.slots → kind ≢ Local → IsReference kind serial (Some o) q → (was : SlotParts) → get_or words (slot_at i) 0 ≡ slot_word was → was ≡ slot.Free serial → w ≡ slot_word q → p.role ≡ Within
-      → Turned old words old (slice_set words (slot_at i) w) (λ k. claiming i serial kind o (Ok tt) ∷ []) (λ k. HasObject o k × IsFreeSlot i serial k) (λ j k. LostClaim i (Ok tt) j k × keeps j k)
-  claimed i serial kind o q w l global is was at free word within =
-      let here : get_or words (slot_at i) 0 ≡ slot_word (slot.Free serial) = at ∙ ap slot_word free in
+  pub claimed : (i at serial : ℕ) (kind : RefKind) (o : ℕ) (q : SlotParts) (w : ℕ) → at ≡ slot_at i → i < p.config.slots → kind ≢ Local → IsReference kind serial (Some o) q → (was : SlotParts) → get_or words (slot_at i) 0 ≡ slot_word was → was ≡ slot.Free serial → w ≡ slot_word q → p.role ≡ Within
+      → Turned old words old (slice_set words at w) (λ k. claiming i serial kind o (Ok tt) ∷ []) (λ k. HasObject o k × IsFreeSlot i serial k) (λ j k. LostClaim i (Ok tt) j k × keeps j k)
+  claimed i at serial kind o q w place l global is was reads free word within =
+      let here : get_or words (slot_at i) 0 ≡ slot_word (slot.Free serial) = reads ∙ ap slot_word free in
       owed (λ k. refl) (λ log g n h m.
       tells h (claims_slot (own log g n) (h.pass.role ∙ within) i serial kind o q l (free_fits i serial (own log g n) m.1) global is m.0)
-      (ap (slice_set words (slot_at i)) (won (slot_word (slot.Free serial)) (slot_word q) (get_or words (slot_at i) 0) here ∙ sym word))
+      (ap (slice_set words (slot_at i)) (won (slot_word (slot.Free serial)) (slot_word q) (get_or words (slot_at i) 0) here ∙ sym word) ∙ ap (λ j. slice_set words j w) (sym place))
       (λ done k' s. (s.0 here, (tt, s.2))))
 
   pub lost : (i serial : ℕ) (kind : RefKind) (o : ℕ) (q : SlotParts) → i < p.config.slots → kind ≢ Local → IsSlot q → get_or words (slot_at i) 0 ≡ slot_word q → q ≢ slot.Free serial → p.role ≡ Within
@@ -239,29 +238,30 @@ module _ (LAST : ℕ) (few : LAST < 2 ^ 32) (p : PlainSteps LAST) where
     pub looked_object : MayKnow (Shows old) words (HasLooked a (found_object o)) → (x : ℕ) → o ≡ Some x → 0 < x
     looked_object may x e = each (hlevel props) may (λ log g n h m. ((looked_at p.config LAST a o (own log g n) h.pass.legal m).object x e).0)
 
-    pub deleted : (q : SlotParts) (w : ℕ) → IsReference a.kind a.serial o q → get_or words (slot_at a.index) 0 ≡ slot_word q → w ≡ slot_word (freed LAST a.serial) → p.role ≡ Within
-        → Turned old words old (slice_set words (slot_at a.index) w) (λ k. freeing a true ∷ []) (HasLooked a (found_object o)) keeps
-    deleted q w is here word within = owed (λ k. refl) (λ log g n h m.
+    pub deleted : (at : ℕ) (q : SlotParts) (w : ℕ) → at ≡ slot_at a.index → IsReference a.kind a.serial o q → get_or words at 0 ≡ slot_word q → w ≡ slot_word (freed LAST a.serial) → p.role ≡ Within
+        → Turned old words old (slice_set words at w) (λ k. freeing a true ∷ []) (HasLooked a (found_object o)) keeps
+    deleted at q w place is reads word within = owed (λ k. refl) (λ log g n h m.
+        let here : get_or words (slot_at a.index) 0 ≡ slot_word q = ap (λ j. get_or words j 0) (sym place) ∙ reads in
         tells h (frees_slot (own log g n) (h.pass.role ∙ within) a o q is ∣ m ∣₁)
-        (ap (slice_set words (slot_at a.index)) (won (slot_word q) (slot_word (freed LAST a.serial)) (get_or words (slot_at a.index) 0) here ∙ sym word))
+        (ap (slice_set words (slot_at a.index)) (won (slot_word q) (slot_word (freed LAST a.serial)) (get_or words (slot_at a.index) 0) here ∙ sym word) ∙ ap (λ j. slice_set words j w) (sym place))
         (λ done k' s. (s.0 here, s.2)))
 
-    pub deleted_late : (q : SlotParts) → IsReference a.kind a.serial o q → get_or words (slot_at a.index) 0 ≢ slot_word q → p.role ≡ Within
+    pub deleted_late : (at : ℕ) (q : SlotParts) → at ≡ slot_at a.index → IsReference a.kind a.serial o q → get_or words at 0 ≢ slot_word q → p.role ≡ Within
         → Turned old words old words (λ k. freeing a false ∷ []) (HasLooked a (found_object o)) keeps
-    deleted_late q is other within = owed (λ k. refl) (λ log g n h m.
+    deleted_late at q place is differs within = owed (λ k. refl) (λ log g n h m.
+        let other : get_or words (slot_at a.index) 0 ≢ slot_word q = λ e. differs (ap (λ j. get_or words j 0) place ∙ e) in
         tells h (frees_slot (own log g n) (h.pass.role ∙ within) a o q is ∣ m ∣₁)
         (ap (slice_set words (slot_at a.index)) (unchanged (slot_word q) (slot_word (freed LAST a.serial)) (get_or words (slot_at a.index) 0) other) ∙ read (slot_at a.index))
         (λ done k' s. (s.1 other, s.2)))
 
   -- LOCAL WORDS
   pub optional_few : (o : Option ℕ) → MayKnow (Shows old) words (HasOptional o) → (x : ℕ) → o ≡ Some x → (0 < x) × (x < 2 ^ 16)
-  optional_few o may x e = each (hlevel props) may (λ log g n h m. optional_fits o (own log g n) h.pass.legal p.objects m x e)
+  optional_few o may x e = each (hlevel props) may (λ log g n h m. optional_fits o (own log g n) h.pass.legal p.limited.objects.1 m x e)
 
-  pub put : (at : ℕ) (o : Option ℕ) (w : ℕ) → at < p.config.locals → w ≡ local_word (local_parts o) → p.role ≡ Within
-      → Turned old words (standing p.config LAST p.role false) (slice_set words (2 + p.config.slots + at) w) (λ k. putting at o ∷ []) (HasOptional o) keeps
-  put at o w l word within = owed (λ k. stands_same p.config LAST (putting_role at o p.role) (putting_spends at o p.fresh)) (λ log g n h m.
-      let place : local_at p.config 0 at ≡ 2 + p.config.slots + at = omega arith in
-      tells h (puts_local (own log g n) (h.pass.role ∙ within) at o l m) (λ i. slice_set words (place i) (sym word i)) (λ done k' s. s))
+  pub put : (i at : ℕ) (o : Option ℕ) (w : ℕ) → at ≡ local_at p.config 0 i → i < p.config.locals → w ≡ local_word (local_parts o) → p.role ≡ Within
+      → Turned old words (standing p.config LAST p.role false) (slice_set words at w) (λ k. putting i o ∷ []) (HasOptional o) keeps
+  put i at o w place l word within = owed (λ k. stands_same p.config LAST (putting_role i o p.role) (putting_spends i o p.fresh)) (λ log g n h m.
+      tells h (puts_local (own log g n) (h.pass.role ∙ within) i o l m) (λ j. slice_set words (sym place j) (sym word j)) (λ done k' s. s))
 
   -- HEADERS
   module _ (o at : ℕ) (here : at ≡ header_at p.config o) (number : (1 ≤ o) × (o ≤ p.config.objects)) where
@@ -300,7 +300,7 @@ module _ (LAST : ℕ) (few : LAST < 2 ^ 32) (p : PlainSteps LAST) where
   -- THE TOP
   -- the top's word says how many words are used
   few_used : (log : History) (g : Grasp) (n : ℕ) → Shows old words (own log g n) → (state log).used < 2 ^ 24
-  few_used log g n h = let most = (lengths_fit p.config LAST log h.pass.legal).1 in let space = p.space in omega arith
+  few_used log g n h = let most = (lengths_fit p.config LAST log h.pass.legal).1 in let space = p.limited.words in omega arith
 
   pub top_first : (q : TopParts) → MayKnow (Shows old) words anything → ((z : TopParts) → IsTop z → get_or words top_at 0 ≡ top_word z → Some q ≡ Some z) → (q.used < 2 ^ 24) × (get_or words top_at 0 ≡ used_word q.used)
   top_first q may complete = each (hlevel props) may (λ log g n h m.
@@ -375,10 +375,10 @@ module _ (LAST : ℕ) (few : LAST < 2 ^ 32) (p : PlainSteps LAST) where
         tells h (scans_element (own log g n) (h.pass.role ∙ collects) o i e m) (read (element_at p.config (e.place + i)))
         (λ done k' s. (s.0, (subst (λ z. ShowsElement o i z k') (ap (λ j. get_or words j 0) (sym here) ∙ sym value) s.1, s.2))))
 
-    pub wiped : (i serial o w : ℕ) → i < p.config.slots → w ≡ slot_word (slot.Weak serial None) → Turned old words old (slice_set words (slot_at i) w) (λ k. Clear (handle_of Weak serial i) ∷ []) (CanWipe i serial o) keeps
-    wiped i serial o w l word = owed (λ k. refl) (λ log g n h m.
+    pub wiped : (i at serial o w : ℕ) → at ≡ slot_at i → i < p.config.slots → w ≡ slot_word (slot.Weak serial None) → Turned old words old (slice_set words at w) (λ k. Clear (handle_of Weak serial i) ∷ []) (CanWipe i serial o) keeps
+    wiped i at serial o w place l word = owed (λ k. refl) (λ log g n h m.
         tells h (wipes_slot (own log g n) (h.pass.role ∙ collects) i serial o l m)
-        (ap (slice_set words (slot_at i)) (wiped_word (own log g n) (h.pass.role ∙ collects) i serial o l m log words (alone g) (found log g n h) ∙ sym word)) (λ done k' s. s))
+        (ap (slice_set words (slot_at i)) (wiped_word (own log g n) (h.pass.role ∙ collects) i serial o l m log words (alone g) (found log g n h) ∙ sym word) ∙ ap (λ j. slice_set words j w) (sym place)) (λ done k' s. s))
 
     pub dropped : (o at : ℕ) → at ≡ header_at p.config o → (1 ≤ o) × (o ≤ p.config.objects) → Turned old words old (slice_set words at 0) (λ k. Drop o ∷ []) (CanDrop o) (ShowsDropped o)
     dropped o at here number = owed (λ k. refl) (λ log g n h m.

@@ -39,7 +39,7 @@ use Rattle.jr_rule.proofs.SlotWords.{reference_fits, can_prop}
 
 -- the sizes bound what a slot's word has
 pub few_objects : (c : Config) (last : ℕ) → IsSized c last → c.objects < 2 ^ 16
-few_objects c last s = let o = s.small.objects in omega arith
+few_objects c last s = let o = s.limited.objects.1 in omega arith
 
 -- what stands as it was found or is gone is one of the two
 still_or_gone : (r s : Found) → ∥ ((r ≡ s) ⊎ (r ≡ Stale)) ∥₁ → (r ≡ s) ⊎ (r ≡ Stale)

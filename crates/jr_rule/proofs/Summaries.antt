@@ -2,14 +2,13 @@
 use Rattle.std.proofs.Common.{◌≡◌, ◌≢◌, ◌+◌, ◌<◌, ◌≤◌, ℕ, Bool, true, false, Option, Some, is_some, IsSome, List, length, get_or, refl, sym, ap, subst, ◌∙◌, arith, add-one}
 use Rattle.std.proofs.Math.Logic.{∥∥₁_elim}
 use Rattle.std.proofs.Props.{props}
-use Rattle.std.proofs.lemmas.Bool.Decides.{nat_tests}
 use Rattle.jr_word.specs.declared.config.Config.{Config}
 use Rattle.jr_word.specs.declared.handle.RefKind.{RefKind}
 use Rattle.jr_word.specs.declared.handle.RefKind.TheVariants.{Local, Global, Weak}
 use Rattle.jr_word.specs.declared.slot.SlotParts.{SlotParts}
 use Rattle.jr_word.specs.declared.slot.SlotParts.TheVariants as slot
 use Rattle.jr_word.specs.declared.top.TopParts.{TopParts}
-use Rattle.jr_word.specs.Config.{in_limits, row_words}
+use Rattle.jr_word.specs.Config.{IsLimited, row_words}
 use Rattle.jr_word.specs.Slot.{slot_word, IsSlot}
 use Rattle.jr_word.specs.Top.{top_word, IsTop}
 use Rattle.jr_model.specs.declared.event.Found.{Found}
@@ -22,9 +21,9 @@ use Rattle.jr_model.proofs.Counts.{bit, count_all_false, count_single}
 use Rattle.jr_model.proofs.Lengths.{lengths_fit}
 use Rattle.jr_model.proofs.References.{kept_state}
 use Rattle.jr_steps.specs.Acts.{found_object, handle_of}
-use Rattle.jr_steps.specs.Says.{StandsAlone, StandsAs}
+use Rattle.jr_steps.specs.Says.{StandsAlone, SaysOfSlot}
 use Rattle.jr_rule.specs.Image.{slot_at, header_at, IsSlotOf, IsHeaderOf}
-use Rattle.jr_rule.specs.Shown.{IsSmall, IsHistoryOf, HasHistory}
+use Rattle.jr_rule.specs.Shown.{IsHistoryOf, HasHistory}
 use Rattle.jr_rule.specs.Slots.{is_of_kind}
 use Rattle.jr_model.proofs.InRoom.{in_room}
 use Rattle.jr_rule.proofs.Readings.{is_read}
@@ -105,11 +104,7 @@ ReadsSlot words i r = (p : SlotParts) → IsSlot p → get_or words (slot_at i) 
 abbrev pub ReadsTop : List ℕ → Option TopParts → Type 0
 ReadsTop words r = (p : TopParts) → IsTop p → get_or words 1 0 ≡ top_word p → r ≡ Some p
 
--- a room within its limits
-pub small_of : (c : Config) → in_limits c ≡ true → IsSmall c
-small_of c e = record { threads = grind (arith, nat_tests); slots = grind (arith, nat_tests); objects = grind (arith, nat_tests); words = grind (arith, nat_tests); locals = grind (arith, nat_tests) }
-
-module _ (c : Config) (words : List ℕ) (small : IsSmall c) where
+module _ (c : Config) (words : List ℕ) (limited : IsLimited c) where
   -- the row has all its words
   wide : HasHistory c words → row_words c ≤ length words
   wide has = ∥∥₁_elim has (hlevel props) (λ h. let w = h.2.image.wide in omega arith)
@@ -129,7 +124,7 @@ module _ (c : Config) (words : List ℕ) (small : IsSmall c) where
   slot_read : (last : ℕ) (log : History) (h : IsHistoryOf c words last log) (i : ℕ) (l : i < c.slots) (r : Option SlotParts) → ReadsSlot words i r → r ≡ Some (slot_parts last log h i l).parts
   slot_read last log h i l r reads =
       let x = slot_parts last log h i l in
-      let few = small.objects in
+      let few = limited.objects.1 in
       reads x.parts (slot_fits c last log h.legal h.few (omega arith) i (get_or words (slot_at i) 0) x) x.word
 
   -- a slot's word has a reading
@@ -183,7 +178,7 @@ module _ (c : Config) (words : List ℕ) (small : IsSmall c) where
   top_read : (last : ℕ) (log : History) → IsHistoryOf c words last log → (r : Option TopParts) → ReadsTop words r → r ≡ Some (record { used = (state log).used })
   top_read last log h r reads =
       let fit = (lengths_fit c last log h.legal).1 in
-      let few = small.words in
+      let few = limited.words in
       reads (record { used = (state log).used }) (record { used = omega arith }) h.image.top
 
   pub top_some : HasHistory c words → (r : Option TopParts) → ReadsTop words r → IsSome r

@@ -41,8 +41,8 @@ module _ (c : Config) (last : ℕ) (role role' : Role) (fresh fresh' : Bool) (wo
   pub unused_gate : IsUnused (standing c last role' fresh') (slice_set words gate_at n)
   unused_gate = elsewhere gate_at (λ p l e. absurd (omega arith))
 
-  pub unused_slot : (i : ℕ) → i < c.slots → IsUnused (standing c last role' fresh') (slice_set words (slot_at i) n)
-  unused_slot i row = elsewhere (slot_at i) (λ p l e. absurd (omega arith))
+  pub unused_slot : (i at : ℕ) → at ≡ slot_at i → i < c.slots → IsUnused (standing c last role' fresh') (slice_set words at n)
+  unused_slot i at is row = elsewhere at (λ p l e. absurd (omega arith))
 
   pub unused_header : (i o : ℕ) → i ≡ header_at c o → 1 ≤ c.threads → IsUnused (standing c last role' fresh') (slice_set words i n)
   unused_header i o is some = elsewhere i (λ p l e. let below = local_below c 0 p (omega arith) l in absurd (omega arith))

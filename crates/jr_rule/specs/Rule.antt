@@ -5,7 +5,7 @@ use mathlib.Core.Option.{some}
 use lib.ListN.{get_elem?}
 use Rattle.atomic_table.specs.Table.{State as Table, Me}
 use Rattle.jr_word.specs.declared.config.Config.{Config}
-use Rattle.jr_word.specs.Config.{in_limits}
+use Rattle.jr_word.specs.Config.{in_limits, IsLimited}
 use Rattle.jr_model.specs.declared.event.Act.{Act}
 use Rattle.jr_model.specs.History.{History, by, state, IsLegal, mine}
 use Rattle.jr_steps.specs.declared.known.Known.{Known}
@@ -15,7 +15,6 @@ use Rattle.jr_steps.specs.declared.known.Grasp.{Grasp}
 use Rattle.jr_steps.specs.Grasping.{InSpace, empty, hold}
 use Rattle.jr_rule.specs.Image.{IsImage}
 use Rattle.jr_steps.specs.Knowing.{Goes}
-use Rattle.jr_rule.specs.Shown.{IsSmall}
 
 abbrev pub sizes : Config → ℕ → Sizes
 sizes c last = record { config = c; last = last }
@@ -29,7 +28,7 @@ view ks = record { passes = ks }
 -- the sizes of a room, and its last serial
 pub record IsSized (c : Config) (last : ℕ) : Type 0 where
   pub limits : in_limits c ≡ true
-  pub small : IsSmall c
+  pub limited : IsLimited c
   pub serials : last < 2 ^ 32
 
 -- A PASS has seen a beginning of the history, in which all its own events stand, and holds what its thread does

@@ -6,8 +6,9 @@ ghost use Rattle.jr_model.specs.History.{HasMet};
 ghost use Rattle.jr_steps.specs.Acts.{entered_as, leaving, barring, gate_named, GateNameFits, all_counted as all_of};
 ghost use Rattle.jr_steps.specs.Knowing.{view, anything, Goes, CanReopen, ShowsBarred, ShowsGate, MayKnow, Took, keeps, lets_go};
 
+use crate::layout::GATE;
 use jr_steps::GateNaming;
-use crate::parts::{GATE, all_counted, is_shut, role_of_entry};
+use crate::parts::{all_counted, is_shut, role_of_entry};
 use crate::pass::Pass;
 use crate::row::Row;
 use crate::rule::{Gather, Part};

@@ -8,8 +8,9 @@ ghost use Rattle.jr_steps.specs.Acts.{publishing, top_named, reserving};
 ghost use Rattle.jr_rule.specs.Image.{element_at};
 ghost use Rattle.jr_steps.specs.Knowing.{anything, keeps, KnowsHeader, HasWord, IsWordNow, IsFilled, words_for, ShowsHeader, ShowsPublished, ShowsUsed, WasUsed, ShowsRange, ShowsWord, MayKnow, Took, TookWith};
 
+use crate::layout::{TOP, element_at, header_at};
 use jr_steps::TopNaming;
-use crate::parts::{TOP, element_at, header_at, top_word};
+use crate::parts::top_word;
 use crate::pass::Pass;
 use crate::row::Row;
 use jr_word::{Header, HeaderParts, TopWord};

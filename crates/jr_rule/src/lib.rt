@@ -10,6 +10,7 @@ mod collect_stepping;
 mod collect_tests;
 mod gate_stepping;
 mod heap_stepping;
+mod layout;
 mod parts;
 mod pass;
 mod place_stepping;

@@ -1,5 +1,5 @@
 //! What the words of the row say, as the steps make and read them.
-ghost use Rattle.std.specs.Prelude.{◌≡◌, ◌↔◌, ◌≤◌, ◌<◌, ◌^◌, IsTrue};
+ghost use Rattle.std.specs.Prelude.{◌≡◌, ◌↔◌, ◌<◌, ◌^◌, IsTrue};
 ghost use Rattle.jr_word.specs.declared.gate.GateParts.{GateParts as Gates};
 ghost use Rattle.jr_word.specs.declared.slot.SlotParts.TheVariants.{Free};
 ghost use Rattle.jr_word.specs.Gate.{gate_word, IsGate};
@@ -8,41 +8,10 @@ ghost use Rattle.jr_model.specs.declared.event.Role.TheVariants.{Outside};
 ghost use Rattle.jr_model.specs.History.{role_after};
 ghost use Rattle.jr_steps.specs.Acts.{entered_as, all_counted as all_of};
 ghost use Rattle.jr_steps.specs.Says.{local_parts as parts_of_local};
-ghost use Rattle.jr_rule.specs.Image.{header_at as place_of_header, element_at as place_of_element};
-ghost use Rattle.jr_rule.specs.Shown.{IsSmall};
 ghost use Rattle.jr_rule.specs.Slots.{CanStand, IsReference, is_of_kind, freed};
 
 use jr_model::Role;
-use jr_word::{Config, GateParts, GateWord, LocalParts, RefKind, SlotParts, TopParts, TopWord};
-
-/// The word of the gate.
-pub(crate) const GATE: usize = 0;
-
-/// The word of the top.
-pub(crate) const TOP: usize = 1;
-
-/// The word of the first slot.
-pub(crate) const SLOTS: usize = 2;
-
-/// The place of an object's header in the row.
-pub(crate) fn header_at(config: &Config, object: u32) -> usize
-    requires small { IsSmall config.now }
-    requires object { (1 ≤ object) × (object ≤ config.now.objects) }
-    ensures { result ≡ place_of_header config.now object }
-{
-    let locals = config.threads as usize * config.locals as usize;
-    SLOTS + config.slots as usize + locals + (object as usize - 1)
-}
-
-/// The place of a word of array space in the row.
-pub(crate) fn element_at(config: &Config, place: u32) -> usize
-    requires small { IsSmall config.now }
-    requires place { place < config.now.words }
-    ensures { result ≡ place_of_element config.now place }
-{
-    let locals = config.threads as usize * config.locals as usize;
-    SLOTS + config.slots as usize + locals + config.objects as usize + place as usize
-}
+use jr_word::{GateParts, GateWord, LocalParts, RefKind, SlotParts, TopParts, TopWord};
 
 /// The word of a top that has so many words used.
 pub(crate) fn top_word(used: u32) -> u64

@@ -2,10 +2,10 @@
 ghost use Rattle.std.specs.Prelude.{◌≡◌, ◌<◌, [], ◌∷◌};
 ghost use Rattle.jr_model.specs.declared.event.Role.TheVariants.{Within};
 ghost use Rattle.jr_steps.specs.Acts.{putting};
-ghost use Rattle.jr_rule.specs.Image.{local_at};
 ghost use Rattle.jr_steps.specs.Knowing.{HasOptional, MayKnow, Took, keeps};
 
-use crate::parts::{SLOTS, local_parts};
+use crate::layout::local_at;
+use crate::parts::local_parts;
 use crate::pass::Pass;
 use crate::row::Row;
 use jr_word::LocalWord;
@@ -13,16 +13,6 @@ use std::marker::Brand;
 
 impl Row {
     ghost use Rattle.jr_rule.specs.Passes.{standing_of, Knows, IsAt};
-
-    /// Where a thread's local word is in the row.
-    pub(crate) fn local_at(&self, thread: u8, place: u16) -> usize
-        requires thread { thread < self.now.config.threads }
-        requires place { place < self.now.config.locals }
-        ensures { result ≡ local_at self.now.config thread place }
-    {
-        let before = usize::from(thread) * self.config.locals as usize;
-        SLOTS + self.config.slots as usize + before + usize::from(place)
-    }
 
     pub(crate) fn put_local(&self, pass: &mut Pass, place: u16, object: Option<u16>)
         requires row { IsAt self.now pass.old }
@@ -32,7 +22,7 @@ impl Row {
         ensures row { IsAt self.now pass.new }
         ensures step { Took standing_of Knows pass.old pass.new (putting place object ∷ []) (HasOptional object) keeps }
     {
-        let at = self.local_at(pass.thread, place);
+        let at = local_at(&self.config, pass.thread, place);
         let new = LocalWord::pack(local_parts(object));
         let about = (place, object);
         self.store::<Brand, (u16, Option<u16>)>(&mut pass.seat, at, new.0, about);

@@ -1,20 +1,20 @@
 //! The steps of one thread over a plain vector of words. No history is stored.
 ghost use Rattle.std.specs.Prelude.{◌≡◌, ◌⊎◌, ◌↔◌, ◌<◌, ◌≤◌, ◌^◌, vec_len, slice_index, true, false, IsTrue, IfOk, IfErr, Ok, Err};
 ghost use Rattle.jr_word.specs.declared.fault.Fault.TheVariants.{Memory, Size};
-ghost use Rattle.jr_word.specs.Config.{in_limits, row_words};
+ghost use Rattle.jr_word.specs.Config.{in_limits, IsLimited, row_words};
 ghost use Rattle.jr_word.specs.Gate.{gate_word, IsGate};
 ghost use Rattle.jr_word.specs.Slot.{slot_word, IsSlot};
 ghost use Rattle.jr_word.specs.Top.{top_word};
 ghost use Rattle.jr_model.specs.declared.event.Role.TheVariants.{Outside};
-ghost use Rattle.jr_rule.specs.Image.{gate_at, top_at, slot_at};
+ghost use Rattle.jr_rule.specs.Image.{gate_at, top_at, slot_at as place_of_slot};
 ghost use Rattle.jr_steps.specs.Knowing.{anything, MayKnow, HasNoLocals};
 ghost use Rattle.jr_steps.specs.declared.known.Known.{Known};
 ghost use Rattle.jr_rule.specs.Plain.{standing, Shows, IsUnused};
 
+use crate::layout::{GATE, TOP, element_at, header_at, local_at, slot_at};
 use jr_steps::{GateNaming, SlotNaming, TopNaming};
 use crate::parts::{
-    GATE, SLOTS, TOP, all_counted, element_at, freed_slot, header_at, is_free, is_shut,
-    local_parts, reference, role_of_entry, top_word,
+    all_counted, freed_slot, is_free, is_shut, local_parts, reference, role_of_entry, top_word,
 };
 use jr_steps::Steps;
 use crate::summing::summary;
@@ -37,11 +37,7 @@ pub struct PlainSteps<const LAST: u32> {
     /// Whether no local word was stored and the pass was not spent.
     pub fresh: bool,
     ghost limits: { in_limits config ≡ true },
-    ghost threads: { (1 ≤ config.threads) × (config.threads ≤ 64) },
-    ghost slots: { config.slots ≤ 65536 },
-    ghost objects: { config.objects ≤ 65535 },
-    ghost locals: { config.locals ≤ 4096 },
-    ghost space: { config.words ≤ 1048576 },
+    ghost limited: { IsLimited config },
     ghost wide: { vec_len words ≡ row_words config },
     ghost unused: { fresh ≡ true → IsUnused (standing config LAST role fresh) words.items },
     ghost shown: { MayKnow (Shows (standing config LAST role fresh)) words.items anything },
@@ -106,9 +102,9 @@ impl<const LAST: u32> PlainSteps<LAST> {
     /// What the word of a slot says.
     fn slot(&self, index: u16) -> SlotParts
         requires { index < self.now.config.slots }
-        ensures { IsSlot result × (slice_index self.now.words.items (slot_at index) ≡ slot_word result) }
+        ensures { IsSlot result × (slice_index self.now.words.items (place_of_slot index) ≡ slot_word result) }
     {
-        SlotWord::parts(self.word(SLOTS + index as usize)).unwrap()
+        SlotWord::parts(self.word(slot_at(index))).unwrap()
     }
 }
 
@@ -194,12 +190,13 @@ impl<const LAST: u32> Steps for PlainSteps<LAST> {
             return Err(found);
         }
         let made = SlotWord::pack(reference(kind, serial, Some(object)));
-        self.words[SLOTS + index as usize] = made.0;
+        let at = slot_at(index);
+        self.words[at] = made.0;
         Ok(())
     }
 
     fn free(&mut self, handle: HandleParts, object: Option<u16>) -> bool {
-        let at = SLOTS + handle.index as usize;
+        let at = slot_at(handle.index);
         let looked = SlotWord::pack(reference(handle.kind, handle.serial, object));
         if self.word(at) != looked.0 {
             return false;
@@ -209,7 +206,7 @@ impl<const LAST: u32> Steps for PlainSteps<LAST> {
     }
 
     fn put_local(&mut self, place: u16, object: Option<u16>) {
-        let at = SLOTS + self.config.slots as usize + place as usize;
+        let at = local_at(&self.config, 0, place);
         self.words[at] = LocalWord::pack(local_parts(object)).0;
         self.fresh = false;
     }
@@ -259,8 +256,7 @@ impl<const LAST: u32> Steps for PlainSteps<LAST> {
     }
 
     fn scan_local(&mut self, thread: u8, place: u16) -> LocalParts {
-        let before = usize::from(thread) * self.config.locals as usize;
-        let at = SLOTS + self.config.slots as usize + before + usize::from(place);
+        let at = local_at(&self.config, thread, place);
         LocalWord::parts(self.word(at)).unwrap()
     }
 
@@ -279,7 +275,8 @@ impl<const LAST: u32> Steps for PlainSteps<LAST> {
             serial,
             object: None,
         });
-        self.words[SLOTS + index as usize] = cleared.0;
+        let at = slot_at(index);
+        self.words[at] = cleared.0;
     }
 
     fn drop_header(&mut self, object: u16) {
@@ -318,7 +315,7 @@ impl<const LAST: u32> Steps for PlainSteps<LAST> {
 
     ghost limits = { λ s. s.limits };
 
-    ghost row = { λ s. s.threads.0 };
+    ghost row = { λ s. s.limited.threads.0 };
 }
 
 #[cfg(test)]
@@ -326,15 +323,6 @@ mod tests {
     use super::*;
     use jr_word::Kind;
     use std::test::Fail;
-
-    /// A room of one thread with one slot and one object: 20 words.
-    const SMALL: Config = Config {
-        threads: 1,
-        slots: 1,
-        objects: 1,
-        words: 0,
-        locals: 16,
-    };
 
     /// The header of a plain object.
     const PLAIN: HeaderParts = HeaderParts {
@@ -345,7 +333,7 @@ mod tests {
 
     #[test]
     fn begins_with_zeros_and_counts_who_is_inside(rt: HostRuntime) -> Result<(), Fail> {
-        let mut steps = PlainSteps::<2>::new(rt.alloc(), SMALL)?;
+        let mut steps = PlainSteps::<2>::new(rt.alloc(), Config::LEAST)?;
         assert_eq!(rt; steps.words.as_slice(), [0; 20].as_slice());
         assert!(rt; steps.go_in());
         assert_eq!(rt; steps.words[0], 1);
@@ -363,7 +351,7 @@ mod tests {
     fn has_at_most_64_threads(rt: HostRuntime) {
         let config = Config {
             threads: 65,
-            ..SMALL
+            ..Config::LEAST
         };
         assert_eq!(rt;
             PlainSteps::<2>::new(rt.alloc(), config).err(),
@@ -373,14 +361,14 @@ mod tests {
 
     #[test]
     fn is_refused_where_memory_is(rt: HostRuntime) {
-        if let Err(fault) = PlainSteps::<2>::new(rt.alloc(), SMALL) {
+        if let Err(fault) = PlainSteps::<2>::new(rt.alloc(), Config::LEAST) {
             assert_eq!(rt; fault, Fault::Memory);
         }
     }
 
     #[test]
     fn shuts_and_opens_the_gate(rt: HostRuntime) -> Result<(), Fail> {
-        let mut steps = PlainSteps::<2>::new(rt.alloc(), SMALL)?;
+        let mut steps = PlainSteps::<2>::new(rt.alloc(), Config::LEAST)?;
         let empty = GateParts {
             count: 0,
             shut: false,
@@ -397,7 +385,7 @@ mod tests {
 
     #[test]
     fn is_fresh_until_it_is_spent(rt: HostRuntime) -> Result<(), Fail> {
-        let mut steps = PlainSteps::<2>::new(rt.alloc(), SMALL)?;
+        let mut steps = PlainSteps::<2>::new(rt.alloc(), Config::LEAST)?;
         assert!(rt; steps.fresh());
         steps.spend();
         assert!(rt; !steps.fresh());
@@ -407,7 +395,7 @@ mod tests {
 
     #[test]
     fn is_fresh_until_a_local_word_is_stored(rt: HostRuntime) -> Result<(), Fail> {
-        let mut steps = PlainSteps::<2>::new(rt.alloc(), SMALL)?;
+        let mut steps = PlainSteps::<2>::new(rt.alloc(), Config::LEAST)?;
         assert!(rt; steps.go_in());
         assert!(rt; steps.fresh());
         steps.put_local(3, None);
@@ -417,7 +405,7 @@ mod tests {
 
     #[test]
     fn publishes_an_object_once(rt: HostRuntime) -> Result<(), Fail> {
-        let mut steps = PlainSteps::<2>::new(rt.alloc(), SMALL)?;
+        let mut steps = PlainSteps::<2>::new(rt.alloc(), Config::LEAST)?;
         assert!(rt; steps.go_in());
         assert!(rt; steps.claim_header(1, PLAIN));
         assert!(rt; !steps.claim_header(1, PLAIN));
@@ -434,7 +422,10 @@ mod tests {
     /// A row of 22 words: the last two are array space.
     #[test]
     fn reserves_words_and_puts_its_own(rt: HostRuntime) -> Result<(), Fail> {
-        let config = Config { words: 2, ..SMALL };
+        let config = Config {
+            words: 2,
+            ..Config::LEAST
+        };
         let mut steps = PlainSteps::<2>::new(rt.alloc(), config)?;
         assert!(rt; steps.go_in());
         let looked = steps.see_top(TopNaming::Look);
@@ -458,7 +449,7 @@ mod tests {
 
     #[test]
     fn sees_the_header_that_it_published(rt: HostRuntime) -> Result<(), Fail> {
-        let mut steps = PlainSteps::<2>::new(rt.alloc(), SMALL)?;
+        let mut steps = PlainSteps::<2>::new(rt.alloc(), Config::LEAST)?;
         assert!(rt; steps.go_in());
         assert_eq!(rt; steps.see_header(1), None);
         assert!(rt; steps.claim_header(1, PLAIN));
@@ -469,7 +460,7 @@ mod tests {
     /// The one slot with its one serial: free, taken, and retired once its reference is deleted.
     #[test]
     fn retires_a_slot_after_its_last_serial(rt: HostRuntime) -> Result<(), Fail> {
-        let mut steps = PlainSteps::<0>::new(rt.alloc(), SMALL)?;
+        let mut steps = PlainSteps::<0>::new(rt.alloc(), Config::LEAST)?;
         assert!(rt; steps.go_in());
         assert!(rt; steps.claim_header(1, PLAIN));
         let SlotParts::Free { serial: 0 } = steps.see_slot(0, SlotNaming::Probe) else {

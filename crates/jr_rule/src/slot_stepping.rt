@@ -5,8 +5,9 @@ ghost use Rattle.jr_model.specs.declared.event.Role.TheVariants.{Within};
 ghost use Rattle.jr_steps.specs.Acts.{slot_named, SlotNameFits, claiming, freeing, found_object};
 ghost use Rattle.jr_steps.specs.Knowing.{anything, HasObject, HasLooked, IsFreeSlot, ShowsSlot, LostClaim, MayKnow, Took, keeps};
 
+use crate::layout::slot_at;
 use jr_steps::SlotNaming;
-use crate::parts::{SLOTS, freed_slot, reference};
+use crate::parts::{freed_slot, reference};
 use crate::pass::Pass;
 use crate::row::Row;
 use jr_word::{HandleParts, RefKind, SlotParts, SlotWord};
@@ -23,7 +24,7 @@ impl Row {
         ensures row { IsAt self.now pass.new }
         ensures step { Took standing_of Knows pass.old pass.new (slot_named index name result ∷ []) anything (λ j k. ShowsSlot index result k × keeps j k) }
     {
-        let at = SLOTS + index as usize;
+        let at = slot_at(index);
         let about = (index, name);
         let found = self.load::<Brand, (u16, SlotNaming)>(&mut pass.seat, at, about);
         SlotWord::parts(found).unwrap()
@@ -45,7 +46,7 @@ impl Row {
         ensures row { IsAt self.now pass.new }
         ensures step { Took standing_of Knows pass.old pass.new (claiming index serial kind object result ∷ []) (λ k. HasObject object k × IsFreeSlot index serial k) (λ j k. LostClaim index result j k × keeps j k) }
     {
-        let at = SLOTS + index as usize;
+        let at = slot_at(index);
         let looked = SlotWord::pack(SlotParts::Free { serial });
         let made = SlotWord::pack(reference(kind, serial, Some(object)));
         let about = (index, serial, kind, object);
@@ -70,7 +71,7 @@ impl Row {
         ensures row { IsAt self.now pass.new }
         ensures step { Took standing_of Knows pass.old pass.new (freeing handle result ∷ []) (HasLooked handle (found_object object)) keeps }
     {
-        let at = SLOTS + handle.index as usize;
+        let at = slot_at(handle.index);
         let looked = SlotWord::pack(reference(handle.kind, handle.serial, object));
         let freed = SlotWord::pack(freed_slot(handle.serial, self.last));
         let found = self.exchange::<Brand, HandleParts>(

@@ -1,10 +1,12 @@
 //! What stands in a room, counted over its words.
 ghost use Rattle.std.specs.Prelude.{◌≡◌, ◌<◌, ℕ, List, length, slice_index};
+ghost use Rattle.jr_word.specs.Config.{IsLimited};
 ghost use Rattle.jr_model.specs.State.{references, summary as summary_of};
 ghost use Rattle.jr_model.specs.History.{History, state};
-ghost use Rattle.jr_rule.specs.Shown.{IsSmall, IsHistoryOf, HasHistory};
+ghost use Rattle.jr_rule.specs.Shown.{IsHistoryOf, HasHistory};
 
-use crate::parts::{SLOTS, TOP, header_at, is_reference};
+use crate::layout::{TOP, header_at, slot_at};
+use crate::parts::is_reference;
 use jr_model::Summary;
 use jr_word::{Config, RefKind, SlotWord, TopWord};
 
@@ -28,7 +30,7 @@ impl Words for Vec<u64> {
 
 /// What stands in the room. It takes no memory.
 pub(crate) fn summary<W: Words>(row: &W, config: &Config) -> Summary
-    requires small { IsSmall config.now }
+    requires limited { IsLimited config.now }
     requires history { HasHistory config.now (W.words row.now) }
     ensures { (last : ℕ) (log : History) → IsHistoryOf config.now (W.words row.now) last log → result ≡ summary_of config.now last (state log) }
 {
@@ -43,13 +45,13 @@ pub(crate) fn summary<W: Words>(row: &W, config: &Config) -> Summary
 
 /// How many references of the kind stand.
 fn references<W: Words>(row: &W, config: &Config, kind: RefKind) -> u32
-    requires small { IsSmall config.now }
+    requires limited { IsLimited config.now }
     requires history { HasHistory config.now (W.words row.now) }
     ensures { (last : ℕ) (log : History) → IsHistoryOf config.now (W.words row.now) last log → result ≡ references config.now last kind (state log) }
 {
     let mut count = 0;
     for index in 0..config.slots {
-        let word = row.word(SLOTS + index as usize);
+        let word = row.word(slot_at(index as u16));
         if is_reference(kind, SlotWord::parts(word).unwrap()) {
             count += 1;
         }
@@ -59,7 +61,7 @@ fn references<W: Words>(row: &W, config: &Config, kind: RefKind) -> u32
 
 /// How many objects are present.
 fn objects<W: Words>(row: &W, config: &Config) -> u32
-    requires small { IsSmall config.now }
+    requires limited { IsLimited config.now }
     requires history { HasHistory config.now (W.words row.now) }
     ensures { (last : ℕ) (log : History) → IsHistoryOf config.now (W.words row.now) last log → result ≡ (summary_of config.now last (state log)).live }
 {

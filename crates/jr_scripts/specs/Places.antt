@@ -1,5 +1,6 @@
 -- How the table of places shows frames.
 use Rattle.std.specs.Prelude.{◌≡◌, ◌≤◌, ◌+◌, ◌-◌, ◌*◌, ◌^◌, ◌==◌, ℕ, Bool, not, if◌then◌else◌, IsTrue, List, [], ◌∷◌, map, length, slice_index_or}
+use Rattle.jr_word.specs.declared.config.TheConstants.Config.{MOST_LOCALS}
 use Rattle.jr_word.specs.declared.handle.RefKind.TheVariants.{Local}
 use Rattle.jr_model.specs.declared.frames.LocalRef.{LocalRef}
 use Rattle.jr_scripts.specs.Table.{Table}
@@ -36,7 +37,7 @@ times p [] = 0
 times p (q ∷ qs) = (if q == p then 1 else 0) + times p qs
 
 pub record IsTable (a : Inside) : Type 0 where
-  pub few : length a.places.items ≤ 4096
+  pub few : length a.places.items ≤ MOST_LOCALS
   pub once : (p : ℕ) → times p a.standing.items ≡ (if is_taken a.places.items p then 1 else 0)  -- the standing places are the taken ones, each once
   pub given : (p : ℕ) → IsTrue (is_taken a.places.items p) → 1 ≤ given_of (place_at a.places.items p)
   pub within : (p : ℕ) → given_of (place_at a.places.items p) ≤ a.last + 1

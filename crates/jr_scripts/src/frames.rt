@@ -4,7 +4,7 @@ use jr_word::{Config, HandleParts, RefKind};
 use std::marker::Model;
 
 /// The most places for local references that a thread can have.
-const MOST_PLACES: usize = 4_096;
+const MOST_PLACES: usize = Config::MOST_LOCALS as usize;
 
 /// How many numbers the lower part of a count has.
 const ROUND: u64 = 1 << 32;
@@ -84,7 +84,7 @@ impl Frames {
 
     /// No reference, and as many places as the configuration says.
     pub fn new(thread: u8, config: &Config, last: u32) -> Frames
-        requires { config.now.locals ≤ 4096 }
+        requires { config.now.locals ≤ Config.MOST_LOCALS }
         ensures { result ≡ record { frames = fresh_frames config.now.locals; thread = thread; last = last } }
     {
         let mut places = ArrayVec::new();
@@ -162,10 +162,7 @@ mod tests {
     fn frames_of_sixteen() -> Frames {
         let config = Config {
             threads: 64,
-            slots: 1,
-            objects: 1,
-            words: 0,
-            locals: 16,
+            ..Config::LEAST
         };
         Frames::new(5, &config, 2)
     }

@@ -24,17 +24,8 @@ const TURNS: u64 = 3;
 
 /// Sizes of a room.
 const SIZES: Config = Config {
-    threads: 1,
-    slots: 1,
     objects: 2,
-    words: 0,
-    locals: 16,
-};
-
-/// A room of one thread with one slot and one object: 20 words.
-const SMALL: Config = Config {
-    objects: 1,
-    ..SIZES
+    ..Config::LEAST
 };
 
 /// Checks what a script prints behind other output.
@@ -250,7 +241,7 @@ fn a_thread_without_turns(rt: HostRuntime) -> Result<(), Fail> {
 
 #[test]
 fn retires_a_slot_after_its_last_serial(rt: HostRuntime) -> Result<(), Fail> {
-    let mut env = Env::new(PlainSteps::<2>::new(rt.alloc(), SMALL)?);
+    let mut env = Env::new(PlainSteps::<2>::new(rt.alloc(), Config::LEAST)?);
     let local = env.new_plain()?;
     for word in [2, 6, 10] {
         let global = env.new_global_ref(local)?.ok_or("an object")?;
@@ -272,7 +263,7 @@ fn retires_a_slot_after_its_last_serial(rt: HostRuntime) -> Result<(), Fail> {
 
 #[test]
 fn sums_up_what_stands(rt: HostRuntime) -> Result<(), Fail> {
-    let mut env = Env::new(PlainSteps::<2>::new(rt.alloc(), SMALL)?);
+    let mut env = Env::new(PlainSteps::<2>::new(rt.alloc(), Config::LEAST)?);
     let local = env.new_plain()?;
     env.new_global_ref(local)?;
     let summary = Summary {

@@ -16,12 +16,12 @@ use Rattle.jr_model.specs.Windows.{Stepped}
 use Rattle.jr_model.proofs.Updates.{eq_false}
 use Rattle.jr_model.proofs.Histories.{legal_push, state_push, mine_append}
 use Rattle.jr_model.proofs.Presence.{named_is_present, sound_state}
-use Rattle.jr_model.proofs.Stays.{IsStill, still_did, did_added, did_then, mine_did}
+use Rattle.jr_model.proofs.Stays.{IsStill, still_did, did_added, mine_did}
 use Rattle.jr_steps.specs.declared.known.Known.{Known}
 use Rattle.jr_steps.specs.declared.known.Grasp.{Grasp}
 use Rattle.jr_steps.specs.Acts.{reserving}
 use Rattle.jr_steps.specs.Grasping.{words_at}
-use Rattle.jr_steps.specs.Knowing.{Standing, IsOf, MayKnow, keeps, ShowsUsed, IsClosedNow, view, moved, anything, state_of, Goes, HasObject, HasLooked, WasUsed, ShowsPublished, ShowsRange, HasWord, Took, TookWith}
+use Rattle.jr_steps.specs.Knowing.{Standing, IsOf, MayKnow, keeps, ShowsUsed, IsClosedNow, view, anything, state_of, Goes, HasObject, HasLooked, WasUsed, IsFreeSlot, ShowsSlot, ShowsPublished, ShowsRange, HasWord, Took, TookWith}
 
 -- a step is what the thread did
 pub goes_did : {k k' : Known} {acts : List Act} → Goes k acts k' → Did (view k) (view k') acts

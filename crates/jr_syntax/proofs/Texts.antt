@@ -24,7 +24,7 @@ use Rattle.jr_syntax.specs.Faults.{first_fit, fault_of, first_fault_behind, firs
 use Rattle.jr_syntax.specs.Parse.{IsFaultOf, ReadsAs}
 use Rattle.jr_syntax.proofs.Cuts.{lines_of_more}
 use Rattle.jr_syntax.proofs.DecimalLaws.{number_decimal, decimal_form}
-use Rattle.jr_syntax.proofs.VmLaws.{vm_plain, config_small}
+use Rattle.jr_syntax.proofs.VmLaws.{vm_plain, config_fits}
 use Rattle.jr_syntax.proofs.Steps.{names_more, threads_more, other_way, or_false, or_from}
 use Rattle.jr_syntax.proofs.Reading.{finished, some_lines, table_first}
 use Rattle.jr_syntax.proofs.Again.{is_solid, name_solid, decimal_solid, words_again, line_printable, command_again}
@@ -113,7 +113,7 @@ read_parts (p ∷ ps) h =
 
 vm_again : (c : Config) → is_config c ≡ true → (config_at (vm.spell c) ≡ c) × (list_all is_solid (vm.spell c) ≡ true) × (vm.has_form (vm.spell c) ≡ true)
 vm_again c h =
-    let s = config_small c h in (
+    let s = config_fits c h in (
       rw (number_decimal c.threads s.threads, number_decimal c.slots s.slots, number_decimal c.objects s.objects, number_decimal c.words s.words, number_decimal c.locals s.locals) refl,
       rw (decimal_solid c.threads s.threads, decimal_solid c.slots s.slots, decimal_solid c.objects s.objects, decimal_solid c.words s.words, decimal_solid c.locals s.locals) refl,
       rw (decimal_form c.threads s.threads, decimal_form c.slots s.slots, decimal_form c.objects s.objects, decimal_form c.words s.words, decimal_form c.locals s.locals) refl,

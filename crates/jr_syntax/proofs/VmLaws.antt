@@ -1,11 +1,12 @@
 -- The first line.
-use Rattle.std.proofs.Common.{◌≡◌, ℕ, ◌^◌, ◌<◌, ◌≤◌, Bool, true, false, List, [], ◌∷◌, length, Ok, Err, refl, sym, ap, subst, ◌∙◌, arith, leb, ltb, eqb}
+use Rattle.std.proofs.Common.{◌≡◌, ℕ, ◌^◌, ◌<◌, Bool, true, false, List, [], ◌∷◌, length, Ok, Err, refl, sym, ap, subst, ◌∙◌, arith, leb, eqb}
 use Rattle.std.specs.Prelude.{◌&&◌, codes}
 use Rattle.std.specs.Str.{bytes_eq}
-use Rattle.std.proofs.lemmas.Bool.{and_parts, leb-true, ltb-true, eqb-true, false≢true}
+use Rattle.std.proofs.lemmas.Bool.{and_parts, eqb-true, false≢true}
 use Rattle.std.proofs.lemmas.Slice.Eq.{bytes_eq-Decides}
 use Rattle.jr_word.specs.declared.config.Config.{Config}
-use Rattle.jr_word.specs.Config.{is_between}
+use Rattle.jr_word.specs.Config.{IsLimited}
+use Rattle.jr_word.proofs.Limits.{limited}
 use Rattle.jr_syntax.specs.declared.argument.LineError.TheVariants as errors
 use Rattle.jr_syntax.specs.Line.{word_at, behind}
 use Rattle.jr_syntax.specs.Number.{is_number}
@@ -47,34 +48,25 @@ no_words : (ws : List (List ℕ)) → eqb (length ws) 0 ≡ true → ws ≡ []
 no_words [] h = refl
 no_words (w ∷ ws) h = let e : length (w ∷ ws) ≡ 0 = eqb-true (length (w ∷ ws)) 0 h in absurd (omega arith)
 
--- the bounds of a configuration, as bounds below 2 to the power 64
-pub record IsSmall (c : Config) : Type 0 where
+-- the sizes of a configuration are numbers of 64 bits
+pub record FitWords (c : Config) : Type 0 where
   pub threads : c.threads < 2 ^ 64
   pub slots : c.slots < 2 ^ 64
   pub objects : c.objects < 2 ^ 64
   pub words : c.words < 2 ^ 64
   pub locals : c.locals < 2 ^ 64
 
-small : (low high n : ℕ) → ltb high (2 ^ 64) ≡ true → is_between low high n ≡ true → n < 2 ^ 64
-small low high n few h =
-    let most : n ≤ high = leb-true n high (and_parts (leb low n) (leb n high) h).1 in
-    let lt : high < 2 ^ 64 = ltb-true high (2 ^ 64) few in
-    omega arith
+sizes_fit : (c : Config) → IsLimited c → FitWords c
+sizes_fit c m = record {
+  threads = omega (arith, m.threads.1);
+  slots = omega (arith, m.slots.1);
+  objects = omega (arith, m.objects.1);
+  words = omega (arith, m.words);
+  locals = omega (arith, m.locals.1);
+}
 
-pub config_small : (c : Config) → is_config c ≡ true → IsSmall c
-config_small c h =
-    let o = and_parts _ _ h in
-    let p = and_parts _ _ o.1 in
-    let q = and_parts _ _ p.0 in
-    let r = and_parts _ _ q.0 in
-    let s = and_parts _ _ r.0 in
-    record {
-      threads = small 1 64 c.threads refl s.0;
-      slots = small 1 65536 c.slots refl s.1;
-      objects = small 1 65535 c.objects refl r.1;
-      words = small 0 1048576 c.words refl q.1;
-      locals = small 16 4096 c.locals refl p.1;
-    }
+pub config_fits : (c : Config) → is_config c ≡ true → FitWords c
+config_fits c h = sizes_fit c (limited c (and_parts _ _ h).1)
 
 -- what the first line is
 pub record IsVm (ws : List (List ℕ)) : Type 0 where
@@ -83,7 +75,7 @@ pub record IsVm (ws : List (List ℕ)) : Type 0 where
 
 vm_back : (a b c d e : List ℕ) → AreNumbers a b c d e → is_config (config_at (vm_words a b c d e)) ≡ true → vm.spell (config_at (vm_words a b c d e)) ≡ vm_words a b c d e
 vm_back a b c d e n h =
-    let s = config_small (config_at (vm_words a b c d e)) h in
+    let s = config_fits (config_at (vm_words a b c d e)) h in
     rw (decimal_number a n.threads s.threads, decimal_number b n.slots s.slots, decimal_number c n.objects s.objects, decimal_number d n.words s.words, decimal_number e n.locals s.locals) refl
 
 pub vm_taken : (ws : List (List ℕ)) → vm.has_form ws ≡ true → IsVm ws

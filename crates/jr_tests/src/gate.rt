@@ -18,19 +18,7 @@ use std::thread::Threads;
 /// A room of four threads with one slot and one object.
 const SMALL: Config = Config {
     threads: 4,
-    slots: 1,
-    objects: 1,
-    words: 0,
-    locals: 16,
-};
-
-/// A room of one thread.
-const LEAST: Config = Config {
-    threads: 1,
-    slots: 1,
-    objects: 1,
-    words: 0,
-    locals: 16,
+    ..Config::LEAST
 };
 
 /// What a room has in which nothing stands.
@@ -222,7 +210,7 @@ fn stays_and_collections_of_three_threads_end(rt: HostRuntime) -> Result<(), Fai
 
 #[test]
 fn a_stay_is_counted_until_it_ends(rt: HostRuntime) -> Result<(), Fail> {
-    let mut steps = PlainSteps::<2>::new(rt.alloc(), LEAST)?;
+    let mut steps = PlainSteps::<2>::new(rt.alloc(), Config::LEAST)?;
     let Ok(stay) = enter(&mut steps) else {
         return Err("nobody collects")?;
     };
@@ -234,7 +222,7 @@ fn a_stay_is_counted_until_it_ends(rt: HostRuntime) -> Result<(), Fail> {
 
 #[test]
 fn a_collection_keeps_the_gate_shut_until_it_ends(rt: HostRuntime) -> Result<(), Fail> {
-    let mut steps = PlainSteps::<2>::new(rt.alloc(), LEAST)?;
+    let mut steps = PlainSteps::<2>::new(rt.alloc(), Config::LEAST)?;
     let Ok(collection) = shut_gate(&mut steps) else {
         return Err("nobody is inside")?;
     };

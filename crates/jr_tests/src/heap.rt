@@ -42,11 +42,9 @@ const WIDE: Config = Config {
 
 /// The sizes at their limits.
 const LARGE: Config = Config {
-    threads: 1,
-    slots: 1,
-    objects: 65_535,
-    words: 1_048_576,
-    locals: 16,
+    objects: Config::MOST_OBJECTS,
+    words: Config::MOST_WORDS,
+    ..Config::LEAST
 };
 
 /// A room for the arrays of two threads, with a third that takes no step.

@@ -16,6 +16,33 @@ pub struct Config {
 }
 
 impl Config {
+    /// The most threads of a room.
+    pub const MOST_THREADS: u32 = 64;
+
+    /// The most slots of a room.
+    pub const MOST_SLOTS: u32 = 65_536;
+
+    /// The most objects of a room.
+    pub const MOST_OBJECTS: u32 = 65_535;
+
+    /// The most words of a room's array space.
+    pub const MOST_WORDS: u32 = 1_048_576;
+
+    /// The fewest places for local references of a thread.
+    pub const LEAST_LOCALS: u32 = 16;
+
+    /// The most places for local references of a thread.
+    pub const MOST_LOCALS: u32 = 4_096;
+
+    /// The least sizes of a room: one thread, one slot, one object and no array space. Its row has 20 words.
+    pub const LEAST: Config = Config {
+        threads: 1,
+        slots: 1,
+        objects: 1,
+        words: 0,
+        locals: Self::LEAST_LOCALS,
+    };
+
     ghost use Rattle.std.specs.Prelude.{◌≡◌, true};
     ghost use Rattle.jr_word.specs.Config.{in_limits, row_words};
 
@@ -23,11 +50,11 @@ impl Config {
     pub fn in_limits(&self) -> bool
         ensures { result ≡ in_limits self.now }
     {
-        (1..=64).contains(&self.threads)
-            && (1..=65_536).contains(&self.slots)
-            && (1..=65_535).contains(&self.objects)
-            && self.words <= 1_048_576
-            && (16..=4_096).contains(&self.locals)
+        (1..=Self::MOST_THREADS).contains(&self.threads)
+            && (1..=Self::MOST_SLOTS).contains(&self.slots)
+            && (1..=Self::MOST_OBJECTS).contains(&self.objects)
+            && self.words <= Self::MOST_WORDS
+            && (Self::LEAST_LOCALS..=Self::MOST_LOCALS).contains(&self.locals)
     }
 
     /// How many words the row of a room has: the gate, the top, a word for each slot, for each place of each thread and for each object's header, and the element words.

@@ -122,18 +122,9 @@ fn references_of_another_kind(rt: HostRuntime) -> Result<(), Fail> {
     Ok(())
 }
 
-/// A room of one thread with one slot and 16 local places.
-const ONE: Config = Config {
-    threads: 1,
-    slots: 1,
-    objects: 1,
-    words: 0,
-    locals: 16,
-};
-
 #[test]
 fn a_slot_gives_more_than_65_536_handles(rt: HostRuntime) -> Result<(), Fail> {
-    let mut env = Env::new(PlainSteps::<4_294_967_295>::new(rt.alloc(), ONE)?);
+    let mut env = Env::new(PlainSteps::<4_294_967_295>::new(rt.alloc(), Config::LEAST)?);
     let local = env.new_plain()?;
     let mut last = Handle::NULL;
     for _ in 0..65_537 {
@@ -153,7 +144,7 @@ fn a_slot_gives_more_than_65_536_handles(rt: HostRuntime) -> Result<(), Fail> {
 
 #[test]
 fn a_local_place_gives_more_than_65_536_handles(rt: HostRuntime) -> Result<(), Fail> {
-    let mut env = Env::new(PlainSteps::<4_294_967_295>::new(rt.alloc(), ONE)?);
+    let mut env = Env::new(PlainSteps::<4_294_967_295>::new(rt.alloc(), Config::LEAST)?);
     let local = env.new_plain()?;
     let mut last = Handle::NULL;
     for _ in 0..65_537 {

@@ -22,16 +22,16 @@ pub returns : goal.returns
 returns g c =
     let s = c.args.self.now in
     took g.row.LAST s _
-    (claimed g.row.LAST (omega arith) s c.args.index c.args.serial c.args.kind c.args.object c.reference.result c.pack-made.result.0 c.requires.row c.requires.kind c.reference.ensures
+    (claimed g.row.LAST (omega arith) s c.args.index c.slot_at-at.result c.args.serial c.args.kind c.args.object c.reference.result c.pack-made.result.0 c.slot_at-at.ensures c.requires.row c.requires.kind c.reference.ensures
     c.slot-found.result c.slot-found.ensures.1 (c.is_free.ensures.0 c.if-not-is_free.false) c.pack-made.ensures c.requires.role)
 
 pub invariant_of-self-clause-shown : goal.invariant_of-self-clause-shown
 invariant_of-self-clause-shown g c =
     let s = c.args.self.now in
     shown
-    (claimed g.row.LAST (omega arith) s c.args.index c.args.serial c.args.kind c.args.object c.reference.result c.pack-made.result.0 c.requires.row c.requires.kind c.reference.ensures
+    (claimed g.row.LAST (omega arith) s c.args.index c.slot_at-at.result c.args.serial c.args.kind c.args.object c.reference.result c.pack-made.result.0 c.slot_at-at.ensures c.requires.row c.requires.kind c.reference.ensures
     c.slot-found.result c.slot-found.ensures.1 (c.is_free.ensures.0 c.if-not-is_free.false) c.pack-made.ensures c.requires.role)
     c.requires.looked
 
 pub invariant_of-self-clause-unused : goal.invariant_of-self-clause-unused
-invariant_of-self-clause-unused g c = let s = c.args.self.now in λ e. unused_slot s.config g.row.LAST s.role s.role s.fresh s.fresh s.words.items _ (s.unused e) c.args.index c.requires.row
+invariant_of-self-clause-unused g c = let s = c.args.self.now in λ e. unused_slot s.config g.row.LAST s.role s.role s.fresh s.fresh s.words.items _ (s.unused e) c.args.index c.slot_at-at.result c.slot_at-at.ensures c.requires.row

@@ -25,4 +25,4 @@ invariant_of-self-clause-shown g c =
     c.requires.filled
 
 pub invariant_of-self-clause-unused : goal.invariant_of-self-clause-unused
-invariant_of-self-clause-unused g c = let s = c.args.self.now in λ e. unused_header s.config g.row.LAST s.role s.role s.fresh s.fresh s.words.items _ (s.unused e) c.header_at-at.result c.args.object (c.header_at-at.ensures ∙ ap (header_at s.config) c.from.ensures) s.threads.0
+invariant_of-self-clause-unused g c = let s = c.args.self.now in λ e. unused_header s.config g.row.LAST s.role s.role s.fresh s.fresh s.words.items _ (s.unused e) c.header_at-at.result c.args.object (c.header_at-at.ensures ∙ ap (header_at s.config) c.from.ensures) s.limited.threads.0

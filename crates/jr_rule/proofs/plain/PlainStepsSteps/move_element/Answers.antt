@@ -12,7 +12,7 @@ element_at-at-requires-clause-place g c =
 pub overflow_add-place : goal.overflow_add-place
 overflow_add-place g c =
     let s = c.args.self.now in
-    let few = s.space in
+    let few = s.limited.words in
     let below = move_few g.row.LAST (omega arith) s c.requires.role c.args._object c.args._header c.args.place c.args.index c.args.word c.requires.index c.requires.can in omega arith
 
 pub index_mut-requires : goal.index_mut-requires
@@ -36,4 +36,4 @@ invariant_of-self-clause-shown g c =
     c.requires.can
 
 pub invariant_of-self-clause-unused : goal.invariant_of-self-clause-unused
-invariant_of-self-clause-unused g c = let s = c.args.self.now in λ e. unused_element s.config g.row.LAST s.role s.role s.fresh s.fresh s.words.items _ (s.unused e) c.element_at-at.result (c.args.place + c.args.index) c.element_at-at.ensures s.threads.0
+invariant_of-self-clause-unused g c = let s = c.args.self.now in λ e. unused_element s.config g.row.LAST s.role s.role s.fresh s.fresh s.words.items _ (s.unused e) c.element_at-at.result (c.args.place + c.args.index) c.element_at-at.ensures s.limited.threads.0

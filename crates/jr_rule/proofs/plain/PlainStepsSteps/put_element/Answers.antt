@@ -12,7 +12,7 @@ element_at-at-requires-clause-place g c =
 pub overflow_add-header : goal.overflow_add-header
 overflow_add-header g c =
     let s = c.args.self.now in
-    let few = s.space in
+    let few = s.limited.words in
     let below = known_few g.row.LAST (omega arith) s c.args._object c.args.header c.args.index c.requires.known (λ k m. m.0) c.requires.index in omega arith
 
 pub index_mut-requires : goal.index_mut-requires
@@ -36,4 +36,4 @@ invariant_of-self-clause-shown g c =
     c.requires.known
 
 pub invariant_of-self-clause-unused : goal.invariant_of-self-clause-unused
-invariant_of-self-clause-unused g c = let s = c.args.self.now in λ e. unused_element s.config g.row.LAST s.role s.role s.fresh s.fresh s.words.items c.args.word (s.unused e) c.element_at-at.result (c.args.header.place + c.args.index) c.element_at-at.ensures s.threads.0
+invariant_of-self-clause-unused g c = let s = c.args.self.now in λ e. unused_element s.config g.row.LAST s.role s.role s.fresh s.fresh s.words.items c.args.word (s.unused e) c.element_at-at.result (c.args.header.place + c.args.index) c.element_at-at.ensures s.limited.threads.0

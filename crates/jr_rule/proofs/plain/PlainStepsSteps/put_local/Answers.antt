@@ -15,11 +15,11 @@ pub returns : goal.returns
 returns g c =
     let s = c.args.self.now in
     took g.row.LAST s _
-    (put g.row.LAST (omega arith) s c.args.place c.args.object c.pack.result.0 c.requires.place (c.pack.ensures ∙ ap local_word c.local_parts.ensures) c.requires.role)
+    (put g.row.LAST (omega arith) s c.args.place c.local_at-at.result c.args.object c.pack.result.0 c.local_at-at.ensures c.requires.place (c.pack.ensures ∙ ap local_word c.local_parts.ensures) c.requires.role)
 
 pub invariant_of-self-clause-shown : goal.invariant_of-self-clause-shown
 invariant_of-self-clause-shown g c =
     let s = c.args.self.now in
     shown
-    (put g.row.LAST (omega arith) s c.args.place c.args.object c.pack.result.0 c.requires.place (c.pack.ensures ∙ ap local_word c.local_parts.ensures) c.requires.role)
+    (put g.row.LAST (omega arith) s c.args.place c.local_at-at.result c.args.object c.pack.result.0 c.local_at-at.ensures c.requires.place (c.pack.ensures ∙ ap local_word c.local_parts.ensures) c.requires.role)
     c.requires.object

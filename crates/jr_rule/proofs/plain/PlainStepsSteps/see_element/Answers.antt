@@ -11,7 +11,7 @@ element_at-requires-clause-place g c =
 pub overflow_add-header : goal.overflow_add-header
 overflow_add-header g c =
     let s = c.args.self.now in
-    let few = s.space in
+    let few = s.limited.words in
     let below = known_few g.row.LAST (omega arith) s c.args._object c.args.header c.args.index c.requires.known (λ k m. m) c.requires.index in omega arith
 
 pub word-requires : goal.word-requires

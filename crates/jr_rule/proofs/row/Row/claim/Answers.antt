@@ -1,7 +1,6 @@
 use Rattle.std.proofs.Common.{◌≡◌, ℕ, Some, Err, [], ◌∷◌, refl, sym, ap, subst, ◌∙◌, arith, eqb}
 use prog.Atomic.{either}
 use Rattle.jr_steps.specs.Acts.{claiming}
-use Rattle.jr_rule.specs.Image.{slot_at}
 use Rattle.jr_steps.specs.Knowing.{LostClaim}
 use Rattle.jr_rule.specs.Passes.{known_of}
 use Rattle.jr_rule.specs.Rule.{Owes}
@@ -22,7 +21,7 @@ pack-made-requires c =
 pub exchange-found-requires-clause-owes : goal.exchange-found-requires-clause-owes
 exchange-found-requires-clause-owes c =
     let p = c.args.pass.now in
-    subst (λ (z : ℕ × ℕ). Owes (known_of p) (slot_at c.args.index) (λ n. either (eqb n z.0) z.1 n) (Claimed c.args.index c.args.serial c.args.kind c.args.object (known_of p))) (λ j. (sym c.pack-looked.ensures j, sym c.pack-made.ensures j))
+    subst (λ (z : ℕ × ℕ × ℕ). Owes (known_of p) z.0 (λ n. either (eqb n z.1) z.2 n) (Claimed c.args.index c.args.serial c.args.kind c.args.object (known_of p))) (λ j. (sym c.slot_at-at.ensures j, sym c.pack-looked.ensures j, sym c.pack-made.ensures j))
     (claims_slot (known_of p) (p.held.role_is ∙ c.requires.role) c.args.index c.args.serial c.args.kind c.args.object c.reference.result c.requires.index (serial_fits p c.args.index c.args.serial c.requires.looked) c.requires.kind c.reference.ensures
     (object_known p c.args.object c.requires.looked))
 

@@ -1,7 +1,6 @@
 use Rattle.std.proofs.Common.{◌≡◌, ◌==◌, ℕ, refl, sym, ap, subst, ◌∙◌, eqb}
 use prog.Atomic.{either}
 use Rattle.jr_word.specs.Slot.{slot_word}
-use Rattle.jr_rule.specs.Image.{slot_at}
 use Rattle.jr_rule.specs.Passes.{known_of}
 use Rattle.jr_rule.specs.Rule.{Owes}
 use Rattle.jr_rule.specs.Slots.{freed}
@@ -24,7 +23,7 @@ exchange-found-requires-clause-owes c =
     let p = c.args.pass.now in
     let h = c.args.handle in
     let free : c.pack-freed.result.0 ≡ slot_word (freed (known_of p).last h.serial) = c.pack-freed.ensures ∙ ap slot_word (c.freed_slot.ensures ∙ ap (λ n. freed n h.serial) (sym (c.requires.row).last)) in
-    subst (λ (z : ℕ × ℕ). Owes (known_of p) (slot_at h.index) (λ n. either (eqb n z.0) z.1 n) (Freed h z.0 (known_of p))) (λ j. (sym c.pack-looked.ensures j, sym free j))
+    subst (λ (z : ℕ × ℕ × ℕ). Owes (known_of p) z.0 (λ n. either (eqb n z.1) z.2 n) (Freed h z.1 (known_of p))) (λ j. (sym c.slot_at-at.ensures j, sym c.pack-looked.ensures j, sym free j))
     (frees_slot (known_of p) (p.held.role_is ∙ c.requires.role) h c.args.object c.reference.result c.reference.ensures (of_pass p c.requires.looked))
 
 pub invariant_of-pass : goal.invariant_of-pass

@@ -14,7 +14,7 @@ pub overflow_add-place : goal.overflow_add-place
 overflow_add-place c =
     let p = c.args.pass.now in
     let below = move_few p c.args.object c.args.header c.args.place c.args.index c.args.word c.requires.can in
-    let most = p.held.sized.small.words in omega (arith, below, most)
+    let most = p.held.sized.limited.words in omega (arith, below, most)
 
 pub element_at-at-requires-clause-place : goal.element_at-at-requires-clause-place
 element_at-at-requires-clause-place c =

@@ -16,7 +16,7 @@ use Rattle.jr_rule.proofs.row.Row.put_local.Goals as goal
 pub pack-new-requires : goal.pack-new-requires
 pack-new-requires c =
     let p = c.args.pass.now in
-    subst (λ q. IsLocalPlace q) (sym c.local_parts.ensures) (place_fits c.args.object (optional_few p c.args.object c.requires.object (p.held.sized).small.objects))
+    subst (λ q. IsLocalPlace q) (sym c.local_parts.ensures) (place_fits c.args.object (optional_few p c.args.object c.requires.object (p.held.sized).limited.objects.1))
 
 pub store-requires-clause-owes : goal.store-requires-clause-owes
 store-requires-clause-owes c =

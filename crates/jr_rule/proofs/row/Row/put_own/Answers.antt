@@ -14,7 +14,7 @@ pub overflow_add-place : goal.overflow_add-place
 overflow_add-place c =
     let p = c.args.pass.now in
     let below = p.held.space.own c.args.place c.args.index (word_held p c.args.place c.args.index c.requires.own) in
-    let most = p.held.sized.small.words in omega (arith, below, most)
+    let most = p.held.sized.limited.words in omega (arith, below, most)
 
 pub element_at-at-requires-clause-place : goal.element_at-at-requires-clause-place
 element_at-at-requires-clause-place c =

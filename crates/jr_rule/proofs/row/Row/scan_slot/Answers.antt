@@ -1,14 +1,17 @@
 use Rattle.std.proofs.Common.{refl, sym, subst, ◌∙◌}
 use Rattle.jr_steps.specs.Knowing.{ShowsSlot}
 use Rattle.jr_rule.specs.Passes.{known_of}
+use Rattle.jr_rule.specs.Rule.{Owes}
 use Rattle.jr_rule.proofs.CollectOwed.{scans_slot}
-use Rattle.jr_rule.proofs.SlotOwed.{}
+use Rattle.jr_rule.proofs.CollectTold.{ScannedSlot}
 use Rattle.jr_rule.proofs.Stepped.{held_next, took}
 use Rattle.jr_rule.proofs.Readings.{is_read, read_once}
 use Rattle.jr_rule.proofs.row.Row.scan_slot.Goals as goal
 
 pub load-found-requires-clause-owes : goal.load-found-requires-clause-owes
-load-found-requires-clause-owes c = let p = c.args.pass.now in scans_slot (known_of p) (p.held.role_is ∙ c.requires.role) c.args.index c.requires.index
+load-found-requires-clause-owes c =
+    let p = c.args.pass.now in
+    subst (λ z. Owes (known_of p) z (λ n. n) (ScannedSlot c.args.index (known_of p))) (sym c.slot_at-at.ensures) (scans_slot (known_of p) (p.held.role_is ∙ c.requires.role) c.args.index c.requires.index)
 
 pub invariant_of-pass : goal.invariant_of-pass
 invariant_of-pass c =

@@ -14,7 +14,7 @@ pub overflow_add-header : goal.overflow_add-header
 overflow_add-header c =
     let p = c.args.pass.now in
     let below = p.held.space.elements c.args.object c.args.header (header_alone p c.args.object c.args.header c.requires.known) c.args.index c.requires.index in
-    let most = p.held.sized.small.words in omega (arith, below, most)
+    let most = p.held.sized.limited.words in omega (arith, below, most)
 
 pub element_at-at-requires-clause-place : goal.element_at-at-requires-clause-place
 element_at-at-requires-clause-place c =

@@ -1,14 +1,19 @@
 use Rattle.std.proofs.Common.{[], ◌∷◌, refl, sym, ap, subst, ◌∙◌}
 use Rattle.jr_steps.specs.Acts.{slot_named}
 use Rattle.jr_steps.specs.Knowing.{ShowsSlot}
+use Rattle.jr_rule.specs.Passes.{known_of}
+use Rattle.jr_rule.specs.Rule.{Owes}
 use Rattle.jr_rule.proofs.SlotOwed.{sees_slot}
 use Rattle.jr_rule.proofs.Stepped.{held_next, took}
+use Rattle.jr_rule.proofs.Told.{SawSlot}
 use Rattle.jr_rule.proofs.Effects.{slot_named_role, slot_named_fresh}
 use Rattle.jr_rule.proofs.Readings.{is_read, read_once}
 use Rattle.jr_rule.proofs.row.Row.see_slot.Goals as goal
 
 pub load-found-requires-clause-owes : goal.load-found-requires-clause-owes
-load-found-requires-clause-owes c = sees_slot _ (c.args.pass.now.held.role_is ∙ c.requires.role) c.args.index c.args.name c.requires.index c.requires.fits
+load-found-requires-clause-owes c =
+    let p = c.args.pass.now in
+    subst (λ z. Owes (known_of p) z (λ n. n) (SawSlot c.args.index c.args.name (known_of p))) (sym c.slot_at-at.ensures) (sees_slot (known_of p) (p.held.role_is ∙ c.requires.role) c.args.index c.args.name c.requires.index c.requires.fits)
 
 pub invariant_of-pass : goal.invariant_of-pass
 invariant_of-pass c =

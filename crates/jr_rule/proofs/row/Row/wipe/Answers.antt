@@ -1,6 +1,5 @@
 use Rattle.std.proofs.Common.{ℕ, refl, sym, subst, ◌∙◌, eqb}
 use prog.Atomic.{either}
-use Rattle.jr_rule.specs.Image.{slot_at}
 use Rattle.jr_rule.specs.Passes.{known_of}
 use Rattle.jr_rule.specs.Rule.{Owes}
 use Rattle.jr_rule.proofs.Allowed.{wipe_known, wipe_some}
@@ -15,7 +14,7 @@ pack-looked-requires c = wipe_some c.args.pass.now c.args.index c.args.serial c.
 pub exchange-requires-clause-owes : goal.exchange-requires-clause-owes
 exchange-requires-clause-owes c =
     let p = c.args.pass.now in
-    subst (λ (z : ℕ × ℕ). Owes (known_of p) (slot_at c.args.index) (λ n. either (eqb n z.0) z.1 n) (Wiped c.args.index c.args.serial (known_of p))) (λ j. (sym c.pack-looked.ensures j, sym c.pack-cleared.ensures j))
+    subst (λ (z : ℕ × ℕ × ℕ). Owes (known_of p) z.0 (λ n. either (eqb n z.1) z.2 n) (Wiped c.args.index c.args.serial (known_of p))) (λ j. (sym c.slot_at-at.ensures j, sym c.pack-looked.ensures j, sym c.pack-cleared.ensures j))
     (wipes_slot (known_of p) (p.held.role_is ∙ c.requires.role) c.args.index c.args.serial c.args.object c.requires.index (wipe_known p c.args.index c.args.serial c.args.object c.requires.can))
 
 pub invariant_of-pass : goal.invariant_of-pass
