@@ -1,6 +1,6 @@
-pub mod Trying
 pub mod Doing
 pub mod CommandDeeds
+pub mod Trying
 pub mod Going
 pub mod Alone
 pub mod AloneHistories

@@ -4,6 +4,7 @@
 mod all;
 pub mod calls;
 pub mod env;
+pub mod env_call;
 pub mod frames;
 mod names;
 pub mod object;
@@ -13,13 +14,13 @@ mod printed;
 pub mod reference;
 mod reply;
 pub mod resolve;
+mod retry;
 pub mod row;
 mod run;
 mod single;
 mod starting;
 #[cfg(test)]
 mod tests;
-mod tries;
 
 pub use all::run_all;
 pub use jr_syntax::{Reason, Script, ScriptFault, parse, print};

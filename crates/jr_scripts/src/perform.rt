@@ -1,155 +1,55 @@
 //! The calls that a command makes.
 
-ghost use Rattle.std.specs.Prelude.{◌≡◌};
-ghost use Rattle.jr_word.specs.declared.handle.RefKind.TheVariants.{Local as LocalKind, Global as GlobalKind, Weak as WeakKind};
-ghost use Rattle.jr_scripts.specs.Deeds.{Does, new_plain, new_reference, new_local_ref, delete_reference, delete_local_ref, is_same_object, get_object_ref_type};
-ghost use Rattle.jr_scripts.specs.Commands.{tried as tried_deed, makes, deleted_of, deleted, type_of as type_deed, deed};
+ghost use Rattle.jr_scripts.specs.declared.reply.Reply.TheVariants as replies;
+ghost use Rattle.jr_scripts.specs.Deeds.{Does, answered_by};
+ghost use Rattle.jr_scripts.specs.Commands.{tried, deleted, type_of as type_deed, deed};
 
 use crate::env::Env;
+use crate::env_call::{
+    DeleteGlobalRef, DeleteLocalRef, DeleteWeakGlobalRef, EnvCall, GetObjectRefType, IsSameObject,
+    NewGlobalRef, NewLocalRef, NewPlain, NewWeakGlobalRef,
+};
 use crate::names::Names;
 use crate::reference::Reference;
-use crate::reply::Reply;
-use crate::tries::tried;
+use crate::reply::{IntoReply, Reply};
+use crate::retry::retry;
 use jr_steps::Steps;
 use jr_syntax::Command;
 use jr_word::{Fault, Handle, RefKind};
 
-/// A plain object and a local reference to it.
-fn plain<S: Steps>(env: &mut Env<S>, turns: u64) -> Result<Handle, Fault>
-    ensures { Does S.stands S.knows env.old.steps env.new.steps env.old.frames.frames env.new.frames.frames (tried_deed turns new_plain) result }
+/// Makes a call, and again as long as it is raced or barred, and replies with its answer.
+fn ask<S: Steps, C: EnvCall<S>>(env: &mut Env<S>, turns: u64, call: &C) -> Result<Reply, Fault>
+where
+    C::Answer: IntoReply,
+    ensures { Does S.stands S.knows env.old.steps env.new.steps env.old.frames.frames env.new.frames.frames (answered_by C.Answer.reply (tried turns (C.deed call.now))) result }
 {
-    tried(
-        env,
-        turns,
-        |env: &mut Env<S>|
-            ensures { Does S.stands S.knows env.old.steps env.new.steps env.old.frames.frames env.new.frames.frames new_plain result }
-        { env.new_plain() },
-    )
-}
-
-/// A global reference to what a handle names, none for NULL.
-fn global<S: Steps>(env: &mut Env<S>, turns: u64, handle: Handle) -> Result<Reply, Fault>
-    ensures { Does S.stands S.knows env.old.steps env.new.steps env.old.frames.frames env.new.frames.frames (makes turns (new_reference GlobalKind handle.0)) result }
-{
-    let made = tried(
-        env,
-        turns,
-        |env: &mut Env<S>|
-            ensures { Does S.stands S.knows env.old.steps env.new.steps env.old.frames.frames env.new.frames.frames (new_reference GlobalKind handle.0) result }
-        { env.new_global_ref(handle) },
-    )?;
-    Ok(Reply::Made(made))
-}
-
-/// A weak global reference to what a handle names, none for NULL.
-fn weak<S: Steps>(env: &mut Env<S>, turns: u64, handle: Handle) -> Result<Reply, Fault>
-    ensures { Does S.stands S.knows env.old.steps env.new.steps env.old.frames.frames env.new.frames.frames (makes turns (new_reference WeakKind handle.0)) result }
-{
-    let made = tried(
-        env,
-        turns,
-        |env: &mut Env<S>|
-            ensures { Does S.stands S.knows env.old.steps env.new.steps env.old.frames.frames env.new.frames.frames (new_reference WeakKind handle.0) result }
-        { env.new_weak_global_ref(handle) },
-    )?;
-    Ok(Reply::Made(made))
-}
-
-/// A local reference to what a handle names, none for NULL.
-fn local<S: Steps>(env: &mut Env<S>, turns: u64, handle: Handle) -> Result<Reply, Fault>
-    ensures { Does S.stands S.knows env.old.steps env.new.steps env.old.frames.frames env.new.frames.frames (makes turns (new_local_ref handle.0)) result }
-{
-    let made = tried(
-        env,
-        turns,
-        |env: &mut Env<S>|
-            ensures { Does S.stands S.knows env.old.steps env.new.steps env.old.frames.frames env.new.frames.frames (new_local_ref handle.0) result }
-        { env.new_local_ref(handle) },
-    )?;
-    Ok(Reply::Made(made))
-}
-
-/// Deletes a global reference.
-fn delete_global<S: Steps>(env: &mut Env<S>, turns: u64, handle: Handle) -> Result<(), Fault>
-    ensures { Does S.stands S.knows env.old.steps env.new.steps env.old.frames.frames env.new.frames.frames (deleted_of turns GlobalKind handle.0) result }
-{
-    tried(
-        env,
-        turns,
-        |env: &mut Env<S>|
-            ensures { Does S.stands S.knows env.old.steps env.new.steps env.old.frames.frames env.new.frames.frames (delete_reference GlobalKind handle.0) result }
-        { env.delete_global_ref(handle) },
-    )
-}
-
-/// Deletes a weak global reference.
-fn delete_weak<S: Steps>(env: &mut Env<S>, turns: u64, handle: Handle) -> Result<(), Fault>
-    ensures { Does S.stands S.knows env.old.steps env.new.steps env.old.frames.frames env.new.frames.frames (deleted_of turns WeakKind handle.0) result }
-{
-    tried(
-        env,
-        turns,
-        |env: &mut Env<S>|
-            ensures { Does S.stands S.knows env.old.steps env.new.steps env.old.frames.frames env.new.frames.frames (delete_reference WeakKind handle.0) result }
-        { env.delete_weak_global_ref(handle) },
-    )
-}
-
-/// Deletes a local reference.
-fn delete_local<S: Steps>(env: &mut Env<S>, turns: u64, handle: Handle) -> Result<(), Fault>
-    ensures { Does S.stands S.knows env.old.steps env.new.steps env.old.frames.frames env.new.frames.frames (deleted_of turns LocalKind handle.0) result }
-{
-    tried(
-        env,
-        turns,
-        |env: &mut Env<S>|
-            ensures { Does S.stands S.knows env.old.steps env.new.steps env.old.frames.frames env.new.frames.frames (delete_local_ref handle.0) result }
-        { env.delete_local_ref(handle) },
-    )
+    let answer = retry(env, turns, call)?;
+    Ok(answer.into_reply())
 }
 
 /// Deletes a reference by the call of its kind.
-fn delete<S: Steps>(env: &mut Env<S>, turns: u64, handle: Handle) -> Result<(), Fault>
-    ensures { Does S.stands S.knows env.old.steps env.new.steps env.old.frames.frames env.new.frames.frames (deleted turns handle.0) result }
+fn delete<S: Steps>(env: &mut Env<S>, turns: u64, handle: Handle) -> Result<Reply, Fault>
+    ensures { Does S.stands S.knows env.old.steps env.new.steps env.old.frames.frames env.new.frames.frames (answered_by (λ _. replies.Done) (deleted turns handle.0)) result }
 {
     match Reference::of(handle) {
-        Reference::Null => delete_local(env, turns, handle),
+        Reference::Null => ask(env, turns, &DeleteLocalRef(handle)),
         Reference::Malformed => Err(Fault::Stale),
         Reference::Parts(parts) => match parts.kind {
-            RefKind::Local => delete_local(env, turns, handle),
-            RefKind::Global => delete_global(env, turns, handle),
-            RefKind::Weak => delete_weak(env, turns, handle),
+            RefKind::Local => ask(env, turns, &DeleteLocalRef(handle)),
+            RefKind::Global => ask(env, turns, &DeleteGlobalRef(handle)),
+            RefKind::Weak => ask(env, turns, &DeleteWeakGlobalRef(handle)),
         },
     }
 }
 
 /// The type of a reference: 0 where there is none.
-fn type_of<S: Steps>(env: &mut Env<S>, turns: u64, referent: Option<Handle>) -> Result<u8, Fault>
-    ensures { Does S.stands S.knows env.old.steps env.new.steps env.old.frames.frames env.new.frames.frames (type_deed turns referent) result }
+fn type_of<S: Steps>(env: &mut Env<S>, turns: u64, referent: Option<Handle>) -> Result<Reply, Fault>
+    ensures { Does S.stands S.knows env.old.steps env.new.steps env.old.frames.frames env.new.frames.frames (answered_by (λ t. replies.Type t) (type_deed turns referent)) result }
 {
-    let Some(handle) = referent else {
-        return Ok(0);
-    };
-    tried(
-        env,
-        turns,
-        |env: &mut Env<S>|
-            ensures { Does S.stands S.knows env.old.steps env.new.steps env.old.frames.frames env.new.frames.frames (get_object_ref_type handle.0) result }
-        { env.get_object_ref_type(handle) },
-    )
-}
-
-/// Whether two references are to one object, or both to none.
-fn same<S: Steps>(env: &mut Env<S>, turns: u64, left: Handle, right: Handle) -> Result<bool, Fault>
-    ensures { Does S.stands S.knows env.old.steps env.new.steps env.old.frames.frames env.new.frames.frames (tried_deed turns (is_same_object left.0 right.0)) result }
-{
-    tried(
-        env,
-        turns,
-        |env: &mut Env<S>|
-            ensures { Does S.stands S.knows env.old.steps env.new.steps env.old.frames.frames env.new.frames.frames (is_same_object left.0 right.0) result }
-        { env.is_same_object(left, right) },
-    )
+    match referent {
+        Some(handle) => ask(env, turns, &GetObjectRefType(handle)),
+        None => Ok(Reply::Type(0)),
+    }
 }
 
 /// Makes the calls of a command.
@@ -162,27 +62,16 @@ pub fn perform<S: Steps>(
     ensures { Does S.stands S.knows env.old.steps env.new.steps env.old.frames.frames env.new.frames.frames (deed turns names.now command.now) result }
 {
     match command {
-        Command::Plain { .. } => {
-            let handle = plain(env, turns)?;
-            Ok(Reply::Made(Some(handle)))
-        }
-        Command::Global { target, .. } => global(env, turns, names.wanted(target)?),
-        Command::Weak { target, .. } => weak(env, turns, names.wanted(target)?),
-        Command::Local { target, .. } => local(env, turns, names.wanted(target)?),
-        Command::Drop { target } => {
-            let target = names.wanted(target)?;
-            delete(env, turns, target)?;
-            Ok(Reply::Done)
-        }
-        Command::Type { target } => {
-            let number = type_of(env, turns, names.referent(target))?;
-            Ok(Reply::Type(number))
-        }
+        Command::Plain { .. } => ask(env, turns, &NewPlain),
+        Command::Global { target, .. } => ask(env, turns, &NewGlobalRef(names.wanted(target)?)),
+        Command::Weak { target, .. } => ask(env, turns, &NewWeakGlobalRef(names.wanted(target)?)),
+        Command::Local { target, .. } => ask(env, turns, &NewLocalRef(names.wanted(target)?)),
+        Command::Drop { target } => delete(env, turns, names.wanted(target)?),
+        Command::Type { target } => type_of(env, turns, names.referent(target)),
         Command::Same { left, right } => {
             let left = names.wanted(left)?;
             let right = names.wanted(right)?;
-            let same = same(env, turns, left, right)?;
-            Ok(Reply::Same(same))
+            ask(env, turns, &IsSameObject(left, right))
         }
     }
 }

@@ -1,5 +1,7 @@
 //! What commands are answered.
 
+ghost use Rattle.std.specs.Prelude.{◌≡◌};
+
 use jr_word::Handle;
 
 /// What a command that was not refused is answered.
@@ -13,4 +15,66 @@ pub enum Reply {
     Type(u8),
     /// Whether two references are to one object, or both to none.
     Same(bool),
+}
+
+/// What a call answers, which is a reply to the command that made it.
+pub trait IntoReply: Drop {
+    ghost use Rattle.jr_scripts.specs.declared.reply.Reply.{Reply};
+
+    ghost reply: { Self → Reply };
+
+    /// The reply.
+    fn into_reply(self) -> Reply
+        ensures { result ≡ reply self };
+}
+
+impl IntoReply for () {
+    ghost use Rattle.jr_scripts.specs.declared.reply.Reply.TheVariants.{Done};
+
+    ghost reply = { λ _. Done };
+
+    fn into_reply(self) -> Reply {
+        Reply::Done
+    }
+}
+
+impl IntoReply for Handle {
+    ghost use Rattle.std.specs.Prelude.{Some};
+    ghost use Rattle.jr_scripts.specs.declared.reply.Reply.TheVariants.{Made};
+
+    ghost reply = { λ h. Made (Some h) };
+
+    fn into_reply(self) -> Reply {
+        Reply::Made(Some(self))
+    }
+}
+
+impl IntoReply for Option<Handle> {
+    ghost use Rattle.jr_scripts.specs.declared.reply.Reply.TheVariants.{Made};
+
+    ghost reply = { λ h. Made h };
+
+    fn into_reply(self) -> Reply {
+        Reply::Made(self)
+    }
+}
+
+impl IntoReply for u8 {
+    ghost use Rattle.jr_scripts.specs.declared.reply.Reply.TheVariants as replies;
+
+    ghost reply = { λ t. replies.Type t };
+
+    fn into_reply(self) -> Reply {
+        Reply::Type(self)
+    }
+}
+
+impl IntoReply for bool {
+    ghost use Rattle.jr_scripts.specs.declared.reply.Reply.TheVariants.{Same};
+
+    ghost reply = { λ same. Same same };
+
+    fn into_reply(self) -> Reply {
+        Reply::Same(self)
+    }
 }

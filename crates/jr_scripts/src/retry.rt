@@ -1,8 +1,13 @@
 //! Calls that are made again.
 
 ghost use Rattle.std.specs.Prelude.{◌≡◌, Result};
-ghost use Rattle.jr_scripts.specs.Tries.{Tried, is_tried_again};
+ghost use Rattle.jr_scripts.specs.Deeds.{Does};
+ghost use Rattle.jr_scripts.specs.Tries.{is_tried_again};
+ghost use Rattle.jr_scripts.specs.Commands.{tried};
 
+use crate::env::Env;
+use crate::env_call::EnvCall;
+use jr_steps::Steps;
 use jr_word::Fault;
 
 /// Whether a call with this answer is made again.
@@ -13,16 +18,15 @@ fn is_made_again<A>(answer: &Result<A, Fault>) -> bool
 }
 
 /// Makes a call, and again as long as it is raced or barred: E20 once it was made so many times.
-pub fn tried<E, A: Drop, F: Fn(&mut E) -> Result<A, Fault>>(
-    env: &mut E,
+pub fn retry<S: Steps, C: EnvCall<S>>(
+    env: &mut Env<S>,
     turns: u64,
-    ask: F,
-) -> Result<A, Fault>
-    requires { F.IsAlwaysCallable ask }
-    ensures { Tried (λ old answer new. (p q : _) × F.post ask p answer q × (p.now ≡ old) × (q.now ≡ new)) turns env.old result env.new }
+    call: &C,
+) -> Result<C::Answer, Fault>
+    ensures { Does S.stands S.knows env.old.steps env.new.steps env.old.frames.frames env.new.frames.frames (tried turns (C.deed call.now)) result }
 {
     for _ in 0..turns {
-        let answer = ask(env);
+        let answer = call.make(env);
         if !is_made_again(&answer) {
             return answer;
         }

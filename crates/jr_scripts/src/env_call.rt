@@ -1,0 +1,171 @@
+//! The calls of an env as values, so that whoever makes one may make it again.
+
+use crate::env::Env;
+use jr_steps::Steps;
+use jr_word::{Fault, Handle};
+
+/// A call of an env, with what it is handed.
+pub trait EnvCall<S: Steps> {
+    ghost use Rattle.jr_scripts.specs.Deeds.{Deed, Does};
+
+    /// What it answers.
+    type Answer: Drop;
+
+    ghost deed: { Self → Deed Self.Answer };
+
+    /// Makes the call.
+    ///
+    /// # Errors
+    ///
+    /// Those of the env's method for the call.
+    fn make(&self, env: &mut Env<S>) -> Result<Self::Answer, Fault>
+        ensures { Does S.stands S.knows env.old.steps env.new.steps env.old.frames.frames env.new.frames.frames (deed self.now) result };
+}
+
+/// A plain object and a local reference to it.
+#[derive(Clone, Copy)]
+pub struct NewPlain;
+
+impl<S: Steps> EnvCall<S> for NewPlain {
+    ghost use Rattle.jr_scripts.specs.Deeds.{new_plain};
+
+    type Answer = Handle;
+
+    ghost deed = { λ _. new_plain };
+
+    fn make(&self, env: &mut Env<S>) -> Result<Handle, Fault> {
+        env.new_plain()
+    }
+}
+
+/// A global reference to what a handle names, none for NULL.
+#[derive(Clone, Copy)]
+pub struct NewGlobalRef(pub Handle);
+
+impl<S: Steps> EnvCall<S> for NewGlobalRef {
+    ghost use Rattle.jr_word.specs.declared.handle.RefKind.TheVariants.{Global};
+    ghost use Rattle.jr_scripts.specs.Deeds.{new_reference};
+
+    type Answer = Option<Handle>;
+
+    ghost deed = { λ c. new_reference Global c.0.0 };
+
+    fn make(&self, env: &mut Env<S>) -> Result<Option<Handle>, Fault> {
+        env.new_global_ref(self.0)
+    }
+}
+
+/// A weak global reference to what a handle names, none for NULL.
+#[derive(Clone, Copy)]
+pub struct NewWeakGlobalRef(pub Handle);
+
+impl<S: Steps> EnvCall<S> for NewWeakGlobalRef {
+    ghost use Rattle.jr_word.specs.declared.handle.RefKind.TheVariants.{Weak};
+    ghost use Rattle.jr_scripts.specs.Deeds.{new_reference};
+
+    type Answer = Option<Handle>;
+
+    ghost deed = { λ c. new_reference Weak c.0.0 };
+
+    fn make(&self, env: &mut Env<S>) -> Result<Option<Handle>, Fault> {
+        env.new_weak_global_ref(self.0)
+    }
+}
+
+/// A local reference to what a handle names, none for NULL.
+#[derive(Clone, Copy)]
+pub struct NewLocalRef(pub Handle);
+
+impl<S: Steps> EnvCall<S> for NewLocalRef {
+    ghost use Rattle.jr_scripts.specs.Deeds.{new_local_ref};
+
+    type Answer = Option<Handle>;
+
+    ghost deed = { λ c. new_local_ref c.0.0 };
+
+    fn make(&self, env: &mut Env<S>) -> Result<Option<Handle>, Fault> {
+        env.new_local_ref(self.0)
+    }
+}
+
+/// Deletes a global reference.
+#[derive(Clone, Copy)]
+pub struct DeleteGlobalRef(pub Handle);
+
+impl<S: Steps> EnvCall<S> for DeleteGlobalRef {
+    ghost use Rattle.jr_word.specs.declared.handle.RefKind.TheVariants.{Global};
+    ghost use Rattle.jr_scripts.specs.Deeds.{delete_reference};
+
+    type Answer = ();
+
+    ghost deed = { λ c. delete_reference Global c.0.0 };
+
+    fn make(&self, env: &mut Env<S>) -> Result<(), Fault> {
+        env.delete_global_ref(self.0)
+    }
+}
+
+/// Deletes a weak global reference.
+#[derive(Clone, Copy)]
+pub struct DeleteWeakGlobalRef(pub Handle);
+
+impl<S: Steps> EnvCall<S> for DeleteWeakGlobalRef {
+    ghost use Rattle.jr_word.specs.declared.handle.RefKind.TheVariants.{Weak};
+    ghost use Rattle.jr_scripts.specs.Deeds.{delete_reference};
+
+    type Answer = ();
+
+    ghost deed = { λ c. delete_reference Weak c.0.0 };
+
+    fn make(&self, env: &mut Env<S>) -> Result<(), Fault> {
+        env.delete_weak_global_ref(self.0)
+    }
+}
+
+/// Deletes a local reference.
+#[derive(Clone, Copy)]
+pub struct DeleteLocalRef(pub Handle);
+
+impl<S: Steps> EnvCall<S> for DeleteLocalRef {
+    ghost use Rattle.jr_scripts.specs.Deeds.{delete_local_ref};
+
+    type Answer = ();
+
+    ghost deed = { λ c. delete_local_ref c.0.0 };
+
+    fn make(&self, env: &mut Env<S>) -> Result<(), Fault> {
+        env.delete_local_ref(self.0)
+    }
+}
+
+/// Whether two handles name one object, or both none.
+#[derive(Clone, Copy)]
+pub struct IsSameObject(pub Handle, pub Handle);
+
+impl<S: Steps> EnvCall<S> for IsSameObject {
+    ghost use Rattle.jr_scripts.specs.Deeds.{is_same_object};
+
+    type Answer = bool;
+
+    ghost deed = { λ c. is_same_object c.0.0 c.1.0 };
+
+    fn make(&self, env: &mut Env<S>) -> Result<bool, Fault> {
+        env.is_same_object(self.0, self.1)
+    }
+}
+
+/// The type of a reference.
+#[derive(Clone, Copy)]
+pub struct GetObjectRefType(pub Handle);
+
+impl<S: Steps> EnvCall<S> for GetObjectRefType {
+    ghost use Rattle.jr_scripts.specs.Deeds.{get_object_ref_type};
+
+    type Answer = u8;
+
+    ghost deed = { λ c. get_object_ref_type c.0.0 };
+
+    fn make(&self, env: &mut Env<S>) -> Result<u8, Fault> {
+        env.get_object_ref_type(self.0)
+    }
+}
