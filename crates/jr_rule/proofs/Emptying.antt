@@ -24,7 +24,7 @@ use Rattle.jr_steps.specs.Acts.{handle_of}
 use Rattle.jr_steps.specs.Collecting.{ShowsLocal, CanWipe, CanDrop, ShowsDropped, CanSettle}
 use Rattle.jr_steps.specs.Says.{local_parts}
 use Rattle.jr_steps.specs.Knowing.{Standing, IsOf, Goes, Took, Saw, MayKnow, anything, view, state_of, keeps, lets_go, IsSettled, CanReopen, ShowsHeader, ShowsSlot}
-use Rattle.jr_steps.proofs.Collected.{same_tables, tables_seen, sees_nothing, sees_more, goes_act}
+use Rattle.jr_steps.proofs.Collected.{same_tables, tables_seen, sees_more, goes_act}
 use Rattle.jr_steps.proofs.Goes.{may_then, took_less}
 use Rattle.jr_model.proofs.InRoom.{in_room}
 

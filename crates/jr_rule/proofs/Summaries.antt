@@ -21,7 +21,7 @@ use Rattle.jr_model.proofs.Counts.{bit, count_all_false, count_single}
 use Rattle.jr_model.proofs.Lengths.{lengths_fit}
 use Rattle.jr_model.proofs.References.{kept_state}
 use Rattle.jr_steps.specs.Acts.{found_object, handle_of}
-use Rattle.jr_steps.specs.Says.{StandsAlone, SaysOfSlot}
+use Rattle.jr_steps.specs.Says.{StandsAlone, StandsAs}
 use Rattle.jr_rule.specs.Image.{slot_at, header_at, IsSlotOf, IsHeaderOf}
 use Rattle.jr_rule.specs.Shown.{IsHistoryOf, HasHistory}
 use Rattle.jr_rule.specs.Slots.{is_of_kind}
