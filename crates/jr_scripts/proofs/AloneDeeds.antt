@@ -24,6 +24,10 @@ use Rattle.jr_model.proofs.RefusedCalls.{refusals_change_nothing}
 use Rattle.jr_syntax.specs.declared.name.Reference.{Reference}
 use Rattle.jr_syntax.specs.declared.command.Command.{Command}
 use Rattle.jr_syntax.specs.declared.command.Command.TheVariants as commands
+use Rattle.jr_syntax.specs.declared.verb.Make.TheVariants as make
+use Rattle.jr_syntax.specs.declared.verb.MakeFrom.TheVariants as make_from
+use Rattle.jr_syntax.specs.declared.verb.On.TheVariants as on
+use Rattle.jr_syntax.specs.declared.verb.OnBoth.TheVariants as on_both
 use Rattle.jr_scripts.specs.Reading.{IsReadAs}
 use Rattle.jr_scripts.specs.Names.{Names, referent, wanted}
 use Rattle.jr_scripts.specs.Performing.{Moment}
@@ -182,10 +186,10 @@ module _ (turns : ℕ) where
   type_of_alone (Some h) = tried_alone turns (λ n. type_alone n h.0)
 
   pub deed_alone : (names : Names) (c : Command) → LeadsAlone turns (deed turns names c)
-  deed_alone names (commands.Plain n) = bind_alone turns (tried_alone turns plain_alone) (λ h. done_alone turns _)
-  deed_alone names (commands.Global n r) = bind_alone turns (the_reference_alone names r) (λ w. makes_alone (λ n. reference_alone n Global w.0))
-  deed_alone names (commands.Weak n r) = bind_alone turns (the_reference_alone names r) (λ w. makes_alone (λ n. reference_alone n Weak w.0))
-  deed_alone names (commands.Local n r) = bind_alone turns (the_reference_alone names r) (λ w. makes_alone (λ n. local_ref_alone n w.0))
-  deed_alone names (commands.Drop r) = bind_alone turns (the_reference_alone names r) (λ w. bind_alone turns (deleted_alone w.0) (λ x. done_alone turns _))
-  deed_alone names (commands.Type r) = bind_alone turns (type_of_alone (referent names r)) (λ n. done_alone turns _)
-  deed_alone names (commands.Same q r) = bind_alone turns (the_reference_alone names q) (λ v. bind_alone turns (the_reference_alone names r) (λ w. bind_alone turns (tried_alone turns (λ n. same_alone n v.0 w.0)) (λ same. done_alone turns _)))
+  deed_alone names (commands.Make make.Plain n) = bind_alone turns (tried_alone turns plain_alone) (λ h. done_alone turns _)
+  deed_alone names (commands.MakeFrom make_from.Global n r) = bind_alone turns (the_reference_alone names r) (λ w. makes_alone (λ n. reference_alone n Global w.0))
+  deed_alone names (commands.MakeFrom make_from.Weak n r) = bind_alone turns (the_reference_alone names r) (λ w. makes_alone (λ n. reference_alone n Weak w.0))
+  deed_alone names (commands.MakeFrom make_from.Local n r) = bind_alone turns (the_reference_alone names r) (λ w. makes_alone (λ n. local_ref_alone n w.0))
+  deed_alone names (commands.On on.Drop r) = bind_alone turns (the_reference_alone names r) (λ w. bind_alone turns (deleted_alone w.0) (λ x. done_alone turns _))
+  deed_alone names (commands.On on.Type r) = bind_alone turns (type_of_alone (referent names r)) (λ n. done_alone turns _)
+  deed_alone names (commands.OnBoth on_both.Same q r) = bind_alone turns (the_reference_alone names q) (λ v. bind_alone turns (the_reference_alone names r) (λ w. bind_alone turns (tried_alone turns (λ n. same_alone n v.0 w.0)) (λ same. done_alone turns _)))

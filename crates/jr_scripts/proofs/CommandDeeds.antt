@@ -1,10 +1,12 @@
 -- What calls make up a command, for whatever was known.
-use Rattle.std.proofs.Common.{◌≡◌, ℕ, Result, Ok, Err, subst, sym, inl, inr}
+use Rattle.std.proofs.Common.{◌≡◌, ℕ, Result, Ok, Err, refl, subst, sym, inl, inr}
 use Rattle.jr_word.specs.declared.fault.Fault.{Fault}
 use Rattle.jr_word.specs.declared.handle.RefKind.{RefKind}
 use Rattle.jr_model.specs.State.{Handle}
 use Rattle.jr_model.specs.Frames.{Frames}
 use Rattle.jr_model.specs.Tests.{Parts}
+use Rattle.jr_syntax.specs.declared.verb.OnBoth.{OnBoth}
+use Rattle.jr_syntax.specs.declared.verb.OnBoth.TheVariants.{Same}
 use Rattle.jr_steps.specs.declared.known.Known.{Known}
 use Rattle.jr_steps.specs.Knowing.{Standing}
 use Rattle.jr_scripts.specs.declared.reply.Reply.{Reply}
@@ -14,6 +16,10 @@ use Rattle.jr_scripts.specs.Performing.{Moment}
 use Rattle.jr_scripts.specs.Deeds.{Deed, Does, done, ◌>>◌}
 use Rattle.jr_scripts.specs.Commands.{deleted_of, deleted}
 use Rattle.jr_scripts.proofs.Standings.{nothing_changed}
+
+-- a verb of two references is this one
+pub only_same : (v : OnBoth) → v ≡ Same
+only_same Same = refl
 
 module _ {S : Type 0} {stands : S → Standing} {knows : S → Known → Type 0} where
   -- a deed that leads on to another

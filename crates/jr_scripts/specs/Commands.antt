@@ -8,6 +8,10 @@ use Rattle.jr_model.specs.Tests.{Word, Nothing, Malformed, Parts}
 use Rattle.jr_syntax.specs.declared.name.Reference.{Reference}
 use Rattle.jr_syntax.specs.declared.command.Command.{Command}
 use Rattle.jr_syntax.specs.declared.command.Command.TheVariants as commands
+use Rattle.jr_syntax.specs.declared.verb.Make.TheVariants as make
+use Rattle.jr_syntax.specs.declared.verb.MakeFrom.TheVariants as make_from
+use Rattle.jr_syntax.specs.declared.verb.On.TheVariants as on
+use Rattle.jr_syntax.specs.declared.verb.OnBoth.TheVariants as on_both
 use Rattle.jr_scripts.specs.declared.reply.Reply.{Reply}
 use Rattle.jr_scripts.specs.declared.reply.Reply.TheVariants as replies
 use Rattle.jr_scripts.specs.Reading.{IsReadAs}
@@ -52,26 +56,26 @@ module _ (turns : ℕ) (names : Names) where
 
   -- THE COMMANDS: what each does, and its reply
   abbrev pub deed : Command → Deed Reply
-  deed (commands.Plain n) = do
+  deed (commands.Make make.Plain n) = do
     h ← tried turns new_plain
     done (replies.Made (Some h))
-  deed (commands.Global n r) = do
+  deed (commands.MakeFrom make_from.Global n r) = do
     w ← the_reference r
     makes turns (new_reference Global w.0)
-  deed (commands.Weak n r) = do
+  deed (commands.MakeFrom make_from.Weak n r) = do
     w ← the_reference r
     makes turns (new_reference Weak w.0)
-  deed (commands.Local n r) = do
+  deed (commands.MakeFrom make_from.Local n r) = do
     w ← the_reference r
     makes turns (new_local_ref w.0)
-  deed (commands.Drop r) = do
+  deed (commands.On on.Drop r) = do
     w ← the_reference r
     deleted turns w.0
     done replies.Done
-  deed (commands.Type r) = do
+  deed (commands.On on.Type r) = do
     n ← type_of turns (referent names r)
     done (replies.Type n)
-  deed (commands.Same q r) = do
+  deed (commands.OnBoth on_both.Same q r) = do
     v ← the_reference q
     w ← the_reference r
     same ← tried turns (is_same_object v.0 w.0)

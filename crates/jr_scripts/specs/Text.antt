@@ -8,6 +8,8 @@ use Rattle.jr_word.specs.Fault.{number_of}
 use Rattle.jr_model.specs.declared.summary.Summary.{Summary}
 use Rattle.jr_syntax.specs.Line.{line as words_line}
 use Rattle.jr_syntax.specs.Reference.{reference_word}
+use Rattle.jr_syntax.specs.Command.{verb_word}
+use Rattle.jr_syntax.specs.declared.verb.Verb.TheVariants.{MakeFrom, On, OnBoth}
 use Rattle.jr_syntax.specs.declared.command.Command.{Command}
 use Rattle.jr_syntax.specs.declared.command.Command.TheVariants as commands
 use Rattle.jr_scripts.specs.declared.reply.Reply.{Reply}
@@ -25,11 +27,9 @@ verdict false = codes "false"
 
 -- what is printed for a command that was not refused
 abbrev pub says : Command → Reply → List ℕ
-says (commands.Global n r) (replies.Made None) = line (codes "global" ∷ n ∷ codes "null" ∷ [])
-says (commands.Weak n r) (replies.Made None) = line (codes "weak" ∷ n ∷ codes "null" ∷ [])
-says (commands.Local n r) (replies.Made None) = line (codes "local" ∷ n ∷ codes "null" ∷ [])
-says (commands.Type r) (replies.Type t) = line (codes "type" ∷ reference_word r ∷ decimal t ∷ [])
-says (commands.Same q r) (replies.Same same) = line (codes "same" ∷ reference_word q ∷ reference_word r ∷ verdict same ∷ [])
+says (commands.MakeFrom v n r) (replies.Made None) = line (verb_word (MakeFrom v) ∷ n ∷ codes "null" ∷ [])
+says (commands.On v r) (replies.Type t) = line (verb_word (On v) ∷ reference_word r ∷ decimal t ∷ [])
+says (commands.OnBoth v q r) (replies.Same same) = line (verb_word (OnBoth v) ∷ reference_word q ∷ reference_word r ∷ verdict same ∷ [])
 says _ _ = []
 
 -- a number that stands behind the fault's
@@ -48,10 +48,8 @@ printed number c (Err e) = refused number e
 
 -- the name that a command sets
 abbrev pub sets : Command → Option (List ℕ)
-sets (commands.Plain n) = Some n
-sets (commands.Global n r) = Some n
-sets (commands.Weak n r) = Some n
-sets (commands.Local n r) = Some n
+sets (commands.Make v n) = Some n
+sets (commands.MakeFrom v n r) = Some n
 sets _ = None
 
 -- the reference that was made, NULL for none

@@ -14,7 +14,7 @@ use crate::reference::Reference;
 use crate::reply::{IntoReply, Reply};
 use crate::retry::retry;
 use jr_steps::Steps;
-use jr_syntax::Command;
+use jr_syntax::{Command, Make, MakeFrom, On, OnBoth};
 use jr_word::{Fault, Handle, RefKind};
 
 /// Makes a call, and again as long as it is raced or barred, and replies with its answer.
@@ -62,16 +62,28 @@ pub fn perform<S: Steps>(
     ensures { Does S.stands S.knows env.old.steps env.new.steps env.old.frames.frames env.new.frames.frames (deed turns names.now command.now) result }
 {
     match command {
-        Command::Plain { .. } => ask(env, turns, &NewPlain),
-        Command::Global { target, .. } => ask(env, turns, &NewGlobalRef(names.wanted(target)?)),
-        Command::Weak { target, .. } => ask(env, turns, &NewWeakGlobalRef(names.wanted(target)?)),
-        Command::Local { target, .. } => ask(env, turns, &NewLocalRef(names.wanted(target)?)),
-        Command::Drop { target } => delete(env, turns, names.wanted(target)?),
-        Command::Type { target } => type_of(env, turns, names.referent(target)),
-        Command::Same { left, right } => {
+        Command::Make {
+            verb: Make::Plain,
+            ..
+        } => ask(env, turns, &NewPlain),
+        Command::MakeFrom { verb, target, .. } => {
+            let target = names.wanted(target)?;
+            match verb {
+                MakeFrom::Global => ask(env, turns, &NewGlobalRef(target)),
+                MakeFrom::Weak => ask(env, turns, &NewWeakGlobalRef(target)),
+                MakeFrom::Local => ask(env, turns, &NewLocalRef(target)),
+            }
+        }
+        Command::On { verb, target } => match verb {
+            On::Drop => delete(env, turns, names.wanted(target)?),
+            On::Type => type_of(env, turns, names.referent(target)),
+        },
+        Command::OnBoth { verb, left, right } => {
             let left = names.wanted(left)?;
             let right = names.wanted(right)?;
-            ask(env, turns, &IsSameObject(left, right))
+            match verb {
+                OnBoth::Same => ask(env, turns, &IsSameObject(left, right)),
+            }
         }
     }
 }

@@ -5,7 +5,7 @@ ghost use Rattle.jr_scripts.specs.Text.{line, verdict, says as what_is_said, ref
 
 use crate::reply::Reply;
 use jr_model::Summary;
-use jr_syntax::{Command, Name};
+use jr_syntax::{Command, Name, Verb};
 use jr_word::Fault;
 use std::alloc::{AllocError, Global};
 
@@ -34,16 +34,29 @@ fn line_of_three(
     Ok(text)
 }
 
-/// The line of `same`.
-fn same_line(alloc: Global, left: &[u8], right: &[u8], same: bool) -> Result<Vec<u8>, AllocError>
-    ensures { IfOk result (λ text. text.items ≡ line (codes "same" ∷ left.now ∷ right.now ∷ verdict same ∷ [])) }
+/// A line of four words.
+fn line_of_four(
+    alloc: Global,
+    first: &[u8],
+    second: &[u8],
+    third: &[u8],
+    fourth: &[u8],
+) -> Result<Vec<u8>, AllocError>
+    ensures { IfOk result (λ text. text.items ≡ line (first.now ∷ second.now ∷ third.now ∷ fourth.now ∷ [])) }
 {
-    let mut text = Vec::from_slice(alloc, b"same")?;
-    add_word(&mut text, left)?;
-    add_word(&mut text, right)?;
-    add_word(&mut text, if same { b"true" } else { b"false" })?;
+    let mut text = Vec::from_slice(alloc, first)?;
+    add_word(&mut text, second)?;
+    add_word(&mut text, third)?;
+    add_word(&mut text, fourth)?;
     text.push(b'\n')?;
     Ok(text)
+}
+
+/// The word of an answer.
+fn word_of(answer: bool) -> &'static [u8]
+    ensures { result.now ≡ verdict answer }
+{
+    if answer { b"true" } else { b"false" }
 }
 
 /// What is printed for a command that was not refused.
@@ -51,21 +64,18 @@ fn says(alloc: Global, command: &Command, reply: Reply) -> Result<Vec<u8>, Alloc
     ensures { IfOk result (λ text. text.items ≡ what_is_said command.now reply) }
 {
     match (command, reply) {
-        (Command::Global { name, .. }, Reply::Made(None)) => {
-            line_of_three(alloc, b"global", name.as_slice(), b"null")
+        (Command::MakeFrom { verb, name, .. }, Reply::Made(None)) => {
+            let word = Verb::MakeFrom(*verb).word();
+            line_of_three(alloc, word, name.as_slice(), b"null")
         }
-        (Command::Weak { name, .. }, Reply::Made(None)) => {
-            line_of_three(alloc, b"weak", name.as_slice(), b"null")
-        }
-        (Command::Local { name, .. }, Reply::Made(None)) => {
-            line_of_three(alloc, b"local", name.as_slice(), b"null")
-        }
-        (Command::Type { target }, Reply::Type(number)) => {
+        (Command::On { verb, target }, Reply::Type(number)) => {
+            let word = Verb::On(*verb).word();
             let number = number.to_string(alloc)?;
-            line_of_three(alloc, b"type", target.word(), number.as_bytes())
+            line_of_three(alloc, word, target.word(), number.as_bytes())
         }
-        (Command::Same { left, right }, Reply::Same(same)) => {
-            same_line(alloc, left.word(), right.word(), same)
+        (Command::OnBoth { verb, left, right }, Reply::Same(same)) => {
+            let word = Verb::OnBoth(*verb).word();
+            line_of_four(alloc, word, left.word(), right.word(), word_of(same))
         }
         _ => Ok(Vec::new(alloc)),
     }

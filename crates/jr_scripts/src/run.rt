@@ -20,10 +20,7 @@ fn set_by(command: &Command) -> Option<&Name>
     ensures { MatchOption result (sets command.now ≡ None) (λ name. sets command.now ≡ Some name.now) }
 {
     match command {
-        Command::Plain { name }
-        | Command::Global { name, .. }
-        | Command::Weak { name, .. }
-        | Command::Local { name, .. } => Some(name),
+        Command::Make { name, .. } | Command::MakeFrom { name, .. } => Some(name),
         _ => None,
     }
 }

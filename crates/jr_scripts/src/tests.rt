@@ -10,7 +10,9 @@ use crate::run::run_thread;
 use crate::single::run_one;
 use jr_model::Summary;
 use jr_rule::PlainSteps;
-use jr_syntax::{Command, Name, Reference, Script, Sequence, ThreadPart, is_name, parse};
+use jr_syntax::{
+    Command, Make, MakeFrom, Name, On, Reference, Script, Sequence, ThreadPart, is_name, parse,
+};
 use jr_word::{Config, Fault, Handle};
 use std::alloc::{AllocError, Global};
 use std::process::Abort;
@@ -220,10 +222,12 @@ fn a_script_whose_sizes_do_not_fit(rt: HostRuntime) -> Result<(), Fail> {
 fn a_thread_without_turns(rt: HostRuntime) -> Result<(), Fail> {
     let alloc = rt.alloc();
     let commands = [
-        Command::Plain {
+        Command::Make {
+            verb: Make::Plain,
             name: name(&rt, b"p"),
         },
-        Command::Type {
+        Command::On {
+            verb: On::Type,
             target: Reference::Named(name(&rt, b"p")),
         },
     ];
@@ -287,27 +291,34 @@ fn name_of(word: &[u8]) -> Result<Name, Fail> {
 /// A thread that makes an object and two references to it, of which it deletes one.
 fn busy_part(alloc: Global, name: &[u8]) -> Result<ThreadPart, Fail> {
     let mut commands = Sequence::new(alloc);
-    commands.push(Command::Plain {
+    commands.push(Command::Make {
+        verb: Make::Plain,
         name: name_of(b"p")?,
     })?;
-    commands.push(Command::Global {
+    commands.push(Command::MakeFrom {
+        verb: MakeFrom::Global,
         name: name_of(b"g")?,
         target: Reference::Named(name_of(b"p")?),
     })?;
-    commands.push(Command::Weak {
+    commands.push(Command::MakeFrom {
+        verb: MakeFrom::Weak,
         name: name_of(b"w")?,
         target: Reference::Named(name_of(b"g")?),
     })?;
-    commands.push(Command::Type {
+    commands.push(Command::On {
+        verb: On::Type,
         target: Reference::Named(name_of(b"g")?),
     })?;
-    commands.push(Command::Drop {
+    commands.push(Command::On {
+        verb: On::Drop,
         target: Reference::Named(name_of(b"g")?),
     })?;
-    commands.push(Command::Type {
+    commands.push(Command::On {
+        verb: On::Type,
         target: Reference::Named(name_of(b"g")?),
     })?;
-    commands.push(Command::Global {
+    commands.push(Command::MakeFrom {
+        verb: MakeFrom::Global,
         name: name_of(b"z")?,
         target: Reference::Named(name_of(b"g")?),
     })?;

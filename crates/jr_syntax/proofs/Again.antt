@@ -1,14 +1,18 @@
 -- What is spelled is read again, as what it was.
-use Rattle.std.proofs.Common.{◌≡◌, ℕ, ◌^◌, ◌<◌, ◌≤◌, Bool, true, false, List, [], ◌∷◌, ◌++◌, refl, ap, ◌∙◌, arith, inl, inr, leb, eqb, length, Some}
-use Rattle.std.specs.Prelude.{◌||◌, codes}
+use Rattle.std.proofs.Common.{◌≡◌, ℕ, ◌^◌, ◌<◌, ◌≤◌, Bool, true, false, cond, List, [], ◌∷◌, ◌++◌, refl, ap, ◌∙◌, arith, inl, inr, leb, eqb, length, Option, Some}
+use Rattle.std.specs.Prelude.{◌||◌, ◌&&◌, not, codes}
 use Rattle.std.specs.Option.{option_map, option_map_or}
 use Rattle.std.specs.Str.{bytes_eq}
-use Rattle.std.specs.List.{list_all, slice_split}
+use Rattle.std.specs.List.{find, list_all, slice_split}
 use Rattle.std.specs.Fmt.{decimal}
 use Rattle.std.proofs.lemmas.Bool.{and_parts, and_from, leb-true, le-leb, eq-eqb, ne_eqb, not-true, or_cases}
 use Rattle.jr_word.specs.Config.{is_between}
-use Rattle.jr_syntax.specs.declared.command.Verb.{Verb}
-use Rattle.jr_syntax.specs.declared.command.Verb.TheVariants as verbs
+use Rattle.jr_syntax.specs.declared.verb.Verb.{Verb}
+use Rattle.jr_syntax.specs.declared.verb.Verb.TheVariants.{Make, MakeFrom, On, OnBoth}
+use Rattle.jr_syntax.specs.declared.verb.Make.TheVariants.{Plain}
+use Rattle.jr_syntax.specs.declared.verb.MakeFrom.TheVariants.{Global, Weak, Local}
+use Rattle.jr_syntax.specs.declared.verb.On.TheVariants as on
+use Rattle.jr_syntax.specs.declared.verb.OnBoth.TheVariants.{Same}
 use Rattle.jr_syntax.specs.declared.command.Command.{Command}
 use Rattle.jr_syntax.specs.declared.command.Command.TheVariants as commands
 use Rattle.jr_syntax.specs.declared.name.Reference.{Reference}
@@ -18,7 +22,7 @@ use Rattle.jr_syntax.specs.Number.{all_digits}
 use Rattle.jr_syntax.specs.Line.{line, words_of}
 use Rattle.jr_syntax.specs.Kind.{WordKind, Arguments, name, one, two}
 use Rattle.jr_syntax.specs.Reference.{reference, reference_word, reference_at, is_good_reference}
-use Rattle.jr_syntax.specs.Command.{verb_word, verb_of, behind_verb, spelling_of, words_of_command, is_command, line_has_form, line_in_range, line_command}
+use Rattle.jr_syntax.specs.Command.{verb_word, verb_of, all_verbs, behind_verb, spelling_of, words_of_command, is_command, line_has_form, line_in_range, line_command}
 use Rattle.jr_syntax.specs.Script.{thread}
 use Rattle.jr_syntax.proofs.DecimalLaws.{decimal_digits}
 use Rattle.jr_syntax.proofs.VmLaws.{not_all}
@@ -152,15 +156,33 @@ line_printable (w ∷ v ∷ ws) h =
 
 -- ---- commands
 
+-- every verb is found by its word, a line for each: so each is in the list, and no two have one word
 verb_again : (v : Verb) → verb_of (verb_word v) ≡ Some v
 unfolding verb_of
-verb_again verbs.Plain = refl
-verb_again verbs.Global = refl
-verb_again verbs.Weak = refl
-verb_again verbs.Local = refl
-verb_again verbs.Drop = refl
-verb_again verbs.Type = refl
-verb_again verbs.Same = refl
+verb_again (Make Plain) = refl
+verb_again (MakeFrom Global) = refl
+verb_again (MakeFrom Weak) = refl
+verb_again (MakeFrom Local) = refl
+verb_again (On on.Drop) = refl
+verb_again (On on.Type) = refl
+verb_again (OnBoth Same) = refl
+
+-- the word of a verb can be told from spaces, and from a thread line's
+abbrev can_begin : Verb → Bool
+can_begin v = is_solid (verb_word v) && not (bytes_eq (verb_word v) (codes "thread"))
+
+begins_at : (p q : Verb → Bool) (u v : Verb) (rest : Option Verb) (b : Bool) → p u ≡ b → q u ≡ true → (rest ≡ Some v → q v ≡ true) → cond b (Some u) rest ≡ Some v → q v ≡ true
+begins_at p q u v rest true h g ih e = let same : u ≡ v = cc in rw (← same) g
+begins_at p q u v rest false h g ih e = ih e
+
+-- what holds of each in a list holds of what is found in it
+found_so : (p q : Verb → Bool) (vs : List Verb) (v : Verb) → list_all q vs ≡ true → find p vs ≡ Some v → q v ≡ true
+found_so p q [] v h e = absurd cc
+found_so p q (u ∷ vs) v h e = let a = and_parts _ _ h in begins_at p q u v (find p vs) (p u) refl a.0 (found_so p q vs v a.1) e
+
+verb_begins : (v : Verb) → can_begin v ≡ true
+unfolding verb_of
+verb_begins v = found_so (λ u. bytes_eq (verb_word u) (verb_word v)) can_begin all_verbs v refl (verb_again v)
 
 -- what the line of a command is read as
 pub record IsLineOf (ws : List (List ℕ)) (c : Command) : Type 0 where
@@ -171,23 +193,20 @@ pub record IsLineOf (ws : List (List ℕ)) (c : Command) : Type 0 where
   pub command : line_command ws ≡ Some c
 
 -- the line of a verb and its arguments
-by : {X : Type 0} (a : Arguments X) → Again a → (v : Verb) → is_solid (verb_word v) ≡ true → bytes_eq (verb_word v) (codes "thread") ≡ false → (make : X → Command) → ((ws : List (List ℕ)) → (behind_verb v).has_form ws ≡ a.has_form ws) → ((ws : List (List ℕ)) → (behind_verb v).in_range ws ≡ a.in_range ws) → ((ws : List (List ℕ)) → (behind_verb v).value ws ≡ make (a.value ws)) → (x : X) → a.is_good x ≡ true → IsLineOf (verb_word v ∷ a.spell x) (make x)
+by : {X : Type 0} (a : Arguments X) → Again a → (v : Verb) → (make : X → Command) → ((ws : List (List ℕ)) → (behind_verb v).has_form ws ≡ a.has_form ws) → ((ws : List (List ℕ)) → (behind_verb v).in_range ws ≡ a.in_range ws) → ((ws : List (List ℕ)) → (behind_verb v).value ws ≡ make (a.value ws)) → (x : X) → a.is_good x ≡ true → IsLineOf (verb_word v ∷ a.spell x) (make x)
 unfolding line_has_form line_in_range line_command
-by a t v s n make f r m x g = record {
-  plain = not_all (leb 1 (length (verb_word v ∷ a.spell x))) (bytes_eq (verb_word v) (codes "thread")) _ n;
-  solid = and_from _ _ s (t.solid x g);
+by a t v make f r m x g = let begins = and_parts _ _ (verb_begins v) in record {
+  plain = not_all (leb 1 (length (verb_word v ∷ a.spell x))) (bytes_eq (verb_word v) (codes "thread")) _ (not-true _ begins.1);
+  solid = and_from _ _ begins.0 (t.solid x g);
   form = ap (λ o. option_map_or (λ u. (behind_verb u).has_form (a.spell x)) o false) (verb_again v) ∙ f (a.spell x) ∙ t.form x g;
   range = ap (λ o. option_map_or (λ u. (behind_verb u).in_range (a.spell x)) o false) (verb_again v) ∙ r (a.spell x) ∙ t.range x g;
   command = ap (λ o. option_map (λ u. (behind_verb u).value (a.spell x)) o) (verb_again v) ∙ ap (λ k. Some k) (m (a.spell x) ∙ ap make (t.back x g));
 }
 
--- a line for each command
+-- a line for each shape
 pub command_again : (c : Command) → is_command c ≡ true → IsLineOf (words_of_command c) c
 unfolding behind_verb spelling_of
-command_again (commands.Plain n) g = by _ (one_again name name_again) verbs.Plain refl refl (λ x. commands.Plain x) (λ _. refl) (λ _. refl) (λ _. refl) n g
-command_again (commands.Global n r) g = by _ (two_again name reference name_again reference_again) verbs.Global refl refl (λ x. commands.Global x.0 x.1) (λ _. refl) (λ _. refl) (λ _. refl) (n, r) g
-command_again (commands.Weak n r) g = by _ (two_again name reference name_again reference_again) verbs.Weak refl refl (λ x. commands.Weak x.0 x.1) (λ _. refl) (λ _. refl) (λ _. refl) (n, r) g
-command_again (commands.Local n r) g = by _ (two_again name reference name_again reference_again) verbs.Local refl refl (λ x. commands.Local x.0 x.1) (λ _. refl) (λ _. refl) (λ _. refl) (n, r) g
-command_again (commands.Drop r) g = by _ (one_again reference reference_again) verbs.Drop refl refl (λ x. commands.Drop x) (λ _. refl) (λ _. refl) (λ _. refl) r g
-command_again (commands.Type r) g = by _ (one_again reference reference_again) verbs.Type refl refl (λ x. commands.Type x) (λ _. refl) (λ _. refl) (λ _. refl) r g
-command_again (commands.Same l r) g = by _ (two_again reference reference reference_again reference_again) verbs.Same refl refl (λ x. commands.Same x.0 x.1) (λ _. refl) (λ _. refl) (λ _. refl) (l, r) g
+command_again (commands.Make v n) g = by _ (one_again name name_again) (Make v) (λ x. commands.Make v x) (λ _. refl) (λ _. refl) (λ _. refl) n g
+command_again (commands.MakeFrom v n r) g = by _ (two_again name reference name_again reference_again) (MakeFrom v) (λ x. commands.MakeFrom v x.0 x.1) (λ _. refl) (λ _. refl) (λ _. refl) (n, r) g
+command_again (commands.On v r) g = by _ (one_again reference reference_again) (On v) (λ x. commands.On v x) (λ _. refl) (λ _. refl) (λ _. refl) r g
+command_again (commands.OnBoth v l r) g = by _ (two_again reference reference reference_again reference_again) (OnBoth v) (λ x. commands.OnBoth v x.0 x.1) (λ _. refl) (λ _. refl) (λ _. refl) (l, r) g

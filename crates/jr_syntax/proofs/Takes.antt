@@ -6,8 +6,8 @@ use Rattle.std.specs.List.{find}
 use Rattle.std.specs.Str.{bytes_eq}
 use Rattle.std.proofs.lemmas.Bool.{and_parts, and_from, eqb-true, false≢true}
 use Rattle.std.proofs.lemmas.Slice.Eq.{bytes_eq-Decides}
-use Rattle.jr_syntax.specs.declared.command.Verb.{Verb}
-use Rattle.jr_syntax.specs.declared.command.Verb.TheVariants as verbs
+use Rattle.jr_syntax.specs.declared.verb.Verb.{Verb}
+use Rattle.jr_syntax.specs.declared.verb.Verb.TheVariants.{Make, MakeFrom, On, OnBoth}
 use Rattle.jr_syntax.specs.declared.command.Command.{Command}
 use Rattle.jr_syntax.specs.declared.name.Reference.TheVariants.{Null, Named}
 use Rattle.jr_syntax.specs.Name.{is_name}
@@ -77,7 +77,7 @@ two_takes k l t u = record {
 
 -- ---- commands
 
--- what one line of the tables owes: the command behind a verb is spelled as it was, and is good
+-- what a shape owes: the command behind a verb is spelled as it was, and is good
 abbrev IsTaken : Verb → List (List ℕ) → Type 0
 IsTaken v ws =
     (words_of_command ((behind_verb v).value ws) ≡ verb_word v ∷ ws) × (is_command ((behind_verb v).value ws) ≡ true)
@@ -85,16 +85,13 @@ IsTaken v ws =
 by : {X : Type 0} (a : Arguments X) → Takes a → (word : List ℕ) (ws : List (List ℕ)) → a.has_form ws ≡ true → a.in_range ws ≡ true → (word ∷ a.spell (a.value ws) ≡ word ∷ ws) × (a.is_good (a.value ws) ≡ true)
 by a t word ws f r = (ap (λ (x : List (List ℕ)). word ∷ x) (t.back ws f r), t.good ws f r)
 
--- a line for each command
+-- a line for each shape
 command_takes : (v : Verb) (ws : List (List ℕ)) → (behind_verb v).has_form ws ≡ true → (behind_verb v).in_range ws ≡ true → IsTaken v ws
 unfolding behind_verb spelling_of
-command_takes verbs.Plain = by _ (one_takes name name_takes) _
-command_takes verbs.Global = by _ (two_takes name reference name_takes reference_takes) _
-command_takes verbs.Weak = by _ (two_takes name reference name_takes reference_takes) _
-command_takes verbs.Local = by _ (two_takes name reference name_takes reference_takes) _
-command_takes verbs.Drop = by _ (one_takes reference reference_takes) _
-command_takes verbs.Type = by _ (one_takes reference reference_takes) _
-command_takes verbs.Same = by _ (two_takes reference reference reference_takes reference_takes) _
+command_takes (Make v) = by _ (one_takes name name_takes) _
+command_takes (MakeFrom v) = by _ (two_takes name reference name_takes reference_takes) _
+command_takes (On v) = by _ (one_takes reference reference_takes) _
+command_takes (OnBoth v) = by _ (two_takes reference reference reference_takes reference_takes) _
 
 -- ---- lines
 

@@ -5,28 +5,34 @@ use Rattle.std.specs.Option.{option_map, option_map_or}
 use Rattle.std.specs.Str.{bytes_eq}
 use Rattle.jr_syntax.specs.declared.argument.LineError.{LineError}
 use Rattle.jr_syntax.specs.declared.argument.LineError.TheVariants as errors
-use Rattle.jr_syntax.specs.declared.command.Verb.{Verb}
-use Rattle.jr_syntax.specs.declared.command.Verb.TheVariants as verbs
+use Rattle.jr_syntax.specs.declared.verb.Verb.{Verb}
+use Rattle.jr_syntax.specs.declared.verb.Verb.TheVariants.{Make, MakeFrom, On, OnBoth}
+use Rattle.jr_syntax.specs.declared.verb.Make.TheVariants.{Plain}
+use Rattle.jr_syntax.specs.declared.verb.MakeFrom.TheVariants.{Global, Weak, Local}
+use Rattle.jr_syntax.specs.declared.verb.On.TheVariants as on
+use Rattle.jr_syntax.specs.declared.verb.OnBoth.TheVariants.{Same}
 use Rattle.jr_syntax.specs.declared.command.Command.{Command}
 use Rattle.jr_syntax.specs.declared.command.Command.TheVariants as commands
 use Rattle.jr_syntax.specs.Kind.{Arguments, Reading, one, two, name}
 use Rattle.jr_syntax.specs.Reference.{reference}
 
--- ---- the four tables, a line for each command
+-- ---- the verbs, two rows for each
 
 -- the word of a verb
 abbrev pub verb_word : Verb → List ℕ
-verb_word verbs.Plain = codes "plain"
-verb_word verbs.Global = codes "global"
-verb_word verbs.Weak = codes "weak"
-verb_word verbs.Local = codes "local"
-verb_word verbs.Drop = codes "drop"
-verb_word verbs.Type = codes "type"
-verb_word verbs.Same = codes "same"
+verb_word (Make Plain) = codes "plain"
+verb_word (MakeFrom Global) = codes "global"
+verb_word (MakeFrom Weak) = codes "weak"
+verb_word (MakeFrom Local) = codes "local"
+verb_word (On on.Drop) = codes "drop"
+verb_word (On on.Type) = codes "type"
+verb_word (OnBoth Same) = codes "same"
 
 -- every verb
 abbrev pub all_verbs : List Verb
-all_verbs = verbs.Plain ∷ verbs.Global ∷ verbs.Weak ∷ verbs.Local ∷ verbs.Drop ∷ verbs.Type ∷ verbs.Same ∷ []
+all_verbs = Make Plain ∷ MakeFrom Global ∷ MakeFrom Weak ∷ MakeFrom Local ∷ On on.Drop ∷ On on.Type ∷ OnBoth Same ∷ []
+
+-- ---- the shapes of commands: the arguments behind a verb
 
 -- how arguments are read as a command
 abbrev pub made : {X : Type 0} → Arguments X → (X → Command) → Reading (List (List ℕ)) Command
@@ -34,13 +40,10 @@ made a make = record { has_form = a.has_form; in_range = a.in_range; value = λ 
 
 -- how the words behind a verb are read
 unfoldable pub behind_verb : Verb → Reading (List (List ℕ)) Command
-behind_verb verbs.Plain = made (one name) (λ n. commands.Plain n)
-behind_verb verbs.Global = made (two name reference) (λ x. commands.Global x.0 x.1)
-behind_verb verbs.Weak = made (two name reference) (λ x. commands.Weak x.0 x.1)
-behind_verb verbs.Local = made (two name reference) (λ x. commands.Local x.0 x.1)
-behind_verb verbs.Drop = made (one reference) (λ r. commands.Drop r)
-behind_verb verbs.Type = made (one reference) (λ r. commands.Type r)
-behind_verb verbs.Same = made (two reference reference) (λ x. commands.Same x.0 x.1)
+behind_verb (Make v) = made (one name) (λ n. commands.Make v n)
+behind_verb (MakeFrom v) = made (two name reference) (λ x. commands.MakeFrom v x.0 x.1)
+behind_verb (On v) = made (one reference) (λ r. commands.On v r)
+behind_verb (OnBoth v) = made (two reference reference) (λ x. commands.OnBoth v x.0 x.1)
 
 -- A command's words, and whether its names are names and its numbers within bounds.
 pub record Spelling : Type 0 where
@@ -52,13 +55,10 @@ spelled v a x = record { words = verb_word v ∷ a.spell x; is_good = a.is_good 
 
 -- how a command is spelled
 unfoldable pub spelling_of : Command → Spelling
-spelling_of (commands.Plain n) = spelled verbs.Plain (one name) n
-spelling_of (commands.Global n r) = spelled verbs.Global (two name reference) (n, r)
-spelling_of (commands.Weak n r) = spelled verbs.Weak (two name reference) (n, r)
-spelling_of (commands.Local n r) = spelled verbs.Local (two name reference) (n, r)
-spelling_of (commands.Drop r) = spelled verbs.Drop (one reference) r
-spelling_of (commands.Type r) = spelled verbs.Type (one reference) r
-spelling_of (commands.Same l r) = spelled verbs.Same (two reference reference) (l, r)
+spelling_of (commands.Make v n) = spelled (Make v) (one name) n
+spelling_of (commands.MakeFrom v n r) = spelled (MakeFrom v) (two name reference) (n, r)
+spelling_of (commands.On v r) = spelled (On v) (one reference) r
+spelling_of (commands.OnBoth v l r) = spelled (OnBoth v) (two reference reference) (l, r)
 
 -- ---- what follows from them
 

@@ -15,6 +15,7 @@ mod sequence;
 #[cfg(test)]
 mod tests;
 mod thread;
+mod verb;
 mod vm_line;
 mod word;
 mod writer;
@@ -30,4 +31,5 @@ pub use reader::parse;
 pub use script::Script;
 pub use sequence::Sequence;
 pub use thread::ThreadPart;
+pub use verb::{Make, MakeFrom, On, OnBoth, Verb};
 pub use writer::print;

@@ -11,6 +11,7 @@ use crate::reader::parse;
 use crate::script::Script;
 use crate::sequence::Sequence;
 use crate::thread::ThreadPart;
+use crate::verb::{Make, MakeFrom, On, OnBoth};
 use crate::writer::print;
 use jr_word::Config;
 use std::alloc::{AllocError, Global};
@@ -82,20 +83,25 @@ fn a_global_reference_and_its_end(rt: HostRuntime) -> Result<(), Fail> {
     assert_eq!(rt; (config.threads, config.slots, config.objects), (1, 4, 8));
     assert_eq!(rt; (config.words, config.locals), (16, 16));
     let wanted = [
-        Command::Plain {
+        Command::Make {
+            verb: Make::Plain,
             name: name(&rt, b"p"),
         },
-        Command::Global {
+        Command::MakeFrom {
+            verb: MakeFrom::Global,
             name: name(&rt, b"g"),
             target: Reference::Named(name(&rt, b"p")),
         },
-        Command::Type {
+        Command::On {
+            verb: On::Type,
             target: Reference::Named(name(&rt, b"g")),
         },
-        Command::Drop {
+        Command::On {
+            verb: On::Drop,
             target: Reference::Named(name(&rt, b"g")),
         },
-        Command::Type {
+        Command::On {
+            verb: On::Type,
             target: Reference::Named(name(&rt, b"g")),
         },
     ];
@@ -111,19 +117,23 @@ fn references_of_each_kind(rt: HostRuntime) -> Result<(), Fail> {
     let script = parse(rt.alloc(), &text)?;
     let named = |it: &[u8]| Reference::Named(name(&rt, it));
     let wanted = [
-        Command::Weak {
+        Command::MakeFrom {
+            verb: MakeFrom::Weak,
             name: name(&rt, b"w"),
             target: named(b"p"),
         },
-        Command::Local {
+        Command::MakeFrom {
+            verb: MakeFrom::Local,
             name: name(&rt, b"q"),
             target: named(b"w"),
         },
-        Command::Same {
+        Command::OnBoth {
+            verb: OnBoth::Same,
             left: named(b"p"),
             right: named(b"q"),
         },
-        Command::Same {
+        Command::OnBoth {
+            verb: OnBoth::Same,
             left: named(b"w"),
             right: Reference::Null,
         },
@@ -140,11 +150,13 @@ fn a_script_is_printed_and_read_again(rt: HostRuntime) -> Result<(), Fail> {
         name: name(&rt, b"main9"),
         commands: Sequence::new(rt.alloc()),
     };
-    part.commands.push(Command::Local {
+    part.commands.push(Command::MakeFrom {
+        verb: MakeFrom::Local,
         name: name(&rt, b"l"),
         target: Reference::Null,
     })?;
-    part.commands.push(Command::Same {
+    part.commands.push(Command::OnBoth {
+        verb: OnBoth::Same,
         left: Reference::Null,
         right: Reference::Named(name(&rt, b"l")),
     })?;
@@ -182,21 +194,25 @@ fn one_slot_for_two_references(rt: HostRuntime) -> Result<(), Fail> {
         b"vm threads 1 slots 1 objects 8 words 16 locals 16\nthread a\nplain p\nglobal g p\nglobal h p\ndrop g\nglobal h p\ntype h\n";
     let script = parse(rt.alloc(), text)?;
     assert_eq!(rt; script.config.slots, 1);
-    let global = |it: &[u8]| Command::Global {
+    let global = |it: &[u8]| Command::MakeFrom {
+        verb: MakeFrom::Global,
         name: name(&rt, it),
         target: Reference::Named(name(&rt, b"p")),
     };
     let wanted = [
-        Command::Plain {
+        Command::Make {
+            verb: Make::Plain,
             name: name(&rt, b"p"),
         },
         global(b"g"),
         global(b"h"),
-        Command::Drop {
+        Command::On {
+            verb: On::Drop,
             target: Reference::Named(name(&rt, b"g")),
         },
         global(b"h"),
-        Command::Type {
+        Command::On {
+            verb: On::Type,
             target: Reference::Named(name(&rt, b"h")),
         },
     ];
@@ -216,10 +232,12 @@ fn least_scripts(rt: HostRuntime) -> Result<(), Fail> {
         b"vm threads 1 slots 1 objects 1 words 0 locals 16\nthread a\ndrop null\nplain abcdefghijklm90z\n",
     )?;
     let wanted = [
-        Command::Drop {
+        Command::On {
+            verb: On::Drop,
             target: Reference::Null,
         },
-        Command::Plain {
+        Command::Make {
+            verb: Make::Plain,
             name: name(&rt, b"abcdefghijklm90z"),
         },
     ];
