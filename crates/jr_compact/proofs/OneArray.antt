@@ -10,13 +10,13 @@ use Rattle.jr_model.specs.Maps.{sum_below}
 use Rattle.jr_model.specs.State.{Contents, State, IsPresent, IsClosed, length_of, present_words}
 use Rattle.jr_model.proofs.Lengths.{lengths_fit}
 use Rattle.jr_model.proofs.Updates.{eq_self}
-use Rattle.jr_steps.specs.declared.known.Grasp.{Grasp}
+use Rattle.jr_steps.specs.declared.known.Holdings.{Holdings}
 use Rattle.jr_steps.specs.declared.known.Known.{Known}
 use Rattle.jr_steps.specs.Collecting.{IsThere, ShowsElement, placed, ShowsPlaced, CanSettle}
-use Rattle.jr_steps.specs.Grasping.{header_in}
+use Rattle.jr_steps.specs.Holdings.{header_in}
 use Rattle.jr_steps.specs.Knowing.{Standing, IsOf, Took, Saw, MayKnow, anything, state_of, keeps, lets_go, KnowsHeader, IsSettled, IsClosedNow, CanReopen, ShowsHeader}
-use Rattle.jr_steps.proofs.Collected.{same_tables, tables_seen, goes_act, there_settled}
-use Rattle.jr_steps.proofs.Goes.{may_then, shut_closed}
+use Rattle.jr_steps.proofs.CollectorFacts.{same_tables, tables_seen, goes_act, there_settled}
+use Rattle.jr_steps.proofs.StepFacts.{may_then, shut_closed}
 use Rattle.jr_model.proofs.InRoom.{in_room}
 use Rattle.jr_compact.specs.Sliding.{CanSlide}
 
@@ -45,7 +45,7 @@ knows_now o h hs = ap (λ b. cond b (Some h) hs) (eq_self o)
 
 -- a gate that was just shut may be opened again
 pub shut_reopens : {S : Type 0} {stands : S → Standing} {knows : S → Known → Type 0} {a b : S} → Took stands knows a b (Shut ∷ []) anything lets_go → MayKnow knows a anything → MayKnow knows b CanReopen
-shut_reopens took may = may_then took (λ k s m. tt) may (λ k k' s m g x. (shut_closed g, ap (λ (y : Grasp). y.moving) x))
+shut_reopens took may = may_then took (λ k s m. tt) may (λ k k' s m g x. (shut_closed g, ap (λ (y : Holdings). y.moving) x))
 
 module _ {S : Type 0} {stands : S → Standing} {knows : S → Known → Type 0} (fits : (s : S) (k : Known) → knows s k → IsOf (stands s) k) where
   -- the header was looked at
@@ -64,9 +64,9 @@ module _ {S : Type 0} {stands : S → Standing} {knows : S → Known → Type 0}
         x.0,
         x.1,
         record {
-          settled = ap (λ (g : Grasp). g.moving) x.3.1 ∙ k.2.1;
+          settled = ap (λ (g : Holdings). g.moving) x.3.1 ∙ k.2.1;
           closed = subst (λ (m : ℕ → Option Contents). IsClosed (record (state_of x.0) { objects = m })) (sym same.objects) k.2.0;
-          known = ap (λ (g : Grasp). header_in 1 g.headers) x.3.1 ∙ knows_now 1 h (header_in 1 (k.0).grasp.headers);
+          known = ap (λ (g : Holdings). header_in 1 g.headers) x.3.1 ∙ knows_now 1 h (header_in 1 (k.0).holdings.headers);
           long = long;
           only = only;
           single = single;
@@ -110,7 +110,7 @@ module _ {S : Type 0} {stands : S → Standing} {knows : S → Known → Type 0}
       let y = saw.sees k.0 k.1 (one_slides h k.0 k.2) in
       let same = tables_seen y.2 ((fits a k.0 k.1).role ∙ collects) in
       let x = y.3 in
-      (y.0, y.1, one_still h (placed h 0) k.0 y.0 same.objects same.used (y.2).config refl (ap (λ (g : Grasp). g.moving) x) (ap (λ (g : Grasp). header_in 1 g.headers) x ∙ knows_now 1 (placed h 0) (header_in 1 (k.0).grasp.headers)) k.2))
+      (y.0, y.1, one_still h (placed h 0) k.0 y.0 same.objects same.used (y.2).config refl (ap (λ (g : Holdings). g.moving) x) (ap (λ (g : Holdings). header_in 1 g.headers) x ∙ knows_now 1 (placed h 0) (header_in 1 (k.0).holdings.headers)) k.2))
 
   pub one_there : {a : S} (h : HeaderParts) (i : ℕ) → i < h.length → MayKnow knows a (IsOne h) → MayKnow knows a (IsThere 1 h i)
   one_there h i l may = ∥∥₁_map may (λ k. (k.0, k.1, there_settled 1 i h k.0 (k.2).known l (k.2).settled))
@@ -119,7 +119,7 @@ module _ {S : Type 0} {stands : S → Standing} {knows : S → Known → Type 0}
   pub one_kept : {a b : S} (h : HeaderParts) (i v : ℕ) → i < h.length → (stands a).role ≡ Collecting → Took stands knows a b [] (IsThere 1 h i) (λ j k. ShowsElement 1 i v k × keeps j k) → MayKnow knows a (IsOne h) → MayKnow knows b (IsOne h)
   one_kept {a} h i v l collects took may = may_then took (λ k s o. there_settled 1 i h k o.known l o.settled) may (λ k k' s o g x.
       let same = same_tables g ((fits a k s).role ∙ collects) in
-      one_still h h k k' same.objects same.used g.config refl (ap (λ (y : Grasp). y.moving) x.1 ∙ o.settled) (ap (λ (y : Grasp). header_in 1 y.headers) x.1 ∙ o.known) o)
+      one_still h h k k' same.objects same.used g.config refl (ap (λ (y : Holdings). y.moving) x.1 ∙ o.settled) (ap (λ (y : Holdings). header_in 1 y.headers) x.1 ∙ o.known) o)
 
   one_settles : (h : HeaderParts) (n : ℕ) (k : Known) → h.length ≡ n → h.place ≡ 0 → IsOne h k → CanSettle n k
   one_settles h n k is low o = record {
@@ -138,4 +138,4 @@ module _ {S : Type 0} {stands : S → Standing} {knows : S → Known → Type 0}
   one_reopens {a} h n is low collects took may = may_then took (λ k s o. one_settles h n k is low o) may (λ k k' s o g x.
       let y = goes_act g ((fits a k s).role ∙ collects) in
       let objects : (state_of k').objects ≡ (state_of k).objects = ap (λ (z : State). z.objects) y.2 ∙ (y.1).objects in
-      (subst (λ (m : ℕ → Option Contents). IsClosed (record (state_of k') { objects = m })) (sym objects) o.closed, ap (λ (z : Grasp). z.moving) x ∙ o.settled))
+      (subst (λ (m : ℕ → Option Contents). IsClosed (record (state_of k') { objects = m })) (sym objects) o.closed, ap (λ (z : Holdings). z.moving) x ∙ o.settled))

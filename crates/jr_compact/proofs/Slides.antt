@@ -5,18 +5,18 @@ use Rattle.jr_word.specs.declared.header.HeaderParts.{HeaderParts}
 use Rattle.jr_model.specs.declared.event.Role.TheVariants.{Collecting}
 use Rattle.jr_model.specs.State.{Contents, HaveSameTables}
 use Rattle.jr_steps.specs.declared.known.Known.{Known}
-use Rattle.jr_steps.specs.declared.known.Grasp.{Grasp}
+use Rattle.jr_steps.specs.declared.known.Holdings.{Holdings}
 use Rattle.jr_steps.specs.declared.known.Move.{Move}
-use Rattle.jr_steps.specs.Grasping.{with_move, with_header, header_in, move_of, HasDone}
+use Rattle.jr_steps.specs.Holdings.{with_move, with_header, header_in, move_of, HasDone}
 use Rattle.jr_steps.specs.Collecting.{IsThere, ShowsElement, CanMove, ShowsMoved, placed, CanPlace, ShowsPlaced}
 use Rattle.jr_steps.specs.Knowing.{Standing, IsOf, MayKnow, Sees, Saw, Took, state_of, keeps, KnowsHeader}
-use Rattle.jr_steps.proofs.Collected.{tables_seen, sees_more, there_left}
+use Rattle.jr_steps.proofs.CollectorFacts.{tables_seen, sees_more, there_left}
 use Rattle.jr_compact.specs.Sliding.{CanSlide}
 
 -- so many elements are moved, and nothing else that the pass holds is other
 pub record IsSlidTo (o place i : ℕ) (k k' : Known) : Type 0 where
-  pub done : HasDone k'.grasp.moving o place i
-  pub others : with_move k'.grasp None ≡ with_move k.grasp None
+  pub done : HasDone k'.holdings.moving o place i
+  pub others : with_move k'.holdings None ≡ with_move k.holdings None
 
 pub record SlidTo {S : Type 0} (stands : S → Standing) (knows : S → Known → Type 0) (o : ℕ) (h : HeaderParts) (place : ℕ) (old new : S) (i : ℕ) : Type 0 where
   pub stands_is : stands new ≡ stands old
@@ -28,7 +28,7 @@ more_done m o place i e = subst (λ z. HasDone z o place i) (sym e) refl
 module _ {S : Type 0} {stands : S → Standing} {knows : S → Known → Type 0} (fits : (s : S) (k : Known) → knows s k → IsOf (stands s) k) (o : ℕ) (h : HeaderParts) (place : ℕ) where
   module _ {a b : S} {i : ℕ} (p : SlidTo stands knows o h place a b i) where
     known_still : (k k' : Known) → CanSlide o h place k → IsSlidTo o place i k k' → KnowsHeader o h k'
-    known_still k k' can s = ap (λ (g : Grasp). header_in o g.headers) s.others ∙ can.known
+    known_still k k' can s = ap (λ (g : Holdings). header_in o g.headers) s.others ∙ can.known
 
     -- an element that is still to be moved stands where its header says
     pub later_there : (j : ℕ) → i ≤ j → j < h.length → MayKnow knows a (CanSlide o h place) → MayKnow knows b (IsThere o h j)
@@ -45,7 +45,7 @@ module _ {S : Type 0} {stands : S → Standing} {knows : S → Known → Type 0}
             y.1,
             sees_more x.2 y.2,
             record {
-              done = subst (λ (g : Grasp). HasDone g.moving o place i) (sym y.3.1) (x.3).done;
+              done = subst (λ (g : Holdings). HasDone g.moving o place i) (sym y.3.1) (x.3).done;
               others = ap (λ g. with_move g None) y.3.1 ∙ (x.3).others;
             },
           );
@@ -65,7 +65,7 @@ module _ {S : Type 0} {stands : S → Standing} {knows : S → Known → Type 0}
             y.1,
             sees_more x.2 y.2,
             record {
-              done = subst (λ (g : Grasp). HasDone g.moving o place i) (sym y.3.1) (x.3).done;
+              done = subst (λ (g : Holdings). HasDone g.moving o place i) (sym y.3.1) (x.3).done;
               others = ap (λ g. with_move g None) y.3.1 ∙ (x.3).others;
             },
             y.3.0,
@@ -84,7 +84,7 @@ module _ {S : Type 0} {stands : S → Standing} {knows : S → Known → Type 0}
             later = λ j m n e. absurd (omega arith);
             free = λ r x ne is some.
                 let f = can.free i l r x ne (ap (λ (m : ℕ → Option Contents). m r) (sym same.objects) ∙ is) some in
-                (f.0, ap (λ (y : Grasp). header_in r y.headers) slid.others ∙ f.1, f.2);
+                (f.0, ap (λ (y : Holdings). header_in r y.headers) slid.others ∙ f.1, f.2);
           }
 
       -- it may be moved
@@ -102,7 +102,7 @@ module _ {S : Type 0} {stands : S → Standing} {knows : S → Known → Type 0}
               y.1,
               sees_more x.2 y.2,
               record {
-                done = more_done (y.0).grasp.moving o place (i + 1) (ap (λ (g : Grasp). g.moving) y.3);
+                done = more_done (y.0).holdings.moving o place (i + 1) (ap (λ (g : Holdings). g.moving) y.3);
                 others = ap (λ g. with_move g None) y.3 ∙ (x.3).others;
               },
             );
@@ -110,7 +110,7 @@ module _ {S : Type 0} {stands : S → Standing} {knows : S → Known → Type 0}
 
     module _ (all : i ≡ h.length) where
       can_place : (k k' : Known) → CanSlide o h place k → IsSlidTo o place i k k' → CanPlace o h place k'
-      can_place k k' can slid = record { known = known_still k k' can slid; done = subst (HasDone k'.grasp.moving o place) all slid.done }
+      can_place k k' can slid = record { known = known_still k k' can slid; done = subst (HasDone k'.holdings.moving o place) all slid.done }
 
       -- the header may be set once all elements are moved
       pub placeable : MayKnow knows a (CanSlide o h place) → MayKnow knows b (CanPlace o h place)

@@ -5,9 +5,9 @@ use Rattle.std.proofs.Math.Logic.{∥∥₁_elim, ∥∥₁_map}
 use Rattle.jr_model.specs.declared.event.Act.TheVariants.{Shut, ShutBusy}
 use Rattle.jr_model.specs.History.{by, IsLegal}
 use Rattle.jr_model.proofs.Histories.{legal_push}
-use Rattle.jr_steps.specs.declared.known.Grasp.{Grasp}
+use Rattle.jr_steps.specs.declared.known.Holdings.{Holdings}
 use Rattle.jr_steps.specs.declared.known.Known.{Known}
-use Rattle.jr_steps.proofs.Goes.{shut_closed}
+use Rattle.jr_steps.proofs.StepFacts.{shut_closed}
 use Rattle.jr_steps.specs.Knowing.{Standing, anything, keeps, lets_go, Goes, IsClosedNow, CanReopen, MayKnow, Took}
 
 -- who is refused a shut was told of one thread at least
@@ -23,7 +23,7 @@ module _ {S : Type 0} {stands : S → Standing} {knows : S → Known → Type 0}
       ∥∥₁_elim some le_prop each
 
   pub shut_closes : Took stands knows old new (Shut ∷ []) anything lets_go → MayKnow knows new CanReopen
-  shut_closes t = ∥∥₁_map some (λ k. let g = t.goes k.0 k.1 tt in (g.0, g.1, (shut_closed g.2, ap (λ (z : Grasp). z.moving) g.3)))
+  shut_closes t = ∥∥₁_map some (λ k. let g = t.goes k.0 k.1 tt in (g.0, g.1, (shut_closed g.2, ap (λ (z : Holdings). z.moving) g.3)))
 
 module _ {S : Type 0} {stands : S → Standing} {knows : S → Known → Type 0} {old new : S} where
   pub shut_shows : Took stands knows old new (Shut ∷ []) anything lets_go → Took stands knows old new (Shut ∷ []) anything (λ j k. IsClosedNow k × lets_go j k)

@@ -9,7 +9,7 @@ use Rattle.jr_model.specs.declared.event.Act.{Act}
 use Rattle.jr_model.specs.State.{State, IsWord}
 use Rattle.jr_model.specs.Frames.{Frames}
 use Rattle.jr_model.specs.Calls.{Call, ◌>>◌, refuse_if}
-use Rattle.jr_model.specs.Tests.{is_value}
+use Rattle.jr_model.specs.Checks.{is_value}
 
 pub stop : {A : Type 0} (b : Bool) (e : Fault) (next : Call A) (f : Frames) → b ≡ true → (refuse_if b e >> next) f [] (Err e) f
 stop true e next f is = inr (e, refl, (refl, refl, refl))

@@ -11,13 +11,13 @@ use Rattle.jr_model.proofs.Updates.{eq_self}
 use Rattle.jr_model.proofs.Stays.{did_then, did_nothing}
 use Rattle.jr_model.proofs.Windows.{window_within}
 use Rattle.jr_steps.specs.declared.known.Known.{Known}
-use Rattle.jr_steps.specs.declared.known.Grasp.{Grasp}
-use Rattle.jr_steps.specs.Grasping.{words_at}
+use Rattle.jr_steps.specs.declared.known.Holdings.{Holdings}
+use Rattle.jr_steps.specs.Holdings.{words_at}
 use Rattle.jr_steps.specs.Knowing.{Standing, IsOf, MayKnow, view, HasWord, IsWordNow, ShowsWord, Took, Takes}
-use Rattle.jr_steps.proofs.Goes.{goes_did}
-use Rattle.jr_heap.specs.Heap.{Called, by_steps, words_of, IsOwn, IsReady, Fills, no_act}
+use Rattle.jr_steps.proofs.StepFacts.{goes_did}
+use Rattle.jr_heap.specs.Heap.{Called, by_steps, own_words, IsOwn, IsReady, Fills, no_act}
 use Rattle.jr_heap.proofs.Calling.{called_by}
-use Rattle.jr_heap.proofs.Staying.{word_later}
+use Rattle.jr_heap.proofs.StayFacts.{word_later}
 
 abbrev tail : List ℕ → List ℕ
 tail [] = []
@@ -41,21 +41,21 @@ filled_next : (i v : ℕ) (ws : List ℕ) → take i ws ≡ replicate i v → i 
 filled_next i v ws e l = let q : suc i ≡ i + 1 = omega arith in subst (λ m. take m (slice_set ws i v) ≡ replicate m v) q (filled_suc i v ws e l)
 
 -- the words at a place after a store, and at others
-stored_here : (place i v : ℕ) (j k : Known) → ShowsWord place i v j k → words_at place k.grasp.ranges ≡ slice_set (words_at place j.grasp.ranges) i v
-stored_here place i v j k e = ap (λ (g : Grasp). words_at place g.ranges) e ∙ ap (λ b. cond b (slice_set (words_at place j.grasp.ranges) i v) (words_at place j.grasp.ranges)) (eq_self place)
+stored_here : (place i v : ℕ) (j k : Known) → ShowsWord place i v j k → words_at place k.holdings.ranges ≡ slice_set (words_at place j.holdings.ranges) i v
+stored_here place i v j k e = ap (λ (g : Holdings). words_at place g.ranges) e ∙ ap (λ b. cond b (slice_set (words_at place j.holdings.ranges) i v) (words_at place j.holdings.ranges)) (eq_self place)
 
 other_place : (p place : ℕ) → p ≢ place → (place == p) ≡ false
 other_place p place ne = grind (arith, nat_tests)
 
-stored_elsewhere : (place i v : ℕ) (j k : Known) → ShowsWord place i v j k → (p : ℕ) → p ≢ place → words_at p k.grasp.ranges ≡ words_at p j.grasp.ranges
-stored_elsewhere place i v j k e p ne = ap (λ (g : Grasp). words_at p g.ranges) e ∙ ap (λ b. cond b (slice_set (words_at place j.grasp.ranges) i v) (words_at p j.grasp.ranges)) (other_place p place ne)
+stored_elsewhere : (place i v : ℕ) (j k : Known) → ShowsWord place i v j k → (p : ℕ) → p ≢ place → words_at p k.holdings.ranges ≡ words_at p j.holdings.ranges
+stored_elsewhere place i v j k e p ne = ap (λ (g : Holdings). words_at p g.ranges) e ∙ ap (λ b. cond b (slice_set (words_at place j.holdings.ranges) i v) (words_at p j.holdings.ranges)) (other_place p place ne)
 
 -- the first i of the words at the place are v, and nothing else that the pass holds is other
 pub record IsFilledTo (place n v i : ℕ) (j k : Known) : Type 0 where
-  pub long : 1 ≤ n → length (words_at place k.grasp.ranges) ≡ n
-  pub words : 1 ≤ n → take i (words_at place k.grasp.ranges) ≡ replicate i v
-  pub headers : k.grasp.headers ≡ j.grasp.headers
-  pub others : (p : ℕ) → (p ≢ place) ⊎ (n ≡ 0) → words_at p k.grasp.ranges ≡ words_at p j.grasp.ranges
+  pub long : 1 ≤ n → length (words_at place k.holdings.ranges) ≡ n
+  pub words : 1 ≤ n → take i (words_at place k.holdings.ranges) ≡ replicate i v
+  pub headers : k.holdings.headers ≡ j.holdings.headers
+  pub others : (p : ℕ) → (p ≢ place) ⊎ (n ≡ 0) → words_at p k.holdings.ranges ≡ words_at p j.holdings.ranges
   pub counted : Takes i j k
 
 -- what was done so far
@@ -69,26 +69,26 @@ among (suc n) v zero w e = let h : Some v ≡ Some w = e in cc
 among (suc n) v (suc i) w e = among n v i w e
 
 -- a range that is not empty has the words at its place
-words_some : (place n : ℕ) (k : Known) → 1 ≤ n → words_of place n k ≡ words_at place k.grasp.ranges
-words_some place n k l = ap (λ b. cond b [] (words_at place k.grasp.ranges)) (not_zero n l)
+words_some : (place n : ℕ) (k : Known) → 1 ≤ n → own_words place n k ≡ words_at place k.holdings.ranges
+words_some place n k l = ap (λ b. cond b [] (words_at place k.holdings.ranges)) (not_zero n l)
   where
     not_zero : (n : ℕ) → 1 ≤ n → (n == 0) ≡ false
     not_zero n l = grind (arith, nat_tests)
 
-words_none : (place n : ℕ) (k : Known) → n ≡ 0 → words_of place n k ≡ []
-words_none place n k e = ap (λ m. words_of place m k) e
+words_none : (place n : ℕ) (k : Known) → n ≡ 0 → own_words place n k ≡ []
+words_none place n k e = ap (λ m. own_words place m k) e
 
 none_or : (n : ℕ) → (n ≡ 0) ⊎ (1 ≤ n)
 none_or n = grind arith
 
-own_length : (place n : ℕ) (k : Known) → (1 ≤ n → length (words_at place k.grasp.ranges) ≡ n) → IsOwn place n k
+own_length : (place n : ℕ) (k : Known) → (1 ≤ n → length (words_at place k.holdings.ranges) ≡ n) → IsOwn place n k
 own_length place n k long = ⊎_elim (λ (e : n ≡ 0). ap (λ (ws : List ℕ). length ws) (words_none place n k e) ∙ sym e) (λ (l : 1 ≤ n). ap (λ (ws : List ℕ). length ws) (words_some place n k l) ∙ long l) (none_or n)
 
 -- all words are v at the end
 filled_all : (place n v : ℕ) (j k : Known) → IsFilledTo place n v n j k → Fills place n v j k
 filled_all place n v j k x = record {
   words = ⊎_elim (λ (e : n ≡ 0). words_none place n k e ∙ ap (λ m. replicate m v) (sym e))
-      (λ (l : 1 ≤ n). words_some place n k l ∙ (sym (ap (λ m. take m (words_at place k.grasp.ranges)) (sym (x.long l)) ∙ take-length (words_at place k.grasp.ranges)) ∙ x.words l)) (none_or n);
+      (λ (l : 1 ≤ n). words_some place n k l ∙ (sym (ap (λ m. take m (words_at place k.holdings.ranges)) (sym (x.long l)) ∙ take-length (words_at place k.holdings.ranges)) ∙ x.words l)) (none_or n);
   headers = x.headers;
   others = x.others;
 }
@@ -105,16 +105,16 @@ module _ {S : Type 0} {stands : S → Standing} {knows : S → Known → Type 0}
     stands_is = t.stands_is ∙ p.stands_is;
     did = λ k s m.
         let x = p.did k s m in
-        let has : i < length (words_at place x.0.grasp.ranges) = let e = x.3.long (omega arith) in omega arith in
+        let has : i < length (words_at place x.0.holdings.ranges) = let e = x.3.long (omega arith) in omega arith in
         let y = t.goes x.0 x.1 has in
         let here = stored_here place i v x.0 y.0 y.3 in (
           y.0,
           y.1,
           did_then [] [] x.2 (goes_did y.2),
           record {
-            long = λ q. ap (λ (ws : List ℕ). length ws) here ∙ (length-set (words_at place x.0.grasp.ranges) i v ∙ x.3.long q);
-            words = λ q. ap (λ ws. take (i + 1) ws) here ∙ filled_next i v (words_at place x.0.grasp.ranges) (x.3.words q) has;
-            headers = ap (λ (g : Grasp). g.headers) y.3 ∙ x.3.headers;
+            long = λ q. ap (λ (ws : List ℕ). length ws) here ∙ (length-set (words_at place x.0.holdings.ranges) i v ∙ x.3.long q);
+            words = λ q. ap (λ ws. take (i + 1) ws) here ∙ filled_next i v (words_at place x.0.holdings.ranges) (x.3.words q) has;
+            headers = ap (λ (g : Holdings). g.headers) y.3 ∙ x.3.headers;
             others = λ r ne. ⊎_elim (λ (d : r ≢ place). stored_elsewhere place i v x.0 y.0 y.3 r d) (λ (z : n ≡ 0). absurd (omega arith)) ne ∙ x.3.others r ne;
             counted = let a = x.3.counted in let b = y.2.taken in omega arith;
           },

@@ -12,16 +12,16 @@ use Rattle.jr_model.specs.Parts.{header}
 use Rattle.jr_model.proofs.Updates.{eq_self}
 use Rattle.jr_model.proofs.Windows.{window_within}
 use Rattle.jr_steps.specs.declared.known.Known.{Known}
-use Rattle.jr_steps.specs.declared.known.Grasp.{Grasp}
-use Rattle.jr_steps.specs.Grasping.{header_in}
+use Rattle.jr_steps.specs.declared.known.Holdings.{Holdings}
+use Rattle.jr_steps.specs.Holdings.{header_in}
 use Rattle.jr_steps.specs.Knowing.{Standing, IsOf, MayKnow, anything, state_of, HasObject, ShowsHeader, Took}
-use Rattle.jr_steps.proofs.Goes.{goes_did, present_stays}
+use Rattle.jr_steps.proofs.StepFacts.{goes_did, present_stays}
 use Rattle.jr_model.proofs.InRoom.{in_room}
 use Rattle.jr_heap.specs.Heap.{Called, by_steps, HoldsHeader, Learns}
 use Rattle.jr_heap.proofs.Calling.{called_by}
 
 pub learnt : (o : ℕ) (h : HeaderParts) (j k : Known) → Learns o h j k → HoldsHeader o h k
-learnt o h j k l = record { known = ap (λ (g : Grasp). header_in o g.headers) l.1 ∙ ap (λ b. cond b (Some h) (header_in o j.grasp.headers)) (eq_self o); shown = l.0 }
+learnt o h j k l = record { known = ap (λ (g : Holdings). header_in o g.headers) l.1 ∙ ap (λ b. cond b (Some h) (header_in o j.holdings.headers)) (eq_self o); shown = l.0 }
 
 none_absent : (x : Option Contents) → x ≡ None → IsSome x → ⊥
 none_absent None e p = absurd cc

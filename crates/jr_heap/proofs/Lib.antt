@@ -1,12 +1,12 @@
 pub mod Calling
-pub mod Staying
+pub mod StayFacts
 pub mod Reserving
 pub mod Filling
 pub mod Headers
 mod KnownHeaders
 mod Checks
 pub mod Elements
-mod Turns
+mod NumberSearch
 mod Publishing
-pub mod Whole
+pub mod HeaderThenElement
 mod Lists

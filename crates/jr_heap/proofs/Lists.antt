@@ -8,7 +8,7 @@ use Rattle.jr_model.proofs.Updates.{at_number_self}
 use Rattle.jr_model.proofs.Histories.{state_push}
 use Rattle.jr_model.proofs.Moments.{one_act, before_new, prefix_trans}
 use Rattle.jr_heap.specs.Laws.{HeadersHold, ReadsElement, WritesElement}
-use Rattle.jr_heap.proofs.Staying.{object_later}
+use Rattle.jr_heap.proofs.StayFacts.{object_later}
 
 pub headers_hold : HeadersHold
 headers_hold k k' acts o h d w q known x = record { known = known; shown = object_later k k' acts d w q o h x.shown }

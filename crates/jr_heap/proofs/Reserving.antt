@@ -19,12 +19,12 @@ use Rattle.jr_model.proofs.Moments.{raced, sometime_last}
 use Rattle.jr_model.proofs.Stays.{did_then, role_did}
 use Rattle.jr_model.proofs.Windows.{window_act}
 use Rattle.jr_steps.specs.declared.known.Known.{Known}
-use Rattle.jr_steps.specs.declared.known.Grasp.{Grasp}
-use Rattle.jr_steps.specs.declared.naming.TopNaming.TheVariants as top
-use Rattle.jr_steps.specs.Acts.{top_named}
-use Rattle.jr_steps.specs.Grasping.{words_at, with_range}
+use Rattle.jr_steps.specs.declared.known.Holdings.{Holdings}
+use Rattle.jr_steps.specs.declared.loads.TopLoad.TheVariants as top
+use Rattle.jr_steps.specs.Acts.{acts_of_top_load}
+use Rattle.jr_steps.specs.Holdings.{words_at, with_range}
 use Rattle.jr_steps.specs.Knowing.{Standing, IsOf, MayKnow, view, anything, keeps, ShowsUsed, WasUsed, ShowsRange, Took, Takes}
-use Rattle.jr_steps.proofs.Goes.{goes_did, used_now, may_then}
+use Rattle.jr_steps.proofs.StepFacts.{goes_did, used_now, may_then}
 use Rattle.jr_heap.specs.Heap.{Called, by_steps, reserve_steps, IsOwn, Gains}
 use Rattle.jr_heap.proofs.Calling.{called_by, called_none}
 
@@ -40,7 +40,7 @@ lost : (n l u : ℕ) → n ≢ 0 → (f : Frames) → reserve n f (ReserveLost n
 lost zero l u some f = absurd (some refl)
 lost (suc n) l u some f = inr (inr (inl ((l, u), f, ReserveLost (suc n) l u ∷ [], [], refl, ((l, u), refl, refl, refl), (refl, refl, refl))))
 
-gains : (n place : ℕ) (j k : Known) → n ≢ 0 → (ws : List ℕ) → length ws ≡ n → k.grasp ≡ with_range j.grasp place ws → words_at place j.grasp.ranges ≡ [] → Gains n place j k
+gains : (n place : ℕ) (j k : Known) → n ≢ 0 → (ws : List ℕ) → length ws ≡ n → k.holdings ≡ with_range j.holdings place ws → words_at place j.holdings.ranges ≡ [] → Gains n place j k
 gains zero place j k some ws long g none = absurd (some refl)
 gains (suc n) place j k some ws long g none = (ws, long, g, none)
 
@@ -62,21 +62,21 @@ pub within : {u n w x y z : ℕ} → x ≡ u → y ≡ n → z ≡ w → x + y �
 within p q r l = omega arith
 
 -- the look does not fit, or it does
-named_full : (words n u : ℕ) → words < u + n → top_named words (top.Full n) u ≡ ReserveFull n u ∷ []
+named_full : (words n u : ℕ) → words < u + n → acts_of_top_load words (top.Full n) u ≡ ReserveFull n u ∷ []
 named_full words n u l = ap (λ b. cond b (ReserveFull n u ∷ []) []) (lt-ltb words (u + n) l)
 
-named_look : (words n u : ℕ) → u + n ≤ words → top_named words (top.Full n) u ≡ []
+named_look : (words n u : ℕ) → u + n ≤ words → acts_of_top_load words (top.Full n) u ≡ []
 named_look words n u l = ap (λ b. cond b (ReserveFull n u ∷ []) []) (le-ltb words (u + n) l)
 
 suc_not_zero : (n : ℕ) → (suc n == 0) ≡ false
 suc_not_zero n = grind (arith, nat_tests)
 
 -- the words of a range that was just reserved
-pub own_range : (place n : ℕ) (j k : Known) (ws : List ℕ) → length ws ≡ n → k.grasp ≡ with_range j.grasp place ws → IsOwn place n k
+pub own_range : (place n : ℕ) (j k : Known) (ws : List ℕ) → length ws ≡ n → k.holdings ≡ with_range j.holdings place ws → IsOwn place n k
 own_range place zero j k ws long e = refl
-own_range place (suc n) j k ws long e = ap (λ b. length (cond b [] (words_at place k.grasp.ranges))) (suc_not_zero n) ∙ (ap (λ (h : Grasp). length (words_at place h.ranges)) e ∙ (ap (λ b. length (cond b ws (words_at place j.grasp.ranges))) (eq_self place) ∙ long))
+own_range place (suc n) j k ws long e = ap (λ b. length (cond b [] (words_at place k.holdings.ranges))) (suc_not_zero n) ∙ (ap (λ (h : Holdings). length (words_at place h.ranges)) e ∙ (ap (λ b. length (cond b ws (words_at place j.holdings.ranges))) (eq_self place) ∙ long))
 
-module _ {S : Type 0} {stands : S → Standing} {knows : S → Known → Type 0} {a b : S} (fits : (s : S) (k : Known) → knows s k → IsOf (stands s) k) (inside : (stands a).role ≡ Within) (n u words : ℕ) (some : n ≢ 0) (looked : Took stands knows a b (top_named words (top.Full n) u) anything (λ j k. ShowsUsed u k × keeps j k)) where
+module _ {S : Type 0} {stands : S → Standing} {knows : S → Known → Type 0} {a b : S} (fits : (s : S) (k : Known) → knows s k → IsOf (stands s) k) (inside : (stands a).role ≡ Within) (n u words : ℕ) (some : n ≢ 0) (looked : Took stands knows a b (acts_of_top_load words (top.Full n) u) anything (λ j k. ShowsUsed u k × keeps j k)) where
   pub reserve_full : words < u + n → Called knows a b anything (λ j k. reserve n) (Err (SpaceFull u)) (by_steps 1 keeps)
   reserve_full l = called_by (λ k s m.
       let g = looked.goes k s tt in
@@ -98,9 +98,9 @@ module _ {S : Type 0} {stands : S → Standing} {knows : S → Known → Type 0}
     reserve_won t = called_by (λ k s m.
         let j = first k s in
         let g = t.goes j.0 j.1 (was_used k s) in
-        let e : g.0.grasp ≡ with_range k.grasp u g.3.0 = g.3.2 ∙ ap (λ h. with_range h u g.3.0) j.4 in
+        let e : g.0.holdings ≡ with_range k.holdings u g.3.0 = g.3.2 ∙ ap (λ h. with_range h u g.3.0) j.4 in
         let d = did_then [] (Reserve n ∷ []) j.2 (goes_did g.2) in
-        (g.0, g.1, Reserve n ∷ [], record { did = d; is = reserved n some; window = window_act (Reserve n) d tt tt; grounds = tt; shows = (gains n u k g.0 some g.3.0 g.3.1 e (subst (λ (h : Grasp). words_at u h.ranges ≡ []) j.4 g.3.3), reserved_steps n k g.0 some (two_steps k j.0 g.0 j.5 g.2.taken)) }))
+        (g.0, g.1, Reserve n ∷ [], record { did = d; is = reserved n some; window = window_act (Reserve n) d tt tt; grounds = tt; shows = (gains n u k g.0 some g.3.0 g.3.1 e (subst (λ (h : Holdings). words_at u h.ranges ≡ []) j.4 g.3.3), reserved_steps n k g.0 some (two_steps k j.0 g.0 j.5 g.2.taken)) }))
 
     pub reserve_lost : {c : S} (found : ℕ) → ((k : Known) → knows a k → k.config.words ≡ words) → Took stands knows b c (ReserveLost n u found ∷ []) (WasUsed u) (ShowsRange u n (Err found)) → Called knows a c anything (λ j k. reserve n) (Err (Raced u found)) (by_steps 2 keeps)
     reserve_lost found same t = called_by (λ k s m.
@@ -108,7 +108,7 @@ module _ {S : Type 0} {stands : S → Standing} {knows : S → Known → Type 0}
         let g = t.goes j.0 j.1 (was_used k s) in
         let d = did_then [] (ReserveLost n u found ∷ []) j.2 (goes_did g.2) in
         let room_here : u + n ≤ g.0.config.words = subst (λ z. u + n ≤ z) (sym (ap (λ (c : Config). c.words) d.config ∙ same k s)) room in
-        let e : g.0.grasp ≡ k.grasp = g.3 ∙ j.4 in (
+        let e : g.0.holdings ≡ k.holdings = g.3 ∙ j.4 in (
           g.0,
           g.1,
           ReserveLost n u found ∷ [],

@@ -9,8 +9,8 @@ use Rattle.jr_model.specs.State.{Contents}
 use Rattle.jr_model.specs.Frames.{Frames}
 use Rattle.jr_model.specs.Calls.{Call, Ran, done}
 use Rattle.jr_steps.specs.declared.known.Known.{Known}
-use Rattle.jr_steps.specs.Grasping.{words_at, header_in, with_range, with_header}
-use Rattle.jr_steps.specs.Knowing.{view, state_of, keeps, published, KnowsHeader, IsFilled, IsWordNow, ShowsObject, Takes}
+use Rattle.jr_steps.specs.Holdings.{words_at, header_in, with_range, with_header}
+use Rattle.jr_steps.specs.Knowing.{view, state_of, keeps, without_range_of, KnowsHeader, IsFilled, IsWordNow, ShowsObject, Takes}
 
 module _ {S : Type 0} (knows : S → Known → Type 0) where
   -- A CALL WAS MADE in a stay: for whatever was known and meets the condition, something is known from which the thread did what the call does, with this answer, and left the frames as they were; and it shows this. The call may name what was known and what is
@@ -43,12 +43,12 @@ abbrev pub header_of : Kind → ℕ → ℕ → HeaderParts
 header_of kind place n = record { kind = kind; length = n; place = place }
 
 -- the n words of the pass's own range at a place: none of an empty one
-abbrev pub words_of : ℕ → ℕ → Known → List ℕ
-words_of place n k = cond (n == 0) [] (words_at place k.grasp.ranges)
+abbrev pub own_words : ℕ → ℕ → Known → List ℕ
+own_words place n k = cond (n == 0) [] (words_at place k.holdings.ranges)
 
 -- the n words at the place are the pass's own in this stay
 abbrev pub IsOwn : ℕ → ℕ → Known → Type 0
-IsOwn place n k = length (words_of place n k) ≡ n
+IsOwn place n k = length (own_words place n k) ≡ n
 
 -- they are, and each of them may be an element of the kind
 abbrev pub IsReady : Kind → ℕ → ℕ → Known → Type 0
@@ -57,7 +57,7 @@ IsReady kind place n k = IsFilled (header_of kind place n) k
 -- what a reservation of n words gives: so many words of the pass's own at the place, where it had none
 abbrev pub Gains : ℕ → ℕ → Known → Known → Type 0
 Gains zero place j k = keeps j k
-Gains (suc n) place j k = (ws : List ℕ) × (length ws ≡ suc n) × (k.grasp ≡ with_range j.grasp place ws) × (words_at place j.grasp.ranges ≡ [])
+Gains (suc n) place j k = (ws : List ℕ) × (length ws ≡ suc n) × (k.holdings ≡ with_range j.holdings place ws) × (words_at place j.holdings.ranges ≡ [])
 
 -- the refusal is none of a lost race
 abbrev pub IsNotRaced : Fault → Type 0
@@ -75,19 +75,19 @@ refused_steps _ = 2
 
 -- what a filling changes: each of the n words at the place is v then, and nothing else that the pass holds is other
 pub record Fills (place n v : ℕ) (j k : Known) : Type 0 where
-  pub words : words_of place n k ≡ replicate n v
-  pub headers : k.grasp.headers ≡ j.grasp.headers
-  pub others : (p : ℕ) → (p ≢ place) ⊎ (n ≡ 0) → words_at p k.grasp.ranges ≡ words_at p j.grasp.ranges
+  pub words : own_words place n k ≡ replicate n v
+  pub headers : k.holdings.headers ≡ j.holdings.headers
+  pub others : (p : ℕ) → (p ≢ place) ⊎ (n ≡ 0) → words_at p k.holdings.ranges ≡ words_at p j.holdings.ranges
 
 -- OBJECTS
 
 -- the number of a turn of a look that begins behind `first` and goes round
-abbrev pub number_of : ℕ → ℕ → ℕ → ℕ
-number_of first turn objects = cond (nat_lt (first + turn) objects) (first + turn + 1) (first + turn - objects + 1)
+abbrev pub number_at_turn : ℕ → ℕ → ℕ → ℕ
+number_at_turn first turn objects = cond (nat_lt (first + turn) objects) (first + turn + 1) (first + turn - objects + 1)
 
 -- what a publication shows: the object has the words of the range, which is the pass's own no more, and its header, of an object of which the pass knew none, is known from now on; and a refused one takes nothing from the pass
 abbrev pub Publishes : Kind → ℕ → ℕ → Result ℕ Fault → Known → Known → Type 0
-Publishes kind place n (Ok o) j k = ((state_of k).objects o ≡ Some (record { kind = kind; words = words_of place n j })) × (k.grasp ≡ with_header (published (header_of kind place n) j.grasp) o (header_of kind place n)) × (header_in o j.grasp.headers ≡ None)
+Publishes kind place n (Ok o) j k = ((state_of k).objects o ≡ Some (record { kind = kind; words = own_words place n j })) × (k.holdings ≡ with_header (without_range_of (header_of kind place n) j.holdings) o (header_of kind place n)) × (header_in o j.holdings.headers ≡ None)
 Publishes kind place n (Err e) j k = keeps j k
 
 -- the pass knows the header, and the present object has its kind and length
@@ -101,11 +101,11 @@ HasKind o kind k = (x : Contents) × ((state_of k).objects o ≡ Some x) × (x.k
 
 -- what a look at a header shows: the pass knows it from then on, and it is the one that it knew before, if any
 abbrev pub Learns : ℕ → HeaderParts → Known → Known → Type 0
-Learns o h j k = ShowsObject o h k × (k.grasp ≡ with_header j.grasp o h) × ((g : HeaderParts) → header_in o j.grasp.headers ≡ Some g → g ≡ h)
+Learns o h j k = ShowsObject o h k × (k.holdings ≡ with_header j.holdings o h) × ((g : HeaderParts) → header_in o j.holdings.headers ≡ Some g → g ≡ h)
 
 -- what a call at an element leaves: the object has this kind and length still, and the pass holds what it held
-abbrev pub Leaves : ℕ → HeaderParts → Known → Known → Type 0
-Leaves o h j k = ShowsObject o h k × keeps j k
+abbrev pub LeavesObject : ℕ → HeaderParts → Known → Known → Type 0
+LeavesObject o h j k = ShowsObject o h k × keeps j k
 
 -- the pass read the header of the object, beside what it holds
 abbrev pub Relearns : ℕ → Known → Known → Type 0
@@ -127,9 +127,9 @@ abbrev pub MayBeNamedIn : ℕ → ℕ → Known → Type 0
 MayBeNamedIn o v k = (x : Contents) → (state_of k).objects o ≡ Some x → MayBeNamed x.kind v k
 
 -- the element that was read is a word of the kind: in an object array 0, or the number of an object that is present then
-abbrev pub ShowsElement : Kind → Result ℕ Fault → Known → Type 0
-ShowsElement kind answer k = IfOk answer (λ v. IsWordNow kind v k)
+abbrev pub ReadsOfKind : Kind → Result ℕ Fault → Known → Type 0
+ReadsOfKind kind answer k = IfOk answer (λ v. IsWordNow kind v k)
 
 -- the same for the object's own kind
 abbrev pub ShowsElementOf : ℕ → Result ℕ Fault → Known → Type 0
-ShowsElementOf o answer k = (x : Contents) → (state_of k).objects o ≡ Some x → ShowsElement x.kind answer k
+ShowsElementOf o answer k = (x : Contents) → (state_of k).objects o ≡ Some x → ReadsOfKind x.kind answer k

@@ -12,7 +12,7 @@ use Rattle.jr_model.specs.History.{PassView, role_of, Did}
 use Rattle.jr_model.specs.Refusals.{Sometime}
 use Rattle.jr_steps.specs.declared.known.Known.{Known}
 use Rattle.jr_steps.specs.Knowing.{view, keeps, KnowsHeader, ShowsHeader, ShowsPublished, ShowsRange, ShowsWord}
-use Rattle.jr_heap.specs.Heap.{Gains, Fills, Publishes, HoldsHeader, Learns, Relearns, Leaves}
+use Rattle.jr_heap.specs.Heap.{Gains, Fills, Publishes, HoldsHeader, Learns, Relearns, LeavesObject}
 
 -- while the pass is within and does not leave, and goes on knowing the header, the object has its kind and length, whatever else the pass did and holds
 abbrev pub HeadersHold : Type 0
@@ -37,7 +37,7 @@ pub record CallsKeepHeaders : Type 0 where
   pub published : (j k : Known) (kind : Kind) (place n : ℕ) (answer : Result ℕ Fault) → Publishes kind place n answer j k → GoesOnKnowing j k
   pub learned : (j k : Known) (o : ℕ) (h : HeaderParts) → Learns o h j k → GoesOnKnowing j k
   pub looked : (j k : Known) (o : ℕ) → Relearns o j k → GoesOnKnowing j k
-  pub left : (j k : Known) (o : ℕ) (h : HeaderParts) → Leaves o h j k → GoesOnKnowing j k
+  pub left : (j k : Known) (o : ℕ) (h : HeaderParts) → LeavesObject o h j k → GoesOnKnowing j k
 
 -- the object's list has v at the index
 abbrev pub HasElement : ℕ → ℕ → ℕ → State → Type 0

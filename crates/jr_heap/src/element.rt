@@ -2,7 +2,7 @@
 ghost use Rattle.std.specs.Prelude.{◌≡◌, ◌+◌, ◌||◌, true, IfOk};
 ghost use Rattle.jr_model.specs.declared.event.Role.TheVariants.{Within};
 ghost use Rattle.jr_model.specs.Parts.{read_element as reading, write_element as writing};
-ghost use Rattle.jr_model.specs.Tests.{is_plain as is_plain_of, is_text as is_text_of, is_value as is_value_of};
+ghost use Rattle.jr_model.specs.Checks.{is_plain as is_plain_of, is_text as is_text_of, is_value as is_value_of};
 ghost use Rattle.jr_steps.specs.Knowing.{state_of, HasObject, MayKnow};
 ghost use Rattle.jr_heap.specs.Heap.{
   Called,
@@ -43,7 +43,7 @@ pub fn read_element<S: Steps>(
     requires role { (S.stands steps.old).role ≡ Within }
     requires known { MayKnow S.knows steps.old (HoldsHeader object header) }
     ensures stands { S.stands steps.new ≡ S.stands steps.old }
-    ensures call { Called S.knows steps.old steps.new (HoldsHeader object header) (λ j k. reading (state_of k) object index) result (by_steps (element_steps result) (λ j k. Leaves object header j k × ShowsElement header.kind result k)) }
+    ensures call { Called S.knows steps.old steps.new (HoldsHeader object header) (λ j k. reading (state_of k) object index) result (by_steps (element_steps result) (λ j k. LeavesObject object header j k × ReadsOfKind header.kind result k)) }
     ensures value { IfOk result (λ v. is_value_of header.kind v ≡ true) }
     ensures known { MayKnow S.knows steps.new (HoldsHeader object header) }
 {
@@ -79,7 +79,7 @@ pub fn write_element<S: Steps>(
     requires role { (S.stands steps.old).role ≡ Within }
     requires known { MayKnow S.knows steps.old (λ k. HoldsHeader object header k × MayBeNamed header.kind word k) }
     ensures stands { S.stands steps.new ≡ S.stands steps.old }
-    ensures call { Called S.knows steps.old steps.new (λ k. HoldsHeader object header k × MayBeNamed header.kind word k) (λ j k. writing (state_of k) object index word) result (by_steps (element_steps result) (Leaves object header)) }
+    ensures call { Called S.knows steps.old steps.new (λ k. HoldsHeader object header k × MayBeNamed header.kind word k) (λ j k. writing (state_of k) object index word) result (by_steps (element_steps result) (LeavesObject object header)) }
     ensures known { MayKnow S.knows steps.new (HoldsHeader object header) }
 {
     if is_constant(header.kind) {

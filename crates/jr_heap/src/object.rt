@@ -5,7 +5,7 @@ ghost use Rattle.jr_word.specs.declared.kind.Kind.TheVariants.{Plain};
 ghost use Rattle.jr_model.specs.declared.event.Role.TheVariants.{Within};
 ghost use Rattle.jr_model.specs.Parts.{publish as publication, header as header_call};
 ghost use Rattle.jr_steps.specs.Knowing.{state_of, HasObject, MayKnow};
-ghost use Rattle.jr_heap.specs.Heap.{Called, header_of, number_of, words_of, IsReady, Publishes, HoldsHeader, Learns, by_at_most, by_steps};
+ghost use Rattle.jr_heap.specs.Heap.{Called, header_of, number_at_turn, own_words, IsReady, Publishes, HoldsHeader, Learns, by_at_most, by_steps};
 ghost use Rattle.jr_heap.specs.Ranges.{place_of, size_of};
 
 use crate::range::Range;
@@ -38,7 +38,7 @@ fn number(first: u32, turn: u32, objects: u32) -> u16
     requires first { first < objects }
     requires turn { turn < objects }
     requires few { objects ≤ MOST_OBJECTS }
-    ensures number { result ≡ number_of first turn objects }
+    ensures number { result ≡ number_at_turn first turn objects }
     ensures range { (1 ≤ result) × (result ≤ objects) }
 {
     let next = first + turn;
@@ -59,7 +59,7 @@ pub fn publish<S: Steps>(
     requires plain { kind ≡ Plain → size_of range ≡ 0 }
     requires ready { MayKnow S.knows steps.old (IsReady kind (place_of range) (size_of range)) }
     ensures stands { S.stands steps.new ≡ S.stands steps.old }
-    ensures call { Called S.knows steps.old steps.new (IsReady kind (place_of range) (size_of range)) (λ j k. publication kind (words_of (place_of range) (size_of range) j)) result (by_at_most (S.stands steps.old).config.objects (Publishes kind (place_of range) (size_of range) result)) }
+    ensures call { Called S.knows steps.old steps.new (IsReady kind (place_of range) (size_of range)) (λ j k. publication kind (own_words (place_of range) (size_of range) j)) result (by_at_most (S.stands steps.old).config.objects (Publishes kind (place_of range) (size_of range) result)) }
     ensures object { IfOk result (λ o. MayKnow S.knows steps.new (HasObject o)) }
     ensures known { IfOk result (λ o. MayKnow S.knows steps.new (HoldsHeader o (header_of kind (place_of range) (size_of range)))) }
 {

@@ -7,7 +7,7 @@ ghost use Rattle.jr_heap.specs.Heap.{Called, header_of, IsOwn, IsReady, Gains, F
 ghost use Rattle.jr_heap.specs.Ranges.{place_of, size_of};
 
 use crate::range::Range;
-use jr_steps::{Steps, TopNaming};
+use jr_steps::{Steps, TopLoad};
 use jr_word::{Fault, HeaderParts, Kind};
 
 impl Range {
@@ -46,7 +46,7 @@ pub fn reserve<S: Steps>(steps: &mut S, words: u32) -> Result<Range, Fault>
         });
     }
     let space = steps.config().words;
-    let used = steps.see_top(TopNaming::Full { words });
+    let used = steps.see_top(TopLoad::Full { words });
     if u64::from(used) + u64::from(words) > u64::from(space) {
         return Err(Fault::SpaceFull(used));
     }
@@ -69,6 +69,6 @@ pub fn fill<S: Steps>(steps: &mut S, range: &Range, word: u64)
     ensures ready { (kind : Kind) → MayKnow S.knows steps.old (λ k. IsOwn (place_of range.now) (size_of range.now) k × IsWordNow kind word k) → MayKnow S.knows steps.new (IsReady kind (place_of range.now) (size_of range.now)) }
 {
     for index in 0..range.length {
-        steps.put_own(range.place, index, word);
+        steps.put_reserved(range.place, index, word);
     }
 }

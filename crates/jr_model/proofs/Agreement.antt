@@ -11,7 +11,7 @@ use Rattle.jr_model.specs.Maps.{update}
 use Rattle.jr_model.specs.State.{Handle, same_handle, State}
 use Rattle.jr_model.specs.Steps.{act_after, after}
 use Rattle.jr_model.specs.History.{History, state_from, state, mine, PassView, Did}
-use Rattle.jr_model.specs.Frames.{Frames, Agree, AreApart, AreSound, IsNewest, IsAdded, IsMove, pushes, adds, deletes, pops, frees, all_refs, deleted, drop_all, frames_before, freed, is_held, joined, last_frame, object_at, object_of, object_where, popped, pushed, with_last}
+use Rattle.jr_model.specs.Frames.{Frames, Agree, HaveOwnPlaces, AreSound, IsNewest, IsAdded, IsMove, pushes, adds, deletes, pops, frees, all_refs, without_local, drop_all, frames_before, freed, is_held, joined, last_frame, object_at, object_of, object_where, popped, pushed, with_last}
 use Rattle.jr_model.specs.Laws.{FreshAreSound, FramesStaySound, FramesStayAgreed, HandleIsAtPlace}
 use Rattle.jr_model.proofs.Updates.{at_number, eq_self, eq_other, eq_true, eq_false, handle_true}
 use Rattle.jr_model.proofs.Histories.{state_append}
@@ -108,15 +108,15 @@ held_append (x ∷ xs) ys p = go (x.handle.index == p) (held_append xs ys p)
 
 -- two lists of references, one after the other
 pub record AreApartFrom (xs ys : List LocalRef) : Type 0 where
-  pub left : AreApart xs
-  pub right : AreApart ys
+  pub left : HaveOwnPlaces xs
+  pub right : HaveOwnPlaces ys
   pub between : (p : ℕ) → is_held xs p ≡ true → is_held ys p ≡ false
 
 held_head : (x : LocalRef) (rs : List LocalRef) (p : ℕ) → (b : Bool) → (x.handle.index == p) ≡ b → (b || is_held rs p) ≡ true → (ys : List LocalRef) → is_held ys x.handle.index ≡ false → (is_held rs p ≡ true → is_held ys p ≡ false) → is_held ys p ≡ false
 held_head x rs p true e h ys here there = ap (is_held ys) (sym (eq_true x.handle.index p e)) ∙ here
 held_head x rs p false e h ys here there = there h
 
-apart_cut : (xs ys : List LocalRef) → AreApart (xs ++ ys) → AreApartFrom xs ys
+apart_cut : (xs ys : List LocalRef) → HaveOwnPlaces (xs ++ ys) → AreApartFrom xs ys
 apart_cut [] ys a = record { left = tt; right = a; between = λ p e. absurd cc }
 apart_cut (x ∷ xs) ys a =
     let rest = apart_cut xs ys a.1 in
@@ -128,7 +128,7 @@ apart_cut (x ∷ xs) ys a =
     }
 
 -- a reference at a place that none holds
-apart_push : (xs : List LocalRef) (r : LocalRef) → AreApart xs → is_held xs r.handle.index ≡ false → AreApart (xs ++ r ∷ [])
+apart_push : (xs : List LocalRef) (r : LocalRef) → HaveOwnPlaces xs → is_held xs r.handle.index ≡ false → HaveOwnPlaces (xs ++ r ∷ [])
 apart_push [] r a e = (refl, tt)
 apart_push (x ∷ xs) r a e =
     let other : x.handle.index ≢ r.handle.index = eq_false x.handle.index r.handle.index (or_left (x.handle.index == r.handle.index) (is_held xs r.handle.index) e) in
@@ -207,7 +207,7 @@ module _ (last thread : ℕ) (f g : Frames) (r : LocalRef) (a : IsAdded last thr
       record {
         some_frame = let l = s.some_frame in omega arith;
         few_frames = let l = s.few_frames in omega arith;
-        apart = subst AreApart (sym (added_refs s.some_frame)) (apart_push (all_refs f) r s.apart unheld);
+        apart = subst HaveOwnPlaces (sym (added_refs s.some_frame)) (apart_push (all_refs f) r s.apart unheld);
         newest = subst (AllByRecursion (IsNewest g)) (sym (added_refs s.some_frame)) (all_push (IsNewest g) (all_refs f) r newest_before newest_here);
       }
     where
@@ -249,11 +249,11 @@ held_filter k (x ∷ xs) p e = go (k x) (or_left (x.handle.index == p) (is_held 
     go true h r = rw h r
     go false h r = r
 
-apart_filter : (k : LocalRef → Bool) (xs : List LocalRef) → AreApart xs → AreApart (filter k xs)
+apart_filter : (k : LocalRef → Bool) (xs : List LocalRef) → HaveOwnPlaces xs → HaveOwnPlaces (filter k xs)
 apart_filter k [] a = tt
 apart_filter k (x ∷ xs) a = go (k x) (held_filter k xs x.handle.index a.0) (apart_filter k xs a.1)
   where
-    go : (b : Bool) → is_held (filter k xs) x.handle.index ≡ false → AreApart (filter k xs) → AreApart (cond b (x ∷ filter k xs) (filter k xs))
+    go : (b : Bool) → is_held (filter k xs) x.handle.index ≡ false → HaveOwnPlaces (filter k xs) → HaveOwnPlaces (cond b (x ∷ filter k xs) (filter k xs))
     go true h r = (h, r)
     go false h r = r
 
@@ -279,7 +279,7 @@ elsewhere h x xs free held = go (x.handle.index == h.index) refl
     go false e = refl
 
 -- nothing is left at the place of a handle that is taken out
-place_left : (h : Handle) (xs : List LocalRef) → AreApart xs → IsSome (object_where (λ r. same_handle r.handle h) xs) → is_held (filter (other_than h) xs) h.index ≡ false
+place_left : (h : Handle) (xs : List LocalRef) → HaveOwnPlaces xs → IsSome (object_where (λ r. same_handle r.handle h) xs) → is_held (filter (other_than h) xs) h.index ≡ false
 place_left h [] a e = refl
 place_left h (x ∷ xs) a e = go (same_handle x.handle h) refl e (place_left h xs a.1)
   where
@@ -307,7 +307,7 @@ other_place h (x ∷ xs) p ne = go (same_handle x.handle h) refl (other_place h 
 pub handle_is_at_place : HandleIsAtPlace
 handle_is_at_place f h o s = at_list (all_refs f) s.apart
   where
-    at_list : (xs : List LocalRef) → AreApart xs → object_where (λ r. same_handle r.handle h) xs ≡ Some o → object_where (λ r. r.handle.index == h.index) xs ≡ Some o
+    at_list : (xs : List LocalRef) → HaveOwnPlaces xs → object_where (λ r. same_handle r.handle h) xs ≡ Some o → object_where (λ r. r.handle.index == h.index) xs ≡ Some o
     at_list [] a e = absurd cc
     at_list (x ∷ xs) a e = go (same_handle x.handle h) refl e (at_list xs a.1)
       where
@@ -321,20 +321,20 @@ handle_is_at_place f h o s = at_list (all_refs f) s.apart
         go false is e rest = rw (elsewhere h x xs a.0 (standing_held h xs (subst (λ z. IsSome z) (sym e) refl))) (rest e)
 
 module _ (f : Frames) (h : Handle) (s : AreSound f) where
-  pub deleted_refs : all_refs (deleted f h) ≡ filter (other_than h) (all_refs f)
+  pub deleted_refs : all_refs (without_local f h) ≡ filter (other_than h) (all_refs f)
   deleted_refs = joined_filter (other_than h) f.frames
 
-  pub deleted_sound : AreSound (deleted f h)
+  pub deleted_sound : AreSound (without_local f h)
   deleted_sound =
-      let same : length (deleted f h).frames ≡ length f.frames = length-map f.frames (filter (other_than h)) in
+      let same : length (without_local f h).frames ≡ length f.frames = length-map f.frames (filter (other_than h)) in
       record {
         some_frame = let l = s.some_frame in omega arith;
         few_frames = let l = s.few_frames in omega arith;
-        apart = subst AreApart (sym deleted_refs) (apart_filter (other_than h) (all_refs f) s.apart);
+        apart = subst HaveOwnPlaces (sym deleted_refs) (apart_filter (other_than h) (all_refs f) s.apart);
         newest = subst (AllByRecursion (IsNewest f)) (sym deleted_refs) (all_filter (IsNewest f) (other_than h) (all_refs f) s.newest);
       }
 
-  pub deleted_at : IsSome (object_of f h) → (l : ℕ → Option ℕ) → ((p : ℕ) → l p ≡ object_at f p) → (p : ℕ) → update nat_eq l h.index None p ≡ object_at (deleted f h) p
+  pub deleted_at : IsSome (object_of f h) → (l : ℕ → Option ℕ) → ((p : ℕ) → l p ≡ object_at f p) → (p : ℕ) → update nat_eq l h.index None p ≡ object_at (without_local f h) p
   deleted_at stands l agree p =
       at_number (λ z. z ≡ object_where (λ r. r.handle.index == p) (filter (other_than h) (all_refs f))) l h.index p None
       (λ e. sym (object_free (filter (other_than h) (all_refs f)) p (ap (is_held (filter (other_than h) (all_refs f))) (sym e) ∙ place_left h (all_refs f) s.apart stands)))
@@ -379,7 +379,7 @@ not_both xs ys p between held = go (is_held xs p) refl
 
 module _ (f : Frames) (s : AreSound f) where
   pub cut_last : AreApartFrom (joined (frames_before f.frames)) (last_frame f.frames)
-  cut_last = apart_cut (joined (frames_before f.frames)) (last_frame f.frames) (subst AreApart (joined_before f.frames) s.apart)
+  cut_last = apart_cut (joined (frames_before f.frames)) (last_frame f.frames) (subst HaveOwnPlaces (joined_before f.frames) s.apart)
 
   pub popped_sound : 2 ≤ length f.frames → AreSound (popped f)
   popped_sound l =
@@ -415,7 +415,7 @@ pushed_sound f s l =
     record {
       some_frame = omega arith;
       few_frames = omega arith;
-      apart = subst AreApart (sym (joined_push f.frames)) s.apart;
+      apart = subst HaveOwnPlaces (sym (joined_push f.frames)) s.apart;
       newest = subst (AllByRecursion (IsNewest f)) (sym (joined_push f.frames)) s.newest;
     }
 

@@ -7,10 +7,10 @@ use Rattle.jr_model.specs.declared.event.Found.TheVariants.{Cleared}
 use Rattle.jr_model.specs.declared.event.Act.TheVariants.{Enter, Leave, Look}
 use Rattle.jr_word.specs.declared.handle.RefKind.TheVariants.{Weak}
 use Rattle.jr_model.specs.Frames.{Frames}
-use Rattle.jr_model.specs.Tests.{Parts, is_array, is_primitive, is_text, type_found}
+use Rattle.jr_model.specs.Checks.{Parts, is_array, is_primitive, is_text, type_found}
 use Rattle.jr_model.specs.References.{get_object_ref_type, resolved}
 use Rattle.jr_model.specs.Parts.{not_null}
-use Rattle.jr_model.specs.Calls.{Call, ◌>>=◌, ◌>>◌, done, refuse_if, with_header}
+use Rattle.jr_model.specs.Calls.{Call, ◌>>=◌, ◌>>◌, done, refuse_if, for_object}
 use Rattle.jr_model.specs.declared.frames.TheConstants.{LEVELS}
 use Rattle.jr_model.specs.State.{Contents}
 use Rattle.jr_model.specs.Examples.{last_serial, w}
@@ -169,10 +169,10 @@ second_level = record {
     string = record { kind = Text; words = 104 ∷ 105 ∷ [] }
 
     text_level : ℕ → ℕ → Call ℕ
-    text_level levels o = with_header with_text o (λ k n. refuse_if (not (is_text k)) fault.WrongKind >> (refuse_if (nat_le LEVELS levels) fault.Size >> done o))
+    text_level levels o = for_object with_text o (λ k n. refuse_if (not (is_text k)) fault.WrongKind >> (refuse_if (nat_le LEVELS levels) fault.Size >> done o))
 
     array_level : ℕ → Call ℕ
-    array_level o = with_header with_text o (λ k n. refuse_if (not (is_array k)) fault.NotArray >> (refuse_if (not (is_primitive k)) fault.WrongElement >> (refuse_if (nat_le LEVELS 1) fault.Size >> done o)))
+    array_level o = for_object with_text o (λ k n. refuse_if (not (is_array k)) fault.NotArray >> (refuse_if (not (is_primitive k)) fault.WrongElement >> (refuse_if (nat_le LEVELS 1) fault.Size >> done o)))
 
     -- the reference is resolved without an act, and then this follows
     found : {A : Type 0} {answer : Result A Fault} (next : ℕ → Call A) → next 3 named [] answer named → (resolved quiet_room last_serial 0 (Parts never_given) >>= (λ x. not_null x >>= next)) named [] answer named

@@ -10,7 +10,7 @@ use Rattle.jr_model.specs.declared.event.Act.TheVariants.{Shut, Create, Delete, 
 use Rattle.jr_model.specs.State.{Handle, same_handle, Contents, State, present_words}
 use Rattle.jr_model.specs.Steps.{Needs, ActNeeds, act_after, after}
 use Rattle.jr_model.specs.History.{History, by, state, state_from, IsLegal, IsLegalFrom, mine, PassView, Did}
-use Rattle.jr_model.specs.Wholes.{IsToClear, IsToDrop, IsWhole, IsExact, KeepsReached, sweeping_acts, collection_acts, CollectionIn, Collects}
+use Rattle.jr_model.specs.CollectionCalls.{IsToClear, IsToDrop, IsWhole, IsExact, KeepsReached, sweeping_acts, collection_acts, CollectionIn, Collects}
 use Rattle.jr_model.specs.Laws.{CollectionIsExact}
 use Rattle.jr_model.proofs.Updates.{at_number, at_number_self, at_handle, at_handle_self, eq_self, eq_true, eq_false, handle_true}
 use Rattle.jr_model.proofs.Histories.{legal_append, legal_from_append, state_append, state_from_append, mine_append}

@@ -6,7 +6,7 @@ use Rattle.jr_model.specs.declared.event.Act.{Act}
 use Rattle.jr_model.specs.declared.event.Act.TheVariants.{New, Read, Write, Drop}
 use Rattle.jr_model.specs.State.{Contents, State}
 use Rattle.jr_model.specs.Steps.{ActNeeds, act_after, written}
-use Rattle.jr_model.specs.History.{History, by, state, IsLegal, makes, writes, IsLastWord, from_new, from_write}
+use Rattle.jr_model.specs.History.{History, by, state, IsLegal, makes_object, writes, IsLastWord, from_new, from_write}
 use Rattle.jr_model.specs.Laws.{ReadsLastWord}
 use Rattle.jr_model.proofs.Updates.{at_number, eq_other}
 use Rattle.jr_model.proofs.Histories.{legal_append, legal_induction, state_push, all_push}
@@ -20,7 +20,7 @@ and_false_right true b e = e
 and_false_right false b e = refl
 
 -- an event that does not touch the element
-later : (o i v : ℕ) (es : History) (e : Event) → makes o e.act ≡ false → writes o i e.act ≡ false → IsLastWord o i v es → IsLastWord o i v (es ++ e ∷ [])
+later : (o i v : ℕ) (es : History) (e : Event) → makes_object o e.act ≡ false → writes o i e.act ≡ false → IsLastWord o i v es → IsLastWord o i v (es ++ e ∷ [])
 later o i v es e m w (from_new before since t k ws parts at ms ws') =
     from_new before (since ++ e ∷ []) t k ws (ap (λ l. l ++ e ∷ []) parts ∙ append_assoc before (by t (New o k ws) ∷ since) (e ∷ [])) at (all_push _ since e ms m) (all_push _ since e ws' w)
 later o i v es e m w (from_write before since t parts ms ws') =

@@ -15,9 +15,9 @@ use Rattle.jr_model.specs.declared.frames.Mode.{Mode}
 use Rattle.jr_model.specs.declared.frames.Mode.TheVariants.{Copy, Commit, Abort}
 use Rattle.jr_model.specs.declared.frames.TheConstants.{FRAMES, LEVELS}
 use Rattle.jr_model.specs.State.{Handle, State}
-use Rattle.jr_model.specs.Frames.{Frames, LeadsTo, stays, goes_on, pushes, adds, deletes, pops, frees, deleted, free_places, object_of, popped, pushed}
-use Rattle.jr_model.specs.Calls.{Call, ◌>>=◌, ◌>>◌, act, done, entered, opened, one_of, refuse, refuse_if, some_act, with_header}
-use Rattle.jr_model.specs.Tests.{Word, Nothing, Malformed, Parts, is_array, is_foreign, is_local, is_malformed, is_of_kind, is_objects, is_out_of_bounds, is_primitive, is_text, same_element, type_local}
+use Rattle.jr_model.specs.Frames.{Frames, LeadsTo, stays, goes_on, pushes, adds, deletes, pops, frees, without_local, free_places, object_of, popped, pushed}
+use Rattle.jr_model.specs.Calls.{Call, ◌>>=◌, ◌>>◌, act, done, entered, opened, one_of, refuse, refuse_if, some_act, for_object}
+use Rattle.jr_model.specs.Checks.{Word, Nothing, Malformed, Parts, is_array, is_foreign, is_local, is_malformed, is_of_kind, is_objects, is_out_of_bounds, is_primitive, is_text, same_element, type_local}
 use Rattle.jr_model.specs.Parts.{create, created, delete_at, delete_found, delete_local_at, drop_local, found_object, frame_left, frame_to_pop, local_object, look, looked, looked_at, new_frame, not_null, probes, publish, read, reserve, take_frame, type_at, write}
 use Rattle.jr_model.specs.References.{resolved, resolved_both, room_for, room_after, added, new_local, made, delete_local, local_removal, freeing, popping}
 use Rattle.jr_model.specs.Objects.{copying_back, length_reading, level_array, level_string, part_of, release_array_elements}
@@ -72,7 +72,7 @@ module _ (last thread : ℕ) where
       leads old new acts answer (inl r) = a.leads old new acts answer r
       leads old new acts answer (inr r) = b.leads old new acts answer r
 
-  header_moves : {A : Type 0} (s : State) (o : ℕ) {next : Kind → ℕ → Call A} → ((k : Kind) (n : ℕ) → MovesFrames last thread (next k n)) → MovesFrames last thread (with_header s o next)
+  header_moves : {A : Type 0} (s : State) (o : ℕ) {next : Kind → ℕ → Call A} → ((k : Kind) (n : ℕ) → MovesFrames last thread (next k n)) → MovesFrames last thread (for_object s o next)
   header_moves s o q = record { leads = λ old new acts answer r. (q _ _).leads old new acts answer r.2 }
 
   cond_moves : {A : Type 0} (b : Bool) {p q : Call A} → MovesFrames last thread p → MovesFrames last thread q → MovesFrames last thread (cond b p q)
@@ -198,7 +198,7 @@ module _ (last thread : ℕ) where
         leads : (old new : Frames) (acts : List Act) (answer : Result (Unit {0}) Fault) → (looked_at h >> drop_local h) old acts answer new → LeadsTo last thread old new
         leads old new acts answer (inl r) =
             let found = local_stands h is old r.1 r.2 r.0 r.5 in
-            subst (LeadsTo last thread old) (sym (r.6.2 ∙ ap (λ (f : Frames). deleted f h) found.1)) (goes_on stays (deletes h found.0))
+            subst (LeadsTo last thread old) (sym (r.6.2 ∙ ap (λ (f : Frames). without_local f h) found.1)) (goes_on stays (deletes h found.0))
         leads old new acts answer (inr r) = (looked_at_moves h).leads old new acts (Err r.0) r.2
 
     -- a reference that is taken out of its frame where it is a local one that stands
@@ -288,7 +288,7 @@ module _ (last thread : ℕ) where
     -- OBJECTS
 
     module _ (s : State) where
-      element_moves : (o i : ℕ) → MovesFrames last thread (with_header s o (λ k n. refuse_if (not (is_array k)) NotArray >> (refuse_if (not (is_objects k)) WrongElement >> refuse_if (nat_le n i) Range)))
+      element_moves : (o i : ℕ) → MovesFrames last thread (for_object s o (λ k n. refuse_if (not (is_array k)) NotArray >> (refuse_if (not (is_objects k)) WrongElement >> refuse_if (nat_le n i) Range)))
       element_moves o i = header_moves s o (λ k n. bind_moves (check_moves (not (is_array k)) NotArray) (λ x. bind_moves (check_moves (not (is_objects k)) WrongElement) (λ y. check_moves (nat_le n i) Range)))
 
       part_moves : (k : Kind) (start n : ℕ) (a : Word) → MovesFrames last thread (part_of c last thread s k start n a)

@@ -8,8 +8,8 @@ use Rattle.jr_model.specs.declared.event.Act.{Act}
 use Rattle.jr_model.specs.declared.event.Act.TheVariants.{Enter, Leave, Reserve}
 use Rattle.jr_model.specs.State.{State}
 use Rattle.jr_model.specs.Frames.{Frames}
-use Rattle.jr_model.specs.Calls.{Call, ◌>>=◌, act, done, refuse, refuse_if, some_act, one_of, with_header, entered, opened}
-use Rattle.jr_model.specs.Unchanged.{is_harmless, may_precede, ChangesNothing}
+use Rattle.jr_model.specs.Calls.{Call, ◌>>=◌, act, done, refuse, refuse_if, some_act, one_of, for_object, entered, opened}
+use Rattle.jr_model.specs.RefusedCalls.{is_harmless, may_precede, ChangesNothing}
 use Rattle.jr_model.proofs.Exactly.{append_all}
 
 -- all of the acts change nothing
@@ -140,10 +140,10 @@ one_of_safe {A} {p} {q} a b = record { frames = frames; acts = acts_of }
     acts_of old new acts e (inl r) = a.acts old new acts e r
     acts_of old new acts e (inr r) = b.acts old new acts e r
 
-pub header_safe : {A : Type 0} (s : State) (o : ℕ) {next : Kind → ℕ → Call A} → ((k : Kind) (n : ℕ) → ChangesNothing (next k n)) → ChangesNothing (with_header s o next)
+pub header_safe : {A : Type 0} (s : State) (o : ℕ) {next : Kind → ℕ → Call A} → ((k : Kind) (n : ℕ) → ChangesNothing (next k n)) → ChangesNothing (for_object s o next)
 header_safe s o q = record { frames = λ old new acts e r. (q _ _).frames old new acts e r.2; acts = λ old new acts e r. (q _ _).acts old new acts e r.2 }
 
-pub header_calm : {A : Type 0} (s : State) (o : ℕ) {next : Kind → ℕ → Call A} → ((k : Kind) (n : ℕ) → IsCalm (next k n)) → IsCalm (with_header s o next)
+pub header_calm : {A : Type 0} (s : State) (o : ℕ) {next : Kind → ℕ → Call A} → ((k : Kind) (n : ℕ) → IsCalm (next k n)) → IsCalm (for_object s o next)
 header_calm s o q = record {
   quiet = record { frames = λ old new acts x r. (q _ _).quiet.frames old new acts x r.2; acts = λ old new acts x r. (q _ _).quiet.acts old new acts x r.2 };
   safe = header_safe s o (λ k n. (q k n).safe);

@@ -16,12 +16,12 @@ use Rattle.jr_model.specs.declared.frames.Mode.{Mode}
 use Rattle.jr_model.specs.declared.frames.Mode.TheVariants.{Copy, Commit, Abort}
 use Rattle.jr_model.specs.State.{Handle, State}
 use Rattle.jr_model.specs.Frames.{Frames, free_places, object_of, popped}
-use Rattle.jr_model.specs.Calls.{Call, ◌>>=◌, ◌>>◌, done, entered, refuse_if, with_header}
-use Rattle.jr_model.specs.Tests.{Word, Nothing, Malformed, Parts, is_array, is_local, is_objects, is_plain, is_primitive, is_read_as, is_text, is_value, same_element, type_local}
+use Rattle.jr_model.specs.Calls.{Call, ◌>>=◌, ◌>>◌, done, entered, refuse_if, for_object}
+use Rattle.jr_model.specs.Checks.{Word, Nothing, Malformed, Parts, is_array, is_local, is_objects, is_plain, is_primitive, is_read_as, is_text, is_value, same_element, type_local}
 use Rattle.jr_model.specs.Parts.{collect, create, created, delete, delete_at, delete_found, delete_local_at, found_object, frame_left, frame_to_pop, enter, local_object, look, looked, looked_at, not_null, probes, publish, read, reserve, shut, take_frame, type_at, write}
 use Rattle.jr_model.specs.References.{resolved, resolved_both, room_for, room_after, added, new_local, made, delete_local, freeing, popping}
 use Rattle.jr_model.specs.Objects.{part_of, copying_back, length_reading, level_array, level_string, region_release, release_array_elements}
-use Rattle.jr_model.specs.Unchanged.{may_precede, ChangesNothing, RefusalsChangeNothing, HarmlessChangesNothing}
+use Rattle.jr_model.specs.RefusedCalls.{may_precede, ChangesNothing, RefusalsChangeNothing, HarmlessChangesNothing}
 use Rattle.jr_model.proofs.Exactly.{append_all}
 use Rattle.jr_model.proofs.Refused.{AreHarmless, NeverRefuses, IsCalm, never_safe, done_never, done_calm, refuse_calm, refuse_if_calm, act_never, act_calm, some_act_never, some_act_calm, bind_safe, bind_never, never_bind, bind_calm, one_of_safe, header_safe, header_calm, entered_safe, opened_safe}
 
@@ -341,7 +341,7 @@ module _ (c : Config) (last thread : ℕ) (s : State) where
     meet = never_safe (act_never _);
   }
     where
-      element_calm : (o i : ℕ) → IsCalm (with_header s o (λ k n. refuse_if (not (is_array k)) NotArray >> (refuse_if (not (is_objects k)) WrongElement >> refuse_if (nat_le n i) Range)))
+      element_calm : (o i : ℕ) → IsCalm (for_object s o (λ k n. refuse_if (not (is_array k)) NotArray >> (refuse_if (not (is_objects k)) WrongElement >> refuse_if (nat_le n i) Range)))
       element_calm o i = header_calm s o (λ k n. bind_calm (refuse_if_calm (not (is_array k)) NotArray) (λ x. bind_calm (refuse_if_calm (not (is_objects k)) WrongElement) (λ y. refuse_if_calm (nat_le n i) Range)))
 
 -- what the harmless acts leave

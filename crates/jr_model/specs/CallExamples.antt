@@ -9,7 +9,7 @@ use Rattle.jr_model.specs.declared.event.Act.TheVariants.{Enter, Knock, Leave, W
 use Rattle.jr_model.specs.Maps.{update}
 use Rattle.jr_model.specs.State.{Handle, State, opening}
 use Rattle.jr_model.specs.Frames.{Frames, fresh_frames}
-use Rattle.jr_model.specs.Tests.{Nothing, Malformed, Parts}
+use Rattle.jr_model.specs.Checks.{Nothing, Malformed, Parts}
 use Rattle.jr_model.specs.References.{new_reference, delete_reference, is_same_object, get_object_ref_type, pop_local_frame}
 use Rattle.jr_model.specs.Objects.{get_array_length, nest_array, nest_string, region_kind, region_length, elements_get, elements_set, elements_length}
 use Rattle.jr_model.specs.Examples.{last_serial, w}

@@ -57,8 +57,8 @@ abbrev pub unless_memory : {A : Type 0} → Call A → Call A
 unless_memory work = one_of work (refuse Memory)
 
 -- what follows for the kind and the length of the object in s
-abbrev pub with_header : {A : Type 0} → State → ℕ → (Kind → ℕ → Call A) → Call A
-with_header {A} s o next old acts answer new = (x : Contents) × (s.objects o ≡ Some x) × next x.kind (length x.words) old acts answer new
+abbrev pub for_object : {A : Type 0} → State → ℕ → (Kind → ℕ → Call A) → Call A
+for_object {A} s o next old acts answer new = (x : Contents) × (s.objects o ≡ Some x) × next x.kind (length x.words) old acts answer new
 
 -- the work in a stay of its own, or the gate is shut
 abbrev pub entered : {A : Type 0} → Call A → Call A

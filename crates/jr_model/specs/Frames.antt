@@ -70,8 +70,8 @@ pub record IsAdded (last thread : ℕ) (old : Frames) (r : LocalRef) (new : Fram
   pub new_is : new ≡ record { frames = with_last old.frames r; given = slice_set old.given r.handle.index (r.handle.serial + 1) }
 
 -- without a handle, whichever frame has it
-abbrev pub deleted : Frames → Handle → Frames
-deleted f h = record f { frames = map (filter (λ r. not (same_handle r.handle h))) f.frames }
+abbrev pub without_local : Frames → Handle → Frames
+without_local f h = record f { frames = map (filter (λ r. not (same_handle r.handle h))) f.frames }
 
 -- the references of the last frame
 abbrev pub last_frame : List (List LocalRef) → List LocalRef
@@ -98,9 +98,9 @@ abbrev pub Agree : ℕ → Frames → State → Type 0
 Agree thread f s = (p : ℕ) → s.locals thread p ≡ object_at f p
 
 -- no two of the references are at one place
-abbrev pub AreApart : List LocalRef → Type 0
-AreApart [] = Unit {0}
-AreApart (r ∷ rs) = (is_held rs r.handle.index ≡ false) × AreApart rs
+abbrev pub HaveOwnPlaces : List LocalRef → Type 0
+HaveOwnPlaces [] = Unit {0}
+HaveOwnPlaces (r ∷ rs) = (is_held rs r.handle.index ≡ false) × HaveOwnPlaces rs
 
 -- its serial is the last that its place has given
 abbrev pub IsNewest : Frames → LocalRef → Type 0
@@ -110,7 +110,7 @@ IsNewest f r = slice_index f.given r.handle.index ≡ r.handle.serial + 1
 pub record AreSound (f : Frames) : Type 0 where
   pub some_frame : 1 ≤ length f.frames
   pub few_frames : length f.frames ≤ FRAMES
-  pub apart : AreApart (all_refs f)
+  pub apart : HaveOwnPlaces (all_refs f)
   pub newest : AllByRecursion (IsNewest f) (all_refs f)
 
 -- the places of these references are left empty, in order
@@ -121,7 +121,7 @@ drop_all rs = map (λ r. LocalDrop r.handle.index) rs
 pub data IsMove (last thread : ℕ) (f : Frames) : List Act → Frames → Type 0 where
   pushes : length f.frames < FRAMES → IsMove last thread f [] (pushed f)
   adds : {g : Frames} (r : LocalRef) → IsAdded last thread f r g → IsMove last thread f (LocalPut r.handle.index r.object ∷ []) g
-  deletes : (h : Handle) → IsSome (object_of f h) → IsMove last thread f (LocalDrop h.index ∷ []) (deleted f h)
+  deletes : (h : Handle) → IsSome (object_of f h) → IsMove last thread f (LocalDrop h.index ∷ []) (without_local f h)
   pops : 2 ≤ length f.frames → IsMove last thread f (drop_all (last_frame f.frames)) (popped f)
   frees : IsMove last thread f (drop_all (all_refs f)) (freed f)
 

@@ -13,7 +13,7 @@ use Rattle.jr_model.specs.Frames.{Frames}
 use Rattle.jr_model.specs.Windows.{IsBehind, IsLastSeen}
 use Rattle.jr_model.specs.Refusals.{RowWasFull}
 use Rattle.jr_model.specs.Calls.{Call, Ran}
-use Rattle.jr_model.specs.Tests.{Word}
+use Rattle.jr_model.specs.Checks.{Word}
 use Rattle.jr_model.specs.Parts.{enter, shut, create, reserve}
 use Rattle.jr_model.specs.References.{new_reference}
 use Rattle.jr_model.specs.References as references

@@ -78,9 +78,9 @@ pub record IsCollection (t : ℕ) (whole : History) (before inside rest : Histor
   pub ends : EndsAt (by t Reopen) rest
 
 -- the act makes the object
-abbrev pub makes : ℕ → Act → Bool
-makes o (New p k ws) = p == o
-makes o _ = false
+abbrev pub makes_object : ℕ → Act → Bool
+makes_object o (New p k ws) = p == o
+makes_object o _ = false
 
 -- the act writes the element i of the object
 abbrev pub writes : ℕ → ℕ → Act → Bool
@@ -93,8 +93,8 @@ NoneOf p es = AllByRecursion (λ e. p e.act ≡ false) es
 
 -- v is what stands at element i of o: the word of the last write of it after the last making of o, or else the word that it was made with
 pub data IsLastWord (o i v : ℕ) (es : History) : Type 0 where
-  from_new : (before since : History) (t : ℕ) (k : Kind) (ws : List ℕ) → es ≡ before ++ by t (New o k ws) ∷ since → slice_get ws i ≡ Some v → NoneOf (makes o) since → NoneOf (writes o i) since → IsLastWord o i v es
-  from_write : (before since : History) (t : ℕ) → es ≡ before ++ by t (Write o i v) ∷ since → NoneOf (makes o) since → NoneOf (writes o i) since → IsLastWord o i v es
+  from_new : (before since : History) (t : ℕ) (k : Kind) (ws : List ℕ) → es ≡ before ++ by t (New o k ws) ∷ since → slice_get ws i ≡ Some v → NoneOf (makes_object o) since → NoneOf (writes o i) since → IsLastWord o i v es
+  from_write : (before since : History) (t : ℕ) → es ≡ before ++ by t (Write o i v) ∷ since → NoneOf (makes_object o) since → NoneOf (writes o i) since → IsLastWord o i v es
 
 -- a thread's role after an act of its own
 abbrev pub role_after : Role → Act → Role

@@ -13,8 +13,8 @@ use Rattle.jr_model.specs.State.{Contents, State, Handle, same_handle, IsPresent
 use Rattle.jr_model.specs.History.{History, by, state, state_from, IsLegal, mine, is_collection_step, is_waiting, IsStay, IsCollection, IsLastWord, PassView, Did}
 use Rattle.jr_model.specs.declared.event.Act.{Act}
 use Rattle.jr_model.specs.declared.frames.LocalRef.{LocalRef}
-use Rattle.jr_model.specs.Frames.{Frames, IsAdded, IsMove, LeadsTo, AreSound, Agree, fresh_frames, object_where, object_of, object_at, last_frame, deleted, popped, freed}
-use Rattle.jr_model.specs.Wholes.{sweeping_acts, IsWhole, IsExact, KeepsReached}
+use Rattle.jr_model.specs.Frames.{Frames, IsAdded, IsMove, LeadsTo, AreSound, Agree, fresh_frames, object_where, object_of, object_at, last_frame, without_local, popped, freed}
+use Rattle.jr_model.specs.CollectionCalls.{sweeping_acts, IsWhole, IsExact, KeepsReached}
 use Rattle.jr_model.specs.Releases.{released, release_acts}
 
 -- the empty history is legal, and a longer one where its front is and its last event is a step
@@ -102,7 +102,7 @@ GoneStaysGone last thread = (f g later : Frames) (h : Handle) → AreSound f →
 -- a handle stands no more once it is deleted, once the last frame is popped where it stood there, and once all are freed
 abbrev pub TakenIsGone : Type 0
 TakenIsGone = (f : Frames) (h : Handle) → AreSound f
-    → (object_of (deleted f h) h ≡ None)
+    → (object_of (without_local f h) h ≡ None)
     × (IsSome (object_where (λ r. same_handle r.handle h) (last_frame f.frames)) → object_of (popped f) h ≡ None)
     × (object_of (freed f) h ≡ None)
 

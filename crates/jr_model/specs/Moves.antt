@@ -9,7 +9,7 @@ use Rattle.jr_model.specs.declared.frames.Mode.{Mode}
 use Rattle.jr_model.specs.State.{State}
 use Rattle.jr_model.specs.Frames.{Frames, LeadsTo}
 use Rattle.jr_model.specs.Calls.{Call}
-use Rattle.jr_model.specs.Tests.{Word}
+use Rattle.jr_model.specs.Checks.{Word}
 use Rattle.jr_model.specs.References as references
 use Rattle.jr_model.specs.Objects as objects
 

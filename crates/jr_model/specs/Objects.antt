@@ -9,8 +9,8 @@ use Rattle.jr_model.specs.declared.frames.TheConstants.{LEVELS}
 use Rattle.jr_model.specs.declared.frames.Mode.{Mode}
 use Rattle.jr_model.specs.declared.frames.Mode.TheVariants.{Copy, Commit, Abort}
 use Rattle.jr_model.specs.State.{Handle, State}
-use Rattle.jr_model.specs.Calls.{Call, act, done, entered, opened, refuse_if, some_act, unless_memory, with_header, ◌>>=◌, ◌>>◌}
-use Rattle.jr_model.specs.Tests.{Word, is_array, is_objects, is_primitive, is_read_as, is_text, object_of_word, same_element, word_of}
+use Rattle.jr_model.specs.Calls.{Call, act, done, entered, opened, refuse_if, some_act, unless_memory, for_object, ◌>>=◌, ◌>>◌}
+use Rattle.jr_model.specs.Checks.{Word, is_array, is_objects, is_primitive, is_read_as, is_text, object_of_word, same_element, element_word}
 use Rattle.jr_model.specs.Parts.{leave, not_null, read, write}
 use Rattle.jr_model.specs.References.{resolved, resolved_both, new_local}
 
@@ -20,14 +20,14 @@ module _ (c : Config) (last thread : ℕ) (s : State) where
   kind_reading a = do
     x ← resolved c last thread a
     o ← not_null x
-    with_header s o (λ k n. done k)
+    for_object s o (λ k n. done k)
 
   -- the length of an object whose kind passes the test
   abbrev pub length_reading : (Kind → Bool) → Fault → Word → Call ℕ
   length_reading p e a = do
     x ← resolved c last thread a
     o ← not_null x
-    with_header s o (λ k n. do
+    for_object s o (λ k n. do
       refuse_if (not (p k)) e
       done n)
 
@@ -36,7 +36,7 @@ module _ (c : Config) (last thread : ℕ) (s : State) where
   element_reading a i = do
     x ← resolved c last thread a
     o ← not_null x
-    with_header s o (λ k n. do
+    for_object s o (λ k n. do
       refuse_if (not (is_array k)) NotArray
       refuse_if (not (is_objects k)) WrongElement
       refuse_if (nat_le n i) Range)
@@ -48,18 +48,18 @@ module _ (c : Config) (last thread : ℕ) (s : State) where
   element_writing a i b = do
     x ← resolved_both c last thread a b
     o ← not_null x.0
-    with_header s o (λ k n. do
+    for_object s o (λ k n. do
       refuse_if (not (is_array k)) NotArray
       refuse_if (not (is_objects k)) WrongElement
       refuse_if (nat_le n i) Range)
-    act (Write o i (word_of x.1))
+    act (Write o i (element_word x.1))
 
   -- the array has this element kind, and the part lies in it
   abbrev pub part_of : Kind → ℕ → ℕ → Word → Call ℕ
   part_of k start n a = do
     x ← resolved c last thread a
     o ← not_null x
-    with_header s o (λ l m. do
+    for_object s o (λ l m. do
       refuse_if (not (is_array l)) NotArray
       refuse_if (not (same_element k l)) WrongElement
       refuse_if (nat_lt m (start + n)) Range
@@ -82,7 +82,7 @@ module _ (c : Config) (last thread : ℕ) (s : State) where
   elements_copying k a = do
     x ← resolved c last thread a
     o ← not_null x
-    with_header s o (λ l n. do
+    for_object s o (λ l n. do
       refuse_if (not (is_array l)) NotArray
       refuse_if (not (same_element k l)) WrongElement
       unless_memory (read o 0 n))
@@ -92,7 +92,7 @@ module _ (c : Config) (last thread : ℕ) (s : State) where
   units_copying a = do
     x ← resolved c last thread a
     o ← not_null x
-    with_header s o (λ l n. do
+    for_object s o (λ l n. do
       refuse_if (not (is_text l)) WrongKind
       unless_memory (read o 0 n))
 
@@ -101,7 +101,7 @@ module _ (c : Config) (last thread : ℕ) (s : State) where
   copying_back k a buffer = do
     x ← resolved c last thread a
     o ← not_null x
-    with_header s o (λ l n. do
+    for_object s o (λ l n. do
       refuse_if (not (is_array l)) NotArray
       refuse_if (not (same_element k l)) WrongElement
       refuse_if (not (n == length buffer)) Range
@@ -154,7 +154,7 @@ module _ (c : Config) (last thread : ℕ) (s : State) where
   level_array levels a = do
     x ← resolved c last thread a
     o ← not_null x
-    with_header s o (λ k n. do
+    for_object s o (λ k n. do
       refuse_if (not (is_array k)) NotArray
       refuse_if (not (is_primitive k)) WrongElement
       refuse_if (nat_le LEVELS levels) Size
@@ -165,7 +165,7 @@ module _ (c : Config) (last thread : ℕ) (s : State) where
   level_string levels a = do
     x ← resolved c last thread a
     o ← not_null x
-    with_header s o (λ k n. do
+    for_object s o (λ k n. do
       refuse_if (not (is_text k)) WrongKind
       refuse_if (nat_le LEVELS levels) Size
       done o)
@@ -196,22 +196,22 @@ module _ (c : Config) (last thread : ℕ) (s : State) where
 
   -- the kind of the object of a level
   abbrev pub region_kind : ℕ → Call Kind
-  region_kind o = with_header s o (λ k n. done k)
+  region_kind o = for_object s o (λ k n. done k)
 
   -- the length of the object of a level
   abbrev pub region_length : ℕ → Call ℕ
-  region_length o = with_header s o (λ k n. done n)
+  region_length o = for_object s o (λ k n. done n)
 
   -- an element of the object of a level
   abbrev pub region_get : Kind → ℕ → ℕ → Call ℕ
-  region_get k o i = with_header s o (λ l n. do
+  region_get k o i = for_object s o (λ l n. do
     refuse_if (not (is_read_as k l)) WrongElement
     refuse_if (nat_le n i) Range
     some_act (Read o i))
 
   -- an element of the object of a level is written
   abbrev pub region_set : Kind → ℕ → ℕ → ℕ → Call (Unit {0})
-  region_set k o i v = with_header s o (λ l n. do
+  region_set k o i v = for_object s o (λ l n. do
     refuse_if (is_text l) NotArray
     refuse_if (not (is_read_as k l)) WrongElement
     refuse_if (nat_le n i) Range

@@ -10,10 +10,10 @@ use Rattle.jr_model.specs.declared.event.Act.{Act}
 use Rattle.jr_model.specs.declared.event.Act.TheVariants.{Enter, Knock, Leave, Withdraw, Shut, ShutBusy, Reopen, Create, Look, Probe, Delete, DeleteStale, LocalDrop, Reserve, ReserveFull, ReserveLost, New, Read, Write, Meet}
 use Rattle.jr_model.specs.declared.frames.TheConstants.{FRAMES}
 use Rattle.jr_model.specs.State.{Handle, State}
-use Rattle.jr_model.specs.Frames.{object_of, pushed, popped, deleted, last_frame, drop_all}
-use Rattle.jr_model.specs.Wholes.{collection_acts}
-use Rattle.jr_model.specs.Calls.{Call, ◌>>=◌, ◌>>◌, act, done, one_of, refuse, refuse_if, some_act, with_header}
-use Rattle.jr_model.specs.Tests.{Word, Parts, is_local, is_plain, is_text, is_value, type_found, type_local}
+use Rattle.jr_model.specs.Frames.{object_of, pushed, popped, without_local, last_frame, drop_all}
+use Rattle.jr_model.specs.CollectionCalls.{collection_acts}
+use Rattle.jr_model.specs.Calls.{Call, ◌>>=◌, ◌>>◌, act, done, one_of, refuse, refuse_if, some_act, for_object}
+use Rattle.jr_model.specs.Checks.{Word, Parts, is_local, is_plain, is_text, is_value, type_found, type_local}
 
 -- THE GATE
 
@@ -132,18 +132,18 @@ publish k ws = one_of (some_act (λ o. New o k ws)) (refuse ObjectsFull)
 
 -- the kind and the length of an object
 abbrev pub header : State → ℕ → Call (Kind × ℕ)
-header s o = with_header s o (λ k n. done (k, n))
+header s o = for_object s o (λ k n. done (k, n))
 
 -- one element
 abbrev pub read_element : State → ℕ → ℕ → Call ℕ
-read_element s o i = with_header s o (λ k n. do
+read_element s o i = for_object s o (λ k n. do
   refuse_if (is_plain k) NotArray
   refuse_if (nat_le n i) Range
   some_act (Read o i))
 
 -- one element is written
 abbrev pub write_element : State → ℕ → ℕ → ℕ → Call (Unit {0})
-write_element s o i v = with_header s o (λ k n. do
+write_element s o i v = for_object s o (λ k n. do
   refuse_if (is_plain k || is_text k) NotArray
   refuse_if (nat_le n i) Range
   refuse_if (not (is_value k v)) Value
@@ -187,7 +187,7 @@ take_frame old acts answer new = (acts ≡ drop_all (last_frame old.frames)) × 
 
 -- the reference is taken out of its frame
 abbrev pub drop_local : Handle → Call (Unit {0})
-drop_local h old acts answer new = (acts ≡ LocalDrop h.index ∷ []) × (answer ≡ Ok tt) × (new ≡ deleted old h)
+drop_local h old acts answer new = (acts ≡ LocalDrop h.index ∷ []) × (answer ≡ Ok tt) × (new ≡ without_local old h)
 
 -- the deletion of a local reference; nothing for NULL
 abbrev pub delete_local_at : Word → Call (Unit {0})

@@ -11,7 +11,7 @@ use Rattle.jr_model.specs.declared.event.Act.TheVariants.{LocalPut}
 use Rattle.jr_model.specs.State.{Handle}
 use Rattle.jr_model.specs.Frames.{all_refs, drop_all, free_places, popped, freed, IsAdded}
 use Rattle.jr_model.specs.Calls.{Call, done, entered, refuse_if, ◌>>=◌, ◌>>◌}
-use Rattle.jr_model.specs.Tests.{Word, is_foreign, is_malformed, is_of_kind, is_out_of_bounds, same_object, word_of}
+use Rattle.jr_model.specs.Checks.{Word, is_foreign, is_malformed, is_of_kind, is_out_of_bounds, same_object, element_word}
 use Rattle.jr_model.specs.Parts.{created, delete_at, delete_local_at, frame_left, frame_to_pop, looked, new_frame, publish, reserve, take_frame, type_at}
 
 -- a deletion by the call of the kind
@@ -130,7 +130,7 @@ module _ (c : Config) (last thread : ℕ) where
   abbrev pub array_making : ℕ → Word → Call Handle
   array_making n a = do
     x ← resolved a
-    made Objects (replicate n (word_of x))
+    made Objects (replicate n (element_word x))
 
   -- NewGlobalRef and NewWeakGlobalRef
   abbrev pub new_reference : RefKind → Word → Call (Option Handle)

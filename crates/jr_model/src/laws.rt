@@ -4,7 +4,7 @@ ghost use Rattle.jr_model.specs.State.{State};
 ghost use Rattle.jr_model.specs.History.{PassView};
 ghost use Rattle.jr_model.specs.Grounded.{BarredByCollector, BusyIsCounted, SpaceWasFull, FreeIndexIsFound, RefusedInItsStay, EachIsProbed, CallsAreTheirStays};
 ghost use Rattle.jr_model.specs.Moves.{CallsMoveFrames};
-ghost use Rattle.jr_model.specs.Unchanged.{RefusalsChangeNothing, HarmlessChangesNothing};
+ghost use Rattle.jr_model.specs.RefusedCalls.{RefusalsChangeNothing, HarmlessChangesNothing};
 ghost use Rattle.jr_model.specs.Laws.{
   CreatedIsFound,
   DeletedIsStale,

@@ -18,14 +18,14 @@ use Rattle.jr_model.specs.History.{role_of}
 use Rattle.jr_model.proofs.Presence.{named_is_present}
 use Rattle.jr_model.proofs.References.{kept_state}
 use Rattle.jr_model.proofs.Updates.{at_handle, at_handle_self}
-use Rattle.jr_steps.specs.declared.known.Grasp.{Grasp}
+use Rattle.jr_steps.specs.declared.known.Holdings.{Holdings}
 use Rattle.jr_steps.specs.declared.known.Known.{Known}
 use Rattle.jr_steps.specs.Acts.{handle_of}
 use Rattle.jr_steps.specs.Collecting.{ShowsLocal, CanWipe, CanDrop, ShowsDropped, CanSettle}
 use Rattle.jr_steps.specs.Says.{local_parts}
 use Rattle.jr_steps.specs.Knowing.{Standing, IsOf, Goes, Took, Saw, MayKnow, anything, view, state_of, keeps, lets_go, IsSettled, CanReopen, ShowsHeader, ShowsSlot}
-use Rattle.jr_steps.proofs.Collected.{same_tables, tables_seen, sees_more, goes_act}
-use Rattle.jr_steps.proofs.Goes.{may_then, took_less}
+use Rattle.jr_steps.proofs.CollectorFacts.{same_tables, tables_seen, sees_more, goes_act}
+use Rattle.jr_steps.proofs.StepFacts.{may_then, took_less}
 use Rattle.jr_model.proofs.InRoom.{in_room}
 
 -- LOCAL WORDS
@@ -78,7 +78,7 @@ module _ (h : Handle) (weak : h.kind ≡ Weak) where
   pub unreached : (r : Found) (k : Known) → IsBare h r k → (o : ℕ) → ¬ (IsReached (state_of k) o)
   unreached r k b = none_reached (state_of k) b.locals (no_global r k b)
 
-  pub bare_still : (r : Found) (k k' : Known) → Goes k [] k' → role_of (view k) ≡ Collecting → k'.grasp.moving ≡ k.grasp.moving → IsBare h r k → IsBare h r k'
+  pub bare_still : (r : Found) (k k' : Known) → Goes k [] k' → role_of (view k) ≡ Collecting → k'.holdings.moving ≡ k.holdings.moving → IsBare h r k → IsBare h r k'
   bare_still r k k' g collects m b = let same = same_tables g collects in record {
     settled = m ∙ b.settled;
     locals = λ t p. ap (λ (f : ℕ → ℕ → Option ℕ). f t p) same.locals ∙ b.locals t p;
@@ -90,7 +90,7 @@ module _ (h : Handle) (weak : h.kind ≡ Weak) where
   bare_cleared r k k' g collects m b =
       let x = goes_act g collects in
       let same = x.1 in record {
-        settled = ap (λ (z : Grasp). z.moving) m ∙ b.settled;
+        settled = ap (λ (z : Holdings). z.moving) m ∙ b.settled;
         locals = λ t p. ap (λ (s : State). s.locals t p) x.2 ∙ (ap (λ (f : ℕ → ℕ → Option ℕ). f t p) same.locals ∙ b.locals t p);
         is = ap (λ (s : State). s.refs h) x.2 ∙ at_handle_self (x.0).refs h Cleared;
         others = λ g ne. ap (λ (s : State). s.refs g) x.2 ∙ at_handle (λ z. z ≡ Stale) (x.0).refs h g Cleared (λ e. absurd (ne e)) (λ q. ap (λ (f : Handle → Found). f g) same.refs ∙ b.others g ne);
@@ -114,9 +114,9 @@ no_words zero f none = refl
 no_words (suc n) f none = let a = no_words n f none in let b = ap length_of (none n) in omega arith
 
 -- how a load of a header leaves what is moved
-pub same_move : (o : ℕ) (r : Option HeaderParts) (k k' : Known) → ShowsHeader o r k k' → k'.grasp.moving ≡ k.grasp.moving
-same_move o None k k' s = ap (λ (g : Grasp). g.moving) s.1
-same_move o (Some h) k k' s = ap (λ (g : Grasp). g.moving) s.1
+pub same_move : (o : ℕ) (r : Option HeaderParts) (k k' : Known) → ShowsHeader o r k k' → k'.holdings.moving ≡ k.holdings.moving
+same_move o None k k' s = ap (λ (g : Holdings). g.moving) s.1
+same_move o (Some h) k k' s = ap (λ (g : Holdings). g.moving) s.1
 
 abbrev pub the_weak : Handle
 the_weak = handle_of Weak 0 0
@@ -149,7 +149,7 @@ module _ {S : Type 0} {stands : S → Standing} {knows : S → Known → Type 0}
         y.0,
         y.1,
         (
-          ap (λ (g : Grasp). g.moving) y.3.0 ∙ k.2.0,
+          ap (λ (g : Holdings). g.moving) y.3.0 ∙ k.2.0,
           λ u p l. dite (ℕ_discrete u t)
               (λ e. ap (λ v. (state_of y.0).locals v p) e ∙ beyond y.0 t (y.0).config.locals (λ p o is. (room.locals t p o is).1) (λ p l. y.3.1 p (omega arith)) p)
               (λ ne. ap (λ (f : ℕ → ℕ → Option ℕ). f u p) same.locals ∙ k.2.1 u p (omega arith)),
@@ -198,7 +198,7 @@ module _ {S : Type 0} {stands : S → Standing} {knows : S → Known → Type 0}
   bare_looked {a} {b} o collects two one took may = ∥∥₁_map may (λ k.
       let y = took.goes k.0 k.1 tt in
       let same = same_tables y.2 ((fits a k.0 k.1).role ∙ collects) in
-      let none : NoLocalsBelow 2 y.0 = (ap (λ (g : Grasp). g.moving) y.3.1 ∙ k.2.0, λ u p l. ap (λ (f : ℕ → ℕ → Option ℕ). f u p) same.locals ∙ k.2.1 u p l) in (
+      let none : NoLocalsBelow 2 y.0 = (ap (λ (g : Holdings). g.moving) y.3.1 ∙ k.2.0, λ u p l. ap (λ (f : ℕ → ℕ → Option ℕ). f u p) same.locals ∙ k.2.1 u p l) in (
         y.0,
         y.1,
         record {
@@ -210,7 +210,7 @@ module _ {S : Type 0} {stands : S → Standing} {knows : S → Known → Type 0}
       ))
 
   -- a load that leaves what is moved
-  pub bare_kept : {a b : S} {shows : Known → Known → Type 0} (r : Found) → (stands a).role ≡ Collecting → Took stands knows a b [] anything shows → ((k k' : Known) → shows k k' → k'.grasp.moving ≡ k.grasp.moving) → MayKnow knows a (IsBare the_weak r) → MayKnow knows b (IsBare the_weak r)
+  pub bare_kept : {a b : S} {shows : Known → Known → Type 0} (r : Found) → (stands a).role ≡ Collecting → Took stands knows a b [] anything shows → ((k k' : Known) → shows k k' → k'.holdings.moving ≡ k.holdings.moving) → MayKnow knows a (IsBare the_weak r) → MayKnow knows b (IsBare the_weak r)
   bare_kept {a} r collects took still may = may_then took (λ k s m. tt) may (λ k k' s m g x. bare_still the_weak refl r k k' g ((fits a k s).role ∙ collects) (still k k' x) m)
 
   pub bare_wipe : {a : S} (o : ℕ) → MayKnow knows a (IsBare the_weak (Object o)) → MayKnow knows a (CanWipe 0 0 o)
@@ -228,7 +228,7 @@ module _ {S : Type 0} {stands : S → Standing} {knows : S → Known → Type 0}
       let same = y.1 in
       (bare_cleared the_weak refl (Object o) k k' g role x m, subst (λ z. IsSome z) (sym (ap (λ (s : State). s.objects o) y.2 ∙ ap (λ (f : ℕ → Option Contents). f o) same.objects)) there))
 
-  pub wiped_kept : {a b : S} {shows : Known → Known → Type 0} (o : ℕ) → (stands a).role ≡ Collecting → Took stands knows a b [] anything shows → ((k k' : Known) → shows k k' → k'.grasp.moving ≡ k.grasp.moving) → MayKnow knows a (IsWiped o) → MayKnow knows b (IsWiped o)
+  pub wiped_kept : {a b : S} {shows : Known → Known → Type 0} (o : ℕ) → (stands a).role ≡ Collecting → Took stands knows a b [] anything shows → ((k k' : Known) → shows k k' → k'.holdings.moving ≡ k.holdings.moving) → MayKnow knows a (IsWiped o) → MayKnow knows b (IsWiped o)
   wiped_kept {a} o collects took still may = may_then took (λ k s m. tt) may (λ k k' s m g x.
       let role = (fits a k s).role ∙ collects in
       let same = same_tables g role in
@@ -261,10 +261,10 @@ module _ {S : Type 0} {stands : S → Standing} {knows : S → Known → Type 0}
       let objects : (x.0).config.objects ≡ 1 = ap (λ (c : Config). c.objects) ((x.2).config ∙ (fits a k.0 k.1).config) ∙ one in (
         x.0,
         x.1,
-        (ap (λ (g : Grasp). g.moving) x.3 ∙ (k.2.0).settled, none_left (x.0).config (state_of x.0) objects (in_room (x.0).config (x.0).last (x.0).seen of.legal).objects gone),
+        (ap (λ (g : Holdings). g.moving) x.3 ∙ (k.2.0).settled, none_left (x.0).config (state_of x.0) objects (in_room (x.0).config (x.0).last (x.0).seen of.legal).objects gone),
       ))
 
-  pub emptied_kept : {a b : S} {shows : Known → Known → Type 0} → (stands a).role ≡ Collecting → Took stands knows a b [] anything shows → ((k k' : Known) → shows k k' → k'.grasp.moving ≡ k.grasp.moving) → MayKnow knows a IsEmptied → MayKnow knows b IsEmptied
+  pub emptied_kept : {a b : S} {shows : Known → Known → Type 0} → (stands a).role ≡ Collecting → Took stands knows a b [] anything shows → ((k k' : Known) → shows k k' → k'.holdings.moving ≡ k.holdings.moving) → MayKnow knows a IsEmptied → MayKnow knows b IsEmptied
   emptied_kept {a} collects took still may = may_then took (λ k s m. tt) may (λ k k' s m g x.
       let same = same_tables g ((fits a k s).role ∙ collects) in
       (still k k' x ∙ m.0, λ o. ap (λ (f : ℕ → Option Contents). f o) same.objects ∙ m.1 o))
@@ -276,7 +276,7 @@ module _ {S : Type 0} {stands : S → Standing} {knows : S → Known → Type 0}
   emptied_settled {a} collects took may = may_then took (λ k s m. can_settle k m) may (λ k k' s m g x.
       let y = goes_act g ((fits a k s).role ∙ collects) in
       let same = y.1 in
-      can_reopen k' (ap (λ (z : Grasp). z.moving) x ∙ m.0, λ o. ap (λ (z : State). z.objects o) y.2 ∙ (ap (λ (f : ℕ → Option Contents). f o) same.objects ∙ m.1 o)))
+      can_reopen k' (ap (λ (z : Holdings). z.moving) x ∙ m.0, λ o. ap (λ (z : State). z.objects o) y.2 ∙ (ap (λ (f : ℕ → Option Contents). f o) same.objects ∙ m.1 o)))
 
   -- FROM STEP TO STEP of a collection that takes all away
   abbrev FindsNone : ℕ → S → S → Type 0
@@ -303,7 +303,7 @@ module _ {S : Type 0} {stands : S → Standing} {knows : S → Known → Type 0}
 
     pub bare_at : MayKnow knows z anything → MayKnow knows e (IsBare the_weak (Object 1))
     bare_at may =
-        let begun : MayKnow knows a (NoLocalsBelow 0) = may_then shut (λ k s m. tt) may (λ k k' s m g x. (ap (λ (h : Grasp). h.moving) x, λ t p l. absurd (omega arith))) in
+        let begun : MayKnow knows a (NoLocalsBelow 0) = may_then shut (λ k s m. tt) may (λ k k' s m g x. (ap (λ (h : Holdings). h.moving) x, λ t p l. absurd (omega arith))) in
         let looked = looked_thread 1 collects_b second (looked_thread 0 collects_at first begun) in
         bare_kept (Object 1) collects_d header (same_move 1 r) (bare_looked 1 collects_c (ap (λ (y : Config). y.threads) config_d ∙ two) (ap (λ (y : Config). y.slots) config_d ∙ one) (took_less (λ j k s. (subst (λ q. ShowsSlot 0 q k) weak s.0, s.1)) seen) looked)
 
@@ -315,7 +315,7 @@ module _ {S : Type 0} {stands : S → Standing} {knows : S → Known → Type 0}
       collects_g = ap (λ (s : Standing). s.role) again.stands_is ∙ collects_f
 
       pub wiped_at : MayKnow knows z anything → MayKnow knows g (IsWiped 1)
-      wiped_at may = wiped_kept 1 collects_f again (λ k k' x. ap (λ (h : Grasp). h.moving) x.1) (bare_wiped 1 collects_e wiped (bare_at may))
+      wiped_at may = wiped_kept 1 collects_f again (λ k k' x. ap (λ (h : Holdings). h.moving) x.1) (bare_wiped 1 collects_e wiped (bare_at may))
 
       module _ {h i : S} (t : Option HeaderParts) (single : (stands z).config.objects ≡ 1) (dropped : Took stands knows g h (Drop 1 ∷ []) (CanDrop 1) (ShowsDropped 1)) (gone : Took stands knows h i [] anything (ShowsHeader 1 t)) where
         collects_h : (stands h).role ≡ Collecting

@@ -8,31 +8,31 @@ use Rattle.jr_model.specs.declared.event.Act.{Act}
 use Rattle.jr_model.specs.declared.event.Act.TheVariants.{Shut, ShutBusy, Reopen, Meet}
 use Rattle.jr_model.specs.History.{History, state, role_of}
 use Rattle.jr_steps.specs.declared.known.Known.{Known}
-use Rattle.jr_steps.specs.declared.naming.GateNaming.{GateNaming}
-use Rattle.jr_steps.specs.Acts.{entered_as, leaving, all_counted, gate_named, GateNameFits}
+use Rattle.jr_steps.specs.declared.loads.GateLoad.{GateLoad}
+use Rattle.jr_steps.specs.Acts.{act_of_entry, act_of_exit, all_counted, act_of_gate_load, GateLoadFits}
 use Rattle.jr_steps.specs.Knowing.{view, IsClosedNow, IsSettled}
-use Rattle.jr_steps.specs.declared.known.Grasp.{Grasp}
-use Rattle.jr_steps.specs.Grasping.{empty, hold}
+use Rattle.jr_steps.specs.declared.known.Holdings.{Holdings}
+use Rattle.jr_steps.specs.Holdings.{empty, hold}
 use Rattle.jr_rule.specs.Image.{MayHold}
 use Rattle.jr_rule.specs.Rule.{known_at, IsFound, Owes}
-use Rattle.jr_rule.proofs.Found.{role_at, closed_now, moves_as_known}
+use Rattle.jr_rule.proofs.StillSo.{role_at, closed_now, moves_as_known}
 use Rattle.jr_rule.proofs.Images.{image_let_go}
 use Rattle.jr_rule.proofs.Spaces.{hold_here}
-use Rattle.jr_rule.proofs.GateTurns.{gate_fits, gate_most, shows_gate, goes_in, goes_out, counted, shut_counted, gate_seen, bars, bars_lost, unbars}
-use Rattle.jr_rule.proofs.Owing.{quiet, gaining, written, unwritten, won, lost}
+use Rattle.jr_rule.proofs.GateSteps.{gate_fits, gate_most, shows_gate, goes_in, goes_out, counted, shut_counted, gate_seen, bars, bars_lost, unbars}
+use Rattle.jr_rule.proofs.Obligations.{quiet, gaining, written, unwritten, won, lost}
 use Rattle.jr_rule.proofs.Told.{Entered, Left, Barred, Reopened, SawGate, Met}
-use Rattle.jr_rule.proofs.Turns.{turn_one}
-use Rattle.jr_rule.proofs.Effects.{gate_named_state}
+use Rattle.jr_rule.proofs.LegalSteps.{one_legal}
+use Rattle.jr_rule.proofs.ActEffects.{gate_named_state}
 
 -- who is within or knocking has no move unfinished
-may_let_go : (k : Known) (log : History) (words : List ℕ) (held : ℕ → Grasp) (f : IsFound k log words held) → (role_of (view k) ≡ Within) ⊎ (role_of (view k) ≡ Knocking) → MayHold f.image.moving ((state log).role k.thread) empty
+may_let_go : (k : Known) (log : History) (words : List ℕ) (held : ℕ → Holdings) (f : IsFound k log words held) → (role_of (view k) ≡ Within) ⊎ (role_of (view k) ≡ Knocking) → MayHold f.image.moving ((state log).role k.thread) empty
 may_let_go k log words held f counts = ⊎_elim
     (λ e. subst (λ r. MayHold f.image.moving r empty) (sym (role_at k log words held f ∙ e)) refl)
     (λ e. subst (λ r. MayHold f.image.moving r empty) (sym (role_at k log words held f ∙ e)) refl)
     counts
 
 -- who is outside holds nothing
-nothing_outside : (k : Known) (log : History) (words : List ℕ) (held : ℕ → Grasp) (f : IsFound k log words held) → role_of (view k) ≡ Outside → held k.thread ≡ empty
+nothing_outside : (k : Known) (log : History) (words : List ℕ) (held : ℕ → Holdings) (f : IsFound k log words held) → role_of (view k) ≡ Outside → held k.thread ≡ empty
 nothing_outside k log words held f out = subst (λ r. MayHold f.image.moving r (held k.thread)) (role_at k log words held f ∙ out) (f.image.hands.each k.thread)
 
 module _ (k : Known) where
@@ -43,7 +43,7 @@ module _ (k : Known) where
       let few = (f.sized).limited.threads.1 in
       let most = gate_most k.config (state log).role n few g in
       let t = goes_in k.config k.last log k.thread words f.legal held f.image f.fits.row n g.parts.shut refl refl (role_at k log words held f ∙ out) in
-      quiet k log words held f (slice_set words 0 ((n + 1) % 2 ^ 64)) (Entered k n) (entered_as (not g.parts.shut) ∷ []) (written k log words held 0 (n + 1) ((n + 1) % 2 ^ 64) (omega arith) t)
+      quiet k log words held f (slice_set words 0 ((n + 1) % 2 ^ 64)) (Entered k n) (act_of_entry (not g.parts.shut) ∷ []) (written k log words held 0 (n + 1) ((n + 1) % 2 ^ 64) (omega arith) t)
       (g.parts, gate_fits k.config (state log).role n few g, g.word, refl, refl)
 
   pub leaves : (role_of (view k) ≡ Within) ⊎ (role_of (view k) ≡ Knocking) → Owes k 0 (λ n. (n + (2 ^ 64 - 1)) % 2 ^ 64) (Left k)
@@ -54,7 +54,7 @@ module _ (k : Known) where
       let some = counted k.config k.last log k.thread words f.legal held f.image f.fits.row role counts (role_at k log words held f) in
       let image = image_let_go k.config k.last words (state log) held f.image k.thread (may_let_go k log words held f counts) in
       let t = goes_out k.config k.last log k.thread words f.legal (hold held k.thread empty) image f.fits.row role ((n + (2 ^ 64 - 1)) % 2 ^ 64) (hold_here held k.thread empty) (omega arith) counts (role_at k log words held f) in
-      gaining k log (slice_set words 0 ((n + (2 ^ 64 - 1)) % 2 ^ 64)) held (Left k n) (leaving role ∷ []) empty t (refl, refl)
+      gaining k log (slice_set words 0 ((n + (2 ^ 64 - 1)) % 2 ^ 64)) held (Left k n) (act_of_exit role ∷ []) empty t (refl, refl)
 
   pub shuts : role_of (view k) ≡ Outside → Owes k 0 (λ n. either (eqb n 0) 65536 n) (Barred k)
   shuts out log words held f =
@@ -63,7 +63,7 @@ module _ (k : Known) where
       dite (ℕ_discrete n 0)
       (λ none. quiet k log words held f (slice_set words 0 (either (eqb n 0) 65536 n)) (Barred k n) (Shut ∷ [])
       (written k log words held 0 65536 (either (eqb n 0) 65536 n) (won 0 65536 n none) (bars k.config k.last log k.thread words f.legal held f.image f.fits.row none (role_at k log words held f ∙ out)))
-      (λ e. (refl, sym f.fits.grasp ∙ nothing_outside k log words held f out), λ ne. absurd (ne none)))
+      (λ e. (refl, sym f.fits.holdings ∙ nothing_outside k log words held f out), λ ne. absurd (ne none)))
       (λ some. quiet k log words held f (slice_set words 0 (either (eqb n 0) 65536 n)) (Barred k n) (ShutBusy (all_counted g.parts) ∷ [])
       (written k log words held 0 n (either (eqb n 0) 65536 n) (lost 0 65536 n some) (unwritten k log words held 0 (bars_lost k.config k.last log k.thread words f.legal held f.image f.fits.row some (role_at k log words held f ∙ out))))
       (λ e. absurd (some e), λ ne. (g.parts, gate_fits k.config (state log).role n (f.sized).limited.threads.1 g, g.word, refl, refl)))
@@ -79,17 +79,17 @@ module _ (k : Known) where
       let t = unbars k.config k.last log k.thread words f.legal (hold held k.thread empty) image f.fits.row ((n + (2 ^ 64 - 65536)) % 2 ^ 64) (hold_here held k.thread empty) (omega arith) inside (closed_now k log words held f collects closed) in
       gaining k log (slice_set words 0 ((n + (2 ^ 64 - 65536)) % 2 ^ 64)) held (Reopened k n) (Reopen ∷ []) empty t (refl, refl)
 
-  pub sees_gate : (name : GateNaming) → GateNameFits (role_of (view k)) name → Owes k 0 (λ n. n) (SawGate name k)
+  pub sees_gate : (name : GateLoad) → GateLoadFits (role_of (view k)) name → Owes k 0 (λ n. n) (SawGate name k)
   sees_gate name fits log words held f =
       let n : ℕ = get_or words 0 0 in
       let g = f.image.gate in
-      let acts : List Act = gate_named name (all_counted g.parts) ∷ [] in
-      let t = gate_seen k.config k.last log k.thread words f.legal held f.image f.fits.row name (subst (λ r. GateNameFits r name) (sym (role_at k log words held f)) fits) in
+      let acts : List Act = act_of_gate_load name (all_counted g.parts) ∷ [] in
+      let t = gate_seen k.config k.last log k.thread words f.legal held f.image f.fits.row name (subst (λ r. GateLoadFits r name) (sym (role_at k log words held f)) fits) in
       quiet k log words held f (slice_set words 0 n) (SawGate name k n) acts (unwritten k log words held 0 t)
-      (g.parts, gate_fits k.config (state log).role n (f.sized).limited.threads.1 g, g.word, refl, shows_gate g.parts k.config (state log) (known_at k log acts k.grasp) g.says refl (gate_named_state log k.thread name (all_counted g.parts)), refl)
+      (g.parts, gate_fits k.config (state log).role n (f.sized).limited.threads.1 g, g.word, refl, shows_gate g.parts k.config (state log) (known_at k log acts k.holdings) g.says refl (gate_named_state log k.thread name (all_counted g.parts)), refl)
 
   -- a load that only shows what others did
   pub meets : Owes k 0 (λ n. n) (Met k)
   meets log words held f =
       let n : ℕ = get_or words 0 0 in
-      quiet k log words held f (slice_set words 0 n) (Met k n) (Meet ∷ []) (unwritten k log words held 0 (turn_one k.config k.last log k.thread words held f.legal Meet (f.fits.row, tt) f.image)) (refl, refl)
+      quiet k log words held f (slice_set words 0 n) (Met k n) (Meet ∷ []) (unwritten k log words held 0 (one_legal k.config k.last log k.thread words held f.legal Meet (f.fits.row, tt) f.image)) (refl, refl)

@@ -7,7 +7,7 @@ use Rattle.jr_word.specs.Header.{header_word, IsHeader}
 use Rattle.jr_word.specs.Kind.{kind_code}
 use Rattle.jr_model.specs.State.{Contents, AreWords}
 use Rattle.jr_steps.specs.declared.known.Known.{Known}
-use Rattle.jr_steps.specs.Grasping.{words_at}
+use Rattle.jr_steps.specs.Holdings.{words_at}
 use Rattle.jr_rule.specs.Image.{IsHeaderOf}
 use Rattle.jr_steps.specs.Knowing.{state_of, words_for, IsFilled}
 
@@ -42,7 +42,7 @@ header_positive p = let some = kind_some p.kind in omega arith
 -- an object without elements needs no range
 pub filled_none : (p : HeaderParts) (k : Known) → p.length ≡ 0 → IsFilled p k
 filled_none p k e =
-    let none : words_for p k ≡ [] = ap (λ b. cond b [] (words_at p.place k.grasp.ranges)) (eq-eqb p.length 0 e) in record {
+    let none : words_for p k ≡ [] = ap (λ b. cond b [] (words_at p.place k.holdings.ranges)) (eq-eqb p.length 0 e) in record {
       long = ap length none ∙ sym e;
       words = subst (λ ws. AreWords (state_of k) p.kind ws) (sym none) (λ i v q. absurd cc);
     }

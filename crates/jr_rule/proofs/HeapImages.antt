@@ -6,12 +6,12 @@ use Rattle.jr_word.specs.Header.{header_word, IsHeader}
 use Rattle.jr_word.proofs.OneWord.{header_word-injective}
 use Rattle.jr_model.specs.Maps.{update}
 use Rattle.jr_model.specs.State.{Contents, State, length_of, present_words}
-use Rattle.jr_steps.specs.declared.known.Grasp.{Grasp}
+use Rattle.jr_steps.specs.declared.known.Holdings.{Holdings}
 use Rattle.jr_steps.specs.declared.known.Move.{Move}
-use Rattle.jr_steps.specs.Grasping.{words_at, header_in, with_range, with_header, hold}
+use Rattle.jr_steps.specs.Holdings.{words_at, header_in, with_range, with_header, hold}
 use Rattle.jr_steps.specs.Says.{spot}
 use Rattle.jr_rule.specs.Image.{header_at, of_object, Stands, IsIn, IsHeaderOf, IsKnown, IsSpace, IsImage}
-use Rattle.jr_steps.specs.Knowing.{published}
+use Rattle.jr_steps.specs.Knowing.{without_range_of}
 use Rattle.jr_rule.proofs.Counting.{lists_fit}
 use Rattle.jr_rule.proofs.Headers.{header_positive}
 use Rattle.jr_rule.proofs.HeapSpaces.{object_below, range_below, at_header, space_empty, space_published, space_known}
@@ -19,7 +19,7 @@ use Rattle.jr_model.proofs.InRoom.{IsInRoom}
 use Rattle.jr_rule.proofs.Spaces.{hold_here, hold_same, hold_again, space_same}
 
 -- the object whose header is known
-pub record IsThere (c : Config) (words : List ℕ) (s : State) (held : ℕ → Grasp) (moving : Option Move) (space : IsSpace c words s.objects (IsIn s.used) moving held) (o : ℕ) (h : HeaderParts) : Type 0 where
+pub record IsThere (c : Config) (words : List ℕ) (s : State) (held : ℕ → Holdings) (moving : Option Move) (space : IsSpace c words s.objects (IsIn s.used) moving held) (o : ℕ) (h : HeaderParts) : Type 0 where
   pub contents : Contents
   pub is : s.objects o ≡ Some contents
   pub kind : contents.kind ≡ h.kind
@@ -28,10 +28,10 @@ pub record IsThere (c : Config) (words : List ℕ) (s : State) (held : ℕ → G
   pub low : (j : ℕ) → j < h.length → IsIn s.used (h.place + j)
 
 -- the words of an object that is published with the header: none, or those of a range that is held at its place
-abbrev pub given_words : HeaderParts → Grasp → List ℕ
+abbrev pub given_words : HeaderParts → Holdings → List ℕ
 given_words h g = cond (h.length == 0) [] (words_at h.place g.ranges)
 
-module _ (c : Config) (last : ℕ) (words : List ℕ) (s : State) (held : ℕ → Grasp) (image : IsImage c last words s held) where
+module _ (c : Config) (last : ℕ) (words : List ℕ) (s : State) (held : ℕ → Holdings) (image : IsImage c last words s held) where
   -- whoever has a header's word is there
   pub there : (o : ℕ) (h : HeaderParts) → IsKnown c words o h → IsThere c words s held image.moving image.space o h
   there o h known = go (s.objects o) refl (image.header o known.number.0 known.number.1)
@@ -49,8 +49,8 @@ module _ (c : Config) (last : ℕ) (words : List ℕ) (s : State) (held : ℕ �
           }
 
   -- a header that a thread knows is the one that stands there
-  pub one_header : (t o : ℕ) (g : Grasp) → held t ≡ g → (h : HeaderParts) → IsKnown c words o h → (z : HeaderParts) → header_in o g.headers ≡ Some z → z ≡ h
-  one_header t o g own h known z e = let is = image.space.header t o z (subst (λ (y : Grasp). header_in o y.headers ≡ Some z) (sym own) e) in header_word-injective z h is.fits known.fits (sym is.word ∙ known.word)
+  pub one_header : (t o : ℕ) (g : Holdings) → held t ≡ g → (h : HeaderParts) → IsKnown c words o h → (z : HeaderParts) → header_in o g.headers ≡ Some z → z ≡ h
+  one_header t o g own h known z e = let is = image.space.header t o z (subst (λ (y : Holdings). header_in o y.headers ≡ Some z) (sym own) e) in header_word-injective z h is.fits known.fits (sym is.word ∙ known.word)
 
   pub known_element : (o : ℕ) (h : HeaderParts) (i : ℕ) → IsKnown c words o h → i < h.length → h.place + i < s.used
   known_element o h i known l =
@@ -85,22 +85,22 @@ module _ (c : Config) (last : ℕ) (words : List ℕ) (s : State) (held : ℕ �
       go false = range_fits still room t h.place
 
   -- a header that is 0 is known to nobody
-  pub none_known : (t o : ℕ) (g : Grasp) → held t ≡ g → get_or words (header_at c o) 0 ≡ 0 → header_in o g.headers ≡ None
+  pub none_known : (t o : ℕ) (g : Holdings) → held t ≡ g → get_or words (header_at c o) 0 ≡ 0 → header_in o g.headers ≡ None
   none_known t o g own none = go (header_in o g.headers) refl
     where
       go : (z : Option HeaderParts) → header_in o g.headers ≡ z → z ≡ None
       go None e = refl
       go (Some h) e =
-          let is = image.space.header t o h (subst (λ (y : Grasp). header_in o y.headers ≡ Some h) (sym own) e) in
+          let is = image.space.header t o h (subst (λ (y : Holdings). header_in o y.headers ≡ Some h) (sym own) e) in
           let p = header_positive h in let w = is.word in absurd (omega arith)
 
   -- the space once an object has its header, with elements or without, and the thread knows it
   pub space_headed : image.moving ≡ None → (t o : ℕ) (h : HeaderParts) → 1 ≤ o → o ≤ c.objects → IsHeader h → get_or words (header_at c o) 0 ≡ 0
-      → IsSpace c (slice_set words (header_at c o) (header_word h)) (update nat_eq s.objects o (Some (record { kind = h.kind; words = given_words h (held t) }))) (IsIn s.used) image.moving (hold held t (with_header (published h (held t)) o h))
+      → IsSpace c (slice_set words (header_at c o) (header_word h)) (update nat_eq s.objects o (Some (record { kind = h.kind; words = given_words h (held t) }))) (IsIn s.used) image.moving (hold held t (with_header (without_range_of h (held t)) o h))
   space_headed still t o h low high fits none =
       space_same c words' objects' (IsIn s.used) image.moving (hold held' t (with_header (held' t) o h)) (space_known c words' objects' (IsIn s.used) image.moving held' (go (h.length == 0)) t o h (record { number = (low, high); fits = fits; word = at_header c words s.objects (IsIn s.used) image.moving held image.space o h h.kind low high fits image.wide none }))
-      (hold held t (with_header (published h (held t)) o h))
-      (hold_again held t (published h (held t)) (with_header (published h (held t)) o h) (with_header (held' t) o h) (ap (λ z. with_header z o h) (hold_here held t (published h (held t)))))
+      (hold held t (with_header (without_range_of h (held t)) o h))
+      (hold_again held t (without_range_of h (held t)) (with_header (without_range_of h (held t)) o h) (with_header (held' t) o h) (ap (λ z. with_header z o h) (hold_here held t (without_range_of h (held t)))))
     where
       words' : List ℕ
       words' = slice_set words (header_at c o) (header_word h)
@@ -108,8 +108,8 @@ module _ (c : Config) (last : ℕ) (words : List ℕ) (s : State) (held : ℕ �
       objects' : ℕ → Option Contents
       objects' = update nat_eq s.objects o (Some (record { kind = h.kind; words = given_words h (held t) }))
 
-      held' : ℕ → Grasp
-      held' = hold held t (published h (held t))
+      held' : ℕ → Holdings
+      held' = hold held t (without_range_of h (held t))
 
       go : (b : Bool) → IsSpace c words' (update nat_eq s.objects o (Some (record { kind = h.kind; words = cond b [] (words_at h.place (held t).ranges) }))) (IsIn s.used) image.moving (hold held t (cond b (held t) (with_range (held t) h.place [])))
       go true = space_same c words' (update nat_eq s.objects o (Some (record { kind = h.kind; words = [] }))) (IsIn s.used) image.moving held

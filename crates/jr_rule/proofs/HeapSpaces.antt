@@ -11,9 +11,9 @@ use Rattle.jr_word.specs.Header.{header_word, IsHeader}
 use Rattle.jr_model.specs.Maps.{update}
 use Rattle.jr_model.specs.State.{Contents}
 use Rattle.jr_model.proofs.Updates.{at_number_self}
-use Rattle.jr_steps.specs.declared.known.Grasp.{Grasp}
+use Rattle.jr_steps.specs.declared.known.Holdings.{Holdings}
 use Rattle.jr_steps.specs.declared.known.Move.{Move}
-use Rattle.jr_steps.specs.Grasping.{words_at, header_in, with_range, with_header, hold}
+use Rattle.jr_steps.specs.Holdings.{words_at, header_in, with_range, with_header, hold}
 use Rattle.jr_steps.specs.Says.{spot}
 use Rattle.jr_rule.specs.Image.{top_at, header_at, element_at, Owner, unowned, of_object, of_range, Stands, IsKnown, IsSpace}
 use Rattle.jr_word.proofs.OneWord.{header_word-injective}
@@ -37,25 +37,25 @@ elements_read c words x (suc n) zero l = ap (λ y. get_or words (element_at c y)
 elements_read c words x (suc n) (suc j) l = elements_read c words (suc x) n j (omega arith) ∙ ap (λ y. get_or words (element_at c y) 0) (let e : suc x + j ≡ x + suc j = omega arith in e)
 
 -- the words of a range at a place, after a newer one was put on top
-newer_here : (g : Grasp) (p : ℕ) (ws : List ℕ) → words_at p (with_range g p ws).ranges ≡ ws
+newer_here : (g : Holdings) (p : ℕ) (ws : List ℕ) → words_at p (with_range g p ws).ranges ≡ ws
 newer_here g p ws = ap (λ b. cond b ws (words_at p g.ranges)) (eq-eqb p p refl)
 
-newer_else : (g : Grasp) (p q : ℕ) (ws : List ℕ) → q ≢ p → words_at q (with_range g p ws).ranges ≡ words_at q g.ranges
+newer_else : (g : Holdings) (p q : ℕ) (ws : List ℕ) → q ≢ p → words_at q (with_range g p ws).ranges ≡ words_at q g.ranges
 newer_else g p q ws ne = ap (λ b. cond b ws (words_at q g.ranges)) (ne_eqb p q (λ e. ne (sym e)))
 
 -- what each thread holds at each place, once t holds other words at p
-range_cases : (held : ℕ → Grasp) (t p : ℕ) (ws : List ℕ) (P : ℕ → ℕ → List ℕ → Type 0) → P t p ws → ((u q : ℕ) → (u ≡ t → q ≢ p) → P u q (words_at q (held u).ranges)) → (u q : ℕ) → P u q (words_at q (hold held t (with_range (held t) p ws) u).ranges)
+range_cases : (held : ℕ → Holdings) (t p : ℕ) (ws : List ℕ) (P : ℕ → ℕ → List ℕ → Type 0) → P t p ws → ((u q : ℕ) → (u ≡ t → q ≢ p) → P u q (words_at q (held u).ranges)) → (u q : ℕ) → P u q (words_at q (hold held t (with_range (held t) p ws) u).ranges)
 range_cases held t p ws P here else u q = dite (ℕ_discrete u t)
     (λ e. dite (ℕ_discrete q p)
-    (λ f. subst (λ z. P u q z) (sym (ap (λ (g : Grasp). words_at q g.ranges) (ap (hold held t (with_range (held t) p ws)) e ∙ hold_here held t (with_range (held t) p ws)) ∙ (ap (λ z. words_at z (with_range (held t) p ws).ranges) f ∙ newer_here (held t) p ws)))
+    (λ f. subst (λ z. P u q z) (sym (ap (λ (g : Holdings). words_at q g.ranges) (ap (hold held t (with_range (held t) p ws)) e ∙ hold_here held t (with_range (held t) p ws)) ∙ (ap (λ z. words_at z (with_range (held t) p ws).ranges) f ∙ newer_here (held t) p ws)))
     (subst (λ (z : ℕ × ℕ). P z.0 z.1 ws) (λ i. (sym e i, sym f i)) here))
-    (λ f. subst (λ z. P u q z) (sym (ap (λ (g : Grasp). words_at q g.ranges) (ap (hold held t (with_range (held t) p ws)) e ∙ hold_here held t (with_range (held t) p ws)) ∙ (newer_else (held t) p q ws f ∙ ap (λ z. words_at q (held z).ranges) (sym e)))) (else u q (λ _. f))))
-    (λ e. subst (λ (g : Grasp). P u q (words_at q g.ranges)) (sym (hold_else held t u (with_range (held t) p ws) e)) (else u q (λ z. absurd (e z))))
+    (λ f. subst (λ z. P u q z) (sym (ap (λ (g : Holdings). words_at q g.ranges) (ap (hold held t (with_range (held t) p ws)) e ∙ hold_here held t (with_range (held t) p ws)) ∙ (newer_else (held t) p q ws f ∙ ap (λ z. words_at q (held z).ranges) (sym e)))) (else u q (λ _. f))))
+    (λ e. subst (λ (g : Holdings). P u q (words_at q g.ranges)) (sym (hold_else held t u (with_range (held t) p ws) e)) (else u q (λ z. absurd (e z))))
 
-header_cases : (held : ℕ → Grasp) (t p : ℕ) (ws : List ℕ) (u o : ℕ) → header_in o (hold held t (with_range (held t) p ws) u).headers ≡ header_in o (held u).headers
+header_cases : (held : ℕ → Holdings) (t p : ℕ) (ws : List ℕ) (u o : ℕ) → header_in o (hold held t (with_range (held t) p ws) u).headers ≡ header_in o (held u).headers
 header_cases held t p ws u o = dite (ℕ_discrete u t)
-    (λ e. ap (λ (g : Grasp). header_in o g.headers) (ap (hold held t (with_range (held t) p ws)) e ∙ hold_here held t (with_range (held t) p ws)) ∙ ap (λ z. header_in o (held z).headers) (sym e))
-    (λ ne. ap (λ (g : Grasp). header_in o g.headers) (hold_else held t u (with_range (held t) p ws) ne))
+    (λ e. ap (λ (g : Holdings). header_in o g.headers) (ap (hold held t (with_range (held t) p ws)) e ∙ hold_here held t (with_range (held t) p ws)) ∙ ap (λ z. header_in o (held z).headers) (sym e))
+    (λ ne. ap (λ (g : Holdings). header_in o g.headers) (hold_else held t u (with_range (held t) p ws) ne))
 
 -- no word has two owners
 pub not_unowned : (a : Owner) (o j : ℕ) → a ≡ unowned → a ≡ of_object o j → ⊥
@@ -80,7 +80,7 @@ one_of_range t p j k e = cc
 one_range : (a : Owner) (t p i u q j : ℕ) → a ≡ of_range t p i → a ≡ of_range u q j → (t ≡ u) × (p ≡ q)
 one_range a t p i u q j e f = let z : of_range t p i ≡ of_range u q j = sym e ∙ f in (cc, cc)
 
-module _ (c : Config) (words : List ℕ) (objects : ℕ → Option Contents) (area : ℕ → Type 0) (moving : Option Move) (held : ℕ → Grasp) (s : IsSpace c words objects area moving held) where
+module _ (c : Config) (words : List ℕ) (objects : ℕ → Option Contents) (area : ℕ → Type 0) (moving : Option Move) (held : ℕ → Holdings) (s : IsSpace c words objects area moving held) where
   -- what is owned lies below the top
   pub object_below : (x o j : ℕ) → s.owner x ≡ of_object o j → area x
   object_below x o j e = s.inside x (λ n. not_unowned (s.owner x) o j n e)
@@ -324,10 +324,10 @@ module _ (c : Config) (words : List ℕ) (objects : ℕ → Option Contents) (ar
     range = λ u p. subst (λ ws. Stands c s.owner words (of_range u p) (λ j. p + j) ws) (sym (same_ranges u p)) (s.range u p);
     header = λ u r k e. dite (ℕ_discrete u t)
         (λ q. dite (ℕ_discrete o r)
-        (λ f. let k_is : h ≡ k = let z = sym (ap (λ b. cond b (Some h) (header_in r (held t).headers)) (eq-eqb o r f)) ∙ (sym (ap (λ (g : Grasp). header_in r g.headers) (here u q)) ∙ e) in cc in
+        (λ f. let k_is : h ≡ k = let z = sym (ap (λ b. cond b (Some h) (header_in r (held t).headers)) (eq-eqb o r f)) ∙ (sym (ap (λ (g : Holdings). header_in r g.headers) (here u q)) ∙ e) in cc in
         subst (λ (z : ℕ × HeaderParts). IsKnown c words z.0 z.1) (λ i. (f i, k_is i)) known)
-        (λ ne. s.header t r k (sym (ap (λ b. cond b (Some h) (header_in r (held t).headers)) (ne_eqb o r ne)) ∙ (sym (ap (λ (g : Grasp). header_in r g.headers) (here u q)) ∙ e))))
-        (λ ne. s.header u r k (ap (λ (g : Grasp). header_in r g.headers) (sym (hold_else held t u (with_header (held t) o h) ne)) ∙ e));
+        (λ ne. s.header t r k (sym (ap (λ b. cond b (Some h) (header_in r (held t).headers)) (ne_eqb o r ne)) ∙ (sym (ap (λ (g : Holdings). header_in r g.headers) (here u q)) ∙ e))))
+        (λ ne. s.header u r k (ap (λ (g : Holdings). header_in r g.headers) (sym (hold_else held t u (with_header (held t) o h) ne)) ∙ e));
   }
     where
       here : (u : ℕ) → u ≡ t → hold held t (with_header (held t) o h) u ≡ with_header (held t) o h
@@ -335,5 +335,5 @@ module _ (c : Config) (words : List ℕ) (objects : ℕ → Option Contents) (ar
 
       same_ranges : (u p : ℕ) → words_at p (hold held t (with_header (held t) o h) u).ranges ≡ words_at p (held u).ranges
       same_ranges u p = dite (ℕ_discrete u t)
-          (λ q. ap (λ (g : Grasp). words_at p g.ranges) (here u q) ∙ ap (λ z. words_at p (held z).ranges) (sym q))
-          (λ ne. ap (λ (g : Grasp). words_at p g.ranges) (hold_else held t u (with_header (held t) o h) ne))
+          (λ q. ap (λ (g : Holdings). words_at p g.ranges) (here u q) ∙ ap (λ z. words_at p (held z).ranges) (sym q))
+          (λ ne. ap (λ (g : Holdings). words_at p g.ranges) (hold_else held t u (with_header (held t) o h) ne))

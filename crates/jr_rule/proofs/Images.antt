@@ -12,13 +12,13 @@ use Rattle.jr_model.specs.declared.event.Found.TheVariants.{Object}
 use Rattle.jr_model.specs.Maps.{update}
 use Rattle.jr_model.specs.State.{Handle, Contents, State}
 use Rattle.jr_model.proofs.Updates.{eq_true, eq_false, at_number}
-use Rattle.jr_steps.specs.Acts.{found_object, handle_of}
-use Rattle.jr_steps.specs.declared.known.Grasp.{Grasp}
+use Rattle.jr_steps.specs.Acts.{found_of, handle_of}
+use Rattle.jr_steps.specs.declared.known.Holdings.{Holdings}
 use Rattle.jr_steps.specs.declared.known.Move.{Move}
 use mathlib.Core.Logic.{dite}
 use native.Mathlib.Decide.{ℕ_discrete}
 use Rattle.jr_rule.proofs.Spaces.{space_low, space_same, space_let_go, hold_here, hold_else}
-use Rattle.jr_steps.specs.Grasping.{empty, hold}
+use Rattle.jr_steps.specs.Holdings.{empty, hold}
 use Rattle.jr_steps.specs.Says.{StandsAlone, StandsAs}
 use Rattle.jr_rule.specs.Image.{gate_at, top_at, slot_at, local_at, header_at, element_at, MayHold, AreHeld, IsIn, IsSpace, IsGateOf, IsTopOf, IsSlotOf, IsLocalOf, IsHeaderOf, IsImage}
 
@@ -58,21 +58,21 @@ same_slot last i w refs refs' given given' same x = record {
     says (slot.Free n) y = (λ h at. (same h at).0 ∙ y.0 h at, y.1, y.2)
     says (slot.Retired n) y = (λ h at. (same h at).0 ∙ y.0 h at, y.1, y.2)
     says (slot.Global n o) y = alone (handle_of Global n i) (Object o) refl y
-    says (slot.Weak n o) y = alone (handle_of Weak n i) (found_object o) refl y
+    says (slot.Weak n o) y = alone (handle_of Weak n i) (found_of o) refl y
 
 -- who holds the same, or one something else that it may
-pub hands_same : (role : ℕ → Role) (moving : Option Move) (held held' : ℕ → Grasp) → ((u : ℕ) → held' u ≡ held u) → AreHeld role moving held → AreHeld role moving held'
+pub hands_same : (role : ℕ → Role) (moving : Option Move) (held held' : ℕ → Holdings) → ((u : ℕ) → held' u ≡ held u) → AreHeld role moving held → AreHeld role moving held'
 hands_same role moving held held' same a = record { each = λ u. subst (MayHold moving (role u)) (sym (same u)) (a.each u); still = a.still }
 
-pub hands_held : (role : ℕ → Role) (moving : Option Move) (held : ℕ → Grasp) (t : ℕ) (g : Grasp) → MayHold moving (role t) g → AreHeld role moving held → AreHeld role moving (hold held t g)
+pub hands_held : (role : ℕ → Role) (moving : Option Move) (held : ℕ → Holdings) (t : ℕ) (g : Holdings) → MayHold moving (role t) g → AreHeld role moving held → AreHeld role moving (hold held t g)
 hands_held role moving held t g may a = record {
   each = λ u. dite (ℕ_discrete u t)
-      (λ e. subst (λ (z : ℕ × Grasp). MayHold moving (role z.0) z.1) (λ i. (sym e i, sym (ap (hold held t g) e ∙ hold_here held t g) i)) may)
+      (λ e. subst (λ (z : ℕ × Holdings). MayHold moving (role z.0) z.1) (λ i. (sym e i, sym (ap (hold held t g) e ∙ hold_here held t g) i)) may)
       (λ ne. subst (MayHold moving (role u)) (sym (hold_else held t u g ne)) (a.each u));
   still = a.still;
 }
 
-module _ (c : Config) (last : ℕ) (words : List ℕ) (s : State) (held : ℕ → Grasp) (image : IsImage c last words s held) (n : ℕ) where
+module _ (c : Config) (last : ℕ) (words : List ℕ) (s : State) (held : ℕ → Holdings) (image : IsImage c last words s held) (n : ℕ) where
   -- another word stays
   other : (i j : ℕ) (P : ℕ → Type 0) → j ≢ i → P (get_or words j 0) → P (get_or (slice_set words i n) j 0)
   other i j P ne p = subst P (sym (get_or-set_other words i j n 0 ne)) p
@@ -137,7 +137,7 @@ module _ (c : Config) (last : ℕ) (words : List ℕ) (s : State) (held : ℕ �
   }
 
   -- where the word of several parts changes, the space is the caller's to show
-  pub top_set : (used : ℕ) (moving : Option Move) (held' : ℕ → Grasp) → AreHeld s.role moving held' → IsTopOf used n → IsSpace c (slice_set words top_at n) s.objects (IsIn used) moving held' → IsImage c last (slice_set words top_at n) (record s { used = used }) held'
+  pub top_set : (used : ℕ) (moving : Option Move) (held' : ℕ → Holdings) → AreHeld s.role moving held' → IsTopOf used n → IsSpace c (slice_set words top_at n) s.objects (IsIn used) moving held' → IsImage c last (slice_set words top_at n) (record s { used = used }) held'
   top_set used moving held' hands x space = let wide = image.wide in record {
     wide = length-set words top_at n ∙ image.wide;
     gate = other 1 0 (IsGateOf c s.role) (λ e. absurd (omega arith)) image.gate;
@@ -150,7 +150,7 @@ module _ (c : Config) (last : ℕ) (words : List ℕ) (s : State) (held : ℕ �
     space = space;
   }
 
-  pub header_set : (o : ℕ) (x : Option Contents) (moving : Option Move) (held' : ℕ → Grasp) → AreHeld s.role moving held' → 1 ≤ o → o ≤ c.objects → IsHeaderOf x n → IsSpace c (slice_set words (header_at c o) n) (update nat_eq s.objects o x) (IsIn s.used) moving held'
+  pub header_set : (o : ℕ) (x : Option Contents) (moving : Option Move) (held' : ℕ → Holdings) → AreHeld s.role moving held' → 1 ≤ o → o ≤ c.objects → IsHeaderOf x n → IsSpace c (slice_set words (header_at c o) n) (update nat_eq s.objects o x) (IsIn s.used) moving held'
       → IsImage c last (slice_set words (header_at c o) n) (record s { objects = update nat_eq s.objects o x }) held'
   header_set o x moving held' hands low high h space = let wide = image.wide in record {
     wide = length-set words (header_at c o) n ∙ image.wide;
@@ -167,7 +167,7 @@ module _ (c : Config) (last : ℕ) (words : List ℕ) (s : State) (held : ℕ �
   }
 
   -- a word of array space, where the objects keep their headers
-  pub element_set : (x : ℕ) (objects : ℕ → Option Contents) (moving : Option Move) (held' : ℕ → Grasp) → AreHeld s.role moving held' → x < c.words → ((o w : ℕ) → IsHeaderOf (s.objects o) w → IsHeaderOf (objects o) w) → IsSpace c (slice_set words (element_at c x) n) objects (IsIn s.used) moving held'
+  pub element_set : (x : ℕ) (objects : ℕ → Option Contents) (moving : Option Move) (held' : ℕ → Holdings) → AreHeld s.role moving held' → x < c.words → ((o w : ℕ) → IsHeaderOf (s.objects o) w → IsHeaderOf (objects o) w) → IsSpace c (slice_set words (element_at c x) n) objects (IsIn s.used) moving held'
       → IsImage c last (slice_set words (element_at c x) n) (record s { objects = objects }) held'
   element_set x objects moving held' hands row same space = let wide = image.wide in record {
     wide = length-set words (element_at c x) n ∙ image.wide;
@@ -181,12 +181,12 @@ module _ (c : Config) (last : ℕ) (words : List ℕ) (s : State) (held : ℕ �
     space = space;
   }
 
-module _ (c : Config) (last : ℕ) (words : List ℕ) (s : State) (held : ℕ → Grasp) (image : IsImage c last words s held) where
-  pub with_space : (moving : Option Move) (held' : ℕ → Grasp) → AreHeld s.role moving held' → IsSpace c words s.objects (IsIn s.used) moving held' → IsImage c last words s held'
+module _ (c : Config) (last : ℕ) (words : List ℕ) (s : State) (held : ℕ → Holdings) (image : IsImage c last words s held) where
+  pub with_space : (moving : Option Move) (held' : ℕ → Holdings) → AreHeld s.role moving held' → IsSpace c words s.objects (IsIn s.used) moving held' → IsImage c last words s held'
   with_space moving held' hands space = record { wide = image.wide; gate = image.gate; top = image.top; slot = image.slot; local = image.local; header = image.header; moving = moving; hands = hands; space = space }
 
   -- who holds the same
-  pub image_same : (held' : ℕ → Grasp) → ((u : ℕ) → held' u ≡ held u) → IsImage c last words s held'
+  pub image_same : (held' : ℕ → Holdings) → ((u : ℕ) → held' u ≡ held u) → IsImage c last words s held'
   image_same held' same = with_space image.moving held' (hands_same s.role image.moving held held' same image.hands) (space_same c words s.objects (IsIn s.used) image.moving held image.space held' same)
 
   -- a thread holds nothing any more, where no move of its own is unfinished

@@ -20,7 +20,7 @@ use Rattle.jr_model.proofs.Stays.{never}
 use Rattle.jr_model.proofs.References.{kept_state}
 use Rattle.jr_model.proofs.Presence.{sound_state}
 use Rattle.jr_steps.specs.declared.known.Known.{Known}
-use Rattle.jr_steps.specs.Acts.{found_object}
+use Rattle.jr_steps.specs.Acts.{found_of}
 use Rattle.jr_steps.specs.Knowing.{HasLooked}
 use Rattle.jr_rule.specs.Slots.{CanStand}
 use Rattle.jr_model.proofs.InRoom.{in_room}
@@ -51,7 +51,7 @@ pub record IsLooked (c : Config) (last : ℕ) (h : Handle) (o : Option ℕ) (s :
   pub row : IsInRow c last h
   pub can : CanStand h.kind o
   pub object : (x : ℕ) → o ≡ Some x → (1 ≤ x) × (x ≤ c.objects)
-  pub stands : (s.refs h ≡ found_object o) ⊎ (s.refs h ≡ Stale)
+  pub stands : (s.refs h ≡ found_of o) ⊎ (s.refs h ≡ Stale)
 
 can_stand : (k : RefKind) (o : Option ℕ) → k ≢ Local → (o ≡ None → k ≡ Weak) → CanStand k o
 can_stand Local o a b = a refl
@@ -59,10 +59,10 @@ can_stand Global None a b = absurd (let e = b refl in cc)
 can_stand Global (Some o) a b = tt
 can_stand Weak o a b = tt
 
-pub looked_at : (c : Config) (last : ℕ) (h : Handle) (o : Option ℕ) (k : Known) → IsLegal c last k.seen → HasLooked h (found_object o) k → IsLooked c last h o (state k.seen)
+pub looked_at : (c : Config) (last : ℕ) (h : Handle) (o : Option ℕ) (k : Known) → IsLegal c last k.seen → HasLooked h (found_of o) k → IsLooked c last h o (state k.seen)
 looked_at c last h o k legal q =
     let t : ℕ = k.thread in
-    let look : Event = by t (Look h (found_object o)) in
+    let look : Event = by t (Look h (found_of o)) in
     let both = (legal_append c last q.before (look ∷ q.since)).0 (subst (IsLegal c last) q.is legal) in
     let was : State = state q.before in
     let needs = both.1.0.1 in
@@ -72,10 +72,10 @@ looked_at c last h o k legal q =
     let room = in_room c last q.before both.0 in
     let row = kept.in_row h given in
     let end : state k.seen ≡ state_from was q.since = ap state q.is ∙ state_append q.before (look ∷ q.since) in
-    let still = still_along c last t h (found_object o) was q.since (apart_state c last q.before both.0) needs.0 (never Leave q.since t q.stays) (record { given = given; stands = inl needs.1 }) both.1.1 in
+    let still = still_along c last t h (found_of o) was q.since (apart_state c last q.before both.0) needs.0 (never Leave q.since t q.stays) (record { given = given; stands = inl needs.1 }) both.1.1 in
     record {
       row = row;
-      can = can_stand h.kind o row.0 (λ e. room.cleared h (needs.1 ∙ ap found_object e));
-      object = λ x e. room.objects x ((sound_state c last q.before both.0).named h x (needs.1 ∙ ap found_object e));
-      stands = subst (λ (s : State). (s.refs h ≡ found_object o) ⊎ (s.refs h ≡ Stale)) (sym end) still.stands;
+      can = can_stand h.kind o row.0 (λ e. room.cleared h (needs.1 ∙ ap found_of e));
+      object = λ x e. room.objects x ((sound_state c last q.before both.0).named h x (needs.1 ∙ ap found_of e));
+      stands = subst (λ (s : State). (s.refs h ≡ found_of o) ⊎ (s.refs h ≡ Stale)) (sym end) still.stands;
     }

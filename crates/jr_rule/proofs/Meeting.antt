@@ -2,9 +2,9 @@
 use Rattle.std.proofs.Common.{◌≡◌, ℕ, List, [], ◌∷◌, sym, ap, subst, ◌∙◌}
 use Rattle.jr_model.specs.declared.event.Act.{Act}
 use Rattle.jr_steps.specs.declared.known.Known.{Known}
-use Rattle.jr_steps.specs.Grasping.{InSpace}
+use Rattle.jr_steps.specs.Holdings.{InSpace}
 use Rattle.jr_steps.specs.Knowing.{view}
-use Rattle.jr_rule.specs.Rule.{view as seats, EachFits, Sat, acting, others_of, Tells, IsAlone, together, first_alone}
+use Rattle.jr_rule.specs.Rule.{view_of as seats, EachFits, Sat, acting, others_of, Tells, IsAlone, together, first_alone}
 use Rattle.jr_rule.specs.Holding.{IsSeated}
 use Rattle.jr_rule.proofs.Seats.{joined_is}
 
@@ -35,7 +35,7 @@ module _ (a b m : Sat) (alone : IsAlone a) (other : IsAlone b) (joined : m ≡ (
       is = first_is ∙ (λ i. (seats (s.new ∷ ap (λ (z : Sat). others_of z.0.passes) (sym alone) i), ap (λ (z : Sat). z.1) (sym alone) i));
       goes = subst (λ k. Rattle.jr_steps.specs.Knowing.Goes k s.acts s.new) acting_both s.goes;
       says = subst (λ k. told k n s.acts s.new) acting_both s.says;
-      space = subst (λ (k : Known). InSpace k.config (s.new).grasp) acting_both s.space;
+      space = subst (λ (k : Known). InSpace k.config (s.new).holdings) acting_both s.space;
       held = s.held;
       others = subst (λ ks. EachFits (acting a).config (acting a).last (s.new).seen s.held ks) (sym (ap (λ (z : Sat). others_of z.0.passes) alone)) tt;
     }

@@ -10,9 +10,9 @@ use Rattle.jr_word.specs.Header.{header_word, IsHeader}
 use Rattle.jr_model.specs.Maps.{update}
 use Rattle.jr_model.specs.State.{Contents}
 use Rattle.jr_model.proofs.Updates.{at_number}
-use Rattle.jr_steps.specs.declared.known.Grasp.{Grasp}
+use Rattle.jr_steps.specs.declared.known.Holdings.{Holdings}
 use Rattle.jr_steps.specs.declared.known.Move.{Move}
-use Rattle.jr_steps.specs.Grasping.{words_at, header_in, move_of, HasDone}
+use Rattle.jr_steps.specs.Holdings.{words_at, header_in, move_of, HasDone}
 use Rattle.jr_steps.specs.Says.{spot}
 use Rattle.jr_steps.proofs.Spots.{spot_else, spot_done, spot_left, at_else, at_done, at_left}
 use Rattle.jr_rule.specs.Image.{top_at, header_at, element_at, Owner, unowned, of_object, of_range, Stands, IsKnown, IsSpace}
@@ -24,7 +24,7 @@ use Rattle.jr_rule.proofs.Spaces.{header_stays, element_stays}
 none_own : (c : Config) (owner : ℕ → Owner) (words : List ℕ) (whose also : ℕ → Owner) (spots : ℕ → ℕ) (items : List ℕ) → items ≡ [] → Stands c owner words whose spots items
 none_own c owner words whose also spots items e = record { owns = λ j l. absurd (let z = ap length e in omega arith); reads = λ j l. absurd (let z = ap length e in omega arith) }
 
-module _ (c : Config) (words : List ℕ) (objects : ℕ → Option Contents) (area : ℕ → Type 0) (moving : Option Move) (held : ℕ → Grasp) (s : IsSpace c words objects area moving held) (wide : length words ≡ row_words c) (fits : (x : ℕ) → area x → x < c.words) (held' : ℕ → Grasp) (none : (u p : ℕ) → words_at p (held' u).ranges ≡ []) where
+module _ (c : Config) (words : List ℕ) (objects : ℕ → Option Contents) (area : ℕ → Type 0) (moving : Option Move) (held : ℕ → Holdings) (s : IsSpace c words objects area moving held) (wide : length words ≡ row_words c) (fits : (x : ℕ) → area x → x < c.words) (held' : ℕ → Holdings) (none : (u p : ℕ) → words_at p (held' u).ranges ≡ []) where
   -- AN ELEMENT IS MOVED to its new place, which no other list has, and no element of its own that is still to be moved
   module _ (o place j v : ℕ) (x : Contents) (h : HeaderParts) (some : 1 ≤ o) (few : o ≤ c.objects) (is : objects o ≡ Some x) (good : IsHeader h) (word : get_or words (header_at c o) 0 ≡ header_word h) (done : HasDone moving o place j) (short : j < length x.words) (room : area (place + j)) (later : (i : ℕ) → j < i → i < length x.words → h.place + i ≢ place + j) (value : get_or x.words j 0 ≡ v)
       (free : (r : ℕ) (y : Contents) (k : HeaderParts) → o ≢ r → 1 ≤ r → r ≤ c.objects → objects r ≡ Some y → IsHeader k → get_or words (header_at c r) 0 ≡ header_word k → (i : ℕ) → i < length y.words → k.place + i ≢ place + j)

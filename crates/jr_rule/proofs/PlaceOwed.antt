@@ -8,14 +8,14 @@ use Rattle.jr_model.specs.declared.event.Role.TheVariants.{Within}
 use Rattle.jr_model.specs.History.{IsLegal, role_of}
 use Rattle.jr_model.proofs.InRoom.{in_room}
 use Rattle.jr_steps.specs.declared.known.Known.{Known}
-use Rattle.jr_steps.specs.Acts.{putting}
+use Rattle.jr_steps.specs.Acts.{act_of_put}
 use Rattle.jr_steps.specs.Says.{local_parts}
 use Rattle.jr_rule.specs.Image.{local_at}
 use Rattle.jr_steps.specs.Knowing.{view, HasOptional}
 use Rattle.jr_rule.specs.Rule.{Owes}
-use Rattle.jr_rule.proofs.Found.{role_at, present_now}
-use Rattle.jr_rule.proofs.Owing.{quiet}
-use Rattle.jr_rule.proofs.LocalTurns.{puts}
+use Rattle.jr_rule.proofs.StillSo.{role_at, present_now}
+use Rattle.jr_rule.proofs.Obligations.{quiet}
+use Rattle.jr_rule.proofs.LocalSteps.{puts}
 use Rattle.jr_rule.proofs.Told.{Put}
 
 -- an object, if one is given, without a choice
@@ -35,4 +35,4 @@ module _ (k : Known) (within : role_of (view k) ≡ Within) where
   puts_local p o l has log words held f =
       let at : ℕ = local_at k.config k.thread p in
       let t = puts k.config k.last log k.thread words f.legal held f.image f.fits.row (role_at k log words held f ∙ within) p o l (λ x e. present_now k log words held f x within (subst (λ z. HasOptional z k) e has)) in
-      quiet k log words held f (slice_set words at (local_word (local_parts o))) (Put p o k (local_word (local_parts o))) (putting p o ∷ []) t (refl, refl)
+      quiet k log words held f (slice_set words at (local_word (local_parts o))) (Put p o k (local_word (local_parts o))) (act_of_put p o ∷ []) t (refl, refl)

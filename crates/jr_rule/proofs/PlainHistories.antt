@@ -13,8 +13,8 @@ pub history_of : (s : Standing) (words : List ℕ) → s.last < 2 ^ 32 → (k : 
 history_of s words few k shows = record {
   few = let e = shows.pass.last in omega arith;
   legal = subst (λ (c : Config). IsLegal c k.last k.seen) shows.pass.config shows.pass.legal;
-  held = alone k.grasp;
-  image = subst (λ (c : Config). IsImage c k.last words (state_of k) (alone k.grasp)) shows.pass.config shows.image;
+  held = alone k.holdings;
+  image = subst (λ (c : Config). IsImage c k.last words (state_of k) (alone k.holdings)) shows.pass.config shows.image;
 }
 
 pub has_history : (s : Standing) (words : List ℕ) → s.last < 2 ^ 32 → MayKnow (Shows s) words anything → HasHistory s.config words

@@ -28,22 +28,22 @@ use Rattle.jr_model.proofs.InRoom.{in_room}
 use Rattle.jr_model.proofs.Lengths.{lengths_fit}
 use Rattle.jr_model.proofs.Moments.{prefix_self}
 use Rattle.jr_steps.specs.declared.known.Known.{Known}
-use Rattle.jr_steps.specs.declared.known.Grasp.{Grasp}
-use Rattle.jr_steps.specs.declared.naming.GateNaming.{GateNaming}
-use Rattle.jr_steps.specs.declared.naming.SlotNaming.{SlotNaming}
-use Rattle.jr_steps.specs.declared.naming.TopNaming.{TopNaming}
+use Rattle.jr_steps.specs.declared.known.Holdings.{Holdings}
+use Rattle.jr_steps.specs.declared.loads.GateLoad.{GateLoad}
+use Rattle.jr_steps.specs.declared.loads.SlotLoad.{SlotLoad}
+use Rattle.jr_steps.specs.declared.loads.TopLoad.{TopLoad}
 use Rattle.jr_rule.specs.declared.plain.PlainSteps.{PlainSteps}
-use Rattle.jr_steps.specs.Acts.{entered_as, leaving, all_counted, gate_named, GateNameFits, found_object, handle_of, slot_named, SlotNameFits, claiming, freeing, putting, publishing, top_named, reserving}
+use Rattle.jr_steps.specs.Acts.{act_of_entry, act_of_exit, all_counted, act_of_gate_load, GateLoadFits, found_of, handle_of, act_of_slot_load, SlotLoadFits, act_of_claim, act_of_free, act_of_put, acts_of_publication, acts_of_top_load, act_of_reservation}
 use Rattle.jr_steps.specs.Collecting.{ShowsLocal, ShowsElement, IsThere, CanWipe, CanDrop, ShowsDropped, CanMove, ShowsMoved, placed, CanPlace, ShowsPlaced, CanSettle}
-use Rattle.jr_steps.specs.Grasping.{hold}
+use Rattle.jr_steps.specs.Holdings.{hold}
 use Rattle.jr_steps.specs.Says.{local_parts}
 use Rattle.jr_rule.specs.Image.{top_at, slot_at, local_at, header_at, element_at, IsImage}
-use Rattle.jr_steps.specs.Knowing.{Standing, moved, MayKnow, anything, keeps, lets_go, CanReopen, ShowsGate, ShowsSlot, HasObject, HasOptional, HasLooked, IsFreeSlot, LostClaim, KnowsHeader, HasWord, IsWordNow, IsFilled, words_for, ShowsHeader, ShowsPublished, ShowsUsed, WasUsed, ShowsRange, ShowsWord}
-use Rattle.jr_rule.specs.Plain.{alone, standing, Shows}
+use Rattle.jr_steps.specs.Knowing.{Standing, standing_after, MayKnow, anything, keeps, lets_go, CanReopen, ShowsGate, ShowsSlot, HasObject, HasOptional, HasLooked, IsFreeSlot, LostClaim, KnowsHeader, HasWord, IsWordNow, IsFilled, words_for, ShowsHeader, ShowsPublished, ShowsUsed, WasUsed, ShowsRange, ShowsWord}
+use Rattle.jr_rule.specs.Plain.{alone, standing_alone, Shows}
 use Rattle.jr_rule.specs.Rule.{IsFound, IsSized, known, known_at, Makes}
-use Rattle.jr_rule.specs.Slots.{CanStand, IsReference, freed}
-use Rattle.jr_rule.proofs.Effects.{entered_fresh, left_role, left_fresh, gate_named_role, gate_named_fresh, slot_named_role, slot_named_fresh, putting_role, putting_spends, publishing_role, publishing_fresh, top_named_role, top_named_fresh}
-use Rattle.jr_rule.proofs.GateTurns.{gate_fits, gate_most, counted, shut_counted, nobody}
+use Rattle.jr_rule.specs.Slots.{CanStand, IsReference, parts_once_free}
+use Rattle.jr_rule.proofs.ActEffects.{entered_fresh, left_role, left_fresh, gate_named_role, gate_named_fresh, slot_named_role, slot_named_fresh, putting_role, putting_spends, publishing_role, publishing_fresh, top_named_role, top_named_fresh}
+use Rattle.jr_rule.proofs.GateSteps.{gate_fits, gate_most, counted, shut_counted, nobody}
 use Rattle.jr_rule.proofs.GateOwed.{enters, leaves, shuts, reopens, sees_gate}
 use Rattle.jr_rule.proofs.Looked.{looked_at}
 use Rattle.jr_rule.proofs.SlotOwed.{sees_slot, claims_slot, frees_slot}
@@ -52,21 +52,21 @@ use Rattle.jr_rule.proofs.SlotWords.{some_reference, can_prop}
 use Rattle.jr_rule.proofs.PlaceOwed.{optional_fits, puts_local}
 use Rattle.jr_rule.proofs.HeapOwed.{header_read, top_is, sees_header, publishes_header, sees_top, claims_top, sees_element, puts_element, puts_own}
 use Rattle.jr_rule.proofs.CollectOwed.{scans_slot, scans_local, scans_header, scans_element, wiped_word, wipes_slot, drops_header, moves_element, places_header, settles_top}
-use Rattle.jr_rule.proofs.Owing.{won, lost as unchanged}
+use Rattle.jr_rule.proofs.Obligations.{won, lost as unchanged}
 use Rattle.jr_rule.proofs.PlainTook.{stands_same, alone_here, turn_alone, Turned}
 use Rattle.jr_rule.proofs.Readings.{is_read, read_once}
 use Rattle.jr_rule.proofs.Told.{IsHeaderWord, SawHeader, used_word}
-use Rattle.jr_rule.proofs.Turns.{Turn}
+use Rattle.jr_rule.proofs.LegalSteps.{LegalStep}
 
 module _ (LAST : ℕ) (few : LAST < 2 ^ 32) (p : PlainSteps LAST) where
   abbrev old : Standing
-  old = standing p.config LAST p.role p.fresh
+  old = standing_alone p.config LAST p.role p.fresh
 
   abbrev words : List ℕ
   words = p.words.items
 
   -- thread 0 of the room, with what it has seen and holds
-  abbrev own : History → Grasp → ℕ → Known
+  abbrev own : History → Holdings → ℕ → Known
   own log g n = known p.config LAST 0 log g n
 
   sized : IsSized p.config LAST
@@ -77,56 +77,56 @@ module _ (LAST : ℕ) (few : LAST < 2 ^ 32) (p : PlainSteps LAST) where
   }
 
   -- whatever is known is of it
-  own_is : (k : Known) → Shows old words k → k ≡ own k.seen k.grasp k.taken
-  own_is k h = λ i. known (h.pass.config i) (h.pass.last i) (h.pass.thread i) k.seen k.grasp k.taken
+  own_is : (k : Known) → Shows old words k → k ≡ own k.seen k.holdings k.taken
+  own_is k h = λ i. known (h.pass.config i) (h.pass.last i) (h.pass.thread i) k.seen k.holdings k.taken
 
   -- so what holds of thread 0 holds of whatever is known
-  any_is_own : (T : Known → Type 0) → ((log : History) (g : Grasp) (n : ℕ) → Shows old words (own log g n) → T (own log g n)) → (k : Known) → Shows old words k → T k
-  any_is_own T each k h = subst T (sym (own_is k h)) (each k.seen k.grasp k.taken (subst (Shows old words) (own_is k h) h))
+  any_is_own : (T : Known → Type 0) → ((log : History) (g : Holdings) (n : ℕ) → Shows old words (own log g n) → T (own log g n)) → (k : Known) → Shows old words k → T k
+  any_is_own T each k h = subst T (sym (own_is k h)) (each k.seen k.holdings k.taken (subst (Shows old words) (own_is k h) h))
 
-  each : {met : Known → Type 0} {A : Type 0} → IsProp A → MayKnow (Shows old) words met → ((log : History) (g : Grasp) (n : ℕ) → Shows old words (own log g n) → met (own log g n) → A) → A
+  each : {met : Known → Type 0} {A : Type 0} → IsProp A → MayKnow (Shows old) words met → ((log : History) (g : Holdings) (n : ℕ) → Shows old words (own log g n) → met (own log g n) → A) → A
   each {met} {A} prop may holds = ∥∥₁_elim may prop (λ z. any_is_own (λ k. met k → A) holds z.0 z.1 z.2)
 
   -- plain words are a row that is found
-  found : (log : History) (g : Grasp) (n : ℕ) → Shows old words (own log g n) → IsFound (own log g n) log words (alone g)
+  found : (log : History) (g : Holdings) (n : ℕ) → Shows old words (own log g n) → IsFound (own log g n) log words (alone g)
   found log g n h = record {
-    fits = record { same_config = refl; same_last = refl; row = p.limited.threads.0; begins = prefix_self log; own = refl; grasp = alone_here g 0 refl };
+    fits = record { same_config = refl; same_last = refl; row = p.limited.threads.0; begins = prefix_self log; own = refl; holdings = alone_here g 0 refl };
     legal = h.pass.legal;
     sized = sized;
     image = h.image;
   }
 
   -- so what a step owes is what it makes of them
-  made : {log : History} {g : Grasp} {n : ℕ} {after : List ℕ → List ℕ} {told : List ℕ → List Act → Known → Type 0} → Shows old words (own log g n)
-      → ((l : History) (ws : List ℕ) (held : ℕ → Grasp) → IsFound (own log g n) l ws held → Makes (own log g n) l (after ws) held (told ws)) → Makes (own log g n) log (after words) (alone g) (told words)
+  made : {log : History} {g : Holdings} {n : ℕ} {after : List ℕ → List ℕ} {told : List ℕ → List Act → Known → Type 0} → Shows old words (own log g n)
+      → ((l : History) (ws : List ℕ) (held : ℕ → Holdings) → IsFound (own log g n) l ws held → Makes (own log g n) l (after ws) held (told ws)) → Makes (own log g n) log (after words) (alone g) (told words)
   made {log} {g} {n} h owes = owes log words (alone g) (found log g n h)
 
   -- which leaves these words, has these acts and shows this
-  tells : {log : History} {g : Grasp} {n : ℕ} {after : List ℕ → List ℕ} {told : List ℕ → List Act → Known → Type 0} {words' : List ℕ} {acts : List Act} {shows : Known → Type 0} → Shows old words (own log g n)
-      → ((l : History) (ws : List ℕ) (held : ℕ → Grasp) → IsFound (own log g n) l ws held → Makes (own log g n) l (after ws) held (told ws)) → after words ≡ words'
+  tells : {log : History} {g : Holdings} {n : ℕ} {after : List ℕ → List ℕ} {told : List ℕ → List Act → Known → Type 0} {words' : List ℕ} {acts : List Act} {shows : Known → Type 0} → Shows old words (own log g n)
+      → ((l : History) (ws : List ℕ) (held : ℕ → Holdings) → IsFound (own log g n) l ws held → Makes (own log g n) l (after ws) held (told ws)) → after words ≡ words'
       → ((done : List Act) (k' : Known) → told words done k' → (done ≡ acts) × shows k') → Makes (own log g n) log words' (alone g) (λ done k'. (done ≡ acts) × shows k')
   tells {log} {g} {n} h owes same reads =
       let m = made h owes in
-      let after : Known = known_at (own log g n) log m.acts m.grasp in record {
+      let after : Known = known_at (own log g n) log m.acts m.holdings in record {
         acts = m.acts;
-        grasp = m.grasp;
+        holdings = m.holdings;
         legal = m.legal;
-        image = subst (λ ws. IsImage p.config LAST ws (state after.seen) (hold (alone g) 0 m.grasp)) same m.image;
+        image = subst (λ ws. IsImage p.config LAST ws (state after.seen) (hold (alone g) 0 m.holdings)) same m.image;
         says = reads m.acts after m.says;
       }
 
   -- and that is the step
-  owed : {new : Standing} {words' : List ℕ} {acts : Known → List Act} {met : Known → Type 0} {shows : Known → Known → Type 0} → ((k : Known) → new ≡ moved old (acts k))
-      → ((log : History) (g : Grasp) (n : ℕ) → Shows old words (own log g n) → met (own log g n) → Makes (own log g n) log words' (alone g) (λ done k'. (done ≡ acts (own log g n)) × shows (own log g n) k'))
+  owed : {new : Standing} {words' : List ℕ} {acts : Known → List Act} {met : Known → Type 0} {shows : Known → Known → Type 0} → ((k : Known) → new ≡ standing_after old (acts k))
+      → ((log : History) (g : Holdings) (n : ℕ) → Shows old words (own log g n) → met (own log g n) → Makes (own log g n) log words' (alone g) (λ done k'. (done ≡ acts (own log g n)) × shows (own log g n) k'))
       → Turned old words new words' acts met shows
   owed {new} {words'} {acts} {met} {shows} stands makes = record {
     stands_is = stands;
-    turn = any_is_own (λ k. met k → (g : Grasp) × Turn k.config k.last k.seen k.thread (acts k) words' (alone g) × shows k (known_at k k.seen (acts k) g)) (λ log g n h m.
+    turn = any_is_own (λ k. met k → (g : Holdings) × LegalStep k.config k.last k.seen k.thread (acts k) words' (alone g) × shows k (known_at k k.seen (acts k) g)) (λ log g n h m.
         let k = own log g n in
         let made = makes log g n h m in (
-          made.grasp,
-          subst (λ a. Turn p.config LAST log 0 a words' (alone made.grasp)) (made.says).0 (turn_alone k made.acts words' made.grasp 0 refl (record { legal = made.legal; image = made.image })),
-          subst (λ a. shows k (known_at k log a made.grasp)) (made.says).0 (made.says).1,
+          made.holdings,
+          subst (λ a. LegalStep p.config LAST log 0 a words' (alone made.holdings)) (made.says).0 (turn_alone k made.acts words' made.holdings 0 refl (record { legal = made.legal; image = made.image })),
+          subst (λ a. shows k (known_at k log a made.holdings)) (made.says).0 (made.says).1,
         ));
   }
 
@@ -136,7 +136,7 @@ module _ (LAST : ℕ) (few : LAST < 2 ^ 32) (p : PlainSteps LAST) where
 
   -- THE GATE
   -- the gate's word neither overflows nor falls below 0
-  most : (log : History) (g : Grasp) (n : ℕ) → Shows old words (own log g n) → get_or words 0 0 ≤ 65600
+  most : (log : History) (g : Holdings) (n : ℕ) → Shows old words (own log g n) → get_or words 0 0 ≤ 65600
   most log g n h = gate_most p.config (state log).role (get_or words 0 0) p.limited.threads.1 h.image.gate
 
   pub gate_few : MayKnow (Shows old) words anything → get_or words 0 0 ≤ 65600
@@ -155,23 +155,23 @@ module _ (LAST : ℕ) (few : LAST < 2 ^ 32) (p : PlainSteps LAST) where
       let gate = h.image.gate in
       is_read r gate.parts (complete gate.parts (gate_fits p.config (state log).role (get_or words 0 0) p.limited.threads.1 gate) gate.word))
 
-  pub entered : (role' : Role) (n : ℕ) (shut : Bool) → n ≡ get_or words 0 0 → ((q : GateParts) → IsGate q → n ≡ gate_word q → shut ≡ q.shut) → p.role ≡ Outside → role' ≡ role_after Outside (entered_as (not shut))
-      → Turned old words (standing p.config LAST role' p.fresh) (slice_set words 0 (n + 1)) (λ k. entered_as (not shut) ∷ []) anything keeps
-  entered role' n shut is says out at = owed (λ k. stands_same p.config LAST (at ∙ ap (λ r. role_after r (entered_as (not shut))) (sym out)) (entered_fresh (not shut) p.fresh)) (λ log g t h m.
+  pub entered : (role' : Role) (n : ℕ) (shut : Bool) → n ≡ get_or words 0 0 → ((q : GateParts) → IsGate q → n ≡ gate_word q → shut ≡ q.shut) → p.role ≡ Outside → role' ≡ role_after Outside (act_of_entry (not shut))
+      → Turned old words (standing_alone p.config LAST role' p.fresh) (slice_set words 0 (n + 1)) (λ k. act_of_entry (not shut) ∷ []) anything keeps
+  entered role' n shut is says out at = owed (λ k. stands_same p.config LAST (at ∙ ap (λ r. role_after r (act_of_entry (not shut))) (sym out)) (entered_fresh (not shut) p.fresh)) (λ log g t h m.
       let bound = most log g t h in
       let next : (get_or words 0 0 + 1) % 2 ^ 64 ≡ n + 1 = omega arith in
       tells h (enters (own log g t) (h.pass.role ∙ out)) (ap (slice_set words 0) next)
-      (λ done k' q. (q.3 ∙ ap (λ b. entered_as (not b) ∷ []) (sym (says q.0 q.1 (is ∙ q.2))), q.4)))
+      (λ done k' q. (q.3 ∙ ap (λ b. act_of_entry (not b) ∷ []) (sym (says q.0 q.1 (is ∙ q.2))), q.4)))
 
-  pub left : (n : ℕ) → n + 1 ≡ get_or words 0 0 → (p.role ≡ Within) ⊎ (p.role ≡ Knocking) → Turned old words (standing p.config LAST Outside p.fresh) (slice_set words 0 n) (λ k. leaving p.role ∷ []) anything lets_go
+  pub left : (n : ℕ) → n + 1 ≡ get_or words 0 0 → (p.role ≡ Within) ⊎ (p.role ≡ Knocking) → Turned old words (standing_alone p.config LAST Outside p.fresh) (slice_set words 0 n) (λ k. act_of_exit p.role ∷ []) anything lets_go
   left n is counts = owed (λ k. stands_same p.config LAST (left_role p.role counts) (left_fresh p.role p.fresh)) (λ log g t h m.
       let bound = most log g t h in
       let next : (get_or words 0 0 + (2 ^ 64 - 1)) % 2 ^ 64 ≡ n = omega arith in
       tells h (leaves (own log g t) (subst (λ r. (r ≡ Within) ⊎ (r ≡ Knocking)) (sym h.pass.role) counts)) (ap (slice_set words 0) next)
-      (λ done k' q. (q.0 ∙ ap (λ r. leaving r ∷ []) h.pass.role, q.1)))
+      (λ done k' q. (q.0 ∙ ap (λ r. act_of_exit r ∷ []) h.pass.role, q.1)))
 
   -- a gate that counts nobody has the word 0
-  pub barred : (q : GateParts) → get_or words 0 0 ≡ gate_word q → all_counted q ≡ 0 → p.role ≡ Outside → Turned old words (standing p.config LAST Collecting p.fresh) (slice_set words 0 65536) (λ k. Shut ∷ []) anything lets_go
+  pub barred : (q : GateParts) → get_or words 0 0 ≡ gate_word q → all_counted q ≡ 0 → p.role ≡ Outside → Turned old words (standing_alone p.config LAST Collecting p.fresh) (slice_set words 0 65536) (λ k. Shut ∷ []) anything lets_go
   barred q is none out =
       let zero : get_or words 0 0 ≡ 0 = is ∙ empty_word q.count q.shut none in
       owed (λ k. refl) (λ log g t h m. tells h (shuts (own log g t) (h.pass.role ∙ out)) (ap (slice_set words 0) (won 0 65536 (get_or words 0 0) zero)) (λ done k' r. r.0 zero))
@@ -186,31 +186,31 @@ module _ (LAST : ℕ) (few : LAST < 2 ^ 32) (p : PlainSteps LAST) where
       owed (λ k. refl) (λ log g t h m. tells h (shuts (own log g t) (h.pass.role ∙ out)) (ap (slice_set words 0) (unchanged 0 65536 (get_or words 0 0) busy) ∙ read 0)
       (λ done k' r. let s = r.1 busy in (s.3 ∙ ap (λ a. ShutBusy a ∷ []) (ap all_counted (gate_word-injective s.0 q s.1 fits (sym s.2 ∙ is)) ∙ sym counts), s.4)))
 
-  pub unbarred : (n : ℕ) → n + 65536 ≡ get_or words 0 0 → p.role ≡ Collecting → Turned old words (standing p.config LAST Outside p.fresh) (slice_set words 0 n) (λ k. Reopen ∷ []) CanReopen lets_go
+  pub unbarred : (n : ℕ) → n + 65536 ≡ get_or words 0 0 → p.role ≡ Collecting → Turned old words (standing_alone p.config LAST Outside p.fresh) (slice_set words 0 n) (λ k. Reopen ∷ []) CanReopen lets_go
   unbarred n is collects = owed (λ k. refl) (λ log g t h m.
       let bound = most log g t h in
       let next : (get_or words 0 0 + (2 ^ 64 - 65536)) % 2 ^ 64 ≡ n = omega arith in
       tells h (reopens (own log g t) (h.pass.role ∙ collects) m.1 ∣ m.0 ∣₁) (ap (slice_set words 0) next) (λ done k' q. q))
 
-  pub gate_saw : (name : GateNaming) (q : GateParts) → IsGate q → get_or words 0 0 ≡ gate_word q → GateNameFits p.role name → Turned old words old words (λ k. gate_named name (all_counted q) ∷ []) anything (λ j k. ShowsGate q k × keeps j k)
+  pub gate_saw : (name : GateLoad) (q : GateParts) → IsGate q → get_or words 0 0 ≡ gate_word q → GateLoadFits p.role name → Turned old words old words (λ k. act_of_gate_load name (all_counted q) ∷ []) anything (λ j k. ShowsGate q k × keeps j k)
   gate_saw name q fits is named = owed (λ k. stands_same p.config LAST (gate_named_role name (all_counted q) p.role) (gate_named_fresh name (all_counted q) p.fresh)) (λ log g t h m.
-      tells h (sees_gate (own log g t) name (subst (λ r. GateNameFits r name) (sym h.pass.role) named)) (read 0) (λ done k' s.
+      tells h (sees_gate (own log g t) name (subst (λ r. GateLoadFits r name) (sym h.pass.role) named)) (read 0) (λ done k' s.
       let same = gate_word-injective s.0 q s.1 fits (sym s.2 ∙ is) in
-      (s.3 ∙ ap (λ z. gate_named name (all_counted z) ∷ []) same, (subst (λ z. ShowsGate z k') same s.4, s.5))))
+      (s.3 ∙ ap (λ z. act_of_gate_load name (all_counted z) ∷ []) same, (subst (λ z. ShowsGate z k') same s.4, s.5))))
 
   -- SLOTS
-  pub saw : (i : ℕ) (name : SlotNaming) (q : SlotParts) → i < p.config.slots → SlotNameFits i name → IsSlot q → get_or words (slot_at i) 0 ≡ slot_word q → p.role ≡ Within
-      → Turned old words old words (λ k. slot_named i name q ∷ []) anything (λ j k. ShowsSlot i q k × keeps j k)
+  pub saw : (i : ℕ) (name : SlotLoad) (q : SlotParts) → i < p.config.slots → SlotLoadFits i name → IsSlot q → get_or words (slot_at i) 0 ≡ slot_word q → p.role ≡ Within
+      → Turned old words old words (λ k. act_of_slot_load i name q ∷ []) anything (λ j k. ShowsSlot i q k × keeps j k)
   saw i name q l named fits is within = owed (λ k. stands_same p.config LAST (slot_named_role i name q p.role) (slot_named_fresh i name q p.fresh)) (λ log g n h m.
       tells h (sees_slot (own log g n) (h.pass.role ∙ within) i name l named) (read (slot_at i)) (λ done k' s.
       let same = slot_word-injective s.0 q s.1 fits (sym s.2 ∙ is) in
-      (s.3 ∙ ap (λ z. slot_named i name z ∷ []) same, (subst (λ z. ShowsSlot i z k') same s.4, s.5))))
+      (s.3 ∙ ap (λ z. act_of_slot_load i name z ∷ []) same, (subst (λ z. ShowsSlot i z k') same s.4, s.5))))
 
   pub object_some : {T : Known → Type 0} (o : ℕ) → MayKnow (Shows old) words (λ k. HasObject o k × T k) → 0 < o
   object_some o may = each (hlevel props) may (λ log g n h m. ((in_room p.config LAST log h.pass.legal).objects o m.0).0)
 
   pub claimed : (i at serial : ℕ) (kind : RefKind) (o : ℕ) (q : SlotParts) (w : ℕ) → at ≡ slot_at i → i < p.config.slots → kind ≢ Local → IsReference kind serial (Some o) q → (was : SlotParts) → get_or words (slot_at i) 0 ≡ slot_word was → was ≡ slot.Free serial → w ≡ slot_word q → p.role ≡ Within
-      → Turned old words old (slice_set words at w) (λ k. claiming i serial kind o (Ok tt) ∷ []) (λ k. HasObject o k × IsFreeSlot i serial k) (λ j k. LostClaim i (Ok tt) j k × keeps j k)
+      → Turned old words old (slice_set words at w) (λ k. act_of_claim i serial kind o (Ok tt) ∷ []) (λ k. HasObject o k × IsFreeSlot i serial k) (λ j k. LostClaim i (Ok tt) j k × keeps j k)
   claimed i at serial kind o q w place l global is was reads free word within =
       let here : get_or words (slot_at i) 0 ≡ slot_word (slot.Free serial) = reads ∙ ap slot_word free in
       owed (λ k. refl) (λ log g n h m.
@@ -219,7 +219,7 @@ module _ (LAST : ℕ) (few : LAST < 2 ^ 32) (p : PlainSteps LAST) where
       (λ done k' s. (s.0 here, (tt, s.2))))
 
   pub lost : (i serial : ℕ) (kind : RefKind) (o : ℕ) (q : SlotParts) → i < p.config.slots → kind ≢ Local → IsSlot q → get_or words (slot_at i) 0 ≡ slot_word q → q ≢ slot.Free serial → p.role ≡ Within
-      → Turned old words old words (λ k. claiming i serial kind o (Err q) ∷ []) (λ k. HasObject o k × IsFreeSlot i serial k) (λ j k. LostClaim i (Err q) j k × keeps j k)
+      → Turned old words old words (λ k. act_of_claim i serial kind o (Err q) ∷ []) (λ k. HasObject o k × IsFreeSlot i serial k) (λ j k. LostClaim i (Err q) j k × keeps j k)
   lost i serial kind o q l global fits is differs within = owed (λ k. refl) (λ log g n h m.
       let wanted = some_reference kind serial o global in
       let below = free_fits i serial (own log g n) m.1 in
@@ -229,29 +229,29 @@ module _ (LAST : ℕ) (few : LAST < 2 ^ 32) (p : PlainSteps LAST) where
       (ap (slice_set words (slot_at i)) (unchanged (slot_word (slot.Free serial)) (slot_word wanted.0) (get_or words (slot_at i) 0) other) ∙ read (slot_at i)) (λ done k' t.
       let s = t.1 other in
       let same = slot_word-injective s.0 q s.1 fits (sym s.2 ∙ is) in
-      (s.3 ∙ ap (λ z. claiming i serial kind o (Err z) ∷ []) same, (subst (λ z. LostClaim i (Err z) (own log g n) k') same (s.4 m.1), t.2))))
+      (s.3 ∙ ap (λ z. act_of_claim i serial kind o (Err z) ∷ []) same, (subst (λ z. LostClaim i (Err z) (own log g n) k') same (s.4 m.1), t.2))))
 
   module _ (a : Handle) (o : Option ℕ) where
-    pub looked_can : MayKnow (Shows old) words (HasLooked a (found_object o)) → CanStand a.kind o
+    pub looked_can : MayKnow (Shows old) words (HasLooked a (found_of o)) → CanStand a.kind o
     looked_can may = each (can_prop a.kind o) may (λ log g n h m. (looked_at p.config LAST a o (own log g n) h.pass.legal m).can)
 
-    pub looked_object : MayKnow (Shows old) words (HasLooked a (found_object o)) → (x : ℕ) → o ≡ Some x → 0 < x
+    pub looked_object : MayKnow (Shows old) words (HasLooked a (found_of o)) → (x : ℕ) → o ≡ Some x → 0 < x
     looked_object may x e = each (hlevel props) may (λ log g n h m. ((looked_at p.config LAST a o (own log g n) h.pass.legal m).object x e).0)
 
-    pub deleted : (at : ℕ) (q : SlotParts) (w : ℕ) → at ≡ slot_at a.index → IsReference a.kind a.serial o q → get_or words at 0 ≡ slot_word q → w ≡ slot_word (freed LAST a.serial) → p.role ≡ Within
-        → Turned old words old (slice_set words at w) (λ k. freeing a true ∷ []) (HasLooked a (found_object o)) keeps
+    pub deleted : (at : ℕ) (q : SlotParts) (w : ℕ) → at ≡ slot_at a.index → IsReference a.kind a.serial o q → get_or words at 0 ≡ slot_word q → w ≡ slot_word (parts_once_free LAST a.serial) → p.role ≡ Within
+        → Turned old words old (slice_set words at w) (λ k. act_of_free a true ∷ []) (HasLooked a (found_of o)) keeps
     deleted at q w place is reads word within = owed (λ k. refl) (λ log g n h m.
         let here : get_or words (slot_at a.index) 0 ≡ slot_word q = ap (λ j. get_or words j 0) (sym place) ∙ reads in
         tells h (frees_slot (own log g n) (h.pass.role ∙ within) a o q is ∣ m ∣₁)
-        (ap (slice_set words (slot_at a.index)) (won (slot_word q) (slot_word (freed LAST a.serial)) (get_or words (slot_at a.index) 0) here ∙ sym word) ∙ ap (λ j. slice_set words j w) (sym place))
+        (ap (slice_set words (slot_at a.index)) (won (slot_word q) (slot_word (parts_once_free LAST a.serial)) (get_or words (slot_at a.index) 0) here ∙ sym word) ∙ ap (λ j. slice_set words j w) (sym place))
         (λ done k' s. (s.0 here, s.2)))
 
     pub deleted_late : (at : ℕ) (q : SlotParts) → at ≡ slot_at a.index → IsReference a.kind a.serial o q → get_or words at 0 ≢ slot_word q → p.role ≡ Within
-        → Turned old words old words (λ k. freeing a false ∷ []) (HasLooked a (found_object o)) keeps
+        → Turned old words old words (λ k. act_of_free a false ∷ []) (HasLooked a (found_of o)) keeps
     deleted_late at q place is differs within = owed (λ k. refl) (λ log g n h m.
         let other : get_or words (slot_at a.index) 0 ≢ slot_word q = λ e. differs (ap (λ j. get_or words j 0) place ∙ e) in
         tells h (frees_slot (own log g n) (h.pass.role ∙ within) a o q is ∣ m ∣₁)
-        (ap (slice_set words (slot_at a.index)) (unchanged (slot_word q) (slot_word (freed LAST a.serial)) (get_or words (slot_at a.index) 0) other) ∙ read (slot_at a.index))
+        (ap (slice_set words (slot_at a.index)) (unchanged (slot_word q) (slot_word (parts_once_free LAST a.serial)) (get_or words (slot_at a.index) 0) other) ∙ read (slot_at a.index))
         (λ done k' s. (s.1 other, s.2)))
 
   -- LOCAL WORDS
@@ -259,7 +259,7 @@ module _ (LAST : ℕ) (few : LAST < 2 ^ 32) (p : PlainSteps LAST) where
   optional_few o may x e = each (hlevel props) may (λ log g n h m. optional_fits o (own log g n) h.pass.legal p.limited.objects.1 m x e)
 
   pub put : (i at : ℕ) (o : Option ℕ) (w : ℕ) → at ≡ local_at p.config 0 i → i < p.config.locals → w ≡ local_word (local_parts o) → p.role ≡ Within
-      → Turned old words (standing p.config LAST p.role false) (slice_set words at w) (λ k. putting i o ∷ []) (HasOptional o) keeps
+      → Turned old words (standing_alone p.config LAST p.role false) (slice_set words at w) (λ k. act_of_put i o ∷ []) (HasOptional o) keeps
   put i at o w place l word within = owed (λ k. stands_same p.config LAST (putting_role i o p.role) (putting_spends i o p.fresh)) (λ log g n h m.
       tells h (puts_local (own log g n) (h.pass.role ∙ within) i o l m) (λ j. slice_set words (sym place j) (sym word j)) (λ done k' s. s))
 
@@ -281,7 +281,7 @@ module _ (LAST : ℕ) (few : LAST < 2 ^ 32) (p : PlainSteps LAST) where
           tells h (scans_header (own log g n) (h.pass.role ∙ collects) o number.0 number.1) (read (header_at p.config o)) (λ done k' s. header_told (own log g n) k' done s))
 
     pub published_header : (e : HeaderParts) (w : ℕ) → w ≡ header_word e → IsHeader e → get_or words at 0 ≡ 0 → p.role ≡ Within
-        → Turned old words old (slice_set words at w) (λ k. publishing o e.kind (words_for e k) true) (IsFilled e) (ShowsPublished o e true)
+        → Turned old words old (slice_set words at w) (λ k. acts_of_publication o e.kind (words_for e k) true) (IsFilled e) (ShowsPublished o e true)
     published_header e w word fits none within =
         let zero : get_or words (header_at p.config o) 0 ≡ 0 = ap (λ j. get_or words j 0) (sym here) ∙ none in
         owed (λ k. stands_same p.config LAST (publishing_role o e.kind (words_for e k) true p.role) (publishing_fresh o e.kind (words_for e k) true p.fresh)) (λ log g n h m.
@@ -289,7 +289,7 @@ module _ (LAST : ℕ) (few : LAST < 2 ^ 32) (p : PlainSteps LAST) where
         (λ i. slice_set words (sym here i) ((won 0 (header_word e) (get_or words (header_at p.config o) 0) zero ∙ sym word) i))
         (λ done k' s. let r = s.0 zero in (r.0, (s.2, r.1, r.2))))
 
-    pub unpublished : (e : HeaderParts) → IsHeader e → get_or words at 0 ≢ 0 → p.role ≡ Within → Turned old words old words (λ k. publishing o e.kind (words_for e k) false) (IsFilled e) (ShowsPublished o e false)
+    pub unpublished : (e : HeaderParts) → IsHeader e → get_or words at 0 ≢ 0 → p.role ≡ Within → Turned old words old words (λ k. acts_of_publication o e.kind (words_for e k) false) (IsFilled e) (ShowsPublished o e false)
     unpublished e fits some within =
         let other : get_or words (header_at p.config o) 0 ≢ 0 = λ z. some (ap (λ j. get_or words j 0) here ∙ z) in
         owed (λ k. stands_same p.config LAST (publishing_role o e.kind (words_for e k) false p.role) (publishing_fresh o e.kind (words_for e k) false p.fresh)) (λ log g n h m.
@@ -299,7 +299,7 @@ module _ (LAST : ℕ) (few : LAST < 2 ^ 32) (p : PlainSteps LAST) where
 
   -- THE TOP
   -- the top's word says how many words are used
-  few_used : (log : History) (g : Grasp) (n : ℕ) → Shows old words (own log g n) → (state log).used < 2 ^ 24
+  few_used : (log : History) (g : Holdings) (n : ℕ) → Shows old words (own log g n) → (state log).used < 2 ^ 24
   few_used log g n h = let most = (lengths_fit p.config LAST log h.pass.legal).1 in let space = p.limited.words in omega arith
 
   pub top_first : (q : TopParts) → MayKnow (Shows old) words anything → ((z : TopParts) → IsTop z → get_or words top_at 0 ≡ top_word z → Some q ≡ Some z) → (q.used < 2 ^ 24) × (get_or words top_at 0 ≡ used_word q.used)
@@ -310,26 +310,26 @@ module _ (LAST : ℕ) (few : LAST < 2 ^ 32) (p : PlainSteps LAST) where
   used_once : (u v : ℕ) → used_word u ≡ used_word v → u ≡ v
   used_once u v e = omega arith
 
-  pub saw_top : (name : TopNaming) (u : ℕ) → get_or words top_at 0 ≡ used_word u → p.role ≡ Within → Turned old words old words (λ k. top_named p.config.words name u) anything (λ j k. ShowsUsed u k × keeps j k)
+  pub saw_top : (name : TopLoad) (u : ℕ) → get_or words top_at 0 ≡ used_word u → p.role ≡ Within → Turned old words old words (λ k. acts_of_top_load p.config.words name u) anything (λ j k. ShowsUsed u k × keeps j k)
   saw_top name u is within = owed (λ k. stands_same p.config LAST (top_named_role p.config.words name u p.role) (top_named_fresh p.config.words name u p.fresh)) (λ log g n h m.
       tells h (sees_top (own log g n) (h.pass.role ∙ within) name) (read top_at) (λ done k' s.
       let same = used_once s.0 u (sym s.2 ∙ is) in
-      (s.3 ∙ ap (top_named p.config.words name) same, (subst (λ z. ShowsUsed z k') same s.4, s.5))))
+      (s.3 ∙ ap (acts_of_top_load p.config.words name) same, (subst (λ z. ShowsUsed z k') same s.4, s.5))))
 
   pub reserved : (looked more w : ℕ) → get_or words top_at 0 ≡ used_word looked → w ≡ used_word (looked + more) → looked + more ≤ p.config.words → p.role ≡ Within
-      → Turned old words old (slice_set words top_at w) (λ k. reserving looked more (Ok tt) ∷ []) (WasUsed looked) (ShowsRange looked more (Ok tt))
+      → Turned old words old (slice_set words top_at w) (λ k. act_of_reservation looked more (Ok tt) ∷ []) (WasUsed looked) (ShowsRange looked more (Ok tt))
   reserved looked more w is word room within = owed (λ k. refl) (λ log g n h m.
       tells h (claims_top (own log g n) (h.pass.role ∙ within) looked more room)
       (ap (slice_set words top_at) (won (used_word looked) (used_word (looked + more)) (get_or words top_at 0) is ∙ sym word)) (λ done k' s. s.0 is))
 
   pub reserve_lost : (looked more u : ℕ) → get_or words top_at 0 ≡ used_word u → u ≢ looked → looked + more ≤ p.config.words → p.role ≡ Within
-      → Turned old words old words (λ k. reserving looked more (Err u) ∷ []) (WasUsed looked) (ShowsRange looked more (Err u))
+      → Turned old words old words (λ k. act_of_reservation looked more (Err u) ∷ []) (WasUsed looked) (ShowsRange looked more (Err u))
   reserve_lost looked more u is differs room within =
       let other : get_or words top_at 0 ≢ used_word looked = λ e. differs (used_once u looked (sym is ∙ e)) in
       owed (λ k. refl) (λ log g n h m.
       tells h (claims_top (own log g n) (h.pass.role ∙ within) looked more room)
       (ap (slice_set words top_at) (unchanged (used_word looked) (used_word (looked + more)) (get_or words top_at 0) other) ∙ read top_at)
-      (λ done k' t. let s = t.1 other in (s.3 ∙ ap (λ z. reserving looked more (Err z) ∷ []) (used_once s.0 u (sym s.2 ∙ is)), s.4)))
+      (λ done k' t. let s = t.1 other in (s.3 ∙ ap (λ z. act_of_reservation looked more (Err z) ∷ []) (used_once s.0 u (sym s.2 ∙ is)), s.4)))
 
   -- ELEMENTS
   -- a known element, or one's own word, lies in the array space

@@ -11,19 +11,19 @@ use Rattle.jr_model.specs.State.{opening as nothing_stands}
 use Rattle.jr_model.specs.History.{History}
 use Rattle.jr_steps.specs.declared.known.Known.{Known}
 use Rattle.jr_rule.specs.declared.rule.View.{View}
-use Rattle.jr_steps.specs.declared.known.Grasp.{Grasp}
-use Rattle.jr_steps.specs.Grasping.{empty}
+use Rattle.jr_steps.specs.declared.known.Holdings.{Holdings}
+use Rattle.jr_steps.specs.Holdings.{empty}
 use Rattle.jr_rule.specs.Image.{IsImage}
-use Rattle.jr_rule.specs.Rule.{known, view, IsSized, EachFits, total, is_of, passes_of, Kept, newcomers, Sat, first_alone, without_first, together, spent}
-use Rattle.jr_rule.proofs.Plays.{total_append, total_at}
+use Rattle.jr_rule.specs.Rule.{known, view_of, IsSized, EachFits, total, is_of, passes_of, Kept, newcomers, Sat, first_alone, without_first, together, spent}
+use Rattle.jr_rule.proofs.RuleKept.{total_append, total_at}
 
-each_append : (c : Config) (last : ℕ) (log : History) (held : ℕ → Grasp) (ks ls : List Known) → EachFits c last log held ks → EachFits c last log held ls → EachFits c last log held (ks ++ ls)
+each_append : (c : Config) (last : ℕ) (log : History) (held : ℕ → Holdings) (ks ls : List Known) → EachFits c last log held ks → EachFits c last log held ls → EachFits c last log held (ks ++ ls)
 each_append c last log held [] ls a b = b
 each_append c last log held (k ∷ ks) ls a b = (a.0, each_append c last log held ks ls a.1 b)
 
 module _ (c : Config) (last : ℕ) where
   -- a seat's passes are cut in two
-  cuts : (id : ℕ) (v left right : View) → ((log : History) (held : ℕ → Grasp) → EachFits c last log held v.passes → EachFits c last log held left.passes × EachFits c last log held right.passes)
+  cuts : (id : ℕ) (v left right : View) → ((log : History) (held : ℕ → Holdings) → EachFits c last log held v.passes → EachFits c last log held left.passes × EachFits c last log held right.passes)
       → ((t : ℕ) → passes_of t left + passes_of t right ≡ passes_of t v) → Splits (Kept last c) id v left right
   cuts id v left right parts counts r kept at = record {
     log = kept.log;
@@ -46,13 +46,13 @@ module _ (c : Config) (last : ℕ) where
         let most = kept.once t h in omega arith;
   }
 
-  pub deals : (id : ℕ) (v : View) (k : Known) (ks : List Known) → v ≡ view (k ∷ ks) → Splits (Kept last c) id v (without_first v) (first_alone v)
+  pub deals : (id : ℕ) (v : View) (k : Known) (ks : List Known) → v ≡ view_of (k ∷ ks) → Splits (Kept last c) id v (without_first v) (first_alone v)
   deals id v k ks is = subst (λ (w : View). Splits (Kept last c) id w (without_first w) (first_alone w)) (sym is)
-      (cuts id (view (k ∷ ks)) (view ks) (view (k ∷ [])) (λ log held fit. (fit.1, (fit.0, tt))) (λ t. omega arith))
+      (cuts id (view_of (k ∷ ks)) (view_of ks) (view_of (k ∷ [])) (λ log held fit. (fit.1, (fit.0, tt))) (λ t. omega arith))
 
-  pub parts : (id : ℕ) (v : View) (k : Known) (ks : List Known) → v ≡ view (k ∷ ks) → Splits (Kept last c) id v (first_alone v) (without_first v)
+  pub parts : (id : ℕ) (v : View) (k : Known) (ks : List Known) → v ≡ view_of (k ∷ ks) → Splits (Kept last c) id v (first_alone v) (without_first v)
   parts id v k ks is = subst (λ (w : View). Splits (Kept last c) id w (first_alone w) (without_first w)) (sym is)
-      (cuts id (view (k ∷ ks)) (view (k ∷ [])) (view ks) (λ log held fit. ((fit.0, tt), fit.1)) (λ t. omega arith))
+      (cuts id (view_of (k ∷ ks)) (view_of (k ∷ [])) (view_of ks) (λ log held fit. ((fit.0, tt), fit.1)) (λ t. omega arith))
 
   pub gathers : (id : ℕ) (v : View) (other : ℕ) (w : View) → Joins (Kept last c) id v other w (together v w) spent
   gathers id v other w r kept at apart there =
@@ -80,7 +80,7 @@ module _ (c : Config) (last : ℕ) where
 
   newcomers_fit : (n t : ℕ) → t + n ≤ c.threads → EachFits c last [] (λ u. empty) (newcomers c last n t)
   newcomers_fit zero t h = tt
-  newcomers_fit (suc n) t h = (record { same_config = refl; same_last = refl; row = omega arith; begins = ([], refl); own = refl; grasp = refl }, newcomers_fit n (suc t) (omega arith))
+  newcomers_fit (suc n) t h = (record { same_config = refl; same_last = refl; row = omega arith; begins = ([], refl); own = refl; holdings = refl }, newcomers_fit n (suc t) (omega arith))
 
   not_yet : (u n t : ℕ) → u < t → total (is_of u) (newcomers c last n t) ≡ 0
   not_yet u zero t h = refl
@@ -96,7 +96,7 @@ module _ (c : Config) (last : ℕ) where
       (λ other. let none : is_of u (known c last t [] empty 0) ≡ 0 = ap (λ b. cond b 1 0) (ne_eqb t u other) in let rest = just_once u n (suc t) (omega arith) (omega arith) in omega arith)
 
   -- a row that shows the opening meets the rule
-  pub opens : (words : List ℕ) → IsSized c last → IsImage c last words nothing_stands (λ t. empty) → Kept last c (opening words [] (view (newcomers c last c.threads 0)))
+  pub opens : (words : List ℕ) → IsSized c last → IsImage c last words nothing_stands (λ t. empty) → Kept last c (opening words [] (view_of (newcomers c last c.threads 0)))
   opens words sized image = record {
     log = [];
     held = λ t. empty;
@@ -107,18 +107,18 @@ module _ (c : Config) (last : ℕ) where
     once = λ t h. let one = just_once t c.threads 0 (omega arith) (omega arith) in omega arith;
   }
     where
-      alone : (v : View) (j : ℕ) → get_elem? (view (newcomers c last c.threads 0) ∷ []) j ≡ some v → EachFits c last [] (λ t. empty) v.passes
+      alone : (v : View) (j : ℕ) → get_elem? (view_of (newcomers c last c.threads 0) ∷ []) j ≡ some v → EachFits c last [] (λ t. empty) v.passes
       alone v zero there = subst (λ (z : View). EachFits c last [] (λ t. empty) z.passes) (some-injective _ v there) (newcomers_fit c.threads 0 (omega arith))
       alone v (suc j) there = absurd (some-ne-none v (sym there))
 
   -- the next of the newcomers
-  pub next_newcomer : (m : Sat) (t : ℕ) → t < c.threads → m ≡ (view (newcomers c last (c.threads - t) t), []) → m ≡ (view (known c last t [] empty 0 ∷ newcomers c last (c.threads - (t + 1)) (t + 1)), [])
+  pub next_newcomer : (m : Sat) (t : ℕ) → t < c.threads → m ≡ (view_of (newcomers c last (c.threads - t) t), []) → m ≡ (view_of (known c last t [] empty 0 ∷ newcomers c last (c.threads - (t + 1)) (t + 1)), [])
   next_newcomer m t h e =
       let n : ℕ = c.threads - (t + 1) in
       let more : c.threads - t ≡ suc n = omega arith in
       let next : suc t ≡ t + 1 = omega arith in
-      e ∙ (ap (λ (k : ℕ). (view (newcomers c last k t), [])) more ∙ ap (λ (k : ℕ). (view (known c last t [] empty 0 ∷ newcomers c last n k), [])) next)
+      e ∙ (ap (λ (k : ℕ). (view_of (newcomers c last k t), [])) more ∙ ap (λ (k : ℕ). (view_of (known c last t [] empty 0 ∷ newcomers c last n k), [])) next)
 
 -- the seat of two passes that were joined
-pub joined_is : (m v w : Sat) (k l : Known) → v ≡ (view (k ∷ []), []) → w ≡ (view (l ∷ []), []) → m ≡ (together v.0 w.0, v.1) → m ≡ (view (k ∷ l ∷ []), [])
+pub joined_is : (m v w : Sat) (k l : Known) → v ≡ (view_of (k ∷ []), []) → w ≡ (view_of (l ∷ []), []) → m ≡ (together v.0 w.0, v.1) → m ≡ (view_of (k ∷ l ∷ []), [])
 joined_is m v w k l a b e = e ∙ ap (λ (z : Sat × Sat). (together z.0.0 z.1.0, z.0.1)) (λ i. (a i, b i))

@@ -16,7 +16,7 @@ use Rattle.jr_model.specs.History.{History, state, IsLegal}
 use Rattle.jr_model.proofs.Updates.{and_left, and_right, kind_true, kind_self, eq_true, eq_self, handle_true, handle_false}
 use Rattle.jr_model.proofs.References.{kept_state}
 use Rattle.jr_model.proofs.Presence.{sound_state}
-use Rattle.jr_steps.specs.Acts.{found_object, is_its, reply, is_occupied, handle_of}
+use Rattle.jr_steps.specs.Acts.{found_of, is_its, reply, is_occupied, handle_of}
 use Rattle.jr_steps.specs.Says.{StandsAlone, StandsAs, SaysOfSlot}
 use Rattle.jr_rule.specs.Image.{IsSlotOf}
 use Rattle.jr_rule.specs.Slots.{IsReference}
@@ -41,18 +41,18 @@ its refs next h k n i r at owner y = go (is_its h k n) refl
         sym y.found ∙ ap refs (handle_is h k n i kind serial at owner)
     go false e = sym (y.alone h at (λ z. let self : is_its h k n ≡ true = subst (λ (g : Handle). is_its g k n ≡ true) (sym z) (rw (kind_self k, eq_self n) refl) in cc))
 
-pub found_there : (o : Option ℕ) → found_object o ≢ Stale
+pub found_there : (o : Option ℕ) → found_of o ≢ Stale
 found_there None e = cc
 found_there (Some o) e = cc
 
-found_some : (o : Option ℕ) (x : ℕ) → found_object o ≡ Object x → o ≡ Some x
+found_some : (o : Option ℕ) (x : ℕ) → found_of o ≡ Object x → o ≡ Some x
 found_some None x e = absurd cc
 found_some (Some y) x e = cc
 
-found_same : (o p : Option ℕ) → found_object o ≡ found_object p → o ≡ p
+found_same : (o p : Option ℕ) → found_of o ≡ found_of p → o ≡ p
 found_same o None e = none o e
   where
-    none : (q : Option ℕ) → found_object q ≡ Cleared → q ≡ None
+    none : (q : Option ℕ) → found_of q ≡ Cleared → q ≡ None
     none None f = refl
     none (Some x) f = absurd cc
 found_same o (Some x) e = found_some o x e
@@ -70,32 +70,32 @@ module _ (last : ℕ) (refs : Handle → Found) (i next : ℕ) where
   reply_is h at owner (slot.Free n) y = sym (y.0 h at)
   reply_is h at owner (slot.Retired n) y = sym (y.0 h at)
   reply_is h at owner (slot.Global n o) y = its refs next h Global n i (Object o) at owner y
-  reply_is h at owner (slot.Weak n o) y = its refs next h Weak n i (found_object o) at owner y
+  reply_is h at owner (slot.Weak n o) y = its refs next h Weak n i (found_of o) at owner y
 
   -- a handle that stands is the slot's reference
-  pub reference_is : (h : Handle) (o : Option ℕ) → h.index ≡ i → refs h ≡ found_object o → (p : SlotParts) → StandsAs last refs i next p → IsReference h.kind h.serial o p
+  pub reference_is : (h : Handle) (o : Option ℕ) → h.index ≡ i → refs h ≡ found_of o → (p : SlotParts) → StandsAs last refs i next p → IsReference h.kind h.serial o p
   reference_is h o at stands (slot.Free n) y = absurd (found_there o (sym stands ∙ y.0 h at))
   reference_is h o at stands (slot.Retired n) y = absurd (found_there o (sym stands ∙ y.0 h at))
   reference_is h o at stands (slot.Global n r) y =
       let e = only refs next (handle_of Global n i) h (Object r) at y (λ z. found_there o (sym stands ∙ z)) in
       (sym (ap (λ (g : Handle). g.kind) e), sym (ap (λ (g : Handle). g.serial) e), found_some o r (sym stands ∙ (ap refs (sym e) ∙ y.found)))
   reference_is h o at stands (slot.Weak n r) y =
-      let e = only refs next (handle_of Weak n i) h (found_object r) at y (λ z. found_there o (sym stands ∙ z)) in
+      let e = only refs next (handle_of Weak n i) h (found_of r) at y (λ z. found_there o (sym stands ∙ z)) in
       (sym (ap (λ (g : Handle). g.kind) e), sym (ap (λ (g : Handle). g.serial) e), found_same o r (sym stands ∙ (ap refs (sym e) ∙ y.found)))
 
 -- the slot's reference, as its word's parts say it
-pub stands_in : (last : ℕ) (refs : Handle → Found) (i next : ℕ) (kind : RefKind) (n : ℕ) (o : Option ℕ) (p : SlotParts) → IsReference kind n o p → StandsAs last refs i next p → StandsAlone refs next (handle_of kind n i) (found_object o)
+pub stands_in : (last : ℕ) (refs : Handle → Found) (i next : ℕ) (kind : RefKind) (n : ℕ) (o : Option ℕ) (p : SlotParts) → IsReference kind n o p → StandsAs last refs i next p → StandsAlone refs next (handle_of kind n i) (found_of o)
 stands_in last refs i next kind n o (slot.Free m) is y = absurd is
 stands_in last refs i next kind n o (slot.Retired m) is y = absurd is
-stands_in last refs i next kind n o (slot.Global m r) is y = subst (λ (z : RefKind × ℕ × Option ℕ). StandsAlone refs next (handle_of z.0 z.1 i) (found_object z.2)) (λ j. (sym is.0 j, sym is.1 j, sym is.2 j)) y
-stands_in last refs i next kind n o (slot.Weak m r) is y = subst (λ (z : RefKind × ℕ × Option ℕ). StandsAlone refs next (handle_of z.0 z.1 i) (found_object z.2)) (λ j. (sym is.0 j, sym is.1 j, sym is.2 j)) y
+stands_in last refs i next kind n o (slot.Global m r) is y = subst (λ (z : RefKind × ℕ × Option ℕ). StandsAlone refs next (handle_of z.0 z.1 i) (found_of z.2)) (λ j. (sym is.0 j, sym is.1 j, sym is.2 j)) y
+stands_in last refs i next kind n o (slot.Weak m r) is y = subst (λ (z : RefKind × ℕ × Option ℕ). StandsAlone refs next (handle_of z.0 z.1 i) (found_of z.2)) (λ j. (sym is.0 j, sym is.1 j, sym is.2 j)) y
 
 -- and back
-pub says_in : (last : ℕ) (refs : Handle → Found) (i next : ℕ) (kind : RefKind) (n : ℕ) (o : Option ℕ) (p : SlotParts) → IsReference kind n o p → StandsAlone refs next (handle_of kind n i) (found_object o) → StandsAs last refs i next p
+pub says_in : (last : ℕ) (refs : Handle → Found) (i next : ℕ) (kind : RefKind) (n : ℕ) (o : Option ℕ) (p : SlotParts) → IsReference kind n o p → StandsAlone refs next (handle_of kind n i) (found_of o) → StandsAs last refs i next p
 says_in last refs i next kind n o (slot.Free m) is y = absurd is
 says_in last refs i next kind n o (slot.Retired m) is y = absurd is
-says_in last refs i next kind n o (slot.Global m r) is y = subst (λ (z : RefKind × ℕ × Option ℕ). StandsAlone refs next (handle_of z.0 z.1 i) (found_object z.2)) (λ j. (is.0 j, is.1 j, is.2 j)) y
-says_in last refs i next kind n o (slot.Weak m r) is y = subst (λ (z : RefKind × ℕ × Option ℕ). StandsAlone refs next (handle_of z.0 z.1 i) (found_object z.2)) (λ j. (is.0 j, is.1 j, is.2 j)) y
+says_in last refs i next kind n o (slot.Global m r) is y = subst (λ (z : RefKind × ℕ × Option ℕ). StandsAlone refs next (handle_of z.0 z.1 i) (found_of z.2)) (λ j. (is.0 j, is.1 j, is.2 j)) y
+says_in last refs i next kind n o (slot.Weak m r) is y = subst (λ (z : RefKind × ℕ × Option ℕ). StandsAlone refs next (handle_of z.0 z.1 i) (found_of z.2)) (λ j. (is.0 j, is.1 j, is.2 j)) y
 
 -- two readings of one reference are one
 pub one_reference : (kind : RefKind) (n : ℕ) (o : Option ℕ) (p q : SlotParts) → IsReference kind n o p → IsReference kind n o q → p ≡ q

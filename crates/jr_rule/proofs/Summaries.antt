@@ -20,14 +20,14 @@ use Rattle.jr_model.specs.History.{History, state, IsLegal}
 use Rattle.jr_model.proofs.Counts.{bit, count_all_false, count_single}
 use Rattle.jr_model.proofs.Lengths.{lengths_fit}
 use Rattle.jr_model.proofs.References.{kept_state}
-use Rattle.jr_steps.specs.Acts.{found_object, handle_of}
+use Rattle.jr_steps.specs.Acts.{found_of, handle_of}
 use Rattle.jr_steps.specs.Says.{StandsAlone, StandsAs}
 use Rattle.jr_rule.specs.Image.{slot_at, header_at, IsSlotOf, IsHeaderOf}
 use Rattle.jr_rule.specs.Shown.{IsHistoryOf, HasHistory}
-use Rattle.jr_rule.specs.Slots.{is_of_kind}
+use Rattle.jr_rule.specs.Slots.{has_kind}
 use Rattle.jr_model.proofs.InRoom.{in_room}
 use Rattle.jr_rule.proofs.Readings.{is_read}
-use Rattle.jr_rule.proofs.GateTurns.{bit_most, not_true}
+use Rattle.jr_rule.proofs.GateSteps.{bit_most, not_true}
 use Rattle.jr_rule.proofs.Slots.{found_there, slot_fits}
 use Rattle.jr_rule.proofs.Headers.{header_none, header_some}
 
@@ -66,16 +66,16 @@ module _ (c : Config) (last : ℕ) (log : History) (legal : IsLegal c last log) 
       count_all_false (last + 1) (there refs kind i) (λ m l. ap is_there (y.alone (handle_of kind m i) refl (λ e. apart (ap (λ (h : Handle). h.kind) e))))
 
   -- the references of a kind at an index are those that its slot's word says
-  at_slot : (w : ℕ) (kind : RefKind) (x : IsSlotOf last refs (state log).given i w) → count_below (last + 1) (there refs kind i) ≡ bit (is_of_kind kind x.parts)
+  at_slot : (w : ℕ) (kind : RefKind) (x : IsSlotOf last refs (state log).given i w) → count_below (last + 1) (there refs kind i) ≡ bit (has_kind kind x.parts)
   at_slot w kind x = go kind x.parts x.says.stands
     where
-      go : (k : RefKind) (p : SlotParts) → StandsAs last refs i x.says.next p → count_below (last + 1) (there refs k i) ≡ bit (is_of_kind k p)
+      go : (k : RefKind) (p : SlotParts) → StandsAs last refs i x.says.next p → count_below (last + 1) (there refs k i) ≡ bit (has_kind k p)
       go Local (slot.Global n o) y = none Local Global n x.says.next (Object o) (λ e. cc) y
-      go Local (slot.Weak n o) y = none Local Weak n x.says.next (found_object o) (λ e. cc) y
+      go Local (slot.Weak n o) y = none Local Weak n x.says.next (found_of o) (λ e. cc) y
       go Global (slot.Global n o) y = one Global n x.says.next (Object o) (λ e. cc) y
-      go Global (slot.Weak n o) y = none Global Weak n x.says.next (found_object o) (λ e. cc) y
+      go Global (slot.Weak n o) y = none Global Weak n x.says.next (found_of o) (λ e. cc) y
       go Weak (slot.Global n o) y = none Weak Global n x.says.next (Object o) (λ e. cc) y
-      go Weak (slot.Weak n o) y = one Weak n x.says.next (found_object o) (found_there o) y
+      go Weak (slot.Weak n o) y = one Weak n x.says.next (found_of o) (found_there o) y
       go Local (slot.Free n) y = count_all_false (last + 1) (there refs Local i) (λ m l. ap is_there (y.0 (handle_of Local m i) refl))
       go Local (slot.Retired n) y = count_all_false (last + 1) (there refs Local i) (λ m l. ap is_there (y.0 (handle_of Local m i) refl))
       go Global (slot.Free n) y = count_all_false (last + 1) (there refs Global i) (λ m l. ap is_there (y.0 (handle_of Global m i) refl))
@@ -132,13 +132,13 @@ module _ (c : Config) (words : List ℕ) (limited : IsLimited c) where
   slot_some has i r l reads = ∥∥₁_elim has (hlevel props) (λ h. is_read r _ (slot_read h.0 h.1 h.2 i l r reads))
 
   pub one_more_slot : (kind : RefKind) (i count count' : ℕ) (p : SlotParts) → IsCounted c words (references_below kind i) count i → i < c.slots → ReadsSlot words i (Some p)
-      → (b : Bool) → b ≡ is_of_kind kind p → count' ≡ count + bit b → IsCounted c words (references_below kind (i + 1)) count' (i + 1)
+      → (b : Bool) → b ≡ has_kind kind p → count' ≡ count + bit b → IsCounted c words (references_below kind (i + 1)) count' (i + 1)
   one_more_slot kind i count count' p counted l reads b test next = record {
     few = let f = counted.few in let m = bit_most b in omega arith;
     is = λ last log h.
         let x = slot_parts last log h i l in
         let read : x.parts ≡ p = let e = slot_read last log h i l (Some p) reads in cc in
-        let here = at_slot c last log h.legal i (get_or words (slot_at i) 0) kind x ∙ ap (λ q. bit (is_of_kind kind q)) read in
+        let here = at_slot c last log h.legal i (get_or words (slot_at i) 0) kind x ∙ ap (λ q. bit (has_kind kind q)) read in
         let same = ap bit test in
         let more = sum_more i (λ j. count_below (last + 1) (there (state log).refs kind j)) in
         let was = counted.is last log h in omega arith;

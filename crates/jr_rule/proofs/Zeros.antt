@@ -9,11 +9,11 @@ use Rattle.jr_model.specs.State.{opening}
 use Rattle.jr_model.proofs.Counts.{count_all_false}
 use Rattle.jr_steps.specs.Says.{is_inside}
 use Rattle.jr_rule.specs.Image.{local_at, unowned, IsImage}
-use Rattle.jr_steps.specs.Grasping.{empty}
-use Rattle.jr_rule.proofs.Grasped.{grasp_in_space}
+use Rattle.jr_steps.specs.Holdings.{empty}
+use Rattle.jr_rule.proofs.HoldingsInSpace.{grasp_in_space}
 use Rattle.jr_rule.proofs.Images.{image_same}
 use Rattle.jr_rule.proofs.Spaces.{hold_same}
-use Rattle.jr_rule.specs.Plain.{alone, standing, unseen, Shows, IsUnused}
+use Rattle.jr_rule.specs.Plain.{alone, standing_alone, unseen, Shows, IsUnused}
 use Rattle.jr_rule.proofs.Unused.{unused_zeros}
 
 zeros : (n j : ℕ) → ◌≡◌ {A = ℕ} (get_or (replicate n 0) j 0) 0
@@ -63,7 +63,7 @@ module _ (config : Config) (last : ℕ) (words : List ℕ) (none : (j : ℕ) →
     };
   }
 
-  pub shows_unseen : length words ≡ row_words config → Shows (standing config last Outside true) words (unseen config last)
+  pub shows_unseen : length words ≡ row_words config → Shows (standing_alone config last Outside true) words (unseen config last)
   shows_unseen wide = record {
     pass = record { config = refl; last = refl; thread = refl; role = refl; legal = tt };
     image = image_same config last words opening (λ t. empty) (opening_image wide) (alone empty) (hold_same (λ t. empty) 0 empty refl);
@@ -71,5 +71,5 @@ module _ (config : Config) (last : ℕ) (words : List ℕ) (none : (j : ℕ) →
   }
 
   -- nobody has a local reference where the words are zeros
-  pub unused_opening : IsUnused (standing config last Outside true) words
+  pub unused_opening : IsUnused (standing_alone config last Outside true) words
   unused_opening = unused_zeros config last Outside true words (λ p l. none (local_at config 0 p))

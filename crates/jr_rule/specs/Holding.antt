@@ -2,9 +2,9 @@
 use Rattle.std.specs.Prelude.{◌≡◌, ◌<◌, ℕ, Bool, true, [], ◌∷◌}
 use Rattle.jr_model.specs.declared.event.Role.{Role}
 use Rattle.jr_model.specs.History.{IsLegal, role_of}
-use Rattle.jr_steps.specs.Grasping.{InSpace}
+use Rattle.jr_steps.specs.Holdings.{InSpace}
 use Rattle.jr_steps.specs.Knowing.{view, HasNoLocals}
-use Rattle.jr_rule.specs.Rule.{Sat, acting, others_of, IsAlone, IsSized, view as rule_view}
+use Rattle.jr_rule.specs.Rule.{Sat, acting, others_of, IsAlone, IsSized, view_of as rule_view}
 
 -- the pass sits alone, and its thread, role and freshness are those of what it knows
 pub record IsHeld (m : Sat) (thread : ℕ) (role : Role) (fresh : Bool) : Type 0 where
@@ -16,7 +16,7 @@ pub record IsHeld (m : Sat) (thread : ℕ) (role : Role) (fresh : Bool) : Type 0
   pub row : thread < (acting m).config.threads
   pub few : thread < 64
   pub unused : fresh ≡ true → HasNoLocals (acting m)
-  pub space : InSpace (acting m).config (acting m).grasp
+  pub space : InSpace (acting m).config (acting m).holdings
 
 -- the seat has a pass to step, and no slots
 abbrev pub IsSeated : Sat → Type 0

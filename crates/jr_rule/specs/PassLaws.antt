@@ -5,7 +5,7 @@ use mathlib.Core.Logic.{∥∥₁_map}
 use mathlib.Core.Path.{sym, refl, subst, ◌∙◌}
 use Rattle.jr_steps.specs.declared.known.Known.{Known}
 use Rattle.jr_rule.specs.declared.pass.Pass.{Pass}
-use Rattle.jr_steps.specs.Grasping.{InSpace}
+use Rattle.jr_steps.specs.Holdings.{InSpace}
 use Rattle.jr_steps.specs.Knowing.{anything, HasNoLocals, MayKnow}
 use Rattle.jr_rule.specs.Passes.{known_of, standing_of, Knows, IsAt}
 
@@ -18,8 +18,8 @@ pub unused_of : (p : Pass) (k : Known) → p.fresh ≡ true → Knows p k → Ha
 unused_of p k f h = subst HasNoLocals (sym h.is) (p.held.unused f)
 
 -- what a pass holds lies in the space
-pub space_of : (p : Pass) (k : Known) → Knows p k → InSpace k.config k.grasp
-space_of p k h = subst (λ (z : Known). InSpace z.config z.grasp) (sym h.is) p.held.space
+pub space_of : (p : Pass) (k : Known) → Knows p k → InSpace k.config k.holdings
+space_of p k h = subst (λ (z : Known). InSpace z.config z.holdings) (sym h.is) p.held.space
 
 -- a pass that stands in the same room is one of the row's own
 pub still_of : (r : Row) (p q : Pass) → (standing_of q).room ≡ (standing_of p).room → (standing_of q).config ≡ (standing_of p).config → (standing_of q).last ≡ (standing_of p).last → IsAt r p → IsAt r q

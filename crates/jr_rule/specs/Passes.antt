@@ -12,7 +12,7 @@ use Rattle.jr_steps.specs.declared.known.Known.{Known}
 use Rattle.jr_rule.specs.declared.pass.Pass.{Pass}
 use Rattle.jr_rule.specs.declared.row.Row.{Row}
 use Rattle.jr_steps.specs.Knowing.{Standing, IsOf, Goes, state_of}
-use Rattle.jr_steps.specs.Grasping.{empty}
+use Rattle.jr_steps.specs.Holdings.{empty}
 use Rattle.jr_rule.specs.Rule.{known, acting}
 
 -- what a pass knows: its room and thread, and what it has seen
@@ -59,7 +59,7 @@ pub record IsSame (old new : Pass) : Type 0 where
   pub fresh : new.fresh ≡ old.fresh
 
 -- AT THE END the summary is that of one legal history, which begins with all that the pass has seen and has no more of its events
-pub record Ends (k : Known) (s : Summary) : Type 0 where
+pub record SumsUp (k : Known) (s : Summary) : Type 0 where
   pub whole : History
   pub legal : IsLegal k.config k.last whole
   pub begins : IsPrefix k.seen whole
@@ -71,7 +71,7 @@ pub record Closes (k : Known) (s : Summary) : Type 0 where
   pub met : Known
   pub goes : Goes k (Meet ∷ []) met
   pub nobody : not_outside k.config (state_of met) ≡ 0
-  pub ends : Ends met s
+  pub ends : SumsUp met s
 
 -- what a pass has seen begins the history, which has no more of its events
 pub record IsSeenIn (whole : History) (k : Known) : Type 0 where

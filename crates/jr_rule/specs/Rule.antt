@@ -11,19 +11,19 @@ use Rattle.jr_model.specs.History.{History, by, state, IsLegal, mine}
 use Rattle.jr_steps.specs.declared.known.Known.{Known}
 use Rattle.jr_rule.specs.declared.rule.View.{View}
 use Rattle.jr_rule.specs.declared.rule.Sizes.{Sizes}
-use Rattle.jr_steps.specs.declared.known.Grasp.{Grasp}
-use Rattle.jr_steps.specs.Grasping.{InSpace, empty, hold}
+use Rattle.jr_steps.specs.declared.known.Holdings.{Holdings}
+use Rattle.jr_steps.specs.Holdings.{InSpace, empty, hold}
 use Rattle.jr_rule.specs.Image.{IsImage}
 use Rattle.jr_steps.specs.Knowing.{Goes}
 
 abbrev pub sizes : Config → ℕ → Sizes
 sizes c last = record { config = c; last = last }
 
-abbrev pub known : Config → ℕ → ℕ → History → Grasp → ℕ → Known
-known c last t seen grasp taken = record { config = c; last = last; thread = t; seen = seen; grasp = grasp; taken = taken }
+abbrev pub known : Config → ℕ → ℕ → History → Holdings → ℕ → Known
+known c last t seen holdings taken = record { config = c; last = last; thread = t; seen = seen; holdings = holdings; taken = taken }
 
-abbrev pub view : List Known → View
-view ks = record { passes = ks }
+abbrev pub view_of : List Known → View
+view_of ks = record { passes = ks }
 
 -- the sizes of a room, and its last serial
 pub record IsSized (c : Config) (last : ℕ) : Type 0 where
@@ -32,15 +32,15 @@ pub record IsSized (c : Config) (last : ℕ) : Type 0 where
   pub serials : last < 2 ^ 32
 
 -- A PASS has seen a beginning of the history, in which all its own events stand, and holds what its thread does
-pub record Fits (c : Config) (last : ℕ) (log : History) (held : ℕ → Grasp) (k : Known) : Type 0 where
+pub record Fits (c : Config) (last : ℕ) (log : History) (held : ℕ → Holdings) (k : Known) : Type 0 where
   pub same_config : k.config ≡ c
   pub same_last : k.last ≡ last
   pub row : k.thread < c.threads
   pub begins : IsPrefix k.seen log
   pub own : mine log k.thread ≡ mine k.seen k.thread
-  pub grasp : held k.thread ≡ k.grasp
+  pub holdings : held k.thread ≡ k.holdings
 
-abbrev pub EachFits : Config → ℕ → History → (ℕ → Grasp) → List Known → Type 0
+abbrev pub EachFits : Config → ℕ → History → (ℕ → Holdings) → List Known → Type 0
 EachFits c last log held [] = Unit {0}
 EachFits c last log held (k ∷ ks) = Fits c last log held k × EachFits c last log held ks
 
@@ -61,7 +61,7 @@ Row = Table (Unit {0}) View
 
 pub record Kept (last : ℕ) (c : Config) (r : Row) : Type 0 where
   pub log : History
-  pub held : ℕ → Grasp
+  pub held : ℕ → Holdings
   pub legal : IsLegal c last log
   pub sized : IsSized c last
   pub image : IsImage c last r.words (state log) held
@@ -96,50 +96,50 @@ acting m = first_of m.0.passes
 
 -- a seat of one pass
 abbrev pub IsAlone : Sat → Type 0
-IsAlone m = m ≡ (view (acting m ∷ []), [])
+IsAlone m = m ≡ (view_of (acting m ∷ []), [])
 
 -- WHAT A STEP TELLS: its pass has then seen what it had, what others did since, and last the step's acts, none or one; and this holds of the number that it found
 pub record Tells (told : Known → ℕ → List Act → Known → Type 0) (m : Sat) (n : ℕ) (m' : Sat) : Type 0 where
   pub acts : List Act
   pub new : Known
-  pub is : m' ≡ (view (new ∷ others_of m.0.passes), m.1)
+  pub is : m' ≡ (view_of (new ∷ others_of m.0.passes), m.1)
   pub goes : Goes (acting m) acts new
   pub says : told (acting m) n acts new
-  pub space : InSpace (acting m).config new.grasp
-  pub held : ℕ → Grasp
+  pub space : InSpace (acting m).config new.holdings
+  pub held : ℕ → Holdings
   pub others : EachFits (acting m).config (acting m).last new.seen held (others_of m.0.passes)
 
 -- HOW A SEAT IS CUT: the first pass alone, and the others
 abbrev pub first_alone : View → View
-first_alone v = view (first_of v.passes ∷ [])
+first_alone v = view_of (first_of v.passes ∷ [])
 
 abbrev pub without_first : View → View
-without_first v = view (others_of v.passes)
+without_first v = view_of (others_of v.passes)
 
 -- HOW TWO SEATS ARE JOINED: one stands for the passes of both, and the other for none
 abbrev pub together : View → View → View
-together v w = view (v.passes ++ w.passes)
+together v w = view_of (v.passes ++ w.passes)
 
 abbrev pub spent : View
-spent = view []
+spent = view_of []
 
 -- WHAT A KIND OF STEP OWES, which turns the word i into f of what it finds: whatever the history and the words are, its acts are steps of the machine, the words are then the image, and what it tells is so
-pub record IsFound (k : Known) (log : History) (words : List ℕ) (held : ℕ → Grasp) : Type 0 where
+pub record IsFound (k : Known) (log : History) (words : List ℕ) (held : ℕ → Holdings) : Type 0 where
   pub fits : Fits k.config k.last log held k
   pub legal : IsLegal k.config k.last log
   pub sized : IsSized k.config k.last
   pub image : IsImage k.config k.last words (state log) held
 
 -- what is known after a step, with its acts at the end of the history
-abbrev pub known_at : Known → History → List Act → Grasp → Known
-known_at k log acts grasp = known k.config k.last k.thread (log ++ map (by k.thread) acts) grasp (k.taken + 1)
+abbrev pub known_at : Known → History → List Act → Holdings → Known
+known_at k log acts holdings = known k.config k.last k.thread (log ++ map (by k.thread) acts) holdings (k.taken + 1)
 
-pub record Makes (k : Known) (log : History) (words : List ℕ) (held : ℕ → Grasp) (told : List Act → Known → Type 0) : Type 0 where
+pub record Makes (k : Known) (log : History) (words : List ℕ) (held : ℕ → Holdings) (told : List Act → Known → Type 0) : Type 0 where
   pub acts : List Act
-  pub grasp : Grasp
+  pub holdings : Holdings
   pub legal : IsLegal k.config k.last (log ++ map (by k.thread) acts)
-  pub image : IsImage k.config k.last words (state (log ++ map (by k.thread) acts)) (hold held k.thread grasp)
-  pub says : told acts (known_at k log acts grasp)
+  pub image : IsImage k.config k.last words (state (log ++ map (by k.thread) acts)) (hold held k.thread holdings)
+  pub says : told acts (known_at k log acts holdings)
 
 abbrev pub Owes : Known → ℕ → (ℕ → ℕ) → (ℕ → List Act → Known → Type 0) → Type 0
-Owes k i f told = (log : History) (words : List ℕ) (held : ℕ → Grasp) → IsFound k log words held → Makes k log (slice_set words i (f (slice_index words i))) held (told (slice_index words i))
+Owes k i f told = (log : History) (words : List ℕ) (held : ℕ → Holdings) → IsFound k log words held → Makes k log (slice_set words i (f (slice_index words i))) held (told (slice_index words i))

@@ -18,11 +18,11 @@ IsReference kind serial o (slot.Weak n object) = (kind ≡ Weak) × (serial ≡ 
 IsReference kind serial o _ = ⊥
 
 -- the parts of a slot's word are those of a reference of the kind
-abbrev pub is_of_kind : RefKind → SlotParts → Bool
-is_of_kind Global (slot.Global n o) = true
-is_of_kind Weak (slot.Weak n o) = true
-is_of_kind _ _ = false
+abbrev pub has_kind : RefKind → SlotParts → Bool
+has_kind Global (slot.Global n o) = true
+has_kind Weak (slot.Weak n o) = true
+has_kind _ _ = false
 
 -- the parts of a slot's word once its reference of the serial is deleted: free with the next serial, but retired at the last
-abbrev pub freed : ℕ → ℕ → SlotParts
-freed last serial = if nat_lt serial last then slot.Free (serial + 1) else slot.Retired last
+abbrev pub parts_once_free : ℕ → ℕ → SlotParts
+parts_once_free last serial = if nat_lt serial last then slot.Free (serial + 1) else slot.Retired last

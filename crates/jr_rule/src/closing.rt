@@ -2,7 +2,7 @@
 ghost use Rattle.std.specs.Prelude.{◌≡◌, length, IfOk, IfErr};
 ghost use Rattle.std.specs.Slots.{slots_items, slots_len, IsFull};
 
-use jr_steps::GateNaming;
+use jr_steps::GateLoad;
 use crate::parts::all_counted;
 use crate::pass::Pass;
 use crate::room::Room;
@@ -34,7 +34,7 @@ impl<const LAST: u32> Room<LAST> {
         ensures ok { IfOk result (λ s. Closes (known_of pass) s) }
         ensures err { IfErr result (λ l. IsLeft self.entry pass l) }
     {
-        let inside = all_counted(self.row.see_gate(&mut pass, GateNaming::Meet));
+        let inside = all_counted(self.row.see_gate(&mut pass, GateLoad::Meet));
         if inside != 0 {
             return Err(Left {
                 room: self,
@@ -62,12 +62,12 @@ impl Words for ClosedWords {
 }
 
 impl Row {
-    ghost use Rattle.jr_rule.specs.Passes.{known_of, IsAt, Ends};
+    ghost use Rattle.jr_rule.specs.Passes.{known_of, IsAt, SumsUp};
 
     /// What stands at the end.
     fn close(self, pass: Pass) -> Summary
         requires { IsAt self pass }
-        ensures { Ends (known_of pass) result }
+        ensures { SumsUp (known_of pass) result }
     {
         let Row {
             table,

@@ -6,7 +6,7 @@ ghost use Rattle.std.specs.Slots.{slots_items, slots_len, IsFull};
 
 use crate::closing::{ClosedWords, Left};
 use crate::rule::View;
-use jr_steps::GateNaming;
+use jr_steps::GateLoad;
 use crate::parts::all_counted;
 use crate::pass::Pass;
 use crate::room::Room;
@@ -38,7 +38,7 @@ impl<const LAST: u32> Room<LAST> {
         ensures exact { IfOk result (λ s. HasSeenAll (known_of pass) (map known_of others.items) → s ≡ summary_of (known_of pass).config (known_of pass).last (state_of (known_of pass))) }
         ensures err { IfErr result (λ l. AreLeft self.entry pass others.items l) }
     {
-        let inside = all_counted(self.row.see_gate(&mut pass, GateNaming::Meet));
+        let inside = all_counted(self.row.see_gate(&mut pass, GateLoad::Meet));
         if inside != 0 {
             let left = Left {
                 room: self,
@@ -54,7 +54,7 @@ impl<const LAST: u32> Room<LAST> {
 
 impl Row {
     ghost use Rattle.jr_rule.specs.Passes.{known_of, IsAt, EndsAll};
-    ghost use Rattle.jr_rule.specs.Rule.{view};
+    ghost use Rattle.jr_rule.specs.Rule.{view_of};
 
     /// The seats of the passes join this one.
     fn gather(&self, seat: &mut Seat<(), View>, mut others: Vec<Pass>)
@@ -62,7 +62,7 @@ impl Row {
         requires slots { seat.old.me.1 ≡ [] }
         requires others { All (λ p. IsAt self.now p) others.items }
         ensures room { seat.new.table_id ≡ seat.old.table_id }
-        ensures all { seat.new.me ≡ (view (seat.old.me.0.passes ++ map known_of others.items), []) }
+        ensures all { seat.new.me ≡ (view_of (seat.old.me.0.passes ++ map known_of others.items), []) }
     {
         while !others.is_empty() {
             let Pass {

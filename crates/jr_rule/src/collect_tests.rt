@@ -98,7 +98,7 @@ fn prepare<S: Steps>(steps: &mut S) -> Result<(), Fail> {
     if steps.config().words != 4 || steps.role() != Role::Outside || !steps.go_in() {
         return Err("the thread does not come in")?;
     }
-    let looked = steps.see_top(TopNaming::Look);
+    let looked = steps.see_top(TopLoad::Look);
     if looked != 0 {
         return Err("a word is reserved")?;
     }
@@ -120,9 +120,9 @@ fn look_after<S: Steps>(rt: &impl Abort, steps: &mut S) -> Result<(), Fail> {
         serial: 0,
         object: None,
     };
-    assert_eq!(rt; steps.see_slot(0, SlotNaming::Look(WEAK)), cleared);
+    assert_eq!(rt; steps.see_slot(0, SlotLoad::Look(WEAK)), cleared);
     assert_eq!(rt; steps.see_header(1), None);
-    assert_eq!(rt; steps.see_top(TopNaming::Look), 0);
+    assert_eq!(rt; steps.see_top(TopLoad::Look), 0);
     assert!(rt; steps.claim_header(1, PLAIN));
     steps.go_out();
     Ok(())

@@ -5,21 +5,21 @@ mod closing;
 mod closing_all;
 #[cfg(test)]
 mod closing_tests;
-mod collect_stepping;
+mod collect_steps;
 #[cfg(test)]
 mod collect_tests;
-mod gate_stepping;
-mod heap_stepping;
+mod gate_steps;
+mod heap_steps;
 mod layout;
 mod parts;
 mod pass;
-mod place_stepping;
+mod local_steps;
 mod plain;
 mod room;
 mod room_steps;
 mod row;
 mod rule;
-mod slot_stepping;
+mod slot_steps;
 mod summing;
 #[cfg(test)]
 mod tests;
@@ -27,7 +27,7 @@ mod tests;
 pub use closing::Left;
 pub use closing_all::AllLeft;
 pub use jr_model::{Role, Summary};
-pub use jr_steps::{GateNaming, Grasp, Known, KnownHeader, Move, OwnRange, SlotNaming, Steps, TopNaming};
+pub use jr_steps::{GateLoad, Holdings, Known, KnownHeader, Move, OwnRange, SlotLoad, Steps, TopLoad};
 pub use pass::Pass;
 pub use plain::PlainSteps;
 pub use room::Room;

@@ -6,9 +6,9 @@ ghost use Rattle.jr_word.specs.Gate.{gate_word, IsGate};
 ghost use Rattle.jr_word.specs.Top.{top_word as word_of_top};
 ghost use Rattle.jr_model.specs.declared.event.Role.TheVariants.{Outside};
 ghost use Rattle.jr_model.specs.History.{role_after};
-ghost use Rattle.jr_steps.specs.Acts.{entered_as, all_counted as all_of};
+ghost use Rattle.jr_steps.specs.Acts.{act_of_entry, all_counted as all_of};
 ghost use Rattle.jr_steps.specs.Says.{local_parts as parts_of_local};
-ghost use Rattle.jr_rule.specs.Slots.{CanStand, IsReference, is_of_kind, freed};
+ghost use Rattle.jr_rule.specs.Slots.{CanStand, IsReference, has_kind, parts_once_free};
 
 use jr_model::Role;
 use jr_word::{GateParts, GateWord, LocalParts, RefKind, SlotParts, TopParts, TopWord};
@@ -37,7 +37,7 @@ pub(crate) fn all_counted(parts: GateParts) -> u32
 
 /// Whether what the word of a slot says is a reference of the kind.
 pub(crate) fn is_reference(kind: RefKind, parts: SlotParts) -> bool
-    ensures { result ≡ is_of_kind kind parts }
+    ensures { result ≡ has_kind kind parts }
 {
     match parts {
         SlotParts::Global { .. } => kind == RefKind::Global,
@@ -55,7 +55,7 @@ pub(crate) fn is_free(parts: SlotParts, serial: u32) -> bool
 
 /// The role of a thread whose entry went in, or did not.
 pub(crate) fn role_of_entry(entered: bool) -> Role
-    ensures { result ≡ role_after Outside (entered_as entered) }
+    ensures { result ≡ role_after Outside (act_of_entry entered) }
 {
     if entered {
         Role::Within
@@ -88,7 +88,7 @@ pub(crate) fn local_parts(object: Option<u16>) -> LocalParts
 
 /// What the word of a slot says once its reference of the serial is deleted.
 pub(crate) fn freed_slot(serial: u32, last: u32) -> SlotParts
-    ensures { result ≡ freed last serial }
+    ensures { result ≡ parts_once_free last serial }
 {
     if serial < last {
         SlotParts::Free { serial: serial + 1 }

@@ -9,10 +9,10 @@ ghost use Rattle.jr_model.specs.declared.event.Role.TheVariants.{Outside};
 ghost use Rattle.jr_rule.specs.Image.{gate_at, top_at, slot_at as place_of_slot};
 ghost use Rattle.jr_steps.specs.Knowing.{anything, MayKnow, HasNoLocals};
 ghost use Rattle.jr_steps.specs.declared.known.Known.{Known};
-ghost use Rattle.jr_rule.specs.Plain.{standing, Shows, IsUnused};
+ghost use Rattle.jr_rule.specs.Plain.{standing_alone, Shows, IsUnused};
 
 use crate::layout::{GATE, TOP, element_at, header_at, local_at, slot_at};
-use jr_steps::{GateNaming, SlotNaming, TopNaming};
+use jr_steps::{GateLoad, SlotLoad, TopLoad};
 use crate::parts::{
     all_counted, freed_slot, is_free, is_shut, local_parts, reference, role_of_entry, top_word,
 };
@@ -39,8 +39,8 @@ pub struct PlainSteps<const LAST: u32> {
     ghost limits: { in_limits config ≡ true },
     ghost limited: { IsLimited config },
     ghost wide: { vec_len words ≡ row_words config },
-    ghost unused: { fresh ≡ true → IsUnused (standing config LAST role fresh) words.items },
-    ghost shown: { MayKnow (Shows (standing config LAST role fresh)) words.items anything },
+    ghost unused: { fresh ≡ true → IsUnused (standing_alone config LAST role fresh) words.items },
+    ghost shown: { MayKnow (Shows (standing_alone config LAST role fresh)) words.items anything },
 }
 
 impl<const LAST: u32> PlainSteps<LAST> {
@@ -53,8 +53,8 @@ impl<const LAST: u32> PlainSteps<LAST> {
         ensures size { (result ≡ Err Size) ↔ (in_limits config ≡ false) }
         ensures memory { IfErr result (λ e. (e ≡ Size) ⊎ (e ≡ Memory)) }
         ensures room { IfOk result (λ s. (s.config ≡ config) × (s.role ≡ Outside) × (s.fresh ≡ true)) }
-        ensures fresh { IfOk result (λ s. Shows (standing config LAST Outside true) s.words.items (unseen config LAST)) }
-        ensures locals { IfOk result (λ s. (k : Known) → Shows (standing config LAST Outside true) s.words.items k → HasNoLocals k) }
+        ensures fresh { IfOk result (λ s. Shows (standing_alone config LAST Outside true) s.words.items (unseen config LAST)) }
+        ensures locals { IfOk result (λ s. (k : Known) → Shows (standing_alone config LAST Outside true) s.words.items k → HasNoLocals k) }
     {
         if !config.in_limits() {
             return Err(Fault::Size);
@@ -72,7 +72,7 @@ impl<const LAST: u32> PlainSteps<LAST> {
 
     /// What stands in the room. It takes no memory.
     pub fn summary(&self) -> Summary
-        ensures { (k : Known) → Shows (standing self.now.config LAST self.now.role self.now.fresh) self.now.words.items k → result ≡ summary_of k.config k.last (state_of k) }
+        ensures { (k : Known) → Shows (standing_alone self.now.config LAST self.now.role self.now.fresh) self.now.words.items k → result ≡ summary_of k.config k.last (state_of k) }
     {
         summary(&self.words, &self.config)
     }
@@ -111,9 +111,9 @@ impl<const LAST: u32> PlainSteps<LAST> {
 impl<const LAST: u32> Steps for PlainSteps<LAST> {
     ghost use Rattle.std.proofs.Common.{lit<};
 
-    ghost stands = { λ s. standing s.config LAST s.role s.fresh };
+    ghost stands = { λ s. standing_alone s.config LAST s.role s.fresh };
 
-    ghost knows = { λ s k. Shows (standing s.config LAST s.role s.fresh) s.words.items k };
+    ghost knows = { λ s k. Shows (standing_alone s.config LAST s.role s.fresh) s.words.items k };
 
     fn config(&self) -> Config {
         self.config
@@ -170,11 +170,11 @@ impl<const LAST: u32> Steps for PlainSteps<LAST> {
         self.role = Role::Outside;
     }
 
-    fn see_gate(&mut self, _name: GateNaming) -> GateParts {
+    fn see_gate(&mut self, _name: GateLoad) -> GateParts {
         self.gate()
     }
 
-    fn see_slot(&mut self, index: u16, _name: SlotNaming) -> SlotParts {
+    fn see_slot(&mut self, index: u16, _name: SlotLoad) -> SlotParts {
         self.slot(index)
     }
 
@@ -224,7 +224,7 @@ impl<const LAST: u32> Steps for PlainSteps<LAST> {
         true
     }
 
-    fn see_top(&mut self, _name: TopNaming) -> u32 {
+    fn see_top(&mut self, _name: TopLoad) -> u32 {
         self.top()
     }
 
@@ -246,7 +246,7 @@ impl<const LAST: u32> Steps for PlainSteps<LAST> {
         self.words[at] = word;
     }
 
-    fn put_own(&mut self, place: u32, index: u32, word: u64) {
+    fn put_reserved(&mut self, place: u32, index: u32, word: u64) {
         let at = element_at(&self.config, place + index);
         self.words[at] = word;
     }
@@ -341,7 +341,7 @@ mod tests {
             count: 1,
             shut: false,
         };
-        assert_eq!(rt; steps.see_gate(GateNaming::Meet), one);
+        assert_eq!(rt; steps.see_gate(GateLoad::Meet), one);
         steps.go_out();
         assert_eq!(rt; steps.words[0], 0);
         Ok(())
@@ -373,7 +373,7 @@ mod tests {
             count: 0,
             shut: false,
         };
-        assert_eq!(rt; steps.see_gate(GateNaming::Busy), empty);
+        assert_eq!(rt; steps.see_gate(GateLoad::Busy), empty);
         let Ok(()) = steps.bar() else {
             return Err("the gate is not empty")?;
         };
@@ -428,16 +428,16 @@ mod tests {
         };
         let mut steps = PlainSteps::<2>::new(rt.alloc(), config)?;
         assert!(rt; steps.go_in());
-        let looked = steps.see_top(TopNaming::Look);
+        let looked = steps.see_top(TopLoad::Look);
         if looked != 0 {
             return Err("some words are used")?;
         }
         let Ok(()) = steps.claim_top(looked, 2) else {
             return Err("the top is another")?;
         };
-        steps.put_own(looked, 1, 7);
+        steps.put_reserved(looked, 1, 7);
         assert_eq!(rt; steps.claim_top(looked, 1).err(), Some(2));
-        assert_eq!(rt; steps.see_top(TopNaming::Full { words: 1 }), 2);
+        assert_eq!(rt; steps.see_top(TopLoad::Full { words: 1 }), 2);
 
         let mut row = [0; 22];
         row[0] = 1;
@@ -463,7 +463,7 @@ mod tests {
         let mut steps = PlainSteps::<0>::new(rt.alloc(), Config::LEAST)?;
         assert!(rt; steps.go_in());
         assert!(rt; steps.claim_header(1, PLAIN));
-        let SlotParts::Free { serial: 0 } = steps.see_slot(0, SlotNaming::Probe) else {
+        let SlotParts::Free { serial: 0 } = steps.see_slot(0, SlotLoad::Probe) else {
             return Err("the slot is not free")?;
         };
         let Ok(()) = steps.claim(0, 0, RefKind::Global, 1) else {
@@ -485,12 +485,12 @@ mod tests {
         let SlotParts::Global {
             serial: 0,
             object: 1,
-        } = steps.see_slot(0, SlotNaming::Look(handle))
+        } = steps.see_slot(0, SlotLoad::Look(handle))
         else {
             return Err("no reference stands in the slot")?;
         };
         assert!(rt; steps.free(handle, Some(1)));
-        let SlotParts::Retired { serial: 0 } = steps.see_slot(0, SlotNaming::Meet) else {
+        let SlotParts::Retired { serial: 0 } = steps.see_slot(0, SlotLoad::Meet) else {
             return Err("the slot is not retired")?;
         };
 

@@ -5,7 +5,7 @@ ghost use Rattle.jr_model.specs.History.{HasMet};
 ghost use Rattle.jr_steps.specs.Knowing.{view, anything, Took, keeps};
 ghost use Rattle.jr_rule.specs.Passes.{IsAt};
 
-use jr_steps::{GateNaming, SlotNaming, TopNaming};
+use jr_steps::{GateLoad, SlotLoad, TopLoad};
 use crate::pass::Pass;
 use crate::room::Room;
 use jr_steps::Steps;
@@ -102,11 +102,11 @@ impl<const LAST: u32> Steps for RoomSteps<'_, LAST> {
         self.room.row.unbar(&mut self.pass);
     }
 
-    fn see_gate(&mut self, name: GateNaming) -> GateParts {
+    fn see_gate(&mut self, name: GateLoad) -> GateParts {
         self.room.row.see_gate(&mut self.pass, name)
     }
 
-    fn see_slot(&mut self, index: u16, name: SlotNaming) -> SlotParts {
+    fn see_slot(&mut self, index: u16, name: SlotLoad) -> SlotParts {
         self.room.row.see_slot(&mut self.pass, index, name)
     }
 
@@ -138,7 +138,7 @@ impl<const LAST: u32> Steps for RoomSteps<'_, LAST> {
         self.room.row.claim_header(&mut self.pass, object, header)
     }
 
-    fn see_top(&mut self, name: TopNaming) -> u32 {
+    fn see_top(&mut self, name: TopLoad) -> u32 {
         self.room.row.see_top(&mut self.pass, name)
     }
 
@@ -158,8 +158,8 @@ impl<const LAST: u32> Steps for RoomSteps<'_, LAST> {
             .put_element(&mut self.pass, object, header, index, word);
     }
 
-    fn put_own(&mut self, place: u32, index: u32, word: u64) {
-        self.room.row.put_own(&mut self.pass, place, index, word);
+    fn put_reserved(&mut self, place: u32, index: u32, word: u64) {
+        self.room.row.put_reserved(&mut self.pass, place, index, word);
     }
 
     fn scan_slot(&mut self, index: u16) -> SlotParts {

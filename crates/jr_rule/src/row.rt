@@ -31,8 +31,8 @@ ghost use Rattle.std.specs.Prelude.{◌≡◌, ◌+◌, ◌<◌, ◌≤◌, ◌^
 ghost use prog.Atomic.{either};
 ghost use Rattle.jr_word.specs.Config.{in_limits, row_words};
 ghost use Rattle.jr_model.specs.declared.event.Role.TheVariants.{Outside};
-ghost use Rattle.jr_steps.specs.Grasping.{empty};
-ghost use Rattle.jr_rule.specs.Rule.{IsSized, sizes, known, view, newcomers, others_of, acting, IsAlone, Owes, Tells};
+ghost use Rattle.jr_steps.specs.Holdings.{empty};
+ghost use Rattle.jr_rule.specs.Rule.{IsSized, sizes, known, view_of, newcomers, others_of, acting, IsAlone, Owes, Tells};
 
 use crate::rule::View;
 use crate::pass::Pass;
@@ -81,7 +81,7 @@ impl Row {
     /// One pass a thread, from thread 0 upward.
     fn deal_all(&self, alloc: Global, mut seat: Seat<(), View>) -> Result<Vec<Pass>, AllocError>
         requires room { seat.table_id ≡ self.now.table.shared.table_id }
-        requires all { seat.me ≡ (view (newcomers self.now.config self.now.last self.now.config.threads 0), []) }
+        requires all { seat.me ≡ (view_of (newcomers self.now.config self.now.last self.now.config.threads 0), []) }
         ensures { IfOk result (λ passes. AreOpened self.now.config self.now.last self.now passes.items) }
     {
         let mut passes = Vec::with_capacity(alloc, self.config.threads as usize)?;
@@ -95,8 +95,8 @@ impl Row {
     fn deal(&self, seat: &mut Seat<(), View>, thread: u8) -> Pass
         requires room { seat.old.table_id ≡ self.now.table.shared.table_id }
         requires thread { thread < self.now.config.threads }
-        requires first { seat.old.me ≡ (view (known self.now.config self.now.last thread [] empty 0 ∷ others_of seat.old.me.0.passes), []) }
-        ensures seat { (seat.new.table_id ≡ seat.old.table_id) × (seat.new.me ≡ (view (others_of seat.old.me.0.passes), [])) }
+        requires first { seat.old.me ≡ (view_of (known self.now.config self.now.last thread [] empty 0 ∷ others_of seat.old.me.0.passes), []) }
+        ensures seat { (seat.new.table_id ≡ seat.old.table_id) × (seat.new.me ≡ (view_of (others_of seat.old.me.0.passes), [])) }
         ensures pass { IsOpened self.now result × (result.thread ≡ thread) }
     {
         let dealt = self.table.shared.split_seat::<Deal>(seat);

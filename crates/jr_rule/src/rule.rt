@@ -24,11 +24,11 @@ pub struct View {
 pub struct Rule;
 
 impl TableRule<(), View, Sizes> for Rule {
-    ghost use Rattle.jr_rule.specs.Rule.{Kept, view, newcomers};
+    ghost use Rattle.jr_rule.specs.Rule.{Kept, view_of, newcomers};
 
     ghost holds = { λ z. Kept z.last z.config };
 
-    ghost first = { λ z. view (newcomers z.config z.last z.config.threads 0) };
+    ghost first = { λ z. view_of (newcomers z.config z.last z.config.threads 0) };
 }
 
 /// What a step tells of what was known, the number that it found, its acts, and what is known then.

@@ -128,15 +128,15 @@ fn passes_share_one_gate(rt: HostRuntime) -> Result<(), Fail> {
         (first.role(), second.role()),
         (Role::Within, Role::Outside)
     );
-    assert_eq!(rt; second.see_gate(GateNaming::Meet), open_gate(1));
+    assert_eq!(rt; second.see_gate(GateLoad::Meet), open_gate(1));
     assert!(rt; second.go_in());
-    assert_eq!(rt; first.see_gate(GateNaming::Meet), open_gate(2));
+    assert_eq!(rt; first.see_gate(GateLoad::Meet), open_gate(2));
     assert!(rt; first.fresh() && second.fresh());
     first.put_local(15, None);
     assert!(rt; !first.fresh() && second.fresh());
     second.go_out();
     first.go_out();
-    assert_eq!(rt; second.see_gate(GateNaming::Meet), open_gate(0));
+    assert_eq!(rt; second.see_gate(GateLoad::Meet), open_gate(0));
     second.spend();
     assert!(rt; !second.fresh());
     let (_first, _second) = (first.into_pass(), second.into_pass());
@@ -245,10 +245,10 @@ fn a_slot_is_claimed_by_one_and_freed_by_one(rt: HostRuntime) -> Result<(), Fail
     assert!(rt; second.go_in());
     assert!(rt; first.claim_header(1, PLAIN));
     assert!(rt; !second.claim_header(1, PLAIN));
-    let SlotParts::Free { serial: 0 } = first.see_slot(0, SlotNaming::Probe) else {
+    let SlotParts::Free { serial: 0 } = first.see_slot(0, SlotLoad::Probe) else {
         return Err("the slot is not free")?;
     };
-    let SlotParts::Free { serial: 0 } = second.see_slot(0, SlotNaming::Probe) else {
+    let SlotParts::Free { serial: 0 } = second.see_slot(0, SlotLoad::Probe) else {
         return Err("the slot is not free")?;
     };
     assert_eq!(rt; first.claim(0, 0, RefKind::Global, 1), Ok(()));
@@ -256,22 +256,22 @@ fn a_slot_is_claimed_by_one_and_freed_by_one(rt: HostRuntime) -> Result<(), Fail
     let SlotParts::Global {
         serial: 0,
         object: 1,
-    } = first.see_slot(0, SlotNaming::Look(FIRST))
+    } = first.see_slot(0, SlotLoad::Look(FIRST))
     else {
         return Err("no reference stands in the slot")?;
     };
     let SlotParts::Global {
         serial: 0,
         object: 1,
-    } = second.see_slot(0, SlotNaming::Look(FIRST))
+    } = second.see_slot(0, SlotLoad::Look(FIRST))
     else {
         return Err("no reference stands in the slot")?;
     };
     assert!(rt; second.free(FIRST, Some(1)));
     assert!(rt; !first.free(FIRST, Some(1)));
-    assert_eq!(rt; first.see_slot(0, SlotNaming::Meet), FREED);
-    assert_eq!(rt; second.see_slot(0, SlotNaming::Look(FIRST)), FREED);
-    assert_eq!(rt; first.see_slot(1, SlotNaming::Probe), NEVER_USED);
+    assert_eq!(rt; first.see_slot(0, SlotLoad::Meet), FREED);
+    assert_eq!(rt; second.see_slot(0, SlotLoad::Look(FIRST)), FREED);
+    assert_eq!(rt; first.see_slot(1, SlotLoad::Probe), NEVER_USED);
     first.go_out();
     second.go_out();
     let (_first, _second) = (first.into_pass(), second.into_pass());
@@ -290,7 +290,7 @@ pub(crate) fn refer<S: Steps>(steps: &mut S, index: u16, kind: RefKind) -> Resul
         return Err("the thread does not come in")?;
     }
     steps.claim_header(1, PLAIN);
-    let SlotParts::Free { serial: 0 } = steps.see_slot(index, SlotNaming::Probe) else {
+    let SlotParts::Free { serial: 0 } = steps.see_slot(index, SlotLoad::Probe) else {
         return Err("the slot is not free")?;
     };
     let Ok(()) = steps.claim(index, 0, kind, 1) else {

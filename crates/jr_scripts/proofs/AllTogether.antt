@@ -18,16 +18,16 @@ use Rattle.jr_syntax.specs.declared.script.Script.{Script}
 use Rattle.jr_steps.specs.declared.known.Known.{Known}
 use Rattle.jr_rule.specs.declared.pass.Pass.{Pass}
 use Rattle.jr_rule.specs.declared.row.Row.{Row}
-use Rattle.jr_steps.specs.Grasping.{empty}
+use Rattle.jr_steps.specs.Holdings.{empty}
 use Rattle.jr_steps.specs.Knowing.{Standing, view, Holds}
 use Rattle.jr_rule.specs.Rule.{known}
 use Rattle.jr_rule.specs.PassLaws.{still_of}
 use Rattle.jr_rule.specs.Passes.{known_of, standing_of, Knows, IsAt, IsOpened, AreOpened, numbers_below, IsSeenIn, ClosesAll}
-use Rattle.jr_steps.proofs.Goes.{goes_did}
+use Rattle.jr_steps.proofs.StepFacts.{goes_did}
 use Rattle.jr_scripts.specs.declared.part.Job.{Job}
 use Rattle.jr_scripts.specs.declared.part.ThreadRun.{ThreadRun}
 use Rattle.jr_scripts.specs.Performing.{Moment, moment}
-use Rattle.jr_scripts.specs.Explains.{Explained, Leaves}
+use Rattle.jr_scripts.specs.Explains.{Explained, LeavesText}
 use Rattle.jr_scripts.specs.Text.{heading, ending}
 use Rattle.jr_scripts.specs.Runs.{RanThread}
 use Rattle.jr_scripts.specs.AllRuns.{RanPass, seeing_as, opening_of, closing_acts, IsPartOf, ArePartsOf, text_of_parts, IsRunOfAll}

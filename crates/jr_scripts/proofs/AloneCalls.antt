@@ -13,7 +13,7 @@ use Rattle.jr_model.specs.History.{History, state, PassView}
 use Rattle.jr_model.specs.Frames.{Frames}
 use Rattle.jr_model.specs.Calls.{Call, Ran, entered}
 use Rattle.jr_model.specs.Refusals.{RowWasFull, ObjectsWereFull}
-use Rattle.jr_model.specs.Unchanged.{is_harmless, may_precede, ChangesNothing}
+use Rattle.jr_model.specs.RefusedCalls.{is_harmless, may_precede, ChangesNothing}
 use Rattle.jr_model.proofs.Exactly.{append_all}
 use Rattle.jr_model.proofs.Moments.{prefix_trans}
 use Rattle.jr_model.proofs.Stays.{mine_did}

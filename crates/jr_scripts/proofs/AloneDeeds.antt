@@ -17,8 +17,8 @@ use Rattle.jr_model.specs.State.{State, same_kind}
 use Rattle.jr_model.specs.Frames.{Frames}
 use Rattle.jr_model.specs.Calls.{Call, entered}
 use Rattle.jr_model.specs.References as references
-use Rattle.jr_model.specs.Tests.{Word, Nothing, Malformed, Parts, is_of_kind}
-use Rattle.jr_model.specs.Unchanged.{ChangesNothing}
+use Rattle.jr_model.specs.Checks.{Word, Nothing, Malformed, Parts, is_of_kind}
+use Rattle.jr_model.specs.RefusedCalls.{ChangesNothing}
 use Rattle.jr_model.proofs.Moments.{prefix_self, prefix_trans}
 use Rattle.jr_model.proofs.RefusedCalls.{refusals_change_nothing}
 use Rattle.jr_syntax.specs.declared.name.Reference.{Reference}
@@ -33,7 +33,7 @@ use Rattle.jr_scripts.specs.Names.{Names, referent, wanted}
 use Rattle.jr_scripts.specs.Performing.{Moment}
 use Rattle.jr_scripts.specs.Deeds.{Deed, call_on, call_on_both, decided, done, new_plain, new_reference, new_local_ref, delete_reference, delete_local_ref, is_same_object, get_object_ref_type, answered_by, ◌>>=◌}
 use Rattle.jr_scripts.specs.Tries.{Tried, answered, again, gave_up, is_tried_again}
-use Rattle.jr_scripts.specs.Commands.{deed, deleted, deleted_as, deleted_of, makes, the_reference, tried, type_of}
+use Rattle.jr_scripts.specs.Commands.{deed, deletion, deleted_as, deleted_of, makes_reference, the_reference, tried, type_of}
 use Rattle.jr_scripts.specs.AloneAnswers.{IsAloneFault}
 use Rattle.jr_scripts.proofs.AloneHistories.{all_prefix}
 use Rattle.jr_scripts.proofs.AloneCalls.{IsAlone, LedAlone, LeadsAlone, call_alone}
@@ -164,7 +164,7 @@ module _ (turns : ℕ) where
   the_reference_alone : (names : Names) (r : Reference) → LeadsAlone turns (the_reference turns names r)
   the_reference_alone names r = decided_alone turns _ (wanted_alone (referent names r))
 
-  makes_alone : {one : Deed (Option Handle)} → ((n : ℕ) → LeadsAlone n one) → LeadsAlone turns (makes turns one)
+  makes_alone : {one : Deed (Option Handle)} → ((n : ℕ) → LeadsAlone n one) → LeadsAlone turns (makes_reference turns one)
   makes_alone p = bind_alone turns (tried_alone turns p) (λ h. done_alone turns _)
 
   -- the deletion by the call of the word's kind
@@ -178,7 +178,7 @@ module _ (turns : ℕ) where
   deleted_as_alone w Malformed is = decided_alone turns _ (λ p f. tt)
   deleted_as_alone w (Parts h) is = deleted_of_alone h.kind w (λ a reads. kind_fits w h a is reads)
 
-  deleted_alone : (w : ℕ) → LeadsAlone turns (deleted turns w)
+  deleted_alone : (w : ℕ) → LeadsAlone turns (deletion turns w)
   deleted_alone w = record { led = λ old new answer alone d. (deleted_as_alone w d.0 d.1).led old new answer alone d.2 }
 
   type_of_alone : (r : Option Handle) → LeadsAlone turns (type_of turns r)

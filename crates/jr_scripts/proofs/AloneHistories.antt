@@ -11,7 +11,7 @@ use Rattle.jr_model.specs.State.{State, IsPresent, IsOccupied}
 use Rattle.jr_model.specs.Steps.{act_after, after}
 use Rattle.jr_model.specs.History.{History, mine, state, state_from}
 use Rattle.jr_model.specs.Refusals.{Sometime}
-use Rattle.jr_model.specs.Unchanged.{is_harmless, may_precede}
+use Rattle.jr_model.specs.RefusedCalls.{is_harmless, may_precede}
 use Rattle.jr_model.proofs.Histories.{state_append}
 use Rattle.jr_model.proofs.RefusedCalls.{harmless_changes_nothing}
 use Rattle.jr_model.proofs.Stays.{append_cancel}

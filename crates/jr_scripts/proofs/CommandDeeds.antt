@@ -4,7 +4,7 @@ use Rattle.jr_word.specs.declared.fault.Fault.{Fault}
 use Rattle.jr_word.specs.declared.handle.RefKind.{RefKind}
 use Rattle.jr_model.specs.State.{Handle}
 use Rattle.jr_model.specs.Frames.{Frames}
-use Rattle.jr_model.specs.Tests.{Parts}
+use Rattle.jr_model.specs.Checks.{Parts}
 use Rattle.jr_syntax.specs.declared.verb.OnBoth.{OnBoth}
 use Rattle.jr_syntax.specs.declared.verb.OnBoth.TheVariants.{Same}
 use Rattle.jr_steps.specs.declared.known.Known.{Known}
@@ -14,8 +14,8 @@ use Rattle.jr_scripts.specs.declared.reply.Reply.TheVariants as replies
 use Rattle.jr_scripts.specs.Reading.{IsReadAs}
 use Rattle.jr_scripts.specs.Performing.{Moment}
 use Rattle.jr_scripts.specs.Deeds.{Deed, Does, done, ◌>>◌}
-use Rattle.jr_scripts.specs.Commands.{deleted_of, deleted}
-use Rattle.jr_scripts.proofs.Standings.{nothing_changed}
+use Rattle.jr_scripts.specs.Commands.{deleted_of, deletion}
+use Rattle.jr_scripts.proofs.SameRoom.{nothing_changed}
 
 -- a verb of two references is this one
 pub only_same : (v : OnBoth) → v ≡ Same
@@ -31,7 +31,7 @@ module _ {S : Type 0} {stands : S → Standing} {knows : S → Known → Type 0}
   does_nothing w = record { stands_is = nothing_changed; did = λ k s h. (k, s, h, w _) }
 
   -- the delete call of the kind of a handle
-  pub does_delete : {old new : S} {f g : Frames} {answer : Result Reply Fault} (turns w : ℕ) (h : Handle) (kind : RefKind) → IsReadAs w (Parts h) → h.kind ≡ kind → Does stands knows old new f g (deleted_of turns kind w >> done replies.Done) answer → Does stands knows old new f g (deleted turns w >> done replies.Done) answer
+  pub does_delete : {old new : S} {f g : Frames} {answer : Result Reply Fault} (turns w : ℕ) (h : Handle) (kind : RefKind) → IsReadAs w (Parts h) → h.kind ≡ kind → Does stands knows old new f g (deleted_of turns kind w >> done replies.Done) answer → Does stands knows old new f g (deletion turns w >> done replies.Done) answer
   does_delete turns w h kind reads is = does_more (λ p q d.
       elim d [
         | inl x ↦ inl (x.0, x.1, (Parts h, reads, subst (λ k. deleted_of turns k w p (Ok x.0) x.1) (sym is) x.2), x.3)

@@ -15,19 +15,19 @@ use Rattle.jr_model.specs.Calls.{Ran, act, refuse, ◌>>◌}
 use Rattle.jr_model.specs.Parts.{delete, delete_found}
 use Rattle.jr_model.proofs.Runs.{ran_act, ran_some_act, ran_refuse, ran_then, did_legal}
 use Rattle.jr_steps.specs.declared.known.Known.{Known}
-use Rattle.jr_steps.specs.Acts.{found_object}
+use Rattle.jr_steps.specs.Acts.{found_of}
 use Rattle.jr_steps.specs.Knowing.{Standing, view, anything, keeps, HasLooked, MayKnow, Took, Goes}
-use Rattle.jr_steps.proofs.Goes.{goes_did, looked_now}
+use Rattle.jr_steps.proofs.StepFacts.{goes_did, looked_now}
 use Rattle.jr_scripts.specs.Performing.{Performed, moment}
 use Rattle.jr_scripts.specs.Reading.{found_answer}
-use Rattle.jr_scripts.proofs.Standings.{as_before, still_before}
+use Rattle.jr_scripts.proofs.SameRoom.{as_before, still_before}
 use Rattle.jr_scripts.proofs.Spending.{Spending, made_of, spend_first, spend_step}
-use Rattle.jr_scripts.proofs.Refusing.{handed_on}
+use Rattle.jr_scripts.proofs.HandedOn.{handed_on}
 
 -- what a look found, by what it answers
-found_some : (r : Found) (z : Option ℕ) → found_answer r ≡ Ok z → r ≡ found_object z
-found_some (found.Object o) z e = let same : Some o ≡ z = cc in ap (λ y. found_object y) same
-found_some found.Cleared z e = let same : None ≡ z = cc in ap (λ y. found_object y) same
+found_some : (r : Found) (z : Option ℕ) → found_answer r ≡ Ok z → r ≡ found_of z
+found_some (found.Object o) z e = let same : Some o ≡ z = cc in ap (λ y. found_of y) same
+found_some found.Cleared z e = let same : None ≡ z = cc in ap (λ y. found_of y) same
 found_some found.Stale z e = cc
 
 found_none : (r : Found) (e : Fault) → found_answer r ≡ Err e → (r ≡ found.Stale) × (e ≡ fault.Stale)
@@ -35,14 +35,14 @@ found_none (found.Object o) e is = absurd cc
 found_none found.Cleared e is = absurd cc
 found_none found.Stale e is = (refl, cc)
 
-won : (p q : PassView) (f : Frames) (h : Handle) (z : Option ℕ) → Did p q (Delete h ∷ []) → Ran p q f f (delete_found h (found_object z)) (Ok tt)
+won : (p q : PassView) (f : Frames) (h : Handle) (z : Option ℕ) → Did p q (Delete h ∷ []) → Ran p q f f (delete_found h (found_of z)) (Ok tt)
 won p q f h (Some o) d = let r = ran_act f (Delete h) tt tt d in record { acts = r.acts; did = r.did; is = inl r.is; begun = r.begun; window = r.window; grounds = tt }
 won p q f h None d = let r = ran_act f (Delete h) tt tt d in record { acts = r.acts; did = r.did; is = inl r.is; begun = r.begun; window = r.window; grounds = tt }
 
 lost_then : (p q : PassView) (f : Frames) (h : Handle) → Did p q (DeleteStale h ∷ []) → Ran p q f f (act (DeleteStale h) >> refuse {A = Unit {0}} fault.Stale) (Err fault.Stale)
 lost_then p q f h d = ran_then {g = f} {next = λ u. refuse {A = Unit {0}} fault.Stale} tt (ran_act f (DeleteStale h) tt tt d) (ran_refuse q f fault.Stale tt (did_legal (DeleteStale h ∷ []) d))
 
-lost : (p q : PassView) (f : Frames) (h : Handle) (z : Option ℕ) → Did p q (DeleteStale h ∷ []) → Ran p q f f (delete_found h (found_object z)) (Err fault.Stale)
+lost : (p q : PassView) (f : Frames) (h : Handle) (z : Option ℕ) → Did p q (DeleteStale h ∷ []) → Ran p q f f (delete_found h (found_of z)) (Err fault.Stale)
 lost p q f h (Some o) d = let r = lost_then p q f h d in record { acts = r.acts; did = r.did; is = inr r.is; begun = r.begun; window = r.window; grounds = tt }
 lost p q f h None d = let r = lost_then p q f h d in record { acts = r.acts; did = r.did; is = inr r.is; begun = r.begun; window = r.window; grounds = tt }
 
@@ -60,30 +60,30 @@ module _ {S : Type 0} {stands : S → Standing} {knows : S → Known → Type 0}
       })
 
   module _ (z : Option ℕ) (is : found_answer r ≡ Ok z) where
-    looked : (k k' : Known) → Goes k (Look h r ∷ []) k' → HasLooked h (found_object z) k'
+    looked : (k k' : Known) → Goes k (Look h r ∷ []) k' → HasLooked h (found_of z) k'
     looked k k' g = subst (λ x. HasLooked h x k') (found_some r z is) (looked_now h r g)
 
-    looked_did : (k k' : Known) → Goes k (Look h r ∷ []) k' → Did (view k) (view k') (Look h (found_object z) ∷ [])
+    looked_did : (k k' : Known) → Goes k (Look h r ∷ []) k' → Did (view k) (view k') (Look h (found_of z) ∷ [])
     looked_did k k' g = goes_did (subst (λ x. Goes k (Look h x ∷ []) k') (found_some r z is) g)
 
-    pub may_delete : MayKnow knows a anything → MayKnow knows b (HasLooked h (found_object z))
+    pub may_delete : MayKnow knows a anything → MayKnow knows b (HasLooked h (found_of z))
     may_delete some = ∥∥₁_map some (λ k. let g = t.goes k.0 k.1 tt in (g.0, g.1, looked k.0 g.0 g.2))
 
     -- a look and an exchange
-    spent_both : {c : S} {x : Act} (u : Took stands knows b c (x ∷ []) (HasLooked h (found_object z)) keeps) (k : Known) (s : knows a k) (m : anything k) (f : Frames)
+    spent_both : {c : S} {x : Act} (u : Took stands knows b c (x ∷ []) (HasLooked h (found_of z)) keeps) (k : Known) (s : knows a k) (m : anything k) (f : Frames)
         → let g = t.goes k s m in Spending 0 (moment (stands a).fresh k f) (moment (stands c).fresh (u.goes g.0 g.1 (looked k g.0 g.2)).0 f)
     spent_both u k s m f = let g = t.goes k s m in spend_first (spend_step t k s m f f) (spend_step u g.0 g.1 (looked k g.0 g.2) f f)
 
-    pub deleted_won : {c : S} → Took stands knows b c (Delete h ∷ []) (HasLooked h (found_object z)) keeps → (f : Frames) → Performed stands knows a c f f 0 anything (λ s. delete h) (Ok tt) keeps
+    pub deleted_won : {c : S} → Took stands knows b c (Delete h ∷ []) (HasLooked h (found_of z)) keeps → (f : Frames) → Performed stands knows a c f f 0 anything (λ s. delete h) (Ok tt) keeps
     deleted_won u f = record {
       stands_is = still_before (as_before _ t.stands_is) (as_before _ u.stands_is);
       ran = λ k s m. let g = t.goes k s m in let e = u.goes g.0 g.1 (looked k g.0 g.2) in
-          (e.0, e.1, made_of (spent_both u k s m f) (ran_then (found_object z) (ran_some_act f (Look h) (found_object z) tt tt (looked_did k g.0 g.2)) (won (view g.0) (view e.0) f h z (goes_did e.2))), e.3 ∙ g.3);
+          (e.0, e.1, made_of (spent_both u k s m f) (ran_then (found_of z) (ran_some_act f (Look h) (found_of z) tt tt (looked_did k g.0 g.2)) (won (view g.0) (view e.0) f h z (goes_did e.2))), e.3 ∙ g.3);
     }
 
-    pub deleted_lost : {c : S} → Took stands knows b c (DeleteStale h ∷ []) (HasLooked h (found_object z)) keeps → (f : Frames) → Performed stands knows a c f f 0 anything (λ s. delete h) (Err fault.Stale) keeps
+    pub deleted_lost : {c : S} → Took stands knows b c (DeleteStale h ∷ []) (HasLooked h (found_of z)) keeps → (f : Frames) → Performed stands knows a c f f 0 anything (λ s. delete h) (Err fault.Stale) keeps
     deleted_lost u f = record {
       stands_is = still_before (as_before _ t.stands_is) (as_before _ u.stands_is);
       ran = λ k s m. let g = t.goes k s m in let e = u.goes g.0 g.1 (looked k g.0 g.2) in
-          (e.0, e.1, made_of (spent_both u k s m f) (ran_then (found_object z) (ran_some_act f (Look h) (found_object z) tt tt (looked_did k g.0 g.2)) (lost (view g.0) (view e.0) f h z (goes_did e.2))), e.3 ∙ g.3);
+          (e.0, e.1, made_of (spent_both u k s m f) (ran_then (found_of z) (ran_some_act f (Look h) (found_of z) tt tt (looked_did k g.0 g.2)) (lost (view g.0) (view e.0) f h z (goes_did e.2))), e.3 ∙ g.3);
     }

@@ -5,7 +5,7 @@ use Rattle.std.proofs.Math.Seq.{map-set_same}
 use Rattle.arrayvec.specs.ArrayVec.{ArrayVec}
 use Rattle.jr_model.specs.declared.frames.LocalRef.{LocalRef}
 use Rattle.jr_model.specs.State.{Handle, same_handle}
-use Rattle.jr_model.specs.Frames.{object_of, deleted}
+use Rattle.jr_model.specs.Frames.{object_of, without_local}
 use Rattle.jr_model.proofs.Updates.{eq_true, eq_other, handle_self}
 use Rattle.jr_scripts.specs.declared.frames.Place.{Place}
 use Rattle.jr_scripts.specs.declared.frames.Frames.TheInside.{Inside}
@@ -71,7 +71,7 @@ module _ (a : Inside) (is : IsTable a) (h : Handle) (some : IsSome (object_of (t
         (λ e. absurd cc)
         (is.within h.index)
 
-    pub is_deleted : (table (changed a places standing)).frames ≡ deleted (table a).frames h
+    pub is_deleted : (table (changed a places standing)).frames ≡ without_local (table a).frames h
     is_deleted = frames_same _ _ _ _
         (ap (map (ref_at a.thread places.items)) kept
         ∙ refs_other a.thread a.places.items places.items h.index (λ q ne. ap (λ ps. place_at ps q) set ∙ get_or-set_other a.places.items h.index q (emptied a h) unused ne) (without h.index a.standing.items) (times_without_self h.index a.standing.items)

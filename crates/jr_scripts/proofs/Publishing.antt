@@ -8,10 +8,10 @@ use Rattle.jr_model.specs.declared.event.Act.TheVariants.{New}
 use Rattle.jr_model.specs.History.{Did}
 use Rattle.jr_model.proofs.Stays.{did_then, did_nothing}
 use Rattle.jr_steps.specs.declared.known.Known.{Known}
-use Rattle.jr_steps.specs.Acts.{publishing}
-use Rattle.jr_steps.specs.Grasping.{with_header}
+use Rattle.jr_steps.specs.Acts.{acts_of_publication}
+use Rattle.jr_steps.specs.Holdings.{with_header}
 use Rattle.jr_steps.specs.Knowing.{Standing, IsOf, view, anything, HasObject, IsFilled, words_for, ShowsPublished, MayKnow, TookWith, Takes, keeps}
-use Rattle.jr_steps.proofs.Goes.{goes_did, present_stays}
+use Rattle.jr_steps.proofs.StepFacts.{goes_did, present_stays}
 use Rattle.jr_scripts.specs.Performing.{Published, bare}
 
 module _ {S : Type 0} (stands : S → Standing) (knows : S → Known → Type 0) where
@@ -29,7 +29,7 @@ last_or o n l = grind arith
 module _ {S : Type 0} {stands : S → Standing} {knows : S → Known → Type 0} (fits : (s : S) (k : Known) → knows s k → IsOf (stands s) k) where
   -- what the exchange of a header without elements did
   abbrev Claimed : S → S → ℕ → Kind → Bool → Type 0
-  Claimed b c o kind new = TookWith stands knows b c (λ k. publishing o kind (words_for (bare kind) k) new) (IsFilled (bare kind)) (ShowsPublished o (bare kind) new)
+  Claimed b c o kind new = TookWith stands knows b c (λ k. acts_of_publication o kind (words_for (bare kind) k) new) (IsFilled (bare kind)) (ShowsPublished o (bare kind) new)
 
   -- a header without elements can be given at any time
   pub may_claim : (a : S) (kind : Kind) → MayKnow knows a anything → MayKnow knows a (IsFilled (bare kind))

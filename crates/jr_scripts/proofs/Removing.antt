@@ -11,23 +11,23 @@ use Rattle.jr_model.specs.declared.event.Act.{Act}
 use Rattle.jr_model.specs.declared.event.Act.TheVariants.{LocalDrop}
 use Rattle.jr_model.specs.State.{Handle, same_kind}
 use Rattle.jr_model.specs.History.{PassView, IsLegal}
-use Rattle.jr_model.specs.Frames.{Frames, deleted, object_of}
+use Rattle.jr_model.specs.Frames.{Frames, without_local, object_of}
 use Rattle.jr_model.specs.Calls.{Ran, ◌>>=◌}
-use Rattle.jr_model.specs.Tests.{Nothing, Malformed, Parts, is_local, is_out_of_bounds, is_foreign}
+use Rattle.jr_model.specs.Checks.{Nothing, Malformed, Parts, is_local, is_out_of_bounds, is_foreign}
 use Rattle.jr_model.specs.Parts.{delete, delete_found, drop_local, looked_at}
 use Rattle.jr_model.proofs.Agreement.{spares_places}
 use Rattle.jr_model.proofs.Windows.{window_act}
 use Rattle.jr_model.proofs.Runs.{ran_done, ran_then, ran_err}
 use Rattle.jr_steps.specs.declared.known.Known.{Known}
 use Rattle.jr_steps.specs.Knowing.{Standing, IsOf, view, anything, keeps, HasOptional, Took}
-use Rattle.jr_steps.proofs.Goes.{goes_did}
+use Rattle.jr_steps.proofs.StepFacts.{goes_did}
 use Rattle.jr_model.specs.References.{removal, local_removal}
 use Rattle.jr_scripts.specs.Table.{IsOnly}
 use Rattle.jr_scripts.specs.Reading.{local_answer}
 use Rattle.jr_scripts.specs.Performing.{Performed, Calls}
 use Rattle.jr_scripts.proofs.Spending.{made_of, spending, spend_step}
-use Rattle.jr_scripts.proofs.Standings.{as_before}
-use Rattle.jr_scripts.proofs.Known.{holds_did, holds_put}
+use Rattle.jr_scripts.proofs.SameRoom.{as_before}
+use Rattle.jr_scripts.proofs.FramesAgree.{holds_did, holds_put}
 use Rattle.jr_scripts.proofs.Reading.{ran_refused, ran_passed, ran_local}
 use Rattle.jr_scripts.proofs.Resolving.{stays}
 
@@ -86,7 +86,7 @@ module _ {S : Type 0} {stands : S → Standing} {knows : S → Known → Type 0}
 
   -- the local reference of a handle that stands
   pub removes_local : {a b : S} {f g : Frames} (fits : (s : S) (k : Known) → knows s k → IsOf (stands s) k) (c : Config) (t : ℕ) (h : Handle) (o : ℕ) → is_local h ≡ true → is_out_of_bounds c (Parts h) ≡ false → is_foreign t (Parts h) ≡ false → Some o ≡ object_of f h
-      → Took stands knows a b (LocalDrop h.index ∷ []) (HasOptional None) keeps → g ≡ deleted f h → IsOnly f h.index None g → Calls stands knows a b f g (local_removal c t (Parts h)) (Ok tt)
+      → Took stands knows a b (LocalDrop h.index ∷ []) (HasOptional None) keeps → g ≡ without_local f h → IsOnly f h.index None g → Calls stands knows a b f g (local_removal c t (Parts h)) (Ok tt)
   removes_local {a} {f = f} {g = g} fits c t h o e e' e'' is u gone only = record {
     stands_is = as_before _ u.stands_is;
     ran = λ k s m.

@@ -10,7 +10,7 @@ use Rattle.jr_model.specs.State.{Handle}
 use Rattle.jr_model.specs.History.{PassView, IsLegal}
 use Rattle.jr_model.specs.Frames.{Frames, object_of, object_at}
 use Rattle.jr_model.specs.Calls.{Call, Ran, done, ◌>>=◌}
-use Rattle.jr_model.specs.Tests.{Word, Parts, is_local, is_malformed, is_out_of_bounds, is_foreign, type_found, type_local}
+use Rattle.jr_model.specs.Checks.{Word, Parts, is_local, is_malformed, is_out_of_bounds, is_foreign, type_found, type_local}
 use Rattle.jr_model.specs.Parts.{look, looked, looked_at, type_at}
 use Rattle.jr_model.specs.References.{resolved}
 use Rattle.jr_model.proofs.Stays.{did_nothing}
@@ -18,15 +18,15 @@ use Rattle.jr_model.proofs.Windows.{window_nothing}
 use Rattle.jr_model.proofs.Runs.{ran_done}
 use Rattle.jr_steps.specs.declared.known.Known.{Known}
 use Rattle.jr_steps.specs.Knowing.{Standing, IsOf, view, anything, keeps, Holds, Goes, Took}
-use Rattle.jr_steps.proofs.Goes.{goes_did, looked_present}
+use Rattle.jr_steps.proofs.StepFacts.{goes_did, looked_present}
 use Rattle.jr_scripts.specs.Performing.{FoundPresent, Resolves, Calls}
 use Rattle.jr_scripts.specs.Reading.{word_of, found_answer, local_answer}
 use Rattle.jr_model.specs.References.{typing}
 use Rattle.jr_scripts.specs.declared.reference.Reference.{Reference}
 use Rattle.jr_scripts.specs.declared.reference.Reference.TheVariants as reference
 use Rattle.jr_scripts.proofs.Spending.{made_of, spending, spend_step, spend_none}
-use Rattle.jr_scripts.proofs.Standings.{nothing_changed, as_before}
-use Rattle.jr_scripts.proofs.Known.{holds_did, local_present}
+use Rattle.jr_scripts.proofs.SameRoom.{nothing_changed, as_before}
+use Rattle.jr_scripts.proofs.FramesAgree.{holds_did, local_present}
 use Rattle.jr_scripts.proofs.Reading.{ran_refused, ran_passed, ran_either, ran_neither, ran_local, ran_remote, ran_remote_type}
 
 remote_present : (k k' : Known) (h : Handle) (r : Found) → Goes k (Look h r ∷ []) k' → FoundPresent (found_answer r) k'

@@ -8,18 +8,18 @@ use Rattle.jr_word.specs.declared.fault.Fault.TheVariants as fault
 use Rattle.jr_model.specs.History.{PassView}
 use Rattle.jr_model.specs.Frames.{Frames}
 use Rattle.jr_model.specs.Calls.{Call, Ran, done, ◌>>=◌}
-use Rattle.jr_model.specs.Tests.{Word, is_malformed, is_out_of_bounds, is_foreign, same_object}
+use Rattle.jr_model.specs.Checks.{Word, is_malformed, is_out_of_bounds, is_foreign, same_object}
 use Rattle.jr_model.specs.Parts.{looked}
 use Rattle.jr_model.specs.References.{resolved_both}
 use Rattle.jr_model.proofs.Runs.{ran_then, ran_err, ran_give}
 use Rattle.jr_steps.specs.declared.known.Known.{Known}
 use Rattle.jr_steps.specs.Knowing.{Standing, IsOf}
 use Rattle.jr_scripts.specs.Performing.{Resolves, Calls}
-use Rattle.jr_scripts.proofs.Standings.{still_before}
+use Rattle.jr_scripts.proofs.SameRoom.{still_before}
 use Rattle.jr_scripts.proofs.Reading.{neither, ran_either, ran_neither}
 use Rattle.jr_scripts.proofs.Resolving.{stays}
 use Rattle.jr_scripts.proofs.Spending.{made_of, spending, spend_first}
-use Rattle.jr_scripts.proofs.Refusing.{handed_on}
+use Rattle.jr_scripts.proofs.HandedOn.{handed_on}
 
 -- what follows the tests: both are looked at
 abbrev pub looked_both : Word → Word → Call (Option ℕ × Option ℕ)

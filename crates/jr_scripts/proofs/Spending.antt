@@ -10,7 +10,7 @@ use Rattle.jr_model.specs.Calls.{Call, Ran}
 use Rattle.jr_model.proofs.Stays.{append_cancel, did_nothing, did_then}
 use Rattle.jr_steps.specs.declared.known.Known.{Known}
 use Rattle.jr_steps.specs.Knowing.{Standing, view, fresh_after, fresh_from, anything, Takes, Took}
-use Rattle.jr_steps.proofs.Goes.{goes_did}
+use Rattle.jr_steps.proofs.StepFacts.{goes_did}
 use Rattle.jr_gate.specs.Acting.{ActedTo, IsWithdrawn}
 use Rattle.jr_scripts.specs.Performing.{Moment, moment, Spends, IsMade}
 

@@ -15,7 +15,7 @@ use Rattle.jr_model.specs.declared.event.Found.TheVariants as found
 use Rattle.jr_model.specs.State.{Handle}
 use Rattle.jr_model.specs.Frames.{Frames, free_places, object_of}
 use Rattle.jr_model.specs.Calls.{Call, ◌>>=◌, done, refuse, refuse_if, act, some_act, one_of}
-use Rattle.jr_model.specs.Tests.{Word, Nothing, Malformed, Parts, is_local, type_local, is_out_of_bounds, is_of_kind, is_foreign}
+use Rattle.jr_model.specs.Checks.{Word, Nothing, Malformed, Parts, is_local, type_local, is_out_of_bounds, is_of_kind, is_foreign}
 use Rattle.jr_model.specs.Parts.{created, create, created_with, delete_at, delete_found, delete_local_at, drop_local, found_object, local_object, look, looked, looked_at, probes, publish, type_at}
 use Rattle.jr_model.specs.References.{added, comparison, creation, local_creation, local_removal, making, new_local, removal, resolved, resolved_both, room_for, typing}
 use Rattle.jr_model.proofs.Exactly.{append_all}

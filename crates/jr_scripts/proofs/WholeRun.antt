@@ -12,7 +12,7 @@ use Rattle.jr_syntax.specs.declared.thread.ThreadPart.{ThreadPart}
 use Rattle.jr_steps.specs.declared.known.Known.{Known}
 use Rattle.jr_steps.specs.Knowing.{Standing, IsOf, view, Holds}
 use Rattle.jr_rule.specs.declared.plain.PlainSteps.{PlainSteps}
-use Rattle.jr_rule.specs.Plain.{unseen, standing, Shows}
+use Rattle.jr_rule.specs.Plain.{unseen, standing_alone, Shows}
 use Rattle.jr_scripts.specs.Performing.{moment}
 use Rattle.jr_scripts.specs.Text.{heading, ending}
 use Rattle.jr_scripts.specs.Explains.{Explained}
@@ -67,19 +67,19 @@ module _ {S : Type 0} {stands : S → Standing} {knows : S → Known → Type 0}
 
 -- the same over plain steps
 pub plain_run : {old new : PlainSteps 4294967295} {f g : Frames} {commands : List Command} {answer : Result (Unit {0}) Fault} (turns : ℕ) (c : Config) (part : ThreadPart) (lines whole : List ℕ) (v : Summary) (made : PlainSteps 4294967295)
-    → c.threads ≡ 1 → made.config ≡ c → made.role ≡ Outside → made.fresh ≡ true → Shows (standing c 4294967295 Outside true) made.words.items (unseen c 4294967295)
+    → c.threads ≡ 1 → made.config ≡ c → made.role ≡ Outside → made.fresh ≡ true → Shows (standing_alone c 4294967295 Outside true) made.words.items (unseen c 4294967295)
     → old ≡ made → f ≡ fresh_frames made.config.locals
     → commands ≡ part.commands → answer ≡ Ok tt
-    → RanThread (λ s. standing s.config 4294967295 s.role s.fresh) (λ s k. Shows (standing s.config 4294967295 s.role s.fresh) s.words.items k) old new f g turns 3 commands answer lines
-    → ((k : Known) → Shows (standing new.config 4294967295 new.role new.fresh) new.words.items k → v ≡ summary k.config k.last (state k.seen))
+    → RanThread (λ s. standing_alone s.config 4294967295 s.role s.fresh) (λ s k. Shows (standing_alone s.config 4294967295 s.role s.fresh) s.words.items k) old new f g turns 3 commands answer lines
+    → ((k : Known) → Shows (standing_alone new.config 4294967295 new.role new.fresh) new.words.items k → v ≡ summary k.config k.last (state k.seen))
     → whole ≡ heading part.name ++ lines ++ ending v
     → IsRun turns 4294967295 c part whole
 plain_run {old} {new} {f} {g} {commands} turns c part lines whole v made one config_is role_is fresh_is opening same fresh these good ran tells whole_is =
-    let known : Shows (standing old.config 4294967295 old.role old.fresh) old.words.items (unseen c 4294967295)
-    = subst (λ (s : PlainSteps 4294967295). Shows (standing s.config 4294967295 s.role s.fresh) s.words.items (unseen c 4294967295)) (sym same)
-    (subst (λ d. Shows (standing d 4294967295 made.role made.fresh) made.words.items (unseen c 4294967295)) (sym config_is)
-    (subst (λ r. Shows (standing c 4294967295 r made.fresh) made.words.items (unseen c 4294967295)) (sym role_is)
-    (subst (λ b. Shows (standing c 4294967295 Outside b) made.words.items (unseen c 4294967295)) (sym fresh_is) opening))) in
+    let known : Shows (standing_alone old.config 4294967295 old.role old.fresh) old.words.items (unseen c 4294967295)
+    = subst (λ (s : PlainSteps 4294967295). Shows (standing_alone s.config 4294967295 s.role s.fresh) s.words.items (unseen c 4294967295)) (sym same)
+    (subst (λ d. Shows (standing_alone d 4294967295 made.role made.fresh) made.words.items (unseen c 4294967295)) (sym config_is)
+    (subst (λ r. Shows (standing_alone c 4294967295 r made.fresh) made.words.items (unseen c 4294967295)) (sym role_is)
+    (subst (λ b. Shows (standing_alone c 4294967295 Outside b) made.words.items (unseen c 4294967295)) (sym fresh_is) opening))) in
     let Leads : List Command → Result (Unit {0}) Fault → Type 0
-    = λ cs r. RanThread (λ (s : PlainSteps 4294967295). standing s.config 4294967295 s.role s.fresh) (λ s k. Shows (standing s.config 4294967295 s.role s.fresh) s.words.items k) old new f g turns 3 cs r lines in
+    = λ cs r. RanThread (λ (s : PlainSteps 4294967295). standing_alone s.config 4294967295 s.role s.fresh) (λ s k. Shows (standing_alone s.config 4294967295 s.role s.fresh) s.words.items k) old new f g turns 3 cs r lines in
     is_run (λ s k h. h.pass) turns 4294967295 c part lines whole v one (ap (λ (s : PlainSteps 4294967295). s.config) same ∙ config_is) refl refl (ap (λ (s : PlainSteps 4294967295). s.fresh) same ∙ fresh_is) known (fresh ∙ ap (λ d. fresh_frames d.locals) config_is) (subst (λ cs. Leads cs (Ok tt)) these (subst (Leads commands) good ran)) tells whole_is

@@ -4,7 +4,7 @@ use Rattle.jr_word.specs.declared.handle.RefKind.{RefKind}
 use Rattle.jr_word.specs.declared.handle.RefKind.TheVariants.{Local, Global, Weak}
 use Rattle.jr_word.specs.declared.handle.Handle.{Handle}
 use Rattle.jr_word.specs.declared.fault.Fault.TheVariants as fault
-use Rattle.jr_model.specs.Tests.{Word, Nothing, Malformed, Parts}
+use Rattle.jr_model.specs.Checks.{Word, Nothing, Malformed, Parts}
 use Rattle.jr_syntax.specs.declared.name.Reference.{Reference}
 use Rattle.jr_syntax.specs.declared.command.Command.{Command}
 use Rattle.jr_syntax.specs.declared.command.Command.TheVariants as commands
@@ -25,8 +25,8 @@ module _ (turns : ℕ) where
   tried one = Tried one turns
 
   -- a call that makes a reference, or answers NULL
-  abbrev pub makes : Deed (Option Handle) → Deed Reply
-  makes one = do
+  abbrev pub makes_reference : Deed (Option Handle) → Deed Reply
+  makes_reference one = do
     h ← tried one
     done (replies.Made h)
 
@@ -41,8 +41,8 @@ module _ (turns : ℕ) where
   deleted_as w Malformed = decided (Err fault.Stale)
   deleted_as w (Parts h) = deleted_of h.kind w
 
-  abbrev pub deleted : ℕ → Deed (Unit {0})
-  deleted w old answer new = (a : Word) × IsReadAs w a × deleted_as w a old answer new
+  abbrev pub deletion : ℕ → Deed (Unit {0})
+  deletion w old answer new = (a : Word) × IsReadAs w a × deleted_as w a old answer new
 
   -- the type of what stands there, 0 for nothing
   abbrev pub type_of : Option Handle → Deed ℕ
@@ -61,16 +61,16 @@ module _ (turns : ℕ) (names : Names) where
     done (replies.Made (Some h))
   deed (commands.MakeFrom make_from.Global n r) = do
     w ← the_reference r
-    makes turns (new_reference Global w.0)
+    makes_reference turns (new_reference Global w.0)
   deed (commands.MakeFrom make_from.Weak n r) = do
     w ← the_reference r
-    makes turns (new_reference Weak w.0)
+    makes_reference turns (new_reference Weak w.0)
   deed (commands.MakeFrom make_from.Local n r) = do
     w ← the_reference r
-    makes turns (new_local_ref w.0)
+    makes_reference turns (new_local_ref w.0)
   deed (commands.On on.Drop r) = do
     w ← the_reference r
-    deleted turns w.0
+    deletion turns w.0
     done replies.Done
   deed (commands.On on.Type r) = do
     n ← type_of turns (referent names r)

@@ -10,9 +10,9 @@ use Rattle.jr_model.specs.References as references
 use Rattle.jr_model.specs.History.{state}
 use Rattle.jr_model.specs.Frames.{Frames}
 use Rattle.jr_model.specs.Calls.{Call}
-use Rattle.jr_model.specs.Tests.{Word}
+use Rattle.jr_model.specs.Checks.{Word}
 use Rattle.jr_steps.specs.declared.known.Known.{Known}
-use Rattle.jr_steps.specs.Grasping.{empty}
+use Rattle.jr_steps.specs.Holdings.{empty}
 use Rattle.jr_steps.specs.Knowing.{Standing, Holds}
 use Rattle.jr_scripts.specs.Reading.{IsReadAs}
 use Rattle.jr_scripts.specs.Performing.{IsAsBefore, Moment, moment, IsMade}

@@ -28,6 +28,6 @@ module _ (turns first : ℕ) (old : Moment) where
         → commands ≡ before ++ last ∷ rest → Explains before text mid names → deed turns names last mid answer new → IsCutOff commands text new
 
   -- WHAT A RUN of the commands leaves, where it added the text: all of it explained, or memory was refused
-  abbrev pub Leaves : List Command → Result (Unit {0}) Fault → List ℕ → Moment → Type 0
-  Leaves commands (Ok _) text new = Explained commands text new
-  Leaves commands (Err e) text new = (e ≡ fault.Memory) × IsCutOff commands text new
+  abbrev pub LeavesText : List Command → Result (Unit {0}) Fault → List ℕ → Moment → Type 0
+  LeavesText commands (Ok _) text new = Explained commands text new
+  LeavesText commands (Err e) text new = (e ≡ fault.Memory) × IsCutOff commands text new

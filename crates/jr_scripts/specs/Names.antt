@@ -13,12 +13,12 @@ abbrev pub Names : Type 0
 Names = List (List ℕ × Handle)
 
 -- the reference that a name was set to last
-abbrev pub standing : Names → List ℕ → Option Handle
-standing names n = fold (λ s e. if bytes_eq n e.0 then Some e.1 else s) None names
+abbrev pub reference_named : Names → List ℕ → Option Handle
+reference_named names n = fold (λ s e. if bytes_eq n e.0 then Some e.1 else s) None names
 
 -- a name is set
-abbrev pub named : Names → List ℕ → Handle → Names
-named names n h = names ++ (n, h) ∷ []
+abbrev pub with_name : Names → List ℕ → Handle → Names
+with_name names n h = names ++ (n, h) ∷ []
 
 -- NULL, the reference to nothing
 abbrev pub null : Handle
@@ -27,7 +27,7 @@ null = record { 0 = 0 }
 -- what a command refers to, none for a name that stands for nothing
 abbrev pub referent : Names → Reference → Option Handle
 referent names refers.Null = Some null
-referent names (refers.Named n) = standing names n
+referent names (refers.Named n) = reference_named names n
 
 -- the reference where one is wanted: E2 for a name that stands for nothing
 abbrev pub wanted : Option Handle → Result Handle Fault

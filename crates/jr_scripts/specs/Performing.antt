@@ -14,8 +14,8 @@ use Rattle.jr_model.specs.Frames.{Frames, object_at}
 use Rattle.jr_model.specs.Calls.{Call, Ran}
 use Rattle.jr_word.specs.declared.header.HeaderParts.{HeaderParts}
 use Rattle.jr_steps.specs.declared.known.Known.{Known}
-use Rattle.jr_steps.specs.declared.known.Grasp.{Grasp}
-use Rattle.jr_steps.specs.Grasping.{with_header}
+use Rattle.jr_steps.specs.declared.known.Holdings.{Holdings}
+use Rattle.jr_steps.specs.Holdings.{with_header}
 use Rattle.jr_steps.specs.Knowing.{Standing, view, state_of, fresh_from, keeps, lets_go, Takes, HasObject, HasOptional, Holds}
 
 -- the same room, thread and role, whether or not the pass is fresh
@@ -30,13 +30,13 @@ pub record IsAsBefore (old new : Standing) : Type 0 where
 pub record Moment : Type 0 where
   pub pass : PassView
   pub frames : Frames
-  pub held : Grasp
+  pub held : Holdings
   pub fresh : Bool
   pub taken : ℕ
 
 -- the moment at which so much is known
 abbrev pub moment : Bool → Known → Frames → Moment
-moment fresh k f = record { pass = view k; frames = f; held = k.grasp; fresh = fresh; taken = k.taken }
+moment fresh k f = record { pass = view k; frames = f; held = k.holdings; fresh = fresh; taken = k.taken }
 
 -- what acts take from a pass: one operation each, and at most so many more, of which nobody else could tell; and it is as fresh as they leave it
 pub record Spends (silent : ℕ) (old new : Moment) (acts : List Act) : Type 0 where
@@ -89,7 +89,7 @@ bare kind = record { kind = kind; length = 0; place = 0 }
 -- the pass holds the header of the new object beside what it held
 abbrev pub LearnsNew : Kind → Option ℕ → Known → Known → Type 0
 LearnsNew kind None j k = keeps j k
-LearnsNew kind (Some o) j k = k.grasp ≡ with_header j.grasp o (bare kind)
+LearnsNew kind (Some o) j k = k.holdings ≡ with_header j.holdings o (bare kind)
 
 -- each slot from first to last takes two operations at the most
 abbrev pub TwoEach : ℕ → ℕ → List Act → Type 0

@@ -7,7 +7,7 @@ use Rattle.jr_word.specs.Handle.{handle_word, IsHandle}
 use Rattle.jr_model.specs.declared.event.Found.{Found}
 use Rattle.jr_model.specs.declared.event.Found.TheVariants as found
 use Rattle.jr_model.specs.State.{Handle}
-use Rattle.jr_model.specs.Tests.{Word, Nothing, Malformed, Parts}
+use Rattle.jr_model.specs.Checks.{Word, Nothing, Malformed, Parts}
 use Rattle.jr_scripts.specs.declared.reference.Reference.{Reference}
 use Rattle.jr_scripts.specs.declared.reference.Reference.TheVariants as reference
 

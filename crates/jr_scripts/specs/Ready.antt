@@ -17,7 +17,7 @@ pub record KeepsOwner (old new : Table) : Type 0 where
 
 module _ {S : Type 0} (stands : S → Standing) (knows : S → Known → Type 0) where
   -- the thread has this role, and the frames are its own: they may agree with its locals
-  pub record IsReady (role : Role) (s : S) (t : Table) : Type 0 where
+  pub record StandsReady (role : Role) (s : S) (t : Table) : Type 0 where
     pub role_is : (stands s).role ≡ role
     pub owner : t.thread ≡ (stands s).thread
     pub last : t.last ≡ (stands s).last
@@ -27,4 +27,4 @@ module _ {S : Type 0} (stands : S → Standing) (knows : S → Known → Type 0)
   -- a whole call was made, by at most so many operations beside its acts, and the next can be
   pub record Completes {A : Type 0} (old new : S) (before after : Table) (silent : ℕ) (asked : Call A) (answer : Result A Fault) : Type 0 where
     pub call : CallsWhole stands knows old new before.frames after.frames silent asked answer
-    pub ready : IsReady Outside new after
+    pub ready : StandsReady Outside new after

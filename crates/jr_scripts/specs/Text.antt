@@ -4,7 +4,7 @@ use Rattle.std.specs.Fmt.{decimal}
 use Rattle.jr_word.specs.declared.fault.Fault.{Fault}
 use Rattle.jr_word.specs.declared.fault.Fault.TheVariants as fault
 use Rattle.jr_word.specs.declared.handle.Handle.{Handle}
-use Rattle.jr_word.specs.Fault.{number_of}
+use Rattle.jr_word.specs.Fault.{fault_number}
 use Rattle.jr_model.specs.declared.summary.Summary.{Summary}
 use Rattle.jr_syntax.specs.Line.{line as words_line}
 use Rattle.jr_syntax.specs.Reference.{reference_word}
@@ -14,11 +14,11 @@ use Rattle.jr_syntax.specs.declared.command.Command.{Command}
 use Rattle.jr_syntax.specs.declared.command.Command.TheVariants as commands
 use Rattle.jr_scripts.specs.declared.reply.Reply.{Reply}
 use Rattle.jr_scripts.specs.declared.reply.Reply.TheVariants as replies
-use Rattle.jr_scripts.specs.Names.{Names, named, null}
+use Rattle.jr_scripts.specs.Names.{Names, with_name, null}
 
 -- a line of words with its line feed
-abbrev pub line : List (List ℕ) → List ℕ
-line words = words_line words ++ 10 ∷ []
+abbrev pub text_line : List (List ℕ) → List ℕ
+text_line words = words_line words ++ 10 ∷ []
 
 -- the word of an answer
 abbrev pub verdict : Bool → List ℕ
@@ -27,19 +27,19 @@ verdict false = codes "false"
 
 -- what is printed for a command that was not refused
 abbrev pub says : Command → Reply → List ℕ
-says (commands.MakeFrom v n r) (replies.Made None) = line (verb_word (MakeFrom v) ∷ n ∷ codes "null" ∷ [])
-says (commands.On v r) (replies.Type t) = line (verb_word (On v) ∷ reference_word r ∷ decimal t ∷ [])
-says (commands.OnBoth v q r) (replies.Same same) = line (verb_word (OnBoth v) ∷ reference_word q ∷ reference_word r ∷ verdict same ∷ [])
+says (commands.MakeFrom v n r) (replies.Made None) = text_line (verb_word (MakeFrom v) ∷ n ∷ codes "null" ∷ [])
+says (commands.On v r) (replies.Type t) = text_line (verb_word (On v) ∷ reference_word r ∷ decimal t ∷ [])
+says (commands.OnBoth v q r) (replies.Same same) = text_line (verb_word (OnBoth v) ∷ reference_word q ∷ reference_word r ∷ verdict same ∷ [])
 says _ _ = []
 
 -- a number that stands behind the fault's
-abbrev pub behind : Fault → List (List ℕ)
-behind (fault.SpaceFull found) = decimal found ∷ []
-behind _ = []
+abbrev pub number_behind : Fault → List (List ℕ)
+number_behind (fault.SpaceFull found) = decimal found ∷ []
+number_behind _ = []
 
 -- what is printed for a command that was refused
 abbrev pub refused : ℕ → Fault → List ℕ
-refused number e = line (decimal number ∷ codes "!" ∷ (codes "E" ++ decimal (number_of e)) ∷ behind e)
+refused number e = text_line (decimal number ∷ codes "!" ∷ (codes "E" ++ decimal (fault_number e)) ∷ number_behind e)
 
 -- THE TEXT of a command on a line of the script
 abbrev pub printed : ℕ → Command → Result Reply Fault → List ℕ
@@ -58,7 +58,7 @@ reference_made None = null
 reference_made (Some h) = h
 
 abbrev pub names_with : Option (List ℕ) → Reply → Names → Names
-names_with (Some n) (replies.Made h) names = named names n (reference_made h)
+names_with (Some n) (replies.Made h) names = with_name names n (reference_made h)
 names_with _ _ names = names
 
 -- THE NAMES after a command: a command that makes something sets its name, and a refused one sets nothing
@@ -72,4 +72,4 @@ heading name = codes "[" ++ name ++ codes "]" ++ 10 ∷ []
 
 -- the last two lines: what stands at the end
 abbrev pub ending : Summary → List ℕ
-ending s = line (codes "[end]" ∷ []) ++ line (codes "globals" ∷ decimal s.globals ∷ codes "weaks" ∷ decimal s.weaks ∷ codes "live" ∷ decimal s.live ∷ codes "used" ∷ decimal s.used ∷ [])
+ending s = text_line (codes "[end]" ∷ []) ++ text_line (codes "globals" ∷ decimal s.globals ∷ codes "weaks" ∷ decimal s.weaks ∷ codes "live" ∷ decimal s.live ∷ codes "used" ∷ decimal s.used ∷ [])

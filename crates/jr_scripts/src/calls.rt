@@ -3,13 +3,13 @@ ghost use Rattle.std.specs.Prelude.{◌≡◌, ◌≢◌, Some, None, Ok, IfOk, 
 ghost use Rattle.jr_word.specs.declared.handle.RefKind.TheVariants.{Local};
 ghost use Rattle.jr_model.specs.declared.event.Role.TheVariants.{Outside, Within};
 ghost use Rattle.jr_model.specs.Frames.{Frames as LocalFrames};
-ghost use Rattle.jr_model.specs.Tests.{Parts};
+ghost use Rattle.jr_model.specs.Checks.{Parts};
 ghost use Rattle.jr_model.specs.References as references;
 ghost use Rattle.jr_model.specs.References.{new_local, creation, local_creation, comparison, making, removal, local_removal};
 ghost use Rattle.jr_steps.specs.Knowing.{MayKnow, HasOptional};
 ghost use Rattle.jr_scripts.specs.Reading.{word_of, OwnerFits};
 ghost use Rattle.jr_scripts.specs.Performing.{Calls, MakesLocal, MakesPlain};
-ghost use Rattle.jr_scripts.specs.Ready.{IsReady, KeepsOwner, Completes};
+ghost use Rattle.jr_scripts.specs.Ready.{StandsReady, KeepsOwner, Completes};
 
 use crate::frames::Frames;
 use crate::object::publish;
@@ -22,7 +22,7 @@ use jr_word::{Fault, HandleParts, Kind, RefKind};
 
 /// Makes a plain object and a local reference to it: E9, E11, E13.
 pub fn new_plain<S: Steps>(steps: &mut S, frames: &mut Frames) -> Result<HandleParts, Fault>
-    requires { IsReady S.stands S.knows Outside steps.old frames.old }
+    requires { StandsReady S.stands S.knows Outside steps.old frames.old }
     ensures call { Completes S.stands S.knows steps.old steps.new frames.old frames.new (S.stands steps.old).config.objects (references.new_plain (S.stands steps.old).config (S.stands steps.old).last (S.stands steps.old).thread) result }
     ensures owner { IfOk result (λ h. (h.kind ≡ Local) × (h.owner ≡ (S.stands steps.old).thread)) }
 {
@@ -39,7 +39,7 @@ pub fn new_reference<S: Steps>(
     kind: RefKind,
     reference: Reference,
 ) -> Result<Option<HandleParts>, Fault>
-    requires ready { IsReady S.stands S.knows Outside steps.old frames.now }
+    requires ready { StandsReady S.stands S.knows Outside steps.old frames.now }
     requires kind { kind ≢ Local }
     requires fits { OwnerFits reference }
     ensures call { Completes S.stands S.knows steps.old steps.new frames.now frames.now 0 (references.new_reference (S.stands steps.old).config (S.stands steps.old).last (S.stands steps.old).thread kind (word_of reference)) result }
@@ -57,7 +57,7 @@ pub fn new_local_ref<S: Steps>(
     frames: &mut Frames,
     reference: Reference,
 ) -> Result<Option<HandleParts>, Fault>
-    requires ready { IsReady S.stands S.knows Outside steps.old frames.old }
+    requires ready { StandsReady S.stands S.knows Outside steps.old frames.old }
     requires fits { OwnerFits reference }
     ensures call { Completes S.stands S.knows steps.old steps.new frames.old frames.new 0 (references.new_local_ref (S.stands steps.old).config (S.stands steps.old).last (S.stands steps.old).thread (word_of reference)) result }
     ensures owner { IfOk result (λ made. IfSome made (λ h. (h.kind ≡ Local) × (h.owner ≡ (S.stands steps.old).thread))) }
@@ -75,7 +75,7 @@ pub fn delete_reference<S: Steps>(
     kind: RefKind,
     reference: Reference,
 ) -> Result<(), Fault>
-    requires ready { IsReady S.stands S.knows Outside steps.old frames.now }
+    requires ready { StandsReady S.stands S.knows Outside steps.old frames.now }
     requires kind { kind ≢ Local }
     requires fits { OwnerFits reference }
     ensures { Completes S.stands S.knows steps.old steps.new frames.now frames.now 0 (references.delete_reference (S.stands steps.old).config (S.stands steps.old).last (S.stands steps.old).thread kind (word_of reference)) result }
@@ -92,7 +92,7 @@ pub fn delete_local_ref<S: Steps>(
     frames: &mut Frames,
     reference: Reference,
 ) -> Result<(), Fault>
-    requires { IsReady S.stands S.knows Outside steps.old frames.old }
+    requires { StandsReady S.stands S.knows Outside steps.old frames.old }
     ensures { Completes S.stands S.knows steps.old steps.new frames.old frames.new 0 (references.delete_local_ref (S.stands steps.old).config (S.stands steps.old).last (S.stands steps.old).thread (word_of reference)) result }
 {
     let inside = enter(steps)?;
@@ -108,7 +108,7 @@ pub fn is_same_object<S: Steps>(
     left: Reference,
     right: Reference,
 ) -> Result<bool, Fault>
-    requires ready { IsReady S.stands S.knows Outside steps.old frames.now }
+    requires ready { StandsReady S.stands S.knows Outside steps.old frames.now }
     requires left { OwnerFits left }
     requires right { OwnerFits right }
     ensures { Completes S.stands S.knows steps.old steps.new frames.now frames.now 0 (references.is_same_object (S.stands steps.old).config (S.stands steps.old).last (S.stands steps.old).thread (word_of left) (word_of right)) result }
@@ -125,7 +125,7 @@ pub fn get_object_ref_type<S: Steps>(
     frames: &Frames,
     reference: Reference,
 ) -> Result<u8, Fault>
-    requires ready { IsReady S.stands S.knows Outside steps.old frames.now }
+    requires ready { StandsReady S.stands S.knows Outside steps.old frames.now }
     requires fits { OwnerFits reference }
     ensures { Completes S.stands S.knows steps.old steps.new frames.now frames.now 0 (references.get_object_ref_type (S.stands steps.old).config (S.stands steps.old).last (S.stands steps.old).thread (word_of reference)) result }
 {
@@ -137,7 +137,7 @@ pub fn get_object_ref_type<S: Steps>(
 
 /// A plain object and a local reference to it, within the gate: E9, E11.
 fn make_plain<S: Steps>(steps: &mut S, frames: &mut Frames) -> Result<HandleParts, Fault>
-    requires { IsReady S.stands S.knows Within steps.old frames.old }
+    requires { StandsReady S.stands S.knows Within steps.old frames.old }
     ensures call { MakesPlain S.stands S.knows steps.old steps.new frames.old.frames frames.new.frames (S.stands steps.old).config.objects (making (S.stands steps.old).config (S.stands steps.old).last (S.stands steps.old).thread) result }
     ensures same { KeepsOwner frames.old frames.new }
     ensures owner { IfOk result (λ h. (h.kind ≡ Local) × (h.owner ≡ (S.stands steps.old).thread)) }
@@ -158,7 +158,7 @@ fn create_within<S: Steps>(
     kind: RefKind,
     reference: Reference,
 ) -> Result<Option<HandleParts>, Fault>
-    requires ready { IsReady S.stands S.knows Within steps.old frames.now }
+    requires ready { StandsReady S.stands S.knows Within steps.old frames.now }
     requires kind { kind ≢ Local }
     requires fits { OwnerFits reference }
     ensures call { Calls S.stands S.knows steps.old steps.new frames.now.frames frames.now.frames (creation (S.stands steps.old).config (S.stands steps.old).last (S.stands steps.old).thread kind (word_of reference)) result }
@@ -177,7 +177,7 @@ fn create_local_within<S: Steps>(
     frames: &mut Frames,
     reference: Reference,
 ) -> Result<Option<HandleParts>, Fault>
-    requires ready { IsReady S.stands S.knows Within steps.old frames.old }
+    requires ready { StandsReady S.stands S.knows Within steps.old frames.old }
     requires fits { OwnerFits reference }
     ensures call { Calls S.stands S.knows steps.old steps.new frames.old.frames frames.new.frames (local_creation (S.stands steps.old).config (S.stands steps.old).last (S.stands steps.old).thread (word_of reference)) result }
     ensures same { KeepsOwner frames.old frames.new }
@@ -193,7 +193,7 @@ fn make_local<S: Steps>(
     frames: &mut Frames,
     object: Option<u16>,
 ) -> Result<Option<HandleParts>, Fault>
-    requires ready { IsReady S.stands S.knows Within steps.old frames.old }
+    requires ready { StandsReady S.stands S.knows Within steps.old frames.old }
     requires object { MayKnow S.knows steps.old (HasOptional object) }
     ensures call { MakesLocal S.stands S.knows steps.old steps.new frames.old.frames frames.new.frames object (new_local (S.stands steps.old).config (S.stands steps.old).last (S.stands steps.old).thread object) result }
     ensures same { KeepsOwner frames.old frames.new }
@@ -262,7 +262,7 @@ fn delete_local_within<S: Steps>(
     frames: &mut Frames,
     reference: Reference,
 ) -> Result<(), Fault>
-    requires { IsReady S.stands S.knows Within steps.old frames.old }
+    requires { StandsReady S.stands S.knows Within steps.old frames.old }
     ensures call { Calls S.stands S.knows steps.old steps.new frames.old.frames frames.new.frames (local_removal (S.stands steps.old).config (S.stands steps.old).thread (word_of reference)) result }
     ensures same { KeepsOwner frames.old frames.new }
 {
@@ -279,7 +279,7 @@ fn delete_local_parts<S: Steps>(
     frames: &mut Frames,
     handle: HandleParts,
 ) -> Result<(), Fault>
-    requires { IsReady S.stands S.knows Within steps.old frames.old }
+    requires { StandsReady S.stands S.knows Within steps.old frames.old }
     ensures call { Calls S.stands S.knows steps.old steps.new frames.old.frames frames.new.frames (local_removal (S.stands steps.old).config (S.stands steps.old).thread (Parts handle)) result }
     ensures same { KeepsOwner frames.old frames.new }
 {

@@ -1,6 +1,6 @@
 //! The calls of the Java Native Interface for the references of one thread, over any steps.
 ghost use Rattle.jr_model.specs.declared.event.Role.TheVariants.{Outside};
-ghost use Rattle.jr_scripts.specs.Ready.{IsReady};
+ghost use Rattle.jr_scripts.specs.Ready.{StandsReady};
 
 use crate::calls;
 use crate::frames::Frames;
@@ -15,7 +15,7 @@ pub struct Env<S: Steps> {
     pub steps: S,
     /// Its local references.
     pub frames: Frames,
-    ghost ready: { IsReady S.stands S.knows Outside steps frames },
+    ghost ready: { StandsReady S.stands S.knows Outside steps frames },
 }
 
 impl<S: Steps> Env<S> {

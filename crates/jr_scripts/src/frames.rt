@@ -79,7 +79,7 @@ impl Model for Frames {
 
 impl Frames {
     ghost use Rattle.std.specs.Prelude.{◌≡◌, ◌≢◌, ◌≤◌, ◌==◌, ◌<◌, IfSome, IfNone, IsSome, Some, None};
-    ghost use Rattle.jr_model.specs.Frames.{fresh_frames, object_of, object_at, free_places, IsAdded, deleted};
+    ghost use Rattle.jr_model.specs.Frames.{fresh_frames, object_of, object_at, free_places, IsAdded, without_local};
     ghost use Rattle.jr_scripts.specs.Table.{IsNext, IsOnly};
 
     /// No reference, and as many places as the configuration says.
@@ -145,7 +145,7 @@ impl Frames {
     /// Removes the reference of a handle that stands.
     pub fn delete(&mut self, handle: HandleParts)
         requires { IsSome (object_of self.old.frames handle) }
-        ensures deleted { self.new.frames ≡ deleted self.old.frames handle }
+        ensures deleted { self.new.frames ≡ without_local self.old.frames handle }
         ensures only { IsOnly self.old.frames handle.index None self.new.frames }
         ensures same { (self.new.thread ≡ self.old.thread) × (self.new.last ≡ self.old.last) }
     {

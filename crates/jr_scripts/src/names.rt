@@ -22,7 +22,7 @@ impl Model for Names {
 
 impl Names {
     ghost use Rattle.std.specs.Prelude.{◌≡◌, [], OnOk, OnErr};
-    ghost use Rattle.jr_scripts.specs.Names.{standing, referent, named, wanted};
+    ghost use Rattle.jr_scripts.specs.Names.{reference_named, referent, with_name, wanted};
 
     /// No name stands for anything; takes no memory.
     pub fn new(alloc: Global) -> Names
@@ -35,7 +35,7 @@ impl Names {
 
     /// The reference that a name stands for, none where it stands for nothing.
     fn standing(&self, name: &Name) -> Option<Handle>
-        ensures { result ≡ standing self.now name.now }
+        ensures { result ≡ reference_named self.now name.now }
     {
         self.entries.iter().fold(None, |standing, entry| {
             if entry.0.is(name.as_slice()) {
@@ -52,7 +52,7 @@ impl Names {
     ///
     /// Memory was refused: the names are as they were.
     pub fn set(&mut self, name: &Name, handle: Handle) -> Result<(), AllocError>
-        ensures ok { OnOk result (self.new ≡ named self.old name.now handle) }
+        ensures ok { OnOk result (self.new ≡ with_name self.old name.now handle) }
         ensures err { OnErr result (self.new ≡ self.old) }
     {
         self.entries.push((name.copy(), handle))?;

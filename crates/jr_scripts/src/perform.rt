@@ -2,7 +2,7 @@
 
 ghost use Rattle.jr_scripts.specs.declared.reply.Reply.TheVariants as replies;
 ghost use Rattle.jr_scripts.specs.Deeds.{Does, answered_by};
-ghost use Rattle.jr_scripts.specs.Commands.{tried, deleted, type_of as type_deed, deed};
+ghost use Rattle.jr_scripts.specs.Commands.{tried, deletion, type_of as type_deed, deed};
 
 use crate::env::Env;
 use crate::env_call::{
@@ -29,7 +29,7 @@ where
 
 /// Deletes a reference by the call of its kind.
 fn delete<S: Steps>(env: &mut Env<S>, turns: u64, handle: Handle) -> Result<Reply, Fault>
-    ensures { Does S.stands S.knows env.old.steps env.new.steps env.old.frames.frames env.new.frames.frames (answered_by (λ _. replies.Done) (deleted turns handle.0)) result }
+    ensures { Does S.stands S.knows env.old.steps env.new.steps env.old.frames.frames env.new.frames.frames (answered_by (λ _. replies.Done) (deletion turns handle.0)) result }
 {
     match Reference::of(handle) {
         Reference::Null => ask(env, turns, &DeleteLocalRef(handle)),

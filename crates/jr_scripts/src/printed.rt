@@ -1,7 +1,7 @@
 //! What commands print.
 
 ghost use Rattle.std.specs.Prelude.{◌≡◌, ◌∷◌, ◌++◌, [], IfOk, OnOk, codes};
-ghost use Rattle.jr_scripts.specs.Text.{line, verdict, says as what_is_said, refused as refusal, printed as text_printed, heading as text_heading, ending as text_ending};
+ghost use Rattle.jr_scripts.specs.Text.{text_line, verdict, says as what_is_said, refused as refusal, printed as text_printed, heading as text_heading, ending as text_ending};
 
 use crate::reply::Reply;
 use jr_model::Summary;
@@ -25,7 +25,7 @@ fn line_of_three(
     second: &[u8],
     third: &[u8],
 ) -> Result<Vec<u8>, AllocError>
-    ensures { IfOk result (λ text. text.items ≡ line (first.now ∷ second.now ∷ third.now ∷ [])) }
+    ensures { IfOk result (λ text. text.items ≡ text_line (first.now ∷ second.now ∷ third.now ∷ [])) }
 {
     let mut text = Vec::from_slice(alloc, first)?;
     add_word(&mut text, second)?;
@@ -42,7 +42,7 @@ fn line_of_four(
     third: &[u8],
     fourth: &[u8],
 ) -> Result<Vec<u8>, AllocError>
-    ensures { IfOk result (λ text. text.items ≡ line (first.now ∷ second.now ∷ third.now ∷ fourth.now ∷ [])) }
+    ensures { IfOk result (λ text. text.items ≡ text_line (first.now ∷ second.now ∷ third.now ∷ fourth.now ∷ [])) }
 {
     let mut text = Vec::from_slice(alloc, first)?;
     add_word(&mut text, second)?;
@@ -83,7 +83,7 @@ fn says(alloc: Global, command: &Command, reply: Reply) -> Result<Vec<u8>, Alloc
 
 /// What is printed for a command that was refused.
 fn refused(alloc: Global, line: usize, fault: Fault) -> Result<Vec<u8>, AllocError>
-    ensures { IfOk result (λ text. text.items ≡ refusal line fault) }
+    ensures { IfOk result (λ text. text.items ≡ refusal text_line fault) }
 {
     let number = fault.number();
     let text = match fault {
@@ -100,7 +100,7 @@ pub fn printed(
     command: &Command,
     answer: Result<Reply, Fault>,
 ) -> Result<Vec<u8>, AllocError>
-    ensures { IfOk result (λ text. text.items ≡ text_printed line command.now answer) }
+    ensures { IfOk result (λ text. text.items ≡ text_printed text_line command.now answer) }
 {
     match answer {
         Ok(reply) => says(alloc, command, reply),

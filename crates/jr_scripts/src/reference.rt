@@ -1,6 +1,6 @@
 //! References as native code hands them in, and the tests that calls make of them.
 ghost use Rattle.std.specs.Prelude.{◌≡◌};
-ghost use Rattle.jr_model.specs.Tests.{Parts, is_local, is_of_kind, is_out_of_bounds, is_foreign};
+ghost use Rattle.jr_model.specs.Checks.{Parts, is_local, is_of_kind, is_out_of_bounds, is_foreign};
 
 use jr_word::{Config, Handle, HandleParts, RefKind};
 
@@ -17,7 +17,7 @@ pub enum Reference {
 
 impl Reference {
     ghost use Rattle.std.specs.Prelude.{◌≡◌};
-    ghost use Rattle.jr_model.specs.Tests.{is_malformed, is_out_of_bounds, is_foreign};
+    ghost use Rattle.jr_model.specs.Checks.{is_malformed, is_out_of_bounds, is_foreign};
     ghost use Rattle.jr_scripts.specs.Reading.{IsReadAs, word_of, OwnerFits};
 
     /// Reads a handle.

@@ -7,13 +7,13 @@ ghost use Rattle.jr_model.specs.declared.event.Act.TheVariants.{Look};
 ghost use Rattle.jr_model.specs.declared.event.Found.TheVariants.{Stale};
 ghost use Rattle.jr_model.specs.Frames.{Frames};
 ghost use Rattle.jr_model.specs.Parts.{delete as deletion};
-ghost use Rattle.jr_steps.specs.Acts.{reply, is_its, found_object};
+ghost use Rattle.jr_steps.specs.Acts.{reply, is_its, found_of};
 ghost use Rattle.jr_steps.specs.Knowing.{anything, keeps, HasObject, MayKnow, Took};
 ghost use Rattle.jr_scripts.specs.Reading.{found_answer};
 ghost use Rattle.jr_scripts.specs.Performing.{Searched, Performed};
 
 use jr_model::Found;
-use jr_steps::{SlotNaming, Steps};
+use jr_steps::{SlotLoad, Steps};
 use jr_word::{Fault, HandleParts, RefKind, SlotParts};
 
 /// Looks a handle up in its slot.
@@ -23,7 +23,7 @@ pub fn look<S: Steps>(steps: &mut S, handle: HandleParts) -> Found
     requires kind { (handle.kind ≢ Local) × (handle.owner ≡ 0) }
     ensures { Took S.stands S.knows steps.old steps.new (Look handle result ∷ []) anything keeps }
 {
-    let word = steps.see_slot(handle.index, SlotNaming::Look(handle));
+    let word = steps.see_slot(handle.index, SlotLoad::Look(handle));
     found(handle, word)
 }
 
@@ -44,7 +44,7 @@ fn found(handle: HandleParts, word: SlotParts) -> Found
 
 /// What the reference of a kind and serial, which stands in the handle's slot, says of the handle.
 fn found_standing(handle: HandleParts, kind: RefKind, serial: u32, object: Option<u16>) -> Found
-    ensures { result ≡ cond (is_its handle kind serial) (found_object object) Stale }
+    ensures { result ≡ cond (is_its handle kind serial) (found_of object) Stale }
 {
     if handle.kind != kind || handle.serial != serial {
         return Found::Stale;
@@ -74,7 +74,7 @@ fn try_slot<S: Steps>(steps: &mut S, index: u16, kind: RefKind, object: u16) -> 
     requires object { MayKnow S.knows steps.old (HasObject object) }
     ensures { Searched S.stands S.knows steps.old steps.new kind object index (index + 1) result }
 {
-    let SlotParts::Free { serial } = steps.see_slot(index, SlotNaming::Probe) else {
+    let SlotParts::Free { serial } = steps.see_slot(index, SlotLoad::Probe) else {
         return None;
     };
     match steps.claim(index, serial, kind, object) {

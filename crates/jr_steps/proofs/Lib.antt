@@ -1,3 +1,3 @@
-pub mod Goes
+pub mod StepFacts
 pub mod Spots
-pub mod Collected
+pub mod CollectorFacts

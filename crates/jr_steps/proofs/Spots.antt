@@ -1,7 +1,7 @@
 -- Where the elements of an object stand that an unfinished move has begun.
 use Rattle.std.proofs.Common.{◌≡◌, ◌≢◌, ◌<◌, ◌≤◌, ◌+◌, ◌&&◌, nat_lt, ℕ, Option, Some, None, cond, eq-eqb, lt-ltb, le-ltb, ne_eqb, refl, ap, ◌∙◌, arith}
 use Rattle.jr_steps.specs.declared.known.Move.{Move}
-use Rattle.jr_steps.specs.Grasping.{move_of, HasDone}
+use Rattle.jr_steps.specs.Holdings.{move_of, HasDone}
 use Rattle.jr_steps.specs.Says.{spot}
 
 -- WHERE ELEMENTS STAND

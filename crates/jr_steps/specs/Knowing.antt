@@ -18,8 +18,8 @@ use Rattle.jr_model.specs.Frames.{Frames, Agree}
 use Rattle.jr_steps.specs.declared.known.Known.{Known}
 use Rattle.jr_word.specs.declared.header.HeaderParts.{HeaderParts}
 use Rattle.jr_word.specs.declared.kind.Kind.{Kind}
-use Rattle.jr_steps.specs.declared.known.Grasp.{Grasp}
-use Rattle.jr_steps.specs.Grasping.{empty, words_at, header_in, with_range, with_header}
+use Rattle.jr_steps.specs.declared.known.Holdings.{Holdings}
+use Rattle.jr_steps.specs.Holdings.{empty, words_at, header_in, with_range, with_header}
 use Rattle.jr_steps.specs.Says.{SaysOfGate, SaysOfSlot, SaysOfHeader}
 
 -- the room (none over plain words), the thread, its role, and whether the pass is fresh
@@ -50,8 +50,8 @@ abbrev pub state_of : Known → State
 state_of k = state k.seen
 
 -- the standing after acts
-abbrev pub moved : Standing → List Act → Standing
-moved s acts = record { room = s.room; config = s.config; last = s.last; thread = s.thread; role = role_from s.role acts; fresh = fresh_from s.fresh acts }
+abbrev pub standing_after : Standing → List Act → Standing
+standing_after s acts = record { room = s.room; config = s.config; last = s.last; thread = s.thread; role = role_from s.role acts; fresh = fresh_from s.fresh acts }
 
 -- what is known is of this room and thread, and its history is legal
 pub record IsOf (s : Standing) (k : Known) : Type 0 where
@@ -92,11 +92,11 @@ anything k = Unit {0}
 
 -- the pass holds what it held
 abbrev pub keeps : Known → Known → Type 0
-keeps k k' = k'.grasp ≡ k.grasp
+keeps k k' = k'.holdings ≡ k.holdings
 
 -- the pass holds nothing any more
 abbrev pub lets_go : Known → Known → Type 0
-lets_go k k' = k'.grasp ≡ empty
+lets_go k k' = k'.holdings ≡ empty
 
 -- the object is present
 abbrev pub HasObject : ℕ → Known → Type 0
@@ -141,11 +141,11 @@ ShowsGate parts k = SaysOfGate k.config (state_of k).role parts
 
 -- the pass knows the header of the object
 abbrev pub KnowsHeader : ℕ → HeaderParts → Known → Type 0
-KnowsHeader o h k = header_in o k.grasp.headers ≡ Some h
+KnowsHeader o h k = header_in o k.holdings.headers ≡ Some h
 
 -- the pass has a range of its own at the place, with a word of this index
 abbrev pub HasWord : ℕ → ℕ → Known → Type 0
-HasWord place i k = i < length (words_at place k.grasp.ranges)
+HasWord place i k = i < length (words_at place k.holdings.ranges)
 
 -- the word may be an element of an object of the kind
 abbrev pub IsWordNow : Kind → ℕ → Known → Type 0
@@ -153,7 +153,7 @@ IsWordNow kind v k = IsWord (state_of k) kind v
 
 -- the words that an object with this header would have: none, or those of the pass's own range at its place
 abbrev pub words_for : HeaderParts → Known → List ℕ
-words_for h k = cond (h.length == 0) [] (words_at h.place k.grasp.ranges)
+words_for h k = cond (h.length == 0) [] (words_at h.place k.holdings.ranges)
 
 -- they are so many as the header says, and words of its kind
 pub record IsFilled (h : HeaderParts) (k : Known) : Type 0 where
@@ -161,8 +161,8 @@ pub record IsFilled (h : HeaderParts) (k : Known) : Type 0 where
   pub words : AreWords (state_of k) h.kind (words_for h k)
 
 -- what the pass holds once the object is published: its range no more
-abbrev pub published : HeaderParts → Grasp → Grasp
-published h g = cond (h.length == 0) g (with_range g h.place [])
+abbrev pub without_range_of : HeaderParts → Holdings → Holdings
+without_range_of h g = cond (h.length == 0) g (with_range g h.place [])
 
 -- WHAT A LOAD OF A HEADER SHOWS: the object that is present then, and its header is known from now on, the one that was known before if any was; or that none is
 pub record ShowsObject (o : ℕ) (h : HeaderParts) (k : Known) : Type 0 where
@@ -172,7 +172,7 @@ pub record ShowsObject (o : ℕ) (h : HeaderParts) (k : Known) : Type 0 where
 
 abbrev pub ShowsHeader : ℕ → Option HeaderParts → Known → Known → Type 0
 ShowsHeader o None k k' = ((state_of k').objects o ≡ None) × keeps k k'
-ShowsHeader o (Some h) k k' = ShowsObject o h k' × (k'.grasp ≡ with_header k.grasp o h) × ((g : HeaderParts) → header_in o k.grasp.headers ≡ Some g → g ≡ h)
+ShowsHeader o (Some h) k k' = ShowsObject o h k' × (k'.holdings ≡ with_header k.holdings o h) × ((g : HeaderParts) → header_in o k.holdings.headers ≡ Some g → g ≡ h)
 
 -- what a load of the top shows: how many words are used then
 abbrev pub ShowsUsed : ℕ → Known → Type 0
@@ -180,16 +180,16 @@ ShowsUsed u k = (state_of k).used ≡ u
 
 -- what a reservation shows: a range of the pass's own, of some words, where it had none before
 abbrev pub ShowsRange : ℕ → ℕ → Result (Unit {0}) ℕ → Known → Known → Type 0
-ShowsRange looked n (Ok _) k k' = (ws : List ℕ) × (length ws ≡ n) × (k'.grasp ≡ with_range k.grasp looked ws) × (words_at looked k.grasp.ranges ≡ [])
+ShowsRange looked n (Ok _) k k' = (ws : List ℕ) × (length ws ≡ n) × (k'.holdings ≡ with_range k.holdings looked ws) × (words_at looked k.holdings.ranges ≡ [])
 ShowsRange looked n (Err found) k k' = keeps k k'
 
 -- what a store in a range of the pass's own shows
 abbrev pub ShowsWord : ℕ → ℕ → ℕ → Known → Known → Type 0
-ShowsWord place i v k k' = k'.grasp ≡ with_range k.grasp place (slice_set (words_at place k.grasp.ranges) i v)
+ShowsWord place i v k k' = k'.holdings ≡ with_range k.holdings place (slice_set (words_at place k.holdings.ranges) i v)
 
 -- WHAT AN EXCHANGE OF A HEADER SHOWS: the object is present; and where it is new, the range is no more the pass's own, and the header, of an object of which the pass knew none, is known from now on
 abbrev pub ShowsPublished : ℕ → HeaderParts → Bool → Known → Known → Type 0
-ShowsPublished o h true k k' = HasObject o k' × (k'.grasp ≡ with_header (published h k.grasp) o h) × (header_in o k.grasp.headers ≡ None)
+ShowsPublished o h true k k' = HasObject o k' × (k'.holdings ≡ with_header (without_range_of h k.holdings) o h) × (header_in o k.holdings.headers ≡ None)
 ShowsPublished o h false k k' = HasObject o k' × keeps k k'
 
 -- no present object array names an absent object
@@ -198,7 +198,7 @@ IsClosedNow k = IsClosed (state_of k)
 
 -- no move is unfinished
 abbrev pub IsSettled : Known → Type 0
-IsSettled k = k.grasp.moving ≡ None
+IsSettled k = k.holdings.moving ≡ None
 
 -- the gate may be opened after a collection
 abbrev pub CanReopen : Known → Type 0
@@ -225,7 +225,7 @@ Holds f k = Agree k.thread f (state_of k)
 module _ {S : Type 0} (stands : S → Standing) (knows : S → Known → Type 0) where
   -- a step was taken: for whatever was known and meets the condition, something is known that the step made of it, and that shows this; and nobody else did anything in between where the pass is of no room
   pub record Took (old new : S) (acts : List Act) (met : Known → Type 0) (shows : Known → Known → Type 0) : Type 0 where
-    pub stands_is : stands new ≡ moved (stands old) acts
+    pub stands_is : stands new ≡ standing_after (stands old) acts
     pub goes : (k : Known) → knows old k → met k → (k' : Known) × knows new k' × Goes k acts k' × shows k k'
     pub alone : (stands old).room ≡ None → (k : Known) (s : knows old k) (m : met k) → (goes k s m).2.between ≡ []
 

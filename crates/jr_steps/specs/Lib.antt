@@ -1,5 +1,5 @@
 pub mod Acts
-pub mod Grasping
+pub mod Holdings
 pub mod Says
 pub mod Knowing
 pub mod Collecting

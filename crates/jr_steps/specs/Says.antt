@@ -15,7 +15,7 @@ use Rattle.jr_model.specs.declared.event.Found.TheVariants.{Object, Stale}
 use Rattle.jr_model.specs.Maps.{count_below}
 use Rattle.jr_model.specs.State.{Handle, Contents}
 use Rattle.jr_steps.specs.declared.known.Move.{Move}
-use Rattle.jr_steps.specs.Acts.{found_object, handle_of}
+use Rattle.jr_steps.specs.Acts.{found_of, handle_of}
 
 abbrev pub is_inside : Role → Bool
 is_inside Within = true
@@ -47,7 +47,7 @@ abbrev pub StandsAs : ℕ → (Handle → Found) → ℕ → ℕ → SlotParts �
 StandsAs last refs i next (slot.Free serial) = NoneStands refs i × (serial ≡ next) × (next ≤ last)
 StandsAs last refs i next (slot.Retired serial) = NoneStands refs i × (serial ≡ last) × (last < next)
 StandsAs last refs i next (slot.Global serial o) = StandsAlone refs next (handle_of Global serial i) (Object o)
-StandsAs last refs i next (slot.Weak serial o) = StandsAlone refs next (handle_of Weak serial i) (found_object o)
+StandsAs last refs i next (slot.Weak serial o) = StandsAlone refs next (handle_of Weak serial i) (found_of o)
 
 -- THE SLOT of an index has the kind, serial and object of the reference that stands there; else it is free with the next serial, or retired
 pub record SaysOfSlot (last : ℕ) (refs : Handle → Found) (given : Handle → Bool) (i : ℕ) (parts : SlotParts) : Type 0 where

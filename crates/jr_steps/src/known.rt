@@ -30,7 +30,7 @@ pub struct Move {
 }
 
 /// What a pass holds in its stay or its collection, beside what it has seen: the newest first, so that it hides an older one of its place or object; and the move that it has not finished.
-pub struct Grasp {
+pub struct Holdings {
     /// The ranges that are its own.
     pub ranges: LinkedList<OwnRange>,
     /// The headers that it knows, or knows no more.
@@ -50,7 +50,7 @@ pub struct Known {
     /// The history that it has seen.
     pub seen: LinkedList<Event>,
     /// What it holds.
-    pub grasp: Grasp,
+    pub holdings: Holdings,
     /// How many steps it has taken.
     pub taken: u64,
 }

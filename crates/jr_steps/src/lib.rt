@@ -2,10 +2,10 @@
 #![tactic(auto)]
 
 mod known;
-mod naming;
+mod loads;
 mod steps;
 
 pub use jr_model::Role;
-pub use known::{Grasp, Known, KnownHeader, Move, OwnRange};
-pub use naming::{GateNaming, SlotNaming, TopNaming};
+pub use known::{Holdings, Known, KnownHeader, Move, OwnRange};
+pub use loads::{GateLoad, SlotLoad, TopLoad};
 pub use steps::Steps;

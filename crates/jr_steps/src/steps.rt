@@ -7,10 +7,10 @@ ghost use Rattle.jr_word.specs.Header.{IsHeader};
 ghost use Rattle.jr_model.specs.declared.event.Act.TheVariants.{Reopen, Read, Write, Clear, Drop, Settle};
 ghost use Rattle.jr_steps.specs.Collecting.{ShowsLocal, ShowsElement, IsThere, CanWipe, CanDrop, ShowsDropped, CanMove, ShowsMoved, placed, CanPlace, ShowsPlaced, CanSettle};
 ghost use Rattle.jr_model.specs.declared.event.Role.TheVariants.{Outside, Within, Knocking, Collecting};
-ghost use Rattle.jr_steps.specs.Acts.{entered_as, leaving, barring, gate_named, GateNameFits, all_counted, slot_named, SlotNameFits, claiming, freeing, putting, publishing, top_named, reserving, found_object, handle_of};
+ghost use Rattle.jr_steps.specs.Acts.{act_of_entry, act_of_exit, act_of_bar, act_of_gate_load, GateLoadFits, all_counted, act_of_slot_load, SlotLoadFits, act_of_claim, act_of_free, act_of_put, acts_of_publication, acts_of_top_load, act_of_reservation, found_of, handle_of};
 ghost use Rattle.jr_steps.specs.Knowing.{anything, KnowsHeader, HasWord, IsWordNow, IsFilled, words_for, ShowsHeader, ShowsPublished, ShowsUsed, WasUsed, ShowsRange, ShowsWord, TookWith, HasObject, HasOptional, HasLooked, HasNoLocals, CanReopen, ShowsBarred, IsFreeSlot, ShowsGate, ShowsSlot, LostClaim, MayKnow, Took, Spent, keeps, lets_go};
 
-use crate::naming::{GateNaming, SlotNaming, TopNaming};
+use crate::loads::{GateLoad, SlotLoad, TopLoad};
 use jr_model::Role;
 use jr_word::{Config, GateParts, HandleParts, HeaderParts, LocalParts, RefKind, SlotParts};
 
@@ -18,7 +18,7 @@ use jr_word::{Config, GateParts, HandleParts, HeaderParts, LocalParts, RefKind, 
 pub trait Steps {
     ghost use Rattle.jr_steps.specs.Knowing.{Standing, IsOf};
     ghost use Rattle.jr_steps.specs.declared.known.Known.{Known};
-    ghost use Rattle.jr_steps.specs.Grasping.{InSpace};
+    ghost use Rattle.jr_steps.specs.Holdings.{InSpace};
 
     /// The room, the thread, its role, and whether the pass is fresh.
     ghost stands: { Self → Standing };
@@ -53,17 +53,17 @@ pub trait Steps {
     /// Enters the gate: true where it was not shut.
     fn go_in(&mut self) -> bool
         requires { (stands self.old).role ≡ Outside }
-        ensures { Took stands knows self.old self.new (entered_as result ∷ []) anything keeps };
+        ensures { Took stands knows self.old self.new (act_of_entry result ∷ []) anything keeps };
 
     /// Leaves the gate.
     fn go_out(&mut self)
         requires { ((stands self.old).role ≡ Within) ⊎ ((stands self.old).role ≡ Knocking) }
-        ensures { Took stands knows self.old self.new (leaving (stands self.old).role ∷ []) anything lets_go };
+        ensures { Took stands knows self.old self.new (act_of_exit (stands self.old).role ∷ []) anything lets_go };
 
     /// Shuts the gate for a collection where no thread is inside, knocking or collecting. Else how many are.
     fn bar(&mut self) -> Result<(), u32>
         requires { (stands self.old).role ≡ Outside }
-        ensures { Took stands knows self.old self.new (barring result ∷ []) anything (ShowsBarred result) };
+        ensures { Took stands knows self.old self.new (act_of_bar result ∷ []) anything (ShowsBarred result) };
 
     /// Opens the gate after a collection. No move may be unfinished.
     fn unbar(&mut self)
@@ -72,16 +72,16 @@ pub trait Steps {
         ensures { Took stands knows self.old self.new (Reopen ∷ []) CanReopen lets_go };
 
     /// Loads the gate, which counts as what it is named.
-    fn see_gate(&mut self, name: GateNaming) -> GateParts
-        requires { GateNameFits (stands self.old).role name }
-        ensures { Took stands knows self.old self.new (gate_named name (all_counted result) ∷ []) anything (λ j k. ShowsGate result k × keeps j k) };
+    fn see_gate(&mut self, name: GateLoad) -> GateParts
+        requires { GateLoadFits (stands self.old).role name }
+        ensures { Took stands knows self.old self.new (act_of_gate_load name (all_counted result) ∷ []) anything (λ j k. ShowsGate result k × keeps j k) };
 
     /// Loads a slot, which counts as what it is named.
-    fn see_slot(&mut self, index: u16, name: SlotNaming) -> SlotParts
+    fn see_slot(&mut self, index: u16, name: SlotLoad) -> SlotParts
         requires role { (stands self.old).role ≡ Within }
         requires row { index < (stands self.old).config.slots }
-        requires fits { SlotNameFits index name }
-        ensures { Took stands knows self.old self.new (slot_named index name result ∷ []) anything (λ j k. ShowsSlot index result k × keeps j k) };
+        requires fits { SlotLoadFits index name }
+        ensures { Took stands knows self.old self.new (act_of_slot_load index name result ∷ []) anything (λ j k. ShowsSlot index result k × keeps j k) };
 
     /// Exchanges the free word of a slot for a new reference's, or gives what was found in its place.
     fn claim(
@@ -95,21 +95,21 @@ pub trait Steps {
         requires row { index < (stands self.old).config.slots }
         requires kind { kind ≢ Local }
         requires looked { MayKnow knows self.old (λ k. HasObject object k × IsFreeSlot index serial k) }
-        ensures { Took stands knows self.old self.new (claiming index serial kind object result ∷ []) (λ k. HasObject object k × IsFreeSlot index serial k) (λ j k. LostClaim index result j k × keeps j k) };
+        ensures { Took stands knows self.old self.new (act_of_claim index serial kind object result ∷ []) (λ k. HasObject object k × IsFreeSlot index serial k) (λ j k. LostClaim index result j k × keeps j k) };
 
     /// Exchanges the word of a reference that was looked at for a free one: true where it still stood.
     fn free(&mut self, handle: HandleParts, object: Option<u16>) -> bool
         requires role { (stands self.old).role ≡ Within }
         requires row { handle.index < (stands self.old).config.slots }
-        requires looked { MayKnow knows self.old (HasLooked handle (found_object object)) }
-        ensures { Took stands knows self.old self.new (freeing handle result ∷ []) (HasLooked handle (found_object object)) keeps };
+        requires looked { MayKnow knows self.old (HasLooked handle (found_of object)) }
+        ensures { Took stands knows self.old self.new (act_of_free handle result ∷ []) (HasLooked handle (found_of object)) keeps };
 
     /// Stores an object, or none, in a local word of the thread's own.
     fn put_local(&mut self, place: u16, object: Option<u16>)
         requires role { (stands self.old).role ≡ Within }
         requires place { place < (stands self.old).config.locals }
         requires object { MayKnow knows self.old (HasOptional object) }
-        ensures { Took stands knows self.old self.new (putting place object ∷ []) (HasOptional object) keeps };
+        ensures { Took stands knows self.old self.new (act_of_put place object ∷ []) (HasOptional object) keeps };
 
     /// Loads the header of an object, which the pass knows from then on: none where it is not present.
     fn see_header(&mut self, object: u16) -> Option<HeaderParts>
@@ -123,19 +123,19 @@ pub trait Steps {
         requires number { (1 ≤ object) × (object ≤ (stands self.old).config.objects) }
         requires header { IsHeader header }
         requires filled { MayKnow knows self.old (IsFilled header) }
-        ensures { TookWith stands knows self.old self.new (λ k. publishing object header.kind (words_for header k) result) (IsFilled header) (ShowsPublished object header result) };
+        ensures { TookWith stands knows self.old self.new (λ k. acts_of_publication object header.kind (words_for header k) result) (IsFilled header) (ShowsPublished object header result) };
 
     /// Loads the top, which counts as what it is named: how many words are reserved.
-    fn see_top(&mut self, name: TopNaming) -> u32
+    fn see_top(&mut self, name: TopLoad) -> u32
         requires { (stands self.old).role ≡ Within }
-        ensures { Took stands knows self.old self.new (top_named (stands self.old).config.words name result) anything (λ j k. ShowsUsed result k × keeps j k) };
+        ensures { Took stands knows self.old self.new (acts_of_top_load (stands self.old).config.words name result) anything (λ j k. ShowsUsed result k × keeps j k) };
 
     /// Reserves words beside those that were looked at in this stay, or tells how many are reserved now.
     fn claim_top(&mut self, looked: u32, more: u32) -> Result<(), u32>
         requires role { (stands self.old).role ≡ Within }
         requires room { looked + more ≤ (stands self.old).config.words }
         requires looked { MayKnow knows self.old (WasUsed looked) }
-        ensures { Took stands knows self.old self.new (reserving looked more result ∷ []) (WasUsed looked) (ShowsRange looked more result) };
+        ensures { Took stands knows self.old self.new (act_of_reservation looked more result ∷ []) (WasUsed looked) (ShowsRange looked more result) };
 
     /// Loads an element of an object whose header the pass knows.
     fn see_element(&mut self, object: u16, header: HeaderParts, index: u32) -> u64
@@ -153,7 +153,7 @@ pub trait Steps {
         ensures { Took stands knows self.old self.new (Write object index word ∷ []) (λ k. KnowsHeader object header k × IsWordNow header.kind word k) keeps };
 
     /// Stores a word of a range of the pass's own.
-    fn put_own(&mut self, place: u32, index: u32, word: u64)
+    fn put_reserved(&mut self, place: u32, index: u32, word: u64)
         requires role { (stands self.old).role ≡ Within }
         requires own { MayKnow knows self.old (HasWord place index) }
         ensures { Took stands knows self.old self.new [] (HasWord place index) (ShowsWord place index word) };
@@ -229,7 +229,7 @@ pub trait Steps {
     ghost unused: { (s : Self) (k : Known) → (stands s).fresh ≡ true → knows s k → HasNoLocals k };
 
     /// What the pass holds lies in the space.
-    ghost in_space: { (s : Self) (k : Known) → knows s k → InSpace k.config k.grasp };
+    ghost in_space: { (s : Self) (k : Known) → knows s k → InSpace k.config k.holdings };
 
     /// The sizes are within the limits of a room.
     ghost limits: { (s : Self) → in_limits (stands s).config ≡ true };

@@ -5,7 +5,7 @@ use Rattle.std.specs.Fmt.{decimal}
 use Rattle.std.proofs.lemmas.Bool.{and_parts, and_from, leb-true, le-leb, eqb-true, eqb-false, ne_eqb, not-true, or_cases}
 use Rattle.std.proofs.lemmas.Str.Parse.{IsNumeralModel, IsDigitsTest, numerals_by_fold}
 use Rattle.std.proofs.lemmas.Fmt.{decimal-digits_value, digits_decimal, digits_value-decimal, decimal_digit, decimal_nonempty, first_decimal}
-use Rattle.jr_syntax.specs.Number.{all_digits, is_number, number_from, number_of}
+use Rattle.jr_syntax.specs.Number.{all_digits, is_number, number_from, number_of_digits}
 
 digits_test : IsDigitsTest (λ ds. all_digits ds ≡ true)
 digits_test = search rules
@@ -19,13 +19,13 @@ alone w f e =
     elim (or_cases _ _ (and_parts _ _ f).1) [ inl n ↦ absurd (eqb-false _ _ (not-true _ n) e) | inr l ↦ eqb-true _ _ l ]
 
 -- a number that was read is spelled as it was
-pub decimal_number : (w : List ℕ) → is_number w ≡ true → number_of w < 2 ^ 64 → decimal (number_of w) ≡ w
+pub decimal_number : (w : List ℕ) → is_number w ≡ true → number_of_digits w < 2 ^ 64 → decimal (number_of_digits w) ≡ w
 decimal_number w f lt =
     let p = and_parts _ _ (and_parts _ _ f).0 in
     decimal-digits_value own w p.1 (leb-true _ _ p.0) (alone w f) lt
 
 -- a number that is spelled is read again
-pub number_decimal : (n : ℕ) → n < 2 ^ 64 → number_of (decimal n) ≡ n
+pub number_decimal : (n : ℕ) → n < 2 ^ 64 → number_of_digits (decimal n) ≡ n
 number_decimal n h = digits_value-decimal own n h
 
 pub decimal_digits : (n : ℕ) → n < 2 ^ 64 → all_digits (decimal n) ≡ true

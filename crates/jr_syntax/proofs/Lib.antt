@@ -4,10 +4,10 @@ pub mod Cuts
 pub mod PartLaws
 pub mod DecimalLaws
 pub mod VmLaws
-pub mod Takes
+pub mod ReadIsSpelled
 pub mod Rows
 pub mod Steps
 pub mod Reading
-pub mod Again
+pub mod SpelledIsRead
 pub mod Texts
 pub mod PrintLaws

@@ -19,7 +19,7 @@ use Rattle.jr_syntax.specs.declared.thread.ThreadPart.{ThreadPart}
 use Rattle.jr_syntax.specs.declared.script.Script.{Script}
 use Rattle.jr_syntax.specs.Line.{Line, line, words_of, lines_of, lines_of_pieces}
 use Rattle.jr_syntax.specs.Script.{vm, is_config, part_lines, names_of, is_part, all_apart, script_lines, IsScript, text_of}
-use Rattle.jr_syntax.specs.Faults.{table, first_fit, fault_of, first_fault_behind, first_fault, second_word}
+use Rattle.jr_syntax.specs.Faults.{fault_table, first_fit, fault_of, first_fault_behind, first_fault, second_word}
 use Rattle.jr_syntax.specs.Parse.{IsFaultOf}
 use Rattle.jr_syntax.specs.Draft.{Gave, GaveSome, Grown, parts_of, rows, first_rows, fault_at}
 use Rattle.jr_syntax.proofs.Rows.{Follows, table_rows, rows_none}
@@ -115,7 +115,7 @@ some_lines [] l ls short e = absurd cc
 some_lines (c ∷ cs) l ls short e =
     rw (le-ltb 65536 (length (c ∷ cs)) short, ne_eqb (length (c ∷ cs)) 0 (λ (z : length (c ∷ cs) ≡ 0). omega arith)) (ap (first_fault_behind []) e)
 
-pub table_first : (l : Line) → first_fit (table [] l) ≡ first_fit (first_rows l)
+pub table_first : (l : Line) → first_fit (fault_table [] l) ≡ first_fit (first_rows l)
 table_first l = refl
 
 first_rows_none : (a b c d : Bool) → first_fit ((UnfinishedLine, not a) ∷ (NotAscii, not b) ∷ (VmLineExpected, not c) ∷ (NumberOutOfRange, not d) ∷ []) ≡ None → (a ≡ true) × (c ≡ true) × (d ≡ true)

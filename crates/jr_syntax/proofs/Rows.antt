@@ -13,7 +13,7 @@ use Rattle.jr_syntax.specs.declared.draft.Draft.{Draft}
 use Rattle.jr_syntax.specs.declared.thread.ThreadPart.{ThreadPart}
 use Rattle.jr_syntax.specs.Line.{Line, words_of, word_at}
 use Rattle.jr_syntax.specs.Script.{thread, is_config, script_lines, names_of, is_part, all_apart}
-use Rattle.jr_syntax.specs.Faults.{table, first_fit, threads_in, names_in}
+use Rattle.jr_syntax.specs.Faults.{fault_table, first_fit, threads_in, names_in}
 use Rattle.jr_syntax.specs.Draft.{parts_of, rows, thread_rows, command_rows}
 
 -- What was read is the lines so far, which have no fault.
@@ -48,7 +48,7 @@ part_yet : (config : Config) (parts : List ThreadPart) → eqb (length (script_l
 part_yet config [] = refl
 part_yet config (p ∷ ps) = ne_eqb _ _ (λ e. omega arith) ∙ sym (ne_eqb _ _ (λ e. omega arith))
 
-pub table_rows : (before : List (List ℕ)) (d : Draft) (l : Line) (number : ℕ) → Follows before d → number ≡ length before + 1 → first_fit (table before l) ≡ first_fit (rows number d l)
+pub table_rows : (before : List (List ℕ)) (d : Draft) (l : Line) (number : ℕ) → Follows before d → number ≡ length before + 1 → first_fit (fault_table before l) ≡ first_fit (rows number d l)
 table_rows before d l number f e =
     let ws = words_of l.0 in
     let long : 1 ≤ length before = rw f.lines (omega arith) in

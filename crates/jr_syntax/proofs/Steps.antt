@@ -21,7 +21,7 @@ use Rattle.jr_syntax.specs.Command.{line_has_form, line_in_range, line_command, 
 use Rattle.jr_syntax.specs.Script.{vm, thread, is_config, part_lines, script_lines, names_of, is_part, all_apart}
 use Rattle.jr_syntax.specs.Faults.{first_fit, threads_in, names_in, is_thread_line, second_word}
 use Rattle.jr_syntax.specs.Draft.{parts_of, rows, thread_rows, command_rows, with_command, begun, Grown}
-use Rattle.jr_syntax.proofs.Takes.{words_1, line_takes}
+use Rattle.jr_syntax.proofs.ReadIsSpelled.{words_1, line_takes}
 use Rattle.jr_syntax.proofs.Rows.{Follows, rows_none, thread_rows_none, command_rows_none}
 
 -- the words of a line, joined again

@@ -27,7 +27,7 @@ use Rattle.jr_syntax.proofs.DecimalLaws.{number_decimal, decimal_form}
 use Rattle.jr_syntax.proofs.VmLaws.{vm_plain, config_fits}
 use Rattle.jr_syntax.proofs.Steps.{names_more, threads_more, other_way, or_false, or_from}
 use Rattle.jr_syntax.proofs.Reading.{finished, some_lines, table_first}
-use Rattle.jr_syntax.proofs.Again.{is_solid, name_solid, decimal_solid, words_again, line_printable, command_again}
+use Rattle.jr_syntax.proofs.SpelledIsRead.{is_solid, name_solid, decimal_solid, words_again, line_printable, command_again}
 
 -- ---- lines, joined and cut again
 

@@ -75,8 +75,8 @@ abbrev pub begun : List ℕ → ThreadPart
 begun word = record { name = word; commands = [] }
 
 -- What a thread line did.
-abbrev pub Begins : Draft → List ℕ → Result (Unit {0}) LineFault → Draft → Type 0
-Begins old word result new =
+abbrev pub ReadsThreadLine : Draft → List ℕ → Result (Unit {0}) LineFault → Draft → Type 0
+ReadsThreadLine old word result new =
     Gave (thread_rows old word) result ((new.config ≡ old.config) × (parts_of new ≡ parts_of old ++ begun word ∷ []) × (is_none new.last ≡ false))
 
 -- What a command's line did.

@@ -43,8 +43,8 @@ names_in before = map second_word (filter is_thread_line before)
 -- ---- the table
 
 -- each text in its order, and whether it fits the line that stands behind these
-abbrev pub table : List (List ℕ) → Line → List (Reason × Bool)
-table before l =
+abbrev pub fault_table : List (List ℕ) → Line → List (Reason × Bool)
+fault_table before l =
     let number = length before + 1 in
     let ws = words_of l.0 in
     let is_first = number == 1 in
@@ -68,7 +68,7 @@ first_fit (row ∷ rows) = if row.1 then Some row.0 else first_fit rows
 
 -- the fault of a line behind these
 abbrev pub fault_of : List (List ℕ) → Line → Option Reason
-fault_of before l = first_fit (table before l)
+fault_of before l = first_fit (fault_table before l)
 
 -- the number and the fault of the first line with a fault, behind lines that have none; where no line has one, the
 -- line after the last has it if a thread's part is missing

@@ -16,5 +16,5 @@ number_from n [] = n
 number_from n (c ∷ cs) = number_from (10 * n + (c - 48)) cs
 
 -- the number that digits stand for
-abbrev pub number_of : List ℕ → ℕ
-number_of word = number_from 0 word
+abbrev pub number_of_digits : List ℕ → ℕ
+number_of_digits word = number_from 0 word

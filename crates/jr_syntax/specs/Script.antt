@@ -8,7 +8,7 @@ use Rattle.jr_word.specs.Config.{in_limits}
 use Rattle.jr_syntax.specs.declared.thread.ThreadPart.{ThreadPart}
 use Rattle.jr_syntax.specs.declared.script.Script.{Script}
 use Rattle.jr_syntax.specs.Line.{line, word_at, behind}
-use Rattle.jr_syntax.specs.Number.{is_number, number_of}
+use Rattle.jr_syntax.specs.Number.{is_number, number_of_digits}
 use Rattle.jr_syntax.specs.Kind.{Arguments, one, name}
 use Rattle.jr_syntax.specs.Command.{words_of_command, is_command}
 
@@ -37,11 +37,11 @@ vm_keys = codes "threads" ∷ codes "slots" ∷ codes "objects" ∷ codes "words
 -- the sizes that such words say
 abbrev pub config_at : List (List ℕ) → Config
 config_at ws = record {
-  threads = number_of (word_at ws 2);
-  slots = number_of (word_at ws 4);
-  objects = number_of (word_at ws 6);
-  words = number_of (word_at ws 8);
-  locals = number_of (word_at ws 10);
+  threads = number_of_digits (word_at ws 2);
+  slots = number_of_digits (word_at ws 4);
+  objects = number_of_digits (word_at ws 6);
+  words = number_of_digits (word_at ws 8);
+  locals = number_of_digits (word_at ws 10);
 }
 
 -- `vm threads N slots N objects N words N locals N`

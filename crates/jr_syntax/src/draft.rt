@@ -6,7 +6,7 @@ ghost use Rattle.std.specs.Str.{bytes_eq};
 ghost use Rattle.jr_syntax.specs.Name.{is_name as name_word};
 ghost use Rattle.jr_syntax.specs.Command.{line_command};
 ghost use Rattle.jr_syntax.specs.Script.{names_of};
-ghost use Rattle.jr_syntax.specs.Draft.{Gave, GaveSome, parts_of, Begins, Adds, Grown, rows, command_rows, with_command};
+ghost use Rattle.jr_syntax.specs.Draft.{Gave, GaveSome, parts_of, ReadsThreadLine, Adds, Grown, rows, command_rows, with_command};
 
 use crate::argument::LineError;
 use crate::command::{Command, command_of};
@@ -104,7 +104,7 @@ impl Draft {
     /// Begins a thread's part.
     fn begin(&mut self, alloc: Global, word: &[u8]) -> Result<(), LineFault>
         requires { name_word word.now ≡ true }
-        ensures { Begins self.old word.now result self.new }
+        ensures { ReadsThreadLine self.old word.now result self.new }
     {
         if self.is_full() {
             return Err(LineFault::Fault(Reason::TooManyThreads));

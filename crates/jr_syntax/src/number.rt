@@ -1,7 +1,7 @@
 //! Numbers, as digits.
 
 ghost use Rattle.std.specs.Prelude.{◌≡◌, true, MatchOption, ◌<◌, ◌≤◌};
-ghost use Rattle.jr_syntax.specs.Number.{is_number as number_word, number_of, all_digits};
+ghost use Rattle.jr_syntax.specs.Number.{is_number as number_word, number_of_digits, all_digits};
 
 use crate::name::is_digit;
 
@@ -21,7 +21,7 @@ pub fn is_number(word: &[u8]) -> bool
 /// The number that digits stand for, if it is at most a limit.
 pub fn number_up_to(digits: &[u8], limit: u32) -> Option<u32>
     requires { number_word digits.now ≡ true }
-    ensures { MatchOption result (limit < number_of digits.now) (λ n. (n ≡ number_of digits.now) × (n ≤ limit)) }
+    ensures { MatchOption result (limit < number_of_digits digits.now) (λ n. (n ≡ number_of_digits digits.now) × (n ≤ limit)) }
 {
     let mut n = 0u64;
     for digit in digits {

@@ -7,31 +7,31 @@ use Rattle.jr_model.specs.State.{AreWords}
 use Rattle.jr_model.specs.Calls.{Call}
 use Rattle.jr_model.proofs.Updates.{eq_self}
 use Rattle.jr_steps.specs.declared.known.Known.{Known}
-use Rattle.jr_steps.specs.declared.known.Grasp.{Grasp}
-use Rattle.jr_steps.specs.Grasping.{words_at, header_in, with_range}
-use Rattle.jr_steps.specs.Knowing.{MayKnow, anything, state_of, published}
-use Rattle.jr_heap.specs.Heap.{Called, header_of, words_of, IsOwn, IsReady, Gains, Fills, Publishes, HoldsHeader}
+use Rattle.jr_steps.specs.declared.known.Holdings.{Holdings}
+use Rattle.jr_steps.specs.Holdings.{words_at, header_in, with_range}
+use Rattle.jr_steps.specs.Knowing.{MayKnow, anything, state_of, without_range_of}
+use Rattle.jr_heap.specs.Heap.{Called, header_of, own_words, IsOwn, IsReady, Gains, Fills, Publishes, HoldsHeader}
 use Rattle.jr_heap.proofs.Calling.{may_called}
 use Rattle.jr_heap.proofs.Filling.{among}
 use Rattle.jr_heap.proofs.Reserving.{own_range}
 
 -- words of a range are the same, so it is ready still
-pub ready_same : (p n : ℕ) (j k : Known) → words_at p k.grasp.ranges ≡ words_at p j.grasp.ranges → IsReady Int p n j → IsReady Int p n k
+pub ready_same : (p n : ℕ) (j k : Known) → words_at p k.holdings.ranges ≡ words_at p j.holdings.ranges → IsReady Int p n j → IsReady Int p n k
 ready_same p n j k e r =
-    let same : words_of p n k ≡ words_of p n j = ap (λ ws. cond (n == 0) [] ws) e in
+    let same : own_words p n k ≡ own_words p n j = ap (λ ws. cond (n == 0) [] ws) e in
     record { long = ap (λ (ws : List ℕ). length ws) same ∙ r.long; words = subst (λ ws. AreWords (state_of j) Int ws) (sym same) r.words }
 
 -- a reservation is elsewhere
 elsewhere : (p q : ℕ) (j k : Known) → IsReady Int p 3 j → Gains 2 q j k → p ≢ q
 elsewhere p q j k r g e =
-    let none = ap (λ (ws : List ℕ). length ws) (subst (λ z. words_at z j.grasp.ranges ≡ []) (sym e) g.3) in
+    let none = ap (λ (ws : List ℕ). length ws) (subst (λ z. words_at z j.holdings.ranges ≡ []) (sym e) g.3) in
     let long = r.long in absurd (omega arith)
 
 -- and leaves the range ready
 ready_beside : (p q : ℕ) (j k : Known) → IsReady Int p 3 j → Gains 2 q j k → IsReady Int p 3 k
 ready_beside p q j k r g =
     let ne = elsewhere p q j k r g in
-    ready_same p 3 j k (ap (λ (h : Grasp). words_at p h.ranges) g.2 ∙ ap (λ b. cond b g.0 (words_at p j.grasp.ranges)) (ne_eqb q p (λ e. ne (sym e)))) r
+    ready_same p 3 j k (ap (λ (h : Holdings). words_at p h.ranges) g.2 ∙ ap (λ b. cond b g.0 (words_at p j.holdings.ranges)) (ne_eqb q p (λ e. ne (sym e)))) r
 
 -- a filled range is ready
 filled_int : (q : ℕ) (j k : Known) → Fills q 2 8 j k → IsReady Int q 2 k
@@ -46,18 +46,18 @@ ready_filled p n q m v j k ne f r = ready_same p n j k (f.others p (inl ne)) r
 
 -- and a publication of another
 pub ready_published : (p n q m : ℕ) (answer : Result ℕ Fault) (j k : Known) → p ≢ q → Publishes Int q m answer j k → IsReady Int p n j → IsReady Int p n k
-ready_published p n q m (Err e) j k ne s r = ready_same p n j k (ap (λ (g : Grasp). words_at p g.ranges) s) r
-ready_published p n q m (Ok o) j k ne s r = ready_same p n j k (ap (λ (g : Grasp). words_at p g.ranges) s.1 ∙ go (m == 0)) r
+ready_published p n q m (Err e) j k ne s r = ready_same p n j k (ap (λ (g : Holdings). words_at p g.ranges) s) r
+ready_published p n q m (Ok o) j k ne s r = ready_same p n j k (ap (λ (g : Holdings). words_at p g.ranges) s.1 ∙ go (m == 0)) r
   where
-    go : (b : Bool) → words_at p (cond b j.grasp (with_range j.grasp q [])).ranges ≡ words_at p j.grasp.ranges
+    go : (b : Bool) → words_at p (cond b j.holdings (with_range j.holdings q [])).ranges ≡ words_at p j.holdings.ranges
     go true = refl
-    go false = ap (λ b. cond b [] (words_at p j.grasp.ranges)) (ne_eqb q p (λ e. ne (sym e)))
+    go false = ap (λ b. cond b [] (words_at p j.holdings.ranges)) (ne_eqb q p (λ e. ne (sym e)))
 
 -- who publishes holds the header
 pub published_holds : (q m o : ℕ) (j k : Known) → Publishes Int q m (Ok o) j k → IsReady Int q m j → HoldsHeader o (header_of Int q m) k
 published_holds q m o j k s r = record {
-  known = ap (λ (g : Grasp). header_in o g.headers) s.1 ∙ ap (λ b. cond b (Some (header_of Int q m)) (header_in o (published (header_of Int q m) j.grasp).headers)) (eq_self o);
-  shown = record { contents = record { kind = Int; words = words_of q m j }; is = s.0; says = record { kind = refl; long = r.long } };
+  known = ap (λ (g : Holdings). header_in o g.headers) s.1 ∙ ap (λ b. cond b (Some (header_of Int q m)) (header_in o (without_range_of (header_of Int q m) j.holdings).headers)) (eq_self o);
+  shown = record { contents = record { kind = Int; words = own_words q m j }; is = s.0; says = record { kind = refl; long = r.long } };
 }
 
 module _ {S : Type 0} {knows : S → Known → Type 0} {a b : S} {A : Type 0} {call : Known → Known → Call A} {answer : Result A Fault} (p q n : ℕ) (three : n ≡ 3) (may : MayKnow knows a (IsReady Int p n)) (reserved : Called knows a b anything call answer (Gains 2 q)) where

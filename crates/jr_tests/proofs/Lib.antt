@@ -1,2 +1,2 @@
-mod Tried
+mod Makers
 mod Beside

@@ -11,7 +11,7 @@ use crate::rooms::last_of;
 use jr_compact::slide;
 use jr_heap::{Numbers, fill, publish, reserve, write};
 use jr_rule::{Pass, PlainSteps, Room, RoomSteps};
-use jr_steps::{Role, Steps, TopNaming};
+use jr_steps::{Role, Steps, TopLoad};
 use jr_word::{Config, HeaderParts, Kind};
 use std::process::Abort;
 use std::test::Fail;
@@ -112,7 +112,7 @@ fn look_after<S: Steps>(rt: &impl Abort, steps: &mut S) -> Result<(), Fail> {
     assert!(rt; steps.go_in());
     let low = HeaderParts { place: 0, ..HIGH };
     assert_eq!(rt; steps.see_header(1), Some(low));
-    assert_eq!(rt; steps.see_top(TopNaming::Look), 4);
+    assert_eq!(rt; steps.see_top(TopLoad::Look), 4);
     let Some(header) = steps.see_header(1) else {
         return Err("the array is not present")?;
     };

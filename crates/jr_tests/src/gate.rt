@@ -7,7 +7,7 @@ use crate::rooms::last_of;
 use jr_gate::{enter, shut_gate};
 use jr_model::{Role, Summary};
 use jr_rule::{Left, Pass, PlainSteps, Room, RoomSteps};
-use jr_steps::{GateNaming, Steps};
+use jr_steps::{GateLoad, Steps};
 use jr_word::{Config, Fault, GateWord};
 use std::alloc::Global;
 use std::sync::Wait;
@@ -54,7 +54,7 @@ fn opened(alloc: Global) -> Result<(Room<2>, Pass, Pass, Pass, Pass), Fail>
 fn gate_word<S: Steps>(steps: &mut S) -> u64
     ensures { S.stands steps.new ≡ S.stands steps.old }
 {
-    GateWord::pack(steps.see_gate(GateNaming::Meet)).0
+    GateWord::pack(steps.see_gate(GateLoad::Meet)).0
 }
 
 /// Why an entry is refused, if it is. It is ended at once.

@@ -13,7 +13,7 @@ use jr_gate::enter;
 use jr_heap::{Numbers, Range, fill, header, publish, read, read_element, reserve, write, write_element};
 use jr_model::{Role, Summary};
 use jr_rule::{Pass, PlainSteps, Room, RoomSteps};
-use jr_steps::{Steps, TopNaming};
+use jr_steps::{Steps, TopLoad};
 use jr_word::{Config, Fault, Kind};
 use std::alloc::Global;
 use std::process::Abort;
@@ -358,7 +358,7 @@ fn two_passes_share_space_and_numbers(rt: HostRuntime) -> Result<(), Fail> {
     assert!(rt; second.go_in());
 
     let object = make_and_write(&rt, &mut first, &mut numbers)?;
-    let looked = second.see_top(TopNaming::Look);
+    let looked = second.see_top(TopLoad::Look);
     assert_eq!(rt; looked, 3);
     assert!(rt; reserve(&mut first, 2).is_ok());
     assert!(rt; looked < second.config().words);

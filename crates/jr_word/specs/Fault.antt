@@ -4,29 +4,29 @@ use Rattle.jr_word.specs.declared.fault.Fault.{Fault}
 use Rattle.jr_word.specs.declared.fault.Fault.TheVariants.{Null, Stale, Foreign, WrongKind, NotArray, WrongElement, Range, RowFull, LocalsFull, SpaceFull, ObjectsFull, Raced, Barred, Busy, NoFrame, Memory, Size, Value, InCritical, Turns, NotFresh, LeftInside}
 
 -- the number of a refusal
-abbrev pub number_of : Fault → ℕ
-number_of Null = 1
-number_of Stale = 2
-number_of Foreign = 3
-number_of WrongKind = 4
-number_of NotArray = 5
-number_of WrongElement = 6
-number_of Range = 7
-number_of RowFull = 8
-number_of LocalsFull = 9
-number_of (SpaceFull found) = 10
-number_of ObjectsFull = 11
-number_of (Raced looked found) = 12
-number_of Barred = 13
-number_of (Busy threads) = 14
-number_of NoFrame = 15
-number_of Memory = 16
-number_of Size = 17
-number_of Value = 18
-number_of InCritical = 19
-number_of Turns = 20
-number_of NotFresh = 21
-number_of (LeftInside threads) = 22
+abbrev pub fault_number : Fault → ℕ
+fault_number Null = 1
+fault_number Stale = 2
+fault_number Foreign = 3
+fault_number WrongKind = 4
+fault_number NotArray = 5
+fault_number WrongElement = 6
+fault_number Range = 7
+fault_number RowFull = 8
+fault_number LocalsFull = 9
+fault_number (SpaceFull found) = 10
+fault_number ObjectsFull = 11
+fault_number (Raced looked found) = 12
+fault_number Barred = 13
+fault_number (Busy threads) = 14
+fault_number NoFrame = 15
+fault_number Memory = 16
+fault_number Size = 17
+fault_number Value = 18
+fault_number InCritical = 19
+fault_number Turns = 20
+fault_number NotFresh = 21
+fault_number (LeftInside threads) = 22
 
 -- the status that JNI has for a refusal: -4, that memory is out, where no local place is left or a growth was refused
 abbrev pub jni_code_of : Fault → Option ℤ

@@ -78,11 +78,11 @@ const JNI_ENOMEM: i32 = -4;
 
 impl Fault {
     ghost use Rattle.std.specs.Prelude.{◌≡◌};
-    ghost use Rattle.jr_word.specs.Fault.{number_of, jni_code_of};
+    ghost use Rattle.jr_word.specs.Fault.{fault_number, jni_code_of};
 
     /// The number of the refusal, 1 to 22.
     pub fn number(self) -> u8
-        ensures { result ≡ number_of self }
+        ensures { result ≡ fault_number self }
     {
         match self {
             Fault::Null => 1,

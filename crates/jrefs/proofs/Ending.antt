@@ -9,7 +9,7 @@ use Rattle.jrefs.specs.declared.request.Request.{Request}
 use Rattle.jrefs.specs.declared.request.Request.TheVariants.{Run, Check, Word, Widen}
 use Rattle.jrefs.specs.declared.trouble.Trouble.{Trouble}
 use Rattle.jrefs.specs.declared.trouble.Trouble.TheVariants as troubles
-use Rattle.jrefs.specs.Act.{AnswersWords, AppendsBeginning, IsOutput, IsOutputFor, Leaves, Prevents, Stops}
+use Rattle.jrefs.specs.Act.{AnswersWords, AppendsBeginning, IsOutput, IsOutputFor, LeavesWritten, Prevents, Stops}
 use Rattle.jrefs.specs.Request.{Asks, AskNothing, AsksOfScript, asked_for}
 use Rattle.jrefs.specs.Trouble.{status_of}
 use Rattle.jrefs.proofs.CommandLine.{asks_found}
@@ -37,14 +37,14 @@ pub faulty_not_answered : (words : List Text) (known old new : Option (List ℕ)
 faulty_not_answered words None old new r asks of_script done = tt
 faulty_not_answered words (Some text) old new r asks of_script done = λ some. absurd (never_answered words text done.2.output r asks of_script some (done.0, done.1, done.2.is_output))
 
-stopped_by : (t : Trouble) (words : List Text) (text : List ℕ) (left old new : Option (List ℕ)) (r : Request) → Asks r words → AsksOfScript r → status_of t ≢ 2 → Leaves t words (Some text) left old new → IsSome (first_fault text) → IsFaulty (status_of t) old new
+stopped_by : (t : Trouble) (words : List Text) (text : List ℕ) (left old new : Option (List ℕ)) (r : Request) → Asks r words → AsksOfScript r → status_of t ≢ 2 → LeavesWritten t words (Some text) left old new → IsSome (first_fault text) → IsFaulty (status_of t) old new
 stopped_by (troubles.Script line reason) words text left old new r asks of_script apart leaves some = inl refl
 stopped_by troubles.Usage words text left old new r asks of_script apart leaves some = absurd (apart refl)
 stopped_by troubles.Memory words text left old new r asks of_script apart leaves some = inr (inl refl)
 stopped_by troubles.Input words text left old new r asks of_script apart leaves some = inr (inr (refl, leaves.1))
 stopped_by troubles.Output words text left old new r asks of_script apart leaves some = absurd (never_answered words text leaves.0 r asks of_script some leaves.1)
 
-pub faulty_stopped : (t : Trouble) (words : List Text) (known left old new : Option (List ℕ)) (r : Request) → Asks r words → AsksOfScript r → status_of t ≢ 2 → Leaves t words known left old new → IfSome known (λ text. IsSome (first_fault text) → IsFaulty (status_of t) old new)
+pub faulty_stopped : (t : Trouble) (words : List Text) (known left old new : Option (List ℕ)) (r : Request) → Asks r words → AsksOfScript r → status_of t ≢ 2 → LeavesWritten t words known left old new → IfSome known (λ text. IsSome (first_fault text) → IsFaulty (status_of t) old new)
 faulty_stopped t words None left old new r asks of_script apart leaves = tt
 faulty_stopped t words (Some text) left old new r asks of_script apart leaves = stopped_by t words text left old new r asks of_script apart leaves
 
@@ -73,7 +73,7 @@ written_answers words known old new output bytes (Ok _) same is written = (is.0,
 written_answers words known old new output bytes (Err _) same is written = tt
 
 -- an output that was cut off
-pub cut_off_leaves : (words : List Text) (known left old new : Option (List ℕ)) (output bytes : List ℕ) (r : Result (Unit {0}) Trouble) → bytes ≡ output → IsOutputFor words known output → OnErr r (AppendsBeginning old new bytes) → IfErr r (λ t. t ≡ troubles.Output) → IfErr r (λ t. Leaves t words known left old new)
+pub cut_off_leaves : (words : List Text) (known left old new : Option (List ℕ)) (output bytes : List ℕ) (r : Result (Unit {0}) Trouble) → bytes ≡ output → IsOutputFor words known output → OnErr r (AppendsBeginning old new bytes) → IfErr r (λ t. t ≡ troubles.Output) → IfErr r (λ t. LeavesWritten t words known left old new)
 cut_off_leaves words known left old new output bytes (Ok _) same is begins fault = tt
 cut_off_leaves words known left old new output bytes (Err t) same is begins fault =
-    subst (λ (u : Trouble). Leaves u words known left old new) (sym fault) (output, is, subst (AppendsBeginning old new) same begins)
+    subst (λ (u : Trouble). LeavesWritten u words known left old new) (sym fault) (output, is, subst (AppendsBeginning old new) same begins)

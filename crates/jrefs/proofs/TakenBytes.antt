@@ -4,9 +4,9 @@ use Rattle.std.proofs.lemmas.List.{length-append}
 use Rattle.std.specs.Io.KnownBytes.{Appends, Consumes}
 use Rattle.std.proofs.KnownBytes.{Consumes-trans}
 use Rattle.jrefs.specs.declared.trouble.Trouble.{Trouble}
-use Rattle.jrefs.specs.Act.{AppendsBeginning, TakesAtMost}
+use Rattle.jrefs.specs.Act.{AppendsBeginning, ReadsAtMost}
 
-pub takes_more : (some most all : ℕ) (old mid new : Option (List ℕ)) (bytes : List ℕ) → Consumes old mid bytes → length bytes ≤ some → TakesAtMost most mid new → some + most ≤ all → TakesAtMost all old new
+pub takes_more : (some most all : ℕ) (old mid new : Option (List ℕ)) (bytes : List ℕ) → Consumes old mid bytes → length bytes ≤ some → ReadsAtMost most mid new → some + most ≤ all → ReadsAtMost all old new
 takes_more some most all old mid new bytes first short rest within =
     (bytes ++ rest.0, omega (arith, length-append bytes rest.0, short, rest.1), Consumes-trans old mid new bytes rest.0 first rest.2)
 

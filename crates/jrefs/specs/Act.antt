@@ -45,14 +45,14 @@ abbrev pub AppendsBeginning : Option (List ℕ) → Option (List ℕ) → List �
 AppendsBeginning old new bytes = (n : ℕ) × Appends old new (take n bytes)
 
 -- at most so many known bytes were taken from a reader
-abbrev pub TakesAtMost : ℕ → Option (List ℕ) → Option (List ℕ) → Type 0
-TakesAtMost most old new = (bytes : List ℕ) × (length bytes ≤ most) × Consumes old new bytes
+abbrev pub ReadsAtMost : ℕ → Option (List ℕ) → Option (List ℕ) → Type 0
+ReadsAtMost most old new = (bytes : List ℕ) × (length bytes ≤ most) × Consumes old new bytes
 
 -- why a request has no output: the first fault of what was there to be read, or a reader that failed before the limit; of want of memory nothing is said
 abbrev pub Stops : Trouble → Request → Option (List ℕ) → Option (List ℕ) → Type 0
 Stops (troubles.Script line reason) r old new = AsksOfScript r × IfSome old (λ text. first_fault text ≡ Some (line, reason))
 Stops troubles.Memory r old new = ⊤
-Stops troubles.Input r old new = AsksOfScript r × TakesAtMost 65536 old new
+Stops troubles.Input r old new = AsksOfScript r × ReadsAtMost 65536 old new
 Stops _ r old new = ⊥
 
 -- why words have no output: they ask for nothing, or something stops their request
@@ -62,13 +62,13 @@ Prevents troubles.Memory words old new = ⊤
 Prevents t words old new = (r : Request) × (asked_for words ≡ Some r) × Stops t r old new
 
 -- what a trouble leaves written: a beginning of the output where a write failed, and else nothing
-abbrev pub Leaves : Trouble → List Text → Option (List ℕ) → Option (List ℕ) → Option (List ℕ) → Option (List ℕ) → Type 0
-Leaves troubles.Output words read left old new = (output : List ℕ) × IsOutputFor words read output × AppendsBeginning old new output
-Leaves t words read left old new = Prevents t words read left × Keeps old new
+abbrev pub LeavesWritten : Trouble → List Text → Option (List ℕ) → Option (List ℕ) → Option (List ℕ) → Option (List ℕ) → Type 0
+LeavesWritten troubles.Output words read left old new = (output : List ℕ) × IsOutputFor words read output × AppendsBeginning old new output
+LeavesWritten t words read left old new = Prevents t words read left × Keeps old new
 
 -- the program failed with this status: a trouble left what it leaves, and of the line that tells of it a beginning was told
 pub record Fails (status : ℕ) (words : List Text) (read left old new told tells : Option (List ℕ)) : Type 0 where
   pub trouble : Trouble
   pub status_is : status ≡ status_of trouble
-  pub leaves : Leaves trouble words read left old new
+  pub leaves : LeavesWritten trouble words read left old new
   pub told_line : AppendsBeginning told tells (trouble_line trouble)

@@ -10,8 +10,8 @@ use Rattle.jrefs.specs.declared.request.Request.TheVariants.{Run, Check, Word, W
 use Rattle.jrefs.specs.Describe.{hex_value}
 
 -- `jrefs`, which takes its words without a name before them, and wants a command
-abbrev pub alone : App
-alone = on_top (λ s. record s { no_binary_name = true; subcommand_required = true }) (new_app (codes "jrefs"))
+abbrev pub own_app : App
+own_app = on_top (λ s. record s { no_binary_name = true; subcommand_required = true }) (new_app (codes "jrefs"))
 
 -- the one argument of `word` and of `widen`
 abbrev pub hex : Rule
@@ -28,7 +28,7 @@ pub record IsHexCommand (name : Text) (c : Command) : Type 0 where
 
 -- its command line: `run`, `check`, `word HEX` or `widen HEX`
 abbrev pub command_line : App
-command_line = with_subcommand (with_subcommand (with_subcommand (with_subcommand alone (new_shape (codes "run"))) (new_shape (codes "check"))) (hex_command (codes "word"))) (hex_command (codes "widen"))
+command_line = with_subcommand (with_subcommand (with_subcommand (with_subcommand own_app (new_shape (codes "run"))) (new_shape (codes "check"))) (hex_command (codes "word"))) (hex_command (codes "widen"))
 
 -- the word that an argument says, if it says one
 abbrev pub hex_found : Option Text → Option ℕ

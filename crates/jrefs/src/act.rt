@@ -3,7 +3,7 @@
 ghost use Rattle.std.specs.Prelude.{◌≡◌, ◌≢◌, ◌⊎◌, map, ℕ, Some, IfSome, IsSome, IfOk, IfErr, OnOk, IsErrAnd};
 ghost use Rattle.std.specs.Io.KnownBytes.{Keeps};
 ghost use Rattle.jr_syntax.specs.Faults.{first_fault};
-ghost use Rattle.jrefs.specs.Act.{IsOutput, IsOutputFor, Stops, Prevents, Answers, AnswersWords, Leaves, Fails, TakesAtMost};
+ghost use Rattle.jrefs.specs.Act.{IsOutput, IsOutputFor, Stops, Prevents, Answers, AnswersWords, LeavesWritten, Fails, ReadsAtMost};
 ghost use Rattle.jrefs.specs.Describe.{Describes, SaysWidened};
 ghost use Rattle.jrefs.specs.Request.{Asks, AskNothing, AsksOfScript, asked_for};
 ghost use Rattle.jrefs.specs.declared.request.Request.{Request as AnyRequest};
@@ -45,7 +45,7 @@ pub fn act<'a, R: Read + Drop, W: Write + Drop, F: Write + Drop>(
         → IfSome (R.remaining reader.old) (λ text. IsSome (first_fault text)
         → (result ≡ 1) ⊎ (result ≡ 3) ⊎ ((result ≡ 4) × Keeps (W.contents writer.old) (W.contents writer.new))) }
     // No more is read than a script may have, and one byte.
-    ensures reads { TakesAtMost 65537 (R.remaining reader.old) (R.remaining reader.new) }
+    ensures reads { ReadsAtMost 65537 (R.remaining reader.old) (R.remaining reader.new) }
     // A word is described, or widened, without reading.
     ensures unread { (w : ℕ) → asked_for (map (λ w. w.now) words.entry.now) ≡ Some (Word w) → R.remaining reader.new ≡ R.remaining reader.old }
     ensures unread_narrow { (w : ℕ) → asked_for (map (λ w. w.now) words.entry.now) ≡ Some (Widen w) → R.remaining reader.new ≡ R.remaining reader.old }
@@ -65,9 +65,9 @@ fn carried_out<'a, R: Read + Drop, W: Write + Drop>(
 ) -> Result<(), Trouble>
     ensures refused { AskNothing (map (λ w. w.now) words.entry.now) → IsErrAnd result (λ t. (t ≡ Memory) ⊎ (t ≡ Usage)) }
     ensures ok { OnOk result (AnswersWords (map (λ w. w.now) words.entry.now) (R.remaining reader.old) (W.contents writer.old) (W.contents writer.new)) }
-    ensures err { IfErr result (λ t. Leaves t (map (λ w. w.now) words.entry.now) (R.remaining reader.old) (R.remaining reader.new) (W.contents writer.old) (W.contents writer.new)) }
+    ensures err { IfErr result (λ t. LeavesWritten t (map (λ w. w.now) words.entry.now) (R.remaining reader.old) (R.remaining reader.new) (W.contents writer.old) (W.contents writer.new)) }
     ensures taken { (r : AnyRequest) → Asks r (map (λ w. w.now) words.entry.now) → IfErr result (λ t. status_of t ≢ 2) }
-    ensures reads { TakesAtMost 65537 (R.remaining reader.old) (R.remaining reader.new) }
+    ensures reads { ReadsAtMost 65537 (R.remaining reader.old) (R.remaining reader.new) }
     ensures unread { (w : ℕ) → asked_for (map (λ w. w.now) words.entry.now) ≡ Some (Word w) → R.remaining reader.new ≡ R.remaining reader.old }
     ensures unread_narrow { (w : ℕ) → asked_for (map (λ w. w.now) words.entry.now) ≡ Some (Widen w) → R.remaining reader.new ≡ R.remaining reader.old }
 {
@@ -85,7 +85,7 @@ fn output_of<'a, R: Read + Drop>(
     ensures ok { IfOk result (λ output. IsOutputFor (map (λ w. w.now) words.entry.now) (R.remaining reader.old) output.items) }
     ensures err { IfErr result (λ t. Prevents t (map (λ w. w.now) words.entry.now) (R.remaining reader.old) (R.remaining reader.new)) }
     ensures taken { (r : AnyRequest) → Asks r (map (λ w. w.now) words.entry.now) → IfErr result (λ t. status_of t ≢ 2) }
-    ensures reads { TakesAtMost 65537 (R.remaining reader.old) (R.remaining reader.new) }
+    ensures reads { ReadsAtMost 65537 (R.remaining reader.old) (R.remaining reader.new) }
     ensures unread { (w : ℕ) → asked_for (map (λ w. w.now) words.entry.now) ≡ Some (Word w) → R.remaining reader.new ≡ R.remaining reader.old }
     ensures unread_narrow { (w : ℕ) → asked_for (map (λ w. w.now) words.entry.now) ≡ Some (Widen w) → R.remaining reader.new ≡ R.remaining reader.old }
 {
@@ -101,7 +101,7 @@ fn reply_to<R: Read + Drop>(
 ) -> Result<Vec<u8>, Trouble>
     ensures ok { IfOk result (λ output. IsOutput request (R.remaining reader.old) output.items) }
     ensures err { IfErr result (λ t. Stops t request (R.remaining reader.old) (R.remaining reader.new)) }
-    ensures reads { TakesAtMost 65537 (R.remaining reader.old) (R.remaining reader.new) }
+    ensures reads { ReadsAtMost 65537 (R.remaining reader.old) (R.remaining reader.new) }
     ensures unread { (w : ℕ) → request ≡ Word w → R.remaining reader.new ≡ R.remaining reader.old }
     ensures unread_narrow { (w : ℕ) → request ≡ Widen w → R.remaining reader.new ≡ R.remaining reader.old }
 {

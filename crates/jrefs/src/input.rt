@@ -2,7 +2,7 @@
 
 ghost use Rattle.std.specs.Prelude.{◌≡◌, ◌≤◌, ◌<◌, ◌-◌, ◌++◌, ◌⊎◌, ℕ, List, length, take, IfOk, IfErr, IfSome, OnErr};
 ghost use Rattle.std.specs.Io.KnownBytes.{Consumes, IsAtEnd, Keeps};
-ghost use Rattle.jrefs.specs.Act.{TakesAtMost};
+ghost use Rattle.jrefs.specs.Act.{ReadsAtMost};
 ghost use Rattle.jrefs.specs.declared.trouble.Trouble.TheVariants.{Memory, Input};
 
 use crate::trouble::Trouble;
@@ -25,7 +25,7 @@ fn read_piece<R: Read + Drop>(reader: &mut R, input: &mut Vec<u8>) -> Result<usi
     ensures err { IfErr result (λ t. (t ≡ Memory) ⊎ (t ≡ Input)) }
     // A read that fails takes nothing.
     ensures failed { IfErr result (λ t. t ≡ Input → Keeps (R.remaining reader.old) (R.remaining reader.new)) }
-    ensures refused { OnErr result (TakesAtMost (MOST_INPUT - length input.old.items) (R.remaining reader.old) (R.remaining reader.new)) }
+    ensures refused { OnErr result (ReadsAtMost (MOST_INPUT - length input.old.items) (R.remaining reader.old) (R.remaining reader.new)) }
 {
     let mut piece = [0u8; PIECE];
     let room = (MOST_INPUT - input.len()).min(PIECE);
@@ -42,9 +42,9 @@ fn read_piece<R: Read + Drop>(reader: &mut R, input: &mut Vec<u8>) -> Result<usi
 pub fn input_of<R: Read + Drop>(alloc: Global, reader: &mut R) -> Result<Vec<u8>, Trouble>
     ensures ok { IfOk result (λ input. IfSome (R.remaining reader.old) (λ bytes. input.items ≡ take MOST_INPUT bytes)) }
     ensures err { IfErr result (λ t. (t ≡ Memory) ⊎ (t ≡ Input)) }
-    ensures reads { TakesAtMost MOST_INPUT (R.remaining reader.old) (R.remaining reader.new) }
+    ensures reads { ReadsAtMost MOST_INPUT (R.remaining reader.old) (R.remaining reader.new) }
     // A read that fails is one before the limit.
-    ensures failed { IfErr result (λ t. t ≡ Input → TakesAtMost (MOST_INPUT - 1) (R.remaining reader.old) (R.remaining reader.new)) }
+    ensures failed { IfErr result (λ t. t ≡ Input → ReadsAtMost (MOST_INPUT - 1) (R.remaining reader.old) (R.remaining reader.new)) }
 {
     let mut input = Vec::new(alloc);
     while input.len() < MOST_INPUT {

@@ -1,7 +1,7 @@
 use Rattle.jr_model.specs.Parts.{read_element}
 use Rattle.jr_heap.specs.Heap.{element_steps}
 use Rattle.jr_heap.proofs.Headers.{learnt}
-use Rattle.jr_heap.proofs.Whole.{called_at, may_present, reread, counted_more}
+use Rattle.jr_heap.proofs.HeaderThenElement.{called_at, may_present, reread, counted_more}
 use Rattle.jr_heap.proofs.element.read.Goals as goal
 
 pub returns-clause-call : goal.returns-clause-call

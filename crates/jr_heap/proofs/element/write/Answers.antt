@@ -3,7 +3,7 @@ use mathlib.Core.Logic.{∥∥₁_map}
 use Rattle.jr_model.specs.Parts.{write_element}
 use Rattle.jr_heap.specs.Heap.{element_steps}
 use Rattle.jr_heap.proofs.Headers.{learnt}
-use Rattle.jr_heap.proofs.Whole.{called_at, may_at, may_present, named_at, relearnt, counted_more}
+use Rattle.jr_heap.proofs.HeaderThenElement.{called_at, may_at, may_present, named_at, relearnt, counted_more}
 use Rattle.jr_heap.proofs.element.write.Goals as goal
 
 pub header-header-requires-clause-object : goal.header-header-requires-clause-object

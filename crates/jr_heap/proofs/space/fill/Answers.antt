@@ -5,11 +5,11 @@ use Rattle.jr_heap.proofs.space.fill.Goals as goal
 pub loop-index-init : goal.loop-index-init
 loop-index-init g c = filled_nothing g.met.S.Steps.fits c.args.range.now.place c.args.range.now.length c.args.word c.args.steps.now
 
-pub put_own-requires-clause-own : goal.put_own-requires-clause-own
-put_own-requires-clause-own g c = filled_may g.met.S.Steps.fits c.args.range.now.place c.args.range.now.length c.args.word c.loop-index.index c.loop-index-test.true c.requires.own c.loop-index.invariant
+pub put_reserved-requires-clause-own : goal.put_reserved-requires-clause-own
+put_reserved-requires-clause-own g c = filled_may g.met.S.Steps.fits c.args.range.now.place c.args.range.now.length c.args.word c.loop-index.index c.loop-index-test.true c.requires.own c.loop-index.invariant
 
 pub loop-index-preserved : goal.loop-index-preserved
-loop-index-preserved g c = filled_more g.met.S.Steps.fits c.args.range.now.place c.args.range.now.length c.args.word c.loop-index.index c.loop-index.invariant c.loop-index-test.true c.put_own.ensures
+loop-index-preserved g c = filled_more g.met.S.Steps.fits c.args.range.now.place c.args.range.now.length c.args.word c.loop-index.index c.loop-index.invariant c.loop-index-test.true c.put_reserved.ensures
 
 pub returns-clause-call : goal.returns-clause-call
 returns-clause-call g c = filled_call g.met.S.Steps.fits c.args.range.now.place c.args.range.now.length c.args.word c.loop-index.index (let a = c.loop-index.auto.index-end in let b = c.loop-index-test.false in omega arith) c.loop-index.invariant c.requires.role

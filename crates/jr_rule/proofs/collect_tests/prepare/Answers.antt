@@ -1,5 +1,5 @@
 use Rattle.std.proofs.Common.{rules}
-use Rattle.jr_steps.proofs.Goes.{used_seen}
+use Rattle.jr_steps.proofs.StepFacts.{used_seen}
 use Rattle.jr_rule.proofs.collect_tests.prepare.Goals as goal
 
 pub claim_top-requires-clause-looked : goal.claim_top-requires-clause-looked

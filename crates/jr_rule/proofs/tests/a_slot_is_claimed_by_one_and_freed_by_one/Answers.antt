@@ -3,12 +3,12 @@ use Rattle.jr_word.specs.declared.handle.RefKind.TheVariants.{Global}
 use Rattle.jr_word.specs.declared.slot.SlotParts.TheVariants as slot
 use Rattle.jr_word.specs.declared.slot.SlotParts.TheVariants.{Free}
 use Rattle.jr_model.specs.declared.event.Role.TheVariants.{Within}
-use Rattle.jr_steps.specs.Acts.{slot_named, handle_of}
-use Rattle.jr_steps.specs.declared.naming.SlotNaming.TheVariants.{Look}
+use Rattle.jr_steps.specs.Acts.{act_of_slot_load, handle_of}
+use Rattle.jr_steps.specs.declared.loads.SlotLoad.TheVariants.{Look}
 use Rattle.jr_steps.specs.Knowing.{Goes}
 use Rattle.jr_rule.specs.PassLaws.{some_of}
 use Rattle.jr_rule.proofs.Claimable.{claimable}
-use Rattle.jr_steps.proofs.Goes.{looked_now, may_then}
+use Rattle.jr_steps.proofs.StepFacts.{looked_now, may_then}
 use Rattle.jr_rule.proofs.tests.a_slot_is_claimed_by_one_and_freed_by_one.Goals as goal
 
 pub claim-requires : goal.claim-requires
@@ -51,7 +51,7 @@ free-requires g c =
         search rules,
         (
           search rules,
-          may_then c.see_slot-4.ensures (λ k s m. tt) (some_of c.claim-2.new.self.pass) (λ k k' s m d shown. looked_now (handle_of Global 0 0) _ (subst (λ p. Goes k (slot_named 0 (Look (handle_of Global 0 0)) p ∷ []) k') stands d)),
+          may_then c.see_slot-4.ensures (λ k s m. tt) (some_of c.claim-2.new.self.pass) (λ k k' s m d shown. looked_now (handle_of Global 0 0) _ (subst (λ p. Goes k (act_of_slot_load 0 (Look (handle_of Global 0 0)) p ∷ []) k') stands d)),
         ),
       ),
     )
@@ -64,7 +64,7 @@ free-requires-2 g c =
         search rules,
         (
           search rules,
-          may_then c.see_slot-3.ensures (λ k s m. tt) (some_of c.claim.new.self.pass) (λ k k' s m d shown. looked_now (handle_of Global 0 0) _ (subst (λ p. Goes k (slot_named 0 (Look (handle_of Global 0 0)) p ∷ []) k') stands d)),
+          may_then c.see_slot-3.ensures (λ k s m. tt) (some_of c.claim.new.self.pass) (λ k k' s m d shown. looked_now (handle_of Global 0 0) _ (subst (λ p. Goes k (act_of_slot_load 0 (Look (handle_of Global 0 0)) p ∷ []) k') stands d)),
         ),
       ),
     )

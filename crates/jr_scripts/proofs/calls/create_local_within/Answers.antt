@@ -1,6 +1,6 @@
 use Rattle.jr_model.specs.References.{new_local}
-use Rattle.jr_scripts.proofs.Creating.{creates_refused}
-use Rattle.jr_scripts.proofs.MakingLocals.{may_find, ready_resolved, creates_local}
+use Rattle.jr_scripts.proofs.NewReference.{creates_refused}
+use Rattle.jr_scripts.proofs.NewLocal.{may_find, ready_resolved, creates_local}
 use Rattle.jr_scripts.proofs.calls.create_local_within.Goals as goal
 
 pub returns-in_err-object-clause-call : goal.returns-in_err-object-clause-call

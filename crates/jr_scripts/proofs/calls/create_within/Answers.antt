@@ -1,5 +1,5 @@
 use Rattle.jr_model.specs.Parts.{created}
-use Rattle.jr_scripts.proofs.Creating.{creates_refused, creates_none, creates_full, creates_won, may_create}
+use Rattle.jr_scripts.proofs.NewReference.{creates_refused, creates_none, creates_full, creates_won, may_create}
 use Rattle.jr_scripts.proofs.calls.create_within.Goals as goal
 
 pub returns-in_err-object-clause-call : goal.returns-in_err-object-clause-call

@@ -1,7 +1,7 @@
 use Rattle.std.proofs.Common.{sym, ◌∙◌}
 use Rattle.jr_model.specs.References.{removal}
 use Rattle.jr_scripts.specs.Reading.{word_of}
-use Rattle.jr_scripts.proofs.Entering.{same_owner, completes_barred, completes_entered}
+use Rattle.jr_scripts.proofs.InsideGate.{same_owner, completes_barred, completes_entered}
 use Rattle.jr_scripts.proofs.calls.delete_reference.Goals as goal
 
 pub returns-in_err-inside : goal.returns-in_err-inside

@@ -1,6 +1,6 @@
 use Rattle.jr_model.specs.References.{comparison}
 use Rattle.jr_scripts.specs.Reading.{word_of}
-use Rattle.jr_scripts.proofs.Entering.{same_owner, completes_barred, completes_entered}
+use Rattle.jr_scripts.proofs.InsideGate.{same_owner, completes_barred, completes_entered}
 use Rattle.jr_scripts.proofs.calls.is_same_object.Goals as goal
 
 pub returns-in_err-inside : goal.returns-in_err-inside

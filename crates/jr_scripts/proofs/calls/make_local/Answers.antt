@@ -1,4 +1,4 @@
-use Rattle.jr_scripts.proofs.MakingLocals.{makes_none, makes_no_local, present_number, makes_local}
+use Rattle.jr_scripts.proofs.NewLocal.{makes_none, makes_no_local, present_number, makes_local}
 use Rattle.jr_scripts.proofs.calls.make_local.Goals as goal
 
 pub returns-in_default-clause-call : goal.returns-in_default-clause-call

@@ -1,5 +1,5 @@
-use Rattle.jr_scripts.proofs.Making.{may_put, published_number, makes_full, makes}
-use Rattle.jr_scripts.proofs.MakingLocals.{makes_nothing}
+use Rattle.jr_scripts.proofs.NewPlain.{may_put, published_number, makes_full, makes}
+use Rattle.jr_scripts.proofs.NewLocal.{makes_nothing}
 use Rattle.jr_scripts.proofs.calls.make_plain.Goals as goal
 
 pub returns-in_default-clause-call : goal.returns-in_default-clause-call

@@ -1,6 +1,6 @@
 use Rattle.jr_model.specs.References.{local_creation}
 use Rattle.jr_scripts.specs.Reading.{word_of}
-use Rattle.jr_scripts.proofs.Entering.{ready_entered, completes_barred, completes_entered}
+use Rattle.jr_scripts.proofs.InsideGate.{ready_entered, completes_barred, completes_entered}
 use Rattle.jr_scripts.proofs.calls.new_local_ref.Goals as goal
 
 pub returns-in_err-inside-clause-call : goal.returns-in_err-inside-clause-call

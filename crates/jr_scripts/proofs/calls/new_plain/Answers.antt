@@ -1,5 +1,5 @@
 use Rattle.jr_model.specs.References.{making}
-use Rattle.jr_scripts.proofs.Entering.{ready_entered, completes_barred, completes_making, completes_more}
+use Rattle.jr_scripts.proofs.InsideGate.{ready_entered, completes_barred, completes_making, completes_more}
 use Rattle.jr_scripts.proofs.calls.new_plain.Goals as goal
 
 pub returns-in_err-inside-clause-call : goal.returns-in_err-inside-clause-call

@@ -1,6 +1,6 @@
 use Rattle.jr_model.specs.References.{creation}
 use Rattle.jr_scripts.specs.Reading.{word_of}
-use Rattle.jr_scripts.proofs.Entering.{same_owner, ready_entered, completes_barred, completes_entered}
+use Rattle.jr_scripts.proofs.InsideGate.{same_owner, ready_entered, completes_barred, completes_entered}
 use Rattle.jr_scripts.proofs.calls.new_reference.Goals as goal
 
 pub returns-in_err-inside-clause-call : goal.returns-in_err-inside-clause-call

@@ -1,4 +1,4 @@
-use Rattle.jr_model.specs.Tests.{is_malformed, is_out_of_bounds}
+use Rattle.jr_model.specs.Checks.{is_malformed, is_out_of_bounds}
 use Rattle.jr_scripts.specs.Reading.{word_of}
 use Rattle.jr_scripts.proofs.Reading.{either_first, either_second, neither}
 use Rattle.jr_scripts.proofs.Resolving.{resolves_outside, resolves_foreign, resolves_looked}

@@ -1,5 +1,5 @@
 use Rattle.std.proofs.Common.{ℕ, Ok, sym, subst}
-use Rattle.jr_model.specs.Tests.{Parts, is_out_of_bounds, is_foreign}
+use Rattle.jr_model.specs.Checks.{Parts, is_out_of_bounds, is_foreign}
 use Rattle.jr_model.specs.Parts.{type_at}
 use Rattle.jr_model.specs.References.{typing}
 use Rattle.jr_scripts.specs.Performing.{Calls}

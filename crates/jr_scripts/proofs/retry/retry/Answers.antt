@@ -1,5 +1,5 @@
 use Rattle.std.proofs.Common.{rules, arith}
-use Rattle.jr_scripts.proofs.Trying.{does_from_first, does_answered, does_again, does_gave_up}
+use Rattle.jr_scripts.proofs.Retries.{does_from_first, does_answered, does_again, does_gave_up}
 use Rattle.jr_scripts.proofs.retry.retry.Goals as goal
 
 pub loop-init : goal.loop-init

@@ -1,7 +1,7 @@
 use Rattle.std.proofs.Common.{◌≡◌, ap, arith}
 use Rattle.jr_word.specs.declared.config.Config.{Config}
 use mathlib.Core.Logic.{∥∥₁_map}
-use Rattle.jr_scripts.proofs.Took.{searched_some, searched_then}
+use Rattle.jr_scripts.proofs.SlotSearch.{searched_some, searched_then}
 use Rattle.jr_scripts.proofs.row.create.Goals as goal
 
 pub try_slot-made-requires-clause-object : goal.try_slot-made-requires-clause-object

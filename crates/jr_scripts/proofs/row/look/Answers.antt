@@ -1,7 +1,7 @@
 use Rattle.std.proofs.Common.{[], ◌∷◌, sym, subst}
 use Rattle.jr_model.specs.declared.event.Act.TheVariants.{Look}
 use Rattle.jr_steps.specs.Knowing.{anything, keeps, ShowsSlot, Took}
-use Rattle.jr_steps.proofs.Goes.{took_less}
+use Rattle.jr_steps.proofs.StepFacts.{took_less}
 use Rattle.jr_scripts.proofs.row.look.Goals as goal
 
 pub returns : goal.returns

@@ -1,5 +1,5 @@
 use mathlib.Core.Logic.{∥∥₁_map}
-use Rattle.jr_scripts.proofs.Took.{took_present, searched_seen, searched_lost, searched_won}
+use Rattle.jr_scripts.proofs.SlotSearch.{took_present, searched_seen, searched_lost, searched_won}
 use Rattle.jr_scripts.proofs.row.try_slot.Goals as goal
 
 pub returns-in_default : goal.returns-in_default

@@ -1,5 +1,5 @@
 use Rattle.std.proofs.Common.{rules, arith}
-use Rattle.jr_scripts.proofs.Going.{begun, finished, went_on, cut_off}
+use Rattle.jr_scripts.proofs.CommandLoop.{begun, finished, went_on, cut_off}
 use Rattle.jr_scripts.proofs.run.run_thread.Goals as goal
 
 pub loop-i-init : goal.loop-i-init

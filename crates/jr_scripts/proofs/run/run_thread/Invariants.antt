@@ -1,5 +1,5 @@
 use Rattle.std.proofs.Common.{take}
-use Rattle.jr_scripts.proofs.Going.{Going}
+use Rattle.jr_scripts.proofs.CommandLoop.{Going}
 use Rattle.jr_scripts.proofs.run.run_thread.Given as goal
 
 abbrev pub invariant-loop-i : goal.invariant-loop-i

@@ -1,4 +1,4 @@
-use Rattle.jr_tests.proofs.Tried.{may_be_read, kind_read}
+use Rattle.jr_tests.proofs.Makers.{may_be_read, kind_read}
 use Rattle.jr_tests.proofs.heap.got.Goals as goal
 
 pub read-requires-clause-object : goal.read-requires-clause-object

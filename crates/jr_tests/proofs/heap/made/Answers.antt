@@ -2,7 +2,7 @@ use mathlib.Core.Logic.{∥∥₁_map}
 use Rattle.jr_steps.specs.Knowing.{MayKnow}
 use Rattle.jr_heap.specs.Heap.{IsReady}
 use Rattle.jr_heap.proofs.Calling.{uncounted}
-use Rattle.jr_tests.proofs.Tried.{kind_made}
+use Rattle.jr_tests.proofs.Makers.{kind_made}
 use Rattle.jr_tests.proofs.heap.made.Goals as goal
 
 pub publish-requires-clause-ready : goal.publish-requires-clause-ready

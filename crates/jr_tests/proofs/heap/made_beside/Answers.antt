@@ -4,8 +4,8 @@ use mathlib.Core.Logic.{∥∥₁_map}
 use Rattle.jr_word.specs.declared.kind.Kind.TheVariants.{Int}
 use Rattle.jr_model.specs.State.{AreWords}
 use Rattle.jr_steps.specs.declared.known.Known.{Known}
-use Rattle.jr_steps.specs.declared.known.Grasp.{Grasp}
-use Rattle.jr_steps.specs.Grasping.{words_at}
+use Rattle.jr_steps.specs.declared.known.Holdings.{Holdings}
+use Rattle.jr_steps.specs.Holdings.{words_at}
 use Rattle.jr_steps.specs.Knowing.{MayKnow, state_of}
 use Rattle.jr_heap.specs.Heap.{IsReady, Gains}
 use Rattle.jr_heap.proofs.Calling.{may_called, uncounted}
@@ -16,8 +16,8 @@ other_place p place ne = grind (arith, nat_tests)
 
 keep : (p q : ℕ) (k k' : Known) → IsReady Int p 3 k → Gains 2 q k k' → IsReady Int p 3 k'
 keep p q k k' r g =
-    let ne : p ≢ q = λ e. let none = ap (λ (ws : List ℕ). length ws) (subst (λ z. words_at z k.grasp.ranges ≡ []) (sym e) g.3) in let long = r.long in absurd (omega arith) in
-    let same : words_at p k'.grasp.ranges ≡ words_at p k.grasp.ranges = ap (λ (h : Grasp). words_at p h.ranges) g.2 ∙ ap (λ b. cond b g.0 (words_at p k.grasp.ranges)) (other_place p q ne) in
+    let ne : p ≢ q = λ e. let none = ap (λ (ws : List ℕ). length ws) (subst (λ z. words_at z k.holdings.ranges ≡ []) (sym e) g.3) in let long = r.long in absurd (omega arith) in
+    let same : words_at p k'.holdings.ranges ≡ words_at p k.holdings.ranges = ap (λ (h : Holdings). words_at p h.ranges) g.2 ∙ ap (λ b. cond b g.0 (words_at p k.holdings.ranges)) (other_place p q ne) in
     record { long = ap (λ (ws : List ℕ). length ws) same ∙ r.long; words = subst (λ ws. AreWords (state_of k) Int ws) (sym same) r.words }
 
 pub publish-requires-clause-ready : goal.publish-requires-clause-ready

@@ -3,7 +3,7 @@ use Rattle.jr_word.specs.declared.kind.Kind.TheVariants.{Plain}
 use Rattle.jr_steps.specs.Knowing.{MayKnow}
 use Rattle.jr_heap.specs.Heap.{IsReady}
 use Rattle.jr_heap.proofs.Calling.{uncounted}
-use Rattle.jr_tests.proofs.Tried.{kind_made, plain_ready}
+use Rattle.jr_tests.proofs.Makers.{kind_made, plain_ready}
 use Rattle.jr_tests.proofs.heap.made_plain.Goals as goal
 
 pub publish-requires-clause-ready : goal.publish-requires-clause-ready

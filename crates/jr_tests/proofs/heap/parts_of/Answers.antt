@@ -1,4 +1,4 @@
-use Rattle.jr_tests.proofs.Tried.{may_be_read}
+use Rattle.jr_tests.proofs.Makers.{may_be_read}
 use Rattle.jr_tests.proofs.heap.parts_of.Goals as goal
 
 pub header-parts-requires-clause-object : goal.header-parts-requires-clause-object

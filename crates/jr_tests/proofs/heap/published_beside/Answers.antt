@@ -2,8 +2,8 @@ use Rattle.std.proofs.Common.{Ok, sym, ap, subst}
 use mathlib.Core.Logic.{∥∥₁_map}
 use Rattle.jr_word.specs.declared.header.HeaderParts.{HeaderParts}
 use Rattle.jr_word.specs.declared.kind.Kind.TheVariants.{Int}
-use Rattle.jr_steps.specs.declared.known.Grasp.{Grasp}
-use Rattle.jr_steps.specs.Grasping.{words_at}
+use Rattle.jr_steps.specs.declared.known.Holdings.{Holdings}
+use Rattle.jr_steps.specs.Holdings.{words_at}
 use Rattle.jr_steps.specs.Knowing.{MayKnow}
 use Rattle.jr_heap.specs.Heap.{IsReady, HoldsHeader}
 use Rattle.jr_heap.proofs.Calling.{may_called, uncounted}
@@ -30,4 +30,4 @@ returns-clause-other g c =
       ready_published c.args._other.now.place c.args._other.now.length c.args.range.place c.args.range.length (Ok c.in_ok-object.object) k j (λ e. c.requires.apart (sym e)) l w.1,
     )) in
     may_called (uncounted c.read_element.ensures.call) both (λ k w. w.0)
-    (λ k j s w acts d l. ready_same c.args._other.now.place c.args._other.now.length k j (ap (λ (h : Grasp). words_at c.args._other.now.place h.ranges) l.0.1) w.1)
+    (λ k j s w acts d l. ready_same c.args._other.now.place c.args._other.now.length k j (ap (λ (h : Holdings). words_at c.args._other.now.place h.ranges) l.0.1) w.1)

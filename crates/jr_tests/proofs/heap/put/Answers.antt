@@ -1,5 +1,5 @@
 use Rattle.jr_heap.proofs.Calling.{uncounted}
-use Rattle.jr_tests.proofs.Tried.{may_be_written, kind_written}
+use Rattle.jr_tests.proofs.Makers.{may_be_written, kind_written}
 use Rattle.jr_tests.proofs.heap.put.Goals as goal
 
 pub write-requires-clause-object : goal.write-requires-clause-object

@@ -3,8 +3,8 @@ use Rattle.jr_word.specs.declared.header.HeaderParts.{HeaderParts}
 use Rattle.jr_heap.specs.Heap.{HoldsHeader}
 use Rattle.jr_heap.proofs.Calling.{may_called, uncounted}
 use Rattle.jr_heap.proofs.Headers.{learnt}
-use Rattle.jr_heap.proofs.Whole.{may_present}
-use Rattle.jr_heap.proofs.Staying.{shown_present}
+use Rattle.jr_heap.proofs.HeaderThenElement.{may_present}
+use Rattle.jr_heap.proofs.StayFacts.{shown_present}
 use Rattle.jr_tests.proofs.heap.read_again.Goals as goal
 
 pub read-requires-clause-object : goal.read-requires-clause-object

@@ -1,6 +1,6 @@
 use Rattle.std.proofs.Common.{arith, rules}
 use Rattle.jr_rule.specs.PassLaws.{some_of}
-use Rattle.jr_steps.proofs.Goes.{used_seen}
+use Rattle.jr_steps.proofs.StepFacts.{used_seen}
 use Rattle.jr_tests.proofs.heap.two_passes_share_space_and_numbers.Goals as goal
 
 pub claim_top-requires : goal.claim_top-requires

@@ -2,7 +2,7 @@ use Rattle.std.proofs.Common.{◌∙◌, ap, sym, subst, arith}
 use Rattle.jr_word.specs.Local.{local_word, IsLocalPlace}
 use Rattle.jr_rule.proofs.PlainTook.{took, shown}
 use Rattle.jr_rule.proofs.PlainOwed.{optional_few, put}
-use Rattle.jr_rule.proofs.LocalTurns.{place_fits}
+use Rattle.jr_rule.proofs.LocalSteps.{place_fits}
 use Rattle.jr_rule.proofs.plain.PlainStepsSteps.put_local.Goals as goal
 
 pub pack-requires : goal.pack-requires

@@ -6,10 +6,10 @@ use Rattle.jr_word.specs.declared.handle.RefKind.TheVariants.{Global}
 use Rattle.jr_word.specs.declared.slot.SlotParts.TheVariants as slot
 use Rattle.jr_word.specs.declared.slot.SlotParts.TheVariants.{Free}
 use Rattle.jr_model.specs.declared.event.Role.TheVariants.{Within}
-use Rattle.jr_steps.specs.Acts.{slot_named, handle_of}
-use Rattle.jr_steps.specs.declared.naming.SlotNaming.TheVariants.{Look}
+use Rattle.jr_steps.specs.Acts.{act_of_slot_load, handle_of}
+use Rattle.jr_steps.specs.declared.loads.SlotLoad.TheVariants.{Look}
 use Rattle.jr_steps.specs.Knowing.{Goes, ShowsSlot}
-use Rattle.jr_steps.proofs.Goes.{goes_did, looked_now, present_stays, shown_published, may_then, may_with}
+use Rattle.jr_steps.proofs.StepFacts.{goes_did, looked_now, present_stays, shown_published, may_then, may_with}
 use Rattle.jr_rule.proofs.Headers.{header_fits, filled_none}
 use Rattle.jr_rule.proofs.plain.tests.retires_a_slot_after_its_last_serial.Goals as goal
 
@@ -45,7 +45,7 @@ free-requires g c =
         search rules,
         (
           search rules,
-          may_then c.see_slot-2.ensures (λ k s m. tt) c.claim.new.self.shown (λ k k' s m d shown. looked_now (handle_of Global 0 0) _ (subst (λ p. Goes k (slot_named 0 (Look (handle_of Global 0 0)) p ∷ []) k') stands d)),
+          may_then c.see_slot-2.ensures (λ k s m. tt) c.claim.new.self.shown (λ k k' s m d shown. looked_now (handle_of Global 0 0) _ (subst (λ p. Goes k (act_of_slot_load 0 (Look (handle_of Global 0 0)) p ∷ []) k') stands d)),
         ),
       ),
     )

@@ -4,8 +4,8 @@ use Rattle.jr_model.specs.State.{not_outside}
 use Rattle.jr_steps.specs.Knowing.{state_of}
 use Rattle.jr_rule.specs.Passes.{known_of}
 use Rattle.jr_rule.proofs.Gathered.{exactly}
-use Rattle.jr_steps.proofs.Goes.{took_less}
-use Rattle.jr_rule.proofs.GateTurns.{counted_after}
+use Rattle.jr_steps.proofs.StepFacts.{took_less}
+use Rattle.jr_rule.proofs.GateSteps.{counted_after}
 use Rattle.jr_rule.proofs.room.Room.close_all.Goals as goal
 
 some_more : (n : ℕ) → n ≢ 0 → 1 ≤ n

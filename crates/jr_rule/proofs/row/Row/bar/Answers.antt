@@ -2,7 +2,7 @@ use Rattle.std.proofs.Common.{[], ◌∷◌, refl, sym, ap, ◌∙◌}
 use Rattle.jr_model.specs.declared.event.Act.TheVariants.{ShutBusy}
 use Rattle.jr_steps.specs.Acts.{all_counted}
 use Rattle.jr_rule.proofs.GateOwed.{shuts}
-use Rattle.jr_rule.proofs.Stepped.{held_next, took}
+use Rattle.jr_rule.proofs.PassAfterStep.{held_next, took}
 use Rattle.jr_rule.proofs.Readings.{is_read, read_once}
 use Rattle.jr_rule.proofs.row.Row.bar.Goals as goal
 

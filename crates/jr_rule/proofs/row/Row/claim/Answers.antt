@@ -1,14 +1,14 @@
 use Rattle.std.proofs.Common.{◌≡◌, ℕ, Some, Err, [], ◌∷◌, refl, sym, ap, subst, ◌∙◌, arith, eqb}
 use prog.Atomic.{either}
-use Rattle.jr_steps.specs.Acts.{claiming}
+use Rattle.jr_steps.specs.Acts.{act_of_claim}
 use Rattle.jr_steps.specs.Knowing.{LostClaim}
 use Rattle.jr_rule.specs.Passes.{known_of}
 use Rattle.jr_rule.specs.Rule.{Owes}
-use Rattle.jr_rule.proofs.Allowed.{object_known, object_some, serial_fits}
+use Rattle.jr_rule.proofs.FromMayKnow.{object_known, object_some, serial_fits}
 use Rattle.jr_rule.proofs.SlotOwed.{claims_slot, claim_done}
 use Rattle.jr_rule.proofs.Told.{Claimed}
-use Rattle.jr_rule.proofs.Stepped.{held_next, took}
-use Rattle.jr_rule.proofs.Effects.{claiming_role, claiming_fresh}
+use Rattle.jr_rule.proofs.PassAfterStep.{held_next, took}
+use Rattle.jr_rule.proofs.ActEffects.{claiming_role, claiming_fresh}
 use Rattle.jr_rule.proofs.SlotWords.{names_object}
 use Rattle.jr_rule.proofs.Readings.{is_read, read_once}
 use Rattle.jr_rule.proofs.row.Row.claim.Goals as goal
@@ -46,7 +46,7 @@ returns-then-found-looked-clause-step c =
     let i = c.args.index in
     let q = c.unwrap.result in
     let read = read_once c.parts.result s.0 q (c.parts.ensures.complete s.0 s.1 s.2) c.unwrap.ensures in
-    took p _ c.exchange-found.result t _ c.exchange-found.ensures.0 (s.3 ∙ ap (λ z. claiming i c.args.serial c.args.kind c.args.object (Err z) ∷ []) (sym read)) refl refl refl
+    took p _ c.exchange-found.result t _ c.exchange-found.ensures.0 (s.3 ∙ ap (λ z. act_of_claim i c.args.serial c.args.kind c.args.object (Err z) ∷ []) (sym read)) refl refl refl
     (λ m. (subst (λ z. LostClaim i (Err z) (known_of p) t.new) (sym read) (s.4 m.1), (t.says).2))
 
 pub returns-clause-step : goal.returns-clause-step

@@ -1,14 +1,14 @@
 use Rattle.std.proofs.Common.{◌≡◌, ◌==◌, ℕ, refl, sym, ap, subst, ◌∙◌, eqb}
 use prog.Atomic.{either}
-use Rattle.jr_steps.specs.Acts.{publishing}
+use Rattle.jr_steps.specs.Acts.{acts_of_publication}
 use Rattle.jr_rule.specs.Image.{header_at}
 use Rattle.jr_steps.specs.Knowing.{words_for}
 use Rattle.jr_rule.specs.Passes.{known_of}
 use Rattle.jr_rule.specs.Rule.{Owes}
-use Rattle.jr_rule.proofs.Allowed.{of_pass}
-use Rattle.jr_rule.proofs.Effects.{publishing_role, publishing_fresh}
+use Rattle.jr_rule.proofs.FromMayKnow.{of_pass}
+use Rattle.jr_rule.proofs.ActEffects.{publishing_role, publishing_fresh}
 use Rattle.jr_rule.proofs.HeapOwed.{publishes_header, published_acts, published_shows}
-use Rattle.jr_rule.proofs.Stepped.{held_next, took_with}
+use Rattle.jr_rule.proofs.PassAfterStep.{held_next, took_with}
 use Rattle.jr_rule.proofs.Told.{Published}
 use Rattle.jr_rule.proofs.row.Row.claim_header.Goals as goal
 
@@ -38,4 +38,4 @@ returns-clause-step c =
     let o = c.args.object in
     let h = c.args.header in
     let n = c.exchange-found.result in
-    took_with p _ n t (λ k. publishing o h.kind (words_for h k) (n == 0)) c.exchange-found.ensures.0 (published_acts o h (known_of p) n t.acts t.new t.says) refl refl refl (λ m. published_shows o h (known_of p) n t.acts t.new t.says)
+    took_with p _ n t (λ k. acts_of_publication o h.kind (words_for h k) (n == 0)) c.exchange-found.ensures.0 (published_acts o h (known_of p) n t.acts t.new t.says) refl refl refl (λ m. published_shows o h (known_of p) n t.acts t.new t.says)

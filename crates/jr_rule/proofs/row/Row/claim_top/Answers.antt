@@ -1,11 +1,11 @@
 use Rattle.std.proofs.Common.{ℕ, [], ◌∷◌, Err, refl, sym, ap, subst, ◌∙◌, eqb}
 use prog.Atomic.{either}
-use Rattle.jr_steps.specs.Acts.{reserving}
+use Rattle.jr_steps.specs.Acts.{act_of_reservation}
 use Rattle.jr_rule.specs.Image.{top_at}
 use Rattle.jr_rule.specs.Passes.{known_of}
 use Rattle.jr_rule.specs.Rule.{Owes}
 use Rattle.jr_rule.proofs.HeapOwed.{claims_top, claimed_acts, top_some, top_is}
-use Rattle.jr_rule.proofs.Stepped.{held_next, took}
+use Rattle.jr_rule.proofs.PassAfterStep.{held_next, took}
 use Rattle.jr_rule.proofs.Told.{ClaimedTop}
 use Rattle.jr_rule.proofs.row.Row.claim_top.Goals as goal
 
@@ -33,7 +33,7 @@ returns-then-found-old-clause-step c =
     let t = c.exchange-found.ensures.1 in
     let s = (t.says).1 (λ e. c.if-found-old.true (e ∙ sym c.top_word-old.ensures)) in
     let read = top_is c.exchange-found.result c.parts.result s.0 c.unwrap.result s.1 s.2 c.parts.ensures.complete c.unwrap.ensures in
-    took p _ c.exchange-found.result t _ c.exchange-found.ensures.0 (s.3 ∙ ap (λ u. reserving c.args.looked c.args.more (Err u) ∷ []) (sym read)) refl refl refl (λ m. s.4)
+    took p _ c.exchange-found.result t _ c.exchange-found.ensures.0 (s.3 ∙ ap (λ u. act_of_reservation c.args.looked c.args.more (Err u) ∷ []) (sym read)) refl refl refl (λ m. s.4)
 
 pub returns-clause-step : goal.returns-clause-step
 returns-clause-step c =

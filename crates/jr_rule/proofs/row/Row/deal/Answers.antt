@@ -1,5 +1,5 @@
 use Rattle.std.proofs.Common.{rules, [], ap}
-use Rattle.jr_steps.specs.Grasping.{empty}
+use Rattle.jr_steps.specs.Holdings.{empty}
 use Rattle.jr_rule.specs.Rule.{known, Sat}
 use Rattle.jr_rule.proofs.Seats.{deals}
 use Rattle.jr_rule.proofs.row.Row.deal.Goals as goal

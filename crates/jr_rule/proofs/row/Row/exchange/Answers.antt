@@ -1,6 +1,6 @@
 use Rattle.std.proofs.Common.{rules, eqb}
 use prog.Atomic.{either}
-use Rattle.jr_rule.proofs.Plays.{plays}
+use Rattle.jr_rule.proofs.RuleKept.{plays}
 use Rattle.jr_rule.proofs.row.Row.exchange.Goals as goal
 
 pub compare_exchange-requires : goal.compare_exchange-requires

@@ -3,12 +3,12 @@ use prog.Atomic.{either}
 use Rattle.jr_word.specs.Slot.{slot_word}
 use Rattle.jr_rule.specs.Passes.{known_of}
 use Rattle.jr_rule.specs.Rule.{Owes}
-use Rattle.jr_rule.specs.Slots.{freed}
-use Rattle.jr_rule.proofs.Allowed.{of_pass, looked_can, looked_object}
+use Rattle.jr_rule.specs.Slots.{parts_once_free}
+use Rattle.jr_rule.proofs.FromMayKnow.{of_pass, looked_can, looked_object}
 use Rattle.jr_rule.proofs.SlotOwed.{frees_slot, free_done}
 use Rattle.jr_rule.proofs.Told.{Freed}
-use Rattle.jr_rule.proofs.Stepped.{held_next, took}
-use Rattle.jr_rule.proofs.Effects.{freeing_role, freeing_fresh}
+use Rattle.jr_rule.proofs.PassAfterStep.{held_next, took}
+use Rattle.jr_rule.proofs.ActEffects.{freeing_role, freeing_fresh}
 use Rattle.jr_rule.proofs.SlotWords.{names_object}
 use Rattle.jr_rule.proofs.row.Row.free.Goals as goal
 
@@ -22,7 +22,7 @@ pub exchange-found-requires-clause-owes : goal.exchange-found-requires-clause-ow
 exchange-found-requires-clause-owes c =
     let p = c.args.pass.now in
     let h = c.args.handle in
-    let free : c.pack-freed.result.0 ≡ slot_word (freed (known_of p).last h.serial) = c.pack-freed.ensures ∙ ap slot_word (c.freed_slot.ensures ∙ ap (λ n. freed n h.serial) (sym (c.requires.row).last)) in
+    let free : c.pack-freed.result.0 ≡ slot_word (parts_once_free (known_of p).last h.serial) = c.pack-freed.ensures ∙ ap slot_word (c.freed_slot.ensures ∙ ap (λ n. parts_once_free n h.serial) (sym (c.requires.row).last)) in
     subst (λ (z : ℕ × ℕ × ℕ). Owes (known_of p) z.0 (λ n. either (eqb n z.1) z.2 n) (Freed h z.1 (known_of p))) (λ j. (sym c.slot_at-at.ensures j, sym c.pack-looked.ensures j, sym free j))
     (frees_slot (known_of p) (p.held.role_is ∙ c.requires.role) h c.args.object c.reference.result c.reference.ensures (of_pass p c.requires.looked))
 

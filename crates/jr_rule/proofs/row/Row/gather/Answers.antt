@@ -5,7 +5,7 @@ use Rattle.std.proofs.lemmas.List.Elements.{All-head, All-tail}
 use Rattle.jr_steps.specs.declared.known.Known.{Known}
 use Rattle.jr_rule.specs.declared.pass.Pass.{Pass}
 use Rattle.jr_rule.specs.declared.row.Row.{Row}
-use Rattle.jr_rule.specs.Rule.{Sat, view, together}
+use Rattle.jr_rule.specs.Rule.{Sat, view_of, together}
 use Rattle.jr_rule.specs.Passes.{known_of, IsAt}
 use Rattle.jr_rule.proofs.Seats.{gathers}
 use Rattle.jr_rule.proofs.row.Row.gather.Goals as goal
@@ -35,10 +35,10 @@ joined m m' p xs ys ks e first so =
     ∙ (ap (λ zs. m.0.passes ++ map known_of zs) (sym first) ∙ so)))
 
 -- all sit there
-all_joined : (m : Sat) (xs : List Pass) (ks : List Known) → m.1 ≡ [] → xs ≡ [] → m.0.passes ++ map known_of xs ≡ ks → m ≡ (view ks, [])
+all_joined : (m : Sat) (xs : List Pass) (ks : List Known) → m.1 ≡ [] → xs ≡ [] → m.0.passes ++ map known_of xs ≡ ks → m ≡ (view_of ks, [])
 all_joined m xs ks none left so =
     let here : m.0.passes ≡ ks = sym (append-nil m.0.passes) ∙ (ap (λ ys. m.0.passes ++ map known_of ys) (sym left) ∙ so) in
-    λ i. (view (here i), none i)
+    λ i. (view_of (here i), none i)
 
 pub join_seat-requires : goal.join_seat-requires
 join_seat-requires c =

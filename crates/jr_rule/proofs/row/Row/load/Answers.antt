@@ -1,5 +1,5 @@
 use Rattle.std.proofs.Common.{rules}
-use Rattle.jr_rule.proofs.Plays.{plays}
+use Rattle.jr_rule.proofs.RuleKept.{plays}
 use Rattle.jr_rule.proofs.row.Row.load.Goals as goal
 
 pub load-requires : goal.load-requires

@@ -3,7 +3,7 @@ use Rattle.jr_rule.specs.Rule.{Sat, others_of}
 use Rattle.jr_rule.proofs.GateOwed.{meets}
 use Rattle.jr_rule.proofs.Meeting.{seated_both, told_alone}
 use Rattle.jr_rule.proofs.Seats.{gathers, parts}
-use Rattle.jr_rule.proofs.Stepped.{held_next}
+use Rattle.jr_rule.proofs.PassAfterStep.{held_next}
 use Rattle.jr_rule.proofs.row.Row.meet.Goals as goal
 
 pub join_seat-requires : goal.join_seat-requires

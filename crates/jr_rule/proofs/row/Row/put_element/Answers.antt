@@ -3,10 +3,10 @@ use Rattle.jr_word.specs.Config.{row_words}
 use Rattle.jr_rule.specs.Image.{element_at}
 use Rattle.jr_rule.specs.Passes.{known_of}
 use Rattle.jr_rule.specs.Rule.{Owes}
-use Rattle.jr_rule.proofs.Allowed.{header_known, word_known}
+use Rattle.jr_rule.proofs.FromMayKnow.{header_known, word_known}
 use Rattle.jr_rule.proofs.HeapOwed.{puts_element}
-use Rattle.jr_rule.proofs.Grasped.{element_in_row}
-use Rattle.jr_rule.proofs.Stepped.{held_next, took}
+use Rattle.jr_rule.proofs.HoldingsInSpace.{element_in_row}
+use Rattle.jr_rule.proofs.PassAfterStep.{held_next, took}
 use Rattle.jr_rule.proofs.Told.{PutElement}
 use Rattle.jr_rule.proofs.row.Row.put_element.Goals as goal
 

@@ -5,12 +5,12 @@ use Rattle.jr_steps.specs.Says.{local_parts}
 use Rattle.jr_rule.specs.Image.{local_at}
 use Rattle.jr_rule.specs.Passes.{known_of}
 use Rattle.jr_rule.specs.Rule.{Owes}
-use Rattle.jr_rule.proofs.Allowed.{of_pass, optional_few}
+use Rattle.jr_rule.proofs.FromMayKnow.{of_pass, optional_few}
 use Rattle.jr_rule.proofs.PlaceOwed.{optional_is, puts_local}
-use Rattle.jr_rule.proofs.Stepped.{held_next, took}
+use Rattle.jr_rule.proofs.PassAfterStep.{held_next, took}
 use Rattle.jr_rule.proofs.Told.{Put}
-use Rattle.jr_rule.proofs.Effects.{putting_role, putting_spends}
-use Rattle.jr_rule.proofs.LocalTurns.{place_fits}
+use Rattle.jr_rule.proofs.ActEffects.{putting_role, putting_spends}
+use Rattle.jr_rule.proofs.LocalSteps.{place_fits}
 use Rattle.jr_rule.proofs.row.Row.put_local.Goals as goal
 
 pub pack-new-requires : goal.pack-new-requires

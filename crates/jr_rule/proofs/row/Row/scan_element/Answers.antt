@@ -3,11 +3,11 @@ use Rattle.jr_word.specs.Config.{row_words}
 use Rattle.jr_rule.specs.Image.{element_at}
 use Rattle.jr_rule.specs.Passes.{known_of}
 use Rattle.jr_rule.specs.Rule.{Owes}
-use Rattle.jr_rule.proofs.Allowed.{there_known}
+use Rattle.jr_rule.proofs.FromMayKnow.{there_known}
 use Rattle.jr_rule.proofs.CollectOwed.{scans_element}
 use Rattle.jr_rule.proofs.CollectTold.{ScannedElement}
-use Rattle.jr_rule.proofs.Grasped.{element_in_row}
-use Rattle.jr_rule.proofs.Stepped.{held_next, took}
+use Rattle.jr_rule.proofs.HoldingsInSpace.{element_in_row}
+use Rattle.jr_rule.proofs.PassAfterStep.{held_next, took}
 use Rattle.jr_rule.proofs.row.Row.scan_element.Goals as goal
 
 pub overflow_add-header : goal.overflow_add-header

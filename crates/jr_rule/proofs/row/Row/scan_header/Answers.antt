@@ -5,7 +5,7 @@ use Rattle.jr_rule.specs.Passes.{known_of}
 use Rattle.jr_rule.specs.Rule.{Owes}
 use Rattle.jr_rule.proofs.HeapOwed.{header_read}
 use Rattle.jr_rule.proofs.CollectOwed.{scans_header}
-use Rattle.jr_rule.proofs.Stepped.{held_next, took}
+use Rattle.jr_rule.proofs.PassAfterStep.{held_next, took}
 use Rattle.jr_rule.proofs.Told.{SawHeader}
 use Rattle.jr_rule.proofs.row.Row.scan_header.Goals as goal
 

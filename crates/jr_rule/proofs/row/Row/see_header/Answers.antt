@@ -4,7 +4,7 @@ use Rattle.jr_steps.specs.Knowing.{ShowsHeader}
 use Rattle.jr_rule.specs.Passes.{known_of}
 use Rattle.jr_rule.specs.Rule.{Owes}
 use Rattle.jr_rule.proofs.HeapOwed.{sees_header, header_read}
-use Rattle.jr_rule.proofs.Stepped.{held_next, took}
+use Rattle.jr_rule.proofs.PassAfterStep.{held_next, took}
 use Rattle.jr_rule.proofs.Told.{SawHeader}
 use Rattle.jr_rule.proofs.row.Row.see_header.Goals as goal
 

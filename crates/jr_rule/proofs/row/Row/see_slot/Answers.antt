@@ -1,12 +1,12 @@
 use Rattle.std.proofs.Common.{[], ◌∷◌, refl, sym, ap, subst, ◌∙◌}
-use Rattle.jr_steps.specs.Acts.{slot_named}
+use Rattle.jr_steps.specs.Acts.{act_of_slot_load}
 use Rattle.jr_steps.specs.Knowing.{ShowsSlot}
 use Rattle.jr_rule.specs.Passes.{known_of}
 use Rattle.jr_rule.specs.Rule.{Owes}
 use Rattle.jr_rule.proofs.SlotOwed.{sees_slot}
-use Rattle.jr_rule.proofs.Stepped.{held_next, took}
+use Rattle.jr_rule.proofs.PassAfterStep.{held_next, took}
 use Rattle.jr_rule.proofs.Told.{SawSlot}
-use Rattle.jr_rule.proofs.Effects.{slot_named_role, slot_named_fresh}
+use Rattle.jr_rule.proofs.ActEffects.{slot_named_role, slot_named_fresh}
 use Rattle.jr_rule.proofs.Readings.{is_read, read_once}
 use Rattle.jr_rule.proofs.row.Row.see_slot.Goals as goal
 
@@ -36,5 +36,5 @@ returns-clause-step c =
     let name = c.args.name in
     let q = c.unwrap.result in
     let read = read_once c.parts.result s.0 q (c.parts.ensures.complete s.0 s.1 s.2) c.unwrap.ensures in
-    took p _ c.load-found.result t _ c.load-found.ensures.0 (s.3 ∙ ap (λ z. slot_named i name z ∷ []) (sym read)) refl (slot_named_role i name q p.role) (slot_named_fresh i name q p.fresh)
+    took p _ c.load-found.result t _ c.load-found.ensures.0 (s.3 ∙ ap (λ z. act_of_slot_load i name z ∷ []) (sym read)) refl (slot_named_role i name q p.role) (slot_named_fresh i name q p.fresh)
     (λ m. (subst (λ z. ShowsSlot i z t.new) (sym read) s.4, s.5))

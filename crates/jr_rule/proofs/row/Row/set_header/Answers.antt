@@ -2,10 +2,10 @@ use Rattle.std.proofs.Common.{◌≡◌, ℕ, refl, sym, ap, subst, ◌∙◌}
 use Rattle.jr_rule.specs.Image.{header_at}
 use Rattle.jr_rule.specs.Passes.{known_of}
 use Rattle.jr_rule.specs.Rule.{Owes}
-use Rattle.jr_rule.proofs.Allowed.{place_known}
+use Rattle.jr_rule.proofs.FromMayKnow.{place_known}
 use Rattle.jr_rule.proofs.CollectOwed.{places_header}
 use Rattle.jr_rule.proofs.CollectTold.{Placed}
-use Rattle.jr_rule.proofs.Stepped.{held_next, took}
+use Rattle.jr_rule.proofs.PassAfterStep.{held_next, took}
 use Rattle.jr_rule.proofs.row.Row.set_header.Goals as goal
 
 pub store-requires-clause-owes : goal.store-requires-clause-owes

@@ -2,10 +2,10 @@ use Rattle.std.proofs.Common.{refl, sym, subst, ◌∙◌}
 use Rattle.jr_rule.specs.Image.{top_at}
 use Rattle.jr_rule.specs.Passes.{known_of}
 use Rattle.jr_rule.specs.Rule.{Owes}
-use Rattle.jr_rule.proofs.Allowed.{of_pass}
+use Rattle.jr_rule.proofs.FromMayKnow.{of_pass}
 use Rattle.jr_rule.proofs.CollectOwed.{settles_top, below_is}
 use Rattle.jr_rule.proofs.CollectTold.{SettledTop}
-use Rattle.jr_rule.proofs.Stepped.{held_next, took}
+use Rattle.jr_rule.proofs.PassAfterStep.{held_next, took}
 use Rattle.jr_rule.proofs.row.Row.set_top.Goals as goal
 
 pub store-requires-clause-owes : goal.store-requires-clause-owes

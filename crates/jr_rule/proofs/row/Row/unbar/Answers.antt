@@ -1,9 +1,9 @@
 use Rattle.std.proofs.Common.{refl, subst, ◌∙◌}
 use mathlib.Core.Logic.{∥∥₁_map}
 use Rattle.jr_steps.specs.Knowing.{IsClosedNow}
-use Rattle.jr_rule.proofs.Allowed.{settled_known}
+use Rattle.jr_rule.proofs.FromMayKnow.{settled_known}
 use Rattle.jr_rule.proofs.GateOwed.{reopens}
-use Rattle.jr_rule.proofs.Stepped.{held_next, took}
+use Rattle.jr_rule.proofs.PassAfterStep.{held_next, took}
 use Rattle.jr_rule.proofs.row.Row.unbar.Goals as goal
 
 pub take-requires-clause-owes : goal.take-requires-clause-owes

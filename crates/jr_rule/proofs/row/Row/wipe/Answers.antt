@@ -2,10 +2,10 @@ use Rattle.std.proofs.Common.{ℕ, refl, sym, subst, ◌∙◌, eqb}
 use prog.Atomic.{either}
 use Rattle.jr_rule.specs.Passes.{known_of}
 use Rattle.jr_rule.specs.Rule.{Owes}
-use Rattle.jr_rule.proofs.Allowed.{wipe_known, wipe_some}
+use Rattle.jr_rule.proofs.FromMayKnow.{wipe_known, wipe_some}
 use Rattle.jr_rule.proofs.CollectOwed.{wipes_slot}
 use Rattle.jr_rule.proofs.CollectTold.{Wiped}
-use Rattle.jr_rule.proofs.Stepped.{held_next, took}
+use Rattle.jr_rule.proofs.PassAfterStep.{held_next, took}
 use Rattle.jr_rule.proofs.row.Row.wipe.Goals as goal
 
 pub pack-looked-requires : goal.pack-looked-requires

@@ -1,6 +1,6 @@
 use Rattle.jr_model.specs.References as references
 use Rattle.jr_scripts.specs.Reading.{word_of}
-use Rattle.jr_scripts.proofs.Doing.{does_call_on}
+use Rattle.jr_scripts.proofs.EnvCalls.{does_call_on}
 use Rattle.jr_scripts.proofs.env.Env.delete_local_ref.Goals as goal
 
 pub returns : goal.returns

@@ -1,7 +1,7 @@
 use Rattle.jr_word.specs.declared.handle.RefKind.TheVariants.{Weak}
 use Rattle.jr_model.specs.References as references
 use Rattle.jr_scripts.specs.Reading.{word_of}
-use Rattle.jr_scripts.proofs.Doing.{does_call_on}
+use Rattle.jr_scripts.proofs.EnvCalls.{does_call_on}
 use Rattle.jr_scripts.proofs.env.Env.delete_weak_global_ref.Goals as goal
 
 pub returns : goal.returns

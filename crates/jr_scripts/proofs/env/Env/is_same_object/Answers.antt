@@ -1,6 +1,6 @@
 use Rattle.jr_model.specs.References as references
 use Rattle.jr_scripts.specs.Reading.{word_of}
-use Rattle.jr_scripts.proofs.Doing.{does_call_on_both}
+use Rattle.jr_scripts.proofs.EnvCalls.{does_call_on_both}
 use Rattle.jr_scripts.proofs.env.Env.is_same_object.Goals as goal
 
 pub returns : goal.returns

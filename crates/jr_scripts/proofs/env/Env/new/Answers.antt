@@ -1,6 +1,6 @@
 use Rattle.std.proofs.Common.{◌≡◌}
 use Rattle.jr_model.specs.Frames.{fresh_frames}
-use Rattle.jr_scripts.proofs.Entering.{ready_new}
+use Rattle.jr_scripts.proofs.InsideGate.{ready_new}
 use Rattle.jr_scripts.proofs.env.Env.new.Goals as goal
 
 pub invariant_of-result : goal.invariant_of-result

@@ -1,6 +1,6 @@
 use Rattle.jr_model.specs.References as references
 use Rattle.jr_scripts.specs.Deeds.{packed}
-use Rattle.jr_scripts.proofs.Doing.{does_call_by, does_answer, does_refuse, packed_is}
+use Rattle.jr_scripts.proofs.EnvCalls.{does_call_by, does_answer, does_refuse, packed_is}
 use Rattle.jr_scripts.proofs.env.Env.new_plain.Goals as goal
 
 pub returns-in_err-made : goal.returns-in_err-made

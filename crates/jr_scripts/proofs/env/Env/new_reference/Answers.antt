@@ -1,7 +1,7 @@
 use Rattle.jr_model.specs.References as references
 use Rattle.jr_scripts.specs.Reading.{word_of}
 use Rattle.jr_scripts.specs.Deeds.{packed_if}
-use Rattle.jr_scripts.proofs.Doing.{does_call_on, does_answer, does_refuse, packed_if_is}
+use Rattle.jr_scripts.proofs.EnvCalls.{does_call_on, does_answer, does_refuse, packed_if_is}
 use Rattle.jr_scripts.proofs.env.Env.new_reference.Goals as goal
 
 pub returns-in_err-made : goal.returns-in_err-made

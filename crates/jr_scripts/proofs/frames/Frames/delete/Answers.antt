@@ -1,7 +1,7 @@
 use Rattle.std.proofs.Common.{rules, ◌≡◌, ◌==◌, cond, not, None, IsSome, slice_set, sym, ap, subst, ◌∙◌}
 use Rattle.arrayvec.specs.ArrayVec.{ArrayVec}
 use Rattle.arrayvec.proofs.ArrayVecLemmas.{filter-from_retain}
-use Rattle.jr_model.specs.Frames.{object_at, object_of, deleted}
+use Rattle.jr_model.specs.Frames.{object_at, object_of, without_local}
 use Rattle.jr_scripts.specs.declared.frames.Place.{Place}
 use Rattle.jr_scripts.specs.Table.{Table}
 use Rattle.jr_scripts.specs.Places.{table}
@@ -32,7 +32,7 @@ invariant_of-self c = deleted_table c.self.inside c.self.invariant c.args.handle
 pub returns-clause-deleted : goal.returns-clause-deleted
 returns-clause-deleted c =
     is_deleted c.self.inside c.self.invariant c.args.handle (some c) (places c) (places_are c) c.retain.new.self (kept c)
-    ∙ ap (λ (t : Table). deleted t.frames c.args.handle) c.self.view_is
+    ∙ ap (λ (t : Table). without_local t.frames c.args.handle) c.self.view_is
 
 pub returns-clause-only : goal.returns-clause-only
 returns-clause-only c =

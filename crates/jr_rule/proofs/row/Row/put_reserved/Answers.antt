@@ -1,0 +1,51 @@
+use Rattle.std.proofs.Common.{◌≡◌, ◌+◌, ◌<◌, refl, sym, ap, subst, ◌∙◌, arith}
+use Rattle.jr_word.specs.Config.{row_words}
+use Rattle.jr_rule.specs.Image.{element_at}
+use Rattle.jr_rule.specs.Passes.{known_of}
+use Rattle.jr_rule.specs.Rule.{Owes}
+use Rattle.jr_rule.proofs.FromMayKnow.{word_held}
+use Rattle.jr_rule.proofs.HeapOwed.{puts_own}
+use Rattle.jr_rule.proofs.HoldingsInSpace.{element_in_row}
+use Rattle.jr_rule.proofs.PassAfterStep.{held_next, took}
+use Rattle.jr_rule.proofs.Told.{PutOwn}
+use Rattle.jr_rule.proofs.row.Row.put_reserved.Goals as goal
+
+pub overflow_add-place : goal.overflow_add-place
+overflow_add-place c =
+    let p = c.args.pass.now in
+    let below = p.held.space.own c.args.place c.args.index (word_held p c.args.place c.args.index c.requires.own) in
+    let most = p.held.sized.limited.words in omega (arith, below, most)
+
+pub element_at-at-requires-clause-place : goal.element_at-at-requires-clause-place
+element_at-at-requires-clause-place c =
+    let p = c.args.pass.now in
+    let below = p.held.space.own c.args.place c.args.index (word_held p c.args.place c.args.index c.requires.own) in
+    subst (λ z. c.args.place + c.args.index < z.words) (c.requires.row).config below
+
+pub store-requires-clause-owes : goal.store-requires-clause-owes
+store-requires-clause-owes c =
+    let p = c.args.pass.now in
+    let a = c.args.place in
+    let i = c.args.index in
+    let v = c.args.word in
+    let at : element_at (known_of p).config (a + i) ≡ c.element_at-at.result = ap (λ z. element_at z (a + i)) (c.requires.row).config ∙ sym c.element_at-at.ensures in
+    subst (λ z. Owes (known_of p) z (λ n. v) (λ n. PutOwn a i v (known_of p) v)) at (puts_own (known_of p) (p.held.role_is ∙ c.requires.role) a i v (word_held p a i c.requires.own))
+
+pub invariant_of-pass : goal.invariant_of-pass
+invariant_of-pass c =
+    let p = c.args.pass.now in
+    let t = c.store.ensures.1 in
+    record { held = held_next p.seat.me c.args.word _ t p.thread p.role p.fresh p.held _ _ _ t.says.0 refl refl }
+
+pub returns-clause-step : goal.returns-clause-step
+returns-clause-step c =
+    let p = c.args.pass.now in
+    let t = c.store.ensures.1 in
+    took p _ c.args.word t _ c.store.ensures.0 t.says.0 refl refl refl (λ m. t.says.1)
+
+pub store-requires-clause-room : goal.store-requires-clause-room
+store-requires-clause-room c =
+    let p = c.args.pass.now in
+    let r = c.args.self.now.config in
+    let below = subst (λ z. c.args.place + c.args.index < z.words) (c.requires.row).config (p.held.space.own c.args.place c.args.index (word_held p c.args.place c.args.index c.requires.own)) in
+    ((c.requires.row).row, subst (λ n. n < row_words r) (sym c.element_at-at.ensures) (element_in_row r (c.args.place + c.args.index) below))
