@@ -70,7 +70,7 @@ word_stays s s' Text v stay w = w
 word_stays s s' Objects v stay w = ⊎_elim (λ e. inl e) (λ p. inr (stay v p)) w
 
 module _ (k : Known) where
-  -- a load of a header, from the turn after which the thread knows the one that stands there
+  -- a load of a header, from the legal step after which the thread knows the one that stands there
   pub loads_header : (o : ℕ) → 1 ≤ o → o ≤ k.config.objects
       → ((log : History) (words : List ℕ) (held : ℕ → Holdings) → IsFound k log words held → (h : HeaderParts) → IsKnown k.config words o h → LegalStep k.config k.last log k.thread [] words (hold held k.thread (with_header k.holdings o h)))
       → Owes k (header_at k.config o) (λ n. n) (SawHeader o k)

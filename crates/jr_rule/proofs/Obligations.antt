@@ -1,4 +1,4 @@
--- How what a step owes is made of a turn.
+-- How what a step owes is made of a legal step.
 use Rattle.std.proofs.Common.{◌≡◌, ◌≢◌, ℕ, List, get_or, slice_set, eqb, eq-eqb, ne_eqb, sym, ap, subst}
 use lib.Seq.{set-get_or}
 use prog.Atomic.{either}
@@ -12,11 +12,11 @@ use Rattle.jr_rule.proofs.Images.{image_same}
 use Rattle.jr_rule.proofs.Spaces.{hold_same}
 use Rattle.jr_rule.proofs.LegalSteps.{then, LegalStep}
 
--- a turn after which the thread holds this
+-- a legal step after which the thread holds this
 pub gaining : (k : Known) (log : History) (words : List ℕ) (held : ℕ → Holdings) (told : List Act → Known → Type 0) (acts : List Act) (g : Holdings) → LegalStep k.config k.last log k.thread acts words (hold held k.thread g) → told acts (known_at k log acts g) → Makes k log words held told
 gaining k log words held told acts g t says = record { acts = acts; holdings = g; legal = t.legal; image = t.image; says = says }
 
--- a turn after which each thread holds what it held
+-- a legal step after which each thread holds what it held
 pub quiet : (k : Known) (log : History) (words : List ℕ) (held : ℕ → Holdings) → IsFound k log words held → (words' : List ℕ) (told : List Act → Known → Type 0) (acts : List Act) → LegalStep k.config k.last log k.thread acts words' held → told acts (known_at k log acts k.holdings) → Makes k log words' held told
 quiet k log words held f words' told acts t says = record {
   acts = acts;

@@ -1,4 +1,4 @@
--- A step over plain words: a turn at whatever they show.
+-- A step over plain words: a legal step at whatever they show.
 use Rattle.std.proofs.Common.{◌≡◌, ℕ, Bool, List, [], ◌++◌, map, refl, sym, ap, subst, ◌∙◌}
 use Rattle.std.proofs.lemmas.List.{append-nil}
 use mathlib.Core.Logic.{dite, ∥∥₁_map}
@@ -41,7 +41,7 @@ nobody_then : (k : Known) (acts : List Act) (g : Holdings) (legal : IsLegal k.co
 unfolding goes_then
 nobody_then k acts g legal = refl
 
--- after a turn the words show what is known then
+-- after a legal step the words show what is known then
 shows_then : (s : Standing) (words words' : List ℕ) (k : Known) (acts : List Act) (g : Holdings) → Shows s words k → LegalStep k.config k.last k.seen k.thread acts words' (alone g) → Shows (standing_after s acts) words' (known_at k k.seen acts g)
 shows_then s words words' k acts g shows turn = record {
   pass = record {
@@ -71,7 +71,7 @@ turn_alone k acts words' g t first r = record {
   image = image_same k.config k.last words' (state (then k.seen k.thread acts)) (hold (alone k.holdings) t g) r.image (alone g) (alone_then k.holdings g t first);
 }
 
--- the acts, which may depend on what is known, are a turn at whatever the words show, and show this
+-- the acts, which may depend on what is known, are a legal step at whatever the words show, and show this
 pub record Turned (old : Standing) (words : List ℕ) (new : Standing) (words' : List ℕ) (acts : Known → List Act) (met : Known → Type 0) (shows : Known → Known → Type 0) : Type 0 where
   pub stands_is : (k : Known) → new ≡ standing_after old (acts k)
   pub turn : (k : Known) → Shows old words k → met k → (g : Holdings) × LegalStep k.config k.last k.seen k.thread (acts k) words' (alone g) × shows k (known_at k k.seen (acts k) g)

@@ -35,15 +35,15 @@ all_verbs = Make Plain ∷ MakeFrom Global ∷ MakeFrom Weak ∷ MakeFrom Local 
 -- ---- the shapes of commands: the arguments behind a verb
 
 -- how arguments are read as a command
-abbrev pub made : {X : Type 0} → Arguments X → (X → Command) → Reading (List (List ℕ)) Command
-made a make = record { has_form = a.has_form; in_range = a.in_range; value = λ ws. make (a.value ws) }
+abbrev pub command_of : {X : Type 0} → Arguments X → (X → Command) → Reading (List (List ℕ)) Command
+command_of a make = record { has_form = a.has_form; in_range = a.in_range; value = λ ws. make (a.value ws) }
 
 -- how the words behind a verb are read
 unfoldable pub behind_verb : Verb → Reading (List (List ℕ)) Command
-behind_verb (Make v) = made (one name) (λ n. commands.Make v n)
-behind_verb (MakeFrom v) = made (two name reference) (λ x. commands.MakeFrom v x.0 x.1)
-behind_verb (On v) = made (one reference) (λ r. commands.On v r)
-behind_verb (OnBoth v) = made (two reference reference) (λ x. commands.OnBoth v x.0 x.1)
+behind_verb (Make v) = command_of (one name) (λ n. commands.Make v n)
+behind_verb (MakeFrom v) = command_of (two name reference) (λ x. commands.MakeFrom v x.0 x.1)
+behind_verb (On v) = command_of (one reference) (λ r. commands.On v r)
+behind_verb (OnBoth v) = command_of (two reference reference) (λ x. commands.OnBoth v x.0 x.1)
 
 -- A command's words, and whether its names are names and its numbers within bounds.
 pub record Spelling : Type 0 where
