@@ -1,16 +1,15 @@
 -- One thread alone is never refused.
-use Rattle.std.proofs.Common.{◌≡◌, ℕ, ◌<◌, ◌≤◌, ⊎_elim, not, [], ◌∷◌, ◌++◌, ap, subst, ◌∙◌, arith}
+use Rattle.std.proofs.Common.{◌≡◌, ℕ, ◌<◌, ◌≤◌, ⊎_elim, [], ◌∷◌, ◌++◌, ap, subst, ◌∙◌, arith}
 use Rattle.std.proofs.lemmas.Bool.{cases_lt}
 use Rattle.std.proofs.Math.Logic.{∥∥₁_elim}
 use Rattle.jr_word.specs.declared.config.Config.{Config}
 use Rattle.jr_model.specs.declared.event.Role.TheVariants.{Outside}
 use Rattle.jr_model.specs.declared.event.Act.{Act}
 use Rattle.jr_model.specs.declared.event.Act.TheVariants.{Knock, ShutBusy}
-use Rattle.jr_model.specs.State.{is_outside}
 use Rattle.jr_model.specs.Steps.{Needs}
 use Rattle.jr_model.specs.History.{History, by, state, IsLegal}
 use Rattle.jr_model.proofs.Histories.{legal_push}
-use Rattle.jr_model.proofs.Counts.{count_all_false, outside_beyond}
+use Rattle.jr_model.proofs.Counts.{outside_beyond, nobody_knocks, nobody_is_busy}
 use Rattle.jr_steps.specs.declared.known.Known.{Known}
 use Rattle.jr_steps.specs.Knowing.{Standing, anything, Goes, IsOf, MayKnow, Took}
 
@@ -28,22 +27,16 @@ all_outside c last es mine one legal below out t = ⊎_elim
 -- who knocks is outside while another thread collects
 knocks_beside : {k k' : Known} → k.config.threads ≡ 1 → Goes k (Knock ∷ []) k' → ⊥
 knocks_beside {k} {k'} one g =
+    let before = k.seen ++ g.between in
     let n = needed Knock g in
-    let collects = n.1.1.1 in
-    let is = collects.1 in
-    let out = all_outside k.config k.last (k.seen ++ g.between) k.thread one n.0 n.1.0 n.1.1.0 collects.0 in
-    cc
+    nobody_knocks k.config k.last (state before) k.thread (all_outside k.config k.last before k.thread one n.0 n.1.0 n.1.1.0) n.1.1
 
 -- who is refused a shut is outside while others are counted
 busy_beside : {k k' : Known} (n : ℕ) → k.config.threads ≡ 1 → Goes k (ShutBusy n ∷ []) k' → ⊥
 busy_beside {k} {k'} n one g =
     let before = k.seen ++ g.between in
-    let needs = needed (ShutBusy n) g in
-    let out = all_outside k.config k.last before k.thread one needs.0 needs.1.0 needs.1.1.0 in
-    let none = count_all_false k.config.threads (λ t. not (is_outside ((state before).role t))) (λ t h. ap (λ r. not (is_outside r)) (out t)) in
-    let least : 1 ≤ n = needs.1.1.2 in
-    let zero_is : n ≡ 0 = needs.1.1.1 ∙ none in
-    omega arith
+    let m = needed (ShutBusy n) g in
+    nobody_is_busy k.config k.last n (state before) k.thread (all_outside k.config k.last before k.thread one m.0 m.1.0 m.1.1.0) m.1.1
 
 module _ {S : Type 0} {stands : S → Standing} {knows : S → Known → Type 0} {old new : S} {shows : Known → Known → Type 0} (fits : (k : Known) → knows old k → IsOf (stands old) k) (some : MayKnow knows old anything) (one : (stands old).config.threads ≡ 1) where
   never : (a : Act) → ((k k' : Known) → k.config.threads ≡ 1 → Goes k (a ∷ []) k' → ⊥) → Took stands knows old new (a ∷ []) anything shows → ⊥

@@ -1,5 +1,5 @@
 -- A call of the heap from its steps, for whatever was known.
-use Rattle.std.proofs.Common.{List, [], Result, IfErr}
+use Rattle.std.proofs.Common.{arith, List, [], Result, IfErr}
 use mathlib.Core.Logic.{∥∥₁_map}
 use Rattle.jr_word.specs.declared.fault.Fault.{Fault}
 use Rattle.jr_model.specs.declared.event.Act.{Act}
@@ -11,8 +11,12 @@ use Rattle.jr_model.specs.Refusals.{Grounds}
 use Rattle.jr_model.proofs.Stays.{did_nothing}
 use Rattle.jr_model.proofs.Windows.{window_nothing}
 use Rattle.jr_steps.specs.declared.known.Known.{Known}
-use Rattle.jr_steps.specs.Knowing.{Standing, IsOf, MayKnow, view}
+use Rattle.jr_steps.specs.Knowing.{Standing, IsOf, MayKnow, Takes, view}
 use Rattle.jr_heap.specs.Heap.{Called}
+
+-- what takes no step
+pub no_step : (k : Known) → Takes 0 k k
+no_step k = omega arith
 
 -- what the acts between two moments are to the call, and what it shows
 pub record IsCall {A : Type 0} (k k' : Known) (acts : List Act) (call : Call A) (answer : Result A Fault) (so : Type 0) : Type 0 where

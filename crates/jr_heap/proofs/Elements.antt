@@ -1,5 +1,5 @@
 -- Elements are read and written where the header of their object is known.
-use Rattle.std.proofs.Common.{arith, ◌≡◌, ◌≢◌, ◌<◌, ◌≤◌, ◌||◌, not, ℕ, true, false, nat_le, length, Some, [], ◌∷◌, ◌++◌, Result, Ok, Err, refl, ap, ◌∙◌, subst, sym}
+use Rattle.std.proofs.Common.{◌≡◌, ◌≢◌, ◌<◌, ◌≤◌, ◌||◌, not, ℕ, true, false, nat_le, length, Some, [], ◌∷◌, ◌++◌, Result, Ok, Err, refl, ap, ◌∙◌, subst, sym}
 use mathlib.Core.Logic.{∥∥₁_map}
 use Rattle.std.proofs.Math.Logic.{∥∥₁_elim}
 use Rattle.std.proofs.Props.{props}
@@ -23,10 +23,10 @@ use Rattle.jr_model.proofs.Windows.{window_act, window_nothing}
 use Rattle.jr_model.specs.Parts.{read_element, write_element}
 use Rattle.jr_model.specs.Checks.{is_plain, is_text, is_value}
 use Rattle.jr_steps.specs.declared.known.Known.{Known}
-use Rattle.jr_steps.specs.Knowing.{Standing, IsOf, MayKnow, keeps, view, state_of, KnowsHeader, IsWordNow, ShowsObject, Goes, Took, Takes}
+use Rattle.jr_steps.specs.Knowing.{Standing, IsOf, MayKnow, keeps, view, state_of, KnowsHeader, IsWordNow, ShowsObject, Goes, Took}
 use Rattle.jr_steps.proofs.StepFacts.{goes_did}
 use Rattle.jr_heap.specs.Heap.{Called, by_steps, HoldsHeader, LeavesObject, MayBeNamed, ReadsOfKind}
-use Rattle.jr_heap.proofs.Calling.{called_by}
+use Rattle.jr_heap.proofs.Calling.{no_step, called_by}
 use Rattle.jr_heap.proofs.StayFacts.{kind_in, object_later, header_later}
 use Rattle.jr_heap.proofs.Checks.{stop, pass, beyond, inside, word_is, value_is}
 
@@ -63,9 +63,6 @@ no_value o i v n kind f is l bad = pass (is_plain kind || is_text kind) NotArray
 is_written : (o i v n : ℕ) (kind : Kind) (f : Frames) → (is_plain kind || is_text kind) ≡ false → i < n → is_value kind v ≡ true → (refuse_if (is_plain kind || is_text kind) NotArray >> write_rest kind o i v n) f (Write o i v ∷ []) (Ok tt) f
 is_written o i v n kind f is l good = pass (is_plain kind || is_text kind) NotArray (write_rest kind o i v n) f (Write o i v ∷ []) (Ok tt) is
     (pass (nat_le n i) Range (write_last kind o i v) f (Write o i v ∷ []) (Ok tt) (inside n i l) (pass (not (is_value kind v)) Value (act (Write o i v)) f (Write o i v ∷ []) (Ok tt) (ap not good) (refl, refl, refl)))
-
-no_step : (k : Known) → Takes 0 k k
-no_step k = omega arith
 
 -- an element that was read is a word of its object's kind
 read_word : {k k' : Known} (o i v : ℕ) (h : HeaderParts) → Goes k (Read o i v ∷ []) k' → ShowsObject o h k' → IsWordNow h.kind v k'

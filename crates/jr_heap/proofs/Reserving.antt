@@ -26,7 +26,7 @@ use Rattle.jr_steps.specs.Holdings.{words_at, with_range}
 use Rattle.jr_steps.specs.Knowing.{Standing, IsOf, MayKnow, view, anything, keeps, ShowsUsed, WasUsed, ShowsRange, Took, Takes}
 use Rattle.jr_steps.proofs.StepFacts.{goes_did, used_now, may_then}
 use Rattle.jr_heap.specs.Heap.{Called, by_steps, reserve_steps, IsOwn, Gains}
-use Rattle.jr_heap.proofs.Calling.{called_by, called_none}
+use Rattle.jr_heap.proofs.Calling.{no_step, called_by, called_none}
 
 reserved : (n : ℕ) → n ≢ 0 → (f : Frames) → reserve n f (Reserve n ∷ []) (Ok tt) f
 reserved zero some f = absurd (some refl)
@@ -43,9 +43,6 @@ lost (suc n) l u some f = inr (inr (inl ((l, u), f, ReserveLost (suc n) l u ∷ 
 gains : (n place : ℕ) (j k : Known) → n ≢ 0 → (ws : List ℕ) → length ws ≡ n → k.holdings ≡ with_range j.holdings place ws → words_at place j.holdings.ranges ≡ [] → Gains n place j k
 gains zero place j k some ws long g none = absurd (some refl)
 gains (suc n) place j k some ws long g none = (ws, long, g, none)
-
-no_step : (k : Known) → Takes 0 k k
-no_step k = omega arith
 
 two_steps : (k j l : Known) → Takes 1 k j → Takes 1 j l → Takes 2 k l
 two_steps k j l a b = omega arith

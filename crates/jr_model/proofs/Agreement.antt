@@ -1,5 +1,5 @@
 -- Frames stay sound, and go on agreeing with the locals of their thread.
-use Rattle.std.proofs.Common.{◌≡◌, ◌≢◌, ◌<◌, ◌≤◌, ℕ, suc, lit≤, ◌==◌, ◌&&◌, ◌||◌, Bool, true, false, not, cond, Option, Some, None, IsSome, List, [], ◌∷◌, ◌++◌, map, length, nat_le, slice_index, slice_set, get_or-set_same, get_or-set_other, ◌+◌, nat_eq, refl, sym, ap, subst, ◌∙◌, arith, append_assoc}
+use Rattle.std.proofs.Common.{◌≡◌, ◌≢◌, ◌<◌, ◌≤◌, ℕ, suc, lit≤, ◌==◌, ◌||◌, Bool, true, false, not, cond, Option, Some, None, IsSome, List, [], ◌∷◌, ◌++◌, map, length, nat_le, slice_index, slice_set, get_or-set_same, get_or-set_other, ◌+◌, nat_eq, refl, sym, ap, subst, ◌∙◌, arith, append_assoc}
 use Rattle.std.proofs.lemmas.List.{append-nil, length-append, length-map}
 use Rattle.std.proofs.lemmas.List.Elements.{filter-append}
 use Rattle.std.specs.List.{filter, list_any, AllByRecursion}
@@ -13,7 +13,7 @@ use Rattle.jr_model.specs.Steps.{act_after, after}
 use Rattle.jr_model.specs.History.{History, state_from, state, mine, PassView, Did}
 use Rattle.jr_model.specs.Frames.{Frames, Agree, HaveOwnPlaces, AreSound, IsNewest, IsAdded, IsMove, pushes, adds, deletes, pops, frees, all_refs, without_local, drop_all, frames_before, freed, is_held, joined, last_frame, object_at, object_of, object_where, popped, pushed, with_last}
 use Rattle.jr_model.specs.Laws.{FreshAreSound, FramesStaySound, FramesStayAgreed, HandleIsAtPlace}
-use Rattle.jr_model.proofs.Updates.{at_number, eq_self, eq_other, eq_true, eq_false, handle_true}
+use Rattle.jr_model.proofs.Updates.{at_number, eq_self, eq_other, eq_true, eq_false, and_left, handle_true}
 use Rattle.jr_model.proofs.Histories.{state_append}
 use Rattle.jr_model.proofs.Stays.{cond_same, mine_did}
 
@@ -178,10 +178,6 @@ pub object_last : (p : LocalRef → Bool) (xs : List LocalRef) (r : LocalRef) �
 object_last p [] r e = rw e refl
 object_last p (x ∷ xs) r e = ap (λ z. cond (p x) (Some x.object) z) (object_last p xs r e)
 
-and_true : (a b : Bool) → (a && b) ≡ true → a ≡ true
-and_true true b e = refl
-and_true false b e = e
-
 not_true : (a : Bool) → not a ≡ true → a ≡ false
 not_true true e = sym e
 not_true false e = refl
@@ -196,7 +192,7 @@ object_new p (x ∷ xs) r n e = go (p x) refl n (λ m. object_new p xs r m e)
 
 module _ (last thread : ℕ) (f g : Frames) (r : LocalRef) (a : IsAdded last thread f r g) where
   unheld : is_held (all_refs f) r.handle.index ≡ false
-  unheld = not_true _ (and_true _ (nat_le (slice_index f.given r.handle.index) last) a.free)
+  unheld = not_true _ (and_left _ (nat_le (slice_index f.given r.handle.index) last) a.free)
 
   added_refs : 1 ≤ length f.frames → all_refs g ≡ all_refs f ++ r ∷ []
   added_refs l = ap (λ (x : Frames). all_refs x) a.new_is ∙ joined_last f.frames r l

@@ -7,7 +7,8 @@ use Rattle.jr_model.specs.State.{State, opening, is_outside, not_outside}
 use Rattle.std.proofs.lemmas.Bool.{cases_lt}
 use Rattle.jr_model.specs.declared.event.Role.TheVariants.{Outside, Within, Knocking, Collecting}
 use Rattle.jr_model.specs.declared.event.Event.{Event}
-use Rattle.jr_model.specs.Steps.{Needs, after}
+use Rattle.jr_model.specs.declared.event.Act.TheVariants.{Knock, ShutBusy}
+use Rattle.jr_model.specs.Steps.{ActNeeds, Needs, after}
 use Rattle.jr_model.specs.History.{History, state, IsLegal, role_after}
 use Rattle.jr_model.proofs.Histories.{kept_from}
 use Rattle.jr_model.proofs.Stays.{role_step}
@@ -87,3 +88,14 @@ module _ (c : Config) (last : ℕ) where
       (λ (h : t < c.threads). outside_true ((state es).role t) (count_none c.threads (λ u. not (is_outside ((state es).role u))) none t h))
       (λ (h : c.threads ≤ t). outside_beyond es l t h)
       (cases_lt t c.threads)
+
+  -- where all are outside, nobody knocks and nobody is refused a shut
+  pub nobody_knocks : (s : State) (t : ℕ) → ((u : ℕ) → s.role u ≡ Outside) → ActNeeds c last s t Knock → ⊥
+  nobody_knocks s t out needs = let collects = needs.1 in let is = collects.1 in let o = out collects.0 in cc
+
+  pub nobody_is_busy : (n : ℕ) (s : State) (t : ℕ) → ((u : ℕ) → s.role u ≡ Outside) → ActNeeds c last s t (ShutBusy n) → ⊥
+  nobody_is_busy n s t out needs =
+      let none = count_all_false c.threads (λ u. not (is_outside (s.role u))) (λ u h. ap (λ r. not (is_outside r)) (out u)) in
+      let least : 1 ≤ n = needs.2 in
+      let zero_is : n ≡ 0 = needs.1 ∙ none in
+      omega arith

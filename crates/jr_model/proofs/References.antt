@@ -99,7 +99,8 @@ module _ (c : Config) (last : ℕ) where
       let given = (gone_between h t before between (by u (Create h o)) k).given in
       let fresh = k.second.1.4 h refl refl in cc
 
-  given_act : (h : Handle) (s : State) (t : ℕ) (a : Act) → s.given h ≡ true → (act_after s t a).given h ≡ true
+  -- what was given stays so
+  pub given_act : (h : Handle) (s : State) (t : ℕ) (a : Act) → s.given h ≡ true → (act_after s t a).given h ≡ true
   given_act h s t (Create g o) i = at_handle (λ x. x ≡ true) s.given g h true (λ e. refl) (λ ne. i)
   given_act h s t _ i = i
 

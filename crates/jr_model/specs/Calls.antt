@@ -15,13 +15,17 @@ use Rattle.jr_model.specs.Refusals.{Grounds}
 abbrev pub Call : Type 0 → Type 1
 Call A = Frames → List Act → Result A Fault → Frames → Type 0
 
+-- no act, and this answer or refusal
+abbrev pub decided : {A : Type 0} → Result A Fault → Call A
+decided r old acts answer new = (acts ≡ []) × (answer ≡ r) × (new ≡ old)
+
 -- no act, and this answer
 abbrev pub done : {A : Type 0} → A → Call A
-done x old acts answer new = (acts ≡ []) × (answer ≡ Ok x) × (new ≡ old)
+done x = decided (Ok x)
 
 -- no act, and this refusal
 abbrev pub refuse : {A : Type 0} → Fault → Call A
-refuse e old acts answer new = (acts ≡ []) × (answer ≡ Err e) × (new ≡ old)
+refuse e = decided (Err e)
 
 -- this one act
 abbrev pub act : Act → Call (Unit {0})

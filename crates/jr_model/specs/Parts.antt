@@ -1,7 +1,8 @@
 -- The parts that calls are made of, among them the calls of gate, slots and heap.
-use Rattle.std.specs.Prelude.{◌≡◌, ◌+◌, ◌||◌, ℕ, zero, suc, Bool, not, cond, nat_lt, nat_le, Option, Some, None, Ok, List, [], ◌∷◌, map, length}
+use Rattle.std.specs.Prelude.{◌≡◌, ◌+◌, ◌||◌, ℕ, zero, suc, Bool, not, cond, nat_lt, nat_le, Option, Some, None, Result, Ok, Err, List, [], ◌∷◌, map, length}
 use Rattle.jr_word.specs.declared.handle.RefKind.{RefKind}
 use Rattle.jr_word.specs.declared.kind.Kind.{Kind}
+use Rattle.jr_word.specs.declared.fault.Fault.{Fault}
 use Rattle.jr_word.specs.declared.fault.Fault.TheVariants.{Null, NotArray, Range, RowFull, LocalsFull, SpaceFull, ObjectsFull, Raced, Barred, Busy, NoFrame, Value}
 use Rattle.jr_word.specs.declared.fault.Fault.TheVariants as fault
 use Rattle.jr_model.specs.declared.event.Found.{Found}
@@ -12,7 +13,7 @@ use Rattle.jr_model.specs.declared.frames.TheConstants.{FRAMES}
 use Rattle.jr_model.specs.State.{Handle, State}
 use Rattle.jr_model.specs.Frames.{object_of, pushed, popped, without_local, last_frame, drop_all}
 use Rattle.jr_model.specs.CollectionCalls.{collection_acts}
-use Rattle.jr_model.specs.Calls.{Call, ◌>>=◌, ◌>>◌, act, done, one_of, refuse, refuse_if, some_act, for_object}
+use Rattle.jr_model.specs.Calls.{Call, ◌>>=◌, ◌>>◌, act, decided, done, one_of, refuse, refuse_if, some_act, for_object}
 use Rattle.jr_model.specs.Checks.{Word, Parts, is_local, is_plain, is_text, is_value, type_found, type_local}
 
 -- THE GATE
@@ -80,16 +81,22 @@ delete h = do
 
 -- WHAT A REFERENCE IS TO
 
--- the object that a look found, none where the reference is cleared
-abbrev pub found_object : Found → Call (Option ℕ)
-found_object (Object o) = done (Some o)
-found_object Cleared = done None
-found_object Stale = refuse fault.Stale
+-- the answer of a look: the object found, none where the reference is cleared
+abbrev pub found_answer : Found → Result (Option ℕ) Fault
+found_answer (Object o) = Ok (Some o)
+found_answer Cleared = Ok None
+found_answer Stale = Err fault.Stale
 
--- the object of a local reference that stands
+abbrev pub found_object : Found → Call (Option ℕ)
+found_object r = decided (found_answer r)
+
+-- the answer for a local reference: the object of the one that stands
+abbrev pub local_answer : Option ℕ → Result (Option ℕ) Fault
+local_answer (Some o) = Ok (Some o)
+local_answer None = Err fault.Stale
+
 abbrev pub local_object : Option ℕ → Call (Option ℕ)
-local_object (Some o) = done (Some o)
-local_object None = refuse fault.Stale
+local_object z = decided (local_answer z)
 
 -- the object of a handle: no act for a local one, a look for any other
 abbrev pub looked_at : Handle → Call (Option ℕ)

@@ -13,6 +13,7 @@ use Rattle.jr_steps.specs.declared.known.Holdings.{Holdings}
 use Rattle.jr_steps.specs.Holdings.{InSpace, ShareNoWord, empty, header_in}
 use Rattle.jr_steps.specs.Says.{spot}
 use Rattle.jr_rule.specs.Image.{element_at, of_object, MayHold, IsImage}
+use Rattle.jr_rule.proofs.Readings.{none_some}
 use Rattle.jr_rule.proofs.HeapImages.{there, own_element, known_element}
 
 pub grasp_in_space : (c : Config) (last : ℕ) (log : History) (words : List ℕ) (held : ℕ → Holdings) → IsLegal c last log → IsImage c last words (state log) held → (t : ℕ) (g : Holdings) → held t ≡ g → InSpace c g
@@ -41,9 +42,6 @@ grasp_in_space c last log words held legal image t g is = subst (InSpace c) is (
         let x = there c last words s held image o h (image.space.header t o h e) in
         let long = x.long in
         subst (λ m. image.space.owner (spot m o h.place i) ≡ of_object o i) none (x.stands.owns i (omega arith))
-
-    none_some : (h : HeaderParts) → None ≡ Some h → ⊥
-    none_some h e = cc
 
     apart : (image.moving ≡ None) ⊎ (held t ≡ empty) → ShareNoWord (held t)
     apart which o r h k i j ne e f l m same = ⊎_elim

@@ -6,15 +6,11 @@ use Rattle.jr_word.specs.declared.config.Config.{Config}
 use Rattle.jr_word.specs.declared.slot.SlotParts.{SlotParts}
 use Rattle.jr_word.specs.declared.slot.SlotParts.TheVariants as slot
 use Rattle.jr_word.specs.Slot.{slot_word}
-use Rattle.jr_model.specs.declared.event.Act.{Act}
-use Rattle.jr_model.specs.declared.event.Act.TheVariants.{Create}
 use Rattle.jr_model.specs.State.{Handle, State, IsOccupied}
-use Rattle.jr_model.specs.Steps.{act_after}
 use Rattle.jr_model.specs.History.{History, state, state_from, IsLegal, IsLegalFrom}
 use Rattle.jr_model.specs.Refusals.{Sometime}
-use Rattle.jr_model.proofs.Updates.{at_handle}
 use Rattle.jr_model.proofs.Histories.{legal_append, state_append, kept_from}
-use Rattle.jr_model.proofs.References.{occupied_between}
+use Rattle.jr_model.proofs.References.{given_act, occupied_between}
 use Rattle.jr_model.proofs.Moments.{sometime_last}
 use Rattle.jr_steps.specs.declared.known.Known.{Known}
 use Rattle.jr_steps.specs.Acts.{is_occupied}
@@ -30,13 +26,9 @@ module _ (c : Config) (last : ℕ) (old new : History) (later : IsPrefix old new
   end : state new ≡ state_from (state old) later.0
   end = ap state (sym later.1) ∙ state_append old later.0
 
-  given_act : (h : Handle) (s : State) (t : ℕ) (a : Act) → s.given h ≡ true → (act_after s t a).given h ≡ true
-  given_act h s t (Create g o) i = at_handle (λ b. b ≡ true) s.given g h true (λ e. refl) (λ ne. i)
-  given_act h s t _ i = i
-
   -- what was given stays so
   given_later : (h : Handle) → (state old).given h ≡ true → (state new).given h ≡ true
-  given_later h e = subst (λ (s : State). s.given h ≡ true) (sym end) (kept_from c last (λ s. s.given h ≡ true) (λ s f i n. given_act h s f.thread f.act i) (state old) later.0 e between)
+  given_later h e = subst (λ (s : State). s.given h ≡ true) (sym end) (kept_from c last (λ s. s.given h ≡ true) (λ s f i n. given_act c last h s f.thread f.act i) (state old) later.0 e between)
 
   -- where a handle was given since, its index was occupied
   given_since : (h : Handle) → (state old).given h ≡ false → (state new).given h ≡ true → Sometime (λ s. IsOccupied last s h.index) old new

@@ -1,5 +1,9 @@
 -- What a word is read as.
-use Rattle.std.proofs.Common.{◌≡◌, Option, Some, IsSome, refl, sym, subst, ◌∙◌}
+use Rattle.std.proofs.Common.{◌≡◌, Option, Some, None, IsSome, refl, sym, subst, ◌∙◌}
+
+-- nothing is no value
+pub none_some : {A : Type 0} (x : A) → None ≡ Some x → ⊥
+none_some x e = cc
 
 -- a word that has a reading is read
 pub is_read : {A : Type 0} (r : Option A) (p : A) → r ≡ Some p → IsSome r

@@ -1,5 +1,5 @@
 -- One thread alone is never barred, and nobody is in its way.
-use Rattle.std.proofs.Common.{◌≡◌, ◌≢◌, ℕ, ◌<◌, ◌≤◌, ◌==◌, not, Bool, true, false, cond, [], ◌∷◌, refl, sym, ap, subst, ◌∙◌, arith}
+use Rattle.std.proofs.Common.{◌≡◌, ◌≢◌, ℕ, ◌<◌, ◌≤◌, ◌==◌, Bool, true, false, cond, [], ◌∷◌, refl, sym, ap, subst, ◌∙◌, arith}
 use Rattle.std.specs.List.{AllByRecursion}
 use mathlib.Core.Logic.{dite}
 use native.Mathlib.Decide.{ℕ_discrete}
@@ -7,10 +7,10 @@ use Rattle.jr_word.specs.declared.config.Config.{Config}
 use Rattle.jr_model.specs.declared.event.Role.TheVariants.{Outside}
 use Rattle.jr_model.specs.declared.event.Event.{Event}
 use Rattle.jr_model.specs.declared.event.Act.TheVariants.{Knock, ShutBusy}
-use Rattle.jr_model.specs.State.{State, opening, is_outside}
+use Rattle.jr_model.specs.State.{State, opening}
 use Rattle.jr_model.specs.Steps.{ActNeeds, after}
 use Rattle.jr_model.specs.History.{History, IsLegalFrom, IsLegal, role_after}
-use Rattle.jr_model.proofs.Counts.{count_all_false}
+use Rattle.jr_model.proofs.Counts.{nobody_knocks, nobody_is_busy}
 use Rattle.jr_model.proofs.Stays.{role_step}
 
 -- thread 0 did it, and nobody was in its way at the gate
@@ -23,23 +23,20 @@ pub record IsUndisturbed (e : Event) : Type 0 where
 abbrev OthersOutside : State → Type 0
 OthersOutside s = (t : ℕ) → t ≢ 0 → s.role t ≡ Outside
 
+-- so all are where it is outside too
+all_outside : (s : State) (t : ℕ) → OthersOutside s → t ≡ 0 → s.role t ≡ Outside → (u : ℕ) → s.role u ≡ Outside
+all_outside s t o zero_th out u = dite (ℕ_discrete u 0) (λ first. ap s.role (first ∙ sym zero_th) ∙ out) (o u)
+
 module _ (c : Config) (last : ℕ) (one : c.threads ≡ 1) where
   never_knocks : (s : State) (e : Event) → OthersOutside s → ActNeeds c last s e.thread e.act → e.thread ≡ 0 → e.act ≢ Knock
   never_knocks s e o needs zero_th is =
       let n = subst (λ a. ActNeeds c last s e.thread a) is needs in
-      let collects = n.1 in
-      dite (ℕ_discrete collects.0 0)
-      (λ same. absurd (let a : s.role collects.0 ≡ Outside = ap s.role (same ∙ sym zero_th) ∙ n.0 in let b = collects.1 in cc))
-      (λ other. absurd (let a = o collects.0 other in let b = collects.1 in cc))
+      nobody_knocks c last s e.thread (all_outside s e.thread o zero_th n.0) n
 
   never_busy : (s : State) (e : Event) → OthersOutside s → ActNeeds c last s e.thread e.act → e.thread ≡ 0 → (n : ℕ) → e.act ≢ ShutBusy n
   never_busy s e o needs zero_th n is =
       let m = subst (λ a. ActNeeds c last s e.thread a) is needs in
-      let out : (t : ℕ) → s.role t ≡ Outside = λ t. dite (ℕ_discrete t 0) (λ first. ap s.role (first ∙ sym zero_th) ∙ m.0) (o t) in
-      let none = count_all_false c.threads (λ t. not (is_outside (s.role t))) (λ t h. ap (λ r. not (is_outside r)) (out t)) in
-      let least : 1 ≤ n = m.2 in
-      let zero_is : n ≡ 0 = m.1 ∙ none in
-      absurd (omega arith)
+      nobody_is_busy c last n s e.thread (all_outside s e.thread o zero_th m.0) m
 
   others_stay : (s : State) (e : Event) → OthersOutside s → e.thread ≡ 0 → OthersOutside (after s e)
   others_stay s e o zero_th t other = role_step s e.thread e.act t ∙ go (e.thread == t) refl

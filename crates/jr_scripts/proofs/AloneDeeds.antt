@@ -20,6 +20,7 @@ use Rattle.jr_model.specs.References as references
 use Rattle.jr_model.specs.Checks.{Word, Nothing, Malformed, Parts, is_of_kind}
 use Rattle.jr_model.specs.RefusedCalls.{ChangesNothing}
 use Rattle.jr_model.proofs.Moments.{prefix_self, prefix_trans}
+use Rattle.jr_model.proofs.Updates.{kind_self}
 use Rattle.jr_model.proofs.RefusedCalls.{refusals_change_nothing}
 use Rattle.jr_syntax.specs.declared.name.Reference.{Reference}
 use Rattle.jr_syntax.specs.declared.command.Command.{Command}
@@ -52,11 +53,6 @@ was_alone {old = old} {new = new} led a = record {
 not_null : (h : HandleParts) → IsHandle h → handle_word h ≢ 0
 not_null h is e = grind (arith, common_steps)
 
-same_kind_self : (k : RefKind) → same_kind k k ≡ true
-same_kind_self Local = refl
-same_kind_self Global = refl
-same_kind_self Weak = refl
-
 null_fits : (w : ℕ) (k : RefKind) (a : Word) → w ≡ 0 → IsReadAs w a → is_of_kind k a ≡ true
 null_fits w k Nothing null reads = refl
 null_fits w k Malformed null reads = refl
@@ -65,7 +61,7 @@ null_fits w k (Parts h) null reads = absurd (not_null h reads.0 (sym reads.1 ∙
 kind_fits : (w : ℕ) (h : HandleParts) (a : Word) → IsReadAs w (Parts h) → IsReadAs w a → is_of_kind h.kind a ≡ true
 kind_fits w h Nothing is reads = refl
 kind_fits w h Malformed is reads = refl
-kind_fits w h (Parts g) is reads = subst (λ (x : HandleParts). same_kind h.kind x.kind ≡ true) (handle_word-injective h g is.0 reads.0 (sym is.1 ∙ reads.1)) (same_kind_self h.kind)
+kind_fits w h (Parts g) is reads = subst (λ (x : HandleParts). same_kind h.kind x.kind ≡ true) (handle_word-injective h g is.0 reads.0 (sym is.1 ∙ reads.1)) (kind_self h.kind)
 
 module _ (turns : ℕ) where
   stayed : {A : Type 0} (p : PassView) (f : Frames) (answer : Result A Fault) → IfErr answer (IsAloneFault turns p f) → LedAlone turns p p f answer

@@ -12,14 +12,13 @@ use Rattle.jr_model.specs.State.{Handle}
 use Rattle.jr_model.specs.History.{PassView, Did}
 use Rattle.jr_model.specs.Frames.{Frames}
 use Rattle.jr_model.specs.Calls.{Ran, act, refuse, ◌>>◌}
-use Rattle.jr_model.specs.Parts.{delete, delete_found}
+use Rattle.jr_model.specs.Parts.{delete, delete_found, found_answer}
 use Rattle.jr_model.proofs.Runs.{ran_act, ran_some_act, ran_refuse, ran_then, did_legal}
 use Rattle.jr_steps.specs.declared.known.Known.{Known}
 use Rattle.jr_steps.specs.Acts.{found_of}
 use Rattle.jr_steps.specs.Knowing.{Standing, view, anything, keeps, HasLooked, MayKnow, Took, Goes}
 use Rattle.jr_steps.proofs.StepFacts.{goes_did, looked_now}
 use Rattle.jr_scripts.specs.Performing.{Performed, moment}
-use Rattle.jr_scripts.specs.Reading.{found_answer}
 use Rattle.jr_scripts.proofs.SameRoom.{as_before, still_before}
 use Rattle.jr_scripts.proofs.Spending.{Spending, made_of, spend_first, spend_step}
 use Rattle.jr_scripts.proofs.HandedOn.{handed_on}

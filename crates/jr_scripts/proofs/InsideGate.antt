@@ -119,7 +119,7 @@ module _ {S : Type 0} {stands : S → Standing} {knows : S → Known → Type 0}
         record { call = p; ready = ready_after {so = lets_go} r (same_owner t) p }
 
     -- work between an entry and its exit
-    completes : {a b c d : S} {t u : Table} (silent : Config → ℕ) {so : Known → Known → Type 0} {answer : Result A Fault} → StandsReady stands knows Outside a t → Took stands knows a b (Enter ∷ []) anything keeps
+    pub completes : {a b c d : S} {t u : Table} (silent : Config → ℕ) {so : Known → Known → Type 0} {answer : Result A Fault} → StandsReady stands knows Outside a t → Took stands knows a b (Enter ∷ []) anything keeps
         → Performed stands knows b c t.frames u.frames (silent (stands b).config) (Holds t.frames) (λ s. work (stands b).config (stands b).last (stands b).thread) answer (λ j k. so j k × Holds u.frames k) → KeepsOwner t u → Took stands knows c d (Leave ∷ []) anything lets_go
         → Completes stands knows a d t u (silent (stands a).config) (entered (work (stands a).config (stands a).last (stands a).thread)) answer
     completes silent {so = so} r e p o l = let q = calls_entered silent {so = so} r.role_is e p l in record { call = q; ready = ready_after {so = lets_go} r o q }

@@ -11,12 +11,11 @@ use Rattle.jr_model.specs.Frames.{Frames, object_of}
 use Rattle.jr_model.specs.Refusals.{Grounds}
 use Rattle.jr_model.specs.Calls.{Call, Ran, refuse_if, done, some_act, ◌>>=◌}
 use Rattle.jr_model.specs.Checks.{is_local, type_found, type_local}
-use Rattle.jr_model.specs.Parts.{looked_at, local_object, found_object, type_at}
+use Rattle.jr_model.specs.Parts.{looked_at, local_answer, local_object, found_answer, found_object, type_at}
 use Rattle.jr_model.specs.Checks.{Parts}
 use Rattle.jr_model.proofs.Stays.{did_nothing}
 use Rattle.jr_model.proofs.Windows.{window_nothing}
 use Rattle.jr_model.proofs.Runs.{ran_some_act, ran_refuse, ran_done, ran_then, ran_give, did_legal}
-use Rattle.jr_scripts.specs.Reading.{found_answer, local_answer}
 
 -- a test that refuses, and one that is passed
 pub ran_refused : {B : Type 0} (p : PassView) (f : Frames) (b : Bool) (e : Fault) (next : Unit {0} → Call B) → b ≡ true → Grounds p.seen p e → IsLegal p.config p.last p.seen → Ran p p f f (refuse_if b e >>= next) (Err e)

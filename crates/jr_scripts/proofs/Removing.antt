@@ -14,7 +14,7 @@ use Rattle.jr_model.specs.History.{PassView, IsLegal}
 use Rattle.jr_model.specs.Frames.{Frames, without_local, object_of}
 use Rattle.jr_model.specs.Calls.{Ran, ◌>>=◌}
 use Rattle.jr_model.specs.Checks.{Nothing, Malformed, Parts, is_local, is_out_of_bounds, is_foreign}
-use Rattle.jr_model.specs.Parts.{delete, delete_found, drop_local, looked_at}
+use Rattle.jr_model.specs.Parts.{delete, delete_found, drop_local, local_answer, looked_at}
 use Rattle.jr_model.proofs.Agreement.{spares_places}
 use Rattle.jr_model.proofs.Windows.{window_act}
 use Rattle.jr_model.proofs.Runs.{ran_done, ran_then, ran_err}
@@ -23,7 +23,6 @@ use Rattle.jr_steps.specs.Knowing.{Standing, IsOf, view, anything, keeps, HasOpt
 use Rattle.jr_steps.proofs.StepFacts.{goes_did}
 use Rattle.jr_model.specs.References.{removal, local_removal}
 use Rattle.jr_scripts.specs.Table.{IsOnly}
-use Rattle.jr_scripts.specs.Reading.{local_answer}
 use Rattle.jr_scripts.specs.Performing.{Performed, Calls}
 use Rattle.jr_scripts.proofs.Spending.{made_of, spending, spend_step}
 use Rattle.jr_scripts.proofs.SameRoom.{as_before}

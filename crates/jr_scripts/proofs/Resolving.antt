@@ -11,7 +11,7 @@ use Rattle.jr_model.specs.History.{PassView, IsLegal}
 use Rattle.jr_model.specs.Frames.{Frames, object_of, object_at}
 use Rattle.jr_model.specs.Calls.{Call, Ran, done, ◌>>=◌}
 use Rattle.jr_model.specs.Checks.{Word, Parts, is_local, is_malformed, is_out_of_bounds, is_foreign, type_found, type_local}
-use Rattle.jr_model.specs.Parts.{look, looked, looked_at, type_at}
+use Rattle.jr_model.specs.Parts.{found_answer, local_answer, look, looked, looked_at, type_at}
 use Rattle.jr_model.specs.References.{resolved}
 use Rattle.jr_model.proofs.Stays.{did_nothing}
 use Rattle.jr_model.proofs.Windows.{window_nothing}
@@ -20,7 +20,7 @@ use Rattle.jr_steps.specs.declared.known.Known.{Known}
 use Rattle.jr_steps.specs.Knowing.{Standing, IsOf, view, anything, keeps, Holds, Goes, Took}
 use Rattle.jr_steps.proofs.StepFacts.{goes_did, looked_present}
 use Rattle.jr_scripts.specs.Performing.{FoundPresent, Resolves, Calls}
-use Rattle.jr_scripts.specs.Reading.{word_of, found_answer, local_answer}
+use Rattle.jr_scripts.specs.Reading.{word_of}
 use Rattle.jr_model.specs.References.{typing}
 use Rattle.jr_scripts.specs.declared.reference.Reference.{Reference}
 use Rattle.jr_scripts.specs.declared.reference.Reference.TheVariants as reference

@@ -1,11 +1,7 @@
 -- A word as the calls read it.
-use Rattle.std.specs.Prelude.{◌≡◌, ◌≢◌, ℕ, Option, Some, None, Result, Ok, Err}
+use Rattle.std.specs.Prelude.{◌≡◌, ◌≢◌, ℕ}
 use Rattle.jr_word.specs.declared.handle.RefKind.TheVariants.{Local}
-use Rattle.jr_word.specs.declared.fault.Fault.{Fault}
-use Rattle.jr_word.specs.declared.fault.Fault.TheVariants as fault
 use Rattle.jr_word.specs.Handle.{handle_word, IsHandle}
-use Rattle.jr_model.specs.declared.event.Found.{Found}
-use Rattle.jr_model.specs.declared.event.Found.TheVariants as found
 use Rattle.jr_model.specs.State.{Handle}
 use Rattle.jr_model.specs.Checks.{Word, Nothing, Malformed, Parts}
 use Rattle.jr_scripts.specs.declared.reference.Reference.{Reference}
@@ -27,13 +23,3 @@ word_of (reference.Parts h) = Parts h
 abbrev pub OwnerFits : Reference → Type 0
 OwnerFits (reference.Parts h) = h.kind ≢ Local → h.owner ≡ 0
 OwnerFits _ = Unit {0}
-
--- the answers of looks
-abbrev pub found_answer : Found → Result (Option ℕ) Fault
-found_answer (found.Object o) = Ok (Some o)
-found_answer found.Cleared = Ok None
-found_answer found.Stale = Err fault.Stale
-
-abbrev pub local_answer : Option ℕ → Result (Option ℕ) Fault
-local_answer (Some o) = Ok (Some o)
-local_answer None = Err fault.Stale

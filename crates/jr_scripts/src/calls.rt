@@ -1,138 +1,221 @@
 //! The calls for the references of one thread, over its steps and its local references.
 ghost use Rattle.std.specs.Prelude.{◌≡◌, ◌≢◌, Some, None, Ok, IfOk, IfSome};
 ghost use Rattle.jr_word.specs.declared.handle.RefKind.TheVariants.{Local};
-ghost use Rattle.jr_model.specs.declared.event.Role.TheVariants.{Outside, Within};
+ghost use Rattle.jr_model.specs.declared.event.Role.TheVariants.{Within};
 ghost use Rattle.jr_model.specs.Frames.{Frames as LocalFrames};
 ghost use Rattle.jr_model.specs.Checks.{Parts};
-ghost use Rattle.jr_model.specs.References as references;
 ghost use Rattle.jr_model.specs.References.{new_local, creation, local_creation, comparison, making, removal, local_removal};
 ghost use Rattle.jr_steps.specs.Knowing.{MayKnow, HasOptional};
 ghost use Rattle.jr_scripts.specs.Reading.{word_of, OwnerFits};
-ghost use Rattle.jr_scripts.specs.Performing.{Calls, MakesLocal, MakesPlain};
-ghost use Rattle.jr_scripts.specs.Ready.{StandsReady, KeepsOwner, Completes};
+ghost use Rattle.jr_scripts.specs.Performing.{Calls, MakesLocal, MakesObject};
+ghost use Rattle.jr_scripts.specs.Ready.{StandsReady, KeepsOwner};
 
 use crate::frames::Frames;
 use crate::object::publish;
 use crate::reference::{Reference, belongs_elsewhere, lies_outside, names_kind, names_local};
 use crate::resolve::{resolve, resolve_both, type_of};
 use crate::row::{create, delete};
-use jr_gate::enter;
+use crate::work::Work;
 use jr_steps::Steps;
 use jr_word::{Fault, HandleParts, Kind, RefKind};
 
-/// Makes a plain object and a local reference to it: E9, E11, E13.
-pub fn new_plain<S: Steps>(steps: &mut S, frames: &mut Frames) -> Result<HandleParts, Fault>
-    requires { StandsReady S.stands S.knows Outside steps.old frames.old }
-    ensures call { Completes S.stands S.knows steps.old steps.new frames.old frames.new (S.stands steps.old).config.objects (references.new_plain (S.stands steps.old).config (S.stands steps.old).last (S.stands steps.old).thread) result }
-    ensures owner { IfOk result (λ h. (h.kind ≡ Local) × (h.owner ≡ (S.stands steps.old).thread)) }
-{
-    let inside = enter(steps)?;
-    let made = make_plain(steps, frames);
-    inside.leave(steps);
-    made
+/// A plain object and a local reference to it: E9, E11.
+#[derive(Clone, Copy)]
+pub struct Making;
+
+impl<S: Steps> Work<S> for Making {
+    ghost use Rattle.std.specs.Prelude.{◌≡◌};
+    ghost use Rattle.jr_word.specs.declared.handle.RefKind.TheVariants.{Local};
+    ghost use Rattle.jr_model.specs.References.{making};
+    ghost use Rattle.jr_scripts.specs.Performing.{MayLearn};
+
+    type Answer = HandleParts;
+
+    ghost can_work = { λ _. Unit {0} };
+
+    ghost silent = { λ c. c.objects };
+
+    ghost asked = { λ _ c last t. making c last t };
+
+    ghost learns = { λ j k. MayLearn j k };
+
+    ghost gives = { λ t h. (h.kind ≡ Local) × (h.owner ≡ t) };
+
+    fn work(&self, steps: &mut S, frames: &mut Frames) -> Result<HandleParts, Fault> {
+        make_plain(steps, frames)
+    }
 }
 
-/// Makes a global or weak global reference to what a reference names, none for NULL: E2, E3, E8, E13.
-pub fn new_reference<S: Steps>(
-    steps: &mut S,
-    frames: &Frames,
-    kind: RefKind,
-    reference: Reference,
-) -> Result<Option<HandleParts>, Fault>
-    requires ready { StandsReady S.stands S.knows Outside steps.old frames.now }
-    requires kind { kind ≢ Local }
-    requires fits { OwnerFits reference }
-    ensures call { Completes S.stands S.knows steps.old steps.new frames.now frames.now 0 (references.new_reference (S.stands steps.old).config (S.stands steps.old).last (S.stands steps.old).thread kind (word_of reference)) result }
-    ensures owner { IfOk result (λ made. IfSome made (λ h. h.owner ≡ 0)) }
-{
-    let inside = enter(steps)?;
-    let made = create_within(steps, frames, kind, reference);
-    inside.leave(steps);
-    made
+/// A global or weak global reference to what a reference names, none for NULL: E2, E3, E8.
+#[derive(Clone, Copy)]
+pub struct Creation {
+    /// Of which kind, not local.
+    pub kind: RefKind,
+    /// What it shall name.
+    pub target: Reference,
 }
 
-/// A local reference to what a reference names, none for NULL.
-pub fn new_local_ref<S: Steps>(
-    steps: &mut S,
-    frames: &mut Frames,
-    reference: Reference,
-) -> Result<Option<HandleParts>, Fault>
-    requires ready { StandsReady S.stands S.knows Outside steps.old frames.old }
-    requires fits { OwnerFits reference }
-    ensures call { Completes S.stands S.knows steps.old steps.new frames.old frames.new 0 (references.new_local_ref (S.stands steps.old).config (S.stands steps.old).last (S.stands steps.old).thread (word_of reference)) result }
-    ensures owner { IfOk result (λ made. IfSome made (λ h. (h.kind ≡ Local) × (h.owner ≡ (S.stands steps.old).thread))) }
-{
-    let inside = enter(steps)?;
-    let made = create_local_within(steps, frames, reference);
-    inside.leave(steps);
-    made
+impl<S: Steps> Work<S> for Creation {
+    ghost use Rattle.std.specs.Prelude.{◌≡◌, ◌≢◌, IfSome};
+    ghost use Rattle.jr_word.specs.declared.handle.RefKind.TheVariants.{Local};
+    ghost use Rattle.jr_steps.specs.Knowing.{keeps};
+    ghost use Rattle.jr_model.specs.References.{creation};
+    ghost use Rattle.jr_scripts.specs.Reading.{word_of, OwnerFits};
+
+    type Answer = Option<HandleParts>;
+
+    ghost can_work = { λ w. (w.kind ≢ Local) × OwnerFits w.target };
+
+    ghost silent = { λ _. 0 };
+
+    ghost asked = { λ w c last t. creation c last t w.kind (word_of w.target) };
+
+    ghost learns = { λ j k. keeps j k };
+
+    ghost gives = { λ t made. IfSome made (λ h. h.owner ≡ 0) };
+
+    fn work(&self, steps: &mut S, frames: &mut Frames) -> Result<Option<HandleParts>, Fault> {
+        create_within(steps, frames, self.kind, self.target)
+    }
 }
 
-/// Deletes a global or weak global reference by the call for the kind: E2, E4, E13.
-pub fn delete_reference<S: Steps>(
-    steps: &mut S,
-    frames: &Frames,
-    kind: RefKind,
-    reference: Reference,
-) -> Result<(), Fault>
-    requires ready { StandsReady S.stands S.knows Outside steps.old frames.now }
-    requires kind { kind ≢ Local }
-    requires fits { OwnerFits reference }
-    ensures { Completes S.stands S.knows steps.old steps.new frames.now frames.now 0 (references.delete_reference (S.stands steps.old).config (S.stands steps.old).last (S.stands steps.old).thread kind (word_of reference)) result }
-{
-    let inside = enter(steps)?;
-    let deleted = delete_within(steps, kind, reference);
-    inside.leave(steps);
-    deleted
+/// A local reference to what a reference names, none for NULL: E2, E3, E9.
+#[derive(Clone, Copy)]
+pub struct LocalCreation(pub Reference);
+
+impl<S: Steps> Work<S> for LocalCreation {
+    ghost use Rattle.std.specs.Prelude.{◌≡◌, IfSome};
+    ghost use Rattle.jr_word.specs.declared.handle.RefKind.TheVariants.{Local};
+    ghost use Rattle.jr_steps.specs.Knowing.{keeps};
+    ghost use Rattle.jr_model.specs.References.{local_creation};
+    ghost use Rattle.jr_scripts.specs.Reading.{word_of, OwnerFits};
+
+    type Answer = Option<HandleParts>;
+
+    ghost can_work = { λ w. OwnerFits w.0 };
+
+    ghost silent = { λ _. 0 };
+
+    ghost asked = { λ w c last t. local_creation c last t (word_of w.0) };
+
+    ghost learns = { λ j k. keeps j k };
+
+    ghost gives = { λ t made. IfSome made (λ h. (h.kind ≡ Local) × (h.owner ≡ t)) };
+
+    fn work(&self, steps: &mut S, frames: &mut Frames) -> Result<Option<HandleParts>, Fault> {
+        create_local_within(steps, frames, self.0)
+    }
 }
 
-/// Deletes a local reference of the thread: E2, E3, E4, E13.
-pub fn delete_local_ref<S: Steps>(
-    steps: &mut S,
-    frames: &mut Frames,
-    reference: Reference,
-) -> Result<(), Fault>
-    requires { StandsReady S.stands S.knows Outside steps.old frames.old }
-    ensures { Completes S.stands S.knows steps.old steps.new frames.old frames.new 0 (references.delete_local_ref (S.stands steps.old).config (S.stands steps.old).last (S.stands steps.old).thread (word_of reference)) result }
-{
-    let inside = enter(steps)?;
-    let deleted = delete_local_within(steps, frames, reference);
-    inside.leave(steps);
-    deleted
+/// Deletes a global or weak global reference by the call for the kind: E2, E4.
+#[derive(Clone, Copy)]
+pub struct Removal {
+    /// Of which kind, not local.
+    pub kind: RefKind,
+    /// The reference.
+    pub target: Reference,
 }
 
-/// Whether two references are to one object, or both to none.
-pub fn is_same_object<S: Steps>(
-    steps: &mut S,
-    frames: &Frames,
-    left: Reference,
-    right: Reference,
-) -> Result<bool, Fault>
-    requires ready { StandsReady S.stands S.knows Outside steps.old frames.now }
-    requires left { OwnerFits left }
-    requires right { OwnerFits right }
-    ensures { Completes S.stands S.knows steps.old steps.new frames.now frames.now 0 (references.is_same_object (S.stands steps.old).config (S.stands steps.old).last (S.stands steps.old).thread (word_of left) (word_of right)) result }
-{
-    let inside = enter(steps)?;
-    let same = compare_within(steps, frames, left, right);
-    inside.leave(steps);
-    same
+impl<S: Steps> Work<S> for Removal {
+    ghost use Rattle.std.specs.Prelude.{◌≢◌};
+    ghost use Rattle.jr_word.specs.declared.handle.RefKind.TheVariants.{Local};
+    ghost use Rattle.jr_steps.specs.Knowing.{keeps};
+    ghost use Rattle.jr_model.specs.References.{removal};
+    ghost use Rattle.jr_scripts.specs.Reading.{word_of, OwnerFits};
+
+    type Answer = ();
+
+    ghost can_work = { λ w. (w.kind ≢ Local) × OwnerFits w.target };
+
+    ghost silent = { λ _. 0 };
+
+    ghost asked = { λ w c last t. removal c w.kind (word_of w.target) };
+
+    ghost learns = { λ j k. keeps j k };
+
+    ghost gives = { λ _ _. Unit {0} };
+
+    fn work(&self, steps: &mut S, frames: &mut Frames) -> Result<(), Fault> {
+        delete_within(steps, self.kind, self.target)
+    }
 }
 
-/// The type of a reference: 1 local, 2 global, 3 weak global, else 0: E13 alone.
-pub fn get_object_ref_type<S: Steps>(
-    steps: &mut S,
-    frames: &Frames,
-    reference: Reference,
-) -> Result<u8, Fault>
-    requires ready { StandsReady S.stands S.knows Outside steps.old frames.now }
-    requires fits { OwnerFits reference }
-    ensures { Completes S.stands S.knows steps.old steps.new frames.now frames.now 0 (references.get_object_ref_type (S.stands steps.old).config (S.stands steps.old).last (S.stands steps.old).thread (word_of reference)) result }
-{
-    let inside = enter(steps)?;
-    let kind = type_of(steps, frames, reference);
-    inside.leave(steps);
-    Ok(kind)
+/// Deletes a local reference of the thread: E2, E3, E4.
+#[derive(Clone, Copy)]
+pub struct LocalRemoval(pub Reference);
+
+impl<S: Steps> Work<S> for LocalRemoval {
+    ghost use Rattle.jr_steps.specs.Knowing.{keeps};
+    ghost use Rattle.jr_model.specs.References.{local_removal};
+    ghost use Rattle.jr_scripts.specs.Reading.{word_of};
+
+    type Answer = ();
+
+    ghost can_work = { λ _. Unit {0} };
+
+    ghost silent = { λ _. 0 };
+
+    ghost asked = { λ w c last t. local_removal c t (word_of w.0) };
+
+    ghost learns = { λ j k. keeps j k };
+
+    ghost gives = { λ _ _. Unit {0} };
+
+    fn work(&self, steps: &mut S, frames: &mut Frames) -> Result<(), Fault> {
+        delete_local_within(steps, frames, self.0)
+    }
+}
+
+/// Whether two references are to one object, or both to none: E2, E3.
+#[derive(Clone, Copy)]
+pub struct Comparison(pub Reference, pub Reference);
+
+impl<S: Steps> Work<S> for Comparison {
+    ghost use Rattle.jr_steps.specs.Knowing.{keeps};
+    ghost use Rattle.jr_model.specs.References.{comparison};
+    ghost use Rattle.jr_scripts.specs.Reading.{word_of, OwnerFits};
+
+    type Answer = bool;
+
+    ghost can_work = { λ w. OwnerFits w.0 × OwnerFits w.1 };
+
+    ghost silent = { λ _. 0 };
+
+    ghost asked = { λ w c last t. comparison c last t (word_of w.0) (word_of w.1) };
+
+    ghost learns = { λ j k. keeps j k };
+
+    ghost gives = { λ _ _. Unit {0} };
+
+    fn work(&self, steps: &mut S, frames: &mut Frames) -> Result<bool, Fault> {
+        compare_within(steps, frames, self.0, self.1)
+    }
+}
+
+/// The type of a reference: 1 local, 2 global, 3 weak global, else 0.
+#[derive(Clone, Copy)]
+pub struct Typing(pub Reference);
+
+impl<S: Steps> Work<S> for Typing {
+    ghost use Rattle.jr_steps.specs.Knowing.{keeps};
+    ghost use Rattle.jr_model.specs.References.{typing};
+    ghost use Rattle.jr_scripts.specs.Reading.{word_of, OwnerFits};
+
+    type Answer = u8;
+
+    ghost can_work = { λ w. OwnerFits w.0 };
+
+    ghost silent = { λ _. 0 };
+
+    ghost asked = { λ w c last t. typing c t (word_of w.0) };
+
+    ghost learns = { λ j k. keeps j k };
+
+    ghost gives = { λ _ _. Unit {0} };
+
+    fn work(&self, steps: &mut S, frames: &mut Frames) -> Result<u8, Fault> {
+        Ok(type_of(steps, frames, self.0))
+    }
 }
 
 /// A plain object and a local reference to it, within the gate: E9, E11.

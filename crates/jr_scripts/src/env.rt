@@ -2,9 +2,10 @@
 ghost use Rattle.jr_model.specs.declared.event.Role.TheVariants.{Outside};
 ghost use Rattle.jr_scripts.specs.Ready.{StandsReady};
 
-use crate::calls;
+use crate::calls::{Comparison, Creation, LocalCreation, LocalRemoval, Making, Removal, Typing};
 use crate::frames::Frames;
 use crate::reference::Reference;
+use crate::work::make;
 use jr_steps::Steps;
 use jr_word::{Fault, Handle, RefKind};
 
@@ -43,7 +44,7 @@ impl<S: Steps> Env<S> {
     pub fn new_plain(&mut self) -> Result<Handle, Fault>
         ensures { Does S.stands S.knows self.old.steps self.new.steps self.old.frames.frames self.new.frames.frames new_plain result }
     {
-        let made = calls::new_plain(&mut self.steps, &mut self.frames)?;
+        let made = make(&mut self.steps, &mut self.frames, &Making)?;
         Ok(Handle::pack(made))
     }
 
@@ -66,7 +67,7 @@ impl<S: Steps> Env<S> {
         ensures { Does S.stands S.knows self.old.steps self.new.steps self.old.frames.frames self.new.frames.frames (new_local_ref handle.0) result }
     {
         let target = Reference::of(handle);
-        let made = calls::new_local_ref(&mut self.steps, &mut self.frames, target)?;
+        let made = make(&mut self.steps, &mut self.frames, &LocalCreation(target))?;
         Ok(made.map(Handle::pack))
     }
 
@@ -75,7 +76,8 @@ impl<S: Steps> Env<S> {
         ensures { Does S.stands S.knows self.old.steps self.new.steps self.old.frames.frames self.new.frames.frames (delete_reference Global handle.0) result }
     {
         let target = Reference::of(handle);
-        calls::delete_reference(&mut self.steps, &self.frames, RefKind::Global, target)
+        let kind = RefKind::Global;
+        make(&mut self.steps, &mut self.frames, &Removal { kind, target })
     }
 
     /// Deletes a weak global reference; NULL is no refusal: E2, E4, E13. (JNI Specification, chapter 4, "DeleteWeakGlobalRef")
@@ -83,14 +85,16 @@ impl<S: Steps> Env<S> {
         ensures { Does S.stands S.knows self.old.steps self.new.steps self.old.frames.frames self.new.frames.frames (delete_reference Weak handle.0) result }
     {
         let target = Reference::of(handle);
-        calls::delete_reference(&mut self.steps, &self.frames, RefKind::Weak, target)
+        let kind = RefKind::Weak;
+        make(&mut self.steps, &mut self.frames, &Removal { kind, target })
     }
 
     /// Deletes a local reference of the thread; NULL is no refusal: E2, E3, E4, E13. (JNI Specification, chapter 4, "DeleteLocalRef")
     pub fn delete_local_ref(&mut self, handle: Handle) -> Result<(), Fault>
         ensures { Does S.stands S.knows self.old.steps self.new.steps self.old.frames.frames self.new.frames.frames (delete_local_ref handle.0) result }
     {
-        calls::delete_local_ref(&mut self.steps, &mut self.frames, Reference::of(handle))
+        let target = Reference::of(handle);
+        make(&mut self.steps, &mut self.frames, &LocalRemoval(target))
     }
 
     /// Whether two references are to one object, or both to null: E2, E3, E13. (JNI Specification, chapter 4, "IsSameObject")
@@ -99,14 +103,15 @@ impl<S: Steps> Env<S> {
     {
         let left = Reference::of(left);
         let right = Reference::of(right);
-        calls::is_same_object(&mut self.steps, &self.frames, left, right)
+        make(&mut self.steps, &mut self.frames, &Comparison(left, right))
     }
 
     /// The type of a reference: 0 invalid, 1 local, 2 global, 3 weak global: E13 alone. (JNI Specification, chapter 4, "GetObjectRefType")
     pub fn get_object_ref_type(&mut self, handle: Handle) -> Result<u8, Fault>
         ensures { Does S.stands S.knows self.old.steps self.new.steps self.old.frames.frames self.new.frames.frames (get_object_ref_type handle.0) result }
     {
-        calls::get_object_ref_type(&mut self.steps, &self.frames, Reference::of(handle))
+        let target = Reference::of(handle);
+        make(&mut self.steps, &mut self.frames, &Typing(target))
     }
 
     /// A global or weak global reference to what the handle names, or none for null.
@@ -115,7 +120,11 @@ impl<S: Steps> Env<S> {
         ensures { Does S.stands S.knows self.old.steps self.new.steps self.old.frames.frames self.new.frames.frames (new_reference kind handle.0) result }
     {
         let target = Reference::of(handle);
-        let made = calls::new_reference(&mut self.steps, &self.frames, kind, target)?;
+        let made = make(
+            &mut self.steps,
+            &mut self.frames,
+            &Creation { kind, target },
+        )?;
         Ok(made.map(Handle::pack))
     }
 }

@@ -21,6 +21,7 @@ mod single;
 mod starting;
 #[cfg(test)]
 mod tests;
+pub mod work;
 
 pub use all::run_all;
 pub use jr_syntax::{Reason, Script, ScriptFault, parse, print};

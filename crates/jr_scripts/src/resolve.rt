@@ -3,9 +3,9 @@ ghost use Rattle.std.specs.Prelude.{◌≡◌, ◌≢◌, Some, None, Ok, false}
 ghost use Rattle.jr_word.specs.declared.handle.RefKind.TheVariants.{Local};
 ghost use Rattle.jr_model.specs.declared.event.Role.TheVariants.{Within};
 ghost use Rattle.jr_model.specs.Checks.{Parts, is_out_of_bounds, type_found, type_local};
-ghost use Rattle.jr_model.specs.Parts.{looked, looked_at};
+ghost use Rattle.jr_model.specs.Parts.{local_answer, looked, looked_at};
 ghost use Rattle.jr_model.specs.References.{resolved, resolved_both, typing};
-ghost use Rattle.jr_scripts.specs.Reading.{word_of, OwnerFits, local_answer};
+ghost use Rattle.jr_scripts.specs.Reading.{word_of, OwnerFits};
 ghost use Rattle.jr_scripts.specs.Performing.{Resolves, Calls};
 
 use crate::frames::Frames;

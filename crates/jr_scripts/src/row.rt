@@ -6,10 +6,9 @@ ghost use Rattle.jr_model.specs.declared.event.Role.TheVariants.{Within};
 ghost use Rattle.jr_model.specs.declared.event.Act.TheVariants.{Look};
 ghost use Rattle.jr_model.specs.declared.event.Found.TheVariants.{Stale};
 ghost use Rattle.jr_model.specs.Frames.{Frames};
-ghost use Rattle.jr_model.specs.Parts.{delete as deletion};
+ghost use Rattle.jr_model.specs.Parts.{delete as deletion, found_answer};
 ghost use Rattle.jr_steps.specs.Acts.{reply, is_its, found_of};
 ghost use Rattle.jr_steps.specs.Knowing.{anything, keeps, HasObject, MayKnow, Took};
-ghost use Rattle.jr_scripts.specs.Reading.{found_answer};
 ghost use Rattle.jr_scripts.specs.Performing.{Searched, Performed};
 
 use jr_model::Found;
