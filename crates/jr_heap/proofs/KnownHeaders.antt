@@ -70,7 +70,7 @@ pub steps_keep_headers : StepsKeepHeaders
 steps_keep_headers = record {
   kept = λ j k e. by_grasp j k j.holdings e refl;
   loaded = loaded;
-  without_range_of = stored_header;
+  published = stored_header;
   reserved = reserved_top;
   stored = λ j k place i v e. by_headers j k (ap (λ (g : Holdings). g.headers) e);
 }
@@ -79,7 +79,7 @@ pub calls_keep_headers : CallsKeepHeaders
 calls_keep_headers = record {
   reserved = gained;
   filled = λ j k place n v s. by_headers j k s.headers;
-  without_range_of = given;
+  published = given;
   learned = learned;
   looked = λ j k o s. learned j k o s.0 s.1;
   left = λ j k o h s. by_grasp j k j.holdings s.1 refl;

@@ -7,11 +7,11 @@ ghost use Rattle.jr_steps.specs.Knowing.{state_of, HasObject, MayKnow};
 ghost use Rattle.jr_heap.specs.Heap.{
   Called,
   HoldsHeader,
-  Leaves,
+  LeavesObject,
   Relearns,
   MayBeNamed,
   MayBeNamedIn,
-  ShowsElement,
+  ReadsOfKind,
   ShowsElementOf,
   by_steps,
   element_steps,
