@@ -123,14 +123,3 @@ module _ {S : Type 0} {stands : S → Standing} {knows : S → Known → Type 0}
         → Performed stands knows b c t.frames u.frames (silent (stands b).config) (Holds t.frames) (λ s. work (stands b).config (stands b).last (stands b).thread) answer (λ j k. so j k × Holds u.frames k) → KeepsOwner t u → Took stands knows c d (Leave ∷ []) anything lets_go
         → Completes stands knows a d t u (silent (stands a).config) (entered (work (stands a).config (stands a).last (stands a).thread)) answer
     completes silent {so = so} r e p o l = let q = calls_entered silent {so = so} r.role_is e p l in record { call = q; ready = ready_after {so = lets_go} r o q }
-
-    pub completes_entered : {a b c d : S} {t u : Table} {answer : Result A Fault} → StandsReady stands knows Outside a t → Took stands knows a b (Enter ∷ []) anything keeps
-        → Calls stands knows b c t.frames u.frames (work (stands b).config (stands b).last (stands b).thread) answer → KeepsOwner t u → Took stands knows c d (Leave ∷ []) anything lets_go
-        → Completes stands knows a d t u 0 (entered (work (stands a).config (stands a).last (stands a).thread)) answer
-    completes_entered r e p o l = completes (λ c. 0) {so = keeps} r e p o l
-
-  -- work that makes a plain object
-  pub completes_making : (work : Config → ℕ → ℕ → Call Handle) {a b c d : S} {t u : Table} (silent : Config → ℕ) {answer : Result Handle Fault} → StandsReady stands knows Outside a t → Took stands knows a b (Enter ∷ []) anything keeps
-      → MakesPlain stands knows b c t.frames u.frames (silent (stands b).config) (work (stands b).config (stands b).last (stands b).thread) answer → KeepsOwner t u → Took stands knows c d (Leave ∷ []) anything lets_go
-      → Completes stands knows a d t u (silent (stands a).config) (entered (work (stands a).config (stands a).last (stands a).thread)) answer
-  completes_making work {u = u} silent {answer} r e p o l = completes work silent {so = LearnsNew Plain (object_made u.frames answer)} r e p o l

@@ -7,7 +7,7 @@ ghost use Rattle.jr_model.specs.Checks.{Parts};
 ghost use Rattle.jr_model.specs.References.{new_local, creation, local_creation, comparison, making, removal, local_removal};
 ghost use Rattle.jr_steps.specs.Knowing.{MayKnow, HasOptional};
 ghost use Rattle.jr_scripts.specs.Reading.{word_of, OwnerFits};
-ghost use Rattle.jr_scripts.specs.Performing.{Calls, MakesLocal, MakesObject};
+ghost use Rattle.jr_scripts.specs.Performing.{Calls, MakesLocal, MakesPlain};
 ghost use Rattle.jr_scripts.specs.Ready.{StandsReady, KeepsOwner};
 
 use crate::frames::Frames;
@@ -27,7 +27,8 @@ impl<S: Steps> Work<S> for Making {
     ghost use Rattle.std.specs.Prelude.{◌≡◌};
     ghost use Rattle.jr_word.specs.declared.handle.RefKind.TheVariants.{Local};
     ghost use Rattle.jr_model.specs.References.{making};
-    ghost use Rattle.jr_scripts.specs.Performing.{MayLearn};
+    ghost use Rattle.jr_word.specs.declared.kind.Kind.TheVariants.{Plain};
+    ghost use Rattle.jr_scripts.specs.Performing.{LearnsNew, object_made};
 
     type Answer = HandleParts;
 
@@ -37,7 +38,7 @@ impl<S: Steps> Work<S> for Making {
 
     ghost asked = { λ _ c last t. making c last t };
 
-    ghost learns = { λ j k. MayLearn j k };
+    ghost learns = { λ f answer j k. LearnsNew Plain (object_made f answer) j k };
 
     ghost gives = { λ t h. (h.kind ≡ Local) × (h.owner ≡ t) };
 
@@ -70,7 +71,7 @@ impl<S: Steps> Work<S> for Creation {
 
     ghost asked = { λ w c last t. creation c last t w.kind (word_of w.target) };
 
-    ghost learns = { λ j k. keeps j k };
+    ghost learns = { λ _ _ j k. keeps j k };
 
     ghost gives = { λ t made. IfSome made (λ h. h.owner ≡ 0) };
 
@@ -98,7 +99,7 @@ impl<S: Steps> Work<S> for LocalCreation {
 
     ghost asked = { λ w c last t. local_creation c last t (word_of w.0) };
 
-    ghost learns = { λ j k. keeps j k };
+    ghost learns = { λ _ _ j k. keeps j k };
 
     ghost gives = { λ t made. IfSome made (λ h. (h.kind ≡ Local) × (h.owner ≡ t)) };
 
@@ -131,7 +132,7 @@ impl<S: Steps> Work<S> for Removal {
 
     ghost asked = { λ w c last t. removal c w.kind (word_of w.target) };
 
-    ghost learns = { λ j k. keeps j k };
+    ghost learns = { λ _ _ j k. keeps j k };
 
     ghost gives = { λ _ _. Unit {0} };
 
@@ -157,7 +158,7 @@ impl<S: Steps> Work<S> for LocalRemoval {
 
     ghost asked = { λ w c last t. local_removal c t (word_of w.0) };
 
-    ghost learns = { λ j k. keeps j k };
+    ghost learns = { λ _ _ j k. keeps j k };
 
     ghost gives = { λ _ _. Unit {0} };
 
@@ -183,7 +184,7 @@ impl<S: Steps> Work<S> for Comparison {
 
     ghost asked = { λ w c last t. comparison c last t (word_of w.0) (word_of w.1) };
 
-    ghost learns = { λ j k. keeps j k };
+    ghost learns = { λ _ _ j k. keeps j k };
 
     ghost gives = { λ _ _. Unit {0} };
 
@@ -209,7 +210,7 @@ impl<S: Steps> Work<S> for Typing {
 
     ghost asked = { λ w c last t. typing c t (word_of w.0) };
 
-    ghost learns = { λ j k. keeps j k };
+    ghost learns = { λ _ _ j k. keeps j k };
 
     ghost gives = { λ _ _. Unit {0} };
 

@@ -83,7 +83,7 @@ fn says(alloc: Global, command: &Command, reply: Reply) -> Result<Vec<u8>, Alloc
 
 /// What is printed for a command that was refused.
 fn refused(alloc: Global, line: usize, fault: Fault) -> Result<Vec<u8>, AllocError>
-    ensures { IfOk result (λ text. text.items ≡ refusal text_line fault) }
+    ensures { IfOk result (λ text. text.items ≡ refusal line fault) }
 {
     let number = fault.number();
     let text = match fault {
@@ -100,7 +100,7 @@ pub fn printed(
     command: &Command,
     answer: Result<Reply, Fault>,
 ) -> Result<Vec<u8>, AllocError>
-    ensures { IfOk result (λ text. text.items ≡ text_printed text_line command.now answer) }
+    ensures { IfOk result (λ text. text.items ≡ text_printed line command.now answer) }
 {
     match answer {
         Ok(reply) => says(alloc, command, reply),

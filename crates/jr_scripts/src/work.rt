@@ -12,9 +12,11 @@ use jr_word::Fault;
 
 /// What a call does within a stay, with what it is handed.
 pub trait Work<S: Steps> {
-    ghost use Rattle.std.specs.Prelude.{ℕ, IfOk};
+    ghost use Rattle.std.specs.Prelude.{ℕ, Result, IfOk};
+    ghost use Rattle.jr_word.specs.declared.fault.Fault.{Fault};
     ghost use Rattle.jr_word.specs.declared.config.Config.{Config};
     ghost use Rattle.jr_model.specs.declared.event.Role.TheVariants.{Within};
+    ghost use Rattle.jr_model.specs.Frames.{Frames};
     ghost use Rattle.jr_model.specs.Calls.{Call};
     ghost use Rattle.jr_steps.specs.declared.known.Known.{Known};
     ghost use Rattle.jr_steps.specs.Knowing.{Holds};
@@ -30,7 +32,7 @@ pub trait Work<S: Steps> {
 
     ghost asked: { Self → Config → ℕ → ℕ → Call Self.Answer };
 
-    ghost learns: { Known → Known → Type 0 };
+    ghost learns: { Frames → Result Self.Answer Fault → Known → Known → Type 0 };
 
     ghost gives: { ℕ → Self.Answer → Type 0 };
 
@@ -42,7 +44,7 @@ pub trait Work<S: Steps> {
     fn work(&self, steps: &mut S, frames: &mut Frames) -> Result<Self::Answer, Fault>
         requires ready { StandsReady S.stands S.knows Within steps.old frames.old }
         requires can { can_work self.now }
-        ensures call { Performed S.stands S.knows steps.old steps.new frames.old.frames frames.new.frames (silent (S.stands steps.old).config) (Holds frames.old.frames) (λ s. asked self.now (S.stands steps.old).config (S.stands steps.old).last (S.stands steps.old).thread) result (λ j k. learns j k × Holds frames.new.frames k) }
+        ensures call { Performed S.stands S.knows steps.old steps.new frames.old.frames frames.new.frames (silent (S.stands steps.old).config) (Holds frames.old.frames) (λ s. asked self.now (S.stands steps.old).config (S.stands steps.old).last (S.stands steps.old).thread) result (λ j k. learns frames.new.frames result j k × Holds frames.new.frames k) }
         ensures same { KeepsOwner frames.old frames.new }
         ensures given { IfOk result (λ answer. gives (S.stands steps.old).thread answer) };
 }

@@ -8,4 +8,4 @@ pub work-answer-requires-clause-ready : goal.work-answer-requires-clause-ready
 work-answer-requires-clause-ready g c = ready_entered c.requires.ready c.in_ok-inside.ensures.ok.1
 
 pub returns-clause-call : goal.returns-clause-call
-returns-clause-call g c = completes (g.W.Work.asked c.args.work.now) g.W.Work.silent {so = g.W.Work.learns} c.requires.ready c.in_ok-inside.ensures.ok.1 c.work-answer.ensures.call c.work-answer.ensures.same c.leave.ensures
+returns-clause-call g c = completes (g.W.Work.asked c.args.work.now) g.W.Work.silent {so = g.W.Work.learns c.work-answer.new.frames.frames c.work-answer.result} c.requires.ready c.in_ok-inside.ensures.ok.1 c.work-answer.ensures.call c.work-answer.ensures.same c.leave.ensures
