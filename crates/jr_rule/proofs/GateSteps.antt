@@ -58,10 +58,13 @@ moved_gate c role t old new w n row was quiet still word g = record {
       let here = ap (λ r. bit (is_inside r)) was in
       let a = g.says.count in
       let b = g.word in omega arith;
-  says = record { count = refl; shut = (
-    λ s. let u = g.says.shut.0 s in (u.0, at_number (λ r. r ≡ Collecting) role t u.0 new (λ e. absurd (quiet (sym was ∙ (ap role e ∙ u.1)))) (λ ne. u.1)),
-    λ u. g.says.shut.1 (u.0, at_number (λ r. r ≡ Collecting → role u.0 ≡ Collecting) role t u.0 new (λ e q. absurd (still q)) (λ ne q. q) u.1),
-  ) };
+  says = record {
+    count = refl;
+    shut = (
+      λ s. let u = g.says.shut.0 s in (u.0, at_number (λ r. r ≡ Collecting) role t u.0 new (λ e. absurd (quiet (sym was ∙ (ap role e ∙ u.1)))) (λ ne. u.1)),
+      λ u. g.says.shut.1 (u.0, at_number (λ r. r ≡ Collecting → role u.0 ≡ Collecting) role t u.0 new (λ e q. absurd (still q)) (λ ne q. q) u.1),
+    );
+  };
 }
 
 -- what the threads hold, once one that did not collect takes another role in which it may hold what it does
@@ -96,10 +99,13 @@ unbarred_gate c role t w n row was alone is g = record {
       let shut : (if g.parts.shut then 2 ^ 16 else 0) ≡ 65536 = ap (λ (b : Bool). if b then 2 ^ 16 else 0) (g.says.shut.1 (t, was)) in
       let a = g.says.count in
       let b = g.word in omega arith;
-  says = record { count = refl; shut = (
-    λ s. absurd (cc),
-    λ u. absurd (at_number (λ r. r ≡ Collecting → ⊥) role t u.0 Outside (λ e q. cc) (λ ne q. ne (alone.alone t u.0 was q)) u.1),
-  ) };
+  says = record {
+    count = refl;
+    shut = (
+      λ s. absurd (cc),
+      λ u. absurd (at_number (λ r. r ≡ Collecting → ⊥) role t u.0 Outside (λ e q. cc) (λ ne q. ne (alone.alone t u.0 was q)) u.1),
+    );
+  };
 }
 
 -- whether a thread of the role collects

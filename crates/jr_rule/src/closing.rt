@@ -2,7 +2,6 @@
 ghost use Rattle.std.specs.Prelude.{◌≡◌, length, IfOk, IfErr};
 ghost use Rattle.std.specs.Slots.{slots_items, slots_len, IsFull};
 
-use jr_steps::GateLoad;
 use crate::parts::all_counted;
 use crate::pass::Pass;
 use crate::room::Room;
@@ -10,6 +9,7 @@ use crate::row::Row;
 use crate::summing::{Words, summary};
 use atomic_table::Closed;
 use jr_model::Summary;
+use jr_steps::GateLoad;
 use jr_word::Fault;
 use std::alloc::Global;
 

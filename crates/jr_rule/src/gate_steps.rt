@@ -7,12 +7,12 @@ ghost use Rattle.jr_steps.specs.Acts.{act_of_entry, act_of_exit, act_of_bar, act
 ghost use Rattle.jr_steps.specs.Knowing.{view, anything, Goes, CanReopen, ShowsBarred, ShowsGate, MayKnow, Took, keeps, lets_go};
 
 use crate::layout::GATE;
-use jr_steps::GateLoad;
 use crate::parts::{all_counted, is_shut, role_of_entry};
 use crate::pass::Pass;
 use crate::row::Row;
 use crate::rule::{Gather, Part};
 use jr_model::Role;
+use jr_steps::GateLoad;
 use jr_word::{GateParts, GateWord};
 use std::marker::Brand;
 

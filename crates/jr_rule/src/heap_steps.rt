@@ -9,10 +9,10 @@ ghost use Rattle.jr_rule.specs.Image.{element_at};
 ghost use Rattle.jr_steps.specs.Knowing.{anything, keeps, KnowsHeader, HasWord, IsWordNow, IsFilled, words_for, ShowsHeader, ShowsPublished, ShowsUsed, WasUsed, ShowsRange, ShowsWord, MayKnow, Took, TookWith};
 
 use crate::layout::{TOP, element_at, header_at};
-use jr_steps::TopLoad;
 use crate::parts::top_word;
 use crate::pass::Pass;
 use crate::row::Row;
+use jr_steps::TopLoad;
 use jr_word::{Header, HeaderParts, TopWord};
 use std::marker::Brand;
 

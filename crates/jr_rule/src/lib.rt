@@ -11,9 +11,9 @@ mod collect_tests;
 mod gate_steps;
 mod heap_steps;
 mod layout;
+mod local_steps;
 mod parts;
 mod pass;
-mod local_steps;
 mod plain;
 mod room;
 mod room_steps;
@@ -27,7 +27,9 @@ mod tests;
 pub use closing::Left;
 pub use closing_all::AllLeft;
 pub use jr_model::{Role, Summary};
-pub use jr_steps::{GateLoad, Holdings, Known, KnownHeader, Move, OwnRange, SlotLoad, Steps, TopLoad};
+pub use jr_steps::{
+    GateLoad, Holdings, Known, KnownHeader, Move, OwnRange, SlotLoad, Steps, TopLoad,
+};
 pub use pass::Pass;
 pub use plain::PlainSteps;
 pub use room::Room;

@@ -12,13 +12,12 @@ ghost use Rattle.jr_steps.specs.declared.known.Known.{Known};
 ghost use Rattle.jr_rule.specs.Plain.{standing_alone, Shows, IsUnused};
 
 use crate::layout::{GATE, TOP, element_at, header_at, local_at, slot_at};
-use jr_steps::{GateLoad, SlotLoad, TopLoad};
 use crate::parts::{
     all_counted, freed_slot, is_free, is_shut, local_parts, reference, role_of_entry, top_word,
 };
-use jr_steps::Steps;
 use crate::summing::summary;
 use jr_model::{Role, Summary};
+use jr_steps::{GateLoad, SlotLoad, Steps, TopLoad};
 use jr_word::{
     Config, Fault, GateParts, GateWord, HandleParts, Header, HeaderParts, LocalParts, LocalWord,
     RefKind, SlotParts, SlotWord, TopWord,

@@ -5,11 +5,10 @@ ghost use Rattle.jr_model.specs.History.{HasMet};
 ghost use Rattle.jr_steps.specs.Knowing.{view, anything, Took, keeps};
 ghost use Rattle.jr_rule.specs.Passes.{IsAt};
 
-use jr_steps::{GateLoad, SlotLoad, TopLoad};
 use crate::pass::Pass;
 use crate::room::Room;
-use jr_steps::Steps;
 use jr_model::Role;
+use jr_steps::{GateLoad, SlotLoad, Steps, TopLoad};
 use jr_word::{Config, GateParts, HandleParts, HeaderParts, LocalParts, RefKind, SlotParts};
 
 /// The steps that the holder of a pass takes in its room.
@@ -159,7 +158,9 @@ impl<const LAST: u32> Steps for RoomSteps<'_, LAST> {
     }
 
     fn put_reserved(&mut self, place: u32, index: u32, word: u64) {
-        self.room.row.put_reserved(&mut self.pass, place, index, word);
+        self.room
+            .row
+            .put_reserved(&mut self.pass, place, index, word);
     }
 
     fn scan_slot(&mut self, index: u16) -> SlotParts {

@@ -34,9 +34,8 @@ ghost use Rattle.jr_model.specs.declared.event.Role.TheVariants.{Outside};
 ghost use Rattle.jr_steps.specs.Holdings.{empty};
 ghost use Rattle.jr_rule.specs.Rule.{IsSized, sizes, known, view_of, newcomers, others_of, acting, IsAlone, Owes, Tells};
 
-use crate::rule::View;
 use crate::pass::Pass;
-use crate::rule::{Deal, Rule, Sizes, Tell, Telling};
+use crate::rule::{Deal, Rule, Sizes, Tell, Telling, View};
 use atomic_table::{Seat, Table};
 use jr_model::Role;
 use jr_word::Config;

@@ -6,10 +6,10 @@ ghost use Rattle.jr_steps.specs.Acts.{act_of_slot_load, SlotLoadFits, act_of_cla
 ghost use Rattle.jr_steps.specs.Knowing.{anything, HasObject, HasLooked, IsFreeSlot, ShowsSlot, LostClaim, MayKnow, Took, keeps};
 
 use crate::layout::slot_at;
-use jr_steps::SlotLoad;
 use crate::parts::{freed_slot, reference};
 use crate::pass::Pass;
 use crate::row::Row;
+use jr_steps::SlotLoad;
 use jr_word::{HandleParts, RefKind, SlotParts, SlotWord};
 use std::marker::Brand;
 

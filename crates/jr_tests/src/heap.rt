@@ -10,7 +10,9 @@ ghost use Rattle.jr_heap.specs.Ranges.{place_of, size_of, AreReady};
 
 use crate::rooms::last_of;
 use jr_gate::enter;
-use jr_heap::{Numbers, Range, fill, header, publish, read, read_element, reserve, write, write_element};
+use jr_heap::{
+    Numbers, Range, fill, header, publish, read, read_element, reserve, write, write_element,
+};
 use jr_model::{Role, Summary};
 use jr_rule::{Pass, PlainSteps, Room, RoomSteps};
 use jr_steps::{Steps, TopLoad};
