@@ -17,8 +17,8 @@ use Rattle.jr_heap.specs.Laws.{GoesOnKnowing, StepsKeepHeaders, CallsKeepHeaders
 by_headers : (j k : Known) → k.holdings.headers ≡ j.holdings.headers → GoesOnKnowing j k
 by_headers j k e o h known = ap (λ (hs : List KnownHeader). header_in o hs) e ∙ known
 
-by_grasp : (j k : Known) (g : Holdings) → k.holdings ≡ g → g.headers ≡ j.holdings.headers → GoesOnKnowing j k
-by_grasp j k g e same = by_headers j k (ap (λ (z : Holdings). z.headers) e ∙ same)
+by_holdings : (j k : Known) (g : Holdings) → k.holdings ≡ g → g.headers ≡ j.holdings.headers → GoesOnKnowing j k
+by_holdings j k g e same = by_headers j k (ap (λ (z : Holdings). z.headers) e ∙ same)
 
 -- a further header, which is the one of its object that was known, if any was
 further : (g : Holdings) (o : ℕ) (h : HeaderParts) → ((z : HeaderParts) → header_in o g.headers ≡ Some z → z ≡ h) → (r : ℕ) (k : HeaderParts) → header_in r g.headers ≡ Some k → header_in r (with_header g o h).headers ≡ Some k
@@ -44,31 +44,31 @@ published_headers h g = go (h.length == 0)
     go false = refl
 
 loaded : (j k : Known) (o : ℕ) (found : Option HeaderParts) → ShowsHeader o found j k → GoesOnKnowing j k
-loaded j k o None s = by_grasp j k j.holdings s.1 refl
+loaded j k o None s = by_holdings j k j.holdings s.1 refl
 loaded j k o (Some h) s = by_further j k j.holdings o h s.1 refl s.2
 
 stored_header : (j k : Known) (o : ℕ) (h : HeaderParts) (new : Bool) → ShowsPublished o h new j k → GoesOnKnowing j k
 stored_header j k o h true s = by_further j k (without_range_of h j.holdings) o h s.1 (published_headers h j.holdings) (λ z at. none_known (header_in o j.holdings.headers) z h s.2 at)
-stored_header j k o h false s = by_grasp j k j.holdings s.1 refl
+stored_header j k o h false s = by_holdings j k j.holdings s.1 refl
 
 reserved_top : (j k : Known) (looked n : ℕ) (answer : Result (Unit {0}) ℕ) → ShowsRange looked n answer j k → GoesOnKnowing j k
-reserved_top j k looked n (Ok u) s = by_grasp j k (with_range j.holdings looked s.0) s.2 refl
-reserved_top j k looked n (Err u) s = by_grasp j k j.holdings s refl
+reserved_top j k looked n (Ok u) s = by_holdings j k (with_range j.holdings looked s.0) s.2 refl
+reserved_top j k looked n (Err u) s = by_holdings j k j.holdings s refl
 
 gained : (j k : Known) (n place : ℕ) → Gains n place j k → GoesOnKnowing j k
-gained j k zero place s = by_grasp j k j.holdings s refl
-gained j k (suc n) place s = by_grasp j k (with_range j.holdings place s.0) s.2 refl
+gained j k zero place s = by_holdings j k j.holdings s refl
+gained j k (suc n) place s = by_holdings j k (with_range j.holdings place s.0) s.2 refl
 
 given : (j k : Known) (kind : Kind) (place n : ℕ) (answer : Result ℕ Fault) → Publishes kind place n answer j k → GoesOnKnowing j k
 given j k kind place n (Ok o) s = by_further j k (without_range_of (header_of kind place n) j.holdings) o (header_of kind place n) s.1 (published_headers (header_of kind place n) j.holdings) (λ z at. none_known (header_in o j.holdings.headers) z (header_of kind place n) s.2 at)
-given j k kind place n (Err e) s = by_grasp j k j.holdings s refl
+given j k kind place n (Err e) s = by_holdings j k j.holdings s refl
 
 learned : (j k : Known) (o : ℕ) (h : HeaderParts) → Learns o h j k → GoesOnKnowing j k
 learned j k o h s = by_further j k j.holdings o h s.1 refl s.2
 
 pub steps_keep_headers : StepsKeepHeaders
 steps_keep_headers = record {
-  kept = λ j k e. by_grasp j k j.holdings e refl;
+  kept = λ j k e. by_holdings j k j.holdings e refl;
   loaded = loaded;
   published = stored_header;
   reserved = reserved_top;
@@ -82,5 +82,5 @@ calls_keep_headers = record {
   published = given;
   learned = learned;
   looked = λ j k o s. learned j k o s.0 s.1;
-  left = λ j k o h s. by_grasp j k j.holdings s.1 refl;
+  left = λ j k o h s. by_holdings j k j.holdings s.1 refl;
 }

@@ -12,7 +12,7 @@ use Rattle.jr_model.proofs.Histories.{state_push}
 use Rattle.jr_steps.specs.declared.loads.GateLoad.{GateLoad}
 use Rattle.jr_steps.specs.declared.loads.GateLoad.TheVariants as gate
 use Rattle.jr_steps.specs.declared.loads.SlotLoad.{SlotLoad}
-use Rattle.jr_steps.specs.declared.loads.SlotLoad.TheVariants as naming
+use Rattle.jr_steps.specs.declared.loads.SlotLoad.TheVariants as loads
 use Rattle.jr_steps.specs.declared.loads.TopLoad.{TopLoad}
 use Rattle.jr_steps.specs.declared.loads.TopLoad.TheVariants as top
 use Rattle.jr_steps.specs.Acts.{act_of_entry, act_of_exit, act_of_gate_load, act_of_slot_load, act_of_claim, act_of_free, act_of_put, acts_of_publication, acts_of_top_load}
@@ -38,40 +38,40 @@ left_fresh Knocking f = refl
 left_fresh Collecting f = refl
 
 -- a load of the gate changes no role
-pub gate_named_role : (name : GateLoad) (n : ℕ) (r : Role) → r ≡ role_after r (act_of_gate_load name n)
-gate_named_role gate.Meet n r = refl
-gate_named_role gate.Busy zero r = refl
-gate_named_role gate.Busy (suc n) r = refl
+pub gate_load_role : (name : GateLoad) (n : ℕ) (r : Role) → r ≡ role_after r (act_of_gate_load name n)
+gate_load_role gate.Meet n r = refl
+gate_load_role gate.Busy zero r = refl
+gate_load_role gate.Busy (suc n) r = refl
 
-pub gate_named_fresh : (name : GateLoad) (n : ℕ) (f : Bool) → f ≡ fresh_after f (act_of_gate_load name n)
-gate_named_fresh gate.Meet n f = refl
-gate_named_fresh gate.Busy zero f = refl
-gate_named_fresh gate.Busy (suc n) f = refl
+pub gate_load_fresh : (name : GateLoad) (n : ℕ) (f : Bool) → f ≡ fresh_after f (act_of_gate_load name n)
+gate_load_fresh gate.Meet n f = refl
+gate_load_fresh gate.Busy zero f = refl
+gate_load_fresh gate.Busy (suc n) f = refl
 
 -- and nothing else
-pub gate_named_state : (log : History) (t : ℕ) (name : GateLoad) (n : ℕ) → state (log ++ by t (act_of_gate_load name n) ∷ []) ≡ state log
-gate_named_state log t gate.Meet n = state_push log (by t (act_of_gate_load gate.Meet n))
-gate_named_state log t gate.Busy zero = state_push log (by t (act_of_gate_load gate.Busy zero))
-gate_named_state log t gate.Busy (suc n) = state_push log (by t (act_of_gate_load gate.Busy (suc n)))
+pub gate_load_state : (log : History) (t : ℕ) (name : GateLoad) (n : ℕ) → state (log ++ by t (act_of_gate_load name n) ∷ []) ≡ state log
+gate_load_state log t gate.Meet n = state_push log (by t (act_of_gate_load gate.Meet n))
+gate_load_state log t gate.Busy zero = state_push log (by t (act_of_gate_load gate.Busy zero))
+gate_load_state log t gate.Busy (suc n) = state_push log (by t (act_of_gate_load gate.Busy (suc n)))
 
 -- SLOTS
 -- the name of a load leaves the role
-pub slot_named_role : (i : ℕ) (name : SlotLoad) (p : SlotParts) (r : Role) → r ≡ role_after r (act_of_slot_load i name p)
-slot_named_role i (naming.Look h) p r = refl
-slot_named_role i naming.Probe p r = refl
-slot_named_role i naming.Meet p r = refl
+pub slot_load_role : (i : ℕ) (name : SlotLoad) (p : SlotParts) (r : Role) → r ≡ role_after r (act_of_slot_load i name p)
+slot_load_role i (loads.Look h) p r = refl
+slot_load_role i loads.Probe p r = refl
+slot_load_role i loads.Meet p r = refl
 
 -- the name of a load leaves the pass as fresh as it was
-pub slot_named_fresh : (i : ℕ) (name : SlotLoad) (p : SlotParts) (f : Bool) → f ≡ fresh_after f (act_of_slot_load i name p)
-slot_named_fresh i (naming.Look h) p f = refl
-slot_named_fresh i naming.Probe p f = refl
-slot_named_fresh i naming.Meet p f = refl
+pub slot_load_fresh : (i : ℕ) (name : SlotLoad) (p : SlotParts) (f : Bool) → f ≡ fresh_after f (act_of_slot_load i name p)
+slot_load_fresh i (loads.Look h) p f = refl
+slot_load_fresh i loads.Probe p f = refl
+slot_load_fresh i loads.Meet p f = refl
 
 -- and the state
-pub slot_named_state : (log : History) (t i : ℕ) (name : SlotLoad) (p : SlotParts) → state (log ++ by t (act_of_slot_load i name p) ∷ []) ≡ state log
-slot_named_state log t i (naming.Look h) p = state_push log (by t (act_of_slot_load i (naming.Look h) p))
-slot_named_state log t i naming.Probe p = state_push log (by t (act_of_slot_load i naming.Probe p))
-slot_named_state log t i naming.Meet p = state_push log (by t (act_of_slot_load i naming.Meet p))
+pub slot_load_state : (log : History) (t i : ℕ) (name : SlotLoad) (p : SlotParts) → state (log ++ by t (act_of_slot_load i name p) ∷ []) ≡ state log
+slot_load_state log t i (loads.Look h) p = state_push log (by t (act_of_slot_load i (loads.Look h) p))
+slot_load_state log t i loads.Probe p = state_push log (by t (act_of_slot_load i loads.Probe p))
+slot_load_state log t i loads.Meet p = state_push log (by t (act_of_slot_load i loads.Meet p))
 
 -- an exchange at a slot leaves the role, and the pass as fresh as it was
 pub claiming_role : (i serial : ℕ) (kind : RefKind) (o : ℕ) (x : Result (Unit {0}) SlotParts) (r : Role) → r ≡ role_after r (act_of_claim i serial kind o x)
@@ -109,17 +109,17 @@ publishing_fresh o kind ws true f = refl
 publishing_fresh o kind ws false f = refl
 
 -- THE TOP
-pub top_named_role : (words : ℕ) (name : TopLoad) (u : ℕ) (r : Role) → r ≡ role_from r (acts_of_top_load words name u)
-top_named_role words top.Look u r = refl
-top_named_role words (top.Full n) u r = go (nat_lt words (u + n))
+pub top_load_role : (words : ℕ) (name : TopLoad) (u : ℕ) (r : Role) → r ≡ role_from r (acts_of_top_load words name u)
+top_load_role words top.Look u r = refl
+top_load_role words (top.Full n) u r = go (nat_lt words (u + n))
   where
     go : (b : Bool) → r ≡ role_from r (cond b (ReserveFull n u ∷ []) [])
     go true = refl
     go false = refl
 
-pub top_named_fresh : (words : ℕ) (name : TopLoad) (u : ℕ) (f : Bool) → f ≡ fresh_from f (acts_of_top_load words name u)
-top_named_fresh words top.Look u f = refl
-top_named_fresh words (top.Full n) u f = go (nat_lt words (u + n))
+pub top_load_fresh : (words : ℕ) (name : TopLoad) (u : ℕ) (f : Bool) → f ≡ fresh_from f (acts_of_top_load words name u)
+top_load_fresh words top.Look u f = refl
+top_load_fresh words (top.Full n) u f = go (nat_lt words (u + n))
   where
     go : (b : Bool) → f ≡ fresh_from f (cond b (ReserveFull n u ∷ []) [])
     go true = refl

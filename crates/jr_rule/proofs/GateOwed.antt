@@ -22,7 +22,7 @@ use Rattle.jr_rule.proofs.GateSteps.{gate_fits, gate_most, shows_gate, goes_in, 
 use Rattle.jr_rule.proofs.Obligations.{quiet, gaining, written, unwritten, won, lost}
 use Rattle.jr_rule.proofs.Told.{Entered, Left, Barred, Reopened, SawGate, Met}
 use Rattle.jr_rule.proofs.LegalSteps.{one_legal}
-use Rattle.jr_rule.proofs.ActEffects.{gate_named_state}
+use Rattle.jr_rule.proofs.ActEffects.{gate_load_state}
 
 -- who is within or knocking has no move unfinished
 may_let_go : (k : Known) (log : History) (words : List ℕ) (held : ℕ → Holdings) (f : IsFound k log words held) → (role_of (view k) ≡ Within) ⊎ (role_of (view k) ≡ Knocking) → MayHold f.image.moving ((state log).role k.thread) empty
@@ -86,7 +86,7 @@ module _ (k : Known) where
       let acts : List Act = act_of_gate_load name (all_counted g.parts) ∷ [] in
       let t = gate_seen k.config k.last log k.thread words f.legal held f.image f.fits.row name (subst (λ r. GateLoadFits r name) (sym (role_at k log words held f)) fits) in
       quiet k log words held f (slice_set words 0 n) (SawGate name k n) acts (unwritten k log words held 0 t)
-      (g.parts, gate_fits k.config (state log).role n (f.sized).limited.threads.1 g, g.word, refl, shows_gate g.parts k.config (state log) (known_at k log acts k.holdings) g.says refl (gate_named_state log k.thread name (all_counted g.parts)), refl)
+      (g.parts, gate_fits k.config (state log).role n (f.sized).limited.threads.1 g, g.word, refl, shows_gate g.parts k.config (state log) (known_at k log acts k.holdings) g.says refl (gate_load_state log k.thread name (all_counted g.parts)), refl)
 
   -- a load that only shows what others did
   pub meets : Owes k 0 (λ n. n) (Met k)

@@ -16,8 +16,8 @@ use Rattle.jr_rule.specs.Image.{element_at, of_object, MayHold, IsImage}
 use Rattle.jr_rule.proofs.Readings.{none_some}
 use Rattle.jr_rule.proofs.HeapImages.{there, own_element, known_element}
 
-pub grasp_in_space : (c : Config) (last : ℕ) (log : History) (words : List ℕ) (held : ℕ → Holdings) → IsLegal c last log → IsImage c last words (state log) held → (t : ℕ) (g : Holdings) → held t ≡ g → InSpace c g
-grasp_in_space c last log words held legal image t g is = subst (InSpace c) is (record {
+pub holdings_in_space : (c : Config) (last : ℕ) (log : History) (words : List ℕ) (held : ℕ → Holdings) → IsLegal c last log → IsImage c last words (state log) held → (t : ℕ) (g : Holdings) → held t ≡ g → InSpace c g
+holdings_in_space c last log words held legal image t g is = subst (InSpace c) is (record {
   own = λ p i l. let below = own_element c last words s held image t p i l in omega (arith, fit);
   good = λ o h e. (image.space.header t o h e).fits;
   elements = λ o h e i l. let below = known_element c last words s held image o h i (image.space.header t o h e) l in omega (arith, fit);

@@ -42,7 +42,7 @@ use Rattle.jr_steps.specs.Knowing.{Standing, standing_after, MayKnow, anything, 
 use Rattle.jr_rule.specs.Plain.{alone, standing_alone, Shows}
 use Rattle.jr_rule.specs.Rule.{IsFound, IsSized, known, known_at, Makes}
 use Rattle.jr_rule.specs.Slots.{CanStand, IsReference, parts_once_free}
-use Rattle.jr_rule.proofs.ActEffects.{entered_fresh, left_role, left_fresh, gate_named_role, gate_named_fresh, slot_named_role, slot_named_fresh, putting_role, putting_spends, publishing_role, publishing_fresh, top_named_role, top_named_fresh}
+use Rattle.jr_rule.proofs.ActEffects.{entered_fresh, left_role, left_fresh, gate_load_role, gate_load_fresh, slot_load_role, slot_load_fresh, putting_role, putting_spends, publishing_role, publishing_fresh, top_load_role, top_load_fresh}
 use Rattle.jr_rule.proofs.GateSteps.{gate_fits, gate_most, counted, shut_counted, nobody}
 use Rattle.jr_rule.proofs.GateOwed.{enters, leaves, shuts, reopens, sees_gate}
 use Rattle.jr_rule.proofs.Looked.{looked_at}
@@ -193,7 +193,7 @@ module _ (LAST : ℕ) (few : LAST < 2 ^ 32) (p : PlainSteps LAST) where
       tells h (reopens (own log g t) (h.pass.role ∙ collects) m.1 ∣ m.0 ∣₁) (ap (slice_set words 0) next) (λ done k' q. q))
 
   pub gate_saw : (name : GateLoad) (q : GateParts) → IsGate q → get_or words 0 0 ≡ gate_word q → GateLoadFits p.role name → Turned old words old words (λ k. act_of_gate_load name (all_counted q) ∷ []) anything (λ j k. ShowsGate q k × keeps j k)
-  gate_saw name q fits is named = owed (λ k. stands_same p.config LAST (gate_named_role name (all_counted q) p.role) (gate_named_fresh name (all_counted q) p.fresh)) (λ log g t h m.
+  gate_saw name q fits is named = owed (λ k. stands_same p.config LAST (gate_load_role name (all_counted q) p.role) (gate_load_fresh name (all_counted q) p.fresh)) (λ log g t h m.
       tells h (sees_gate (own log g t) name (subst (λ r. GateLoadFits r name) (sym h.pass.role) named)) (read 0) (λ done k' s.
       let same = gate_word-injective s.0 q s.1 fits (sym s.2 ∙ is) in
       (s.3 ∙ ap (λ z. act_of_gate_load name (all_counted z) ∷ []) same, (subst (λ z. ShowsGate z k') same s.4, s.5))))
@@ -201,7 +201,7 @@ module _ (LAST : ℕ) (few : LAST < 2 ^ 32) (p : PlainSteps LAST) where
   -- SLOTS
   pub saw : (i : ℕ) (name : SlotLoad) (q : SlotParts) → i < p.config.slots → SlotLoadFits i name → IsSlot q → get_or words (slot_at i) 0 ≡ slot_word q → p.role ≡ Within
       → Turned old words old words (λ k. act_of_slot_load i name q ∷ []) anything (λ j k. ShowsSlot i q k × keeps j k)
-  saw i name q l named fits is within = owed (λ k. stands_same p.config LAST (slot_named_role i name q p.role) (slot_named_fresh i name q p.fresh)) (λ log g n h m.
+  saw i name q l named fits is within = owed (λ k. stands_same p.config LAST (slot_load_role i name q p.role) (slot_load_fresh i name q p.fresh)) (λ log g n h m.
       tells h (sees_slot (own log g n) (h.pass.role ∙ within) i name l named) (read (slot_at i)) (λ done k' s.
       let same = slot_word-injective s.0 q s.1 fits (sym s.2 ∙ is) in
       (s.3 ∙ ap (λ z. act_of_slot_load i name z ∷ []) same, (subst (λ z. ShowsSlot i z k') same s.4, s.5))))
@@ -311,7 +311,7 @@ module _ (LAST : ℕ) (few : LAST < 2 ^ 32) (p : PlainSteps LAST) where
   used_once u v e = omega arith
 
   pub saw_top : (name : TopLoad) (u : ℕ) → get_or words top_at 0 ≡ used_word u → p.role ≡ Within → Turned old words old words (λ k. acts_of_top_load p.config.words name u) anything (λ j k. ShowsUsed u k × keeps j k)
-  saw_top name u is within = owed (λ k. stands_same p.config LAST (top_named_role p.config.words name u p.role) (top_named_fresh p.config.words name u p.fresh)) (λ log g n h m.
+  saw_top name u is within = owed (λ k. stands_same p.config LAST (top_load_role p.config.words name u p.role) (top_load_fresh p.config.words name u p.fresh)) (λ log g n h m.
       tells h (sees_top (own log g n) (h.pass.role ∙ within) name) (read top_at) (λ done k' s.
       let same = used_once s.0 u (sym s.2 ∙ is) in
       (s.3 ∙ ap (acts_of_top_load p.config.words name) same, (subst (λ z. ShowsUsed z k') same s.4, s.5))))

@@ -14,7 +14,7 @@ use Rattle.jr_steps.specs.Holdings.{empty, hold}
 use Rattle.jr_steps.specs.Knowing.{Standing, standing_after, Goes, Took, TookWith, MayKnow, anything}
 use Rattle.jr_rule.specs.Plain.{alone, standing_alone, unseen, Shows}
 use Rattle.jr_rule.specs.Rule.{known_at}
-use Rattle.jr_rule.proofs.HoldingsInSpace.{grasp_in_space}
+use Rattle.jr_rule.proofs.HoldingsInSpace.{holdings_in_space}
 use Rattle.jr_rule.proofs.Images.{image_same}
 use Rattle.jr_rule.proofs.Spaces.{hold_here, hold_else}
 use Rattle.jr_rule.proofs.LegalSteps.{then, LegalStep, role_then}
@@ -52,7 +52,7 @@ shows_then s words words' k acts g shows turn = record {
     legal = turn.legal;
   };
   image = turn.image;
-  space = grasp_in_space k.config k.last (then k.seen k.thread acts) words' (alone g) turn.legal turn.image 0 g (hold_here (λ t. empty) 0 g);
+  space = holdings_in_space k.config k.last (then k.seen k.thread acts) words' (alone g) turn.legal turn.image 0 g (hold_here (λ t. empty) 0 g);
 }
 
 -- what thread 0 holds

@@ -16,7 +16,7 @@ use Rattle.jr_rule.specs.declared.rule.View.{View}
 use Rattle.jr_steps.specs.declared.known.Holdings.{Holdings}
 use Rattle.jr_steps.specs.Holdings.{hold}
 use Rattle.jr_rule.specs.Image.{IsImage}
-use Rattle.jr_rule.proofs.HoldingsInSpace.{grasp_in_space}
+use Rattle.jr_rule.proofs.HoldingsInSpace.{holdings_in_space}
 use Rattle.jr_rule.proofs.Spaces.{hold_here, hold_else}
 use Rattle.jr_steps.specs.Knowing.{Goes}
 use Rattle.jr_rule.specs.Rule.{view_of, Fits, EachFits, total, is_of, passes_of, Row, Kept, Sat, acting, Tells, known_at, Owes}
@@ -151,7 +151,7 @@ module _ (c : Config) (last slots id : â„•) (k : Known) (ks : List Known) (i : â
           is = refl;
           goes = goes_at k kept.log kept.held made.acts made.holdings fit.0 made.legal;
           says = made.says;
-          space = grasp_in_space k.config k.last (kept.log ++ map (by k.thread) made.acts) (slice_set r.words i (f n)) (hold kept.held k.thread made.holdings) made.legal made.image k.thread made.holdings (hold_here kept.held k.thread made.holdings);
+          space = holdings_in_space k.config k.last (kept.log ++ map (by k.thread) made.acts) (slice_set r.words i (f n)) (hold kept.held k.thread made.holdings) made.legal made.image k.thread made.holdings (hold_here kept.held k.thread made.holdings);
           held = hold kept.held k.thread made.holdings;
           others = others_fit k.config k.last kept.log kept.held k.thread made.acts made.holdings ks far.0 fit.1;
         },

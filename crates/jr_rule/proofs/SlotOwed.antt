@@ -21,7 +21,7 @@ use Rattle.jr_model.specs.History.{by, state, role_of}
 use Rattle.jr_model.proofs.Moments.{prefix_self, sometime_wider}
 use Rattle.jr_steps.specs.declared.known.Known.{Known}
 use Rattle.jr_steps.specs.declared.loads.SlotLoad.{SlotLoad}
-use Rattle.jr_steps.specs.declared.loads.SlotLoad.TheVariants as naming
+use Rattle.jr_steps.specs.declared.loads.SlotLoad.TheVariants as loads
 use Rattle.jr_steps.specs.Acts.{found_of, act_of_slot_load, SlotLoadFits, is_occupied, act_of_claim, act_of_free}
 use Rattle.jr_rule.specs.Image.{slot_at}
 use Rattle.jr_steps.specs.Knowing.{view, HasObject, HasLooked}
@@ -34,7 +34,7 @@ use Rattle.jr_rule.proofs.Looked.{IsLooked, looked_at}
 use Rattle.jr_rule.proofs.Slots.{slot_fits, shows_slot}
 use Rattle.jr_rule.proofs.SlotSteps.{sees, claims, frees, frees_late}
 use Rattle.jr_rule.proofs.Told.{SawSlot, Claimed, Freed}
-use Rattle.jr_rule.proofs.ActEffects.{slot_named_state}
+use Rattle.jr_rule.proofs.ActEffects.{slot_load_state}
 use Rattle.jr_rule.proofs.SlotWords.{reference_fits, can_prop}
 
 -- the sizes bound what a slot's word has
@@ -74,7 +74,7 @@ module _ (k : Known) (within : role_of (view k) ≡ Within) where
         slot_fits k.config k.last log f.legal (f.sized).serials (few_objects k.config k.last f.sized) i n x,
         x.word,
         refl,
-        shows_slot i n (state log) (known_at k log acts k.holdings) x x.parts refl (sym (slot_named_state log k.thread i name x.parts)),
+        shows_slot i n (state log) (known_at k log acts k.holdings) x x.parts refl (sym (slot_load_state log k.thread i name x.parts)),
         refl,
       )
 
@@ -95,7 +95,7 @@ module _ (k : Known) (within : role_of (view k) ≡ Within) where
       (λ e. refl, λ ne. absurd (ne here), refl))
       (λ other. quiet k log words held f (slice_set words (slot_at i) (either (eqb n free) (slot_word p) n)) (Claimed i serial kind o k n) acts
       (written k log words held (slot_at i) n (either (eqb n free) (slot_word p) n) (lost free (slot_word p) n other)
-      (unwritten k log words held (slot_at i) (sees k.config k.last log k.thread words f.legal held f.image f.fits.row inside i naming.Probe x.parts l tt refl))) (
+      (unwritten k log words held (slot_at i) (sees k.config k.last log k.thread words f.legal held f.image f.fits.row inside i loads.Probe x.parts l tt refl))) (
         λ e. absurd (other e),
         λ ne. (
           x.parts,
@@ -104,7 +104,7 @@ module _ (k : Known) (within : role_of (view k) ≡ Within) where
           refl,
           λ seen. (
             sometime_wider (prefix_self k.seen) (by k.thread (Probe i (is_occupied x.parts)) ∷ [], refl) (claim_lost k log f.fits.begins f.legal i serial n seen x other),
-            shows_slot i n (state log) (known_at k log acts k.holdings) x x.parts refl (sym (slot_named_state log k.thread i naming.Probe x.parts)),
+            shows_slot i n (state log) (known_at k log acts k.holdings) x x.parts refl (sym (slot_load_state log k.thread i loads.Probe x.parts)),
           ),
         ),
         refl,

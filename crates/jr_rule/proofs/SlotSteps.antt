@@ -16,7 +16,7 @@ use Rattle.jr_model.specs.State.{Handle, same_handle, State, IsPresent, IsOccupi
 use Rattle.jr_model.specs.History.{History, state, IsLegal}
 use Rattle.jr_model.proofs.Updates.{at_handle, at_handle_self, eq_true, eq_false}
 use Rattle.jr_steps.specs.declared.loads.SlotLoad.{SlotLoad}
-use Rattle.jr_steps.specs.declared.loads.SlotLoad.TheVariants as naming
+use Rattle.jr_steps.specs.declared.loads.SlotLoad.TheVariants as loads
 use Rattle.jr_steps.specs.Acts.{found_of, reply, act_of_slot_load, SlotLoadFits, is_occupied, handle_of}
 use Rattle.jr_steps.specs.declared.known.Holdings.{Holdings}
 use Rattle.jr_steps.specs.Says.{AreGivenBelow, NoneStands, StandsAlone, StandsAs}
@@ -76,10 +76,10 @@ freed_slot last s h next r y given = record {
 module _ (c : Config) (last : ℕ) (log : History) (t : ℕ) (words : List ℕ) (legal : IsLegal c last log) (held : ℕ → Holdings) (image : IsImage c last words (state log) held) (row : t < c.threads) (within : (state log).role t ≡ Within) where
   -- a load of a slot counts as what it is named
   pub sees : (i : ℕ) (name : SlotLoad) (p : SlotParts) (l : i < c.slots) → SlotLoadFits i name → (image.slot i l).parts ≡ p → LegalStep c last log t (act_of_slot_load i name p ∷ []) words held
-  sees i naming.Meet p l fits e = one_legal c last log t words held legal (act_of_slot_load i naming.Meet p) (row, tt) image
-  sees i (naming.Look h) p l fits e = one_legal c last log t words held legal (act_of_slot_load i (naming.Look h) p)
+  sees i loads.Meet p l fits e = one_legal c last log t words held legal (act_of_slot_load i loads.Meet p) (row, tt) image
+  sees i (loads.Look h) p l fits e = one_legal c last log t words held legal (act_of_slot_load i (loads.Look h) p)
       (row, (within, sym (looks last (state log).refs (state log).given i (get_or words (slot_at i) 0) (image.slot i l) h fits.0 fits.2) ∙ ap (reply h) e)) image
-  sees i naming.Probe p l fits e = one_legal c last log t words held legal (Probe i (is_occupied p))
+  sees i loads.Probe p l fits e = one_legal c last log t words held legal (Probe i (is_occupied p))
       (row, (within, subst (λ q. IsTrue (is_occupied q) ↔ IsOccupied last (state log) i) e (probes last (state log) i (get_or words (slot_at i) 0) (image.slot i l)))) image
 
   module _ (few_serials : last < 2 ^ 32) (few_objects : c.objects < 2 ^ 16) where

@@ -10,7 +10,7 @@ use Rattle.jr_model.proofs.Counts.{count_all_false}
 use Rattle.jr_steps.specs.Says.{is_inside}
 use Rattle.jr_rule.specs.Image.{local_at, unowned, IsImage}
 use Rattle.jr_steps.specs.Holdings.{empty}
-use Rattle.jr_rule.proofs.HoldingsInSpace.{grasp_in_space}
+use Rattle.jr_rule.proofs.HoldingsInSpace.{holdings_in_space}
 use Rattle.jr_rule.proofs.Images.{image_same}
 use Rattle.jr_rule.proofs.Spaces.{hold_same}
 use Rattle.jr_rule.specs.Plain.{alone, standing_alone, unseen, Shows, IsUnused}
@@ -67,7 +67,7 @@ module _ (config : Config) (last : ℕ) (words : List ℕ) (none : (j : ℕ) →
   shows_unseen wide = record {
     pass = record { config = refl; last = refl; thread = refl; role = refl; legal = tt };
     image = image_same config last words opening (λ t. empty) (opening_image wide) (alone empty) (hold_same (λ t. empty) 0 empty refl);
-    space = grasp_in_space config last [] words (λ t. empty) tt (opening_image wide) 0 empty refl;
+    space = holdings_in_space config last [] words (λ t. empty) tt (opening_image wide) 0 empty refl;
   }
 
   -- nobody has a local reference where the words are zeros

@@ -14,7 +14,7 @@ use Rattle.jr_model.specs.declared.event.Act.{Act}
 use Rattle.jr_model.specs.declared.event.Act.TheVariants.{Enter, Knock, Leave, Withdraw, Shut, ShutBusy, Meet, Create, Look, Probe, Delete, DeleteStale, LocalPut, LocalDrop, New, Reserve, ReserveFull, ReserveLost}
 use Rattle.jr_model.specs.State.{Handle, same_kind}
 use Rattle.jr_steps.specs.declared.loads.SlotLoad.{SlotLoad}
-use Rattle.jr_steps.specs.declared.loads.SlotLoad.TheVariants as naming
+use Rattle.jr_steps.specs.declared.loads.SlotLoad.TheVariants as loads
 use Rattle.jr_steps.specs.declared.loads.TopLoad.{TopLoad}
 use Rattle.jr_steps.specs.declared.loads.TopLoad.TheVariants as top
 use Rattle.jr_steps.specs.declared.loads.GateLoad.{GateLoad}
@@ -71,13 +71,13 @@ is_occupied _ = true
 
 -- a load of the slot at an index that found the word
 abbrev pub act_of_slot_load : ℕ → SlotLoad → SlotParts → Act
-act_of_slot_load i (naming.Look h) w = Look h (reply h w)
-act_of_slot_load i naming.Probe w = Probe i (is_occupied w)
-act_of_slot_load i naming.Meet w = Meet
+act_of_slot_load i (loads.Look h) w = Look h (reply h w)
+act_of_slot_load i loads.Probe w = Probe i (is_occupied w)
+act_of_slot_load i loads.Meet w = Meet
 
 -- a handle is looked up in its own slot
 abbrev pub SlotLoadFits : ℕ → SlotLoad → Type 0
-SlotLoadFits i (naming.Look h) = (h.index ≡ i) × (h.kind ≢ Local) × (h.owner ≡ 0)
+SlotLoadFits i (loads.Look h) = (h.index ≡ i) × (h.kind ≢ Local) × (h.owner ≡ 0)
 SlotLoadFits i _ = Unit {0}
 
 -- the handle of a slot

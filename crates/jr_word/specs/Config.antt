@@ -7,9 +7,9 @@ use Rattle.jr_word.specs.declared.config.TheConstants.Config.{MOST_THREADS, MOST
 abbrev pub is_between : ℕ → ℕ → ℕ → Bool
 is_between low high n = nat_le low n && nat_le n high
 
--- the limits of a configuration
+-- the limits of a configuration, in numbers of its own: a changed constant of the code is refused
 abbrev pub in_limits : Config → Bool
-in_limits c = is_between 1 MOST_THREADS c.threads && is_between 1 MOST_SLOTS c.slots && is_between 1 MOST_OBJECTS c.objects && is_between 0 MOST_WORDS c.words && is_between LEAST_LOCALS MOST_LOCALS c.locals
+in_limits c = is_between 1 64 c.threads && is_between 1 65536 c.slots && is_between 1 65535 c.objects && is_between 0 1048576 c.words && is_between 16 4096 c.locals
 
 -- the limits of a configuration, one by one
 pub record IsLimited (c : Config) : Type 0 where

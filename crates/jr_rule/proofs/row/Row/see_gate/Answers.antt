@@ -7,7 +7,7 @@ use Rattle.jr_steps.specs.Knowing.{Goes, ShowsGate}
 use Rattle.jr_rule.specs.Passes.{known_of}
 use Rattle.jr_rule.proofs.GateOwed.{sees_gate}
 use Rattle.jr_rule.proofs.PassAfterStep.{acting_is, held_next, took}
-use Rattle.jr_rule.proofs.ActEffects.{gate_named_role, gate_named_fresh}
+use Rattle.jr_rule.proofs.ActEffects.{gate_load_role, gate_load_fresh}
 use Rattle.jr_rule.proofs.Readings.{is_read, read_once}
 use Rattle.jr_rule.proofs.row.Row.see_gate.Goals as goal
 
@@ -20,7 +20,7 @@ invariant_of-pass c =
     let t = c.load-found.ensures.1 in
     let s = t.says in
     let n = all_counted s.0 in
-    record { held = held_next p.seat.me c.load-found.result _ t p.thread p.role p.fresh p.held _ _ _ s.3 (gate_named_role c.args.name n p.role) (gate_named_fresh c.args.name n p.fresh) }
+    record { held = held_next p.seat.me c.load-found.result _ t p.thread p.role p.fresh p.held _ _ _ s.3 (gate_load_role c.args.name n p.role) (gate_load_fresh c.args.name n p.fresh) }
 
 pub unwrap-requires : goal.unwrap-requires
 unwrap-requires c =
@@ -34,7 +34,7 @@ returns-clause-step c =
     let s = t.says in
     let read = read_once c.parts.result s.0 c.unwrap.result (c.parts.ensures.complete s.0 s.1 s.2) c.unwrap.ensures in
     let n = all_counted c.unwrap.result in
-    took p _ c.load-found.result t _ c.load-found.ensures.0 (s.3 ∙ ap (λ q. act_of_gate_load c.args.name (all_counted q) ∷ []) (sym read)) refl (gate_named_role c.args.name n p.role) (gate_named_fresh c.args.name n p.fresh)
+    took p _ c.load-found.result t _ c.load-found.ensures.0 (s.3 ∙ ap (λ q. act_of_gate_load c.args.name (all_counted q) ∷ []) (sym read)) refl (gate_load_role c.args.name n p.role) (gate_load_fresh c.args.name n p.fresh)
     (λ m. (subst (λ q. ShowsGate q t.new) (sym read) s.4, s.5))
 
 pub returns-clause-seen : goal.returns-clause-seen

@@ -6,7 +6,7 @@ use Rattle.jr_rule.specs.Rule.{Owes}
 use Rattle.jr_rule.proofs.SlotOwed.{sees_slot}
 use Rattle.jr_rule.proofs.PassAfterStep.{held_next, took}
 use Rattle.jr_rule.proofs.Told.{SawSlot}
-use Rattle.jr_rule.proofs.ActEffects.{slot_named_role, slot_named_fresh}
+use Rattle.jr_rule.proofs.ActEffects.{slot_load_role, slot_load_fresh}
 use Rattle.jr_rule.proofs.Readings.{is_read, read_once}
 use Rattle.jr_rule.proofs.row.Row.see_slot.Goals as goal
 
@@ -20,7 +20,7 @@ invariant_of-pass c =
     let p = c.args.pass.now in
     let t = c.load-found.ensures.1 in
     let s = t.says in
-    record { held = held_next p.seat.me c.load-found.result _ t p.thread p.role p.fresh p.held _ _ _ s.3 (slot_named_role c.args.index c.args.name s.0 p.role) (slot_named_fresh c.args.index c.args.name s.0 p.fresh) }
+    record { held = held_next p.seat.me c.load-found.result _ t p.thread p.role p.fresh p.held _ _ _ s.3 (slot_load_role c.args.index c.args.name s.0 p.role) (slot_load_fresh c.args.index c.args.name s.0 p.fresh) }
 
 pub unwrap-requires : goal.unwrap-requires
 unwrap-requires c =
@@ -36,5 +36,5 @@ returns-clause-step c =
     let name = c.args.name in
     let q = c.unwrap.result in
     let read = read_once c.parts.result s.0 q (c.parts.ensures.complete s.0 s.1 s.2) c.unwrap.ensures in
-    took p _ c.load-found.result t _ c.load-found.ensures.0 (s.3 ∙ ap (λ z. act_of_slot_load i name z ∷ []) (sym read)) refl (slot_named_role i name q p.role) (slot_named_fresh i name q p.fresh)
+    took p _ c.load-found.result t _ c.load-found.ensures.0 (s.3 ∙ ap (λ z. act_of_slot_load i name z ∷ []) (sym read)) refl (slot_load_role i name q p.role) (slot_load_fresh i name q p.fresh)
     (λ m. (subst (λ z. ShowsSlot i z t.new) (sym read) s.4, s.5))
