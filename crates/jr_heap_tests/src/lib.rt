@@ -1,0 +1,7 @@
+//! Tests of the heap over rooms and over plain words.
+#![tactic(auto)]
+
+#[cfg(test)]
+mod heap;
+#[cfg(test)]
+mod rooms;
