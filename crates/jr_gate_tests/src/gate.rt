@@ -54,15 +54,15 @@ fn opened(alloc: Global) -> Result<(Room<2>, Pass, Pass, Pass, Pass), Fail>
 
 /// The word of the gate.
 fn gate_word<S: Steps>(steps: &mut S) -> u64
-    ensures { S.stands steps.new ≡ S.stands steps.old }
+    ensures { (S.facts steps.new).stands ≡ (S.facts steps.old).stands }
 {
     GateWord::pack(steps.see_gate(GateLoad::Meet)).0
 }
 
 /// Why an entry is refused, if it is. It is ended at once.
 fn entry_refused<S: Steps>(steps: &mut S) -> Option<Fault>
-    requires { (S.stands steps.old).role ≡ Outside }
-    ensures { S.stands steps.new ≡ S.stands steps.old }
+    requires { (S.facts steps.old).stands.role ≡ Outside }
+    ensures { (S.facts steps.new).stands ≡ (S.facts steps.old).stands }
 {
     match enter(steps) {
         Ok(stay) => {
@@ -75,8 +75,8 @@ fn entry_refused<S: Steps>(steps: &mut S) -> Option<Fault>
 
 /// Why a collection is refused, if it is. It is ended at once.
 fn shut_refused<S: Steps>(steps: &mut S) -> Option<Fault>
-    requires { (S.stands steps.old).role ≡ Outside }
-    ensures { S.stands steps.new ≡ S.stands steps.old }
+    requires { (S.facts steps.old).stands.role ≡ Outside }
+    ensures { (S.facts steps.new).stands ≡ (S.facts steps.old).stands }
 {
     match shut_gate(steps) {
         Ok(collection) => {
@@ -93,10 +93,10 @@ fn a_stay_bars_collections<S: Steps, T: Steps>(
     stays: &mut S,
     looks: &mut T,
 ) -> Result<(), Fail>
-    requires stays { (S.stands stays.old).role ≡ Outside }
-    requires looks { (T.stands looks.old).role ≡ Outside }
-    ensures stays { S.stands stays.new ≡ S.stands stays.old }
-    ensures looks { T.stands looks.new ≡ T.stands looks.old }
+    requires stays { (S.facts stays.old).stands.role ≡ Outside }
+    requires looks { (T.facts looks.old).stands.role ≡ Outside }
+    ensures stays { (S.facts stays.new).stands ≡ (S.facts stays.old).stands }
+    ensures looks { (T.facts looks.new).stands ≡ (T.facts looks.old).stands }
 {
     assert_eq!(rt; gate_word(looks), 0);
     let Ok(stay) = enter(stays) else {
@@ -112,8 +112,8 @@ fn a_stay_bars_collections<S: Steps, T: Steps>(
 
 /// While another thread collects, this one is barred, by `enter` and by the step alone, and cannot collect.
 fn is_barred<S: Steps>(rt: &impl Abort, steps: &mut S)
-    requires { (S.stands steps.old).role ≡ Outside }
-    ensures { S.stands steps.new ≡ S.stands steps.old }
+    requires { (S.facts steps.old).stands.role ≡ Outside }
+    ensures { (S.facts steps.new).stands ≡ (S.facts steps.old).stands }
 {
     assert_eq!(rt; gate_word(steps), 65_536);
     assert_eq!(rt; entry_refused(steps), Some(Fault::Barred));

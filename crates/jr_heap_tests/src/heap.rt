@@ -82,11 +82,11 @@ fn made<S: Steps>(
     length: u32,
     word: u64,
 ) -> Result<u16, Fault>
-    requires role { (S.stands steps.old).role ≡ Within }
+    requires role { (S.facts steps.old).stands.role ≡ Within }
     requires plain { kind ≡ Plain → length ≡ 0 }
     requires word { (k : Known) → IsWordNow kind word k }
-    ensures stands { S.stands steps.new ≡ S.stands steps.old }
-    ensures object { IfOk result (λ o. MayKnow S.knows steps.new (HasKind o kind)) }
+    ensures stands { (S.facts steps.new).stands ≡ (S.facts steps.old).stands }
+    ensures object { IfOk result (λ o. MayKnow S.facts steps.new (HasKind o kind)) }
 {
     let range = reserve(steps, length)?;
     fill(steps, &range, word);
@@ -95,10 +95,10 @@ fn made<S: Steps>(
 
 /// The element at an index of an object of the kind.
 fn got<S: Steps>(steps: &mut S, object: u16, _kind: Kind, index: u32) -> Result<u64, Fault>
-    requires role { (S.stands steps.old).role ≡ Within }
-    requires object { MayKnow S.knows steps.old (HasKind object _kind) }
-    ensures stands { S.stands steps.new ≡ S.stands steps.old }
-    ensures object { MayKnow S.knows steps.new (HasKind object _kind) }
+    requires role { (S.facts steps.old).stands.role ≡ Within }
+    requires object { MayKnow S.facts steps.old (HasKind object _kind) }
+    ensures stands { (S.facts steps.new).stands ≡ (S.facts steps.old).stands }
+    ensures object { MayKnow S.facts steps.new (HasKind object _kind) }
 {
     read(steps, object, index)
 }
@@ -111,11 +111,11 @@ fn put<S: Steps>(
     index: u32,
     word: u64,
 ) -> Result<(), Fault>
-    requires role { (S.stands steps.old).role ≡ Within }
-    requires object { MayKnow S.knows steps.old (HasKind object _kind) }
+    requires role { (S.facts steps.old).stands.role ≡ Within }
+    requires object { MayKnow S.facts steps.old (HasKind object _kind) }
     requires named { (k : Known) → MayBeNamed _kind word k }
-    ensures stands { S.stands steps.new ≡ S.stands steps.old }
-    ensures object { MayKnow S.knows steps.new (HasKind object _kind) }
+    ensures stands { (S.facts steps.new).stands ≡ (S.facts steps.old).stands }
+    ensures object { MayKnow S.facts steps.new (HasKind object _kind) }
 {
     write(steps, object, index, word)
 }
@@ -129,10 +129,10 @@ fn read_answers<S: Steps>(
     index: u32,
     wanted: Result<u64, Fault>,
 )
-    requires role { (S.stands steps.old).role ≡ Within }
-    requires object { MayKnow S.knows steps.old (HasKind object _kind) }
-    ensures stands { S.stands steps.new ≡ S.stands steps.old }
-    ensures object { MayKnow S.knows steps.new (HasKind object _kind) }
+    requires role { (S.facts steps.old).stands.role ≡ Within }
+    requires object { MayKnow S.facts steps.old (HasKind object _kind) }
+    ensures stands { (S.facts steps.new).stands ≡ (S.facts steps.old).stands }
+    ensures object { MayKnow S.facts steps.new (HasKind object _kind) }
 {
     assert_eq!(rt; got(steps, object, _kind, index), wanted);
 }
@@ -147,11 +147,11 @@ fn write_answers<S: Steps>(
     word: u64,
     wanted: Result<(), Fault>,
 )
-    requires role { (S.stands steps.old).role ≡ Within }
-    requires object { MayKnow S.knows steps.old (HasKind object _kind) }
+    requires role { (S.facts steps.old).stands.role ≡ Within }
+    requires object { MayKnow S.facts steps.old (HasKind object _kind) }
     requires named { (k : Known) → MayBeNamed _kind word k }
-    ensures stands { S.stands steps.new ≡ S.stands steps.old }
-    ensures object { MayKnow S.knows steps.new (HasKind object _kind) }
+    ensures stands { (S.facts steps.new).stands ≡ (S.facts steps.old).stands }
+    ensures object { MayKnow S.facts steps.new (HasKind object _kind) }
 {
     assert_eq!(rt; put(steps, object, _kind, index, word), wanted);
 }
@@ -162,8 +162,8 @@ fn make_and_write<S: Steps>(
     steps: &mut S,
     numbers: &mut Numbers,
 ) -> Result<u16, Fail>
-    requires { (S.stands steps.old).role ≡ Within }
-    ensures { S.stands steps.new ≡ S.stands steps.old }
+    requires { (S.facts steps.old).stands.role ≡ Within }
+    ensures { (S.facts steps.new).stands ≡ (S.facts steps.old).stands }
 {
     let object = made(steps, numbers, Kind::Int, 3, 0)?;
     writes_the_last(rt, steps, object);
@@ -175,10 +175,10 @@ fn make_and_write<S: Steps>(
 
 /// The last of three numbers is written, and the one before stays as it was.
 fn writes_the_last<S: Steps>(rt: &impl Abort, steps: &mut S, object: u16)
-    requires role { (S.stands steps.old).role ≡ Within }
-    requires object { MayKnow S.knows steps.old (HasKind object Int) }
-    ensures stands { S.stands steps.new ≡ S.stands steps.old }
-    ensures object { MayKnow S.knows steps.new (HasKind object Int) }
+    requires role { (S.facts steps.old).stands.role ≡ Within }
+    requires object { MayKnow S.facts steps.old (HasKind object Int) }
+    ensures stands { (S.facts steps.new).stands ≡ (S.facts steps.old).stands }
+    ensures object { MayKnow S.facts steps.new (HasKind object Int) }
 {
     write_answers(rt, steps, object, Kind::Int, 2, 7, Ok(()));
     read_answers(rt, steps, object, Kind::Int, 2, Ok(7));
@@ -187,10 +187,10 @@ fn writes_the_last<S: Steps>(rt: &impl Abort, steps: &mut S, object: u16)
 
 /// An index past three numbers is refused, and a word past the kind, which changes nothing.
 fn refuses_outside<S: Steps>(rt: &impl Abort, steps: &mut S, object: u16)
-    requires role { (S.stands steps.old).role ≡ Within }
-    requires object { MayKnow S.knows steps.old (HasKind object Int) }
-    ensures stands { S.stands steps.new ≡ S.stands steps.old }
-    ensures object { MayKnow S.knows steps.new (HasKind object Int) }
+    requires role { (S.facts steps.old).stands.role ≡ Within }
+    requires object { MayKnow S.facts steps.old (HasKind object Int) }
+    ensures stands { (S.facts steps.new).stands ≡ (S.facts steps.old).stands }
+    ensures object { MayKnow S.facts steps.new (HasKind object Int) }
 {
     read_answers(rt, steps, object, Kind::Int, 3, Err(Fault::Range));
     write_answers(rt, steps, object, Kind::Int, 3, 1, Err(Fault::Range));
@@ -208,9 +208,9 @@ fn refuses_outside<S: Steps>(rt: &impl Abort, steps: &mut S, object: u16)
 
 /// The kind, length and place of an object of the kind.
 fn parts_of<S: Steps>(steps: &mut S, object: u16, _kind: Kind) -> (Kind, u32, u32)
-    requires role { (S.stands steps.old).role ≡ Within }
-    requires object { MayKnow S.knows steps.old (HasKind object _kind) }
-    ensures { S.stands steps.new ≡ S.stands steps.old }
+    requires role { (S.facts steps.old).stands.role ≡ Within }
+    requires object { MayKnow S.facts steps.old (HasKind object _kind) }
+    ensures { (S.facts steps.new).stands ≡ (S.facts steps.old).stands }
 {
     let parts = header(steps, object);
     (parts.kind, parts.length, parts.place)
@@ -218,9 +218,9 @@ fn parts_of<S: Steps>(steps: &mut S, object: u16, _kind: Kind) -> (Kind, u32, u3
 
 /// A new plain object.
 fn made_plain<S: Steps>(steps: &mut S, numbers: &mut Numbers) -> Result<u16, Fault>
-    requires { (S.stands steps.old).role ≡ Within }
-    ensures stands { S.stands steps.new ≡ S.stands steps.old }
-    ensures object { IfOk result (λ o. MayKnow S.knows steps.new (HasKind o Plain)) }
+    requires { (S.facts steps.old).stands.role ≡ Within }
+    ensures stands { (S.facts steps.new).stands ≡ (S.facts steps.old).stands }
+    ensures object { IfOk result (λ o. MayKnow S.facts steps.new (HasKind o Plain)) }
 {
     let empty = reserve(steps, 0)?;
     publish(steps, numbers, Kind::Plain, empty)
@@ -228,8 +228,8 @@ fn made_plain<S: Steps>(steps: &mut S, numbers: &mut Numbers) -> Result<u16, Fau
 
 /// A plain object is made, and no further one in a room of two objects.
 fn make_plain<S: Steps>(rt: &impl Abort, steps: &mut S, numbers: &mut Numbers) -> Result<u16, Fail>
-    requires { (S.stands steps.old).role ≡ Within }
-    ensures { S.stands steps.new ≡ S.stands steps.old }
+    requires { (S.facts steps.old).stands.role ≡ Within }
+    ensures { (S.facts steps.new).stands ≡ (S.facts steps.old).stands }
 {
     let plain = made_plain(steps, numbers)?;
     read_answers(rt, steps, plain, Kind::Plain, 0, Err(Fault::NotArray));
@@ -247,11 +247,11 @@ fn keeps_ends<S: Steps>(
     kind: Kind,
     greatest: u64,
 ) -> Result<(), Fail>
-    requires role { (S.stands steps.old).role ≡ Within }
+    requires role { (S.facts steps.old).stands.role ≡ Within }
     requires kind { kind ≢ Plain }
     requires least { (k : Known) → IsWordNow kind 0 k }
     requires greatest { (k : Known) → MayBeNamed kind greatest k }
-    ensures { S.stands steps.new ≡ S.stands steps.old }
+    ensures { (S.facts steps.new).stands ≡ (S.facts steps.old).stands }
 {
     let object = made(steps, numbers, kind, 2, 0)?;
     has_both(rt, steps, object, kind, 0);
@@ -264,10 +264,10 @@ fn keeps_ends<S: Steps>(
 
 /// The first of two elements is 0, and the second one the word.
 fn has_both<S: Steps>(rt: &impl Abort, steps: &mut S, object: u16, _kind: Kind, second: u64)
-    requires role { (S.stands steps.old).role ≡ Within }
-    requires object { MayKnow S.knows steps.old (HasKind object _kind) }
-    ensures stands { S.stands steps.new ≡ S.stands steps.old }
-    ensures object { MayKnow S.knows steps.new (HasKind object _kind) }
+    requires role { (S.facts steps.old).stands.role ≡ Within }
+    requires object { MayKnow S.facts steps.old (HasKind object _kind) }
+    ensures stands { (S.facts steps.new).stands ≡ (S.facts steps.old).stands }
+    ensures object { MayKnow S.facts steps.new (HasKind object _kind) }
 {
     read_answers(rt, steps, object, _kind, 0, Ok(0));
     read_answers(rt, steps, object, _kind, 1, Ok(second));
@@ -279,8 +279,8 @@ fn each_keeps_ends<S: Steps>(
     steps: &mut S,
     numbers: &mut Numbers,
 ) -> Result<(), Fail>
-    requires { (S.stands steps.old).role ≡ Within }
-    ensures { S.stands steps.new ≡ S.stands steps.old }
+    requires { (S.facts steps.old).stands.role ≡ Within }
+    ensures { (S.facts steps.new).stands ≡ (S.facts steps.old).stands }
 {
     keeps_ends(rt, steps, numbers, Kind::Boolean, 1)?;
     keeps_ends(rt, steps, numbers, Kind::Byte, 0xff)?;
@@ -297,7 +297,7 @@ fn text_takes_the_rest<S: Steps>(
     steps: &mut S,
     numbers: &mut Numbers,
 ) -> Result<(), Fail>
-    requires { (S.stands steps.old).role ≡ Within }
+    requires { (S.facts steps.old).stands.role ≡ Within }
 {
     let text = made(steps, numbers, Kind::Text, 2, 0xffff)?;
     read_answers(rt, steps, text, Kind::Text, 1, Ok(0xffff));
@@ -309,8 +309,8 @@ fn text_takes_the_rest<S: Steps>(
 
 /// Makes an array of its own so often, writes it and reads it, or until it has tried so often. How often it read what it had written.
 fn write_and_read<S: Steps>(steps: &mut S, rounds: u32, tries: u32) -> u32
-    requires { (S.stands steps.old).role ≡ Within }
-    ensures { S.stands steps.new ≡ S.stands steps.old }
+    requires { (S.facts steps.old).stands.role ≡ Within }
+    ensures { (S.facts steps.new).stands ≡ (S.facts steps.old).stands }
 {
     let mut numbers = Numbers::new();
     let mut right = 0;
@@ -340,11 +340,11 @@ fn refuses_past<S: Steps>(
     kind: Kind,
     past: u64,
 ) -> Result<(), Fail>
-    requires role { (S.stands steps.old).role ≡ Within }
+    requires role { (S.facts steps.old).stands.role ≡ Within }
     requires kind { kind ≢ Plain }
     requires least { (k : Known) → IsWordNow kind 0 k }
     requires named { (k : Known) → MayBeNamed kind past k }
-    ensures { S.stands steps.new ≡ S.stands steps.old }
+    ensures { (S.facts steps.new).stands ≡ (S.facts steps.old).stands }
 {
     let object = made(steps, numbers, kind, 1, 0)?;
     write_answers(rt, steps, object, kind, 0, past, Err(Fault::Value));
@@ -359,7 +359,7 @@ fn each_refuses_past<S: Steps>(
     steps: &mut S,
     numbers: &mut Numbers,
 ) -> Result<(), Fail>
-    requires { (S.stands steps.old).role ≡ Within }
+    requires { (S.facts steps.old).stands.role ≡ Within }
 {
     refuses_past(rt, steps, numbers, Kind::Boolean, 2)?;
     refuses_past(rt, steps, numbers, Kind::Byte, 0x100)?;
@@ -371,8 +371,8 @@ fn each_refuses_past<S: Steps>(
 
 /// Makes so many objects without elements. The sum of their numbers.
 fn make_many<S: Steps>(steps: &mut S, numbers: &mut Numbers, count: u32) -> Result<u64, Fail>
-    requires { (S.stands steps.old).role ≡ Within }
-    ensures { S.stands steps.new ≡ S.stands steps.old }
+    requires { (S.facts steps.old).stands.role ≡ Within }
+    ensures { (S.facts steps.new).stands ≡ (S.facts steps.old).stands }
 {
     let mut sum = 0u64;
     for _ in 0..count {
@@ -384,9 +384,9 @@ fn make_many<S: Steps>(steps: &mut S, numbers: &mut Numbers, count: u32) -> Resu
 
 /// An array of three words, made of a range that stays filled while another is reserved.
 fn made_beside<S: Steps>(steps: &mut S, numbers: &mut Numbers) -> Result<u16, Fault>
-    requires { (S.stands steps.old).role ≡ Within }
-    ensures stands { S.stands steps.new ≡ S.stands steps.old }
-    ensures object { IfOk result (λ o. MayKnow S.knows steps.new (HasObject o)) }
+    requires { (S.facts steps.old).stands.role ≡ Within }
+    ensures stands { (S.facts steps.new).stands ≡ (S.facts steps.old).stands }
+    ensures object { IfOk result (λ o. MayKnow S.facts steps.new (HasObject o)) }
 {
     let first = reserve(steps, 3)?;
     fill(steps, &first, 7);
@@ -401,11 +401,11 @@ fn read_again<S: Steps, T: Steps>(
     numbers: &mut Numbers,
     object: u16,
 ) -> Result<u64, Fault>
-    requires role { (S.stands steps.old).role ≡ Within }
-    requires beside { (T.stands other.old).role ≡ Within }
-    requires object { MayKnow S.knows steps.old (HasObject object) }
-    ensures stands { S.stands steps.new ≡ S.stands steps.old }
-    ensures beside { T.stands other.new ≡ T.stands other.old }
+    requires role { (S.facts steps.old).stands.role ≡ Within }
+    requires beside { (T.facts other.old).stands.role ≡ Within }
+    requires object { MayKnow S.facts steps.old (HasObject object) }
+    ensures stands { (S.facts steps.new).stands ≡ (S.facts steps.old).stands }
+    ensures beside { (T.facts other.new).stands ≡ (T.facts other.old).stands }
 {
     let found = header(steps, object);
     made_plain(other, numbers)?;
@@ -415,9 +415,9 @@ fn read_again<S: Steps, T: Steps>(
 
 /// Publishes a range, and reads its object's first element by the header that was built for it.
 fn published<S: Steps>(steps: &mut S, numbers: &mut Numbers, range: Range) -> Result<u64, Fault>
-    requires role { (S.stands steps.old).role ≡ Within }
-    requires ready { MayKnow S.knows steps.old (IsReady Int (place_of range) (size_of range)) }
-    ensures stands { S.stands steps.new ≡ S.stands steps.old }
+    requires role { (S.facts steps.old).stands.role ≡ Within }
+    requires ready { MayKnow S.facts steps.old (IsReady Int (place_of range) (size_of range)) }
+    ensures stands { (S.facts steps.new).stands ≡ (S.facts steps.old).stands }
 {
     let header = range.header(Kind::Int);
     let object = publish(steps, numbers, Kind::Int, range)?;
@@ -431,11 +431,11 @@ fn published_beside<S: Steps>(
     range: Range,
     _other: &Range,
 ) -> Result<u64, Fault>
-    requires role { (S.stands steps.old).role ≡ Within }
-    requires ready { MayKnow S.knows steps.old (AreReady range _other.now) }
+    requires role { (S.facts steps.old).stands.role ≡ Within }
+    requires ready { MayKnow S.facts steps.old (AreReady range _other.now) }
     requires apart { place_of range ≢ place_of _other.now }
-    ensures stands { S.stands steps.new ≡ S.stands steps.old }
-    ensures other { MayKnow S.knows steps.new (IsReady Int (place_of _other.now) (size_of _other.now)) }
+    ensures stands { (S.facts steps.new).stands ≡ (S.facts steps.old).stands }
+    ensures other { MayKnow S.facts steps.new (IsReady Int (place_of _other.now) (size_of _other.now)) }
 {
     let header = range.header(Kind::Int);
     let object = publish(steps, numbers, Kind::Int, range)?;
@@ -449,10 +449,10 @@ fn both_published<S: Steps, T: Steps>(
     numbers: &mut Numbers,
     later_first: bool,
 ) -> Result<(u64, u64), Fault>
-    requires role { (S.stands steps.old).role ≡ Within }
-    requires beside { (T.stands other.old).role ≡ Within }
-    ensures stands { S.stands steps.new ≡ S.stands steps.old }
-    ensures beside { T.stands other.new ≡ T.stands other.old }
+    requires role { (S.facts steps.old).stands.role ≡ Within }
+    requires beside { (T.facts other.old).stands.role ≡ Within }
+    ensures stands { (S.facts steps.new).stands ≡ (S.facts steps.old).stands }
+    ensures beside { (T.facts other.new).stands ≡ (T.facts other.old).stands }
 {
     let first = reserve(steps, 3)?;
     fill(steps, &first, 7);
@@ -476,10 +476,10 @@ fn serve_later<S: Steps, T: Steps>(
     other: &mut T,
     numbers: &mut Numbers,
 ) -> Result<(), Fail>
-    requires role { (S.stands steps.old).role ≡ Within }
-    requires beside { (T.stands other.old).role ≡ Within }
-    ensures stands { S.stands steps.new ≡ S.stands steps.old }
-    ensures beside { T.stands other.new ≡ T.stands other.old }
+    requires role { (S.facts steps.old).stands.role ≡ Within }
+    requires beside { (T.facts other.old).stands.role ≡ Within }
+    ensures stands { (S.facts steps.new).stands ≡ (S.facts steps.old).stands }
+    ensures beside { (T.facts other.new).stands ≡ (T.facts other.old).stands }
 {
     let object = made_beside(steps, numbers)?;
     let again = read_again(steps, other, numbers, object);
@@ -498,10 +498,10 @@ fn share_space<S: Steps, T: Steps>(
     other: &mut T,
     numbers: &mut Numbers,
 ) -> Result<u16, Fail>
-    requires role { (S.stands steps.old).role ≡ Within }
-    requires beside { (T.stands other.old).role ≡ Within }
-    ensures stands { S.stands steps.new ≡ S.stands steps.old }
-    ensures beside { T.stands other.new ≡ T.stands other.old }
+    requires role { (S.facts steps.old).stands.role ≡ Within }
+    requires beside { (T.facts other.old).stands.role ≡ Within }
+    ensures stands { (S.facts steps.new).stands ≡ (S.facts steps.old).stands }
+    ensures beside { (T.facts other.new).stands ≡ (T.facts other.old).stands }
 {
     let object = make_and_write(rt, steps, numbers)?;
     let looked = other.see_top(TopLoad::Look);
@@ -520,10 +520,10 @@ fn share<S: Steps, T: Steps>(
     other: &mut T,
     numbers: &mut Numbers,
 ) -> Result<(), Fail>
-    requires role { (S.stands steps.old).role ≡ Within }
-    requires beside { (T.stands other.old).role ≡ Within }
-    ensures stands { S.stands steps.new ≡ S.stands steps.old }
-    ensures beside { T.stands other.new ≡ T.stands other.old }
+    requires role { (S.facts steps.old).stands.role ≡ Within }
+    requires beside { (T.facts other.old).stands.role ≡ Within }
+    ensures stands { (S.facts steps.new).stands ≡ (S.facts steps.old).stands }
+    ensures beside { (T.facts other.new).stands ≡ (T.facts other.old).stands }
 {
     let object = share_space(rt, steps, other, numbers)?;
     let plain = make_plain(rt, steps, numbers)?;
@@ -588,8 +588,8 @@ fn a_word_past_the_kind_is_refused(rt: HostRuntime) -> Result<(), Fail> {
 
 /// More words than the room has are refused, and none is reserved.
 fn refuses_too_many<S: Steps>(rt: &impl Abort, steps: &mut S)
-    requires { (S.stands steps.old).role ≡ Within }
-    ensures { S.stands steps.new ≡ S.stands steps.old }
+    requires { (S.facts steps.old).stands.role ≡ Within }
+    ensures { (S.facts steps.new).stands ≡ (S.facts steps.old).stands }
 {
     let past = reserve(steps, 1_048_577);
     assert_eq!(rt; past.err(), Some(Fault::SpaceFull(0)));
@@ -603,7 +603,7 @@ fn one_takes_all<S: Steps>(
     steps: &mut S,
     numbers: &mut Numbers,
 ) -> Result<(), Fail>
-    requires { (S.stands steps.old).role ≡ Within }
+    requires { (S.facts steps.old).stands.role ≡ Within }
 {
     let array = made(steps, numbers, Kind::Long, 1_048_576, u64::MAX)?;
     read_answers(rt, steps, array, Kind::Long, 0, Ok(u64::MAX));
