@@ -14,7 +14,7 @@ use Rattle.jr_steps.specs.Holdings.{InSpace}
 use Rattle.jr_steps.specs.Knowing.{IsOf, view, fresh_from, HasNoLocals, Goes, Took, TookWith}
 use Rattle.jr_rule.specs.Rule.{view_of as seats, Sat, acting, others_of, Tells}
 use Rattle.jr_rule.specs.Holding.{IsHeld}
-use Rattle.jr_rule.specs.Passes.{known_of, standing_of, Knows}
+use Rattle.jr_rule.specs.Passes.{facts_of, known_of, standing_of, Knows}
 use Rattle.jr_steps.proofs.StepFacts.{goes_did}
 
 -- who is fresh afterwards was so, and has stored no local
@@ -67,7 +67,7 @@ module _ {told : Known → ℕ → List Act → Known → Type 0} (old new : Pas
 
   -- the step was taken
   pub took : {met : Known → Type 0} {shows : Known → Known → Type 0} (acts : List Act) → new.seat.table_id ≡ old.seat.table_id → s.acts ≡ acts → new.thread ≡ old.thread → new.role ≡ role_from old.role acts → new.fresh ≡ fresh_from old.fresh acts
-      → (met (known_of old) → shows (known_of old) s.new) → Took standing_of Knows old new acts met shows
+      → (met (known_of old) → shows (known_of old) s.new) → Took facts_of old new acts met shows
   took {met} {shows} acts same_table acts_are same_thread role_is fresh_is shown =
       let g = s.goes in
       let a = acting_is old.seat.me n new.seat.me s in record {
@@ -88,7 +88,7 @@ module _ {told : Known → ℕ → List Act → Known → Type 0} (old new : Pas
 
   -- the step was taken, with acts that depend on what was known
   pub took_with : {met : Known → Type 0} {shows : Known → Known → Type 0} (acts : Known → List Act) → new.seat.table_id ≡ old.seat.table_id → s.acts ≡ acts (known_of old) → new.thread ≡ old.thread → new.role ≡ old.role → new.fresh ≡ old.fresh
-      → (met (known_of old) → shows (known_of old) s.new) → TookWith standing_of Knows old new acts met shows
+      → (met (known_of old) → shows (known_of old) s.new) → TookWith facts_of old new acts met shows
   took_with {met} {shows} acts same_table acts_are same_thread role_is fresh_is shown =
       let g = s.goes in
       let a = acting_is old.seat.me n new.seat.me s in record {

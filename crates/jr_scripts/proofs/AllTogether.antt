@@ -65,9 +65,9 @@ played turns last c r p q first commands answer lines config_is last_is o x done
     let k0 : Known = known c last t [] empty 0 in
     let knows0 : known_of p ≡ k0 = o.knows ∙ (λ i. known (config_is i) (last_is i) t [] empty 0) in
     let fresh : fresh_frames (standing_of p).config.locals ≡ fresh_frames c.locals = ap (λ (k : Known). fresh_frames k.config.locals) knows0 in
-    let ran : RanThread standing_of Knows p q (fresh_frames c.locals) x.frames turns first commands (Ok tt) lines
-    = subst (λ a. RanThread standing_of Knows p q (fresh_frames c.locals) x.frames turns first commands a lines) done
-    (subst (λ f. RanThread standing_of Knows p q f x.frames turns first commands answer lines) fresh x.ran) in
+    let ran : RanThread facts_of p q (fresh_frames c.locals) x.frames turns first commands (Ok tt) lines
+    = subst (λ a. RanThread facts_of p q (fresh_frames c.locals) x.frames turns first commands a lines) done
+    (subst (λ f. RanThread facts_of p q f x.frames turns first commands answer lines) fresh x.ran) in
     let holds0 : Holds (fresh_frames c.locals) k0 = λ place. refl in
     let y = ran.explained (known_of p) (opened_knows r p o) (subst (Holds (fresh_frames c.locals)) (sym knows0) holds0) in
     let is : y.0 ≡ known_of q = (y.1).is in

@@ -14,12 +14,12 @@ pub ran_pass : {S : Type 0} (pass_of : S → Pass) (a b : S) (p q : Pass) (f g :
     → RanThread (λ s. standing_of (pass_of s)) (λ s k. Knows (pass_of s) k) a b f g turns first commands answer text
     → pass_of a ≡ p → q ≡ pass_of b → f ≡ fresh_frames (standing_of p).config.locals → commands ≡ commands' → out ≡ text → RanPass turns first commands' p q answer out
 ran_pass pass_of a b p q f g turns first commands commands' answer out text r old new fresh same whole =
-    let here : RanThread standing_of Knows (pass_of a) (pass_of b) f g turns first commands answer text = record { stands_is = r.stands_is; explained = r.explained } in
+    let here : RanThread facts_of (pass_of a) (pass_of b) f g turns first commands answer text = record { stands_is = r.stands_is; explained = r.explained } in
     record {
       frames = g;
-      ran = subst (λ t. RanThread standing_of Knows p q (fresh_frames (standing_of p).config.locals) g turns first commands' answer t) (sym whole)
-          (subst (λ cs. RanThread standing_of Knows p q (fresh_frames (standing_of p).config.locals) g turns first cs answer text) same
-          (subst (λ h. RanThread standing_of Knows p q h g turns first commands answer text) fresh
-          (subst (λ z. RanThread standing_of Knows p z f g turns first commands answer text) (sym new)
-          (subst (λ z. RanThread standing_of Knows z (pass_of b) f g turns first commands answer text) old here))));
+      ran = subst (λ t. RanThread facts_of p q (fresh_frames (standing_of p).config.locals) g turns first commands' answer t) (sym whole)
+          (subst (λ cs. RanThread facts_of p q (fresh_frames (standing_of p).config.locals) g turns first cs answer text) same
+          (subst (λ h. RanThread facts_of p q h g turns first commands answer text) fresh
+          (subst (λ z. RanThread facts_of p z f g turns first commands answer text) (sym new)
+          (subst (λ z. RanThread facts_of z (pass_of b) f g turns first commands answer text) old here))));
     }

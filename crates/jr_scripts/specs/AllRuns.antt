@@ -22,7 +22,7 @@ use Rattle.jr_scripts.specs.Runs.{RanThread}
 -- a thread ran these commands with its pass, which it hands back
 pub record RanPass (turns first : ℕ) (commands : List Command) (old new : Pass) (answer : Result (Unit {0}) Fault) (text : List ℕ) : Type 0 where
   pub frames : Frames
-  pub ran : RanThread standing_of Knows old new (fresh_frames (standing_of old).config.locals) frames turns first commands answer text
+  pub ran : RanThread facts_of old new (fresh_frames (standing_of old).config.locals) frames turns first commands answer text
 
 -- a pass of the thread that has seen this
 abbrev pub seeing_as : Config → ℕ → ℕ → History → PassView

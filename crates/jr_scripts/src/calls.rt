@@ -221,10 +221,10 @@ impl<S: Steps> Work<S> for Typing {
 
 /// A plain object and a local reference to it, within the gate: E9, E11.
 fn make_plain<S: Steps>(steps: &mut S, frames: &mut Frames) -> Result<HandleParts, Fault>
-    requires { StandsReady S.stands S.knows Within steps.old frames.old }
-    ensures call { MakesPlain S.stands S.knows steps.old steps.new frames.old.frames frames.new.frames (S.stands steps.old).config.objects (making (S.stands steps.old).config (S.stands steps.old).last (S.stands steps.old).thread) result }
+    requires { StandsReady S.facts Within steps.old frames.old }
+    ensures call { MakesPlain S.facts steps.old steps.new frames.old.frames frames.new.frames (S.facts steps.old).stands.config.objects (making (S.facts steps.old).stands.config (S.facts steps.old).stands.last (S.facts steps.old).stands.thread) result }
     ensures same { KeepsOwner frames.old frames.new }
-    ensures owner { IfOk result (λ h. (h.kind ≡ Local) × (h.owner ≡ (S.stands steps.old).thread)) }
+    ensures owner { IfOk result (λ h. (h.kind ≡ Local) × (h.owner ≡ (S.facts steps.old).stands.thread)) }
 {
     let Some(handle) = frames.next() else {
         return Err(Fault::LocalsFull);
@@ -242,10 +242,10 @@ fn create_within<S: Steps>(
     kind: RefKind,
     reference: Reference,
 ) -> Result<Option<HandleParts>, Fault>
-    requires ready { StandsReady S.stands S.knows Within steps.old frames.now }
+    requires ready { StandsReady S.facts Within steps.old frames.now }
     requires kind { kind ≢ Local }
     requires fits { OwnerFits reference }
-    ensures call { Calls S.stands S.knows steps.old steps.new frames.now.frames frames.now.frames (creation (S.stands steps.old).config (S.stands steps.old).last (S.stands steps.old).thread kind (word_of reference)) result }
+    ensures call { Calls S.facts steps.old steps.new frames.now.frames frames.now.frames (creation (S.facts steps.old).stands.config (S.facts steps.old).stands.last (S.facts steps.old).stands.thread kind (word_of reference)) result }
     ensures owner { IfOk result (λ made. IfSome made (λ h. h.owner ≡ 0)) }
 {
     let Some(object) = resolve(steps, frames, reference)? else {
@@ -261,11 +261,11 @@ fn create_local_within<S: Steps>(
     frames: &mut Frames,
     reference: Reference,
 ) -> Result<Option<HandleParts>, Fault>
-    requires ready { StandsReady S.stands S.knows Within steps.old frames.old }
+    requires ready { StandsReady S.facts Within steps.old frames.old }
     requires fits { OwnerFits reference }
-    ensures call { Calls S.stands S.knows steps.old steps.new frames.old.frames frames.new.frames (local_creation (S.stands steps.old).config (S.stands steps.old).last (S.stands steps.old).thread (word_of reference)) result }
+    ensures call { Calls S.facts steps.old steps.new frames.old.frames frames.new.frames (local_creation (S.facts steps.old).stands.config (S.facts steps.old).stands.last (S.facts steps.old).stands.thread (word_of reference)) result }
     ensures same { KeepsOwner frames.old frames.new }
-    ensures owner { IfOk result (λ made. IfSome made (λ h. (h.kind ≡ Local) × (h.owner ≡ (S.stands steps.old).thread))) }
+    ensures owner { IfOk result (λ made. IfSome made (λ h. (h.kind ≡ Local) × (h.owner ≡ (S.facts steps.old).stands.thread))) }
 {
     let object = resolve(steps, frames, reference)?;
     make_local(steps, frames, object)
@@ -277,11 +277,11 @@ fn make_local<S: Steps>(
     frames: &mut Frames,
     object: Option<u16>,
 ) -> Result<Option<HandleParts>, Fault>
-    requires ready { StandsReady S.stands S.knows Within steps.old frames.old }
-    requires object { MayKnow S.knows steps.old (HasOptional object) }
-    ensures call { MakesLocal S.stands S.knows steps.old steps.new frames.old.frames frames.new.frames object (new_local (S.stands steps.old).config (S.stands steps.old).last (S.stands steps.old).thread object) result }
+    requires ready { StandsReady S.facts Within steps.old frames.old }
+    requires object { MayKnow S.facts steps.old (HasOptional object) }
+    ensures call { MakesLocal S.facts steps.old steps.new frames.old.frames frames.new.frames object (new_local (S.facts steps.old).stands.config (S.facts steps.old).stands.last (S.facts steps.old).stands.thread object) result }
     ensures same { KeepsOwner frames.old frames.new }
-    ensures owner { IfOk result (λ made. IfSome made (λ h. (h.kind ≡ Local) × (h.owner ≡ (S.stands steps.old).thread))) }
+    ensures owner { IfOk result (λ made. IfSome made (λ h. (h.kind ≡ Local) × (h.owner ≡ (S.facts steps.old).stands.thread))) }
 {
     let Some(object) = object else {
         return Ok(None);
@@ -301,10 +301,10 @@ fn compare_within<S: Steps>(
     left: Reference,
     right: Reference,
 ) -> Result<bool, Fault>
-    requires role { (S.stands steps.old).role ≡ Within }
+    requires role { (S.facts steps.old).stands.role ≡ Within }
     requires left { OwnerFits left }
     requires right { OwnerFits right }
-    ensures { Calls S.stands S.knows steps.old steps.new frames.now.frames frames.now.frames (comparison (S.stands steps.old).config (S.stands steps.old).last (S.stands steps.old).thread (word_of left) (word_of right)) result }
+    ensures { Calls S.facts steps.old steps.new frames.now.frames frames.now.frames (comparison (S.facts steps.old).stands.config (S.facts steps.old).stands.last (S.facts steps.old).stands.thread (word_of left) (word_of right)) result }
 {
     let (first, second) = resolve_both(steps, frames, left, right)?;
     Ok(first == second)
@@ -312,10 +312,10 @@ fn compare_within<S: Steps>(
 
 /// Deletes a reference of the kind, within the gate: E2, E4.
 fn delete_within<S: Steps>(steps: &mut S, kind: RefKind, reference: Reference) -> Result<(), Fault>
-    requires role { (S.stands steps.old).role ≡ Within }
+    requires role { (S.facts steps.old).stands.role ≡ Within }
     requires kind { kind ≢ Local }
     requires fits { OwnerFits reference }
-    ensures { (f : LocalFrames) → Calls S.stands S.knows steps.old steps.new f f (removal (S.stands steps.old).config kind (word_of reference)) result }
+    ensures { (f : LocalFrames) → Calls S.facts steps.old steps.new f f (removal (S.facts steps.old).stands.config kind (word_of reference)) result }
 {
     match reference {
         Reference::Null => Ok(()),
@@ -326,10 +326,10 @@ fn delete_within<S: Steps>(steps: &mut S, kind: RefKind, reference: Reference) -
 
 /// Deletes the reference of a handle, if it is of the kind.
 fn delete_parts<S: Steps>(steps: &mut S, kind: RefKind, handle: HandleParts) -> Result<(), Fault>
-    requires role { (S.stands steps.old).role ≡ Within }
+    requires role { (S.facts steps.old).stands.role ≡ Within }
     requires kind { kind ≢ Local }
     requires fits { handle.kind ≢ Local → handle.owner ≡ 0 }
-    ensures { (f : LocalFrames) → Calls S.stands S.knows steps.old steps.new f f (removal (S.stands steps.old).config kind (Parts handle)) result }
+    ensures { (f : LocalFrames) → Calls S.facts steps.old steps.new f f (removal (S.facts steps.old).stands.config kind (Parts handle)) result }
 {
     if !names_kind(kind, handle) {
         return Err(Fault::WrongKind);
@@ -346,8 +346,8 @@ fn delete_local_within<S: Steps>(
     frames: &mut Frames,
     reference: Reference,
 ) -> Result<(), Fault>
-    requires { StandsReady S.stands S.knows Within steps.old frames.old }
-    ensures call { Calls S.stands S.knows steps.old steps.new frames.old.frames frames.new.frames (local_removal (S.stands steps.old).config (S.stands steps.old).thread (word_of reference)) result }
+    requires { StandsReady S.facts Within steps.old frames.old }
+    ensures call { Calls S.facts steps.old steps.new frames.old.frames frames.new.frames (local_removal (S.facts steps.old).stands.config (S.facts steps.old).stands.thread (word_of reference)) result }
     ensures same { KeepsOwner frames.old frames.new }
 {
     match reference {
@@ -363,8 +363,8 @@ fn delete_local_parts<S: Steps>(
     frames: &mut Frames,
     handle: HandleParts,
 ) -> Result<(), Fault>
-    requires { StandsReady S.stands S.knows Within steps.old frames.old }
-    ensures call { Calls S.stands S.knows steps.old steps.new frames.old.frames frames.new.frames (local_removal (S.stands steps.old).config (S.stands steps.old).thread (Parts handle)) result }
+    requires { StandsReady S.facts Within steps.old frames.old }
+    ensures call { Calls S.facts steps.old steps.new frames.old.frames frames.new.frames (local_removal (S.facts steps.old).stands.config (S.facts steps.old).stands.thread (Parts handle)) result }
     ensures same { KeepsOwner frames.old frames.new }
 {
     if !names_local(handle) {

@@ -19,7 +19,7 @@ pub trait EnvCall<S: Steps> {
     ///
     /// Those of the env's method for the call.
     fn make(&self, env: &mut Env<S>) -> Result<Self::Answer, Fault>
-        ensures { Does S.stands S.knows env.old.steps env.new.steps env.old.frames.frames env.new.frames.frames (deed self.now) result };
+        ensures { Does S.facts env.old.steps env.new.steps env.old.frames.frames env.new.frames.frames (deed self.now) result };
 }
 
 /// A plain object and a local reference to it.

@@ -21,7 +21,7 @@ use jr_word::{Fault, Handle, RefKind};
 fn ask<S: Steps, C: EnvCall<S>>(env: &mut Env<S>, turns: u64, call: &C) -> Result<Reply, Fault>
 where
     C::Answer: IntoReply,
-    ensures { Does S.stands S.knows env.old.steps env.new.steps env.old.frames.frames env.new.frames.frames (answered_by C.Answer.reply (tried turns (C.deed call.now))) result }
+    ensures { Does S.facts env.old.steps env.new.steps env.old.frames.frames env.new.frames.frames (answered_by C.Answer.reply (tried turns (C.deed call.now))) result }
 {
     let answer = retry(env, turns, call)?;
     Ok(answer.into_reply())
@@ -29,7 +29,7 @@ where
 
 /// Deletes a reference by the call of its kind.
 fn delete<S: Steps>(env: &mut Env<S>, turns: u64, handle: Handle) -> Result<Reply, Fault>
-    ensures { Does S.stands S.knows env.old.steps env.new.steps env.old.frames.frames env.new.frames.frames (answered_by (λ _. replies.Done) (deletion turns handle.0)) result }
+    ensures { Does S.facts env.old.steps env.new.steps env.old.frames.frames env.new.frames.frames (answered_by (λ _. replies.Done) (deletion turns handle.0)) result }
 {
     match Reference::of(handle) {
         Reference::Null => ask(env, turns, &DeleteLocalRef(handle)),
@@ -44,7 +44,7 @@ fn delete<S: Steps>(env: &mut Env<S>, turns: u64, handle: Handle) -> Result<Repl
 
 /// The type of a reference: 0 where there is none.
 fn type_of<S: Steps>(env: &mut Env<S>, turns: u64, referent: Option<Handle>) -> Result<Reply, Fault>
-    ensures { Does S.stands S.knows env.old.steps env.new.steps env.old.frames.frames env.new.frames.frames (answered_by (λ t. replies.Type t) (type_deed turns referent)) result }
+    ensures { Does S.facts env.old.steps env.new.steps env.old.frames.frames env.new.frames.frames (answered_by (λ t. replies.Type t) (type_deed turns referent)) result }
 {
     match referent {
         Some(handle) => ask(env, turns, &GetObjectRefType(handle)),
@@ -59,7 +59,7 @@ pub fn perform<S: Steps>(
     turns: u64,
     command: &Command,
 ) -> Result<Reply, Fault>
-    ensures { Does S.stands S.knows env.old.steps env.new.steps env.old.frames.frames env.new.frames.frames (deed turns names.now command.now) result }
+    ensures { Does S.facts env.old.steps env.new.steps env.old.frames.frames env.new.frames.frames (deed turns names.now command.now) result }
 {
     match command {
         Command::Make {

@@ -23,7 +23,7 @@ pub fn retry<S: Steps, C: EnvCall<S>>(
     turns: u64,
     call: &C,
 ) -> Result<C::Answer, Fault>
-    ensures { Does S.stands S.knows env.old.steps env.new.steps env.old.frames.frames env.new.frames.frames (tried turns (C.deed call.now)) result }
+    ensures { Does S.facts env.old.steps env.new.steps env.old.frames.frames env.new.frames.frames (tried turns (C.deed call.now)) result }
 {
     for _ in 0..turns {
         let answer = call.make(env);

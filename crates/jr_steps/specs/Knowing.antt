@@ -31,6 +31,11 @@ pub record Standing : Type 0 where
   pub role : Role
   pub fresh : Bool
 
+-- WHAT A PASS IS, and what may be known of it
+pub record Facts : Type 1 where
+  pub stands : Standing
+  pub knows : Known → Type 0
+
 -- a pass that was not spent is fresh until its first store to a local word
 abbrev pub fresh_after : Bool → Act → Bool
 fresh_after f (LocalPut p o) = false
@@ -108,8 +113,8 @@ HasOptional None k = Unit {0}
 HasOptional (Some o) k = HasObject o k
 
 -- something that may be known meets the condition
-abbrev pub MayKnow : {S : Type 0} → (S → Known → Type 0) → S → (Known → Type 0) → Type 0
-MayKnow knows s met = ∥ ((k : Known) × knows s k × met k) ∥₁
+abbrev pub MayKnow : {S : Type 0} → (S → Facts) → S → (Known → Type 0) → Type 0
+MayKnow facts s met = ∥ ((k : Known) × (facts s).knows k × met k) ∥₁
 
 -- the thread looked at the handle in this stay, and found r
 pub record HasLooked (h : Handle) (r : Found) (k : Known) : Type 0 where
@@ -222,25 +227,25 @@ HasNoLocals k = (p : ℕ) → (state_of k).locals k.thread p ≡ None
 abbrev pub Holds : Frames → Known → Type 0
 Holds f k = Agree k.thread f (state_of k)
 
-module _ {S : Type 0} (stands : S → Standing) (knows : S → Known → Type 0) where
+module _ {S : Type 0} (facts : S → Facts) where
   -- a step was taken: for whatever was known and meets the condition, something is known that the step made of it, and that shows this; and nobody else did anything in between where the pass is of no room
   pub record Took (old new : S) (acts : List Act) (met : Known → Type 0) (shows : Known → Known → Type 0) : Type 0 where
-    pub stands_is : stands new ≡ standing_after (stands old) acts
-    pub goes : (k : Known) → knows old k → met k → (k' : Known) × knows new k' × Goes k acts k' × shows k k'
-    pub alone : (stands old).room ≡ None → (k : Known) (s : knows old k) (m : met k) → (goes k s m).2.between ≡ []
+    pub stands_is : (facts new).stands ≡ standing_after (facts old).stands acts
+    pub goes : (k : Known) → (facts old).knows k → met k → (k' : Known) × (facts new).knows k' × Goes k acts k' × shows k k'
+    pub alone : (facts old).stands.room ≡ None → (k : Known) (s : (facts old).knows k) (m : met k) → (goes k s m).2.between ≡ []
 
   -- one step was taken, with acts that depend on what was known, none of them of the gate or a local word
   pub record TookWith (old new : S) (acts : Known → List Act) (met : Known → Type 0) (shows : Known → Known → Type 0) : Type 0 where
-    pub stands_is : stands new ≡ stands old
-    pub goes : (k : Known) → knows old k → met k → (k' : Known) × knows new k' × Goes k (acts k) k' × shows k k'
-    pub alone : (stands old).room ≡ None → (k : Known) (s : knows old k) (m : met k) → (goes k s m).2.between ≡ []
+    pub stands_is : (facts new).stands ≡ (facts old).stands
+    pub goes : (k : Known) → (facts old).knows k → met k → (k' : Known) × (facts new).knows k' × Goes k (acts k) k' × shows k k'
+    pub alone : (facts old).stands.room ≡ None → (k : Known) (s : (facts old).knows k) (m : met k) → (goes k s m).2.between ≡ []
 
   -- several steps were taken, none of which has an act: for whatever was known and meets the condition, something is known that they made of it, and that shows this
   pub record Saw (old new : S) (met : Known → Type 0) (shows : Known → Known → Type 0) : Type 0 where
-    pub stands_is : stands new ≡ stands old
-    pub sees : (k : Known) → knows old k → met k → (k' : Known) × knows new k' × Sees k k' × shows k k'
+    pub stands_is : (facts new).stands ≡ (facts old).stands
+    pub sees : (k : Known) → (facts old).knows k → met k → (k' : Known) × (facts new).knows k' × Sees k k' × shows k k'
 
   -- the pass is not fresh any more, and nothing else changed
   pub record Spent (old new : S) : Type 0 where
-    pub stands_is : stands new ≡ record (stands old) { fresh = false }
-    pub same : (k : Known) → knows old k ↔ knows new k
+    pub stands_is : (facts new).stands ≡ record ((facts old).stands) { fresh = false }
+    pub same : (k : Known) → (facts old).knows k ↔ (facts new).knows k

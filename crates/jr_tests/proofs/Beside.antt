@@ -9,7 +9,7 @@ use Rattle.jr_model.proofs.Updates.{eq_self}
 use Rattle.jr_steps.specs.declared.known.Known.{Known}
 use Rattle.jr_steps.specs.declared.known.Holdings.{Holdings}
 use Rattle.jr_steps.specs.Holdings.{words_at, header_in, with_range}
-use Rattle.jr_steps.specs.Knowing.{MayKnow, anything, state_of, without_range_of}
+use Rattle.jr_steps.specs.Knowing.{Facts, MayKnow, anything, state_of, without_range_of}
 use Rattle.jr_heap.specs.Heap.{Called, header_of, own_words, IsOwn, IsReady, Gains, Fills, Publishes, HoldsHeader}
 use Rattle.jr_heap.proofs.Calling.{may_called}
 use Rattle.jr_heap.proofs.Filling.{among}
@@ -60,18 +60,18 @@ published_holds q m o j k s r = record {
   shown = record { contents = record { kind = Int; words = own_words q m j }; is = s.0; says = record { kind = refl; long = r.long } };
 }
 
-module _ {S : Type 0} {knows : S → Known → Type 0} {a b : S} {A : Type 0} {call : Known → Known → Call A} {answer : Result A Fault} (p q n : ℕ) (three : n ≡ 3) (may : MayKnow knows a (IsReady Int p n)) (reserved : Called knows a b anything call answer (Gains 2 q)) where
+module _ {S : Type 0} {facts : S → Facts} {a b : S} {A : Type 0} {call : Known → Known → Call A} {answer : Result A Fault} (p q n : ℕ) (three : n ≡ 3) (may : MayKnow facts a (IsReady Int p n)) (reserved : Called facts a b anything call answer (Gains 2 q)) where
   pub apart : p ≢ q
   apart e =
-      let first : MayKnow knows a (IsReady Int p 3) = subst (λ z. MayKnow knows a (IsReady Int p z)) three may in
-      let each : ((k : Known) × knows a k × IsReady Int p 3 k) → ⊥ = λ k. let r = reserved.ran k.0 k.1 tt in elsewhere p q k.0 r.0 k.2 r.3 e in
+      let first : MayKnow facts a (IsReady Int p 3) = subst (λ z. MayKnow facts a (IsReady Int p z)) three may in
+      let each : ((k : Known) × (facts a).knows k × IsReady Int p 3 k) → ⊥ = λ k. let r = reserved.ran k.0 k.1 tt in elsewhere p q k.0 r.0 k.2 r.3 e in
       ∥∥₁_elim first (λ x y. absurd x) each
 
   -- a range that was filled, and then another that was reserved and filled
-  pub both_ready : {c : S} {B : Type 0} {call' : Known → Known → Call B} {answer' : Result B Fault} (m : ℕ) → m ≡ 2 → Called knows b c (IsOwn q m) call' answer' (Fills q m 8) → MayKnow knows c (λ k. IsReady Int p n k × IsReady Int q m k)
+  pub both_ready : {c : S} {B : Type 0} {call' : Known → Known → Call B} {answer' : Result B Fault} (m : ℕ) → m ≡ 2 → Called facts b c (IsOwn q m) call' answer' (Fills q m 8) → MayKnow facts c (λ k. IsReady Int p n k × IsReady Int q m k)
   both_ready {c} {B} {call'} {answer'} m two filled =
-      let first : MayKnow knows a (IsReady Int p 3) = subst (λ z. MayKnow knows a (IsReady Int p z)) three may in
-      let two_filled : Called knows b c (IsOwn q 2) call' answer' (Fills q 2 8) = subst (λ z. Called knows b c (IsOwn q z) call' answer' (Fills q z 8)) two filled in
-      let own : MayKnow knows b (λ k. IsReady Int p 3 k × IsOwn q 2 k) = may_called reserved first (λ k w. tt) (λ k j s w acts d l. (ready_beside p q k j w l, own_range q 2 k j l.0 l.1 l.2)) in
-      let both : MayKnow knows c (λ k. IsReady Int p 3 k × IsReady Int q 2 k) = may_called two_filled own (λ k w. w.1) (λ k j s w acts d l. (ready_filled p 3 q 2 8 k j apart l w.0, filled_int q k j l)) in
-      subst (λ (z : ℕ × ℕ). MayKnow knows c (λ k. IsReady Int p z.0 k × IsReady Int q z.1 k)) (λ i. (sym three i, sym two i)) both
+      let first : MayKnow facts a (IsReady Int p 3) = subst (λ z. MayKnow facts a (IsReady Int p z)) three may in
+      let two_filled : Called facts b c (IsOwn q 2) call' answer' (Fills q 2 8) = subst (λ z. Called facts b c (IsOwn q z) call' answer' (Fills q z 8)) two filled in
+      let own : MayKnow facts b (λ k. IsReady Int p 3 k × IsOwn q 2 k) = may_called reserved first (λ k w. tt) (λ k j s w acts d l. (ready_beside p q k j w l, own_range q 2 k j l.0 l.1 l.2)) in
+      let both : MayKnow facts c (λ k. IsReady Int p 3 k × IsReady Int q 2 k) = may_called two_filled own (λ k w. w.1) (λ k j s w acts d l. (ready_filled p 3 q 2 8 k j apart l w.0, filled_int q k j l)) in
+      subst (λ (z : ℕ × ℕ). MayKnow facts c (λ k. IsReady Int p z.0 k × IsReady Int q z.1 k)) (λ i. (sym three i, sym two i)) both

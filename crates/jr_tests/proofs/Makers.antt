@@ -15,7 +15,7 @@ use Rattle.jr_model.specs.History.{role_of, Did}
 use Rattle.jr_model.specs.Parts.{publish, read_element, write_element}
 use Rattle.jr_model.specs.Checks.{is_plain, is_text, is_value}
 use Rattle.jr_steps.specs.declared.known.Known.{Known}
-use Rattle.jr_steps.specs.Knowing.{Standing, IsOf, MayKnow, view, state_of, HasObject}
+use Rattle.jr_steps.specs.Knowing.{Facts, Standing, IsOf, MayKnow, view, state_of, HasObject}
 use Rattle.jr_heap.specs.Heap.{Called, HasKind, IsOwn, IsReady, Publishes, own_words, Relearns, MayBeNamed, MayBeNamedIn}
 use Rattle.jr_heap.proofs.Elements.{read_rest, write_rest, write_last}
 use Rattle.jr_heap.proofs.StayFacts.{NoLeave, still}
@@ -61,30 +61,30 @@ kind_in (Some x) = x.kind
 kind_of_some : (k : Known) (o : ℕ) (kind : Kind) (v : ℕ) → HasKind o kind k → MayBeNamed kind v k → MayBeNamedIn o v k
 kind_of_some k o kind v x m y e is = m (sym x.2 ∙ (ap kind_in (sym x.1 ∙ e) ∙ is))
 
-module _ {S : Type 0} (stands : S → Standing) (knows : S → Known → Type 0) (fits : (s : S) (k : Known) → knows s k → IsOf (stands s) k) (a : S) (o : ℕ) (kind : Kind) where
-  pub may_be_read : MayKnow knows a (HasKind o kind) → MayKnow knows a (HasObject o)
+module _ {S : Type 0} (facts : S → Facts) (fits : (s : S) (k : Known) → (facts s).knows k → IsOf (facts s).stands k) (a : S) (o : ℕ) (kind : Kind) where
+  pub may_be_read : MayKnow facts a (HasKind o kind) → MayKnow facts a (HasObject o)
   may_be_read may = ∥∥₁_map may (λ k. (k.0, k.1, kind_present o kind k.0 k.2))
 
-  pub may_be_written : (v : ℕ) → ((k : Known) → MayBeNamed kind v k) → MayKnow knows a (HasKind o kind) → MayKnow knows a (λ k. HasObject o k × MayBeNamedIn o v k)
+  pub may_be_written : (v : ℕ) → ((k : Known) → MayBeNamed kind v k) → MayKnow facts a (HasKind o kind) → MayKnow facts a (λ k. HasObject o k × MayBeNamedIn o v k)
   may_be_written v named may = ∥∥₁_map may (λ k. (k.0, k.1, (kind_present o kind k.0 k.2, kind_of_some k.0 o kind v k.2 (named k.0))))
 
-  module _ (b : S) (w : (stands a).role ≡ Within) where
-    pub kind_read : {shows : Known → Known → Type 0} (i : ℕ) (answer : Result ℕ Fault) → Called knows a b (HasObject o) (λ j k. read_element (state_of k) o i) answer shows → MayKnow knows a (HasKind o kind) → MayKnow knows b (HasKind o kind)
+  module _ (b : S) (w : (facts a).stands.role ≡ Within) where
+    pub kind_read : {shows : Known → Known → Type 0} (i : ℕ) (answer : Result ℕ Fault) → Called facts a b (HasObject o) (λ j k. read_element (state_of k) o i) answer shows → MayKnow facts a (HasKind o kind) → MayKnow facts b (HasKind o kind)
     kind_read i answer c may = ∥∥₁_map may (λ k.
         let r = c.ran k.0 k.1 (kind_present o kind k.0 k.2) in
         let f = r.2 (record { frames = []; given = [] }) in
         (r.0, r.1, kind_later k.0 r.0 f.acts o kind f.did ((fits a k.0 k.1).role ∙ w) (read_stays (state_of r.0) o i _ _ f.acts answer f.is) k.2))
 
-    pub kind_written : (i v : ℕ) (answer : Result (Unit {0}) Fault) → ((k : Known) → MayBeNamed kind v k) → Called knows a b (λ k. HasObject o k × MayBeNamedIn o v k) (λ j k. write_element (state_of k) o i v) answer (Relearns o) → MayKnow knows a (HasKind o kind) → MayKnow knows b (HasKind o kind)
+    pub kind_written : (i v : ℕ) (answer : Result (Unit {0}) Fault) → ((k : Known) → MayBeNamed kind v k) → Called facts a b (λ k. HasObject o k × MayBeNamedIn o v k) (λ j k. write_element (state_of k) o i v) answer (Relearns o) → MayKnow facts a (HasKind o kind) → MayKnow facts b (HasKind o kind)
     kind_written i v answer named c may = ∥∥₁_map may (λ k.
         let r = c.ran k.0 k.1 (kind_present o kind k.0 k.2, kind_of_some k.0 o kind v k.2 (named k.0)) in
         let f = r.2 (record { frames = []; given = [] }) in
         (r.0, r.1, kind_later k.0 r.0 f.acts o kind f.did ((fits a k.0 k.1).role ∙ w) (write_stays (state_of r.0) o i v _ _ f.acts answer f.is) k.2))
 
 -- what was published is of the kind
-pub kind_made : {S : Type 0} (knows : S → Known → Type 0) (a b : S) (kind : Kind) (place n : ℕ) (answer : Result ℕ Fault) → Called knows a b (IsReady kind place n) (λ j k. publish kind (own_words place n j)) answer (Publishes kind place n answer) → MayKnow knows a (IsReady kind place n) → IfOk answer (λ o. MayKnow knows b (HasKind o kind))
-kind_made knows a b kind place n (Ok o) c may = ∥∥₁_map may (λ k. let r = c.ran k.0 k.1 k.2 in (r.0, r.1, (record { kind = kind; words = own_words place n k.0 }, r.3.0, refl)))
-kind_made knows a b kind place n (Err e) c may = tt
+pub kind_made : {S : Type 0} (facts : S → Facts) (a b : S) (kind : Kind) (place n : ℕ) (answer : Result ℕ Fault) → Called facts a b (IsReady kind place n) (λ j k. publish kind (own_words place n j)) answer (Publishes kind place n answer) → MayKnow facts a (IsReady kind place n) → IfOk answer (λ o. MayKnow facts b (HasKind o kind))
+kind_made facts a b kind place n (Ok o) c may = ∥∥₁_map may (λ k. let r = c.ran k.0 k.1 k.2 in (r.0, r.1, (record { kind = kind; words = own_words place n k.0 }, r.3.0, refl)))
+kind_made facts a b kind place n (Err e) c may = tt
 
 -- a plain object has no words
 pub plain_ready : (place n : ℕ) (k : Known) → n ≡ 0 → IsOwn place n k → IsReady Plain place n k

@@ -52,15 +52,15 @@ fn opened(alloc: Global) -> Result<(Room<2>, Pass, Pass, Pass, Pass), Fail>
 
 /// The word of the gate.
 fn gate_word<S: Steps>(steps: &mut S) -> u64
-    ensures { S.stands steps.new ≡ S.stands steps.old }
+    ensures { (S.facts steps.new).stands ≡ (S.facts steps.old).stands }
 {
     GateWord::pack(steps.see_gate(GateLoad::Meet)).0
 }
 
 /// Why an entry is refused, if it is. It is ended at once.
 fn entry_refused<S: Steps>(steps: &mut S) -> Option<Fault>
-    requires { (S.stands steps.old).role ≡ Outside }
-    ensures { S.stands steps.new ≡ S.stands steps.old }
+    requires { (S.facts steps.old).stands.role ≡ Outside }
+    ensures { (S.facts steps.new).stands ≡ (S.facts steps.old).stands }
 {
     match enter(steps) {
         Ok(stay) => {
@@ -73,8 +73,8 @@ fn entry_refused<S: Steps>(steps: &mut S) -> Option<Fault>
 
 /// Why a collection is refused, if it is. It is ended at once.
 fn shut_refused<S: Steps>(steps: &mut S) -> Option<Fault>
-    requires { (S.stands steps.old).role ≡ Outside }
-    ensures { S.stands steps.new ≡ S.stands steps.old }
+    requires { (S.facts steps.old).stands.role ≡ Outside }
+    ensures { (S.facts steps.new).stands ≡ (S.facts steps.old).stands }
 {
     match shut_gate(steps) {
         Ok(collection) => {

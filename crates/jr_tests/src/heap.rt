@@ -82,11 +82,11 @@ fn made<S: Steps>(
     length: u32,
     word: u64,
 ) -> Result<u16, Fault>
-    requires role { (S.stands steps.old).role ≡ Within }
+    requires role { (S.facts steps.old).stands.role ≡ Within }
     requires plain { kind ≡ Plain → length ≡ 0 }
     requires word { (k : Known) → IsWordNow kind word k }
-    ensures stands { S.stands steps.new ≡ S.stands steps.old }
-    ensures object { IfOk result (λ o. MayKnow S.knows steps.new (HasKind o kind)) }
+    ensures stands { (S.facts steps.new).stands ≡ (S.facts steps.old).stands }
+    ensures object { IfOk result (λ o. MayKnow S.facts steps.new (HasKind o kind)) }
 {
     let range = reserve(steps, length)?;
     fill(steps, &range, word);
@@ -95,10 +95,10 @@ fn made<S: Steps>(
 
 /// The element at an index of an object of the kind.
 fn got<S: Steps>(steps: &mut S, object: u16, _kind: Kind, index: u32) -> Result<u64, Fault>
-    requires role { (S.stands steps.old).role ≡ Within }
-    requires object { MayKnow S.knows steps.old (HasKind object _kind) }
-    ensures stands { S.stands steps.new ≡ S.stands steps.old }
-    ensures object { MayKnow S.knows steps.new (HasKind object _kind) }
+    requires role { (S.facts steps.old).stands.role ≡ Within }
+    requires object { MayKnow S.facts steps.old (HasKind object _kind) }
+    ensures stands { (S.facts steps.new).stands ≡ (S.facts steps.old).stands }
+    ensures object { MayKnow S.facts steps.new (HasKind object _kind) }
 {
     read(steps, object, index)
 }
@@ -111,11 +111,11 @@ fn put<S: Steps>(
     index: u32,
     word: u64,
 ) -> Result<(), Fault>
-    requires role { (S.stands steps.old).role ≡ Within }
-    requires object { MayKnow S.knows steps.old (HasKind object _kind) }
+    requires role { (S.facts steps.old).stands.role ≡ Within }
+    requires object { MayKnow S.facts steps.old (HasKind object _kind) }
     requires named { (k : Known) → MayBeNamed _kind word k }
-    ensures stands { S.stands steps.new ≡ S.stands steps.old }
-    ensures object { MayKnow S.knows steps.new (HasKind object _kind) }
+    ensures stands { (S.facts steps.new).stands ≡ (S.facts steps.old).stands }
+    ensures object { MayKnow S.facts steps.new (HasKind object _kind) }
 {
     write(steps, object, index, word)
 }
@@ -126,8 +126,8 @@ fn make_and_write<S: Steps>(
     steps: &mut S,
     numbers: &mut Numbers,
 ) -> Result<u16, Fail>
-    requires { (S.stands steps.old).role ≡ Within }
-    ensures { S.stands steps.new ≡ S.stands steps.old }
+    requires { (S.facts steps.old).stands.role ≡ Within }
+    ensures { (S.facts steps.new).stands ≡ (S.facts steps.old).stands }
 {
     let object = made(steps, numbers, Kind::Int, 3, 0)?;
     assert_eq!(rt; put(steps, object, Kind::Int, 2, 7), Ok(()));
@@ -147,9 +147,9 @@ fn make_and_write<S: Steps>(
 
 /// The kind, length and place of an object of the kind.
 fn parts_of<S: Steps>(steps: &mut S, object: u16, _kind: Kind) -> (Kind, u32, u32)
-    requires role { (S.stands steps.old).role ≡ Within }
-    requires object { MayKnow S.knows steps.old (HasKind object _kind) }
-    ensures { S.stands steps.new ≡ S.stands steps.old }
+    requires role { (S.facts steps.old).stands.role ≡ Within }
+    requires object { MayKnow S.facts steps.old (HasKind object _kind) }
+    ensures { (S.facts steps.new).stands ≡ (S.facts steps.old).stands }
 {
     let parts = header(steps, object);
     (parts.kind, parts.length, parts.place)
@@ -157,9 +157,9 @@ fn parts_of<S: Steps>(steps: &mut S, object: u16, _kind: Kind) -> (Kind, u32, u3
 
 /// A new plain object.
 fn made_plain<S: Steps>(steps: &mut S, numbers: &mut Numbers) -> Result<u16, Fault>
-    requires { (S.stands steps.old).role ≡ Within }
-    ensures stands { S.stands steps.new ≡ S.stands steps.old }
-    ensures object { IfOk result (λ o. MayKnow S.knows steps.new (HasKind o Plain)) }
+    requires { (S.facts steps.old).stands.role ≡ Within }
+    ensures stands { (S.facts steps.new).stands ≡ (S.facts steps.old).stands }
+    ensures object { IfOk result (λ o. MayKnow S.facts steps.new (HasKind o Plain)) }
 {
     let empty = reserve(steps, 0)?;
     publish(steps, numbers, Kind::Plain, empty)
@@ -167,8 +167,8 @@ fn made_plain<S: Steps>(steps: &mut S, numbers: &mut Numbers) -> Result<u16, Fau
 
 /// A plain object is made, and no further one in a room of two objects.
 fn make_plain<S: Steps>(rt: &impl Abort, steps: &mut S, numbers: &mut Numbers) -> Result<u16, Fail>
-    requires { (S.stands steps.old).role ≡ Within }
-    ensures { S.stands steps.new ≡ S.stands steps.old }
+    requires { (S.facts steps.old).stands.role ≡ Within }
+    ensures { (S.facts steps.new).stands ≡ (S.facts steps.old).stands }
 {
     let plain = made_plain(steps, numbers)?;
     assert_eq!(rt; got(steps, plain, Kind::Plain, 0), Err(Fault::NotArray));
@@ -186,11 +186,11 @@ fn keeps_ends<S: Steps>(
     kind: Kind,
     greatest: u64,
 ) -> Result<(), Fail>
-    requires role { (S.stands steps.old).role ≡ Within }
+    requires role { (S.facts steps.old).stands.role ≡ Within }
     requires kind { kind ≢ Plain }
     requires least { (k : Known) → IsWordNow kind 0 k }
     requires greatest { (k : Known) → MayBeNamed kind greatest k }
-    ensures { S.stands steps.new ≡ S.stands steps.old }
+    ensures { (S.facts steps.new).stands ≡ (S.facts steps.old).stands }
 {
     let object = made(steps, numbers, kind, 2, 0)?;
     assert_eq!(rt; got(steps, object, kind, 0), Ok(0));
@@ -205,8 +205,8 @@ fn keeps_ends<S: Steps>(
 
 /// Makes an array of its own so often, writes it and reads it, or until it has tried so often. How often it read what it had written.
 fn write_and_read<S: Steps>(steps: &mut S, rounds: u32, tries: u32) -> u32
-    requires { (S.stands steps.old).role ≡ Within }
-    ensures { S.stands steps.new ≡ S.stands steps.old }
+    requires { (S.facts steps.old).stands.role ≡ Within }
+    ensures { (S.facts steps.new).stands ≡ (S.facts steps.old).stands }
 {
     let mut numbers = Numbers::new();
     let mut right = 0;
@@ -236,11 +236,11 @@ fn refuses_past<S: Steps>(
     kind: Kind,
     past: u64,
 ) -> Result<(), Fail>
-    requires role { (S.stands steps.old).role ≡ Within }
+    requires role { (S.facts steps.old).stands.role ≡ Within }
     requires kind { kind ≢ Plain }
     requires least { (k : Known) → IsWordNow kind 0 k }
     requires named { (k : Known) → MayBeNamed kind past k }
-    ensures { S.stands steps.new ≡ S.stands steps.old }
+    ensures { (S.facts steps.new).stands ≡ (S.facts steps.old).stands }
 {
     let object = made(steps, numbers, kind, 1, 0)?;
     assert_eq!(rt; put(steps, object, kind, 0, past), Err(Fault::Value));
@@ -251,8 +251,8 @@ fn refuses_past<S: Steps>(
 
 /// Makes so many objects without elements. The sum of their numbers.
 fn make_many<S: Steps>(steps: &mut S, numbers: &mut Numbers, count: u32) -> Result<u64, Fail>
-    requires { (S.stands steps.old).role ≡ Within }
-    ensures { S.stands steps.new ≡ S.stands steps.old }
+    requires { (S.facts steps.old).stands.role ≡ Within }
+    ensures { (S.facts steps.new).stands ≡ (S.facts steps.old).stands }
 {
     let mut sum = 0u64;
     for _ in 0..count {
@@ -264,9 +264,9 @@ fn make_many<S: Steps>(steps: &mut S, numbers: &mut Numbers, count: u32) -> Resu
 
 /// An array of three words, made of a range that stays filled while another is reserved.
 fn made_beside<S: Steps>(steps: &mut S, numbers: &mut Numbers) -> Result<u16, Fault>
-    requires { (S.stands steps.old).role ≡ Within }
-    ensures stands { S.stands steps.new ≡ S.stands steps.old }
-    ensures object { IfOk result (λ o. MayKnow S.knows steps.new (HasObject o)) }
+    requires { (S.facts steps.old).stands.role ≡ Within }
+    ensures stands { (S.facts steps.new).stands ≡ (S.facts steps.old).stands }
+    ensures object { IfOk result (λ o. MayKnow S.facts steps.new (HasObject o)) }
 {
     let first = reserve(steps, 3)?;
     fill(steps, &first, 7);
@@ -281,11 +281,11 @@ fn read_again<S: Steps, T: Steps>(
     numbers: &mut Numbers,
     object: u16,
 ) -> Result<u64, Fault>
-    requires role { (S.stands steps.old).role ≡ Within }
-    requires beside { (T.stands other.old).role ≡ Within }
-    requires object { MayKnow S.knows steps.old (HasObject object) }
-    ensures stands { S.stands steps.new ≡ S.stands steps.old }
-    ensures beside { T.stands other.new ≡ T.stands other.old }
+    requires role { (S.facts steps.old).stands.role ≡ Within }
+    requires beside { (T.facts other.old).stands.role ≡ Within }
+    requires object { MayKnow S.facts steps.old (HasObject object) }
+    ensures stands { (S.facts steps.new).stands ≡ (S.facts steps.old).stands }
+    ensures beside { (T.facts other.new).stands ≡ (T.facts other.old).stands }
 {
     let found = header(steps, object);
     made_plain(other, numbers)?;
@@ -295,9 +295,9 @@ fn read_again<S: Steps, T: Steps>(
 
 /// Publishes a range, and reads its object's first element by the header that was built for it.
 fn published<S: Steps>(steps: &mut S, numbers: &mut Numbers, range: Range) -> Result<u64, Fault>
-    requires role { (S.stands steps.old).role ≡ Within }
-    requires ready { MayKnow S.knows steps.old (IsReady Int (place_of range) (size_of range)) }
-    ensures stands { S.stands steps.new ≡ S.stands steps.old }
+    requires role { (S.facts steps.old).stands.role ≡ Within }
+    requires ready { MayKnow S.facts steps.old (IsReady Int (place_of range) (size_of range)) }
+    ensures stands { (S.facts steps.new).stands ≡ (S.facts steps.old).stands }
 {
     let header = range.header(Kind::Int);
     let object = publish(steps, numbers, Kind::Int, range)?;
@@ -311,11 +311,11 @@ fn published_beside<S: Steps>(
     range: Range,
     _other: &Range,
 ) -> Result<u64, Fault>
-    requires role { (S.stands steps.old).role ≡ Within }
-    requires ready { MayKnow S.knows steps.old (AreReady range _other.now) }
+    requires role { (S.facts steps.old).stands.role ≡ Within }
+    requires ready { MayKnow S.facts steps.old (AreReady range _other.now) }
     requires apart { place_of range ≢ place_of _other.now }
-    ensures stands { S.stands steps.new ≡ S.stands steps.old }
-    ensures other { MayKnow S.knows steps.new (IsReady Int (place_of _other.now) (size_of _other.now)) }
+    ensures stands { (S.facts steps.new).stands ≡ (S.facts steps.old).stands }
+    ensures other { MayKnow S.facts steps.new (IsReady Int (place_of _other.now) (size_of _other.now)) }
 {
     let header = range.header(Kind::Int);
     let object = publish(steps, numbers, Kind::Int, range)?;
@@ -329,10 +329,10 @@ fn both_published<S: Steps, T: Steps>(
     numbers: &mut Numbers,
     later_first: bool,
 ) -> Result<(u64, u64), Fault>
-    requires role { (S.stands steps.old).role ≡ Within }
-    requires beside { (T.stands other.old).role ≡ Within }
-    ensures stands { S.stands steps.new ≡ S.stands steps.old }
-    ensures beside { T.stands other.new ≡ T.stands other.old }
+    requires role { (S.facts steps.old).stands.role ≡ Within }
+    requires beside { (T.facts other.old).stands.role ≡ Within }
+    ensures stands { (S.facts steps.new).stands ≡ (S.facts steps.old).stands }
+    ensures beside { (T.facts other.new).stands ≡ (T.facts other.old).stands }
 {
     let first = reserve(steps, 3)?;
     fill(steps, &first, 7);

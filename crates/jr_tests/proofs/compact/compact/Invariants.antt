@@ -4,4 +4,4 @@ use Rattle.jr_compact.proofs.OneArray.{IsOne}
 use Rattle.jr_tests.proofs.compact.compact.Given as goal
 
 abbrev pub invariant-loop-index : goal.invariant-loop-index
-invariant-loop-index g l = (g.S.Steps.stands l.steps ≡ g.S.Steps.stands l.initial.steps) × MayKnow g.S.Steps.knows l.steps (IsOne l.low)
+invariant-loop-index g l = ((g.S.Steps.facts l.steps).stands ≡ (g.S.Steps.facts l.initial.steps).stands) × MayKnow g.S.Steps.facts l.steps (IsOne l.low)

@@ -4,4 +4,4 @@ use Rattle.jr_steps.specs.Knowing.{MayKnow, KnowsHeader}
 use Rattle.jr_tests.proofs.compact.look_after.Given as goal
 
 abbrev pub invariant-loop-index : goal.invariant-loop-index
-invariant-loop-index g l = ((g.S.Steps.stands l.steps).role ≡ Within) × MayKnow g.S.Steps.knows l.steps (KnowsHeader 1 l.header)
+invariant-loop-index g l = ((g.S.Steps.facts l.steps).stands.role ≡ Within) × MayKnow g.S.Steps.facts l.steps (KnowsHeader 1 l.header)

@@ -3,7 +3,7 @@ use Rattle.jr_compact.proofs.Slides.{SlidTo}
 use Rattle.jr_tests.proofs.compact.slide_and_look.Given as goal
 
 abbrev pub invariant-loop-index : goal.invariant-loop-index
-invariant-loop-index g l = SlidTo g.S.Steps.stands g.S.Steps.knows l.fn.object l.fn.header l.fn.place l.fn.steps l.steps l.index
+invariant-loop-index g l = SlidTo g.S.Steps.facts l.fn.object l.fn.header l.fn.place l.fn.steps l.steps l.index
 
 abbrev pub invariant-loop-left : goal.invariant-loop-left
-invariant-loop-left g l = SlidTo g.S.Steps.stands g.S.Steps.knows l.fn.object l.fn.header l.fn.place l.fn.steps l.steps (l.index + 1)
+invariant-loop-left g l = SlidTo g.S.Steps.facts l.fn.object l.fn.header l.fn.place l.fn.steps l.steps (l.index + 1)

@@ -4,4 +4,4 @@ use Rattle.jr_rule.specs.Passes.{Knows}
 use Rattle.jr_tests.proofs.gate.a_stay_and_a_collection_exclude_each_other.Goals as goal
 
 pub reopen-requires-clause-closed : goal.reopen-requires-clause-closed
-reopen-requires-clause-closed g c = subst (λ p. MayKnow Knows p CanReopen) (sym (c.new-second-2.ensures.1 ∙ c.into_pass-second.ensures.0)) c.in-Ok-shut_gate.ensures.closed
+reopen-requires-clause-closed g c = subst (λ p. MayKnow facts_of p CanReopen) (sym (c.new-second-2.ensures.1 ∙ c.into_pass-second.ensures.0)) c.in-Ok-shut_gate.ensures.closed

@@ -26,5 +26,5 @@ publish-requires-clause-ready g c =
     let p = c.in_ok-first.first.place in
     let three = (c.in_ok-first.ensures.ok).0 in
     let filled = c.fill.ensures.ready Int (∥∥₁_map c.in_ok-first.ensures.own (λ k. (k.0, k.1, (k.2, omega arith)))) in
-    subst (λ m. MayKnow knows c.reserve-2.new.steps (IsReady Int p m)) (sym three)
-    (may_called (uncounted (c.in_ok-_second.ensures.ok).1) (subst (λ m. MayKnow knows c.fill.new.steps (IsReady Int p m)) three filled) (λ k w. tt) (λ k j s w acts d l. keep p c.in_ok-_second._second.place k j w l))
+    subst (λ m. MayKnow facts c.reserve-2.new.steps (IsReady Int p m)) (sym three)
+    (may_called (uncounted (c.in_ok-_second.ensures.ok).1) (subst (λ m. MayKnow facts c.fill.new.steps (IsReady Int p m)) three filled) (λ k w. tt) (λ k j s w acts d l. keep p c.in_ok-_second._second.place k j w l))

@@ -12,6 +12,6 @@ publish-requires-clause-ready g c =
 
 pub returns-clause-object : goal.returns-clause-object
 returns-clause-object g c =
-    let ready : MayKnow g.S.Steps.knows c.reserve.new.steps (IsReady Plain c.in_ok-empty.empty.place c.in_ok-empty.empty.length)
+    let ready : MayKnow g.S.Steps.facts c.reserve.new.steps (IsReady Plain c.in_ok-empty.empty.place c.in_ok-empty.empty.length)
     = ∥∥₁_map c.in_ok-empty.ensures.own (λ k. (k.0, k.1, plain_ready c.in_ok-empty.empty.place c.in_ok-empty.empty.length k.0 c.in_ok-empty.ensures.ok.0 k.2)) in
-    kind_made g.S.Steps.knows c.reserve.new.steps c.publish.new.steps Plain c.in_ok-empty.empty.place c.in_ok-empty.empty.length c.publish.result (uncounted c.publish.ensures.call) ready
+    kind_made g.S.Steps.facts c.reserve.new.steps c.publish.new.steps Plain c.in_ok-empty.empty.place c.in_ok-empty.empty.length c.publish.result (uncounted c.publish.ensures.call) ready

@@ -2,4 +2,4 @@ use Rattle.std.proofs.Common.{◌≡◌}
 use Rattle.jr_tests.proofs.heap.make_many.Given as goal
 
 abbrev pub invariant-loop : goal.invariant-loop
-invariant-loop g l = g.S.Steps.stands l.steps ≡ g.S.Steps.stands l.fn.steps
+invariant-loop g l = (g.S.Steps.facts l.steps).stands ≡ (g.S.Steps.facts l.fn.steps).stands

@@ -6,4 +6,4 @@ use Rattle.jr_tests.proofs.heap.published.Goals as goal
 
 pub read_element-requires-clause-known : goal.read_element-requires-clause-known
 read_element-requires-clause-known g c =
-    subst (λ (h : HeaderParts). MayKnow g.S.Steps.knows c.publish.new.steps (HoldsHeader c.in_ok-object.object h)) (sym c.header-header.ensures) c.in_ok-object.ensures.known
+    subst (λ (h : HeaderParts). MayKnow g.S.Steps.facts c.publish.new.steps (HoldsHeader c.in_ok-object.object h)) (sym c.header-header.ensures) c.in_ok-object.ensures.known

@@ -8,7 +8,7 @@ use Rattle.jr_heap.proofs.StayFacts.{shown_present}
 use Rattle.jr_tests.proofs.heap.read_again.Goals as goal
 
 pub read-requires-clause-object : goal.read-requires-clause-object
-read-requires-clause-object g c = may_present g.S.Steps.knows c.header-found.new.steps c.args.object c.header-found.result c.header-found.ensures.known
+read-requires-clause-object g c = may_present g.S.Steps.facts c.header-found.new.steps c.args.object c.header-found.result c.header-found.ensures.known
 
 pub read_element-requires-clause-known : goal.read_element-requires-clause-known
 read_element-requires-clause-known g c =
