@@ -164,8 +164,8 @@ module _ {S : Type 0} {facts : S → Facts} (fits : (s : S) (k : Known) → (fac
           go (Some o) e = none p (some p o e)
 
   -- no local reference stands where none of the room's threads has one
-  no_locals : {a : S} (k : Known) → (facts a).knows k → (facts a).stands.config.threads ≡ 2 → NoLocalsBelow 2 k → (t p : ℕ) → (state_of k).locals t p ≡ None
-  no_locals {a} k s two none t p = go ((state_of k).locals t p) refl
+  no_locals : (a : S) (k : Known) → (facts a).knows k → (facts a).stands.config.threads ≡ 2 → NoLocalsBelow 2 k → (t p : ℕ) → (state_of k).locals t p ≡ None
+  no_locals a k s two none t p = go ((state_of k).locals t p) refl
     where
       go : (z : Option ℕ) → (state_of k).locals t p ≡ z → (state_of k).locals t p ≡ None
       go None e = e
@@ -176,8 +176,8 @@ module _ {S : Type 0} {facts : S → Facts} (fits : (s : S) (k : Known) → (fac
           none.1 t p (omega arith)
 
   -- nor another reference than the slot's, where there is no other slot
-  no_others : {a : S} (r : Found) (n o : ℕ) (k : Known) → (facts a).knows k → (facts a).stands.config.slots ≡ 1 → ShowsSlot 0 (slot.Weak 0 (Some o)) k → (g : Handle) → the_weak ≢ g → (state_of k).refs g ≡ Stale
-  no_others {a} r n o k s one shown g ne = dite (ℕ_discrete g.index 0)
+  no_others : (a : S) (r : Found) (n o : ℕ) (k : Known) → (facts a).knows k → (facts a).stands.config.slots ≡ 1 → ShowsSlot 0 (slot.Weak 0 (Some o)) k → (g : Handle) → the_weak ≢ g → (state_of k).refs g ≡ Stale
+  no_others a r n o k s one shown g ne = dite (ℕ_discrete g.index 0)
       (λ e. (shown.stands).alone g e (λ q. absurd (ne (sym q))))
       (λ far. go ((state_of k).refs g) refl far)
     where
@@ -203,9 +203,9 @@ module _ {S : Type 0} {facts : S → Facts} (fits : (s : S) (k : Known) → (fac
         y.1,
         record {
           settled = none.0;
-          locals = no_locals y.0 y.1 two none;
+          locals = no_locals _ y.0 y.1 two none;
           is = ((y.3.0).stands).found;
-          others = no_others (Object o) 0 o y.0 y.1 one y.3.0;
+          others = no_others _ (Object o) 0 o y.0 y.1 one y.3.0;
         },
       ))
 
@@ -213,8 +213,8 @@ module _ {S : Type 0} {facts : S → Facts} (fits : (s : S) (k : Known) → (fac
   pub bare_kept : {a b : S} {shows : Known → Known → Type 0} (r : Found) → (facts a).stands.role ≡ Collecting → Took facts a b [] anything shows → ((k k' : Known) → shows k k' → k'.holdings.moving ≡ k.holdings.moving) → MayKnow facts a (IsBare the_weak r) → MayKnow facts b (IsBare the_weak r)
   bare_kept {a} r collects took still may = may_then took (λ k s m. tt) may (λ k k' s m g x. bare_still the_weak refl r k k' g ((fits a k s).role ∙ collects) (still k k' x) m)
 
-  pub bare_wipe : {a : S} (o : ℕ) → MayKnow facts a (IsBare the_weak (Object o)) → MayKnow facts a (CanWipe 0 0 o)
-  bare_wipe o may = ∥∥₁_map may (λ k. (k.0, k.1, (k.2.is, unreached the_weak refl (Object o) k.0 k.2 o)))
+  pub bare_wipe : (a : S) (o : ℕ) → MayKnow facts a (IsBare the_weak (Object o)) → MayKnow facts a (CanWipe 0 0 o)
+  bare_wipe a o may = ∥∥₁_map may (λ k. (k.0, k.1, (k.2.is, unreached the_weak refl (Object o) k.0 k.2 o)))
 
   -- nothing but an object stands
   abbrev pub IsWiped : ℕ → Known → Type 0
@@ -248,8 +248,8 @@ module _ {S : Type 0} {facts : S → Facts} (fits : (s : S) (k : Known) → (fac
           (λ ne w. absurd (let z = sym (b.others h ne) ∙ w in cc))
           (subst (λ z. z ≡ Object o) (at_handle (λ z. (state_of k).refs h ≡ z) (λ z. (state_of k).refs h) the_weak h ((state_of k).refs h) (λ q. refl) (λ q. refl)) e)
 
-  pub wiped_drop : {a : S} (o : ℕ) → MayKnow facts a (IsWiped o) → MayKnow facts a (CanDrop o)
-  wiped_drop o may = ∥∥₁_map may (λ k. (k.0, k.1, wiped_can o k.0 k.2))
+  pub wiped_drop : (a : S) (o : ℕ) → MayKnow facts a (IsWiped o) → MayKnow facts a (CanDrop o)
+  wiped_drop a o may = ∥∥₁_map may (λ k. (k.0, k.1, wiped_can o k.0 k.2))
 
   -- THE OBJECT WAS DROPPED, in a room of one object
   pub emptied : {a b : S} → (facts a).stands.role ≡ Collecting → (facts a).stands.config.objects ≡ 1 → Took facts a b (Drop 1 ∷ []) (CanDrop 1) (ShowsDropped 1) → MayKnow facts a (IsWiped 1) → MayKnow facts b IsEmptied
@@ -269,8 +269,8 @@ module _ {S : Type 0} {facts : S → Facts} (fits : (s : S) (k : Known) → (fac
       let same = same_tables g ((fits a k s).role ∙ collects) in
       (still k k' x ∙ m.0, λ o. ap (λ (f : ℕ → Option Contents). f o) same.objects ∙ m.1 o))
 
-  pub emptied_settle : {a : S} → MayKnow facts a IsEmptied → MayKnow facts a (CanSettle 0)
-  emptied_settle may = ∥∥₁_map may (λ k. (k.0, k.1, can_settle k.0 k.2))
+  pub emptied_settle : (a : S) → MayKnow facts a IsEmptied → MayKnow facts a (CanSettle 0)
+  emptied_settle a may = ∥∥₁_map may (λ k. (k.0, k.1, can_settle k.0 k.2))
 
   pub emptied_settled : {a b : S} → (facts a).stands.role ≡ Collecting → Took facts a b (Settle 0 ∷ []) (CanSettle 0) keeps → MayKnow facts a IsEmptied → MayKnow facts b CanReopen
   emptied_settled {a} collects took may = may_then took (λ k s m. can_settle k m) may (λ k k' s m g x.

@@ -22,7 +22,7 @@ pub struct RoomSteps<'a, const LAST: u32> {
 }
 
 impl<'a, const LAST: u32> RoomSteps<'a, LAST> {
-    ghost use Rattle.jr_rule.specs.Passes.{known_of, standing_of, Knows, IsSame};
+    ghost use Rattle.jr_rule.specs.Passes.{facts_of, known_of, IsSame};
     ghost use Rattle.jr_rule.specs.Rooms.{IsOfRoom};
 
     /// The steps of a pass in its own room.
