@@ -11,7 +11,7 @@ use Rattle.jr_model.specs.History.{History, by, state, IsLegal}
 use Rattle.jr_model.proofs.Histories.{legal_push}
 use Rattle.jr_model.proofs.Counts.{outside_beyond, nobody_knocks, nobody_is_busy}
 use Rattle.jr_steps.specs.declared.known.Known.{Known}
-use Rattle.jr_steps.specs.Knowing.{Facts, Standing, anything, Goes, IsOf, MayKnow, Took}
+use Rattle.jr_steps.specs.Knowing.{Facts, anything, Goes, IsOf, MayKnow, Took}
 
 -- what a step needed of the state before it
 needed : {k k' : Known} (a : Act) (g : Goes k (a ∷ []) k') → let before = k.seen ++ g.between in IsLegal k.config k.last before × Needs k.config k.last (state before) (by k.thread a)

@@ -8,7 +8,7 @@ use Rattle.jr_model.proofs.Histories.{legal_push}
 use Rattle.jr_steps.specs.declared.known.Holdings.{Holdings}
 use Rattle.jr_steps.specs.declared.known.Known.{Known}
 use Rattle.jr_steps.proofs.StepFacts.{shut_closed}
-use Rattle.jr_steps.specs.Knowing.{Facts, Standing, anything, keeps, lets_go, Goes, IsClosedNow, CanReopen, MayKnow, Took}
+use Rattle.jr_steps.specs.Knowing.{Facts, anything, keeps, lets_go, Goes, IsClosedNow, CanReopen, MayKnow, Took}
 
 -- who is refused a shut was told of one thread at least
 counted : {k k' : Known} (n : ℕ) → Goes k (ShutBusy n ∷ []) k' → 1 ≤ n

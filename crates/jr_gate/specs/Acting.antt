@@ -4,7 +4,7 @@ use Rattle.jr_model.specs.declared.event.Act.{Act}
 use Rattle.jr_model.specs.History.{History, Did}
 use Rattle.jr_model.specs.Windows.{IsWindow}
 use Rattle.jr_steps.specs.declared.known.Known.{Known}
-use Rattle.jr_steps.specs.Knowing.{Facts, Standing, view, standing_after, lets_go, Takes}
+use Rattle.jr_steps.specs.Knowing.{Facts, view, standing_after, lets_go, Takes}
 
 -- what a knock and its withdrawal show: nothing is held then, and they were two operations
 abbrev pub IsWithdrawn : Known → Known → Type 0

@@ -9,7 +9,7 @@ use Rattle.jr_model.specs.declared.event.Role.TheVariants.{Within}
 use Rattle.jr_steps.specs.declared.known.Known.{Known}
 use Rattle.jr_steps.specs.declared.loads.SlotLoad.TheVariants.{Probe}
 use Rattle.jr_steps.specs.Acts.{act_of_slot_load}
-use Rattle.jr_steps.specs.Knowing.{Facts, Standing, IsOf, MayKnow, Took, TookWith, anything, keeps, HasObject, IsFilled, IsFreeSlot, ShowsSlot, ShowsPublished}
+use Rattle.jr_steps.specs.Knowing.{Facts, IsOf, MayKnow, Took, TookWith, anything, keeps, HasObject, IsFilled, IsFreeSlot, ShowsSlot, ShowsPublished}
 use Rattle.jr_steps.proofs.StepFacts.{goes_did, present_stays, shown_published, may_then, may_with}
 use Rattle.jr_rule.proofs.Headers.{filled_none}
 

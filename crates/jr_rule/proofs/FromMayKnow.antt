@@ -17,7 +17,7 @@ use Rattle.jr_rule.specs.declared.pass.Pass.{Pass}
 use Rattle.jr_steps.specs.Acts.{found_of, handle_of}
 use Rattle.jr_steps.specs.Knowing.{MayKnow, HasObject, HasOptional, HasLooked, IsFreeSlot, KnowsHeader, HasWord, IsWordNow, IsSettled}
 use Rattle.jr_steps.specs.Says.{spot}
-use Rattle.jr_rule.specs.Passes.{facts_of, known_of, Knows}
+use Rattle.jr_rule.specs.Passes.{facts_of, known_of}
 use Rattle.jr_rule.specs.Slots.{CanStand}
 use Rattle.jr_model.proofs.InRoom.{in_room}
 use Rattle.jr_rule.proofs.Looked.{looked_at}

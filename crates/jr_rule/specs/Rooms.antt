@@ -9,7 +9,7 @@ use Rattle.jr_rule.specs.declared.closing_all.AllLeft.{AllLeft}
 use Rattle.jr_rule.specs.declared.pass.Pass.{Pass}
 use Rattle.jr_rule.specs.declared.room.Room.{Room}
 use Rattle.jr_steps.specs.Knowing.{anything, keeps, state_of, Took}
-use Rattle.jr_rule.specs.Passes.{facts_of, known_of, standing_of, Knows, IsAt, AreOpened}
+use Rattle.jr_rule.specs.Passes.{facts_of, known_of, IsAt, AreOpened}
 
 -- THE PASS IS ONE OF THE ROOM'S OWN
 abbrev pub IsOfRoom : {LAST : ℕ} → Room LAST → Pass → Type 0

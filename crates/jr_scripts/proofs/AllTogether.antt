@@ -22,7 +22,7 @@ use Rattle.jr_steps.specs.Holdings.{empty}
 use Rattle.jr_steps.specs.Knowing.{Standing, view, Holds}
 use Rattle.jr_rule.specs.Rule.{known}
 use Rattle.jr_rule.specs.PassLaws.{still_of}
-use Rattle.jr_rule.specs.Passes.{known_of, standing_of, Knows, IsAt, IsOpened, AreOpened, numbers_below, IsSeenIn, ClosesAll}
+use Rattle.jr_rule.specs.Passes.{facts_of, known_of, standing_of, Knows, IsAt, IsOpened, AreOpened, numbers_below, IsSeenIn, ClosesAll}
 use Rattle.jr_steps.proofs.StepFacts.{goes_did}
 use Rattle.jr_scripts.specs.declared.part.Job.{Job}
 use Rattle.jr_scripts.specs.declared.part.ThreadRun.{ThreadRun}

@@ -11,7 +11,7 @@ use Rattle.jr_steps.specs.declared.known.Known.{Known}
 use Rattle.jr_steps.specs.Knowing.{Facts, Standing, Holds}
 use Rattle.jr_scripts.specs.declared.reply.Reply.{Reply}
 use Rattle.jr_scripts.specs.Names.{Names}
-use Rattle.jr_scripts.specs.Deeds.{Does}
+use Rattle.jr_scripts.specs.Deeds.{DoesDeed}
 use Rattle.jr_scripts.specs.Commands.{deed}
 use Rattle.jr_scripts.specs.Text.{printed, names_after}
 use Rattle.jr_scripts.specs.Explains.{Explains, nothing, then, unwritten}
@@ -53,7 +53,7 @@ module _ {S : Type 0} {facts : S → Facts} where
 
   module _ {old mid new : S} {f g h : Frames} (turns first : ℕ) (commands : List Command) (i : ℕ) (c : Command) (names names' : Names) {answer : Result Reply Fault} {out out' out'' : List ℕ} where
     pub went_on : (r : Result (Unit {0}) AllocError) → i < length commands → get_or commands i c ≡ c → Going facts old mid f g turns first (take i commands) out out' names
-        → Does facts mid new g h (deed turns names c) answer → WritesDown (first + i) c answer names names' r out' out'' → r ≡ Ok tt
+        → DoesDeed facts mid new g h (deed turns names c) answer → WritesDown (first + i) c answer names names' r out' out'' → r ≡ Ok tt
         → Going facts old new f h turns first (take (i + 1) commands) out out'' names'
     went_on r small is d does kept good =
         let w : WritesDown (first + i) c answer names names' (Ok tt) out' out'' = subst (λ r. WritesDown (first + i) c answer names names' r out' out'') good kept in
@@ -76,7 +76,7 @@ module _ {S : Type 0} {facts : S → Facts} where
         }
 
     pub cut_off : (r : Result (Unit {0}) AllocError) (e : AllocError) → i < length commands → get_or commands i c ≡ c → Going facts old mid f g turns first (take i commands) out out' names
-        → Does facts mid new g h (deed turns names c) answer → WritesDown (first + i) c answer names names' r out' out'' → r ≡ Err e
+        → DoesDeed facts mid new g h (deed turns names c) answer → WritesDown (first + i) c answer names names' r out' out'' → r ≡ Err e
         → (text : List ℕ) × (out'' ≡ out ++ text) × RanThread facts old new f h turns first commands (Err fault.Memory) text
     cut_off r e small is d does kept bad =
         let w : WritesDown (first + i) c answer names names' (Err e) out' out'' = subst (λ r. WritesDown (first + i) c answer names names' r out' out'') bad kept in (

@@ -5,13 +5,13 @@ use Rattle.jr_model.specs.Frames.{Frames, fresh_frames}
 use Rattle.jr_syntax.specs.declared.command.Command.{Command}
 use Rattle.jr_steps.specs.declared.known.Known.{Known}
 use Rattle.jr_rule.specs.declared.pass.Pass.{Pass}
-use Rattle.jr_rule.specs.Passes.{standing_of, Knows}
+use Rattle.jr_rule.specs.Passes.{facts_of, standing_of, Knows}
 use Rattle.jr_scripts.specs.AllRuns.{RanPass}
 use Rattle.jr_scripts.specs.Runs.{RanThread}
 
 -- the run of steps is a run of their pass
 pub ran_pass : {S : Type 0} (pass_of : S → Pass) (a b : S) (p q : Pass) (f g : Frames) (turns first : ℕ) (commands commands' : List Command) (answer : Result (Unit {0}) Fault) (out text : List ℕ)
-    → RanThread (λ s. standing_of (pass_of s)) (λ s k. Knows (pass_of s) k) a b f g turns first commands answer text
+    → RanThread (λ s. facts_of (pass_of s)) a b f g turns first commands answer text
     → pass_of a ≡ p → q ≡ pass_of b → f ≡ fresh_frames (standing_of p).config.locals → commands ≡ commands' → out ≡ text → RanPass turns first commands' p q answer out
 ran_pass pass_of a b p q f g turns first commands commands' answer out text r old new fresh same whole =
     let here : RanThread facts_of (pass_of a) (pass_of b) f g turns first commands answer text = record { stands_is = r.stands_is; explained = r.explained } in

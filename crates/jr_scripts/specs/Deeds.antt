@@ -98,6 +98,6 @@ get_object_ref_type w = call_on w (λ c last t s a. references.get_object_ref_ty
 
 module _ {S : Type 0} (facts : S → Facts) where
   -- the deed was done: for whatever was known, something is known that it may lead to
-  pub record Does {A : Type 0} (old new : S) (before after : Frames) (deed : Deed A) (answer : Result A Fault) : Type 0 where
+  pub record DoesDeed {A : Type 0} (old new : S) (before after : Frames) (deed : Deed A) (answer : Result A Fault) : Type 0 where
     pub stands_is : IsAsBefore (facts old).stands (facts new).stands
     pub did : (k : Known) → (facts old).knows k → Holds before k → (k' : Known) × (facts new).knows k' × Holds after k' × deed (moment (facts old).stands.fresh k before) answer (moment (facts new).stands.fresh k' after)

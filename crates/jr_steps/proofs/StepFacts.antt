@@ -21,7 +21,7 @@ use Rattle.jr_steps.specs.declared.known.Known.{Known}
 use Rattle.jr_steps.specs.declared.known.Holdings.{Holdings}
 use Rattle.jr_steps.specs.Acts.{act_of_reservation}
 use Rattle.jr_steps.specs.Holdings.{words_at}
-use Rattle.jr_steps.specs.Knowing.{Facts, Standing, IsOf, MayKnow, keeps, ShowsUsed, IsClosedNow, view, anything, state_of, Goes, HasObject, HasLooked, WasUsed, IsFreeSlot, ShowsSlot, ShowsPublished, ShowsRange, HasWord, Took, TookWith}
+use Rattle.jr_steps.specs.Knowing.{Facts, IsOf, MayKnow, keeps, ShowsUsed, IsClosedNow, view, anything, state_of, Goes, HasObject, HasLooked, WasUsed, ShowsPublished, ShowsRange, HasWord, Took, TookWith}
 
 -- a step is what the thread did
 pub goes_did : {k k' : Known} {acts : List Act} → Goes k acts k' → Did (view k) (view k') acts
