@@ -23,7 +23,7 @@ use Rattle.jr_model.proofs.Windows.{window_act, window_nothing}
 use Rattle.jr_model.specs.Parts.{read_element, write_element}
 use Rattle.jr_model.specs.Checks.{is_plain, is_text, is_value}
 use Rattle.jr_steps.specs.declared.known.Known.{Known}
-use Rattle.jr_steps.specs.Knowing.{Facts, Standing, IsOf, MayKnow, keeps, view, state_of, KnowsHeader, IsWordNow, ShowsObject, Goes, Took}
+use Rattle.jr_steps.specs.Knowing.{Facts, IsOf, MayKnow, keeps, view, state_of, KnowsHeader, IsWordNow, ShowsObject, Goes, Took}
 use Rattle.jr_steps.proofs.StepFacts.{goes_did}
 use Rattle.jr_heap.specs.Heap.{Called, by_steps, HoldsHeader, LeavesObject, MayBeNamed, ReadsOfKind}
 use Rattle.jr_heap.proofs.Calling.{no_step, called_by}
@@ -128,8 +128,8 @@ module _ {S : Type 0} {facts : S → Facts} (fits : (s : S) (k : Known) → (fac
   write_value a plain l bad = refused fits o h i a Value (MayWrite o h v) (λ j k. write_element (state_of k) o i v) (LeavesObject o h) (λ k l. l) (λ k m. m.0) (λ p. tt)
       (λ k x there kind long f. (x, there, no_value o i v (length x.words) x.kind f (ap (λ z. is_plain z || is_text z) kind ∙ plain) (subst (λ n. i < n) (sym long) l) (ap (λ z. is_value z v) kind ∙ bad)))
 
-  pub may_write : {a : S} → is_value h.kind v ≡ true → MayKnow facts a (MayWrite o h v) → MayKnow facts a (λ k. KnowsHeader o h k × IsWordNow h.kind v k)
-  may_write good may = ∥∥₁_map may (λ k. (k.0, k.1, (k.2.0.known, word_is (state_of k.0) h.kind v good k.2.1)))
+  pub may_write : (a : S) → is_value h.kind v ≡ true → MayKnow facts a (MayWrite o h v) → MayKnow facts a (λ k. KnowsHeader o h k × IsWordNow h.kind v k)
+  may_write a good may = ∥∥₁_map may (λ k. (k.0, k.1, (k.2.0.known, word_is (state_of k.0) h.kind v good k.2.1)))
 
   pub write_stored : {a b : S} → (facts a).stands.role ≡ Within → (is_plain h.kind || is_text h.kind) ≡ false → i < h.length → is_value h.kind v ≡ true → Took facts a b (Write o i v ∷ []) (λ k. KnowsHeader o h k × IsWordNow h.kind v k) keeps
       → Called facts a b (MayWrite o h v) (λ j k. write_element (state_of k) o i v) (Ok tt) (by_steps 1 (LeavesObject o h))

@@ -7,8 +7,7 @@ use Rattle.jr_model.specs.Frames.{Frames}
 use Rattle.jr_model.specs.Checks.{Parts}
 use Rattle.jr_syntax.specs.declared.verb.OnBoth.{OnBoth}
 use Rattle.jr_syntax.specs.declared.verb.OnBoth.TheVariants.{Same}
-use Rattle.jr_steps.specs.declared.known.Known.{Known}
-use Rattle.jr_steps.specs.Knowing.{Facts, Standing}
+use Rattle.jr_steps.specs.Knowing.{Facts}
 use Rattle.jr_scripts.specs.declared.reply.Reply.{Reply}
 use Rattle.jr_scripts.specs.declared.reply.Reply.TheVariants as replies
 use Rattle.jr_scripts.specs.Reading.{IsReadAs}

@@ -8,7 +8,7 @@ use Rattle.jr_word.specs.declared.fault.Fault.TheVariants as fault
 use Rattle.jr_model.specs.Frames.{Frames}
 use Rattle.jr_syntax.specs.declared.command.Command.{Command}
 use Rattle.jr_steps.specs.declared.known.Known.{Known}
-use Rattle.jr_steps.specs.Knowing.{Facts, Standing, Holds}
+use Rattle.jr_steps.specs.Knowing.{Facts, Holds}
 use Rattle.jr_scripts.specs.declared.reply.Reply.{Reply}
 use Rattle.jr_scripts.specs.Names.{Names}
 use Rattle.jr_scripts.specs.Deeds.{DoesDeed}

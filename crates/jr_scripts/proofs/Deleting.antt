@@ -16,7 +16,7 @@ use Rattle.jr_model.specs.Parts.{delete, delete_found, found_answer}
 use Rattle.jr_model.proofs.Runs.{ran_act, ran_some_act, ran_refuse, ran_then, did_legal}
 use Rattle.jr_steps.specs.declared.known.Known.{Known}
 use Rattle.jr_steps.specs.Acts.{found_of}
-use Rattle.jr_steps.specs.Knowing.{Facts, Standing, view, anything, keeps, HasLooked, MayKnow, Took, Goes}
+use Rattle.jr_steps.specs.Knowing.{Facts, view, anything, keeps, HasLooked, MayKnow, Took, Goes}
 use Rattle.jr_steps.proofs.StepFacts.{goes_did, looked_now}
 use Rattle.jr_scripts.specs.Performing.{Performed, moment}
 use Rattle.jr_scripts.proofs.SameRoom.{as_before, still_before}

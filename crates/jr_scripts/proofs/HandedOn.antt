@@ -7,7 +7,7 @@ use Rattle.jr_model.specs.State.{State}
 use Rattle.jr_model.specs.Frames.{Frames}
 use Rattle.jr_model.specs.Calls.{Call}
 use Rattle.jr_steps.specs.declared.known.Known.{Known}
-use Rattle.jr_steps.specs.Knowing.{Facts, Standing}
+use Rattle.jr_steps.specs.Knowing.{Facts}
 use Rattle.jr_scripts.specs.Performing.{Performed}
 
 module _ {S : Type 0} {facts : S → Facts} where

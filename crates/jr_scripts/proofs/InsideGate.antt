@@ -6,11 +6,9 @@ use Rattle.std.specs.Result.{IsErrAnd}
 use Rattle.jr_word.specs.declared.config.Config.{Config}
 use Rattle.jr_word.specs.declared.fault.Fault.{Fault}
 use Rattle.jr_word.specs.declared.fault.Fault.TheVariants.{Barred}
-use Rattle.jr_word.specs.declared.kind.Kind.TheVariants.{Plain}
 use Rattle.jr_model.specs.declared.event.Role.{Role}
 use Rattle.jr_model.specs.declared.event.Role.TheVariants.{Outside, Within}
 use Rattle.jr_model.specs.declared.event.Act.TheVariants.{Enter, Knock, Leave, Withdraw}
-use Rattle.jr_model.specs.State.{Handle}
 use Rattle.jr_model.specs.Frames.{Frames, fresh_frames, object_at}
 use Rattle.jr_model.specs.Calls.{Call, entered}
 use Rattle.jr_model.proofs.Runs.{ran_barred, ran_entered}
@@ -19,7 +17,7 @@ use Rattle.jr_steps.specs.Knowing.{Facts, Standing, standing_after, anything, ke
 use Rattle.jr_steps.proofs.StepFacts.{goes_did, goes_stepped}
 use Rattle.jr_gate.specs.Acting.{ActedTo, IsWithdrawn}
 use Rattle.jr_scripts.specs.Table.{Table}
-use Rattle.jr_scripts.specs.Performing.{Performed, Calls, CallsWhole, LearnsNew, MakesPlain, object_made, IsAsBefore}
+use Rattle.jr_scripts.specs.Performing.{Performed, Calls, CallsWhole, IsAsBefore}
 use Rattle.jr_scripts.specs.Ready.{StandsReady, KeepsOwner, Completes}
 use Rattle.jr_scripts.proofs.SameRoom.{as_before}
 use Rattle.jr_scripts.proofs.Spending.{made_of, spending, spend_first, spend_last, spend_more, spend_step, spend_barred}

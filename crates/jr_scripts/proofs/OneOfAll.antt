@@ -1,11 +1,10 @@
 -- One thread of a script, from its opened pass to the pass that it hands back.
-use Rattle.std.proofs.Common.{◌≡◌, ◌++◌, ℕ, List, [], Result, Ok, refl, sym, ap, subst, ◌∙◌}
+use Rattle.std.proofs.Common.{◌≡◌, ℕ, List, Result, sym, subst}
 use Rattle.jr_word.specs.declared.fault.Fault.{Fault}
 use Rattle.jr_model.specs.Frames.{Frames, fresh_frames}
 use Rattle.jr_syntax.specs.declared.command.Command.{Command}
-use Rattle.jr_steps.specs.declared.known.Known.{Known}
 use Rattle.jr_rule.specs.declared.pass.Pass.{Pass}
-use Rattle.jr_rule.specs.Passes.{facts_of, standing_of, Knows}
+use Rattle.jr_rule.specs.Passes.{facts_of, standing_of}
 use Rattle.jr_scripts.specs.AllRuns.{RanPass}
 use Rattle.jr_scripts.specs.Runs.{RanThread}
 

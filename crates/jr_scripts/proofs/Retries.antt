@@ -3,8 +3,7 @@ use Rattle.std.proofs.Common.{◌≡◌, ◌<◌, ◌≤◌, ◌-◌, ◌+◌, �
 use Rattle.jr_word.specs.declared.fault.Fault.{Fault}
 use Rattle.jr_word.specs.declared.fault.Fault.TheVariants as fault
 use Rattle.jr_model.specs.Frames.{Frames}
-use Rattle.jr_steps.specs.declared.known.Known.{Known}
-use Rattle.jr_steps.specs.Knowing.{Facts, Standing}
+use Rattle.jr_steps.specs.Knowing.{Facts}
 use Rattle.jr_scripts.specs.Deeds.{Deed, DoesDeed}
 use Rattle.jr_scripts.specs.Tries.{answered, again, gave_up, is_tried_again}
 use Rattle.jr_scripts.specs.Commands.{tried}

@@ -5,12 +5,12 @@ use Rattle.jr_word.specs.declared.fault.Fault.{Fault}
 use Rattle.jr_model.specs.declared.event.Role.TheVariants.{Outside}
 use Rattle.jr_model.specs.declared.summary.Summary.{Summary}
 use Rattle.jr_model.specs.State.{summary}
-use Rattle.jr_model.specs.History.{PassView, IsLegal, state}
+use Rattle.jr_model.specs.History.{IsLegal, state}
 use Rattle.jr_model.specs.Frames.{Frames, fresh_frames}
 use Rattle.jr_syntax.specs.declared.command.Command.{Command}
 use Rattle.jr_syntax.specs.declared.thread.ThreadPart.{ThreadPart}
 use Rattle.jr_steps.specs.declared.known.Known.{Known}
-use Rattle.jr_steps.specs.Knowing.{Facts, Standing, IsOf, view, Holds}
+use Rattle.jr_steps.specs.Knowing.{Facts, IsOf, view, Holds}
 use Rattle.jr_rule.specs.declared.plain.PlainSteps.{PlainSteps}
 use Rattle.jr_rule.specs.Plain.{unseen, standing_alone, facts_over, Shows}
 use Rattle.jr_scripts.specs.Performing.{moment}

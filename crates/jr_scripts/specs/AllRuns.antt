@@ -1,5 +1,5 @@
 -- Runs of scripts of several threads, in one room and one history.
-use Rattle.std.specs.Prelude.{◌≡◌, ◌+◌, ◌<◌, ◌^◌, ℕ, zero, suc, true, List, [], ◌∷◌, ◌++◌, map, length, Result, Ok, Err}
+use Rattle.std.specs.Prelude.{◌≡◌, ◌+◌, ℕ, zero, suc, true, List, [], ◌∷◌, ◌++◌, length, Result}
 use mathlib.Core.List.{IsPrefix}
 use Rattle.jr_word.specs.declared.config.Config.{Config}
 use Rattle.jr_word.specs.declared.fault.Fault.{Fault}
@@ -12,7 +12,7 @@ use Rattle.jr_syntax.specs.declared.command.Command.{Command}
 use Rattle.jr_syntax.specs.declared.thread.ThreadPart.{ThreadPart}
 use Rattle.jr_syntax.specs.declared.script.Script.{Script}
 use Rattle.jr_rule.specs.declared.pass.Pass.{Pass}
-use Rattle.jr_rule.specs.Passes.{facts_of, standing_of, Knows}
+use Rattle.jr_rule.specs.Passes.{facts_of, standing_of}
 use Rattle.jr_scripts.specs.Performing.{Moment}
 use Rattle.jr_steps.specs.Holdings.{empty}
 use Rattle.jr_scripts.specs.Text.{heading, ending}

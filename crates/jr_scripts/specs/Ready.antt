@@ -4,8 +4,7 @@ use Rattle.jr_word.specs.declared.fault.Fault.{Fault}
 use Rattle.jr_model.specs.declared.event.Role.{Role}
 use Rattle.jr_model.specs.declared.event.Role.TheVariants.{Outside}
 use Rattle.jr_model.specs.Calls.{Call}
-use Rattle.jr_steps.specs.declared.known.Known.{Known}
-use Rattle.jr_steps.specs.Knowing.{Facts, Standing, MayKnow, Holds}
+use Rattle.jr_steps.specs.Knowing.{Facts, MayKnow, Holds}
 use Rattle.jr_scripts.specs.Table.{Table}
 use Rattle.jr_scripts.specs.Performing.{CallsWhole}
 

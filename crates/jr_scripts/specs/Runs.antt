@@ -14,7 +14,7 @@ use Rattle.jr_syntax.specs.declared.command.Command.{Command}
 use Rattle.jr_syntax.specs.declared.thread.ThreadPart.{ThreadPart}
 use Rattle.jr_syntax.specs.declared.script.Script.{Script}
 use Rattle.jr_steps.specs.declared.known.Known.{Known}
-use Rattle.jr_steps.specs.Knowing.{Facts, Standing, Holds}
+use Rattle.jr_steps.specs.Knowing.{Facts, Holds}
 use Rattle.jr_steps.specs.Holdings.{empty}
 use Rattle.jr_scripts.specs.Performing.{IsAsBefore, Moment, moment}
 use Rattle.jr_scripts.specs.declared.reply.Reply.{Reply}
