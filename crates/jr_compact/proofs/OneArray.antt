@@ -90,8 +90,8 @@ module _ {S : Type 0} {facts : S → Facts} (fits : (s : S) (k : Known) → (fac
     free = λ i l r x ne is. absurd (let z = sym (o.only r ne) ∙ is in cc);
   }
 
-  pub one_slidable : {a : S} (h : HeaderParts) → MayKnow facts a (IsOne h) → MayKnow facts a (CanSlide 1 h 0)
-  one_slidable h may = ∥∥₁_map may (λ k. (k.0, k.1, one_slides h k.0 k.2))
+  pub one_slidable : (a : S) (h : HeaderParts) → MayKnow facts a (IsOne h) → MayKnow facts a (CanSlide 1 h 0)
+  one_slidable a h may = ∥∥₁_map may (λ k. (k.0, k.1, one_slides h k.0 k.2))
 
   one_still : (h h' : HeaderParts) (k k' : Known) → (state_of k').objects ≡ (state_of k).objects → (state_of k').used ≡ (state_of k).used → k'.config ≡ k.config → h'.length ≡ h.length → IsSettled k' → KnowsHeader 1 h' k' → IsOne h k → IsOne h' k'
   one_still h h' k k' objects used same_config same_length settled known o = record {
@@ -107,13 +107,13 @@ module _ {S : Type 0} {facts : S → Facts} (fits : (s : S) (k : Known) → (fac
   -- the array was moved to the first word
   pub one_moved : {a b : S} (h : HeaderParts) → (facts a).stands.role ≡ Collecting → Saw facts a b (CanSlide 1 h 0) (ShowsPlaced 1 h 0) → MayKnow facts a (IsOne h) → MayKnow facts b (IsOne (placed h 0))
   one_moved {a} h collects saw may = ∥∥₁_map may (λ k.
-      let y = saw.sees k.0 k.1 (one_slides h k.0 k.2) in
+      let y = saw.leads k.0 k.1 (one_slides h k.0 k.2) in
       let same = tables_seen y.2 ((fits a k.0 k.1).role ∙ collects) in
       let x = y.3 in
       (y.0, y.1, one_still h (placed h 0) k.0 y.0 same.objects same.used (y.2).config refl (ap (λ (g : Holdings). g.moving) x) (ap (λ (g : Holdings). header_in 1 g.headers) x ∙ knows_now 1 (placed h 0) (header_in 1 (k.0).holdings.headers)) k.2))
 
-  pub one_there : {a : S} (h : HeaderParts) (i : ℕ) → i < h.length → MayKnow facts a (IsOne h) → MayKnow facts a (IsThere 1 h i)
-  one_there h i l may = ∥∥₁_map may (λ k. (k.0, k.1, there_settled 1 i h k.0 (k.2).known l (k.2).settled))
+  pub one_there : (a : S) (h : HeaderParts) (i : ℕ) → i < h.length → MayKnow facts a (IsOne h) → MayKnow facts a (IsThere 1 h i)
+  one_there a h i l may = ∥∥₁_map may (λ k. (k.0, k.1, there_settled 1 i h k.0 (k.2).known l (k.2).settled))
 
   -- an element was looked at
   pub one_kept : {a b : S} (h : HeaderParts) (i v : ℕ) → i < h.length → (facts a).stands.role ≡ Collecting → Took facts a b [] (IsThere 1 h i) (λ j k. ShowsElement 1 i v k × keeps j k) → MayKnow facts a (IsOne h) → MayKnow facts b (IsOne h)
@@ -130,8 +130,8 @@ module _ {S : Type 0} {facts : S → Facts} (fits : (s : S) (k : Known) → (fac
         (λ ne. absurd (let z = sym (o.only r ne) ∙ there in cc));
   }
 
-  pub one_settled : {a : S} (h : HeaderParts) (n : ℕ) → h.length ≡ n → h.place ≡ 0 → MayKnow facts a (IsOne h) → MayKnow facts a (CanSettle n)
-  one_settled h n is low may = ∥∥₁_map may (λ k. (k.0, k.1, one_settles h n k.0 is low k.2))
+  pub one_settled : (a : S) (h : HeaderParts) (n : ℕ) → h.length ≡ n → h.place ≡ 0 → MayKnow facts a (IsOne h) → MayKnow facts a (CanSettle n)
+  one_settled a h n is low may = ∥∥₁_map may (λ k. (k.0, k.1, one_settles h n k.0 is low k.2))
 
   -- the top was set
   pub one_reopens : {a b : S} (h : HeaderParts) (n : ℕ) → h.length ≡ n → h.place ≡ 0 → (facts a).stands.role ≡ Collecting → Took facts a b (Settle n ∷ []) (CanSettle n) keeps → MayKnow facts a (IsOne h) → MayKnow facts b CanReopen

@@ -9,7 +9,7 @@ use Rattle.jr_steps.specs.declared.known.Holdings.{Holdings}
 use Rattle.jr_steps.specs.declared.known.Move.{Move}
 use Rattle.jr_steps.specs.Holdings.{with_move, with_header, header_in, move_of, HasDone}
 use Rattle.jr_steps.specs.Collecting.{IsThere, ShowsElement, CanMove, ShowsMoved, placed, CanPlace, ShowsPlaced}
-use Rattle.jr_steps.specs.Knowing.{Facts, Standing, IsOf, MayKnow, Sees, Saw, Took, state_of, keeps, KnowsHeader}
+use Rattle.jr_steps.specs.Knowing.{Leads, Facts, Standing, IsOf, MayKnow, Sees, Saw, Took, state_of, keeps, KnowsHeader}
 use Rattle.jr_steps.proofs.CollectorFacts.{tables_seen, sees_more, there_left}
 use Rattle.jr_compact.specs.Sliding.{CanSlide}
 
@@ -20,7 +20,7 @@ pub record IsSlidTo (o place i : ℕ) (k k' : Known) : Type 0 where
 
 pub record SlidTo {S : Type 0} (facts : S → Facts) (o : ℕ) (h : HeaderParts) (place : ℕ) (old new : S) (i : ℕ) : Type 0 where
   pub stands_is : (facts new).stands ≡ (facts old).stands
-  pub did : (k : Known) → (facts old).knows k → CanSlide o h place k → (k' : Known) × (facts new).knows k' × Sees k k' × IsSlidTo o place i k k'
+  pub did : Leads facts old new (CanSlide o h place) Sees (IsSlidTo o place i)
 
 more_done : (m : Option Move) (o place i : ℕ) → m ≡ Some (move_of o place i) → HasDone m o place i
 more_done m o place i e = subst (λ z. HasDone z o place i) (sym e) refl
@@ -120,7 +120,7 @@ module _ {S : Type 0} {facts : S → Facts} (fits : (s : S) (k : Known) → (fac
       pub slid_all : {c : S} → Took facts b c [] (CanPlace o h place) (ShowsPlaced o h place) → Saw facts a c (CanSlide o h place) (ShowsPlaced o h place)
       slid_all t = record {
         stands_is = t.stands_is ∙ p.stands_is;
-        sees = λ k s can.
+        leads = λ k s can.
             let x = p.did k s can in
             let y = t.goes x.0 x.1 (can_place k x.0 can x.3) in
             (y.0, y.1, sees_more x.2 y.2, y.3 ∙ ap (λ g. with_header g o (placed h place)) (x.3).others);

@@ -20,13 +20,13 @@ module _ {S : Type 0} {facts : S → Facts} {a b c : S} {shows : Known → Known
   withdraws : Took facts a b (Knock ∷ []) anything shows → Took facts b c (Withdraw ∷ []) anything lets_go → ActedTo facts a c (Knock ∷ Withdraw ∷ []) anything IsWithdrawn
   withdraws p q = record {
     stands_is = q.stands_is ∙ ap (λ s. standing_after s (Withdraw ∷ [])) p.stands_is;
-    did = λ k s m.
+    leads = λ k s m.
         let g = p.goes k s m in
         let h = q.goes g.0 g.1 tt in
         let first = goes_stepped g.2 in
         let last = goes_stepped h.2 in
         let none = did_nothing (view g.0) (did_legal (Knock ∷ []) first.did) in
-        (h.0, h.1, did_then (Knock ∷ []) (Withdraw ∷ []) first.did last.did, (h.3, two g.2 h.2), g.0.seen, window_stay Knock [] Withdraw first first.behind none last (stepped_last last));
+        (h.0, h.1, did_then (Knock ∷ []) (Withdraw ∷ []) first.did last.did, ((h.3, two g.2 h.2), g.0.seen, window_stay Knock [] Withdraw first first.behind none last (stepped_last last)));
   }
 
   -- who leaves after a knock withdraws it

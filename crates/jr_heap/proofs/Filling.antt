@@ -13,7 +13,7 @@ use Rattle.jr_model.proofs.Windows.{window_within}
 use Rattle.jr_steps.specs.declared.known.Known.{Known}
 use Rattle.jr_steps.specs.declared.known.Holdings.{Holdings}
 use Rattle.jr_steps.specs.Holdings.{words_at}
-use Rattle.jr_steps.specs.Knowing.{Facts, IsOf, MayKnow, view, HasWord, IsWordNow, ShowsWord, Took, Takes}
+use Rattle.jr_steps.specs.Knowing.{Leads, Facts, IsOf, MayKnow, view, HasWord, IsWordNow, ShowsWord, Took, Takes}
 use Rattle.jr_steps.proofs.StepFacts.{goes_did}
 use Rattle.jr_heap.specs.Heap.{Called, by_steps, own_words, IsOwn, IsReady, Fills, no_act}
 use Rattle.jr_heap.proofs.Calling.{called_by}
@@ -61,7 +61,7 @@ pub record IsFilledTo (place n v i : ℕ) (j k : Known) : Type 0 where
 -- what was done so far
 pub record FilledTo {S : Type 0} (facts : S → Facts) (place n v : ℕ) (old new : S) (i : ℕ) : Type 0 where
   pub stands_is : (facts new).stands ≡ (facts old).stands
-  pub did : (k : Known) → (facts old).knows k → IsOwn place n k → (k' : Known) × (facts new).knows k' × Did (view k) (view k') [] × IsFilledTo place n v i k k'
+  pub did : Leads facts old new (IsOwn place n) (λ k k'. Did (view k) (view k') []) (IsFilledTo place n v i)
 
 pub among : (n v i w : ℕ) → slice_get (replicate n v) i ≡ Some w → w ≡ v
 among zero v i w e = absurd cc

@@ -44,8 +44,8 @@ module _ {S : Type 0} (facts : S → Facts) (h : HeaderParts) (first objects : �
 
 -- an exchange of a header that is named otherwise
 pub tried : {S : Type 0} {facts : S → Facts} {b c : S} (o : ℕ) (new : Bool) (h z : HeaderParts) → z ≡ h
-    → TookWith facts b c (λ k. acts_of_publication o z.kind (words_for z k) new) (IsFilled z) (ShowsPublished o z new) → TookWith facts b c (λ k. acts_of_publication o h.kind (words_for h k) new) (IsFilled h) (ShowsPublished o h new)
-tried {facts = facts} {b = b} {c = c} o new h z is t = subst (λ (y : HeaderParts). TookWith facts b c (λ k. acts_of_publication o y.kind (words_for y k) new) (IsFilled y) (ShowsPublished o y new)) is t
+    → TookWith facts b c (λ k. acts_of_publication o z.kind (words_for z k) new) (facts b).stands (IsFilled z) (ShowsPublished o z new) → TookWith facts b c (λ k. acts_of_publication o h.kind (words_for h k) new) (facts b).stands (IsFilled h) (ShowsPublished o h new)
+tried {facts = facts} {b = b} {c = c} o new h z is t = subst (λ (y : HeaderParts). TookWith facts b c (λ k. acts_of_publication o y.kind (words_for y k) new) (facts b).stands (IsFilled y) (ShowsPublished o y new)) is t
 
 -- a range that is ready stays so
 filled_later : (h : HeaderParts) (k k' : Known) → Did (view k) (view k') [] → role_of (view k) ≡ Within → k'.holdings ≡ k.holdings → IsFilled h k → IsFilled h k'
@@ -55,7 +55,7 @@ filled_later h k k' d w e x =
 
 module _ {S : Type 0} {facts : S → Facts} (fits : (s : S) (k : Known) → (facts s).knows k → IsOf (facts s).stands k) (h : HeaderParts) (first objects : ℕ) where
   pub passed_more : {a b c : S} (n o : ℕ) → (facts a).stands.role ≡ Within → o ≡ number_at_turn first n objects → Passed facts h first objects a b n
-      → TookWith facts b c (λ k. acts_of_publication o h.kind (words_for h k) false) (IsFilled h) (ShowsPublished o h false) → Passed facts h first objects a c (n + 1)
+      → TookWith facts b c (λ k. acts_of_publication o h.kind (words_for h k) false) (facts b).stands (IsFilled h) (ShowsPublished o h false) → Passed facts h first objects a c (n + 1)
   passed_more {a} {b} n o w is p t = record {
     stands_is = t.stands_is ∙ p.stands_is;
     did = λ k s m.
@@ -73,7 +73,7 @@ module _ {S : Type 0} {facts : S → Facts} (fits : (s : S) (k : Known) → (fac
         );
   }
 
-  pub passed_new : {a b c : S} {n : ℕ} (o all : ℕ) → objects ≡ all → n < objects → Passed facts h first objects a b n → TookWith facts b c (λ k. acts_of_publication o h.kind (words_for h k) true) (IsFilled h) (ShowsPublished o h true)
+  pub passed_new : {a b c : S} {n : ℕ} (o all : ℕ) → objects ≡ all → n < objects → Passed facts h first objects a b n → TookWith facts b c (λ k. acts_of_publication o h.kind (words_for h k) true) (facts b).stands (IsFilled h) (ShowsPublished o h true)
       → Called facts a c (IsFilled h) (λ j k. publish h.kind (words_for h j)) (Ok o) (by_at_most all (λ j k. ((state_of k).objects o ≡ Some (record { kind = h.kind; words = words_for h j })) × (k.holdings ≡ with_header (without_range_of h j.holdings) o h) × (header_in o j.holdings.headers ≡ None)))
   passed_new {n = n} o all same_all small p t = called_by (λ k s m.
       let x = p.did k s m in
@@ -83,11 +83,11 @@ module _ {S : Type 0} {facts : S → Facts} (fits : (s : S) (k : Known) → (fac
       let there : (state_of y.0).objects o ≡ Some (record { kind = h.kind; words = words_for h k }) = new_stands x.0 y.0 o h.kind (words_for h x.0) y.2 ∙ ap (λ ws. Some (record { kind = h.kind; words = ws })) same in
       (y.0, y.1, New o h.kind (words_for h k) ∷ [], record { did = d; is = λ f. inl (o, refl, refl, refl); window = window_act (New o h.kind (words_for h k)) d tt tt; grounds = tt; shows = ((there, y.3.1 ∙ ap (λ g. with_header (without_range_of h g) o h) x.3, subst (λ (g : Holdings). header_in o g.headers ≡ None) x.3 y.3.2), record { count = n + 1; most = omega arith; takes = let u = x.6 in let v = y.2.taken in omega arith }) }))
 
-  pub passed_present : {a b c : S} {n : ℕ} (o : ℕ) → MayKnow facts a (IsFilled h) → Passed facts h first objects a b n → TookWith facts b c (λ k. acts_of_publication o h.kind (words_for h k) true) (IsFilled h) (ShowsPublished o h true) → MayKnow facts c (HasObject o)
+  pub passed_present : {a b c : S} {n : ℕ} (o : ℕ) → MayKnow facts a (IsFilled h) → Passed facts h first objects a b n → TookWith facts b c (λ k. acts_of_publication o h.kind (words_for h k) true) (facts b).stands (IsFilled h) (ShowsPublished o h true) → MayKnow facts c (HasObject o)
   passed_present o may p t = ∥∥₁_map may (λ k. let x = p.did k.0 k.1 k.2 in let y = t.goes x.0 x.1 x.2 in (y.0, y.1, y.3.0))
 
   -- the pass knows the header of what it published
-  pub passed_held : {a b c : S} {n : ℕ} (o : ℕ) → MayKnow facts a (IsFilled h) → Passed facts h first objects a b n → TookWith facts b c (λ k. acts_of_publication o h.kind (words_for h k) true) (IsFilled h) (ShowsPublished o h true) → MayKnow facts c (HoldsHeader o h)
+  pub passed_held : {a b c : S} {n : ℕ} (o : ℕ) → MayKnow facts a (IsFilled h) → Passed facts h first objects a b n → TookWith facts b c (λ k. acts_of_publication o h.kind (words_for h k) true) (facts b).stands (IsFilled h) (ShowsPublished o h true) → MayKnow facts c (HoldsHeader o h)
   passed_held o may p t = ∥∥₁_map may (λ k.
       let x = p.did k.0 k.1 k.2 in
       let y = t.goes x.0 x.1 x.2 in

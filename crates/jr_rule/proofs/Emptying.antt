@@ -41,8 +41,8 @@ module _ {S : Type 0} {facts : S → Facts} (fits : (s : S) (k : Known) → (fac
   pub one_looked : {a b c : S} {i : ℕ} → (facts a).stands.role ≡ Collecting → Saw facts a b anything (HasNoneTo t i) → Took facts b c [] anything (λ j k. ShowsLocal t i local.Free k × keeps j k) → Saw facts a c anything (HasNoneTo t (i + 1))
   one_looked {a} {b} {i = i} collects p q = record {
     stands_is = q.stands_is ∙ p.stands_is;
-    sees = λ k s m.
-        let x = p.sees k s tt in
+    leads = λ k s m.
+        let x = p.leads k s tt in
         let y = q.goes x.0 x.1 tt in
         let same = same_tables y.2 ((fits b x.0 x.1).role ∙ (ap (λ (z : Standing). z.role) p.stands_is ∙ collects)) in (
           y.0,
@@ -141,7 +141,7 @@ module _ {S : Type 0} {facts : S → Facts} (fits : (s : S) (k : Known) → (fac
 
   pub looked_thread : {a b : S} (t : ℕ) → (facts a).stands.role ≡ Collecting → Saw facts a b anything (λ j k. keeps j k × ((p : ℕ) → p < (facts a).stands.config.locals → (state_of k).locals t p ≡ None)) → MayKnow facts a (NoLocalsBelow t) → MayKnow facts b (NoLocalsBelow (t + 1))
   looked_thread {a} {b} t collects took may = ∥∥₁_map may (λ k.
-      let y = took.sees k.0 k.1 tt in
+      let y = took.leads k.0 k.1 tt in
       let same = tables_seen y.2 ((fits a k.0 k.1).role ∙ collects) in
       let of = fits b y.0 y.1 in
       let room = in_room (y.0).config (y.0).last (y.0).seen of.legal in

@@ -86,23 +86,19 @@ module _ {old new : Standing} {words words' : List ℕ} {acts : Known → List A
 
 module _ (LAST : ℕ) (s s' : PlainSteps LAST) {met : Known → Type 0} {shows : Known → Known → Type 0} where
   -- and the step was taken
-  pub took : {acts : List Act} → Turned (standing_alone s.config LAST s.role s.fresh) s.words.items (standing_alone s'.config LAST s'.role s'.fresh) s'.words.items (λ k. acts) met shows
-      → Took (λ (z : PlainSteps LAST). facts_over (standing_alone z.config LAST z.role z.fresh) z.words.items) s s' acts met shows
-  took {acts} t = record {
-    stands_is = t.stands_is (unseen s.config LAST);
-    goes = λ k h m. let r = t.turn k h m in (known_at k k.seen acts r.0, shown_next t k h m, goes_then k acts r.0 (r.1).legal, r.2);
-    alone = λ e k h m. let r = t.turn k h m in nobody_then k acts r.0 (r.1).legal;
-  }
-
-  -- with acts that depend on what is known, too
-  pub took_with : {acts : Known → List Act} → standing_alone s'.config LAST s'.role s'.fresh ≡ standing_alone s.config LAST s.role s.fresh
+  pub took_with : {acts : Known → List Act} {stood : Standing} → standing_alone s'.config LAST s'.role s'.fresh ≡ stood
       → Turned (standing_alone s.config LAST s.role s.fresh) s.words.items (standing_alone s'.config LAST s'.role s'.fresh) s'.words.items acts met shows
-      → TookWith (λ (z : PlainSteps LAST). facts_over (standing_alone z.config LAST z.role z.fresh) z.words.items) s s' acts met shows
-  took_with {acts} same t = record {
-    stands_is = same;
+      → TookWith (λ (z : PlainSteps LAST). facts_over (standing_alone z.config LAST z.role z.fresh) z.words.items) s s' acts stood met shows
+  took_with {acts} stood t = record {
+    stands_is = stood;
     goes = λ k h m. let r = t.turn k h m in (known_at k k.seen (acts k) r.0, shown_next t k h m, goes_then k (acts k) r.0 (r.1).legal, r.2);
     alone = λ e k h m. let r = t.turn k h m in nobody_then k (acts k) r.0 (r.1).legal;
   }
+
+  -- with acts that are the same whatever is known, too
+  pub took : {acts : List Act} → Turned (standing_alone s.config LAST s.role s.fresh) s.words.items (standing_alone s'.config LAST s'.role s'.fresh) s'.words.items (λ k. acts) met shows
+      → Took (λ (z : PlainSteps LAST). facts_over (standing_alone z.config LAST z.role z.fresh) z.words.items) s s' acts met shows
+  took t = took_with (t.stands_is (unseen s.config LAST)) t
 
 -- what the words show does not depend on whether the pass is fresh
 pub shows_spent : {c : Config} {last : ℕ} {r : Role} {words : List ℕ} {k : Known} (f f' : Bool) → Shows (standing_alone c last r f) words k → Shows (standing_alone c last r f') words k

@@ -38,7 +38,7 @@ impl Row {
         requires header { IsHeader header }
         requires filled { MayKnow facts_of pass.old (IsFilled header) }
         ensures row { IsAt self.now pass.new }
-        ensures step { TookWith facts_of pass.old pass.new (λ k. acts_of_publication object header.kind (words_for header k) result) (IsFilled header) (ShowsPublished object header result) }
+        ensures step { TookWith facts_of pass.old pass.new (λ k. acts_of_publication object header.kind (words_for header k) result) (standing_of pass.old) (IsFilled header) (ShowsPublished object header result) }
     {
         let at = header_at(&self.config, u32::from(object));
         let new = Header::pack(header);

@@ -89,8 +89,8 @@ module _ {S : Type 0} {facts : S → Facts} where
     calls_barred : {a b : S} (f : Frames) → (facts a).stands.role ≡ Outside → ActedTo facts a b (Knock ∷ Withdraw ∷ []) anything IsWithdrawn → CallsWhole facts a b f f 0 (entered (work (facts a).stands.config (facts a).stands.last (facts a).stands.thread)) (Err Barred)
     calls_barred {a} f out t = record {
       stands_is = as_before _ (t.stands_is ∙ ap (with_role (facts a).stands) (sym out));
-      ran = λ k s m. let g = t.did k s tt in
-          (g.0, g.1, made_of (spend_barred t k s f f) (ran_barred f (work (facts a).stands.config (facts a).stands.last (facts a).stands.thread) g.2 g.5), (g.3.0, holds_did k g.0 f (Knock ∷ Withdraw ∷ []) g.2 (refl, (refl, tt)) m));
+      ran = λ k s m. let g = t.leads k s tt in
+          (g.0, g.1, made_of (spend_barred t k s f f) (ran_barred f (work (facts a).stands.config (facts a).stands.last (facts a).stands.thread) g.2 g.3.2), (g.3.0.0, holds_did k g.0 f (Knock ∷ Withdraw ∷ []) g.2 (refl, (refl, tt)) m));
     }
 
     calls_entered : {a b c d : S} {f g : Frames} (silent : Config → ℕ) {so : Known → Known → Type 0} {answer : Result A Fault} → (facts a).stands.role ≡ Outside → Took facts a b (Enter ∷ []) anything keeps

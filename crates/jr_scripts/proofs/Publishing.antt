@@ -28,7 +28,7 @@ last_or o n l = grind arith
 module _ {S : Type 0} {facts : S → Facts} (fits : (s : S) (k : Known) → (facts s).knows k → IsOf (facts s).stands k) where
   -- what the exchange of a header without elements did
   abbrev Claimed : S → S → ℕ → Kind → Bool → Type 0
-  Claimed b c o kind new = TookWith facts b c (λ k. acts_of_publication o kind (words_for (bare kind) k) new) (IsFilled (bare kind)) (ShowsPublished o (bare kind) new)
+  Claimed b c o kind new = TookWith facts b c (λ k. acts_of_publication o kind (words_for (bare kind) k) new) (facts b).stands (IsFilled (bare kind)) (ShowsPublished o (bare kind) new)
 
   -- a header without elements can be given at any time
   pub may_claim : (a : S) (kind : Kind) → MayKnow facts a anything → MayKnow facts a (IsFilled (bare kind))

@@ -89,8 +89,8 @@ module _ {S : Type 0} {facts : S → Facts} where
 
   -- a knock and its withdrawal
   pub spend_barred : {a b : S} (t : ActedTo facts a b (Knock ∷ Withdraw ∷ []) anything IsWithdrawn) (k : Known) (s : (facts a).knows k) (f g : Frames)
-      → Spending 0 (moment (facts a).stands.fresh k f) (moment (facts b).stands.fresh (t.did k s tt).0 g)
+      → Spending 0 (moment (facts a).stands.fresh k f) (moment (facts b).stands.fresh (t.leads k s tt).0 g)
   spend_barred {a} {b} t k s f g =
-      let y = t.did k s tt in
-      let two = y.3.1 in
+      let y = t.leads k s tt in
+      let two = y.3.0.1 in
       spend_acts f g 0 (Knock ∷ Withdraw ∷ []) 0 (omega arith) y.2 (omega arith) (ap (λ (z : Standing). z.fresh) t.stands_is)

@@ -13,7 +13,7 @@ use Rattle.jr_model.specs.Calls.{Call}
 use Rattle.jr_model.specs.Checks.{Word}
 use Rattle.jr_steps.specs.declared.known.Known.{Known}
 use Rattle.jr_steps.specs.Holdings.{empty}
-use Rattle.jr_steps.specs.Knowing.{Facts, Holds}
+use Rattle.jr_steps.specs.Knowing.{Facts, Leads, Holds}
 use Rattle.jr_scripts.specs.Reading.{IsReadAs}
 use Rattle.jr_scripts.specs.Performing.{IsAsBefore, Moment, moment, IsMade}
 
@@ -100,4 +100,4 @@ module _ {S : Type 0} (facts : S → Facts) where
   -- the deed was done: for whatever was known, something is known that it may lead to
   pub record DoesDeed {A : Type 0} (old new : S) (before after : Frames) (deed : Deed A) (answer : Result A Fault) : Type 0 where
     pub stands_is : IsAsBefore (facts old).stands (facts new).stands
-    pub did : (k : Known) → (facts old).knows k → Holds before k → (k' : Known) × (facts new).knows k' × Holds after k' × deed (moment (facts old).stands.fresh k before) answer (moment (facts new).stands.fresh k' after)
+    pub did : Leads facts old new (Holds before) (λ k k'. Holds after k') (λ k k'. deed (moment (facts old).stands.fresh k before) answer (moment (facts new).stands.fresh k' after))

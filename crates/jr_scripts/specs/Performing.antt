@@ -16,7 +16,7 @@ use Rattle.jr_word.specs.declared.header.HeaderParts.{HeaderParts}
 use Rattle.jr_steps.specs.declared.known.Known.{Known}
 use Rattle.jr_steps.specs.declared.known.Holdings.{Holdings}
 use Rattle.jr_steps.specs.Holdings.{with_header}
-use Rattle.jr_steps.specs.Knowing.{Facts, Standing, view, state_of, fresh_from, keeps, lets_go, Takes, HasObject, HasOptional, Holds}
+use Rattle.jr_steps.specs.Knowing.{Facts, Leads, Standing, view, state_of, fresh_from, keeps, lets_go, Takes, HasObject, HasOptional, Holds}
 
 -- the same room, thread and role, whether or not the pass is fresh
 pub record IsAsBefore (old new : Standing) : Type 0 where
@@ -54,8 +54,7 @@ module _ {S : Type 0} (facts : S → Facts) where
   -- a call was made: for whatever was known and meets the condition, something is known from which the thread did what the call does, with this answer, and which shows this. The call may name the state that it leaves
   pub record Performed {A : Type 0} (old new : S) (before after : Frames) (silent : ℕ) (met : Known → Type 0) (call : State → Call A) (answer : Result A Fault) (shows : Known → Known → Type 0) : Type 0 where
     pub stands_is : IsAsBefore (facts old).stands (facts new).stands
-    pub ran : (k : Known) → (facts old).knows k → met k
-        → (k' : Known) × (facts new).knows k' × IsMade silent (moment (facts old).stands.fresh k before) (moment (facts new).stands.fresh k' after) (call (state_of k')) answer × shows k k'
+    pub ran : Leads facts old new met (λ k k'. IsMade silent (moment (facts old).stands.fresh k before) (moment (facts new).stands.fresh k' after) (call (state_of k')) answer) shows
 
 -- looks at slots, and then the creation, if one was won
 abbrev pub search_acts : ℕ → List (ℕ × Bool) → Option Handle → List Act

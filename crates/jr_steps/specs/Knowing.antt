@@ -227,23 +227,29 @@ HasNoLocals k = (p : ℕ) → (state_of k).locals k.thread p ≡ None
 abbrev pub Holds : Frames → Known → Type 0
 Holds f k = Agree k.thread f (state_of k)
 
+-- FOR WHATEVER WAS KNOWN of the old and meets the condition, something is known of the new that was made of it so, and that shows this
+abbrev pub Leads : {S : Type 0} → (S → Facts) → S → S → (Known → Type 0) → (Known → Known → Type 0) → (Known → Known → Type 0) → Type 0
+Leads facts old new met made shows = (k : Known) → (facts old).knows k → met k → (k' : Known) × (facts new).knows k' × made k k' × shows k k'
+
 module _ {S : Type 0} (facts : S → Facts) where
-  -- a step was taken: for whatever was known and meets the condition, something is known that the step made of it, and that shows this; and nobody else did anything in between where the pass is of no room
-  pub record Took (old new : S) (acts : List Act) (met : Known → Type 0) (shows : Known → Known → Type 0) : Type 0 where
-    pub stands_is : (facts new).stands ≡ standing_after (facts old).stands acts
-    pub goes : (k : Known) → (facts old).knows k → met k → (k' : Known) × (facts new).knows k' × Goes k acts k' × shows k k'
+  -- ONE STEP WAS TAKEN, with acts that may depend on what was known: it leaves the pass standing so, and shows this; and nobody else did anything in between where the pass is of no room
+  pub record TookWith (old new : S) (acts : Known → List Act) (stood : Standing) (met : Known → Type 0) (shows : Known → Known → Type 0) : Type 0 where
+    pub stands_is : (facts new).stands ≡ stood
+    pub goes : Leads facts old new met (λ k k'. Goes k (acts k) k') shows
     pub alone : (facts old).stands.room ≡ None → (k : Known) (s : (facts old).knows k) (m : met k) → (goes k s m).2.between ≡ []
 
-  -- one step was taken, with acts that depend on what was known, none of them of the gate or a local word
-  pub record TookWith (old new : S) (acts : Known → List Act) (met : Known → Type 0) (shows : Known → Known → Type 0) : Type 0 where
-    pub stands_is : (facts new).stands ≡ (facts old).stands
-    pub goes : (k : Known) → (facts old).knows k → met k → (k' : Known) × (facts new).knows k' × Goes k (acts k) k' × shows k k'
-    pub alone : (facts old).stands.room ≡ None → (k : Known) (s : (facts old).knows k) (m : met k) → (goes k s m).2.between ≡ []
+  -- the same, with these acts whatever was known
+  abbrev pub Took : S → S → List Act → (Known → Type 0) → (Known → Known → Type 0) → Type 0
+  Took old new acts met shows = TookWith old new (λ k. acts) (standing_after (facts old).stands acts) met shows
 
-  -- several steps were taken, none of which has an act: for whatever was known and meets the condition, something is known that they made of it, and that shows this
-  pub record Saw (old new : S) (met : Known → Type 0) (shows : Known → Known → Type 0) : Type 0 where
-    pub stands_is : (facts new).stands ≡ (facts old).stands
-    pub sees : (k : Known) → (facts old).knows k → met k → (k' : Known) × (facts new).knows k' × Sees k k' × shows k k'
+  -- SEVERAL STEPS WERE TAKEN: they leave the pass standing so, made this of what was known, and show this
+  pub record Went (old new : S) (stood : Standing) (met : Known → Type 0) (made shows : Known → Known → Type 0) : Type 0 where
+    pub stands_is : (facts new).stands ≡ stood
+    pub leads : Leads facts old new met made shows
+
+  -- the same, where none of them has an act
+  abbrev pub Saw : S → S → (Known → Type 0) → (Known → Known → Type 0) → Type 0
+  Saw old new met shows = Went old new (facts old).stands met Sees shows
 
   -- the pass is not fresh any more, and nothing else changed
   pub record Spent (old new : S) : Type 0 where

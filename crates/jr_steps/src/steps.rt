@@ -120,7 +120,7 @@ pub trait Steps {
         requires number { (1 ≤ object) × (object ≤ (facts self.old).stands.config.objects) }
         requires header { IsHeader header }
         requires filled { MayKnow facts self.old (IsFilled header) }
-        ensures { TookWith facts self.old self.new (λ k. acts_of_publication object header.kind (words_for header k) result) (IsFilled header) (ShowsPublished object header result) };
+        ensures { TookWith facts self.old self.new (λ k. acts_of_publication object header.kind (words_for header k) result) (facts self.old).stands (IsFilled header) (ShowsPublished object header result) };
 
     /// Loads the top, which counts as what it is named: how many words are reserved.
     fn see_top(&mut self, name: TopLoad) -> u32
