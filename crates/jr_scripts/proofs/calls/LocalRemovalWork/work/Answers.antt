@@ -1,5 +1,5 @@
 use Rattle.jr_scripts.proofs.Removing.{local_null, local_malformed}
-use Rattle.jr_scripts.proofs.calls.delete_local_within.Goals as goal
+use Rattle.jr_scripts.proofs.calls.LocalRemovalWork.work.Goals as goal
 
 pub returns-in-Null-clause-call : goal.returns-in-Null-clause-call
 returns-in-Null-clause-call g c = let s = (g.S.Steps.facts c.args.steps.now).stands in rw c.in-Null.is (local_null g.met.S.Steps.fits c.args.steps.now c.args.frames.now.frames s.config s.thread)
