@@ -9,7 +9,7 @@ use Rattle.jr_steps.specs.declared.known.Holdings.{Holdings}
 use Rattle.jr_steps.specs.declared.known.Move.{Move}
 use Rattle.jr_steps.specs.Holdings.{with_move, with_header, header_in, move_of, HasDone}
 use Rattle.jr_steps.specs.Collecting.{IsThere, ShowsElement, CanMove, ShowsMoved, placed, CanPlace, ShowsPlaced}
-use Rattle.jr_steps.specs.Knowing.{Leads, Facts, Standing, IsOf, MayKnow, Sees, Saw, Took, state_of, keeps, KnowsHeader}
+use Rattle.jr_steps.specs.Knowing.{AreOf, Leads, Facts, Standing, IsOf, MayKnow, Sees, Saw, Took, state_of, keeps, KnowsHeader}
 use Rattle.jr_steps.proofs.CollectorFacts.{tables_seen, sees_more, there_left}
 use Rattle.jr_compact.specs.Sliding.{CanSlide}
 
@@ -25,7 +25,7 @@ pub record SlidTo {S : Type 0} (facts : S → Facts) (o : ℕ) (h : HeaderParts)
 more_done : (m : Option Move) (o place i : ℕ) → m ≡ Some (move_of o place i) → HasDone m o place i
 more_done m o place i e = subst (λ z. HasDone z o place i) (sym e) refl
 
-module _ {S : Type 0} {facts : S → Facts} (fits : (s : S) (k : Known) → (facts s).knows k → IsOf (facts s).stands k) (o : ℕ) (h : HeaderParts) (place : ℕ) where
+module _ {S : Type 0} {facts : S → Facts} (fits : AreOf facts) (o : ℕ) (h : HeaderParts) (place : ℕ) where
   module _ {a b : S} {i : ℕ} (p : SlidTo facts o h place a b i) where
     known_still : (k k' : Known) → CanSlide o h place k → IsSlidTo o place i k k' → KnowsHeader o h k'
     known_still k k' can s = ap (λ (g : Holdings). header_in o g.headers) s.others ∙ can.known

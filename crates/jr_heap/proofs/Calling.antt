@@ -11,7 +11,7 @@ use Rattle.jr_model.specs.Refusals.{Grounds}
 use Rattle.jr_model.proofs.Stays.{did_nothing}
 use Rattle.jr_model.proofs.Windows.{window_nothing}
 use Rattle.jr_steps.specs.declared.known.Known.{Known}
-use Rattle.jr_steps.specs.Knowing.{Facts, IsOf, MayKnow, Takes, view}
+use Rattle.jr_steps.specs.Knowing.{AreOf, Facts, IsOf, MayKnow, Takes, view}
 use Rattle.jr_heap.specs.Heap.{Called}
 
 -- what takes no step
@@ -35,7 +35,7 @@ module _ {S : Type 0} {facts : S → Facts} where
         (g.0, g.1, λ f. record { acts = g.2; did = g.3.did; is = g.3.is f; begun = k.seen; window = g.3.window; grounds = g.3.grounds }, g.3.shows);
   }
 
-  pub called_none : {A : Type 0} {old : S} {met : Known → Type 0} {call : Known → Known → Call A} {answer : Result A Fault} {shows : Known → Known → Type 0} (fits : (s : S) (k : Known) → (facts s).knows k → IsOf (facts s).stands k)
+  pub called_none : {A : Type 0} {old : S} {met : Known → Type 0} {call : Known → Known → Call A} {answer : Result A Fault} {shows : Known → Known → Type 0} (fits : AreOf facts)
       → ((k : Known) → (facts old).knows k → met k → (f : Frames) → call k k f [] answer f) → ((k : Known) → IfErr answer (Grounds k.seen (view k))) → ((k : Known) → shows k k) → Called facts old old met call answer shows
   called_none {old} fits is grounds shows = record {
     ran = λ k s m. (k, s, λ f. record { acts = []; did = did_nothing (view k) (fits old k s).legal; is = is k s m f; begun = k.seen; window = window_nothing (view k); grounds = grounds k }, shows k);

@@ -23,7 +23,7 @@ use Rattle.jr_model.proofs.Windows.{window_act, window_nothing}
 use Rattle.jr_model.specs.Parts.{read_element, write_element}
 use Rattle.jr_model.specs.Checks.{is_plain, is_text, is_value}
 use Rattle.jr_steps.specs.declared.known.Known.{Known}
-use Rattle.jr_steps.specs.Knowing.{Facts, IsOf, MayKnow, keeps, view, state_of, KnowsHeader, IsWordNow, ShowsObject, Goes, Took}
+use Rattle.jr_steps.specs.Knowing.{AreOf, Facts, IsOf, MayKnow, keeps, view, state_of, KnowsHeader, IsWordNow, ShowsObject, Goes, Took}
 use Rattle.jr_steps.proofs.StepFacts.{goes_did}
 use Rattle.jr_heap.specs.Heap.{Called, by_steps, HoldsHeader, LeavesObject, MayBeNamed, ReadsOfKind}
 use Rattle.jr_heap.proofs.Calling.{no_step, called_by}
@@ -78,7 +78,7 @@ read_word {k} {k'} o i v h g shown =
     let kinds : needs.1.kind ≡ h.kind = ap kind_in there ∙ shown.says.kind in
     subst (λ s. IsWord s h.kind v) same (subst (λ kind. IsWord (state before) kind v) kinds word)
 
-module _ {S : Type 0} {facts : S → Facts} (fits : (s : S) (k : Known) → (facts s).knows k → IsOf (facts s).stands k) (o : ℕ) (h : HeaderParts) (i : ℕ) where
+module _ {S : Type 0} {facts : S → Facts} (fits : AreOf facts) (o : ℕ) (h : HeaderParts) (i : ℕ) where
   -- a refusal, before any act
   refused : {A : Type 0} (a : S) (e : Fault) (met : Known → Type 0) (call : Known → Known → Call A) (shows : Known → Known → Type 0) → ((k : Known) → LeavesObject o h k k → shows k k) → ((k : Known) → met k → HoldsHeader o h k) → ((p : PassView) → Grounds p.seen p e)
       → ((k : Known) → (x : Contents) → (state_of k).objects o ≡ Some x → x.kind ≡ h.kind → length x.words ≡ h.length → (f : Frames) → call k k f [] (Err e) f) → Called facts a a met call (Err e) (by_steps 0 shows)
@@ -115,7 +115,7 @@ module _ {S : Type 0} {facts : S → Facts} (fits : (s : S) (k : Known) → (fac
 abbrev pub MayWrite : ℕ → HeaderParts → ℕ → Known → Type 0
 MayWrite o h v k = HoldsHeader o h k × MayBeNamed h.kind v k
 
-module _ {S : Type 0} {facts : S → Facts} (fits : (s : S) (k : Known) → (facts s).knows k → IsOf (facts s).stands k) (o : ℕ) (h : HeaderParts) (i v : ℕ) where
+module _ {S : Type 0} {facts : S → Facts} (fits : AreOf facts) (o : ℕ) (h : HeaderParts) (i v : ℕ) where
   pub write_no_array : (a : S) → (is_plain h.kind || is_text h.kind) ≡ true → Called facts a a (MayWrite o h v) (λ j k. write_element (state_of k) o i v) (Err NotArray) (by_steps 0 (LeavesObject o h))
   write_no_array a plain = refused fits o h i a NotArray (MayWrite o h v) (λ j k. write_element (state_of k) o i v) (LeavesObject o h) (λ k l. l) (λ k m. m.0) (λ p. tt)
       (λ k x there kind long f. (x, there, no_array o i v (length x.words) x.kind f (ap (λ z. is_plain z || is_text z) kind ∙ plain)))
@@ -142,6 +142,6 @@ module _ {S : Type 0} {facts : S → Facts} (fits : (s : S) (k : Known) → (fac
       (g.0, g.1, Write o i v ∷ [], record { did = d; is = is; window = window_act (Write o i v) d tt tt; grounds = tt; shows = ((x, g.3), g.2.taken) }))
 
 -- what may be known after a step at an element
-module _ {S : Type 0} {facts : S → Facts} (fits : (s : S) (k : Known) → (facts s).knows k → IsOf (facts s).stands k) (o : ℕ) (h : HeaderParts) {a b : S} {x : Act} {met : Known → Type 0} where
+module _ {S : Type 0} {facts : S → Facts} (fits : AreOf facts) (o : ℕ) (h : HeaderParts) {a b : S} {x : Act} {met : Known → Type 0} where
   pub still_holds : x ≢ Leave → (facts a).stands.role ≡ Within → Took facts a b (x ∷ []) met keeps → MayKnow facts a (λ k. HoldsHeader o h k × met k) → MayKnow facts b (HoldsHeader o h)
   still_holds ne w t may = ∥∥₁_map may (λ k. let g = t.goes k.0 k.1 k.2.1 in (g.0, g.1, header_later k.0 g.0 (x ∷ []) (goes_did g.2) ((fits a k.0 k.1).role ∙ w) (ne, tt) o h g.3 k.2.0))

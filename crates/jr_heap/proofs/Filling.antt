@@ -13,7 +13,7 @@ use Rattle.jr_model.proofs.Windows.{window_within}
 use Rattle.jr_steps.specs.declared.known.Known.{Known}
 use Rattle.jr_steps.specs.declared.known.Holdings.{Holdings}
 use Rattle.jr_steps.specs.Holdings.{words_at}
-use Rattle.jr_steps.specs.Knowing.{Leads, Facts, IsOf, MayKnow, view, HasWord, IsWordNow, ShowsWord, Took, Takes}
+use Rattle.jr_steps.specs.Knowing.{AreOf, Leads, Facts, IsOf, MayKnow, view, HasWord, IsWordNow, ShowsWord, Took, Takes}
 use Rattle.jr_steps.proofs.StepFacts.{goes_did}
 use Rattle.jr_heap.specs.Heap.{Called, by_steps, own_words, IsOwn, IsReady, Fills, no_act}
 use Rattle.jr_heap.proofs.Calling.{called_by}
@@ -93,7 +93,7 @@ filled_all place n v j k x = record {
   others = x.others;
 }
 
-module _ {S : Type 0} {facts : S → Facts} (fits : (s : S) (k : Known) → (facts s).knows k → IsOf (facts s).stands k) (place n v : ℕ) where
+module _ {S : Type 0} {facts : S → Facts} (fits : AreOf facts) (place n v : ℕ) where
   pub filled_nothing : (a : S) → FilledTo facts place n v a a 0
   filled_nothing a = record {
     stands_is = refl;

@@ -14,7 +14,7 @@ use Rattle.jr_model.proofs.Windows.{window_within}
 use Rattle.jr_steps.specs.declared.known.Known.{Known}
 use Rattle.jr_steps.specs.declared.known.Holdings.{Holdings}
 use Rattle.jr_steps.specs.Holdings.{header_in}
-use Rattle.jr_steps.specs.Knowing.{Facts, IsOf, MayKnow, anything, state_of, HasObject, ShowsHeader, Took}
+use Rattle.jr_steps.specs.Knowing.{AreOf, Facts, IsOf, MayKnow, anything, state_of, HasObject, ShowsHeader, Took}
 use Rattle.jr_steps.proofs.StepFacts.{goes_did, present_stays}
 use Rattle.jr_model.proofs.InRoom.{in_room}
 use Rattle.jr_heap.specs.Heap.{Called, by_steps, HoldsHeader, Learns}
@@ -31,7 +31,7 @@ some_is : (r : Option HeaderParts) → r ≢ None → IsSome r
 some_is None n = absurd (n refl)
 some_is (Some h) n = refl
 
-module _ {S : Type 0} {facts : S → Facts} (fits : (s : S) (k : Known) → (facts s).knows k → IsOf (facts s).stands k) (a : S) (o : ℕ) where
+module _ {S : Type 0} {facts : S → Facts} (fits : AreOf facts) (a : S) (o : ℕ) where
   pub is_number : MayKnow facts a (HasObject o) → (1 ≤ o) × (o ≤ (facts a).stands.config.objects)
   is_number may =
       let both : ((k : Known) × (facts a).knows k × HasObject o k) → (1 ≤ o) × (o ≤ (facts a).stands.config.objects) =

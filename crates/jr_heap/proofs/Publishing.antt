@@ -19,7 +19,7 @@ use Rattle.jr_steps.specs.declared.known.Known.{Known}
 use Rattle.jr_steps.specs.declared.known.Holdings.{Holdings}
 use Rattle.jr_steps.specs.Acts.{acts_of_publication}
 use Rattle.jr_steps.specs.Holdings.{header_in, with_header}
-use Rattle.jr_steps.specs.Knowing.{Facts, Standing, IsOf, MayKnow, Goes, view, state_of, words_for, without_range_of, HasObject, KnowsHeader, IsFilled, ShowsPublished, TookWith, Takes}
+use Rattle.jr_steps.specs.Knowing.{AreOf, Facts, Standing, IsOf, MayKnow, Goes, view, state_of, words_for, without_range_of, HasObject, KnowsHeader, IsFilled, ShowsPublished, TookWith, Takes}
 use Rattle.jr_steps.proofs.StepFacts.{goes_did}
 use Rattle.jr_heap.specs.Heap.{Called, by_at_most, HoldsHeader, number_at_turn}
 use Rattle.jr_heap.proofs.Calling.{called_by}
@@ -53,7 +53,7 @@ filled_later h k k' d w e x =
     let same : words_for h k' ≡ words_for h k = ap (λ (g : Holdings). words_for h (record k { holdings = g })) e in
     record { long = ap (λ ws. length ws) same ∙ x.long; words = subst (AreWords (state_of k') h.kind) (sym same) (λ i v there. word_later k k' [] d w tt h.kind v (x.words i v there)) }
 
-module _ {S : Type 0} {facts : S → Facts} (fits : (s : S) (k : Known) → (facts s).knows k → IsOf (facts s).stands k) (h : HeaderParts) (first objects : ℕ) where
+module _ {S : Type 0} {facts : S → Facts} (fits : AreOf facts) (h : HeaderParts) (first objects : ℕ) where
   pub passed_more : {a b c : S} (n o : ℕ) → (facts a).stands.role ≡ Within → o ≡ number_at_turn first n objects → Passed facts h first objects a b n
       → TookWith facts b c (λ k. acts_of_publication o h.kind (words_for h k) false) (facts b).stands (IsFilled h) (ShowsPublished o h false) → Passed facts h first objects a c (n + 1)
   passed_more {a} {b} n o w is p t = record {

@@ -23,7 +23,7 @@ use Rattle.jr_steps.specs.declared.known.Holdings.{Holdings}
 use Rattle.jr_steps.specs.declared.loads.TopLoad.TheVariants as top
 use Rattle.jr_steps.specs.Acts.{acts_of_top_load}
 use Rattle.jr_steps.specs.Holdings.{words_at, with_range}
-use Rattle.jr_steps.specs.Knowing.{Facts, Standing, IsOf, MayKnow, view, anything, keeps, ShowsUsed, WasUsed, ShowsRange, Took, Takes}
+use Rattle.jr_steps.specs.Knowing.{AreOf, Facts, Standing, IsOf, MayKnow, view, anything, keeps, ShowsUsed, WasUsed, ShowsRange, Took, Takes}
 use Rattle.jr_steps.proofs.StepFacts.{goes_did, used_now, may_then}
 use Rattle.jr_heap.specs.Heap.{Called, by_steps, reserve_steps, IsOwn, Gains}
 use Rattle.jr_heap.proofs.Calling.{no_step, called_by, called_none}
@@ -73,7 +73,7 @@ pub own_range : (place n : ℕ) (j k : Known) (ws : List ℕ) → length ws ≡ 
 own_range place zero j k ws long e = refl
 own_range place (suc n) j k ws long e = ap (λ b. length (cond b [] (words_at place k.holdings.ranges))) (suc_not_zero n) ∙ (ap (λ (h : Holdings). length (words_at place h.ranges)) e ∙ (ap (λ b. length (cond b ws (words_at place j.holdings.ranges))) (eq_self place) ∙ long))
 
-module _ {S : Type 0} {facts : S → Facts} {a b : S} (fits : (s : S) (k : Known) → (facts s).knows k → IsOf (facts s).stands k) (inside : (facts a).stands.role ≡ Within) (n u words : ℕ) (some : n ≢ 0) (looked : Took facts a b (acts_of_top_load words (top.Full n) u) anything (λ j k. ShowsUsed u k × keeps j k)) where
+module _ {S : Type 0} {facts : S → Facts} {a b : S} (fits : AreOf facts) (inside : (facts a).stands.role ≡ Within) (n u words : ℕ) (some : n ≢ 0) (looked : Took facts a b (acts_of_top_load words (top.Full n) u) anything (λ j k. ShowsUsed u k × keeps j k)) where
   pub reserve_full : words < u + n → Called facts a b anything (λ j k. reserve n) (Err (SpaceFull u)) (by_steps 1 keeps)
   reserve_full l = called_by (λ k s m.
       let g = looked.goes k s tt in
@@ -135,7 +135,7 @@ module _ {S : Type 0} {facts : S → Facts} {b c : S} where
   pub reserve_owned : (n u : ℕ) → MayKnow facts b (WasUsed u) → Took facts b c (Reserve n ∷ []) (WasUsed u) (ShowsRange u n (Ok tt)) → MayKnow facts c (IsOwn u n)
   reserve_owned n u may t = may_then t (λ k s m. m) may (λ j k s m g x. own_range u n j k x.0 x.1 x.2)
 
-module _ {S : Type 0} {facts : S → Facts} (fits : (s : S) (k : Known) → (facts s).knows k → IsOf (facts s).stands k) where
+module _ {S : Type 0} {facts : S → Facts} (fits : AreOf facts) where
   -- no words are reserved by no step
   pub reserve_none : (a : S) (n : ℕ) → n ≡ 0 → Called facts a a anything (λ j k. reserve n) (Ok tt) (by_steps (reserve_steps n) (Gains n 0))
   reserve_none a n e = subst (λ m. Called facts a a anything (λ j k. reserve m) (Ok tt) (by_steps (reserve_steps m) (Gains m 0))) (sym e) (called_none fits (λ k s m f. (refl, refl, refl)) (λ k. tt) (λ k. (refl, no_step k)))

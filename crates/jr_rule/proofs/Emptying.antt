@@ -23,7 +23,7 @@ use Rattle.jr_steps.specs.declared.known.Known.{Known}
 use Rattle.jr_steps.specs.Acts.{handle_of}
 use Rattle.jr_steps.specs.Collecting.{ShowsLocal, CanWipe, CanDrop, ShowsDropped, CanSettle}
 use Rattle.jr_steps.specs.Says.{local_parts}
-use Rattle.jr_steps.specs.Knowing.{Facts, Standing, IsOf, Goes, Took, Saw, MayKnow, anything, view, state_of, keeps, lets_go, IsSettled, CanReopen, ShowsHeader, ShowsSlot}
+use Rattle.jr_steps.specs.Knowing.{AreOf, Facts, Standing, IsOf, Goes, Took, Saw, MayKnow, anything, view, state_of, keeps, lets_go, IsSettled, CanReopen, ShowsHeader, ShowsSlot}
 use Rattle.jr_steps.proofs.CollectorFacts.{same_tables, tables_seen, sees_more, goes_act}
 use Rattle.jr_steps.proofs.StepFacts.{may_then, took_less}
 use Rattle.jr_model.proofs.InRoom.{in_room}
@@ -37,7 +37,7 @@ parts_free (Some o) e = absurd cc
 abbrev pub HasNoneTo : ℕ → ℕ → Known → Known → Type 0
 HasNoneTo t n j k = keeps j k × ((p : ℕ) → p < n → (state_of k).locals t p ≡ None)
 
-module _ {S : Type 0} {facts : S → Facts} (fits : (s : S) (k : Known) → (facts s).knows k → IsOf (facts s).stands k) (t : ℕ) where
+module _ {S : Type 0} {facts : S → Facts} (fits : AreOf facts) (t : ℕ) where
   pub one_looked : {a b c : S} {i : ℕ} → (facts a).stands.role ≡ Collecting → Saw facts a b anything (HasNoneTo t i) → Took facts b c [] anything (λ j k. ShowsLocal t i local.Free k × keeps j k) → Saw facts a c anything (HasNoneTo t (i + 1))
   one_looked {a} {b} {i = i} collects p q = record {
     stands_is = q.stands_is ∙ p.stands_is;
@@ -135,7 +135,7 @@ can_settle k e = record {
 pub can_reopen : (k : Known) → IsEmptied k → CanReopen k
 can_reopen k e = (λ o x is. absurd (let z = sym (e.1 o) ∙ is in cc), e.0)
 
-module _ {S : Type 0} {facts : S → Facts} (fits : (s : S) (k : Known) → (facts s).knows k → IsOf (facts s).stands k) where
+module _ {S : Type 0} {facts : S → Facts} (fits : AreOf facts) where
   abbrev pub NoLocalsBelow : ℕ → Known → Type 0
   NoLocalsBelow n k = IsSettled k × ((t p : ℕ) → t < n → (state_of k).locals t p ≡ None)
 

@@ -12,7 +12,7 @@ use Rattle.jr_model.specs.Frames.{Frames}
 use Rattle.jr_model.specs.Calls.{Call}
 use Rattle.jr_model.specs.Checks.{Word}
 use Rattle.jr_steps.specs.declared.known.Known.{Known}
-use Rattle.jr_steps.specs.Knowing.{Facts, IsOf}
+use Rattle.jr_steps.specs.Knowing.{AreOf, Facts, IsOf}
 use Rattle.jr_scripts.specs.Performing.{CallsWhole, moment, IsMade}
 use Rattle.jr_scripts.specs.Reading.{IsReadAs}
 use Rattle.jr_scripts.specs.Deeds.{Deed, DoesDeed, answered_by, call_by, call, call_on, call_on_both, packed, packed_if}
@@ -27,7 +27,7 @@ packed_if_is (Some v) (Some h) e = ap (λ x. Some x) (packed_is v h e)
 packed_if_is None (Some h) e = absurd e
 
 module _ {S : Type 0} {facts : S → Facts} {a b : S} {f g : Frames} {A : Type 0} where
-  module _ (fits : (s : S) (k : Known) → (facts s).knows k → IsOf (facts s).stands k) where
+  module _ (fits : AreOf facts) where
     pub does_call_by : {answer : Result A Fault} (silent : Config → ℕ) (work : Config → ℕ → ℕ → Call A) → CallsWhole facts a b f g (silent (facts a).stands.config) (work (facts a).stands.config (facts a).stands.last (facts a).stands.thread) answer → DoesDeed facts a b f g (call_by silent (λ c last t s. work c last t)) answer
     does_call_by {answer} silent work p = record {
       stands_is = p.stands_is;

@@ -14,7 +14,7 @@ use Rattle.jr_model.specs.References.{added, new_local, room_for, making}
 use Rattle.jr_model.proofs.Windows.{window_act}
 use Rattle.jr_model.proofs.Runs.{ran_done, ran_then, ran_give}
 use Rattle.jr_steps.specs.declared.known.Known.{Known}
-use Rattle.jr_steps.specs.Knowing.{Facts, Standing, IsOf, view, keeps, HasObject, HasOptional, Holds, MayKnow, Took}
+use Rattle.jr_steps.specs.Knowing.{AreOf, Facts, Standing, IsOf, view, keeps, HasObject, HasOptional, Holds, MayKnow, Took}
 use Rattle.jr_model.proofs.InRoom.{in_room}
 use Rattle.jr_steps.proofs.StepFacts.{goes_did}
 use Rattle.jr_scripts.specs.Table.{Table, IsNext, IsOnly}
@@ -43,7 +43,7 @@ found_optional (Some o) k p = p
 
 module _ {S : Type 0} {facts : S → Facts} where
   -- a present object's number is not 0
-  pub present_number : ((s : S) (k : Known) → (facts s).knows k → IsOf (facts s).stands k) → (a : S) (o : ℕ) → MayKnow facts a (HasObject o) → o ≢ 0
+  pub present_number : AreOf facts → (a : S) (o : ℕ) → MayKnow facts a (HasObject o) → o ≢ 0
   present_number fits a o there none =
       let each : ((k : Known) × (facts a).knows k × HasObject o k) → ⊥ = λ k. let low = ((in_room k.0.config k.0.last k.0.seen (fits a k.0 k.1).legal).objects o k.2).0 in omega arith in
       ∥∥₁_elim {P = ⊥} there (hlevel) each
@@ -56,14 +56,14 @@ module _ {S : Type 0} {facts : S → Facts} where
   }
 
   -- no place is free for a new object's reference
-  pub makes_nothing : {a : S} {t : Table} → ((s : S) (k : Known) → (facts s).knows k → IsOf (facts s).stands k) → StandsReady facts Within a t → free_places t.last t.frames ≡ 0 → MakesPlain facts a a t.frames t.frames (facts a).stands.config.objects (making (facts a).stands.config (facts a).stands.last (facts a).stands.thread) (Err LocalsFull)
+  pub makes_nothing : {a : S} {t : Table} → AreOf facts → StandsReady facts Within a t → free_places t.last t.frames ≡ 0 → MakesPlain facts a a t.frames t.frames (facts a).stands.config.objects (making (facts a).stands.config (facts a).stands.last (facts a).stands.thread) (Err LocalsFull)
   makes_nothing {a} {t} fits r none =
       let s = (facts a).stands in
       let none_here = subst (λ n. free_places n t.frames ≡ 0) r.last none in
       refused_making s.config.objects (stays fits a t.frames (λ p l. full_ran s.config s.last s.thread _ none_here l))
 
   -- no reference is made to no object
-  pub makes_none : ((s : S) (k : Known) → (facts s).knows k → IsOf (facts s).stands k) → (a : S) (f : Frames) (z : Option ℕ) → z ≡ None → MakesLocal facts a a f f z (new_local (facts a).stands.config (facts a).stands.last (facts a).stands.thread z) (Ok None)
+  pub makes_none : AreOf facts → (a : S) (f : Frames) (z : Option ℕ) → z ≡ None → MakesLocal facts a a f f z (new_local (facts a).stands.config (facts a).stands.last (facts a).stands.thread z) (Ok None)
   makes_none fits a f z is =
       let s = (facts a).stands in
       subst (λ y. MakesLocal facts a a f f y (new_local s.config s.last s.thread y) (Ok None)) (sym is) (record {
@@ -72,7 +72,7 @@ module _ {S : Type 0} {facts : S → Facts} where
       })
 
   -- no place is free
-  pub makes_no_local : {a : S} {t : Table} {z : Option ℕ} {o : ℕ} → ((s : S) (k : Known) → (facts s).knows k → IsOf (facts s).stands k) → z ≡ Some o → StandsReady facts Within a t → free_places t.last t.frames ≡ 0
+  pub makes_no_local : {a : S} {t : Table} {z : Option ℕ} {o : ℕ} → AreOf facts → z ≡ Some o → StandsReady facts Within a t → free_places t.last t.frames ≡ 0
       → MakesLocal facts a a t.frames t.frames z (new_local (facts a).stands.config (facts a).stands.last (facts a).stands.thread z) (Err LocalsFull)
   makes_no_local {a} {t} {z} {o} fits is r none =
       let s = (facts a).stands in

@@ -23,7 +23,7 @@ use Rattle.jr_model.proofs.Moments.{sometime_last, one_act}
 use Rattle.jr_model.proofs.Windows.{window_act, window_within}
 use Rattle.jr_model.proofs.Runs.{ran_then, ran_err}
 use Rattle.jr_steps.specs.declared.known.Known.{Known}
-use Rattle.jr_steps.specs.Knowing.{Facts, Standing, IsOf, view, anything, keeps, HasOptional, MayKnow, Took, fresh_from}
+use Rattle.jr_steps.specs.Knowing.{AreOf, Facts, Standing, IsOf, view, anything, keeps, HasOptional, MayKnow, Took, fresh_from}
 use Rattle.jr_steps.proofs.StepFacts.{goes_did}
 use Rattle.jr_scripts.specs.Table.{Table, IsNext, IsOnly}
 use Rattle.jr_scripts.specs.Performing.{Published, LearnsNew, MakesPlain, moment, object_made, publication}
@@ -93,7 +93,7 @@ module _ {S : Type 0} {facts : S → Facts} {a b : S} where
         ∥∥₁_elim {P = ⊥} some (hlevel) each
 
   module _ {t : Table} {h : Handle} (r : StandsReady facts Within a t) (next : IsNext t h) where
-    pub makes_full : {e : Fault} (fits : (s : S) (k : Known) → (facts s).knows k → IsOf (facts s).stands k) (answer : Result Handle Fault) → IsErrAnd answer (λ y. y ≡ e) → (e ≡ ObjectsFull) × Published facts a b Plain None
+    pub makes_full : {e : Fault} (fits : AreOf facts) (answer : Result Handle Fault) → IsErrAnd answer (λ y. y ≡ e) → (e ≡ ObjectsFull) × Published facts a b Plain None
         → MakesPlain facts a b t.frames t.frames (facts a).stands.config.objects (making (facts a).stands.config (facts a).stands.last (facts a).stands.thread) answer
     makes_full fits answer given why = let p = why.1 in let err = err_from_is_err_and answer given in subst (λ z. MakesPlain facts a b t.frames t.frames (facts a).stands.config.objects (making (facts a).stands.config (facts a).stands.last (facts a).stands.thread) z) (sym (err.1 ∙ ap (λ (y : Fault). Err y) (err.2 ∙ why.0))) (record {
       stands_is = as_before _ p.stands_is;

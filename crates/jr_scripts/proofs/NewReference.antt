@@ -15,7 +15,7 @@ use Rattle.jr_model.specs.Parts.{created}
 use Rattle.jr_model.proofs.Agreement.{spares_places}
 use Rattle.jr_model.proofs.Runs.{ran_done, ran_then, ran_err, ran_give, did_legal, ran_created, ran_row_full}
 use Rattle.jr_steps.specs.declared.known.Known.{Known}
-use Rattle.jr_steps.specs.Knowing.{Facts, Standing, IsOf, view, fresh_from, HasObject, Holds, MayKnow}
+use Rattle.jr_steps.specs.Knowing.{AreOf, Facts, Standing, IsOf, view, fresh_from, HasObject, Holds, MayKnow}
 use Rattle.jr_scripts.specs.Performing.{Searched, search_acts, Moment, moment, IsMade, Resolves, Calls}
 use Rattle.jr_scripts.proofs.SameRoom.{as_before, still_before}
 use Rattle.jr_scripts.proofs.FramesAgree.{holds_did}
@@ -64,7 +64,7 @@ module _ {S : Type 0} {facts : S → Facts} {a b : S} {f : Frames} {first : Call
   pub may_create : {z : Option ℕ} {o : ℕ} → z ≡ Some o → Resolves facts a b f first (Ok z) → MayKnow facts a (Holds f) → MayKnow facts b (HasObject o)
   may_create is r some = let p = resolves_at is r in ∥∥₁_map some (λ k. let x = p.ran k.0 k.1 k.2 in (x.0, x.1, x.3.2))
 
-  pub creates_full : {c : S} {z : Option ℕ} {o : ℕ} {e : Fault} (fits : (s : S) (k : Known) → (facts s).knows k → IsOf (facts s).stands k) → (facts a).stands.role ≡ Within → (kind : RefKind) (answer : Result (Option Handle) Fault) → IsErrAnd answer (λ y. y ≡ e)
+  pub creates_full : {c : S} {z : Option ℕ} {o : ℕ} {e : Fault} (fits : AreOf facts) → (facts a).stands.role ≡ Within → (kind : RefKind) (answer : Result (Option Handle) Fault) → IsErrAnd answer (λ y. y ≡ e)
       → z ≡ Some o → Resolves facts a b f first (Ok z) → (e ≡ RowFull) × Searched facts b c kind o 0 (facts b).stands.config.slots None → Calls facts a c f f (first >>= created kind) answer
   creates_full {c} {o = o} fits w kind answer given is r why = let p = resolves_at is r in let q = why.1 in handed_on answer (subst (λ y. IsErrAnd answer (λ z. z ≡ y)) why.0 given) (record {
     stands_is = still_before p.stands_is (as_before _ q.stands_is);

@@ -9,7 +9,7 @@ use Rattle.jr_model.proofs.Stays.{did_then, did_nothing}
 use Rattle.jr_steps.specs.declared.known.Known.{Known}
 use Rattle.jr_steps.specs.Acts.{acts_of_publication}
 use Rattle.jr_steps.specs.Holdings.{with_header}
-use Rattle.jr_steps.specs.Knowing.{Facts, Standing, IsOf, view, anything, HasObject, IsFilled, words_for, ShowsPublished, MayKnow, TookWith, Takes, keeps}
+use Rattle.jr_steps.specs.Knowing.{AreOf, Facts, Standing, IsOf, view, anything, HasObject, IsFilled, words_for, ShowsPublished, MayKnow, TookWith, Takes, keeps}
 use Rattle.jr_steps.proofs.StepFacts.{goes_did, present_stays}
 use Rattle.jr_scripts.specs.Performing.{Published, bare}
 
@@ -25,7 +25,7 @@ no_words kind k = record { long = refl; words = λ i v e. cc }
 last_or : (o n : ℕ) → o ≤ n + 1 → (o ≤ n) ⊎ (n + 1 ≡ o)
 last_or o n l = grind arith
 
-module _ {S : Type 0} {facts : S → Facts} (fits : (s : S) (k : Known) → (facts s).knows k → IsOf (facts s).stands k) where
+module _ {S : Type 0} {facts : S → Facts} (fits : AreOf facts) where
   -- what the exchange of a header without elements did
   abbrev Claimed : S → S → ℕ → Kind → Bool → Type 0
   Claimed b c o kind new = TookWith facts b c (λ k. acts_of_publication o kind (words_for (bare kind) k) new) (facts b).stands (IsFilled (bare kind)) (ShowsPublished o (bare kind) new)

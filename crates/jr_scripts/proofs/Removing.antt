@@ -19,7 +19,7 @@ use Rattle.jr_model.proofs.Agreement.{spares_places}
 use Rattle.jr_model.proofs.Windows.{window_act}
 use Rattle.jr_model.proofs.Runs.{ran_done, ran_then, ran_err}
 use Rattle.jr_steps.specs.declared.known.Known.{Known}
-use Rattle.jr_steps.specs.Knowing.{Facts, IsOf, view, anything, keeps, HasOptional, Took}
+use Rattle.jr_steps.specs.Knowing.{AreOf, Facts, IsOf, view, anything, keeps, HasOptional, Took}
 use Rattle.jr_steps.proofs.StepFacts.{goes_did}
 use Rattle.jr_model.specs.References.{removal, local_removal}
 use Rattle.jr_scripts.specs.Table.{IsOnly}
@@ -84,7 +84,7 @@ module _ {S : Type 0} {facts : S → Facts} where
   }
 
   -- the local reference of a handle that stands
-  pub removes_local : {a b : S} {f g : Frames} (fits : (s : S) (k : Known) → (facts s).knows k → IsOf (facts s).stands k) (c : Config) (t : ℕ) (h : Handle) (o : ℕ) → is_local h ≡ true → is_out_of_bounds c (Parts h) ≡ false → is_foreign t (Parts h) ≡ false → Some o ≡ object_of f h
+  pub removes_local : {a b : S} {f g : Frames} (fits : AreOf facts) (c : Config) (t : ℕ) (h : Handle) (o : ℕ) → is_local h ≡ true → is_out_of_bounds c (Parts h) ≡ false → is_foreign t (Parts h) ≡ false → Some o ≡ object_of f h
       → Took facts a b (LocalDrop h.index ∷ []) (HasOptional None) keeps → g ≡ without_local f h → IsOnly f h.index None g → Calls facts a b f g (local_removal c t (Parts h)) (Ok tt)
   removes_local {a} {f = f} {g = g} fits c t h o e e' e'' is u gone only = record {
     stands_is = as_before _ u.stands_is;
@@ -95,7 +95,7 @@ module _ {S : Type 0} {facts : S → Facts} where
         (y.0, y.1, made_of (spend_step u k s tt f g) (local_ran c t h e e' e'' (ran_then {next = λ _. drop_local h} (Some o) (looked_ran h (Some o) e is (fits a k s).legal) dropped)), (y.3, holds_put k y.0 f g h.index None d only m));
   }
 
-  module _ (fits : (s : S) (k : Known) → (facts s).knows k → IsOf (facts s).stands k) (a : S) (f : Frames) (c : Config) where
+  module _ (fits : AreOf facts) (a : S) (f : Frames) (c : Config) where
     pub removes_null : (k : RefKind) → Calls facts a a f f (removal c k Nothing) (Ok tt)
     removes_null k = stays fits a f (λ p l. ran_passed false fault.Stale _ refl (ran_passed false fault.WrongKind _ refl (ran_passed false fault.Stale _ refl (ran_done p f tt l))))
 

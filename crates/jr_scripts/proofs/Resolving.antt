@@ -17,7 +17,7 @@ use Rattle.jr_model.proofs.Stays.{did_nothing}
 use Rattle.jr_model.proofs.Windows.{window_nothing}
 use Rattle.jr_model.proofs.Runs.{ran_done}
 use Rattle.jr_steps.specs.declared.known.Known.{Known}
-use Rattle.jr_steps.specs.Knowing.{Facts, IsOf, view, anything, keeps, Holds, Goes, Took}
+use Rattle.jr_steps.specs.Knowing.{AreOf, Facts, IsOf, view, anything, keeps, Holds, Goes, Took}
 use Rattle.jr_steps.proofs.StepFacts.{goes_did, looked_present}
 use Rattle.jr_scripts.specs.Performing.{FoundPresent, Resolves, Calls}
 use Rattle.jr_scripts.specs.Reading.{word_of}
@@ -53,7 +53,7 @@ module _ {S : Type 0} {facts : S → Facts} where
         (g.0, g.1, made_of (spend_step t k s tt f f) (ran_remote_type f h r b d), (g.3, holds_did k g.0 f (Look h r ∷ []) d (refl, tt) m));
   }
 
-  module _ (fits : (s : S) (k : Known) → (facts s).knows k → IsOf (facts s).stands k) (a : S) (f : Frames) where
+  module _ (fits : AreOf facts) (a : S) (f : Frames) where
     -- a call that takes no step
     pub stays : {A : Type 0} {call : Call A} {answer : Result A Fault} → ((p : PassView) → IsLegal p.config p.last p.seen → Ran p p f f call answer) → Calls facts a a f f call answer
     stays each = record { stands_is = nothing_changed; ran = λ k s m. let l = (fits a k s).legal in (k, s, made_of (spend_none (facts a).stands.fresh k f f l) (each (view k) l), (refl, m)) }

@@ -13,7 +13,7 @@ use Rattle.jr_model.specs.Parts.{looked}
 use Rattle.jr_model.specs.References.{resolved_both}
 use Rattle.jr_model.proofs.Runs.{ran_then, ran_err, ran_give}
 use Rattle.jr_steps.specs.declared.known.Known.{Known}
-use Rattle.jr_steps.specs.Knowing.{Facts, IsOf}
+use Rattle.jr_steps.specs.Knowing.{AreOf, Facts, IsOf}
 use Rattle.jr_scripts.specs.Performing.{Resolves, Calls}
 use Rattle.jr_scripts.proofs.SameRoom.{still_before}
 use Rattle.jr_scripts.proofs.Reading.{neither, ran_either, ran_neither}
@@ -46,7 +46,7 @@ module _ (c : Config) (last t : ℕ) (v w : Word) where
       (ran_neither (is_foreign t v) (is_foreign t w) fault.Foreign _ passes.own r))
 
   module _ {S : Type 0} {facts : S → Facts} where
-    module _ (fits : (s : S) (k : Known) → (facts s).knows k → IsOf (facts s).stands k) (a : S) (f : Frames) where
+    module _ (fits : AreOf facts) (a : S) (f : Frames) where
       pub both_malformed : (is_malformed v || is_malformed w) ≡ true → Calls facts a a f f (resolved_both c last t v w) (Err fault.Stale)
       both_malformed e = stays fits a f (λ p l. ran_either p f (is_malformed v) (is_malformed w) fault.Stale _ e tt l)
 

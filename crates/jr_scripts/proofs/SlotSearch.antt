@@ -16,7 +16,7 @@ use Rattle.jr_model.proofs.Stays.{did_then, did_nothing}
 use Rattle.jr_model.proofs.Runs.{did_legal}
 use Rattle.jr_steps.specs.declared.known.Known.{Known}
 use Rattle.jr_steps.specs.Acts.{handle_of, is_occupied}
-use Rattle.jr_steps.specs.Knowing.{Facts, Standing, IsOf, view, anything, HasObject, IsFreeSlot, ShowsSlot, LostClaim, Took, Takes, keeps}
+use Rattle.jr_steps.specs.Knowing.{AreOf, Facts, Standing, IsOf, view, anything, HasObject, IsFreeSlot, ShowsSlot, LostClaim, Took, Takes, keeps}
 use Rattle.jr_steps.proofs.StepFacts.{goes_did, present_stays}
 use Rattle.jr_scripts.specs.Performing.{Searched, search_acts, EachOccupied}
 
@@ -40,7 +40,7 @@ only_one : (P : ℕ → Type 0) (i : ℕ) → P i → (j : ℕ) → i ≤ j → 
 only_one P i p j l m = subst P (let e : i ≡ j = omega arith in e) p
 
 module _ {S : Type 0} {facts : S → Facts} where
-  module _ (fits : (s : S) (k : Known) → (facts s).knows k → IsOf (facts s).stands k) where
+  module _ (fits : AreOf facts) where
     -- a step inside keeps what is present
     pub took_present : {a b : S} {x : Act} {met : Known → Type 0} {shows : Known → Known → Type 0} → Took facts a b (x ∷ []) met shows → (facts a).stands.role ≡ Within → x ≢ Leave
         → (o : ℕ) (k : Known) → (facts a).knows k → met k → HasObject o k → (k' : Known) × (facts b).knows k' × HasObject o k' × Did (view k) (view k') (x ∷ []) × shows k k' × Takes 1 k k'

@@ -10,7 +10,7 @@ use Rattle.jr_model.specs.Frames.{Frames, fresh_frames}
 use Rattle.jr_syntax.specs.declared.command.Command.{Command}
 use Rattle.jr_syntax.specs.declared.thread.ThreadPart.{ThreadPart}
 use Rattle.jr_steps.specs.declared.known.Known.{Known}
-use Rattle.jr_steps.specs.Knowing.{Facts, IsOf, view, Holds}
+use Rattle.jr_steps.specs.Knowing.{AreOf, Facts, IsOf, view, Holds}
 use Rattle.jr_rule.specs.declared.plain.PlainSteps.{PlainSteps}
 use Rattle.jr_rule.specs.Plain.{unseen, standing_alone, facts_over, Shows}
 use Rattle.jr_scripts.specs.Performing.{moment}
@@ -27,7 +27,7 @@ same_view c last k config_is last_is thread_is =
     ∙ (ap (λ x. record { config = c; last = x; thread = k.thread; seen = k.seen }) last_is
     ∙ ap (λ x. record { config = c; last = last; thread = x; seen = k.seen }) thread_is)
 
-module _ {S : Type 0} {facts : S → Facts} (fits : (s : S) (k : Known) → (facts s).knows k → IsOf (facts s).stands k) where
+module _ {S : Type 0} {facts : S → Facts} (fits : AreOf facts) where
   -- no local reference stands at the opening
   pub opening_holds : (c : Config) (last : ℕ) → Holds (fresh_frames c.locals) (unseen c last)
   opening_holds c last p = refl

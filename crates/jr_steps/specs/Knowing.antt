@@ -227,6 +227,10 @@ HasNoLocals k = (p : ℕ) → (state_of k).locals k.thread p ≡ None
 abbrev pub Holds : Frames → Known → Type 0
 Holds f k = Agree k.thread f (state_of k)
 
+-- whatever may be known is of its pass: a law of the steps
+abbrev pub AreOf : {S : Type 0} → (S → Facts) → Type 0
+AreOf {S = S} facts = (s : S) (k : Known) → (facts s).knows k → IsOf (facts s).stands k
+
 -- FOR WHATEVER WAS KNOWN of the old and meets the condition, something is known of the new that was made of it so, and that shows this
 abbrev pub Leads : {S : Type 0} → (S → Facts) → S → S → (Known → Type 0) → (Known → Known → Type 0) → (Known → Known → Type 0) → Type 0
 Leads facts old new met made shows = (k : Known) → (facts old).knows k → met k → (k' : Known) × (facts new).knows k' × made k k' × shows k k'
