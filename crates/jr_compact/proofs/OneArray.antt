@@ -14,7 +14,7 @@ use Rattle.jr_steps.specs.declared.known.Holdings.{Holdings}
 use Rattle.jr_steps.specs.declared.known.Known.{Known}
 use Rattle.jr_steps.specs.Collecting.{IsThere, ShowsElement, placed, ShowsPlaced, CanSettle}
 use Rattle.jr_steps.specs.Holdings.{header_in}
-use Rattle.jr_steps.specs.Knowing.{Standing, IsOf, Took, Saw, MayKnow, anything, state_of, keeps, lets_go, KnowsHeader, IsSettled, IsClosedNow, CanReopen, ShowsHeader}
+use Rattle.jr_steps.specs.Knowing.{AreOf, Facts, Standing, IsOf, Took, Saw, MayKnow, anything, state_of, keeps, lets_go, KnowsHeader, IsSettled, IsClosedNow, CanReopen, ShowsHeader}
 use Rattle.jr_steps.proofs.CollectorFacts.{same_tables, tables_seen, goes_act, there_settled}
 use Rattle.jr_steps.proofs.StepFacts.{may_then, shut_closed}
 use Rattle.jr_model.proofs.InRoom.{in_room}
@@ -44,12 +44,12 @@ pub knows_now : (o : ℕ) (h : HeaderParts) (hs : Option HeaderParts) → cond (
 knows_now o h hs = ap (λ b. cond b (Some h) hs) (eq_self o)
 
 -- a gate that was just shut may be opened again
-pub shut_reopens : {S : Type 0} {stands : S → Standing} {knows : S → Known → Type 0} {a b : S} → Took stands knows a b (Shut ∷ []) anything lets_go → MayKnow knows a anything → MayKnow knows b CanReopen
+pub shut_reopens : {S : Type 0} {facts : S → Facts} {a b : S} → Took facts a b (Shut ∷ []) anything lets_go → MayKnow facts a anything → MayKnow facts b CanReopen
 shut_reopens took may = may_then took (λ k s m. tt) may (λ k k' s m g x. (shut_closed g, ap (λ (y : Holdings). y.moving) x))
 
-module _ {S : Type 0} {stands : S → Standing} {knows : S → Known → Type 0} (fits : (s : S) (k : Known) → knows s k → IsOf (stands s) k) where
+module _ {S : Type 0} {facts : S → Facts} (fits : AreOf facts) where
   -- the header was looked at
-  pub one_seen : {a b : S} (h : HeaderParts) → (stands a).role ≡ Collecting → (stands a).config.objects ≡ 1 → Took stands knows a b [] anything (ShowsHeader 1 (Some h)) → MayKnow knows a CanReopen → MayKnow knows b (IsOne h)
+  pub one_seen : {a b : S} (h : HeaderParts) → (facts a).stands.role ≡ Collecting → (facts a).stands.config.objects ≡ 1 → Took facts a b [] anything (ShowsHeader 1 (Some h)) → MayKnow facts a CanReopen → MayKnow facts b (IsOne h)
   one_seen {a} {b} h collects one took may = ∥∥₁_map may (λ k.
       let x = took.goes k.0 k.1 tt in
       let same = same_tables x.2 ((fits a k.0 k.1).role ∙ collects) in
@@ -90,8 +90,8 @@ module _ {S : Type 0} {stands : S → Standing} {knows : S → Known → Type 0}
     free = λ i l r x ne is. absurd (let z = sym (o.only r ne) ∙ is in cc);
   }
 
-  pub one_slidable : {a : S} (h : HeaderParts) → MayKnow knows a (IsOne h) → MayKnow knows a (CanSlide 1 h 0)
-  one_slidable h may = ∥∥₁_map may (λ k. (k.0, k.1, one_slides h k.0 k.2))
+  pub one_slidable : (a : S) (h : HeaderParts) → MayKnow facts a (IsOne h) → MayKnow facts a (CanSlide 1 h 0)
+  one_slidable a h may = ∥∥₁_map may (λ k. (k.0, k.1, one_slides h k.0 k.2))
 
   one_still : (h h' : HeaderParts) (k k' : Known) → (state_of k').objects ≡ (state_of k).objects → (state_of k').used ≡ (state_of k).used → k'.config ≡ k.config → h'.length ≡ h.length → IsSettled k' → KnowsHeader 1 h' k' → IsOne h k → IsOne h' k'
   one_still h h' k k' objects used same_config same_length settled known o = record {
@@ -105,18 +105,18 @@ module _ {S : Type 0} {stands : S → Standing} {knows : S → Known → Type 0}
   }
 
   -- the array was moved to the first word
-  pub one_moved : {a b : S} (h : HeaderParts) → (stands a).role ≡ Collecting → Saw stands knows a b (CanSlide 1 h 0) (ShowsPlaced 1 h 0) → MayKnow knows a (IsOne h) → MayKnow knows b (IsOne (placed h 0))
+  pub one_moved : {a b : S} (h : HeaderParts) → (facts a).stands.role ≡ Collecting → Saw facts a b (CanSlide 1 h 0) (ShowsPlaced 1 h 0) → MayKnow facts a (IsOne h) → MayKnow facts b (IsOne (placed h 0))
   one_moved {a} h collects saw may = ∥∥₁_map may (λ k.
-      let y = saw.sees k.0 k.1 (one_slides h k.0 k.2) in
+      let y = saw.leads k.0 k.1 (one_slides h k.0 k.2) in
       let same = tables_seen y.2 ((fits a k.0 k.1).role ∙ collects) in
       let x = y.3 in
       (y.0, y.1, one_still h (placed h 0) k.0 y.0 same.objects same.used (y.2).config refl (ap (λ (g : Holdings). g.moving) x) (ap (λ (g : Holdings). header_in 1 g.headers) x ∙ knows_now 1 (placed h 0) (header_in 1 (k.0).holdings.headers)) k.2))
 
-  pub one_there : {a : S} (h : HeaderParts) (i : ℕ) → i < h.length → MayKnow knows a (IsOne h) → MayKnow knows a (IsThere 1 h i)
-  one_there h i l may = ∥∥₁_map may (λ k. (k.0, k.1, there_settled 1 i h k.0 (k.2).known l (k.2).settled))
+  pub one_there : (a : S) (h : HeaderParts) (i : ℕ) → i < h.length → MayKnow facts a (IsOne h) → MayKnow facts a (IsThere 1 h i)
+  one_there a h i l may = ∥∥₁_map may (λ k. (k.0, k.1, there_settled 1 i h k.0 (k.2).known l (k.2).settled))
 
   -- an element was looked at
-  pub one_kept : {a b : S} (h : HeaderParts) (i v : ℕ) → i < h.length → (stands a).role ≡ Collecting → Took stands knows a b [] (IsThere 1 h i) (λ j k. ShowsElement 1 i v k × keeps j k) → MayKnow knows a (IsOne h) → MayKnow knows b (IsOne h)
+  pub one_kept : {a b : S} (h : HeaderParts) (i v : ℕ) → i < h.length → (facts a).stands.role ≡ Collecting → Took facts a b [] (IsThere 1 h i) (λ j k. ShowsElement 1 i v k × keeps j k) → MayKnow facts a (IsOne h) → MayKnow facts b (IsOne h)
   one_kept {a} h i v l collects took may = may_then took (λ k s o. there_settled 1 i h k o.known l o.settled) may (λ k k' s o g x.
       let same = same_tables g ((fits a k s).role ∙ collects) in
       one_still h h k k' same.objects same.used g.config refl (ap (λ (y : Holdings). y.moving) x.1 ∙ o.settled) (ap (λ (y : Holdings). header_in 1 y.headers) x.1 ∙ o.known) o)
@@ -130,11 +130,11 @@ module _ {S : Type 0} {stands : S → Standing} {knows : S → Known → Type 0}
         (λ ne. absurd (let z = sym (o.only r ne) ∙ there in cc));
   }
 
-  pub one_settled : {a : S} (h : HeaderParts) (n : ℕ) → h.length ≡ n → h.place ≡ 0 → MayKnow knows a (IsOne h) → MayKnow knows a (CanSettle n)
-  one_settled h n is low may = ∥∥₁_map may (λ k. (k.0, k.1, one_settles h n k.0 is low k.2))
+  pub one_settled : (a : S) (h : HeaderParts) (n : ℕ) → h.length ≡ n → h.place ≡ 0 → MayKnow facts a (IsOne h) → MayKnow facts a (CanSettle n)
+  one_settled a h n is low may = ∥∥₁_map may (λ k. (k.0, k.1, one_settles h n k.0 is low k.2))
 
   -- the top was set
-  pub one_reopens : {a b : S} (h : HeaderParts) (n : ℕ) → h.length ≡ n → h.place ≡ 0 → (stands a).role ≡ Collecting → Took stands knows a b (Settle n ∷ []) (CanSettle n) keeps → MayKnow knows a (IsOne h) → MayKnow knows b CanReopen
+  pub one_reopens : {a b : S} (h : HeaderParts) (n : ℕ) → h.length ≡ n → h.place ≡ 0 → (facts a).stands.role ≡ Collecting → Took facts a b (Settle n ∷ []) (CanSettle n) keeps → MayKnow facts a (IsOne h) → MayKnow facts b CanReopen
   one_reopens {a} h n is low collects took may = may_then took (λ k s o. one_settles h n k is low o) may (λ k k' s o g x.
       let y = goes_act g ((fits a k s).role ∙ collects) in
       let objects : (state_of k').objects ≡ (state_of k).objects = ap (λ (z : State). z.objects) y.2 ∙ (y.1).objects in

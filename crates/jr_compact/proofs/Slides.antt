@@ -9,7 +9,7 @@ use Rattle.jr_steps.specs.declared.known.Holdings.{Holdings}
 use Rattle.jr_steps.specs.declared.known.Move.{Move}
 use Rattle.jr_steps.specs.Holdings.{with_move, with_header, header_in, move_of, HasDone}
 use Rattle.jr_steps.specs.Collecting.{IsThere, ShowsElement, CanMove, ShowsMoved, placed, CanPlace, ShowsPlaced}
-use Rattle.jr_steps.specs.Knowing.{Standing, IsOf, MayKnow, Sees, Saw, Took, state_of, keeps, KnowsHeader}
+use Rattle.jr_steps.specs.Knowing.{AreOf, Leads, Facts, Standing, IsOf, MayKnow, Sees, Saw, Took, state_of, keeps, KnowsHeader}
 use Rattle.jr_steps.proofs.CollectorFacts.{tables_seen, sees_more, there_left}
 use Rattle.jr_compact.specs.Sliding.{CanSlide}
 
@@ -18,24 +18,24 @@ pub record IsSlidTo (o place i : ℕ) (k k' : Known) : Type 0 where
   pub done : HasDone k'.holdings.moving o place i
   pub others : with_move k'.holdings None ≡ with_move k.holdings None
 
-pub record SlidTo {S : Type 0} (stands : S → Standing) (knows : S → Known → Type 0) (o : ℕ) (h : HeaderParts) (place : ℕ) (old new : S) (i : ℕ) : Type 0 where
-  pub stands_is : stands new ≡ stands old
-  pub did : (k : Known) → knows old k → CanSlide o h place k → (k' : Known) × knows new k' × Sees k k' × IsSlidTo o place i k k'
+pub record SlidTo {S : Type 0} (facts : S → Facts) (o : ℕ) (h : HeaderParts) (place : ℕ) (old new : S) (i : ℕ) : Type 0 where
+  pub stands_is : (facts new).stands ≡ (facts old).stands
+  pub did : Leads facts old new (CanSlide o h place) Sees (IsSlidTo o place i)
 
 more_done : (m : Option Move) (o place i : ℕ) → m ≡ Some (move_of o place i) → HasDone m o place i
 more_done m o place i e = subst (λ z. HasDone z o place i) (sym e) refl
 
-module _ {S : Type 0} {stands : S → Standing} {knows : S → Known → Type 0} (fits : (s : S) (k : Known) → knows s k → IsOf (stands s) k) (o : ℕ) (h : HeaderParts) (place : ℕ) where
-  module _ {a b : S} {i : ℕ} (p : SlidTo stands knows o h place a b i) where
+module _ {S : Type 0} {facts : S → Facts} (fits : AreOf facts) (o : ℕ) (h : HeaderParts) (place : ℕ) where
+  module _ {a b : S} {i : ℕ} (p : SlidTo facts o h place a b i) where
     known_still : (k k' : Known) → CanSlide o h place k → IsSlidTo o place i k k' → KnowsHeader o h k'
     known_still k k' can s = ap (λ (g : Holdings). header_in o g.headers) s.others ∙ can.known
 
     -- an element that is still to be moved stands where its header says
-    pub later_there : (j : ℕ) → i ≤ j → j < h.length → MayKnow knows a (CanSlide o h place) → MayKnow knows b (IsThere o h j)
+    pub later_there : (j : ℕ) → i ≤ j → j < h.length → MayKnow facts a (CanSlide o h place) → MayKnow facts b (IsThere o h j)
     later_there j m l may = ∥∥₁_map may (λ k. let x = p.did k.0 k.1 k.2 in (x.0, x.1, there_left o j place i h x.0 (known_still k.0 x.0 k.2 x.3) l (x.3).done m))
 
     -- and a look at it changes nothing
-    pub slid_looked : {c : S} {v : ℕ} (j : ℕ) → i ≤ j → j < h.length → Took stands knows b c [] (IsThere o h j) (λ j' k. ShowsElement o j v k × keeps j' k) → SlidTo stands knows o h place a c i
+    pub slid_looked : {c : S} {v : ℕ} (j : ℕ) → i ≤ j → j < h.length → Took facts b c [] (IsThere o h j) (λ j' k. ShowsElement o j v k × keeps j' k) → SlidTo facts o h place a c i
     slid_looked j m l looked = record {
       stands_is = looked.stands_is ∙ p.stands_is;
       did = λ k s can.
@@ -52,12 +52,12 @@ module _ {S : Type 0} {stands : S → Standing} {knows : S → Known → Type 0}
     }
 
     -- the next element stands where its header says
-    pub next_there : i < h.length → MayKnow knows a (CanSlide o h place) → MayKnow knows b (IsThere o h i)
+    pub next_there : i < h.length → MayKnow facts a (CanSlide o h place) → MayKnow facts b (IsThere o h i)
     next_there l may = ∥∥₁_map may (λ k. let x = p.did k.0 k.1 k.2 in (x.0, x.1, there_left o i place i h x.0 (known_still k.0 x.0 k.2 x.3) l (x.3).done (omega arith)))
 
     -- and was looked at
-    module _ {c : S} {v : ℕ} (collects : (stands a).role ≡ Collecting) (l : i < h.length) (looked : Took stands knows b c [] (IsThere o h i) (λ j k. ShowsElement o i v k × keeps j k)) where
-      seen_next : (k : Known) → knows a k → CanSlide o h place k → (k' : Known) × knows c k' × Sees k k' × IsSlidTo o place i k k' × ShowsElement o i v k'
+    module _ {c : S} {v : ℕ} (collects : (facts a).stands.role ≡ Collecting) (l : i < h.length) (looked : Took facts b c [] (IsThere o h i) (λ j k. ShowsElement o i v k × keeps j k)) where
+      seen_next : (k : Known) → (facts a).knows k → CanSlide o h place k → (k' : Known) × (facts c).knows k' × Sees k k' × IsSlidTo o place i k k' × ShowsElement o i v k'
       seen_next k s can =
           let x = p.did k s can in
           let y = looked.goes x.0 x.1 (there_left o i place i h x.0 (known_still k x.0 can x.3) l (x.3).done (omega arith)) in (
@@ -71,7 +71,7 @@ module _ {S : Type 0} {stands : S → Standing} {knows : S → Known → Type 0}
             y.3.0,
           )
 
-      can_move : (k k' : Known) → knows a k → CanSlide o h place k → Sees k k' → IsSlidTo o place i k k' → ShowsElement o i v k' → CanMove o h place i v k'
+      can_move : (k k' : Known) → (facts a).knows k → CanSlide o h place k → Sees k k' → IsSlidTo o place i k k' → ShowsElement o i v k' → CanMove o h place i v k'
       can_move k k' s can g slid element =
           let same : HaveSameTables (state_of k) (state_of k') = tables_seen g ((fits a k s).role ∙ collects) in
           let room = can.room i l in
@@ -88,11 +88,11 @@ module _ {S : Type 0} {stands : S → Standing} {knows : S → Known → Type 0}
           }
 
       -- it may be moved
-      pub next_movable : MayKnow knows a (CanSlide o h place) → MayKnow knows c (CanMove o h place i v)
+      pub next_movable : MayKnow facts a (CanSlide o h place) → MayKnow facts c (CanMove o h place i v)
       next_movable may = ∥∥₁_map may (λ k. let x = seen_next k.0 k.1 k.2 in (x.0, x.1, can_move k.0 x.0 k.1 k.2 x.2 x.3 x.4))
 
       -- one more element is moved
-      pub slid_more : {d : S} → Took stands knows c d [] (CanMove o h place i v) (ShowsMoved o place i) → SlidTo stands knows o h place a d (i + 1)
+      pub slid_more : {d : S} → Took facts c d [] (CanMove o h place i v) (ShowsMoved o place i) → SlidTo facts o h place a d (i + 1)
       slid_more t = record {
         stands_is = t.stands_is ∙ (looked.stands_is ∙ p.stands_is);
         did = λ k s can.
@@ -113,14 +113,14 @@ module _ {S : Type 0} {stands : S → Standing} {knows : S → Known → Type 0}
       can_place k k' can slid = record { known = known_still k k' can slid; done = subst (HasDone k'.holdings.moving o place) all slid.done }
 
       -- the header may be set once all elements are moved
-      pub placeable : MayKnow knows a (CanSlide o h place) → MayKnow knows b (CanPlace o h place)
+      pub placeable : MayKnow facts a (CanSlide o h place) → MayKnow facts b (CanPlace o h place)
       placeable may = ∥∥₁_map may (λ k. let x = p.did k.0 k.1 k.2 in (x.0, x.1, can_place k.0 x.0 k.2 x.3))
 
       -- and then the object is moved
-      pub slid_all : {c : S} → Took stands knows b c [] (CanPlace o h place) (ShowsPlaced o h place) → Saw stands knows a c (CanSlide o h place) (ShowsPlaced o h place)
+      pub slid_all : {c : S} → Took facts b c [] (CanPlace o h place) (ShowsPlaced o h place) → Saw facts a c (CanSlide o h place) (ShowsPlaced o h place)
       slid_all t = record {
         stands_is = t.stands_is ∙ p.stands_is;
-        sees = λ k s can.
+        leads = λ k s can.
             let x = p.did k s can in
             let y = t.goes x.0 x.1 (can_place k x.0 can x.3) in
             (y.0, y.1, sees_more x.2 y.2, y.3 ∙ ap (λ g. with_header g o (placed h place)) (x.3).others);

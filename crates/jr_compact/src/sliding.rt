@@ -11,11 +11,11 @@ use jr_word::HeaderParts;
 
 /// Moves an object down to a place, element by element from the first on, since the two places may overlap, and then its header. No step of it is one of the machine.
 pub fn slide<S: Steps>(steps: &mut S, object: u16, header: HeaderParts, place: u32)
-    requires role { (S.stands steps.old).role ≡ Collecting }
-    requires number { (1 ≤ object) × (object ≤ (S.stands steps.old).config.objects) }
+    requires role { (S.facts steps.old).stands.role ≡ Collecting }
+    requires number { (1 ≤ object) × (object ≤ (S.facts steps.old).stands.config.objects) }
     requires header { IsHeader (placed header place) }
-    requires can { MayKnow S.knows steps.old (CanSlide object header place) }
-    ensures { Saw S.stands S.knows steps.old steps.new (CanSlide object header place) (ShowsPlaced object header place) }
+    requires can { MayKnow S.facts steps.old (CanSlide object header place) }
+    ensures { Saw S.facts steps.old steps.new (CanSlide object header place) (ShowsPlaced object header place) }
 {
     for index in 0..header.length {
         let word = steps.scan_element(object, header, index);

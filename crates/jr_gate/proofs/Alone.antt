@@ -11,7 +11,7 @@ use Rattle.jr_model.specs.History.{History, by, state, IsLegal}
 use Rattle.jr_model.proofs.Histories.{legal_push}
 use Rattle.jr_model.proofs.Counts.{outside_beyond, nobody_knocks, nobody_is_busy}
 use Rattle.jr_steps.specs.declared.known.Known.{Known}
-use Rattle.jr_steps.specs.Knowing.{Standing, anything, Goes, IsOf, MayKnow, Took}
+use Rattle.jr_steps.specs.Knowing.{Facts, anything, Goes, IsOf, MayKnow, Took}
 
 -- what a step needed of the state before it
 needed : {k k' : Known} (a : Act) (g : Goes k (a ∷ []) k') → let before = k.seen ++ g.between in IsLegal k.config k.last before × Needs k.config k.last (state before) (by k.thread a)
@@ -38,14 +38,14 @@ busy_beside {k} {k'} n one g =
     let m = needed (ShutBusy n) g in
     nobody_is_busy k.config k.last n (state before) k.thread (all_outside k.config k.last before k.thread one m.0 m.1.0 m.1.1.0) m.1.1
 
-module _ {S : Type 0} {stands : S → Standing} {knows : S → Known → Type 0} {old new : S} {shows : Known → Known → Type 0} (fits : (k : Known) → knows old k → IsOf (stands old) k) (some : MayKnow knows old anything) (one : (stands old).config.threads ≡ 1) where
-  never : (a : Act) → ((k k' : Known) → k.config.threads ≡ 1 → Goes k (a ∷ []) k' → ⊥) → Took stands knows old new (a ∷ []) anything shows → ⊥
+module _ {S : Type 0} {facts : S → Facts} {old new : S} {shows : Known → Known → Type 0} (fits : (k : Known) → (facts old).knows k → IsOf (facts old).stands k) (some : MayKnow facts old anything) (one : (facts old).stands.config.threads ≡ 1) where
+  never : (a : Act) → ((k k' : Known) → k.config.threads ≡ 1 → Goes k (a ∷ []) k' → ⊥) → Took facts old new (a ∷ []) anything shows → ⊥
   never a refused t =
-      let each : ((k : Known) × knows old k × anything k) → ⊥ = λ k. let g = t.goes k.0 k.1 tt in refused k.0 g.0 (ap (λ (c : Config). c.threads) (fits k.0 k.1).config ∙ one) g.2 in
+      let each : ((k : Known) × (facts old).knows k × anything k) → ⊥ = λ k. let g = t.goes k.0 k.1 tt in refused k.0 g.0 (ap (λ (c : Config). c.threads) (fits k.0 k.1).config ∙ one) g.2 in
       ∥∥₁_elim some (λ x y. absurd x) each
 
-  pub never_knocks : Took stands knows old new (Knock ∷ []) anything shows → ⊥
+  pub never_knocks : Took facts old new (Knock ∷ []) anything shows → ⊥
   never_knocks t = never Knock (λ k k' e g. knocks_beside e g) t
 
-  pub never_busy : (n : ℕ) → Took stands knows old new (ShutBusy n ∷ []) anything shows → ⊥
+  pub never_busy : (n : ℕ) → Took facts old new (ShutBusy n ∷ []) anything shows → ⊥
   never_busy n t = never (ShutBusy n) (λ k k' e g. busy_beside n e g) t

@@ -8,7 +8,7 @@ use Rattle.jr_model.proofs.Histories.{legal_push}
 use Rattle.jr_steps.specs.declared.known.Holdings.{Holdings}
 use Rattle.jr_steps.specs.declared.known.Known.{Known}
 use Rattle.jr_steps.proofs.StepFacts.{shut_closed}
-use Rattle.jr_steps.specs.Knowing.{Standing, anything, keeps, lets_go, Goes, IsClosedNow, CanReopen, MayKnow, Took}
+use Rattle.jr_steps.specs.Knowing.{Facts, anything, keeps, lets_go, Goes, IsClosedNow, CanReopen, MayKnow, Took}
 
 -- who is refused a shut was told of one thread at least
 counted : {k k' : Known} (n : ℕ) → Goes k (ShutBusy n ∷ []) k' → 1 ≤ n
@@ -16,15 +16,15 @@ counted {k} {k'} n g =
     let legal = (legal_push k.config k.last (k.seen ++ g.between) (by k.thread (ShutBusy n))).0 (subst (IsLegal k.config k.last) g.seen g.legal) in
     legal.1.1.2
 
-module _ {S : Type 0} {stands : S → Standing} {knows : S → Known → Type 0} {old new : S} (some : MayKnow knows old anything) where
-  pub busy_counts : (n : ℕ) → Took stands knows old new (ShutBusy n ∷ []) anything keeps → 1 ≤ n
+module _ {S : Type 0} {facts : S → Facts} {old new : S} (some : MayKnow facts old anything) where
+  pub busy_counts : (n : ℕ) → Took facts old new (ShutBusy n ∷ []) anything keeps → 1 ≤ n
   busy_counts n t =
-      let each : ((k : Known) × knows old k × anything k) → 1 ≤ n = λ k. counted n (t.goes k.0 k.1 tt).2 in
+      let each : ((k : Known) × (facts old).knows k × anything k) → 1 ≤ n = λ k. counted n (t.goes k.0 k.1 tt).2 in
       ∥∥₁_elim some le_prop each
 
-  pub shut_closes : Took stands knows old new (Shut ∷ []) anything lets_go → MayKnow knows new CanReopen
+  pub shut_closes : Took facts old new (Shut ∷ []) anything lets_go → MayKnow facts new CanReopen
   shut_closes t = ∥∥₁_map some (λ k. let g = t.goes k.0 k.1 tt in (g.0, g.1, (shut_closed g.2, ap (λ (z : Holdings). z.moving) g.3)))
 
-module _ {S : Type 0} {stands : S → Standing} {knows : S → Known → Type 0} {old new : S} where
-  pub shut_shows : Took stands knows old new (Shut ∷ []) anything lets_go → Took stands knows old new (Shut ∷ []) anything (λ j k. IsClosedNow k × lets_go j k)
+module _ {S : Type 0} {facts : S → Facts} {old new : S} where
+  pub shut_shows : Took facts old new (Shut ∷ []) anything lets_go → Took facts old new (Shut ∷ []) anything (λ j k. IsClosedNow k × lets_go j k)
   shut_shows t = record { stands_is = t.stands_is; goes = λ k s m. let g = t.goes k s m in (g.0, g.1, g.2, (shut_closed g.2, g.3)); alone = λ e k s m. t.alone e k s m }

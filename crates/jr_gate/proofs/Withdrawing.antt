@@ -8,7 +8,7 @@ use Rattle.jr_model.proofs.Runs.{did_legal}
 use Rattle.jr_model.proofs.Windows.{window_stay, stepped_last}
 use Rattle.jr_steps.specs.declared.known.Known.{Known}
 use Rattle.jr_steps.specs.Acts.{act_of_exit}
-use Rattle.jr_steps.specs.Knowing.{Standing, view, standing_after, anything, lets_go, Goes, Took, Takes}
+use Rattle.jr_steps.specs.Knowing.{Facts, Standing, view, standing_after, anything, lets_go, Goes, Took, Takes}
 use Rattle.jr_steps.proofs.StepFacts.{goes_stepped}
 use Rattle.jr_gate.specs.Acting.{ActedTo, IsWithdrawn}
 
@@ -16,19 +16,19 @@ use Rattle.jr_gate.specs.Acting.{ActedTo, IsWithdrawn}
 two : {j k l : Known} {xs ys : List Act} → Goes j xs k → Goes k ys l → Takes 2 j l
 two g h = let a = g.taken in let b = h.taken in omega arith
 
-module _ {S : Type 0} {stands : S → Standing} {knows : S → Known → Type 0} {a b c : S} {shows : Known → Known → Type 0} where
-  withdraws : Took stands knows a b (Knock ∷ []) anything shows → Took stands knows b c (Withdraw ∷ []) anything lets_go → ActedTo stands knows a c (Knock ∷ Withdraw ∷ []) anything IsWithdrawn
+module _ {S : Type 0} {facts : S → Facts} {a b c : S} {shows : Known → Known → Type 0} where
+  withdraws : Took facts a b (Knock ∷ []) anything shows → Took facts b c (Withdraw ∷ []) anything lets_go → ActedTo facts a c (Knock ∷ Withdraw ∷ []) anything IsWithdrawn
   withdraws p q = record {
     stands_is = q.stands_is ∙ ap (λ s. standing_after s (Withdraw ∷ [])) p.stands_is;
-    did = λ k s m.
+    leads = λ k s m.
         let g = p.goes k s m in
         let h = q.goes g.0 g.1 tt in
         let first = goes_stepped g.2 in
         let last = goes_stepped h.2 in
         let none = did_nothing (view g.0) (did_legal (Knock ∷ []) first.did) in
-        (h.0, h.1, did_then (Knock ∷ []) (Withdraw ∷ []) first.did last.did, (h.3, two g.2 h.2), g.0.seen, window_stay Knock [] Withdraw first first.behind none last (stepped_last last));
+        (h.0, h.1, did_then (Knock ∷ []) (Withdraw ∷ []) first.did last.did, ((h.3, two g.2 h.2), g.0.seen, window_stay Knock [] Withdraw first first.behind none last (stepped_last last)));
   }
 
   -- who leaves after a knock withdraws it
-  pub withdrawn : Took stands knows a b (Knock ∷ []) anything shows → Took stands knows b c (act_of_exit (stands b).role ∷ []) anything lets_go → ActedTo stands knows a c (Knock ∷ Withdraw ∷ []) anything IsWithdrawn
-  withdrawn p q = withdraws p (subst (λ (r : Role). Took stands knows b c (act_of_exit r ∷ []) anything lets_go) (ap (λ (s : Standing). s.role) p.stands_is) q)
+  pub withdrawn : Took facts a b (Knock ∷ []) anything shows → Took facts b c (act_of_exit (facts b).stands.role ∷ []) anything lets_go → ActedTo facts a c (Knock ∷ Withdraw ∷ []) anything IsWithdrawn
+  withdrawn p q = withdraws p (subst (λ (r : Role). Took facts b c (act_of_exit r ∷ []) anything lets_go) (ap (λ (s : Standing). s.role) p.stands_is) q)

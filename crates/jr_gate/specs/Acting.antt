@@ -4,14 +4,12 @@ use Rattle.jr_model.specs.declared.event.Act.{Act}
 use Rattle.jr_model.specs.History.{History, Did}
 use Rattle.jr_model.specs.Windows.{IsWindow}
 use Rattle.jr_steps.specs.declared.known.Known.{Known}
-use Rattle.jr_steps.specs.Knowing.{Standing, view, standing_after, lets_go, Takes}
+use Rattle.jr_steps.specs.Knowing.{Facts, Went, view, standing_after, lets_go, Takes}
 
 -- what a knock and its withdrawal show: nothing is held then, and they were two operations
 abbrev pub IsWithdrawn : Known → Known → Type 0
 IsWithdrawn j k = lets_go j k × Takes 2 j k
 
-module _ {S : Type 0} (stands : S → Standing) (knows : S → Known → Type 0) where
-  -- several steps were taken, in this window, which show this
-  pub record ActedTo (old new : S) (acts : List Act) (met : Known → Type 0) (shows : Known → Known → Type 0) : Type 0 where
-    pub stands_is : stands new ≡ standing_after (stands old) acts
-    pub did : (k : Known) → knows old k → met k → (k' : Known) × knows new k' × Did (view k) (view k') acts × shows k k' × (begun : History) × IsWindow (view k) (view k') acts begun
+-- several steps were taken, in this window, which show this
+abbrev pub ActedTo : {S : Type 0} → (S → Facts) → S → S → List Act → (Known → Type 0) → (Known → Known → Type 0) → Type 0
+ActedTo facts old new acts met shows = Went facts old new (standing_after (facts old).stands acts) met (λ k k'. Did (view k) (view k') acts) (λ k k'. shows k k' × (begun : History) × IsWindow (view k) (view k') acts begun)

@@ -18,8 +18,8 @@ pub struct Inside {
 impl Inside {
     /// Ends the steps' own stay. Own is by the number of the thread and the role of the steps: the stay has their thread's number, and they are within.
     pub fn leave<S: Steps>(self, steps: &mut S)
-        requires { IsOwnStay self (S.stands steps.old) }
-        ensures { Took S.stands S.knows steps.old steps.new (Leave ∷ []) anything lets_go }
+        requires { IsOwnStay self (S.facts steps.old).stands }
+        ensures { Took S.facts steps.old steps.new (Leave ∷ []) anything lets_go }
     {
         let Inside { thread: _ } = self;
         steps.go_out();
@@ -28,10 +28,10 @@ impl Inside {
 
 /// Enters the gate by one operation: E13 only where a thread was collecting at the entry step, and then a second operation withdraws. Over one thread it is never refused. The stay is the steps' own, by the number of the thread and the role of the steps.
 pub fn enter<S: Steps>(steps: &mut S) -> Result<Inside, Fault>
-    requires { (S.stands steps.old).role ≡ Outside }
-    ensures ok { IfOk result (λ i. IsOwnStay i (S.stands steps.new) × Took S.stands S.knows steps.old steps.new (Enter ∷ []) anything keeps) }
-    ensures err { IfErr result (λ e. (e ≡ Barred) × ActedTo S.stands S.knows steps.old steps.new (Knock ∷ Withdraw ∷ []) anything IsWithdrawn) }
-    ensures alone { (S.stands steps.old).config.threads ≡ 1 → IsOk result }
+    requires { (S.facts steps.old).stands.role ≡ Outside }
+    ensures ok { IfOk result (λ i. IsOwnStay i (S.facts steps.new).stands × Took S.facts steps.old steps.new (Enter ∷ []) anything keeps) }
+    ensures err { IfErr result (λ e. (e ≡ Barred) × ActedTo S.facts steps.old steps.new (Knock ∷ Withdraw ∷ []) anything IsWithdrawn) }
+    ensures alone { (S.facts steps.old).stands.config.threads ≡ 1 → IsOk result }
 {
     if steps.go_in() {
         return Ok(Inside {

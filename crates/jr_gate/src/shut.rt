@@ -17,9 +17,9 @@ pub struct Shut {
 impl Shut {
     /// Opens the gate after the steps' own collection. Own is by the number of the thread and the role of the steps: the collection has their thread's number, and they are collecting. No present object array may name an absent object, and no move may be unfinished.
     pub fn reopen<S: Steps>(self, steps: &mut S)
-        requires own { IsOwnCollection self (S.stands steps.old) }
-        requires closed { MayKnow S.knows steps.old CanReopen }
-        ensures { Took S.stands S.knows steps.old steps.new (Reopen ∷ []) CanReopen lets_go }
+        requires own { IsOwnCollection self (S.facts steps.old).stands }
+        requires closed { MayKnow S.facts steps.old CanReopen }
+        ensures { Took S.facts steps.old steps.new (Reopen ∷ []) CanReopen lets_go }
     {
         let Shut { thread: _ } = self;
         steps.unbar();
@@ -28,11 +28,11 @@ impl Shut {
 
 /// Shuts the gate for a collection: E14 with how many threads are inside, knocking or collecting at that one step, at least 1. Where it is shut, no present object array names an absent object, and the pass holds nothing. Over one thread it is never refused. The collection is the steps' own, by the number of the thread and the role of the steps.
 pub fn shut_gate<S: Steps>(steps: &mut S) -> Result<Shut, Fault>
-    requires { (S.stands steps.old).role ≡ Outside }
-    ensures ok { IfOk result (λ s. IsOwnCollection s (S.stands steps.new) × Took S.stands S.knows steps.old steps.new (Shuts ∷ []) anything (λ j k. IsClosedNow k × lets_go j k)) }
-    ensures closed { IfOk result (λ _. MayKnow S.knows steps.new CanReopen) }
-    ensures err { IfErr result (λ e. (n : ℕ) × (e ≡ Busy n) × (1 ≤ n) × Took S.stands S.knows steps.old steps.new (ShutBusy n ∷ []) anything keeps) }
-    ensures alone { (S.stands steps.old).config.threads ≡ 1 → IsOk result }
+    requires { (S.facts steps.old).stands.role ≡ Outside }
+    ensures ok { IfOk result (λ s. IsOwnCollection s (S.facts steps.new).stands × Took S.facts steps.old steps.new (Shuts ∷ []) anything (λ j k. IsClosedNow k × lets_go j k)) }
+    ensures closed { IfOk result (λ _. MayKnow S.facts steps.new CanReopen) }
+    ensures err { IfErr result (λ e. (n : ℕ) × (e ≡ Busy n) × (1 ≤ n) × Took S.facts steps.old steps.new (ShutBusy n ∷ []) anything keeps) }
+    ensures alone { (S.facts steps.old).stands.config.threads ≡ 1 → IsOk result }
 {
     match steps.bar() {
         Ok(()) => Ok(Shut {

@@ -11,7 +11,7 @@ use Rattle.jr_model.specs.Refusals.{Grounds}
 use Rattle.jr_model.proofs.Stays.{did_nothing}
 use Rattle.jr_model.proofs.Windows.{window_nothing}
 use Rattle.jr_steps.specs.declared.known.Known.{Known}
-use Rattle.jr_steps.specs.Knowing.{Standing, IsOf, MayKnow, Takes, view}
+use Rattle.jr_steps.specs.Knowing.{AreOf, Facts, IsOf, MayKnow, Takes, view}
 use Rattle.jr_heap.specs.Heap.{Called}
 
 -- what takes no step
@@ -26,28 +26,28 @@ pub record IsCall {A : Type 0} (k k' : Known) (acts : List Act) (call : Call A) 
   pub grounds : IfErr answer (Grounds k.seen (view k'))
   pub shows : so
 
-module _ {S : Type 0} {knows : S → Known → Type 0} where
+module _ {S : Type 0} {facts : S → Facts} where
   pub called_by : {A : Type 0} {old new : S} {met : Known → Type 0} {call : Known → Known → Call A} {answer : Result A Fault} {shows : Known → Known → Type 0}
-      → ((k : Known) → knows old k → met k → (k' : Known) × knows new k' × (acts : List Act) × IsCall k k' acts (call k k') answer (shows k k')) → Called knows old new met call answer shows
+      → ((k : Known) → (facts old).knows k → met k → (k' : Known) × (facts new).knows k' × (acts : List Act) × IsCall k k' acts (call k k') answer (shows k k')) → Called facts old new met call answer shows
   called_by go = record {
     ran = λ k s m.
         let g = go k s m in
         (g.0, g.1, λ f. record { acts = g.2; did = g.3.did; is = g.3.is f; begun = k.seen; window = g.3.window; grounds = g.3.grounds }, g.3.shows);
   }
 
-  pub called_none : {A : Type 0} {old : S} {met : Known → Type 0} {call : Known → Known → Call A} {answer : Result A Fault} {shows : Known → Known → Type 0} {stands : S → Standing} (fits : (s : S) (k : Known) → knows s k → IsOf (stands s) k)
-      → ((k : Known) → knows old k → met k → (f : Frames) → call k k f [] answer f) → ((k : Known) → IfErr answer (Grounds k.seen (view k))) → ((k : Known) → shows k k) → Called knows old old met call answer shows
+  pub called_none : {A : Type 0} {old : S} {met : Known → Type 0} {call : Known → Known → Call A} {answer : Result A Fault} {shows : Known → Known → Type 0} (fits : AreOf facts)
+      → ((k : Known) → (facts old).knows k → met k → (f : Frames) → call k k f [] answer f) → ((k : Known) → IfErr answer (Grounds k.seen (view k))) → ((k : Known) → shows k k) → Called facts old old met call answer shows
   called_none {old} fits is grounds shows = record {
     ran = λ k s m. (k, s, λ f. record { acts = []; did = did_nothing (view k) (fits old k s).legal; is = is k s m f; begun = k.seen; window = window_nothing (view k); grounds = grounds k }, shows k);
   }
 
   -- what a call shows, without how many steps it took
   pub uncounted : {A : Type 0} {old new : S} {met : Known → Type 0} {call : Known → Known → Call A} {answer : Result A Fault} {shows counts : Known → Known → Type 0}
-      → Called knows old new met call answer (λ j k. shows j k × counts j k) → Called knows old new met call answer shows
+      → Called facts old new met call answer (λ j k. shows j k × counts j k) → Called facts old new met call answer shows
   uncounted c = record { ran = λ k s m. let r = c.ran k s m in (r.0, r.1, r.2, r.3.0) }
 
   -- what may be known after a call
   pub may_called : {A : Type 0} {old new : S} {met : Known → Type 0} {call : Known → Known → Call A} {answer : Result A Fault} {shows : Known → Known → Type 0} {was so : Known → Type 0}
-      → Called knows old new met call answer shows → MayKnow knows old was → ((k : Known) → was k → met k)
-      → ((k k' : Known) → knows old k → was k → (acts : List Act) → Did (view k) (view k') acts → shows k k' → so k') → MayKnow knows new so
+      → Called facts old new met call answer shows → MayKnow facts old was → ((k : Known) → was k → met k)
+      → ((k k' : Known) → (facts old).knows k → was k → (acts : List Act) → Did (view k) (view k') acts → shows k k' → so k') → MayKnow facts new so
   may_called {so = so} c may meets then' = ∥∥₁_map may (λ k. let r = c.ran k.0 k.1 (meets k.0 k.2) in let f = (r.2 (record { frames = []; given = [] })) in (r.0, r.1, then' k.0 r.0 k.1 k.2 f.acts f.did r.3))

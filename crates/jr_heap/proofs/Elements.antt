@@ -23,7 +23,7 @@ use Rattle.jr_model.proofs.Windows.{window_act, window_nothing}
 use Rattle.jr_model.specs.Parts.{read_element, write_element}
 use Rattle.jr_model.specs.Checks.{is_plain, is_text, is_value}
 use Rattle.jr_steps.specs.declared.known.Known.{Known}
-use Rattle.jr_steps.specs.Knowing.{Standing, IsOf, MayKnow, keeps, view, state_of, KnowsHeader, IsWordNow, ShowsObject, Goes, Took}
+use Rattle.jr_steps.specs.Knowing.{AreOf, Facts, IsOf, MayKnow, keeps, view, state_of, KnowsHeader, IsWordNow, ShowsObject, Goes, Took}
 use Rattle.jr_steps.proofs.StepFacts.{goes_did}
 use Rattle.jr_heap.specs.Heap.{Called, by_steps, HoldsHeader, LeavesObject, MayBeNamed, ReadsOfKind}
 use Rattle.jr_heap.proofs.Calling.{no_step, called_by}
@@ -78,25 +78,25 @@ read_word {k} {k'} o i v h g shown =
     let kinds : needs.1.kind ≡ h.kind = ap kind_in there ∙ shown.says.kind in
     subst (λ s. IsWord s h.kind v) same (subst (λ kind. IsWord (state before) kind v) kinds word)
 
-module _ {S : Type 0} {stands : S → Standing} {knows : S → Known → Type 0} (fits : (s : S) (k : Known) → knows s k → IsOf (stands s) k) (o : ℕ) (h : HeaderParts) (i : ℕ) where
+module _ {S : Type 0} {facts : S → Facts} (fits : AreOf facts) (o : ℕ) (h : HeaderParts) (i : ℕ) where
   -- a refusal, before any act
   refused : {A : Type 0} (a : S) (e : Fault) (met : Known → Type 0) (call : Known → Known → Call A) (shows : Known → Known → Type 0) → ((k : Known) → LeavesObject o h k k → shows k k) → ((k : Known) → met k → HoldsHeader o h k) → ((p : PassView) → Grounds p.seen p e)
-      → ((k : Known) → (x : Contents) → (state_of k).objects o ≡ Some x → x.kind ≡ h.kind → length x.words ≡ h.length → (f : Frames) → call k k f [] (Err e) f) → Called knows a a met call (Err e) (by_steps 0 shows)
+      → ((k : Known) → (x : Contents) → (state_of k).objects o ≡ Some x → x.kind ≡ h.kind → length x.words ≡ h.length → (f : Frames) → call k k f [] (Err e) f) → Called facts a a met call (Err e) (by_steps 0 shows)
   refused a e met call shows leaves holds grounds is = called_by (λ k s m. let x = (holds k m).shown in (k, s, [], record { did = did_nothing (view k) (fits a k s).legal; is = is k x.contents x.is x.says.kind x.says.long; window = window_nothing (view k); grounds = grounds (view k); shows = (leaves k (x, refl), no_step k) }))
 
   -- what a read leaves and shows
   abbrev Finds : Result ℕ Fault → Known → Known → Type 0
   Finds answer j k = LeavesObject o h j k × ReadsOfKind h.kind answer k
 
-  pub read_plain : (a : S) → is_plain h.kind ≡ true → Called knows a a (HoldsHeader o h) (λ j k. read_element (state_of k) o i) (Err NotArray) (by_steps 0 (Finds (Err NotArray)))
+  pub read_plain : (a : S) → is_plain h.kind ≡ true → Called facts a a (HoldsHeader o h) (λ j k. read_element (state_of k) o i) (Err NotArray) (by_steps 0 (Finds (Err NotArray)))
   read_plain a plain = refused a NotArray (HoldsHeader o h) (λ j k. read_element (state_of k) o i) (Finds (Err NotArray)) (λ k l. (l, tt)) (λ k m. m) (λ p. tt) (λ k x there kind long f. (x, there, no_elements o i (length x.words) x.kind f (ap is_plain kind ∙ plain)))
 
-  pub read_beyond : (a : S) → is_plain h.kind ≡ false → h.length ≤ i → Called knows a a (HoldsHeader o h) (λ j k. read_element (state_of k) o i) (Err Range) (by_steps 0 (Finds (Err Range)))
+  pub read_beyond : (a : S) → is_plain h.kind ≡ false → h.length ≤ i → Called facts a a (HoldsHeader o h) (λ j k. read_element (state_of k) o i) (Err Range) (by_steps 0 (Finds (Err Range)))
   read_beyond a plain l = refused a Range (HoldsHeader o h) (λ j k. read_element (state_of k) o i) (Finds (Err Range)) (λ k l. (l, tt)) (λ k m. m) (λ p. tt)
       (λ k x there kind long f. (x, there, too_far o i (length x.words) x.kind f (ap is_plain kind ∙ plain) (subst (λ n. n ≤ i) (sym long) l)))
 
-  pub read_found : {a b : S} (v : ℕ) → (stands a).role ≡ Within → is_plain h.kind ≡ false → i < h.length → Took stands knows a b (Read o i v ∷ []) (KnowsHeader o h) keeps
-      → Called knows a b (HoldsHeader o h) (λ j k. read_element (state_of k) o i) (Ok v) (by_steps 1 (Finds (Ok v)))
+  pub read_found : {a b : S} (v : ℕ) → (facts a).stands.role ≡ Within → is_plain h.kind ≡ false → i < h.length → Took facts a b (Read o i v ∷ []) (KnowsHeader o h) keeps
+      → Called facts a b (HoldsHeader o h) (λ j k. read_element (state_of k) o i) (Ok v) (by_steps 1 (Finds (Ok v)))
   read_found {a} v w plain l t = called_by (λ k s m.
       let g = t.goes k s m.known in
       let d = goes_did g.2 in
@@ -105,7 +105,7 @@ module _ {S : Type 0} {stands : S → Standing} {knows : S → Known → Type 0}
       (g.0, g.1, Read o i v ∷ [], record { did = d; is = is; window = window_act (Read o i v) d tt tt; grounds = tt; shows = (((x, g.3), read_word o i v h g.2 x), g.2.taken) }))
 
   -- its word has the bits of the kind
-  pub read_value : {a b : S} (v : ℕ) → (stands a).role ≡ Within → MayKnow knows a (HoldsHeader o h) → Took stands knows a b (Read o i v ∷ []) (KnowsHeader o h) keeps → is_value h.kind v ≡ true
+  pub read_value : {a b : S} (v : ℕ) → (facts a).stands.role ≡ Within → MayKnow facts a (HoldsHeader o h) → Took facts a b (Read o i v ∷ []) (KnowsHeader o h) keeps → is_value h.kind v ≡ true
   read_value {a} v w may t = ∥∥₁_elim may (hlevel props) (λ k.
       let g = t.goes k.0 k.1 k.2.known in
       let x = object_later k.0 g.0 (Read o i v ∷ []) (goes_did g.2) ((fits a k.0 k.1).role ∙ w) ((λ e. cc), tt) o h k.2.shown in
@@ -115,24 +115,24 @@ module _ {S : Type 0} {stands : S → Standing} {knows : S → Known → Type 0}
 abbrev pub MayWrite : ℕ → HeaderParts → ℕ → Known → Type 0
 MayWrite o h v k = HoldsHeader o h k × MayBeNamed h.kind v k
 
-module _ {S : Type 0} {stands : S → Standing} {knows : S → Known → Type 0} (fits : (s : S) (k : Known) → knows s k → IsOf (stands s) k) (o : ℕ) (h : HeaderParts) (i v : ℕ) where
-  pub write_no_array : (a : S) → (is_plain h.kind || is_text h.kind) ≡ true → Called knows a a (MayWrite o h v) (λ j k. write_element (state_of k) o i v) (Err NotArray) (by_steps 0 (LeavesObject o h))
+module _ {S : Type 0} {facts : S → Facts} (fits : AreOf facts) (o : ℕ) (h : HeaderParts) (i v : ℕ) where
+  pub write_no_array : (a : S) → (is_plain h.kind || is_text h.kind) ≡ true → Called facts a a (MayWrite o h v) (λ j k. write_element (state_of k) o i v) (Err NotArray) (by_steps 0 (LeavesObject o h))
   write_no_array a plain = refused fits o h i a NotArray (MayWrite o h v) (λ j k. write_element (state_of k) o i v) (LeavesObject o h) (λ k l. l) (λ k m. m.0) (λ p. tt)
       (λ k x there kind long f. (x, there, no_array o i v (length x.words) x.kind f (ap (λ z. is_plain z || is_text z) kind ∙ plain)))
 
-  pub write_beyond : (a : S) → (is_plain h.kind || is_text h.kind) ≡ false → h.length ≤ i → Called knows a a (MayWrite o h v) (λ j k. write_element (state_of k) o i v) (Err Range) (by_steps 0 (LeavesObject o h))
+  pub write_beyond : (a : S) → (is_plain h.kind || is_text h.kind) ≡ false → h.length ≤ i → Called facts a a (MayWrite o h v) (λ j k. write_element (state_of k) o i v) (Err Range) (by_steps 0 (LeavesObject o h))
   write_beyond a plain l = refused fits o h i a Range (MayWrite o h v) (λ j k. write_element (state_of k) o i v) (LeavesObject o h) (λ k l. l) (λ k m. m.0) (λ p. tt)
       (λ k x there kind long f. (x, there, too_far_to_write o i v (length x.words) x.kind f (ap (λ z. is_plain z || is_text z) kind ∙ plain) (subst (λ n. n ≤ i) (sym long) l)))
 
-  pub write_value : (a : S) → (is_plain h.kind || is_text h.kind) ≡ false → i < h.length → is_value h.kind v ≡ false → Called knows a a (MayWrite o h v) (λ j k. write_element (state_of k) o i v) (Err Value) (by_steps 0 (LeavesObject o h))
+  pub write_value : (a : S) → (is_plain h.kind || is_text h.kind) ≡ false → i < h.length → is_value h.kind v ≡ false → Called facts a a (MayWrite o h v) (λ j k. write_element (state_of k) o i v) (Err Value) (by_steps 0 (LeavesObject o h))
   write_value a plain l bad = refused fits o h i a Value (MayWrite o h v) (λ j k. write_element (state_of k) o i v) (LeavesObject o h) (λ k l. l) (λ k m. m.0) (λ p. tt)
       (λ k x there kind long f. (x, there, no_value o i v (length x.words) x.kind f (ap (λ z. is_plain z || is_text z) kind ∙ plain) (subst (λ n. i < n) (sym long) l) (ap (λ z. is_value z v) kind ∙ bad)))
 
-  pub may_write : {a : S} → is_value h.kind v ≡ true → MayKnow knows a (MayWrite o h v) → MayKnow knows a (λ k. KnowsHeader o h k × IsWordNow h.kind v k)
-  may_write good may = ∥∥₁_map may (λ k. (k.0, k.1, (k.2.0.known, word_is (state_of k.0) h.kind v good k.2.1)))
+  pub may_write : (a : S) → is_value h.kind v ≡ true → MayKnow facts a (MayWrite o h v) → MayKnow facts a (λ k. KnowsHeader o h k × IsWordNow h.kind v k)
+  may_write a good may = ∥∥₁_map may (λ k. (k.0, k.1, (k.2.0.known, word_is (state_of k.0) h.kind v good k.2.1)))
 
-  pub write_stored : {a b : S} → (stands a).role ≡ Within → (is_plain h.kind || is_text h.kind) ≡ false → i < h.length → is_value h.kind v ≡ true → Took stands knows a b (Write o i v ∷ []) (λ k. KnowsHeader o h k × IsWordNow h.kind v k) keeps
-      → Called knows a b (MayWrite o h v) (λ j k. write_element (state_of k) o i v) (Ok tt) (by_steps 1 (LeavesObject o h))
+  pub write_stored : {a b : S} → (facts a).stands.role ≡ Within → (is_plain h.kind || is_text h.kind) ≡ false → i < h.length → is_value h.kind v ≡ true → Took facts a b (Write o i v ∷ []) (λ k. KnowsHeader o h k × IsWordNow h.kind v k) keeps
+      → Called facts a b (MayWrite o h v) (λ j k. write_element (state_of k) o i v) (Ok tt) (by_steps 1 (LeavesObject o h))
   write_stored {a} w plain l good t = called_by (λ k s m.
       let g = t.goes k s (m.0.known, word_is (state_of k) h.kind v good m.1) in
       let d = goes_did g.2 in
@@ -142,6 +142,6 @@ module _ {S : Type 0} {stands : S → Standing} {knows : S → Known → Type 0}
       (g.0, g.1, Write o i v ∷ [], record { did = d; is = is; window = window_act (Write o i v) d tt tt; grounds = tt; shows = ((x, g.3), g.2.taken) }))
 
 -- what may be known after a step at an element
-module _ {S : Type 0} {stands : S → Standing} {knows : S → Known → Type 0} (fits : (s : S) (k : Known) → knows s k → IsOf (stands s) k) (o : ℕ) (h : HeaderParts) {a b : S} {x : Act} {met : Known → Type 0} where
-  pub still_holds : x ≢ Leave → (stands a).role ≡ Within → Took stands knows a b (x ∷ []) met keeps → MayKnow knows a (λ k. HoldsHeader o h k × met k) → MayKnow knows b (HoldsHeader o h)
+module _ {S : Type 0} {facts : S → Facts} (fits : AreOf facts) (o : ℕ) (h : HeaderParts) {a b : S} {x : Act} {met : Known → Type 0} where
+  pub still_holds : x ≢ Leave → (facts a).stands.role ≡ Within → Took facts a b (x ∷ []) met keeps → MayKnow facts a (λ k. HoldsHeader o h k × met k) → MayKnow facts b (HoldsHeader o h)
   still_holds ne w t may = ∥∥₁_map may (λ k. let g = t.goes k.0 k.1 k.2.1 in (g.0, g.1, header_later k.0 g.0 (x ∷ []) (goes_did g.2) ((fits a k.0 k.1).role ∙ w) (ne, tt) o h g.3 k.2.0))

@@ -13,7 +13,7 @@ use Rattle.jr_model.proofs.Windows.{window_within}
 use Rattle.jr_steps.specs.declared.known.Known.{Known}
 use Rattle.jr_steps.specs.declared.known.Holdings.{Holdings}
 use Rattle.jr_steps.specs.Holdings.{words_at}
-use Rattle.jr_steps.specs.Knowing.{Standing, IsOf, MayKnow, view, HasWord, IsWordNow, ShowsWord, Took, Takes}
+use Rattle.jr_steps.specs.Knowing.{AreOf, Leads, Facts, IsOf, MayKnow, view, HasWord, IsWordNow, ShowsWord, Took, Takes}
 use Rattle.jr_steps.proofs.StepFacts.{goes_did}
 use Rattle.jr_heap.specs.Heap.{Called, by_steps, own_words, IsOwn, IsReady, Fills, no_act}
 use Rattle.jr_heap.proofs.Calling.{called_by}
@@ -59,9 +59,9 @@ pub record IsFilledTo (place n v i : ℕ) (j k : Known) : Type 0 where
   pub counted : Takes i j k
 
 -- what was done so far
-pub record FilledTo {S : Type 0} (stands : S → Standing) (knows : S → Known → Type 0) (place n v : ℕ) (old new : S) (i : ℕ) : Type 0 where
-  pub stands_is : stands new ≡ stands old
-  pub did : (k : Known) → knows old k → IsOwn place n k → (k' : Known) × knows new k' × Did (view k) (view k') [] × IsFilledTo place n v i k k'
+pub record FilledTo {S : Type 0} (facts : S → Facts) (place n v : ℕ) (old new : S) (i : ℕ) : Type 0 where
+  pub stands_is : (facts new).stands ≡ (facts old).stands
+  pub did : Leads facts old new (IsOwn place n) (λ k k'. Did (view k) (view k') []) (IsFilledTo place n v i)
 
 pub among : (n v i w : ℕ) → slice_get (replicate n v) i ≡ Some w → w ≡ v
 among zero v i w e = absurd cc
@@ -93,14 +93,14 @@ filled_all place n v j k x = record {
   others = x.others;
 }
 
-module _ {S : Type 0} {stands : S → Standing} {knows : S → Known → Type 0} (fits : (s : S) (k : Known) → knows s k → IsOf (stands s) k) (place n v : ℕ) where
-  pub filled_nothing : (a : S) → FilledTo stands knows place n v a a 0
+module _ {S : Type 0} {facts : S → Facts} (fits : AreOf facts) (place n v : ℕ) where
+  pub filled_nothing : (a : S) → FilledTo facts place n v a a 0
   filled_nothing a = record {
     stands_is = refl;
     did = λ k s m. (k, s, did_nothing (view k) (fits a k s).legal, record { long = λ l. ap (λ (ws : List ℕ). length ws) (sym (words_some place n k l)) ∙ m; words = λ l. refl; headers = refl; others = λ p ne. refl; counted = omega arith });
   }
 
-  pub filled_more : {a b c : S} (i : ℕ) → FilledTo stands knows place n v a b i → i < n → Took stands knows b c [] (HasWord place i) (ShowsWord place i v) → FilledTo stands knows place n v a c (i + 1)
+  pub filled_more : {a b c : S} (i : ℕ) → FilledTo facts place n v a b i → i < n → Took facts b c [] (HasWord place i) (ShowsWord place i v) → FilledTo facts place n v a c (i + 1)
   filled_more i p l t = record {
     stands_is = t.stands_is ∙ p.stands_is;
     did = λ k s m.
@@ -121,20 +121,20 @@ module _ {S : Type 0} {stands : S → Standing} {knows : S → Known → Type 0}
         );
   }
 
-  pub filled_may : {a b : S} (i : ℕ) → i < n → MayKnow knows a (IsOwn place n) → FilledTo stands knows place n v a b i → MayKnow knows b (HasWord place i)
+  pub filled_may : {a b : S} (i : ℕ) → i < n → MayKnow facts a (IsOwn place n) → FilledTo facts place n v a b i → MayKnow facts b (HasWord place i)
   filled_may i l may p = ∥∥₁_map may (λ k. let x = p.did k.0 k.1 k.2 in let e = x.3.long (omega arith) in (x.0, x.1, omega arith))
 
-  module _ {a b : S} (i : ℕ) (end : i ≡ n) (p : FilledTo stands knows place n v a b i) where
-    whole : FilledTo stands knows place n v a b n
-    whole = subst (λ m. FilledTo stands knows place n v a b m) end p
+  module _ {a b : S} (i : ℕ) (end : i ≡ n) (p : FilledTo facts place n v a b i) where
+    whole : FilledTo facts place n v a b n
+    whole = subst (λ m. FilledTo facts place n v a b m) end p
 
-    pub filled_call : (stands a).role ≡ Within → Called knows a b (IsOwn place n) (λ j k. no_act) (Ok tt) (by_steps n (Fills place n v))
+    pub filled_call : (facts a).stands.role ≡ Within → Called facts a b (IsOwn place n) (λ j k. no_act) (Ok tt) (by_steps n (Fills place n v))
     filled_call w = called_by (λ k s m. let x = whole.did k s m in (x.0, x.1, [], record { did = x.2; is = λ f. (refl, refl, refl); window = window_within [] x.2 ((fits a k s).role ∙ w) tt; grounds = tt; shows = (filled_all place n v k x.0 x.3, x.3.counted) }))
 
-    pub filled_own : MayKnow knows a (IsOwn place n) → MayKnow knows b (IsOwn place n)
+    pub filled_own : MayKnow facts a (IsOwn place n) → MayKnow facts b (IsOwn place n)
     filled_own may = ∥∥₁_map may (λ k. let x = whole.did k.0 k.1 k.2 in (x.0, x.1, own_length place n x.0 x.3.long))
 
-    pub filled_ready : (stands a).role ≡ Within → (kind : Kind) → MayKnow knows a (λ k. IsOwn place n k × IsWordNow kind v k) → MayKnow knows b (IsReady kind place n)
+    pub filled_ready : (facts a).stands.role ≡ Within → (kind : Kind) → MayKnow facts a (λ k. IsOwn place n k × IsWordNow kind v k) → MayKnow facts b (IsReady kind place n)
     filled_ready w kind may = ∥∥₁_map may (λ k.
         let x = whole.did k.0 k.1 k.2.0 in
         let word = word_later k.0 x.0 [] x.2 ((fits a k.0 k.1).role ∙ w) tt kind v k.2.1 in

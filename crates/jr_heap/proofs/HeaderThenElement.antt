@@ -15,7 +15,7 @@ use Rattle.jr_model.specs.Calls.{Call, Ran}
 use Rattle.jr_model.specs.Parts.{header}
 use Rattle.jr_model.proofs.Runs.{ran_behind}
 use Rattle.jr_steps.specs.declared.known.Known.{Known}
-use Rattle.jr_steps.specs.Knowing.{MayKnow, view, state_of, HasObject, Takes}
+use Rattle.jr_steps.specs.Knowing.{Facts, MayKnow, view, state_of, HasObject, Takes}
 use Rattle.jr_heap.specs.Heap.{Called, by_steps, HoldsHeader, Learns, LeavesObject, Relearns, MayBeNamed, MayBeNamedIn, ReadsOfKind, ShowsElementOf}
 use Rattle.jr_heap.proofs.StayFacts.{kind_in, still, word_later, shown_present}
 
@@ -43,9 +43,9 @@ reread o h answer k j q l s = (
 read_window : (k j : Known) (o : ℕ) (h : HeaderParts) (f : Frames) → (r : Ran (view k) (view j) f f (header (state_of j) o) (Ok (h.kind, h.length))) → IsWindow (view k) (view j) [] r.begun
 read_window k j o h f r = subst (λ (xs : List Act). IsWindow (view k) (view j) xs r.begun) r.is.2.0 r.window
 
-module _ {S : Type 0} {knows : S → Known → Type 0} {a b : S} (o : ℕ) (h : HeaderParts) {first : Known → Type 0} (t : Called knows a b first (λ j k. header (state_of k) o) (Ok (h.kind, h.length)) (by_steps 1 (Learns o h))) where
-  pub called_at : {A : Type 0} {c : S} {met then' : Known → Type 0} {answer : Result A Fault} {shows shows' : Known → Known → Type 0} (call : State → Call A) → Called knows b c then' (λ j k. call (state_of k)) answer shows
-      → ((k : Known) → met k → first k) → ((k j : Known) → knows a k → met k → Did (view k) (view j) [] → Learns o h k j → then' j) → ((k j q : Known) → Learns o h k j → Takes 1 k j → shows j q → shows' k q) → Called knows a c met (λ j k. call (state_of k)) answer shows'
+module _ {S : Type 0} {facts : S → Facts} {a b : S} (o : ℕ) (h : HeaderParts) {first : Known → Type 0} (t : Called facts a b first (λ j k. header (state_of k) o) (Ok (h.kind, h.length)) (by_steps 1 (Learns o h))) where
+  pub called_at : {A : Type 0} {c : S} {met then' : Known → Type 0} {answer : Result A Fault} {shows shows' : Known → Known → Type 0} (call : State → Call A) → Called facts b c then' (λ j k. call (state_of k)) answer shows
+      → ((k : Known) → met k → first k) → ((k j : Known) → (facts a).knows k → met k → Did (view k) (view j) [] → Learns o h k j → then' j) → ((k j q : Known) → Learns o h k j → Takes 1 k j → shows j q → shows' k q) → Called facts a c met (λ j k. call (state_of k)) answer shows'
   called_at call u meets next more = record {
     ran = λ k s m.
         let r = t.ran k s (meets k m) in
@@ -59,13 +59,13 @@ module _ {S : Type 0} {knows : S → Known → Type 0} {a b : S} (o : ℕ) (h : 
   }
 
   -- what may be known once the header was read
-  pub may_at : {met then' : Known → Type 0} → ((k : Known) → met k → first k) → ((k j : Known) → knows a k → met k → Did (view k) (view j) [] → Learns o h k j → then' j) → MayKnow knows a met → MayKnow knows b then'
+  pub may_at : {met then' : Known → Type 0} → ((k : Known) → met k → first k) → ((k j : Known) → (facts a).knows k → met k → Did (view k) (view j) [] → Learns o h k j → then' j) → MayKnow facts a met → MayKnow facts b then'
   may_at meets next may = ∥∥₁_map may (λ k.
       let r = t.ran k.0 k.1 (meets k.0 k.2) in
       (r.0, r.1, next k.0 r.0 k.1 k.2 (read_header k.0 r.0 o h (record { frames = []; given = [] }) (r.2 (record { frames = []; given = [] }))) r.3.0))
 
-pub may_present : {S : Type 0} (knows : S → Known → Type 0) (a : S) (o : ℕ) (h : HeaderParts) → MayKnow knows a (HoldsHeader o h) → MayKnow knows a (HasObject o)
-may_present knows a o h may = ∥∥₁_map may (λ k. (k.0, k.1, shown_present o h k.0 k.2.shown))
+pub may_present : {S : Type 0} (facts : S → Facts) (a : S) (o : ℕ) (h : HeaderParts) → MayKnow facts a (HoldsHeader o h) → MayKnow facts a (HasObject o)
+may_present facts a o h may = ∥∥₁_map may (λ k. (k.0, k.1, shown_present o h k.0 k.2.shown))
 
 some_of : (z : Option Contents) → IsSome z → (x : Contents) × (z ≡ Some x)
 some_of None p = absurd cc

@@ -14,7 +14,7 @@ use Rattle.jr_model.proofs.Windows.{window_within}
 use Rattle.jr_steps.specs.declared.known.Known.{Known}
 use Rattle.jr_steps.specs.declared.known.Holdings.{Holdings}
 use Rattle.jr_steps.specs.Holdings.{header_in}
-use Rattle.jr_steps.specs.Knowing.{Standing, IsOf, MayKnow, anything, state_of, HasObject, ShowsHeader, Took}
+use Rattle.jr_steps.specs.Knowing.{AreOf, Facts, IsOf, MayKnow, anything, state_of, HasObject, ShowsHeader, Took}
 use Rattle.jr_steps.proofs.StepFacts.{goes_did, present_stays}
 use Rattle.jr_model.proofs.InRoom.{in_room}
 use Rattle.jr_heap.specs.Heap.{Called, by_steps, HoldsHeader, Learns}
@@ -31,32 +31,32 @@ some_is : (r : Option HeaderParts) → r ≢ None → IsSome r
 some_is None n = absurd (n refl)
 some_is (Some h) n = refl
 
-module _ {S : Type 0} {stands : S → Standing} {knows : S → Known → Type 0} (fits : (s : S) (k : Known) → knows s k → IsOf (stands s) k) (a : S) (o : ℕ) where
-  pub is_number : MayKnow knows a (HasObject o) → (1 ≤ o) × (o ≤ (stands a).config.objects)
+module _ {S : Type 0} {facts : S → Facts} (fits : AreOf facts) (a : S) (o : ℕ) where
+  pub is_number : MayKnow facts a (HasObject o) → (1 ≤ o) × (o ≤ (facts a).stands.config.objects)
   is_number may =
-      let both : ((k : Known) × knows a k × HasObject o k) → (1 ≤ o) × (o ≤ (stands a).config.objects) =
+      let both : ((k : Known) × (facts a).knows k × HasObject o k) → (1 ≤ o) × (o ≤ (facts a).stands.config.objects) =
       λ k. let is = fits a k.0 k.1 in let l = (in_room k.0.config k.0.last k.0.seen is.legal).objects o k.2 in (l.0, subst (λ (c : Config). o ≤ c.objects) is.config l.1) in
       (∥∥₁_elim may le_prop (λ k. (both k).0), ∥∥₁_elim may le_prop (λ k. (both k).1))
 
-  module _ {b : S} (r : Option HeaderParts) (t : Took stands knows a b [] anything (ShowsHeader o r)) where
-    not_none : (stands a).role ≡ Within → MayKnow knows a (HasObject o) → r ≢ None
+  module _ {b : S} (r : Option HeaderParts) (t : Took facts a b [] anything (ShowsHeader o r)) where
+    not_none : (facts a).stands.role ≡ Within → MayKnow facts a (HasObject o) → r ≢ None
     not_none w may e = ∥∥₁_elim may (hlevel props) (λ k.
-        let g = (subst (λ x. Took stands knows a b [] anything (ShowsHeader o x)) e t).goes k.0 k.1 tt in
+        let g = (subst (λ x. Took facts a b [] anything (ShowsHeader o x)) e t).goes k.0 k.1 tt in
         none_absent ((state_of g.0).objects o) g.3.0 (present_stays k.0 g.0 [] o (goes_did g.2) ((fits a k.0 k.1).role ∙ w) tt k.2))
 
-    pub is_there : (stands a).role ≡ Within → MayKnow knows a (HasObject o) → IsSome r
+    pub is_there : (facts a).stands.role ≡ Within → MayKnow facts a (HasObject o) → IsSome r
     is_there w may = some_is r (not_none w may)
 
     module _ (h : HeaderParts) (is : r ≡ Some h) where
-      found : Took stands knows a b [] anything (ShowsHeader o (Some h))
-      found = subst (λ x. Took stands knows a b [] anything (ShowsHeader o x)) is t
+      found : Took facts a b [] anything (ShowsHeader o (Some h))
+      found = subst (λ x. Took facts a b [] anything (ShowsHeader o x)) is t
 
-      pub called_header : (stands a).role ≡ Within → Called knows a b (HasObject o) (λ j k. header (state_of k) o) (Ok (h.kind, h.length)) (by_steps 1 (Learns o h))
+      pub called_header : (facts a).stands.role ≡ Within → Called facts a b (HasObject o) (λ j k. header (state_of k) o) (Ok (h.kind, h.length)) (by_steps 1 (Learns o h))
       called_header w = called_by (λ k s m.
           let g = found.goes k s tt in
           let x = g.3.0 in
           let d = goes_did g.2 in
           (g.0, g.1, [], record { did = d; window = window_within [] d ((fits a k s).role ∙ w) tt; is = λ f. (x.contents, x.is, (refl, ap (λ n. Ok (h.kind, n)) (sym x.says.long) ∙ ap (λ (q : Kind). Ok (q, length x.contents.words)) (sym x.says.kind), refl)); grounds = tt; shows = (g.3, g.2.taken) }))
 
-      pub may_hold : MayKnow knows a (HasObject o) → MayKnow knows b (HoldsHeader o h)
+      pub may_hold : MayKnow facts a (HasObject o) → MayKnow facts b (HoldsHeader o h)
       may_hold may = ∥∥₁_map may (λ k. let g = found.goes k.0 k.1 tt in (g.0, g.1, learnt o h k.0 g.0 g.3))

@@ -23,7 +23,7 @@ use Rattle.jr_steps.specs.declared.known.Holdings.{Holdings}
 use Rattle.jr_steps.specs.declared.loads.TopLoad.TheVariants as top
 use Rattle.jr_steps.specs.Acts.{acts_of_top_load}
 use Rattle.jr_steps.specs.Holdings.{words_at, with_range}
-use Rattle.jr_steps.specs.Knowing.{Standing, IsOf, MayKnow, view, anything, keeps, ShowsUsed, WasUsed, ShowsRange, Took, Takes}
+use Rattle.jr_steps.specs.Knowing.{AreOf, Facts, Standing, IsOf, MayKnow, view, anything, keeps, ShowsUsed, WasUsed, ShowsRange, Took, Takes}
 use Rattle.jr_steps.proofs.StepFacts.{goes_did, used_now, may_then}
 use Rattle.jr_heap.specs.Heap.{Called, by_steps, reserve_steps, IsOwn, Gains}
 use Rattle.jr_heap.proofs.Calling.{no_step, called_by, called_none}
@@ -73,25 +73,25 @@ pub own_range : (place n : ℕ) (j k : Known) (ws : List ℕ) → length ws ≡ 
 own_range place zero j k ws long e = refl
 own_range place (suc n) j k ws long e = ap (λ b. length (cond b [] (words_at place k.holdings.ranges))) (suc_not_zero n) ∙ (ap (λ (h : Holdings). length (words_at place h.ranges)) e ∙ (ap (λ b. length (cond b ws (words_at place j.holdings.ranges))) (eq_self place) ∙ long))
 
-module _ {S : Type 0} {stands : S → Standing} {knows : S → Known → Type 0} {a b : S} (fits : (s : S) (k : Known) → knows s k → IsOf (stands s) k) (inside : (stands a).role ≡ Within) (n u words : ℕ) (some : n ≢ 0) (looked : Took stands knows a b (acts_of_top_load words (top.Full n) u) anything (λ j k. ShowsUsed u k × keeps j k)) where
-  pub reserve_full : words < u + n → Called knows a b anything (λ j k. reserve n) (Err (SpaceFull u)) (by_steps 1 keeps)
+module _ {S : Type 0} {facts : S → Facts} {a b : S} (fits : AreOf facts) (inside : (facts a).stands.role ≡ Within) (n u words : ℕ) (some : n ≢ 0) (looked : Took facts a b (acts_of_top_load words (top.Full n) u) anything (λ j k. ShowsUsed u k × keeps j k)) where
+  pub reserve_full : words < u + n → Called facts a b anything (λ j k. reserve n) (Err (SpaceFull u)) (by_steps 1 keeps)
   reserve_full l = called_by (λ k s m.
       let g = looked.goes k s tt in
       let d : Did (view k) (view g.0) (ReserveFull n u ∷ []) = subst (λ xs. Did (view k) (view g.0) xs) (named_full words n u l) (goes_did g.2) in
       (g.0, g.1, ReserveFull n u ∷ [], record { did = d; is = full n u some; window = window_act (ReserveFull n u) d tt tt; grounds = tt; shows = (g.3.1, g.2.taken) }))
 
   module _ (room : u + n ≤ words) where
-    first : (k : Known) → knows a k → (j : Known) × knows b j × Did (view k) (view j) [] × ShowsUsed u j × keeps k j × Takes 1 k j
+    first : (k : Known) → (facts a).knows k → (j : Known) × (facts b).knows j × Did (view k) (view j) [] × ShowsUsed u j × keeps k j × Takes 1 k j
     first k s = let g = looked.goes k s tt in (g.0, g.1, subst (λ xs. Did (view k) (view g.0) xs) (named_look words n u room) (goes_did g.2), g.3.0, g.3.1, g.2.taken)
 
     -- what was looked at was used in this stay
-    was_used : (k : Known) (s : knows a k) → WasUsed u (first k s).0
+    was_used : (k : Known) (s : (facts a).knows k) → WasUsed u (first k s).0
     was_used k s = let j = first k s in used_now u j.0 (role_did [] j.2 ∙ ((fits a k s).role ∙ inside)) j.3
 
-    pub may_reserve : MayKnow knows a anything → MayKnow knows b (WasUsed u)
+    pub may_reserve : MayKnow facts a anything → MayKnow facts b (WasUsed u)
     may_reserve some = ∥∥₁_map some (λ k. let j = first k.0 k.1 in (j.0, j.1, was_used k.0 k.1))
 
-    pub reserve_won : {c : S} → Took stands knows b c (Reserve n ∷ []) (WasUsed u) (ShowsRange u n (Ok tt)) → Called knows a c anything (λ j k. reserve n) (Ok tt) (by_steps (reserve_steps n) (Gains n u))
+    pub reserve_won : {c : S} → Took facts b c (Reserve n ∷ []) (WasUsed u) (ShowsRange u n (Ok tt)) → Called facts a c anything (λ j k. reserve n) (Ok tt) (by_steps (reserve_steps n) (Gains n u))
     reserve_won t = called_by (λ k s m.
         let j = first k s in
         let g = t.goes j.0 j.1 (was_used k s) in
@@ -99,7 +99,7 @@ module _ {S : Type 0} {stands : S → Standing} {knows : S → Known → Type 0}
         let d = did_then [] (Reserve n ∷ []) j.2 (goes_did g.2) in
         (g.0, g.1, Reserve n ∷ [], record { did = d; is = reserved n some; window = window_act (Reserve n) d tt tt; grounds = tt; shows = (gains n u k g.0 some g.3.0 g.3.1 e (subst (λ (h : Holdings). words_at u h.ranges ≡ []) j.4 g.3.3), reserved_steps n k g.0 some (two_steps k j.0 g.0 j.5 g.2.taken)) }))
 
-    pub reserve_lost : {c : S} (found : ℕ) → ((k : Known) → knows a k → k.config.words ≡ words) → Took stands knows b c (ReserveLost n u found ∷ []) (WasUsed u) (ShowsRange u n (Err found)) → Called knows a c anything (λ j k. reserve n) (Err (Raced u found)) (by_steps 2 keeps)
+    pub reserve_lost : {c : S} (found : ℕ) → ((k : Known) → (facts a).knows k → k.config.words ≡ words) → Took facts b c (ReserveLost n u found ∷ []) (WasUsed u) (ShowsRange u n (Err found)) → Called facts a c anything (λ j k. reserve n) (Err (Raced u found)) (by_steps 2 keeps)
     reserve_lost found same t = called_by (λ k s m.
         let j = first k s in
         let g = t.goes j.0 j.1 (was_used k s) in
@@ -119,9 +119,9 @@ module _ {S : Type 0} {stands : S → Standing} {knows : S → Known → Type 0}
         ))
 
     -- where nobody else does anything, the reservation is not lost
-    pub never_lost : {c : S} (found : ℕ) → (stands a).room ≡ None → MayKnow knows a anything → Took stands knows b c (ReserveLost n u found ∷ []) (WasUsed u) (ShowsRange u n (Err found)) → ⊥
+    pub never_lost : {c : S} (found : ℕ) → (facts a).stands.room ≡ None → MayKnow facts a anything → Took facts b c (ReserveLost n u found ∷ []) (WasUsed u) (ShowsRange u n (Err found)) → ⊥
     never_lost found none some t =
-        let each : ((k : Known) × knows a k × anything k) → ⊥ = λ k.
+        let each : ((k : Known) × (facts a).knows k × anything k) → ⊥ = λ k.
         let j = first k.0 k.1 in
         let g = t.goes j.0 j.1 (was_used k.0 k.1) in
         let nobody : g.2.between ≡ [] = t.alone (ap (λ (z : Standing). z.room) looked.stands_is ∙ none) j.0 j.1 (was_used k.0 k.1) in
@@ -131,11 +131,11 @@ module _ {S : Type 0} {stands : S → Standing} {knows : S → Known → Type 0}
         needs.2 (needs.1 ∙ (ap (λ (s : State). s.used) same ∙ j.3)) in
         ∥∥₁_elim some (λ x y. absurd x) each
 
-module _ {S : Type 0} {stands : S → Standing} {knows : S → Known → Type 0} {b c : S} where
-  pub reserve_owned : (n u : ℕ) → MayKnow knows b (WasUsed u) → Took stands knows b c (Reserve n ∷ []) (WasUsed u) (ShowsRange u n (Ok tt)) → MayKnow knows c (IsOwn u n)
+module _ {S : Type 0} {facts : S → Facts} {b c : S} where
+  pub reserve_owned : (n u : ℕ) → MayKnow facts b (WasUsed u) → Took facts b c (Reserve n ∷ []) (WasUsed u) (ShowsRange u n (Ok tt)) → MayKnow facts c (IsOwn u n)
   reserve_owned n u may t = may_then t (λ k s m. m) may (λ j k s m g x. own_range u n j k x.0 x.1 x.2)
 
-module _ {S : Type 0} {stands : S → Standing} {knows : S → Known → Type 0} (fits : (s : S) (k : Known) → knows s k → IsOf (stands s) k) where
+module _ {S : Type 0} {facts : S → Facts} (fits : AreOf facts) where
   -- no words are reserved by no step
-  pub reserve_none : (a : S) (n : ℕ) → n ≡ 0 → Called knows a a anything (λ j k. reserve n) (Ok tt) (by_steps (reserve_steps n) (Gains n 0))
-  reserve_none a n e = subst (λ m. Called knows a a anything (λ j k. reserve m) (Ok tt) (by_steps (reserve_steps m) (Gains m 0))) (sym e) (called_none fits (λ k s m f. (refl, refl, refl)) (λ k. tt) (λ k. (refl, no_step k)))
+  pub reserve_none : (a : S) (n : ℕ) → n ≡ 0 → Called facts a a anything (λ j k. reserve n) (Ok tt) (by_steps (reserve_steps n) (Gains n 0))
+  reserve_none a n e = subst (λ m. Called facts a a anything (λ j k. reserve m) (Ok tt) (by_steps (reserve_steps m) (Gains m 0))) (sym e) (called_none fits (λ k s m f. (refl, refl, refl)) (λ k. tt) (λ k. (refl, no_step k)))

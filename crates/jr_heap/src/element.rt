@@ -23,11 +23,11 @@ use jr_word::{Fault, HeaderParts, Kind};
 
 /// The element at an index of a present object: E5 of a plain object, E7 past its length. It is a word of the object's kind.
 pub fn read<S: Steps>(steps: &mut S, object: u16, index: u32) -> Result<u64, Fault>
-    requires role { (S.stands steps.old).role ≡ Within }
-    requires object { MayKnow S.knows steps.old (HasObject object) }
-    ensures stands { S.stands steps.new ≡ S.stands steps.old }
-    ensures call { Called S.knows steps.old steps.new (HasObject object) (λ j k. reading (state_of k) object index) result (by_steps (1 + element_steps result) (λ j k. Relearns object j k × ShowsElementOf object result k)) }
-    ensures object { MayKnow S.knows steps.new (HasObject object) }
+    requires role { (S.facts steps.old).stands.role ≡ Within }
+    requires object { MayKnow S.facts steps.old (HasObject object) }
+    ensures stands { (S.facts steps.new).stands ≡ (S.facts steps.old).stands }
+    ensures call { Called S.facts steps.old steps.new (HasObject object) (λ j k. reading (state_of k) object index) result (by_steps (1 + element_steps result) (λ j k. Relearns object j k × ShowsElementOf object result k)) }
+    ensures object { MayKnow S.facts steps.new (HasObject object) }
 {
     let header = header(steps, object);
     read_element(steps, object, header, index)
@@ -40,12 +40,12 @@ pub fn read_element<S: Steps>(
     header: HeaderParts,
     index: u32,
 ) -> Result<u64, Fault>
-    requires role { (S.stands steps.old).role ≡ Within }
-    requires known { MayKnow S.knows steps.old (HoldsHeader object header) }
-    ensures stands { S.stands steps.new ≡ S.stands steps.old }
-    ensures call { Called S.knows steps.old steps.new (HoldsHeader object header) (λ j k. reading (state_of k) object index) result (by_steps (element_steps result) (λ j k. LeavesObject object header j k × ReadsOfKind header.kind result k)) }
+    requires role { (S.facts steps.old).stands.role ≡ Within }
+    requires known { MayKnow S.facts steps.old (HoldsHeader object header) }
+    ensures stands { (S.facts steps.new).stands ≡ (S.facts steps.old).stands }
+    ensures call { Called S.facts steps.old steps.new (HoldsHeader object header) (λ j k. reading (state_of k) object index) result (by_steps (element_steps result) (λ j k. LeavesObject object header j k × ReadsOfKind header.kind result k)) }
     ensures value { IfOk result (λ v. is_value_of header.kind v ≡ true) }
-    ensures known { MayKnow S.knows steps.new (HoldsHeader object header) }
+    ensures known { MayKnow S.facts steps.new (HoldsHeader object header) }
 {
     if is_plain(header.kind) {
         return Err(Fault::NotArray);
@@ -58,11 +58,11 @@ pub fn read_element<S: Steps>(
 
 /// Writes the element at an index of a present object: E5 of a plain object or a string, E7 past its length, E18 where the word is not of its kind, all before the write. A word of an object array is 0 or a present object's number.
 pub fn write<S: Steps>(steps: &mut S, object: u16, index: u32, word: u64) -> Result<(), Fault>
-    requires role { (S.stands steps.old).role ≡ Within }
-    requires object { MayKnow S.knows steps.old (λ k. HasObject object k × MayBeNamedIn object word k) }
-    ensures stands { S.stands steps.new ≡ S.stands steps.old }
-    ensures call { Called S.knows steps.old steps.new (λ k. HasObject object k × MayBeNamedIn object word k) (λ j k. writing (state_of k) object index word) result (by_steps (1 + element_steps result) (Relearns object)) }
-    ensures object { MayKnow S.knows steps.new (HasObject object) }
+    requires role { (S.facts steps.old).stands.role ≡ Within }
+    requires object { MayKnow S.facts steps.old (λ k. HasObject object k × MayBeNamedIn object word k) }
+    ensures stands { (S.facts steps.new).stands ≡ (S.facts steps.old).stands }
+    ensures call { Called S.facts steps.old steps.new (λ k. HasObject object k × MayBeNamedIn object word k) (λ j k. writing (state_of k) object index word) result (by_steps (1 + element_steps result) (Relearns object)) }
+    ensures object { MayKnow S.facts steps.new (HasObject object) }
 {
     let header = header(steps, object);
     write_element(steps, object, header, index, word)
@@ -76,11 +76,11 @@ pub fn write_element<S: Steps>(
     index: u32,
     word: u64,
 ) -> Result<(), Fault>
-    requires role { (S.stands steps.old).role ≡ Within }
-    requires known { MayKnow S.knows steps.old (λ k. HoldsHeader object header k × MayBeNamed header.kind word k) }
-    ensures stands { S.stands steps.new ≡ S.stands steps.old }
-    ensures call { Called S.knows steps.old steps.new (λ k. HoldsHeader object header k × MayBeNamed header.kind word k) (λ j k. writing (state_of k) object index word) result (by_steps (element_steps result) (LeavesObject object header)) }
-    ensures known { MayKnow S.knows steps.new (HoldsHeader object header) }
+    requires role { (S.facts steps.old).stands.role ≡ Within }
+    requires known { MayKnow S.facts steps.old (λ k. HoldsHeader object header k × MayBeNamed header.kind word k) }
+    ensures stands { (S.facts steps.new).stands ≡ (S.facts steps.old).stands }
+    ensures call { Called S.facts steps.old steps.new (λ k. HoldsHeader object header k × MayBeNamed header.kind word k) (λ j k. writing (state_of k) object index word) result (by_steps (element_steps result) (LeavesObject object header)) }
+    ensures known { MayKnow S.facts steps.new (HoldsHeader object header) }
 {
     if is_constant(header.kind) {
         return Err(Fault::NotArray);

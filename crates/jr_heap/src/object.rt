@@ -55,13 +55,13 @@ pub fn publish<S: Steps>(
     kind: Kind,
     range: Range,
 ) -> Result<u16, Fault>
-    requires role { (S.stands steps.old).role ≡ Within }
+    requires role { (S.facts steps.old).stands.role ≡ Within }
     requires plain { kind ≡ Plain → size_of range ≡ 0 }
-    requires ready { MayKnow S.knows steps.old (IsReady kind (place_of range) (size_of range)) }
-    ensures stands { S.stands steps.new ≡ S.stands steps.old }
-    ensures call { Called S.knows steps.old steps.new (IsReady kind (place_of range) (size_of range)) (λ j k. publication kind (own_words (place_of range) (size_of range) j)) result (by_at_most (S.stands steps.old).config.objects (Publishes kind (place_of range) (size_of range) result)) }
-    ensures object { IfOk result (λ o. MayKnow S.knows steps.new (HasObject o)) }
-    ensures known { IfOk result (λ o. MayKnow S.knows steps.new (HoldsHeader o (header_of kind (place_of range) (size_of range)))) }
+    requires ready { MayKnow S.facts steps.old (IsReady kind (place_of range) (size_of range)) }
+    ensures stands { (S.facts steps.new).stands ≡ (S.facts steps.old).stands }
+    ensures call { Called S.facts steps.old steps.new (IsReady kind (place_of range) (size_of range)) (λ j k. publication kind (own_words (place_of range) (size_of range) j)) result (by_at_most (S.facts steps.old).stands.config.objects (Publishes kind (place_of range) (size_of range) result)) }
+    ensures object { IfOk result (λ o. MayKnow S.facts steps.new (HasObject o)) }
+    ensures known { IfOk result (λ o. MayKnow S.facts steps.new (HoldsHeader o (header_of kind (place_of range) (size_of range)))) }
 {
     let header = range.header(kind);
     let objects = steps.config().objects;
@@ -78,11 +78,11 @@ pub fn publish<S: Steps>(
 
 /// The header of a present object. It holds until the pass leaves.
 pub fn header<S: Steps>(steps: &mut S, object: u16) -> HeaderParts
-    requires role { (S.stands steps.old).role ≡ Within }
-    requires object { MayKnow S.knows steps.old (HasObject object) }
-    ensures stands { S.stands steps.new ≡ S.stands steps.old }
-    ensures call { Called S.knows steps.old steps.new (HasObject object) (λ j k. header_call (state_of k) object) (Ok (result.kind, result.length)) (by_steps 1 (Learns object result)) }
-    ensures known { MayKnow S.knows steps.new (HoldsHeader object result) }
+    requires role { (S.facts steps.old).stands.role ≡ Within }
+    requires object { MayKnow S.facts steps.old (HasObject object) }
+    ensures stands { (S.facts steps.new).stands ≡ (S.facts steps.old).stands }
+    ensures call { Called S.facts steps.old steps.new (HasObject object) (λ j k. header_call (state_of k) object) (Ok (result.kind, result.length)) (by_steps 1 (Learns object result)) }
+    ensures known { MayKnow S.facts steps.new (HoldsHeader object result) }
 {
     steps.see_header(object).unwrap()
 }

@@ -32,12 +32,12 @@ impl Range {
 
 /// Reserves so many words, by one look at the top and one exchange; none are reserved by no step. E10 with the number of words that are reserved where these don't fit beside them; E12 with what was looked at and what was found where another thread reserved words in between, and so never over plain words.
 pub fn reserve<S: Steps>(steps: &mut S, words: u32) -> Result<Range, Fault>
-    requires role { (S.stands steps.old).role ≡ Within }
-    ensures stands { S.stands steps.new ≡ S.stands steps.old }
-    ensures ok { IfOk result (λ r. (size_of r ≡ words) × Called S.knows steps.old steps.new anything (λ j k. reservation words) (Ok tt) (by_steps (reserve_steps words) (Gains words (place_of r)))) }
-    ensures own { IfOk result (λ r. MayKnow S.knows steps.new (IsOwn (place_of r) (size_of r))) }
-    ensures err { IfErr result (λ e. Called S.knows steps.old steps.new anything (λ j k. reservation words) (Err e) (by_steps (refused_steps e) keeps)) }
-    ensures alone { (S.stands steps.old).room ≡ None → IfErr result IsNotRaced }
+    requires role { (S.facts steps.old).stands.role ≡ Within }
+    ensures stands { (S.facts steps.new).stands ≡ (S.facts steps.old).stands }
+    ensures ok { IfOk result (λ r. (size_of r ≡ words) × Called S.facts steps.old steps.new anything (λ j k. reservation words) (Ok tt) (by_steps (reserve_steps words) (Gains words (place_of r)))) }
+    ensures own { IfOk result (λ r. MayKnow S.facts steps.new (IsOwn (place_of r) (size_of r))) }
+    ensures err { IfErr result (λ e. Called S.facts steps.old steps.new anything (λ j k. reservation words) (Err e) (by_steps (refused_steps e) keeps)) }
+    ensures alone { (S.facts steps.old).stands.room ≡ None → IfErr result IsNotRaced }
 {
     if words == 0 {
         return Ok(Range {
@@ -61,12 +61,12 @@ pub fn reserve<S: Steps>(steps: &mut S, words: u32) -> Result<Range, Fault>
 
 /// Fills a range of the pass's own with a word.
 pub fn fill<S: Steps>(steps: &mut S, range: &Range, word: u64)
-    requires role { (S.stands steps.old).role ≡ Within }
-    requires own { MayKnow S.knows steps.old (IsOwn (place_of range.now) (size_of range.now)) }
-    ensures stands { S.stands steps.new ≡ S.stands steps.old }
-    ensures call { Called S.knows steps.old steps.new (IsOwn (place_of range.now) (size_of range.now)) (λ j k. no_act) (Ok tt) (by_steps (size_of range.now) (Fills (place_of range.now) (size_of range.now) word)) }
-    ensures own { MayKnow S.knows steps.new (IsOwn (place_of range.now) (size_of range.now)) }
-    ensures ready { (kind : Kind) → MayKnow S.knows steps.old (λ k. IsOwn (place_of range.now) (size_of range.now) k × IsWordNow kind word k) → MayKnow S.knows steps.new (IsReady kind (place_of range.now) (size_of range.now)) }
+    requires role { (S.facts steps.old).stands.role ≡ Within }
+    requires own { MayKnow S.facts steps.old (IsOwn (place_of range.now) (size_of range.now)) }
+    ensures stands { (S.facts steps.new).stands ≡ (S.facts steps.old).stands }
+    ensures call { Called S.facts steps.old steps.new (IsOwn (place_of range.now) (size_of range.now)) (λ j k. no_act) (Ok tt) (by_steps (size_of range.now) (Fills (place_of range.now) (size_of range.now) word)) }
+    ensures own { MayKnow S.facts steps.new (IsOwn (place_of range.now) (size_of range.now)) }
+    ensures ready { (kind : Kind) → MayKnow S.facts steps.old (λ k. IsOwn (place_of range.now) (size_of range.now) k × IsWordNow kind word k) → MayKnow S.facts steps.new (IsReady kind (place_of range.now) (size_of range.now)) }
 {
     for index in 0..range.length {
         steps.put_reserved(range.place, index, word);

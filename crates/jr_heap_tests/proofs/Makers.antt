@@ -15,7 +15,7 @@ use Rattle.jr_model.specs.History.{role_of, Did}
 use Rattle.jr_model.specs.Parts.{publish, read_element, write_element}
 use Rattle.jr_model.specs.Checks.{is_plain, is_text, is_value}
 use Rattle.jr_steps.specs.declared.known.Known.{Known}
-use Rattle.jr_steps.specs.Knowing.{Facts, Standing, IsOf, MayKnow, view, state_of, HasObject}
+use Rattle.jr_steps.specs.Knowing.{AreOf, Facts, Standing, IsOf, MayKnow, view, state_of, HasObject}
 use Rattle.jr_heap.specs.Heap.{Called, HasKind, IsOwn, IsReady, Publishes, own_words, Relearns, MayBeNamed, MayBeNamedIn}
 use Rattle.jr_heap.proofs.Elements.{read_rest, write_rest, write_last}
 use Rattle.jr_heap.proofs.StayFacts.{NoLeave, still}
@@ -61,7 +61,7 @@ kind_in (Some x) = x.kind
 kind_of_some : (k : Known) (o : ℕ) (kind : Kind) (v : ℕ) → HasKind o kind k → MayBeNamed kind v k → MayBeNamedIn o v k
 kind_of_some k o kind v x m y e is = m (sym x.2 ∙ (ap kind_in (sym x.1 ∙ e) ∙ is))
 
-module _ {S : Type 0} (facts : S → Facts) (fits : (s : S) (k : Known) → (facts s).knows k → IsOf (facts s).stands k) (a : S) (o : ℕ) (kind : Kind) where
+module _ {S : Type 0} (facts : S → Facts) (fits : AreOf facts) (a : S) (o : ℕ) (kind : Kind) where
   pub may_be_read : MayKnow facts a (HasKind o kind) → MayKnow facts a (HasObject o)
   may_be_read may = ∥∥₁_map may (λ k. (k.0, k.1, kind_present o kind k.0 k.2))
 

@@ -23,7 +23,7 @@ use Rattle.jr_steps.specs.declared.known.Known.{Known}
 use Rattle.jr_steps.specs.Acts.{handle_of}
 use Rattle.jr_steps.specs.Collecting.{ShowsLocal, CanWipe, CanDrop, ShowsDropped, CanSettle}
 use Rattle.jr_steps.specs.Says.{local_parts}
-use Rattle.jr_steps.specs.Knowing.{Standing, IsOf, Goes, Took, Saw, MayKnow, anything, view, state_of, keeps, lets_go, IsSettled, CanReopen, ShowsHeader, ShowsSlot}
+use Rattle.jr_steps.specs.Knowing.{AreOf, Facts, Standing, IsOf, Goes, Took, Saw, MayKnow, anything, view, state_of, keeps, lets_go, IsSettled, CanReopen, ShowsHeader, ShowsSlot}
 use Rattle.jr_steps.proofs.CollectorFacts.{same_tables, tables_seen, sees_more, goes_act}
 use Rattle.jr_steps.proofs.StepFacts.{may_then, took_less}
 use Rattle.jr_model.proofs.InRoom.{in_room}
@@ -37,12 +37,12 @@ parts_free (Some o) e = absurd cc
 abbrev pub HasNoneTo : ℕ → ℕ → Known → Known → Type 0
 HasNoneTo t n j k = keeps j k × ((p : ℕ) → p < n → (state_of k).locals t p ≡ None)
 
-module _ {S : Type 0} {stands : S → Standing} {knows : S → Known → Type 0} (fits : (s : S) (k : Known) → knows s k → IsOf (stands s) k) (t : ℕ) where
-  pub one_looked : {a b c : S} {i : ℕ} → (stands a).role ≡ Collecting → Saw stands knows a b anything (HasNoneTo t i) → Took stands knows b c [] anything (λ j k. ShowsLocal t i local.Free k × keeps j k) → Saw stands knows a c anything (HasNoneTo t (i + 1))
+module _ {S : Type 0} {facts : S → Facts} (fits : AreOf facts) (t : ℕ) where
+  pub one_looked : {a b c : S} {i : ℕ} → (facts a).stands.role ≡ Collecting → Saw facts a b anything (HasNoneTo t i) → Took facts b c [] anything (λ j k. ShowsLocal t i local.Free k × keeps j k) → Saw facts a c anything (HasNoneTo t (i + 1))
   one_looked {a} {b} {i = i} collects p q = record {
     stands_is = q.stands_is ∙ p.stands_is;
-    sees = λ k s m.
-        let x = p.sees k s tt in
+    leads = λ k s m.
+        let x = p.leads k s tt in
         let y = q.goes x.0 x.1 tt in
         let same = same_tables y.2 ((fits b x.0 x.1).role ∙ (ap (λ (z : Standing). z.role) p.stands_is ∙ collects)) in (
           y.0,
@@ -135,17 +135,17 @@ can_settle k e = record {
 pub can_reopen : (k : Known) → IsEmptied k → CanReopen k
 can_reopen k e = (λ o x is. absurd (let z = sym (e.1 o) ∙ is in cc), e.0)
 
-module _ {S : Type 0} {stands : S → Standing} {knows : S → Known → Type 0} (fits : (s : S) (k : Known) → knows s k → IsOf (stands s) k) where
+module _ {S : Type 0} {facts : S → Facts} (fits : AreOf facts) where
   abbrev pub NoLocalsBelow : ℕ → Known → Type 0
   NoLocalsBelow n k = IsSettled k × ((t p : ℕ) → t < n → (state_of k).locals t p ≡ None)
 
-  pub looked_thread : {a b : S} (t : ℕ) → (stands a).role ≡ Collecting → Saw stands knows a b anything (λ j k. keeps j k × ((p : ℕ) → p < (stands a).config.locals → (state_of k).locals t p ≡ None)) → MayKnow knows a (NoLocalsBelow t) → MayKnow knows b (NoLocalsBelow (t + 1))
+  pub looked_thread : {a b : S} (t : ℕ) → (facts a).stands.role ≡ Collecting → Saw facts a b anything (λ j k. keeps j k × ((p : ℕ) → p < (facts a).stands.config.locals → (state_of k).locals t p ≡ None)) → MayKnow facts a (NoLocalsBelow t) → MayKnow facts b (NoLocalsBelow (t + 1))
   looked_thread {a} {b} t collects took may = ∥∥₁_map may (λ k.
-      let y = took.sees k.0 k.1 tt in
+      let y = took.leads k.0 k.1 tt in
       let same = tables_seen y.2 ((fits a k.0 k.1).role ∙ collects) in
       let of = fits b y.0 y.1 in
       let room = in_room (y.0).config (y.0).last (y.0).seen of.legal in
-      let sizes : (y.0).config.locals ≡ (stands a).config.locals = ap (λ (c : Config). c.locals) (of.config ∙ ap (λ (z : Standing). z.config) took.stands_is) in (
+      let sizes : (y.0).config.locals ≡ (facts a).stands.config.locals = ap (λ (c : Config). c.locals) (of.config ∙ ap (λ (z : Standing). z.config) took.stands_is) in (
         y.0,
         y.1,
         (
@@ -164,8 +164,8 @@ module _ {S : Type 0} {stands : S → Standing} {knows : S → Known → Type 0}
           go (Some o) e = none p (some p o e)
 
   -- no local reference stands where none of the room's threads has one
-  no_locals : {a : S} (k : Known) → knows a k → (stands a).config.threads ≡ 2 → NoLocalsBelow 2 k → (t p : ℕ) → (state_of k).locals t p ≡ None
-  no_locals {a} k s two none t p = go ((state_of k).locals t p) refl
+  no_locals : (a : S) (k : Known) → (facts a).knows k → (facts a).stands.config.threads ≡ 2 → NoLocalsBelow 2 k → (t p : ℕ) → (state_of k).locals t p ≡ None
+  no_locals a k s two none t p = go ((state_of k).locals t p) refl
     where
       go : (z : Option ℕ) → (state_of k).locals t p ≡ z → (state_of k).locals t p ≡ None
       go None e = e
@@ -176,8 +176,8 @@ module _ {S : Type 0} {stands : S → Standing} {knows : S → Known → Type 0}
           none.1 t p (omega arith)
 
   -- nor another reference than the slot's, where there is no other slot
-  no_others : {a : S} (r : Found) (n o : ℕ) (k : Known) → knows a k → (stands a).config.slots ≡ 1 → ShowsSlot 0 (slot.Weak 0 (Some o)) k → (g : Handle) → the_weak ≢ g → (state_of k).refs g ≡ Stale
-  no_others {a} r n o k s one shown g ne = dite (ℕ_discrete g.index 0)
+  no_others : (a : S) (r : Found) (n o : ℕ) (k : Known) → (facts a).knows k → (facts a).stands.config.slots ≡ 1 → ShowsSlot 0 (slot.Weak 0 (Some o)) k → (g : Handle) → the_weak ≢ g → (state_of k).refs g ≡ Stale
+  no_others a r n o k s one shown g ne = dite (ℕ_discrete g.index 0)
       (λ e. (shown.stands).alone g e (λ q. absurd (ne (sym q))))
       (λ far. go ((state_of k).refs g) refl far)
     where
@@ -194,7 +194,7 @@ module _ {S : Type 0} {stands : S → Standing} {knows : S → Known → Type 0}
       go Cleared e far = absurd (far (given (λ z. let y = sym e ∙ z in cc)))
 
   -- THE SLOT WAS LOOKED AT
-  pub bare_looked : {a b : S} (o : ℕ) → (stands a).role ≡ Collecting → (stands b).config.threads ≡ 2 → (stands b).config.slots ≡ 1 → Took stands knows a b [] anything (λ j k. ShowsSlot 0 (slot.Weak 0 (Some o)) k × keeps j k) → MayKnow knows a (NoLocalsBelow 2) → MayKnow knows b (IsBare the_weak (Object o))
+  pub bare_looked : {a b : S} (o : ℕ) → (facts a).stands.role ≡ Collecting → (facts b).stands.config.threads ≡ 2 → (facts b).stands.config.slots ≡ 1 → Took facts a b [] anything (λ j k. ShowsSlot 0 (slot.Weak 0 (Some o)) k × keeps j k) → MayKnow facts a (NoLocalsBelow 2) → MayKnow facts b (IsBare the_weak (Object o))
   bare_looked {a} {b} o collects two one took may = ∥∥₁_map may (λ k.
       let y = took.goes k.0 k.1 tt in
       let same = same_tables y.2 ((fits a k.0 k.1).role ∙ collects) in
@@ -203,24 +203,24 @@ module _ {S : Type 0} {stands : S → Standing} {knows : S → Known → Type 0}
         y.1,
         record {
           settled = none.0;
-          locals = no_locals y.0 y.1 two none;
+          locals = no_locals _ y.0 y.1 two none;
           is = ((y.3.0).stands).found;
-          others = no_others (Object o) 0 o y.0 y.1 one y.3.0;
+          others = no_others _ (Object o) 0 o y.0 y.1 one y.3.0;
         },
       ))
 
   -- a load that leaves what is moved
-  pub bare_kept : {a b : S} {shows : Known → Known → Type 0} (r : Found) → (stands a).role ≡ Collecting → Took stands knows a b [] anything shows → ((k k' : Known) → shows k k' → k'.holdings.moving ≡ k.holdings.moving) → MayKnow knows a (IsBare the_weak r) → MayKnow knows b (IsBare the_weak r)
+  pub bare_kept : {a b : S} {shows : Known → Known → Type 0} (r : Found) → (facts a).stands.role ≡ Collecting → Took facts a b [] anything shows → ((k k' : Known) → shows k k' → k'.holdings.moving ≡ k.holdings.moving) → MayKnow facts a (IsBare the_weak r) → MayKnow facts b (IsBare the_weak r)
   bare_kept {a} r collects took still may = may_then took (λ k s m. tt) may (λ k k' s m g x. bare_still the_weak refl r k k' g ((fits a k s).role ∙ collects) (still k k' x) m)
 
-  pub bare_wipe : {a : S} (o : ℕ) → MayKnow knows a (IsBare the_weak (Object o)) → MayKnow knows a (CanWipe 0 0 o)
-  bare_wipe o may = ∥∥₁_map may (λ k. (k.0, k.1, (k.2.is, unreached the_weak refl (Object o) k.0 k.2 o)))
+  pub bare_wipe : (a : S) (o : ℕ) → MayKnow facts a (IsBare the_weak (Object o)) → MayKnow facts a (CanWipe 0 0 o)
+  bare_wipe a o may = ∥∥₁_map may (λ k. (k.0, k.1, (k.2.is, unreached the_weak refl (Object o) k.0 k.2 o)))
 
   -- nothing but an object stands
   abbrev pub IsWiped : ℕ → Known → Type 0
   IsWiped o k = IsBare the_weak Cleared k × IsPresent (state_of k) o
 
-  pub bare_wiped : {a b : S} (o : ℕ) → (stands a).role ≡ Collecting → Took stands knows a b (Clear the_weak ∷ []) (CanWipe 0 0 o) keeps → MayKnow knows a (IsBare the_weak (Object o)) → MayKnow knows b (IsWiped o)
+  pub bare_wiped : {a b : S} (o : ℕ) → (facts a).stands.role ≡ Collecting → Took facts a b (Clear the_weak ∷ []) (CanWipe 0 0 o) keeps → MayKnow facts a (IsBare the_weak (Object o)) → MayKnow facts b (IsWiped o)
   bare_wiped {a} o collects took may = may_then took (λ k s m. (m.is, unreached the_weak refl (Object o) k m o)) may (λ k k' s m g x.
       let role = (fits a k s).role ∙ collects in
       let there = (named_is_present k.config k.last k.seen (fits a k s).legal).0 the_weak o m.is in
@@ -228,7 +228,7 @@ module _ {S : Type 0} {stands : S → Standing} {knows : S → Known → Type 0}
       let same = y.1 in
       (bare_cleared the_weak refl (Object o) k k' g role x m, subst (λ z. IsSome z) (sym (ap (λ (s : State). s.objects o) y.2 ∙ ap (λ (f : ℕ → Option Contents). f o) same.objects)) there))
 
-  pub wiped_kept : {a b : S} {shows : Known → Known → Type 0} (o : ℕ) → (stands a).role ≡ Collecting → Took stands knows a b [] anything shows → ((k k' : Known) → shows k k' → k'.holdings.moving ≡ k.holdings.moving) → MayKnow knows a (IsWiped o) → MayKnow knows b (IsWiped o)
+  pub wiped_kept : {a b : S} {shows : Known → Known → Type 0} (o : ℕ) → (facts a).stands.role ≡ Collecting → Took facts a b [] anything shows → ((k k' : Known) → shows k k' → k'.holdings.moving ≡ k.holdings.moving) → MayKnow facts a (IsWiped o) → MayKnow facts b (IsWiped o)
   wiped_kept {a} o collects took still may = may_then took (λ k s m. tt) may (λ k k' s m g x.
       let role = (fits a k s).role ∙ collects in
       let same = same_tables g role in
@@ -248,11 +248,11 @@ module _ {S : Type 0} {stands : S → Standing} {knows : S → Known → Type 0}
           (λ ne w. absurd (let z = sym (b.others h ne) ∙ w in cc))
           (subst (λ z. z ≡ Object o) (at_handle (λ z. (state_of k).refs h ≡ z) (λ z. (state_of k).refs h) the_weak h ((state_of k).refs h) (λ q. refl) (λ q. refl)) e)
 
-  pub wiped_drop : {a : S} (o : ℕ) → MayKnow knows a (IsWiped o) → MayKnow knows a (CanDrop o)
-  wiped_drop o may = ∥∥₁_map may (λ k. (k.0, k.1, wiped_can o k.0 k.2))
+  pub wiped_drop : (a : S) (o : ℕ) → MayKnow facts a (IsWiped o) → MayKnow facts a (CanDrop o)
+  wiped_drop a o may = ∥∥₁_map may (λ k. (k.0, k.1, wiped_can o k.0 k.2))
 
   -- THE OBJECT WAS DROPPED, in a room of one object
-  pub emptied : {a b : S} → (stands a).role ≡ Collecting → (stands a).config.objects ≡ 1 → Took stands knows a b (Drop 1 ∷ []) (CanDrop 1) (ShowsDropped 1) → MayKnow knows a (IsWiped 1) → MayKnow knows b IsEmptied
+  pub emptied : {a b : S} → (facts a).stands.role ≡ Collecting → (facts a).stands.config.objects ≡ 1 → Took facts a b (Drop 1 ∷ []) (CanDrop 1) (ShowsDropped 1) → MayKnow facts a (IsWiped 1) → MayKnow facts b IsEmptied
   emptied {a} {b} collects one took may = ∥∥₁_map may (λ k.
       let x = took.goes k.0 k.1 (wiped_can 1 k.0 k.2) in
       let y = goes_act x.2 ((fits a k.0 k.1).role ∙ collects) in
@@ -264,15 +264,15 @@ module _ {S : Type 0} {stands : S → Standing} {knows : S → Known → Type 0}
         (ap (λ (g : Holdings). g.moving) x.3 ∙ (k.2.0).settled, none_left (x.0).config (state_of x.0) objects (in_room (x.0).config (x.0).last (x.0).seen of.legal).objects gone),
       ))
 
-  pub emptied_kept : {a b : S} {shows : Known → Known → Type 0} → (stands a).role ≡ Collecting → Took stands knows a b [] anything shows → ((k k' : Known) → shows k k' → k'.holdings.moving ≡ k.holdings.moving) → MayKnow knows a IsEmptied → MayKnow knows b IsEmptied
+  pub emptied_kept : {a b : S} {shows : Known → Known → Type 0} → (facts a).stands.role ≡ Collecting → Took facts a b [] anything shows → ((k k' : Known) → shows k k' → k'.holdings.moving ≡ k.holdings.moving) → MayKnow facts a IsEmptied → MayKnow facts b IsEmptied
   emptied_kept {a} collects took still may = may_then took (λ k s m. tt) may (λ k k' s m g x.
       let same = same_tables g ((fits a k s).role ∙ collects) in
       (still k k' x ∙ m.0, λ o. ap (λ (f : ℕ → Option Contents). f o) same.objects ∙ m.1 o))
 
-  pub emptied_settle : {a : S} → MayKnow knows a IsEmptied → MayKnow knows a (CanSettle 0)
-  emptied_settle may = ∥∥₁_map may (λ k. (k.0, k.1, can_settle k.0 k.2))
+  pub emptied_settle : (a : S) → MayKnow facts a IsEmptied → MayKnow facts a (CanSettle 0)
+  emptied_settle a may = ∥∥₁_map may (λ k. (k.0, k.1, can_settle k.0 k.2))
 
-  pub emptied_settled : {a b : S} → (stands a).role ≡ Collecting → Took stands knows a b (Settle 0 ∷ []) (CanSettle 0) keeps → MayKnow knows a IsEmptied → MayKnow knows b CanReopen
+  pub emptied_settled : {a b : S} → (facts a).stands.role ≡ Collecting → Took facts a b (Settle 0 ∷ []) (CanSettle 0) keeps → MayKnow facts a IsEmptied → MayKnow facts b CanReopen
   emptied_settled {a} collects took may = may_then took (λ k s m. can_settle k m) may (λ k k' s m g x.
       let y = goes_act g ((fits a k s).role ∙ collects) in
       let same = y.1 in
@@ -280,52 +280,52 @@ module _ {S : Type 0} {stands : S → Standing} {knows : S → Known → Type 0}
 
   -- FROM STEP TO STEP of a collection that takes all away
   abbrev FindsNone : ℕ → S → S → Type 0
-  FindsNone t a b = Saw stands knows a b anything (λ j k. keeps j k × ((p : ℕ) → p < (stands a).config.locals → (state_of k).locals t p ≡ None))
+  FindsNone t a b = Saw facts a b anything (λ j k. keeps j k × ((p : ℕ) → p < (facts a).stands.config.locals → (state_of k).locals t p ≡ None))
 
-  module _ {z a b c d e : S} {p : SlotParts} (r : Option HeaderParts) (two : (stands z).config.threads ≡ 2) (one : (stands z).config.slots ≡ 1) (shut : Took stands knows z a (Shut ∷ []) anything lets_go) (first : FindsNone 0 a b) (second : FindsNone 1 b c) (seen : Took stands knows c d [] anything (λ j k. ShowsSlot 0 p k × keeps j k)) (weak : p ≡ slot.Weak 0 (Some 1)) (header : Took stands knows d e [] anything (ShowsHeader 1 r)) where
-    collects_at : (stands a).role ≡ Collecting
+  module _ {z a b c d e : S} {p : SlotParts} (r : Option HeaderParts) (two : (facts z).stands.config.threads ≡ 2) (one : (facts z).stands.config.slots ≡ 1) (shut : Took facts z a (Shut ∷ []) anything lets_go) (first : FindsNone 0 a b) (second : FindsNone 1 b c) (seen : Took facts c d [] anything (λ j k. ShowsSlot 0 p k × keeps j k)) (weak : p ≡ slot.Weak 0 (Some 1)) (header : Took facts d e [] anything (ShowsHeader 1 r)) where
+    collects_at : (facts a).stands.role ≡ Collecting
     collects_at = ap (λ (s : Standing). s.role) shut.stands_is
 
-    collects_b : (stands b).role ≡ Collecting
+    collects_b : (facts b).stands.role ≡ Collecting
     collects_b = ap (λ (s : Standing). s.role) first.stands_is ∙ collects_at
 
-    collects_c : (stands c).role ≡ Collecting
+    collects_c : (facts c).stands.role ≡ Collecting
     collects_c = ap (λ (s : Standing). s.role) second.stands_is ∙ collects_b
 
-    collects_d : (stands d).role ≡ Collecting
+    collects_d : (facts d).stands.role ≡ Collecting
     collects_d = ap (λ (s : Standing). s.role) seen.stands_is ∙ collects_c
 
-    collects_e : (stands e).role ≡ Collecting
+    collects_e : (facts e).stands.role ≡ Collecting
     collects_e = ap (λ (s : Standing). s.role) header.stands_is ∙ collects_d
 
-    config_d : (stands d).config ≡ (stands z).config
+    config_d : (facts d).stands.config ≡ (facts z).stands.config
     config_d = ap (λ (s : Standing). s.config) seen.stands_is ∙ (ap (λ (s : Standing). s.config) second.stands_is ∙ (ap (λ (s : Standing). s.config) first.stands_is ∙ ap (λ (s : Standing). s.config) shut.stands_is))
 
-    pub bare_at : MayKnow knows z anything → MayKnow knows e (IsBare the_weak (Object 1))
+    pub bare_at : MayKnow facts z anything → MayKnow facts e (IsBare the_weak (Object 1))
     bare_at may =
-        let begun : MayKnow knows a (NoLocalsBelow 0) = may_then shut (λ k s m. tt) may (λ k k' s m g x. (ap (λ (h : Holdings). h.moving) x, λ t p l. absurd (omega arith))) in
+        let begun : MayKnow facts a (NoLocalsBelow 0) = may_then shut (λ k s m. tt) may (λ k k' s m g x. (ap (λ (h : Holdings). h.moving) x, λ t p l. absurd (omega arith))) in
         let looked = looked_thread 1 collects_b second (looked_thread 0 collects_at first begun) in
         bare_kept (Object 1) collects_d header (same_move 1 r) (bare_looked 1 collects_c (ap (λ (y : Config). y.threads) config_d ∙ two) (ap (λ (y : Config). y.slots) config_d ∙ one) (took_less (λ j k s. (subst (λ q. ShowsSlot 0 q k) weak s.0, s.1)) seen) looked)
 
-    module _ {f g : S} {q : SlotParts} (wiped : Took stands knows e f (Clear the_weak ∷ []) (CanWipe 0 0 1) keeps) (again : Took stands knows f g [] anything (λ j k. ShowsSlot 0 q k × keeps j k)) where
-      collects_f : (stands f).role ≡ Collecting
+    module _ {f g : S} {q : SlotParts} (wiped : Took facts e f (Clear the_weak ∷ []) (CanWipe 0 0 1) keeps) (again : Took facts f g [] anything (λ j k. ShowsSlot 0 q k × keeps j k)) where
+      collects_f : (facts f).stands.role ≡ Collecting
       collects_f = ap (λ (s : Standing). s.role) wiped.stands_is ∙ collects_e
 
-      collects_g : (stands g).role ≡ Collecting
+      collects_g : (facts g).stands.role ≡ Collecting
       collects_g = ap (λ (s : Standing). s.role) again.stands_is ∙ collects_f
 
-      pub wiped_at : MayKnow knows z anything → MayKnow knows g (IsWiped 1)
+      pub wiped_at : MayKnow facts z anything → MayKnow facts g (IsWiped 1)
       wiped_at may = wiped_kept 1 collects_f again (λ k k' x. ap (λ (h : Holdings). h.moving) x.1) (bare_wiped 1 collects_e wiped (bare_at may))
 
-      module _ {h i : S} (t : Option HeaderParts) (single : (stands z).config.objects ≡ 1) (dropped : Took stands knows g h (Drop 1 ∷ []) (CanDrop 1) (ShowsDropped 1)) (gone : Took stands knows h i [] anything (ShowsHeader 1 t)) where
-        collects_h : (stands h).role ≡ Collecting
+      module _ {h i : S} (t : Option HeaderParts) (single : (facts z).stands.config.objects ≡ 1) (dropped : Took facts g h (Drop 1 ∷ []) (CanDrop 1) (ShowsDropped 1)) (gone : Took facts h i [] anything (ShowsHeader 1 t)) where
+        collects_h : (facts h).stands.role ≡ Collecting
         collects_h = ap (λ (s : Standing). s.role) dropped.stands_is ∙ collects_g
 
-        pub collects_i : (stands i).role ≡ Collecting
+        pub collects_i : (facts i).stands.role ≡ Collecting
         collects_i = ap (λ (s : Standing). s.role) gone.stands_is ∙ collects_h
 
-        config_g : (stands g).config ≡ (stands z).config
+        config_g : (facts g).stands.config ≡ (facts z).stands.config
         config_g = ap (λ (s : Standing). s.config) again.stands_is ∙ (ap (λ (s : Standing). s.config) wiped.stands_is ∙ (ap (λ (s : Standing). s.config) header.stands_is ∙ config_d))
 
-        pub emptied_at : MayKnow knows z anything → MayKnow knows i IsEmptied
+        pub emptied_at : MayKnow facts z anything → MayKnow facts i IsEmptied
         emptied_at may = emptied_kept collects_h gone (same_move 1 t) (emptied collects_g (ap (λ (y : Config). y.objects) config_g ∙ single) dropped (wiped_at may))

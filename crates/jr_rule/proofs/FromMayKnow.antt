@@ -17,7 +17,7 @@ use Rattle.jr_rule.specs.declared.pass.Pass.{Pass}
 use Rattle.jr_steps.specs.Acts.{found_of, handle_of}
 use Rattle.jr_steps.specs.Knowing.{MayKnow, HasObject, HasOptional, HasLooked, IsFreeSlot, KnowsHeader, HasWord, IsWordNow, IsSettled}
 use Rattle.jr_steps.specs.Says.{spot}
-use Rattle.jr_rule.specs.Passes.{known_of, Knows}
+use Rattle.jr_rule.specs.Passes.{facts_of, known_of}
 use Rattle.jr_rule.specs.Slots.{CanStand}
 use Rattle.jr_model.proofs.InRoom.{in_room}
 use Rattle.jr_rule.proofs.Looked.{looked_at}
@@ -27,19 +27,19 @@ use Rattle.jr_rule.proofs.Slots.{free_fits}
 
 module _ (p : Pass) where
   -- a fact that may be known is one of what the pass knows
-  pub of_pass : {met : Known → Type 0} → MayKnow Knows p met → ∥ met (known_of p) ∥₁
+  pub of_pass : {met : Known → Type 0} → MayKnow facts_of p met → ∥ met (known_of p) ∥₁
   of_pass {met} may = ∥∥₁_map may (λ k. subst met (k.1).is k.2)
 
-  pub object_known : {T : Known → Type 0} (o : ℕ) → MayKnow Knows p (λ k. HasObject o k × T k) → HasObject o (known_of p)
+  pub object_known : {T : Known → Type 0} (o : ℕ) → MayKnow facts_of p (λ k. HasObject o k × T k) → HasObject o (known_of p)
   object_known o may = ∥∥₁_elim may (hlevel props) (λ k. subst (HasObject o) (k.1).is k.2.0)
 
-  pub object_some : {T : Known → Type 0} (o : ℕ) → MayKnow Knows p (λ k. HasObject o k × T k) → 0 < o
+  pub object_some : {T : Known → Type 0} (o : ℕ) → MayKnow facts_of p (λ k. HasObject o k × T k) → 0 < o
   object_some o may = ∥∥₁_elim may (hlevel props) (λ k. let low = ((in_room k.0.config k.0.last k.0.seen (k.1).pass.legal).objects o k.2.0).0 in omega arith)
 
-  pub serial_fits : {T : Known → Type 0} (i serial : ℕ) → MayKnow Knows p (λ k. T k × IsFreeSlot i serial k) → serial ≤ (known_of p).last
+  pub serial_fits : {T : Known → Type 0} (i serial : ℕ) → MayKnow facts_of p (λ k. T k × IsFreeSlot i serial k) → serial ≤ (known_of p).last
   serial_fits i serial may = ∥∥₁_elim may (hlevel props) (λ k. subst (λ (z : Known). serial ≤ z.last) (k.1).is (free_fits i serial k.0 k.2.1))
 
-  module _ (h : Handle) (o : Option ℕ) (may : MayKnow Knows p (HasLooked h (found_of o))) where
+  module _ (h : Handle) (o : Option ℕ) (may : MayKnow facts_of p (HasLooked h (found_of o))) where
     pub looked_can : CanStand h.kind o
     looked_can = ∥∥₁_elim may (can_prop h.kind o) (λ k. (looked_at k.0.config k.0.last h o k.0 (k.1).pass.legal k.2).can)
 
@@ -47,30 +47,30 @@ module _ (p : Pass) where
     looked_object x e = ∥∥₁_elim may (hlevel props) (λ k. let low = ((looked_at k.0.config k.0.last h o k.0 (k.1).pass.legal k.2).object x e).0 in omega arith)
 
   -- the number of an object, if one is given, is one of the room
-  pub optional_few : (o : Option ℕ) → MayKnow Knows p (HasOptional o) → (known_of p).config.objects ≤ MOST_OBJECTS → (x : ℕ) → o ≡ Some x → (0 < x) × (x < 2 ^ 16)
+  pub optional_few : (o : Option ℕ) → MayKnow facts_of p (HasOptional o) → (known_of p).config.objects ≤ MOST_OBJECTS → (x : ℕ) → o ≡ Some x → (0 < x) × (x < 2 ^ 16)
   optional_few o may few x e = ∥∥₁_elim may (hlevel props)
       (λ k. optional_fits o k.0 (k.1).pass.legal (subst (λ (z : Known). z.config.objects ≤ MOST_OBJECTS) (sym (k.1).is) few) k.2 x e)
 
   -- what a collector has to know
-  pub there_known : (o : ℕ) (h : HeaderParts) (i : ℕ) → MayKnow Knows p (IsThere o h i) → IsThere o h i (known_of p)
+  pub there_known : (o : ℕ) (h : HeaderParts) (i : ℕ) → MayKnow facts_of p (IsThere o h i) → IsThere o h i (known_of p)
   there_known o h i may = (
     ∥∥₁_elim may (hlevel props) (λ k. subst (KnowsHeader o h) (k.1).is (k.2).0),
     ∥∥₁_elim may (hlevel props) (λ k. (k.2).1),
     ∥∥₁_elim may (hlevel props) (λ k. subst (λ (z : Known). spot z.holdings.moving o h.place i ≡ h.place + i) (k.1).is (k.2).2),
   )
 
-  pub wipe_known : (i serial o : ℕ) → MayKnow Knows p (CanWipe i serial o) → CanWipe i serial o (known_of p)
+  pub wipe_known : (i serial o : ℕ) → MayKnow facts_of p (CanWipe i serial o) → CanWipe i serial o (known_of p)
   wipe_known i serial o may = (
     ∥∥₁_elim may (hlevel props) (λ k. (subst (CanWipe i serial o) (k.1).is k.2).0),
     λ r. ∥∥₁_elim may (hlevel props) (λ k. (subst (CanWipe i serial o) (k.1).is k.2).1 r),
   )
 
-  pub wipe_some : (i serial o : ℕ) → MayKnow Knows p (CanWipe i serial o) → 0 < o
+  pub wipe_some : (i serial o : ℕ) → MayKnow facts_of p (CanWipe i serial o) → 0 < o
   wipe_some i serial o may = ∥∥₁_elim may (hlevel props) (λ k.
       let present = (named_is_present k.0.config k.0.last k.0.seen (k.1).pass.legal).0 (handle_of Weak serial i) o (k.2).0 in
       let low = ((in_room k.0.config k.0.last k.0.seen (k.1).pass.legal).objects o present).0 in omega arith)
 
-  pub drop_known : (o : ℕ) → MayKnow Knows p (CanDrop o) → CanDrop o (known_of p)
+  pub drop_known : (o : ℕ) → MayKnow facts_of p (CanDrop o) → CanDrop o (known_of p)
   drop_known o may = record {
     present = ∥∥₁_elim may (hlevel props) (λ k. (subst (CanDrop o) (k.1).is k.2).present);
     unreached = λ r. ∥∥₁_elim may (hlevel props) (λ k. (subst (CanDrop o) (k.1).is k.2).unreached r);
@@ -78,7 +78,7 @@ module _ (p : Pass) where
     settled = ∥∥₁_elim may (hlevel props) (λ k. (subst (CanDrop o) (k.1).is k.2).settled);
   }
 
-  pub move_known : (o : ℕ) (h : HeaderParts) (place i v : ℕ) → MayKnow Knows p (CanMove o h place i v) → CanMove o h place i v (known_of p)
+  pub move_known : (o : ℕ) (h : HeaderParts) (place i v : ℕ) → MayKnow facts_of p (CanMove o h place i v) → CanMove o h place i v (known_of p)
   move_known o h place i v may =
       let can : ∥ CanMove o h place i v (known_of p) ∥₁ = of_pass may in record {
         known = ∥∥₁_elim can (hlevel props) (λ q. q.known);
@@ -90,13 +90,13 @@ module _ (p : Pass) where
       }
 
   -- where it is moved to lies in the array space
-  pub move_few : (o : ℕ) (h : HeaderParts) (place i v : ℕ) → MayKnow Knows p (CanMove o h place i v) → place + i < (known_of p).config.words
+  pub move_few : (o : ℕ) (h : HeaderParts) (place i v : ℕ) → MayKnow facts_of p (CanMove o h place i v) → place + i < (known_of p).config.words
   move_few o h place i v may = ∥∥₁_elim may (hlevel props) (λ k.
       let below = (k.2).room in
       let most = (lengths_fit k.0.config k.0.last k.0.seen (k.1).pass.legal).1 in
       subst (λ (z : Known). place + i < z.config.words) (k.1).is (omega arith))
 
-  pub place_known : (o : ℕ) (h : HeaderParts) (place : ℕ) → MayKnow Knows p (CanPlace o h place) → CanPlace o h place (known_of p)
+  pub place_known : (o : ℕ) (h : HeaderParts) (place : ℕ) → MayKnow facts_of p (CanPlace o h place) → CanPlace o h place (known_of p)
   place_known o h place may =
       let can : ∥ CanPlace o h place (known_of p) ∥₁ = of_pass may in record {
         known = ∥∥₁_elim can (hlevel props) (λ q. q.known);
@@ -104,18 +104,18 @@ module _ (p : Pass) where
       }
 
   -- no move is unfinished
-  pub settled_known : {T : Known → Type 0} → MayKnow Knows p (λ k. T k × IsSettled k) → IsSettled (known_of p)
+  pub settled_known : {T : Known → Type 0} → MayKnow facts_of p (λ k. T k × IsSettled k) → IsSettled (known_of p)
   settled_known may = ∥∥₁_elim may (hlevel props) (λ k. subst IsSettled (k.1).is k.2.1)
 
   -- the header that is known, the range that is held, and the word of a kind
-  pub header_known : {T : Known → Type 0} (o : ℕ) (h : HeaderParts) → MayKnow Knows p (λ k. KnowsHeader o h k × T k) → KnowsHeader o h (known_of p)
+  pub header_known : {T : Known → Type 0} (o : ℕ) (h : HeaderParts) → MayKnow facts_of p (λ k. KnowsHeader o h k × T k) → KnowsHeader o h (known_of p)
   header_known o h may = ∥∥₁_elim may (hlevel props) (λ k. subst (KnowsHeader o h) (k.1).is k.2.0)
 
-  pub header_alone : (o : ℕ) (h : HeaderParts) → MayKnow Knows p (KnowsHeader o h) → KnowsHeader o h (known_of p)
+  pub header_alone : (o : ℕ) (h : HeaderParts) → MayKnow facts_of p (KnowsHeader o h) → KnowsHeader o h (known_of p)
   header_alone o h may = ∥∥₁_elim may (hlevel props) (λ k. subst (KnowsHeader o h) (k.1).is k.2)
 
-  pub word_held : (place i : ℕ) → MayKnow Knows p (HasWord place i) → HasWord place i (known_of p)
+  pub word_held : (place i : ℕ) → MayKnow facts_of p (HasWord place i) → HasWord place i (known_of p)
   word_held place i may = ∥∥₁_elim may (hlevel props) (λ k. subst (HasWord place i) (k.1).is k.2)
 
-  pub word_known : {T : Known → Type 0} (kind : Kind) (v : ℕ) → MayKnow Knows p (λ k. T k × IsWordNow kind v k) → ∥ IsWordNow kind v (known_of p) ∥₁
+  pub word_known : {T : Known → Type 0} (kind : Kind) (v : ℕ) → MayKnow facts_of p (λ k. T k × IsWordNow kind v k) → ∥ IsWordNow kind v (known_of p) ∥₁
   word_known kind v may = ∥∥₁_map may (λ k. subst (IsWordNow kind v) (k.1).is k.2.1)

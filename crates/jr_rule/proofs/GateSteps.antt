@@ -1,5 +1,5 @@
 -- What the steps of the gate owe.
-use Rattle.std.proofs.Common.{◌≡◌, ◌≢◌, ◌⊎◌, ⊎_elim, ◌↔◌, ◌+◌, ◌^◌, ◌<◌, ◌≤◌, ℕ, zero, suc, Bool, true, false, not, IsTrue, if◌then◌else◌, Option, None, List, [], ◌∷◌, get_or, slice_set, refl, sym, ap, subst, ◌∙◌, arith, nat_eq}
+use Rattle.std.proofs.Common.{◌≡◌, ◌≢◌, ◌⊎◌, ⊎_elim, ◌+◌, ◌^◌, ◌<◌, ◌≤◌, ℕ, zero, suc, Bool, true, false, not, if◌then◌else◌, Option, None, List, [], ◌∷◌, get_or, slice_set, refl, sym, ap, subst, ◌∙◌, arith, nat_eq}
 use Rattle.std.proofs.lemmas.Bool.{cases_lt}
 use Rattle.jr_word.specs.declared.config.Config.{Config}
 use Rattle.jr_word.specs.declared.gate.GateParts.{GateParts}
@@ -9,7 +9,7 @@ use Rattle.jr_model.specs.declared.event.Role.{Role}
 use Rattle.jr_model.specs.declared.event.Role.TheVariants.{Outside, Within, Knocking, Collecting}
 use Rattle.jr_model.specs.declared.event.Act.TheVariants.{Enter, Knock, Leave, Withdraw, Shut, ShutBusy, Reopen, Meet}
 use Rattle.jr_model.specs.Maps.{update, sum_below, count_below}
-use Rattle.jr_model.specs.State.{State, IsClosed, SomebodyCollects, is_outside, not_outside}
+use Rattle.jr_model.specs.State.{State, IsClosed, is_outside, not_outside}
 use Rattle.jr_model.specs.History.{History, state, IsLegal}
 use Rattle.jr_model.proofs.Counts.{bit, count_role, count_all_false, count_single, outside_beyond, all_outside}
 use Rattle.jr_model.proofs.Gates.{IsApart, apart_state}

@@ -14,7 +14,7 @@ use Rattle.jr_steps.specs.Holdings.{InSpace}
 use Rattle.jr_steps.specs.Knowing.{IsOf, view, fresh_from, HasNoLocals, Goes, Took, TookWith}
 use Rattle.jr_rule.specs.Rule.{view_of as seats, Sat, acting, others_of, Tells}
 use Rattle.jr_rule.specs.Holding.{IsHeld}
-use Rattle.jr_rule.specs.Passes.{known_of, standing_of, Knows}
+use Rattle.jr_rule.specs.Passes.{facts_of, known_of, standing_of}
 use Rattle.jr_steps.proofs.StepFacts.{goes_did}
 
 -- who is fresh afterwards was so, and has stored no local
@@ -65,30 +65,9 @@ module _ {told : Known → ℕ → List Act → Known → Type 0} (old new : Pas
   in_a_room : Some old.seat.table_id ≡ None → ⊥
   in_a_room e = cc
 
-  -- the step was taken
-  pub took : {met : Known → Type 0} {shows : Known → Known → Type 0} (acts : List Act) → new.seat.table_id ≡ old.seat.table_id → s.acts ≡ acts → new.thread ≡ old.thread → new.role ≡ role_from old.role acts → new.fresh ≡ fresh_from old.fresh acts
-      → (met (known_of old) → shows (known_of old) s.new) → Took standing_of Knows old new acts met shows
-  took {met} {shows} acts same_table acts_are same_thread role_is fresh_is shown =
-      let g = s.goes in
-      let a = acting_is old.seat.me n new.seat.me s in record {
-        stands_is = λ i. record {
-          room = Some (same_table i);
-          config = (ap (λ (k : Known). k.config) a ∙ g.config) i;
-          last = (ap (λ (k : Known). k.last) a ∙ g.last) i;
-          thread = same_thread i;
-          role = role_is i;
-          fresh = fresh_is i;
-        };
-        goes = λ k h q.
-            let here : Goes k acts s.new = subst (λ (z : Known × List Act). Goes z.0 z.1 s.new) (λ i. (sym h.is i, acts_are i)) g in
-            let legal = subst (λ (z : Config × ℕ). IsLegal z.0 z.1 (s.new).seen) (λ i. (sym g.config i, sym g.last i)) g.legal in
-            (s.new, record { is = sym a; pass = known_is legal }, here, subst (λ z. shows z s.new) (sym h.is) (shown (subst met h.is q)));
-        alone = λ e k h q. absurd (in_a_room e);
-      }
-
-  -- the step was taken, with acts that depend on what was known
-  pub took_with : {met : Known → Type 0} {shows : Known → Known → Type 0} (acts : Known → List Act) → new.seat.table_id ≡ old.seat.table_id → s.acts ≡ acts (known_of old) → new.thread ≡ old.thread → new.role ≡ old.role → new.fresh ≡ old.fresh
-      → (met (known_of old) → shows (known_of old) s.new) → TookWith standing_of Knows old new acts met shows
+  -- the step was taken, with acts that may depend on what was known
+  pub took_with : {met : Known → Type 0} {shows : Known → Known → Type 0} (acts : Known → List Act) {role : Role} {fresh : Bool} → new.seat.table_id ≡ old.seat.table_id → s.acts ≡ acts (known_of old) → new.thread ≡ old.thread → new.role ≡ role → new.fresh ≡ fresh
+      → (met (known_of old) → shows (known_of old) s.new) → TookWith facts_of old new acts (record (standing_of old) { role = role; fresh = fresh }) met shows
   took_with {met} {shows} acts same_table acts_are same_thread role_is fresh_is shown =
       let g = s.goes in
       let a = acting_is old.seat.me n new.seat.me s in record {
@@ -106,3 +85,8 @@ module _ {told : Known → ℕ → List Act → Known → Type 0} (old new : Pas
             (s.new, record { is = sym a; pass = known_is legal }, here, subst (λ z. shows z s.new) (sym h.is) (shown (subst met h.is q)));
         alone = λ e k h q. absurd (in_a_room e);
       }
+
+  -- with acts that are the same whatever was known, too
+  pub took : {met : Known → Type 0} {shows : Known → Known → Type 0} (acts : List Act) → new.seat.table_id ≡ old.seat.table_id → s.acts ≡ acts → new.thread ≡ old.thread → new.role ≡ role_from old.role acts → new.fresh ≡ fresh_from old.fresh acts
+      → (met (known_of old) → shows (known_of old) s.new) → Took facts_of old new acts met shows
+  took acts same_table acts_are same_thread role_is fresh_is shown = took_with (λ k. acts) same_table acts_are same_thread role_is fresh_is shown

@@ -6,7 +6,7 @@ use Rattle.jr_model.specs.History.{IsLegal}
 use Rattle.jr_steps.specs.declared.known.Known.{Known}
 use Rattle.jr_rule.specs.Image.{IsImage}
 use Rattle.jr_steps.specs.Knowing.{Standing, state_of, MayKnow, anything}
-use Rattle.jr_rule.specs.Plain.{alone, Shows}
+use Rattle.jr_rule.specs.Plain.{facts_over, alone, Shows}
 use Rattle.jr_rule.specs.Shown.{IsHistoryOf, HasHistory}
 
 pub history_of : (s : Standing) (words : List ℕ) → s.last < 2 ^ 32 → (k : Known) → Shows s words k → IsHistoryOf s.config words k.last k.seen
@@ -17,5 +17,5 @@ history_of s words few k shows = record {
   image = subst (λ (c : Config). IsImage c k.last words (state_of k) (alone k.holdings)) shows.pass.config shows.image;
 }
 
-pub has_history : (s : Standing) (words : List ℕ) → s.last < 2 ^ 32 → MayKnow (Shows s) words anything → HasHistory s.config words
+pub has_history : (s : Standing) (words : List ℕ) → s.last < 2 ^ 32 → MayKnow (facts_over s) words anything → HasHistory s.config words
 has_history s words few may = ∥∥₁_map may (λ k. (k.0.last, k.0.seen, history_of s words few k.0 k.1))

@@ -39,7 +39,7 @@ use Rattle.jr_steps.specs.Holdings.{hold}
 use Rattle.jr_steps.specs.Says.{local_parts}
 use Rattle.jr_rule.specs.Image.{top_at, slot_at, local_at, header_at, element_at, IsImage}
 use Rattle.jr_steps.specs.Knowing.{Standing, standing_after, MayKnow, anything, keeps, lets_go, CanReopen, ShowsGate, ShowsSlot, HasObject, HasOptional, HasLooked, IsFreeSlot, LostClaim, KnowsHeader, HasWord, IsWordNow, IsFilled, words_for, ShowsHeader, ShowsPublished, ShowsUsed, WasUsed, ShowsRange, ShowsWord}
-use Rattle.jr_rule.specs.Plain.{alone, standing_alone, Shows}
+use Rattle.jr_rule.specs.Plain.{facts_over, alone, standing_alone, Shows}
 use Rattle.jr_rule.specs.Rule.{IsFound, IsSized, known, known_at, Makes}
 use Rattle.jr_rule.specs.Slots.{CanStand, IsReference, parts_once_free}
 use Rattle.jr_rule.proofs.ActEffects.{entered_fresh, left_role, left_fresh, gate_load_role, gate_load_fresh, slot_load_role, slot_load_fresh, putting_role, putting_spends, publishing_role, publishing_fresh, top_load_role, top_load_fresh}
@@ -84,7 +84,7 @@ module _ (LAST : ℕ) (few : LAST < 2 ^ 32) (p : PlainSteps LAST) where
   any_is_own : (T : Known → Type 0) → ((log : History) (g : Holdings) (n : ℕ) → Shows old words (own log g n) → T (own log g n)) → (k : Known) → Shows old words k → T k
   any_is_own T each k h = subst T (sym (own_is k h)) (each k.seen k.holdings k.taken (subst (Shows old words) (own_is k h) h))
 
-  each : {met : Known → Type 0} {A : Type 0} → IsProp A → MayKnow (Shows old) words met → ((log : History) (g : Holdings) (n : ℕ) → Shows old words (own log g n) → met (own log g n) → A) → A
+  each : {met : Known → Type 0} {A : Type 0} → IsProp A → MayKnow (facts_over old) words met → ((log : History) (g : Holdings) (n : ℕ) → Shows old words (own log g n) → met (own log g n) → A) → A
   each {met} {A} prop may holds = ∥∥₁_elim may prop (λ z. any_is_own (λ k. met k → A) holds z.0 z.1 z.2)
 
   -- plain words are a row that is found
@@ -139,18 +139,18 @@ module _ (LAST : ℕ) (few : LAST < 2 ^ 32) (p : PlainSteps LAST) where
   most : (log : History) (g : Holdings) (n : ℕ) → Shows old words (own log g n) → get_or words 0 0 ≤ 65600
   most log g n h = gate_most p.config (state log).role (get_or words 0 0) p.limited.threads.1 h.image.gate
 
-  pub gate_few : MayKnow (Shows old) words anything → get_or words 0 0 ≤ 65600
+  pub gate_few : MayKnow (facts_over old) words anything → get_or words 0 0 ≤ 65600
   gate_few may = each (hlevel props) may (λ log g n h m. most log g n h)
 
-  pub gate_some : (p.role ≡ Within) ⊎ (p.role ≡ Knocking) → MayKnow (Shows old) words anything → 1 ≤ get_or words 0 0
+  pub gate_some : (p.role ≡ Within) ⊎ (p.role ≡ Knocking) → MayKnow (facts_over old) words anything → 1 ≤ get_or words 0 0
   gate_some counts may = each (hlevel props) may (λ log g n h m. counted p.config LAST log 0 words h.pass.legal (alone g) h.image p.limited.threads.0 p.role counts h.pass.role)
 
   -- who collects has the gate shut
-  pub shut_some : p.role ≡ Collecting → MayKnow (Shows old) words anything → 65536 ≤ get_or words 0 0
+  pub shut_some : p.role ≡ Collecting → MayKnow (facts_over old) words anything → 65536 ≤ get_or words 0 0
   shut_some collects may = each (hlevel props) may (λ log g n h m. shut_counted p.config LAST log 0 words h.pass.legal (alone g) h.image p.limited.threads.0 (h.pass.role ∙ collects))
 
   -- the gate's word has a reading
-  pub gate_parts : (r : Option GateParts) → MayKnow (Shows old) words anything → ((q : GateParts) → IsGate q → get_or words 0 0 ≡ gate_word q → r ≡ Some q) → IsSome r
+  pub gate_parts : (r : Option GateParts) → MayKnow (facts_over old) words anything → ((q : GateParts) → IsGate q → get_or words 0 0 ≡ gate_word q → r ≡ Some q) → IsSome r
   gate_parts r may complete = each (hlevel props) may (λ log g n h m.
       let gate = h.image.gate in
       is_read r gate.parts (complete gate.parts (gate_fits p.config (state log).role (get_or words 0 0) p.limited.threads.1 gate) gate.word))
@@ -206,7 +206,7 @@ module _ (LAST : ℕ) (few : LAST < 2 ^ 32) (p : PlainSteps LAST) where
       let same = slot_word-injective s.0 q s.1 fits (sym s.2 ∙ is) in
       (s.3 ∙ ap (λ z. act_of_slot_load i name z ∷ []) same, (subst (λ z. ShowsSlot i z k') same s.4, s.5))))
 
-  pub object_some : {T : Known → Type 0} (o : ℕ) → MayKnow (Shows old) words (λ k. HasObject o k × T k) → 0 < o
+  pub object_some : {T : Known → Type 0} (o : ℕ) → MayKnow (facts_over old) words (λ k. HasObject o k × T k) → 0 < o
   object_some o may = each (hlevel props) may (λ log g n h m. ((in_room p.config LAST log h.pass.legal).objects o m.0).0)
 
   pub claimed : (i at serial : ℕ) (kind : RefKind) (o : ℕ) (q : SlotParts) (w : ℕ) → at ≡ slot_at i → i < p.config.slots → kind ≢ Local → IsReference kind serial (Some o) q → (was : SlotParts) → get_or words (slot_at i) 0 ≡ slot_word was → was ≡ slot.Free serial → w ≡ slot_word q → p.role ≡ Within
@@ -232,10 +232,10 @@ module _ (LAST : ℕ) (few : LAST < 2 ^ 32) (p : PlainSteps LAST) where
       (s.3 ∙ ap (λ z. act_of_claim i serial kind o (Err z) ∷ []) same, (subst (λ z. LostClaim i (Err z) (own log g n) k') same (s.4 m.1), t.2))))
 
   module _ (a : Handle) (o : Option ℕ) where
-    pub looked_can : MayKnow (Shows old) words (HasLooked a (found_of o)) → CanStand a.kind o
+    pub looked_can : MayKnow (facts_over old) words (HasLooked a (found_of o)) → CanStand a.kind o
     looked_can may = each (can_prop a.kind o) may (λ log g n h m. (looked_at p.config LAST a o (own log g n) h.pass.legal m).can)
 
-    pub looked_object : MayKnow (Shows old) words (HasLooked a (found_of o)) → (x : ℕ) → o ≡ Some x → 0 < x
+    pub looked_object : MayKnow (facts_over old) words (HasLooked a (found_of o)) → (x : ℕ) → o ≡ Some x → 0 < x
     looked_object may x e = each (hlevel props) may (λ log g n h m. ((looked_at p.config LAST a o (own log g n) h.pass.legal m).object x e).0)
 
     pub deleted : (at : ℕ) (q : SlotParts) (w : ℕ) → at ≡ slot_at a.index → IsReference a.kind a.serial o q → get_or words at 0 ≡ slot_word q → w ≡ slot_word (parts_once_free LAST a.serial) → p.role ≡ Within
@@ -255,7 +255,7 @@ module _ (LAST : ℕ) (few : LAST < 2 ^ 32) (p : PlainSteps LAST) where
         (λ done k' s. (s.1 other, s.2)))
 
   -- LOCAL WORDS
-  pub optional_few : (o : Option ℕ) → MayKnow (Shows old) words (HasOptional o) → (x : ℕ) → o ≡ Some x → (0 < x) × (x < 2 ^ 16)
+  pub optional_few : (o : Option ℕ) → MayKnow (facts_over old) words (HasOptional o) → (x : ℕ) → o ≡ Some x → (0 < x) × (x < 2 ^ 16)
   optional_few o may x e = each (hlevel props) may (λ log g n h m. optional_fits o (own log g n) h.pass.legal p.limited.objects.1 m x e)
 
   pub put : (i at : ℕ) (o : Option ℕ) (w : ℕ) → at ≡ local_at p.config 0 i → i < p.config.locals → w ≡ local_word (local_parts o) → p.role ≡ Within
@@ -302,7 +302,7 @@ module _ (LAST : ℕ) (few : LAST < 2 ^ 32) (p : PlainSteps LAST) where
   few_used : (log : History) (g : Holdings) (n : ℕ) → Shows old words (own log g n) → (state log).used < 2 ^ 24
   few_used log g n h = let most = (lengths_fit p.config LAST log h.pass.legal).1 in let space = p.limited.words in omega arith
 
-  pub top_first : (q : TopParts) → MayKnow (Shows old) words anything → ((z : TopParts) → IsTop z → get_or words top_at 0 ≡ top_word z → Some q ≡ Some z) → (q.used < 2 ^ 24) × (get_or words top_at 0 ≡ used_word q.used)
+  pub top_first : (q : TopParts) → MayKnow (facts_over old) words anything → ((z : TopParts) → IsTop z → get_or words top_at 0 ≡ top_word z → Some q ≡ Some z) → (q.used < 2 ^ 24) × (get_or words top_at 0 ≡ used_word q.used)
   top_first q may complete = each (hlevel props) may (λ log g n h m.
       let used = top_is (get_or words top_at 0) (Some q) (state log).used q (few_used log g n h) h.image.top complete refl in
       (subst (λ u. u < 2 ^ 24) (sym used) (few_used log g n h), h.image.top ∙ ap used_word (sym used)))
@@ -333,10 +333,10 @@ module _ (LAST : ℕ) (few : LAST < 2 ^ 32) (p : PlainSteps LAST) where
 
   -- ELEMENTS
   -- a known element, or one's own word, lies in the array space
-  pub known_few : {met : Known → Type 0} (o : ℕ) (e : HeaderParts) (i : ℕ) → MayKnow (Shows old) words met → ((k : Known) → met k → KnowsHeader o e k) → i < e.length → e.place + i < p.config.words
+  pub known_few : {met : Known → Type 0} (o : ℕ) (e : HeaderParts) (i : ℕ) → MayKnow (facts_over old) words met → ((k : Known) → met k → KnowsHeader o e k) → i < e.length → e.place + i < p.config.words
   known_few o e i may knows l = each (hlevel props) may (λ log g n h m. (h.space).elements o e (knows (own log g n) m) i l)
 
-  pub own_few : (place i : ℕ) → MayKnow (Shows old) words (HasWord place i) → place + i < p.config.words
+  pub own_few : (place i : ℕ) → MayKnow (facts_over old) words (HasWord place i) → place + i < p.config.words
   own_few place i may = each (hlevel props) may (λ log g n h m. (h.space).own place i m)
 
   pub read_element : (o : ℕ) (e : HeaderParts) (i at v : ℕ) → at ≡ element_at p.config (e.place + i) → v ≡ get_or words at 0 → i < e.length → p.role ≡ Within → Turned old words old words (λ k. Read o i v ∷ []) (KnowsHeader o e) keeps
@@ -365,7 +365,7 @@ module _ (LAST : ℕ) (few : LAST < 2 ^ 32) (p : PlainSteps LAST) where
           tells h (scans_local (own log g n) (h.pass.role ∙ collects) t place row l) (read (local_at p.config t place)) (λ done k' s.
           (s.3, (subst (λ z. ShowsLocal t place z k') (sym (read_once r s.0 q (complete s.0 s.1 (ap (λ j. get_or words j 0) here ∙ s.2)) is)) s.4, s.5))))
 
-      pub local_read : MayKnow (Shows old) words anything → IsSome r
+      pub local_read : MayKnow (facts_over old) words anything → IsSome r
       local_read may = each (hlevel props) may (λ log g n h m.
           let s = (made h (scans_local (own log g n) (h.pass.role ∙ collects) t place row l)).says in
           is_read r s.0 (complete s.0 s.1 (ap (λ j. get_or words j 0) here ∙ s.2)))
@@ -396,8 +396,8 @@ module _ (LAST : ℕ) (few : LAST < 2 ^ 32) (p : PlainSteps LAST) where
     settled_top used w word = owed (λ k. refl) (λ log g n h m.
         tells h (settles_top (own log g n) (h.pass.role ∙ collects) used m) (ap (slice_set words top_at) (sym word)) (λ done k' s. s))
 
-    pub there_few : (o : ℕ) (e : HeaderParts) (i : ℕ) → MayKnow (Shows old) words (IsThere o e i) → e.place + i < p.config.words
+    pub there_few : (o : ℕ) (e : HeaderParts) (i : ℕ) → MayKnow (facts_over old) words (IsThere o e i) → e.place + i < p.config.words
     there_few o e i may = each (hlevel props) may (λ log g n h m. (h.space).elements o e m.0 i m.1)
 
-    pub move_few : (o : ℕ) (e : HeaderParts) (place i v : ℕ) → i < e.length → MayKnow (Shows old) words (CanMove o e place i v) → place + i < p.config.words
+    pub move_few : (o : ℕ) (e : HeaderParts) (place i v : ℕ) → i < e.length → MayKnow (facts_over old) words (CanMove o e place i v) → place + i < p.config.words
     move_few o e place i v short may = each (hlevel props) may (λ log g n h m. let below = m.room in let most = (lengths_fit p.config LAST log h.pass.legal).1 in omega arith)

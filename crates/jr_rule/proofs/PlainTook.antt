@@ -12,7 +12,7 @@ use Rattle.jr_steps.specs.declared.known.Known.{Known}
 use Rattle.jr_steps.specs.declared.known.Holdings.{Holdings}
 use Rattle.jr_steps.specs.Holdings.{empty, hold}
 use Rattle.jr_steps.specs.Knowing.{Standing, standing_after, Goes, Took, TookWith, MayKnow, anything}
-use Rattle.jr_rule.specs.Plain.{alone, standing_alone, unseen, Shows}
+use Rattle.jr_rule.specs.Plain.{facts_over, alone, standing_alone, unseen, Shows}
 use Rattle.jr_rule.specs.Rule.{known_at}
 use Rattle.jr_rule.proofs.HoldingsInSpace.{holdings_in_space}
 use Rattle.jr_rule.proofs.Images.{image_same}
@@ -81,28 +81,24 @@ module _ {old new : Standing} {words words' : List ℕ} {acts : Known → List A
   shown_next k s m = let r = t.turn k s m in subst (λ z. Shows z words' (known_at k k.seen (acts k) r.0)) (sym (t.stands_is k)) (shows_then old words words' k (acts k) r.0 s r.1)
 
   -- so something is known afterwards
-  pub shown : MayKnow (Shows old) words met → MayKnow (Shows new) words' anything
+  pub shown : MayKnow (facts_over old) words met → MayKnow (facts_over new) words' anything
   shown may = ∥∥₁_map may (λ k. (known_at k.0 k.0.seen (acts k.0) (t.turn k.0 k.1 k.2).0, shown_next k.0 k.1 k.2, tt))
 
 module _ (LAST : ℕ) (s s' : PlainSteps LAST) {met : Known → Type 0} {shows : Known → Known → Type 0} where
   -- and the step was taken
-  pub took : {acts : List Act} → Turned (standing_alone s.config LAST s.role s.fresh) s.words.items (standing_alone s'.config LAST s'.role s'.fresh) s'.words.items (λ k. acts) met shows
-      → Took (λ (z : PlainSteps LAST). standing_alone z.config LAST z.role z.fresh) (λ (z : PlainSteps LAST) k. Shows (standing_alone z.config LAST z.role z.fresh) z.words.items k) s s' acts met shows
-  took {acts} t = record {
-    stands_is = t.stands_is (unseen s.config LAST);
-    goes = λ k h m. let r = t.turn k h m in (known_at k k.seen acts r.0, shown_next t k h m, goes_then k acts r.0 (r.1).legal, r.2);
-    alone = λ e k h m. let r = t.turn k h m in nobody_then k acts r.0 (r.1).legal;
-  }
-
-  -- with acts that depend on what is known, too
-  pub took_with : {acts : Known → List Act} → standing_alone s'.config LAST s'.role s'.fresh ≡ standing_alone s.config LAST s.role s.fresh
+  pub took_with : {acts : Known → List Act} {stood : Standing} → standing_alone s'.config LAST s'.role s'.fresh ≡ stood
       → Turned (standing_alone s.config LAST s.role s.fresh) s.words.items (standing_alone s'.config LAST s'.role s'.fresh) s'.words.items acts met shows
-      → TookWith (λ (z : PlainSteps LAST). standing_alone z.config LAST z.role z.fresh) (λ (z : PlainSteps LAST) k. Shows (standing_alone z.config LAST z.role z.fresh) z.words.items k) s s' acts met shows
-  took_with {acts} same t = record {
-    stands_is = same;
+      → TookWith (λ (z : PlainSteps LAST). facts_over (standing_alone z.config LAST z.role z.fresh) z.words.items) s s' acts stood met shows
+  took_with {acts} stood t = record {
+    stands_is = stood;
     goes = λ k h m. let r = t.turn k h m in (known_at k k.seen (acts k) r.0, shown_next t k h m, goes_then k (acts k) r.0 (r.1).legal, r.2);
     alone = λ e k h m. let r = t.turn k h m in nobody_then k (acts k) r.0 (r.1).legal;
   }
+
+  -- with acts that are the same whatever is known, too
+  pub took : {acts : List Act} → Turned (standing_alone s.config LAST s.role s.fresh) s.words.items (standing_alone s'.config LAST s'.role s'.fresh) s'.words.items (λ k. acts) met shows
+      → Took (λ (z : PlainSteps LAST). facts_over (standing_alone z.config LAST z.role z.fresh) z.words.items) s s' acts met shows
+  took t = took_with (t.stands_is (unseen s.config LAST)) t
 
 -- what the words show does not depend on whether the pass is fresh
 pub shows_spent : {c : Config} {last : ℕ} {r : Role} {words : List ℕ} {k : Known} (f f' : Bool) → Shows (standing_alone c last r f) words k → Shows (standing_alone c last r f') words k
@@ -112,5 +108,5 @@ shows_spent f f' s = record {
   space = s.space;
 }
 
-pub shown_spent : {c : Config} {last : ℕ} {r : Role} {words : List ℕ} (f f' : Bool) → MayKnow (Shows (standing_alone c last r f)) words anything → MayKnow (Shows (standing_alone c last r f')) words anything
+pub shown_spent : {c : Config} {last : ℕ} {r : Role} {words : List ℕ} (f f' : Bool) → MayKnow (facts_over (standing_alone c last r f)) words anything → MayKnow (facts_over (standing_alone c last r f')) words anything
 shown_spent f f' may = ∥∥₁_map may (λ k. (k.0, shows_spent f f' k.1, tt))

@@ -1,5 +1,5 @@
 -- How a step finds the row: what its pass had seen, later.
-use Rattle.std.proofs.Common.{◌≡◌, ◌≢◌, ◌==◌, ℕ, Bool, true, false, Option, List, [], ◌∷◌, ◌++◌, cond, refl, sym, ap, subst, ◌∙◌, inl, inr, ⊎_elim, append_assoc}
+use Rattle.std.proofs.Common.{◌≡◌, ◌≢◌, ℕ, Option, List, [], ◌∷◌, ◌++◌, refl, sym, ap, subst, ◌∙◌, inl, inr, ⊎_elim, append_assoc}
 use Rattle.std.proofs.lemmas.List.{append-nil}
 use Rattle.std.proofs.Math.Logic.{∥∥₁_elim}
 use Rattle.std.proofs.Props.{props}
@@ -8,11 +8,9 @@ use mathlib.Core.Logic.{dite}
 use native.Mathlib.Decide.{ℕ_discrete}
 use Rattle.jr_model.specs.declared.event.Role.TheVariants.{Outside, Within, Collecting}
 use Rattle.jr_model.specs.declared.event.Found.{Found}
-use Rattle.jr_model.specs.declared.event.Event.{Event}
 use Rattle.jr_model.specs.declared.event.Act.TheVariants.{Look, Leave}
 use Rattle.jr_model.specs.State.{Handle, Contents, State, IsPresent, IsClosed, HaveSameTables}
 use Rattle.jr_model.specs.History.{History, by, state, IsLegal, mine, role_of, role_from, Did}
-use Rattle.jr_model.proofs.Updates.{eq_false}
 use Rattle.jr_model.proofs.Histories.{legal_append, state_append, mine_append}
 use Rattle.jr_model.proofs.Gates.{apart_state}
 use Rattle.jr_model.proofs.Stays.{append_cancel, role_of_state, same_along}

@@ -7,10 +7,10 @@ use Rattle.jr_steps.specs.declared.known.Known.{Known}
 use Rattle.jr_rule.specs.declared.pass.Pass.{Pass}
 use Rattle.jr_steps.specs.Holdings.{InSpace}
 use Rattle.jr_steps.specs.Knowing.{anything, HasNoLocals, MayKnow}
-use Rattle.jr_rule.specs.Passes.{known_of, standing_of, Knows, IsAt}
+use Rattle.jr_rule.specs.Passes.{facts_of, known_of, standing_of, Knows, IsAt}
 
 -- a pass knows something
-pub some_of : (p : Pass) → MayKnow Knows p anything
+pub some_of : (p : Pass) → MayKnow facts_of p anything
 some_of p = ∥∥₁_map p.held.legal (λ l. (known_of p, record { is = refl; pass = record { config = refl; last = refl; thread = p.held.thread_is; role = p.held.role_is; legal = l } }, tt))
 
 -- a fresh pass has no local reference

@@ -11,7 +11,7 @@ use Rattle.jr_model.specs.History.{History, state, mine, IsLegal}
 use Rattle.jr_steps.specs.declared.known.Known.{Known}
 use Rattle.jr_rule.specs.declared.pass.Pass.{Pass}
 use Rattle.jr_rule.specs.declared.row.Row.{Row}
-use Rattle.jr_steps.specs.Knowing.{Standing, IsOf, Goes, state_of}
+use Rattle.jr_steps.specs.Knowing.{Facts, Standing, IsOf, Goes, state_of}
 use Rattle.jr_steps.specs.Holdings.{empty}
 use Rattle.jr_rule.specs.Rule.{known, acting}
 
@@ -26,6 +26,10 @@ standing_of p = record { room = Some p.seat.table_id; config = (known_of p).conf
 pub record Knows (p : Pass) (k : Known) : Type 0 where
   pub is : k ≡ known_of p
   pub pass : IsOf (standing_of p) k
+
+-- what a pass is, and what it knows
+abbrev pub facts_of : Pass → Facts
+facts_of p = record { stands = standing_of p; knows = Knows p }
 
 -- THE PASS IS ONE OF THE ROW'S OWN
 pub record IsAt (r : Row) (p : Pass) : Type 0 where

@@ -5,7 +5,7 @@ use Rattle.jr_model.specs.declared.event.Role.{Role}
 use Rattle.jr_steps.specs.declared.known.Known.{Known}
 use Rattle.jr_steps.specs.declared.known.Holdings.{Holdings}
 use Rattle.jr_steps.specs.Holdings.{InSpace, empty, hold}
-use Rattle.jr_steps.specs.Knowing.{Standing, IsOf, HasNoLocals, state_of}
+use Rattle.jr_steps.specs.Knowing.{Facts, Standing, IsOf, HasNoLocals, state_of}
 use Rattle.jr_rule.specs.Image.{local_at, IsImage}
 
 -- the one thread of the row: thread 0
@@ -25,6 +25,10 @@ pub record Shows (s : Standing) (words : List ℕ) (k : Known) : Type 0 where
   pub pass : IsOf s k
   pub image : IsImage k.config k.last words (state_of k) (alone k.holdings)
   pub space : InSpace k.config k.holdings
+
+-- the thread that stands so over plain words, and what may be known of it
+abbrev pub facts_over : Standing → List ℕ → Facts
+facts_over s words = record { stands = s; knows = Shows s words }
 
 -- the local words of thread 0 are 0, and so it has no local reference
 pub record IsUnused (s : Standing) (words : List ℕ) : Type 0 where

@@ -9,7 +9,7 @@ use Rattle.jr_rule.specs.declared.closing_all.AllLeft.{AllLeft}
 use Rattle.jr_rule.specs.declared.pass.Pass.{Pass}
 use Rattle.jr_rule.specs.declared.room.Room.{Room}
 use Rattle.jr_steps.specs.Knowing.{anything, keeps, state_of, Took}
-use Rattle.jr_rule.specs.Passes.{known_of, standing_of, Knows, IsAt, AreOpened}
+use Rattle.jr_rule.specs.Passes.{facts_of, known_of, IsAt, AreOpened}
 
 -- THE PASS IS ONE OF THE ROOM'S OWN
 abbrev pub IsOfRoom : {LAST : ℕ} → Room LAST → Pass → Type 0
@@ -27,7 +27,7 @@ pub record IsLeft {LAST : ℕ} (r : Room LAST) (p : Pass) (l : Left LAST) : Type
   pub is : count ≡ not_outside (known_of l.pass).config (state_of (known_of l.pass))
   pub same : l.room ≡ r
   pub of_room : IsAt r.row l.pass
-  pub took : Took standing_of Knows p l.pass (Meet ∷ []) anything keeps
+  pub took : Took facts_of p l.pass (Meet ∷ []) anything keeps
 
 -- a room is not closed, and the other passes are handed back as they are
 pub record AreLeft {LAST : ℕ} (r : Room LAST) (p : Pass) (others : List Pass) (l : AllLeft LAST) : Type 0 where

@@ -40,9 +40,9 @@ fn opened_pair(alloc: Global) -> Result<(Room<2>, Pass, Pass), Fail>
 
 /// Looks at each local word of a thread, and finds no reference.
 fn look_for_locals<S: Steps>(steps: &mut S, thread: u8) -> Result<(), Fail>
-    requires role { (S.stands steps.old).role ≡ Collecting }
-    requires thread { thread < (S.stands steps.old).config.threads }
-    ensures { IfOk result (λ _. Saw S.stands S.knows steps.old steps.new anything (λ j k. keeps j k × ((p : ℕ) → p < (S.stands steps.old).config.locals → (state_of k).locals thread p ≡ None))) }
+    requires role { (S.facts steps.old).stands.role ≡ Collecting }
+    requires thread { thread < (S.facts steps.old).stands.config.threads }
+    ensures { IfOk result (λ _. Saw S.facts steps.old steps.new anything (λ j k. keeps j k × ((p : ℕ) → p < (S.facts steps.old).stands.config.locals → (state_of k).locals thread p ≡ None))) }
 {
     let locals = steps.config().locals;
     for place in 0..locals {

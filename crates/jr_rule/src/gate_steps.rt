@@ -17,13 +17,13 @@ use jr_word::{GateParts, GateWord};
 use std::marker::Brand;
 
 impl Row {
-    ghost use Rattle.jr_rule.specs.Passes.{known_of, standing_of, Knows, IsAt, IsSame};
+    ghost use Rattle.jr_rule.specs.Passes.{facts_of, known_of, standing_of, Knows, IsAt, IsSame};
 
     pub(crate) fn go_in(&self, pass: &mut Pass) -> bool
         requires row { IsAt self.now pass.old }
         requires role { pass.old.role ≡ Outside }
         ensures row { IsAt self.now pass.new }
-        ensures step { Took standing_of Knows pass.old pass.new (act_of_entry result ∷ []) anything keeps }
+        ensures step { Took facts_of pass.old pass.new (act_of_entry result ∷ []) anything keeps }
     {
         let found = self.add::<Brand, ()>(&mut pass.seat, GATE, 1, ());
         let entered = !is_shut(found);
@@ -35,7 +35,7 @@ impl Row {
         requires row { IsAt self.now pass.old }
         requires role { (pass.old.role ≡ Within) ⊎ (pass.old.role ≡ Knocking) }
         ensures row { IsAt self.now pass.new }
-        ensures step { Took standing_of Knows pass.old pass.new (act_of_exit pass.old.role ∷ []) anything lets_go }
+        ensures step { Took facts_of pass.old pass.new (act_of_exit pass.old.role ∷ []) anything lets_go }
     {
         self.take::<Brand, ()>(&mut pass.seat, GATE, 1, ());
         pass.role = Role::Outside;
@@ -45,7 +45,7 @@ impl Row {
         requires row { IsAt self.now pass.old }
         requires role { pass.old.role ≡ Outside }
         ensures row { IsAt self.now pass.new }
-        ensures step { Took standing_of Knows pass.old pass.new (act_of_bar result ∷ []) anything (ShowsBarred result) }
+        ensures step { Took facts_of pass.old pass.new (act_of_bar result ∷ []) anything (ShowsBarred result) }
     {
         let found = self.exchange::<Brand, ()>(&mut pass.seat, GATE, 0, GateWord::SHUT, ());
         if found != 0 {
@@ -58,9 +58,9 @@ impl Row {
     pub(crate) fn unbar(&self, pass: &mut Pass)
         requires row { IsAt self.now pass.old }
         requires role { pass.old.role ≡ Collecting }
-        requires closed { MayKnow Knows pass.old CanReopen }
+        requires closed { MayKnow facts_of pass.old CanReopen }
         ensures row { IsAt self.now pass.new }
-        ensures step { Took standing_of Knows pass.old pass.new (Reopen ∷ []) CanReopen lets_go }
+        ensures step { Took facts_of pass.old pass.new (Reopen ∷ []) CanReopen lets_go }
     {
         self.take::<Brand, ()>(&mut pass.seat, GATE, GateWord::SHUT, ());
         pass.role = Role::Outside;
@@ -70,7 +70,7 @@ impl Row {
         requires row { IsAt self.now pass.old }
         requires fits { GateLoadFits pass.old.role name }
         ensures row { IsAt self.now pass.new }
-        ensures step { Took standing_of Knows pass.old pass.new (act_of_gate_load name (all_of result) ∷ []) anything (λ j k. ShowsGate result k × keeps j k) }
+        ensures step { Took facts_of pass.old pass.new (act_of_gate_load name (all_of result) ∷ []) anything (λ j k. ShowsGate result k × keeps j k) }
         ensures seen { Goes (known_of pass.old) (act_of_gate_load name (all_of result) ∷ []) (known_of pass.new) × ShowsGate result (known_of pass.new) }
     {
         let found = self.load::<Brand, GateLoad>(&mut pass.seat, GATE, name);
@@ -82,7 +82,7 @@ impl Row {
         requires row { IsAt self.now pass.old }
         requires other { IsAt self.now other }
         ensures row { IsAt self.now pass.new }
-        ensures step { Took standing_of Knows pass.old pass.new (Meet ∷ []) anything keeps }
+        ensures step { Took facts_of pass.old pass.new (Meet ∷ []) anything keeps }
         ensures met { HasMet (view (known_of other)) (view (known_of pass.new)) }
         ensures other { IsAt self.now result × IsSame other result }
     {

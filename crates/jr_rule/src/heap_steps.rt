@@ -17,14 +17,14 @@ use jr_word::{Header, HeaderParts, TopWord};
 use std::marker::Brand;
 
 impl Row {
-    ghost use Rattle.jr_rule.specs.Passes.{standing_of, Knows, IsAt};
+    ghost use Rattle.jr_rule.specs.Passes.{facts_of, standing_of, Knows, IsAt};
 
     pub(crate) fn see_header(&self, pass: &mut Pass, object: u16) -> Option<HeaderParts>
         requires row { IsAt self.now pass.old }
         requires role { pass.old.role ≡ Within }
         requires number { (1 ≤ object) × (object ≤ (standing_of pass.old).config.objects) }
         ensures row { IsAt self.now pass.new }
-        ensures step { Took standing_of Knows pass.old pass.new [] anything (ShowsHeader object result) }
+        ensures step { Took facts_of pass.old pass.new [] anything (ShowsHeader object result) }
     {
         let at = header_at(&self.config, u32::from(object));
         let found = self.load::<Brand, u16>(&mut pass.seat, at, object);
@@ -36,9 +36,9 @@ impl Row {
         requires role { pass.old.role ≡ Within }
         requires number { (1 ≤ object) × (object ≤ (standing_of pass.old).config.objects) }
         requires header { IsHeader header }
-        requires filled { MayKnow Knows pass.old (IsFilled header) }
+        requires filled { MayKnow facts_of pass.old (IsFilled header) }
         ensures row { IsAt self.now pass.new }
-        ensures step { TookWith standing_of Knows pass.old pass.new (λ k. acts_of_publication object header.kind (words_for header k) result) (IsFilled header) (ShowsPublished object header result) }
+        ensures step { TookWith facts_of pass.old pass.new (λ k. acts_of_publication object header.kind (words_for header k) result) (standing_of pass.old) (IsFilled header) (ShowsPublished object header result) }
     {
         let at = header_at(&self.config, u32::from(object));
         let new = Header::pack(header);
@@ -51,7 +51,7 @@ impl Row {
         requires row { IsAt self.now pass.old }
         requires role { pass.old.role ≡ Within }
         ensures row { IsAt self.now pass.new }
-        ensures step { Took standing_of Knows pass.old pass.new (acts_of_top_load (standing_of pass.old).config.words name result) anything (λ j k. ShowsUsed result k × keeps j k) }
+        ensures step { Took facts_of pass.old pass.new (acts_of_top_load (standing_of pass.old).config.words name result) anything (λ j k. ShowsUsed result k × keeps j k) }
     {
         let found = self.load::<Brand, TopLoad>(&mut pass.seat, TOP, name);
         TopWord::parts(found).unwrap().used
@@ -61,9 +61,9 @@ impl Row {
         requires row { IsAt self.now pass.old }
         requires role { pass.old.role ≡ Within }
         requires room { looked + more ≤ (standing_of pass.old).config.words }
-        requires looked { MayKnow Knows pass.old (WasUsed looked) }
+        requires looked { MayKnow facts_of pass.old (WasUsed looked) }
         ensures row { IsAt self.now pass.new }
-        ensures step { Took standing_of Knows pass.old pass.new (act_of_reservation looked more result ∷ []) (WasUsed looked) (ShowsRange looked more result) }
+        ensures step { Took facts_of pass.old pass.new (act_of_reservation looked more result ∷ []) (WasUsed looked) (ShowsRange looked more result) }
     {
         let old = top_word(looked);
         let new = top_word(looked + more);
@@ -85,9 +85,9 @@ impl Row {
         requires row { IsAt self.now pass.old }
         requires role { pass.old.role ≡ Within }
         requires index { index < header.length }
-        requires known { MayKnow Knows pass.old (KnowsHeader object header) }
+        requires known { MayKnow facts_of pass.old (KnowsHeader object header) }
         ensures row { IsAt self.now pass.new }
-        ensures step { Took standing_of Knows pass.old pass.new (Read object index result ∷ []) (KnowsHeader object header) keeps }
+        ensures step { Took facts_of pass.old pass.new (Read object index result ∷ []) (KnowsHeader object header) keeps }
     {
         let at = element_at(&self.config, header.place + index);
         self.load::<Brand, (u16, u32)>(&mut pass.seat, at, (object, index))
@@ -105,9 +105,9 @@ impl Row {
         requires role { pass.old.role ≡ Within }
         requires index { index < header.length }
         requires kind { header.kind ≢ Text }
-        requires known { MayKnow Knows pass.old (λ k. KnowsHeader object header k × IsWordNow header.kind word k) }
+        requires known { MayKnow facts_of pass.old (λ k. KnowsHeader object header k × IsWordNow header.kind word k) }
         ensures row { IsAt self.now pass.new }
-        ensures step { Took standing_of Knows pass.old pass.new (Write object index word ∷ []) (λ k. KnowsHeader object header k × IsWordNow header.kind word k) keeps }
+        ensures step { Took facts_of pass.old pass.new (Write object index word ∷ []) (λ k. KnowsHeader object header k × IsWordNow header.kind word k) keeps }
     {
         let at = element_at(&self.config, header.place + index);
         self.store::<Brand, (u16, u32)>(&mut pass.seat, at, word, (object, index));
@@ -116,9 +116,9 @@ impl Row {
     pub(crate) fn put_reserved(&self, pass: &mut Pass, place: u32, index: u32, word: u64)
         requires row { IsAt self.now pass.old }
         requires role { pass.old.role ≡ Within }
-        requires own { MayKnow Knows pass.old (HasWord place index) }
+        requires own { MayKnow facts_of pass.old (HasWord place index) }
         ensures row { IsAt self.now pass.new }
-        ensures step { Took standing_of Knows pass.old pass.new [] (HasWord place index) (ShowsWord place index word) }
+        ensures step { Took facts_of pass.old pass.new [] (HasWord place index) (ShowsWord place index word) }
     {
         let at = element_at(&self.config, place + index);
         self.store::<Brand, (u32, u32)>(&mut pass.seat, at, word, (place, index));

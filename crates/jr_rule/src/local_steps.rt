@@ -12,15 +12,15 @@ use jr_word::LocalWord;
 use std::marker::Brand;
 
 impl Row {
-    ghost use Rattle.jr_rule.specs.Passes.{standing_of, Knows, IsAt};
+    ghost use Rattle.jr_rule.specs.Passes.{facts_of, standing_of, Knows, IsAt};
 
     pub(crate) fn put_local(&self, pass: &mut Pass, place: u16, object: Option<u16>)
         requires row { IsAt self.now pass.old }
         requires role { pass.old.role ≡ Within }
         requires place { place < (standing_of pass.old).config.locals }
-        requires object { MayKnow Knows pass.old (HasOptional object) }
+        requires object { MayKnow facts_of pass.old (HasOptional object) }
         ensures row { IsAt self.now pass.new }
-        ensures step { Took standing_of Knows pass.old pass.new (act_of_put place object ∷ []) (HasOptional object) keeps }
+        ensures step { Took facts_of pass.old pass.new (act_of_put place object ∷ []) (HasOptional object) keeps }
     {
         let at = local_at(&self.config, pass.thread, place);
         let new = LocalWord::pack(local_parts(object));

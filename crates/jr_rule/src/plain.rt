@@ -9,7 +9,7 @@ ghost use Rattle.jr_model.specs.declared.event.Role.TheVariants.{Outside};
 ghost use Rattle.jr_rule.specs.Image.{gate_at, top_at, slot_at as place_of_slot};
 ghost use Rattle.jr_steps.specs.Knowing.{anything, MayKnow, HasNoLocals};
 ghost use Rattle.jr_steps.specs.declared.known.Known.{Known};
-ghost use Rattle.jr_rule.specs.Plain.{standing_alone, Shows, IsUnused};
+ghost use Rattle.jr_rule.specs.Plain.{facts_over, standing_alone, Shows, IsUnused};
 
 use crate::layout::{GATE, TOP, element_at, header_at, local_at, slot_at};
 use crate::parts::{
@@ -39,7 +39,7 @@ pub struct PlainSteps<const LAST: u32> {
     ghost limited: { IsLimited config },
     ghost wide: { vec_len words ≡ row_words config },
     ghost unused: { fresh ≡ true → IsUnused (standing_alone config LAST role fresh) words.items },
-    ghost shown: { MayKnow (Shows (standing_alone config LAST role fresh)) words.items anything },
+    ghost shown: { MayKnow (facts_over (standing_alone config LAST role fresh)) words.items anything },
 }
 
 impl<const LAST: u32> PlainSteps<LAST> {
@@ -110,9 +110,7 @@ impl<const LAST: u32> PlainSteps<LAST> {
 impl<const LAST: u32> Steps for PlainSteps<LAST> {
     ghost use Rattle.std.proofs.Common.{lit<};
 
-    ghost stands = { λ s. standing_alone s.config LAST s.role s.fresh };
-
-    ghost knows = { λ s k. Shows (standing_alone s.config LAST s.role s.fresh) s.words.items k };
+    ghost facts = { λ s. facts_over (standing_alone s.config LAST s.role s.fresh) s.words.items };
 
     fn config(&self) -> Config {
         self.config

@@ -22,7 +22,7 @@ pub struct RoomSteps<'a, const LAST: u32> {
 }
 
 impl<'a, const LAST: u32> RoomSteps<'a, LAST> {
-    ghost use Rattle.jr_rule.specs.Passes.{known_of, standing_of, Knows, IsSame};
+    ghost use Rattle.jr_rule.specs.Passes.{facts_of, known_of, IsSame};
     ghost use Rattle.jr_rule.specs.Rooms.{IsOfRoom};
 
     /// The steps of a pass in its own room.
@@ -45,7 +45,7 @@ impl<'a, const LAST: u32> RoomSteps<'a, LAST> {
     pub fn meet(&mut self, other: Pass) -> Pass
         requires { IsOfRoom self.old.room.now other }
         ensures room { self.new.room ≡ self.old.room }
-        ensures step { Took standing_of Knows self.old.pass self.new.pass (Meet ∷ []) anything keeps }
+        ensures step { Took facts_of self.old.pass self.new.pass (Meet ∷ []) anything keeps }
         ensures met { HasMet (view (known_of other)) (view (known_of self.new.pass)) }
         ensures other { IsOfRoom self.old.room.now result × IsSame other result }
     {
@@ -54,12 +54,10 @@ impl<'a, const LAST: u32> RoomSteps<'a, LAST> {
 }
 
 impl<const LAST: u32> Steps for RoomSteps<'_, LAST> {
-    ghost use Rattle.jr_rule.specs.Passes.{standing_of, Knows};
+    ghost use Rattle.jr_rule.specs.Passes.{facts_of};
     ghost use Rattle.jr_rule.specs.PassLaws.{some_of, unused_of, space_of};
 
-    ghost stands = { λ s. standing_of s.pass };
-
-    ghost knows = { λ s k. Knows s.pass k };
+    ghost facts = { λ s. facts_of s.pass };
 
     fn config(&self) -> Config {
         self.room.row.config

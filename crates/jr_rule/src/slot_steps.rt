@@ -14,7 +14,7 @@ use jr_word::{HandleParts, RefKind, SlotParts, SlotWord};
 use std::marker::Brand;
 
 impl Row {
-    ghost use Rattle.jr_rule.specs.Passes.{standing_of, Knows, IsAt};
+    ghost use Rattle.jr_rule.specs.Passes.{facts_of, standing_of, Knows, IsAt};
 
     pub(crate) fn see_slot(&self, pass: &mut Pass, index: u16, name: SlotLoad) -> SlotParts
         requires row { IsAt self.now pass.old }
@@ -22,7 +22,7 @@ impl Row {
         requires index { index < (standing_of pass.old).config.slots }
         requires fits { SlotLoadFits index name }
         ensures row { IsAt self.now pass.new }
-        ensures step { Took standing_of Knows pass.old pass.new (act_of_slot_load index name result ∷ []) anything (λ j k. ShowsSlot index result k × keeps j k) }
+        ensures step { Took facts_of pass.old pass.new (act_of_slot_load index name result ∷ []) anything (λ j k. ShowsSlot index result k × keeps j k) }
     {
         let at = slot_at(index);
         let about = (index, name);
@@ -42,9 +42,9 @@ impl Row {
         requires role { pass.old.role ≡ Within }
         requires index { index < (standing_of pass.old).config.slots }
         requires kind { kind ≢ Local }
-        requires looked { MayKnow Knows pass.old (λ k. HasObject object k × IsFreeSlot index serial k) }
+        requires looked { MayKnow facts_of pass.old (λ k. HasObject object k × IsFreeSlot index serial k) }
         ensures row { IsAt self.now pass.new }
-        ensures step { Took standing_of Knows pass.old pass.new (act_of_claim index serial kind object result ∷ []) (λ k. HasObject object k × IsFreeSlot index serial k) (λ j k. LostClaim index result j k × keeps j k) }
+        ensures step { Took facts_of pass.old pass.new (act_of_claim index serial kind object result ∷ []) (λ k. HasObject object k × IsFreeSlot index serial k) (λ j k. LostClaim index result j k × keeps j k) }
     {
         let at = slot_at(index);
         let looked = SlotWord::pack(SlotParts::Free { serial });
@@ -67,9 +67,9 @@ impl Row {
         requires row { IsAt self.now pass.old }
         requires role { pass.old.role ≡ Within }
         requires index { handle.index < (standing_of pass.old).config.slots }
-        requires looked { MayKnow Knows pass.old (HasLooked handle (found_of object)) }
+        requires looked { MayKnow facts_of pass.old (HasLooked handle (found_of object)) }
         ensures row { IsAt self.now pass.new }
-        ensures step { Took standing_of Knows pass.old pass.new (act_of_free handle result ∷ []) (HasLooked handle (found_of object)) keeps }
+        ensures step { Took facts_of pass.old pass.new (act_of_free handle result ∷ []) (HasLooked handle (found_of object)) keeps }
     {
         let at = slot_at(handle.index);
         let looked = SlotWord::pack(reference(handle.kind, handle.serial, object));

@@ -1,16 +1,15 @@
 -- What all threads of a script did, in one history.
-use Rattle.std.proofs.Common.{◌≡◌, ◌+◌, ◌<◌, ◌≤◌, ◌^◌, ◌++◌, ℕ, zero, suc, List, [], ◌∷◌, map, length, Result, Ok, refl, sym, ap, subst, ◌∙◌, arith, append_assoc}
+use Rattle.std.proofs.Common.{◌≡◌, ◌+◌, ◌<◌, ◌++◌, ℕ, zero, suc, List, [], ◌∷◌, map, length, Result, Ok, refl, sym, ap, subst, ◌∙◌, arith}
 use Rattle.std.proofs.lemmas.List.{append-nil}
 use Rattle.std.specs.List.{All, AllZip, AllByRecursion}
 use Rattle.std.proofs.lemmas.List.Elements.{recursion_from_All, All-from_recursion, All-head, All-tail}
-use mathlib.Core.List.{IsPrefix}
 use Rattle.jr_word.specs.declared.config.Config.{Config}
 use Rattle.jr_word.specs.declared.fault.Fault.{Fault}
 use Rattle.jr_model.specs.declared.event.Act.TheVariants.{Meet}
 use Rattle.jr_model.specs.declared.summary.Summary.{Summary}
 use Rattle.jr_model.specs.State.{summary}
-use Rattle.jr_model.specs.History.{History, state, mine, IsLegal, PassView, Did}
-use Rattle.jr_model.specs.Frames.{Frames, fresh_frames}
+use Rattle.jr_model.specs.History.{History, state, mine, IsLegal, Did}
+use Rattle.jr_model.specs.Frames.{fresh_frames}
 use Rattle.jr_model.proofs.Moments.{prefix_trans}
 use Rattle.jr_syntax.specs.declared.command.Command.{Command}
 use Rattle.jr_syntax.specs.declared.thread.ThreadPart.{ThreadPart}
@@ -19,18 +18,18 @@ use Rattle.jr_steps.specs.declared.known.Known.{Known}
 use Rattle.jr_rule.specs.declared.pass.Pass.{Pass}
 use Rattle.jr_rule.specs.declared.row.Row.{Row}
 use Rattle.jr_steps.specs.Holdings.{empty}
-use Rattle.jr_steps.specs.Knowing.{Standing, view, Holds}
+use Rattle.jr_steps.specs.Knowing.{view, Holds}
 use Rattle.jr_rule.specs.Rule.{known}
 use Rattle.jr_rule.specs.PassLaws.{still_of}
-use Rattle.jr_rule.specs.Passes.{known_of, standing_of, Knows, IsAt, IsOpened, AreOpened, numbers_below, IsSeenIn, ClosesAll}
+use Rattle.jr_rule.specs.Passes.{facts_of, known_of, standing_of, Knows, IsAt, IsOpened, AreOpened, numbers_below, IsSeenIn, ClosesAll}
 use Rattle.jr_steps.proofs.StepFacts.{goes_did}
 use Rattle.jr_scripts.specs.declared.part.Job.{Job}
 use Rattle.jr_scripts.specs.declared.part.ThreadRun.{ThreadRun}
 use Rattle.jr_scripts.specs.Performing.{Moment, moment}
-use Rattle.jr_scripts.specs.Explains.{Explained, LeavesText}
+use Rattle.jr_scripts.specs.Explains.{Explained}
 use Rattle.jr_scripts.specs.Text.{heading, ending}
 use Rattle.jr_scripts.specs.Runs.{RanThread}
-use Rattle.jr_scripts.specs.AllRuns.{RanPass, seeing_as, opening_of, closing_acts, IsPartOf, ArePartsOf, text_of_parts, IsRunOfAll}
+use Rattle.jr_scripts.specs.AllRuns.{RanPass, seeing_as, opening_of, IsPartOf, ArePartsOf, text_of_parts, IsRunOfAll}
 use Rattle.jr_scripts.specs.Jobs.{HasRun, IsFor, IsJobOf, AreJobsOf, IsDone, AreTold}
 
 -- a pass that was opened knows what it shows
@@ -65,9 +64,9 @@ played turns last c r p q first commands answer lines config_is last_is o x done
     let k0 : Known = known c last t [] empty 0 in
     let knows0 : known_of p ≡ k0 = o.knows ∙ (λ i. known (config_is i) (last_is i) t [] empty 0) in
     let fresh : fresh_frames (standing_of p).config.locals ≡ fresh_frames c.locals = ap (λ (k : Known). fresh_frames k.config.locals) knows0 in
-    let ran : RanThread standing_of Knows p q (fresh_frames c.locals) x.frames turns first commands (Ok tt) lines
-    = subst (λ a. RanThread standing_of Knows p q (fresh_frames c.locals) x.frames turns first commands a lines) done
-    (subst (λ f. RanThread standing_of Knows p q f x.frames turns first commands answer lines) fresh x.ran) in
+    let ran : RanThread facts_of p q (fresh_frames c.locals) x.frames turns first commands (Ok tt) lines
+    = subst (λ a. RanThread facts_of p q (fresh_frames c.locals) x.frames turns first commands a lines) done
+    (subst (λ f. RanThread facts_of p q f x.frames turns first commands answer lines) fresh x.ran) in
     let holds0 : Holds (fresh_frames c.locals) k0 = λ place. refl in
     let y = ran.explained (known_of p) (opened_knows r p o) (subst (Holds (fresh_frames c.locals)) (sym knows0) holds0) in
     let is : y.0 ≡ known_of q = (y.1).is in

@@ -7,13 +7,12 @@ use Rattle.jr_model.specs.Frames.{Frames}
 use Rattle.jr_model.specs.Checks.{Parts}
 use Rattle.jr_syntax.specs.declared.verb.OnBoth.{OnBoth}
 use Rattle.jr_syntax.specs.declared.verb.OnBoth.TheVariants.{Same}
-use Rattle.jr_steps.specs.declared.known.Known.{Known}
-use Rattle.jr_steps.specs.Knowing.{Standing}
+use Rattle.jr_steps.specs.Knowing.{Facts}
 use Rattle.jr_scripts.specs.declared.reply.Reply.{Reply}
 use Rattle.jr_scripts.specs.declared.reply.Reply.TheVariants as replies
 use Rattle.jr_scripts.specs.Reading.{IsReadAs}
 use Rattle.jr_scripts.specs.Performing.{Moment}
-use Rattle.jr_scripts.specs.Deeds.{Deed, Does, done, ◌>>◌}
+use Rattle.jr_scripts.specs.Deeds.{Deed, DoesDeed, done, ◌>>◌}
 use Rattle.jr_scripts.specs.Commands.{deleted_of, deletion}
 use Rattle.jr_scripts.proofs.SameRoom.{nothing_changed}
 
@@ -21,17 +20,17 @@ use Rattle.jr_scripts.proofs.SameRoom.{nothing_changed}
 pub only_same : (v : OnBoth) → v ≡ Same
 only_same Same = refl
 
-module _ {S : Type 0} {stands : S → Standing} {knows : S → Known → Type 0} where
+module _ {S : Type 0} {facts : S → Facts} where
   -- a deed that leads on to another
-  pub does_more : {A B : Type 0} {old new : S} {f g : Frames} {one : Deed A} {two : Deed B} {once : Result A Fault} {answer : Result B Fault} → ((p q : Moment) → one p once q → two p answer q) → Does stands knows old new f g one once → Does stands knows old new f g two answer
+  pub does_more : {A B : Type 0} {old new : S} {f g : Frames} {one : Deed A} {two : Deed B} {once : Result A Fault} {answer : Result B Fault} → ((p q : Moment) → one p once q → two p answer q) → DoesDeed facts old new f g one once → DoesDeed facts old new f g two answer
   does_more w d = record { stands_is = d.stands_is; did = λ k s h. let x = d.did k s h in (x.0, x.1, x.2, w _ _ x.3) }
 
   -- no deed leads nowhere
-  pub does_nothing : {A : Type 0} {old : S} {f : Frames} {deed : Deed A} {answer : Result A Fault} → ((p : _) → deed p answer p) → Does stands knows old old f f deed answer
+  pub does_nothing : {A : Type 0} {old : S} {f : Frames} {deed : Deed A} {answer : Result A Fault} → ((p : _) → deed p answer p) → DoesDeed facts old old f f deed answer
   does_nothing w = record { stands_is = nothing_changed; did = λ k s h. (k, s, h, w _) }
 
   -- the delete call of the kind of a handle
-  pub does_delete : {old new : S} {f g : Frames} {answer : Result Reply Fault} (turns w : ℕ) (h : Handle) (kind : RefKind) → IsReadAs w (Parts h) → h.kind ≡ kind → Does stands knows old new f g (deleted_of turns kind w >> done replies.Done) answer → Does stands knows old new f g (deletion turns w >> done replies.Done) answer
+  pub does_delete : {old new : S} {f g : Frames} {answer : Result Reply Fault} (turns w : ℕ) (h : Handle) (kind : RefKind) → IsReadAs w (Parts h) → h.kind ≡ kind → DoesDeed facts old new f g (deleted_of turns kind w >> done replies.Done) answer → DoesDeed facts old new f g (deletion turns w >> done replies.Done) answer
   does_delete turns w h kind reads is = does_more (λ p q d.
       elim d [
         | inl x ↦ inl (x.0, x.1, (Parts h, reads, subst (λ k. deleted_of turns k w p (Ok x.0) x.1) (sym is) x.2), x.3)

@@ -7,12 +7,12 @@ use Rattle.jr_model.specs.State.{State}
 use Rattle.jr_model.specs.Frames.{Frames}
 use Rattle.jr_model.specs.Calls.{Call}
 use Rattle.jr_steps.specs.declared.known.Known.{Known}
-use Rattle.jr_steps.specs.Knowing.{Standing}
+use Rattle.jr_steps.specs.Knowing.{Facts}
 use Rattle.jr_scripts.specs.Performing.{Performed}
 
-module _ {S : Type 0} {stands : S → Standing} {knows : S → Known → Type 0} where
+module _ {S : Type 0} {facts : S → Facts} where
   pub handed_on : {A : Type 0} {a b : S} {f g : Frames} {silent : ℕ} {met : Known → Type 0} {shows : Known → Known → Type 0} {call : State → Call A} {e : Fault} (r : Result A Fault) → IsErrAnd r (λ y. y ≡ e)
-      → Performed stands knows a b f g silent met call (Err e) shows → Performed stands knows a b f g silent met call r shows
+      → Performed facts a b f g silent met call (Err e) shows → Performed facts a b f g silent met call r shows
   handed_on {a} {b} {f} {g} {silent} {met} {shows} {call} r h p =
       let x = err_from_is_err_and r h in
-      subst (λ z. Performed stands knows a b f g silent met call z shows) (sym (x.1 ∙ ap (λ (y : Fault). Err y) x.2)) p
+      subst (λ z. Performed facts a b f g silent met call z shows) (sym (x.1 ∙ ap (λ (y : Fault). Err y) x.2)) p

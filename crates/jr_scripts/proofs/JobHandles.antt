@@ -1,8 +1,7 @@
 -- What threads promised, and what they gave back.
-use Rattle.std.proofs.Common.{◌≡◌, ◌<◌, ◌++◌, ℕ, zero, suc, List, [], ◌∷◌, map, length, slice_index_or, refl, sym, ap, subst, ◌∙◌, arith}
-use Rattle.std.proofs.lemmas.List.{append-nil, map-append, append_assoc}
-use Rattle.std.proofs.lemmas.List.Elements.{All-head, All-tail}
-use Rattle.std.specs.List.{All, AllZip, remove}
+use Rattle.std.proofs.Common.{◌≡◌, ◌<◌, ◌++◌, ℕ, suc, List, [], ◌∷◌, map, length, slice_index_or, refl, sym, ap, subst, ◌∙◌, arith}
+use Rattle.std.proofs.lemmas.List.{append-nil}
+use Rattle.std.specs.List.{AllZip, remove}
 use Rattle.std.specs.PromisedHandle.{KeepsEach}
 use Rattle.std.specs.declared.thread.PromisedHandle.{PromisedHandle}
 use Rattle.std.specs.declared.thread.Promise as Promise
@@ -10,9 +9,7 @@ use Rattle.jr_scripts.specs.declared.part.Job.{Job}
 use Rattle.jr_scripts.specs.declared.part.ThreadRun.{ThreadRun}
 use Rattle.jr_scripts.specs.declared.starting.Doing.{Doing}
 use Rattle.jr_scripts.specs.AllRuns.{RanPass}
-use Rattle.jr_scripts.specs.Given.{IsGiven}
-use Rattle.jr_rule.specs.declared.row.Row.{Row}
-use Rattle.jr_scripts.specs.Jobs.{HasRun, IsFor}
+use Rattle.jr_scripts.specs.Jobs.{HasRun}
 
 abbrev pub Thread : Type 0
 Thread = PromisedHandle ThreadRun Doing

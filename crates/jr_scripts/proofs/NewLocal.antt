@@ -14,7 +14,7 @@ use Rattle.jr_model.specs.References.{added, new_local, room_for, making}
 use Rattle.jr_model.proofs.Windows.{window_act}
 use Rattle.jr_model.proofs.Runs.{ran_done, ran_then, ran_give}
 use Rattle.jr_steps.specs.declared.known.Known.{Known}
-use Rattle.jr_steps.specs.Knowing.{Standing, IsOf, view, keeps, HasObject, HasOptional, Holds, MayKnow, Took}
+use Rattle.jr_steps.specs.Knowing.{AreOf, Facts, Standing, IsOf, view, keeps, HasObject, HasOptional, Holds, MayKnow, Took}
 use Rattle.jr_model.proofs.InRoom.{in_room}
 use Rattle.jr_steps.proofs.StepFacts.{goes_did}
 use Rattle.jr_scripts.specs.Table.{Table, IsNext, IsOnly}
@@ -41,54 +41,54 @@ found_optional : (z : Option ℕ) (k : Known) → FoundPresent (Ok z) k → HasO
 found_optional None k p = tt
 found_optional (Some o) k p = p
 
-module _ {S : Type 0} {stands : S → Standing} {knows : S → Known → Type 0} where
+module _ {S : Type 0} {facts : S → Facts} where
   -- a present object's number is not 0
-  pub present_number : ((s : S) (k : Known) → knows s k → IsOf (stands s) k) → (a : S) (o : ℕ) → MayKnow knows a (HasObject o) → o ≢ 0
+  pub present_number : AreOf facts → (a : S) (o : ℕ) → MayKnow facts a (HasObject o) → o ≢ 0
   present_number fits a o there none =
-      let each : ((k : Known) × knows a k × HasObject o k) → ⊥ = λ k. let low = ((in_room k.0.config k.0.last k.0.seen (fits a k.0 k.1).legal).objects o k.2).0 in omega arith in
+      let each : ((k : Known) × (facts a).knows k × HasObject o k) → ⊥ = λ k. let low = ((in_room k.0.config k.0.last k.0.seen (fits a k.0 k.1).legal).objects o k.2).0 in omega arith in
       ∥∥₁_elim {P = ⊥} there (hlevel) each
 
   -- a call that makes no object is refused
-  refused_making : {a b : S} {f g : Frames} {call : Call Handle} {e : Fault} (silent : ℕ) → Calls stands knows a b f g call (Err e) → MakesPlain stands knows a b f g silent call (Err e)
+  refused_making : {a b : S} {f g : Frames} {call : Call Handle} {e : Fault} (silent : ℕ) → Calls facts a b f g call (Err e) → MakesPlain facts a b f g silent call (Err e)
   refused_making silent p = record {
     stands_is = p.stands_is;
     ran = λ k s m. let x = p.ran k s m in (x.0, x.1, made_of (spend_more silent (spending x.2)) x.2.ran, x.3);
   }
 
   -- no place is free for a new object's reference
-  pub makes_nothing : {a : S} {t : Table} → ((s : S) (k : Known) → knows s k → IsOf (stands s) k) → StandsReady stands knows Within a t → free_places t.last t.frames ≡ 0 → MakesPlain stands knows a a t.frames t.frames (stands a).config.objects (making (stands a).config (stands a).last (stands a).thread) (Err LocalsFull)
+  pub makes_nothing : {a : S} {t : Table} → AreOf facts → StandsReady facts Within a t → free_places t.last t.frames ≡ 0 → MakesPlain facts a a t.frames t.frames (facts a).stands.config.objects (making (facts a).stands.config (facts a).stands.last (facts a).stands.thread) (Err LocalsFull)
   makes_nothing {a} {t} fits r none =
-      let s = stands a in
+      let s = (facts a).stands in
       let none_here = subst (λ n. free_places n t.frames ≡ 0) r.last none in
       refused_making s.config.objects (stays fits a t.frames (λ p l. full_ran s.config s.last s.thread _ none_here l))
 
   -- no reference is made to no object
-  pub makes_none : ((s : S) (k : Known) → knows s k → IsOf (stands s) k) → (a : S) (f : Frames) (z : Option ℕ) → z ≡ None → MakesLocal stands knows a a f f z (new_local (stands a).config (stands a).last (stands a).thread z) (Ok None)
+  pub makes_none : AreOf facts → (a : S) (f : Frames) (z : Option ℕ) → z ≡ None → MakesLocal facts a a f f z (new_local (facts a).stands.config (facts a).stands.last (facts a).stands.thread z) (Ok None)
   makes_none fits a f z is =
-      let s = stands a in
-      subst (λ y. MakesLocal stands knows a a f f y (new_local s.config s.last s.thread y) (Ok None)) (sym is) (record {
+      let s = (facts a).stands in
+      subst (λ y. MakesLocal facts a a f f y (new_local s.config s.last s.thread y) (Ok None)) (sym is) (record {
         stands_is = nothing_changed;
         ran = λ k v m. let l = (fits a k v).legal in (k, v, made_of (spend_none s.fresh k f f l) (ran_done (view k) f None l), (refl, m.0));
       })
 
   -- no place is free
-  pub makes_no_local : {a : S} {t : Table} {z : Option ℕ} {o : ℕ} → ((s : S) (k : Known) → knows s k → IsOf (stands s) k) → z ≡ Some o → StandsReady stands knows Within a t → free_places t.last t.frames ≡ 0
-      → MakesLocal stands knows a a t.frames t.frames z (new_local (stands a).config (stands a).last (stands a).thread z) (Err LocalsFull)
+  pub makes_no_local : {a : S} {t : Table} {z : Option ℕ} {o : ℕ} → AreOf facts → z ≡ Some o → StandsReady facts Within a t → free_places t.last t.frames ≡ 0
+      → MakesLocal facts a a t.frames t.frames z (new_local (facts a).stands.config (facts a).stands.last (facts a).stands.thread z) (Err LocalsFull)
   makes_no_local {a} {t} {z} {o} fits is r none =
-      let s = stands a in
+      let s = (facts a).stands in
       let none_here = subst (λ n. free_places n t.frames ≡ 0) r.last none in
-      subst (λ y. MakesLocal stands knows a a t.frames t.frames y (new_local s.config s.last s.thread y) (Err LocalsFull)) (sym is) (record {
+      subst (λ y. MakesLocal facts a a t.frames t.frames y (new_local s.config s.last s.thread y) (Err LocalsFull)) (sym is) (record {
         stands_is = nothing_changed;
         ran = λ k v m. let l = (fits a k v).legal in (k, v, made_of (spend_none s.fresh k t.frames t.frames l) (full_ran s.config s.last s.thread _ none_here l), (refl, m.0));
       })
 
-  pub makes_local : {a b : S} {t : Table} {g : Frames} {z : Option ℕ} {o : ℕ} {h : Handle} → z ≡ Some o → StandsReady stands knows Within a t → IsNext t h → Took stands knows a b (LocalPut h.index o ∷ []) (HasOptional (Some o)) keeps
+  pub makes_local : {a b : S} {t : Table} {g : Frames} {z : Option ℕ} {o : ℕ} {h : Handle} → z ≡ Some o → StandsReady facts Within a t → IsNext t h → Took facts a b (LocalPut h.index o ∷ []) (HasOptional (Some o)) keeps
       → IsAdded t.last t.thread t.frames (record { handle = h; object = o }) g → IsOnly t.frames h.index (Some o) g
-      → MakesLocal stands knows a b t.frames g z (new_local (stands a).config (stands a).last (stands a).thread z) (Ok (Some h))
+      → MakesLocal facts a b t.frames g z (new_local (facts a).stands.config (facts a).stands.last (facts a).stands.thread z) (Ok (Some h))
   makes_local {a} {b} {t} {g} {z} {o} {h} is r next u added_is only =
-      let s = stands a in
+      let s = (facts a).stands in
       let here = subst (λ n. IsAdded n s.thread t.frames (record { handle = h; object = o }) g) r.last (subst (λ n. IsAdded t.last n t.frames (record { handle = h; object = o }) g) r.owner added_is) in
-      subst (λ y. MakesLocal stands knows a b t.frames g y (new_local s.config s.last s.thread y) (Ok (Some h))) (sym is) (record {
+      subst (λ y. MakesLocal facts a b t.frames g y (new_local s.config s.last s.thread y) (Ok (Some h))) (sym is) (record {
         stands_is = as_before _ u.stands_is;
         ran = λ k v m.
             let y = u.goes k v m.1 in
@@ -98,20 +98,20 @@ module _ {S : Type 0} {stands : S → Standing} {knows : S → Known → Type 0}
 
   module _ {a b : S} {z : Option ℕ} where
     -- what was resolved may be stored
-    pub may_find : {f : Frames} {first : Call (Option ℕ)} → Resolves stands knows a b f first (Ok z) → MayKnow knows a (Holds f) → MayKnow knows b (HasOptional z)
+    pub may_find : {f : Frames} {first : Call (Option ℕ)} → Resolves facts a b f first (Ok z) → MayKnow facts a (Holds f) → MayKnow facts b (HasOptional z)
     may_find p some = ∥∥₁_map some (λ k. let x = p.ran k.0 k.1 k.2 in (x.0, x.1, found_optional z x.0 x.3.2))
 
-    pub ready_resolved : {t : Table} {first : Call (Option ℕ)} → StandsReady stands knows Within a t → Resolves stands knows a b t.frames first (Ok z) → StandsReady stands knows Within b t
+    pub ready_resolved : {t : Table} {first : Call (Option ℕ)} → StandsReady facts Within a t → Resolves facts a b t.frames first (Ok z) → StandsReady facts Within b t
     ready_resolved {t} {first} r p =
-        let q : Calls stands knows a b t.frames t.frames first (Ok z) = record { stands_is = p.stands_is; ran = λ k s m. let x = p.ran k s m in (x.0, x.1, x.2, (x.3.0, x.3.1)) } in
+        let q : Calls facts a b t.frames t.frames first (Ok z) = record { stands_is = p.stands_is; ran = λ k s m. let x = p.ran k s m in (x.0, x.1, x.2, (x.3.0, x.3.1)) } in
         ready_called r (same_owner t) q
 
-    pub creates_local : {d : S} {f g : Frames} {first : Call (Option ℕ)} {answer : Result (Option Handle) Fault} → Resolves stands knows a b f first (Ok z)
-        → MakesLocal stands knows b d f g z (new_local (stands b).config (stands b).last (stands b).thread z) answer
-        → Calls stands knows a d f g (first >>= new_local (stands a).config (stands a).last (stands a).thread) answer
+    pub creates_local : {d : S} {f g : Frames} {first : Call (Option ℕ)} {answer : Result (Option Handle) Fault} → Resolves facts a b f first (Ok z)
+        → MakesLocal facts b d f g z (new_local (facts b).stands.config (facts b).stands.last (facts b).stands.thread z) answer
+        → Calls facts a d f g (first >>= new_local (facts a).stands.config (facts a).stands.last (facts a).stands.thread) answer
     creates_local {d} {f} {g} {first} {answer} p q =
-        let s = stands a in
-        let r = subst (λ (y : Standing). MakesLocal stands knows b d f g z (new_local y.config y.last y.thread z) answer) (but_fresh p.stands_is) q in
+        let s = (facts a).stands in
+        let r = subst (λ (y : Standing). MakesLocal facts b d f g z (new_local y.config y.last y.thread z) answer) (but_fresh p.stands_is) q in
         record {
           stands_is = still_before p.stands_is r.stands_is;
           ran = λ k v m.

@@ -23,7 +23,7 @@ use Rattle.jr_model.proofs.Moments.{sometime_last, one_act}
 use Rattle.jr_model.proofs.Windows.{window_act, window_within}
 use Rattle.jr_model.proofs.Runs.{ran_then, ran_err}
 use Rattle.jr_steps.specs.declared.known.Known.{Known}
-use Rattle.jr_steps.specs.Knowing.{Standing, IsOf, view, anything, keeps, HasOptional, MayKnow, Took, fresh_from}
+use Rattle.jr_steps.specs.Knowing.{AreOf, Facts, Standing, IsOf, view, anything, keeps, HasOptional, MayKnow, Took, fresh_from}
 use Rattle.jr_steps.proofs.StepFacts.{goes_did}
 use Rattle.jr_scripts.specs.Table.{Table, IsNext, IsOnly}
 use Rattle.jr_scripts.specs.Performing.{Published, LearnsNew, MakesPlain, moment, object_made, publication}
@@ -65,8 +65,8 @@ module _ (c : Config) (last t : ℕ) where
       let y : Ran q r f g (added c last t o) (Ok h) = record { acts = LocalPut h.index o ∷ []; did = e; is = (h, refl, refl, a); begun = q.seen; window = window_act (LocalPut h.index o) e tt tt; grounds = tt } in
       roomy f room (ran_then {next = added c last t} o x y)
 
-module _ {S : Type 0} {stands : S → Standing} {knows : S → Known → Type 0} where
-  pub room_at : {a : S} {t : Table} (h : Handle) → StandsReady stands knows Within a t → IsNext t h → nat_lt (free_places (stands a).last t.frames) 1 ≡ false
+module _ {S : Type 0} {facts : S → Facts} where
+  pub room_at : {a : S} {t : Table} (h : Handle) → StandsReady facts Within a t → IsNext t h → nat_lt (free_places (facts a).stands.last t.frames) 1 ≡ false
   room_at {t = t} h r next = subst (λ n. nat_lt (free_places n t.frames) 1 ≡ false) r.last (free_room t.last t.frames h.index next.place next.free)
 
 -- a publication stores no local word
@@ -74,48 +74,48 @@ publication_fresh : (b : Bool) (kind : Kind) (made : Option ℕ) → fresh_from 
 publication_fresh b kind None = refl
 publication_fresh b kind (Some o) = refl
 
-module _ {S : Type 0} {stands : S → Standing} {knows : S → Known → Type 0} {a b : S} where
+module _ {S : Type 0} {facts : S → Facts} {a b : S} where
   -- what a publication takes
-  spent_publishing : {kind : Kind} {made : Option ℕ} (p : Published stands knows a b kind made) (k : Known) (s : knows a k) (f : Frames) → Spending (stands a).config.objects (moment (stands a).fresh k f) (moment (stands b).fresh (p.did k s).0 f)
+  spent_publishing : {kind : Kind} {made : Option ℕ} (p : Published facts a b kind made) (k : Known) (s : (facts a).knows k) (f : Frames) → Spending (facts a).stands.config.objects (moment (facts a).stands.fresh k f) (moment (facts b).stands.fresh (p.did k s).0 f)
   spent_publishing {kind} {made} p k s f =
       let x = p.did k s in
-      spend_acts f f (stands a).config.objects (publication kind made) x.5 x.6 x.3 x.7 (ap (λ (z : Standing). z.fresh) p.stands_is ∙ sym (publication_fresh (stands a).fresh kind made))
+      spend_acts f f (facts a).stands.config.objects (publication kind made) x.5 x.6 x.3 x.7 (ap (λ (z : Standing). z.fresh) p.stands_is ∙ sym (publication_fresh (facts a).stands.fresh kind made))
 
-  module _ {kind : Kind} {o : ℕ} (p : Published stands knows a b kind (Some o)) (some : MayKnow knows a anything) where
+  module _ {kind : Kind} {o : ℕ} (p : Published facts a b kind (Some o)) (some : MayKnow facts a anything) where
     -- the object that was published may be stored
-    pub may_put : MayKnow knows b (HasOptional (Some o))
+    pub may_put : MayKnow facts b (HasOptional (Some o))
     may_put = ∥∥₁_map some (λ k. let x = p.did k.0 k.1 in (x.0, x.1, x.2))
 
     -- an object's number is not 0
     pub published_number : o ≢ 0
     published_number is =
-        let each : ((k : Known) × knows a k × anything k) → ⊥ = λ k. let n = (one_act (New o kind []) (p.did k.0 k.1).3).needs.1.1 in omega arith in
+        let each : ((k : Known) × (facts a).knows k × anything k) → ⊥ = λ k. let n = (one_act (New o kind []) (p.did k.0 k.1).3).needs.1.1 in omega arith in
         ∥∥₁_elim {P = ⊥} some (hlevel) each
 
-  module _ {t : Table} {h : Handle} (r : StandsReady stands knows Within a t) (next : IsNext t h) where
-    pub makes_full : {e : Fault} (fits : (s : S) (k : Known) → knows s k → IsOf (stands s) k) (answer : Result Handle Fault) → IsErrAnd answer (λ y. y ≡ e) → (e ≡ ObjectsFull) × Published stands knows a b Plain None
-        → MakesPlain stands knows a b t.frames t.frames (stands a).config.objects (making (stands a).config (stands a).last (stands a).thread) answer
-    makes_full fits answer given why = let p = why.1 in let err = err_from_is_err_and answer given in subst (λ z. MakesPlain stands knows a b t.frames t.frames (stands a).config.objects (making (stands a).config (stands a).last (stands a).thread) z) (sym (err.1 ∙ ap (λ (y : Fault). Err y) (err.2 ∙ why.0))) (record {
+  module _ {t : Table} {h : Handle} (r : StandsReady facts Within a t) (next : IsNext t h) where
+    pub makes_full : {e : Fault} (fits : AreOf facts) (answer : Result Handle Fault) → IsErrAnd answer (λ y. y ≡ e) → (e ≡ ObjectsFull) × Published facts a b Plain None
+        → MakesPlain facts a b t.frames t.frames (facts a).stands.config.objects (making (facts a).stands.config (facts a).stands.last (facts a).stands.thread) answer
+    makes_full fits answer given why = let p = why.1 in let err = err_from_is_err_and answer given in subst (λ z. MakesPlain facts a b t.frames t.frames (facts a).stands.config.objects (making (facts a).stands.config (facts a).stands.last (facts a).stands.thread) z) (sym (err.1 ∙ ap (λ (y : Fault). Err y) (err.2 ∙ why.0))) (record {
       stands_is = as_before _ p.stands_is;
       ran = λ k s m.
           let x = p.did k s in
           let full : ObjectsWereFull k.seen (view x.0) = sometime_last x.3.begins (λ o l n. x.2 o l (subst (λ (c : Config). o ≤ c.objects) (x.3.config ∙ (fits a k s).config) n)) in
-          (x.0, x.1, made_of (spent_publishing p k s t.frames) (full_ran (stands a).config (stands a).last (stands a).thread t.frames (room_at h r next) ((fits a k s).role ∙ r.role_is) full x.3), (x.4, holds_did k x.0 t.frames [] x.3 tt m));
+          (x.0, x.1, made_of (spent_publishing p k s t.frames) (full_ran (facts a).stands.config (facts a).stands.last (facts a).stands.thread t.frames (room_at h r next) ((fits a k s).role ∙ r.role_is) full x.3), (x.4, holds_did k x.0 t.frames [] x.3 tt m));
     })
 
-    pub makes : {c : S} {o : ℕ} {g : Frames} → Published stands knows a b Plain (Some o) → Took stands knows b c (LocalPut h.index o ∷ []) (HasOptional (Some o)) keeps
+    pub makes : {c : S} {o : ℕ} {g : Frames} → Published facts a b Plain (Some o) → Took facts b c (LocalPut h.index o ∷ []) (HasOptional (Some o)) keeps
         → IsAdded t.last t.thread t.frames (record { handle = h; object = o }) g → IsOnly t.frames h.index (Some o) g
-        → MakesPlain stands knows a c t.frames g (stands a).config.objects (making (stands a).config (stands a).last (stands a).thread) (Ok h)
+        → MakesPlain facts a c t.frames g (facts a).stands.config.objects (making (facts a).stands.config (facts a).stands.last (facts a).stands.thread) (Ok h)
     makes {o = o} {g = g} p u added only = let there : object_made g (Ok h) ≡ Some o = only h.index ∙ ap (λ b. cond b (Some o) (object_at t.frames h.index)) (eq-eqb h.index h.index refl) in record {
       stands_is = still_before (as_before _ p.stands_is) (as_before _ u.stands_is);
       ran = λ k s m.
           let x = p.did k s in
           let y = u.goes x.0 x.1 x.2 in
           let d = goes_did y.2 in
-          let here = subst (λ n. IsAdded n (stands a).thread t.frames (record { handle = h; object = o }) g) r.last (subst (λ n. IsAdded t.last n t.frames (record { handle = h; object = o }) g) r.owner added) in (
+          let here = subst (λ n. IsAdded n (facts a).stands.thread t.frames (record { handle = h; object = o }) g) r.last (subst (λ n. IsAdded t.last n t.frames (record { handle = h; object = o }) g) r.owner added) in (
             y.0,
             y.1,
-            made_of (spend_first (spent_publishing p k s t.frames) (spend_step u x.0 x.1 x.2 t.frames g)) (made_ran (stands a).config (stands a).last (stands a).thread h o (room_at h r next) x.3 d here),
+            made_of (spend_first (spent_publishing p k s t.frames) (spend_step u x.0 x.1 x.2 t.frames g)) (made_ran (facts a).stands.config (facts a).stands.last (facts a).stands.thread h o (room_at h r next) x.3 d here),
             (subst (λ z. LearnsNew Plain z k y.0) (sym there) (y.3 ∙ x.4), holds_put x.0 y.0 t.frames g h.index (Some o) d only (holds_did k x.0 t.frames (New o Plain [] ∷ []) x.3 (refl, tt) m)),
           );
     }

@@ -13,7 +13,7 @@ use Rattle.jr_model.specs.Parts.{looked}
 use Rattle.jr_model.specs.References.{resolved_both}
 use Rattle.jr_model.proofs.Runs.{ran_then, ran_err, ran_give}
 use Rattle.jr_steps.specs.declared.known.Known.{Known}
-use Rattle.jr_steps.specs.Knowing.{Standing, IsOf}
+use Rattle.jr_steps.specs.Knowing.{AreOf, Facts, IsOf}
 use Rattle.jr_scripts.specs.Performing.{Resolves, Calls}
 use Rattle.jr_scripts.proofs.SameRoom.{still_before}
 use Rattle.jr_scripts.proofs.Reading.{neither, ran_either, ran_neither}
@@ -45,36 +45,36 @@ module _ (c : Config) (last t : ℕ) (v w : Word) where
       (ran_neither (is_out_of_bounds c v) (is_out_of_bounds c w) fault.Stale _ passes.inside
       (ran_neither (is_foreign t v) (is_foreign t w) fault.Foreign _ passes.own r))
 
-  module _ {S : Type 0} {stands : S → Standing} {knows : S → Known → Type 0} where
-    module _ (fits : (s : S) (k : Known) → knows s k → IsOf (stands s) k) (a : S) (f : Frames) where
-      pub both_malformed : (is_malformed v || is_malformed w) ≡ true → Calls stands knows a a f f (resolved_both c last t v w) (Err fault.Stale)
+  module _ {S : Type 0} {facts : S → Facts} where
+    module _ (fits : AreOf facts) (a : S) (f : Frames) where
+      pub both_malformed : (is_malformed v || is_malformed w) ≡ true → Calls facts a a f f (resolved_both c last t v w) (Err fault.Stale)
       both_malformed e = stays fits a f (λ p l. ran_either p f (is_malformed v) (is_malformed w) fault.Stale _ e tt l)
 
-      pub both_outside : (is_malformed v || is_malformed w) ≡ false → (is_out_of_bounds c v || is_out_of_bounds c w) ≡ true → Calls stands knows a a f f (resolved_both c last t v w) (Err fault.Stale)
+      pub both_outside : (is_malformed v || is_malformed w) ≡ false → (is_out_of_bounds c v || is_out_of_bounds c w) ≡ true → Calls facts a a f f (resolved_both c last t v w) (Err fault.Stale)
       both_outside e e' = stays fits a f (λ p l. ran_neither (is_malformed v) (is_malformed w) fault.Stale _ e (ran_either p f (is_out_of_bounds c v) (is_out_of_bounds c w) fault.Stale _ e' tt l))
 
-      pub both_foreign : (is_malformed v || is_malformed w) ≡ false → (is_out_of_bounds c v || is_out_of_bounds c w) ≡ false → (is_foreign t v || is_foreign t w) ≡ true → Calls stands knows a a f f (resolved_both c last t v w) (Err fault.Foreign)
+      pub both_foreign : (is_malformed v || is_malformed w) ≡ false → (is_out_of_bounds c v || is_out_of_bounds c w) ≡ false → (is_foreign t v || is_foreign t w) ≡ true → Calls facts a a f f (resolved_both c last t v w) (Err fault.Foreign)
       both_foreign e e' e'' = stays fits a f (λ p l.
           ran_neither (is_malformed v) (is_malformed w) fault.Stale _ e
           (ran_neither (is_out_of_bounds c v) (is_out_of_bounds c w) fault.Stale _ e' (ran_either p f (is_foreign t v) (is_foreign t w) fault.Foreign _ e'' tt l)))
 
     module _ {a b : S} {f : Frames} (passes : Passes) where
       -- the first is refused
-      pub both_err_left : {e : Fault} (answer : Result (Option ℕ × Option ℕ) Fault) → IsErrAnd answer (λ y. y ≡ e) → Resolves stands knows a b f (looked v) (Err e) → Calls stands knows a b f f (resolved_both c last t v w) answer
+      pub both_err_left : {e : Fault} (answer : Result (Option ℕ × Option ℕ) Fault) → IsErrAnd answer (λ y. y ≡ e) → Resolves facts a b f (looked v) (Err e) → Calls facts a b f f (resolved_both c last t v w) answer
       both_err_left {e} answer given p = handed_on answer given (record {
         stands_is = p.stands_is;
         ran = λ k s m. let x = p.ran k s m in (x.0, x.1, made_of (spending x.2) (passed_ran passes (ran_err _ e x.2.ran)), (x.3.0, x.3.1));
       })
 
       -- the second is refused
-      pub both_err_right : {d : S} {x : Option ℕ} {e : Fault} (answer : Result (Option ℕ × Option ℕ) Fault) → IsErrAnd answer (λ y. y ≡ e) → Resolves stands knows a b f (looked v) (Ok x) → Resolves stands knows b d f (looked w) (Err e) → Calls stands knows a d f f (resolved_both c last t v w) answer
+      pub both_err_right : {d : S} {x : Option ℕ} {e : Fault} (answer : Result (Option ℕ × Option ℕ) Fault) → IsErrAnd answer (λ y. y ≡ e) → Resolves facts a b f (looked v) (Ok x) → Resolves facts b d f (looked w) (Err e) → Calls facts a d f f (resolved_both c last t v w) answer
       both_err_right {x = x} {e = e} answer given p q = handed_on answer given (record {
         stands_is = still_before p.stands_is q.stands_is;
         ran = λ k s m. let y = p.ran k s m in let z = q.ran y.0 y.1 y.3.1 in
             (z.0, z.1, made_of (spend_first (spending y.2) (spending z.2)) (passed_ran passes (ran_then x y.2.ran (ran_err _ e z.2.ran))), (z.3.0 ∙ y.3.0, z.3.1));
       })
 
-      pub both_looked : {d : S} {x y : Option ℕ} → Resolves stands knows a b f (looked v) (Ok x) → Resolves stands knows b d f (looked w) (Ok y) → Calls stands knows a d f f (resolved_both c last t v w) (Ok (x, y))
+      pub both_looked : {d : S} {x y : Option ℕ} → Resolves facts a b f (looked v) (Ok x) → Resolves facts b d f (looked w) (Ok y) → Calls facts a d f f (resolved_both c last t v w) (Ok (x, y))
       both_looked {x = x} {y = y} p q = record {
         stands_is = still_before p.stands_is q.stands_is;
         ran = λ k s m. let u = p.ran k s m in let z = q.ran u.0 u.1 u.3.1 in
@@ -87,15 +87,15 @@ same_is None (Some y) = refl
 same_is (Some x) None = refl
 same_is (Some x) (Some y) = refl
 
-module _ {S : Type 0} {stands : S → Standing} {knows : S → Known → Type 0} {a b : S} {f : Frames} {both : Call (Option ℕ × Option ℕ)} where
-  pub compares_refused : {e : Fault} (answer : Result Bool Fault) → IsErrAnd answer (λ y. y ≡ e) → Calls stands knows a b f f both (Err e) → Calls stands knows a b f f (both >>= (λ z. done (same_object z.0 z.1))) answer
+module _ {S : Type 0} {facts : S → Facts} {a b : S} {f : Frames} {both : Call (Option ℕ × Option ℕ)} where
+  pub compares_refused : {e : Fault} (answer : Result Bool Fault) → IsErrAnd answer (λ y. y ≡ e) → Calls facts a b f f both (Err e) → Calls facts a b f f (both >>= (λ z. done (same_object z.0 z.1))) answer
   compares_refused {e} answer given p = handed_on answer given (record {
     stands_is = p.stands_is;
     ran = λ k s m. let x = p.ran k s m in (x.0, x.1, made_of (spending x.2) (ran_err _ e x.2.ran), x.3);
   })
 
-  pub compares : {x y : Option ℕ} {same : Bool} → same ≡ option_eq nat_eq x y → Calls stands knows a b f f both (Ok (x, y)) → Calls stands knows a b f f (both >>= (λ z. done (same_object z.0 z.1))) (Ok same)
-  compares {x} {y} is p = subst (λ r. Calls stands knows a b f f (both >>= (λ z. done (same_object z.0 z.1))) (Ok r)) (sym (is ∙ same_is x y)) (record {
+  pub compares : {x y : Option ℕ} {same : Bool} → same ≡ option_eq nat_eq x y → Calls facts a b f f both (Ok (x, y)) → Calls facts a b f f (both >>= (λ z. done (same_object z.0 z.1))) (Ok same)
+  compares {x} {y} is p = subst (λ r. Calls facts a b f f (both >>= (λ z. done (same_object z.0 z.1))) (Ok r)) (sym (is ∙ same_is x y)) (record {
     stands_is = p.stands_is;
     ran = λ k s m. let u = p.ran k s m in (u.0, u.1, made_of (spending u.2) (ran_give (λ z. same_object z.0 z.1) (x, y) u.2.ran), u.3);
   })

@@ -3,31 +3,30 @@ use Rattle.std.proofs.Common.{◌≡◌, ◌<◌, ◌≤◌, ◌-◌, ◌+◌, �
 use Rattle.jr_word.specs.declared.fault.Fault.{Fault}
 use Rattle.jr_word.specs.declared.fault.Fault.TheVariants as fault
 use Rattle.jr_model.specs.Frames.{Frames}
-use Rattle.jr_steps.specs.declared.known.Known.{Known}
-use Rattle.jr_steps.specs.Knowing.{Standing}
-use Rattle.jr_scripts.specs.Deeds.{Deed, Does}
+use Rattle.jr_steps.specs.Knowing.{Facts}
+use Rattle.jr_scripts.specs.Deeds.{Deed, DoesDeed}
 use Rattle.jr_scripts.specs.Tries.{answered, again, gave_up, is_tried_again}
 use Rattle.jr_scripts.specs.Commands.{tried}
 use Rattle.jr_scripts.proofs.CommandDeeds.{does_more, does_nothing}
 use Rattle.jr_scripts.proofs.SameRoom.{still_before}
 
-module _ {S : Type 0} {stands : S → Standing} {knows : S → Known → Type 0} {A : Type 0} {deed : Deed A} where
-  pub does_from_first : {a b : S} {f g : Frames} {answer : Result A Fault} (n : ℕ) → Does stands knows a b f g (tried (n - 0) deed) answer → Does stands knows a b f g (tried n deed) answer
-  does_from_first {a} {b} {f} {g} {answer} n d = let e : n - 0 ≡ n = omega arith in subst (λ m. Does stands knows a b f g (tried m deed) answer) e d
+module _ {S : Type 0} {facts : S → Facts} {A : Type 0} {deed : Deed A} where
+  pub does_from_first : {a b : S} {f g : Frames} {answer : Result A Fault} (n : ℕ) → DoesDeed facts a b f g (tried (n - 0) deed) answer → DoesDeed facts a b f g (tried n deed) answer
+  does_from_first {a} {b} {f} {g} {answer} n d = let e : n - 0 ≡ n = omega arith in subst (λ m. DoesDeed facts a b f g (tried m deed) answer) e d
 
-  pub does_answered : {a b : S} {f g : Frames} {answer : Result A Fault} (n k : ℕ) → k < n → Does stands knows a b f g deed answer → is_tried_again answer ≡ false → Does stands knows a b f g (tried (n - k) deed) answer
+  pub does_answered : {a b : S} {f g : Frames} {answer : Result A Fault} (n k : ℕ) → k < n → DoesDeed facts a b f g deed answer → is_tried_again answer ≡ false → DoesDeed facts a b f g (tried (n - k) deed) answer
   does_answered {a} {b} {f} {g} {answer} n k l d settled =
       let e : suc (n - (k + 1)) ≡ n - k = omega arith in
-      subst (λ m. Does stands knows a b f g (tried m deed) answer) e (does_more (λ p q o. answered o settled) d)
+      subst (λ m. DoesDeed facts a b f g (tried m deed) answer) e (does_more (λ p q o. answered o settled) d)
 
-  pub does_again : {a b c : S} {f g h : Frames} {once answer : Result A Fault} (n k : ℕ) → k < n → Does stands knows a b f g deed once → is_tried_again once ≡ true → Does stands knows b c g h (tried (n - (k + 1)) deed) answer → Does stands knows a c f h (tried (n - k) deed) answer
+  pub does_again : {a b c : S} {f g h : Frames} {once answer : Result A Fault} (n k : ℕ) → k < n → DoesDeed facts a b f g deed once → is_tried_again once ≡ true → DoesDeed facts b c g h (tried (n - (k + 1)) deed) answer → DoesDeed facts a c f h (tried (n - k) deed) answer
   does_again {a} {b} {c} {f} {g} {h} {once} {answer} n k l d unsettled more =
       let e : suc (n - (k + 1)) ≡ n - k = omega arith in
-      let all : Does stands knows a c f h (tried (suc (n - (k + 1))) deed) answer = record {
+      let all : DoesDeed facts a c f h (tried (suc (n - (k + 1))) deed) answer = record {
         stands_is = still_before d.stands_is more.stands_is;
         did = λ s w m. let x = d.did s w m in let y = more.did x.0 x.1 x.2 in (y.0, y.1, y.2, again x.3 unsettled y.3);
       } in
-      subst (λ m. Does stands knows a c f h (tried m deed) answer) e all
+      subst (λ m. DoesDeed facts a c f h (tried m deed) answer) e all
 
-  pub does_gave_up : {a : S} {f : Frames} (n k : ℕ) → n ≤ k → Does stands knows a a f f (tried (n - k) deed) (Err fault.Turns)
-  does_gave_up {a} {f} n k l = let e : 0 ≡ n - k = omega arith in subst (λ m. Does stands knows a a f f (tried m deed) (Err fault.Turns)) e (does_nothing (λ p. gave_up))
+  pub does_gave_up : {a : S} {f : Frames} (n k : ℕ) → n ≤ k → DoesDeed facts a a f f (tried (n - k) deed) (Err fault.Turns)
+  does_gave_up {a} {f} n k l = let e : 0 ≡ n - k = omega arith in subst (λ m. DoesDeed facts a a f f (tried m deed) (Err fault.Turns)) e (does_nothing (λ p. gave_up))

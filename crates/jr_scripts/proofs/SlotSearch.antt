@@ -16,7 +16,7 @@ use Rattle.jr_model.proofs.Stays.{did_then, did_nothing}
 use Rattle.jr_model.proofs.Runs.{did_legal}
 use Rattle.jr_steps.specs.declared.known.Known.{Known}
 use Rattle.jr_steps.specs.Acts.{handle_of, is_occupied}
-use Rattle.jr_steps.specs.Knowing.{Standing, IsOf, view, anything, HasObject, IsFreeSlot, ShowsSlot, LostClaim, Took, Takes, keeps}
+use Rattle.jr_steps.specs.Knowing.{AreOf, Facts, Standing, IsOf, view, anything, HasObject, IsFreeSlot, ShowsSlot, LostClaim, Took, Takes, keeps}
 use Rattle.jr_steps.proofs.StepFacts.{goes_did, present_stays}
 use Rattle.jr_scripts.specs.Performing.{Searched, search_acts, EachOccupied}
 
@@ -39,18 +39,18 @@ occupied_more p q r xs ys d e first mid last None here there = λ i low high. oc
 only_one : (P : ℕ → Type 0) (i : ℕ) → P i → (j : ℕ) → i ≤ j → j < i + 1 → P j
 only_one P i p j l m = subst P (let e : i ≡ j = omega arith in e) p
 
-module _ {S : Type 0} {stands : S → Standing} {knows : S → Known → Type 0} where
-  module _ (fits : (s : S) (k : Known) → knows s k → IsOf (stands s) k) where
+module _ {S : Type 0} {facts : S → Facts} where
+  module _ (fits : AreOf facts) where
     -- a step inside keeps what is present
-    pub took_present : {a b : S} {x : Act} {met : Known → Type 0} {shows : Known → Known → Type 0} → Took stands knows a b (x ∷ []) met shows → (stands a).role ≡ Within → x ≢ Leave
-        → (o : ℕ) (k : Known) → knows a k → met k → HasObject o k → (k' : Known) × knows b k' × HasObject o k' × Did (view k) (view k') (x ∷ []) × shows k k' × Takes 1 k k'
+    pub took_present : {a b : S} {x : Act} {met : Known → Type 0} {shows : Known → Known → Type 0} → Took facts a b (x ∷ []) met shows → (facts a).stands.role ≡ Within → x ≢ Leave
+        → (o : ℕ) (k : Known) → (facts a).knows k → met k → HasObject o k → (k' : Known) × (facts b).knows k' × HasObject o k' × Did (view k) (view k') (x ∷ []) × shows k k' × Takes 1 k k'
     took_present {a} {x} t w ne o k s m p =
         let g = t.goes k s m in
         let d = goes_did g.2 in
         (g.0, g.1, present_stays k g.0 (x ∷ []) o d ((fits a k s).role ∙ w) (ne, tt) p, d, g.3, g.2.taken)
 
     -- an index that was found occupied
-    pub searched_occupied : {a b : S} {shows : Known → Known → Type 0} (i : ℕ) (kind : RefKind) (o : ℕ) → Took stands knows a b (Probe i true ∷ []) anything (λ j k. shows j k × keeps j k) → (stands a).role ≡ Within → Searched stands knows a b kind o i (i + 1) None
+    pub searched_occupied : {a b : S} {shows : Known → Known → Type 0} (i : ℕ) (kind : RefKind) (o : ℕ) → Took facts a b (Probe i true ∷ []) anything (λ j k. shows j k × keeps j k) → (facts a).stands.role ≡ Within → Searched facts a b kind o i (i + 1) None
     searched_occupied i kind o t w = record {
       stands_is = t.stands_is;
       kind_is = tt;
@@ -58,7 +58,7 @@ module _ {S : Type 0} {stands : S → Standing} {knows : S → Known → Type 0}
           (r.0, r.1, r.2, only_one (λ j. WasOccupied k.seen (view r.0) j) i (probed_occupied i r.3), (i, true) ∷ [], r.3, r.5, omega arith, r.4.1);
     }
 
-    pub searched_seen : {a b : S} {shows : Known → Known → Type 0} (i : ℕ) (word : SlotParts) (kind : RefKind) (o : ℕ) → ((n : ℕ) → word ≢ slot.Free n) → Took stands knows a b (Probe i (is_occupied word) ∷ []) anything (λ j k. shows j k × keeps j k) → (stands a).role ≡ Within → Searched stands knows a b kind o i (i + 1) None
+    pub searched_seen : {a b : S} {shows : Known → Known → Type 0} (i : ℕ) (word : SlotParts) (kind : RefKind) (o : ℕ) → ((n : ℕ) → word ≢ slot.Free n) → Took facts a b (Probe i (is_occupied word) ∷ []) anything (λ j k. shows j k × keeps j k) → (facts a).stands.role ≡ Within → Searched facts a b kind o i (i + 1) None
     searched_seen i (slot.Free n) kind o ne t w = absurd (ne n refl)
     searched_seen i _ kind o ne t w = searched_occupied i kind o t w
 
@@ -66,7 +66,7 @@ module _ {S : Type 0} {stands : S → Standing} {knows : S → Known → Type 0}
     record Exchanged (c : S) (shows : Known → Known → Type 0) (o : ℕ) (x y : Act) (k : Known) : Type 0 where
       pub mid : Known
       pub new : Known
-      pub known : knows c new
+      pub known : (facts c).knows new
       pub present : HasObject o new
       pub looked : Did (view k) (view mid) (x ∷ [])
       pub took : Did (view mid) (view new) (y ∷ [])
@@ -74,8 +74,8 @@ module _ {S : Type 0} {stands : S → Standing} {knows : S → Known → Type 0}
       pub counted : Takes 2 k new
       pub kept : keeps k mid
 
-    exchanged : {a b c : S} {x y : Act} {shows : Known → Known → Type 0} (i n o : ℕ) → Took stands knows a b (x ∷ []) anything (λ j k. ShowsSlot i (slot.Free n) k × keeps j k) → Took stands knows b c (y ∷ []) (λ k. HasObject o k × IsFreeSlot i n k) shows
-        → (stands a).role ≡ Within → x ≢ Leave → y ≢ Leave → role_after Within x ≡ Within → (k : Known) → knows a k → HasObject o k → Exchanged c shows o x y k
+    exchanged : {a b c : S} {x y : Act} {shows : Known → Known → Type 0} (i n o : ℕ) → Took facts a b (x ∷ []) anything (λ j k. ShowsSlot i (slot.Free n) k × keeps j k) → Took facts b c (y ∷ []) (λ k. HasObject o k × IsFreeSlot i n k) shows
+        → (facts a).stands.role ≡ Within → x ≢ Leave → y ≢ Leave → role_after Within x ≡ Within → (k : Known) → (facts a).knows k → HasObject o k → Exchanged c shows o x y k
     exchanged {x} i n o t u w ne ne' still k s p =
         let m = took_present t w ne o k s tt p in
         let e = took_present u (ap (λ (z : Standing). z.role) t.stands_is ∙ (ap (λ r. role_after r x) w ∙ still)) ne' o m.0 m.1 (m.2, m.4.0) m.2 in
@@ -84,8 +84,8 @@ module _ {S : Type 0} {stands : S → Standing} {knows : S → Known → Type 0}
         record { mid = m.0; new = e.0; known = e.1; present = e.2; looked = m.3; took = e.3; shown = e.4; counted = omega arith; kept = m.4.1 }
 
     -- an index that was found free, and lost to another thread
-    pub searched_lost : {a b c : S} (i n : ℕ) (kind : RefKind) (o : ℕ) (found : SlotParts) → Took stands knows a b (Probe i false ∷ []) anything (λ j k. ShowsSlot i (slot.Free n) k × keeps j k)
-        → Took stands knows b c (Probe i (is_occupied found) ∷ []) (λ k. HasObject o k × IsFreeSlot i n k) (λ j k. LostClaim i (Err found) j k × keeps j k) → (stands a).role ≡ Within → Searched stands knows a c kind o i (i + 1) None
+    pub searched_lost : {a b c : S} (i n : ℕ) (kind : RefKind) (o : ℕ) (found : SlotParts) → Took facts a b (Probe i false ∷ []) anything (λ j k. ShowsSlot i (slot.Free n) k × keeps j k)
+        → Took facts b c (Probe i (is_occupied found) ∷ []) (λ k. HasObject o k × IsFreeSlot i n k) (λ j k. LostClaim i (Err found) j k × keeps j k) → (facts a).stands.role ≡ Within → Searched facts a c kind o i (i + 1) None
     searched_lost i n kind o found t u w = record {
       stands_is = u.stands_is ∙ t.stands_is;
       kind_is = tt;
@@ -104,8 +104,8 @@ module _ {S : Type 0} {stands : S → Standing} {knows : S → Known → Type 0}
     }
 
     -- an index that was found free, and won
-    pub searched_won : {a b c : S} (i n : ℕ) (kind : RefKind) (o : ℕ) {shows : Known → Known → Type 0} → Took stands knows a b (Probe i false ∷ []) anything (λ j k. ShowsSlot i (slot.Free n) k × keeps j k)
-        → Took stands knows b c (Create (handle_of kind n i) o ∷ []) (λ k. HasObject o k × IsFreeSlot i n k) (λ j k. shows j k × keeps j k) → (stands a).role ≡ Within → Searched stands knows a c kind o i (i + 1) (Some (handle_of kind n i))
+    pub searched_won : {a b c : S} (i n : ℕ) (kind : RefKind) (o : ℕ) {shows : Known → Known → Type 0} → Took facts a b (Probe i false ∷ []) anything (λ j k. ShowsSlot i (slot.Free n) k × keeps j k)
+        → Took facts b c (Create (handle_of kind n i) o ∷ []) (λ k. HasObject o k × IsFreeSlot i n k) (λ j k. shows j k × keeps j k) → (facts a).stands.role ≡ Within → Searched facts a c kind o i (i + 1) (Some (handle_of kind n i))
     searched_won i n kind o t u w = record {
       stands_is = u.stands_is ∙ t.stands_is;
       kind_is = (refl, refl);
@@ -115,14 +115,14 @@ module _ {S : Type 0} {stands : S → Standing} {knows : S → Known → Type 0}
     }
 
   -- of a search that was won, the last index does not matter
-  pub searched_some : {a b : S} {kind : RefKind} {o first last : ℕ} {h : Handle} (last' : ℕ) → last ≤ last' → Searched stands knows a b kind o first last (Some h) → Searched stands knows a b kind o first last' (Some h)
+  pub searched_some : {a b : S} {kind : RefKind} {o first last : ℕ} {h : Handle} (last' : ℕ) → last ≤ last' → Searched facts a b kind o first last (Some h) → Searched facts a b kind o first last' (Some h)
   searched_some {o = o} {h = h} last' more p = record {
     stands_is = p.stands_is;
     kind_is = p.kind_is;
     did = λ k s m. let x = p.did k s m in let most = x.7 in (x.0, x.1, x.2, tt, x.4, x.5, x.6, omega arith, x.8);
   }
 
-  pub searched_then : {a b c : S} {kind : RefKind} {o first mid last : ℕ} {made : Option Handle} → Searched stands knows a b kind o first mid None → Searched stands knows b c kind o mid last made → Searched stands knows a c kind o first last made
+  pub searched_then : {a b c : S} {kind : RefKind} {o first mid last : ℕ} {made : Option Handle} → Searched facts a b kind o first mid None → Searched facts b c kind o mid last made → Searched facts a c kind o first last made
   searched_then {o} {first} {mid} {last} {made} p q = record {
     stands_is = q.stands_is ∙ p.stands_is;
     kind_is = q.kind_is;

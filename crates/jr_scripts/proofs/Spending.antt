@@ -9,7 +9,7 @@ use Rattle.jr_model.specs.Frames.{Frames}
 use Rattle.jr_model.specs.Calls.{Call, Ran}
 use Rattle.jr_model.proofs.Stays.{append_cancel, did_nothing, did_then}
 use Rattle.jr_steps.specs.declared.known.Known.{Known}
-use Rattle.jr_steps.specs.Knowing.{Standing, view, fresh_after, fresh_from, anything, Takes, Took}
+use Rattle.jr_steps.specs.Knowing.{Facts, Standing, view, fresh_after, fresh_from, anything, Takes, Took}
 use Rattle.jr_steps.proofs.StepFacts.{goes_did}
 use Rattle.jr_gate.specs.Acting.{ActedTo, IsWithdrawn}
 use Rattle.jr_scripts.specs.Performing.{Moment, moment, Spends, IsMade}
@@ -78,19 +78,19 @@ spend_none fresh k f g l = record {
 pub spend_acts : {k k' : Known} {a b : Bool} (f g : Frames) (silent : ℕ) (acts : List Act) (without : ℕ) → without ≤ silent → Did (view k) (view k') acts → Takes (length acts + without) k k' → b ≡ fresh_from a acts → Spending silent (moment a k f) (moment b k' g)
 spend_acts f g silent acts without most did taken fresh = record { acts = acts; did = did; spent = record { without = without; most = most; taken = taken; fresh = fresh } }
 
-module _ {S : Type 0} {stands : S → Standing} {knows : S → Known → Type 0} where
+module _ {S : Type 0} {facts : S → Facts} where
   -- one step with an act
-  pub spend_step : {a b : S} {x : Act} {met : Known → Type 0} {shows : Known → Known → Type 0} (t : Took stands knows a b (x ∷ []) met shows) (k : Known) (s : knows a k) (m : met k) (f g : Frames)
-      → Spending 0 (moment (stands a).fresh k f) (moment (stands b).fresh (t.goes k s m).0 g)
+  pub spend_step : {a b : S} {x : Act} {met : Known → Type 0} {shows : Known → Known → Type 0} (t : Took facts a b (x ∷ []) met shows) (k : Known) (s : (facts a).knows k) (m : met k) (f g : Frames)
+      → Spending 0 (moment (facts a).stands.fresh k f) (moment (facts b).stands.fresh (t.goes k s m).0 g)
   spend_step {a} {b} {x} t k s m f g =
       let y = t.goes k s m in
       let one = y.2.taken in
       spend_acts f g 0 (x ∷ []) 0 (omega arith) (goes_did y.2) (omega arith) (ap (λ (z : Standing). z.fresh) t.stands_is)
 
   -- a knock and its withdrawal
-  pub spend_barred : {a b : S} (t : ActedTo stands knows a b (Knock ∷ Withdraw ∷ []) anything IsWithdrawn) (k : Known) (s : knows a k) (f g : Frames)
-      → Spending 0 (moment (stands a).fresh k f) (moment (stands b).fresh (t.did k s tt).0 g)
+  pub spend_barred : {a b : S} (t : ActedTo facts a b (Knock ∷ Withdraw ∷ []) anything IsWithdrawn) (k : Known) (s : (facts a).knows k) (f g : Frames)
+      → Spending 0 (moment (facts a).stands.fresh k f) (moment (facts b).stands.fresh (t.leads k s tt).0 g)
   spend_barred {a} {b} t k s f g =
-      let y = t.did k s tt in
-      let two = y.3.1 in
+      let y = t.leads k s tt in
+      let two = y.3.0.1 in
       spend_acts f g 0 (Knock ∷ Withdraw ∷ []) 0 (omega arith) y.2 (omega arith) (ap (λ (z : Standing). z.fresh) t.stands_is)

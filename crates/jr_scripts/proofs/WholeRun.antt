@@ -5,14 +5,14 @@ use Rattle.jr_word.specs.declared.fault.Fault.{Fault}
 use Rattle.jr_model.specs.declared.event.Role.TheVariants.{Outside}
 use Rattle.jr_model.specs.declared.summary.Summary.{Summary}
 use Rattle.jr_model.specs.State.{summary}
-use Rattle.jr_model.specs.History.{PassView, IsLegal, state}
+use Rattle.jr_model.specs.History.{IsLegal, state}
 use Rattle.jr_model.specs.Frames.{Frames, fresh_frames}
 use Rattle.jr_syntax.specs.declared.command.Command.{Command}
 use Rattle.jr_syntax.specs.declared.thread.ThreadPart.{ThreadPart}
 use Rattle.jr_steps.specs.declared.known.Known.{Known}
-use Rattle.jr_steps.specs.Knowing.{Standing, IsOf, view, Holds}
+use Rattle.jr_steps.specs.Knowing.{AreOf, Facts, IsOf, view, Holds}
 use Rattle.jr_rule.specs.declared.plain.PlainSteps.{PlainSteps}
-use Rattle.jr_rule.specs.Plain.{unseen, standing_alone, Shows}
+use Rattle.jr_rule.specs.Plain.{unseen, standing_alone, facts_over, Shows}
 use Rattle.jr_scripts.specs.Performing.{moment}
 use Rattle.jr_scripts.specs.Text.{heading, ending}
 use Rattle.jr_scripts.specs.Explains.{Explained}
@@ -27,16 +27,16 @@ same_view c last k config_is last_is thread_is =
     ∙ (ap (λ x. record { config = c; last = x; thread = k.thread; seen = k.seen }) last_is
     ∙ ap (λ x. record { config = c; last = last; thread = x; seen = k.seen }) thread_is)
 
-module _ {S : Type 0} {stands : S → Standing} {knows : S → Known → Type 0} (fits : (s : S) (k : Known) → knows s k → IsOf (stands s) k) where
+module _ {S : Type 0} {facts : S → Facts} (fits : AreOf facts) where
   -- no local reference stands at the opening
   pub opening_holds : (c : Config) (last : ℕ) → Holds (fresh_frames c.locals) (unseen c last)
   opening_holds c last p = refl
 
   pub is_run : {old new : S} {f g : Frames} (turns last : ℕ) (c : Config) (part : ThreadPart) (lines whole : List ℕ) (v : Summary)
-      → c.threads ≡ 1 → (stands old).config ≡ c → (stands old).last ≡ last → (stands old).thread ≡ 0 → (stands old).fresh ≡ true
-      → knows old (unseen c last) → f ≡ fresh_frames c.locals
-      → RanThread stands knows old new f g turns 3 part.commands (Ok tt) lines
-      → ((k : Known) → knows new k → v ≡ summary k.config k.last (state k.seen))
+      → c.threads ≡ 1 → (facts old).stands.config ≡ c → (facts old).stands.last ≡ last → (facts old).stands.thread ≡ 0 → (facts old).stands.fresh ≡ true
+      → (facts old).knows (unseen c last) → f ≡ fresh_frames c.locals
+      → RanThread facts old new f g turns 3 part.commands (Ok tt) lines
+      → ((k : Known) → (facts new).knows k → v ≡ summary k.config k.last (state k.seen))
       → whole ≡ heading part.name ++ lines ++ ending v
       → IsRun turns last c part whole
   is_run {old} {new} {f} {g} turns last c part lines whole v one config_is last_is thread_is unspent known fresh ran tells whole_is =
@@ -49,8 +49,8 @@ module _ {S : Type 0} {stands : S → Standing} {knows : S → Known → Type 0}
       let thread_of : k.thread ≡ 0 = of.thread ∙ (ran.stands_is.thread ∙ thread_is) in
       let legal : IsLegal c last k.seen = subst (λ d. IsLegal d last k.seen) config_of (subst (λ l. IsLegal k.config l k.seen) last_of of.legal) in
       let sum : v ≡ summary c last (state k.seen) = tells k x.1 ∙ (ap (λ d. summary d k.last (state k.seen)) config_of ∙ ap (λ l. summary c l (state k.seen)) last_of) in
-      let end = moment (stands new).fresh k g in
-      let from : Explained turns 3 (opening_moment c last) part.commands lines end = subst (λ b. Explained turns 3 (moment b k0 (fresh_frames c.locals)) part.commands lines end) unspent (subst (λ h. Explained turns 3 (moment (stands old).fresh k0 h) part.commands lines end) fresh x.3) in
+      let end = moment (facts new).stands.fresh k g in
+      let from : Explained turns 3 (opening_moment c last) part.commands lines end = subst (λ b. Explained turns 3 (moment b k0 (fresh_frames c.locals)) part.commands lines end) unspent (subst (λ h. Explained turns 3 (moment (facts old).stands.fresh k0 h) part.commands lines end) fresh x.3) in
       let all = undisturbed c last one k.seen legal in
       let went = went_alone turns 3 (opening_moment c last) end part.commands lines from.0 from.1 (lone_pass (view k) (ap (λ d. d.threads) config_of ∙ one) thread_of all) in
       record {
@@ -70,7 +70,7 @@ pub plain_run : {old new : PlainSteps 4294967295} {f g : Frames} {commands : Lis
     → c.threads ≡ 1 → made.config ≡ c → made.role ≡ Outside → made.fresh ≡ true → Shows (standing_alone c 4294967295 Outside true) made.words.items (unseen c 4294967295)
     → old ≡ made → f ≡ fresh_frames made.config.locals
     → commands ≡ part.commands → answer ≡ Ok tt
-    → RanThread (λ s. standing_alone s.config 4294967295 s.role s.fresh) (λ s k. Shows (standing_alone s.config 4294967295 s.role s.fresh) s.words.items k) old new f g turns 3 commands answer lines
+    → RanThread (λ s. facts_over (standing_alone s.config 4294967295 s.role s.fresh) s.words.items) old new f g turns 3 commands answer lines
     → ((k : Known) → Shows (standing_alone new.config 4294967295 new.role new.fresh) new.words.items k → v ≡ summary k.config k.last (state k.seen))
     → whole ≡ heading part.name ++ lines ++ ending v
     → IsRun turns 4294967295 c part whole
@@ -81,5 +81,5 @@ plain_run {old} {new} {f} {g} {commands} turns c part lines whole v made one con
     (subst (λ r. Shows (standing_alone c 4294967295 r made.fresh) made.words.items (unseen c 4294967295)) (sym role_is)
     (subst (λ b. Shows (standing_alone c 4294967295 Outside b) made.words.items (unseen c 4294967295)) (sym fresh_is) opening))) in
     let Leads : List Command → Result (Unit {0}) Fault → Type 0
-    = λ cs r. RanThread (λ (s : PlainSteps 4294967295). standing_alone s.config 4294967295 s.role s.fresh) (λ s k. Shows (standing_alone s.config 4294967295 s.role s.fresh) s.words.items k) old new f g turns 3 cs r lines in
+    = λ cs r. RanThread (λ (s : PlainSteps 4294967295). facts_over (standing_alone s.config 4294967295 s.role s.fresh) s.words.items) old new f g turns 3 cs r lines in
     is_run (λ s k h. h.pass) turns 4294967295 c part lines whole v one (ap (λ (s : PlainSteps 4294967295). s.config) same ∙ config_is) refl refl (ap (λ (s : PlainSteps 4294967295). s.fresh) same ∙ fresh_is) known (fresh ∙ ap (λ d. fresh_frames d.locals) config_is) (subst (λ cs. Leads cs (Ok tt)) these (subst (Leads commands) good ran)) tells whole_is

@@ -1,5 +1,5 @@
 -- Runs of scripts of several threads, in one room and one history.
-use Rattle.std.specs.Prelude.{◌≡◌, ◌+◌, ◌<◌, ◌^◌, ℕ, zero, suc, true, List, [], ◌∷◌, ◌++◌, map, length, Result, Ok, Err}
+use Rattle.std.specs.Prelude.{◌≡◌, ◌+◌, ℕ, zero, suc, true, List, [], ◌∷◌, ◌++◌, length, Result}
 use mathlib.Core.List.{IsPrefix}
 use Rattle.jr_word.specs.declared.config.Config.{Config}
 use Rattle.jr_word.specs.declared.fault.Fault.{Fault}
@@ -12,7 +12,7 @@ use Rattle.jr_syntax.specs.declared.command.Command.{Command}
 use Rattle.jr_syntax.specs.declared.thread.ThreadPart.{ThreadPart}
 use Rattle.jr_syntax.specs.declared.script.Script.{Script}
 use Rattle.jr_rule.specs.declared.pass.Pass.{Pass}
-use Rattle.jr_rule.specs.Passes.{standing_of, Knows}
+use Rattle.jr_rule.specs.Passes.{facts_of, standing_of}
 use Rattle.jr_scripts.specs.Performing.{Moment}
 use Rattle.jr_steps.specs.Holdings.{empty}
 use Rattle.jr_scripts.specs.Text.{heading, ending}
@@ -22,7 +22,7 @@ use Rattle.jr_scripts.specs.Runs.{RanThread}
 -- a thread ran these commands with its pass, which it hands back
 pub record RanPass (turns first : ℕ) (commands : List Command) (old new : Pass) (answer : Result (Unit {0}) Fault) (text : List ℕ) : Type 0 where
   pub frames : Frames
-  pub ran : RanThread standing_of Knows old new (fresh_frames (standing_of old).config.locals) frames turns first commands answer text
+  pub ran : RanThread facts_of old new (fresh_frames (standing_of old).config.locals) frames turns first commands answer text
 
 -- a pass of the thread that has seen this
 abbrev pub seeing_as : Config → ℕ → ℕ → History → PassView

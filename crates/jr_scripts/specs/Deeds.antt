@@ -13,7 +13,7 @@ use Rattle.jr_model.specs.Calls.{Call}
 use Rattle.jr_model.specs.Checks.{Word}
 use Rattle.jr_steps.specs.declared.known.Known.{Known}
 use Rattle.jr_steps.specs.Holdings.{empty}
-use Rattle.jr_steps.specs.Knowing.{Standing, Holds}
+use Rattle.jr_steps.specs.Knowing.{Facts, Leads, Holds}
 use Rattle.jr_scripts.specs.Reading.{IsReadAs}
 use Rattle.jr_scripts.specs.Performing.{IsAsBefore, Moment, moment, IsMade}
 
@@ -96,8 +96,8 @@ is_same_object v w = call_on_both v w (λ c last t s a b. references.is_same_obj
 abbrev pub get_object_ref_type : ℕ → Deed ℕ
 get_object_ref_type w = call_on w (λ c last t s a. references.get_object_ref_type c last t a)
 
-module _ {S : Type 0} (stands : S → Standing) (knows : S → Known → Type 0) where
+module _ {S : Type 0} (facts : S → Facts) where
   -- the deed was done: for whatever was known, something is known that it may lead to
-  pub record Does {A : Type 0} (old new : S) (before after : Frames) (deed : Deed A) (answer : Result A Fault) : Type 0 where
-    pub stands_is : IsAsBefore (stands old) (stands new)
-    pub did : (k : Known) → knows old k → Holds before k → (k' : Known) × knows new k' × Holds after k' × deed (moment (stands old).fresh k before) answer (moment (stands new).fresh k' after)
+  pub record DoesDeed {A : Type 0} (old new : S) (before after : Frames) (deed : Deed A) (answer : Result A Fault) : Type 0 where
+    pub stands_is : IsAsBefore (facts old).stands (facts new).stands
+    pub did : Leads facts old new (Holds before) (λ k k'. Holds after k') (λ k k'. deed (moment (facts old).stands.fresh k before) answer (moment (facts new).stands.fresh k' after))

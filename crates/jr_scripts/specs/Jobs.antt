@@ -1,6 +1,5 @@
 -- For the crate's own functions: what the threads of a script are given, and what they give back.
-use Rattle.std.specs.Prelude.{◌≡◌, ◌+◌, ◌<◌, ◌^◌, ℕ, true, List, [], ◌∷◌, ◌++◌, length, Result, Ok}
-use Rattle.jr_model.specs.declared.event.Role.TheVariants.{Outside}
+use Rattle.std.specs.Prelude.{◌≡◌, ◌+◌, ◌<◌, ◌^◌, ℕ, List, [], ◌∷◌, ◌++◌, length, Ok}
 use Rattle.jr_syntax.specs.declared.thread.ThreadPart.{ThreadPart}
 use Rattle.jr_rule.specs.declared.pass.Pass.{Pass}
 use Rattle.jr_rule.specs.declared.row.Row.{Row}

@@ -4,6 +4,7 @@ pub mod Table
 pub mod Places
 pub mod Ready
 pub mod Deeds
+pub mod Envs
 pub mod Names
 pub mod Tries
 pub mod Commands

@@ -16,7 +16,7 @@ use Rattle.jr_word.specs.declared.header.HeaderParts.{HeaderParts}
 use Rattle.jr_steps.specs.declared.known.Known.{Known}
 use Rattle.jr_steps.specs.declared.known.Holdings.{Holdings}
 use Rattle.jr_steps.specs.Holdings.{with_header}
-use Rattle.jr_steps.specs.Knowing.{Standing, view, state_of, fresh_from, keeps, lets_go, Takes, HasObject, HasOptional, Holds}
+use Rattle.jr_steps.specs.Knowing.{Facts, Leads, Standing, view, state_of, fresh_from, keeps, lets_go, Takes, HasObject, HasOptional, Holds}
 
 -- the same room, thread and role, whether or not the pass is fresh
 pub record IsAsBefore (old new : Standing) : Type 0 where
@@ -50,12 +50,11 @@ pub record IsMade {A : Type 0} (silent : ℕ) (old new : Moment) (call : Call A)
   pub ran : Ran old.pass new.pass old.frames new.frames call answer
   pub spent : Spends silent old new ran.acts
 
-module _ {S : Type 0} (stands : S → Standing) (knows : S → Known → Type 0) where
+module _ {S : Type 0} (facts : S → Facts) where
   -- a call was made: for whatever was known and meets the condition, something is known from which the thread did what the call does, with this answer, and which shows this. The call may name the state that it leaves
   pub record Performed {A : Type 0} (old new : S) (before after : Frames) (silent : ℕ) (met : Known → Type 0) (call : State → Call A) (answer : Result A Fault) (shows : Known → Known → Type 0) : Type 0 where
-    pub stands_is : IsAsBefore (stands old) (stands new)
-    pub ran : (k : Known) → knows old k → met k
-        → (k' : Known) × knows new k' × IsMade silent (moment (stands old).fresh k before) (moment (stands new).fresh k' after) (call (state_of k')) answer × shows k k'
+    pub stands_is : IsAsBefore (facts old).stands (facts new).stands
+    pub ran : Leads facts old new met (λ k k'. IsMade silent (moment (facts old).stands.fresh k before) (moment (facts new).stands.fresh k' after) (call (state_of k')) answer) shows
 
 -- looks at slots, and then the creation, if one was won
 abbrev pub search_acts : ℕ → List (ℕ × Bool) → Option Handle → List Act
@@ -95,21 +94,21 @@ LearnsNew kind (Some o) j k = k.holdings ≡ with_header j.holdings o (bare kind
 abbrev pub TwoEach : ℕ → ℕ → List Act → Type 0
 TwoEach first last acts = first + first + length acts ≤ last + last
 
-module _ {S : Type 0} (stands : S → Standing) (knows : S → Known → Type 0) where
+module _ {S : Type 0} (facts : S → Facts) where
   -- the slots from first to last were searched for a free one, for a new reference to a present object: by one operation for each act, and by no more than two for each slot. The pass holds what it held
   pub record Searched (old new : S) (kind : RefKind) (o first last : ℕ) (made : Option Handle) : Type 0 where
-    pub stands_is : stands new ≡ stands old
+    pub stands_is : (facts new).stands ≡ (facts old).stands
     pub kind_is : OfKind kind made
-    pub did : (k : Known) → knows old k → HasObject o k
-        → (k' : Known) × knows new k' × HasObject o k' × EachOccupied k.seen (view k') first last made × (looks : List (ℕ × Bool)) × Did (view k) (view k') (search_acts o looks made)
+    pub did : (k : Known) → (facts old).knows k → HasObject o k
+        → (k' : Known) × (facts new).knows k' × HasObject o k' × EachOccupied k.seen (view k') first last made × (looks : List (ℕ × Bool)) × Did (view k) (view k') (search_acts o looks made)
         × Takes (length (search_acts o looks made)) k k' × TwoEach first last (search_acts o looks made) × keeps k k'
 
   -- a new object without elements, or every object number is present: by one operation for the new object, and at most one for each number
   pub record Published (old new : S) (kind : Kind) (made : Option ℕ) : Type 0 where
-    pub stands_is : stands new ≡ stands old
-    pub did : (k : Known) → knows old k
-        → (k' : Known) × knows new k' × IsPublished (stands old).config made k' × Did (view k) (view k') (publication kind made) × LearnsNew kind made k k'
-        × (without : ℕ) × (without ≤ (stands old).config.objects) × Takes (length (publication kind made) + without) k k'
+    pub stands_is : (facts new).stands ≡ (facts old).stands
+    pub did : (k : Known) → (facts old).knows k
+        → (k' : Known) × (facts new).knows k' × IsPublished (facts old).stands.config made k' × Did (view k) (view k') (publication kind made) × LearnsNew kind made k k'
+        × (without : ℕ) × (without ≤ (facts old).stands.config.objects) × Takes (length (publication kind made) + without) k k'
 
 -- the object that was found is present
 abbrev pub FoundPresent : Result (Option ℕ) Fault → Known → Type 0
@@ -121,23 +120,23 @@ abbrev pub object_made : Frames → Result Handle Fault → Option ℕ
 object_made f (Ok h) = object_at f h.index
 object_made f (Err e) = None
 
-module _ {S : Type 0} (stands : S → Standing) (knows : S → Known → Type 0) where
+module _ {S : Type 0} (facts : S → Facts) where
   -- a reference was resolved: the object that was found is present
   abbrev pub Resolves : S → S → Frames → Call (Option ℕ) → Result (Option ℕ) Fault → Type 0
-  Resolves old new f call answer = Performed stands knows old new f f 0 (Holds f) (λ s. call) answer (λ j k. keeps j k × Holds f k × FoundPresent answer k)
+  Resolves old new f call answer = Performed facts old new f f 0 (Holds f) (λ s. call) answer (λ j k. keeps j k × Holds f k × FoundPresent answer k)
 
   -- a call was made in a stay: the pass holds what it held, and the frames go on agreeing with the locals
   abbrev pub Calls : {A : Type 0} → S → S → Frames → Frames → Call A → Result A Fault → Type 0
-  Calls old new f g call answer = Performed stands knows old new f g 0 (Holds f) (λ s. call) answer (λ j k. keeps j k × Holds g k)
+  Calls old new f g call answer = Performed facts old new f g 0 (Holds f) (λ s. call) answer (λ j k. keeps j k × Holds g k)
 
   -- a plain object and a local reference to it were made in a stay, by at most so many operations beside the acts: the pass holds the header of that very object beside what it held, and where the call was refused just what it held; the frames go on agreeing with the locals
   abbrev pub MakesPlain : S → S → Frames → Frames → ℕ → Call Handle → Result Handle Fault → Type 0
-  MakesPlain old new f g silent call answer = Performed stands knows old new f g silent (Holds f) (λ s. call) answer (λ j k. LearnsNew Plain (object_made g answer) j k × Holds g k)
+  MakesPlain old new f g silent call answer = Performed facts old new f g silent (Holds f) (λ s. call) answer (λ j k. LearnsNew Plain (object_made g answer) j k × Holds g k)
 
   -- a whole call was made: the pass holds nothing, and the frames go on agreeing with the locals
   abbrev pub CallsWhole : {A : Type 0} → S → S → Frames → Frames → ℕ → Call A → Result A Fault → Type 0
-  CallsWhole old new f g silent call answer = Performed stands knows old new f g silent (Holds f) (λ s. call) answer (λ j k. lets_go j k × Holds g k)
+  CallsWhole old new f g silent call answer = Performed facts old new f g silent (Holds f) (λ s. call) answer (λ j k. lets_go j k × Holds g k)
 
   -- a local reference was made to a present object, or none to none, and the frames go on agreeing with the locals
   abbrev pub MakesLocal : S → S → Frames → Frames → Option ℕ → Call (Option Handle) → Result (Option Handle) Fault → Type 0
-  MakesLocal old new f g o call answer = Performed stands knows old new f g 0 (λ k. Holds f k × HasOptional o k) (λ s. call) answer (λ j k. keeps j k × Holds g k)
+  MakesLocal old new f g o call answer = Performed facts old new f g 0 (λ k. Holds f k × HasOptional o k) (λ s. call) answer (λ j k. keeps j k × Holds g k)

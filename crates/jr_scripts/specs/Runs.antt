@@ -14,7 +14,7 @@ use Rattle.jr_syntax.specs.declared.command.Command.{Command}
 use Rattle.jr_syntax.specs.declared.thread.ThreadPart.{ThreadPart}
 use Rattle.jr_syntax.specs.declared.script.Script.{Script}
 use Rattle.jr_steps.specs.declared.known.Known.{Known}
-use Rattle.jr_steps.specs.Knowing.{Standing, Holds}
+use Rattle.jr_steps.specs.Knowing.{Facts, Holds}
 use Rattle.jr_steps.specs.Holdings.{empty}
 use Rattle.jr_scripts.specs.Performing.{IsAsBefore, Moment, moment}
 use Rattle.jr_scripts.specs.declared.reply.Reply.{Reply}
@@ -23,11 +23,11 @@ use Rattle.jr_scripts.specs.Text.{printed, names_after, heading, ending}
 use Rattle.jr_scripts.specs.Explains.{Explained, LeavesText}
 use Rattle.jr_scripts.specs.AloneAnswers.{AnswersAlone}
 
-module _ {S : Type 0} (stands : S → Standing) (knows : S → Known → Type 0) where
+module _ {S : Type 0} (facts : S → Facts) where
   -- the commands were run: for whatever was known, something is known that explains the text
   pub record RanThread (old new : S) (before after : Frames) (turns first : ℕ) (commands : List Command) (answer : Result (Unit {0}) Fault) (text : List ℕ) : Type 0 where
-    pub stands_is : IsAsBefore (stands old) (stands new)
-    pub explained : (k : Known) → knows old k → Holds before k → (k' : Known) × knows new k' × Holds after k' × LeavesText turns first (moment (stands old).fresh k before) commands answer text (moment (stands new).fresh k' after)
+    pub stands_is : IsAsBefore (facts old).stands (facts new).stands
+    pub explained : (k : Known) → (facts old).knows k → Holds before k → (k' : Known) × (facts new).knows k' × Holds after k' × LeavesText turns first (moment (facts old).stands.fresh k before) commands answer text (moment (facts new).stands.fresh k' after)
 
 -- what is kept of a command that was done: its line is written and its name set, or memory was refused and nothing is written
 abbrev pub WritesDown : ℕ → Command → Result Reply Fault → Names → Names → Result (Unit {0}) AllocError → List ℕ → List ℕ → Type 0

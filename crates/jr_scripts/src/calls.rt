@@ -1,13 +1,12 @@
 //! The calls for the references of one thread, over its steps and its local references.
-ghost use Rattle.std.specs.Prelude.{◌≡◌, ◌≢◌, Some, None, Ok, IfOk, IfSome};
+ghost use Rattle.std.specs.Prelude.{◌≡◌, ◌≢◌, IfOk, IfSome};
 ghost use Rattle.jr_word.specs.declared.handle.RefKind.TheVariants.{Local};
 ghost use Rattle.jr_model.specs.declared.event.Role.TheVariants.{Within};
 ghost use Rattle.jr_model.specs.Frames.{Frames as LocalFrames};
 ghost use Rattle.jr_model.specs.Checks.{Parts};
-ghost use Rattle.jr_model.specs.References.{new_local, creation, local_creation, comparison, making, removal, local_removal};
+ghost use Rattle.jr_model.specs.References.{new_local, removal, local_removal};
 ghost use Rattle.jr_steps.specs.Knowing.{MayKnow, HasOptional};
-ghost use Rattle.jr_scripts.specs.Reading.{word_of, OwnerFits};
-ghost use Rattle.jr_scripts.specs.Performing.{Calls, MakesLocal, MakesPlain};
+ghost use Rattle.jr_scripts.specs.Performing.{Calls, MakesLocal};
 ghost use Rattle.jr_scripts.specs.Ready.{StandsReady, KeepsOwner};
 
 use crate::frames::Frames;
@@ -43,7 +42,13 @@ impl<S: Steps> Work<S> for Making {
     ghost gives = { λ t h. (h.kind ≡ Local) × (h.owner ≡ t) };
 
     fn work(&self, steps: &mut S, frames: &mut Frames) -> Result<HandleParts, Fault> {
-        make_plain(steps, frames)
+        let Some(handle) = frames.next() else {
+            return Err(Fault::LocalsFull);
+        };
+        let object = publish(steps, Kind::Plain)?;
+        steps.put_local(handle.index, Some(object));
+        frames.add(handle, object);
+        Ok(handle)
     }
 }
 
@@ -76,7 +81,11 @@ impl<S: Steps> Work<S> for Creation {
     ghost gives = { λ t made. IfSome made (λ h. h.owner ≡ 0) };
 
     fn work(&self, steps: &mut S, frames: &mut Frames) -> Result<Option<HandleParts>, Fault> {
-        create_within(steps, frames, self.kind, self.target)
+        let Some(object) = resolve(steps, frames, self.target)? else {
+            return Ok(None);
+        };
+        let handle = create(steps, self.kind, object)?;
+        Ok(Some(handle))
     }
 }
 
@@ -104,7 +113,8 @@ impl<S: Steps> Work<S> for LocalCreation {
     ghost gives = { λ t made. IfSome made (λ h. (h.kind ≡ Local) × (h.owner ≡ t)) };
 
     fn work(&self, steps: &mut S, frames: &mut Frames) -> Result<Option<HandleParts>, Fault> {
-        create_local_within(steps, frames, self.0)
+        let object = resolve(steps, frames, self.0)?;
+        make_local(steps, frames, object)
     }
 }
 
@@ -137,7 +147,11 @@ impl<S: Steps> Work<S> for Removal {
     ghost gives = { λ _ _. Unit {0} };
 
     fn work(&self, steps: &mut S, frames: &mut Frames) -> Result<(), Fault> {
-        delete_within(steps, self.kind, self.target)
+        match self.target {
+            Reference::Null => Ok(()),
+            Reference::Malformed => Err(Fault::Stale),
+            Reference::Parts(handle) => delete_parts(steps, self.kind, handle),
+        }
     }
 }
 
@@ -163,7 +177,11 @@ impl<S: Steps> Work<S> for LocalRemoval {
     ghost gives = { λ _ _. Unit {0} };
 
     fn work(&self, steps: &mut S, frames: &mut Frames) -> Result<(), Fault> {
-        delete_local_within(steps, frames, self.0)
+        match self.0 {
+            Reference::Null => Ok(()),
+            Reference::Malformed => Err(Fault::Stale),
+            Reference::Parts(handle) => delete_local_parts(steps, frames, handle),
+        }
     }
 }
 
@@ -189,7 +207,8 @@ impl<S: Steps> Work<S> for Comparison {
     ghost gives = { λ _ _. Unit {0} };
 
     fn work(&self, steps: &mut S, frames: &mut Frames) -> Result<bool, Fault> {
-        compare_within(steps, frames, self.0, self.1)
+        let (first, second) = resolve_both(steps, frames, self.0, self.1)?;
+        Ok(first == second)
     }
 }
 
@@ -219,69 +238,17 @@ impl<S: Steps> Work<S> for Typing {
     }
 }
 
-/// A plain object and a local reference to it, within the gate: E9, E11.
-fn make_plain<S: Steps>(steps: &mut S, frames: &mut Frames) -> Result<HandleParts, Fault>
-    requires { StandsReady S.stands S.knows Within steps.old frames.old }
-    ensures call { MakesPlain S.stands S.knows steps.old steps.new frames.old.frames frames.new.frames (S.stands steps.old).config.objects (making (S.stands steps.old).config (S.stands steps.old).last (S.stands steps.old).thread) result }
-    ensures same { KeepsOwner frames.old frames.new }
-    ensures owner { IfOk result (λ h. (h.kind ≡ Local) × (h.owner ≡ (S.stands steps.old).thread)) }
-{
-    let Some(handle) = frames.next() else {
-        return Err(Fault::LocalsFull);
-    };
-    let object = publish(steps, Kind::Plain)?;
-    steps.put_local(handle.index, Some(object));
-    frames.add(handle, object);
-    Ok(handle)
-}
-
-/// A reference of the kind to what a reference names, within the gate: E2, E3, E8.
-fn create_within<S: Steps>(
-    steps: &mut S,
-    frames: &Frames,
-    kind: RefKind,
-    reference: Reference,
-) -> Result<Option<HandleParts>, Fault>
-    requires ready { StandsReady S.stands S.knows Within steps.old frames.now }
-    requires kind { kind ≢ Local }
-    requires fits { OwnerFits reference }
-    ensures call { Calls S.stands S.knows steps.old steps.new frames.now.frames frames.now.frames (creation (S.stands steps.old).config (S.stands steps.old).last (S.stands steps.old).thread kind (word_of reference)) result }
-    ensures owner { IfOk result (λ made. IfSome made (λ h. h.owner ≡ 0)) }
-{
-    let Some(object) = resolve(steps, frames, reference)? else {
-        return Ok(None);
-    };
-    let handle = create(steps, kind, object)?;
-    Ok(Some(handle))
-}
-
-/// A local reference to what a reference names, within the gate: E2, E3, E9.
-fn create_local_within<S: Steps>(
-    steps: &mut S,
-    frames: &mut Frames,
-    reference: Reference,
-) -> Result<Option<HandleParts>, Fault>
-    requires ready { StandsReady S.stands S.knows Within steps.old frames.old }
-    requires fits { OwnerFits reference }
-    ensures call { Calls S.stands S.knows steps.old steps.new frames.old.frames frames.new.frames (local_creation (S.stands steps.old).config (S.stands steps.old).last (S.stands steps.old).thread (word_of reference)) result }
-    ensures same { KeepsOwner frames.old frames.new }
-    ensures owner { IfOk result (λ made. IfSome made (λ h. (h.kind ≡ Local) × (h.owner ≡ (S.stands steps.old).thread))) }
-{
-    let object = resolve(steps, frames, reference)?;
-    make_local(steps, frames, object)
-}
-
 /// A local reference to a present object, none to none, within the gate: E9.
 fn make_local<S: Steps>(
     steps: &mut S,
     frames: &mut Frames,
     object: Option<u16>,
 ) -> Result<Option<HandleParts>, Fault>
-    requires ready { StandsReady S.stands S.knows Within steps.old frames.old }
-    requires object { MayKnow S.knows steps.old (HasOptional object) }
-    ensures call { MakesLocal S.stands S.knows steps.old steps.new frames.old.frames frames.new.frames object (new_local (S.stands steps.old).config (S.stands steps.old).last (S.stands steps.old).thread object) result }
+    requires ready { StandsReady S.facts Within steps.old frames.old }
+    requires object { MayKnow S.facts steps.old (HasOptional object) }
+    ensures call { MakesLocal S.facts steps.old steps.new frames.old.frames frames.new.frames object (new_local (S.facts steps.old).stands.config (S.facts steps.old).stands.last (S.facts steps.old).stands.thread object) result }
     ensures same { KeepsOwner frames.old frames.new }
-    ensures owner { IfOk result (λ made. IfSome made (λ h. (h.kind ≡ Local) × (h.owner ≡ (S.stands steps.old).thread))) }
+    ensures owner { IfOk result (λ made. IfSome made (λ h. (h.kind ≡ Local) × (h.owner ≡ (S.facts steps.old).stands.thread))) }
 {
     let Some(object) = object else {
         return Ok(None);
@@ -294,42 +261,12 @@ fn make_local<S: Steps>(
     Ok(Some(handle))
 }
 
-/// Whether two references are to one object, within the gate: E2, E3.
-fn compare_within<S: Steps>(
-    steps: &mut S,
-    frames: &Frames,
-    left: Reference,
-    right: Reference,
-) -> Result<bool, Fault>
-    requires role { (S.stands steps.old).role ≡ Within }
-    requires left { OwnerFits left }
-    requires right { OwnerFits right }
-    ensures { Calls S.stands S.knows steps.old steps.new frames.now.frames frames.now.frames (comparison (S.stands steps.old).config (S.stands steps.old).last (S.stands steps.old).thread (word_of left) (word_of right)) result }
-{
-    let (first, second) = resolve_both(steps, frames, left, right)?;
-    Ok(first == second)
-}
-
-/// Deletes a reference of the kind, within the gate: E2, E4.
-fn delete_within<S: Steps>(steps: &mut S, kind: RefKind, reference: Reference) -> Result<(), Fault>
-    requires role { (S.stands steps.old).role ≡ Within }
-    requires kind { kind ≢ Local }
-    requires fits { OwnerFits reference }
-    ensures { (f : LocalFrames) → Calls S.stands S.knows steps.old steps.new f f (removal (S.stands steps.old).config kind (word_of reference)) result }
-{
-    match reference {
-        Reference::Null => Ok(()),
-        Reference::Malformed => Err(Fault::Stale),
-        Reference::Parts(handle) => delete_parts(steps, kind, handle),
-    }
-}
-
 /// Deletes the reference of a handle, if it is of the kind.
 fn delete_parts<S: Steps>(steps: &mut S, kind: RefKind, handle: HandleParts) -> Result<(), Fault>
-    requires role { (S.stands steps.old).role ≡ Within }
+    requires role { (S.facts steps.old).stands.role ≡ Within }
     requires kind { kind ≢ Local }
     requires fits { handle.kind ≢ Local → handle.owner ≡ 0 }
-    ensures { (f : LocalFrames) → Calls S.stands S.knows steps.old steps.new f f (removal (S.stands steps.old).config kind (Parts handle)) result }
+    ensures { (f : LocalFrames) → Calls S.facts steps.old steps.new f f (removal (S.facts steps.old).stands.config kind (Parts handle)) result }
 {
     if !names_kind(kind, handle) {
         return Err(Fault::WrongKind);
@@ -340,31 +277,14 @@ fn delete_parts<S: Steps>(steps: &mut S, kind: RefKind, handle: HandleParts) -> 
     delete(steps, handle)
 }
 
-/// Deletes a local reference, within the gate: E2, E3, E4.
-fn delete_local_within<S: Steps>(
-    steps: &mut S,
-    frames: &mut Frames,
-    reference: Reference,
-) -> Result<(), Fault>
-    requires { StandsReady S.stands S.knows Within steps.old frames.old }
-    ensures call { Calls S.stands S.knows steps.old steps.new frames.old.frames frames.new.frames (local_removal (S.stands steps.old).config (S.stands steps.old).thread (word_of reference)) result }
-    ensures same { KeepsOwner frames.old frames.new }
-{
-    match reference {
-        Reference::Null => Ok(()),
-        Reference::Malformed => Err(Fault::Stale),
-        Reference::Parts(handle) => delete_local_parts(steps, frames, handle),
-    }
-}
-
 /// Deletes the local reference of a handle.
 fn delete_local_parts<S: Steps>(
     steps: &mut S,
     frames: &mut Frames,
     handle: HandleParts,
 ) -> Result<(), Fault>
-    requires { StandsReady S.stands S.knows Within steps.old frames.old }
-    ensures call { Calls S.stands S.knows steps.old steps.new frames.old.frames frames.new.frames (local_removal (S.stands steps.old).config (S.stands steps.old).thread (Parts handle)) result }
+    requires { StandsReady S.facts Within steps.old frames.old }
+    ensures call { Calls S.facts steps.old steps.new frames.old.frames frames.new.frames (local_removal (S.facts steps.old).stands.config (S.facts steps.old).stands.thread (Parts handle)) result }
     ensures same { KeepsOwner frames.old frames.new }
 {
     if !names_local(handle) {

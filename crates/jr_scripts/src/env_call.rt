@@ -6,7 +6,8 @@ use jr_word::{Fault, Handle};
 
 /// A call of an env, with what it is handed.
 pub trait EnvCall<S: Steps> {
-    ghost use Rattle.jr_scripts.specs.Deeds.{Deed, Does};
+    ghost use Rattle.jr_scripts.specs.Deeds.{Deed};
+    ghost use Rattle.jr_scripts.specs.Envs.{Does};
 
     /// What it answers.
     type Answer: Drop;
@@ -19,7 +20,7 @@ pub trait EnvCall<S: Steps> {
     ///
     /// Those of the env's method for the call.
     fn make(&self, env: &mut Env<S>) -> Result<Self::Answer, Fault>
-        ensures { Does S.stands S.knows env.old.steps env.new.steps env.old.frames.frames env.new.frames.frames (deed self.now) result };
+        ensures { Does env.old env.new (deed self.now) result };
 }
 
 /// A plain object and a local reference to it.

@@ -9,9 +9,9 @@ use jr_word::{Fault, HeaderParts, Kind};
 
 /// A new object without elements: E11 where every number is present.
 pub fn publish<S: Steps>(steps: &mut S, kind: Kind) -> Result<u16, Fault>
-    requires { (S.stands steps.old).role ≡ Within }
-    ensures ok { IfOk result (λ o. Published S.stands S.knows steps.old steps.new kind (Some o)) }
-    ensures err { IfErr result (λ e. (e ≡ ObjectsFull) × Published S.stands S.knows steps.old steps.new kind None) }
+    requires { (S.facts steps.old).stands.role ≡ Within }
+    ensures ok { IfOk result (λ o. Published S.facts steps.old steps.new kind (Some o)) }
+    ensures err { IfErr result (λ e. (e ≡ ObjectsFull) × Published S.facts steps.old steps.new kind None) }
 {
     let header = HeaderParts {
         kind,

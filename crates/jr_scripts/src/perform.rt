@@ -1,7 +1,8 @@
 //! The calls that a command makes.
 
 ghost use Rattle.jr_scripts.specs.declared.reply.Reply.TheVariants as replies;
-ghost use Rattle.jr_scripts.specs.Deeds.{Does, answered_by};
+ghost use Rattle.jr_scripts.specs.Deeds.{answered_by};
+ghost use Rattle.jr_scripts.specs.Envs.{Does};
 ghost use Rattle.jr_scripts.specs.Commands.{tried, deletion, type_of as type_deed, deed};
 
 use crate::env::Env;
@@ -21,7 +22,7 @@ use jr_word::{Fault, Handle, RefKind};
 fn ask<S: Steps, C: EnvCall<S>>(env: &mut Env<S>, turns: u64, call: &C) -> Result<Reply, Fault>
 where
     C::Answer: IntoReply,
-    ensures { Does S.stands S.knows env.old.steps env.new.steps env.old.frames.frames env.new.frames.frames (answered_by C.Answer.reply (tried turns (C.deed call.now))) result }
+    ensures { Does env.old env.new (answered_by C.Answer.reply (tried turns (C.deed call.now))) result }
 {
     let answer = retry(env, turns, call)?;
     Ok(answer.into_reply())
@@ -29,7 +30,7 @@ where
 
 /// Deletes a reference by the call of its kind.
 fn delete<S: Steps>(env: &mut Env<S>, turns: u64, handle: Handle) -> Result<Reply, Fault>
-    ensures { Does S.stands S.knows env.old.steps env.new.steps env.old.frames.frames env.new.frames.frames (answered_by (λ _. replies.Done) (deletion turns handle.0)) result }
+    ensures { Does env.old env.new (answered_by (λ _. replies.Done) (deletion turns handle.0)) result }
 {
     match Reference::of(handle) {
         Reference::Null => ask(env, turns, &DeleteLocalRef(handle)),
@@ -44,7 +45,7 @@ fn delete<S: Steps>(env: &mut Env<S>, turns: u64, handle: Handle) -> Result<Repl
 
 /// The type of a reference: 0 where there is none.
 fn type_of<S: Steps>(env: &mut Env<S>, turns: u64, referent: Option<Handle>) -> Result<Reply, Fault>
-    ensures { Does S.stands S.knows env.old.steps env.new.steps env.old.frames.frames env.new.frames.frames (answered_by (λ t. replies.Type t) (type_deed turns referent)) result }
+    ensures { Does env.old env.new (answered_by (λ t. replies.Type t) (type_deed turns referent)) result }
 {
     match referent {
         Some(handle) => ask(env, turns, &GetObjectRefType(handle)),
@@ -59,7 +60,7 @@ pub fn perform<S: Steps>(
     turns: u64,
     command: &Command,
 ) -> Result<Reply, Fault>
-    ensures { Does S.stands S.knows env.old.steps env.new.steps env.old.frames.frames env.new.frames.frames (deed turns names.now command.now) result }
+    ensures { Does env.old env.new (deed turns names.now command.now) result }
 {
     match command {
         Command::Make {

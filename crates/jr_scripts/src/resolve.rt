@@ -31,10 +31,10 @@ fn look_at<S: Steps>(
     frames: &Frames,
     handle: HandleParts,
 ) -> Result<Option<u16>, Fault>
-    requires role { (S.stands steps.old).role ≡ Within }
-    requires bounds { is_out_of_bounds (S.stands steps.old).config (Parts handle) ≡ false }
+    requires role { (S.facts steps.old).stands.role ≡ Within }
+    requires bounds { is_out_of_bounds (S.facts steps.old).stands.config (Parts handle) ≡ false }
     requires owner { handle.kind ≢ Local → handle.owner ≡ 0 }
-    ensures { Resolves S.stands S.knows steps.old steps.new frames.now.frames (looked_at handle) result }
+    ensures { Resolves S.facts steps.old steps.new frames.now.frames (looked_at handle) result }
 {
     if names_local(handle) {
         object_local(frames.object_of(handle))
@@ -49,10 +49,10 @@ fn look_up<S: Steps>(
     frames: &Frames,
     reference: Reference,
 ) -> Result<Option<u16>, Fault>
-    requires role { (S.stands steps.old).role ≡ Within }
-    requires bounds { is_out_of_bounds (S.stands steps.old).config (word_of reference) ≡ false }
+    requires role { (S.facts steps.old).stands.role ≡ Within }
+    requires bounds { is_out_of_bounds (S.facts steps.old).stands.config (word_of reference) ≡ false }
     requires owner { OwnerFits reference }
-    ensures { Resolves S.stands S.knows steps.old steps.new frames.now.frames (looked (word_of reference)) result }
+    ensures { Resolves S.facts steps.old steps.new frames.now.frames (looked (word_of reference)) result }
 {
     match reference {
         Reference::Parts(handle) => look_at(steps, frames, handle),
@@ -66,9 +66,9 @@ pub fn resolve<S: Steps>(
     frames: &Frames,
     reference: Reference,
 ) -> Result<Option<u16>, Fault>
-    requires role { (S.stands steps.old).role ≡ Within }
+    requires role { (S.facts steps.old).stands.role ≡ Within }
     requires owner { OwnerFits reference }
-    ensures { Resolves S.stands S.knows steps.old steps.new frames.now.frames (resolved (S.stands steps.old).config (S.stands steps.old).last (S.stands steps.old).thread (word_of reference)) result }
+    ensures { Resolves S.facts steps.old steps.new frames.now.frames (resolved (S.facts steps.old).stands.config (S.facts steps.old).stands.last (S.facts steps.old).stands.thread (word_of reference)) result }
 {
     if reference.is_malformed() || reference.lies_outside(steps.config()) {
         return Err(Fault::Stale);
@@ -86,10 +86,10 @@ pub fn resolve_both<S: Steps>(
     left: Reference,
     right: Reference,
 ) -> Result<(Option<u16>, Option<u16>), Fault>
-    requires role { (S.stands steps.old).role ≡ Within }
+    requires role { (S.facts steps.old).stands.role ≡ Within }
     requires left { OwnerFits left }
     requires right { OwnerFits right }
-    ensures { Calls S.stands S.knows steps.old steps.new frames.now.frames frames.now.frames (resolved_both (S.stands steps.old).config (S.stands steps.old).last (S.stands steps.old).thread (word_of left) (word_of right)) result }
+    ensures { Calls S.facts steps.old steps.new frames.now.frames frames.now.frames (resolved_both (S.facts steps.old).stands.config (S.facts steps.old).stands.last (S.facts steps.old).stands.thread (word_of left) (word_of right)) result }
 {
     let config = steps.config();
     let thread = steps.thread();
@@ -130,9 +130,9 @@ fn type_of_found(kind: RefKind, found: Found) -> u8
 
 /// The type of a handle's reference.
 fn type_of_parts<S: Steps>(steps: &mut S, frames: &Frames, handle: HandleParts) -> u8
-    requires role { (S.stands steps.old).role ≡ Within }
+    requires role { (S.facts steps.old).stands.role ≡ Within }
     requires owner { handle.kind ≢ Local → handle.owner ≡ 0 }
-    ensures { Calls S.stands S.knows steps.old steps.new frames.now.frames frames.now.frames (typing (S.stands steps.old).config (S.stands steps.old).thread (Parts handle)) (Ok result) }
+    ensures { Calls S.facts steps.old steps.new frames.now.frames frames.now.frames (typing (S.facts steps.old).stands.config (S.facts steps.old).stands.thread (Parts handle)) (Ok result) }
 {
     if lies_outside(steps.config(), handle) {
         return 0;
@@ -149,9 +149,9 @@ fn type_of_parts<S: Steps>(steps: &mut S, frames: &Frames, handle: HandleParts) 
 
 /// The type of a reference: 1 local, 2 global, 3 weak global, and 0 for NULL and for what is no reference here.
 pub fn type_of<S: Steps>(steps: &mut S, frames: &Frames, reference: Reference) -> u8
-    requires role { (S.stands steps.old).role ≡ Within }
+    requires role { (S.facts steps.old).stands.role ≡ Within }
     requires owner { OwnerFits reference }
-    ensures { Calls S.stands S.knows steps.old steps.new frames.now.frames frames.now.frames (typing (S.stands steps.old).config (S.stands steps.old).thread (word_of reference)) (Ok result) }
+    ensures { Calls S.facts steps.old steps.new frames.now.frames frames.now.frames (typing (S.facts steps.old).stands.config (S.facts steps.old).stands.thread (word_of reference)) (Ok result) }
 {
     match reference {
         Reference::Null | Reference::Malformed => 0,

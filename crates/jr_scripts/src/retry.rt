@@ -1,7 +1,7 @@
 //! Calls that are made again.
 
 ghost use Rattle.std.specs.Prelude.{◌≡◌, Result};
-ghost use Rattle.jr_scripts.specs.Deeds.{Does};
+ghost use Rattle.jr_scripts.specs.Envs.{Does};
 ghost use Rattle.jr_scripts.specs.Tries.{is_tried_again};
 ghost use Rattle.jr_scripts.specs.Commands.{tried};
 
@@ -23,7 +23,7 @@ pub fn retry<S: Steps, C: EnvCall<S>>(
     turns: u64,
     call: &C,
 ) -> Result<C::Answer, Fault>
-    ensures { Does S.stands S.knows env.old.steps env.new.steps env.old.frames.frames env.new.frames.frames (tried turns (C.deed call.now)) result }
+    ensures { Does env.old env.new (tried turns (C.deed call.now)) result }
 {
     for _ in 0..turns {
         let answer = call.make(env);

@@ -17,10 +17,10 @@ use jr_word::{Fault, HandleParts, RefKind, SlotParts};
 
 /// Looks a handle up in its slot.
 pub fn look<S: Steps>(steps: &mut S, handle: HandleParts) -> Found
-    requires role { (S.stands steps.old).role ≡ Within }
-    requires row { handle.index < (S.stands steps.old).config.slots }
+    requires role { (S.facts steps.old).stands.role ≡ Within }
+    requires row { handle.index < (S.facts steps.old).stands.config.slots }
     requires kind { (handle.kind ≢ Local) × (handle.owner ≡ 0) }
-    ensures { Took S.stands S.knows steps.old steps.new (Look handle result ∷ []) anything keeps }
+    ensures { Took S.facts steps.old steps.new (Look handle result ∷ []) anything keeps }
 {
     let word = steps.see_slot(handle.index, SlotLoad::Look(handle));
     found(handle, word)
@@ -67,11 +67,11 @@ pub fn object_found(found: Found) -> Result<Option<u16>, Fault>
 
 /// One slot, looked at and claimed where it is free.
 fn try_slot<S: Steps>(steps: &mut S, index: u16, kind: RefKind, object: u16) -> Option<HandleParts>
-    requires role { (S.stands steps.old).role ≡ Within }
-    requires row { index < (S.stands steps.old).config.slots }
+    requires role { (S.facts steps.old).stands.role ≡ Within }
+    requires row { index < (S.facts steps.old).stands.config.slots }
     requires kind { kind ≢ Local }
-    requires object { MayKnow S.knows steps.old (HasObject object) }
-    ensures { Searched S.stands S.knows steps.old steps.new kind object index (index + 1) result }
+    requires object { MayKnow S.facts steps.old (HasObject object) }
+    ensures { Searched S.facts steps.old steps.new kind object index (index + 1) result }
 {
     let SlotParts::Free { serial } = steps.see_slot(index, SlotLoad::Probe) else {
         return None;
@@ -89,11 +89,11 @@ fn try_slot<S: Steps>(steps: &mut S, index: u16, kind: RefKind, object: u16) -> 
 
 /// A new reference to a present object, in the first slot that is found free: E8 where none is. At most two operations a slot.
 pub fn create<S: Steps>(steps: &mut S, kind: RefKind, object: u16) -> Result<HandleParts, Fault>
-    requires role { (S.stands steps.old).role ≡ Within }
+    requires role { (S.facts steps.old).stands.role ≡ Within }
     requires kind { kind ≢ Local }
-    requires object { MayKnow S.knows steps.old (HasObject object) }
-    ensures ok { IfOk result (λ h. Searched S.stands S.knows steps.old steps.new kind object 0 (S.stands steps.old).config.slots (Some h)) }
-    ensures err { IfErr result (λ e. (e ≡ RowFull) × Searched S.stands S.knows steps.old steps.new kind object 0 (S.stands steps.old).config.slots None) }
+    requires object { MayKnow S.facts steps.old (HasObject object) }
+    ensures ok { IfOk result (λ h. Searched S.facts steps.old steps.new kind object 0 (S.facts steps.old).stands.config.slots (Some h)) }
+    ensures err { IfErr result (λ e. (e ≡ RowFull) × Searched S.facts steps.old steps.new kind object 0 (S.facts steps.old).stands.config.slots None) }
 {
     let slots = steps.config().slots;
     for index in 0..slots {
@@ -107,10 +107,10 @@ pub fn create<S: Steps>(steps: &mut S, kind: RefKind, object: u16) -> Result<Han
 
 /// Deletes a reference by one look, and one exchange where it stands: E2 where it does not.
 pub fn delete<S: Steps>(steps: &mut S, handle: HandleParts) -> Result<(), Fault>
-    requires role { (S.stands steps.old).role ≡ Within }
-    requires row { handle.index < (S.stands steps.old).config.slots }
+    requires role { (S.facts steps.old).stands.role ≡ Within }
+    requires row { handle.index < (S.facts steps.old).stands.config.slots }
     requires kind { (handle.kind ≢ Local) × (handle.owner ≡ 0) }
-    ensures { (f : Frames) → Performed S.stands S.knows steps.old steps.new f f 0 anything (λ s. deletion handle) result keeps }
+    ensures { (f : Frames) → Performed S.facts steps.old steps.new f f 0 anything (λ s. deletion handle) result keeps }
 {
     let object = object_found(look(steps, handle))?;
     if steps.free(handle, object) {

@@ -42,11 +42,11 @@ pub trait Work<S: Steps> {
     ///
     /// Those of the call but E13.
     fn work(&self, steps: &mut S, frames: &mut Frames) -> Result<Self::Answer, Fault>
-        requires ready { StandsReady S.stands S.knows Within steps.old frames.old }
+        requires ready { StandsReady S.facts Within steps.old frames.old }
         requires can { can_work self.now }
-        ensures call { Performed S.stands S.knows steps.old steps.new frames.old.frames frames.new.frames (silent (S.stands steps.old).config) (Holds frames.old.frames) (λ s. asked self.now (S.stands steps.old).config (S.stands steps.old).last (S.stands steps.old).thread) result (λ j k. learns frames.new.frames result j k × Holds frames.new.frames k) }
+        ensures call { Performed S.facts steps.old steps.new frames.old.frames frames.new.frames (silent (S.facts steps.old).stands.config) (Holds frames.old.frames) (λ s. asked self.now (S.facts steps.old).stands.config (S.facts steps.old).stands.last (S.facts steps.old).stands.thread) result (λ j k. learns frames.new.frames result j k × Holds frames.new.frames k) }
         ensures same { KeepsOwner frames.old frames.new }
-        ensures given { IfOk result (λ answer. gives (S.stands steps.old).thread answer) };
+        ensures given { IfOk result (λ answer. gives (S.facts steps.old).stands.thread answer) };
 }
 
 /// Makes a call: enters the gate, does the work, and leaves.
@@ -59,10 +59,10 @@ pub fn make<S: Steps, W: Work<S>>(
     frames: &mut Frames,
     work: &W,
 ) -> Result<W::Answer, Fault>
-    requires ready { StandsReady S.stands S.knows Outside steps.old frames.old }
+    requires ready { StandsReady S.facts Outside steps.old frames.old }
     requires can { W.can_work work.now }
-    ensures call { Completes S.stands S.knows steps.old steps.new frames.old frames.new (W.silent (S.stands steps.old).config) (entered_call (W.asked work.now (S.stands steps.old).config (S.stands steps.old).last (S.stands steps.old).thread)) result }
-    ensures given { IfOk result (λ answer. W.gives (S.stands steps.old).thread answer) }
+    ensures call { Completes S.facts steps.old steps.new frames.old frames.new (W.silent (S.facts steps.old).stands.config) (entered_call (W.asked work.now (S.facts steps.old).stands.config (S.facts steps.old).stands.last (S.facts steps.old).stands.thread)) result }
+    ensures given { IfOk result (λ answer. W.gives (S.facts steps.old).stands.thread answer) }
 {
     let inside = enter(steps)?;
     let answer = work.work(steps, frames);

@@ -21,7 +21,7 @@ use Rattle.jr_steps.specs.declared.known.Known.{Known}
 use Rattle.jr_steps.specs.declared.known.Holdings.{Holdings}
 use Rattle.jr_steps.specs.Acts.{act_of_reservation}
 use Rattle.jr_steps.specs.Holdings.{words_at}
-use Rattle.jr_steps.specs.Knowing.{Standing, IsOf, MayKnow, keeps, ShowsUsed, IsClosedNow, view, anything, state_of, Goes, HasObject, HasLooked, WasUsed, IsFreeSlot, ShowsSlot, ShowsPublished, ShowsRange, HasWord, Took, TookWith}
+use Rattle.jr_steps.specs.Knowing.{Facts, Standing, IsOf, MayKnow, keeps, ShowsUsed, IsClosedNow, view, anything, state_of, Goes, HasObject, HasLooked, WasUsed, ShowsPublished, ShowsRange, HasWord, Took, TookWith}
 
 -- a step is what the thread did
 pub goes_did : {k k' : Known} {acts : List Act} → Goes k acts k' → Did (view k) (view k') acts
@@ -121,20 +121,16 @@ pub shown_published : (o : ℕ) (h : HeaderParts) (b : Bool) (k k' : Known) → 
 shown_published o h true k k' shown = shown.0
 shown_published o h false k k' shown = shown.0
 
-module _ {S : Type 0} {stands : S → Standing} {knows : S → Known → Type 0} where
+module _ {S : Type 0} {facts : S → Facts} where
   -- a step shows less, too
-  pub took_less : {old new : S} {acts : List Act} {met : Known → Type 0} {shows shows' : Known → Known → Type 0} → ((k k' : Known) → shows k k' → shows' k k') → Took stands knows old new acts met shows → Took stands knows old new acts met shows'
+  pub took_less : {old new : S} {acts : Known → List Act} {stood : Standing} {met : Known → Type 0} {shows shows' : Known → Known → Type 0} → ((k k' : Known) → shows k k' → shows' k k') → TookWith facts old new acts stood met shows → TookWith facts old new acts stood met shows'
   took_less less t = record { stands_is = t.stands_is; goes = λ k s m. let g = t.goes k s m in (g.0, g.1, g.2, less k g.0 g.3); alone = λ e k s m. t.alone e k s m }
 
   -- what may be known after a step
-  pub may_then : {old new : S} {acts : List Act} {met : Known → Type 0} {shows : Known → Known → Type 0} {was is : Known → Type 0} → Took stands knows old new acts met shows → ((k : Known) → knows old k → was k → met k) → MayKnow knows old was
-      → ((k k' : Known) → knows old k → was k → Goes k acts k' → shows k k' → is k') → MayKnow knows new is
+  pub may_then : {old new : S} {acts : Known → List Act} {stood : Standing} {met : Known → Type 0} {shows : Known → Known → Type 0} {was is : Known → Type 0} → TookWith facts old new acts stood met shows → ((k : Known) → (facts old).knows k → was k → met k) → MayKnow facts old was
+      → ((k k' : Known) → (facts old).knows k → was k → Goes k (acts k) k' → shows k k' → is k') → MayKnow facts new is
   may_then t meets may then' = ∥∥₁_map may (λ k. let g = t.goes k.0 k.1 (meets k.0 k.1 k.2) in (g.0, g.1, then' k.0 g.0 k.1 k.2 g.2 g.3))
 
   -- how many words were used is known from a look on, until the thread leaves
-  pub used_seen : {old new : S} {acts : List Act} {u : ℕ} → ((k : Known) → knows new k → IsOf (stands new) k) → MayKnow knows old anything → (stands new).role ≡ Within → Took stands knows old new acts anything (λ j k. ShowsUsed u k × keeps j k) → MayKnow knows new (WasUsed u)
+  pub used_seen : {old new : S} {acts : List Act} {u : ℕ} → ((k : Known) → (facts new).knows k → IsOf (facts new).stands k) → MayKnow facts old anything → (facts new).stands.role ≡ Within → Took facts old new acts anything (λ j k. ShowsUsed u k × keeps j k) → MayKnow facts new (WasUsed u)
   used_seen {u = u} fits some within t = ∥∥₁_map some (λ k. let g = t.goes k.0 k.1 tt in (g.0, g.1, used_now u g.0 ((fits g.0 g.1).role ∙ within) g.3.0))
-
-  pub may_with : {old new : S} {acts : Known → List Act} {met : Known → Type 0} {shows : Known → Known → Type 0} {was is : Known → Type 0} → TookWith stands knows old new acts met shows → ((k : Known) → knows old k → was k → met k) → MayKnow knows old was
-      → ((k k' : Known) → knows old k → was k → Goes k (acts k) k' → shows k k' → is k') → MayKnow knows new is
-  may_with t meets may then' = ∥∥₁_map may (λ k. let g = t.goes k.0 k.1 (meets k.0 k.1 k.2) in (g.0, g.1, then' k.0 g.0 k.1 k.2 g.2 g.3))

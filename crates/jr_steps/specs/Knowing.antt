@@ -1,5 +1,5 @@
 -- What a caller of the steps knows of them.
-use Rattle.std.specs.Prelude.{◌≡◌, ◌≢◌, ◌↔◌, ◌≤◌, ◌<◌, ◌+◌, ℕ, Bool, true, false, IsTrue, Result, Ok, Err, Option, Some, None, List, [], ◌∷◌, ◌++◌, ◌==◌, cond, map, length, slice_set}
+use Rattle.std.specs.Prelude.{◌≡◌, ◌≢◌, ◌↔◌, ◌<◌, ◌+◌, ℕ, Bool, true, false, Result, Ok, Err, Option, Some, None, List, [], ◌∷◌, ◌++◌, ◌==◌, cond, map, length, slice_set}
 use Rattle.std.specs.List.{AllByRecursion}
 use Rattle.atomic_table.specs.Seated.{TableId}
 use Rattle.jr_word.specs.declared.config.Config.{Config}
@@ -30,6 +30,11 @@ pub record Standing : Type 0 where
   pub thread : ℕ
   pub role : Role
   pub fresh : Bool
+
+-- WHAT A PASS IS, and what may be known of it
+pub record Facts : Type 1 where
+  pub stands : Standing
+  pub knows : Known → Type 0
 
 -- a pass that was not spent is fresh until its first store to a local word
 abbrev pub fresh_after : Bool → Act → Bool
@@ -108,8 +113,8 @@ HasOptional None k = Unit {0}
 HasOptional (Some o) k = HasObject o k
 
 -- something that may be known meets the condition
-abbrev pub MayKnow : {S : Type 0} → (S → Known → Type 0) → S → (Known → Type 0) → Type 0
-MayKnow knows s met = ∥ ((k : Known) × knows s k × met k) ∥₁
+abbrev pub MayKnow : {S : Type 0} → (S → Facts) → S → (Known → Type 0) → Type 0
+MayKnow facts s met = ∥ ((k : Known) × (facts s).knows k × met k) ∥₁
 
 -- the thread looked at the handle in this stay, and found r
 pub record HasLooked (h : Handle) (r : Found) (k : Known) : Type 0 where
@@ -222,25 +227,35 @@ HasNoLocals k = (p : ℕ) → (state_of k).locals k.thread p ≡ None
 abbrev pub Holds : Frames → Known → Type 0
 Holds f k = Agree k.thread f (state_of k)
 
-module _ {S : Type 0} (stands : S → Standing) (knows : S → Known → Type 0) where
-  -- a step was taken: for whatever was known and meets the condition, something is known that the step made of it, and that shows this; and nobody else did anything in between where the pass is of no room
-  pub record Took (old new : S) (acts : List Act) (met : Known → Type 0) (shows : Known → Known → Type 0) : Type 0 where
-    pub stands_is : stands new ≡ standing_after (stands old) acts
-    pub goes : (k : Known) → knows old k → met k → (k' : Known) × knows new k' × Goes k acts k' × shows k k'
-    pub alone : (stands old).room ≡ None → (k : Known) (s : knows old k) (m : met k) → (goes k s m).2.between ≡ []
+-- whatever may be known is of its pass: a law of the steps
+abbrev pub AreOf : {S : Type 0} → (S → Facts) → Type 0
+AreOf {S = S} facts = (s : S) (k : Known) → (facts s).knows k → IsOf (facts s).stands k
 
-  -- one step was taken, with acts that depend on what was known, none of them of the gate or a local word
-  pub record TookWith (old new : S) (acts : Known → List Act) (met : Known → Type 0) (shows : Known → Known → Type 0) : Type 0 where
-    pub stands_is : stands new ≡ stands old
-    pub goes : (k : Known) → knows old k → met k → (k' : Known) × knows new k' × Goes k (acts k) k' × shows k k'
-    pub alone : (stands old).room ≡ None → (k : Known) (s : knows old k) (m : met k) → (goes k s m).2.between ≡ []
+-- FOR WHATEVER WAS KNOWN of the old and meets the condition, something is known of the new that was made of it so, and that shows this
+abbrev pub Leads : {S : Type 0} → (S → Facts) → S → S → (Known → Type 0) → (Known → Known → Type 0) → (Known → Known → Type 0) → Type 0
+Leads facts old new met made shows = (k : Known) → (facts old).knows k → met k → (k' : Known) × (facts new).knows k' × made k k' × shows k k'
 
-  -- several steps were taken, none of which has an act: for whatever was known and meets the condition, something is known that they made of it, and that shows this
-  pub record Saw (old new : S) (met : Known → Type 0) (shows : Known → Known → Type 0) : Type 0 where
-    pub stands_is : stands new ≡ stands old
-    pub sees : (k : Known) → knows old k → met k → (k' : Known) × knows new k' × Sees k k' × shows k k'
+module _ {S : Type 0} (facts : S → Facts) where
+  -- ONE STEP WAS TAKEN, with acts that may depend on what was known: it leaves the pass standing so, and shows this; and nobody else did anything in between where the pass is of no room
+  pub record TookWith (old new : S) (acts : Known → List Act) (stood : Standing) (met : Known → Type 0) (shows : Known → Known → Type 0) : Type 0 where
+    pub stands_is : (facts new).stands ≡ stood
+    pub goes : Leads facts old new met (λ k k'. Goes k (acts k) k') shows
+    pub alone : (facts old).stands.room ≡ None → (k : Known) (s : (facts old).knows k) (m : met k) → (goes k s m).2.between ≡ []
+
+  -- the same, with these acts whatever was known
+  abbrev pub Took : S → S → List Act → (Known → Type 0) → (Known → Known → Type 0) → Type 0
+  Took old new acts met shows = TookWith old new (λ k. acts) (standing_after (facts old).stands acts) met shows
+
+  -- SEVERAL STEPS WERE TAKEN: they leave the pass standing so, made this of what was known, and show this
+  pub record Went (old new : S) (stood : Standing) (met : Known → Type 0) (made shows : Known → Known → Type 0) : Type 0 where
+    pub stands_is : (facts new).stands ≡ stood
+    pub leads : Leads facts old new met made shows
+
+  -- the same, where none of them has an act
+  abbrev pub Saw : S → S → (Known → Type 0) → (Known → Known → Type 0) → Type 0
+  Saw old new met shows = Went old new (facts old).stands met Sees shows
 
   -- the pass is not fresh any more, and nothing else changed
   pub record Spent (old new : S) : Type 0 where
-    pub stands_is : stands new ≡ record (stands old) { fresh = false }
-    pub same : (k : Known) → knows old k ↔ knows new k
+    pub stands_is : (facts new).stands ≡ record ((facts old).stands) { fresh = false }
+    pub same : (k : Known) → (facts old).knows k ↔ (facts new).knows k

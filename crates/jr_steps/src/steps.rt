@@ -16,72 +16,69 @@ use jr_word::{Config, GateParts, HandleParts, HeaderParts, LocalParts, RefKind, 
 
 /// The steps of one thread: each from `go_in` to `set_top` is one atomic operation on one word of the row. The others tell what the pass is, or spend it, and touch no word.
 pub trait Steps {
-    ghost use Rattle.jr_steps.specs.Knowing.{Standing, IsOf};
+    ghost use Rattle.jr_steps.specs.Knowing.{Facts, IsOf};
     ghost use Rattle.jr_steps.specs.declared.known.Known.{Known};
     ghost use Rattle.jr_steps.specs.Holdings.{InSpace};
 
-    /// The room, the thread, its role, and whether the pass is fresh.
-    ghost stands: { Self → Standing };
-
-    /// What may be known.
-    ghost knows: { Self → Known → Type 0 };
+    /// What the pass is, its room, thread and role, and whether it is fresh; and what may be known of it.
+    ghost facts: { Self → Facts };
 
     /// The sizes of the room.
     fn config(&self) -> Config
-        ensures { result ≡ (stands self.now).config };
+        ensures { result ≡ (facts self.now).stands.config };
 
     /// The number of the thread.
     fn thread(&self) -> u8
-        ensures { result ≡ (stands self.now).thread };
+        ensures { result ≡ (facts self.now).stands.thread };
 
     /// The last serial of a slot or a local place.
     fn last(&self) -> u32
-        ensures { result ≡ (stands self.now).last };
+        ensures { result ≡ (facts self.now).stands.last };
 
     /// Where the thread stands towards the gate.
     fn role(&self) -> Role
-        ensures { result ≡ (stands self.now).role };
+        ensures { result ≡ (facts self.now).stands.role };
 
     /// Whether the pass is as it was opened: not spent, and with no store to a local word.
     fn fresh(&self) -> bool
-        ensures { result ≡ (stands self.now).fresh };
+        ensures { result ≡ (facts self.now).stands.fresh };
 
     /// Makes the pass one that is not fresh. It is no step.
     fn spend(&mut self)
-        ensures { Spent stands knows self.old self.new };
+        ensures { Spent facts self.old self.new };
 
     /// Enters the gate: true where it was not shut.
     fn go_in(&mut self) -> bool
-        requires { (stands self.old).role ≡ Outside }
-        ensures { Took stands knows self.old self.new (act_of_entry result ∷ []) anything keeps };
+        requires { (facts self.old).stands.role ≡ Outside }
+        ensures { Took facts self.old self.new (act_of_entry result ∷ []) anything keeps };
 
     /// Leaves the gate.
     fn go_out(&mut self)
-        requires { ((stands self.old).role ≡ Within) ⊎ ((stands self.old).role ≡ Knocking) }
-        ensures { Took stands knows self.old self.new (act_of_exit (stands self.old).role ∷ []) anything lets_go };
+        requires { ((facts self.old).stands.role ≡ Within) ⊎ ((facts self.old).stands.role ≡ Knocking) }
+        ensures { Took facts self.old self.new (act_of_exit (facts self.old).stands.role ∷ []) anything lets_go };
 
     /// Shuts the gate for a collection where no thread is inside, knocking or collecting. Else how many are.
     fn bar(&mut self) -> Result<(), u32>
-        requires { (stands self.old).role ≡ Outside }
-        ensures { Took stands knows self.old self.new (act_of_bar result ∷ []) anything (ShowsBarred result) };
+        requires { (facts self.old).stands.role ≡ Outside }
+        ensures { Took facts self.old self.new (act_of_bar result ∷ []) anything (ShowsBarred result) };
 
     /// Opens the gate after a collection. No move may be unfinished.
     fn unbar(&mut self)
-        requires role { (stands self.old).role ≡ Collecting }
-        requires closed { MayKnow knows self.old CanReopen }
-        ensures { Took stands knows self.old self.new (Reopen ∷ []) CanReopen lets_go };
+        requires role { (facts self.old).stands.role ≡ Collecting }
+        requires closed { MayKnow facts self.old CanReopen }
+        ensures { Took facts self.old self.new (Reopen ∷ []) CanReopen lets_go };
 
     /// Loads the gate, which counts as what it is named.
     fn see_gate(&mut self, name: GateLoad) -> GateParts
-        requires { GateLoadFits (stands self.old).role name }
-        ensures { Took stands knows self.old self.new (act_of_gate_load name (all_counted result) ∷ []) anything (λ j k. ShowsGate result k × keeps j k) };
+        requires { GateLoadFits (facts self.old).stands.role name }
+        ensures { Took facts self.old self.new (act_of_gate_load name (all_counted result) ∷ []) anything (λ j k. ShowsGate result k × keeps j k) };
 
     /// Loads a slot, which counts as what it is named.
     fn see_slot(&mut self, index: u16, name: SlotLoad) -> SlotParts
-        requires role { (stands self.old).role ≡ Within }
-        requires row { index < (stands self.old).config.slots }
+        requires role { (facts self.old).stands.role ≡ Within }
+        requires row { index < (facts self.old).stands.config.slots }
         requires fits { SlotLoadFits index name }
-        ensures { Took stands knows self.old self.new (act_of_slot_load index name result ∷ []) anything (λ j k. ShowsSlot index result k × keeps j k) };
+        ensures { Took facts self.old self.new (act_of_slot_load index name result ∷ []) anything (λ j k. ShowsSlot index result k × keeps j k) };
 
     /// Exchanges the free word of a slot for a new reference's, or gives what was found in its place.
     fn claim(
@@ -91,149 +88,149 @@ pub trait Steps {
         kind: RefKind,
         object: u16,
     ) -> Result<(), SlotParts>
-        requires role { (stands self.old).role ≡ Within }
-        requires row { index < (stands self.old).config.slots }
+        requires role { (facts self.old).stands.role ≡ Within }
+        requires row { index < (facts self.old).stands.config.slots }
         requires kind { kind ≢ Local }
-        requires looked { MayKnow knows self.old (λ k. HasObject object k × IsFreeSlot index serial k) }
-        ensures { Took stands knows self.old self.new (act_of_claim index serial kind object result ∷ []) (λ k. HasObject object k × IsFreeSlot index serial k) (λ j k. LostClaim index result j k × keeps j k) };
+        requires looked { MayKnow facts self.old (λ k. HasObject object k × IsFreeSlot index serial k) }
+        ensures { Took facts self.old self.new (act_of_claim index serial kind object result ∷ []) (λ k. HasObject object k × IsFreeSlot index serial k) (λ j k. LostClaim index result j k × keeps j k) };
 
     /// Exchanges the word of a reference that was looked at for a free one: true where it still stood.
     fn free(&mut self, handle: HandleParts, object: Option<u16>) -> bool
-        requires role { (stands self.old).role ≡ Within }
-        requires row { handle.index < (stands self.old).config.slots }
-        requires looked { MayKnow knows self.old (HasLooked handle (found_of object)) }
-        ensures { Took stands knows self.old self.new (act_of_free handle result ∷ []) (HasLooked handle (found_of object)) keeps };
+        requires role { (facts self.old).stands.role ≡ Within }
+        requires row { handle.index < (facts self.old).stands.config.slots }
+        requires looked { MayKnow facts self.old (HasLooked handle (found_of object)) }
+        ensures { Took facts self.old self.new (act_of_free handle result ∷ []) (HasLooked handle (found_of object)) keeps };
 
     /// Stores an object, or none, in a local word of the thread's own.
     fn put_local(&mut self, place: u16, object: Option<u16>)
-        requires role { (stands self.old).role ≡ Within }
-        requires place { place < (stands self.old).config.locals }
-        requires object { MayKnow knows self.old (HasOptional object) }
-        ensures { Took stands knows self.old self.new (act_of_put place object ∷ []) (HasOptional object) keeps };
+        requires role { (facts self.old).stands.role ≡ Within }
+        requires place { place < (facts self.old).stands.config.locals }
+        requires object { MayKnow facts self.old (HasOptional object) }
+        ensures { Took facts self.old self.new (act_of_put place object ∷ []) (HasOptional object) keeps };
 
     /// Loads the header of an object, which the pass knows from then on: none where it is not present.
     fn see_header(&mut self, object: u16) -> Option<HeaderParts>
-        requires role { (stands self.old).role ≡ Within }
-        requires number { (1 ≤ object) × (object ≤ (stands self.old).config.objects) }
-        ensures { Took stands knows self.old self.new [] anything (ShowsHeader object result) };
+        requires role { (facts self.old).stands.role ≡ Within }
+        requires number { (1 ≤ object) × (object ≤ (facts self.old).stands.config.objects) }
+        ensures { Took facts self.old self.new [] anything (ShowsHeader object result) };
 
     /// Gives an object its header, unless one with this number is present: true where it is new. Its elements are those of a range of the pass's own, which it gives away.
     fn claim_header(&mut self, object: u16, header: HeaderParts) -> bool
-        requires role { (stands self.old).role ≡ Within }
-        requires number { (1 ≤ object) × (object ≤ (stands self.old).config.objects) }
+        requires role { (facts self.old).stands.role ≡ Within }
+        requires number { (1 ≤ object) × (object ≤ (facts self.old).stands.config.objects) }
         requires header { IsHeader header }
-        requires filled { MayKnow knows self.old (IsFilled header) }
-        ensures { TookWith stands knows self.old self.new (λ k. acts_of_publication object header.kind (words_for header k) result) (IsFilled header) (ShowsPublished object header result) };
+        requires filled { MayKnow facts self.old (IsFilled header) }
+        ensures { TookWith facts self.old self.new (λ k. acts_of_publication object header.kind (words_for header k) result) (facts self.old).stands (IsFilled header) (ShowsPublished object header result) };
 
     /// Loads the top, which counts as what it is named: how many words are reserved.
     fn see_top(&mut self, name: TopLoad) -> u32
-        requires { (stands self.old).role ≡ Within }
-        ensures { Took stands knows self.old self.new (acts_of_top_load (stands self.old).config.words name result) anything (λ j k. ShowsUsed result k × keeps j k) };
+        requires { (facts self.old).stands.role ≡ Within }
+        ensures { Took facts self.old self.new (acts_of_top_load (facts self.old).stands.config.words name result) anything (λ j k. ShowsUsed result k × keeps j k) };
 
     /// Reserves words beside those that were looked at in this stay, or tells how many are reserved now.
     fn claim_top(&mut self, looked: u32, more: u32) -> Result<(), u32>
-        requires role { (stands self.old).role ≡ Within }
-        requires room { looked + more ≤ (stands self.old).config.words }
-        requires looked { MayKnow knows self.old (WasUsed looked) }
-        ensures { Took stands knows self.old self.new (act_of_reservation looked more result ∷ []) (WasUsed looked) (ShowsRange looked more result) };
+        requires role { (facts self.old).stands.role ≡ Within }
+        requires room { looked + more ≤ (facts self.old).stands.config.words }
+        requires looked { MayKnow facts self.old (WasUsed looked) }
+        ensures { Took facts self.old self.new (act_of_reservation looked more result ∷ []) (WasUsed looked) (ShowsRange looked more result) };
 
     /// Loads an element of an object whose header the pass knows.
     fn see_element(&mut self, object: u16, header: HeaderParts, index: u32) -> u64
-        requires role { (stands self.old).role ≡ Within }
+        requires role { (facts self.old).stands.role ≡ Within }
         requires index { index < header.length }
-        requires known { MayKnow knows self.old (KnowsHeader object header) }
-        ensures { Took stands knows self.old self.new (Read object index result ∷ []) (KnowsHeader object header) keeps };
+        requires known { MayKnow facts self.old (KnowsHeader object header) }
+        ensures { Took facts self.old self.new (Read object index result ∷ []) (KnowsHeader object header) keeps };
 
     /// Stores an element of an object whose header the pass knows. It is no string.
     fn put_element(&mut self, object: u16, header: HeaderParts, index: u32, word: u64)
-        requires role { (stands self.old).role ≡ Within }
+        requires role { (facts self.old).stands.role ≡ Within }
         requires index { index < header.length }
         requires kind { header.kind ≢ Text }
-        requires known { MayKnow knows self.old (λ k. KnowsHeader object header k × IsWordNow header.kind word k) }
-        ensures { Took stands knows self.old self.new (Write object index word ∷ []) (λ k. KnowsHeader object header k × IsWordNow header.kind word k) keeps };
+        requires known { MayKnow facts self.old (λ k. KnowsHeader object header k × IsWordNow header.kind word k) }
+        ensures { Took facts self.old self.new (Write object index word ∷ []) (λ k. KnowsHeader object header k × IsWordNow header.kind word k) keeps };
 
     /// Stores a word of a range of the pass's own.
     fn put_reserved(&mut self, place: u32, index: u32, word: u64)
-        requires role { (stands self.old).role ≡ Within }
-        requires own { MayKnow knows self.old (HasWord place index) }
-        ensures { Took stands knows self.old self.new [] (HasWord place index) (ShowsWord place index word) };
+        requires role { (facts self.old).stands.role ≡ Within }
+        requires own { MayKnow facts self.old (HasWord place index) }
+        ensures { Took facts self.old self.new [] (HasWord place index) (ShowsWord place index word) };
 
     /// Loads a slot during a collection.
     fn scan_slot(&mut self, index: u16) -> SlotParts
-        requires role { (stands self.old).role ≡ Collecting }
-        requires row { index < (stands self.old).config.slots }
-        ensures { Took stands knows self.old self.new [] anything (λ j k. ShowsSlot index result k × keeps j k) };
+        requires role { (facts self.old).stands.role ≡ Collecting }
+        requires row { index < (facts self.old).stands.config.slots }
+        ensures { Took facts self.old self.new [] anything (λ j k. ShowsSlot index result k × keeps j k) };
 
     /// Loads a local word of any thread during a collection.
     fn scan_local(&mut self, thread: u8, place: u16) -> LocalParts
-        requires role { (stands self.old).role ≡ Collecting }
-        requires thread { thread < (stands self.old).config.threads }
-        requires place { place < (stands self.old).config.locals }
-        ensures { Took stands knows self.old self.new [] anything (λ j k. ShowsLocal thread place result k × keeps j k) };
+        requires role { (facts self.old).stands.role ≡ Collecting }
+        requires thread { thread < (facts self.old).stands.config.threads }
+        requires place { place < (facts self.old).stands.config.locals }
+        ensures { Took facts self.old self.new [] anything (λ j k. ShowsLocal thread place result k × keeps j k) };
 
     /// Loads the header of an object during a collection. The pass knows it from then on.
     fn scan_header(&mut self, object: u16) -> Option<HeaderParts>
-        requires role { (stands self.old).role ≡ Collecting }
-        requires number { (1 ≤ object) × (object ≤ (stands self.old).config.objects) }
-        ensures { Took stands knows self.old self.new [] anything (ShowsHeader object result) };
+        requires role { (facts self.old).stands.role ≡ Collecting }
+        requires number { (1 ≤ object) × (object ≤ (facts self.old).stands.config.objects) }
+        ensures { Took facts self.old self.new [] anything (ShowsHeader object result) };
 
     /// Loads an element of an object whose header the pass knows, during a collection.
     fn scan_element(&mut self, object: u16, header: HeaderParts, index: u32) -> u64
-        requires role { (stands self.old).role ≡ Collecting }
+        requires role { (facts self.old).stands.role ≡ Collecting }
         requires index { index < header.length }
-        requires there { MayKnow knows self.old (IsThere object header index) }
-        ensures { Took stands knows self.old self.new [] (IsThere object header index) (λ j k. ShowsElement object index result k × keeps j k) };
+        requires there { MayKnow facts self.old (IsThere object header index) }
+        ensures { Took facts self.old self.new [] (IsThere object header index) (λ j k. ShowsElement object index result k × keeps j k) };
 
     /// Takes its object from a weak reference, which stays.
     fn wipe(&mut self, index: u16, serial: u32, object: u16)
-        requires role { (stands self.old).role ≡ Collecting }
-        requires row { index < (stands self.old).config.slots }
-        requires can { MayKnow knows self.old (CanWipe index serial object) }
-        ensures { Took stands knows self.old self.new (Clear (handle_of Weak serial index) ∷ []) (CanWipe index serial object) keeps };
+        requires role { (facts self.old).stands.role ≡ Collecting }
+        requires row { index < (facts self.old).stands.config.slots }
+        requires can { MayKnow facts self.old (CanWipe index serial object) }
+        ensures { Took facts self.old self.new (Clear (handle_of Weak serial index) ∷ []) (CanWipe index serial object) keeps };
 
     /// Takes an object away that nothing reaches and no weak reference names.
     fn drop_header(&mut self, object: u16)
-        requires role { (stands self.old).role ≡ Collecting }
-        requires number { (1 ≤ object) × (object ≤ (stands self.old).config.objects) }
-        requires can { MayKnow knows self.old (CanDrop object) }
-        ensures { Took stands knows self.old self.new (Drop object ∷ []) (CanDrop object) (ShowsDropped object) };
+        requires role { (facts self.old).stands.role ≡ Collecting }
+        requires number { (1 ≤ object) × (object ≤ (facts self.old).stands.config.objects) }
+        requires can { MayKnow facts self.old (CanDrop object) }
+        ensures { Took facts self.old self.new (Drop object ∷ []) (CanDrop object) (ShowsDropped object) };
 
     /// Stores the next element of an object that moves down to a new place.
     fn move_element(&mut self, object: u16, header: HeaderParts, place: u32, index: u32, word: u64)
-        requires role { (stands self.old).role ≡ Collecting }
+        requires role { (facts self.old).stands.role ≡ Collecting }
         requires index { index < header.length }
-        requires can { MayKnow knows self.old (CanMove object header place index word) }
-        ensures { Took stands knows self.old self.new [] (CanMove object header place index word) (ShowsMoved object place index) };
+        requires can { MayKnow facts self.old (CanMove object header place index word) }
+        ensures { Took facts self.old self.new [] (CanMove object header place index word) (ShowsMoved object place index) };
 
     /// Gives an object the header of its new place, once all its elements are there.
     fn set_header(&mut self, object: u16, header: HeaderParts, place: u32)
-        requires role { (stands self.old).role ≡ Collecting }
-        requires number { (1 ≤ object) × (object ≤ (stands self.old).config.objects) }
+        requires role { (facts self.old).stands.role ≡ Collecting }
+        requires number { (1 ≤ object) × (object ≤ (facts self.old).stands.config.objects) }
         requires header { IsHeader (placed header place) }
-        requires can { MayKnow knows self.old (CanPlace object header place) }
-        ensures { Took stands knows self.old self.new [] (CanPlace object header place) (ShowsPlaced object header place) };
+        requires can { MayKnow facts self.old (CanPlace object header place) }
+        ensures { Took facts self.old self.new [] (CanPlace object header place) (ShowsPlaced object header place) };
 
     /// Sets how many words are used.
     fn set_top(&mut self, used: u32)
-        requires role { (stands self.old).role ≡ Collecting }
-        requires room { used ≤ (stands self.old).config.words }
-        requires can { MayKnow knows self.old (CanSettle used) }
-        ensures { Took stands knows self.old self.new (Settle used ∷ []) (CanSettle used) keeps };
+        requires role { (facts self.old).stands.role ≡ Collecting }
+        requires room { used ≤ (facts self.old).stands.config.words }
+        requires can { MayKnow facts self.old (CanSettle used) }
+        ensures { Took facts self.old self.new (Settle used ∷ []) (CanSettle used) keeps };
 
     /// What is known is legal, and of this thread.
-    ghost fits: { (s : Self) (k : Known) → knows s k → IsOf (stands s) k };
+    ghost fits: { (s : Self) (k : Known) → (facts s).knows k → IsOf (facts s).stands k };
 
-    ghost some_known: { (s : Self) → MayKnow knows s anything };
+    ghost some_known: { (s : Self) → MayKnow facts s anything };
 
     /// A fresh pass has no local reference.
-    ghost unused: { (s : Self) (k : Known) → (stands s).fresh ≡ true → knows s k → HasNoLocals k };
+    ghost unused: { (s : Self) (k : Known) → (facts s).stands.fresh ≡ true → (facts s).knows k → HasNoLocals k };
 
     /// What the pass holds lies in the space.
-    ghost in_space: { (s : Self) (k : Known) → knows s k → InSpace k.config k.holdings };
+    ghost in_space: { (s : Self) (k : Known) → (facts s).knows k → InSpace k.config k.holdings };
 
     /// The sizes are within the limits of a room.
-    ghost limits: { (s : Self) → in_limits (stands s).config ≡ true };
+    ghost limits: { (s : Self) → in_limits (facts s).stands.config ≡ true };
 
     /// The thread is one of the room's.
-    ghost row: { (s : Self) → (stands s).thread < (stands s).config.threads };
+    ghost row: { (s : Self) → (facts s).stands.thread < (facts s).stands.config.threads };
 }

@@ -11,7 +11,7 @@ slide_and_look-requires-clause-can g c =
     let T = g.met.S.Steps in
     let shut : (g.S.Steps.facts c.bar.new.self).stands.role ≡ Collecting = ap (λ (s : Standing). s.role) (c.in-Ok.ensures).stands_is in
     let objects = ap (λ (y : Config). y.objects) (ap (λ (s : Standing). s.config) (c.in-Ok.ensures).stands_is ∙ sym c.config-config.ensures) ∙ c.if-config-ne1.false in
-    one_slidable T.fits c.in-Some.header (one_seen T.fits c.in-Some.header shut objects c.in-Some.ensures (shut_reopens c.in-Ok.ensures (T.some_known _)))
+    one_slidable T.fits _ c.in-Some.header (one_seen T.fits c.in-Some.header shut objects c.in-Some.ensures (shut_reopens c.in-Ok.ensures (T.some_known _)))
 
 pub loop-index-init : goal.loop-index-init
 loop-index-init g c =
@@ -25,7 +25,7 @@ pub scan_element-word-requires-clause-there : goal.scan_element-word-requires-cl
 scan_element-word-requires-clause-there g c =
     let long = c.if-header-ne4.false in
     let l = c.loop-index-test.true in
-    one_there g.met.S.Steps.fits (placed c.in-Some.header 0) c.loop-index.index (omega arith) c.loop-index.invariant.1
+    one_there g.met.S.Steps.fits _ (placed c.in-Some.header 0) c.loop-index.index (omega arith) c.loop-index.invariant.1
 
 pub loop-index-preserved : goal.loop-index-preserved
 loop-index-preserved g c =
@@ -38,7 +38,7 @@ loop-index-preserved g c =
     )
 
 pub set_top-requires-clause-can : goal.set_top-requires-clause-can
-set_top-requires-clause-can g c = one_settled g.met.S.Steps.fits (placed c.in-Some.header 0) 4 c.if-header-ne4.false refl c.loop-index.invariant.1
+set_top-requires-clause-can g c = one_settled g.met.S.Steps.fits _ (placed c.in-Some.header 0) 4 c.if-header-ne4.false refl c.loop-index.invariant.1
 
 pub unbar-requires-clause-closed : goal.unbar-requires-clause-closed
 unbar-requires-clause-closed g c =

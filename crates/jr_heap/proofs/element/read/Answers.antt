@@ -10,4 +10,4 @@ returns-clause-call g c =
     (λ k j q l one s. (reread c.args.object c.header-header.result c.read_element.result k j q l s.0, counted_more (element_steps c.read_element.result) k j q one s.1))
 
 pub returns-clause-object : goal.returns-clause-object
-returns-clause-object g c = may_present g.S.Steps.knows c.read_element.new.steps c.args.object c.header-header.result c.read_element.ensures.known
+returns-clause-object g c = may_present g.S.Steps.facts c.read_element.new.steps c.args.object c.header-header.result c.read_element.ensures.known

@@ -21,4 +21,4 @@ returns-clause-call g c =
     (λ k j q l one s. (relearnt c.args.object c.header-header.result k j q l s.0, counted_more (element_steps c.write_element.result) k j q one s.1))
 
 pub returns-clause-object : goal.returns-clause-object
-returns-clause-object g c = may_present g.S.Steps.knows c.write_element.new.steps c.args.object c.header-header.result c.write_element.ensures.known
+returns-clause-object g c = may_present g.S.Steps.facts c.write_element.new.steps c.args.object c.header-header.result c.write_element.ensures.known

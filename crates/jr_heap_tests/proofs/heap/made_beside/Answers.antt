@@ -22,7 +22,7 @@ keep p q k k' r g =
 
 pub publish-requires-clause-ready : goal.publish-requires-clause-ready
 publish-requires-clause-ready g c =
-    let knows = g.S.Steps.knows in
+    let facts = g.S.Steps.facts in
     let p = c.in_ok-first.first.place in
     let three = (c.in_ok-first.ensures.ok).0 in
     let filled = c.fill.ensures.ready Int (∥∥₁_map c.in_ok-first.ensures.own (λ k. (k.0, k.1, (k.2, omega arith)))) in

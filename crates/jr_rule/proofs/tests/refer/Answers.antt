@@ -8,7 +8,7 @@ use Rattle.jr_rule.proofs.tests.refer.Goals as goal
 
 pub claim-requires-clause-looked : goal.claim-requires-clause-looked
 claim-requires-clause-looked g c =
-    let within : (g.S.Steps.stands c.claim_header.new.self).role ≡ Within = search rules in
+    let within : (g.S.Steps.facts c.claim_header.new.self).stands.role ≡ Within = search rules in
     claimable c.claim_header.result (λ k s. g.met.S.Steps.fits _ k s) (g.met.S.Steps.some_known _) within c.claim_header.ensures c.see_slot.ensures (c.in-Free-eq0.is ∙ ap Free c.in-Free-eq0.serial-test)
 
 pub claim_header-requires-clause-filled : goal.claim_header-requires-clause-filled

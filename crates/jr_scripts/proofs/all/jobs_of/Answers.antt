@@ -1,4 +1,4 @@
-use Rattle.std.proofs.Common.{rules, arith}
+use Rattle.std.proofs.Common.{rules}
 use Rattle.jr_scripts.proofs.JobHandles.{none_left}
 use Rattle.jr_scripts.proofs.JobLists.{jobs_end}
 use Rattle.jr_scripts.proofs.all.jobs_of.Goals as goal

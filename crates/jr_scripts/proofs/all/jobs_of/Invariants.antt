@@ -1,4 +1,4 @@
-use Rattle.std.proofs.Common.{◌≡◌, ◌++◌, List, drop}
+use Rattle.std.proofs.Common.{◌++◌, List, drop}
 use Rattle.jr_scripts.specs.declared.part.Job.{Job}
 use Rattle.jr_scripts.specs.Jobs.{AreJobsOf}
 use Rattle.jr_scripts.proofs.all.jobs_of.Given as goal

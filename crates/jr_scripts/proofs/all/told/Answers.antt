@@ -1,4 +1,4 @@
-use Rattle.std.proofs.Common.{◌≡◌, ◌++◌, [], ◌∷◌, rules, arith, ap, sym, ◌∙◌}
+use Rattle.std.proofs.Common.{◌≡◌, ◌++◌, [], ◌∷◌, rules, ap, ◌∙◌}
 use Rattle.jr_scripts.specs.Text.{heading}
 use Rattle.jr_scripts.proofs.JobHandles.{taken}
 use Rattle.jr_scripts.proofs.JobLists.{told_more, told_end}

@@ -1,4 +1,4 @@
-use Rattle.std.proofs.Common.{◌≡◌, ◌++◌, ℕ, List, drop}
+use Rattle.std.proofs.Common.{◌++◌, ℕ, List, drop}
 use Rattle.jr_rule.specs.declared.pass.Pass.{Pass}
 use Rattle.jr_scripts.specs.Jobs.{AreTold}
 use Rattle.jr_scripts.proofs.all.told.Given as goal

@@ -10,7 +10,7 @@ pub claim_header-requires-clause-filled : goal.claim_header-requires-clause-fill
 claim_header-requires-clause-filled g c = may_claim g.met.S.Steps.fits c.loop-object.steps c.args.kind (g.met.S.Steps.some_known c.loop-object.steps)
 
 pub returns-then-claim_header-clause-ok : goal.returns-then-claim_header-clause-ok
-returns-then-claim_header-clause-ok g c = let e : c.config-objects.result.objects ≡ (g.S.Steps.stands c.args.steps.now).config.objects = ap (λ (r : Config). r.objects) c.config-objects.ensures in
+returns-then-claim_header-clause-ok g c = let e : c.config-objects.result.objects ≡ (g.S.Steps.facts c.args.steps.now).stands.config.objects = ap (λ (r : Config). r.objects) c.config-objects.ensures in
     published_new g.met.S.Steps.fits (omega arith) c.loop-object.invariant c.if-claim_header.ensures
 
 pub loop-object-preserved : goal.loop-object-preserved

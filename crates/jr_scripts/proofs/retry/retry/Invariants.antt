@@ -1,12 +1,12 @@
 use Rattle.std.proofs.Common.{Result, ◌-◌}
 use Rattle.jr_word.specs.declared.fault.Fault.{Fault}
 use Rattle.jr_model.specs.Frames.{Frames}
-use Rattle.jr_scripts.specs.Deeds.{Does}
+use Rattle.jr_scripts.specs.Deeds.{DoesDeed}
 use Rattle.jr_scripts.specs.Commands.{tried}
 use Rattle.jr_scripts.proofs.retry.retry.Given as goal
 
 abbrev pub invariant-loop : goal.invariant-loop
 invariant-loop g l =
     (answer : Result _ Fault) (last : _) (frames : Frames)
-    → Does g.S.Steps.stands g.S.Steps.knows l.env.steps last l.env.frames.frames frames (tried (l.turns - l.counter) (g.C.EnvCall.deed l.call)) answer
-    → Does g.S.Steps.stands g.S.Steps.knows l.fn.env.steps last l.fn.env.frames.frames frames (tried l.turns (g.C.EnvCall.deed l.call)) answer
+    → DoesDeed g.S.Steps.facts l.env.steps last l.env.frames.frames frames (tried (l.turns - l.counter) (g.C.EnvCall.deed l.call)) answer
+    → DoesDeed g.S.Steps.facts l.fn.env.steps last l.fn.env.frames.frames frames (tried l.turns (g.C.EnvCall.deed l.call)) answer

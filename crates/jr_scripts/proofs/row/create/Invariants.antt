@@ -3,4 +3,4 @@ use Rattle.jr_scripts.specs.Performing.{Searched}
 use Rattle.jr_scripts.proofs.row.create.Given as goal
 
 abbrev pub invariant-loop-index : goal.invariant-loop-index
-invariant-loop-index g l = Searched g.S.Steps.stands g.S.Steps.knows l.fn.steps l.steps l.kind l.object 0 l.index None
+invariant-loop-index g l = Searched g.S.Steps.facts l.fn.steps l.steps l.kind l.object 0 l.index None

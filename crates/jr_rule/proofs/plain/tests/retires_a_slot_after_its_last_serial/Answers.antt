@@ -9,7 +9,7 @@ use Rattle.jr_model.specs.declared.event.Role.TheVariants.{Within}
 use Rattle.jr_steps.specs.Acts.{act_of_slot_load, handle_of}
 use Rattle.jr_steps.specs.declared.loads.SlotLoad.TheVariants.{Look}
 use Rattle.jr_steps.specs.Knowing.{Goes, ShowsSlot}
-use Rattle.jr_steps.proofs.StepFacts.{goes_did, looked_now, present_stays, shown_published, may_then, may_with}
+use Rattle.jr_steps.proofs.StepFacts.{goes_did, looked_now, present_stays, shown_published, may_then}
 use Rattle.jr_rule.proofs.Headers.{header_fits, filled_none}
 use Rattle.jr_rule.proofs.plain.tests.retires_a_slot_after_its_last_serial.Goals as goal
 
@@ -30,7 +30,7 @@ claim-requires g c =
           search rules,
           (
             λ e. cc,
-            may_then c.see_slot.ensures (λ k s m. tt) (may_with c.claim_header.ensures (λ k s m. filled_none plain k refl) c.go_in.new.self.shown (λ k k' s m d shown. shown_published 1 plain c.claim_header.result k k' shown))
+            may_then c.see_slot.ensures (λ k s m. tt) (may_then c.claim_header.ensures (λ k s m. filled_none plain k refl) c.go_in.new.self.shown (λ k k' s m d shown. shown_published 1 plain c.claim_header.result k k' shown))
                 (λ k k' s m d shown. (present_stays k k' _ 1 (goes_did d) (s.pass.role ∙ within) (λ e. cc, tt) m, (subst (λ p. ShowsSlot 0 p k') (c.in-Free-eq0.is ∙ ap Free c.in-Free-eq0.serial-test) shown.0))),
           ),
         ),

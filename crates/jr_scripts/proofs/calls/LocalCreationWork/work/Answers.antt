@@ -1,10 +1,10 @@
 use Rattle.jr_model.specs.References.{new_local}
 use Rattle.jr_scripts.proofs.NewReference.{creates_refused}
 use Rattle.jr_scripts.proofs.NewLocal.{may_find, ready_resolved, creates_local}
-use Rattle.jr_scripts.proofs.calls.create_local_within.Goals as goal
+use Rattle.jr_scripts.proofs.calls.LocalCreationWork.work.Goals as goal
 
 pub returns-in_err-object-clause-call : goal.returns-in_err-object-clause-call
-returns-in_err-object-clause-call g c = let s = g.S.Steps.stands c.args.steps.now in creates_refused (new_local s.config s.last s.thread) c.from_residual.result c.from_residual.ensures.1 c.in_err-object.ensures
+returns-in_err-object-clause-call g c = let s = (g.S.Steps.facts c.args.steps.now).stands in creates_refused (new_local s.config s.last s.thread) c.from_residual.result c.from_residual.ensures.1 c.in_err-object.ensures
 
 pub make_local-requires-clause-ready : goal.make_local-requires-clause-ready
 make_local-requires-clause-ready g c = ready_resolved c.requires.ready c.in_ok-object.ensures
