@@ -47,7 +47,7 @@ knows_now o h hs = ap (λ b. cond b (Some h) hs) (eq_self o)
 pub shut_reopens : {S : Type 0} {facts : S → Facts} {a b : S} → Took facts a b (Shut ∷ []) anything lets_go → MayKnow facts a anything → MayKnow facts b CanReopen
 shut_reopens took may = may_then took (λ k s m. tt) may (λ k k' s m g x. (shut_closed g, ap (λ (y : Holdings). y.moving) x))
 
-module _ {S : Type 0} {facts : S → Facts} (fits : (s : S) (k : Known) → (facts s).knows k → IsOf (facts s).stands k) where
+module _ {S : Type 0} (facts : S → Facts) (fits : (s : S) (k : Known) → (facts s).knows k → IsOf (facts s).stands k) where
   -- the header was looked at
   pub one_seen : {a b : S} (h : HeaderParts) → (facts a).stands.role ≡ Collecting → (facts a).stands.config.objects ≡ 1 → Took facts a b [] anything (ShowsHeader 1 (Some h)) → MayKnow facts a CanReopen → MayKnow facts b (IsOne h)
   one_seen {a} {b} h collects one took may = ∥∥₁_map may (λ k.
