@@ -14,7 +14,7 @@ use Rattle.jr_steps.specs.declared.known.Holdings.{Holdings}
 use Rattle.jr_steps.specs.declared.known.Known.{Known}
 use Rattle.jr_steps.specs.Collecting.{IsThere, ShowsElement, placed, ShowsPlaced, CanSettle}
 use Rattle.jr_steps.specs.Holdings.{header_in}
-use Rattle.jr_steps.specs.Knowing.{AreOf, Facts, Standing, IsOf, Took, Saw, MayKnow, anything, state_of, keeps, lets_go, KnowsHeader, IsSettled, IsClosedNow, CanReopen, ShowsHeader}
+use Rattle.jr_steps.specs.Knowing.{AreOf, Facts, Standing, Took, Saw, MayKnow, anything, state_of, keeps, lets_go, KnowsHeader, IsSettled, IsClosedNow, CanReopen, ShowsHeader}
 use Rattle.jr_steps.proofs.CollectorFacts.{same_tables, tables_seen, goes_act, there_settled}
 use Rattle.jr_steps.proofs.StepFacts.{may_then, shut_closed}
 use Rattle.jr_model.proofs.InRoom.{in_room}
@@ -47,7 +47,7 @@ knows_now o h hs = ap (λ b. cond b (Some h) hs) (eq_self o)
 pub shut_reopens : {S : Type 0} {facts : S → Facts} {a b : S} → Took facts a b (Shut ∷ []) anything lets_go → MayKnow facts a anything → MayKnow facts b CanReopen
 shut_reopens took may = may_then took (λ k s m. tt) may (λ k k' s m g x. (shut_closed g, ap (λ (y : Holdings). y.moving) x))
 
-module _ {S : Type 0} {facts : S → Facts} (fits : AreOf facts) where
+module _ {S : Type 0} (facts : S → Facts) (fits : AreOf facts) where
   -- the header was looked at
   pub one_seen : {a b : S} (h : HeaderParts) → (facts a).stands.role ≡ Collecting → (facts a).stands.config.objects ≡ 1 → Took facts a b [] anything (ShowsHeader 1 (Some h)) → MayKnow facts a CanReopen → MayKnow facts b (IsOne h)
   one_seen {a} {b} h collects one took may = ∥∥₁_map may (λ k.

@@ -20,6 +20,7 @@ pub record IsSlidTo (o place i : ℕ) (k k' : Known) : Type 0 where
 
 pub record SlidTo {S : Type 0} (facts : S → Facts) (o : ℕ) (h : HeaderParts) (place : ℕ) (old new : S) (i : ℕ) : Type 0 where
   pub stands_is : (facts new).stands ≡ (facts old).stands
+  pub hint_is : (facts new).hint ≡ (facts old).hint
   pub did : Leads facts old new (CanSlide o h place) Sees (IsSlidTo o place i)
 
 more_done : (m : Option Move) (o place i : ℕ) → m ≡ Some (move_of o place i) → HasDone m o place i
@@ -38,6 +39,7 @@ module _ {S : Type 0} {facts : S → Facts} (fits : AreOf facts) (o : ℕ) (h : 
     pub slid_looked : {c : S} {v : ℕ} (j : ℕ) → i ≤ j → j < h.length → Took facts b c [] (IsThere o h j) (λ j' k. ShowsElement o j v k × keeps j' k) → SlidTo facts o h place a c i
     slid_looked j m l looked = record {
       stands_is = looked.stands_is ∙ p.stands_is;
+      hint_is = looked.hint_is ∙ p.hint_is;
       did = λ k s can.
           let x = p.did k s can in
           let y = looked.goes x.0 x.1 (there_left o j place i h x.0 (known_still k x.0 can x.3) l (x.3).done m) in (
@@ -95,6 +97,7 @@ module _ {S : Type 0} {facts : S → Facts} (fits : AreOf facts) (o : ℕ) (h : 
       pub slid_more : {d : S} → Took facts c d [] (CanMove o h place i v) (ShowsMoved o place i) → SlidTo facts o h place a d (i + 1)
       slid_more t = record {
         stands_is = t.stands_is ∙ (looked.stands_is ∙ p.stands_is);
+        hint_is = t.hint_is ∙ (looked.hint_is ∙ p.hint_is);
         did = λ k s can.
             let x = seen_next k s can in
             let y = t.goes x.0 x.1 (can_move k x.0 s can x.2 x.3 x.4) in (
@@ -120,6 +123,7 @@ module _ {S : Type 0} {facts : S → Facts} (fits : AreOf facts) (o : ℕ) (h : 
       pub slid_all : {c : S} → Took facts b c [] (CanPlace o h place) (ShowsPlaced o h place) → Saw facts a c (CanSlide o h place) (ShowsPlaced o h place)
       slid_all t = record {
         stands_is = t.stands_is ∙ p.stands_is;
+        hint_is = t.hint_is ∙ p.hint_is;
         leads = λ k s can.
             let x = p.did k s can in
             let y = t.goes x.0 x.1 (can_place k x.0 can x.3) in

@@ -20,6 +20,7 @@ module _ {S : Type 0} {facts : S → Facts} {a b c : S} {shows : Known → Known
   withdraws : Took facts a b (Knock ∷ []) anything shows → Took facts b c (Withdraw ∷ []) anything lets_go → ActedTo facts a c (Knock ∷ Withdraw ∷ []) anything IsWithdrawn
   withdraws p q = record {
     stands_is = q.stands_is ∙ ap (λ s. standing_after s (Withdraw ∷ [])) p.stands_is;
+    hint_is = q.hint_is ∙ p.hint_is;
     leads = λ k s m.
         let g = p.goes k s m in
         let h = q.goes g.0 g.1 tt in

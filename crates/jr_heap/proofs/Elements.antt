@@ -23,7 +23,7 @@ use Rattle.jr_model.proofs.Windows.{window_act, window_nothing}
 use Rattle.jr_model.specs.Parts.{read_element, write_element}
 use Rattle.jr_model.specs.Checks.{is_plain, is_text, is_value}
 use Rattle.jr_steps.specs.declared.known.Known.{Known}
-use Rattle.jr_steps.specs.Knowing.{AreOf, Facts, IsOf, MayKnow, keeps, view, state_of, KnowsHeader, IsWordNow, ShowsObject, Goes, Took}
+use Rattle.jr_steps.specs.Knowing.{AreOf, Facts, MayKnow, keeps, view, state_of, KnowsHeader, IsWordNow, ShowsObject, Goes, Took}
 use Rattle.jr_steps.proofs.StepFacts.{goes_did}
 use Rattle.jr_heap.specs.Heap.{Called, by_steps, HoldsHeader, LeavesObject, MayBeNamed, ReadsOfKind}
 use Rattle.jr_heap.proofs.Calling.{no_step, called_by}
@@ -78,25 +78,25 @@ read_word {k} {k'} o i v h g shown =
     let kinds : needs.1.kind ≡ h.kind = ap kind_in there ∙ shown.says.kind in
     subst (λ s. IsWord s h.kind v) same (subst (λ kind. IsWord (state before) kind v) kinds word)
 
+-- what a read leaves and shows
+abbrev Finds : ℕ → HeaderParts → Result ℕ Fault → Known → Known → Type 0
+Finds o h answer j k = LeavesObject o h j k × ReadsOfKind h.kind answer k
+
 module _ {S : Type 0} {facts : S → Facts} (fits : AreOf facts) (o : ℕ) (h : HeaderParts) (i : ℕ) where
   -- a refusal, before any act
   refused : {A : Type 0} (a : S) (e : Fault) (met : Known → Type 0) (call : Known → Known → Call A) (shows : Known → Known → Type 0) → ((k : Known) → LeavesObject o h k k → shows k k) → ((k : Known) → met k → HoldsHeader o h k) → ((p : PassView) → Grounds p.seen p e)
       → ((k : Known) → (x : Contents) → (state_of k).objects o ≡ Some x → x.kind ≡ h.kind → length x.words ≡ h.length → (f : Frames) → call k k f [] (Err e) f) → Called facts a a met call (Err e) (by_steps 0 shows)
   refused a e met call shows leaves holds grounds is = called_by (λ k s m. let x = (holds k m).shown in (k, s, [], record { did = did_nothing (view k) (fits a k s).legal; is = is k x.contents x.is x.says.kind x.says.long; window = window_nothing (view k); grounds = grounds (view k); shows = (leaves k (x, refl), no_step k) }))
 
-  -- what a read leaves and shows
-  abbrev Finds : Result ℕ Fault → Known → Known → Type 0
-  Finds answer j k = LeavesObject o h j k × ReadsOfKind h.kind answer k
+  pub read_plain : (a : S) → is_plain h.kind ≡ true → Called facts a a (HoldsHeader o h) (λ j k. read_element (state_of k) o i) (Err NotArray) (by_steps 0 (Finds o h (Err NotArray)))
+  read_plain a plain = refused a NotArray (HoldsHeader o h) (λ j k. read_element (state_of k) o i) (Finds o h (Err NotArray)) (λ k l. (l, tt)) (λ k m. m) (λ p. tt) (λ k x there kind long f. (x, there, no_elements o i (length x.words) x.kind f (ap is_plain kind ∙ plain)))
 
-  pub read_plain : (a : S) → is_plain h.kind ≡ true → Called facts a a (HoldsHeader o h) (λ j k. read_element (state_of k) o i) (Err NotArray) (by_steps 0 (Finds (Err NotArray)))
-  read_plain a plain = refused a NotArray (HoldsHeader o h) (λ j k. read_element (state_of k) o i) (Finds (Err NotArray)) (λ k l. (l, tt)) (λ k m. m) (λ p. tt) (λ k x there kind long f. (x, there, no_elements o i (length x.words) x.kind f (ap is_plain kind ∙ plain)))
-
-  pub read_beyond : (a : S) → is_plain h.kind ≡ false → h.length ≤ i → Called facts a a (HoldsHeader o h) (λ j k. read_element (state_of k) o i) (Err Range) (by_steps 0 (Finds (Err Range)))
-  read_beyond a plain l = refused a Range (HoldsHeader o h) (λ j k. read_element (state_of k) o i) (Finds (Err Range)) (λ k l. (l, tt)) (λ k m. m) (λ p. tt)
+  pub read_beyond : (a : S) → is_plain h.kind ≡ false → h.length ≤ i → Called facts a a (HoldsHeader o h) (λ j k. read_element (state_of k) o i) (Err Range) (by_steps 0 (Finds o h (Err Range)))
+  read_beyond a plain l = refused a Range (HoldsHeader o h) (λ j k. read_element (state_of k) o i) (Finds o h (Err Range)) (λ k l. (l, tt)) (λ k m. m) (λ p. tt)
       (λ k x there kind long f. (x, there, too_far o i (length x.words) x.kind f (ap is_plain kind ∙ plain) (subst (λ n. n ≤ i) (sym long) l)))
 
   pub read_found : {a b : S} (v : ℕ) → (facts a).stands.role ≡ Within → is_plain h.kind ≡ false → i < h.length → Took facts a b (Read o i v ∷ []) (KnowsHeader o h) keeps
-      → Called facts a b (HoldsHeader o h) (λ j k. read_element (state_of k) o i) (Ok v) (by_steps 1 (Finds (Ok v)))
+      → Called facts a b (HoldsHeader o h) (λ j k. read_element (state_of k) o i) (Ok v) (by_steps 1 (Finds o h (Ok v)))
   read_found {a} v w plain l t = called_by (λ k s m.
       let g = t.goes k s m.known in
       let d = goes_did g.2 in
@@ -115,6 +115,10 @@ module _ {S : Type 0} {facts : S → Facts} (fits : AreOf facts) (o : ℕ) (h : 
 abbrev pub MayWrite : ℕ → HeaderParts → ℕ → Known → Type 0
 MayWrite o h v k = HoldsHeader o h k × MayBeNamed h.kind v k
 
+-- then the word may be an element of the object
+pub may_write : {S : Type 0} (facts : S → Facts) (a : S) (o : ℕ) (h : HeaderParts) (v : ℕ) → is_value h.kind v ≡ true → MayKnow facts a (MayWrite o h v) → MayKnow facts a (λ k. KnowsHeader o h k × IsWordNow h.kind v k)
+may_write facts a o h v good may = ∥∥₁_map may (λ k. (k.0, k.1, (k.2.0.known, word_is (state_of k.0) h.kind v good k.2.1)))
+
 module _ {S : Type 0} {facts : S → Facts} (fits : AreOf facts) (o : ℕ) (h : HeaderParts) (i v : ℕ) where
   pub write_no_array : (a : S) → (is_plain h.kind || is_text h.kind) ≡ true → Called facts a a (MayWrite o h v) (λ j k. write_element (state_of k) o i v) (Err NotArray) (by_steps 0 (LeavesObject o h))
   write_no_array a plain = refused fits o h i a NotArray (MayWrite o h v) (λ j k. write_element (state_of k) o i v) (LeavesObject o h) (λ k l. l) (λ k m. m.0) (λ p. tt)
@@ -127,9 +131,6 @@ module _ {S : Type 0} {facts : S → Facts} (fits : AreOf facts) (o : ℕ) (h : 
   pub write_value : (a : S) → (is_plain h.kind || is_text h.kind) ≡ false → i < h.length → is_value h.kind v ≡ false → Called facts a a (MayWrite o h v) (λ j k. write_element (state_of k) o i v) (Err Value) (by_steps 0 (LeavesObject o h))
   write_value a plain l bad = refused fits o h i a Value (MayWrite o h v) (λ j k. write_element (state_of k) o i v) (LeavesObject o h) (λ k l. l) (λ k m. m.0) (λ p. tt)
       (λ k x there kind long f. (x, there, no_value o i v (length x.words) x.kind f (ap (λ z. is_plain z || is_text z) kind ∙ plain) (subst (λ n. i < n) (sym long) l) (ap (λ z. is_value z v) kind ∙ bad)))
-
-  pub may_write : (a : S) → is_value h.kind v ≡ true → MayKnow facts a (MayWrite o h v) → MayKnow facts a (λ k. KnowsHeader o h k × IsWordNow h.kind v k)
-  may_write a good may = ∥∥₁_map may (λ k. (k.0, k.1, (k.2.0.known, word_is (state_of k.0) h.kind v good k.2.1)))
 
   pub write_stored : {a b : S} → (facts a).stands.role ≡ Within → (is_plain h.kind || is_text h.kind) ≡ false → i < h.length → is_value h.kind v ≡ true → Took facts a b (Write o i v ∷ []) (λ k. KnowsHeader o h k × IsWordNow h.kind v k) keeps
       → Called facts a b (MayWrite o h v) (λ j k. write_element (state_of k) o i v) (Ok tt) (by_steps 1 (LeavesObject o h))

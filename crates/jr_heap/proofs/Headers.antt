@@ -14,7 +14,7 @@ use Rattle.jr_model.proofs.Windows.{window_within}
 use Rattle.jr_steps.specs.declared.known.Known.{Known}
 use Rattle.jr_steps.specs.declared.known.Holdings.{Holdings}
 use Rattle.jr_steps.specs.Holdings.{header_in}
-use Rattle.jr_steps.specs.Knowing.{AreOf, Facts, IsOf, MayKnow, anything, state_of, HasObject, ShowsHeader, Took}
+use Rattle.jr_steps.specs.Knowing.{AreOf, Facts, MayKnow, anything, state_of, HasObject, ShowsHeader, Took}
 use Rattle.jr_steps.proofs.StepFacts.{goes_did, present_stays}
 use Rattle.jr_model.proofs.InRoom.{in_room}
 use Rattle.jr_heap.specs.Heap.{Called, by_steps, HoldsHeader, Learns}
@@ -31,13 +31,14 @@ some_is : (r : Option HeaderParts) → r ≢ None → IsSome r
 some_is None n = absurd (n refl)
 some_is (Some h) n = refl
 
-module _ {S : Type 0} {facts : S → Facts} (fits : AreOf facts) (a : S) (o : ℕ) where
-  pub is_number : MayKnow facts a (HasObject o) → (1 ≤ o) × (o ≤ (facts a).stands.config.objects)
-  is_number may =
-      let both : ((k : Known) × (facts a).knows k × HasObject o k) → (1 ≤ o) × (o ≤ (facts a).stands.config.objects) =
-      λ k. let is = fits a k.0 k.1 in let l = (in_room k.0.config k.0.last k.0.seen is.legal).objects o k.2 in (l.0, subst (λ (c : Config). o ≤ c.objects) is.config l.1) in
-      (∥∥₁_elim may le_prop (λ k. (both k).0), ∥∥₁_elim may le_prop (λ k. (both k).1))
+-- who is present has a number of the room
+pub is_number : {S : Type 0} (facts : S → Facts) → AreOf facts → (a : S) (o : ℕ) → MayKnow facts a (HasObject o) → (1 ≤ o) × (o ≤ (facts a).stands.config.objects)
+is_number facts fits a o may =
+    let both : ((k : Known) × (facts a).knows k × HasObject o k) → (1 ≤ o) × (o ≤ (facts a).stands.config.objects) =
+    λ k. let is = fits a k.0 k.1 in let l = (in_room k.0.config k.0.last k.0.seen is.legal).objects o k.2 in (l.0, subst (λ (c : Config). o ≤ c.objects) is.config l.1) in
+    (∥∥₁_elim may le_prop (λ k. (both k).0), ∥∥₁_elim may le_prop (λ k. (both k).1))
 
+module _ {S : Type 0} {facts : S → Facts} (fits : AreOf facts) (a : S) (o : ℕ) where
   module _ {b : S} (r : Option HeaderParts) (t : Took facts a b [] anything (ShowsHeader o r)) where
     not_none : (facts a).stands.role ≡ Within → MayKnow facts a (HasObject o) → r ≢ None
     not_none w may e = ∥∥₁_elim may (hlevel props) (λ k.

@@ -23,7 +23,7 @@ use Rattle.jr_steps.specs.declared.known.Known.{Known}
 use Rattle.jr_steps.specs.Acts.{handle_of}
 use Rattle.jr_steps.specs.Collecting.{ShowsLocal, CanWipe, CanDrop, ShowsDropped, CanSettle}
 use Rattle.jr_steps.specs.Says.{local_parts}
-use Rattle.jr_steps.specs.Knowing.{AreOf, Facts, Standing, IsOf, Goes, Took, Saw, MayKnow, anything, view, state_of, keeps, lets_go, IsSettled, CanReopen, ShowsHeader, ShowsSlot}
+use Rattle.jr_steps.specs.Knowing.{AreOf, Facts, Standing, Goes, Took, Saw, MayKnow, anything, view, state_of, keeps, lets_go, IsSettled, CanReopen, ShowsHeader, ShowsSlot}
 use Rattle.jr_steps.proofs.CollectorFacts.{same_tables, tables_seen, sees_more, goes_act}
 use Rattle.jr_steps.proofs.StepFacts.{may_then, took_less}
 use Rattle.jr_model.proofs.InRoom.{in_room}
@@ -41,6 +41,7 @@ module _ {S : Type 0} {facts : S → Facts} (fits : AreOf facts) (t : ℕ) where
   pub one_looked : {a b c : S} {i : ℕ} → (facts a).stands.role ≡ Collecting → Saw facts a b anything (HasNoneTo t i) → Took facts b c [] anything (λ j k. ShowsLocal t i local.Free k × keeps j k) → Saw facts a c anything (HasNoneTo t (i + 1))
   one_looked {a} {b} {i = i} collects p q = record {
     stands_is = q.stands_is ∙ p.stands_is;
+    hint_is = q.hint_is ∙ p.hint_is;
     leads = λ k s m.
         let x = p.leads k s tt in
         let y = q.goes x.0 x.1 tt in
@@ -135,34 +136,42 @@ can_settle k e = record {
 pub can_reopen : (k : Known) → IsEmptied k → CanReopen k
 can_reopen k e = (λ o x is. absurd (let z = sym (e.1 o) ∙ is in cc), e.0)
 
-module _ {S : Type 0} {facts : S → Facts} (fits : AreOf facts) where
-  abbrev pub NoLocalsBelow : ℕ → Known → Type 0
-  NoLocalsBelow n k = IsSettled k × ((t p : ℕ) → t < n → (state_of k).locals t p ≡ None)
+abbrev pub NoLocalsBelow : ℕ → Known → Type 0
+NoLocalsBelow n k = IsSettled k × ((t p : ℕ) → t < n → (state_of k).locals t p ≡ None)
 
-  pub looked_thread : {a b : S} (t : ℕ) → (facts a).stands.role ≡ Collecting → Saw facts a b anything (λ j k. keeps j k × ((p : ℕ) → p < (facts a).stands.config.locals → (state_of k).locals t p ≡ None)) → MayKnow facts a (NoLocalsBelow t) → MayKnow facts b (NoLocalsBelow (t + 1))
-  looked_thread {a} {b} t collects took may = ∥∥₁_map may (λ k.
-      let y = took.leads k.0 k.1 tt in
-      let same = tables_seen y.2 ((fits a k.0 k.1).role ∙ collects) in
-      let of = fits b y.0 y.1 in
-      let room = in_room (y.0).config (y.0).last (y.0).seen of.legal in
-      let sizes : (y.0).config.locals ≡ (facts a).stands.config.locals = ap (λ (c : Config). c.locals) (of.config ∙ ap (λ (z : Standing). z.config) took.stands_is) in (
-        y.0,
-        y.1,
-        (
-          ap (λ (g : Holdings). g.moving) y.3.0 ∙ k.2.0,
-          λ u p l. dite (ℕ_discrete u t)
-              (λ e. ap (λ v. (state_of y.0).locals v p) e ∙ beyond y.0 t (y.0).config.locals (λ p o is. (room.locals t p o is).1) (λ p l. y.3.1 p (omega arith)) p)
-              (λ ne. ap (λ (f : ℕ → ℕ → Option ℕ). f u p) same.locals ∙ k.2.1 u p (omega arith)),
-        ),
-      ))
-    where
-      beyond : (k : Known) (t n : ℕ) → ((p o : ℕ) → (state_of k).locals t p ≡ Some o → p < n) → ((p : ℕ) → p < n → (state_of k).locals t p ≡ None) → (p : ℕ) → (state_of k).locals t p ≡ None
-      beyond k t n some none p = go ((state_of k).locals t p) refl
-        where
-          go : (z : Option ℕ) → (state_of k).locals t p ≡ z → (state_of k).locals t p ≡ None
-          go None e = e
-          go (Some o) e = none p (some p o e)
+-- nothing but an object stands
+abbrev pub IsWiped : ℕ → Known → Type 0
+IsWiped o k = IsBare the_weak Cleared k × IsPresent (state_of k) o
 
+wiped_can : (o : ℕ) (k : Known) → IsWiped o k → CanDrop o k
+wiped_can o k m = record {
+  present = m.1;
+  unreached = unreached the_weak refl Cleared k m.0 o;
+  unnamed = λ h kind e. unnamed k m.0 h e;
+  settled = (m.0).settled;
+}
+  where
+    unnamed : (k : Known) → IsBare the_weak Cleared k → (h : Handle) → (state_of k).refs h ≢ Object o
+    unnamed k b h e = at_handle (λ z. z ≡ Object o → ⊥) (λ z. (state_of k).refs h) the_weak h ((state_of k).refs h)
+        (λ q w. absurd (let z = sym b.is ∙ (ap (state_of k).refs q ∙ w) in cc))
+        (λ ne w. absurd (let z = sym (b.others h ne) ∙ w in cc))
+        (subst (λ z. z ≡ Object o) (at_handle (λ z. (state_of k).refs h ≡ z) (λ z. (state_of k).refs h) the_weak h ((state_of k).refs h) (λ q. refl) (λ q. refl)) e)
+
+module _ {S : Type 0} (facts : S → Facts) where
+  pub bare_wipe : (a : S) (o : ℕ) → MayKnow facts a (IsBare the_weak (Object o)) → MayKnow facts a (CanWipe 0 0 o)
+  bare_wipe a o may = ∥∥₁_map may (λ k. (k.0, k.1, (k.2.is, unreached the_weak refl (Object o) k.0 k.2 o)))
+
+  pub wiped_drop : (a : S) (o : ℕ) → MayKnow facts a (IsWiped o) → MayKnow facts a (CanDrop o)
+  wiped_drop a o may = ∥∥₁_map may (λ k. (k.0, k.1, wiped_can o k.0 k.2))
+
+  pub emptied_settle : (a : S) → MayKnow facts a IsEmptied → MayKnow facts a (CanSettle 0)
+  emptied_settle a may = ∥∥₁_map may (λ k. (k.0, k.1, can_settle k.0 k.2))
+
+  -- a load of each local word of the thread, and none of them named an object
+  abbrev FindsNone : ℕ → S → S → Type 0
+  FindsNone t a b = Saw facts a b anything (λ j k. keeps j k × ((p : ℕ) → p < (facts a).stands.config.locals → (state_of k).locals t p ≡ None))
+
+module _ {S : Type 0} (facts : S → Facts) (fits : AreOf facts) where
   -- no local reference stands where none of the room's threads has one
   no_locals : (a : S) (k : Known) → (facts a).knows k → (facts a).stands.config.threads ≡ 2 → NoLocalsBelow 2 k → (t p : ℕ) → (state_of k).locals t p ≡ None
   no_locals a k s two none t p = go ((state_of k).locals t p) refl
@@ -193,6 +202,31 @@ module _ {S : Type 0} {facts : S → Facts} (fits : AreOf facts) where
       go (Object q) e far = absurd (far (given (λ z. let y = sym e ∙ z in cc)))
       go Cleared e far = absurd (far (given (λ z. let y = sym e ∙ z in cc)))
 
+module _ {S : Type 0} {facts : S → Facts} (fits : AreOf facts) where
+  pub looked_thread : {a b : S} (t : ℕ) → (facts a).stands.role ≡ Collecting → Saw facts a b anything (λ j k. keeps j k × ((p : ℕ) → p < (facts a).stands.config.locals → (state_of k).locals t p ≡ None)) → MayKnow facts a (NoLocalsBelow t) → MayKnow facts b (NoLocalsBelow (t + 1))
+  looked_thread {a} {b} t collects took may = ∥∥₁_map may (λ k.
+      let y = took.leads k.0 k.1 tt in
+      let same = tables_seen y.2 ((fits a k.0 k.1).role ∙ collects) in
+      let of = fits b y.0 y.1 in
+      let room = in_room (y.0).config (y.0).last (y.0).seen of.legal in
+      let sizes : (y.0).config.locals ≡ (facts a).stands.config.locals = ap (λ (c : Config). c.locals) (of.config ∙ ap (λ (z : Standing). z.config) took.stands_is) in (
+        y.0,
+        y.1,
+        (
+          ap (λ (g : Holdings). g.moving) y.3.0 ∙ k.2.0,
+          λ u p l. dite (ℕ_discrete u t)
+              (λ e. ap (λ v. (state_of y.0).locals v p) e ∙ beyond y.0 t (y.0).config.locals (λ p o is. (room.locals t p o is).1) (λ p l. y.3.1 p (omega arith)) p)
+              (λ ne. ap (λ (f : ℕ → ℕ → Option ℕ). f u p) same.locals ∙ k.2.1 u p (omega arith)),
+        ),
+      ))
+    where
+      beyond : (k : Known) (t n : ℕ) → ((p o : ℕ) → (state_of k).locals t p ≡ Some o → p < n) → ((p : ℕ) → p < n → (state_of k).locals t p ≡ None) → (p : ℕ) → (state_of k).locals t p ≡ None
+      beyond k t n some none p = go ((state_of k).locals t p) refl
+        where
+          go : (z : Option ℕ) → (state_of k).locals t p ≡ z → (state_of k).locals t p ≡ None
+          go None e = e
+          go (Some o) e = none p (some p o e)
+
   -- THE SLOT WAS LOOKED AT
   pub bare_looked : {a b : S} (o : ℕ) → (facts a).stands.role ≡ Collecting → (facts b).stands.config.threads ≡ 2 → (facts b).stands.config.slots ≡ 1 → Took facts a b [] anything (λ j k. ShowsSlot 0 (slot.Weak 0 (Some o)) k × keeps j k) → MayKnow facts a (NoLocalsBelow 2) → MayKnow facts b (IsBare the_weak (Object o))
   bare_looked {a} {b} o collects two one took may = ∥∥₁_map may (λ k.
@@ -203,22 +237,15 @@ module _ {S : Type 0} {facts : S → Facts} (fits : AreOf facts) where
         y.1,
         record {
           settled = none.0;
-          locals = no_locals _ y.0 y.1 two none;
+          locals = no_locals facts fits _ y.0 y.1 two none;
           is = ((y.3.0).stands).found;
-          others = no_others _ (Object o) 0 o y.0 y.1 one y.3.0;
+          others = no_others facts fits _ (Object o) 0 o y.0 y.1 one y.3.0;
         },
       ))
 
   -- a load that leaves what is moved
   pub bare_kept : {a b : S} {shows : Known → Known → Type 0} (r : Found) → (facts a).stands.role ≡ Collecting → Took facts a b [] anything shows → ((k k' : Known) → shows k k' → k'.holdings.moving ≡ k.holdings.moving) → MayKnow facts a (IsBare the_weak r) → MayKnow facts b (IsBare the_weak r)
   bare_kept {a} r collects took still may = may_then took (λ k s m. tt) may (λ k k' s m g x. bare_still the_weak refl r k k' g ((fits a k s).role ∙ collects) (still k k' x) m)
-
-  pub bare_wipe : (a : S) (o : ℕ) → MayKnow facts a (IsBare the_weak (Object o)) → MayKnow facts a (CanWipe 0 0 o)
-  bare_wipe a o may = ∥∥₁_map may (λ k. (k.0, k.1, (k.2.is, unreached the_weak refl (Object o) k.0 k.2 o)))
-
-  -- nothing but an object stands
-  abbrev pub IsWiped : ℕ → Known → Type 0
-  IsWiped o k = IsBare the_weak Cleared k × IsPresent (state_of k) o
 
   pub bare_wiped : {a b : S} (o : ℕ) → (facts a).stands.role ≡ Collecting → Took facts a b (Clear the_weak ∷ []) (CanWipe 0 0 o) keeps → MayKnow facts a (IsBare the_weak (Object o)) → MayKnow facts b (IsWiped o)
   bare_wiped {a} o collects took may = may_then took (λ k s m. (m.is, unreached the_weak refl (Object o) k m o)) may (λ k k' s m g x.
@@ -233,23 +260,6 @@ module _ {S : Type 0} {facts : S → Facts} (fits : AreOf facts) where
       let role = (fits a k s).role ∙ collects in
       let same = same_tables g role in
       (bare_still the_weak refl Cleared k k' g role (still k k' x) m.0, subst (λ z. IsSome z) (sym (ap (λ (f : ℕ → Option Contents). f o) same.objects)) m.1))
-
-  wiped_can : (o : ℕ) (k : Known) → IsWiped o k → CanDrop o k
-  wiped_can o k m = record {
-    present = m.1;
-    unreached = unreached the_weak refl Cleared k m.0 o;
-    unnamed = λ h kind e. unnamed k m.0 h e;
-    settled = (m.0).settled;
-  }
-    where
-      unnamed : (k : Known) → IsBare the_weak Cleared k → (h : Handle) → (state_of k).refs h ≢ Object o
-      unnamed k b h e = at_handle (λ z. z ≡ Object o → ⊥) (λ z. (state_of k).refs h) the_weak h ((state_of k).refs h)
-          (λ q w. absurd (let z = sym b.is ∙ (ap (state_of k).refs q ∙ w) in cc))
-          (λ ne w. absurd (let z = sym (b.others h ne) ∙ w in cc))
-          (subst (λ z. z ≡ Object o) (at_handle (λ z. (state_of k).refs h ≡ z) (λ z. (state_of k).refs h) the_weak h ((state_of k).refs h) (λ q. refl) (λ q. refl)) e)
-
-  pub wiped_drop : (a : S) (o : ℕ) → MayKnow facts a (IsWiped o) → MayKnow facts a (CanDrop o)
-  wiped_drop a o may = ∥∥₁_map may (λ k. (k.0, k.1, wiped_can o k.0 k.2))
 
   -- THE OBJECT WAS DROPPED, in a room of one object
   pub emptied : {a b : S} → (facts a).stands.role ≡ Collecting → (facts a).stands.config.objects ≡ 1 → Took facts a b (Drop 1 ∷ []) (CanDrop 1) (ShowsDropped 1) → MayKnow facts a (IsWiped 1) → MayKnow facts b IsEmptied
@@ -269,9 +279,6 @@ module _ {S : Type 0} {facts : S → Facts} (fits : AreOf facts) where
       let same = same_tables g ((fits a k s).role ∙ collects) in
       (still k k' x ∙ m.0, λ o. ap (λ (f : ℕ → Option Contents). f o) same.objects ∙ m.1 o))
 
-  pub emptied_settle : (a : S) → MayKnow facts a IsEmptied → MayKnow facts a (CanSettle 0)
-  emptied_settle a may = ∥∥₁_map may (λ k. (k.0, k.1, can_settle k.0 k.2))
-
   pub emptied_settled : {a b : S} → (facts a).stands.role ≡ Collecting → Took facts a b (Settle 0 ∷ []) (CanSettle 0) keeps → MayKnow facts a IsEmptied → MayKnow facts b CanReopen
   emptied_settled {a} collects took may = may_then took (λ k s m. can_settle k m) may (λ k k' s m g x.
       let y = goes_act g ((fits a k s).role ∙ collects) in
@@ -279,10 +286,7 @@ module _ {S : Type 0} {facts : S → Facts} (fits : AreOf facts) where
       can_reopen k' (ap (λ (z : Holdings). z.moving) x ∙ m.0, λ o. ap (λ (z : State). z.objects o) y.2 ∙ (ap (λ (f : ℕ → Option Contents). f o) same.objects ∙ m.1 o)))
 
   -- FROM STEP TO STEP of a collection that takes all away
-  abbrev FindsNone : ℕ → S → S → Type 0
-  FindsNone t a b = Saw facts a b anything (λ j k. keeps j k × ((p : ℕ) → p < (facts a).stands.config.locals → (state_of k).locals t p ≡ None))
-
-  module _ {z a b c d e : S} {p : SlotParts} (r : Option HeaderParts) (two : (facts z).stands.config.threads ≡ 2) (one : (facts z).stands.config.slots ≡ 1) (shut : Took facts z a (Shut ∷ []) anything lets_go) (first : FindsNone 0 a b) (second : FindsNone 1 b c) (seen : Took facts c d [] anything (λ j k. ShowsSlot 0 p k × keeps j k)) (weak : p ≡ slot.Weak 0 (Some 1)) (header : Took facts d e [] anything (ShowsHeader 1 r)) where
+  module _ {z a b c d e : S} {p : SlotParts} (r : Option HeaderParts) (two : (facts z).stands.config.threads ≡ 2) (one : (facts z).stands.config.slots ≡ 1) (shut : Took facts z a (Shut ∷ []) anything lets_go) (first : FindsNone facts 0 a b) (second : FindsNone facts 1 b c) (seen : Took facts c d [] anything (λ j k. ShowsSlot 0 p k × keeps j k)) (weak : p ≡ slot.Weak 0 (Some 1)) (header : Took facts d e [] anything (ShowsHeader 1 r)) where
     collects_at : (facts a).stands.role ≡ Collecting
     collects_at = ap (λ (s : Standing). s.role) shut.stands_is
 

@@ -34,8 +34,8 @@ module _ {told : Known → ℕ → List Act → Known → Type 0} (m : Sat) (n :
   pub acting_is : acting m' ≡ s.new
   acting_is = ap acting s.is
 
-  pub held_next : (thread : ℕ) (role : Role) (fresh : Bool) → IsHeld m thread role fresh → (role' : Role) (fresh' : Bool) (acts : List Act) → s.acts ≡ acts → role' ≡ role_from role acts → fresh' ≡ fresh_from fresh acts → IsHeld m' thread role' fresh'
-  held_next thread role fresh h role' fresh' acts are role_is fresh_is =
+  pub held_next : {hint : ℕ} (thread : ℕ) (role : Role) (fresh : Bool) → IsHeld m thread role fresh hint → (role' : Role) (fresh' : Bool) (acts : List Act) → s.acts ≡ acts → role' ≡ role_from role acts → fresh' ≡ fresh_from fresh acts → IsHeld m' thread role' fresh' hint
+  held_next {hint} thread role fresh h role' fresh' acts are role_is fresh_is =
       let g = s.goes in
       let same_config : (acting m').config ≡ (acting m).config = ap (λ (k : Known). k.config) acting_is ∙ g.config in
       let same_last : (acting m').last ≡ (acting m).last = ap (λ (k : Known). k.last) acting_is ∙ g.last in record {
@@ -48,6 +48,7 @@ module _ {told : Known → ℕ → List Act → Known → Type 0} (m : Sat) (n :
         few = h.few;
         unused = λ e. subst HasNoLocals (sym acting_is) (no_locals_next (acting m) s.new s.acts fresh g (ap (fresh_from fresh) are ∙ (sym fresh_is ∙ e)) h.unused);
         space = subst (λ (k : Known). InSpace k.config k.holdings) (sym acting_is) (subst (λ (c : Config). InSpace c (s.new).holdings) (sym g.config) s.space);
+        below = subst (λ (c : Config). hint < c.slots) (sym same_config) h.below;
       }
 
 module _ {told : Known → ℕ → List Act → Known → Type 0} (old new : Pass) (n : ℕ) (s : Tells told old.seat.me n new.seat.me) where
@@ -62,23 +63,28 @@ module _ {told : Known → ℕ → List Act → Known → Type 0} (old new : Pas
         legal = legal;
       }
 
+  -- the pass is of the same thread, with the hint that it had
+  abbrev IsSameRight : Type 0
+  IsSameRight = ◌≡◌ {A = ℕ × ℕ} (new.thread, new.hint) (old.thread, old.hint)
+
   in_a_room : Some old.seat.table_id ≡ None → ⊥
   in_a_room e = cc
 
   -- the step was taken, with acts that may depend on what was known
-  pub took_with : {met : Known → Type 0} {shows : Known → Known → Type 0} (acts : Known → List Act) {role : Role} {fresh : Bool} → new.seat.table_id ≡ old.seat.table_id → s.acts ≡ acts (known_of old) → new.thread ≡ old.thread → new.role ≡ role → new.fresh ≡ fresh
+  pub took_with : {met : Known → Type 0} {shows : Known → Known → Type 0} (acts : Known → List Act) {role : Role} {fresh : Bool} → new.seat.table_id ≡ old.seat.table_id → s.acts ≡ acts (known_of old) → IsSameRight → new.role ≡ role → new.fresh ≡ fresh
       → (met (known_of old) → shows (known_of old) s.new) → TookWith facts_of old new acts (record (standing_of old) { role = role; fresh = fresh }) met shows
-  took_with {met} {shows} acts same_table acts_are same_thread role_is fresh_is shown =
+  took_with {met} {shows} acts same_table acts_are same_right role_is fresh_is shown =
       let g = s.goes in
       let a = acting_is old.seat.me n new.seat.me s in record {
         stands_is = λ i. record {
           room = Some (same_table i);
           config = (ap (λ (k : Known). k.config) a ∙ g.config) i;
           last = (ap (λ (k : Known). k.last) a ∙ g.last) i;
-          thread = same_thread i;
+          thread = (same_right i).0;
           role = role_is i;
           fresh = fresh_is i;
         };
+        hint_is = ap (λ (z : ℕ × ℕ). z.1) same_right;
         goes = λ k h q.
             let here : Goes k (acts k) s.new = subst (λ (z : Known × List Act). Goes z.0 z.1 s.new) (λ i. (sym h.is i, (acts_are ∙ ap acts (sym h.is)) i)) g in
             let legal = subst (λ (z : Config × ℕ). IsLegal z.0 z.1 (s.new).seen) (λ i. (sym g.config i, sym g.last i)) g.legal in
@@ -87,6 +93,6 @@ module _ {told : Known → ℕ → List Act → Known → Type 0} (old new : Pas
       }
 
   -- with acts that are the same whatever was known, too
-  pub took : {met : Known → Type 0} {shows : Known → Known → Type 0} (acts : List Act) → new.seat.table_id ≡ old.seat.table_id → s.acts ≡ acts → new.thread ≡ old.thread → new.role ≡ role_from old.role acts → new.fresh ≡ fresh_from old.fresh acts
+  pub took : {met : Known → Type 0} {shows : Known → Known → Type 0} (acts : List Act) → new.seat.table_id ≡ old.seat.table_id → s.acts ≡ acts → IsSameRight → new.role ≡ role_from old.role acts → new.fresh ≡ fresh_from old.fresh acts
       → (met (known_of old) → shows (known_of old) s.new) → Took facts_of old new acts met shows
-  took acts same_table acts_are same_thread role_is fresh_is shown = took_with (λ k. acts) same_table acts_are same_thread role_is fresh_is shown
+  took acts same_table acts_are same_right role_is fresh_is shown = took_with (λ k. acts) same_table acts_are same_right role_is fresh_is shown

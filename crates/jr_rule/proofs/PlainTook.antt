@@ -12,7 +12,7 @@ use Rattle.jr_steps.specs.declared.known.Known.{Known}
 use Rattle.jr_steps.specs.declared.known.Holdings.{Holdings}
 use Rattle.jr_steps.specs.Holdings.{empty, hold}
 use Rattle.jr_steps.specs.Knowing.{Standing, standing_after, Goes, Took, TookWith, MayKnow, anything}
-use Rattle.jr_rule.specs.Plain.{facts_over, alone, standing_alone, unseen, Shows}
+use Rattle.jr_rule.specs.Plain.{facts_over, facts_from, alone, standing_alone, unseen, Shows}
 use Rattle.jr_rule.specs.Rule.{known_at}
 use Rattle.jr_rule.proofs.HoldingsInSpace.{holdings_in_space}
 use Rattle.jr_rule.proofs.Images.{image_same}
@@ -86,19 +86,20 @@ module _ {old new : Standing} {words words' : List ℕ} {acts : Known → List A
 
 module _ (LAST : ℕ) (s s' : PlainSteps LAST) {met : Known → Type 0} {shows : Known → Known → Type 0} where
   -- and the step was taken
-  pub took_with : {acts : Known → List Act} {stood : Standing} → standing_alone s'.config LAST s'.role s'.fresh ≡ stood
+  pub took_with : {acts : Known → List Act} {stood : Standing} → ◌≡◌ {A = Standing × ℕ} (standing_alone s'.config LAST s'.role s'.fresh, s'.hint) (stood, s.hint)
       → Turned (standing_alone s.config LAST s.role s.fresh) s.words.items (standing_alone s'.config LAST s'.role s'.fresh) s'.words.items acts met shows
-      → TookWith (λ (z : PlainSteps LAST). facts_over (standing_alone z.config LAST z.role z.fresh) z.words.items) s s' acts stood met shows
+      → TookWith (λ (z : PlainSteps LAST). facts_from z.hint (standing_alone z.config LAST z.role z.fresh) z.words.items) s s' acts stood met shows
   took_with {acts} stood t = record {
-    stands_is = stood;
+    stands_is = ap (λ (z : Standing × ℕ). z.0) stood;
+    hint_is = ap (λ (z : Standing × ℕ). z.1) stood;
     goes = λ k h m. let r = t.turn k h m in (known_at k k.seen (acts k) r.0, shown_next t k h m, goes_then k (acts k) r.0 (r.1).legal, r.2);
     alone = λ e k h m. let r = t.turn k h m in nobody_then k (acts k) r.0 (r.1).legal;
   }
 
   -- with acts that are the same whatever is known, too
-  pub took : {acts : List Act} → Turned (standing_alone s.config LAST s.role s.fresh) s.words.items (standing_alone s'.config LAST s'.role s'.fresh) s'.words.items (λ k. acts) met shows
-      → Took (λ (z : PlainSteps LAST). facts_over (standing_alone z.config LAST z.role z.fresh) z.words.items) s s' acts met shows
-  took t = took_with (t.stands_is (unseen s.config LAST)) t
+  pub took : {acts : List Act} → s'.hint ≡ s.hint → Turned (standing_alone s.config LAST s.role s.fresh) s.words.items (standing_alone s'.config LAST s'.role s'.fresh) s'.words.items (λ k. acts) met shows
+      → Took (λ (z : PlainSteps LAST). facts_from z.hint (standing_alone z.config LAST z.role z.fresh) z.words.items) s s' acts met shows
+  took {acts} hint t = took_with (λ i. (t.stands_is (unseen s.config LAST) i, hint i)) t
 
 -- what the words show does not depend on whether the pass is fresh
 pub shows_spent : {c : Config} {last : ℕ} {r : Role} {words : List ℕ} {k : Known} (f f' : Bool) → Shows (standing_alone c last r f) words k → Shows (standing_alone c last r f') words k

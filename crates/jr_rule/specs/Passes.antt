@@ -27,9 +27,9 @@ pub record Knows (p : Pass) (k : Known) : Type 0 where
   pub is : k ≡ known_of p
   pub pass : IsOf (standing_of p) k
 
--- what a pass is, and what it knows
+-- what a pass is, what it knows, and where its next search begins
 abbrev pub facts_of : Pass → Facts
-facts_of p = record { stands = standing_of p; knows = Knows p }
+facts_of p = record { stands = standing_of p; knows = Knows p; hint = p.hint }
 
 -- THE PASS IS ONE OF THE ROW'S OWN
 pub record IsAt (r : Row) (p : Pass) : Type 0 where
@@ -43,6 +43,7 @@ pub record IsOpened (r : Row) (p : Pass) : Type 0 where
   pub knows : known_of p ≡ known r.config r.last p.thread [] empty 0
   pub role : p.role ≡ Outside
   pub fresh : p.fresh ≡ true
+  pub hint : p.hint ≡ 0
 
 abbrev pub numbers_below : ℕ → List ℕ
 numbers_below zero = []
@@ -61,6 +62,7 @@ pub record IsSame (old new : Pass) : Type 0 where
   pub thread : new.thread ≡ old.thread
   pub role : new.role ≡ old.role
   pub fresh : new.fresh ≡ old.fresh
+  pub hint : new.hint ≡ old.hint
 
 -- AT THE END the summary is that of one legal history, which begins with all that the pass has seen and has no more of its events
 pub record SumsUp (k : Known) (s : Summary) : Type 0 where

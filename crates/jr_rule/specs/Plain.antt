@@ -26,9 +26,13 @@ pub record Shows (s : Standing) (words : List ℕ) (k : Known) : Type 0 where
   pub image : IsImage k.config k.last words (state_of k) (alone k.holdings)
   pub space : InSpace k.config k.holdings
 
--- the thread that stands so over plain words, and what may be known of it
+-- the thread that stands so over plain words, what may be known of it, and where its next search begins
+abbrev pub facts_from : ℕ → Standing → List ℕ → Facts
+facts_from hint s words = record { stands = s; knows = Shows s words; hint = hint }
+
+-- the same, as far as no hint is asked for
 abbrev pub facts_over : Standing → List ℕ → Facts
-facts_over s words = record { stands = s; knows = Shows s words }
+facts_over s words = facts_from 0 s words
 
 -- the local words of thread 0 are 0, and so it has no local reference
 pub record IsUnused (s : Standing) (words : List ℕ) : Type 0 where

@@ -79,6 +79,7 @@ impl Row {
             thread: _,
             role: _,
             fresh: _,
+            hint: _,
         } = pass;
         let words = ClosedWords {
             closed: table.close_with(seat),

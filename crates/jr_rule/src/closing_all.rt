@@ -69,6 +69,7 @@ impl Row {
                 thread: _,
                 role: _,
                 fresh: _,
+                hint: _,
             } = others.remove(0);
             self.table.shared.join_seat::<Gather>(seat, other);
         }
@@ -85,6 +86,7 @@ impl Row {
             thread: _,
             role: _,
             fresh: _,
+            hint: _,
         } = pass;
         self.gather(&mut seat, others);
         let Row {

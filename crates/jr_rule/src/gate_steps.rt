@@ -91,6 +91,7 @@ impl Row {
             thread,
             role,
             fresh,
+            hint,
         } = other;
         self.table.shared.join_seat::<Gather>(&mut pass.seat, seat);
         self.load::<Brand, ()>(&mut pass.seat, GATE, ());
@@ -100,6 +101,7 @@ impl Row {
             thread,
             role,
             fresh,
+            hint,
         }
     }
 }

@@ -12,5 +12,6 @@ pub struct Pass {
     pub(crate) thread: u8,
     pub(crate) role: Role,
     pub(crate) fresh: bool,
-    ghost held: { IsHeld seat.me thread role fresh },
+    pub(crate) hint: u16,
+    ghost held: { IsHeld seat.me thread role fresh hint },
 }

@@ -9,7 +9,7 @@ ghost use Rattle.jr_model.specs.declared.event.Role.TheVariants.{Outside};
 ghost use Rattle.jr_rule.specs.Image.{gate_at, top_at, slot_at as place_of_slot};
 ghost use Rattle.jr_steps.specs.Knowing.{anything, MayKnow, HasNoLocals};
 ghost use Rattle.jr_steps.specs.declared.known.Known.{Known};
-ghost use Rattle.jr_rule.specs.Plain.{facts_over, standing_alone, Shows, IsUnused};
+ghost use Rattle.jr_rule.specs.Plain.{facts_over, facts_from, standing_alone, Shows, IsUnused};
 
 use crate::layout::{GATE, TOP, element_at, header_at, local_at, slot_at};
 use crate::parts::{
@@ -35,8 +35,11 @@ pub struct PlainSteps<const LAST: u32> {
     pub role: Role,
     /// Whether no local word was stored and the pass was not spent.
     pub fresh: bool,
+    /// Where the next search for a free slot begins.
+    pub hint: u16,
     ghost limits: { in_limits config ≡ true },
     ghost limited: { IsLimited config },
+    ghost below: { hint < config.slots },
     ghost wide: { vec_len words ≡ row_words config },
     ghost unused: { fresh ≡ true → IsUnused (standing_alone config LAST role fresh) words.items },
     ghost shown: { MayKnow (facts_over (standing_alone config LAST role fresh)) words.items anything },
@@ -52,6 +55,7 @@ impl<const LAST: u32> PlainSteps<LAST> {
         ensures size { (result ≡ Err Size) ↔ (in_limits config ≡ false) }
         ensures memory { IfErr result (λ e. (e ≡ Size) ⊎ (e ≡ Memory)) }
         ensures room { IfOk result (λ s. (s.config ≡ config) × (s.role ≡ Outside) × (s.fresh ≡ true)) }
+        ensures hint { IfOk result (λ s. s.hint ≡ 0) }
         ensures fresh { IfOk result (λ s. Shows (standing_alone config LAST Outside true) s.words.items (unseen config LAST)) }
         ensures locals { IfOk result (λ s. (k : Known) → Shows (standing_alone config LAST Outside true) s.words.items k → HasNoLocals k) }
     {
@@ -66,6 +70,7 @@ impl<const LAST: u32> PlainSteps<LAST> {
             config,
             role: Role::Outside,
             fresh: true,
+            hint: 0,
         })
     }
 
@@ -110,7 +115,7 @@ impl<const LAST: u32> PlainSteps<LAST> {
 impl<const LAST: u32> Steps for PlainSteps<LAST> {
     ghost use Rattle.std.proofs.Common.{lit<};
 
-    ghost facts = { λ s. facts_over (standing_alone s.config LAST s.role s.fresh) s.words.items };
+    ghost facts = { λ s. facts_from s.hint (standing_alone s.config LAST s.role s.fresh) s.words.items };
 
     fn config(&self) -> Config {
         self.config
@@ -134,6 +139,14 @@ impl<const LAST: u32> Steps for PlainSteps<LAST> {
 
     fn spend(&mut self) {
         self.fresh = false;
+    }
+
+    fn hint(&self) -> u16 {
+        self.hint
+    }
+
+    fn keep_hint(&mut self, index: u16) {
+        self.hint = index;
     }
 
     fn go_in(&mut self) -> bool {
@@ -313,6 +326,8 @@ impl<const LAST: u32> Steps for PlainSteps<LAST> {
     ghost limits = { λ s. s.limits };
 
     ghost row = { λ s. s.limited.threads.0 };
+
+    ghost below = { λ s. s.below };
 }
 
 #[cfg(test)]

@@ -83,6 +83,14 @@ impl<const LAST: u32> Steps for RoomSteps<'_, LAST> {
         self.pass.fresh = false;
     }
 
+    fn hint(&self) -> u16 {
+        self.pass.hint
+    }
+
+    fn keep_hint(&mut self, index: u16) {
+        self.pass.hint = index;
+    }
+
     fn go_in(&mut self) -> bool {
         self.room.row.go_in(&mut self.pass)
     }
@@ -221,4 +229,6 @@ impl<const LAST: u32> Steps for RoomSteps<'_, LAST> {
     ghost limits = { λ s. s.pass.held.sized.limits };
 
     ghost row = { λ s. s.pass.held.row };
+
+    ghost below = { λ s. s.pass.held.below };
 }

@@ -104,6 +104,7 @@ impl Row {
             thread,
             role: Role::Outside,
             fresh: true,
+            hint: 0,
         }
     }
 

@@ -124,7 +124,7 @@ shown_published o h false k k' shown = shown.0
 module _ {S : Type 0} {facts : S → Facts} where
   -- a step shows less, too
   pub took_less : {old new : S} {acts : Known → List Act} {stood : Standing} {met : Known → Type 0} {shows shows' : Known → Known → Type 0} → ((k k' : Known) → shows k k' → shows' k k') → TookWith facts old new acts stood met shows → TookWith facts old new acts stood met shows'
-  took_less less t = record { stands_is = t.stands_is; goes = λ k s m. let g = t.goes k s m in (g.0, g.1, g.2, less k g.0 g.3); alone = λ e k s m. t.alone e k s m }
+  took_less less t = record { stands_is = t.stands_is; hint_is = t.hint_is; goes = λ k s m. let g = t.goes k s m in (g.0, g.1, g.2, less k g.0 g.3); alone = λ e k s m. t.alone e k s m }
 
   -- what may be known after a step
   pub may_then : {old new : S} {acts : Known → List Act} {stood : Standing} {met : Known → Type 0} {shows : Known → Known → Type 0} {was is : Known → Type 0} → TookWith facts old new acts stood met shows → ((k : Known) → (facts old).knows k → was k → met k) → MayKnow facts old was

@@ -31,10 +31,11 @@ pub record Standing : Type 0 where
   pub role : Role
   pub fresh : Bool
 
--- WHAT A PASS IS, and what may be known of it
+-- WHAT A PASS IS, what may be known of it, and where its next search for a free slot begins
 pub record Facts : Type 1 where
   pub stands : Standing
   pub knows : Known → Type 0
+  pub hint : ℕ
 
 -- a pass that was not spent is fresh until its first store to a local word
 abbrev pub fresh_after : Bool → Act → Bool
@@ -236,9 +237,10 @@ abbrev pub Leads : {S : Type 0} → (S → Facts) → S → S → (Known → Typ
 Leads facts old new met made shows = (k : Known) → (facts old).knows k → met k → (k' : Known) × (facts new).knows k' × made k k' × shows k k'
 
 module _ {S : Type 0} (facts : S → Facts) where
-  -- ONE STEP WAS TAKEN, with acts that may depend on what was known: it leaves the pass standing so, and shows this; and nobody else did anything in between where the pass is of no room
+  -- ONE STEP WAS TAKEN, with acts that may depend on what was known: it leaves the pass standing so, leaves the hint as it was, and shows this; and nobody else did anything in between where the pass is of no room
   pub record TookWith (old new : S) (acts : Known → List Act) (stood : Standing) (met : Known → Type 0) (shows : Known → Known → Type 0) : Type 0 where
     pub stands_is : (facts new).stands ≡ stood
+    pub hint_is : (facts new).hint ≡ (facts old).hint
     pub goes : Leads facts old new met (λ k k'. Goes k (acts k) k') shows
     pub alone : (facts old).stands.room ≡ None → (k : Known) (s : (facts old).knows k) (m : met k) → (goes k s m).2.between ≡ []
 
@@ -246,9 +248,10 @@ module _ {S : Type 0} (facts : S → Facts) where
   abbrev pub Took : S → S → List Act → (Known → Type 0) → (Known → Known → Type 0) → Type 0
   Took old new acts met shows = TookWith old new (λ k. acts) (standing_after (facts old).stands acts) met shows
 
-  -- SEVERAL STEPS WERE TAKEN: they leave the pass standing so, made this of what was known, and show this
+  -- SEVERAL STEPS WERE TAKEN: they leave the pass standing so, leave the hint as it was, made this of what was known, and show this
   pub record Went (old new : S) (stood : Standing) (met : Known → Type 0) (made shows : Known → Known → Type 0) : Type 0 where
     pub stands_is : (facts new).stands ≡ stood
+    pub hint_is : (facts new).hint ≡ (facts old).hint
     pub leads : Leads facts old new met made shows
 
   -- the same, where none of them has an act
@@ -258,4 +261,11 @@ module _ {S : Type 0} (facts : S → Facts) where
   -- the pass is not fresh any more, and nothing else changed
   pub record Spent (old new : S) : Type 0 where
     pub stands_is : (facts new).stands ≡ record ((facts old).stands) { fresh = false }
+    pub hint_is : (facts new).hint ≡ (facts old).hint
+    pub same : (k : Known) → (facts old).knows k ↔ (facts new).knows k
+
+  -- the next search for a free slot begins at this index, and nothing else changed
+  pub record Hinted (old new : S) (index : ℕ) : Type 0 where
+    pub hint_is : (facts new).hint ≡ index
+    pub stands_is : (facts new).stands ≡ (facts old).stands
     pub same : (k : Known) → (facts old).knows k ↔ (facts new).knows k

@@ -8,7 +8,7 @@ ghost use Rattle.jr_model.specs.declared.event.Act.TheVariants.{Reopen, Read, Wr
 ghost use Rattle.jr_steps.specs.Collecting.{ShowsLocal, ShowsElement, IsThere, CanWipe, CanDrop, ShowsDropped, CanMove, ShowsMoved, placed, CanPlace, ShowsPlaced, CanSettle};
 ghost use Rattle.jr_model.specs.declared.event.Role.TheVariants.{Outside, Within, Knocking, Collecting};
 ghost use Rattle.jr_steps.specs.Acts.{act_of_entry, act_of_exit, act_of_bar, act_of_gate_load, GateLoadFits, all_counted, act_of_slot_load, SlotLoadFits, act_of_claim, act_of_free, act_of_put, acts_of_publication, acts_of_top_load, act_of_reservation, found_of, handle_of};
-ghost use Rattle.jr_steps.specs.Knowing.{anything, KnowsHeader, HasWord, IsWordNow, IsFilled, words_for, ShowsHeader, ShowsPublished, ShowsUsed, WasUsed, ShowsRange, ShowsWord, TookWith, HasObject, HasOptional, HasLooked, HasNoLocals, CanReopen, ShowsBarred, IsFreeSlot, ShowsGate, ShowsSlot, LostClaim, MayKnow, Took, Spent, keeps, lets_go};
+ghost use Rattle.jr_steps.specs.Knowing.{anything, KnowsHeader, HasWord, IsWordNow, IsFilled, words_for, ShowsHeader, ShowsPublished, ShowsUsed, WasUsed, ShowsRange, ShowsWord, TookWith, HasObject, HasOptional, HasLooked, HasNoLocals, CanReopen, ShowsBarred, IsFreeSlot, ShowsGate, ShowsSlot, LostClaim, MayKnow, Took, Spent, Hinted, keeps, lets_go};
 
 use crate::loads::{GateLoad, SlotLoad, TopLoad};
 use jr_model::Role;
@@ -20,7 +20,7 @@ pub trait Steps {
     ghost use Rattle.jr_steps.specs.declared.known.Known.{Known};
     ghost use Rattle.jr_steps.specs.Holdings.{InSpace};
 
-    /// What the pass is, its room, thread and role, and whether it is fresh; and what may be known of it.
+    /// What the pass is, its room, thread and role, and whether it is fresh; what may be known of it; and where its next search for a free slot begins.
     ghost facts: { Self → Facts };
 
     /// The sizes of the room.
@@ -46,6 +46,15 @@ pub trait Steps {
     /// Makes the pass one that is not fresh. It is no step.
     fn spend(&mut self)
         ensures { Spent facts self.old self.new };
+
+    /// Where the pass's next search for a free slot begins: at slot 0 once it is opened. No other pass knows it.
+    fn hint(&self) -> u16
+        ensures { result ≡ (facts self.now).hint };
+
+    /// Sets where the pass's next search for a free slot begins. It is no step.
+    fn keep_hint(&mut self, index: u16)
+        requires { index < (facts self.old).stands.config.slots }
+        ensures { Hinted facts self.old self.new index };
 
     /// Enters the gate: true where it was not shut.
     fn go_in(&mut self) -> bool
@@ -233,4 +242,7 @@ pub trait Steps {
 
     /// The thread is one of the room's.
     ghost row: { (s : Self) → (facts s).stands.thread < (facts s).stands.config.threads };
+
+    /// A search can begin at the hint.
+    ghost below: { (s : Self) → (facts s).hint < (facts s).stands.config.slots };
 }

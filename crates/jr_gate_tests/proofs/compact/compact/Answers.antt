@@ -11,7 +11,7 @@ slide_and_look-requires-clause-can g c =
     let T = g.met.S.Steps in
     let shut : (g.S.Steps.facts c.bar.new.self).stands.role ≡ Collecting = ap (λ (s : Standing). s.role) (c.in-Ok.ensures).stands_is in
     let objects = ap (λ (y : Config). y.objects) (ap (λ (s : Standing). s.config) (c.in-Ok.ensures).stands_is ∙ sym c.config-config.ensures) ∙ c.if-config-ne1.false in
-    one_slidable T.fits _ c.in-Some.header (one_seen T.fits c.in-Some.header shut objects c.in-Some.ensures (shut_reopens c.in-Ok.ensures (T.some_known _)))
+    one_slidable g.S.Steps.facts T.fits _ c.in-Some.header (one_seen g.S.Steps.facts T.fits c.in-Some.header shut objects c.in-Some.ensures (shut_reopens c.in-Ok.ensures (T.some_known _)))
 
 pub loop-index-init : goal.loop-index-init
 loop-index-init g c =
@@ -19,13 +19,13 @@ loop-index-init g c =
     let shut : (g.S.Steps.facts c.bar.new.self).stands.role ≡ Collecting = ap (λ (s : Standing). s.role) (c.in-Ok.ensures).stands_is in
     let objects = ap (λ (y : Config). y.objects) (ap (λ (s : Standing). s.config) (c.in-Ok.ensures).stands_is ∙ sym c.config-config.ensures) ∙ c.if-config-ne1.false in
     let collects = ap (λ (s : Standing). s.role) (c.in-Some.ensures).stands_is ∙ shut in
-    (refl, one_moved T.fits c.in-Some.header collects c.slide_and_look.ensures (one_seen T.fits c.in-Some.header shut objects c.in-Some.ensures (shut_reopens c.in-Ok.ensures (T.some_known _))))
+    (refl, one_moved g.S.Steps.facts T.fits c.in-Some.header collects c.slide_and_look.ensures (one_seen g.S.Steps.facts T.fits c.in-Some.header shut objects c.in-Some.ensures (shut_reopens c.in-Ok.ensures (T.some_known _))))
 
 pub scan_element-word-requires-clause-there : goal.scan_element-word-requires-clause-there
 scan_element-word-requires-clause-there g c =
     let long = c.if-header-ne4.false in
     let l = c.loop-index-test.true in
-    one_there g.met.S.Steps.fits _ (placed c.in-Some.header 0) c.loop-index.index (omega arith) c.loop-index.invariant.1
+    one_there g.S.Steps.facts g.met.S.Steps.fits _ (placed c.in-Some.header 0) c.loop-index.index (omega arith) c.loop-index.invariant.1
 
 pub loop-index-preserved : goal.loop-index-preserved
 loop-index-preserved g c =
@@ -34,14 +34,14 @@ loop-index-preserved g c =
     let shut : (g.S.Steps.facts c.bar.new.self).stands.role ≡ Collecting = ap (λ (s : Standing). s.role) (c.in-Ok.ensures).stands_is in
     let collects = ap (λ (s : Standing). s.role) (c.loop-index.invariant.0 ∙ ((c.slide_and_look.ensures).stands_is ∙ (c.in-Some.ensures).stands_is)) ∙ shut in (
       (c.scan_element-word.ensures).stands_is ∙ c.loop-index.invariant.0,
-      one_kept g.met.S.Steps.fits (placed c.in-Some.header 0) c.loop-index.index c.scan_element-word.result (omega arith) collects c.scan_element-word.ensures c.loop-index.invariant.1,
+      one_kept g.S.Steps.facts g.met.S.Steps.fits (placed c.in-Some.header 0) c.loop-index.index c.scan_element-word.result (omega arith) collects c.scan_element-word.ensures c.loop-index.invariant.1,
     )
 
 pub set_top-requires-clause-can : goal.set_top-requires-clause-can
-set_top-requires-clause-can g c = one_settled g.met.S.Steps.fits _ (placed c.in-Some.header 0) 4 c.if-header-ne4.false refl c.loop-index.invariant.1
+set_top-requires-clause-can g c = one_settled g.S.Steps.facts g.met.S.Steps.fits _ (placed c.in-Some.header 0) 4 c.if-header-ne4.false refl c.loop-index.invariant.1
 
 pub unbar-requires-clause-closed : goal.unbar-requires-clause-closed
 unbar-requires-clause-closed g c =
     let shut : (g.S.Steps.facts c.bar.new.self).stands.role ≡ Collecting = ap (λ (s : Standing). s.role) (c.in-Ok.ensures).stands_is in
     let collects = ap (λ (s : Standing). s.role) (c.loop-index.invariant.0 ∙ ((c.slide_and_look.ensures).stands_is ∙ (c.in-Some.ensures).stands_is)) ∙ shut in
-    one_reopens g.met.S.Steps.fits (placed c.in-Some.header 0) 4 c.if-header-ne4.false refl collects c.set_top.ensures c.loop-index.invariant.1
+    one_reopens g.S.Steps.facts g.met.S.Steps.fits (placed c.in-Some.header 0) 4 c.if-header-ne4.false refl collects c.set_top.ensures c.loop-index.invariant.1

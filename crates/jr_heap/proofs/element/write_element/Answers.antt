@@ -27,7 +27,7 @@ pub returns-then-not-is_value-clause-known : goal.returns-then-not-is_value-clau
 returns-then-not-is_value-clause-known g c = ∥∥₁_map c.requires.known (λ k. (k.0, k.1, k.2.0))
 
 pub put_element-requires-clause-known : goal.put_element-requires-clause-known
-put_element-requires-clause-known g c = may_write g.met.S.Steps.fits c.args.object c.args.header c.args.index c.args.word _ (sym c.is_value.ensures ∙ c.if-not-is_value.false) c.requires.known
+put_element-requires-clause-known g c = may_write g.S.Steps.facts _ c.args.object c.args.header c.args.word (sym c.is_value.ensures ∙ c.if-not-is_value.false) c.requires.known
 
 pub returns-clause-call : goal.returns-clause-call
 returns-clause-call g c =

@@ -10,7 +10,7 @@ wipe-requires-clause-can g c =
     let weak : c.scan_slot.result ≡ slot.Weak 0 (Some 1) = search rules in
     let two = ap (λ (y : Config). y.threads) (sym c.config-config.ensures) ∙ c.if-config-ne2.false in
     let one = ap (λ (y : Config). y.slots) (sym c.config-config.ensures) ∙ c.if-config-ne1.false in
-    bare_wipe T.fits _ 1 (bare_at T.fits c.scan_header.result two one c.in-Ok.ensures c.in_ok-look_for_locals.ensures c.in_ok-look_for_locals-2.ensures c.scan_slot.ensures weak c.scan_header.ensures (T.some_known _))
+    bare_wipe g.S.Steps.facts _ 1 (bare_at T.fits c.scan_header.result two one c.in-Ok.ensures c.in_ok-look_for_locals.ensures c.in_ok-look_for_locals-2.ensures c.scan_slot.ensures weak c.scan_header.ensures (T.some_known _))
 
 pub drop_header-requires-clause-can : goal.drop_header-requires-clause-can
 drop_header-requires-clause-can g c =
@@ -18,7 +18,7 @@ drop_header-requires-clause-can g c =
     let weak : c.scan_slot.result ≡ slot.Weak 0 (Some 1) = search rules in
     let two = ap (λ (y : Config). y.threads) (sym c.config-config.ensures) ∙ c.if-config-ne2.false in
     let one = ap (λ (y : Config). y.slots) (sym c.config-config.ensures) ∙ c.if-config-ne1.false in
-    wiped_drop T.fits _ 1 (wiped_at T.fits c.scan_header.result two one c.in-Ok.ensures c.in_ok-look_for_locals.ensures c.in_ok-look_for_locals-2.ensures c.scan_slot.ensures weak c.scan_header.ensures c.wipe.ensures c.scan_slot-2.ensures (T.some_known _))
+    wiped_drop g.S.Steps.facts _ 1 (wiped_at T.fits c.scan_header.result two one c.in-Ok.ensures c.in_ok-look_for_locals.ensures c.in_ok-look_for_locals-2.ensures c.scan_slot.ensures weak c.scan_header.ensures c.wipe.ensures c.scan_slot-2.ensures (T.some_known _))
 
 pub set_top-requires-clause-can : goal.set_top-requires-clause-can
 set_top-requires-clause-can g c =
@@ -27,7 +27,7 @@ set_top-requires-clause-can g c =
     let two = ap (λ (y : Config). y.threads) (sym c.config-config.ensures) ∙ c.if-config-ne2.false in
     let one = ap (λ (y : Config). y.slots) (sym c.config-config.ensures) ∙ c.if-config-ne1.false in
     let single = ap (λ (y : Config). y.objects) (sym c.config-config.ensures) ∙ c.if-config-ne1-2.false in
-    emptied_settle T.fits _ (emptied_at T.fits c.scan_header.result two one c.in-Ok.ensures c.in_ok-look_for_locals.ensures c.in_ok-look_for_locals-2.ensures c.scan_slot.ensures weak c.scan_header.ensures c.wipe.ensures c.scan_slot-2.ensures c.scan_header-2.result single c.drop_header.ensures c.scan_header-2.ensures (T.some_known _))
+    emptied_settle g.S.Steps.facts _ (emptied_at T.fits c.scan_header.result two one c.in-Ok.ensures c.in_ok-look_for_locals.ensures c.in_ok-look_for_locals-2.ensures c.scan_slot.ensures weak c.scan_header.ensures c.wipe.ensures c.scan_slot-2.ensures c.scan_header-2.result single c.drop_header.ensures c.scan_header-2.ensures (T.some_known _))
 
 pub unbar-requires-clause-closed : goal.unbar-requires-clause-closed
 unbar-requires-clause-closed g c =

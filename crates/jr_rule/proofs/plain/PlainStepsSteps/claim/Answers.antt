@@ -1,4 +1,4 @@
-use Rattle.std.proofs.Common.{◌≡◌, Some, arith}
+use Rattle.std.proofs.Common.{refl, ◌≡◌, Some, arith}
 use Rattle.jr_rule.proofs.PlainTook.{took, shown}
 use Rattle.jr_rule.proofs.PlainOwed.{claimed, lost, object_some}
 use Rattle.jr_rule.proofs.Unused.{unused_slot}
@@ -8,7 +8,7 @@ use Rattle.jr_rule.proofs.plain.PlainStepsSteps.claim.Goals as goal
 pub returns-then-not-is_free : goal.returns-then-not-is_free
 returns-then-not-is_free g c =
     let s = c.args.self.now in
-    took g.row.LAST s s
+    took g.row.LAST s s refl
     (lost g.row.LAST (omega arith) s c.args.index c.args.serial c.args.kind c.args.object c.slot-found.result c.requires.row c.requires.kind c.slot-found.ensures.0 c.slot-found.ensures.1
     (λ e. let yes' = c.is_free.ensures.1 e in let no' = c.if-not-is_free.true in cc) c.requires.role)
 
@@ -21,7 +21,7 @@ pack-made-requires g c =
 pub returns : goal.returns
 returns g c =
     let s = c.args.self.now in
-    took g.row.LAST s _
+    took g.row.LAST s _ refl
     (claimed g.row.LAST (omega arith) s c.args.index c.slot_at-at.result c.args.serial c.args.kind c.args.object c.reference.result c.pack-made.result.0 c.slot_at-at.ensures c.requires.row c.requires.kind c.reference.ensures
     c.slot-found.result c.slot-found.ensures.1 (c.is_free.ensures.0 c.if-not-is_free.false) c.pack-made.ensures c.requires.role)
 

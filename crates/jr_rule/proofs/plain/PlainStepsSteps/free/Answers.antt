@@ -1,4 +1,4 @@
-use Rattle.std.proofs.Common.{◌∙◌, ap, sym, arith}
+use Rattle.std.proofs.Common.{refl, ◌∙◌, ap, sym, arith}
 use Rattle.jr_word.specs.Slot.{slot_word}
 use Rattle.jr_rule.proofs.PlainTook.{took, shown}
 use Rattle.jr_rule.proofs.PlainOwed.{looked_can, looked_object, deleted, deleted_late}
@@ -20,14 +20,14 @@ pack-looked-requires g c =
 pub returns-then-word-looked : goal.returns-then-word-looked
 returns-then-word-looked g c =
     let s = c.args.self.now in
-    took g.row.LAST s s
+    took g.row.LAST s s refl
     (deleted_late g.row.LAST (omega arith) s c.args.handle c.args.object c.slot_at-at.result c.reference.result c.slot_at-at.ensures c.reference.ensures
     (λ e. c.if-word-looked.true (c.word.ensures ∙ (e ∙ sym c.pack-looked.ensures))) c.requires.role)
 
 pub returns : goal.returns
 returns g c =
     let s = c.args.self.now in
-    took g.row.LAST s _
+    took g.row.LAST s _ refl
     (deleted g.row.LAST (omega arith) s c.args.handle c.args.object c.slot_at-at.result c.reference.result c.pack.result.0 c.slot_at-at.ensures c.reference.ensures
     (sym c.word.ensures ∙ (c.if-word-looked.false ∙ c.pack-looked.ensures)) (c.pack.ensures ∙ ap slot_word c.freed_slot.ensures) c.requires.role)
 

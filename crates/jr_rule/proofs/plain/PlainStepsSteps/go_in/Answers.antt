@@ -1,4 +1,4 @@
-use Rattle.std.proofs.Common.{◌≡◌, get_or, arith}
+use Rattle.std.proofs.Common.{refl, ◌≡◌, get_or, arith}
 use Rattle.jr_rule.proofs.PlainTook.{took, shown}
 use Rattle.jr_rule.proofs.PlainOwed.{gate_few, entered}
 use Rattle.jr_rule.proofs.Unused.{unused_gate}
@@ -13,7 +13,7 @@ overflow_add-found g c =
 pub returns : goal.returns
 returns g c =
     let s = c.args.self.now in
-    took g.row.LAST s _
+    took g.row.LAST s _ refl
     (entered g.row.LAST (omega arith) s _ c.word-found.result c.is_shut-entered.result c.word-found.ensures c.is_shut-entered.ensures c.requires c.role_of_entry-self.ensures)
 
 pub invariant_of-self-clause-shown : goal.invariant_of-self-clause-shown

@@ -1,4 +1,4 @@
-use Rattle.std.proofs.Common.{◌≡◌, ◌-◌, get_or, arith}
+use Rattle.std.proofs.Common.{refl, ◌≡◌, ◌-◌, get_or, arith}
 use Rattle.jr_rule.proofs.PlainTook.{took, shown}
 use Rattle.jr_rule.proofs.PlainOwed.{gate_some, left}
 use Rattle.jr_rule.proofs.Unused.{unused_gate}
@@ -15,7 +15,7 @@ returns g c =
     let s = c.args.self.now in
     let least = gate_some g.row.LAST (omega arith) s c.requires s.shown in
     let e : c.word-found.result ≡ get_or s.words.items 0 0 = c.word-found.ensures in
-    took g.row.LAST s _ (left g.row.LAST (omega arith) s (c.word-found.result - 1) (omega arith) c.requires)
+    took g.row.LAST s _ refl (left g.row.LAST (omega arith) s (c.word-found.result - 1) (omega arith) c.requires)
 
 pub invariant_of-self-clause-shown : goal.invariant_of-self-clause-shown
 invariant_of-self-clause-shown g c =

@@ -1,4 +1,4 @@
-use Rattle.std.proofs.Common.{◌+◌, arith}
+use Rattle.std.proofs.Common.{refl, ◌+◌, arith}
 use Rattle.jr_rule.proofs.PlainTook.{took, shown}
 use Rattle.jr_rule.proofs.PlainOwed.{moved_element, move_few}
 use Rattle.jr_rule.proofs.Unused.{unused_element}
@@ -25,7 +25,7 @@ index_mut-requires g c =
 pub returns : goal.returns
 returns g c =
     let s = c.args.self.now in
-    took g.row.LAST s _
+    took g.row.LAST s _ refl
     (moved_element g.row.LAST (omega arith) s c.requires.role c.args._object c.args._header c.args.place c.args.index c.args.word c.element_at-at.result c.element_at-at.ensures c.requires.index)
 
 pub invariant_of-self-clause-shown : goal.invariant_of-self-clause-shown

@@ -1,4 +1,4 @@
-use Rattle.std.proofs.Common.{◌∙◌, ap, sym, subst, arith}
+use Rattle.std.proofs.Common.{refl, ◌∙◌, ap, sym, subst, arith}
 use Rattle.jr_word.specs.Local.{local_word, IsLocalPlace}
 use Rattle.jr_rule.proofs.PlainTook.{took, shown}
 use Rattle.jr_rule.proofs.PlainOwed.{optional_few, put}
@@ -14,7 +14,7 @@ pack-requires g c =
 pub returns : goal.returns
 returns g c =
     let s = c.args.self.now in
-    took g.row.LAST s _
+    took g.row.LAST s _ refl
     (put g.row.LAST (omega arith) s c.args.place c.local_at-at.result c.args.object c.pack.result.0 c.local_at-at.ensures c.requires.place (c.pack.ensures ∙ ap local_word c.local_parts.ensures) c.requires.role)
 
 pub invariant_of-self-clause-shown : goal.invariant_of-self-clause-shown

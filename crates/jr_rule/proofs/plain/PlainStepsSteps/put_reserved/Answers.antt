@@ -1,4 +1,4 @@
-use Rattle.std.proofs.Common.{◌+◌, arith}
+use Rattle.std.proofs.Common.{refl, ◌+◌, arith}
 use Rattle.jr_rule.proofs.PlainTook.{took, shown}
 use Rattle.jr_rule.proofs.PlainOwed.{own_few, put_word}
 use Rattle.jr_rule.proofs.Unused.{unused_element}
@@ -25,7 +25,7 @@ index_mut-requires g c =
 pub returns : goal.returns
 returns g c =
     let s = c.args.self.now in
-    took g.row.LAST s _
+    took g.row.LAST s _ refl
     (put_word g.row.LAST (omega arith) s c.args.place c.args.index c.element_at-at.result c.args.word c.element_at-at.ensures c.requires.role)
 
 pub invariant_of-self-clause-shown : goal.invariant_of-self-clause-shown

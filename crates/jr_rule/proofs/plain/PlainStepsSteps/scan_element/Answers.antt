@@ -1,4 +1,4 @@
-use Rattle.std.proofs.Common.{arith, lit<}
+use Rattle.std.proofs.Common.{refl, arith, lit<}
 use Rattle.jr_rule.proofs.PlainTook.{took}
 use Rattle.jr_rule.proofs.PlainOwed.{scanned_element, there_few}
 use Rattle.jr_rule.proofs.plain.PlainStepsSteps.scan_element.Goals as goal
@@ -24,5 +24,5 @@ word-requires g c =
 pub returns : goal.returns
 returns g c =
     let s = c.args.self.now in
-    took g.row.LAST s s
+    took g.row.LAST s s refl
     (scanned_element g.row.LAST (omega arith) s c.requires.role c.args._object c.args.index c.element_at-at.result c.word.result c.args.header c.element_at-at.ensures c.word.ensures)

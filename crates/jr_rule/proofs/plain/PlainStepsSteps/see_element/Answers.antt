@@ -1,4 +1,4 @@
-use Rattle.std.proofs.Common.{lit<, arith}
+use Rattle.std.proofs.Common.{refl, lit<, arith}
 use Rattle.jr_rule.proofs.PlainTook.{took}
 use Rattle.jr_rule.proofs.PlainOwed.{known_few, read_element}
 use Rattle.jr_rule.proofs.plain.PlainStepsSteps.see_element.Goals as goal
@@ -24,5 +24,5 @@ word-requires g c =
 pub returns : goal.returns
 returns g c =
     let s = c.args.self.now in
-    took g.row.LAST s s
+    took g.row.LAST s s refl
     (read_element g.row.LAST (omega arith) s c.args._object c.args.header c.args.index c.element_at.result c.word.result c.element_at.ensures c.word.ensures c.requires.index c.requires.role)

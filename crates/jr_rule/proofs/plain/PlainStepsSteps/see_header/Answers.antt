@@ -1,4 +1,4 @@
-use Rattle.std.proofs.Common.{◌≡◌, ◌∙◌, IfSome, ap, subst, arith}
+use Rattle.std.proofs.Common.{refl, ◌≡◌, ◌∙◌, IfSome, ap, subst, arith}
 use Rattle.jr_word.specs.declared.header.HeaderParts.{HeaderParts}
 use Rattle.jr_word.specs.Header.{header_word, IsHeader}
 use Rattle.jr_rule.specs.Image.{header_at}
@@ -9,7 +9,7 @@ use Rattle.jr_rule.proofs.plain.PlainStepsSteps.see_header.Goals as goal
 pub returns : goal.returns
 returns g c =
     let s = c.args.self.now in
-    took g.row.LAST s s
+    took g.row.LAST s s refl
     (saw_header g.row.LAST (omega arith) s c.args.object c.header_at.result (c.header_at.ensures ∙ ap (header_at s.config) c.from.ensures) c.requires.number c.parts.result
     (subst (λ w. IfSome c.parts.result (λ (h : HeaderParts). IsHeader h × (w ≡ header_word h))) c.word.ensures c.parts.ensures.sound)
     (λ h fits is. c.parts.ensures.complete h fits (c.word.ensures ∙ is)) c.requires.role)

@@ -1,4 +1,4 @@
-use Rattle.std.proofs.Common.{◌∙◌, ap, arith}
+use Rattle.std.proofs.Common.{refl, ◌∙◌, ap, arith}
 use Rattle.jr_rule.specs.Image.{header_at}
 use Rattle.jr_rule.proofs.PlainTook.{took, shown}
 use Rattle.jr_rule.proofs.PlainOwed.{placed_header}
@@ -8,7 +8,7 @@ use Rattle.jr_rule.proofs.plain.PlainStepsSteps.set_header.Goals as goal
 pub returns : goal.returns
 returns g c =
     let s = c.args.self.now in
-    took g.row.LAST s _
+    took g.row.LAST s _ refl
     (placed_header g.row.LAST (omega arith) s c.requires.role c.args.object c.args.header c.args.place c.header_at-at.result c.pack.result.0 (c.header_at-at.ensures ∙ ap (header_at s.config) c.from.ensures) c.pack.ensures c.requires.header)
 
 pub invariant_of-self-clause-shown : goal.invariant_of-self-clause-shown

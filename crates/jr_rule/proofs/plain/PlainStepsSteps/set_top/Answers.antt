@@ -1,4 +1,4 @@
-use Rattle.std.proofs.Common.{arith}
+use Rattle.std.proofs.Common.{refl, arith}
 use Rattle.jr_rule.proofs.PlainTook.{took, shown}
 use Rattle.jr_rule.proofs.PlainOwed.{settled_top}
 use Rattle.jr_rule.proofs.Unused.{unused_top}
@@ -7,7 +7,7 @@ use Rattle.jr_rule.proofs.plain.PlainStepsSteps.set_top.Goals as goal
 pub returns : goal.returns
 returns g c =
     let s = c.args.self.now in
-    took g.row.LAST s _
+    took g.row.LAST s _ refl
     (settled_top g.row.LAST (omega arith) s c.requires.role c.args.used c.top_word.result c.top_word.ensures)
 
 pub invariant_of-self-clause-shown : goal.invariant_of-self-clause-shown

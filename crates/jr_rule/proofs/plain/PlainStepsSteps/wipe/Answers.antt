@@ -1,4 +1,4 @@
-use Rattle.std.proofs.Common.{arith}
+use Rattle.std.proofs.Common.{refl, arith}
 use Rattle.jr_rule.proofs.PlainTook.{took, shown}
 use Rattle.jr_rule.proofs.PlainOwed.{wiped}
 use Rattle.jr_rule.proofs.Unused.{unused_slot}
@@ -7,7 +7,7 @@ use Rattle.jr_rule.proofs.plain.PlainStepsSteps.wipe.Goals as goal
 pub returns : goal.returns
 returns g c =
     let s = c.args.self.now in
-    took g.row.LAST s _
+    took g.row.LAST s _ refl
     (wiped g.row.LAST (omega arith) s c.requires.role c.args.index c.slot_at-at.result c.args.serial c.args._object c.pack-cleared.result.0 c.slot_at-at.ensures c.requires.row c.pack-cleared.ensures)
 
 pub invariant_of-self-clause-shown : goal.invariant_of-self-clause-shown
