@@ -14,7 +14,7 @@ use Rattle.jr_model.specs.References.{added, new_local, room_for, making}
 use Rattle.jr_model.proofs.Windows.{window_act}
 use Rattle.jr_model.proofs.Runs.{ran_done, ran_then, ran_give}
 use Rattle.jr_steps.specs.declared.known.Known.{Known}
-use Rattle.jr_steps.specs.Knowing.{AreOf, Facts, Standing, IsOf, view, keeps, HasObject, HasOptional, Holds, MayKnow, Took}
+use Rattle.jr_steps.specs.Knowing.{AreOf, Facts, Standing, view, keeps, HasObject, HasOptional, Holds, MayKnow, Took}
 use Rattle.jr_model.proofs.InRoom.{in_room}
 use Rattle.jr_steps.proofs.StepFacts.{goes_did}
 use Rattle.jr_scripts.specs.Table.{Table, IsNext, IsOnly}
@@ -41,13 +41,13 @@ found_optional : (z : Option ℕ) (k : Known) → FoundPresent (Ok z) k → HasO
 found_optional None k p = tt
 found_optional (Some o) k p = p
 
-module _ {S : Type 0} {facts : S → Facts} where
-  -- a present object's number is not 0
-  pub present_number : AreOf facts → (a : S) (o : ℕ) → MayKnow facts a (HasObject o) → o ≢ 0
-  present_number fits a o there none =
-      let each : ((k : Known) × (facts a).knows k × HasObject o k) → ⊥ = λ k. let low = ((in_room k.0.config k.0.last k.0.seen (fits a k.0 k.1).legal).objects o k.2).0 in omega arith in
-      ∥∥₁_elim {P = ⊥} there (hlevel) each
+-- a present object has a number
+pub present_number : {S : Type 0} (facts : S → Facts) → AreOf facts → (a : S) (o : ℕ) → MayKnow facts a (HasObject o) → o ≢ 0
+present_number facts fits a o there none =
+    let each : ((k : Known) × (facts a).knows k × HasObject o k) → ⊥ = λ k. let low = ((in_room k.0.config k.0.last k.0.seen (fits a k.0 k.1).legal).objects o k.2).0 in omega arith in
+    ∥∥₁_elim {P = ⊥} there (hlevel) each
 
+module _ {S : Type 0} {facts : S → Facts} where
   -- a call that makes no object is refused
   refused_making : {a b : S} {f g : Frames} {call : Call Handle} {e : Fault} (silent : ℕ) → Calls facts a b f g call (Err e) → MakesPlain facts a b f g silent call (Err e)
   refused_making silent p = record {

@@ -9,7 +9,7 @@ use Rattle.jr_model.proofs.Stays.{did_then, did_nothing}
 use Rattle.jr_steps.specs.declared.known.Known.{Known}
 use Rattle.jr_steps.specs.Acts.{acts_of_publication}
 use Rattle.jr_steps.specs.Holdings.{with_header}
-use Rattle.jr_steps.specs.Knowing.{AreOf, Facts, Standing, IsOf, view, anything, HasObject, IsFilled, words_for, ShowsPublished, MayKnow, TookWith, Takes, keeps}
+use Rattle.jr_steps.specs.Knowing.{AreOf, Facts, Standing, view, anything, HasObject, IsFilled, words_for, ShowsPublished, MayKnow, TookWith, Takes, keeps}
 use Rattle.jr_steps.proofs.StepFacts.{goes_did, present_stays}
 use Rattle.jr_scripts.specs.Performing.{Published, bare}
 
@@ -25,7 +25,7 @@ no_words kind k = record { long = refl; words = λ i v e. cc }
 last_or : (o n : ℕ) → o ≤ n + 1 → (o ≤ n) ⊎ (n + 1 ≡ o)
 last_or o n l = grind arith
 
-module _ {S : Type 0} {facts : S → Facts} (fits : AreOf facts) where
+module _ {S : Type 0} (facts : S → Facts) where
   -- what the exchange of a header without elements did
   abbrev Claimed : S → S → ℕ → Kind → Bool → Type 0
   Claimed b c o kind new = TookWith facts b c (λ k. acts_of_publication o kind (words_for (bare kind) k) new) (facts b).stands (IsFilled (bare kind)) (ShowsPublished o (bare kind) new)
@@ -34,10 +34,11 @@ module _ {S : Type 0} {facts : S → Facts} (fits : AreOf facts) where
   pub may_claim : (a : S) (kind : Kind) → MayKnow facts a anything → MayKnow facts a (IsFilled (bare kind))
   may_claim a kind some = ∥∥₁_map some (λ k. (k.0, k.1, no_words kind k.0))
 
+module _ {S : Type 0} {facts : S → Facts} (fits : AreOf facts) where
   pub passed_nothing : (a : S) → Passed facts a a 0
   passed_nothing a = record { stands_is = refl; did = λ k s. (k, s, λ o l m. absurd (omega arith), did_nothing (view k) (fits a k s).legal, omega arith, refl) }
 
-  pub passed_more : {a b c : S} (kind : Kind) (n : ℕ) → (facts a).stands.role ≡ Within → Passed facts a b n → Claimed b c (n + 1) kind false → Passed facts a c (n + 1)
+  pub passed_more : {a b c : S} (kind : Kind) (n : ℕ) → (facts a).stands.role ≡ Within → Passed facts a b n → Claimed facts b c (n + 1) kind false → Passed facts a c (n + 1)
   passed_more {a} {b} kind n w p t = record {
     stands_is = t.stands_is ∙ p.stands_is;
     did = λ k s.
@@ -56,7 +57,7 @@ module _ {S : Type 0} {facts : S → Facts} (fits : AreOf facts) where
         );
   }
 
-  pub published_new : {a b c : S} {n : ℕ} {kind : Kind} → n ≤ (facts a).stands.config.objects → Passed facts a b n → Claimed b c (n + 1) kind true → Published facts a c kind (Some (n + 1))
+  pub published_new : {a b c : S} {n : ℕ} {kind : Kind} → n ≤ (facts a).stands.config.objects → Passed facts a b n → Claimed facts b c (n + 1) kind true → Published facts a c kind (Some (n + 1))
   published_new {n = n} {kind = kind} few p t = record {
     stands_is = t.stands_is ∙ p.stands_is;
     did = λ k s.

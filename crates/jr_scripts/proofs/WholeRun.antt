@@ -10,9 +10,9 @@ use Rattle.jr_model.specs.Frames.{Frames, fresh_frames}
 use Rattle.jr_syntax.specs.declared.command.Command.{Command}
 use Rattle.jr_syntax.specs.declared.thread.ThreadPart.{ThreadPart}
 use Rattle.jr_steps.specs.declared.known.Known.{Known}
-use Rattle.jr_steps.specs.Knowing.{AreOf, Facts, IsOf, view, Holds}
+use Rattle.jr_steps.specs.Knowing.{AreOf, Facts, view, Holds}
 use Rattle.jr_rule.specs.declared.plain.PlainSteps.{PlainSteps}
-use Rattle.jr_rule.specs.Plain.{unseen, standing_alone, facts_over, Shows}
+use Rattle.jr_rule.specs.Plain.{unseen, standing_alone, facts_from, Shows}
 use Rattle.jr_scripts.specs.Performing.{moment}
 use Rattle.jr_scripts.specs.Text.{heading, ending}
 use Rattle.jr_scripts.specs.Explains.{Explained}
@@ -27,11 +27,11 @@ same_view c last k config_is last_is thread_is =
     ∙ (ap (λ x. record { config = c; last = x; thread = k.thread; seen = k.seen }) last_is
     ∙ ap (λ x. record { config = c; last = last; thread = x; seen = k.seen }) thread_is)
 
-module _ {S : Type 0} {facts : S → Facts} (fits : AreOf facts) where
-  -- no local reference stands at the opening
-  pub opening_holds : (c : Config) (last : ℕ) → Holds (fresh_frames c.locals) (unseen c last)
-  opening_holds c last p = refl
+-- no local reference stands at the opening
+pub opening_holds : (c : Config) (last : ℕ) → Holds (fresh_frames c.locals) (unseen c last)
+opening_holds c last p = refl
 
+module _ {S : Type 0} {facts : S → Facts} (fits : AreOf facts) where
   pub is_run : {old new : S} {f g : Frames} (turns last : ℕ) (c : Config) (part : ThreadPart) (lines whole : List ℕ) (v : Summary)
       → c.threads ≡ 1 → (facts old).stands.config ≡ c → (facts old).stands.last ≡ last → (facts old).stands.thread ≡ 0 → (facts old).stands.fresh ≡ true
       → (facts old).knows (unseen c last) → f ≡ fresh_frames c.locals
@@ -70,7 +70,7 @@ pub plain_run : {old new : PlainSteps 4294967295} {f g : Frames} {commands : Lis
     → c.threads ≡ 1 → made.config ≡ c → made.role ≡ Outside → made.fresh ≡ true → Shows (standing_alone c 4294967295 Outside true) made.words.items (unseen c 4294967295)
     → old ≡ made → f ≡ fresh_frames made.config.locals
     → commands ≡ part.commands → answer ≡ Ok tt
-    → RanThread (λ s. facts_over (standing_alone s.config 4294967295 s.role s.fresh) s.words.items) old new f g turns 3 commands answer lines
+    → RanThread (λ s. facts_from s.hint (standing_alone s.config 4294967295 s.role s.fresh) s.words.items) old new f g turns 3 commands answer lines
     → ((k : Known) → Shows (standing_alone new.config 4294967295 new.role new.fresh) new.words.items k → v ≡ summary k.config k.last (state k.seen))
     → whole ≡ heading part.name ++ lines ++ ending v
     → IsRun turns 4294967295 c part whole
@@ -81,5 +81,5 @@ plain_run {old} {new} {f} {g} {commands} turns c part lines whole v made one con
     (subst (λ r. Shows (standing_alone c 4294967295 r made.fresh) made.words.items (unseen c 4294967295)) (sym role_is)
     (subst (λ b. Shows (standing_alone c 4294967295 Outside b) made.words.items (unseen c 4294967295)) (sym fresh_is) opening))) in
     let Leads : List Command → Result (Unit {0}) Fault → Type 0
-    = λ cs r. RanThread (λ (s : PlainSteps 4294967295). facts_over (standing_alone s.config 4294967295 s.role s.fresh) s.words.items) old new f g turns 3 cs r lines in
+    = λ cs r. RanThread (λ (s : PlainSteps 4294967295). facts_from s.hint (standing_alone s.config 4294967295 s.role s.fresh) s.words.items) old new f g turns 3 cs r lines in
     is_run (λ s k h. h.pass) turns 4294967295 c part lines whole v one (ap (λ (s : PlainSteps 4294967295). s.config) same ∙ config_is) refl refl (ap (λ (s : PlainSteps 4294967295). s.fresh) same ∙ fresh_is) known (fresh ∙ ap (λ d. fresh_frames d.locals) config_is) (subst (λ cs. Leads cs (Ok tt)) these (subst (Leads commands) good ran)) tells whole_is

@@ -5,8 +5,10 @@ ghost use Rattle.jr_rule.specs.Passes.{IsOpened};
 
 use crate::env::Env;
 use jr_rule::{Pass, PlainSteps, Room, RoomSteps};
+use jr_steps::Steps;
 use jr_word::{Config, Fault, Handle};
 use std::alloc::Global;
+use std::process::Abort;
 use std::test::Fail;
 
 /// A room of two threads with four slots and 16 local places each.
@@ -16,6 +18,12 @@ const TWO: Config = Config {
     objects: 8,
     words: 16,
     locals: 16,
+};
+
+/// A room with three slots and one object.
+const THREE_SLOTS: Config = Config {
+    slots: 3,
+    ..Config::LEAST
 };
 
 /// Malformed: all ones.
@@ -209,4 +217,34 @@ fn two_passes_share_a_global_reference(rt: HostRuntime) -> Result<(), Fail> {
     assert_eq!(rt; first.delete_global_ref(shared).err(), Some(Fault::Stale));
     assert_eq!(rt; second.get_object_ref_type(own)?, 1);
     Ok(())
+}
+
+/// Each search for a free slot begins behind the newest reference of the pass, and goes on at slot 0 behind the last one.
+fn goes_round<S: Steps>(rt: &impl Abort, env: &mut Env<S>) -> Result<(), Fail> {
+    let local = env.new_plain()?;
+    let first = env.new_global_ref(local)?.ok_or("an object")?;
+    assert_eq!(rt; first, Handle(2));
+    let second = env.new_global_ref(local)?.ok_or("an object")?;
+    assert_eq!(rt; second, Handle(0x4_0000_0002));
+    env.delete_global_ref(first)?;
+    let third = env.new_global_ref(local)?.ok_or("an object")?;
+    assert_eq!(rt; third, Handle(0x8_0000_0002));
+    let fourth = env.new_global_ref(local)?.ok_or("an object")?;
+    assert_eq!(rt; fourth, Handle(6));
+    assert_eq!(rt; env.new_global_ref(local).err(), Some(Fault::RowFull));
+    Ok(())
+}
+
+#[test]
+fn searches_go_round_over_plain_words(rt: HostRuntime) -> Result<(), Fail> {
+    let mut env = Env::new(PlainSteps::<4_294_967_295>::new(rt.alloc(), THREE_SLOTS)?);
+    goes_round(&rt, &mut env)
+}
+
+#[test]
+fn searches_go_round_in_a_room(rt: HostRuntime) -> Result<(), Fail> {
+    let (room, mut passes) = Room::<2>::open(rt.alloc(), THREE_SLOTS)?;
+    let pass = last_of(&room, &mut passes)?;
+    let mut env = Env::new(RoomSteps::new(&room, pass));
+    goes_round(&rt, &mut env)
 }

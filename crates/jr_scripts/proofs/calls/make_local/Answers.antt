@@ -11,7 +11,7 @@ pub put_local-requires-clause-object : goal.put_local-requires-clause-object
 put_local-requires-clause-object g c = rw c.in-Some.is at c.requires.object
 
 pub add-requires-clause-object : goal.add-requires-clause-object
-add-requires-clause-object g c = present_number g.met.S.Steps.fits c.args.steps.now c.in-Some.object (rw c.in-Some.is at c.requires.object)
+add-requires-clause-object g c = present_number g.S.Steps.facts g.met.S.Steps.fits c.args.steps.now c.in-Some.object (rw c.in-Some.is at c.requires.object)
 
 pub returns-clause-call : goal.returns-clause-call
 returns-clause-call g c = makes_local c.in-Some.is c.requires.ready c.in-Some-next.ensures.some c.put_local.ensures c.add.ensures.added c.add.ensures.only

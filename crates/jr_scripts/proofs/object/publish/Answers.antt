@@ -7,7 +7,7 @@ pub loop-object-init : goal.loop-object-init
 loop-object-init g c = passed_nothing g.met.S.Steps.fits c.args.steps.now
 
 pub claim_header-requires-clause-filled : goal.claim_header-requires-clause-filled
-claim_header-requires-clause-filled g c = may_claim g.met.S.Steps.fits c.loop-object.steps c.args.kind (g.met.S.Steps.some_known c.loop-object.steps)
+claim_header-requires-clause-filled g c = may_claim g.S.Steps.facts c.loop-object.steps c.args.kind (g.met.S.Steps.some_known c.loop-object.steps)
 
 pub returns-then-claim_header-clause-ok : goal.returns-then-claim_header-clause-ok
 returns-then-claim_header-clause-ok g c = let e : c.config-objects.result.objects ≡ (g.S.Steps.facts c.args.steps.now).stands.config.objects = ap (λ (r : Config). r.objects) c.config-objects.ensures in
