@@ -1,5 +1,5 @@
 -- How places and rings show frames.
-use Rattle.std.specs.Prelude.{◌≡◌, ◌≤◌, ◌+◌, ◌-◌, ◌==◌, ℕ, suc, if◌then◌else◌, IsTrue, List, [], ◌∷◌, ◌++◌, map, length}
+use Rattle.std.specs.Prelude.{◌≡◌, ◌≤◌, ◌<◌, ◌+◌, ◌-◌, ◌^◌, ◌==◌, ℕ, suc, if◌then◌else◌, IsTrue, List, [], ◌∷◌, ◌++◌, map, length}
 use Rattle.jr_word.specs.declared.config.TheConstants.Config.{MOST_LOCALS}
 use Rattle.jr_model.specs.declared.frames.TheConstants.{FRAMES}
 use Rattle.jr_frames.specs.Table.{Table}
@@ -35,6 +35,7 @@ table a = table_of a (order_of a)
 -- these are the free places, and those of each frame
 pub record Shows (a : Inside) (free : List ℕ) (order : List (List ℕ)) : Type 0 where
   pub few : length a.places.items ≤ MOST_LOCALS
+  pub last_fits : a.last < 2 ^ 32
   pub given : (p : ℕ) → IsTrue (is_taken a.places.items p) → 1 ≤ given_of (place_at a.places.items p)
   pub within : (p : ℕ) → given_of (place_at a.places.items p) ≤ a.last + 1
   pub size : length a.rings.links.items ≡ length a.places.items + 1 + length order
