@@ -11,3 +11,5 @@ pub mod FreePlaces
 pub mod Changing
 pub mod Still
 pub mod Adding
+pub mod Deleting
+pub mod Stacking
