@@ -15,8 +15,8 @@ use Rattle.jr_frames.specs.Table.{IsNext}
 use Rattle.jr_frames.specs.Rings.{newer_at}
 use Rattle.jr_frames.specs.Places.{given_of, unused, place_at, is_taken, is_idle, ref_at}
 use Rattle.jr_frames.specs.Shown.{times, flat, table_of, Shows}
-use Rattle.jr_frames.proofs.Times.{sum_times, times_here, none_left}
-use Rattle.jr_frames.proofs.Showing.{times_below, not_idle}
+use Rattle.jr_frames.proofs.Times.{sum_times, few_numbers, times_append, times_here, none_left}
+use Rattle.jr_frames.proofs.Showing.{times_below, times_one}
 use Rattle.jr_frames.proofs.Places.{is_free_place}
 
 within : (p n : ℕ) (b : Bool) → p < n → (nat_le (p + 1) n && b) ≡ b
@@ -52,6 +52,12 @@ module _ (a : Inside) (free : List ℕ) (order : List (List ℕ)) (is : Shows a 
       (λ p l. ap (λ b. if b then 1 else 0) (is_free_place a free order is a.last p ∙ sym (within p (length a.places.items) _ l)) ∙ sym (is.idle p))
       ∙ sum_times (length a.places.items) free (λ q g. none_left q free (flat order) (times_below is q g))
       ∙ sym is.count
+
+  pub free_few : a.free ≤ length a.places.items
+  free_few =
+      let few = few_numbers (length a.places.items) free (λ q g. none_left q free (flat order) (times_below is q g)) (λ q. let both = times_append q free (flat order) in let one = times_one is q in omega arith) in
+      let was = is.count in
+      omega arith
 
   -- the first place of the ring of the free ones
   first_of : (xs : List ℕ) → free ≡ xs → 1 ≤ length xs → IsIdle a.last a.places.items (newer_at a.rings.links.items (length a.places.items))

@@ -1,6 +1,6 @@
 -- A frame is added to the table, or taken away.
 use Rattle.std.proofs.Common.{◌≡◌, ◌≢◌, ◌==◌, ◌+◌, ◌-◌, ◌<◌, ◌≤◌, ℕ, suc, List, [], ◌∷◌, ◌++◌, map, length, take, refl, sym, ap, subst, ◌∙◌, arith}
-use Rattle.std.proofs.lemmas.List.{length-append, length-map, map-append, length-take, get_or_append_left, get_or-take}
+use Rattle.std.proofs.lemmas.List.{length-append, length-map, map-append, get_or_append_left, get_or-take}
 use Rattle.std.proofs.Math.Seq.{get_or-append_seam}
 use Rattle.jr_model.specs.declared.frames.LocalRef.{LocalRef}
 use Rattle.jr_model.specs.declared.frames.TheConstants.{FRAMES}
