@@ -13,3 +13,6 @@ pub mod Still
 pub mod Adding
 pub mod Deleting
 pub mod Stacking
+pub mod Fresh
+pub mod FreshTable
+
