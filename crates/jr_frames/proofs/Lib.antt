@@ -15,4 +15,5 @@ pub mod Deleting
 pub mod Stacking
 pub mod Fresh
 pub mod FreshTable
+pub mod Oldest
 

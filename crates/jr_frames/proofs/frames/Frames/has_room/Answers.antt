@@ -3,8 +3,7 @@ use Rattle.jr_model.specs.Frames.{free_places}
 use Rattle.jr_frames.specs.Table.{Table}
 use Rattle.jr_frames.specs.Shown.{free_of, order_of}
 use Rattle.jr_frames.proofs.FreePlaces.{free_counted}
-use Rattle.jr_frames.proofs.Deleting.{is_deleted}
-use Rattle.jr_frames.proofs.FreshTable.{is_fresh}
+use Rattle.jr_frames.proofs.Oldest.{takes_oldest}
 use Rattle.jr_frames.proofs.frames.Frames.has_room.Goals as goal
 
 pub returns : goal.returns
