@@ -78,6 +78,9 @@ module _ (a : Inside) (free : List ℕ) (order : List (List ℕ)) (is : Shows a 
   pub none_oldest : last_list order ≡ [] → oldest_handle (last_frame (table_of a order).frames.frames) ≡ None
   none_oldest e = ap oldest_handle (map_last (ref_at a.thread a.places.items) order ∙ ap (map (ref_at a.thread a.places.items)) e)
 
+  pub none_last : last_list order ≡ [] → last_frame (table_of a order).frames.frames ≡ []
+  none_last e = map_last (ref_at a.thread a.places.items) order ∙ ap (map (ref_at a.thread a.places.items)) e
+
   module _ (p : ℕ) (rest : List ℕ) (oldest : IsOldest a order p rest) where
     pub oldest_low : p < length a.places.items
     oldest_low = taken_index a.places.items p oldest.taken

@@ -149,6 +149,7 @@ impl Frames {
     /// The handle of the oldest reference of the newest frame, none where that is empty.
     pub fn oldest_of_newest(&self) -> Option<HandleParts>
         ensures oldest { result ≡ oldest_handle (last_frame self.now.frames.frames) }
+        ensures empty { IfNone result (last_frame self.now.frames.frames ≡ []) }
         ensures stands { IfSome result (λ h. IsSome (object_of self.now.frames h)) }
         ensures rest { IfSome result (TakesOldest self.now.frames) }
     {

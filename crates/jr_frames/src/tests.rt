@@ -16,8 +16,41 @@ fn frames_of_sixteen() -> Frames {
 /// Adds a reference to the object at the next handle.
 fn added(frames: &mut Frames, object: u16) -> Result<HandleParts, Fail> {
     let handle = frames.next().ok_or("no place is free")?;
+    if object == 0 {
+        return Err("no object")?;
+    }
     frames.add(handle, object);
     Ok(handle)
+}
+
+/// Deletes the reference of a handle that stands.
+fn deleted(frames: &mut Frames, handle: HandleParts) -> Result<(), Fail> {
+    if frames.object_of(handle).is_none() {
+        return Err("no reference stands")?;
+    }
+    frames.delete(handle);
+    Ok(())
+}
+
+/// Adds a frame.
+fn pushed(frames: &mut Frames) -> Result<(), Fail> {
+    if frames.depth() >= FRAMES {
+        return Err("no more frames")?;
+    }
+    frames.push();
+    Ok(())
+}
+
+/// Takes the newest frame away, which is empty.
+fn popped(frames: &mut Frames) -> Result<(), Fail> {
+    if frames.depth() < 2 {
+        return Err("the base frame")?;
+    }
+    if frames.oldest_of_newest().is_some() {
+        return Err("a reference is left")?;
+    }
+    frames.pop_empty();
+    Ok(())
 }
 
 #[test]
@@ -41,9 +74,8 @@ fn sixteen_places_give_48_handles(rt: HostRuntime) -> Result<(), Fail> {
 fn a_fresh_table_gives_places_in_order(rt: HostRuntime) -> Result<(), Fail> {
     let mut frames = frames_of_sixteen();
     for index in 0..16 {
-        let handle = frames.next().ok_or("no place is free")?;
+        let handle = added(&mut frames, 7)?;
         assert_eq!(rt; handle.index, index);
-        frames.add(handle, 7);
     }
     assert_eq!(rt; frames.next(), None);
     Ok(())
@@ -55,18 +87,18 @@ fn a_reference_of_an_older_frame_is_deleted(rt: HostRuntime) -> Result<(), Fail>
     let first = added(&mut frames, 1)?;
     let second = added(&mut frames, 2)?;
     let third = added(&mut frames, 3)?;
-    frames.push();
+    pushed(&mut frames)?;
     let fourth = added(&mut frames, 4)?;
-    frames.delete(second);
+    deleted(&mut frames, second)?;
     assert_eq!(rt; frames.object_of(second), None);
     assert_eq!(rt; frames.object_of(first), Some(1));
     assert_eq!(rt; frames.object_of(third), Some(3));
     assert_eq!(rt; frames.oldest_of_newest(), Some(fourth));
-    frames.delete(fourth);
+    deleted(&mut frames, fourth)?;
     assert_eq!(rt; frames.oldest_of_newest(), None);
-    frames.pop_empty();
+    popped(&mut frames)?;
     assert_eq!(rt; frames.oldest_of_newest(), Some(first));
-    frames.delete(first);
+    deleted(&mut frames, first)?;
     assert_eq!(rt; frames.oldest_of_newest(), Some(third));
     Ok(())
 }
@@ -75,7 +107,7 @@ fn a_reference_of_an_older_frame_is_deleted(rt: HostRuntime) -> Result<(), Fail>
 fn a_pop_takes_the_oldest_first(rt: HostRuntime) -> Result<(), Fail> {
     let mut frames = frames_of_sixteen();
     let base = added(&mut frames, 9)?;
-    frames.push();
+    pushed(&mut frames)?;
     assert!(rt; !frames.is_base());
     for object in 1..4 {
         added(&mut frames, object)?;
@@ -83,10 +115,10 @@ fn a_pop_takes_the_oldest_first(rt: HostRuntime) -> Result<(), Fail> {
     for object in 1..4 {
         let oldest = frames.oldest_of_newest().ok_or("the frame is empty")?;
         assert_eq!(rt; frames.object_of(oldest), Some(object));
-        frames.delete(oldest);
+        deleted(&mut frames, oldest)?;
     }
     assert_eq!(rt; frames.oldest_of_newest(), None);
-    frames.pop_empty();
+    popped(&mut frames)?;
     assert!(rt; frames.is_base());
     assert_eq!(rt; frames.object_of(base), Some(9));
     Ok(())
@@ -99,12 +131,12 @@ fn retired_places_do_not_count(rt: HostRuntime) -> Result<(), Fail> {
     assert!(rt; !frames.has_room(17));
     for _ in 0..32 {
         let handle = added(&mut frames, 7)?;
-        frames.delete(handle);
+        deleted(&mut frames, handle)?;
         assert!(rt; frames.has_room(16));
     }
     for retired in 1..17 {
         let handle = added(&mut frames, 7)?;
-        frames.delete(handle);
+        deleted(&mut frames, handle)?;
         assert!(rt; frames.has_room(16 - retired));
         assert!(rt; !frames.has_room(17 - retired));
     }
@@ -116,14 +148,14 @@ fn there_may_be_256_frames(rt: HostRuntime) -> Result<(), Fail> {
     let mut frames = frames_of_sixteen();
     for depth in 1..FRAMES {
         assert_eq!(rt; frames.depth(), depth);
-        frames.push();
+        pushed(&mut frames)?;
     }
     assert_eq!(rt; frames.depth(), FRAMES);
     let handle = added(&mut frames, 7)?;
     assert_eq!(rt; frames.oldest_of_newest(), Some(handle));
-    frames.delete(handle);
+    deleted(&mut frames, handle)?;
     for _ in 1..FRAMES {
-        frames.pop_empty();
+        popped(&mut frames)?;
     }
     assert!(rt; frames.is_base());
     Ok(())

@@ -1,4 +1,4 @@
-use Rattle.std.proofs.Common.{rules, ◌≡◌, ◌≢◌, ◌+◌, ◌-◌, ◌<◌, ◌≤◌, ℕ, suc, length, None, Some, IsSome, sym, ap, subst, ◌∙◌, Fits, w32, arith}
+use Rattle.std.proofs.Common.{rules, ◌≡◌, ◌≢◌, ◌+◌, ◌-◌, ◌<◌, ◌≤◌, ℕ, suc, length, None, Some, IsSome, [], sym, ap, subst, ◌∙◌, Fits, w32, arith}
 use Rattle.jr_word.specs.declared.handle.RefKind.TheVariants.{Local}
 use Rattle.jr_model.specs.State.{Handle}
 use Rattle.jr_model.specs.Frames.{object_of, last_frame}
@@ -8,7 +8,7 @@ use Rattle.jr_frames.specs.Rings.{newer_at}
 use Rattle.jr_frames.specs.Places.{given_of, place_at}
 use Rattle.jr_frames.specs.Shown.{table, free_of, order_of, IsTable}
 use Rattle.jr_frames.proofs.LastRing.{last_list}
-use Rattle.jr_frames.proofs.Oldest.{IsOldest, closed_empty, open_oldest, none_oldest, tail_of, oldest_low, oldest_given, is_oldest, oldest_stands, takes_oldest}
+use Rattle.jr_frames.proofs.Oldest.{IsOldest, closed_empty, open_oldest, none_oldest, none_last, tail_of, oldest_low, oldest_given, is_oldest, oldest_stands, takes_oldest}
 use Rattle.jr_frames.proofs.frames.Frames.oldest_of_newest.Goals as goal
 
 -- the end of the newest frame
@@ -20,6 +20,12 @@ returns-then-index-end-clause-oldest c =
     let end = at_end c.self.inside c.len.result c.self.invariant c.len.ensures.value in
     let closed = closed_empty c.self.inside (free_of c.self.inside) (order_of c.self.inside) c.self.invariant (c.len.result - 1) end (sym c.newer-index.ensures ∙ c.if-index-end.true) in
     sym (none_oldest c.self.inside (free_of c.self.inside) (order_of c.self.inside) c.self.invariant (c.len.result - 1) end closed) ∙ ap (λ (t : Table). oldest_handle (last_frame t.frames.frames)) c.self.view_is
+
+pub returns-then-index-end-clause-empty : goal.returns-then-index-end-clause-empty
+returns-then-index-end-clause-empty c =
+    let end = at_end c.self.inside c.len.result c.self.invariant c.len.ensures.value in
+    let closed = closed_empty c.self.inside (free_of c.self.inside) (order_of c.self.inside) c.self.invariant (c.len.result - 1) end (sym c.newer-index.ensures ∙ c.if-index-end.true) in
+    sym (ap (λ (t : Table). last_frame t.frames.frames) c.self.view_is) ∙ none_last c.self.inside (free_of c.self.inside) (order_of c.self.inside) c.self.invariant (c.len.result - 1) end closed
 
 -- what follows the end, where that is not the end itself
 oldest_at : (a : Inside) (is : IsTable a) (len p : ℕ) → len ≡ length a.rings.links.items → p ≡ newer_at a.rings.links.items (len - 1) → p ≢ len - 1 → IsOldest a (order_of a) p (tail_of (last_list (order_of a)))
