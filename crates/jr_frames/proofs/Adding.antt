@@ -1,5 +1,5 @@
 -- A reference is added to the table.
-use Rattle.std.proofs.Common.{◌≡◌, ◌≢◌, ◌==◌, ◌&&◌, ◌+◌, ◌-◌, ◌<◌, ◌≤◌, ℕ, suc, Bool, true, false, not, if◌then◌else◌, nat_le, List, [], ◌∷◌, ◌++◌, map, length, slice_index, slice_set, refl, sym, ap, subst, ◌∙◌, arith}
+use Rattle.std.proofs.Common.{◌≡◌, ◌≢◌, ◌==◌, ◌&&◌, ◌+◌, ◌-◌, ◌<◌, ◌≤◌, ℕ, suc, Bool, true, false, not, if◌then◌else◌, nat_le, List, [], ◌∷◌, map, length, slice_index, slice_set, refl, sym, ap, subst, ◌∙◌, arith}
 use Rattle.std.proofs.lemmas.List.{length-map, get_or-set_same, get_or-set_other, map-set}
 use Rattle.std.proofs.lemmas.Bool.Decides.{nat_tests}
 use Rattle.std.proofs.Math.ListN.{get_or-map}
@@ -14,15 +14,15 @@ use Rattle.jr_frames.specs.declared.rings.Rings.{Rings}
 use Rattle.jr_frames.specs.declared.frames.Frames.TheInside.{Inside}
 use Rattle.jr_frames.specs.Table.{IsNext}
 use Rattle.jr_frames.specs.Rings.{newer_at, older_at, IsJoined, IsPutLast, AreRings}
-use Rattle.jr_frames.specs.Places.{given_of, unused, place_at, is_taken, is_idle, ref_at}
+use Rattle.jr_frames.specs.Places.{given_of, unused, place_at, is_taken, ref_at}
 use Rattle.jr_frames.specs.Shown.{times, flat, table_of, Shows}
 use Rattle.jr_frames.proofs.Times.{times_append, times_here, times_there, without, times_without_other, times_without_self, length_without}
 use Rattle.jr_frames.proofs.LastRing.{with_end, length_with_end, times_with_end, map_with_end, map_without_none, last_before, rings_last}
-use Rattle.jr_frames.proofs.Showing.{times_below, times_all}
+use Rattle.jr_frames.proofs.Showing.{times_below}
 use Rattle.jr_frames.proofs.Places.{is_free_place}
 use Rattle.jr_frames.proofs.Named.{not_zero}
 use Rattle.jr_frames.proofs.Changing.{changed, shown, frames_other, frames_same}
-use Rattle.jr_frames.proofs.Still.{still_shows, is_idle_as, rings_out}
+use Rattle.jr_frames.proofs.Still.{still_shows, rings_out}
 
 abbrev bit : Bool → ℕ
 bit b = if b then 1 else 0
@@ -97,7 +97,6 @@ module _ (a : Inside) (free : List ℕ) (order : List (List ℕ)) (is : Shows a 
         let other : end ≢ h.index = λ e. absurd (omega arith) in
         both_put rings.links.items (without h.index free) order is.some_frame
         (rings_last mid rings.links.items end h.index put (around_end end at_end).0 other (length a.places.items) (without h.index free ∷ order) low (omega arith) none_now (λ q g. below_now q (omega arith)) others_out)
-
 
     not_idle_now : (b : Bool) (k : ℕ) (c : Bool) → (k == 0) ≡ false → ◌≡◌ {A = ℕ} (if b && (not (not (k == 0)) && c) then 1 else 0) 0
     not_idle_now true k c e = ap (λ d. bit (not (not d) && c)) e

@@ -1,29 +1,28 @@
 -- A reference is deleted from the table.
-use Rattle.std.proofs.Common.{◌≡◌, ◌≢◌, ◌==◌, ◌&&◌, ◌+◌, ◌-◌, ◌<◌, ◌≤◌, ℕ, suc, Bool, true, false, not, cond, if◌then◌else◌, nat_le, IsSome, List, [], ◌∷◌, ◌++◌, map, filter, length, slice_set, refl, sym, ap, subst, ◌∙◌, arith}
+use Rattle.std.proofs.Common.{◌≡◌, ◌≢◌, ◌==◌, ◌&&◌, ◌+◌, ◌<◌, ◌≤◌, ℕ, suc, Bool, true, false, not, cond, if◌then◌else◌, nat_le, IsSome, List, [], ◌∷◌, ◌++◌, map, filter, length, slice_set, refl, sym, ap, subst, ◌∙◌, arith}
 use Rattle.std.proofs.lemmas.List.{length-map, length-append, get_or-set_other}
 use Rattle.std.proofs.lemmas.Bool.Decides.{nat_tests}
 use Rattle.std.proofs.Math.Seq.{map-set_same}
 use Rattle.arrayvec.specs.ArrayVec.{ArrayVec}
 use Rattle.jr_model.specs.declared.frames.LocalRef.{LocalRef}
 use Rattle.jr_model.specs.State.{Handle, same_handle}
-use Rattle.jr_model.specs.Frames.{Frames, object_of, without_local}
-use Rattle.jr_model.proofs.Updates.{eq_true, eq_other, handle_self}
+use Rattle.jr_model.specs.Frames.{object_of, without_local}
+use Rattle.jr_model.proofs.Updates.{eq_true, handle_self}
 use Rattle.jr_frames.specs.declared.place.Place.{Place}
 use Rattle.jr_frames.specs.declared.rings.Link.{Link}
 use Rattle.jr_frames.specs.declared.rings.Rings.{Rings}
 use Rattle.jr_frames.specs.declared.frames.Frames.TheInside.{Inside}
 use Rattle.jr_frames.specs.Rings.{newer_at, older_at, IsJoined, IsPutLast, AreRings}
-use Rattle.jr_frames.specs.Places.{given_of, unused, place_at, is_taken, is_idle, ref_at}
+use Rattle.jr_frames.specs.Places.{given_of, unused, place_at, is_taken, ref_at}
 use Rattle.jr_frames.specs.Shown.{times, flat, table_of, Shows}
 use Rattle.jr_frames.proofs.Times.{times_append, times_here, times_there, without, without_none, times_without_other, times_without_self, flat_without}
 use Rattle.jr_frames.proofs.Following.{before_end}
 use Rattle.jr_frames.proofs.Putting.{follow_put, rings_other}
-use Rattle.jr_frames.proofs.LastRing.{last_before}
 use Rattle.jr_frames.proofs.Showing.{times_below}
 use Rattle.jr_frames.proofs.Places.{index_differs}
 use Rattle.jr_frames.proofs.Named.{stands, taken_index}
 use Rattle.jr_frames.proofs.Changing.{changed, frames_other, frames_same}
-use Rattle.jr_frames.proofs.Still.{still_shows, is_idle_as, rings_out}
+use Rattle.jr_frames.proofs.Still.{still_shows, rings_out}
 use Rattle.jr_frames.proofs.RingLists.{all_lower}
 use Rattle.jr_frames.proofs.Times.{all_below, none_left, none_right}
 
@@ -129,9 +128,10 @@ module _ (a : Inside) (free : List ℕ) (order : List (List ℕ)) (is : Shows a 
           let index = standing_index in
           let other : length a.places.items ≢ h.index = λ e. absurd (omega arith) in
           still_shows a free order is h.index standing_index (emptied a h.index) places set (a.free + 1) rings (free ++ h.index ∷ []) (map (without h.index) order)
-          (put.2.size ∙ (put.1.size ∙ joined.size)) (length-map order (without h.index))
-          (follow_put mid rings.links.items (length a.places.items) h.index put around_end.0 other (length a.places.items) free other not_free (below_now (length a.places.items) (omega arith)).0 others_out.0,
-           rings_other mid rings.links.items (length a.places.items) h.index put around_end.0 other (suc (length a.places.items)) (map (without h.index) order) (omega arith) (omega arith) gone (below_now (length a.places.items) (omega arith)).1 others_out.1)
+          (put.2.size ∙ (put.1.size ∙ joined.size)) (length-map order (without h.index)) (
+            follow_put mid rings.links.items (length a.places.items) h.index put around_end.0 other (length a.places.items) free other not_free (below_now (length a.places.items) (omega arith)).0 others_out.0,
+            rings_other mid rings.links.items (length a.places.items) h.index put around_end.0 other (suc (length a.places.items)) (map (without h.index) order) (omega arith) (omega arith) gone (below_now (length a.places.items) (omega arith)).1 others_out.1,
+          )
           (λ e. absurd cc) (is.within h.index) gone spared
           (times_append h.index free (h.index ∷ []) ∙ (ap (λ n. n + times h.index (h.index ∷ [])) not_free ∙ (ap (λ n. 0 + n) (times_here h.index [])
           ∙ sym (ap (λ b. if b then 1 else 0) (there h.index (length a.places.items) (given_of (place_at a.places.items h.index)) a.last index low)))))

@@ -1,5 +1,5 @@
 -- The free places that the table shows.
-use Rattle.std.proofs.Common.{◌≡◌, ◌==◌, ◌&&◌, ◌+◌, ◌<◌, ◌≤◌, ℕ, zero, suc, List, [], ◌∷◌, Bool, true, false, not, nat_le, if◌then◌else◌, length, map, refl, sym, ap, subst, ◌∙◌, arith}
+use Rattle.std.proofs.Common.{◌≡◌, ◌==◌, ◌&&◌, ◌+◌, ◌<◌, ◌≤◌, ℕ, List, [], ◌∷◌, Bool, true, false, not, nat_le, if◌then◌else◌, length, refl, sym, ap, subst, ◌∙◌, arith}
 use Rattle.std.proofs.lemmas.List.{length-map}
 use Rattle.std.proofs.lemmas.Bool.Decides.{nat_tests}
 use Rattle.std.proofs.Math.ListN.{get_or-map}
@@ -8,12 +8,11 @@ use Rattle.jr_model.specs.State.{Handle}
 use Rattle.jr_model.specs.Maps.{sum_below}
 use Rattle.jr_model.specs.Frames.{is_free, free_places}
 use Rattle.jr_model.proofs.Lengths.{sum_same}
-use Rattle.jr_model.proofs.Updates.{eq_self}
 use Rattle.jr_frames.specs.declared.place.Place.{Place}
 use Rattle.jr_frames.specs.declared.frames.Frames.TheInside.{Inside}
 use Rattle.jr_frames.specs.Table.{IsNext}
 use Rattle.jr_frames.specs.Rings.{newer_at}
-use Rattle.jr_frames.specs.Places.{given_of, unused, place_at, is_taken, is_idle, ref_at}
+use Rattle.jr_frames.specs.Places.{given_of, unused, place_at, is_idle}
 use Rattle.jr_frames.specs.Shown.{times, flat, table_of, Shows}
 use Rattle.jr_frames.proofs.Times.{sum_times, few_numbers, times_append, times_here, none_left}
 use Rattle.jr_frames.proofs.Showing.{times_below, times_one}

@@ -1,10 +1,10 @@
 -- The links of a table that is new.
-use Rattle.std.proofs.Common.{◌≡◌, ◌≢◌, ◌==◌, ◌+◌, ◌-◌, ◌<◌, ◌≤◌, ⊎_elim, ℕ, suc, if◌then◌else◌, List, [], ◌∷◌, ◌++◌, length, slice_index_or, refl, sym, ap, subst, ◌∙◌, arith}
+use Rattle.std.proofs.Common.{◌≡◌, ◌==◌, ◌+◌, ◌-◌, ◌<◌, ◌≤◌, ⊎_elim, ℕ, if◌then◌else◌, List, [], ◌∷◌, ◌++◌, length, slice_index_or, ap, subst, ◌∙◌, arith}
 use Rattle.std.proofs.lemmas.List.{length-append, get_or_append_left}
 use Rattle.std.proofs.lemmas.Bool.{cases_lt}
 use Rattle.std.proofs.Math.Seq.{get_or-append_seam}
 use Rattle.jr_frames.specs.declared.rings.Link.{Link}
-use Rattle.jr_frames.specs.Rings.{newer_at, older_at, no_link, AreFresh}
+use Rattle.jr_frames.specs.Rings.{older_at, no_link, AreFresh}
 
 abbrev pub link : ℕ → ℕ → Link
 link older newer = record { older = older; newer = newer }
@@ -34,8 +34,8 @@ one_more places n old new x first more is =
       each = λ q l. ⊎_elim
           (λ (m : q < n). ap (λ ls. slice_index_or ls q no_link) more ∙ (get_or_append_left old (x ∷ []) no_link q (omega arith) ∙ first.each q m))
           (λ (m : n ≤ q). let same : n ≡ q = omega arith in
-            subst (λ k. slice_index_or new k no_link ≡ link (before_of k places) (k + 1)) same
-            (ap (λ ls. slice_index_or ls n no_link) more ∙ (read_last old x n size ∙ is)))
+          subst (λ k. slice_index_or new k no_link ≡ link (before_of k places) (k + 1)) same
+          (ap (λ ls. slice_index_or ls n no_link) more ∙ (read_last old x n size ∙ is)))
           (cases_lt q n);
     }
 
@@ -64,7 +64,7 @@ module _ (places : ℕ) (first mid links : List Link) (x y : Link) (are : AreFir
     older = λ q l. ⊎_elim
         (λ (m : q < places). ap (λ (z : Link). z.older) (read_first q m))
         (λ (m : places ≤ q). let same : places ≡ q = omega arith in
-          subst (λ k. older_at links k ≡ before_of k places) same (ap (λ (z : Link). z.older) read_close))
+        subst (λ k. older_at links k ≡ before_of k places) same (ap (λ (z : Link). z.older) read_close))
         (cases_lt q places);
     closed = ap (λ (z : Link). z.newer) read_close;
     empty = (ap (λ (z : Link). z.newer) read_stand, ap (λ (z : Link). z.older) read_stand);

@@ -1,12 +1,12 @@
 -- A table that is new.
-use Rattle.std.proofs.Common.{◌≡◌, ◌≢◌, ◌==◌, ◌&&◌, ◌+◌, ◌-◌, ◌^◌, ◌<◌, ◌≤◌, ⊎_elim, ℕ, zero, suc, Bool, true, false, not, if◌then◌else◌, nat_le, IsTrue, List, [], ◌∷◌, ◌++◌, map, replicate, length, refl, sym, ap, subst, ◌∙◌, lit≤, arith}
+use Rattle.std.proofs.Common.{◌≡◌, ◌≢◌, ◌==◌, ◌&&◌, ◌+◌, ◌-◌, ◌^◌, ◌<◌, ◌≤◌, ⊎_elim, ℕ, zero, suc, true, false, not, if◌then◌else◌, nat_le, List, [], ◌∷◌, ◌++◌, map, replicate, length, refl, sym, ap, subst, ◌∙◌, lit≤, arith}
 use Rattle.std.proofs.lemmas.List.{length-replicate}
 use Rattle.std.proofs.lemmas.Bool.{cases_lt}
 use Rattle.std.proofs.lemmas.Bool.Decides.{nat_tests}
 use Rattle.arrayvec.specs.ArrayVec.{ArrayVec}
 use Rattle.jr_word.specs.declared.config.TheConstants.Config.{MOST_LOCALS}
 use Rattle.jr_model.specs.Frames.{fresh_frames}
-use Rattle.jr_model.proofs.Updates.{eq_self, eq_other}
+use Rattle.jr_model.proofs.Updates.{eq_other}
 use Rattle.jr_frames.specs.declared.place.Place.{Place}
 use Rattle.jr_frames.specs.declared.rings.Link.{Link}
 use Rattle.jr_frames.specs.declared.rings.Rings.{Rings}
@@ -14,7 +14,7 @@ use Rattle.jr_frames.specs.declared.frames.Frames.TheInside.{Inside}
 use Rattle.jr_frames.specs.Table.{Table}
 use Rattle.jr_frames.specs.Rings.{newer_at, older_at, Follow, AreFresh}
 use Rattle.jr_frames.specs.Places.{given_of, unused, place_at, is_taken, is_idle}
-use Rattle.jr_frames.specs.Shown.{times, flat, table_of, Shows}
+use Rattle.jr_frames.specs.Shown.{times, table_of, Shows}
 use Rattle.jr_frames.proofs.Times.{times_here, times_there}
 use Rattle.jr_frames.proofs.Showing.{not_idle}
 
@@ -40,9 +40,9 @@ times_among q k zero l h = absurd (omega arith)
 times_among q k (suc m) l h = ⊎_elim
     (λ (less : k < q). times_there q k (count_up (suc k) m) (λ e. absurd (omega arith)) ∙ times_among q (suc k) m (omega arith) (omega arith))
     (λ (more : q ≤ k). let same : k ≡ q = omega arith in
-      let here = times_here q (count_up (suc k) m) in
-      let under = times_under q (suc k) m (omega arith) in
-      subst (λ j. times q (j ∷ count_up (suc k) m) ≡ 1) (sym same) (omega arith))
+    let here = times_here q (count_up (suc k) m) in
+    let under = times_under q (suc k) m (omega arith) in
+    subst (λ j. times q (j ∷ count_up (suc k) m) ≡ 1) (sym same) (omega arith))
     (cases_lt k q)
 
 module _ (n : ℕ) (links : List Link) (fresh : AreFresh n links) where

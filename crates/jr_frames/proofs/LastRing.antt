@@ -1,5 +1,5 @@
 -- The last of some lists, and the ring of the last end.
-use Rattle.std.proofs.Common.{◌≡◌, ◌≢◌, ◌==◌, ◌+◌, ◌<◌, ◌≤◌, ℕ, suc, List, [], ◌∷◌, ◌++◌, map, length, refl, sym, ap, subst, ◌∙◌, arith}
+use Rattle.std.proofs.Common.{◌≡◌, ◌≢◌, ◌+◌, ◌<◌, ◌≤◌, ℕ, suc, List, [], ◌∷◌, ◌++◌, map, length, refl, sym, ap, subst, arith}
 use Rattle.std.proofs.lemmas.List.{map-append}
 use Rattle.jr_model.specs.declared.frames.LocalRef.{LocalRef}
 use Rattle.jr_model.specs.Frames.{with_last, last_frame, frames_before}
@@ -106,10 +106,13 @@ module _ (old new : List Link) (end p : ℕ) (put : IsPutLast old end p new) (ar
   pub rings_last : (first : ℕ) (rs : List (List ℕ)) → p < first → suc end ≡ first + length rs → times p (flat rs) ≡ 0 → ((q : ℕ) → end ≤ q → times q (flat rs) ≡ 0) → AreRings old first rs → AreRings new first (with_end rs p)
   rings_last first [] l e none away r = tt
   rings_last first (x ∷ []) l e none away r =
-      let same : end ≡ first = omega arith in
-      (subst (λ n. Follow new n ((x ++ p ∷ []) ++ n ∷ [])) same
-      (follow_put old new end p put around other end x other (none_left p x [] none) (none_left end x [] (away end (omega arith))) (subst (λ n. Follow old n (x ++ n ∷ [])) (sym same) r.0)), tt)
+      let same : end ≡ first = omega arith in (
+        subst (λ n. Follow new n ((x ++ p ∷ []) ++ n ∷ [])) same
+            (follow_put old new end p put around other end x other (none_left p x [] none) (none_left end x [] (away end (omega arith))) (subst (λ n. Follow old n (x ++ n ∷ [])) (sym same) r.0)),
+        tt,
+      )
   rings_last first (x ∷ y ∷ xs) l e none away r =
       let here : IsNeither p end first = (λ f. absurd (omega arith), λ f. absurd (omega arith)) in (
-      follow_other old new end p put around other first (x ++ first ∷ []) here (all_neither p end x first (none_left p x (flat (y ∷ xs)) none) (none_left end x (flat (y ∷ xs)) (away end (omega arith))) here) r.0,
-      rings_last (suc first) (y ∷ xs) (omega arith) (omega arith) (none_right p x (flat (y ∷ xs)) none) (λ q g. none_right q x (flat (y ∷ xs)) (away q g)) r.1)
+        follow_other old new end p put around other first (x ++ first ∷ []) here (all_neither p end x first (none_left p x (flat (y ∷ xs)) none) (none_left end x (flat (y ∷ xs)) (away end (omega arith))) here) r.0,
+        rings_last (suc first) (y ∷ xs) (omega arith) (omega arith) (none_right p x (flat (y ∷ xs)) none) (λ q g. none_right q x (flat (y ∷ xs)) (away q g)) r.1,
+      )

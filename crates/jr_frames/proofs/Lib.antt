@@ -16,4 +16,3 @@ pub mod Stacking
 pub mod Fresh
 pub mod FreshTable
 pub mod Oldest
-

@@ -1,19 +1,15 @@
 -- The oldest reference of the newest frame.
-use Rattle.std.proofs.Common.{◌≡◌, ◌≢◌, ◌==◌, ◌+◌, ◌-◌, ◌<◌, ◌≤◌, ℕ, suc, Bool, true, false, not, cond, if◌then◌else◌, IsSome, Some, None, List, [], ◌∷◌, ◌++◌, map, length, refl, sym, ap, subst, ◌∙◌, arith}
-use Rattle.std.proofs.lemmas.List.{length-map}
+use Rattle.std.proofs.Common.{◌≡◌, ◌≢◌, ◌==◌, ◌+◌, ◌-◌, ◌<◌, ◌≤◌, ℕ, suc, Bool, true, false, not, if◌then◌else◌, IsSome, Some, None, List, [], ◌∷◌, ◌++◌, map, length, refl, sym, ap, subst, ◌∙◌, arith}
 use Rattle.jr_word.specs.declared.handle.RefKind.TheVariants.{Local}
-use Rattle.jr_model.specs.declared.frames.LocalRef.{LocalRef}
 use Rattle.jr_model.specs.State.{Handle}
-use Rattle.jr_model.specs.Frames.{Frames, object_of, without_local, last_frame, frames_before}
-use Rattle.jr_frames.specs.declared.place.Place.{Place}
+use Rattle.jr_model.specs.Frames.{object_of, last_frame, frames_before}
 use Rattle.jr_frames.specs.declared.frames.Frames.TheInside.{Inside}
-use Rattle.jr_frames.specs.Table.{Table, TakesOldest, oldest_handle, without_oldest}
-use Rattle.jr_frames.specs.Rings.{newer_at, AreRings, Follow}
+use Rattle.jr_frames.specs.Table.{TakesOldest, oldest_handle, without_oldest}
+use Rattle.jr_frames.specs.Rings.{newer_at, Follow}
 use Rattle.jr_frames.specs.Places.{given_of, place_at, is_taken, ref_at}
 use Rattle.jr_frames.specs.Shown.{times, flat, table_of, Shows}
 use Rattle.jr_frames.proofs.Times.{times_here, without, without_here, without_none}
 use Rattle.jr_frames.proofs.LastRing.{last_list, lists_before, last_ring, map_last, map_before, times_parts, map_without_none}
-use Rattle.jr_frames.proofs.Showing.{times_below, not_taken}
 use Rattle.jr_frames.proofs.Named.{named_object, taken_index}
 use Rattle.jr_frames.proofs.Deleting.{frames_without}
 
@@ -124,6 +120,7 @@ module _ (a : Inside) (free : List ℕ) (order : List (List ℕ)) (is : Shows a 
         last_without [] = refl
         last_without (x ∷ []) = refl
         last_without (x ∷ y ∷ xs) = last_without (y ∷ xs)
+
         before_without : (rs : List (List ℕ)) → lists_before (map (without p) rs) ≡ map (without p) (lists_before rs)
         before_without [] = refl
         before_without (x ∷ []) = refl

@@ -1,5 +1,5 @@
 -- A place is put last in a ring.
-use Rattle.std.proofs.Common.{◌≡◌, ◌≢◌, ◌==◌, ◌+◌, ◌<◌, ◌≤◌, ℕ, suc, Bool, true, false, cond, List, [], ◌∷◌, ◌++◌, length, refl, sym, ap, subst, ◌∙◌, arith}
+use Rattle.std.proofs.Common.{◌≡◌, ◌≢◌, ◌==◌, ◌<◌, ℕ, suc, cond, List, [], ◌∷◌, ◌++◌, sym, ap, ◌∙◌, arith}
 use Rattle.std.specs.List.{AllByRecursion}
 use Rattle.jr_frames.specs.declared.rings.Link.{Link}
 use Rattle.jr_frames.specs.Rings.{newer_at, older_at, IsPutLast, Follow, AreRings}
@@ -27,8 +27,9 @@ module _ (old new : List Link) (end p : ℕ) (put : IsPutLast old end p new) (ar
 
   kept : (x y : ℕ) → x ≢ p → y ≢ p → y ≢ end → newer_at old x ≡ y → older_at old y ≡ x → (newer_at new x ≡ y) × (older_at new y ≡ x)
   kept x y xp yp ye n o = (
-      new_newer x ∙ (pick_other x p end _ xp ∙ (pick_other x (older_at old end) p (newer_at old x) (λ e. ye (sym n ∙ (ap (newer_at old) e ∙ around))) ∙ n)),
-      new_older y ∙ (pick_other y end p _ ye ∙ (pick_other y p (older_at old end) (older_at old y) yp ∙ o)))
+    new_newer x ∙ (pick_other x p end _ xp ∙ (pick_other x (older_at old end) p (newer_at old x) (λ e. ye (sym n ∙ (ap (newer_at old) e ∙ around))) ∙ n)),
+    new_older y ∙ (pick_other y end p _ ye ∙ (pick_other y p (older_at old end) (older_at old y) yp ∙ o)),
+  )
 
   -- a ring of another end stays as it is
   pub follow_other : (x : ℕ) (ys : List ℕ) → IsNeither p end x → AllByRecursion (IsNeither p end) ys → Follow old x ys → Follow new x ys
@@ -36,9 +37,10 @@ module _ (old new : List Link) (end p : ℕ) (put : IsPutLast old end p new) (ar
 
   pub follow_put : (x : ℕ) (xs : List ℕ) → x ≢ p → times p xs ≡ 0 → times end xs ≡ 0 → Follow old x (xs ++ end ∷ []) → Follow new x ((xs ++ p ∷ []) ++ end ∷ [])
   follow_put x [] xp none away f = (
-      new_newer x ∙ (pick_other x p end _ xp ∙ (ap (λ k. cond (x == k) p (newer_at old x)) f.1 ∙ pick_self x p (newer_at old x))),
-      new_older p ∙ (pick_other p end p _ (λ e. other (sym e)) ∙ (pick_self p (older_at old end) (older_at old p) ∙ f.1)),
-      (new_newer p ∙ pick_self p end _, new_older end ∙ pick_self end p _, tt))
+    new_newer x ∙ (pick_other x p end _ xp ∙ (ap (λ k. cond (x == k) p (newer_at old x)) f.1 ∙ pick_self x p (newer_at old x))),
+    new_older p ∙ (pick_other p end p _ (λ e. other (sym e)) ∙ (pick_self p (older_at old end) (older_at old p) ∙ f.1)),
+    (new_newer p ∙ pick_self p end _, new_older end ∙ pick_self end p _, tt),
+  )
   follow_put x (y ∷ ys) xp none away f =
       let a = not_first p y ys none in
       let b = not_first end y ys away in
@@ -50,5 +52,6 @@ module _ (old new : List Link) (end p : ℕ) (put : IsPutLast old end p new) (ar
   rings_other first [] l m none away r = tt
   rings_other first (xs ∷ rest) l m none away r =
       let here : IsNeither p end first = (λ e. absurd (omega arith), λ e. absurd (omega arith)) in (
-      follow_other first (xs ++ first ∷ []) here (all_neither p end xs first (none_left p xs (flat rest) none) (none_left end xs (flat rest) away) here) r.0,
-      rings_other (suc first) rest (omega arith) (omega arith) (none_right p xs (flat rest) none) (none_right end xs (flat rest) away) r.1)
+        follow_other first (xs ++ first ∷ []) here (all_neither p end xs first (none_left p xs (flat rest) none) (none_left end xs (flat rest) away) here) r.0,
+        rings_other (suc first) rest (omega arith) (omega arith) (none_right p xs (flat rest) none) (none_right end xs (flat rest) away) r.1,
+      )

@@ -1,13 +1,12 @@
 -- The rings of all ends.
-use Rattle.std.proofs.Common.{◌≡◌, ◌≢◌, ◌==◌, ◌+◌, ◌<◌, ◌≤◌, ⊎_elim, ℕ, zero, suc, Bool, true, false, List, [], ◌∷◌, ◌++◌, length, refl, sym, ap, subst, ◌∙◌, arith}
+use Rattle.std.proofs.Common.{◌≡◌, ◌+◌, ◌<◌, ◌≤◌, ⊎_elim, ℕ, suc, List, [], ◌∷◌, ◌++◌, length, refl, sym, ap, ◌∙◌, arith}
 use Rattle.std.proofs.lemmas.Bool.{cases_lt}
 use Rattle.std.specs.List.{AllByRecursion}
 use Rattle.jr_frames.specs.declared.rings.Link.{Link}
-use Rattle.jr_frames.specs.Rings.{newer_at, older_at, Follow, AreRings, ring_of, rings_from, IsPutLast}
+use Rattle.jr_frames.specs.Rings.{newer_at, older_at, AreRings, ring_of, rings_from}
 use Rattle.jr_frames.specs.Shown.{times, flat}
 use Rattle.jr_frames.proofs.Times.{times_append, all_below, all_other, none_left, none_right, few_numbers}
-use Rattle.jr_frames.proofs.Following.{IsBetween, between, before_end, until_end, follow_pairs, all_end}
-use Rattle.jr_frames.proofs.Putting.{follow_put, follow_other, all_neither, IsNeither}
+use Rattle.jr_frames.proofs.Following.{IsBetween, between, until_end, follow_pairs, all_end}
 
 -- each of the numbers below a bound is below a higher one
 pub all_lower : (n m : ℕ) (xs : List ℕ) → n ≤ m → AllByRecursion (λ q. q < n) xs → AllByRecursion (λ q. q < m) xs
@@ -21,10 +20,10 @@ module _ (links : List Link) (places : ℕ) where
   between_rings bound p end (xs ∷ rest) low fits below some r =
       ⊎_elim
       (λ (l : times p xs < 1).
-        let e = times_append p xs (flat rest) in
-        between_rings bound p (suc end) rest (omega arith) (omega arith) (λ q g. none_right q xs (flat rest) (below q g)) (omega arith) r.1)
+      let e = times_append p xs (flat rest) in
+      between_rings bound p (suc end) rest (omega arith) (omega arith) (λ q g. none_right q xs (flat rest) (below q g)) (omega arith) r.1)
       (λ (g : 1 ≤ times p xs).
-        between links bound end (omega arith) p end xs (omega arith) (all_lower places bound xs (omega arith) (all_below places xs (λ q h. none_left q xs (flat rest) (below q h)))) g r.0)
+      between links bound end (omega arith) p end xs (omega arith) (all_lower places bound xs (omega arith) (all_below places xs (λ q h. none_left q xs (flat rest) (below q h)))) g r.0)
       (cases_lt (times p xs) 1)
 
   -- the rings are what follows until the ends
@@ -45,9 +44,10 @@ pub rings_below : (old new : List Link) (places bound end : ℕ) (rs : List (Lis
     → places ≤ end → end + length rs ≤ bound → ((q : ℕ) → places ≤ q → times q (flat rs) ≡ 0) → AreRings old end rs → AreRings new end rs
 rings_below old new places bound end [] n o low fits below r = tt
 rings_below old new places bound end (xs ∷ rest) n o low fits below r = (
-    follow_pairs old new (λ q. q < bound) (λ x y a b e f. (n x a ∙ e, o y b ∙ f)) end (xs ++ end ∷ []) (omega arith)
-    (all_end (λ q. q < bound) xs end (all_lower places bound xs (omega arith) (all_below places xs (λ q h. none_left q xs (flat rest) (below q h)))) (omega arith)) r.0,
-    rings_below old new places bound (suc end) rest n o (omega arith) (omega arith) (λ q g. none_right q xs (flat rest) (below q g)) r.1)
+  follow_pairs old new (λ q. q < bound) (λ x y a b e f. (n x a ∙ e, o y b ∙ f)) end (xs ++ end ∷ []) (omega arith)
+      (all_end (λ q. q < bound) xs end (all_lower places bound xs (omega arith) (all_below places xs (λ q h. none_left q xs (flat rest) (below q h)))) (omega arith)) r.0,
+  rings_below old new places bound (suc end) rest n o (omega arith) (omega arith) (λ q g. none_right q xs (flat rest) (below q g)) r.1,
+)
 
 -- one more ring, of the next end
 pub rings_push : (links : List Link) (end : ℕ) (rs : List (List ℕ)) → AreRings links end rs → newer_at links (end + length rs) ≡ end + length rs → older_at links (end + length rs) ≡ end + length rs → AreRings links end (rs ++ [] ∷ [])

@@ -1,14 +1,13 @@
 -- Free places and frames that the table shows are those that it is seen as.
-use Rattle.std.proofs.Common.{◌≡◌, ◌≢◌, ◌==◌, ◌&&◌, ◌+◌, ◌-◌, ◌<◌, ◌≤◌, ℕ, suc, Bool, true, false, not, cond, if◌then◌else◌, nat_le, IsTrue, List, [], ◌∷◌, ◌++◌, map, length, refl, sym, ap, subst, ◌∙◌, arith}
+use Rattle.std.proofs.Common.{◌≡◌, ◌==◌, ◌&&◌, ◌+◌, ◌-◌, ◌≤◌, ℕ, suc, Bool, true, false, not, if◌then◌else◌, nat_le, List, [], ◌∷◌, ◌++◌, map, length, refl, sym, ap, subst, ◌∙◌, arith}
 use Rattle.std.proofs.lemmas.List.{get_or_past}
 use Rattle.std.proofs.lemmas.Bool.Decides.{nat_tests}
 use Rattle.jr_model.specs.declared.frames.LocalRef.{LocalRef}
 use Rattle.jr_model.specs.Frames.{joined}
 use Rattle.jr_frames.specs.declared.place.Place.{Place}
 use Rattle.jr_frames.specs.declared.frames.Frames.TheInside.{Inside}
-use Rattle.jr_frames.specs.Table.{Table}
 use Rattle.jr_frames.specs.Rings.{rings_from}
-use Rattle.jr_frames.specs.Places.{given_of, unused, place_at, is_taken, is_idle, ref_at}
+use Rattle.jr_frames.specs.Places.{given_of, unused, place_at, is_taken, is_idle}
 use Rattle.jr_frames.specs.Shown.{times, flat, free_of, order_of, table_of, table, Shows, IsTable}
 use Rattle.jr_frames.proofs.Times.{times_append}
 use Rattle.jr_frames.proofs.RingLists.{rings_are}

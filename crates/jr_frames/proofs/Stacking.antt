@@ -1,10 +1,10 @@
 -- A frame is added to the table, or taken away.
-use Rattle.std.proofs.Common.{◌≡◌, ◌≢◌, ◌==◌, ◌+◌, ◌-◌, ◌<◌, ◌≤◌, ℕ, suc, List, [], ◌∷◌, ◌++◌, map, length, take, refl, sym, ap, subst, ◌∙◌, arith}
-use Rattle.std.proofs.lemmas.List.{length-append, length-map, map-append, get_or_append_left, get_or-take}
+use Rattle.std.proofs.Common.{◌≡◌, ◌+◌, ◌-◌, ◌<◌, ◌≤◌, ℕ, List, [], ◌∷◌, ◌++◌, map, length, take, refl, sym, ap, ◌∙◌, arith}
+use Rattle.std.proofs.lemmas.List.{length-append, map-append, get_or_append_left, get_or-take}
 use Rattle.std.proofs.Math.Seq.{get_or-append_seam}
 use Rattle.jr_model.specs.declared.frames.LocalRef.{LocalRef}
 use Rattle.jr_model.specs.declared.frames.TheConstants.{FRAMES}
-use Rattle.jr_model.specs.Frames.{Frames, pushed, popped, last_frame}
+use Rattle.jr_model.specs.Frames.{pushed, popped, last_frame}
 use Rattle.jr_frames.specs.declared.rings.Link.{Link}
 use Rattle.jr_frames.specs.declared.rings.Rings.{Rings}
 use Rattle.jr_frames.specs.declared.frames.Frames.TheInside.{Inside}
@@ -29,15 +29,17 @@ closed_link end = record { older = end; newer = end }
 module _ (a : Inside) (free : List ℕ) (order : List (List ℕ)) (is : Shows a free order) (rings : Rings) where
   module _ (more : rings.links.items ≡ a.rings.links.items ++ closed_link (length a.rings.links.items) ∷ []) where
     low_same : (q : ℕ) → q < length a.rings.links.items → (newer_at rings.links.items q ≡ newer_at a.rings.links.items q) × (older_at rings.links.items q ≡ older_at a.rings.links.items q)
-    low_same q l =
-        (ap (λ ls. newer_at ls q) more ∙ ap (λ (x : Link). x.newer) (get_or_append_left a.rings.links.items (closed_link (length a.rings.links.items) ∷ []) no_link q l),
-         ap (λ ls. older_at ls q) more ∙ ap (λ (x : Link). x.older) (get_or_append_left a.rings.links.items (closed_link (length a.rings.links.items) ∷ []) no_link q l))
+    low_same q l = (
+      ap (λ ls. newer_at ls q) more ∙ ap (λ (x : Link). x.newer) (get_or_append_left a.rings.links.items (closed_link (length a.rings.links.items) ∷ []) no_link q l),
+      ap (λ ls. older_at ls q) more ∙ ap (λ (x : Link). x.older) (get_or_append_left a.rings.links.items (closed_link (length a.rings.links.items) ∷ []) no_link q l),
+    )
 
     at_seam : (end : ℕ) → end ≡ length a.rings.links.items → (newer_at rings.links.items end ≡ end) × (older_at rings.links.items end ≡ end)
     at_seam end e =
-        let read = get_or-append_seam a.rings.links.items (closed_link (length a.rings.links.items)) [] no_link in
-        (ap (newer_at rings.links.items) e ∙ (ap (λ ls. newer_at ls (length a.rings.links.items)) more ∙ (ap (λ (x : Link). x.newer) read ∙ sym e)),
-         ap (older_at rings.links.items) e ∙ (ap (λ ls. older_at ls (length a.rings.links.items)) more ∙ (ap (λ (x : Link). x.older) read ∙ sym e)))
+        let read = get_or-append_seam a.rings.links.items (closed_link (length a.rings.links.items)) [] no_link in (
+          ap (newer_at rings.links.items) e ∙ (ap (λ ls. newer_at ls (length a.rings.links.items)) more ∙ (ap (λ (x : Link). x.newer) read ∙ sym e)),
+          ap (older_at rings.links.items) e ∙ (ap (λ ls. older_at ls (length a.rings.links.items)) more ∙ (ap (λ (x : Link). x.older) read ∙ sym e)),
+        )
 
     pub pushed_shows : length order < FRAMES → Shows (changed a a.free a.places rings) free (order ++ [] ∷ [])
     pushed_shows room =
@@ -69,9 +71,10 @@ module _ (a : Inside) (free : List ℕ) (order : List (List ℕ)) (is : Shows a 
 
   module _ (less : rings.links.items ≡ take (length a.rings.links.items - 1) a.rings.links.items) (above : 2 ≤ length order) where
     kept_same : (q : ℕ) → q < length a.rings.links.items - 1 → (newer_at rings.links.items q ≡ newer_at a.rings.links.items q) × (older_at rings.links.items q ≡ older_at a.rings.links.items q)
-    kept_same q l =
-        (ap (λ ls. newer_at ls q) less ∙ ap (λ (x : Link). x.newer) (get_or-take (length a.rings.links.items - 1) a.rings.links.items q no_link l),
-         ap (λ ls. older_at ls q) less ∙ ap (λ (x : Link). x.older) (get_or-take (length a.rings.links.items - 1) a.rings.links.items q no_link l))
+    kept_same q l = (
+      ap (λ ls. newer_at ls q) less ∙ ap (λ (x : Link). x.newer) (get_or-take (length a.rings.links.items - 1) a.rings.links.items q no_link l),
+      ap (λ ls. older_at ls q) less ∙ ap (λ (x : Link). x.older) (get_or-take (length a.rings.links.items - 1) a.rings.links.items q no_link l),
+    )
 
     before_both : (rs : List (List ℕ)) → 1 ≤ length rs → AreRings a.rings.links.items (length a.places.items) (free ∷ rs) → AreRings a.rings.links.items (length a.places.items) (free ∷ lists_before rs)
     before_both [] l r = absurd (omega arith)

@@ -1,16 +1,15 @@
 -- A table stands after a change of one place and of the rings.
-use Rattle.std.proofs.Common.{◌≡◌, ◌≢◌, ◌==◌, ◌&&◌, ◌+◌, ◌-◌, ◌<◌, ◌≤◌, ⊎_elim, ℕ, suc, Bool, true, false, not, cond, if◌then◌else◌, nat_le, IsTrue, List, [], ◌∷◌, ◌++◌, map, length, slice_set, refl, sym, ap, subst, ◌∙◌, arith}
+use Rattle.std.proofs.Common.{◌≡◌, ◌≢◌, ◌==◌, ◌&&◌, ◌+◌, ◌<◌, ◌≤◌, ⊎_elim, ℕ, Bool, not, if◌then◌else◌, nat_le, IsTrue, List, ◌∷◌, map, length, slice_set, sym, ap, subst, ◌∙◌, arith}
 use Rattle.std.proofs.lemmas.List.{length-set}
 use Rattle.std.proofs.lemmas.Bool.{cases_lt}
 use Rattle.arrayvec.specs.ArrayVec.{ArrayVec}
-use Rattle.jr_model.specs.declared.frames.TheConstants.{FRAMES}
 use Rattle.jr_frames.specs.declared.place.Place.{Place}
 use Rattle.jr_frames.specs.declared.rings.Link.{Link}
 use Rattle.jr_frames.specs.declared.rings.Rings.{Rings}
 use Rattle.jr_frames.specs.declared.frames.Frames.TheInside.{Inside}
-use Rattle.jr_frames.specs.Places.{given_of, unused, place_at, is_taken, is_idle, ref_at}
+use Rattle.jr_frames.specs.Places.{given_of, place_at}
 use Rattle.jr_frames.specs.Rings.{newer_at, older_at, IsJoined, AreRings}
-use Rattle.jr_frames.specs.Shown.{times, flat, table_of, Shows}
+use Rattle.jr_frames.specs.Shown.{times, flat, Shows}
 use Rattle.jr_frames.proofs.Times.{without}
 use Rattle.jr_frames.proofs.Following.{IsBetween}
 use Rattle.jr_frames.proofs.Taking.{rings_without}

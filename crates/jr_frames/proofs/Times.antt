@@ -1,7 +1,7 @@
 -- How many times a number is in a list.
 use Rattle.std.proofs.Common.{◌≡◌, ◌≢◌, ◌==◌, ◌+◌, ◌<◌, ◌≤◌, ⊎_elim, ℕ, zero, suc, Bool, true, false, not, cond, if◌then◌else◌, List, [], ◌∷◌, ◌++◌, map, filter, length, refl, sym, ap, subst, ◌∙◌, zero-add, arith}
 use Rattle.std.proofs.lemmas.Bool.{cases_lt}
-use Rattle.std.specs.List.{list_any, AllByRecursion}
+use Rattle.std.specs.List.{AllByRecursion}
 use Rattle.jr_model.specs.Maps.{sum_below}
 use Rattle.jr_model.proofs.Lengths.{sum_none}
 use Rattle.jr_model.proofs.Counts.{sum_at}
@@ -34,8 +34,9 @@ all_other p (x ∷ xs) none = let n = not_first p x xs none in (n.0, all_other p
 pub all_below : (n : ℕ) (xs : List ℕ) → ((q : ℕ) → n ≤ q → times q xs ≡ 0) → AllByRecursion (λ y. y < n) xs
 all_below n [] none = tt
 all_below n (x ∷ xs) none = (
-    ⊎_elim (λ (l : x < n). l) (λ (g : n ≤ x). absurd ((not_first x x xs (none x g)).0 refl)) (cases_lt x n),
-    all_below n xs (λ q g. (not_first q x xs (none q g)).1))
+  ⊎_elim (λ (l : x < n). l) (λ (g : n ≤ x). absurd ((not_first x x xs (none x g)).0 refl)) (cases_lt x n),
+  all_below n xs (λ q g. (not_first q x xs (none q g)).1),
+)
 
 pub none_left : (p : ℕ) (xs ys : List ℕ) → times p (xs ++ ys) ≡ 0 → times p xs ≡ 0
 none_left p xs ys none = let e = times_append p xs ys in omega arith
@@ -113,6 +114,7 @@ flat_without p (xs ∷ rest) = ap (λ l. without p xs ++ l) (flat_without p rest
     step : (b : Bool) (x : ℕ) (l m : List ℕ) → l ≡ m ++ without p (flat rest) → cond b (x ∷ l) l ≡ cond b (x ∷ m) m ++ without p (flat rest)
     step true x l m e = ap (λ z. x ∷ z) e
     step false x l m e = e
+
     filtered : (ys : List ℕ) → without p (ys ++ flat rest) ≡ without p ys ++ without p (flat rest)
     filtered [] = refl
     filtered (y ∷ ys) = step (not (y == p)) y (without p (ys ++ flat rest)) (without p ys) (filtered ys)

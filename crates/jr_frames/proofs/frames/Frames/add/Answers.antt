@@ -1,4 +1,4 @@
-use Rattle.std.proofs.Common.{◌≡◌, ◌==◌, ◌+◌, ◌-◌, ◌<◌, ◌≤◌, ℕ, suc, List, length, cond, None, Some, slice_set, sym, ap, subst, ◌∙◌, arith}
+use Rattle.std.proofs.Common.{◌≡◌, ◌==◌, ◌+◌, ◌-◌, ◌≤◌, ℕ, suc, length, cond, None, Some, slice_set, sym, ap, subst, ◌∙◌, arith}
 use Rattle.arrayvec.specs.ArrayVec.{ArrayVec}
 use Rattle.jr_model.specs.declared.frames.LocalRef.{LocalRef}
 use Rattle.jr_model.specs.State.{Handle}
@@ -7,7 +7,7 @@ use Rattle.jr_frames.specs.declared.place.Place.{Place}
 use Rattle.jr_frames.specs.declared.frames.Frames.TheInside.{Inside}
 use Rattle.jr_frames.specs.Table.{Table, IsNext, IsOnly}
 use Rattle.jr_frames.specs.Places.{given_of, place_at}
-use Rattle.jr_frames.specs.Shown.{table, table_of, free_of, order_of, Shows, IsTable}
+use Rattle.jr_frames.specs.Shown.{table, free_of, order_of, Shows, IsTable}
 use Rattle.jr_frames.proofs.Times.{without, length_without}
 use Rattle.jr_frames.proofs.LastRing.{with_end}
 use Rattle.jr_frames.proofs.Showing.{is_table, table_is}

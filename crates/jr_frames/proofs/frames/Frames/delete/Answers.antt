@@ -1,15 +1,14 @@
-use Rattle.std.proofs.Common.{rules, ◌≡◌, ◌==◌, ◌+◌, ◌-◌, ◌<◌, ◌≤◌, ◌++◌, ◌∷◌, [], ℕ, List, cond, map, length, None, IsSome, slice_set, refl, sym, ap, subst, ◌∙◌, Fits, arith}
+use Rattle.std.proofs.Common.{rules, ◌≡◌, ◌==◌, ◌+◌, ◌<◌, ◌≤◌, ◌++◌, ◌∷◌, [], ℕ, List, cond, map, length, None, IsSome, slice_set, refl, sym, ap, subst, ◌∙◌, arith}
 use Rattle.std.proofs.lemmas.List.{length-set, get_or-set_same}
 use Rattle.arrayvec.specs.ArrayVec.{ArrayVec}
 use Rattle.jr_model.specs.State.{Handle}
 use Rattle.jr_model.specs.Frames.{object_at, object_of, without_local}
 use Rattle.jr_frames.specs.declared.place.Place.{Place}
-use Rattle.jr_frames.specs.declared.rings.Link.{Link}
 use Rattle.jr_frames.specs.declared.frames.Frames.TheInside.{Inside}
 use Rattle.jr_frames.specs.Table.{Table, IsOnly}
 use Rattle.jr_frames.specs.Rings.{IsPutLast}
 use Rattle.jr_frames.specs.Places.{given_of, unused, place_at}
-use Rattle.jr_frames.specs.Shown.{times, flat, table, free_of, order_of, Shows, IsTable}
+use Rattle.jr_frames.specs.Shown.{table, free_of, order_of, Shows, IsTable}
 use Rattle.jr_frames.proofs.Times.{without}
 use Rattle.jr_frames.proofs.Showing.{is_table, table_is}
 use Rattle.jr_frames.proofs.FreePlaces.{free_few}

@@ -1,9 +1,8 @@
-use Rattle.std.proofs.Common.{rules, ◌≡◌, ap, ◌∙◌, sym, arith}
+use Rattle.std.proofs.Common.{rules, ◌≡◌, ap, ◌∙◌, sym}
 use Rattle.jr_model.specs.Frames.{free_places}
 use Rattle.jr_frames.specs.Table.{Table}
 use Rattle.jr_frames.specs.Shown.{free_of, order_of}
 use Rattle.jr_frames.proofs.FreePlaces.{free_counted}
-use Rattle.jr_frames.proofs.Oldest.{takes_oldest}
 use Rattle.jr_frames.proofs.frames.Frames.has_room.Goals as goal
 
 pub returns : goal.returns

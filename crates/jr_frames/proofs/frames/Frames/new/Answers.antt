@@ -1,4 +1,4 @@
-use Rattle.std.proofs.Common.{rules, ◌≡◌, ◌<◌, ◌≤◌, ◌^◌, ◌∷◌, [], arith, subst, sym, ap, ◌∙◌, replicate}
+use Rattle.std.proofs.Common.{rules, ◌≡◌, ◌<◌, ◌^◌, ◌∷◌, [], arith, ap, ◌∙◌, replicate}
 use Rattle.jr_frames.specs.Places.{unused}
 use Rattle.jr_frames.specs.Shown.{Shows}
 use Rattle.jr_frames.proofs.Showing.{is_table, table_is}

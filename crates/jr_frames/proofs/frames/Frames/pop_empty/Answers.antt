@@ -1,4 +1,4 @@
-use Rattle.std.proofs.Common.{◌≡◌, ◌≤◌, ◌+◌, ◌-◌, ap, subst, sym, length, ◌∙◌, [], ◌∷◌, ◌++◌, map, take, arith}
+use Rattle.std.proofs.Common.{◌≡◌, ◌≤◌, ◌+◌, ◌-◌, ap, subst, sym, length, ◌∙◌, map, take, arith}
 use Rattle.std.proofs.lemmas.List.{length-map, length-take-le}
 use Rattle.jr_model.specs.Frames.{popped, last_frame}
 use Rattle.jr_frames.specs.declared.rings.Rings.{Rings}
@@ -6,7 +6,7 @@ use Rattle.jr_frames.specs.declared.frames.Frames.TheInside.{Inside}
 use Rattle.jr_frames.specs.Table.{Table, with_frames}
 use Rattle.jr_frames.specs.Places.{ref_at}
 use Rattle.jr_frames.specs.Shown.{table, free_of, order_of, Shows, IsTable}
-use Rattle.jr_frames.proofs.LastRing.{last_list, lists_before}
+use Rattle.jr_frames.proofs.LastRing.{lists_before}
 use Rattle.jr_frames.proofs.Showing.{is_table, table_is}
 use Rattle.jr_frames.proofs.Changing.{changed}
 use Rattle.jr_frames.proofs.Stacking.{popped_shows, is_popped, empty_last}
