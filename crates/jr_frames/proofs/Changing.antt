@@ -13,7 +13,7 @@ use Rattle.jr_frames.specs.declared.rings.Rings.{Rings}
 use Rattle.jr_frames.specs.declared.frames.Frames.TheInside.{Inside}
 use Rattle.jr_frames.specs.Table.{IsOnly}
 use Rattle.jr_frames.specs.Places.{given_of, unused, place_at, ref_at}
-use Rattle.jr_frames.specs.Shown.{times, flat, table_of, Shows}
+use Rattle.jr_frames.specs.Shown.{times, flat, table_of, IsArranged}
 use Rattle.jr_frames.proofs.Times.{not_first, none_left, none_right}
 use Rattle.jr_frames.proofs.Places.{object_in, object_at_place}
 
@@ -66,8 +66,8 @@ with_place_is places seen i j change same is =
     items-with_items places (slice_set seen i (change (place_at seen i))) (length-set seen i _ ∙ ap length same)
     ∙ (ap (λ ps. slice_set ps i (change (place_at ps i))) same ∙ ap (λ k. slice_set places.items k (change (place_at places.items k))) is)
 
-module _ (a : Inside) (free : List ℕ) (order : List (List ℕ)) (is : Shows a free order) (p : ℕ) (l : p < length a.places.items) (x : Place) (places : ArrayVec Place) (set : places.items ≡ slice_set a.places.items p x) where
-  pub changed_only : (free_now : List ℕ) (order_now : List (List ℕ)) (n : ℕ) (rings : Rings) → Shows (changed a n places rings) free_now order_now → IsOnly (table_of a order).frames p (object_in x) (table_of (changed a n places rings) order_now).frames
+module _ (a : Inside) (free : List ℕ) (order : List (List ℕ)) (is : IsArranged a free order) (p : ℕ) (l : p < length a.places.items) (x : Place) (places : ArrayVec Place) (set : places.items ≡ slice_set a.places.items p x) where
+  pub changed_only : (free_now : List ℕ) (order_now : List (List ℕ)) (n : ℕ) (rings : Rings) → IsArranged (changed a n places rings) free_now order_now → IsOnly (table_of a order).frames p (object_in x) (table_of (changed a n places rings) order_now).frames
   changed_only free_now order_now n rings now q =
       object_at_place (changed a n places rings) free_now order_now now q
       ∙ after_set (λ q y. object_in y ≡ cond (p == q) (object_in x) (object_at (table_of a order).frames q)) a.places.items places.items p x l set

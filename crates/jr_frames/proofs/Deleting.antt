@@ -14,7 +14,7 @@ use Rattle.jr_frames.specs.declared.rings.Rings.{Rings}
 use Rattle.jr_frames.specs.declared.frames.Frames.TheInside.{Inside}
 use Rattle.jr_frames.specs.Rings.{newer_at, older_at, IsJoined, IsPutLast, AreRings}
 use Rattle.jr_frames.specs.Places.{given_of, unused, place_at, is_taken, ref_at}
-use Rattle.jr_frames.specs.Shown.{times, flat, table_of, Shows}
+use Rattle.jr_frames.specs.Shown.{times, flat, table_of, IsArranged}
 use Rattle.jr_frames.proofs.Times.{times_append, times_here, times_there, without, without_none, times_without_other, times_without_self, flat_without}
 use Rattle.jr_frames.proofs.Following.{before_end}
 use Rattle.jr_frames.proofs.Putting.{follow_put, rings_other}
@@ -46,7 +46,7 @@ filter_frames show keep passes alike (xs ∷ rest) = frame_same _ _ _ _ (filter_
 abbrev pub emptied : Inside → ℕ → Place
 emptied a p = record { low = (place_at a.places.items p).low; high = (place_at a.places.items p).high; object = 0 }
 
-module _ (a : Inside) (free : List ℕ) (order : List (List ℕ)) (is : Shows a free order) (h : Handle) (some : IsSome (object_of (table_of a order).frames h)) where
+module _ (a : Inside) (free : List ℕ) (order : List (List ℕ)) (is : IsArranged a free order) (h : Handle) (some : IsSome (object_of (table_of a order).frames h)) where
   pub standing_taken : is_taken a.places.items h.index ≡ true
   standing_taken = (stands a free order is h some).0
 
@@ -111,7 +111,7 @@ module _ (a : Inside) (free : List ℕ) (order : List (List ℕ)) (is : Shows a 
 
     module _ (places : ArrayVec Place) (set : places.items ≡ slice_set a.places.items h.index (emptied a h.index)) where
       -- the place was given its last handle, and is retired
-      pub retired_shows : (rings : Rings) → rings.links.items ≡ mid → a.last < given_of (place_at a.places.items h.index) → Shows (changed a a.free places rings) free (map (without h.index) order)
+      pub retired_shows : (rings : Rings) → rings.links.items ≡ mid → a.last < given_of (place_at a.places.items h.index) → IsArranged (changed a a.free places rings) free (map (without h.index) order)
       retired_shows rings now above = still_shows a free order is h.index standing_index (emptied a h.index) places set a.free rings free (map (without h.index) order)
           (ap length now ∙ joined.size) (length-map order (without h.index)) (subst (λ ls. AreRings ls (length a.places.items) (free ∷ map (without h.index) order)) (sym now) others_out)
           (λ e. absurd cc) (is.within h.index) gone spared
@@ -123,7 +123,7 @@ module _ (a : Inside) (free : List ℕ) (order : List (List ℕ)) (is : Shows a 
           high false n m l = refl
 
       -- the place is free again
-      pub returned_shows : (rings : Rings) → IsPutLast mid (length a.places.items) h.index rings.links.items → given_of (place_at a.places.items h.index) ≤ a.last → Shows (changed a (a.free + 1) places rings) (free ++ h.index ∷ []) (map (without h.index) order)
+      pub returned_shows : (rings : Rings) → IsPutLast mid (length a.places.items) h.index rings.links.items → given_of (place_at a.places.items h.index) ≤ a.last → IsArranged (changed a (a.free + 1) places rings) (free ++ h.index ∷ []) (map (without h.index) order)
       returned_shows rings put low =
           let index = standing_index in
           let other : length a.places.items ≢ h.index = λ e. absurd (omega arith) in

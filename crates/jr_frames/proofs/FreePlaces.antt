@@ -13,7 +13,7 @@ use Rattle.jr_frames.specs.declared.frames.Frames.TheInside.{Inside}
 use Rattle.jr_frames.specs.Table.{IsNext}
 use Rattle.jr_frames.specs.Rings.{newer_at}
 use Rattle.jr_frames.specs.Places.{given_of, unused, place_at, is_idle}
-use Rattle.jr_frames.specs.Shown.{times, flat, table_of, Shows}
+use Rattle.jr_frames.specs.Shown.{times, flat, table_of, IsArranged}
 use Rattle.jr_frames.proofs.Times.{sum_times, few_numbers, times_append, times_here, none_left}
 use Rattle.jr_frames.proofs.Showing.{times_below, times_one}
 use Rattle.jr_frames.proofs.Places.{is_free_place}
@@ -41,7 +41,7 @@ bit_true : (b : Bool) (n : ℕ) → 1 + n ≡ (if b then 1 else 0) → b ≡ tru
 bit_true true n e = refl
 bit_true false n e = absurd (omega arith)
 
-module _ (a : Inside) (free : List ℕ) (order : List (List ℕ)) (is : Shows a free order) where
+module _ (a : Inside) (free : List ℕ) (order : List (List ℕ)) (is : IsArranged a free order) where
   -- as many places are free as are in the ring of the free ones
   pub free_counted : free_places a.last (table_of a order).frames ≡ a.free
   free_counted =
@@ -62,7 +62,7 @@ module _ (a : Inside) (free : List ℕ) (order : List (List ℕ)) (is : Shows a 
   first_of : (xs : List ℕ) → free ≡ xs → 1 ≤ length xs → IsIdle a.last a.places.items (newer_at a.rings.links.items (length a.places.items))
   first_of [] e l = absurd (omega arith)
   first_of (x ∷ xs) e l =
-      let shows : Shows a (x ∷ xs) order = subst (λ f. Shows a f order) e is in
+      let shows : IsArranged a (x ∷ xs) order = subst (λ f. IsArranged a f order) e is in
       let here : newer_at a.rings.links.items (length a.places.items) ≡ x = shows.rings.0.0 in
       let idle : is_idle a.last a.places.items x ≡ true = bit_true _ (times x xs) (sym (times_here x xs) ∙ shows.idle x) in
       subst (λ p. IsIdle a.last a.places.items p) (sym here) (idle_true a.last a.places.items x idle)

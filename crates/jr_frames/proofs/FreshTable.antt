@@ -14,7 +14,7 @@ use Rattle.jr_frames.specs.declared.frames.Frames.TheInside.{Inside}
 use Rattle.jr_frames.specs.Table.{Table}
 use Rattle.jr_frames.specs.Rings.{newer_at, older_at, Follow, AreFresh}
 use Rattle.jr_frames.specs.Places.{given_of, unused, place_at, is_taken, is_idle}
-use Rattle.jr_frames.specs.Shown.{times, table_of, Shows}
+use Rattle.jr_frames.specs.Shown.{times, table_of, IsArranged}
 use Rattle.jr_frames.proofs.Times.{times_here, times_there}
 use Rattle.jr_frames.proofs.Showing.{not_idle}
 
@@ -111,7 +111,7 @@ module _ (thread last n : ℕ) (places : ArrayVec Place) (rings : Rings) (are : 
       (λ (g : n ≤ q). times_over q 0 n (omega arith) ∙ sym (ap (λ b. if b then 1 else 0) (not_idle last places.items q (let size = size_is in omega arith))))
       (cases_lt q n)
 
-  pub fresh_shows : n ≤ MOST_LOCALS → last < 2 ^ 32 → Shows fresh_inside (count_up 0 n) ([] ∷ [])
+  pub fresh_shows : n ≤ MOST_LOCALS → last < 2 ^ 32 → IsArranged fresh_inside (count_up 0 n) ([] ∷ [])
   fresh_shows few fits =
       let size = size_is in
       let links = fresh.size in

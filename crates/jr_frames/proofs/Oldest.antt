@@ -7,7 +7,7 @@ use Rattle.jr_frames.specs.declared.frames.Frames.TheInside.{Inside}
 use Rattle.jr_frames.specs.Table.{TakesOldest, oldest_handle, without_oldest}
 use Rattle.jr_frames.specs.Rings.{newer_at, Follow}
 use Rattle.jr_frames.specs.Places.{given_of, place_at, is_taken, ref_at}
-use Rattle.jr_frames.specs.Shown.{times, flat, table_of, Shows}
+use Rattle.jr_frames.specs.Shown.{times, flat, table_of, IsArranged}
 use Rattle.jr_frames.proofs.Times.{times_here, without, without_here, without_none}
 use Rattle.jr_frames.proofs.LastRing.{last_list, lists_before, last_ring, map_last, map_before, times_parts, map_without_none}
 use Rattle.jr_frames.proofs.Named.{named_object, taken_index}
@@ -32,7 +32,7 @@ abbrev pub tail_of : List ℕ → List ℕ
 tail_of [] = []
 tail_of (x ∷ xs) = xs
 
-module _ (a : Inside) (free : List ℕ) (order : List (List ℕ)) (is : Shows a free order) (end : ℕ) (at_end : suc end ≡ length a.rings.links.items) where
+module _ (a : Inside) (free : List ℕ) (order : List (List ℕ)) (is : IsArranged a free order) (end : ℕ) (at_end : suc end ≡ length a.rings.links.items) where
   follows : Follow a.rings.links.items end (last_list order ++ end ∷ [])
   follows =
       let size = is.size in

@@ -8,7 +8,7 @@ use Rattle.jr_frames.specs.declared.place.Place.{Place}
 use Rattle.jr_frames.specs.declared.frames.Frames.TheInside.{Inside}
 use Rattle.jr_frames.specs.Rings.{rings_from}
 use Rattle.jr_frames.specs.Places.{given_of, unused, place_at, is_taken, is_idle}
-use Rattle.jr_frames.specs.Shown.{times, flat, free_of, order_of, table_of, table, Shows, IsTable}
+use Rattle.jr_frames.specs.Shown.{times, flat, free_of, order_of, table_of, table, IsArranged, IsTable}
 use Rattle.jr_frames.proofs.Times.{times_append}
 use Rattle.jr_frames.proofs.RingLists.{rings_are}
 
@@ -37,7 +37,7 @@ abbrev tail_of : List (List ℕ) → List (List ℕ)
 tail_of [] = []
 tail_of (xs ∷ rest) = rest
 
-module _ {a : Inside} {free : List ℕ} {order : List (List ℕ)} (is : Shows a free order) where
+module _ {a : Inside} {free : List ℕ} {order : List (List ℕ)} (is : IsArranged a free order) where
   pub times_all : (q : ℕ) → times q (flat (free ∷ order)) ≡ (if is_idle a.last a.places.items q then 1 else 0) + (if is_taken a.places.items q then 1 else 0)
   times_all q = let e = times_append q free (flat order) in let i = is.idle q in let o = is.once q in omega arith
 
@@ -63,7 +63,7 @@ module _ {a : Inside} {free : List ℕ} {order : List (List ℕ)} (is : Shows a 
       ap (rings_from a.rings.links.items (length a.places.items) (suc (length a.places.items))) n ∙ ap tail_of both_are
 
   pub is_table : IsTable a
-  is_table = subst (λ f. Shows a f (order_of a)) (sym free_is) (subst (λ o. Shows a free o) (sym order_is) is)
+  is_table = subst (λ f. IsArranged a f (order_of a)) (sym free_is) (subst (λ o. IsArranged a free o) (sym order_is) is)
 
   pub table_is : table a ≡ table_of a order
   table_is = ap (table_of a) order_is

@@ -11,7 +11,7 @@ use Rattle.jr_frames.specs.declared.frames.Frames.TheInside.{Inside}
 use Rattle.jr_frames.specs.Table.{Table, with_frames}
 use Rattle.jr_frames.specs.Rings.{newer_at, older_at, no_link, AreRings}
 use Rattle.jr_frames.specs.Places.{ref_at}
-use Rattle.jr_frames.specs.Shown.{times, flat, table_of, Shows}
+use Rattle.jr_frames.specs.Shown.{times, flat, table_of, IsArranged}
 use Rattle.jr_frames.proofs.Times.{times_append}
 use Rattle.jr_frames.proofs.RingLists.{rings_below, rings_push}
 use Rattle.jr_frames.proofs.LastRing.{last_list, lists_before, map_last, map_before, times_parts, length_before, rings_before}
@@ -26,7 +26,7 @@ flat_push (x ∷ xs) = ap (λ l. x ++ l) (flat_push xs)
 abbrev pub closed_link : ℕ → Link
 closed_link end = record { older = end; newer = end }
 
-module _ (a : Inside) (free : List ℕ) (order : List (List ℕ)) (is : Shows a free order) (rings : Rings) where
+module _ (a : Inside) (free : List ℕ) (order : List (List ℕ)) (is : IsArranged a free order) (rings : Rings) where
   module _ (more : rings.links.items ≡ a.rings.links.items ++ closed_link (length a.rings.links.items) ∷ []) where
     low_same : (q : ℕ) → q < length a.rings.links.items → (newer_at rings.links.items q ≡ newer_at a.rings.links.items q) × (older_at rings.links.items q ≡ older_at a.rings.links.items q)
     low_same q l = (
@@ -41,7 +41,7 @@ module _ (a : Inside) (free : List ℕ) (order : List (List ℕ)) (is : Shows a 
           ap (older_at rings.links.items) e ∙ (ap (λ ls. older_at ls (length a.rings.links.items)) more ∙ (ap (λ (x : Link). x.older) read ∙ sym e)),
         )
 
-    pub pushed_shows : length order < FRAMES → Shows (changed a a.free a.places rings) free (order ++ [] ∷ [])
+    pub pushed_shows : length order < FRAMES → IsArranged (changed a a.free a.places rings) free (order ++ [] ∷ [])
     pushed_shows room =
         let size = is.size in
         let links : length rings.links.items ≡ length a.rings.links.items + 1 = ap length more ∙ length-append a.rings.links.items (closed_link (length a.rings.links.items) ∷ []) in
@@ -80,7 +80,7 @@ module _ (a : Inside) (free : List ℕ) (order : List (List ℕ)) (is : Shows a 
     before_both [] l r = absurd (omega arith)
     before_both (x ∷ xs) l r = rings_before a.rings.links.items (length a.places.items) (free ∷ x ∷ xs) r
 
-    pub popped_shows : length rings.links.items + 1 ≡ length a.rings.links.items → last_list order ≡ [] → Shows (changed a a.free a.places rings) free (lists_before order)
+    pub popped_shows : length rings.links.items + 1 ≡ length a.rings.links.items → last_list order ≡ [] → IsArranged (changed a a.free a.places rings) free (lists_before order)
     popped_shows links empty =
         let size = is.size in
         let most = is.few_frames in

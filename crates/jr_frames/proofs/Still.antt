@@ -9,7 +9,7 @@ use Rattle.jr_frames.specs.declared.rings.Rings.{Rings}
 use Rattle.jr_frames.specs.declared.frames.Frames.TheInside.{Inside}
 use Rattle.jr_frames.specs.Places.{given_of, place_at}
 use Rattle.jr_frames.specs.Rings.{newer_at, older_at, IsJoined, AreRings}
-use Rattle.jr_frames.specs.Shown.{times, flat, Shows}
+use Rattle.jr_frames.specs.Shown.{times, flat, IsArranged}
 use Rattle.jr_frames.proofs.Times.{without}
 use Rattle.jr_frames.proofs.Following.{IsBetween}
 use Rattle.jr_frames.proofs.Taking.{rings_without}
@@ -21,7 +21,7 @@ use Rattle.jr_frames.proofs.Changing.{changed, after_set}
 abbrev pub is_idle_as : ℕ → ℕ → ℕ → Place → Bool
 is_idle_as last places q y = nat_le (q + 1) places && (not (not (y.object == 0)) && nat_le (given_of y) last)
 
-module _ (a : Inside) (free : List ℕ) (order : List (List ℕ)) (is : Shows a free order) (p : ℕ) (l : p < length a.places.items) (x : Place) (places : ArrayVec Place) (set : places.items ≡ slice_set a.places.items p x) where
+module _ (a : Inside) (free : List ℕ) (order : List (List ℕ)) (is : IsArranged a free order) (p : ℕ) (l : p < length a.places.items) (x : Place) (places : ArrayVec Place) (set : places.items ≡ slice_set a.places.items p x) where
   same_length : length a.places.items ≡ length places.items
   same_length = sym (ap length set ∙ length-set a.places.items p x)
 
@@ -31,7 +31,7 @@ module _ (a : Inside) (free : List ℕ) (order : List (List ℕ)) (is : Shows a 
       → (IsTrue (not (x.object == 0)) → 1 ≤ given_of x) → given_of x ≤ a.last + 1
       → times p (flat order_now) ≡ (if not (x.object == 0) then 1 else 0) → ((q : ℕ) → q ≢ p → times q (flat order_now) ≡ times q (flat order))
       → times p free_now ≡ (if is_idle_as a.last (length a.places.items) p x then 1 else 0) → ((q : ℕ) → q ≢ p → times q free_now ≡ times q free)
-      → n ≡ length free_now → Shows (changed a n places rings) free_now order_now
+      → n ≡ length free_now → IsArranged (changed a n places rings) free_now order_now
   still_shows n rings free_now order_now links frames are given within once others idle spared count = record {
     few = let e = is.few in rw (set, length-set) e;
     last_fits = is.last_fits;
@@ -48,7 +48,7 @@ module _ (a : Inside) (free : List ℕ) (order : List (List ℕ)) (is : Shows a 
   }
 
 -- a place that is taken out of its ring
-module _ (a : Inside) (free : List ℕ) (order : List (List ℕ)) (is : Shows a free order) (p : ℕ) (here : 1 ≤ times p (flat (free ∷ order))) where
+module _ (a : Inside) (free : List ℕ) (order : List (List ℕ)) (is : IsArranged a free order) (p : ℕ) (here : 1 ≤ times p (flat (free ∷ order))) where
   pub place_low : p < length a.places.items
   place_low = ⊎_elim (λ (l : p < length a.places.items). l) (λ (g : length a.places.items ≤ p). absurd (let none = times_below is p g in omega arith)) (cases_lt p (length a.places.items))
 

@@ -33,7 +33,7 @@ abbrev pub table : Inside → Table
 table a = table_of a (order_of a)
 
 -- these are the free places, and those of each frame
-pub record Shows (a : Inside) (free : List ℕ) (order : List (List ℕ)) : Type 0 where
+pub record IsArranged (a : Inside) (free : List ℕ) (order : List (List ℕ)) : Type 0 where
   pub few : length a.places.items ≤ MOST_LOCALS
   pub last_fits : a.last < 2 ^ 32
   pub given : (p : ℕ) → IsTrue (is_taken a.places.items p) → 1 ≤ given_of (place_at a.places.items p)
@@ -47,4 +47,4 @@ pub record Shows (a : Inside) (free : List ℕ) (order : List (List ℕ)) : Type
   pub count : a.free ≡ length free
 
 abbrev pub IsTable : Inside → Type 0
-IsTable a = Shows a (free_of a) (order_of a)
+IsTable a = IsArranged a (free_of a) (order_of a)

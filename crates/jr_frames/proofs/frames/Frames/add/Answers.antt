@@ -7,7 +7,7 @@ use Rattle.jr_frames.specs.declared.place.Place.{Place}
 use Rattle.jr_frames.specs.declared.frames.Frames.TheInside.{Inside}
 use Rattle.jr_frames.specs.Table.{Table, IsNext, IsOnly}
 use Rattle.jr_frames.specs.Places.{given_of, place_at}
-use Rattle.jr_frames.specs.Shown.{table, free_of, order_of, Shows, IsTable}
+use Rattle.jr_frames.specs.Shown.{table, free_of, order_of, IsArranged, IsTable}
 use Rattle.jr_frames.proofs.Times.{without, length_without}
 use Rattle.jr_frames.proofs.LastRing.{with_end}
 use Rattle.jr_frames.proofs.Showing.{is_table, table_is}
@@ -74,7 +74,7 @@ one_less c =
 abbrev inside_now : goal.After-self-2-1 → Inside
 inside_now c = changed c.self.inside (c.self.inside.free - 1) (places c) c.put_last.new.self
 
-shows : (c : goal.After-self-2-1) → Shows (inside_now c) (without c.args.handle.index (free_of c.self.inside)) (with_end (order_of c.self.inside) c.args.handle.index)
+shows : (c : goal.After-self-2-1) → IsArranged (inside_now c) (without c.args.handle.index (free_of c.self.inside)) (with_end (order_of c.self.inside) c.args.handle.index)
 shows c = added_shows c.self.inside (free_of c.self.inside) (order_of c.self.inside) c.self.invariant c.args.handle (next c) c.take_out.new.self.links.items c.take_out.ensures
     (c.len.result - 1) (at_end c.self.inside c.len.result c.self.invariant c.len.ensures.value) c.args.object c.give.new.self (gave c) (places c) (places_are c) c.put_last.new.self c.put_last.ensures (c.self.inside.free - 1) (one_less c) c.requires.object
 

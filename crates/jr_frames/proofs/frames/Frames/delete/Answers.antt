@@ -8,7 +8,7 @@ use Rattle.jr_frames.specs.declared.frames.Frames.TheInside.{Inside}
 use Rattle.jr_frames.specs.Table.{Table, IsOnly}
 use Rattle.jr_frames.specs.Rings.{IsPutLast}
 use Rattle.jr_frames.specs.Places.{given_of, unused, place_at}
-use Rattle.jr_frames.specs.Shown.{table, free_of, order_of, Shows, IsTable}
+use Rattle.jr_frames.specs.Shown.{table, free_of, order_of, IsArranged, IsTable}
 use Rattle.jr_frames.proofs.Times.{without}
 use Rattle.jr_frames.proofs.Showing.{is_table, table_is}
 use Rattle.jr_frames.proofs.FreePlaces.{free_few}
@@ -85,7 +85,7 @@ given_low c =
 abbrev inside_free : goal.After-self-then-given-from-1 → Inside
 inside_free c = changed c.self.inside (c.self.inside.free + 1) (places_of c.self.inside c.deref_mut.result.now c.from.result) c.put_last.new.self
 
-shows_free : (c : goal.After-self-then-given-from-1) → Shows (inside_free c) (free_of c.self.inside ++ c.args.handle.index ∷ []) (map (without c.args.handle.index) (order_of c.self.inside))
+shows_free : (c : goal.After-self-then-given-from-1) → IsArranged (inside_free c) (free_of c.self.inside ++ c.args.handle.index ∷ []) (map (without c.args.handle.index) (order_of c.self.inside))
 shows_free c = returned_shows c.self.inside (free_of c.self.inside) (order_of c.self.inside) c.self.invariant c.args.handle (some c) c.take_out.new.self.links.items c.take_out.ensures
     (places_of c.self.inside c.deref_mut.result.now c.from.result) (places_are c.self.inside c.deref_mut.result.now c.from.result c.args.handle.index c.deref_mut.ensures.value c.from.ensures)
     c.put_last.new.self (put c) (given_low c)
@@ -130,7 +130,7 @@ given_high c =
 abbrev inside_retired : goal.Else-given-from → Inside
 inside_retired c = changed c.self.inside c.self.inside.free (places_of c.self.inside c.deref_mut.result.now c.from.result) c.take_out.new.self
 
-shows_retired : (c : goal.Else-given-from) → Shows (inside_retired c) (free_of c.self.inside) (map (without c.args.handle.index) (order_of c.self.inside))
+shows_retired : (c : goal.Else-given-from) → IsArranged (inside_retired c) (free_of c.self.inside) (map (without c.args.handle.index) (order_of c.self.inside))
 shows_retired c = retired_shows c.self.inside (free_of c.self.inside) (order_of c.self.inside) c.self.invariant c.args.handle (some_else c) c.take_out.new.self.links.items c.take_out.ensures
     (places_of c.self.inside c.deref_mut.result.now c.from.result) (places_are c.self.inside c.deref_mut.result.now c.from.result c.args.handle.index c.deref_mut.ensures.value c.from.ensures)
     c.take_out.new.self refl (given_high c)

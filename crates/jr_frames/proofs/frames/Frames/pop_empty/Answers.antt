@@ -5,7 +5,7 @@ use Rattle.jr_frames.specs.declared.rings.Rings.{Rings}
 use Rattle.jr_frames.specs.declared.frames.Frames.TheInside.{Inside}
 use Rattle.jr_frames.specs.Table.{Table, with_frames}
 use Rattle.jr_frames.specs.Places.{ref_at}
-use Rattle.jr_frames.specs.Shown.{table, free_of, order_of, Shows, IsTable}
+use Rattle.jr_frames.specs.Shown.{table, free_of, order_of, IsArranged, IsTable}
 use Rattle.jr_frames.proofs.LastRing.{lists_before}
 use Rattle.jr_frames.proofs.Showing.{is_table, table_is}
 use Rattle.jr_frames.proofs.Changing.{changed}
@@ -22,7 +22,7 @@ one_less a rings is less =
     let short : length (take (length a.rings.links.items - 1) a.rings.links.items) ≡ length a.rings.links.items - 1 = length-take-le (length a.rings.links.items - 1) a.rings.links.items (omega arith) in
     omega arith
 
-shows : (c : goal.After-pop) → Shows (changed c.self.inside c.self.inside.free c.self.inside.places c.pop.new.self) (free_of c.self.inside) (lists_before (order_of c.self.inside))
+shows : (c : goal.After-pop) → IsArranged (changed c.self.inside c.self.inside.free c.self.inside.places c.pop.new.self) (free_of c.self.inside) (lists_before (order_of c.self.inside))
 shows c = popped_shows c.self.inside (free_of c.self.inside) (order_of c.self.inside) c.self.invariant c.pop.new.self c.pop.ensures
     (two c.self.inside _ c.self.view_is c.requires.above) (one_less c.self.inside c.pop.new.self c.self.invariant c.pop.ensures)
     (empty_last c.self.inside (order_of c.self.inside) (ap (λ (t : Table). last_frame t.frames.frames) c.self.view_is ∙ c.requires.empty))
