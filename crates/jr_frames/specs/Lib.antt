@@ -1,0 +1,4 @@
+pub mod Table
+pub mod Places
+pub mod Rings
+pub mod Shown

@@ -1,0 +1,177 @@
+//! The local references of a thread, in frames.
+use crate::place::Place;
+use crate::rings::{MOST_PLACES, Rings};
+use arrayvec::ArrayVec;
+use jr_model::FRAMES;
+use jr_word::{Config, HandleParts, RefKind};
+use std::marker::Model;
+
+/// The local references of a thread, in frames.
+#[derive(Drop)]
+pub struct Frames {
+    thread: u8,
+    last: u32,
+    /// How many places are free.
+    free: u16,
+    /// Every place, by number.
+    places: ArrayVec<Place, MOST_PLACES>,
+    /// The free places, and those of each frame.
+    rings: Rings,
+}
+
+impl Model for Frames {
+    ghost use Rattle.jr_frames.specs.Table.{Table};
+
+    ghost Value = { Table };
+
+    ghost use Rattle.jr_frames.specs.Shown.{table, IsTable};
+
+    ghost view = { table };
+
+    ghost invariant = { IsTable };
+}
+
+impl Frames {
+    ghost use Rattle.std.specs.Prelude.{◌≡◌, ◌≢◌, ◌≤◌, ◌==◌, ◌<◌, ◌+◌, ◌↔◌, [], IsTrue, length, IfSome, IfNone, IsSome, Some, None};
+    ghost use Rattle.jr_model.specs.declared.frames.TheConstants.{FRAMES};
+    ghost use Rattle.jr_model.specs.Frames.{fresh_frames, object_of, object_at, free_places, IsAdded, without_local, pushed, popped, last_frame};
+    ghost use Rattle.jr_frames.specs.Table.{IsNext, IsOnly, TakesOldest, with_frames, oldest_handle};
+
+    /// No reference, and as many places as the configuration says.
+    pub fn new(thread: u8, config: &Config, last: u32) -> Frames
+        requires { config.now.locals ≤ Config.MOST_LOCALS }
+        ensures { result ≡ record { frames = fresh_frames config.now.locals; thread = thread; last = last } }
+    {
+        let mut places = ArrayVec::new();
+        for _ in 0..config.locals {
+            places.push(Place::default());
+        }
+        let free = config.locals as u16;
+        Frames {
+            thread,
+            last,
+            free,
+            places,
+            rings: Rings::new(free),
+        }
+    }
+
+    /// The handle that a new reference gets, if a place is free.
+    pub fn next(&self) -> Option<HandleParts>
+        ensures none { IfNone result (free_places self.now.last self.now.frames ≡ 0) }
+        ensures some { IfSome result (IsNext self.now) }
+    {
+        if self.free == 0 {
+            return None;
+        }
+        let index = self.rings.newer(self.places.len() as u16);
+        Some(HandleParts {
+            kind: RefKind::Local,
+            serial: self.places[usize::from(index)].given() as u32,
+            index,
+            owner: self.thread,
+        })
+    }
+
+    /// Whether so many places are free.
+    pub fn has_room(&self, wanted: u32) -> bool
+        ensures { IsTrue result ↔ (wanted ≤ free_places self.now.last self.now.frames) }
+    {
+        wanted <= u32::from(self.free)
+    }
+
+    /// Adds a reference to an object, in the newest frame, at a free place's handle.
+    pub fn add(&mut self, handle: HandleParts, object: u16)
+        requires next { IsNext self.old handle }
+        requires object { object ≢ 0 }
+        ensures added { IsAdded self.old.last self.old.thread self.old.frames (record { handle = handle; object = object }) self.new.frames }
+        ensures only { IsOnly self.old.frames handle.index (Some object) self.new.frames }
+        ensures same { (self.new.thread ≡ self.old.thread) × (self.new.last ≡ self.old.last) }
+    {
+        let end = (self.rings.links.len() - 1) as u16;
+        self.places[usize::from(handle.index)].give(object);
+        self.rings.take_out(handle.index);
+        self.rings.put_last(end, handle.index);
+        self.free -= 1;
+    }
+
+    /// The object of a handle, if its reference stands.
+    pub fn object_of(&self, handle: HandleParts) -> Option<u16>
+        ensures object { result ≡ object_of self.now.frames handle }
+        ensures place { IfSome result (λ o. object_at self.now.frames handle.index ≡ Some o) }
+    {
+        let place = self.places.get(usize::from(handle.index))?;
+        if place.object != 0 && place.gave_last(self.thread, handle) {
+            Some(place.object)
+        } else {
+            None
+        }
+    }
+
+    /// Removes the reference of a handle that stands, whichever frame has it.
+    pub fn delete(&mut self, handle: HandleParts)
+        requires { IsSome (object_of self.old.frames handle) }
+        ensures deleted { self.new.frames ≡ without_local self.old.frames handle }
+        ensures only { IsOnly self.old.frames handle.index None self.new.frames }
+        ensures same { (self.new.thread ≡ self.old.thread) × (self.new.last ≡ self.old.last) }
+    {
+        self.places[usize::from(handle.index)].object = 0;
+        self.rings.take_out(handle.index);
+        if self.places[usize::from(handle.index)].given() <= u64::from(self.last) {
+            let end = self.places.len() as u16;
+            self.rings.put_last(end, handle.index);
+            self.free += 1;
+        }
+    }
+
+    /// How many frames there are.
+    pub fn depth(&self) -> usize
+        ensures { result ≡ length self.now.frames.frames }
+    {
+        self.rings.links.len() - self.places.len() - 1
+    }
+
+    /// Whether the base frame is the only one.
+    pub fn is_base(&self) -> bool
+        ensures { result ≡ (length self.now.frames.frames == 1) }
+    {
+        self.depth() == 1
+    }
+
+    /// Adds a frame, which is empty.
+    pub fn push(&mut self)
+        requires { length self.old.frames.frames < FRAMES }
+        ensures { self.new ≡ with_frames self.old (pushed self.old.frames) }
+    {
+        self.rings.push();
+    }
+
+    /// The handle of the oldest reference of the newest frame, none where that is empty.
+    pub fn oldest_of_newest(&self) -> Option<HandleParts>
+        ensures oldest { result ≡ oldest_handle (last_frame self.now.frames.frames) }
+        ensures empty { IfNone result (last_frame self.now.frames.frames ≡ []) }
+        ensures stands { IfSome result (λ h. IsSome (object_of self.now.frames h)) }
+        ensures rest { IfSome result (TakesOldest self.now.frames) }
+    {
+        let end = (self.rings.links.len() - 1) as u16;
+        let index = self.rings.newer(end);
+        if index == end {
+            return None;
+        }
+        Some(HandleParts {
+            kind: RefKind::Local,
+            serial: (self.places[usize::from(index)].given() - 1) as u32,
+            index,
+            owner: self.thread,
+        })
+    }
+
+    /// Takes the newest frame away, which is empty, and not the base frame.
+    pub fn pop_empty(&mut self)
+        requires empty { last_frame self.old.frames.frames ≡ [] }
+        requires above { 2 ≤ length self.old.frames.frames }
+        ensures { self.new ≡ with_frames self.old (popped self.old.frames) }
+    {
+        self.rings.pop();
+    }
+}
