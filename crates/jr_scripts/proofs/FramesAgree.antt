@@ -9,7 +9,7 @@ use Rattle.jr_model.proofs.Agreement.{agree_spared, places_did, places_from, spa
 use Rattle.jr_steps.specs.declared.known.Known.{Known}
 use Rattle.jr_steps.specs.Acts.{act_of_put}
 use Rattle.jr_steps.specs.Knowing.{view, state_of, HasObject, Holds}
-use Rattle.jr_scripts.specs.Table.{IsOnly}
+use Rattle.jr_frames.specs.Table.{IsOnly}
 
 -- the object of a local reference is present
 pub local_present : (k : Known) (f : Frames) (p o : ℕ) → IsLegal k.config k.last k.seen → Holds f k → object_at f p ≡ Some o → HasObject o k

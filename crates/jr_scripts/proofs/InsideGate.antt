@@ -16,7 +16,7 @@ use Rattle.jr_steps.specs.declared.known.Known.{Known}
 use Rattle.jr_steps.specs.Knowing.{Facts, Standing, standing_after, anything, keeps, lets_go, Holds, HasNoLocals, MayKnow, Took}
 use Rattle.jr_steps.proofs.StepFacts.{goes_did, goes_stepped}
 use Rattle.jr_gate.specs.Acting.{ActedTo, IsWithdrawn}
-use Rattle.jr_scripts.specs.Table.{Table}
+use Rattle.jr_frames.specs.Table.{Table}
 use Rattle.jr_scripts.specs.Performing.{Performed, Calls, CallsWhole, IsAsBefore}
 use Rattle.jr_scripts.specs.Ready.{StandsReady, KeepsOwner, Completes}
 use Rattle.jr_scripts.proofs.SameRoom.{as_before}

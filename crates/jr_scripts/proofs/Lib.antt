@@ -9,13 +9,6 @@ pub mod AloneCalls
 pub mod AloneDeeds
 pub mod AloneAnswers
 pub mod WholeRun
-pub mod Places
-pub mod PlacesAdded
-pub mod PlacesChanged
-pub mod PlacesDeleted
-pub mod PlacesFree
-pub mod PlacesNamed
-pub mod PlacesRoom
 pub mod FramesAgree
 pub mod SameRoom
 pub mod Spending

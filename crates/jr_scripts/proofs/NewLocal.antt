@@ -17,7 +17,7 @@ use Rattle.jr_steps.specs.declared.known.Known.{Known}
 use Rattle.jr_steps.specs.Knowing.{AreOf, Facts, Standing, view, keeps, HasObject, HasOptional, Holds, MayKnow, Took}
 use Rattle.jr_model.proofs.InRoom.{in_room}
 use Rattle.jr_steps.proofs.StepFacts.{goes_did}
-use Rattle.jr_scripts.specs.Table.{Table, IsNext, IsOnly}
+use Rattle.jr_frames.specs.Table.{Table, IsNext, IsOnly}
 use Rattle.jr_scripts.specs.Performing.{FoundPresent, Resolves, Calls, MakesLocal, MakesPlain}
 use Rattle.jr_scripts.specs.Ready.{StandsReady}
 use Rattle.jr_scripts.proofs.SameRoom.{nothing_changed, as_before, still_before, but_fresh}

@@ -25,7 +25,7 @@ use Rattle.jr_model.proofs.Runs.{ran_then, ran_err}
 use Rattle.jr_steps.specs.declared.known.Known.{Known}
 use Rattle.jr_steps.specs.Knowing.{AreOf, Facts, Standing, IsOf, view, anything, keeps, HasOptional, MayKnow, Took, fresh_from}
 use Rattle.jr_steps.proofs.StepFacts.{goes_did}
-use Rattle.jr_scripts.specs.Table.{Table, IsNext, IsOnly}
+use Rattle.jr_frames.specs.Table.{Table, IsNext, IsOnly}
 use Rattle.jr_scripts.specs.Performing.{Published, LearnsNew, MakesPlain, moment, object_made, publication}
 use Rattle.jr_scripts.specs.Ready.{StandsReady}
 use Rattle.jr_scripts.proofs.SameRoom.{as_before, still_before}

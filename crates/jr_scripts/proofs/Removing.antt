@@ -22,7 +22,7 @@ use Rattle.jr_steps.specs.declared.known.Known.{Known}
 use Rattle.jr_steps.specs.Knowing.{AreOf, Facts, IsOf, view, anything, keeps, HasOptional, Took}
 use Rattle.jr_steps.proofs.StepFacts.{goes_did}
 use Rattle.jr_model.specs.References.{removal, local_removal}
-use Rattle.jr_scripts.specs.Table.{IsOnly}
+use Rattle.jr_frames.specs.Table.{IsOnly}
 use Rattle.jr_scripts.specs.Performing.{Performed, Calls}
 use Rattle.jr_scripts.proofs.Spending.{made_of, spending, spend_step}
 use Rattle.jr_scripts.proofs.SameRoom.{as_before}

@@ -1,7 +1,5 @@
 pub mod Performing
 pub mod Reading
-pub mod Table
-pub mod Places
 pub mod Ready
 pub mod Deeds
 pub mod Envs

@@ -5,7 +5,7 @@ use Rattle.jr_model.specs.declared.event.Role.{Role}
 use Rattle.jr_model.specs.declared.event.Role.TheVariants.{Outside}
 use Rattle.jr_model.specs.Calls.{Call}
 use Rattle.jr_steps.specs.Knowing.{Facts, MayKnow, Holds}
-use Rattle.jr_scripts.specs.Table.{Table}
+use Rattle.jr_frames.specs.Table.{Table}
 use Rattle.jr_scripts.specs.Performing.{CallsWhole}
 
 -- frames of the same thread, with as many places

@@ -9,7 +9,7 @@ ghost use Rattle.jr_steps.specs.Knowing.{MayKnow, HasOptional};
 ghost use Rattle.jr_scripts.specs.Performing.{Calls, MakesLocal};
 ghost use Rattle.jr_scripts.specs.Ready.{StandsReady, KeepsOwner};
 
-use crate::frames::Frames;
+use jr_frames::Frames;
 use crate::object::publish;
 use crate::reference::{Reference, belongs_elsewhere, lies_outside, names_kind, names_local};
 use crate::resolve::{resolve, resolve_both, type_of};

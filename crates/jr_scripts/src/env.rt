@@ -3,7 +3,7 @@ ghost use Rattle.jr_model.specs.declared.event.Role.TheVariants.{Outside};
 ghost use Rattle.jr_scripts.specs.Ready.{StandsReady};
 
 use crate::calls::{Comparison, Creation, LocalCreation, LocalRemoval, Making, Removal, Typing};
-use crate::frames::Frames;
+use jr_frames::Frames;
 use crate::reference::Reference;
 use crate::work::make;
 use jr_steps::Steps;

@@ -5,7 +5,6 @@ mod all;
 pub mod calls;
 pub mod env;
 pub mod env_call;
-pub mod frames;
 mod names;
 pub mod object;
 mod part;

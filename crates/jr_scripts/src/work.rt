@@ -5,7 +5,7 @@ ghost use Rattle.jr_model.specs.declared.event.Role.TheVariants.{Outside};
 ghost use Rattle.jr_model.specs.Calls.{entered as entered_call};
 ghost use Rattle.jr_scripts.specs.Ready.{StandsReady, Completes};
 
-use crate::frames::Frames;
+use jr_frames::Frames;
 use jr_gate::enter;
 use jr_steps::Steps;
 use jr_word::Fault;
