@@ -9,12 +9,12 @@ ghost use Rattle.jr_steps.specs.Knowing.{MayKnow, HasOptional};
 ghost use Rattle.jr_scripts.specs.Performing.{Calls, MakesLocal};
 ghost use Rattle.jr_scripts.specs.Ready.{StandsReady, KeepsOwner};
 
-use jr_frames::Frames;
 use crate::object::publish;
 use crate::reference::{Reference, belongs_elsewhere, lies_outside, names_kind, names_local};
 use crate::resolve::{resolve, resolve_both, type_of};
 use crate::row::{create, delete};
 use crate::work::Work;
+use jr_frames::Frames;
 use jr_steps::Steps;
 use jr_word::{Fault, HandleParts, Kind, RefKind};
 

@@ -3,9 +3,9 @@ ghost use Rattle.jr_model.specs.declared.event.Role.TheVariants.{Outside};
 ghost use Rattle.jr_scripts.specs.Ready.{StandsReady};
 
 use crate::calls::{Comparison, Creation, LocalCreation, LocalRemoval, Making, Removal, Typing};
-use jr_frames::Frames;
 use crate::reference::Reference;
 use crate::work::make;
+use jr_frames::Frames;
 use jr_steps::Steps;
 use jr_word::{Fault, Handle, RefKind};
 

@@ -8,9 +8,9 @@ ghost use Rattle.jr_model.specs.References.{resolved, resolved_both, typing};
 ghost use Rattle.jr_scripts.specs.Reading.{word_of, OwnerFits};
 ghost use Rattle.jr_scripts.specs.Performing.{Resolves, Calls};
 
-use jr_frames::Frames;
 use crate::reference::{Reference, belongs_elsewhere, lies_outside, names_local};
 use crate::row::{look, object_found};
+use jr_frames::Frames;
 use jr_model::Found;
 use jr_steps::Steps;
 use jr_word::{Fault, HandleParts, RefKind};
