@@ -9,7 +9,7 @@ use Rattle.jr_steps.specs.declared.known.Holdings.{Holdings}
 use Rattle.jr_steps.specs.declared.known.Move.{Move}
 use Rattle.jr_steps.specs.Holdings.{with_move, with_header, header_in, move_of, HasDone}
 use Rattle.jr_steps.specs.Collecting.{IsThere, ShowsElement, CanMove, ShowsMoved, placed, CanPlace, ShowsPlaced}
-use Rattle.jr_steps.specs.Knowing.{AreOf, Leads, Facts, Standing, IsOf, MayKnow, Sees, Saw, Took, state_of, keeps, KnowsHeader}
+use Rattle.jr_steps.specs.Knowing.{AreOf, Leads, Facts, MayKnow, Sees, Saw, Took, state_of, keeps, KnowsHeader}
 use Rattle.jr_steps.proofs.CollectorFacts.{tables_seen, sees_more, there_left}
 use Rattle.jr_compact.specs.Sliding.{CanSlide}
 

@@ -11,7 +11,7 @@ use Rattle.jr_model.specs.Refusals.{Grounds}
 use Rattle.jr_model.proofs.Stays.{did_nothing}
 use Rattle.jr_model.proofs.Windows.{window_nothing}
 use Rattle.jr_steps.specs.declared.known.Known.{Known}
-use Rattle.jr_steps.specs.Knowing.{AreOf, Facts, IsOf, MayKnow, Takes, view}
+use Rattle.jr_steps.specs.Knowing.{AreOf, Facts, MayKnow, Takes, view}
 use Rattle.jr_heap.specs.Heap.{Called}
 
 -- what takes no step

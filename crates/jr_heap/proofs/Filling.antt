@@ -13,7 +13,7 @@ use Rattle.jr_model.proofs.Windows.{window_within}
 use Rattle.jr_steps.specs.declared.known.Known.{Known}
 use Rattle.jr_steps.specs.declared.known.Holdings.{Holdings}
 use Rattle.jr_steps.specs.Holdings.{words_at}
-use Rattle.jr_steps.specs.Knowing.{AreOf, Leads, Facts, IsOf, MayKnow, view, HasWord, IsWordNow, ShowsWord, Took, Takes}
+use Rattle.jr_steps.specs.Knowing.{AreOf, Leads, Facts, MayKnow, view, HasWord, IsWordNow, ShowsWord, Took, Takes}
 use Rattle.jr_steps.proofs.StepFacts.{goes_did}
 use Rattle.jr_heap.specs.Heap.{Called, by_steps, own_words, IsOwn, IsReady, Fills, no_act}
 use Rattle.jr_heap.proofs.Calling.{called_by}

@@ -19,7 +19,7 @@ use Rattle.jr_steps.specs.declared.known.Known.{Known}
 use Rattle.jr_steps.specs.declared.known.Holdings.{Holdings}
 use Rattle.jr_steps.specs.Acts.{acts_of_publication}
 use Rattle.jr_steps.specs.Holdings.{header_in, with_header}
-use Rattle.jr_steps.specs.Knowing.{AreOf, Facts, Standing, IsOf, MayKnow, Goes, view, state_of, words_for, without_range_of, HasObject, KnowsHeader, IsFilled, ShowsPublished, TookWith, Takes}
+use Rattle.jr_steps.specs.Knowing.{AreOf, Facts, Standing, MayKnow, Goes, view, state_of, words_for, without_range_of, HasObject, KnowsHeader, IsFilled, ShowsPublished, TookWith, Takes}
 use Rattle.jr_steps.proofs.StepFacts.{goes_did}
 use Rattle.jr_heap.specs.Heap.{Called, by_at_most, HoldsHeader, number_at_turn}
 use Rattle.jr_heap.proofs.Calling.{called_by}

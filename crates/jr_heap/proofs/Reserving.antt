@@ -23,7 +23,7 @@ use Rattle.jr_steps.specs.declared.known.Holdings.{Holdings}
 use Rattle.jr_steps.specs.declared.loads.TopLoad.TheVariants as top
 use Rattle.jr_steps.specs.Acts.{acts_of_top_load}
 use Rattle.jr_steps.specs.Holdings.{words_at, with_range}
-use Rattle.jr_steps.specs.Knowing.{AreOf, Facts, Standing, IsOf, MayKnow, view, anything, keeps, ShowsUsed, WasUsed, ShowsRange, Took, Takes}
+use Rattle.jr_steps.specs.Knowing.{AreOf, Facts, Standing, MayKnow, view, anything, keeps, ShowsUsed, WasUsed, ShowsRange, Took, Takes}
 use Rattle.jr_steps.proofs.StepFacts.{goes_did, used_now, may_then}
 use Rattle.jr_heap.specs.Heap.{Called, by_steps, reserve_steps, IsOwn, Gains}
 use Rattle.jr_heap.proofs.Calling.{no_step, called_by, called_none}

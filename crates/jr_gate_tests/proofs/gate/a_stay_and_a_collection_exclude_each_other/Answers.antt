@@ -1,6 +1,6 @@
 use Rattle.std.proofs.Common.{◌∙◌, sym, subst}
 use Rattle.jr_steps.specs.Knowing.{CanReopen, MayKnow}
-use Rattle.jr_rule.specs.Passes.{Knows}
+use Rattle.jr_rule.specs.Passes.{facts_of}
 use Rattle.jr_gate_tests.proofs.gate.a_stay_and_a_collection_exclude_each_other.Goals as goal
 
 pub reopen-requires-clause-closed : goal.reopen-requires-clause-closed
