@@ -11,8 +11,7 @@ use Rattle.jr_model.specs.State.{Handle}
 use Rattle.jr_model.specs.Frames.{Frames}
 use Rattle.jr_model.specs.Calls.{Call}
 use Rattle.jr_model.specs.Checks.{Word}
-use Rattle.jr_steps.specs.declared.known.Known.{Known}
-use Rattle.jr_steps.specs.Knowing.{AreOf, Facts, IsOf}
+use Rattle.jr_steps.specs.Knowing.{AreOf, Facts}
 use Rattle.jr_scripts.specs.Performing.{CallsWhole, moment, IsMade}
 use Rattle.jr_scripts.specs.Reading.{IsReadAs}
 use Rattle.jr_scripts.specs.Deeds.{Deed, DoesDeed, answered_by, call_by, call, call_on, call_on_both, packed, packed_if}

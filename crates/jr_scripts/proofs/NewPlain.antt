@@ -23,7 +23,7 @@ use Rattle.jr_model.proofs.Moments.{sometime_last, one_act}
 use Rattle.jr_model.proofs.Windows.{window_act, window_within}
 use Rattle.jr_model.proofs.Runs.{ran_then, ran_err}
 use Rattle.jr_steps.specs.declared.known.Known.{Known}
-use Rattle.jr_steps.specs.Knowing.{AreOf, Facts, Standing, IsOf, view, anything, keeps, HasOptional, MayKnow, Took, fresh_from}
+use Rattle.jr_steps.specs.Knowing.{AreOf, Facts, Standing, view, anything, keeps, HasOptional, MayKnow, Took, fresh_from}
 use Rattle.jr_steps.proofs.StepFacts.{goes_did}
 use Rattle.jr_frames.specs.Table.{Table, IsNext, IsOnly}
 use Rattle.jr_scripts.specs.Performing.{Published, LearnsNew, MakesPlain, moment, object_made, publication}

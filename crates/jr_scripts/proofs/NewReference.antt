@@ -15,7 +15,7 @@ use Rattle.jr_model.specs.Parts.{created}
 use Rattle.jr_model.proofs.Agreement.{spares_places}
 use Rattle.jr_model.proofs.Runs.{ran_done, ran_then, ran_err, ran_give, did_legal, ran_created, ran_row_full}
 use Rattle.jr_steps.specs.declared.known.Known.{Known}
-use Rattle.jr_steps.specs.Knowing.{AreOf, Facts, Standing, IsOf, view, fresh_from, HasObject, Holds, MayKnow}
+use Rattle.jr_steps.specs.Knowing.{AreOf, Facts, Standing, view, fresh_from, HasObject, Holds, MayKnow}
 use Rattle.jr_scripts.specs.Performing.{Searched, search_acts, Moment, moment, IsMade, Resolves, Calls}
 use Rattle.jr_scripts.proofs.SameRoom.{as_before, still_before}
 use Rattle.jr_scripts.proofs.FramesAgree.{holds_did}

@@ -18,8 +18,7 @@ use Rattle.jr_model.specs.Parts.{delete, delete_found, drop_local, local_answer,
 use Rattle.jr_model.proofs.Agreement.{spares_places}
 use Rattle.jr_model.proofs.Windows.{window_act}
 use Rattle.jr_model.proofs.Runs.{ran_done, ran_then, ran_err}
-use Rattle.jr_steps.specs.declared.known.Known.{Known}
-use Rattle.jr_steps.specs.Knowing.{AreOf, Facts, IsOf, view, anything, keeps, HasOptional, Took}
+use Rattle.jr_steps.specs.Knowing.{AreOf, Facts, view, anything, keeps, HasOptional, Took}
 use Rattle.jr_steps.proofs.StepFacts.{goes_did}
 use Rattle.jr_model.specs.References.{removal, local_removal}
 use Rattle.jr_frames.specs.Table.{IsOnly}

@@ -17,7 +17,7 @@ use Rattle.jr_model.proofs.Stays.{did_nothing}
 use Rattle.jr_model.proofs.Windows.{window_nothing}
 use Rattle.jr_model.proofs.Runs.{ran_done}
 use Rattle.jr_steps.specs.declared.known.Known.{Known}
-use Rattle.jr_steps.specs.Knowing.{AreOf, Facts, IsOf, view, anything, keeps, Holds, Goes, Took}
+use Rattle.jr_steps.specs.Knowing.{AreOf, Facts, view, anything, keeps, Holds, Goes, Took}
 use Rattle.jr_steps.proofs.StepFacts.{goes_did, looked_present}
 use Rattle.jr_scripts.specs.Performing.{FoundPresent, Resolves, Calls}
 use Rattle.jr_scripts.specs.Reading.{word_of}

@@ -12,8 +12,7 @@ use Rattle.jr_model.specs.Checks.{Word, is_malformed, is_out_of_bounds, is_forei
 use Rattle.jr_model.specs.Parts.{looked}
 use Rattle.jr_model.specs.References.{resolved_both}
 use Rattle.jr_model.proofs.Runs.{ran_then, ran_err, ran_give}
-use Rattle.jr_steps.specs.declared.known.Known.{Known}
-use Rattle.jr_steps.specs.Knowing.{AreOf, Facts, IsOf}
+use Rattle.jr_steps.specs.Knowing.{AreOf, Facts}
 use Rattle.jr_scripts.specs.Performing.{Resolves, Calls}
 use Rattle.jr_scripts.proofs.SameRoom.{still_before}
 use Rattle.jr_scripts.proofs.Reading.{neither, ran_either, ran_neither}

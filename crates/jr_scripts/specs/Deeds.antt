@@ -11,7 +11,6 @@ use Rattle.jr_model.specs.History.{state}
 use Rattle.jr_model.specs.Frames.{Frames}
 use Rattle.jr_model.specs.Calls.{Call}
 use Rattle.jr_model.specs.Checks.{Word}
-use Rattle.jr_steps.specs.declared.known.Known.{Known}
 use Rattle.jr_steps.specs.Holdings.{empty}
 use Rattle.jr_steps.specs.Knowing.{Facts, Leads, Holds}
 use Rattle.jr_scripts.specs.Reading.{IsReadAs}
