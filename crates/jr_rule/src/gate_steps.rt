@@ -17,7 +17,7 @@ use jr_word::{GateParts, GateWord};
 use std::marker::Brand;
 
 impl Row {
-    ghost use Rattle.jr_rule.specs.Passes.{facts_of, known_of, standing_of, Knows, IsAt, IsSame};
+    ghost use Rattle.jr_rule.specs.Passes.{facts_of, known_of, IsAt, IsSame};
 
     pub(crate) fn go_in(&self, pass: &mut Pass) -> bool
         requires row { IsAt self.now pass.old }

@@ -17,7 +17,7 @@ use jr_word::{Header, HeaderParts, TopWord};
 use std::marker::Brand;
 
 impl Row {
-    ghost use Rattle.jr_rule.specs.Passes.{facts_of, standing_of, Knows, IsAt};
+    ghost use Rattle.jr_rule.specs.Passes.{facts_of, standing_of, IsAt};
 
     pub(crate) fn see_header(&self, pass: &mut Pass, object: u16) -> Option<HeaderParts>
         requires row { IsAt self.now pass.old }

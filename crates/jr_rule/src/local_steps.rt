@@ -12,7 +12,7 @@ use jr_word::LocalWord;
 use std::marker::Brand;
 
 impl Row {
-    ghost use Rattle.jr_rule.specs.Passes.{facts_of, standing_of, Knows, IsAt};
+    ghost use Rattle.jr_rule.specs.Passes.{facts_of, standing_of, IsAt};
 
     pub(crate) fn put_local(&self, pass: &mut Pass, place: u16, object: Option<u16>)
         requires row { IsAt self.now pass.old }

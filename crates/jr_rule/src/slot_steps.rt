@@ -14,7 +14,7 @@ use jr_word::{HandleParts, RefKind, SlotParts, SlotWord};
 use std::marker::Brand;
 
 impl Row {
-    ghost use Rattle.jr_rule.specs.Passes.{facts_of, standing_of, Knows, IsAt};
+    ghost use Rattle.jr_rule.specs.Passes.{facts_of, standing_of, IsAt};
 
     pub(crate) fn see_slot(&self, pass: &mut Pass, index: u16, name: SlotLoad) -> SlotParts
         requires row { IsAt self.now pass.old }
