@@ -1,3 +1,6 @@
 mod Alone
 mod Closing
 mod Withdrawing
+pub mod SameRoom
+pub mod Spending
+pub mod HandedOn

@@ -25,7 +25,7 @@ use Rattle.jr_rule.specs.Passes.{facts_of, known_of, standing_of, Knows, IsAt, I
 use Rattle.jr_steps.proofs.StepFacts.{goes_did}
 use Rattle.jr_scripts.specs.declared.part.Job.{Job}
 use Rattle.jr_scripts.specs.declared.part.ThreadRun.{ThreadRun}
-use Rattle.jr_scripts.specs.Performing.{Moment, moment}
+use Rattle.jr_gate.specs.Performing.{Moment, moment}
 use Rattle.jr_scripts.specs.Explains.{Explained}
 use Rattle.jr_scripts.specs.Text.{heading, ending}
 use Rattle.jr_scripts.specs.Runs.{RanThread}

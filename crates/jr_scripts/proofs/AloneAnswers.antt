@@ -5,7 +5,7 @@ use Rattle.jr_model.specs.declared.event.Event.{Event}
 use Rattle.jr_model.specs.History.{History, PassView}
 use Rattle.jr_syntax.specs.declared.command.Command.{Command}
 use Rattle.jr_scripts.specs.Names.{Names}
-use Rattle.jr_scripts.specs.Performing.{Moment}
+use Rattle.jr_gate.specs.Performing.{Moment}
 use Rattle.jr_scripts.specs.Explains.{Explains, nothing, then}
 use Rattle.jr_scripts.specs.AloneAnswers.{AnswersAlone}
 use Rattle.jr_scripts.specs.Runs.{IsUnbarred}

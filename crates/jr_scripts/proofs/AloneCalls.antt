@@ -17,8 +17,8 @@ use Rattle.jr_model.specs.RefusedCalls.{is_harmless, may_precede, ChangesNothing
 use Rattle.jr_model.proofs.Exactly.{append_all}
 use Rattle.jr_model.proofs.Moments.{prefix_trans}
 use Rattle.jr_model.proofs.Stays.{mine_did}
-use Rattle.jr_scripts.specs.Performing.{Moment}
-use Rattle.jr_scripts.specs.Deeds.{Deed, call_by}
+use Rattle.jr_gate.specs.Performing.{Moment}
+use Rattle.jr_env.specs.Deeds.{Deed, call_by}
 use Rattle.jr_scripts.specs.AloneAnswers.{IsAloneFault}
 use Rattle.jr_scripts.proofs.AloneHistories.{all_back, own_acts, own_events, still_so, stays_occupied, stays_present}
 use Rattle.jr_scripts.proofs.Uncontended.{IsUncontendedFault, is_uncontended_act, AreUncontended, IsUncontended}

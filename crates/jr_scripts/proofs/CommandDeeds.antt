@@ -10,11 +10,11 @@ use Rattle.jr_syntax.specs.declared.verb.OnBoth.TheVariants.{Same}
 use Rattle.jr_steps.specs.Knowing.{Facts}
 use Rattle.jr_scripts.specs.declared.reply.Reply.{Reply}
 use Rattle.jr_scripts.specs.declared.reply.Reply.TheVariants as replies
-use Rattle.jr_scripts.specs.Reading.{IsReadAs}
-use Rattle.jr_scripts.specs.Performing.{Moment}
-use Rattle.jr_scripts.specs.Deeds.{Deed, DoesDeed, done, ◌>>◌}
+use Rattle.jr_env.specs.Reading.{IsReadAs}
+use Rattle.jr_gate.specs.Performing.{Moment}
+use Rattle.jr_env.specs.Deeds.{Deed, DoesDeed, done, ◌>>◌}
 use Rattle.jr_scripts.specs.Commands.{deleted_of, deletion}
-use Rattle.jr_scripts.proofs.SameRoom.{nothing_changed}
+use Rattle.jr_gate.proofs.SameRoom.{nothing_changed}
 
 -- a verb of two references is this one
 pub only_same : (v : OnBoth) → v ≡ Same

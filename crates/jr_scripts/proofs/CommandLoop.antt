@@ -11,13 +11,13 @@ use Rattle.jr_steps.specs.declared.known.Known.{Known}
 use Rattle.jr_steps.specs.Knowing.{Facts, Holds}
 use Rattle.jr_scripts.specs.declared.reply.Reply.{Reply}
 use Rattle.jr_scripts.specs.Names.{Names}
-use Rattle.jr_scripts.specs.Deeds.{DoesDeed}
+use Rattle.jr_env.specs.Deeds.{DoesDeed}
 use Rattle.jr_scripts.specs.Commands.{deed}
 use Rattle.jr_scripts.specs.Text.{printed, names_after}
 use Rattle.jr_scripts.specs.Explains.{Explains, nothing, then, unwritten}
 use Rattle.jr_scripts.specs.Runs.{RanThread, WritesDown}
-use Rattle.jr_scripts.specs.Performing.{IsAsBefore, moment}
-use Rattle.jr_scripts.proofs.SameRoom.{nothing_changed, still_before}
+use Rattle.jr_gate.specs.Performing.{IsAsBefore, moment}
+use Rattle.jr_gate.proofs.SameRoom.{nothing_changed, still_before}
 
 module _ {S : Type 0} (facts : S → Facts) where
   -- so far these commands were done, the output grew, and what was known explains by how much

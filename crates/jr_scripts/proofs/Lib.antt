@@ -1,4 +1,3 @@
-pub mod EnvCalls
 pub mod CommandDeeds
 pub mod Retries
 pub mod CommandLoop
@@ -9,21 +8,6 @@ pub mod AloneCalls
 pub mod AloneDeeds
 pub mod AloneAnswers
 pub mod WholeRun
-pub mod FramesAgree
-pub mod SameRoom
-pub mod Spending
-pub mod SlotSearch
-pub mod HandedOn
-pub mod Deleting
-pub mod Publishing
-pub mod Reading
-pub mod Resolving
-pub mod ResolvingBoth
-pub mod InsideGate
-pub mod NewReference
-pub mod NewPlain
-pub mod NewLocal
-pub mod Removing
 pub mod JobHandles
 pub mod OneOfAll
 pub mod AllTogether

@@ -4,11 +4,11 @@ use Rattle.jr_word.specs.declared.fault.Fault.{Fault}
 use Rattle.jr_word.specs.declared.fault.Fault.TheVariants as fault
 use Rattle.jr_model.specs.Frames.{Frames}
 use Rattle.jr_steps.specs.Knowing.{Facts}
-use Rattle.jr_scripts.specs.Deeds.{Deed, DoesDeed}
+use Rattle.jr_env.specs.Deeds.{Deed, DoesDeed}
 use Rattle.jr_scripts.specs.Tries.{answered, again, gave_up, is_tried_again}
 use Rattle.jr_scripts.specs.Commands.{tried}
 use Rattle.jr_scripts.proofs.CommandDeeds.{does_more, does_nothing}
-use Rattle.jr_scripts.proofs.SameRoom.{still_before}
+use Rattle.jr_gate.proofs.SameRoom.{still_before}
 
 module _ {S : Type 0} {facts : S → Facts} {A : Type 0} {deed : Deed A} where
   pub does_from_first : {a b : S} {f g : Frames} {answer : Result A Fault} (n : ℕ) → DoesDeed facts a b f g (tried (n - 0) deed) answer → DoesDeed facts a b f g (tried n deed) answer

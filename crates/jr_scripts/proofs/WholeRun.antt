@@ -13,7 +13,7 @@ use Rattle.jr_steps.specs.declared.known.Known.{Known}
 use Rattle.jr_steps.specs.Knowing.{AreOf, Facts, view, Holds}
 use Rattle.jr_rule.specs.declared.plain.PlainSteps.{PlainSteps}
 use Rattle.jr_rule.specs.Plain.{unseen, standing_alone, facts_from, Shows}
-use Rattle.jr_scripts.specs.Performing.{moment}
+use Rattle.jr_gate.specs.Performing.{moment}
 use Rattle.jr_scripts.specs.Text.{heading, ending}
 use Rattle.jr_scripts.specs.Explains.{Explained}
 use Rattle.jr_scripts.specs.Runs.{RanThread, IsRun, seeing, opening_moment}

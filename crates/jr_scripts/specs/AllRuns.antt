@@ -13,7 +13,7 @@ use Rattle.jr_syntax.specs.declared.thread.ThreadPart.{ThreadPart}
 use Rattle.jr_syntax.specs.declared.script.Script.{Script}
 use Rattle.jr_rule.specs.declared.pass.Pass.{Pass}
 use Rattle.jr_rule.specs.Passes.{facts_of, standing_of}
-use Rattle.jr_scripts.specs.Performing.{Moment}
+use Rattle.jr_gate.specs.Performing.{Moment}
 use Rattle.jr_steps.specs.Holdings.{empty}
 use Rattle.jr_scripts.specs.Text.{heading, ending}
 use Rattle.jr_scripts.specs.Explains.{Explained}

@@ -8,7 +8,7 @@ use Rattle.jr_model.specs.History.{PassView, state}
 use Rattle.jr_model.specs.Frames.{Frames, free_places}
 use Rattle.jr_syntax.specs.declared.command.Command.{Command}
 use Rattle.jr_scripts.specs.Names.{Names}
-use Rattle.jr_scripts.specs.Performing.{Moment}
+use Rattle.jr_gate.specs.Performing.{Moment}
 use Rattle.jr_scripts.specs.Explains.{Explains, nothing, then}
 
 -- each index of the room is occupied

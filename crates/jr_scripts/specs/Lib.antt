@@ -1,8 +1,3 @@
-pub mod Performing
-pub mod Reading
-pub mod Ready
-pub mod Deeds
-pub mod Envs
 pub mod Names
 pub mod Tries
 pub mod Commands

@@ -16,7 +16,7 @@ use Rattle.jr_syntax.specs.declared.script.Script.{Script}
 use Rattle.jr_steps.specs.declared.known.Known.{Known}
 use Rattle.jr_steps.specs.Knowing.{Facts, Holds}
 use Rattle.jr_steps.specs.Holdings.{empty}
-use Rattle.jr_scripts.specs.Performing.{IsAsBefore, Moment, moment}
+use Rattle.jr_gate.specs.Performing.{IsAsBefore, Moment, moment}
 use Rattle.jr_scripts.specs.declared.reply.Reply.{Reply}
 use Rattle.jr_scripts.specs.Names.{Names}
 use Rattle.jr_scripts.specs.Text.{printed, names_after, heading, ending}

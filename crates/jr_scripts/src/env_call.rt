@@ -1,13 +1,13 @@
 //! The calls of an env as values, so that whoever makes one may make it again.
 
-use crate::env::Env;
+use jr_env::Env;
 use jr_steps::Steps;
 use jr_word::{Fault, Handle};
 
 /// A call of an env, with what it is handed.
 pub trait EnvCall<S: Steps> {
-    ghost use Rattle.jr_scripts.specs.Deeds.{Deed};
-    ghost use Rattle.jr_scripts.specs.Envs.{Does};
+    ghost use Rattle.jr_env.specs.Deeds.{Deed};
+    ghost use Rattle.jr_env.specs.Envs.{Does};
 
     /// What it answers.
     type Answer: Drop;
@@ -28,7 +28,7 @@ pub trait EnvCall<S: Steps> {
 pub struct NewPlain;
 
 impl<S: Steps> EnvCall<S> for NewPlain {
-    ghost use Rattle.jr_scripts.specs.Deeds.{new_plain};
+    ghost use Rattle.jr_env.specs.Deeds.{new_plain};
 
     type Answer = Handle;
 
@@ -45,7 +45,7 @@ pub struct NewGlobalRef(pub Handle);
 
 impl<S: Steps> EnvCall<S> for NewGlobalRef {
     ghost use Rattle.jr_word.specs.declared.handle.RefKind.TheVariants.{Global};
-    ghost use Rattle.jr_scripts.specs.Deeds.{new_reference};
+    ghost use Rattle.jr_env.specs.Deeds.{new_reference};
 
     type Answer = Option<Handle>;
 
@@ -62,7 +62,7 @@ pub struct NewWeakGlobalRef(pub Handle);
 
 impl<S: Steps> EnvCall<S> for NewWeakGlobalRef {
     ghost use Rattle.jr_word.specs.declared.handle.RefKind.TheVariants.{Weak};
-    ghost use Rattle.jr_scripts.specs.Deeds.{new_reference};
+    ghost use Rattle.jr_env.specs.Deeds.{new_reference};
 
     type Answer = Option<Handle>;
 
@@ -78,7 +78,7 @@ impl<S: Steps> EnvCall<S> for NewWeakGlobalRef {
 pub struct NewLocalRef(pub Handle);
 
 impl<S: Steps> EnvCall<S> for NewLocalRef {
-    ghost use Rattle.jr_scripts.specs.Deeds.{new_local_ref};
+    ghost use Rattle.jr_env.specs.Deeds.{new_local_ref};
 
     type Answer = Option<Handle>;
 
@@ -95,7 +95,7 @@ pub struct DeleteGlobalRef(pub Handle);
 
 impl<S: Steps> EnvCall<S> for DeleteGlobalRef {
     ghost use Rattle.jr_word.specs.declared.handle.RefKind.TheVariants.{Global};
-    ghost use Rattle.jr_scripts.specs.Deeds.{delete_reference};
+    ghost use Rattle.jr_env.specs.Deeds.{delete_reference};
 
     type Answer = ();
 
@@ -112,7 +112,7 @@ pub struct DeleteWeakGlobalRef(pub Handle);
 
 impl<S: Steps> EnvCall<S> for DeleteWeakGlobalRef {
     ghost use Rattle.jr_word.specs.declared.handle.RefKind.TheVariants.{Weak};
-    ghost use Rattle.jr_scripts.specs.Deeds.{delete_reference};
+    ghost use Rattle.jr_env.specs.Deeds.{delete_reference};
 
     type Answer = ();
 
@@ -128,7 +128,7 @@ impl<S: Steps> EnvCall<S> for DeleteWeakGlobalRef {
 pub struct DeleteLocalRef(pub Handle);
 
 impl<S: Steps> EnvCall<S> for DeleteLocalRef {
-    ghost use Rattle.jr_scripts.specs.Deeds.{delete_local_ref};
+    ghost use Rattle.jr_env.specs.Deeds.{delete_local_ref};
 
     type Answer = ();
 
@@ -144,7 +144,7 @@ impl<S: Steps> EnvCall<S> for DeleteLocalRef {
 pub struct IsSameObject(pub Handle, pub Handle);
 
 impl<S: Steps> EnvCall<S> for IsSameObject {
-    ghost use Rattle.jr_scripts.specs.Deeds.{is_same_object};
+    ghost use Rattle.jr_env.specs.Deeds.{is_same_object};
 
     type Answer = bool;
 
@@ -160,7 +160,7 @@ impl<S: Steps> EnvCall<S> for IsSameObject {
 pub struct GetObjectRefType(pub Handle);
 
 impl<S: Steps> EnvCall<S> for GetObjectRefType {
-    ghost use Rattle.jr_scripts.specs.Deeds.{get_object_ref_type};
+    ghost use Rattle.jr_env.specs.Deeds.{get_object_ref_type};
 
     type Answer = u8;
 

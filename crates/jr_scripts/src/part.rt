@@ -3,7 +3,7 @@
 ghost use Rattle.jr_scripts.specs.AllRuns.{RanPass};
 ghost use Rattle.jr_scripts.specs.Jobs.{IsForPart};
 
-use crate::env::Env;
+use jr_env::Env;
 use crate::run::run_thread;
 use jr_rule::{Pass, Room, RoomSteps};
 use jr_syntax::ThreadPart;

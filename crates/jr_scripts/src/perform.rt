@@ -1,17 +1,17 @@
 //! The calls that a command makes.
 
 ghost use Rattle.jr_scripts.specs.declared.reply.Reply.TheVariants as replies;
-ghost use Rattle.jr_scripts.specs.Deeds.{answered_by};
-ghost use Rattle.jr_scripts.specs.Envs.{Does};
+ghost use Rattle.jr_env.specs.Deeds.{answered_by};
+ghost use Rattle.jr_env.specs.Envs.{Does};
 ghost use Rattle.jr_scripts.specs.Commands.{tried, deletion, type_of as type_deed, deed};
 
-use crate::env::Env;
+use jr_env::Env;
 use crate::env_call::{
     DeleteGlobalRef, DeleteLocalRef, DeleteWeakGlobalRef, EnvCall, GetObjectRefType, IsSameObject,
     NewGlobalRef, NewLocalRef, NewPlain, NewWeakGlobalRef,
 };
 use crate::names::Names;
-use crate::reference::Reference;
+use jr_env::Reference;
 use crate::reply::{IntoReply, Reply};
 use crate::retry::retry;
 use jr_steps::Steps;

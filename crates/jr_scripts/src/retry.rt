@@ -1,11 +1,11 @@
 //! Calls that are made again.
 
 ghost use Rattle.std.specs.Prelude.{◌≡◌, Result};
-ghost use Rattle.jr_scripts.specs.Envs.{Does};
+ghost use Rattle.jr_env.specs.Envs.{Does};
 ghost use Rattle.jr_scripts.specs.Tries.{is_tried_again};
 ghost use Rattle.jr_scripts.specs.Commands.{tried};
 
-use crate::env::Env;
+use jr_env::Env;
 use crate::env_call::EnvCall;
 use jr_steps::Steps;
 use jr_word::Fault;

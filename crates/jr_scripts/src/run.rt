@@ -5,7 +5,7 @@ ghost use Rattle.jr_word.specs.declared.fault.Fault.TheVariants.{Memory};
 ghost use Rattle.jr_scripts.specs.Text.{sets, names_after};
 ghost use Rattle.jr_scripts.specs.Runs.{RanThread, WritesDown};
 
-use crate::env::Env;
+use jr_env::Env;
 use crate::names::Names;
 use crate::perform::perform;
 use crate::printed::printed;

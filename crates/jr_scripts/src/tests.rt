@@ -5,7 +5,7 @@
 
 mod references;
 
-use crate::env::Env;
+use jr_env::Env;
 use crate::run::run_thread;
 use crate::single::run_one;
 use jr_model::Summary;

@@ -3,7 +3,7 @@
 ghost use Rattle.std.specs.Prelude.{All, IfOk};
 ghost use Rattle.jr_rule.specs.Passes.{IsOpened};
 
-use crate::env::Env;
+use jr_env::Env;
 use jr_rule::{Pass, PlainSteps, Room, RoomSteps};
 use jr_steps::Steps;
 use jr_word::{Config, Fault, Handle};

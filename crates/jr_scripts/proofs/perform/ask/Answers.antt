@@ -1,4 +1,4 @@
-use Rattle.jr_scripts.proofs.EnvCalls.{does_answer, does_refuse}
+use Rattle.jr_env.proofs.EnvCalls.{does_answer, does_refuse}
 use Rattle.jr_scripts.proofs.perform.ask.Goals as goal
 
 pub returns-in_err-answer : goal.returns-in_err-answer

@@ -1,7 +1,7 @@
 use Rattle.std.proofs.Common.{Result, ◌-◌}
 use Rattle.jr_word.specs.declared.fault.Fault.{Fault}
 use Rattle.jr_model.specs.Frames.{Frames}
-use Rattle.jr_scripts.specs.Deeds.{DoesDeed}
+use Rattle.jr_env.specs.Deeds.{DoesDeed}
 use Rattle.jr_scripts.specs.Commands.{tried}
 use Rattle.jr_scripts.proofs.retry.retry.Given as goal
 

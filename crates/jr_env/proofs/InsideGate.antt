@@ -1,0 +1,124 @@
+-- A call between an entry and its exit.
+use Rattle.std.proofs.Common.{◌≡◌, ℕ, [], ◌∷◌, Result, Err, length, refl, sym, ap, subst, ◌∙◌}
+use Rattle.std.proofs.lemmas.List.{length-replicate}
+use mathlib.Core.Logic.{∥∥₁_map}
+use Rattle.std.specs.Result.{IsErrAnd}
+use Rattle.jr_word.specs.declared.config.Config.{Config}
+use Rattle.jr_word.specs.declared.fault.Fault.{Fault}
+use Rattle.jr_word.specs.declared.fault.Fault.TheVariants.{Barred}
+use Rattle.jr_model.specs.declared.event.Role.{Role}
+use Rattle.jr_model.specs.declared.event.Role.TheVariants.{Outside, Within}
+use Rattle.jr_model.specs.declared.event.Act.TheVariants.{Enter, Knock, Leave, Withdraw}
+use Rattle.jr_model.specs.Frames.{Frames, fresh_frames, object_at}
+use Rattle.jr_model.specs.Calls.{Call, entered}
+use Rattle.jr_model.proofs.Runs.{ran_barred, ran_entered}
+use Rattle.jr_steps.specs.declared.known.Known.{Known}
+use Rattle.jr_steps.specs.Knowing.{Facts, Standing, standing_after, anything, keeps, lets_go, Holds, HasNoLocals, MayKnow, Took}
+use Rattle.jr_steps.proofs.StepFacts.{goes_did, goes_stepped}
+use Rattle.jr_gate.specs.Acting.{ActedTo, IsWithdrawn}
+use Rattle.jr_frames.specs.Table.{Table}
+use Rattle.jr_gate.specs.Performing.{Performed, IsAsBefore}
+use Rattle.jr_env.specs.Works.{Calls, CallsWhole}
+use Rattle.jr_env.specs.Ready.{StandsReady, KeepsOwner, Completes}
+use Rattle.jr_gate.proofs.SameRoom.{as_before}
+use Rattle.jr_gate.proofs.Spending.{made_of, spending, spend_first, spend_last, spend_more, spend_step, spend_barred}
+use Rattle.jr_env.proofs.FramesAgree.{holds_did}
+use Rattle.jr_gate.proofs.HandedOn.{handed_on}
+
+-- frames that are left as they are
+pub same_owner : (t : Table) → KeepsOwner t t
+same_owner t = record { thread = refl; last = refl; places = refl }
+
+abbrev with_role : Standing → Role → Standing
+with_role s r = record s { role = r }
+
+abbrev fresh_table : Standing → Table
+fresh_table s = record { frames = fresh_frames s.config.locals; thread = s.thread; last = s.last }
+
+-- an entry, work in between, and an exit
+left_before : {r s t u : Standing} → r.role ≡ Outside → s ≡ standing_after r (Enter ∷ []) → IsAsBefore s t → u ≡ standing_after t (Leave ∷ []) → IsAsBefore r u
+left_before {r} out e p l = record {
+  room = ap (λ (x : Standing). x.room) l ∙ (p.room ∙ ap (λ (x : Standing). x.room) e);
+  config = ap (λ (x : Standing). x.config) l ∙ (p.config ∙ ap (λ (x : Standing). x.config) e);
+  last = ap (λ (x : Standing). x.last) l ∙ (p.last ∙ ap (λ (x : Standing). x.last) e);
+  thread = ap (λ (x : Standing). x.thread) l ∙ (p.thread ∙ ap (λ (x : Standing). x.thread) e);
+  role = ap (λ (x : Standing). x.role) l ∙ sym out;
+}
+
+module _ {S : Type 0} {facts : S → Facts} where
+  -- after a call the frames are as ready as before
+  ready_after : {A : Type 0} {a b : S} {t u : Table} {role : Role} {silent : ℕ} {so : Known → Known → Type 0} {work : Call A} {answer : Result A Fault} → StandsReady facts role a t → KeepsOwner t u
+      → Performed facts a b t.frames u.frames silent (Holds t.frames) (λ s. work) answer (λ j k. so j k × Holds u.frames k) → StandsReady facts role b u
+  ready_after r o p = record {
+    role_is = p.stands_is.role ∙ r.role_is;
+    owner = o.thread ∙ (r.owner ∙ sym p.stands_is.thread);
+    last = o.last ∙ (r.last ∙ sym p.stands_is.last);
+    places = o.places ∙ (r.places ∙ sym (ap (λ (r : Config). r.locals) p.stands_is.config));
+    agrees = ∥∥₁_map r.agrees (λ k. let x = p.ran k.0 k.1 k.2 in (x.0, x.1, x.3.1));
+  }
+
+  pub ready_called : {A : Type 0} {a b : S} {t u : Table} {role : Role} {work : Call A} {answer : Result A Fault} → StandsReady facts role a t → KeepsOwner t u → Calls facts a b t.frames u.frames work answer → StandsReady facts role b u
+  ready_called r o p = ready_after {so = keeps} r o p
+
+  -- a thread without local references
+  pub ready_new : (a : S) (t : Table) → t ≡ fresh_table (facts a).stands → (facts a).stands.role ≡ Outside → ((k : Known) → (facts a).knows k → HasNoLocals k) → MayKnow facts a anything → StandsReady facts Outside a t
+  ready_new a t is out fresh some = record {
+    role_is = out;
+    owner = ap (λ (u : Table). u.thread) is;
+    last = ap (λ (u : Table). u.last) is;
+    places = ap (λ (u : Table). length u.frames.given) is ∙ length-replicate (facts a).stands.config.locals 0;
+    agrees = ∥∥₁_map some (λ k. (k.0, k.1, λ p. fresh k.0 k.1 p ∙ sym (ap (λ (u : Table). object_at u.frames p) is)));
+  }
+
+  pub ready_entered : {a b : S} {t : Table} → StandsReady facts Outside a t → Took facts a b (Enter ∷ []) anything keeps → StandsReady facts Within b t
+  ready_entered {t} r e = record {
+    role_is = ap (λ (s : Standing). s.role) e.stands_is;
+    owner = r.owner ∙ sym (ap (λ (s : Standing). s.thread) e.stands_is);
+    last = r.last ∙ sym (ap (λ (s : Standing). s.last) e.stands_is);
+    places = r.places ∙ sym (ap (λ (s : Standing). s.config.locals) e.stands_is);
+    agrees = ∥∥₁_map r.agrees (λ k. let x = e.goes k.0 k.1 tt in (x.0, x.1, holds_did k.0 x.0 t.frames (Enter ∷ []) (goes_did x.2) (refl, tt) k.2));
+  }
+
+  -- a call that takes nothing beside its acts takes no more than this
+  pub completes_more : {A : Type 0} {a b : S} {t u : Table} {call : Call A} {answer : Result A Fault} (silent : ℕ) → Completes facts a b t u 0 call answer → Completes facts a b t u silent call answer
+  completes_more silent p = record {
+    call = record { stands_is = p.call.stands_is; ran = λ k s m. let x = p.call.ran k s m in (x.0, x.1, made_of (spend_more silent (spending x.2)) x.2.ran, x.3) };
+    ready = p.ready;
+  }
+
+  module _ {A : Type 0} (work : Config → ℕ → ℕ → Call A) where
+    calls_barred : {a b : S} (f : Frames) → (facts a).stands.role ≡ Outside → ActedTo facts a b (Knock ∷ Withdraw ∷ []) anything IsWithdrawn → CallsWhole facts a b f f 0 (entered (work (facts a).stands.config (facts a).stands.last (facts a).stands.thread)) (Err Barred)
+    calls_barred {a} f out t = record {
+      stands_is = as_before _ (t.stands_is ∙ ap (with_role (facts a).stands) (sym out));
+      ran = λ k s m. let g = t.leads k s tt in
+          (g.0, g.1, made_of (spend_barred t k s f f) (ran_barred f (work (facts a).stands.config (facts a).stands.last (facts a).stands.thread) g.2 g.3.2), (g.3.0.0, holds_did k g.0 f (Knock ∷ Withdraw ∷ []) g.2 (refl, (refl, tt)) m));
+    }
+
+    calls_entered : {a b c d : S} {f g : Frames} (silent : Config → ℕ) {so : Known → Known → Type 0} {answer : Result A Fault} → (facts a).stands.role ≡ Outside → Took facts a b (Enter ∷ []) anything keeps
+        → Performed facts b c f g (silent (facts b).stands.config) (Holds f) (λ s. work (facts b).stands.config (facts b).stands.last (facts b).stands.thread) answer (λ j k. so j k × Holds g k) → Took facts c d (Leave ∷ []) anything lets_go
+        → CallsWhole facts a d f g (silent (facts a).stands.config) (entered (work (facts a).stands.config (facts a).stands.last (facts a).stands.thread)) answer
+    calls_entered {a} {b} {c} {f} {g} silent {so} {answer} out e p u =
+        let q = subst (λ (s : Standing). Performed facts b c f g (silent s.config) (Holds f) (λ t. work s.config s.last s.thread) answer (λ j k. so j k × Holds g k)) e.stands_is p in
+        record {
+          stands_is = left_before out e.stands_is p.stands_is u.stands_is;
+          ran = λ k s m.
+              let x = e.goes k s tt in
+              let y = q.ran x.0 x.1 (holds_did k x.0 f (Enter ∷ []) (goes_did x.2) (refl, tt) m) in
+              let z = u.goes y.0 y.1 tt in
+              let h = holds_did k x.0 f (Enter ∷ []) (goes_did x.2) (refl, tt) m in
+              let count = spend_first (spend_last (spend_step e k s tt f f) (spending y.2)) (spend_step u y.0 y.1 tt g g) in
+              (z.0, z.1, made_of count (ran_entered (goes_stepped x.2) y.2.ran (goes_stepped z.2)), (z.3, holds_did y.0 z.0 g (Leave ∷ []) (goes_did z.2) (refl, tt) y.3.1));
+        }
+
+    -- an entry that found the gate shut
+    pub completes_barred : {a b : S} {t : Table} {e : Fault} → StandsReady facts Outside a t → (answer : Result A Fault) → IsErrAnd answer (λ y. y ≡ e) → (e ≡ Barred) × ActedTo facts a b (Knock ∷ Withdraw ∷ []) anything IsWithdrawn
+        → Completes facts a b t t 0 (entered (work (facts a).stands.config (facts a).stands.last (facts a).stands.thread)) answer
+    completes_barred {t} r answer given why =
+        let p = handed_on answer (subst (λ y. IsErrAnd answer (λ z. z ≡ y)) why.0 given) (calls_barred t.frames r.role_is why.1) in
+        record { call = p; ready = ready_after {so = lets_go} r (same_owner t) p }
+
+    -- work between an entry and its exit
+    pub completes : {a b c d : S} {t u : Table} (silent : Config → ℕ) {so : Known → Known → Type 0} {answer : Result A Fault} → StandsReady facts Outside a t → Took facts a b (Enter ∷ []) anything keeps
+        → Performed facts b c t.frames u.frames (silent (facts b).stands.config) (Holds t.frames) (λ s. work (facts b).stands.config (facts b).stands.last (facts b).stands.thread) answer (λ j k. so j k × Holds u.frames k) → KeepsOwner t u → Took facts c d (Leave ∷ []) anything lets_go
+        → Completes facts a d t u (silent (facts a).stands.config) (entered (work (facts a).stands.config (facts a).stands.last (facts a).stands.thread)) answer
+    completes silent {so = so} r e p o l = let q = calls_entered silent {so = so} r.role_is e p l in record { call = q; ready = ready_after {so = lets_go} r o q }

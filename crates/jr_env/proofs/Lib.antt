@@ -1,0 +1,11 @@
+pub mod FramesAgree
+pub mod Publishing
+pub mod Reading
+pub mod Resolving
+pub mod ResolvingBoth
+pub mod InsideGate
+pub mod NewReference
+pub mod NewPlain
+pub mod NewLocal
+pub mod Removing
+pub mod EnvCalls

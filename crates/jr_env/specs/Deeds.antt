@@ -1,0 +1,102 @@
+-- What the calls of an env do, from one moment of its pass and frames to another.
+use Rattle.std.specs.Prelude.{◌≡◌, ◌⊎◌, ℕ, Bool, Option, Some, None, Result, Ok, Err}
+use Rattle.jr_word.specs.declared.handle.RefKind.{RefKind}
+use Rattle.jr_word.specs.declared.handle.Handle.{Handle as HandleWord}
+use Rattle.jr_word.specs.Handle.{handle_word}
+use Rattle.jr_word.specs.declared.config.Config.{Config}
+use Rattle.jr_word.specs.declared.fault.Fault.{Fault}
+use Rattle.jr_model.specs.State.{Handle, State}
+use Rattle.jr_model.specs.References as references
+use Rattle.jr_model.specs.History.{state}
+use Rattle.jr_model.specs.Frames.{Frames}
+use Rattle.jr_model.specs.Calls.{Call}
+use Rattle.jr_model.specs.Checks.{Word}
+use Rattle.jr_steps.specs.Holdings.{empty}
+use Rattle.jr_steps.specs.Knowing.{Facts, Leads, Holds}
+use Rattle.jr_env.specs.Reading.{IsReadAs}
+use Rattle.jr_gate.specs.Performing.{IsAsBefore, Moment, moment, IsMade}
+
+-- from an old moment this answer and the new moment may come
+abbrev pub Deed : Type 0 → Type 1
+Deed A = Moment → Result A Fault → Moment → Type 0
+
+-- a call of the env: its events, and the answer that it may have; it takes one operation for each event, and at most so many more; and afterwards the thread holds nothing
+abbrev pub call_by : {A : Type 0} → (Config → ℕ) → (Config → ℕ → ℕ → State → Call A) → Deed A
+call_by silent asked old answer new = IsMade (silent old.pass.config) old new (asked old.pass.config old.pass.last old.pass.thread (state new.pass.seen)) answer × (new.held ≡ empty)
+
+-- a call that takes no operation but its events
+abbrev pub call : {A : Type 0} → (Config → ℕ → ℕ → State → Call A) → Deed A
+call asked = call_by (λ c. 0) asked
+
+-- a call that is handed a reference word
+abbrev pub call_on : {A : Type 0} → ℕ → (Config → ℕ → ℕ → State → Word → Call A) → Deed A
+call_on w asked old answer new = (a : Word) × IsReadAs w a × call (λ c last t s. asked c last t s a) old answer new
+
+-- a call that is handed two reference words
+abbrev pub call_on_both : {A : Type 0} → ℕ → ℕ → (Config → ℕ → ℕ → State → Word → Word → Call A) → Deed A
+call_on_both v w asked old answer new = (a b : Word) × IsReadAs v a × IsReadAs w b × call (λ c last t s. asked c last t s a b) old answer new
+
+-- an answer, with no event
+abbrev pub done : {A : Type 0} → A → Deed A
+done x old answer new = (answer ≡ Ok x) × (new ≡ old)
+
+-- a refusal or an answer that is decided without an event
+abbrev pub decided : {A : Type 0} → Result A Fault → Deed A
+decided r old answer new = (answer ≡ r) × (new ≡ old)
+
+infixl 1 ◌>>=◌
+infixl 1 ◌>>◌
+-- one and then the other; a refusal ends the deed
+abbrev pub ◌>>=◌ : {A B : Type 0} → Deed A → (A → Deed B) → Deed B
+◌>>=◌ {A} first next old answer new =
+    ((x : A) × (mid : Moment) × first old (Ok x) mid × next x mid answer new)
+    ⊎ ((e : Fault) × (answer ≡ Err e) × first old (Err e) new)
+
+abbrev pub ◌>>◌ : {A B : Type 0} → Deed A → Deed B → Deed B
+◌>>◌ first next = first >>= (λ _. next)
+
+-- the answer of a deed, in another form
+abbrev pub answered_by : {A B : Type 0} → (A → B) → Deed A → Deed B
+answered_by f first = first >>= (λ x. done (f x))
+
+-- the word of a handle, as native code holds it
+abbrev pub packed : Handle → HandleWord
+packed h = record { 0 = handle_word h }
+
+abbrev pub packed_if : Option Handle → Option HandleWord
+packed_if None = None
+packed_if (Some h) = Some (packed h)
+
+-- NewPlain: a plain object and a local reference to it, with at most one operation for each object number beside its events
+abbrev pub new_plain : Deed HandleWord
+new_plain = answered_by packed (call_by (λ c. c.objects) (λ c last t s. references.new_plain c last t))
+
+-- NewGlobalRef, NewWeakGlobalRef
+abbrev pub new_reference : RefKind → ℕ → Deed (Option HandleWord)
+new_reference kind w = answered_by packed_if (call_on w (λ c last t s a. references.new_reference c last t kind a))
+
+-- NewLocalRef
+abbrev pub new_local_ref : ℕ → Deed (Option HandleWord)
+new_local_ref w = answered_by packed_if (call_on w (λ c last t s a. references.new_local_ref c last t a))
+
+-- DeleteGlobalRef, DeleteWeakGlobalRef
+abbrev pub delete_reference : RefKind → ℕ → Deed (Unit {0})
+delete_reference kind w = call_on w (λ c last t s a. references.delete_reference c last t kind a)
+
+-- DeleteLocalRef
+abbrev pub delete_local_ref : ℕ → Deed (Unit {0})
+delete_local_ref w = call_on w (λ c last t s a. references.delete_local_ref c last t a)
+
+-- IsSameObject
+abbrev pub is_same_object : ℕ → ℕ → Deed Bool
+is_same_object v w = call_on_both v w (λ c last t s a b. references.is_same_object c last t a b)
+
+-- GetObjectRefType
+abbrev pub get_object_ref_type : ℕ → Deed ℕ
+get_object_ref_type w = call_on w (λ c last t s a. references.get_object_ref_type c last t a)
+
+module _ {S : Type 0} (facts : S → Facts) where
+  -- the deed was done: for whatever was known, something is known that it may lead to
+  pub record DoesDeed {A : Type 0} (old new : S) (before after : Frames) (deed : Deed A) (answer : Result A Fault) : Type 0 where
+    pub stands_is : IsAsBefore (facts old).stands (facts new).stands
+    pub did : Leads facts old new (Holds before) (λ k k'. Holds after k') (λ k k'. deed (moment (facts old).stands.fresh k before) answer (moment (facts new).stands.fresh k' after))

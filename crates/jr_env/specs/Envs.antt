@@ -1,0 +1,10 @@
+-- What a call of an env did.
+use Rattle.std.specs.Prelude.{Result}
+use Rattle.jr_word.specs.declared.fault.Fault.{Fault}
+use Rattle.jr_steps.specs.declared.steps.Steps.{Ghosts}
+use Rattle.jr_env.specs.declared.env.Env.{Env}
+use Rattle.jr_env.specs.Deeds.{Deed, DoesDeed}
+
+-- THE CALL DID THE DEED, with this answer
+abbrev pub Does : {S A : Type 0} {G : Ghosts S} → Env S G → Env S G → Deed A → Result A Fault → Type 0
+Does {G = G} old new deed answer = DoesDeed G.facts old.steps new.steps old.frames.frames new.frames.frames deed answer

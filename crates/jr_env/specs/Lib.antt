@@ -1,0 +1,6 @@
+pub mod Objects
+pub mod Works
+pub mod Reading
+pub mod Ready
+pub mod Deeds
+pub mod Envs

@@ -1,0 +1,328 @@
+//! The calls for the references of one thread, over its steps and its local references.
+ghost use Rattle.std.specs.Prelude.{◌≡◌, ◌≢◌, IfOk, IfSome};
+ghost use Rattle.jr_word.specs.declared.handle.RefKind.TheVariants.{Local};
+ghost use Rattle.jr_model.specs.declared.event.Role.TheVariants.{Within};
+ghost use Rattle.jr_gate.specs.Stays.{IsOwnStay};
+ghost use Rattle.jr_model.specs.Frames.{Frames as LocalFrames};
+ghost use Rattle.jr_model.specs.Checks.{Parts};
+ghost use Rattle.jr_model.specs.References.{new_local, removal, local_removal};
+ghost use Rattle.jr_steps.specs.Knowing.{MayKnow, HasOptional};
+ghost use Rattle.jr_env.specs.Works.{Calls, MakesLocal};
+ghost use Rattle.jr_env.specs.Ready.{StandsReady, KeepsOwner};
+
+use crate::object::publish;
+use crate::reference::{Reference, belongs_elsewhere, lies_outside, names_kind, names_local};
+use crate::resolve::{resolve, resolve_both, type_of};
+use crate::work::Work;
+use jr_frames::Frames;
+use jr_gate::Inside;
+use jr_row::{create, delete};
+use jr_steps::Steps;
+use jr_word::{Fault, HandleParts, Kind, RefKind};
+
+/// A plain object and a local reference to it: E9, E11.
+#[derive(Clone, Copy)]
+pub struct Making;
+
+impl<S: Steps> Work<S> for Making {
+    ghost use Rattle.std.specs.Prelude.{◌≡◌};
+    ghost use Rattle.jr_word.specs.declared.handle.RefKind.TheVariants.{Local};
+    ghost use Rattle.jr_model.specs.References.{making};
+    ghost use Rattle.jr_word.specs.declared.kind.Kind.TheVariants.{Plain};
+    ghost use Rattle.jr_env.specs.Objects.{LearnsNew};
+    ghost use Rattle.jr_env.specs.Works.{object_made};
+
+    type Answer = HandleParts;
+
+    ghost can_work = { λ _. Unit {0} };
+
+    ghost silent = { λ c. c.objects };
+
+    ghost asked = { λ _ c last t. making c last t };
+
+    ghost learns = { λ f answer j k. LearnsNew Plain (object_made f answer) j k };
+
+    ghost gives = { λ t h. (h.kind ≡ Local) × (h.owner ≡ t) };
+
+    fn work(
+        &self,
+        steps: &mut S,
+        inside: &Inside,
+        frames: &mut Frames,
+    ) -> Result<HandleParts, Fault> {
+        let Some(handle) = frames.next() else {
+            return Err(Fault::LocalsFull);
+        };
+        let object = publish(steps, Kind::Plain)?;
+        steps.put_local(handle.index, Some(object));
+        frames.add(handle, object);
+        Ok(handle)
+    }
+}
+
+/// A global or weak global reference to what a reference names, none for NULL: E2, E3, E8.
+#[derive(Clone, Copy)]
+pub struct Creation {
+    /// Of which kind, not local.
+    pub kind: RefKind,
+    /// What it shall name.
+    pub target: Reference,
+}
+
+impl<S: Steps> Work<S> for Creation {
+    ghost use Rattle.std.specs.Prelude.{◌≡◌, ◌≢◌, IfSome};
+    ghost use Rattle.jr_word.specs.declared.handle.RefKind.TheVariants.{Local};
+    ghost use Rattle.jr_steps.specs.Knowing.{keeps};
+    ghost use Rattle.jr_model.specs.References.{creation};
+    ghost use Rattle.jr_env.specs.Reading.{word_of, OwnerFits};
+
+    type Answer = Option<HandleParts>;
+
+    ghost can_work = { λ w. (w.kind ≢ Local) × OwnerFits w.target };
+
+    ghost silent = { λ _. 0 };
+
+    ghost asked = { λ w c last t. creation c last t w.kind (word_of w.target) };
+
+    ghost learns = { λ _ _ j k. keeps j k };
+
+    ghost gives = { λ t made. IfSome made (λ h. h.owner ≡ 0) };
+
+    fn work(
+        &self,
+        steps: &mut S,
+        inside: &Inside,
+        frames: &mut Frames,
+    ) -> Result<Option<HandleParts>, Fault> {
+        let Some(object) = resolve(steps, inside, frames, self.target)? else {
+            return Ok(None);
+        };
+        let handle = create(steps, inside, self.kind, object)?;
+        Ok(Some(handle))
+    }
+}
+
+/// A local reference to what a reference names, none for NULL: E2, E3, E9.
+#[derive(Clone, Copy)]
+pub struct LocalCreation(pub Reference);
+
+impl<S: Steps> Work<S> for LocalCreation {
+    ghost use Rattle.std.specs.Prelude.{◌≡◌, IfSome};
+    ghost use Rattle.jr_word.specs.declared.handle.RefKind.TheVariants.{Local};
+    ghost use Rattle.jr_steps.specs.Knowing.{keeps};
+    ghost use Rattle.jr_model.specs.References.{local_creation};
+    ghost use Rattle.jr_env.specs.Reading.{word_of, OwnerFits};
+
+    type Answer = Option<HandleParts>;
+
+    ghost can_work = { λ w. OwnerFits w.0 };
+
+    ghost silent = { λ _. 0 };
+
+    ghost asked = { λ w c last t. local_creation c last t (word_of w.0) };
+
+    ghost learns = { λ _ _ j k. keeps j k };
+
+    ghost gives = { λ t made. IfSome made (λ h. (h.kind ≡ Local) × (h.owner ≡ t)) };
+
+    fn work(
+        &self,
+        steps: &mut S,
+        inside: &Inside,
+        frames: &mut Frames,
+    ) -> Result<Option<HandleParts>, Fault> {
+        let object = resolve(steps, inside, frames, self.0)?;
+        make_local(steps, frames, object)
+    }
+}
+
+/// Deletes a global or weak global reference by the call for the kind: E2, E4.
+#[derive(Clone, Copy)]
+pub struct Removal {
+    /// Of which kind, not local.
+    pub kind: RefKind,
+    /// The reference.
+    pub target: Reference,
+}
+
+impl<S: Steps> Work<S> for Removal {
+    ghost use Rattle.std.specs.Prelude.{◌≢◌};
+    ghost use Rattle.jr_word.specs.declared.handle.RefKind.TheVariants.{Local};
+    ghost use Rattle.jr_steps.specs.Knowing.{keeps};
+    ghost use Rattle.jr_model.specs.References.{removal};
+    ghost use Rattle.jr_env.specs.Reading.{word_of, OwnerFits};
+
+    type Answer = ();
+
+    ghost can_work = { λ w. (w.kind ≢ Local) × OwnerFits w.target };
+
+    ghost silent = { λ _. 0 };
+
+    ghost asked = { λ w c last t. removal c w.kind (word_of w.target) };
+
+    ghost learns = { λ _ _ j k. keeps j k };
+
+    ghost gives = { λ _ _. Unit {0} };
+
+    fn work(&self, steps: &mut S, inside: &Inside, frames: &mut Frames) -> Result<(), Fault> {
+        match self.target {
+            Reference::Null => Ok(()),
+            Reference::Malformed => Err(Fault::Stale),
+            Reference::Parts(handle) => delete_parts(steps, inside, self.kind, handle),
+        }
+    }
+}
+
+/// Deletes a local reference of the thread: E2, E3, E4.
+#[derive(Clone, Copy)]
+pub struct LocalRemoval(pub Reference);
+
+impl<S: Steps> Work<S> for LocalRemoval {
+    ghost use Rattle.jr_steps.specs.Knowing.{keeps};
+    ghost use Rattle.jr_model.specs.References.{local_removal};
+    ghost use Rattle.jr_env.specs.Reading.{word_of};
+
+    type Answer = ();
+
+    ghost can_work = { λ _. Unit {0} };
+
+    ghost silent = { λ _. 0 };
+
+    ghost asked = { λ w c last t. local_removal c t (word_of w.0) };
+
+    ghost learns = { λ _ _ j k. keeps j k };
+
+    ghost gives = { λ _ _. Unit {0} };
+
+    fn work(&self, steps: &mut S, inside: &Inside, frames: &mut Frames) -> Result<(), Fault> {
+        match self.0 {
+            Reference::Null => Ok(()),
+            Reference::Malformed => Err(Fault::Stale),
+            Reference::Parts(handle) => delete_local_parts(steps, frames, handle),
+        }
+    }
+}
+
+/// Whether two references are to one object, or both to none: E2, E3.
+#[derive(Clone, Copy)]
+pub struct Comparison(pub Reference, pub Reference);
+
+impl<S: Steps> Work<S> for Comparison {
+    ghost use Rattle.jr_steps.specs.Knowing.{keeps};
+    ghost use Rattle.jr_model.specs.References.{comparison};
+    ghost use Rattle.jr_env.specs.Reading.{word_of, OwnerFits};
+
+    type Answer = bool;
+
+    ghost can_work = { λ w. OwnerFits w.0 × OwnerFits w.1 };
+
+    ghost silent = { λ _. 0 };
+
+    ghost asked = { λ w c last t. comparison c last t (word_of w.0) (word_of w.1) };
+
+    ghost learns = { λ _ _ j k. keeps j k };
+
+    ghost gives = { λ _ _. Unit {0} };
+
+    fn work(&self, steps: &mut S, inside: &Inside, frames: &mut Frames) -> Result<bool, Fault> {
+        let (first, second) = resolve_both(steps, inside, frames, self.0, self.1)?;
+        Ok(first == second)
+    }
+}
+
+/// The type of a reference: 1 local, 2 global, 3 weak global, else 0.
+#[derive(Clone, Copy)]
+pub struct Typing(pub Reference);
+
+impl<S: Steps> Work<S> for Typing {
+    ghost use Rattle.jr_steps.specs.Knowing.{keeps};
+    ghost use Rattle.jr_model.specs.References.{typing};
+    ghost use Rattle.jr_env.specs.Reading.{word_of, OwnerFits};
+
+    type Answer = u8;
+
+    ghost can_work = { λ w. OwnerFits w.0 };
+
+    ghost silent = { λ _. 0 };
+
+    ghost asked = { λ w c last t. typing c t (word_of w.0) };
+
+    ghost learns = { λ _ _ j k. keeps j k };
+
+    ghost gives = { λ _ _. Unit {0} };
+
+    fn work(&self, steps: &mut S, inside: &Inside, frames: &mut Frames) -> Result<u8, Fault> {
+        Ok(type_of(steps, inside, frames, self.0))
+    }
+}
+
+/// A local reference to a present object, none to none, within the gate: E9.
+fn make_local<S: Steps>(
+    steps: &mut S,
+    frames: &mut Frames,
+    object: Option<u16>,
+) -> Result<Option<HandleParts>, Fault>
+    requires ready { StandsReady S.facts Within steps.old frames.old }
+    requires object { MayKnow S.facts steps.old (HasOptional object) }
+    ensures call { MakesLocal S.facts steps.old steps.new frames.old.frames frames.new.frames object (new_local (S.facts steps.old).stands.config (S.facts steps.old).stands.last (S.facts steps.old).stands.thread object) result }
+    ensures same { KeepsOwner frames.old frames.new }
+    ensures owner { IfOk result (λ made. IfSome made (λ h. (h.kind ≡ Local) × (h.owner ≡ (S.facts steps.old).stands.thread))) }
+{
+    let Some(object) = object else {
+        return Ok(None);
+    };
+    let Some(handle) = frames.next() else {
+        return Err(Fault::LocalsFull);
+    };
+    steps.put_local(handle.index, Some(object));
+    frames.add(handle, object);
+    Ok(Some(handle))
+}
+
+/// Deletes the reference of a handle, if it is of the kind.
+fn delete_parts<S: Steps>(
+    steps: &mut S,
+    inside: &Inside,
+    kind: RefKind,
+    handle: HandleParts,
+) -> Result<(), Fault>
+    requires stay { IsOwnStay inside.now (S.facts steps.old).stands }
+    requires kind { kind ≢ Local }
+    requires fits { handle.kind ≢ Local → handle.owner ≡ 0 }
+    ensures { (f : LocalFrames) → Calls S.facts steps.old steps.new f f (removal (S.facts steps.old).stands.config kind (Parts handle)) result }
+{
+    if !names_kind(kind, handle) {
+        return Err(Fault::WrongKind);
+    }
+    if lies_outside(steps.config(), handle) {
+        return Err(Fault::Stale);
+    }
+    delete(steps, inside, handle)
+}
+
+/// Deletes the local reference of a handle.
+fn delete_local_parts<S: Steps>(
+    steps: &mut S,
+    frames: &mut Frames,
+    handle: HandleParts,
+) -> Result<(), Fault>
+    requires { StandsReady S.facts Within steps.old frames.old }
+    ensures call { Calls S.facts steps.old steps.new frames.old.frames frames.new.frames (local_removal (S.facts steps.old).stands.config (S.facts steps.old).stands.thread (Parts handle)) result }
+    ensures same { KeepsOwner frames.old frames.new }
+{
+    if !names_local(handle) {
+        return Err(Fault::WrongKind);
+    }
+    if lies_outside(steps.config(), handle) {
+        return Err(Fault::Stale);
+    }
+    if belongs_elsewhere(steps.thread(), handle) {
+        return Err(Fault::Foreign);
+    }
+    let Some(_) = frames.object_of(handle) else {
+        return Err(Fault::Stale);
+    };
+    steps.put_local(handle.index, None);
+    frames.delete(handle);
+    Ok(())
+}

@@ -1,0 +1,131 @@
+//! The calls of the Java Native Interface for the references of one thread, over any steps.
+ghost use Rattle.jr_model.specs.declared.event.Role.TheVariants.{Outside};
+ghost use Rattle.jr_env.specs.Ready.{StandsReady};
+
+use crate::calls::{Comparison, Creation, LocalCreation, LocalRemoval, Making, Removal, Typing};
+use crate::reference::Reference;
+use crate::work::make;
+use jr_frames::Frames;
+use jr_steps::Steps;
+use jr_word::{Fault, Handle, RefKind};
+
+/// A thread's steps and its local references. The thread is outside the gate.
+#[derive(Drop)]
+pub struct Env<S: Steps> {
+    /// The thread's steps.
+    pub steps: S,
+    /// Its local references.
+    pub frames: Frames,
+    ghost ready: { StandsReady S.facts Outside steps frames },
+}
+
+impl<S: Steps> Env<S> {
+    ghost use Rattle.std.specs.Prelude.{◌≡◌, ◌≢◌};
+    ghost use Rattle.jr_word.specs.declared.handle.RefKind.TheVariants.{Local, Global, Weak};
+    ghost use Rattle.jr_model.specs.declared.event.Role.TheVariants.{Outside};
+    ghost use Rattle.jr_model.specs.Frames.{fresh_frames};
+    ghost use Rattle.jr_steps.specs.Knowing.{HasNoLocals};
+    ghost use Rattle.jr_steps.specs.declared.known.Known.{Known};
+    ghost use Rattle.jr_env.specs.Envs.{Does};
+    ghost use Rattle.jr_env.specs.Deeds.{new_plain, new_reference, new_local_ref, delete_reference, delete_local_ref, is_same_object, get_object_ref_type};
+
+    /// The env of a thread that has no local reference.
+    pub fn new(steps: S) -> Self
+        requires outside { (S.facts steps).stands.role ≡ Outside }
+        requires fresh { (k : Known) → (S.facts steps).knows k → HasNoLocals k }
+        ensures steps { result.steps ≡ steps }
+        ensures frames { result.frames.frames ≡ fresh_frames (S.facts steps).stands.config.locals }
+    {
+        let config = steps.config();
+        let frames = Frames::new(steps.thread(), &config, steps.last());
+        Env { steps, frames }
+    }
+
+    /// Makes a plain object and a local reference to it: E9, E11, E13.
+    pub fn new_plain(&mut self) -> Result<Handle, Fault>
+        ensures { Does self.old self.new new_plain result }
+    {
+        let made = make(&mut self.steps, &mut self.frames, &Making)?;
+        Ok(Handle::pack(made))
+    }
+
+    /// Makes a global reference to what the handle names, or none for null: E2, E3, E8, E13. (JNI Specification, chapter 4, "NewGlobalRef")
+    pub fn new_global_ref(&mut self, handle: Handle) -> Result<Option<Handle>, Fault>
+        ensures { Does self.old self.new (new_reference Global handle.0) result }
+    {
+        self.new_reference(RefKind::Global, handle)
+    }
+
+    /// Makes a weak global reference to what the handle names, or none for null: E2, E3, E8, E13. (JNI Specification, chapter 4, "NewWeakGlobalRef")
+    pub fn new_weak_global_ref(&mut self, handle: Handle) -> Result<Option<Handle>, Fault>
+        ensures { Does self.old self.new (new_reference Weak handle.0) result }
+    {
+        self.new_reference(RefKind::Weak, handle)
+    }
+
+    /// Makes a local reference to what the handle names, or none for null, which needs no place: E2, E3, E9, E13. (JNI Specification, chapter 4, "NewLocalRef")
+    pub fn new_local_ref(&mut self, handle: Handle) -> Result<Option<Handle>, Fault>
+        ensures { Does self.old self.new (new_local_ref handle.0) result }
+    {
+        let target = Reference::of(handle);
+        let made = make(&mut self.steps, &mut self.frames, &LocalCreation(target))?;
+        Ok(made.map(Handle::pack))
+    }
+
+    /// Deletes a global reference; NULL is no refusal: E2, E4, E13. (JNI Specification, chapter 4, "DeleteGlobalRef")
+    pub fn delete_global_ref(&mut self, handle: Handle) -> Result<(), Fault>
+        ensures { Does self.old self.new (delete_reference Global handle.0) result }
+    {
+        let target = Reference::of(handle);
+        let kind = RefKind::Global;
+        make(&mut self.steps, &mut self.frames, &Removal { kind, target })
+    }
+
+    /// Deletes a weak global reference; NULL is no refusal: E2, E4, E13. (JNI Specification, chapter 4, "DeleteWeakGlobalRef")
+    pub fn delete_weak_global_ref(&mut self, handle: Handle) -> Result<(), Fault>
+        ensures { Does self.old self.new (delete_reference Weak handle.0) result }
+    {
+        let target = Reference::of(handle);
+        let kind = RefKind::Weak;
+        make(&mut self.steps, &mut self.frames, &Removal { kind, target })
+    }
+
+    /// Deletes a local reference of the thread; NULL is no refusal: E2, E3, E4, E13. (JNI Specification, chapter 4, "DeleteLocalRef")
+    pub fn delete_local_ref(&mut self, handle: Handle) -> Result<(), Fault>
+        ensures { Does self.old self.new (delete_local_ref handle.0) result }
+    {
+        let target = Reference::of(handle);
+        make(&mut self.steps, &mut self.frames, &LocalRemoval(target))
+    }
+
+    /// Whether two references are to one object, or both to null: E2, E3, E13. (JNI Specification, chapter 4, "IsSameObject")
+    pub fn is_same_object(&mut self, left: Handle, right: Handle) -> Result<bool, Fault>
+        ensures { Does self.old self.new (is_same_object left.0 right.0) result }
+    {
+        let left = Reference::of(left);
+        let right = Reference::of(right);
+        make(&mut self.steps, &mut self.frames, &Comparison(left, right))
+    }
+
+    /// The type of a reference: 0 invalid, 1 local, 2 global, 3 weak global: E13 alone. (JNI Specification, chapter 4, "GetObjectRefType")
+    pub fn get_object_ref_type(&mut self, handle: Handle) -> Result<u8, Fault>
+        ensures { Does self.old self.new (get_object_ref_type handle.0) result }
+    {
+        let target = Reference::of(handle);
+        make(&mut self.steps, &mut self.frames, &Typing(target))
+    }
+
+    /// A global or weak global reference to what the handle names, or none for null.
+    fn new_reference(&mut self, kind: RefKind, handle: Handle) -> Result<Option<Handle>, Fault>
+        requires { kind ≢ Local }
+        ensures { Does self.old self.new (new_reference kind handle.0) result }
+    {
+        let target = Reference::of(handle);
+        let made = make(
+            &mut self.steps,
+            &mut self.frames,
+            &Creation { kind, target },
+        )?;
+        Ok(made.map(Handle::pack))
+    }
+}

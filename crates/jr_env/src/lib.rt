@@ -1,0 +1,12 @@
+//! The calls of the Java Native Interface for the references of one thread, over any steps.
+#![tactic(auto)]
+
+mod calls;
+mod env;
+mod object;
+mod reference;
+mod resolve;
+mod work;
+
+pub use env::Env;
+pub use reference::Reference;

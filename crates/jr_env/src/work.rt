@@ -1,0 +1,78 @@
+//! What a call does within a stay, and the call round it.
+
+ghost use Rattle.std.specs.Prelude.{IfOk};
+ghost use Rattle.jr_model.specs.declared.event.Role.TheVariants.{Outside};
+ghost use Rattle.jr_model.specs.Calls.{entered as entered_call};
+ghost use Rattle.jr_env.specs.Ready.{StandsReady, Completes};
+
+use jr_frames::Frames;
+use jr_gate::{Inside, enter};
+use jr_steps::Steps;
+use jr_word::Fault;
+
+/// What a call does within a stay, with what it is handed.
+pub trait Work<S: Steps> {
+    ghost use Rattle.std.specs.Prelude.{ℕ, Result, IfOk};
+    ghost use Rattle.jr_word.specs.declared.fault.Fault.{Fault};
+    ghost use Rattle.jr_word.specs.declared.config.Config.{Config};
+    ghost use Rattle.jr_model.specs.declared.event.Role.TheVariants.{Within};
+    ghost use Rattle.jr_model.specs.Frames.{Frames};
+    ghost use Rattle.jr_model.specs.Calls.{Call};
+    ghost use Rattle.jr_steps.specs.declared.known.Known.{Known};
+    ghost use Rattle.jr_steps.specs.Knowing.{Holds};
+    ghost use Rattle.jr_gate.specs.Stays.{IsOwnStay};
+    ghost use Rattle.jr_gate.specs.Performing.{Performed};
+    ghost use Rattle.jr_env.specs.Ready.{StandsReady, KeepsOwner};
+
+    /// What it answers.
+    type Answer;
+
+    ghost can_work: { Self → Type 0 };
+
+    ghost silent: { Config → ℕ };
+
+    ghost asked: { Self → Config → ℕ → ℕ → Call Self.Answer };
+
+    ghost learns: { Frames → Result Self.Answer Fault → Known → Known → Type 0 };
+
+    ghost gives: { ℕ → Self.Answer → Type 0 };
+
+    /// Does it.
+    ///
+    /// # Errors
+    ///
+    /// Those of the call but E13.
+    fn work(
+        &self,
+        steps: &mut S,
+        inside: &Inside,
+        frames: &mut Frames,
+    ) -> Result<Self::Answer, Fault>
+        requires stay { IsOwnStay inside.now (S.facts steps.old).stands }
+        requires ready { StandsReady S.facts Within steps.old frames.old }
+        requires can { can_work self.now }
+        ensures call { Performed S.facts steps.old steps.new frames.old.frames frames.new.frames (silent (S.facts steps.old).stands.config) (Holds frames.old.frames) (λ s. asked self.now (S.facts steps.old).stands.config (S.facts steps.old).stands.last (S.facts steps.old).stands.thread) result (λ j k. learns frames.new.frames result j k × Holds frames.new.frames k) }
+        ensures same { KeepsOwner frames.old frames.new }
+        ensures given { IfOk result (λ answer. gives (S.facts steps.old).stands.thread answer) };
+}
+
+/// Makes a call: enters the gate, does the work, and leaves.
+///
+/// # Errors
+///
+/// E13, and those of the work.
+pub fn make<S: Steps, W: Work<S>>(
+    steps: &mut S,
+    frames: &mut Frames,
+    work: &W,
+) -> Result<W::Answer, Fault>
+    requires ready { StandsReady S.facts Outside steps.old frames.old }
+    requires can { W.can_work work.now }
+    ensures call { Completes S.facts steps.old steps.new frames.old frames.new (W.silent (S.facts steps.old).stands.config) (entered_call (W.asked work.now (S.facts steps.old).stands.config (S.facts steps.old).stands.last (S.facts steps.old).stands.thread)) result }
+    ensures given { IfOk result (λ answer. W.gives (S.facts steps.old).stands.thread answer) }
+{
+    let inside = enter(steps)?;
+    let answer = work.work(steps, &inside, frames);
+    inside.leave(steps);
+    answer
+}

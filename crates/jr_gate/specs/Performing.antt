@@ -1,0 +1,49 @@
+-- What a call is, over any steps, for whatever was known.
+use Rattle.std.specs.Prelude.{◌≡◌, ◌≤◌, ◌+◌, ℕ, Bool, Result, List, length}
+use Rattle.jr_word.specs.declared.fault.Fault.{Fault}
+use Rattle.jr_model.specs.declared.event.Act.{Act}
+use Rattle.jr_model.specs.State.{State}
+use Rattle.jr_model.specs.History.{PassView}
+use Rattle.jr_model.specs.Frames.{Frames}
+use Rattle.jr_model.specs.Calls.{Call, Ran}
+use Rattle.jr_steps.specs.declared.known.Known.{Known}
+use Rattle.jr_steps.specs.declared.known.Holdings.{Holdings}
+use Rattle.jr_steps.specs.Knowing.{Facts, Leads, Standing, view, state_of, fresh_from}
+
+-- the same room, thread and role, whether or not the pass is fresh
+pub record IsAsBefore (old new : Standing) : Type 0 where
+  pub room : new.room ≡ old.room
+  pub config : new.config ≡ old.config
+  pub last : new.last ≡ old.last
+  pub thread : new.thread ≡ old.thread
+  pub role : new.role ≡ old.role
+
+-- A MOMENT of a thread: what its pass has seen and holds, its frames, whether the pass is fresh, and how many operations it has taken
+pub record Moment : Type 0 where
+  pub pass : PassView
+  pub frames : Frames
+  pub held : Holdings
+  pub fresh : Bool
+  pub taken : ℕ
+
+-- the moment at which so much is known
+abbrev pub moment : Bool → Known → Frames → Moment
+moment fresh k f = record { pass = view k; frames = f; held = k.holdings; fresh = fresh; taken = k.taken }
+
+-- what acts take from a pass: one operation each, and at most so many more, of which nobody else could tell; and it is as fresh as they leave it
+pub record Spends (silent : ℕ) (old new : Moment) (acts : List Act) : Type 0 where
+  pub without : ℕ
+  pub most : without ≤ silent
+  pub taken : new.taken ≡ old.taken + (length acts + without)
+  pub fresh : new.fresh ≡ fresh_from old.fresh acts
+
+-- A CALL WAS MADE between two moments, with this answer, by one operation for each of its acts and at most so many more
+pub record IsMade {A : Type 0} (silent : ℕ) (old new : Moment) (call : Call A) (answer : Result A Fault) : Type 0 where
+  pub ran : Ran old.pass new.pass old.frames new.frames call answer
+  pub spent : Spends silent old new ran.acts
+
+module _ {S : Type 0} (facts : S → Facts) where
+  -- a call was made: for whatever was known and meets the condition, something is known from which the thread did what the call does, with this answer, and which shows this. The call may name the state that it leaves
+  pub record Performed {A : Type 0} (old new : S) (before after : Frames) (silent : ℕ) (met : Known → Type 0) (call : State → Call A) (answer : Result A Fault) (shows : Known → Known → Type 0) : Type 0 where
+    pub stands_is : IsAsBefore (facts old).stands (facts new).stands
+    pub ran : Leads facts old new met (λ k k'. IsMade silent (moment (facts old).stands.fresh k before) (moment (facts new).stands.fresh k' after) (call (state_of k')) answer) shows

@@ -1,0 +1,2 @@
+pub mod SlotSearch
+pub mod LookAndExchange

@@ -1,0 +1,38 @@
+-- How slots are searched for a free one, for whatever was known.
+use Rattle.std.specs.Prelude.{◌≡◌, ◌≤◌, ◌<◌, ◌+◌, ℕ, Bool, Option, Some, None, List, [], ◌∷◌, ◌++◌, map, length}
+use Rattle.jr_word.specs.declared.handle.RefKind.{RefKind}
+use Rattle.jr_model.specs.declared.event.Act.{Act}
+use Rattle.jr_model.specs.declared.event.Act.TheVariants.{Create, Probe}
+use Rattle.jr_model.specs.State.{Handle}
+use Rattle.jr_model.specs.History.{History, PassView, Did}
+use Rattle.jr_model.specs.Refusals.{WasOccupied}
+use Rattle.jr_steps.specs.declared.known.Known.{Known}
+use Rattle.jr_steps.specs.Knowing.{Facts, view, keeps, Takes, HasObject}
+
+-- looks at slots, and then the creation, if one was won
+abbrev pub search_acts : ℕ → List (ℕ × Bool) → Option Handle → List Act
+search_acts o looks None = map (λ l. Probe l.0 l.1) looks
+search_acts o looks (Some h) = map (λ l. Probe l.0 l.1) looks ++ Create h o ∷ []
+
+-- a global or weak handle of the kind, if there is one
+abbrev pub OfKind : RefKind → Option Handle → Type 0
+OfKind k None = Unit {0}
+OfKind k (Some h) = (h.kind ≡ k) × (h.owner ≡ 0)
+
+-- where none was won, each index from the first to the last was probed since this moment, and occupied then or later
+abbrev pub EachOccupied : History → PassView → ℕ → ℕ → Option Handle → Type 0
+EachOccupied begun new first last (Some h) = Unit {0}
+EachOccupied begun new first last None = (i : ℕ) → first ≤ i → i < last → WasOccupied begun new i
+
+-- each slot from first to last takes two operations at the most
+abbrev pub TwoEach : ℕ → ℕ → List Act → Type 0
+TwoEach first last acts = first + first + length acts ≤ last + last
+
+module _ {S : Type 0} (facts : S → Facts) where
+  -- the slots from first to last were searched for a free one, for a new reference to a present object: by one operation for each act, and by no more than two for each slot. The pass holds what it held
+  pub record Searched (old new : S) (kind : RefKind) (o first last : ℕ) (made : Option Handle) : Type 0 where
+    pub stands_is : (facts new).stands ≡ (facts old).stands
+    pub kind_is : OfKind kind made
+    pub did : (k : Known) → (facts old).knows k → HasObject o k
+        → (k' : Known) × (facts new).knows k' × HasObject o k' × EachOccupied k.seen (view k') first last made × (looks : List (ℕ × Bool)) × Did (view k) (view k') (search_acts o looks made)
+        × Takes (length (search_acts o looks made)) k k' × TwoEach first last (search_acts o looks made) × keeps k k'

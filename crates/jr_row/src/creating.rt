@@ -1,0 +1,110 @@
+//! New references, in slots that are found free.
+ghost use Rattle.std.specs.Prelude.{◌≡◌, ◌≢◌, ◌<◌, ◌≤◌, ◌+◌, ◌%◌, IfOk, IfErr, IfSome, Some, None};
+ghost use Rattle.jr_word.specs.declared.handle.RefKind.TheVariants.{Local};
+ghost use Rattle.jr_word.specs.declared.fault.Fault.TheVariants.{RowFull};
+ghost use Rattle.jr_model.specs.declared.event.Role.TheVariants.{Within};
+ghost use Rattle.jr_steps.specs.Knowing.{HasObject, MayKnow};
+ghost use Rattle.jr_gate.specs.Stays.{IsOwnStay};
+ghost use Rattle.jr_row.specs.Searching.{Searched};
+
+use jr_gate::Inside;
+use jr_steps::{SlotLoad, Steps};
+use jr_word::{Fault, HandleParts, RefKind, SlotParts};
+
+/// One slot, looked at and claimed where it is free.
+fn try_slot<S: Steps>(steps: &mut S, index: u16, kind: RefKind, object: u16) -> Option<HandleParts>
+    requires role { (S.facts steps.old).stands.role ≡ Within }
+    requires row { index < (S.facts steps.old).stands.config.slots }
+    requires kind { kind ≢ Local }
+    requires object { MayKnow S.facts steps.old (HasObject object) }
+    ensures tried { Searched S.facts steps.old steps.new kind object index (index + 1) result }
+    ensures index { IfSome result (λ h. h.index ≡ index) }
+    ensures hint { (S.facts steps.new).hint ≡ (S.facts steps.old).hint }
+{
+    let SlotParts::Free { serial } = steps.see_slot(index, SlotLoad::Probe) else {
+        return None;
+    };
+    match steps.claim(index, serial, kind, object) {
+        Ok(()) => Some(HandleParts {
+            kind,
+            serial,
+            index,
+            owner: 0,
+        }),
+        Err(_) => None,
+    }
+}
+
+/// The slots from first on and before last are tried one after the other, until one is won.
+fn search<S: Steps>(
+    steps: &mut S,
+    kind: RefKind,
+    object: u16,
+    first: u32,
+    last: u32,
+) -> Option<HandleParts>
+    requires role { (S.facts steps.old).stands.role ≡ Within }
+    requires range { (first ≤ last) × (last ≤ (S.facts steps.old).stands.config.slots) }
+    requires kind { kind ≢ Local }
+    requires object { MayKnow S.facts steps.old (HasObject object) }
+    ensures searched { Searched S.facts steps.old steps.new kind object first last result }
+    ensures index { IfSome result (λ h. h.index < (S.facts steps.old).stands.config.slots) }
+    ensures hint { (S.facts steps.new).hint ≡ (S.facts steps.old).hint }
+{
+    for index in first..last {
+        let made = try_slot(steps, index as u16, kind, object);
+        if let Some(handle) = made {
+            return Some(handle);
+        }
+    }
+    None
+}
+
+/// Each slot is tried once, from the hint to the last slot and then from slot 0 to the hint, until one is won.
+fn search_round<S: Steps>(steps: &mut S, kind: RefKind, object: u16) -> Option<HandleParts>
+    requires role { (S.facts steps.old).stands.role ≡ Within }
+    requires kind { kind ≢ Local }
+    requires object { MayKnow S.facts steps.old (HasObject object) }
+    ensures searched { Searched S.facts steps.old steps.new kind object 0 (S.facts steps.old).stands.config.slots result }
+    ensures index { IfSome result (λ h. h.index < (S.facts steps.old).stands.config.slots) }
+    ensures hint { (S.facts steps.new).hint ≡ (S.facts steps.old).hint }
+{
+    let slots = steps.config().slots;
+    let hint = u32::from(steps.hint());
+    let above = search(steps, kind, object, hint, slots);
+    if let Some(handle) = above {
+        return Some(handle);
+    }
+    search(steps, kind, object, 0, hint)
+}
+
+/// The slot after this one, and slot 0 after the last.
+fn slot_after(index: u16, slots: u32) -> u16
+    requires { (index < slots) × (slots ≤ 65536) }
+    ensures { (result ≡ (index + 1) % slots) × (result < slots) }
+{
+    ((u32::from(index) + 1) % slots) as u16
+}
+
+/// A new reference to a present object, in the first slot that is found free from the hint on: E8 where none is. At most two operations a slot. The next search begins behind the new reference.
+pub fn create<S: Steps>(
+    steps: &mut S,
+    inside: &Inside,
+    kind: RefKind,
+    object: u16,
+) -> Result<HandleParts, Fault>
+    requires stay { IsOwnStay inside.now (S.facts steps.old).stands }
+    requires kind { kind ≢ Local }
+    requires object { MayKnow S.facts steps.old (HasObject object) }
+    ensures ok { IfOk result (λ h. Searched S.facts steps.old steps.new kind object 0 (S.facts steps.old).stands.config.slots (Some h)) }
+    ensures err { IfErr result (λ e. (e ≡ RowFull) × Searched S.facts steps.old steps.new kind object 0 (S.facts steps.old).stands.config.slots None) }
+    ensures next { IfOk result (λ h. (S.facts steps.new).hint ≡ (h.index + 1) % (S.facts steps.old).stands.config.slots) }
+    ensures stays { IfErr result (λ e. (S.facts steps.new).hint ≡ (S.facts steps.old).hint) }
+{
+    let slots = steps.config().slots;
+    let Some(handle) = search_round(steps, kind, object) else {
+        return Err(Fault::RowFull);
+    };
+    steps.keep_hint(slot_after(handle.index, slots));
+    Ok(handle)
+}
