@@ -1,5 +1,5 @@
 -- What several steps did, and what they show.
-use Rattle.std.specs.Prelude.{◌≡◌, List}
+use Rattle.std.specs.Prelude.{List}
 use Rattle.jr_model.specs.declared.event.Act.{Act}
 use Rattle.jr_model.specs.History.{History, Did}
 use Rattle.jr_model.specs.Windows.{IsWindow}

@@ -3,8 +3,8 @@
 ghost use Rattle.jr_scripts.specs.AllRuns.{RanPass};
 ghost use Rattle.jr_scripts.specs.Jobs.{IsForPart};
 
-use jr_env::Env;
 use crate::run::run_thread;
+use jr_env::Env;
 use jr_rule::{Pass, Room, RoomSteps};
 use jr_syntax::ThreadPart;
 use jr_word::Fault;

@@ -5,15 +5,14 @@ ghost use Rattle.jr_env.specs.Deeds.{answered_by};
 ghost use Rattle.jr_env.specs.Envs.{Does};
 ghost use Rattle.jr_scripts.specs.Commands.{tried, deletion, type_of as type_deed, deed};
 
-use jr_env::Env;
 use crate::env_call::{
     DeleteGlobalRef, DeleteLocalRef, DeleteWeakGlobalRef, EnvCall, GetObjectRefType, IsSameObject,
     NewGlobalRef, NewLocalRef, NewPlain, NewWeakGlobalRef,
 };
 use crate::names::Names;
-use jr_env::Reference;
 use crate::reply::{IntoReply, Reply};
 use crate::retry::retry;
+use jr_env::{Env, Reference};
 use jr_steps::Steps;
 use jr_syntax::{Command, Make, MakeFrom, On, OnBoth};
 use jr_word::{Fault, Handle, RefKind};

@@ -5,8 +5,8 @@ ghost use Rattle.jr_env.specs.Envs.{Does};
 ghost use Rattle.jr_scripts.specs.Tries.{is_tried_again};
 ghost use Rattle.jr_scripts.specs.Commands.{tried};
 
-use jr_env::Env;
 use crate::env_call::EnvCall;
+use jr_env::Env;
 use jr_steps::Steps;
 use jr_word::Fault;
 

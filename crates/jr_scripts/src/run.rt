@@ -5,11 +5,11 @@ ghost use Rattle.jr_word.specs.declared.fault.Fault.TheVariants.{Memory};
 ghost use Rattle.jr_scripts.specs.Text.{sets, names_after};
 ghost use Rattle.jr_scripts.specs.Runs.{RanThread, WritesDown};
 
-use jr_env::Env;
 use crate::names::Names;
 use crate::perform::perform;
 use crate::printed::printed;
 use crate::reply::Reply;
+use jr_env::Env;
 use jr_steps::Steps;
 use jr_syntax::{Command, Name};
 use jr_word::{Fault, Handle};

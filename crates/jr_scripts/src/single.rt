@@ -5,9 +5,9 @@ ghost use Rattle.jr_word.specs.declared.fault.Fault.TheVariants.{Memory, Size};
 ghost use Rattle.jr_word.specs.Config.{in_limits};
 ghost use Rattle.jr_scripts.specs.Runs.{IsRun, IsSingle, RunsSingle};
 
-use jr_env::Env;
 use crate::printed::{ending, heading};
 use crate::run::run_thread;
+use jr_env::Env;
 use jr_rule::PlainSteps;
 use jr_syntax::{Script, ThreadPart};
 use jr_word::{Config, Fault};

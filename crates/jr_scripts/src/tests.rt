@@ -5,9 +5,9 @@
 
 mod references;
 
-use jr_env::Env;
 use crate::run::run_thread;
 use crate::single::run_one;
+use jr_env::Env;
 use jr_model::Summary;
 use jr_rule::PlainSteps;
 use jr_syntax::{
