@@ -38,8 +38,8 @@ search_fresh b o (l ∷ ls) None = search_fresh b o ls None
 search_fresh b o (l ∷ ls) (Some h) = search_fresh b o ls (Some h)
 
 -- a call, and then a search
-spent : {S : Type 0} {facts : S → Facts} {A : Type 0} {b c : S} {p : Moment} {k : Known} {call : Call A} {answer : Result A Fault} {kind : RefKind} {o from to : ℕ} {made : Option Handle} (f : Frames)
-    → IsMade 0 p (moment (facts b).stands.fresh k f) call answer → (q : Searched facts b c kind o from to made) (s : (facts b).knows k) (m : HasObject o k) → Spending 0 p (moment (facts c).stands.fresh (q.did k s m).0 f)
+spent : {S : Type 0} {facts : S → Facts} {A : Type 0} {b c : S} {p : Moment} {k : Known} {call : Call A} {answer : Result A Fault} {kind : RefKind} {o from to : ℕ} {order : List (ℕ × Bool) → Option Handle → Type 0} {made : Option Handle} (f : Frames)
+    → IsMade 0 p (moment (facts b).stands.fresh k f) call answer → (q : Searched facts b c kind o order from to made) (s : (facts b).knows k) (m : HasObject o k) → Spending 0 p (moment (facts c).stands.fresh (q.did k s m).0 f)
 spent {facts = facts} {b = b} {c = c} {k = k} {o = o} {made = made} f x q s m =
     let y = q.did k s m in
     let count = y.6 in
@@ -66,8 +66,8 @@ module _ {S : Type 0} {facts : S → Facts} {a b : S} {f : Frames} {first : Call
   pub may_create : {z : Option ℕ} {o : ℕ} → z ≡ Some o → Resolves facts a b f first (Ok z) → MayKnow facts a (Holds f) → MayKnow facts b (HasObject o)
   may_create is r some = let p = resolves_at is r in ∥∥₁_map some (λ k. let x = p.ran k.0 k.1 k.2 in (x.0, x.1, x.3.2))
 
-  pub creates_full : {c : S} {z : Option ℕ} {o : ℕ} {e : Fault} (fits : AreOf facts) → (facts a).stands.role ≡ Within → (kind : RefKind) (answer : Result (Option Handle) Fault) → IsErrAnd answer (λ y. y ≡ e)
-      → z ≡ Some o → Resolves facts a b f first (Ok z) → (e ≡ RowFull) × Searched facts b c kind o 0 (facts b).stands.config.slots None → Calls facts a c f f (first >>= created kind) answer
+  pub creates_full : {c : S} {z : Option ℕ} {o : ℕ} {order : List (ℕ × Bool) → Option Handle → Type 0} {e : Fault} (fits : AreOf facts) → (facts a).stands.role ≡ Within → (kind : RefKind) (answer : Result (Option Handle) Fault) → IsErrAnd answer (λ y. y ≡ e)
+      → z ≡ Some o → Resolves facts a b f first (Ok z) → (e ≡ RowFull) × Searched facts b c kind o order 0 (facts b).stands.config.slots None → Calls facts a c f f (first >>= created kind) answer
   creates_full {c} {o = o} fits w kind answer given is r why = let p = resolves_at is r in let q = why.1 in handed_on answer (subst (λ y. IsErrAnd answer (λ z. z ≡ y)) why.0 given) (record {
     stands_is = still_before p.stands_is (as_before _ q.stands_is);
     ran = λ k s m.
@@ -81,7 +81,7 @@ module _ {S : Type 0} {facts : S → Facts} {a b : S} {f : Frames} {first : Call
         );
   })
 
-  pub creates_won : {c : S} {z : Option ℕ} {o from to : ℕ} {kind : RefKind} {h : Handle} → z ≡ Some o → Resolves facts a b f first (Ok z) → Searched facts b c kind o from to (Some h) → Calls facts a c f f (first >>= created kind) (Ok (Some h))
+  pub creates_won : {c : S} {z : Option ℕ} {o from to : ℕ} {order : List (ℕ × Bool) → Option Handle → Type 0} {kind : RefKind} {h : Handle} → z ≡ Some o → Resolves facts a b f first (Ok z) → Searched facts b c kind o order from to (Some h) → Calls facts a c f f (first >>= created kind) (Ok (Some h))
   creates_won {o = o} {kind = kind} {h = h} is r q = let p = resolves_at is r in record {
     stands_is = still_before p.stands_is (as_before _ q.stands_is);
     ran = λ k s m.

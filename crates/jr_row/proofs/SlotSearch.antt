@@ -18,11 +18,23 @@ use Rattle.jr_steps.specs.declared.known.Known.{Known}
 use Rattle.jr_steps.specs.Acts.{handle_of, is_occupied}
 use Rattle.jr_steps.specs.Knowing.{AreOf, Facts, Standing, view, anything, HasObject, IsFreeSlot, ShowsSlot, LostClaim, Took, Hinted, Takes, keeps}
 use Rattle.jr_steps.proofs.StepFacts.{goes_did, present_stays}
-use Rattle.jr_row.specs.Searching.{Searched, search_acts, EachOccupied}
+use Rattle.jr_row.specs.Searching.{Searched, search_acts, EachOccupied, InTurn, ended, won, occupied, lost, GoesRound, above, below}
 
 search_more : (o : ℕ) (xs ys : List (ℕ × Bool)) (made : Option Handle) → search_acts o xs None ++ search_acts o ys made ≡ search_acts o (xs ++ ys) made
 search_more o xs ys None = sym (map-append (λ (l : ℕ × Bool). Probe l.0 l.1) xs ys)
 search_more o xs ys (Some h) = sym (append_assoc (map (λ (l : ℕ × Bool). Probe l.0 l.1) xs) (map (λ (l : ℕ × Bool). Probe l.0 l.1) ys) (Create h o ∷ [])) ∙ ap (λ l. l ++ Create h o ∷ []) (sym (map-append (λ (l : ℕ × Bool). Probe l.0 l.1) xs ys))
+
+-- slots that were tried in turn, and then more of them
+in_turn_then : {a b c : ℕ} {xs ys : List (ℕ × Bool)} {made : Option Handle} → InTurn a b xs None → InTurn b c ys made → InTurn a c (xs ++ ys) made
+in_turn_then ended q = q
+in_turn_then (occupied p) q = occupied (in_turn_then p q)
+in_turn_then (lost b p) q = lost b (in_turn_then p q)
+
+-- how far one might have gone does not matter where one was won
+in_turn_won : {a b c : ℕ} {xs : List (ℕ × Bool)} {h : Handle} → InTurn a b xs (Some h) → InTurn a c xs (Some h)
+in_turn_won (won h e) = won h e
+in_turn_won (occupied p) = occupied (in_turn_won p)
+in_turn_won (lost b p) = lost b (in_turn_won p)
 
 below_or : (i n : ℕ) → (i < n) ⊎ (n ≤ i)
 below_or i n = grind arith
@@ -72,15 +84,15 @@ module _ {S : Type 0} {facts : S → Facts} where
         (g.0, g.1, present_stays k g.0 (x ∷ []) o d ((fits a k s).role ∙ w) (ne, tt) p, d, g.3, g.2.taken)
 
     -- an index that was found occupied
-    pub searched_occupied : {a b : S} {shows : Known → Known → Type 0} (i : ℕ) (kind : RefKind) (o : ℕ) → Took facts a b (Probe i true ∷ []) anything (λ j k. shows j k × keeps j k) → (facts a).stands.role ≡ Within → Searched facts a b kind o i (i + 1) None
+    pub searched_occupied : {a b : S} {shows : Known → Known → Type 0} (i : ℕ) (kind : RefKind) (o : ℕ) → Took facts a b (Probe i true ∷ []) anything (λ j k. shows j k × keeps j k) → (facts a).stands.role ≡ Within → Searched facts a b kind o (InTurn i (i + 1)) i (i + 1) None
     searched_occupied i kind o t w = record {
       stands_is = t.stands_is;
       kind_is = tt;
       did = λ k s p. let r = took_present t w (λ e. cc) o k s tt p in
-          (r.0, r.1, r.2, only_one (λ j. WasOccupied k.seen (view r.0) j) i (probed_occupied i r.3), (i, true) ∷ [], r.3, r.5, omega arith, r.4.1);
+          (r.0, r.1, r.2, only_one (λ j. WasOccupied k.seen (view r.0) j) i (probed_occupied i r.3), (i, true) ∷ [], r.3, r.5, omega arith, r.4.1, occupied ended);
     }
 
-    pub searched_seen : {a b : S} {shows : Known → Known → Type 0} (i : ℕ) (word : SlotParts) (kind : RefKind) (o : ℕ) → ((n : ℕ) → word ≢ slot.Free n) → Took facts a b (Probe i (is_occupied word) ∷ []) anything (λ j k. shows j k × keeps j k) → (facts a).stands.role ≡ Within → Searched facts a b kind o i (i + 1) None
+    pub searched_seen : {a b : S} {shows : Known → Known → Type 0} (i : ℕ) (word : SlotParts) (kind : RefKind) (o : ℕ) → ((n : ℕ) → word ≢ slot.Free n) → Took facts a b (Probe i (is_occupied word) ∷ []) anything (λ j k. shows j k × keeps j k) → (facts a).stands.role ≡ Within → Searched facts a b kind o (InTurn i (i + 1)) i (i + 1) None
     searched_seen i (slot.Free n) kind o ne t w = absurd (ne n refl)
     searched_seen i _ kind o ne t w = searched_occupied i kind o t w
 
@@ -95,7 +107,7 @@ module _ {S : Type 0} {facts : S → Facts} where
 
     -- an index that was found free, and lost to another thread
     pub searched_lost : {a b c : S} (i n : ℕ) (kind : RefKind) (o : ℕ) (found : SlotParts) → Took facts a b (Probe i false ∷ []) anything (λ j k. ShowsSlot i (slot.Free n) k × keeps j k)
-        → Took facts b c (Probe i (is_occupied found) ∷ []) (λ k. HasObject o k × IsFreeSlot i n k) (λ j k. LostClaim i (Err found) j k × keeps j k) → (facts a).stands.role ≡ Within → Searched facts a c kind o i (i + 1) None
+        → Took facts b c (Probe i (is_occupied found) ∷ []) (λ k. HasObject o k × IsFreeSlot i n k) (λ j k. LostClaim i (Err found) j k × keeps j k) → (facts a).stands.role ≡ Within → Searched facts a c kind o (InTurn i (i + 1)) i (i + 1) None
     searched_lost i n kind o found t u w = record {
       stands_is = u.stands_is ∙ t.stands_is;
       kind_is = tt;
@@ -110,32 +122,49 @@ module _ {S : Type 0} {facts : S → Facts} where
             z.counted,
             omega arith,
             z.shown.1 ∙ z.kept,
+            lost (is_occupied found) ended,
           );
     }
 
     -- an index that was found free, and won
     pub searched_won : {a b c : S} (i n : ℕ) (kind : RefKind) (o : ℕ) {shows : Known → Known → Type 0} → Took facts a b (Probe i false ∷ []) anything (λ j k. ShowsSlot i (slot.Free n) k × keeps j k)
-        → Took facts b c (Create (handle_of kind n i) o ∷ []) (λ k. HasObject o k × IsFreeSlot i n k) (λ j k. shows j k × keeps j k) → (facts a).stands.role ≡ Within → Searched facts a c kind o i (i + 1) (Some (handle_of kind n i))
+        → Took facts b c (Create (handle_of kind n i) o ∷ []) (λ k. HasObject o k × IsFreeSlot i n k) (λ j k. shows j k × keeps j k) → (facts a).stands.role ≡ Within → Searched facts a c kind o (InTurn i (i + 1)) i (i + 1) (Some (handle_of kind n i))
     searched_won i n kind o t u w = record {
       stands_is = u.stands_is ∙ t.stands_is;
       kind_is = (refl, refl);
       did = λ k s p.
           let z = exchanged i n o t u w (λ e. cc) (λ e. cc) refl k s p in
-          (z.new, z.known, z.present, tt, (i, false) ∷ [], did_then {new = view z.new} (Probe i false ∷ []) (Create (handle_of kind n i) o ∷ []) z.looked z.took, z.counted, omega arith, z.shown.1 ∙ z.kept);
+          (z.new, z.known, z.present, tt, (i, false) ∷ [], did_then {new = view z.new} (Probe i false ∷ []) (Create (handle_of kind n i) o ∷ []) z.looked z.took, z.counted, omega arith, z.shown.1 ∙ z.kept, won (handle_of kind n i) refl);
     }
 
-  -- of a search that was won, the first and the last index do not matter
-  pub searched_some : {a b : S} {kind : RefKind} {o first last : ℕ} {h : Handle} (first' last' : ℕ) → first' ≤ first → last ≤ last' → Searched facts a b kind o first last (Some h) → Searched facts a b kind o first' last' (Some h)
-  searched_some {o = o} {h = h} first' last' fewer more p = record {
-    stands_is = p.stands_is;
-    kind_is = p.kind_is;
-    did = λ k s m. let x = p.did k s m in let most = x.7 in (x.0, x.1, x.2, tt, x.4, x.5, x.6, omega arith, x.8);
+  -- no slot was tried
+  pub searched_none : AreOf facts → {a : S} (kind : RefKind) (o n : ℕ) → Searched facts a a kind o (InTurn n n) n n None
+  searched_none fits {a} kind o n = record {
+    stands_is = refl;
+    kind_is = tt;
+    did = λ k s p. (k, s, p, (λ i low high. absurd (omega arith)), [], did_nothing (view k) (fits a k s).legal, omega arith, omega arith, refl, ended);
   }
 
+  -- of a search that was won, the first and the last index do not matter
+  searched_within : {a b : S} {kind : RefKind} {o first last : ℕ} {P Q : List (ℕ × Bool) → Option Handle → Type 0} {h : Handle} (first' last' : ℕ) → first' ≤ first → last ≤ last' → ((xs : List (ℕ × Bool)) → P xs (Some h) → Q xs (Some h))
+      → Searched facts a b kind o P first last (Some h) → Searched facts a b kind o Q first' last' (Some h)
+  searched_within {o = o} {h = h} first' last' fewer more same p = record {
+    stands_is = p.stands_is;
+    kind_is = p.kind_is;
+    did = λ k s m. let x = p.did k s m in let most = x.7 in (x.0, x.1, x.2, tt, x.4, x.5, x.6, omega arith, x.8, same x.4 x.9);
+  }
+
+  pub searched_some : {a b : S} {kind : RefKind} {o first last : ℕ} {h : Handle} (last' : ℕ) → last ≤ last' → Searched facts a b kind o (InTurn first last) first last (Some h) → Searched facts a b kind o (InTurn first last') first last' (Some h)
+  searched_some {first = first} last' more p = searched_within first last' (omega arith) more (λ xs t. in_turn_won t) p
+
+  pub searched_above : {a b : S} {kind : RefKind} {o hint slots : ℕ} {h : Handle} → Searched facts a b kind o (InTurn hint slots) hint slots (Some h) → Searched facts a b kind o (GoesRound hint slots) 0 slots (Some h)
+  searched_above {slots = slots} p = searched_within 0 slots (omega arith) (omega arith) (λ xs t. above t) p
+
   -- two searches, of which the first won nothing, are one of all indices that either has
-  searched_both : {a b c : S} {kind : RefKind} {o u v x y first last : ℕ} {made : Option Handle} → ((m n : ℕ) → u + u + m ≤ v + v → x + x + n ≤ y + y → first + first + (m + n) ≤ last + last) → ((i : ℕ) → first ≤ i → i < last → IsIn u v i ⊎ IsIn x y i)
-      → Searched facts a b kind o u v None → Searched facts b c kind o x y made → Searched facts a c kind o first last made
-  searched_both {o = o} {first = first} {last = last} {made = made} few each p q = record {
+  searched_both : {a b c : S} {kind : RefKind} {o u v x y first last : ℕ} {P Q R : List (ℕ × Bool) → Option Handle → Type 0} {made : Option Handle} → ((m n : ℕ) → u + u + m ≤ v + v → x + x + n ≤ y + y → first + first + (m + n) ≤ last + last) → ((i : ℕ) → first ≤ i → i < last → IsIn u v i ⊎ IsIn x y i)
+      → ((xs ys : List (ℕ × Bool)) → P xs None → Q ys made → R (xs ++ ys) made)
+      → Searched facts a b kind o P u v None → Searched facts b c kind o Q x y made → Searched facts a c kind o R first last made
+  searched_both {o = o} {first = first} {last = last} {made = made} few each joined p q = record {
     stands_is = q.stands_is ∙ p.stands_is;
     kind_is = q.kind_is;
     did = λ k s m. let x = p.did k s m in let y = q.did x.0 x.1 x.2 in
@@ -153,23 +182,25 @@ module _ {S : Type 0} {facts : S → Facts} where
           omega arith,
           subst (λ n. first + first + n ≤ last + last) (sym long) (few (length (search_acts o x.4 None)) (length (search_acts o y.4 made)) x.7 y.7),
           y.8 ∙ x.8,
+          joined x.4 y.4 x.9 y.9,
         );
   }
 
-  pub searched_then : {a b c : S} {kind : RefKind} {o first mid last : ℕ} {made : Option Handle} → Searched facts a b kind o first mid None → Searched facts b c kind o mid last made → Searched facts a c kind o first last made
-  searched_then {first = first} {mid = mid} {last = last} p q = searched_both (λ m n few more. omega arith) (in_turn first mid last) p q
+  pub searched_then : {a b c : S} {kind : RefKind} {o first mid last : ℕ} {made : Option Handle} → Searched facts a b kind o (InTurn first mid) first mid None → Searched facts b c kind o (InTurn mid last) mid last made → Searched facts a c kind o (InTurn first last) first last made
+  searched_then {first = first} {mid = mid} {last = last} p q = searched_both (λ m n few more. omega arith) (in_turn first mid last) (λ xs ys s t. in_turn_then s t) p q
 
-  -- the indices from one between them up to the last, and then those from the first up to that one
-  pub searched_round : {a b c : S} {kind : RefKind} {o first mid last : ℕ} {made : Option Handle} → Searched facts a b kind o mid last None → Searched facts b c kind o first mid made → Searched facts a c kind o first last made
-  searched_round {first = first} {mid = mid} {last = last} p q = searched_both (λ m n few more. omega arith) (in_round first mid last) p q
+  -- the slots from the hint up to the last, and then those from 0 up to the hint
+  pub searched_round : {a b c : S} {kind : RefKind} {o hint slots : ℕ} {made : Option Handle} → Searched facts a b kind o (InTurn hint slots) hint slots None → Searched facts b c kind o (InTurn 0 hint) 0 hint made → Searched facts a c kind o (GoesRound hint slots) 0 slots made
+  searched_round {hint = hint} {slots = slots} p q = searched_both (λ m n few more. omega arith) (in_round 0 hint slots) (λ xs ys s t. below s t) p q
 
-  pub searched_to : {a b : S} {kind : RefKind} {o first last last' : ℕ} {made : Option Handle} → last ≡ last' → Searched facts a b kind o first last made → Searched facts a b kind o first last' made
-  searched_to {a} {b} {kind} {o} {first} {made = made} e p = subst (λ n. Searched facts a b kind o first n made) e p
+  pub searched_at : {a b : S} {kind : RefKind} {o hint hint' slots slots' : ℕ} {made : Option Handle} → hint ≡ hint' → slots ≡ slots' → Searched facts a b kind o (GoesRound hint slots) 0 slots made → Searched facts a b kind o (GoesRound hint' slots') 0 slots' made
+  searched_at {a} {b} {kind} {o} {hint' = hint'} {slots = slots} {made = made} e f p =
+      subst (λ n. Searched facts a b kind o (GoesRound hint' n) 0 n made) f (subst (λ n. Searched facts a b kind o (GoesRound n slots) 0 slots made) e p)
 
   -- where the next search begins is not a matter of this one
-  pub searched_hinted : {a b c : S} {kind : RefKind} {o first last index : ℕ} {made : Option Handle} → Searched facts a b kind o first last made → Hinted facts b c index → Searched facts a c kind o first last made
+  pub searched_hinted : {a b c : S} {kind : RefKind} {o first last index : ℕ} {order : List (ℕ × Bool) → Option Handle → Type 0} {made : Option Handle} → Searched facts a b kind o order first last made → Hinted facts b c index → Searched facts a c kind o order first last made
   searched_hinted p h = record {
     stands_is = h.stands_is ∙ p.stands_is;
     kind_is = p.kind_is;
-    did = λ k s m. let x = p.did k s m in (x.0, (h.same x.0).0 x.1, x.2, x.3, x.4, x.5, x.6, x.7, x.8);
+    did = λ k s m. let x = p.did k s m in (x.0, (h.same x.0).0 x.1, x.2, x.3, x.4, x.5, x.6, x.7, x.8, x.9);
   }

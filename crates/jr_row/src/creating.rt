@@ -5,7 +5,7 @@ ghost use Rattle.jr_word.specs.declared.fault.Fault.TheVariants.{RowFull};
 ghost use Rattle.jr_model.specs.declared.event.Role.TheVariants.{Within};
 ghost use Rattle.jr_steps.specs.Knowing.{HasObject, MayKnow};
 ghost use Rattle.jr_gate.specs.Stays.{IsOwnStay};
-ghost use Rattle.jr_row.specs.Searching.{Searched};
+ghost use Rattle.jr_row.specs.Searching.{GoesRound, InTurn, Searched};
 
 use jr_gate::Inside;
 use jr_steps::{SlotLoad, Steps};
@@ -17,7 +17,7 @@ fn try_slot<S: Steps>(steps: &mut S, index: u16, kind: RefKind, object: u16) -> 
     requires row { index < (S.facts steps.old).stands.config.slots }
     requires kind { kind ≢ Local }
     requires object { MayKnow S.facts steps.old (HasObject object) }
-    ensures tried { Searched S.facts steps.old steps.new kind object index (index + 1) result }
+    ensures tried { Searched S.facts steps.old steps.new kind object (InTurn index (index + 1)) index (index + 1) result }
     ensures index { IfSome result (λ h. h.index ≡ index) }
     ensures hint { (S.facts steps.new).hint ≡ (S.facts steps.old).hint }
 {
@@ -47,7 +47,7 @@ fn search<S: Steps>(
     requires range { (first ≤ last) × (last ≤ (S.facts steps.old).stands.config.slots) }
     requires kind { kind ≢ Local }
     requires object { MayKnow S.facts steps.old (HasObject object) }
-    ensures searched { Searched S.facts steps.old steps.new kind object first last result }
+    ensures searched { Searched S.facts steps.old steps.new kind object (InTurn first last) first last result }
     ensures index { IfSome result (λ h. h.index < (S.facts steps.old).stands.config.slots) }
     ensures hint { (S.facts steps.new).hint ≡ (S.facts steps.old).hint }
 {
@@ -65,7 +65,7 @@ fn search_round<S: Steps>(steps: &mut S, kind: RefKind, object: u16) -> Option<H
     requires role { (S.facts steps.old).stands.role ≡ Within }
     requires kind { kind ≢ Local }
     requires object { MayKnow S.facts steps.old (HasObject object) }
-    ensures searched { Searched S.facts steps.old steps.new kind object 0 (S.facts steps.old).stands.config.slots result }
+    ensures searched { Searched S.facts steps.old steps.new kind object (GoesRound (S.facts steps.old).hint (S.facts steps.old).stands.config.slots) 0 (S.facts steps.old).stands.config.slots result }
     ensures index { IfSome result (λ h. h.index < (S.facts steps.old).stands.config.slots) }
     ensures hint { (S.facts steps.new).hint ≡ (S.facts steps.old).hint }
 {
@@ -96,8 +96,8 @@ pub fn create<S: Steps>(
     requires stay { IsOwnStay inside.now (S.facts steps.old).stands }
     requires kind { kind ≢ Local }
     requires object { MayKnow S.facts steps.old (HasObject object) }
-    ensures ok { IfOk result (λ h. Searched S.facts steps.old steps.new kind object 0 (S.facts steps.old).stands.config.slots (Some h)) }
-    ensures err { IfErr result (λ e. (e ≡ RowFull) × Searched S.facts steps.old steps.new kind object 0 (S.facts steps.old).stands.config.slots None) }
+    ensures ok { IfOk result (λ h. Searched S.facts steps.old steps.new kind object (GoesRound (S.facts steps.old).hint (S.facts steps.old).stands.config.slots) 0 (S.facts steps.old).stands.config.slots (Some h)) }
+    ensures err { IfErr result (λ e. (e ≡ RowFull) × Searched S.facts steps.old steps.new kind object (GoesRound (S.facts steps.old).hint (S.facts steps.old).stands.config.slots) 0 (S.facts steps.old).stands.config.slots None) }
     ensures next { IfOk result (λ h. (S.facts steps.new).hint ≡ (h.index + 1) % (S.facts steps.old).stands.config.slots) }
     ensures stays { IfErr result (λ e. (S.facts steps.new).hint ≡ (S.facts steps.old).hint) }
 {
