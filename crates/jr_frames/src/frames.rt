@@ -108,7 +108,7 @@ impl Frames {
         }
     }
 
-    /// Removes the reference of a handle that stands, whichever frame has it.
+    /// Removes the reference of a handle that stands, whichever frame has it. Its place is given next, unless it is retired.
     pub fn delete(&mut self, handle: HandleParts)
         requires { IsSome (object_of self.old.frames handle) }
         ensures deleted { self.new.frames ≡ without_local self.old.frames handle }
@@ -119,7 +119,7 @@ impl Frames {
         self.rings.take_out(handle.index);
         if self.places[usize::from(handle.index)].given() <= u64::from(self.last) {
             let end = self.places.len() as u16;
-            self.rings.put_last(end, handle.index);
+            self.rings.put_first(end, handle.index);
             self.free += 1;
         }
     }
