@@ -16,3 +16,7 @@ pub mod Stacking
 pub mod Fresh
 pub mod FreshTable
 pub mod Oldest
+pub mod Popping
+pub mod Sound
+pub mod LastFrame
+pub mod Freeing

@@ -34,8 +34,8 @@ impl Model for Frames {
 impl Frames {
     ghost use Rattle.std.specs.Prelude.{◌≡◌, ◌≢◌, ◌≤◌, ◌==◌, ◌<◌, ◌+◌, ◌↔◌, [], IsTrue, length, IfSome, IfNone, IsSome, Some, None};
     ghost use Rattle.jr_model.specs.declared.frames.TheConstants.{FRAMES};
-    ghost use Rattle.jr_model.specs.Frames.{fresh_frames, object_of, object_at, free_places, IsAdded, without_local, pushed, popped, last_frame};
-    ghost use Rattle.jr_frames.specs.Table.{IsNext, IsOnly, TakesOldest, with_frames, oldest_handle};
+    ghost use Rattle.jr_model.specs.Frames.{fresh_frames, object_of, object_at, free_places, IsAdded, AreSound, without_local, pushed, popped, last_frame};
+    ghost use Rattle.jr_frames.specs.Table.{IsNext, IsOnly, TakesOldest, TakesOldestOf, with_frames, frame_at, oldest_handle};
 
     /// No reference, and as many places as the configuration says.
     pub fn new(thread: u8, config: &Config, last: u32) -> Frames
@@ -108,7 +108,7 @@ impl Frames {
         }
     }
 
-    /// Removes the reference of a handle that stands, whichever frame has it.
+    /// Removes the reference of a handle that stands, whichever frame has it. Its place is given next, unless it is retired.
     pub fn delete(&mut self, handle: HandleParts)
         requires { IsSome (object_of self.old.frames handle) }
         ensures deleted { self.new.frames ≡ without_local self.old.frames handle }
@@ -119,7 +119,7 @@ impl Frames {
         self.rings.take_out(handle.index);
         if self.places[usize::from(handle.index)].given() <= u64::from(self.last) {
             let end = self.places.len() as u16;
-            self.rings.put_last(end, handle.index);
+            self.rings.put_first(end, handle.index);
             self.free += 1;
         }
     }
@@ -138,6 +138,14 @@ impl Frames {
         self.depth() == 1
     }
 
+    /// A law, which does nothing when it runs: the frames are sound, so that each reference is in one frame, at a place of its own, with the last handle that the place gave.
+    pub fn are_sound(&self)
+        ensures { AreSound self.now.frames }
+    {
+        // A field is named, so that what holds of every table is known.
+        let _ = &self.thread;
+    }
+
     /// Adds a frame, which is empty.
     pub fn push(&mut self)
         requires { length self.old.frames.frames < FRAMES }
@@ -153,7 +161,19 @@ impl Frames {
         ensures stands { IfSome result (λ h. IsSome (object_of self.now.frames h)) }
         ensures rest { IfSome result (TakesOldest self.now.frames) }
     {
-        let end = (self.rings.links.len() - 1) as u16;
+        self.are_sound();
+        self.oldest_of(self.depth() - 1)
+    }
+
+    /// The handle of the oldest reference of a frame, none where that is empty. The base frame is number 0, and each that was pushed has the next number.
+    pub fn oldest_of(&self, frame: usize) -> Option<HandleParts>
+        requires { frame < length self.now.frames.frames }
+        ensures oldest { result ≡ oldest_handle (frame_at self.now.frames.frames frame) }
+        ensures empty { IfNone result (frame_at self.now.frames.frames frame ≡ []) }
+        ensures stands { IfSome result (λ h. IsSome (object_of self.now.frames h)) }
+        ensures rest { IfSome result (TakesOldestOf self.now.frames frame) }
+    {
+        let end = (self.places.len() + 1 + frame) as u16;
         let index = self.rings.newer(end);
         if index == end {
             return None;

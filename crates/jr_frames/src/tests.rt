@@ -1,3 +1,7 @@
+ghost use Rattle.std.specs.Prelude.{◌≡◌, ◌≤◌, length};
+ghost use Rattle.jr_model.specs.Frames.{popped};
+ghost use Rattle.jr_frames.specs.Table.{with_frames};
+
 use crate::frames::Frames;
 use crate::place::Place;
 use crate::rings::{Link, MOST_PLACES};
@@ -53,6 +57,17 @@ fn popped(frames: &mut Frames) -> Result<(), Fail> {
     Ok(())
 }
 
+/// Takes the newest frame away with its references, the oldest first.
+fn pop_whole(frames: &mut Frames)
+    requires { 2 ≤ length frames.old.frames.frames }
+    ensures { frames.new ≡ with_frames frames.old (popped frames.old.frames) }
+{
+    while let Some(handle) = frames.oldest_of_newest() {
+        frames.delete(handle);
+    }
+    frames.pop_empty();
+}
+
 #[test]
 fn sixteen_places_give_48_handles(rt: HostRuntime) -> Result<(), Fail> {
     let mut frames = frames_of_sixteen();
@@ -78,6 +93,28 @@ fn a_fresh_table_gives_places_in_order(rt: HostRuntime) -> Result<(), Fail> {
         assert_eq!(rt; handle.index, index);
     }
     assert_eq!(rt; frames.next(), None);
+    Ok(())
+}
+
+#[test]
+fn a_freed_place_is_given_first(rt: HostRuntime) -> Result<(), Fail> {
+    let mut frames = frames_of_sixteen();
+    let first = added(&mut frames, 1)?;
+    let second = added(&mut frames, 2)?;
+    deleted(&mut frames, first)?;
+    let again = added(&mut frames, 3)?;
+    assert_eq!(rt; (again.index, again.serial), (first.index, 1));
+    for index in 2..5 {
+        let fresh = added(&mut frames, 4)?;
+        assert_eq!(rt; (fresh.index, fresh.serial), (index, 0));
+    }
+    deleted(&mut frames, second)?;
+    deleted(&mut frames, again)?;
+    let last = added(&mut frames, 5)?;
+    assert_eq!(rt; (last.index, last.serial), (first.index, 2));
+    deleted(&mut frames, last)?;
+    let other = added(&mut frames, 6)?;
+    assert_eq!(rt; (other.index, other.serial), (second.index, 1));
     Ok(())
 }
 
@@ -125,18 +162,32 @@ fn a_pop_takes_the_oldest_first(rt: HostRuntime) -> Result<(), Fail> {
 }
 
 #[test]
+fn a_pop_takes_its_frame_alone(rt: HostRuntime) -> Result<(), Fail> {
+    let mut frames = frames_of_sixteen();
+    let base = added(&mut frames, 9)?;
+    pushed(&mut frames)?;
+    let first = added(&mut frames, 1)?;
+    let second = added(&mut frames, 2)?;
+    if frames.depth() < 2 {
+        return Err("the base frame")?;
+    }
+    pop_whole(&mut frames);
+    assert!(rt; frames.is_base());
+    assert_eq!(rt; frames.object_of(base), Some(9));
+    assert_eq!(rt; frames.object_of(first), None);
+    assert_eq!(rt; frames.object_of(second), None);
+    Ok(())
+}
+
+#[test]
 fn retired_places_do_not_count(rt: HostRuntime) -> Result<(), Fail> {
     let mut frames = frames_of_sixteen();
     assert!(rt; frames.has_room(16));
     assert!(rt; !frames.has_room(17));
-    for _ in 0..32 {
+    for given in 1..49 {
         let handle = added(&mut frames, 7)?;
         deleted(&mut frames, handle)?;
-        assert!(rt; frames.has_room(16));
-    }
-    for retired in 1..17 {
-        let handle = added(&mut frames, 7)?;
-        deleted(&mut frames, handle)?;
+        let retired = given / 3;
         assert!(rt; frames.has_room(16 - retired));
         assert!(rt; !frames.has_room(17 - retired));
     }
