@@ -1,5 +1,7 @@
 -- A call between an entry and its exit.
-use Rattle.std.proofs.Common.{◌≡◌, ℕ, [], ◌∷◌, Result, Err, length, refl, sym, ap, subst, ◌∙◌}
+use Rattle.std.proofs.Common.{◌≡◌, ℕ, false, List, [], ◌∷◌, Result, Err, length, refl, sym, ap, subst, ◌∙◌}
+use Rattle.std.proofs.Math.Logic.{∥∥₁_elim}
+use Rattle.std.proofs.Props.{props}
 use Rattle.std.proofs.lemmas.List.{length-replicate}
 use mathlib.Core.Logic.{∥∥₁_map}
 use Rattle.std.specs.Result.{IsErrAnd}
@@ -8,12 +10,13 @@ use Rattle.jr_word.specs.declared.fault.Fault.{Fault}
 use Rattle.jr_word.specs.declared.fault.Fault.TheVariants.{Barred}
 use Rattle.jr_model.specs.declared.event.Role.{Role}
 use Rattle.jr_model.specs.declared.event.Role.TheVariants.{Outside, Within}
-use Rattle.jr_model.specs.declared.event.Act.TheVariants.{Enter, Knock, Leave, Withdraw}
+use Rattle.jr_model.specs.declared.event.Act.{Act}
+use Rattle.jr_model.specs.declared.event.Act.TheVariants.{Enter, Knock, Leave, Withdraw, LocalPut, LocalDrop}
 use Rattle.jr_model.specs.Frames.{Frames, fresh_frames, object_at}
 use Rattle.jr_model.specs.Calls.{Call, entered}
 use Rattle.jr_model.proofs.Runs.{ran_barred, ran_entered}
 use Rattle.jr_steps.specs.declared.known.Known.{Known}
-use Rattle.jr_steps.specs.Knowing.{Facts, Standing, standing_after, anything, keeps, lets_go, Holds, HasNoLocals, MayKnow, Took}
+use Rattle.jr_steps.specs.Knowing.{Facts, Standing, standing_after, fresh_from, anything, keeps, lets_go, Holds, HasNoLocals, MayKnow, Took, Spent}
 use Rattle.jr_steps.proofs.StepFacts.{goes_did, goes_stepped}
 use Rattle.jr_gate.specs.Acting.{ActedTo, IsWithdrawn}
 use Rattle.jr_frames.specs.Table.{Table}
@@ -35,6 +38,13 @@ with_role s r = record s { role = r }
 abbrev fresh_table : Standing → Table
 fresh_table s = record { frames = fresh_frames s.config.locals; thread = s.thread; last = s.last }
 
+-- no act makes a pass fresh again
+never_fresh : (acts : List Act) → fresh_from false acts ≡ false
+never_fresh [] = refl
+never_fresh (LocalPut p o ∷ acts) = never_fresh acts
+never_fresh (LocalDrop p ∷ acts) = never_fresh acts
+never_fresh (_ ∷ acts) = never_fresh acts
+
 -- an entry, work in between, and an exit
 left_before : {r s t u : Standing} → r.role ≡ Outside → s ≡ standing_after r (Enter ∷ []) → IsAsBefore s t → u ≡ standing_after t (Leave ∷ []) → IsAsBefore r u
 left_before {r} out e p l = record {
@@ -51,6 +61,7 @@ module _ {S : Type 0} {facts : S → Facts} where
       → Performed facts a b t.frames u.frames silent (Holds t.frames) (λ s. work) answer (λ j k. so j k × Holds u.frames k) → StandsReady facts role b u
   ready_after r o p = record {
     role_is = p.stands_is.role ∙ r.role_is;
+    spent = ∥∥₁_elim r.agrees (hlevel props) (λ k. let x = p.ran k.0 k.1 k.2 in x.2.spent.fresh ∙ (ap (λ b. fresh_from b x.2.ran.acts) r.spent ∙ never_fresh x.2.ran.acts));
     owner = o.thread ∙ (r.owner ∙ sym p.stands_is.thread);
     last = o.last ∙ (r.last ∙ sym p.stands_is.last);
     places = o.places ∙ (r.places ∙ sym (ap (λ (r : Config). r.locals) p.stands_is.config));
@@ -60,19 +71,21 @@ module _ {S : Type 0} {facts : S → Facts} where
   pub ready_called : {A : Type 0} {a b : S} {t u : Table} {role : Role} {work : Call A} {answer : Result A Fault} → StandsReady facts role a t → KeepsOwner t u → Calls facts a b t.frames u.frames work answer → StandsReady facts role b u
   ready_called r o p = ready_after {so = keeps} r o p
 
-  -- a thread without local references
-  pub ready_new : (a : S) (t : Table) → t ≡ fresh_table (facts a).stands → (facts a).stands.role ≡ Outside → ((k : Known) → (facts a).knows k → HasNoLocals k) → MayKnow facts a anything → StandsReady facts Outside a t
-  ready_new a t is out fresh some = record {
-    role_is = out;
+  -- a thread whose pass was fresh, and is spent
+  pub ready_new : {a b : S} (t : Table) → Spent facts a b → t ≡ fresh_table (facts b).stands → (facts a).stands.role ≡ Outside → ((k : Known) → (facts a).knows k → HasNoLocals k) → MayKnow facts a anything → StandsReady facts Outside b t
+  ready_new {b = b} t spent is out unused some = record {
+    role_is = ap (λ (s : Standing). s.role) spent.stands_is ∙ out;
+    spent = ap (λ (s : Standing). s.fresh) spent.stands_is;
     owner = ap (λ (u : Table). u.thread) is;
     last = ap (λ (u : Table). u.last) is;
-    places = ap (λ (u : Table). length u.frames.given) is ∙ length-replicate (facts a).stands.config.locals 0;
-    agrees = ∥∥₁_map some (λ k. (k.0, k.1, λ p. fresh k.0 k.1 p ∙ sym (ap (λ (u : Table). object_at u.frames p) is)));
+    places = ap (λ (u : Table). length u.frames.given) is ∙ length-replicate (facts b).stands.config.locals 0;
+    agrees = ∥∥₁_map some (λ k. (k.0, (spent.same k.0).0 k.1, λ p. unused k.0 k.1 p ∙ sym (ap (λ (u : Table). object_at u.frames p) is)));
   }
 
   pub ready_entered : {a b : S} {t : Table} → StandsReady facts Outside a t → Took facts a b (Enter ∷ []) anything keeps → StandsReady facts Within b t
   ready_entered {t} r e = record {
     role_is = ap (λ (s : Standing). s.role) e.stands_is;
+    spent = ap (λ (s : Standing). s.fresh) e.stands_is ∙ r.spent;
     owner = r.owner ∙ sym (ap (λ (s : Standing). s.thread) e.stands_is);
     last = r.last ∙ sym (ap (λ (s : Standing). s.last) e.stands_is);
     places = r.places ∙ sym (ap (λ (s : Standing). s.config.locals) e.stands_is);

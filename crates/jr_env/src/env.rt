@@ -9,7 +9,7 @@ use jr_frames::Frames;
 use jr_steps::Steps;
 use jr_word::{Fault, Handle, RefKind};
 
-/// A thread's steps and its local references. The thread is outside the gate.
+/// A thread's steps and its local references. The thread is outside the gate, and its pass is not fresh.
 #[derive(Drop)]
 pub struct Env<S: Steps> {
     /// The thread's steps.
@@ -20,25 +20,34 @@ pub struct Env<S: Steps> {
 }
 
 impl<S: Steps> Env<S> {
-    ghost use Rattle.std.specs.Prelude.{◌≡◌, ◌≢◌};
+    ghost use Rattle.std.specs.Prelude.{◌≡◌, ◌≢◌, true, false, IfOk, IfErr};
+    ghost use Rattle.jr_word.specs.declared.fault.Fault.TheVariants.{NotFresh};
     ghost use Rattle.jr_word.specs.declared.handle.RefKind.TheVariants.{Local, Global, Weak};
     ghost use Rattle.jr_model.specs.declared.event.Role.TheVariants.{Outside};
     ghost use Rattle.jr_model.specs.Frames.{fresh_frames};
-    ghost use Rattle.jr_steps.specs.Knowing.{HasNoLocals};
-    ghost use Rattle.jr_steps.specs.declared.known.Known.{Known};
+    ghost use Rattle.jr_steps.specs.Knowing.{Spent};
     ghost use Rattle.jr_env.specs.Envs.{Does};
     ghost use Rattle.jr_env.specs.Deeds.{new_plain, new_reference, new_local_ref, delete_reference, delete_local_ref, is_same_object, get_object_ref_type};
 
-    /// The env of a thread that has no local reference.
-    pub fn new(steps: S) -> Self
-        requires outside { (S.facts steps).stands.role ≡ Outside }
-        requires fresh { (k : Known) → (S.facts steps).knows k → HasNoLocals k }
-        ensures steps { result.steps ≡ steps }
-        ensures frames { result.frames.frames ≡ fresh_frames (S.facts steps).stands.config.locals }
+    /// The env of a thread, with one base frame, over a pass that is fresh, which is spent. It takes no step.
+    ///
+    /// # Errors
+    ///
+    /// E21 where the pass is not fresh: the steps are handed back.
+    pub fn new(mut steps: S) -> Result<Self, (S, Fault)>
+        requires { (S.facts steps).stands.role ≡ Outside }
+        ensures fresh { IfOk result (λ _. (S.facts steps).stands.fresh ≡ true) }
+        ensures steps { IfOk result (λ env. Spent S.facts steps env.steps) }
+        ensures frames { IfOk result (λ env. env.frames.frames ≡ fresh_frames (S.facts steps).stands.config.locals) }
+        ensures err { IfErr result (λ e. ((S.facts steps).stands.fresh ≡ false) × (e ≡ (steps, NotFresh))) }
     {
+        if !steps.fresh() {
+            return Err((steps, Fault::NotFresh));
+        }
+        steps.spend();
         let config = steps.config();
         let frames = Frames::new(steps.thread(), &config, steps.last());
-        Env { steps, frames }
+        Ok(Env { steps, frames })
     }
 
     /// Makes a plain object and a local reference to it: E9, E11, E13.

@@ -1,5 +1,5 @@
 -- What all threads of a script did, in one history.
-use Rattle.std.proofs.Common.{◌≡◌, ◌+◌, ◌<◌, ◌++◌, ℕ, zero, suc, List, [], ◌∷◌, map, length, Result, Ok, refl, sym, ap, subst, ◌∙◌, arith}
+use Rattle.std.proofs.Common.{◌≡◌, ◌+◌, ◌<◌, ◌++◌, ℕ, zero, suc, false, List, [], ◌∷◌, map, length, Result, Ok, refl, sym, ap, subst, ◌∙◌, arith}
 use Rattle.std.proofs.lemmas.List.{append-nil}
 use Rattle.std.specs.List.{All, AllZip, AllByRecursion}
 use Rattle.std.proofs.lemmas.List.Elements.{recursion_from_All, All-from_recursion, All-head, All-tail}
@@ -18,7 +18,7 @@ use Rattle.jr_steps.specs.declared.known.Known.{Known}
 use Rattle.jr_rule.specs.declared.pass.Pass.{Pass}
 use Rattle.jr_rule.specs.declared.row.Row.{Row}
 use Rattle.jr_steps.specs.Holdings.{empty}
-use Rattle.jr_steps.specs.Knowing.{view, Holds}
+use Rattle.jr_steps.specs.Knowing.{Standing, view, Holds}
 use Rattle.jr_rule.specs.Rule.{known}
 use Rattle.jr_rule.specs.PassLaws.{still_of}
 use Rattle.jr_rule.specs.Passes.{facts_of, known_of, standing_of, Knows, IsAt, IsOpened, AreOpened, numbers_below, IsSeenIn, ClosesAll}
@@ -64,19 +64,20 @@ played turns last c r p q first commands answer lines config_is last_is o x done
     let k0 : Known = known c last t [] empty 0 in
     let knows0 : known_of p ≡ k0 = o.knows ∙ (λ i. known (config_is i) (last_is i) t [] empty 0) in
     let fresh : fresh_frames (standing_of p).config.locals ≡ fresh_frames c.locals = ap (λ (k : Known). fresh_frames k.config.locals) knows0 in
-    let ran : RanThread facts_of p q (fresh_frames c.locals) x.frames turns first commands (Ok tt) lines
-    = subst (λ a. RanThread facts_of p q (fresh_frames c.locals) x.frames turns first commands a lines) done
-    (subst (λ f. RanThread facts_of p q f x.frames turns first commands answer lines) fresh x.ran) in
+    let spent : standing_of x.spent ≡ record (standing_of p) { fresh = false } = (x.spends).stands_is in
+    let ran : RanThread facts_of x.spent q (fresh_frames c.locals) x.frames turns first commands (Ok tt) lines
+    = subst (λ a. RanThread facts_of x.spent q (fresh_frames c.locals) x.frames turns first commands a lines) done
+    (subst (λ f. RanThread facts_of x.spent q f x.frames turns first commands answer lines) fresh x.ran) in
     let holds0 : Holds (fresh_frames c.locals) k0 = λ place. refl in
-    let y = ran.explained (known_of p) (opened_knows r p o) (subst (Holds (fresh_frames c.locals)) (sym knows0) holds0) in
+    let y = ran.explained (known_of p) (((x.spends).same (known_of p)).0 (opened_knows r p o)) (subst (Holds (fresh_frames c.locals)) (sym knows0) holds0) in
     let is : y.0 ≡ known_of q = (y.1).is in
     let s = ran.stands_is in
-    let same_config : (known_of q).config ≡ c = s.config ∙ ap (λ (k : Known). k.config) knows0 in
-    let same_last : (known_of q).last ≡ last = s.last ∙ ap (λ (k : Known). k.last) knows0 in
-    let is_of : (known_of q).thread ≡ t = q.held.thread_is ∙ s.thread in
+    let same_config : (known_of q).config ≡ c = s.config ∙ (ap (λ (z : Standing). z.config) spent ∙ ap (λ (k : Known). k.config) knows0) in
+    let same_last : (known_of q).last ≡ last = s.last ∙ (ap (λ (z : Standing). z.last) spent ∙ ap (λ (k : Known). k.last) knows0) in
+    let is_of : (known_of q).thread ≡ t = q.held.thread_is ∙ (s.thread ∙ ap (λ (z : Standing). z.thread) spent) in
     let end : Known → Moment = λ k. moment (standing_of q).fresh k x.frames in
     let from : Explained turns first (opening_of c last t) commands lines (end y.0)
-    = subst (λ b. Explained turns first (moment b k0 (fresh_frames c.locals)) commands lines (end y.0)) o.fresh (subst (λ (k : Known). Explained turns first (moment (standing_of p).fresh k (fresh_frames c.locals)) commands lines (end y.0)) knows0 y.3) in
+    = subst (λ b. Explained turns first (moment b k0 (fresh_frames c.locals)) commands lines (end y.0)) (ap (λ (z : Standing). z.fresh) spent) (subst (λ (k : Known). Explained turns first (moment (standing_of x.spent).fresh k (fresh_frames c.locals)) commands lines (end y.0)) knows0 y.3) in
     record {
       same_config = same_config;
       same_last = same_last;
@@ -198,7 +199,8 @@ ends_at r (q ∷ qs) js [] (e ∷ ends) text for ran told = absurd told
 ends_at r (q ∷ qs) [] (x ∷ xs) (e ∷ ends) text for ran told = absurd ran
 ends_at r (q ∷ qs) (j ∷ js) (x ∷ xs) (e ∷ ends) text for ran told =
     let s = ((ran.0).ran).stands_is in
-    (subst (IsAt r) told.1 (still_of r j.pass x.pass s.room s.config s.last ((for.0).opened).row), ends_at r qs js xs ends told.2 for.1 ran.1 told.4)
+    let spent = ((ran.0).spends).stands_is in
+    (subst (IsAt r) told.1 (still_of r j.pass x.pass (s.room ∙ ap (λ (z : Standing). z.room) spent) (s.config ∙ ap (λ (z : Standing). z.config) spent) (s.last ∙ ap (λ (z : Standing). z.last) spent) ((for.0).opened).row), ends_at r qs js xs ends told.2 for.1 ran.1 told.4)
 
 module _ (c : Config) (last : ℕ) (r : Row) (turns line : ℕ) (ps : List Pass) (qs : List ThreadPart) (js : List Job) (xs : List ThreadRun) (ends : List Pass) (text : List ℕ) (q : Pass) (others : List Pass)
     (o : AreOpened c last r ps) (jobs : AreJobsOf turns line ps qs js) (ran : AllZip HasRun js xs) (told : AreTold qs xs ends text) (is : ends ≡ q ∷ others) where

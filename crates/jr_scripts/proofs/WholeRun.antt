@@ -1,5 +1,5 @@
 -- A script of one thread, from the opening state to the last line.
-use Rattle.std.proofs.Common.{◌≡◌, ℕ, true, List, ◌++◌, Result, Ok, refl, sym, ap, subst, ◌∙◌}
+use Rattle.std.proofs.Common.{◌≡◌, ℕ, true, false, List, ◌++◌, Result, Ok, refl, sym, ap, subst, ◌∙◌}
 use Rattle.jr_word.specs.declared.config.Config.{Config}
 use Rattle.jr_word.specs.declared.fault.Fault.{Fault}
 use Rattle.jr_model.specs.declared.event.Role.TheVariants.{Outside}
@@ -10,7 +10,7 @@ use Rattle.jr_model.specs.Frames.{Frames, fresh_frames}
 use Rattle.jr_syntax.specs.declared.command.Command.{Command}
 use Rattle.jr_syntax.specs.declared.thread.ThreadPart.{ThreadPart}
 use Rattle.jr_steps.specs.declared.known.Known.{Known}
-use Rattle.jr_steps.specs.Knowing.{AreOf, Facts, view, Holds}
+use Rattle.jr_steps.specs.Knowing.{AreOf, Facts, Standing, view, Holds, Spent}
 use Rattle.jr_rule.specs.declared.plain.PlainSteps.{PlainSteps}
 use Rattle.jr_rule.specs.Plain.{unseen, standing_alone, facts_from, Shows}
 use Rattle.jr_gate.specs.Performing.{moment}
@@ -33,13 +33,13 @@ opening_holds c last p = refl
 
 module _ {S : Type 0} {facts : S → Facts} (fits : AreOf facts) where
   pub is_run : {old new : S} {f g : Frames} (turns last : ℕ) (c : Config) (part : ThreadPart) (lines whole : List ℕ) (v : Summary)
-      → c.threads ≡ 1 → (facts old).stands.config ≡ c → (facts old).stands.last ≡ last → (facts old).stands.thread ≡ 0 → (facts old).stands.fresh ≡ true
+      → c.threads ≡ 1 → (facts old).stands.config ≡ c → (facts old).stands.last ≡ last → (facts old).stands.thread ≡ 0 → (facts old).stands.fresh ≡ false
       → (facts old).knows (unseen c last) → f ≡ fresh_frames c.locals
       → RanThread facts old new f g turns 3 part.commands (Ok tt) lines
       → ((k : Known) → (facts new).knows k → v ≡ summary k.config k.last (state k.seen))
       → whole ≡ heading part.name ++ lines ++ ending v
       → IsRun turns last c part whole
-  is_run {old} {new} {f} {g} turns last c part lines whole v one config_is last_is thread_is unspent known fresh ran tells whole_is =
+  is_run {old} {new} {f} {g} turns last c part lines whole v one config_is last_is thread_is spent known fresh ran tells whole_is =
       let k0 = unseen c last in
       let x = ran.explained k0 known (subst (λ h. Holds h k0) (sym fresh) (opening_holds c last)) in
       let k = x.0 in
@@ -50,7 +50,7 @@ module _ {S : Type 0} {facts : S → Facts} (fits : AreOf facts) where
       let legal : IsLegal c last k.seen = subst (λ d. IsLegal d last k.seen) config_of (subst (λ l. IsLegal k.config l k.seen) last_of of.legal) in
       let sum : v ≡ summary c last (state k.seen) = tells k x.1 ∙ (ap (λ d. summary d k.last (state k.seen)) config_of ∙ ap (λ l. summary c l (state k.seen)) last_of) in
       let end = moment (facts new).stands.fresh k g in
-      let from : Explained turns 3 (opening_moment c last) part.commands lines end = subst (λ b. Explained turns 3 (moment b k0 (fresh_frames c.locals)) part.commands lines end) unspent (subst (λ h. Explained turns 3 (moment (facts old).stands.fresh k0 h) part.commands lines end) fresh x.3) in
+      let from : Explained turns 3 (opening_moment c last) part.commands lines end = subst (λ b. Explained turns 3 (moment b k0 (fresh_frames c.locals)) part.commands lines end) spent (subst (λ h. Explained turns 3 (moment (facts old).stands.fresh k0 h) part.commands lines end) fresh x.3) in
       let all = undisturbed c last one k.seen legal in
       let went = went_alone turns 3 (opening_moment c last) end part.commands lines from.0 from.1 (lone_pass (view k) (ap (λ d. d.threads) config_of ∙ one) thread_of all) in
       record {
@@ -65,21 +65,25 @@ module _ {S : Type 0} {facts : S → Facts} (fits : AreOf facts) where
         text_is = whole_is ∙ ap (λ s. heading part.name ++ lines ++ ending s) sum;
       }
 
--- the same over plain steps
+-- what is known of plain steps
+abbrev plain_facts : PlainSteps 4294967295 → Facts
+plain_facts s = facts_from s.hint (standing_alone s.config 4294967295 s.role s.fresh) s.words.items
+
+-- the same over plain steps, which were spent as they were made
 pub plain_run : {old new : PlainSteps 4294967295} {f g : Frames} {commands : List Command} {answer : Result (Unit {0}) Fault} (turns : ℕ) (c : Config) (part : ThreadPart) (lines whole : List ℕ) (v : Summary) (made : PlainSteps 4294967295)
     → c.threads ≡ 1 → made.config ≡ c → made.role ≡ Outside → made.fresh ≡ true → Shows (standing_alone c 4294967295 Outside true) made.words.items (unseen c 4294967295)
-    → old ≡ made → f ≡ fresh_frames made.config.locals
+    → Spent plain_facts made old → f ≡ fresh_frames made.config.locals
     → commands ≡ part.commands → answer ≡ Ok tt
-    → RanThread (λ s. facts_from s.hint (standing_alone s.config 4294967295 s.role s.fresh) s.words.items) old new f g turns 3 commands answer lines
+    → RanThread plain_facts old new f g turns 3 commands answer lines
     → ((k : Known) → Shows (standing_alone new.config 4294967295 new.role new.fresh) new.words.items k → v ≡ summary k.config k.last (state k.seen))
     → whole ≡ heading part.name ++ lines ++ ending v
     → IsRun turns 4294967295 c part whole
-plain_run {old} {new} {f} {g} {commands} turns c part lines whole v made one config_is role_is fresh_is opening same fresh these good ran tells whole_is =
-    let known : Shows (standing_alone old.config 4294967295 old.role old.fresh) old.words.items (unseen c 4294967295)
-    = subst (λ (s : PlainSteps 4294967295). Shows (standing_alone s.config 4294967295 s.role s.fresh) s.words.items (unseen c 4294967295)) (sym same)
-    (subst (λ d. Shows (standing_alone d 4294967295 made.role made.fresh) made.words.items (unseen c 4294967295)) (sym config_is)
+plain_run {old} {new} {f} {g} {commands} turns c part lines whole v made one config_is role_is fresh_is opening spent fresh these good ran tells whole_is =
+    let known : Shows (standing_alone made.config 4294967295 made.role made.fresh) made.words.items (unseen c 4294967295)
+    = subst (λ d. Shows (standing_alone d 4294967295 made.role made.fresh) made.words.items (unseen c 4294967295)) (sym config_is)
     (subst (λ r. Shows (standing_alone c 4294967295 r made.fresh) made.words.items (unseen c 4294967295)) (sym role_is)
-    (subst (λ b. Shows (standing_alone c 4294967295 Outside b) made.words.items (unseen c 4294967295)) (sym fresh_is) opening))) in
+    (subst (λ b. Shows (standing_alone c 4294967295 Outside b) made.words.items (unseen c 4294967295)) (sym fresh_is) opening)) in
+    let stands = spent.stands_is in
     let Leads : List Command → Result (Unit {0}) Fault → Type 0
-    = λ cs r. RanThread (λ (s : PlainSteps 4294967295). facts_from s.hint (standing_alone s.config 4294967295 s.role s.fresh) s.words.items) old new f g turns 3 cs r lines in
-    is_run (λ s k h. h.pass) turns 4294967295 c part lines whole v one (ap (λ (s : PlainSteps 4294967295). s.config) same ∙ config_is) refl refl (ap (λ (s : PlainSteps 4294967295). s.fresh) same ∙ fresh_is) known (fresh ∙ ap (λ d. fresh_frames d.locals) config_is) (subst (λ cs. Leads cs (Ok tt)) these (subst (Leads commands) good ran)) tells whole_is
+    = λ cs r. RanThread plain_facts old new f g turns 3 cs r lines in
+    is_run (λ s k h. h.pass) turns 4294967295 c part lines whole v one (ap (λ (s : Standing). s.config) stands ∙ config_is) refl refl (ap (λ (s : Standing). s.fresh) stands) ((spent.same (unseen c 4294967295)).0 known) (fresh ∙ ap (λ d. fresh_frames d.locals) config_is) (subst (λ cs. Leads cs (Ok tt)) these (subst (Leads commands) good ran)) tells whole_is

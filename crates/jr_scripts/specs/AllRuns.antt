@@ -1,5 +1,5 @@
 -- Runs of scripts of several threads, in one room and one history.
-use Rattle.std.specs.Prelude.{◌≡◌, ◌+◌, ℕ, zero, suc, true, List, [], ◌∷◌, ◌++◌, length, Result}
+use Rattle.std.specs.Prelude.{◌≡◌, ◌+◌, ℕ, zero, suc, false, List, [], ◌∷◌, ◌++◌, length, Result}
 use mathlib.Core.List.{IsPrefix}
 use Rattle.jr_word.specs.declared.config.Config.{Config}
 use Rattle.jr_word.specs.declared.fault.Fault.{Fault}
@@ -15,22 +15,26 @@ use Rattle.jr_rule.specs.declared.pass.Pass.{Pass}
 use Rattle.jr_rule.specs.Passes.{facts_of, standing_of}
 use Rattle.jr_gate.specs.Performing.{Moment}
 use Rattle.jr_steps.specs.Holdings.{empty}
+use Rattle.jr_steps.specs.Knowing.{Spent}
 use Rattle.jr_scripts.specs.Text.{heading, ending}
 use Rattle.jr_scripts.specs.Explains.{Explained}
 use Rattle.jr_scripts.specs.Runs.{RanThread}
 
--- a thread ran these commands with its pass, which it hands back
+-- a thread ran these commands with its pass, which was spent first, and which it hands back, not fresh
 pub record RanPass (turns first : ℕ) (commands : List Command) (old new : Pass) (answer : Result (Unit {0}) Fault) (text : List ℕ) : Type 0 where
+  pub spent : Pass
+  pub spends : Spent facts_of old spent
+  pub used_up : new.fresh ≡ false
   pub frames : Frames
-  pub ran : RanThread facts_of old new (fresh_frames (standing_of old).config.locals) frames turns first commands answer text
+  pub ran : RanThread facts_of spent new (fresh_frames (standing_of old).config.locals) frames turns first commands answer text
 
 -- a pass of the thread that has seen this
 abbrev pub seeing_as : Config → ℕ → ℕ → History → PassView
 seeing_as c last t seen = record { config = c; last = last; thread = t; seen = seen }
 
--- before the thread's first command: it has seen nothing, and no local reference stands
+-- before the thread's first command: it has seen nothing, no local reference stands, and its pass is spent
 abbrev pub opening_of : Config → ℕ → ℕ → Moment
-opening_of c last t = record { pass = seeing_as c last t []; frames = fresh_frames c.locals; held = empty; fresh = true; taken = 0 }
+opening_of c last t = record { pass = seeing_as c last t []; frames = fresh_frames c.locals; held = empty; fresh = false; taken = 0 }
 
 -- what closing the room adds: the first thread looks at the gate
 abbrev pub closing_acts : ℕ → List Act

@@ -1,5 +1,5 @@
 -- Runs of whole threads and scripts, for whatever was known.
-use Rattle.std.specs.Prelude.{◌≡◌, ◌≢◌, ℕ, true, List, [], ◌∷◌, ◌++◌, Result, Ok, Err}
+use Rattle.std.specs.Prelude.{◌≡◌, ◌≢◌, ℕ, true, false, List, [], ◌∷◌, ◌++◌, Result, Ok, Err}
 use Rattle.std.specs.List.{AllByRecursion}
 use Rattle.std.specs.declared.alloc.AllocError.{AllocError}
 use Rattle.jr_word.specs.declared.config.Config.{Config}
@@ -38,9 +38,9 @@ WritesDown number c answer names names' (Err _) old new = new ≡ old
 abbrev pub seeing : Config → ℕ → History → PassView
 seeing c last seen = record { config = c; last = last; thread = 0; seen = seen }
 
--- before the first command: nothing has happened, and no local reference stands
+-- before the first command: nothing has happened, no local reference stands, and the pass is spent
 abbrev pub opening_moment : Config → ℕ → Moment
-opening_moment c last = record { pass = seeing c last []; frames = fresh_frames c.locals; held = empty; fresh = true; taken = 0 }
+opening_moment c last = record { pass = seeing c last []; frames = fresh_frames c.locals; held = empty; fresh = false; taken = 0 }
 
 -- thread 0 did it, and it is no knock at a shut gate, no shut that others were in the way of, and no reservation that another was faster at
 pub record IsUnbarred (e : Event) : Type 0 where

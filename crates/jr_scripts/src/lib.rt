@@ -4,6 +4,7 @@
 mod all;
 mod env_call;
 mod names;
+mod opening;
 mod part;
 mod perform;
 mod printed;

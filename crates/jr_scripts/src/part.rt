@@ -3,6 +3,7 @@
 ghost use Rattle.jr_scripts.specs.AllRuns.{RanPass};
 ghost use Rattle.jr_scripts.specs.Jobs.{IsForPart};
 
+use crate::opening::opened_env;
 use crate::run::run_thread;
 use jr_env::Env;
 use jr_rule::{Pass, Room, RoomSteps};
@@ -40,7 +41,7 @@ pub(crate) fn run_job<const LAST: u32>(
     ensures { RanPass turns first part.now.commands pass result.pass result.answer result.text.items }
 {
     let mut text = Vec::new(alloc);
-    let mut env = Env::new(RoomSteps::new(room, pass));
+    let mut env = opened_env(RoomSteps::new(room, pass));
     let commands = part.commands.as_slice();
     let answer = run_thread(alloc, &mut env, first, commands, turns, &mut text);
     let Env { steps, frames: _ } = env;

@@ -5,9 +5,9 @@ ghost use Rattle.jr_word.specs.declared.fault.Fault.TheVariants.{Memory, Size};
 ghost use Rattle.jr_word.specs.Config.{in_limits};
 ghost use Rattle.jr_scripts.specs.Runs.{IsRun, IsSingle, RunsSingle};
 
+use crate::opening::opened_env;
 use crate::printed::{ending, heading};
 use crate::run::run_thread;
-use jr_env::Env;
 use jr_rule::PlainSteps;
 use jr_syntax::{Script, ThreadPart};
 use jr_word::{Config, Fault};
@@ -35,7 +35,7 @@ fn run_part(alloc: Global, config: Config, part: &ThreadPart, turns: u64) -> Res
 {
     let mut text = heading(alloc, &part.name).map_err(out_of_memory)?;
     let steps = PlainSteps::<LAST>::new(alloc, config)?;
-    let mut env = Env::new(steps);
+    let mut env = opened_env(steps);
     let commands = part.commands.as_slice();
     run_thread(alloc, &mut env, FIRST_COMMAND, commands, turns, &mut text)?;
     let summary = env.steps.summary();

@@ -5,9 +5,9 @@
 
 mod references;
 
+use crate::opening::opened_env;
 use crate::run::run_thread;
 use crate::single::run_one;
-use jr_env::Env;
 use jr_model::Summary;
 use jr_rule::PlainSteps;
 use jr_syntax::{
@@ -231,7 +231,7 @@ fn a_thread_without_turns(rt: HostRuntime) -> Result<(), Fail> {
             target: Reference::Named(name(&rt, b"p")),
         },
     ];
-    let mut env = Env::new(PlainSteps::<2>::new(alloc, SIZES)?);
+    let mut env = opened_env(PlainSteps::<2>::new(alloc, SIZES)?);
     let mut out = Vec::from_slice(alloc, BEFORE)?;
     run_thread(alloc, &mut env, 10, &commands, 0, &mut out)?;
     assert_eq!(rt; out.as_slice(), b"before\n10 ! E20\ntype p 0\n".as_slice());
@@ -245,7 +245,7 @@ fn a_thread_without_turns(rt: HostRuntime) -> Result<(), Fail> {
 
 #[test]
 fn retires_a_slot_after_its_last_serial(rt: HostRuntime) -> Result<(), Fail> {
-    let mut env = Env::new(PlainSteps::<2>::new(rt.alloc(), Config::LEAST)?);
+    let mut env = opened_env(PlainSteps::<2>::new(rt.alloc(), Config::LEAST)?);
     let local = env.new_plain()?;
     for word in [2, 6, 10] {
         let global = env.new_global_ref(local)?.ok_or("an object")?;
@@ -267,7 +267,7 @@ fn retires_a_slot_after_its_last_serial(rt: HostRuntime) -> Result<(), Fail> {
 
 #[test]
 fn sums_up_what_stands(rt: HostRuntime) -> Result<(), Fail> {
-    let mut env = Env::new(PlainSteps::<2>::new(rt.alloc(), Config::LEAST)?);
+    let mut env = opened_env(PlainSteps::<2>::new(rt.alloc(), Config::LEAST)?);
     let local = env.new_plain()?;
     env.new_global_ref(local)?;
     let summary = Summary {

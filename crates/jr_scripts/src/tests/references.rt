@@ -3,6 +3,7 @@
 ghost use Rattle.std.specs.Prelude.{All, IfOk};
 ghost use Rattle.jr_rule.specs.Passes.{IsOpened};
 
+use crate::opening::opened_env;
 use jr_env::Env;
 use jr_rule::{Pass, PlainSteps, Room, RoomSteps};
 use jr_steps::Steps;
@@ -49,7 +50,7 @@ const NO_WEAK_SLOT: Handle = Handle(0x10_0000_0003);
 
 #[test]
 fn words_that_are_no_reference(rt: HostRuntime) -> Result<(), Fail> {
-    let mut env = Env::new(PlainSteps::<4_294_967_295>::new(rt.alloc(), TWO)?);
+    let mut env = opened_env(PlainSteps::<4_294_967_295>::new(rt.alloc(), TWO)?);
     let rows = [
         (ONES, Fault::Stale),
         (Handle(4), Fault::Stale),
@@ -77,7 +78,7 @@ fn words_that_are_no_reference(rt: HostRuntime) -> Result<(), Fail> {
 // Each kind of check is made of the first reference and then of the second, before the next kind.
 #[test]
 fn checks_of_two_references(rt: HostRuntime) -> Result<(), Fail> {
-    let mut env = Env::new(PlainSteps::<4_294_967_295>::new(rt.alloc(), TWO)?);
+    let mut env = opened_env(PlainSteps::<4_294_967_295>::new(rt.alloc(), TWO)?);
     let rows = [
         (FOREIGN, ONES, Fault::Stale),
         (FOREIGN, NO_SLOT, Fault::Stale),
@@ -92,7 +93,7 @@ fn checks_of_two_references(rt: HostRuntime) -> Result<(), Fail> {
 
 #[test]
 fn references_of_another_kind(rt: HostRuntime) -> Result<(), Fail> {
-    let mut env = Env::new(PlainSteps::<4_294_967_295>::new(rt.alloc(), TWO)?);
+    let mut env = opened_env(PlainSteps::<4_294_967_295>::new(rt.alloc(), TWO)?);
     let local = env.new_plain()?;
     let global = env.new_global_ref(local)?.ok_or("an object")?;
     let weak = env.new_weak_global_ref(local)?.ok_or("an object")?;
@@ -132,7 +133,7 @@ fn references_of_another_kind(rt: HostRuntime) -> Result<(), Fail> {
 
 #[test]
 fn a_slot_gives_more_than_65_536_handles(rt: HostRuntime) -> Result<(), Fail> {
-    let mut env = Env::new(PlainSteps::<4_294_967_295>::new(rt.alloc(), Config::LEAST)?);
+    let mut env = opened_env(PlainSteps::<4_294_967_295>::new(rt.alloc(), Config::LEAST)?);
     let local = env.new_plain()?;
     let mut last = Handle::NULL;
     for _ in 0..65_537 {
@@ -152,7 +153,7 @@ fn a_slot_gives_more_than_65_536_handles(rt: HostRuntime) -> Result<(), Fail> {
 
 #[test]
 fn a_local_place_gives_more_than_65_536_handles(rt: HostRuntime) -> Result<(), Fail> {
-    let mut env = Env::new(PlainSteps::<4_294_967_295>::new(rt.alloc(), Config::LEAST)?);
+    let mut env = opened_env(PlainSteps::<4_294_967_295>::new(rt.alloc(), Config::LEAST)?);
     let local = env.new_plain()?;
     // One of the sixteen places is left free.
     for _ in 0..14 {
@@ -170,6 +171,36 @@ fn a_local_place_gives_more_than_65_536_handles(rt: HostRuntime) -> Result<(), F
     assert_eq!(rt; next, Handle(0x3C_0004_0005));
     assert_eq!(rt; env.get_object_ref_type(next)?, 1);
     assert_eq!(rt; env.get_object_ref_type(Handle(0x3C_0000_0005))?, 0);
+    Ok(())
+}
+
+/// The steps, handed back by a refusal of an env.
+fn refused<S: Steps + Drop>(rt: &impl Abort, env: Result<Env<S>, (S, Fault)>) -> Result<S, Fail> {
+    match env {
+        Ok(_) => Err("the pass is not fresh")?,
+        Err((steps, fault)) => {
+            assert_eq!(rt; fault, Fault::NotFresh);
+            assert!(rt; !steps.fresh());
+            Ok(steps)
+        }
+    }
+}
+
+#[test]
+fn an_env_is_made_of_a_fresh_pass_alone(rt: HostRuntime) -> Result<(), Fail> {
+    let mut steps = PlainSteps::<2>::new(rt.alloc(), Config::LEAST)?;
+    assert!(rt; steps.fresh());
+    steps.spend();
+    let steps = refused(&rt, Env::new(steps))?;
+    assert_eq!(rt; steps.words.as_slice(), [0; 20].as_slice());
+
+    let Ok(mut env) = Env::new(PlainSteps::<2>::new(rt.alloc(), Config::LEAST)?) else {
+        return Err("the pass is fresh")?;
+    };
+    assert!(rt; !env.steps.fresh());
+    assert_eq!(rt; env.new_plain()?, OWN);
+    let Env { steps, frames: _ } = env;
+    refused(&rt, Env::new(steps))?;
     Ok(())
 }
 
@@ -198,8 +229,8 @@ fn opened(alloc: Global) -> Result<(Room<2>, Pass, Pass), Fail>
 #[test]
 fn two_passes_share_a_global_reference(rt: HostRuntime) -> Result<(), Fail> {
     let (room, first, second) = opened(rt.alloc())?;
-    let mut first = Env::new(RoomSteps::new(&room, first));
-    let mut second = Env::new(RoomSteps::new(&room, second));
+    let mut first = opened_env(RoomSteps::new(&room, first));
+    let mut second = opened_env(RoomSteps::new(&room, second));
     let object = first.new_plain()?;
     let shared = first.new_global_ref(object)?.ok_or("an object")?;
     let own = second.new_local_ref(shared)?.ok_or("an object")?;
@@ -241,7 +272,7 @@ fn goes_round<S: Steps>(rt: &impl Abort, env: &mut Env<S>) -> Result<(), Fail> {
 
 #[test]
 fn searches_go_round_over_plain_words(rt: HostRuntime) -> Result<(), Fail> {
-    let mut env = Env::new(PlainSteps::<4_294_967_295>::new(rt.alloc(), THREE_SLOTS)?);
+    let mut env = opened_env(PlainSteps::<4_294_967_295>::new(rt.alloc(), THREE_SLOTS)?);
     goes_round(&rt, &mut env)
 }
 
@@ -249,6 +280,6 @@ fn searches_go_round_over_plain_words(rt: HostRuntime) -> Result<(), Fail> {
 fn searches_go_round_in_a_room(rt: HostRuntime) -> Result<(), Fail> {
     let (room, mut passes) = Room::<2>::open(rt.alloc(), THREE_SLOTS)?;
     let pass = last_of(&room, &mut passes)?;
-    let mut env = Env::new(RoomSteps::new(&room, pass));
+    let mut env = opened_env(RoomSteps::new(&room, pass));
     goes_round(&rt, &mut env)
 }

@@ -1,9 +1,12 @@
-use Rattle.std.proofs.Common.{◌≡◌}
+use Rattle.std.proofs.Common.{◌≡◌, rules}
 use Rattle.jr_model.specs.Frames.{fresh_frames}
 use Rattle.jr_env.proofs.InsideGate.{ready_new}
 use Rattle.jr_env.proofs.env.Env.new.Goals as goal
 
 pub invariant_of-result : goal.invariant_of-result
-invariant_of-result g c = let s = (g.S.Steps.facts c.args.steps).stands in
+invariant_of-result g c =
+    let steps = c.args.steps in
+    let s = (g.S.Steps.facts c.spend.new.self).stands in
     let is : c.new-frames.result ≡ record { frames = fresh_frames s.config.locals; thread = s.thread; last = s.last } = cc in
-    record { ready = ready_new c.args.steps c.new-frames.result is c.requires.outside c.requires.fresh (g.met.S.Steps.some_known c.args.steps) }
+    let fresh = c.fresh.ensures in
+    record { ready = ready_new c.new-frames.result c.spend.ensures is c.requires (λ k m. g.met.S.Steps.unused steps k (search rules) m) (g.met.S.Steps.some_known steps) }
