@@ -1,6 +1,6 @@
 -- A reference is deleted from the table.
-use Rattle.std.proofs.Common.{◌≡◌, ◌≢◌, ◌==◌, ◌&&◌, ◌+◌, ◌<◌, ◌≤◌, ℕ, suc, Bool, true, false, not, cond, if◌then◌else◌, nat_le, IsSome, List, [], ◌∷◌, ◌++◌, map, filter, length, slice_set, refl, sym, ap, subst, ◌∙◌, arith}
-use Rattle.std.proofs.lemmas.List.{length-map, length-append, get_or-set_other}
+use Rattle.std.proofs.Common.{◌≡◌, ◌≢◌, ◌==◌, ◌&&◌, ◌+◌, ◌<◌, ◌≤◌, ℕ, suc, Bool, true, false, not, cond, if◌then◌else◌, nat_le, IsSome, List, [], ◌∷◌, map, filter, length, slice_set, refl, sym, ap, subst, ◌∙◌, arith}
+use Rattle.std.proofs.lemmas.List.{length-map, get_or-set_other}
 use Rattle.std.proofs.lemmas.Bool.Decides.{nat_tests}
 use Rattle.std.proofs.Math.Seq.{map-set_same}
 use Rattle.arrayvec.specs.ArrayVec.{ArrayVec}
@@ -12,12 +12,12 @@ use Rattle.jr_frames.specs.declared.place.Place.{Place}
 use Rattle.jr_frames.specs.declared.rings.Link.{Link}
 use Rattle.jr_frames.specs.declared.rings.Rings.{Rings}
 use Rattle.jr_frames.specs.declared.frames.Frames.TheInside.{Inside}
-use Rattle.jr_frames.specs.Rings.{newer_at, older_at, IsJoined, IsPutLast, AreRings}
+use Rattle.jr_frames.specs.Rings.{newer_at, older_at, IsJoined, IsPutFirst, AreRings}
 use Rattle.jr_frames.specs.Places.{given_of, unused, place_at, is_taken, ref_at}
 use Rattle.jr_frames.specs.Shown.{times, flat, table_of, IsArranged}
 use Rattle.jr_frames.proofs.Times.{times_append, times_here, times_there, without, without_none, times_without_other, times_without_self, flat_without}
-use Rattle.jr_frames.proofs.Following.{before_end}
-use Rattle.jr_frames.proofs.Putting.{follow_put, rings_other}
+use Rattle.jr_frames.proofs.Following.{next_back}
+use Rattle.jr_frames.proofs.Putting.{first_keeps, follow_first, rings_other}
 use Rattle.jr_frames.proofs.Showing.{times_below}
 use Rattle.jr_frames.proofs.Places.{index_differs}
 use Rattle.jr_frames.proofs.Named.{stands, taken_index}
@@ -101,12 +101,12 @@ module _ (a : Inside) (free : List ℕ) (order : List (List ℕ)) (is : IsArrang
         (none_left q free (flat order) none, spared q other ∙ none_right q free (flat order) none)
 
     -- the end of the free places
-    pub around_end : (newer_at mid (older_at mid (length a.places.items)) ≡ length a.places.items) × (older_at mid (length a.places.items) < length mid)
+    pub around_end : (older_at mid (newer_at mid (length a.places.items)) ≡ length a.places.items) × (newer_at mid (length a.places.items) < length mid)
     around_end =
         let size = is.size in
         let same = joined.size in
         let fits : length a.places.items < length mid = omega arith in
-        before_end mid (length mid) (length a.places.items) fits (length a.places.items) free fits
+        next_back mid (length mid) (length a.places.items) fits (length a.places.items) free
         (all_lower (length a.places.items) (length mid) free (omega arith) (all_below (length a.places.items) free (λ q g. (below_now q g).0))) others_out.0
 
     module _ (places : ArrayVec Place) (set : places.items ≡ slice_set a.places.items h.index (emptied a h.index)) where
@@ -123,20 +123,20 @@ module _ (a : Inside) (free : List ℕ) (order : List (List ℕ)) (is : IsArrang
           high false n m l = refl
 
       -- the place is free again
-      pub returned_shows : (rings : Rings) → IsPutLast mid (length a.places.items) h.index rings.links.items → given_of (place_at a.places.items h.index) ≤ a.last → IsArranged (changed a (a.free + 1) places rings) (free ++ h.index ∷ []) (map (without h.index) order)
+      pub returned_shows : (rings : Rings) → IsPutFirst mid (length a.places.items) h.index rings.links.items → given_of (place_at a.places.items h.index) ≤ a.last → IsArranged (changed a (a.free + 1) places rings) (h.index ∷ free) (map (without h.index) order)
       returned_shows rings put low =
           let index = standing_index in
           let other : length a.places.items ≢ h.index = λ e. absurd (omega arith) in
-          still_shows a free order is h.index standing_index (emptied a h.index) places set (a.free + 1) rings (free ++ h.index ∷ []) (map (without h.index) order)
+          still_shows a free order is h.index standing_index (emptied a h.index) places set (a.free + 1) rings (h.index ∷ free) (map (without h.index) order)
           (put.2.size ∙ (put.1.size ∙ joined.size)) (length-map order (without h.index)) (
-            follow_put mid rings.links.items (length a.places.items) h.index put around_end.0 other (length a.places.items) free other not_free (below_now (length a.places.items) (omega arith)).0 others_out.0,
-            rings_other mid rings.links.items (length a.places.items) h.index put around_end.0 other (suc (length a.places.items)) (map (without h.index) order) (omega arith) (omega arith) gone (below_now (length a.places.items) (omega arith)).1 others_out.1,
+            follow_first mid rings.links.items (length a.places.items) h.index put around_end.0 other free not_free (below_now (length a.places.items) (omega arith)).0 others_out.0,
+            rings_other mid rings.links.items (length a.places.items) h.index (first_keeps mid rings.links.items (length a.places.items) h.index put around_end.0 other) (suc (length a.places.items)) (map (without h.index) order) (omega arith) (omega arith) gone (below_now (length a.places.items) (omega arith)).1 others_out.1,
           )
           (λ e. absurd cc) (is.within h.index) gone spared
-          (times_append h.index free (h.index ∷ []) ∙ (ap (λ n. n + times h.index (h.index ∷ [])) not_free ∙ (ap (λ n. 0 + n) (times_here h.index [])
-          ∙ sym (ap (λ b. if b then 1 else 0) (there h.index (length a.places.items) (given_of (place_at a.places.items h.index)) a.last index low)))))
-          (λ q ne. times_append q free (h.index ∷ []) ∙ (ap (λ n. times q free + n) (times_there q h.index [] (λ e. ne (sym e))) ∙ omega arith))
-          (let was = is.count in let more = length-append free (h.index ∷ []) in omega arith)
+          (times_here h.index free ∙ (ap (λ n. 1 + n) not_free
+          ∙ sym (ap (λ b. if b then 1 else 0) (there h.index (length a.places.items) (given_of (place_at a.places.items h.index)) a.last index low))))
+          (λ q ne. times_there q h.index free (λ e. ne (sym e)))
+          (let was = is.count in omega arith)
         where
           there : (p k n m : ℕ) → p < k → n ≤ m → (nat_le (p + 1) k && nat_le n m) ≡ true
           there p k n m l low = grind (arith, nat_tests)

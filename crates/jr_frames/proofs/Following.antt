@@ -33,7 +33,8 @@ pub record IsBetween (links : List Link) (bound p : ℕ) : Type 0 where
   pub newer_low : newer_at links p < bound
 
 module _ (links : List Link) (bound end : ℕ) (low : end < bound) where
-  next_back : (y : ℕ) (ys : List ℕ) → AllByRecursion (λ q. q < bound) ys → Follow links y (ys ++ end ∷ []) → (older_at links (newer_at links y) ≡ y) × (newer_at links y < bound)
+  -- the one after a number stands there for both, and below the bound
+  pub next_back : (y : ℕ) (ys : List ℕ) → AllByRecursion (λ q. q < bound) ys → Follow links y (ys ++ end ∷ []) → (older_at links (newer_at links y) ≡ y) × (newer_at links y < bound)
   next_back y [] all f = (ap (older_at links) f.0 ∙ f.1, subst (λ k. k < bound) (sym f.0) low)
   next_back y (z ∷ zs) all f = (ap (older_at links) f.0 ∙ f.1, subst (λ k. k < bound) (sym f.0) all.0)
 

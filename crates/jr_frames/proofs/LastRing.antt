@@ -8,7 +8,7 @@ use Rattle.jr_frames.specs.Rings.{newer_at, older_at, IsPutLast, Follow, AreRing
 use Rattle.jr_frames.specs.Shown.{times, flat}
 use Rattle.jr_frames.proofs.Times.{times_append, none_left, none_right, all_below, without, without_none}
 use Rattle.jr_frames.proofs.Following.{before_end}
-use Rattle.jr_frames.proofs.Putting.{IsNeither, all_neither, follow_other, follow_put}
+use Rattle.jr_frames.proofs.Putting.{IsNeither, all_neither, follow_other, last_keeps, follow_put}
 use Rattle.jr_frames.proofs.RingLists.{all_lower}
 
 -- a number at the end of the last list
@@ -113,6 +113,6 @@ module _ (old new : List Link) (end p : ℕ) (put : IsPutLast old end p new) (ar
       )
   rings_last first (x ∷ y ∷ xs) l e none away r =
       let here : IsNeither p end first = (λ f. absurd (omega arith), λ f. absurd (omega arith)) in (
-        follow_other old new end p put around other first (x ++ first ∷ []) here (all_neither p end x first (none_left p x (flat (y ∷ xs)) none) (none_left end x (flat (y ∷ xs)) (away end (omega arith))) here) r.0,
+        follow_other old new end p (last_keeps old new end p put around other) first (x ++ first ∷ []) here (all_neither p end x first (none_left p x (flat (y ∷ xs)) none) (none_left end x (flat (y ∷ xs)) (away end (omega arith))) here) r.0,
         rings_last (suc first) (y ∷ xs) (omega arith) (omega arith) (none_right p x (flat (y ∷ xs)) none) (λ q g. none_right q x (flat (y ∷ xs)) (away q g)) r.1,
       )

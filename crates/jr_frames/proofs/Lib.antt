@@ -16,3 +16,5 @@ pub mod Stacking
 pub mod Fresh
 pub mod FreshTable
 pub mod Oldest
+pub mod Popping
+pub mod Sound

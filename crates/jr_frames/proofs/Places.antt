@@ -22,7 +22,7 @@ listed_step true false any n e rest = absurd (omega arith)
 listed_step false b any n e rest = rest b (omega arith)
 
 -- a number that a list has once where b holds, and else never, is in it where b holds
-listed : (p : ℕ) (xs : List ℕ) (b : Bool) → times p xs ≡ (if b then 1 else 0) → list_any (λ q. q == p) xs ≡ b
+pub listed : (p : ℕ) (xs : List ℕ) (b : Bool) → times p xs ≡ (if b then 1 else 0) → list_any (λ q. q == p) xs ≡ b
 listed p [] true e = absurd (omega arith)
 listed p [] false e = refl
 listed p (x ∷ xs) b e = listed_step (x == p) b (list_any (λ q. q == p) xs) (times p xs) e (λ d f. listed p xs d f)
@@ -42,7 +42,7 @@ module _ (thread : ℕ) (places : List Place) where
       (found_object test p others xs) (others x) (λ e. (ap (λ q. test (ref_at thread places q)) (eq_true x p e), ap (λ q. Some (place_at places q).object) (eq_true x p e)))
 
   -- a place is among the references where it is listed
-  any_ref : (p : ℕ) (xs : List ℕ) → list_any (λ r. r.handle.index == p) (map (ref_at thread places) xs) ≡ list_any (λ q. q == p) xs
+  pub any_ref : (p : ℕ) (xs : List ℕ) → list_any (λ r. r.handle.index == p) (map (ref_at thread places) xs) ≡ list_any (λ q. q == p) xs
   any_ref p [] = refl
   any_ref p (x ∷ xs) = ap (λ b. x == p || b) (any_ref p xs)
 

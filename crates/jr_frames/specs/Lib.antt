@@ -2,3 +2,4 @@ pub mod Table
 pub mod Places
 pub mod Rings
 pub mod Shown
+pub mod Popping

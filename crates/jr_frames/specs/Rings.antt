@@ -24,6 +24,10 @@ pub record IsJoined (old : List Link) (first second : ℕ) (new : List Link) : T
 abbrev pub IsPutLast : List Link → ℕ → ℕ → List Link → Type 0
 IsPutLast old end place new = (mid : List Link) × IsJoined old (older_at old end) place mid × IsJoined mid place end new
 
+-- a place was put first in the ring of an end
+abbrev pub IsPutFirst : List Link → ℕ → ℕ → List Link → Type 0
+IsPutFirst old end place new = (mid : List Link) × IsJoined old place (newer_at old end) mid × IsJoined mid end place new
+
 -- from x, the numbers of the list follow one another
 abbrev pub Follow : List Link → ℕ → List ℕ → Type 0
 Follow links x [] = Unit {0}

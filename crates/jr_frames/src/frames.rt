@@ -34,7 +34,7 @@ impl Model for Frames {
 impl Frames {
     ghost use Rattle.std.specs.Prelude.{◌≡◌, ◌≢◌, ◌≤◌, ◌==◌, ◌<◌, ◌+◌, ◌↔◌, [], IsTrue, length, IfSome, IfNone, IsSome, Some, None};
     ghost use Rattle.jr_model.specs.declared.frames.TheConstants.{FRAMES};
-    ghost use Rattle.jr_model.specs.Frames.{fresh_frames, object_of, object_at, free_places, IsAdded, without_local, pushed, popped, last_frame};
+    ghost use Rattle.jr_model.specs.Frames.{fresh_frames, object_of, object_at, free_places, IsAdded, AreSound, without_local, pushed, popped, last_frame};
     ghost use Rattle.jr_frames.specs.Table.{IsNext, IsOnly, TakesOldest, with_frames, oldest_handle};
 
     /// No reference, and as many places as the configuration says.
@@ -108,7 +108,7 @@ impl Frames {
         }
     }
 
-    /// Removes the reference of a handle that stands, whichever frame has it.
+    /// Removes the reference of a handle that stands, whichever frame has it. Its place is given next, unless it is retired.
     pub fn delete(&mut self, handle: HandleParts)
         requires { IsSome (object_of self.old.frames handle) }
         ensures deleted { self.new.frames ≡ without_local self.old.frames handle }
@@ -119,7 +119,7 @@ impl Frames {
         self.rings.take_out(handle.index);
         if self.places[usize::from(handle.index)].given() <= u64::from(self.last) {
             let end = self.places.len() as u16;
-            self.rings.put_last(end, handle.index);
+            self.rings.put_first(end, handle.index);
             self.free += 1;
         }
     }
@@ -136,6 +136,14 @@ impl Frames {
         ensures { result ≡ (length self.now.frames.frames == 1) }
     {
         self.depth() == 1
+    }
+
+    /// A law, which does nothing when it runs: the frames are sound, so that each reference is in one frame, at a place of its own, with the last handle that the place gave.
+    pub fn are_sound(&self)
+        ensures { AreSound self.now.frames }
+    {
+        // Read, so that what holds of every table is known.
+        let _free = self.free;
     }
 
     /// Adds a frame, which is empty.

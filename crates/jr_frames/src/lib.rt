@@ -2,9 +2,11 @@
 #![tactic(auto)]
 
 mod frames;
+mod laws;
 mod place;
 mod rings;
 #[cfg(test)]
 mod tests;
 
 pub use frames::Frames;
+pub use laws::taking_the_oldest_is_a_pop;

@@ -2,7 +2,7 @@
 //! case of its own for the first and the last.
 ghost use Rattle.std.specs.Prelude.{◌≡◌, ◌≤◌, ◌<◌, ◌+◌, ◌-◌, ◌==◌, ◌++◌, ◌∷◌, [], if◌then◌else◌, length, slice_set, take};
 ghost use Rattle.jr_model.specs.declared.frames.TheConstants.{FRAMES};
-ghost use Rattle.jr_frames.specs.Rings.{newer_at, older_at, IsJoined, IsPutLast, AreFresh};
+ghost use Rattle.jr_frames.specs.Rings.{newer_at, older_at, IsJoined, IsPutLast, IsPutFirst, AreFresh};
 
 use arrayvec::ArrayVec;
 use jr_model::FRAMES;
@@ -125,6 +125,18 @@ impl Rings {
         let older = self.older(end);
         self.join(older, place);
         self.join(place, end);
+    }
+
+    /// Puts a place, which is in no ring, first in the ring of an end.
+    pub(crate) fn put_first(&mut self, end: u16, place: u16)
+        requires place { place < length self.old.links.items }
+        requires end { end < length self.old.links.items }
+        requires newer { newer_at self.old.links.items end < length self.old.links.items }
+        ensures { IsPutFirst self.old.links.items end place self.new.links.items }
+    {
+        let newer = self.newer(end);
+        self.join(place, newer);
+        self.join(end, place);
     }
 
     /// Adds an end, of an empty ring.

@@ -82,6 +82,28 @@ fn a_fresh_table_gives_places_in_order(rt: HostRuntime) -> Result<(), Fail> {
 }
 
 #[test]
+fn a_freed_place_is_given_first(rt: HostRuntime) -> Result<(), Fail> {
+    let mut frames = frames_of_sixteen();
+    let first = added(&mut frames, 1)?;
+    let second = added(&mut frames, 2)?;
+    deleted(&mut frames, first)?;
+    let again = added(&mut frames, 3)?;
+    assert_eq!(rt; (again.index, again.serial), (first.index, 1));
+    for index in 2..5 {
+        let fresh = added(&mut frames, 4)?;
+        assert_eq!(rt; (fresh.index, fresh.serial), (index, 0));
+    }
+    deleted(&mut frames, second)?;
+    deleted(&mut frames, again)?;
+    let last = added(&mut frames, 5)?;
+    assert_eq!(rt; (last.index, last.serial), (first.index, 2));
+    deleted(&mut frames, last)?;
+    let other = added(&mut frames, 6)?;
+    assert_eq!(rt; (other.index, other.serial), (second.index, 1));
+    Ok(())
+}
+
+#[test]
 fn a_reference_of_an_older_frame_is_deleted(rt: HostRuntime) -> Result<(), Fail> {
     let mut frames = frames_of_sixteen();
     let first = added(&mut frames, 1)?;
@@ -129,14 +151,10 @@ fn retired_places_do_not_count(rt: HostRuntime) -> Result<(), Fail> {
     let mut frames = frames_of_sixteen();
     assert!(rt; frames.has_room(16));
     assert!(rt; !frames.has_room(17));
-    for _ in 0..32 {
+    for given in 1..49 {
         let handle = added(&mut frames, 7)?;
         deleted(&mut frames, handle)?;
-        assert!(rt; frames.has_room(16));
-    }
-    for retired in 1..17 {
-        let handle = added(&mut frames, 7)?;
-        deleted(&mut frames, handle)?;
+        let retired = given / 3;
         assert!(rt; frames.has_room(16 - retired));
         assert!(rt; !frames.has_room(17 - retired));
     }

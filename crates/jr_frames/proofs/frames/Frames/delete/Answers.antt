@@ -1,4 +1,4 @@
-use Rattle.std.proofs.Common.{rules, ◌≡◌, ◌==◌, ◌+◌, ◌<◌, ◌≤◌, ◌++◌, ◌∷◌, [], ℕ, List, cond, map, length, None, IsSome, slice_set, refl, sym, ap, subst, ◌∙◌, arith}
+use Rattle.std.proofs.Common.{rules, ◌≡◌, ◌==◌, ◌+◌, ◌<◌, ◌≤◌, ◌∷◌, ℕ, List, cond, map, length, None, IsSome, slice_set, refl, sym, ap, subst, ◌∙◌, arith}
 use Rattle.std.proofs.lemmas.List.{length-set, get_or-set_same}
 use Rattle.arrayvec.specs.ArrayVec.{ArrayVec}
 use Rattle.jr_model.specs.State.{Handle}
@@ -6,7 +6,7 @@ use Rattle.jr_model.specs.Frames.{object_at, object_of, without_local}
 use Rattle.jr_frames.specs.declared.place.Place.{Place}
 use Rattle.jr_frames.specs.declared.frames.Frames.TheInside.{Inside}
 use Rattle.jr_frames.specs.Table.{Table, IsOnly}
-use Rattle.jr_frames.specs.Rings.{IsPutLast}
+use Rattle.jr_frames.specs.Rings.{IsPutFirst}
 use Rattle.jr_frames.specs.Places.{given_of, unused, place_at}
 use Rattle.jr_frames.specs.Shown.{table, free_of, order_of, IsArranged, IsTable}
 use Rattle.jr_frames.proofs.Times.{without}
@@ -53,8 +53,8 @@ given_same a seen read i j k n e f l now same is =
     ∙ (ap (λ q. given_of (place_at (slice_set a.places.items j (emptied a j)) q)) same
     ∙ ap given_of (get_or-set_same a.places.items j (emptied a j) unused l)))
 
-pub put_last-requires-clause-older : goal.put_last-requires-clause-older
-put_last-requires-clause-older c =
+pub put_first-requires-clause-newer : goal.put_first-requires-clause-newer
+put_first-requires-clause-newer c =
     let around = around_end c.self.inside (free_of c.self.inside) (order_of c.self.inside) c.self.invariant c.args.handle (stands_inside _ c.self.inside c.args.handle c.self.view_is c.requires) c.take_out.new.self.links.items c.take_out.ensures in
     let same = end_is c.self.inside c.deref_mut.result.now c.from.result c.args.handle.index c.len-end.result c.deref_mut.ensures.value c.from.ensures c.len-end.ensures.value in
     rw same around.1
@@ -70,9 +70,9 @@ overflow_add-self c =
 some : (c : goal.After-self-then-given-from-1) → IsSome (object_of (table c.self.inside).frames c.args.handle)
 some c = stands_inside _ c.self.inside c.args.handle c.self.view_is c.requires
 
-put : (c : goal.After-self-then-given-from-1) → IsPutLast c.take_out.new.self.links.items (length c.self.inside.places.items) c.args.handle.index c.put_last.new.self.links.items
-put c = subst (λ n. IsPutLast c.take_out.new.self.links.items n c.args.handle.index c.put_last.new.self.links.items)
-    (end_is c.self.inside c.deref_mut.result.now c.from.result c.args.handle.index c.len-end.result c.deref_mut.ensures.value c.from.ensures c.len-end.ensures.value) c.put_last.ensures
+put : (c : goal.After-self-then-given-from-1) → IsPutFirst c.take_out.new.self.links.items (length c.self.inside.places.items) c.args.handle.index c.put_first.new.self.links.items
+put c = subst (λ n. IsPutFirst c.take_out.new.self.links.items n c.args.handle.index c.put_first.new.self.links.items)
+    (end_is c.self.inside c.deref_mut.result.now c.from.result c.args.handle.index c.len-end.result c.deref_mut.ensures.value c.from.ensures c.len-end.ensures.value) c.put_first.ensures
 
 given_low : (c : goal.After-self-then-given-from-1) → given_of (place_at c.self.inside.places.items c.args.handle.index) ≤ c.self.inside.last
 given_low c =
@@ -83,12 +83,12 @@ given_low c =
     omega arith
 
 abbrev inside_free : goal.After-self-then-given-from-1 → Inside
-inside_free c = changed c.self.inside (c.self.inside.free + 1) (places_of c.self.inside c.deref_mut.result.now c.from.result) c.put_last.new.self
+inside_free c = changed c.self.inside (c.self.inside.free + 1) (places_of c.self.inside c.deref_mut.result.now c.from.result) c.put_first.new.self
 
-shows_free : (c : goal.After-self-then-given-from-1) → IsArranged (inside_free c) (free_of c.self.inside ++ c.args.handle.index ∷ []) (map (without c.args.handle.index) (order_of c.self.inside))
+shows_free : (c : goal.After-self-then-given-from-1) → IsArranged (inside_free c) (c.args.handle.index ∷ free_of c.self.inside) (map (without c.args.handle.index) (order_of c.self.inside))
 shows_free c = returned_shows c.self.inside (free_of c.self.inside) (order_of c.self.inside) c.self.invariant c.args.handle (some c) c.take_out.new.self.links.items c.take_out.ensures
     (places_of c.self.inside c.deref_mut.result.now c.from.result) (places_are c.self.inside c.deref_mut.result.now c.from.result c.args.handle.index c.deref_mut.ensures.value c.from.ensures)
-    c.put_last.new.self (put c) (given_low c)
+    c.put_first.new.self (put c) (given_low c)
 
 pub invariant_of-self : goal.invariant_of-self
 invariant_of-self c = is_table (shows_free c)
@@ -98,7 +98,7 @@ returns-then-given-from-clause-deleted c =
     ap (λ (t : Table). t.frames) (table_is (shows_free c))
     ∙ (is_deleted c.self.inside (free_of c.self.inside) (order_of c.self.inside) c.self.invariant c.args.handle (some c) c.take_out.new.self.links.items c.take_out.ensures
     (places_of c.self.inside c.deref_mut.result.now c.from.result) (places_are c.self.inside c.deref_mut.result.now c.from.result c.args.handle.index c.deref_mut.ensures.value c.from.ensures)
-    (c.self.inside.free + 1) c.put_last.new.self
+    (c.self.inside.free + 1) c.put_first.new.self
     ∙ ap (λ (t : Table). without_local t.frames c.args.handle) c.self.view_is)
 
 -- where one place is emptied, another object stands there alone
