@@ -18,3 +18,5 @@ pub mod FreshTable
 pub mod Oldest
 pub mod Popping
 pub mod Sound
+pub mod LastFrame
+pub mod Freeing

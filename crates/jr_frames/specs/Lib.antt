@@ -3,3 +3,4 @@ pub mod Places
 pub mod Rings
 pub mod Shown
 pub mod Popping
+pub mod Freeing

@@ -1,5 +1,5 @@
 -- The local references of a thread, as its table keeps them.
-use Rattle.std.specs.Prelude.{◌≡◌, ◌<◌, ◌==◌, ℕ, cond, IsTrue, Option, Some, None, List, [], ◌∷◌, length, slice_index}
+use Rattle.std.specs.Prelude.{◌≡◌, ◌<◌, ◌==◌, ℕ, cond, IsTrue, Option, Some, None, List, [], ◌∷◌, length, slice_index, slice_index_or, slice_set}
 use Rattle.jr_word.specs.declared.handle.RefKind.TheVariants.{Local}
 use Rattle.jr_model.specs.declared.frames.LocalRef.{LocalRef}
 use Rattle.jr_model.specs.State.{Handle}
@@ -34,6 +34,14 @@ oldest_handle (r ∷ rs) = Some r.handle
 abbrev pub without_oldest : List LocalRef → List LocalRef
 without_oldest [] = []
 without_oldest (r ∷ rs) = rs
+
+-- the frame of a number, where the base frame is 0
+abbrev pub frame_at : List (List LocalRef) → ℕ → List LocalRef
+frame_at frames k = slice_index_or frames k []
+
+-- the deletion of a handle takes the oldest reference of a frame out, and no other
+abbrev pub TakesOldestOf : Frames → ℕ → Handle → Type 0
+TakesOldestOf f k h = (without_local f h).frames ≡ slice_set f.frames k (without_oldest (frame_at f.frames k))
 
 -- the deletion of a handle takes the oldest reference of the last frame out, and no other
 pub record TakesOldest (f : Frames) (h : Handle) : Type 0 where

@@ -35,7 +35,7 @@ impl Frames {
     ghost use Rattle.std.specs.Prelude.{◌≡◌, ◌≢◌, ◌≤◌, ◌==◌, ◌<◌, ◌+◌, ◌↔◌, [], IsTrue, length, IfSome, IfNone, IsSome, Some, None};
     ghost use Rattle.jr_model.specs.declared.frames.TheConstants.{FRAMES};
     ghost use Rattle.jr_model.specs.Frames.{fresh_frames, object_of, object_at, free_places, IsAdded, AreSound, without_local, pushed, popped, last_frame};
-    ghost use Rattle.jr_frames.specs.Table.{IsNext, IsOnly, TakesOldest, with_frames, oldest_handle};
+    ghost use Rattle.jr_frames.specs.Table.{IsNext, IsOnly, TakesOldest, TakesOldestOf, with_frames, frame_at, oldest_handle};
 
     /// No reference, and as many places as the configuration says.
     pub fn new(thread: u8, config: &Config, last: u32) -> Frames
@@ -142,8 +142,8 @@ impl Frames {
     pub fn are_sound(&self)
         ensures { AreSound self.now.frames }
     {
-        // Read, so that what holds of every table is known.
-        let _free = self.free;
+        // A field is named, so that what holds of every table is known.
+        let _ = &self.thread;
     }
 
     /// Adds a frame, which is empty.
@@ -161,7 +161,19 @@ impl Frames {
         ensures stands { IfSome result (λ h. IsSome (object_of self.now.frames h)) }
         ensures rest { IfSome result (TakesOldest self.now.frames) }
     {
-        let end = (self.rings.links.len() - 1) as u16;
+        self.are_sound();
+        self.oldest_of(self.depth() - 1)
+    }
+
+    /// The handle of the oldest reference of a frame, none where that is empty. The base frame is number 0, and each that was pushed has the next number.
+    pub fn oldest_of(&self, frame: usize) -> Option<HandleParts>
+        requires { frame < length self.now.frames.frames }
+        ensures oldest { result ≡ oldest_handle (frame_at self.now.frames.frames frame) }
+        ensures empty { IfNone result (frame_at self.now.frames.frames frame ≡ []) }
+        ensures stands { IfSome result (λ h. IsSome (object_of self.now.frames h)) }
+        ensures rest { IfSome result (TakesOldestOf self.now.frames frame) }
+    {
+        let end = (self.places.len() + 1 + frame) as u16;
         let index = self.rings.newer(end);
         if index == end {
             return None;

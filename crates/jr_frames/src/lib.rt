@@ -9,4 +9,4 @@ mod rings;
 mod tests;
 
 pub use frames::Frames;
-pub use laws::taking_the_oldest_is_a_pop;
+pub use laws::{taking_the_oldest_is_a_pop, taking_the_oldest_of_each_frame_frees_all};

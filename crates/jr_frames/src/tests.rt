@@ -1,3 +1,7 @@
+ghost use Rattle.std.specs.Prelude.{◌≡◌, ◌≤◌, length};
+ghost use Rattle.jr_model.specs.Frames.{popped};
+ghost use Rattle.jr_frames.specs.Table.{with_frames};
+
 use crate::frames::Frames;
 use crate::place::Place;
 use crate::rings::{Link, MOST_PLACES};
@@ -51,6 +55,17 @@ fn popped(frames: &mut Frames) -> Result<(), Fail> {
     }
     frames.pop_empty();
     Ok(())
+}
+
+/// Takes the newest frame away with its references, the oldest first.
+fn pop_whole(frames: &mut Frames)
+    requires { 2 ≤ length frames.old.frames.frames }
+    ensures { frames.new ≡ with_frames frames.old (popped frames.old.frames) }
+{
+    while let Some(handle) = frames.oldest_of_newest() {
+        frames.delete(handle);
+    }
+    frames.pop_empty();
 }
 
 #[test]
@@ -143,6 +158,24 @@ fn a_pop_takes_the_oldest_first(rt: HostRuntime) -> Result<(), Fail> {
     popped(&mut frames)?;
     assert!(rt; frames.is_base());
     assert_eq!(rt; frames.object_of(base), Some(9));
+    Ok(())
+}
+
+#[test]
+fn a_pop_takes_its_frame_alone(rt: HostRuntime) -> Result<(), Fail> {
+    let mut frames = frames_of_sixteen();
+    let base = added(&mut frames, 9)?;
+    pushed(&mut frames)?;
+    let first = added(&mut frames, 1)?;
+    let second = added(&mut frames, 2)?;
+    if frames.depth() < 2 {
+        return Err("the base frame")?;
+    }
+    pop_whole(&mut frames);
+    assert!(rt; frames.is_base());
+    assert_eq!(rt; frames.object_of(base), Some(9));
+    assert_eq!(rt; frames.object_of(first), None);
+    assert_eq!(rt; frames.object_of(second), None);
     Ok(())
 }
 
