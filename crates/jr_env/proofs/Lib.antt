@@ -9,3 +9,4 @@ pub mod NewPlain
 pub mod NewLocal
 pub mod Removing
 pub mod EnvCalls
+pub mod FrameCalls

@@ -28,6 +28,10 @@ call_by silent asked old answer new = IsMade (silent old.pass.config) old new (a
 abbrev pub call : {A : Type 0} → (Config → ℕ → ℕ → State → Call A) → Deed A
 call asked = call_by (λ c. 0) asked
 
+-- a call that enters no gate: it takes no operation and sees nothing, and but for the frames all is as it was
+abbrev pub call_apart : {A : Type 0} → (Config → ℕ → ℕ → Call A) → Deed A
+call_apart asked old answer new = IsMade 0 old new (asked old.pass.config old.pass.last old.pass.thread) answer × (new ≡ record old { frames = new.frames })
+
 -- a call that is handed a reference word
 abbrev pub call_on : {A : Type 0} → ℕ → (Config → ℕ → ℕ → State → Word → Call A) → Deed A
 call_on w asked old answer new = (a : Word) × IsReadAs w a × call (λ c last t s. asked c last t s a) old answer new
@@ -94,6 +98,14 @@ is_same_object v w = call_on_both v w (λ c last t s a b. references.is_same_obj
 -- GetObjectRefType
 abbrev pub get_object_ref_type : ℕ → Deed ℕ
 get_object_ref_type w = call_on w (λ c last t s a. references.get_object_ref_type c last t a)
+
+-- EnsureLocalCapacity
+abbrev pub ensure_local_capacity : ℕ → Deed (Unit {0})
+ensure_local_capacity n = call_apart (λ c last t. references.ensure_local_capacity c last t n)
+
+-- PushLocalFrame
+abbrev pub push_local_frame : ℕ → Deed (Unit {0})
+push_local_frame n = call_apart (λ c last t. references.push_local_frame c last t n)
 
 module _ {S : Type 0} (facts : S → Facts) where
   -- the deed was done: for whatever was known, something is known that it may lead to

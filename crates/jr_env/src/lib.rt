@@ -3,6 +3,7 @@
 
 mod calls;
 mod env;
+mod frame_calls;
 mod object;
 mod reference;
 mod resolve;

@@ -1,0 +1,112 @@
+-- The calls that enter no gate.
+use Rattle.std.proofs.Common.{◌≡◌, ◌⊎◌, ◌≤◌, ◌<◌, ◌==◌, ℕ, Bool, true, false, nat_lt, nat_le, List, [], ◌∷◌, ◌++◌, Result, Ok, Err, IfErr, length, inl, inr, refl, sym, ap, subst, ◌∙◌, arith}
+use Rattle.std.proofs.lemmas.Bool.Decides.{nat_tests}
+use mathlib.Core.Logic.{∥∥₁_map}
+use Rattle.jr_word.specs.declared.config.Config.{Config}
+use Rattle.jr_word.specs.declared.fault.Fault.{Fault}
+use Rattle.jr_word.specs.declared.fault.Fault.TheVariants.{LocalsFull}
+use Rattle.jr_model.specs.declared.event.Role.{Role}
+use Rattle.jr_model.specs.declared.frames.LocalRef.{LocalRef}
+use Rattle.jr_model.specs.declared.frames.TheConstants.{FRAMES}
+use Rattle.jr_model.specs.History.{PassView}
+use Rattle.jr_model.specs.Frames.{Frames, joined, object_where, pushed, free_places}
+use Rattle.jr_model.specs.Refusals.{Grounds}
+use Rattle.jr_model.specs.Calls.{Call, Ran, refuse_if}
+use Rattle.jr_model.specs.References.{ensure_local_capacity, push_local_frame}
+use Rattle.jr_model.proofs.Stays.{did_nothing}
+use Rattle.jr_model.proofs.Windows.{window_nothing}
+use Rattle.jr_steps.specs.declared.known.Known.{Known}
+use Rattle.jr_steps.specs.Knowing.{AreOf, Facts, view, Holds}
+use Rattle.jr_frames.specs.Table.{Table, with_frames}
+use Rattle.jr_gate.proofs.Spending.{made_of, spend_none}
+use Rattle.jr_gate.proofs.SameRoom.{nothing_changed}
+use Rattle.jr_env.specs.Ready.{StandsReady}
+use Rattle.jr_env.specs.Deeds.{DoesDeed, call_apart}
+
+-- a test that refuses, and one that is passed
+refused_by : (b : Bool) (e : Fault) (f : Frames) → b ≡ true → refuse_if b e f [] (Err e) f
+refused_by true e f is = (refl, refl, refl)
+refused_by false e f is = absurd cc
+
+passed_by : (b : Bool) (e : Fault) (f : Frames) → b ≡ false → refuse_if b e f [] (Ok tt) f
+passed_by false e f is = (refl, refl, refl)
+passed_by true e f is = absurd cc
+
+lacks_room : (n free : ℕ) → (n ≤ free → ⊥) → nat_lt free n ≡ true
+lacks_room n free lacks = grind (arith, nat_tests)
+
+leaves_room : (n free : ℕ) → n ≤ free → nat_lt free n ≡ false
+leaves_room n free l = grind (arith, nat_tests)
+
+at_most : (n : ℕ) → FRAMES ≤ n → nat_le FRAMES n ≡ true
+at_most n l = grind (arith, nat_tests)
+
+fewer_frames : (n : ℕ) → n < FRAMES → nat_le FRAMES n ≡ false
+fewer_frames n l = grind (arith, nat_tests)
+
+-- an empty frame changes no reference
+joined_pushed : (fs : List (List LocalRef)) → joined (fs ++ [] ∷ []) ≡ joined fs
+joined_pushed [] = refl
+joined_pushed (x ∷ xs) = ap (λ l. x ++ l) (joined_pushed xs)
+
+holds_pushed : (f : Frames) (k : Known) → Holds f k → Holds (pushed f) k
+holds_pushed f k m p = m p ∙ sym (ap (object_where (λ r. r.handle.index == p)) (joined_pushed f.frames))
+
+module _ {S : Type 0} {facts : S → Facts} where
+  -- an empty frame more leaves a thread as ready
+  pub ready_pushed : {role : Role} {a : S} {t u : Table} → StandsReady facts role a t → u ≡ with_frames t (pushed t.frames) → StandsReady facts role a u
+  ready_pushed {role} {a} {t} r is = subst (StandsReady facts role a) (sym is) (record {
+    role_is = r.role_is;
+    owner = r.owner;
+    last = r.last;
+    places = r.places;
+    agrees = ∥∥₁_map r.agrees (λ k. (k.0, k.1, holds_pushed t.frames k.0 k.2));
+  })
+
+  module _ (fits : AreOf facts) {a : S} {t : Table} {role : Role} (ready : StandsReady facts role a t) where
+    does_apart : {A : Type 0} {g : Frames} {answer : Result A Fault} (work : Config → ℕ → ℕ → Call A) → ((c : Config) (thread : ℕ) → work c t.last thread t.frames [] answer g) → ((p : PassView) → IfErr answer (Grounds p.seen p)) → ((k : Known) → Holds t.frames k → Holds g k)
+        → DoesDeed facts a a t.frames g (call_apart work) answer
+    does_apart {A} {g} {answer} work is grounds holds = record {
+      stands_is = nothing_changed;
+      did = λ k s m.
+          let i = fits a k s in
+          let last : t.last ≡ k.last = ready.last ∙ sym i.last in
+          let ran : Ran (view k) (view k) t.frames g (work k.config k.last k.thread) answer = record {
+            acts = [];
+            did = did_nothing (view k) i.legal;
+            is = subst (λ l. work k.config l k.thread t.frames [] answer g) last (is k.config k.thread);
+            begun = k.seen;
+            window = window_nothing (view k);
+            grounds = grounds (view k);
+          } in
+          (k, s, holds k m, (made_of (spend_none (facts a).stands.fresh k t.frames g i.legal) ran, refl));
+    }
+
+    pub ensures_room : (n : ℕ) → n ≤ free_places t.last t.frames → DoesDeed facts a a t.frames t.frames (call_apart (λ c last thread. ensure_local_capacity c last thread n)) (Ok tt)
+    ensures_room n l = does_apart (λ c last thread. ensure_local_capacity c last thread n) (λ c thread. passed_by (nat_lt (free_places t.last t.frames) n) LocalsFull t.frames (leaves_room n _ l)) (λ p. tt) (λ k m. m)
+
+    pub lacks_places : (n : ℕ) → (n ≤ free_places t.last t.frames → ⊥) → DoesDeed facts a a t.frames t.frames (call_apart (λ c last thread. ensure_local_capacity c last thread n)) (Err LocalsFull)
+    lacks_places n lacks = does_apart (λ c last thread. ensure_local_capacity c last thread n) (λ c thread. refused_by (nat_lt (free_places t.last t.frames) n) LocalsFull t.frames (lacks_room n _ lacks)) (λ p. tt) (λ k m. m)
+
+    -- too many frames, or too few places
+    pub pushes_none : (n : ℕ) → (FRAMES ≤ length t.frames.frames) ⊎ (n ≤ free_places t.last t.frames → ⊥) → DoesDeed facts a a t.frames t.frames (call_apart (λ c last thread. push_local_frame c last thread n)) (Err LocalsFull)
+    pushes_none n (inl many) = does_apart (λ c last thread. push_local_frame c last thread n) (λ c thread. inr (LocalsFull, refl, refused_by (nat_le FRAMES (length t.frames.frames)) LocalsFull t.frames (at_most _ many))) (λ p. tt) (λ k m. m)
+    pushes_none n (inr lacks) = go (nat_le FRAMES (length t.frames.frames)) refl
+      where
+        go : (b : Bool) → nat_le FRAMES (length t.frames.frames) ≡ b → DoesDeed facts a a t.frames t.frames (call_apart (λ c last thread. push_local_frame c last thread n)) (Err LocalsFull)
+        go true e = does_apart (λ c last thread. push_local_frame c last thread n) (λ c thread. inr (LocalsFull, refl, refused_by (nat_le FRAMES (length t.frames.frames)) LocalsFull t.frames e)) (λ p. tt) (λ k m. m)
+        go false e = does_apart (λ c last thread. push_local_frame c last thread n)
+            (λ c thread. inl (tt, t.frames, [], [], refl, passed_by (nat_le FRAMES (length t.frames.frames)) LocalsFull t.frames e, inr (LocalsFull, refl, refused_by (nat_lt (free_places t.last t.frames) n) LocalsFull t.frames (lacks_room n _ lacks)))) (λ p. tt) (λ k m. m)
+
+    pub pushes : (n : ℕ) {u : Table} → length t.frames.frames < FRAMES → n ≤ free_places t.last t.frames → u ≡ with_frames t (pushed t.frames) → DoesDeed facts a a t.frames u.frames (call_apart (λ c last thread. push_local_frame c last thread n)) (Ok tt)
+    pushes n few l is = subst (λ (x : Table). DoesDeed facts a a t.frames x.frames (call_apart (λ c last thread. push_local_frame c last thread n)) (Ok tt)) (sym is)
+        (does_apart (λ c last thread. push_local_frame c last thread n)
+        (λ c thread. inl (
+          tt,
+          t.frames,
+          [],
+          [],
+          refl,
+          passed_by (nat_le FRAMES (length t.frames.frames)) LocalsFull t.frames (fewer_frames _ few),
+          inl (tt, t.frames, [], [], refl, passed_by (nat_lt (free_places t.last t.frames) n) LocalsFull t.frames (leaves_room n _ l), (refl, refl, refl)),
+        )) (λ p. tt) (λ k m. holds_pushed t.frames k m))

@@ -1,0 +1,35 @@
+//! The calls of the Java Native Interface for the frames of one thread, over any steps.
+use crate::env::Env;
+use jr_model::FRAMES;
+use jr_steps::Steps;
+use jr_word::Fault;
+
+impl<S: Steps> Env<S> {
+    ghost use Rattle.jr_env.specs.Envs.{Does};
+    ghost use Rattle.jr_env.specs.Deeds.{ensure_local_capacity, push_local_frame};
+
+    /// Tells whether so many more local references can be made: E9 where they can't. Enters no gate. A negative capacity can't be handed in. (JNI Specification, chapter 4, "EnsureLocalCapacity")
+    pub fn ensure_local_capacity(&mut self, capacity: u32) -> Result<(), Fault>
+        ensures { Does self.old self.new (ensure_local_capacity capacity) result }
+    {
+        if self.frames.has_room(capacity) {
+            Ok(())
+        } else {
+            Err(Fault::LocalsFull)
+        }
+    }
+
+    /// Opens a frame, in which so many local references can be made: E9 where they can't, or 256 frames are open. Enters no gate. A negative capacity can't be handed in. (JNI Specification, chapter 4, "PushLocalFrame")
+    pub fn push_local_frame(&mut self, capacity: u32) -> Result<(), Fault>
+        ensures { Does self.old self.new (push_local_frame capacity) result }
+    {
+        if self.frames.depth() >= FRAMES {
+            return Err(Fault::LocalsFull);
+        }
+        if !self.frames.has_room(capacity) {
+            return Err(Fault::LocalsFull);
+        }
+        self.frames.push();
+        Ok(())
+    }
+}

@@ -1,0 +1,77 @@
+//! Frames of local references, through the calls for them, over plain words and over a room.
+
+use jr_env::Env;
+use jr_rule::{PlainSteps, Room, RoomSteps};
+use jr_steps::Steps;
+use jr_word::{Config, Fault};
+use std::process::Abort;
+use std::test::Fail;
+
+/// A frame is pushed, and a capacity ensured, where just so many places are free, and not where one is missing.
+fn needs_places<S: Steps>(rt: &impl Abort, env: &mut Env<S>) -> Result<(), Fail> {
+    let object = env.new_plain()?;
+    env.ensure_local_capacity(0)?;
+    env.ensure_local_capacity(15)?;
+    assert_eq!(rt;
+        env.ensure_local_capacity(16).err(),
+        Some(Fault::LocalsFull)
+    );
+    assert_eq!(rt; env.push_local_frame(16).err(), Some(Fault::LocalsFull));
+    assert_eq!(rt;
+        env.push_local_frame(u32::MAX).err(),
+        Some(Fault::LocalsFull)
+    );
+    env.push_local_frame(15)?;
+    // A capacity is no claim: the places are free for whoever makes the next reference.
+    for _ in 0..15 {
+        env.new_local_ref(object)?.ok_or("an object")?;
+    }
+    env.push_local_frame(0)?;
+    env.ensure_local_capacity(0)?;
+    assert_eq!(rt; env.ensure_local_capacity(1).err(), Some(Fault::LocalsFull));
+    assert_eq!(rt; env.push_local_frame(1).err(), Some(Fault::LocalsFull));
+    assert_eq!(rt; env.new_local_ref(object).err(), Some(Fault::LocalsFull));
+    env.delete_local_ref(object)?;
+    env.ensure_local_capacity(1)?;
+    Ok(())
+}
+
+#[test]
+fn capacities_over_plain_words(rt: HostRuntime) -> Result<(), Fail> {
+    let mut env = Env::new(PlainSteps::<4_294_967_295>::new(rt.alloc(), Config::LEAST)?);
+    needs_places(&rt, &mut env)
+}
+
+#[test]
+fn capacities_in_a_room(rt: HostRuntime) -> Result<(), Fail> {
+    let (room, mut passes) = Room::<2>::open(rt.alloc(), Config::LEAST)?;
+    let pass = passes.pop().ok_or("a pass")?;
+    let mut env = Env::new(RoomSteps::new(&room, pass));
+    needs_places(&rt, &mut env)
+}
+
+// Each place gives one handle here, and is retired with it.
+#[test]
+fn retired_places_are_no_room(rt: HostRuntime) -> Result<(), Fail> {
+    let mut env = Env::new(PlainSteps::<0>::new(rt.alloc(), Config::LEAST)?);
+    let object = env.new_plain()?;
+    env.delete_local_ref(object)?;
+    env.ensure_local_capacity(15)?;
+    assert_eq!(rt;
+        env.ensure_local_capacity(16).err(),
+        Some(Fault::LocalsFull)
+    );
+    assert_eq!(rt; env.push_local_frame(16).err(), Some(Fault::LocalsFull));
+    Ok(())
+}
+
+#[test]
+fn no_more_than_256_frames_are_open(rt: HostRuntime) -> Result<(), Fail> {
+    let mut env = Env::new(PlainSteps::<4_294_967_295>::new(rt.alloc(), Config::LEAST)?);
+    for _ in 0..255 {
+        env.push_local_frame(16)?;
+    }
+    assert_eq!(rt; env.push_local_frame(0).err(), Some(Fault::LocalsFull));
+    env.ensure_local_capacity(16)?;
+    Ok(())
+}
