@@ -57,6 +57,7 @@ module _ {S : Type 0} {facts : S → Facts} where
   pub ready_pushed : {role : Role} {a : S} {t u : Table} → StandsReady facts role a t → u ≡ with_frames t (pushed t.frames) → StandsReady facts role a u
   ready_pushed {role} {a} {t} r is = subst (StandsReady facts role a) (sym is) (record {
     role_is = r.role_is;
+    spent = r.spent;
     owner = r.owner;
     last = r.last;
     places = r.places;
