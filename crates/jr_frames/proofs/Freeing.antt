@@ -1,15 +1,16 @@
 -- How all local references are freed, one after the other.
-use Rattle.std.proofs.Common.{◌≡◌, ◌+◌, ℕ, zero, suc, Some, List, [], ◌∷◌, ◌++◌, take, length, slice_set, refl, sym, ap, subst, ◌∙◌, arith}
+use Rattle.std.proofs.Common.{◌≡◌, ◌≤◌, ◌+◌, ℕ, zero, suc, Some, List, [], ◌∷◌, ◌++◌, take, length, slice_set, refl, sym, ap, subst, ◌∙◌, arith}
 use Rattle.std.proofs.lemmas.List.{append_assoc, append-nil, length-map, take_all}
 use Rattle.std.specs.List.{AllByRecursion}
+use Rattle.jr_model.specs.declared.event.Act.{Act}
 use Rattle.jr_model.specs.declared.event.Act.TheVariants.{LocalDrop}
 use Rattle.jr_model.specs.declared.frames.LocalRef.{LocalRef}
 use Rattle.jr_model.specs.State.{Handle}
-use Rattle.jr_model.specs.Frames.{all_refs, joined, drop_all, last_frame, frames_before}
+use Rattle.jr_model.specs.Frames.{all_refs, joined, drop_all, last_frame, frames_before, without_local}
 use Rattle.jr_frames.specs.Table.{oldest_handle, without_oldest, frame_at}
 use Rattle.jr_frames.specs.Freeing.{FreeBegins, FreeGoesOn, FreeTurns, FreeEmpties, EmptyIsPopped, FreeEnds}
 use Rattle.jr_frames.proofs.Changing.{frames_same}
-use Rattle.jr_frames.proofs.Popping.{drop_oldest, one_fewer}
+use Rattle.jr_frames.proofs.Popping.{drop_oldest}
 
 abbrev AreEmpty : List (List LocalRef) → Type 0
 AreEmpty fs = AllByRecursion (λ rs. rs ≡ []) fs
@@ -33,12 +34,9 @@ before_same zero rs (x ∷ xs) = refl
 before_same (suc k) rs [] = refl
 before_same (suc k) rs (x ∷ xs) = ap (λ l. x ∷ l) (before_same k rs xs)
 
--- what is read where a frame was set
-set_frame : (h : Handle) (k : ℕ) (rs : List LocalRef) (fs : List (List LocalRef)) → oldest_handle (frame_at fs k) ≡ Some h → frame_at (slice_set fs k rs) k ≡ rs
-set_frame h zero rs [] e = absurd cc
-set_frame h zero rs (x ∷ xs) e = refl
-set_frame h (suc k) rs [] e = absurd cc
-set_frame h (suc k) rs (x ∷ xs) e = set_frame h k rs xs e
+-- as many acts as references
+fewer_refs : (a : Act) (rs qs : List LocalRef) → drop_all rs ≡ a ∷ drop_all qs → length rs ≡ suc (length qs)
+fewer_refs a rs qs e = sym (length-map rs _) ∙ (ap length e ∙ ap suc (length-map qs _))
 
 one_more : (k : ℕ) (fs : List (List LocalRef)) → AreEmpty (take k fs) → frame_at fs k ≡ [] → AreEmpty (take (suc k) fs)
 one_more zero [] before e = tt
@@ -68,6 +66,12 @@ before_none [] all = tt
 before_none (x ∷ []) all = tt
 before_none (x ∷ y ∷ xs) all = (all.0, before_none (y ∷ xs) all.1)
 
+one_left : (fs : List (List LocalRef)) → 2 ≤ length fs → length fs ≡ suc (length (frames_before fs))
+one_left [] l = absurd (omega arith)
+one_left (x ∷ []) l = absurd (omega arith)
+one_left (x ∷ y ∷ []) l = refl
+one_left (x ∷ y ∷ z ∷ xs) l = ap suc (one_left (y ∷ z ∷ xs) (omega arith))
+
 alone : (fs : List (List LocalRef)) → AreEmpty fs → length fs ≡ 1 → fs ≡ [] ∷ []
 alone [] all e = absurd (omega arith)
 alone (x ∷ []) all e = ap (λ rs. rs ∷ []) all.0
@@ -91,7 +95,7 @@ free_goes_on f now k acts h free oldest takes = (
     depth = length-map now.frames _ ∙ free.depth;
     given = free.given;
   },
-  one_fewer h (frame_at now.frames k) oldest ∙ ap (λ rs. suc (length rs)) (sym (ap (λ fs. frame_at fs k) takes ∙ set_frame h k _ now.frames oldest)),
+  fewer_refs (LocalDrop h.index) (all_refs now) (all_refs (without_local now h)) (drop_first h k now.frames free.before oldest ∙ ap (λ fs. LocalDrop h.index ∷ drop_all (joined fs)) (sym takes)),
 )
 
 pub free_turns : FreeTurns
@@ -109,9 +113,9 @@ free_empties f now acts free =
     record { taken = sym (free.taken ∙ (ap (λ rs. acts ++ drop_all rs) none ∙ append-nil acts)); none = none; given = free.given }
 
 pub empty_is_popped : EmptyIsPopped
-empty_is_popped f now acts emptied =
+empty_is_popped f now acts emptied two =
     let all = all_none now.frames emptied.none in
-    (last_none now.frames all, record { taken = emptied.taken; none = none_joined (frames_before now.frames) (before_none now.frames all); given = emptied.given })
+    (last_none now.frames all, one_left now.frames two, record { taken = emptied.taken; none = none_joined (frames_before now.frames) (before_none now.frames all); given = emptied.given })
 
 pub free_ends : FreeEnds
 free_ends f now acts emptied one = (emptied.taken, refl, frames_same _ _ _ _ (alone now.frames (all_none now.frames emptied.none) one) emptied.given)

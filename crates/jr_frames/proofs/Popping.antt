@@ -14,7 +14,7 @@ pub drop_oldest : (h : Handle) (rs : List LocalRef) → oldest_handle rs ≡ Som
 drop_oldest h [] e = absurd cc
 drop_oldest h (r ∷ rs) e = let same : r.handle ≡ h = cc in ap (λ (k : Handle). LocalDrop k.index ∷ drop_all rs) same
 
-pub one_fewer : (h : Handle) (rs : List LocalRef) → oldest_handle rs ≡ Some h → length rs ≡ suc (length (without_oldest rs))
+one_fewer : (h : Handle) (rs : List LocalRef) → oldest_handle rs ≡ Some h → length rs ≡ suc (length (without_oldest rs))
 one_fewer h [] e = absurd cc
 one_fewer h (r ∷ rs) e = refl
 

@@ -1,5 +1,5 @@
 -- How all local references are freed, one after the other.
-use Rattle.std.specs.Prelude.{◌≡◌, ◌+◌, ℕ, Ok, Some, List, [], ◌∷◌, ◌++◌, suc, take, length}
+use Rattle.std.specs.Prelude.{◌≡◌, ◌≤◌, ◌+◌, ℕ, Ok, Some, List, [], ◌∷◌, ◌++◌, suc, take, length}
 use Rattle.std.specs.List.{AllByRecursion}
 use Rattle.jr_model.specs.declared.event.Act.{Act}
 use Rattle.jr_model.specs.declared.event.Act.TheVariants.{LocalDrop}
@@ -25,12 +25,12 @@ pub record IsEmptied (f : Frames) (acts : List Act) (now : Frames) : Type 0 wher
 abbrev pub FreeBegins : Type 0
 FreeBegins = (f : Frames) → IsFreeing f 0 [] f
 
--- it goes on by the deletion of the oldest reference that is left in the frame, of which there is then one fewer
+-- it goes on by the deletion of the oldest reference that is left in the frame, and there is then one reference fewer
 abbrev pub FreeGoesOn : Type 0
 FreeGoesOn = (f now : Frames) (k : ℕ) (acts : List Act) (h : Handle) → IsFreeing f k acts now
     → oldest_handle (frame_at now.frames k) ≡ Some h → TakesOldestOf now k h
     → IsFreeing f k (acts ++ LocalDrop h.index ∷ []) (without_local now h)
-    × (length (frame_at now.frames k) ≡ suc (length (frame_at (without_local now h).frames k)))
+    × (length (all_refs now) ≡ suc (length (all_refs (without_local now h))))
 
 -- where none is left in it, the next frame has its turn
 abbrev pub FreeTurns : Type 0
@@ -40,9 +40,10 @@ FreeTurns = (f now : Frames) (k : ℕ) (acts : List Act) → IsFreeing f k acts 
 abbrev pub FreeEmpties : Type 0
 FreeEmpties = (f now : Frames) (acts : List Act) → IsFreeing f (length f.frames) acts now → IsEmptied f acts now
 
--- then each frame above the base frame is empty and is taken away
+-- then each frame above the base frame is empty and is taken away, and there is one frame fewer
 abbrev pub EmptyIsPopped : Type 0
-EmptyIsPopped = (f now : Frames) (acts : List Act) → IsEmptied f acts now → (last_frame now.frames ≡ []) × IsEmptied f acts (popped now)
+EmptyIsPopped = (f now : Frames) (acts : List Act) → IsEmptied f acts now → 2 ≤ length now.frames
+    → (last_frame now.frames ≡ []) × (length now.frames ≡ suc (length (popped now).frames)) × IsEmptied f acts (popped now)
 
 -- and where the base frame alone is left, all is as the machine's free leaves it
 abbrev pub FreeEnds : Type 0

@@ -1,6 +1,7 @@
 ghost use Rattle.std.specs.Prelude.{◌≡◌, ◌≤◌, length};
-ghost use Rattle.jr_model.specs.Frames.{popped};
+ghost use Rattle.jr_model.specs.Frames.{all_refs, drop_all, popped, freed};
 ghost use Rattle.jr_frames.specs.Table.{with_frames};
+ghost use Rattle.jr_frames.specs.Freeing.{IsEmptied};
 
 use crate::frames::Frames;
 use crate::place::Place;
@@ -66,6 +67,31 @@ fn pop_whole(frames: &mut Frames)
         frames.delete(handle);
     }
     frames.pop_empty();
+}
+
+/// Deletes all references, frames and references oldest first.
+fn empty_frames(frames: &mut Frames)
+    ensures emptied { IsEmptied frames.old.frames (drop_all (all_refs frames.old.frames)) frames.new.frames }
+    ensures same { (frames.new.thread ≡ frames.old.thread) × (frames.new.last ≡ frames.old.last) }
+{
+    let mut frame = 0;
+    while frame < frames.depth() {
+        match frames.oldest_of(frame) {
+            Some(handle) => frames.delete(handle),
+            None => frame += 1,
+        }
+    }
+}
+
+/// Frees all references, and leaves the base frame alone.
+fn free_whole(frames: &mut Frames)
+    ensures { frames.new ≡ with_frames frames.old (freed frames.old.frames) }
+{
+    empty_frames(frames);
+    while frames.depth() > 1 {
+        frames.pop_empty();
+    }
+    frames.are_sound();
 }
 
 #[test]
@@ -176,6 +202,23 @@ fn a_pop_takes_its_frame_alone(rt: HostRuntime) -> Result<(), Fail> {
     assert_eq!(rt; frames.object_of(base), Some(9));
     assert_eq!(rt; frames.object_of(first), None);
     assert_eq!(rt; frames.object_of(second), None);
+    Ok(())
+}
+
+#[test]
+fn a_free_leaves_one_empty_frame(rt: HostRuntime) -> Result<(), Fail> {
+    let mut frames = frames_of_sixteen();
+    let base = added(&mut frames, 9)?;
+    pushed(&mut frames)?;
+    let first = added(&mut frames, 1)?;
+    pushed(&mut frames)?;
+    let second = added(&mut frames, 2)?;
+    free_whole(&mut frames);
+    assert!(rt; frames.is_base());
+    assert_eq!(rt; frames.object_of(base), None);
+    assert_eq!(rt; frames.object_of(first), None);
+    assert_eq!(rt; frames.object_of(second), None);
+    assert_eq!(rt; frames.oldest_of_newest(), None);
     Ok(())
 }
 
