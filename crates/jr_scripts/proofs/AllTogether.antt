@@ -1,10 +1,11 @@
 -- What all threads of a script did, in one history.
-use Rattle.std.proofs.Common.{◌≡◌, ◌+◌, ◌<◌, ◌++◌, ℕ, zero, suc, false, List, [], ◌∷◌, map, length, Result, Ok, refl, sym, ap, subst, ◌∙◌, arith}
+use Rattle.std.proofs.Common.{◌≡◌, ◌+◌, ◌<◌, ◌++◌, ℕ, zero, suc, true, false, List, [], ◌∷◌, map, length, Result, Ok, refl, sym, ap, subst, ◌∙◌, arith}
 use Rattle.std.proofs.lemmas.List.{append-nil}
 use Rattle.std.specs.List.{All, AllZip, AllByRecursion}
 use Rattle.std.proofs.lemmas.List.Elements.{recursion_from_All, All-from_recursion, All-head, All-tail}
 use Rattle.jr_word.specs.declared.config.Config.{Config}
 use Rattle.jr_word.specs.declared.fault.Fault.{Fault}
+use Rattle.jr_word.specs.Config.{in_limits}
 use Rattle.jr_model.specs.declared.event.Act.TheVariants.{Meet}
 use Rattle.jr_model.specs.declared.summary.Summary.{Summary}
 use Rattle.jr_model.specs.State.{summary}
@@ -243,9 +244,9 @@ module _ (turns last : ℕ) (c : Config) (r : Row) (config_is : r.config ≡ c) 
 
 -- ALL TOGETHER
 pub together : (turns last : ℕ) (script : Script) (r : Row) (ps : List Pass) (js : List Job) (xs : List ThreadRun) (passes : List Pass) (e : Pass) (ends : List Pass) (text whole : List ℕ) (s : Summary)
-    → length script.threads ≡ script.config.threads → AreOpened script.config last r ps → AreJobsOf turns 2 ps script.threads js → AllZip HasRun js xs → AreTold script.threads xs passes text → passes ≡ e ∷ ends
+    → in_limits script.config ≡ true → length script.threads ≡ script.config.threads → AreOpened script.config last r ps → AreJobsOf turns 2 ps script.threads js → AllZip HasRun js xs → AreTold script.threads xs passes text → passes ≡ e ∷ ends
     → ClosesAll (known_of e) (map known_of ends) s → whole ≡ text ++ ending s → IsRunOfAll turns last script whole
-together turns last script r ps js xs passes e ends text whole s long o jobs ran told is closes whole_is =
+together turns last script r ps js xs passes e ends text whole s limits long o jobs ran told is closes whole_is =
     let c = script.config in
     let told' : AreTold script.threads xs (e ∷ ends) text = subst (λ z. AreTold script.threads xs z text) is told in
     let x = all_parts turns last c r o.same_config o.same_last c.threads ps script.threads js xs e ends text s (o.threads ∙ numbers_counted c.threads) (recursion_from_All (IsOpened r) ps o.each) jobs ran told' closes in
@@ -253,6 +254,7 @@ together turns last script r ps js xs passes e ends text whole s long o jobs ran
       whole = x.0;
       legal = x.1;
       lines = lines_of xs;
+      limits = limits;
       one_each = long;
       parts = x.2;
       text_is = whole_is ∙ (ap (λ t. t ++ ending s) (text_told script.threads xs (e ∷ ends) text told') ∙ ap (λ v. text_of_parts script.threads (lines_of xs) ++ ending v) x.3);

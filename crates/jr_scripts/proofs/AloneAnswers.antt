@@ -14,7 +14,7 @@ use Rattle.jr_scripts.proofs.Uncontended.{is_uncontended_act}
 use Rattle.jr_scripts.proofs.AloneCalls.{IsAlone, AllUncontended}
 use Rattle.jr_scripts.proofs.AloneDeeds.{was_alone, deed_alone}
 
-all_map : {P Q : Event → Type 0} → ((e : Event) → P e → Q e) → (es : History) → AllByRecursion P es → AllByRecursion Q es
+pub all_map : {P Q : Event → Type 0} → ((e : Event) → P e → Q e) → (es : History) → AllByRecursion P es → AllByRecursion Q es
 all_map f [] h = tt
 all_map f (e ∷ es) h = (f e h.0, all_map f es h.1)
 

@@ -12,3 +12,4 @@ pub mod JobHandles
 pub mod OneOfAll
 pub mod AllTogether
 pub mod JobLists
+pub mod LoneRun

@@ -3,6 +3,7 @@ use Rattle.std.specs.Prelude.{◌≡◌, ◌+◌, ℕ, zero, suc, false, List, [
 use mathlib.Core.List.{IsPrefix}
 use Rattle.jr_word.specs.declared.config.Config.{Config}
 use Rattle.jr_word.specs.declared.fault.Fault.{Fault}
+use Rattle.jr_word.specs.Config.{in_limits}
 use Rattle.jr_model.specs.declared.event.Act.{Act}
 use Rattle.jr_model.specs.declared.event.Act.TheVariants.{Meet}
 use Rattle.jr_model.specs.State.{summary}
@@ -18,7 +19,7 @@ use Rattle.jr_steps.specs.Holdings.{empty}
 use Rattle.jr_steps.specs.Knowing.{Spent}
 use Rattle.jr_scripts.specs.Text.{heading, ending}
 use Rattle.jr_scripts.specs.Explains.{Explained}
-use Rattle.jr_scripts.specs.Runs.{RanThread}
+use Rattle.jr_scripts.specs.Runs.{RanThread, RunsSingle}
 
 -- a thread ran these commands with its pass, which was spent first, and which it hands back, not fresh
 pub record RanPass (turns first : ℕ) (commands : List Command) (old new : Pass) (answer : Result (Unit {0}) Fault) (text : List ℕ) : Type 0 where
@@ -66,6 +67,14 @@ pub record IsRunOfAll (turns last : ℕ) (s : Script) (text : List ℕ) : Type 0
   pub whole : History
   pub legal : IsLegal s.config last whole
   pub lines : List (List ℕ)
+  pub limits : in_limits s.config ≡ true
   pub one_each : length s.threads ≡ s.config.threads
   pub parts : ArePartsOf turns last s.config whole 0 2 s.threads lines
   pub text_is : text ≡ text_of_parts s.threads lines ++ ending (summary s.config last (state whole))
+
+-- the script was run, and the output grew by its text; that of a script of one thread is the text of a run of that thread alone
+pub record RunsAll (turns last : ℕ) (s : Script) (old new : List ℕ) : Type 0 where
+  pub text : List ℕ
+  pub grew : new ≡ old ++ text
+  pub run : IsRunOfAll turns last s text
+  pub alone : s.config.threads ≡ 1 → RunsSingle turns last s old new

@@ -4,7 +4,7 @@ ghost use Rattle.std.specs.Prelude.{◌≡◌, ◌+◌, ◌++◌, List, ℕ, All
 ghost use Rattle.jr_rule.specs.Passes.{known_of, ClosesAll};
 ghost use Rattle.jr_rule.specs.Rooms.{IsOfRoom};
 ghost use Rattle.jr_word.specs.declared.fault.Fault.TheVariants.{Memory};
-ghost use Rattle.jr_scripts.specs.AllRuns.{IsRunOfAll};
+ghost use Rattle.jr_scripts.specs.AllRuns.{IsRunOfAll, RunsAll};
 ghost use Rattle.jr_scripts.specs.Jobs.{AreJobsOf, AreTold};
 
 use crate::part::{Job, ThreadRun};
@@ -153,7 +153,7 @@ pub fn run_all<R: Threads + Wait>(
     turns: u64,
     out: &mut Vec<u8>,
 ) -> Result<(), Fault>
-    ensures ok { OnOk result ((text : List ℕ) × (out.new.items ≡ out.old.items ++ text) × IsRunOfAll turns 4294967295 script.now text) }
+    ensures ok { OnOk result (RunsAll turns 4294967295 script.now out.old.items out.new.items) }
     ensures err { OnErr result (out.new.items ≡ out.old.items) }
 {
     let text = text_of_all(rt, alloc, script, turns)?;

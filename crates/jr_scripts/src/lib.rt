@@ -1,4 +1,4 @@
-//! Runs scripts of JNI calls: the calls of one thread over atomic steps, and what a script of one thread prints.
+//! Runs scripts of JNI calls: the calls of one thread over atomic steps, and what the threads of a script print.
 #![tactic(auto)]
 
 mod all;

@@ -6,6 +6,7 @@
 mod frames;
 mod references;
 
+use crate::all::run_all;
 use crate::opening::opened_env;
 use crate::run::run_thread;
 use crate::single::run_one;
@@ -17,7 +18,9 @@ use jr_syntax::{
 use jr_word::{Config, Fault, Handle};
 use std::alloc::{AllocError, Global};
 use std::process::Abort;
+use std::sync::Wait;
 use std::test::Fail;
+use std::thread::Threads;
 
 /// What stands in the output before a run.
 const BEFORE: &[u8] = b"before\n";
@@ -31,23 +34,52 @@ const SIZES: Config = Config {
     ..Config::LEAST
 };
 
-/// Checks what a script prints behind other output.
-fn prints(rt: &impl Abort, alloc: Global, script: &[u8], wanted: &[u8]) -> Result<(), Fail> {
-    let script = parse(alloc, script)?;
-    let mut out = Vec::from_slice(alloc, BEFORE)?;
-    let mut whole = Vec::from_slice(alloc, BEFORE)?;
-    whole.extend_from_slice(wanted)?;
-    match run_one(alloc, &script, TURNS, &mut out) {
+/// Checks what a run left in the output.
+fn leaves(
+    rt: &impl Abort,
+    answer: Result<(), Fault>,
+    out: &[u8],
+    wanted: &[u8],
+) -> Result<(), Fail> {
+    match answer {
         Ok(()) => {
-            assert_eq!(rt; out.as_slice(), whole.as_slice());
+            assert_eq!(rt; out, wanted);
             Ok(())
         }
         Err(fault) => {
             assert_eq!(rt; fault, Fault::Memory);
-            assert_eq!(rt; out.as_slice(), BEFORE);
+            assert_eq!(rt; out, BEFORE);
             Err(fault)?
         }
     }
+}
+
+/// Checks what a script prints behind other output, each thread in one of its own.
+fn all_print<R: Abort + Threads + Wait>(
+    rt: &R,
+    alloc: Global,
+    script: &Script,
+    wanted: &[u8],
+) -> Result<(), Fail> {
+    let mut out = Vec::from_slice(alloc, BEFORE)?;
+    let answer = run_all(rt, alloc, script, TURNS, &mut out);
+    leaves(rt, answer, &out, wanted)
+}
+
+/// Checks what a script of one thread prints behind other output, run alone and as any other.
+fn prints<R: Abort + Threads + Wait>(
+    rt: &R,
+    alloc: Global,
+    script: &[u8],
+    wanted: &[u8],
+) -> Result<(), Fail> {
+    let script = parse(alloc, script)?;
+    let mut out = Vec::from_slice(alloc, BEFORE)?;
+    let mut whole = Vec::from_slice(alloc, BEFORE)?;
+    whole.extend_from_slice(wanted)?;
+    let answer = run_one(alloc, &script, TURNS, &mut out);
+    leaves(rt, answer, &out, &whole)?;
+    all_print(rt, alloc, &script, &whole)
 }
 
 #[test]
@@ -345,7 +377,7 @@ fn three_threads_of_one_script_run_in_one_room(rt: HostRuntime) -> Result<(), Fa
     };
     let script = Script { config, threads };
     let mut out = Vec::from_slice(alloc, BEFORE)?;
-    crate::run_all(&rt, alloc, &script, 1_000_000, &mut out)?;
+    run_all(&rt, alloc, &script, 1_000_000, &mut out)?;
     let wanted =
         b"before\n[a]\ntype g 2\ntype g 0\n9 ! E2\n[b]\ntype g 2\ntype g 0\n17 ! E2\n[c]\ntype g 2\ntype g 0\n25 ! E2\n[end]\nglobals 0 weaks 3 live 3 used 0\n";
     assert_eq!(rt; out.as_slice(), wanted.as_slice());
@@ -364,7 +396,7 @@ fn a_script_with_a_part_too_few_is_refused(rt: HostRuntime) -> Result<(), Fail> 
     let script = Script { config, threads };
     let mut out = Vec::from_slice(alloc, BEFORE)?;
     assert_eq!(rt;
-        crate::run_all(&rt, alloc, &script, TURNS, &mut out),
+        run_all(&rt, alloc, &script, TURNS, &mut out),
         Err(Fault::Size)
     );
     assert_eq!(rt; out.as_slice(), BEFORE);

@@ -8,6 +8,7 @@ use Rattle.std.proofs.lemmas.List.{length-append, append-nil, map-append}
 use Rattle.std.proofs.lemmas.List.Splits.{join_with_byte-slice_split}
 use Rattle.jr_word.specs.declared.config.Config.{Config}
 use Rattle.jr_word.specs.Config.{is_between}
+use Rattle.jr_word.specs.Config.{in_limits}
 use Rattle.jr_syntax.specs.declared.fault.Reason.{Reason}
 use Rattle.jr_syntax.specs.declared.fault.Reason.TheVariants.{EmptyInput, UnfinishedLine, NotAscii, VmLineExpected, NumberOutOfRange}
 use Rattle.jr_syntax.specs.declared.fault.ScriptFault.{ScriptFault}
@@ -18,7 +19,7 @@ use Rattle.jr_syntax.specs.declared.draft.Draft.{Draft}
 use Rattle.jr_syntax.specs.declared.thread.ThreadPart.{ThreadPart}
 use Rattle.jr_syntax.specs.declared.script.Script.{Script}
 use Rattle.jr_syntax.specs.Line.{Line, line, words_of, lines_of, lines_of_pieces}
-use Rattle.jr_syntax.specs.Script.{vm, is_config, part_lines, names_of, is_part, all_apart, script_lines, IsScript, text_of}
+use Rattle.jr_syntax.specs.Script.{vm, part_lines, names_of, is_part, all_apart, script_lines, IsScript, text_of}
 use Rattle.jr_syntax.specs.Faults.{fault_table, first_fit, fault_of, first_fault_behind, first_fault, second_word}
 use Rattle.jr_syntax.specs.Parse.{IsFaultOf}
 use Rattle.jr_syntax.specs.Draft.{Gave, GaveSome, Grown, parts_of, rows, first_rows, fault_at}
@@ -141,7 +142,7 @@ first_read text l ls d short e none same parts last =
         few_lines = omega arith;
         threads = ap (λ (c : Config). c.threads) (sym same);
         names = ap (λ b. map second_word (cond b (l.0 ∷ []) [])) plain ∙ ap names_of (sym parts);
-        config = ap is_config same ∙ a.2;
+        config = ap in_limits same ∙ a.2;
         few = omega (arith, ap length parts);
         good = ap (list_all is_part) parts;
         apart = ap (λ (ps : List ThreadPart). all_apart (names_of ps)) parts;

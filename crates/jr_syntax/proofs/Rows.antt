@@ -7,12 +7,13 @@ use Rattle.std.proofs.lemmas.Bool.{ltb-false, ne_eqb}
 use Rattle.std.proofs.lemmas.List.{length-map}
 use Rattle.jr_word.specs.declared.config.Config.{Config}
 use Rattle.jr_word.specs.Config.{is_between}
+use Rattle.jr_word.specs.Config.{in_limits}
 use Rattle.jr_syntax.specs.declared.fault.Reason.{Reason}
 use Rattle.jr_syntax.specs.declared.fault.Reason.TheVariants.{TooLong, UnfinishedLine, NotAscii, VmLineExpected, ThreadLineExpected, TooManyThreads, NameUsedTwice, CommandExpected, NumberOutOfRange}
 use Rattle.jr_syntax.specs.declared.draft.Draft.{Draft}
 use Rattle.jr_syntax.specs.declared.thread.ThreadPart.{ThreadPart}
 use Rattle.jr_syntax.specs.Line.{Line, words_of, word_at}
-use Rattle.jr_syntax.specs.Script.{thread, is_config, script_lines, names_of, is_part, all_apart}
+use Rattle.jr_syntax.specs.Script.{thread, script_lines, names_of, is_part, all_apart}
 use Rattle.jr_syntax.specs.Faults.{fault_table, first_fit, threads_in, names_in}
 use Rattle.jr_syntax.specs.Draft.{parts_of, rows, thread_rows, command_rows}
 
@@ -22,7 +23,7 @@ pub record Follows (before : List (List ℕ)) (d : Draft) : Type 0 where
   pub few_lines : length before ≤ 4096
   pub threads : threads_in before ≡ d.config.threads
   pub names : names_in before ≡ names_of (parts_of d)
-  pub config : is_config d.config ≡ true
+  pub config : in_limits d.config ≡ true
   pub few : length (parts_of d) ≤ d.config.threads
   pub good : list_all is_part (parts_of d) ≡ true
   pub apart : all_apart (names_of (parts_of d)) ≡ true

@@ -12,13 +12,14 @@ use Rattle.std.proofs.lemmas.List.Splits.{join_with_byte-slice_split}
 use Rattle.std.proofs.lemmas.Slice.Eq.{bytes_eq-Decides}
 use Rattle.std.proofs.lemmas.Grind.{flat_map-append}
 use Rattle.jr_word.specs.declared.config.Config.{Config}
+use Rattle.jr_word.specs.Config.{in_limits}
 use Rattle.jr_syntax.specs.declared.draft.Draft.{Draft}
 use Rattle.jr_syntax.specs.declared.command.Command.{Command}
 use Rattle.jr_syntax.specs.declared.thread.ThreadPart.{ThreadPart}
 use Rattle.jr_syntax.specs.Name.{is_name}
 use Rattle.jr_syntax.specs.Line.{Line, line, words_of, word_at}
 use Rattle.jr_syntax.specs.Command.{line_has_form, line_in_range, line_command, is_command, words_of_command}
-use Rattle.jr_syntax.specs.Script.{vm, thread, is_config, part_lines, script_lines, names_of, is_part, all_apart}
+use Rattle.jr_syntax.specs.Script.{vm, thread, part_lines, script_lines, names_of, is_part, all_apart}
 use Rattle.jr_syntax.specs.Faults.{first_fit, threads_in, names_in, is_thread_line, second_word}
 use Rattle.jr_syntax.specs.Draft.{parts_of, rows, thread_rows, command_rows, with_command, begun, Grown}
 use Rattle.jr_syntax.proofs.ReadIsSpelled.{words_1, line_takes}
@@ -112,7 +113,7 @@ grown_thread before d l new f few t none same whole last =
       few_lines = rw length-append (omega arith);
       threads = threads_more before l long ∙ f.threads ∙ ap (λ (c : Config). c.threads) (sym same);
       names = names_more before l ∙ rw (t, f.names) (sym (ap names_of whole ∙ map-append (λ (q : ThreadPart). q.name) (parts_of d) (p ∷ [])));
-      config = ap is_config same ∙ f.config;
+      config = ap in_limits same ∙ f.config;
       few = omega (arith, more, ap (λ (c : Config). c.threads) same);
       good = ap (list_all is_part) whole ∙ all_append is_part (parts_of d) p f.good (and_from _ _ w.1 refl);
       apart = ap (λ (x : List ThreadPart). all_apart (names_of x)) whole ∙ ap all_apart (map-append (λ (q : ThreadPart). q.name) (parts_of d) (p ∷ [])) ∙ apart_more (names_of (parts_of d)) n f.apart a.1;
@@ -164,7 +165,7 @@ grown_command before d l new c f few t none found same parts last =
       few_lines = rw length-append (omega arith);
       threads = threads_more before l long ∙ f.threads ∙ ap (λ (k : Config). k.threads) (sym same);
       names = names_more before l ∙ rw t (append-nil (names_in before)) ∙ f.names ∙ sym (ap names_of parts ∙ names_with (parts_of d) c);
-      config = ap is_config same ∙ f.config;
+      config = ap in_limits same ∙ f.config;
       few = omega (arith, more, ap (λ (k : Config). k.threads) same);
       good = ap (list_all is_part) parts ∙ good_with (parts_of d) c f.good w.1;
       apart = ap all_apart (ap names_of parts ∙ names_with (parts_of d) c) ∙ f.apart;

@@ -9,6 +9,7 @@ use Rattle.std.proofs.lemmas.List.{length-append, length-map, append-nil, map-ap
 use Rattle.std.proofs.lemmas.List.Folds.{list_any-append}
 use Rattle.jr_word.specs.declared.config.Config.{Config}
 use Rattle.jr_word.specs.Config.{is_between}
+use Rattle.jr_word.specs.Config.{in_limits}
 use Rattle.jr_syntax.specs.declared.command.Command.{Command}
 use Rattle.jr_syntax.specs.declared.fault.Reason.{Reason}
 use Rattle.jr_syntax.specs.declared.fault.Reason.TheVariants.{TooLong, UnfinishedLine, NotAscii, VmLineExpected, ThreadLineExpected, TooManyThreads, NameUsedTwice, CommandExpected, NumberOutOfRange}
@@ -19,7 +20,7 @@ use Rattle.jr_syntax.specs.declared.script.Script.{Script}
 use Rattle.jr_syntax.specs.Name.{is_name}
 use Rattle.jr_syntax.specs.Line.{Line, line, lines_of, words_of, word_at}
 use Rattle.jr_syntax.specs.Command.{words_of_command, is_command, line_has_form, line_in_range, line_command}
-use Rattle.jr_syntax.specs.Script.{vm, thread, config_at, is_config, part_lines, script_lines, text_of, names_of, is_part, all_apart, IsScript}
+use Rattle.jr_syntax.specs.Script.{vm, thread, config_at, part_lines, script_lines, text_of, names_of, is_part, all_apart, IsScript}
 use Rattle.jr_syntax.specs.Faults.{first_fit, fault_of, first_fault_behind, first_fault, threads_in, names_in, second_word}
 use Rattle.jr_syntax.specs.Parse.{IsFaultOf, ReadsAs}
 use Rattle.jr_syntax.proofs.Cuts.{lines_of_more}
@@ -111,7 +112,7 @@ read_parts (p ∷ ps) h =
 
 -- ---- the first line
 
-vm_again : (c : Config) → is_config c ≡ true → (config_at (vm.spell c) ≡ c) × (list_all is_solid (vm.spell c) ≡ true) × (vm.has_form (vm.spell c) ≡ true)
+vm_again : (c : Config) → in_limits c ≡ true → (config_at (vm.spell c) ≡ c) × (list_all is_solid (vm.spell c) ≡ true) × (vm.has_form (vm.spell c) ≡ true)
 vm_again c h =
     let s = config_fits c h in (
       rw (number_decimal c.threads s.threads, number_decimal c.slots s.slots, number_decimal c.objects s.objects, number_decimal c.words s.words, number_decimal c.locals s.locals) refl,
@@ -119,7 +120,7 @@ vm_again c h =
       rw (decimal_form c.threads s.threads, decimal_form c.slots s.slots, decimal_form c.objects s.objects, decimal_form c.words s.words, decimal_form c.locals s.locals) refl,
     )
 
-vm_words_again : (c : Config) → is_config c ≡ true → words_of (line (vm.spell c)) ≡ vm.spell c
+vm_words_again : (c : Config) → in_limits c ≡ true → words_of (line (vm.spell c)) ≡ vm.spell c
 vm_words_again c h = words_again (codes "vm") _ (vm_again c h).1
 
 -- ---- every line is printable
@@ -284,7 +285,7 @@ no_fault s h =
     let plain = vm_plain (words_of l) (ap (λ (ws : List (List ℕ)). word_at ws 0) w) in
     let seen = line_printable (vm.spell c) v.1 in
     let form : vm.has_form (words_of l) ≡ true = ap vm.has_form w ∙ v.2 in
-    let range : vm.in_range (words_of l) ≡ true = ap vm.in_range w ∙ ap is_config v.0 ∙ h.config in
+    let range : vm.in_range (words_of l) ≡ true = ap vm.in_range w ∙ ap in_limits v.0 ∙ h.config in
     let fits : fault_of [] (finished l) ≡ None = table_first (finished l) ∙ first_fits true _ _ _ refl seen form range in
     let start : SoFar (l ∷ []) c.threads [] = record {
       threads_are = ap (λ (k : Config). k.threads) (ap config_at w ∙ v.0);

@@ -5,13 +5,13 @@ use Rattle.std.specs.Str.{bytes_eq}
 use Rattle.std.proofs.lemmas.Bool.{and_parts, eqb-true, false≢true}
 use Rattle.std.proofs.lemmas.Slice.Eq.{bytes_eq-Decides}
 use Rattle.jr_word.specs.declared.config.Config.{Config}
-use Rattle.jr_word.specs.Config.{IsLimited}
+use Rattle.jr_word.specs.Config.{IsLimited, in_limits}
 use Rattle.jr_word.proofs.Limits.{limited}
 use Rattle.jr_syntax.specs.declared.argument.LineError.TheVariants as errors
 use Rattle.jr_syntax.specs.Line.{word_at, behind}
 use Rattle.jr_syntax.specs.Number.{is_number}
 use Rattle.jr_syntax.specs.Kind.{reading, Reads}
-use Rattle.jr_syntax.specs.Script.{vm, thread, is_config, is_pair, config_at}
+use Rattle.jr_syntax.specs.Script.{vm, thread, is_pair, config_at}
 use Rattle.jr_syntax.specs.VmLine.{vm_words, AreNumbers}
 use Rattle.jr_syntax.proofs.DecimalLaws.{decimal_number}
 
@@ -22,10 +22,10 @@ vm_form : (a b c d e : List ℕ) → AreNumbers a b c d e → vm.has_form (vm_wo
 vm_form a b c d e h = rw (h.threads, h.slots, h.objects, h.words, h.locals) refl
 
 -- what they are read as
-pub vm_read : (ws : List (List ℕ)) (a b c d e : List ℕ) (k : Config) → ws ≡ vm_words a b c d e → AreNumbers a b c d e → k ≡ vm.value (vm_words a b c d e) → is_config k ≡ true → Reads (reading vm) ws (Ok k)
+pub vm_read : (ws : List (List ℕ)) (a b c d e : List ℕ) (k : Config) → ws ≡ vm_words a b c d e → AreNumbers a b c d e → k ≡ vm.value (vm_words a b c d e) → in_limits k ≡ true → Reads (reading vm) ws (Ok k)
 vm_read ws a b c d e k is h v l =
     let P : List (List ℕ) → Type 0 = λ x. Reads (reading vm) x (Ok k) in
-    subst P (sym is) (vm_form a b c d e h, ap is_config (sym v) ∙ l, v)
+    subst P (sym is) (vm_form a b c d e h, ap in_limits (sym v) ∙ l, v)
 
 -- where a size is out of its bounds
 pub vm_out : (ws : List (List ℕ)) (a b c d e : List ℕ) → ws ≡ vm_words a b c d e → AreNumbers a b c d e → vm.in_range (vm_words a b c d e) ≡ false → Reads (reading vm) ws (Err errors.Range)
@@ -65,15 +65,15 @@ sizes_fit c m = record {
   locals = omega (arith, m.locals.1);
 }
 
-pub config_fits : (c : Config) → is_config c ≡ true → FitWords c
-config_fits c h = sizes_fit c (limited c (and_parts _ _ h).1)
+pub config_fits : (c : Config) → in_limits c ≡ true → FitWords c
+config_fits c h = sizes_fit c (limited c h)
 
 -- what the first line is
 pub record IsVm (ws : List (List ℕ)) : Type 0 where
   pub first : word_at ws 0 ≡ codes "vm"
-  pub back : is_config (config_at ws) ≡ true → vm.spell (config_at ws) ≡ ws
+  pub back : in_limits (config_at ws) ≡ true → vm.spell (config_at ws) ≡ ws
 
-vm_back : (a b c d e : List ℕ) → AreNumbers a b c d e → is_config (config_at (vm_words a b c d e)) ≡ true → vm.spell (config_at (vm_words a b c d e)) ≡ vm_words a b c d e
+vm_back : (a b c d e : List ℕ) → AreNumbers a b c d e → in_limits (config_at (vm_words a b c d e)) ≡ true → vm.spell (config_at (vm_words a b c d e)) ≡ vm_words a b c d e
 vm_back a b c d e n h =
     let s = config_fits (config_at (vm_words a b c d e)) h in
     rw (decimal_number a n.threads s.threads, decimal_number b n.slots s.slots, decimal_number c n.objects s.objects, decimal_number d n.words s.words, decimal_number e n.locals s.locals) refl

@@ -14,14 +14,6 @@ use Rattle.jr_syntax.specs.Command.{words_of_command, is_command}
 
 -- ---- line 1
 
--- THE LIMIT OF TODAY: how many threads a script may have, until a runner starts several
-abbrev pub threads_today : ℕ
-threads_today = 1
-
--- the sizes that a script may have
-abbrev pub is_config : Config → Bool
-is_config c = nat_le c.threads threads_today && in_limits c
-
 -- whether words begin with a key and a number
 abbrev pub is_pair : List ℕ → List (List ℕ) → Bool
 is_pair key ws = nat_le 2 (length ws) && bytes_eq (word_at ws 0) key && is_number (word_at ws 1)
@@ -48,10 +40,10 @@ config_at ws = record {
 abbrev pub vm : Arguments Config
 vm = record {
   has_form = λ ws. nat_le 1 (length ws) && bytes_eq (word_at ws 0) (codes "vm") && are_pairs vm_keys (behind ws);
-  in_range = λ ws. is_config (config_at ws);
+  in_range = λ ws. in_limits (config_at ws);
   value = config_at;
   spell = λ c. codes "vm" ∷ codes "threads" ∷ decimal c.threads ∷ codes "slots" ∷ decimal c.slots ∷ codes "objects" ∷ decimal c.objects ∷ codes "words" ∷ decimal c.words ∷ codes "locals" ∷ decimal c.locals ∷ [];
-  is_good = is_config;
+  is_good = in_limits;
 }
 
 -- ---- the parts of the threads
@@ -102,7 +94,7 @@ most_bytes = 65536
 
 -- A script: sizes within their limits, a part for each thread, names that differ, and a text within its limits.
 pub record IsScript (s : Script) : Type 0 where
-  pub config : is_config s.config ≡ true
+  pub config : in_limits s.config ≡ true
   pub threads : length s.threads ≡ s.config.threads
   pub parts : list_all is_part s.threads ≡ true
   pub names : all_apart (names_of s.threads) ≡ true

@@ -338,14 +338,65 @@ fn second_lines_that_name_no_thread(rt: HostRuntime) -> Result<(), Fail> {
 }
 
 #[test]
-fn several_threads_are_not_yet_taken(rt: HostRuntime) -> Result<(), Fail> {
-    faulty(
-        &rt,
+fn two_threads(rt: HostRuntime) -> Result<(), Fail> {
+    let text =
+        b"vm threads 2 slots 4 objects 8 words 16 locals 16\nthread a\nthread b2\nplain a\ndrop null\n";
+    let script = parse(rt.alloc(), text)?;
+    let threads = script.threads.as_slice();
+    assert_eq!(rt; threads.len(), 2);
+    assert!(rt; threads[0].name.is(b"a"));
+    assert!(rt; threads[0].commands.as_slice().is_empty());
+    assert!(rt; threads[1].name.is(b"b2"));
+    let wanted = [
+        Command::Make {
+            verb: Make::Plain,
+            name: name(&rt, b"a"),
+        },
+        Command::On {
+            verb: On::Drop,
+            target: Reference::Null,
+        },
+    ];
+    assert_eq!(rt; threads[1].commands.as_slice(), wanted.as_slice());
+    let printed = print(rt.alloc(), &script)?;
+    assert_eq!(rt; printed.as_slice(), text.as_slice());
+    Ok(())
+}
+
+#[test]
+fn as_many_threads_as_there_may_be(rt: HostRuntime) -> Result<(), Fail> {
+    let mut text = Vec::from_slice(
         rt.alloc(),
-        b"vm threads 2 slots 4 objects 8 words 16 locals 16\nthread a\nthread b\n",
-        1,
-        Reason::NumberOutOfRange,
+        b"vm threads 64 slots 4 objects 8 words 16 locals 16\n",
     )?;
+    for number in 0..64u8 {
+        text.extend_from_slice(b"thread ")?;
+        text.extend_from_slice(&[b'a' + number / 8, b'a' + number % 8, b'\n'])?;
+    }
+    let script = parse(rt.alloc(), &text)?;
+    let threads = script.threads.as_slice();
+    assert_eq!(rt; threads.len(), 64);
+    assert!(rt; threads[63].name.is(b"hh"));
+    text.extend_from_slice(b"thread ha\n")?;
+    faulty(&rt, rt.alloc(), &text, 66, Reason::TooManyThreads)?;
+    Ok(())
+}
+
+#[test]
+fn faults_of_several_threads(rt: HostRuntime) -> Result<(), Fail> {
+    let head = b"vm threads 3 slots 4 objects 8 words 16 locals 16\nthread a\nplain p\nthread b\n";
+    let rows: [(&[u8], usize, Reason); 5] = [
+        (b"", 5, Reason::ThreadLineExpected),
+        (b"plain p\n", 6, Reason::ThreadLineExpected),
+        (b"thread a\n", 5, Reason::NameUsedTwice),
+        (b"thread b\n", 5, Reason::NameUsedTwice),
+        (b"thread c\nplain p\nthread a\n", 7, Reason::TooManyThreads),
+    ];
+    for (lines, line, reason) in rows {
+        let mut text = Vec::from_slice(rt.alloc(), head)?;
+        text.extend_from_slice(lines)?;
+        faulty(&rt, rt.alloc(), &text, line, reason)?;
+    }
     Ok(())
 }
 

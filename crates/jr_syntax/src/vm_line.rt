@@ -3,16 +3,13 @@
 ghost use Rattle.std.specs.Prelude.{◌≡◌, true, false, IfNone, IfSome, MatchOption, ◌∷◌};
 ghost use Rattle.jr_syntax.specs.Kind.{reading, Reads};
 ghost use Rattle.jr_syntax.specs.Number.{is_number as number_word};
-ghost use Rattle.jr_syntax.specs.Script.{is_config, is_pair, vm};
+ghost use Rattle.jr_syntax.specs.Script.{is_pair, vm};
 ghost use Rattle.jr_syntax.specs.VmLine.{vm_words, AreNumbers};
 
 use crate::argument::LineError;
 use crate::number::{is_number, number_up_to};
 use crate::word::Words;
 use jr_word::Config;
-
-/// The limit of today: how many threads a script may have, until a runner starts several.
-const THREADS_TODAY: u32 = 1;
 
 /// Reads a key and a number.
 fn pair<'a>(words: &mut Words<'a>, key: &[u8]) -> Option<&'a [u8]>
@@ -76,13 +73,6 @@ fn sizes(words: &SizeWords) -> Option<Config>
     })
 }
 
-/// Whether a script may have these sizes.
-fn is_allowed(config: &Config) -> bool
-    ensures { result ≡ is_config config.now }
-{
-    config.threads <= THREADS_TODAY && config.in_limits()
-}
-
 /// The sizes that the words of the first line say.
 pub fn config_of(words: Words) -> Result<Config, LineError>
     ensures { Reads (reading vm) words.entry result }
@@ -93,7 +83,7 @@ pub fn config_of(words: Words) -> Result<Config, LineError>
     let Some(config) = sizes(&words) else {
         return Err(LineError::Range);
     };
-    if !is_allowed(&config) {
+    if !config.in_limits() {
         return Err(LineError::Range);
     }
     Ok(config)

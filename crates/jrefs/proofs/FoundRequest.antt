@@ -1,10 +1,8 @@
 -- The request that was found, by the command's name and its argument.
 use Rattle.std.proofs.Common.{◌≡◌, ◌≢◌, List, Option, Some, None, codes, Bool, true, false, ap, ap₂, sym, refl, ◌∙◌, option_map}
-use Rattle.std.specs.Prelude.{option_and_then}
-use Rattle.std.specs.Borrow.{Bor}
 use Rattle.std.specs.Str.{bytes_eq}
 use Rattle.std.proofs.lemmas.Slice.Eq.{bytes_eq-Decides}
-use Rattle.clap.specs.Words.{Text, Row, first_of, first_value, found_of, rows_of, subcommand_name_of, subcommand_rows_of}
+use Rattle.clap.specs.Words.{Text, Row, first_value, found_of, rows_of, subcommand_name_of, subcommand_rows_of}
 use Rattle.clap.specs.declared.parser.matches.ArgMatches.{ArgMatches}
 use Rattle.clap.specs.declared.parser.matches.ArgMatches.TheViews.{out-ArgMatches}
 use Rattle.clap.proofs.WalkLemmas.{first_value-rows}

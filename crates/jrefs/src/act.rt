@@ -20,9 +20,12 @@ use crate::request::{Request, request_of};
 use crate::trouble::Trouble;
 use std::alloc::Global;
 use std::io::{Read, Write};
+use std::sync::Wait;
+use std::thread::Threads;
 
 /// Does what the words ask for, and gives the exit status. Output is written only once all of it is there; a fault's line goes to the second writer.
-pub fn act<'a, R: Read + Drop, W: Write + Drop, F: Write + Drop>(
+pub fn act<'a, T: Threads + Wait, R: Read + Drop, W: Write + Drop, F: Write + Drop>(
+    rt: &T,
     alloc: Global,
     words: &'a [&'a str],
     reader: &mut R,
@@ -50,14 +53,15 @@ pub fn act<'a, R: Read + Drop, W: Write + Drop, F: Write + Drop>(
     ensures unread { (w : ℕ) → asked_for (map (λ w. w.now) words.entry.now) ≡ Some (Word w) → R.remaining reader.new ≡ R.remaining reader.old }
     ensures unread_narrow { (w : ℕ) → asked_for (map (λ w. w.now) words.entry.now) ≡ Some (Widen w) → R.remaining reader.new ≡ R.remaining reader.old }
 {
-    match carried_out(alloc, words, reader, writer) {
+    match carried_out(rt, alloc, words, reader, writer) {
         Ok(()) => 0,
         Err(trouble) => tell(&trouble, faults),
     }
 }
 
 /// Does what the words ask for.
-fn carried_out<'a, R: Read + Drop, W: Write + Drop>(
+fn carried_out<'a, T: Threads + Wait, R: Read + Drop, W: Write + Drop>(
+    rt: &T,
     alloc: Global,
     words: &'a [&'a str],
     reader: &mut R,
@@ -71,12 +75,13 @@ fn carried_out<'a, R: Read + Drop, W: Write + Drop>(
     ensures unread { (w : ℕ) → asked_for (map (λ w. w.now) words.entry.now) ≡ Some (Word w) → R.remaining reader.new ≡ R.remaining reader.old }
     ensures unread_narrow { (w : ℕ) → asked_for (map (λ w. w.now) words.entry.now) ≡ Some (Widen w) → R.remaining reader.new ≡ R.remaining reader.old }
 {
-    let output = output_of(alloc, words, reader)?;
+    let output = output_of(rt, alloc, words, reader)?;
     write_out(writer, &output)
 }
 
 /// The output of what the words ask for.
-fn output_of<'a, R: Read + Drop>(
+fn output_of<'a, T: Threads + Wait, R: Read + Drop>(
+    rt: &T,
     alloc: Global,
     words: &'a [&'a str],
     reader: &mut R,
@@ -90,11 +95,12 @@ fn output_of<'a, R: Read + Drop>(
     ensures unread_narrow { (w : ℕ) → asked_for (map (λ w. w.now) words.entry.now) ≡ Some (Widen w) → R.remaining reader.new ≡ R.remaining reader.old }
 {
     let request = request_of(alloc, words)?;
-    reply_to(alloc, request, reader)
+    reply_to(rt, alloc, request, reader)
 }
 
 /// The output of a request.
-fn reply_to<R: Read + Drop>(
+fn reply_to<T: Threads + Wait, R: Read + Drop>(
+    rt: &T,
     alloc: Global,
     request: Request,
     reader: &mut R,
@@ -108,7 +114,7 @@ fn reply_to<R: Read + Drop>(
     match request {
         Request::Run => {
             let input = input_of(alloc, reader)?;
-            answer_of(alloc, &input)
+            answer_of(rt, alloc, &input)
         }
         Request::Check => {
             let input = input_of(alloc, reader)?;

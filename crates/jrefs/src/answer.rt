@@ -5,20 +5,22 @@ ghost use Rattle.jrefs.specs.Answer.{IsAnswer, IsRefused};
 
 use crate::script::script_of;
 use crate::trouble::Trouble;
-use jr_scripts::run_one;
+use jr_scripts::run_all;
 use std::alloc::Global;
+use std::sync::Wait;
+use std::thread::Threads;
 
 /// How often a call is made that is raced or barred.
 const TURNS: u64 = 10_000_000;
 
-/// Runs the script of a text, and gives what it prints.
-pub fn answer_of(alloc: Global, text: &[u8]) -> Result<Vec<u8>, Trouble>
+/// Runs the script of a text, each of its threads in one of its own, and gives what it prints.
+pub fn answer_of<T: Threads + Wait>(rt: &T, alloc: Global, text: &[u8]) -> Result<Vec<u8>, Trouble>
     ensures answer { IfOk result (λ output. IsAnswer 10000000 4294967295 text.now output.items) }
     ensures refused { IfErr result (IsRefused text.now) }
 {
     let script = script_of(alloc, text)?;
     let mut output = Vec::new(alloc);
-    match run_one(alloc, &script, TURNS, &mut output) {
+    match run_all(rt, alloc, &script, TURNS, &mut output) {
         Ok(()) => Ok(output),
         Err(_) => Err(Trouble::Memory),
     }

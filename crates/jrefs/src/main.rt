@@ -17,28 +17,31 @@ use crate::output::tell;
 use crate::trouble::Trouble;
 use std::io::ErrorKind;
 use std::process::ExitCode;
+use std::sync::Wait;
+use std::thread::Threads;
 use std::{env, io};
 
 fn main(rt: HostRuntime) -> ExitCode {
-    ExitCode::from(run(&rt))
+    ExitCode::from(run(&rt, &rt))
 }
 
-/// Runs the program, and gives the exit status.
-fn run(rt: &HostRuntime) -> u8 {
-    match act_on_arguments(rt) {
+/// Runs the program, and gives the exit status. The runtime comes twice: as what it is, and as what may start threads.
+fn run<T: Threads + Wait>(rt: &HostRuntime, threads: &T) -> u8 {
+    match act_on_arguments(rt, threads) {
         Ok(status) => status,
         Err(trouble) => tell(&trouble, &mut rt.stderr()),
     }
 }
 
 /// Acts on the words of the command line, and gives the exit status.
-fn act_on_arguments(rt: &HostRuntime) -> Result<u8, Trouble> {
+fn act_on_arguments<T: Threads + Wait>(rt: &HostRuntime, threads: &T) -> Result<u8, Trouble> {
     let arguments = arguments(rt)?;
     let mut words = Vec::new(rt.alloc());
     for argument in &arguments {
         words.push(argument.as_str()).map_err(|_| Trouble::Memory)?;
     }
     Ok(act::act(
+        threads,
         rt.alloc(),
         words.as_slice(),
         &mut rt.reader(),

@@ -11,7 +11,9 @@ use crate::trouble::Trouble;
 use devices::{NEVER, Sink, Source};
 use std::alloc::Global;
 use std::process::Abort;
+use std::sync::Wait;
 use std::test::Fail;
+use std::thread::Threads;
 
 /// A script of one thread, and what it prints.
 const FIRST: &[u8] =
@@ -56,15 +58,15 @@ fn answered(output: &[u8]) -> Wanted<'_> {
 }
 
 /// Runs the program, and gives its status. Where memory was refused, nothing was written but that.
-fn run<'a>(
-    rt: &impl Abort,
+fn run<'a, R: Abort + Threads + Wait>(
+    rt: &R,
     alloc: Global,
     words: &'a [&'a str],
     mut source: Source<'_>,
     output: &mut Sink,
     faults: &mut Sink,
 ) -> Result<u8, Trouble> {
-    let status = act(alloc, words, &mut source, output, faults);
+    let status = act(rt, alloc, words, &mut source, output, faults);
     if status == Trouble::Memory.status() {
         assert_eq!(rt; output.taken(), b"".as_slice());
         assert!(rt; b"out of memory\n".starts_with(faults.taken()));
@@ -79,8 +81,8 @@ fn sink(alloc: Global, most: usize, failing: usize) -> Result<Sink, Trouble> {
 }
 
 /// Runs the program over a reader, and checks its answer.
-fn reads<'a>(
-    rt: &impl Abort,
+fn reads<'a, R: Abort + Threads + Wait>(
+    rt: &R,
     alloc: Global,
     words: &'a [&'a str],
     source: Source<'_>,
@@ -96,13 +98,23 @@ fn reads<'a>(
 }
 
 /// Runs a script, and checks that it ends with status 0 and prints this.
-fn prints(rt: &impl Abort, alloc: Global, script: &[u8], output: &[u8]) -> Result<(), Trouble> {
+fn prints<R: Abort + Threads + Wait>(
+    rt: &R,
+    alloc: Global,
+    script: &[u8],
+    output: &[u8],
+) -> Result<(), Trouble> {
     let source = Source::new(script, ALL, NEVER);
     reads(rt, alloc, &["run"], source, answered(output))
 }
 
 /// Runs a text, and checks that it ends with status 1 and this fault.
-fn is_faulty(rt: &impl Abort, alloc: Global, text: &[u8], faults: &[u8]) -> Result<(), Trouble> {
+fn is_faulty<R: Abort + Threads + Wait>(
+    rt: &R,
+    alloc: Global,
+    text: &[u8],
+    faults: &[u8],
+) -> Result<(), Trouble> {
     let source = Source::new(text, ALL, NEVER);
     reads(rt, alloc, &["run"], source, refused(1, faults))
 }
@@ -124,8 +136,8 @@ fn joined(alloc: Global, first: &[u8], second: &[u8]) -> Result<Vec<u8>, Trouble
 }
 
 /// Runs commands in a room with 4 slots and 8 objects, and checks their lines and the numbers at the end.
-fn commands(
-    rt: &impl Abort,
+fn commands<R: Abort + Threads + Wait>(
+    rt: &R,
     alloc: Global,
     lines: &[u8],
     answers: &[u8],
@@ -236,6 +248,44 @@ fn no_commands(rt: HostRuntime) -> Result<(), Fail> {
         b"",
         b"globals 0 weaks 0 live 0 used 0\n",
     )?;
+    Ok(())
+}
+
+// Each thread has names of its own, and all have one room.
+#[test]
+fn two_threads(rt: HostRuntime) -> Result<(), Fail> {
+    let script =
+        b"vm threads 2 slots 8 objects 8 words 16 locals 16\nthread a\nplain p\nglobal g p\nweak w g\nsame p w\ntype g\ndrop g\ntype g\nthread b\ntype g\nplain g\nweak w g\nglobal h w\ntype g\nsame h g\ndrop w\ntype w\nglobal k p\n";
+    let output =
+        b"[a]\nsame p w true\ntype g 2\ntype g 0\n[b]\ntype g 0\ntype g 1\nsame h g true\ntype w 0\n19 ! E2\n[end]\nglobals 1 weaks 1 live 2 used 0\n";
+    prints(&rt, rt.alloc(), script, output)?;
+    let source = Source::new(script, ALL, NEVER);
+    let line = answered(b"ok threads 2 commands 16\n");
+    reads(&rt, rt.alloc(), &["check"], source, line)?;
+    Ok(())
+}
+
+#[test]
+fn as_many_threads_as_there_may_be(rt: HostRuntime) -> Result<(), Fail> {
+    let alloc = rt.alloc();
+    let head = b"vm threads 64 slots 64 objects 128 words 0 locals 16\n";
+    let mut script = joined(alloc, head, b"")?;
+    let mut output = Vec::new(alloc);
+    for number in 0..64u8 {
+        let name = [b'a' + number / 8, b'a' + number % 8];
+        repeat(&mut script, b"thread ", 1)?;
+        repeat(&mut script, &name, 1)?;
+        repeat(&mut script, b"\nplain p\nglobal g p\nsame g p\n", 1)?;
+        repeat(&mut output, b"[", 1)?;
+        repeat(&mut output, &name, 1)?;
+        repeat(&mut output, b"]\nsame g p true\n", 1)?;
+    }
+    repeat(
+        &mut output,
+        b"[end]\nglobals 64 weaks 0 live 64 used 0\n",
+        1,
+    )?;
+    prints(&rt, alloc, &script, &output)?;
     Ok(())
 }
 

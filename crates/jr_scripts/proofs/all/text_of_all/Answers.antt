@@ -22,7 +22,7 @@ returns g c =
     let end : c.in_ok-end.end.items ≡ ending c.in_ok-summary.summary = search rules in
     let last : c.extend_from_slice.new.self.items ≡ c.in_ok-passes.text.items ++ c.in_ok-end.end.items = search rules in
     together c.args.turns _ script c.in_ok-room.room.row c.in_ok-room.passes.items c.in_ok-jobs.jobs.items c.in_ok-runs.runs.items c.in_ok-passes.passes.items c.remove-first.result c.remove-first.new.self.items c.in_ok-passes.text.items c.extend_from_slice.new.self.items c.in_ok-summary.summary
-    (search rules) c.in_ok-room.ensures.opened
+    (search rules) (search rules) c.in_ok-room.ensures.opened
     (subst (λ qs. AreJobsOf c.args.turns 2 c.in_ok-room.passes.items qs c.in_ok-jobs.jobs.items) parts c.in_ok-jobs.ensures)
     c.in_ok-runs.ensures
     (subst (λ qs. AreTold qs c.in_ok-runs.runs.items c.in_ok-passes.passes.items c.in_ok-passes.text.items) parts c.in_ok-passes.ensures)
