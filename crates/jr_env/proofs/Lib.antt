@@ -10,3 +10,5 @@ pub mod NewLocal
 pub mod Removing
 pub mod EnvCalls
 pub mod FrameCalls
+pub mod Dropping
+pub mod Freeing

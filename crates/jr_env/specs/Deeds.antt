@@ -107,6 +107,10 @@ ensure_local_capacity n = call_apart (λ c last t. references.ensure_local_capac
 abbrev pub push_local_frame : ℕ → Deed (Unit {0})
 push_local_frame n = call_apart (λ c last t. references.push_local_frame c last t n)
 
+-- all local references are freed, at the end of a native method
+abbrev pub free_locals : Deed (Unit {0})
+free_locals = call (λ c last t s. references.free_locals)
+
 module _ {S : Type 0} (facts : S → Facts) where
   -- the deed was done: for whatever was known, something is known that it may lead to
   pub record DoesDeed {A : Type 0} (old new : S) (before after : Frames) (deed : Deed A) (answer : Result A Fault) : Type 0 where

@@ -1,5 +1,6 @@
 pub mod Objects
 pub mod Works
+pub mod Dropping
 pub mod Reading
 pub mod Ready
 pub mod Deeds

@@ -1,12 +1,14 @@
 //! The calls of the Java Native Interface for the frames of one thread, over any steps.
 use crate::env::Env;
+use crate::frame_works::LocalsFreeing;
+use crate::work::make;
 use jr_model::FRAMES;
 use jr_steps::Steps;
 use jr_word::Fault;
 
 impl<S: Steps> Env<S> {
     ghost use Rattle.jr_env.specs.Envs.{Does};
-    ghost use Rattle.jr_env.specs.Deeds.{ensure_local_capacity, push_local_frame};
+    ghost use Rattle.jr_env.specs.Deeds.{ensure_local_capacity, push_local_frame, free_locals};
 
     /// Tells whether so many more local references can be made: E9 where they can't. Enters no gate. A negative capacity can't be handed in. (JNI Specification, chapter 4, "EnsureLocalCapacity")
     pub fn ensure_local_capacity(&mut self, capacity: u32) -> Result<(), Fault>
@@ -31,5 +33,12 @@ impl<S: Steps> Env<S> {
         }
         self.frames.push();
         Ok(())
+    }
+
+    /// Frees all local references of the thread, at the end of a native method; one empty frame is left: E13 alone. (JNI Specification, chapter 2, "Global and Local References")
+    pub fn free_locals(&mut self) -> Result<(), Fault>
+        ensures { Does self.old self.new free_locals result }
+    {
+        make(&mut self.steps, &mut self.frames, &LocalsFreeing)
     }
 }

@@ -4,6 +4,7 @@
 mod calls;
 mod env;
 mod frame_calls;
+mod frame_works;
 mod object;
 mod reference;
 mod resolve;

@@ -75,3 +75,46 @@ fn no_more_than_256_frames_are_open(rt: HostRuntime) -> Result<(), Fail> {
     env.ensure_local_capacity(16)?;
     Ok(())
 }
+
+/// References of three frames are freed, and those that are not local stand.
+fn frees_all<S: Steps>(rt: &impl Abort, env: &mut Env<S>) -> Result<(), Fail> {
+    let object = env.new_plain()?;
+    let global = env.new_global_ref(object)?.ok_or("an object")?;
+    let deleted = env.new_local_ref(object)?.ok_or("an object")?;
+    env.push_local_frame(2)?;
+    env.push_local_frame(2)?;
+    let upper = env.new_local_ref(object)?.ok_or("an object")?;
+    env.delete_local_ref(deleted)?;
+    env.free_locals()?;
+    for local in [object, deleted, upper] {
+        assert_eq!(rt; env.get_object_ref_type(local)?, 0);
+        assert_eq!(rt; env.new_local_ref(local).err(), Some(Fault::Stale));
+    }
+    env.ensure_local_capacity(16)?;
+    // The base frame alone is left.
+    for _ in 0..255 {
+        env.push_local_frame(0)?;
+    }
+    assert_eq!(rt; env.push_local_frame(0).err(), Some(Fault::LocalsFull));
+    let again = env.new_local_ref(global)?.ok_or("an object")?;
+    assert!(rt; env.is_same_object(again, global)?);
+    env.free_locals()?;
+    env.free_locals()?;
+    assert_eq!(rt; env.get_object_ref_type(again)?, 0);
+    assert_eq!(rt; env.get_object_ref_type(global)?, 2);
+    Ok(())
+}
+
+#[test]
+fn locals_are_freed_over_plain_words(rt: HostRuntime) -> Result<(), Fail> {
+    let mut env = Env::new(PlainSteps::<4_294_967_295>::new(rt.alloc(), Config::LEAST)?);
+    frees_all(&rt, &mut env)
+}
+
+#[test]
+fn locals_are_freed_in_a_room(rt: HostRuntime) -> Result<(), Fail> {
+    let (room, mut passes) = Room::<2>::open(rt.alloc(), Config::LEAST)?;
+    let pass = passes.pop().ok_or("a pass")?;
+    let mut env = Env::new(RoomSteps::new(&room, pass));
+    frees_all(&rt, &mut env)
+}
