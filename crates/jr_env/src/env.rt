@@ -50,6 +50,16 @@ impl<S: Steps> Env<S> {
         Ok(Env { steps, frames })
     }
 
+    /// The steps, whose pass is not fresh, so that no second env is made over it. Local references that stand stay in the row. It takes no step.
+    pub fn into_pass(self) -> S
+        ensures steps { result ≡ self.steps }
+        ensures outside { (S.facts result).stands.role ≡ Outside }
+        ensures spent { (S.facts result).stands.fresh ≡ false }
+    {
+        let Env { steps, frames: _ } = self;
+        steps
+    }
+
     /// Makes a plain object and a local reference to it: E9, E11, E13.
     pub fn new_plain(&mut self) -> Result<Handle, Fault>
         ensures { Does self.old self.new new_plain result }

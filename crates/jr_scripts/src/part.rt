@@ -5,7 +5,6 @@ ghost use Rattle.jr_scripts.specs.Jobs.{IsForPart};
 
 use crate::opening::opened_env;
 use crate::run::run_thread;
-use jr_env::Env;
 use jr_rule::{Pass, Room, RoomSteps};
 use jr_syntax::ThreadPart;
 use jr_word::Fault;
@@ -44,7 +43,7 @@ pub(crate) fn run_job<const LAST: u32>(
     let mut env = opened_env(RoomSteps::new(room, pass));
     let commands = part.commands.as_slice();
     let answer = run_thread(alloc, &mut env, first, commands, turns, &mut text);
-    let Env { steps, frames: _ } = env;
+    let steps = env.into_pass();
     ThreadRun {
         pass: steps.into_pass(),
         text,

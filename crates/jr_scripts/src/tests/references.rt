@@ -199,8 +199,12 @@ fn an_env_is_made_of_a_fresh_pass_alone(rt: HostRuntime) -> Result<(), Fail> {
     };
     assert!(rt; !env.steps.fresh());
     assert_eq!(rt; env.new_plain()?, OWN);
-    let Env { steps, frames: _ } = env;
-    refused(&rt, Env::new(steps))?;
+    let steps = refused(&rt, Env::new(env.into_pass()))?;
+    // Its local reference still stands.
+    let mut row = [0; 20];
+    row[3] = 1;
+    row[19] = 1;
+    assert_eq!(rt; steps.words.as_slice(), row.as_slice());
     Ok(())
 }
 
