@@ -62,36 +62,32 @@ impl Case {
     /// Makes the call with each of the handles: how often it answered as it should.
     pub(crate) fn make_all<S: Steps>(self, env: &mut Env<S>, handed: &[Handle]) -> usize {
         match self {
-            Case::TypeOfNull => make_each(env, handed, |env: &mut Env<S>, _, at| {
+            Case::TypeOfNull => make_each(env, handed, |env, _, at| {
                 matches!(env.get_object_ref_type(at), Ok(0))
             }),
-            Case::NewPlain => make_each(
-                env,
-                handed,
-                |env: &mut Env<S>, _, _| env.new_plain().is_ok(),
-            ),
-            Case::NewGlobal => make_each(env, handed, |env: &mut Env<S>, _, at| {
+            Case::NewPlain => make_each(env, handed, |env, _, _| env.new_plain().is_ok()),
+            Case::NewGlobal => make_each(env, handed, |env, _, at| {
                 matches!(env.new_global_ref(at), Ok(Some(_)))
             }),
-            Case::DeleteGlobal => make_each(env, handed, |env: &mut Env<S>, _, at| {
+            Case::DeleteGlobal => make_each(env, handed, |env, _, at| {
                 env.delete_global_ref(at).is_ok()
             }),
-            Case::NewWeak => make_each(env, handed, |env: &mut Env<S>, _, at| {
+            Case::NewWeak => make_each(env, handed, |env, _, at| {
                 matches!(env.new_weak_global_ref(at), Ok(Some(_)))
             }),
-            Case::DeleteWeak => make_each(env, handed, |env: &mut Env<S>, _, at| {
+            Case::DeleteWeak => make_each(env, handed, |env, _, at| {
                 env.delete_weak_global_ref(at).is_ok()
             }),
-            Case::NewLocal => make_each(env, handed, |env: &mut Env<S>, _, at| {
+            Case::NewLocal => make_each(env, handed, |env, _, at| {
                 matches!(env.new_local_ref(at), Ok(Some(_)))
             }),
-            Case::DeleteLocal => make_each(env, handed, |env: &mut Env<S>, _, at| {
+            Case::DeleteLocal => make_each(env, handed, |env, _, at| {
                 env.delete_local_ref(at).is_ok()
             }),
-            Case::Same => make_each(env, handed, |env: &mut Env<S>, first, at| {
+            Case::Same => make_each(env, handed, |env, first, at| {
                 matches!(env.is_same_object(first, at), Ok(true))
             }),
-            Case::TypeOfGlobal => make_each(env, handed, |env: &mut Env<S>, _, at| {
+            Case::TypeOfGlobal => make_each(env, handed, |env, _, at| {
                 matches!(env.get_object_ref_type(at), Ok(2))
             }),
         }
