@@ -1,0 +1,463 @@
+//! The floor under `jr_bench`: the same calls in plain Rust, with just the atomic operations that each takes, and the checks of its refusals.
+//!
+//! The row of words, the handles, the order in which slots and local places are given, and the rounds are those of the product; there is no proof, and no index is checked. Its words and lines are those of `jr_bench`.
+
+use std::sync::atomic::{AtomicU64, Ordering::SeqCst};
+use std::time::{Duration, Instant};
+
+const SHUT: u64 = 1 << 16;
+const SLOTS: usize = 65_536;
+const OBJECTS: u64 = 65_535;
+const PLACES: usize = 4_096;
+const LAST: u64 = u32::MAX as u64;
+const LOOKS: u32 = 1 << 24;
+const MOST_BESIDE: u32 = 2_000;
+
+// Kinds of references, as the low bits of handles and of slots' words have them, and the header of a plain object.
+const LOCAL: u64 = 1;
+const GLOBAL: u64 = 2;
+const WEAK: u64 = 3;
+const PLAIN: u64 = 1;
+
+// Refusals, as the first bits of an answer.
+const ERROR: u64 = 1 << 63;
+const STALE: u64 = ERROR + 2;
+const FOREIGN: u64 = ERROR + 3;
+const WRONG_KIND: u64 = ERROR + 4;
+const ROW_FULL: u64 = ERROR + 8;
+const LOCALS_FULL: u64 = ERROR + 9;
+const OBJECTS_FULL: u64 = ERROR + 11;
+const BARRED: u64 = ERROR + 13;
+
+/// A room: the gate, the top, slots, local words thread by thread, and headers.
+struct Room {
+    row: Vec<AtomicU64>,
+    threads: u64,
+}
+
+impl Room {
+    fn new(threads: u64) -> Room {
+        let words = 2 + SLOTS + threads as usize * PLACES + OBJECTS as usize;
+        Room { row: (0..words).map(|_| AtomicU64::new(0)).collect(), threads }
+    }
+    #[inline(always)]
+    fn word(&self, at: usize) -> &AtomicU64 {
+        // Each index is in range: of a slot or a place by a check of the call, of a header by the search.
+        unsafe { self.row.get_unchecked(at) }
+    }
+    #[inline(always)]
+    fn gate(&self) -> &AtomicU64 {
+        self.word(0)
+    }
+    #[inline(always)]
+    fn slot(&self, index: usize) -> &AtomicU64 {
+        self.word(2 + index)
+    }
+    #[inline(always)]
+    fn header(&self, object: u64) -> &AtomicU64 {
+        self.word(1 + SLOTS + self.threads as usize * PLACES + object as usize)
+    }
+}
+
+#[derive(Clone, Copy, Default)]
+struct Place {
+    given: u32,
+    object: u32,
+}
+
+#[derive(Clone, Copy, Default)]
+struct Link {
+    older: u16,
+    newer: u16,
+}
+
+/// A thread's calls, with its local references in rings: of the free places, and of the one frame.
+struct Env<'a> {
+    room: &'a Room,
+    thread: u64,
+    hint: usize,
+    next_object: u64,
+    free: u32,
+    places: Vec<Place>,
+    links: Vec<Link>,
+}
+
+const FREE: u16 = PLACES as u16;
+const FRAME: u16 = FREE + 1;
+
+impl Env<'_> {
+    fn new(room: &Room, thread: u64) -> Env<'_> {
+        let mut links = vec![Link::default(); PLACES + 2];
+        for at in 0..=FREE {
+            links[at as usize] = Link { older: at.checked_sub(1).unwrap_or(FREE), newer: if at == FREE { 0 } else { at + 1 } };
+        }
+        links[FRAME as usize] = Link { older: FRAME, newer: FRAME };
+        Env { room, thread, hint: 0, next_object: 1, free: PLACES as u32, places: vec![Place::default(); PLACES], links }
+    }
+    #[inline(always)]
+    fn link(&mut self, at: u16) -> &mut Link {
+        unsafe { self.links.get_unchecked_mut(at as usize) }
+    }
+    #[inline(always)]
+    fn place(&mut self, at: usize) -> &mut Place {
+        unsafe { self.places.get_unchecked_mut(at) }
+    }
+    #[inline(always)]
+    fn move_to(&mut self, at: u16, end: u16) {
+        let Link { older, newer } = *self.link(at);
+        self.link(older).newer = newer;
+        self.link(newer).older = older;
+        let last = self.link(end).older;
+        *self.link(at) = Link { older: last, newer: end };
+        self.link(last).newer = at;
+        self.link(end).older = at;
+    }
+
+    /// The entry, the work, and the exit.
+    #[inline(always)]
+    fn call(&mut self, work: impl FnOnce(&mut Self) -> u64) -> u64 {
+        if self.room.gate().fetch_add(1, SeqCst) & SHUT != 0 {
+            self.room.gate().fetch_sub(1, SeqCst);
+            return BARRED;
+        }
+        let answer = work(self);
+        self.room.gate().fetch_sub(1, SeqCst);
+        answer
+    }
+    #[inline(always)]
+    fn index_of(handle: u64) -> usize {
+        (handle >> 34 & 0xffff) as usize
+    }
+    /// The object of a reference, 0 of NULL and a cleared one: one load for a global or weak one, none for a local one.
+    #[inline(always)]
+    fn resolve(&mut self, handle: u64) -> u64 {
+        if handle == 0 {
+            return 0;
+        }
+        if handle & 3 == LOCAL { self.resolve_local(handle) } else { self.look(handle) }
+    }
+    #[inline(always)]
+    fn resolve_local(&mut self, handle: u64) -> u64 {
+        let owner = handle >> 50;
+        let index = Self::index_of(handle);
+        if owner >= self.room.threads || index >= PLACES {
+            return STALE;
+        }
+        if owner != self.thread {
+            return FOREIGN;
+        }
+        let Place { given, object } = *self.place(index);
+        if object == 0 || u64::from(given) != (handle >> 2 & LAST) + 1 { STALE } else { u64::from(object) }
+    }
+    #[inline(always)]
+    fn look(&mut self, handle: u64) -> u64 {
+        if handle & 3 == 0 || handle >> 50 != 0 || Self::index_of(handle) >= SLOTS {
+            return STALE;
+        }
+        let word = self.room.slot(Self::index_of(handle)).load(SeqCst);
+        if (word ^ handle) & 0x3_ffff_ffff != 0 { STALE } else { word >> 34 }
+    }
+    /// Loads slots from the hint on, and exchanges the first free one.
+    #[inline(always)]
+    fn create(&mut self, kind: u64, object: u64) -> u64 {
+        let mut index = self.hint;
+        for _ in 0..SLOTS {
+            let next = if index + 1 == SLOTS { 0 } else { index + 1 };
+            let word = self.room.slot(index).load(SeqCst);
+            if word & 3 == 0 {
+                let made = kind | word | object << 34;
+                if self.room.slot(index).compare_exchange(word, made, SeqCst, SeqCst).is_ok() {
+                    self.hint = next;
+                    return kind | word | (index as u64) << 34;
+                }
+            }
+            index = next;
+        }
+        ROW_FULL
+    }
+    #[inline(always)]
+    fn add_local(&mut self, object: u64) -> u64 {
+        if self.free == 0 {
+            return LOCALS_FULL;
+        }
+        let at = self.link(FREE).newer;
+        let serial = u64::from(self.place(at as usize).given);
+        self.local_word(at as usize).store(object, SeqCst);
+        *self.place(at as usize) = Place { given: serial as u32 + 1, object: object as u32 };
+        self.move_to(at, FRAME);
+        self.free -= 1;
+        LOCAL | serial << 2 | u64::from(at) << 34 | self.thread << 50
+    }
+    #[inline(always)]
+    fn local_word(&self, at: usize) -> &AtomicU64 {
+        self.room.word(2 + SLOTS + self.thread as usize * PLACES + at)
+    }
+    #[inline(always)]
+    fn new_plain(&mut self) -> u64 {
+        self.call(|env| {
+            if env.free == 0 {
+                return LOCALS_FULL;
+            }
+            let mut object = env.next_object;
+            for _ in 0..OBJECTS {
+                let next = if object == OBJECTS { 1 } else { object + 1 };
+                if env.room.header(object).compare_exchange(0, PLAIN, SeqCst, SeqCst).is_ok() {
+                    env.next_object = next;
+                    return env.add_local(object);
+                }
+                object = next;
+            }
+            OBJECTS_FULL
+        })
+    }
+    #[inline(always)]
+    fn new_slot(&mut self, kind: u64, to: u64) -> u64 {
+        self.call(|env| match env.resolve(to) {
+            0 => 0,
+            refused if refused & ERROR != 0 => refused,
+            object => env.create(kind, object),
+        })
+    }
+    #[inline(always)]
+    fn delete_slot(&mut self, kind: u64, handle: u64) -> u64 {
+        self.call(|env| {
+            if handle == 0 {
+                return 0;
+            }
+            if handle & 3 != kind {
+                return if handle & 3 == 0 { STALE } else { WRONG_KIND };
+            }
+            if handle >> 50 != 0 || Self::index_of(handle) >= SLOTS {
+                return STALE;
+            }
+            let slot = env.room.slot(Self::index_of(handle));
+            let word = slot.load(SeqCst);
+            if (word ^ handle) & 0x3_ffff_ffff != 0 {
+                return STALE;
+            }
+            let serial = word >> 2 & LAST;
+            let freed = if serial < LAST { serial + 1 << 2 } else { 1 | LAST << 2 };
+            if slot.compare_exchange(word, freed, SeqCst, SeqCst).is_ok() { 0 } else { STALE }
+        })
+    }
+    #[inline(always)]
+    fn new_local(&mut self, to: u64) -> u64 {
+        self.call(|env| match env.resolve(to) {
+            0 => 0,
+            refused if refused & ERROR != 0 => refused,
+            object => env.add_local(object),
+        })
+    }
+    #[inline(always)]
+    fn delete_local(&mut self, handle: u64) -> u64 {
+        self.call(|env| {
+            if handle == 0 {
+                return 0;
+            }
+            if handle & 3 != LOCAL {
+                return if handle & 3 == 0 { STALE } else { WRONG_KIND };
+            }
+            let object = env.resolve_local(handle);
+            if object & ERROR != 0 {
+                return object;
+            }
+            let at = Self::index_of(handle);
+            env.local_word(at).store(0, SeqCst);
+            env.place(at).object = 0;
+            if env.place(at).given != 0 {
+                env.move_to(at as u16, FREE);
+                env.free += 1;
+            }
+            0
+        })
+    }
+    #[inline(always)]
+    fn is_same(&mut self, left: u64, right: u64) -> u64 {
+        self.call(|env| {
+            let (left, right) = (env.resolve(left), env.resolve(right));
+            if left & ERROR != 0 {
+                return left;
+            }
+            if right & ERROR != 0 { right } else { u64::from(left == right) }
+        })
+    }
+    #[inline(always)]
+    fn ref_type(&mut self, handle: u64) -> u64 {
+        self.call(|env| if handle == 0 || env.resolve(handle) & ERROR != 0 { 0 } else { handle & 3 })
+    }
+}
+
+/// The calls, as `jr_bench` names them.
+const CASES: [&str; 10] = [
+    "get_object_ref_type(NULL)",
+    "new_plain",
+    "new_global_ref(local)",
+    "delete_global_ref",
+    "new_weak_global_ref(local)",
+    "delete_weak_global_ref",
+    "new_local_ref(global)",
+    "delete_local_ref",
+    "is_same_object(global,global)",
+    "get_object_ref_type(global)",
+];
+const NEW_PLAIN: usize = 1;
+
+// Each call is a function of its own and no part of the loop that makes it, as none is of native code. It says whether it answered as it should.
+macro_rules! calls {
+    ($($name:ident: |$env:ident, $first:ident, $handle:ident| $right:expr;)*) => {
+        $(#[inline(never)]
+        fn $name($env: &mut Env, $first: u64, $handle: u64) -> bool {
+            let _ = ($first, $handle);
+            $right
+        })*
+    };
+}
+
+fn is_made(answer: u64) -> bool {
+    answer != 0 && answer & ERROR == 0
+}
+
+calls! {
+    type_of_null: |env, first, handle| env.ref_type(handle) == 0;
+    new_plain: |env, first, handle| is_made(env.new_plain());
+    new_global: |env, first, handle| is_made(env.new_slot(GLOBAL, handle));
+    delete_global: |env, first, handle| env.delete_slot(GLOBAL, handle) == 0;
+    new_weak: |env, first, handle| is_made(env.new_slot(WEAK, handle));
+    delete_weak: |env, first, handle| env.delete_slot(WEAK, handle) == 0;
+    new_local: |env, first, handle| is_made(env.new_local(handle));
+    delete_local: |env, first, handle| env.delete_local(handle) == 0;
+    is_same: |env, first, handle| env.is_same(first, handle) == 1;
+    type_of_global: |env, first, handle| env.ref_type(handle) == GLOBAL;
+}
+
+#[inline(always)]
+fn make_each(env: &mut Env, handed: &[u64], call: impl Fn(&mut Env, u64, u64) -> bool) -> usize {
+    handed.iter().filter(|handle| call(env, handed[0], **handle)).count()
+}
+
+/// Makes the call with each of the handles: how often it answered as it should.
+fn make_all(case: usize, env: &mut Env, handed: &[u64]) -> usize {
+    match case {
+        0 => make_each(env, handed, type_of_null),
+        1 => make_each(env, handed, new_plain),
+        2 => make_each(env, handed, new_global),
+        3 => make_each(env, handed, delete_global),
+        4 => make_each(env, handed, new_weak),
+        5 => make_each(env, handed, delete_weak),
+        6 => make_each(env, handed, new_local),
+        7 => make_each(env, handed, delete_local),
+        8 => make_each(env, handed, is_same),
+        _ => make_each(env, handed, type_of_global),
+    }
+}
+
+/// What each of so many calls is handed, in order.
+fn handed(case: usize, env: &mut Env, calls: u32) -> Vec<u64> {
+    let local = env.new_plain();
+    let global = env.new_slot(GLOBAL, local);
+    let handle = |env: &mut Env| match case {
+        0 | NEW_PLAIN => 0,
+        2 | 4 => local,
+        3 => env.new_slot(GLOBAL, local),
+        5 => env.new_slot(WEAK, local),
+        7 => env.new_local(global),
+        _ => global,
+    };
+    (0..calls).map(|_| handle(env)).collect()
+}
+
+/// What the threads of a round do.
+#[derive(Clone, Copy)]
+struct Work {
+    threads: u32,
+    standing: u32,
+    calls: u32,
+}
+
+/// Makes what stands beside the calls.
+fn stand(env: &mut Env, case: usize, work: Work) {
+    let object = env.new_plain();
+    for _ in 0..work.standing / work.threads {
+        env.new_slot(GLOBAL, object);
+    }
+    let beside = work.standing.min(MOST_BESIDE);
+    for _ in 0..beside {
+        env.new_local(object);
+    }
+    if case == NEW_PLAIN {
+        for _ in 0..beside / work.threads {
+            let made = env.new_plain();
+            env.delete_local(made);
+        }
+    }
+}
+
+fn all_came(came: &AtomicU64, threads: u32) -> bool {
+    came.fetch_add(1, SeqCst);
+    for _ in 0..LOOKS {
+        if came.load(SeqCst) >= u64::from(threads) {
+            return true;
+        }
+        std::hint::spin_loop();
+    }
+    false
+}
+
+type Done = (Instant, Instant, usize);
+
+fn work_one(room: &Room, thread: u64, case: usize, work: Work, came: &AtomicU64) -> Option<Done> {
+    let mut env = Env::new(room, thread);
+    stand(&mut env, case, work);
+    let handed = handed(case, &mut env, work.calls);
+    if !all_came(came, work.threads) {
+        return None;
+    }
+    let began = Instant::now();
+    let right = make_all(case, &mut env, &handed);
+    Some((began, Instant::now(), right))
+}
+
+/// A round in a room of its own: this thread does the first thread's work.
+fn round(case: usize, work: Work) -> Option<Vec<Done>> {
+    let (room, came) = (Room::new(u64::from(work.threads)), AtomicU64::new(0));
+    let (room, came) = (&room, &came);
+    std::thread::scope(|scope| {
+        let others: Vec<_> = (1..u64::from(work.threads)).map(|thread| scope.spawn(move || work_one(room, thread, case, work, came))).collect();
+        let first = work_one(room, 0, case, work, came);
+        std::iter::once(first).chain(others.into_iter().map(|other| other.join().ok()?)).collect()
+    })
+}
+
+/// How long a call took, in tenths of nanoseconds, where all threads ran most of the time.
+fn time_of_call(work: Work, done: &[Done]) -> Option<u128> {
+    let calls = work.calls as usize;
+    if done.iter().any(|one| one.2 != calls) {
+        return None;
+    }
+    let together = done.iter().map(|one| one.1).min()?.saturating_duration_since(done.iter().map(|one| one.0).max()?);
+    let whole = done.iter().map(|one| one.1).max()?.duration_since(done.iter().map(|one| one.0).min()?);
+    if together * 4 < whole * 3 {
+        return None;
+    }
+    let sum: Duration = done.iter().map(|one| one.1.duration_since(one.0)).sum();
+    (sum * 10).as_nanos().checked_div(done.len() as u128 * calls as u128)
+}
+
+fn main() {
+    let words: Vec<u32> = std::env::args().skip(1).filter_map(|word| word.parse().ok()).collect();
+    let [threads, standing, calls, rounds] = words[..] else {
+        eprintln!("usage: floor THREADS STANDING CALLS ROUNDS");
+        std::process::exit(1);
+    };
+    let work = Work { threads, standing, calls };
+    for (case, name) in CASES.iter().enumerate() {
+        let mut times: Vec<u128> = (0..rounds).filter_map(|_| time_of_call(work, &round(case, work)?)).collect();
+        times.sort();
+        match (times.first(), times.get(times.len() / 2)) {
+            (Some(least), Some(median)) => {
+                println!("{name} {}.{} {}.{} {}", median / 10, median % 10, least / 10, least % 10, times.len())
+            }
+            _ => println!("{name} - - 0"),
+        }
+    }
+}

@@ -1,0 +1,39 @@
+//! The fixed text: how often calls answer as they should.
+
+use crate::case::{CASES, Case};
+use crate::round::{Work, round};
+use std::alloc::Global;
+use std::io;
+use std::rt::Clock;
+use std::thread::Threads;
+
+/// How often each thread makes a call.
+const CALLS: u32 = 300;
+
+/// How many references stand meanwhile.
+const STANDING: u32 = 100;
+
+/// How often a call of so many threads answered as it should.
+fn right<R: Threads + Clock + Sync>(rt: &R, alloc: Global, case: Case, threads: u32) -> usize {
+    let work = Work {
+        threads,
+        standing: STANDING,
+        calls: CALLS,
+    };
+    let mut right = 0usize;
+    for done in round(rt, alloc, case, work).iter().flatten().flatten() {
+        right = right.saturating_add(done.right);
+    }
+    right
+}
+
+/// Prints the text.
+pub(crate) fn print<R: Threads + Clock + Print + Sync>(rt: &R, alloc: Global) -> io::Result<()> {
+    println!(rt; "each call, {CALLS} times by each thread: how often it answered as it should")?;
+    for (case, name) in CASES {
+        let one = right(rt, alloc, case, 1);
+        let two = right(rt, alloc, case, 2);
+        println!(rt; "{name}: {one} by one thread, {two} by two")?;
+    }
+    Ok(())
+}

@@ -1,0 +1,115 @@
+//! The calls that are made, and what each is to answer.
+
+pub(crate) use jr_env::Env;
+use jr_steps::Steps;
+use jr_word::Handle;
+use std::alloc::Global;
+
+/// Which call is made.
+#[derive(Clone, Copy)]
+pub(crate) enum Case {
+    TypeOfNull,
+    NewPlain,
+    NewGlobal,
+    DeleteGlobal,
+    NewWeak,
+    DeleteWeak,
+    NewLocal,
+    DeleteLocal,
+    Same,
+    TypeOfGlobal,
+}
+
+/// Each case with its name. The first does nothing between the entry and the exit.
+pub(crate) const CASES: [(Case, &'static str); 10] = [
+    (Case::TypeOfNull, "get_object_ref_type(NULL)"),
+    (Case::NewPlain, "new_plain"),
+    (Case::NewGlobal, "new_global_ref(local)"),
+    (Case::DeleteGlobal, "delete_global_ref"),
+    (Case::NewWeak, "new_weak_global_ref(local)"),
+    (Case::DeleteWeak, "delete_weak_global_ref"),
+    (Case::NewLocal, "new_local_ref(global)"),
+    (Case::DeleteLocal, "delete_local_ref"),
+    (Case::Same, "is_same_object(global,global)"),
+    (Case::TypeOfGlobal, "get_object_ref_type(global)"),
+];
+
+impl Case {
+    /// What each of so many calls is handed, in order. All references are to one object, and are made here.
+    pub(crate) fn handed<S: Steps>(
+        self,
+        env: &mut Env<S>,
+        alloc: Global,
+        calls: u32,
+    ) -> Option<Vec<Handle>> {
+        let local = env.new_plain().ok()?;
+        let global = env.new_global_ref(local).ok()??;
+        let mut handed = Vec::with_capacity(alloc, calls as usize).ok()?;
+        for _ in 0..calls {
+            let handle = match self {
+                Case::TypeOfNull | Case::NewPlain => Handle::NULL,
+                Case::NewGlobal | Case::NewWeak => local,
+                Case::NewLocal | Case::Same | Case::TypeOfGlobal => global,
+                Case::DeleteGlobal => env.new_global_ref(local).ok()??,
+                Case::DeleteWeak => env.new_weak_global_ref(local).ok()??,
+                Case::DeleteLocal => env.new_local_ref(global).ok()??,
+            };
+            handed.push(handle).ok()?;
+        }
+        Some(handed)
+    }
+
+    /// Makes the call with each of the handles: how often it answered as it should.
+    pub(crate) fn make_all<S: Steps>(self, env: &mut Env<S>, handed: &[Handle]) -> usize {
+        match self {
+            Case::TypeOfNull => make_each(env, handed, |env, _, at| {
+                matches!(env.get_object_ref_type(at), Ok(0))
+            }),
+            Case::NewPlain => make_each(env, handed, |env, _, _| env.new_plain().is_ok()),
+            Case::NewGlobal => make_each(env, handed, |env, _, at| {
+                matches!(env.new_global_ref(at), Ok(Some(_)))
+            }),
+            Case::DeleteGlobal => make_each(env, handed, |env, _, at| {
+                env.delete_global_ref(at).is_ok()
+            }),
+            Case::NewWeak => make_each(env, handed, |env, _, at| {
+                matches!(env.new_weak_global_ref(at), Ok(Some(_)))
+            }),
+            Case::DeleteWeak => make_each(env, handed, |env, _, at| {
+                env.delete_weak_global_ref(at).is_ok()
+            }),
+            Case::NewLocal => make_each(env, handed, |env, _, at| {
+                matches!(env.new_local_ref(at), Ok(Some(_)))
+            }),
+            Case::DeleteLocal => make_each(env, handed, |env, _, at| {
+                env.delete_local_ref(at).is_ok()
+            }),
+            Case::Same => make_each(env, handed, |env, first, at| {
+                matches!(env.is_same_object(first, at), Ok(true))
+            }),
+            Case::TypeOfGlobal => make_each(env, handed, |env, _, at| {
+                matches!(env.get_object_ref_type(at), Ok(2))
+            }),
+        }
+    }
+}
+
+/// Makes a call with the first handle and each of them: how often it answered as it should.
+fn make_each<E, F: Fn(&mut E, Handle, Handle) -> bool>(
+    env: &mut E,
+    handed: &[Handle],
+    call: F,
+) -> usize
+    requires { F.IsAlwaysCallable call }
+{
+    let Some(first) = handed.first() else {
+        return 0;
+    };
+    let mut right = 0;
+    for handle in handed {
+        if call(env, *first, *handle) {
+            right += 1;
+        }
+    }
+    right
+}
