@@ -113,8 +113,8 @@ pub freed_begins : (t : Table) → all_refs t.frames ≡ [] → IsFreed t t
 freed_begins t none = record { emptied = record { taken = refl; none = none; given = refl }; thread = refl; last = refl }
 
 module _ {t u : Table} (so : IsFreed t u) where
-  pub freed_last : last_frame u.frames.frames ≡ []
-  freed_last = (empty_is_popped t.frames u.frames _ so.emptied).0
+  pub freed_last : 2 ≤ length u.frames.frames → last_frame u.frames.frames ≡ []
+  freed_last more = (empty_is_popped t.frames u.frames _ so.emptied more).0
 
   pub freed_owner : KeepsOwner t u
   freed_owner = record { thread = so.thread; last = so.last; places = ap length so.emptied.given }
@@ -122,8 +122,8 @@ module _ {t u : Table} (so : IsFreed t u) where
   pub freed_ends : length u.frames.frames ≡ 1 → u.frames ≡ freed t.frames
   freed_ends one = (free_ends t.frames u.frames _ so.emptied one).2
 
-pub freed_fewer : (t u v : Table) → IsFreed t u → v ≡ with_frames u (popped u.frames) → IsFreed t v
-freed_fewer t u v so is = subst (IsFreed t) (sym is) (record { emptied = (empty_is_popped t.frames u.frames _ so.emptied).1; thread = so.thread; last = so.last })
+pub freed_fewer : (t u v : Table) → IsFreed t u → v ≡ with_frames u (popped u.frames) → 2 ≤ length u.frames.frames → IsFreed t v
+freed_fewer t u v so is more = subst (IsFreed t) (sym is) (record { emptied = (empty_is_popped t.frames u.frames _ so.emptied more).2; thread = so.thread; last = so.last })
 
 pub freed_shorter : (u v : Table) → v ≡ with_frames u (popped u.frames) → 2 ≤ length u.frames.frames → length v.frames.frames < length u.frames.frames
 freed_shorter u v is l = subst (λ (x : Table). length x.frames.frames < length u.frames.frames) (sym is) (shorter u.frames.frames l)

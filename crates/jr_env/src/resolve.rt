@@ -17,6 +17,7 @@ use jr_steps::Steps;
 use jr_word::{Fault, HandleParts, RefKind};
 
 /// The object of a local reference: E2 where it does not stand.
+#[inline(always)]
 fn object_local(object: Option<u16>) -> Result<Option<u16>, Fault>
     ensures { result ≡ local_answer object }
 {
@@ -27,6 +28,7 @@ fn object_local(object: Option<u16>) -> Result<Option<u16>, Fault>
 }
 
 /// The object of a handle that lies in bounds.
+#[inline(always)]
 fn look_at<S: Steps>(
     steps: &mut S,
     inside: &Inside,
@@ -46,6 +48,7 @@ fn look_at<S: Steps>(
 }
 
 /// The object of a reference that lies in bounds: none for NULL.
+#[inline(always)]
 fn look_up<S: Steps>(
     steps: &mut S,
     inside: &Inside,
@@ -64,6 +67,7 @@ fn look_up<S: Steps>(
 }
 
 /// The object of a reference: none for NULL and a cleared one, E2 and E3 for what is no reference here.
+#[inline(always)]
 pub fn resolve<S: Steps>(
     steps: &mut S,
     inside: &Inside,
@@ -84,6 +88,7 @@ pub fn resolve<S: Steps>(
 }
 
 /// The objects of two references: each check is made of the first and then of the second, before the next check. E2, E3.
+#[inline(always)]
 pub fn resolve_both<S: Steps>(
     steps: &mut S,
     inside: &Inside,
@@ -113,6 +118,7 @@ pub fn resolve_both<S: Steps>(
 }
 
 /// The type of a local reference, by its object.
+#[inline(always)]
 fn type_of_local(object: Option<u16>) -> u8
     ensures { result ≡ type_local object }
 {
@@ -120,6 +126,7 @@ fn type_of_local(object: Option<u16>) -> u8
 }
 
 /// The type of a global or weak global reference, by what a look found.
+#[inline(always)]
 fn type_of_found(kind: RefKind, found: Found) -> u8
     ensures { result ≡ type_found kind found }
 {
@@ -134,6 +141,7 @@ fn type_of_found(kind: RefKind, found: Found) -> u8
 }
 
 /// The type of a handle's reference.
+#[inline(always)]
 fn type_of_parts<S: Steps>(
     steps: &mut S,
     inside: &Inside,
@@ -158,6 +166,7 @@ fn type_of_parts<S: Steps>(
 }
 
 /// The type of a reference: 1 local, 2 global, 3 weak global, and 0 for NULL and for what is no reference here.
+#[inline(always)]
 pub fn type_of<S: Steps>(
     steps: &mut S,
     inside: &Inside,

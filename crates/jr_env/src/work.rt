@@ -61,6 +61,7 @@ pub trait Work<S: Steps> {
 /// # Errors
 ///
 /// E13, and those of the work.
+#[inline(always)]
 pub fn make<S: Steps, W: Work<S>>(
     steps: &mut S,
     frames: &mut Frames,

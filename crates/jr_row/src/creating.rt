@@ -12,6 +12,7 @@ use jr_steps::{SlotLoad, Steps};
 use jr_word::{Fault, HandleParts, RefKind, SlotParts};
 
 /// One slot, looked at and claimed where it is free.
+#[inline(always)]
 fn try_slot<S: Steps>(steps: &mut S, index: u16, kind: RefKind, object: u16) -> Option<HandleParts>
     requires role { (S.facts steps.old).stands.role ≡ Within }
     requires row { index < (S.facts steps.old).stands.config.slots }
@@ -36,6 +37,7 @@ fn try_slot<S: Steps>(steps: &mut S, index: u16, kind: RefKind, object: u16) -> 
 }
 
 /// The slots from first on and before last are tried one after the other, until one is won.
+#[inline(always)]
 fn search<S: Steps>(
     steps: &mut S,
     kind: RefKind,
@@ -61,6 +63,7 @@ fn search<S: Steps>(
 }
 
 /// Each slot is tried once, from the hint to the last slot and then from slot 0 to the hint, until one is won.
+#[inline(always)]
 fn search_round<S: Steps>(steps: &mut S, kind: RefKind, object: u16) -> Option<HandleParts>
     requires role { (S.facts steps.old).stands.role ≡ Within }
     requires kind { kind ≢ Local }
@@ -79,14 +82,17 @@ fn search_round<S: Steps>(steps: &mut S, kind: RefKind, object: u16) -> Option<H
 }
 
 /// The slot after this one, and slot 0 after the last.
+#[inline(always)]
 fn slot_after(index: u16, slots: u32) -> u16
     requires { (index < slots) × (slots ≤ 65536) }
     ensures { (result ≡ (index + 1) % slots) × (result < slots) }
 {
-    ((u32::from(index) + 1) % slots) as u16
+    let next = u32::from(index) + 1;
+    if next == slots { 0 } else { next as u16 }
 }
 
 /// A new reference to a present object, in the first slot that is found free from the hint on: E8 where none is. At most two operations a slot. The next search begins behind the new reference.
+#[inline(always)]
 pub fn create<S: Steps>(
     steps: &mut S,
     inside: &Inside,

@@ -13,6 +13,7 @@ use jr_steps::Steps;
 use jr_word::{Fault, HandleParts};
 
 /// Deletes a reference by one look, and one exchange where it stands: E2 where it does not.
+#[inline(always)]
 pub fn delete<S: Steps>(steps: &mut S, inside: &Inside, handle: HandleParts) -> Result<(), Fault>
     requires stay { IsOwnStay inside.now (S.facts steps.old).stands }
     requires row { handle.index < (S.facts steps.old).stands.config.slots }

@@ -14,6 +14,7 @@ use jr_steps::{SlotLoad, Steps};
 use jr_word::{Fault, HandleParts, RefKind, SlotParts};
 
 /// Looks a handle up in its slot.
+#[inline(always)]
 pub fn look<S: Steps>(steps: &mut S, inside: &Inside, handle: HandleParts) -> Found
     requires stay { IsOwnStay inside.now (S.facts steps.old).stands }
     requires row { handle.index < (S.facts steps.old).stands.config.slots }
@@ -25,6 +26,7 @@ pub fn look<S: Steps>(steps: &mut S, inside: &Inside, handle: HandleParts) -> Fo
 }
 
 /// What a slot's word says of a handle of its index.
+#[inline(always)]
 fn found(handle: HandleParts, word: SlotParts) -> Found
     ensures { result ≡ reply handle word }
 {
@@ -40,6 +42,7 @@ fn found(handle: HandleParts, word: SlotParts) -> Found
 }
 
 /// What the reference of a kind and serial, which stands in the handle's slot, says of the handle.
+#[inline(always)]
 fn found_standing(handle: HandleParts, kind: RefKind, serial: u32, object: Option<u16>) -> Found
     ensures { result ≡ cond (is_its handle kind serial) (found_of object) Stale }
 {
@@ -53,6 +56,7 @@ fn found_standing(handle: HandleParts, kind: RefKind, serial: u32, object: Optio
 }
 
 /// The object that a look found: none where the reference is cleared, E2 where it does not stand.
+#[inline(always)]
 pub fn object_found(found: Found) -> Result<Option<u16>, Fault>
     ensures { result ≡ found_answer found }
 {
