@@ -3,6 +3,7 @@
 
 mod calls;
 mod env;
+mod meeting;
 mod object;
 mod reference;
 mod resolve;
