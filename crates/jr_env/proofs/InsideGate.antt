@@ -11,7 +11,7 @@ use Rattle.jr_word.specs.declared.fault.Fault.TheVariants.{Barred}
 use Rattle.jr_model.specs.declared.event.Role.{Role}
 use Rattle.jr_model.specs.declared.event.Role.TheVariants.{Outside, Within}
 use Rattle.jr_model.specs.declared.event.Act.{Act}
-use Rattle.jr_model.specs.declared.event.Act.TheVariants.{Enter, Knock, Leave, Withdraw, LocalPut, LocalDrop}
+use Rattle.jr_model.specs.declared.event.Act.TheVariants.{Enter, Knock, Leave, Withdraw, LocalPut, LocalDrop, Meet}
 use Rattle.jr_model.specs.Frames.{Frames, fresh_frames, object_at}
 use Rattle.jr_model.specs.Calls.{Call, entered}
 use Rattle.jr_model.proofs.Runs.{ran_barred, ran_entered}
@@ -90,6 +90,17 @@ module _ {S : Type 0} {facts : S → Facts} where
     last = r.last ∙ sym (ap (λ (s : Standing). s.last) e.stands_is);
     places = r.places ∙ sym (ap (λ (s : Standing). s.config.locals) e.stands_is);
     agrees = ∥∥₁_map r.agrees (λ k. let x = e.goes k.0 k.1 tt in (x.0, x.1, holds_did k.0 x.0 t.frames (Enter ∷ []) (goes_did x.2) (refl, tt) k.2));
+  }
+
+  -- frames that agree go on agreeing, whatever the thread learns
+  pub ready_met : {a b : S} {t : Table} → StandsReady facts Outside a t → Took facts a b (Meet ∷ []) anything keeps → StandsReady facts Outside b t
+  ready_met {t = t} r e = record {
+    role_is = ap (λ (s : Standing). s.role) e.stands_is ∙ r.role_is;
+    spent = ap (λ (s : Standing). s.fresh) e.stands_is ∙ r.spent;
+    owner = r.owner ∙ sym (ap (λ (s : Standing). s.thread) e.stands_is);
+    last = r.last ∙ sym (ap (λ (s : Standing). s.last) e.stands_is);
+    places = r.places ∙ sym (ap (λ (s : Standing). s.config.locals) e.stands_is);
+    agrees = ∥∥₁_map r.agrees (λ k. let x = e.goes k.0 k.1 tt in (x.0, x.1, holds_did k.0 x.0 t.frames (Meet ∷ []) (goes_did x.2) (refl, tt) k.2));
   }
 
   -- a call that takes nothing beside its acts takes no more than this

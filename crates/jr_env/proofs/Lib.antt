@@ -4,6 +4,7 @@ pub mod Reading
 pub mod Resolving
 pub mod ResolvingBoth
 pub mod InsideGate
+pub mod Meetings
 pub mod NewReference
 pub mod NewPlain
 pub mod NewLocal

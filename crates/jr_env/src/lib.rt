@@ -5,6 +5,7 @@ mod calls;
 mod env;
 mod frame_calls;
 mod frame_works;
+mod meeting;
 mod object;
 mod reference;
 mod resolve;

@@ -1,7 +1,7 @@
 //! Words that are no reference of the thread, through the calls that take them, over plain words and over a room.
 
 ghost use Rattle.std.specs.Prelude.{All, IfOk};
-ghost use Rattle.jr_rule.specs.Passes.{IsOpened};
+ghost use Rattle.jr_rule.specs.Passes.{IsAt, IsOpened};
 
 use crate::opening::opened_env;
 use jr_env::Env;
@@ -255,6 +255,49 @@ fn two_passes_share_a_global_reference(rt: HostRuntime) -> Result<(), Fail> {
     assert_eq!(rt; first.new_local_ref(shared).err(), Some(Fault::Stale));
     assert_eq!(rt; first.delete_global_ref(shared).err(), Some(Fault::Stale));
     assert_eq!(rt; second.get_object_ref_type(own)?, 1);
+    Ok(())
+}
+
+/// A global reference that the thread of a pass makes, and the pass.
+fn shared_by(room: &Room<2>, pass: Pass) -> Result<(Handle, Pass), Fail>
+    requires { IsOpened room.now.row pass }
+    ensures { IfOk result (λ r. IsAt room.now.row r.1) }
+{
+    let mut env = opened_env(RoomSteps::new(room, pass));
+    let object = env.new_plain()?;
+    let shared = env.new_global_ref(object)?.ok_or("an object")?;
+    Ok((shared, env.into_pass().into_pass()))
+}
+
+/// The pass of another thread, once an env over a pass has met it.
+fn met_by(
+    rt: &impl Abort,
+    room: &Room<2>,
+    pass: Pass,
+    shared: Handle,
+    other: Pass,
+) -> Result<Pass, Fail>
+    requires own { IsOpened room.now.row pass }
+    requires other { IsAt room.now.row other }
+    ensures { IfOk result (λ p. IsAt room.now.row p) }
+{
+    let mut env = opened_env(RoomSteps::new(room, pass));
+    let other = env.meet(other);
+    assert!(rt; !env.steps.fresh());
+    let own = env.new_local_ref(shared)?.ok_or("an object")?;
+    assert_eq!(rt; own, OWN);
+    Ok(other)
+}
+
+#[test]
+fn who_meets_another_finds_its_reference(rt: HostRuntime) -> Result<(), Fail> {
+    let (room, first, second) = opened(rt.alloc())?;
+    let (shared, second) = shared_by(&room, second)?;
+    let second = met_by(&rt, &room, first, shared, second)?;
+    // The pass that was met is as it was: of thread 1, and not fresh.
+    let steps = RoomSteps::new(&room, second);
+    assert_eq!(rt; steps.thread(), 1);
+    assert!(rt; !steps.fresh());
     Ok(())
 }
 

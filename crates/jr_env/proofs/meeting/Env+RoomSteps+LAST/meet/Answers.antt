@@ -1,0 +1,7 @@
+use Rattle.jr_rule.specs.declared.room_steps.RoomSteps.{RoomSteps}
+use Rattle.jr_env.proofs.InsideGate.{ready_met}
+use Rattle.jr_env.proofs.Meetings.{step_over}
+use Rattle.jr_env.proofs.meeting.Env+RoomSteps+LAST.meet.Goals as goal
+
+pub invariant_of-self : goal.invariant_of-self
+invariant_of-self g c = record { ready = ready_met c.args.self.now.ready (step_over (λ (s : RoomSteps _). s.pass) c.meet.ensures.step) }
