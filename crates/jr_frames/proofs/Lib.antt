@@ -20,3 +20,5 @@ pub mod Popping
 pub mod Sound
 pub mod LastFrame
 pub mod Freeing
+pub mod Giving
+pub mod PopRoom

@@ -4,3 +4,4 @@ pub mod Rings
 pub mod Shown
 pub mod Popping
 pub mod Freeing
+pub mod Giving

@@ -1,5 +1,6 @@
 //! The local references of a thread, in frames.
 use crate::place::Place;
+use crate::ring_walk::any_gives_again;
 use crate::rings::{MOST_PLACES, Rings};
 use arrayvec::ArrayVec;
 use jr_model::FRAMES;
@@ -193,5 +194,16 @@ impl Frames {
         ensures { self.new ≡ with_frames self.old (popped self.old.frames) }
     {
         self.rings.pop();
+    }
+
+    /// Whether a place is free once the newest frame is taken away with its references. Those are gone through where none is free already.
+    pub fn has_room_after_pop(&self) -> bool
+        ensures { IsTrue result ↔ (1 ≤ free_places self.now.last (popped self.now.frames)) }
+    {
+        if self.free > 0 {
+            return true;
+        }
+        let end = (self.rings.links.len() - 1) as u16;
+        any_gives_again(&self.rings, &self.places, end, self.last)
     }
 }

@@ -1,9 +1,10 @@
-//! The local references of one thread, in frames, where each call is a constant amount of work.
+//! The local references of one thread, in frames, where each call is a constant amount of work, but for the making of a table and the question whether a pop frees a place.
 #![tactic(auto)]
 
 mod frames;
 mod laws;
 mod place;
+mod ring_walk;
 mod rings;
 #[cfg(test)]
 mod tests;

@@ -205,6 +205,28 @@ fn a_pop_takes_its_frame_alone(rt: HostRuntime) -> Result<(), Fail> {
     Ok(())
 }
 
+// Each place gives three handles here.
+#[test]
+fn a_pop_may_free_a_place(rt: HostRuntime) -> Result<(), Fail> {
+    let mut frames = frames_of_sixteen();
+    assert!(rt; frames.has_room_after_pop());
+    let base = added(&mut frames, 9)?;
+    for _ in 0..15 {
+        added(&mut frames, 9)?;
+    }
+    pushed(&mut frames)?;
+    assert!(rt; !frames.has_room_after_pop());
+    deleted(&mut frames, base)?;
+    assert!(rt; frames.has_room_after_pop());
+    let second = added(&mut frames, 1)?;
+    assert!(rt; frames.has_room_after_pop());
+    deleted(&mut frames, second)?;
+    // The place's last handle: once it is deleted, the place is retired.
+    added(&mut frames, 2)?;
+    assert!(rt; !frames.has_room_after_pop());
+    Ok(())
+}
+
 #[test]
 fn a_free_leaves_one_empty_frame(rt: HostRuntime) -> Result<(), Fail> {
     let mut frames = frames_of_sixteen();
