@@ -1,5 +1,6 @@
 //! Frames of local references, through the calls for them, over plain words and over a room.
 
+use crate::opening::opened_env;
 use jr_env::Env;
 use jr_rule::{PlainSteps, Room, RoomSteps};
 use jr_steps::Steps;
@@ -38,7 +39,7 @@ fn needs_places<S: Steps>(rt: &impl Abort, env: &mut Env<S>) -> Result<(), Fail>
 
 #[test]
 fn capacities_over_plain_words(rt: HostRuntime) -> Result<(), Fail> {
-    let mut env = Env::new(PlainSteps::<4_294_967_295>::new(rt.alloc(), Config::LEAST)?);
+    let mut env = opened_env(PlainSteps::<4_294_967_295>::new(rt.alloc(), Config::LEAST)?);
     needs_places(&rt, &mut env)
 }
 
@@ -46,14 +47,14 @@ fn capacities_over_plain_words(rt: HostRuntime) -> Result<(), Fail> {
 fn capacities_in_a_room(rt: HostRuntime) -> Result<(), Fail> {
     let (room, mut passes) = Room::<2>::open(rt.alloc(), Config::LEAST)?;
     let pass = passes.pop().ok_or("a pass")?;
-    let mut env = Env::new(RoomSteps::new(&room, pass));
+    let mut env = opened_env(RoomSteps::new(&room, pass));
     needs_places(&rt, &mut env)
 }
 
 // Each place gives one handle here, and is retired with it.
 #[test]
 fn retired_places_are_no_room(rt: HostRuntime) -> Result<(), Fail> {
-    let mut env = Env::new(PlainSteps::<0>::new(rt.alloc(), Config::LEAST)?);
+    let mut env = opened_env(PlainSteps::<0>::new(rt.alloc(), Config::LEAST)?);
     let object = env.new_plain()?;
     env.delete_local_ref(object)?;
     env.ensure_local_capacity(15)?;
@@ -67,7 +68,7 @@ fn retired_places_are_no_room(rt: HostRuntime) -> Result<(), Fail> {
 
 #[test]
 fn no_more_than_256_frames_are_open(rt: HostRuntime) -> Result<(), Fail> {
-    let mut env = Env::new(PlainSteps::<4_294_967_295>::new(rt.alloc(), Config::LEAST)?);
+    let mut env = opened_env(PlainSteps::<4_294_967_295>::new(rt.alloc(), Config::LEAST)?);
     for _ in 0..255 {
         env.push_local_frame(16)?;
     }
@@ -107,7 +108,7 @@ fn frees_all<S: Steps>(rt: &impl Abort, env: &mut Env<S>) -> Result<(), Fail> {
 
 #[test]
 fn locals_are_freed_over_plain_words(rt: HostRuntime) -> Result<(), Fail> {
-    let mut env = Env::new(PlainSteps::<4_294_967_295>::new(rt.alloc(), Config::LEAST)?);
+    let mut env = opened_env(PlainSteps::<4_294_967_295>::new(rt.alloc(), Config::LEAST)?);
     frees_all(&rt, &mut env)
 }
 
@@ -115,6 +116,6 @@ fn locals_are_freed_over_plain_words(rt: HostRuntime) -> Result<(), Fail> {
 fn locals_are_freed_in_a_room(rt: HostRuntime) -> Result<(), Fail> {
     let (room, mut passes) = Room::<2>::open(rt.alloc(), Config::LEAST)?;
     let pass = passes.pop().ok_or("a pass")?;
-    let mut env = Env::new(RoomSteps::new(&room, pass));
+    let mut env = opened_env(RoomSteps::new(&room, pass));
     frees_all(&rt, &mut env)
 }
