@@ -18,7 +18,7 @@ use std::time::Instant;
 const LAST: u32 = 4_294_967_295;
 
 /// How often a thread looks whether the others have come.
-const LOOKS: u32 = 1 << 24;
+const LOOKS: u32 = 1 << 30;
 
 /// The most local references that stand for each thread, and the most objects in all.
 const MOST_BESIDE: u32 = 2_000;
