@@ -1,4 +1,4 @@
--- How local references are taken out of frames, one by one, for whatever was known.
+-- For the crate's own functions: how local references are taken out of frames, one by one, for whatever was known.
 use Rattle.std.specs.Prelude.{◌≡◌, ℕ, Option, Ok, List}
 use Rattle.jr_model.specs.declared.event.Act.{Act}
 use Rattle.jr_model.specs.Frames.{Frames}

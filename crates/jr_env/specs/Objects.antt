@@ -1,4 +1,4 @@
--- How an object without elements is published, for whatever was known.
+-- For the crate's own functions: how an object without elements is published, for whatever was known.
 use Rattle.std.specs.Prelude.{◌≡◌, ◌≤◌, ◌+◌, ℕ, Option, Some, None, List, [], ◌∷◌, length}
 use Rattle.jr_word.specs.declared.config.Config.{Config}
 use Rattle.jr_word.specs.declared.kind.Kind.{Kind}

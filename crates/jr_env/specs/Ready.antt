@@ -1,4 +1,4 @@
--- A thread and its frames, between the steps of a call and between calls.
+-- For the crate's own functions: a thread and its frames, between the steps of a call and between calls.
 use Rattle.std.specs.Prelude.{◌≡◌, ℕ, Result, false, length}
 use Rattle.jr_word.specs.declared.fault.Fault.{Fault}
 use Rattle.jr_model.specs.declared.event.Role.{Role}

@@ -1,4 +1,4 @@
--- What calls and their works did, over any steps and frames, for whatever was known.
+-- For the crate's own functions: what calls and their works did, over any steps and frames, for whatever was known.
 use Rattle.std.specs.Prelude.{ℕ, Result, Ok, Err, Option, Some, None}
 use Rattle.jr_word.specs.declared.fault.Fault.{Fault}
 use Rattle.jr_word.specs.declared.kind.Kind.TheVariants.{Plain}

@@ -1,4 +1,4 @@
--- What a ring of places would give once they are free.
+-- For the crate's own functions: what a ring of places would give once they are free.
 use Rattle.std.specs.Prelude.{◌≤◌, ◌<◌, ℕ, Bool, nat_le, List, [], ◌∷◌, ◌++◌, length}
 use Rattle.std.specs.List.{list_any, AllByRecursion}
 use Rattle.jr_word.specs.declared.config.TheConstants.Config.{MOST_LOCALS}
