@@ -13,3 +13,5 @@ pub mod EnvCalls
 pub mod FrameCalls
 pub mod Dropping
 pub mod Freeing
+pub mod Taking
+pub mod Popping

@@ -106,16 +106,26 @@ module _ {S : Type 0} {facts : S → Facts} where
         let q : Calls facts a b t.frames t.frames first (Ok z) = record { stands_is = p.stands_is; ran = λ k s m. let x = p.ran k s m in (x.0, x.1, x.2, (x.3.0, x.3.1)) } in
         ready_called r (same_owner t) q
 
-    pub creates_local : {d : S} {f g : Frames} {first : Call (Option ℕ)} {answer : Result (Option Handle) Fault} → Resolves facts a b f first (Ok z)
-        → MakesLocal facts b d f g z (new_local (facts b).stands.config (facts b).stands.last (facts b).stands.thread z) answer
-        → Calls facts a d f g (first >>= new_local (facts a).stands.config (facts a).stands.last (facts a).stands.thread) answer
-    creates_local {d} {f} {g} {first} {answer} p q =
+    -- what was resolved, and what is made of it
+    pub creates_by : {d : S} {f g : Frames} {first : Call (Option ℕ)} {answer : Result (Option Handle) Fault} (next : Config → ℕ → ℕ → Option ℕ → Call (Option Handle)) → Resolves facts a b f first (Ok z)
+        → MakesLocal facts b d f g z (next (facts b).stands.config (facts b).stands.last (facts b).stands.thread z) answer
+        → Calls facts a d f g (first >>= next (facts a).stands.config (facts a).stands.last (facts a).stands.thread) answer
+    creates_by {d} {f} {g} {first} {answer} next p q =
         let s = (facts a).stands in
-        let r = subst (λ (y : Standing). MakesLocal facts b d f g z (new_local y.config y.last y.thread z) answer) (but_fresh p.stands_is) q in
+        let r = subst (λ (y : Standing). MakesLocal facts b d f g z (next y.config y.last y.thread z) answer) (but_fresh p.stands_is) q in
         record {
           stands_is = still_before p.stands_is r.stands_is;
           ran = λ k v m.
               let x = p.ran k v m in
               let y = r.ran x.0 x.1 (x.3.1, found_optional z x.0 x.3.2) in
-              (y.0, y.1, made_of (spend_first (spending x.2) (spending y.2)) (ran_then {next = new_local s.config s.last s.thread} z x.2.ran y.2.ran), (y.3.0 ∙ x.3.0, y.3.1));
+              (y.0, y.1, made_of (spend_first (spending x.2) (spending y.2)) (ran_then {next = next s.config s.last s.thread} z x.2.ran y.2.ran), (y.3.0 ∙ x.3.0, y.3.1));
         }
+
+    pub creates_local : {d : S} {f g : Frames} {first : Call (Option ℕ)} {answer : Result (Option Handle) Fault} → Resolves facts a b f first (Ok z)
+        → MakesLocal facts b d f g z (new_local (facts b).stands.config (facts b).stands.last (facts b).stands.thread z) answer
+        → Calls facts a d f g (first >>= new_local (facts a).stands.config (facts a).stands.last (facts a).stands.thread) answer
+    creates_local p q = creates_by new_local p q
+
+    -- what was resolved may be stored, and the frames agree
+    pub may_find_both : {f : Frames} {first : Call (Option ℕ)} → Resolves facts a b f first (Ok z) → MayKnow facts a (Holds f) → MayKnow facts b (λ k. Holds f k × HasOptional z k)
+    may_find_both p some = ∥∥₁_map some (λ k. let x = p.ran k.0 k.1 k.2 in (x.0, x.1, (x.3.1, found_optional z x.0 x.3.2)))

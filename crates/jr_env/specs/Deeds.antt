@@ -107,6 +107,10 @@ ensure_local_capacity n = call_apart (λ c last t. references.ensure_local_capac
 abbrev pub push_local_frame : ℕ → Deed (Unit {0})
 push_local_frame n = call_apart (λ c last t. references.push_local_frame c last t n)
 
+-- PopLocalFrame
+abbrev pub pop_local_frame : ℕ → Deed (Option HandleWord)
+pop_local_frame w = answered_by packed_if (call_on w (λ c last t s a. references.pop_local_frame c last t a))
+
 -- all local references are freed, at the end of a native method
 abbrev pub free_locals : Deed (Unit {0})
 free_locals = call (λ c last t s. references.free_locals)

@@ -257,7 +257,7 @@ impl<S: Steps> Work<S> for Typing {
 }
 
 /// A local reference to a present object, none to none, within the gate: E9.
-fn make_local<S: Steps>(
+pub(crate) fn make_local<S: Steps>(
     steps: &mut S,
     frames: &mut Frames,
     object: Option<u16>,

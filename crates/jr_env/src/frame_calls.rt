@@ -1,14 +1,15 @@
 //! The calls of the Java Native Interface for the frames of one thread, over any steps.
 use crate::env::Env;
-use crate::frame_works::LocalsFreeing;
+use crate::frame_works::{FramePop, LocalsFreeing};
+use crate::reference::Reference;
 use crate::work::make;
 use jr_model::FRAMES;
 use jr_steps::Steps;
-use jr_word::Fault;
+use jr_word::{Fault, Handle};
 
 impl<S: Steps> Env<S> {
     ghost use Rattle.jr_env.specs.Envs.{Does};
-    ghost use Rattle.jr_env.specs.Deeds.{ensure_local_capacity, push_local_frame, free_locals};
+    ghost use Rattle.jr_env.specs.Deeds.{ensure_local_capacity, push_local_frame, pop_local_frame, free_locals};
 
     /// Tells whether so many more local references can be made: E9 where they can't. Enters no gate. A negative capacity can't be handed in. (JNI Specification, chapter 4, "EnsureLocalCapacity")
     pub fn ensure_local_capacity(&mut self, capacity: u32) -> Result<(), Fault>
@@ -33,6 +34,15 @@ impl<S: Steps> Env<S> {
         }
         self.frames.push();
         Ok(())
+    }
+
+    /// Takes the newest frame away with its local references, and makes one in the frame below to what the handle names, or none for null: E2, E3, E9, E13, and E15 where no frame was pushed. Where it is refused, nothing is taken away. (JNI Specification, chapter 4, "PopLocalFrame")
+    pub fn pop_local_frame(&mut self, kept: Handle) -> Result<Option<Handle>, Fault>
+        ensures { Does self.old self.new (pop_local_frame kept.0) result }
+    {
+        let target = Reference::of(kept);
+        let made = make(&mut self.steps, &mut self.frames, &FramePop(target))?;
+        Ok(made.map(Handle::pack))
     }
 
     /// Frees all local references of the thread, at the end of a native method; one empty frame is left: E13 alone. (JNI Specification, chapter 2, "Global and Local References")

@@ -4,7 +4,7 @@ use crate::opening::opened_env;
 use jr_env::Env;
 use jr_rule::{PlainSteps, Room, RoomSteps};
 use jr_steps::Steps;
-use jr_word::{Config, Fault};
+use jr_word::{Config, Fault, Handle};
 use std::process::Abort;
 use std::test::Fail;
 
@@ -118,4 +118,53 @@ fn locals_are_freed_in_a_room(rt: HostRuntime) -> Result<(), Fail> {
     let pass = passes.pop().ok_or("a pass")?;
     let mut env = opened_env(RoomSteps::new(&room, pass));
     frees_all(&rt, &mut env)
+}
+
+/// A pop takes the references of its frame, oldest first, and gives its result to the frame below.
+fn pops_frames<S: Steps>(rt: &impl Abort, env: &mut Env<S>) -> Result<(), Fail> {
+    let object = env.new_plain()?;
+    assert_eq!(rt; env.pop_local_frame(object).err(), Some(Fault::NoFrame));
+    env.push_local_frame(15)?;
+    let first = env.new_plain()?;
+    let second = env.new_local_ref(object)?.ok_or("an object")?;
+    let kept = env.pop_local_frame(first)?.ok_or("an object")?;
+    for gone in [first, second] {
+        assert_eq!(rt; env.get_object_ref_type(gone)?, 0);
+    }
+    assert!(rt; !env.is_same_object(kept, object)?);
+    env.push_local_frame(0)?;
+    assert_eq!(rt; env.pop_local_frame(second).err(), Some(Fault::Stale));
+    assert!(rt; env.pop_local_frame(Handle::NULL)?.is_none());
+    assert_eq!(rt; env.get_object_ref_type(kept)?, 1);
+    assert_eq!(rt; env.pop_local_frame(kept).err(), Some(Fault::NoFrame));
+    Ok(())
+}
+
+#[test]
+fn frames_are_popped_over_plain_words(rt: HostRuntime) -> Result<(), Fail> {
+    let config = Config {
+        objects: 2,
+        ..Config::LEAST
+    };
+    let mut env = opened_env(PlainSteps::<4_294_967_295>::new(rt.alloc(), config)?);
+    pops_frames(&rt, &mut env)
+}
+
+/// Where no place would be free, a result is refused, and nothing is taken away.
+fn pops_without_room<S: Steps>(rt: &impl Abort, env: &mut Env<S>) -> Result<(), Fail> {
+    let object = env.new_plain()?;
+    for _ in 0..15 {
+        env.new_local_ref(object)?.ok_or("an object")?;
+    }
+    env.push_local_frame(0)?;
+    assert_eq!(rt; env.pop_local_frame(object).err(), Some(Fault::LocalsFull));
+    assert!(rt; env.pop_local_frame(Handle::NULL)?.is_none());
+    assert_eq!(rt; env.pop_local_frame(object).err(), Some(Fault::NoFrame));
+    Ok(())
+}
+
+#[test]
+fn a_pop_without_room_is_refused(rt: HostRuntime) -> Result<(), Fail> {
+    let mut env = opened_env(PlainSteps::<4_294_967_295>::new(rt.alloc(), Config::LEAST)?);
+    pops_without_room(&rt, &mut env)
 }
