@@ -1,7 +1,7 @@
+pub mod Reading
+pub mod Deeds
+pub mod Envs
+pub mod Ready
 pub mod Objects
 pub mod Works
 pub mod Dropping
-pub mod Reading
-pub mod Ready
-pub mod Deeds
-pub mod Envs
