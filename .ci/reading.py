@@ -192,7 +192,8 @@ class Source:
         found = [*self.split(at, end)]
         scope = Scope("\n".join(self.code[it.start():stop] for it, _, stop in found if it["kind"] == "ghost use"), above)
         for head, braces, stop in found:
-            kind, text = head["kind"], self.code[head.start():braces[-1][0] if braces else stop]
+            kind = head["kind"]
+            text = self.code[head.start():braces[-1][0] if braces and kind != "use" else stop]
             if kind == "use":
                 crate, _, words = re.sub(r".*\buse ", "", text).partition("::")
                 self.crates.update({it: self.crate if crate == "crate" else crate for it in re.findall(r"\b[A-Z]\w*", words)})

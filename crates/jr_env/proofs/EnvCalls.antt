@@ -14,7 +14,7 @@ use Rattle.jr_model.specs.Checks.{Word}
 use Rattle.jr_steps.specs.Knowing.{AreOf, Facts}
 use Rattle.jr_gate.specs.Performing.{moment, IsMade}
 use Rattle.jr_env.specs.Works.{CallsWhole}
-use Rattle.jr_env.specs.Reading.{IsReadAs}
+use Rattle.jr_frames.specs.Reading.{IsReadAs}
 use Rattle.jr_env.specs.Deeds.{Deed, DoesDeed, answered_by, call_by, call, call_on, call_on_both, packed, packed_if}
 
 -- the word of a handle that was packed

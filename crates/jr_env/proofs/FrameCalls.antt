@@ -20,7 +20,7 @@ use Rattle.jr_steps.specs.Knowing.{AreOf, Facts, view, Holds}
 use Rattle.jr_frames.specs.Table.{Table, with_frames}
 use Rattle.jr_gate.proofs.Spending.{made_of, spend_none}
 use Rattle.jr_gate.proofs.SameRoom.{nothing_changed}
-use Rattle.jr_env.specs.Ready.{StandsReady}
+use Rattle.jr_frames.specs.Ready.{StandsReady}
 use Rattle.jr_env.specs.Deeds.{DoesDeed, call_apart}
 
 -- a test that refuses, and one that is passed

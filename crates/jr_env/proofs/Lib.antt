@@ -1,17 +1,8 @@
-pub mod FramesAgree
 pub mod Publishing
-pub mod Reading
-pub mod Resolving
-pub mod ResolvingBoth
 pub mod InsideGate
 pub mod Meetings
 pub mod NewReference
 pub mod NewPlain
-pub mod NewLocal
 pub mod Removing
 pub mod EnvCalls
 pub mod FrameCalls
-pub mod Dropping
-pub mod Freeing
-pub mod Taking
-pub mod Popping

@@ -1,6 +1,5 @@
 -- A plain object is made, and a local reference to it.
-use Rattle.std.proofs.Common.{◌≡◌, ◌≢◌, ◌<◌, ◌≤◌, ℕ, Bool, false, nat_lt, Option, Some, None, [], ◌∷◌, Result, Ok, Err, length, cond, eq-eqb, inl, inr, refl, sym, ap, subst, ◌∙◌, arith, IsTrue}
-use Rattle.std.proofs.lemmas.Bool.Decides.{nat_tests}
+use Rattle.std.proofs.Common.{◌≡◌, ◌≢◌, ◌≤◌, ℕ, Bool, false, nat_lt, Option, Some, None, [], ◌∷◌, Result, Ok, Err, cond, eq-eqb, inl, inr, refl, sym, ap, subst, ◌∙◌, arith}
 use Rattle.std.specs.Result.{IsErrAnd}
 use Rattle.std.proofs.lemmas.Result.{err_from_is_err_and}
 use mathlib.Core.Logic.{∥∥₁_map, ∥∥₁_elim}
@@ -13,12 +12,11 @@ use Rattle.jr_model.specs.declared.event.Role.TheVariants.{Within}
 use Rattle.jr_model.specs.declared.event.Act.TheVariants.{New, LocalPut}
 use Rattle.jr_model.specs.State.{Handle}
 use Rattle.jr_model.specs.History.{PassView, role_of, Did}
-use Rattle.jr_model.specs.Frames.{Frames, IsAdded, free_places, is_free, object_at}
+use Rattle.jr_model.specs.Frames.{Frames, IsAdded, free_places, object_at}
 use Rattle.jr_model.specs.Refusals.{ObjectsWereFull}
-use Rattle.jr_model.specs.Calls.{Call, Ran, refuse_if, ◌>>=◌}
+use Rattle.jr_model.specs.Calls.{Call, Ran, ◌>>=◌}
 use Rattle.jr_model.specs.Parts.{publish}
-use Rattle.jr_model.specs.References.{added, room_for, making}
-use Rattle.jr_model.proofs.Counts.{count_none}
+use Rattle.jr_model.specs.References.{added, making}
 use Rattle.jr_model.proofs.Moments.{sometime_last, one_act}
 use Rattle.jr_model.proofs.Windows.{window_act, window_within}
 use Rattle.jr_model.proofs.Runs.{ran_then, ran_err}
@@ -28,33 +26,18 @@ use Rattle.jr_steps.proofs.StepFacts.{goes_did}
 use Rattle.jr_frames.specs.Table.{Table, IsNext, IsOnly}
 use Rattle.jr_gate.specs.Performing.{moment}
 use Rattle.jr_env.specs.Objects.{Published, LearnsNew, publication}
+use Rattle.jr_frames.specs.OverSteps.{Calls}
 use Rattle.jr_env.specs.Works.{MakesPlain, object_made}
-use Rattle.jr_env.specs.Ready.{StandsReady}
+use Rattle.jr_frames.specs.Ready.{StandsReady}
+use Rattle.jr_frames.proofs.RoomFor.{room_at, room_ran, full_ran as none_ran}
+use Rattle.jr_frames.proofs.Resolution.{stays}
 use Rattle.jr_gate.proofs.SameRoom.{as_before, still_before}
-use Rattle.jr_env.proofs.FramesAgree.{holds_did, holds_put}
-use Rattle.jr_gate.proofs.Spending.{Spending, made_of, spend_first, spend_step, spend_acts}
-
-below_one : (n : ℕ) → n ≢ 0 → nat_lt n 1 ≡ false
-below_one n ne = grind (arith, nat_tests)
-
--- where a place is free, there is room for one
-free_room : (last : ℕ) (f : Frames) (p : ℕ) → p < length f.given → IsTrue (is_free last f p) → nat_lt (free_places last f) 1 ≡ false
-free_room last f p l free = below_one (free_places last f) (λ e. let no = count_none (length f.given) (is_free last f) e p l in cc)
+use Rattle.jr_frames.proofs.FramesAgree.{holds_did, holds_put}
+use Rattle.jr_gate.proofs.Spending.{Spending, made_of, spending, spend_first, spend_step, spend_acts, spend_more}
 
 module _ (c : Config) (last t : ℕ) where
-  -- what follows the test for room
-  pub room_ran : {B : Type 0} {p q : PassView} (f : Frames) {g : Frames} {next : Unit {0} → Call B} {answer : Result B Fault} → nat_lt (free_places last f) 1 ≡ false → Ran p q f g (next tt) answer → Ran p q f g (room_for c last t 1 >>= next) answer
-  room_ran f room r = record {
-    acts = r.acts;
-    did = r.did;
-    is = inl (tt, f, [], r.acts, refl, subst (λ b. refuse_if b LocalsFull f [] (Ok tt) f) (sym room) (refl, refl, refl), r.is);
-    begun = r.begun;
-    window = r.window;
-    grounds = r.grounds;
-  }
-
   roomy : {p q : PassView} (f : Frames) {g : Frames} {answer : Result Handle Fault} → nat_lt (free_places last f) 1 ≡ false → Ran p q f g (publish Plain [] >>= added c last t) answer → Ran p q f g (making c last t) answer
-  roomy f room r = room_ran f room (record { acts = r.acts; did = r.did; is = inl (tt, f, [], r.acts, refl, (refl, refl, refl), r.is); begun = r.begun; window = r.window; grounds = r.grounds })
+  roomy f room r = room_ran c last t f room (record { acts = r.acts; did = r.did; is = inl (tt, f, [], r.acts, refl, (refl, refl, refl), r.is); begun = r.begun; window = r.window; grounds = r.grounds })
 
   full_ran : {p q : PassView} (f : Frames) → nat_lt (free_places last f) 1 ≡ false → role_of p ≡ Within → ObjectsWereFull p.seen q → Did p q [] → Ran p q f f (making c last t) (Err ObjectsFull)
   full_ran {p} {q} f room w full d =
@@ -66,10 +49,6 @@ module _ (c : Config) (last t : ℕ) where
       let x : Ran p q f f (publish Plain []) (Ok o) = record { acts = New o Plain [] ∷ []; did = d; is = inl (o, refl, refl, refl); begun = p.seen; window = window_act (New o Plain []) d tt tt; grounds = tt } in
       let y : Ran q r f g (added c last t o) (Ok h) = record { acts = LocalPut h.index o ∷ []; did = e; is = (h, refl, refl, a); begun = q.seen; window = window_act (LocalPut h.index o) e tt tt; grounds = tt } in
       roomy f room (ran_then {next = added c last t} o x y)
-
-module _ {S : Type 0} {facts : S → Facts} where
-  pub room_at : {a : S} {t : Table} (h : Handle) → StandsReady facts Within a t → IsNext t h → nat_lt (free_places (facts a).stands.last t.frames) 1 ≡ false
-  room_at {t = t} h r next = subst (λ n. nat_lt (free_places n t.frames) 1 ≡ false) r.last (free_room t.last t.frames h.index next.place next.free)
 
 -- a publication stores no local word
 publication_fresh : (b : Bool) (kind : Kind) (made : Option ℕ) → fresh_from b (publication kind made) ≡ b
@@ -121,3 +100,18 @@ module _ {S : Type 0} {facts : S → Facts} {a b : S} where
             (subst (λ z. LearnsNew Plain z k y.0) (sym there) (y.3 ∙ x.4), holds_put x.0 y.0 t.frames g h.index (Some o) d only (holds_did k x.0 t.frames (New o Plain [] ∷ []) x.3 (refl, tt) m)),
           );
     }
+
+module _ {S : Type 0} {facts : S → Facts} where
+  -- a call that makes no object is refused
+  refused_making : {a b : S} {f g : Frames} {call : Call Handle} {e : Fault} (silent : ℕ) → Calls facts a b f g call (Err e) → MakesPlain facts a b f g silent call (Err e)
+  refused_making silent p = record {
+    stands_is = p.stands_is;
+    ran = λ k s m. let x = p.ran k s m in (x.0, x.1, made_of (spend_more silent (spending x.2)) x.2.ran, x.3);
+  }
+
+  -- no place is free for a new object's reference
+  pub makes_nothing : {a : S} {t : Table} → AreOf facts → StandsReady facts Within a t → free_places t.last t.frames ≡ 0 → MakesPlain facts a a t.frames t.frames (facts a).stands.config.objects (making (facts a).stands.config (facts a).stands.last (facts a).stands.thread) (Err LocalsFull)
+  makes_nothing {a} {t} fits r none =
+      let s = (facts a).stands in
+      let none_here = subst (λ n. free_places n t.frames ≡ 0) r.last none in
+      refused_making s.config.objects (stays fits a t.frames (λ p l. none_ran s.config s.last s.thread _ none_here l))

@@ -18,9 +18,9 @@ use Rattle.jr_steps.specs.declared.known.Known.{Known}
 use Rattle.jr_steps.specs.Knowing.{AreOf, Facts, Standing, view, fresh_from, HasObject, Holds, MayKnow}
 use Rattle.jr_gate.specs.Performing.{Moment, moment, IsMade}
 use Rattle.jr_row.specs.Searching.{Searched, search_acts}
-use Rattle.jr_env.specs.Works.{Resolves, Calls}
+use Rattle.jr_frames.specs.OverSteps.{Resolves, Calls}
 use Rattle.jr_gate.proofs.SameRoom.{as_before, still_before}
-use Rattle.jr_env.proofs.FramesAgree.{holds_did}
+use Rattle.jr_frames.proofs.FramesAgree.{holds_did}
 use Rattle.jr_gate.proofs.Spending.{Spending, made_of, spending, spend_first, spend_acts}
 use Rattle.jr_gate.proofs.HandedOn.{handed_on}
 

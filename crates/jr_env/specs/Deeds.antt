@@ -13,7 +13,7 @@ use Rattle.jr_model.specs.Calls.{Call}
 use Rattle.jr_model.specs.Checks.{Word}
 use Rattle.jr_steps.specs.Holdings.{empty}
 use Rattle.jr_steps.specs.Knowing.{Facts, Leads, Holds}
-use Rattle.jr_env.specs.Reading.{IsReadAs}
+use Rattle.jr_frames.specs.Reading.{IsReadAs}
 use Rattle.jr_gate.specs.Performing.{IsAsBefore, Moment, moment, IsMade}
 
 -- from an old moment this answer and the new moment may come

@@ -1,7 +1,4 @@
-pub mod Reading
 pub mod Deeds
 pub mod Envs
-pub mod Ready
 pub mod Objects
 pub mod Works
-pub mod Dropping

@@ -1,20 +1,18 @@
 //! The calls for the references of one thread, over its steps and its local references.
-ghost use Rattle.std.specs.Prelude.{◌≡◌, ◌≢◌, IfOk, IfSome};
+ghost use Rattle.std.specs.Prelude.{◌≡◌, ◌≢◌};
 ghost use Rattle.jr_word.specs.declared.handle.RefKind.TheVariants.{Local};
-ghost use Rattle.jr_model.specs.declared.event.Role.TheVariants.{Within};
 ghost use Rattle.jr_gate.specs.Stays.{IsOwnStay};
 ghost use Rattle.jr_model.specs.Frames.{Frames as LocalFrames};
 ghost use Rattle.jr_model.specs.Checks.{Parts};
-ghost use Rattle.jr_model.specs.References.{new_local, removal, local_removal};
-ghost use Rattle.jr_steps.specs.Knowing.{MayKnow, HasOptional};
-ghost use Rattle.jr_env.specs.Works.{Calls, MakesLocal};
-ghost use Rattle.jr_env.specs.Ready.{StandsReady, KeepsOwner};
+ghost use Rattle.jr_model.specs.References.{removal};
+ghost use Rattle.jr_frames.specs.OverSteps.{Calls};
 
 use crate::object::publish;
-use crate::reference::{Reference, belongs_elsewhere, lies_outside, names_kind, names_local};
-use crate::resolve::{resolve, resolve_both, type_of};
 use crate::work::Work;
-use jr_frames::Frames;
+use jr_frames::{
+    Frames, Reference, delete_local, lies_outside, names_kind, new_local, resolve, resolve_both,
+    type_of,
+};
 use jr_gate::Inside;
 use jr_row::{create, delete};
 use jr_steps::Steps;
@@ -74,7 +72,7 @@ impl<S: Steps> Work<S> for Creation {
     ghost use Rattle.jr_word.specs.declared.handle.RefKind.TheVariants.{Local};
     ghost use Rattle.jr_steps.specs.Knowing.{keeps};
     ghost use Rattle.jr_model.specs.References.{creation};
-    ghost use Rattle.jr_env.specs.Reading.{word_of, OwnerFits};
+    ghost use Rattle.jr_frames.specs.Reading.{word_of, OwnerFits};
 
     type Answer = Option<HandleParts>;
 
@@ -111,7 +109,7 @@ impl<S: Steps> Work<S> for LocalCreation {
     ghost use Rattle.jr_word.specs.declared.handle.RefKind.TheVariants.{Local};
     ghost use Rattle.jr_steps.specs.Knowing.{keeps};
     ghost use Rattle.jr_model.specs.References.{local_creation};
-    ghost use Rattle.jr_env.specs.Reading.{word_of, OwnerFits};
+    ghost use Rattle.jr_frames.specs.Reading.{word_of, OwnerFits};
 
     type Answer = Option<HandleParts>;
 
@@ -132,7 +130,7 @@ impl<S: Steps> Work<S> for LocalCreation {
         frames: &mut Frames,
     ) -> Result<Option<HandleParts>, Fault> {
         let object = resolve(steps, inside, frames, self.0)?;
-        make_local(steps, frames, object)
+        new_local(steps, frames, object)
     }
 }
 
@@ -150,7 +148,7 @@ impl<S: Steps> Work<S> for Removal {
     ghost use Rattle.jr_word.specs.declared.handle.RefKind.TheVariants.{Local};
     ghost use Rattle.jr_steps.specs.Knowing.{keeps};
     ghost use Rattle.jr_model.specs.References.{removal};
-    ghost use Rattle.jr_env.specs.Reading.{word_of, OwnerFits};
+    ghost use Rattle.jr_frames.specs.Reading.{word_of, OwnerFits};
 
     type Answer = ();
 
@@ -180,7 +178,7 @@ pub struct LocalRemoval(pub Reference);
 impl<S: Steps> Work<S> for LocalRemoval {
     ghost use Rattle.jr_steps.specs.Knowing.{keeps};
     ghost use Rattle.jr_model.specs.References.{local_removal};
-    ghost use Rattle.jr_env.specs.Reading.{word_of};
+    ghost use Rattle.jr_frames.specs.Reading.{word_of};
 
     type Answer = ();
 
@@ -198,7 +196,7 @@ impl<S: Steps> Work<S> for LocalRemoval {
         match self.0 {
             Reference::Null => Ok(()),
             Reference::Malformed => Err(Fault::Stale),
-            Reference::Parts(handle) => delete_local_parts(steps, frames, handle),
+            Reference::Parts(handle) => delete_local(steps, frames, handle),
         }
     }
 }
@@ -210,7 +208,7 @@ pub struct Comparison(pub Reference, pub Reference);
 impl<S: Steps> Work<S> for Comparison {
     ghost use Rattle.jr_steps.specs.Knowing.{keeps};
     ghost use Rattle.jr_model.specs.References.{comparison};
-    ghost use Rattle.jr_env.specs.Reading.{word_of, OwnerFits};
+    ghost use Rattle.jr_frames.specs.Reading.{word_of, OwnerFits};
 
     type Answer = bool;
 
@@ -237,7 +235,7 @@ pub struct Typing(pub Reference);
 impl<S: Steps> Work<S> for Typing {
     ghost use Rattle.jr_steps.specs.Knowing.{keeps};
     ghost use Rattle.jr_model.specs.References.{typing};
-    ghost use Rattle.jr_env.specs.Reading.{word_of, OwnerFits};
+    ghost use Rattle.jr_frames.specs.Reading.{word_of, OwnerFits};
 
     type Answer = u8;
 
@@ -254,29 +252,6 @@ impl<S: Steps> Work<S> for Typing {
     fn work(&self, steps: &mut S, inside: &Inside, frames: &mut Frames) -> Result<u8, Fault> {
         Ok(type_of(steps, inside, frames, self.0))
     }
-}
-
-/// A local reference to a present object, none to none, within the gate: E9.
-pub(crate) fn make_local<S: Steps>(
-    steps: &mut S,
-    frames: &mut Frames,
-    object: Option<u16>,
-) -> Result<Option<HandleParts>, Fault>
-    requires ready { StandsReady S.facts Within steps.old frames.old }
-    requires object { MayKnow S.facts steps.old (HasOptional object) }
-    ensures call { MakesLocal S.facts steps.old steps.new frames.old.frames frames.new.frames object (new_local (S.facts steps.old).stands.config (S.facts steps.old).stands.last (S.facts steps.old).stands.thread object) result }
-    ensures same { KeepsOwner frames.old frames.new }
-    ensures owner { IfOk result (λ made. IfSome made (λ h. (h.kind ≡ Local) × (h.owner ≡ (S.facts steps.old).stands.thread))) }
-{
-    let Some(object) = object else {
-        return Ok(None);
-    };
-    let Some(handle) = frames.next() else {
-        return Err(Fault::LocalsFull);
-    };
-    steps.put_local(handle.index, Some(object));
-    frames.add(handle, object);
-    Ok(Some(handle))
 }
 
 /// Deletes the reference of a handle, if it is of the kind.
@@ -298,31 +273,4 @@ fn delete_parts<S: Steps>(
         return Err(Fault::Stale);
     }
     delete(steps, inside, handle)
-}
-
-/// Deletes the local reference of a handle.
-fn delete_local_parts<S: Steps>(
-    steps: &mut S,
-    frames: &mut Frames,
-    handle: HandleParts,
-) -> Result<(), Fault>
-    requires { StandsReady S.facts Within steps.old frames.old }
-    ensures call { Calls S.facts steps.old steps.new frames.old.frames frames.new.frames (local_removal (S.facts steps.old).stands.config (S.facts steps.old).stands.thread (Parts handle)) result }
-    ensures same { KeepsOwner frames.old frames.new }
-{
-    if !names_local(handle) {
-        return Err(Fault::WrongKind);
-    }
-    if lies_outside(steps.config(), handle) {
-        return Err(Fault::Stale);
-    }
-    if belongs_elsewhere(steps.thread(), handle) {
-        return Err(Fault::Foreign);
-    }
-    let Some(_) = frames.object_of(handle) else {
-        return Err(Fault::Stale);
-    };
-    steps.put_local(handle.index, None);
-    frames.delete(handle);
-    Ok(())
 }

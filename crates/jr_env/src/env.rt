@@ -1,11 +1,10 @@
 //! The calls of the Java Native Interface for the references of one thread, over any steps.
 ghost use Rattle.jr_model.specs.declared.event.Role.TheVariants.{Outside};
-ghost use Rattle.jr_env.specs.Ready.{StandsReady};
+ghost use Rattle.jr_frames.specs.Ready.{StandsReady};
 
 use crate::calls::{Comparison, Creation, LocalCreation, LocalRemoval, Making, Removal, Typing};
-use crate::reference::Reference;
 use crate::work::make;
-use jr_frames::Frames;
+use jr_frames::{Frames, Reference};
 use jr_steps::Steps;
 use jr_word::{Fault, Handle, RefKind};
 

@@ -1,8 +1,8 @@
 //! The calls of the Java Native Interface for the frames of one thread, over any steps.
 use crate::env::Env;
 use crate::frame_works::{FramePop, LocalsFreeing};
-use crate::reference::Reference;
 use crate::work::make;
+use jr_frames::Reference;
 use jr_model::FRAMES;
 use jr_steps::Steps;
 use jr_word::{Fault, Handle};

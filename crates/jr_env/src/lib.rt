@@ -7,9 +7,6 @@ mod frame_calls;
 mod frame_works;
 mod meeting;
 mod object;
-mod reference;
-mod resolve;
 mod work;
 
 pub use env::Env;
-pub use reference::Reference;

@@ -3,7 +3,8 @@
 ghost use Rattle.std.specs.Prelude.{IfOk};
 ghost use Rattle.jr_model.specs.declared.event.Role.TheVariants.{Outside};
 ghost use Rattle.jr_model.specs.Calls.{entered as entered_call};
-ghost use Rattle.jr_env.specs.Ready.{StandsReady, Completes};
+ghost use Rattle.jr_frames.specs.Ready.{StandsReady};
+ghost use Rattle.jr_env.specs.Works.{Completes};
 
 use jr_frames::Frames;
 use jr_gate::{Inside, enter};
@@ -22,7 +23,7 @@ pub trait Work<S: Steps> {
     ghost use Rattle.jr_steps.specs.Knowing.{Holds};
     ghost use Rattle.jr_gate.specs.Stays.{IsOwnStay};
     ghost use Rattle.jr_gate.specs.Performing.{Performed};
-    ghost use Rattle.jr_env.specs.Ready.{StandsReady, KeepsOwner};
+    ghost use Rattle.jr_frames.specs.Ready.{StandsReady, KeepsOwner};
 
     /// What it answers.
     type Answer;

@@ -22,3 +22,15 @@ pub mod LastFrame
 pub mod Freeing
 pub mod Giving
 pub mod PopRoom
+pub mod FramesAgree
+pub mod StillReady
+pub mod Reading
+pub mod Resolution
+pub mod ResolutionOfBoth
+pub mod RoomFor
+pub mod NewLocal
+pub mod DeletingLocal
+pub mod Dropping
+pub mod DroppingFrame
+pub mod DroppingAll
+pub mod PopResult

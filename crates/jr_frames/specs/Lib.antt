@@ -5,3 +5,7 @@ pub mod Shown
 pub mod Popping
 pub mod Freeing
 pub mod Giving
+pub mod Reading
+pub mod OverSteps
+pub mod Ready
+pub mod Dropping

@@ -12,7 +12,8 @@ use crate::env_call::{
 use crate::names::Names;
 use crate::reply::{IntoReply, Reply};
 use crate::retry::retry;
-use jr_env::{Env, Reference};
+use jr_env::Env;
+use jr_frames::Reference;
 use jr_steps::Steps;
 use jr_syntax::{Command, Make, MakeFrom, On, OnBoth};
 use jr_word::{Fault, Handle, RefKind};

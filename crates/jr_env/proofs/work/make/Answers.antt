@@ -1,4 +1,5 @@
-use Rattle.jr_env.proofs.InsideGate.{ready_entered, completes_barred, completes, completes_more}
+use Rattle.jr_frames.proofs.StillReady.{ready_entered}
+use Rattle.jr_env.proofs.InsideGate.{completes_barred, completes, completes_more}
 use Rattle.jr_env.proofs.work.make.Goals as goal
 
 pub returns-in_err-inside-clause-call : goal.returns-in_err-inside-clause-call

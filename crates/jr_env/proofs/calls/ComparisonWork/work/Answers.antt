@@ -1,4 +1,4 @@
-use Rattle.jr_env.proofs.ResolvingBoth.{compares_refused, compares}
+use Rattle.jr_frames.proofs.ResolutionOfBoth.{compares_refused, compares}
 use Rattle.jr_env.proofs.calls.ComparisonWork.work.Goals as goal
 
 pub returns-in_err-first-clause-call : goal.returns-in_err-first-clause-call

@@ -1,5 +1,5 @@
 use Rattle.jr_env.proofs.NewPlain.{may_put, published_number, makes_full, makes}
-use Rattle.jr_env.proofs.NewLocal.{makes_nothing}
+use Rattle.jr_env.proofs.NewPlain.{makes_nothing}
 use Rattle.jr_env.proofs.calls.MakingWork.work.Goals as goal
 
 pub returns-in_default-clause-call : goal.returns-in_default-clause-call

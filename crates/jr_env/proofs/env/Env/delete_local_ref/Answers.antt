@@ -1,5 +1,5 @@
 use Rattle.jr_model.specs.References as references
-use Rattle.jr_env.specs.Reading.{word_of}
+use Rattle.jr_frames.specs.Reading.{word_of}
 use Rattle.jr_env.proofs.EnvCalls.{does_call_on}
 use Rattle.jr_env.proofs.env.Env.delete_local_ref.Goals as goal
 

@@ -1,5 +1,5 @@
 use Rattle.jr_model.specs.References as references
-use Rattle.jr_env.specs.Reading.{word_of}
+use Rattle.jr_frames.specs.Reading.{word_of}
 use Rattle.jr_env.proofs.EnvCalls.{does_call_on_both}
 use Rattle.jr_env.proofs.env.Env.is_same_object.Goals as goal
 

@@ -1,6 +1,6 @@
 use Rattle.std.proofs.Common.{◌≡◌, rules}
 use Rattle.jr_model.specs.Frames.{fresh_frames}
-use Rattle.jr_env.proofs.InsideGate.{ready_new}
+use Rattle.jr_frames.proofs.StillReady.{ready_new}
 use Rattle.jr_env.proofs.env.Env.new.Goals as goal
 
 pub invariant_of-result : goal.invariant_of-result

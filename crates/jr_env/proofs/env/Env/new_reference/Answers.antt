@@ -1,5 +1,5 @@
 use Rattle.jr_model.specs.References as references
-use Rattle.jr_env.specs.Reading.{word_of}
+use Rattle.jr_frames.specs.Reading.{word_of}
 use Rattle.jr_env.specs.Deeds.{packed_if}
 use Rattle.jr_env.proofs.EnvCalls.{does_call_on, does_answer, does_refuse, packed_if_is}
 use Rattle.jr_env.proofs.env.Env.new_reference.Goals as goal

@@ -1,5 +1,5 @@
 use Rattle.jr_rule.specs.declared.room_steps.RoomSteps.{RoomSteps}
-use Rattle.jr_env.proofs.InsideGate.{ready_met}
+use Rattle.jr_frames.proofs.StillReady.{ready_met}
 use Rattle.jr_env.proofs.Meetings.{step_over}
 use Rattle.jr_env.proofs.meeting.Env+RoomSteps+LAST.meet.Goals as goal
 

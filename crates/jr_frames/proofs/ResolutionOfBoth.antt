@@ -1,0 +1,100 @@
+-- Two references are resolved, each check of the first and then of the second, and compared.
+use Rattle.std.proofs.Common.{◌≡◌, ℕ, true, false, ◌||◌, Bool, Option, Some, None, Result, Ok, Err, nat_eq, refl, sym, subst, ◌∙◌}
+use Rattle.std.specs.Option.{option_eq}
+use Rattle.std.specs.Result.{IsErrAnd}
+use Rattle.jr_word.specs.declared.config.Config.{Config}
+use Rattle.jr_word.specs.declared.fault.Fault.{Fault}
+use Rattle.jr_word.specs.declared.fault.Fault.TheVariants as fault
+use Rattle.jr_model.specs.History.{PassView}
+use Rattle.jr_model.specs.Frames.{Frames}
+use Rattle.jr_model.specs.Calls.{Call, Ran, done, ◌>>=◌}
+use Rattle.jr_model.specs.Checks.{Word, is_malformed, is_out_of_bounds, is_foreign, same_object}
+use Rattle.jr_model.specs.Parts.{looked}
+use Rattle.jr_model.specs.References.{resolved_both}
+use Rattle.jr_model.proofs.Runs.{ran_then, ran_err, ran_give}
+use Rattle.jr_steps.specs.Knowing.{AreOf, Facts}
+use Rattle.jr_frames.specs.OverSteps.{Resolves, Calls}
+use Rattle.jr_gate.proofs.SameRoom.{still_before}
+use Rattle.jr_frames.proofs.Reading.{neither, ran_either, ran_neither}
+use Rattle.jr_frames.proofs.Resolution.{stays}
+use Rattle.jr_gate.proofs.Spending.{made_of, spending, spend_first}
+use Rattle.jr_gate.proofs.HandedOn.{handed_on}
+
+-- what follows the tests: both are looked at
+abbrev pub looked_both : Word → Word → Call (Option ℕ × Option ℕ)
+looked_both v w = looked v >>= (λ x. looked w >>= (λ y. done (x, y)))
+
+module _ (c : Config) (last t : ℕ) (v w : Word) where
+  -- the tests are passed by both
+  pub record Passes : Type 0 where
+    pub formed : (is_malformed v || is_malformed w) ≡ false
+    pub inside : (is_out_of_bounds c v || is_out_of_bounds c w) ≡ false
+    pub own : (is_foreign t v || is_foreign t w) ≡ false
+
+  pub passes : is_malformed v ≡ false → is_malformed w ≡ false → is_out_of_bounds c v ≡ false → is_out_of_bounds c w ≡ false → is_foreign t v ≡ false → is_foreign t w ≡ false → Passes
+  passes a b d e f g = record {
+    formed = neither (is_malformed v) (is_malformed w) a b;
+    inside = neither (is_out_of_bounds c v) (is_out_of_bounds c w) d e;
+    own = neither (is_foreign t v) (is_foreign t w) f g;
+  }
+
+  passed_ran : {p q : PassView} {f g : Frames} {answer : Result (Option ℕ × Option ℕ) Fault} → Passes → Ran p q f g (looked_both v w) answer → Ran p q f g (resolved_both c last t v w) answer
+  passed_ran passes r =
+      ran_neither (is_malformed v) (is_malformed w) fault.Stale _ passes.formed
+      (ran_neither (is_out_of_bounds c v) (is_out_of_bounds c w) fault.Stale _ passes.inside
+      (ran_neither (is_foreign t v) (is_foreign t w) fault.Foreign _ passes.own r))
+
+  module _ {S : Type 0} {facts : S → Facts} where
+    module _ (fits : AreOf facts) (a : S) (f : Frames) where
+      pub both_malformed : (is_malformed v || is_malformed w) ≡ true → Calls facts a a f f (resolved_both c last t v w) (Err fault.Stale)
+      both_malformed e = stays fits a f (λ p l. ran_either p f (is_malformed v) (is_malformed w) fault.Stale _ e tt l)
+
+      pub both_outside : (is_malformed v || is_malformed w) ≡ false → (is_out_of_bounds c v || is_out_of_bounds c w) ≡ true → Calls facts a a f f (resolved_both c last t v w) (Err fault.Stale)
+      both_outside e e' = stays fits a f (λ p l. ran_neither (is_malformed v) (is_malformed w) fault.Stale _ e (ran_either p f (is_out_of_bounds c v) (is_out_of_bounds c w) fault.Stale _ e' tt l))
+
+      pub both_foreign : (is_malformed v || is_malformed w) ≡ false → (is_out_of_bounds c v || is_out_of_bounds c w) ≡ false → (is_foreign t v || is_foreign t w) ≡ true → Calls facts a a f f (resolved_both c last t v w) (Err fault.Foreign)
+      both_foreign e e' e'' = stays fits a f (λ p l.
+          ran_neither (is_malformed v) (is_malformed w) fault.Stale _ e
+          (ran_neither (is_out_of_bounds c v) (is_out_of_bounds c w) fault.Stale _ e' (ran_either p f (is_foreign t v) (is_foreign t w) fault.Foreign _ e'' tt l)))
+
+    module _ {a b : S} {f : Frames} (passes : Passes) where
+      -- the first is refused
+      pub both_err_left : {e : Fault} (answer : Result (Option ℕ × Option ℕ) Fault) → IsErrAnd answer (λ y. y ≡ e) → Resolves facts a b f (looked v) (Err e) → Calls facts a b f f (resolved_both c last t v w) answer
+      both_err_left {e} answer given p = handed_on answer given (record {
+        stands_is = p.stands_is;
+        ran = λ k s m. let x = p.ran k s m in (x.0, x.1, made_of (spending x.2) (passed_ran passes (ran_err _ e x.2.ran)), (x.3.0, x.3.1));
+      })
+
+      -- the second is refused
+      pub both_err_right : {d : S} {x : Option ℕ} {e : Fault} (answer : Result (Option ℕ × Option ℕ) Fault) → IsErrAnd answer (λ y. y ≡ e) → Resolves facts a b f (looked v) (Ok x) → Resolves facts b d f (looked w) (Err e) → Calls facts a d f f (resolved_both c last t v w) answer
+      both_err_right {x = x} {e = e} answer given p q = handed_on answer given (record {
+        stands_is = still_before p.stands_is q.stands_is;
+        ran = λ k s m. let y = p.ran k s m in let z = q.ran y.0 y.1 y.3.1 in
+            (z.0, z.1, made_of (spend_first (spending y.2) (spending z.2)) (passed_ran passes (ran_then x y.2.ran (ran_err _ e z.2.ran))), (z.3.0 ∙ y.3.0, z.3.1));
+      })
+
+      pub both_looked : {d : S} {x y : Option ℕ} → Resolves facts a b f (looked v) (Ok x) → Resolves facts b d f (looked w) (Ok y) → Calls facts a d f f (resolved_both c last t v w) (Ok (x, y))
+      both_looked {x = x} {y = y} p q = record {
+        stands_is = still_before p.stands_is q.stands_is;
+        ran = λ k s m. let u = p.ran k s m in let z = q.ran u.0 u.1 u.3.1 in
+            (z.0, z.1, made_of (spend_first (spending u.2) (spending z.2)) (passed_ran passes (ran_then x u.2.ran (ran_give (λ n. (x, n)) y z.2.ran))), (z.3.0 ∙ u.3.0, z.3.1));
+      }
+
+same_is : (x y : Option ℕ) → option_eq nat_eq x y ≡ same_object x y
+same_is None None = refl
+same_is None (Some y) = refl
+same_is (Some x) None = refl
+same_is (Some x) (Some y) = refl
+
+module _ {S : Type 0} {facts : S → Facts} {a b : S} {f : Frames} {both : Call (Option ℕ × Option ℕ)} where
+  pub compares_refused : {e : Fault} (answer : Result Bool Fault) → IsErrAnd answer (λ y. y ≡ e) → Calls facts a b f f both (Err e) → Calls facts a b f f (both >>= (λ z. done (same_object z.0 z.1))) answer
+  compares_refused {e} answer given p = handed_on answer given (record {
+    stands_is = p.stands_is;
+    ran = λ k s m. let x = p.ran k s m in (x.0, x.1, made_of (spending x.2) (ran_err _ e x.2.ran), x.3);
+  })
+
+  pub compares : {x y : Option ℕ} {same : Bool} → same ≡ option_eq nat_eq x y → Calls facts a b f f both (Ok (x, y)) → Calls facts a b f f (both >>= (λ z. done (same_object z.0 z.1))) (Ok same)
+  compares {x} {y} is p = subst (λ r. Calls facts a b f f (both >>= (λ z. done (same_object z.0 z.1))) (Ok r)) (sym (is ∙ same_is x y)) (record {
+    stands_is = p.stands_is;
+    ran = λ k s m. let u = p.ran k s m in (u.0, u.1, made_of (spending u.2) (ran_give (λ z. same_object z.0 z.1) (x, y) u.2.ran), u.3);
+  })

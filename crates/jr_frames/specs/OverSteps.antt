@@ -1,0 +1,27 @@
+-- What was done over any steps and frames within a stay, for whatever was known.
+use Rattle.std.specs.Prelude.{ℕ, Result, Ok, Option, Some}
+use Rattle.jr_word.specs.declared.fault.Fault.{Fault}
+use Rattle.jr_model.specs.State.{Handle}
+use Rattle.jr_model.specs.Frames.{Frames}
+use Rattle.jr_model.specs.Calls.{Call}
+use Rattle.jr_steps.specs.declared.known.Known.{Known}
+use Rattle.jr_steps.specs.Knowing.{Facts, keeps, HasObject, HasOptional, Holds}
+use Rattle.jr_gate.specs.Performing.{Performed}
+
+-- the object that was found is present
+abbrev pub FoundPresent : Result (Option ℕ) Fault → Known → Type 0
+FoundPresent (Ok (Some o)) k = HasObject o k
+FoundPresent _ k = Unit {0}
+
+module _ {S : Type 0} (facts : S → Facts) where
+  -- a reference was resolved: the object that was found is present
+  abbrev pub Resolves : S → S → Frames → Call (Option ℕ) → Result (Option ℕ) Fault → Type 0
+  Resolves old new f call answer = Performed facts old new f f 0 (Holds f) (λ s. call) answer (λ j k. keeps j k × Holds f k × FoundPresent answer k)
+
+  -- a call was made in a stay: the pass holds what it held, and the frames go on agreeing with the locals
+  abbrev pub Calls : {A : Type 0} → S → S → Frames → Frames → Call A → Result A Fault → Type 0
+  Calls old new f g call answer = Performed facts old new f g 0 (Holds f) (λ s. call) answer (λ j k. keeps j k × Holds g k)
+
+  -- a local reference was made to a present object, or none to none, and the frames go on agreeing with the locals
+  abbrev pub MakesLocal : S → S → Frames → Frames → Option ℕ → Call (Option Handle) → Result (Option Handle) Fault → Type 0
+  MakesLocal old new f g o call answer = Performed facts old new f g 0 (λ k. Holds f k × HasOptional o k) (λ s. call) answer (λ j k. keeps j k × Holds g k)
