@@ -7,6 +7,8 @@ ghost use Rattle.jr_word.specs.declared.fault.Fault.TheVariants.{Memory};
 ghost use Rattle.jr_scripts.specs.AllRuns.{IsRunOfAll, RunsAll};
 ghost use Rattle.jr_scripts.specs.Jobs.{AreJobsOf, AreTold};
 
+use crate::board::Posts;
+use crate::hold::Hold;
 use crate::part::{Job, ThreadRun};
 use crate::printed::{ending, heading};
 use crate::starting::run_threads;
@@ -115,10 +117,11 @@ fn told(
 }
 
 /// Runs the threads of a script, and gives what is printed.
-fn text_of_all<R: Threads + Wait>(
+fn text_of_all<R: Threads + Wait, H: Hold + Sync>(
     rt: &R,
     alloc: Global,
     script: &Script,
+    hold: &H,
     turns: u64,
 ) -> Result<Vec<u8>, Fault>
     ensures { IfOk result (λ text. IsRunOfAll turns 4294967295 script.now text.items) }
@@ -129,7 +132,8 @@ fn text_of_all<R: Threads + Wait>(
     }
     let (room, passes) = Room::<LAST>::open(alloc, script.config)?;
     let jobs = jobs_of(alloc, parts, passes, turns)?;
-    let runs = run_threads(rt, alloc, &room, jobs)?;
+    let board = Posts::new(alloc);
+    let runs = run_threads(rt, alloc, &room, &board, hold, jobs)?;
     let (mut passes, mut text) = told(alloc, parts, runs)?;
     if passes.is_empty() {
         return Err(Fault::Size);
@@ -141,22 +145,23 @@ fn text_of_all<R: Threads + Wait>(
     Ok(text)
 }
 
-/// Runs the threads of a script side by side, and appends what they print.
+/// Runs the threads of a script side by side, and appends what they print. The hold is called around each command.
 ///
 /// # Errors
 ///
 /// E16 where memory was refused or a thread could not be started, E17 where the script has not one part a thread, or sizes outside the limits, and E22 where a thread is left inside: the output is as it was.
-pub fn run_all<R: Threads + Wait>(
+pub fn run_all<R: Threads + Wait, H: Hold + Sync>(
     rt: &R,
     alloc: Global,
     script: &Script,
+    hold: &H,
     turns: u64,
     out: &mut Vec<u8>,
 ) -> Result<(), Fault>
     ensures ok { OnOk result (RunsAll turns 4294967295 script.now out.old.items out.new.items) }
     ensures err { OnErr result (out.new.items ≡ out.old.items) }
 {
-    let text = text_of_all(rt, alloc, script, turns)?;
+    let text = text_of_all(rt, alloc, script, hold, turns)?;
     out.extend_from_slice(&text).map_err(out_of_memory)?;
     Ok(())
 }

@@ -2,7 +2,9 @@
 #![tactic(auto)]
 
 mod all;
+mod board;
 mod env_call;
+mod hold;
 mod names;
 mod opening;
 mod part;
@@ -17,6 +19,8 @@ mod starting;
 mod tests;
 
 pub use all::run_all;
+pub use board::{Board, Posts};
+pub use hold::{Hold, NoHold};
 pub use jr_syntax::{Reason, Script, ScriptFault, parse, print};
 pub use run::run_thread;
 pub use single::run_one;

@@ -3,6 +3,8 @@
 ghost use Rattle.jr_scripts.specs.AllRuns.{RanPass};
 ghost use Rattle.jr_scripts.specs.Jobs.{IsForPart};
 
+use crate::board::Posts;
+use crate::hold::Hold;
 use crate::opening::opened_env;
 use crate::run::run_thread;
 use jr_rule::{Pass, Room, RoomSteps};
@@ -28,9 +30,11 @@ pub(crate) struct ThreadRun {
 }
 
 /// Does a job.
-pub(crate) fn run_job<const LAST: u32>(
+pub(crate) fn run_job<H: Hold, const LAST: u32>(
     alloc: Global,
     room: &Room<LAST>,
+    board: &Posts,
+    hold: &H,
     first: usize,
     turns: u64,
     part: &ThreadPart,
@@ -42,7 +46,9 @@ pub(crate) fn run_job<const LAST: u32>(
     let mut text = Vec::new(alloc);
     let mut env = opened_env(RoomSteps::new(room, pass));
     let commands = part.commands.as_slice();
-    let answer = run_thread(alloc, &mut env, first, commands, turns, &mut text);
+    let answer = run_thread(
+        alloc, &mut env, first, commands, board, hold, turns, &mut text,
+    );
     let steps = env.into_pass();
     ThreadRun {
         pass: steps.into_pass(),

@@ -6,7 +6,7 @@ use Rattle.jr_scripts.proofs.AllTogether.{all_for, first_at, others_at, together
 use Rattle.jr_scripts.proofs.all.text_of_all.Goals as goal
 
 pub run_threads-requires : goal.run_threads-requires
-run_threads-requires g c = (search rules, all_for _ _ _ _ _ _ _ _ c.in_ok-room.ensures.opened c.in_ok-jobs.ensures)
+run_threads-requires g c = (search rules, (search rules, all_for _ _ _ _ _ _ _ _ c.in_ok-room.ensures.opened c.in_ok-jobs.ensures))
 
 pub closed-requires : goal.closed-requires
 closed-requires g c =
