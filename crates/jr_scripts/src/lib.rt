@@ -15,6 +15,7 @@ mod single;
 mod starting;
 #[cfg(test)]
 mod tests;
+mod to_end;
 
 pub use all::run_all;
 pub use jr_syntax::{Reason, Script, ScriptFault, parse, print};

@@ -4,7 +4,7 @@ ghost use Rattle.jr_scripts.specs.AllRuns.{RanPass};
 ghost use Rattle.jr_scripts.specs.Jobs.{IsForPart};
 
 use crate::opening::opened_env;
-use crate::run::run_thread;
+use crate::to_end::run_to_end;
 use jr_rule::{Pass, Room, RoomSteps};
 use jr_syntax::ThreadPart;
 use jr_word::Fault;
@@ -27,7 +27,7 @@ pub(crate) struct ThreadRun {
     pub(crate) answer: Result<(), Fault>,
 }
 
-/// Does a job.
+/// Does a job, and frees the thread's local references at its end.
 pub(crate) fn run_job<const LAST: u32>(
     alloc: Global,
     room: &Room<LAST>,
@@ -42,7 +42,7 @@ pub(crate) fn run_job<const LAST: u32>(
     let mut text = Vec::new(alloc);
     let mut env = opened_env(RoomSteps::new(room, pass));
     let commands = part.commands.as_slice();
-    let answer = run_thread(alloc, &mut env, first, commands, turns, &mut text);
+    let answer = run_to_end(alloc, &mut env, first, commands, turns, &mut text);
     let steps = env.into_pass();
     ThreadRun {
         pass: steps.into_pass(),

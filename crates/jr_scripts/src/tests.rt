@@ -5,6 +5,7 @@
 
 mod frames;
 mod references;
+mod thread_ends;
 
 use crate::all::run_all;
 use crate::opening::opened_env;
