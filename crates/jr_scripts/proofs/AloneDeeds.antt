@@ -96,12 +96,12 @@ module _ (turns : ℕ) where
   answered_alone form p = bind_alone p (λ x. done_alone (form x))
 
 -- no call of a lone thread is made again
-once_alone : {A : Type 0} (p : PassView) (f : Frames) (r : Result A Fault) → is_tried_again r ≡ true → IfErr r (IsAloneFault 0 p f) → ⊥
+pub once_alone : {A : Type 0} (p : PassView) (f : Frames) (r : Result A Fault) → is_tried_again r ≡ true → IfErr r (IsAloneFault 0 p f) → ⊥
 once_alone p f (Err (Raced looked found)) m h = h
 once_alone p f (Err Barred) m h = h
 once_alone p f _ m h = cc
 
-tries_alone : {A : Type 0} {one : Deed A} → ((turns : ℕ) → LeadsAlone turns one) → (n : ℕ) (old new : Moment) (answer : Result A Fault) → IsAlone new.pass → Tried one n old answer new → LedAlone n old.pass new.pass new.frames answer
+pub tries_alone : {A : Type 0} {one : Deed A} → ((turns : ℕ) → LeadsAlone turns one) → (n : ℕ) (old new : Moment) (answer : Result A Fault) → IsAlone new.pass → Tried one n old answer new → LedAlone n old.pass new.pass new.frames answer
 tries_alone p (suc n) old new answer alone (answered d final) = (p (suc n)).led old new answer alone d
 tries_alone p (suc n) old new answer alone (again {mid = mid} {once = once} d more rest) =
     let y = tries_alone p n mid new answer alone rest in

@@ -7,6 +7,8 @@ pub mod Uncontended
 pub mod AloneCalls
 pub mod AloneDeeds
 pub mod AloneAnswers
+pub mod FreedAlone
+pub mod ToEnd
 pub mod WholeRun
 pub mod JobHandles
 pub mod OneOfAll

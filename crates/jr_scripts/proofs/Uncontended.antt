@@ -13,11 +13,12 @@ use Rattle.jr_model.specs.declared.event.Act.TheVariants.{ReserveLost, Create, L
 use Rattle.jr_model.specs.declared.event.Found.{Found}
 use Rattle.jr_model.specs.declared.event.Found.TheVariants as found
 use Rattle.jr_model.specs.State.{Handle}
-use Rattle.jr_model.specs.Frames.{Frames, free_places, object_of}
+use Rattle.jr_model.specs.declared.frames.LocalRef.{LocalRef}
+use Rattle.jr_model.specs.Frames.{Frames, all_refs, drop_all, free_places, object_of}
 use Rattle.jr_model.specs.Calls.{Call, ◌>>=◌, done, refuse, refuse_if, act, some_act, one_of}
 use Rattle.jr_model.specs.Checks.{Word, Nothing, Malformed, Parts, is_local, type_local, is_out_of_bounds, is_of_kind, is_foreign}
 use Rattle.jr_model.specs.Parts.{created, create, created_with, delete_at, delete_found, delete_local_at, drop_local, found_object, local_object, look, looked, looked_at, probes, publish, type_at}
-use Rattle.jr_model.specs.References.{added, comparison, creation, local_creation, local_removal, making, new_local, removal, resolved, resolved_both, room_for, typing}
+use Rattle.jr_model.specs.References.{added, comparison, creation, freeing, local_creation, local_removal, making, new_local, removal, resolved, resolved_both, room_for, typing}
 use Rattle.jr_model.proofs.Exactly.{append_all}
 
 -- an act that no other thread causes: no reservation that was lost
@@ -56,6 +57,10 @@ same_fault_of {A} last f e e' is uncontended = subst (IsUncontendedFault last f)
 all_probes : (looks : List (ℕ × Bool)) → AreUncontended (map (λ l. Probe l.0 l.1) looks)
 all_probes [] = tt
 all_probes (l ∷ looks) = (refl, all_probes looks)
+
+all_dropped : (rs : List LocalRef) → AreUncontended (drop_all rs)
+all_dropped [] = tt
+all_dropped (r ∷ rs) = (refl, all_dropped rs)
 
 passed : (b : Bool) (e : Fault) (old mid : Frames) (acts : List Act) (x : Unit {0}) → refuse_if b e old acts (Ok x) mid → b ≡ false
 passed true e old mid acts x r = let bad = r.1 in cc
@@ -234,6 +239,9 @@ module _ (c : Config) (last thread : ℕ) (one : c.threads ≡ 1) (first : threa
   new_local_uncontended : (o : Option ℕ) → IsUncontended last (new_local c last thread o)
   new_local_uncontended None = done_uncontended None
   new_local_uncontended (Some o) = bind_uncontended room_uncontended (λ x. bind_uncontended (added_uncontended o) (λ h. done_uncontended (Some h)))
+
+  pub freeing_uncontended : IsUncontended last freeing
+  freeing_uncontended = record { acts = λ old new acts answer r. subst AreUncontended (sym r.0) (all_dropped (all_refs old)); fault = λ old new acts e r. let bad = r.1 in cc }
 
   publish_uncontended : IsUncontended last (publish Plain [])
   publish_uncontended = one_of_uncontended (some_act_uncontended (λ o. New o Plain []) (λ o. refl)) (refuse_uncontended ObjectsFull (λ f. tt))

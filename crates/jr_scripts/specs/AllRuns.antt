@@ -19,15 +19,15 @@ use Rattle.jr_steps.specs.Holdings.{empty}
 use Rattle.jr_steps.specs.Knowing.{Spent}
 use Rattle.jr_scripts.specs.Text.{heading, ending}
 use Rattle.jr_scripts.specs.Explains.{Explained}
-use Rattle.jr_scripts.specs.Runs.{RanThread, RunsSingle}
+use Rattle.jr_scripts.specs.Runs.{RanToEnd, IsFreed, RunsSingle}
 
--- a thread ran these commands with its pass, which was spent first, and which it hands back, not fresh
+-- a thread ran these commands with its pass, which was spent first, freed its local references, and handed the pass back, not fresh
 pub record RanPass (turns first : ℕ) (commands : List Command) (old new : Pass) (answer : Result (Unit {0}) Fault) (text : List ℕ) : Type 0 where
   pub spent : Pass
   pub spends : Spent facts_of old spent
   pub used_up : new.fresh ≡ false
   pub frames : Frames
-  pub ran : RanThread facts_of spent new (fresh_frames (standing_of old).config.locals) frames turns first commands answer text
+  pub ran : RanToEnd facts_of spent new (fresh_frames (standing_of old).config.locals) frames turns first commands answer text
 
 -- a pass of the thread that has seen this
 abbrev pub seeing_as : Config → ℕ → ℕ → History → PassView
@@ -42,12 +42,14 @@ abbrev pub closing_acts : ℕ → List Act
 closing_acts zero = Meet ∷ []
 closing_acts (suc t) = []
 
--- A THREAD'S PART in the one history: a beginning of it explains the thread's lines, and it has no more of the thread's events
+-- A THREAD'S PART in the one history: up to a moment it explains the thread's lines, up to a later one the thread's local references were freed, and from there on it has no more of the thread's events
 pub record IsPartOf (turns last : ℕ) (c : Config) (whole : History) (t first : ℕ) (part : ThreadPart) (lines : List ℕ) : Type 0 where
+  pub told : Moment
+  pub explained : Explained turns first (opening_of c last t) part.commands lines told
+  pub left : Moment
+  pub freed : IsFreed turns told left
   pub seen : History
-  pub closing : Moment
-  pub saw : closing.pass ≡ seeing_as c last t seen
-  pub explained : Explained turns first (opening_of c last t) part.commands lines closing
+  pub saw : left.pass ≡ seeing_as c last t seen
   pub begins : IsPrefix seen whole
   pub own : mine whole t ≡ mine seen t ++ closing_acts t
 
@@ -62,7 +64,7 @@ abbrev pub text_of_parts : List ThreadPart → List (List ℕ) → List ℕ
 text_of_parts (p ∷ ps) (lines ∷ rest) = heading p.name ++ lines ++ text_of_parts ps rest
 text_of_parts _ _ = []
 
--- A RUN OF ALL: there is one legal history, with the events of the threads' calls and no others, but for the look at the end, that explains each thread's part of the text, and the last lines tell of its last state
+-- A RUN OF ALL: there is one legal history, with the events of the threads' calls and of their ends and no others, but for the look as the room closes, that explains each thread's part of the text, and the last lines tell of its last state
 pub record IsRunOfAll (turns last : ℕ) (s : Script) (text : List ℕ) : Type 0 where
   pub whole : History
   pub legal : IsLegal s.config last whole

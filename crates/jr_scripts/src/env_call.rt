@@ -170,3 +170,19 @@ impl<S: Steps> EnvCall<S> for GetObjectRefType {
         env.get_object_ref_type(self.0)
     }
 }
+
+/// All local references of the thread are freed, and one frame is left.
+#[derive(Clone, Copy)]
+pub struct FreeLocals;
+
+impl<S: Steps> EnvCall<S> for FreeLocals {
+    ghost use Rattle.jr_env.specs.Deeds.{free_locals};
+
+    type Answer = ();
+
+    ghost deed = { λ _. free_locals };
+
+    fn make(&self, env: &mut Env<S>) -> Result<(), Fault> {
+        env.free_locals()
+    }
+}

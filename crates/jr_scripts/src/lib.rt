@@ -17,6 +17,7 @@ mod single;
 mod starting;
 #[cfg(test)]
 mod tests;
+mod to_end;
 
 pub use all::run_all;
 pub use board::{Board, Posts};

@@ -6,7 +6,7 @@ ghost use Rattle.jr_scripts.specs.Jobs.{IsForPart};
 use crate::board::Posts;
 use crate::hold::Hold;
 use crate::opening::opened_env;
-use crate::run::run_thread;
+use crate::to_end::run_to_end;
 use jr_rule::{Pass, Room, RoomSteps};
 use jr_syntax::ThreadPart;
 use jr_word::Fault;
@@ -29,7 +29,7 @@ pub(crate) struct ThreadRun {
     pub(crate) answer: Result<(), Fault>,
 }
 
-/// Does a job.
+/// Does a job, and frees the thread's local references at its end.
 pub(crate) fn run_job<H: Hold, const LAST: u32>(
     alloc: Global,
     room: &Room<LAST>,
@@ -46,7 +46,7 @@ pub(crate) fn run_job<H: Hold, const LAST: u32>(
     let mut text = Vec::new(alloc);
     let mut env = opened_env(RoomSteps::new(room, pass));
     let commands = part.commands.as_slice();
-    let answer = run_thread(
+    let answer = run_to_end(
         alloc, &mut env, first, commands, board, hold, turns, &mut text,
     );
     let steps = env.into_pass();

@@ -9,7 +9,7 @@ use crate::board::Posts;
 use crate::hold::NoHold;
 use crate::opening::opened_env;
 use crate::printed::{ending, heading};
-use crate::run::run_thread;
+use crate::to_end::run_to_end;
 use jr_rule::PlainSteps;
 use jr_syntax::{Script, ThreadPart};
 use jr_word::{Config, Fault};
@@ -40,7 +40,7 @@ fn run_part(alloc: Global, config: Config, part: &ThreadPart, turns: u64) -> Res
     let mut env = opened_env(steps);
     let commands = part.commands.as_slice();
     let board = Posts::new(alloc);
-    run_thread(
+    run_to_end(
         alloc,
         &mut env,
         FIRST_COMMAND,
