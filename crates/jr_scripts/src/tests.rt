@@ -4,8 +4,6 @@
 //! one that is wanted fails an assertion: so each growth may be refused in turn, and the assertions stand.
 
 mod board;
-mod frames;
-mod references;
 mod thread_ends;
 
 use crate::all::run_all;
@@ -14,12 +12,11 @@ use crate::hold::NoHold;
 use crate::opening::opened_env;
 use crate::run::run_thread;
 use crate::single::run_one;
-use jr_model::Summary;
 use jr_rule::PlainSteps;
 use jr_syntax::{
     Command, Make, MakeFrom, Name, On, Reference, Script, Sequence, ThreadPart, is_name, parse,
 };
-use jr_word::{Config, Fault, Handle};
+use jr_word::{Config, Fault};
 use std::alloc::{AllocError, Global};
 use std::process::Abort;
 use std::sync::Wait;
@@ -278,43 +275,6 @@ fn a_thread_without_turns(rt: HostRuntime) -> Result<(), Fail> {
         out.as_slice(),
         b"before\n10 ! E20\ntype p 0\ntype p 1\n".as_slice()
     );
-    Ok(())
-}
-
-#[test]
-fn retires_a_slot_after_its_last_serial(rt: HostRuntime) -> Result<(), Fail> {
-    let mut env = opened_env(PlainSteps::<2>::new(rt.alloc(), Config::LEAST)?);
-    let local = env.new_plain()?;
-    for word in [2, 6, 10] {
-        let global = env.new_global_ref(local)?.ok_or("an object")?;
-        assert_eq!(rt; global.0, word);
-        env.delete_global_ref(global)?;
-    }
-    assert_eq!(rt; env.new_global_ref(local).err(), Some(Fault::RowFull));
-    for word in [2, 6, 10] {
-        assert_eq!(rt; env.get_object_ref_type(Handle(word))?, 0);
-    }
-
-    let mut row = [0; 20];
-    row[2] = 9;
-    row[3] = 1;
-    row[19] = 1;
-    assert_eq!(rt; env.steps.words.as_slice(), row.as_slice());
-    Ok(())
-}
-
-#[test]
-fn sums_up_what_stands(rt: HostRuntime) -> Result<(), Fail> {
-    let mut env = opened_env(PlainSteps::<2>::new(rt.alloc(), Config::LEAST)?);
-    let local = env.new_plain()?;
-    env.new_global_ref(local)?;
-    let summary = Summary {
-        globals: 1,
-        weaks: 0,
-        live: 1,
-        used: 0,
-    };
-    assert_eq!(rt; env.steps.summary(), summary);
     Ok(())
 }
 

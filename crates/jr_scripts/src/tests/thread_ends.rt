@@ -1,6 +1,8 @@
 //! The end of a thread: its local references are freed, where it has turns.
 
 use super::{BEFORE, SIZES};
+use crate::board::Posts;
+use crate::hold::NoHold;
 use crate::opening::opened_env;
 use crate::to_end::run_to_end;
 use jr_model::Summary;
@@ -13,8 +15,9 @@ fn a_thread_without_turns_keeps_its_locals(rt: HostRuntime) -> Result<(), Fail> 
     let alloc = rt.alloc();
     let mut env = opened_env(PlainSteps::<2>::new(alloc, SIZES)?);
     let local = env.new_plain()?;
+    let board = Posts::new(alloc);
     let mut out = Vec::from_slice(alloc, BEFORE)?;
-    run_to_end(alloc, &mut env, 3, &[], 0, &mut out)?;
+    run_to_end(alloc, &mut env, 3, &[], &board, &NoHold, 0, &mut out)?;
     assert_eq!(rt; env.get_object_ref_type(local)?, 1);
     let summary = Summary {
         globals: 0,
@@ -23,7 +26,7 @@ fn a_thread_without_turns_keeps_its_locals(rt: HostRuntime) -> Result<(), Fail> 
         used: 0,
     };
     assert_eq!(rt; env.steps.summary(), summary);
-    run_to_end(alloc, &mut env, 3, &[], 1, &mut out)?;
+    run_to_end(alloc, &mut env, 3, &[], &board, &NoHold, 1, &mut out)?;
     assert_eq!(rt; env.get_object_ref_type(local)?, 0);
     assert_eq!(rt; env.new_local_ref(local).err(), Some(Fault::Stale));
     assert_eq!(rt; out.as_slice(), BEFORE);
