@@ -6,8 +6,9 @@ ghost use Rattle.jr_env.specs.Envs.{Does};
 ghost use Rattle.jr_scripts.specs.Commands.{tried, deletion, type_of as type_deed, deed};
 
 use crate::env_call::{
-    DeleteGlobalRef, DeleteLocalRef, DeleteWeakGlobalRef, EnvCall, GetObjectRefType, IsSameObject,
-    NewGlobalRef, NewLocalRef, NewPlain, NewWeakGlobalRef,
+    DeleteGlobalRef, DeleteLocalRef, DeleteWeakGlobalRef, EnsureLocalCapacity, EnvCall,
+    GetObjectRefType, IsSameObject, NewGlobalRef, NewLocalRef, NewPlain, NewWeakGlobalRef,
+    PopLocalFrame, PushLocalFrame,
 };
 use crate::names::Names;
 use crate::reply::{IntoReply, Reply};
@@ -15,7 +16,7 @@ use crate::retry::retry;
 use jr_env::Env;
 use jr_frames::Reference;
 use jr_steps::Steps;
-use jr_syntax::{Command, Make, MakeFrom, On, OnBoth};
+use jr_syntax::{Command, Make, MakeFrom, On, OnBoth, WithCount};
 use jr_word::{Fault, Handle, RefKind};
 
 /// Makes a call, and again as long as it is raced or barred, and replies with its answer.
@@ -73,6 +74,7 @@ pub fn perform<S: Steps>(
                 MakeFrom::Global => ask(env, turns, &NewGlobalRef(target)),
                 MakeFrom::Weak => ask(env, turns, &NewWeakGlobalRef(target)),
                 MakeFrom::Local => ask(env, turns, &NewLocalRef(target)),
+                MakeFrom::Pop => ask(env, turns, &PopLocalFrame(target)),
             }
         }
         Command::On { verb, target } => match verb {
@@ -86,5 +88,14 @@ pub fn perform<S: Steps>(
                 OnBoth::Same => ask(env, turns, &IsSameObject(left, right)),
             }
         }
+        Command::WithCount { verb, count } => match verb {
+            WithCount::Push => ask(env, turns, &PushLocalFrame(*count)),
+            WithCount::Ensure => ask(env, turns, &EnsureLocalCapacity(*count)),
+        },
+        Command::Make {
+            verb: Make::Wait,
+            ..
+        } => Err(Fault::Turns),
+        Command::OnName { .. } => Ok(Reply::Done),
     }
 }
