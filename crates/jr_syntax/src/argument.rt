@@ -9,7 +9,6 @@ ghost use Rattle.jr_syntax.specs.Count.{count};
 use crate::name::{Name, Reference, is_name, is_reference};
 use crate::number::{is_number, number_up_to};
 use crate::word::Words;
-use itoa::Buffer;
 use std::alloc::AllocError;
 
 /// The greatest count.
@@ -92,8 +91,8 @@ impl Argument for u32 {
     }
 
     fn put(&self, out: &mut Vec<u8>) -> Result<(), AllocError> {
-        let mut digits = Buffer::new();
-        out.extend_from_slice(digits.format(*self).as_bytes())?;
+        let digits = format!(in *out.allocator(); "{self}")?;
+        out.extend_from_slice(digits.as_bytes())?;
         Ok(())
     }
 }
