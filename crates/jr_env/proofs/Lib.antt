@@ -1,5 +1,4 @@
 pub mod FramesAgree
-pub mod Publishing
 pub mod Reading
 pub mod Resolving
 pub mod ResolvingBoth

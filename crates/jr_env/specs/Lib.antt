@@ -1,4 +1,3 @@
-pub mod Objects
 pub mod Works
 pub mod Dropping
 pub mod Reading

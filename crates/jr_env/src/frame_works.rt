@@ -40,7 +40,7 @@ impl<S: Steps> Work<S> for LocalsFreeing {
 
     ghost gives = { λ _ _. Unit {0} };
 
-    fn work(&self, steps: &mut S, inside: &Inside, frames: &mut Frames) -> Result<(), Fault> {
+    fn work(self, steps: &mut S, inside: &Inside, frames: &mut Frames) -> Result<(), Fault> {
         empty_frames(steps, frames);
         take_empty_frames(frames);
         Ok(())
@@ -71,7 +71,7 @@ impl<S: Steps> Work<S> for FramePop {
     ghost gives = { λ t made. IfSome made (λ h. (h.kind ≡ Local) × (h.owner ≡ t)) };
 
     fn work(
-        &self,
+        self,
         steps: &mut S,
         inside: &Inside,
         frames: &mut Frames,
