@@ -5,6 +5,7 @@ ghost use Rattle.jr_frames.specs.Ready.{StandsReady};
 use crate::calls::{Comparison, Creation, LocalCreation, LocalRemoval, Making, Removal, Typing};
 use crate::work::make;
 use jr_frames::{Frames, Reference};
+use jr_heap::Numbers;
 use jr_steps::Steps;
 use jr_word::{Fault, Handle, RefKind};
 
@@ -15,6 +16,8 @@ pub struct Env<S: Steps> {
     pub steps: S,
     /// Its local references.
     pub frames: Frames,
+    /// Where it looks for the number of its next object.
+    numbers: Numbers,
     ghost ready: { StandsReady S.facts Outside steps frames },
 }
 
@@ -46,7 +49,12 @@ impl<S: Steps> Env<S> {
         steps.spend();
         let config = steps.config();
         let frames = Frames::new(steps.thread(), &config, steps.last());
-        Ok(Env { steps, frames })
+        let numbers = Numbers::new();
+        Ok(Env {
+            steps,
+            frames,
+            numbers,
+        })
     }
 
     /// The steps, whose pass is not fresh, so that no second env is made over it. Local references that stand stay in the row. It takes no step.
@@ -55,7 +63,7 @@ impl<S: Steps> Env<S> {
         ensures outside { (S.facts result).stands.role ≡ Outside }
         ensures spent { (S.facts result).stands.fresh ≡ false }
     {
-        let Env { steps, frames: _ } = self;
+        let Env { steps, .. } = self;
         steps
     }
 
@@ -63,7 +71,7 @@ impl<S: Steps> Env<S> {
     pub fn new_plain(&mut self) -> Result<Handle, Fault>
         ensures { Does self.old self.new new_plain result }
     {
-        let made = make(&mut self.steps, &mut self.frames, &Making)?;
+        let made = make(&mut self.steps, &mut self.frames, Making(&mut self.numbers))?;
         Ok(Handle::pack(made))
     }
 
@@ -86,7 +94,7 @@ impl<S: Steps> Env<S> {
         ensures { Does self.old self.new (new_local_ref handle.0) result }
     {
         let target = Reference::of(handle);
-        let made = make(&mut self.steps, &mut self.frames, &LocalCreation(target))?;
+        let made = make(&mut self.steps, &mut self.frames, LocalCreation(target))?;
         Ok(made.map(Handle::pack))
     }
 
@@ -96,7 +104,7 @@ impl<S: Steps> Env<S> {
     {
         let target = Reference::of(handle);
         let kind = RefKind::Global;
-        make(&mut self.steps, &mut self.frames, &Removal { kind, target })
+        make(&mut self.steps, &mut self.frames, Removal { kind, target })
     }
 
     /// Deletes a weak global reference; NULL is no refusal: E2, E4, E13. (JNI Specification, chapter 4, "DeleteWeakGlobalRef")
@@ -105,7 +113,7 @@ impl<S: Steps> Env<S> {
     {
         let target = Reference::of(handle);
         let kind = RefKind::Weak;
-        make(&mut self.steps, &mut self.frames, &Removal { kind, target })
+        make(&mut self.steps, &mut self.frames, Removal { kind, target })
     }
 
     /// Deletes a local reference of the thread; NULL is no refusal: E2, E3, E4, E13. (JNI Specification, chapter 4, "DeleteLocalRef")
@@ -113,7 +121,7 @@ impl<S: Steps> Env<S> {
         ensures { Does self.old self.new (delete_local_ref handle.0) result }
     {
         let target = Reference::of(handle);
-        make(&mut self.steps, &mut self.frames, &LocalRemoval(target))
+        make(&mut self.steps, &mut self.frames, LocalRemoval(target))
     }
 
     /// Whether two references are to one object, or both to null: E2, E3, E13. (JNI Specification, chapter 4, "IsSameObject")
@@ -122,7 +130,7 @@ impl<S: Steps> Env<S> {
     {
         let left = Reference::of(left);
         let right = Reference::of(right);
-        make(&mut self.steps, &mut self.frames, &Comparison(left, right))
+        make(&mut self.steps, &mut self.frames, Comparison(left, right))
     }
 
     /// The type of a reference: 0 invalid, 1 local, 2 global, 3 weak global: E13 alone. (JNI Specification, chapter 4, "GetObjectRefType")
@@ -130,7 +138,7 @@ impl<S: Steps> Env<S> {
         ensures { Does self.old self.new (get_object_ref_type handle.0) result }
     {
         let target = Reference::of(handle);
-        make(&mut self.steps, &mut self.frames, &Typing(target))
+        make(&mut self.steps, &mut self.frames, Typing(target))
     }
 
     /// A global or weak global reference to what the handle names, or none for null.
@@ -139,11 +147,7 @@ impl<S: Steps> Env<S> {
         ensures { Does self.old self.new (new_reference kind handle.0) result }
     {
         let target = Reference::of(handle);
-        let made = make(
-            &mut self.steps,
-            &mut self.frames,
-            &Creation { kind, target },
-        )?;
+        let made = make(&mut self.steps, &mut self.frames, Creation { kind, target })?;
         Ok(made.map(Handle::pack))
     }
 }
