@@ -3,6 +3,7 @@
 //! A refused growth ends a test with `Memory`, once it is checked that nothing was printed. Any other answer than the
 //! one that is wanted fails an assertion: so each growth may be refused in turn, and the assertions stand.
 
+mod commands;
 mod frames;
 mod references;
 
