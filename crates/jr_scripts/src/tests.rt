@@ -4,6 +4,7 @@
 //! one that is wanted fails an assertion: so each growth may be refused in turn, and the assertions stand.
 
 mod board;
+mod commands;
 mod thread_ends;
 
 use crate::all::run_all;

@@ -539,6 +539,26 @@ fn faults_of_lines_with_a_name_alone(rt: HostRuntime) -> Result<(), Fail> {
 }
 
 #[test]
+fn names_that_are_posted_twice(rt: HostRuntime) -> Result<(), Fail> {
+    let alloc = rt.alloc();
+    let again = behind_head(alloc, b"post g\nwait g\nwait g\npost h\npost g\n")?;
+    faulty(&rt, alloc, &again, 7, Reason::PostedTwice)?;
+    let range_first = behind_head(alloc, b"post g\npush 16777216\npost g\n")?;
+    faulty(&rt, alloc, &range_first, 4, Reason::NumberOutOfRange)?;
+    let form_first = behind_head(alloc, b"post g\npost g h\n")?;
+    faulty(&rt, alloc, &form_first, 4, Reason::CommandExpected)?;
+    let end_first = behind_head(alloc, b"post g\npost g")?;
+    faulty(&rt, alloc, &end_first, 4, Reason::UnfinishedLine)?;
+    let in_two_threads =
+        b"vm threads 2 slots 1 objects 1 words 0 locals 16\nthread a\npost g\nthread b\nplain g\npost g\n";
+    faulty(&rt, alloc, in_two_threads, 6, Reason::PostedTwice)?;
+    let apart = behind_head(alloc, b"post gg\nwait g\nwait g\nplain g\npost g\n")?;
+    let printed = a_text_read_is_printed_again(alloc, &apart)?;
+    assert_eq!(rt; printed, apart);
+    Ok(())
+}
+
+#[test]
 fn as_many_bytes_as_there_may_be(rt: HostRuntime) -> Result<(), Fail> {
     let mut text = behind_head(rt.alloc(), b"")?;
     for _ in 0..3117 {
@@ -587,6 +607,7 @@ fn texts_of_reasons(rt: HostRuntime) {
         (Reason::NameUsedTwice, "name used twice"),
         (Reason::CommandExpected, "command expected"),
         (Reason::NumberOutOfRange, "number out of range"),
+        (Reason::PostedTwice, "posted twice"),
     ];
     for (reason, text) in rows {
         assert_eq!(rt; reason.text(), text);
