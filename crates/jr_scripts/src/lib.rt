@@ -3,6 +3,7 @@
 
 mod all;
 mod env_call;
+mod laws;
 mod names;
 mod opening;
 mod part;
@@ -11,6 +12,7 @@ mod printed;
 mod reply;
 mod retry;
 mod run;
+mod runnable;
 mod single;
 mod starting;
 #[cfg(test)]
@@ -19,5 +21,6 @@ mod to_end;
 
 pub use all::run_all;
 pub use jr_syntax::{Reason, Script, ScriptFault, parse, print};
+pub use laws::a_script_that_was_read_can_be_run;
 pub use run::run_thread;
 pub use single::run_one;
