@@ -14,4 +14,6 @@ pub mod JobHandles
 pub mod OneOfAll
 pub mod AllTogether
 pub mod JobLists
+pub mod Lines
+pub mod ReadScripts
 pub mod LoneRun

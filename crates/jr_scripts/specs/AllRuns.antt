@@ -1,8 +1,9 @@
 -- Runs of scripts of several threads, in one room and one history.
-use Rattle.std.specs.Prelude.{◌≡◌, ◌+◌, ℕ, zero, suc, true, false, List, [], ◌∷◌, ◌++◌, length, Result}
+use Rattle.std.specs.Prelude.{◌≡◌, ◌+◌, ◌<◌, ◌≤◌, ◌^◌, ℕ, zero, suc, true, false, List, [], ◌∷◌, ◌++◌, length, Result}
 use mathlib.Core.List.{IsPrefix}
 use Rattle.jr_word.specs.declared.config.Config.{Config}
 use Rattle.jr_word.specs.declared.fault.Fault.{Fault}
+use Rattle.jr_word.specs.declared.fault.Fault.TheVariants.{LeftInside}
 use Rattle.jr_word.specs.Config.{in_limits}
 use Rattle.jr_model.specs.declared.event.Act.{Act}
 use Rattle.jr_model.specs.declared.event.Act.TheVariants.{Meet}
@@ -58,6 +59,21 @@ abbrev pub ArePartsOf : ℕ → ℕ → Config → History → ℕ → ℕ → L
 ArePartsOf turns last c whole t line [] [] = Unit {0}
 ArePartsOf turns last c whole t line (p ∷ ps) (lines ∷ rest) = IsPartOf turns last c whole t (line + 1) p lines × ArePartsOf turns last c whole (suc t) (line + 1 + length p.commands) ps rest
 ArePartsOf turns last c whole t line _ _ = ⊥
+
+-- how many lines these parts are: each thread's own, and one for each command
+abbrev pub lines_of_parts : List ThreadPart → ℕ
+lines_of_parts [] = 0
+lines_of_parts (p ∷ ps) = 1 + length p.commands + lines_of_parts ps
+
+-- A SCRIPT THAT CAN BE RUN has one part a thread and sizes within the limits; and the line behind its parts, which begin on line 2, has a number of 64 bits
+pub record CanBeRun (s : Script) : Type 0 where
+  pub one_each : length s.threads ≡ s.config.threads
+  pub limits : in_limits s.config ≡ true
+  pub numbered : 2 + lines_of_parts s.threads < 2 ^ 64
+
+-- so many threads were left inside, knocking or collecting, one at least
+abbrev pub IsLeftInside : Fault → Type 0
+IsLeftInside e = (n : ℕ) × (e ≡ LeftInside n) × (1 ≤ n)
 
 -- what the threads print, one after the other
 abbrev pub text_of_parts : List ThreadPart → List (List ℕ) → List ℕ

@@ -343,11 +343,10 @@ fn three_threads_of_one_script_run_in_one_room(rt: HostRuntime) -> Result<(), Fa
     };
     let script = Script { config, threads };
     let mut out = Vec::from_slice(alloc, BEFORE)?;
-    run_all(&rt, alloc, &script, &NoHold, 1_000_000, &mut out)?;
+    let answer = run_all(&rt, alloc, &script, &NoHold, 1_000_000, &mut out);
     let wanted =
         b"before\n[a]\ntype g 2\ntype g 0\n9 ! E2\n[b]\ntype g 2\ntype g 0\n17 ! E2\n[c]\ntype g 2\ntype g 0\n25 ! E2\n[end]\nglobals 0 weaks 3 live 3 used 0\n";
-    assert_eq!(rt; out.as_slice(), wanted.as_slice());
-    Ok(())
+    leaves(&rt, answer, &out, wanted)
 }
 
 #[test]
