@@ -24,7 +24,7 @@ use Rattle.jr_gate.proofs.SameRoom.{nothing_changed, as_before, still_before, bu
 use Rattle.jr_env.proofs.InsideGate.{same_owner, ready_called}
 use Rattle.jr_gate.proofs.Spending.{made_of, spending, spend_first, spend_step, spend_none, spend_more}
 use Rattle.jr_env.proofs.FramesAgree.{holds_put}
-use Rattle.jr_env.proofs.Reading.{ran_refused}
+use Rattle.jr_env.proofs.Reading.{ran_refused, ran_at}
 use Rattle.jr_env.proofs.Resolving.{stays}
 use Rattle.jr_env.proofs.NewPlain.{room_at, room_ran}
 
@@ -33,8 +33,7 @@ local_ran c last t {p} h o d a = record { acts = LocalPut h.index o ∷ []; did 
 
 full_ran : (c : Config) (last t : ℕ) {p : PassView} {f : Frames} {B : Type 0} (next : Unit {0} → Call B) → free_places last f ≡ 0 → IsLegal p.config p.last p.seen → Ran p p f f (room_for c last t 1 >>= next) (Err LocalsFull)
 full_ran c last t {p} {f} next none l =
-    let r = ran_refused p f (nat_lt (free_places last f) 1) LocalsFull next (ap (λ n. nat_lt n 1) none) tt l in
-    record { acts = r.acts; did = r.did; is = r.is; begun = r.begun; window = r.window; grounds = r.grounds }
+    ran_at (room_for c last t 1 >>= next) (λ acts is. is) (ran_refused p f (nat_lt (free_places last f) 1) LocalsFull next (ap (λ n. nat_lt n 1) none) tt l)
 
 -- the object that was found, if there is one, is present
 found_optional : (z : Option ℕ) (k : Known) → FoundPresent (Ok z) k → HasOptional z k

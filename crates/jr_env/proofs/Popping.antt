@@ -17,7 +17,7 @@ use Rattle.jr_gate.proofs.Spending.{made_of, spending, spend_first, spend_none}
 use Rattle.jr_gate.proofs.SameRoom.{nothing_changed, still_before, but_fresh}
 use Rattle.jr_env.specs.Dropping.{Drops}
 use Rattle.jr_env.specs.Works.{Calls, MakesLocal}
-use Rattle.jr_env.proofs.Reading.{ran_refused, ran_passed}
+use Rattle.jr_env.proofs.Reading.{ran_refused, ran_passed, ran_at}
 use Rattle.jr_env.proofs.Resolving.{stays}
 
 -- what is not at least one is none
@@ -31,31 +31,27 @@ two_frames n b low is other = grind (arith, nat_tests)
 
 module _ (c : Config) (last t : ℕ) where
   -- no place would be free for the result
-  full_ran : {p : PassView} {f : Frames} {B : Type 0} (o : ℕ) (next : Unit {0} → Call B) → free_places last (popped f) ≡ 0 → IsLegal p.config p.last p.seen → Ran p p f f (room_after c last t (Some o) >>= next) (Err LocalsFull)
-  full_ran {p} {f} o next none l =
-      let r = ran_refused p f (free_places last (popped f) == 0) LocalsFull next (ap (λ n. n == 0) none) tt l in
-      record { acts = r.acts; did = r.did; is = r.is; begun = r.begun; window = r.window; grounds = r.grounds }
+  no_room_ran : {p : PassView} {f : Frames} {B : Type 0} (o : ℕ) (next : Unit {0} → Call B) → free_places last (popped f) ≡ 0 → IsLegal p.config p.last p.seen → Ran p p f f (room_after c last t (Some o) >>= next) (Err LocalsFull)
+  no_room_ran {p} {f} o next none l =
+      ran_at (room_after c last t (Some o) >>= next) (λ acts is. is) (ran_refused p f (free_places last (popped f) == 0) LocalsFull next (ap (λ n. n == 0) none) tt l)
 
   -- a place would be, or none is needed
-  room_ran : {p q : PassView} {f g : Frames} {B : Type 0} {answer : Result B Fault} (z : Option ℕ) (next : Unit {0} → Call B) → (IsSome z → 1 ≤ free_places last (popped f)) → Ran p q f g (next tt) answer → Ran p q f g (room_after c last t z >>= next) answer
-  room_ran {f = f} None next room r = record { acts = r.acts; did = r.did; is = inl (tt, f, [], r.acts, refl, (refl, refl, refl), r.is); begun = r.begun; window = r.window; grounds = r.grounds }
-  room_ran {f = f} (Some o) next room r =
+  room_after_ran : {p q : PassView} {f g : Frames} {B : Type 0} {answer : Result B Fault} (z : Option ℕ) (next : Unit {0} → Call B) → (IsSome z → 1 ≤ free_places last (popped f)) → Ran p q f g (next tt) answer → Ran p q f g (room_after c last t z >>= next) answer
+  room_after_ran {f = f} None next room r = record { acts = r.acts; did = r.did; is = inl (tt, f, [], r.acts, refl, (refl, refl, refl), r.is); begun = r.begun; window = r.window; grounds = r.grounds }
+  room_after_ran {f = f} (Some o) next room r =
       let more = room refl in
       let some : (free_places last (popped f) == 0) ≡ false = grind (arith, nat_tests) in
-      let x = ran_passed (free_places last (popped f) == 0) LocalsFull next some r in
-      record { acts = x.acts; did = x.did; is = x.is; begun = x.begun; window = x.window; grounds = x.grounds }
+      ran_at (room_after c last t (Some o) >>= next) (λ acts is. is) (ran_passed (free_places last (popped f) == 0) LocalsFull next some r)
 
 -- a frame stands above the base frame
 above_ran : {p q : PassView} {f g : Frames} {B : Type 0} {answer : Result B Fault} (next : Unit {0} → Call B) → 2 ≤ length f.frames → Ran p q f g (next tt) answer → Ran p q f g (frame_to_pop >>= next) answer
 above_ran {f = f} next more r =
     let some : nat_lt (length f.frames) 2 ≡ false = grind (arith, nat_tests) in
-    let x = ran_passed (nat_lt (length f.frames) 2) NoFrame next some r in
-    record { acts = x.acts; did = x.did; is = x.is; begun = x.begun; window = x.window; grounds = x.grounds }
+    ran_at (frame_to_pop >>= next) (λ acts is. is) (ran_passed (nat_lt (length f.frames) 2) NoFrame next some r)
 
 base_ran : {p : PassView} {f : Frames} {B : Type 0} (next : Unit {0} → Call B) → length f.frames ≡ 1 → IsLegal p.config p.last p.seen → Ran p p f f (frame_to_pop >>= next) (Err NoFrame)
 base_ran {p} {f} next one l =
-    let r = ran_refused p f (nat_lt (length f.frames) 2) NoFrame next (ap (λ n. nat_lt n 2) one) tt l in
-    record { acts = r.acts; did = r.did; is = r.is; begun = r.begun; window = r.window; grounds = r.grounds }
+    ran_at (frame_to_pop >>= next) (λ acts is. is) (ran_refused p f (nat_lt (length f.frames) 2) NoFrame next (ap (λ n. nat_lt n 2) one) tt l)
 
 module _ {S : Type 0} {facts : S → Facts} where
   -- no frame stands above the base frame
@@ -72,7 +68,7 @@ module _ {S : Type 0} {facts : S → Facts} where
       let s = (facts a).stands in
       let none_here = subst (λ n. free_places n (popped f) ≡ 0) is none in record {
         stands_is = nothing_changed;
-        ran = λ k v m. let l = (fits a k v).legal in (k, v, made_of (spend_none s.fresh k f f l) (full_ran s.config s.last s.thread o _ none_here l), (refl, m.0));
+        ran = λ k v m. let l = (fits a k v).legal in (k, v, made_of (spend_none s.fresh k f f l) (no_room_ran s.config s.last s.thread o _ none_here l), (refl, m.0));
       }
 
   pub may_pop : {a b : S} {f g : Frames} (z : Option ℕ) → Drops facts a b f g take_frame → MayKnow facts a (λ k. Holds f k × HasOptional z k) → MayKnow facts b (HasOptional z)
@@ -91,5 +87,5 @@ module _ {S : Type 0} {facts : S → Facts} where
         ran = λ k v m.
             let x = (p z).ran k v m in
             let y = r.ran x.0 x.1 (x.3.1, x.3.2) in
-            (y.0, y.1, made_of (spend_first (spending x.2) (spending y.2)) (room_ran s.config s.last s.thread z (λ u. take_frame >> new_local s.config s.last s.thread z) room_here (ran_then {next = λ u. new_local s.config s.last s.thread z} tt x.2.ran y.2.ran)), (y.3.0 ∙ x.3.0, y.3.1));
+            (y.0, y.1, made_of (spend_first (spending x.2) (spending y.2)) (room_after_ran s.config s.last s.thread z (λ u. take_frame >> new_local s.config s.last s.thread z) room_here (ran_then {next = λ u. new_local s.config s.last s.thread z} tt x.2.ran y.2.ran)), (y.3.0 ∙ x.3.0, y.3.1));
       }

@@ -1,9 +1,10 @@
 -- Tests and looks, for one thing that was known.
-use Rattle.std.proofs.Common.{◌≡◌, ℕ, Bool, true, false, ◌||◌, cond, Option, Some, None, [], ◌∷◌, Result, Ok, Err, IfErr, inl, inr, refl, sym, subst}
+use Rattle.std.proofs.Common.{◌≡◌, ℕ, Bool, true, false, ◌||◌, cond, Option, Some, None, List, [], ◌∷◌, Result, Ok, Err, IfErr, inl, inr, refl, sym, subst}
 use Rattle.jr_word.specs.declared.fault.Fault.{Fault}
 use Rattle.jr_word.specs.declared.fault.Fault.TheVariants as fault
 use Rattle.jr_model.specs.declared.event.Found.{Found}
 use Rattle.jr_model.specs.declared.event.Found.TheVariants.{Object, Cleared, Stale}
+use Rattle.jr_model.specs.declared.event.Act.{Act}
 use Rattle.jr_model.specs.declared.event.Act.TheVariants.{Look}
 use Rattle.jr_model.specs.State.{Handle}
 use Rattle.jr_model.specs.History.{PassView, IsLegal, Did}
@@ -25,6 +26,10 @@ ran_refused p f false e next is g l = absurd cc
 pub ran_passed : {B : Type 0} {p q : PassView} {f g : Frames} {answer : Result B Fault} (b : Bool) (e : Fault) (next : Unit {0} → Call B) → b ≡ false → Ran p q f g (next tt) answer → Ran p q f g (refuse_if b e >>= next) answer
 ran_passed {f} false e next is r = record { acts = r.acts; did = r.did; is = inl (tt, f, [], r.acts, refl, (refl, refl, refl), r.is); begun = r.begun; window = r.window; grounds = r.grounds }
 ran_passed true e next is r = absurd cc
+
+-- what was done is also another call's, where each way through the one is a way through the other
+pub ran_at : {A : Type 0} {p q : PassView} {f g : Frames} {call : Call A} {answer : Result A Fault} (other : Call A) → ((acts : List Act) → call f acts answer g → other f acts answer g) → Ran p q f g call answer → Ran p q f g other answer
+ran_at other same r = record { acts = r.acts; did = r.did; is = same r.acts r.is; begun = r.begun; window = r.window; grounds = r.grounds }
 
 -- one of two tests holds, or neither
 pub either_first : (b d : Bool) → b ≡ true → (b || d) ≡ true

@@ -1,6 +1,6 @@
-pub mod Works
-pub mod Dropping
 pub mod Reading
-pub mod Ready
 pub mod Deeds
 pub mod Envs
+pub mod Ready
+pub mod Works
+pub mod Dropping

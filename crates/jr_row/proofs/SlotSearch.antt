@@ -30,11 +30,11 @@ in_turn_then ended q = q
 in_turn_then (occupied p) q = occupied (in_turn_then p q)
 in_turn_then (lost b p) q = lost b (in_turn_then p q)
 
--- how far one might have gone does not matter where one was won
-in_turn_won : {a b c : ℕ} {xs : List (ℕ × Bool)} {h : Handle} → InTurn a b xs (Some h) → InTurn a c xs (Some h)
-in_turn_won (won h e) = won h e
-in_turn_won (occupied p) = occupied (in_turn_won p)
-in_turn_won (lost b p) = lost b (in_turn_won p)
+-- how much further one might have gone does not matter where one was won
+in_turn_won : {a b c : ℕ} {xs : List (ℕ × Bool)} {h : Handle} → b ≤ c → InTurn a b xs (Some h) → InTurn a c xs (Some h)
+in_turn_won more (won h e l) = won h e (omega arith)
+in_turn_won more (occupied p) = occupied (in_turn_won more p)
+in_turn_won more (lost b p) = lost b (in_turn_won more p)
 
 below_or : (i n : ℕ) → (i < n) ⊎ (n ≤ i)
 below_or i n = grind arith
@@ -134,7 +134,7 @@ module _ {S : Type 0} {facts : S → Facts} where
       kind_is = (refl, refl);
       did = λ k s p.
           let z = exchanged i n o t u w (λ e. cc) (λ e. cc) refl k s p in
-          (z.new, z.known, z.present, tt, (i, false) ∷ [], did_then {new = view z.new} (Probe i false ∷ []) (Create (handle_of kind n i) o ∷ []) z.looked z.took, z.counted, omega arith, z.shown.1 ∙ z.kept, won (handle_of kind n i) refl);
+          (z.new, z.known, z.present, tt, (i, false) ∷ [], did_then {new = view z.new} (Probe i false ∷ []) (Create (handle_of kind n i) o ∷ []) z.looked z.took, z.counted, omega arith, z.shown.1 ∙ z.kept, won (handle_of kind n i) refl (omega arith));
     }
 
   -- no slot was tried
@@ -155,7 +155,7 @@ module _ {S : Type 0} {facts : S → Facts} where
   }
 
   pub searched_some : {a b : S} {kind : RefKind} {o first last : ℕ} {h : Handle} (last' : ℕ) → last ≤ last' → Searched facts a b kind o (InTurn first last) first last (Some h) → Searched facts a b kind o (InTurn first last') first last' (Some h)
-  searched_some {first = first} last' more p = searched_within first last' (omega arith) more (λ xs t. in_turn_won t) p
+  searched_some {first = first} last' more p = searched_within first last' (omega arith) more (λ xs t. in_turn_won more t) p
 
   pub searched_above : {a b : S} {kind : RefKind} {o hint slots : ℕ} {h : Handle} → Searched facts a b kind o (InTurn hint slots) hint slots (Some h) → Searched facts a b kind o (GoesRound hint slots) 0 slots (Some h)
   searched_above {slots = slots} p = searched_within 0 slots (omega arith) (omega arith) (λ xs t. above t) p

@@ -28,10 +28,10 @@ EachOccupied begun new first last None = (i : ℕ) → first ≤ i → i < last 
 abbrev pub TwoEach : ℕ → ℕ → List Act → Type 0
 TwoEach first last acts = first + first + length acts ≤ last + last
 
--- SLOTS WERE TRIED IN TURN, each from the first one on, up to the last or to the one that was won: each was looked at once, and once more by the exchange where it was free and another thread was faster
+-- SLOTS WERE TRIED IN TURN, each from the first one on and before the last, all of them or up to the one that was won: each was looked at once, and once more by the exchange where it was free and another thread was faster
 pub data InTurn : ℕ → ℕ → List (ℕ × Bool) → Option Handle → Type 0 where
   ended : {n : ℕ} → InTurn n n [] None
-  won : {n last : ℕ} (h : Handle) → h.index ≡ n → InTurn n last ((n, false) ∷ []) (Some h)
+  won : {n last : ℕ} (h : Handle) → h.index ≡ n → n < last → InTurn n last ((n, false) ∷ []) (Some h)
   occupied : {n last : ℕ} {looks : List (ℕ × Bool)} {made : Option Handle} → InTurn (n + 1) last looks made → InTurn n last ((n, true) ∷ looks) made
   lost : {n last : ℕ} {looks : List (ℕ × Bool)} {made : Option Handle} (found : Bool) → InTurn (n + 1) last looks made → InTurn n last ((n, false) ∷ (n, found) ∷ looks) made
 
