@@ -6,6 +6,7 @@
 mod board;
 mod frames;
 mod references;
+mod threads;
 
 use crate::all::run_all;
 use crate::board::Posts;
