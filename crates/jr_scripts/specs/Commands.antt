@@ -1,5 +1,5 @@
 -- What commands do.
-use Rattle.std.specs.Prelude.{◌≡◌, ◌⊎◌, ℕ, Option, Some, None, Ok, Err}
+use Rattle.std.specs.Prelude.{◌≡◌, ℕ, Option, Some, None, Err}
 use Rattle.jr_word.specs.declared.handle.RefKind.{RefKind}
 use Rattle.jr_word.specs.declared.handle.RefKind.TheVariants.{Local, Global, Weak}
 use Rattle.jr_word.specs.declared.handle.Handle.{Handle}
@@ -19,6 +19,7 @@ use Rattle.jr_scripts.specs.declared.reply.Reply.TheVariants as replies
 use Rattle.jr_frames.specs.Reading.{IsReadAs}
 use Rattle.jr_scripts.specs.Names.{Names, referent, wanted}
 use Rattle.jr_env.specs.Deeds.{Deed, decided, done, new_plain, new_reference, new_local_ref, delete_reference, delete_local_ref, is_same_object, get_object_ref_type, push_local_frame, ensure_local_capacity, pop_local_frame, ◌>>=◌, ◌>>◌}
+use Rattle.jr_scripts.specs.Posting.{IsAwaited}
 use Rattle.jr_scripts.specs.Tries.{Tried}
 
 module _ (turns : ℕ) where
@@ -51,9 +52,9 @@ module _ (turns : ℕ) where
   type_of None = done 0
   type_of (Some h) = tried (get_object_ref_type h.0)
 
--- some word that another line posts, or the turns ran out; neither an event nor a step
+-- some word that is posted, or the turns ran out; neither an event nor a step
 abbrev pub awaited : Deed Reply
-awaited old answer new = (((w : Handle) × (answer ≡ Ok (replies.Made (Some w)))) ⊎ (answer ≡ Err fault.Turns)) × (new ≡ old)
+awaited old answer new = IsAwaited answer × (new ≡ old)
 
 module _ (turns : ℕ) (names : Names) where
   -- the reference that a command wants

@@ -102,6 +102,15 @@ fn told(
     Ok((passes, text))
 }
 
+/// A board for the names that the parts post.
+fn board_of(alloc: Global, parts: &[ThreadPart]) -> Result<Posts, Fault> {
+    let mut board = Posts::new(alloc);
+    for part in parts {
+        board.add(part.commands.as_slice()).map_err(out_of_memory)?;
+    }
+    Ok(board)
+}
+
 /// Runs the threads of a script, and gives what is printed.
 fn text_of_all<R: Threads + Wait, H: Hold + Sync>(
     rt: &R,
@@ -117,7 +126,7 @@ fn text_of_all<R: Threads + Wait, H: Hold + Sync>(
     let parts = script.threads.as_slice();
     let (room, passes) = Room::<LAST>::open(alloc, script.config)?;
     let jobs = jobs_of(alloc, parts, passes, turns)?;
-    let board = Posts::new(alloc);
+    let board = board_of(alloc, parts)?;
     let runs = run_threads(rt, alloc, &room, &board, hold, jobs)?;
     let (mut passes, mut text) = told(alloc, parts, runs)?;
     let first = passes.remove(0);

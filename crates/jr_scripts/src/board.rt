@@ -1,6 +1,6 @@
 //! What the threads of a script post to each other, by name.
 
-use jr_syntax::Name;
+use jr_syntax::{Command, Name, OnName};
 use std::alloc::{AllocError, Global};
 use std::collections::BTreeMap;
 use std::sync::OnceLock;
@@ -17,7 +17,7 @@ pub trait Board {
 /// A board with a cell for each name that may be posted, which is written once: the first word that is posted under a name stays. To post or to look takes neither memory nor a lock, and no thread waits for another there.
 #[derive(Drop)]
 pub struct Posts {
-    cells: BTreeMap<Vec<u8>, OnceLock<u64>>,
+    cells: BTreeMap<Name, OnceLock<u64>>,
 }
 
 impl Posts {
@@ -28,26 +28,33 @@ impl Posts {
         }
     }
 
-    /// Lets a name be posted.
+    /// Lets the names be posted that commands post.
     ///
     /// # Errors
     ///
     /// Memory was refused.
-    pub fn add(&mut self, alloc: Global, name: &Name) -> Result<(), AllocError> {
-        let key = Vec::from_slice(alloc, name.as_slice())?;
-        self.cells.insert(key, OnceLock::new())?;
+    pub fn add(&mut self, commands: &[Command]) -> Result<(), AllocError> {
+        for command in commands {
+            if let Command::OnName {
+                verb: OnName::Post,
+                name,
+            } = command
+            {
+                self.cells.insert(name.copy(), OnceLock::new())?;
+            }
+        }
         Ok(())
     }
 }
 
 impl Board for Posts {
     fn post(&self, name: &Name, word: u64) {
-        if let Some(cell) = self.cells.get(name.as_slice()) {
+        if let Some(cell) = self.cells.get(name) {
             let _ = cell.try_set(word);
         }
     }
 
     fn look(&self, name: &Name) -> Option<u64> {
-        self.cells.get(name.as_slice())?.get().copied()
+        self.cells.get(name)?.get().copied()
     }
 }

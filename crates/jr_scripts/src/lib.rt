@@ -10,6 +10,7 @@ mod names;
 mod opening;
 mod part;
 mod perform;
+mod posting;
 mod printed;
 mod reply;
 mod retry;

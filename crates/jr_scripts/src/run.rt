@@ -84,7 +84,7 @@ pub fn run_thread<S: Steps, B: Board, H: Hold>(
     for (i, command) in commands.iter().enumerate() {
         let line = first + i;
         hold.before(env.steps.thread(), line);
-        let answer = perform(env, &names, turns, command);
+        let answer = perform(env, &names, board, turns, command);
         hold.after(env.steps.thread(), line);
         let Ok(()) = record(alloc, &mut names, line, command, answer, out) else {
             return Err(Fault::Memory);

@@ -39,7 +39,8 @@ fn run_part(alloc: Global, config: Config, part: &ThreadPart, turns: u64) -> Res
     let steps = PlainSteps::<LAST>::new(alloc, config)?;
     let mut env = opened_env(steps);
     let commands = part.commands.as_slice();
-    let board = Posts::new(alloc);
+    let mut board = Posts::new(alloc);
+    board.add(commands).map_err(out_of_memory)?;
     run_to_end(
         alloc,
         &mut env,

@@ -6,6 +6,7 @@
 mod board;
 mod commands;
 mod thread_ends;
+mod threads;
 
 use crate::all::run_all;
 use crate::board::Posts;
