@@ -40,5 +40,3 @@ pub mod PlainOwed
 pub mod Meeting
 pub mod Ended
 pub mod Gathered
-mod Claimable
-pub mod Emptying

@@ -3,11 +3,7 @@
 
 mod closing;
 mod closing_all;
-#[cfg(test)]
-mod closing_tests;
 mod collect_steps;
-#[cfg(test)]
-mod collect_tests;
 mod gate_steps;
 mod heap_steps;
 mod layout;
@@ -21,8 +17,6 @@ mod row;
 mod rule;
 mod slot_steps;
 mod summing;
-#[cfg(test)]
-mod tests;
 
 pub use closing::Left;
 pub use closing_all::AllLeft;

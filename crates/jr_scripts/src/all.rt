@@ -103,7 +103,9 @@ fn told(
 }
 
 /// A board for the names that the parts post.
-fn board_of(alloc: Global, parts: &[ThreadPart]) -> Result<Posts, Fault> {
+fn board_of(alloc: Global, parts: &[ThreadPart]) -> Result<Posts, Fault>
+    ensures { IfErr result (λ e. e ≡ Memory) }
+{
     let mut board = Posts::new(alloc);
     for part in parts {
         board.add(part.commands.as_slice()).map_err(out_of_memory)?;

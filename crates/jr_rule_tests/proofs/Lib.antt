@@ -1,0 +1,2 @@
+mod Claimable
+mod Emptying
