@@ -1,8 +1,12 @@
 //! What threads post to each other.
 
-use super::name_of;
+use super::threads::HANDED_OVER;
+use super::{BEFORE, name_of, prints};
+use crate::all::run_all;
 use crate::board::{Board, Posts};
-use jr_syntax::{Command, OnName};
+use crate::hold::NoHold;
+use jr_syntax::{Command, OnName, parse};
+use jr_word::Fault;
 use std::test::Fail;
 
 /// A command that posts a name.
@@ -65,5 +69,49 @@ fn a_name_without_a_cell_is_not_posted(rt: HostRuntime) -> Result<(), Fail> {
     board.post(&other, 6);
     assert_eq!(rt; board.look(&other), None);
     assert_eq!(rt; board.look(&name_of(b"g")?), None);
+    Ok(())
+}
+
+#[test]
+fn a_name_that_nobody_posts(rt: HostRuntime) -> Result<(), Fail> {
+    prints(
+        &rt,
+        rt.alloc(),
+        b"vm threads 1 slots 4 objects 8 words 16 locals 16\nthread a\nwait never\ntype never\n",
+        b"[a]\n3 ! E20\ntype never 0\n[end]\nglobals 0 weaks 0 live 0 used 0\n",
+    )
+}
+
+#[test]
+fn a_wait_that_runs_out_of_turns_sets_no_name(rt: HostRuntime) -> Result<(), Fail> {
+    prints(
+        &rt,
+        rt.alloc(),
+        b"vm threads 1 slots 4 objects 8 words 16 locals 16\nthread a\nplain p\nwait p\ntype p\n",
+        b"[a]\n4 ! E20\ntype p 1\n[end]\nglobals 0 weaks 0 live 1 used 0\n",
+    )
+}
+
+#[test]
+fn a_name_that_stands_for_nothing_is_posted_as_null(rt: HostRuntime) -> Result<(), Fail> {
+    prints(
+        &rt,
+        rt.alloc(),
+        b"vm threads 1 slots 4 objects 8 words 16 locals 16\nthread a\npost n\nwait n\nsame n null\nplain p\npost p\ndrop p\nplain p\nwait p\ntype p\n",
+        b"[a]\nsame n null true\ntype p 0\n[end]\nglobals 0 weaks 0 live 2 used 0\n",
+    )
+}
+
+#[test]
+fn a_thread_waits_for_one_without_memory_and_ends(rt: HostRuntime) -> Result<(), Fail> {
+    let alloc = rt.alloc();
+    let script = parse(alloc, HANDED_OVER)?;
+    let mut out = Vec::from_slice(alloc, BEFORE)?;
+    if let Err(fault) = run_all(&rt, alloc, &script, &NoHold, 1_000, &mut out) {
+        assert_eq!(rt; fault, Fault::Memory);
+        assert_eq!(rt; out.as_slice(), BEFORE);
+        return Err(fault)?;
+    }
+    assert!(rt; out.starts_with(BEFORE));
     Ok(())
 }
