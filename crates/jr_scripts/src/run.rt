@@ -73,7 +73,7 @@ pub fn run_thread<S: Steps>(
     out: &mut Vec<u8>,
 ) -> Result<(), Fault>
     requires { first + length commands.now < 2 ^ 64 }
-    ensures explained { (text : List ℕ) × (out.new.items ≡ out.old.items ++ text) × RanThread S.facts env.old.steps env.new.steps env.old.frames.frames env.new.frames.frames turns first commands.now result text }
+    ensures explained { (text : List ℕ) × (out.new.items ≡ out.old.items ++ text) × RanThread S.facts env.old.held.steps env.new.held.steps env.old.held.frames.frames env.new.held.frames.frames turns first commands.now result text }
     ensures memory { IfErr result (λ e. e ≡ Memory) }
 {
     let mut names = Names::new(alloc);
