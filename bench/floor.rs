@@ -26,6 +26,7 @@ const FOREIGN: u64 = ERROR + 3;
 const WRONG_KIND: u64 = ERROR + 4;
 const ROW_FULL: u64 = ERROR + 8;
 const LOCALS_FULL: u64 = ERROR + 9;
+const NO_FRAME: u64 = ERROR + 15;
 const OBJECTS_FULL: u64 = ERROR + 11;
 const BARRED: u64 = ERROR + 13;
 
@@ -71,28 +72,31 @@ struct Link {
     newer: u16,
 }
 
-/// A thread's calls, with its local references in rings: of the free places, and of the one frame.
+/// A thread's calls, with its local references in rings: of the free places, and of each frame.
 struct Env<'a> {
     room: &'a Room,
     thread: u64,
     hint: usize,
     next_object: u64,
     free: u32,
+    frame: u16,
     places: Vec<Place>,
     links: Vec<Link>,
 }
 
 const FREE: u16 = PLACES as u16;
-const FRAME: u16 = FREE + 1;
+const BASE: u16 = FREE + 1;
+const FRAMES: u16 = 256;
+const CAPACITY: u32 = 16;
 
 impl Env<'_> {
     fn new(room: &Room, thread: u64) -> Env<'_> {
-        let mut links = vec![Link::default(); PLACES + 2];
+        let mut links = vec![Link::default(); PLACES + 1 + FRAMES as usize];
         for at in 0..=FREE {
             links[at as usize] = Link { older: at.checked_sub(1).unwrap_or(FREE), newer: if at == FREE { 0 } else { at + 1 } };
         }
-        links[FRAME as usize] = Link { older: FRAME, newer: FRAME };
-        Env { room, thread, hint: 0, next_object: 1, free: PLACES as u32, places: vec![Place::default(); PLACES], links }
+        links[BASE as usize] = Link { older: BASE, newer: BASE };
+        Env { room, thread, hint: 0, next_object: 1, free: PLACES as u32, frame: BASE, places: vec![Place::default(); PLACES], links }
     }
     #[inline(always)]
     fn link(&mut self, at: u16) -> &mut Link {
@@ -184,7 +188,7 @@ impl Env<'_> {
         let serial = u64::from(self.place(at as usize).given);
         self.local_word(at as usize).store(object, SeqCst);
         *self.place(at as usize) = Place { given: serial as u32 + 1, object: object as u32 };
-        self.move_to(at, FRAME);
+        self.move_to(at, self.frame);
         self.free -= 1;
         LOCAL | serial << 2 | u64::from(at) << 34 | self.thread << 50
     }
@@ -261,15 +265,81 @@ impl Env<'_> {
             if object & ERROR != 0 {
                 return object;
             }
-            let at = Self::index_of(handle);
-            env.local_word(at).store(0, SeqCst);
-            env.place(at).object = 0;
-            if env.place(at).given != 0 {
-                env.move_to(at as u16, FREE);
-                env.free += 1;
-            }
+            env.drop_local(Self::index_of(handle));
             0
         })
+    }
+    #[inline(always)]
+    fn drop_local(&mut self, at: usize) {
+        self.local_word(at).store(0, SeqCst);
+        self.place(at).object = 0;
+        if self.place(at).given != 0 {
+            self.move_to(at as u16, FREE);
+            self.free += 1;
+        }
+    }
+    /// Drops the references of the frame that ends here, the oldest first.
+    #[inline(always)]
+    fn drop_frame(&mut self, end: u16) {
+        while self.link(end).newer != end {
+            let at = self.link(end).newer;
+            self.drop_local(at as usize);
+        }
+    }
+    #[inline(always)]
+    fn ensure(&mut self, capacity: u32) -> u64 {
+        if self.free < capacity { LOCALS_FULL } else { 0 }
+    }
+    #[inline(always)]
+    fn push(&mut self, capacity: u32) -> u64 {
+        if self.frame == BASE + FRAMES - 1 || self.free < capacity {
+            return LOCALS_FULL;
+        }
+        self.frame += 1;
+        let end = self.frame;
+        *self.link(end) = Link { older: end, newer: end };
+        0
+    }
+    #[inline(always)]
+    fn pop(&mut self, kept: u64) -> u64 {
+        self.call(|env| {
+            if env.frame == BASE {
+                return NO_FRAME;
+            }
+            let object = env.resolve(kept);
+            if object & ERROR != 0 {
+                return object;
+            }
+            if object != 0 && env.free == 0 && env.link(env.frame).newer == env.frame {
+                return LOCALS_FULL;
+            }
+            env.drop_frame(env.frame);
+            env.frame -= 1;
+            if object == 0 { 0 } else { env.add_local(object) }
+        })
+    }
+    #[inline(always)]
+    fn free_locals(&mut self) -> u64 {
+        self.call(|env| {
+            for end in BASE..=env.frame {
+                env.drop_frame(end);
+            }
+            env.frame = BASE;
+            0
+        })
+    }
+    #[inline(always)]
+    fn frame_of_four(&mut self, handle: u64) -> bool {
+        if self.push(CAPACITY) != 0 {
+            return false;
+        }
+        for _ in 0..4 {
+            if !is_made(self.new_local(handle)) {
+                return false;
+            }
+        }
+        let kept = self.pop(handle);
+        is_made(kept) && self.delete_local(kept) == 0
     }
     #[inline(always)]
     fn is_same(&mut self, left: u64, right: u64) -> u64 {
@@ -288,7 +358,7 @@ impl Env<'_> {
 }
 
 /// The calls, as `jr_bench` names them.
-const CASES: [&str; 10] = [
+const CASES: [&str; 13] = [
     "get_object_ref_type(NULL)",
     "new_plain",
     "new_global_ref(local)",
@@ -299,7 +369,12 @@ const CASES: [&str; 10] = [
     "delete_local_ref",
     "is_same_object(global,global)",
     "get_object_ref_type(global)",
+    "ensure_local_capacity,push_local_frame,pop_local_frame(NULL)",
+    "push_local_frame,4*new_local_ref,pop_local_frame(global),delete_local_ref",
+    "new_local_ref,free_locals",
 ];
+const EMPTY_FRAME: usize = 10;
+const FREE_ONE: usize = 12;
 const NEW_PLAIN: usize = 1;
 
 // Each call is a function of its own and no part of the loop that makes it, as none is of native code. It says whether it answered as it should.
@@ -328,6 +403,9 @@ calls! {
     delete_local: |env, first, handle| env.delete_local(handle) == 0;
     is_same: |env, first, handle| env.is_same(first, handle) == 1;
     type_of_global: |env, first, handle| env.ref_type(handle) == GLOBAL;
+    empty_frame: |env, first, handle| env.ensure(CAPACITY) == 0 && env.push(CAPACITY) == 0 && env.pop(handle) == 0;
+    frame_of_four: |env, first, handle| env.frame_of_four(handle);
+    free_one: |env, first, handle| is_made(env.new_local(handle)) && env.free_locals() == 0;
 }
 
 #[inline(always)]
@@ -347,7 +425,10 @@ fn make_all(case: usize, env: &mut Env, handed: &[u64]) -> usize {
         6 => make_each(env, handed, new_local),
         7 => make_each(env, handed, delete_local),
         8 => make_each(env, handed, is_same),
-        _ => make_each(env, handed, type_of_global),
+        9 => make_each(env, handed, type_of_global),
+        EMPTY_FRAME => make_each(env, handed, empty_frame),
+        11 => make_each(env, handed, frame_of_four),
+        _ => make_each(env, handed, free_one),
     }
 }
 
@@ -356,7 +437,7 @@ fn handed(case: usize, env: &mut Env, calls: u32) -> Vec<u64> {
     let local = env.new_plain();
     let global = env.new_slot(GLOBAL, local);
     let handle = |env: &mut Env| match case {
-        0 | NEW_PLAIN => 0,
+        0 | NEW_PLAIN | EMPTY_FRAME => 0,
         2 | 4 => local,
         3 => env.new_slot(GLOBAL, local),
         5 => env.new_slot(WEAK, local),
@@ -381,8 +462,10 @@ fn stand(env: &mut Env, case: usize, work: Work) {
         env.new_slot(GLOBAL, object);
     }
     let beside = work.standing.min(MOST_BESIDE);
-    for _ in 0..beside {
-        env.new_local(object);
+    if case != FREE_ONE {
+        for _ in 0..beside {
+            env.new_local(object);
+        }
     }
     if case == NEW_PLAIN {
         for _ in 0..beside / work.threads {

@@ -18,10 +18,22 @@ pub(crate) enum Case {
     DeleteLocal,
     Same,
     TypeOfGlobal,
+    Frames(FrameCase),
 }
 
+/// Which calls for frames are made.
+#[derive(Clone, Copy)]
+pub(crate) enum FrameCase {
+    Empty,
+    OfFour,
+    FreeOne,
+}
+
+/// How many local references a frame is asked to have room for.
+const CAPACITY: u32 = 16;
+
 /// Each case with its name. The first does nothing between the entry and the exit.
-pub(crate) const CASES: [(Case, &'static str); 10] = [
+pub(crate) const CASES: [(Case, &'static str); 13] = [
     (Case::TypeOfNull, "get_object_ref_type(NULL)"),
     (Case::NewPlain, "new_plain"),
     (Case::NewGlobal, "new_global_ref(local)"),
@@ -32,6 +44,18 @@ pub(crate) const CASES: [(Case, &'static str); 10] = [
     (Case::DeleteLocal, "delete_local_ref"),
     (Case::Same, "is_same_object(global,global)"),
     (Case::TypeOfGlobal, "get_object_ref_type(global)"),
+    (
+        Case::Frames(FrameCase::Empty),
+        "ensure_local_capacity,push_local_frame,pop_local_frame(NULL)",
+    ),
+    (
+        Case::Frames(FrameCase::OfFour),
+        "push_local_frame,4*new_local_ref,pop_local_frame(global),delete_local_ref",
+    ),
+    (
+        Case::Frames(FrameCase::FreeOne),
+        "new_local_ref,free_locals",
+    ),
 ];
 
 impl Case {
@@ -47,9 +71,9 @@ impl Case {
         let mut handed = Vec::with_capacity(alloc, calls as usize).ok()?;
         for _ in 0..calls {
             let handle = match self {
-                Case::TypeOfNull | Case::NewPlain => Handle::NULL,
+                Case::TypeOfNull | Case::NewPlain | Case::Frames(FrameCase::Empty) => Handle::NULL,
                 Case::NewGlobal | Case::NewWeak => local,
-                Case::NewLocal | Case::Same | Case::TypeOfGlobal => global,
+                Case::NewLocal | Case::Same | Case::TypeOfGlobal | Case::Frames(_) => global,
                 Case::DeleteGlobal => env.new_global_ref(local).ok()??,
                 Case::DeleteWeak => env.new_weak_global_ref(local).ok()??,
                 Case::DeleteLocal => env.new_local_ref(global).ok()??,
@@ -90,8 +114,38 @@ impl Case {
             Case::TypeOfGlobal => make_each(env, handed, |env, _, at| {
                 matches!(env.get_object_ref_type(at), Ok(2))
             }),
+            Case::Frames(case) => case.make_all(env, handed),
         }
     }
+}
+
+impl FrameCase {
+    /// Makes the calls with each of the handles: how often they answered as they should.
+    fn make_all<S: Steps>(self, env: &mut Env<S>, handed: &[Handle]) -> usize {
+        match self {
+            FrameCase::Empty => make_each(env, handed, |env, _, at| {
+                env.ensure_local_capacity(CAPACITY).is_ok()
+                    && env.push_local_frame(CAPACITY).is_ok()
+                    && matches!(env.pop_local_frame(at), Ok(None))
+            }),
+            FrameCase::OfFour => make_each(env, handed, |env, _, at| {
+                frame_of_four(env, at).is_some()
+            }),
+            FrameCase::FreeOne => make_each(env, handed, |env, _, at| {
+                matches!(env.new_local_ref(at), Ok(Some(_))) && env.free_locals().is_ok()
+            }),
+        }
+    }
+}
+
+/// A frame with four local references to what a reference names, whose result is one more and is deleted.
+fn frame_of_four<S: Steps>(env: &mut Env<S>, handle: Handle) -> Option<()> {
+    env.push_local_frame(CAPACITY).ok()?;
+    for _ in 0..4 {
+        env.new_local_ref(handle).ok()??;
+    }
+    let kept = env.pop_local_frame(handle).ok()??;
+    env.delete_local_ref(kept).ok()
 }
 
 /// Makes a call with the first handle and each of them: how often it answered as it should.

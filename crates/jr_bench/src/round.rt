@@ -2,7 +2,7 @@
 
 ghost use Rattle.jr_rule.specs.Passes.{IsOpened};
 
-use crate::case::{Case, Env};
+use crate::case::{Case, Env, FrameCase};
 use jr_rule::{Pass, Room, RoomSteps};
 use jr_steps::Steps;
 use jr_word::Config;
@@ -45,7 +45,7 @@ pub(crate) struct Done {
     pub(crate) right: usize,
 }
 
-/// Makes what stands beside the calls: this thread's part of the global references, local references, and before new objects its part of objects.
+/// Makes what stands beside the calls: this thread's part of the global references, local references unless all of them are to be freed, and before new objects its part of objects.
 fn stand<S: Steps>(env: &mut Env<S>, case: Case, work: Work) -> Option<()> {
     let threads = work.threads.max(1);
     let object = env.new_plain().ok()?;
@@ -53,8 +53,10 @@ fn stand<S: Steps>(env: &mut Env<S>, case: Case, work: Work) -> Option<()> {
         env.new_global_ref(object).ok()?;
     }
     let beside = work.standing.min(MOST_BESIDE);
-    for _ in 0..beside {
-        env.new_local_ref(object).ok()?;
+    if !matches!(case, Case::Frames(FrameCase::FreeOne)) {
+        for _ in 0..beside {
+            env.new_local_ref(object).ok()?;
+        }
     }
     if matches!(case, Case::NewPlain) {
         for _ in 0..beside / threads {

@@ -1,4 +1,3 @@
-pub mod Publishing
 pub mod InsideGate
 pub mod Meetings
 pub mod NewReference

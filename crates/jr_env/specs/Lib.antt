@@ -1,4 +1,3 @@
 pub mod Deeds
 pub mod Envs
-pub mod Objects
 pub mod Works

@@ -1,5 +1,5 @@
 -- For the crate's own functions: what calls and their works did, over any steps and frames, for whatever was known.
-use Rattle.std.specs.Prelude.{ℕ, Result, Ok, Err, Option, None}
+use Rattle.std.specs.Prelude.{◌≡◌, ℕ, Result, Ok, Err, Option, Some, None}
 use Rattle.jr_word.specs.declared.config.Config.{Config}
 use Rattle.jr_word.specs.declared.fault.Fault.{Fault}
 use Rattle.jr_word.specs.declared.kind.Kind.TheVariants.{Plain}
@@ -10,11 +10,18 @@ use Rattle.jr_model.specs.Calls.{Call, ◌>>=◌, ◌>>◌}
 use Rattle.jr_model.specs.Checks.{Word}
 use Rattle.jr_model.specs.Parts.{frame_to_pop}
 use Rattle.jr_model.specs.References.{popping, resolved}
-use Rattle.jr_steps.specs.Knowing.{Facts, lets_go, Holds}
+use Rattle.jr_steps.specs.declared.known.Known.{Known}
+use Rattle.jr_steps.specs.Holdings.{with_header}
+use Rattle.jr_steps.specs.Knowing.{Facts, keeps, lets_go, Holds}
 use Rattle.jr_gate.specs.Performing.{Performed}
+use Rattle.jr_heap.specs.Heap.{header_of}
 use Rattle.jr_frames.specs.Table.{Table}
 use Rattle.jr_frames.specs.Ready.{StandsReady}
-use Rattle.jr_env.specs.Objects.{LearnsNew}
+
+-- the pass holds the header of the new plain object beside what it held, and just that where there is none
+abbrev pub LearnsNew : Option ℕ → Known → Known → Type 0
+LearnsNew None j k = keeps j k
+LearnsNew (Some o) j k = k.holdings ≡ with_header j.holdings o (header_of Plain 0 0)
 
 -- the object that the local reference made stands for, none where the call was refused
 abbrev pub object_made : Frames → Result Handle Fault → Option ℕ
@@ -31,7 +38,7 @@ frame_popping c last thread a = do
 module _ {S : Type 0} (facts : S → Facts) where
   -- a plain object and a local reference to it were made in a stay, by at most so many operations beside the acts: the pass holds the header of that very object beside what it held, and where the call was refused just what it held; the frames go on agreeing with the locals
   abbrev pub MakesPlain : S → S → Frames → Frames → ℕ → Call Handle → Result Handle Fault → Type 0
-  MakesPlain old new f g silent call answer = Performed facts old new f g silent (Holds f) (λ s. call) answer (λ j k. LearnsNew Plain (object_made g answer) j k × Holds g k)
+  MakesPlain old new f g silent call answer = Performed facts old new f g silent (Holds f) (λ s. call) answer (λ j k. LearnsNew (object_made g answer) j k × Holds g k)
 
   -- a whole call was made: the pass holds nothing, and the frames go on agreeing with the locals
   abbrev pub CallsWhole : {A : Type 0} → S → S → Frames → Frames → ℕ → Call A → Result A Fault → Type 0

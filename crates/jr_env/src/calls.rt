@@ -7,28 +7,26 @@ ghost use Rattle.jr_model.specs.Checks.{Parts};
 ghost use Rattle.jr_model.specs.References.{removal};
 ghost use Rattle.jr_frames.specs.OverSteps.{Calls};
 
-use crate::object::publish;
 use crate::work::Work;
 use jr_frames::{
     Frames, Reference, delete_local, lies_outside, names_kind, new_local, resolve, resolve_both,
     type_of,
 };
 use jr_gate::Inside;
+use jr_heap::{Numbers, Range, publish};
 use jr_row::{create, delete};
 use jr_steps::Steps;
 use jr_word::{Fault, HandleParts, Kind, RefKind};
 
-/// A plain object and a local reference to it: E9, E11.
-#[derive(Clone, Copy)]
-pub struct Making;
+/// A plain object, whose number is looked for where the numbers say, and a local reference to it: E9, E11.
+#[derive(Drop)]
+pub struct Making<'a>(pub &'a mut Numbers);
 
-impl<S: Steps> Work<S> for Making {
+impl<S: Steps> Work<S> for Making<'_> {
     ghost use Rattle.std.specs.Prelude.{◌≡◌};
     ghost use Rattle.jr_word.specs.declared.handle.RefKind.TheVariants.{Local};
     ghost use Rattle.jr_model.specs.References.{making};
-    ghost use Rattle.jr_word.specs.declared.kind.Kind.TheVariants.{Plain};
-    ghost use Rattle.jr_env.specs.Objects.{LearnsNew};
-    ghost use Rattle.jr_env.specs.Works.{object_made};
+    ghost use Rattle.jr_env.specs.Works.{LearnsNew, object_made};
 
     type Answer = HandleParts;
 
@@ -38,12 +36,12 @@ impl<S: Steps> Work<S> for Making {
 
     ghost asked = { λ _ c last t. making c last t };
 
-    ghost learns = { λ f answer j k. LearnsNew Plain (object_made f answer) j k };
+    ghost learns = { λ f answer j k. LearnsNew (object_made f answer) j k };
 
     ghost gives = { λ t h. (h.kind ≡ Local) × (h.owner ≡ t) };
 
     fn work(
-        &self,
+        self,
         steps: &mut S,
         inside: &Inside,
         frames: &mut Frames,
@@ -51,7 +49,7 @@ impl<S: Steps> Work<S> for Making {
         let Some(handle) = frames.next() else {
             return Err(Fault::LocalsFull);
         };
-        let object = publish(steps, Kind::Plain)?;
+        let object = publish(steps, self.0, Kind::Plain, Range::empty())?;
         steps.put_local(handle.index, Some(object));
         frames.add(handle, object);
         Ok(handle)
@@ -87,7 +85,7 @@ impl<S: Steps> Work<S> for Creation {
     ghost gives = { λ t made. IfSome made (λ h. h.owner ≡ 0) };
 
     fn work(
-        &self,
+        self,
         steps: &mut S,
         inside: &Inside,
         frames: &mut Frames,
@@ -124,7 +122,7 @@ impl<S: Steps> Work<S> for LocalCreation {
     ghost gives = { λ t made. IfSome made (λ h. (h.kind ≡ Local) × (h.owner ≡ t)) };
 
     fn work(
-        &self,
+        self,
         steps: &mut S,
         inside: &Inside,
         frames: &mut Frames,
@@ -162,7 +160,8 @@ impl<S: Steps> Work<S> for Removal {
 
     ghost gives = { λ _ _. Unit {0} };
 
-    fn work(&self, steps: &mut S, inside: &Inside, frames: &mut Frames) -> Result<(), Fault> {
+    #[inline(always)]
+    fn work(self, steps: &mut S, inside: &Inside, frames: &mut Frames) -> Result<(), Fault> {
         match self.target {
             Reference::Null => Ok(()),
             Reference::Malformed => Err(Fault::Stale),
@@ -192,7 +191,7 @@ impl<S: Steps> Work<S> for LocalRemoval {
 
     ghost gives = { λ _ _. Unit {0} };
 
-    fn work(&self, steps: &mut S, inside: &Inside, frames: &mut Frames) -> Result<(), Fault> {
+    fn work(self, steps: &mut S, inside: &Inside, frames: &mut Frames) -> Result<(), Fault> {
         match self.0 {
             Reference::Null => Ok(()),
             Reference::Malformed => Err(Fault::Stale),
@@ -222,7 +221,7 @@ impl<S: Steps> Work<S> for Comparison {
 
     ghost gives = { λ _ _. Unit {0} };
 
-    fn work(&self, steps: &mut S, inside: &Inside, frames: &mut Frames) -> Result<bool, Fault> {
+    fn work(self, steps: &mut S, inside: &Inside, frames: &mut Frames) -> Result<bool, Fault> {
         let (first, second) = resolve_both(steps, inside, frames, self.0, self.1)?;
         Ok(first == second)
     }
@@ -249,12 +248,13 @@ impl<S: Steps> Work<S> for Typing {
 
     ghost gives = { λ _ _. Unit {0} };
 
-    fn work(&self, steps: &mut S, inside: &Inside, frames: &mut Frames) -> Result<u8, Fault> {
+    fn work(self, steps: &mut S, inside: &Inside, frames: &mut Frames) -> Result<u8, Fault> {
         Ok(type_of(steps, inside, frames, self.0))
     }
 }
 
 /// Deletes the reference of a handle, if it is of the kind.
+#[inline(always)]
 fn delete_parts<S: Steps>(
     steps: &mut S,
     inside: &Inside,

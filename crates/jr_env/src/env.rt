@@ -5,6 +5,7 @@ ghost use Rattle.jr_frames.specs.Ready.{StandsReady};
 use crate::calls::{Comparison, Creation, LocalCreation, LocalRemoval, Making, Removal, Typing};
 use crate::work::make;
 use jr_frames::{Frames, Held, Reference};
+use jr_heap::Numbers;
 use jr_steps::Steps;
 use jr_word::{Fault, Handle, RefKind};
 
@@ -13,6 +14,8 @@ use jr_word::{Fault, Handle, RefKind};
 pub struct Env<S: Steps> {
     /// The thread's steps and its local references.
     pub held: Held<S>,
+    /// Where it looks for the number of its next object.
+    numbers: Numbers,
     ghost ready: { StandsReady S.facts Outside held.steps held.frames },
 }
 
@@ -44,8 +47,9 @@ impl<S: Steps> Env<S> {
         steps.spend();
         let config = steps.config();
         let frames = Frames::new(steps.thread(), &config, steps.last());
+        let numbers = Numbers::new();
         let held = Held { steps, frames };
-        Ok(Env { held })
+        Ok(Env { held, numbers })
     }
 
     /// The steps, whose pass is not fresh, so that no second env is made over it. Local references that stand stay in the row. It takes no step.
@@ -54,7 +58,7 @@ impl<S: Steps> Env<S> {
         ensures outside { (S.facts result).stands.role ≡ Outside }
         ensures spent { (S.facts result).stands.fresh ≡ false }
     {
-        let Env { held } = self;
+        let Env { held, .. } = self;
         let Held { steps, frames: _ } = held;
         steps
     }
@@ -63,7 +67,7 @@ impl<S: Steps> Env<S> {
     pub fn new_plain(&mut self) -> Result<Handle, Fault>
         ensures { Does self.old self.new new_plain result }
     {
-        let made = make(&mut self.held, &Making)?;
+        let made = make(&mut self.held, Making(&mut self.numbers))?;
         Ok(Handle::pack(made))
     }
 
@@ -86,7 +90,7 @@ impl<S: Steps> Env<S> {
         ensures { Does self.old self.new (new_local_ref handle.0) result }
     {
         let target = Reference::of(handle);
-        let made = make(&mut self.held, &LocalCreation(target))?;
+        let made = make(&mut self.held, LocalCreation(target))?;
         Ok(made.map(Handle::pack))
     }
 
@@ -96,7 +100,7 @@ impl<S: Steps> Env<S> {
     {
         let target = Reference::of(handle);
         let kind = RefKind::Global;
-        make(&mut self.held, &Removal { kind, target })
+        make(&mut self.held, Removal { kind, target })
     }
 
     /// Deletes a weak global reference; NULL is no refusal: E2, E4, E13. (JNI Specification, chapter 4, "DeleteWeakGlobalRef")
@@ -105,7 +109,7 @@ impl<S: Steps> Env<S> {
     {
         let target = Reference::of(handle);
         let kind = RefKind::Weak;
-        make(&mut self.held, &Removal { kind, target })
+        make(&mut self.held, Removal { kind, target })
     }
 
     /// Deletes a local reference of the thread; NULL is no refusal: E2, E3, E4, E13. (JNI Specification, chapter 4, "DeleteLocalRef")
@@ -113,7 +117,7 @@ impl<S: Steps> Env<S> {
         ensures { Does self.old self.new (delete_local_ref handle.0) result }
     {
         let target = Reference::of(handle);
-        make(&mut self.held, &LocalRemoval(target))
+        make(&mut self.held, LocalRemoval(target))
     }
 
     /// Whether two references are to one object, or both to null: E2, E3, E13. (JNI Specification, chapter 4, "IsSameObject")
@@ -122,7 +126,7 @@ impl<S: Steps> Env<S> {
     {
         let left = Reference::of(left);
         let right = Reference::of(right);
-        make(&mut self.held, &Comparison(left, right))
+        make(&mut self.held, Comparison(left, right))
     }
 
     /// The type of a reference: 0 invalid, 1 local, 2 global, 3 weak global: E13 alone. (JNI Specification, chapter 4, "GetObjectRefType")
@@ -130,7 +134,7 @@ impl<S: Steps> Env<S> {
         ensures { Does self.old self.new (get_object_ref_type handle.0) result }
     {
         let target = Reference::of(handle);
-        make(&mut self.held, &Typing(target))
+        make(&mut self.held, Typing(target))
     }
 
     /// A global or weak global reference to what the handle names, or none for null.
@@ -139,7 +143,7 @@ impl<S: Steps> Env<S> {
         ensures { Does self.old self.new (new_reference kind handle.0) result }
     {
         let target = Reference::of(handle);
-        let made = make(&mut self.held, &Creation { kind, target })?;
+        let made = make(&mut self.held, Creation { kind, target })?;
         Ok(made.map(Handle::pack))
     }
 }

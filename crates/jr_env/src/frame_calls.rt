@@ -41,7 +41,7 @@ impl<S: Steps> Env<S> {
         ensures { Does self.old self.new (pop_local_frame kept.0) result }
     {
         let target = Reference::of(kept);
-        let made = make(&mut self.held, &FramePop(target))?;
+        let made = make(&mut self.held, FramePop(target))?;
         Ok(made.map(Handle::pack))
     }
 
@@ -49,6 +49,6 @@ impl<S: Steps> Env<S> {
     pub fn free_locals(&mut self) -> Result<(), Fault>
         ensures { Does self.old self.new free_locals result }
     {
-        make(&mut self.held, &LocalsFreeing)
+        make(&mut self.held, LocalsFreeing)
     }
 }

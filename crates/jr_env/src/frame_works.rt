@@ -25,7 +25,7 @@ impl<S: Steps> Work<S> for LocalsFreeing {
 
     ghost gives = { λ _ _. Unit {0} };
 
-    fn work(&self, steps: &mut S, inside: &Inside, frames: &mut Frames) -> Result<(), Fault> {
+    fn work(self, steps: &mut S, inside: &Inside, frames: &mut Frames) -> Result<(), Fault> {
         free_all(steps, frames);
         Ok(())
     }
@@ -55,7 +55,7 @@ impl<S: Steps> Work<S> for FramePop {
     ghost gives = { λ t made. IfSome made (λ h. (h.kind ≡ Local) × (h.owner ≡ t)) };
 
     fn work(
-        &self,
+        self,
         steps: &mut S,
         inside: &Inside,
         frames: &mut Frames,

@@ -6,7 +6,6 @@ mod env;
 mod frame_calls;
 mod frame_works;
 mod meeting;
-mod object;
 mod work;
 
 pub use env::Env;

@@ -44,15 +44,15 @@ pub trait Work<S: Steps> {
     ///
     /// Those of the call but E13.
     fn work(
-        &self,
+        self,
         steps: &mut S,
         inside: &Inside,
         frames: &mut Frames,
     ) -> Result<Self::Answer, Fault>
         requires stay { IsOwnStay inside.now (S.facts steps.old).stands }
         requires ready { StandsReady S.facts Within steps.old frames.old }
-        requires can { can_work self.now }
-        ensures call { Performed S.facts steps.old steps.new frames.old.frames frames.new.frames (silent (S.facts steps.old).stands.config) (Holds frames.old.frames) (λ s. asked self.now (S.facts steps.old).stands.config (S.facts steps.old).stands.last (S.facts steps.old).stands.thread) result (λ j k. learns frames.new.frames result j k × Holds frames.new.frames k) }
+        requires can { can_work self }
+        ensures call { Performed S.facts steps.old steps.new frames.old.frames frames.new.frames (silent (S.facts steps.old).stands.config) (Holds frames.old.frames) (λ s. asked self (S.facts steps.old).stands.config (S.facts steps.old).stands.last (S.facts steps.old).stands.thread) result (λ j k. learns frames.new.frames result j k × Holds frames.new.frames k) }
         ensures same { KeepsOwner frames.old frames.new }
         ensures given { IfOk result (λ answer. gives (S.facts steps.old).stands.thread answer) };
 }
@@ -63,10 +63,10 @@ pub trait Work<S: Steps> {
 ///
 /// E13, and those of the work.
 #[inline(always)]
-pub fn make<S: Steps, W: Work<S>>(held: &mut Held<S>, work: &W) -> Result<W::Answer, Fault>
+pub fn make<S: Steps, W: Work<S> + Drop>(held: &mut Held<S>, work: W) -> Result<W::Answer, Fault>
     requires ready { StandsReady S.facts Outside held.old.steps held.old.frames }
-    requires can { W.can_work work.now }
-    ensures call { Completes S.facts held.old.steps held.new.steps held.old.frames held.new.frames (W.silent (S.facts held.old.steps).stands.config) (entered_call (W.asked work.now (S.facts held.old.steps).stands.config (S.facts held.old.steps).stands.last (S.facts held.old.steps).stands.thread)) result }
+    requires can { W.can_work work }
+    ensures call { Completes S.facts held.old.steps held.new.steps held.old.frames held.new.frames (W.silent (S.facts held.old.steps).stands.config) (entered_call (W.asked work (S.facts held.old.steps).stands.config (S.facts held.old.steps).stands.last (S.facts held.old.steps).stands.thread)) result }
     ensures given { IfOk result (λ answer. W.gives (S.facts held.old.steps).stands.thread answer) }
 {
     let inside = enter(&mut held.steps)?;

@@ -21,7 +21,7 @@ use Rattle.jr_steps.specs.Acts.{acts_of_publication}
 use Rattle.jr_steps.specs.Holdings.{header_in, with_header}
 use Rattle.jr_steps.specs.Knowing.{AreOf, Facts, Standing, MayKnow, Goes, view, state_of, words_for, without_range_of, HasObject, KnowsHeader, IsFilled, ShowsPublished, TookWith, Takes}
 use Rattle.jr_steps.proofs.StepFacts.{goes_did}
-use Rattle.jr_heap.specs.Heap.{Called, by_at_most, HoldsHeader, number_at_turn}
+use Rattle.jr_heap.specs.Heap.{Called, by_between, HoldsHeader, number_at_turn}
 use Rattle.jr_heap.proofs.Calling.{called_by}
 use Rattle.jr_heap.proofs.StayFacts.{present_later, word_later}
 use Rattle.jr_heap.proofs.NumberSearch.{turn_of}
@@ -74,14 +74,14 @@ module _ {S : Type 0} {facts : S → Facts} (fits : AreOf facts) (h : HeaderPart
   }
 
   pub passed_new : {a b c : S} {n : ℕ} (o all : ℕ) → objects ≡ all → n < objects → Passed facts h first objects a b n → TookWith facts b c (λ k. acts_of_publication o h.kind (words_for h k) true) (facts b).stands (IsFilled h) (ShowsPublished o h true)
-      → Called facts a c (IsFilled h) (λ j k. publish h.kind (words_for h j)) (Ok o) (by_at_most all (λ j k. ((state_of k).objects o ≡ Some (record { kind = h.kind; words = words_for h j })) × (k.holdings ≡ with_header (without_range_of h j.holdings) o h) × (header_in o j.holdings.headers ≡ None)))
+      → Called facts a c (IsFilled h) (λ j k. publish h.kind (words_for h j)) (Ok o) (by_between 1 all (λ j k. ((state_of k).objects o ≡ Some (record { kind = h.kind; words = words_for h j })) × (k.holdings ≡ with_header (without_range_of h j.holdings) o h) × (header_in o j.holdings.headers ≡ None)))
   passed_new {n = n} o all same_all small p t = called_by (λ k s m.
       let x = p.did k s m in
       let y = t.goes x.0 x.1 x.2 in
       let same : words_for h x.0 ≡ words_for h k = ap (λ (g : Holdings). words_for h (record k { holdings = g })) x.3 in
       let d : Did (view k) (view y.0) (New o h.kind (words_for h k) ∷ []) = subst (λ ws. Did (view k) (view y.0) (New o h.kind ws ∷ [])) same (did_then [] (New o h.kind (words_for h x.0) ∷ []) x.5 (goes_did y.2)) in
       let there : (state_of y.0).objects o ≡ Some (record { kind = h.kind; words = words_for h k }) = new_stands x.0 y.0 o h.kind (words_for h x.0) y.2 ∙ ap (λ ws. Some (record { kind = h.kind; words = ws })) same in
-      (y.0, y.1, New o h.kind (words_for h k) ∷ [], record { did = d; is = λ f. inl (o, refl, refl, refl); window = window_act (New o h.kind (words_for h k)) d tt tt; grounds = tt; shows = ((there, y.3.1 ∙ ap (λ g. with_header (without_range_of h g) o h) x.3, subst (λ (g : Holdings). header_in o g.headers ≡ None) x.3 y.3.2), record { count = n + 1; most = omega arith; takes = let u = x.6 in let v = y.2.taken in omega arith }) }))
+      (y.0, y.1, New o h.kind (words_for h k) ∷ [], record { did = d; is = λ f. inl (o, refl, refl, refl); window = window_act (New o h.kind (words_for h k)) d tt tt; grounds = tt; shows = ((there, y.3.1 ∙ ap (λ g. with_header (without_range_of h g) o h) x.3, subst (λ (g : Holdings). header_in o g.headers ≡ None) x.3 y.3.2), record { count = n + 1; low = omega arith; high = omega arith; takes = let u = x.6 in let v = y.2.taken in omega arith }) }))
 
   pub passed_present : {a b c : S} {n : ℕ} (o : ℕ) → MayKnow facts a (IsFilled h) → Passed facts h first objects a b n → TookWith facts b c (λ k. acts_of_publication o h.kind (words_for h k) true) (facts b).stands (IsFilled h) (ShowsPublished o h true) → MayKnow facts c (HasObject o)
   passed_present o may p t = ∥∥₁_map may (λ k. let x = p.did k.0 k.1 k.2 in let y = t.goes x.0 x.1 x.2 in (y.0, y.1, y.3.0))
@@ -98,11 +98,11 @@ module _ {S : Type 0} {facts : S → Facts} (fits : AreOf facts) (h : HeaderPart
   passed_ready may p = ∥∥₁_map may (λ k. let x = p.did k.0 k.1 k.2 in (x.0, x.1, x.2))
 
   pub passed_all : {a b : S} (n all : ℕ) → objects ≡ all → (facts a).stands.role ≡ Within → n ≤ objects → objects ≤ n → ((k : Known) → (facts a).knows k → k.config.objects ≡ objects) → (1 ≤ objects → first < objects) → Passed facts h first objects a b n
-      → Called facts a b (IsFilled h) (λ j k. publish h.kind (words_for h j)) (Err ObjectsFull) (by_at_most all (λ j k. k.holdings ≡ j.holdings))
+      → Called facts a b (IsFilled h) (λ j k. publish h.kind (words_for h j)) (Err ObjectsFull) (by_between all all (λ j k. k.holdings ≡ j.holdings))
   passed_all {a} n all same_all w most end same low p = called_by (λ k s m.
       let x = p.did k s m in
       let each : (o : ℕ) → 1 ≤ o → o ≤ x.0.config.objects → HasObject o x.0 = λ o l u.
       let top : o ≤ objects = subst (λ z. o ≤ z) (ap (λ (c : Config). c.objects) x.5.config ∙ same k s) u in
       let t = turn_of first objects o (low (omega arith)) l top in
       subst (λ z. HasObject z x.0) t.2 (x.4 t.0 (let b = t.1 in omega arith)) in
-      (x.0, x.1, [], record { did = x.5; is = λ f. inr (refl, refl, refl); window = window_within [] x.5 ((fits a k s).role ∙ w) tt; grounds = sometime_last x.5.begins each; shows = (x.3, record { count = n; most = omega arith; takes = x.6 }) }))
+      (x.0, x.1, [], record { did = x.5; is = λ f. inr (refl, refl, refl); window = window_within [] x.5 ((fits a k s).role ∙ w) tt; grounds = sometime_last x.5.begins each; shows = (x.3, record { count = n; low = omega arith; high = omega arith; takes = x.6 }) }))

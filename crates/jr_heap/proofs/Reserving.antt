@@ -137,5 +137,5 @@ module _ {S : Type 0} {facts : S → Facts} {b c : S} where
 
 module _ {S : Type 0} {facts : S → Facts} (fits : AreOf facts) where
   -- no words are reserved by no step
-  pub reserve_none : (a : S) (n : ℕ) → n ≡ 0 → Called facts a a anything (λ j k. reserve n) (Ok tt) (by_steps (reserve_steps n) (Gains n 0))
-  reserve_none a n e = subst (λ m. Called facts a a anything (λ j k. reserve m) (Ok tt) (by_steps (reserve_steps m) (Gains m 0))) (sym e) (called_none fits (λ k s m f. (refl, refl, refl)) (λ k. tt) (λ k. (refl, no_step k)))
+  pub reserve_none : (a : S) (n place : ℕ) → n ≡ 0 → Called facts a a anything (λ j k. reserve n) (Ok tt) (by_steps (reserve_steps n) (Gains n place))
+  reserve_none a n place e = subst (λ m. Called facts a a anything (λ j k. reserve m) (Ok tt) (by_steps (reserve_steps m) (Gains m place))) (sym e) (called_none fits (λ k s m f. (refl, refl, refl)) (λ k. tt) (λ k. (refl, no_step k)))

@@ -21,15 +21,16 @@ module _ {S : Type 0} (facts : S → Facts) where
 abbrev pub by_steps : ℕ → (Known → Known → Type 0) → Known → Known → Type 0
 by_steps n shows j k = shows j k × Takes n j k
 
--- so many steps at the most
-pub record TakesAtMost (n : ℕ) (j k : Known) : Type 0 where
+-- so many steps at the least, and so many at the most
+pub record TakesBetween (least most : ℕ) (j k : Known) : Type 0 where
   pub count : ℕ
-  pub most : count ≤ n
+  pub low : least ≤ count
+  pub high : count ≤ most
   pub takes : Takes count j k
 
--- the same, by so many steps at the most
-abbrev pub by_at_most : ℕ → (Known → Known → Type 0) → Known → Known → Type 0
-by_at_most n shows j k = shows j k × TakesAtMost n j k
+-- what a call shows, and that it took so many steps at the least, and so many at the most
+abbrev pub by_between : ℕ → ℕ → (Known → Known → Type 0) → Known → Known → Type 0
+by_between least most shows j k = shows j k × TakesBetween least most j k
 
 -- nothing that others could see
 abbrev pub no_act : Call (Unit {0})
@@ -88,6 +89,11 @@ number_at_turn first turn objects = cond (nat_lt (first + turn) objects) (first 
 abbrev pub Publishes : Kind → ℕ → ℕ → Result ℕ Fault → Known → Known → Type 0
 Publishes kind place n (Ok o) j k = ((state_of k).objects o ≡ Some (record { kind = kind; words = own_words place n j })) × (k.holdings ≡ with_header (without_range_of (header_of kind place n) j.holdings) o (header_of kind place n)) × (header_in o j.holdings.headers ≡ None)
 Publishes kind place n (Err e) j k = keeps j k
+
+-- a publication takes one exchange at the least, and one for each of n numbers where it is refused
+abbrev pub publish_steps : ℕ → Result ℕ Fault → ℕ
+publish_steps n (Ok o) = 1
+publish_steps n (Err e) = n
 
 -- the pass knows the header, and the present object has its kind and length
 pub record HoldsHeader (o : ℕ) (h : HeaderParts) (k : Known) : Type 0 where

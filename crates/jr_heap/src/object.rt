@@ -5,7 +5,7 @@ ghost use Rattle.jr_word.specs.declared.kind.Kind.TheVariants.{Plain};
 ghost use Rattle.jr_model.specs.declared.event.Role.TheVariants.{Within};
 ghost use Rattle.jr_model.specs.Parts.{publish as publication, header as header_call};
 ghost use Rattle.jr_steps.specs.Knowing.{state_of, HasObject, MayKnow};
-ghost use Rattle.jr_heap.specs.Heap.{Called, header_of, number_at_turn, own_words, IsReady, Publishes, HoldsHeader, Learns, by_at_most, by_steps};
+ghost use Rattle.jr_heap.specs.Heap.{Called, header_of, number_at_turn, own_words, IsReady, Publishes, HoldsHeader, Learns, by_between, by_steps, publish_steps};
 ghost use Rattle.jr_heap.specs.Ranges.{place_of, size_of};
 
 use crate::range::Range;
@@ -48,7 +48,7 @@ fn number(first: u32, turn: u32, objects: u32) -> u16
     (next - objects + 1) as u16
 }
 
-/// A new object, whose elements are the words of a range of the pass's own, which it gives away; its header holds until the pass leaves. E11 where every number is present, and then its words stay reserved. A plain object has none.
+/// A new object, whose elements are the words of a range of the pass's own, which it gives away; its header holds until the pass leaves. It takes an exchange for each number that it comes to, and comes to each at the most once. E11 where every number is present, and then its words stay reserved. A plain object has none.
 pub fn publish<S: Steps>(
     steps: &mut S,
     numbers: &mut Numbers,
@@ -59,7 +59,7 @@ pub fn publish<S: Steps>(
     requires plain { kind ≡ Plain → size_of range ≡ 0 }
     requires ready { MayKnow S.facts steps.old (IsReady kind (place_of range) (size_of range)) }
     ensures stands { (S.facts steps.new).stands ≡ (S.facts steps.old).stands }
-    ensures call { Called S.facts steps.old steps.new (IsReady kind (place_of range) (size_of range)) (λ j k. publication kind (own_words (place_of range) (size_of range) j)) result (by_at_most (S.facts steps.old).stands.config.objects (Publishes kind (place_of range) (size_of range) result)) }
+    ensures call { Called S.facts steps.old steps.new (IsReady kind (place_of range) (size_of range)) (λ j k. publication kind (own_words (place_of range) (size_of range) j)) result (by_between (publish_steps (S.facts steps.old).stands.config.objects result) (S.facts steps.old).stands.config.objects (Publishes kind (place_of range) (size_of range) result)) }
     ensures object { IfOk result (λ o. MayKnow S.facts steps.new (HasObject o)) }
     ensures known { IfOk result (λ o. MayKnow S.facts steps.new (HoldsHeader o (header_of kind (place_of range) (size_of range)))) }
 {

@@ -11,6 +11,17 @@ use jr_steps::{Steps, TopLoad};
 use jr_word::{Fault, HeaderParts, Kind};
 
 impl Range {
+    /// No words at all, by no step.
+    pub fn empty() -> Self
+        ensures place { place_of result ≡ 0 }
+        ensures size { size_of result ≡ 0 }
+    {
+        Range {
+            place: 0,
+            length: 0,
+        }
+    }
+
     /// How many words it has.
     pub fn length(&self) -> u32
         ensures { result ≡ size_of self.now }
@@ -40,10 +51,7 @@ pub fn reserve<S: Steps>(steps: &mut S, words: u32) -> Result<Range, Fault>
     ensures alone { (S.facts steps.old).stands.room ≡ None → IfErr result IsNotRaced }
 {
     if words == 0 {
-        return Ok(Range {
-            place: 0,
-            length: 0,
-        });
+        return Ok(Range::empty());
     }
     let space = steps.config().words;
     let used = steps.see_top(TopLoad::Full { words });

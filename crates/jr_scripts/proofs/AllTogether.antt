@@ -29,7 +29,7 @@ use Rattle.jr_scripts.specs.declared.part.ThreadRun.{ThreadRun}
 use Rattle.jr_gate.specs.Performing.{Moment, moment}
 use Rattle.jr_scripts.specs.Explains.{Explained}
 use Rattle.jr_scripts.specs.Text.{heading, ending}
-use Rattle.jr_scripts.specs.Runs.{RanThread}
+use Rattle.jr_scripts.specs.Runs.{RanToEnd, IsFreed}
 use Rattle.jr_scripts.specs.AllRuns.{RanPass, seeing_as, opening_of, IsPartOf, ArePartsOf, text_of_parts, IsRunOfAll}
 use Rattle.jr_scripts.specs.Jobs.{HasRun, IsFor, IsJobOf, AreJobsOf, IsDone, AreTold}
 
@@ -51,9 +51,11 @@ record Played (turns last : ℕ) (c : Config) (t first : ℕ) (commands : List C
   pub same_config : k.config ≡ c
   pub same_last : k.last ≡ last
   pub is_of : k.thread ≡ t
-  pub closing : Moment
-  pub saw : closing.pass ≡ seeing_as c last t k.seen
-  pub explained : Explained turns first (opening_of c last t) commands lines closing
+  pub told : Moment
+  pub explained : Explained turns first (opening_of c last t) commands lines told
+  pub left : Moment
+  pub freed : IsFreed turns told left
+  pub saw : left.pass ≡ seeing_as c last t k.seen
 
 view_is : (c : Config) (last t : ℕ) (k : Known) → k.config ≡ c → k.last ≡ last → k.thread ≡ t → view k ≡ seeing_as c last t k.seen
 view_is c last t k a b d = λ i. record { config = a i; last = b i; thread = d i; seen = k.seen }
@@ -66,26 +68,29 @@ played turns last c r p q first commands answer lines config_is last_is o x done
     let knows0 : known_of p ≡ k0 = o.knows ∙ (λ i. known (config_is i) (last_is i) t [] empty 0) in
     let fresh : fresh_frames (standing_of p).config.locals ≡ fresh_frames c.locals = ap (λ (k : Known). fresh_frames k.config.locals) knows0 in
     let spent : standing_of x.spent ≡ record (standing_of p) { fresh = false } = (x.spends).stands_is in
-    let ran : RanThread facts_of x.spent q (fresh_frames c.locals) x.frames turns first commands (Ok tt) lines
-    = subst (λ a. RanThread facts_of x.spent q (fresh_frames c.locals) x.frames turns first commands a lines) done
-    (subst (λ f. RanThread facts_of x.spent q f x.frames turns first commands answer lines) fresh x.ran) in
+    let ran : RanToEnd facts_of x.spent q (fresh_frames c.locals) x.frames turns first commands (Ok tt) lines
+    = subst (λ a. RanToEnd facts_of x.spent q (fresh_frames c.locals) x.frames turns first commands a lines) done
+    (subst (λ f. RanToEnd facts_of x.spent q f x.frames turns first commands answer lines) fresh x.ran) in
     let holds0 : Holds (fresh_frames c.locals) k0 = λ place. refl in
-    let y = ran.explained (known_of p) (((x.spends).same (known_of p)).0 (opened_knows r p o)) (subst (Holds (fresh_frames c.locals)) (sym knows0) holds0) in
+    let y = ran.ended (known_of p) (((x.spends).same (known_of p)).0 (opened_knows r p o)) (subst (Holds (fresh_frames c.locals)) (sym knows0) holds0) in
     let is : y.0 ≡ known_of q = (y.1).is in
     let s = ran.stands_is in
     let same_config : (known_of q).config ≡ c = s.config ∙ (ap (λ (z : Standing). z.config) spent ∙ ap (λ (k : Known). k.config) knows0) in
     let same_last : (known_of q).last ≡ last = s.last ∙ (ap (λ (z : Standing). z.last) spent ∙ ap (λ (k : Known). k.last) knows0) in
     let is_of : (known_of q).thread ≡ t = q.held.thread_is ∙ (s.thread ∙ ap (λ (z : Standing). z.thread) spent) in
     let end : Known → Moment = λ k. moment (standing_of q).fresh k x.frames in
-    let from : Explained turns first (opening_of c last t) commands lines (end y.0)
-    = subst (λ b. Explained turns first (moment b k0 (fresh_frames c.locals)) commands lines (end y.0)) (ap (λ (z : Standing). z.fresh) spent) (subst (λ (k : Known). Explained turns first (moment (standing_of x.spent).fresh k (fresh_frames c.locals)) commands lines (end y.0)) knows0 y.3) in
+    let told = y.3 in
+    let from : Explained turns first (opening_of c last t) commands lines told
+    = subst (λ b. Explained turns first (moment b k0 (fresh_frames c.locals)) commands lines told) (ap (λ (z : Standing). z.fresh) spent) (subst (λ (k : Known). Explained turns first (moment (standing_of x.spent).fresh k (fresh_frames c.locals)) commands lines told) knows0 y.4) in
     record {
       same_config = same_config;
       same_last = same_last;
       is_of = is_of;
-      closing = end (known_of q);
+      told = told;
+      explained = from;
+      left = end (known_of q);
+      freed = subst (λ (k : Known). IsFreed turns told (end k)) is y.5;
       saw = view_is c last t (known_of q) same_config same_last is_of;
-      explained = subst (λ (k : Known). Explained turns first (opening_of c last t) commands lines (end k)) is from;
     }
 
 -- the same of a job
@@ -103,10 +108,12 @@ job_played turns last c r line p p' q j x config_is last_is o i ran done is =
 part_of_other : (turns last : ℕ) (c : Config) (whole : History) (t first : ℕ) (part : ThreadPart) (lines : List ℕ) (k : Known) → 0 < t → Played turns last c t first part.commands lines k → IsSeenIn whole k → IsPartOf turns last c whole t first part lines
 part_of_other turns last c whole zero first part lines k some p s = absurd (omega arith)
 part_of_other turns last c whole (suc t) first part lines k some p s = record {
-  seen = k.seen;
-  closing = p.closing;
-  saw = p.saw;
+  told = p.told;
   explained = p.explained;
+  left = p.left;
+  freed = p.freed;
+  seen = k.seen;
+  saw = p.saw;
   begins = s.begins;
   own = ap (mine whole) (sym p.is_of) ∙ (s.own ∙ (ap (mine k.seen) p.is_of ∙ sym (append-nil (mine k.seen (suc t)))));
 }
@@ -114,10 +121,12 @@ part_of_other turns last c whole (suc t) first part lines k some p s = record {
 -- the part of the first, which looks at the gate at the end
 part_of_first : (turns last : ℕ) (c : Config) (whole : History) (first : ℕ) (part : ThreadPart) (lines : List ℕ) (k met : Known) → Played turns last c 0 first part.commands lines k → Did (view k) (view met) (Meet ∷ []) → IsSeenIn whole met → IsPartOf turns last c whole 0 first part lines
 part_of_first turns last c whole first part lines k met p d s = record {
-  seen = k.seen;
-  closing = p.closing;
-  saw = p.saw;
+  told = p.told;
   explained = p.explained;
+  left = p.left;
+  freed = p.freed;
+  seen = k.seen;
+  saw = p.saw;
   begins = prefix_trans k.seen met.seen whole d.begins s.begins;
   own = ap (mine whole) (sym (d.thread ∙ p.is_of)) ∙ (s.own ∙ (ap (mine met.seen) d.thread ∙ (d.own ∙ ap (λ l. l ++ Meet ∷ []) (ap (mine k.seen) p.is_of))));
 }

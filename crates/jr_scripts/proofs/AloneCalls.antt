@@ -4,7 +4,7 @@ use Rattle.std.specs.List.{AllByRecursion}
 use mathlib.Core.List.{IsPrefix}
 use Rattle.jr_word.specs.declared.config.Config.{Config}
 use Rattle.jr_word.specs.declared.fault.Fault.{Fault}
-use Rattle.jr_word.specs.declared.fault.Fault.TheVariants.{Stale, RowFull, LocalsFull, ObjectsFull}
+use Rattle.jr_word.specs.declared.fault.Fault.TheVariants.{Stale, RowFull, LocalsFull, ObjectsFull, NoFrame}
 use Rattle.jr_model.specs.declared.event.Event.{Event}
 use Rattle.jr_model.specs.declared.event.Act.{Act}
 use Rattle.jr_model.specs.declared.event.Act.TheVariants.{Knock, Leave}
@@ -19,6 +19,7 @@ use Rattle.jr_model.proofs.Moments.{prefix_trans}
 use Rattle.jr_model.proofs.Stays.{mine_did}
 use Rattle.jr_gate.specs.Performing.{Moment}
 use Rattle.jr_env.specs.Deeds.{Deed, call_by}
+use Rattle.jr_syntax.specs.declared.command.Command.{Command}
 use Rattle.jr_scripts.specs.AloneAnswers.{IsAloneFault}
 use Rattle.jr_scripts.proofs.AloneHistories.{all_back, own_acts, own_events, still_so, stays_occupied, stays_present}
 use Rattle.jr_scripts.proofs.Uncontended.{IsUncontendedFault, is_uncontended_act, AreUncontended, IsUncontended}
@@ -35,16 +36,16 @@ abbrev pub AllUncontended : History → Type 0
 AllUncontended es = AllByRecursion (λ e. is_uncontended_act e.act ≡ true) es
 
 -- from one moment of a lone pass to another: what was seen begins what is seen, no reservation was lost in between, and a refusal is a lone thread's
-pub record LedAlone (turns : ℕ) {A : Type 0} (old new : PassView) (g : Frames) (answer : Result A Fault) : Type 0 where
+pub record LedAlone (turns : ℕ) (command : Command) {A : Type 0} (old new : PassView) (g : Frames) (answer : Result A Fault) : Type 0 where
   pub config : new.config ≡ old.config
   pub thread : new.thread ≡ old.thread
   pub begins : IsPrefix old.seen new.seen
   pub uncontended : AllUncontended old.seen → AllUncontended new.seen
-  pub fault : IfErr answer (IsAloneFault turns new g)
+  pub fault : IfErr answer (IsAloneFault turns command new g)
 
 -- what the deed leads to, where all that happened is the thread's own
-pub record LeadsAlone (turns : ℕ) {A : Type 0} (deed : Deed A) : Type 0 where
-  pub led : (old new : Moment) (answer : Result A Fault) → IsAlone new.pass → deed old answer new → LedAlone turns old.pass new.pass new.frames answer
+pub record LeadsAlone (turns : ℕ) (command : Command) {A : Type 0} (deed : Deed A) : Type 0 where
+  pub led : (old new : Moment) (answer : Result A Fault) → IsAlone new.pass → deed old answer new → LedAlone turns command old.pass new.pass new.frames answer
 
 -- the events that are seen were the call's
 ran_of : {A : Type 0} (silent : Config → ℕ) (asked : Config → ℕ → ℕ → State → Call A) (old new : Moment) (answer : Result A Fault) → call_by silent asked old answer new
@@ -80,32 +81,33 @@ module _ {A : Type 0} (old new : PassView) (f g : Frames) (work : Call A) (alone
       (refused_since ObjectsFull changes r) r.window.from grounds
 
   -- a refusal of a call that no other thread causes
-  fault_alone : (turns : ℕ) (e : Fault) → IsUncontendedFault new.last g e → ChangesNothing work → Ran old new f g work (Err e) → IsAloneFault turns new g e
-  fault_alone turns Stale uncontended changes r = tt
-  fault_alone turns LocalsFull uncontended changes r = uncontended
-  fault_alone turns RowFull uncontended changes r = row_is_full changes r
-  fault_alone turns ObjectsFull uncontended changes r = objects_are_full changes r
-  fault_alone turns _ uncontended changes r = absurd uncontended
+  fault_alone : (turns : ℕ) (command : Command) (e : Fault) → IsUncontendedFault new.last command g e → ChangesNothing work → Ran old new f g work (Err e) → IsAloneFault turns command new g e
+  fault_alone turns command Stale uncontended changes r = tt
+  fault_alone turns command LocalsFull uncontended changes r = uncontended
+  fault_alone turns command NoFrame uncontended changes r = uncontended
+  fault_alone turns command RowFull uncontended changes r = row_is_full changes r
+  fault_alone turns command ObjectsFull uncontended changes r = objects_are_full changes r
+  fault_alone turns command _ uncontended changes r = absurd uncontended
 
-module _ {A : Type 0} (last : ℕ) (work : Call A) (uncontended : IsUncontended last work) where
+module _ {A : Type 0} (command : Command) (last : ℕ) (work : Call A) (uncontended : IsUncontended last command work) where
   acts_uncontended : (old new : Frames) (acts : List Act) (answer : Result A Fault) → entered work old acts answer new → AreUncontended acts
   acts_uncontended old new acts answer (inl r) = subst AreUncontended (sym r.0) (refl, (refl, tt))
   acts_uncontended old new acts answer (inr r) = subst AreUncontended (sym r.1) (refl, append_all (λ a. is_uncontended_act a ≡ true) r.0 (Leave ∷ []) (uncontended.acts old new r.0 answer r.2) (refl, tt))
 
   -- a call that was not barred is refused for what its work is
-  fault_uncontended : (old new : Frames) (acts : List Act) (e : Fault) → AllByRecursion (λ a. a ≢ Knock) acts → entered work old acts (Err e) new → IsUncontendedFault last new e
+  fault_uncontended : (old new : Frames) (acts : List Act) (e : Fault) → AllByRecursion (λ a. a ≢ Knock) acts → entered work old acts (Err e) new → IsUncontendedFault last command new e
   fault_uncontended old new acts e enters (inl r) = absurd ((subst (AllByRecursion (λ a. a ≢ Knock)) r.0 enters).0 refl)
   fault_uncontended old new acts e enters (inr r) = uncontended.fault old new r.0 e r.2
 
   module _ (turns : ℕ) (changes : ChangesNothing (entered work)) (old new : PassView) (f g : Frames) (same : old.last ≡ last) (alone : IsAlone new) where
-    ran_fault : (answer : Result A Fault) → Ran old new f g (entered work) answer → IfErr answer (IsAloneFault turns new g)
+    ran_fault : (answer : Result A Fault) → Ran old new f g (entered work) answer → IfErr answer (IsAloneFault turns command new g)
     ran_fault (Ok x) r = tt
     ran_fault (Err e) r =
         let enters = all_back (λ (x : Event). x.act ≢ Knock) old.seen r.did.begins.0 (subst (AllByRecursion (λ (x : Event). x.act ≢ Knock)) (sym r.did.begins.1) alone.enters) in
         let acts : AllByRecursion (λ a. a ≢ Knock) r.acts = subst (AllByRecursion (λ a. a ≢ Knock)) (mine_did r.acts r.did) (own_acts (λ a. a ≢ Knock) old.thread r.did.begins.0 enters) in
-        fault_alone old new f g (entered work) alone turns e (subst (λ n. IsUncontendedFault n g e) (sym (r.did.last ∙ same)) (fault_uncontended f g r.acts e acts r.is)) changes r
+        fault_alone old new f g (entered work) alone turns command e (subst (λ n. IsUncontendedFault n command g e) (sym (r.did.last ∙ same)) (fault_uncontended f g r.acts e acts r.is)) changes r
 
-    ran_alone : (answer : Result A Fault) → Ran old new f g (entered work) answer → LedAlone turns old new g answer
+    ran_alone : (answer : Result A Fault) → Ran old new f g (entered work) answer → LedAlone turns command old new g answer
     ran_alone answer r = record {
       config = r.did.config;
       thread = r.did.thread;
@@ -115,12 +117,12 @@ module _ {A : Type 0} (last : ℕ) (work : Call A) (uncontended : IsUncontended 
     }
 
 -- a call with a stay of its own
-pub call_alone : {A : Type 0} (turns : ℕ) (silent : Config → ℕ) (work : Config → ℕ → ℕ → State → Call A) → ((c : Config) (last t : ℕ) (s : State) → c.threads ≡ 1 → t ≡ 0 → IsUncontended last (work c last t s)) → ((c : Config) (last t : ℕ) (s : State) → ChangesNothing (entered (work c last t s)))
-    → LeadsAlone turns (call_by silent (λ c last t s. entered (work c last t s)))
-call_alone turns silent work uncontended changes = record {
+pub call_alone : {A : Type 0} (turns : ℕ) (command : Command) (silent : Config → ℕ) (work : Config → ℕ → ℕ → State → Call A) → ((c : Config) (last t : ℕ) (s : State) → c.threads ≡ 1 → t ≡ 0 → IsUncontended last command (work c last t s)) → ((c : Config) (last t : ℕ) (s : State) → ChangesNothing (entered (work c last t s)))
+    → LeadsAlone turns command (call_by silent (λ c last t s. entered (work c last t s)))
+call_alone turns command silent work uncontended changes = record {
   led = λ old new answer alone r.
       let x = ran_of silent (λ c last t s. entered (work c last t s)) old new answer r in
       let now = state new.pass.seen in
-      ran_alone old.pass.last (work old.pass.config old.pass.last old.pass.thread now) (uncontended old.pass.config old.pass.last old.pass.thread now (ap (λ c. c.threads) (sym x.did.config) ∙ alone.one) (sym x.did.thread ∙ alone.first)) turns
+      ran_alone command old.pass.last (work old.pass.config old.pass.last old.pass.thread now) (uncontended old.pass.config old.pass.last old.pass.thread now (ap (λ c. c.threads) (sym x.did.config) ∙ alone.one) (sym x.did.thread ∙ alone.first)) turns
       (changes old.pass.config old.pass.last old.pass.thread now) old.pass new.pass old.frames new.frames refl alone answer x;
 }

@@ -8,13 +8,13 @@ use Rattle.jr_scripts.specs.declared.part.ThreadRun.{ThreadRun}
 use Rattle.jr_scripts.specs.Text.{heading}
 use Rattle.jr_scripts.specs.Jobs.{AreJobsOf, IsDone, AreTold}
 
-nothing_left : {A : Type 0} (i : ℕ) (xs : List A) → length xs ≤ i → drop i xs ≡ []
+pub nothing_left : {A : Type 0} (i : ℕ) (xs : List A) → length xs ≤ i → drop i xs ≡ []
 nothing_left zero [] all = refl
 nothing_left zero (x ∷ xs) all = absurd (omega arith)
 nothing_left (suc i) [] all = refl
 nothing_left (suc i) (x ∷ xs) all = nothing_left i xs (omega arith)
 
-one_left : {A : Type 0} (i : ℕ) (xs : List A) (x : A) → i < length xs → x ≡ get_or xs i x → drop i xs ≡ x ∷ drop (suc i) xs
+pub one_left : {A : Type 0} (i : ℕ) (xs : List A) (x : A) → i < length xs → x ≡ get_or xs i x → drop i xs ≡ x ∷ drop (suc i) xs
 one_left zero [] x some is = absurd (omega arith)
 one_left zero (y ∷ ys) x some is = λ j. sym is j ∷ ys
 one_left (suc i) [] x some is = absurd (omega arith)

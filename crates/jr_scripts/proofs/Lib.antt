@@ -7,9 +7,13 @@ pub mod Uncontended
 pub mod AloneCalls
 pub mod AloneDeeds
 pub mod AloneAnswers
+pub mod FreedAlone
+pub mod ToEnd
 pub mod WholeRun
 pub mod JobHandles
 pub mod OneOfAll
 pub mod AllTogether
 pub mod JobLists
+pub mod Lines
+pub mod ReadScripts
 pub mod LoneRun

@@ -16,9 +16,10 @@ use Rattle.jr_scripts.specs.Text.{heading, ending}
 use Rattle.jr_scripts.specs.Runs.{IsRun, RunsSingle, seeing, opening_moment}
 use Rattle.jr_scripts.specs.AllRuns.{IsPartOf, ArePartsOf, text_of_parts, IsRunOfAll}
 use Rattle.jr_scripts.proofs.Alone.{undisturbed}
-use Rattle.jr_scripts.proofs.AloneAnswers.{all_map, lone_pass, unbarred, went_alone}
+use Rattle.jr_scripts.proofs.AloneAnswers.{all_map, lone_pass, unbarred}
 use Rattle.jr_scripts.proofs.AloneCalls.{IsAlone, AllUncontended}
 use Rattle.jr_scripts.proofs.AloneHistories.{all_back, own_events}
+use Rattle.jr_scripts.proofs.FreedAlone.{ended_alone}
 
 one_part : (ps : List ThreadPart) → length ps ≡ 1 → (p : ThreadPart) × (ps ≡ p ∷ [])
 one_part [] long = absurd (omega arith)
@@ -49,21 +50,24 @@ module _ (turns last : ℕ) (c : Config) (one : c.threads ≡ 1) (whole : Histor
     part_alone text is =
         let legal_seen : IsLegal c last p.seen = ((legal_append c last p.seen p.begins.0).0 (subst (IsLegal c last) (sym p.begins.1) legal)).0 in
         let all = undisturbed c last one p.seen legal_seen in
-        let lone : IsAlone (p.closing).pass = subst IsAlone (sym p.saw) (lone_pass (seeing c last p.seen) one refl all) in
-        let went = went_alone turns 3 (opening_moment c last) p.closing part.commands lines (p.explained).0 (p.explained).1 lone in
+        let lone : IsAlone (p.left).pass = subst IsAlone (sym p.saw) (lone_pass (seeing c last p.seen) one refl all) in
+        let ended = ended_alone turns 3 (opening_moment c last) p.told p.left part.commands lines p.explained p.freed lone in
         record {
           seen = p.seen;
           lines = lines;
           legal = legal_seen;
-          alone = unbarred p.seen all (ap-seen went.uncontended);
-          closing = p.closing;
-          saw = p.saw;
+          alone = unbarred p.seen all (ap-seen ended.uncontended);
+          told = p.told;
           explained = p.explained;
-          answers = went.answers;
+          answers = ended.answers;
+          left = p.left;
+          freed = p.freed;
+          freed_all = ended.all;
+          saw = p.saw;
           text_is = is ∙ ap (λ s. heading part.name ++ lines ++ ending (summary c last s)) same_state;
         }
       where
-        ap-seen : (AllUncontended [] → AllUncontended (p.closing).pass.seen) → AllUncontended p.seen
+        ap-seen : (AllUncontended [] → AllUncontended (p.left).pass.seen) → AllUncontended p.seen
         ap-seen f = subst (λ v. AllUncontended v.seen) p.saw (f tt)
 
   parts_alone : (part : ThreadPart) (lines : List (List ℕ)) → ArePartsOf turns last c whole 0 2 (part ∷ []) lines → (text : List ℕ) → text ≡ text_of_parts (part ∷ []) lines ++ ending (summary c last (state whole)) → IsRun turns last c part text

@@ -1,5 +1,6 @@
 -- The acts and refusals of the calls of references are uncontended, but for the gate: no lost reservation, and no refusal that another thread causes.
-use Rattle.std.proofs.Common.{◌≡◌, ◌==◌, ◌&&◌, inl, inr, ℕ, Bool, true, false, cond, nat_lt, Option, Some, None, List, [], ◌∷◌, map, Result, Ok, Err, refl, sym, ap, subst, arith, not}
+use Rattle.std.proofs.Common.{◌≡◌, ◌==◌, ◌&&◌, ◌∙◌, ◌<◌, ◌≤◌, inl, inr, ℕ, Bool, true, false, cond, nat_lt, nat_le, length, Option, Some, None, List, [], ◌∷◌, map, Result, Ok, Err, refl, sym, ap, subst, arith, not}
+use Rattle.std.proofs.lemmas.Bool.{eqb-true, leb-true}
 use Rattle.std.proofs.lemmas.Bool.Decides.{nat_tests}
 use Rattle.std.specs.List.{AllByRecursion}
 use Rattle.jr_word.specs.declared.config.Config.{Config}
@@ -7,39 +8,48 @@ use Rattle.jr_word.specs.declared.handle.RefKind.{RefKind}
 use Rattle.jr_word.specs.declared.handle.RefKind.TheVariants.{Local}
 use Rattle.jr_word.specs.declared.kind.Kind.TheVariants.{Plain}
 use Rattle.jr_word.specs.declared.fault.Fault.{Fault}
-use Rattle.jr_word.specs.declared.fault.Fault.TheVariants.{Stale, Foreign, WrongKind, RowFull, LocalsFull, ObjectsFull}
+use Rattle.jr_word.specs.declared.fault.Fault.TheVariants.{Stale, Foreign, WrongKind, RowFull, LocalsFull, ObjectsFull, NoFrame}
 use Rattle.jr_model.specs.declared.event.Act.{Act}
 use Rattle.jr_model.specs.declared.event.Act.TheVariants.{ReserveLost, Create, Look, Probe, Delete, DeleteStale, LocalPut, LocalDrop, New}
 use Rattle.jr_model.specs.declared.event.Found.{Found}
 use Rattle.jr_model.specs.declared.event.Found.TheVariants as found
 use Rattle.jr_model.specs.State.{Handle}
-use Rattle.jr_model.specs.Frames.{Frames, free_places, object_of}
+use Rattle.jr_model.specs.declared.frames.TheConstants.{FRAMES}
+use Rattle.jr_model.specs.declared.frames.LocalRef.{LocalRef}
+use Rattle.jr_model.specs.Frames.{Frames, all_refs, drop_all, free_places, last_frame, object_of, popped}
 use Rattle.jr_model.specs.Calls.{Call, ◌>>=◌, done, refuse, refuse_if, act, some_act, one_of}
 use Rattle.jr_model.specs.Checks.{Word, Nothing, Malformed, Parts, is_local, type_local, is_out_of_bounds, is_of_kind, is_foreign}
-use Rattle.jr_model.specs.Parts.{created, create, created_with, delete_at, delete_found, delete_local_at, drop_local, found_object, local_object, look, looked, looked_at, probes, publish, type_at}
-use Rattle.jr_model.specs.References.{added, comparison, creation, local_creation, local_removal, making, new_local, removal, resolved, resolved_both, room_for, typing}
+use Rattle.jr_model.specs.Parts.{created, create, created_with, delete_at, delete_found, delete_local_at, drop_local, found_object, frame_to_pop, local_object, look, looked, looked_at, new_frame, probes, publish, take_frame, type_at}
+use Rattle.jr_model.specs.References.{added, comparison, creation, ensure_local_capacity, freeing, local_creation, local_removal, making, new_local, popping, push_local_frame, removal, resolved, resolved_both, room_after, room_for, typing}
 use Rattle.jr_model.proofs.Exactly.{append_all}
+use Rattle.jr_syntax.specs.declared.name.Reference.{Reference}
+use Rattle.jr_syntax.specs.declared.command.Command.{Command}
+use Rattle.jr_syntax.specs.declared.command.Command.TheVariants as commands
+use Rattle.jr_syntax.specs.declared.verb.MakeFrom.TheVariants as make_from
+use Rattle.jr_syntax.specs.declared.verb.WithCount.TheVariants as with_count
+use Rattle.jr_scripts.specs.AloneAnswers.{LacksRoom, LacksFrame}
 
 -- an act that no other thread causes: no reservation that was lost
 abbrev pub is_uncontended_act : Act → Bool
 is_uncontended_act (ReserveLost n looked found) = false
 is_uncontended_act _ = true
 
--- a refusal that no other thread causes; where it says that no local place is free, so it is
-abbrev pub IsUncontendedFault : ℕ → Frames → Fault → Type 0
-IsUncontendedFault last f Stale = Unit {0}
-IsUncontendedFault last f LocalsFull = free_places last f ≡ 0
-IsUncontendedFault last f RowFull = Unit {0}
-IsUncontendedFault last f ObjectsFull = Unit {0}
-IsUncontendedFault last f _ = ⊥
+-- a refusal of a command that no other thread causes; where it says that there is no room in the frames or no frame, so it is
+abbrev pub IsUncontendedFault : ℕ → Command → Frames → Fault → Type 0
+IsUncontendedFault last command f Stale = Unit {0}
+IsUncontendedFault last command f LocalsFull = LacksRoom last command f
+IsUncontendedFault last command f NoFrame = LacksFrame command f
+IsUncontendedFault last command f RowFull = Unit {0}
+IsUncontendedFault last command f ObjectsFull = Unit {0}
+IsUncontendedFault last command f _ = ⊥
 
 abbrev pub AreUncontended : List Act → Type 0
 AreUncontended acts = AllByRecursion (λ a. is_uncontended_act a ≡ true) acts
 
--- the call has no other acts and no other refusals
-pub record IsUncontended (last : ℕ) {A : Type 0} (call : Call A) : Type 0 where
+-- the call has no other acts, and no other refusals of the command that makes it
+pub record IsUncontended (last : ℕ) (command : Command) {A : Type 0} (call : Call A) : Type 0 where
   pub acts : (old new : Frames) (acts : List Act) (answer : Result A Fault) → call old acts answer new → AreUncontended acts
-  pub fault : (old new : Frames) (acts : List Act) (e : Fault) → call old acts (Err e) new → IsUncontendedFault last new e
+  pub fault : (old new : Frames) (acts : List Act) (e : Fault) → call old acts (Err e) new → IsUncontendedFault last command new e
 
 no_acts : {acts : List Act} → acts ≡ [] → AreUncontended acts
 no_acts is = subst AreUncontended (sym is) tt
@@ -50,131 +60,135 @@ one_act a uncontended is = subst AreUncontended (sym is) (uncontended, tt)
 same_fault : {A : Type 0} (e e' : Fault) → ◌≡◌ {A = Result A Fault} (Err e) (Err e') → e ≡ e'
 same_fault e e' is = cc
 
-same_fault_of : {A : Type 0} (last : ℕ) (f : Frames) (e e' : Fault) → ◌≡◌ {A = Result A Fault} (Err e) (Err e') → IsUncontendedFault last f e' → IsUncontendedFault last f e
-same_fault_of {A} last f e e' is uncontended = subst (IsUncontendedFault last f) (sym (same_fault {A = A} e e' is)) uncontended
+same_fault_of : {A : Type 0} (last : ℕ) (command : Command) (f : Frames) (e e' : Fault) → ◌≡◌ {A = Result A Fault} (Err e) (Err e') → IsUncontendedFault last command f e' → IsUncontendedFault last command f e
+same_fault_of {A} last command f e e' is uncontended = subst (IsUncontendedFault last command f) (sym (same_fault {A = A} e e' is)) uncontended
 
 all_probes : (looks : List (ℕ × Bool)) → AreUncontended (map (λ l. Probe l.0 l.1) looks)
 all_probes [] = tt
 all_probes (l ∷ looks) = (refl, all_probes looks)
 
+all_dropped : (rs : List LocalRef) → AreUncontended (drop_all rs)
+all_dropped [] = tt
+all_dropped (r ∷ rs) = (refl, all_dropped rs)
+
 passed : (b : Bool) (e : Fault) (old mid : Frames) (acts : List Act) (x : Unit {0}) → refuse_if b e old acts (Ok x) mid → b ≡ false
 passed true e old mid acts x r = let bad = r.1 in cc
 passed false e old mid acts x r = refl
 
-module _ {last : ℕ} where
-  done_uncontended : {A : Type 0} (x : A) → IsUncontended last (done x)
+module _ {last : ℕ} {command : Command} where
+  done_uncontended : {A : Type 0} (x : A) → IsUncontended last command (done x)
   done_uncontended x = record { acts = λ old new acts answer r. no_acts r.0; fault = λ old new acts e r. let bad = r.1 in cc }
 
-  refuse_uncontended : {A : Type 0} (e : Fault) → ((f : Frames) → IsUncontendedFault last f e) → IsUncontended last (refuse {A = A} e)
-  refuse_uncontended {A} e uncontended = record { acts = λ old new acts answer r. no_acts r.0; fault = λ old new acts x r. same_fault_of {A = A} last new x e r.1 (uncontended new) }
+  refuse_uncontended : {A : Type 0} (e : Fault) → ((f : Frames) → IsUncontendedFault last command f e) → IsUncontended last command (refuse {A = A} e)
+  refuse_uncontended {A} e uncontended = record { acts = λ old new acts answer r. no_acts r.0; fault = λ old new acts x r. same_fault_of {A = A} last command new x e r.1 (uncontended new) }
 
-  refuse_if_uncontended : (b : Bool) (e : Fault) → ((f : Frames) → IsUncontendedFault last f e) → IsUncontended last (refuse_if b e)
+  refuse_if_uncontended : (b : Bool) (e : Fault) → ((f : Frames) → IsUncontendedFault last command f e) → IsUncontended last command (refuse_if b e)
   refuse_if_uncontended true e uncontended = refuse_uncontended e uncontended
   refuse_if_uncontended false e uncontended = done_uncontended tt
 
-  act_uncontended : (a : Act) → is_uncontended_act a ≡ true → IsUncontended last (act a)
+  act_uncontended : (a : Act) → is_uncontended_act a ≡ true → IsUncontended last command (act a)
   act_uncontended a uncontended = record { acts = λ old new acts answer r. one_act a uncontended r.0; fault = λ old new acts e r. let bad = r.1 in cc }
 
-  some_act_uncontended : {X : Type 0} (f : X → Act) → ((x : X) → is_uncontended_act (f x) ≡ true) → IsUncontended last (some_act f)
+  some_act_uncontended : {X : Type 0} (f : X → Act) → ((x : X) → is_uncontended_act (f x) ≡ true) → IsUncontended last command (some_act f)
   some_act_uncontended f uncontended = record { acts = λ old new acts answer r. one_act (f r.0) (uncontended r.0) r.1; fault = λ old new acts e r. let bad = r.2 in cc }
 
   -- one and then the other, whose words may rest on what the one answered
-  bind_uncontended_then : {A B : Type 0} {first : Call A} {next : A → Call B} → IsUncontended last first → ((old mid : Frames) (acts : List Act) (x : A) → first old acts (Ok x) mid → IsUncontended last (next x)) → IsUncontended last (first >>= next)
+  bind_uncontended_then : {A B : Type 0} {first : Call A} {next : A → Call B} → IsUncontended last command first → ((old mid : Frames) (acts : List Act) (x : A) → first old acts (Ok x) mid → IsUncontended last command (next x)) → IsUncontended last command (first >>= next)
   bind_uncontended_then {A} {B} {first} {next} p q = record { acts = acts_of; fault = fault_of }
     where
       acts_of : (old new : Frames) (acts : List Act) (answer : Result B Fault) → (first >>= next) old acts answer new → AreUncontended acts
       acts_of old new acts answer (inl r) = subst AreUncontended (sym r.4) (append_all (λ a. is_uncontended_act a ≡ true) r.2 r.3 (p.acts old r.1 r.2 (Ok r.0) r.5) ((q old r.1 r.2 r.0 r.5).acts r.1 new r.3 answer r.6))
       acts_of old new acts answer (inr r) = p.acts old new acts (Err r.0) r.2
 
-      fault_of : (old new : Frames) (acts : List Act) (e : Fault) → (first >>= next) old acts (Err e) new → IsUncontendedFault last new e
+      fault_of : (old new : Frames) (acts : List Act) (e : Fault) → (first >>= next) old acts (Err e) new → IsUncontendedFault last command new e
       fault_of old new acts e (inl r) = (q old r.1 r.2 r.0 r.5).fault r.1 new r.3 e r.6
-      fault_of old new acts e (inr r) = same_fault_of {A = B} last new e r.0 r.1 (p.fault old new acts r.0 r.2)
+      fault_of old new acts e (inr r) = same_fault_of {A = B} last command new e r.0 r.1 (p.fault old new acts r.0 r.2)
 
-  bind_uncontended : {A B : Type 0} {first : Call A} {next : A → Call B} → IsUncontended last first → ((x : A) → IsUncontended last (next x)) → IsUncontended last (first >>= next)
+  bind_uncontended : {A B : Type 0} {first : Call A} {next : A → Call B} → IsUncontended last command first → ((x : A) → IsUncontended last command (next x)) → IsUncontended last command (first >>= next)
   bind_uncontended p q = bind_uncontended_then p (λ old mid acts x r. q x)
 
   -- a test, and what follows where it does not refuse
-  unless_uncontended : {B : Type 0} {next : Unit {0} → Call B} (b : Bool) (e : Fault) → ((f : Frames) → IsUncontendedFault last f e) → ((x : Unit {0}) → b ≡ false → IsUncontended last (next x)) → IsUncontended last (refuse_if b e >>= next)
+  unless_uncontended : {B : Type 0} {next : Unit {0} → Call B} (b : Bool) (e : Fault) → ((f : Frames) → IsUncontendedFault last command f e) → ((x : Unit {0}) → b ≡ false → IsUncontended last command (next x)) → IsUncontended last command (refuse_if b e >>= next)
   unless_uncontended b e fit q = bind_uncontended_then (refuse_if_uncontended b e fit) (λ old mid acts x r. q x (passed b e old mid acts x r))
 
   -- a test that does not refuse, and what follows
-  passes_uncontended : {B : Type 0} {next : Unit {0} → Call B} (b : Bool) (e : Fault) → b ≡ false → ((x : Unit {0}) → IsUncontended last (next x)) → IsUncontended last (refuse_if b e >>= next)
+  passes_uncontended : {B : Type 0} {next : Unit {0} → Call B} (b : Bool) (e : Fault) → b ≡ false → ((x : Unit {0}) → IsUncontended last command (next x)) → IsUncontended last command (refuse_if b e >>= next)
   passes_uncontended false e is q = bind_uncontended (done_uncontended tt) q
   passes_uncontended true e is q = absurd cc
 
-  one_of_uncontended : {A : Type 0} {p q : Call A} → IsUncontended last p → IsUncontended last q → IsUncontended last (one_of p q)
+  one_of_uncontended : {A : Type 0} {p q : Call A} → IsUncontended last command p → IsUncontended last command q → IsUncontended last command (one_of p q)
   one_of_uncontended {A} {p} {q} a b = record { acts = acts_of; fault = fault_of }
     where
       acts_of : (old new : Frames) (acts : List Act) (answer : Result A Fault) → one_of p q old acts answer new → AreUncontended acts
       acts_of old new acts answer (inl r) = a.acts old new acts answer r
       acts_of old new acts answer (inr r) = b.acts old new acts answer r
 
-      fault_of : (old new : Frames) (acts : List Act) (e : Fault) → one_of p q old acts (Err e) new → IsUncontendedFault last new e
+      fault_of : (old new : Frames) (acts : List Act) (e : Fault) → one_of p q old acts (Err e) new → IsUncontendedFault last command new e
       fault_of old new acts e (inl r) = a.fault old new acts e r
       fault_of old new acts e (inr r) = b.fault old new acts e r
 
-  cond_uncontended : {A : Type 0} (b : Bool) {p q : Call A} → IsUncontended last p → IsUncontended last q → IsUncontended last (cond b p q)
+  cond_uncontended : {A : Type 0} (b : Bool) {p q : Call A} → IsUncontended last command p → IsUncontended last command q → IsUncontended last command (cond b p q)
   cond_uncontended true p q = p
   cond_uncontended false p q = q
 
   -- a call that asks the frames
-  framed_uncontended : {A : Type 0} (call : Frames → Call A) → ((f : Frames) → IsUncontended last (call f)) → IsUncontended last (λ old. call old old)
+  framed_uncontended : {A : Type 0} (call : Frames → Call A) → ((f : Frames) → IsUncontended last command (call f)) → IsUncontended last command (λ old. call old old)
   framed_uncontended call q = record { acts = λ old new acts answer r. (q old).acts old new acts answer r; fault = λ old new acts e r. (q old).fault old new acts e r }
 
   -- PARTS
 
-  local_uncontended : (o : Option ℕ) → IsUncontended last (local_object o)
+  local_uncontended : (o : Option ℕ) → IsUncontended last command (local_object o)
   local_uncontended (Some o) = done_uncontended (Some o)
   local_uncontended None = refuse_uncontended _ (λ f. tt)
 
-  found_uncontended : (r : Found) → IsUncontended last (found_object r)
+  found_uncontended : (r : Found) → IsUncontended last command (found_object r)
   found_uncontended (found.Object o) = done_uncontended (Some o)
   found_uncontended found.Cleared = done_uncontended None
   found_uncontended found.Stale = refuse_uncontended _ (λ f. tt)
 
-  look_uncontended : (h : Handle) → IsUncontended last (look h)
+  look_uncontended : (h : Handle) → IsUncontended last command (look h)
   look_uncontended h = some_act_uncontended (Look h) (λ r. refl)
 
-  looked_at_uncontended : (h : Handle) → IsUncontended last (looked_at h)
+  looked_at_uncontended : (h : Handle) → IsUncontended last command (looked_at h)
   looked_at_uncontended h = cond_uncontended (is_local h) (framed_uncontended (λ old. local_object (object_of old h)) (λ f. local_uncontended (object_of f h))) (bind_uncontended (look_uncontended h) found_uncontended)
 
-  looked_uncontended : (a : Word) → IsUncontended last (looked a)
+  looked_uncontended : (a : Word) → IsUncontended last command (looked a)
   looked_uncontended Nothing = done_uncontended None
   looked_uncontended Malformed = done_uncontended None
   looked_uncontended (Parts h) = looked_at_uncontended h
 
-  type_uncontended : (a : Word) → IsUncontended last (type_at a)
+  type_uncontended : (a : Word) → IsUncontended last command (type_at a)
   type_uncontended Nothing = done_uncontended 0
   type_uncontended Malformed = done_uncontended 0
   type_uncontended (Parts h) = cond_uncontended (is_local h) (framed_uncontended (λ old. done (type_local (object_of old h))) (λ f. done_uncontended (type_local (object_of f h)))) (bind_uncontended (look_uncontended h) (λ r. done_uncontended _))
 
-  probes_uncontended : IsUncontended last probes
+  probes_uncontended : IsUncontended last command probes
   probes_uncontended = record { acts = λ old new acts answer r. subst AreUncontended (sym r.1) (all_probes r.0); fault = λ old new acts e r. let bad = r.2 in cc }
 
-  created_with_uncontended : (k : RefKind) (o : ℕ) → IsUncontended last (created_with k o)
+  created_with_uncontended : (k : RefKind) (o : ℕ) → IsUncontended last command (created_with k o)
   created_with_uncontended k o = record { acts = λ old new acts answer r. one_act (Create r.0 o) refl r.2; fault = λ old new acts e r. let bad = r.3 in cc }
 
-  create_uncontended : (k : RefKind) (o : ℕ) → IsUncontended last (create k o)
+  create_uncontended : (k : RefKind) (o : ℕ) → IsUncontended last command (create k o)
   create_uncontended k o = bind_uncontended probes_uncontended (λ x. one_of_uncontended (created_with_uncontended k o) (refuse_uncontended RowFull (λ f. tt)))
 
-  created_uncontended : (k : RefKind) (o : Option ℕ) → IsUncontended last (created k o)
+  created_uncontended : (k : RefKind) (o : Option ℕ) → IsUncontended last command (created k o)
   created_uncontended k None = done_uncontended None
   created_uncontended k (Some o) = bind_uncontended (create_uncontended k o) (λ h. done_uncontended (Some h))
 
-  delete_found_uncontended : (h : Handle) (r : Found) → IsUncontended last (delete_found h r)
+  delete_found_uncontended : (h : Handle) (r : Found) → IsUncontended last command (delete_found h r)
   delete_found_uncontended h found.Stale = refuse_uncontended _ (λ f. tt)
   delete_found_uncontended h (found.Object o) = one_of_uncontended (act_uncontended (Delete h) refl) (bind_uncontended (act_uncontended (DeleteStale h) refl) (λ x. refuse_uncontended _ (λ f. tt)))
   delete_found_uncontended h found.Cleared = one_of_uncontended (act_uncontended (Delete h) refl) (bind_uncontended (act_uncontended (DeleteStale h) refl) (λ x. refuse_uncontended _ (λ f. tt)))
 
-  delete_at_uncontended : (a : Word) → IsUncontended last (delete_at a)
+  delete_at_uncontended : (a : Word) → IsUncontended last command (delete_at a)
   delete_at_uncontended Nothing = done_uncontended tt
   delete_at_uncontended Malformed = done_uncontended tt
   delete_at_uncontended (Parts h) = bind_uncontended (look_uncontended h) (delete_found_uncontended h)
 
-  drop_uncontended : (h : Handle) → IsUncontended last (drop_local h)
+  drop_uncontended : (h : Handle) → IsUncontended last command (drop_local h)
   drop_uncontended h = record { acts = λ old new acts answer r. one_act (LocalDrop h.index) refl r.0; fault = λ old new acts e r. let bad = r.1 in cc }
 
-  delete_local_at_uncontended : (a : Word) → IsUncontended last (delete_local_at a)
+  delete_local_at_uncontended : (a : Word) → IsUncontended last command (delete_local_at a)
   delete_local_at_uncontended Nothing = done_uncontended tt
   delete_local_at_uncontended Malformed = done_uncontended tt
   delete_local_at_uncontended (Parts h) = bind_uncontended (looked_at_uncontended h) (λ x. drop_uncontended h)
@@ -195,13 +209,13 @@ not_foreign c t (Parts h) one first inside = go (is_local h) inside
     go true is = inside_owner (nat_lt h.index c.locals) h.owner c.threads t one first is
     go false is = refl
 
-module _ (c : Config) (last thread : ℕ) (one : c.threads ≡ 1) (first : thread ≡ 0) where
-  resolved_uncontended : (a : Word) → IsUncontended last (resolved c last thread a)
+module _ (command : Command) (c : Config) (last thread : ℕ) (one : c.threads ≡ 1) (first : thread ≡ 0) where
+  resolved_uncontended : (a : Word) → IsUncontended last command (resolved c last thread a)
   resolved_uncontended a =
       bind_uncontended (refuse_if_uncontended _ Stale (λ f. tt)) (λ x. unless_uncontended (is_out_of_bounds c a) Stale (λ f. tt) (λ y inside.
       passes_uncontended (is_foreign thread a) Foreign (not_foreign c thread a one first inside) (λ z. looked_uncontended a)))
 
-  both_uncontended : (a b : Word) → IsUncontended last (resolved_both c last thread a b)
+  both_uncontended : (a b : Word) → IsUncontended last command (resolved_both c last thread a b)
   both_uncontended a b =
       bind_uncontended (refuse_if_uncontended _ Stale (λ f. tt)) (λ x1. bind_uncontended (refuse_if_uncontended _ Stale (λ f. tt)) (λ x2.
       unless_uncontended (is_out_of_bounds c a) Stale (λ f. tt) (λ x3 in_a. unless_uncontended (is_out_of_bounds c b) Stale (λ f. tt) (λ x4 in_b.
@@ -211,8 +225,8 @@ module _ (c : Config) (last thread : ℕ) (one : c.threads ≡ 1) (first : threa
   room_refused : (f : Frames) → nat_lt (free_places last f) 1 ≡ true → free_places last f ≡ 0
   room_refused f less = grind (arith, nat_tests)
 
-  room_uncontended : IsUncontended last (room_for c last thread 1)
-  room_uncontended = record { acts = acts_of; fault = fault_of }
+  room_uncontended : ((f : Frames) → free_places last f ≡ 0 → LacksRoom last command f) → IsUncontended last command (room_for c last thread 1)
+  room_uncontended full = record { acts = acts_of; fault = fault_of }
     where
       acts_at : (b : Bool) (old new : Frames) (acts : List Act) (answer : Result (Unit {0}) Fault) → refuse_if b LocalsFull old acts answer new → AreUncontended acts
       acts_at true old new acts answer r = no_acts r.0
@@ -221,44 +235,183 @@ module _ (c : Config) (last thread : ℕ) (one : c.threads ≡ 1) (first : threa
       acts_of : (old new : Frames) (acts : List Act) (answer : Result (Unit {0}) Fault) → room_for c last thread 1 old acts answer new → AreUncontended acts
       acts_of old new acts answer r = acts_at (nat_lt (free_places last old) 1) old new acts answer r
 
-      fault_at : (b : Bool) (old new : Frames) (acts : List Act) (e : Fault) → nat_lt (free_places last old) 1 ≡ b → refuse_if b LocalsFull old acts (Err e) new → IsUncontendedFault last new e
-      fault_at true old new acts e less r = same_fault_of {A = Unit {0}} last new e LocalsFull r.1 (subst (λ f. free_places last f ≡ 0) (sym r.2) (room_refused old less))
+      fault_at : (b : Bool) (old new : Frames) (acts : List Act) (e : Fault) → nat_lt (free_places last old) 1 ≡ b → refuse_if b LocalsFull old acts (Err e) new → IsUncontendedFault last command new e
+      fault_at true old new acts e less r = same_fault_of {A = Unit {0}} last command new e LocalsFull r.1 (full new (subst (λ f. free_places last f ≡ 0) (sym r.2) (room_refused old less)))
       fault_at false old new acts e less r = let bad = r.1 in cc
 
-      fault_of : (old new : Frames) (acts : List Act) (e : Fault) → room_for c last thread 1 old acts (Err e) new → IsUncontendedFault last new e
+      fault_of : (old new : Frames) (acts : List Act) (e : Fault) → room_for c last thread 1 old acts (Err e) new → IsUncontendedFault last command new e
       fault_of old new acts e r = fault_at (nat_lt (free_places last old) 1) old new acts e refl r
 
-  added_uncontended : (o : ℕ) → IsUncontended last (added c last thread o)
+  added_uncontended : (o : ℕ) → IsUncontended last command (added c last thread o)
   added_uncontended o = record { acts = λ old new acts answer r. one_act (LocalPut r.0.index o) refl r.1; fault = λ old new acts e r. let bad = r.2 in cc }
 
-  new_local_uncontended : (o : Option ℕ) → IsUncontended last (new_local c last thread o)
-  new_local_uncontended None = done_uncontended None
-  new_local_uncontended (Some o) = bind_uncontended room_uncontended (λ x. bind_uncontended (added_uncontended o) (λ h. done_uncontended (Some h)))
+  new_local_uncontended : ((f : Frames) → free_places last f ≡ 0 → LacksRoom last command f) → (o : Option ℕ) → IsUncontended last command (new_local c last thread o)
+  new_local_uncontended full None = done_uncontended None
+  new_local_uncontended full (Some o) = bind_uncontended (room_uncontended full) (λ x. bind_uncontended (added_uncontended o) (λ h. done_uncontended (Some h)))
 
-  publish_uncontended : IsUncontended last (publish Plain [])
+  pub freeing_uncontended : IsUncontended last command freeing
+  freeing_uncontended = record { acts = λ old new acts answer r. subst AreUncontended (sym r.0) (all_dropped (all_refs old)); fault = λ old new acts e r. let bad = r.1 in cc }
+
+  publish_uncontended : IsUncontended last command (publish Plain [])
   publish_uncontended = one_of_uncontended (some_act_uncontended (λ o. New o Plain []) (λ o. refl)) (refuse_uncontended ObjectsFull (λ f. tt))
 
-  pub making_uncontended : IsUncontended last (making c last thread)
-  making_uncontended = bind_uncontended room_uncontended (λ x. bind_uncontended (done_uncontended tt) (λ y. bind_uncontended publish_uncontended added_uncontended))
+  pub making_uncontended : ((f : Frames) → free_places last f ≡ 0 → LacksRoom last command f) → IsUncontended last command (making c last thread)
+  making_uncontended full = bind_uncontended (room_uncontended full) (λ x. bind_uncontended (done_uncontended tt) (λ y. bind_uncontended publish_uncontended added_uncontended))
 
-  pub creation_uncontended : (k : RefKind) (a : Word) → IsUncontended last (creation c last thread k a)
+  pub creation_uncontended : (k : RefKind) (a : Word) → IsUncontended last command (creation c last thread k a)
   creation_uncontended k a = bind_uncontended (resolved_uncontended a) (created_uncontended k)
 
-  pub local_creation_uncontended : (a : Word) → IsUncontended last (local_creation c last thread a)
-  local_creation_uncontended a = bind_uncontended (resolved_uncontended a) new_local_uncontended
+  pub local_creation_uncontended : ((f : Frames) → free_places last f ≡ 0 → LacksRoom last command f) → (a : Word) → IsUncontended last command (local_creation c last thread a)
+  local_creation_uncontended full a = bind_uncontended (resolved_uncontended a) (new_local_uncontended full)
 
-  pub comparison_uncontended : (a b : Word) → IsUncontended last (comparison c last thread a b)
+  pub comparison_uncontended : (a b : Word) → IsUncontended last command (comparison c last thread a b)
   comparison_uncontended a b = bind_uncontended (both_uncontended a b) (λ x. done_uncontended _)
 
   -- of a reference that is of the kind
-  pub removal_uncontended : (k : RefKind) (a : Word) → is_of_kind k a ≡ true → IsUncontended last (removal c k a)
+  pub removal_uncontended : (k : RefKind) (a : Word) → is_of_kind k a ≡ true → IsUncontended last command (removal c k a)
   removal_uncontended k a is =
       bind_uncontended (refuse_if_uncontended _ Stale (λ f. tt)) (λ x. passes_uncontended (not (is_of_kind k a)) WrongKind (ap not is) (λ y. bind_uncontended (refuse_if_uncontended _ Stale (λ f. tt)) (λ z. delete_at_uncontended a)))
 
-  pub local_removal_uncontended : (a : Word) → is_of_kind Local a ≡ true → IsUncontended last (local_removal c thread a)
+  pub local_removal_uncontended : (a : Word) → is_of_kind Local a ≡ true → IsUncontended last command (local_removal c thread a)
   local_removal_uncontended a is =
       bind_uncontended (refuse_if_uncontended _ Stale (λ f. tt)) (λ x. passes_uncontended (not (is_of_kind Local a)) WrongKind (ap not is) (λ y.
       unless_uncontended (is_out_of_bounds c a) Stale (λ f. tt) (λ z inside. passes_uncontended (is_foreign thread a) Foreign (not_foreign c thread a one first inside) (λ u. delete_local_at_uncontended a))))
 
-  pub typing_uncontended : (a : Word) → IsUncontended last (typing c thread a)
+  pub typing_uncontended : (a : Word) → IsUncontended last command (typing c thread a)
   typing_uncontended a = cond_uncontended _ (done_uncontended 0) (type_uncontended a)
+
+-- THE CALLS OF FRAMES
+
+few_places : (places n : ℕ) → nat_lt places n ≡ true → places < n
+few_places places n less = grind (arith, nat_tests)
+
+-- a refusal for fewer places than are asked for
+places_refused : (b : Bool) (last n : ℕ) (old new : Frames) (acts : List Act) (e : Fault) → nat_lt (free_places last old) n ≡ b → refuse_if b LocalsFull old acts (Err e) new → (e ≡ LocalsFull) × (free_places last new < n)
+places_refused true last n old new acts e less r = (same_fault {A = Unit {0}} e LocalsFull r.1, subst (λ f. free_places last f < n) (sym r.2) (few_places (free_places last old) n less))
+places_refused false last n old new acts e less r = let bad = r.1 in absurd cc
+
+pub ensure_refused : (c : Config) (last thread n : ℕ) (old new : Frames) (acts : List Act) (e : Fault) → ensure_local_capacity c last thread n old acts (Err e) new → (e ≡ LocalsFull) × LacksRoom last (commands.WithCount with_count.Ensure n) new
+ensure_refused c last thread n old new acts e r = places_refused (nat_lt (free_places last old) n) last n old new acts e refl r
+
+-- a refusal for as many frames as there may be
+frames_refused : (b : Bool) (old new : Frames) (acts : List Act) (e : Fault) → nat_le FRAMES (length old.frames) ≡ b → refuse_if b LocalsFull old acts (Err e) new → (e ≡ LocalsFull) × (FRAMES ≤ length new.frames)
+frames_refused true old new acts e more r = (same_fault {A = Unit {0}} e LocalsFull r.1, subst (λ (f : Frames). FRAMES ≤ length f.frames) (sym r.2) (leb-true FRAMES (length old.frames) more))
+frames_refused false old new acts e more r = let bad = r.1 in absurd cc
+
+-- room for so many, and then a new frame
+room_lacks : (c : Config) (last thread n : ℕ) (old new : Frames) (acts : List Act) (e : Fault) → (room_for c last thread n >>= (λ x. new_frame)) old acts (Err e) new → (e ≡ LocalsFull) × (free_places last new < n)
+room_lacks c last thread n old new acts e (inl r) = let bad = r.6.1 in absurd cc
+room_lacks c last thread n old new acts e (inr r) =
+    let lacks = places_refused (nat_lt (free_places last old) n) last n old new acts r.0 refl r.2 in
+    (same_fault {A = Unit {0}} e r.0 r.1 ∙ lacks.0, lacks.1)
+
+pub push_refused : (c : Config) (last thread n : ℕ) (old new : Frames) (acts : List Act) (e : Fault) → push_local_frame c last thread n old acts (Err e) new → (e ≡ LocalsFull) × LacksRoom last (commands.WithCount with_count.Push n) new
+push_refused c last thread n old new acts e (inl r) = let lacks = room_lacks c last thread n r.1 new r.3 e r.6 in (lacks.0, inr lacks.1)
+push_refused c last thread n old new acts e (inr r) =
+    let lacks = frames_refused (nat_le FRAMES (length old.frames)) old new acts r.0 refl r.2 in
+    (same_fault {A = Unit {0}} e r.0 r.1 ∙ lacks.0, inl lacks.1)
+
+-- what a pop does within its stay
+abbrev pub popped_to : Config → ℕ → ℕ → Word → Call (Option Handle)
+popped_to c last thread a = frame_to_pop >>= (λ y. resolved c last thread a >>= popping c last thread)
+
+-- a place is free where one is wanted
+abbrev HasPlace : ℕ → Option ℕ → Frames → Type 0
+HasPlace last None f = Unit {0}
+HasPlace last (Some o) f = (free_places last f == 0) ≡ false
+
+some_place : (places : ℕ) → (places == 0) ≡ false → nat_lt places 1 ≡ true → ⊥
+some_place places some less = grind (arith, nat_tests)
+
+module _ (name : List ℕ) (kept : Reference) where
+  abbrev the_pop : Command
+  the_pop = commands.MakeFrom make_from.Pop name kept
+
+  -- a command that wants one place for what it makes
+  abbrev the_local : Command
+  the_local = commands.MakeFrom make_from.Local name kept
+
+  to_pop_uncontended : {last : ℕ} → IsUncontended last the_pop frame_to_pop
+  to_pop_uncontended {last} = record { acts = acts_of; fault = fault_of }
+    where
+      acts_at : (b : Bool) (old new : Frames) (acts : List Act) (answer : Result (Unit {0}) Fault) → refuse_if b NoFrame old acts answer new → AreUncontended acts
+      acts_at true old new acts answer r = no_acts r.0
+      acts_at false old new acts answer r = no_acts r.0
+
+      acts_of : (old new : Frames) (acts : List Act) (answer : Result (Unit {0}) Fault) → frame_to_pop old acts answer new → AreUncontended acts
+      acts_of old new acts answer r = acts_at (nat_lt (length old.frames) 2) old new acts answer r
+
+      fault_at : (b : Bool) (old new : Frames) (acts : List Act) (e : Fault) → nat_lt (length old.frames) 2 ≡ b → refuse_if b NoFrame old acts (Err e) new → IsUncontendedFault last the_pop new e
+      fault_at true old new acts e few r = same_fault_of {A = Unit {0}} last the_pop new e NoFrame r.1 (subst (λ (f : Frames). length f.frames < 2) (sym r.2) (few_places (length old.frames) 2 few))
+      fault_at false old new acts e few r = let bad = r.1 in absurd cc
+
+      fault_of : (old new : Frames) (acts : List Act) (e : Fault) → frame_to_pop old acts (Err e) new → IsUncontendedFault last the_pop new e
+      fault_of old new acts e r = fault_at (nat_lt (length old.frames) 2) old new acts e refl r
+
+  module _ (c : Config) (last thread : ℕ) (one : c.threads ≡ 1) (first : thread ≡ 0) where
+    -- what room there is once the frame is taken away
+    after_uncontended : (o : Option ℕ) → IsUncontended last the_pop (room_after c last thread o)
+    after_uncontended None = done_uncontended tt
+    after_uncontended (Some o) = record { acts = acts_of; fault = fault_of }
+      where
+        acts_at : (b : Bool) (old new : Frames) (acts : List Act) (answer : Result (Unit {0}) Fault) → refuse_if b LocalsFull old acts answer new → AreUncontended acts
+        acts_at true old new acts answer r = no_acts r.0
+        acts_at false old new acts answer r = no_acts r.0
+
+        acts_of : (old new : Frames) (acts : List Act) (answer : Result (Unit {0}) Fault) → room_after c last thread (Some o) old acts answer new → AreUncontended acts
+        acts_of old new acts answer r = acts_at (free_places last (popped old) == 0) old new acts answer r
+
+        fault_at : (b : Bool) (old new : Frames) (acts : List Act) (e : Fault) → (free_places last (popped old) == 0) ≡ b → refuse_if b LocalsFull old acts (Err e) new → IsUncontendedFault last the_pop new e
+        fault_at true old new acts e none r = same_fault_of {A = Unit {0}} last the_pop new e LocalsFull r.1 (subst (λ (f : Frames). free_places last (popped f) ≡ 0) (sym r.2) (eqb-true (free_places last (popped old)) 0 none))
+        fault_at false old new acts e none r = let bad = r.1 in absurd cc
+
+        fault_of : (old new : Frames) (acts : List Act) (e : Fault) → room_after c last thread (Some o) old acts (Err e) new → IsUncontendedFault last the_pop new e
+        fault_of old new acts e r = fault_at (free_places last (popped old) == 0) old new acts e refl r
+
+    place_after : (o : Option ℕ) (old mid : Frames) (acts : List Act) (x : Unit {0}) → room_after c last thread o old acts (Ok x) mid → HasPlace last o (popped mid)
+    place_after None old mid acts x r = tt
+    place_after (Some o) old mid acts x r = subst (λ (f : Frames). (free_places last (popped f) == 0) ≡ false) (sym (kept_frames (free_places last (popped old) == 0) r)) (passed (free_places last (popped old) == 0) LocalsFull old mid acts x r)
+      where
+        kept_frames : (b : Bool) → refuse_if b LocalsFull old acts (Ok x) mid → mid ≡ old
+        kept_frames true r = let bad = r.1 in absurd cc
+        kept_frames false r = r.2
+
+    -- the result is not refused where a place is free for it
+    room_never : (b : Bool) (old new : Frames) (acts : List Act) (e : Fault) → (free_places last old == 0) ≡ false → nat_lt (free_places last old) 1 ≡ b → refuse_if b LocalsFull old acts (Err e) new → ⊥
+    room_never true old new acts e some less r = some_place (free_places last old) some less
+    room_never false old new acts e some less r = let bad = r.1 in cc
+
+    added_never : (o : ℕ) (old new : Frames) (acts : List Act) (e : Fault) → (added c last thread o >>= (λ h. done (Some h))) old acts (Err e) new → ⊥
+    added_never o old new acts e (inl r) = let bad = r.6.1 in cc
+    added_never o old new acts e (inr r) = let bad = r.2.2 in cc
+
+    result_never : (o : Option ℕ) (old new : Frames) (acts : List Act) (e : Fault) → HasPlace last o old → new_local c last thread o old acts (Err e) new → ⊥
+    result_never None old new acts e some r = let bad = r.1 in cc
+    result_never (Some o) old new acts e some (inl r) = added_never o r.1 new r.3 e r.6
+    result_never (Some o) old new acts e some (inr r) = room_never (nat_lt (free_places last old) 1) old new acts r.0 some refl r.2
+
+    -- the frame is taken away, and the result goes to the one below
+    taken_never : (o : Option ℕ) (old new : Frames) (acts : List Act) (e : Fault) → HasPlace last o (popped old) → (take_frame >>= (λ x. new_local c last thread o)) old acts (Err e) new → ⊥
+    taken_never o old new acts e some (inl r) = result_never o r.1 new r.3 e (subst (HasPlace last o) (sym r.5.2) some) r.6
+    taken_never o old new acts e some (inr r) = let bad = r.2.1 in cc
+
+    taken_acts : (o : Option ℕ) (old new : Frames) (acts : List Act) (answer : Result (Option Handle) Fault) → (take_frame >>= (λ x. new_local c last thread o)) old acts answer new → AreUncontended acts
+    taken_acts o old new acts answer (inl r) =
+        let taken : AreUncontended r.2 = subst AreUncontended (sym r.5.0) (all_dropped (last_frame old.frames)) in
+        let made : AreUncontended r.3 = (new_local_uncontended the_local c last thread one first (λ f none. none) o).acts r.1 new r.3 answer r.6 in
+        subst AreUncontended (sym r.4) (append_all (λ a. is_uncontended_act a ≡ true) r.2 r.3 taken made)
+    taken_acts o old new acts answer (inr r) = subst AreUncontended (sym r.2.0) (all_dropped (last_frame old.frames))
+
+    popping_uncontended : (o : Option ℕ) → IsUncontended last the_pop (popping c last thread o)
+    popping_uncontended o = record { acts = acts_of; fault = fault_of }
+      where
+        acts_of : (old new : Frames) (acts : List Act) (answer : Result (Option Handle) Fault) → popping c last thread o old acts answer new → AreUncontended acts
+        acts_of old new acts answer (inl r) = subst AreUncontended (sym r.4) (append_all (λ a. is_uncontended_act a ≡ true) r.2 r.3 ((after_uncontended o).acts old r.1 r.2 (Ok r.0) r.5) (taken_acts o r.1 new r.3 answer r.6))
+        acts_of old new acts answer (inr r) = (after_uncontended o).acts old new acts (Err r.0) r.2
+
+        fault_of : (old new : Frames) (acts : List Act) (e : Fault) → popping c last thread o old acts (Err e) new → IsUncontendedFault last the_pop new e
+        fault_of old new acts e (inl r) = absurd (taken_never o r.1 new r.3 e (place_after o old r.1 r.2 r.0 r.5) r.6)
+        fault_of old new acts e (inr r) = same_fault_of {A = Option Handle} last the_pop new e r.0 r.1 ((after_uncontended o).fault old new acts r.0 r.2)
+
+    pub pop_uncontended : (a : Word) → IsUncontended last the_pop (popped_to c last thread a)
+    pop_uncontended a = bind_uncontended to_pop_uncontended (λ x. bind_uncontended (resolved_uncontended the_pop c last thread one first a) popping_uncontended)

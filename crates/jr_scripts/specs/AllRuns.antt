@@ -1,8 +1,9 @@
 -- Runs of scripts of several threads, in one room and one history.
-use Rattle.std.specs.Prelude.{◌≡◌, ◌+◌, ℕ, zero, suc, true, false, List, [], ◌∷◌, ◌++◌, length, Result}
+use Rattle.std.specs.Prelude.{◌≡◌, ◌+◌, ◌<◌, ◌≤◌, ◌^◌, ℕ, zero, suc, true, false, List, [], ◌∷◌, ◌++◌, length, Result}
 use mathlib.Core.List.{IsPrefix}
 use Rattle.jr_word.specs.declared.config.Config.{Config}
 use Rattle.jr_word.specs.declared.fault.Fault.{Fault}
+use Rattle.jr_word.specs.declared.fault.Fault.TheVariants.{LeftInside}
 use Rattle.jr_word.specs.Config.{in_limits}
 use Rattle.jr_model.specs.declared.event.Act.{Act}
 use Rattle.jr_model.specs.declared.event.Act.TheVariants.{Meet}
@@ -19,15 +20,15 @@ use Rattle.jr_steps.specs.Holdings.{empty}
 use Rattle.jr_steps.specs.Knowing.{Spent}
 use Rattle.jr_scripts.specs.Text.{heading, ending}
 use Rattle.jr_scripts.specs.Explains.{Explained}
-use Rattle.jr_scripts.specs.Runs.{RanThread, RunsSingle}
+use Rattle.jr_scripts.specs.Runs.{RanToEnd, IsFreed, RunsSingle}
 
--- a thread ran these commands with its pass, which was spent first, and which it hands back, not fresh
+-- a thread ran these commands with its pass, which was spent first, freed its local references, and handed the pass back, not fresh
 pub record RanPass (turns first : ℕ) (commands : List Command) (old new : Pass) (answer : Result (Unit {0}) Fault) (text : List ℕ) : Type 0 where
   pub spent : Pass
   pub spends : Spent facts_of old spent
   pub used_up : new.fresh ≡ false
   pub frames : Frames
-  pub ran : RanThread facts_of spent new (fresh_frames (standing_of old).config.locals) frames turns first commands answer text
+  pub ran : RanToEnd facts_of spent new (fresh_frames (standing_of old).config.locals) frames turns first commands answer text
 
 -- a pass of the thread that has seen this
 abbrev pub seeing_as : Config → ℕ → ℕ → History → PassView
@@ -42,12 +43,14 @@ abbrev pub closing_acts : ℕ → List Act
 closing_acts zero = Meet ∷ []
 closing_acts (suc t) = []
 
--- A THREAD'S PART in the one history: a beginning of it explains the thread's lines, and it has no more of the thread's events
+-- A THREAD'S PART in the one history: up to a moment it explains the thread's lines, up to a later one the thread's local references were freed, and from there on it has no more of the thread's events
 pub record IsPartOf (turns last : ℕ) (c : Config) (whole : History) (t first : ℕ) (part : ThreadPart) (lines : List ℕ) : Type 0 where
+  pub told : Moment
+  pub explained : Explained turns first (opening_of c last t) part.commands lines told
+  pub left : Moment
+  pub freed : IsFreed turns told left
   pub seen : History
-  pub closing : Moment
-  pub saw : closing.pass ≡ seeing_as c last t seen
-  pub explained : Explained turns first (opening_of c last t) part.commands lines closing
+  pub saw : left.pass ≡ seeing_as c last t seen
   pub begins : IsPrefix seen whole
   pub own : mine whole t ≡ mine seen t ++ closing_acts t
 
@@ -57,12 +60,27 @@ ArePartsOf turns last c whole t line [] [] = Unit {0}
 ArePartsOf turns last c whole t line (p ∷ ps) (lines ∷ rest) = IsPartOf turns last c whole t (line + 1) p lines × ArePartsOf turns last c whole (suc t) (line + 1 + length p.commands) ps rest
 ArePartsOf turns last c whole t line _ _ = ⊥
 
+-- how many lines these parts are: each thread's own, and one for each command
+abbrev pub lines_of_parts : List ThreadPart → ℕ
+lines_of_parts [] = 0
+lines_of_parts (p ∷ ps) = 1 + length p.commands + lines_of_parts ps
+
+-- A SCRIPT THAT CAN BE RUN has one part a thread and sizes within the limits; and the line behind its parts, which begin on line 2, has a number of 64 bits
+pub record CanBeRun (s : Script) : Type 0 where
+  pub one_each : length s.threads ≡ s.config.threads
+  pub limits : in_limits s.config ≡ true
+  pub numbered : 2 + lines_of_parts s.threads < 2 ^ 64
+
+-- so many threads were left inside, knocking or collecting, one at least
+abbrev pub IsLeftInside : Fault → Type 0
+IsLeftInside e = (n : ℕ) × (e ≡ LeftInside n) × (1 ≤ n)
+
 -- what the threads print, one after the other
 abbrev pub text_of_parts : List ThreadPart → List (List ℕ) → List ℕ
 text_of_parts (p ∷ ps) (lines ∷ rest) = heading p.name ++ lines ++ text_of_parts ps rest
 text_of_parts _ _ = []
 
--- A RUN OF ALL: there is one legal history, with the events of the threads' calls and no others, but for the look at the end, that explains each thread's part of the text, and the last lines tell of its last state
+-- A RUN OF ALL: there is one legal history, with the events of the threads' calls and of their ends and no others, but for the look as the room closes, that explains each thread's part of the text, and the last lines tell of its last state
 pub record IsRunOfAll (turns last : ℕ) (s : Script) (text : List ℕ) : Type 0 where
   pub whole : History
   pub legal : IsLegal s.config last whole

@@ -1,5 +1,5 @@
 -- What commands do.
-use Rattle.std.specs.Prelude.{ℕ, Option, Some, None, Err}
+use Rattle.std.specs.Prelude.{◌≡◌, ℕ, Option, Some, None, Err}
 use Rattle.jr_word.specs.declared.handle.RefKind.{RefKind}
 use Rattle.jr_word.specs.declared.handle.RefKind.TheVariants.{Local, Global, Weak}
 use Rattle.jr_word.specs.declared.handle.Handle.{Handle}
@@ -12,11 +12,14 @@ use Rattle.jr_syntax.specs.declared.verb.Make.TheVariants as make
 use Rattle.jr_syntax.specs.declared.verb.MakeFrom.TheVariants as make_from
 use Rattle.jr_syntax.specs.declared.verb.On.TheVariants as on
 use Rattle.jr_syntax.specs.declared.verb.OnBoth.TheVariants as on_both
+use Rattle.jr_syntax.specs.declared.verb.OnName.TheVariants as on_name
+use Rattle.jr_syntax.specs.declared.verb.WithCount.TheVariants as with_count
 use Rattle.jr_scripts.specs.declared.reply.Reply.{Reply}
 use Rattle.jr_scripts.specs.declared.reply.Reply.TheVariants as replies
 use Rattle.jr_frames.specs.Reading.{IsReadAs}
 use Rattle.jr_scripts.specs.Names.{Names, referent, wanted}
-use Rattle.jr_env.specs.Deeds.{Deed, decided, done, new_plain, new_reference, new_local_ref, delete_reference, delete_local_ref, is_same_object, get_object_ref_type, ◌>>=◌, ◌>>◌}
+use Rattle.jr_env.specs.Deeds.{Deed, decided, done, new_plain, new_reference, new_local_ref, delete_reference, delete_local_ref, is_same_object, get_object_ref_type, push_local_frame, ensure_local_capacity, pop_local_frame, ◌>>=◌, ◌>>◌}
+use Rattle.jr_scripts.specs.Posting.{IsAwaited}
 use Rattle.jr_scripts.specs.Tries.{Tried}
 
 module _ (turns : ℕ) where
@@ -49,6 +52,10 @@ module _ (turns : ℕ) where
   type_of None = done 0
   type_of (Some h) = tried (get_object_ref_type h.0)
 
+-- some word that is posted, or the turns ran out; neither an event nor a step
+abbrev pub awaited : Deed Reply
+awaited old answer new = IsAwaited answer × (new ≡ old)
+
 module _ (turns : ℕ) (names : Names) where
   -- the reference that a command wants
   abbrev pub the_reference : Reference → Deed Handle
@@ -59,6 +66,7 @@ module _ (turns : ℕ) (names : Names) where
   deed (commands.Make make.Plain n) = do
     h ← tried turns new_plain
     done (replies.Made (Some h))
+  deed (commands.Make make.Wait n) = awaited
   deed (commands.MakeFrom make_from.Global n r) = do
     w ← the_reference r
     makes_reference turns (new_reference Global w.0)
@@ -68,6 +76,9 @@ module _ (turns : ℕ) (names : Names) where
   deed (commands.MakeFrom make_from.Local n r) = do
     w ← the_reference r
     makes_reference turns (new_local_ref w.0)
+  deed (commands.MakeFrom make_from.Pop n r) = do
+    w ← the_reference r
+    makes_reference turns (pop_local_frame w.0)
   deed (commands.On on.Drop r) = do
     w ← the_reference r
     deletion turns w.0
@@ -80,3 +91,10 @@ module _ (turns : ℕ) (names : Names) where
     w ← the_reference r
     same ← tried turns (is_same_object v.0 w.0)
     done (replies.Same same)
+  deed (commands.OnName on_name.Post n) = done replies.Done
+  deed (commands.WithCount with_count.Push n) = do
+    tried turns (push_local_frame n)
+    done replies.Done
+  deed (commands.WithCount with_count.Ensure n) = do
+    tried turns (ensure_local_capacity n)
+    done replies.Done

@@ -1,4 +1,5 @@
 pub mod Names
+pub mod Posting
 pub mod Tries
 pub mod Commands
 pub mod Text

@@ -17,8 +17,10 @@ use Rattle.jr_steps.specs.declared.known.Known.{Known}
 use Rattle.jr_steps.specs.Knowing.{Facts, Holds}
 use Rattle.jr_steps.specs.Holdings.{empty}
 use Rattle.jr_gate.specs.Performing.{IsAsBefore, Moment, moment}
+use Rattle.jr_env.specs.Deeds.{free_locals}
 use Rattle.jr_scripts.specs.declared.reply.Reply.{Reply}
 use Rattle.jr_scripts.specs.Names.{Names}
+use Rattle.jr_scripts.specs.Commands.{tried}
 use Rattle.jr_scripts.specs.Text.{printed, names_after, heading, ending}
 use Rattle.jr_scripts.specs.Explains.{Explained, LeavesText}
 use Rattle.jr_scripts.specs.AloneAnswers.{AnswersAlone}
@@ -28,6 +30,17 @@ module _ {S : Type 0} (facts : S → Facts) where
   pub record RanThread (old new : S) (before after : Frames) (turns first : ℕ) (commands : List Command) (answer : Result (Unit {0}) Fault) (text : List ℕ) : Type 0 where
     pub stands_is : IsAsBefore (facts old).stands (facts new).stands
     pub explained : (k : Known) → (facts old).knows k → Holds before k → (k' : Known) × (facts new).knows k' × Holds after k' × LeavesText turns first (moment (facts old).stands.fresh k before) commands answer text (moment (facts new).stands.fresh k' after)
+
+-- A THREAD'S END: from one moment to the other its local references were freed, by a call that was made again where it was barred, up to so many in all, with this answer
+pub record IsFreed (turns : ℕ) (told left : Moment) : Type 0 where
+  pub answer : Result (Unit {0}) Fault
+  pub tries : tried turns free_locals told answer left
+
+module _ {S : Type 0} (facts : S → Facts) where
+  -- the commands were run, and then the local references were freed: for whatever was known, something is known that leads from a moment up to which the text is explained
+  pub record RanToEnd (old new : S) (before after : Frames) (turns first : ℕ) (commands : List Command) (answer : Result (Unit {0}) Fault) (text : List ℕ) : Type 0 where
+    pub stands_is : IsAsBefore (facts old).stands (facts new).stands
+    pub ended : (k : Known) → (facts old).knows k → Holds before k → (k' : Known) × (facts new).knows k' × Holds after k' × (told : Moment) × LeavesText turns first (moment (facts old).stands.fresh k before) commands answer text told × IsFreed turns told (moment (facts new).stands.fresh k' after)
 
 -- what is kept of a command that was done: its line is written and its name set, or memory was refused and nothing is written
 abbrev pub WritesDown : ℕ → Command → Result Reply Fault → Names → Names → Result (Unit {0}) AllocError → List ℕ → List ℕ → Type 0
@@ -49,16 +62,19 @@ pub record IsUnbarred (e : Event) : Type 0 where
   pub shuts : (n : ℕ) → e.act ≢ ShutBusy n
   pub reserves : (n looked found : ℕ) → e.act ≢ ReserveLost n looked found
 
--- A RUN of a script of one thread: there is a legal history of the sequential machine, with the events of its commands' calls and no others, that explains the text; no call was barred, refused a shut or raced, and each answer that is a refusal is a lone thread's; and the last lines tell of the last state
+-- A RUN of a script of one thread: there is a legal history of the sequential machine, with the events of its commands' calls and then of freeing its local references, and no others, that explains the text; no call was barred, refused a shut or raced, each answer that is a refusal is a lone thread's, and where there are turns the references were freed; and the last lines tell of the last state
 pub record IsRun (turns last : ℕ) (c : Config) (part : ThreadPart) (text : List ℕ) : Type 0 where
   pub seen : History
   pub lines : List ℕ
   pub legal : IsLegal c last seen
   pub alone : AllByRecursion IsUnbarred seen
-  pub closing : Moment
-  pub saw : closing.pass ≡ seeing c last seen
-  pub explained : Explained turns 3 (opening_moment c last) part.commands lines closing
+  pub told : Moment
+  pub explained : Explained turns 3 (opening_moment c last) part.commands lines told
   pub answers : AnswersAlone explained.1
+  pub left : Moment
+  pub freed : IsFreed turns told left
+  pub freed_all : turns ≢ 0 → freed.answer ≡ Ok tt
+  pub saw : left.pass ≡ seeing c last seen
   pub text_is : text ≡ heading part.name ++ lines ++ ending (summary c last (state seen))
 
 -- the part of a script of one thread, whose sizes are within the limits

@@ -1,14 +1,17 @@
 //! Runs scripts of several threads, each in a thread of its own, in one room.
 
-ghost use Rattle.std.specs.Prelude.{◌≡◌, ◌+◌, ◌++◌, List, ℕ, All, length, map, IfOk, IfSome, OnOk, OnErr};
+ghost use Rattle.std.specs.Prelude.{◌≡◌, ◌⊎◌, ◌↔◌, ◌+◌, ◌<◌, ◌^◌, ◌++◌, List, ℕ, All, Err, length, map, IfOk, IfErr, OnOk, OnErr};
 ghost use Rattle.jr_rule.specs.Passes.{known_of, ClosesAll};
 ghost use Rattle.jr_rule.specs.Rooms.{IsOfRoom};
-ghost use Rattle.jr_word.specs.declared.fault.Fault.TheVariants.{Memory};
-ghost use Rattle.jr_scripts.specs.AllRuns.{IsRunOfAll, RunsAll};
+ghost use Rattle.jr_word.specs.declared.fault.Fault.TheVariants.{Memory, Size};
+ghost use Rattle.jr_scripts.specs.AllRuns.{CanBeRun, lines_of_parts, IsLeftInside, IsRunOfAll, RunsAll};
 ghost use Rattle.jr_scripts.specs.Jobs.{AreJobsOf, AreTold};
 
+use crate::board::Posts;
+use crate::hold::Hold;
 use crate::part::{Job, ThreadRun};
 use crate::printed::{ending, heading};
+use crate::runnable::{FIRST_PART, can_be_run};
 use crate::starting::run_threads;
 use jr_rule::{Pass, Room, Summary};
 use jr_syntax::{Script, ThreadPart};
@@ -19,9 +22,6 @@ use std::thread::Threads;
 
 /// The last serial of a slot and of a local place.
 const LAST: u32 = 4_294_967_295;
-
-/// The line of a script on which its first thread's part begins.
-const FIRST_PART: usize = 2;
 
 /// A growth was refused.
 fn out_of_memory(_: AllocError) -> Fault
@@ -34,20 +34,13 @@ fn out_of_memory(_: AllocError) -> Fault
 fn closed(room: Room<LAST>, first: Pass, others: Vec<Pass>) -> Result<Summary, Fault>
     requires first { IsOfRoom room first }
     requires others { All (λ p. IsOfRoom room p) others.items }
-    ensures { IfOk result (λ s. ClosesAll (known_of first) (map known_of others.items) s) }
+    ensures ok { IfOk result (λ s. ClosesAll (known_of first) (map known_of others.items) s) }
+    ensures err { IfErr result IsLeftInside }
 {
     match room.close_all(first, others) {
         Ok(summary) => Ok(summary),
         Err(refused) => Err(refused.left.fault),
     }
-}
-
-/// The line behind a part that begins on a line, where it has a number.
-fn line_behind(line: usize, part: &ThreadPart) -> Option<usize>
-    ensures { IfSome result (λ n. n ≡ line + 1 + length part.now.commands) }
-{
-    line.checked_add(1)?
-        .checked_add(part.commands.as_slice().len())
 }
 
 /// What the threads of the parts are given.
@@ -57,7 +50,10 @@ fn jobs_of(
     mut passes: Vec<Pass>,
     turns: u64,
 ) -> Result<Vec<Job<'_>>, Fault>
-    ensures { IfOk result (λ jobs. AreJobsOf turns FIRST_PART passes.items parts.now jobs.items) }
+    requires passes { length passes.items ≡ length parts.now }
+    requires lines { 2 + lines_of_parts parts.now < 2 ^ 64 }
+    ensures ok { IfOk result (λ jobs. AreJobsOf turns 2 passes.items parts.now jobs.items) }
+    ensures err { IfErr result (λ e. e ≡ Memory) }
 {
     let mut jobs = Vec::new(alloc);
     let mut line = FIRST_PART;
@@ -65,23 +61,14 @@ fn jobs_of(
         if jobs.reserve(1).is_err() {
             return Err(Fault::Memory);
         }
-        if passes.is_empty() {
-            return Err(Fault::Size);
-        }
         let pass = passes.remove(0);
-        let Some(behind) = line_behind(line, part) else {
-            return Err(Fault::Size);
-        };
         jobs.push_reserved(Job {
             first: line + 1,
             turns,
             part,
             pass,
         });
-        line = behind;
-    }
-    if !passes.is_empty() {
-        return Err(Fault::Size);
+        line += 1 + part.commands.as_slice().len();
     }
     Ok(jobs)
 }
@@ -92,7 +79,9 @@ fn told(
     parts: &[ThreadPart],
     mut runs: Vec<ThreadRun>,
 ) -> Result<(Vec<Pass>, Vec<u8>), Fault>
-    ensures { IfOk result (λ r. AreTold parts.now runs.items r.0.items r.1.items) }
+    requires { length runs.items ≡ length parts.now }
+    ensures ok { IfOk result (λ r. AreTold parts.now runs.items r.0.items r.1.items) }
+    ensures err { IfErr result (λ e. e ≡ Memory) }
 {
     let mut passes = Vec::new(alloc);
     let mut text = Vec::new(alloc);
@@ -100,11 +89,10 @@ fn told(
         if passes.reserve(1).is_err() {
             return Err(Fault::Memory);
         }
-        if runs.is_empty() {
-            return Err(Fault::Size);
-        }
         let run = runs.remove(0);
-        run.answer?;
+        let Ok(()) = run.answer else {
+            return Err(Fault::Memory);
+        };
         let head = heading(alloc, &part.name).map_err(out_of_memory)?;
         text.extend_from_slice(&head).map_err(out_of_memory)?;
         text.extend_from_slice(&run.text).map_err(out_of_memory)?;
@@ -114,26 +102,35 @@ fn told(
     Ok((passes, text))
 }
 
+/// A board for the names that the parts post.
+fn board_of(alloc: Global, parts: &[ThreadPart]) -> Result<Posts, Fault>
+    ensures { IfErr result (λ e. e ≡ Memory) }
+{
+    let mut board = Posts::new(alloc);
+    for part in parts {
+        board.add(part.commands.as_slice()).map_err(out_of_memory)?;
+    }
+    Ok(board)
+}
+
 /// Runs the threads of a script, and gives what is printed.
-fn text_of_all<R: Threads + Wait>(
+fn text_of_all<R: Threads + Wait, H: Hold + Sync>(
     rt: &R,
     alloc: Global,
     script: &Script,
+    hold: &H,
     turns: u64,
 ) -> Result<Vec<u8>, Fault>
-    ensures { IfOk result (λ text. IsRunOfAll turns 4294967295 script.now text.items) }
+    requires { CanBeRun script.now }
+    ensures ok { IfOk result (λ text. IsRunOfAll turns 4294967295 script.now text.items) }
+    ensures err { IfErr result (λ e. (e ≡ Memory) ⊎ IsLeftInside e) }
 {
     let parts = script.threads.as_slice();
-    if parts.len() != script.config.threads as usize {
-        return Err(Fault::Size);
-    }
     let (room, passes) = Room::<LAST>::open(alloc, script.config)?;
     let jobs = jobs_of(alloc, parts, passes, turns)?;
-    let runs = run_threads(rt, alloc, &room, jobs)?;
+    let board = board_of(alloc, parts)?;
+    let runs = run_threads(rt, alloc, &room, &board, hold, jobs)?;
     let (mut passes, mut text) = told(alloc, parts, runs)?;
-    if passes.is_empty() {
-        return Err(Fault::Size);
-    }
     let first = passes.remove(0);
     let summary = closed(room, first, passes)?;
     let end = ending(alloc, summary).map_err(out_of_memory)?;
@@ -141,22 +138,28 @@ fn text_of_all<R: Threads + Wait>(
     Ok(text)
 }
 
-/// Runs the threads of a script side by side, and appends what they print.
+/// Runs the threads of a script side by side, and appends what they print. The hold is called around each command.
 ///
 /// # Errors
 ///
-/// E16 where memory was refused or a thread could not be started, E17 where the script has not one part a thread, or sizes outside the limits, and E22 where a thread is left inside: the output is as it was.
-pub fn run_all<R: Threads + Wait>(
+/// E17 where the script has not one part a thread, sizes outside the limits, or lines without a number of 64 bits; and else E16 where memory was refused or a thread could not be started, and E22 where a thread is left inside: the output is as it was.
+pub fn run_all<R: Threads + Wait, H: Hold + Sync>(
     rt: &R,
     alloc: Global,
     script: &Script,
+    hold: &H,
     turns: u64,
     out: &mut Vec<u8>,
 ) -> Result<(), Fault>
+    ensures size { (result ≡ Err Size) ↔ (¬ (CanBeRun script.now)) }
+    ensures refused { IfErr result (λ e. (e ≡ Size) ⊎ (e ≡ Memory) ⊎ IsLeftInside e) }
     ensures ok { OnOk result (RunsAll turns 4294967295 script.now out.old.items out.new.items) }
     ensures err { OnErr result (out.new.items ≡ out.old.items) }
 {
-    let text = text_of_all(rt, alloc, script, turns)?;
+    if !can_be_run(script) {
+        return Err(Fault::Size);
+    }
+    let text = text_of_all(rt, alloc, script, hold, turns)?;
     out.extend_from_slice(&text).map_err(out_of_memory)?;
     Ok(())
 }

@@ -2,21 +2,30 @@
 #![tactic(auto)]
 
 mod all;
+mod board;
 mod env_call;
+mod hold;
+mod laws;
 mod names;
 mod opening;
 mod part;
 mod perform;
+mod posting;
 mod printed;
 mod reply;
 mod retry;
 mod run;
+mod runnable;
 mod single;
 mod starting;
 #[cfg(test)]
 mod tests;
+mod to_end;
 
 pub use all::run_all;
+pub use board::{Board, Posts};
+pub use hold::{Hold, NoHold};
 pub use jr_syntax::{Reason, Script, ScriptFault, parse, print};
+pub use laws::a_script_that_was_read_can_be_run;
 pub use run::run_thread;
 pub use single::run_one;

@@ -34,7 +34,7 @@ impl Names {
     }
 
     /// The reference that a name stands for, none where it stands for nothing.
-    fn standing(&self, name: &Name) -> Option<Handle>
+    pub fn standing(&self, name: &Name) -> Option<Handle>
         ensures { result ≡ reference_named self.now name.now }
     {
         self.entries.iter().fold(None, |standing, entry| {

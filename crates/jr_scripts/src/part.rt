@@ -3,8 +3,10 @@
 ghost use Rattle.jr_scripts.specs.AllRuns.{RanPass};
 ghost use Rattle.jr_scripts.specs.Jobs.{IsForPart};
 
+use crate::board::Posts;
+use crate::hold::Hold;
 use crate::opening::opened_env;
-use crate::run::run_thread;
+use crate::to_end::run_to_end;
 use jr_rule::{Pass, Room, RoomSteps};
 use jr_syntax::ThreadPart;
 use jr_word::Fault;
@@ -27,10 +29,12 @@ pub(crate) struct ThreadRun {
     pub(crate) answer: Result<(), Fault>,
 }
 
-/// Does a job.
-pub(crate) fn run_job<const LAST: u32>(
+/// Does a job, and frees the thread's local references at its end.
+pub(crate) fn run_job<H: Hold, const LAST: u32>(
     alloc: Global,
     room: &Room<LAST>,
+    board: &Posts,
+    hold: &H,
     first: usize,
     turns: u64,
     part: &ThreadPart,
@@ -42,7 +46,9 @@ pub(crate) fn run_job<const LAST: u32>(
     let mut text = Vec::new(alloc);
     let mut env = opened_env(RoomSteps::new(room, pass));
     let commands = part.commands.as_slice();
-    let answer = run_thread(alloc, &mut env, first, commands, turns, &mut text);
+    let answer = run_to_end(
+        alloc, &mut env, first, commands, board, hold, turns, &mut text,
+    );
     let steps = env.into_pass();
     ThreadRun {
         pass: steps.into_pass(),

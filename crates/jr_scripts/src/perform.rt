@@ -5,17 +5,20 @@ ghost use Rattle.jr_env.specs.Deeds.{answered_by};
 ghost use Rattle.jr_env.specs.Envs.{Does};
 ghost use Rattle.jr_scripts.specs.Commands.{tried, deletion, type_of as type_deed, deed};
 
+use crate::board::Board;
 use crate::env_call::{
-    DeleteGlobalRef, DeleteLocalRef, DeleteWeakGlobalRef, EnvCall, GetObjectRefType, IsSameObject,
-    NewGlobalRef, NewLocalRef, NewPlain, NewWeakGlobalRef,
+    DeleteGlobalRef, DeleteLocalRef, DeleteWeakGlobalRef, EnsureLocalCapacity, EnvCall,
+    GetObjectRefType, IsSameObject, NewGlobalRef, NewLocalRef, NewPlain, NewWeakGlobalRef,
+    PopLocalFrame, PushLocalFrame,
 };
 use crate::names::Names;
+use crate::posting::{post, wait};
 use crate::reply::{IntoReply, Reply};
 use crate::retry::retry;
 use jr_env::Env;
 use jr_frames::Reference;
 use jr_steps::Steps;
-use jr_syntax::{Command, Make, MakeFrom, On, OnBoth};
+use jr_syntax::{Command, Make, MakeFrom, On, OnBoth, OnName, WithCount};
 use jr_word::{Fault, Handle, RefKind};
 
 /// Makes a call, and again as long as it is raced or barred, and replies with its answer.
@@ -53,26 +56,28 @@ fn type_of<S: Steps>(env: &mut Env<S>, turns: u64, referent: Option<Handle>) -> 
     }
 }
 
-/// Makes the calls of a command.
-pub fn perform<S: Steps>(
+/// Makes the calls of a command; `post` and `wait` make none.
+pub fn perform<S: Steps, B: Board>(
     env: &mut Env<S>,
     names: &Names,
+    board: &B,
     turns: u64,
     command: &Command,
 ) -> Result<Reply, Fault>
     ensures { Does env.old env.new (deed turns names.now command.now) result }
 {
     match command {
-        Command::Make {
-            verb: Make::Plain,
-            ..
-        } => ask(env, turns, &NewPlain),
+        Command::Make { verb, name } => match verb {
+            Make::Plain => ask(env, turns, &NewPlain),
+            Make::Wait => wait(board, name, turns),
+        },
         Command::MakeFrom { verb, target, .. } => {
             let target = names.wanted(target)?;
             match verb {
                 MakeFrom::Global => ask(env, turns, &NewGlobalRef(target)),
                 MakeFrom::Weak => ask(env, turns, &NewWeakGlobalRef(target)),
                 MakeFrom::Local => ask(env, turns, &NewLocalRef(target)),
+                MakeFrom::Pop => ask(env, turns, &PopLocalFrame(target)),
             }
         }
         Command::On { verb, target } => match verb {
@@ -86,5 +91,12 @@ pub fn perform<S: Steps>(
                 OnBoth::Same => ask(env, turns, &IsSameObject(left, right)),
             }
         }
+        Command::OnName { verb, name } => match verb {
+            OnName::Post => Ok(post(board, names, name)),
+        },
+        Command::WithCount { verb, count } => match verb {
+            WithCount::Push => ask(env, turns, &PushLocalFrame(*count)),
+            WithCount::Ensure => ask(env, turns, &EnsureLocalCapacity(*count)),
+        },
     }
 }

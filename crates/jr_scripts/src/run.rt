@@ -5,6 +5,8 @@ ghost use Rattle.jr_word.specs.declared.fault.Fault.TheVariants.{Memory};
 ghost use Rattle.jr_scripts.specs.Text.{sets, names_after};
 ghost use Rattle.jr_scripts.specs.Runs.{RanThread, WritesDown};
 
+use crate::board::Board;
+use crate::hold::Hold;
 use crate::names::Names;
 use crate::perform::perform;
 use crate::printed::printed;
@@ -59,16 +61,18 @@ fn record(
     Ok(())
 }
 
-/// Runs the commands of a thread, of which the first stands on this line of the script, and appends what they print. A call that is raced or barred is made again, up to `turns` calls in all.
+/// Runs the commands of a thread, of which the first stands on this line of the script, and appends what they print. A call that is raced or barred is made again, up to `turns` calls in all. The hold is called around each command.
 ///
 /// # Errors
 ///
 /// E16 alone: memory was refused. What the commands that were done have changed stays, and the text has their lines, perhaps but for the last one's.
-pub fn run_thread<S: Steps>(
+pub fn run_thread<S: Steps, B: Board, H: Hold>(
     alloc: Global,
     env: &mut Env<S>,
     first: usize,
     commands: &[Command],
+    board: &B,
+    hold: &H,
     turns: u64,
     out: &mut Vec<u8>,
 ) -> Result<(), Fault>
@@ -78,8 +82,11 @@ pub fn run_thread<S: Steps>(
 {
     let mut names = Names::new(alloc);
     for (i, command) in commands.iter().enumerate() {
-        let answer = perform(env, &names, turns, command);
-        let Ok(()) = record(alloc, &mut names, first + i, command, answer, out) else {
+        let line = first + i;
+        hold.before(env.held.steps.thread(), line);
+        let answer = perform(env, &names, board, turns, command);
+        hold.after(env.held.steps.thread(), line);
+        let Ok(()) = record(alloc, &mut names, line, command, answer, out) else {
             return Err(Fault::Memory);
         };
     }

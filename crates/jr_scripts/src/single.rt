@@ -5,9 +5,11 @@ ghost use Rattle.jr_word.specs.declared.fault.Fault.TheVariants.{Memory, Size};
 ghost use Rattle.jr_word.specs.Config.{in_limits};
 ghost use Rattle.jr_scripts.specs.Runs.{IsRun, IsSingle, RunsSingle};
 
+use crate::board::Posts;
+use crate::hold::NoHold;
 use crate::opening::opened_env;
 use crate::printed::{ending, heading};
-use crate::run::run_thread;
+use crate::to_end::run_to_end;
 use jr_rule::PlainSteps;
 use jr_syntax::{Script, ThreadPart};
 use jr_word::{Config, Fault};
@@ -37,7 +39,18 @@ fn run_part(alloc: Global, config: Config, part: &ThreadPart, turns: u64) -> Res
     let steps = PlainSteps::<LAST>::new(alloc, config)?;
     let mut env = opened_env(steps);
     let commands = part.commands.as_slice();
-    run_thread(alloc, &mut env, FIRST_COMMAND, commands, turns, &mut text)?;
+    let mut board = Posts::new(alloc);
+    board.add(commands).map_err(out_of_memory)?;
+    run_to_end(
+        alloc,
+        &mut env,
+        FIRST_COMMAND,
+        commands,
+        &board,
+        &NoHold,
+        turns,
+        &mut text,
+    )?;
     let summary = env.held.steps.summary();
     let end = ending(alloc, summary).map_err(out_of_memory)?;
     text.extend_from_slice(&end).map_err(out_of_memory)?;

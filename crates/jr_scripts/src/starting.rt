@@ -7,6 +7,8 @@ ghost use Rattle.jr_scripts.specs.Jobs.{HasRun, IsFor, IsForPart};
 ghost use Rattle.jr_scripts.specs.AllRuns.{RanPass};
 ghost use Rattle.jr_scripts.specs.Given.{IsGiven};
 
+use crate::board::Posts;
+use crate::hold::Hold;
 use crate::part::{Job, ThreadRun, run_job};
 use jr_rule::{Pass, Room};
 use jr_syntax::ThreadPart;
@@ -31,10 +33,12 @@ impl<'a> Promise<ThreadRun> for Doing<'a> {
 }
 
 /// Does a job in a thread of its own, where one can be started.
-fn start<'s, E, const LAST: u32>(
+fn start<'s, E, H: Hold + Sync, const LAST: u32>(
     alloc: Global,
     scope: &Scope<'s, E>,
     room: &'s Room<LAST>,
+    board: &'s Posts,
+    hold: &'s H,
     job: Job<'s>,
 ) -> Option<PromisedHandle<ThreadRun, Doing<'s>>>
     requires { IsFor room.now.row job }
@@ -55,7 +59,7 @@ fn start<'s, E, const LAST: u32>(
     let there = move || -> ThreadRun
         requires { IsForPart room.now.row first part.now pass }
         ensures { RanPass turns first part.entry.now.commands pass result.pass result.answer result.text.items }
-    { run_job(alloc, room, first, turns, part, pass) };
+    { run_job(alloc, room, board, hold, first, turns, part, pass) };
     scope.spawn_with(promise, there).ok()
 }
 
@@ -73,11 +77,13 @@ fn given_up<'s, R: Threads>(
 }
 
 /// Does jobs, each in a thread of its own.
-fn run_jobs<'s, E, const LAST: u32, R: Threads>(
+fn run_jobs<'s, E, H: Hold + Sync, const LAST: u32, R: Threads>(
     rt: &R,
     alloc: Global,
     scope: &Scope<'s, E>,
     room: &'s Room<LAST>,
+    board: &'s Posts,
+    hold: &'s H,
     mut jobs: Vec<Job<'s>>,
 ) -> Result<Vec<ThreadRun>, Fault>
     requires { All (λ j. IsFor room.now.row j) jobs.items }
@@ -89,7 +95,7 @@ fn run_jobs<'s, E, const LAST: u32, R: Threads>(
             return given_up(rt, handles);
         }
         let job = jobs.remove(0);
-        let Some(handle) = start(alloc, scope, room, job) else {
+        let Some(handle) = start(alloc, scope, room, board, hold, job) else {
             return given_up(rt, handles);
         };
         handles.push_reserved(handle);
@@ -101,10 +107,12 @@ fn run_jobs<'s, E, const LAST: u32, R: Threads>(
 }
 
 /// The same, and each thread has ended.
-pub(crate) fn run_threads<'a, const LAST: u32, R: Threads + Wait>(
+pub(crate) fn run_threads<'a, H: Hold + Sync, const LAST: u32, R: Threads + Wait>(
     rt: &R,
     alloc: Global,
     room: &'a Room<LAST>,
+    board: &'a Posts,
+    hold: &'a H,
     jobs: Vec<Job<'a>>,
 ) -> Result<Vec<ThreadRun>, Fault>
     requires { All (λ j. IsFor room.now.row j) jobs.items }
@@ -116,6 +124,6 @@ pub(crate) fn run_threads<'a, const LAST: u32, R: Threads + Wait>(
         move |scope| -> Result<Vec<ThreadRun>, Fault>
             requires { All (λ j. IsFor room.now.row j) jobs.items }
             ensures { MatchResult result (λ runs. AllZip HasRun jobs.entry.items runs.items) (λ e. e ≡ Memory) }
-        { run_jobs(rt, alloc, scope, room, jobs) },
+        { run_jobs(rt, alloc, scope, room, board, hold, jobs) },
     )
 }

@@ -3,19 +3,22 @@
 //! A refused growth ends a test with `Memory`, once it is checked that nothing was printed. Any other answer than the
 //! one that is wanted fails an assertion: so each growth may be refused in turn, and the assertions stand.
 
-mod frames;
-mod references;
+mod board;
+mod commands;
+mod thread_ends;
+mod threads;
 
 use crate::all::run_all;
+use crate::board::Posts;
+use crate::hold::NoHold;
 use crate::opening::opened_env;
 use crate::run::run_thread;
 use crate::single::run_one;
-use jr_model::Summary;
 use jr_rule::PlainSteps;
 use jr_syntax::{
     Command, Make, MakeFrom, Name, On, Reference, Script, Sequence, ThreadPart, is_name, parse,
 };
-use jr_word::{Config, Fault, Handle};
+use jr_word::{Config, Fault};
 use std::alloc::{AllocError, Global};
 use std::process::Abort;
 use std::sync::Wait;
@@ -62,7 +65,7 @@ fn all_print<R: Abort + Threads + Wait>(
     wanted: &[u8],
 ) -> Result<(), Fail> {
     let mut out = Vec::from_slice(alloc, BEFORE)?;
-    let answer = run_all(rt, alloc, script, TURNS, &mut out);
+    let answer = run_all(rt, alloc, script, &NoHold, TURNS, &mut out);
     leaves(rt, answer, &out, wanted)
 }
 
@@ -265,51 +268,15 @@ fn a_thread_without_turns(rt: HostRuntime) -> Result<(), Fail> {
         },
     ];
     let mut env = opened_env(PlainSteps::<2>::new(alloc, SIZES)?);
+    let board = Posts::new(alloc);
     let mut out = Vec::from_slice(alloc, BEFORE)?;
-    run_thread(alloc, &mut env, 10, &commands, 0, &mut out)?;
+    run_thread(alloc, &mut env, 10, &commands, &board, &NoHold, 0, &mut out)?;
     assert_eq!(rt; out.as_slice(), b"before\n10 ! E20\ntype p 0\n".as_slice());
-    run_thread(alloc, &mut env, 10, &commands, 1, &mut out)?;
+    run_thread(alloc, &mut env, 10, &commands, &board, &NoHold, 1, &mut out)?;
     assert_eq!(rt;
         out.as_slice(),
         b"before\n10 ! E20\ntype p 0\ntype p 1\n".as_slice()
     );
-    Ok(())
-}
-
-#[test]
-fn retires_a_slot_after_its_last_serial(rt: HostRuntime) -> Result<(), Fail> {
-    let mut env = opened_env(PlainSteps::<2>::new(rt.alloc(), Config::LEAST)?);
-    let local = env.new_plain()?;
-    for word in [2, 6, 10] {
-        let global = env.new_global_ref(local)?.ok_or("an object")?;
-        assert_eq!(rt; global.0, word);
-        env.delete_global_ref(global)?;
-    }
-    assert_eq!(rt; env.new_global_ref(local).err(), Some(Fault::RowFull));
-    for word in [2, 6, 10] {
-        assert_eq!(rt; env.get_object_ref_type(Handle(word))?, 0);
-    }
-
-    let mut row = [0; 20];
-    row[2] = 9;
-    row[3] = 1;
-    row[19] = 1;
-    assert_eq!(rt; env.held.steps.words.as_slice(), row.as_slice());
-    Ok(())
-}
-
-#[test]
-fn sums_up_what_stands(rt: HostRuntime) -> Result<(), Fail> {
-    let mut env = opened_env(PlainSteps::<2>::new(rt.alloc(), Config::LEAST)?);
-    let local = env.new_plain()?;
-    env.new_global_ref(local)?;
-    let summary = Summary {
-        globals: 1,
-        weaks: 0,
-        live: 1,
-        used: 0,
-    };
-    assert_eq!(rt; env.held.steps.summary(), summary);
     Ok(())
 }
 
@@ -377,11 +344,10 @@ fn three_threads_of_one_script_run_in_one_room(rt: HostRuntime) -> Result<(), Fa
     };
     let script = Script { config, threads };
     let mut out = Vec::from_slice(alloc, BEFORE)?;
-    run_all(&rt, alloc, &script, 1_000_000, &mut out)?;
+    let answer = run_all(&rt, alloc, &script, &NoHold, 1_000_000, &mut out);
     let wanted =
         b"before\n[a]\ntype g 2\ntype g 0\n9 ! E2\n[b]\ntype g 2\ntype g 0\n17 ! E2\n[c]\ntype g 2\ntype g 0\n25 ! E2\n[end]\nglobals 0 weaks 3 live 3 used 0\n";
-    assert_eq!(rt; out.as_slice(), wanted.as_slice());
-    Ok(())
+    leaves(&rt, answer, &out, wanted)
 }
 
 #[test]
@@ -396,7 +362,7 @@ fn a_script_with_a_part_too_few_is_refused(rt: HostRuntime) -> Result<(), Fail> 
     let script = Script { config, threads };
     let mut out = Vec::from_slice(alloc, BEFORE)?;
     assert_eq!(rt;
-        run_all(&rt, alloc, &script, TURNS, &mut out),
+        run_all(&rt, alloc, &script, &NoHold, TURNS, &mut out),
         Err(Fault::Size)
     );
     assert_eq!(rt; out.as_slice(), BEFORE);

@@ -6,6 +6,7 @@ pub mod DecimalLaws
 pub mod VmLaws
 pub mod ReadIsSpelled
 pub mod Rows
+pub mod Posts
 pub mod Steps
 pub mod Reading
 pub mod SpelledIsRead

@@ -1,19 +1,23 @@
 -- What is read is good, and is spelled as it was.
 use Rattle.std.proofs.Common.{◌≡◌, ℕ, Bool, true, false, cond, List, [], ◌∷◌, length, Option, Some, None, refl, sym, ap, ◌∙◌, arith}
-use Rattle.std.specs.Prelude.{◌||◌, codes, if◌then◌else◌}
+use Rattle.std.specs.Prelude.{◌||◌, codes, nat_le, if◌then◌else◌}
 use Rattle.std.specs.Option.{option_map, option_map_or}
 use Rattle.std.specs.List.{find}
 use Rattle.std.specs.Str.{bytes_eq}
-use Rattle.std.proofs.lemmas.Bool.{and_parts, and_from, eqb-true, false≢true}
+use Rattle.std.specs.Fmt.{decimal}
+use Rattle.std.proofs.lemmas.Bool.{and_parts, and_from, eqb-true, leb-true, false≢true}
 use Rattle.std.proofs.lemmas.Slice.Eq.{bytes_eq-Decides}
 use Rattle.jr_syntax.specs.declared.verb.Verb.{Verb}
-use Rattle.jr_syntax.specs.declared.verb.Verb.TheVariants.{Make, MakeFrom, On, OnBoth}
+use Rattle.jr_syntax.specs.declared.verb.Verb.TheVariants.{Make, MakeFrom, On, OnBoth, OnName, WithCount}
 use Rattle.jr_syntax.specs.declared.command.Command.{Command}
 use Rattle.jr_syntax.specs.declared.name.Reference.TheVariants.{Null, Named}
 use Rattle.jr_syntax.specs.Name.{is_name}
+use Rattle.jr_syntax.specs.Number.{is_number, number_of_digits}
 use Rattle.jr_syntax.specs.Line.{word_at}
 use Rattle.jr_syntax.specs.Kind.{Kind, WordKind, Arguments, name, one, two}
 use Rattle.jr_syntax.specs.Reference.{reference, reference_word, is_good_reference}
+use Rattle.jr_syntax.specs.Count.{count}
+use Rattle.jr_syntax.proofs.DecimalLaws.{decimal_number}
 use Rattle.jr_syntax.specs.Command.{verb_word, verb_of, all_verbs, behind_verb, spelling_of, words_of_command, is_command, line_has_form, line_in_range, line_command}
 
 -- reading and then spelling
@@ -39,6 +43,13 @@ reference_takes = record {
   back = λ w f r. reference_back w (bytes_eq w (codes "null")) refl;
   good = λ w f r. reference_good w (bytes_eq w (codes "null")) f;
 }
+
+-- a count that was read has few bits
+count_back : (w : List ℕ) → is_number w ≡ true → nat_le (number_of_digits w) 16777215 ≡ true → decimal (number_of_digits w) ≡ w
+count_back w f r = let le = leb-true (number_of_digits w) 16777215 r in decimal_number w f (omega (arith, le))
+
+count_takes : Takes count
+count_takes = record { back = count_back; good = λ w f r. r }
 
 -- ---- arguments
 
@@ -92,6 +103,8 @@ command_takes (Make v) = by _ (one_takes name name_takes) _
 command_takes (MakeFrom v) = by _ (two_takes name reference name_takes reference_takes) _
 command_takes (On v) = by _ (one_takes reference reference_takes) _
 command_takes (OnBoth v) = by _ (two_takes reference reference reference_takes reference_takes) _
+command_takes (OnName v) = by _ (one_takes name name_takes) _
+command_takes (WithCount v) = by _ (one_takes count count_takes) _
 
 -- ---- lines
 

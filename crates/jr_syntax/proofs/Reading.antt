@@ -19,11 +19,12 @@ use Rattle.jr_syntax.specs.declared.draft.Draft.{Draft}
 use Rattle.jr_syntax.specs.declared.thread.ThreadPart.{ThreadPart}
 use Rattle.jr_syntax.specs.declared.script.Script.{Script}
 use Rattle.jr_syntax.specs.Line.{Line, line, words_of, lines_of, lines_of_pieces}
-use Rattle.jr_syntax.specs.Script.{vm, part_lines, names_of, is_part, all_apart, script_lines, IsScript, text_of}
+use Rattle.jr_syntax.specs.Script.{vm, part_lines, names_of, posts_of, is_part, all_apart, script_lines, IsScript, text_of}
 use Rattle.jr_syntax.specs.Faults.{fault_table, first_fit, fault_of, first_fault_behind, first_fault, second_word}
 use Rattle.jr_syntax.specs.Parse.{IsFaultOf}
 use Rattle.jr_syntax.specs.Draft.{Gave, GaveSome, Grown, parts_of, rows, first_rows, fault_at}
 use Rattle.jr_syntax.proofs.Rows.{Follows, table_rows, rows_none}
+use Rattle.jr_syntax.proofs.Posts.{posted_of, vm_is_no_command}
 use Rattle.jr_syntax.proofs.Steps.{grown, joined}
 use Rattle.jr_syntax.proofs.VmLaws.{vm_taken, vm_plain}
 
@@ -102,6 +103,7 @@ script_read text number d h short e =
         threads = omega (arith, f.few);
         parts = f.good;
         names = f.apart;
+        posts = f.once;
         lines = le-leb _ _ f.few_lines;
         bytes = ap (λ (t : List ℕ). leb (length t) 65536) (sym whole) ∙ le-leb _ _ short;
       },
@@ -146,6 +148,8 @@ first_read text l ls d short e none same parts last =
         few = omega (arith, ap length parts);
         good = ap (list_all is_part) parts;
         apart = ap (λ (ps : List ThreadPart). all_apart (names_of ps)) parts;
+        posts = ap (λ (x : List (List ℕ)). x ++ []) (posted_of l.0 None (vm_is_no_command ws v.first)) ∙ ap posts_of (sym parts);
+        once = ap (λ (ps : List ThreadPart). all_apart (posts_of ps)) parts;
         opened = last ∙ sym (ap (λ (ps : List ThreadPart). eqb (length ps) 0) parts);
       });
       counted = ap length lines;

@@ -1,6 +1,6 @@
 -- What is spelled is read again, as what it was.
 use Rattle.std.proofs.Common.{◌≡◌, ℕ, ◌^◌, ◌<◌, ◌≤◌, Bool, true, false, cond, List, [], ◌∷◌, ◌++◌, refl, ap, ◌∙◌, arith, inl, inr, leb, eqb, length, Option, Some}
-use Rattle.std.specs.Prelude.{◌||◌, ◌&&◌, not, codes}
+use Rattle.std.specs.Prelude.{◌||◌, ◌&&◌, not, nat_le, codes}
 use Rattle.std.specs.Option.{option_map, option_map_or}
 use Rattle.std.specs.Str.{bytes_eq}
 use Rattle.std.specs.List.{find, list_all, slice_split}
@@ -8,23 +8,26 @@ use Rattle.std.specs.Fmt.{decimal}
 use Rattle.std.proofs.lemmas.Bool.{and_parts, and_from, leb-true, le-leb, eq-eqb, ne_eqb, not-true, or_cases}
 use Rattle.jr_word.specs.Config.{is_between}
 use Rattle.jr_syntax.specs.declared.verb.Verb.{Verb}
-use Rattle.jr_syntax.specs.declared.verb.Verb.TheVariants.{Make, MakeFrom, On, OnBoth}
-use Rattle.jr_syntax.specs.declared.verb.Make.TheVariants.{Plain}
-use Rattle.jr_syntax.specs.declared.verb.MakeFrom.TheVariants.{Global, Weak, Local}
+use Rattle.jr_syntax.specs.declared.verb.Verb.TheVariants.{Make, MakeFrom, On, OnBoth, OnName, WithCount}
+use Rattle.jr_syntax.specs.declared.verb.Make.TheVariants.{Plain, Wait}
+use Rattle.jr_syntax.specs.declared.verb.MakeFrom.TheVariants.{Global, Weak, Local, Pop}
 use Rattle.jr_syntax.specs.declared.verb.On.TheVariants as on
 use Rattle.jr_syntax.specs.declared.verb.OnBoth.TheVariants.{Same}
+use Rattle.jr_syntax.specs.declared.verb.OnName.TheVariants.{Post}
+use Rattle.jr_syntax.specs.declared.verb.WithCount.TheVariants.{Push, Ensure}
 use Rattle.jr_syntax.specs.declared.command.Command.{Command}
 use Rattle.jr_syntax.specs.declared.command.Command.TheVariants as commands
 use Rattle.jr_syntax.specs.declared.name.Reference.{Reference}
 use Rattle.jr_syntax.specs.declared.name.Reference.TheVariants.{Null, Named}
 use Rattle.jr_syntax.specs.Name.{is_name, is_name_byte, is_digit, is_reference}
-use Rattle.jr_syntax.specs.Number.{all_digits}
+use Rattle.jr_syntax.specs.Number.{all_digits, number_of_digits}
 use Rattle.jr_syntax.specs.Line.{line, words_of}
 use Rattle.jr_syntax.specs.Kind.{WordKind, Arguments, name, one, two}
 use Rattle.jr_syntax.specs.Reference.{reference, reference_word, reference_at, is_good_reference}
+use Rattle.jr_syntax.specs.Count.{count}
 use Rattle.jr_syntax.specs.Command.{verb_word, verb_of, all_verbs, behind_verb, spelling_of, words_of_command, is_command, line_has_form, line_in_range, line_command}
 use Rattle.jr_syntax.specs.Script.{thread}
-use Rattle.jr_syntax.proofs.DecimalLaws.{decimal_digits}
+use Rattle.jr_syntax.proofs.DecimalLaws.{decimal_digits, decimal_form, number_decimal}
 use Rattle.jr_syntax.proofs.VmLaws.{not_all}
 
 -- ---- bytes that are seen: 33 to 126
@@ -89,6 +92,21 @@ reference_back (Named n) g = rw (no_null n g) refl
 
 reference_again : AgainWord reference
 reference_again = record { solid = reference_solid; form = reference_form; range = λ x g. refl; back = reference_back }
+
+-- a count has few bits
+fits : (n : ℕ) → nat_le n 16777215 ≡ true → n < 2 ^ 64
+fits n g = let le = leb-true n 16777215 g in omega (arith, le)
+
+count_range : (n : ℕ) → nat_le n 16777215 ≡ true → nat_le (number_of_digits (decimal n)) 16777215 ≡ true
+count_range n g = ap (λ m. nat_le m 16777215) (number_decimal n (fits n g)) ∙ g
+
+count_again : AgainWord count
+count_again = record {
+  solid = λ n g. decimal_solid n (fits n g);
+  form = λ n g. decimal_form n (fits n g);
+  range = count_range;
+  back = λ n g. number_decimal n (fits n g);
+}
 
 -- ---- arguments
 
@@ -160,12 +178,17 @@ line_printable (w ∷ v ∷ ws) h =
 verb_again : (v : Verb) → verb_of (verb_word v) ≡ Some v
 unfolding verb_of
 verb_again (Make Plain) = refl
+verb_again (Make Wait) = refl
 verb_again (MakeFrom Global) = refl
 verb_again (MakeFrom Weak) = refl
 verb_again (MakeFrom Local) = refl
+verb_again (MakeFrom Pop) = refl
 verb_again (On on.Drop) = refl
 verb_again (On on.Type) = refl
 verb_again (OnBoth Same) = refl
+verb_again (OnName Post) = refl
+verb_again (WithCount Push) = refl
+verb_again (WithCount Ensure) = refl
 
 -- the word of a verb can be told from spaces, and from a thread line's
 abbrev can_begin : Verb → Bool
@@ -210,3 +233,5 @@ command_again (commands.Make v n) g = by _ (one_again name name_again) (Make v) 
 command_again (commands.MakeFrom v n r) g = by _ (two_again name reference name_again reference_again) (MakeFrom v) (λ x. commands.MakeFrom v x.0 x.1) (λ _. refl) (λ _. refl) (λ _. refl) (n, r) g
 command_again (commands.On v r) g = by _ (one_again reference reference_again) (On v) (λ x. commands.On v x) (λ _. refl) (λ _. refl) (λ _. refl) r g
 command_again (commands.OnBoth v l r) g = by _ (two_again reference reference reference_again reference_again) (OnBoth v) (λ x. commands.OnBoth v x.0 x.1) (λ _. refl) (λ _. refl) (λ _. refl) (l, r) g
+command_again (commands.OnName v n) g = by _ (one_again name name_again) (OnName v) (λ x. commands.OnName v x) (λ _. refl) (λ _. refl) (λ _. refl) n g
+command_again (commands.WithCount v n) g = by _ (one_again count count_again) (WithCount v) (λ x. commands.WithCount v x) (λ _. refl) (λ _. refl) (λ _. refl) n g

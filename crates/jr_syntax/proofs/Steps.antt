@@ -1,7 +1,7 @@
 -- A line behind the lines so far: what was read with it follows the lines with it.
 use Rattle.std.proofs.Common.{◌≡◌, ℕ, zero, suc, ◌+◌, ◌<◌, ◌≤◌, Bool, true, false, cond, List, [], ◌∷◌, ◌++◌, length, map, Option, Some, None, refl, sym, ap, subst, ◌∙◌, append_assoc, arith, leb, eqb}
 use Rattle.std.specs.Prelude.{codes, ◌||◌, not, filter, is_none, if◌then◌else◌}
-use Rattle.std.specs.Option.{option_map}
+use Rattle.std.specs.Option.{option_map, option_map_or}
 use Rattle.std.specs.List.{list_all, list_any, flat_map}
 use Rattle.std.specs.Str.{bytes_eq}
 use Rattle.std.proofs.lemmas.Bool.{and_parts, and_from, leb-false, eqb-true, false≢true, not-true, ne_eqb}
@@ -15,15 +15,18 @@ use Rattle.jr_word.specs.declared.config.Config.{Config}
 use Rattle.jr_word.specs.Config.{in_limits}
 use Rattle.jr_syntax.specs.declared.draft.Draft.{Draft}
 use Rattle.jr_syntax.specs.declared.command.Command.{Command}
+use Rattle.jr_syntax.specs.declared.command.Command.TheVariants as commands
+use Rattle.jr_syntax.specs.declared.verb.OnName.TheVariants.{Post}
 use Rattle.jr_syntax.specs.declared.thread.ThreadPart.{ThreadPart}
 use Rattle.jr_syntax.specs.Name.{is_name}
 use Rattle.jr_syntax.specs.Line.{Line, line, words_of, word_at}
 use Rattle.jr_syntax.specs.Command.{line_has_form, line_in_range, line_command, is_command, words_of_command}
-use Rattle.jr_syntax.specs.Script.{vm, thread, part_lines, script_lines, names_of, is_part, all_apart}
-use Rattle.jr_syntax.specs.Faults.{first_fit, threads_in, names_in, is_thread_line, second_word}
+use Rattle.jr_syntax.specs.Script.{vm, thread, part_lines, script_lines, names_of, posted, posts_of, is_part, all_apart}
+use Rattle.jr_syntax.specs.Faults.{first_fit, threads_in, names_in, posts_in, share, is_thread_line, second_word}
 use Rattle.jr_syntax.specs.Draft.{parts_of, rows, thread_rows, command_rows, with_command, begun, Grown}
 use Rattle.jr_syntax.proofs.ReadIsSpelled.{words_1, line_takes}
 use Rattle.jr_syntax.proofs.Rows.{Follows, rows_none, thread_rows_none, command_rows_none}
+use Rattle.jr_syntax.proofs.Posts.{posts_more, posted_of, thread_posts_nothing, posts_begun, posts_with}
 
 -- the words of a line, joined again
 pub joined : (l : List ℕ) → line (words_of l) ≡ l
@@ -69,6 +72,15 @@ apart_more (y ∷ ys) x h n =
     let q = or_false (bytes_eq x y) (list_any (bytes_eq x) ys) n in
     let new : list_any (bytes_eq y) (ys ++ x ∷ []) ≡ false = list_any-append (bytes_eq y) ys (x ∷ []) ∙ or_from _ _ (not-true _ p.0) (or_from _ _ (other_way x y (bytes_eq y x) refl q.0) refl) in
     and_from _ _ (not_from _ new) (apart_more ys x p.1 q.1)
+
+-- what a command posts, where none of it was posted before
+apart_posted : (xs : List (List ℕ)) (c : Command) → all_apart xs ≡ true → share (posted c) xs ≡ false → all_apart (xs ++ posted c) ≡ true
+apart_posted xs (commands.OnName Post n) h new = apart_more xs n h (or_false (list_any (bytes_eq n) xs) false new).0
+apart_posted xs (commands.Make v n) h new = ap all_apart (append-nil xs) ∙ h
+apart_posted xs (commands.MakeFrom v n r) h new = ap all_apart (append-nil xs) ∙ h
+apart_posted xs (commands.On v r) h new = ap all_apart (append-nil xs) ∙ h
+apart_posted xs (commands.OnBoth v q r) h new = ap all_apart (append-nil xs) ∙ h
+apart_posted xs (commands.WithCount v n) h new = ap all_apart (append-nil xs) ∙ h
 
 -- ---- one more part
 
@@ -117,6 +129,8 @@ grown_thread before d l new f few t none same whole last =
       few = omega (arith, more, ap (λ (c : Config). c.threads) same);
       good = ap (list_all is_part) whole ∙ all_append is_part (parts_of d) p f.good (and_from _ _ w.1 refl);
       apart = ap (λ (x : List ThreadPart). all_apart (names_of x)) whole ∙ ap all_apart (map-append (λ (q : ThreadPart). q.name) (parts_of d) (p ∷ [])) ∙ apart_more (names_of (parts_of d)) n f.apart a.1;
+      posts = posts_more before l ∙ ap (λ (x : List (List ℕ)). posts_in before ++ x) (thread_posts_nothing l t) ∙ append-nil (posts_in before) ∙ f.posts ∙ sym (ap posts_of whole ∙ posts_begun (parts_of d) n);
+      once = ap all_apart (ap posts_of whole ∙ posts_begun (parts_of d) n) ∙ f.once;
       opened = last ∙ sym (ap (λ k. eqb k 0) more ∙ not_none (length (parts_of d)));
     }
 
@@ -153,7 +167,8 @@ at_least_one (suc n) h = omega arith
 grown_command : (before : List (List ℕ)) (d : Draft) (l : List ℕ) (new : Draft) (c : Command) → Follows before d → length before + 1 ≤ 4096 → thread.has_form (words_of l) ≡ false → first_fit (command_rows d (words_of l)) ≡ None → line_command (words_of l) ≡ Some c → new.config ≡ d.config → parts_of new ≡ with_command (parts_of d) c → is_none new.last ≡ false → Follows (before ++ l ∷ []) new
 grown_command before d l new c f few t none found same parts last =
     let ws = words_of l in
-    let a = command_rows_none (is_none d.last) (line_has_form ws) (line_in_range ws) none in
+    let a = command_rows_none (is_none d.last) (line_has_form ws) (line_in_range ws) (share (option_map_or posted (line_command ws) []) (posts_of (parts_of d))) none in
+    let fresh : share (posted c) (posts_of (parts_of d)) ≡ false = ap (λ (o : Option Command). share (option_map_or posted o []) (posts_of (parts_of d))) (sym found) ∙ a.3 in
     let w = line_takes ws c a.1 a.2 found in
     let some : 1 ≤ length (parts_of d) = at_least_one (length (parts_of d)) (sym f.opened ∙ a.0) in
     let long : 1 ≤ length before = rw f.lines (omega arith) in
@@ -169,6 +184,8 @@ grown_command before d l new c f few t none found same parts last =
       few = omega (arith, more, ap (λ (k : Config). k.threads) same);
       good = ap (list_all is_part) parts ∙ good_with (parts_of d) c f.good w.1;
       apart = ap all_apart (ap names_of parts ∙ names_with (parts_of d) c) ∙ f.apart;
+      posts = posts_more before l ∙ ap (λ (x : List (List ℕ)). posts_in before ++ x) (posted_of l (Some c) found) ∙ ap (λ (x : List (List ℕ)). x ++ posted c) f.posts ∙ sym (ap posts_of parts ∙ posts_with (parts_of d) c some);
+      once = ap all_apart (ap posts_of parts ∙ posts_with (parts_of d) c some) ∙ apart_posted (posts_of (parts_of d)) c f.once fresh;
       opened = last ∙ sym (ap (λ k. eqb k 0) more ∙ sym f.opened ∙ a.0);
     }
 

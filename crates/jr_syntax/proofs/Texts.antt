@@ -1,5 +1,5 @@
 -- The text of a script has no fault, and is the text of no other script.
-use Rattle.std.proofs.Common.{◌≡◌, ℕ, suc, ◌+◌, ◌<◌, ◌≤◌, Bool, true, false, cond, List, [], ◌∷◌, ◌++◌, length, map, Option, Some, None, Result, Ok, Err, refl, sym, ap, ◌∙◌, append_assoc, arith, ltb, leb, eqb}
+use Rattle.std.proofs.Common.{◌≡◌, ℕ, suc, ◌+◌, ◌<◌, ◌≤◌, Bool, true, false, cond, List, [], ◌∷◌, ◌++◌, length, map, Option, Some, None, Result, Ok, Err, refl, sym, ap, subst, ◌∙◌, append_assoc, arith, ltb, leb, eqb}
 use Rattle.std.specs.Prelude.{codes, ◌&&◌, not, if◌then◌else◌, IfOk, IfErr}
 use Rattle.std.specs.Option.{option_map_or}
 use Rattle.std.specs.List.{list_all, list_any, flat_map, slice_split}
@@ -11,8 +11,10 @@ use Rattle.jr_word.specs.declared.config.Config.{Config}
 use Rattle.jr_word.specs.Config.{is_between}
 use Rattle.jr_word.specs.Config.{in_limits}
 use Rattle.jr_syntax.specs.declared.command.Command.{Command}
+use Rattle.jr_syntax.specs.declared.command.Command.TheVariants as commands
+use Rattle.jr_syntax.specs.declared.verb.OnName.TheVariants.{Post}
 use Rattle.jr_syntax.specs.declared.fault.Reason.{Reason}
-use Rattle.jr_syntax.specs.declared.fault.Reason.TheVariants.{TooLong, UnfinishedLine, NotAscii, VmLineExpected, ThreadLineExpected, TooManyThreads, NameUsedTwice, CommandExpected, NumberOutOfRange}
+use Rattle.jr_syntax.specs.declared.fault.Reason.TheVariants.{TooLong, UnfinishedLine, NotAscii, VmLineExpected, ThreadLineExpected, TooManyThreads, NameUsedTwice, CommandExpected, NumberOutOfRange, PostedTwice}
 use Rattle.jr_syntax.specs.declared.fault.ScriptFault.{ScriptFault}
 use Rattle.jr_syntax.specs.declared.fault.ScriptFault.TheVariants as script_faults
 use Rattle.jr_syntax.specs.declared.thread.ThreadPart.{ThreadPart}
@@ -20,13 +22,14 @@ use Rattle.jr_syntax.specs.declared.script.Script.{Script}
 use Rattle.jr_syntax.specs.Name.{is_name}
 use Rattle.jr_syntax.specs.Line.{Line, line, lines_of, words_of, word_at}
 use Rattle.jr_syntax.specs.Command.{words_of_command, is_command, line_has_form, line_in_range, line_command}
-use Rattle.jr_syntax.specs.Script.{vm, thread, config_at, part_lines, script_lines, text_of, names_of, is_part, all_apart, IsScript}
-use Rattle.jr_syntax.specs.Faults.{first_fit, fault_of, first_fault_behind, first_fault, threads_in, names_in, second_word}
+use Rattle.jr_syntax.specs.Script.{vm, thread, config_at, part_lines, script_lines, text_of, names_of, posted, posts_of, is_part, all_apart, IsScript}
+use Rattle.jr_syntax.specs.Faults.{first_fit, fault_of, first_fault_behind, first_fault, threads_in, names_in, posted_by, posts_in, share, second_word}
 use Rattle.jr_syntax.specs.Parse.{IsFaultOf, ReadsAs}
 use Rattle.jr_syntax.proofs.Cuts.{lines_of_more}
 use Rattle.jr_syntax.proofs.DecimalLaws.{number_decimal, decimal_form}
 use Rattle.jr_syntax.proofs.VmLaws.{vm_plain, config_fits}
 use Rattle.jr_syntax.proofs.Steps.{names_more, threads_more, other_way, or_false, or_from}
+use Rattle.jr_syntax.proofs.Posts.{posts_more, posted_of, thread_posts_nothing, vm_is_no_command}
 use Rattle.jr_syntax.proofs.Reading.{finished, some_lines, table_first}
 use Rattle.jr_syntax.proofs.SpelledIsRead.{is_solid, name_solid, decimal_solid, words_again, line_printable, command_again}
 
@@ -183,24 +186,34 @@ apart_new (x ∷ xs) y ys h =
     let r = or_false (bytes_eq x y) (list_any (bytes_eq x) ys) q.1 in
     or_from _ _ (other_way x y (bytes_eq y x) refl r.0) (apart_new xs y ys p.1)
 
+-- a command posts nothing that was posted before it
+fresh_post : (xs : List (List ℕ)) (c : Command) (ys : List (List ℕ)) → all_apart (xs ++ (posted c ++ ys)) ≡ true → share (posted c) xs ≡ false
+fresh_post xs (commands.OnName Post n) ys h = or_from _ _ (apart_new xs n ys h) refl
+fresh_post xs (commands.Make v n) ys h = refl
+fresh_post xs (commands.MakeFrom v n r) ys h = refl
+fresh_post xs (commands.On v r) ys h = refl
+fresh_post xs (commands.OnBoth v q r) ys h = refl
+fresh_post xs (commands.WithCount v n) ys h = refl
+
 -- what the lines so far say
-record SoFar (before : List (List ℕ)) (threads : ℕ) (names : List (List ℕ)) : Type 0 where
+record SoFar (before : List (List ℕ)) (threads : ℕ) (names posts : List (List ℕ)) : Type 0 where
   threads_are : threads_in before ≡ threads
   names_are : names_in before ≡ names
+  posts_are : posts_in before ≡ posts
 
-thread_fits_none : (A C F V N T M U K R S : Bool) → A ≡ false → C ≡ true → F ≡ false → T ≡ true → M ≡ false → U ≡ false
-    → first_fit ((TooLong, A) ∷ (UnfinishedLine, false) ∷ (NotAscii, not C) ∷ (VmLineExpected, F && V) ∷ (ThreadLineExpected, N && not (not F && T)) ∷ (TooManyThreads, (not F && T) && M) ∷ (NameUsedTwice, (not F && T) && U) ∷ (CommandExpected, (not F && not (not F && T)) && K) ∷ (NumberOutOfRange, if F then R else ((not F && not (not F && T)) && S)) ∷ []) ≡ None
-thread_fits_none A C F V true T M U K R S a c f t m u = rw (a, c, f, t, m, u) refl
-thread_fits_none A C F V false T M U K R S a c f t m u = rw (a, c, f, t, m, u) refl
+thread_fits_none : (A C F V N T M U K R S P : Bool) → A ≡ false → C ≡ true → F ≡ false → T ≡ true → M ≡ false → U ≡ false
+    → first_fit ((TooLong, A) ∷ (UnfinishedLine, false) ∷ (NotAscii, not C) ∷ (VmLineExpected, F && V) ∷ (ThreadLineExpected, N && not (not F && T)) ∷ (TooManyThreads, (not F && T) && M) ∷ (NameUsedTwice, (not F && T) && U) ∷ (CommandExpected, (not F && not (not F && T)) && K) ∷ (NumberOutOfRange, if F then R else ((not F && not (not F && T)) && S)) ∷ (PostedTwice, (not F && not (not F && T)) && P) ∷ []) ≡ None
+thread_fits_none A C F V true T M U K R S P a c f t m u = rw (a, c, f, t, m, u) refl
+thread_fits_none A C F V false T M U K R S P a c f t m u = rw (a, c, f, t, m, u) refl
 
-command_fits_none : (A C F V N T M U K R S : Bool) → A ≡ false → C ≡ true → F ≡ false → N ≡ false → T ≡ false → K ≡ true → S ≡ true
-    → first_fit ((TooLong, A) ∷ (UnfinishedLine, false) ∷ (NotAscii, not C) ∷ (VmLineExpected, F && V) ∷ (ThreadLineExpected, N && not (not F && T)) ∷ (TooManyThreads, (not F && T) && M) ∷ (NameUsedTwice, (not F && T) && U) ∷ (CommandExpected, (not F && not (not F && T)) && not K) ∷ (NumberOutOfRange, if F then R else ((not F && not (not F && T)) && not S)) ∷ []) ≡ None
-command_fits_none A C F V N T M U K R S a c f n t k s = rw (a, c, f, n, t, k, s) refl
+command_fits_none : (A C F V N T M U K R S P : Bool) → A ≡ false → C ≡ true → F ≡ false → N ≡ false → T ≡ false → K ≡ true → S ≡ true → P ≡ false
+    → first_fit ((TooLong, A) ∷ (UnfinishedLine, false) ∷ (NotAscii, not C) ∷ (VmLineExpected, F && V) ∷ (ThreadLineExpected, N && not (not F && T)) ∷ (TooManyThreads, (not F && T) && M) ∷ (NameUsedTwice, (not F && T) && U) ∷ (CommandExpected, (not F && not (not F && T)) && not K) ∷ (NumberOutOfRange, if F then R else ((not F && not (not F && T)) && not S)) ∷ (PostedTwice, (not F && not (not F && T)) && P) ∷ []) ≡ None
+command_fits_none A C F V N T M U K R S P a c f n t k s p = rw (a, c, f, n, t, k, s, p) refl
 
 -- a line behind lines that say so, as its words are
-thread_fits : (before : List (List ℕ)) (l : List ℕ) (threads : ℕ) (names : List (List ℕ)) → SoFar before threads names → 1 ≤ length before → length before + 1 ≤ 4096 → list_all (is_between 32 126) l ≡ true → thread.has_form (words_of l) ≡ true → length names < threads → list_any (bytes_eq (word_at (words_of l) 1)) names ≡ false → fault_of before (finished l) ≡ None
-thread_fits before l threads names s some few seen form room fresh =
-    thread_fits_none (ltb 4096 (length before + 1)) (list_all (is_between 32 126) l) (eqb (length before + 1) 1) _ _ (thread.has_form (words_of l)) (leb (threads_in before) (length (names_in before))) (list_any (bytes_eq (word_at (words_of l) 1)) (names_in before)) _ _ _
+thread_fits : (before : List (List ℕ)) (l : List ℕ) (threads : ℕ) (names posts : List (List ℕ)) → SoFar before threads names posts → 1 ≤ length before → length before + 1 ≤ 4096 → list_all (is_between 32 126) l ≡ true → thread.has_form (words_of l) ≡ true → length names < threads → list_any (bytes_eq (word_at (words_of l) 1)) names ≡ false → fault_of before (finished l) ≡ None
+thread_fits before l threads names posts s some few seen form room fresh =
+    thread_fits_none (ltb 4096 (length before + 1)) (list_all (is_between 32 126) l) (eqb (length before + 1) 1) _ _ (thread.has_form (words_of l)) (leb (threads_in before) (length (names_in before))) (list_any (bytes_eq (word_at (words_of l) 1)) (names_in before)) _ _ _ _
     (le-ltb 4096 (length before + 1) few)
     seen
     (ne_eqb (length before + 1) 1 (λ (z : length before + 1 ≡ 1). omega (arith, z, some)))
@@ -208,9 +221,9 @@ thread_fits before l threads names s some few seen form room fresh =
     (lt-leb (threads_in before) (length (names_in before)) (omega (arith, s.threads_are, ap length s.names_are, room)))
     (ap (list_any (bytes_eq (word_at (words_of l) 1))) s.names_are ∙ fresh)
 
-command_fits : (before : List (List ℕ)) (l : List ℕ) → 2 ≤ length before → length before + 1 ≤ 4096 → list_all (is_between 32 126) l ≡ true → thread.has_form (words_of l) ≡ false → line_has_form (words_of l) ≡ true → line_in_range (words_of l) ≡ true → fault_of before (finished l) ≡ None
-command_fits before l two few seen plain form range =
-    command_fits_none (ltb 4096 (length before + 1)) (list_all (is_between 32 126) l) (eqb (length before + 1) 1) _ (eqb (length before + 1) 2) (thread.has_form (words_of l)) _ _ (line_has_form (words_of l)) _ (line_in_range (words_of l))
+command_fits : (before : List (List ℕ)) (l : List ℕ) → 2 ≤ length before → length before + 1 ≤ 4096 → list_all (is_between 32 126) l ≡ true → thread.has_form (words_of l) ≡ false → line_has_form (words_of l) ≡ true → line_in_range (words_of l) ≡ true → share (posted_by l) (posts_in before) ≡ false → fault_of before (finished l) ≡ None
+command_fits before l two few seen plain form range fresh =
+    command_fits_none (ltb 4096 (length before + 1)) (list_all (is_between 32 126) l) (eqb (length before + 1) 1) _ (eqb (length before + 1) 2) (thread.has_form (words_of l)) _ _ (line_has_form (words_of l)) _ (line_in_range (words_of l)) (share (posted_by l) (posts_in before))
     (le-ltb 4096 (length before + 1) few)
     seen
     (ne_eqb (length before + 1) 1 (λ (z : length before + 1 ≡ 1). omega (arith, z, two)))
@@ -218,35 +231,43 @@ command_fits before l two few seen plain form range =
     plain
     form
     range
+    fresh
 
 -- one more line without a fault
 skip : (before : List (List ℕ)) (l : List ℕ) (rest : List Line) → fault_of before (finished l) ≡ None → first_fault_behind (before ++ l ∷ []) rest ≡ None → first_fault_behind before (finished l ∷ rest) ≡ None
 skip before l rest f k =
     ap (λ (o : Option Reason). option_map_or (λ r. Some (length before + 1, r)) o (first_fault_behind (before ++ l ∷ []) rest)) f ∙ k
 
-commands_none : (cs : List Command) (rest : List Line) (before : List (List ℕ)) (threads : ℕ) (names : List (List ℕ)) → SoFar before threads names → list_all is_command cs ≡ true → 2 ≤ length before → length before + length cs ≤ 4096
-    → ((after : List (List ℕ)) → SoFar after threads names → length after ≡ length before + length cs → first_fault_behind after rest ≡ None)
+commands_none : (cs : List Command) (rest : List Line) (before : List (List ℕ)) (threads : ℕ) (names posts later : List (List ℕ)) → SoFar before threads names posts → list_all is_command cs ≡ true → 2 ≤ length before → length before + length cs ≤ 4096 → all_apart (posts ++ (flat_map posted cs ++ later)) ≡ true
+    → ((after : List (List ℕ)) → SoFar after threads names (posts ++ flat_map posted cs) → length after ≡ length before + length cs → first_fault_behind after rest ≡ None)
     → first_fault_behind before (map finished (map (λ c. line (words_of_command c)) cs) ++ rest) ≡ None
-commands_none [] rest before threads names s good two few k = k before s (omega arith)
-commands_none (c ∷ cs) rest before threads names s good two few k =
+commands_none [] rest before threads names posts later s good two few apart k = k before (record { threads_are = s.threads_are; names_are = s.names_are; posts_are = s.posts_are ∙ sym (append-nil posts) }) (omega arith)
+commands_none (c ∷ cs) rest before threads names posts later s good two few apart k =
     let p = and_parts _ _ good in
     let a = command_again c p.0 in
     let l = line (words_of_command c) in
     let w = command_words c p.0 in
     let plain : thread.has_form (words_of l) ≡ false = ap (λ (ws : List (List ℕ)). thread.has_form ws) w ∙ a.plain in
-    let fits = command_fits before l two (omega arith) (line_printable (words_of_command c) a.solid) plain (ap line_has_form w ∙ a.form) (ap line_in_range w ∙ a.range) in
+    let posted_here : posted_by l ≡ posted c = posted_of l (Some c) (ap line_command w ∙ a.command) in
+    let grouped : posts ++ ((posted c ++ flat_map posted cs) ++ later) ≡ posts ++ (posted c ++ (flat_map posted cs ++ later)) = ap (λ (x : List (List ℕ)). posts ++ x) (append_assoc (posted c) (flat_map posted cs) later) in
+    let regrouped : (posts ++ posted c) ++ (flat_map posted cs ++ later) ≡ posts ++ (posted c ++ (flat_map posted cs ++ later)) = append_assoc posts (posted c) (flat_map posted cs ++ later) in
+    let all : (posts ++ posted c) ++ flat_map posted cs ≡ posts ++ flat_map posted (c ∷ cs) = append_assoc posts (posted c) (flat_map posted cs) in
+    let once : all_apart (posts ++ (posted c ++ (flat_map posted cs ++ later))) ≡ true = ap all_apart (sym grouped) ∙ apart in
+    let fresh : share (posted_by l) (posts_in before) ≡ false = ap (λ (x : List (List ℕ)). share x (posts_in before)) posted_here ∙ ap (share (posted c)) s.posts_are ∙ fresh_post posts c (flat_map posted cs ++ later) once in
+    let fits = command_fits before l two (omega arith) (line_printable (words_of_command c) a.solid) plain (ap line_has_form w ∙ a.form) (ap line_in_range w ∙ a.range) fresh in
     let long : length (before ++ l ∷ []) ≡ length before + 1 = length-append before (l ∷ []) in
-    let next : SoFar (before ++ l ∷ []) threads names = record {
+    let next : SoFar (before ++ l ∷ []) threads names (posts ++ posted c) = record {
       threads_are = threads_more before l (omega arith) ∙ s.threads_are;
       names_are = names_more before l ∙ ap (λ b. names_in before ++ cond b (second_word l ∷ []) []) plain ∙ append-nil (names_in before) ∙ s.names_are;
+      posts_are = posts_more before l ∙ ap (λ (x : List (List ℕ)). posts_in before ++ x) posted_here ∙ ap (λ (x : List (List ℕ)). x ++ posted c) s.posts_are;
     } in
     skip before l (map finished (map (λ d. line (words_of_command d)) cs) ++ rest) fits
-    (commands_none cs rest (before ++ l ∷ []) threads names next p.1 (omega (arith, long)) (omega (arith, long)) (λ after t e. k after t (omega (arith, e, long))))
+    (commands_none cs rest (before ++ l ∷ []) threads names (posts ++ posted c) later next p.1 (omega (arith, long)) (omega (arith, long)) (ap all_apart regrouped ∙ once) (λ after t e. k after (subst (SoFar after threads names) all t) (omega (arith, e, long))))
 
-parts_none : (ps : List ThreadPart) (before : List (List ℕ)) (threads : ℕ) (names : List (List ℕ)) → SoFar before threads names → list_all is_part ps ≡ true → 1 ≤ length before → length before + length (flat_map part_lines ps) ≤ 4096 → length names + length ps ≡ threads → all_apart (names ++ names_of ps) ≡ true → first_fault_behind before (map finished (flat_map part_lines ps)) ≡ None
-parts_none [] before threads names s good some few count apart =
+parts_none : (ps : List ThreadPart) (before : List (List ℕ)) (threads : ℕ) (names posts : List (List ℕ)) → SoFar before threads names posts → list_all is_part ps ≡ true → 1 ≤ length before → length before + length (flat_map part_lines ps) ≤ 4096 → length names + length ps ≡ threads → all_apart (names ++ names_of ps) ≡ true → all_apart (posts ++ posts_of ps) ≡ true → first_fault_behind before (map finished (flat_map part_lines ps)) ≡ None
+parts_none [] before threads names posts s good some few count apart once =
     rw (le-ltb (length (names_in before)) (threads_in before) (omega (arith, s.threads_are, ap length s.names_are))) refl
-parts_none (p ∷ ps) before threads names s good some few count apart =
+parts_none (p ∷ ps) before threads names posts s good some few count apart once =
     let q = and_parts _ _ good in
     let r = and_parts _ _ q.0 in
     let n = p.name in
@@ -258,19 +279,21 @@ parts_none (p ∷ ps) before threads names s good some few count apart =
     let second : word_at (words_of l) 1 ≡ n = ap (λ (ws : List (List ℕ)). word_at ws 1) w in
     let fresh : list_any (bytes_eq (word_at (words_of l) 1)) names ≡ false = ap (λ (x : List ℕ). list_any (bytes_eq x) names) second ∙ apart_new names n (names_of ps) apart in
     let size : length (flat_map part_lines (p ∷ ps)) ≡ suc (length cs + length (flat_map part_lines ps)) = ap suc (length-append lines (flat_map part_lines ps) ∙ ap (λ k. k + length (flat_map part_lines ps)) (length-map cs (λ c. line (words_of_command c)))) in
-    let fits = thread_fits before l threads names s some (omega (arith, size)) (line_printable (thread.spell n) (thread_solid n r.0)) form (omega arith) fresh in
+    let fits = thread_fits before l threads names posts s some (omega (arith, size)) (line_printable (thread.spell n) (thread_solid n r.0)) form (omega arith) fresh in
     let long : length (before ++ l ∷ []) ≡ length before + 1 = length-append before (l ∷ []) in
-    let next : SoFar (before ++ l ∷ []) threads (names ++ n ∷ []) = record {
+    let next : SoFar (before ++ l ∷ []) threads (names ++ n ∷ []) posts = record {
       threads_are = threads_more before l some ∙ s.threads_are;
       names_are = names_more before l ∙ ap (λ b. names_in before ++ cond b (second_word l ∷ []) []) form ∙ ap (λ (x : List ℕ). names_in before ++ x ∷ []) second ∙ ap (λ (x : List (List ℕ)). x ++ n ∷ []) s.names_are;
+      posts_are = posts_more before l ∙ ap (λ (x : List (List ℕ)). posts_in before ++ x) (thread_posts_nothing l form) ∙ append-nil (posts_in before) ∙ s.posts_are;
     } in
+    let grouped : (posts ++ flat_map posted cs) ++ posts_of ps ≡ posts ++ posts_of (p ∷ ps) = append_assoc posts (flat_map posted cs) (posts_of ps) in
     let regroup : (names ++ n ∷ []) ++ names_of ps ≡ names ++ n ∷ names_of ps = append_assoc names (n ∷ []) (names_of ps) in
     let joined : map finished (lines ++ flat_map part_lines ps) ≡ map finished lines ++ map finished (flat_map part_lines ps) = map-append finished lines (flat_map part_lines ps) in
     let more : length (names ++ n ∷ []) ≡ length names + 1 = length-append names (n ∷ []) in
     skip before l (map finished (lines ++ flat_map part_lines ps)) fits
     (ap (first_fault_behind (before ++ l ∷ [])) joined
-    ∙ commands_none cs (map finished (flat_map part_lines ps)) (before ++ l ∷ []) threads (names ++ n ∷ []) next r.1 (omega (arith, long)) (omega (arith, long, size))
-    (λ after t e. parts_none ps after threads (names ++ n ∷ []) t q.1 (omega (arith, e, long)) (omega (arith, e, long, size)) (omega (arith, more)) (ap all_apart regroup ∙ apart)))
+    ∙ commands_none cs (map finished (flat_map part_lines ps)) (before ++ l ∷ []) threads (names ++ n ∷ []) posts (posts_of ps) next r.1 (omega (arith, long)) (omega (arith, long, size)) once
+    (λ after t e. parts_none ps after threads (names ++ n ∷ []) (posts ++ flat_map posted cs) t q.1 (omega (arith, e, long)) (omega (arith, e, long, size)) (omega (arith, more)) (ap all_apart regroup ∙ apart) (ap all_apart grouped ∙ once)))
 
 first_fits : (a b c d : Bool) → a ≡ true → b ≡ true → c ≡ true → d ≡ true → first_fit ((UnfinishedLine, not a) ∷ (NotAscii, not b) ∷ (VmLineExpected, not c) ∷ (NumberOutOfRange, not d) ∷ []) ≡ None
 first_fits a b c d p q r s = rw (p, q, r, s) refl
@@ -287,13 +310,14 @@ no_fault s h =
     let form : vm.has_form (words_of l) ≡ true = ap vm.has_form w ∙ v.2 in
     let range : vm.in_range (words_of l) ≡ true = ap vm.in_range w ∙ ap in_limits v.0 ∙ h.config in
     let fits : fault_of [] (finished l) ≡ None = table_first (finished l) ∙ first_fits true _ _ _ refl seen form range in
-    let start : SoFar (l ∷ []) c.threads [] = record {
+    let start : SoFar (l ∷ []) c.threads [] [] = record {
       threads_are = ap (λ (k : Config). k.threads) (ap config_at w ∙ v.0);
       names_are = ap (λ b. map second_word (cond b (l ∷ []) [])) plain;
+      posts_are = ap (λ (x : List (List ℕ)). x ++ []) (posted_of l None (vm_is_no_command (words_of l) (ap (λ (ws : List (List ℕ)). word_at ws 0) w)));
     } in
     some_lines (text_of s) (finished l) (map finished (flat_map part_lines s.threads)) (leb-true _ _ h.bytes) (script_lines_again s h)
     ∙ skip [] l (map finished (flat_map part_lines s.threads)) fits
-    (parts_none s.threads (l ∷ []) c.threads [] start h.parts (omega arith) (let few = leb-true _ _ h.lines in omega arith) (omega (arith, h.threads)) h.names)
+    (parts_none s.threads (l ∷ []) c.threads [] [] start h.parts (omega arith) (let few = leb-true _ _ h.lines in omega arith) (omega (arith, h.threads)) h.names h.posts)
 
 -- what is read of the text of a script is the script
 pub only_one : (text : List ℕ) (r : Result Script ScriptFault) → IfOk r (λ t. IsScript t × (text ≡ text_of t)) → IfErr r (IsFaultOf text) → (s : Script) → IsScript s → text ≡ text_of s → ReadsAs s r

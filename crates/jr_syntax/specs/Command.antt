@@ -6,31 +6,39 @@ use Rattle.std.specs.Str.{bytes_eq}
 use Rattle.jr_syntax.specs.declared.argument.LineError.{LineError}
 use Rattle.jr_syntax.specs.declared.argument.LineError.TheVariants as errors
 use Rattle.jr_syntax.specs.declared.verb.Verb.{Verb}
-use Rattle.jr_syntax.specs.declared.verb.Verb.TheVariants.{Make, MakeFrom, On, OnBoth}
-use Rattle.jr_syntax.specs.declared.verb.Make.TheVariants.{Plain}
-use Rattle.jr_syntax.specs.declared.verb.MakeFrom.TheVariants.{Global, Weak, Local}
+use Rattle.jr_syntax.specs.declared.verb.Verb.TheVariants.{Make, MakeFrom, On, OnBoth, OnName, WithCount}
+use Rattle.jr_syntax.specs.declared.verb.Make.TheVariants.{Plain, Wait}
+use Rattle.jr_syntax.specs.declared.verb.MakeFrom.TheVariants.{Global, Weak, Local, Pop}
 use Rattle.jr_syntax.specs.declared.verb.On.TheVariants as on
 use Rattle.jr_syntax.specs.declared.verb.OnBoth.TheVariants.{Same}
+use Rattle.jr_syntax.specs.declared.verb.OnName.TheVariants.{Post}
+use Rattle.jr_syntax.specs.declared.verb.WithCount.TheVariants.{Push, Ensure}
 use Rattle.jr_syntax.specs.declared.command.Command.{Command}
 use Rattle.jr_syntax.specs.declared.command.Command.TheVariants as commands
 use Rattle.jr_syntax.specs.Kind.{Arguments, Reading, one, two, name}
 use Rattle.jr_syntax.specs.Reference.{reference}
+use Rattle.jr_syntax.specs.Count.{count}
 
 -- ---- the verbs, two rows for each
 
 -- the word of a verb
 abbrev pub verb_word : Verb → List ℕ
 verb_word (Make Plain) = codes "plain"
+verb_word (Make Wait) = codes "wait"
 verb_word (MakeFrom Global) = codes "global"
 verb_word (MakeFrom Weak) = codes "weak"
 verb_word (MakeFrom Local) = codes "local"
+verb_word (MakeFrom Pop) = codes "pop"
 verb_word (On on.Drop) = codes "drop"
 verb_word (On on.Type) = codes "type"
 verb_word (OnBoth Same) = codes "same"
+verb_word (OnName Post) = codes "post"
+verb_word (WithCount Push) = codes "push"
+verb_word (WithCount Ensure) = codes "ensure"
 
 -- every verb
 abbrev pub all_verbs : List Verb
-all_verbs = Make Plain ∷ MakeFrom Global ∷ MakeFrom Weak ∷ MakeFrom Local ∷ On on.Drop ∷ On on.Type ∷ OnBoth Same ∷ []
+all_verbs = Make Plain ∷ Make Wait ∷ MakeFrom Global ∷ MakeFrom Weak ∷ MakeFrom Local ∷ MakeFrom Pop ∷ On on.Drop ∷ On on.Type ∷ OnBoth Same ∷ OnName Post ∷ WithCount Push ∷ WithCount Ensure ∷ []
 
 -- ---- the shapes of commands: the arguments behind a verb
 
@@ -44,6 +52,8 @@ behind_verb (Make v) = command_of (one name) (λ n. commands.Make v n)
 behind_verb (MakeFrom v) = command_of (two name reference) (λ x. commands.MakeFrom v x.0 x.1)
 behind_verb (On v) = command_of (one reference) (λ r. commands.On v r)
 behind_verb (OnBoth v) = command_of (two reference reference) (λ x. commands.OnBoth v x.0 x.1)
+behind_verb (OnName v) = command_of (one name) (λ n. commands.OnName v n)
+behind_verb (WithCount v) = command_of (one count) (λ n. commands.WithCount v n)
 
 -- A command's words, and whether its names are names and its numbers within bounds.
 pub record Spelling : Type 0 where
@@ -59,6 +69,8 @@ spelling_of (commands.Make v n) = spelled (Make v) (one name) n
 spelling_of (commands.MakeFrom v n r) = spelled (MakeFrom v) (two name reference) (n, r)
 spelling_of (commands.On v r) = spelled (On v) (one reference) r
 spelling_of (commands.OnBoth v l r) = spelled (OnBoth v) (two reference reference) (l, r)
+spelling_of (commands.OnName v n) = spelled (OnName v) (one name) n
+spelling_of (commands.WithCount v n) = spelled (WithCount v) (one count) n
 
 -- ---- what follows from them
 

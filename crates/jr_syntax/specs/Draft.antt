@@ -1,12 +1,12 @@
 -- For the crate's own functions: a script as it is read, line by line.
 use Rattle.std.specs.Prelude.{◌≡◌, ℕ, Bool, false, not, List, [], ◌∷◌, ◌++◌, length, Option, Some, None, is_none, Result, Ok, Err, nat_le, nat_lt, if◌then◌else◌}
-use Rattle.std.specs.Option.{option_map}
+use Rattle.std.specs.Option.{option_map, option_map_or}
 use Rattle.std.specs.List.{list_all, list_any}
 use Rattle.std.specs.Str.{bytes_eq}
 use Rattle.jr_word.specs.Config.{is_between}
 use Rattle.jr_syntax.specs.declared.command.Command.{Command}
 use Rattle.jr_syntax.specs.declared.fault.Reason.{Reason}
-use Rattle.jr_syntax.specs.declared.fault.Reason.TheVariants.{TooLong, UnfinishedLine, NotAscii, VmLineExpected, ThreadLineExpected, TooManyThreads, NameUsedTwice, CommandExpected, NumberOutOfRange}
+use Rattle.jr_syntax.specs.declared.fault.Reason.TheVariants.{TooLong, UnfinishedLine, NotAscii, VmLineExpected, ThreadLineExpected, TooManyThreads, NameUsedTwice, CommandExpected, NumberOutOfRange, PostedTwice}
 use Rattle.jr_syntax.specs.declared.fault.ScriptFault.{ScriptFault}
 use Rattle.jr_syntax.specs.declared.fault.ScriptFault.TheVariants as script_faults
 use Rattle.jr_syntax.specs.declared.draft.LineFault.{LineFault}
@@ -15,8 +15,8 @@ use Rattle.jr_syntax.specs.declared.draft.Draft.{Draft}
 use Rattle.jr_syntax.specs.declared.thread.ThreadPart.{ThreadPart}
 use Rattle.jr_syntax.specs.Line.{Line, words_of}
 use Rattle.jr_syntax.specs.Command.{line_has_form, line_in_range, line_command}
-use Rattle.jr_syntax.specs.Script.{vm, thread, names_of, most_lines}
-use Rattle.jr_syntax.specs.Faults.{first_fit}
+use Rattle.jr_syntax.specs.Script.{vm, thread, names_of, posted, posts_of, most_lines}
+use Rattle.jr_syntax.specs.Faults.{first_fit, share}
 
 abbrev pub last_part : Option ThreadPart → List ThreadPart
 last_part None = []
@@ -54,7 +54,7 @@ thread_rows d word =
 -- the table for another line behind what was read
 abbrev pub command_rows : Draft → List (List ℕ) → List (Reason × Bool)
 command_rows d ws =
-    (ThreadLineExpected, is_none d.last) ∷ (CommandExpected, not (line_has_form ws)) ∷ (NumberOutOfRange, not (line_in_range ws)) ∷ []
+    (ThreadLineExpected, is_none d.last) ∷ (CommandExpected, not (line_has_form ws)) ∷ (NumberOutOfRange, not (line_in_range ws)) ∷ (PostedTwice, share (option_map_or posted (line_command ws) []) (posts_of (parts_of d))) ∷ []
 
 -- the table for a line behind the first, by what was read
 abbrev pub rows : ℕ → Draft → Line → List (Reason × Bool)

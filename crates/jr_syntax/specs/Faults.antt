@@ -1,14 +1,14 @@
 -- THE FAULTS: the first line with a fault, and the first text of the table that fits it.
 use Rattle.std.specs.Prelude.{ℕ, ◌+◌, Bool, ◌&&◌, not, List, [], ◌∷◌, ◌++◌, length, map, filter, Option, Some, None, nat_le, nat_lt, ◌==◌, codes, if◌then◌else◌}
-use Rattle.std.specs.List.{list_all, list_any}
+use Rattle.std.specs.List.{list_all, list_any, flat_map}
 use Rattle.std.specs.Option.{option_map_or}
 use Rattle.std.specs.Str.{bytes_eq}
 use Rattle.jr_word.specs.Config.{is_between}
 use Rattle.jr_syntax.specs.declared.fault.Reason.{Reason}
-use Rattle.jr_syntax.specs.declared.fault.Reason.TheVariants.{TooLong, EmptyInput, UnfinishedLine, NotAscii, VmLineExpected, ThreadLineExpected, TooManyThreads, NameUsedTwice, CommandExpected, NumberOutOfRange}
+use Rattle.jr_syntax.specs.declared.fault.Reason.TheVariants.{TooLong, EmptyInput, UnfinishedLine, NotAscii, VmLineExpected, ThreadLineExpected, TooManyThreads, NameUsedTwice, CommandExpected, NumberOutOfRange, PostedTwice}
 use Rattle.jr_syntax.specs.Line.{Line, lines_of, words_of, word_at}
-use Rattle.jr_syntax.specs.Command.{line_has_form, line_in_range}
-use Rattle.jr_syntax.specs.Script.{vm, thread, most_lines, most_bytes}
+use Rattle.jr_syntax.specs.Command.{line_has_form, line_in_range, line_command}
+use Rattle.jr_syntax.specs.Script.{vm, thread, posted, most_lines, most_bytes}
 
 -- the text of a reason
 abbrev pub reason_text : Reason → List ℕ
@@ -22,6 +22,7 @@ reason_text TooManyThreads = codes "too many threads"
 reason_text NameUsedTwice = codes "name used twice"
 reason_text CommandExpected = codes "command expected"
 reason_text NumberOutOfRange = codes "number out of range"
+reason_text PostedTwice = codes "posted twice"
 
 -- ---- what the lines before a line say
 
@@ -39,6 +40,18 @@ threads_in before = (vm.value (words_of (word_at before 0))).threads
 -- the names of threads so far
 abbrev pub names_in : List (List ℕ) → List (List ℕ)
 names_in before = map second_word (filter is_thread_line before)
+
+-- the names that a line posts: those that its command posts, where it is a command
+abbrev pub posted_by : List ℕ → List (List ℕ)
+posted_by l = option_map_or posted (line_command (words_of l)) []
+
+-- the names that were posted so far
+abbrev pub posts_in : List (List ℕ) → List (List ℕ)
+posts_in before = flat_map posted_by before
+
+-- whether one of some names stands among others
+abbrev pub share : List (List ℕ) → List (List ℕ) → Bool
+share names others = list_any (λ n. list_any (bytes_eq n) others) names
 
 -- ---- the table
 
@@ -59,6 +72,7 @@ fault_table before l =
     ∷ (NameUsedTwice, is_thread && list_any (bytes_eq (word_at ws 1)) (names_in before))
     ∷ (CommandExpected, is_other && not (line_has_form ws))
     ∷ (NumberOutOfRange, if is_first then not (vm.in_range ws) else is_other && not (line_in_range ws))
+    ∷ (PostedTwice, is_other && share (posted_by l.0) (posts_in before))
     ∷ []
 
 -- the first that fits

@@ -3,6 +3,7 @@ pub mod Number
 pub mod Line
 pub mod Kind
 pub mod Reference
+pub mod Count
 pub mod Command
 pub mod Script
 pub mod Faults

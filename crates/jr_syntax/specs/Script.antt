@@ -5,6 +5,9 @@ use Rattle.std.specs.Str.{bytes_eq}
 use Rattle.std.specs.Fmt.{decimal}
 use Rattle.jr_word.specs.declared.config.Config.{Config}
 use Rattle.jr_word.specs.Config.{in_limits}
+use Rattle.jr_syntax.specs.declared.command.Command.{Command}
+use Rattle.jr_syntax.specs.declared.command.Command.TheVariants as commands
+use Rattle.jr_syntax.specs.declared.verb.OnName.TheVariants.{Post}
 use Rattle.jr_syntax.specs.declared.thread.ThreadPart.{ThreadPart}
 use Rattle.jr_syntax.specs.declared.script.Script.{Script}
 use Rattle.jr_syntax.specs.Line.{line, word_at, behind}
@@ -81,6 +84,15 @@ all_apart (x ∷ xs) = not (list_any (bytes_eq x) xs) && all_apart xs
 abbrev pub names_of : List ThreadPart → List (List ℕ)
 names_of parts = map (λ p. p.name) parts
 
+-- the names that a command posts
+abbrev pub posted : Command → List (List ℕ)
+posted (commands.OnName Post n) = n ∷ []
+posted _ = []
+
+-- the names that the commands of parts post
+abbrev pub posts_of : List ThreadPart → List (List ℕ)
+posts_of parts = flat_map (λ p. flat_map posted p.commands) parts
+
 -- whether its names are names and its numbers within bounds
 abbrev pub is_part : ThreadPart → Bool
 is_part p = name.is_good p.name && list_all is_command p.commands
@@ -92,11 +104,12 @@ most_lines = 4096
 abbrev pub most_bytes : ℕ
 most_bytes = 65536
 
--- A script: sizes within their limits, a part for each thread, names that differ, and a text within its limits.
+-- A script: sizes within their limits, a part for each thread, names of threads that differ, names that are posted once, and a text within its limits.
 pub record IsScript (s : Script) : Type 0 where
   pub config : in_limits s.config ≡ true
   pub threads : length s.threads ≡ s.config.threads
   pub parts : list_all is_part s.threads ≡ true
   pub names : all_apart (names_of s.threads) ≡ true
+  pub posts : all_apart (posts_of s.threads) ≡ true
   pub lines : nat_le (length (script_lines s.config s.threads)) most_lines ≡ true
   pub bytes : nat_le (length (text_of s)) most_bytes ≡ true

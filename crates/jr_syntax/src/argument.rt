@@ -4,10 +4,15 @@ ghost use Rattle.std.specs.Prelude.{◌≡◌, ◌∷◌, ◌++◌, true, OnOk};
 ghost use Rattle.jr_syntax.specs.Kind.{WordKind, reading, ReadsWord, Reads, one as one_of, two as two_of, name};
 ghost use Rattle.jr_syntax.specs.Line.{line};
 ghost use Rattle.jr_syntax.specs.Reference.{reference};
+ghost use Rattle.jr_syntax.specs.Count.{count};
 
 use crate::name::{Name, Reference, is_name, is_reference};
+use crate::number::{is_number, number_up_to};
 use crate::word::Words;
 use std::alloc::AllocError;
+
+/// The greatest count.
+const MOST_COUNT: u32 = 16_777_215;
 
 /// Why words are not what they should be.
 #[derive(Clone, Copy)]
@@ -70,6 +75,24 @@ impl Argument for Reference {
 
     fn put(&self, out: &mut Vec<u8>) -> Result<(), AllocError> {
         out.extend_from_slice(self.word())?;
+        Ok(())
+    }
+}
+
+impl Argument for u32 {
+    ghost kind = { count };
+
+    fn has_form(word: &[u8]) -> bool {
+        is_number(word)
+    }
+
+    fn read(word: &[u8]) -> Option<u32> {
+        number_up_to(word, MOST_COUNT)
+    }
+
+    fn put(&self, out: &mut Vec<u8>) -> Result<(), AllocError> {
+        let digits = format!(in *out.allocator(); "{self}")?;
+        out.extend_from_slice(digits.as_bytes())?;
         Ok(())
     }
 }

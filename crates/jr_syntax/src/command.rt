@@ -7,7 +7,7 @@ ghost use Rattle.jr_syntax.specs.Command.{behind_verb, words_of_command, ReadsLi
 
 use crate::argument::{LineError, one, put_one, put_two, two};
 use crate::name::{Name, Reference};
-use crate::verb::{Make, MakeFrom, On, OnBoth, Verb};
+use crate::verb::{Make, MakeFrom, On, OnBoth, OnName, Verb, WithCount};
 use crate::word::Words;
 use std::alloc::AllocError;
 
@@ -36,6 +36,16 @@ pub enum Command {
         left: Reference,
         right: Reference,
     },
+    /// `VERB N`: is about what a name stands for, and sets no name.
+    OnName {
+        verb: OnName,
+        name: Name,
+    },
+    /// `VERB K`: is about so many local references; 0 to 16,777,215.
+    WithCount {
+        verb: WithCount,
+        count: u32,
+    },
 }
 
 impl Command {
@@ -61,6 +71,14 @@ impl Command {
                 let (left, right) = two(words)?;
                 Ok(Command::OnBoth { verb, left, right })
             }
+            Verb::OnName(verb) => {
+                let name = one(words)?;
+                Ok(Command::OnName { verb, name })
+            }
+            Verb::WithCount(verb) => {
+                let count = one(words)?;
+                Ok(Command::WithCount { verb, count })
+            }
         }
     }
 
@@ -77,6 +95,10 @@ impl Command {
             Command::On { verb, target } => put_one(out, Verb::On(*verb).word(), target),
             Command::OnBoth { verb, left, right } => {
                 put_two(out, Verb::OnBoth(*verb).word(), left, right)
+            }
+            Command::OnName { verb, name } => put_one(out, Verb::OnName(*verb).word(), name),
+            Command::WithCount { verb, count } => {
+                put_one(out, Verb::WithCount(*verb).word(), count)
             }
         }
     }

@@ -5,7 +5,8 @@ ghost use Rattle.std.specs.List.{list_any};
 ghost use Rattle.std.specs.Str.{bytes_eq};
 ghost use Rattle.jr_syntax.specs.Name.{is_name as name_word};
 ghost use Rattle.jr_syntax.specs.Command.{line_command};
-ghost use Rattle.jr_syntax.specs.Script.{names_of};
+ghost use Rattle.jr_syntax.specs.Script.{names_of, posted, posts_of};
+ghost use Rattle.jr_syntax.specs.Faults.{share};
 ghost use Rattle.jr_syntax.specs.Draft.{Gave, GaveSome, parts_of, ReadsThreadLine, Adds, Grown, rows, command_rows, with_command};
 
 use crate::argument::LineError;
@@ -16,6 +17,7 @@ use crate::name::Name;
 use crate::script::Script;
 use crate::sequence::Sequence;
 use crate::thread::{ThreadPart, thread_of};
+use crate::verb::OnName;
 use crate::word::Words;
 use jr_word::Config;
 use std::alloc::{AllocError, Global};
@@ -101,6 +103,31 @@ impl Draft {
             }
     }
 
+    /// Whether a command posts a name.
+    #[tactic(auto, using(crate::proofs::PartLaws::posts_split, crate::proofs::PartLaws::posts_last))]
+    fn has_posted(&self, name: &[u8]) -> bool
+        ensures { result ≡ list_any (bytes_eq name.now) (posts_of (parts_of self.now)) }
+    {
+        any_part_posts(self.whole.as_slice(), name)
+            || match &self.last {
+                None => false,
+                Some(part) => any_posts(part.commands.as_slice(), name),
+            }
+    }
+
+    /// Whether a command posts a name that one before it posts.
+    fn posts_again(&self, command: &Command) -> bool
+        ensures { result ≡ share (posted command.now) (posts_of (parts_of self.now)) }
+    {
+        match command {
+            Command::OnName {
+                verb: OnName::Post,
+                name,
+            } => self.has_posted(name.as_slice()),
+            _ => false,
+        }
+    }
+
     /// Begins a thread's part.
     fn begin(&mut self, alloc: Global, word: &[u8]) -> Result<(), LineFault>
         requires { name_word word.now ≡ true }
@@ -130,6 +157,7 @@ impl Draft {
             return Err(Reason::ThreadLineExpected);
         }
         match command_of(words) {
+            Ok(command) if self.posts_again(&command) => Err(Reason::PostedTwice),
             Ok(command) => Ok(command),
             Err(LineError::Form) => Err(Reason::CommandExpected),
             Err(LineError::Range) => Err(Reason::NumberOutOfRange),
@@ -202,4 +230,31 @@ fn any_named(parts: &[ThreadPart], word: &[u8]) -> bool
     ensures { result ≡ list_any (λ p. bytes_eq word.now p.name) parts.now }
 {
     parts.iter().any(|part| part.name.is(word))
+}
+
+#[tactic(auto, using(crate::proofs::PartLaws::any_one))]
+fn posts(command: &Command, word: &[u8]) -> bool
+    ensures { result ≡ list_any (bytes_eq word.now) (posted command.now) }
+{
+    match command {
+        Command::OnName {
+            verb: OnName::Post,
+            name,
+        } => name.is(word),
+        _ => false,
+    }
+}
+
+fn any_posts(commands: &[Command], word: &[u8]) -> bool
+    ensures { result ≡ list_any (λ c. list_any (bytes_eq word.now) (posted c)) commands.now }
+{
+    commands.iter().any(|command| posts(command, word))
+}
+
+fn any_part_posts(parts: &[ThreadPart], word: &[u8]) -> bool
+    ensures { result ≡ list_any (λ p. list_any (λ c. list_any (bytes_eq word.now) (posted c)) p.commands) parts.now }
+{
+    parts
+        .iter()
+        .any(|part| any_posts(part.commands.as_slice(), word))
 }

@@ -26,6 +26,8 @@ pub enum Reason {
     CommandExpected,
     /// It has a number outside its bounds.
     NumberOutOfRange,
+    /// It posts a name that an earlier line posts, of whichever thread.
+    PostedTwice,
 }
 
 impl Reason {
@@ -44,6 +46,7 @@ impl Reason {
             Reason::NameUsedTwice => "name used twice",
             Reason::CommandExpected => "command expected",
             Reason::NumberOutOfRange => "number out of range",
+            Reason::PostedTwice => "posted twice",
         }
     }
 }

@@ -31,5 +31,5 @@ pub use reader::parse;
 pub use script::Script;
 pub use sequence::Sequence;
 pub use thread::ThreadPart;
-pub use verb::{Make, MakeFrom, On, OnBoth, Verb};
+pub use verb::{Make, MakeFrom, On, OnBoth, OnName, Verb, WithCount};
 pub use writer::print;

@@ -11,7 +11,7 @@ use crate::reader::parse;
 use crate::script::Script;
 use crate::sequence::Sequence;
 use crate::thread::ThreadPart;
-use crate::verb::{Make, MakeFrom, On, OnBoth};
+use crate::verb::{Make, MakeFrom, On, OnBoth, OnName, WithCount};
 use crate::writer::print;
 use jr_word::Config;
 use std::alloc::{AllocError, Global};
@@ -140,6 +140,64 @@ fn references_of_each_kind(rt: HostRuntime) -> Result<(), Fail> {
     ];
     commands(&rt, &script, &wanted);
     let printed = a_text_read_is_printed_again(rt.alloc(), &text)?;
+    assert_eq!(rt; printed, text);
+    Ok(())
+}
+
+#[test]
+fn commands_of_frames(rt: HostRuntime) -> Result<(), Fail> {
+    let text = behind_head(rt.alloc(), b"push 4\nensure 0\npop z x\npop r null\n")?;
+    let script = parse(rt.alloc(), &text)?;
+    let wanted = [
+        Command::WithCount {
+            verb: WithCount::Push,
+            count: 4,
+        },
+        Command::WithCount {
+            verb: WithCount::Ensure,
+            count: 0,
+        },
+        Command::MakeFrom {
+            verb: MakeFrom::Pop,
+            name: name(&rt, b"z"),
+            target: Reference::Named(name(&rt, b"x")),
+        },
+        Command::MakeFrom {
+            verb: MakeFrom::Pop,
+            name: name(&rt, b"r"),
+            target: Reference::Null,
+        },
+    ];
+    commands(&rt, &script, &wanted);
+    let printed = a_text_read_is_printed_again(rt.alloc(), &text)?;
+    assert_eq!(rt; printed, text);
+    Ok(())
+}
+
+#[test]
+fn names_that_are_posted_and_the_greatest_count(rt: HostRuntime) -> Result<(), Fail> {
+    let text = behind_head(rt.alloc(), b"post g\nwait g\npush 16777215\nensure 10\n")?;
+    let script = parse(rt.alloc(), &text)?;
+    let wanted = [
+        Command::OnName {
+            verb: OnName::Post,
+            name: name(&rt, b"g"),
+        },
+        Command::Make {
+            verb: Make::Wait,
+            name: name(&rt, b"g"),
+        },
+        Command::WithCount {
+            verb: WithCount::Push,
+            count: 16_777_215,
+        },
+        Command::WithCount {
+            verb: WithCount::Ensure,
+            count: 10,
+        },
+    ];
+    commands(&rt, &script, &wanted);
+    let printed = print(rt.alloc(), &script)?;
     assert_eq!(rt; printed, text);
     Ok(())
 }
@@ -448,6 +506,59 @@ fn faults_of_lines_with_two_words_behind_the_verb(rt: HostRuntime) -> Result<(),
 }
 
 #[test]
+fn faults_of_lines_with_a_count(rt: HostRuntime) -> Result<(), Fail> {
+    let alloc = rt.alloc();
+    third_line(&rt, alloc, b"push 16777216\n", Reason::NumberOutOfRange)?;
+    third_line(&rt, alloc, b"ensure 16777216\n", Reason::NumberOutOfRange)?;
+    third_line(
+        &rt,
+        alloc,
+        b"ensure 18446744073709551617\n",
+        Reason::NumberOutOfRange,
+    )?;
+    third_line(&rt, alloc, b"push 16777216 1\n", Reason::CommandExpected)?;
+    third_line(&rt, alloc, b"push 04\n", Reason::CommandExpected)?;
+    third_line(&rt, alloc, b"push -1\n", Reason::CommandExpected)?;
+    third_line(&rt, alloc, b"push\n", Reason::CommandExpected)?;
+    third_line(&rt, alloc, b"ensure p\n", Reason::CommandExpected)?;
+    third_line(&rt, alloc, b"ensure 1 2\n", Reason::CommandExpected)?;
+    Ok(())
+}
+
+#[test]
+fn faults_of_lines_with_a_name_alone(rt: HostRuntime) -> Result<(), Fail> {
+    let alloc = rt.alloc();
+    third_line(&rt, alloc, b"pop r\n", Reason::CommandExpected)?;
+    third_line(&rt, alloc, b"pop null r\n", Reason::CommandExpected)?;
+    third_line(&rt, alloc, b"post null\n", Reason::CommandExpected)?;
+    third_line(&rt, alloc, b"post g h\n", Reason::CommandExpected)?;
+    third_line(&rt, alloc, b"wait\n", Reason::CommandExpected)?;
+    third_line(&rt, alloc, b"wait null\n", Reason::CommandExpected)?;
+    third_line(&rt, alloc, b"wait 1\n", Reason::CommandExpected)?;
+    Ok(())
+}
+
+#[test]
+fn names_that_are_posted_twice(rt: HostRuntime) -> Result<(), Fail> {
+    let alloc = rt.alloc();
+    let again = behind_head(alloc, b"post g\nwait g\nwait g\npost h\npost g\n")?;
+    faulty(&rt, alloc, &again, 7, Reason::PostedTwice)?;
+    let range_first = behind_head(alloc, b"post g\npush 16777216\npost g\n")?;
+    faulty(&rt, alloc, &range_first, 4, Reason::NumberOutOfRange)?;
+    let form_first = behind_head(alloc, b"post g\npost g h\n")?;
+    faulty(&rt, alloc, &form_first, 4, Reason::CommandExpected)?;
+    let end_first = behind_head(alloc, b"post g\npost g")?;
+    faulty(&rt, alloc, &end_first, 4, Reason::UnfinishedLine)?;
+    let in_two_threads =
+        b"vm threads 2 slots 1 objects 1 words 0 locals 16\nthread a\npost g\nthread b\nplain g\npost g\n";
+    faulty(&rt, alloc, in_two_threads, 6, Reason::PostedTwice)?;
+    let apart = behind_head(alloc, b"post gg\nwait g\nwait g\nplain g\npost g\n")?;
+    let printed = a_text_read_is_printed_again(alloc, &apart)?;
+    assert_eq!(rt; printed, apart);
+    Ok(())
+}
+
+#[test]
 fn as_many_bytes_as_there_may_be(rt: HostRuntime) -> Result<(), Fail> {
     let mut text = behind_head(rt.alloc(), b"")?;
     for _ in 0..3117 {
@@ -496,6 +607,7 @@ fn texts_of_reasons(rt: HostRuntime) {
         (Reason::NameUsedTwice, "name used twice"),
         (Reason::CommandExpected, "command expected"),
         (Reason::NumberOutOfRange, "number out of range"),
+        (Reason::PostedTwice, "posted twice"),
     ];
     for (reason, text) in rows {
         assert_eq!(rt; reason.text(), text);

@@ -8,6 +8,8 @@ ghost use Rattle.jr_syntax.specs.Command.{verb_word, verb_of};
 pub enum Make {
     /// `plain`: an object without elements.
     Plain,
+    /// `wait`: the reference that a thread posts by this name.
+    Wait,
 }
 
 /// A verb with a name and a reference behind it: it makes what the name then stands for from what the reference names.
@@ -19,6 +21,8 @@ pub enum MakeFrom {
     Weak,
     /// `local`: a local reference.
     Local,
+    /// `pop`: a local reference in the frame below, once the newest frame is taken away.
+    Pop,
 }
 
 /// A verb with a reference behind it.
@@ -37,6 +41,22 @@ pub enum OnBoth {
     Same,
 }
 
+/// A verb with a name behind it, which it uses and does not set.
+#[derive(Clone, Copy, Debug, PartialEq, Eq)]
+pub enum OnName {
+    /// `post`: hands what the name stands for to threads that wait for it.
+    Post,
+}
+
+/// A verb with a count behind it.
+#[derive(Clone, Copy, Debug, PartialEq, Eq)]
+pub enum WithCount {
+    /// `push`: opens a frame with room for so many local references.
+    Push,
+    /// `ensure`: makes sure that there is room for so many more local references.
+    Ensure,
+}
+
 /// A verb of any shape.
 #[derive(Clone, Copy)]
 pub enum Verb {
@@ -48,16 +68,25 @@ pub enum Verb {
     On(On),
     /// With two references.
     OnBoth(OnBoth),
+    /// With a name that it does not set.
+    OnName(OnName),
+    /// With a count.
+    WithCount(WithCount),
 }
 
-const VERBS: [Verb; 7] = [
+const VERBS: [Verb; 12] = [
     Verb::Make(Make::Plain),
+    Verb::Make(Make::Wait),
     Verb::MakeFrom(MakeFrom::Global),
     Verb::MakeFrom(MakeFrom::Weak),
     Verb::MakeFrom(MakeFrom::Local),
+    Verb::MakeFrom(MakeFrom::Pop),
     Verb::On(On::Drop),
     Verb::On(On::Type),
     Verb::OnBoth(OnBoth::Same),
+    Verb::OnName(OnName::Post),
+    Verb::WithCount(WithCount::Push),
+    Verb::WithCount(WithCount::Ensure),
 ];
 
 impl Verb {
@@ -67,12 +96,17 @@ impl Verb {
     {
         match self {
             Verb::Make(Make::Plain) => b"plain",
+            Verb::Make(Make::Wait) => b"wait",
             Verb::MakeFrom(MakeFrom::Global) => b"global",
             Verb::MakeFrom(MakeFrom::Weak) => b"weak",
             Verb::MakeFrom(MakeFrom::Local) => b"local",
+            Verb::MakeFrom(MakeFrom::Pop) => b"pop",
             Verb::On(On::Drop) => b"drop",
             Verb::On(On::Type) => b"type",
             Verb::OnBoth(OnBoth::Same) => b"same",
+            Verb::OnName(OnName::Post) => b"post",
+            Verb::WithCount(WithCount::Push) => b"push",
+            Verb::WithCount(WithCount::Ensure) => b"ensure",
         }
     }
 

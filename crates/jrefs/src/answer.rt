@@ -5,7 +5,7 @@ ghost use Rattle.jrefs.specs.Answer.{IsAnswer, IsRefused};
 
 use crate::script::script_of;
 use crate::trouble::Trouble;
-use jr_scripts::run_all;
+use jr_scripts::{NoHold, run_all};
 use std::alloc::Global;
 use std::sync::Wait;
 use std::thread::Threads;
@@ -20,7 +20,7 @@ pub fn answer_of<T: Threads + Wait>(rt: &T, alloc: Global, text: &[u8]) -> Resul
 {
     let script = script_of(alloc, text)?;
     let mut output = Vec::new(alloc);
-    match run_all(rt, alloc, &script, TURNS, &mut output) {
+    match run_all(rt, alloc, &script, &NoHold, TURNS, &mut output) {
         Ok(()) => Ok(output),
         Err(_) => Err(Trouble::Memory),
     }

@@ -191,6 +191,18 @@ fn sixteen_local_places(rt: HostRuntime) -> Result<(), Fail> {
 }
 
 #[test]
+fn a_frame_and_its_result(rt: HostRuntime) -> Result<(), Fail> {
+    commands(
+        &rt,
+        rt.alloc(),
+        b"push 4\nplain x\nplain y\npop z x\ntype z\ntype y\ntype x\npop r null\n",
+        b"type z 1\ntype y 0\ntype x 0\n10 ! E15\n",
+        b"globals 0 weaks 0 live 2 used 0\n",
+    )?;
+    Ok(())
+}
+
+#[test]
 fn local_places_before_object_numbers(rt: HostRuntime) -> Result<(), Fail> {
     let alloc = rt.alloc();
     let head = b"vm threads 1 slots 4 objects 16 words 0 locals 16\nthread a\n";

@@ -1,12 +1,14 @@
-use Rattle.std.proofs.Common.{sym, refl, ap, arith, ◌∙◌}
+use Rattle.std.proofs.Common.{sym, refl, ap, subst, arith, ◌∙◌}
 use mathlib.Core.Logic.{∥∥₁_map}
 use Rattle.jr_word.specs.declared.config.Config.{Config}
 use Rattle.jr_steps.specs.declared.known.Known.{Known}
+use Rattle.jr_heap.specs.Heap.{IsOwn}
+use Rattle.jr_heap.specs.Ranges.{place_of}
 use Rattle.jr_heap.proofs.Reserving.{reserve_none, over, within, reserve_full, may_reserve, reserve_won, reserve_owned, reserve_lost, never_lost}
 use Rattle.jr_heap.proofs.space.reserve.Goals as goal
 
 pub returns-then-words-eq0-clause-own : goal.returns-then-words-eq0-clause-own
-returns-then-words-eq0-clause-own g c = ∥∥₁_map (g.met.S.Steps.some_known c.args.steps.now) (λ k. (k.0, k.1, refl))
+returns-then-words-eq0-clause-own g c = ∥∥₁_map (g.met.S.Steps.some_known c.args.steps.now) (λ k. (k.0, k.1, subst (λ n. IsOwn (place_of c.empty.result) n k.0) (sym c.empty.ensures.size) refl))
 
 pub returns-then-from-clause-err : goal.returns-then-from-clause-err
 returns-then-from-clause-err g c = reserve_full g.met.S.Steps.fits c.requires.role c.args.words c.see_top-used.result (g.S.Steps.facts c.args.steps.now).stands.config.words (search) c.see_top-used.ensures (over c.from.ensures c.from-2.ensures (c.from-3.ensures ∙ ap (λ (z : Config). z.words) c.config-space.ensures) c.if-from.true)
@@ -26,7 +28,7 @@ returns-in-Err-clause-err g c =
     (λ (k : Known) s. ap (λ (z : Config). z.words) (g.met.S.Steps.fits c.args.steps.now k s).config) c.in-Err.ensures
 
 pub returns-then-words-eq0-clause-ok : goal.returns-then-words-eq0-clause-ok
-returns-then-words-eq0-clause-ok g c = (sym c.if-words-eq0.true, reserve_none g.met.S.Steps.fits c.args.steps.now c.args.words c.if-words-eq0.true)
+returns-then-words-eq0-clause-ok g c = (c.empty.ensures.size ∙ sym c.if-words-eq0.true, reserve_none g.met.S.Steps.fits c.args.steps.now c.args.words (place_of c.empty.result) c.if-words-eq0.true)
 
 pub returns-then-from-clause-alone : goal.returns-then-from-clause-alone
 returns-then-from-clause-alone g c = λ none looked found e. cc

@@ -1,7 +1,10 @@
-use Rattle.std.proofs.Common.{◌++◌, ℕ, List, drop}
+use Rattle.std.proofs.Common.{◌≡◌, ◌+◌, ◌++◌, ℕ, List, drop, length}
 use Rattle.jr_rule.specs.declared.pass.Pass.{Pass}
 use Rattle.jr_scripts.specs.Jobs.{AreTold}
 use Rattle.jr_scripts.proofs.all.told.Given as goal
 
 abbrev pub invariant-loop-part : goal.invariant-loop-part
-invariant-loop-part l = (ps : List Pass) (rest : List ℕ) → AreTold (drop l.part-index l.parts) l.runs.items ps rest → AreTold l.parts l.fn.runs.items (l.passes.items ++ ps) (l.text.items ++ rest)
+invariant-loop-part l = record {
+  each : length l.runs.items + l.part-index ≡ length l.parts;
+  told : (ps : List Pass) (rest : List ℕ) → AreTold (drop l.part-index l.parts) l.runs.items ps rest → AreTold l.parts l.fn.runs.items (l.passes.items ++ ps) (l.text.items ++ rest);
+}

@@ -1,0 +1,142 @@
+//! How many handles a slot and a local place give, and what their row says then.
+
+use crate::envs::{has_type, is_refused, made, opened_env, plain_env};
+use jr_env::Env;
+use jr_model::Summary;
+use jr_rule::PlainSteps;
+use jr_steps::Steps;
+use jr_word::{Config, Fault, Handle};
+use std::process::Abort;
+use std::test::Fail;
+
+/// Kinds of references that are made and deleted over and over.
+#[derive(Clone, Copy)]
+enum Renewed {
+    Local,
+    Global,
+}
+
+/// Makes a reference to an object.
+fn renew<S: Steps>(env: &mut Env<S>, kind: Renewed, object: Handle) -> Result<Handle, Fail> {
+    let answer = match kind {
+        Renewed::Local => env.new_local_ref(object),
+        Renewed::Global => env.new_global_ref(object),
+    };
+    made(answer)
+}
+
+/// Deletes such a reference.
+fn delete<S: Steps>(env: &mut Env<S>, kind: Renewed, handle: Handle) -> Result<(), Fault> {
+    match kind {
+        Renewed::Local => env.delete_local_ref(handle),
+        Renewed::Global => env.delete_global_ref(handle),
+    }
+}
+
+/// The last of 65,537 references that are each deleted before the next one is made.
+fn last_renewed<S: Steps>(env: &mut Env<S>, kind: Renewed, object: Handle) -> Result<Handle, Fail> {
+    let mut last = Handle::NULL;
+    for _ in 0..65_537 {
+        last = renew(env, kind, object)?;
+        delete(env, kind, last)?;
+    }
+    Ok(last)
+}
+
+/// What the one free place gives: its first two handles, and the two behind 65,536 others, whose serials have the same lower halves.
+#[derive(Drop)]
+struct Given {
+    first: [Handle; 2],
+    later: [Handle; 2],
+    ref_type: u8,
+}
+
+/// The one free place for references of a kind gives more than 65,536 handles, each of which is told from every other.
+fn gives_more<S: Steps>(
+    rt: &impl Abort,
+    env: &mut Env<S>,
+    kind: Renewed,
+    object: Handle,
+    given: &Given,
+) -> Result<(), Fail> {
+    let last = last_renewed(env, kind, object)?;
+    assert_eq!(rt; last, given.later[0]);
+    has_type(rt, env, last, 0)?;
+    has_type(rt, env, given.first[0], 0)?;
+    // A later reference is told from the one whose serial has the same lower half.
+    let next = renew(env, kind, object)?;
+    assert_eq!(rt; next, given.later[1]);
+    has_type(rt, env, next, given.ref_type)?;
+    has_type(rt, env, given.first[1], 0)
+}
+
+#[test]
+fn a_slot_gives_more_than_65_536_handles(rt: HostRuntime) -> Result<(), Fail> {
+    let mut env = plain_env(rt.alloc(), Config::LEAST)?;
+    let local = env.new_plain()?;
+    let given = Given {
+        first: [Handle(2), Handle(6)],
+        later: [Handle(0x4_0002), Handle(0x4_0006)],
+        ref_type: 2,
+    };
+    gives_more(&rt, &mut env, Renewed::Global, local, &given)
+}
+
+#[test]
+fn a_local_place_gives_more_than_65_536_handles(rt: HostRuntime) -> Result<(), Fail> {
+    let mut env = plain_env(rt.alloc(), Config::LEAST)?;
+    let local = env.new_plain()?;
+    // One of the sixteen places is left free.
+    for _ in 0..14 {
+        made(env.new_local_ref(local))?;
+    }
+    let given = Given {
+        first: [Handle(0x3C_0000_0001), Handle(0x3C_0000_0005)],
+        later: [Handle(0x3C_0004_0001), Handle(0x3C_0004_0005)],
+        ref_type: 1,
+    };
+    gives_more(&rt, &mut env, Renewed::Local, local, &given)
+}
+
+/// The one slot gives three handles, and is retired with the last of them.
+fn retires<S: Steps>(rt: &impl Abort, env: &mut Env<S>) -> Result<(), Fail> {
+    let local = env.new_plain()?;
+    let words = [Handle(2), Handle(6), Handle(10)];
+    for word in words {
+        let global = made(env.new_global_ref(local))?;
+        assert_eq!(rt; global, word);
+        env.delete_global_ref(global)?;
+    }
+    is_refused(rt, env.new_global_ref(local), Some(Fault::RowFull));
+    for word in words {
+        has_type(rt, env, word, 0)?;
+    }
+    Ok(())
+}
+
+#[test]
+fn retires_a_slot_after_its_last_serial(rt: HostRuntime) -> Result<(), Fail> {
+    let mut env = opened_env(PlainSteps::<2>::new(rt.alloc(), Config::LEAST)?);
+    retires(&rt, &mut env)?;
+    let mut row = [0; 20];
+    row[2] = 9;
+    row[3] = 1;
+    row[19] = 1;
+    assert_eq!(rt; env.held.steps.words.as_slice(), row.as_slice());
+    Ok(())
+}
+
+#[test]
+fn sums_up_what_stands(rt: HostRuntime) -> Result<(), Fail> {
+    let mut env = opened_env(PlainSteps::<2>::new(rt.alloc(), Config::LEAST)?);
+    let local = env.new_plain()?;
+    env.new_global_ref(local)?;
+    let summary = Summary {
+        globals: 1,
+        weaks: 0,
+        live: 1,
+        used: 0,
+    };
+    assert_eq!(rt; env.held.steps.summary(), summary);
+    Ok(())
+}

@@ -1,0 +1,13 @@
+//! Tests of the calls of an env over rooms and over plain words.
+#![tactic(auto)]
+
+#[cfg(test)]
+mod envs;
+#[cfg(test)]
+mod frames;
+#[cfg(test)]
+mod handles;
+#[cfg(test)]
+mod references;
+#[cfg(test)]
+mod rooms;

@@ -1,0 +1,340 @@
+//! Words that are no reference of the thread, through the calls that take them, over plain words and over a room.
+
+ghost use Rattle.std.specs.Prelude.{All, IfOk};
+ghost use Rattle.jr_rule.specs.Passes.{IsAt, IsOpened};
+
+use crate::envs::{has_type, is_refused, made, opened_env, plain_env};
+use crate::rooms::{last_env, last_of};
+use jr_env::Env;
+use jr_rule::{Pass, PlainSteps, Room, RoomSteps};
+use jr_steps::Steps;
+use jr_word::{Config, Fault, Handle};
+use std::alloc::Global;
+use std::process::Abort;
+use std::test::Fail;
+
+/// A room of two threads with four slots and 16 local places each.
+const TWO: Config = Config {
+    threads: 2,
+    slots: 4,
+    objects: 8,
+    words: 16,
+    locals: 16,
+};
+
+/// A room with three slots and one object.
+const THREE_SLOTS: Config = Config {
+    slots: 3,
+    ..Config::LEAST
+};
+
+/// Malformed: all ones.
+const ONES: Handle = Handle(u64::MAX);
+
+/// Local, of thread 0 and of thread 1, with serial 0 at the first place.
+const OWN: Handle = Handle(1);
+
+const FOREIGN: Handle = Handle(0x4_0000_0000_0001);
+
+/// Local, of a third thread.
+const NO_THREAD: Handle = Handle(0x8_0000_0000_0001);
+
+/// Local, at a seventeenth place of thread 0 and of thread 1.
+const NO_PLACE: Handle = Handle(0x40_0000_0001);
+
+const NO_FOREIGN_PLACE: Handle = Handle(0x4_0040_0000_0001);
+
+/// Global, and weak, with a fifth slot.
+const NO_SLOT: Handle = Handle(0x10_0000_0002);
+
+const NO_WEAK_SLOT: Handle = Handle(0x10_0000_0003);
+
+/// Each call that takes a reference refuses the word, but for the one that tells its type.
+fn is_no_reference<S: Steps>(
+    rt: &impl Abort,
+    env: &mut Env<S>,
+    word: Handle,
+    fault: Fault,
+) -> Result<(), Fail> {
+    is_refused(rt, env.new_global_ref(word), Some(fault));
+    is_refused(rt, env.new_weak_global_ref(word), Some(fault));
+    is_refused(rt, env.new_local_ref(word), Some(fault));
+    is_refused(rt, env.is_same_object(word, Handle::NULL), Some(fault));
+    is_refused(rt, env.is_same_object(Handle::NULL, word), Some(fault));
+    has_type(rt, env, word, 0)
+}
+
+#[test]
+fn words_that_are_no_reference(rt: HostRuntime) -> Result<(), Fail> {
+    let mut env = plain_env(rt.alloc(), TWO)?;
+    let rows = [
+        (ONES, Fault::Stale),
+        (Handle(4), Fault::Stale),
+        (Handle(0x4_0000_0000_0002), Fault::Stale),
+        (NO_SLOT, Fault::Stale),
+        (NO_WEAK_SLOT, Fault::Stale),
+        (NO_THREAD, Fault::Stale),
+        (NO_PLACE, Fault::Stale),
+        (NO_FOREIGN_PLACE, Fault::Stale),
+        (FOREIGN, Fault::Foreign),
+        (OWN, Fault::Stale),
+    ];
+    for (word, fault) in rows {
+        is_no_reference(&rt, &mut env, word, fault)?;
+    }
+    has_type(&rt, &mut env, Handle::NULL, 0)
+}
+
+// Each kind of check is made of the first reference and then of the second, before the next kind.
+#[test]
+fn checks_of_two_references(rt: HostRuntime) -> Result<(), Fail> {
+    let mut env = plain_env(rt.alloc(), TWO)?;
+    let rows = [
+        (FOREIGN, ONES, Fault::Stale),
+        (FOREIGN, NO_SLOT, Fault::Stale),
+        (OWN, FOREIGN, Fault::Foreign),
+        (FOREIGN, OWN, Fault::Foreign),
+    ];
+    for (left, right, fault) in rows {
+        is_refused(&rt, env.is_same_object(left, right), Some(fault));
+    }
+    Ok(())
+}
+
+/// The words of a local, a global and a weak global reference to one object.
+#[derive(Drop)]
+struct OfEach {
+    local: Handle,
+    global: Handle,
+    weak: Handle,
+}
+
+/// A reference of each kind.
+fn of_each<S: Steps>(env: &mut Env<S>) -> Result<OfEach, Fail> {
+    let local = env.new_plain()?;
+    let global = made(env.new_global_ref(local))?;
+    let weak = made(env.new_weak_global_ref(local))?;
+    Ok(OfEach {
+        local,
+        global,
+        weak,
+    })
+}
+
+/// What deleting a word as a local reference is refused with.
+fn refused_as_local<S: Steps>(rt: &impl Abort, env: &mut Env<S>, of: &OfEach) {
+    let rows = [
+        (of.global, Fault::WrongKind),
+        (of.weak, Fault::WrongKind),
+        (NO_SLOT, Fault::WrongKind),
+        (NO_WEAK_SLOT, Fault::WrongKind),
+        (ONES, Fault::Stale),
+        (NO_PLACE, Fault::Stale),
+        (NO_THREAD, Fault::Stale),
+        (FOREIGN, Fault::Foreign),
+    ];
+    for (word, fault) in rows {
+        is_refused(rt, env.delete_local_ref(word), Some(fault));
+    }
+}
+
+/// Which types the three references have.
+fn have_types<S: Steps>(
+    rt: &impl Abort,
+    env: &mut Env<S>,
+    of: &OfEach,
+    wanted: [u8; 3],
+) -> Result<(), Fail> {
+    has_type(rt, env, of.local, wanted[0])?;
+    has_type(rt, env, of.global, wanted[1])?;
+    has_type(rt, env, of.weak, wanted[2])
+}
+
+#[test]
+fn references_of_another_kind(rt: HostRuntime) -> Result<(), Fail> {
+    let mut env = plain_env(rt.alloc(), TWO)?;
+    let of = of_each(&mut env)?;
+    refused_as_local(&rt, &mut env, &of);
+    // What was refused stands.
+    have_types(&rt, &mut env, &of, [1, 2, 3])?;
+    let kinds = [
+        (of.local, Some(Fault::WrongKind), Some(Fault::WrongKind)),
+        (of.weak, Some(Fault::WrongKind), None),
+        (FOREIGN, Some(Fault::WrongKind), Some(Fault::WrongKind)),
+        (NO_WEAK_SLOT, Some(Fault::WrongKind), Some(Fault::Stale)),
+        (NO_SLOT, Some(Fault::Stale), Some(Fault::WrongKind)),
+        (ONES, Some(Fault::Stale), Some(Fault::Stale)),
+        (of.global, None, Some(Fault::WrongKind)),
+    ];
+    for (word, of_global, of_weak) in kinds {
+        is_refused(&rt, env.delete_global_ref(word), of_global);
+        is_refused(&rt, env.delete_weak_global_ref(word), of_weak);
+    }
+    have_types(&rt, &mut env, &of, [1, 0, 0])
+}
+
+/// The steps, handed back by a refusal of an env.
+fn refused<S: Steps + Drop>(rt: &impl Abort, env: Result<Env<S>, (S, Fault)>) -> Result<S, Fail> {
+    match env {
+        Ok(_) => Err("the pass is not fresh")?,
+        Err((steps, fault)) => {
+            assert_eq!(rt; fault, Fault::NotFresh);
+            assert!(rt; !steps.fresh());
+            Ok(steps)
+        }
+    }
+}
+
+#[test]
+fn an_env_is_made_of_a_fresh_pass_alone(rt: HostRuntime) -> Result<(), Fail> {
+    let mut steps = PlainSteps::<2>::new(rt.alloc(), Config::LEAST)?;
+    assert!(rt; steps.fresh());
+    steps.spend();
+    let steps = refused(&rt, Env::new(steps))?;
+    assert_eq!(rt; steps.words.as_slice(), [0; 20].as_slice());
+
+    let Ok(mut env) = Env::new(PlainSteps::<2>::new(rt.alloc(), Config::LEAST)?) else {
+        return Err("the pass is fresh")?;
+    };
+    assert!(rt; !env.held.steps.fresh());
+    assert_eq!(rt; env.new_plain()?, OWN);
+    let steps = refused(&rt, Env::new(env.into_pass()))?;
+    // Its local reference still stands.
+    let mut row = [0; 20];
+    row[3] = 1;
+    row[19] = 1;
+    assert_eq!(rt; steps.words.as_slice(), row.as_slice());
+    Ok(())
+}
+
+/// A room, and the passes of its two threads.
+fn opened(alloc: Global) -> Result<(Room<2>, Pass, Pass), Fail>
+    ensures { IfOk result (λ r. IsOpened r.0.row r.1 × IsOpened r.0.row r.2) }
+{
+    let (room, mut passes) = Room::<2>::open(alloc, TWO)?;
+    let second = last_of(&room, &mut passes)?;
+    let first = last_of(&room, &mut passes)?;
+    Ok((room, first, second))
+}
+
+/// A reference of one env's thread that the other finds by a global reference, and each local one is its own thread's alone.
+fn shares<S: Steps, U: Steps>(
+    rt: &impl Abort,
+    first: &mut Env<S>,
+    second: &mut Env<U>,
+) -> Result<(), Fail> {
+    let object = first.new_plain()?;
+    let shared = made(first.new_global_ref(object))?;
+    let own = made(second.new_local_ref(shared))?;
+    assert_eq!(rt; [object, shared, own], [OWN, Handle(2), FOREIGN]);
+    has_type(rt, second, shared, 2)?;
+    assert!(rt; second.is_same_object(own, shared)?);
+    is_refused(rt, second.new_global_ref(object), Some(Fault::Foreign));
+    is_refused(
+        rt,
+        second.is_same_object(shared, object),
+        Some(Fault::Foreign),
+    );
+    is_refused(rt, first.delete_local_ref(own), Some(Fault::Foreign));
+    has_type(rt, first, own, 0)?;
+    second.delete_global_ref(shared)?;
+    Ok(())
+}
+
+/// What was deleted by another thread is no reference any more.
+fn is_gone<S: Steps>(rt: &impl Abort, env: &mut Env<S>, shared: Handle) -> Result<(), Fail> {
+    has_type(rt, env, shared, 0)?;
+    is_refused(rt, env.new_local_ref(shared), Some(Fault::Stale));
+    is_refused(rt, env.delete_global_ref(shared), Some(Fault::Stale));
+    Ok(())
+}
+
+#[test]
+fn two_passes_share_a_global_reference(rt: HostRuntime) -> Result<(), Fail> {
+    let (room, mut passes) = Room::<2>::open(rt.alloc(), TWO)?;
+    let mut second = last_env(&room, &mut passes)?;
+    let mut first = last_env(&room, &mut passes)?;
+    shares(&rt, &mut first, &mut second)?;
+    is_gone(&rt, &mut first, Handle(2))?;
+    has_type(&rt, &mut second, FOREIGN, 1)
+}
+
+/// A global reference that the thread of a pass makes, and the pass.
+fn shared_by(room: &Room<2>, pass: Pass) -> Result<(Handle, Pass), Fail>
+    requires { IsOpened room.now.row pass }
+    ensures { IfOk result (λ r. IsAt room.now.row r.1) }
+{
+    let mut env = opened_env(RoomSteps::new(room, pass));
+    let object = env.new_plain()?;
+    let shared = env.new_global_ref(object)?.ok_or("an object")?;
+    Ok((shared, env.into_pass().into_pass()))
+}
+
+/// The pass of another thread, once an env over a pass has met it.
+fn met_by(
+    rt: &impl Abort,
+    room: &Room<2>,
+    pass: Pass,
+    shared: Handle,
+    other: Pass,
+) -> Result<Pass, Fail>
+    requires own { IsOpened room.now.row pass }
+    requires other { IsAt room.now.row other }
+    ensures { IfOk result (λ p. IsAt room.now.row p) }
+{
+    let mut env = opened_env(RoomSteps::new(room, pass));
+    let other = env.meet(other);
+    assert!(rt; !env.held.steps.fresh());
+    let own = env.new_local_ref(shared)?.ok_or("an object")?;
+    assert_eq!(rt; own, OWN);
+    Ok(other)
+}
+
+#[test]
+fn who_meets_another_finds_its_reference(rt: HostRuntime) -> Result<(), Fail> {
+    let (room, first, second) = opened(rt.alloc())?;
+    let (shared, second) = shared_by(&room, second)?;
+    let second = met_by(&rt, &room, first, shared, second)?;
+    // The pass that was met is as it was: of thread 1, and not fresh.
+    let steps = RoomSteps::new(&room, second);
+    assert_eq!(rt; steps.thread(), 1);
+    assert!(rt; !steps.fresh());
+    Ok(())
+}
+
+/// Makes a global reference, which has the word.
+fn is_next<S: Steps>(
+    rt: &impl Abort,
+    env: &mut Env<S>,
+    object: Handle,
+    wanted: Handle,
+) -> Result<(), Fail> {
+    let next = made(env.new_global_ref(object))?;
+    assert_eq!(rt; next, wanted);
+    Ok(())
+}
+
+/// Each search for a free slot begins behind the newest reference of the pass, and goes on at slot 0 behind the last one.
+fn goes_round<S: Steps>(rt: &impl Abort, env: &mut Env<S>) -> Result<(), Fail> {
+    let local = env.new_plain()?;
+    is_next(rt, env, local, Handle(2))?;
+    is_next(rt, env, local, Handle(0x4_0000_0002))?;
+    env.delete_global_ref(Handle(2))?;
+    is_next(rt, env, local, Handle(0x8_0000_0002))?;
+    is_next(rt, env, local, Handle(6))?;
+    is_refused(rt, env.new_global_ref(local), Some(Fault::RowFull));
+    Ok(())
+}
+
+#[test]
+fn searches_go_round_over_plain_words(rt: HostRuntime) -> Result<(), Fail> {
+    let mut env = plain_env(rt.alloc(), THREE_SLOTS)?;
+    goes_round(&rt, &mut env)
+}
+
+#[test]
+fn searches_go_round_in_a_room(rt: HostRuntime) -> Result<(), Fail> {
+    let (room, mut passes) = Room::<2>::open(rt.alloc(), THREE_SLOTS)?;
+    let mut env = last_env(&room, &mut passes)?;
+    goes_round(&rt, &mut env)
+}

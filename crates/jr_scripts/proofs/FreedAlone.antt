@@ -1,0 +1,53 @@
+-- The end of a thread that is alone: nothing is in the way of freeing its local references.
+use Rattle.std.proofs.Common.{◌≡◌, ◌≢◌, ◌⊎◌, ⊎_elim, inl, inr, ℕ, zero, suc, false, List, [], Result, Ok, Err, refl, ap}
+use Rattle.jr_word.specs.declared.fault.Fault.{Fault}
+use Rattle.jr_word.specs.declared.fault.Fault.TheVariants.{Barred}
+use Rattle.jr_model.specs.References as references
+use Rattle.jr_model.proofs.RefusedCalls.{refusals_change_nothing}
+use Rattle.jr_syntax.specs.declared.command.Command.{Command}
+use Rattle.jr_syntax.specs.declared.command.Command.TheVariants as commands
+use Rattle.jr_syntax.specs.declared.verb.Make.TheVariants as make
+use Rattle.jr_gate.specs.Performing.{Moment}
+use Rattle.jr_env.specs.Deeds.{free_locals}
+use Rattle.jr_scripts.specs.Tries.{Tried, answered, again, gave_up, is_tried_again}
+use Rattle.jr_scripts.specs.Explains.{Explained}
+use Rattle.jr_scripts.specs.AloneAnswers.{AnswersAlone}
+use Rattle.jr_scripts.specs.Runs.{IsFreed}
+use Rattle.jr_scripts.proofs.Uncontended.{freeing_uncontended}
+use Rattle.jr_scripts.proofs.AloneCalls.{IsAlone, LeadsAlone, AllUncontended, call_alone}
+use Rattle.jr_scripts.proofs.AloneDeeds.{was_alone, once_alone, tries_alone}
+use Rattle.jr_scripts.proofs.AloneAnswers.{went_alone}
+
+-- a command whose refusals are those of a free, and more
+plainly : Command
+plainly = commands.Make make.Plain []
+
+free_alone : (turns : ℕ) → LeadsAlone turns plainly free_locals
+free_alone turns = call_alone turns plainly (λ c. 0) (λ c last t s. references.freeing) (λ c last t s one first. freeing_uncontended plainly c last t one first) (λ c last t s. (refusals_change_nothing c last t s).free_locals)
+
+free_answers : (old new : Moment) (answer : Result (Unit {0}) Fault) → free_locals old answer new → (answer ≡ Ok tt) ⊎ (answer ≡ Err Barred)
+free_answers old new answer d = ⊎_elim (λ x. inr x.1) (λ x. inl x.2.1) d.0.ran.is
+
+barred_again : (answer : Result (Unit {0}) Fault) → is_tried_again answer ≡ false → answer ≡ Err Barred → answer ≡ Ok tt
+barred_again answer final is = let again_is = ap is_tried_again is in absurd cc
+
+-- where there is a turn, the references are freed
+freed_all : (n : ℕ) (old new : Moment) (answer : Result (Unit {0}) Fault) → IsAlone new.pass → Tried free_locals n old answer new → n ≢ 0 → answer ≡ Ok tt
+freed_all (suc n) old new answer alone (answered d final) some = ⊎_elim (λ e. e) (barred_again answer final) (free_answers old new answer d)
+freed_all (suc n) old new answer alone (again {mid = mid} {once = once} d more rest) some =
+    let y = tries_alone plainly free_alone n mid new answer alone rest in
+    let x = (free_alone 0).led old mid once (was_alone y alone) d in
+    absurd (once_alone plainly mid.pass mid.frames once more x.fault)
+freed_all zero old new answer alone gave_up some = absurd (some refl)
+
+-- A LONE THREAD's commands, and its end
+pub record EndedAlone {turns first : ℕ} {opening told left : Moment} {commands : List Command} {text : List ℕ} (e : Explained turns first opening commands text told) (f : IsFreed turns told left) : Type 0 where
+  pub answers : AnswersAlone e.1
+  pub all : turns ≢ 0 → f.answer ≡ Ok tt
+  pub uncontended : AllUncontended opening.pass.seen → AllUncontended left.pass.seen
+
+pub ended_alone : (turns first : ℕ) (opening told left : Moment) (commands : List Command) (text : List ℕ) (e : Explained turns first opening commands text told) (f : IsFreed turns told left) → IsAlone left.pass → EndedAlone e f
+ended_alone turns first opening told left commands text e f alone =
+    let y = tries_alone plainly free_alone turns told left f.answer alone f.tries in
+    let x = went_alone turns first opening told commands text e.0 e.1 (was_alone y alone) in
+    record { answers = x.answers; all = freed_all turns told left f.answer alone f.tries; uncontended = λ m. y.uncontended (x.uncontended m) }

@@ -1,0 +1,61 @@
+-- How many lines the parts of a script are, and how many passes and runs it has.
+use Rattle.std.proofs.Common.{◌≡◌, ◌+◌, ◌<◌, ◌≤◌, ℕ, zero, suc, true, List, [], ◌∷◌, length, drop, get_or, refl, sym, ap, ◌∙◌, arith}
+use Rattle.std.proofs.lemmas.List.{length-map, length-append}
+use Rattle.std.proofs.lemmas.Slice.Zip.{AllZip-long}
+use Rattle.std.specs.List.{AllZip}
+use Rattle.jr_word.specs.declared.config.Config.{Config}
+use Rattle.jr_word.specs.Config.{in_limits}
+use Rattle.jr_word.proofs.Limits.{limited}
+use Rattle.jr_syntax.specs.declared.thread.ThreadPart.{ThreadPart}
+use Rattle.jr_rule.specs.declared.pass.Pass.{Pass}
+use Rattle.jr_rule.specs.declared.row.Row.{Row}
+use Rattle.jr_rule.specs.Passes.{AreOpened, numbers_below}
+use Rattle.jr_scripts.specs.declared.part.Job.{Job}
+use Rattle.jr_scripts.specs.declared.part.ThreadRun.{ThreadRun}
+use Rattle.jr_scripts.specs.AllRuns.{lines_of_parts}
+use Rattle.jr_scripts.specs.Jobs.{HasRun, AreJobsOf, AreTold}
+use Rattle.jr_scripts.proofs.JobLists.{nothing_left, one_left}
+
+-- the lines of the parts that are left
+pub lines_more : (i : ℕ) (parts : List ThreadPart) (q : ThreadPart) → i < length parts → q ≡ get_or parts i q → lines_of_parts (drop i parts) ≡ 1 + length q.commands + lines_of_parts (drop (i + 1) parts)
+lines_more i parts q some is =
+    let next : suc i ≡ i + 1 = omega arith in
+    ap lines_of_parts (one_left i parts q some is) ∙ ap (λ n. 1 + length q.commands + lines_of_parts (drop n parts)) next
+
+pub lines_end : (i : ℕ) (parts : List ThreadPart) → length parts ≤ i → lines_of_parts (drop i parts) ≡ 0
+lines_end i parts all = ap lines_of_parts (nothing_left i parts all)
+
+numbers_long : (n : ℕ) → length (numbers_below n) ≡ n
+numbers_long zero = refl
+numbers_long (suc n) = let e = length-append (numbers_below n) (n ∷ []) in let f = numbers_long n in omega arith
+
+-- one pass a thread
+pub passes_long : (c : Config) (last : ℕ) (r : Row) (ps : List Pass) → AreOpened c last r ps → length ps ≡ c.threads
+passes_long c last r ps o = sym (length-map ps (λ (p : Pass). p.thread)) ∙ (ap (λ (ns : List ℕ). length ns) o.threads ∙ numbers_long c.threads)
+
+jobs_long : (turns line : ℕ) (ps : List Pass) (qs : List ThreadPart) (js : List Job) → AreJobsOf turns line ps qs js → length js ≡ length qs
+jobs_long turns line [] [] [] jobs = refl
+jobs_long turns line [] [] (j ∷ js) jobs = absurd jobs
+jobs_long turns line [] (q ∷ qs) js jobs = absurd jobs
+jobs_long turns line (p ∷ ps) [] js jobs = absurd jobs
+jobs_long turns line (p ∷ ps) (q ∷ qs) [] jobs = absurd jobs
+jobs_long turns line (p ∷ ps) (q ∷ qs) (j ∷ js) jobs = ap suc (jobs_long turns (line + 1 + length q.commands) ps qs js jobs.1)
+
+-- one run a part
+pub runs_long : (turns line : ℕ) (ps : List Pass) (qs : List ThreadPart) (js : List Job) (xs : List ThreadRun) → AreJobsOf turns line ps qs js → AllZip HasRun js xs → length xs ≡ length qs
+runs_long turns line ps qs js xs jobs ran = AllZip-long HasRun js xs ran ∙ jobs_long turns line ps qs js jobs
+
+ends_long : (qs : List ThreadPart) (xs : List ThreadRun) (ends : List Pass) (text : List ℕ) → AreTold qs xs ends text → length ends ≡ length qs
+ends_long [] xs [] text told = refl
+ends_long [] [] (e ∷ ends) text told = absurd told
+ends_long [] (x ∷ xs) (e ∷ ends) text told = absurd told
+ends_long (q ∷ qs) [] ends text told = absurd told
+ends_long (q ∷ qs) (x ∷ xs) [] text told = absurd told
+ends_long (q ∷ qs) (x ∷ xs) (e ∷ ends) text told = ap suc (ends_long qs xs ends told.2 told.4)
+
+-- there is a first pass
+pub some_ends : (c : Config) (qs : List ThreadPart) (xs : List ThreadRun) (ends : List Pass) (text : List ℕ) → in_limits c ≡ true → length qs ≡ c.threads → AreTold qs xs ends text → 0 < length ends
+some_ends c qs xs ends text limits long told =
+    let least = (limited c limits).threads.0 in
+    let same = ends_long qs xs ends text told in
+    omega arith

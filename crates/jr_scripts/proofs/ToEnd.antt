@@ -1,0 +1,21 @@
+-- A thread's commands, and then the end of its local references, for whatever was known.
+use Rattle.std.proofs.Common.{ℕ, List, Result}
+use Rattle.jr_word.specs.declared.fault.Fault.{Fault}
+use Rattle.jr_model.specs.Frames.{Frames}
+use Rattle.jr_syntax.specs.declared.command.Command.{Command}
+use Rattle.jr_steps.specs.Knowing.{Facts}
+use Rattle.jr_gate.specs.Performing.{moment}
+use Rattle.jr_gate.proofs.SameRoom.{still_before}
+use Rattle.jr_env.specs.Deeds.{DoesDeed, free_locals}
+use Rattle.jr_scripts.specs.Commands.{tried}
+use Rattle.jr_scripts.specs.Runs.{RanThread, RanToEnd}
+
+pub ran_to_end : {S : Type 0} {facts : S → Facts} {a b c : S} {f g h : Frames} {turns first : ℕ} {commands : List Command} {answer freed : Result (Unit {0}) Fault} {text : List ℕ}
+    → RanThread facts a b f g turns first commands answer text → DoesDeed facts b c g h (tried turns free_locals) freed → RanToEnd facts a c f h turns first commands answer text
+ran_to_end {facts = facts} {b = b} {g = g} {freed = freed} r d = record {
+  stands_is = still_before r.stands_is d.stands_is;
+  ended = λ k s m.
+      let x = r.explained k s m in
+      let y = d.did x.0 x.1 x.2 in
+      (y.0, y.1, y.2, moment (facts b).stands.fresh x.0 g, x.3, record { answer = freed; tries = y.3 });
+}

@@ -1,0 +1,34 @@
+//! The end of a thread: its local references are freed, where it has turns.
+
+use super::{BEFORE, SIZES};
+use crate::board::Posts;
+use crate::hold::NoHold;
+use crate::opening::opened_env;
+use crate::to_end::run_to_end;
+use jr_model::Summary;
+use jr_rule::PlainSteps;
+use jr_word::Fault;
+use std::test::Fail;
+
+#[test]
+fn a_thread_without_turns_keeps_its_locals(rt: HostRuntime) -> Result<(), Fail> {
+    let alloc = rt.alloc();
+    let mut env = opened_env(PlainSteps::<2>::new(alloc, SIZES)?);
+    let local = env.new_plain()?;
+    let board = Posts::new(alloc);
+    let mut out = Vec::from_slice(alloc, BEFORE)?;
+    run_to_end(alloc, &mut env, 3, &[], &board, &NoHold, 0, &mut out)?;
+    assert_eq!(rt; env.get_object_ref_type(local)?, 1);
+    let summary = Summary {
+        globals: 0,
+        weaks: 0,
+        live: 1,
+        used: 0,
+    };
+    assert_eq!(rt; env.held.steps.summary(), summary);
+    run_to_end(alloc, &mut env, 3, &[], &board, &NoHold, 1, &mut out)?;
+    assert_eq!(rt; env.get_object_ref_type(local)?, 0);
+    assert_eq!(rt; env.new_local_ref(local).err(), Some(Fault::Stale));
+    assert_eq!(rt; out.as_slice(), BEFORE);
+    Ok(())
+}

@@ -1,0 +1,227 @@
+//! Threads of one script that run side by side, and post to each other.
+
+use super::{BEFORE, leaves, prints};
+use crate::all::run_all;
+use crate::hold::{Hold, NoHold};
+use jr_syntax::parse;
+use std::alloc::Global;
+use std::process::Abort;
+use std::sync::Wait;
+use std::sync::atomic::{AtomicU64, Ordering};
+use std::test::Fail;
+use std::thread;
+use std::thread::Threads;
+
+/// How often a thread looks for what another does.
+const MANY_TURNS: u64 = 10_000_000;
+
+/// What a script of several threads prints.
+fn text_of<R: Abort + Threads + Wait, H: Hold + Sync>(
+    rt: &R,
+    alloc: Global,
+    script: &[u8],
+    hold: &H,
+) -> Result<Vec<u8>, Fail> {
+    let script = parse(alloc, script)?;
+    let mut out = Vec::new(alloc);
+    run_all(rt, alloc, &script, hold, MANY_TURNS, &mut out)?;
+    Ok(out)
+}
+
+/// Checks what a script of several threads prints behind other output.
+fn threads_print<R: Abort + Threads + Wait, H: Hold + Sync>(
+    rt: &R,
+    alloc: Global,
+    script: &[u8],
+    hold: &H,
+    wanted: &[u8],
+) -> Result<(), Fail> {
+    let script = parse(alloc, script)?;
+    let mut out = Vec::from_slice(alloc, BEFORE)?;
+    let mut whole = Vec::from_slice(alloc, BEFORE)?;
+    whole.extend_from_slice(wanted)?;
+    let answer = run_all(rt, alloc, &script, hold, MANY_TURNS, &mut out);
+    leaves(rt, answer, &out, &whole)
+}
+
+#[test]
+fn a_name_that_nobody_posts(rt: HostRuntime) -> Result<(), Fail> {
+    prints(
+        &rt,
+        rt.alloc(),
+        b"vm threads 1 slots 4 objects 8 words 16 locals 16\nthread a\nwait never\ntype never\n",
+        b"[a]\n3 ! E20\ntype never 0\n[end]\nglobals 0 weaks 0 live 0 used 0\n",
+    )
+}
+
+#[test]
+fn a_wait_that_runs_out_of_turns_sets_no_name(rt: HostRuntime) -> Result<(), Fail> {
+    prints(
+        &rt,
+        rt.alloc(),
+        b"vm threads 1 slots 4 objects 8 words 16 locals 16\nthread a\nplain p\nwait p\ntype p\n",
+        b"[a]\n4 ! E20\ntype p 1\n[end]\nglobals 0 weaks 0 live 1 used 0\n",
+    )
+}
+
+#[test]
+fn a_name_that_stands_for_nothing_is_posted_as_null(rt: HostRuntime) -> Result<(), Fail> {
+    prints(
+        &rt,
+        rt.alloc(),
+        b"vm threads 1 slots 4 objects 8 words 16 locals 16\nthread a\npost n\nwait n\nsame n null\nplain p\npost p\ndrop p\nplain p\nwait p\ntype p\n",
+        b"[a]\nsame n null true\ntype p 0\n[end]\nglobals 0 weaks 0 live 2 used 0\n",
+    )
+}
+
+#[test]
+fn a_local_reference_is_of_its_own_thread_alone(rt: HostRuntime) -> Result<(), Fail> {
+    threads_print(
+        &rt,
+        rt.alloc(),
+        b"vm threads 2 slots 4 objects 8 words 16 locals 16\nthread a\nplain p\npost p\nthread b\nwait p\ntype p\nglobal g p\n",
+        &NoHold,
+        b"[a]\n[b]\ntype p 0\n8 ! E3\n[end]\nglobals 0 weaks 0 live 1 used 0\n",
+    )
+}
+
+/// A thread hands a global reference to another, which deletes it.
+const HANDED_OVER: &[u8] =
+    b"vm threads 2 slots 4 objects 8 words 16 locals 16\nthread a\nplain p\nglobal g p\npost g\nwait done\ntype g\nthread b\nwait g\ntype g\nweak w g\ndrop g\ntype g\npost done\n";
+
+const HANDED_OVER_OUTPUT: &[u8] =
+    b"[a]\ntype g 0\n[b]\ntype g 2\ntype g 0\n[end]\nglobals 0 weaks 1 live 1 used 0\n";
+
+#[test]
+fn a_reference_is_handed_over(rt: HostRuntime) -> Result<(), Fail> {
+    threads_print(&rt, rt.alloc(), HANDED_OVER, &NoHold, HANDED_OVER_OUTPUT)
+}
+
+/// Holds two threads at their first lines until both have come there, and line 7 until line 10 is answered.
+#[derive(Drop)]
+struct Meeting {
+    begun_3: AtomicU64,
+    begun_9: AtomicU64,
+    answered_10: AtomicU64,
+    /// How many waits ran out of turns.
+    ran_out: AtomicU64,
+    /// How many commands of each thread began and were answered: 256 for each answer of thread 0, and so on.
+    begun: [AtomicU64; 2],
+    answered: [AtomicU64; 2],
+}
+
+impl Meeting {
+    fn new() -> Meeting {
+        Meeting {
+            begun_3: AtomicU64::new(0),
+            begun_9: AtomicU64::new(0),
+            answered_10: AtomicU64::new(0),
+            ran_out: AtomicU64::new(0),
+            begun: [AtomicU64::new(0), AtomicU64::new(0)],
+            answered: [AtomicU64::new(0), AtomicU64::new(0)],
+        }
+    }
+
+    /// Waits until a mark is set.
+    fn wait_for(&self, mark: &AtomicU64) {
+        for _ in 0..MANY_TURNS {
+            if mark.load(Ordering::SeqCst) != 0 {
+                return;
+            }
+            thread::yield_now();
+        }
+        self.ran_out.fetch_add(1, Ordering::SeqCst);
+    }
+}
+
+/// Counts one more for a thread.
+fn count(counts: &[AtomicU64; 2], thread: u8) {
+    if thread < 2 {
+        counts[thread as usize].fetch_add(1, Ordering::SeqCst);
+    }
+}
+
+impl Hold for Meeting {
+    fn before(&self, thread: u8, line: usize) {
+        count(&self.begun, thread);
+        if line == 3 {
+            self.begun_3.store(1, Ordering::SeqCst);
+            self.wait_for(&self.begun_9);
+        } else if line == 9 {
+            self.begun_9.store(1, Ordering::SeqCst);
+            self.wait_for(&self.begun_3);
+        } else if line == 7 {
+            self.wait_for(&self.answered_10);
+        }
+    }
+
+    fn after(&self, thread: u8, line: usize) {
+        count(&self.answered, thread);
+        if line == 10 {
+            self.answered_10.store(1, Ordering::SeqCst);
+        }
+    }
+}
+
+#[test]
+fn threads_of_a_script_run_side_by_side(rt: HostRuntime) -> Result<(), Fail> {
+    let hold = Meeting::new();
+    threads_print(&rt, rt.alloc(), HANDED_OVER, &hold, HANDED_OVER_OUTPUT)?;
+    assert_eq!(rt; hold.ran_out.load(Ordering::SeqCst), 0);
+    assert_eq!(rt; hold.begun[0].load(Ordering::SeqCst), 5);
+    assert_eq!(rt; hold.begun[1].load(Ordering::SeqCst), 6);
+    assert_eq!(rt; hold.answered[0].load(Ordering::SeqCst), 5);
+    assert_eq!(rt; hold.answered[1].load(Ordering::SeqCst), 6);
+    Ok(())
+}
+
+/// What two threads print that contend for one slot: both had it in turn, or one found it occupied.
+fn is_an_outcome(text: &[u8]) -> bool {
+    text == b"[a]\ntype g 0\n[b]\ntype h 0\n[end]\nglobals 0 weaks 0 live 2 used 0\n".as_slice()
+        || text
+            == b"[a]\n4 ! E8\n5 ! E2\ntype g 0\n[b]\ntype h 0\n[end]\nglobals 0 weaks 0 live 2 used 0\n".as_slice()
+        || text
+            == b"[a]\ntype g 0\n[b]\n9 ! E8\n10 ! E2\ntype h 0\n[end]\nglobals 0 weaks 0 live 2 used 0\n".as_slice()
+}
+
+#[test]
+fn two_threads_contend_for_one_slot(rt: HostRuntime) -> Result<(), Fail> {
+    let alloc = rt.alloc();
+    for _ in 0..50 {
+        let text = text_of(
+            &rt,
+            alloc,
+            b"vm threads 2 slots 1 objects 2 words 0 locals 16\nthread a\nplain p\nglobal g p\ndrop g\ntype g\nthread b\nplain p\nglobal h p\ndrop h\ntype h\n",
+            &NoHold,
+        )?;
+        assert!(rt; is_an_outcome(&text));
+    }
+    Ok(())
+}
+
+/// A script of 64 threads: each makes a global reference, hands it to the next one, and deletes the one that it is handed; and what it prints.
+fn in_a_circle(alloc: Global) -> Result<(Vec<u8>, Vec<u8>), Fail> {
+    let mut script = Vec::from_slice(
+        alloc,
+        b"vm threads 64 slots 64 objects 64 words 0 locals 16\n",
+    )?;
+    let mut wanted = Vec::new(alloc);
+    for i in 0..64_u32 {
+        let last = (i + 63) % 64;
+        let part = format!(in alloc;
+            "thread t{i}\nplain p\nglobal g{i} p\npost g{i}\nwait g{last}\ntype g{last}\ndrop g{last}\ntype g{last}\n"
+        )?;
+        script.extend_from_slice(part.as_bytes())?;
+        let lines = format!(in alloc; "[t{i}]\ntype g{last} 2\ntype g{last} 0\n")?;
+        wanted.extend_from_slice(lines.as_bytes())?;
+    }
+    wanted.extend_from_slice(b"[end]\nglobals 0 weaks 0 live 64 used 0\n")?;
+    Ok((script, wanted))
+}
+
+#[test]
+fn sixty_four_threads_in_a_circle(rt: HostRuntime) -> Result<(), Fail> {
+    let alloc = rt.alloc();
+    let (script, wanted) = in_a_circle(alloc)?;
+    threads_print(&rt, alloc, &script, &NoHold, &wanted)
+}

@@ -1,0 +1,36 @@
+//! Runs the commands of a thread, and what comes at its end.
+
+ghost use Rattle.std.specs.Prelude.{◌≡◌, ◌++◌, ◌+◌, ◌<◌, ◌^◌, List, ℕ, IfErr, length};
+ghost use Rattle.jr_word.specs.declared.fault.Fault.TheVariants.{Memory};
+ghost use Rattle.jr_scripts.specs.Runs.{RanToEnd};
+
+use crate::board::Board;
+use crate::env_call::FreeLocals;
+use crate::hold::Hold;
+use crate::retry::retry;
+use crate::run::run_thread;
+use jr_env::Env;
+use jr_steps::Steps;
+use jr_syntax::Command;
+use jr_word::Fault;
+use std::alloc::Global;
+
+/// Runs the commands of a thread as `run_thread` does, and then frees its local references, whatever the commands answered: as at the end of a native method. Where the turns run out, they stay.
+pub(crate) fn run_to_end<S: Steps, B: Board, H: Hold>(
+    alloc: Global,
+    env: &mut Env<S>,
+    first: usize,
+    commands: &[Command],
+    board: &B,
+    hold: &H,
+    turns: u64,
+    out: &mut Vec<u8>,
+) -> Result<(), Fault>
+    requires { first + length commands.now < 2 ^ 64 }
+    ensures ended { (text : List ℕ) × (out.new.items ≡ out.old.items ++ text) × RanToEnd S.facts env.old.held.steps env.new.held.steps env.old.held.frames.frames env.new.held.frames.frames turns first commands.now result text }
+    ensures memory { IfErr result (λ e. e ≡ Memory) }
+{
+    let answer = run_thread(alloc, env, first, commands, board, hold, turns, out);
+    let _ = retry(env, turns, &FreeLocals);
+    answer
+}
