@@ -58,10 +58,7 @@ module _ {S : Type 0} {facts : S → Facts} where
   ready_pushed {role} {a} {t} r is = subst (StandsReady facts role a) (sym is) (record {
     role_is = r.role_is;
     spent = r.spent;
-    owner = r.owner;
-    last = r.last;
-    places = r.places;
-    agrees = ∥∥₁_map r.agrees (λ k. (k.0, k.1, holds_pushed t.frames k.0 k.2));
+    own = record { owner = r.own.owner; last = r.own.last; places = r.own.places; agrees = ∥∥₁_map r.own.agrees (λ k. (k.0, k.1, holds_pushed t.frames k.0 k.2)) };
   })
 
   module _ (fits : AreOf facts) {a : S} {t : Table} {role : Role} (ready : StandsReady facts role a t) where
@@ -71,7 +68,7 @@ module _ {S : Type 0} {facts : S → Facts} where
       stands_is = nothing_changed;
       did = λ k s m.
           let i = fits a k s in
-          let last : t.last ≡ k.last = ready.last ∙ sym i.last in
+          let last : t.last ≡ k.last = ready.own.last ∙ sym i.last in
           let ran : Ran (view k) (view k) t.frames g (work k.config k.last k.thread) answer = record {
             acts = [];
             did = did_nothing (view k) i.legal;

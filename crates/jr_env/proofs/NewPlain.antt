@@ -116,7 +116,7 @@ module _ {S : Type 0} {facts : S → Facts} {a b : S} (same : (facts b).stands �
           let present : HasObject o x.0 = subst (λ c. IsSome c) (sym x.3.0.0) refl in
           let y = u.goes x.0 x.1 present in
           let d = goes_did y.2 in
-          let here = subst (λ n. IsAdded n (facts a).stands.thread t.frames (record { handle = h; object = o }) g) r.last (subst (λ n. IsAdded t.last n t.frames (record { handle = h; object = o }) g) r.owner added) in (
+          let here = subst (λ n. IsAdded n (facts a).stands.thread t.frames (record { handle = h; object = o }) g) r.own.last (subst (λ n. IsAdded t.last n t.frames (record { handle = h; object = o }) g) r.own.owner added) in (
             y.0,
             y.1,
             made_of (spend_first (spent_publishing p k s t.frames) (spend_step u x.0 x.1 present t.frames g)) (made_ran (facts a).stands.config (facts a).stands.last (facts a).stands.thread h o (room_at h r next) z d here),
@@ -136,5 +136,5 @@ module _ {S : Type 0} {facts : S → Facts} where
   pub makes_nothing : {a : S} {t : Table} → AreOf facts → StandsReady facts Within a t → free_places t.last t.frames ≡ 0 → MakesPlain facts a a t.frames t.frames (facts a).stands.config.objects (making (facts a).stands.config (facts a).stands.last (facts a).stands.thread) (Err LocalsFull)
   makes_nothing {a} {t} fits r none =
       let s = (facts a).stands in
-      let none_here = subst (λ n. free_places n t.frames ≡ 0) r.last none in
+      let none_here = subst (λ n. free_places n t.frames ≡ 0) r.own.last none in
       refused_making s.config.objects (stays fits a t.frames (λ p l. none_ran s.config s.last s.thread _ none_here l))

@@ -7,4 +7,4 @@ use Rattle.jr_env.specs.Deeds.{Deed, DoesDeed}
 
 -- THE CALL DID THE DEED, with this answer
 abbrev pub Does : {S A : Type 0} {G : Ghosts S} → Env S G → Env S G → Deed A → Result A Fault → Type 0
-Does {G = G} old new deed answer = DoesDeed G.facts old.steps new.steps old.frames.frames new.frames.frames deed answer
+Does {G = G} old new deed answer = DoesDeed G.facts old.held.steps new.held.steps old.held.frames.frames new.held.frames.frames deed answer

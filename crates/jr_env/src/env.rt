@@ -4,7 +4,7 @@ ghost use Rattle.jr_frames.specs.Ready.{StandsReady};
 
 use crate::calls::{Comparison, Creation, LocalCreation, LocalRemoval, Making, Removal, Typing};
 use crate::work::make;
-use jr_frames::{Frames, Reference};
+use jr_frames::{Frames, Held, Reference};
 use jr_heap::Numbers;
 use jr_steps::Steps;
 use jr_word::{Fault, Handle, RefKind};
@@ -12,13 +12,11 @@ use jr_word::{Fault, Handle, RefKind};
 /// A thread's steps and its local references. The thread is outside the gate, and its pass is not fresh.
 #[derive(Drop)]
 pub struct Env<S: Steps> {
-    /// The thread's steps.
-    pub steps: S,
-    /// Its local references.
-    pub frames: Frames,
+    /// The thread's steps and its local references.
+    pub held: Held<S>,
     /// Where it looks for the number of its next object.
     numbers: Numbers,
-    ghost ready: { StandsReady S.facts Outside steps frames },
+    ghost ready: { StandsReady S.facts Outside held.steps held.frames },
 }
 
 impl<S: Steps> Env<S> {
@@ -39,8 +37,8 @@ impl<S: Steps> Env<S> {
     pub fn new(mut steps: S) -> Result<Self, (S, Fault)>
         requires { (S.facts steps).stands.role ≡ Outside }
         ensures fresh { IfOk result (λ _. (S.facts steps).stands.fresh ≡ true) }
-        ensures steps { IfOk result (λ env. Spent S.facts steps env.steps) }
-        ensures frames { IfOk result (λ env. env.frames.frames ≡ fresh_frames (S.facts steps).stands.config.locals) }
+        ensures steps { IfOk result (λ env. Spent S.facts steps env.held.steps) }
+        ensures frames { IfOk result (λ env. env.held.frames.frames ≡ fresh_frames (S.facts steps).stands.config.locals) }
         ensures err { IfErr result (λ e. ((S.facts steps).stands.fresh ≡ false) × (e ≡ (steps, NotFresh))) }
     {
         if !steps.fresh() {
@@ -50,20 +48,18 @@ impl<S: Steps> Env<S> {
         let config = steps.config();
         let frames = Frames::new(steps.thread(), &config, steps.last());
         let numbers = Numbers::new();
-        Ok(Env {
-            steps,
-            frames,
-            numbers,
-        })
+        let held = Held { steps, frames };
+        Ok(Env { held, numbers })
     }
 
     /// The steps, whose pass is not fresh, so that no second env is made over it. Local references that stand stay in the row. It takes no step.
     pub fn into_pass(self) -> S
-        ensures steps { result ≡ self.steps }
+        ensures steps { result ≡ self.held.steps }
         ensures outside { (S.facts result).stands.role ≡ Outside }
         ensures spent { (S.facts result).stands.fresh ≡ false }
     {
-        let Env { steps, .. } = self;
+        let Env { held, .. } = self;
+        let Held { steps, frames: _ } = held;
         steps
     }
 
@@ -71,7 +67,7 @@ impl<S: Steps> Env<S> {
     pub fn new_plain(&mut self) -> Result<Handle, Fault>
         ensures { Does self.old self.new new_plain result }
     {
-        let made = make(&mut self.steps, &mut self.frames, Making(&mut self.numbers))?;
+        let made = make(&mut self.held, Making(&mut self.numbers))?;
         Ok(Handle::pack(made))
     }
 
@@ -94,7 +90,7 @@ impl<S: Steps> Env<S> {
         ensures { Does self.old self.new (new_local_ref handle.0) result }
     {
         let target = Reference::of(handle);
-        let made = make(&mut self.steps, &mut self.frames, LocalCreation(target))?;
+        let made = make(&mut self.held, LocalCreation(target))?;
         Ok(made.map(Handle::pack))
     }
 
@@ -104,7 +100,7 @@ impl<S: Steps> Env<S> {
     {
         let target = Reference::of(handle);
         let kind = RefKind::Global;
-        make(&mut self.steps, &mut self.frames, Removal { kind, target })
+        make(&mut self.held, Removal { kind, target })
     }
 
     /// Deletes a weak global reference; NULL is no refusal: E2, E4, E13. (JNI Specification, chapter 4, "DeleteWeakGlobalRef")
@@ -113,7 +109,7 @@ impl<S: Steps> Env<S> {
     {
         let target = Reference::of(handle);
         let kind = RefKind::Weak;
-        make(&mut self.steps, &mut self.frames, Removal { kind, target })
+        make(&mut self.held, Removal { kind, target })
     }
 
     /// Deletes a local reference of the thread; NULL is no refusal: E2, E3, E4, E13. (JNI Specification, chapter 4, "DeleteLocalRef")
@@ -121,7 +117,7 @@ impl<S: Steps> Env<S> {
         ensures { Does self.old self.new (delete_local_ref handle.0) result }
     {
         let target = Reference::of(handle);
-        make(&mut self.steps, &mut self.frames, LocalRemoval(target))
+        make(&mut self.held, LocalRemoval(target))
     }
 
     /// Whether two references are to one object, or both to null: E2, E3, E13. (JNI Specification, chapter 4, "IsSameObject")
@@ -130,7 +126,7 @@ impl<S: Steps> Env<S> {
     {
         let left = Reference::of(left);
         let right = Reference::of(right);
-        make(&mut self.steps, &mut self.frames, Comparison(left, right))
+        make(&mut self.held, Comparison(left, right))
     }
 
     /// The type of a reference: 0 invalid, 1 local, 2 global, 3 weak global: E13 alone. (JNI Specification, chapter 4, "GetObjectRefType")
@@ -138,7 +134,7 @@ impl<S: Steps> Env<S> {
         ensures { Does self.old self.new (get_object_ref_type handle.0) result }
     {
         let target = Reference::of(handle);
-        make(&mut self.steps, &mut self.frames, Typing(target))
+        make(&mut self.held, Typing(target))
     }
 
     /// A global or weak global reference to what the handle names, or none for null.
@@ -147,7 +143,7 @@ impl<S: Steps> Env<S> {
         ensures { Does self.old self.new (new_reference kind handle.0) result }
     {
         let target = Reference::of(handle);
-        let made = make(&mut self.steps, &mut self.frames, Creation { kind, target })?;
+        let made = make(&mut self.held, Creation { kind, target })?;
         Ok(made.map(Handle::pack))
     }
 }

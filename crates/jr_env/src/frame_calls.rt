@@ -15,7 +15,7 @@ impl<S: Steps> Env<S> {
     pub fn ensure_local_capacity(&mut self, capacity: u32) -> Result<(), Fault>
         ensures { Does self.old self.new (ensure_local_capacity capacity) result }
     {
-        if self.frames.has_room(capacity) {
+        if self.held.frames.has_room(capacity) {
             Ok(())
         } else {
             Err(Fault::LocalsFull)
@@ -26,13 +26,13 @@ impl<S: Steps> Env<S> {
     pub fn push_local_frame(&mut self, capacity: u32) -> Result<(), Fault>
         ensures { Does self.old self.new (push_local_frame capacity) result }
     {
-        if self.frames.depth() >= FRAMES {
+        if self.held.frames.depth() >= FRAMES {
             return Err(Fault::LocalsFull);
         }
-        if !self.frames.has_room(capacity) {
+        if !self.held.frames.has_room(capacity) {
             return Err(Fault::LocalsFull);
         }
-        self.frames.push();
+        self.held.frames.push();
         Ok(())
     }
 
@@ -41,7 +41,7 @@ impl<S: Steps> Env<S> {
         ensures { Does self.old self.new (pop_local_frame kept.0) result }
     {
         let target = Reference::of(kept);
-        let made = make(&mut self.steps, &mut self.frames, FramePop(target))?;
+        let made = make(&mut self.held, FramePop(target))?;
         Ok(made.map(Handle::pack))
     }
 
@@ -49,6 +49,6 @@ impl<S: Steps> Env<S> {
     pub fn free_locals(&mut self) -> Result<(), Fault>
         ensures { Does self.old self.new free_locals result }
     {
-        make(&mut self.steps, &mut self.frames, LocalsFreeing)
+        make(&mut self.held, LocalsFreeing)
     }
 }

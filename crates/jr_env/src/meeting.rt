@@ -12,13 +12,14 @@ use jr_rule::{Pass, RoomSteps};
 impl<const LAST: u32> Env<RoomSteps<'_, LAST>> {
     /// Learns all that the holder of another pass of the room has seen, which gets its pass back as it was. The local references stay as they are.
     pub fn meet(&mut self, pass: Pass) -> Pass
-        requires { IsOfRoom self.old.steps.room.now pass }
-        ensures room { self.new.steps.room ≡ self.old.steps.room }
-        ensures step { Took facts_of self.old.steps.pass self.new.steps.pass (Meet ∷ []) anything keeps }
-        ensures met { HasMet (view (known_of pass)) (view (known_of self.new.steps.pass)) }
-        ensures other { IsOfRoom self.old.steps.room.now result × IsSame pass result }
-        ensures frames { self.new.frames ≡ self.old.frames }
+        requires { IsOfRoom self.old.held.steps.room.now pass }
+        ensures room { self.new.held.steps.room ≡ self.old.held.steps.room }
+        ensures step { Took facts_of self.old.held.steps.pass self.new.held.steps.pass (Meet ∷ []) anything keeps }
+        ensures met { HasMet (view (known_of pass)) (view (known_of self.new.held.steps.pass)) }
+        ensures other { IsOfRoom self.old.held.steps.room.now result × IsSame pass result }
+        ensures frames { self.new.held.frames ≡ self.old.held.frames }
     {
-        self.steps.meet(pass)
+        let held = &mut self.held;
+        held.steps.meet(pass)
     }
 }

@@ -6,7 +6,7 @@ ghost use Rattle.jr_model.specs.Calls.{entered as entered_call};
 ghost use Rattle.jr_frames.specs.Ready.{StandsReady};
 ghost use Rattle.jr_env.specs.Works.{Completes};
 
-use jr_frames::Frames;
+use jr_frames::{Frames, Held};
 use jr_gate::{Inside, enter};
 use jr_steps::Steps;
 use jr_word::Fault;
@@ -63,18 +63,14 @@ pub trait Work<S: Steps> {
 ///
 /// E13, and those of the work.
 #[inline(always)]
-pub fn make<S: Steps, W: Work<S> + Drop>(
-    steps: &mut S,
-    frames: &mut Frames,
-    work: W,
-) -> Result<W::Answer, Fault>
-    requires ready { StandsReady S.facts Outside steps.old frames.old }
+pub fn make<S: Steps, W: Work<S> + Drop>(held: &mut Held<S>, work: W) -> Result<W::Answer, Fault>
+    requires ready { StandsReady S.facts Outside held.old.steps held.old.frames }
     requires can { W.can_work work }
-    ensures call { Completes S.facts steps.old steps.new frames.old frames.new (W.silent (S.facts steps.old).stands.config) (entered_call (W.asked work (S.facts steps.old).stands.config (S.facts steps.old).stands.last (S.facts steps.old).stands.thread)) result }
-    ensures given { IfOk result (λ answer. W.gives (S.facts steps.old).stands.thread answer) }
+    ensures call { Completes S.facts held.old.steps held.new.steps held.old.frames held.new.frames (W.silent (S.facts held.old.steps).stands.config) (entered_call (W.asked work (S.facts held.old.steps).stands.config (S.facts held.old.steps).stands.last (S.facts held.old.steps).stands.thread)) result }
+    ensures given { IfOk result (λ answer. W.gives (S.facts held.old.steps).stands.thread answer) }
 {
-    let inside = enter(steps)?;
-    let answer = work.work(steps, &inside, frames);
-    inside.leave(steps);
+    let inside = enter(&mut held.steps)?;
+    let answer = work.work(&mut held.steps, &inside, &mut held.frames);
+    inside.leave(&mut held.steps);
     answer
 }

@@ -15,7 +15,7 @@ use std::test::Fail;
 pub(crate) fn opened_env<S: Steps + Drop>(steps: S) -> Env<S>
     requires outside { (S.facts steps).stands.role ≡ Outside }
     requires fresh { (S.facts steps).stands.fresh ≡ true }
-    ensures { Spent S.facts steps result.steps }
+    ensures { Spent S.facts steps result.held.steps }
 {
     let Ok(env) = Env::new(steps) else {
         unreachable!();

@@ -196,7 +196,7 @@ fn an_env_is_made_of_a_fresh_pass_alone(rt: HostRuntime) -> Result<(), Fail> {
     let Ok(mut env) = Env::new(PlainSteps::<2>::new(rt.alloc(), Config::LEAST)?) else {
         return Err("the pass is fresh")?;
     };
-    assert!(rt; !env.steps.fresh());
+    assert!(rt; !env.held.steps.fresh());
     assert_eq!(rt; env.new_plain()?, OWN);
     let steps = refused(&rt, Env::new(env.into_pass()))?;
     // Its local reference still stands.
@@ -284,7 +284,7 @@ fn met_by(
 {
     let mut env = opened_env(RoomSteps::new(room, pass));
     let other = env.meet(other);
-    assert!(rt; !env.steps.fresh());
+    assert!(rt; !env.held.steps.fresh());
     let own = env.new_local_ref(shared)?.ok_or("an object")?;
     assert_eq!(rt; own, OWN);
     Ok(other)

@@ -70,7 +70,7 @@ module _ {S : Type 0} {facts : S → Facts} (fits : AreOf facts) where
       beyond : (facts a).stands.config.locals ≤ h.index → ⊥
       beyond g =
           let each : ((k : Known) × (facts a).knows k × Holds t.frames k) → ⊥ = λ k. let l = low k.0 k.1 k.2 in omega arith in
-          ∥∥₁_elim {P = ⊥} r.agrees (hlevel) each
+          ∥∥₁_elim {P = ⊥} r.own.agrees (hlevel) each
 
   pub drops_nothing : (a : S) (f : Frames) → Drops facts a a f f (dropping [])
   drops_nothing a f o = record {

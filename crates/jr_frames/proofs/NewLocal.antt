@@ -55,7 +55,7 @@ module _ {S : Type 0} {facts : S → Facts} where
       → MakesLocal facts a a t.frames t.frames z (new_local (facts a).stands.config (facts a).stands.last (facts a).stands.thread z) (Err LocalsFull)
   makes_no_local {a} {t} {z} {o} fits is r none =
       let s = (facts a).stands in
-      let none_here = subst (λ n. free_places n t.frames ≡ 0) r.last none in
+      let none_here = subst (λ n. free_places n t.frames ≡ 0) r.own.last none in
       subst (λ y. MakesLocal facts a a t.frames t.frames y (new_local s.config s.last s.thread y) (Err LocalsFull)) (sym is) (record {
         stands_is = nothing_changed;
         ran = λ k v m. let l = (fits a k v).legal in (k, v, made_of (spend_none s.fresh k t.frames t.frames l) (full_ran s.config s.last s.thread _ none_here l), (refl, m.0));
@@ -66,7 +66,7 @@ module _ {S : Type 0} {facts : S → Facts} where
       → MakesLocal facts a b t.frames g z (new_local (facts a).stands.config (facts a).stands.last (facts a).stands.thread z) (Ok (Some h))
   makes_local {a} {b} {t} {g} {z} {o} {h} is r next u added_is only =
       let s = (facts a).stands in
-      let here = subst (λ n. IsAdded n s.thread t.frames (record { handle = h; object = o }) g) r.last (subst (λ n. IsAdded t.last n t.frames (record { handle = h; object = o }) g) r.owner added_is) in
+      let here = subst (λ n. IsAdded n s.thread t.frames (record { handle = h; object = o }) g) r.own.last (subst (λ n. IsAdded t.last n t.frames (record { handle = h; object = o }) g) r.own.owner added_is) in
       subst (λ y. MakesLocal facts a b t.frames g y (new_local s.config s.last s.thread y) (Ok (Some h))) (sym is) (record {
         stands_is = as_before _ u.stands_is;
         ran = λ k v m.

@@ -42,4 +42,4 @@ module _ (c : Config) (last t : ℕ) where
 
 module _ {S : Type 0} {facts : S → Facts} where
   pub room_at : {a : S} {t : Table} (h : Handle) → StandsReady facts Within a t → IsNext t h → nat_lt (free_places (facts a).stands.last t.frames) 1 ≡ false
-  room_at {t = t} h r next = subst (λ n. nat_lt (free_places n t.frames) 1 ≡ false) r.last (free_room t.last t.frames h.index next.place next.free)
+  room_at {t = t} h r next = subst (λ n. nat_lt (free_places n t.frames) 1 ≡ false) r.own.last (free_room t.last t.frames h.index next.place next.free)

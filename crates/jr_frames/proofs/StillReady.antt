@@ -1,5 +1,5 @@
 -- A thread and its frames go on standing ready.
-use Rattle.std.proofs.Common.{◌≡◌, ℕ, false, List, [], ◌∷◌, Result, length, refl, sym, ap, ◌∙◌}
+use Rattle.std.proofs.Common.{◌≡◌, ℕ, Option, true, false, List, [], ◌∷◌, Result, length, refl, sym, ap, ◌∙◌}
 use Rattle.std.proofs.Math.Logic.{∥∥₁_elim}
 use Rattle.std.proofs.Props.{props}
 use Rattle.std.proofs.lemmas.List.{length-replicate}
@@ -12,13 +12,14 @@ use Rattle.jr_model.specs.declared.event.Act.{Act}
 use Rattle.jr_model.specs.declared.event.Act.TheVariants.{Enter, LocalPut, LocalDrop, Meet}
 use Rattle.jr_model.specs.Frames.{fresh_frames, object_at}
 use Rattle.jr_model.specs.Calls.{Call}
+use Rattle.jr_model.proofs.Agreement.{spares_places}
 use Rattle.jr_steps.specs.declared.known.Known.{Known}
 use Rattle.jr_steps.specs.Knowing.{Facts, Standing, fresh_from, anything, keeps, Holds, HasNoLocals, MayKnow, Took, Spent}
 use Rattle.jr_steps.proofs.StepFacts.{goes_did}
-use Rattle.jr_gate.specs.Performing.{Performed}
+use Rattle.jr_gate.specs.Performing.{Performed, IsAsBefore}
 use Rattle.jr_frames.specs.Table.{Table}
-use Rattle.jr_frames.specs.OverSteps.{Calls}
-use Rattle.jr_frames.specs.Ready.{StandsReady, KeepsOwner}
+use Rattle.jr_frames.specs.OverSteps.{Resolves, Calls}
+use Rattle.jr_frames.specs.Ready.{AreOwn, StandsReady, KeepsOwner}
 use Rattle.jr_frames.proofs.FramesAgree.{holds_did}
 
 -- frames that are left as they are
@@ -36,16 +37,26 @@ never_fresh (LocalDrop p ∷ acts) = never_fresh acts
 never_fresh (_ ∷ acts) = never_fresh acts
 
 module _ {S : Type 0} {facts : S → Facts} where
+  -- frames of a thread that stands as before, of the same owner, which go on agreeing, are its own still
+  own_after : {a b : S} {t u : Table} → AreOwn facts a t → KeepsOwner t u → IsAsBefore (facts a).stands (facts b).stands → MayKnow facts b (Holds u.frames) → AreOwn facts b u
+  own_after r o same agrees = record {
+    owner = o.thread ∙ (r.owner ∙ sym same.thread);
+    last = o.last ∙ (r.last ∙ sym same.last);
+    places = o.places ∙ (r.places ∙ sym (ap (λ (c : Config). c.locals) same.config));
+    agrees = agrees;
+  }
+
+  -- after a reference was resolved the frames are the thread's own still
+  pub own_resolved : {a b : S} {t : Table} {work : Call (Option ℕ)} {answer : Result (Option ℕ) Fault} → AreOwn facts a t → Resolves facts a b t.frames work answer → AreOwn facts b t
+  own_resolved {t = t} r p = own_after r (same_owner t) p.stands_is (∥∥₁_map r.agrees (λ k. let x = p.ran k.0 k.1 k.2 in (x.0, x.1, x.3.1)))
+
   -- after a call the frames are as ready as before
   pub ready_after : {A : Type 0} {a b : S} {t u : Table} {role : Role} {silent : ℕ} {so : Known → Known → Type 0} {work : Call A} {answer : Result A Fault} → StandsReady facts role a t → KeepsOwner t u
       → Performed facts a b t.frames u.frames silent (Holds t.frames) (λ s. work) answer (λ j k. so j k × Holds u.frames k) → StandsReady facts role b u
   ready_after r o p = record {
     role_is = p.stands_is.role ∙ r.role_is;
-    spent = ∥∥₁_elim r.agrees (hlevel props) (λ k. let x = p.ran k.0 k.1 k.2 in x.2.spent.fresh ∙ (ap (λ b. fresh_from b x.2.ran.acts) r.spent ∙ never_fresh x.2.ran.acts));
-    owner = o.thread ∙ (r.owner ∙ sym p.stands_is.thread);
-    last = o.last ∙ (r.last ∙ sym p.stands_is.last);
-    places = o.places ∙ (r.places ∙ sym (ap (λ (r : Config). r.locals) p.stands_is.config));
-    agrees = ∥∥₁_map r.agrees (λ k. let x = p.ran k.0 k.1 k.2 in (x.0, x.1, x.3.1));
+    spent = ∥∥₁_elim r.own.agrees (hlevel props) (λ k. let x = p.ran k.0 k.1 k.2 in x.2.spent.fresh ∙ (ap (λ b. fresh_from b x.2.ran.acts) r.spent ∙ never_fresh x.2.ran.acts));
+    own = own_after r.own o p.stands_is (∥∥₁_map r.own.agrees (λ k. let x = p.ran k.0 k.1 k.2 in (x.0, x.1, x.3.1)));
   }
 
   pub ready_called : {A : Type 0} {a b : S} {t u : Table} {role : Role} {work : Call A} {answer : Result A Fault} → StandsReady facts role a t → KeepsOwner t u → Calls facts a b t.frames u.frames work answer → StandsReady facts role b u
@@ -56,29 +67,35 @@ module _ {S : Type 0} {facts : S → Facts} where
   ready_new {b = b} t spent is out unused some = record {
     role_is = ap (λ (s : Standing). s.role) spent.stands_is ∙ out;
     spent = ap (λ (s : Standing). s.fresh) spent.stands_is;
-    owner = ap (λ (u : Table). u.thread) is;
-    last = ap (λ (u : Table). u.last) is;
-    places = ap (λ (u : Table). length u.frames.given) is ∙ length-replicate (facts b).stands.config.locals 0;
-    agrees = ∥∥₁_map some (λ k. (k.0, (spent.same k.0).0 k.1, λ p. unused k.0 k.1 p ∙ sym (ap (λ (u : Table). object_at u.frames p) is)));
+    own = record {
+      owner = ap (λ (u : Table). u.thread) is;
+      last = ap (λ (u : Table). u.last) is;
+      places = ap (λ (u : Table). length u.frames.given) is ∙ length-replicate (facts b).stands.config.locals 0;
+      agrees = ∥∥₁_map some (λ k. (k.0, (spent.same k.0).0 k.1, λ p. unused k.0 k.1 p ∙ sym (ap (λ (u : Table). object_at u.frames p) is)));
+    };
   }
 
-  pub ready_entered : {a b : S} {t : Table} → StandsReady facts Outside a t → Took facts a b (Enter ∷ []) anything keeps → StandsReady facts Within b t
-  ready_entered {t} r e = record {
-    role_is = ap (λ (s : Standing). s.role) e.stands_is;
-    spent = ap (λ (s : Standing). s.fresh) e.stands_is ∙ r.spent;
+  -- after a step that stores no local word the frames are the thread's own still
+  pub own_stepped : {a b : S} {t : Table} {shows : Known → Known → Type 0} (act : Act) → spares_places act ≡ true → AreOwn facts a t → Took facts a b (act ∷ []) anything shows → AreOwn facts b t
+  own_stepped {t = t} act spares r e = record {
     owner = r.owner ∙ sym (ap (λ (s : Standing). s.thread) e.stands_is);
     last = r.last ∙ sym (ap (λ (s : Standing). s.last) e.stands_is);
     places = r.places ∙ sym (ap (λ (s : Standing). s.config.locals) e.stands_is);
-    agrees = ∥∥₁_map r.agrees (λ k. let x = e.goes k.0 k.1 tt in (x.0, x.1, holds_did k.0 x.0 t.frames (Enter ∷ []) (goes_did x.2) (refl, tt) k.2));
+    agrees = ∥∥₁_map r.agrees (λ k. let x = e.goes k.0 k.1 tt in (x.0, x.1, holds_did k.0 x.0 t.frames (act ∷ []) (goes_did x.2) (spares, tt) k.2));
   }
 
-  -- frames that agree go on agreeing, whatever the thread learns
-  pub ready_met : {a b : S} {t : Table} → StandsReady facts Outside a t → Took facts a b (Meet ∷ []) anything keeps → StandsReady facts Outside b t
-  ready_met {t = t} r e = record {
-    role_is = ap (λ (s : Standing). s.role) e.stands_is ∙ r.role_is;
-    spent = ap (λ (s : Standing). s.fresh) e.stands_is ∙ r.spent;
-    owner = r.owner ∙ sym (ap (λ (s : Standing). s.thread) e.stands_is);
-    last = r.last ∙ sym (ap (λ (s : Standing). s.last) e.stands_is);
-    places = r.places ∙ sym (ap (λ (s : Standing). s.config.locals) e.stands_is);
-    agrees = ∥∥₁_map r.agrees (λ k. let x = e.goes k.0 k.1 tt in (x.0, x.1, holds_did k.0 x.0 t.frames (Meet ∷ []) (goes_did x.2) (refl, tt) k.2));
-  }
+  module _ {a b : S} {t : Table} (r : StandsReady facts Outside a t) where
+    pub ready_entered : Took facts a b (Enter ∷ []) anything keeps → StandsReady facts Within b t
+    ready_entered e = record {
+      role_is = ap (λ (s : Standing). s.role) e.stands_is;
+      spent = ap (λ (s : Standing). s.fresh) e.stands_is ∙ r.spent;
+      own = own_stepped Enter refl r.own e;
+    }
+
+    -- frames that agree go on agreeing, whatever the thread learns
+    pub ready_met : Took facts a b (Meet ∷ []) anything keeps → StandsReady facts Outside b t
+    ready_met e = record {
+      role_is = ap (λ (s : Standing). s.role) e.stands_is ∙ r.role_is;
+      spent = ap (λ (s : Standing). s.fresh) e.stands_is ∙ r.spent;
+      own = own_stepped Meet refl r.own e;
+    }

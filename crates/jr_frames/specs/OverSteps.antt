@@ -4,9 +4,12 @@ use Rattle.jr_word.specs.declared.fault.Fault.{Fault}
 use Rattle.jr_model.specs.State.{Handle}
 use Rattle.jr_model.specs.Frames.{Frames}
 use Rattle.jr_model.specs.Calls.{Call}
+use Rattle.jr_model.specs.Checks.{Word}
+use Rattle.jr_model.specs.References.{resolved}
 use Rattle.jr_steps.specs.declared.known.Known.{Known}
 use Rattle.jr_steps.specs.Knowing.{Facts, keeps, HasObject, HasOptional, Holds}
 use Rattle.jr_gate.specs.Performing.{Performed}
+use Rattle.jr_frames.specs.Reading.{IsReadAs}
 
 -- the object that was found is present
 abbrev pub FoundPresent : Result (Option ℕ) Fault → Known → Type 0
@@ -17,6 +20,10 @@ module _ {S : Type 0} (facts : S → Facts) where
   -- a reference was resolved: the object that was found is present
   abbrev pub Resolves : S → S → Frames → Call (Option ℕ) → Result (Option ℕ) Fault → Type 0
   Resolves old new f call answer = Performed facts old new f f 0 (Holds f) (λ s. call) answer (λ j k. keeps j k × Holds f k × FoundPresent answer k)
+
+  -- a word that native code handed in was read, and the reference resolved
+  abbrev pub ResolvesWord : S → S → Frames → ℕ → Result (Option ℕ) Fault → Type 0
+  ResolvesWord old new f w answer = (a : Word) × IsReadAs w a × Resolves old new f (resolved (facts old).stands.config (facts old).stands.last (facts old).stands.thread a) answer
 
   -- a call was made in a stay: the pass holds what it held, and the frames go on agreeing with the locals
   abbrev pub Calls : {A : Type 0} → S → S → Frames → Frames → Call A → Result A Fault → Type 0

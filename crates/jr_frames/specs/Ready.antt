@@ -11,11 +11,15 @@ pub record KeepsOwner (old new : Table) : Type 0 where
   pub places : length new.frames.given ≡ length old.frames.given
 
 module _ {S : Type 0} (facts : S → Facts) where
-  -- the thread has this role, its pass is not fresh, and the frames are its own: they may agree with its locals
-  pub record StandsReady (role : Role) (s : S) (t : Table) : Type 0 where
-    pub role_is : (facts s).stands.role ≡ role
-    pub spent : (facts s).stands.fresh ≡ false
+  -- THE FRAMES ARE THE THREAD'S OWN: they have as many places as the room gives a thread, and its last serial, and they may agree with the thread's locals
+  pub record AreOwn (s : S) (t : Table) : Type 0 where
     pub owner : t.thread ≡ (facts s).stands.thread
     pub last : t.last ≡ (facts s).stands.last
     pub places : length t.frames.given ≡ (facts s).stands.config.locals
     pub agrees : MayKnow facts s (Holds t.frames)
+
+  -- the thread has this role, its pass is not fresh, and the frames are its own
+  pub record StandsReady (role : Role) (s : S) (t : Table) : Type 0 where
+    pub role_is : (facts s).stands.role ≡ role
+    pub spent : (facts s).stands.fresh ≡ false
+    pub own : AreOwn s t

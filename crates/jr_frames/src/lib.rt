@@ -3,6 +3,7 @@
 
 mod frames;
 mod free;
+mod held;
 mod laws;
 mod local;
 mod place;
@@ -16,6 +17,7 @@ mod tests;
 
 pub use frames::Frames;
 pub use free::free_all;
+pub use held::Held;
 pub use laws::{taking_the_oldest_is_a_pop, taking_the_oldest_of_each_frame_frees_all};
 pub use local::{delete_local, new_local};
 pub use pop::pop_frame;

@@ -12,8 +12,8 @@ use jr_steps::Steps;
 pub(crate) fn opened_env<S: Steps + Drop>(steps: S) -> Env<S>
     requires outside { (S.facts steps).stands.role ≡ Outside }
     requires fresh { (S.facts steps).stands.fresh ≡ true }
-    ensures steps { Spent S.facts steps result.steps }
-    ensures frames { result.frames.frames ≡ fresh_frames (S.facts steps).stands.config.locals }
+    ensures steps { Spent S.facts steps result.held.steps }
+    ensures frames { result.held.frames.frames ≡ fresh_frames (S.facts steps).stands.config.locals }
 {
     let Ok(env) = Env::new(steps) else {
         unreachable!();

@@ -77,15 +77,15 @@ pub fn run_thread<S: Steps, B: Board, H: Hold>(
     out: &mut Vec<u8>,
 ) -> Result<(), Fault>
     requires { first + length commands.now < 2 ^ 64 }
-    ensures explained { (text : List ℕ) × (out.new.items ≡ out.old.items ++ text) × RanThread S.facts env.old.steps env.new.steps env.old.frames.frames env.new.frames.frames turns first commands.now result text }
+    ensures explained { (text : List ℕ) × (out.new.items ≡ out.old.items ++ text) × RanThread S.facts env.old.held.steps env.new.held.steps env.old.held.frames.frames env.new.held.frames.frames turns first commands.now result text }
     ensures memory { IfErr result (λ e. e ≡ Memory) }
 {
     let mut names = Names::new(alloc);
     for (i, command) in commands.iter().enumerate() {
         let line = first + i;
-        hold.before(env.steps.thread(), line);
+        hold.before(env.held.steps.thread(), line);
         let answer = perform(env, &names, board, turns, command);
-        hold.after(env.steps.thread(), line);
+        hold.after(env.held.steps.thread(), line);
         let Ok(()) = record(alloc, &mut names, line, command, answer, out) else {
             return Err(Fault::Memory);
         };

@@ -51,7 +51,7 @@ fn run_part(alloc: Global, config: Config, part: &ThreadPart, turns: u64) -> Res
         turns,
         &mut text,
     )?;
-    let summary = env.steps.summary();
+    let summary = env.held.steps.summary();
     let end = ending(alloc, summary).map_err(out_of_memory)?;
     text.extend_from_slice(&end).map_err(out_of_memory)?;
     Ok(text)

@@ -27,7 +27,7 @@ pub(crate) fn run_to_end<S: Steps, B: Board, H: Hold>(
     out: &mut Vec<u8>,
 ) -> Result<(), Fault>
     requires { first + length commands.now < 2 ^ 64 }
-    ensures ended { (text : List ℕ) × (out.new.items ≡ out.old.items ++ text) × RanToEnd S.facts env.old.steps env.new.steps env.old.frames.frames env.new.frames.frames turns first commands.now result text }
+    ensures ended { (text : List ℕ) × (out.new.items ≡ out.old.items ++ text) × RanToEnd S.facts env.old.held.steps env.new.held.steps env.old.held.frames.frames env.new.held.frames.frames turns first commands.now result text }
     ensures memory { IfErr result (λ e. e ≡ Memory) }
 {
     let answer = run_thread(alloc, env, first, commands, board, hold, turns, out);

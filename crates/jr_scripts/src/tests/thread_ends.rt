@@ -25,7 +25,7 @@ fn a_thread_without_turns_keeps_its_locals(rt: HostRuntime) -> Result<(), Fail> 
         live: 1,
         used: 0,
     };
-    assert_eq!(rt; env.steps.summary(), summary);
+    assert_eq!(rt; env.held.steps.summary(), summary);
     run_to_end(alloc, &mut env, 3, &[], &board, &NoHold, 1, &mut out)?;
     assert_eq!(rt; env.get_object_ref_type(local)?, 0);
     assert_eq!(rt; env.new_local_ref(local).err(), Some(Fault::Stale));

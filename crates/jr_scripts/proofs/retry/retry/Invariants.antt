@@ -8,5 +8,5 @@ use Rattle.jr_scripts.proofs.retry.retry.Given as goal
 abbrev pub invariant-loop : goal.invariant-loop
 invariant-loop g l =
     (answer : Result _ Fault) (last : _) (frames : Frames)
-    → DoesDeed g.S.Steps.facts l.env.steps last l.env.frames.frames frames (tried (l.turns - l.counter) (g.C.EnvCall.deed l.call)) answer
-    → DoesDeed g.S.Steps.facts l.fn.env.steps last l.fn.env.frames.frames frames (tried l.turns (g.C.EnvCall.deed l.call)) answer
+    → DoesDeed g.S.Steps.facts l.env.held.steps last l.env.held.frames.frames frames (tried (l.turns - l.counter) (g.C.EnvCall.deed l.call)) answer
+    → DoesDeed g.S.Steps.facts l.fn.env.held.steps last l.fn.env.held.frames.frames frames (tried l.turns (g.C.EnvCall.deed l.call)) answer

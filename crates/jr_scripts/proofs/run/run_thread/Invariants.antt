@@ -4,4 +4,4 @@ use Rattle.jr_scripts.proofs.run.run_thread.Given as goal
 
 abbrev pub invariant-loop-i : goal.invariant-loop-i
 invariant-loop-i g l =
-    Going g.S.Steps.facts l.fn.env.steps l.env.steps l.fn.env.frames.frames l.env.frames.frames l.turns l.first (take l.i l.commands) l.fn.out.items l.out.items l.names
+    Going g.S.Steps.facts l.fn.env.held.steps l.env.held.steps l.fn.env.held.frames.frames l.env.held.frames.frames l.turns l.first (take l.i l.commands) l.fn.out.items l.out.items l.names

@@ -9,7 +9,7 @@ pub returns-in_default-clause-call : goal.returns-in_default-clause-call
 returns-in_default-clause-call g c = creates_none c.args.self.kind c.in_default.is c.in_ok-object.ensures
 
 pub create-requires-clause-object : goal.create-requires-clause-object
-create-requires-clause-object g c = may_create c.in-Some.is c.in_ok-object.ensures c.requires.ready.agrees
+create-requires-clause-object g c = may_create c.in-Some.is c.in_ok-object.ensures c.requires.ready.own.agrees
 
 pub returns-in_err-handle-clause-call : goal.returns-in_err-handle-clause-call
 returns-in_err-handle-clause-call g c =

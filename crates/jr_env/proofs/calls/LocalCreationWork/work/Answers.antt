@@ -10,7 +10,7 @@ pub new_local-requires-clause-ready : goal.new_local-requires-clause-ready
 new_local-requires-clause-ready g c = ready_resolved c.requires.ready c.in_ok-object.ensures
 
 pub new_local-requires-clause-object : goal.new_local-requires-clause-object
-new_local-requires-clause-object g c = may_find c.in_ok-object.ensures c.requires.ready.agrees
+new_local-requires-clause-object g c = may_find c.in_ok-object.ensures c.requires.ready.own.agrees
 
 pub returns-clause-call : goal.returns-clause-call
 returns-clause-call g c = creates_local c.in_ok-object.ensures c.new_local.ensures.call

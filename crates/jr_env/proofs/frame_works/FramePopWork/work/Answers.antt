@@ -21,7 +21,7 @@ pub pop_frame-requires-clause-ready : goal.pop_frame-requires-clause-ready
 pop_frame-requires-clause-ready g c = ready_resolved c.requires.ready c.in_ok-object.ensures
 
 pub pop_frame-requires-clause-object : goal.pop_frame-requires-clause-object
-pop_frame-requires-clause-object g c = may_find_both c.in_ok-object.ensures c.requires.ready.agrees
+pop_frame-requires-clause-object g c = may_find_both c.in_ok-object.ensures c.requires.ready.own.agrees
 
 pub returns-clause-call : goal.returns-clause-call
 returns-clause-call g c = let s = (g.S.Steps.facts c.args.steps.now).stands in
