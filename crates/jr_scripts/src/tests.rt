@@ -10,7 +10,7 @@ mod threads;
 
 use crate::all::run_all;
 use crate::board::Posts;
-use crate::hold::NoHold;
+use crate::hold::{Hold, NoHold};
 use crate::opening::opened_env;
 use crate::run::run_thread;
 use crate::single::run_one;
@@ -22,6 +22,7 @@ use jr_word::{Config, Fault};
 use std::alloc::{AllocError, Global};
 use std::process::Abort;
 use std::sync::Wait;
+use std::sync::atomic::{AtomicU64, Ordering};
 use std::test::Fail;
 use std::thread::Threads;
 
@@ -328,6 +329,23 @@ fn busy_part(alloc: Global, name: &[u8]) -> Result<ThreadPart, Fail> {
     })
 }
 
+/// Counts the commands that have begun, and those that were answered.
+#[derive(Drop)]
+struct Counts {
+    begun: AtomicU64,
+    answered: AtomicU64,
+}
+
+impl Hold for Counts {
+    fn before(&self, _thread: u8, _line: usize) {
+        self.begun.fetch_add(1, Ordering::SeqCst);
+    }
+
+    fn after(&self, _thread: u8, _line: usize) {
+        self.answered.fetch_add(1, Ordering::SeqCst);
+    }
+}
+
 #[test]
 fn three_threads_of_one_script_run_in_one_room(rt: HostRuntime) -> Result<(), Fail> {
     let alloc = rt.alloc();
@@ -344,7 +362,15 @@ fn three_threads_of_one_script_run_in_one_room(rt: HostRuntime) -> Result<(), Fa
     };
     let script = Script { config, threads };
     let mut out = Vec::from_slice(alloc, BEFORE)?;
-    let answer = run_all(&rt, alloc, &script, &NoHold, 1_000_000, &mut out);
+    let hold = Counts {
+        begun: AtomicU64::new(0),
+        answered: AtomicU64::new(0),
+    };
+    let answer = run_all(&rt, alloc, &script, &hold, 1_000_000, &mut out);
+    // Each thread was joined, also where memory was refused: no command is under way.
+    let begun = hold.begun.load(Ordering::SeqCst);
+    assert_eq!(rt; hold.answered.load(Ordering::SeqCst), begun);
+    assert!(rt; begun == 21 || answer.is_err());
     let wanted =
         b"before\n[a]\ntype g 2\ntype g 0\n9 ! E2\n[b]\ntype g 2\ntype g 0\n17 ! E2\n[c]\ntype g 2\ntype g 0\n25 ! E2\n[end]\nglobals 0 weaks 3 live 3 used 0\n";
     leaves(&rt, answer, &out, wanted)
