@@ -8,6 +8,8 @@ mod frames;
 #[cfg(test)]
 mod handles;
 #[cfg(test)]
+mod held;
+#[cfg(test)]
 mod references;
 #[cfg(test)]
 mod rooms;

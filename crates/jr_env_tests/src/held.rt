@@ -1,0 +1,43 @@
+//! What an env holds, while the env itself is out of reach.
+
+use crate::envs::{made, plain_env};
+use jr_env::Env;
+use jr_gate::enter;
+use jr_steps::Steps;
+use jr_word::{Config, Fault, Handle};
+use std::test::Fail;
+
+/// What two handles and NULL resolve to in one stay, by what an env held.
+fn resolved<S: Steps + Drop>(
+    env: Env<S>,
+    first: Handle,
+    second: Handle,
+) -> Result<
+    (
+        Result<Option<u16>, Fault>,
+        Result<Option<u16>, Fault>,
+        Option<u16>,
+    ),
+    Fault,
+> {
+    let mut held = env.held;
+    let inside = enter(&mut held.steps)?;
+    let one = held.resolve(&inside, first);
+    let other = held.resolve(&inside, second);
+    let null = held.resolve(&inside, Handle::NULL);
+    inside.leave(&mut held.steps);
+    Ok((one, other, null?))
+}
+
+#[test]
+fn what_an_env_holds_resolves_references(rt: HostRuntime) -> Result<(), Fail> {
+    let mut env = plain_env(rt.alloc(), Config::LEAST)?;
+    let local = env.new_plain()?;
+    let global = made(env.new_global_ref(local))?;
+    env.delete_local_ref(local)?;
+    let (one, other, null) = resolved(env, global, local)?;
+    assert_eq!(rt; one, Ok(Some(1)));
+    assert_eq!(rt; other, Err(Fault::Stale));
+    assert_eq!(rt; null, None);
+    Ok(())
+}
