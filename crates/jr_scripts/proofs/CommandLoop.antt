@@ -10,7 +10,7 @@ use Rattle.jr_syntax.specs.declared.command.Command.{Command}
 use Rattle.jr_steps.specs.declared.known.Known.{Known}
 use Rattle.jr_steps.specs.Knowing.{Facts, Holds}
 use Rattle.jr_scripts.specs.declared.reply.Reply.{Reply}
-use Rattle.jr_scripts.specs.Names.{Names}
+use Rattle.jr_scripts.specs.Names.{Names, no_names}
 use Rattle.jr_env.specs.Deeds.{DoesDeed}
 use Rattle.jr_scripts.specs.Commands.{deed}
 use Rattle.jr_scripts.specs.Text.{printed, names_after}
@@ -31,7 +31,7 @@ done_so_far : (commands : List Command) (i : ℕ) (c : Command) → i < length c
 done_so_far commands i c small is = take-suc commands i c small ∙ ap (λ x. take i commands ++ x ∷ []) is
 
 module _ {S : Type 0} {facts : S → Facts} where
-  pub begun : (old : S) (f : Frames) (turns first : ℕ) (out : List ℕ) (names : Names) → names ≡ [] → Going facts old old f f turns first [] out out names
+  pub begun : (old : S) (f : Frames) (turns first : ℕ) (out : List ℕ) (names : Names) → names ≡ no_names → Going facts old old f f turns first [] out out names
   begun old f turns first out names e = record {
     text = [];
     grew = sym (append-nil out);

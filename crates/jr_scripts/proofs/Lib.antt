@@ -1,6 +1,7 @@
 pub mod CommandDeeds
 pub mod Retries
 pub mod CommandLoop
+pub mod NameMaps
 pub mod Alone
 pub mod AloneHistories
 pub mod Uncontended

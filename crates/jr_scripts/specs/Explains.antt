@@ -4,7 +4,7 @@ use Rattle.jr_word.specs.declared.fault.Fault.{Fault}
 use Rattle.jr_word.specs.declared.fault.Fault.TheVariants as fault
 use Rattle.jr_syntax.specs.declared.command.Command.{Command}
 use Rattle.jr_scripts.specs.declared.reply.Reply.{Reply}
-use Rattle.jr_scripts.specs.Names.{Names}
+use Rattle.jr_scripts.specs.Names.{Names, no_names}
 use Rattle.jr_gate.specs.Performing.{Moment}
 use Rattle.jr_scripts.specs.Commands.{deed}
 use Rattle.jr_scripts.specs.Text.{printed, names_after}
@@ -12,7 +12,7 @@ use Rattle.jr_scripts.specs.Text.{printed, names_after}
 module _ (turns first : ℕ) (old : Moment) where
   -- From the old moment to the new one the commands were done, each once and in order, the first on the line `first`, and printed the text; then the names stand so
   pub data Explains : List Command → List ℕ → Moment → Names → Type 0 where
-    nothing : Explains [] [] old []
+    nothing : Explains [] [] old no_names
     then : {before : List Command} {text : List ℕ} {mid new : Moment} {names : Names} (c : Command) (answer : Result Reply Fault)
         → Explains before text mid names → deed turns names c mid answer new
         → Explains (before ++ c ∷ []) (text ++ printed (first + length before) c answer) new (names_after c answer names)

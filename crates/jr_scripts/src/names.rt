@@ -3,33 +3,38 @@
 use jr_syntax::{Name, Reference};
 use jr_word::{Fault, Handle};
 use std::alloc::{AllocError, Global};
+use std::collections::BTreeMap;
 use std::marker::Model;
 
 /// What the names of a thread stand for: each for a reference, or for nothing.
 #[derive(Drop)]
 pub struct Names {
-    /// What was set, the oldest first.
-    entries: Vec<(Name, Handle)>,
+    /// The reference that each name was set to last.
+    references: BTreeMap<Name, Handle>,
 }
 
 impl Model for Names {
-    ghost use Rattle.jr_scripts.specs.Names.{Names as NamesView};
+    ghost use Rattle.std.specs.Coded.{coded_ℕ, coded_list};
+    ghost use Rattle.std.specs.FinMap as map;
+    ghost use Rattle.jr_scripts.specs.Names.{Names as NamesView, coded_handle};
 
     ghost Value = { NamesView };
 
-    ghost view = { λ n. n.entries.items };
+    ghost coded = { map.code (coded_list coded_ℕ) coded_handle };
+
+    ghost view = { λ n. map.from_entries n.references.entries };
 }
 
 impl Names {
-    ghost use Rattle.std.specs.Prelude.{◌≡◌, [], OnOk, OnErr};
-    ghost use Rattle.jr_scripts.specs.Names.{reference_named, referent, with_name, wanted};
+    ghost use Rattle.std.specs.Prelude.{◌≡◌, OnOk, OnErr};
+    ghost use Rattle.jr_scripts.specs.Names.{no_names, reference_named, referent, with_name, wanted};
 
     /// No name stands for anything; takes no memory.
     pub fn new(alloc: Global) -> Names
-        ensures { result ≡ [] }
+        ensures { result ≡ no_names }
     {
         Names {
-            entries: Vec::new(alloc),
+            references: BTreeMap::new(alloc),
         }
     }
 
@@ -37,13 +42,7 @@ impl Names {
     pub fn standing(&self, name: &Name) -> Option<Handle>
         ensures { result ≡ reference_named self.now name.now }
     {
-        self.entries.iter().fold(None, |standing, entry| {
-            if entry.0.is(name.as_slice()) {
-                Some(entry.1)
-            } else {
-                standing
-            }
-        })
+        self.references.get(name).copied()
     }
 
     /// Sets a name.
@@ -55,7 +54,7 @@ impl Names {
         ensures ok { OnOk result (self.new ≡ with_name self.old name.now handle) }
         ensures err { OnErr result (self.new ≡ self.old) }
     {
-        self.entries.push((name.copy(), handle))?;
+        self.references.insert(name.copy(), handle)?;
         Ok(())
     }
 
