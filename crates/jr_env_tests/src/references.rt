@@ -1,6 +1,6 @@
 //! Words that are no reference of the thread, through the calls that take them, over plain words and over a room.
 
-ghost use Rattle.std.specs.Prelude.{All, IfOk};
+ghost use Rattle.std.specs.Prelude.{IfOk};
 ghost use Rattle.jr_rule.specs.Passes.{IsAt, IsOpened};
 
 use crate::envs::{has_type, is_refused, made, opened_env, plain_env};

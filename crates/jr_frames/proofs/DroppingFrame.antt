@@ -55,14 +55,8 @@ module _ {S : Type 0} {facts : S → Facts} (fits : AreOf facts) where
       drops = drops_then so.drops drops;
     }
 
-    pub takes_fewer : (v : Table) (h : Handle) → oldest_handle (last_frame u.frames.frames) ≡ Some h → TakesOldest u.frames h → v.frames ≡ without_local u.frames h → length (last_frame v.frames.frames) < length (last_frame u.frames.frames)
-    takes_fewer v h oldest rest deleted = (takes v h oldest rest deleted).1
-
   module _ {a b : S} {t u v : Table} (so : IsTaking facts a b t u) (empty : last_frame u.frames.frames ≡ []) (is : v ≡ with_frames u (popped u.frames)) where
     -- and then the frame itself
     pub takes_frame : Drops facts a b t.frames v.frames take_frame
     takes_frame = subst (λ (x : Table). Drops facts a b t.frames x.frames take_frame) (sym is)
         (drops_as fits (pop_ends t.frames u.frames so.acts so.popping empty) (joined_before u.frames.frames empty) so.drops)
-
-    pub takes_owner : KeepsOwner t v
-    takes_owner = subst (KeepsOwner t) (sym is) (record { thread = so.owner.thread; last = so.owner.last; places = so.owner.places })

@@ -18,9 +18,6 @@ pub record AreFirst (places n : ℕ) (links : List Link) : Type 0 where
   pub size : length links ≡ n
   pub each : (q : ℕ) → q < n → slice_index_or links q no_link ≡ link (before_of q places) (q + 1)
 
-pub none_first : (places : ℕ) (links : List Link) → links ≡ [] → AreFirst places 0 links
-none_first places links e = record { size = ap length e; each = λ q l. absurd (omega arith) }
-
 -- what is read of a list with one more
 read_last : (old : List Link) (x : Link) (n : ℕ) → length old ≡ n → slice_index_or (old ++ x ∷ []) n no_link ≡ x
 read_last old x n e = subst (λ k. slice_index_or (old ++ x ∷ []) k no_link ≡ x) e (get_or-append_seam old x [] no_link)

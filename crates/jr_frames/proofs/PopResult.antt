@@ -1,5 +1,5 @@
 -- A pop: the newest frame is taken away, and its result goes to the frame below.
-use Rattle.std.proofs.Common.{◌≡◌, ◌==◌, ◌≤◌, nat_lt, ℕ, zero, suc, Bool, false, IsTrue, inl, Option, Some, None, IsSome, [], Result, Err, length, refl, ap, subst, ◌∙◌, arith}
+use Rattle.std.proofs.Common.{◌≡◌, ◌==◌, ◌≤◌, nat_lt, ℕ, Bool, false, inl, Option, Some, None, IsSome, [], Result, Err, length, refl, ap, subst, ◌∙◌, arith}
 use Rattle.std.proofs.lemmas.Bool.Decides.{nat_tests}
 use mathlib.Core.Logic.{∥∥₁_map}
 use Rattle.jr_word.specs.declared.config.Config.{Config}
@@ -19,11 +19,6 @@ use Rattle.jr_frames.specs.Dropping.{Drops}
 use Rattle.jr_frames.specs.OverSteps.{Calls, MakesLocal}
 use Rattle.jr_frames.proofs.Reading.{ran_refused, ran_passed, ran_at}
 use Rattle.jr_frames.proofs.Resolution.{stays}
-
--- what is not at least one is none
-pub none_free : (b : Bool) (n : ℕ) → (1 ≤ n → IsTrue b) → b ≡ false → n ≡ 0
-none_free b zero some e = refl
-none_free b (suc n) some e = absurd (let t = some (omega arith) in cc)
 
 -- where a frame stands that is not the base frame, there are two
 pub two_frames : (n : ℕ) (b : Bool) → 1 ≤ n → b ≡ (n == 1) → b ≡ false → 2 ≤ n

@@ -1,5 +1,5 @@
 //! The steps of one thread over a plain vector of words. No history is stored.
-ghost use Rattle.std.specs.Prelude.{◌≡◌, ◌⊎◌, ◌↔◌, ◌<◌, ◌≤◌, ◌^◌, vec_len, slice_index, true, false, IsTrue, IfOk, IfErr, Ok, Err};
+ghost use Rattle.std.specs.Prelude.{◌≡◌, ◌⊎◌, ◌↔◌, ◌<◌, ◌^◌, vec_len, slice_index, true, false, IfOk, IfErr, Ok, Err};
 ghost use Rattle.jr_word.specs.declared.fault.Fault.TheVariants.{Memory, Size};
 ghost use Rattle.jr_word.specs.Config.{in_limits, IsLimited, row_words};
 ghost use Rattle.jr_word.specs.Gate.{gate_word, IsGate};

@@ -1,5 +1,5 @@
 //! Rooms that are closed with the passes of all their threads.
-ghost use Rattle.std.specs.Prelude.{◌≡◌, IfOk};
+ghost use Rattle.std.specs.Prelude.{IfOk};
 ghost use Rattle.jr_rule.specs.Passes.{IsAt, IsOpened};
 
 use crate::rooms::{NOTHING, PLAIN, come_in, go_out, last_of, stands};

@@ -1,5 +1,5 @@
 -- How many lines the parts of a script are, and how many passes and runs it has.
-use Rattle.std.proofs.Common.{◌≡◌, ◌+◌, ◌<◌, ◌≤◌, ℕ, zero, suc, true, List, [], ◌∷◌, length, drop, get_or, refl, sym, ap, ◌∙◌, arith}
+use Rattle.std.proofs.Common.{◌≡◌, ◌+◌, ◌<◌, ◌≤◌, ℕ, zero, suc, true, List, [], ◌∷◌, length, drop, refl, sym, ap, ◌∙◌, arith}
 use Rattle.std.proofs.lemmas.List.{length-map, length-append}
 use Rattle.std.proofs.lemmas.Slice.Zip.{AllZip-long}
 use Rattle.std.specs.List.{AllZip}
@@ -14,13 +14,7 @@ use Rattle.jr_scripts.specs.declared.part.Job.{Job}
 use Rattle.jr_scripts.specs.declared.part.ThreadRun.{ThreadRun}
 use Rattle.jr_scripts.specs.AllRuns.{lines_of_parts}
 use Rattle.jr_scripts.specs.Jobs.{HasRun, AreJobsOf, AreTold}
-use Rattle.jr_scripts.proofs.JobLists.{nothing_left, one_left}
-
--- the lines of the parts that are left
-pub lines_more : (i : ℕ) (parts : List ThreadPart) (q : ThreadPart) → i < length parts → q ≡ get_or parts i q → lines_of_parts (drop i parts) ≡ 1 + length q.commands + lines_of_parts (drop (i + 1) parts)
-lines_more i parts q some is =
-    let next : suc i ≡ i + 1 = omega arith in
-    ap lines_of_parts (one_left i parts q some is) ∙ ap (λ n. 1 + length q.commands + lines_of_parts (drop n parts)) next
+use Rattle.jr_scripts.proofs.JobLists.{nothing_left}
 
 pub lines_end : (i : ℕ) (parts : List ThreadPart) → length parts ≤ i → lines_of_parts (drop i parts) ≡ 0
 lines_end i parts all = ap lines_of_parts (nothing_left i parts all)

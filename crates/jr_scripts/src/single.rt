@@ -1,6 +1,6 @@
 //! Runs a script of one thread.
 
-ghost use Rattle.std.specs.Prelude.{◌≡◌, ◌⊎◌, ◌↔◌, ◌++◌, true, IfOk, IfErr, OnOk, OnErr, Err};
+ghost use Rattle.std.specs.Prelude.{◌≡◌, ◌⊎◌, ◌↔◌, true, IfOk, IfErr, OnOk, OnErr, Err};
 ghost use Rattle.jr_word.specs.declared.fault.Fault.TheVariants.{Memory, Size};
 ghost use Rattle.jr_word.specs.Config.{in_limits};
 ghost use Rattle.jr_scripts.specs.Runs.{IsRun, IsSingle, RunsSingle};

@@ -1,6 +1,6 @@
 //! What the program answers to the text of a script.
 
-ghost use Rattle.std.specs.Prelude.{◌≡◌, IfOk, IfErr};
+ghost use Rattle.std.specs.Prelude.{IfOk, IfErr};
 ghost use Rattle.jrefs.specs.Answer.{IsAnswer, IsRefused};
 
 use crate::script::script_of;
