@@ -128,7 +128,7 @@ impl<S: Steps> Work<S> for LocalCreation {
         frames: &mut Frames,
     ) -> Result<Option<HandleParts>, Fault> {
         let object = resolve(steps, inside, frames, self.0)?;
-        new_local(steps, frames, object)
+        new_local(steps, inside, frames, object)
     }
 }
 
@@ -195,7 +195,7 @@ impl<S: Steps> Work<S> for LocalRemoval {
         match self.0 {
             Reference::Null => Ok(()),
             Reference::Malformed => Err(Fault::Stale),
-            Reference::Parts(handle) => delete_local(steps, frames, handle),
+            Reference::Parts(handle) => delete_local(steps, inside, frames, handle),
         }
     }
 }

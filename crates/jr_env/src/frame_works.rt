@@ -26,7 +26,7 @@ impl<S: Steps> Work<S> for LocalsFreeing {
     ghost gives = { λ _ _. Unit {0} };
 
     fn work(self, steps: &mut S, inside: &Inside, frames: &mut Frames) -> Result<(), Fault> {
-        free_all(steps, frames);
+        free_all(steps, inside, frames);
         Ok(())
     }
 }
@@ -65,6 +65,6 @@ impl<S: Steps> Work<S> for FramePop {
             return Err(Fault::NoFrame);
         }
         let object = resolve(steps, inside, frames, self.0)?;
-        pop_frame(steps, frames, object)
+        pop_frame(steps, inside, frames, object)
     }
 }

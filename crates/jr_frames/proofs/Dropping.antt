@@ -19,6 +19,8 @@ use Rattle.jr_steps.specs.Knowing.{AreOf, Facts, view, state_of, keeps, HasOptio
 use Rattle.jr_steps.proofs.StepFacts.{goes_did, present_stays}
 use Rattle.jr_frames.specs.Table.{Table, IsOnly}
 use Rattle.jr_frames.proofs.Places.{index_differs}
+use Rattle.jr_gate.specs.declared.inside.Inside.{Inside}
+use Rattle.jr_gate.specs.Stays.{IsOwnStay}
 use Rattle.jr_gate.proofs.Spending.{made_of, spending, spend_first, spend_step, spend_none}
 use Rattle.jr_gate.proofs.SameRoom.{nothing_changed, as_before, still_before}
 use Rattle.jr_frames.specs.Dropping.{dropping, Drops}
@@ -115,6 +117,10 @@ module _ {S : Type 0} {facts : S → Facts} where
   -- whatever object is kept, the call was made
   pub calls_dropped : {a b : S} {f g : Frames} {call : Call (Unit {0})} → Drops facts a b f g call → Calls facts a b f g call (Ok tt)
   calls_dropped p = record { stands_is = (p None).stands_is; ran = λ k s m. let x = (p None).ran k s (m, tt) in (x.0, x.1, x.2, (x.3.0, x.3.1)) }
+
+  -- a stay goes on being the thread's own
+  pub stay_dropped : {a b : S} {f g : Frames} {call : Call (Unit {0})} (i : Inside) → IsOwnStay i (facts a).stands → Drops facts a b f g call → IsOwnStay i (facts b).stands
+  stay_dropped i own p = let same = (p None).stands_is in (own.0 ∙ sym same.thread, same.role ∙ own.1)
 
   pub ready_dropped : {a b : S} {t u : Table} {call : Call (Unit {0})} → StandsReady facts Within a t → KeepsOwner t u → Drops facts a b t.frames u.frames call → StandsReady facts Within b u
   ready_dropped r o p = ready_called r o (calls_dropped p)

@@ -1,6 +1,7 @@
 //! Local references that are made and deleted, by the steps on the thread's local words and in its table.
 ghost use Rattle.std.specs.Prelude.{◌≡◌, IfOk, IfSome};
 ghost use Rattle.jr_word.specs.declared.handle.RefKind.TheVariants.{Local};
+ghost use Rattle.jr_gate.specs.Stays.{IsOwnStay};
 ghost use Rattle.jr_model.specs.declared.event.Role.TheVariants.{Within};
 ghost use Rattle.jr_model.specs.Checks.{Parts};
 ghost use Rattle.jr_model.specs.References.{new_local as creation, local_removal};
@@ -10,6 +11,7 @@ ghost use Rattle.jr_frames.specs.Ready.{StandsReady, KeepsOwner};
 
 use crate::frames::Frames;
 use crate::reference::{belongs_elsewhere, lies_outside, names_local};
+use jr_gate::Inside;
 use jr_steps::Steps;
 use jr_word::{Fault, HandleParts};
 
@@ -20,9 +22,11 @@ use jr_word::{Fault, HandleParts};
 /// E9 where no place is free.
 pub fn new_local<S: Steps>(
     steps: &mut S,
+    inside: &Inside,
     frames: &mut Frames,
     object: Option<u16>,
 ) -> Result<Option<HandleParts>, Fault>
+    requires stay { IsOwnStay inside.now (S.facts steps.old).stands }
     requires ready { StandsReady S.facts Within steps.old frames.old }
     requires object { MayKnow S.facts steps.old (HasOptional object) }
     ensures call { MakesLocal S.facts steps.old steps.new frames.old.frames frames.new.frames object (creation (S.facts steps.old).stands.config (S.facts steps.old).stands.last (S.facts steps.old).stands.thread object) result }
@@ -47,10 +51,12 @@ pub fn new_local<S: Steps>(
 /// E4 where it is no local one, E2 where it does not stand, E3 where it is another thread's.
 pub fn delete_local<S: Steps>(
     steps: &mut S,
+    inside: &Inside,
     frames: &mut Frames,
     handle: HandleParts,
 ) -> Result<(), Fault>
-    requires { StandsReady S.facts Within steps.old frames.old }
+    requires stay { IsOwnStay inside.now (S.facts steps.old).stands }
+    requires ready { StandsReady S.facts Within steps.old frames.old }
     ensures call { Calls S.facts steps.old steps.new frames.old.frames frames.new.frames (local_removal (S.facts steps.old).stands.config (S.facts steps.old).stands.thread (Parts handle)) result }
     ensures same { KeepsOwner frames.old frames.new }
 {

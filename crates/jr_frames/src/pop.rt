@@ -1,6 +1,7 @@
 //! The newest frame taken away, with its references.
 ghost use Rattle.std.specs.Prelude.{◌≡◌, ◌≤◌, false, IfOk, IfSome, IsSome, IsTrue, length};
 ghost use Rattle.jr_word.specs.declared.handle.RefKind.TheVariants.{Local};
+ghost use Rattle.jr_gate.specs.Stays.{IsOwnStay};
 ghost use Rattle.jr_model.specs.declared.event.Role.TheVariants.{Within};
 ghost use Rattle.jr_model.specs.Frames.{free_places, popped};
 ghost use Rattle.jr_model.specs.Parts.{take_frame};
@@ -13,6 +14,7 @@ ghost use Rattle.jr_frames.specs.Ready.{StandsReady, KeepsOwner};
 use crate::frames::Frames;
 use crate::free::drop_local;
 use crate::local::new_local;
+use jr_gate::Inside;
 use jr_steps::Steps;
 use jr_word::{Fault, HandleParts};
 
@@ -23,9 +25,11 @@ use jr_word::{Fault, HandleParts};
 /// E9 where an object is given and no place would be free for it: nothing is taken away.
 pub fn pop_frame<S: Steps>(
     steps: &mut S,
+    inside: &Inside,
     frames: &mut Frames,
     object: Option<u16>,
 ) -> Result<Option<HandleParts>, Fault>
+    requires stay { IsOwnStay inside.now (S.facts steps.old).stands }
     requires ready { StandsReady S.facts Within steps.old frames.old }
     requires above { 2 ≤ length frames.old.frames.frames }
     requires object { MayKnow S.facts steps.old (λ k. Holds frames.old.frames k × HasOptional object k) }
@@ -36,8 +40,8 @@ pub fn pop_frame<S: Steps>(
     if !has_place_for(frames, object) {
         return Err(Fault::LocalsFull);
     }
-    take_newest(steps, frames);
-    new_local(steps, frames, object)
+    take_newest(steps, inside, frames);
+    new_local(steps, inside, frames, object)
 }
 
 /// Whether the result of a pop finds a place: one that is to no object needs none.
@@ -52,14 +56,15 @@ fn has_place_for(frames: &Frames, object: Option<u16>) -> bool
 }
 
 /// Takes the newest frame away, its references one by one, the oldest first.
-fn take_newest<S: Steps>(steps: &mut S, frames: &mut Frames)
+fn take_newest<S: Steps>(steps: &mut S, inside: &Inside, frames: &mut Frames)
+    requires stay { IsOwnStay inside.now (S.facts steps.old).stands }
     requires ready { StandsReady S.facts Within steps.old frames.old }
     requires above { 2 ≤ length frames.old.frames.frames }
     ensures call { Drops S.facts steps.old steps.new frames.old.frames frames.new.frames take_frame }
     ensures same { KeepsOwner frames.old frames.new }
 {
     while let Some(handle) = frames.oldest_of_newest() {
-        drop_local(steps, frames, handle);
+        drop_local(steps, inside, frames, handle);
     }
     frames.pop_empty();
 }

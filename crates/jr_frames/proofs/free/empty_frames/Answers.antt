@@ -1,5 +1,6 @@
 use Rattle.std.proofs.Common.{sym, arith}
 use Rattle.jr_frames.proofs.DroppingAll.{frees_nothing, frees_next, frees_one, frees_fewer, frees_all, frees_none_left, frees_given}
+use Rattle.jr_frames.proofs.Dropping.{stay_dropped}
 use Rattle.jr_frames.proofs.free.empty_frames.Goals as goal
 
 pub loop-frame-init : goal.loop-frame-init
@@ -10,6 +11,9 @@ loop-frame-smaller-in_default g c = let depth = c.depth.ensures in let low = c.l
 
 pub loop-frame-preserved-in_default : goal.loop-frame-preserved-in_default
 loop-frame-preserved-in_default g c = frees_next g.met.S.Steps.fits c.loop-frame.invariant (let depth = c.depth.ensures in let low = c.loop-frame-test.true in omega arith) c.in_default.ensures.empty
+
+pub drop_local-requires-clause-stay : goal.drop_local-requires-clause-stay
+drop_local-requires-clause-stay g c = stay_dropped c.args.inside.now c.requires.stay c.loop-frame.invariant.drops
 
 pub drop_local-requires-clause-ready : goal.drop_local-requires-clause-ready
 drop_local-requires-clause-ready g c = c.loop-frame.invariant.ready
