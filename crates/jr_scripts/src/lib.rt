@@ -18,8 +18,6 @@ mod run;
 mod runnable;
 mod single;
 mod starting;
-#[cfg(test)]
-mod tests;
 mod to_end;
 
 pub use all::run_all;
@@ -29,3 +27,4 @@ pub use jr_syntax::{Reason, Script, ScriptFault, parse, print};
 pub use laws::a_script_that_was_read_can_be_run;
 pub use run::run_thread;
 pub use single::run_one;
+pub use to_end::run_to_end;

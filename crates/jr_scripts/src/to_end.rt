@@ -16,7 +16,7 @@ use jr_word::Fault;
 use std::alloc::Global;
 
 /// Runs the commands of a thread as `run_thread` does, and then frees its local references, whatever the commands answered: as at the end of a native method. Where the turns run out, they stay.
-pub(crate) fn run_to_end<S: Steps, B: Board, H: Hold>(
+pub fn run_to_end<S: Steps, B: Board, H: Hold>(
     alloc: Global,
     env: &mut Env<S>,
     first: usize,

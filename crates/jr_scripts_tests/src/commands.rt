@@ -1,6 +1,6 @@
 //! Scripts with commands of frames, from their text to what they print.
 
-use super::prints;
+use crate::scripts::prints;
 use std::test::Fail;
 
 #[test]

@@ -1,19 +1,26 @@
 //! The end of a thread: its local references are freed, where it has turns.
 
-use super::{BEFORE, SIZES};
-use crate::board::Posts;
-use crate::hold::NoHold;
-use crate::opening::opened_env;
-use crate::to_end::run_to_end;
+use crate::scripts::{BEFORE, SIZES};
+use jr_env::Env;
 use jr_model::Summary;
 use jr_rule::PlainSteps;
+use jr_scripts::{NoHold, Posts, run_to_end};
 use jr_word::Fault;
+use std::alloc::Global;
 use std::test::Fail;
+
+/// An env over plain words.
+pub fn plain_env(alloc: Global) -> Result<Env<PlainSteps<2>>, Fail> {
+    let Ok(env) = Env::new(PlainSteps::<2>::new(alloc, SIZES)?) else {
+        return Err("a fresh pass was refused")?;
+    };
+    Ok(env)
+}
 
 #[test]
 fn a_thread_without_turns_keeps_its_locals(rt: HostRuntime) -> Result<(), Fail> {
     let alloc = rt.alloc();
-    let mut env = opened_env(PlainSteps::<2>::new(alloc, SIZES)?);
+    let mut env = plain_env(alloc)?;
     let local = env.new_plain()?;
     let board = Posts::new(alloc);
     let mut out = Vec::from_slice(alloc, BEFORE)?;

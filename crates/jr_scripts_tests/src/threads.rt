@@ -1,8 +1,7 @@
 //! Threads of one script that run side by side, and wait for each other with many turns. Where memory is refused to one of them, the others wait in vain, so that `.ci/refuse-allocations` leaves these tests out.
 
-use super::{BEFORE, leaves};
-use crate::all::run_all;
-use crate::hold::{Hold, NoHold};
+use crate::scripts::{BEFORE, leaves};
+use jr_scripts::{Hold, NoHold, run_all};
 use jr_syntax::parse;
 use std::alloc::Global;
 use std::process::Abort;
@@ -59,7 +58,7 @@ fn a_local_reference_is_of_its_own_thread_alone(rt: HostRuntime) -> Result<(), F
 pub const HANDED_OVER: &[u8] =
     b"vm threads 2 slots 4 objects 8 words 16 locals 16\nthread a\nplain p\nglobal g p\npost g\nwait done\ntype g\nthread b\nwait g\ntype g\nweak w g\ndrop g\ntype g\npost done\n";
 
-const HANDED_OVER_OUTPUT: &[u8] =
+pub const HANDED_OVER_OUTPUT: &[u8] =
     b"[a]\ntype g 0\n[b]\ntype g 2\ntype g 0\n[end]\nglobals 0 weaks 1 live 1 used 0\n";
 
 #[test]

@@ -3,18 +3,8 @@
 //! A refused growth ends a test with `Memory`, once it is checked that nothing was printed. Any other answer than the
 //! one that is wanted fails an assertion: so each growth may be refused in turn, and the assertions stand.
 
-mod board;
-mod commands;
-mod thread_ends;
-mod threads;
-
-use crate::all::run_all;
-use crate::board::Posts;
-use crate::hold::{Hold, NoHold};
-use crate::opening::opened_env;
-use crate::run::run_thread;
-use crate::single::run_one;
-use jr_rule::PlainSteps;
+use crate::thread_ends::plain_env;
+use jr_scripts::{Hold, NoHold, Posts, run_all, run_one, run_thread};
 use jr_syntax::{
     Command, Make, MakeFrom, Name, On, Reference, Script, Sequence, ThreadPart, is_name, parse,
 };
@@ -27,19 +17,19 @@ use std::test::Fail;
 use std::thread::Threads;
 
 /// What stands in the output before a run.
-const BEFORE: &[u8] = b"before\n";
+pub const BEFORE: &[u8] = b"before\n";
 
 /// How often a call is made that is raced or barred.
 const TURNS: u64 = 3;
 
 /// Sizes of a room.
-const SIZES: Config = Config {
+pub const SIZES: Config = Config {
     objects: 2,
     ..Config::LEAST
 };
 
 /// Checks what a run left in the output.
-fn leaves(
+pub fn leaves(
     rt: &impl Abort,
     answer: Result<(), Fault>,
     out: &[u8],
@@ -71,7 +61,7 @@ fn all_print<R: Abort + Threads + Wait>(
 }
 
 /// Checks what a script of one thread prints behind other output, run alone and as any other.
-fn prints<R: Abort + Threads + Wait>(
+pub fn prints<R: Abort + Threads + Wait>(
     rt: &R,
     alloc: Global,
     script: &[u8],
@@ -268,7 +258,7 @@ fn a_thread_without_turns(rt: HostRuntime) -> Result<(), Fail> {
             target: Reference::Named(name(&rt, b"p")),
         },
     ];
-    let mut env = opened_env(PlainSteps::<2>::new(alloc, SIZES)?);
+    let mut env = plain_env(alloc)?;
     let board = Posts::new(alloc);
     let mut out = Vec::from_slice(alloc, BEFORE)?;
     run_thread(alloc, &mut env, 10, &commands, &board, &NoHold, 0, &mut out)?;
@@ -282,7 +272,7 @@ fn a_thread_without_turns(rt: HostRuntime) -> Result<(), Fail> {
 }
 
 /// The name of these bytes.
-fn name_of(word: &[u8]) -> Result<Name, Fail> {
+pub fn name_of(word: &[u8]) -> Result<Name, Fail> {
     if !is_name(word) {
         return Err("the word is no name")?;
     }

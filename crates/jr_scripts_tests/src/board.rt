@@ -1,10 +1,8 @@
 //! What threads post to each other.
 
-use super::threads::HANDED_OVER;
-use super::{BEFORE, name_of, prints};
-use crate::all::run_all;
-use crate::board::{Board, Posts};
-use crate::hold::NoHold;
+use crate::scripts::{BEFORE, name_of, prints};
+use crate::threads::HANDED_OVER;
+use jr_scripts::{Board, NoHold, Posts, run_all};
 use jr_syntax::{Command, OnName, parse};
 use jr_word::Fault;
 use std::test::Fail;

@@ -1,0 +1,13 @@
+//! Tests of the runner: scripts from their text to what they print, and their threads.
+#![tactic(auto)]
+
+#[cfg(test)]
+mod board;
+#[cfg(test)]
+mod commands;
+#[cfg(test)]
+mod scripts;
+#[cfg(test)]
+mod thread_ends;
+#[cfg(test)]
+mod threads;
