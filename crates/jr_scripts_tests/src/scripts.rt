@@ -17,19 +17,19 @@ use std::test::Fail;
 use std::thread::Threads;
 
 /// What stands in the output before a run.
-pub const BEFORE: &[u8] = b"before\n";
+pub(crate) const BEFORE: &[u8] = b"before\n";
 
 /// How often a call is made that is raced or barred.
 const TURNS: u64 = 3;
 
 /// Sizes of a room.
-pub const SIZES: Config = Config {
+pub(crate) const SIZES: Config = Config {
     objects: 2,
     ..Config::LEAST
 };
 
 /// Checks what a run left in the output.
-pub fn leaves(
+pub(crate) fn leaves(
     rt: &impl Abort,
     answer: Result<(), Fault>,
     out: &[u8],
@@ -61,7 +61,7 @@ fn all_print<R: Abort + Threads + Wait>(
 }
 
 /// Checks what a script of one thread prints behind other output, run alone and as any other.
-pub fn prints<R: Abort + Threads + Wait>(
+pub(crate) fn prints<R: Abort + Threads + Wait>(
     rt: &R,
     alloc: Global,
     script: &[u8],
@@ -272,7 +272,7 @@ fn a_thread_without_turns(rt: HostRuntime) -> Result<(), Fail> {
 }
 
 /// The name of these bytes.
-pub fn name_of(word: &[u8]) -> Result<Name, Fail> {
+pub(crate) fn name_of(word: &[u8]) -> Result<Name, Fail> {
     if !is_name(word) {
         return Err("the word is no name")?;
     }

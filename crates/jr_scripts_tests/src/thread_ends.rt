@@ -10,7 +10,7 @@ use std::alloc::Global;
 use std::test::Fail;
 
 /// An env over plain words.
-pub fn plain_env(alloc: Global) -> Result<Env<PlainSteps<2>>, Fail> {
+pub(crate) fn plain_env(alloc: Global) -> Result<Env<PlainSteps<2>>, Fail> {
     let Ok(env) = Env::new(PlainSteps::<2>::new(alloc, SIZES)?) else {
         return Err("a fresh pass was refused")?;
     };

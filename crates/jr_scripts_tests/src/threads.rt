@@ -55,10 +55,10 @@ fn a_local_reference_is_of_its_own_thread_alone(rt: HostRuntime) -> Result<(), F
 }
 
 /// A thread hands a global reference to another, which deletes it.
-pub const HANDED_OVER: &[u8] =
+pub(crate) const HANDED_OVER: &[u8] =
     b"vm threads 2 slots 4 objects 8 words 16 locals 16\nthread a\nplain p\nglobal g p\npost g\nwait done\ntype g\nthread b\nwait g\ntype g\nweak w g\ndrop g\ntype g\npost done\n";
 
-pub const HANDED_OVER_OUTPUT: &[u8] =
+pub(crate) const HANDED_OVER_OUTPUT: &[u8] =
     b"[a]\ntype g 0\n[b]\ntype g 2\ntype g 0\n[end]\nglobals 0 weaks 1 live 1 used 0\n";
 
 #[test]
