@@ -65,7 +65,7 @@ is_written o i v n kind f is l good = pass (is_plain kind || is_text kind) NotAr
     (pass (nat_le n i) Range (write_last kind o i v) f (Write o i v ∷ []) (Ok tt) (inside n i l) (pass (not (is_value kind v)) Value (act (Write o i v)) f (Write o i v ∷ []) (Ok tt) (ap not good) (refl, refl, refl)))
 
 -- an element that was read is a word of its object's kind
-read_word : {k k' : Known} (o i v : ℕ) (h : HeaderParts) → Goes k (Read o i v ∷ []) k' → ShowsObject o h k' → IsWordNow h.kind v k'
+pub read_word : {k k' : Known} (o i v : ℕ) (h : HeaderParts) → Goes k (Read o i v ∷ []) k' → ShowsObject o h k' → IsWordNow h.kind v k'
 read_word {k} {k'} o i v h g shown =
     let before = k.seen ++ g.between in
     let e = by k.thread (Read o i v) in

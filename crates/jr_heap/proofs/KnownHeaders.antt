@@ -78,7 +78,7 @@ steps_keep_headers = record {
 pub calls_keep_headers : CallsKeepHeaders
 calls_keep_headers = record {
   reserved = gained;
-  filled = λ j k place n v s. by_headers j k s.headers;
+  filled = λ j k place ws s. by_headers j k s.headers;
   published = given;
   learned = learned;
   looked = λ j k o s. learned j k o s.0 s.1;

@@ -6,6 +6,7 @@ pub mod Headers
 mod KnownHeaders
 mod Checks
 pub mod Elements
+pub mod Parts
 mod NumberSearch
 mod Publishing
 pub mod HeaderThenElement

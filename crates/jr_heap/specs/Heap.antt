@@ -73,11 +73,15 @@ abbrev pub refused_steps : Fault → ℕ
 refused_steps (SpaceFull used) = 1
 refused_steps _ = 2
 
--- what a filling changes: each of the n words at the place is v then, and nothing else that the pass holds is other
-pub record Fills (place n v : ℕ) (j k : Known) : Type 0 where
-  pub words : own_words place n k ≡ replicate n v
+-- what a filling changes: the words at the place are these then, and nothing else that the pass holds is other
+pub record FillsWith (place : ℕ) (ws : List ℕ) (j k : Known) : Type 0 where
+  pub words : own_words place (length ws) k ≡ ws
   pub headers : k.holdings.headers ≡ j.holdings.headers
-  pub others : (p : ℕ) → (p ≢ place) ⊎ (n ≡ 0) → words_at p k.holdings.ranges ≡ words_at p j.holdings.ranges
+  pub others : (p : ℕ) → (p ≢ place) ⊎ (length ws ≡ 0) → words_at p k.holdings.ranges ≡ words_at p j.holdings.ranges
+
+-- the same with n words, each of which is v
+abbrev pub Fills : ℕ → ℕ → ℕ → Known → Known → Type 0
+Fills place n v = FillsWith place (replicate n v)
 
 -- OBJECTS
 

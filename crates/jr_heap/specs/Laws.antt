@@ -12,7 +12,7 @@ use Rattle.jr_model.specs.History.{PassView, role_of, Did}
 use Rattle.jr_model.specs.Refusals.{Sometime}
 use Rattle.jr_steps.specs.declared.known.Known.{Known}
 use Rattle.jr_steps.specs.Knowing.{view, keeps, KnowsHeader, ShowsHeader, ShowsPublished, ShowsRange, ShowsWord}
-use Rattle.jr_heap.specs.Heap.{Gains, Fills, Publishes, HoldsHeader, Learns, Relearns, LeavesObject}
+use Rattle.jr_heap.specs.Heap.{Gains, FillsWith, Publishes, HoldsHeader, Learns, Relearns, LeavesObject}
 
 -- while the pass is within and does not leave, and goes on knowing the header, the object has its kind and length, whatever else the pass did and holds
 abbrev pub HeadersHold : Type 0
@@ -33,7 +33,7 @@ pub record StepsKeepHeaders : Type 0 where
 -- so does each call of the heap
 pub record CallsKeepHeaders : Type 0 where
   pub reserved : (j k : Known) (n place : ℕ) → Gains n place j k → GoesOnKnowing j k
-  pub filled : (j k : Known) (place n v : ℕ) → Fills place n v j k → GoesOnKnowing j k
+  pub filled : (j k : Known) (place : ℕ) (ws : List ℕ) → FillsWith place ws j k → GoesOnKnowing j k
   pub published : (j k : Known) (kind : Kind) (place n : ℕ) (answer : Result ℕ Fault) → Publishes kind place n answer j k → GoesOnKnowing j k
   pub learned : (j k : Known) (o : ℕ) (h : HeaderParts) → Learns o h j k → GoesOnKnowing j k
   pub looked : (j k : Known) (o : ℕ) → Relearns o j k → GoesOnKnowing j k

@@ -4,11 +4,13 @@
 mod element;
 mod laws;
 mod object;
+mod part;
 mod range;
 mod space;
 
 pub use element::{read, read_element, write, write_element};
 pub use laws::{headers_hold, headers_stay_known, objects_are_lists};
 pub use object::{Numbers, header, publish};
+pub use part::{read_part, write_part};
 pub use range::Range;
-pub use space::{fill, reserve};
+pub use space::{fill, fill_from, reserve};

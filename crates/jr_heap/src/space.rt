@@ -1,9 +1,10 @@
 //! Array space: reserved, and filled before it is published, over any steps.
-ghost use Rattle.std.specs.Prelude.{◌≡◌, IfOk, IfErr, Ok, Err, None};
+ghost use Rattle.std.specs.Prelude.{◌≡◌, IfOk, IfErr, Ok, Err, None, length};
+ghost use Rattle.jr_word.specs.declared.kind.Kind.TheVariants.{Text};
 ghost use Rattle.jr_model.specs.declared.event.Role.TheVariants.{Within};
 ghost use Rattle.jr_model.specs.Parts.{reserve as reservation};
 ghost use Rattle.jr_steps.specs.Knowing.{anything, keeps, IsWordNow, MayKnow};
-ghost use Rattle.jr_heap.specs.Heap.{Called, header_of, IsOwn, IsReady, Gains, Fills, IsNotRaced, no_act, by_steps, reserve_steps, refused_steps};
+ghost use Rattle.jr_heap.specs.Heap.{Called, header_of, IsOwn, IsReady, Gains, Fills, FillsWith, IsNotRaced, no_act, by_steps, reserve_steps, refused_steps};
 ghost use Rattle.jr_heap.specs.Ranges.{place_of, size_of};
 
 use crate::range::Range;
@@ -78,5 +79,20 @@ pub fn fill<S: Steps>(steps: &mut S, range: &Range, word: u64)
 {
     for index in 0..range.length {
         steps.put_reserved(range.place, index, word);
+    }
+}
+
+/// Fills a range of the pass's own with the units of a string.
+pub fn fill_from<S: Steps>(steps: &mut S, range: &Range, units: &[u16])
+    requires role { (S.facts steps.old).stands.role ≡ Within }
+    requires own { MayKnow S.facts steps.old (IsOwn (place_of range.now) (size_of range.now)) }
+    requires long { length units.now ≡ size_of range.now }
+    ensures stands { (S.facts steps.new).stands ≡ (S.facts steps.old).stands }
+    ensures call { Called S.facts steps.old steps.new (IsOwn (place_of range.now) (size_of range.now)) (λ j k. no_act) (Ok tt) (by_steps (size_of range.now) (FillsWith (place_of range.now) units.now)) }
+    ensures own { MayKnow S.facts steps.new (IsOwn (place_of range.now) (size_of range.now)) }
+    ensures ready { MayKnow S.facts steps.new (IsReady Text (place_of range.now) (size_of range.now)) }
+{
+    for index in 0..range.length {
+        steps.put_reserved(range.place, index, u64::from(units[index as usize]));
     }
 }
