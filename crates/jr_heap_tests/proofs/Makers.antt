@@ -15,7 +15,7 @@ use Rattle.jr_model.specs.History.{role_of, Did}
 use Rattle.jr_model.specs.Parts.{publish, read_element, write_element}
 use Rattle.jr_model.specs.Checks.{is_plain, is_text, is_value}
 use Rattle.jr_steps.specs.declared.known.Known.{Known}
-use Rattle.jr_steps.specs.Knowing.{AreOf, Facts, Standing, IsOf, MayKnow, view, state_of, HasObject}
+use Rattle.jr_steps.specs.Knowing.{AreOf, Facts, MayKnow, view, state_of, HasObject}
 use Rattle.jr_heap.specs.Heap.{Called, HasKind, IsOwn, IsReady, Publishes, own_words, Relearns, MayBeNamed, MayBeNamedIn}
 use Rattle.jr_heap.proofs.Elements.{read_rest, write_rest, write_last}
 use Rattle.jr_heap.proofs.StayFacts.{NoLeave, still}

@@ -4,4 +4,6 @@
 #[cfg(test)]
 mod heap;
 #[cfg(test)]
+mod part;
+#[cfg(test)]
 mod rooms;
