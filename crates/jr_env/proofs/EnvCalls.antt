@@ -7,15 +7,15 @@ use Rattle.jr_word.specs.declared.config.Config.{Config}
 use Rattle.jr_word.specs.declared.fault.Fault.{Fault}
 use Rattle.jr_word.specs.declared.handle.Handle.{Handle as HandleWord}
 use Rattle.jr_word.specs.Handle.{handle_word}
-use Rattle.jr_model.specs.State.{Handle}
+use Rattle.jr_model.specs.State.{Handle, State}
 use Rattle.jr_model.specs.Frames.{Frames}
 use Rattle.jr_model.specs.Calls.{Call}
 use Rattle.jr_model.specs.Checks.{Word}
-use Rattle.jr_steps.specs.Knowing.{AreOf, Facts}
+use Rattle.jr_steps.specs.Knowing.{AreOf, Facts, state_of}
 use Rattle.jr_gate.specs.Performing.{moment, IsMade}
 use Rattle.jr_env.specs.Works.{CallsWhole}
 use Rattle.jr_frames.specs.Reading.{IsReadAs}
-use Rattle.jr_env.specs.Deeds.{Deed, DoesDeed, answered_by, call_by, call, call_on, call_on_both, packed, packed_if}
+use Rattle.jr_env.specs.Deeds.{Deed, DoesDeed, answered_by, call_by, call_on_by, call_on_both_by, packed, packed_if}
 
 -- the word of a handle that was packed
 pub packed_is : (w : HandleWord) (h : Handle) → w.0 ≡ handle_word h → w ≡ packed h
@@ -28,40 +28,39 @@ packed_if_is None (Some h) e = absurd e
 
 module _ {S : Type 0} {facts : S → Facts} {a b : S} {f g : Frames} {A : Type 0} where
   module _ (fits : AreOf facts) where
-    pub does_call_by : {answer : Result A Fault} (silent : Config → ℕ) (work : Config → ℕ → ℕ → Call A) → CallsWhole facts a b f g (silent (facts a).stands.config) (work (facts a).stands.config (facts a).stands.last (facts a).stands.thread) answer → DoesDeed facts a b f g (call_by silent (λ c last t s. work c last t)) answer
+    pub does_call_by : {answer : Result A Fault} (silent : Config → ℕ) (work : Config → ℕ → ℕ → State → Call A) → CallsWhole facts a b f g (silent (facts a).stands.config) (work (facts a).stands.config (facts a).stands.last (facts a).stands.thread) answer → DoesDeed facts a b f g (call_by silent work) answer
     does_call_by {answer} silent work p = record {
       stands_is = p.stands_is;
       did = λ k s m.
           let x = p.ran k s m in
           let i = fits a k s in
           let old = moment (facts a).stands.fresh k f in
-          let new = moment (facts b).stands.fresh x.0 g in (
+          let new = moment (facts b).stands.fresh x.0 g in
+          let s' = state_of x.0 in (
             x.0,
             x.1,
             x.3.1,
             (
-              subst (λ c. IsMade (silent c) old new (work c k.last k.thread) answer) (sym i.config)
-                  (subst (λ l. IsMade (silent (facts a).stands.config) old new (work (facts a).stands.config l k.thread) answer) (sym i.last)
-                  (subst (λ t. IsMade (silent (facts a).stands.config) old new (work (facts a).stands.config (facts a).stands.last t) answer) (sym i.thread) x.2)),
+              subst (λ c. IsMade (silent c) old new (work c k.last k.thread s') answer) (sym i.config)
+                  (subst (λ l. IsMade (silent (facts a).stands.config) old new (work (facts a).stands.config l k.thread s') answer) (sym i.last)
+                  (subst (λ t. IsMade (silent (facts a).stands.config) old new (work (facts a).stands.config (facts a).stands.last t s') answer) (sym i.thread) x.2)),
               x.3.0,
             ),
           );
     }
 
-    pub does_call : {answer : Result A Fault} (work : Config → ℕ → ℕ → Call A) → CallsWhole facts a b f g 0 (work (facts a).stands.config (facts a).stands.last (facts a).stands.thread) answer → DoesDeed facts a b f g (call (λ c last t s. work c last t)) answer
-    does_call work p = does_call_by (λ c. 0) work p
-
     -- a call that is handed a reference word
-    pub does_call_on : {answer : Result A Fault} (work : Config → ℕ → ℕ → Word → Call A) (w : ℕ) (r : Word) → IsReadAs w r → CallsWhole facts a b f g 0 (work (facts a).stands.config (facts a).stands.last (facts a).stands.thread r) answer → DoesDeed facts a b f g (call_on w (λ c last t s x. work c last t x)) answer
-    does_call_on work w r reads p =
-        let d = does_call (λ c last t. work c last t r) p in
+    pub does_call_on : {answer : Result A Fault} (silent : Config → ℕ) (work : Config → ℕ → ℕ → State → Word → Call A) (w : ℕ) (r : Word) → IsReadAs w r
+        → CallsWhole facts a b f g (silent (facts a).stands.config) (λ s. work (facts a).stands.config (facts a).stands.last (facts a).stands.thread s r) answer → DoesDeed facts a b f g (call_on_by silent w work) answer
+    does_call_on silent work w r reads p =
+        let d = does_call_by silent (λ c last t s. work c last t s r) p in
         record { stands_is = d.stands_is; did = λ k s m. let x = d.did k s m in (x.0, x.1, x.2, (r, reads, x.3)) }
 
     -- a call that is handed two reference words
-    pub does_call_on_both : {answer : Result A Fault} (work : Config → ℕ → ℕ → Word → Word → Call A) (v w : ℕ) (q r : Word) → IsReadAs v q → IsReadAs w r → CallsWhole facts a b f g 0 (work (facts a).stands.config (facts a).stands.last (facts a).stands.thread q r) answer
-        → DoesDeed facts a b f g (call_on_both v w (λ c last t s x y. work c last t x y)) answer
-    does_call_on_both work v w q r reads reads' p =
-        let d = does_call (λ c last t. work c last t q r) p in
+    pub does_call_on_both : {answer : Result A Fault} (silent : Config → ℕ) (work : Config → ℕ → ℕ → State → Word → Word → Call A) (v w : ℕ) (q r : Word) → IsReadAs v q → IsReadAs w r
+        → CallsWhole facts a b f g (silent (facts a).stands.config) (λ s. work (facts a).stands.config (facts a).stands.last (facts a).stands.thread s q r) answer → DoesDeed facts a b f g (call_on_both_by silent v w work) answer
+    does_call_on_both silent work v w q r reads reads' p =
+        let d = does_call_by silent (λ c last t s. work c last t s q r) p in
         record { stands_is = d.stands_is; did = λ k s m. let x = d.did k s m in (x.0, x.1, x.2, (q, r, reads, reads', x.3)) }
 
   -- the answer in another form

@@ -1,7 +1,16 @@
 pub mod InsideGate
+pub mod Leaving
 pub mod Meetings
 pub mod NewReference
-pub mod NewPlain
+pub mod NewObject
+pub mod NewArray
 pub mod Removing
 pub mod EnvCalls
 pub mod FrameCalls
+pub mod FoundObject
+pub mod Steady
+pub mod ObjectLooks
+pub mod ElementChecks
+pub mod ElementReading
+pub mod ArrayParts
+pub mod ElementWriting

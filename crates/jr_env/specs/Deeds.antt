@@ -1,12 +1,14 @@
 -- What the calls of an env do, from one moment of its pass and frames to another.
-use Rattle.std.specs.Prelude.{◌≡◌, ◌⊎◌, ℕ, Bool, Option, Some, None, Result, Ok, Err}
+use Rattle.std.specs.Prelude.{◌≡◌, ◌⊎◌, ◌+◌, ℕ, Bool, Option, Some, None, Result, Ok, Err, List, length}
 use Rattle.jr_word.specs.declared.handle.RefKind.{RefKind}
+use Rattle.jr_word.specs.declared.kind.Kind.{Kind}
 use Rattle.jr_word.specs.declared.handle.Handle.{Handle as HandleWord}
 use Rattle.jr_word.specs.Handle.{handle_word}
 use Rattle.jr_word.specs.declared.config.Config.{Config}
 use Rattle.jr_word.specs.declared.fault.Fault.{Fault}
 use Rattle.jr_model.specs.State.{Handle, State}
 use Rattle.jr_model.specs.References as references
+use Rattle.jr_model.specs.Objects as objects
 use Rattle.jr_model.specs.History.{state}
 use Rattle.jr_model.specs.Frames.{Frames}
 use Rattle.jr_model.specs.Calls.{Call}
@@ -32,13 +34,21 @@ call asked = call_by (λ c. 0) asked
 abbrev pub call_apart : {A : Type 0} → (Config → ℕ → ℕ → Call A) → Deed A
 call_apart asked old answer new = IsMade 0 old new (asked old.pass.config old.pass.last old.pass.thread) answer × (new ≡ record old { frames = new.frames })
 
--- a call that is handed a reference word
-abbrev pub call_on : {A : Type 0} → ℕ → (Config → ℕ → ℕ → State → Word → Call A) → Deed A
-call_on w asked old answer new = (a : Word) × IsReadAs w a × call (λ c last t s. asked c last t s a) old answer new
+-- a call that is handed a reference word, and takes at most so many operations beside its events
+abbrev pub call_on_by : {A : Type 0} → (Config → ℕ) → ℕ → (Config → ℕ → ℕ → State → Word → Call A) → Deed A
+call_on_by silent w asked old answer new = (a : Word) × IsReadAs w a × call_by silent (λ c last t s. asked c last t s a) old answer new
 
--- a call that is handed two reference words
+-- one that takes no operation but its events
+abbrev pub call_on : {A : Type 0} → ℕ → (Config → ℕ → ℕ → State → Word → Call A) → Deed A
+call_on w asked = call_on_by (λ c. 0) w asked
+
+-- a call that is handed two reference words, and takes at most so many operations beside its events
+abbrev pub call_on_both_by : {A : Type 0} → (Config → ℕ) → ℕ → ℕ → (Config → ℕ → ℕ → State → Word → Word → Call A) → Deed A
+call_on_both_by silent v w asked old answer new = (a b : Word) × IsReadAs v a × IsReadAs w b × call_by silent (λ c last t s. asked c last t s a b) old answer new
+
+-- one that takes no operation but its events
 abbrev pub call_on_both : {A : Type 0} → ℕ → ℕ → (Config → ℕ → ℕ → State → Word → Word → Call A) → Deed A
-call_on_both v w asked old answer new = (a b : Word) × IsReadAs v a × IsReadAs w b × call (λ c last t s. asked c last t s a b) old answer new
+call_on_both v w asked = call_on_both_by (λ c. 0) v w asked
 
 -- an answer, with no event
 abbrev pub done : {A : Type 0} → A → Deed A
@@ -75,6 +85,22 @@ packed_if (Some h) = Some (packed h)
 abbrev pub new_plain : Deed HandleWord
 new_plain = answered_by packed (call_by (λ c. c.objects) (λ c last t s. references.new_plain c last t))
 
+-- a new array or string of n words may take a look at the top, a store for each word and an exchange for each object number, beside its events
+abbrev pub making_steps : ℕ → Config → ℕ
+making_steps n c = 1 + n + c.objects
+
+-- NewBooleanArray and its like: n zeros
+abbrev pub new_array : Kind → ℕ → Deed HandleWord
+new_array kind n = answered_by packed (call_by (making_steps n) (λ c last t s. references.new_array c last t kind n))
+
+-- NewObjectArray: n times what the word names
+abbrev pub new_object_array : ℕ → ℕ → Deed HandleWord
+new_object_array n w = answered_by packed (call_on_by (making_steps n) w (λ c last t s a. references.new_object_array c last t n a))
+
+-- NewString
+abbrev pub new_string : List ℕ → Deed HandleWord
+new_string units = answered_by packed (call_by (making_steps (length units)) (λ c last t s. references.new_string c last t units))
+
 -- NewGlobalRef, NewWeakGlobalRef
 abbrev pub new_reference : RefKind → ℕ → Deed (Option HandleWord)
 new_reference kind w = answered_by packed_if (call_on w (λ c last t s a. references.new_reference c last t kind a))
@@ -110,6 +136,41 @@ push_local_frame n = call_apart (λ c last t. references.push_local_frame c last
 -- PopLocalFrame
 abbrev pub pop_local_frame : ℕ → Deed (Option HandleWord)
 pop_local_frame w = answered_by packed_if (call_on w (λ c last t s a. references.pop_local_frame c last t a))
+
+-- THE CALLS AT OBJECTS take one operation beside their events, the look at the header
+
+-- the kind of what the word names
+abbrev pub kind_of : ℕ → Deed Kind
+kind_of w = call_on_by (λ c. 1) w (λ c last t s a. objects.kind_of c last t s a)
+
+-- GetArrayLength
+abbrev pub get_array_length : ℕ → Deed ℕ
+get_array_length w = call_on_by (λ c. 1) w (λ c last t s a. objects.get_array_length c last t s a)
+
+-- GetStringLength
+abbrev pub get_string_length : ℕ → Deed ℕ
+get_string_length w = call_on_by (λ c. 1) w (λ c last t s a. objects.get_string_length c last t s a)
+
+-- GetObjectArrayElement
+abbrev pub get_object_array_element : ℕ → ℕ → Deed (Option HandleWord)
+get_object_array_element w i = answered_by packed_if (call_on_by (λ c. 1) w (λ c last t s a. objects.get_object_array_element c last t s a i))
+
+-- SetObjectArrayElement
+abbrev pub set_object_array_element : ℕ → ℕ → ℕ → Deed (Unit {0})
+set_object_array_element v i w = call_on_both_by (λ c. 1) v w (λ c last t s a b. objects.set_object_array_element c last t s a i b)
+
+-- GetBooleanArrayRegion and its like: the words of n elements from start on
+abbrev pub get_array_region : Kind → ℕ → ℕ → ℕ → Deed (List ℕ)
+get_array_region kind w start n = call_on_by (λ c. 1) w (λ c last t s a. objects.get_array_region c last t s kind a start n)
+
+-- the answer of a call that reads words into a buffer: the words, or its refusal
+abbrev pub read_answer : Result (Unit {0}) Fault → List ℕ → Result (List ℕ) Fault
+read_answer (Ok _) ws = Ok ws
+read_answer (Err e) ws = Err e
+
+-- SetBooleanArrayRegion and its like
+abbrev pub set_array_region : Kind → ℕ → ℕ → List ℕ → Deed (Unit {0})
+set_array_region kind w start vs = call_on_by (λ c. 1) w (λ c last t s a. objects.set_array_region c last t s kind a start vs)
 
 -- all local references are freed, at the end of a native method
 abbrev pub free_locals : Deed (Unit {0})

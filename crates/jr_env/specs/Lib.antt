@@ -1,3 +1,5 @@
 pub mod Deeds
+pub mod Elements
 pub mod Envs
 pub mod Works
+pub mod Regions

@@ -13,48 +13,9 @@ use jr_frames::{
     type_of,
 };
 use jr_gate::Inside;
-use jr_heap::{Numbers, Range, publish};
 use jr_row::{create, delete};
 use jr_steps::Steps;
-use jr_word::{Fault, HandleParts, Kind, RefKind};
-
-/// A plain object, whose number is looked for where the numbers say, and a local reference to it: E9, E11.
-#[derive(Drop)]
-pub struct Making<'a>(pub &'a mut Numbers);
-
-impl<S: Steps> Work<S> for Making<'_> {
-    ghost use Rattle.std.specs.Prelude.{◌≡◌};
-    ghost use Rattle.jr_word.specs.declared.handle.RefKind.TheVariants.{Local};
-    ghost use Rattle.jr_model.specs.References.{making};
-    ghost use Rattle.jr_env.specs.Works.{LearnsNew, object_made};
-
-    type Answer = HandleParts;
-
-    ghost can_work = { λ _. Unit {0} };
-
-    ghost silent = { λ c. c.objects };
-
-    ghost asked = { λ _ c last t. making c last t };
-
-    ghost learns = { λ f answer j k. LearnsNew (object_made f answer) j k };
-
-    ghost gives = { λ t h. (h.kind ≡ Local) × (h.owner ≡ t) };
-
-    fn work(
-        self,
-        steps: &mut S,
-        inside: &Inside,
-        frames: &mut Frames,
-    ) -> Result<HandleParts, Fault> {
-        let Some(handle) = frames.next() else {
-            return Err(Fault::LocalsFull);
-        };
-        let object = publish(steps, self.0, Kind::Plain, Range::empty())?;
-        steps.put_local(handle.index, Some(object));
-        frames.add(handle, object);
-        Ok(handle)
-    }
-}
+use jr_word::{Fault, HandleParts, RefKind};
 
 /// A global or weak global reference to what a reference names, none for NULL: E2, E3, E8.
 #[derive(Clone, Copy)]
@@ -76,9 +37,9 @@ impl<S: Steps> Work<S> for Creation {
 
     ghost can_work = { λ w. (w.kind ≢ Local) × OwnerFits w.target };
 
-    ghost silent = { λ _. 0 };
+    ghost silent = { λ _ _. 0 };
 
-    ghost asked = { λ w c last t. creation c last t w.kind (word_of w.target) };
+    ghost asked = { λ w c last t s. creation c last t w.kind (word_of w.target) };
 
     ghost learns = { λ _ _ j k. keeps j k };
 
@@ -113,9 +74,9 @@ impl<S: Steps> Work<S> for LocalCreation {
 
     ghost can_work = { λ w. OwnerFits w.0 };
 
-    ghost silent = { λ _. 0 };
+    ghost silent = { λ _ _. 0 };
 
-    ghost asked = { λ w c last t. local_creation c last t (word_of w.0) };
+    ghost asked = { λ w c last t s. local_creation c last t (word_of w.0) };
 
     ghost learns = { λ _ _ j k. keeps j k };
 
@@ -152,9 +113,9 @@ impl<S: Steps> Work<S> for Removal {
 
     ghost can_work = { λ w. (w.kind ≢ Local) × OwnerFits w.target };
 
-    ghost silent = { λ _. 0 };
+    ghost silent = { λ _ _. 0 };
 
-    ghost asked = { λ w c last t. removal c w.kind (word_of w.target) };
+    ghost asked = { λ w c last t s. removal c w.kind (word_of w.target) };
 
     ghost learns = { λ _ _ j k. keeps j k };
 
@@ -183,9 +144,9 @@ impl<S: Steps> Work<S> for LocalRemoval {
 
     ghost can_work = { λ _. Unit {0} };
 
-    ghost silent = { λ _. 0 };
+    ghost silent = { λ _ _. 0 };
 
-    ghost asked = { λ w c last t. local_removal c t (word_of w.0) };
+    ghost asked = { λ w c last t s. local_removal c t (word_of w.0) };
 
     ghost learns = { λ _ _ j k. keeps j k };
 
@@ -213,9 +174,9 @@ impl<S: Steps> Work<S> for Comparison {
 
     ghost can_work = { λ w. OwnerFits w.0 × OwnerFits w.1 };
 
-    ghost silent = { λ _. 0 };
+    ghost silent = { λ _ _. 0 };
 
-    ghost asked = { λ w c last t. comparison c last t (word_of w.0) (word_of w.1) };
+    ghost asked = { λ w c last t s. comparison c last t (word_of w.0) (word_of w.1) };
 
     ghost learns = { λ _ _ j k. keeps j k };
 
@@ -240,9 +201,9 @@ impl<S: Steps> Work<S> for Typing {
 
     ghost can_work = { λ w. OwnerFits w.0 };
 
-    ghost silent = { λ _. 0 };
+    ghost silent = { λ _ _. 0 };
 
-    ghost asked = { λ w c last t. typing c t (word_of w.0) };
+    ghost asked = { λ w c last t s. typing c t (word_of w.0) };
 
     ghost learns = { λ _ _ j k. keeps j k };
 

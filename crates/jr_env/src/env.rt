@@ -2,7 +2,7 @@
 ghost use Rattle.jr_model.specs.declared.event.Role.TheVariants.{Outside};
 ghost use Rattle.jr_frames.specs.Ready.{StandsReady};
 
-use crate::calls::{Comparison, Creation, LocalCreation, LocalRemoval, Making, Removal, Typing};
+use crate::calls::{Comparison, Creation, LocalCreation, LocalRemoval, Removal, Typing};
 use crate::work::make;
 use jr_frames::{Frames, Held, Reference};
 use jr_heap::Numbers;
@@ -15,7 +15,7 @@ pub struct Env<S: Steps> {
     /// The thread's steps and its local references.
     pub held: Held<S>,
     /// Where it looks for the number of its next object.
-    numbers: Numbers,
+    pub(crate) numbers: Numbers,
     ghost ready: { StandsReady S.facts Outside held.steps held.frames },
 }
 
@@ -27,7 +27,7 @@ impl<S: Steps> Env<S> {
     ghost use Rattle.jr_model.specs.Frames.{fresh_frames};
     ghost use Rattle.jr_steps.specs.Knowing.{Spent};
     ghost use Rattle.jr_env.specs.Envs.{Does};
-    ghost use Rattle.jr_env.specs.Deeds.{new_plain, new_reference, new_local_ref, delete_reference, delete_local_ref, is_same_object, get_object_ref_type};
+    ghost use Rattle.jr_env.specs.Deeds.{new_reference, new_local_ref, delete_reference, delete_local_ref, is_same_object, get_object_ref_type};
 
     /// The env of a thread, with one base frame, over a pass that is fresh, which is spent. It takes no step.
     ///
@@ -61,14 +61,6 @@ impl<S: Steps> Env<S> {
         let Env { held, .. } = self;
         let Held { steps, frames: _ } = held;
         steps
-    }
-
-    /// Makes a plain object and a local reference to it: E9, E11, E13.
-    pub fn new_plain(&mut self) -> Result<Handle, Fault>
-        ensures { Does self.old self.new new_plain result }
-    {
-        let made = make(&mut self.held, Making(&mut self.numbers))?;
-        Ok(Handle::pack(made))
     }
 
     /// Makes a global reference to what the handle names, or none for null: E2, E3, E8, E13. (JNI Specification, chapter 4, "NewGlobalRef")

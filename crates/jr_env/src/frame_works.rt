@@ -17,9 +17,9 @@ impl<S: Steps> Work<S> for LocalsFreeing {
 
     ghost can_work = { λ _. Unit {0} };
 
-    ghost silent = { λ _. 0 };
+    ghost silent = { λ _ _. 0 };
 
-    ghost asked = { λ _ c last t. freeing };
+    ghost asked = { λ _ c last t s. freeing };
 
     ghost learns = { λ _ _ j k. keeps j k };
 
@@ -46,9 +46,9 @@ impl<S: Steps> Work<S> for FramePop {
 
     ghost can_work = { λ w. OwnerFits w.0 };
 
-    ghost silent = { λ _. 0 };
+    ghost silent = { λ _ _. 0 };
 
-    ghost asked = { λ w c last t. frame_popping c last t (word_of w.0) };
+    ghost asked = { λ w c last t s. frame_popping c last t (word_of w.0) };
 
     ghost learns = { λ _ _ j k. keeps j k };
 

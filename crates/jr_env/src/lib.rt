@@ -3,9 +3,16 @@
 
 mod calls;
 mod env;
+mod finding;
 mod frame_calls;
 mod frame_works;
+mod making;
+mod making_calls;
 mod meeting;
+mod object_calls;
+mod objects;
+mod region_calls;
+mod regions;
 mod work;
 
 pub use env::Env;

@@ -17,6 +17,7 @@ pub trait Work<S: Steps> {
     ghost use Rattle.jr_word.specs.declared.fault.Fault.{Fault};
     ghost use Rattle.jr_word.specs.declared.config.Config.{Config};
     ghost use Rattle.jr_model.specs.declared.event.Role.TheVariants.{Within};
+    ghost use Rattle.jr_model.specs.State.{State};
     ghost use Rattle.jr_model.specs.Frames.{Frames};
     ghost use Rattle.jr_model.specs.Calls.{Call};
     ghost use Rattle.jr_steps.specs.declared.known.Known.{Known};
@@ -24,15 +25,16 @@ pub trait Work<S: Steps> {
     ghost use Rattle.jr_gate.specs.Stays.{IsOwnStay};
     ghost use Rattle.jr_gate.specs.Performing.{Performed};
     ghost use Rattle.jr_frames.specs.Ready.{StandsReady, KeepsOwner};
+    ghost use Rattle.jr_env.specs.Works.{IsSteady};
 
     /// What it answers.
     type Answer;
 
     ghost can_work: { Self → Type 0 };
 
-    ghost silent: { Config → ℕ };
+    ghost silent: { Self → Config → ℕ };
 
-    ghost asked: { Self → Config → ℕ → ℕ → Call Self.Answer };
+    ghost asked: { Self → Config → ℕ → ℕ → State → Call Self.Answer };
 
     ghost learns: { Frames → Result Self.Answer Fault → Known → Known → Type 0 };
 
@@ -52,7 +54,8 @@ pub trait Work<S: Steps> {
         requires stay { IsOwnStay inside.now (S.facts steps.old).stands }
         requires ready { StandsReady S.facts Within steps.old frames.old }
         requires can { can_work self }
-        ensures call { Performed S.facts steps.old steps.new frames.old.frames frames.new.frames (silent (S.facts steps.old).stands.config) (Holds frames.old.frames) (λ s. asked self (S.facts steps.old).stands.config (S.facts steps.old).stands.last (S.facts steps.old).stands.thread) result (λ j k. learns frames.new.frames result j k × Holds frames.new.frames k) }
+        ensures call { Performed S.facts steps.old steps.new frames.old.frames frames.new.frames (silent self (S.facts steps.old).stands.config) (Holds frames.old.frames) (asked self (S.facts steps.old).stands.config (S.facts steps.old).stands.last (S.facts steps.old).stands.thread) result (λ j k. learns frames.new.frames result j k × Holds frames.new.frames k) }
+        ensures steady { IsSteady (asked self (S.facts steps.old).stands.config (S.facts steps.old).stands.last (S.facts steps.old).stands.thread) }
         ensures same { KeepsOwner frames.old frames.new }
         ensures given { IfOk result (λ answer. gives (S.facts steps.old).stands.thread answer) };
 }
@@ -66,7 +69,7 @@ pub trait Work<S: Steps> {
 pub fn make<S: Steps, W: Work<S> + Drop>(held: &mut Held<S>, work: W) -> Result<W::Answer, Fault>
     requires ready { StandsReady S.facts Outside held.old.steps held.old.frames }
     requires can { W.can_work work }
-    ensures call { Completes S.facts held.old.steps held.new.steps held.old.frames held.new.frames (W.silent (S.facts held.old.steps).stands.config) (entered_call (W.asked work (S.facts held.old.steps).stands.config (S.facts held.old.steps).stands.last (S.facts held.old.steps).stands.thread)) result }
+    ensures call { Completes S.facts held.old.steps held.new.steps held.old.frames held.new.frames (W.silent work (S.facts held.old.steps).stands.config) (λ s. entered_call (W.asked work (S.facts held.old.steps).stands.config (S.facts held.old.steps).stands.last (S.facts held.old.steps).stands.thread s)) result }
     ensures given { IfOk result (λ answer. W.gives (S.facts held.old.steps).stands.thread answer) }
 {
     let inside = enter(&mut held.steps)?;

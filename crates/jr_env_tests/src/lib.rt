@@ -10,6 +10,12 @@ mod handles;
 #[cfg(test)]
 mod held;
 #[cfg(test)]
+mod making;
+#[cfg(test)]
+mod objects;
+#[cfg(test)]
 mod references;
+#[cfg(test)]
+mod regions;
 #[cfg(test)]
 mod rooms;

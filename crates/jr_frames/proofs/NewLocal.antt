@@ -30,7 +30,7 @@ local_ran : (c : Config) (last t : ℕ) {p q : PassView} {f g : Frames} (h : Han
 local_ran c last t {p} h o d a = record { acts = LocalPut h.index o ∷ []; did = d; is = (h, refl, refl, a); begun = p.seen; window = window_act (LocalPut h.index o) d tt tt; grounds = tt }
 
 -- the object that was found, if there is one, is present
-found_optional : (z : Option ℕ) (k : Known) → FoundPresent (Ok z) k → HasOptional z k
+pub found_optional : (z : Option ℕ) (k : Known) → FoundPresent (Ok z) k → HasOptional z k
 found_optional None k p = tt
 found_optional (Some o) k p = p
 

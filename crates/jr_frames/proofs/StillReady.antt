@@ -10,6 +10,7 @@ use Rattle.jr_model.specs.declared.event.Role.{Role}
 use Rattle.jr_model.specs.declared.event.Role.TheVariants.{Outside, Within}
 use Rattle.jr_model.specs.declared.event.Act.{Act}
 use Rattle.jr_model.specs.declared.event.Act.TheVariants.{Enter, LocalPut, LocalDrop, Meet}
+use Rattle.jr_model.specs.State.{State}
 use Rattle.jr_model.specs.Frames.{fresh_frames, object_at}
 use Rattle.jr_model.specs.Calls.{Call}
 use Rattle.jr_model.proofs.Agreement.{spares_places}
@@ -51,8 +52,8 @@ module _ {S : Type 0} {facts : S → Facts} where
   own_resolved {t = t} r p = own_after r (same_owner t) p.stands_is (∥∥₁_map r.agrees (λ k. let x = p.ran k.0 k.1 k.2 in (x.0, x.1, x.3.1)))
 
   -- after a call the frames are as ready as before
-  pub ready_after : {A : Type 0} {a b : S} {t u : Table} {role : Role} {silent : ℕ} {so : Known → Known → Type 0} {work : Call A} {answer : Result A Fault} → StandsReady facts role a t → KeepsOwner t u
-      → Performed facts a b t.frames u.frames silent (Holds t.frames) (λ s. work) answer (λ j k. so j k × Holds u.frames k) → StandsReady facts role b u
+  pub ready_after : {A : Type 0} {a b : S} {t u : Table} {role : Role} {silent : ℕ} {so : Known → Known → Type 0} {work : State → Call A} {answer : Result A Fault} → StandsReady facts role a t → KeepsOwner t u
+      → Performed facts a b t.frames u.frames silent (Holds t.frames) work answer (λ j k. so j k × Holds u.frames k) → StandsReady facts role b u
   ready_after r o p = record {
     role_is = p.stands_is.role ∙ r.role_is;
     spent = ∥∥₁_elim r.own.agrees (hlevel props) (λ k. let x = p.ran k.0 k.1 k.2 in x.2.spent.fresh ∙ (ap (λ b. fresh_from b x.2.ran.acts) r.spent ∙ never_fresh x.2.ran.acts));

@@ -1,5 +1,5 @@
 -- What was done over any steps and frames within a stay, for whatever was known.
-use Rattle.std.specs.Prelude.{ℕ, Result, Ok, Option, Some}
+use Rattle.std.specs.Prelude.{ℕ, Result, Ok, Err, Option, Some}
 use Rattle.jr_word.specs.declared.fault.Fault.{Fault}
 use Rattle.jr_model.specs.State.{Handle}
 use Rattle.jr_model.specs.Frames.{Frames}
@@ -16,10 +16,19 @@ abbrev pub FoundPresent : Result (Option ℕ) Fault → Known → Type 0
 FoundPresent (Ok (Some o)) k = HasObject o k
 FoundPresent _ k = Unit {0}
 
+-- each of the two objects that were found, if there is one, is present
+abbrev pub FoundBoth : Result (Option ℕ × Option ℕ) Fault → Known → Type 0
+FoundBoth (Ok x) k = HasOptional x.0 k × HasOptional x.1 k
+FoundBoth (Err e) k = Unit {0}
+
 module _ {S : Type 0} (facts : S → Facts) where
   -- a reference was resolved: the object that was found is present
   abbrev pub Resolves : S → S → Frames → Call (Option ℕ) → Result (Option ℕ) Fault → Type 0
   Resolves old new f call answer = Performed facts old new f f 0 (Holds f) (λ s. call) answer (λ j k. keeps j k × Holds f k × FoundPresent answer k)
+
+  -- two references were resolved: the objects that were found are present
+  abbrev pub ResolvesBoth : S → S → Frames → Call (Option ℕ × Option ℕ) → Result (Option ℕ × Option ℕ) Fault → Type 0
+  ResolvesBoth old new f call answer = Performed facts old new f f 0 (Holds f) (λ s. call) answer (λ j k. keeps j k × Holds f k × FoundBoth answer k)
 
   -- a word that native code handed in was read, and the reference resolved
   abbrev pub ResolvesWord : S → S → Frames → ℕ → Result (Option ℕ) Fault → Type 0

@@ -6,7 +6,7 @@ ghost use Rattle.jr_model.specs.Checks.{Parts, is_out_of_bounds, type_found, typ
 ghost use Rattle.jr_model.specs.Parts.{local_answer, looked, looked_at};
 ghost use Rattle.jr_model.specs.References.{resolved, resolved_both, typing};
 ghost use Rattle.jr_frames.specs.Reading.{word_of, OwnerFits};
-ghost use Rattle.jr_frames.specs.OverSteps.{Resolves, Calls};
+ghost use Rattle.jr_frames.specs.OverSteps.{Resolves, ResolvesBoth, Calls};
 
 use crate::frames::Frames;
 use crate::reference::{Reference, belongs_elsewhere, lies_outside, names_local};
@@ -87,7 +87,7 @@ pub fn resolve<S: Steps>(
     look_up(steps, inside, frames, reference)
 }
 
-/// The objects of two references: each check is made of the first and then of the second, before the next check. E2, E3.
+/// The objects of two references, which are present: each check is made of the first and then of the second, before the next check. E2, E3.
 #[inline(always)]
 pub fn resolve_both<S: Steps>(
     steps: &mut S,
@@ -99,7 +99,7 @@ pub fn resolve_both<S: Steps>(
     requires stay { IsOwnStay inside.now (S.facts steps.old).stands }
     requires left { OwnerFits left }
     requires right { OwnerFits right }
-    ensures { Calls S.facts steps.old steps.new frames.now.frames frames.now.frames (resolved_both (S.facts steps.old).stands.config (S.facts steps.old).stands.last (S.facts steps.old).stands.thread (word_of left) (word_of right)) result }
+    ensures { ResolvesBoth S.facts steps.old steps.new frames.now.frames (resolved_both (S.facts steps.old).stands.config (S.facts steps.old).stands.last (S.facts steps.old).stands.thread (word_of left) (word_of right)) result }
 {
     let config = steps.config();
     let thread = steps.thread();

@@ -1,13 +1,13 @@
 -- What the calls of a thread that is alone leave, and how they are refused.
-use Rattle.std.proofs.Common.{◌≡◌, ◌≢◌, inl, inr, ℕ, ◌<◌, ◌≤◌, true, List, [], ◌∷◌, Result, Ok, Err, IfErr, refl, sym, subst, ◌∙◌, ap}
+use Rattle.std.proofs.Common.{◌≡◌, ◌≢◌, inl, inr, ℕ, ◌<◌, ◌≤◌, true, List, [], ◌∷◌, ◌++◌, Result, Ok, Err, IfErr, refl, sym, subst, ◌∙◌, ap}
 use Rattle.std.specs.List.{AllByRecursion}
 use mathlib.Core.List.{IsPrefix}
 use Rattle.jr_word.specs.declared.config.Config.{Config}
 use Rattle.jr_word.specs.declared.fault.Fault.{Fault}
-use Rattle.jr_word.specs.declared.fault.Fault.TheVariants.{Stale, RowFull, LocalsFull, ObjectsFull, NoFrame}
+use Rattle.jr_word.specs.declared.fault.Fault.TheVariants.{Null, Stale, WrongKind, NotArray, WrongElement, Range, RowFull, LocalsFull, SpaceFull, ObjectsFull, Raced, NoFrame}
 use Rattle.jr_model.specs.declared.event.Event.{Event}
 use Rattle.jr_model.specs.declared.event.Act.{Act}
-use Rattle.jr_model.specs.declared.event.Act.TheVariants.{Knock, Leave}
+use Rattle.jr_model.specs.declared.event.Act.TheVariants.{Enter, Knock, Leave}
 use Rattle.jr_model.specs.State.{State, IsPresent, IsOccupied}
 use Rattle.jr_model.specs.History.{History, state, PassView}
 use Rattle.jr_model.specs.Frames.{Frames}
@@ -20,9 +20,10 @@ use Rattle.jr_model.proofs.Stays.{mine_did}
 use Rattle.jr_gate.specs.Performing.{Moment}
 use Rattle.jr_env.specs.Deeds.{Deed, call_by}
 use Rattle.jr_syntax.specs.declared.command.Command.{Command}
-use Rattle.jr_scripts.specs.AloneAnswers.{IsAloneFault}
+use Rattle.jr_scripts.specs.AloneAnswers.{IsAloneFault, IsShort, LacksSpace}
 use Rattle.jr_scripts.proofs.AloneHistories.{all_back, own_acts, own_events, still_so, stays_occupied, stays_present}
-use Rattle.jr_scripts.proofs.Uncontended.{IsUncontendedFault, is_uncontended_act, AreUncontended, IsUncontended}
+use Rattle.jr_scripts.proofs.SpaceAlone.{found_short, never_lost}
+use Rattle.jr_scripts.proofs.Uncontended.{FoundFull, FoundShort, IsUncontendedFault, is_uncontended_act, AreUncontended, IsUncontended, IsUnraced, found_earlier, more_fault}
 
 -- the room has one thread; all events that its pass has seen are its own, and none is a knock
 pub record IsAlone (p : PassView) : Type 0 where
@@ -80,49 +81,71 @@ module _ {A : Type 0} (old new : PassView) (f g : Frames) (work : Call A) (alone
       still_so (λ e. may_precede ObjectsFull e.act ≡ true) (λ s. (o : ℕ) → 1 ≤ o → o ≤ new.config.objects → IsPresent s o) (λ s e h all o least most. stays_present ObjectsFull o s e h (all o least most)) old.seen r.begun new.seen r.did.begins
       (refused_since ObjectsFull changes r) r.window.from grounds
 
-  -- a refusal of a call that no other thread causes
-  fault_alone : (turns : ℕ) (command : Command) (e : Fault) → IsUncontendedFault new.last command g e → ChangesNothing work → Ran old new f g work (Err e) → IsAloneFault turns command new g e
-  fault_alone turns command Stale uncontended changes r = tt
-  fault_alone turns command LocalsFull uncontended changes r = uncontended
-  fault_alone turns command NoFrame uncontended changes r = uncontended
-  fault_alone turns command RowFull uncontended changes r = row_is_full changes r
-  fault_alone turns command ObjectsFull uncontended changes r = objects_are_full changes r
-  fault_alone turns command _ uncontended changes r = absurd uncontended
+  space_is_short : (command : Command) (used : ℕ) → ChangesNothing work → (r : Ran old new f g work (Err (SpaceFull used))) → FoundShort command used r.acts → LacksSpace new.config (state new.seen) used command
+  space_is_short command used changes r short =
+      let found = subst (FoundFull short.words used) (sym (mine_did r.acts r.did)) short.found in
+      let is = found_short old.config old.last short.words used old.thread old.seen new.seen r.did.begins r.did.legal (refused_since (SpaceFull used) changes r) found in
+      short.lacks new.config (state new.seen) (subst (λ c. IsShort c (state new.seen) used short.words) (sym r.did.config) is)
 
-module _ {A : Type 0} (command : Command) (last : ℕ) (work : Call A) (uncontended : IsUncontended last command work) where
-  acts_uncontended : (old new : Frames) (acts : List Act) (answer : Result A Fault) → entered work old acts answer new → AreUncontended acts
-  acts_uncontended old new acts answer (inl r) = subst AreUncontended (sym r.0) (refl, (refl, tt))
-  acts_uncontended old new acts answer (inr r) = subst AreUncontended (sym r.1) (refl, append_all (λ a. is_uncontended_act a ≡ true) r.0 (Leave ∷ []) (uncontended.acts old new r.0 answer r.2) (refl, tt))
+  never_raced : (looked found : ℕ) → ChangesNothing work → Ran old new f g work (Err (Raced looked found)) → ⊥
+  never_raced looked found changes r = never_lost old.config old.last old.seen r.begun new looked found r.did.begins r.did.legal (refused_since (Raced looked found) changes r) r.window.from r.grounds
+
+  -- a refusal of a call that no other thread causes
+  fault_alone : (turns : ℕ) (command : Command) (e : Fault) → ChangesNothing work → (r : Ran old new f g work (Err e)) → IsUncontendedFault (state new.seen) new.last command r.acts g e → IsAloneFault turns command new g e
+  fault_alone turns command Null changes r uncontended = uncontended
+  fault_alone turns command Stale changes r uncontended = tt
+  fault_alone turns command WrongKind changes r uncontended = uncontended
+  fault_alone turns command NotArray changes r uncontended = uncontended
+  fault_alone turns command WrongElement changes r uncontended = uncontended
+  fault_alone turns command Range changes r uncontended = uncontended
+  fault_alone turns command LocalsFull changes r uncontended = uncontended
+  fault_alone turns command NoFrame changes r uncontended = uncontended
+  fault_alone turns command RowFull changes r uncontended = row_is_full changes r
+  fault_alone turns command (SpaceFull used) changes r uncontended = space_is_short command used changes r uncontended
+  fault_alone turns command (Raced looked found) changes r uncontended = absurd (never_raced looked found changes r)
+  fault_alone turns command ObjectsFull changes r uncontended = objects_are_full changes r
+  fault_alone turns command _ changes r uncontended = absurd uncontended
+
+module _ {A : Type 0} (s : State) (command : Command) (last : ℕ) (work : Call A) (uncontended : IsUncontended s last command work) where
+  acts_uncontended : (old new : Frames) (acts : List Act) (answer : Result A Fault) → IsUnraced answer → entered work old acts answer new → AreUncontended acts
+  acts_uncontended old new acts answer u (inl r) = subst AreUncontended (sym r.0) (refl, (refl, tt))
+  acts_uncontended old new acts answer u (inr r) = subst AreUncontended (sym r.1) (refl, append_all (λ a. is_uncontended_act a ≡ true) r.0 (Leave ∷ []) (uncontended.acts old new r.0 answer u r.2) (refl, tt))
 
   -- a call that was not barred is refused for what its work is
-  fault_uncontended : (old new : Frames) (acts : List Act) (e : Fault) → AllByRecursion (λ a. a ≢ Knock) acts → entered work old acts (Err e) new → IsUncontendedFault last command new e
+  fault_uncontended : (old new : Frames) (acts : List Act) (e : Fault) → AllByRecursion (λ a. a ≢ Knock) acts → entered work old acts (Err e) new → IsUncontendedFault s last command acts new e
   fault_uncontended old new acts e enters (inl r) = absurd ((subst (AllByRecursion (λ a. a ≢ Knock)) r.0 enters).0 refl)
-  fault_uncontended old new acts e enters (inr r) = uncontended.fault old new r.0 e r.2
+  fault_uncontended old new acts e enters (inr r) =
+      subst (λ (all : List Act). IsUncontendedFault s last command all new e) (sym r.1) (more_fault s last command r.0 (Enter ∷ r.0 ++ Leave ∷ []) (λ n used h. inr (found_earlier n used r.0 (Leave ∷ []) h)) new e (uncontended.fault old new r.0 e r.2))
 
-  module _ (turns : ℕ) (changes : ChangesNothing (entered work)) (old new : PassView) (f g : Frames) (same : old.last ≡ last) (alone : IsAlone new) where
+  unraced : (turns : ℕ) (p : PassView) (f : Frames) (answer : Result A Fault) → IfErr answer (IsAloneFault turns command p f) → IsUnraced answer
+  unraced turns p f (Ok x) h = tt
+  unraced turns p f (Err (Raced looked found)) h = h
+  unraced turns p f (Err _) h = tt
+
+  module _ (turns : ℕ) (changes : ChangesNothing (entered work)) (old new : PassView) (f g : Frames) (same : old.last ≡ last) (now : s ≡ state new.seen) (alone : IsAlone new) where
     ran_fault : (answer : Result A Fault) → Ran old new f g (entered work) answer → IfErr answer (IsAloneFault turns command new g)
     ran_fault (Ok x) r = tt
     ran_fault (Err e) r =
         let enters = all_back (λ (x : Event). x.act ≢ Knock) old.seen r.did.begins.0 (subst (AllByRecursion (λ (x : Event). x.act ≢ Knock)) (sym r.did.begins.1) alone.enters) in
         let acts : AllByRecursion (λ a. a ≢ Knock) r.acts = subst (AllByRecursion (λ a. a ≢ Knock)) (mine_did r.acts r.did) (own_acts (λ a. a ≢ Knock) old.thread r.did.begins.0 enters) in
-        fault_alone old new f g (entered work) alone turns command e (subst (λ n. IsUncontendedFault n command g e) (sym (r.did.last ∙ same)) (fault_uncontended f g r.acts e acts r.is)) changes r
+        fault_alone old new f g (entered work) alone turns command e changes r (subst (λ n. IsUncontendedFault (state new.seen) n command r.acts g e) (sym (r.did.last ∙ same)) (subst (λ x. IsUncontendedFault x last command r.acts g e) now (fault_uncontended f g r.acts e acts r.is)))
 
     ran_alone : (answer : Result A Fault) → Ran old new f g (entered work) answer → LedAlone turns command old new g answer
     ran_alone answer r = record {
       config = r.did.config;
       thread = r.did.thread;
       begins = r.did.begins;
-      uncontended = λ before. subst AllUncontended r.did.begins.1 (append_all (λ e. is_uncontended_act e.act ≡ true) old.seen r.did.begins.0 before (since old new f g (entered work) alone (λ a. is_uncontended_act a ≡ true) answer r (acts_uncontended f g r.acts answer r.is)));
+      uncontended = λ before. subst AllUncontended r.did.begins.1 (append_all (λ e. is_uncontended_act e.act ≡ true) old.seen r.did.begins.0 before (since old new f g (entered work) alone (λ a. is_uncontended_act a ≡ true) answer r (acts_uncontended f g r.acts answer (unraced turns new g answer (ran_fault answer r)) r.is)));
       fault = ran_fault answer r;
     }
 
 -- a call with a stay of its own
-pub call_alone : {A : Type 0} (turns : ℕ) (command : Command) (silent : Config → ℕ) (work : Config → ℕ → ℕ → State → Call A) → ((c : Config) (last t : ℕ) (s : State) → c.threads ≡ 1 → t ≡ 0 → IsUncontended last command (work c last t s)) → ((c : Config) (last t : ℕ) (s : State) → ChangesNothing (entered (work c last t s)))
+pub call_alone : {A : Type 0} (turns : ℕ) (command : Command) (silent : Config → ℕ) (work : Config → ℕ → ℕ → State → Call A) → ((c : Config) (last t : ℕ) (s : State) → c.threads ≡ 1 → t ≡ 0 → IsUncontended s last command (work c last t s)) → ((c : Config) (last t : ℕ) (s : State) → ChangesNothing (entered (work c last t s)))
     → LeadsAlone turns command (call_by silent (λ c last t s. entered (work c last t s)))
 call_alone turns command silent work uncontended changes = record {
   led = λ old new answer alone r.
       let x = ran_of silent (λ c last t s. entered (work c last t s)) old new answer r in
       let now = state new.pass.seen in
-      ran_alone command old.pass.last (work old.pass.config old.pass.last old.pass.thread now) (uncontended old.pass.config old.pass.last old.pass.thread now (ap (λ c. c.threads) (sym x.did.config) ∙ alone.one) (sym x.did.thread ∙ alone.first)) turns
-      (changes old.pass.config old.pass.last old.pass.thread now) old.pass new.pass old.frames new.frames refl alone answer x;
+      ran_alone now command old.pass.last (work old.pass.config old.pass.last old.pass.thread now) (uncontended old.pass.config old.pass.last old.pass.thread now (ap (λ c. c.threads) (sym x.did.config) ∙ alone.one) (sym x.did.thread ∙ alone.first)) turns
+      (changes old.pass.config old.pass.last old.pass.thread now) old.pass new.pass old.frames new.frames refl refl alone answer x;
 }

@@ -23,7 +23,7 @@ plainly : Command
 plainly = commands.Make make.Plain []
 
 free_alone : (turns : ℕ) → LeadsAlone turns plainly free_locals
-free_alone turns = call_alone turns plainly (λ c. 0) (λ c last t s. references.freeing) (λ c last t s one first. freeing_uncontended plainly c last t one first) (λ c last t s. (refusals_change_nothing c last t s).free_locals)
+free_alone turns = call_alone turns plainly (λ c. 0) (λ c last t s. references.freeing) (λ c last t s one first. freeing_uncontended s plainly c last t one first) (λ c last t s. (refusals_change_nothing c last t s).free_locals)
 
 free_answers : (old new : Moment) (answer : Result (Unit {0}) Fault) → free_locals old answer new → (answer ≡ Ok tt) ⊎ (answer ≡ Err Barred)
 free_answers old new answer d = ⊎_elim (λ x. inr x.1) (λ x. inl x.2.1) d.0.ran.is

@@ -1,3 +1,4 @@
+pub mod FormedTries
 pub mod CommandDeeds
 pub mod Retries
 pub mod CommandLoop
@@ -5,6 +6,8 @@ pub mod NameMaps
 pub mod Alone
 pub mod AloneHistories
 pub mod Uncontended
+pub mod UncontendedObjects
+pub mod SpaceAlone
 pub mod AloneCalls
 pub mod AloneDeeds
 pub mod AloneAnswers

@@ -1,55 +1,84 @@
 -- The acts and refusals of the calls of references are uncontended, but for the gate: no lost reservation, and no refusal that another thread causes.
-use Rattle.std.proofs.Common.{◌≡◌, ◌==◌, ◌&&◌, ◌∙◌, ◌<◌, ◌≤◌, inl, inr, ℕ, Bool, true, false, cond, nat_lt, nat_le, length, Option, Some, None, List, [], ◌∷◌, map, Result, Ok, Err, refl, sym, ap, subst, arith, not}
+use Rattle.std.proofs.Common.{◌≡◌, ◌⊎◌, ◌++◌, ◌==◌, ◌&&◌, ◌∙◌, ◌<◌, ◌≤◌, inl, inr, ℕ, zero, suc, Bool, true, false, cond, nat_lt, nat_le, length, replicate, Option, Some, None, List, [], ◌∷◌, map, Result, Ok, Err, refl, sym, ap, subst, arith, not}
 use Rattle.std.proofs.lemmas.Bool.{eqb-true, leb-true}
+use Rattle.std.proofs.lemmas.List.{length-replicate}
 use Rattle.std.proofs.lemmas.Bool.Decides.{nat_tests}
 use Rattle.std.specs.List.{AllByRecursion}
 use Rattle.jr_word.specs.declared.config.Config.{Config}
 use Rattle.jr_word.specs.declared.handle.RefKind.{RefKind}
 use Rattle.jr_word.specs.declared.handle.RefKind.TheVariants.{Local}
-use Rattle.jr_word.specs.declared.kind.Kind.TheVariants.{Plain}
+use Rattle.jr_word.specs.declared.kind.Kind.{Kind}
+use Rattle.jr_word.specs.declared.kind.Kind.TheVariants.{Plain, Objects}
 use Rattle.jr_word.specs.declared.fault.Fault.{Fault}
-use Rattle.jr_word.specs.declared.fault.Fault.TheVariants.{Stale, Foreign, WrongKind, RowFull, LocalsFull, ObjectsFull, NoFrame}
+use Rattle.jr_word.specs.declared.fault.Fault.TheVariants.{Null, Stale, Foreign, WrongKind, NotArray, WrongElement, Range, RowFull, LocalsFull, SpaceFull, ObjectsFull, Raced, NoFrame}
 use Rattle.jr_model.specs.declared.event.Act.{Act}
-use Rattle.jr_model.specs.declared.event.Act.TheVariants.{ReserveLost, Create, Look, Probe, Delete, DeleteStale, LocalPut, LocalDrop, New}
+use Rattle.jr_model.specs.declared.event.Act.TheVariants.{Reserve, ReserveFull, ReserveLost, Create, Look, Probe, Delete, DeleteStale, LocalPut, LocalDrop, New}
 use Rattle.jr_model.specs.declared.event.Found.{Found}
 use Rattle.jr_model.specs.declared.event.Found.TheVariants as found
-use Rattle.jr_model.specs.State.{Handle}
+use Rattle.jr_model.specs.State.{Handle, State}
 use Rattle.jr_model.specs.declared.frames.TheConstants.{FRAMES}
 use Rattle.jr_model.specs.declared.frames.LocalRef.{LocalRef}
 use Rattle.jr_model.specs.Frames.{Frames, all_refs, drop_all, free_places, last_frame, object_of, popped}
 use Rattle.jr_model.specs.Calls.{Call, ◌>>=◌, done, refuse, refuse_if, act, some_act, one_of}
-use Rattle.jr_model.specs.Checks.{Word, Nothing, Malformed, Parts, is_local, type_local, is_out_of_bounds, is_of_kind, is_foreign}
-use Rattle.jr_model.specs.Parts.{created, create, created_with, delete_at, delete_found, delete_local_at, drop_local, found_object, frame_to_pop, local_object, look, looked, looked_at, new_frame, probes, publish, take_frame, type_at}
-use Rattle.jr_model.specs.References.{added, comparison, creation, ensure_local_capacity, freeing, local_creation, local_removal, making, new_local, popping, push_local_frame, removal, resolved, resolved_both, room_after, room_for, typing}
+use Rattle.jr_model.specs.Checks.{Word, Nothing, Malformed, Parts, is_local, type_local, is_out_of_bounds, is_of_kind, is_foreign, element_word}
+use Rattle.jr_model.specs.Parts.{created, create, created_with, delete_at, delete_found, delete_local_at, drop_local, found_object, frame_to_pop, local_object, look, looked, looked_at, new_frame, probes, publish, reserve, take_frame, type_at}
+use Rattle.jr_model.specs.References.{added, array_making, comparison, creation, ensure_local_capacity, freeing, local_creation, local_removal, made, making, new_local, popping, push_local_frame, removal, resolved, resolved_both, room_after, room_for, typing}
 use Rattle.jr_model.proofs.Exactly.{append_all}
 use Rattle.jr_syntax.specs.declared.name.Reference.{Reference}
 use Rattle.jr_syntax.specs.declared.command.Command.{Command}
 use Rattle.jr_syntax.specs.declared.command.Command.TheVariants as commands
 use Rattle.jr_syntax.specs.declared.verb.MakeFrom.TheVariants as make_from
 use Rattle.jr_syntax.specs.declared.verb.WithCount.TheVariants as with_count
-use Rattle.jr_scripts.specs.AloneAnswers.{LacksRoom, LacksFrame}
+use Rattle.jr_scripts.specs.AloneAnswers.{IsShort, LacksArray, LacksElements, LacksFrame, LacksIndex, LacksRoom, LacksSpace, LacksText, WantsObject}
 
 -- an act that no other thread causes: no reservation that was lost
 abbrev pub is_uncontended_act : Act → Bool
 is_uncontended_act (ReserveLost n looked found) = false
 is_uncontended_act _ = true
 
--- a refusal of a command that no other thread causes; where it says that there is no room in the frames or no frame, so it is
-abbrev pub IsUncontendedFault : ℕ → Command → Frames → Fault → Type 0
-IsUncontendedFault last command f Stale = Unit {0}
-IsUncontendedFault last command f LocalsFull = LacksRoom last command f
-IsUncontendedFault last command f NoFrame = LacksFrame command f
-IsUncontendedFault last command f RowFull = Unit {0}
-IsUncontendedFault last command f ObjectsFull = Unit {0}
-IsUncontendedFault last command f _ = ⊥
+-- an act of this space for n words, of which so many were used
+abbrev pub FoundFull : ℕ → ℕ → List Act → Type 0
+FoundFull n used [] = ⊥
+FoundFull n used (a ∷ acts) = (a ≡ ReserveFull n used) ⊎ FoundFull n used acts
+
+-- where n words are too many, the command lacks space
+abbrev pub MayLack : Command → ℕ → Type 0
+MayLack command n = (used : ℕ) (c : Config) (s : State) → IsShort c s used n → LacksSpace c s used command
+
+-- what the acts found to be full is too short for the command
+pub record FoundShort (command : Command) (used : ℕ) (acts : List Act) : Type 0 where
+  pub words : ℕ
+  pub found : FoundFull words used acts
+  pub lacks : (c : Config) (s : State) → IsShort c s used words → LacksSpace c s used command
+
+-- a refusal of a command that no other thread causes, or a lost reservation; where it says that there is no room in the frames or no frame, or what it found among the objects of s, so it is
+abbrev pub IsUncontendedFault : State → ℕ → Command → List Act → Frames → Fault → Type 0
+IsUncontendedFault s last command acts f Null = WantsObject command
+IsUncontendedFault s last command acts f Stale = Unit {0}
+IsUncontendedFault s last command acts f WrongKind = LacksText s command
+IsUncontendedFault s last command acts f NotArray = LacksArray s command
+IsUncontendedFault s last command acts f WrongElement = LacksElements s command
+IsUncontendedFault s last command acts f Range = LacksIndex s command
+IsUncontendedFault s last command acts f LocalsFull = LacksRoom last command f
+IsUncontendedFault s last command acts f NoFrame = LacksFrame command f
+IsUncontendedFault s last command acts f RowFull = Unit {0}
+IsUncontendedFault s last command acts f (SpaceFull used) = FoundShort command used acts
+IsUncontendedFault s last command acts f ObjectsFull = Unit {0}
+IsUncontendedFault s last command acts f (Raced l found) = Unit {0}
+IsUncontendedFault s last command acts f _ = ⊥
+
+-- the answer is not that a reservation was lost
+abbrev pub IsUnraced : {A : Type 0} → Result A Fault → Type 0
+IsUnraced (Err (Raced l found)) = ⊥
+IsUnraced _ = Unit {0}
 
 abbrev pub AreUncontended : List Act → Type 0
 AreUncontended acts = AllByRecursion (λ a. is_uncontended_act a ≡ true) acts
 
--- the call has no other acts, and no other refusals of the command that makes it
-pub record IsUncontended (last : ℕ) (command : Command) {A : Type 0} (call : Call A) : Type 0 where
-  pub acts : (old new : Frames) (acts : List Act) (answer : Result A Fault) → call old acts answer new → AreUncontended acts
-  pub fault : (old new : Frames) (acts : List Act) (e : Fault) → call old acts (Err e) new → IsUncontendedFault last command new e
+-- the call has no other acts unless it lost a reservation, and no other refusals of the command that makes it
+pub record IsUncontended (s : State) (last : ℕ) (command : Command) {A : Type 0} (call : Call A) : Type 0 where
+  pub acts : (old new : Frames) (acts : List Act) (answer : Result A Fault) → IsUnraced answer → call old acts answer new → AreUncontended acts
+  pub fault : (old new : Frames) (acts : List Act) (e : Fault) → call old acts (Err e) new → IsUncontendedFault s last command acts new e
 
 no_acts : {acts : List Act} → acts ≡ [] → AreUncontended acts
 no_acts is = subst AreUncontended (sym is) tt
@@ -60,8 +89,40 @@ one_act a uncontended is = subst AreUncontended (sym is) (uncontended, tt)
 same_fault : {A : Type 0} (e e' : Fault) → ◌≡◌ {A = Result A Fault} (Err e) (Err e') → e ≡ e'
 same_fault e e' is = cc
 
-same_fault_of : {A : Type 0} (last : ℕ) (command : Command) (f : Frames) (e e' : Fault) → ◌≡◌ {A = Result A Fault} (Err e) (Err e') → IsUncontendedFault last command f e' → IsUncontendedFault last command f e
-same_fault_of {A} last command f e e' is uncontended = subst (IsUncontendedFault last command f) (sym (same_fault {A = A} e e' is)) uncontended
+same_fault_of : {A : Type 0} (s : State) (last : ℕ) (command : Command) (acts : List Act) (f : Frames) (e e' : Fault) → ◌≡◌ {A = Result A Fault} (Err e) (Err e') → IsUncontendedFault s last command acts f e' → IsUncontendedFault s last command acts f e
+same_fault_of {A} s last command acts f e e' is uncontended = subst (IsUncontendedFault s last command acts f) (sym (same_fault {A = A} e e' is)) uncontended
+
+same_unraced : (A : Type 0) {B : Type 0} (answer : Result B Fault) (e : Fault) → answer ≡ Err e → IsUnraced answer → IsUnraced {A = A} (Err e)
+same_unraced A {B} answer e is unraced = go e (subst (IsUnraced {A = B}) is unraced)
+  where
+    go : (e : Fault) → IsUnraced {A = B} (Err e) → IsUnraced {A = A} (Err e)
+    go (Raced l found) u = u
+    go _ u = tt
+
+-- what was found full before is so among more acts
+found_later : (n used : ℕ) (front rest : List Act) → FoundFull n used rest → FoundFull n used (front ++ rest)
+found_later n used [] rest h = h
+found_later n used (a ∷ front) rest h = inr (found_later n used front rest h)
+
+pub found_earlier : (n used : ℕ) (front rest : List Act) → FoundFull n used front → FoundFull n used (front ++ rest)
+found_earlier n used [] rest h = absurd h
+found_earlier n used (a ∷ front) rest (inl is) = inl is
+found_earlier n used (a ∷ front) rest (inr h) = inr (found_earlier n used front rest h)
+
+pub more_fault : (s : State) (last : ℕ) (command : Command) (some whole : List Act) → ((n used : ℕ) → FoundFull n used some → FoundFull n used whole) → (f : Frames) (e : Fault) → IsUncontendedFault s last command some f e → IsUncontendedFault s last command whole f e
+more_fault s last command some whole found f (SpaceFull used) h = record { words = h.words; found = found h.words used h.found; lacks = h.lacks }
+more_fault s last command some whole found f Null h = h
+more_fault s last command some whole found f Stale h = h
+more_fault s last command some whole found f WrongKind h = h
+more_fault s last command some whole found f NotArray h = h
+more_fault s last command some whole found f WrongElement h = h
+more_fault s last command some whole found f Range h = h
+more_fault s last command some whole found f LocalsFull h = h
+more_fault s last command some whole found f NoFrame h = h
+more_fault s last command some whole found f RowFull h = h
+more_fault s last command some whole found f ObjectsFull h = h
+more_fault s last command some whole found f (Raced l g) h = h
+more_fault s last command some whole found f _ h = absurd h
 
 all_probes : (looks : List (ℕ × Bool)) → AreUncontended (map (λ l. Probe l.0 l.1) looks)
 all_probes [] = tt
@@ -71,124 +132,129 @@ all_dropped : (rs : List LocalRef) → AreUncontended (drop_all rs)
 all_dropped [] = tt
 all_dropped (r ∷ rs) = (refl, all_dropped rs)
 
-passed : (b : Bool) (e : Fault) (old mid : Frames) (acts : List Act) (x : Unit {0}) → refuse_if b e old acts (Ok x) mid → b ≡ false
+pub passed : (b : Bool) (e : Fault) (old mid : Frames) (acts : List Act) (x : Unit {0}) → refuse_if b e old acts (Ok x) mid → b ≡ false
 passed true e old mid acts x r = let bad = r.1 in cc
 passed false e old mid acts x r = refl
 
-module _ {last : ℕ} {command : Command} where
-  done_uncontended : {A : Type 0} (x : A) → IsUncontended last command (done x)
-  done_uncontended x = record { acts = λ old new acts answer r. no_acts r.0; fault = λ old new acts e r. let bad = r.1 in cc }
+module _ {s : State} {last : ℕ} {command : Command} where
+  pub done_uncontended : {A : Type 0} (x : A) → IsUncontended s last command (done x)
+  done_uncontended x = record { acts = λ old new acts answer u r. no_acts r.0; fault = λ old new acts e r. let bad = r.1 in cc }
 
-  refuse_uncontended : {A : Type 0} (e : Fault) → ((f : Frames) → IsUncontendedFault last command f e) → IsUncontended last command (refuse {A = A} e)
-  refuse_uncontended {A} e uncontended = record { acts = λ old new acts answer r. no_acts r.0; fault = λ old new acts x r. same_fault_of {A = A} last command new x e r.1 (uncontended new) }
+  pub refuse_uncontended : {A : Type 0} (e : Fault) → ((acts : List Act) (f : Frames) → IsUncontendedFault s last command acts f e) → IsUncontended s last command (refuse {A = A} e)
+  refuse_uncontended {A} e uncontended = record { acts = λ old new acts answer u r. no_acts r.0; fault = λ old new acts x r. same_fault_of {A = A} s last command acts new x e r.1 (uncontended acts new) }
 
-  refuse_if_uncontended : (b : Bool) (e : Fault) → ((f : Frames) → IsUncontendedFault last command f e) → IsUncontended last command (refuse_if b e)
+  pub refuse_if_uncontended : (b : Bool) (e : Fault) → ((acts : List Act) (f : Frames) → IsUncontendedFault s last command acts f e) → IsUncontended s last command (refuse_if b e)
   refuse_if_uncontended true e uncontended = refuse_uncontended e uncontended
   refuse_if_uncontended false e uncontended = done_uncontended tt
 
-  act_uncontended : (a : Act) → is_uncontended_act a ≡ true → IsUncontended last command (act a)
-  act_uncontended a uncontended = record { acts = λ old new acts answer r. one_act a uncontended r.0; fault = λ old new acts e r. let bad = r.1 in cc }
+  -- the same, where the refusal rests on the test
+  pub refuse_when_uncontended : (b : Bool) (e : Fault) → (b ≡ true → (acts : List Act) (f : Frames) → IsUncontendedFault s last command acts f e) → IsUncontended s last command (refuse_if b e)
+  refuse_when_uncontended true e uncontended = refuse_uncontended e (uncontended refl)
+  refuse_when_uncontended false e uncontended = done_uncontended tt
 
-  some_act_uncontended : {X : Type 0} (f : X → Act) → ((x : X) → is_uncontended_act (f x) ≡ true) → IsUncontended last command (some_act f)
-  some_act_uncontended f uncontended = record { acts = λ old new acts answer r. one_act (f r.0) (uncontended r.0) r.1; fault = λ old new acts e r. let bad = r.2 in cc }
+  pub act_uncontended : (a : Act) → is_uncontended_act a ≡ true → IsUncontended s last command (act a)
+  act_uncontended a uncontended = record { acts = λ old new acts answer u r. one_act a uncontended r.0; fault = λ old new acts e r. let bad = r.1 in cc }
+
+  pub some_act_uncontended : {X : Type 0} (f : X → Act) → ((x : X) → is_uncontended_act (f x) ≡ true) → IsUncontended s last command (some_act f)
+  some_act_uncontended f uncontended = record { acts = λ old new acts answer u r. one_act (f r.0) (uncontended r.0) r.1; fault = λ old new acts e r. let bad = r.2 in cc }
 
   -- one and then the other, whose words may rest on what the one answered
-  bind_uncontended_then : {A B : Type 0} {first : Call A} {next : A → Call B} → IsUncontended last command first → ((old mid : Frames) (acts : List Act) (x : A) → first old acts (Ok x) mid → IsUncontended last command (next x)) → IsUncontended last command (first >>= next)
+  pub bind_uncontended_then : {A B : Type 0} {first : Call A} {next : A → Call B} → IsUncontended s last command first → ((old mid : Frames) (acts : List Act) (x : A) → first old acts (Ok x) mid → IsUncontended s last command (next x)) → IsUncontended s last command (first >>= next)
   bind_uncontended_then {A} {B} {first} {next} p q = record { acts = acts_of; fault = fault_of }
     where
-      acts_of : (old new : Frames) (acts : List Act) (answer : Result B Fault) → (first >>= next) old acts answer new → AreUncontended acts
-      acts_of old new acts answer (inl r) = subst AreUncontended (sym r.4) (append_all (λ a. is_uncontended_act a ≡ true) r.2 r.3 (p.acts old r.1 r.2 (Ok r.0) r.5) ((q old r.1 r.2 r.0 r.5).acts r.1 new r.3 answer r.6))
-      acts_of old new acts answer (inr r) = p.acts old new acts (Err r.0) r.2
+      acts_of : (old new : Frames) (acts : List Act) (answer : Result B Fault) → IsUnraced answer → (first >>= next) old acts answer new → AreUncontended acts
+      acts_of old new acts answer u (inl r) = subst AreUncontended (sym r.4) (append_all (λ a. is_uncontended_act a ≡ true) r.2 r.3 (p.acts old r.1 r.2 (Ok r.0) tt r.5) ((q old r.1 r.2 r.0 r.5).acts r.1 new r.3 answer u r.6))
+      acts_of old new acts answer u (inr r) = p.acts old new acts (Err r.0) (same_unraced A answer r.0 r.1 u) r.2
 
-      fault_of : (old new : Frames) (acts : List Act) (e : Fault) → (first >>= next) old acts (Err e) new → IsUncontendedFault last command new e
-      fault_of old new acts e (inl r) = (q old r.1 r.2 r.0 r.5).fault r.1 new r.3 e r.6
-      fault_of old new acts e (inr r) = same_fault_of {A = B} last command new e r.0 r.1 (p.fault old new acts r.0 r.2)
+      fault_of : (old new : Frames) (acts : List Act) (e : Fault) → (first >>= next) old acts (Err e) new → IsUncontendedFault s last command acts new e
+      fault_of old new acts e (inl r) = subst (λ (all : List Act). IsUncontendedFault s last command all new e) (sym r.4) (more_fault s last command r.3 (r.2 ++ r.3) (λ n used. found_later n used r.2 r.3) new e ((q old r.1 r.2 r.0 r.5).fault r.1 new r.3 e r.6))
+      fault_of old new acts e (inr r) = same_fault_of {A = B} s last command acts new e r.0 r.1 (p.fault old new acts r.0 r.2)
 
-  bind_uncontended : {A B : Type 0} {first : Call A} {next : A → Call B} → IsUncontended last command first → ((x : A) → IsUncontended last command (next x)) → IsUncontended last command (first >>= next)
+  pub bind_uncontended : {A B : Type 0} {first : Call A} {next : A → Call B} → IsUncontended s last command first → ((x : A) → IsUncontended s last command (next x)) → IsUncontended s last command (first >>= next)
   bind_uncontended p q = bind_uncontended_then p (λ old mid acts x r. q x)
 
   -- a test, and what follows where it does not refuse
-  unless_uncontended : {B : Type 0} {next : Unit {0} → Call B} (b : Bool) (e : Fault) → ((f : Frames) → IsUncontendedFault last command f e) → ((x : Unit {0}) → b ≡ false → IsUncontended last command (next x)) → IsUncontended last command (refuse_if b e >>= next)
+  unless_uncontended : {B : Type 0} {next : Unit {0} → Call B} (b : Bool) (e : Fault) → ((acts : List Act) (f : Frames) → IsUncontendedFault s last command acts f e) → ((x : Unit {0}) → b ≡ false → IsUncontended s last command (next x)) → IsUncontended s last command (refuse_if b e >>= next)
   unless_uncontended b e fit q = bind_uncontended_then (refuse_if_uncontended b e fit) (λ old mid acts x r. q x (passed b e old mid acts x r))
 
   -- a test that does not refuse, and what follows
-  passes_uncontended : {B : Type 0} {next : Unit {0} → Call B} (b : Bool) (e : Fault) → b ≡ false → ((x : Unit {0}) → IsUncontended last command (next x)) → IsUncontended last command (refuse_if b e >>= next)
+  passes_uncontended : {B : Type 0} {next : Unit {0} → Call B} (b : Bool) (e : Fault) → b ≡ false → ((x : Unit {0}) → IsUncontended s last command (next x)) → IsUncontended s last command (refuse_if b e >>= next)
   passes_uncontended false e is q = bind_uncontended (done_uncontended tt) q
   passes_uncontended true e is q = absurd cc
 
-  one_of_uncontended : {A : Type 0} {p q : Call A} → IsUncontended last command p → IsUncontended last command q → IsUncontended last command (one_of p q)
+  one_of_uncontended : {A : Type 0} {p q : Call A} → IsUncontended s last command p → IsUncontended s last command q → IsUncontended s last command (one_of p q)
   one_of_uncontended {A} {p} {q} a b = record { acts = acts_of; fault = fault_of }
     where
-      acts_of : (old new : Frames) (acts : List Act) (answer : Result A Fault) → one_of p q old acts answer new → AreUncontended acts
-      acts_of old new acts answer (inl r) = a.acts old new acts answer r
-      acts_of old new acts answer (inr r) = b.acts old new acts answer r
+      acts_of : (old new : Frames) (acts : List Act) (answer : Result A Fault) → IsUnraced answer → one_of p q old acts answer new → AreUncontended acts
+      acts_of old new acts answer u (inl r) = a.acts old new acts answer u r
+      acts_of old new acts answer u (inr r) = b.acts old new acts answer u r
 
-      fault_of : (old new : Frames) (acts : List Act) (e : Fault) → one_of p q old acts (Err e) new → IsUncontendedFault last command new e
+      fault_of : (old new : Frames) (acts : List Act) (e : Fault) → one_of p q old acts (Err e) new → IsUncontendedFault s last command acts new e
       fault_of old new acts e (inl r) = a.fault old new acts e r
       fault_of old new acts e (inr r) = b.fault old new acts e r
 
-  cond_uncontended : {A : Type 0} (b : Bool) {p q : Call A} → IsUncontended last command p → IsUncontended last command q → IsUncontended last command (cond b p q)
+  cond_uncontended : {A : Type 0} (b : Bool) {p q : Call A} → IsUncontended s last command p → IsUncontended s last command q → IsUncontended s last command (cond b p q)
   cond_uncontended true p q = p
   cond_uncontended false p q = q
 
   -- a call that asks the frames
-  framed_uncontended : {A : Type 0} (call : Frames → Call A) → ((f : Frames) → IsUncontended last command (call f)) → IsUncontended last command (λ old. call old old)
-  framed_uncontended call q = record { acts = λ old new acts answer r. (q old).acts old new acts answer r; fault = λ old new acts e r. (q old).fault old new acts e r }
+  framed_uncontended : {A : Type 0} (call : Frames → Call A) → ((f : Frames) → IsUncontended s last command (call f)) → IsUncontended s last command (λ old. call old old)
+  framed_uncontended call q = record { acts = λ old new acts answer u r. (q old).acts old new acts answer u r; fault = λ old new acts e r. (q old).fault old new acts e r }
 
   -- PARTS
 
-  local_uncontended : (o : Option ℕ) → IsUncontended last command (local_object o)
+  local_uncontended : (o : Option ℕ) → IsUncontended s last command (local_object o)
   local_uncontended (Some o) = done_uncontended (Some o)
-  local_uncontended None = refuse_uncontended _ (λ f. tt)
+  local_uncontended None = refuse_uncontended _ (λ acts f. tt)
 
-  found_uncontended : (r : Found) → IsUncontended last command (found_object r)
+  found_uncontended : (r : Found) → IsUncontended s last command (found_object r)
   found_uncontended (found.Object o) = done_uncontended (Some o)
   found_uncontended found.Cleared = done_uncontended None
-  found_uncontended found.Stale = refuse_uncontended _ (λ f. tt)
+  found_uncontended found.Stale = refuse_uncontended _ (λ acts f. tt)
 
-  look_uncontended : (h : Handle) → IsUncontended last command (look h)
+  look_uncontended : (h : Handle) → IsUncontended s last command (look h)
   look_uncontended h = some_act_uncontended (Look h) (λ r. refl)
 
-  looked_at_uncontended : (h : Handle) → IsUncontended last command (looked_at h)
+  looked_at_uncontended : (h : Handle) → IsUncontended s last command (looked_at h)
   looked_at_uncontended h = cond_uncontended (is_local h) (framed_uncontended (λ old. local_object (object_of old h)) (λ f. local_uncontended (object_of f h))) (bind_uncontended (look_uncontended h) found_uncontended)
 
-  looked_uncontended : (a : Word) → IsUncontended last command (looked a)
+  looked_uncontended : (a : Word) → IsUncontended s last command (looked a)
   looked_uncontended Nothing = done_uncontended None
   looked_uncontended Malformed = done_uncontended None
   looked_uncontended (Parts h) = looked_at_uncontended h
 
-  type_uncontended : (a : Word) → IsUncontended last command (type_at a)
+  type_uncontended : (a : Word) → IsUncontended s last command (type_at a)
   type_uncontended Nothing = done_uncontended 0
   type_uncontended Malformed = done_uncontended 0
   type_uncontended (Parts h) = cond_uncontended (is_local h) (framed_uncontended (λ old. done (type_local (object_of old h))) (λ f. done_uncontended (type_local (object_of f h)))) (bind_uncontended (look_uncontended h) (λ r. done_uncontended _))
 
-  probes_uncontended : IsUncontended last command probes
-  probes_uncontended = record { acts = λ old new acts answer r. subst AreUncontended (sym r.1) (all_probes r.0); fault = λ old new acts e r. let bad = r.2 in cc }
+  probes_uncontended : IsUncontended s last command probes
+  probes_uncontended = record { acts = λ old new acts answer u r. subst AreUncontended (sym r.1) (all_probes r.0); fault = λ old new acts e r. let bad = r.2 in cc }
 
-  created_with_uncontended : (k : RefKind) (o : ℕ) → IsUncontended last command (created_with k o)
-  created_with_uncontended k o = record { acts = λ old new acts answer r. one_act (Create r.0 o) refl r.2; fault = λ old new acts e r. let bad = r.3 in cc }
+  created_with_uncontended : (k : RefKind) (o : ℕ) → IsUncontended s last command (created_with k o)
+  created_with_uncontended k o = record { acts = λ old new acts answer u r. one_act (Create r.0 o) refl r.2; fault = λ old new acts e r. let bad = r.3 in cc }
 
-  create_uncontended : (k : RefKind) (o : ℕ) → IsUncontended last command (create k o)
-  create_uncontended k o = bind_uncontended probes_uncontended (λ x. one_of_uncontended (created_with_uncontended k o) (refuse_uncontended RowFull (λ f. tt)))
+  create_uncontended : (k : RefKind) (o : ℕ) → IsUncontended s last command (create k o)
+  create_uncontended k o = bind_uncontended probes_uncontended (λ x. one_of_uncontended (created_with_uncontended k o) (refuse_uncontended RowFull (λ acts f. tt)))
 
-  created_uncontended : (k : RefKind) (o : Option ℕ) → IsUncontended last command (created k o)
+  created_uncontended : (k : RefKind) (o : Option ℕ) → IsUncontended s last command (created k o)
   created_uncontended k None = done_uncontended None
   created_uncontended k (Some o) = bind_uncontended (create_uncontended k o) (λ h. done_uncontended (Some h))
 
-  delete_found_uncontended : (h : Handle) (r : Found) → IsUncontended last command (delete_found h r)
-  delete_found_uncontended h found.Stale = refuse_uncontended _ (λ f. tt)
-  delete_found_uncontended h (found.Object o) = one_of_uncontended (act_uncontended (Delete h) refl) (bind_uncontended (act_uncontended (DeleteStale h) refl) (λ x. refuse_uncontended _ (λ f. tt)))
-  delete_found_uncontended h found.Cleared = one_of_uncontended (act_uncontended (Delete h) refl) (bind_uncontended (act_uncontended (DeleteStale h) refl) (λ x. refuse_uncontended _ (λ f. tt)))
+  delete_found_uncontended : (h : Handle) (r : Found) → IsUncontended s last command (delete_found h r)
+  delete_found_uncontended h found.Stale = refuse_uncontended _ (λ acts f. tt)
+  delete_found_uncontended h (found.Object o) = one_of_uncontended (act_uncontended (Delete h) refl) (bind_uncontended (act_uncontended (DeleteStale h) refl) (λ x. refuse_uncontended _ (λ acts f. tt)))
+  delete_found_uncontended h found.Cleared = one_of_uncontended (act_uncontended (Delete h) refl) (bind_uncontended (act_uncontended (DeleteStale h) refl) (λ x. refuse_uncontended _ (λ acts f. tt)))
 
-  delete_at_uncontended : (a : Word) → IsUncontended last command (delete_at a)
+  delete_at_uncontended : (a : Word) → IsUncontended s last command (delete_at a)
   delete_at_uncontended Nothing = done_uncontended tt
   delete_at_uncontended Malformed = done_uncontended tt
   delete_at_uncontended (Parts h) = bind_uncontended (look_uncontended h) (delete_found_uncontended h)
 
-  drop_uncontended : (h : Handle) → IsUncontended last command (drop_local h)
-  drop_uncontended h = record { acts = λ old new acts answer r. one_act (LocalDrop h.index) refl r.0; fault = λ old new acts e r. let bad = r.1 in cc }
+  drop_uncontended : (h : Handle) → IsUncontended s last command (drop_local h)
+  drop_uncontended h = record { acts = λ old new acts answer u r. one_act (LocalDrop h.index) refl r.0; fault = λ old new acts e r. let bad = r.1 in cc }
 
-  delete_local_at_uncontended : (a : Word) → IsUncontended last command (delete_local_at a)
+  delete_local_at_uncontended : (a : Word) → IsUncontended s last command (delete_local_at a)
   delete_local_at_uncontended Nothing = done_uncontended tt
   delete_local_at_uncontended Malformed = done_uncontended tt
   delete_local_at_uncontended (Parts h) = bind_uncontended (looked_at_uncontended h) (λ x. drop_uncontended h)
@@ -209,75 +275,116 @@ not_foreign c t (Parts h) one first inside = go (is_local h) inside
     go true is = inside_owner (nat_lt h.index c.locals) h.owner c.threads t one first is
     go false is = refl
 
-module _ (command : Command) (c : Config) (last thread : ℕ) (one : c.threads ≡ 1) (first : thread ≡ 0) where
-  resolved_uncontended : (a : Word) → IsUncontended last command (resolved c last thread a)
+module _ (s : State) (command : Command) (c : Config) (last thread : ℕ) (one : c.threads ≡ 1) (first : thread ≡ 0) where
+  pub resolved_uncontended : (a : Word) → IsUncontended s last command (resolved c last thread a)
   resolved_uncontended a =
-      bind_uncontended (refuse_if_uncontended _ Stale (λ f. tt)) (λ x. unless_uncontended (is_out_of_bounds c a) Stale (λ f. tt) (λ y inside.
+      bind_uncontended (refuse_if_uncontended _ Stale (λ acts f. tt)) (λ x. unless_uncontended (is_out_of_bounds c a) Stale (λ acts f. tt) (λ y inside.
       passes_uncontended (is_foreign thread a) Foreign (not_foreign c thread a one first inside) (λ z. looked_uncontended a)))
 
-  both_uncontended : (a b : Word) → IsUncontended last command (resolved_both c last thread a b)
+  pub both_uncontended : (a b : Word) → IsUncontended s last command (resolved_both c last thread a b)
   both_uncontended a b =
-      bind_uncontended (refuse_if_uncontended _ Stale (λ f. tt)) (λ x1. bind_uncontended (refuse_if_uncontended _ Stale (λ f. tt)) (λ x2.
-      unless_uncontended (is_out_of_bounds c a) Stale (λ f. tt) (λ x3 in_a. unless_uncontended (is_out_of_bounds c b) Stale (λ f. tt) (λ x4 in_b.
+      bind_uncontended (refuse_if_uncontended _ Stale (λ acts f. tt)) (λ x1. bind_uncontended (refuse_if_uncontended _ Stale (λ acts f. tt)) (λ x2.
+      unless_uncontended (is_out_of_bounds c a) Stale (λ acts f. tt) (λ x3 in_a. unless_uncontended (is_out_of_bounds c b) Stale (λ acts f. tt) (λ x4 in_b.
       passes_uncontended (is_foreign thread a) Foreign (not_foreign c thread a one first in_a) (λ x5. passes_uncontended (is_foreign thread b) Foreign (not_foreign c thread b one first in_b) (λ x6.
       bind_uncontended (looked_uncontended a) (λ x. bind_uncontended (looked_uncontended b) (λ y. done_uncontended _))))))))
 
   room_refused : (f : Frames) → nat_lt (free_places last f) 1 ≡ true → free_places last f ≡ 0
   room_refused f less = grind (arith, nat_tests)
 
-  room_uncontended : ((f : Frames) → free_places last f ≡ 0 → LacksRoom last command f) → IsUncontended last command (room_for c last thread 1)
+  room_uncontended : ((f : Frames) → free_places last f ≡ 0 → LacksRoom last command f) → IsUncontended s last command (room_for c last thread 1)
   room_uncontended full = record { acts = acts_of; fault = fault_of }
     where
       acts_at : (b : Bool) (old new : Frames) (acts : List Act) (answer : Result (Unit {0}) Fault) → refuse_if b LocalsFull old acts answer new → AreUncontended acts
       acts_at true old new acts answer r = no_acts r.0
       acts_at false old new acts answer r = no_acts r.0
 
-      acts_of : (old new : Frames) (acts : List Act) (answer : Result (Unit {0}) Fault) → room_for c last thread 1 old acts answer new → AreUncontended acts
-      acts_of old new acts answer r = acts_at (nat_lt (free_places last old) 1) old new acts answer r
+      acts_of : (old new : Frames) (acts : List Act) (answer : Result (Unit {0}) Fault) → IsUnraced answer → room_for c last thread 1 old acts answer new → AreUncontended acts
+      acts_of old new acts answer u r = acts_at (nat_lt (free_places last old) 1) old new acts answer r
 
-      fault_at : (b : Bool) (old new : Frames) (acts : List Act) (e : Fault) → nat_lt (free_places last old) 1 ≡ b → refuse_if b LocalsFull old acts (Err e) new → IsUncontendedFault last command new e
-      fault_at true old new acts e less r = same_fault_of {A = Unit {0}} last command new e LocalsFull r.1 (full new (subst (λ f. free_places last f ≡ 0) (sym r.2) (room_refused old less)))
+      fault_at : (b : Bool) (old new : Frames) (acts : List Act) (e : Fault) → nat_lt (free_places last old) 1 ≡ b → refuse_if b LocalsFull old acts (Err e) new → IsUncontendedFault s last command acts new e
+      fault_at true old new acts e less r = same_fault_of {A = Unit {0}} s last command acts new e LocalsFull r.1 (full new (subst (λ f. free_places last f ≡ 0) (sym r.2) (room_refused old less)))
       fault_at false old new acts e less r = let bad = r.1 in cc
 
-      fault_of : (old new : Frames) (acts : List Act) (e : Fault) → room_for c last thread 1 old acts (Err e) new → IsUncontendedFault last command new e
+      fault_of : (old new : Frames) (acts : List Act) (e : Fault) → room_for c last thread 1 old acts (Err e) new → IsUncontendedFault s last command acts new e
       fault_of old new acts e r = fault_at (nat_lt (free_places last old) 1) old new acts e refl r
 
-  added_uncontended : (o : ℕ) → IsUncontended last command (added c last thread o)
-  added_uncontended o = record { acts = λ old new acts answer r. one_act (LocalPut r.0.index o) refl r.1; fault = λ old new acts e r. let bad = r.2 in cc }
+  added_uncontended : (o : ℕ) → IsUncontended s last command (added c last thread o)
+  added_uncontended o = record { acts = λ old new acts answer u r. one_act (LocalPut r.0.index o) refl r.1; fault = λ old new acts e r. let bad = r.2 in cc }
 
-  new_local_uncontended : ((f : Frames) → free_places last f ≡ 0 → LacksRoom last command f) → (o : Option ℕ) → IsUncontended last command (new_local c last thread o)
+  pub new_local_uncontended : ((f : Frames) → free_places last f ≡ 0 → LacksRoom last command f) → (o : Option ℕ) → IsUncontended s last command (new_local c last thread o)
   new_local_uncontended full None = done_uncontended None
   new_local_uncontended full (Some o) = bind_uncontended (room_uncontended full) (λ x. bind_uncontended (added_uncontended o) (λ h. done_uncontended (Some h)))
 
-  pub freeing_uncontended : IsUncontended last command freeing
-  freeing_uncontended = record { acts = λ old new acts answer r. subst AreUncontended (sym r.0) (all_dropped (all_refs old)); fault = λ old new acts e r. let bad = r.1 in cc }
+  pub freeing_uncontended : IsUncontended s last command freeing
+  freeing_uncontended = record { acts = λ old new acts answer u r. subst AreUncontended (sym r.0) (all_dropped (all_refs old)); fault = λ old new acts e r. let bad = r.1 in cc }
 
-  publish_uncontended : IsUncontended last command (publish Plain [])
-  publish_uncontended = one_of_uncontended (some_act_uncontended (λ o. New o Plain []) (λ o. refl)) (refuse_uncontended ObjectsFull (λ f. tt))
+  publish_uncontended : (k : Kind) (ws : List ℕ) → IsUncontended s last command (publish k ws)
+  publish_uncontended k ws = one_of_uncontended (some_act_uncontended (λ o. New o k ws) (λ o. refl)) (refuse_uncontended ObjectsFull (λ acts f. tt))
 
-  pub making_uncontended : ((f : Frames) → free_places last f ≡ 0 → LacksRoom last command f) → IsUncontended last command (making c last thread)
-  making_uncontended full = bind_uncontended (room_uncontended full) (λ x. bind_uncontended (done_uncontended tt) (λ y. bind_uncontended publish_uncontended added_uncontended))
+  -- space for n words, which is short for the command where it is full
+  space_full : (n : ℕ) → MayLack command n → IsUncontended s last command (some_act (ReserveFull n) >>= (λ used. refuse {A = Unit {0}} (SpaceFull used)))
+  space_full n lacks = record { acts = acts_of; fault = fault_of }
+    where
+      full_acts : (old new : Frames) (acts : List Act) (answer : Result (Unit {0}) Fault) → (some_act (ReserveFull n) >>= (λ used. refuse {A = Unit {0}} (SpaceFull used))) old acts answer new → (used : ℕ) × (acts ≡ ReserveFull n used ∷ []) × (answer ≡ Err (SpaceFull used))
+      full_acts old new acts answer (inl r) =
+          let answered = r.5.2 in
+          let same : r.5.0 ≡ r.0 = cc in
+          (r.0, r.4 ∙ (ap (λ front. front ++ r.3) (r.5.1 ∙ ap (λ used. ReserveFull n used ∷ []) same) ∙ ap (λ rest. ReserveFull n r.0 ∷ rest) r.6.0), r.6.1)
+      full_acts old new acts answer (inr r) = let bad = r.2.2 in absurd cc
 
-  pub creation_uncontended : (k : RefKind) (a : Word) → IsUncontended last command (creation c last thread k a)
+      acts_of : (old new : Frames) (acts : List Act) (answer : Result (Unit {0}) Fault) → IsUnraced answer → (some_act (ReserveFull n) >>= (λ used. refuse {A = Unit {0}} (SpaceFull used))) old acts answer new → AreUncontended acts
+      acts_of old new acts answer u r = let x = full_acts old new acts answer r in one_act (ReserveFull n x.0) refl x.1
+
+      fault_of : (old new : Frames) (acts : List Act) (e : Fault) → (some_act (ReserveFull n) >>= (λ used. refuse {A = Unit {0}} (SpaceFull used))) old acts (Err e) new → IsUncontendedFault s last command acts new e
+      fault_of old new acts e r =
+          let x = full_acts old new acts (Err e) r in
+          same_fault_of {A = Unit {0}} s last command acts new e (SpaceFull x.0) x.2 (record { words = n; found = subst (FoundFull n x.0) (sym x.1) (inl refl); lacks = lacks x.0 })
+
+  -- space that was lost
+  space_lost : (n : ℕ) → IsUncontended s last command (some_act {X = ℕ × ℕ} (λ l. ReserveLost n l.0 l.1) >>= (λ l. refuse {A = Unit {0}} (Raced l.0 l.1)))
+  space_lost n = record { acts = acts_of; fault = fault_of }
+    where
+      acts_of : (old new : Frames) (acts : List Act) (answer : Result (Unit {0}) Fault) → IsUnraced answer → (some_act {X = ℕ × ℕ} (λ l. ReserveLost n l.0 l.1) >>= (λ l. refuse {A = Unit {0}} (Raced l.0 l.1))) old acts answer new → AreUncontended acts
+      acts_of old new acts answer u (inl r) = absurd (subst (IsUnraced {A = Unit {0}}) r.6.1 u)
+      acts_of old new acts answer u (inr r) = let bad = r.2.2 in absurd cc
+
+      fault_of : (old new : Frames) (acts : List Act) (e : Fault) → (some_act {X = ℕ × ℕ} (λ l. ReserveLost n l.0 l.1) >>= (λ l. refuse {A = Unit {0}} (Raced l.0 l.1))) old acts (Err e) new → IsUncontendedFault s last command acts new e
+      fault_of old new acts e (inl r) = same_fault_of {A = Unit {0}} s last command acts new e (Raced r.0.0 r.0.1) r.6.1 tt
+      fault_of old new acts e (inr r) = let bad = r.2.2 in absurd cc
+
+  reserve_uncontended : (n : ℕ) → MayLack command n → IsUncontended s last command (reserve n)
+  reserve_uncontended zero lacks = done_uncontended tt
+  reserve_uncontended (suc n) lacks = one_of_uncontended (act_uncontended (Reserve (suc n)) refl) (one_of_uncontended (space_full (suc n) lacks) (space_lost (suc n)))
+
+  pub made_uncontended : ((f : Frames) → free_places last f ≡ 0 → LacksRoom last command f) → (k : Kind) (ws : List ℕ) → MayLack command (length ws) → IsUncontended s last command (made c last thread k ws)
+  made_uncontended full k ws lacks = bind_uncontended (room_uncontended full) (λ x. bind_uncontended (reserve_uncontended (length ws) lacks) (λ y. bind_uncontended (publish_uncontended k ws) added_uncontended))
+
+  pub making_uncontended : ((f : Frames) → free_places last f ≡ 0 → LacksRoom last command f) → IsUncontended s last command (making c last thread)
+  making_uncontended full = bind_uncontended (room_uncontended full) (λ x. bind_uncontended (done_uncontended tt) (λ y. bind_uncontended (publish_uncontended Plain []) added_uncontended))
+
+  pub array_making_uncontended : ((f : Frames) → free_places last f ≡ 0 → LacksRoom last command f) → (n : ℕ) (a : Word) → MayLack command n → IsUncontended s last command (array_making c last thread n a)
+  array_making_uncontended full n a lacks = bind_uncontended (resolved_uncontended a) (λ x. made_uncontended full Objects (replicate n (element_word x)) (subst (MayLack command) (sym (length-replicate n (element_word x))) lacks))
+
+  pub creation_uncontended : (k : RefKind) (a : Word) → IsUncontended s last command (creation c last thread k a)
   creation_uncontended k a = bind_uncontended (resolved_uncontended a) (created_uncontended k)
 
-  pub local_creation_uncontended : ((f : Frames) → free_places last f ≡ 0 → LacksRoom last command f) → (a : Word) → IsUncontended last command (local_creation c last thread a)
+  pub local_creation_uncontended : ((f : Frames) → free_places last f ≡ 0 → LacksRoom last command f) → (a : Word) → IsUncontended s last command (local_creation c last thread a)
   local_creation_uncontended full a = bind_uncontended (resolved_uncontended a) (new_local_uncontended full)
 
-  pub comparison_uncontended : (a b : Word) → IsUncontended last command (comparison c last thread a b)
+  pub comparison_uncontended : (a b : Word) → IsUncontended s last command (comparison c last thread a b)
   comparison_uncontended a b = bind_uncontended (both_uncontended a b) (λ x. done_uncontended _)
 
   -- of a reference that is of the kind
-  pub removal_uncontended : (k : RefKind) (a : Word) → is_of_kind k a ≡ true → IsUncontended last command (removal c k a)
+  pub removal_uncontended : (k : RefKind) (a : Word) → is_of_kind k a ≡ true → IsUncontended s last command (removal c k a)
   removal_uncontended k a is =
-      bind_uncontended (refuse_if_uncontended _ Stale (λ f. tt)) (λ x. passes_uncontended (not (is_of_kind k a)) WrongKind (ap not is) (λ y. bind_uncontended (refuse_if_uncontended _ Stale (λ f. tt)) (λ z. delete_at_uncontended a)))
+      bind_uncontended (refuse_if_uncontended _ Stale (λ acts f. tt)) (λ x. passes_uncontended (not (is_of_kind k a)) WrongKind (ap not is) (λ y. bind_uncontended (refuse_if_uncontended _ Stale (λ acts f. tt)) (λ z. delete_at_uncontended a)))
 
-  pub local_removal_uncontended : (a : Word) → is_of_kind Local a ≡ true → IsUncontended last command (local_removal c thread a)
+  pub local_removal_uncontended : (a : Word) → is_of_kind Local a ≡ true → IsUncontended s last command (local_removal c thread a)
   local_removal_uncontended a is =
-      bind_uncontended (refuse_if_uncontended _ Stale (λ f. tt)) (λ x. passes_uncontended (not (is_of_kind Local a)) WrongKind (ap not is) (λ y.
-      unless_uncontended (is_out_of_bounds c a) Stale (λ f. tt) (λ z inside. passes_uncontended (is_foreign thread a) Foreign (not_foreign c thread a one first inside) (λ u. delete_local_at_uncontended a))))
+      bind_uncontended (refuse_if_uncontended _ Stale (λ acts f. tt)) (λ x. passes_uncontended (not (is_of_kind Local a)) WrongKind (ap not is) (λ y.
+      unless_uncontended (is_out_of_bounds c a) Stale (λ acts f. tt) (λ z inside. passes_uncontended (is_foreign thread a) Foreign (not_foreign c thread a one first inside) (λ u. delete_local_at_uncontended a))))
 
-  pub typing_uncontended : (a : Word) → IsUncontended last command (typing c thread a)
+  pub typing_uncontended : (a : Word) → IsUncontended s last command (typing c thread a)
   typing_uncontended a = cond_uncontended _ (done_uncontended 0) (type_uncontended a)
 
 -- THE CALLS OF FRAMES
@@ -331,26 +438,26 @@ module _ (name : List ℕ) (kept : Reference) where
   abbrev the_local : Command
   the_local = commands.MakeFrom make_from.Local name kept
 
-  to_pop_uncontended : {last : ℕ} → IsUncontended last the_pop frame_to_pop
-  to_pop_uncontended {last} = record { acts = acts_of; fault = fault_of }
+  to_pop_uncontended : {s : State} {last : ℕ} → IsUncontended s last the_pop frame_to_pop
+  to_pop_uncontended {s} {last} = record { acts = acts_of; fault = fault_of }
     where
       acts_at : (b : Bool) (old new : Frames) (acts : List Act) (answer : Result (Unit {0}) Fault) → refuse_if b NoFrame old acts answer new → AreUncontended acts
       acts_at true old new acts answer r = no_acts r.0
       acts_at false old new acts answer r = no_acts r.0
 
-      acts_of : (old new : Frames) (acts : List Act) (answer : Result (Unit {0}) Fault) → frame_to_pop old acts answer new → AreUncontended acts
-      acts_of old new acts answer r = acts_at (nat_lt (length old.frames) 2) old new acts answer r
+      acts_of : (old new : Frames) (acts : List Act) (answer : Result (Unit {0}) Fault) → IsUnraced answer → frame_to_pop old acts answer new → AreUncontended acts
+      acts_of old new acts answer u r = acts_at (nat_lt (length old.frames) 2) old new acts answer r
 
-      fault_at : (b : Bool) (old new : Frames) (acts : List Act) (e : Fault) → nat_lt (length old.frames) 2 ≡ b → refuse_if b NoFrame old acts (Err e) new → IsUncontendedFault last the_pop new e
-      fault_at true old new acts e few r = same_fault_of {A = Unit {0}} last the_pop new e NoFrame r.1 (subst (λ (f : Frames). length f.frames < 2) (sym r.2) (few_places (length old.frames) 2 few))
+      fault_at : (b : Bool) (old new : Frames) (acts : List Act) (e : Fault) → nat_lt (length old.frames) 2 ≡ b → refuse_if b NoFrame old acts (Err e) new → IsUncontendedFault s last the_pop acts new e
+      fault_at true old new acts e few r = same_fault_of {A = Unit {0}} s last the_pop acts new e NoFrame r.1 (subst (λ (f : Frames). length f.frames < 2) (sym r.2) (few_places (length old.frames) 2 few))
       fault_at false old new acts e few r = let bad = r.1 in absurd cc
 
-      fault_of : (old new : Frames) (acts : List Act) (e : Fault) → frame_to_pop old acts (Err e) new → IsUncontendedFault last the_pop new e
+      fault_of : (old new : Frames) (acts : List Act) (e : Fault) → frame_to_pop old acts (Err e) new → IsUncontendedFault s last the_pop acts new e
       fault_of old new acts e r = fault_at (nat_lt (length old.frames) 2) old new acts e refl r
 
-  module _ (c : Config) (last thread : ℕ) (one : c.threads ≡ 1) (first : thread ≡ 0) where
+  module _ (s : State) (c : Config) (last thread : ℕ) (one : c.threads ≡ 1) (first : thread ≡ 0) where
     -- what room there is once the frame is taken away
-    after_uncontended : (o : Option ℕ) → IsUncontended last the_pop (room_after c last thread o)
+    after_uncontended : (o : Option ℕ) → IsUncontended s last the_pop (room_after c last thread o)
     after_uncontended None = done_uncontended tt
     after_uncontended (Some o) = record { acts = acts_of; fault = fault_of }
       where
@@ -358,14 +465,14 @@ module _ (name : List ℕ) (kept : Reference) where
         acts_at true old new acts answer r = no_acts r.0
         acts_at false old new acts answer r = no_acts r.0
 
-        acts_of : (old new : Frames) (acts : List Act) (answer : Result (Unit {0}) Fault) → room_after c last thread (Some o) old acts answer new → AreUncontended acts
-        acts_of old new acts answer r = acts_at (free_places last (popped old) == 0) old new acts answer r
+        acts_of : (old new : Frames) (acts : List Act) (answer : Result (Unit {0}) Fault) → IsUnraced answer → room_after c last thread (Some o) old acts answer new → AreUncontended acts
+        acts_of old new acts answer u r = acts_at (free_places last (popped old) == 0) old new acts answer r
 
-        fault_at : (b : Bool) (old new : Frames) (acts : List Act) (e : Fault) → (free_places last (popped old) == 0) ≡ b → refuse_if b LocalsFull old acts (Err e) new → IsUncontendedFault last the_pop new e
-        fault_at true old new acts e none r = same_fault_of {A = Unit {0}} last the_pop new e LocalsFull r.1 (subst (λ (f : Frames). free_places last (popped f) ≡ 0) (sym r.2) (eqb-true (free_places last (popped old)) 0 none))
+        fault_at : (b : Bool) (old new : Frames) (acts : List Act) (e : Fault) → (free_places last (popped old) == 0) ≡ b → refuse_if b LocalsFull old acts (Err e) new → IsUncontendedFault s last the_pop acts new e
+        fault_at true old new acts e none r = same_fault_of {A = Unit {0}} s last the_pop acts new e LocalsFull r.1 (subst (λ (f : Frames). free_places last (popped f) ≡ 0) (sym r.2) (eqb-true (free_places last (popped old)) 0 none))
         fault_at false old new acts e none r = let bad = r.1 in absurd cc
 
-        fault_of : (old new : Frames) (acts : List Act) (e : Fault) → room_after c last thread (Some o) old acts (Err e) new → IsUncontendedFault last the_pop new e
+        fault_of : (old new : Frames) (acts : List Act) (e : Fault) → room_after c last thread (Some o) old acts (Err e) new → IsUncontendedFault s last the_pop acts new e
         fault_of old new acts e r = fault_at (free_places last (popped old) == 0) old new acts e refl r
 
     place_after : (o : Option ℕ) (old mid : Frames) (acts : List Act) (x : Unit {0}) → room_after c last thread o old acts (Ok x) mid → HasPlace last o (popped mid)
@@ -395,23 +502,23 @@ module _ (name : List ℕ) (kept : Reference) where
     taken_never o old new acts e some (inl r) = result_never o r.1 new r.3 e (subst (HasPlace last o) (sym r.5.2) some) r.6
     taken_never o old new acts e some (inr r) = let bad = r.2.1 in cc
 
-    taken_acts : (o : Option ℕ) (old new : Frames) (acts : List Act) (answer : Result (Option Handle) Fault) → (take_frame >>= (λ x. new_local c last thread o)) old acts answer new → AreUncontended acts
-    taken_acts o old new acts answer (inl r) =
+    taken_acts : (o : Option ℕ) (old new : Frames) (acts : List Act) (answer : Result (Option Handle) Fault) → IsUnraced answer → (take_frame >>= (λ x. new_local c last thread o)) old acts answer new → AreUncontended acts
+    taken_acts o old new acts answer u (inl r) =
         let taken : AreUncontended r.2 = subst AreUncontended (sym r.5.0) (all_dropped (last_frame old.frames)) in
-        let made : AreUncontended r.3 = (new_local_uncontended the_local c last thread one first (λ f none. none) o).acts r.1 new r.3 answer r.6 in
+        let made : AreUncontended r.3 = (new_local_uncontended s the_local c last thread one first (λ f none. none) o).acts r.1 new r.3 answer u r.6 in
         subst AreUncontended (sym r.4) (append_all (λ a. is_uncontended_act a ≡ true) r.2 r.3 taken made)
-    taken_acts o old new acts answer (inr r) = subst AreUncontended (sym r.2.0) (all_dropped (last_frame old.frames))
+    taken_acts o old new acts answer u (inr r) = subst AreUncontended (sym r.2.0) (all_dropped (last_frame old.frames))
 
-    popping_uncontended : (o : Option ℕ) → IsUncontended last the_pop (popping c last thread o)
+    popping_uncontended : (o : Option ℕ) → IsUncontended s last the_pop (popping c last thread o)
     popping_uncontended o = record { acts = acts_of; fault = fault_of }
       where
-        acts_of : (old new : Frames) (acts : List Act) (answer : Result (Option Handle) Fault) → popping c last thread o old acts answer new → AreUncontended acts
-        acts_of old new acts answer (inl r) = subst AreUncontended (sym r.4) (append_all (λ a. is_uncontended_act a ≡ true) r.2 r.3 ((after_uncontended o).acts old r.1 r.2 (Ok r.0) r.5) (taken_acts o r.1 new r.3 answer r.6))
-        acts_of old new acts answer (inr r) = (after_uncontended o).acts old new acts (Err r.0) r.2
+        acts_of : (old new : Frames) (acts : List Act) (answer : Result (Option Handle) Fault) → IsUnraced answer → popping c last thread o old acts answer new → AreUncontended acts
+        acts_of old new acts answer u (inl r) = subst AreUncontended (sym r.4) (append_all (λ a. is_uncontended_act a ≡ true) r.2 r.3 ((after_uncontended o).acts old r.1 r.2 (Ok r.0) tt r.5) (taken_acts o r.1 new r.3 answer u r.6))
+        acts_of old new acts answer u (inr r) = (after_uncontended o).acts old new acts (Err r.0) (same_unraced (Unit {0}) answer r.0 r.1 u) r.2
 
-        fault_of : (old new : Frames) (acts : List Act) (e : Fault) → popping c last thread o old acts (Err e) new → IsUncontendedFault last the_pop new e
+        fault_of : (old new : Frames) (acts : List Act) (e : Fault) → popping c last thread o old acts (Err e) new → IsUncontendedFault s last the_pop acts new e
         fault_of old new acts e (inl r) = absurd (taken_never o r.1 new r.3 e (place_after o old r.1 r.2 r.0 r.5) r.6)
-        fault_of old new acts e (inr r) = same_fault_of {A = Option Handle} last the_pop new e r.0 r.1 ((after_uncontended o).fault old new acts r.0 r.2)
+        fault_of old new acts e (inr r) = same_fault_of {A = Option Handle} s last the_pop acts new e r.0 r.1 ((after_uncontended o).fault old new acts r.0 r.2)
 
-    pub pop_uncontended : (a : Word) → IsUncontended last the_pop (popped_to c last thread a)
-    pop_uncontended a = bind_uncontended to_pop_uncontended (λ x. bind_uncontended (resolved_uncontended the_pop c last thread one first a) popping_uncontended)
+    pub pop_uncontended : (a : Word) → IsUncontended s last the_pop (popped_to c last thread a)
+    pop_uncontended a = bind_uncontended to_pop_uncontended (λ x. bind_uncontended (resolved_uncontended s the_pop c last thread one first a) popping_uncontended)

@@ -1,26 +1,41 @@
 -- What commands do.
-use Rattle.std.specs.Prelude.{◌≡◌, ℕ, Option, Some, None, Err}
+use Rattle.std.specs.Prelude.{◌≡◌, ℕ, ℤ, Option, Some, None, Err, [], ◌∷◌}
 use Rattle.jr_word.specs.declared.handle.RefKind.{RefKind}
 use Rattle.jr_word.specs.declared.handle.RefKind.TheVariants.{Local, Global, Weak}
 use Rattle.jr_word.specs.declared.handle.Handle.{Handle}
+use Rattle.jr_word.specs.declared.kind.Kind.{Kind}
+use Rattle.jr_word.specs.declared.kind.Kind.TheVariants.{Boolean, Byte, Char, Short, Int, Long}
 use Rattle.jr_word.specs.declared.fault.Fault.TheVariants as fault
 use Rattle.jr_model.specs.Checks.{Word, Nothing, Malformed, Parts}
 use Rattle.jr_syntax.specs.declared.name.Reference.{Reference}
 use Rattle.jr_syntax.specs.declared.command.Command.{Command}
 use Rattle.jr_syntax.specs.declared.command.Command.TheVariants as commands
 use Rattle.jr_syntax.specs.declared.verb.Make.TheVariants as make
+use Rattle.jr_syntax.specs.declared.verb.MakeFrom.{MakeFrom}
 use Rattle.jr_syntax.specs.declared.verb.MakeFrom.TheVariants as make_from
 use Rattle.jr_syntax.specs.declared.verb.On.TheVariants as on
 use Rattle.jr_syntax.specs.declared.verb.OnBoth.TheVariants as on_both
 use Rattle.jr_syntax.specs.declared.verb.OnName.TheVariants as on_name
 use Rattle.jr_syntax.specs.declared.verb.WithCount.TheVariants as with_count
+use Rattle.jr_syntax.specs.declared.verb.MakeSized.{MakeSized}
+use Rattle.jr_syntax.specs.declared.verb.MakeSized.TheVariants as make_sized
 use Rattle.jr_scripts.specs.declared.reply.Reply.{Reply}
 use Rattle.jr_scripts.specs.declared.reply.Reply.TheVariants as replies
 use Rattle.jr_frames.specs.Reading.{IsReadAs}
 use Rattle.jr_scripts.specs.Names.{Names, referent, wanted}
-use Rattle.jr_env.specs.Deeds.{Deed, decided, done, new_plain, new_reference, new_local_ref, delete_reference, delete_local_ref, is_same_object, get_object_ref_type, push_local_frame, ensure_local_capacity, pop_local_frame, ◌>>=◌, ◌>>◌}
+use Rattle.jr_env.specs.Deeds.{Deed, decided, done, new_plain, new_array, new_object_array, new_string, new_reference, new_local_ref, delete_reference, delete_local_ref, is_same_object, get_object_ref_type, push_local_frame, ensure_local_capacity, pop_local_frame, kind_of, get_array_length, get_string_length, get_object_array_element, set_object_array_element, get_array_region, set_array_region, ◌>>=◌, ◌>>◌}
 use Rattle.jr_scripts.specs.Posting.{IsAwaited}
 use Rattle.jr_scripts.specs.Tries.{Tried}
+use Rattle.jr_scripts.specs.Numbers.{has_numbers, word_of_number, first_number}
+
+-- the kind of the array that is made
+abbrev pub kind_made : MakeSized → Kind
+kind_made make_sized.Boolean = Boolean
+kind_made make_sized.Byte = Byte
+kind_made make_sized.Char = Char
+kind_made make_sized.Short = Short
+kind_made make_sized.Int = Int
+kind_made make_sized.Long = Long
 
 module _ (turns : ℕ) where
   -- a call, made again where it was raced or barred
@@ -32,6 +47,19 @@ module _ (turns : ℕ) where
   makes_reference one = do
     h ← tried one
     done (replies.Made h)
+
+  -- a call that makes an object and a reference to it
+  abbrev pub makes_new : Deed Handle → Deed Reply
+  makes_new one = do
+    h ← tried one
+    done (replies.Made (Some h))
+
+  -- what is made from what a word names
+  abbrev pub making_from : MakeFrom → ℕ → Deed Reply
+  making_from make_from.Global w = makes_reference (new_reference Global w)
+  making_from make_from.Weak w = makes_reference (new_reference Weak w)
+  making_from make_from.Local w = makes_reference (new_local_ref w)
+  making_from make_from.Pop w = makes_reference (pop_local_frame w)
 
   -- the delete call of the kind
   abbrev pub deleted_of : RefKind → ℕ → Deed (Unit {0})
@@ -52,6 +80,33 @@ module _ (turns : ℕ) where
   type_of None = done 0
   type_of (Some h) = tried (get_object_ref_type h.0)
 
+  -- the number at an index of an array of a kind
+  abbrev pub loading_as : ℕ → ℕ → Kind → Deed Reply
+  loading_as w i k = do
+    words ← tried (get_array_region k w i 1)
+    done (replies.Value (first_number k words))
+
+  -- the number at an index of the array that a word names: a call for its kind, and one for the element
+  abbrev pub loading : ℕ → ℕ → Deed Reply
+  loading w i = do
+    k ← tried (kind_of w)
+    decided (has_numbers k)
+    loading_as w i k
+
+  -- a number is stored at an index of an array of a kind
+  abbrev pub storing_as : ℕ → ℕ → ℤ → Kind → Deed Reply
+  storing_as w i v k = do
+    word ← decided (word_of_number k v)
+    tried (set_array_region k w i (word ∷ []))
+    done replies.Done
+
+  -- a number is stored at an index of the array that a word names: a call for its kind, and one that stores
+  abbrev pub storing : ℕ → ℕ → ℤ → Deed Reply
+  storing w i v = do
+    k ← tried (kind_of w)
+    decided (has_numbers k)
+    storing_as w i v k
+
 -- some word that is posted, or the turns ran out; neither an event nor a step
 abbrev pub awaited : Deed Reply
 awaited old answer new = IsAwaited answer × (new ≡ old)
@@ -63,22 +118,11 @@ module _ (turns : ℕ) (names : Names) where
 
   -- THE COMMANDS: what each does, and its reply
   abbrev pub deed : Command → Deed Reply
-  deed (commands.Make make.Plain n) = do
-    h ← tried turns new_plain
-    done (replies.Made (Some h))
+  deed (commands.Make make.Plain n) = makes_new turns new_plain
   deed (commands.Make make.Wait n) = awaited
-  deed (commands.MakeFrom make_from.Global n r) = do
+  deed (commands.MakeFrom v n r) = do
     w ← the_reference r
-    makes_reference turns (new_reference Global w.0)
-  deed (commands.MakeFrom make_from.Weak n r) = do
-    w ← the_reference r
-    makes_reference turns (new_reference Weak w.0)
-  deed (commands.MakeFrom make_from.Local n r) = do
-    w ← the_reference r
-    makes_reference turns (new_local_ref w.0)
-  deed (commands.MakeFrom make_from.Pop n r) = do
-    w ← the_reference r
-    makes_reference turns (pop_local_frame w.0)
+    making_from turns v w.0
   deed (commands.On on.Drop r) = do
     w ← the_reference r
     deletion turns w.0
@@ -86,6 +130,14 @@ module _ (turns : ℕ) (names : Names) where
   deed (commands.On on.Type r) = do
     n ← type_of turns (referent names r)
     done (replies.Type n)
+  deed (commands.On on.Len r) = do
+    w ← the_reference r
+    n ← tried turns (get_array_length w.0)
+    done (replies.Length n)
+  deed (commands.On on.TextLength r) = do
+    w ← the_reference r
+    n ← tried turns (get_string_length w.0)
+    done (replies.Length n)
   deed (commands.OnBoth on_both.Same q r) = do
     v ← the_reference q
     w ← the_reference r
@@ -98,3 +150,22 @@ module _ (turns : ℕ) (names : Names) where
   deed (commands.WithCount with_count.Ensure n) = do
     tried turns (ensure_local_capacity n)
     done replies.Done
+  deed (commands.MakeSized v n len) = makes_new turns (new_array (kind_made v) len)
+  deed (commands.MakeFilled v n len r) = do
+    w ← the_reference r
+    makes_new turns (new_object_array len w.0)
+  deed (commands.MakeText v n units) = makes_new turns (new_string units)
+  deed (commands.MakeAt v n r i) = do
+    w ← the_reference r
+    makes_reference turns (get_object_array_element w.0 i)
+  deed (commands.OnAt v r i) = do
+    w ← the_reference r
+    loading turns w.0 i
+  deed (commands.SetAt v r i q) = do
+    a ← the_reference r
+    w ← the_reference q
+    tried turns (set_object_array_element a.0 i w.0)
+    done replies.Done
+  deed (commands.StoreAt v r i x) = do
+    w ← the_reference r
+    storing turns w.0 i x

@@ -1,6 +1,7 @@
 pub mod Names
 pub mod Posting
 pub mod Tries
+pub mod Numbers
 pub mod Commands
 pub mod Text
 pub mod Explains

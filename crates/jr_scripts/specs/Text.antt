@@ -1,6 +1,6 @@
 -- What commands print, and the names that they set.
 use Rattle.std.specs.Prelude.{ℕ, Bool, true, false, Option, Some, None, List, [], ◌∷◌, ◌++◌, Result, Ok, Err, codes}
-use Rattle.std.specs.Fmt.{decimal}
+use Rattle.std.specs.Fmt.{decimal, signed_decimal}
 use Rattle.jr_word.specs.declared.fault.Fault.{Fault}
 use Rattle.jr_word.specs.declared.fault.Fault.TheVariants as fault
 use Rattle.jr_word.specs.declared.handle.Handle.{Handle}
@@ -9,7 +9,7 @@ use Rattle.jr_model.specs.declared.summary.Summary.{Summary}
 use Rattle.jr_syntax.specs.Line.{line as words_line}
 use Rattle.jr_syntax.specs.Reference.{reference_word}
 use Rattle.jr_syntax.specs.Command.{verb_word}
-use Rattle.jr_syntax.specs.declared.verb.Verb.TheVariants.{MakeFrom, On, OnBoth}
+use Rattle.jr_syntax.specs.declared.verb.Verb.TheVariants.{MakeFrom, On, OnBoth, MakeAt, OnAt}
 use Rattle.jr_syntax.specs.declared.command.Command.{Command}
 use Rattle.jr_syntax.specs.declared.command.Command.TheVariants as commands
 use Rattle.jr_scripts.specs.declared.reply.Reply.{Reply}
@@ -29,7 +29,10 @@ verdict false = codes "false"
 abbrev pub says : Command → Reply → List ℕ
 says (commands.MakeFrom v n r) (replies.Made None) = text_line (verb_word (MakeFrom v) ∷ n ∷ codes "null" ∷ [])
 says (commands.On v r) (replies.Type t) = text_line (verb_word (On v) ∷ reference_word r ∷ decimal t ∷ [])
+says (commands.On v r) (replies.Length n) = text_line (verb_word (On v) ∷ reference_word r ∷ decimal n ∷ [])
 says (commands.OnBoth v q r) (replies.Same same) = text_line (verb_word (OnBoth v) ∷ reference_word q ∷ reference_word r ∷ verdict same ∷ [])
+says (commands.MakeAt v n r i) (replies.Made None) = text_line (verb_word (MakeAt v) ∷ n ∷ codes "null" ∷ [])
+says (commands.OnAt v r i) (replies.Value x) = text_line (verb_word (OnAt v) ∷ reference_word r ∷ decimal i ∷ signed_decimal x ∷ [])
 says _ _ = []
 
 -- a number that stands behind the fault's
@@ -50,6 +53,10 @@ printed number c (Err e) = refused number e
 abbrev pub sets : Command → Option (List ℕ)
 sets (commands.Make v n) = Some n
 sets (commands.MakeFrom v n r) = Some n
+sets (commands.MakeSized v n len) = Some n
+sets (commands.MakeFilled v n len r) = Some n
+sets (commands.MakeText v n units) = Some n
+sets (commands.MakeAt v n r i) = Some n
 sets _ = None
 
 -- the reference that was made, NULL for none

@@ -2,11 +2,15 @@
 #![tactic(auto)]
 
 mod all;
+mod ask;
 mod board;
+mod element;
 mod env_call;
 mod hold;
 mod laws;
 mod names;
+mod number;
+mod object_call;
 mod opening;
 mod part;
 mod perform;

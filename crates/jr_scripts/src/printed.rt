@@ -73,9 +73,32 @@ fn says(alloc: Global, command: &Command, reply: Reply) -> Result<Vec<u8>, Alloc
             let number = number.to_string(alloc)?;
             line_of_three(alloc, word, target.word(), number.as_bytes())
         }
+        (Command::On { verb, target }, Reply::Length(length)) => {
+            let word = Verb::On(*verb).word();
+            let length = length.to_string(alloc)?;
+            line_of_three(alloc, word, target.word(), length.as_bytes())
+        }
         (Command::OnBoth { verb, left, right }, Reply::Same(same)) => {
             let word = Verb::OnBoth(*verb).word();
             line_of_four(alloc, word, left.word(), right.word(), word_of(same))
+        }
+        (Command::MakeAt { verb, name, .. }, Reply::Made(None)) => {
+            let word = Verb::MakeAt(*verb).word();
+            line_of_three(alloc, word, name.as_slice(), b"null")
+        }
+        (
+            Command::OnAt {
+                verb,
+                target,
+                index,
+            },
+            Reply::Value(value),
+        ) => {
+            let word = Verb::OnAt(*verb).word();
+            let index = index.to_string(alloc)?;
+            let value = value.to_string(alloc)?;
+            let (index, value) = (index.as_bytes(), value.as_bytes());
+            line_of_four(alloc, word, target.word(), index, value)
         }
         _ => Ok(Vec::new(alloc)),
     }

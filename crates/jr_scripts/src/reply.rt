@@ -15,6 +15,10 @@ pub enum Reply {
     Type(u8),
     /// Whether two references are to one object, or both to none.
     Same(bool),
+    /// How many elements an array has, or units a string.
+    Length(u32),
+    /// The number that an element is.
+    Value(i64),
 }
 
 /// What a call answers, which is a reply to the command that made it.
@@ -76,5 +80,25 @@ impl IntoReply for bool {
 
     fn into_reply(self) -> Reply {
         Reply::Same(self)
+    }
+}
+
+impl IntoReply for u32 {
+    ghost use Rattle.jr_scripts.specs.declared.reply.Reply.TheVariants.{Length};
+
+    ghost reply = { λ n. Length n };
+
+    fn into_reply(self) -> Reply {
+        Reply::Length(self)
+    }
+}
+
+impl IntoReply for i64 {
+    ghost use Rattle.jr_scripts.specs.declared.reply.Reply.TheVariants.{Value};
+
+    ghost reply = { λ n. Value n };
+
+    fn into_reply(self) -> Reply {
+        Reply::Value(self)
     }
 }

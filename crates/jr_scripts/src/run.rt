@@ -22,7 +22,12 @@ fn set_by(command: &Command) -> Option<&Name>
     ensures { MatchOption result (sets command.now ≡ None) (λ name. sets command.now ≡ Some name.now) }
 {
     match command {
-        Command::Make { name, .. } | Command::MakeFrom { name, .. } => Some(name),
+        Command::Make { name, .. }
+        | Command::MakeFrom { name, .. }
+        | Command::MakeSized { name, .. }
+        | Command::MakeFilled { name, .. }
+        | Command::MakeText { name, .. }
+        | Command::MakeAt { name, .. } => Some(name),
         _ => None,
     }
 }

@@ -6,6 +6,8 @@ mod board;
 #[cfg(test)]
 mod commands;
 #[cfg(test)]
+mod objects;
+#[cfg(test)]
 mod scripts;
 #[cfg(test)]
 mod thread_ends;

@@ -54,6 +54,17 @@ fn a_local_reference_is_of_its_own_thread_alone(rt: HostRuntime) -> Result<(), F
     )
 }
 
+#[test]
+fn an_element_is_handed_over(rt: HostRuntime) -> Result<(), Fail> {
+    threads_print(
+        &rt,
+        rt.alloc(),
+        b"vm threads 2 slots 4 objects 8 words 16 locals 16\nthread a\nint x 1\nglobal g x\npost g\nwait done\nload g 0\nthread b\nwait g\nstore g 0 7\npost done\n",
+        &NoHold,
+        b"[a]\nload g 0 7\n[b]\n[end]\nglobals 1 weaks 0 live 1 used 1\n",
+    )
+}
+
 /// A thread hands a global reference to another, which deletes it.
 pub(crate) const HANDED_OVER: &[u8] =
     b"vm threads 2 slots 4 objects 8 words 16 locals 16\nthread a\nplain p\nglobal g p\npost g\nwait done\ntype g\nthread b\nwait g\ntype g\nweak w g\ndrop g\ntype g\npost done\n";

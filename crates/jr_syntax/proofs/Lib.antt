@@ -3,6 +3,8 @@ pub mod NumberLaws
 pub mod Cuts
 pub mod PartLaws
 pub mod DecimalLaws
+pub mod ValueLaws
+pub mod UnitLaws
 pub mod VmLaws
 pub mod ReadIsSpelled
 pub mod Rows

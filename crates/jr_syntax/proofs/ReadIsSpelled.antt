@@ -1,23 +1,27 @@
 -- What is read is good, and is spelled as it was.
-use Rattle.std.proofs.Common.{◌≡◌, ℕ, Bool, true, false, cond, List, [], ◌∷◌, length, Option, Some, None, refl, sym, ap, ◌∙◌, arith}
+use Rattle.std.proofs.Common.{◌≡◌, ℕ, ◌^◌, ◌<◌, Bool, true, false, cond, List, [], ◌∷◌, length, map, Option, Some, None, refl, sym, ap, ◌∙◌, arith}
 use Rattle.std.specs.Prelude.{◌||◌, codes, nat_le, if◌then◌else◌}
 use Rattle.std.specs.Option.{option_map, option_map_or}
-use Rattle.std.specs.List.{find}
+use Rattle.std.specs.List.{find, list_all}
 use Rattle.std.specs.Str.{bytes_eq}
 use Rattle.std.specs.Fmt.{decimal}
 use Rattle.std.proofs.lemmas.Bool.{and_parts, and_from, eqb-true, leb-true, false≢true}
+use Rattle.std.proofs.lemmas.List.{length-map}
 use Rattle.std.proofs.lemmas.Slice.Eq.{bytes_eq-Decides}
 use Rattle.jr_syntax.specs.declared.verb.Verb.{Verb}
-use Rattle.jr_syntax.specs.declared.verb.Verb.TheVariants.{Make, MakeFrom, On, OnBoth, OnName, WithCount}
+use Rattle.jr_syntax.specs.declared.verb.Verb.TheVariants.{Make, MakeFrom, On, OnBoth, OnName, WithCount, MakeSized, MakeFilled, MakeText, MakeAt, OnAt, SetAt, StoreAt}
 use Rattle.jr_syntax.specs.declared.command.Command.{Command}
 use Rattle.jr_syntax.specs.declared.name.Reference.TheVariants.{Null, Named}
 use Rattle.jr_syntax.specs.Name.{is_name}
 use Rattle.jr_syntax.specs.Number.{is_number, number_of_digits}
 use Rattle.jr_syntax.specs.Line.{word_at}
-use Rattle.jr_syntax.specs.Kind.{Kind, WordKind, Arguments, name, one, two}
+use Rattle.jr_syntax.specs.Kind.{Kind, WordKind, Arguments, name, one, two, three, up_to, before}
 use Rattle.jr_syntax.specs.Reference.{reference, reference_word, is_good_reference}
-use Rattle.jr_syntax.specs.Count.{count}
+use Rattle.jr_syntax.specs.Count.{number_at_most, most_count, count}
+use Rattle.jr_syntax.specs.Units.{most_units, unit, units}
+use Rattle.jr_syntax.specs.Value.{value}
 use Rattle.jr_syntax.proofs.DecimalLaws.{decimal_number}
+use Rattle.jr_syntax.proofs.ValueLaws.{value_back}
 use Rattle.jr_syntax.specs.Command.{verb_word, verb_of, all_verbs, behind_verb, spelling_of, words_of_command, is_command, line_has_form, line_in_range, line_command}
 
 -- reading and then spelling
@@ -44,12 +48,21 @@ reference_takes = record {
   good = λ w f r. reference_good w (bytes_eq w (codes "null")) f;
 }
 
--- a count that was read has few bits
-count_back : (w : List ℕ) → is_number w ≡ true → nat_le (number_of_digits w) 16777215 ≡ true → decimal (number_of_digits w) ≡ w
-count_back w f r = let le = leb-true (number_of_digits w) 16777215 r in decimal_number w f (omega (arith, le))
+-- a number that was read has few bits
+number_back : (most : ℕ) → most < 2 ^ 64 → (w : List ℕ) → is_number w ≡ true → nat_le (number_of_digits w) most ≡ true → decimal (number_of_digits w) ≡ w
+number_back most h w f r = let le = leb-true (number_of_digits w) most r in decimal_number w f (omega (arith, le, h))
+
+number_takes : (most : ℕ) → most < 2 ^ 64 → Takes (number_at_most most)
+number_takes most h = record { back = number_back most h; good = λ w f r. r }
 
 count_takes : Takes count
-count_takes = record { back = count_back; good = λ w f r. r }
+count_takes = number_takes most_count (omega arith)
+
+unit_takes : Takes unit
+unit_takes = number_takes 65535 (omega arith)
+
+value_takes : Takes value
+value_takes = record { back = value_back; good = λ w f r. r }
 
 -- ---- arguments
 
@@ -86,6 +99,72 @@ two_takes k l t u = record {
       and_from _ _ (t.good (word_at ws 0) q.1 s.0) (u.good (word_at ws 1) p.1 s.1);
 }
 
+words_3 : (ws : List (List ℕ)) → length ws ≡ 3 → word_at ws 0 ∷ word_at ws 1 ∷ word_at ws 2 ∷ [] ≡ ws
+words_3 (a ∷ b ∷ c ∷ []) e = refl
+words_3 [] e = absurd (omega arith)
+words_3 (a ∷ []) e = absurd (omega arith)
+words_3 (a ∷ b ∷ []) e = absurd (omega arith)
+words_3 (a ∷ b ∷ c ∷ d ∷ ws) e = absurd (omega arith)
+
+three_takes : {X Y Z : Type 0} (k : WordKind X) (l : WordKind Y) (m : WordKind Z) → Takes k → Takes l → Takes m → Takes (three k l m)
+three_takes k l m t u v = record {
+  back = λ ws f r.
+      let p = and_parts _ _ f in
+      let q = and_parts _ _ p.0 in
+      let o = and_parts _ _ q.0 in
+      let s = and_parts _ _ r in
+      let x = and_parts _ _ s.0 in
+      rw (t.back (word_at ws 0) o.1 x.0, u.back (word_at ws 1) q.1 x.1, v.back (word_at ws 2) p.1 s.1) (words_3 ws (eqb-true _ _ o.0));
+  good = λ ws f r.
+      let p = and_parts _ _ f in
+      let q = and_parts _ _ p.0 in
+      let o = and_parts _ _ q.0 in
+      let s = and_parts _ _ r in
+      let x = and_parts _ _ s.0 in
+      and_from _ _ (and_from _ _ (t.good (word_at ws 0) o.1 x.0) (u.good (word_at ws 1) q.1 x.1)) (v.good (word_at ws 2) p.1 s.1);
+}
+
+all_back : {X : Type 0} (k : WordKind X) → Takes k → (ws : List (List ℕ)) → list_all k.has_form ws ≡ true → list_all k.in_range ws ≡ true → map k.spell (map k.value ws) ≡ ws
+all_back k t [] f r = refl
+all_back k t (w ∷ ws) f r =
+    let p = and_parts _ _ f in
+    let s = and_parts _ _ r in
+    rw (t.back w p.0 s.0, all_back k t ws p.1 s.1) refl
+
+all_good : {X : Type 0} (k : WordKind X) → Takes k → (ws : List (List ℕ)) → list_all k.has_form ws ≡ true → list_all k.in_range ws ≡ true → list_all k.is_good (map k.value ws) ≡ true
+all_good k t [] f r = refl
+all_good k t (w ∷ ws) f r =
+    let p = and_parts _ _ f in
+    let s = and_parts _ _ r in
+    and_from _ _ (t.good w p.0 s.0) (all_good k t ws p.1 s.1)
+
+up_to_takes : {X : Type 0} (most : ℕ) (k : WordKind X) → Takes k → Takes (up_to most k)
+up_to_takes most k t = record {
+  back = λ ws f r. all_back k t ws (and_parts _ _ f).1 r;
+  good = λ ws f r.
+      let p = and_parts _ _ f in
+      and_from _ _ (ap (λ n. nat_le n most) (length-map ws k.value) ∙ p.0) (all_good k t ws p.1 r);
+}
+
+before_back : {X Y : Type 0} (k : WordKind X) (a : Arguments Y) → Takes k → Takes a → (ws : List (List ℕ)) → (before k a).has_form ws ≡ true → (before k a).in_range ws ≡ true → (before k a).spell ((before k a).value ws) ≡ ws
+before_back k a t u [] f r = absurd (false≢true f)
+before_back k a t u (w ∷ ws) f r =
+    let p = and_parts _ _ f in
+    let q = and_parts _ _ p.0 in
+    let s = and_parts _ _ r in
+    rw (t.back w q.1 s.0, u.back ws p.1 s.1) refl
+
+before_good : {X Y : Type 0} (k : WordKind X) (a : Arguments Y) → Takes k → Takes a → (ws : List (List ℕ)) → (before k a).has_form ws ≡ true → (before k a).in_range ws ≡ true → (before k a).is_good ((before k a).value ws) ≡ true
+before_good k a t u [] f r = absurd (false≢true f)
+before_good k a t u (w ∷ ws) f r =
+    let p = and_parts _ _ f in
+    let q = and_parts _ _ p.0 in
+    let s = and_parts _ _ r in
+    and_from _ _ (t.good w q.1 s.0) (u.good ws p.1 s.1)
+
+before_takes : {X Y : Type 0} (k : WordKind X) (a : Arguments Y) → Takes k → Takes a → Takes (before k a)
+before_takes k a t u = record { back = before_back k a t u; good = before_good k a t u }
+
 -- ---- commands
 
 -- what a shape owes: the command behind a verb is spelled as it was, and is good
@@ -105,6 +184,13 @@ command_takes (On v) = by _ (one_takes reference reference_takes) _
 command_takes (OnBoth v) = by _ (two_takes reference reference reference_takes reference_takes) _
 command_takes (OnName v) = by _ (one_takes name name_takes) _
 command_takes (WithCount v) = by _ (one_takes count count_takes) _
+command_takes (MakeSized v) = by _ (two_takes name count name_takes count_takes) _
+command_takes (MakeFilled v) = by _ (three_takes name count reference name_takes count_takes reference_takes) _
+command_takes (MakeText v) = by _ (before_takes name units name_takes (up_to_takes most_units unit unit_takes)) _
+command_takes (MakeAt v) = by _ (three_takes name reference count name_takes reference_takes count_takes) _
+command_takes (OnAt v) = by _ (two_takes reference count reference_takes count_takes) _
+command_takes (SetAt v) = by _ (three_takes reference count reference reference_takes count_takes reference_takes) _
+command_takes (StoreAt v) = by _ (three_takes reference count value reference_takes count_takes value_takes) _
 
 -- ---- lines
 

@@ -1,20 +1,28 @@
 -- What is spelled is read again, as what it was.
-use Rattle.std.proofs.Common.{◌≡◌, ℕ, ◌^◌, ◌<◌, ◌≤◌, Bool, true, false, cond, List, [], ◌∷◌, ◌++◌, refl, ap, ◌∙◌, arith, inl, inr, leb, eqb, length, Option, Some}
-use Rattle.std.specs.Prelude.{◌||◌, ◌&&◌, not, nat_le, codes}
+use Rattle.std.proofs.Common.{◌≡◌, ℕ, suc, ℤ, pos, negsuc, ◌^◌, ◌<◌, ◌≤◌, Bool, true, false, cond, List, [], ◌∷◌, ◌++◌, refl, ap, ◌∙◌, arith, inl, inr, leb, eqb, length, map, Option, Some}
+use Rattle.std.specs.Prelude.{◌&&◌, not, nat_le, codes}
 use Rattle.std.specs.Option.{option_map, option_map_or}
 use Rattle.std.specs.Str.{bytes_eq}
 use Rattle.std.specs.List.{find, list_all, slice_split}
-use Rattle.std.specs.Fmt.{decimal}
+use Rattle.std.specs.Fmt.{decimal, signed_decimal}
 use Rattle.std.proofs.lemmas.Bool.{and_parts, and_from, leb-true, le-leb, eq-eqb, ne_eqb, not-true, or_cases}
+use Rattle.std.proofs.lemmas.List.{length-map}
 use Rattle.jr_word.specs.Config.{is_between}
 use Rattle.jr_syntax.specs.declared.verb.Verb.{Verb}
-use Rattle.jr_syntax.specs.declared.verb.Verb.TheVariants.{Make, MakeFrom, On, OnBoth, OnName, WithCount}
+use Rattle.jr_syntax.specs.declared.verb.Verb.TheVariants.{Make, MakeFrom, On, OnBoth, OnName, WithCount, MakeSized, MakeFilled, MakeText, MakeAt, OnAt, SetAt, StoreAt}
 use Rattle.jr_syntax.specs.declared.verb.Make.TheVariants.{Plain, Wait}
 use Rattle.jr_syntax.specs.declared.verb.MakeFrom.TheVariants.{Global, Weak, Local, Pop}
 use Rattle.jr_syntax.specs.declared.verb.On.TheVariants as on
 use Rattle.jr_syntax.specs.declared.verb.OnBoth.TheVariants.{Same}
 use Rattle.jr_syntax.specs.declared.verb.OnName.TheVariants.{Post}
 use Rattle.jr_syntax.specs.declared.verb.WithCount.TheVariants.{Push, Ensure}
+use Rattle.jr_syntax.specs.declared.verb.MakeSized.TheVariants as sized
+use Rattle.jr_syntax.specs.declared.verb.MakeFilled.TheVariants.{Objects}
+use Rattle.jr_syntax.specs.declared.verb.MakeText.TheVariants as text
+use Rattle.jr_syntax.specs.declared.verb.MakeAt.TheVariants.{Get}
+use Rattle.jr_syntax.specs.declared.verb.OnAt.TheVariants.{Load}
+use Rattle.jr_syntax.specs.declared.verb.SetAt.TheVariants as set_at
+use Rattle.jr_syntax.specs.declared.verb.StoreAt.TheVariants.{Store}
 use Rattle.jr_syntax.specs.declared.command.Command.{Command}
 use Rattle.jr_syntax.specs.declared.command.Command.TheVariants as commands
 use Rattle.jr_syntax.specs.declared.name.Reference.{Reference}
@@ -22,12 +30,15 @@ use Rattle.jr_syntax.specs.declared.name.Reference.TheVariants.{Null, Named}
 use Rattle.jr_syntax.specs.Name.{is_name, is_name_byte, is_digit, is_reference}
 use Rattle.jr_syntax.specs.Number.{all_digits, number_of_digits}
 use Rattle.jr_syntax.specs.Line.{line, words_of}
-use Rattle.jr_syntax.specs.Kind.{WordKind, Arguments, name, one, two}
+use Rattle.jr_syntax.specs.Kind.{WordKind, Arguments, name, one, two, three, up_to, before}
 use Rattle.jr_syntax.specs.Reference.{reference, reference_word, reference_at, is_good_reference}
-use Rattle.jr_syntax.specs.Count.{count}
+use Rattle.jr_syntax.specs.Count.{number_at_most, most_count, count}
+use Rattle.jr_syntax.specs.Units.{most_units, unit, units}
+use Rattle.jr_syntax.specs.Value.{is_long, value}
 use Rattle.jr_syntax.specs.Command.{verb_word, verb_of, all_verbs, behind_verb, spelling_of, words_of_command, is_command, line_has_form, line_in_range, line_command}
 use Rattle.jr_syntax.specs.Script.{thread}
 use Rattle.jr_syntax.proofs.DecimalLaws.{decimal_digits, decimal_form, number_decimal}
+use Rattle.jr_syntax.proofs.ValueLaws.{or_right, long_above, long_below, value_form, value_again}
 use Rattle.jr_syntax.proofs.VmLaws.{not_all}
 
 -- ---- bytes that are seen: 33 to 126
@@ -74,10 +85,6 @@ name_again = record { solid = name_solid; form = λ x g. g; range = λ x g. refl
 no_null : (n : List ℕ) → is_name n ≡ true → bytes_eq n (codes "null") ≡ false
 no_null n f = not-true _ (and_parts _ _ f).1
 
-or_right : (a b : Bool) → b ≡ true → (a || b) ≡ true
-or_right true b h = refl
-or_right false b h = h
-
 reference_solid : (x : Reference) → is_good_reference x ≡ true → is_solid (reference_word x) ≡ true
 reference_solid Null g = refl
 reference_solid (Named n) g = name_solid n g
@@ -93,20 +100,33 @@ reference_back (Named n) g = rw (no_null n g) refl
 reference_again : AgainWord reference
 reference_again = record { solid = reference_solid; form = reference_form; range = λ x g. refl; back = reference_back }
 
--- a count has few bits
-fits : (n : ℕ) → nat_le n 16777215 ≡ true → n < 2 ^ 64
-fits n g = let le = leb-true n 16777215 g in omega (arith, le)
+-- a number up to the greatest has few bits
+fits : (most : ℕ) → most < 2 ^ 64 → (n : ℕ) → nat_le n most ≡ true → n < 2 ^ 64
+fits most h n g = let le = leb-true n most g in omega (arith, le, h)
 
-count_range : (n : ℕ) → nat_le n 16777215 ≡ true → nat_le (number_of_digits (decimal n)) 16777215 ≡ true
-count_range n g = ap (λ m. nat_le m 16777215) (number_decimal n (fits n g)) ∙ g
+number_range : (most : ℕ) → most < 2 ^ 64 → (n : ℕ) → nat_le n most ≡ true → nat_le (number_of_digits (decimal n)) most ≡ true
+number_range most h n g = ap (λ m. nat_le m most) (number_decimal n (fits most h n g)) ∙ g
+
+number_again : (most : ℕ) → most < 2 ^ 64 → AgainWord (number_at_most most)
+number_again most h = record {
+  solid = λ n g. decimal_solid n (fits most h n g);
+  form = λ n g. decimal_form n (fits most h n g);
+  range = number_range most h;
+  back = λ n g. number_decimal n (fits most h n g);
+}
 
 count_again : AgainWord count
-count_again = record {
-  solid = λ n g. decimal_solid n (fits n g);
-  form = λ n g. decimal_form n (fits n g);
-  range = count_range;
-  back = λ n g. number_decimal n (fits n g);
-}
+count_again = number_again most_count (omega arith)
+
+unit_again : AgainWord unit
+unit_again = number_again 65535 (omega arith)
+
+value_solid : (z : ℤ) → is_long z ≡ true → is_solid (signed_decimal z) ≡ true
+value_solid (pos n) g = let small = long_above n g in decimal_solid n (omega (arith, small))
+value_solid (negsuc n) g = let small = long_below n g in decimal_solid (suc n) (omega (arith, small))
+
+value_word_again : AgainWord value
+value_word_again = record { solid = value_solid; form = value_form; range = λ z g. ap is_long (value_again z g) ∙ g; back = value_again }
 
 -- ---- arguments
 
@@ -129,6 +149,46 @@ two_again : {X Y : Type 0} (k : WordKind X) (l : WordKind Y) → AgainWord k →
 two_again k l t u = record {
   solid = λ x g. let p = and_parts _ _ g in and_from _ _ (t.solid x.0 p.0) (and_from _ _ (u.solid x.1 p.1) refl);
   form = λ x g. let p = and_parts _ _ g in and_from _ _ (t.form x.0 p.0) (u.form x.1 p.1);
+  range = λ x g. let p = and_parts _ _ g in and_from _ _ (t.range x.0 p.0) (u.range x.1 p.1);
+  back = λ x g. let p = and_parts _ _ g in rw (t.back x.0 p.0, u.back x.1 p.1) refl;
+}
+
+three_again : {X Y Z : Type 0} (k : WordKind X) (l : WordKind Y) (m : WordKind Z) → AgainWord k → AgainWord l → AgainWord m → Again (three k l m)
+three_again k l m t u v = record {
+  solid = λ x g.
+      let p = and_parts _ _ g in
+      let q = and_parts _ _ p.0 in
+      and_from _ _ (t.solid x.0 q.0) (and_from _ _ (u.solid x.1 q.1) (and_from _ _ (v.solid x.2 p.1) refl));
+  form = λ x g. let p = and_parts _ _ g in let q = and_parts _ _ p.0 in and_from _ _ (and_from _ _ (t.form x.0 q.0) (u.form x.1 q.1)) (v.form x.2 p.1);
+  range = λ x g. let p = and_parts _ _ g in let q = and_parts _ _ p.0 in and_from _ _ (and_from _ _ (t.range x.0 q.0) (u.range x.1 q.1)) (v.range x.2 p.1);
+  back = λ x g. let p = and_parts _ _ g in let q = and_parts _ _ p.0 in rw (t.back x.0 q.0, u.back x.1 q.1, v.back x.2 p.1) refl;
+}
+
+-- what holds of each word that is spelled holds of all
+all_spelled : {X : Type 0} (k : WordKind X) (p : List ℕ → Bool) → ((x : X) → k.is_good x ≡ true → p (k.spell x) ≡ true) → (xs : List X) → list_all k.is_good xs ≡ true → list_all p (map k.spell xs) ≡ true
+all_spelled k p h [] g = refl
+all_spelled k p h (x ∷ xs) g = let q = and_parts _ _ g in and_from _ _ (h x q.0) (all_spelled k p h xs q.1)
+
+all_again : {X : Type 0} (k : WordKind X) → AgainWord k → (xs : List X) → list_all k.is_good xs ≡ true → map k.value (map k.spell xs) ≡ xs
+all_again k t [] g = refl
+all_again k t (x ∷ xs) g = let q = and_parts _ _ g in rw (t.back x q.0, all_again k t xs q.1) refl
+
+up_to_again : {X : Type 0} (most : ℕ) (k : WordKind X) → AgainWord k → Again (up_to most k)
+up_to_again most k t = record {
+  solid = λ xs g. all_spelled k is_solid t.solid xs (and_parts _ _ g).1;
+  form = λ xs g.
+      let p = and_parts _ _ g in
+      and_from _ _ (ap (λ n. nat_le n most) (length-map xs k.spell) ∙ p.0) (all_spelled k k.has_form t.form xs p.1);
+  range = λ xs g. all_spelled k k.in_range t.range xs (and_parts _ _ g).1;
+  back = λ xs g. all_again k t xs (and_parts _ _ g).1;
+}
+
+before_again : {X Y : Type 0} (k : WordKind X) (a : Arguments Y) → AgainWord k → Again a → Again (before k a)
+before_again k a t u = record {
+  solid = λ x g. let p = and_parts _ _ g in and_from _ _ (t.solid x.0 p.0) (u.solid x.1 p.1);
+  form = λ x g.
+      let p = and_parts _ _ g in
+      and_from _ _ (and_from _ _ (le-leb 1 (length (k.spell x.0 ∷ a.spell x.1)) (omega arith)) (t.form x.0 p.0)) (u.form x.1 p.1);
   range = λ x g. let p = and_parts _ _ g in and_from _ _ (t.range x.0 p.0) (u.range x.1 p.1);
   back = λ x g. let p = and_parts _ _ g in rw (t.back x.0 p.0, u.back x.1 p.1) refl;
 }
@@ -185,10 +245,24 @@ verb_again (MakeFrom Local) = refl
 verb_again (MakeFrom Pop) = refl
 verb_again (On on.Drop) = refl
 verb_again (On on.Type) = refl
+verb_again (On on.Len) = refl
+verb_again (On on.TextLength) = refl
 verb_again (OnBoth Same) = refl
 verb_again (OnName Post) = refl
 verb_again (WithCount Push) = refl
 verb_again (WithCount Ensure) = refl
+verb_again (MakeSized sized.Boolean) = refl
+verb_again (MakeSized sized.Byte) = refl
+verb_again (MakeSized sized.Char) = refl
+verb_again (MakeSized sized.Short) = refl
+verb_again (MakeSized sized.Int) = refl
+verb_again (MakeSized sized.Long) = refl
+verb_again (MakeFilled Objects) = refl
+verb_again (MakeText text.String) = refl
+verb_again (MakeAt Get) = refl
+verb_again (OnAt Load) = refl
+verb_again (SetAt set_at.Set) = refl
+verb_again (StoreAt Store) = refl
 
 -- the word of a verb can be told from spaces, and from a thread line's
 abbrev can_begin : Verb → Bool
@@ -235,3 +309,10 @@ command_again (commands.On v r) g = by _ (one_again reference reference_again) (
 command_again (commands.OnBoth v l r) g = by _ (two_again reference reference reference_again reference_again) (OnBoth v) (λ x. commands.OnBoth v x.0 x.1) (λ _. refl) (λ _. refl) (λ _. refl) (l, r) g
 command_again (commands.OnName v n) g = by _ (one_again name name_again) (OnName v) (λ x. commands.OnName v x) (λ _. refl) (λ _. refl) (λ _. refl) n g
 command_again (commands.WithCount v n) g = by _ (one_again count count_again) (WithCount v) (λ x. commands.WithCount v x) (λ _. refl) (λ _. refl) (λ _. refl) n g
+command_again (commands.MakeSized v n l) g = by _ (two_again name count name_again count_again) (MakeSized v) (λ x. commands.MakeSized v x.0 x.1) (λ _. refl) (λ _. refl) (λ _. refl) (n, l) g
+command_again (commands.MakeFilled v n l r) g = by _ (three_again name count reference name_again count_again reference_again) (MakeFilled v) (λ x. commands.MakeFilled v x.0 x.1 x.2) (λ _. refl) (λ _. refl) (λ _. refl) (n, l, r) g
+command_again (commands.MakeText v n us) g = by _ (before_again name units name_again (up_to_again most_units unit unit_again)) (MakeText v) (λ x. commands.MakeText v x.0 x.1) (λ _. refl) (λ _. refl) (λ _. refl) (n, us) g
+command_again (commands.MakeAt v n r i) g = by _ (three_again name reference count name_again reference_again count_again) (MakeAt v) (λ x. commands.MakeAt v x.0 x.1 x.2) (λ _. refl) (λ _. refl) (λ _. refl) (n, r, i) g
+command_again (commands.OnAt v r i) g = by _ (two_again reference count reference_again count_again) (OnAt v) (λ x. commands.OnAt v x.0 x.1) (λ _. refl) (λ _. refl) (λ _. refl) (r, i) g
+command_again (commands.SetAt v r i q) g = by _ (three_again reference count reference reference_again count_again reference_again) (SetAt v) (λ x. commands.SetAt v x.0 x.1 x.2) (λ _. refl) (λ _. refl) (λ _. refl) (r, i, q) g
+command_again (commands.StoreAt v r i x) g = by _ (three_again reference count value reference_again count_again value_word_again) (StoreAt v) (λ y. commands.StoreAt v y.0 y.1 y.2) (λ _. refl) (λ _. refl) (λ _. refl) (r, i, x) g

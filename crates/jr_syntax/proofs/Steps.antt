@@ -81,6 +81,13 @@ apart_posted xs (commands.MakeFrom v n r) h new = ap all_apart (append-nil xs) �
 apart_posted xs (commands.On v r) h new = ap all_apart (append-nil xs) ∙ h
 apart_posted xs (commands.OnBoth v q r) h new = ap all_apart (append-nil xs) ∙ h
 apart_posted xs (commands.WithCount v n) h new = ap all_apart (append-nil xs) ∙ h
+apart_posted xs (commands.MakeSized v n l) h new = ap all_apart (append-nil xs) ∙ h
+apart_posted xs (commands.MakeFilled v n l r) h new = ap all_apart (append-nil xs) ∙ h
+apart_posted xs (commands.MakeText v n us) h new = ap all_apart (append-nil xs) ∙ h
+apart_posted xs (commands.MakeAt v n r i) h new = ap all_apart (append-nil xs) ∙ h
+apart_posted xs (commands.OnAt v r i) h new = ap all_apart (append-nil xs) ∙ h
+apart_posted xs (commands.SetAt v r i q) h new = ap all_apart (append-nil xs) ∙ h
+apart_posted xs (commands.StoreAt v r i x) h new = ap all_apart (append-nil xs) ∙ h
 
 -- ---- one more part
 

@@ -194,6 +194,13 @@ fresh_post xs (commands.MakeFrom v n r) ys h = refl
 fresh_post xs (commands.On v r) ys h = refl
 fresh_post xs (commands.OnBoth v q r) ys h = refl
 fresh_post xs (commands.WithCount v n) ys h = refl
+fresh_post xs (commands.MakeSized v n l) ys h = refl
+fresh_post xs (commands.MakeFilled v n l r) ys h = refl
+fresh_post xs (commands.MakeText v n us) ys h = refl
+fresh_post xs (commands.MakeAt v n r i) ys h = refl
+fresh_post xs (commands.OnAt v r i) ys h = refl
+fresh_post xs (commands.SetAt v r i q) ys h = refl
+fresh_post xs (commands.StoreAt v r i x) ys h = refl
 
 -- what the lines so far say
 record SoFar (before : List (List ℕ)) (threads : ℕ) (names posts : List (List ℕ)) : Type 0 where

@@ -6,18 +6,27 @@ use Rattle.std.specs.Str.{bytes_eq}
 use Rattle.jr_syntax.specs.declared.argument.LineError.{LineError}
 use Rattle.jr_syntax.specs.declared.argument.LineError.TheVariants as errors
 use Rattle.jr_syntax.specs.declared.verb.Verb.{Verb}
-use Rattle.jr_syntax.specs.declared.verb.Verb.TheVariants.{Make, MakeFrom, On, OnBoth, OnName, WithCount}
+use Rattle.jr_syntax.specs.declared.verb.Verb.TheVariants.{Make, MakeFrom, On, OnBoth, OnName, WithCount, MakeSized, MakeFilled, MakeText, MakeAt, OnAt, SetAt, StoreAt}
 use Rattle.jr_syntax.specs.declared.verb.Make.TheVariants.{Plain, Wait}
 use Rattle.jr_syntax.specs.declared.verb.MakeFrom.TheVariants.{Global, Weak, Local, Pop}
 use Rattle.jr_syntax.specs.declared.verb.On.TheVariants as on
 use Rattle.jr_syntax.specs.declared.verb.OnBoth.TheVariants.{Same}
 use Rattle.jr_syntax.specs.declared.verb.OnName.TheVariants.{Post}
 use Rattle.jr_syntax.specs.declared.verb.WithCount.TheVariants.{Push, Ensure}
+use Rattle.jr_syntax.specs.declared.verb.MakeSized.TheVariants as sized
+use Rattle.jr_syntax.specs.declared.verb.MakeFilled.TheVariants.{Objects}
+use Rattle.jr_syntax.specs.declared.verb.MakeText.TheVariants as text
+use Rattle.jr_syntax.specs.declared.verb.MakeAt.TheVariants.{Get}
+use Rattle.jr_syntax.specs.declared.verb.OnAt.TheVariants.{Load}
+use Rattle.jr_syntax.specs.declared.verb.SetAt.TheVariants as set_at
+use Rattle.jr_syntax.specs.declared.verb.StoreAt.TheVariants.{Store}
 use Rattle.jr_syntax.specs.declared.command.Command.{Command}
 use Rattle.jr_syntax.specs.declared.command.Command.TheVariants as commands
-use Rattle.jr_syntax.specs.Kind.{Arguments, Reading, one, two, name}
+use Rattle.jr_syntax.specs.Kind.{Arguments, Reading, one, two, three, before, name}
 use Rattle.jr_syntax.specs.Reference.{reference}
 use Rattle.jr_syntax.specs.Count.{count}
+use Rattle.jr_syntax.specs.Units.{units}
+use Rattle.jr_syntax.specs.Value.{value}
 
 -- ---- the verbs, two rows for each
 
@@ -31,14 +40,31 @@ verb_word (MakeFrom Local) = codes "local"
 verb_word (MakeFrom Pop) = codes "pop"
 verb_word (On on.Drop) = codes "drop"
 verb_word (On on.Type) = codes "type"
+verb_word (On on.Len) = codes "len"
+verb_word (On on.TextLength) = codes "slen"
 verb_word (OnBoth Same) = codes "same"
 verb_word (OnName Post) = codes "post"
 verb_word (WithCount Push) = codes "push"
 verb_word (WithCount Ensure) = codes "ensure"
+verb_word (MakeSized sized.Boolean) = codes "boolean"
+verb_word (MakeSized sized.Byte) = codes "byte"
+verb_word (MakeSized sized.Char) = codes "char"
+verb_word (MakeSized sized.Short) = codes "short"
+verb_word (MakeSized sized.Int) = codes "int"
+verb_word (MakeSized sized.Long) = codes "long"
+verb_word (MakeFilled Objects) = codes "objs"
+verb_word (MakeText text.String) = codes "string"
+verb_word (MakeAt Get) = codes "get"
+verb_word (OnAt Load) = codes "load"
+verb_word (SetAt set_at.Set) = codes "set"
+verb_word (StoreAt Store) = codes "store"
 
 -- every verb
 abbrev pub all_verbs : List Verb
-all_verbs = Make Plain ∷ Make Wait ∷ MakeFrom Global ∷ MakeFrom Weak ∷ MakeFrom Local ∷ MakeFrom Pop ∷ On on.Drop ∷ On on.Type ∷ OnBoth Same ∷ OnName Post ∷ WithCount Push ∷ WithCount Ensure ∷ []
+all_verbs =
+    Make Plain ∷ Make Wait ∷ MakeFrom Global ∷ MakeFrom Weak ∷ MakeFrom Local ∷ MakeFrom Pop ∷ On on.Drop ∷ On on.Type ∷ On on.Len ∷ On on.TextLength ∷ OnBoth Same ∷ OnName Post ∷ WithCount Push ∷ WithCount Ensure
+    ∷ MakeSized sized.Boolean ∷ MakeSized sized.Byte ∷ MakeSized sized.Char ∷ MakeSized sized.Short ∷ MakeSized sized.Int ∷ MakeSized sized.Long
+    ∷ MakeFilled Objects ∷ MakeText text.String ∷ MakeAt Get ∷ OnAt Load ∷ SetAt set_at.Set ∷ StoreAt Store ∷ []
 
 -- ---- the shapes of commands: the arguments behind a verb
 
@@ -54,14 +80,22 @@ behind_verb (On v) = command_of (one reference) (λ r. commands.On v r)
 behind_verb (OnBoth v) = command_of (two reference reference) (λ x. commands.OnBoth v x.0 x.1)
 behind_verb (OnName v) = command_of (one name) (λ n. commands.OnName v n)
 behind_verb (WithCount v) = command_of (one count) (λ n. commands.WithCount v n)
+behind_verb (MakeSized v) = command_of (two name count) (λ x. commands.MakeSized v x.0 x.1)
+behind_verb (MakeFilled v) = command_of (three name count reference) (λ x. commands.MakeFilled v x.0 x.1 x.2)
+behind_verb (MakeText v) = command_of (before name units) (λ x. commands.MakeText v x.0 x.1)
+behind_verb (MakeAt v) = command_of (three name reference count) (λ x. commands.MakeAt v x.0 x.1 x.2)
+behind_verb (OnAt v) = command_of (two reference count) (λ x. commands.OnAt v x.0 x.1)
+behind_verb (SetAt v) = command_of (three reference count reference) (λ x. commands.SetAt v x.0 x.1 x.2)
+behind_verb (StoreAt v) = command_of (three reference count value) (λ x. commands.StoreAt v x.0 x.1 x.2)
 
--- A command's words, and whether its names are names and its numbers within bounds.
+-- A command's verb and words, and whether its names are names and its numbers within bounds.
 pub record Spelling : Type 0 where
+  pub verb : Verb
   pub words : List (List ℕ)
   pub is_good : Bool
 
 abbrev pub spelled : {X : Type 0} → Verb → Arguments X → X → Spelling
-spelled v a x = record { words = verb_word v ∷ a.spell x; is_good = a.is_good x }
+spelled v a x = record { verb = v; words = verb_word v ∷ a.spell x; is_good = a.is_good x }
 
 -- how a command is spelled
 unfoldable pub spelling_of : Command → Spelling
@@ -71,6 +105,13 @@ spelling_of (commands.On v r) = spelled (On v) (one reference) r
 spelling_of (commands.OnBoth v l r) = spelled (OnBoth v) (two reference reference) (l, r)
 spelling_of (commands.OnName v n) = spelled (OnName v) (one name) n
 spelling_of (commands.WithCount v n) = spelled (WithCount v) (one count) n
+spelling_of (commands.MakeSized v n l) = spelled (MakeSized v) (two name count) (n, l)
+spelling_of (commands.MakeFilled v n l r) = spelled (MakeFilled v) (three name count reference) (n, l, r)
+spelling_of (commands.MakeText v n us) = spelled (MakeText v) (before name units) (n, us)
+spelling_of (commands.MakeAt v n r i) = spelled (MakeAt v) (three name reference count) (n, r, i)
+spelling_of (commands.OnAt v r i) = spelled (OnAt v) (two reference count) (r, i)
+spelling_of (commands.SetAt v r i x) = spelled (SetAt v) (three reference count reference) (r, i, x)
+spelling_of (commands.StoreAt v r i x) = spelled (StoreAt v) (three reference count value) (r, i, x)
 
 -- ---- what follows from them
 

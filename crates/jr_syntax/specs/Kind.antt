@@ -1,9 +1,10 @@
 -- Kinds of words and of arguments: how they are read, and how they are spelled.
-use Rattle.std.specs.Prelude.{◌≡◌, Bool, true, false, List, ℕ, [], ◌∷◌, ◌&&◌, ◌==◌, length, Result, Ok, Err, MatchOption, Option}
+use Rattle.std.specs.Prelude.{◌≡◌, Bool, true, false, List, ℕ, [], ◌∷◌, ◌&&◌, ◌==◌, nat_le, length, map, Result, Ok, Err, MatchOption, Option}
+use Rattle.std.specs.List.{list_all}
 use Rattle.jr_syntax.specs.declared.argument.LineError.{LineError}
 use Rattle.jr_syntax.specs.declared.argument.LineError.TheVariants as errors
 use Rattle.jr_syntax.specs.Name.{is_name}
-use Rattle.jr_syntax.specs.Line.{word_at}
+use Rattle.jr_syntax.specs.Line.{word_at, behind}
 
 -- How text W is read as an X: which text has the form, sizes of numbers aside; which of it has its numbers within
 -- their bounds; what it stands for.
@@ -53,6 +54,36 @@ two k l = record {
   value = λ ws. (k.value (word_at ws 0), l.value (word_at ws 1));
   spell = λ x. k.spell x.0 ∷ l.spell x.1 ∷ [];
   is_good = λ x. k.is_good x.0 && l.is_good x.1;
+}
+
+-- three arguments
+abbrev pub three : {X Y Z : Type 0} → WordKind X → WordKind Y → WordKind Z → Arguments (X × Y × Z)
+three k l m = record {
+  has_form = λ ws. (length ws == 3) && k.has_form (word_at ws 0) && l.has_form (word_at ws 1) && m.has_form (word_at ws 2);
+  in_range = λ ws. k.in_range (word_at ws 0) && l.in_range (word_at ws 1) && m.in_range (word_at ws 2);
+  value = λ ws. (k.value (word_at ws 0), l.value (word_at ws 1), m.value (word_at ws 2));
+  spell = λ x. k.spell x.0 ∷ l.spell x.1 ∷ m.spell x.2 ∷ [];
+  is_good = λ x. k.is_good x.0 && l.is_good x.1 && m.is_good x.2;
+}
+
+-- any number of arguments of one kind, up to the most
+abbrev pub up_to : {X : Type 0} → ℕ → WordKind X → Arguments (List X)
+up_to most k = record {
+  has_form = λ ws. nat_le (length ws) most && list_all k.has_form ws;
+  in_range = λ ws. list_all k.in_range ws;
+  value = λ ws. map k.value ws;
+  spell = λ xs. map k.spell xs;
+  is_good = λ xs. nat_le (length xs) most && list_all k.is_good xs;
+}
+
+-- an argument, and others behind it
+abbrev pub before : {X Y : Type 0} → WordKind X → Arguments Y → Arguments (X × Y)
+before k a = record {
+  has_form = λ ws. nat_le 1 (length ws) && k.has_form (word_at ws 0) && a.has_form (behind ws);
+  in_range = λ ws. k.in_range (word_at ws 0) && a.in_range (behind ws);
+  value = λ ws. (k.value (word_at ws 0), a.value (behind ws));
+  spell = λ x. k.spell x.0 ∷ a.spell x.1;
+  is_good = λ x. k.is_good x.0 && a.is_good x.1;
 }
 
 -- What a word of the form was read as: nothing where a number is out of range.

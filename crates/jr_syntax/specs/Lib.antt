@@ -4,6 +4,8 @@ pub mod Line
 pub mod Kind
 pub mod Reference
 pub mod Count
+pub mod Units
+pub mod Value
 pub mod Command
 pub mod Script
 pub mod Faults

@@ -1,18 +1,24 @@
 //! The arguments of a command, each one word.
 
 ghost use Rattle.std.specs.Prelude.{◌≡◌, ◌∷◌, ◌++◌, true, OnOk};
-ghost use Rattle.jr_syntax.specs.Kind.{WordKind, reading, ReadsWord, Reads, one as one_of, two as two_of, name};
+ghost use Rattle.jr_syntax.specs.Kind.{WordKind, reading, ReadsWord, Reads, one as one_of, two as two_of, three as three_of, name};
 ghost use Rattle.jr_syntax.specs.Line.{line};
 ghost use Rattle.jr_syntax.specs.Reference.{reference};
 ghost use Rattle.jr_syntax.specs.Count.{count};
+ghost use Rattle.jr_syntax.specs.Units.{unit};
+ghost use Rattle.jr_syntax.specs.Value.{value};
 
 use crate::name::{Name, Reference, is_name, is_reference};
 use crate::number::{is_number, number_up_to};
+use crate::value::{is_value, long_of};
 use crate::word::Words;
 use std::alloc::AllocError;
 
 /// The greatest count.
 const MOST_COUNT: u32 = 16_777_215;
+
+/// The greatest unit.
+const MOST_UNIT: u32 = 65_535;
 
 /// Why words are not what they should be.
 #[derive(Clone, Copy)]
@@ -97,6 +103,43 @@ impl Argument for u32 {
     }
 }
 
+impl Argument for u16 {
+    ghost kind = { unit };
+
+    fn has_form(word: &[u8]) -> bool {
+        is_number(word)
+    }
+
+    fn read(word: &[u8]) -> Option<u16> {
+        let unit = number_up_to(word, MOST_UNIT)?;
+        Some(unit as u16)
+    }
+
+    fn put(&self, out: &mut Vec<u8>) -> Result<(), AllocError> {
+        let unit = format!(in *out.allocator(); "{self}")?;
+        out.extend_from_slice(unit.as_bytes())?;
+        Ok(())
+    }
+}
+
+impl Argument for i64 {
+    ghost kind = { value };
+
+    fn has_form(word: &[u8]) -> bool {
+        is_value(word)
+    }
+
+    fn read(word: &[u8]) -> Option<i64> {
+        long_of(word)
+    }
+
+    fn put(&self, out: &mut Vec<u8>) -> Result<(), AllocError> {
+        let value = format!(in *out.allocator(); "{self}")?;
+        out.extend_from_slice(value.as_bytes())?;
+        Ok(())
+    }
+}
+
 /// Reads words that are one argument.
 pub fn one<A: Argument>(mut words: Words) -> Result<A, LineError>
     ensures { Reads (reading (one_of A.kind)) words.entry result }
@@ -129,6 +172,25 @@ pub fn two<A: Argument, B: Argument>(mut words: Words) -> Result<(A, B), LineErr
     Ok((a, b))
 }
 
+/// Reads words that are three arguments.
+pub fn three<A: Argument, B: Argument, C: Argument>(
+    mut words: Words,
+) -> Result<(A, B, C), LineError>
+    ensures { Reads (reading (three_of A.kind B.kind C.kind)) words.entry result }
+{
+    let (Some(a), Some(b), Some(c), None) = (words.next(), words.next(), words.next(), words.next())
+    else {
+        return Err(LineError::Form);
+    };
+    if !A::has_form(a) || !B::has_form(b) || !C::has_form(c) {
+        return Err(LineError::Form);
+    }
+    let (Some(a), Some(b), Some(c)) = (A::read(a), B::read(b), C::read(c)) else {
+        return Err(LineError::Range);
+    };
+    Ok((a, b, c))
+}
+
 /// Writes a word and one argument behind it.
 pub fn put_one<A: Argument>(out: &mut Vec<u8>, word: &[u8], a: &A) -> Result<(), AllocError>
     ensures { OnOk result (out.new.items ≡ out.old.items ++ line (word.now ∷ (one_of A.kind).spell a.now)) }
@@ -151,5 +213,21 @@ pub fn put_two<A: Argument, B: Argument>(
     put_one(out, word, a)?;
     out.push(b' ')?;
     b.put(out)?;
+    Ok(())
+}
+
+/// Writes a word and three arguments behind it.
+pub fn put_three<A: Argument, B: Argument, C: Argument>(
+    out: &mut Vec<u8>,
+    word: &[u8],
+    a: &A,
+    b: &B,
+    c: &C,
+) -> Result<(), AllocError>
+    ensures { OnOk result (out.new.items ≡ out.old.items ++ line (word.now ∷ (three_of A.kind B.kind C.kind).spell (a.now, b.now, c.now))) }
+{
+    put_two(out, word, a, b)?;
+    out.push(b' ')?;
+    c.put(out)?;
     Ok(())
 }

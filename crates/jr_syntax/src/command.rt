@@ -3,11 +3,17 @@
 ghost use Rattle.std.specs.Prelude.{◌≡◌, ◌++◌, OnOk};
 ghost use Rattle.jr_syntax.specs.Kind.{Reads};
 ghost use Rattle.jr_syntax.specs.Line.{line};
-ghost use Rattle.jr_syntax.specs.Command.{behind_verb, words_of_command, ReadsLine};
+ghost use Rattle.jr_syntax.specs.declared.verb.Verb.TheVariants as with;
+ghost use Rattle.jr_syntax.specs.Command.{behind_verb, spelling_of, words_of_command, ReadsLine};
 
-use crate::argument::{LineError, one, put_one, put_two, two};
+use crate::argument::{LineError, one, put_one, put_three, put_two, three, two};
 use crate::name::{Name, Reference};
-use crate::verb::{Make, MakeFrom, On, OnBoth, OnName, Verb, WithCount};
+use crate::text::{named_units, put_named_units};
+use crate::units::Units;
+use crate::verb::{
+    Make, MakeAt, MakeFilled, MakeFrom, MakeSized, MakeText, On, OnAt, OnBoth, OnName, SetAt,
+    StoreAt, Verb, WithCount,
+};
 use crate::word::Words;
 use std::alloc::AllocError;
 
@@ -46,6 +52,52 @@ pub enum Command {
         verb: WithCount,
         count: u32,
     },
+    /// `VERB N LEN`: makes an array of a length, for which the name then stands; 0 to 16,777,215.
+    MakeSized {
+        verb: MakeSized,
+        name: Name,
+        length: u32,
+    },
+    /// `VERB N LEN REF`: makes an array of a length, each element what a reference names.
+    MakeFilled {
+        verb: MakeFilled,
+        name: Name,
+        length: u32,
+        target: Reference,
+    },
+    /// `VERB N UNIT ..`: makes something of units, for which the name then stands.
+    MakeText {
+        verb: MakeText,
+        name: Name,
+        units: Units,
+    },
+    /// `VERB N REF I`: makes something from an element, for which the name then stands; index 0 to 16,777,215.
+    MakeAt {
+        verb: MakeAt,
+        name: Name,
+        target: Reference,
+        index: u32,
+    },
+    /// `VERB REF I`: is about an element.
+    OnAt {
+        verb: OnAt,
+        target: Reference,
+        index: u32,
+    },
+    /// `VERB REF I REF`: makes what a reference names an element.
+    SetAt {
+        verb: SetAt,
+        target: Reference,
+        index: u32,
+        value: Reference,
+    },
+    /// `VERB REF I VALUE`: makes a value an element.
+    StoreAt {
+        verb: StoreAt,
+        target: Reference,
+        index: u32,
+        value: i64,
+    },
 }
 
 impl Command {
@@ -79,6 +131,115 @@ impl Command {
                 let count = one(words)?;
                 Ok(Command::WithCount { verb, count })
             }
+            Verb::MakeSized(verb) => Command::read_sized(verb, words),
+            Verb::MakeFilled(verb) => Command::read_filled(verb, words),
+            Verb::MakeText(verb) => Command::read_text(verb, words),
+            Verb::MakeAt(verb) => Command::read_made_at(verb, words),
+            Verb::OnAt(verb) => Command::read_at(verb, words),
+            Verb::SetAt(verb) => Command::read_set(verb, words),
+            Verb::StoreAt(verb) => Command::read_stored(verb, words),
+        }
+    }
+
+    #[tactic(auto, unfolding(crate::specs::Command::behind_verb))]
+    fn read_sized(verb: MakeSized, words: Words) -> Result<Command, LineError>
+        ensures { Reads (behind_verb (with.MakeSized verb)) words.entry result }
+    {
+        let (name, length) = two(words)?;
+        Ok(Command::MakeSized { verb, name, length })
+    }
+
+    #[tactic(auto, unfolding(crate::specs::Command::behind_verb))]
+    fn read_filled(verb: MakeFilled, words: Words) -> Result<Command, LineError>
+        ensures { Reads (behind_verb (with.MakeFilled verb)) words.entry result }
+    {
+        let (name, length, target) = three(words)?;
+        Ok(Command::MakeFilled {
+            verb,
+            name,
+            length,
+            target,
+        })
+    }
+
+    #[tactic(auto, unfolding(crate::specs::Command::behind_verb))]
+    fn read_text(verb: MakeText, words: Words) -> Result<Command, LineError>
+        ensures { Reads (behind_verb (with.MakeText verb)) words.entry result }
+    {
+        let (name, units) = named_units(words)?;
+        Ok(Command::MakeText { verb, name, units })
+    }
+
+    #[tactic(auto, unfolding(crate::specs::Command::behind_verb))]
+    fn read_made_at(verb: MakeAt, words: Words) -> Result<Command, LineError>
+        ensures { Reads (behind_verb (with.MakeAt verb)) words.entry result }
+    {
+        let (name, target, index) = three(words)?;
+        Ok(Command::MakeAt {
+            verb,
+            name,
+            target,
+            index,
+        })
+    }
+
+    #[tactic(auto, unfolding(crate::specs::Command::behind_verb))]
+    fn read_at(verb: OnAt, words: Words) -> Result<Command, LineError>
+        ensures { Reads (behind_verb (with.OnAt verb)) words.entry result }
+    {
+        let (target, index) = two(words)?;
+        Ok(Command::OnAt {
+            verb,
+            target,
+            index,
+        })
+    }
+
+    #[tactic(auto, unfolding(crate::specs::Command::behind_verb))]
+    fn read_set(verb: SetAt, words: Words) -> Result<Command, LineError>
+        ensures { Reads (behind_verb (with.SetAt verb)) words.entry result }
+    {
+        let (target, index, value) = three(words)?;
+        Ok(Command::SetAt {
+            verb,
+            target,
+            index,
+            value,
+        })
+    }
+
+    #[tactic(auto, unfolding(crate::specs::Command::behind_verb))]
+    fn read_stored(verb: StoreAt, words: Words) -> Result<Command, LineError>
+        ensures { Reads (behind_verb (with.StoreAt verb)) words.entry result }
+    {
+        let (target, index, value) = three(words)?;
+        Ok(Command::StoreAt {
+            verb,
+            target,
+            index,
+            value,
+        })
+    }
+
+    /// Its verb.
+    #[tactic(auto, unfolding(crate::specs::Command::spelling_of))]
+    fn verb(&self) -> Verb
+        ensures { result ≡ (spelling_of self.now).verb }
+    {
+        match self {
+            Command::Make { verb, .. } => Verb::Make(*verb),
+            Command::MakeFrom { verb, .. } => Verb::MakeFrom(*verb),
+            Command::On { verb, .. } => Verb::On(*verb),
+            Command::OnBoth { verb, .. } => Verb::OnBoth(*verb),
+            Command::OnName { verb, .. } => Verb::OnName(*verb),
+            Command::WithCount { verb, .. } => Verb::WithCount(*verb),
+            Command::MakeSized { verb, .. } => Verb::MakeSized(*verb),
+            Command::MakeFilled { verb, .. } => Verb::MakeFilled(*verb),
+            Command::MakeText { verb, .. } => Verb::MakeText(*verb),
+            Command::MakeAt { verb, .. } => Verb::MakeAt(*verb),
+            Command::OnAt { verb, .. } => Verb::OnAt(*verb),
+            Command::SetAt { verb, .. } => Verb::SetAt(*verb),
+            Command::StoreAt { verb, .. } => Verb::StoreAt(*verb),
         }
     }
 
@@ -87,19 +248,41 @@ impl Command {
     pub(crate) fn put(&self, out: &mut Vec<u8>) -> Result<(), AllocError>
         ensures { OnOk result (out.new.items ≡ out.old.items ++ line (words_of_command self.now)) }
     {
+        let word = self.verb().word();
         match self {
-            Command::Make { verb, name } => put_one(out, Verb::Make(*verb).word(), name),
-            Command::MakeFrom { verb, name, target } => {
-                put_two(out, Verb::MakeFrom(*verb).word(), name, target)
-            }
-            Command::On { verb, target } => put_one(out, Verb::On(*verb).word(), target),
-            Command::OnBoth { verb, left, right } => {
-                put_two(out, Verb::OnBoth(*verb).word(), left, right)
-            }
-            Command::OnName { verb, name } => put_one(out, Verb::OnName(*verb).word(), name),
-            Command::WithCount { verb, count } => {
-                put_one(out, Verb::WithCount(*verb).word(), count)
-            }
+            Command::Make { name, .. } => put_one(out, word, name),
+            Command::MakeFrom { name, target, .. } => put_two(out, word, name, target),
+            Command::On { target, .. } => put_one(out, word, target),
+            Command::OnBoth { left, right, .. } => put_two(out, word, left, right),
+            Command::OnName { name, .. } => put_one(out, word, name),
+            Command::WithCount { count, .. } => put_one(out, word, count),
+            Command::MakeSized { name, length, .. } => put_two(out, word, name, length),
+            Command::MakeFilled {
+                name,
+                length,
+                target,
+                ..
+            } => put_three(out, word, name, length, target),
+            Command::MakeText { name, units, .. } => put_named_units(out, word, name, units),
+            Command::MakeAt {
+                name,
+                target,
+                index,
+                ..
+            } => put_three(out, word, name, target, index),
+            Command::OnAt { target, index, .. } => put_two(out, word, target, index),
+            Command::SetAt {
+                target,
+                index,
+                value,
+                ..
+            } => put_three(out, word, target, index, value),
+            Command::StoreAt {
+                target,
+                index,
+                value,
+                ..
+            } => put_three(out, word, target, index, value),
         }
     }
 }

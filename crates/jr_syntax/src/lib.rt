@@ -14,7 +14,10 @@ mod script;
 mod sequence;
 #[cfg(test)]
 mod tests;
+mod text;
 mod thread;
+mod units;
+mod value;
 mod verb;
 mod vm_line;
 mod word;
@@ -31,5 +34,9 @@ pub use reader::parse;
 pub use script::Script;
 pub use sequence::Sequence;
 pub use thread::ThreadPart;
-pub use verb::{Make, MakeFrom, On, OnBoth, OnName, Verb, WithCount};
+pub use units::Units;
+pub use verb::{
+    Make, MakeAt, MakeFilled, MakeFrom, MakeSized, MakeText, On, OnAt, OnBoth, OnName, SetAt,
+    StoreAt, Verb, WithCount,
+};
 pub use writer::print;

@@ -23,12 +23,21 @@ pub fn number_up_to(digits: &[u8], limit: u32) -> Option<u32>
     requires { number_word digits.now ≡ true }
     ensures { MatchOption result (limit < number_of_digits digits.now) (λ n. (n ≡ number_of_digits digits.now) × (n ≤ limit)) }
 {
-    let mut n = 0u64;
+    let n = long_up_to(digits, limit as u64)?;
+    Some(n as u32)
+}
+
+/// The same with more bits.
+pub fn long_up_to(digits: &[u8], limit: u64) -> Option<u64>
+    requires { number_word digits.now ≡ true }
+    ensures { MatchOption result (limit < number_of_digits digits.now) (λ n. (n ≡ number_of_digits digits.now) × (n ≤ limit)) }
+{
+    let mut n = 0u128;
     for digit in digits {
-        n = n * 10 + (*digit - b'0') as u64;
-        if n > limit as u64 {
+        n = n * 10 + (*digit - b'0') as u128;
+        if n > limit as u128 {
             return None;
         }
     }
-    Some(n as u32)
+    Some(n as u64)
 }

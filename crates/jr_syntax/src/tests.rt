@@ -3,6 +3,8 @@
 //! A refused growth ends a test with `Memory`, and any other answer than the one that is wanted fails an assertion: so
 //! each growth may be refused in turn, and the assertions stand.
 
+mod arrays;
+
 use crate::command::Command;
 use crate::fault::{Reason, ScriptFault};
 use crate::laws::{a_script_printed_is_read_again, a_text_read_is_printed_again};
@@ -482,7 +484,7 @@ fn faults_of_a_command_line(rt: HostRuntime) -> Result<(), Fail> {
     third_line(&rt, alloc, b"global null p\n", Reason::CommandExpected)?;
     third_line(&rt, alloc, b"global g\n", Reason::CommandExpected)?;
     third_line(&rt, alloc, b"global g p q\n", Reason::CommandExpected)?;
-    third_line(&rt, alloc, b"int x 1\n", Reason::CommandExpected)?;
+    third_line(&rt, alloc, b"float x 1\n", Reason::CommandExpected)?;
     third_line(&rt, alloc, b"Drop p\n", Reason::CommandExpected)?;
     Ok(())
 }

@@ -32,6 +32,10 @@ pub enum On {
     Drop,
     /// `type`: prints what kind of reference it is.
     Type,
+    /// `len`: prints how many elements an array has.
+    Len,
+    /// `slen`: prints how many units a string has.
+    TextLength,
 }
 
 /// A verb with two references behind it.
@@ -57,6 +61,65 @@ pub enum WithCount {
     Ensure,
 }
 
+/// A verb with a name and a length behind it: it makes an array for which the name then stands.
+#[derive(Clone, Copy, Debug, PartialEq, Eq)]
+pub enum MakeSized {
+    /// `boolean`: an array of booleans.
+    Boolean,
+    /// `byte`: an array of bytes.
+    Byte,
+    /// `char`: an array of chars.
+    Char,
+    /// `short`: an array of shorts.
+    Short,
+    /// `int`: an array of ints.
+    Int,
+    /// `long`: an array of longs.
+    Long,
+}
+
+/// A verb with a name, a length and a reference behind it: it makes an array that is full of what the reference names.
+#[derive(Clone, Copy, Debug, PartialEq, Eq)]
+pub enum MakeFilled {
+    /// `objs`: an array of objects.
+    Objects,
+}
+
+/// A verb with a name and any number of units behind it, up to 64: it makes something of these units.
+#[derive(Clone, Copy, Debug, PartialEq, Eq)]
+pub enum MakeText {
+    /// `string`: a string.
+    String,
+}
+
+/// A verb with a name, a reference and an index behind it: it makes what the name then stands for from an element.
+#[derive(Clone, Copy, Debug, PartialEq, Eq)]
+pub enum MakeAt {
+    /// `get`: a local reference to the object at the index.
+    Get,
+}
+
+/// A verb with a reference and an index behind it.
+#[derive(Clone, Copy, Debug, PartialEq, Eq)]
+pub enum OnAt {
+    /// `load`: prints the element at the index.
+    Load,
+}
+
+/// A verb with a reference, an index and a reference behind it.
+#[derive(Clone, Copy, Debug, PartialEq, Eq)]
+pub enum SetAt {
+    /// `set`: makes what the second reference names the element at the index.
+    Set,
+}
+
+/// A verb with a reference, an index and a value behind it.
+#[derive(Clone, Copy, Debug, PartialEq, Eq)]
+pub enum StoreAt {
+    /// `store`: makes the value the element at the index.
+    Store,
+}
+
 /// A verb of any shape.
 #[derive(Clone, Copy)]
 pub enum Verb {
@@ -72,9 +135,23 @@ pub enum Verb {
     OnName(OnName),
     /// With a count.
     WithCount(WithCount),
+    /// With a name and a length.
+    MakeSized(MakeSized),
+    /// With a name, a length and a reference.
+    MakeFilled(MakeFilled),
+    /// With a name and units.
+    MakeText(MakeText),
+    /// With a name, a reference and an index.
+    MakeAt(MakeAt),
+    /// With a reference and an index.
+    OnAt(OnAt),
+    /// With a reference, an index and a reference.
+    SetAt(SetAt),
+    /// With a reference, an index and a value.
+    StoreAt(StoreAt),
 }
 
-const VERBS: [Verb; 12] = [
+const VERBS: [Verb; 26] = [
     Verb::Make(Make::Plain),
     Verb::Make(Make::Wait),
     Verb::MakeFrom(MakeFrom::Global),
@@ -83,10 +160,24 @@ const VERBS: [Verb; 12] = [
     Verb::MakeFrom(MakeFrom::Pop),
     Verb::On(On::Drop),
     Verb::On(On::Type),
+    Verb::On(On::Len),
+    Verb::On(On::TextLength),
     Verb::OnBoth(OnBoth::Same),
     Verb::OnName(OnName::Post),
     Verb::WithCount(WithCount::Push),
     Verb::WithCount(WithCount::Ensure),
+    Verb::MakeSized(MakeSized::Boolean),
+    Verb::MakeSized(MakeSized::Byte),
+    Verb::MakeSized(MakeSized::Char),
+    Verb::MakeSized(MakeSized::Short),
+    Verb::MakeSized(MakeSized::Int),
+    Verb::MakeSized(MakeSized::Long),
+    Verb::MakeFilled(MakeFilled::Objects),
+    Verb::MakeText(MakeText::String),
+    Verb::MakeAt(MakeAt::Get),
+    Verb::OnAt(OnAt::Load),
+    Verb::SetAt(SetAt::Set),
+    Verb::StoreAt(StoreAt::Store),
 ];
 
 impl Verb {
@@ -103,10 +194,24 @@ impl Verb {
             Verb::MakeFrom(MakeFrom::Pop) => b"pop",
             Verb::On(On::Drop) => b"drop",
             Verb::On(On::Type) => b"type",
+            Verb::On(On::Len) => b"len",
+            Verb::On(On::TextLength) => b"slen",
             Verb::OnBoth(OnBoth::Same) => b"same",
             Verb::OnName(OnName::Post) => b"post",
             Verb::WithCount(WithCount::Push) => b"push",
             Verb::WithCount(WithCount::Ensure) => b"ensure",
+            Verb::MakeSized(MakeSized::Boolean) => b"boolean",
+            Verb::MakeSized(MakeSized::Byte) => b"byte",
+            Verb::MakeSized(MakeSized::Char) => b"char",
+            Verb::MakeSized(MakeSized::Short) => b"short",
+            Verb::MakeSized(MakeSized::Int) => b"int",
+            Verb::MakeSized(MakeSized::Long) => b"long",
+            Verb::MakeFilled(MakeFilled::Objects) => b"objs",
+            Verb::MakeText(MakeText::String) => b"string",
+            Verb::MakeAt(MakeAt::Get) => b"get",
+            Verb::OnAt(OnAt::Load) => b"load",
+            Verb::SetAt(SetAt::Set) => b"set",
+            Verb::StoreAt(StoreAt::Store) => b"store",
         }
     }
 

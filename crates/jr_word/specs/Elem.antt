@@ -13,6 +13,8 @@ pub record ElemLaws {V : Type 0} (kind : Kind) (Fits : V → Type 0) (word_of : 
   pub reads_own : (word : ℕ) (value : V) → value_at word ≡ Some value → Fits value × (word ≡ word_of value)
   -- what is written is a word of the kind
   pub writes_below : (value : V) → Fits value → word_of value < word_limit kind
+  -- zero is a word of the kind
+  pub zero_below : 0 < word_limit kind
   -- each word of the kind is read
   pub reads_below : (word : ℕ) → word < word_limit kind → IsSome (value_at word)
 

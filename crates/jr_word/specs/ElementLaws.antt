@@ -33,6 +33,7 @@ bool_laws = record {
   reads_back = λ value fits. bool_back value;
   reads_own = λ word value e. (tt, bool_own word value e);
   writes_below = λ value fits. bool_below value;
+  zero_below = let e : 0 < 2 = omega arith in e;
   reads_below = bool_all;
 }
 
@@ -52,6 +53,7 @@ u16_laws = record {
   reads_back = unsigned_back w16;
   reads_own = unsigned_own w16;
   writes_below = λ value fits. fits;
+  zero_below = let e : 0 < 65536 = omega arith in e;
   reads_below = unsigned_all w16;
 }
 
@@ -112,13 +114,13 @@ signed_all : (w : Width) (word : ℕ) → word < 2 ^ bits w → IsSome (signed_a
 signed_all w word below = grind (arith, nat_tests)
 
 pub i8_laws : ElemLaws Byte (FitsSigned w8) (signed_word w8) (signed_at w8)
-i8_laws = record { reads_back = signed_back w8; reads_own = signed_own w8; writes_below = signed_below w8; reads_below = signed_all w8 }
+i8_laws = record { reads_back = signed_back w8; reads_own = signed_own w8; writes_below = signed_below w8; zero_below = let e : 0 < 256 = omega arith in e; reads_below = signed_all w8 }
 
 pub i16_laws : ElemLaws Short (FitsSigned w16) (signed_word w16) (signed_at w16)
-i16_laws = record { reads_back = signed_back w16; reads_own = signed_own w16; writes_below = signed_below w16; reads_below = signed_all w16 }
+i16_laws = record { reads_back = signed_back w16; reads_own = signed_own w16; writes_below = signed_below w16; zero_below = let e : 0 < 65536 = omega arith in e; reads_below = signed_all w16 }
 
 pub i32_laws : ElemLaws Int (FitsSigned w32) (signed_word w32) (signed_at w32)
-i32_laws = record { reads_back = signed_back w32; reads_own = signed_own w32; writes_below = signed_below w32; reads_below = signed_all w32 }
+i32_laws = record { reads_back = signed_back w32; reads_own = signed_own w32; writes_below = signed_below w32; zero_below = let e : 0 < 4294967296 = omega arith in e; reads_below = signed_all w32 }
 
 pub i64_laws : ElemLaws Long (FitsSigned w64) (signed_word w64) (signed_at w64)
-i64_laws = record { reads_back = signed_back w64; reads_own = signed_own w64; writes_below = signed_below w64; reads_below = signed_all w64 }
+i64_laws = record { reads_back = signed_back w64; reads_own = signed_own w64; writes_below = signed_below w64; zero_below = let e : 0 < 18446744073709551616 = omega arith in e; reads_below = signed_all w64 }

@@ -37,4 +37,4 @@ returns-in_err-second g c = let s = (g.S.Steps.facts c.args.steps.now).stands in
 
 pub returns : goal.returns
 returns g c = let s = (g.S.Steps.facts c.args.steps.now).stands in let v = word_of c.args.left in let w = word_of c.args.right in
-    both_looked s.config s.last s.thread v w (passes s.config s.last s.thread v w (cc) (cc) (cc) (cc) (cc) (cc)) c.in_ok-first.ensures c.in_ok-second.ensures
+    both_looked s.config s.last s.thread v w (passes s.config s.last s.thread v w (cc) (cc) (cc) (cc) (cc) (cc)) g.met.S.Steps.fits c.requires.stay.1 c.in_ok-first.ensures c.in_ok-second.ensures

@@ -1,0 +1,39 @@
+//! What a reference names, with its header, over any steps.
+ghost use Rattle.std.specs.Prelude.{IfOk};
+ghost use Rattle.jr_model.specs.declared.event.Role.TheVariants.{Within};
+ghost use Rattle.jr_steps.specs.Knowing.{MayKnow};
+ghost use Rattle.jr_gate.specs.Stays.{IsOwnStay};
+ghost use Rattle.jr_heap.specs.Heap.{HoldsHeader};
+ghost use Rattle.jr_frames.specs.Reading.{word_of, OwnerFits};
+ghost use Rattle.jr_frames.specs.Ready.{StandsReady};
+ghost use Rattle.jr_env.specs.Works.{Finds};
+
+use jr_frames::{Frames, Reference, resolve};
+use jr_gate::Inside;
+use jr_heap::header;
+use jr_steps::Steps;
+use jr_word::{Fault, HeaderParts};
+
+/// What a reference names, and its header, which is known from then on.
+///
+/// # Errors
+///
+/// E2 and E3 for what is no reference here, E1 where it names no object.
+pub fn find<S: Steps>(
+    steps: &mut S,
+    inside: &Inside,
+    frames: &Frames,
+    target: Reference,
+) -> Result<(u16, HeaderParts), Fault>
+    requires stay { IsOwnStay inside.now (S.facts steps.old).stands }
+    requires ready { StandsReady S.facts Within steps.old frames.now }
+    requires fits { OwnerFits target }
+    ensures call { Finds S.facts steps.old steps.new frames.now.frames (word_of target) result }
+    ensures known { IfOk result (λ x. MayKnow S.facts steps.new (HoldsHeader x.0 x.1)) }
+{
+    let Some(object) = resolve(steps, inside, frames, target)? else {
+        return Err(Fault::Null);
+    };
+    let header = header(steps, object);
+    Ok((object, header))
+}
