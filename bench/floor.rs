@@ -8,29 +8,38 @@ use std::time::{Duration, Instant};
 const SHUT: u64 = 1 << 16;
 const SLOTS: usize = 65_536;
 const OBJECTS: u64 = 65_535;
+const WORDS: u64 = 131_072;
 const PLACES: usize = 4_096;
 const LAST: u64 = u32::MAX as u64;
 const LOOKS: u32 = 1 << 24;
 const MOST_BESIDE: u32 = 2_000;
 
-// Kinds of references, as the low bits of handles and of slots' words have them, and the header of a plain object.
+// Kinds of references, as the low bits of handles and of slots' words have them, and kinds of objects, as those of headers have them.
 const LOCAL: u64 = 1;
 const GLOBAL: u64 = 2;
 const WEAK: u64 = 3;
 const PLAIN: u64 = 1;
+const INT: u64 = 6;
+const OBJECT_ARRAY: u64 = 8;
 
 // Refusals, as the first bits of an answer.
 const ERROR: u64 = 1 << 63;
+const NULL: u64 = ERROR + 1;
 const STALE: u64 = ERROR + 2;
 const FOREIGN: u64 = ERROR + 3;
 const WRONG_KIND: u64 = ERROR + 4;
+const NOT_ARRAY: u64 = ERROR + 5;
+const WRONG_ELEMENT: u64 = ERROR + 6;
+const RANGE: u64 = ERROR + 7;
 const ROW_FULL: u64 = ERROR + 8;
 const LOCALS_FULL: u64 = ERROR + 9;
 const NO_FRAME: u64 = ERROR + 15;
+const SPACE_FULL: u64 = ERROR + 10;
 const OBJECTS_FULL: u64 = ERROR + 11;
+const RACED: u64 = ERROR + 12;
 const BARRED: u64 = ERROR + 13;
 
-/// A room: the gate, the top, slots, local words thread by thread, and headers.
+/// A room: the gate, the top, slots, local words thread by thread, headers, and elements.
 struct Room {
     row: Vec<AtomicU64>,
     threads: u64,
@@ -38,12 +47,12 @@ struct Room {
 
 impl Room {
     fn new(threads: u64) -> Room {
-        let words = 2 + SLOTS + threads as usize * PLACES + OBJECTS as usize;
+        let words = 2 + SLOTS + threads as usize * PLACES + OBJECTS as usize + WORDS as usize;
         Room { row: (0..words).map(|_| AtomicU64::new(0)).collect(), threads }
     }
     #[inline(always)]
     fn word(&self, at: usize) -> &AtomicU64 {
-        // Each index is in range: of a slot or a place by a check of the call, of a header by the search.
+        // Each index is in range: of a slot, a place or an element by a check of the call, of a header by the search.
         unsafe { self.row.get_unchecked(at) }
     }
     #[inline(always)]
@@ -57,6 +66,12 @@ impl Room {
     #[inline(always)]
     fn header(&self, object: u64) -> &AtomicU64 {
         self.word(1 + SLOTS + self.threads as usize * PLACES + object as usize)
+    }
+    /// The words of elements from a place on, so many.
+    #[inline(always)]
+    fn elements(&self, place: u64, length: usize) -> &[AtomicU64] {
+        let first = 2 + SLOTS + self.threads as usize * PLACES + OBJECTS as usize + place as usize;
+        unsafe { self.row.get_unchecked(first..first + length) }
     }
 }
 
@@ -196,22 +211,161 @@ impl Env<'_> {
     fn local_word(&self, at: usize) -> &AtomicU64 {
         self.room.word(2 + SLOTS + self.thread as usize * PLACES + at)
     }
+    /// Exchanges the header of the first absent object from the next number on, and makes a local reference to it.
+    #[inline(always)]
+    fn publish(&mut self, header: u64) -> u64 {
+        let mut object = self.next_object;
+        for _ in 0..OBJECTS {
+            let next = if object == OBJECTS { 1 } else { object + 1 };
+            if self.room.header(object).compare_exchange(0, header, SeqCst, SeqCst).is_ok() {
+                self.next_object = next;
+                return self.add_local(object);
+            }
+            object = next;
+        }
+        OBJECTS_FULL
+    }
     #[inline(always)]
     fn new_plain(&mut self) -> u64 {
-        self.call(|env| {
-            if env.free == 0 {
-                return LOCALS_FULL;
+        self.call(|env| if env.free == 0 { LOCALS_FULL } else { env.publish(PLAIN) })
+    }
+    /// Reserves words by one load and one exchange, stores the word in each, and publishes.
+    #[inline(always)]
+    fn make_array(&mut self, kind: u64, length: u64, word: u64) -> u64 {
+        if self.free == 0 {
+            return LOCALS_FULL;
+        }
+        let top = self.room.word(1);
+        let used = top.load(SeqCst);
+        if used + length > WORDS {
+            return SPACE_FULL;
+        }
+        if top.compare_exchange(used, used + length, SeqCst, SeqCst).is_err() {
+            return RACED;
+        }
+        for element in self.room.elements(used, length as usize) {
+            element.store(word, SeqCst);
+        }
+        self.publish(kind | length << 4 | used << 28)
+    }
+    #[inline(always)]
+    fn new_array(&mut self, length: u64) -> u64 {
+        self.call(|env| env.make_array(INT, length, 0))
+    }
+    /// Makes an array, and again as long as another thread is faster at its words.
+    #[inline(always)]
+    fn is_array_made(&mut self) -> bool {
+        for _ in 0..TRIES {
+            match self.new_array(SHORT) {
+                RACED => {}
+                answer => return is_made(answer),
             }
-            let mut object = env.next_object;
-            for _ in 0..OBJECTS {
-                let next = if object == OBJECTS { 1 } else { object + 1 };
-                if env.room.header(object).compare_exchange(0, PLAIN, SeqCst, SeqCst).is_ok() {
-                    env.next_object = next;
-                    return env.add_local(object);
+        }
+        false
+    }
+    #[inline(always)]
+    fn new_object_array(&mut self, length: u64, initial: u64) -> u64 {
+        self.call(|env| match env.resolve(initial) {
+            refused if refused & ERROR != 0 => refused,
+            object => env.make_array(OBJECT_ARRAY, length, object),
+        })
+    }
+    /// The header of the object, which is an array of the kind.
+    #[inline(always)]
+    fn array(&mut self, object: u64, kind: u64) -> u64 {
+        if object & ERROR != 0 {
+            return object;
+        }
+        if object == 0 {
+            return NULL;
+        }
+        let header = self.room.header(object).load(SeqCst);
+        if !(2..=8).contains(&(header & 15)) {
+            return NOT_ARRAY;
+        }
+        if header & 15 == kind { header } else { WRONG_ELEMENT }
+    }
+    #[inline(always)]
+    fn array_length(&mut self, array: u64) -> u64 {
+        self.call(|env| match env.resolve(array) {
+            0 => NULL,
+            refused if refused & ERROR != 0 => refused,
+            object => {
+                let header = env.room.header(object).load(SeqCst);
+                if (2..=8).contains(&(header & 15)) { header >> 4 & 0xff_ffff } else { NOT_ARRAY }
+            }
+        })
+    }
+    /// The words of a part of an array of integers.
+    #[inline(always)]
+    fn part(&mut self, array: u64, start: u64, length: usize) -> Result<&[AtomicU64], u64> {
+        let object = self.resolve(array);
+        let header = self.array(object, INT);
+        if header & ERROR != 0 {
+            return Err(header);
+        }
+        if start + length as u64 > header >> 4 & 0xff_ffff {
+            return Err(RANGE);
+        }
+        Ok(self.room.elements((header >> 28) + start, length))
+    }
+    #[inline(always)]
+    fn get_region(&mut self, array: u64, start: u64, elements: &mut [i32]) -> u64 {
+        self.call(|env| match env.part(array, start, elements.len()) {
+            Err(refused) => refused,
+            Ok(words) => {
+                for (element, word) in elements.iter_mut().zip(words) {
+                    *element = word.load(SeqCst) as u32 as i32;
                 }
-                object = next;
+                0
             }
-            OBJECTS_FULL
+        })
+    }
+    #[inline(always)]
+    fn set_region(&mut self, array: u64, start: u64, elements: &[i32]) -> u64 {
+        self.call(|env| match env.part(array, start, elements.len()) {
+            Err(refused) => refused,
+            Ok(words) => {
+                for (element, word) in elements.iter().zip(words) {
+                    word.store(u64::from(*element as u32), SeqCst);
+                }
+                0
+            }
+        })
+    }
+    #[inline(always)]
+    fn get_element(&mut self, array: u64, index: u64) -> u64 {
+        self.call(|env| {
+            let object = env.resolve(array);
+            let header = env.array(object, OBJECT_ARRAY);
+            if header & ERROR != 0 {
+                return header;
+            }
+            if index >= header >> 4 & 0xff_ffff {
+                return RANGE;
+            }
+            match env.room.elements((header >> 28) + index, 1)[0].load(SeqCst) {
+                0 => 0,
+                object => env.add_local(object),
+            }
+        })
+    }
+    #[inline(always)]
+    fn set_element(&mut self, array: u64, index: u64, value: u64) -> u64 {
+        self.call(|env| {
+            let (object, value) = (env.resolve(array), env.resolve(value));
+            if object & ERROR == 0 && value & ERROR != 0 {
+                return value;
+            }
+            let header = env.array(object, OBJECT_ARRAY);
+            if header & ERROR != 0 {
+                return header;
+            }
+            if index >= header >> 4 & 0xff_ffff {
+                return RANGE;
+            }
+            env.room.elements((header >> 28) + index, 1)[0].store(value, SeqCst);
+            0
         })
     }
     #[inline(always)]
@@ -358,7 +512,7 @@ impl Env<'_> {
 }
 
 /// The calls, as `jr_bench` names them.
-const CASES: [&str; 13] = [
+const CASES: [&str; 23] = [
     "get_object_ref_type(NULL)",
     "new_plain",
     "new_global_ref(local)",
@@ -372,10 +526,30 @@ const CASES: [&str; 13] = [
     "ensure_local_capacity,push_local_frame,pop_local_frame(NULL)",
     "push_local_frame,4*new_local_ref,pop_local_frame(global),delete_local_ref",
     "new_local_ref,free_locals",
+    "get_array_length",
+    "get_array_region(1)",
+    "get_array_region(64)",
+    "get_array_region(4096)",
+    "set_array_region(1)",
+    "set_array_region(64)",
+    "set_array_region(4096)",
+    "new_array(16)",
+    "get_object_array_element",
+    "set_object_array_element",
 ];
 const EMPTY_FRAME: usize = 10;
 const FREE_ONE: usize = 12;
 const NEW_PLAIN: usize = 1;
+const LENGTH: usize = 13;
+const NEW_ARRAY: usize = 20;
+const GET_ELEMENT: usize = 21;
+
+/// How many elements the longest part has, and the array.
+const LONG: usize = 4_096;
+/// How many elements a new array has.
+const SHORT: u64 = 16;
+/// How often an array is made again where another thread was faster at its words.
+const TRIES: u32 = 1_000;
 
 // Each call is a function of its own and no part of the loop that makes it, as none is of native code. It says whether it answered as it should.
 macro_rules! calls {
@@ -406,6 +580,32 @@ calls! {
     empty_frame: |env, first, handle| env.ensure(CAPACITY) == 0 && env.push(CAPACITY) == 0 && env.pop(handle) == 0;
     frame_of_four: |env, first, handle| env.frame_of_four(handle);
     free_one: |env, first, handle| is_made(env.new_local(handle)) && env.free_locals() == 0;
+    array_length: |env, first, handle| env.array_length(handle) == LONG as u64;
+    new_array: |env, first, handle| env.is_array_made();
+    get_element: |env, first, handle| is_made(env.get_element(handle, 0));
+    set_element: |env, first, handle| env.set_element(handle, 0, handle) == 0;
+}
+
+#[inline(never)]
+fn get_region(env: &mut Env, handle: u64, elements: &mut [i32]) -> bool {
+    env.get_region(handle, 0, elements) == 0
+}
+
+#[inline(never)]
+fn set_region(env: &mut Env, handle: u64, elements: &[i32]) -> bool {
+    env.set_region(handle, 0, elements) == 0
+}
+
+/// Copies so many elements out or in with each of the handles.
+fn region_each(env: &mut Env, handed: &[u64], length: usize, is_out: bool) -> usize {
+    let mut elements = [0; LONG];
+    let part = &mut elements[..length];
+    let mut right = 0;
+    for handle in handed {
+        let is_right = if is_out { get_region(env, *handle, part) } else { set_region(env, *handle, part) };
+        right += usize::from(is_right);
+    }
+    right
 }
 
 #[inline(always)]
@@ -428,16 +628,31 @@ fn make_all(case: usize, env: &mut Env, handed: &[u64]) -> usize {
         9 => make_each(env, handed, type_of_global),
         EMPTY_FRAME => make_each(env, handed, empty_frame),
         11 => make_each(env, handed, frame_of_four),
-        _ => make_each(env, handed, free_one),
+        FREE_ONE => make_each(env, handed, free_one),
+        LENGTH => make_each(env, handed, array_length),
+        14 => region_each(env, handed, 1, true),
+        15 => region_each(env, handed, 64, true),
+        16 => region_each(env, handed, LONG, true),
+        17 => region_each(env, handed, 1, false),
+        18 => region_each(env, handed, 64, false),
+        19 => region_each(env, handed, LONG, false),
+        NEW_ARRAY => make_each(env, handed, new_array),
+        GET_ELEMENT => make_each(env, handed, get_element),
+        _ => make_each(env, handed, set_element),
     }
 }
 
 /// What each of so many calls is handed, in order.
 fn handed(case: usize, env: &mut Env, calls: u32) -> Vec<u64> {
     let local = env.new_plain();
-    let global = env.new_slot(GLOBAL, local);
+    let array = match case {
+        LENGTH..=19 => env.new_array(LONG as u64),
+        GET_ELEMENT.. => env.new_object_array(1, local),
+        _ => local,
+    };
+    let global = env.new_slot(GLOBAL, array);
     let handle = |env: &mut Env| match case {
-        0 | NEW_PLAIN | EMPTY_FRAME => 0,
+        0 | NEW_PLAIN | EMPTY_FRAME | NEW_ARRAY => 0,
         2 | 4 => local,
         3 => env.new_slot(GLOBAL, local),
         5 => env.new_slot(WEAK, local),

@@ -1,5 +1,6 @@
 //! The calls that are made, and what each is to answer.
 
+use crate::arrays::ArrayCase;
 pub(crate) use jr_env::Env;
 use jr_steps::Steps;
 use jr_word::Handle;
@@ -19,6 +20,7 @@ pub(crate) enum Case {
     Same,
     TypeOfGlobal,
     Frames(FrameCase),
+    Arrays(ArrayCase),
 }
 
 /// Which calls for frames are made.
@@ -33,7 +35,7 @@ pub(crate) enum FrameCase {
 const CAPACITY: u32 = 16;
 
 /// Each case with its name. The first does nothing between the entry and the exit.
-pub(crate) const CASES: [(Case, &'static str); 13] = [
+pub(crate) const CASES: [(Case, &'static str); 23] = [
     (Case::TypeOfNull, "get_object_ref_type(NULL)"),
     (Case::NewPlain, "new_plain"),
     (Case::NewGlobal, "new_global_ref(local)"),
@@ -56,10 +58,32 @@ pub(crate) const CASES: [(Case, &'static str); 13] = [
         Case::Frames(FrameCase::FreeOne),
         "new_local_ref,free_locals",
     ),
+    (Case::Arrays(ArrayCase::Length), "get_array_length"),
+    (Case::Arrays(ArrayCase::CopyOut(1)), "get_array_region(1)"),
+    (Case::Arrays(ArrayCase::CopyOut(64)), "get_array_region(64)"),
+    (
+        Case::Arrays(ArrayCase::CopyOut(4_096)),
+        "get_array_region(4096)",
+    ),
+    (Case::Arrays(ArrayCase::CopyIn(1)), "set_array_region(1)"),
+    (Case::Arrays(ArrayCase::CopyIn(64)), "set_array_region(64)"),
+    (
+        Case::Arrays(ArrayCase::CopyIn(4_096)),
+        "set_array_region(4096)",
+    ),
+    (Case::Arrays(ArrayCase::New), "new_array(16)"),
+    (
+        Case::Arrays(ArrayCase::GetElement),
+        "get_object_array_element",
+    ),
+    (
+        Case::Arrays(ArrayCase::SetElement),
+        "set_object_array_element",
+    ),
 ];
 
 impl Case {
-    /// What each of so many calls is handed, in order. All references are to one object, and are made here.
+    /// What each of so many calls is handed, in order. All references are to one object, or to one array, and are made here.
     pub(crate) fn handed<S: Steps>(
         self,
         env: &mut Env<S>,
@@ -67,13 +91,21 @@ impl Case {
         calls: u32,
     ) -> Option<Vec<Handle>> {
         let local = env.new_plain().ok()?;
-        let global = env.new_global_ref(local).ok()??;
+        let named = match self {
+            Case::Arrays(case) => case.array(env, local)?,
+            _ => local,
+        };
+        let global = env.new_global_ref(named).ok()??;
         let mut handed = Vec::with_capacity(alloc, calls as usize).ok()?;
         for _ in 0..calls {
             let handle = match self {
                 Case::TypeOfNull | Case::NewPlain | Case::Frames(FrameCase::Empty) => Handle::NULL,
                 Case::NewGlobal | Case::NewWeak => local,
-                Case::NewLocal | Case::Same | Case::TypeOfGlobal | Case::Frames(_) => global,
+                Case::NewLocal
+                | Case::Same
+                | Case::TypeOfGlobal
+                | Case::Frames(_)
+                | Case::Arrays(_) => { global }
                 Case::DeleteGlobal => env.new_global_ref(local).ok()??,
                 Case::DeleteWeak => env.new_weak_global_ref(local).ok()??,
                 Case::DeleteLocal => env.new_local_ref(global).ok()??,
@@ -115,6 +147,7 @@ impl Case {
                 matches!(env.get_object_ref_type(at), Ok(2))
             }),
             Case::Frames(case) => case.make_all(env, handed),
+            Case::Arrays(case) => case.make_all(env, handed),
         }
     }
 }
@@ -149,7 +182,7 @@ fn frame_of_four<S: Steps>(env: &mut Env<S>, handle: Handle) -> Option<()> {
 }
 
 /// Makes a call with the first handle and each of them: how often it answered as it should.
-fn make_each<E, F: Fn(&mut E, Handle, Handle) -> bool>(
+pub(crate) fn make_each<E, F: Fn(&mut E, Handle, Handle) -> bool>(
     env: &mut E,
     handed: &[Handle],
     call: F,

@@ -1,10 +1,11 @@
-//! How long the calls for references take in a room that threads share, and how often they answer as they should.
+//! How long the calls for references and arrays take in a room that threads share, and how often they answer as they should.
 //!
 //! With no word it makes each call a few hundred times, by one thread and by two, and prints how often each answered as it should: the same text on every machine.
 //! With the words THREADS STANDING CALLS ROUNDS it measures itself: `measure` tells what it prints.
 #![tactic(auto)]
 
 mod answers;
+mod arrays;
 mod case;
 mod measure;
 mod round;

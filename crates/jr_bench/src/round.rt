@@ -17,6 +17,9 @@ use std::time::Instant;
 /// The last serial of a slot and of a local place.
 const LAST: u32 = 4_294_967_295;
 
+/// How many words the arrays have.
+const WORDS: u32 = 131_072;
+
 /// How often a thread looks whether the others have come.
 const LOOKS: u32 = 1 << 30;
 
@@ -121,7 +124,7 @@ pub(crate) fn round<R: Threads + Clock + Sync>(
         threads: work.threads,
         slots: Config::MOST_SLOTS,
         objects: Config::MOST_OBJECTS,
-        words: 0,
+        words: WORDS,
         locals: Config::MOST_LOCALS,
     };
     let (room, passes) = Room::<LAST>::open(alloc, config).ok()?;

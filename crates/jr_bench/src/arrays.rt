@@ -1,0 +1,94 @@
+//! The calls at arrays.
+
+use crate::case::{Env, make_each};
+use jr_steps::Steps;
+use jr_word::{Fault, Handle};
+
+/// Which call at an array is made.
+#[derive(Clone, Copy)]
+pub(crate) enum ArrayCase {
+    Length,
+    CopyOut(usize),
+    CopyIn(usize),
+    New,
+    GetElement,
+    SetElement,
+}
+
+/// How many elements the longest part has, and the array that it is a part of.
+const LONG: u32 = 4_096;
+
+/// How many elements a new array has.
+const SHORT: u32 = 16;
+
+/// How often an array is made again where another thread was faster at its words.
+const TRIES: u32 = 1_000;
+
+impl ArrayCase {
+    /// The array at which the call is made, whose elements are integers, or the one object.
+    pub(crate) fn array<S: Steps>(self, env: &mut Env<S>, object: Handle) -> Option<Handle> {
+        match self {
+            ArrayCase::GetElement | ArrayCase::SetElement => env.new_object_array(1, object).ok(),
+            _ => env.new_array::<i32>(LONG).ok(),
+        }
+    }
+
+    /// Makes the call with each of the handles: how often it answered as it should.
+    pub(crate) fn make_all<S: Steps>(self, env: &mut Env<S>, handed: &[Handle]) -> usize {
+        match self {
+            ArrayCase::Length => make_each(env, handed, |env, _, at| {
+                matches!(env.get_array_length(at), Ok(LONG))
+            }),
+            ArrayCase::CopyOut(length) => copy_out_each(env, handed, length),
+            ArrayCase::CopyIn(length) => copy_in_each(env, handed, length),
+            ArrayCase::New => make_each(env, handed, |env, _, _| is_made(env)),
+            ArrayCase::GetElement => make_each(env, handed, |env, _, at| {
+                matches!(env.get_object_array_element(at, 0), Ok(Some(_)))
+            }),
+            ArrayCase::SetElement => make_each(env, handed, |env, _, at| {
+                env.set_object_array_element(at, 0, at).is_ok()
+            }),
+        }
+    }
+}
+
+/// Makes an array, and again as long as another thread is faster at its words: whether one was made.
+fn is_made<S: Steps>(env: &mut Env<S>) -> bool {
+    for _ in 0..TRIES {
+        match env.new_array::<i32>(SHORT) {
+            Err(Fault::Raced(..)) => {}
+            answer => return answer.is_ok(),
+        }
+    }
+    false
+}
+
+/// Copies so many elements out of each array: how often that was done.
+fn copy_out_each<S: Steps>(env: &mut Env<S>, handed: &[Handle], length: usize) -> usize {
+    let mut elements = [0i32; LONG as usize];
+    let Some(part) = elements.get_mut(..length) else {
+        return 0;
+    };
+    let mut right = 0usize;
+    for handle in handed {
+        if env.get_array_region(*handle, 0, part).is_ok() {
+            right = right.saturating_add(1);
+        }
+    }
+    right
+}
+
+/// Copies so many elements into each array: how often that was done.
+fn copy_in_each<S: Steps>(env: &mut Env<S>, handed: &[Handle], length: usize) -> usize {
+    let elements = [0i32; LONG as usize];
+    let Some(part) = elements.get(..length) else {
+        return 0;
+    };
+    let mut right = 0usize;
+    for handle in handed {
+        if env.set_array_region(*handle, 0, part).is_ok() {
+            right = right.saturating_add(1);
+        }
+    }
+    right
+}
