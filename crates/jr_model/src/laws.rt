@@ -2,6 +2,7 @@ ghost use Rattle.std.specs.Prelude.{ℕ};
 ghost use Rattle.jr_word.specs.declared.config.Config.{Config};
 ghost use Rattle.jr_model.specs.State.{State};
 ghost use Rattle.jr_model.specs.History.{PassView};
+ghost use Rattle.jr_model.specs.CriticalRegions.{NoCollectionInRegion, NoCollectionUpToRelease};
 ghost use Rattle.jr_model.specs.Grounded.{BarredByCollector, BusyIsCounted, SpaceWasFull, FreeIndexIsFound, RefusedInItsStay, EachIsProbed, CallsAreTheirStays};
 ghost use Rattle.jr_model.specs.Moves.{CallsMoveFrames};
 ghost use Rattle.jr_model.specs.RefusedCalls.{RefusalsChangeNothing, HarmlessChangesNothing};
@@ -53,6 +54,12 @@ pub fn handles_are_unique()
 pub fn stays_exclude_collections()
     ensures stay { (c : Config) (last : ℕ) → NoCollectionInside c last }
     ensures collection { (c : Config) (last : ℕ) → OthersWait c last }
+{}
+
+/// No collection step lies between the opening of a critical region and the release of its first level, whatever calls of the region come between, and whatever the other threads do.
+pub fn regions_exclude_collections()
+    ensures stands { NoCollectionInRegion }
+    ensures released { NoCollectionUpToRelease }
 {}
 
 /// The object of each reference that is not cleared, and of each local, is present. Outside collections each element of a present object array is null or present.
