@@ -73,16 +73,22 @@ module _ {S : Type 0} {facts : S → Facts} {a b : S} {A : Type 0} where
 
   module _ {f g : Frames} where
     -- the answer in another form
-    pub does_answer : {B : Type 0} {deed : Deed A} {x : A} {y : B} (form : A → B) → y ≡ form x → DoesOutside facts a b f g deed (Ok x) → DoesOutside facts a b f g (answered_by form deed) (Ok y)
-    does_answer {x = x} form is p = record {
-      does = λ out. let d = p.does out in record { stands_is = d.stands_is; did = λ k s m. let z = d.did k s m in (z.0, z.1, z.2, inl (x, _, z.3, (ap (λ v. Ok v) is, refl))) };
-      outside = p.outside;
+    pub did_answer : {B : Type 0} {deed : Deed A} {x : A} {y : B} (form : A → B) → y ≡ form x → DoesDeed facts a b f g deed (Ok x) → DoesDeed facts a b f g (answered_by form deed) (Ok y)
+    did_answer {x = x} form is d = record {
+      stands_is = d.stands_is;
+      did = λ k s m. let z = d.did k s m in (z.0, z.1, z.2, inl (x, _, z.3, (ap (λ v. Ok v) is, refl)));
     }
 
-    pub does_refuse : {B : Type 0} {deed : Deed A} {e : Fault} (form : A → B) (answer : Result B Fault) → IsErrAnd answer (λ y. y ≡ e) → DoesOutside facts a b f g deed (Err e) → DoesOutside facts a b f g (answered_by form deed) answer
-    does_refuse {e = e} form answer given p =
+    pub did_refuse : {B : Type 0} {deed : Deed A} {e : Fault} (form : A → B) (answer : Result B Fault) → IsErrAnd answer (λ y. y ≡ e) → DoesDeed facts a b f g deed (Err e) → DoesDeed facts a b f g (answered_by form deed) answer
+    did_refuse {e = e} form answer given d =
         let why = err_from_is_err_and answer given in
         record {
-          does = λ out. let d = p.does out in record { stands_is = d.stands_is; did = λ k s m. let z = d.did k s m in (z.0, z.1, z.2, inr (e, why.1 ∙ ap (λ (v : Fault). Err v) why.2, z.3)) };
-          outside = p.outside;
+          stands_is = d.stands_is;
+          did = λ k s m. let z = d.did k s m in (z.0, z.1, z.2, inr (e, why.1 ∙ ap (λ (v : Fault). Err v) why.2, z.3));
         }
+
+    pub does_answer : {B : Type 0} {deed : Deed A} {x : A} {y : B} (form : A → B) → y ≡ form x → DoesOutside facts a b f g deed (Ok x) → DoesOutside facts a b f g (answered_by form deed) (Ok y)
+    does_answer form is p = record { does = λ out. did_answer form is (p.does out); outside = p.outside }
+
+    pub does_refuse : {B : Type 0} {deed : Deed A} {e : Fault} (form : A → B) (answer : Result B Fault) → IsErrAnd answer (λ y. y ≡ e) → DoesOutside facts a b f g deed (Err e) → DoesOutside facts a b f g (answered_by form deed) answer
+    does_refuse form answer given p = record { does = λ out. did_refuse form answer given (p.does out); outside = p.outside }
