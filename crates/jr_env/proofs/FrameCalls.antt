@@ -21,7 +21,8 @@ use Rattle.jr_frames.specs.Table.{Table, with_frames}
 use Rattle.jr_gate.proofs.Spending.{made_of, spend_none}
 use Rattle.jr_gate.proofs.SameRoom.{nothing_changed}
 use Rattle.jr_frames.specs.Ready.{StandsReady}
-use Rattle.jr_env.specs.Deeds.{DoesDeed, call_apart}
+use Rattle.jr_env.specs.Deeds.{Deed, DoesDeed, DoesOutside, call_apart}
+use Rattle.jr_env.specs.Works.{EndsStay}
 
 -- a test that refuses, and one that is passed
 refused_by : (b : Bool) (e : Fault) (f : Frames) → b ≡ true → refuse_if b e f [] (Err e) f
@@ -61,14 +62,21 @@ module _ {S : Type 0} {facts : S → Facts} where
     own = record { owner = r.own.owner; last = r.own.last; places = r.own.places; agrees = ∥∥₁_map r.own.agrees (λ k. (k.0, k.1, holds_pushed t.frames k.0 k.2)) };
   })
 
-  module _ (fits : AreOf facts) {a : S} {t : Table} {role : Role} (ready : StandsReady facts role a t) where
+  -- a deed, once a stay that was left has been ended
+  does_from : {o a b : S} {r t : Table} {g : Frames} {A : Type 0} {deed : Deed A} {answer : Result A Fault} → EndsStay facts o a r t → DoesDeed facts a b t.frames g deed answer → DoesOutside facts o b r.frames g deed answer
+  does_from {o} {a} {b} {r} {t} {g} {deed = deed} {answer = answer} e d = record {
+    does = λ out. subst (λ (m : S). DoesDeed facts m b r.frames g deed answer) (e.same out) (subst (λ (x : Table). DoesDeed facts a b x.frames g deed answer) e.frames d);
+    outside = d.stands_is.role ∙ e.ready.role_is;
+  }
+
+  module _ (fits : AreOf facts) {o a : S} {r t : Table} (ended : EndsStay facts o a r t) where
     does_apart : {A : Type 0} {g : Frames} {answer : Result A Fault} (work : Config → ℕ → ℕ → Call A) → ((c : Config) (thread : ℕ) → work c t.last thread t.frames [] answer g) → ((p : PassView) → IfErr answer (Grounds p.seen p)) → ((k : Known) → Holds t.frames k → Holds g k)
-        → DoesDeed facts a a t.frames g (call_apart work) answer
-    does_apart {A} {g} {answer} work is grounds holds = record {
+        → DoesOutside facts o a r.frames g (call_apart work) answer
+    does_apart {A} {g} {answer} work is grounds holds = does_from ended (record {
       stands_is = nothing_changed;
       did = λ k s m.
           let i = fits a k s in
-          let last : t.last ≡ k.last = ready.own.last ∙ sym i.last in
+          let last : t.last ≡ k.last = ended.ready.own.last ∙ sym i.last in
           let ran : Ran (view k) (view k) t.frames g (work k.config k.last k.thread) answer = record {
             acts = [];
             did = did_nothing (view k) i.legal;
@@ -78,26 +86,26 @@ module _ {S : Type 0} {facts : S → Facts} where
             grounds = grounds (view k);
           } in
           (k, s, holds k m, (made_of (spend_none (facts a).stands.fresh k t.frames g i.legal) ran, refl));
-    }
+    })
 
-    pub ensures_room : (n : ℕ) → n ≤ free_places t.last t.frames → DoesDeed facts a a t.frames t.frames (call_apart (λ c last thread. ensure_local_capacity c last thread n)) (Ok tt)
+    pub ensures_room : (n : ℕ) → n ≤ free_places t.last t.frames → DoesOutside facts o a r.frames t.frames (call_apart (λ c last thread. ensure_local_capacity c last thread n)) (Ok tt)
     ensures_room n l = does_apart (λ c last thread. ensure_local_capacity c last thread n) (λ c thread. passed_by (nat_lt (free_places t.last t.frames) n) LocalsFull t.frames (leaves_room n _ l)) (λ p. tt) (λ k m. m)
 
-    pub lacks_places : (n : ℕ) → (n ≤ free_places t.last t.frames → ⊥) → DoesDeed facts a a t.frames t.frames (call_apart (λ c last thread. ensure_local_capacity c last thread n)) (Err LocalsFull)
+    pub lacks_places : (n : ℕ) → (n ≤ free_places t.last t.frames → ⊥) → DoesOutside facts o a r.frames t.frames (call_apart (λ c last thread. ensure_local_capacity c last thread n)) (Err LocalsFull)
     lacks_places n lacks = does_apart (λ c last thread. ensure_local_capacity c last thread n) (λ c thread. refused_by (nat_lt (free_places t.last t.frames) n) LocalsFull t.frames (lacks_room n _ lacks)) (λ p. tt) (λ k m. m)
 
     -- too many frames, or too few places
-    pub pushes_none : (n : ℕ) → (FRAMES ≤ length t.frames.frames) ⊎ (n ≤ free_places t.last t.frames → ⊥) → DoesDeed facts a a t.frames t.frames (call_apart (λ c last thread. push_local_frame c last thread n)) (Err LocalsFull)
+    pub pushes_none : (n : ℕ) → (FRAMES ≤ length t.frames.frames) ⊎ (n ≤ free_places t.last t.frames → ⊥) → DoesOutside facts o a r.frames t.frames (call_apart (λ c last thread. push_local_frame c last thread n)) (Err LocalsFull)
     pushes_none n (inl many) = does_apart (λ c last thread. push_local_frame c last thread n) (λ c thread. inr (LocalsFull, refl, refused_by (nat_le FRAMES (length t.frames.frames)) LocalsFull t.frames (at_most _ many))) (λ p. tt) (λ k m. m)
     pushes_none n (inr lacks) = go (nat_le FRAMES (length t.frames.frames)) refl
       where
-        go : (b : Bool) → nat_le FRAMES (length t.frames.frames) ≡ b → DoesDeed facts a a t.frames t.frames (call_apart (λ c last thread. push_local_frame c last thread n)) (Err LocalsFull)
+        go : (b : Bool) → nat_le FRAMES (length t.frames.frames) ≡ b → DoesOutside facts o a r.frames t.frames (call_apart (λ c last thread. push_local_frame c last thread n)) (Err LocalsFull)
         go true e = does_apart (λ c last thread. push_local_frame c last thread n) (λ c thread. inr (LocalsFull, refl, refused_by (nat_le FRAMES (length t.frames.frames)) LocalsFull t.frames e)) (λ p. tt) (λ k m. m)
         go false e = does_apart (λ c last thread. push_local_frame c last thread n)
             (λ c thread. inl (tt, t.frames, [], [], refl, passed_by (nat_le FRAMES (length t.frames.frames)) LocalsFull t.frames e, inr (LocalsFull, refl, refused_by (nat_lt (free_places t.last t.frames) n) LocalsFull t.frames (lacks_room n _ lacks)))) (λ p. tt) (λ k m. m)
 
-    pub pushes : (n : ℕ) {u : Table} → length t.frames.frames < FRAMES → n ≤ free_places t.last t.frames → u ≡ with_frames t (pushed t.frames) → DoesDeed facts a a t.frames u.frames (call_apart (λ c last thread. push_local_frame c last thread n)) (Ok tt)
-    pushes n few l is = subst (λ (x : Table). DoesDeed facts a a t.frames x.frames (call_apart (λ c last thread. push_local_frame c last thread n)) (Ok tt)) (sym is)
+    pub pushes : (n : ℕ) {u : Table} → length t.frames.frames < FRAMES → n ≤ free_places t.last t.frames → u ≡ with_frames t (pushed t.frames) → DoesOutside facts o a r.frames u.frames (call_apart (λ c last thread. push_local_frame c last thread n)) (Ok tt)
+    pushes n few l is = subst (λ (x : Table). DoesOutside facts o a r.frames x.frames (call_apart (λ c last thread. push_local_frame c last thread n)) (Ok tt)) (sym is)
         (does_apart (λ c last thread. push_local_frame c last thread n)
         (λ c thread. inl (
           tt,

@@ -20,7 +20,7 @@ use Rattle.jr_frames.specs.Table.{Table}
 use Rattle.jr_gate.specs.Performing.{Performed, IsAsBefore}
 use Rattle.jr_frames.specs.Ready.{StandsReady, KeepsOwner}
 use Rattle.jr_frames.proofs.StillReady.{same_owner, ready_after}
-use Rattle.jr_env.specs.Works.{CallsWhole, Completes, IsSteady, KeepsObjects}
+use Rattle.jr_env.specs.Works.{CallsWhole, Completes, EndsStay, IsSteady, KeepsObjects}
 use Rattle.jr_env.proofs.Leaving.{kept_by_leave}
 use Rattle.jr_gate.proofs.SameRoom.{as_before}
 use Rattle.jr_gate.proofs.Spending.{made_of, spending, spend_first, spend_last, spend_more, spend_step, spend_barred}
@@ -48,7 +48,7 @@ module _ {S : Type 0} {facts : S → Facts} where
   -- a call that takes nothing beside its acts takes no more than this
   pub completes_more : {A : Type 0} {a b : S} {t u : Table} {call : State → Call A} {answer : Result A Fault} (silent : ℕ) → Completes facts a b t u 0 call answer → Completes facts a b t u silent call answer
   completes_more silent p = record {
-    call = record { stands_is = p.call.stands_is; ran = λ k s m. let x = p.call.ran k s m in (x.0, x.1, made_of (spend_more silent (spending x.2)) x.2.ran, x.3) };
+    call = λ out. let c = p.call out in record { stands_is = c.stands_is; ran = λ k s m. let x = c.ran k s m in (x.0, x.1, made_of (spend_more silent (spending x.2)) x.2.ran, x.3) };
     ready = p.ready;
   }
 
@@ -85,11 +85,22 @@ module _ {S : Type 0} {facts : S → Facts} where
         → Completes facts a b t t 0 (λ s. entered (work (facts a).stands.config (facts a).stands.last (facts a).stands.thread s)) answer
     completes_barred {t} r answer given why =
         let p = handed_on answer (subst (λ y. IsErrAnd answer (λ z. z ≡ y)) why.0 given) (calls_barred t.frames r.role_is why.1) in
-        record { call = p; ready = ready_after {so = lets_go} r (same_owner t) p }
+        record { call = λ out. p; ready = ready_after {so = lets_go} r (same_owner t) p }
 
     -- work between an entry and its exit
     pub completes : {a b c d : S} {t u : Table} (fits : AreOf facts) (silent : Config → ℕ) {so : Known → Known → Type 0} {answer : Result A Fault} → StandsReady facts Outside a t → Took facts a b (Enter ∷ []) anything keeps
         → Performed facts b c t.frames u.frames (silent (facts b).stands.config) (Holds t.frames) (work (facts b).stands.config (facts b).stands.last (facts b).stands.thread) answer (λ j k. so j k × Holds u.frames k)
         → IsSteady (work (facts b).stands.config (facts b).stands.last (facts b).stands.thread) → KeepsOwner t u → Took facts c d (Leave ∷ []) anything lets_go
         → Completes facts a d t u (silent (facts a).stands.config) (λ s. entered (work (facts a).stands.config (facts a).stands.last (facts a).stands.thread s)) answer
-    completes fits silent {so = so} r e p steady o l = let q = calls_entered fits silent {so = so} r.role_is e p steady l in record { call = q; ready = ready_after {so = lets_go} r o q }
+    completes fits silent {so = so} r e p steady o l = let q = calls_entered fits silent {so = so} r.role_is e p steady l in record { call = λ out. q; ready = ready_after {so = lets_go} r o q }
+
+    -- the same, once a stay that was left has been ended
+    pub completes_from : {o a b : S} {r t u : Table} (silent : Config → ℕ) {answer : Result A Fault} → EndsStay facts o a r t → Completes facts a b t u (silent (facts a).stands.config) (λ s. entered (work (facts a).stands.config (facts a).stands.last (facts a).stands.thread s)) answer
+        → Completes facts o b r u (silent (facts o).stands.config) (λ s. entered (work (facts o).stands.config (facts o).stands.last (facts o).stands.thread s)) answer
+    completes_from {o} {a} {b} {r} {t} {u} silent {answer} e p = record {
+      call = λ out.
+          subst (λ (m : S). CallsWhole facts m b r.frames u.frames (silent (facts m).stands.config) (λ s. entered (work (facts m).stands.config (facts m).stands.last (facts m).stands.thread s)) answer) (e.same out)
+          (subst (λ (x : Table). CallsWhole facts a b x.frames u.frames (silent (facts a).stands.config) (λ s. entered (work (facts a).stands.config (facts a).stands.last (facts a).stands.thread s)) answer) e.frames
+          (p.call e.ready.role_is));
+      ready = p.ready;
+    }

@@ -1,3 +1,4 @@
+pub mod EndedStays
 pub mod InsideGate
 pub mod Leaving
 pub mod Meetings

@@ -6,6 +6,7 @@ use Rattle.jr_word.specs.declared.handle.Handle.{Handle as HandleWord}
 use Rattle.jr_word.specs.Handle.{handle_word}
 use Rattle.jr_word.specs.declared.config.Config.{Config}
 use Rattle.jr_word.specs.declared.fault.Fault.{Fault}
+use Rattle.jr_model.specs.declared.event.Role.TheVariants.{Outside}
 use Rattle.jr_model.specs.State.{Handle, State}
 use Rattle.jr_model.specs.References as references
 use Rattle.jr_model.specs.Objects as objects
@@ -181,3 +182,8 @@ module _ {S : Type 0} (facts : S → Facts) where
   pub record DoesDeed {A : Type 0} (old new : S) (before after : Frames) (deed : Deed A) (answer : Result A Fault) : Type 0 where
     pub stands_is : IsAsBefore (facts old).stands (facts new).stands
     pub did : Leads facts old new (Holds before) (λ k k'. Holds after k') (λ k k'. deed (moment (facts old).stands.fresh k before) answer (moment (facts new).stands.fresh k' after))
+
+  -- the deed was done by a call, where the thread stood outside; and afterwards it stands outside in any case
+  pub record DoesOutside {A : Type 0} (old new : S) (before after : Frames) (deed : Deed A) (answer : Result A Fault) : Type 0 where
+    pub does : (facts old).stands.role ≡ Outside → DoesDeed old new before after deed answer
+    pub outside : (facts new).stands.role ≡ Outside

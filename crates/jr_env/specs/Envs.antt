@@ -1,10 +1,19 @@
 -- What a call of an env did.
-use Rattle.std.specs.Prelude.{Result}
+use Rattle.std.specs.Prelude.{◌≡◌, Result}
 use Rattle.jr_word.specs.declared.fault.Fault.{Fault}
+use Rattle.jr_model.specs.declared.event.Role.TheVariants.{Outside}
 use Rattle.jr_steps.specs.declared.steps.Steps.{Ghosts}
 use Rattle.jr_env.specs.declared.env.Env.{Env}
-use Rattle.jr_env.specs.Deeds.{Deed, DoesDeed}
+use Rattle.jr_env.specs.Deeds.{Deed, DoesDeed, DoesOutside}
 
--- THE CALL DID THE DEED, with this answer
+-- THE THREAD STANDS OUTSIDE, as it does wherever no region of the env stands
+abbrev pub IsOutside : {S : Type 0} {G : Ghosts S} → Env S G → Type 0
+IsOutside {G = G} env = (G.facts env.held.steps).stands.role ≡ Outside
+
+-- THE DEED WAS DONE from the one to the other, with this answer
+abbrev pub HasDone : {S A : Type 0} {G : Ghosts S} → Env S G → Env S G → Deed A → Result A Fault → Type 0
+HasDone {G = G} old new deed answer = DoesDeed G.facts old.held.steps new.held.steps old.held.frames.frames new.held.frames.frames deed answer
+
+-- THE CALL DID THE DEED, with this answer, where the thread stood outside; and afterwards it stands outside in any case
 abbrev pub Does : {S A : Type 0} {G : Ghosts S} → Env S G → Env S G → Deed A → Result A Fault → Type 0
-Does {G = G} old new deed answer = DoesDeed G.facts old.held.steps new.held.steps old.held.frames.frames new.held.frames.frames deed answer
+Does {G = G} old new deed answer = DoesOutside G.facts old.held.steps new.held.steps old.held.frames.frames new.held.frames.frames deed answer

@@ -1,5 +1,6 @@
 pub mod Deeds
 pub mod Elements
 pub mod Envs
+pub mod Standing
 pub mod Works
 pub mod Regions

@@ -80,7 +80,14 @@ module _ {S : Type 0} (facts : S → Facts) where
   abbrev pub CallsWhole : {A : Type 0} → S → S → Frames → Frames → ℕ → (State → Call A) → Result A Fault → Type 0
   CallsWhole old new f g silent call answer = Performed facts old new f g silent (Holds f) call answer (λ j k. lets_go j k × Holds g k)
 
-  -- a whole call was made, by at most so many operations beside its acts, and the next can be
+  -- a stay that was left was ended: where the thread stood outside nothing changed; and it stands ready outside, with the same frames
+  pub record EndsStay (old new : S) (before after : Table) : Type 0 where
+    pub same : (facts old).stands.role ≡ Outside → new ≡ old
+    pub frames : after ≡ before
+    pub ready : StandsReady facts Outside new after
+    pub thread : (facts new).stands.thread ≡ (facts old).stands.thread
+
+  -- a whole call was made where the thread stood outside, by at most so many operations beside its acts; and the next can be in any case
   pub record Completes {A : Type 0} (old new : S) (before after : Table) (silent : ℕ) (asked : State → Call A) (answer : Result A Fault) : Type 0 where
-    pub call : CallsWhole old new before.frames after.frames silent asked answer
+    pub call : (facts old).stands.role ≡ Outside → CallsWhole old new before.frames after.frames silent asked answer
     pub ready : StandsReady facts Outside new after

@@ -1,22 +1,21 @@
 //! The calls of the Java Native Interface for the references of one thread, over any steps.
-ghost use Rattle.jr_model.specs.declared.event.Role.TheVariants.{Outside};
-ghost use Rattle.jr_frames.specs.Ready.{StandsReady};
+ghost use Rattle.jr_env.specs.Standing.{CanCall};
 
 use crate::calls::{Comparison, Creation, LocalCreation, LocalRemoval, Removal, Typing};
-use crate::work::make;
+use crate::work::{make, outside};
 use jr_frames::{Frames, Held, Reference};
 use jr_heap::Numbers;
 use jr_steps::Steps;
 use jr_word::{Fault, Handle, RefKind};
 
-/// A thread's steps and its local references. The thread is outside the gate, and its pass is not fresh.
+/// A thread's steps and its local references. The thread is outside the gate, or within where a region stands, and its pass is not fresh.
 #[derive(Drop)]
 pub struct Env<S: Steps> {
     /// The thread's steps and its local references.
     pub held: Held<S>,
     /// Where it looks for the number of its next object.
     pub(crate) numbers: Numbers,
-    ghost ready: { StandsReady S.facts Outside held.steps held.frames },
+    ghost ready: { CanCall (S.facts held.steps).stands },
 }
 
 impl<S: Steps> Env<S> {
@@ -26,7 +25,7 @@ impl<S: Steps> Env<S> {
     ghost use Rattle.jr_model.specs.declared.event.Role.TheVariants.{Outside};
     ghost use Rattle.jr_model.specs.Frames.{fresh_frames};
     ghost use Rattle.jr_steps.specs.Knowing.{Spent};
-    ghost use Rattle.jr_env.specs.Envs.{Does};
+    ghost use Rattle.jr_env.specs.Envs.{Does, IsOutside};
     ghost use Rattle.jr_env.specs.Deeds.{new_reference, new_local_ref, delete_reference, delete_local_ref, is_same_object, get_object_ref_type};
 
     /// The env of a thread, with one base frame, over a pass that is fresh, which is spent. It takes no step.
@@ -39,6 +38,7 @@ impl<S: Steps> Env<S> {
         ensures fresh { IfOk result (λ _. (S.facts steps).stands.fresh ≡ true) }
         ensures steps { IfOk result (λ env. Spent S.facts steps env.held.steps) }
         ensures frames { IfOk result (λ env. env.held.frames.frames ≡ fresh_frames (S.facts steps).stands.config.locals) }
+        ensures outside { IfOk result (λ env. IsOutside env) }
         ensures err { IfErr result (λ e. ((S.facts steps).stands.fresh ≡ false) × (e ≡ (steps, NotFresh))) }
     {
         if !steps.fresh() {
@@ -52,13 +52,14 @@ impl<S: Steps> Env<S> {
         Ok(Env { held, numbers })
     }
 
-    /// The steps, whose pass is not fresh, so that no second env is made over it. Local references that stand stay in the row. It takes no step.
+    /// The steps, whose pass is not fresh, so that no second env is made over it. Local references that stand stay in the row. It takes no step where the thread is outside.
     pub fn into_pass(self) -> S
-        ensures steps { result ≡ self.held.steps }
+        ensures steps { IsOutside self → result ≡ self.held.steps }
         ensures outside { (S.facts result).stands.role ≡ Outside }
         ensures spent { (S.facts result).stands.fresh ≡ false }
     {
-        let Env { held, .. } = self;
+        let Env { mut held, .. } = self;
+        outside(&mut held);
         let Held { steps, frames: _ } = held;
         steps
     }

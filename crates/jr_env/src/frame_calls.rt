@@ -1,7 +1,7 @@
 //! The calls of the Java Native Interface for the frames of one thread, over any steps.
 use crate::env::Env;
 use crate::frame_works::{FramePop, LocalsFreeing};
-use crate::work::make;
+use crate::work::{make, outside};
 use jr_frames::Reference;
 use jr_model::FRAMES;
 use jr_steps::Steps;
@@ -15,6 +15,7 @@ impl<S: Steps> Env<S> {
     pub fn ensure_local_capacity(&mut self, capacity: u32) -> Result<(), Fault>
         ensures { Does self.old self.new (ensure_local_capacity capacity) result }
     {
+        outside(&mut self.held);
         if self.held.frames.has_room(capacity) {
             Ok(())
         } else {
@@ -26,6 +27,7 @@ impl<S: Steps> Env<S> {
     pub fn push_local_frame(&mut self, capacity: u32) -> Result<(), Fault>
         ensures { Does self.old self.new (push_local_frame capacity) result }
     {
+        outside(&mut self.held);
         if self.held.frames.depth() >= FRAMES {
             return Err(Fault::LocalsFull);
         }

@@ -1,7 +1,7 @@
 //! The calls at a part of an array, over a thread's steps and its local references.
 ghost use Rattle.std.specs.Prelude.{◌≡◌, ◌+◌, nat_lt, IfOk, IfErr, map, length};
 ghost use Rattle.jr_gate.specs.Stays.{IsOwnStay};
-ghost use Rattle.jr_model.specs.declared.event.Role.TheVariants.{Outside, Within};
+ghost use Rattle.jr_model.specs.declared.event.Role.TheVariants.{Within};
 ghost use Rattle.jr_model.specs.Calls.{entered};
 ghost use Rattle.jr_model.specs.Checks.{same_element as same_element_of};
 ghost use Rattle.jr_model.specs.Objects.{part_reading};
@@ -10,12 +10,13 @@ ghost use Rattle.jr_heap.specs.Heap.{HoldsHeader};
 ghost use Rattle.jr_frames.specs.Ready.{StandsReady};
 ghost use Rattle.jr_frames.specs.Reading.{word_of, OwnerFits};
 ghost use Rattle.jr_env.specs.Deeds.{read_answer};
+ghost use Rattle.jr_env.specs.Standing.{CanCall};
 ghost use Rattle.jr_env.specs.Works.{Completes};
 ghost use Rattle.jr_env.specs.Regions.{FindsPart, ReadsPart};
 
 use crate::finding::find;
 use crate::objects::is_array;
-use crate::work::Work;
+use crate::work::{Work, outside};
 use jr_frames::{Frames, Held, Reference};
 use jr_gate::{Inside, enter};
 use jr_heap::{read_part, write_part};
@@ -65,19 +66,21 @@ impl<S: Steps, E: Elem> Work<S> for PartWriting<'_, E> {
     }
 }
 
-/// Makes the call that copies a part of an array out: enters the gate, reads, and leaves.
+/// Makes the call that copies a part of an array out: enters the gate, reads, and leaves. A stay that a region left is ended first.
 #[inline(always)]
 pub fn copy_out<S: Steps, E: Elem>(
     held: &mut Held<S>,
     part: Part,
     elements: &mut [E],
 ) -> Result<(), Fault>
-    requires ready { StandsReady S.facts Outside held.old.steps held.old.frames }
+    requires ready { CanCall (S.facts held.old.steps).stands }
     requires fits { OwnerFits part.array }
     ensures size { length elements.new ≡ length elements.old }
     ensures call { Completes S.facts held.old.steps held.new.steps held.old.frames held.new.frames 1 (λ s. entered (part_reading (S.facts held.old.steps).stands.config (S.facts held.old.steps).stands.last (S.facts held.old.steps).stands.thread s E.KIND (word_of part.array) part.start (length elements.old))) (read_answer result (map E.word_of elements.new)) }
+    ensures next { CanCall (S.facts held.new.steps).stands }
     ensures err { IfErr result (λ _. elements.new ≡ elements.old) }
 {
+    outside(held);
     let inside = enter(&mut held.steps)?;
     let answer = read_into(&mut held.steps, &inside, &held.frames, part, elements);
     inside.leave(&mut held.steps);

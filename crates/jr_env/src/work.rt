@@ -1,14 +1,13 @@
 //! What a call does within a stay, and the call round it.
 
 ghost use Rattle.std.specs.Prelude.{IfOk};
-ghost use Rattle.jr_model.specs.declared.event.Role.TheVariants.{Outside};
 ghost use Rattle.jr_model.specs.Calls.{entered as entered_call};
-ghost use Rattle.jr_frames.specs.Ready.{StandsReady};
-ghost use Rattle.jr_env.specs.Works.{Completes};
+ghost use Rattle.jr_env.specs.Standing.{CanCall};
+ghost use Rattle.jr_env.specs.Works.{Completes, EndsStay};
 
 use jr_frames::{Frames, Held};
 use jr_gate::{Inside, enter};
-use jr_steps::Steps;
+use jr_steps::{Role, Steps};
 use jr_word::Fault;
 
 /// What a call does within a stay, with what it is handed.
@@ -60,18 +59,31 @@ pub trait Work<S: Steps> {
         ensures given { IfOk result (λ answer. gives (S.facts steps.old).stands.thread answer) };
 }
 
-/// Makes a call: enters the gate, does the work, and leaves.
+/// Ends the stay that a region left, and nothing where the thread stands outside. A region has to be released, so that one is left only where its parts were taken apart.
+#[inline(always)]
+pub fn outside<S: Steps>(held: &mut Held<S>)
+    requires { CanCall (S.facts held.old.steps).stands }
+    ensures { EndsStay S.facts held.old.steps held.new.steps held.old.frames held.new.frames }
+{
+    if let Role::Within = held.steps.role() {
+        held.steps.go_out();
+    }
+}
+
+/// Makes a call: enters the gate, does the work, and leaves. A stay that a region left is ended first.
 ///
 /// # Errors
 ///
 /// E13, and those of the work.
 #[inline(always)]
 pub fn make<S: Steps, W: Work<S> + Drop>(held: &mut Held<S>, work: W) -> Result<W::Answer, Fault>
-    requires ready { StandsReady S.facts Outside held.old.steps held.old.frames }
+    requires ready { CanCall (S.facts held.old.steps).stands }
     requires can { W.can_work work }
     ensures call { Completes S.facts held.old.steps held.new.steps held.old.frames held.new.frames (W.silent work (S.facts held.old.steps).stands.config) (λ s. entered_call (W.asked work (S.facts held.old.steps).stands.config (S.facts held.old.steps).stands.last (S.facts held.old.steps).stands.thread s)) result }
+    ensures next { CanCall (S.facts held.new.steps).stands }
     ensures given { IfOk result (λ answer. W.gives (S.facts held.old.steps).stands.thread answer) }
 {
+    outside(held);
     let inside = enter(&mut held.steps)?;
     let answer = work.work(&mut held.steps, &inside, &mut held.frames);
     inside.leave(&mut held.steps);

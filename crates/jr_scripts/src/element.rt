@@ -1,6 +1,6 @@
 //! Commands about one element, which make two calls: for the kind of the array, and for the element.
 
-ghost use Rattle.jr_env.specs.Envs.{Does};
+ghost use Rattle.jr_env.specs.Envs.{HasDone, IsOutside};
 ghost use Rattle.jr_scripts.specs.Commands.{loading, storing};
 
 use crate::ask::ask;
@@ -19,7 +19,8 @@ pub(crate) fn load<S: Steps>(
     array: Handle,
     index: u32,
 ) -> Result<Reply, Fault>
-    ensures { Does env.old env.new (loading turns array.0 index) result }
+    requires { IsOutside env.old }
+    ensures { HasDone env.old env.new (loading turns array.0 index) result }
 {
     let kind = retry(env, turns, &KindOf(array))?;
     let numbered = NumberKind::of(kind)?;
@@ -34,7 +35,8 @@ pub(crate) fn store<S: Steps>(
     index: u32,
     number: i64,
 ) -> Result<Reply, Fault>
-    ensures { Does env.old env.new (storing turns array.0 index number) result }
+    requires { IsOutside env.old }
+    ensures { HasDone env.old env.new (storing turns array.0 index number) result }
 {
     let kind = retry(env, turns, &KindOf(array))?;
     let numbered = NumberKind::of(kind)?;

@@ -1,7 +1,7 @@
 //! Calls that are made again.
 
 ghost use Rattle.std.specs.Prelude.{◌≡◌, Result};
-ghost use Rattle.jr_env.specs.Envs.{Does};
+ghost use Rattle.jr_env.specs.Envs.{HasDone, IsOutside};
 ghost use Rattle.jr_scripts.specs.Tries.{is_tried_again};
 ghost use Rattle.jr_scripts.specs.Commands.{tried};
 
@@ -23,7 +23,8 @@ pub fn retry<S: Steps, C: EnvCall<S>>(
     turns: u64,
     call: &C,
 ) -> Result<C::Answer, Fault>
-    ensures { Does env.old env.new (tried turns (C.deed call.now)) result }
+    requires { IsOutside env.old }
+    ensures { HasDone env.old env.new (tried turns (C.deed call.now)) result }
 {
     for _ in 0..turns {
         let answer = call.make(env);

@@ -2,6 +2,7 @@
 
 ghost use Rattle.std.specs.Prelude.{◌≡◌, ◌++◌, ◌+◌, ◌<◌, ◌^◌, List, ℕ, IfErr, OnOk, MatchOption, Some, None, length};
 ghost use Rattle.jr_word.specs.declared.fault.Fault.TheVariants.{Memory};
+ghost use Rattle.jr_env.specs.Envs.{IsOutside};
 ghost use Rattle.jr_scripts.specs.Text.{sets, names_after};
 ghost use Rattle.jr_scripts.specs.Runs.{RanThread, WritesDown};
 
@@ -81,7 +82,8 @@ pub fn run_thread<S: Steps, B: Board, H: Hold>(
     turns: u64,
     out: &mut Vec<u8>,
 ) -> Result<(), Fault>
-    requires { first + length commands.now < 2 ^ 64 }
+    requires lines { first + length commands.now < 2 ^ 64 }
+    requires outside { IsOutside env.old }
     ensures explained { (text : List ℕ) × (out.new.items ≡ out.old.items ++ text) × RanThread S.facts env.old.held.steps env.new.held.steps env.old.held.frames.frames env.new.held.frames.frames turns first commands.now result text }
     ensures memory { IfErr result (λ e. e ≡ Memory) }
 {

@@ -1,6 +1,7 @@
 use Rattle.std.proofs.Common.{◌≡◌, rules}
 use Rattle.jr_model.specs.Frames.{fresh_frames}
 use Rattle.jr_frames.proofs.StillReady.{ready_new}
+use Rattle.jr_env.proofs.EndedStays.{can_call}
 use Rattle.jr_env.proofs.env.Env.new.Goals as goal
 
 pub invariant_of-held : goal.invariant_of-held
@@ -17,4 +18,4 @@ invariant_of-result g c =
     let s = (g.S.Steps.facts c.spend.new.self).stands in
     let is : c.new-frames.result ≡ record { frames = fresh_frames s.config.locals; thread = s.thread; last = s.last } = cc in
     let fresh = c.fresh.ensures in
-    record { ready = ready_new c.new-frames.result c.spend.ensures is c.requires (λ k m. g.met.S.Steps.unused steps k (search rules) m) (g.met.S.Steps.some_known steps) }
+    record { ready = can_call (ready_new c.new-frames.result c.spend.ensures is c.requires (λ k m. g.met.S.Steps.unused steps k (search rules) m) (g.met.S.Steps.some_known steps)) }
