@@ -1,4 +1,4 @@
-//! Tests of the calls of an env over rooms and over plain words.
+//! Tests of the calls of an env for references and frames, over rooms and over plain words.
 #![tactic(auto)]
 
 #[cfg(test)]
@@ -10,12 +10,6 @@ mod handles;
 #[cfg(test)]
 mod held;
 #[cfg(test)]
-mod making;
-#[cfg(test)]
-mod objects;
-#[cfg(test)]
 mod references;
-#[cfg(test)]
-mod regions;
 #[cfg(test)]
 mod rooms;

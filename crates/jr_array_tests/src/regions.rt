@@ -1,16 +1,14 @@
-//! Regions of arrays, through the calls that copy them out and in, over plain words and over a room.
+//! Regions of arrays, through the calls that copy them out and in, over plain words.
 ghost use Rattle.std.specs.Prelude.{◌≤◌};
 
-use crate::envs::{is_refused, made, plain_env};
-use crate::rooms::last_env;
+use crate::envs::{lone_env, refuses};
 use jr_env::Env;
-use jr_rule::Room;
 use jr_steps::Steps;
 use jr_word::{Config, Elem, Fault, Handle};
 use std::process::Abort;
 use std::test::Fail;
 
-/// A room of two threads with eight objects and 32 words for their elements.
+/// Two threads, eight objects, and 32 words for their elements.
 const TWO: Config = Config {
     threads: 2,
     slots: 4,
@@ -56,7 +54,7 @@ fn goes_in_and_out<S: Steps, E: Elem + PartialEq>(
 
 #[test]
 fn least_and_greatest_elements_of_8_bits_and_chars(rt: HostRuntime) -> Result<(), Fail> {
-    let mut env = plain_env(rt.alloc(), TWO)?;
+    let mut env = lone_env(rt.alloc(), TWO)?;
     let array = env.new_array::<bool>(3)?;
     goes_in_and_out(
         &rt,
@@ -91,7 +89,7 @@ fn least_and_greatest_elements_of_8_bits_and_chars(rt: HostRuntime) -> Result<()
 
 #[test]
 fn least_and_greatest_elements_of_16_to_64_bits(rt: HostRuntime) -> Result<(), Fail> {
-    let mut env = plain_env(rt.alloc(), TWO)?;
+    let mut env = lone_env(rt.alloc(), TWO)?;
     let array = env.new_array::<i16>(3)?;
     goes_in_and_out(
         &rt,
@@ -130,15 +128,15 @@ fn lies_past<S: Steps>(rt: &impl Abort, env: &mut Env<S>, array: Handle, start: 
 {
     let mut elements = [7; 4];
     let answer = env.get_array_region(array, start, &mut elements[..count]);
-    is_refused(rt, answer, Some(Fault::Range));
+    refuses(rt, answer, Fault::Range);
     assert!(rt; elements == [7; 4]);
     let answer = env.set_array_region(array, start, &elements[..count]);
-    is_refused(rt, answer, Some(Fault::Range));
+    refuses(rt, answer, Fault::Range);
 }
 
 #[test]
 fn regions_of_none_of_one_of_all_and_past_the_end(rt: HostRuntime) -> Result<(), Fail> {
-    let mut env = plain_env(rt.alloc(), TWO)?;
+    let mut env = lone_env(rt.alloc(), TWO)?;
     let array = env.new_array::<i32>(3)?;
     env.set_array_region(array, 0, &[10, 20, 30])?;
     has_elements(&rt, &mut env, array, 0, &mut [7; 3], &[10, 20, 30])?;
@@ -161,7 +159,7 @@ fn four_thousand_and_ninety_six_elements(rt: HostRuntime) -> Result<(), Fail> {
         words: 4_096,
         ..TWO
     };
-    let mut env = plain_env(rt.alloc(), config)?;
+    let mut env = lone_env(rt.alloc(), config)?;
     let array = env.new_array::<i64>(4_096)?;
     let mut written = [0i64; 4_096];
     let mut next = i64::MIN;
@@ -186,15 +184,15 @@ fn is_no_such_array<S: Steps>(
 ) {
     let mut elements = [-7i16, 7];
     let answer = env.get_array_region(word, start, &mut elements);
-    is_refused(rt, answer, Some(fault));
+    refuses(rt, answer, fault);
     assert!(rt; elements == [-7, 7]);
     let answer = env.set_array_region(word, start, &elements);
-    is_refused(rt, answer, Some(fault));
+    refuses(rt, answer, fault);
 }
 
 #[test]
 fn what_is_no_array_of_the_kind(rt: HostRuntime) -> Result<(), Fail> {
-    let mut env = plain_env(rt.alloc(), TWO)?;
+    let mut env = lone_env(rt.alloc(), TWO)?;
     let plain = env.new_plain()?;
     let string = env.new_string(&[1, 2, 3])?;
     let objects = env.new_object_array(3, plain)?;
@@ -217,42 +215,11 @@ fn what_is_no_array_of_the_kind(rt: HostRuntime) -> Result<(), Fail> {
 
 #[test]
 fn a_string_is_no_array_of_chars(rt: HostRuntime) -> Result<(), Fail> {
-    let mut env = plain_env(rt.alloc(), TWO)?;
+    let mut env = lone_env(rt.alloc(), TWO)?;
     let string = env.new_string(&[1, 2, 3])?;
     let answer = env.get_array_region(string, 0, &mut [0u16; 3]);
-    is_refused(&rt, answer, Some(Fault::NotArray));
+    refuses(&rt, answer, Fault::NotArray);
     let answer = env.set_array_region(string, 0, &[0u16; 3]);
-    is_refused(&rt, answer, Some(Fault::NotArray));
+    refuses(&rt, answer, Fault::NotArray);
     Ok(())
-}
-
-/// What one thread writes through a global reference another reads through it; a local reference is to no array of another thread.
-fn hands_on<S: Steps, U: Steps>(
-    rt: &impl Abort,
-    writer: &mut Env<S>,
-    reader: &mut Env<U>,
-) -> Result<(), Fail> {
-    let array = writer.new_array::<u16>(3)?;
-    let shared = made(writer.new_global_ref(array))?;
-    writer.set_array_region(array, 1, &[65_535u16, 1])?;
-    let mut found = [7u16; 3];
-    is_refused(
-        rt,
-        reader.get_array_region(array, 0, &mut found),
-        Some(Fault::Foreign),
-    );
-    reader.get_array_region(shared, 0, &mut found)?;
-    assert!(rt; found == [0, 65_535, 1]);
-    reader.set_array_region(shared, 0, &[5u16])?;
-    writer.get_array_region(array, 0, &mut found)?;
-    assert!(rt; found == [5, 65_535, 1]);
-    Ok(())
-}
-
-#[test]
-fn two_threads_hand_elements_on(rt: HostRuntime) -> Result<(), Fail> {
-    let (room, mut passes) = Room::<2>::open(rt.alloc(), TWO)?;
-    let mut writer = last_env(&room, &mut passes)?;
-    let mut reader = last_env(&room, &mut passes)?;
-    hands_on(&rt, &mut writer, &mut reader)
 }

@@ -1,0 +1,15 @@
+//! Tests of an env's calls at arrays, strings and object arrays, over rooms and over plain words.
+#![tactic(auto)]
+
+#[cfg(test)]
+mod envs;
+#[cfg(test)]
+mod making;
+#[cfg(test)]
+mod objects;
+#[cfg(test)]
+mod racing;
+#[cfg(test)]
+mod regions;
+#[cfg(test)]
+mod sharing;
