@@ -1,4 +1,5 @@
 //! What an env holds, while the env itself is out of reach.
+ghost use Rattle.jr_env.specs.Envs.{IsOutside};
 
 use crate::envs::{made, plain_env};
 use jr_env::Env;
@@ -19,7 +20,9 @@ fn resolved<S: Steps + Drop>(
         Option<u16>,
     ),
     Fault,
-> {
+>
+    requires { IsOutside env }
+{
     let mut held = env.held;
     let inside = enter(&mut held.steps)?;
     let one = held.resolve(&inside, first);
