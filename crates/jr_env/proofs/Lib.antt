@@ -1,5 +1,4 @@
 pub mod InsideGate
-pub mod Leaving
 pub mod Meetings
 pub mod NewReference
 pub mod NewObject
@@ -7,8 +6,6 @@ pub mod NewArray
 pub mod Removing
 pub mod EnvCalls
 pub mod FrameCalls
-pub mod FoundObject
-pub mod Steady
 pub mod ObjectLooks
 pub mod ElementChecks
 pub mod ElementReading
