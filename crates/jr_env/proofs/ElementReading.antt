@@ -40,10 +40,11 @@ use Rattle.jr_frames.specs.Ready.{StandsReady}
 use Rattle.jr_frames.proofs.FramesAgree.{holds_did}
 use Rattle.jr_frames.proofs.StillReady.{ready_after, same_owner}
 use Rattle.jr_env.specs.Elements.{element_checks}
-use Rattle.jr_env.specs.Works.{Finds, IsSteady}
+use Rattle.jr_frames.specs.Finding.{Finds}
+use Rattle.jr_frames.specs.Steady.{IsSteady}
 use Rattle.jr_env.proofs.ElementChecks.{checks_passed, ran_checks}
-use Rattle.jr_env.proofs.FoundObject.{finds_next, ran_for, work_at}
-use Rattle.jr_env.proofs.Steady.{steady_at, steady_for, steady_same, steady_then}
+use Rattle.jr_frames.proofs.FoundObject.{finds_next, ran_for, work_at}
+use Rattle.jr_frames.proofs.Steady.{steady_at, steady_for, steady_same, steady_then}
 
 -- an element of an object array that was read is 0 or a present object
 named_by : {k k' : Known} (o i v : ℕ) (h : HeaderParts) → h.kind ≡ Objects → Goes k (Read o i v ∷ []) k' → ShowsObject o h k' → IsWordNow Objects v k'

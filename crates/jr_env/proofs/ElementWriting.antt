@@ -35,11 +35,11 @@ use Rattle.jr_heap.proofs.StayFacts.{object_later}
 use Rattle.jr_frames.specs.OverSteps.{ResolvesBoth}
 use Rattle.jr_frames.proofs.FramesAgree.{holds_did}
 use Rattle.jr_env.specs.Elements.{element_checks}
-use Rattle.jr_env.specs.Works.{IsSteady}
+use Rattle.jr_frames.specs.Steady.{IsSteady}
 use Rattle.jr_env.proofs.ElementChecks.{checks_passed, ran_checks}
 use Rattle.jr_env.proofs.ElementReading.{element_at, element_refused, steady_element}
-use Rattle.jr_env.proofs.FoundObject.{ran_for, spend_look}
-use Rattle.jr_env.proofs.Steady.{steady_same, steady_then}
+use Rattle.jr_frames.proofs.FoundObject.{ran_for, spend_look}
+use Rattle.jr_frames.proofs.Steady.{steady_same, steady_then}
 
 -- what was seen after a call within a stay, with no act
 ran_ahead : {A : Type 0} {p q r : PassView} {f g : Frames} {call : Call A} (x : A) → Ran p q f g call (Ok x) → Did q r [] → role_of q ≡ Within → Ran p r f g call (Ok x)

@@ -8,20 +8,20 @@ use Rattle.jr_model.specs.declared.event.Role.{Role}
 use Rattle.jr_model.specs.declared.event.Role.TheVariants.{Outside}
 use Rattle.jr_model.specs.declared.event.Act.TheVariants.{Enter, Knock, Leave, Withdraw}
 use Rattle.jr_model.specs.Frames.{Frames}
-use Rattle.jr_model.specs.History.{PassView}
 use Rattle.jr_model.specs.State.{State}
-use Rattle.jr_model.specs.Calls.{Call, Ran, entered}
+use Rattle.jr_model.specs.Calls.{Call, entered}
 use Rattle.jr_model.proofs.Runs.{ran_barred, ran_entered}
 use Rattle.jr_steps.specs.declared.known.Known.{Known}
-use Rattle.jr_steps.specs.Knowing.{AreOf, Facts, Standing, state_of, standing_after, anything, keeps, lets_go, Holds, Took}
+use Rattle.jr_steps.specs.Knowing.{AreOf, Facts, Standing, state_of, anything, keeps, lets_go, Holds, Took}
 use Rattle.jr_steps.proofs.StepFacts.{goes_did, goes_stepped}
 use Rattle.jr_gate.specs.Acting.{ActedTo, IsWithdrawn}
 use Rattle.jr_frames.specs.Table.{Table}
-use Rattle.jr_gate.specs.Performing.{Performed, IsAsBefore}
+use Rattle.jr_gate.specs.Performing.{Performed}
 use Rattle.jr_frames.specs.Ready.{StandsReady, KeepsOwner}
 use Rattle.jr_frames.proofs.StillReady.{same_owner, ready_after}
-use Rattle.jr_env.specs.Works.{CallsWhole, Completes, EndsStay, IsSteady, KeepsObjects}
-use Rattle.jr_env.proofs.Leaving.{kept_by_leave}
+use Rattle.jr_frames.specs.Steady.{IsSteady}
+use Rattle.jr_env.specs.Works.{CallsWhole, Completes, EndsStay}
+use Rattle.jr_frames.proofs.Leaving.{kept_by_leave, left_before, ran_later}
 use Rattle.jr_gate.proofs.SameRoom.{as_before}
 use Rattle.jr_gate.proofs.Spending.{made_of, spending, spend_first, spend_last, spend_more, spend_step, spend_barred}
 use Rattle.jr_frames.proofs.FramesAgree.{holds_did}
@@ -29,20 +29,6 @@ use Rattle.jr_gate.proofs.HandedOn.{handed_on}
 
 abbrev with_role : Standing → Role → Standing
 with_role s r = record s { role = r }
-
--- an entry, work in between, and an exit
-left_before : {r s t u : Standing} → r.role ≡ Outside → s ≡ standing_after r (Enter ∷ []) → IsAsBefore s t → u ≡ standing_after t (Leave ∷ []) → IsAsBefore r u
-left_before {r} out e p l = record {
-  room = ap (λ (x : Standing). x.room) l ∙ (p.room ∙ ap (λ (x : Standing). x.room) e);
-  config = ap (λ (x : Standing). x.config) l ∙ (p.config ∙ ap (λ (x : Standing). x.config) e);
-  last = ap (λ (x : Standing). x.last) l ∙ (p.last ∙ ap (λ (x : Standing). x.last) e);
-  thread = ap (λ (x : Standing). x.thread) l ∙ (p.thread ∙ ap (λ (x : Standing). x.thread) e);
-  role = ap (λ (x : Standing). x.role) l ∙ sym out;
-}
-
--- a steady call, for a later state
-ran_later : {A : Type 0} {p q : PassView} {f g : Frames} {call : State → Call A} {answer : Result A Fault} {s s' : State} → IsSteady call → KeepsObjects s s' → Ran p q f g (call s) answer → Ran p q f g (call s') answer
-ran_later {f = f} {g = g} {answer = answer} {s = s} {s' = s'} steady keeps r = record { acts = r.acts; did = r.did; is = steady s s' keeps f g r.acts answer r.is; begun = r.begun; window = r.window; grounds = r.grounds }
 
 module _ {S : Type 0} {facts : S → Facts} where
   -- a call that takes nothing beside its acts takes no more than this

@@ -1,6 +1,5 @@
 pub mod EndedStays
 pub mod InsideGate
-pub mod Leaving
 pub mod Meetings
 pub mod NewReference
 pub mod NewObject
@@ -8,8 +7,6 @@ pub mod NewArray
 pub mod Removing
 pub mod EnvCalls
 pub mod FrameCalls
-pub mod FoundObject
-pub mod Steady
 pub mod ObjectLooks
 pub mod ElementChecks
 pub mod ElementReading

@@ -17,9 +17,10 @@ use Rattle.jr_gate.proofs.SameRoom.{nothing_changed}
 use Rattle.jr_gate.proofs.Spending.{made_of, spend_none}
 use Rattle.jr_heap.specs.Heap.{HoldsHeader}
 use Rattle.jr_frames.proofs.Reading.{ran_refused, ran_passed}
-use Rattle.jr_env.specs.Works.{Finds, IsSteady}
-use Rattle.jr_env.proofs.FoundObject.{finds_then}
-use Rattle.jr_env.proofs.Steady.{steady_at, steady_for}
+use Rattle.jr_frames.specs.Finding.{Finds}
+use Rattle.jr_frames.specs.Steady.{IsSteady}
+use Rattle.jr_frames.proofs.FoundObject.{finds_then}
+use Rattle.jr_frames.proofs.Steady.{steady_at, steady_for}
 
 -- the length, where the kind passes the test
 abbrev pub length_of : (Kind → Bool) → Fault → Kind → ℕ → Call ℕ

@@ -8,7 +8,7 @@ use Rattle.jr_model.specs.Checks.{Word, same_element}
 use Rattle.jr_model.specs.Objects.{part_of, part_reading}
 use Rattle.jr_steps.specs.Knowing.{Facts, Holds}
 use Rattle.jr_gate.specs.Performing.{Performed}
-use Rattle.jr_env.specs.Works.{Finds}
+use Rattle.jr_frames.specs.Finding.{Finds}
 
 -- the array with this header has elements of this kind, and n of them from start on
 pub record IsPart (kind : Kind) (start n : ℕ) (h : HeaderParts) : Type 0 where

@@ -1,23 +1,21 @@
 -- For the crate's own functions: what calls and their works did, over any steps and frames, for whatever was known.
-use Rattle.std.specs.Prelude.{◌≡◌, ℕ, Result, Ok, Err, Option, Some, None, IfOk, List, length}
+use Rattle.std.specs.Prelude.{◌≡◌, ℕ, Result, Ok, Err, Option, Some, None, List, length}
 use Rattle.jr_word.specs.declared.config.Config.{Config}
 use Rattle.jr_word.specs.declared.fault.Fault.{Fault}
-use Rattle.jr_word.specs.declared.header.HeaderParts.{HeaderParts}
 use Rattle.jr_word.specs.declared.kind.Kind.{Kind}
 use Rattle.jr_word.specs.declared.kind.Kind.TheVariants.{Plain}
 use Rattle.jr_model.specs.declared.event.Role.TheVariants.{Outside}
-use Rattle.jr_model.specs.declared.event.Act.{Act}
-use Rattle.jr_model.specs.State.{Contents, Handle, State}
+use Rattle.jr_model.specs.State.{Handle, State}
 use Rattle.jr_model.specs.Frames.{Frames, object_at}
-use Rattle.jr_model.specs.Calls.{Call, ◌>>=◌, ◌>>◌, done, for_object}
+use Rattle.jr_model.specs.Calls.{Call, ◌>>=◌, ◌>>◌}
 use Rattle.jr_model.specs.Checks.{Word}
-use Rattle.jr_model.specs.Parts.{frame_to_pop, not_null, publish}
+use Rattle.jr_model.specs.Parts.{frame_to_pop, publish}
 use Rattle.jr_model.specs.References.{added, made, popping, resolved}
 use Rattle.jr_steps.specs.declared.known.Known.{Known}
 use Rattle.jr_steps.specs.Holdings.{with_header}
 use Rattle.jr_steps.specs.Knowing.{Facts, keeps, lets_go, without_range_of, Holds}
 use Rattle.jr_gate.specs.Performing.{Performed}
-use Rattle.jr_heap.specs.Heap.{header_of, own_words, HoldsHeader, IsReady}
+use Rattle.jr_heap.specs.Heap.{header_of, own_words, IsReady}
 use Rattle.jr_frames.specs.Table.{Table}
 use Rattle.jr_frames.specs.Ready.{StandsReady}
 use Rattle.jr_env.specs.Deeds.{making_steps}
@@ -43,26 +41,6 @@ frame_popping c last thread a = do
   x ← resolved c last thread a
   popping c last thread x
 
--- what a reference names, its kind and its length
-abbrev pub finding : Config → ℕ → ℕ → State → Word → Call (ℕ × Kind × ℕ)
-finding c last thread s a = do
-  x ← resolved c last thread a
-  o ← not_null x
-  for_object s o (λ k n. done (o, k, n))
-
--- an object that was found by its header, as the call answers it
-abbrev pub found_parts : Result (ℕ × HeaderParts) Fault → Result (ℕ × Kind × ℕ) Fault
-found_parts (Ok x) = Ok (x.0, x.1.kind, x.1.length)
-found_parts (Err e) = Err e
-
--- each object that is present in the one state is present in the other, of the same kind and length
-abbrev pub KeepsObjects : State → State → Type 0
-KeepsObjects s s' = (o : ℕ) (x : Contents) → s.objects o ≡ Some x → (y : Contents) × (s'.objects o ≡ Some y) × (y.kind ≡ x.kind) × (length y.words ≡ length x.words)
-
--- what was a call for the one state is the same for each other that keeps its objects
-abbrev pub IsSteady : {A : Type 0} → (State → Call A) → Type 0
-IsSteady {A} call = (s s' : State) → KeepsObjects s s' → (f g : Frames) (acts : List Act) (answer : Result A Fault) → call s f acts answer g → call s' f acts answer g
-
 module _ {S : Type 0} (facts : S → Facts) where
   -- a range of the pass's own, which has these words and is ready, became a new object with a local reference to it, or every number was found present: the pass holds the header of that very object and the range no more, and where the call was refused just what it held; the frames go on agreeing with the locals
   abbrev pub Refers : S → S → Frames → Frames → Kind → ℕ → ℕ → List ℕ → Result Handle Fault → Type 0
@@ -71,10 +49,6 @@ module _ {S : Type 0} (facts : S → Facts) where
   -- an array or string of these words and a local reference to it were made in a stay, and the frames go on agreeing with the locals
   abbrev pub MakesArray : S → S → Frames → Frames → Kind → List ℕ → (Known → Type 0) → Result Handle Fault → Type 0
   MakesArray old new f g kind words met answer = Performed facts old new f g (making_steps (length words) (facts old).stands.config) (λ k. Holds f k × met k) (λ s. made (facts old).stands.config (facts old).stands.last (facts old).stands.thread kind words) answer (λ j k. Unit {0} × Holds g k)
-
-  -- what a reference names was found in a stay, by at most one operation beside the acts: the pass knows its header, and the frames go on agreeing with the locals
-  abbrev pub Finds : S → S → Frames → Word → Result (ℕ × HeaderParts) Fault → Type 0
-  Finds old new f a answer = Performed facts old new f f 1 (Holds f) (λ s. finding (facts old).stands.config (facts old).stands.last (facts old).stands.thread s a) (found_parts answer) (λ j k. IfOk answer (λ x. HoldsHeader x.0 x.1 k) × Holds f k)
 
   -- a whole call was made, for the state that it leaves: the pass holds nothing, and the frames go on agreeing with the locals
   abbrev pub CallsWhole : {A : Type 0} → S → S → Frames → Frames → ℕ → (State → Call A) → Result A Fault → Type 0

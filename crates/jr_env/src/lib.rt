@@ -3,7 +3,6 @@
 
 mod calls;
 mod env;
-mod finding;
 mod frame_calls;
 mod frame_works;
 mod making;

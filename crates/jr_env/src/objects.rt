@@ -1,14 +1,13 @@
 //! The works that look at objects, over a thread's steps and its local references.
 ghost use Rattle.std.specs.Prelude.{◌≡◌, ◌<◌, ◌^◌, []};
 ghost use Rattle.jr_model.specs.Frames.{Frames as LocalFrames};
-ghost use Rattle.jr_model.specs.Checks.{is_array as is_array_of, is_objects as is_objects_of, is_text as is_text_of, element_word, object_of_word};
+ghost use Rattle.jr_model.specs.Checks.{element_word, object_of_word};
 ghost use Rattle.jr_env.specs.Elements.{element_checks};
 
-use crate::finding::find;
 use crate::work::Work;
-use jr_frames::{Frames, Reference, new_local, resolve_both};
+use jr_frames::{Frames, Reference, find, new_local, resolve_both};
 use jr_gate::Inside;
-use jr_heap::header;
+use jr_heap::{header, is_array, is_objects, is_text};
 use jr_steps::Steps;
 use jr_word::{Fault, HandleParts, HeaderParts, Kind};
 
@@ -217,25 +216,4 @@ fn element_for(object: Option<u16>) -> u64
         Some(object) => u64::from(object),
         None => 0,
     }
-}
-
-/// Whether objects of the kind are arrays: neither plain nor strings.
-pub fn is_array(kind: Kind) -> bool
-    ensures { result ≡ is_array_of kind }
-{
-    !matches!(kind, Kind::Plain | Kind::Text)
-}
-
-/// Whether objects of the kind are strings.
-fn is_text(kind: Kind) -> bool
-    ensures { result ≡ is_text_of kind }
-{
-    matches!(kind, Kind::Text)
-}
-
-/// Whether objects of the kind are object arrays.
-fn is_objects(kind: Kind) -> bool
-    ensures { result ≡ is_objects_of kind }
-{
-    matches!(kind, Kind::Objects)
 }

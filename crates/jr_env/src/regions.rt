@@ -14,12 +14,10 @@ ghost use Rattle.jr_env.specs.Standing.{CanCall};
 ghost use Rattle.jr_env.specs.Works.{Completes};
 ghost use Rattle.jr_env.specs.Regions.{FindsPart, ReadsPart};
 
-use crate::finding::find;
-use crate::objects::is_array;
 use crate::work::{Work, outside};
-use jr_frames::{Frames, Held, Reference};
+use jr_frames::{Frames, Held, Reference, find};
 use jr_gate::{Inside, enter};
-use jr_heap::{read_part, write_part};
+use jr_heap::{is_array, read_part, write_part};
 use jr_steps::Steps;
 use jr_word::{Elem, Fault, HeaderParts, Kind};
 

@@ -24,7 +24,7 @@ pub trait Work<S: Steps> {
     ghost use Rattle.jr_gate.specs.Stays.{IsOwnStay};
     ghost use Rattle.jr_gate.specs.Performing.{Performed};
     ghost use Rattle.jr_frames.specs.Ready.{StandsReady, KeepsOwner};
-    ghost use Rattle.jr_env.specs.Works.{IsSteady};
+    ghost use Rattle.jr_frames.specs.Steady.{IsSteady};
 
     /// What it answers.
     type Answer;

@@ -26,6 +26,9 @@ pub mod FramesAgree
 pub mod StillReady
 pub mod Reading
 pub mod Resolution
+pub mod FoundObject
+pub mod Steady
+pub mod Leaving
 pub mod ResolutionOfBoth
 pub mod RoomFor
 pub mod NewLocal

@@ -7,5 +7,7 @@ pub mod Freeing
 pub mod Giving
 pub mod Reading
 pub mod OverSteps
+pub mod Finding
+pub mod Steady
 pub mod Ready
 pub mod Dropping

@@ -17,6 +17,7 @@ ghost use Rattle.jr_heap.specs.Heap.{
   element_steps,
 };
 
+use crate::kinds::is_plain;
 use crate::object::header;
 use jr_steps::Steps;
 use jr_word::{Fault, HeaderParts, Kind};
@@ -93,13 +94,6 @@ pub fn write_element<S: Steps>(
     }
     steps.put_element(object, header, index, word);
     Ok(())
-}
-
-/// Whether objects of the kind have no elements.
-fn is_plain(kind: Kind) -> bool
-    ensures { result ≡ is_plain_of kind }
-{
-    matches!(kind, Kind::Plain)
 }
 
 /// Whether no element of an object of the kind is ever written: it has none, or it is a string.

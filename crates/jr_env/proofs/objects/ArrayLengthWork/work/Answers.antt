@@ -3,7 +3,7 @@ use Rattle.jr_word.specs.declared.fault.Fault.TheVariants.{NotArray}
 use Rattle.jr_model.specs.Calls.{for_object}
 use Rattle.jr_model.specs.Checks.{is_array}
 use Rattle.jr_frames.specs.Reading.{word_of}
-use Rattle.jr_env.proofs.FoundObject.{finds_refused}
+use Rattle.jr_frames.proofs.FoundObject.{finds_refused}
 use Rattle.jr_env.proofs.ObjectLooks.{length_of, steady_length, tells_length, tells_no_length}
 use Rattle.jr_env.proofs.objects.ArrayLengthWork.work.Goals as goal
 

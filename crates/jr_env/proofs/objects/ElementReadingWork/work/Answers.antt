@@ -4,7 +4,7 @@ use Rattle.jr_word.proofs.Limits.{limited}
 use Rattle.jr_frames.specs.Reading.{word_of}
 use Rattle.jr_env.proofs.ElementChecks.{checks_passed}
 use Rattle.jr_env.proofs.ElementReading.{element_at, element_named, may_both, may_name, reads_element, reads_nothing, ready_found, ready_read, steady_reading, word_low}
-use Rattle.jr_env.proofs.FoundObject.{finds_refused}
+use Rattle.jr_frames.proofs.FoundObject.{finds_refused}
 use Rattle.jr_env.proofs.objects.ElementReadingWork.work.Goals as goal
 
 pub returns-in_err-array-clause-call : goal.returns-in_err-array-clause-call

@@ -1,6 +1,6 @@
 use Rattle.jr_model.specs.Calls.{done, for_object}
 use Rattle.jr_frames.specs.Reading.{word_of}
-use Rattle.jr_env.proofs.FoundObject.{finds_refused}
+use Rattle.jr_frames.proofs.FoundObject.{finds_refused}
 use Rattle.jr_env.proofs.ObjectLooks.{steady_kind, tells_kind}
 use Rattle.jr_env.proofs.objects.KindReadingWork.work.Goals as goal
 

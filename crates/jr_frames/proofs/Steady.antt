@@ -7,8 +7,8 @@ use Rattle.jr_model.specs.Calls.{Call, for_object, ◌>>=◌}
 use Rattle.jr_model.specs.Checks.{Word}
 use Rattle.jr_model.specs.Parts.{not_null}
 use Rattle.jr_model.specs.References.{resolved}
-use Rattle.jr_env.specs.Works.{IsSteady}
-use Rattle.jr_env.proofs.FoundObject.{at_named}
+use Rattle.jr_frames.specs.Steady.{IsSteady}
+use Rattle.jr_frames.proofs.FoundObject.{at_named}
 
 -- a call that names no state
 pub steady_same : {A : Type 0} (call : Call A) → IsSteady (λ s. call)

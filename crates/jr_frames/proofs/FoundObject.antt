@@ -1,6 +1,7 @@
 -- What a reference names is found, and calls are put together from that and what follows.
 use Rattle.std.proofs.Common.{◌≡◌, ℕ, ◌+◌, Option, Some, None, List, [], ◌++◌, length, Result, Ok, Err, inl, inr, refl, sym, ap, subst, ◌∙◌, arith, append_assoc}
 use Rattle.std.specs.Result.{IsErrAnd}
+use mathlib.Core.Logic.{∥∥₁_map}
 use Rattle.jr_word.specs.declared.config.Config.{Config}
 use Rattle.jr_word.specs.declared.fault.Fault.{Fault}
 use Rattle.jr_word.specs.declared.fault.Fault.TheVariants.{Null}
@@ -19,7 +20,7 @@ use Rattle.jr_model.proofs.Runs.{did_legal, ran_done, ran_err, ran_refuse, ran_t
 use Rattle.jr_model.proofs.Stays.{did_nothing, did_then}
 use Rattle.jr_model.proofs.Windows.{window_then}
 use Rattle.jr_steps.specs.declared.known.Known.{Known}
-use Rattle.jr_steps.specs.Knowing.{Facts, Standing, view, state_of, HasObject, Holds, ShowsObject}
+use Rattle.jr_steps.specs.Knowing.{Facts, Standing, view, state_of, HasObject, Holds, MayKnow, ShowsObject}
 use Rattle.jr_gate.specs.Performing.{Performed, moment}
 use Rattle.jr_gate.proofs.HandedOn.{handed_on}
 use Rattle.jr_gate.proofs.SameRoom.{as_before, still_before}
@@ -28,7 +29,7 @@ use Rattle.jr_heap.specs.Heap.{Called, HoldsHeader, Learns, by_steps}
 use Rattle.jr_heap.proofs.Headers.{learnt}
 use Rattle.jr_frames.specs.OverSteps.{Resolves}
 use Rattle.jr_frames.proofs.FramesAgree.{holds_did}
-use Rattle.jr_env.specs.Works.{Finds, finding}
+use Rattle.jr_frames.specs.Finding.{Finds, finding}
 
 -- what a call does at the object that a reference names
 abbrev pub at_named : {A : Type 0} → Config → ℕ → ℕ → Word → (ℕ → Call A) → Call A
@@ -149,6 +150,10 @@ module _ {S : Type 0} {facts : S → Facts} {a b : S} {f : Frames} (w : Word) wh
     stands_is = p.stands_is;
     ran = λ k s m. let x = p.ran k s m in (x.0, x.1, made_of (spend_more 1 (spending x.2)) (ran_err (λ z. not_null z >>= named (state_of x.0)) e x.2.ran), (tt, x.3.1));
   })
+
+  -- the object that was found may be looked at
+  pub may_look : {z : Option ℕ} {o : ℕ} → z ≡ Some o → Resolves facts a b f (resolving facts a w) (Ok z) → MayKnow facts a (Holds f) → MayKnow facts b (HasObject o)
+  may_look is r some = let p = subst (λ y. Resolves facts a b f (resolving facts a w) (Ok y)) is r in ∥∥₁_map some (λ k. let x = p.ran k.0 k.1 k.2 in (x.0, x.1, x.3.2))
 
   -- it names no object
   pub finds_null : {z : Option ℕ} → z ≡ None → Resolves facts a b f (resolving facts a w) (Ok z) → Finds facts a b f w (Err Null)

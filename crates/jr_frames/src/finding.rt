@@ -6,9 +6,11 @@ ghost use Rattle.jr_gate.specs.Stays.{IsOwnStay};
 ghost use Rattle.jr_heap.specs.Heap.{HoldsHeader};
 ghost use Rattle.jr_frames.specs.Reading.{word_of, OwnerFits};
 ghost use Rattle.jr_frames.specs.Ready.{StandsReady};
-ghost use Rattle.jr_env.specs.Works.{Finds};
+ghost use Rattle.jr_frames.specs.Finding.{Finds};
 
-use jr_frames::{Frames, Reference, resolve};
+use crate::frames::Frames;
+use crate::reference::Reference;
+use crate::resolving::resolve;
 use jr_gate::Inside;
 use jr_heap::header;
 use jr_steps::Steps;

@@ -1,7 +1,6 @@
 use Rattle.jr_frames.specs.Reading.{word_of}
-use Rattle.jr_env.proofs.NewReference.{may_create}
-use Rattle.jr_env.proofs.FoundObject.{finds_no_reference, finds_null, finds_object}
-use Rattle.jr_env.proofs.finding.find.Goals as goal
+use Rattle.jr_frames.proofs.FoundObject.{finds_no_reference, finds_null, finds_object, may_look}
+use Rattle.jr_frames.proofs.finding.find.Goals as goal
 
 pub returns-in_err-object-clause-call : goal.returns-in_err-object-clause-call
 returns-in_err-object-clause-call g c = finds_no_reference (word_of c.args.target) c.from_residual.result c.from_residual.ensures.1 c.in_err-object.ensures
@@ -10,7 +9,7 @@ pub returns-in_default-clause-call : goal.returns-in_default-clause-call
 returns-in_default-clause-call g c = finds_null (word_of c.args.target) c.in_default.is c.in_ok-object.ensures
 
 pub header-header-requires-clause-object : goal.header-header-requires-clause-object
-header-header-requires-clause-object g c = may_create c.in-Some.is c.in_ok-object.ensures c.requires.ready.own.agrees
+header-header-requires-clause-object g c = may_look (word_of c.args.target) c.in-Some.is c.in_ok-object.ensures c.requires.ready.own.agrees
 
 pub returns-clause-call : goal.returns-clause-call
 returns-clause-call g c = finds_object (word_of c.args.target) c.in-Some.is c.in_ok-object.ensures c.header-header.ensures.stands c.header-header.ensures.call
