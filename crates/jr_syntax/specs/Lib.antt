@@ -6,6 +6,7 @@ pub mod Reference
 pub mod Count
 pub mod Units
 pub mod Value
+pub mod Modes
 pub mod Command
 pub mod Script
 pub mod Faults

@@ -11,10 +11,11 @@ use crate::name::{Name, Reference};
 use crate::text::{named_units, put_named_units};
 use crate::units::Units;
 use crate::verb::{
-    Make, MakeAt, MakeFilled, MakeFrom, MakeSized, MakeText, On, OnAt, OnBoth, OnName, SetAt,
-    StoreAt, Verb, WithCount,
+    Make, MakeAt, MakeFilled, MakeFrom, MakeSized, MakeText, On, OnAt, OnBoth, OnName, OnNameAt,
+    PutAt, Release, SetAt, StoreAt, Verb, WithCount,
 };
 use crate::word::Words;
+use jr_model::Mode;
 use std::alloc::AllocError;
 
 /// A command of a thread: a verb, and the arguments of its shape.
@@ -98,6 +99,26 @@ pub enum Command {
         index: u32,
         value: i64,
     },
+    /// `VERB N I`: is about an element of what a name stands for, and sets no name; index 0 to 16,777,215.
+    OnNameAt {
+        verb: OnNameAt,
+        name: Name,
+        index: u32,
+    },
+    /// `VERB N I VALUE`: makes a value an element of what a name stands for.
+    PutAt {
+        verb: PutAt,
+        name: Name,
+        index: u32,
+        value: i64,
+    },
+    /// `VERB N REF MODE`: hands what a name stands for back to what a reference names.
+    Release {
+        verb: Release,
+        name: Name,
+        target: Reference,
+        mode: Mode,
+    },
 }
 
 impl Command {
@@ -138,6 +159,9 @@ impl Command {
             Verb::OnAt(verb) => Command::read_at(verb, words),
             Verb::SetAt(verb) => Command::read_set(verb, words),
             Verb::StoreAt(verb) => Command::read_stored(verb, words),
+            Verb::OnNameAt(verb) => Command::read_name_at(verb, words),
+            Verb::PutAt(verb) => Command::read_put(verb, words),
+            Verb::Release(verb) => Command::read_release(verb, words),
         }
     }
 
@@ -221,6 +245,40 @@ impl Command {
         })
     }
 
+    #[tactic(auto, unfolding(crate::specs::Command::behind_verb))]
+    fn read_name_at(verb: OnNameAt, words: Words) -> Result<Command, LineError>
+        ensures { Reads (behind_verb (with.OnNameAt verb)) words.entry result }
+    {
+        let (name, index) = two(words)?;
+        Ok(Command::OnNameAt { verb, name, index })
+    }
+
+    #[tactic(auto, unfolding(crate::specs::Command::behind_verb))]
+    fn read_put(verb: PutAt, words: Words) -> Result<Command, LineError>
+        ensures { Reads (behind_verb (with.PutAt verb)) words.entry result }
+    {
+        let (name, index, value) = three(words)?;
+        Ok(Command::PutAt {
+            verb,
+            name,
+            index,
+            value,
+        })
+    }
+
+    #[tactic(auto, unfolding(crate::specs::Command::behind_verb))]
+    fn read_release(verb: Release, words: Words) -> Result<Command, LineError>
+        ensures { Reads (behind_verb (with.Release verb)) words.entry result }
+    {
+        let (name, target, mode) = three(words)?;
+        Ok(Command::Release {
+            verb,
+            name,
+            target,
+            mode,
+        })
+    }
+
     /// Its verb.
     #[tactic(auto, unfolding(crate::specs::Command::spelling_of))]
     fn verb(&self) -> Verb
@@ -240,6 +298,9 @@ impl Command {
             Command::OnAt { verb, .. } => Verb::OnAt(*verb),
             Command::SetAt { verb, .. } => Verb::SetAt(*verb),
             Command::StoreAt { verb, .. } => Verb::StoreAt(*verb),
+            Command::OnNameAt { verb, .. } => Verb::OnNameAt(*verb),
+            Command::PutAt { verb, .. } => Verb::PutAt(*verb),
+            Command::Release { verb, .. } => Verb::Release(*verb),
         }
     }
 
@@ -283,6 +344,16 @@ impl Command {
                 value,
                 ..
             } => put_three(out, word, target, index, value),
+            Command::OnNameAt { name, index, .. } => put_two(out, word, name, index),
+            Command::PutAt {
+                name,
+                index,
+                value,
+                ..
+            } => put_three(out, word, name, index, value),
+            Command::Release {
+                name, target, mode, ..
+            } => put_three(out, word, name, target, mode),
         }
     }
 }
