@@ -20,7 +20,6 @@ use Rattle.jr_syntax.specs.Reference.{reference, reference_word, is_good_referen
 use Rattle.jr_syntax.specs.Count.{number_at_most, most_count, count}
 use Rattle.jr_syntax.specs.Units.{most_units, unit, units}
 use Rattle.jr_syntax.specs.Value.{value}
-use Rattle.jr_model.specs.declared.frames.Mode.{Mode}
 use Rattle.jr_model.specs.declared.frames.Mode.TheVariants.{Copy, Commit, Abort}
 use Rattle.jr_syntax.specs.Modes.{mode, word_of_mode}
 use Rattle.jr_syntax.proofs.DecimalLaws.{decimal_number}

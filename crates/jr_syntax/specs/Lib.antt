@@ -8,6 +8,7 @@ pub mod Units
 pub mod Value
 pub mod Modes
 pub mod Command
+pub mod Printing
 pub mod Script
 pub mod Faults
 pub mod Parse

@@ -1,10 +1,11 @@
 //! Commands, and the lines that they are.
 
-ghost use Rattle.std.specs.Prelude.{◌≡◌, ◌++◌, OnOk};
+ghost use Rattle.std.specs.Prelude.{◌≡◌, ◌∷◌, ◌++◌, true, OnOk};
 ghost use Rattle.jr_syntax.specs.Kind.{Reads};
 ghost use Rattle.jr_syntax.specs.Line.{line};
 ghost use Rattle.jr_syntax.specs.declared.verb.Verb.TheVariants as with;
 ghost use Rattle.jr_syntax.specs.Command.{behind_verb, spelling_of, words_of_command, ReadsLine};
+ghost use Rattle.jr_syntax.specs.Printing.{has_three_arguments, arguments_of};
 
 use crate::argument::{LineError, one, put_one, put_three, put_two, three, two};
 use crate::name::{Name, Reference};
@@ -318,20 +319,37 @@ impl Command {
             Command::OnName { name, .. } => put_one(out, word, name),
             Command::WithCount { count, .. } => put_one(out, word, count),
             Command::MakeSized { name, length, .. } => put_two(out, word, name, length),
+            Command::MakeText { name, units, .. } => put_named_units(out, word, name, units),
+            Command::OnAt { target, index, .. } => put_two(out, word, target, index),
+            Command::OnNameAt { name, index, .. } => put_two(out, word, name, index),
+            Command::MakeFilled { .. }
+            | Command::MakeAt { .. }
+            | Command::SetAt { .. }
+            | Command::StoreAt { .. }
+            | Command::PutAt { .. }
+            | Command::Release { .. } => self.put_longer(out, word),
+        }
+    }
+
+    /// Writes a word and the three arguments of a command that has three behind it.
+    #[tactic(auto, unfolding(crate::specs::Command::spelling_of))]
+    fn put_longer(&self, out: &mut Vec<u8>, word: &[u8]) -> Result<(), AllocError>
+        requires { has_three_arguments self.now ≡ true }
+        ensures { OnOk result (out.new.items ≡ out.old.items ++ line (word.now ∷ arguments_of self.now)) }
+    {
+        match self {
             Command::MakeFilled {
                 name,
                 length,
                 target,
                 ..
             } => put_three(out, word, name, length, target),
-            Command::MakeText { name, units, .. } => put_named_units(out, word, name, units),
             Command::MakeAt {
                 name,
                 target,
                 index,
                 ..
             } => put_three(out, word, name, target, index),
-            Command::OnAt { target, index, .. } => put_two(out, word, target, index),
             Command::SetAt {
                 target,
                 index,
@@ -344,7 +362,6 @@ impl Command {
                 value,
                 ..
             } => put_three(out, word, target, index, value),
-            Command::OnNameAt { name, index, .. } => put_two(out, word, name, index),
             Command::PutAt {
                 name,
                 index,
@@ -352,8 +369,12 @@ impl Command {
                 ..
             } => put_three(out, word, name, index, value),
             Command::Release {
-                name, target, mode, ..
+                name,
+                target,
+                mode,
+                ..
             } => put_three(out, word, name, target, mode),
+            _ => Ok(()),
         }
     }
 }
