@@ -63,7 +63,7 @@ fn is_made<S: Steps>(env: &mut Env<S>) -> bool {
     false
 }
 
-/// Copies so many elements out of each array: how often that was done.
+/// Copies so many elements out of each array, all of which are 0: how often that was done. The elements are looked at behind the last copy, since the compiler leaves out what nobody reads.
 fn copy_out_each<S: Steps>(env: &mut Env<S>, handed: &[Handle], length: usize) -> usize {
     let mut elements = [0i32; LONG as usize];
     let Some(part) = elements.get_mut(..length) else {
@@ -75,7 +75,7 @@ fn copy_out_each<S: Steps>(env: &mut Env<S>, handed: &[Handle], length: usize) -
             right = right.saturating_add(1);
         }
     }
-    right
+    if part.contains(&0) { right } else { 0 }
 }
 
 /// Copies so many elements into each array: how often that was done.

@@ -248,6 +248,7 @@ fn make_array<S: Steps>(
 }
 
 /// Publishes a range of the pass's own as a new object, and makes the local reference of a handle to it.
+#[inline(always)]
 fn refer<S: Steps>(
     steps: &mut S,
     frames: &mut Frames,

@@ -73,6 +73,8 @@ impl Row {
             table,
             config,
             last: _,
+            headers: _,
+            elements: _,
         } = self;
         let Pass {
             seat,

@@ -93,6 +93,8 @@ impl Row {
             table,
             config,
             last: _,
+            headers: _,
+            elements: _,
         } = self;
         let words = ClosedWords {
             closed: table.close_with(seat),

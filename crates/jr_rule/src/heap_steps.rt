@@ -8,7 +8,7 @@ ghost use Rattle.jr_steps.specs.Acts.{acts_of_publication, acts_of_top_load, act
 ghost use Rattle.jr_rule.specs.Image.{element_at};
 ghost use Rattle.jr_steps.specs.Knowing.{anything, keeps, KnowsHeader, HasWord, IsWordNow, IsFilled, words_for, ShowsHeader, ShowsPublished, ShowsUsed, WasUsed, ShowsRange, ShowsWord, MayKnow, Took, TookWith};
 
-use crate::layout::{TOP, element_at, header_at};
+use crate::layout::TOP;
 use crate::parts::top_word;
 use crate::pass::Pass;
 use crate::row::Row;
@@ -26,7 +26,7 @@ impl Row {
         ensures row { IsAt self.now pass.new }
         ensures step { Took facts_of pass.old pass.new [] anything (ShowsHeader object result) }
     {
-        let at = header_at(&self.config, u32::from(object));
+        let at = self.header_at(u32::from(object));
         let found = self.load::<Brand, u16>(&mut pass.seat, at, object);
         Header::parts(found)
     }
@@ -40,7 +40,7 @@ impl Row {
         ensures row { IsAt self.now pass.new }
         ensures step { TookWith facts_of pass.old pass.new (λ k. acts_of_publication object header.kind (words_for header k) result) (standing_of pass.old) (IsFilled header) (ShowsPublished object header result) }
     {
-        let at = header_at(&self.config, u32::from(object));
+        let at = self.header_at(u32::from(object));
         let new = Header::pack(header);
         let about = (object, header);
         let found = self.exchange::<Brand, (u16, HeaderParts)>(&mut pass.seat, at, 0, new.0, about);
@@ -89,7 +89,7 @@ impl Row {
         ensures row { IsAt self.now pass.new }
         ensures step { Took facts_of pass.old pass.new (Read object index result ∷ []) (KnowsHeader object header) keeps }
     {
-        let at = element_at(&self.config, header.place + index);
+        let at = self.element_at(header.place + index);
         self.load::<Brand, (u16, u32)>(&mut pass.seat, at, (object, index))
     }
 
@@ -109,7 +109,7 @@ impl Row {
         ensures row { IsAt self.now pass.new }
         ensures step { Took facts_of pass.old pass.new (Write object index word ∷ []) (λ k. KnowsHeader object header k × IsWordNow header.kind word k) keeps }
     {
-        let at = element_at(&self.config, header.place + index);
+        let at = self.element_at(header.place + index);
         self.store::<Brand, (u16, u32)>(&mut pass.seat, at, word, (object, index));
     }
 
@@ -120,7 +120,7 @@ impl Row {
         ensures row { IsAt self.now pass.new }
         ensures step { Took facts_of pass.old pass.new [] (HasWord place index) (ShowsWord place index word) }
     {
-        let at = element_at(&self.config, place + index);
+        let at = self.element_at(place + index);
         self.store::<Brand, (u32, u32)>(&mut pass.seat, at, word, (place, index));
     }
 }

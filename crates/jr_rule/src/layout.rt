@@ -32,6 +32,15 @@ pub(crate) fn local_at(config: &Config, thread: u8, place: u16) -> usize
     SLOTS + config.slots as usize + before + usize::from(place)
 }
 
+/// The place of the header of object 1 in the row.
+pub(crate) fn first_header(config: &Config) -> usize
+    requires limited { IsLimited config.now }
+    ensures { result ≡ place_of_header config.now 1 }
+{
+    let locals = config.threads as usize * config.locals as usize;
+    SLOTS + config.slots as usize + locals
+}
+
 /// The place of an object's header in the row.
 pub(crate) fn header_at(config: &Config, object: u32) -> usize
     requires limited { IsLimited config.now }
@@ -40,6 +49,14 @@ pub(crate) fn header_at(config: &Config, object: u32) -> usize
 {
     let locals = config.threads as usize * config.locals as usize;
     SLOTS + config.slots as usize + locals + (object as usize - 1)
+}
+
+/// The place of the first word of array space in the row, where it has any.
+pub(crate) fn first_element(config: &Config) -> usize
+    requires limited { IsLimited config.now }
+    ensures { result ≡ place_of_element config.now 0 }
+{
+    first_header(config) + config.objects as usize
 }
 
 /// The place of a word of array space in the row.

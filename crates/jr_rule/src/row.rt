@@ -32,8 +32,10 @@ ghost use prog.Atomic.{either};
 ghost use Rattle.jr_word.specs.Config.{in_limits, row_words};
 ghost use Rattle.jr_model.specs.declared.event.Role.TheVariants.{Outside};
 ghost use Rattle.jr_steps.specs.Holdings.{empty};
+ghost use Rattle.jr_rule.specs.Image.{header_at as place_of_header, element_at as place_of_element};
 ghost use Rattle.jr_rule.specs.Rule.{IsSized, sizes, known, view_of, newcomers, others_of, acting, IsAlone, Owes, Tells};
 
+use crate::layout::{first_element, first_header};
 use crate::pass::Pass;
 use crate::rule::{Deal, Rule, Sizes, Tell, Telling, View};
 use atomic_table::{Seat, Table};
@@ -47,10 +49,16 @@ pub struct Row {
     pub(crate) table: Table<(), View, Sizes, Rule, Global>,
     pub(crate) config: Config,
     pub(crate) last: u32,
+    /// Where the header of object 1 is in the row.
+    pub(crate) headers: usize,
+    /// Where the first word of array space is in the row.
+    pub(crate) elements: usize,
     ghost key: { table.shared.key ≡ sizes config last },
     ghost no_slots: { table.shared.table_id.slots ≡ 0 },
     ghost words: { table.shared.table_id.words ≡ row_words config },
     ghost sized: { IsSized config last },
+    ghost first_header: { headers ≡ place_of_header config 1 },
+    ghost first_element: { elements ≡ place_of_element config 0 },
 }
 
 impl Row {
@@ -68,10 +76,14 @@ impl Row {
     {
         let words = vec![in alloc; 0u64; config.row_words()]?;
         let (table, seat) = Table::of_words(alloc, words.as_slice(), &Sizes { config, last })?;
+        let headers = first_header(&config);
+        let elements = first_element(&config);
         let row = Row {
             table,
             config,
             last,
+            headers,
+            elements,
         };
         let passes = row.deal_all(alloc, seat)?;
         Ok((row, passes))
@@ -106,6 +118,24 @@ impl Row {
             fresh: true,
             hint: 0,
         }
+    }
+
+    /// The place of an object's header in the row.
+    #[inline(always)]
+    pub(crate) fn header_at(&self, object: u32) -> usize
+        requires { (1 ≤ object) × (object ≤ self.now.config.objects) }
+        ensures { result ≡ place_of_header self.now.config object }
+    {
+        self.headers + (object as usize - 1)
+    }
+
+    /// The place of a word of array space in the row.
+    #[inline(always)]
+    pub(crate) fn element_at(&self, place: u32) -> usize
+        requires { place < self.now.config.words }
+        ensures { result ≡ place_of_element self.now.config place }
+    {
+        self.elements + place as usize
     }
 
     /// Loads a word.

@@ -16,8 +16,8 @@ overflow_add-place c =
     let below = move_few p c.args.object c.args.header c.args.place c.args.index c.args.word c.requires.can in
     let most = p.held.sized.limited.words in omega (arith, below, most)
 
-pub element_at-at-requires-clause-place : goal.element_at-at-requires-clause-place
-element_at-at-requires-clause-place c =
+pub element_at-at-requires : goal.element_at-at-requires
+element_at-at-requires c =
     let p = c.args.pass.now in
     let below = move_few p c.args.object c.args.header c.args.place c.args.index c.args.word c.requires.can in
     subst (λ z. c.args.place + c.args.index < z.words) (c.requires.row).config below

@@ -16,8 +16,8 @@ overflow_add-place c =
     let below = p.held.space.own c.args.place c.args.index (word_held p c.args.place c.args.index c.requires.own) in
     let most = p.held.sized.limited.words in omega (arith, below, most)
 
-pub element_at-at-requires-clause-place : goal.element_at-at-requires-clause-place
-element_at-at-requires-clause-place c =
+pub element_at-at-requires : goal.element_at-at-requires
+element_at-at-requires c =
     let p = c.args.pass.now in
     let below = p.held.space.own c.args.place c.args.index (word_held p c.args.place c.args.index c.requires.own) in
     subst (λ z. c.args.place + c.args.index < z.words) (c.requires.row).config below

@@ -16,8 +16,8 @@ overflow_add-header c =
     let below = p.held.space.elements c.args.object c.args.header (there_known p c.args.object c.args.header c.args.index c.requires.there).0 c.args.index c.requires.index in
     let most = p.held.sized.limited.words in omega (arith, below, most)
 
-pub element_at-at-requires-clause-place : goal.element_at-at-requires-clause-place
-element_at-at-requires-clause-place c =
+pub element_at-at-requires : goal.element_at-at-requires
+element_at-at-requires c =
     let p = c.args.pass.now in
     let below = p.held.space.elements c.args.object c.args.header (there_known p c.args.object c.args.header c.args.index c.requires.there).0 c.args.index c.requires.index in
     subst (λ z. c.args.header.place + c.args.index < z.words) (c.requires.row).config below
