@@ -82,8 +82,8 @@ fn least_and_greatest_elements_of_8_bits_and_chars(rt: HostRuntime) -> Result<()
         array,
         &mut [7u16; 3],
         &[0; 3],
-        &[65_535, 1],
-        &[0, 65_535, 1],
+        &[0, 65_535],
+        &[0, 0, 65_535],
     )
 }
 
