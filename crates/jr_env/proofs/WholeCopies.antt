@@ -171,6 +171,11 @@ module _ {S : Type 0} {facts : S → Facts} (fits : AreOf facts) {a b : S} {f : 
   array_done n rest answer is same passes spared q = found_done w (elements_then kind next) fits found n rest answer same
       (λ p q r. ran_passed (not (is_array h.kind)) NotArray _ (ap not (array_of kind h.kind is)) (ran_passed (not (same_element kind h.kind)) WrongElement _ (ap not is) (passes p q r))) spared q
 
+-- the units' words are themselves
+own_words : {V : Type 0} (units : V → List ℕ) (answer : Result V Fault) → answer_in (λ v. map (λ x. x) (units v)) answer ≡ answer_in units answer
+own_words units (Ok v) = ap (λ xs. Ok xs) (map-id (units v))
+own_words units (Err e) = refl
+
 -- the elements of an array are copied
 module _ {S : Type 0} {facts : S → Facts} (fits : AreOf facts) {a b : S} {f : Frames} (w : Word) (kind : Kind) {o : ℕ} {h : HeaderParts} (found : Finds facts a b f w (Ok (o, h))) where
   pub elements_copied : {V : Type 0} (form : V → List ℕ) {c : S} (answer : Result V Fault) → same_element kind h.kind ≡ true → (facts c).stands ≡ (facts b).stands
@@ -194,13 +199,15 @@ module _ {S : Type 0} {facts : S → Facts} (fits : AreOf facts) {a b : S} {f : 
   pub no_string : is_text h.kind ≡ false → Performed facts a b f f 1 (Holds f) (object_work facts a w (units_then copied)) (Err WrongKind) (λ j k. Unit {0} × Holds f k)
   no_string e = found_refused w (units_then copied) fits found WrongKind (λ p l. ran_refused p f (not (is_text h.kind)) WrongKind _ (ap not e) tt l)
 
-  pub units_copied : {V : Type 0} (form : V → List ℕ) {c : S} (answer : Result V Fault) → is_text h.kind ≡ true → (facts c).stands ≡ (facts b).stands
+  units_copied : {V : Type 0} (form : V → List ℕ) {c : S} (answer : Result V Fault) → is_text h.kind ≡ true → (facts c).stands ≡ (facts b).stands
       → Called facts b c (HoldsHeader o h) (λ j k. copied o h.length) (answer_in form answer) (by_steps (copy_steps h.length answer) (LeavesObject o h))
       → Performed facts a c f f 1 (Holds f) (object_work facts a w (units_then copied)) (answer_in form answer) (λ j k. Unit {0} × Holds f k)
   units_copied form answer is same q = found_done w (units_then copied) fits found (copy_steps h.length answer) (copied o h.length) (answer_in form answer) same
       (λ p q r. ran_passed (not (is_text h.kind)) WrongKind _ (ap not is) r) (λ acts. copy_spared form o h.length f f acts answer) q
 
--- the units' words are themselves
-pub own_words : {V : Type 0} (units : V → List ℕ) (answer : Result V Fault) → answer_in (λ v. map (λ x. x) (units v)) answer ≡ answer_in units answer
-own_words units (Ok v) = ap (λ xs. Ok xs) (map-id (units v))
-own_words units (Err e) = refl
+  -- the units themselves
+  pub units_read : {V : Type 0} (units : V → List ℕ) {c : S} (answer : Result V Fault) → is_text h.kind ≡ true → (facts c).stands ≡ (facts b).stands
+      → Called facts b c (HoldsHeader o h) (λ j k. copied o h.length) (answer_in (λ v. map (λ x. x) (units v)) answer) (by_steps (copy_steps h.length answer) (LeavesObject o h))
+      → Performed facts a c f f 1 (Holds f) (λ s. in_form units (object_work facts a w (units_then copied) s)) answer (λ j k. Unit {0} × Holds f k)
+  units_read units {c} answer is same q = performed_in units (object_work facts a w (units_then copied)) answer
+      (subst (λ r. Performed facts a c f f 1 (Holds f) (object_work facts a w (units_then copied)) r (λ j k. Unit {0} × Holds f k)) (own_words units answer) (units_copied (λ v. map (λ x. x) (units v)) answer is same q))
