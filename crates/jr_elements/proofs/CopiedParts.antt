@@ -23,7 +23,7 @@ module _ {S : Type 0} {facts : S → Facts} (fits : AreOf facts) (o : ℕ) (h : 
 
   module _ {E : Type 0} (f : E → ℕ) (es : List E) where
     -- one element more
-    pub copies_more : {a b c : S} (i v : ℕ) (x : E) → (facts a).stands.role ≡ Within → length es ≡ i → f x ≡ v → PartDone facts o h (read_acts o 0 (map f es)) i a b → Took facts b c (Read o i v ∷ []) (KnowsHeader o h) keeps
+    pub copies_more : {a b c : S} (i v : ℕ) (x : E) → (facts a).stands.role ≡ Within → length es ≡ i → v ≡ f x → PartDone facts o h (read_acts o 0 (map f es)) i a b → Took facts b c (Read o i v ∷ []) (KnowsHeader o h) keeps
         → PartDone facts o h (read_acts o 0 (map f (es ++ x ∷ []))) (i + 1) a c
     copies_more {a} {b} {c} i v x w long word p t =
         let size : length (map f es) ≡ i = length-map es f ∙ long in
@@ -31,7 +31,7 @@ module _ {S : Type 0} {facts : S → Facts} (fits : AreOf facts) (o : ℕ) (h : 
         let acts : read_acts o 0 (map f (es ++ x ∷ [])) ≡ read_acts o 0 (map f es) ++ Read o i v ∷ [] =
         ap (λ vs. read_acts o 0 vs) (map_push f es x)
         ∙ (read_acts_more o 0 (map f es) (f x)
-        ∙ (ap (λ n. read_acts o 0 (map f es) ++ Read o n (f x) ∷ []) at ∙ ap (λ y. read_acts o 0 (map f es) ++ Read o i y ∷ []) word)) in
+        ∙ (ap (λ n. read_acts o 0 (map f es) ++ Read o n (f x) ∷ []) at ∙ ap (λ y. read_acts o 0 (map f es) ++ Read o i y ∷ []) (sym word))) in
         subst (λ xs. PartDone facts o h xs (i + 1) a c) (sym acts) (part_more fits o h (read_acts o 0 (map f es)) i (Read o i v) (λ e. cc) w refl (λ k m. m.known) p t)
 
     -- all of them

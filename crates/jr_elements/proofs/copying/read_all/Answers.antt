@@ -38,7 +38,7 @@ pub loop-index-preserved : goal.loop-index-preserved
 loop-index-preserved g c =
     let i = c.loop-index.invariant in
     let more = c.push_reserved.ensures.items in
-    let word = sym (g.met.E.Elem.laws.reads_own c.see_element-word.result c.unwrap.result (sym c.from_word.ensures ∙ c.unwrap.ensures)).1 in
+    let word = (g.met.E.Elem.laws.reads_own c.see_element-word.result c.unwrap.result (sym c.from_word.ensures ∙ c.unwrap.ensures)).1 in
     let done = copies_more g.met.S.Steps.fits c.args.object c.args.header g.E.Elem.word_of c.loop-index.items.items c.loop-index.index c.see_element-word.result c.unwrap.result c.requires.role i.long word i.done c.see_element-word.ensures in
     record {
       long = ap (λ xs. length xs) more ∙ (length_push c.loop-index.items.items c.unwrap.result ∙ ap (λ n. n + 1) i.long);
