@@ -12,3 +12,5 @@ pub mod ElementChecks
 pub mod ElementReading
 pub mod ArrayParts
 pub mod ElementWriting
+pub mod WholeCopies
+pub mod ReleasedElements

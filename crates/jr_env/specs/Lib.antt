@@ -4,3 +4,4 @@ pub mod Envs
 pub mod Standing
 pub mod Works
 pub mod Regions
+pub mod Copies

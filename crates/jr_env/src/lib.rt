@@ -2,6 +2,8 @@
 #![tactic(auto)]
 
 mod calls;
+mod copies;
+mod copy_calls;
 mod env;
 mod frame_calls;
 mod frame_works;
