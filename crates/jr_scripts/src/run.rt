@@ -85,6 +85,7 @@ pub fn run_thread<S: Steps, B: Board, H: Hold>(
     requires lines { first + length commands.now < 2 ^ 64 }
     requires outside { IsOutside env.old }
     ensures explained { (text : List ℕ) × (out.new.items ≡ out.old.items ++ text) × RanThread S.facts env.old.held.steps env.new.held.steps env.old.held.frames.frames env.new.held.frames.frames turns first commands.now result text }
+    ensures outside { IsOutside env.new }
     ensures memory { IfErr result (λ e. e ≡ Memory) }
 {
     let mut names = Names::new(alloc);

@@ -30,6 +30,7 @@ pub fn run_to_end<S: Steps, B: Board, H: Hold>(
     requires lines { first + length commands.now < 2 ^ 64 }
     requires outside { IsOutside env.old }
     ensures ended { (text : List ℕ) × (out.new.items ≡ out.old.items ++ text) × RanToEnd S.facts env.old.held.steps env.new.held.steps env.old.held.frames.frames env.new.held.frames.frames turns first commands.now result text }
+    ensures outside { IsOutside env.new }
     ensures memory { IfErr result (λ e. e ≡ Memory) }
 {
     let answer = run_thread(alloc, env, first, commands, board, hold, turns, out);

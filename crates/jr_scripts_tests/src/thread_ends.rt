@@ -1,4 +1,6 @@
 //! The end of a thread: its local references are freed, where it has turns.
+ghost use Rattle.std.specs.Prelude.{IfOk};
+ghost use Rattle.jr_env.specs.Envs.{IsOutside};
 
 use crate::scripts::{BEFORE, SIZES};
 use jr_env::Env;
@@ -10,7 +12,9 @@ use std::alloc::Global;
 use std::test::Fail;
 
 /// An env over plain words.
-pub(crate) fn plain_env(alloc: Global) -> Result<Env<PlainSteps<2>>, Fail> {
+pub(crate) fn plain_env(alloc: Global) -> Result<Env<PlainSteps<2>>, Fail>
+    ensures { IfOk result (λ env. IsOutside env) }
+{
     let Ok(env) = Env::new(PlainSteps::<2>::new(alloc, SIZES)?) else {
         return Err("a fresh pass was refused")?;
     };
