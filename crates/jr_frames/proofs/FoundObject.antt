@@ -20,7 +20,9 @@ use Rattle.jr_model.proofs.Runs.{did_legal, ran_done, ran_err, ran_refuse, ran_t
 use Rattle.jr_model.proofs.Stays.{did_nothing, did_then}
 use Rattle.jr_model.proofs.Windows.{window_then}
 use Rattle.jr_steps.specs.declared.known.Known.{Known}
-use Rattle.jr_steps.specs.Knowing.{Facts, Standing, view, state_of, HasObject, Holds, MayKnow, ShowsObject}
+use Rattle.jr_steps.specs.declared.known.Holdings.{Holdings}
+use Rattle.jr_steps.specs.Holdings.{header_in, with_header}
+use Rattle.jr_steps.specs.Knowing.{Facts, Standing, keeps, view, state_of, HasObject, Holds, MayKnow, ShowsObject}
 use Rattle.jr_gate.specs.Performing.{Performed, moment}
 use Rattle.jr_gate.proofs.HandedOn.{handed_on}
 use Rattle.jr_gate.proofs.SameRoom.{as_before, still_before}
@@ -29,7 +31,7 @@ use Rattle.jr_heap.specs.Heap.{Called, HoldsHeader, Learns, by_steps}
 use Rattle.jr_heap.proofs.Headers.{learnt}
 use Rattle.jr_frames.specs.OverSteps.{Resolves}
 use Rattle.jr_frames.proofs.FramesAgree.{holds_did}
-use Rattle.jr_frames.specs.Finding.{Finds, finding}
+use Rattle.jr_frames.specs.Finding.{Finds, FindsBeside, finding}
 
 -- what a call does at the object that a reference names
 abbrev pub at_named : {A : Type 0} → Config → ℕ → ℕ → Word → (ℕ → Call A) → Call A
@@ -142,13 +144,22 @@ resolving facts a w = resolved (facts a).stands.config (facts a).stands.last (fa
 abbrev pub work_at : {S A : Type 0} → (S → Facts) → S → Word → (State → ℕ → Call A) → State → Call A
 work_at facts a w next s = at_named (facts a).stands.config (facts a).stands.last (facts a).stands.thread w (next s)
 
+-- a header that was learned after steps that left what the pass held
+learns_since : (o : ℕ) (h : HeaderParts) (j m k : Known) → keeps j m → Learns o h m k → Learns o h j k
+learns_since o h j m k same l = (l.0, l.1 ∙ ap (λ (g : Holdings). with_header g o h) same, λ g e. l.2 g (ap (λ (z : Holdings). header_in o z.headers) same ∙ e))
+
 module _ {S : Type 0} {facts : S → Facts} {a b : S} {f : Frames} (w : Word) where
+  -- what was found is known, and what the pass held beside it need not be told
+  pub finds : (answer : Result (ℕ × HeaderParts) Fault) → FindsBeside facts a b f w answer → Finds facts a b f w answer
+  finds (Ok y) p = record { stands_is = p.stands_is; ran = λ k s m. let x = p.ran k s m in (x.0, x.1, x.2, (learnt y.0 y.1 k x.0 x.3.0, x.3.1)) }
+  finds (Err e) p = record { stands_is = p.stands_is; ran = λ k s m. let x = p.ran k s m in (x.0, x.1, x.2, (tt, x.3.1)) }
+
   -- the reference was refused
-  pub finds_no_reference : {e : Fault} (answer : Result (ℕ × HeaderParts) Fault) → IsErrAnd answer (λ y. y ≡ e) → Resolves facts a b f (resolving facts a w) (Err e) → Finds facts a b f w answer
+  pub finds_no_reference : {e : Fault} (answer : Result (ℕ × HeaderParts) Fault) → IsErrAnd answer (λ y. y ≡ e) → Resolves facts a b f (resolving facts a w) (Err e) → FindsBeside facts a b f w answer
   finds_no_reference (Ok x) given p = absurd given
-  finds_no_reference {e} (Err d) given p = subst (λ y. Finds facts a b f w (Err y)) (sym given) (record {
+  finds_no_reference {e} (Err d) given p = subst (λ y. FindsBeside facts a b f w (Err y)) (sym given) (record {
     stands_is = p.stands_is;
-    ran = λ k s m. let x = p.ran k s m in (x.0, x.1, made_of (spend_more 1 (spending x.2)) (ran_err (λ z. not_null z >>= named (state_of x.0)) e x.2.ran), (tt, x.3.1));
+    ran = λ k s m. let x = p.ran k s m in (x.0, x.1, made_of (spend_more 1 (spending x.2)) (ran_err (λ z. not_null z >>= named (state_of x.0)) e x.2.ran), (x.3.0, x.3.1));
   })
 
   -- the object that was found may be looked at
@@ -156,16 +167,16 @@ module _ {S : Type 0} {facts : S → Facts} {a b : S} {f : Frames} (w : Word) wh
   may_look is r some = let p = subst (λ y. Resolves facts a b f (resolving facts a w) (Ok y)) is r in ∥∥₁_map some (λ k. let x = p.ran k.0 k.1 k.2 in (x.0, x.1, x.3.2))
 
   -- it names no object
-  pub finds_null : {z : Option ℕ} → z ≡ None → Resolves facts a b f (resolving facts a w) (Ok z) → Finds facts a b f w (Err Null)
+  pub finds_null : {z : Option ℕ} → z ≡ None → Resolves facts a b f (resolving facts a w) (Ok z) → FindsBeside facts a b f w (Err Null)
   finds_null is r = let p = subst (λ y. Resolves facts a b f (resolving facts a w) (Ok y)) is r in record {
     stands_is = p.stands_is;
     ran = λ k s m. let x = p.ran k s m in
         let l = did_legal x.2.ran.acts x.2.ran.did in
-        (x.0, x.1, made_of (spend_more 1 (spending x.2)) (ran_then {next = λ z. not_null z >>= named (state_of x.0)} None x.2.ran (ran_err (named (state_of x.0)) Null (ran_refuse (view x.0) f Null tt l))), (tt, x.3.1));
+        (x.0, x.1, made_of (spend_more 1 (spending x.2)) (ran_then {next = λ z. not_null z >>= named (state_of x.0)} None x.2.ran (ran_err (named (state_of x.0)) Null (ran_refuse (view x.0) f Null tt l))), (x.3.0, x.3.1));
   }
 
   pub finds_object : {c : S} {z : Option ℕ} {o : ℕ} {h : HeaderParts} → z ≡ Some o → Resolves facts a b f (resolving facts a w) (Ok z) → (facts c).stands ≡ (facts b).stands
-      → Called facts b c (HasObject o) (λ j k. header (state_of k) o) (Ok (h.kind, h.length)) (by_steps 1 (Learns o h)) → Finds facts a c f w (Ok (o, h))
+      → Called facts b c (HasObject o) (λ j k. header (state_of k) o) (Ok (h.kind, h.length)) (by_steps 1 (Learns o h)) → FindsBeside facts a c f w (Ok (o, h))
   finds_object {c} {z} {o} {h} is r same q = let p = subst (λ y. Resolves facts a b f (resolving facts a w) (Ok y)) is r in record {
     stands_is = still_before p.stands_is (as_before _ same);
     ran = λ k s m.
@@ -178,7 +189,7 @@ module _ {S : Type 0} {facts : S → Facts} {a b : S} {f : Frames} (w : Word) wh
           y.1,
           made_of (spend_last (spending x.2) (spend_look f same q x.0 x.1 x.3.2))
               (ran_then {next = λ z. not_null z >>= named (state_of y.0)} (Some o) x.2.ran (ran_then {next = named (state_of y.0)} o (ran_done (view x.0) f o l) (ran_header (state_of y.0) o h look))),
-          (learnt o h x.0 y.0 y.3.0, holds_did x.0 y.0 f [] d tt x.3.1),
+          (learns_since o h k x.0 y.0 x.3.0 y.3.0, holds_did x.0 y.0 f [] d tt x.3.1),
         );
   }
 

@@ -6,7 +6,7 @@ ghost use Rattle.jr_gate.specs.Stays.{IsOwnStay};
 ghost use Rattle.jr_heap.specs.Heap.{HoldsHeader};
 ghost use Rattle.jr_frames.specs.Reading.{word_of, OwnerFits};
 ghost use Rattle.jr_frames.specs.Ready.{StandsReady};
-ghost use Rattle.jr_frames.specs.Finding.{Finds};
+ghost use Rattle.jr_frames.specs.Finding.{Finds, FindsBeside};
 
 use crate::frames::Frames;
 use crate::reference::Reference;
@@ -31,6 +31,7 @@ pub fn find<S: Steps>(
     requires ready { StandsReady S.facts Within steps.old frames.now }
     requires fits { OwnerFits target }
     ensures call { Finds S.facts steps.old steps.new frames.now.frames (word_of target) result }
+    ensures beside { FindsBeside S.facts steps.old steps.new frames.now.frames (word_of target) result }
     ensures known { IfOk result (λ x. MayKnow S.facts steps.new (HoldsHeader x.0 x.1)) }
 {
     let Some(object) = resolve(steps, inside, frames, target)? else {
