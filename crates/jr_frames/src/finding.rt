@@ -21,6 +21,7 @@ use jr_word::{Fault, HeaderParts};
 /// # Errors
 ///
 /// E2 and E3 for what is no reference here, E1 where it names no object.
+#[inline(always)]
 pub fn find<S: Steps>(
     steps: &mut S,
     inside: &Inside,
