@@ -128,7 +128,8 @@ module _ (turns : ℕ) (names : Names) where
     deletion turns w.0
     done replies.Done
   deed (commands.On on.Type r) = do
-    n ← type_of turns (referent names r)
+    h ← decided (referent names r)
+    n ← type_of turns h
     done (replies.Type n)
   deed (commands.On on.Len r) = do
     w ← the_reference r

@@ -14,6 +14,7 @@ use Rattle.jr_syntax.specs.declared.command.Command.{Command}
 use Rattle.jr_syntax.specs.declared.command.Command.TheVariants as commands
 use Rattle.jr_scripts.specs.declared.reply.Reply.{Reply}
 use Rattle.jr_scripts.specs.declared.reply.Reply.TheVariants as replies
+use Rattle.jr_scripts.specs.declared.standing.Standing.TheVariants.{Reference}
 use Rattle.jr_scripts.specs.Names.{Names, with_name, null}
 
 -- a line of words with its line feed
@@ -65,7 +66,7 @@ reference_made None = null
 reference_made (Some h) = h
 
 abbrev pub names_with : Option (List ℕ) → Reply → Names → Names
-names_with (Some n) (replies.Made h) names = with_name names n (reference_made h)
+names_with (Some n) (replies.Made h) names = with_name names n (Reference (reference_made h))
 names_with _ _ names = names
 
 -- THE NAMES after a command: a command that makes something sets its name, and a refused one sets nothing

@@ -4,6 +4,7 @@
 mod all;
 mod ask;
 mod board;
+mod buffer;
 mod element;
 mod env_call;
 mod hold;
@@ -21,6 +22,7 @@ mod retry;
 mod run;
 mod runnable;
 mod single;
+mod standing;
 mod starting;
 mod to_end;
 

@@ -1,77 +1,102 @@
 //! What the names of a thread stand for.
 
+use crate::standing::Standing;
 use jr_syntax::{Name, Reference};
 use jr_word::{Fault, Handle};
 use std::alloc::{AllocError, Global};
 use std::collections::BTreeMap;
 use std::marker::Model;
 
-/// What the names of a thread stand for: each for a reference, or for nothing.
+/// What the names of a thread stand for: each for a reference, for a buffer of copied elements, or for nothing.
 #[derive(Drop)]
 pub struct Names {
-    /// The reference that each name was set to last.
-    references: BTreeMap<Name, Handle>,
+    /// What each name was set to last.
+    standing: BTreeMap<Name, Standing>,
 }
 
 impl Model for Names {
     ghost use Rattle.std.specs.Coded.{coded_ℕ, coded_list};
     ghost use Rattle.std.specs.FinMap as map;
-    ghost use Rattle.jr_scripts.specs.Names.{Names as NamesView, coded_handle};
+    ghost use Rattle.jr_scripts.specs.Names.{Names as NamesView, coded_standing};
 
     ghost Value = { NamesView };
 
-    ghost coded = { map.code (coded_list coded_ℕ) coded_handle };
+    ghost coded = { map.code (coded_list coded_ℕ) coded_standing };
 
-    ghost view = { λ n. map.from_entries n.references.entries };
+    ghost view = { λ n. map.from_entries n.standing.entries };
 }
 
 impl Names {
-    ghost use Rattle.std.specs.Prelude.{◌≡◌, OnOk, OnErr};
-    ghost use Rattle.jr_scripts.specs.Names.{no_names, reference_named, referent, with_name, wanted};
+    ghost use Rattle.std.specs.Prelude.{◌≡◌, MatchOption, OnOk, OnErr};
+    ghost use Rattle.jr_scripts.specs.declared.standing.Standing.TheVariants.{Nothing};
+    ghost use Rattle.jr_scripts.specs.Names.{no_names, standing as standing_at, reference_in, referent, with_name, wanted};
 
     /// No name stands for anything; takes no memory.
     pub fn new(alloc: Global) -> Names
         ensures { result ≡ no_names }
     {
         Names {
-            references: BTreeMap::new(alloc),
+            standing: BTreeMap::new(alloc),
         }
     }
 
-    /// The reference that a name stands for, none where it stands for nothing.
-    pub fn standing(&self, name: &Name) -> Option<Handle>
-        ensures { result ≡ reference_named self.now name.now }
+    /// What a name stands for, none where it was never set.
+    fn standing(&self, name: &Name) -> Option<&Standing>
+        ensures { MatchOption result (standing_at self.now name.now ≡ Nothing) (λ s. standing_at self.now name.now ≡ s.now) }
     {
-        self.references.get(name).copied()
+        self.standing.get(name)
     }
 
-    /// Sets a name.
+    /// Sets a name; a buffer that was there is freed.
     ///
     /// # Errors
     ///
     /// Memory was refused: the names are as they were.
-    pub fn set(&mut self, name: &Name, handle: Handle) -> Result<(), AllocError>
-        ensures ok { OnOk result (self.new ≡ with_name self.old name.now handle) }
+    pub fn set(&mut self, name: &Name, standing: Standing) -> Result<(), AllocError>
+        ensures ok { OnOk result (self.new ≡ with_name self.old name.now standing) }
         ensures err { OnErr result (self.new ≡ self.old) }
     {
-        self.references.insert(name.copy(), handle)?;
+        self.standing.insert(name.copy(), standing)?;
         Ok(())
     }
 
-    /// What a command refers to, none for a name that stands for nothing.
-    pub fn referent(&self, reference: &Reference) -> Option<Handle>
-        ensures { result ≡ referent self.now reference.now }
+    /// The reference that a name stands for, none where it stands for nothing.
+    ///
+    /// # Errors
+    ///
+    /// E4: it stands for a buffer.
+    pub fn reference(&self, name: &Name) -> Result<Option<Handle>, Fault>
+        ensures { result ≡ reference_in (standing_at self.now name.now) }
     {
-        match reference {
-            Reference::Null => Some(Handle::NULL),
-            Reference::Named(name) => self.standing(name),
+        match self.standing(name) {
+            None | Some(Standing::Nothing) => Ok(None),
+            Some(Standing::Reference(handle)) => Ok(Some(*handle)),
+            Some(Standing::Buffer(_)) => Err(Fault::WrongKind),
         }
     }
 
-    /// The reference that a command wants: E2 for a name that stands for nothing.
+    /// What a command refers to, none for a name that stands for nothing.
+    ///
+    /// # Errors
+    ///
+    /// E4: the name stands for a buffer.
+    pub fn referent(&self, reference: &Reference) -> Result<Option<Handle>, Fault>
+        ensures { result ≡ referent self.now reference.now }
+    {
+        match reference {
+            Reference::Null => Ok(Some(Handle::NULL)),
+            Reference::Named(name) => self.reference(name),
+        }
+    }
+
+    /// The reference that a command wants.
+    ///
+    /// # Errors
+    ///
+    /// E2 for a name that stands for nothing, and E4 for one that stands for a buffer.
     pub fn wanted(&self, reference: &Reference) -> Result<Handle, Fault>
         ensures { result ≡ wanted (referent self.now reference.now) }
     {
-        self.referent(reference).ok_or(Fault::Stale)
+        self.referent(reference)?.ok_or(Fault::Stale)
     }
 }

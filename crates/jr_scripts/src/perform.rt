@@ -83,7 +83,7 @@ fn on<S: Steps>(
 {
     match verb {
         On::Drop => delete(env, turns, names.wanted(target)?),
-        On::Type => type_of(env, turns, names.referent(target)),
+        On::Type => type_of(env, turns, names.referent(target)?),
         On::Len => ask(env, turns, &GetArrayLength(names.wanted(target)?)),
         On::TextLength => ask(env, turns, &GetStringLength(names.wanted(target)?)),
     }

@@ -11,6 +11,7 @@ use crate::names::Names;
 use crate::perform::perform;
 use crate::printed::printed;
 use crate::reply::Reply;
+use crate::standing::Standing;
 use jr_env::Env;
 use jr_steps::Steps;
 use jr_syntax::{Command, Name};
@@ -46,7 +47,8 @@ fn settle(
     let Some(name) = set_by(command) else {
         return Ok(());
     };
-    names.set(name, handle.unwrap_or(Handle::NULL))
+    let handle = handle.unwrap_or(Handle::NULL);
+    names.set(name, Standing::Reference(handle))
 }
 
 /// Writes the line of a command, and sets its name.

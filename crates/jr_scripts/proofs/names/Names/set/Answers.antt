@@ -6,5 +6,5 @@ use Rattle.jr_scripts.proofs.names.Names.set.Goals as goal
 
 pub returns-clause-ok : goal.returns-clause-ok
 returns-clause-ok c =
-    one_named c.self.inside.references.entries c.insert.new.self.entries c.copy.result c.args.handle c.in_ok-insert.ensures.updates.0
-    ∙ (ap (λ n. insert (from_entries {R = name_order} c.self.inside.references.entries) n c.args.handle) c.copy.ensures ∙ ap (λ m. insert m c.args.name.now c.args.handle) c.self.view_is)
+    one_named c.self.inside.standing.entries c.insert.new.self.entries c.copy.result c.args.standing c.in_ok-insert.ensures.updates.0
+    ∙ (ap (λ n. insert (from_entries {R = name_order} c.self.inside.standing.entries) n c.args.standing) c.copy.ensures ∙ ap (λ m. insert m c.args.name.now c.args.standing) c.self.view_is)
