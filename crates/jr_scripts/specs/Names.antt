@@ -20,24 +20,24 @@ use Rattle.jr_scripts.specs.declared.standing.Standing.TheVariants as stands
 abbrev pub name_order : List ℕ → List ℕ → Ordering
 name_order = slice_cmp nat_cmp
 
-abbrev pub parts_of : Standing → Unit {0} ⊎ (ℕ ⊎ Copied)
-parts_of stands.Nothing = inl tt
-parts_of (stands.Reference h) = inr (inl h.0)
-parts_of (stands.Buffer b) = inr (inr b)
+abbrev pub standing_parts : Standing → Unit {0} ⊎ (ℕ ⊎ Copied)
+standing_parts stands.Nothing = inl tt
+standing_parts (stands.Reference h) = inr (inl h.0)
+standing_parts (stands.Buffer b) = inr (inr b)
 
-abbrev pub standing_of : Unit {0} ⊎ (ℕ ⊎ Copied) → Standing
-standing_of (inl _) = stands.Nothing
-standing_of (inr (inl n)) = stands.Reference (record { 0 = n })
-standing_of (inr (inr b)) = stands.Buffer b
+abbrev pub standing_with : Unit {0} ⊎ (ℕ ⊎ Copied) → Standing
+standing_with (inl _) = stands.Nothing
+standing_with (inr (inl n)) = stands.Reference (record { 0 = n })
+standing_with (inr (inr b)) = stands.Buffer b
 
-pub standing_again : (s : Standing) → standing_of (parts_of s) ≡ s
+pub standing_again : (s : Standing) → standing_with (standing_parts s) ≡ s
 standing_again stands.Nothing = refl
 standing_again (stands.Reference h) = refl
 standing_again (stands.Buffer b) = refl
 
 -- what a name stands for, as nothing, a number or a buffer
 abbrev pub coded_standing : Coded Standing
-coded_standing = code_by (Unit {0} ⊎ (ℕ ⊎ Copied)) (coded⊎ coded_unit (coded⊎ coded_ℕ coded_copied)) parts_of standing_of standing_again
+coded_standing = code_by (Unit {0} ⊎ (ℕ ⊎ Copied)) (coded⊎ coded_unit (coded⊎ coded_ℕ coded_copied)) standing_parts standing_with standing_again
 
 -- what names stand for: a map that has, at each name that was set, a reference, a buffer, or nothing where its buffer was freed
 abbrev pub Names : Type 0
