@@ -1,0 +1,101 @@
+//! Copied elements, a list of their own.
+
+ghost use Rattle.std.specs.Prelude.{◌≡◌, ◌<◌, ◌^◌, length};
+
+use jr_model::Mode;
+use jr_word::{Elem, Fault};
+use std::marker::Model;
+
+/// The elements of an array, copied: a list of their own, of which the room knows nothing, and in which nobody else writes. A contract sees the list.
+#[derive(Drop)]
+pub struct Elements<E: Elem> {
+    items: Vec<E>,
+}
+
+impl<E: Elem> Model for Elements<E> {
+    ghost use Rattle.std.specs.Prelude.{List, ◌<◌, ◌^◌, length};
+
+    ghost Value = { List E };
+
+    ghost view = { λ e. e.items.items };
+
+    ghost invariant = { λ e. length e.items.items < 2 ^ 32 };
+}
+
+/// Elements that were copied.
+pub fn elements_of<E: Elem>(items: Vec<E>) -> Elements<E>
+    requires few { length items.items < 2 ^ 32 }
+    ensures { result ≡ items.items }
+{
+    Elements { items }
+}
+
+impl<E: Elem> Elements<E> {
+    ghost use Rattle.std.specs.Prelude.{◌≡◌, ◌<◌, ◌≤◌, true, Ok, IfOk, IfErr, length, map, slice_index_or, slice_set};
+    ghost use Rattle.jr_word.specs.declared.fault.Fault.TheVariants.{Range};
+    ghost use Rattle.jr_model.specs.Objects.{elements_get, elements_set, elements_length};
+    ghost use Rattle.jr_elements.specs.Copies.{Answers, answer_in, kept};
+
+    /// The element at an index.
+    ///
+    /// # Errors
+    ///
+    /// E7 where the index is not below the length.
+    pub fn get(&self, index: u32) -> Result<E, Fault>
+        ensures call { Answers (elements_get (map E.word_of self.now) index) (answer_in E.word_of result) }
+        ensures ok { IfOk result (λ value. (index < length self.now) × (value ≡ slice_index_or self.now index value)) }
+        ensures err { IfErr result (λ e. (length self.now ≤ index) × (e ≡ Range)) }
+    {
+        match self.items.get(index as usize) {
+            Some(value) => Ok(*value),
+            None => Err(Fault::Range),
+        }
+    }
+
+    /// Sets the element at an index.
+    ///
+    /// # Errors
+    ///
+    /// E7 where the index is not below the length: the elements are as they were.
+    pub fn set(&mut self, index: u32, value: E) -> Result<(), Fault>
+        ensures call { Answers (elements_set (map E.word_of self.old) index (E.word_of value)) (answer_in (λ _. map E.word_of self.new) result) }
+        ensures ok { IfOk result (λ _. (index < length self.old) × (self.new ≡ slice_set self.old index value)) }
+        ensures err { IfErr result (λ e. (length self.old ≤ index) × (e ≡ Range) × (self.new ≡ self.old)) }
+    {
+        let index = index as usize;
+        if index >= self.items.len() {
+            return Err(Fault::Range);
+        }
+        self.items[index] = value;
+        Ok(())
+    }
+
+    /// How many elements there are.
+    pub fn length(&self) -> u32
+        ensures number { result ≡ length self.now }
+        ensures call { Answers (elements_length (map E.word_of self.now)) (Ok result) }
+    {
+        self.items.len() as u32
+    }
+
+    /// Whether they are a copy of the array's elements: always. (JNI Specification, chapter 4, "Get<PrimitiveType>ArrayElements Routines", `isCopy`)
+    pub fn is_copy(&self) -> bool
+        ensures { result ≡ true }
+    {
+        true
+    }
+
+    /// The elements.
+    pub fn as_slice(&self) -> &[E]
+        ensures { result.now ≡ self.now }
+    {
+        &self.items
+    }
+
+    /// What a release by mode leaves of the elements: themselves where the mode is to commit, and else nothing.
+    pub fn kept(self, mode: Mode) -> Option<Elements<E>>
+        ensures { result ≡ kept mode self }
+    {
+        if mode.keeps_elements() { Some(self) } else { None }
+    }
+}
