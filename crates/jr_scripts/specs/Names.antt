@@ -1,5 +1,5 @@
 -- What the names of a thread stand for.
-use Rattle.std.specs.Prelude.{◌≡◌, ℕ, Option, Some, None, List, ◌⊎◌, Result, Ok, Err, refl}
+use Rattle.std.specs.Prelude.{◌≡◌, ℕ, ℤ, Option, Some, None, IsSome, List, ◌⊎◌, Result, Ok, Err, refl}
 use Rattle.std.specs.declared.cmp.Ordering.{Ordering}
 use Rattle.std.specs.Ordering.{nat_cmp}
 use Rattle.std.specs.Cmp.Lexicographic.{slice_cmp}
@@ -12,7 +12,7 @@ use Rattle.jr_word.specs.declared.fault.Fault.TheVariants as fault
 use Rattle.jr_word.specs.declared.handle.Handle.{Handle}
 use Rattle.jr_syntax.specs.declared.name.Reference.{Reference}
 use Rattle.jr_syntax.specs.declared.name.Reference.TheVariants as refers
-use Rattle.jr_scripts.specs.Buffers.{Copied, coded_copied}
+use Rattle.jr_scripts.specs.Buffers.{Copied, coded_copied, number_in, with_number}
 use Rattle.jr_scripts.specs.declared.standing.Standing.{Standing}
 use Rattle.jr_scripts.specs.declared.standing.Standing.TheVariants as stands
 
@@ -80,3 +80,25 @@ abbrev pub wanted : Result (Option Handle) Fault → Result Handle Fault
 wanted (Ok (Some h)) = Ok h
 wanted (Ok None) = Err fault.Stale
 wanted (Err e) = Err e
+
+-- a name was set before
+abbrev pub IsSet : Names → List ℕ → Type 0
+IsSet names n = IsSome (get names n)
+
+-- the buffer that stands there: E2 for nothing, E4 for a reference
+abbrev pub buffer_in : Standing → Result Copied Fault
+buffer_in stands.Nothing = Err fault.Stale
+buffer_in (stands.Reference h) = Err fault.WrongKind
+buffer_in (stands.Buffer b) = Ok b
+
+-- THE NUMBER OF AN ELEMENT of the buffer that stands there
+abbrev pub getting : ℕ → Standing → Result ℤ Fault
+getting i stands.Nothing = Err fault.Stale
+getting i (stands.Reference h) = Err fault.WrongKind
+getting i (stands.Buffer b) = number_in b i
+
+-- THE BUFFER that stands there, with a number as an element
+abbrev pub putting : ℕ → ℤ → Standing → Result Copied Fault
+putting i number stands.Nothing = Err fault.Stale
+putting i number (stands.Reference h) = Err fault.WrongKind
+putting i number (stands.Buffer b) = with_number b i number
