@@ -96,6 +96,10 @@ impl<E: Elem> Elements<E> {
     pub fn kept(self, mode: Mode) -> Option<Elements<E>>
         ensures { result ≡ kept mode self }
     {
-        if mode.keeps_elements() { Some(self) } else { None }
+        if mode.keeps_elements() {
+            Some(self)
+        } else {
+            None
+        }
     }
 }

@@ -6,6 +6,8 @@ use Rattle.jr_word.specs.declared.handle.Handle.{Handle as HandleWord}
 use Rattle.jr_word.specs.Handle.{handle_word}
 use Rattle.jr_word.specs.declared.config.Config.{Config}
 use Rattle.jr_word.specs.declared.fault.Fault.{Fault}
+use Rattle.jr_model.specs.declared.frames.Mode.{Mode}
+use Rattle.jr_model.specs.declared.frames.Mode.TheVariants.{Copy, Commit, Abort}
 use Rattle.jr_model.specs.State.{Handle, State}
 use Rattle.jr_model.specs.References as references
 use Rattle.jr_model.specs.Objects as objects
@@ -171,6 +173,26 @@ read_answer (Err e) ws = Err e
 -- SetBooleanArrayRegion and its like
 abbrev pub set_array_region : Kind → ℕ → ℕ → List ℕ → Deed (Unit {0})
 set_array_region kind w start vs = call_on_by (λ c. 1) w (λ c last t s a. objects.set_array_region c last t s kind a start vs)
+
+-- GetBooleanArrayElements and its like: the words of all elements
+abbrev pub get_array_elements : Kind → ℕ → Deed (List ℕ)
+get_array_elements kind w = call_on_by (λ c. 1) w (λ c last t s a. objects.get_array_elements c last t s kind a)
+
+-- GetStringChars: all units
+abbrev pub get_string_chars : ℕ → Deed (List ℕ)
+get_string_chars w = call_on_by (λ c. 1) w (λ c last t s a. objects.get_string_chars c last t s a)
+
+-- ReleaseBooleanArrayElements and its like, of elements with these words: the words of those that are kept, if they are. To abort looks at no reference, takes no operation, sees nothing, and changes nothing
+abbrev pub release_array_elements : Kind → ℕ → List ℕ → Mode → Deed (Option (List ℕ))
+release_array_elements kind w vs Copy = call_on_by (λ c. 1) w (λ c last t s a. objects.release_array_elements c last t s kind a vs Copy)
+release_array_elements kind w vs Commit = call_on_by (λ c. 1) w (λ c last t s a. objects.release_array_elements c last t s kind a vs Commit)
+release_array_elements kind w vs Abort = done None
+
+-- the answer of a release, by the words of the elements that are kept; a refusal hands elements back beside it
+abbrev pub release_answer : {A : Type 0} → (A → List ℕ) → Result (Option A) (A × Fault) → Result (Option (List ℕ)) Fault
+release_answer words (Ok None) = Ok None
+release_answer words (Ok (Some x)) = Ok (Some (words x))
+release_answer words (Err r) = Err r.1
 
 -- all local references are freed, at the end of a native method
 abbrev pub free_locals : Deed (Unit {0})

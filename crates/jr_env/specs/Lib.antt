@@ -3,3 +3,4 @@ pub mod Elements
 pub mod Envs
 pub mod Works
 pub mod Regions
+pub mod Copies

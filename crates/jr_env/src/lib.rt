@@ -2,6 +2,8 @@
 #![tactic(auto)]
 
 mod calls;
+mod copies;
+mod copy_calls;
 mod env;
 mod finding;
 mod frame_calls;

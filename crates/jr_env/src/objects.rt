@@ -227,7 +227,7 @@ pub fn is_array(kind: Kind) -> bool
 }
 
 /// Whether objects of the kind are strings.
-fn is_text(kind: Kind) -> bool
+pub fn is_text(kind: Kind) -> bool
     ensures { result ≡ is_text_of kind }
 {
     matches!(kind, Kind::Text)

@@ -144,7 +144,7 @@ fn lies_past(length: u32, start: u32, count: usize) -> bool
 
 /// Whether both kinds are one kind of array whose elements are no objects.
 #[inline(always)]
-fn same_element(kind: Kind, other: Kind) -> bool
+pub(crate) fn same_element(kind: Kind, other: Kind) -> bool
     ensures { result ≡ same_element_of kind other }
 {
     match kind {
