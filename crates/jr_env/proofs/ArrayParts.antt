@@ -37,7 +37,7 @@ use Rattle.jr_env.proofs.Steady.{steady_at, steady_for, steady_same, steady_then
 
 -- KINDS AND LENGTHS
 
-array_of : (k l : Kind) → same_element k l ≡ true → is_array l ≡ true
+pub array_of : (k l : Kind) → same_element k l ≡ true → is_array l ≡ true
 array_of Boolean Boolean e = refl
 array_of Byte Byte e = refl
 array_of Char Char e = refl
@@ -107,10 +107,10 @@ spared_write : (o start : ℕ) (vs : List ℕ) → AreSpared (length vs) (write_
 spared_write o start [] = record { long = refl; spares = tt; fresh = λ b. refl }
 spared_write o start (v ∷ vs) = let x = spared_write o (start + 1) vs in record { long = ap suc x.long; spares = (refl, x.spares); fresh = x.fresh }
 
-read_spared : (o start n : ℕ) (f g : Frames) (acts : List Act) (answer : Result (List ℕ) Fault) → read o start n f acts answer g → AreSpared n acts
+pub read_spared : (o start n : ℕ) (f g : Frames) (acts : List Act) (answer : Result (List ℕ) Fault) → read o start n f acts answer g → AreSpared n acts
 read_spared o start n f g acts answer r = subst (AreSpared n) (sym r.2) (subst (λ m. AreSpared m (read_acts o start r.0)) r.1 (spared_read o start r.0))
 
-write_spared : (o start : ℕ) (vs : List ℕ) (f g : Frames) (acts : List Act) (answer : Result (Unit {0}) Fault) → write o start vs f acts answer g → AreSpared (length vs) acts
+pub write_spared : (o start : ℕ) (vs : List ℕ) (f g : Frames) (acts : List Act) (answer : Result (Unit {0}) Fault) → write o start vs f acts answer g → AreSpared (length vs) acts
 write_spared o start vs f g acts answer r = subst (AreSpared (length vs)) (sym r.0) (spared_write o start vs)
 
 -- PARTS

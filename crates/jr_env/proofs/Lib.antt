@@ -14,3 +14,4 @@ pub mod ElementChecks
 pub mod ElementReading
 pub mod ArrayParts
 pub mod ElementWriting
+pub mod WholeCopies

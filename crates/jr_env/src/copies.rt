@@ -95,6 +95,7 @@ impl<S: Steps> Work<S> for UnitsCopying {
 }
 
 /// Elements written to the whole array that a reference names: E1, E2, E3, E5, E6, and E7 unless it has as many.
+#[derive(Clone, Copy)]
 pub struct CopyingBack<'a, E: Elem> {
     /// The array.
     pub array: Reference,

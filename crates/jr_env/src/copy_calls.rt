@@ -47,17 +47,18 @@ impl<S: Steps> Env<S> {
         ensures ok { IfOk result (λ left. left ≡ kept mode elements) }
         ensures err { IfErr result (λ refused. refused.0 ≡ elements) }
     {
-        if mode.copies_back() {
-            let array = Reference::of(array);
-            let work = CopyingBack {
-                array,
-                elements: &elements,
-            };
-            if let Err(fault) = make(&mut self.held, work) {
-                return Err((elements, fault));
-            }
+        if !mode.copies_back() {
+            return Ok(None);
         }
-        Ok(elements.kept(mode))
+        let array = Reference::of(array);
+        let work = CopyingBack {
+            array,
+            elements: &elements,
+        };
+        match make(&mut self.held, work) {
+            Ok(()) => Ok(elements.kept(mode)),
+            Err(fault) => Err((elements, fault)),
+        }
     }
 
     /// Copies all UTF-16 units of a string: E1, E2, E3, E4, E13, and E16 where the memory for them was refused. (JNI Specification, chapter 4, "GetStringChars")
