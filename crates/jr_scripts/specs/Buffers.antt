@@ -17,9 +17,13 @@ pub record Copied : Type 0 where
   pub kind : Kind
   pub words : List ℕ
 
--- elements of a kind, whose words these are
+-- a buffer of these words
+abbrev pub copy_of : Kind → List ℕ → Copied
+copy_of k words = record { kind = k; words = words }
+
+-- elements of a kind as a buffer
 abbrev pub copied_as : {V : Type 0} → Kind → (V → ℕ) → List V → Copied
-copied_as k word_of values = record { kind = k; words = map word_of values }
+copied_as k word_of values = copy_of k (map word_of values)
 
 -- copied elements as a buffer
 abbrev pub copied_in : CopiedElements → Copied

@@ -5,6 +5,8 @@ mod all;
 mod ask;
 mod board;
 mod buffer;
+mod copy_call;
+mod copy_commands;
 mod element;
 mod env_call;
 mod hold;
