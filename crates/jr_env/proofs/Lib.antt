@@ -15,3 +15,4 @@ pub mod ElementReading
 pub mod ArrayParts
 pub mod ElementWriting
 pub mod WholeCopies
+pub mod ReleasedElements

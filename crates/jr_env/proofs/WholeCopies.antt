@@ -1,7 +1,7 @@
 -- All elements of an object are copied, or written back.
-use Rattle.std.proofs.Common.{◌≡◌, ◌≢◌, ℕ, ◌+◌, ◌==◌, Bool, true, false, not, List, [], length, map, Option, Some, None, Result, Ok, Err, inl, inr, refl, sym, ap, subst, ◌∙◌, arith}
+use Rattle.std.proofs.Common.{◌≡◌, ◌≢◌, ℕ, ◌==◌, true, false, not, List, length, map, Result, Ok, Err, inl, inr, refl, sym, ap, subst, ◌∙◌, arith}
 use Rattle.std.proofs.lemmas.Bool.Decides.{nat_tests}
-use Rattle.std.proofs.lemmas.List.{length-map, map-id}
+use Rattle.std.proofs.lemmas.List.{map-id}
 use Rattle.std.specs.Result.{IsErrAnd}
 use Rattle.jr_word.specs.declared.config.Config.{Config}
 use Rattle.jr_word.specs.declared.fault.Fault.{Fault}
@@ -12,14 +12,13 @@ use Rattle.jr_model.specs.declared.event.Act.{Act}
 use Rattle.jr_model.specs.State.{State}
 use Rattle.jr_model.specs.History.{PassView, IsLegal}
 use Rattle.jr_model.specs.Frames.{Frames}
-use Rattle.jr_model.specs.Calls.{Call, Ran, ◌>>=◌, ◌>>◌, done, entered, for_object, refuse_if, unless_memory}
+use Rattle.jr_model.specs.Calls.{Call, Ran, ◌>>◌, done, entered, for_object, refuse_if, unless_memory}
 use Rattle.jr_model.specs.Checks.{Word, is_array, is_text, same_element}
 use Rattle.jr_model.specs.Parts.{read, write}
 use Rattle.jr_model.proofs.Runs.{ran_err, ran_give}
 use Rattle.jr_steps.specs.declared.known.Known.{Known}
 use Rattle.jr_steps.specs.Knowing.{AreOf, Facts, Standing, Holds, view}
 use Rattle.jr_gate.specs.Performing.{Performed}
-use Rattle.jr_gate.proofs.HandedOn.{handed_on}
 use Rattle.jr_gate.proofs.SameRoom.{as_before, nothing_changed}
 use Rattle.jr_gate.proofs.Spending.{made_of, spending, spend_acts, spend_none}
 use Rattle.jr_heap.specs.Heap.{Called, HoldsHeader, LeavesObject, by_steps}

@@ -1,9 +1,4 @@
 -- For the crate's own functions: calls whose answer the code keeps in a form of its own, and what is found for a copy.
-use Rattle.std.specs.Prelude.{◌≡◌, ℕ, true, Result, Ok, Err, List, Option, map}
-use Rattle.jr_word.specs.declared.fault.Fault.{Fault}
-use Rattle.jr_word.specs.declared.header.HeaderParts.{HeaderParts}
-use Rattle.jr_word.specs.declared.kind.Kind.{Kind}
-use Rattle.jr_model.specs.Frames.{Frames}
 use Rattle.jr_model.specs.Calls.{Call}
 use Rattle.jr_elements.specs.Copies.{answer_in}
 

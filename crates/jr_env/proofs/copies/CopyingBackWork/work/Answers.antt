@@ -1,4 +1,4 @@
-use Rattle.std.proofs.Common.{map, length, sym, ap, arith, ◌∙◌, ◌≡◌}
+use Rattle.std.proofs.Common.{map, length, sym, ◌∙◌}
 use Rattle.std.proofs.lemmas.List.{length-map}
 use Rattle.jr_frames.specs.Reading.{word_of}
 use Rattle.jr_env.proofs.WholeCopies.{elements_then, elements_written, no_array, no_such_elements, nothing_found, other_size, steady_then_at, written}

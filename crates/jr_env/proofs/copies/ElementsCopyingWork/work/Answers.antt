@@ -1,4 +1,4 @@
-use Rattle.std.proofs.Common.{[], Err, Ok, map, refl, sym, ap, subst, ◌∙◌}
+use Rattle.std.proofs.Common.{[], Err, Ok, map, refl, sym, subst}
 use Rattle.jr_frames.specs.Reading.{word_of}
 use Rattle.jr_steps.specs.Knowing.{Holds}
 use Rattle.jr_gate.specs.Performing.{Performed}
