@@ -1,3 +1,4 @@
+pub mod BufferNumbers
 pub mod FormedTries
 pub mod CommandDeeds
 pub mod Retries

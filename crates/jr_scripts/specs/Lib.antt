@@ -1,3 +1,4 @@
+pub mod Buffers
 pub mod Names
 pub mod Posting
 pub mod Tries

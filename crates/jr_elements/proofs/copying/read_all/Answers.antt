@@ -1,10 +1,9 @@
 use Rattle.std.proofs.Common.{IsSome, arith, length, sym, subst, ap, map, ◌∙◌, ◌≡◌, ◌+◌}
-use Rattle.std.proofs.lemmas.List.{length_push}
 use mathlib.Core.Logic.{∥∥₁_map}
 use Rattle.jr_model.specs.Parts.{read_acts}
 use Rattle.jr_steps.specs.Knowing.{Standing}
 use Rattle.jr_heap.proofs.Parts.{PartDone, part_below, part_may, part_nothing}
-use Rattle.jr_elements.proofs.CopiedParts.{copies_all, copies_more, copies_nothing}
+use Rattle.jr_elements.proofs.CopiedParts.{copies_all, copies_more, copies_nothing, one_longer}
 use Rattle.jr_elements.proofs.copying.read_all.Goals as goal
 
 pub returns-in_default-clause-call : goal.returns-in_default-clause-call
@@ -37,14 +36,12 @@ push_reserved-requires g c = let a = c.loop-index.invariant.count in let b = c.l
 pub loop-index-preserved : goal.loop-index-preserved
 loop-index-preserved g c =
     let i = c.loop-index.invariant in
-    let more = c.push_reserved.ensures.items in
-    let word = (g.met.E.Elem.laws.reads_own c.see_element-word.result c.unwrap.result (sym c.from_word.ensures ∙ c.unwrap.ensures)).1 in
-    let done = copies_more g.met.S.Steps.fits c.args.object c.args.header g.E.Elem.word_of c.loop-index.items.items c.loop-index.index c.see_element-word.result c.unwrap.result c.requires.role i.long word i.done c.see_element-word.ensures in
     record {
-      long = ap (λ xs. length xs) more ∙ (length_push c.loop-index.items.items c.unwrap.result ∙ ap (λ n. n + 1) i.long);
+      long = one_longer c.loop-index.items.items c.push_reserved.new.self.items c.unwrap.result c.loop-index.index c.push_reserved.ensures.items i.long;
       count = c.push_reserved.ensures.len ∙ ap (λ n. n + 1) i.count;
       room = c.push_reserved.ensures.capacity ∙ i.room;
-      done = subst (λ xs. PartDone g.S.Steps.facts c.args.object c.args.header (read_acts c.args.object 0 (map g.E.Elem.word_of xs)) (c.loop-index.index + 1) c.args.steps.now c.see_element-word.new.self) (sym more) done;
+      done = copies_more g.met.S.Steps.fits c.args.object c.args.header g.E.Elem.word_of c.loop-index.items.items c.loop-index.index c.see_element-word.result c.unwrap.result c.push_reserved.new.self.items c.push_reserved.ensures.items c.requires.role i.long
+          (g.met.E.Elem.laws.reads_own c.see_element-word.result c.unwrap.result (sym c.from_word.ensures ∙ c.unwrap.ensures)).1 i.done c.see_element-word.ensures;
     }
 
 pub returns-clause-stands : goal.returns-clause-stands
