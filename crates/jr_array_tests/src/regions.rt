@@ -24,7 +24,7 @@ const ONES: Handle = Handle(u64::MAX);
 const FOREIGN: Handle = Handle(0x4_0000_0000_0001);
 
 /// The array has these elements from an index on.
-fn has_elements<S: Steps, E: Elem + PartialEq>(
+pub(crate) fn has_elements<S: Steps, E: Elem + PartialEq>(
     rt: &impl Abort,
     env: &mut Env<S>,
     array: Handle,
