@@ -11,8 +11,8 @@ abbrev pub IsOutside : {S : Type 0} {G : Ghosts S} → Env S G → Type 0
 IsOutside {G = G} env = (G.facts env.held.steps).stands.role ≡ Outside
 
 -- THE DEED WAS DONE from the one to the other, with this answer
-abbrev pub HasDone : {S A : Type 0} {G : Ghosts S} → Env S G → Env S G → Deed A → Result A Fault → Type 0
-HasDone {G = G} old new deed answer = DoesDeed G.facts old.held.steps new.held.steps old.held.frames.frames new.held.frames.frames deed answer
+abbrev pub WasDone : {S A : Type 0} {G : Ghosts S} → Env S G → Env S G → Deed A → Result A Fault → Type 0
+WasDone {G = G} old new deed answer = DoesDeed G.facts old.held.steps new.held.steps old.held.frames.frames new.held.frames.frames deed answer
 
 -- THE CALL DID THE DEED, with this answer, where the thread stood outside; and afterwards it stands outside in any case
 abbrev pub Does : {S A : Type 0} {G : Ghosts S} → Env S G → Env S G → Deed A → Result A Fault → Type 0

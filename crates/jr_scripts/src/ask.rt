@@ -1,7 +1,7 @@
 //! Calls whose answers are replies.
 
 ghost use Rattle.jr_env.specs.Deeds.{answered_by};
-ghost use Rattle.jr_env.specs.Envs.{HasDone, IsOutside};
+ghost use Rattle.jr_env.specs.Envs.{WasDone, IsOutside};
 ghost use Rattle.jr_scripts.specs.Commands.{tried};
 
 use crate::env_call::EnvCall;
@@ -20,7 +20,7 @@ pub(crate) fn ask<S: Steps, C: EnvCall<S>>(
 where
     C::Answer: IntoReply,
     requires { IsOutside env.old }
-    ensures { HasDone env.old env.new (answered_by C.Answer.reply (tried turns (C.deed call.now))) result }
+    ensures { WasDone env.old env.new (answered_by C.Answer.reply (tried turns (C.deed call.now))) result }
 {
     let answer = retry(env, turns, call)?;
     Ok(answer.into_reply())

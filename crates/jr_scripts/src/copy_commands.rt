@@ -3,7 +3,7 @@
 ghost use Rattle.std.specs.Prelude.{◌≡◌, map};
 ghost use Rattle.jr_elements.specs.Copies.{answer_in};
 ghost use Rattle.jr_env.specs.Deeds.{answered_by, release_array_elements};
-ghost use Rattle.jr_env.specs.Envs.{HasDone, IsOutside};
+ghost use Rattle.jr_env.specs.Envs.{WasDone, IsOutside};
 ghost use Rattle.jr_syntax.specs.declared.command.Command.TheVariants as commands;
 ghost use Rattle.jr_syntax.specs.declared.verb.Release.TheVariants as release_verbs;
 ghost use Rattle.jr_scripts.specs.declared.reply.Reply.TheVariants as replies;
@@ -38,7 +38,7 @@ pub(crate) fn copy<S: Steps>(
     array: Handle,
 ) -> Result<Reply, Fault>
     requires { IsOutside env.old }
-    ensures { HasDone env.old env.new (copying turns array.0) result }
+    ensures { WasDone env.old env.new (copying turns array.0) result }
 {
     let kind = retry(env, turns, &KindOf(array))?;
     let numbered = NumberKind::of(kind)?;
@@ -79,7 +79,7 @@ fn release_elements<S: Steps, E: Elem>(
     mode: Mode,
 ) -> (Option<Elements<E>>, Result<Reply, Fault>)
     requires { IsOutside env.old }
-    ensures call { HasDone env.old env.new (answered_by (λ _. replies.Done) (release_array_elements E.KIND array.0 (map E.word_of elements) mode)) result.1 }
+    ensures call { WasDone env.old env.new (answered_by (λ _. replies.Done) (release_array_elements E.KIND array.0 (map E.word_of elements) mode)) result.1 }
     ensures left { result.0 ≡ elements_left mode result.1 elements }
 {
     match env.release_array_elements(array, elements, mode) {
@@ -118,7 +118,7 @@ fn release_buffer<S: Steps>(
     mode: Mode,
 ) -> Released
     requires { IsOutside env.old }
-    ensures call { HasDone env.old env.new (answered_by (λ _. replies.Done) (release_array_elements buffer.kind array.0 buffer.words mode)) result.answer }
+    ensures call { WasDone env.old env.new (answered_by (λ _. replies.Done) (release_array_elements buffer.kind array.0 buffer.words mode)) result.answer }
     ensures left { result.left ≡ left_by mode result.answer (Holds buffer) }
 {
     match buffer.elements {
@@ -157,7 +157,7 @@ fn release_once<S: Steps>(
     mode: Mode,
 ) -> Released
     requires { IsOutside env.old }
-    ensures call { HasDone env.old env.new (releasing array.0 mode standing) result.answer }
+    ensures call { WasDone env.old env.new (releasing array.0 mode standing) result.answer }
     ensures left { result.left ≡ left_by mode result.answer standing }
 {
     match standing {
@@ -182,7 +182,7 @@ fn release_again<S: Steps>(
     mode: Mode,
 ) -> Released
     requires { IsOutside env.old }
-    ensures call { HasDone env.old env.new (tried turns (releasing array.0 mode standing)) result.answer }
+    ensures call { WasDone env.old env.new (tried turns (releasing array.0 mode standing)) result.answer }
     ensures left { result.left ≡ left_by mode result.answer standing }
 {
     let mut left = standing;
@@ -209,7 +209,7 @@ pub(crate) fn release<S: Steps>(
     mode: Mode,
 ) -> Result<Reply, Fault>
     requires { IsOutside env.old }
-    ensures does { HasDone env.old env.new (deed turns names.old (commands.Release release_verbs.Elements name.now target.now mode)) result }
+    ensures does { WasDone env.old env.new (deed turns names.old (commands.Release release_verbs.Elements name.now target.now mode)) result }
     ensures names { names.new ≡ buffers_after (commands.Release release_verbs.Elements name.now target.now mode) result names.old }
 {
     names.buffer(name)?;

@@ -1,6 +1,6 @@
 //! Commands about one element, which make two calls: for the kind of the array, and for the element.
 
-ghost use Rattle.jr_env.specs.Envs.{HasDone, IsOutside};
+ghost use Rattle.jr_env.specs.Envs.{WasDone, IsOutside};
 ghost use Rattle.jr_scripts.specs.Commands.{loading, storing};
 
 use crate::ask::ask;
@@ -20,7 +20,7 @@ pub(crate) fn load<S: Steps>(
     index: u32,
 ) -> Result<Reply, Fault>
     requires { IsOutside env.old }
-    ensures { HasDone env.old env.new (loading turns array.0 index) result }
+    ensures { WasDone env.old env.new (loading turns array.0 index) result }
 {
     let kind = retry(env, turns, &KindOf(array))?;
     let numbered = NumberKind::of(kind)?;
@@ -36,7 +36,7 @@ pub(crate) fn store<S: Steps>(
     number: i64,
 ) -> Result<Reply, Fault>
     requires { IsOutside env.old }
-    ensures { HasDone env.old env.new (storing turns array.0 index number) result }
+    ensures { WasDone env.old env.new (storing turns array.0 index number) result }
 {
     let kind = retry(env, turns, &KindOf(array))?;
     let numbered = NumberKind::of(kind)?;

@@ -7,7 +7,7 @@ use jr_word::{Fault, Handle};
 /// A call of an env, with what it is handed.
 pub trait EnvCall<S: Steps> {
     ghost use Rattle.jr_env.specs.Deeds.{Deed};
-    ghost use Rattle.jr_env.specs.Envs.{HasDone, IsOutside};
+    ghost use Rattle.jr_env.specs.Envs.{WasDone, IsOutside};
 
     /// What it answers.
     type Answer: Drop;
@@ -21,7 +21,7 @@ pub trait EnvCall<S: Steps> {
     /// Those of the env's method for the call.
     fn make(&self, env: &mut Env<S>) -> Result<Self::Answer, Fault>
         requires { IsOutside env.old }
-        ensures { HasDone env.old env.new (deed self.now) result };
+        ensures { WasDone env.old env.new (deed self.now) result };
 }
 
 /// A plain object and a local reference to it.

@@ -2,7 +2,7 @@
 
 ghost use Rattle.std.specs.Prelude.{◌≡◌, length};
 ghost use Rattle.jr_env.specs.Deeds.{answered_by, get_array_region};
-ghost use Rattle.jr_env.specs.Envs.{HasDone, IsOutside};
+ghost use Rattle.jr_env.specs.Envs.{WasDone, IsOutside};
 ghost use Rattle.jr_scripts.specs.Numbers.{first_number};
 
 use crate::env_call::EnvCall;
@@ -157,7 +157,7 @@ fn read_number<S: Steps, E: Number>(
 ) -> Result<i64, Fault>
     requires one { length elements.old ≡ 1 }
     requires outside { IsOutside env.old }
-    ensures { HasDone env.old env.new (answered_by (λ words. first_number E.KIND words) (get_array_region E.KIND array.0 index 1)) result }
+    ensures { WasDone env.old env.new (answered_by (λ words. first_number E.KIND words) (get_array_region E.KIND array.0 index 1)) result }
 {
     env.get_array_region(array, index, &mut *elements)?;
     Ok(elements[0].to_number())

@@ -6,7 +6,7 @@ ghost use Rattle.jr_syntax.specs.declared.verb.OnBoth.TheVariants.{Same};
 ghost use Rattle.jr_syntax.specs.declared.verb.SetAt.TheVariants.{Set};
 ghost use Rattle.jr_scripts.specs.declared.reply.Reply.TheVariants as replies;
 ghost use Rattle.jr_env.specs.Deeds.{answered_by};
-ghost use Rattle.jr_env.specs.Envs.{HasDone, IsOutside};
+ghost use Rattle.jr_env.specs.Envs.{WasDone, IsOutside};
 ghost use Rattle.jr_scripts.specs.Commands.{deletion, type_of as type_deed, making_from, deed};
 ghost use Rattle.jr_scripts.specs.Text.{buffers_after};
 
@@ -37,7 +37,7 @@ use std::alloc::Global;
 /// Deletes a reference by the call of its kind.
 fn delete<S: Steps>(env: &mut Env<S>, turns: u64, handle: Handle) -> Result<Reply, Fault>
     requires { IsOutside env.old }
-    ensures { HasDone env.old env.new (answered_by (λ _. replies.Done) (deletion turns handle.0)) result }
+    ensures { WasDone env.old env.new (answered_by (λ _. replies.Done) (deletion turns handle.0)) result }
 {
     match Reference::of(handle) {
         Reference::Null => ask(env, turns, &DeleteLocalRef(handle)),
@@ -53,7 +53,7 @@ fn delete<S: Steps>(env: &mut Env<S>, turns: u64, handle: Handle) -> Result<Repl
 /// The type of a reference: 0 where there is none.
 fn type_of<S: Steps>(env: &mut Env<S>, turns: u64, referent: Option<Handle>) -> Result<Reply, Fault>
     requires { IsOutside env.old }
-    ensures { HasDone env.old env.new (answered_by (λ t. replies.Type t) (type_deed turns referent)) result }
+    ensures { WasDone env.old env.new (answered_by (λ t. replies.Type t) (type_deed turns referent)) result }
 {
     match referent {
         Some(handle) => ask(env, turns, &GetObjectRefType(handle)),
@@ -70,7 +70,7 @@ fn make_from<S: Steps>(
     target: Handle,
 ) -> Result<Reply, Fault>
     requires { IsOutside env.old }
-    ensures { HasDone env.old env.new (making_from turns verb target.0) result }
+    ensures { WasDone env.old env.new (making_from turns verb target.0) result }
 {
     match verb {
         MakeFrom::Global => ask(env, turns, &NewGlobalRef(target)),
@@ -91,7 +91,7 @@ fn on<S: Steps>(
     target: &Target,
 ) -> Result<Reply, Fault>
     requires { IsOutside env.old }
-    ensures { HasDone env.old env.new (deed turns names.now (commands.On verb target.now)) result }
+    ensures { WasDone env.old env.new (deed turns names.now (commands.On verb target.now)) result }
 {
     match verb {
         On::Drop => delete(env, turns, names.wanted(target)?),
@@ -112,7 +112,7 @@ fn set_at<S: Steps>(
     value: &Target,
 ) -> Result<Reply, Fault>
     requires { IsOutside env.old }
-    ensures { HasDone env.old env.new (deed turns names.now (commands.SetAt Set target.now index value.now)) result }
+    ensures { WasDone env.old env.new (deed turns names.now (commands.SetAt Set target.now index value.now)) result }
 {
     let array = names.wanted(target)?;
     let value = names.wanted(value)?;
@@ -128,7 +128,7 @@ fn same<S: Steps>(
     right: &Target,
 ) -> Result<Reply, Fault>
     requires { IsOutside env.old }
-    ensures { HasDone env.old env.new (deed turns names.now (commands.OnBoth Same left.now right.now)) result }
+    ensures { WasDone env.old env.new (deed turns names.now (commands.OnBoth Same left.now right.now)) result }
 {
     let left = names.wanted(left)?;
     let right = names.wanted(right)?;
@@ -145,7 +145,7 @@ pub fn perform<S: Steps, B: Board>(
     command: &Command,
 ) -> Result<Reply, Fault>
     requires { IsOutside env.old }
-    ensures does { HasDone env.old env.new (deed turns names.old command.now) result }
+    ensures does { WasDone env.old env.new (deed turns names.old command.now) result }
     ensures names { names.new ≡ buffers_after command.now result names.old }
 {
     match command {

@@ -1,7 +1,7 @@
 //! Calls that are made again.
 
 ghost use Rattle.std.specs.Prelude.{◌≡◌, Result};
-ghost use Rattle.jr_env.specs.Envs.{HasDone, IsOutside};
+ghost use Rattle.jr_env.specs.Envs.{WasDone, IsOutside};
 ghost use Rattle.jr_scripts.specs.Tries.{is_tried_again};
 ghost use Rattle.jr_scripts.specs.Commands.{tried};
 
@@ -24,7 +24,7 @@ pub fn retry<S: Steps, C: EnvCall<S>>(
     call: &C,
 ) -> Result<C::Answer, Fault>
     requires { IsOutside env.old }
-    ensures { HasDone env.old env.new (tried turns (C.deed call.now)) result }
+    ensures { WasDone env.old env.new (tried turns (C.deed call.now)) result }
 {
     for _ in 0..turns {
         let answer = call.make(env);
