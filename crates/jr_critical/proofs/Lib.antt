@@ -1,0 +1,3 @@
+pub mod KnownLevels
+pub mod LevelFound
+pub mod Reaching

@@ -56,7 +56,7 @@ impl Levels {
     ghost use Rattle.jr_model.specs.Objects.{get_array_critical, get_string_critical, nest_array, nest_string, region_get, region_set};
     ghost use Rattle.jr_frames.specs.Ready.{StandsReady};
     ghost use Rattle.jr_critical.specs.Finding.{level_nesting};
-    ghost use Rattle.jr_critical.specs.Levels.{objects_of, object_at, in_words, Opens, Nests, Reaches, Closes, LeavesBefore, Stand, TellsKind, TellsLength};
+    ghost use Rattle.jr_critical.specs.Levels.{objects_of, object_at, level_at, in_words, Opens, Nests, Reaches, Closes, LeavesBefore, Stand, TellsKind, TellsLength};
 
     /// Enters the gate, and opens the first level over an array whose elements are no objects. (GetPrimitiveArrayCritical.)
     ///
@@ -153,6 +153,14 @@ impl Levels {
         self.nest(held, handle, Wanted::Text)
     }
 
+    /// The level of a number.
+    fn level(&self, number: usize) -> Level
+        requires { number < length (objects_of self.now) }
+        ensures { result ≡ level_at self.now number }
+    {
+        self.levels[number]
+    }
+
     /// An element of a level's array, or a unit of its string as a char, by one load.
     ///
     /// # Errors
@@ -170,7 +178,7 @@ impl Levels {
         ensures frames { held.new.frames ≡ held.old.frames }
         ensures stand { Stand S.facts self.now held.new.steps held.new.frames }
     {
-        let Level { object, header } = self.levels[level];
+        let Level { object, header } = self.level(level);
         if !is_read_as(E::KIND, header.kind) {
             return Err(Fault::WrongElement);
         }
@@ -199,7 +207,7 @@ impl Levels {
         ensures frames { held.new.frames ≡ held.old.frames }
         ensures stand { Stand S.facts self.now held.new.steps held.new.frames }
     {
-        let Level { object, header } = self.levels[level];
+        let Level { object, header } = self.level(level);
         if is_text(header.kind) {
             return Err(Fault::NotArray);
         }
@@ -219,7 +227,7 @@ impl Levels {
         requires { level < length (objects_of self.now) }
         ensures { TellsLength self.now level result }
     {
-        self.levels[level].header.length
+        self.level(level).header.length
     }
 
     /// The kind of a level's object. It takes no step.
@@ -227,7 +235,7 @@ impl Levels {
         requires { level < length (objects_of self.now) }
         ensures { TellsKind self.now level result }
     {
-        self.levels[level].header.kind
+        self.level(level).header.kind
     }
 
     /// How many levels stand.

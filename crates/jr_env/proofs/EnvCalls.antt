@@ -13,7 +13,7 @@ use Rattle.jr_model.specs.Calls.{Call}
 use Rattle.jr_model.specs.Checks.{Word}
 use Rattle.jr_steps.specs.Knowing.{AreOf, Facts, state_of}
 use Rattle.jr_gate.specs.Performing.{moment, IsMade}
-use Rattle.jr_env.specs.Works.{CallsWhole}
+use Rattle.jr_frames.specs.OverSteps.{CallsWhole}
 use Rattle.jr_frames.specs.Reading.{IsReadAs}
 use Rattle.jr_env.specs.Deeds.{Deed, DoesDeed, answered_by, call_by, call_on_by, call_on_both_by, packed, packed_if}
 
