@@ -1,3 +1,5 @@
 pub mod KnownLevels
 pub mod LevelFound
 pub mod Reaching
+pub mod LevelElements
+pub mod Closing
