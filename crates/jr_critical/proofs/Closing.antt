@@ -50,7 +50,7 @@ is_some : (n : ℕ) → (n == 0) ≡ false → 1 ≤ n
 is_some n e = grind (arith, nat_tests)
 
 -- there are as many objects as levels
-count : (v : Levels) → length (objects_of v) ≡ length v.levels.items
+pub count : (v : Levels) → length (objects_of v) ≡ length v.levels.items
 count v = length-map v.levels.items (λ (l : Level). l.object)
 
 some_levels : (v : Levels) → 1 ≤ length (objects_of v) → 1 ≤ length v.levels.items

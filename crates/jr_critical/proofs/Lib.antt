@@ -3,3 +3,4 @@ pub mod LevelFound
 pub mod Reaching
 pub mod LevelElements
 pub mod Closing
+pub mod Nesting
