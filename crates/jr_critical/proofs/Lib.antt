@@ -4,3 +4,4 @@ pub mod Reaching
 pub mod LevelElements
 pub mod Closing
 pub mod Nesting
+pub mod Opening
