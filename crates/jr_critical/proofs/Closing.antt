@@ -1,9 +1,9 @@
 -- The last level is given up.
-use Rattle.std.proofs.Common.{◌≡◌, ◌==◌, ◌≤◌, ◌++◌, ◌+◌, ◌-◌, ℕ, zero, suc, Bool, true, false, Option, Some, None, List, [], ◌∷◌, length, take, map, Ok, refl, sym, ap, subst, ◌∙◌, arith}
+use Rattle.std.proofs.Common.{◌≡◌, ◌==◌, ◌≤◌, ◌++◌, ◌+◌, ◌-◌, ℕ, zero, suc, true, false, Some, None, List, [], ◌∷◌, length, take, Ok, refl, sym, ap, subst, ◌∙◌, arith}
 use Rattle.std.proofs.lemmas.Bool.Decides.{nat_tests}
 use Rattle.std.proofs.lemmas.List.{length-append, length-map}
 use mathlib.Core.Logic.{∥∥₁_map}
-use Rattle.jr_model.specs.declared.event.Role.TheVariants.{Outside, Within}
+use Rattle.jr_model.specs.declared.event.Role.TheVariants.{Outside}
 use Rattle.jr_model.specs.declared.event.Act.TheVariants.{Leave}
 use Rattle.jr_model.specs.Calls.{Ran}
 use Rattle.jr_model.specs.Frames.{Frames}
@@ -12,7 +12,7 @@ use Rattle.jr_model.specs.Objects.{region_release}
 use Rattle.jr_model.proofs.Runs.{ran_act, ran_done}
 use Rattle.jr_model.proofs.Windows.{stepped_last}
 use Rattle.jr_steps.specs.declared.known.Known.{Known}
-use Rattle.jr_steps.specs.Knowing.{AreOf, Facts, MayKnow, Standing, anything, view, lets_go, Took}
+use Rattle.jr_steps.specs.Knowing.{AreOf, Facts, Standing, anything, view, lets_go, Took}
 use Rattle.jr_steps.proofs.StepFacts.{goes_did, goes_stepped}
 use Rattle.jr_gate.specs.Stays.{IsOwnStay}
 use Rattle.jr_gate.proofs.Spending.{made_of, spend_none, spend_step}
@@ -22,7 +22,7 @@ use Rattle.jr_frames.proofs.FramesAgree.{holds_did}
 use Rattle.jr_frames.proofs.StillReady.{own_stepped}
 use Rattle.jr_critical.specs.declared.level.Level.{Level}
 use Rattle.jr_critical.specs.declared.levels.Levels.{Levels}
-use Rattle.jr_critical.specs.Levels.{AreKnown, Closes, Knows, LeavesBefore, Stand, objects_of}
+use Rattle.jr_critical.specs.Levels.{AreKnown, Closes, Stand, objects_of}
 use Rattle.jr_critical.proofs.KnownLevels.{known_before}
 
 -- a list with an element more

@@ -12,14 +12,13 @@ use Rattle.jr_model.specs.Checks.{is_read_as, is_text}
 use Rattle.jr_steps.specs.declared.known.Known.{Known}
 use Rattle.jr_steps.specs.Knowing.{AreOf, Facts, MayKnow, keeps, IsWordNow, KnowsHeader, Took}
 use Rattle.jr_gate.specs.Performing.{Performed}
-use Rattle.jr_heap.specs.Heap.{HoldsHeader}
 use Rattle.jr_heap.proofs.Parts.{stored_word}
 use Rattle.jr_frames.specs.Table.{Table}
 use Rattle.jr_critical.specs.declared.level.Level.{Level}
 use Rattle.jr_critical.specs.declared.levels.Levels.{Levels}
 use Rattle.jr_critical.specs.Levels.{Knows, Stand, level_at, objects_of}
 use Rattle.jr_critical.proofs.LevelFound.{is_less, no_less}
-use Rattle.jr_critical.proofs.Reaching.{get_work, get_other, get_past, get_there, h_of, held_at, may_at, o_of, reaches, reaches_not, same_kind_of, set_other, set_past, set_text, set_there, set_work, stand_reached, word_fits}
+use Rattle.jr_critical.proofs.Reaching.{get_work, get_other, get_past, get_there, h_of, may_at, o_of, reaches, reaches_not, same_kind_of, set_other, set_past, set_text, set_there, set_work, stand_reached, word_fits}
 
 module _ (v : Levels) (level : ℕ) {x : Level} (is : x ≡ level_at v level) where
   -- what is known of the level that was read, at the level itself

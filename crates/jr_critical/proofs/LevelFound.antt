@@ -16,10 +16,9 @@ use Rattle.jr_model.specs.Calls.{Call, Ran, done, for_object, refuse_if, â—Œ>>=â
 use Rattle.jr_model.specs.Checks.{Word}
 use Rattle.jr_model.proofs.Runs.{ran_done}
 use Rattle.jr_steps.specs.declared.known.Known.{Known}
-use Rattle.jr_steps.specs.Knowing.{AreOf, Facts, keeps, view, state_of}
+use Rattle.jr_steps.specs.Knowing.{AreOf, Facts, view, state_of}
 use Rattle.jr_gate.proofs.Spending.{made_of, spending}
 use Rattle.jr_heap.specs.Heap.{Learns}
-use Rattle.jr_heap.specs.Laws.{GoesOnKnowing}
 use Rattle.jr_heap.proofs.KnownHeaders.{steps_keep_headers, calls_keep_headers}
 use Rattle.jr_frames.specs.Finding.{FindsBeside}
 use Rattle.jr_frames.proofs.FoundObject.{ran_for, ran_found, ran_not_found}

@@ -1,7 +1,7 @@
 -- A level is added to those that stand.
-use Rattle.std.proofs.Common.{◌≡◌, ◌≤◌, ◌++◌, ◌+◌, ℕ, List, [], ◌∷◌, map, length, Result, Ok, Err, refl, sym, ap, subst, ◌∙◌, arith}
+use Rattle.std.proofs.Common.{◌≡◌, ◌++◌, ℕ, List, [], ◌∷◌, map, length, Result, Ok, Err, refl, sym, ap, subst, ◌∙◌, arith}
 use Rattle.std.specs.Result.{IsErrAnd}
-use Rattle.std.proofs.lemmas.List.{length-append, length-map, map-append}
+use Rattle.std.proofs.lemmas.List.{length-append, map-append}
 use Rattle.std.proofs.lemmas.Result.{err_from_is_err_and}
 use mathlib.Core.Logic.{∥∥₁_map}
 use Rattle.jr_word.specs.declared.config.Config.{Config}
@@ -16,7 +16,7 @@ use Rattle.jr_model.specs.Objects.{nested}
 use Rattle.jr_model.proofs.CriticalRegions.{NoLeave, level_array_stays, level_string_stays}
 use Rattle.jr_model.proofs.Runs.{ran_err, ran_give}
 use Rattle.jr_steps.specs.declared.known.Known.{Known}
-use Rattle.jr_steps.specs.Knowing.{AreOf, Facts, MayKnow, Standing, view, state_of, Holds}
+use Rattle.jr_steps.specs.Knowing.{AreOf, Facts, view, state_of}
 use Rattle.jr_gate.specs.Performing.{Performed}
 use Rattle.jr_gate.specs.declared.inside.Inside.{Inside}
 use Rattle.jr_gate.specs.Stays.{IsOwnStay}
@@ -105,8 +105,7 @@ module _ {S : Type 0} {facts : S → Facts} (fits : AreOf facts) {a b : S} {t : 
           let thread = (facts a).stands.thread in
           let run = subst (λ (z : Result Level Fault). Ran (view k) (view x.0) t.frames t.frames (level_work wanted c last thread (state_of x.0) (length (objects_of v)) w) (object_found z)) is x.2.ran in
           let next : ℕ → ℕ × List ℕ = λ o. (length (objects_of v), objects_of v ++ o ∷ []) in
-          let answer : ◌≡◌ {A = Result (ℕ × List ℕ) Fault} (Ok (length (objects_of v), objects_of v ++ l.object ∷ [])) (Ok (n, objects_of u)) = ap (λ i. Ok (i, objects_of v ++ l.object ∷ [])) (count v ∙ sym all) ∙ ap (λ os. Ok (n, os)) (sym objects_more) in
-          (
+          let answer : ◌≡◌ {A = Result (ℕ × List ℕ) Fault} (Ok (length (objects_of v), objects_of v ++ l.object ∷ [])) (Ok (n, objects_of u)) = ap (λ i. Ok (i, objects_of v ++ l.object ∷ [])) (count v ∙ sym all) ∙ ap (λ os. Ok (n, os)) (sym objects_more) in (
             x.0,
             x.1,
             made_of (spending x.2) (subst (λ (z : Result (ℕ × List ℕ) Fault). Ran (view k) (view x.0) t.frames t.frames (level_nesting wanted c last thread (state_of x.0) (objects_of v) w) z) answer (ran_give next l.object run)),

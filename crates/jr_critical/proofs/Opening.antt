@@ -1,5 +1,5 @@
 -- A region is opened, or refused.
-use Rattle.std.proofs.Common.{◌≡◌, ◌≤◌, ℕ, List, [], ◌∷◌, ◌++◌, length, map, slice_index_or, Result, Ok, Err, inl, inr, refl, sym, ap, subst, ◌∙◌, arith}
+use Rattle.std.proofs.Common.{◌≡◌, ℕ, List, [], ◌∷◌, length, map, slice_index_or, Result, Ok, Err, inl, inr, refl, sym, ap, subst, ◌∙◌, arith}
 use Rattle.std.specs.Result.{IsErrAnd}
 use Rattle.std.proofs.lemmas.Result.{err_from_is_err_and}
 use mathlib.Core.Logic.{∥∥₁_map}
@@ -18,8 +18,7 @@ use Rattle.jr_model.specs.Checks.{Word}
 use Rattle.jr_model.proofs.Moments.{prefix_self}
 use Rattle.jr_model.proofs.Stays.{did_then}
 use Rattle.jr_model.proofs.Windows.{window_then}
-use Rattle.jr_steps.specs.declared.known.Known.{Known}
-use Rattle.jr_steps.specs.Knowing.{AreOf, Facts, MayKnow, Standing, anything, keeps, lets_go, view, state_of, Holds, Took}
+use Rattle.jr_steps.specs.Knowing.{AreOf, Facts, Standing, anything, keeps, lets_go, view, state_of, Holds, Took}
 use Rattle.jr_steps.proofs.StepFacts.{goes_did, goes_stepped}
 use Rattle.jr_gate.specs.declared.inside.Inside.{Inside}
 use Rattle.jr_gate.specs.Acting.{ActedTo, IsWithdrawn}
@@ -41,7 +40,7 @@ use Rattle.jr_critical.specs.declared.level.Level.{Level}
 use Rattle.jr_critical.specs.declared.level.Wanted.{Wanted}
 use Rattle.jr_critical.specs.declared.levels.Levels.{Levels}
 use Rattle.jr_critical.specs.Finding.{level_checks, level_work, FindsLevel, LearnsLevel}
-use Rattle.jr_critical.specs.Levels.{AreKnown, HasOpened, Knows, LearnsFirst, Stand, object_opened, objects_of}
+use Rattle.jr_critical.specs.Levels.{AreKnown, HasOpened, LearnsFirst, Stand, object_opened, objects_of}
 use Rattle.jr_critical.proofs.KnownLevels.{blank}
 
 -- an entry, and work that goes on in its stay

@@ -1,9 +1,8 @@
 -- Calls at an element of a level's object.
-use Rattle.std.proofs.Common.{◌≡◌, ◌≢◌, ◌<◌, ◌≤◌, ◌^◌, ℕ, Bool, true, false, not, nat_le, length, List, [], ◌∷◌, Result, Ok, Err, IfErr, refl, sym, ap, subst, ◌∙◌}
+use Rattle.std.proofs.Common.{◌≡◌, ◌≢◌, ◌<◌, ℕ, true, false, not, nat_le, length, [], ◌∷◌, Result, Ok, Err, refl, sym, ap, ◌∙◌}
 use Rattle.std.proofs.Math.Logic.{∥∥₁_elim}
 use Rattle.std.proofs.Props.{props}
 use mathlib.Core.Logic.{∥∥₁_map}
-use Rattle.jr_word.specs.declared.config.Config.{Config}
 use Rattle.jr_word.specs.declared.fault.Fault.{Fault}
 use Rattle.jr_word.specs.declared.fault.Fault.TheVariants.{NotArray, WrongElement, Range}
 use Rattle.jr_word.specs.declared.header.HeaderParts.{HeaderParts}
@@ -13,17 +12,14 @@ use Rattle.jr_word.specs.Kind.{word_limit}
 use Rattle.jr_model.specs.declared.event.Role.TheVariants.{Within}
 use Rattle.jr_model.specs.declared.event.Act.{Act}
 use Rattle.jr_model.specs.declared.event.Act.TheVariants.{Leave, Read, Write}
-use Rattle.jr_model.specs.State.{State, IsWord}
 use Rattle.jr_model.specs.History.{PassView, IsLegal, Did}
 use Rattle.jr_model.specs.Frames.{Frames}
-use Rattle.jr_model.specs.Refusals.{Grounds}
-use Rattle.jr_model.specs.Calls.{Call, Ran, act, done, for_object, refuse_if, some_act, ◌>>=◌}
+use Rattle.jr_model.specs.Calls.{Call, Ran, act, for_object, refuse_if, some_act, ◌>>=◌}
 use Rattle.jr_model.specs.Checks.{is_read_as, is_text, same_element}
-use Rattle.jr_model.specs.Objects.{region_get, region_kind, region_length, region_set}
 use Rattle.jr_model.proofs.Agreement.{spares_places}
 use Rattle.jr_model.proofs.Runs.{ran_act, ran_some_act}
 use Rattle.jr_steps.specs.declared.known.Known.{Known}
-use Rattle.jr_steps.specs.Knowing.{AreOf, Facts, MayKnow, Standing, keeps, view, state_of, standing_after, Holds, IsWordNow, KnowsHeader, ShowsObject, Took}
+use Rattle.jr_steps.specs.Knowing.{AreOf, Facts, MayKnow, Standing, keeps, view, state_of, standing_after, KnowsHeader, Took}
 use Rattle.jr_steps.proofs.StepFacts.{goes_did}
 use Rattle.jr_gate.specs.Performing.{Performed}
 use Rattle.jr_gate.proofs.SameRoom.{as_before, nothing_changed}
@@ -37,9 +33,8 @@ use Rattle.jr_frames.specs.Table.{Table}
 use Rattle.jr_frames.proofs.FoundObject.{ran_for}
 use Rattle.jr_frames.proofs.FramesAgree.{holds_did}
 use Rattle.jr_frames.proofs.Reading.{ran_refused, ran_passed}
-use Rattle.jr_frames.specs.Ready.{AreOwn, StandsReady}
 use Rattle.jr_critical.specs.declared.levels.Levels.{Levels}
-use Rattle.jr_critical.specs.Levels.{AreKnown, Knows, Reaches, Stand, TellsKind, TellsLength, in_words, level_at, objects_of}
+use Rattle.jr_critical.specs.Levels.{AreKnown, Knows, Stand, TellsKind, TellsLength, level_at, objects_of}
 use Rattle.jr_critical.proofs.KnownLevels.{is_level, known_at, known_later}
 
 -- KIND AND LENGTH

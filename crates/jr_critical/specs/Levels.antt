@@ -1,5 +1,5 @@
 -- The levels of a critical region, over any steps and frames, for whatever was known.
-use Rattle.std.specs.Prelude.{◌≡◌, ◌≤◌, ◌++◌, ◌∷◌, ℕ, Option, Some, None, MatchOption, Result, Ok, Err, List, [], map, length, slice_index_or}
+use Rattle.std.specs.Prelude.{◌≡◌, ◌≤◌, ◌++◌, ◌∷◌, ℕ, Option, Some, None, Result, Ok, Err, List, [], map, length, slice_index_or}
 use Rattle.std.specs.List.{AllByRecursion}
 use Rattle.jr_word.specs.declared.config.Config.{Config}
 use Rattle.jr_word.specs.declared.fault.Fault.{Fault}
@@ -13,7 +13,7 @@ use Rattle.jr_model.specs.Calls.{Call}
 use Rattle.jr_model.specs.Checks.{Word}
 use Rattle.jr_model.specs.Objects.{region_kind, region_length, region_release}
 use Rattle.jr_steps.specs.declared.known.Known.{Known}
-use Rattle.jr_steps.specs.Knowing.{Facts, Leads, MayKnow, Standing, state_of, keeps, lets_go, Holds}
+use Rattle.jr_steps.specs.Knowing.{Facts, Leads, MayKnow, state_of, keeps, lets_go, Holds}
 use Rattle.jr_gate.specs.Performing.{IsAsBefore, IsMade, Performed, moment}
 use Rattle.jr_gate.specs.Stays.{IsOwnStay}
 use Rattle.jr_heap.specs.Heap.{HoldsHeader, Learns}

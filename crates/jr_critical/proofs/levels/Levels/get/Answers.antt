@@ -24,7 +24,7 @@ unwrap-requires g c = subst (λ r. IsSome r) (sym c.from_word.ensures)
 pub returns-clause-call : goal.returns-clause-call
 returns-clause-call g c =
     gets g.met.S.Steps.fits c.args.self.now c.args.level c.requires.level c.level-object.ensures c.args.index c.KIND.ensures c.see_element-word.ensures c.args.held.now.frames.frames (g.E.Elem.word_of c.unwrap.result) c.requires.stand.ready.role_is (sym c.is_read_as.ensures ∙ c.if-not-is_read_as.false) c.if-header-index.false
-        (g.met.E.Elem.laws.reads_own c.see_element-word.result c.unwrap.result (sym c.from_word.ensures ∙ c.unwrap.ensures)).1
+    (g.met.E.Elem.laws.reads_own c.see_element-word.result c.unwrap.result (sym c.from_word.ensures ∙ c.unwrap.ensures)).1
 
 pub returns-clause-stand : goal.returns-clause-stand
 returns-clause-stand g c = stand_got g.met.S.Steps.fits c.args.self.now c.args.level c.requires.level c.level-object.ensures c.args.index c.KIND.ensures c.see_element-word.ensures c.requires.stand

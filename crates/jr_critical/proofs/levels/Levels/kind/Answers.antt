@@ -1,5 +1,4 @@
-use Rattle.std.proofs.Common.{sym, ap, subst}
-use Rattle.jr_word.specs.declared.kind.Kind.{Kind}
+use Rattle.std.proofs.Common.{sym, subst}
 use Rattle.jr_critical.specs.declared.level.Level.{Level}
 use Rattle.jr_critical.specs.Levels.{TellsKind}
 use Rattle.jr_critical.proofs.Reaching.{tells_kind}
