@@ -217,8 +217,8 @@ impl Levels {
         if header.length <= index {
             return Err(Fault::Range);
         }
-        held.steps
-            .put_element(object, header, index, value.to_word());
+        let word = value.to_word();
+        held.steps.put_element(object, header, index, word);
         Ok(())
     }
 

@@ -16,17 +16,17 @@ returns-then-header-index-clause-call g c =
 
 pub put_element-requires-clause-known : goal.put_element-requires-clause-known
 put_element-requires-clause-known g c =
-    may_write g.met.S.Steps.fits c.args.self.now c.args.level c.requires.level c.level-object.ensures c.args.index c.KIND.ensures c.to_word.result (g.E.Elem.word_of c.args.value) c.to_word.ensures.word (g.met.E.Elem.laws.writes_below c.args.value c.to_word.ensures.fits) (sym c.is_text.ensures ∙ c.if-is_text.false) (sym c.is_read_as.ensures ∙ c.if-not-is_read_as.false) c.requires.stand
+    may_write g.met.S.Steps.fits c.args.self.now c.args.level c.requires.level c.level-object.ensures c.args.index c.KIND.ensures c.to_word-word.result (g.E.Elem.word_of c.args.value) c.to_word-word.ensures.word (g.met.E.Elem.laws.writes_below c.args.value c.to_word-word.ensures.fits) (sym c.is_text.ensures ∙ c.if-is_text.false) (sym c.is_read_as.ensures ∙ c.if-not-is_read_as.false) c.requires.stand
 
 pub invariant_of-held : goal.invariant_of-held
 invariant_of-held g c = record {
-  own = (stand_set g.met.S.Steps.fits c.args.self.now c.args.level c.requires.level c.level-object.ensures c.args.index c.KIND.ensures c.to_word.result (g.E.Elem.word_of c.args.value) c.to_word.ensures.word (g.met.E.Elem.laws.writes_below c.args.value c.to_word.ensures.fits) (sym c.is_text.ensures ∙ c.if-is_text.false) (sym c.is_read_as.ensures ∙ c.if-not-is_read_as.false) c.put_element.ensures c.requires.stand).ready.own;
+  own = (stand_set g.met.S.Steps.fits c.args.self.now c.args.level c.requires.level c.level-object.ensures c.args.index c.KIND.ensures c.to_word-word.result (g.E.Elem.word_of c.args.value) c.to_word-word.ensures.word (g.met.E.Elem.laws.writes_below c.args.value c.to_word-word.ensures.fits) (sym c.is_text.ensures ∙ c.if-is_text.false) (sym c.is_read_as.ensures ∙ c.if-not-is_read_as.false) c.put_element.ensures c.requires.stand).ready.own;
 }
 
 pub returns-clause-call : goal.returns-clause-call
 returns-clause-call g c =
-    sets g.met.S.Steps.fits c.args.self.now c.args.level c.requires.level c.level-object.ensures c.args.index c.KIND.ensures c.to_word.result (g.E.Elem.word_of c.args.value) c.to_word.ensures.word (g.met.E.Elem.laws.writes_below c.args.value c.to_word.ensures.fits) (sym c.is_text.ensures ∙ c.if-is_text.false) (sym c.is_read_as.ensures ∙ c.if-not-is_read_as.false) c.put_element.ensures c.args.held.now.frames.frames c.requires.stand.ready.role_is c.if-header-index.false
+    sets g.met.S.Steps.fits c.args.self.now c.args.level c.requires.level c.level-object.ensures c.args.index c.KIND.ensures c.to_word-word.result (g.E.Elem.word_of c.args.value) c.to_word-word.ensures.word (g.met.E.Elem.laws.writes_below c.args.value c.to_word-word.ensures.fits) (sym c.is_text.ensures ∙ c.if-is_text.false) (sym c.is_read_as.ensures ∙ c.if-not-is_read_as.false) c.put_element.ensures c.args.held.now.frames.frames c.requires.stand.ready.role_is c.if-header-index.false
 
 pub returns-clause-stand : goal.returns-clause-stand
 returns-clause-stand g c =
-    stand_set g.met.S.Steps.fits c.args.self.now c.args.level c.requires.level c.level-object.ensures c.args.index c.KIND.ensures c.to_word.result (g.E.Elem.word_of c.args.value) c.to_word.ensures.word (g.met.E.Elem.laws.writes_below c.args.value c.to_word.ensures.fits) (sym c.is_text.ensures ∙ c.if-is_text.false) (sym c.is_read_as.ensures ∙ c.if-not-is_read_as.false) c.put_element.ensures c.requires.stand
+    stand_set g.met.S.Steps.fits c.args.self.now c.args.level c.requires.level c.level-object.ensures c.args.index c.KIND.ensures c.to_word-word.result (g.E.Elem.word_of c.args.value) c.to_word-word.ensures.word (g.met.E.Elem.laws.writes_below c.args.value c.to_word-word.ensures.fits) (sym c.is_text.ensures ∙ c.if-is_text.false) (sym c.is_read_as.ensures ∙ c.if-not-is_read_as.false) c.put_element.ensures c.requires.stand
