@@ -14,7 +14,8 @@ use Rattle.jr_model.specs.Checks.{Word}
 use Rattle.jr_steps.specs.Knowing.{AreOf, Facts, state_of}
 use Rattle.jr_gate.specs.Performing.{moment, IsMade}
 use Rattle.jr_frames.specs.Table.{Table}
-use Rattle.jr_env.specs.Works.{CallsWhole, Completes}
+use Rattle.jr_frames.specs.OverSteps.{CallsWhole}
+use Rattle.jr_env.specs.Works.{Completes}
 use Rattle.jr_frames.specs.Reading.{IsReadAs}
 use Rattle.jr_env.specs.Deeds.{Deed, DoesDeed, DoesOutside, answered_by, call_by, call_on_by, call_on_both_by, packed, packed_if}
 

@@ -20,15 +20,13 @@ use Rattle.jr_gate.specs.Performing.{Performed}
 use Rattle.jr_frames.specs.Ready.{StandsReady, KeepsOwner}
 use Rattle.jr_frames.proofs.StillReady.{same_owner, ready_after}
 use Rattle.jr_frames.specs.Steady.{IsSteady}
-use Rattle.jr_env.specs.Works.{CallsWhole, Completes, EndsStay}
-use Rattle.jr_frames.proofs.Leaving.{kept_by_leave, left_before, ran_later}
+use Rattle.jr_env.specs.Works.{Completes, EndsStay}
+use Rattle.jr_frames.specs.OverSteps.{CallsWhole}
+use Rattle.jr_frames.proofs.WholeCalls.{calls_barred, calls_entered}
 use Rattle.jr_gate.proofs.SameRoom.{as_before}
 use Rattle.jr_gate.proofs.Spending.{made_of, spending, spend_first, spend_last, spend_more, spend_step, spend_barred}
 use Rattle.jr_frames.proofs.FramesAgree.{holds_did}
 use Rattle.jr_gate.proofs.HandedOn.{handed_on}
-
-abbrev with_role : Standing → Role → Standing
-with_role s r = record s { role = r }
 
 module _ {S : Type 0} {facts : S → Facts} where
   -- a call that takes nothing beside its acts takes no more than this
@@ -39,38 +37,11 @@ module _ {S : Type 0} {facts : S → Facts} where
   }
 
   module _ {A : Type 0} (work : Config → ℕ → ℕ → State → Call A) where
-    calls_barred : {a b : S} (f : Frames) → (facts a).stands.role ≡ Outside → ActedTo facts a b (Knock ∷ Withdraw ∷ []) anything IsWithdrawn → CallsWhole facts a b f f 0 (λ s. entered (work (facts a).stands.config (facts a).stands.last (facts a).stands.thread s)) (Err Barred)
-    calls_barred {a} f out t = record {
-      stands_is = as_before _ (t.stands_is ∙ ap (with_role (facts a).stands) (sym out));
-      ran = λ k s m. let g = t.leads k s tt in
-          (g.0, g.1, made_of (spend_barred t k s f f) (ran_barred f (work (facts a).stands.config (facts a).stands.last (facts a).stands.thread (state_of g.0)) g.2 g.3.2), (g.3.0.0, holds_did k g.0 f (Knock ∷ Withdraw ∷ []) g.2 (refl, (refl, tt)) m));
-    }
-
-    calls_entered : {a b c d : S} {f g : Frames} (fits : AreOf facts) (silent : Config → ℕ) {so : Known → Known → Type 0} {answer : Result A Fault} → (facts a).stands.role ≡ Outside → Took facts a b (Enter ∷ []) anything keeps
-        → Performed facts b c f g (silent (facts b).stands.config) (Holds f) (work (facts b).stands.config (facts b).stands.last (facts b).stands.thread) answer (λ j k. so j k × Holds g k)
-        → IsSteady (work (facts b).stands.config (facts b).stands.last (facts b).stands.thread) → Took facts c d (Leave ∷ []) anything lets_go
-        → CallsWhole facts a d f g (silent (facts a).stands.config) (λ s. entered (work (facts a).stands.config (facts a).stands.last (facts a).stands.thread s)) answer
-    calls_entered {a} {b} {c} {f} {g} fits silent {so} {answer} out e p steady u =
-        let q = subst (λ (s : Standing). Performed facts b c f g (silent s.config) (Holds f) (work s.config s.last s.thread) answer (λ j k. so j k × Holds g k)) e.stands_is p in
-        let same = subst (λ (s : Standing). IsSteady (work s.config s.last s.thread)) e.stands_is steady in
-        let within = p.stands_is.role ∙ ap (λ (s : Standing). s.role) e.stands_is in
-        record {
-          stands_is = left_before out e.stands_is p.stands_is u.stands_is;
-          ran = λ k s m.
-              let x = e.goes k s tt in
-              let y = q.ran x.0 x.1 (holds_did k x.0 f (Enter ∷ []) (goes_did x.2) (refl, tt) m) in
-              let z = u.goes y.0 y.1 tt in
-              let h = holds_did k x.0 f (Enter ∷ []) (goes_did x.2) (refl, tt) m in
-              let run = ran_later {call = work (facts a).stands.config (facts a).stands.last (facts a).stands.thread} same (kept_by_leave y.0 z.0 (fits c y.0 y.1) within z.2) y.2.ran in
-              let count = spend_first (spend_last (spend_step e k s tt f f) (spending y.2)) (spend_step u y.0 y.1 tt g g) in
-              (z.0, z.1, made_of count (ran_entered (goes_stepped x.2) run (goes_stepped z.2)), (z.3, holds_did y.0 z.0 g (Leave ∷ []) (goes_did z.2) (refl, tt) y.3.1));
-        }
-
     -- an entry that found the gate shut
     pub completes_barred : {a b : S} {t : Table} {e : Fault} → StandsReady facts Outside a t → (answer : Result A Fault) → IsErrAnd answer (λ y. y ≡ e) → (e ≡ Barred) × ActedTo facts a b (Knock ∷ Withdraw ∷ []) anything IsWithdrawn
         → Completes facts a b t t 0 (λ s. entered (work (facts a).stands.config (facts a).stands.last (facts a).stands.thread s)) answer
     completes_barred {t} r answer given why =
-        let p = handed_on answer (subst (λ y. IsErrAnd answer (λ z. z ≡ y)) why.0 given) (calls_barred t.frames r.role_is why.1) in
+        let p = handed_on answer (subst (λ y. IsErrAnd answer (λ z. z ≡ y)) why.0 given) (calls_barred work t.frames r.role_is why.1) in
         record { call = λ out. p; ready = ready_after {so = lets_go} r (same_owner t) p }
 
     -- work between an entry and its exit
@@ -78,7 +49,7 @@ module _ {S : Type 0} {facts : S → Facts} where
         → Performed facts b c t.frames u.frames (silent (facts b).stands.config) (Holds t.frames) (work (facts b).stands.config (facts b).stands.last (facts b).stands.thread) answer (λ j k. so j k × Holds u.frames k)
         → IsSteady (work (facts b).stands.config (facts b).stands.last (facts b).stands.thread) → KeepsOwner t u → Took facts c d (Leave ∷ []) anything lets_go
         → Completes facts a d t u (silent (facts a).stands.config) (λ s. entered (work (facts a).stands.config (facts a).stands.last (facts a).stands.thread s)) answer
-    completes fits silent {so = so} r e p steady o l = let q = calls_entered fits silent {so = so} r.role_is e p steady l in record { call = λ out. q; ready = ready_after {so = lets_go} r o q }
+    completes fits silent {so = so} r e p steady o l = let q = calls_entered work fits silent {so = so} r.role_is e p steady l in record { call = λ out. q; ready = ready_after {so = lets_go} r o q }
 
     -- the same, once a stay that was left has been ended
     pub completes_from : {o a b : S} {r t u : Table} (silent : Config → ℕ) {answer : Result A Fault} → EndsStay facts o a r t → Completes facts a b t u (silent (facts a).stands.config) (λ s. entered (work (facts a).stands.config (facts a).stands.last (facts a).stands.thread s)) answer

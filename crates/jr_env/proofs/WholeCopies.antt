@@ -29,7 +29,8 @@ use Rattle.jr_frames.proofs.Reading.{ran_passed, ran_refused}
 use Rattle.jr_env.specs.Copies.{in_form}
 use Rattle.jr_frames.specs.Finding.{Finds}
 use Rattle.jr_frames.specs.Steady.{IsSteady}
-use Rattle.jr_env.specs.Works.{CallsWhole, Completes}
+use Rattle.jr_frames.specs.OverSteps.{CallsWhole}
+use Rattle.jr_env.specs.Works.{Completes}
 use Rattle.jr_env.proofs.ArrayParts.{AreSpared, array_of, read_spared, write_spared}
 use Rattle.jr_frames.proofs.FoundObject.{at_named, finds_refused, finds_then, work_at}
 use Rattle.jr_frames.proofs.Steady.{steady_at, steady_for}

@@ -17,6 +17,7 @@ use Rattle.jr_steps.specs.Knowing.{Facts, keeps, lets_go, without_range_of, Hold
 use Rattle.jr_gate.specs.Performing.{Performed}
 use Rattle.jr_heap.specs.Heap.{header_of, own_words, IsReady}
 use Rattle.jr_frames.specs.Table.{Table}
+use Rattle.jr_frames.specs.OverSteps.{CallsWhole}
 use Rattle.jr_frames.specs.Ready.{StandsReady}
 use Rattle.jr_env.specs.Deeds.{making_steps}
 
@@ -50,10 +51,6 @@ module _ {S : Type 0} (facts : S → Facts) where
   abbrev pub MakesArray : S → S → Frames → Frames → Kind → List ℕ → (Known → Type 0) → Result Handle Fault → Type 0
   MakesArray old new f g kind words met answer = Performed facts old new f g (making_steps (length words) (facts old).stands.config) (λ k. Holds f k × met k) (λ s. made (facts old).stands.config (facts old).stands.last (facts old).stands.thread kind words) answer (λ j k. Unit {0} × Holds g k)
 
-  -- a whole call was made, for the state that it leaves: the pass holds nothing, and the frames go on agreeing with the locals
-  abbrev pub CallsWhole : {A : Type 0} → S → S → Frames → Frames → ℕ → (State → Call A) → Result A Fault → Type 0
-  CallsWhole old new f g silent call answer = Performed facts old new f g silent (Holds f) call answer (λ j k. lets_go j k × Holds g k)
-
   -- a stay that was left was ended: where the thread stood outside nothing changed; and it stands ready outside, with the same frames
   pub record EndsStay (old new : S) (before after : Table) : Type 0 where
     pub same : (facts old).stands.role ≡ Outside → new ≡ old
@@ -63,5 +60,5 @@ module _ {S : Type 0} (facts : S → Facts) where
 
   -- a whole call was made where the thread stood outside, by at most so many operations beside its acts; and the next can be in any case
   pub record Completes {A : Type 0} (old new : S) (before after : Table) (silent : ℕ) (asked : State → Call A) (answer : Result A Fault) : Type 0 where
-    pub call : (facts old).stands.role ≡ Outside → CallsWhole old new before.frames after.frames silent asked answer
+    pub call : (facts old).stands.role ≡ Outside → CallsWhole facts old new before.frames after.frames silent asked answer
     pub ready : StandsReady facts Outside new after

@@ -88,7 +88,7 @@ module _ (c : Config) (last t : ℕ) (w : Word) where
   refused_found s e next f m acts (inr y) = inr (y.0, ap (λ d. Err d) (ap (fault_of e) y.1), y.2)
 
   -- an object was found, and what follows was done
-  ran_found : {A : Type 0} {p q r : PassView} {f m g : Frames} (s : State) (o n : ℕ) (kind : Kind) (next : ℕ → Call A) {answer : Result A Fault}
+  pub ran_found : {A : Type 0} {p q r : PassView} {f m g : Frames} (s : State) (o n : ℕ) (kind : Kind) (next : ℕ → Call A) {answer : Result A Fault}
       → Ran p q f m (finding c last t s w) (Ok (o, kind, n)) → Ran q r m g (next o) answer → Ran p r f g (at_named c last t w next) answer
   ran_found {r = r} {f = f} {m = m} {g = g} s o n kind next {answer} a b =
       let v = window_then a.acts b.acts a.did b.did a.window b.window in
@@ -102,7 +102,7 @@ module _ (c : Config) (last t : ℕ) (w : Word) where
       }
 
   -- none was found
-  ran_not_found : {A : Type 0} {p q : PassView} {f m : Frames} (s : State) (e : Fault) (next : ℕ → Call A) → Ran p q f m (finding c last t s w) (Err e) → Ran p q f m (at_named c last t w next) (Err e)
+  pub ran_not_found : {A : Type 0} {p q : PassView} {f m : Frames} (s : State) (e : Fault) (next : ℕ → Call A) → Ran p q f m (finding c last t s w) (Err e) → Ran p q f m (at_named c last t w next) (Err e)
   ran_not_found {f = f} {m = m} s e next a = record { acts = a.acts; did = a.did; is = refused_found s e next f m a.acts a.is; begun = a.begun; window = a.window; grounds = a.grounds }
 
 -- what follows a call of two parts follows the second
@@ -145,7 +145,7 @@ abbrev pub work_at : {S A : Type 0} → (S → Facts) → S → Word → (State 
 work_at facts a w next s = at_named (facts a).stands.config (facts a).stands.last (facts a).stands.thread w (next s)
 
 -- a header that was learned after steps that left what the pass held
-learns_since : (o : ℕ) (h : HeaderParts) (j m k : Known) → keeps j m → Learns o h m k → Learns o h j k
+pub learns_since : (o : ℕ) (h : HeaderParts) (j m k : Known) → keeps j m → Learns o h m k → Learns o h j k
 learns_since o h j m k same l = (l.0, l.1 ∙ ap (λ (g : Holdings). with_header g o h) same, λ g e. l.2 g (ap (λ (z : Holdings). header_in o z.headers) same ∙ e))
 
 module _ {S : Type 0} {facts : S → Facts} {a b : S} {f : Frames} (w : Word) where

@@ -29,6 +29,7 @@ pub mod Resolution
 pub mod FoundObject
 pub mod Steady
 pub mod Leaving
+pub mod WholeCalls
 pub mod ResolutionOfBoth
 pub mod RoomFor
 pub mod NewLocal

@@ -1,13 +1,13 @@
 -- What was done over any steps and frames within a stay, for whatever was known.
 use Rattle.std.specs.Prelude.{ℕ, Result, Ok, Err, Option, Some}
 use Rattle.jr_word.specs.declared.fault.Fault.{Fault}
-use Rattle.jr_model.specs.State.{Handle}
+use Rattle.jr_model.specs.State.{Handle, State}
 use Rattle.jr_model.specs.Frames.{Frames}
 use Rattle.jr_model.specs.Calls.{Call}
 use Rattle.jr_model.specs.Checks.{Word}
 use Rattle.jr_model.specs.References.{resolved}
 use Rattle.jr_steps.specs.declared.known.Known.{Known}
-use Rattle.jr_steps.specs.Knowing.{Facts, keeps, HasObject, HasOptional, Holds}
+use Rattle.jr_steps.specs.Knowing.{Facts, keeps, lets_go, HasObject, HasOptional, Holds}
 use Rattle.jr_gate.specs.Performing.{Performed}
 use Rattle.jr_frames.specs.Reading.{IsReadAs}
 
@@ -41,3 +41,7 @@ module _ {S : Type 0} (facts : S → Facts) where
   -- a local reference was made to a present object, or none to none, and the frames go on agreeing with the locals
   abbrev pub MakesLocal : S → S → Frames → Frames → Option ℕ → Call (Option Handle) → Result (Option Handle) Fault → Type 0
   MakesLocal old new f g o call answer = Performed facts old new f g 0 (λ k. Holds f k × HasOptional o k) (λ s. call) answer (λ j k. keeps j k × Holds g k)
+
+  -- a whole call was made, for the state that it leaves: the pass holds nothing, and the frames go on agreeing with the locals
+  abbrev pub CallsWhole : {A : Type 0} → S → S → Frames → Frames → ℕ → (State → Call A) → Result A Fault → Type 0
+  CallsWhole old new f g silent call answer = Performed facts old new f g silent (Holds f) call answer (λ j k. lets_go j k × Holds g k)

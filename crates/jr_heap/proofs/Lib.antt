@@ -3,7 +3,7 @@ pub mod StayFacts
 pub mod Reserving
 pub mod Filling
 pub mod Headers
-mod KnownHeaders
+pub mod KnownHeaders
 mod Checks
 pub mod Elements
 pub mod Parts

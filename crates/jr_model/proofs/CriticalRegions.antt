@@ -29,11 +29,11 @@ use Rattle.jr_model.proofs.Stays.{did_then, mine_did, never}
 
 -- NO LEAVE
 
-abbrev NoLeave : List Act → Type 0
+abbrev pub NoLeave : List Act → Type 0
 NoLeave acts = AllByRecursion (λ a. a ≢ Leave) acts
 
 -- a call that never leaves the gate
-abbrev Stays : {A : Type 0} → Call A → Type 0
+abbrev pub Stays : {A : Type 0} → Call A → Type 0
 Stays {A} call = (f g : Frames) (acts : List Act) (answer : Result A Fault) → call f acts answer g → NoLeave acts
 
 decided_stays : {A : Type 0} (r : Result A Fault) → Stays (decided r)
@@ -91,7 +91,7 @@ module _ (c : Config) (last thread : ℕ) where
       bind_stays (refuse_if (is_foreign thread a) fault.Foreign) _ (refuse_if_stays (is_foreign thread a) fault.Foreign) (λ _. looked_stays a)))
 
   module _ (s : State) where
-    level_array_stays : (levels : ℕ) (a : Word) → Stays (level_array c last thread s levels a)
+    pub level_array_stays : (levels : ℕ) (a : Word) → Stays (level_array c last thread s levels a)
     level_array_stays levels a =
         bind_stays (resolved c last thread a) _ (resolved_stays a) (λ x.
         bind_stays (not_null x) _ (not_null_stays x) (λ o.
@@ -100,7 +100,7 @@ module _ (c : Config) (last thread : ℕ) where
         bind_stays (refuse_if (not (is_primitive k)) fault.WrongElement) _ (refuse_if_stays (not (is_primitive k)) fault.WrongElement) (λ _.
         bind_stays (refuse_if (nat_le LEVELS levels) fault.Size) _ (refuse_if_stays (nat_le LEVELS levels) fault.Size) (λ _. decided_stays (Ok o)))))))
 
-    level_string_stays : (levels : ℕ) (a : Word) → Stays (level_string c last thread s levels a)
+    pub level_string_stays : (levels : ℕ) (a : Word) → Stays (level_string c last thread s levels a)
     level_string_stays levels a =
         bind_stays (resolved c last thread a) _ (resolved_stays a) (λ x.
         bind_stays (not_null x) _ (not_null_stays x) (λ o.

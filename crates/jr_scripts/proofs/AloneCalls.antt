@@ -20,7 +20,6 @@ use Rattle.jr_model.proofs.Stays.{mine_did}
 use Rattle.jr_gate.specs.Performing.{Moment}
 use Rattle.jr_env.specs.Deeds.{Deed, call_by}
 use Rattle.jr_syntax.specs.declared.command.Command.{Command}
-use Rattle.jr_scripts.specs.Names.{Names}
 use Rattle.jr_scripts.specs.AloneAnswers.{IsAloneFault, IsShort, LacksSpace}
 use Rattle.jr_scripts.proofs.AloneHistories.{all_back, own_acts, own_events, still_so, stays_occupied, stays_present}
 use Rattle.jr_scripts.proofs.SpaceAlone.{found_short, never_lost}
@@ -38,16 +37,16 @@ abbrev pub AllUncontended : History → Type 0
 AllUncontended es = AllByRecursion (λ e. is_uncontended_act e.act ≡ true) es
 
 -- from one moment of a lone pass to another: what was seen begins what is seen, no reservation was lost in between, and a refusal is a lone thread's
-pub record LedAlone (turns : ℕ) (names : Names) (command : Command) {A : Type 0} (old new : PassView) (g : Frames) (answer : Result A Fault) : Type 0 where
+pub record LedAlone (turns : ℕ) (command : Command) {A : Type 0} (old new : PassView) (g : Frames) (answer : Result A Fault) : Type 0 where
   pub config : new.config ≡ old.config
   pub thread : new.thread ≡ old.thread
   pub begins : IsPrefix old.seen new.seen
   pub uncontended : AllUncontended old.seen → AllUncontended new.seen
-  pub fault : IfErr answer (IsAloneFault turns names command new g)
+  pub fault : IfErr answer (IsAloneFault turns command new g)
 
 -- what the deed leads to, where all that happened is the thread's own
-pub record LeadsAlone (turns : ℕ) (names : Names) (command : Command) {A : Type 0} (deed : Deed A) : Type 0 where
-  pub led : (old new : Moment) (answer : Result A Fault) → IsAlone new.pass → deed old answer new → LedAlone turns names command old.pass new.pass new.frames answer
+pub record LeadsAlone (turns : ℕ) (command : Command) {A : Type 0} (deed : Deed A) : Type 0 where
+  pub led : (old new : Moment) (answer : Result A Fault) → IsAlone new.pass → deed old answer new → LedAlone turns command old.pass new.pass new.frames answer
 
 -- the events that are seen were the call's
 ran_of : {A : Type 0} (silent : Config → ℕ) (asked : Config → ℕ → ℕ → State → Call A) (old new : Moment) (answer : Result A Fault) → call_by silent asked old answer new
@@ -92,20 +91,20 @@ module _ {A : Type 0} (old new : PassView) (f g : Frames) (work : Call A) (alone
   never_raced looked found changes r = never_lost old.config old.last old.seen r.begun new looked found r.did.begins r.did.legal (refused_since (Raced looked found) changes r) r.window.from r.grounds
 
   -- a refusal of a call that no other thread causes
-  fault_alone : (turns : ℕ) (names : Names) (command : Command) (e : Fault) → ChangesNothing work → (r : Ran old new f g work (Err e)) → IsUncontendedFault (state new.seen) new.last command r.acts g e → IsAloneFault turns names command new g e
-  fault_alone turns names command Null changes r uncontended = uncontended
-  fault_alone turns names command Stale changes r uncontended = tt
-  fault_alone turns names command WrongKind changes r uncontended = inl uncontended
-  fault_alone turns names command NotArray changes r uncontended = uncontended
-  fault_alone turns names command WrongElement changes r uncontended = uncontended
-  fault_alone turns names command Range changes r uncontended = uncontended
-  fault_alone turns names command LocalsFull changes r uncontended = uncontended
-  fault_alone turns names command NoFrame changes r uncontended = uncontended
-  fault_alone turns names command RowFull changes r uncontended = row_is_full changes r
-  fault_alone turns names command (SpaceFull used) changes r uncontended = space_is_short command used changes r uncontended
-  fault_alone turns names command (Raced looked found) changes r uncontended = absurd (never_raced looked found changes r)
-  fault_alone turns names command ObjectsFull changes r uncontended = objects_are_full changes r
-  fault_alone turns names command _ changes r uncontended = absurd uncontended
+  fault_alone : (turns : ℕ) (command : Command) (e : Fault) → ChangesNothing work → (r : Ran old new f g work (Err e)) → IsUncontendedFault (state new.seen) new.last command r.acts g e → IsAloneFault turns command new g e
+  fault_alone turns command Null changes r uncontended = uncontended
+  fault_alone turns command Stale changes r uncontended = tt
+  fault_alone turns command WrongKind changes r uncontended = uncontended
+  fault_alone turns command NotArray changes r uncontended = uncontended
+  fault_alone turns command WrongElement changes r uncontended = uncontended
+  fault_alone turns command Range changes r uncontended = uncontended
+  fault_alone turns command LocalsFull changes r uncontended = uncontended
+  fault_alone turns command NoFrame changes r uncontended = uncontended
+  fault_alone turns command RowFull changes r uncontended = row_is_full changes r
+  fault_alone turns command (SpaceFull used) changes r uncontended = space_is_short command used changes r uncontended
+  fault_alone turns command (Raced looked found) changes r uncontended = absurd (never_raced looked found changes r)
+  fault_alone turns command ObjectsFull changes r uncontended = objects_are_full changes r
+  fault_alone turns command _ changes r uncontended = absurd uncontended
 
 module _ {A : Type 0} (s : State) (command : Command) (last : ℕ) (work : Call A) (uncontended : IsUncontended s last command work) where
   acts_uncontended : (old new : Frames) (acts : List Act) (answer : Result A Fault) → IsUnraced answer → entered work old acts answer new → AreUncontended acts
@@ -118,35 +117,35 @@ module _ {A : Type 0} (s : State) (command : Command) (last : ℕ) (work : Call 
   fault_uncontended old new acts e enters (inr r) =
       subst (λ (all : List Act). IsUncontendedFault s last command all new e) (sym r.1) (more_fault s last command r.0 (Enter ∷ r.0 ++ Leave ∷ []) (λ n used h. inr (found_earlier n used r.0 (Leave ∷ []) h)) new e (uncontended.fault old new r.0 e r.2))
 
-  unraced : (turns : ℕ) (names : Names) (p : PassView) (f : Frames) (answer : Result A Fault) → IfErr answer (IsAloneFault turns names command p f) → IsUnraced answer
-  unraced turns names p f (Ok x) h = tt
-  unraced turns names p f (Err (Raced looked found)) h = h
-  unraced turns names p f (Err _) h = tt
+  unraced : (turns : ℕ) (p : PassView) (f : Frames) (answer : Result A Fault) → IfErr answer (IsAloneFault turns command p f) → IsUnraced answer
+  unraced turns p f (Ok x) h = tt
+  unraced turns p f (Err (Raced looked found)) h = h
+  unraced turns p f (Err _) h = tt
 
-  module _ (turns : ℕ) (names : Names) (changes : ChangesNothing (entered work)) (old new : PassView) (f g : Frames) (same : old.last ≡ last) (now : s ≡ state new.seen) (alone : IsAlone new) where
-    ran_fault : (answer : Result A Fault) → Ran old new f g (entered work) answer → IfErr answer (IsAloneFault turns names command new g)
+  module _ (turns : ℕ) (changes : ChangesNothing (entered work)) (old new : PassView) (f g : Frames) (same : old.last ≡ last) (now : s ≡ state new.seen) (alone : IsAlone new) where
+    ran_fault : (answer : Result A Fault) → Ran old new f g (entered work) answer → IfErr answer (IsAloneFault turns command new g)
     ran_fault (Ok x) r = tt
     ran_fault (Err e) r =
         let enters = all_back (λ (x : Event). x.act ≢ Knock) old.seen r.did.begins.0 (subst (AllByRecursion (λ (x : Event). x.act ≢ Knock)) (sym r.did.begins.1) alone.enters) in
         let acts : AllByRecursion (λ a. a ≢ Knock) r.acts = subst (AllByRecursion (λ a. a ≢ Knock)) (mine_did r.acts r.did) (own_acts (λ a. a ≢ Knock) old.thread r.did.begins.0 enters) in
-        fault_alone old new f g (entered work) alone turns names command e changes r (subst (λ n. IsUncontendedFault (state new.seen) n command r.acts g e) (sym (r.did.last ∙ same)) (subst (λ x. IsUncontendedFault x last command r.acts g e) now (fault_uncontended f g r.acts e acts r.is)))
+        fault_alone old new f g (entered work) alone turns command e changes r (subst (λ n. IsUncontendedFault (state new.seen) n command r.acts g e) (sym (r.did.last ∙ same)) (subst (λ x. IsUncontendedFault x last command r.acts g e) now (fault_uncontended f g r.acts e acts r.is)))
 
-    ran_alone : (answer : Result A Fault) → Ran old new f g (entered work) answer → LedAlone turns names command old new g answer
+    ran_alone : (answer : Result A Fault) → Ran old new f g (entered work) answer → LedAlone turns command old new g answer
     ran_alone answer r = record {
       config = r.did.config;
       thread = r.did.thread;
       begins = r.did.begins;
-      uncontended = λ before. subst AllUncontended r.did.begins.1 (append_all (λ e. is_uncontended_act e.act ≡ true) old.seen r.did.begins.0 before (since old new f g (entered work) alone (λ a. is_uncontended_act a ≡ true) answer r (acts_uncontended f g r.acts answer (unraced turns names new g answer (ran_fault answer r)) r.is)));
+      uncontended = λ before. subst AllUncontended r.did.begins.1 (append_all (λ e. is_uncontended_act e.act ≡ true) old.seen r.did.begins.0 before (since old new f g (entered work) alone (λ a. is_uncontended_act a ≡ true) answer r (acts_uncontended f g r.acts answer (unraced turns new g answer (ran_fault answer r)) r.is)));
       fault = ran_fault answer r;
     }
 
 -- a call with a stay of its own
-pub call_alone : {A : Type 0} (turns : ℕ) (names : Names) (command : Command) (silent : Config → ℕ) (work : Config → ℕ → ℕ → State → Call A) → ((c : Config) (last t : ℕ) (s : State) → c.threads ≡ 1 → t ≡ 0 → IsUncontended s last command (work c last t s)) → ((c : Config) (last t : ℕ) (s : State) → ChangesNothing (entered (work c last t s)))
-    → LeadsAlone turns names command (call_by silent (λ c last t s. entered (work c last t s)))
-call_alone turns names command silent work uncontended changes = record {
+pub call_alone : {A : Type 0} (turns : ℕ) (command : Command) (silent : Config → ℕ) (work : Config → ℕ → ℕ → State → Call A) → ((c : Config) (last t : ℕ) (s : State) → c.threads ≡ 1 → t ≡ 0 → IsUncontended s last command (work c last t s)) → ((c : Config) (last t : ℕ) (s : State) → ChangesNothing (entered (work c last t s)))
+    → LeadsAlone turns command (call_by silent (λ c last t s. entered (work c last t s)))
+call_alone turns command silent work uncontended changes = record {
   led = λ old new answer alone r.
       let x = ran_of silent (λ c last t s. entered (work c last t s)) old new answer r in
       let now = state new.pass.seen in
-      ran_alone now command old.pass.last (work old.pass.config old.pass.last old.pass.thread now) (uncontended old.pass.config old.pass.last old.pass.thread now (ap (λ c. c.threads) (sym x.did.config) ∙ alone.one) (sym x.did.thread ∙ alone.first)) turns names
+      ran_alone now command old.pass.last (work old.pass.config old.pass.last old.pass.thread now) (uncontended old.pass.config old.pass.last old.pass.thread now (ap (λ c. c.threads) (sym x.did.config) ∙ alone.one) (sym x.did.thread ∙ alone.first)) turns
       (changes old.pass.config old.pass.last old.pass.thread now) old.pass new.pass old.frames new.frames refl refl alone answer x;
 }

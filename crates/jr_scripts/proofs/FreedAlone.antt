@@ -9,7 +9,6 @@ use Rattle.jr_syntax.specs.declared.command.Command.TheVariants as commands
 use Rattle.jr_syntax.specs.declared.verb.Make.TheVariants as make
 use Rattle.jr_gate.specs.Performing.{Moment}
 use Rattle.jr_env.specs.Deeds.{free_locals}
-use Rattle.jr_scripts.specs.Names.{no_names}
 use Rattle.jr_scripts.specs.Tries.{Tried, answered, again, gave_up, is_tried_again}
 use Rattle.jr_scripts.specs.Explains.{Explained}
 use Rattle.jr_scripts.specs.AloneAnswers.{AnswersAlone}
@@ -23,8 +22,8 @@ use Rattle.jr_scripts.proofs.AloneAnswers.{went_alone}
 plainly : Command
 plainly = commands.Make make.Plain []
 
-free_alone : (turns : ℕ) → LeadsAlone turns no_names plainly free_locals
-free_alone turns = call_alone turns no_names plainly (λ c. 0) (λ c last t s. references.freeing) (λ c last t s one first. freeing_uncontended s plainly c last t one first) (λ c last t s. (refusals_change_nothing c last t s).free_locals)
+free_alone : (turns : ℕ) → LeadsAlone turns plainly free_locals
+free_alone turns = call_alone turns plainly (λ c. 0) (λ c last t s. references.freeing) (λ c last t s one first. freeing_uncontended s plainly c last t one first) (λ c last t s. (refusals_change_nothing c last t s).free_locals)
 
 free_answers : (old new : Moment) (answer : Result (Unit {0}) Fault) → free_locals old answer new → (answer ≡ Ok tt) ⊎ (answer ≡ Err Barred)
 free_answers old new answer d = ⊎_elim (λ x. inr x.1) (λ x. inl x.2.1) d.0.ran.is
@@ -36,9 +35,9 @@ barred_again answer final is = let again_is = ap is_tried_again is in absurd cc
 freed_all : (n : ℕ) (old new : Moment) (answer : Result (Unit {0}) Fault) → IsAlone new.pass → Tried free_locals n old answer new → n ≢ 0 → answer ≡ Ok tt
 freed_all (suc n) old new answer alone (answered d final) some = ⊎_elim (λ e. e) (barred_again answer final) (free_answers old new answer d)
 freed_all (suc n) old new answer alone (again {mid = mid} {once = once} d more rest) some =
-    let y = tries_alone no_names plainly free_alone n mid new answer alone rest in
+    let y = tries_alone plainly free_alone n mid new answer alone rest in
     let x = (free_alone 0).led old mid once (was_alone y alone) d in
-    absurd (once_alone no_names plainly mid.pass mid.frames once more x.fault)
+    absurd (once_alone plainly mid.pass mid.frames once more x.fault)
 freed_all zero old new answer alone gave_up some = absurd (some refl)
 
 -- A LONE THREAD's commands, and its end
@@ -49,6 +48,6 @@ pub record EndedAlone {turns first : ℕ} {opening told left : Moment} {commands
 
 pub ended_alone : (turns first : ℕ) (opening told left : Moment) (commands : List Command) (text : List ℕ) (e : Explained turns first opening commands text told) (f : IsFreed turns told left) → IsAlone left.pass → EndedAlone e f
 ended_alone turns first opening told left commands text e f alone =
-    let y = tries_alone no_names plainly free_alone turns told left f.answer alone f.tries in
+    let y = tries_alone plainly free_alone turns told left f.answer alone f.tries in
     let x = went_alone turns first opening told commands text e.0 e.1 (was_alone y alone) in
     record { answers = x.answers; all = freed_all turns told left f.answer alone f.tries; uncontended = λ m. y.uncontended (x.uncontended m) }

@@ -1,4 +1,3 @@
-pub mod BufferNumbers
 pub mod FormedTries
 pub mod CommandDeeds
 pub mod Retries

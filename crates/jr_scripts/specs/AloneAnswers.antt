@@ -1,5 +1,5 @@
 -- What a thread that is alone may be refused for.
-use Rattle.std.specs.Prelude.{◌≡◌, ◌+◌, ◌<◌, ◌≤◌, ◌⊎◌, ℕ, true, false, Some, Err, List, [], ◌∷◌, length, IfErr}
+use Rattle.std.specs.Prelude.{◌≡◌, ◌+◌, ◌<◌, ◌≤◌, ◌⊎◌, ℕ, true, false, Some, List, length, IfErr}
 use Rattle.jr_word.specs.declared.config.Config.{Config}
 use Rattle.jr_word.specs.declared.kind.Kind.{Kind}
 use Rattle.jr_word.specs.declared.fault.Fault.{Fault}
@@ -9,14 +9,13 @@ use Rattle.jr_model.specs.History.{PassView, state}
 use Rattle.jr_model.specs.declared.frames.TheConstants.{FRAMES}
 use Rattle.jr_model.specs.Frames.{Frames, free_places, popped}
 use Rattle.jr_model.specs.Checks.{is_array, is_primitive, is_text}
-use Rattle.jr_syntax.specs.declared.name.Reference.{Reference}
 use Rattle.jr_syntax.specs.declared.command.Command.{Command}
 use Rattle.jr_syntax.specs.declared.command.Command.TheVariants as commands
 use Rattle.jr_syntax.specs.declared.verb.Make.TheVariants as make
 use Rattle.jr_syntax.specs.declared.verb.MakeFrom.TheVariants as make_from
 use Rattle.jr_syntax.specs.declared.verb.On.TheVariants as on
 use Rattle.jr_syntax.specs.declared.verb.WithCount.TheVariants as with_count
-use Rattle.jr_scripts.specs.Names.{Names, referent}
+use Rattle.jr_scripts.specs.Names.{Names}
 use Rattle.jr_gate.specs.Performing.{Moment}
 use Rattle.jr_scripts.specs.Explains.{Explains, nothing, then}
 use Rattle.jr_scripts.specs.Numbers.{is_number_of}
@@ -97,50 +96,29 @@ abbrev pub LacksWord : State → Command → Type 0
 LacksWord s (commands.StoreAt v r i x) = SomeObject s (λ k n. (is_primitive k ≡ true) × (is_number_of k x ≡ false))
 LacksWord s _ = ⊥
 
--- the references that a command wants
-abbrev pub references_of : Command → List Reference
-references_of (commands.MakeFrom v n r) = r ∷ []
-references_of (commands.On v r) = r ∷ []
-references_of (commands.OnBoth v q r) = q ∷ r ∷ []
-references_of (commands.MakeFilled v n len r) = r ∷ []
-references_of (commands.MakeAt v n r i) = r ∷ []
-references_of (commands.OnAt v r i) = r ∷ []
-references_of (commands.SetAt v r i q) = r ∷ q ∷ []
-references_of (commands.StoreAt v r i x) = r ∷ []
-references_of _ = []
-
--- one of these is a name that stands for a buffer
-abbrev pub SomeBuffer : Names → List Reference → Type 0
-SomeBuffer names [] = ⊥
-SomeBuffer names (r ∷ rs) = (referent names r ≡ Err WrongKind) ⊎ SomeBuffer names rs
-
--- a name of the command stands for a buffer where a reference is wanted
-abbrev pub MixesUp : Names → Command → Type 0
-MixesUp names c = SomeBuffer names (references_of c)
-
 -- no turns were given; `wait` may run out of any
 abbrev pub LacksTurns : ℕ → Command → Type 0
 LacksTurns turns (commands.Make make.Wait n) = Unit {0}
 LacksTurns turns _ = turns ≡ 0
 
--- A LONE THREAD'S REFUSALS of a command, with what the names stood for before it, at a moment of its pass and its frames: a name that stands for nothing or a reference that is not valid; a reference to nothing, of a command that wants an object; a name that stands for a buffer, where a reference is wanted; an object of another kind than the command wants, an array without its index, or one that can't have its number, where there is some such object; frames without room for it or without the frame that it wants, a row where each index is occupied, array space in which its words don't fit, or objects with each number present, each so at that very moment; and turns that ran out. So nobody barred it, raced it or was in its way
-abbrev pub IsAloneFault : ℕ → Names → Command → PassView → Frames → Fault → Type 0
-IsAloneFault turns names c now frames Stale = Unit {0}
-IsAloneFault turns names c now frames Null = WantsObject c
-IsAloneFault turns names c now frames WrongKind = LacksText (state now.seen) c ⊎ MixesUp names c
-IsAloneFault turns names c now frames NotArray = LacksArray (state now.seen) c
-IsAloneFault turns names c now frames WrongElement = LacksElements (state now.seen) c
-IsAloneFault turns names c now frames Range = LacksIndex (state now.seen) c
-IsAloneFault turns names c now frames Value = LacksWord (state now.seen) c
-IsAloneFault turns names c now frames LocalsFull = LacksRoom now.last c frames
-IsAloneFault turns names c now frames RowFull = IsRowFull now.config now.last (state now.seen)
-IsAloneFault turns names c now frames (SpaceFull found) = LacksSpace now.config (state now.seen) found c
-IsAloneFault turns names c now frames ObjectsFull = EachPresent now.config (state now.seen)
-IsAloneFault turns names c now frames NoFrame = LacksFrame c frames
-IsAloneFault turns names c now frames Turns = LacksTurns turns c
-IsAloneFault turns names c now frames _ = ⊥
+-- A LONE THREAD'S REFUSALS of a command, at a moment of its pass and its frames: a name that stands for nothing or a reference that is not valid; a reference to nothing, of a command that wants an object; an object of another kind than the command wants, an array without its index, or one that can't have its number, where there is some such object; frames without room for it or without the frame that it wants, a row where each index is occupied, array space in which its words don't fit, or objects with each number present, each so at that very moment; and turns that ran out. So nobody barred it, raced it or was in its way
+abbrev pub IsAloneFault : ℕ → Command → PassView → Frames → Fault → Type 0
+IsAloneFault turns c now frames Stale = Unit {0}
+IsAloneFault turns c now frames Null = WantsObject c
+IsAloneFault turns c now frames WrongKind = LacksText (state now.seen) c
+IsAloneFault turns c now frames NotArray = LacksArray (state now.seen) c
+IsAloneFault turns c now frames WrongElement = LacksElements (state now.seen) c
+IsAloneFault turns c now frames Range = LacksIndex (state now.seen) c
+IsAloneFault turns c now frames Value = LacksWord (state now.seen) c
+IsAloneFault turns c now frames LocalsFull = LacksRoom now.last c frames
+IsAloneFault turns c now frames RowFull = IsRowFull now.config now.last (state now.seen)
+IsAloneFault turns c now frames (SpaceFull found) = LacksSpace now.config (state now.seen) found c
+IsAloneFault turns c now frames ObjectsFull = EachPresent now.config (state now.seen)
+IsAloneFault turns c now frames NoFrame = LacksFrame c frames
+IsAloneFault turns c now frames Turns = LacksTurns turns c
+IsAloneFault turns c now frames _ = ⊥
 
 -- each answer of the explanation that is a refusal is a lone thread's, at the moment after its command
 abbrev pub AnswersAlone : {turns first : ℕ} {old new : Moment} {commands : List Command} {text : List ℕ} {names : Names} → Explains turns first old commands text new names → Type 0
 AnswersAlone nothing = Unit {0}
-AnswersAlone {turns = turns} (then {new = now} {names = set} c answer before did) = AnswersAlone before × IfErr answer (IsAloneFault turns set c now.pass now.frames)
+AnswersAlone {turns = turns} (then {new = now} c answer before did) = AnswersAlone before × IfErr answer (IsAloneFault turns c now.pass now.frames)

@@ -16,22 +16,14 @@ use Rattle.jr_syntax.specs.declared.verb.MakeFrom.TheVariants as make_from
 use Rattle.jr_syntax.specs.declared.verb.On.TheVariants as on
 use Rattle.jr_syntax.specs.declared.verb.OnBoth.TheVariants as on_both
 use Rattle.jr_syntax.specs.declared.verb.OnName.TheVariants as on_name
-use Rattle.jr_syntax.specs.declared.verb.OnNameAt.TheVariants as on_name_at
-use Rattle.jr_syntax.specs.declared.verb.PutAt.TheVariants as put_at
-use Rattle.jr_syntax.specs.declared.verb.Release.TheVariants as release
 use Rattle.jr_syntax.specs.declared.verb.WithCount.TheVariants as with_count
 use Rattle.jr_syntax.specs.declared.verb.MakeSized.{MakeSized}
 use Rattle.jr_syntax.specs.declared.verb.MakeSized.TheVariants as make_sized
 use Rattle.jr_scripts.specs.declared.reply.Reply.{Reply}
 use Rattle.jr_scripts.specs.declared.reply.Reply.TheVariants as replies
 use Rattle.jr_frames.specs.Reading.{IsReadAs}
-use Rattle.jr_scripts.specs.Names.{Names, buffer_in, getting, putting, referent, standing, wanted}
-use Rattle.jr_env.specs.Deeds.{Deed, decided, done, new_plain, new_array, new_object_array, new_string, new_reference, new_local_ref, delete_reference, delete_local_ref, is_same_object, get_object_ref_type, push_local_frame, ensure_local_capacity, pop_local_frame, kind_of, get_array_length, get_string_length, get_object_array_element, set_object_array_element, get_array_region, set_array_region, get_array_elements, get_string_chars, release_array_elements, ◌>>=◌, ◌>>◌}
-use Rattle.jr_elements.specs.Copies.{answer_in}
-use Rattle.jr_model.specs.declared.frames.Mode.{Mode}
-use Rattle.jr_scripts.specs.declared.standing.Standing.{Standing}
-use Rattle.jr_scripts.specs.declared.standing.Standing.TheVariants as stands
-use Rattle.jr_scripts.specs.Buffers.{copy_of}
+use Rattle.jr_scripts.specs.Names.{Names, referent, wanted}
+use Rattle.jr_env.specs.Deeds.{Deed, decided, done, new_plain, new_array, new_object_array, new_string, new_reference, new_local_ref, delete_reference, delete_local_ref, is_same_object, get_object_ref_type, push_local_frame, ensure_local_capacity, pop_local_frame, kind_of, get_array_length, get_string_length, get_object_array_element, set_object_array_element, get_array_region, set_array_region, ◌>>=◌, ◌>>◌}
 use Rattle.jr_scripts.specs.Posting.{IsAwaited}
 use Rattle.jr_scripts.specs.Tries.{Tried}
 use Rattle.jr_scripts.specs.Numbers.{has_numbers, word_of_number, first_number}
@@ -62,26 +54,12 @@ module _ (turns : ℕ) where
     h ← tried one
     done (replies.Made (Some h))
 
-  -- a copy of the elements of an array of a kind
-  abbrev pub copying_as : ℕ → Kind → Deed Reply
-  copying_as w k = do
-    words ← tried (get_array_elements k w)
-    done (replies.Copied (copy_of k words))
-
-  -- a copy of the elements of the array that a word names: a call for its kind, and one that copies
-  abbrev pub copying : ℕ → Deed Reply
-  copying w = do
-    k ← tried (kind_of w)
-    decided (has_numbers k)
-    copying_as w k
-
   -- what is made from what a word names
   abbrev pub making_from : MakeFrom → ℕ → Deed Reply
   making_from make_from.Global w = makes_reference (new_reference Global w)
   making_from make_from.Weak w = makes_reference (new_reference Weak w)
   making_from make_from.Local w = makes_reference (new_local_ref w)
   making_from make_from.Pop w = makes_reference (pop_local_frame w)
-  making_from make_from.Elements w = copying w
 
   -- the delete call of the kind
   abbrev pub deleted_of : RefKind → ℕ → Deed (Unit {0})
@@ -129,14 +107,6 @@ module _ (turns : ℕ) where
     decided (has_numbers k)
     storing_as w i v k
 
--- the buffer that stands there is released to the array that a word names
-abbrev pub releasing : ℕ → Mode → Standing → Deed Reply
-releasing w mode stands.Nothing = decided (Err fault.Stale)
-releasing w mode (stands.Reference h) = decided (Err fault.WrongKind)
-releasing w mode (stands.Buffer b) = do
-  release_array_elements b.kind w b.words mode
-  done replies.Done
-
 -- some word that is posted, or the turns ran out; neither an event nor a step
 abbrev pub awaited : Deed Reply
 awaited old answer new = IsAwaited answer × (new ≡ old)
@@ -158,8 +128,7 @@ module _ (turns : ℕ) (names : Names) where
     deletion turns w.0
     done replies.Done
   deed (commands.On on.Type r) = do
-    h ← decided (referent names r)
-    n ← type_of turns h
+    n ← type_of turns (referent names r)
     done (replies.Type n)
   deed (commands.On on.Len r) = do
     w ← the_reference r
@@ -169,10 +138,6 @@ module _ (turns : ℕ) (names : Names) where
     w ← the_reference r
     n ← tried turns (get_string_length w.0)
     done (replies.Length n)
-  deed (commands.On on.Chars r) = do
-    w ← the_reference r
-    units ← tried turns (get_string_chars w.0)
-    done (replies.Units units)
   deed (commands.OnBoth on_both.Same q r) = do
     v ← the_reference q
     w ← the_reference r
@@ -204,10 +169,3 @@ module _ (turns : ℕ) (names : Names) where
   deed (commands.StoreAt v r i x) = do
     w ← the_reference r
     storing turns w.0 i x
-  deed (commands.OnNameAt on_name_at.Get n i) = decided (answer_in (λ x. replies.Value x) (getting i (standing names n)))
-  deed (commands.PutAt put_at.Put n i x) = decided (answer_in (λ _. replies.Done) (putting i x (standing names n)))
-  deed (commands.Release release.Elements n r mode) = do
-    b ← decided (buffer_in (standing names n))
-    w ← the_reference r
-    tried turns (release_array_elements b.kind w.0 b.words mode)
-    done replies.Done

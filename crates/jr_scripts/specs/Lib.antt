@@ -1,4 +1,3 @@
-pub mod Buffers
 pub mod Names
 pub mod Posting
 pub mod Tries

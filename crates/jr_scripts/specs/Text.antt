@@ -1,5 +1,5 @@
 -- What commands print, and the names that they set.
-use Rattle.std.specs.Prelude.{ℕ, Bool, true, false, Option, Some, None, List, [], ◌∷◌, ◌++◌, map, Result, Ok, Err, codes}
+use Rattle.std.specs.Prelude.{ℕ, Bool, true, false, Option, Some, None, List, [], ◌∷◌, ◌++◌, Result, Ok, Err, codes}
 use Rattle.std.specs.Fmt.{decimal, signed_decimal}
 use Rattle.jr_word.specs.declared.fault.Fault.{Fault}
 use Rattle.jr_word.specs.declared.fault.Fault.TheVariants as fault
@@ -9,20 +9,12 @@ use Rattle.jr_model.specs.declared.summary.Summary.{Summary}
 use Rattle.jr_syntax.specs.Line.{line as words_line}
 use Rattle.jr_syntax.specs.Reference.{reference_word}
 use Rattle.jr_syntax.specs.Command.{verb_word}
-use Rattle.jr_syntax.specs.declared.verb.Verb.TheVariants.{MakeFrom, On, OnBoth, MakeAt, OnAt, OnNameAt}
-use Rattle.jr_syntax.specs.declared.verb.PutAt.TheVariants as put_at
-use Rattle.jr_syntax.specs.declared.verb.Release.TheVariants as release
+use Rattle.jr_syntax.specs.declared.verb.Verb.TheVariants.{MakeFrom, On, OnBoth, MakeAt, OnAt}
 use Rattle.jr_syntax.specs.declared.command.Command.{Command}
 use Rattle.jr_syntax.specs.declared.command.Command.TheVariants as commands
 use Rattle.jr_scripts.specs.declared.reply.Reply.{Reply}
 use Rattle.jr_scripts.specs.declared.reply.Reply.TheVariants as replies
-use Rattle.jr_model.specs.declared.frames.Mode.{Mode}
-use Rattle.jr_model.specs.declared.frames.Mode.TheVariants.{Commit}
-use Rattle.jr_scripts.specs.declared.standing.Standing.{Standing}
-use Rattle.jr_scripts.specs.declared.standing.Standing.TheVariants.{Nothing, Reference, Buffer}
-use Rattle.jr_elements.specs.Copies.{kept}
-use Rattle.jr_scripts.specs.Buffers.{Copied}
-use Rattle.jr_scripts.specs.Names.{Names, putting, standing, with_name, null}
+use Rattle.jr_scripts.specs.Names.{Names, with_name, null}
 
 -- a line of words with its line feed
 abbrev pub text_line : List (List ℕ) → List ℕ
@@ -38,11 +30,9 @@ abbrev pub says : Command → Reply → List ℕ
 says (commands.MakeFrom v n r) (replies.Made None) = text_line (verb_word (MakeFrom v) ∷ n ∷ codes "null" ∷ [])
 says (commands.On v r) (replies.Type t) = text_line (verb_word (On v) ∷ reference_word r ∷ decimal t ∷ [])
 says (commands.On v r) (replies.Length n) = text_line (verb_word (On v) ∷ reference_word r ∷ decimal n ∷ [])
-says (commands.On v r) (replies.Units units) = text_line (verb_word (On v) ∷ reference_word r ∷ map decimal units)
 says (commands.OnBoth v q r) (replies.Same same) = text_line (verb_word (OnBoth v) ∷ reference_word q ∷ reference_word r ∷ verdict same ∷ [])
 says (commands.MakeAt v n r i) (replies.Made None) = text_line (verb_word (MakeAt v) ∷ n ∷ codes "null" ∷ [])
 says (commands.OnAt v r i) (replies.Value x) = text_line (verb_word (OnAt v) ∷ reference_word r ∷ decimal i ∷ signed_decimal x ∷ [])
-says (commands.OnNameAt v n i) (replies.Value x) = text_line (verb_word (OnNameAt v) ∷ n ∷ decimal i ∷ signed_decimal x ∷ [])
 says _ _ = []
 
 -- a number that stands behind the fault's
@@ -75,44 +65,13 @@ reference_made None = null
 reference_made (Some h) = h
 
 abbrev pub names_with : Option (List ℕ) → Reply → Names → Names
-names_with (Some n) (replies.Made h) names = with_name names n (Reference (reference_made h))
-names_with (Some n) (replies.Copied b) names = with_name names n (Buffer b)
+names_with (Some n) (replies.Made h) names = with_name names n (reference_made h)
 names_with _ _ names = names
 
--- the names once a command set its name: one that makes something sets it, and a refused one sets nothing
-abbrev pub names_set : Command → Result Reply Fault → Names → Names
-names_set c (Ok reply) names = names_with (sets c) reply names
-names_set c (Err e) names = names
-
--- the names where a number was made an element of a buffer, or wasn't
-abbrev pub names_put : List ℕ → Result Copied Fault → Names → Names
-names_put n (Ok b) names = with_name names n (Buffer b)
-names_put n (Err e) names = names
-
--- what a release by mode leaves of what stands there: itself where the mode is to commit, and else nothing
-abbrev pub released : Mode → Standing → Standing
-released Commit s = s
-released mode s = Nothing
-
--- the elements that an answered release leaves, if any: a refused one leaves them as they were
-abbrev pub elements_left : {A : Type 0} → Mode → Result Reply Fault → A → Option A
-elements_left mode (Ok reply) x = kept mode x
-elements_left mode (Err e) x = Some x
-
--- what an answered release leaves of it: a refused one leaves it as it was
-abbrev pub left_by : Mode → Result Reply Fault → Standing → Standing
-left_by mode (Ok reply) s = released mode s
-left_by mode (Err e) s = s
-
--- what a command changes in a buffer: `eput` an element, and `release` gives the buffer up, unless its mode is to commit; a refused one changes nothing
-abbrev pub buffers_after : Command → Result Reply Fault → Names → Names
-buffers_after (commands.PutAt put_at.Put n i x) (Ok reply) names = names_put n (putting i x (standing names n)) names
-buffers_after (commands.Release release.Elements n r mode) (Ok reply) names = with_name names n (released mode (standing names n))
-buffers_after c answer names = names
-
--- THE NAMES after a command
+-- THE NAMES after a command: a command that makes something sets its name, and a refused one sets nothing
 abbrev pub names_after : Command → Result Reply Fault → Names → Names
-names_after c answer names = names_set c answer (buffers_after c answer names)
+names_after c (Ok reply) names = names_with (sets c) reply names
+names_after c (Err e) names = names
 
 -- the line before a thread's lines
 abbrev pub heading : List ℕ → List ℕ

@@ -4,9 +4,6 @@
 mod all;
 mod ask;
 mod board;
-mod buffer;
-mod copy_call;
-mod copy_commands;
 mod element;
 mod env_call;
 mod hold;
@@ -24,7 +21,6 @@ mod retry;
 mod run;
 mod runnable;
 mod single;
-mod standing;
 mod starting;
 mod to_end;
 

@@ -1,6 +1,5 @@
 //! The calls that a command makes.
 
-ghost use Rattle.std.specs.Prelude.{◌≡◌};
 ghost use Rattle.jr_syntax.specs.declared.command.Command.TheVariants as commands;
 ghost use Rattle.jr_syntax.specs.declared.verb.OnBoth.TheVariants.{Same};
 ghost use Rattle.jr_syntax.specs.declared.verb.SetAt.TheVariants.{Set};
@@ -8,12 +7,9 @@ ghost use Rattle.jr_scripts.specs.declared.reply.Reply.TheVariants as replies;
 ghost use Rattle.jr_env.specs.Deeds.{answered_by};
 ghost use Rattle.jr_env.specs.Envs.{WasDone, IsOutside};
 ghost use Rattle.jr_scripts.specs.Commands.{deletion, type_of as type_deed, making_from, deed};
-ghost use Rattle.jr_scripts.specs.Text.{buffers_after};
 
 use crate::ask::ask;
 use crate::board::Board;
-use crate::copy_call::GetStringChars;
-use crate::copy_commands::{copy, get, put, release};
 use crate::element::{load, store};
 use crate::env_call::{
     DeleteGlobalRef, DeleteLocalRef, DeleteWeakGlobalRef, EnsureLocalCapacity, GetObjectRefType,
@@ -32,7 +28,6 @@ use jr_frames::Reference;
 use jr_steps::Steps;
 use jr_syntax::{Command, Make, MakeFrom, On, Reference as Target, WithCount};
 use jr_word::{Fault, Handle, RefKind};
-use std::alloc::Global;
 
 /// Deletes a reference by the call of its kind.
 fn delete<S: Steps>(env: &mut Env<S>, turns: u64, handle: Handle) -> Result<Reply, Fault>
@@ -63,7 +58,6 @@ fn type_of<S: Steps>(env: &mut Env<S>, turns: u64, referent: Option<Handle>) -> 
 
 /// Makes something from what a reference names.
 fn make_from<S: Steps>(
-    alloc: Global,
     env: &mut Env<S>,
     turns: u64,
     verb: MakeFrom,
@@ -77,13 +71,11 @@ fn make_from<S: Steps>(
         MakeFrom::Weak => ask(env, turns, &NewWeakGlobalRef(target)),
         MakeFrom::Local => ask(env, turns, &NewLocalRef(target)),
         MakeFrom::Pop => ask(env, turns, &PopLocalFrame(target)),
-        MakeFrom::Elements => copy(alloc, env, turns, target),
     }
 }
 
 /// Makes the calls of a command on a reference.
 fn on<S: Steps>(
-    alloc: Global,
     env: &mut Env<S>,
     names: &Names,
     turns: u64,
@@ -95,10 +87,9 @@ fn on<S: Steps>(
 {
     match verb {
         On::Drop => delete(env, turns, names.wanted(target)?),
-        On::Type => type_of(env, turns, names.referent(target)?),
+        On::Type => type_of(env, turns, names.referent(target)),
         On::Len => ask(env, turns, &GetArrayLength(names.wanted(target)?)),
         On::TextLength => ask(env, turns, &GetStringLength(names.wanted(target)?)),
-        On::Chars => ask(env, turns, &GetStringChars(alloc, names.wanted(target)?)),
     }
 }
 
@@ -135,18 +126,16 @@ fn same<S: Steps>(
     ask(env, turns, &IsSameObject(left, right))
 }
 
-/// Makes the calls of a command, and changes the buffer that it changes; commands about the board or a buffer alone make none.
+/// Makes the calls of a command; `post` and `wait` make none.
 pub fn perform<S: Steps, B: Board>(
-    alloc: Global,
     env: &mut Env<S>,
-    names: &mut Names,
+    names: &Names,
     board: &B,
     turns: u64,
     command: &Command,
 ) -> Result<Reply, Fault>
     requires { IsOutside env.old }
-    ensures does { WasDone env.old env.new (deed turns names.old command.now) result }
-    ensures names { names.new ≡ buffers_after command.now result names.old }
+    ensures { WasDone env.old env.new (deed turns names.now command.now) result }
 {
     match command {
         Command::Make { verb, name } => match verb {
@@ -154,9 +143,9 @@ pub fn perform<S: Steps, B: Board>(
             Make::Wait => wait(board, name, turns),
         },
         Command::MakeFrom { verb, target, .. } => {
-            make_from(alloc, env, turns, *verb, names.wanted(target)?)
+            make_from(env, turns, *verb, names.wanted(target)?)
         }
-        Command::On { verb, target } => on(alloc, env, names, turns, *verb, target),
+        Command::On { verb, target } => on(env, names, turns, *verb, target),
         Command::OnBoth { left, right, .. } => same(env, names, turns, left, right),
         Command::OnName { name, .. } => Ok(post(board, names, name)),
         Command::WithCount { verb, count } => match verb {
@@ -186,18 +175,5 @@ pub fn perform<S: Steps, B: Board>(
             value,
             ..
         } => { store(env, turns, names.wanted(target)?, *index, *value) }
-        Command::OnNameAt { name, index, .. } => get(names, name, *index),
-        Command::PutAt {
-            name,
-            index,
-            value,
-            ..
-        } => put(names, name, *index, *value),
-        Command::Release {
-            name,
-            target,
-            mode,
-            ..
-        } => { release(env, names, turns, name, target, *mode) }
     }
 }

@@ -11,13 +11,13 @@ use jr_syntax::Name;
 use jr_word::{Fault, Handle};
 use std::thread;
 
-/// The word that is posted for a name: that of the reference it stands for, 0 where it stands for nothing or for a buffer.
+/// The word that is posted for a name: that of the reference it stands for, 0 where it stands for nothing.
 fn word_posted(names: &Names, name: &Name) -> u64
     ensures { result ≡ posted names.now name.now }
 {
-    match names.reference(name) {
-        Ok(Some(handle)) => handle.0,
-        _ => 0,
+    match names.standing(name) {
+        Some(handle) => handle.0,
+        None => 0,
     }
 }
 

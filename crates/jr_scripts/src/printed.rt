@@ -1,7 +1,6 @@
 //! What commands print.
 
-ghost use Rattle.std.specs.Prelude.{◌≡◌, ◌∷◌, ◌++◌, [], map, IfOk, OnOk, codes};
-ghost use Rattle.std.specs.Fmt.{decimal, signed_decimal};
+ghost use Rattle.std.specs.Prelude.{◌≡◌, ◌∷◌, ◌++◌, [], IfOk, OnOk, codes};
 ghost use Rattle.jr_scripts.specs.Text.{text_line, verdict, says as what_is_said, refused as refusal, printed as text_printed, heading as text_heading, ending as text_ending};
 
 use crate::reply::Reply;
@@ -53,40 +52,6 @@ fn line_of_four(
     Ok(text)
 }
 
-/// The line of an element at an index.
-fn line_of_element(
-    alloc: Global,
-    word: &[u8],
-    subject: &[u8],
-    index: u32,
-    value: i64,
-) -> Result<Vec<u8>, AllocError>
-    ensures { IfOk result (λ text. text.items ≡ text_line (word.now ∷ subject.now ∷ decimal index ∷ signed_decimal value ∷ [])) }
-{
-    let index = index.to_string(alloc)?;
-    let value = value.to_string(alloc)?;
-    line_of_four(alloc, word, subject, index.as_bytes(), value.as_bytes())
-}
-
-/// The line of the units of a string.
-fn line_of_units(
-    alloc: Global,
-    word: &[u8],
-    subject: &[u8],
-    units: &[u16],
-) -> Result<Vec<u8>, AllocError>
-    ensures { IfOk result (λ text. text.items ≡ text_line (word.now ∷ subject.now ∷ map decimal units.now)) }
-{
-    let mut text = Vec::from_slice(alloc, word)?;
-    add_word(&mut text, subject)?;
-    for unit in units {
-        let unit = unit.to_string(alloc)?;
-        add_word(&mut text, unit.as_bytes())?;
-    }
-    text.push(b'\n')?;
-    Ok(text)
-}
-
 /// The word of an answer.
 fn word_of(answer: bool) -> &'static [u8]
     ensures { result.now ≡ verdict answer }
@@ -95,8 +60,8 @@ fn word_of(answer: bool) -> &'static [u8]
 }
 
 /// What is printed for a command that was not refused.
-fn says(alloc: Global, command: &Command, reply: &Reply) -> Result<Vec<u8>, AllocError>
-    ensures { IfOk result (λ text. text.items ≡ what_is_said command.now reply.now) }
+fn says(alloc: Global, command: &Command, reply: Reply) -> Result<Vec<u8>, AllocError>
+    ensures { IfOk result (λ text. text.items ≡ what_is_said command.now reply) }
 {
     match (command, reply) {
         (Command::MakeFrom { verb, name, .. }, Reply::Made(None)) => {
@@ -113,12 +78,9 @@ fn says(alloc: Global, command: &Command, reply: &Reply) -> Result<Vec<u8>, Allo
             let length = length.to_string(alloc)?;
             line_of_three(alloc, word, target.word(), length.as_bytes())
         }
-        (Command::On { verb, target }, Reply::Units(units)) => {
-            line_of_units(alloc, Verb::On(*verb).word(), target.word(), &units.units)
-        }
         (Command::OnBoth { verb, left, right }, Reply::Same(same)) => {
             let word = Verb::OnBoth(*verb).word();
-            line_of_four(alloc, word, left.word(), right.word(), word_of(*same))
+            line_of_four(alloc, word, left.word(), right.word(), word_of(same))
         }
         (Command::MakeAt { verb, name, .. }, Reply::Made(None)) => {
             let word = Verb::MakeAt(*verb).word();
@@ -133,11 +95,10 @@ fn says(alloc: Global, command: &Command, reply: &Reply) -> Result<Vec<u8>, Allo
             Reply::Value(value),
         ) => {
             let word = Verb::OnAt(*verb).word();
-            line_of_element(alloc, word, target.word(), *index, *value)
-        }
-        (Command::OnNameAt { verb, name, index }, Reply::Value(value)) => {
-            let word = Verb::OnNameAt(*verb).word();
-            line_of_element(alloc, word, name.as_slice(), *index, *value)
+            let index = index.to_string(alloc)?;
+            let value = value.to_string(alloc)?;
+            let (index, value) = (index.as_bytes(), value.as_bytes());
+            line_of_four(alloc, word, target.word(), index, value)
         }
         _ => Ok(Vec::new(alloc)),
     }
@@ -160,13 +121,13 @@ pub fn printed(
     alloc: Global,
     line: usize,
     command: &Command,
-    answer: &Result<Reply, Fault>,
+    answer: Result<Reply, Fault>,
 ) -> Result<Vec<u8>, AllocError>
-    ensures { IfOk result (λ text. text.items ≡ text_printed line command.now answer.now) }
+    ensures { IfOk result (λ text. text.items ≡ text_printed line command.now answer) }
 {
     match answer {
         Ok(reply) => says(alloc, command, reply),
-        Err(fault) => refused(alloc, line, *fault),
+        Err(fault) => refused(alloc, line, fault),
     }
 }
 

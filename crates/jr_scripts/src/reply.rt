@@ -2,12 +2,10 @@
 
 ghost use Rattle.std.specs.Prelude.{◌≡◌};
 
-use crate::buffer::Buffer;
 use jr_word::Handle;
-use std::marker::Model;
 
 /// What a command that was not refused is answered.
-#[derive(Drop)]
+#[derive(Clone, Copy, Debug, PartialEq, Eq)]
 pub enum Reply {
     /// The command was done, and made nothing.
     Done,
@@ -21,25 +19,6 @@ pub enum Reply {
     Length(u32),
     /// The number that an element is.
     Value(i64),
-    /// The elements of an array were copied.
-    Copied(Buffer),
-    /// The units of a string.
-    Units(CopiedUnits),
-}
-
-/// The units of a string, copied. A contract sees the list.
-#[derive(Drop)]
-pub struct CopiedUnits {
-    /// The units.
-    pub units: Vec<u16>,
-}
-
-impl Model for CopiedUnits {
-    ghost use Rattle.std.specs.Prelude.{ℕ, List};
-
-    ghost Value = { List ℕ };
-
-    ghost view = { λ u. u.units.items };
 }
 
 /// What a call answers, which is a reply to the command that made it.
@@ -121,25 +100,5 @@ impl IntoReply for i64 {
 
     fn into_reply(self) -> Reply {
         Reply::Value(self)
-    }
-}
-
-impl IntoReply for Buffer {
-    ghost use Rattle.jr_scripts.specs.declared.reply.Reply.TheVariants.{Copied};
-
-    ghost reply = { λ b. Copied b };
-
-    fn into_reply(self) -> Reply {
-        Reply::Copied(self)
-    }
-}
-
-impl IntoReply for CopiedUnits {
-    ghost use Rattle.jr_scripts.specs.declared.reply.Reply.TheVariants.{Units};
-
-    ghost reply = { λ units. Units units };
-
-    fn into_reply(self) -> Reply {
-        Reply::Units(self)
     }
 }

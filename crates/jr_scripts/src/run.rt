@@ -3,7 +3,7 @@
 ghost use Rattle.std.specs.Prelude.{◌≡◌, ◌++◌, ◌+◌, ◌<◌, ◌^◌, List, ℕ, IfErr, OnOk, MatchOption, Some, None, length};
 ghost use Rattle.jr_word.specs.declared.fault.Fault.TheVariants.{Memory};
 ghost use Rattle.jr_env.specs.Envs.{IsOutside};
-ghost use Rattle.jr_scripts.specs.Text.{sets, names_set};
+ghost use Rattle.jr_scripts.specs.Text.{sets, names_after};
 ghost use Rattle.jr_scripts.specs.Runs.{RanThread, WritesDown};
 
 use crate::board::Board;
@@ -12,7 +12,6 @@ use crate::names::Names;
 use crate::perform::perform;
 use crate::printed::printed;
 use crate::reply::Reply;
-use crate::standing::Standing;
 use jr_env::Env;
 use jr_steps::Steps;
 use jr_syntax::{Command, Name};
@@ -40,17 +39,15 @@ fn settle(
     command: &Command,
     answer: Result<Reply, Fault>,
 ) -> Result<(), AllocError>
-    ensures { OnOk result (names.new ≡ names_set command.now answer names.old) }
+    ensures { OnOk result (names.new ≡ names_after command.now answer names.old) }
 {
-    let standing = match answer {
-        Ok(Reply::Made(handle)) => Standing::Reference(handle.unwrap_or(Handle::NULL)),
-        Ok(Reply::Copied(buffer)) => Standing::Buffer(buffer),
-        _ => return Ok(()),
+    let Ok(Reply::Made(handle)) = answer else {
+        return Ok(());
     };
     let Some(name) = set_by(command) else {
         return Ok(());
     };
-    names.set(name, standing)
+    names.set(name, handle.unwrap_or(Handle::NULL))
 }
 
 /// Writes the line of a command, and sets its name.
@@ -64,7 +61,7 @@ fn record(
 ) -> Result<(), AllocError>
     ensures { WritesDown line command.now answer names.old names.new result out.old.items out.new.items }
 {
-    let text = printed(alloc, line, command, &answer)?;
+    let text = printed(alloc, line, command, answer)?;
     settle(names, command, answer)?;
     out.extend_from_slice(&text)?;
     Ok(())
@@ -95,7 +92,7 @@ pub fn run_thread<S: Steps, B: Board, H: Hold>(
     for (i, command) in commands.iter().enumerate() {
         let line = first + i;
         hold.before(env.held.steps.thread(), line);
-        let answer = perform(alloc, env, &mut names, board, turns, command);
+        let answer = perform(env, &names, board, turns, command);
         hold.after(env.held.steps.thread(), line);
         let Ok(()) = record(alloc, &mut names, line, command, answer, out) else {
             return Err(Fault::Memory);

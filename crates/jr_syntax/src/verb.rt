@@ -23,8 +23,6 @@ pub enum MakeFrom {
     Local,
     /// `pop`: a local reference in the frame below, once the newest frame is taken away.
     Pop,
-    /// `elems`: a copy of an array's elements.
-    Elements,
 }
 
 /// A verb with a reference behind it.
@@ -38,8 +36,6 @@ pub enum On {
     Len,
     /// `slen`: prints how many units a string has.
     TextLength,
-    /// `chars`: prints the units of a string.
-    Chars,
 }
 
 /// A verb with two references behind it.
@@ -124,27 +120,6 @@ pub enum StoreAt {
     Store,
 }
 
-/// A verb with a name and an index behind it: it is about an element of what the name stands for.
-#[derive(Clone, Copy, Debug, PartialEq, Eq)]
-pub enum OnNameAt {
-    /// `eget`: prints the element at the index of copied elements.
-    Get,
-}
-
-/// A verb with a name, an index and a value behind it: it changes what the name stands for.
-#[derive(Clone, Copy, Debug, PartialEq, Eq)]
-pub enum PutAt {
-    /// `eput`: makes the value the element at the index of copied elements.
-    Put,
-}
-
-/// A verb with a name, a reference and a mode behind it: it hands back to what the reference names what the name stands for.
-#[derive(Clone, Copy, Debug, PartialEq, Eq)]
-pub enum Release {
-    /// `release`: hands copied elements back to their array.
-    Elements,
-}
-
 /// A verb of any shape.
 #[derive(Clone, Copy)]
 pub enum Verb {
@@ -174,27 +149,19 @@ pub enum Verb {
     SetAt(SetAt),
     /// With a reference, an index and a value.
     StoreAt(StoreAt),
-    /// With a name that it does not set, and an index.
-    OnNameAt(OnNameAt),
-    /// With a name that it does not set, an index and a value.
-    PutAt(PutAt),
-    /// With a name, a reference and a mode.
-    Release(Release),
 }
 
-const VERBS: [Verb; 31] = [
+const VERBS: [Verb; 26] = [
     Verb::Make(Make::Plain),
     Verb::Make(Make::Wait),
     Verb::MakeFrom(MakeFrom::Global),
     Verb::MakeFrom(MakeFrom::Weak),
     Verb::MakeFrom(MakeFrom::Local),
     Verb::MakeFrom(MakeFrom::Pop),
-    Verb::MakeFrom(MakeFrom::Elements),
     Verb::On(On::Drop),
     Verb::On(On::Type),
     Verb::On(On::Len),
     Verb::On(On::TextLength),
-    Verb::On(On::Chars),
     Verb::OnBoth(OnBoth::Same),
     Verb::OnName(OnName::Post),
     Verb::WithCount(WithCount::Push),
@@ -211,9 +178,6 @@ const VERBS: [Verb; 31] = [
     Verb::OnAt(OnAt::Load),
     Verb::SetAt(SetAt::Set),
     Verb::StoreAt(StoreAt::Store),
-    Verb::OnNameAt(OnNameAt::Get),
-    Verb::PutAt(PutAt::Put),
-    Verb::Release(Release::Elements),
 ];
 
 impl Verb {
@@ -228,12 +192,10 @@ impl Verb {
             Verb::MakeFrom(MakeFrom::Weak) => b"weak",
             Verb::MakeFrom(MakeFrom::Local) => b"local",
             Verb::MakeFrom(MakeFrom::Pop) => b"pop",
-            Verb::MakeFrom(MakeFrom::Elements) => b"elems",
             Verb::On(On::Drop) => b"drop",
             Verb::On(On::Type) => b"type",
             Verb::On(On::Len) => b"len",
             Verb::On(On::TextLength) => b"slen",
-            Verb::On(On::Chars) => b"chars",
             Verb::OnBoth(OnBoth::Same) => b"same",
             Verb::OnName(OnName::Post) => b"post",
             Verb::WithCount(WithCount::Push) => b"push",
@@ -250,9 +212,6 @@ impl Verb {
             Verb::OnAt(OnAt::Load) => b"load",
             Verb::SetAt(SetAt::Set) => b"set",
             Verb::StoreAt(StoreAt::Store) => b"store",
-            Verb::OnNameAt(OnNameAt::Get) => b"eget",
-            Verb::PutAt(PutAt::Put) => b"eput",
-            Verb::Release(Release::Elements) => b"release",
         }
     }
 

@@ -1,0 +1,7 @@
+pub mod KnownLevels
+pub mod LevelFound
+pub mod Reaching
+pub mod LevelElements
+pub mod Closing
+pub mod Nesting
+pub mod Opening

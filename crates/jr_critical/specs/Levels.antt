@@ -1,0 +1,122 @@
+-- The levels of a critical region, over any steps and frames, for whatever was known.
+use Rattle.std.specs.Prelude.{◌≡◌, ◌≤◌, ◌++◌, ◌∷◌, ℕ, Option, Some, None, Result, Ok, Err, List, [], map, length, slice_index_or}
+use Rattle.std.specs.List.{AllByRecursion}
+use Rattle.jr_word.specs.declared.config.Config.{Config}
+use Rattle.jr_word.specs.declared.fault.Fault.{Fault}
+use Rattle.jr_word.specs.declared.kind.Kind.{Kind}
+use Rattle.jr_word.specs.declared.kind.Kind.TheVariants.{Plain}
+use Rattle.jr_model.specs.declared.event.Role.{Role}
+use Rattle.jr_model.specs.declared.event.Role.TheVariants.{Outside, Within}
+use Rattle.jr_model.specs.State.{State}
+use Rattle.jr_model.specs.Frames.{Frames}
+use Rattle.jr_model.specs.Calls.{Call}
+use Rattle.jr_model.specs.Checks.{Word}
+use Rattle.jr_model.specs.Objects.{region_kind, region_length, region_release}
+use Rattle.jr_steps.specs.declared.known.Known.{Known}
+use Rattle.jr_steps.specs.Knowing.{Facts, Leads, MayKnow, state_of, keeps, lets_go, Holds}
+use Rattle.jr_gate.specs.Performing.{IsAsBefore, IsMade, Performed, moment}
+use Rattle.jr_gate.specs.Stays.{IsOwnStay}
+use Rattle.jr_heap.specs.Heap.{HoldsHeader, Learns}
+use Rattle.jr_frames.specs.Reading.{IsReadAs}
+use Rattle.jr_frames.specs.Ready.{StandsReady}
+use Rattle.jr_frames.specs.Table.{Table}
+use Rattle.jr_critical.specs.declared.level.Level.{Level}
+use Rattle.jr_critical.specs.declared.levels.Levels.{Levels}
+
+-- the objects of the levels, the first first
+abbrev pub objects_of : Levels → List ℕ
+objects_of v = map (λ (l : Level). l.object) v.levels.items
+
+-- the level of a number, one of no object beyond the last
+abbrev pub level_at : Levels → ℕ → Level
+level_at v i = slice_index_or v.levels.items i (record { object = 0; header = record { kind = Plain; length = 0; place = 0 } })
+
+-- its object
+abbrev pub object_at : Levels → ℕ → ℕ
+object_at v i = (level_at v i).object
+
+-- the pass knows the header of each level
+abbrev pub AreKnown : List Level → Known → Type 0
+AreKnown levels k = AllByRecursion (λ (l : Level). HoldsHeader l.object l.header k) levels
+
+-- it does, and the frames are those of the thread's locals
+abbrev pub Knows : Levels → Frames → Known → Type 0
+Knows v f k = AreKnown v.levels.items k × Holds f k
+
+-- an element as its word
+abbrev pub in_words : {E : Type 0} → (E → ℕ) → Result E Fault → Result ℕ Fault
+in_words word (Ok x) = Ok (word x)
+in_words word (Err e) = Err e
+
+-- a region that was opened, as the call answers it
+abbrev pub object_opened : Result Levels Fault → Result ℕ Fault
+object_opened (Ok v) = Ok (object_at v 0)
+object_opened (Err e) = Err e
+
+-- the thread is within where the region was opened, and outside where it was refused
+abbrev pub role_opened : Result Levels Fault → Role
+role_opened (Ok v) = Within
+role_opened (Err e) = Outside
+
+-- the pass holds the header of the first level beside what it held, and nothing where the region was refused
+abbrev pub LearnsFirst : Result Levels Fault → Known → Known → Type 0
+LearnsFirst (Ok v) j k = AreKnown v.levels.items k × Learns (level_at v 0).object (level_at v 0).header j k
+LearnsFirst (Err e) j k = lets_go j k
+
+-- a new level, as the call answers it: its number, and the objects then
+abbrev pub level_nested : Result ℕ Fault → Levels → Result (ℕ × List ℕ) Fault
+level_nested (Ok n) v = Ok (n, objects_of v)
+level_nested (Err e) v = Err e
+
+-- the thread is within while a level is left, and outside then
+abbrev pub role_left : Option Levels → Role
+role_left (Some v) = Within
+role_left None = Outside
+
+-- the pass holds what it held while a level is left, and nothing then
+abbrev pub HoldsLeft : Option Levels → Known → Known → Type 0
+HoldsLeft (Some v) j k = AreKnown v.levels.items k × keeps j k
+HoldsLeft None j k = lets_go j k
+
+-- the levels that are left are all but the last: none where there was one alone
+abbrev pub LeavesBefore : Levels → Option Levels → Type 0
+LeavesBefore v (Some w) = (l : Level) × (v.levels.items ≡ w.levels.items ++ l ∷ [])
+LeavesBefore v None = length (objects_of v) ≡ 1
+
+-- whatever is known with the headers of the levels: this is the kind of the level's object still
+abbrev pub TellsKind : Levels → ℕ → Kind → Type 0
+TellsKind v i kind = (c : Config) (last t : ℕ) (k : Known) (f : Frames) → AreKnown v.levels.items k → region_kind c last t (state_of k) (object_at v i) f [] (Ok kind) f
+
+-- and this is its length
+abbrev pub TellsLength : Levels → ℕ → ℕ → Type 0
+TellsLength v i n = (c : Config) (last t : ℕ) (k : Known) (f : Frames) → AreKnown v.levels.items k → region_length c last t (state_of k) (object_at v i) f [] (Ok n) f
+
+module _ {S : Type 0} (facts : S → Facts) where
+  -- THE LEVELS STAND over these steps and frames: the stay is the steps' own, there is a level at least, the thread stands ready within, and something that may be known has each level's header and agrees with the frames
+  pub record Stand (v : Levels) (s : S) (t : Table) : Type 0 where
+    pub stay : IsOwnStay v.inside (facts s).stands
+    pub ready : StandsReady facts Within s t
+    pub some : 1 ≤ length (objects_of v)
+    pub known : MayKnow facts s (Knows v t.frames)
+
+  -- A REGION WAS OPENED, or refused: for whatever was known something is known from which the thread did what the call does, with this answer, by at most one operation beside its acts. The stay goes on where it was opened, and has ended where it was refused
+  pub record HasOpened (old new : S) (f : Frames) (call : State → Call ℕ) (answer : Result Levels Fault) : Type 0 where
+    pub stands_is : IsAsBefore (record ((facts old).stands) { role = role_opened answer }) (facts new).stands
+    pub ran : Leads facts old new (Holds f) (λ k k'. IsMade 1 (moment (facts old).stands.fresh k f) (moment (facts new).stands.fresh k' f) (call (state_of k')) (object_opened answer)) (λ j k. LearnsFirst answer j k × Holds f k)
+
+  -- the same, by a reference word that was read
+  abbrev pub Opens : S → S → Frames → ℕ → (Config → ℕ → ℕ → State → Word → Call ℕ) → Result Levels Fault → Type 0
+  Opens old new f w call answer = (a : Word) × IsReadAs w a × HasOpened old new f (λ s. call (facts old).stands.config (facts old).stands.last (facts old).stands.thread s a) answer
+
+  -- A LEVEL WAS ADDED to these levels, or refused, in their stay, by at most one operation beside the acts: the header of each level is known
+  abbrev pub Nests : S → S → Frames → ℕ → (Config → ℕ → ℕ → State → List ℕ → Word → Call (ℕ × List ℕ)) → Levels → Levels → Result ℕ Fault → Type 0
+  Nests old new f w call v v' answer = (a : Word) × IsReadAs w a × Performed facts old new f f 1 (Knows v f) (λ s. call (facts old).stands.config (facts old).stands.last (facts old).stands.thread s (objects_of v) a) (level_nested answer v') (λ j k. Knows v' f k)
+
+  -- A CALL AT AN ELEMENT of a level's object was made in their stay, by no operation beside its act: the pass holds what it held
+  abbrev pub Reaches : {A : Type 0} → S → S → Frames → Levels → (Config → ℕ → ℕ → State → Call A) → Result A Fault → Type 0
+  Reaches old new f v call answer = Performed facts old new f f 0 (Knows v f) (λ s. call (facts old).stands.config (facts old).stands.last (facts old).stands.thread s) answer (λ j k. keeps j k × Knows v f k)
+
+  -- THE LAST LEVEL WAS GIVEN UP: with the first one the stay has ended, by one operation, and else no step was taken
+  pub record Closes (old new : S) (f : Frames) (v : Levels) (left : Option Levels) : Type 0 where
+    pub stands_is : IsAsBefore (record ((facts old).stands) { role = role_left left }) (facts new).stands
+    pub ran : Leads facts old new (Knows v f) (λ k k'. IsMade 0 (moment (facts old).stands.fresh k f) (moment (facts new).stands.fresh k' f) (region_release (length (objects_of v))) (Ok tt)) (λ j k. HoldsLeft left j k × Holds f k)

@@ -1,0 +1,265 @@
+//! The levels of a critical region.
+ghost use Rattle.std.specs.Prelude.{◌≡◌, ◌<◌, ◌∷◌, [], IfOk, IfErr, length};
+ghost use Rattle.jr_model.specs.declared.event.Role.TheVariants.{Outside};
+ghost use Rattle.jr_frames.specs.Ready.{StandsReady};
+ghost use Rattle.jr_model.specs.Calls.{opened};
+ghost use Rattle.jr_critical.specs.Finding.{level_work};
+ghost use Rattle.jr_critical.specs.Levels.{objects_of, Opens, Stand};
+
+use crate::level::{Level, Wanted, find_level, is_read_as};
+use arrayvec::ArrayVec;
+use jr_frames::{Held, Reference};
+use jr_gate::{Inside, enter};
+use jr_heap::is_text;
+use jr_model::{LEVELS, Mode};
+use jr_steps::Steps;
+use jr_word::{Elem, Fault, Handle, Kind};
+
+/// The levels of a critical region, in one stay of a thread, the first first. They have to be spent: the stay ends when the first level is given up. (The JNI Specification, chapter 4, Get/ReleasePrimitiveArrayCritical and Get/ReleaseStringCritical.)
+pub struct Levels {
+    inside: Inside,
+    levels: ArrayVec<Level, LEVELS>,
+}
+
+/// One level in the stay.
+fn first(inside: Inside, level: Level) -> Levels
+    ensures inside { result.inside ≡ inside }
+    ensures levels { result.levels.items ≡ level ∷ [] }
+{
+    let mut levels = ArrayVec::new();
+    levels.push(level);
+    Levels { inside, levels }
+}
+
+/// Enters the gate, and opens the first level over what a reference names.
+fn open<S: Steps>(held: &mut Held<S>, handle: Handle, wanted: Wanted) -> Result<Levels, Fault>
+    requires { StandsReady S.facts Outside held.old.steps held.old.frames }
+    ensures call { Opens S.facts held.old.steps held.new.steps held.old.frames.frames handle.0 (λ c last t s a. opened (level_work wanted c last t s 0 a)) result }
+    ensures frames { held.new.frames ≡ held.old.frames }
+    ensures ok { IfOk result (λ v. Stand S.facts v held.new.steps held.new.frames × (length (objects_of v) ≡ 1)) }
+    ensures err { IfErr result (λ _. StandsReady S.facts Outside held.new.steps held.new.frames) }
+{
+    let target = Reference::of(handle);
+    let inside = enter(&mut held.steps)?;
+    match find_level(&mut held.steps, &inside, &held.frames, target, wanted, 0) {
+        Ok(level) => Ok(first(inside, level)),
+        Err(fault) => {
+            inside.leave(&mut held.steps);
+            Err(fault)
+        }
+    }
+}
+
+impl Levels {
+    ghost use Rattle.std.specs.Prelude.{◌≡◌, ◌<◌, IfOk, IfErr, IfSome, IfNone, length};
+    ghost use Rattle.jr_model.specs.declared.event.Role.TheVariants.{Outside};
+    ghost use Rattle.jr_model.specs.Objects.{get_array_critical, get_string_critical, nest_array, nest_string, region_get, region_set};
+    ghost use Rattle.jr_frames.specs.Ready.{StandsReady};
+    ghost use Rattle.jr_critical.specs.Finding.{level_nesting};
+    ghost use Rattle.jr_critical.specs.Levels.{objects_of, object_at, level_at, in_words, Opens, Nests, Reaches, Closes, LeavesBefore, Stand, TellsKind, TellsLength};
+
+    /// Enters the gate, and opens the first level over an array whose elements are no objects. (GetPrimitiveArrayCritical.)
+    ///
+    /// # Errors
+    ///
+    /// E13 E1 E2 E3 E5 E6, and then the thread is outside and ready for its next call.
+    pub fn open_array<S: Steps>(held: &mut Held<S>, handle: Handle) -> Result<Levels, Fault>
+        requires { StandsReady S.facts Outside held.old.steps held.old.frames }
+        ensures call { Opens S.facts held.old.steps held.new.steps held.old.frames.frames handle.0 get_array_critical result }
+        ensures frames { held.new.frames ≡ held.old.frames }
+        ensures ok { IfOk result (λ v. Stand S.facts v held.new.steps held.new.frames × (length (objects_of v) ≡ 1)) }
+        ensures err { IfErr result (λ _. StandsReady S.facts Outside held.new.steps held.new.frames) }
+    {
+        open(held, handle, Wanted::Array)
+    }
+
+    /// Enters the gate, and opens the first level over a string. (GetStringCritical.)
+    ///
+    /// # Errors
+    ///
+    /// E13 E1 E2 E3 E4, and then the thread is outside and ready for its next call.
+    pub fn open_string<S: Steps>(held: &mut Held<S>, handle: Handle) -> Result<Levels, Fault>
+        requires { StandsReady S.facts Outside held.old.steps held.old.frames }
+        ensures call { Opens S.facts held.old.steps held.new.steps held.old.frames.frames handle.0 get_string_critical result }
+        ensures frames { held.new.frames ≡ held.old.frames }
+        ensures ok { IfOk result (λ v. Stand S.facts v held.new.steps held.new.frames × (length (objects_of v) ≡ 1)) }
+        ensures err { IfErr result (λ _. StandsReady S.facts Outside held.new.steps held.new.frames) }
+    {
+        open(held, handle, Wanted::Text)
+    }
+
+    /// Adds a level over what a reference names: its number. It takes no step at the gate.
+    fn nest<S: Steps>(
+        &mut self,
+        held: &mut Held<S>,
+        handle: Handle,
+        wanted: Wanted,
+    ) -> Result<usize, Fault>
+        requires { Stand S.facts self.old held.old.steps held.old.frames }
+        ensures call { Nests S.facts held.old.steps held.new.steps held.old.frames.frames handle.0 (level_nesting wanted) self.old self.new result }
+        ensures frames { held.new.frames ≡ held.old.frames }
+        ensures stand { Stand S.facts self.new held.new.steps held.new.frames }
+        ensures err { IfErr result (λ _. self.new ≡ self.old) }
+    {
+        let target = Reference::of(handle);
+        let count = self.levels.len();
+        let level = find_level(
+            &mut held.steps,
+            &self.inside,
+            &held.frames,
+            target,
+            wanted,
+            count,
+        )?;
+        self.levels.push(level);
+        Ok(count)
+    }
+
+    /// Adds a level over an array whose elements are no objects, and answers its number. An array may stand at several levels. It takes no step at the gate.
+    ///
+    /// # Errors
+    ///
+    /// E1 E2 E3 E5 E6, and E17 where sixteen levels stand; the levels stay as they were then.
+    pub fn nest_array<S: Steps>(
+        &mut self,
+        held: &mut Held<S>,
+        handle: Handle,
+    ) -> Result<usize, Fault>
+        requires { Stand S.facts self.old held.old.steps held.old.frames }
+        ensures call { Nests S.facts held.old.steps held.new.steps held.old.frames.frames handle.0 nest_array self.old self.new result }
+        ensures frames { held.new.frames ≡ held.old.frames }
+        ensures stand { Stand S.facts self.new held.new.steps held.new.frames }
+        ensures err { IfErr result (λ _. self.new ≡ self.old) }
+    {
+        self.nest(held, handle, Wanted::Array)
+    }
+
+    /// Adds a level over a string, and answers its number. A string may stand at several levels. It takes no step at the gate.
+    ///
+    /// # Errors
+    ///
+    /// E1 E2 E3 E4, and E17 where sixteen levels stand; the levels stay as they were then.
+    pub fn nest_string<S: Steps>(
+        &mut self,
+        held: &mut Held<S>,
+        handle: Handle,
+    ) -> Result<usize, Fault>
+        requires { Stand S.facts self.old held.old.steps held.old.frames }
+        ensures call { Nests S.facts held.old.steps held.new.steps held.old.frames.frames handle.0 nest_string self.old self.new result }
+        ensures frames { held.new.frames ≡ held.old.frames }
+        ensures stand { Stand S.facts self.new held.new.steps held.new.frames }
+        ensures err { IfErr result (λ _. self.new ≡ self.old) }
+    {
+        self.nest(held, handle, Wanted::Text)
+    }
+
+    /// The level of a number.
+    fn level(&self, number: usize) -> Level
+        requires { number < length (objects_of self.now) }
+        ensures { result ≡ level_at self.now number }
+    {
+        self.levels[number]
+    }
+
+    /// An element of a level's array, or a unit of its string as a char, by one load.
+    ///
+    /// # Errors
+    ///
+    /// E6 where its elements are of another kind, E7 past its length, both by no step.
+    pub fn get<S: Steps, E: Elem>(
+        &self,
+        held: &mut Held<S>,
+        level: usize,
+        index: u32,
+    ) -> Result<E, Fault>
+        requires stand { Stand S.facts self.now held.old.steps held.old.frames }
+        requires level { level < length (objects_of self.now) }
+        ensures call { Reaches S.facts held.old.steps held.new.steps held.old.frames.frames self.now (λ c last t s. region_get c last t s E.KIND (object_at self.now level) index) (in_words E.word_of result) }
+        ensures frames { held.new.frames ≡ held.old.frames }
+        ensures stand { Stand S.facts self.now held.new.steps held.new.frames }
+    {
+        let Level { object, header } = self.level(level);
+        if !is_read_as(E::KIND, header.kind) {
+            return Err(Fault::WrongElement);
+        }
+        if header.length <= index {
+            return Err(Fault::Range);
+        }
+        let word = held.steps.see_element(object, header, index);
+        Ok(E::from_word(word).unwrap())
+    }
+
+    /// Writes an element of a level's array, by one store.
+    ///
+    /// # Errors
+    ///
+    /// E5 at a string, E6 where its elements are of another kind, E7 past its length, each by no step.
+    pub fn set<S: Steps, E: Elem>(
+        &self,
+        held: &mut Held<S>,
+        level: usize,
+        index: u32,
+        value: E,
+    ) -> Result<(), Fault>
+        requires stand { Stand S.facts self.now held.old.steps held.old.frames }
+        requires level { level < length (objects_of self.now) }
+        ensures call { Reaches S.facts held.old.steps held.new.steps held.old.frames.frames self.now (λ c last t s. region_set c last t s E.KIND (object_at self.now level) index (E.word_of value)) result }
+        ensures frames { held.new.frames ≡ held.old.frames }
+        ensures stand { Stand S.facts self.now held.new.steps held.new.frames }
+    {
+        let Level { object, header } = self.level(level);
+        if is_text(header.kind) {
+            return Err(Fault::NotArray);
+        }
+        if !is_read_as(E::KIND, header.kind) {
+            return Err(Fault::WrongElement);
+        }
+        if header.length <= index {
+            return Err(Fault::Range);
+        }
+        let word = value.to_word();
+        held.steps.put_element(object, header, index, word);
+        Ok(())
+    }
+
+    /// The length of a level's array or string, in elements or units. It takes no step.
+    pub fn length(&self, level: usize) -> u32
+        requires { level < length (objects_of self.now) }
+        ensures { TellsLength self.now level result }
+    {
+        self.level(level).header.length
+    }
+
+    /// The kind of a level's object. It takes no step.
+    pub fn kind(&self, level: usize) -> Kind
+        requires { level < length (objects_of self.now) }
+        ensures { TellsKind self.now level result }
+    {
+        self.level(level).header.kind
+    }
+
+    /// How many levels stand.
+    pub fn depth(&self) -> usize
+        ensures { result ≡ length (objects_of self.now) }
+    {
+        self.levels.len()
+    }
+
+    /// Gives up the last level. With the first one the stay ends, by one step, and the answer is none; else by no step the levels before it. A region is no copy, so that every mode does the same. (ReleasePrimitiveArrayCritical, ReleaseStringCritical.)
+    pub fn close<S: Steps>(self, held: &mut Held<S>, _mode: Mode) -> Option<Levels>
+        requires { Stand S.facts self held.old.steps held.old.frames }
+        ensures call { Closes S.facts held.old.steps held.new.steps held.old.frames.frames self result }
+        ensures levels { LeavesBefore self result }
+        ensures frames { held.new.frames ≡ held.old.frames }
+        ensures stand { IfSome result (λ v. Stand S.facts v held.new.steps held.new.frames) }
+        ensures ready { IfNone result (StandsReady S.facts Outside held.new.steps held.new.frames) }
+    {
+        let Levels { inside, mut levels } = self;
+        levels.pop();
+        if levels.is_empty() {
+            inside.leave(&mut held.steps);
+            return None;
+        }
+        Some(Levels { inside, levels })
+    }
+}
