@@ -1,19 +1,15 @@
 -- A call between an entry and its exit.
-use Rattle.std.proofs.Common.{◌≡◌, ℕ, [], ◌∷◌, Result, Err, refl, sym, ap, subst, ◌∙◌}
+use Rattle.std.proofs.Common.{◌≡◌, ℕ, [], ◌∷◌, Result, subst}
 use Rattle.std.specs.Result.{IsErrAnd}
 use Rattle.jr_word.specs.declared.config.Config.{Config}
 use Rattle.jr_word.specs.declared.fault.Fault.{Fault}
 use Rattle.jr_word.specs.declared.fault.Fault.TheVariants.{Barred}
-use Rattle.jr_model.specs.declared.event.Role.{Role}
 use Rattle.jr_model.specs.declared.event.Role.TheVariants.{Outside}
 use Rattle.jr_model.specs.declared.event.Act.TheVariants.{Enter, Knock, Leave, Withdraw}
-use Rattle.jr_model.specs.Frames.{Frames}
 use Rattle.jr_model.specs.State.{State}
 use Rattle.jr_model.specs.Calls.{Call, entered}
-use Rattle.jr_model.proofs.Runs.{ran_barred, ran_entered}
 use Rattle.jr_steps.specs.declared.known.Known.{Known}
-use Rattle.jr_steps.specs.Knowing.{AreOf, Facts, Standing, state_of, anything, keeps, lets_go, Holds, Took}
-use Rattle.jr_steps.proofs.StepFacts.{goes_did, goes_stepped}
+use Rattle.jr_steps.specs.Knowing.{AreOf, Facts, anything, keeps, lets_go, Holds, Took}
 use Rattle.jr_gate.specs.Acting.{ActedTo, IsWithdrawn}
 use Rattle.jr_frames.specs.Table.{Table}
 use Rattle.jr_gate.specs.Performing.{Performed}
@@ -23,9 +19,7 @@ use Rattle.jr_frames.specs.Steady.{IsSteady}
 use Rattle.jr_env.specs.Works.{Completes, EndsStay}
 use Rattle.jr_frames.specs.OverSteps.{CallsWhole}
 use Rattle.jr_frames.proofs.WholeCalls.{calls_barred, calls_entered}
-use Rattle.jr_gate.proofs.SameRoom.{as_before}
-use Rattle.jr_gate.proofs.Spending.{made_of, spending, spend_first, spend_last, spend_more, spend_step, spend_barred}
-use Rattle.jr_frames.proofs.FramesAgree.{holds_did}
+use Rattle.jr_gate.proofs.Spending.{made_of, spending, spend_more}
 use Rattle.jr_gate.proofs.HandedOn.{handed_on}
 
 module _ {S : Type 0} {facts : S → Facts} where

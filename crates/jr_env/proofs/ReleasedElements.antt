@@ -11,7 +11,7 @@ use Rattle.jr_steps.specs.Knowing.{AreOf, Facts}
 use Rattle.jr_elements.specs.Copies.{answer_in, kept}
 use Rattle.jr_frames.specs.Reading.{IsReadAs}
 use Rattle.jr_frames.specs.Table.{Table}
-use Rattle.jr_env.specs.Works.{Completes, EndsStay}
+use Rattle.jr_env.specs.Works.{Completes}
 use Rattle.jr_env.specs.Deeds.{DoesOutside, release_answer, release_array_elements}
 use Rattle.jr_env.proofs.EnvCalls.{does_call_on}
 use Rattle.jr_env.proofs.WholeCopies.{completes_left}

@@ -13,7 +13,7 @@ use Rattle.jr_model.specs.Parts.{frame_to_pop, publish}
 use Rattle.jr_model.specs.References.{added, made, popping, resolved}
 use Rattle.jr_steps.specs.declared.known.Known.{Known}
 use Rattle.jr_steps.specs.Holdings.{with_header}
-use Rattle.jr_steps.specs.Knowing.{Facts, keeps, lets_go, without_range_of, Holds}
+use Rattle.jr_steps.specs.Knowing.{Facts, keeps, without_range_of, Holds}
 use Rattle.jr_gate.specs.Performing.{Performed}
 use Rattle.jr_heap.specs.Heap.{header_of, own_words, IsReady}
 use Rattle.jr_frames.specs.Table.{Table}
