@@ -22,7 +22,7 @@ use Rattle.jr_frames.proofs.FramesAgree.{holds_did}
 use Rattle.jr_frames.proofs.StillReady.{own_stepped}
 use Rattle.jr_critical.specs.declared.level.Level.{Level}
 use Rattle.jr_critical.specs.declared.levels.Levels.{Levels}
-use Rattle.jr_critical.specs.Levels.{AreKnown, Closes, Stand, objects_of}
+use Rattle.jr_critical.specs.Levels.{AreKnown, GivesUpLast, Stand, objects_of}
 use Rattle.jr_critical.proofs.KnownLevels.{known_before}
 
 -- a list with an element more
@@ -70,7 +70,7 @@ module _ {S : Type 0} {facts : S → Facts} {a : S} {t : Table} {v : Levels} (st
     one_level : length (objects_of v) ≡ 1
     one_level = let e = one_more longer in let z = is_none (length ys) empty in count v ∙ (omega arith)
 
-    pub closes_first : Closes facts a b t.frames v None
+    pub closes_first : GivesUpLast facts a b t.frames v None
     closes_first = record {
       stands_is = record {
         room = ap (λ (s : Standing). s.room) took.stands_is;
@@ -100,7 +100,7 @@ module _ {S : Type 0} {facts : S → Facts} {a : S} {t : Table} {v : Levels} (st
     two_levels : 2 ≤ length (objects_of v)
     two_levels = let e = one_more longer in let z = is_some (length ys) left in subst (λ n. 2 ≤ n) (sym (count v)) (omega arith)
 
-    pub closes_last : (fits : AreOf facts) → Closes facts a a t.frames v (Some w)
+    pub closes_last : (fits : AreOf facts) → GivesUpLast facts a a t.frames v (Some w)
     closes_last fits = record {
       stands_is = record { room = refl; config = refl; last = refl; thread = refl; role = stand.ready.role_is };
       ran = λ k s m.

@@ -16,7 +16,7 @@ use Rattle.jr_heap.proofs.Parts.{stored_word}
 use Rattle.jr_frames.specs.Table.{Table}
 use Rattle.jr_critical.specs.declared.level.Level.{Level}
 use Rattle.jr_critical.specs.declared.levels.Levels.{Levels}
-use Rattle.jr_critical.specs.Levels.{Knows, Stand, level_at, objects_of}
+use Rattle.jr_critical.specs.Levels.{KnowsLevels, Stand, level_at, objects_of}
 use Rattle.jr_critical.proofs.LevelFound.{is_less, no_less}
 use Rattle.jr_critical.proofs.Reaching.{get_work, get_other, get_past, get_there, h_of, may_at, o_of, reaches, reaches_not, same_kind_of, set_other, set_past, set_text, set_there, set_work, stand_reached, word_fits}
 
@@ -43,20 +43,20 @@ module _ {S : Type 0} {facts : S → Facts} (fits : AreOf facts) (v : Levels) (l
   may_reach {a} s = subst (λ (l : Level). MayKnow facts a (KnowsHeader l.object l.header)) (sym is) (may_at fits v level inside s)
 
   module _ (a : S) (f : Frames) where
-    pub gets_other : is_read_as k x.header.kind ≡ false → Performed facts a a f f 0 (Knows v f) (λ s. for_object s (o_of v level) (get_work kind (o_of v level) i)) (Err WrongElement) (λ j k. keeps j k × Knows v f k)
+    pub gets_other : is_read_as k x.header.kind ≡ false → Performed facts a a f f 0 (KnowsLevels v f) (λ s. for_object s (o_of v level) (get_work kind (o_of v level) i)) (Err WrongElement) (λ j k. keeps j k × KnowsLevels v f k)
     gets_other e = reaches_not fits v level inside a f (get_work kind (o_of v level) i) (Err WrongElement) (λ p l. get_other p f l kind (h_of v level).kind (o_of v level) i (h_of v level).length (read_as v level is same e))
 
-    pub gets_past : is_read_as k x.header.kind ≡ true → x.header.length ≤ i → Performed facts a a f f 0 (Knows v f) (λ s. for_object s (o_of v level) (get_work kind (o_of v level) i)) (Err Range) (λ j k. keeps j k × Knows v f k)
+    pub gets_past : is_read_as k x.header.kind ≡ true → x.header.length ≤ i → Performed facts a a f f 0 (KnowsLevels v f) (λ s. for_object s (o_of v level) (get_work kind (o_of v level) i)) (Err Range) (λ j k. keeps j k × KnowsLevels v f k)
     gets_past e far = reaches_not fits v level inside a f (get_work kind (o_of v level) i) (Err Range) (λ p l. get_past p f l kind (h_of v level).kind (o_of v level) i (h_of v level).length (read_as v level is same e) (no_less (h_of v level).length i (past v level is i far)))
 
     module _ (w : ℕ) where
-      pub sets_text : is_text x.header.kind ≡ true → Performed facts a a f f 0 (Knows v f) (λ s. for_object s (o_of v level) (set_work kind (o_of v level) i w)) (Err NotArray) (λ j k. keeps j k × Knows v f k)
+      pub sets_text : is_text x.header.kind ≡ true → Performed facts a a f f 0 (KnowsLevels v f) (λ s. for_object s (o_of v level) (set_work kind (o_of v level) i w)) (Err NotArray) (λ j k. keeps j k × KnowsLevels v f k)
       sets_text t = reaches_not fits v level inside a f (set_work kind (o_of v level) i w) (Err NotArray) (λ p l. set_text p f l kind (h_of v level).kind (o_of v level) i (h_of v level).length w (text_is v level is t))
 
-      pub sets_other : is_text x.header.kind ≡ false → is_read_as k x.header.kind ≡ false → Performed facts a a f f 0 (Knows v f) (λ s. for_object s (o_of v level) (set_work kind (o_of v level) i w)) (Err WrongElement) (λ j k. keeps j k × Knows v f k)
+      pub sets_other : is_text x.header.kind ≡ false → is_read_as k x.header.kind ≡ false → Performed facts a a f f 0 (KnowsLevels v f) (λ s. for_object s (o_of v level) (set_work kind (o_of v level) i w)) (Err WrongElement) (λ j k. keeps j k × KnowsLevels v f k)
       sets_other t e = reaches_not fits v level inside a f (set_work kind (o_of v level) i w) (Err WrongElement) (λ p l. set_other p f l kind (h_of v level).kind (o_of v level) i (h_of v level).length w (text_is v level is t) (read_as v level is same e))
 
-      pub sets_past : is_text x.header.kind ≡ false → is_read_as k x.header.kind ≡ true → x.header.length ≤ i → Performed facts a a f f 0 (Knows v f) (λ s. for_object s (o_of v level) (set_work kind (o_of v level) i w)) (Err Range) (λ j k. keeps j k × Knows v f k)
+      pub sets_past : is_text x.header.kind ≡ false → is_read_as k x.header.kind ≡ true → x.header.length ≤ i → Performed facts a a f f 0 (KnowsLevels v f) (λ s. for_object s (o_of v level) (set_work kind (o_of v level) i w)) (Err Range) (λ j k. keeps j k × KnowsLevels v f k)
       sets_past t e far = reaches_not fits v level inside a f (set_work kind (o_of v level) i w) (Err Range) (λ p l. set_past p f l kind (h_of v level).kind (o_of v level) i (h_of v level).length w (text_is v level is t) (read_as v level is same e) (no_less (h_of v level).length i (past v level is i far)))
 
   module _ {a b : S} {w : ℕ} (took : Took facts a b (Read x.object i w ∷ []) (KnowsHeader x.object x.header) keeps) where
@@ -64,8 +64,8 @@ module _ {S : Type 0} {facts : S → Facts} (fits : AreOf facts) (v : Levels) (l
     read_there = subst (λ (l : Level). Took facts a b (Read l.object i w ∷ []) (KnowsHeader l.object l.header) keeps) is took
 
     pub gets : (f : Frames) (word : ℕ) → (facts a).stands.role ≡ Within → is_read_as k x.header.kind ≡ true → i < x.header.length → w ≡ word
-        → Performed facts a b f f 0 (Knows v f) (λ s. for_object s (o_of v level) (get_work kind (o_of v level) i)) (Ok word) (λ j k. keeps j k × Knows v f k)
-    gets f word within e near one = subst (λ n. Performed facts a b f f 0 (Knows v f) (λ s. for_object s (o_of v level) (get_work kind (o_of v level) i)) (Ok n) (λ j k. keeps j k × Knows v f k)) one
+        → Performed facts a b f f 0 (KnowsLevels v f) (λ s. for_object s (o_of v level) (get_work kind (o_of v level) i)) (Ok word) (λ j k. keeps j k × KnowsLevels v f k)
+    gets f word within e near one = subst (λ n. Performed facts a b f f 0 (KnowsLevels v f) (λ s. for_object s (o_of v level) (get_work kind (o_of v level) i)) (Ok n) (λ j k. keeps j k × KnowsLevels v f k)) one
         (reaches fits v level inside (λ k m. m.known) read_there (λ e. cc) refl refl within f (get_work kind (o_of v level) i) (Ok w)
         (λ p q d. get_there f kind (h_of v level).kind (o_of v level) i (h_of v level).length w (read_as v level is same e) (is_less (h_of v level).length i (there v level is i near)) d))
 
@@ -85,8 +85,8 @@ module _ {S : Type 0} {facts : S → Facts} (fits : AreOf facts) (v : Levels) (l
       written_there = subst (λ (l : Level). Took facts a b (Write l.object i w ∷ []) (λ k. KnowsHeader l.object l.header k × IsWordNow l.header.kind w k) keeps) is took
 
       pub sets : (f : Frames) → (facts a).stands.role ≡ Within → i < x.header.length
-          → Performed facts a b f f 0 (Knows v f) (λ s. for_object s (o_of v level) (set_work kind (o_of v level) i word)) (Ok tt) (λ j k. keeps j k × Knows v f k)
-      sets f within near = subst (λ n. Performed facts a b f f 0 (Knows v f) (λ s. for_object s (o_of v level) (set_work kind (o_of v level) i n)) (Ok tt) (λ j k. keeps j k × Knows v f k)) one
+          → Performed facts a b f f 0 (KnowsLevels v f) (λ s. for_object s (o_of v level) (set_work kind (o_of v level) i word)) (Ok tt) (λ j k. keeps j k × KnowsLevels v f k)
+      sets f within near = subst (λ n. Performed facts a b f f 0 (KnowsLevels v f) (λ s. for_object s (o_of v level) (set_work kind (o_of v level) i n)) (Ok tt) (λ j k. keeps j k × KnowsLevels v f k)) one
           (reaches fits v level inside (λ k m. (m.known, may_store v level is same w word one below none e k)) written_there (λ e. cc) refl refl within f (set_work kind (o_of v level) i w) (Ok tt)
           (λ p q d. set_there f kind (h_of v level).kind (o_of v level) i (h_of v level).length w (text_is v level is none) (read_as v level is same e) (is_less (h_of v level).length i (there v level is i near)) d))
 

@@ -32,7 +32,7 @@ use Rattle.jr_critical.specs.declared.level.Wanted.{Wanted}
 use Rattle.jr_critical.specs.declared.level.Wanted.TheVariants.{Array, Text}
 use Rattle.jr_critical.specs.declared.levels.Levels.{Levels}
 use Rattle.jr_critical.specs.Finding.{level_nesting, level_work, object_found, FindsLevel, LearnsLevel}
-use Rattle.jr_critical.specs.Levels.{AreKnown, Knows, Stand, level_nested, objects_of}
+use Rattle.jr_critical.specs.Levels.{AreKnown, KnowsLevels, Stand, level_nested, objects_of}
 use Rattle.jr_critical.proofs.Closing.{count}
 use Rattle.jr_critical.proofs.KnownLevels.{known_later, known_more}
 
@@ -52,7 +52,7 @@ module _ {S : Type 0} {facts : S → Facts} (fits : AreOf facts) {a b : S} {t : 
   among = subst (λ m. FindsLevel facts a b t.frames wanted m w r) (all ∙ sym (count v)) p
 
   -- the headers of the levels hold still
-  known_still : (k : Known) (s : (facts a).knows k) (m : Knows v t.frames k) → AreKnown v.levels.items (among.ran k s m.1).0
+  known_still : (k : Known) (s : (facts a).knows k) (m : KnowsLevels v t.frames k) → AreKnown v.levels.items (among.ran k s m.1).0
   known_still k s m =
       let x = among.ran k s m.1 in
       let stays = level_stays wanted (facts a).stands.config (facts a).stands.last (facts a).stands.thread (state_of x.0) (length (objects_of v)) w t.frames t.frames x.2.ran.acts (object_found r) x.2.ran.is in
@@ -67,10 +67,10 @@ module _ {S : Type 0} {facts : S → Facts} (fits : AreOf facts) {a b : S} {t : 
   -- a level was refused
   module _ {e : Fault} (is : r ≡ Err e) where
     pub nests_not : (answer : Result ℕ Fault) → IsErrAnd answer (λ y. y ≡ e)
-        → Performed facts a b t.frames t.frames 1 (Knows v t.frames) (λ s. level_nesting wanted (facts a).stands.config (facts a).stands.last (facts a).stands.thread s (objects_of v) w) (level_nested answer v) (λ j k. Knows v t.frames k)
+        → Performed facts a b t.frames t.frames 1 (KnowsLevels v t.frames) (λ s. level_nesting wanted (facts a).stands.config (facts a).stands.last (facts a).stands.thread s (objects_of v) w) (level_nested answer v) (λ j k. KnowsLevels v t.frames k)
     nests_not answer given =
         let why = err_from_is_err_and answer given in
-        subst (λ (z : Result ℕ Fault). Performed facts a b t.frames t.frames 1 (Knows v t.frames) (λ s. level_nesting wanted (facts a).stands.config (facts a).stands.last (facts a).stands.thread s (objects_of v) w) (level_nested z v) (λ j k. Knows v t.frames k)) (sym (why.1 ∙ ap (λ (y : Fault). Err y) why.2)) (record {
+        subst (λ (z : Result ℕ Fault). Performed facts a b t.frames t.frames 1 (KnowsLevels v t.frames) (λ s. level_nesting wanted (facts a).stands.config (facts a).stands.last (facts a).stands.thread s (objects_of v) w) (level_nested z v) (λ j k. KnowsLevels v t.frames k)) (sym (why.1 ∙ ap (λ (y : Fault). Err y) why.2)) (record {
           stands_is = p.stands_is;
           ran = λ k s m.
               let x = among.ran k s m.1 in
@@ -89,13 +89,13 @@ module _ {S : Type 0} {facts : S → Facts} (fits : AreOf facts) {a b : S} {t : 
     objects_more : objects_of u ≡ objects_of v ++ l.object ∷ []
     objects_more = ap (λ ls. map (λ (x : Level). x.object) ls) items ∙ map-append (λ (x : Level). x.object) v.levels.items (l ∷ [])
 
-    known_now : (k : Known) (s : (facts a).knows k) (m : Knows v t.frames k) → Knows u t.frames (among.ran k s m.1).0
+    known_now : (k : Known) (s : (facts a).knows k) (m : KnowsLevels v t.frames k) → KnowsLevels u t.frames (among.ran k s m.1).0
     known_now k s m =
         let x = among.ran k s m.1 in
         let learns = subst (λ (z : Result Level Fault). LearnsLevel z k x.0) is x.3.0 in
         (subst (λ ls. AreKnown ls x.0) (sym items) (known_more v.levels.items l x.0 (known_still k s m) (learnt l.object l.header k x.0 learns)), x.3.1)
 
-    pub nests : Performed facts a b t.frames t.frames 1 (Knows v t.frames) (λ s. level_nesting wanted (facts a).stands.config (facts a).stands.last (facts a).stands.thread s (objects_of v) w) (level_nested (Ok n) u) (λ j k. Knows u t.frames k)
+    pub nests : Performed facts a b t.frames t.frames 1 (KnowsLevels v t.frames) (λ s. level_nesting wanted (facts a).stands.config (facts a).stands.last (facts a).stands.thread s (objects_of v) w) (level_nested (Ok n) u) (λ j k. KnowsLevels u t.frames k)
     nests = record {
       stands_is = p.stands_is;
       ran = λ k s m.

@@ -34,7 +34,7 @@ use Rattle.jr_frames.proofs.FoundObject.{ran_for}
 use Rattle.jr_frames.proofs.FramesAgree.{holds_did}
 use Rattle.jr_frames.proofs.Reading.{ran_refused, ran_passed}
 use Rattle.jr_critical.specs.declared.levels.Levels.{Levels}
-use Rattle.jr_critical.specs.Levels.{AreKnown, Knows, Stand, TellsKind, TellsLength, level_at, objects_of}
+use Rattle.jr_critical.specs.Levels.{AreKnown, KnowsLevels, Stand, TellsKind, TellsLength, level_at, objects_of}
 use Rattle.jr_critical.proofs.KnownLevels.{is_level, known_at, known_later}
 
 -- KIND AND LENGTH
@@ -129,7 +129,7 @@ module _ {S : Type 0} {facts : S → Facts} (fits : AreOf facts) (v : Levels) (l
 
     -- a refusal, by no step
     pub reaches_not : {A : Type 0} (a : S) (f : Frames) (next : Kind → ℕ → Call A) (answer : Result A Fault) → ((p : PassView) → IsLegal p.config p.last p.seen → Ran p p f f (next (h_of v level).kind (h_of v level).length) answer)
-        → Performed facts a a f f 0 (Knows v f) (λ s. for_object s (o_of v level) next) answer (λ j k. keeps j k × Knows v f k)
+        → Performed facts a a f f 0 (KnowsLevels v f) (λ s. for_object s (o_of v level) next) answer (λ j k. keeps j k × KnowsLevels v f k)
     reaches_not a f next answer each = record {
       stands_is = nothing_changed;
       ran = λ k s m. let l = (fits a k s).legal in (k, s, made_of (spend_none (facts a).stands.fresh k f f l) (ran_for k (o_of v level) (h_of v level) next (held_at v level inside k m.0).shown (each (view k) l)), (refl, m));
@@ -137,14 +137,14 @@ module _ {S : Type 0} {facts : S → Facts} (fits : AreOf facts) (v : Levels) (l
 
     module _ {a b : S} {x : Act} {met : Known → Type 0} (meets : (k : Known) → HoldsHeader (o_of v level) (h_of v level) k → met k) (took : Took facts a b (x ∷ []) met keeps) (stays : x ≢ Leave) (spares : spares_places x ≡ true) (same : standing_after (facts a).stands (x ∷ []) ≡ (facts a).stands) (within : (facts a).stands.role ≡ Within) where
       -- one step at an element, for one thing that was known
-      known_reached : (f : Frames) (k : Known) (s : (facts a).knows k) (m : Knows v f k) → Knows v f (took.goes k s (meets k (held_at v level inside k m.0))).0
+      known_reached : (f : Frames) (k : Known) (s : (facts a).knows k) (m : KnowsLevels v f k) → KnowsLevels v f (took.goes k s (meets k (held_at v level inside k m.0))).0
       known_reached f k s m =
           let y = took.goes k s (meets k (held_at v level inside k m.0)) in
           let d = goes_did y.2 in
           (known_later v.levels.items k y.0 (x ∷ []) d ((fits a k s).role ∙ within) (stays, tt) (steps_keep_headers.kept k y.0 y.3) m.0, holds_did k y.0 f (x ∷ []) d (spares, tt) m.1)
 
       pub reaches : {A : Type 0} (f : Frames) (next : Kind → ℕ → Call A) (answer : Result A Fault) → ((p q : PassView) → Did p q (x ∷ []) → Ran p q f f (next (h_of v level).kind (h_of v level).length) answer)
-          → Performed facts a b f f 0 (Knows v f) (λ s. for_object s (o_of v level) next) answer (λ j k. keeps j k × Knows v f k)
+          → Performed facts a b f f 0 (KnowsLevels v f) (λ s. for_object s (o_of v level) next) answer (λ j k. keeps j k × KnowsLevels v f k)
       reaches f next answer each = record {
         stands_is = as_before _ (took.stands_is ∙ same);
         ran = λ k s m.
@@ -157,7 +157,7 @@ module _ {S : Type 0} {facts : S → Facts} (fits : AreOf facts) (v : Levels) (l
       pub stand_reached : {t : Table} → Stand facts v a t → Stand facts v b t
       stand_reached {t} s =
           let now = took.stands_is ∙ same in
-          let known : MayKnow facts b (Knows v t.frames) = ∥∥₁_map s.known (λ k. let y = took.goes k.0 k.1 (meets k.0 (held_at v level inside k.0 k.2.0)) in (y.0, y.1, known_reached t.frames k.0 k.1 k.2)) in
+          let known : MayKnow facts b (KnowsLevels v t.frames) = ∥∥₁_map s.known (λ k. let y = took.goes k.0 k.1 (meets k.0 (held_at v level inside k.0 k.2.0)) in (y.0, y.1, known_reached t.frames k.0 k.1 k.2)) in
           record {
             stay = (s.stay.0 ∙ sym (ap (λ (z : Standing). z.thread) now), ap (λ (z : Standing). z.role) now ∙ s.stay.1);
             ready = record {

@@ -32,16 +32,16 @@ abbrev pub level_at : Levels → ℕ → Level
 level_at v i = slice_index_or v.levels.items i (record { object = 0; header = record { kind = Plain; length = 0; place = 0 } })
 
 -- its object
-abbrev pub object_at : Levels → ℕ → ℕ
-object_at v i = (level_at v i).object
+abbrev pub level_object : Levels → ℕ → ℕ
+level_object v i = (level_at v i).object
 
 -- the pass knows the header of each level
 abbrev pub AreKnown : List Level → Known → Type 0
 AreKnown levels k = AllByRecursion (λ (l : Level). HoldsHeader l.object l.header k) levels
 
 -- it does, and the frames are those of the thread's locals
-abbrev pub Knows : Levels → Frames → Known → Type 0
-Knows v f k = AreKnown v.levels.items k × Holds f k
+abbrev pub KnowsLevels : Levels → Frames → Known → Type 0
+KnowsLevels v f k = AreKnown v.levels.items k × Holds f k
 
 -- an element as its word
 abbrev pub in_words : {E : Type 0} → (E → ℕ) → Result E Fault → Result ℕ Fault
@@ -50,7 +50,7 @@ in_words word (Err e) = Err e
 
 -- a region that was opened, as the call answers it
 abbrev pub object_opened : Result Levels Fault → Result ℕ Fault
-object_opened (Ok v) = Ok (object_at v 0)
+object_opened (Ok v) = Ok (level_object v 0)
 object_opened (Err e) = Err e
 
 -- the thread is within where the region was opened, and outside where it was refused
@@ -85,11 +85,11 @@ LeavesBefore v None = length (objects_of v) ≡ 1
 
 -- whatever is known with the headers of the levels: this is the kind of the level's object still
 abbrev pub TellsKind : Levels → ℕ → Kind → Type 0
-TellsKind v i kind = (c : Config) (last t : ℕ) (k : Known) (f : Frames) → AreKnown v.levels.items k → region_kind c last t (state_of k) (object_at v i) f [] (Ok kind) f
+TellsKind v i kind = (c : Config) (last t : ℕ) (k : Known) (f : Frames) → AreKnown v.levels.items k → region_kind c last t (state_of k) (level_object v i) f [] (Ok kind) f
 
 -- and this is its length
 abbrev pub TellsLength : Levels → ℕ → ℕ → Type 0
-TellsLength v i n = (c : Config) (last t : ℕ) (k : Known) (f : Frames) → AreKnown v.levels.items k → region_length c last t (state_of k) (object_at v i) f [] (Ok n) f
+TellsLength v i n = (c : Config) (last t : ℕ) (k : Known) (f : Frames) → AreKnown v.levels.items k → region_length c last t (state_of k) (level_object v i) f [] (Ok n) f
 
 module _ {S : Type 0} (facts : S → Facts) where
   -- THE LEVELS STAND over these steps and frames: the stay is the steps' own, there is a level at least, the thread stands ready within, and something that may be known has each level's header and agrees with the frames
@@ -97,7 +97,7 @@ module _ {S : Type 0} (facts : S → Facts) where
     pub stay : IsOwnStay v.inside (facts s).stands
     pub ready : StandsReady facts Within s t
     pub some : 1 ≤ length (objects_of v)
-    pub known : MayKnow facts s (Knows v t.frames)
+    pub known : MayKnow facts s (KnowsLevels v t.frames)
 
   -- A REGION WAS OPENED, or refused: for whatever was known something is known from which the thread did what the call does, with this answer, by at most one operation beside its acts. The stay goes on where it was opened, and has ended where it was refused
   pub record HasOpened (old new : S) (f : Frames) (call : State → Call ℕ) (answer : Result Levels Fault) : Type 0 where
@@ -110,13 +110,13 @@ module _ {S : Type 0} (facts : S → Facts) where
 
   -- A LEVEL WAS ADDED to these levels, or refused, in their stay, by at most one operation beside the acts: the header of each level is known
   abbrev pub Nests : S → S → Frames → ℕ → (Config → ℕ → ℕ → State → List ℕ → Word → Call (ℕ × List ℕ)) → Levels → Levels → Result ℕ Fault → Type 0
-  Nests old new f w call v v' answer = (a : Word) × IsReadAs w a × Performed facts old new f f 1 (Knows v f) (λ s. call (facts old).stands.config (facts old).stands.last (facts old).stands.thread s (objects_of v) a) (level_nested answer v') (λ j k. Knows v' f k)
+  Nests old new f w call v v' answer = (a : Word) × IsReadAs w a × Performed facts old new f f 1 (KnowsLevels v f) (λ s. call (facts old).stands.config (facts old).stands.last (facts old).stands.thread s (objects_of v) a) (level_nested answer v') (λ j k. KnowsLevels v' f k)
 
   -- A CALL AT AN ELEMENT of a level's object was made in their stay, by no operation beside its act: the pass holds what it held
   abbrev pub Reaches : {A : Type 0} → S → S → Frames → Levels → (Config → ℕ → ℕ → State → Call A) → Result A Fault → Type 0
-  Reaches old new f v call answer = Performed facts old new f f 0 (Knows v f) (λ s. call (facts old).stands.config (facts old).stands.last (facts old).stands.thread s) answer (λ j k. keeps j k × Knows v f k)
+  Reaches old new f v call answer = Performed facts old new f f 0 (KnowsLevels v f) (λ s. call (facts old).stands.config (facts old).stands.last (facts old).stands.thread s) answer (λ j k. keeps j k × KnowsLevels v f k)
 
   -- THE LAST LEVEL WAS GIVEN UP: with the first one the stay has ended, by one operation, and else no step was taken
-  pub record Closes (old new : S) (f : Frames) (v : Levels) (left : Option Levels) : Type 0 where
+  pub record GivesUpLast (old new : S) (f : Frames) (v : Levels) (left : Option Levels) : Type 0 where
     pub stands_is : IsAsBefore (record ((facts old).stands) { role = role_left left }) (facts new).stands
-    pub ran : Leads facts old new (Knows v f) (λ k k'. IsMade 0 (moment (facts old).stands.fresh k f) (moment (facts new).stands.fresh k' f) (region_release (length (objects_of v))) (Ok tt)) (λ j k. HoldsLeft left j k × Holds f k)
+    pub ran : Leads facts old new (KnowsLevels v f) (λ k k'. IsMade 0 (moment (facts old).stands.fresh k f) (moment (facts new).stands.fresh k' f) (region_release (length (objects_of v))) (Ok tt)) (λ j k. HoldsLeft left j k × Holds f k)

@@ -56,7 +56,7 @@ impl Levels {
     ghost use Rattle.jr_model.specs.Objects.{get_array_critical, get_string_critical, nest_array, nest_string, region_get, region_set};
     ghost use Rattle.jr_frames.specs.Ready.{StandsReady};
     ghost use Rattle.jr_critical.specs.Finding.{level_nesting};
-    ghost use Rattle.jr_critical.specs.Levels.{objects_of, object_at, level_at, in_words, Opens, Nests, Reaches, Closes, LeavesBefore, Stand, TellsKind, TellsLength};
+    ghost use Rattle.jr_critical.specs.Levels.{objects_of, level_object, level_at, in_words, Opens, Nests, Reaches, GivesUpLast, LeavesBefore, Stand, TellsKind, TellsLength};
 
     /// Enters the gate, and opens the first level over an array whose elements are no objects. (GetPrimitiveArrayCritical.)
     ///
@@ -174,7 +174,7 @@ impl Levels {
     ) -> Result<E, Fault>
         requires stand { Stand S.facts self.now held.old.steps held.old.frames }
         requires level { level < length (objects_of self.now) }
-        ensures call { Reaches S.facts held.old.steps held.new.steps held.old.frames.frames self.now (λ c last t s. region_get c last t s E.KIND (object_at self.now level) index) (in_words E.word_of result) }
+        ensures call { Reaches S.facts held.old.steps held.new.steps held.old.frames.frames self.now (λ c last t s. region_get c last t s E.KIND (level_object self.now level) index) (in_words E.word_of result) }
         ensures frames { held.new.frames ≡ held.old.frames }
         ensures stand { Stand S.facts self.now held.new.steps held.new.frames }
     {
@@ -203,7 +203,7 @@ impl Levels {
     ) -> Result<(), Fault>
         requires stand { Stand S.facts self.now held.old.steps held.old.frames }
         requires level { level < length (objects_of self.now) }
-        ensures call { Reaches S.facts held.old.steps held.new.steps held.old.frames.frames self.now (λ c last t s. region_set c last t s E.KIND (object_at self.now level) index (E.word_of value)) result }
+        ensures call { Reaches S.facts held.old.steps held.new.steps held.old.frames.frames self.now (λ c last t s. region_set c last t s E.KIND (level_object self.now level) index (E.word_of value)) result }
         ensures frames { held.new.frames ≡ held.old.frames }
         ensures stand { Stand S.facts self.now held.new.steps held.new.frames }
     {
@@ -248,7 +248,7 @@ impl Levels {
     /// Gives up the last level. With the first one the stay ends, by one step, and the answer is none; else by no step the levels before it. A region is no copy, so that every mode does the same. (ReleasePrimitiveArrayCritical, ReleaseStringCritical.)
     pub fn close<S: Steps>(self, held: &mut Held<S>, _mode: Mode) -> Option<Levels>
         requires { Stand S.facts self held.old.steps held.old.frames }
-        ensures call { Closes S.facts held.old.steps held.new.steps held.old.frames.frames self result }
+        ensures call { GivesUpLast S.facts held.old.steps held.new.steps held.old.frames.frames self result }
         ensures levels { LeavesBefore self result }
         ensures frames { held.new.frames ≡ held.old.frames }
         ensures stand { IfSome result (λ v. Stand S.facts v held.new.steps held.new.frames) }

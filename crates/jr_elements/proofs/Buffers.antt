@@ -7,7 +7,7 @@ use Rattle.jr_word.specs.declared.fault.Fault.TheVariants.{Range}
 use Rattle.jr_model.specs.Frames.{Frames}
 use Rattle.jr_model.specs.Calls.{refuse_if}
 use Rattle.jr_model.specs.Objects.{elements_set}
-use Rattle.jr_elements.specs.Copies.{Answers}
+use Rattle.jr_elements.specs.Copies.{AnswersAs}
 
 -- a test that fails lets the call pass
 lets_pass : (b : Bool) (e : Fault) (f : Frames) → b ≡ false → refuse_if b e f [] (Ok tt) f
@@ -18,7 +18,7 @@ not_beyond : (m n : ℕ) → n < m → nat_le m n ≡ false
 not_beyond m n l = grind (arith, nat_tests)
 
 -- an element within is set
-pub sets_word : {E : Type 0} (word : E → ℕ) (es : List E) (i : ℕ) (x : E) → i < length es → Answers (elements_set (map word es) i (word x)) (Ok (map word (slice_set es i x)))
+pub sets_word : {E : Type 0} (word : E → ℕ) (es : List E) (i : ℕ) (x : E) → i < length es → AnswersAs (elements_set (map word es) i (word x)) (Ok (map word (slice_set es i x)))
 sets_word word es i x inside f =
     let long = length-map es word in
     inl (tt, f, [], [], refl, lets_pass (nat_le (length (map word es)) i) Range f (not_beyond (length (map word es)) i (omega arith)), (refl, ap (λ ws. Ok ws) (map-set word es i x), refl))

@@ -12,8 +12,8 @@ answer_in form (Ok x) = Ok (form x)
 answer_in form (Err e) = Err e
 
 -- what the model's call at copied elements answers: it has no act, and leaves the frames as they were
-abbrev pub Answers : {A : Type 0} → Call A → Result A Fault → Type 0
-Answers call answer = (f : Frames) → call f [] answer f
+abbrev pub AnswersAs : {A : Type 0} → Call A → Result A Fault → Type 0
+AnswersAs call answer = (f : Frames) → call f [] answer f
 
 -- a copy of n elements takes a load for each, and none where the memory was refused
 abbrev pub copy_steps : {A : Type 0} → ℕ → Result A Fault → ℕ

@@ -34,7 +34,7 @@ impl<E: Elem> Elements<E> {
     ghost use Rattle.std.specs.Prelude.{◌≡◌, ◌<◌, ◌≤◌, true, Ok, IfOk, IfErr, length, map, slice_index_or, slice_set};
     ghost use Rattle.jr_word.specs.declared.fault.Fault.TheVariants.{Range};
     ghost use Rattle.jr_model.specs.Objects.{elements_get, elements_set, elements_length};
-    ghost use Rattle.jr_elements.specs.Copies.{Answers, answer_in, kept};
+    ghost use Rattle.jr_elements.specs.Copies.{AnswersAs, answer_in, kept};
 
     /// The element at an index.
     ///
@@ -42,7 +42,7 @@ impl<E: Elem> Elements<E> {
     ///
     /// E7 where the index is not below the length.
     pub fn get(&self, index: u32) -> Result<E, Fault>
-        ensures call { Answers (elements_get (map E.word_of self.now) index) (answer_in E.word_of result) }
+        ensures call { AnswersAs (elements_get (map E.word_of self.now) index) (answer_in E.word_of result) }
         ensures ok { IfOk result (λ value. (index < length self.now) × (value ≡ slice_index_or self.now index value)) }
         ensures err { IfErr result (λ e. (length self.now ≤ index) × (e ≡ Range)) }
     {
@@ -58,7 +58,7 @@ impl<E: Elem> Elements<E> {
     ///
     /// E7 where the index is not below the length: the elements are as they were.
     pub fn set(&mut self, index: u32, value: E) -> Result<(), Fault>
-        ensures call { Answers (elements_set (map E.word_of self.old) index (E.word_of value)) (answer_in (λ _. map E.word_of self.new) result) }
+        ensures call { AnswersAs (elements_set (map E.word_of self.old) index (E.word_of value)) (answer_in (λ _. map E.word_of self.new) result) }
         ensures ok { IfOk result (λ _. (index < length self.old) × (self.new ≡ slice_set self.old index value)) }
         ensures err { IfErr result (λ e. (length self.old ≤ index) × (e ≡ Range) × (self.new ≡ self.old)) }
     {
@@ -73,7 +73,7 @@ impl<E: Elem> Elements<E> {
     /// How many elements there are.
     pub fn length(&self) -> u32
         ensures number { result ≡ length self.now }
-        ensures call { Answers (elements_length (map E.word_of self.now)) (Ok result) }
+        ensures call { AnswersAs (elements_length (map E.word_of self.now)) (Ok result) }
     {
         self.items.len() as u32
     }

@@ -28,7 +28,6 @@ pub mod Reading
 pub mod Resolution
 pub mod FoundObject
 pub mod Steady
-pub mod Leaving
 pub mod WholeCalls
 pub mod ResolutionOfBoth
 pub mod RoomFor

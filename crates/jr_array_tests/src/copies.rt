@@ -1,9 +1,9 @@
 //! Copies of elements and of units, through the calls that make and release them, over plain words and over a room.
 ghost use Rattle.std.specs.Prelude.{◌≤◌, length};
 
-use crate::envs::{is_refused, made, plain_env};
+use crate::envs::{LAST, lone_env, refuses};
 use crate::regions::has_elements;
-use crate::rooms::last_env;
+use crate::sharing::next_env;
 use jr_elements::{Elements, elements_of};
 use jr_env::Env;
 use jr_model::Mode;
@@ -123,7 +123,7 @@ fn goes_back<S: Steps, E: Elem + PartialEq>(
 
 #[test]
 fn least_and_greatest_elements_of_8_bits_and_chars(rt: HostRuntime) -> Result<(), Fail> {
-    let mut env = plain_env(rt.alloc(), TWO)?;
+    let mut env = lone_env(rt.alloc(), TWO)?;
     goes_back(
         &rt,
         &mut env,
@@ -161,7 +161,7 @@ fn least_and_greatest_elements_of_8_bits_and_chars(rt: HostRuntime) -> Result<()
 
 #[test]
 fn least_and_greatest_elements_of_16_to_64_bits(rt: HostRuntime) -> Result<(), Fail> {
-    let mut env = plain_env(rt.alloc(), TWO)?;
+    let mut env = lone_env(rt.alloc(), TWO)?;
     goes_back(
         &rt,
         &mut env,
@@ -205,7 +205,7 @@ fn is_no_such_array<S: Steps>(
     word: Handle,
     fault: Fault,
 ) -> Result<(), Fail> {
-    is_refused(rt, env.get_array_elements::<i16>(alloc, word), Some(fault));
+    refuses(rt, env.get_array_elements::<i16>(alloc, word), fault);
     let elements = elements_of(Vec::from_slice(alloc, &[-7i16, 7])?);
     let elements = hands_back(rt, env, word, elements, Mode::Copy, &[-7, 7], fault)?;
     let elements = hands_back(rt, env, word, elements, Mode::Commit, &[-7, 7], fault)?;
@@ -215,7 +215,7 @@ fn is_no_such_array<S: Steps>(
 #[test]
 fn what_is_no_array_of_the_kind(rt: HostRuntime) -> Result<(), Fail> {
     let alloc = rt.alloc();
-    let mut env = plain_env(alloc, TWO)?;
+    let mut env = lone_env(alloc, TWO)?;
     // The kind is looked at before the length, which is another.
     let plain = env.new_plain()?;
     let string = env.new_string(&[1, 2, 3])?;
@@ -253,7 +253,7 @@ fn is_another_length<S: Steps>(
 #[test]
 fn elements_of_another_length(rt: HostRuntime) -> Result<(), Fail> {
     let alloc = rt.alloc();
-    let mut env = plain_env(alloc, TWO)?;
+    let mut env = lone_env(alloc, TWO)?;
     let array = env.new_array::<i64>(3)?;
     env.set_array_region(array, 0, &[10i64, -20, 30])?;
     is_another_length(&rt, &mut env, alloc, array, &[])?;
@@ -267,7 +267,7 @@ fn elements_of_another_length(rt: HostRuntime) -> Result<(), Fail> {
 
 #[test]
 fn an_array_and_a_string_of_length_0(rt: HostRuntime) -> Result<(), Fail> {
-    let mut env = plain_env(rt.alloc(), TWO)?;
+    let mut env = lone_env(rt.alloc(), TWO)?;
     let array = env.new_array::<bool>(0)?;
     let elements = env.get_array_elements::<bool>(rt.alloc(), array)?;
     assert_eq!(rt; elements.length(), 0);
@@ -288,13 +288,13 @@ fn is_no_string<S: Steps>(
     word: Handle,
     fault: Fault,
 ) {
-    is_refused(rt, env.get_string_chars(alloc, word), Some(fault));
+    refuses(rt, env.get_string_chars(alloc, word), fault);
 }
 
 #[test]
 fn units_of_strings_alone(rt: HostRuntime) -> Result<(), Fail> {
     let alloc = rt.alloc();
-    let mut env = plain_env(alloc, TWO)?;
+    let mut env = lone_env(alloc, TWO)?;
     let string = env.new_string(&[1, 65_535, 0, 55_296])?;
     let units = env.get_string_chars(alloc, string)?;
     assert!(rt; units.as_slice() == [1u16, 65_535, 0, 55_296].as_slice());
@@ -320,14 +320,14 @@ fn is_apart<S: Steps, U: Steps>(
     other: &mut Env<U>,
 ) -> Result<(), Fail> {
     let array = holder.new_array::<u16>(3)?;
-    let shared = made(holder.new_global_ref(array))?;
+    let shared = holder.new_global_ref(array)?.ok_or("an object")?;
     let mut elements = holder.get_array_elements::<u16>(alloc, array)?;
     other.set_array_region(shared, 0, &[1u16, 2])?;
     are(rt, &elements, &[0, 0, 0]);
     elements.set(2, 65_535)?;
     has_elements(rt, other, shared, 0, &mut [7u16; 3], &[1, 2, 0])?;
-    let fault = Some(Fault::Foreign);
-    is_refused(rt, other.get_array_elements::<u16>(alloc, array), fault);
+    let refused = other.get_array_elements::<u16>(alloc, array);
+    refuses(rt, refused, Fault::Foreign);
     let elements = commits(holder, array, elements)?;
     has_elements(rt, other, shared, 0, &mut [7u16; 3], &[0, 0, 65_535])?;
     gives_up(rt, other, shared, elements, Mode::Copy)
@@ -335,8 +335,8 @@ fn is_apart<S: Steps, U: Steps>(
 
 #[test]
 fn a_copy_is_apart_from_what_another_thread_writes(rt: HostRuntime) -> Result<(), Fail> {
-    let (room, mut passes) = Room::<2>::open(rt.alloc(), TWO)?;
-    let mut holder = last_env(&room, &mut passes)?;
-    let mut other = last_env(&room, &mut passes)?;
+    let (room, mut passes) = Room::<LAST>::open(rt.alloc(), TWO)?;
+    let mut holder = next_env(&room, &mut passes)?;
+    let mut other = next_env(&room, &mut passes)?;
     is_apart(&rt, rt.alloc(), &mut holder, &mut other)
 }
