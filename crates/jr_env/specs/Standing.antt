@@ -1,4 +1,4 @@
--- How the thread of an env stands when a call begins.
+-- For the crate's own functions: how the thread of an env stands when a call begins.
 use Rattle.std.specs.Prelude.{◌≡◌, ◌≢◌, false}
 use Rattle.jr_model.specs.declared.event.Role.TheVariants.{Knocking, Collecting}
 use Rattle.jr_steps.specs.Knowing.{Standing}
