@@ -21,6 +21,7 @@ const WEAK: u64 = 3;
 const PLAIN: u64 = 1;
 const INT: u64 = 6;
 const OBJECT_ARRAY: u64 = 8;
+const STRING: u64 = 9;
 
 // Refusals, as the first bits of an answer.
 const ERROR: u64 = 1 << 63;
@@ -85,6 +86,15 @@ struct Place {
 struct Link {
     older: u16,
     newer: u16,
+}
+
+/// How many levels a critical region may have.
+const LEVELS: usize = 16;
+
+/// The levels of a critical region: the headers of their arrays.
+struct Levels {
+    headers: [u64; LEVELS],
+    depth: usize,
 }
 
 /// A thread's calls, with its local references in rings: of the free places, and of each frame.
@@ -295,6 +305,117 @@ impl Env<'_> {
                 if (2..=8).contains(&(header & 15)) { header >> 4 & 0xff_ffff } else { NOT_ARRAY }
             }
         })
+    }
+    /// A string of so many units, each 0.
+    fn new_string(&mut self, length: u64) -> u64 {
+        self.call(|env| env.make_array(STRING, length, 0))
+    }
+    /// All words of an array of integers, or of a string.
+    #[inline(always)]
+    fn whole(&mut self, array: u64, kind: u64) -> Result<&[AtomicU64], u64> {
+        let object = self.resolve(array);
+        let header = if kind == STRING { self.string(object) } else { self.array(object, kind) };
+        if header & ERROR != 0 {
+            return Err(header);
+        }
+        Ok(self.room.elements(header >> 28, (header >> 4 & 0xff_ffff) as usize))
+    }
+    /// The header of the object, which is a string.
+    #[inline(always)]
+    fn string(&mut self, object: u64) -> u64 {
+        if object & ERROR != 0 {
+            return object;
+        }
+        if object == 0 {
+            return NULL;
+        }
+        let header = self.room.header(object).load(SeqCst);
+        if header & 15 == STRING { header } else { WRONG_KIND }
+    }
+    /// A copy of all elements of an array of integers, or of all units of a string.
+    #[inline(always)]
+    fn copy_out<E>(&mut self, array: u64, kind: u64, element: impl Fn(u64) -> E) -> Result<Vec<E>, u64> {
+        let mut elements = Vec::new();
+        let answer = self.call(|env| match env.whole(array, kind) {
+            Err(refused) => refused,
+            Ok(words) => {
+                elements.reserve_exact(words.len());
+                elements.extend(words.iter().map(|word| element(word.load(SeqCst))));
+                0
+            }
+        });
+        if answer == 0 { Ok(elements) } else { Err(answer) }
+    }
+    #[inline(always)]
+    fn get_elements(&mut self, array: u64) -> Result<Vec<i32>, u64> {
+        self.copy_out(array, INT, |word| word as u32 as i32)
+    }
+    #[inline(always)]
+    fn get_chars(&mut self, string: u64) -> Result<Vec<u16>, u64> {
+        self.copy_out(string, STRING, |word| word as u16)
+    }
+    /// Writes copied elements to the whole array, and hands them back.
+    #[inline(always)]
+    fn commit(&mut self, array: u64, elements: Vec<i32>) -> Result<Vec<i32>, u64> {
+        let answer = self.call(|env| match env.whole(array, INT) {
+            Err(refused) => refused,
+            Ok(words) if words.len() != elements.len() => RANGE,
+            Ok(words) => {
+                for (element, word) in elements.iter().zip(words) {
+                    word.store(u64::from(*element as u32), SeqCst);
+                }
+                0
+            }
+        });
+        if answer == 0 { Ok(elements) } else { Err(answer) }
+    }
+    /// Enters the gate, and stays there with the array as the first level.
+    #[inline(always)]
+    fn open(&mut self, array: u64) -> Result<Levels, u64> {
+        if self.room.gate().fetch_add(1, SeqCst) & SHUT != 0 {
+            self.room.gate().fetch_sub(1, SeqCst);
+            return Err(BARRED);
+        }
+        let object = self.resolve(array);
+        let header = self.array(object, INT);
+        if header & ERROR != 0 {
+            self.room.gate().fetch_sub(1, SeqCst);
+            return Err(header);
+        }
+        let mut levels = Levels { headers: [0; LEVELS], depth: 1 };
+        levels.headers[0] = header;
+        Ok(levels)
+    }
+    /// Gives up the last level, and leaves the gate with the first.
+    #[inline(always)]
+    fn release(&mut self, mut levels: Levels) -> Option<Levels> {
+        levels.depth -= 1;
+        if levels.depth == 0 {
+            self.room.gate().fetch_sub(1, SeqCst);
+            return None;
+        }
+        Some(levels)
+    }
+    /// The word of an element at a level.
+    #[inline(always)]
+    fn word_at(&self, levels: &Levels, level: usize, index: u64) -> Result<&AtomicU64, u64> {
+        let header = levels.headers[level];
+        if header & 15 != INT {
+            return Err(WRONG_ELEMENT);
+        }
+        if index >= header >> 4 & 0xff_ffff {
+            return Err(RANGE);
+        }
+        Ok(&self.room.elements((header >> 28) + index, 1)[0])
+    }
+    #[inline(always)]
+    fn get_at(&self, levels: &Levels, level: usize, index: u64) -> Result<i32, u64> {
+        Ok(self.word_at(levels, level, index)?.load(SeqCst) as u32 as i32)
+    }
+    #[inline(always)]
+    fn set_at(&self, levels: &Levels, level: usize, index: u64, element: i32) -> Result<(), u64> {
+        self.word_at(levels, level, index)?.store(u64::from(element as u32), SeqCst);
+        Ok(())
     }
     /// The words of a part of an array of integers.
     #[inline(always)]
@@ -512,7 +633,7 @@ impl Env<'_> {
 }
 
 /// The calls, as `jr_bench` names them.
-const CASES: [&str; 23] = [
+const CASES: [&str; 31] = [
     "get_object_ref_type(NULL)",
     "new_plain",
     "new_global_ref(local)",
@@ -536,6 +657,14 @@ const CASES: [&str; 23] = [
     "new_array(16)",
     "get_object_array_element",
     "set_object_array_element",
+    "get_array_elements(64),release_array_elements(copy)",
+    "get_array_elements(4096),release_array_elements(copy)",
+    "get_array_elements(64),release_array_elements(commit),release_array_elements(abort)",
+    "get_array_elements(4096),release_array_elements(commit),release_array_elements(abort)",
+    "get_string_chars(64)",
+    "get_array_critical,release",
+    "get_of_region",
+    "set_of_region",
 ];
 const EMPTY_FRAME: usize = 10;
 const FREE_ONE: usize = 12;
@@ -543,11 +672,21 @@ const NEW_PLAIN: usize = 1;
 const LENGTH: usize = 13;
 const NEW_ARRAY: usize = 20;
 const GET_ELEMENT: usize = 21;
+const SET_ELEMENT: usize = 22;
+const COPY_BACK: usize = 23;
+const COPY_BACK_LONG: usize = 24;
+const COMMIT: usize = 25;
+const COMMIT_LONG: usize = 26;
+const CHARS: usize = 27;
+const CRITICAL: usize = 28;
+const GET_OF_REGION: usize = 29;
 
 /// How many elements the longest part has, and the array.
 const LONG: usize = 4_096;
 /// How many elements a new array has.
 const SHORT: u64 = 16;
+/// How many elements the shorter copies have.
+const SMALL: u64 = 64;
 /// How often an array is made again where another thread was faster at its words.
 const TRIES: u32 = 1_000;
 
@@ -560,6 +699,23 @@ macro_rules! calls {
             $right
         })*
     };
+}
+
+fn is_copied_back(env: &mut Env, array: u64) -> bool {
+    let Ok(elements) = env.get_elements(array) else { return false };
+    env.commit(array, elements).is_ok()
+}
+
+fn is_committed(env: &mut Env, array: u64) -> bool {
+    let Ok(elements) = env.get_elements(array) else { return false };
+    let Ok(elements) = env.commit(array, elements) else { return false };
+    drop(elements);
+    true
+}
+
+fn is_opened(env: &mut Env, array: u64) -> bool {
+    let Ok(levels) = env.open(array) else { return false };
+    env.release(levels).is_none()
 }
 
 fn is_made(answer: u64) -> bool {
@@ -584,6 +740,10 @@ calls! {
     new_array: |env, first, handle| env.is_array_made();
     get_element: |env, first, handle| is_made(env.get_element(handle, 0));
     set_element: |env, first, handle| env.set_element(handle, 0, handle) == 0;
+    copy_back: |env, first, handle| is_copied_back(env, handle);
+    commit: |env, first, handle| is_committed(env, handle);
+    chars: |env, first, handle| env.get_chars(handle).is_ok_and(|units| units.len() == SMALL as usize);
+    critical: |env, first, handle| is_opened(env, handle);
 }
 
 #[inline(never)]
@@ -605,6 +765,29 @@ fn region_each(env: &mut Env, handed: &[u64], length: usize, is_out: bool) -> us
         let is_right = if is_out { get_region(env, *handle, part) } else { set_region(env, *handle, part) };
         right += usize::from(is_right);
     }
+    right
+}
+
+#[inline(never)]
+fn get_at(env: &mut Env, levels: &Levels, index: u64) -> bool {
+    env.get_at(levels, 0, index) == Ok(0)
+}
+
+#[inline(never)]
+fn set_at(env: &mut Env, levels: &Levels, index: u64) -> bool {
+    env.set_at(levels, 0, index, 0).is_ok()
+}
+
+/// Reads or writes an element of one critical region for each of the handles.
+fn region_of_each(env: &mut Env, handed: &[u64], is_read: bool) -> usize {
+    let Ok(levels) = env.open(handed[0]) else { return 0 };
+    let mut right = 0;
+    for handle in handed {
+        let index = *handle & 63;
+        let is_right = if is_read { get_at(env, &levels, index) } else { set_at(env, &levels, index) };
+        right += usize::from(is_right);
+    }
+    env.release(levels);
     right
 }
 
@@ -638,7 +821,12 @@ fn make_all(case: usize, env: &mut Env, handed: &[u64]) -> usize {
         19 => region_each(env, handed, LONG, false),
         NEW_ARRAY => make_each(env, handed, new_array),
         GET_ELEMENT => make_each(env, handed, get_element),
-        _ => make_each(env, handed, set_element),
+        SET_ELEMENT => make_each(env, handed, set_element),
+        COPY_BACK | COPY_BACK_LONG => make_each(env, handed, copy_back),
+        COMMIT | COMMIT_LONG => make_each(env, handed, commit),
+        CHARS => make_each(env, handed, chars),
+        CRITICAL => make_each(env, handed, critical),
+        _ => region_of_each(env, handed, case == GET_OF_REGION),
     }
 }
 
@@ -646,8 +834,10 @@ fn make_all(case: usize, env: &mut Env, handed: &[u64]) -> usize {
 fn handed(case: usize, env: &mut Env, calls: u32) -> Vec<u64> {
     let local = env.new_plain();
     let array = match case {
-        LENGTH..=19 => env.new_array(LONG as u64),
-        GET_ELEMENT.. => env.new_object_array(1, local),
+        LENGTH..=19 | COPY_BACK_LONG | COMMIT_LONG | CRITICAL.. => env.new_array(LONG as u64),
+        GET_ELEMENT | SET_ELEMENT => env.new_object_array(1, local),
+        COPY_BACK | COMMIT => env.new_array(SMALL),
+        CHARS => env.new_string(SMALL),
         _ => local,
     };
     let global = env.new_slot(GLOBAL, array);

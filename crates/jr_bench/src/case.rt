@@ -1,6 +1,8 @@
 //! The calls that are made, and what each is to answer.
 
 use crate::arrays::ArrayCase;
+use crate::copies::CopyCase;
+use crate::criticals::CriticalCase;
 pub(crate) use jr_env::Env;
 use jr_steps::Steps;
 use jr_word::Handle;
@@ -21,6 +23,8 @@ pub(crate) enum Case {
     TypeOfGlobal,
     Frames(FrameCase),
     Arrays(ArrayCase),
+    Copies(CopyCase),
+    Criticals(CriticalCase),
 }
 
 /// Which calls for frames are made.
@@ -35,7 +39,7 @@ pub(crate) enum FrameCase {
 const CAPACITY: u32 = 16;
 
 /// Each case with its name. The first does nothing between the entry and the exit.
-pub(crate) const CASES: [(Case, &'static str); 23] = [
+pub(crate) const CASES: [(Case, &'static str); 31] = [
     (Case::TypeOfNull, "get_object_ref_type(NULL)"),
     (Case::NewPlain, "new_plain"),
     (Case::NewGlobal, "new_global_ref(local)"),
@@ -80,6 +84,29 @@ pub(crate) const CASES: [(Case, &'static str); 23] = [
         Case::Arrays(ArrayCase::SetElement),
         "set_object_array_element",
     ),
+    (
+        Case::Copies(CopyCase::Back(64)),
+        "get_array_elements(64),release_array_elements(copy)",
+    ),
+    (
+        Case::Copies(CopyCase::Back(4_096)),
+        "get_array_elements(4096),release_array_elements(copy)",
+    ),
+    (
+        Case::Copies(CopyCase::Committed(64)),
+        "get_array_elements(64),release_array_elements(commit),release_array_elements(abort)",
+    ),
+    (
+        Case::Copies(CopyCase::Committed(4_096)),
+        "get_array_elements(4096),release_array_elements(commit),release_array_elements(abort)",
+    ),
+    (Case::Copies(CopyCase::Text), "get_string_chars(64)"),
+    (
+        Case::Criticals(CriticalCase::Open),
+        "get_array_critical,release",
+    ),
+    (Case::Criticals(CriticalCase::Get), "get_of_region"),
+    (Case::Criticals(CriticalCase::Set), "set_of_region"),
 ];
 
 impl Case {
@@ -93,6 +120,8 @@ impl Case {
         let local = env.new_plain().ok()?;
         let named = match self {
             Case::Arrays(case) => case.array(env, local)?,
+            Case::Copies(case) => case.array(env)?,
+            Case::Criticals(case) => case.array(env)?,
             _ => local,
         };
         let global = env.new_global_ref(named).ok()??;
@@ -105,7 +134,9 @@ impl Case {
                 | Case::Same
                 | Case::TypeOfGlobal
                 | Case::Frames(_)
-                | Case::Arrays(_) => { global }
+                | Case::Arrays(_)
+                | Case::Copies(_)
+                | Case::Criticals(_) => { global }
                 Case::DeleteGlobal => env.new_global_ref(local).ok()??,
                 Case::DeleteWeak => env.new_weak_global_ref(local).ok()??,
                 Case::DeleteLocal => env.new_local_ref(global).ok()??,
@@ -116,7 +147,12 @@ impl Case {
     }
 
     /// Makes the call with each of the handles: how often it answered as it should.
-    pub(crate) fn make_all<S: Steps>(self, env: &mut Env<S>, handed: &[Handle]) -> usize {
+    pub(crate) fn make_all<S: Steps>(
+        self,
+        env: &mut Env<S>,
+        alloc: Global,
+        handed: &[Handle],
+    ) -> usize {
         match self {
             Case::TypeOfNull => make_each(env, handed, |env, _, at| {
                 matches!(env.get_object_ref_type(at), Ok(0))
@@ -148,6 +184,8 @@ impl Case {
             }),
             Case::Frames(case) => case.make_all(env, handed),
             Case::Arrays(case) => case.make_all(env, handed),
+            Case::Copies(case) => case.make_all(env, alloc, handed),
+            Case::Criticals(case) => case.make_all(env, handed),
         }
     }
 }

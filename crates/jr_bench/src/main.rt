@@ -7,6 +7,8 @@
 mod answers;
 mod arrays;
 mod case;
+mod copies;
+mod criticals;
 mod measure;
 mod round;
 

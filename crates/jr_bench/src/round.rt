@@ -104,7 +104,7 @@ fn work_one<R: Clock>(
         return None;
     };
     let began = Instant::now(rt).ok()?;
-    let right = case.make_all(&mut env, &handed);
+    let right = case.make_all(&mut env, alloc, &handed);
     let ended = Instant::now(rt).ok()?;
     Some(Done {
         began,

@@ -1,2 +1,7 @@
 pub mod Slides
 pub mod OneArray
+pub mod Listed
+pub mod Noted
+pub mod Together
+pub mod Bringing
+pub mod Compacts

@@ -1,5 +1,5 @@
 -- A room of one array, which moves down.
-use Rattle.std.proofs.Common.{◌≡◌, ◌≢◌, ◌+◌, ◌<◌, ◌≤◌, ◌==◌, ℕ, cond, Option, Some, None, IsSome, [], ◌∷◌, refl, sym, ap, subst, ◌∙◌, arith}
+use Rattle.std.proofs.Common.{zero, suc, Contains, ◌≡◌, ◌≢◌, ◌+◌, ◌<◌, ◌≤◌, ◌==◌, ℕ, cond, Option, Some, None, IsSome, [], ◌∷◌, refl, sym, ap, subst, ◌∙◌, arith}
 use mathlib.Core.Logic.{dite, ∥∥₁_map}
 use native.Mathlib.Decide.{ℕ_discrete}
 use Rattle.jr_word.specs.declared.config.Config.{Config}
@@ -18,6 +18,9 @@ use Rattle.jr_steps.specs.Knowing.{AreOf, Facts, Standing, Took, Saw, MayKnow, a
 use Rattle.jr_steps.proofs.CollectorFacts.{same_tables, tables_seen, goes_act, there_settled}
 use Rattle.jr_steps.proofs.StepFacts.{may_then, shut_closed}
 use Rattle.jr_model.proofs.InRoom.{in_room}
+use Rattle.std.specs.List.{IsDistinct}
+use Rattle.jr_gate.specs.Acting.{ActedTo}
+use Rattle.jr_compact.specs.Compacting.{CanCompact, AreCompacted}
 use Rattle.jr_compact.specs.Sliding.{CanSlide}
 
 -- the array is all that is present, its header is known, and no move is half done
@@ -139,3 +142,33 @@ module _ {S : Type 0} (facts : S → Facts) (fits : AreOf facts) where
       let y = goes_act g ((fits a k s).role ∙ collects) in
       let objects : (state_of k').objects ≡ (state_of k).objects = ap (λ (z : State). z.objects) y.2 ∙ (y.1).objects in
       (subst (λ (m : ℕ → Option Contents). IsClosed (record (state_of k') { objects = m })) (sym objects) o.closed, ap (λ (z : Holdings). z.moving) x ∙ o.settled))
+
+  one_listed : (h : HeaderParts) (k : Known) → IsOne h k → 1 ≤ h.length → CanCompact (1 ∷ []) k
+  unfolding IsDistinct
+  one_listed h k o some = record {
+    distinct = (tt, tt);
+    listed = λ r. (λ p. dite (ℕ_discrete 1 r) (λ e. (0, (omega arith), e)) (λ ne. absurd (none_there ((state_of k).objects r) (o.only r ne) p)), λ c. is_there r c);
+    settled = o.settled;
+  }
+    where
+      none_there : (x : Option Contents) → x ≡ None → IsSome x → ⊥
+      none_there None e p = absurd cc
+      none_there (Some x) e p = absurd cc
+      long_some : (x : Option Contents) → 1 ≤ length_of x → IsSome x
+      long_some None l = absurd (omega arith)
+      long_some (Some x) l = refl
+      is_there : (r : ℕ) → Contains (1 ∷ []) r → IsPresent (state_of k) r
+      is_there r (zero, l, is) = subst (λ n. IsPresent (state_of k) n) is (long_some ((state_of k).objects 1) (let long = o.long in omega arith))
+      is_there r (suc i, l, is) = absurd (omega arith)
+
+  -- all arrays, which are this one, may be moved together
+  pub one_compactable : (a : S) (h : HeaderParts) → 1 ≤ h.length → MayKnow facts a (IsOne h) → MayKnow facts a (CanCompact (1 ∷ []))
+  one_compactable a h some may = ∥∥₁_map may (λ k. (k.0, k.1, one_listed h k.0 k.2 some))
+
+  -- and then the gate may be opened again
+  pub one_compacted : {a b : S} (h : HeaderParts) (used : ℕ) → 1 ≤ h.length → ActedTo facts a b (Settle used ∷ []) (CanCompact (1 ∷ [])) (AreCompacted used) → MayKnow facts a (IsOne h) → MayKnow facts b CanReopen
+  one_compacted h used some acted may = ∥∥₁_map may (λ k.
+      let one = k.2 in
+      let x = acted.leads k.0 k.1 (one_listed h k.0 one some) in
+      let done = x.3.0 in
+      (x.0, x.1, (subst (λ (m : ℕ → Option Contents). IsClosed (record (state_of x.0) { objects = m })) (sym done.tables.objects) one.closed, done.settled)))

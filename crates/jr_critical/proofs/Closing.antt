@@ -22,7 +22,7 @@ use Rattle.jr_frames.proofs.FramesAgree.{holds_did}
 use Rattle.jr_frames.proofs.StillReady.{own_stepped}
 use Rattle.jr_critical.specs.declared.level.Level.{Level}
 use Rattle.jr_critical.specs.declared.levels.Levels.{Levels}
-use Rattle.jr_critical.specs.Levels.{AreKnown, GivesUpLast, Stand, objects_of}
+use Rattle.jr_critical.specs.Levels.{AreKnown, GivesUpAll, GivesUpLast, Stand, objects_of}
 use Rattle.jr_critical.proofs.KnownLevels.{known_before}
 
 -- a list with an element more
@@ -115,3 +115,28 @@ module _ {S : Type 0} {facts : S → Facts} {a : S} {t : Table} {v : Levels} (st
       some = let z = is_some (length ys) left in subst (λ n. 1 ≤ n) (sym (count w ∙ ap length same)) z;
       known = ∥∥₁_map stand.known (λ k. (k.0, k.1, (known_left k.0 k.2.0, k.2.1)));
     }
+
+-- all levels are given up
+module _ {S : Type 0} {facts : S → Facts} {a b : S} {t : Table} {v : Levels} (stand : Stand facts v a t) (took : Took facts a b (Leave ∷ []) anything lets_go) where
+  pub closes_all : GivesUpAll facts a b t.frames v
+  closes_all = record {
+    stands_is = record {
+      room = ap (λ (s : Standing). s.room) took.stands_is;
+      config = ap (λ (s : Standing). s.config) took.stands_is;
+      last = ap (λ (s : Standing). s.last) took.stands_is;
+      thread = ap (λ (s : Standing). s.thread) took.stands_is;
+      role = ap (λ (s : Standing). s.role) took.stands_is;
+    };
+    ran = λ k s m.
+        let y = took.goes k s tt in
+        let d = goes_did y.2 in
+        let left = ran_act t.frames Leave tt (stepped_last (goes_stepped y.2)) d in
+        (y.0, y.1, made_of (spend_step took k s tt t.frames t.frames) left, (y.3, holds_did k y.0 t.frames (Leave ∷ []) d (refl, tt) m.1));
+  }
+
+  pub ready_outside : StandsReady facts Outside b t
+  ready_outside = record {
+    role_is = ap (λ (s : Standing). s.role) took.stands_is;
+    spent = ap (λ (s : Standing). s.fresh) took.stands_is ∙ stand.ready.spent;
+    own = own_stepped Leave refl stand.ready.own took;
+  }

@@ -1,11 +1,12 @@
 -- The levels of a critical region, over any steps and frames, for whatever was known.
-use Rattle.std.specs.Prelude.{◌≡◌, ◌≤◌, ◌++◌, ◌∷◌, ℕ, Option, Some, None, Result, Ok, Err, List, [], map, length, slice_index_or}
+use Rattle.std.specs.Prelude.{◌≡◌, ◌<◌, ◌≤◌, ◌++◌, ◌∷◌, ℕ, Option, Some, None, Result, Ok, Err, List, [], map, length, slice_index_or}
 use Rattle.std.specs.List.{AllByRecursion}
 use Rattle.jr_word.specs.declared.config.Config.{Config}
 use Rattle.jr_word.specs.declared.fault.Fault.{Fault}
 use Rattle.jr_word.specs.declared.kind.Kind.{Kind}
 use Rattle.jr_word.specs.declared.kind.Kind.TheVariants.{Plain}
 use Rattle.jr_model.specs.declared.event.Role.{Role}
+use Rattle.jr_model.specs.declared.frames.TheConstants.{LEVELS}
 use Rattle.jr_model.specs.declared.event.Role.TheVariants.{Outside, Within}
 use Rattle.jr_model.specs.State.{State}
 use Rattle.jr_model.specs.Frames.{Frames}
@@ -83,6 +84,12 @@ abbrev pub LeavesBefore : Levels → Option Levels → Type 0
 LeavesBefore v (Some w) = (l : Level) × (v.levels.items ≡ w.levels.items ++ l ∷ [])
 LeavesBefore v None = length (objects_of v) ≡ 1
 
+-- A LEVEL WAS ADDED behind those that stood, each of which stays as it was: its number is how many they were, fewer than there may be
+pub record WasAdded (v w : Levels) (n : ℕ) : Type 0 where
+  pub number : n ≡ length (objects_of v)
+  pub fits : n < LEVELS
+  pub behind : LeavesBefore w (Some v)
+
 -- whatever is known with the headers of the levels: this is the kind of the level's object still
 abbrev pub TellsKind : Levels → ℕ → Kind → Type 0
 TellsKind v i kind = (c : Config) (last t : ℕ) (k : Known) (f : Frames) → AreKnown v.levels.items k → region_kind c last t (state_of k) (level_object v i) f [] (Ok kind) f
@@ -120,3 +127,8 @@ module _ {S : Type 0} (facts : S → Facts) where
   pub record GivesUpLast (old new : S) (f : Frames) (v : Levels) (left : Option Levels) : Type 0 where
     pub stands_is : IsAsBefore (record ((facts old).stands) { role = role_left left }) (facts new).stands
     pub ran : Leads facts old new (KnowsLevels v f) (λ k k'. IsMade 0 (moment (facts old).stands.fresh k f) (moment (facts new).stands.fresh k' f) (region_release (length (objects_of v))) (Ok tt)) (λ j k. HoldsLeft left j k × Holds f k)
+
+  -- ALL LEVELS WERE GIVEN UP at once: the stay has ended, by one operation, as where the first alone is given up
+  pub record GivesUpAll (old new : S) (f : Frames) (v : Levels) : Type 0 where
+    pub stands_is : IsAsBefore (record ((facts old).stands) { role = Outside }) (facts new).stands
+    pub ran : Leads facts old new (KnowsLevels v f) (λ k k'. IsMade 0 (moment (facts old).stands.fresh k f) (moment (facts new).stands.fresh k' f) (region_release 1) (Ok tt)) (λ j k. lets_go j k × Holds f k)

@@ -73,6 +73,7 @@ impl Wanted {
 /// # Errors
 ///
 /// E1, E2 and E3 where it names no object here, E4, E5 and E6 where that is not what is wanted, E17 where there is no room for a level.
+#[inline(always)]
 pub(crate) fn find_level<S: Steps>(
     steps: &mut S,
     inside: &Inside,

@@ -22,6 +22,7 @@ pub struct Levels {
 }
 
 /// One level in the stay.
+#[inline(always)]
 fn first(inside: Inside, level: Level) -> Levels
     ensures inside { result.inside ≡ inside }
     ensures levels { result.levels.items ≡ level ∷ [] }
@@ -32,6 +33,7 @@ fn first(inside: Inside, level: Level) -> Levels
 }
 
 /// Enters the gate, and opens the first level over what a reference names.
+#[inline(always)]
 fn open<S: Steps>(held: &mut Held<S>, handle: Handle, wanted: Wanted) -> Result<Levels, Fault>
     requires { StandsReady S.facts Outside held.old.steps held.old.frames }
     ensures call { Opens S.facts held.old.steps held.new.steps held.old.frames.frames handle.0 (λ c last t s a. opened (level_work wanted c last t s 0 a)) result }
@@ -51,18 +53,20 @@ fn open<S: Steps>(held: &mut Held<S>, handle: Handle, wanted: Wanted) -> Result<
 }
 
 impl Levels {
-    ghost use Rattle.std.specs.Prelude.{◌≡◌, ◌<◌, IfOk, IfErr, IfSome, IfNone, length};
+    ghost use Rattle.std.specs.Prelude.{◌≡◌, ◌<◌, ◌≤◌, IfOk, IfErr, IfSome, IfNone, length};
+    ghost use Rattle.jr_model.specs.declared.frames.TheConstants.{LEVELS};
     ghost use Rattle.jr_model.specs.declared.event.Role.TheVariants.{Outside};
     ghost use Rattle.jr_model.specs.Objects.{get_array_critical, get_string_critical, nest_array, nest_string, region_get, region_set};
     ghost use Rattle.jr_frames.specs.Ready.{StandsReady};
     ghost use Rattle.jr_critical.specs.Finding.{level_nesting};
-    ghost use Rattle.jr_critical.specs.Levels.{objects_of, level_object, level_at, in_words, Opens, Nests, Reaches, GivesUpLast, LeavesBefore, Stand, TellsKind, TellsLength};
+    ghost use Rattle.jr_critical.specs.Levels.{objects_of, level_object, level_at, in_words, Opens, Nests, Reaches, GivesUpAll, GivesUpLast, LeavesBefore, Stand, TellsKind, TellsLength, WasAdded};
 
     /// Enters the gate, and opens the first level over an array whose elements are no objects. (GetPrimitiveArrayCritical.)
     ///
     /// # Errors
     ///
     /// E13 E1 E2 E3 E5 E6, and then the thread is outside and ready for its next call.
+    #[inline(always)]
     pub fn open_array<S: Steps>(held: &mut Held<S>, handle: Handle) -> Result<Levels, Fault>
         requires { StandsReady S.facts Outside held.old.steps held.old.frames }
         ensures call { Opens S.facts held.old.steps held.new.steps held.old.frames.frames handle.0 get_array_critical result }
@@ -78,6 +82,7 @@ impl Levels {
     /// # Errors
     ///
     /// E13 E1 E2 E3 E4, and then the thread is outside and ready for its next call.
+    #[inline(always)]
     pub fn open_string<S: Steps>(held: &mut Held<S>, handle: Handle) -> Result<Levels, Fault>
         requires { StandsReady S.facts Outside held.old.steps held.old.frames }
         ensures call { Opens S.facts held.old.steps held.new.steps held.old.frames.frames handle.0 get_string_critical result }
@@ -99,6 +104,7 @@ impl Levels {
         ensures call { Nests S.facts held.old.steps held.new.steps held.old.frames.frames handle.0 (level_nesting wanted) self.old self.new result }
         ensures frames { held.new.frames ≡ held.old.frames }
         ensures stand { Stand S.facts self.new held.new.steps held.new.frames }
+        ensures added { IfOk result (λ n. WasAdded self.old self.new n) }
         ensures err { IfErr result (λ _. self.new ≡ self.old) }
     {
         let target = Reference::of(handle);
@@ -129,6 +135,7 @@ impl Levels {
         ensures call { Nests S.facts held.old.steps held.new.steps held.old.frames.frames handle.0 nest_array self.old self.new result }
         ensures frames { held.new.frames ≡ held.old.frames }
         ensures stand { Stand S.facts self.new held.new.steps held.new.frames }
+        ensures added { IfOk result (λ n. WasAdded self.old self.new n) }
         ensures err { IfErr result (λ _. self.new ≡ self.old) }
     {
         self.nest(held, handle, Wanted::Array)
@@ -148,6 +155,7 @@ impl Levels {
         ensures call { Nests S.facts held.old.steps held.new.steps held.old.frames.frames handle.0 nest_string self.old self.new result }
         ensures frames { held.new.frames ≡ held.old.frames }
         ensures stand { Stand S.facts self.new held.new.steps held.new.frames }
+        ensures added { IfOk result (λ n. WasAdded self.old self.new n) }
         ensures err { IfErr result (λ _. self.new ≡ self.old) }
     {
         self.nest(held, handle, Wanted::Text)
@@ -238,14 +246,24 @@ impl Levels {
         self.level(level).header.kind
     }
 
+    /// The number of a level's object. It takes no step.
+    pub fn object(&self, level: usize) -> u16
+        requires { level < length (objects_of self.now) }
+        ensures { result ≡ level_object self.now level }
+    {
+        self.level(level).object
+    }
+
     /// How many levels stand.
     pub fn depth(&self) -> usize
-        ensures { result ≡ length (objects_of self.now) }
+        ensures count { result ≡ length (objects_of self.now) }
+        ensures fits { result ≤ LEVELS }
     {
         self.levels.len()
     }
 
     /// Gives up the last level. With the first one the stay ends, by one step, and the answer is none; else by no step the levels before it. A region is no copy, so that every mode does the same. (ReleasePrimitiveArrayCritical, ReleaseStringCritical.)
+    #[inline(always)]
     pub fn close<S: Steps>(self, held: &mut Held<S>, _mode: Mode) -> Option<Levels>
         requires { Stand S.facts self held.old.steps held.old.frames }
         ensures call { GivesUpLast S.facts held.old.steps held.new.steps held.old.frames.frames self result }
@@ -261,5 +279,16 @@ impl Levels {
             return None;
         }
         Some(Levels { inside, levels })
+    }
+
+    /// Gives up all levels at once: the stay ends, by one step.
+    pub fn close_all<S: Steps>(self, held: &mut Held<S>)
+        requires { Stand S.facts self held.old.steps held.old.frames }
+        ensures call { GivesUpAll S.facts held.old.steps held.new.steps held.old.frames.frames self }
+        ensures frames { held.new.frames ≡ held.old.frames }
+        ensures ready { StandsReady S.facts Outside held.new.steps held.new.frames }
+    {
+        let Levels { inside, levels: _ } = self;
+        inside.leave(&mut held.steps);
     }
 }

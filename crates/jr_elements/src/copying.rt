@@ -10,10 +10,22 @@ ghost use Rattle.jr_heap.specs.Heap.{Called, HoldsHeader, LeavesObject, by_steps
 ghost use Rattle.jr_elements.specs.Copies.{answer_in, copy_steps};
 
 use crate::elements::Elements;
-use jr_heap::write_part;
+use jr_heap::{read_part, write_part};
 use jr_steps::Steps;
 use jr_word::{Elem, Fault, HeaderParts};
-use std::alloc::Global;
+use std::alloc::{AllocError, Global};
+
+/// So many elements, each the one whose word is 0, in memory for no more. For none no memory is taken.
+fn zeros<E: Elem>(alloc: Global, count: u32) -> Result<Vec<E>, AllocError>
+    ensures size { IfOk result (λ items. length items.items ≡ count) }
+    ensures none { count ≡ 0 → IsOk result }
+{
+    let mut items = Vec::with_capacity(alloc, count as usize)?;
+    for _ in 0..count {
+        items.push_reserved(E::of_word(0));
+    }
+    Ok(items)
+}
 
 /// Copies all elements of an object whose header was read in this stay. The units of a string are read as chars. Memory for all of them is taken first, and none for no elements.
 ///
@@ -35,13 +47,10 @@ pub fn read_all<S: Steps, E: Elem>(
     ensures call { Called S.facts steps.old steps.new (HoldsHeader object header) (λ j k. unless_memory (reading object 0 header.length)) (answer_in (λ items. map E.word_of items.items) result) (by_steps (copy_steps header.length result) (LeavesObject object header)) }
     ensures known { MayKnow S.facts steps.new (HoldsHeader object header) }
 {
-    let Ok(mut items) = Vec::with_capacity(alloc, header.length as usize) else {
+    let Ok(mut items) = zeros(alloc, header.length) else {
         return Err(Fault::Memory);
     };
-    for index in 0..header.length {
-        let word = steps.see_element(object, header, index);
-        items.push_reserved(E::from_word(word).unwrap());
-    }
+    read_part(steps, object, header, 0, items.as_mut_slice());
     Ok(items)
 }
 

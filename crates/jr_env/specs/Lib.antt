@@ -5,3 +5,4 @@ pub mod Standing
 pub mod Works
 pub mod Regions
 pub mod Copies
+pub mod Criticals

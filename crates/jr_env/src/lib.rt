@@ -4,16 +4,20 @@
 mod calls;
 mod copies;
 mod copy_calls;
+mod critical_calls;
 mod env;
 mod frame_calls;
 mod frame_works;
+mod level_calls;
 mod making;
 mod making_calls;
 mod meeting;
 mod object_calls;
 mod objects;
+mod region;
 mod region_calls;
 mod regions;
 mod work;
 
 pub use env::Env;
+pub use region::Region;

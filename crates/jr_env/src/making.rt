@@ -3,7 +3,6 @@ ghost use Rattle.std.specs.Prelude.{◌≡◌, ◌≢◌, ◌<◌, ◌^◌, ℕ,
 ghost use Rattle.jr_word.specs.declared.handle.RefKind.TheVariants.{Local};
 ghost use Rattle.jr_word.specs.declared.kind.Kind.TheVariants.{Plain, Text};
 ghost use Rattle.jr_model.specs.declared.event.Role.TheVariants.{Within};
-ghost use Rattle.jr_model.specs.Checks.{element_word};
 ghost use Rattle.jr_steps.specs.Knowing.{anything, IsWordNow, MayKnow};
 ghost use Rattle.jr_heap.specs.Heap.{IsReady};
 ghost use Rattle.jr_heap.specs.Ranges.{place_of, size_of};
@@ -11,6 +10,7 @@ ghost use Rattle.jr_frames.specs.Ready.{StandsReady, KeepsOwner};
 ghost use Rattle.jr_frames.specs.Table.{IsNext};
 ghost use Rattle.jr_env.specs.Works.{Refers, MakesArray};
 
+use crate::objects::element_word;
 use crate::work::Work;
 use jr_frames::{Frames, Reference, resolve};
 use jr_gate::Inside;
@@ -181,16 +181,6 @@ impl<S: Steps> Work<S> for StringMaking<'_> {
     ) -> Result<HandleParts, Fault> {
         let StringMaking { numbers, units } = self;
         make_string(steps, frames, numbers, units)
-    }
-}
-
-/// The element of an object array that names an object, 0 for none.
-fn element_word(object: Option<u16>) -> u64
-    ensures { result ≡ element_word object }
-{
-    match object {
-        Some(object) => u64::from(object),
-        None => 0,
     }
 }
 

@@ -174,7 +174,7 @@ impl<S: Steps> Work<S> for ElementWriting {
         };
         let header = header(steps, array);
         has_element(header, self.index)?;
-        let word = element_for(object);
+        let word = element_word(object);
         steps.put_element(array, header, self.index, word);
         Ok(())
     }
@@ -209,7 +209,7 @@ fn object_in(word: u64) -> Option<u16>
 }
 
 /// The element of an object array that names the object, 0 for none.
-fn element_for(object: Option<u16>) -> u64
+pub(crate) fn element_word(object: Option<u16>) -> u64
     ensures { result ≡ element_word object }
 {
     match object {

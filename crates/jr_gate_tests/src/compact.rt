@@ -17,7 +17,7 @@ use std::process::Abort;
 use std::test::Fail;
 
 /// A room of two threads with one object and eight words.
-const PAIR: Config = Config {
+pub(crate) const PAIR: Config = Config {
     threads: 2,
     slots: 1,
     objects: 1,
@@ -29,14 +29,14 @@ const PAIR: Config = Config {
 const WORDS: [u64; 4] = [7, 0, 0, 7];
 
 /// The header of the array, one word above the first.
-const HIGH: HeaderParts = HeaderParts {
+pub(crate) const HIGH: HeaderParts = HeaderParts {
     kind: Kind::Long,
     length: 4,
     place: 1,
 };
 
 /// Makes the array in a stay, behind a word that stays reserved.
-fn make<S: Steps>(steps: &mut S) -> Result<(), Fail> {
+pub(crate) fn make<S: Steps>(steps: &mut S) -> Result<(), Fail> {
     if steps.role() != Role::Outside || !steps.go_in() {
         return Err("the thread does not come in")?;
     }
@@ -105,7 +105,7 @@ fn compact<S: Steps>(rt: &impl Abort, steps: &mut S) -> Result<(), Fail> {
 }
 
 /// Finds the array at the first word, with what it had, and no word reserved behind it.
-fn look_after<S: Steps>(rt: &impl Abort, steps: &mut S) -> Result<(), Fail> {
+pub(crate) fn look_after<S: Steps>(rt: &impl Abort, steps: &mut S) -> Result<(), Fail> {
     if steps.config().objects != 1 || steps.role() != Role::Outside {
         return Err("the room is another")?;
     }

@@ -7,3 +7,5 @@ mod compact;
 mod gate;
 #[cfg(test)]
 mod rooms;
+#[cfg(test)]
+mod together;

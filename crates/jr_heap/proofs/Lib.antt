@@ -7,6 +7,7 @@ pub mod KnownHeaders
 mod Checks
 pub mod Elements
 pub mod Parts
+mod ReadParts
 mod NumberSearch
 mod Publishing
 pub mod HeaderThenElement

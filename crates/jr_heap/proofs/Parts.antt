@@ -1,6 +1,6 @@
 -- Parts of arrays are read and written element by element.
-use Rattle.std.proofs.Common.{◌≡◌, ◌≢◌, ◌<◌, ◌+◌, ℕ, suc, true, List, [], ◌∷◌, ◌++◌, take, map, length, slice_set, get_or, Ok, refl, sym, ap, subst, ◌∙◌, arith}
-use Rattle.std.proofs.lemmas.List.{map-append, length-map, length-take-le, take_all, take_more, take_more_set}
+use Rattle.std.proofs.Common.{◌≡◌, ◌≢◌, ◌<◌, ◌+◌, ℕ, suc, true, List, [], ◌∷◌, ◌++◌, take, map, length, get_or, Ok, refl, sym, ap, subst, ◌∙◌, arith}
+use Rattle.std.proofs.lemmas.List.{map-append, length-map, length-take-le, take_all, take_more}
 use Rattle.std.proofs.Math.Logic.{∥∥₁_elim}
 use Rattle.std.proofs.Props.{props}
 use mathlib.Core.Logic.{∥∥₁_map}
@@ -49,13 +49,6 @@ module _ {E : Type 0} (f : E → ℕ) (o start i at : ℕ) (es : List E) (x : E)
   index_is : start + length (map f (take i es)) ≡ at
   index_is = ap (λ n. start + n) long ∙ sym place
 
-  pub read_turn : (v : ℕ) → f x ≡ v → read_acts o start (map f (take (i + 1) (slice_set es i x))) ≡ read_acts o start (map f (take i es)) ++ Read o at v ∷ []
-  read_turn v word =
-      ap (λ xs. read_acts o start (map f xs)) (take_more_set es i x inside)
-      ∙ (ap (λ vs. read_acts o start vs) (map-append f (take i es) (x ∷ []))
-      ∙ (read_acts_more o start (map f (take i es)) (f x)
-      ∙ (ap (λ n. read_acts o start (map f (take i es)) ++ Read o n (f x) ∷ []) index_is ∙ ap (λ w. read_acts o start (map f (take i es)) ++ Read o at w ∷ []) word)))
-
   pub write_turn : (v : ℕ) → x ≡ get_or es i x → v ≡ f x → write_acts o start (map f (take (i + 1) es)) ≡ write_acts o start (map f (take i es)) ++ Write o at v ∷ []
   write_turn v is word =
       ap (λ xs. write_acts o start (map f xs)) (take_more es i x inside ∙ ap (λ y. take i es ++ y ∷ []) (sym is))
@@ -66,7 +59,7 @@ module _ {E : Type 0} (f : E → ℕ) (o start i at : ℕ) (es : List E) (x : E)
 whole : {E : Type 0} (f : E → ℕ) (n : ℕ) (es : List E) → length es ≡ n → map f (take n es) ≡ map f es
 whole f n es size = ap (λ xs. map f xs) (take_all n es (omega arith))
 
-read_within : (o start : ℕ) (vs : List ℕ) → AreWithin (read_acts o start vs)
+pub read_within : (o start : ℕ) (vs : List ℕ) → AreWithin (read_acts o start vs)
 read_within o start [] = tt
 read_within o start (v ∷ vs) = (refl, read_within o (start + 1) vs)
 
@@ -117,7 +110,7 @@ pub record PartDone {S : Type 0} (facts : S → Facts) (o : ℕ) (h : HeaderPart
   pub did : Leads facts old new (HoldsHeader o h) (λ k k'. Did (view k) (view k') acts) (λ k k'. LeavesObject o h k k' × Takes n k k')
 
 -- the header is known still
-left_holds : (o : ℕ) (h : HeaderParts) (j k : Known) → LeavesObject o h j k → HoldsHeader o h j → HoldsHeader o h k
+pub left_holds : (o : ℕ) (h : HeaderParts) (j k : Known) → LeavesObject o h j k → HoldsHeader o h j → HoldsHeader o h k
 left_holds o h j k l x = record { known = ap (λ (g : Holdings). header_in o g.headers) l.1 ∙ x.known; shown = l.0 }
 
 module _ {S : Type 0} {facts : S → Facts} (fits : AreOf facts) (o : ℕ) (h : HeaderParts) where
@@ -149,11 +142,6 @@ module _ {S : Type 0} {facts : S → Facts} (fits : AreOf facts) (o : ℕ) (h : 
       read_below (state_of g.0) k h.kind v e (read_word o i v h g.2 x))
 
   module _ {E : Type 0} (f : E → ℕ) (start i at : ℕ) (es : List E) (x : E) (v : ℕ) (inside : i < length es) (place : at ≡ start + i) where
-    pub part_read_more : {a b c : S} → (facts a).stands.role ≡ Within → f x ≡ v → PartDone facts o h (read_acts o start (map f (take i es))) i a b → Took facts b c (Read o at v ∷ []) (KnowsHeader o h) keeps
-        → PartDone facts o h (read_acts o start (map f (take (i + 1) (slice_set es i x)))) (i + 1) a c
-    part_read_more {a} {b} {c} w word p t = subst (λ acts. PartDone facts o h acts (i + 1) a c) (sym (read_turn f o start i at es x inside place v word))
-        (part_more (read_acts o start (map f (take i es))) i (Read o at v) (λ e. cc) w refl (λ k m. m.known) p t)
-
     pub part_write_more : {a b c : S} → (facts a).stands.role ≡ Within → x ≡ get_or es i x → v ≡ f x → ((k : Known) → IsWordNow h.kind v k) → PartDone facts o h (write_acts o start (map f (take i es))) i a b → Took facts b c (Write o at v ∷ []) (λ k. KnowsHeader o h k × IsWordNow h.kind v k) keeps
         → PartDone facts o h (write_acts o start (map f (take (i + 1) es))) (i + 1) a c
     part_write_more {a} {b} {c} w is word named p t = subst (λ acts. PartDone facts o h acts (i + 1) a c) (sym (write_turn f o start i at es x inside place v is word))

@@ -26,12 +26,7 @@ pub fn read_part<S: Steps, E: Elem>(
     ensures call { Called S.facts steps.old steps.new (HoldsHeader object header) (λ j k. reading object start (length elements.old)) (Ok (map E.word_of elements.new)) (by_steps (length elements.old) (LeavesObject object header)) }
     ensures known { MayKnow S.facts steps.new (HoldsHeader object header) }
 {
-    let mut index = start;
-    for element in elements.iter_mut() {
-        let word = steps.see_element(object, header, index);
-        *element = E::from_word(word).unwrap();
-        index += 1;
-    }
+    steps.see_part(object, header, start, elements);
 }
 
 /// Writes elements of an array whose header was read in this stay, from an index on.

@@ -7,3 +7,4 @@ pub mod Holding
 pub mod Passes
 pub mod PassLaws
 pub mod Rooms
+pub mod Parts

@@ -19,8 +19,8 @@ use crate::summing::summary;
 use jr_model::{Role, Summary};
 use jr_steps::{GateLoad, SlotLoad, Steps, TopLoad};
 use jr_word::{
-    Config, Fault, GateParts, GateWord, HandleParts, Header, HeaderParts, LocalParts, LocalWord,
-    RefKind, SlotParts, SlotWord, TopWord,
+    Config, Elem, Fault, GateParts, GateWord, HandleParts, Header, HeaderParts, LocalParts,
+    LocalWord, RefKind, SlotParts, SlotWord, TopWord,
 };
 use std::alloc::Global;
 
@@ -249,6 +249,20 @@ impl<const LAST: u32> Steps for PlainSteps<LAST> {
 
     fn see_element(&mut self, _object: u16, header: HeaderParts, index: u32) -> u64 {
         self.word(element_at(&self.config, header.place + index))
+    }
+
+    fn see_part<E: Elem>(
+        &mut self,
+        object: u16,
+        header: HeaderParts,
+        start: u32,
+        elements: &mut [E],
+    ) {
+        let mut index = start;
+        for element in elements.iter_mut() {
+            *element = E::of_word(self.see_element(object, header, index));
+            index += 1;
+        }
     }
 
     fn put_element(&mut self, _object: u16, header: HeaderParts, index: u32, word: u64) {

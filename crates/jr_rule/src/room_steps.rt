@@ -9,7 +9,7 @@ use crate::pass::Pass;
 use crate::room::Room;
 use jr_model::Role;
 use jr_steps::{GateLoad, SlotLoad, Steps, TopLoad};
-use jr_word::{Config, GateParts, HandleParts, HeaderParts, LocalParts, RefKind, SlotParts};
+use jr_word::{Config, Elem, GateParts, HandleParts, HeaderParts, LocalParts, RefKind, SlotParts};
 
 /// The steps that the holder of a pass takes in its room.
 #[derive(Drop)]
@@ -155,6 +155,19 @@ impl<const LAST: u32> Steps for RoomSteps<'_, LAST> {
         self.room
             .row
             .see_element(&mut self.pass, object, header, index)
+    }
+
+    #[inline(always)]
+    fn see_part<E: Elem>(
+        &mut self,
+        object: u16,
+        header: HeaderParts,
+        start: u32,
+        elements: &mut [E],
+    ) {
+        self.room
+            .row
+            .see_part(&mut self.pass, object, header, start, elements);
     }
 
     fn put_element(&mut self, object: u16, header: HeaderParts, index: u32, word: u64) {

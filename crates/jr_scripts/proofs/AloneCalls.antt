@@ -4,14 +4,14 @@ use Rattle.std.specs.List.{AllByRecursion}
 use mathlib.Core.List.{IsPrefix}
 use Rattle.jr_word.specs.declared.config.Config.{Config}
 use Rattle.jr_word.specs.declared.fault.Fault.{Fault}
-use Rattle.jr_word.specs.declared.fault.Fault.TheVariants.{Null, Stale, WrongKind, NotArray, WrongElement, Range, RowFull, LocalsFull, SpaceFull, ObjectsFull, Raced, NoFrame}
+use Rattle.jr_word.specs.declared.fault.Fault.TheVariants.{Null, Stale, WrongKind, NotArray, WrongElement, Range, RowFull, LocalsFull, SpaceFull, ObjectsFull, Raced, NoFrame, Memory}
 use Rattle.jr_model.specs.declared.event.Event.{Event}
 use Rattle.jr_model.specs.declared.event.Act.{Act}
 use Rattle.jr_model.specs.declared.event.Act.TheVariants.{Enter, Knock, Leave}
 use Rattle.jr_model.specs.State.{State, IsPresent, IsOccupied}
 use Rattle.jr_model.specs.History.{History, state, PassView}
 use Rattle.jr_model.specs.Frames.{Frames}
-use Rattle.jr_model.specs.Calls.{Call, Ran, entered}
+use Rattle.jr_model.specs.Calls.{Call, Ran, entered, opened}
 use Rattle.jr_model.specs.Refusals.{RowWasFull, ObjectsWereFull}
 use Rattle.jr_model.specs.RefusedCalls.{is_harmless, may_precede, ChangesNothing}
 use Rattle.jr_model.proofs.Exactly.{append_all}
@@ -19,11 +19,10 @@ use Rattle.jr_model.proofs.Moments.{prefix_trans}
 use Rattle.jr_model.proofs.Stays.{mine_did}
 use Rattle.jr_gate.specs.Performing.{Moment}
 use Rattle.jr_env.specs.Deeds.{Deed, call_by}
-use Rattle.jr_syntax.specs.declared.command.Command.{Command}
-use Rattle.jr_scripts.specs.AloneAnswers.{IsAloneFault, IsShort, LacksSpace}
+use Rattle.jr_scripts.specs.AloneAnswers.{IsCommandFault, IsShort, LacksSpace}
 use Rattle.jr_scripts.proofs.AloneHistories.{all_back, own_acts, own_events, still_so, stays_occupied, stays_present}
 use Rattle.jr_scripts.proofs.SpaceAlone.{found_short, never_lost}
-use Rattle.jr_scripts.proofs.Uncontended.{FoundFull, FoundShort, IsUncontendedFault, is_uncontended_act, AreUncontended, IsUncontended, IsUnraced, found_earlier, more_fault}
+use Rattle.jr_scripts.proofs.Uncontended.{Asked, FoundFull, FoundShort, IsUncontendedFault, is_uncontended_act, AreUncontended, IsUncontended, IsUnraced, found_earlier, more_fault}
 
 -- the room has one thread; all events that its pass has seen are its own, and none is a knock
 pub record IsAlone (p : PassView) : Type 0 where
@@ -37,19 +36,19 @@ abbrev pub AllUncontended : History → Type 0
 AllUncontended es = AllByRecursion (λ e. is_uncontended_act e.act ≡ true) es
 
 -- from one moment of a lone pass to another: what was seen begins what is seen, no reservation was lost in between, and a refusal is a lone thread's
-pub record LedAlone (turns : ℕ) (command : Command) {A : Type 0} (old new : PassView) (g : Frames) (answer : Result A Fault) : Type 0 where
+pub record LedAlone (turns : ℕ) (command : Asked) {A : Type 0} (old new : PassView) (g : Frames) (answer : Result A Fault) : Type 0 where
   pub config : new.config ≡ old.config
   pub thread : new.thread ≡ old.thread
   pub begins : IsPrefix old.seen new.seen
   pub uncontended : AllUncontended old.seen → AllUncontended new.seen
-  pub fault : IfErr answer (IsAloneFault turns command new g)
+  pub fault : IfErr answer (IsCommandFault turns command.0 command.1 new g)
 
 -- what the deed leads to, where all that happened is the thread's own
-pub record LeadsAlone (turns : ℕ) (command : Command) {A : Type 0} (deed : Deed A) : Type 0 where
+pub record LeadsAlone (turns : ℕ) (command : Asked) {A : Type 0} (deed : Deed A) : Type 0 where
   pub led : (old new : Moment) (answer : Result A Fault) → IsAlone new.pass → deed old answer new → LedAlone turns command old.pass new.pass new.frames answer
 
 -- the events that are seen were the call's
-ran_of : {A : Type 0} (silent : Config → ℕ) (asked : Config → ℕ → ℕ → State → Call A) (old new : Moment) (answer : Result A Fault) → call_by silent asked old answer new
+pub ran_of : {A : Type 0} (silent : Config → ℕ) (asked : Config → ℕ → ℕ → State → Call A) (old new : Moment) (answer : Result A Fault) → call_by silent asked old answer new
     → Ran old.pass new.pass old.frames new.frames (asked old.pass.config old.pass.last old.pass.thread (state new.pass.seen)) answer
 ran_of silent asked old new answer r = r.0.ran
 
@@ -59,7 +58,7 @@ module _ {A : Type 0} (old new : PassView) (f g : Frames) (work : Call A) (alone
       (all_back (λ e. e.thread ≡ new.thread) old.seen r.did.begins.0 (subst (AllByRecursion (λ e. e.thread ≡ new.thread)) (sym r.did.begins.1) alone.own))
 
   -- the acts of the call are those of the events since
-  since : (P : Act → Type 0) (answer : Result A Fault) (r : Ran old new f g work answer) → AllByRecursion P r.acts → AllByRecursion (λ e. P e.act) r.did.begins.0
+  pub since : (P : Act → Type 0) (answer : Result A Fault) (r : Ran old new f g work answer) → AllByRecursion P r.acts → AllByRecursion (λ e. P e.act) r.did.begins.0
   since P answer r all = own_events P old.thread r.did.begins.0 (since_own answer r) (subst (AllByRecursion P) (sym (mine_did r.acts r.did)) all)
 
   module _ (e : Fault) (changes : ChangesNothing work) (r : Ran old new f g work (Err e)) where
@@ -81,7 +80,7 @@ module _ {A : Type 0} (old new : PassView) (f g : Frames) (work : Call A) (alone
       still_so (λ e. may_precede ObjectsFull e.act ≡ true) (λ s. (o : ℕ) → 1 ≤ o → o ≤ new.config.objects → IsPresent s o) (λ s e h all o least most. stays_present ObjectsFull o s e h (all o least most)) old.seen r.begun new.seen r.did.begins
       (refused_since ObjectsFull changes r) r.window.from grounds
 
-  space_is_short : (command : Command) (used : ℕ) → ChangesNothing work → (r : Ran old new f g work (Err (SpaceFull used))) → FoundShort command used r.acts → LacksSpace new.config (state new.seen) used command
+  space_is_short : (command : Asked) (used : ℕ) → ChangesNothing work → (r : Ran old new f g work (Err (SpaceFull used))) → FoundShort command used r.acts → LacksSpace new.config (state new.seen) used command.1
   space_is_short command used changes r short =
       let found = subst (FoundFull short.words used) (sym (mine_did r.acts r.did)) short.found in
       let is = found_short old.config old.last short.words used old.thread old.seen new.seen r.did.begins r.did.legal (refused_since (SpaceFull used) changes r) found in
@@ -91,22 +90,23 @@ module _ {A : Type 0} (old new : PassView) (f g : Frames) (work : Call A) (alone
   never_raced looked found changes r = never_lost old.config old.last old.seen r.begun new looked found r.did.begins r.did.legal (refused_since (Raced looked found) changes r) r.window.from r.grounds
 
   -- a refusal of a call that no other thread causes
-  fault_alone : (turns : ℕ) (command : Command) (e : Fault) → ChangesNothing work → (r : Ran old new f g work (Err e)) → IsUncontendedFault (state new.seen) new.last command r.acts g e → IsAloneFault turns command new g e
+  fault_alone : (turns : ℕ) (command : Asked) (e : Fault) → ChangesNothing work → (r : Ran old new f g work (Err e)) → IsUncontendedFault (state new.seen) new.last command r.acts g e → IsCommandFault turns command.0 command.1 new g e
   fault_alone turns command Null changes r uncontended = uncontended
   fault_alone turns command Stale changes r uncontended = tt
-  fault_alone turns command WrongKind changes r uncontended = uncontended
+  fault_alone turns command WrongKind changes r uncontended = inl uncontended
   fault_alone turns command NotArray changes r uncontended = uncontended
   fault_alone turns command WrongElement changes r uncontended = uncontended
   fault_alone turns command Range changes r uncontended = uncontended
   fault_alone turns command LocalsFull changes r uncontended = uncontended
   fault_alone turns command NoFrame changes r uncontended = uncontended
+  fault_alone turns command Memory changes r uncontended = uncontended
   fault_alone turns command RowFull changes r uncontended = row_is_full changes r
   fault_alone turns command (SpaceFull used) changes r uncontended = space_is_short command used changes r uncontended
   fault_alone turns command (Raced looked found) changes r uncontended = absurd (never_raced looked found changes r)
   fault_alone turns command ObjectsFull changes r uncontended = objects_are_full changes r
   fault_alone turns command _ changes r uncontended = absurd uncontended
 
-module _ {A : Type 0} (s : State) (command : Command) (last : ℕ) (work : Call A) (uncontended : IsUncontended s last command work) where
+module _ {A : Type 0} (s : State) (command : Asked) (last : ℕ) (work : Call A) (uncontended : IsUncontended s last command work) where
   acts_uncontended : (old new : Frames) (acts : List Act) (answer : Result A Fault) → IsUnraced answer → entered work old acts answer new → AreUncontended acts
   acts_uncontended old new acts answer u (inl r) = subst AreUncontended (sym r.0) (refl, (refl, tt))
   acts_uncontended old new acts answer u (inr r) = subst AreUncontended (sym r.1) (refl, append_all (λ a. is_uncontended_act a ≡ true) r.0 (Leave ∷ []) (uncontended.acts old new r.0 answer u r.2) (refl, tt))
@@ -117,20 +117,20 @@ module _ {A : Type 0} (s : State) (command : Command) (last : ℕ) (work : Call 
   fault_uncontended old new acts e enters (inr r) =
       subst (λ (all : List Act). IsUncontendedFault s last command all new e) (sym r.1) (more_fault s last command r.0 (Enter ∷ r.0 ++ Leave ∷ []) (λ n used h. inr (found_earlier n used r.0 (Leave ∷ []) h)) new e (uncontended.fault old new r.0 e r.2))
 
-  unraced : (turns : ℕ) (p : PassView) (f : Frames) (answer : Result A Fault) → IfErr answer (IsAloneFault turns command p f) → IsUnraced answer
+  unraced : (turns : ℕ) (p : PassView) (f : Frames) (answer : Result A Fault) → IfErr answer (IsCommandFault turns command.0 command.1 p f) → IsUnraced answer
   unraced turns p f (Ok x) h = tt
   unraced turns p f (Err (Raced looked found)) h = h
   unraced turns p f (Err _) h = tt
 
   module _ (turns : ℕ) (changes : ChangesNothing (entered work)) (old new : PassView) (f g : Frames) (same : old.last ≡ last) (now : s ≡ state new.seen) (alone : IsAlone new) where
-    ran_fault : (answer : Result A Fault) → Ran old new f g (entered work) answer → IfErr answer (IsAloneFault turns command new g)
+    ran_fault : (answer : Result A Fault) → Ran old new f g (entered work) answer → IfErr answer (IsCommandFault turns command.0 command.1 new g)
     ran_fault (Ok x) r = tt
     ran_fault (Err e) r =
         let enters = all_back (λ (x : Event). x.act ≢ Knock) old.seen r.did.begins.0 (subst (AllByRecursion (λ (x : Event). x.act ≢ Knock)) (sym r.did.begins.1) alone.enters) in
         let acts : AllByRecursion (λ a. a ≢ Knock) r.acts = subst (AllByRecursion (λ a. a ≢ Knock)) (mine_did r.acts r.did) (own_acts (λ a. a ≢ Knock) old.thread r.did.begins.0 enters) in
         fault_alone old new f g (entered work) alone turns command e changes r (subst (λ n. IsUncontendedFault (state new.seen) n command r.acts g e) (sym (r.did.last ∙ same)) (subst (λ x. IsUncontendedFault x last command r.acts g e) now (fault_uncontended f g r.acts e acts r.is)))
 
-    ran_alone : (answer : Result A Fault) → Ran old new f g (entered work) answer → LedAlone turns command old new g answer
+    pub ran_alone : (answer : Result A Fault) → Ran old new f g (entered work) answer → LedAlone turns command old new g answer
     ran_alone answer r = record {
       config = r.did.config;
       thread = r.did.thread;
@@ -139,8 +139,37 @@ module _ {A : Type 0} (s : State) (command : Command) (last : ℕ) (work : Call 
       fault = ran_fault answer r;
     }
 
+-- a call that opens a region, or is refused
+module _ {A : Type 0} (s : State) (command : Asked) (last : ℕ) (work : Call A) (uncontended : IsUncontended s last command work) where
+  opened_acts : (old new : Frames) (acts : List Act) (answer : Result A Fault) → IsUnraced answer → opened work old acts answer new → AreUncontended acts
+  opened_acts old new acts answer u (inl r) = subst AreUncontended (sym r.0) (refl, (refl, tt))
+  opened_acts old new acts (Ok x) u (inr r) = subst AreUncontended (sym r.1.0) (refl, uncontended.acts old new r.0 (Ok x) u r.1.1)
+  opened_acts old new acts (Err e) u (inr r) = subst AreUncontended (sym r.1.0) (refl, append_all (λ a. is_uncontended_act a ≡ true) r.0 (Leave ∷ []) (uncontended.acts old new r.0 (Err e) u r.1.1) (refl, tt))
+
+  opened_fault : (old new : Frames) (acts : List Act) (e : Fault) → AllByRecursion (λ a. a ≢ Knock) acts → opened work old acts (Err e) new → IsUncontendedFault s last command acts new e
+  opened_fault old new acts e enters (inl r) = absurd ((subst (AllByRecursion (λ a. a ≢ Knock)) r.0 enters).0 refl)
+  opened_fault old new acts e enters (inr r) =
+      subst (λ (all : List Act). IsUncontendedFault s last command all new e) (sym r.1.0) (more_fault s last command r.0 (Enter ∷ r.0 ++ Leave ∷ []) (λ n used h. inr (found_earlier n used r.0 (Leave ∷ []) h)) new e (uncontended.fault old new r.0 e r.1.1))
+
+  module _ (turns : ℕ) (changes : ChangesNothing (opened work)) (old new : PassView) (f g : Frames) (same : old.last ≡ last) (now : s ≡ state new.seen) (alone : IsAlone new) where
+    opened_refused : (answer : Result A Fault) → Ran old new f g (opened work) answer → IfErr answer (IsCommandFault turns command.0 command.1 new g)
+    opened_refused (Ok x) r = tt
+    opened_refused (Err e) r =
+        let enters = all_back (λ (x : Event). x.act ≢ Knock) old.seen r.did.begins.0 (subst (AllByRecursion (λ (x : Event). x.act ≢ Knock)) (sym r.did.begins.1) alone.enters) in
+        let acts : AllByRecursion (λ a. a ≢ Knock) r.acts = subst (AllByRecursion (λ a. a ≢ Knock)) (mine_did r.acts r.did) (own_acts (λ a. a ≢ Knock) old.thread r.did.begins.0 enters) in
+        fault_alone old new f g (opened work) alone turns command e changes r (subst (λ n. IsUncontendedFault (state new.seen) n command r.acts g e) (sym (r.did.last ∙ same)) (subst (λ x. IsUncontendedFault x last command r.acts g e) now (opened_fault f g r.acts e acts r.is)))
+
+    pub opened_ran : (answer : Result A Fault) → Ran old new f g (opened work) answer → LedAlone turns command old new g answer
+    opened_ran answer r = record {
+      config = r.did.config;
+      thread = r.did.thread;
+      begins = r.did.begins;
+      uncontended = λ before. subst AllUncontended r.did.begins.1 (append_all (λ e. is_uncontended_act e.act ≡ true) old.seen r.did.begins.0 before (since old new f g (opened work) alone (λ a. is_uncontended_act a ≡ true) answer r (opened_acts f g r.acts answer (unraced s command last work uncontended turns new g answer (opened_refused answer r)) r.is)));
+      fault = opened_refused answer r;
+    }
+
 -- a call with a stay of its own
-pub call_alone : {A : Type 0} (turns : ℕ) (command : Command) (silent : Config → ℕ) (work : Config → ℕ → ℕ → State → Call A) → ((c : Config) (last t : ℕ) (s : State) → c.threads ≡ 1 → t ≡ 0 → IsUncontended s last command (work c last t s)) → ((c : Config) (last t : ℕ) (s : State) → ChangesNothing (entered (work c last t s)))
+pub call_alone : {A : Type 0} (turns : ℕ) (command : Asked) (silent : Config → ℕ) (work : Config → ℕ → ℕ → State → Call A) → ((c : Config) (last t : ℕ) (s : State) → c.threads ≡ 1 → t ≡ 0 → IsUncontended s last command (work c last t s)) → ((c : Config) (last t : ℕ) (s : State) → ChangesNothing (entered (work c last t s)))
     → LeadsAlone turns command (call_by silent (λ c last t s. entered (work c last t s)))
 call_alone turns command silent work uncontended changes = record {
   led = λ old new answer alone r.

@@ -9,6 +9,8 @@ use Rattle.jr_model.specs.State.{Handle}
 use Rattle.jr_model.specs.Frames.{Frames}
 use Rattle.jr_model.specs.Checks.{Parts}
 use Rattle.jr_syntax.specs.declared.command.Command.{Command}
+use Rattle.jr_syntax.specs.declared.verb.Release.{Release}
+use Rattle.jr_syntax.specs.declared.verb.Release.TheVariants as release
 use Rattle.jr_syntax.specs.declared.verb.OnBoth.{OnBoth}
 use Rattle.jr_syntax.specs.declared.verb.OnBoth.TheVariants.{Same}
 use Rattle.jr_steps.specs.Knowing.{Facts}
@@ -28,7 +30,7 @@ use Rattle.jr_scripts.proofs.FormedTries.{tried_formed, formed_ok, formed_err}
 use Rattle.jr_gate.proofs.SameRoom.{nothing_changed, still_before}
 
 -- arrays of such a kind have numbers
-numbered_has : (n : NumberKind) → has_numbers (kind_numbered n) ≡ Ok tt
+pub numbered_has : (n : NumberKind) → has_numbers (kind_numbered n) ≡ Ok tt
 numbered_has number.Boolean = refl
 numbered_has number.Byte = refl
 numbered_has number.Char = refl
@@ -40,6 +42,10 @@ numbered_has number.Long = refl
 pub number_of_one : {V : Type 0} (k : Kind) (word_of : V → ℕ) (xs : List V) (x : V) → length xs ≡ 1 → get_or xs 0 x ≡ x → number_of_word k (word_of x) ≡ first_number k (map word_of xs)
 number_of_one k word_of [] x one is = absurd (let none = one in cc)
 number_of_one k word_of (y ∷ ys) x one is = ap (λ z. number_of_word k (word_of z)) (sym is)
+
+-- a verb of a name, a reference and a mode is this one
+pub only_release : (v : Release) → v ≡ release.Elements
+only_release release.Elements = refl
 
 -- a verb of two references is this one
 pub only_same : (v : OnBoth) → v ≡ Same

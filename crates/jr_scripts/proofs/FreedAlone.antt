@@ -10,17 +10,19 @@ use Rattle.jr_syntax.specs.declared.verb.Make.TheVariants as make
 use Rattle.jr_gate.specs.Performing.{Moment}
 use Rattle.jr_env.specs.Deeds.{free_locals}
 use Rattle.jr_scripts.specs.Tries.{Tried, answered, again, gave_up, is_tried_again}
+use Rattle.jr_scripts.specs.Names.{no_names}
 use Rattle.jr_scripts.specs.Explains.{Explained}
 use Rattle.jr_scripts.specs.AloneAnswers.{AnswersAlone}
 use Rattle.jr_scripts.specs.Runs.{IsFreed}
-use Rattle.jr_scripts.proofs.Uncontended.{freeing_uncontended}
+use Rattle.jr_scripts.proofs.Uncontended.{Asked, freeing_uncontended}
 use Rattle.jr_scripts.proofs.AloneCalls.{IsAlone, LeadsAlone, AllUncontended, call_alone}
-use Rattle.jr_scripts.proofs.AloneDeeds.{was_alone, once_alone, tries_alone}
-use Rattle.jr_scripts.proofs.AloneAnswers.{went_alone}
+use Rattle.jr_scripts.proofs.AloneParts.{was_alone, once_alone, tries_alone}
+use Rattle.jr_scripts.proofs.AloneAnswers.{given_up_alone, went_alone}
+use Rattle.jr_scripts.proofs.AloneWithin.{led_alone}
 
 -- a command whose refusals are those of a free, and more
-plainly : Command
-plainly = commands.Make make.Plain []
+plainly : Asked
+plainly = (no_names, commands.Make make.Plain [])
 
 free_alone : (turns : ℕ) → LeadsAlone turns plainly free_locals
 free_alone turns = call_alone turns plainly (λ c. 0) (λ c last t s. references.freeing) (λ c last t s one first. freeing_uncontended s plainly c last t one first) (λ c last t s. (refusals_change_nothing c last t s).free_locals)
@@ -42,12 +44,14 @@ freed_all zero old new answer alone gave_up some = absurd (some refl)
 
 -- A LONE THREAD's commands, and its end
 pub record EndedAlone {turns first : ℕ} {opening told left : Moment} {commands : List Command} {text : List ℕ} (e : Explained turns first opening commands text told) (f : IsFreed turns told left) : Type 0 where
-  pub answers : AnswersAlone e.1
+  pub answers : AnswersAlone e.explains
   pub all : turns ≢ 0 → f.answer ≡ Ok tt
   pub uncontended : AllUncontended opening.pass.seen → AllUncontended left.pass.seen
 
 pub ended_alone : (turns first : ℕ) (opening told left : Moment) (commands : List Command) (text : List ℕ) (e : Explained turns first opening commands text told) (f : IsFreed turns told left) → IsAlone left.pass → EndedAlone e f
 ended_alone turns first opening told left commands text e f alone =
     let y = tries_alone plainly free_alone turns told left f.answer alone f.tries in
-    let x = went_alone turns first opening told commands text e.0 e.1 (was_alone y alone) in
-    record { answers = x.answers; all = freed_all turns told left f.answer alone f.tries; uncontended = λ m. y.uncontended (x.uncontended m) }
+    let here = was_alone y alone in
+    let g = given_up_alone e.place.objects e.done told (Ok tt) here e.ended in
+    let x = went_alone turns first opening e.done commands text e.place e.explains (led_alone g here) in
+    record { answers = x.answers; all = freed_all turns told left f.answer alone f.tries; uncontended = λ m. y.uncontended (g.uncontended (x.uncontended m)) }

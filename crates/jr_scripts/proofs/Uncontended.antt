@@ -10,7 +10,7 @@ use Rattle.jr_word.specs.declared.handle.RefKind.TheVariants.{Local}
 use Rattle.jr_word.specs.declared.kind.Kind.{Kind}
 use Rattle.jr_word.specs.declared.kind.Kind.TheVariants.{Plain, Objects}
 use Rattle.jr_word.specs.declared.fault.Fault.{Fault}
-use Rattle.jr_word.specs.declared.fault.Fault.TheVariants.{Null, Stale, Foreign, WrongKind, NotArray, WrongElement, Range, RowFull, LocalsFull, SpaceFull, ObjectsFull, Raced, NoFrame}
+use Rattle.jr_word.specs.declared.fault.Fault.TheVariants.{Null, Stale, Foreign, WrongKind, NotArray, WrongElement, Range, RowFull, LocalsFull, SpaceFull, ObjectsFull, Raced, NoFrame, Memory}
 use Rattle.jr_model.specs.declared.event.Act.{Act}
 use Rattle.jr_model.specs.declared.event.Act.TheVariants.{Reserve, ReserveFull, ReserveLost, Create, Look, Probe, Delete, DeleteStale, LocalPut, LocalDrop, New}
 use Rattle.jr_model.specs.declared.event.Found.{Found}
@@ -29,7 +29,12 @@ use Rattle.jr_syntax.specs.declared.command.Command.{Command}
 use Rattle.jr_syntax.specs.declared.command.Command.TheVariants as commands
 use Rattle.jr_syntax.specs.declared.verb.MakeFrom.TheVariants as make_from
 use Rattle.jr_syntax.specs.declared.verb.WithCount.TheVariants as with_count
-use Rattle.jr_scripts.specs.AloneAnswers.{IsShort, LacksArray, LacksElements, LacksFrame, LacksIndex, LacksRoom, LacksSpace, LacksText, WantsObject}
+use Rattle.jr_scripts.specs.Names.{Names}
+use Rattle.jr_scripts.specs.AloneAnswers.{IsShort, LacksArray, LacksElements, LacksFrame, LacksIndex, LacksRoom, LacksSpace, LacksText, TakesMemory, WantsObject}
+
+-- a command, and the names before it
+abbrev pub Asked : Type 0
+Asked = Names × Command
 
 -- an act that no other thread causes: no reservation that was lost
 abbrev pub is_uncontended_act : Act → Bool
@@ -42,29 +47,30 @@ FoundFull n used [] = ⊥
 FoundFull n used (a ∷ acts) = (a ≡ ReserveFull n used) ⊎ FoundFull n used acts
 
 -- where n words are too many, the command lacks space
-abbrev pub MayLack : Command → ℕ → Type 0
-MayLack command n = (used : ℕ) (c : Config) (s : State) → IsShort c s used n → LacksSpace c s used command
+abbrev pub MayLack : Asked → ℕ → Type 0
+MayLack command n = (used : ℕ) (c : Config) (s : State) → IsShort c s used n → LacksSpace c s used command.1
 
 -- what the acts found to be full is too short for the command
-pub record FoundShort (command : Command) (used : ℕ) (acts : List Act) : Type 0 where
+pub record FoundShort (command : Asked) (used : ℕ) (acts : List Act) : Type 0 where
   pub words : ℕ
   pub found : FoundFull words used acts
-  pub lacks : (c : Config) (s : State) → IsShort c s used words → LacksSpace c s used command
+  pub lacks : (c : Config) (s : State) → IsShort c s used words → LacksSpace c s used command.1
 
 -- a refusal of a command that no other thread causes, or a lost reservation; where it says that there is no room in the frames or no frame, or what it found among the objects of s, so it is
-abbrev pub IsUncontendedFault : State → ℕ → Command → List Act → Frames → Fault → Type 0
-IsUncontendedFault s last command acts f Null = WantsObject command
+abbrev pub IsUncontendedFault : State → ℕ → Asked → List Act → Frames → Fault → Type 0
+IsUncontendedFault s last command acts f Null = WantsObject command.1
 IsUncontendedFault s last command acts f Stale = Unit {0}
-IsUncontendedFault s last command acts f WrongKind = LacksText s command
-IsUncontendedFault s last command acts f NotArray = LacksArray s command
-IsUncontendedFault s last command acts f WrongElement = LacksElements s command
-IsUncontendedFault s last command acts f Range = LacksIndex s command
-IsUncontendedFault s last command acts f LocalsFull = LacksRoom last command f
-IsUncontendedFault s last command acts f NoFrame = LacksFrame command f
+IsUncontendedFault s last command acts f WrongKind = LacksText s command.1
+IsUncontendedFault s last command acts f NotArray = LacksArray s command.1
+IsUncontendedFault s last command acts f WrongElement = LacksElements s command.0 command.1
+IsUncontendedFault s last command acts f Range = LacksIndex s command.0 command.1
+IsUncontendedFault s last command acts f LocalsFull = LacksRoom last command.1 f
+IsUncontendedFault s last command acts f NoFrame = LacksFrame command.1 f
 IsUncontendedFault s last command acts f RowFull = Unit {0}
 IsUncontendedFault s last command acts f (SpaceFull used) = FoundShort command used acts
 IsUncontendedFault s last command acts f ObjectsFull = Unit {0}
 IsUncontendedFault s last command acts f (Raced l found) = Unit {0}
+IsUncontendedFault s last command acts f Memory = TakesMemory command.1
 IsUncontendedFault s last command acts f _ = ⊥
 
 -- the answer is not that a reservation was lost
@@ -76,20 +82,20 @@ abbrev pub AreUncontended : List Act → Type 0
 AreUncontended acts = AllByRecursion (λ a. is_uncontended_act a ≡ true) acts
 
 -- the call has no other acts unless it lost a reservation, and no other refusals of the command that makes it
-pub record IsUncontended (s : State) (last : ℕ) (command : Command) {A : Type 0} (call : Call A) : Type 0 where
+pub record IsUncontended (s : State) (last : ℕ) (command : Asked) {A : Type 0} (call : Call A) : Type 0 where
   pub acts : (old new : Frames) (acts : List Act) (answer : Result A Fault) → IsUnraced answer → call old acts answer new → AreUncontended acts
   pub fault : (old new : Frames) (acts : List Act) (e : Fault) → call old acts (Err e) new → IsUncontendedFault s last command acts new e
 
-no_acts : {acts : List Act} → acts ≡ [] → AreUncontended acts
+pub no_acts : {acts : List Act} → acts ≡ [] → AreUncontended acts
 no_acts is = subst AreUncontended (sym is) tt
 
-one_act : {acts : List Act} (a : Act) → is_uncontended_act a ≡ true → acts ≡ a ∷ [] → AreUncontended acts
+pub one_act : {acts : List Act} (a : Act) → is_uncontended_act a ≡ true → acts ≡ a ∷ [] → AreUncontended acts
 one_act a uncontended is = subst AreUncontended (sym is) (uncontended, tt)
 
-same_fault : {A : Type 0} (e e' : Fault) → ◌≡◌ {A = Result A Fault} (Err e) (Err e') → e ≡ e'
+pub same_fault : {A : Type 0} (e e' : Fault) → ◌≡◌ {A = Result A Fault} (Err e) (Err e') → e ≡ e'
 same_fault e e' is = cc
 
-same_fault_of : {A : Type 0} (s : State) (last : ℕ) (command : Command) (acts : List Act) (f : Frames) (e e' : Fault) → ◌≡◌ {A = Result A Fault} (Err e) (Err e') → IsUncontendedFault s last command acts f e' → IsUncontendedFault s last command acts f e
+same_fault_of : {A : Type 0} (s : State) (last : ℕ) (command : Asked) (acts : List Act) (f : Frames) (e e' : Fault) → ◌≡◌ {A = Result A Fault} (Err e) (Err e') → IsUncontendedFault s last command acts f e' → IsUncontendedFault s last command acts f e
 same_fault_of {A} s last command acts f e e' is uncontended = subst (IsUncontendedFault s last command acts f) (sym (same_fault {A = A} e e' is)) uncontended
 
 same_unraced : (A : Type 0) {B : Type 0} (answer : Result B Fault) (e : Fault) → answer ≡ Err e → IsUnraced answer → IsUnraced {A = A} (Err e)
@@ -109,7 +115,7 @@ found_earlier n used [] rest h = absurd h
 found_earlier n used (a ∷ front) rest (inl is) = inl is
 found_earlier n used (a ∷ front) rest (inr h) = inr (found_earlier n used front rest h)
 
-pub more_fault : (s : State) (last : ℕ) (command : Command) (some whole : List Act) → ((n used : ℕ) → FoundFull n used some → FoundFull n used whole) → (f : Frames) (e : Fault) → IsUncontendedFault s last command some f e → IsUncontendedFault s last command whole f e
+pub more_fault : (s : State) (last : ℕ) (command : Asked) (some whole : List Act) → ((n used : ℕ) → FoundFull n used some → FoundFull n used whole) → (f : Frames) (e : Fault) → IsUncontendedFault s last command some f e → IsUncontendedFault s last command whole f e
 more_fault s last command some whole found f (SpaceFull used) h = record { words = h.words; found = found h.words used h.found; lacks = h.lacks }
 more_fault s last command some whole found f Null h = h
 more_fault s last command some whole found f Stale h = h
@@ -122,6 +128,7 @@ more_fault s last command some whole found f NoFrame h = h
 more_fault s last command some whole found f RowFull h = h
 more_fault s last command some whole found f ObjectsFull h = h
 more_fault s last command some whole found f (Raced l g) h = h
+more_fault s last command some whole found f Memory h = h
 more_fault s last command some whole found f _ h = absurd h
 
 all_probes : (looks : List (ℕ × Bool)) → AreUncontended (map (λ l. Probe l.0 l.1) looks)
@@ -136,7 +143,7 @@ pub passed : (b : Bool) (e : Fault) (old mid : Frames) (acts : List Act) (x : Un
 passed true e old mid acts x r = let bad = r.1 in cc
 passed false e old mid acts x r = refl
 
-module _ {s : State} {last : ℕ} {command : Command} where
+module _ {s : State} {last : ℕ} {command : Asked} where
   pub done_uncontended : {A : Type 0} (x : A) → IsUncontended s last command (done x)
   done_uncontended x = record { acts = λ old new acts answer u r. no_acts r.0; fault = λ old new acts e r. let bad = r.1 in cc }
 
@@ -178,11 +185,11 @@ module _ {s : State} {last : ℕ} {command : Command} where
   unless_uncontended b e fit q = bind_uncontended_then (refuse_if_uncontended b e fit) (λ old mid acts x r. q x (passed b e old mid acts x r))
 
   -- a test that does not refuse, and what follows
-  passes_uncontended : {B : Type 0} {next : Unit {0} → Call B} (b : Bool) (e : Fault) → b ≡ false → ((x : Unit {0}) → IsUncontended s last command (next x)) → IsUncontended s last command (refuse_if b e >>= next)
+  pub passes_uncontended : {B : Type 0} {next : Unit {0} → Call B} (b : Bool) (e : Fault) → b ≡ false → ((x : Unit {0}) → IsUncontended s last command (next x)) → IsUncontended s last command (refuse_if b e >>= next)
   passes_uncontended false e is q = bind_uncontended (done_uncontended tt) q
   passes_uncontended true e is q = absurd cc
 
-  one_of_uncontended : {A : Type 0} {p q : Call A} → IsUncontended s last command p → IsUncontended s last command q → IsUncontended s last command (one_of p q)
+  pub one_of_uncontended : {A : Type 0} {p q : Call A} → IsUncontended s last command p → IsUncontended s last command q → IsUncontended s last command (one_of p q)
   one_of_uncontended {A} {p} {q} a b = record { acts = acts_of; fault = fault_of }
     where
       acts_of : (old new : Frames) (acts : List Act) (answer : Result A Fault) → IsUnraced answer → one_of p q old acts answer new → AreUncontended acts
@@ -266,7 +273,7 @@ inside_owner true owner threads t one first inside = grind (arith, nat_tests)
 inside_owner false owner threads t one first inside = absurd cc
 
 -- what lies in a room of one thread is of no other
-not_foreign : (c : Config) (t : ℕ) (a : Word) → c.threads ≡ 1 → t ≡ 0 → is_out_of_bounds c a ≡ false → is_foreign t a ≡ false
+pub not_foreign : (c : Config) (t : ℕ) (a : Word) → c.threads ≡ 1 → t ≡ 0 → is_out_of_bounds c a ≡ false → is_foreign t a ≡ false
 not_foreign c t Nothing one first inside = refl
 not_foreign c t Malformed one first inside = refl
 not_foreign c t (Parts h) one first inside = go (is_local h) inside
@@ -275,7 +282,7 @@ not_foreign c t (Parts h) one first inside = go (is_local h) inside
     go true is = inside_owner (nat_lt h.index c.locals) h.owner c.threads t one first is
     go false is = refl
 
-module _ (s : State) (command : Command) (c : Config) (last thread : ℕ) (one : c.threads ≡ 1) (first : thread ≡ 0) where
+module _ (s : State) (command : Asked) (c : Config) (last thread : ℕ) (one : c.threads ≡ 1) (first : thread ≡ 0) where
   pub resolved_uncontended : (a : Word) → IsUncontended s last command (resolved c last thread a)
   resolved_uncontended a =
       bind_uncontended (refuse_if_uncontended _ Stale (λ acts f. tt)) (λ x. unless_uncontended (is_out_of_bounds c a) Stale (λ acts f. tt) (λ y inside.
@@ -291,7 +298,7 @@ module _ (s : State) (command : Command) (c : Config) (last thread : ℕ) (one :
   room_refused : (f : Frames) → nat_lt (free_places last f) 1 ≡ true → free_places last f ≡ 0
   room_refused f less = grind (arith, nat_tests)
 
-  room_uncontended : ((f : Frames) → free_places last f ≡ 0 → LacksRoom last command f) → IsUncontended s last command (room_for c last thread 1)
+  room_uncontended : ((f : Frames) → free_places last f ≡ 0 → LacksRoom last command.1 f) → IsUncontended s last command (room_for c last thread 1)
   room_uncontended full = record { acts = acts_of; fault = fault_of }
     where
       acts_at : (b : Bool) (old new : Frames) (acts : List Act) (answer : Result (Unit {0}) Fault) → refuse_if b LocalsFull old acts answer new → AreUncontended acts
@@ -311,7 +318,7 @@ module _ (s : State) (command : Command) (c : Config) (last thread : ℕ) (one :
   added_uncontended : (o : ℕ) → IsUncontended s last command (added c last thread o)
   added_uncontended o = record { acts = λ old new acts answer u r. one_act (LocalPut r.0.index o) refl r.1; fault = λ old new acts e r. let bad = r.2 in cc }
 
-  pub new_local_uncontended : ((f : Frames) → free_places last f ≡ 0 → LacksRoom last command f) → (o : Option ℕ) → IsUncontended s last command (new_local c last thread o)
+  pub new_local_uncontended : ((f : Frames) → free_places last f ≡ 0 → LacksRoom last command.1 f) → (o : Option ℕ) → IsUncontended s last command (new_local c last thread o)
   new_local_uncontended full None = done_uncontended None
   new_local_uncontended full (Some o) = bind_uncontended (room_uncontended full) (λ x. bind_uncontended (added_uncontended o) (λ h. done_uncontended (Some h)))
 
@@ -356,19 +363,19 @@ module _ (s : State) (command : Command) (c : Config) (last thread : ℕ) (one :
   reserve_uncontended zero lacks = done_uncontended tt
   reserve_uncontended (suc n) lacks = one_of_uncontended (act_uncontended (Reserve (suc n)) refl) (one_of_uncontended (space_full (suc n) lacks) (space_lost (suc n)))
 
-  pub made_uncontended : ((f : Frames) → free_places last f ≡ 0 → LacksRoom last command f) → (k : Kind) (ws : List ℕ) → MayLack command (length ws) → IsUncontended s last command (made c last thread k ws)
+  pub made_uncontended : ((f : Frames) → free_places last f ≡ 0 → LacksRoom last command.1 f) → (k : Kind) (ws : List ℕ) → MayLack command (length ws) → IsUncontended s last command (made c last thread k ws)
   made_uncontended full k ws lacks = bind_uncontended (room_uncontended full) (λ x. bind_uncontended (reserve_uncontended (length ws) lacks) (λ y. bind_uncontended (publish_uncontended k ws) added_uncontended))
 
-  pub making_uncontended : ((f : Frames) → free_places last f ≡ 0 → LacksRoom last command f) → IsUncontended s last command (making c last thread)
+  pub making_uncontended : ((f : Frames) → free_places last f ≡ 0 → LacksRoom last command.1 f) → IsUncontended s last command (making c last thread)
   making_uncontended full = bind_uncontended (room_uncontended full) (λ x. bind_uncontended (done_uncontended tt) (λ y. bind_uncontended (publish_uncontended Plain []) added_uncontended))
 
-  pub array_making_uncontended : ((f : Frames) → free_places last f ≡ 0 → LacksRoom last command f) → (n : ℕ) (a : Word) → MayLack command n → IsUncontended s last command (array_making c last thread n a)
+  pub array_making_uncontended : ((f : Frames) → free_places last f ≡ 0 → LacksRoom last command.1 f) → (n : ℕ) (a : Word) → MayLack command n → IsUncontended s last command (array_making c last thread n a)
   array_making_uncontended full n a lacks = bind_uncontended (resolved_uncontended a) (λ x. made_uncontended full Objects (replicate n (element_word x)) (subst (MayLack command) (sym (length-replicate n (element_word x))) lacks))
 
   pub creation_uncontended : (k : RefKind) (a : Word) → IsUncontended s last command (creation c last thread k a)
   creation_uncontended k a = bind_uncontended (resolved_uncontended a) (created_uncontended k)
 
-  pub local_creation_uncontended : ((f : Frames) → free_places last f ≡ 0 → LacksRoom last command f) → (a : Word) → IsUncontended s last command (local_creation c last thread a)
+  pub local_creation_uncontended : ((f : Frames) → free_places last f ≡ 0 → LacksRoom last command.1 f) → (a : Word) → IsUncontended s last command (local_creation c last thread a)
   local_creation_uncontended full a = bind_uncontended (resolved_uncontended a) (new_local_uncontended full)
 
   pub comparison_uncontended : (a b : Word) → IsUncontended s last command (comparison c last thread a b)
@@ -430,13 +437,13 @@ HasPlace last (Some o) f = (free_places last f == 0) ≡ false
 some_place : (places : ℕ) → (places == 0) ≡ false → nat_lt places 1 ≡ true → ⊥
 some_place places some less = grind (arith, nat_tests)
 
-module _ (name : List ℕ) (kept : Reference) where
-  abbrev the_pop : Command
-  the_pop = commands.MakeFrom make_from.Pop name kept
+module _ (names : Names) (name : List ℕ) (kept : Reference) where
+  abbrev the_pop : Asked
+  the_pop = (names, commands.MakeFrom make_from.Pop name kept)
 
   -- a command that wants one place for what it makes
-  abbrev the_local : Command
-  the_local = commands.MakeFrom make_from.Local name kept
+  abbrev the_local : Asked
+  the_local = (names, commands.MakeFrom make_from.Local name kept)
 
   to_pop_uncontended : {s : State} {last : ℕ} → IsUncontended s last the_pop frame_to_pop
   to_pop_uncontended {s} {last} = record { acts = acts_of; fault = fault_of }

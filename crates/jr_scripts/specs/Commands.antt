@@ -1,29 +1,47 @@
 -- What commands do.
-use Rattle.std.specs.Prelude.{◌≡◌, ℕ, ℤ, Option, Some, None, Err, [], ◌∷◌}
+use Rattle.std.specs.Prelude.{◌≡◌, ℕ, ℤ, Option, Some, None, Err, IfErr, [], ◌∷◌}
+use Rattle.jr_word.specs.declared.config.Config.{Config}
 use Rattle.jr_word.specs.declared.handle.RefKind.{RefKind}
 use Rattle.jr_word.specs.declared.handle.RefKind.TheVariants.{Local, Global, Weak}
 use Rattle.jr_word.specs.declared.handle.Handle.{Handle}
 use Rattle.jr_word.specs.declared.kind.Kind.{Kind}
 use Rattle.jr_word.specs.declared.kind.Kind.TheVariants.{Boolean, Byte, Char, Short, Int, Long}
 use Rattle.jr_word.specs.declared.fault.Fault.TheVariants as fault
+use Rattle.jr_model.specs.declared.frames.Mode.{Mode}
+use Rattle.jr_model.specs.State.{State}
+use Rattle.jr_model.specs.History.{state}
+use Rattle.jr_model.specs.Calls.{Call}
 use Rattle.jr_model.specs.Checks.{Word, Nothing, Malformed, Parts}
+use Rattle.jr_model.specs.Objects.{get_array_critical, get_string_critical}
+use Rattle.jr_steps.specs.Holdings.{empty}
+use Rattle.jr_gate.specs.Performing.{IsMade}
 use Rattle.jr_syntax.specs.declared.name.Reference.{Reference}
 use Rattle.jr_syntax.specs.declared.command.Command.{Command}
 use Rattle.jr_syntax.specs.declared.command.Command.TheVariants as commands
+use Rattle.jr_syntax.specs.declared.verb.Make.{Make}
 use Rattle.jr_syntax.specs.declared.verb.Make.TheVariants as make
 use Rattle.jr_syntax.specs.declared.verb.MakeFrom.{MakeFrom}
 use Rattle.jr_syntax.specs.declared.verb.MakeFrom.TheVariants as make_from
 use Rattle.jr_syntax.specs.declared.verb.On.TheVariants as on
 use Rattle.jr_syntax.specs.declared.verb.OnBoth.TheVariants as on_both
 use Rattle.jr_syntax.specs.declared.verb.OnName.TheVariants as on_name
+use Rattle.jr_syntax.specs.declared.verb.WithCount.{WithCount}
 use Rattle.jr_syntax.specs.declared.verb.WithCount.TheVariants as with_count
+use Rattle.jr_syntax.specs.declared.verb.OnNameAt.TheVariants as on_name_at
+use Rattle.jr_syntax.specs.declared.verb.PutAt.TheVariants as put_at
+use Rattle.jr_syntax.specs.declared.verb.Release.TheVariants as release
 use Rattle.jr_syntax.specs.declared.verb.MakeSized.{MakeSized}
 use Rattle.jr_syntax.specs.declared.verb.MakeSized.TheVariants as make_sized
+use Rattle.jr_syntax.specs.declared.verb.OpenLevel.{OpenLevel}
+use Rattle.jr_syntax.specs.declared.verb.OpenLevel.TheVariants as at
 use Rattle.jr_scripts.specs.declared.reply.Reply.{Reply}
 use Rattle.jr_scripts.specs.declared.reply.Reply.TheVariants as replies
 use Rattle.jr_frames.specs.Reading.{IsReadAs}
-use Rattle.jr_scripts.specs.Names.{Names, referent, wanted}
-use Rattle.jr_env.specs.Deeds.{Deed, decided, done, new_plain, new_array, new_object_array, new_string, new_reference, new_local_ref, delete_reference, delete_local_ref, is_same_object, get_object_ref_type, push_local_frame, ensure_local_capacity, pop_local_frame, kind_of, get_array_length, get_string_length, get_object_array_element, set_object_array_element, get_array_region, set_array_region, ◌>>=◌, ◌>>◌}
+use Rattle.jr_scripts.specs.declared.standing.Standing.{Standing}
+use Rattle.jr_scripts.specs.declared.standing.Standing.TheVariants as stands
+use Rattle.jr_scripts.specs.Buffers.{copy_of}
+use Rattle.jr_scripts.specs.Names.{Names, buffer_in, getting, putting, reference_in, referent, standing, wanted}
+use Rattle.jr_env.specs.Deeds.{Deed, decided, done, new_plain, new_array, new_object_array, new_string, new_reference, new_local_ref, delete_reference, delete_local_ref, is_same_object, get_object_ref_type, push_local_frame, ensure_local_capacity, pop_local_frame, kind_of, get_array_length, get_string_length, get_object_array_element, set_object_array_element, get_array_region, set_array_region, get_array_elements, release_array_elements, get_string_chars, answered_by, ◌>>=◌, ◌>>◌}
 use Rattle.jr_scripts.specs.Posting.{IsAwaited}
 use Rattle.jr_scripts.specs.Tries.{Tried}
 use Rattle.jr_scripts.specs.Numbers.{has_numbers, word_of_number, first_number}
@@ -54,12 +72,26 @@ module _ (turns : ℕ) where
     h ← tried one
     done (replies.Made (Some h))
 
+  -- the elements of an array of a kind are copied
+  abbrev pub copying_as : ℕ → Kind → Deed Reply
+  copying_as w k = do
+    words ← tried (get_array_elements k w)
+    done (replies.Copied (copy_of k words))
+
+  -- the elements of the array that a word names are copied: a call for its kind, and one for the elements
+  abbrev pub copying : ℕ → Deed Reply
+  copying w = do
+    k ← tried (kind_of w)
+    decided (has_numbers k)
+    copying_as w k
+
   -- what is made from what a word names
   abbrev pub making_from : MakeFrom → ℕ → Deed Reply
   making_from make_from.Global w = makes_reference (new_reference Global w)
   making_from make_from.Weak w = makes_reference (new_reference Weak w)
   making_from make_from.Local w = makes_reference (new_local_ref w)
   making_from make_from.Pop w = makes_reference (pop_local_frame w)
+  making_from make_from.Elements w = copying w
 
   -- the delete call of the kind
   abbrev pub deleted_of : RefKind → ℕ → Deed (Unit {0})
@@ -107,65 +139,130 @@ module _ (turns : ℕ) where
     decided (has_numbers k)
     storing_as w i v k
 
+-- the buffer that stands there is released to the array that a word names, by one call: E2 where nothing stands there, E4 where a reference does
+abbrev pub releasing : ℕ → Mode → Standing → Deed Reply
+releasing w mode stands.Nothing = decided (Err fault.Stale)
+releasing w mode (stands.Reference h) = decided (Err fault.WrongKind)
+releasing w mode (stands.Buffer b) = answered_by (λ _. replies.Done) (release_array_elements b.kind w b.words mode)
+
+-- the call that opens a region
+abbrev pub opens : OpenLevel → Config → ℕ → ℕ → State → Word → Call ℕ
+opens at.Array = get_array_critical
+opens at.Text = get_string_critical
+
+-- a region is opened over what a word names: the object of its first level; where it is refused the thread holds nothing afterwards
+abbrev pub opening_by : OpenLevel → ℕ → Deed ℕ
+opening_by v w old answer new =
+    (a : Word) × IsReadAs w a × IsMade 1 old new (opens v old.pass.config old.pass.last old.pass.thread (state new.pass.seen) a) answer × IfErr answer (λ e. new.held ≡ empty)
+
 -- some word that is posted, or the turns ran out; neither an event nor a step
 abbrev pub awaited : Deed Reply
 awaited old answer new = IsAwaited answer × (new ≡ old)
 
-module _ (turns : ℕ) (names : Names) where
-  -- the reference that a command wants
-  abbrev pub the_reference : Reference → Deed Handle
-  the_reference r = decided (wanted (referent names r))
+module _ (turns : ℕ) where
+  -- what is made of nothing else, or waited for
+  abbrev pub making_or_waiting : Make → Deed Reply
+  making_or_waiting make.Plain = makes_new turns new_plain
+  making_or_waiting make.Wait = awaited
 
-  -- THE COMMANDS: what each does, and its reply
-  abbrev pub deed : Command → Deed Reply
-  deed (commands.Make make.Plain n) = makes_new turns new_plain
-  deed (commands.Make make.Wait n) = awaited
-  deed (commands.MakeFrom v n r) = do
-    w ← the_reference r
+  -- a frame in which so many local references can be made, or whether so many more can be made
+  abbrev pub making_room : WithCount → ℕ → Deed Reply
+  making_room with_count.Push n = do
+    tried turns (push_local_frame n)
+    done replies.Done
+  making_room with_count.Ensure n = do
+    tried turns (ensure_local_capacity n)
+    done replies.Done
+
+-- the reference that a command wants
+abbrev pub the_reference : Names → Reference → Deed Handle
+the_reference names r = decided (wanted (referent names r))
+
+module _ (turns : ℕ) (names : Names) where
+  -- an array of objects, each element what a reference names
+  abbrev pub filling : ℕ → Reference → Deed Reply
+  filling len r = do
+    w ← the_reference names r
+    makes_new turns (new_object_array len w.0)
+
+  -- a reference to the element at an index of an array of objects
+  abbrev pub referring_to : Reference → ℕ → Deed Reply
+  referring_to r i = do
+    w ← the_reference names r
+    makes_reference turns (get_object_array_element w.0 i)
+
+  -- what is made of what a reference names
+  abbrev pub made_of : MakeFrom → Reference → Deed Reply
+  made_of v r = do
+    w ← the_reference names r
     making_from turns v w.0
+
+  -- a region is opened over what a reference names, with turns: the object of its first level
+  abbrev pub opening_levels : OpenLevel → Reference → Deed ℕ
+  opening_levels v r = do
+    w ← the_reference names r
+    tried turns (opening_by v w.0)
+
+  -- THE COMMANDS where no region stands: what each does, and its reply; E19 for those of a region
+  abbrev pub deed : Command → Deed Reply
+  deed (commands.Make v n) = making_or_waiting turns v
+  deed (commands.MakeFrom v n r) = made_of v r
   deed (commands.On on.Drop r) = do
-    w ← the_reference r
+    w ← the_reference names r
     deletion turns w.0
     done replies.Done
   deed (commands.On on.Type r) = do
-    n ← type_of turns (referent names r)
+    h ← decided (reference_in (referent names r))
+    n ← type_of turns h
     done (replies.Type n)
   deed (commands.On on.Len r) = do
-    w ← the_reference r
+    w ← the_reference names r
     n ← tried turns (get_array_length w.0)
     done (replies.Length n)
   deed (commands.On on.TextLength r) = do
-    w ← the_reference r
+    w ← the_reference names r
     n ← tried turns (get_string_length w.0)
     done (replies.Length n)
+  deed (commands.On on.Chars r) = do
+    w ← the_reference names r
+    units ← tried turns (get_string_chars w.0)
+    done (replies.Units units)
   deed (commands.OnBoth on_both.Same q r) = do
-    v ← the_reference q
-    w ← the_reference r
+    v ← the_reference names q
+    w ← the_reference names r
     same ← tried turns (is_same_object v.0 w.0)
     done (replies.Same same)
   deed (commands.OnName on_name.Post n) = done replies.Done
-  deed (commands.WithCount with_count.Push n) = do
-    tried turns (push_local_frame n)
-    done replies.Done
-  deed (commands.WithCount with_count.Ensure n) = do
-    tried turns (ensure_local_capacity n)
-    done replies.Done
+  deed (commands.WithCount v n) = making_room turns v n
   deed (commands.MakeSized v n len) = makes_new turns (new_array (kind_made v) len)
-  deed (commands.MakeFilled v n len r) = do
-    w ← the_reference r
-    makes_new turns (new_object_array len w.0)
+  deed (commands.MakeFilled v n len r) = filling len r
   deed (commands.MakeText v n units) = makes_new turns (new_string units)
-  deed (commands.MakeAt v n r i) = do
-    w ← the_reference r
-    makes_reference turns (get_object_array_element w.0 i)
+  deed (commands.MakeAt v n r i) = referring_to r i
   deed (commands.OnAt v r i) = do
-    w ← the_reference r
+    w ← the_reference names r
     loading turns w.0 i
   deed (commands.SetAt v r i q) = do
-    a ← the_reference r
-    w ← the_reference q
+    a ← the_reference names r
+    w ← the_reference names q
     tried turns (set_object_array_element a.0 i w.0)
     done replies.Done
   deed (commands.StoreAt v r i x) = do
-    w ← the_reference r
+    w ← the_reference names r
     storing turns w.0 i x
+  deed (commands.OpenLevel v n r) = do
+    o ← opening_levels v r
+    done (replies.Level o)
+  deed (commands.CloseLevel v mode) = decided (Err fault.InCritical)
+  deed (commands.OnNameAt on_name_at.GetInLevel n i) = decided (Err fault.InCritical)
+  deed (commands.PutAt put_at.PutInLevel n i x) = decided (Err fault.InCritical)
+  deed (commands.OnNameAt on_name_at.Get n i) = do
+    x ← decided (getting i (standing names n))
+    done (replies.Value x)
+  deed (commands.PutAt put_at.Put n i x) = do
+    decided (putting i x (standing names n))
+    done replies.Done
+  deed (commands.Release release.Elements n r mode) = do
+    b ← decided (buffer_in (standing names n))
+    w ← the_reference names r
+    tried turns (release_array_elements b.kind w.0 b.words mode)
+    done replies.Done

@@ -1,12 +1,16 @@
+pub mod Buffers
 pub mod Names
 pub mod Posting
 pub mod Tries
 pub mod Numbers
 pub mod Commands
 pub mod Text
+pub mod Places
+pub mod RegionCommands
 pub mod Explains
 pub mod AloneAnswers
 pub mod Runs
 pub mod AllRuns
 pub mod Jobs
 pub mod Given
+pub mod Advancing

@@ -1,20 +1,10 @@
--- What is posted for a name, and what a wait answers.
-use Rattle.std.specs.Prelude.{◌≡◌, ◌⊎◌, ℕ, Option, Some, None, List, Result, Ok, Err}
+-- What a wait answers.
+use Rattle.std.specs.Prelude.{◌≡◌, ◌⊎◌, ℕ, Option, Some, None, Result, Ok, Err}
 use Rattle.jr_word.specs.declared.fault.Fault.{Fault}
 use Rattle.jr_word.specs.declared.fault.Fault.TheVariants as fault
 use Rattle.jr_word.specs.declared.handle.Handle.{Handle}
 use Rattle.jr_scripts.specs.declared.reply.Reply.{Reply}
 use Rattle.jr_scripts.specs.declared.reply.Reply.TheVariants as replies
-use Rattle.jr_scripts.specs.Names.{Names, reference_named}
-
--- the word of a reference, 0 for none
-abbrev pub word_of_reference : Option Handle → ℕ
-word_of_reference (Some h) = h.0
-word_of_reference None = 0
-
--- the word that is posted for a name: that of the reference which it stands for, 0 where it stands for nothing
-abbrev pub word_posted : Names → List ℕ → ℕ
-word_posted names n = word_of_reference (reference_named names n)
 
 -- the reply to a wait that found this word, or none in all its turns
 abbrev pub reply_to_wait : Option ℕ → Result Reply Fault

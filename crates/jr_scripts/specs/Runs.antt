@@ -21,7 +21,7 @@ use Rattle.jr_env.specs.Deeds.{free_locals}
 use Rattle.jr_scripts.specs.declared.reply.Reply.{Reply}
 use Rattle.jr_scripts.specs.Names.{Names}
 use Rattle.jr_scripts.specs.Commands.{tried}
-use Rattle.jr_scripts.specs.Text.{printed, names_after, heading, ending}
+use Rattle.jr_scripts.specs.Text.{printed, names_set, heading, ending}
 use Rattle.jr_scripts.specs.Explains.{Explained, LeavesText}
 use Rattle.jr_scripts.specs.AloneAnswers.{AnswersAlone}
 
@@ -44,7 +44,7 @@ module _ {S : Type 0} (facts : S → Facts) where
 
 -- what is kept of a command that was done: its line is written and its name set, or memory was refused and nothing is written
 abbrev pub WritesDown : ℕ → Command → Result Reply Fault → Names → Names → Result (Unit {0}) AllocError → List ℕ → List ℕ → Type 0
-WritesDown number c answer names names' (Ok _) old new = (names' ≡ names_after c answer names) × (new ≡ old ++ printed number c answer)
+WritesDown number c answer names names' (Ok _) old new = (names' ≡ names_set c answer names) × (new ≡ old ++ printed number c answer)
 WritesDown number c answer names names' (Err _) old new = new ≡ old
 
 -- a pass of thread 0 that has seen this
@@ -70,7 +70,7 @@ pub record IsRun (turns last : ℕ) (c : Config) (part : ThreadPart) (text : Lis
   pub alone : AllByRecursion IsUnbarred seen
   pub told : Moment
   pub explained : Explained turns 3 (opening_moment c last) part.commands lines told
-  pub answers : AnswersAlone explained.1
+  pub answers : AnswersAlone explained.explains
   pub left : Moment
   pub freed : IsFreed turns told left
   pub freed_all : turns ≢ 0 → freed.answer ≡ Ok tt

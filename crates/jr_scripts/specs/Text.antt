@@ -1,20 +1,26 @@
 -- What commands print, and the names that they set.
-use Rattle.std.specs.Prelude.{ℕ, Bool, true, false, Option, Some, None, List, [], ◌∷◌, ◌++◌, Result, Ok, Err, codes}
+use Rattle.std.specs.Prelude.{ℕ, Bool, true, false, Option, Some, None, List, [], ◌∷◌, ◌++◌, map, Result, Ok, Err, codes}
 use Rattle.std.specs.Fmt.{decimal, signed_decimal}
 use Rattle.jr_word.specs.declared.fault.Fault.{Fault}
 use Rattle.jr_word.specs.declared.fault.Fault.TheVariants as fault
 use Rattle.jr_word.specs.declared.handle.Handle.{Handle}
 use Rattle.jr_word.specs.Fault.{fault_number}
+use Rattle.jr_model.specs.declared.frames.Mode.{Mode}
+use Rattle.jr_model.specs.declared.frames.Mode.TheVariants.{Commit}
 use Rattle.jr_model.specs.declared.summary.Summary.{Summary}
 use Rattle.jr_syntax.specs.Line.{line as words_line}
 use Rattle.jr_syntax.specs.Reference.{reference_word}
 use Rattle.jr_syntax.specs.Command.{verb_word}
-use Rattle.jr_syntax.specs.declared.verb.Verb.TheVariants.{MakeFrom, On, OnBoth, MakeAt, OnAt}
+use Rattle.jr_syntax.specs.declared.verb.Verb.TheVariants.{MakeFrom, On, OnBoth, MakeAt, OnAt, OnNameAt}
+use Rattle.jr_syntax.specs.declared.verb.PutAt.TheVariants as put_at
+use Rattle.jr_syntax.specs.declared.verb.Release.TheVariants as release
 use Rattle.jr_syntax.specs.declared.command.Command.{Command}
 use Rattle.jr_syntax.specs.declared.command.Command.TheVariants as commands
 use Rattle.jr_scripts.specs.declared.reply.Reply.{Reply}
 use Rattle.jr_scripts.specs.declared.reply.Reply.TheVariants as replies
-use Rattle.jr_scripts.specs.Names.{Names, with_name, null}
+use Rattle.jr_scripts.specs.declared.standing.Standing.{Standing}
+use Rattle.jr_scripts.specs.declared.standing.Standing.TheVariants as stands
+use Rattle.jr_scripts.specs.Names.{Names, names_put, null, putting, standing, with_name}
 
 -- a line of words with its line feed
 abbrev pub text_line : List (List ℕ) → List ℕ
@@ -30,9 +36,11 @@ abbrev pub says : Command → Reply → List ℕ
 says (commands.MakeFrom v n r) (replies.Made None) = text_line (verb_word (MakeFrom v) ∷ n ∷ codes "null" ∷ [])
 says (commands.On v r) (replies.Type t) = text_line (verb_word (On v) ∷ reference_word r ∷ decimal t ∷ [])
 says (commands.On v r) (replies.Length n) = text_line (verb_word (On v) ∷ reference_word r ∷ decimal n ∷ [])
+says (commands.On v r) (replies.Units units) = text_line (verb_word (On v) ∷ reference_word r ∷ map decimal units)
 says (commands.OnBoth v q r) (replies.Same same) = text_line (verb_word (OnBoth v) ∷ reference_word q ∷ reference_word r ∷ verdict same ∷ [])
 says (commands.MakeAt v n r i) (replies.Made None) = text_line (verb_word (MakeAt v) ∷ n ∷ codes "null" ∷ [])
 says (commands.OnAt v r i) (replies.Value x) = text_line (verb_word (OnAt v) ∷ reference_word r ∷ decimal i ∷ signed_decimal x ∷ [])
+says (commands.OnNameAt v n i) (replies.Value x) = text_line (verb_word (OnNameAt v) ∷ n ∷ decimal i ∷ signed_decimal x ∷ [])
 says _ _ = []
 
 -- a number that stands behind the fault's
@@ -64,14 +72,42 @@ abbrev pub reference_made : Option Handle → Handle
 reference_made None = null
 reference_made (Some h) = h
 
-abbrev pub names_with : Option (List ℕ) → Reply → Names → Names
-names_with (Some n) (replies.Made h) names = with_name names n (reference_made h)
+-- what a command that made something makes its name stand for
+abbrev pub standing_made : Reply → Option Standing
+standing_made (replies.Made h) = Some (stands.Reference (reference_made h))
+standing_made (replies.Copied b) = Some (stands.Buffer b)
+standing_made _ = None
+
+abbrev pub names_with : Option Standing → Option (List ℕ) → Names → Names
+names_with (Some s) (Some n) names = with_name names n s
 names_with _ _ names = names
 
--- THE NAMES after a command: a command that makes something sets its name, and a refused one sets nothing
+-- the names once a command's own is set: a command that makes something sets its name, and a refused one sets nothing
+abbrev pub names_set : Command → Result Reply Fault → Names → Names
+names_set c (Ok reply) names = names_with (standing_made reply) (sets c) names
+names_set c (Err e) names = names
+
+-- what a release leaves of the elements: themselves where it was to commit or was refused, and else nothing
+abbrev pub elements_left : {A : Type 0} → Mode → Result Reply Fault → A → Option A
+elements_left mode (Err e) x = Some x
+elements_left Commit (Ok _) x = Some x
+elements_left mode (Ok _) x = None
+
+-- what stands there after a release: the buffer where it was to commit or was refused, and else nothing
+abbrev pub left_by : Mode → Result Reply Fault → Standing → Standing
+left_by mode (Err e) s = s
+left_by Commit (Ok _) s = s
+left_by mode (Ok _) s = stands.Nothing
+
+-- the names once a command changed or freed the buffer of its name, which no other command does, and no refused one
+abbrev pub buffers_after : Command → Result Reply Fault → Names → Names
+buffers_after (commands.PutAt put_at.Put n i x) (Ok reply) names = names_put names n (putting i x (standing names n))
+buffers_after (commands.Release release.Elements n r mode) (Ok reply) names = with_name names n (left_by mode (Ok reply) (standing names n))
+buffers_after _ _ names = names
+
+-- THE NAMES after a command
 abbrev pub names_after : Command → Result Reply Fault → Names → Names
-names_after c (Ok reply) names = names_with (sets c) reply names
-names_after c (Err e) names = names
+names_after c answer names = names_set c answer (buffers_after c answer names)
 
 -- the line before a thread's lines
 abbrev pub heading : List ℕ → List ℕ

@@ -1,9 +1,14 @@
 //! Runs scripts of JNI calls: the calls of one thread over atomic steps, and what the threads of a script print.
 #![tactic(auto)]
 
+mod advance;
 mod all;
 mod ask;
 mod board;
+mod buffer;
+mod copied_units;
+mod copy_call;
+mod copy_commands;
 mod element;
 mod env_call;
 mod hold;
@@ -16,11 +21,14 @@ mod part;
 mod perform;
 mod posting;
 mod printed;
+mod region;
+mod region_commands;
 mod reply;
 mod retry;
 mod run;
 mod runnable;
 mod single;
+mod standing;
 mod starting;
 mod to_end;
 

@@ -1,77 +1,179 @@
 //! What the names of a thread stand for.
 
+use crate::buffer::Buffer;
+use crate::standing::Standing;
 use jr_syntax::{Name, Reference};
 use jr_word::{Fault, Handle};
 use std::alloc::{AllocError, Global};
 use std::collections::BTreeMap;
 use std::marker::Model;
+use std::mem;
 
-/// What the names of a thread stand for: each for a reference, or for nothing.
+/// What the names of a thread stand for: each for a reference, a buffer, or nothing.
 #[derive(Drop)]
 pub struct Names {
-    /// The reference that each name was set to last.
-    references: BTreeMap<Name, Handle>,
+    /// What each name was set to last.
+    standings: BTreeMap<Name, Standing>,
 }
 
 impl Model for Names {
     ghost use Rattle.std.specs.Coded.{coded_ℕ, coded_list};
     ghost use Rattle.std.specs.FinMap as map;
-    ghost use Rattle.jr_scripts.specs.Names.{Names as NamesView, coded_handle};
+    ghost use Rattle.jr_scripts.specs.Names.{Names as NamesView, coded_standing};
 
     ghost Value = { NamesView };
 
-    ghost coded = { map.code (coded_list coded_ℕ) coded_handle };
+    ghost coded = { map.code (coded_list coded_ℕ) coded_standing };
 
-    ghost view = { λ n. map.from_entries n.references.entries };
+    ghost view = { λ n. map.from_entries n.standings.entries };
 }
 
 impl Names {
-    ghost use Rattle.std.specs.Prelude.{◌≡◌, OnOk, OnErr};
-    ghost use Rattle.jr_scripts.specs.Names.{no_names, reference_named, referent, with_name, wanted};
+    ghost use Rattle.std.specs.Prelude.{◌≡◌, Ok, Err, OnOk, OnErr, MatchResult};
+    ghost use Rattle.jr_elements.specs.Copies.{answer_in};
+    ghost use Rattle.jr_scripts.specs.declared.standing.Standing.TheVariants.{Nothing};
+    ghost use Rattle.jr_scripts.specs.Names.{IsSet, buffer_in, getting, names_put, no_names, putting, reference_in, referent, standing, wanted, with_name, word_posted};
 
     /// No name stands for anything; takes no memory.
     pub fn new(alloc: Global) -> Names
         ensures { result ≡ no_names }
     {
         Names {
-            references: BTreeMap::new(alloc),
+            standings: BTreeMap::new(alloc),
         }
     }
 
     /// The reference that a name stands for, none where it stands for nothing.
-    pub fn standing(&self, name: &Name) -> Option<Handle>
-        ensures { result ≡ reference_named self.now name.now }
-    {
-        self.references.get(name).copied()
-    }
-
-    /// Sets a name.
     ///
     /// # Errors
     ///
-    /// Memory was refused: the names are as they were.
-    pub fn set(&mut self, name: &Name, handle: Handle) -> Result<(), AllocError>
-        ensures ok { OnOk result (self.new ≡ with_name self.old name.now handle) }
-        ensures err { OnErr result (self.new ≡ self.old) }
+    /// E4 where it stands for a buffer.
+    pub fn reference(&self, name: &Name) -> Result<Option<Handle>, Fault>
+        ensures { result ≡ reference_in (standing self.now name.now) }
     {
-        self.references.insert(name.copy(), handle)?;
-        Ok(())
-    }
-
-    /// What a command refers to, none for a name that stands for nothing.
-    pub fn referent(&self, reference: &Reference) -> Option<Handle>
-        ensures { result ≡ referent self.now reference.now }
-    {
-        match reference {
-            Reference::Null => Some(Handle::NULL),
-            Reference::Named(name) => self.standing(name),
+        match self.standings.get(name) {
+            Some(standing) => standing.reference(),
+            None => Ok(None),
         }
     }
 
-    /// The reference that a command wants: E2 for a name that stands for nothing.
+    /// The reference that a name is wanted to stand for.
+    ///
+    /// # Errors
+    ///
+    /// E2 where it stands for nothing, E4 where it stands for a buffer.
+    pub fn handle(&self, name: &Name) -> Result<Handle, Fault>
+        ensures { result ≡ wanted (standing self.now name.now) }
+    {
+        match self.standings.get(name) {
+            Some(standing) => standing.wanted(),
+            None => Err(Fault::Stale),
+        }
+    }
+
+    /// The word of the reference that a name stands for, 0 where it stands for none.
+    pub fn word(&self, name: &Name) -> u64
+        ensures { result ≡ word_posted self.now name.now }
+    {
+        match self.standings.get(name) {
+            Some(standing) => standing.word(),
+            None => 0,
+        }
+    }
+
+    /// The buffer that a name is wanted to stand for.
+    ///
+    /// # Errors
+    ///
+    /// E2 where it stands for nothing, E4 where it stands for a reference.
+    pub fn buffer(&self, name: &Name) -> Result<&Buffer, Fault>
+        ensures { MatchResult result (λ buffer. buffer_in (standing self.now name.now) ≡ Ok buffer.now) (λ e. buffer_in (standing self.now name.now) ≡ Err e) }
+    {
+        match self.standings.get(name) {
+            Some(standing) => standing.buffer(),
+            None => Err(Fault::Stale),
+        }
+    }
+
+    /// The number at an index of the buffer that a name stands for.
+    ///
+    /// # Errors
+    ///
+    /// E2 where it stands for nothing, E4 where it stands for a reference, and E7 past the buffer's end.
+    pub fn get(&self, name: &Name, index: u32) -> Result<i64, Fault>
+        ensures { result ≡ getting index (standing self.now name.now) }
+    {
+        match self.standings.get(name) {
+            Some(standing) => standing.get(index),
+            None => Err(Fault::Stale),
+        }
+    }
+
+    /// Makes a number the element at an index of the buffer that a name stands for.
+    ///
+    /// # Errors
+    ///
+    /// E2 where it stands for nothing, E4 where it stands for a reference, E18 and E7 as the buffer's: the names are as they were.
+    pub fn put(&mut self, name: &Name, index: u32, number: i64) -> Result<(), Fault>
+        ensures answer { result ≡ answer_in (λ _. tt) (putting index number (standing self.old name.now)) }
+        ensures names { self.new ≡ names_put self.old name.now (putting index number (standing self.old name.now)) }
+    {
+        match self.standings.get_mut(name) {
+            Some(standing) => standing.put(index, number),
+            None => Err(Fault::Stale),
+        }
+    }
+
+    /// What a name stands for is handed out, and the name, if it was set, stands for nothing.
+    pub fn take(&mut self, name: &Name) -> Standing
+        ensures old { result ≡ standing self.old name.now }
+        ensures new { IsSet self.old name.now → self.new ≡ with_name self.old name.now Nothing }
+    {
+        match self.standings.get_mut(name) {
+            Some(standing) => mem::replace(standing, Standing::Nothing),
+            None => Standing::Nothing,
+        }
+    }
+
+    /// Sets a name; a buffer that it stood for is freed.
+    ///
+    /// # Errors
+    ///
+    /// Memory was refused, as it may be for a name that was never set: the names are as they were.
+    pub fn set(&mut self, name: &Name, standing: Standing) -> Result<(), AllocError>
+        ensures ok { OnOk result (self.new ≡ with_name self.old name.now standing) }
+        ensures err { OnErr result (self.new ≡ self.old) }
+        ensures absent { OnErr result (IsSet self.old name.now → ⊥) }
+    {
+        self.standings.insert(name.copy(), standing)?;
+        Ok(())
+    }
+
+    /// The reference that a command refers to, none where nothing stands.
+    ///
+    /// # Errors
+    ///
+    /// E4 where a buffer stands.
+    pub fn referent(&self, reference: &Reference) -> Result<Option<Handle>, Fault>
+        ensures { result ≡ reference_in (referent self.now reference.now) }
+    {
+        match reference {
+            Reference::Null => Ok(Some(Handle::NULL)),
+            Reference::Named(name) => self.reference(name),
+        }
+    }
+
+    /// The reference that a command wants.
+    ///
+    /// # Errors
+    ///
+    /// E2 where nothing stands, E4 where a buffer stands.
     pub fn wanted(&self, reference: &Reference) -> Result<Handle, Fault>
         ensures { result ≡ wanted (referent self.now reference.now) }
     {
-        self.referent(reference).ok_or(Fault::Stale)
+        match reference {
+            Reference::Null => Ok(Handle::NULL),
+            Reference::Named(name) => self.handle(name),
+        }
     }
 }

@@ -6,10 +6,15 @@ ghost use Rattle.jr_syntax.specs.declared.verb.SetAt.TheVariants.{Set};
 ghost use Rattle.jr_scripts.specs.declared.reply.Reply.TheVariants as replies;
 ghost use Rattle.jr_env.specs.Deeds.{answered_by};
 ghost use Rattle.jr_env.specs.Envs.{WasDone, IsOutside};
-ghost use Rattle.jr_scripts.specs.Commands.{deletion, type_of as type_deed, making_from, deed};
+ghost use Rattle.std.specs.Prelude.{◌≡◌, false};
+ghost use Rattle.jr_scripts.specs.Places.{is_opening};
+ghost use Rattle.jr_scripts.specs.Text.{buffers_after};
+ghost use Rattle.jr_scripts.specs.Commands.{deletion, type_of as type_deed, made_of, making_or_waiting, making_room, filling, referring_to, deed};
 
 use crate::ask::ask;
 use crate::board::Board;
+use crate::copy_call::GetStringChars;
+use crate::copy_commands::{copy, get_by, put_by, release};
 use crate::element::{load, store};
 use crate::env_call::{
     DeleteGlobalRef, DeleteLocalRef, DeleteWeakGlobalRef, EnsureLocalCapacity, GetObjectRefType,
@@ -26,8 +31,9 @@ use crate::reply::Reply;
 use jr_env::Env;
 use jr_frames::Reference;
 use jr_steps::Steps;
-use jr_syntax::{Command, Make, MakeFrom, On, Reference as Target, WithCount};
+use jr_syntax::{Command, Make, MakeFrom, Name, On, Reference as Target, WithCount};
 use jr_word::{Fault, Handle, RefKind};
+use std::alloc::Global;
 
 /// Deletes a reference by the call of its kind.
 fn delete<S: Steps>(env: &mut Env<S>, turns: u64, handle: Handle) -> Result<Reply, Fault>
@@ -56,26 +62,94 @@ fn type_of<S: Steps>(env: &mut Env<S>, turns: u64, referent: Option<Handle>) -> 
     }
 }
 
-/// Makes something from what a reference names.
-fn make_from<S: Steps>(
+/// Makes something of nothing else, or waits for what is posted.
+fn make<S: Steps, B: Board>(
     env: &mut Env<S>,
+    board: &B,
     turns: u64,
-    verb: MakeFrom,
-    target: Handle,
+    verb: Make,
+    name: &Name,
 ) -> Result<Reply, Fault>
     requires { IsOutside env.old }
-    ensures { WasDone env.old env.new (making_from turns verb target.0) result }
+    ensures { WasDone env.old env.new (making_or_waiting turns verb) result }
 {
     match verb {
-        MakeFrom::Global => ask(env, turns, &NewGlobalRef(target)),
-        MakeFrom::Weak => ask(env, turns, &NewWeakGlobalRef(target)),
-        MakeFrom::Local => ask(env, turns, &NewLocalRef(target)),
-        MakeFrom::Pop => ask(env, turns, &PopLocalFrame(target)),
+        Make::Plain => ask(env, turns, &NewPlain),
+        Make::Wait => wait(board, name, turns),
+    }
+}
+
+/// Makes the call of a command about so many local references.
+fn with_count<S: Steps>(
+    env: &mut Env<S>,
+    turns: u64,
+    verb: WithCount,
+    count: u32,
+) -> Result<Reply, Fault>
+    requires { IsOutside env.old }
+    ensures { WasDone env.old env.new (making_room turns verb count) result }
+{
+    match verb {
+        WithCount::Push => ask(env, turns, &PushLocalFrame(count)),
+        WithCount::Ensure => ask(env, turns, &EnsureLocalCapacity(count)),
+    }
+}
+
+/// Makes an array of objects, each element what a reference names.
+fn fill<S: Steps>(
+    env: &mut Env<S>,
+    names: &Names,
+    turns: u64,
+    length: u32,
+    target: &Target,
+) -> Result<Reply, Fault>
+    requires { IsOutside env.old }
+    ensures { WasDone env.old env.new (filling turns names.now length target.now) result }
+{
+    let initial = names.wanted(target)?;
+    ask(env, turns, &NewObjectArray(length, initial))
+}
+
+/// Makes a reference to an element of an array of objects.
+fn get_at<S: Steps>(
+    env: &mut Env<S>,
+    names: &Names,
+    turns: u64,
+    target: &Target,
+    index: u32,
+) -> Result<Reply, Fault>
+    requires { IsOutside env.old }
+    ensures { WasDone env.old env.new (referring_to turns names.now target.now index) result }
+{
+    let array = names.wanted(target)?;
+    ask(env, turns, &GetObjectArrayElement(array, index))
+}
+
+/// Makes something of what a reference names.
+fn make_of<S: Steps>(
+    alloc: Global,
+    env: &mut Env<S>,
+    names: &Names,
+    turns: u64,
+    verb: MakeFrom,
+    target: &Target,
+) -> Result<Reply, Fault>
+    requires { IsOutside env.old }
+    ensures { WasDone env.old env.new (made_of turns names.now verb target.now) result }
+{
+    let handle = names.wanted(target)?;
+    match verb {
+        MakeFrom::Global => ask(env, turns, &NewGlobalRef(handle)),
+        MakeFrom::Weak => ask(env, turns, &NewWeakGlobalRef(handle)),
+        MakeFrom::Local => ask(env, turns, &NewLocalRef(handle)),
+        MakeFrom::Pop => ask(env, turns, &PopLocalFrame(handle)),
+        MakeFrom::Elements => copy(alloc, env, turns, handle),
     }
 }
 
 /// Makes the calls of a command on a reference.
 fn on<S: Steps>(
+    alloc: Global,
     env: &mut Env<S>,
     names: &Names,
     turns: u64,
@@ -87,9 +161,10 @@ fn on<S: Steps>(
 {
     match verb {
         On::Drop => delete(env, turns, names.wanted(target)?),
-        On::Type => type_of(env, turns, names.referent(target)),
+        On::Type => type_of(env, turns, names.referent(target)?),
         On::Len => ask(env, turns, &GetArrayLength(names.wanted(target)?)),
         On::TextLength => ask(env, turns, &GetStringLength(names.wanted(target)?)),
+        On::Chars => ask(env, turns, &GetStringChars(alloc, names.wanted(target)?)),
     }
 }
 
@@ -126,42 +201,31 @@ fn same<S: Steps>(
     ask(env, turns, &IsSameObject(left, right))
 }
 
-/// Makes the calls of a command; `post` and `wait` make none.
+/// Makes the calls of a command that opens no region, where none stands, and changes or frees the buffer that it is about; `post`, `wait`, `eget` and `eput` make none.
 pub fn perform<S: Steps, B: Board>(
+    alloc: Global,
     env: &mut Env<S>,
-    names: &Names,
+    names: &mut Names,
     board: &B,
     turns: u64,
     command: &Command,
 ) -> Result<Reply, Fault>
-    requires { IsOutside env.old }
-    ensures { WasDone env.old env.new (deed turns names.now command.now) result }
+    requires outside { IsOutside env.old }
+    requires opens { is_opening command.now ≡ false }
+    ensures does { WasDone env.old env.new (deed turns names.old command.now) result }
+    ensures names { names.new ≡ buffers_after command.now result names.old }
 {
     match command {
-        Command::Make { verb, name } => match verb {
-            Make::Plain => ask(env, turns, &NewPlain),
-            Make::Wait => wait(board, name, turns),
-        },
-        Command::MakeFrom { verb, target, .. } => {
-            make_from(env, turns, *verb, names.wanted(target)?)
-        }
-        Command::On { verb, target } => on(env, names, turns, *verb, target),
+        Command::Make { verb, name } => make(env, board, turns, *verb, name),
+        Command::MakeFrom { verb, target, .. } => make_of(alloc, env, names, turns, *verb, target),
+        Command::On { verb, target } => on(alloc, env, names, turns, *verb, target),
         Command::OnBoth { left, right, .. } => same(env, names, turns, left, right),
         Command::OnName { name, .. } => Ok(post(board, names, name)),
-        Command::WithCount { verb, count } => match verb {
-            WithCount::Push => ask(env, turns, &PushLocalFrame(*count)),
-            WithCount::Ensure => ask(env, turns, &EnsureLocalCapacity(*count)),
-        },
+        Command::WithCount { verb, count } => with_count(env, turns, *verb, *count),
         Command::MakeSized { verb, length, .. } => ask(env, turns, &NewArray(*verb, *length)),
         Command::MakeText { units, .. } => ask(env, turns, &NewString(units)),
-        Command::MakeFilled { length, target, .. } => {
-            let initial = names.wanted(target)?;
-            ask(env, turns, &NewObjectArray(*length, initial))
-        }
-        Command::MakeAt { target, index, .. } => {
-            let array = names.wanted(target)?;
-            ask(env, turns, &GetObjectArrayElement(array, *index))
-        }
+        Command::MakeFilled { length, target, .. } => fill(env, names, turns, *length, target),
+        Command::MakeAt { target, index, .. } => get_at(env, names, turns, target, *index),
         Command::OnAt { target, index, .. } => load(env, turns, names.wanted(target)?, *index),
         Command::SetAt {
             target,
@@ -175,5 +239,20 @@ pub fn perform<S: Steps, B: Board>(
             value,
             ..
         } => { store(env, turns, names.wanted(target)?, *index, *value) }
+        Command::OnNameAt { verb, name, index } => get_by(names, *verb, name, *index),
+        Command::PutAt {
+            verb,
+            name,
+            index,
+            value,
+        } => put_by(names, *verb, name, *index, *value),
+        Command::Release {
+            name,
+            target,
+            mode,
+            ..
+        } => release(env, names, turns, name, target, *mode),
+        Command::CloseLevel { .. } => Err(Fault::InCritical),
+        Command::OpenLevel { .. } => unreachable!(),
     }
 }

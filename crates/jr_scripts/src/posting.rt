@@ -2,7 +2,7 @@
 
 ghost use Rattle.std.specs.Prelude.{◌≡◌};
 ghost use Rattle.jr_scripts.specs.declared.reply.Reply.TheVariants.{Done};
-ghost use Rattle.jr_scripts.specs.Posting.{word_posted as posted, reply_to_wait, IsAwaited};
+ghost use Rattle.jr_scripts.specs.Posting.{reply_to_wait, IsAwaited};
 
 use crate::board::Board;
 use crate::names::Names;
@@ -11,21 +11,11 @@ use jr_syntax::Name;
 use jr_word::{Fault, Handle};
 use std::thread;
 
-/// The word that is posted for a name: that of the reference it stands for, 0 where it stands for nothing.
-fn word_posted(names: &Names, name: &Name) -> u64
-    ensures { result ≡ posted names.now name.now }
-{
-    match names.standing(name) {
-        Some(handle) => handle.0,
-        None => 0,
-    }
-}
-
 /// Puts on the board what a name stands for.
 pub(crate) fn post<B: Board>(board: &B, names: &Names, name: &Name) -> Reply
     ensures { result ≡ Done }
 {
-    board.post(name, word_posted(names, name));
+    board.post(name, names.word(name));
     Reply::Done
 }
 

@@ -1,11 +1,14 @@
 //! What commands print.
 
-ghost use Rattle.std.specs.Prelude.{◌≡◌, ◌∷◌, ◌++◌, [], IfOk, OnOk, codes};
+ghost use Rattle.std.specs.Prelude.{◌≡◌, ◌∷◌, ◌++◌, [], IfOk, OnOk, codes, map};
+ghost use Rattle.std.specs.Fmt.{decimal, signed_decimal};
+ghost use Rattle.jr_syntax.specs.Command.{verb_word};
+ghost use Rattle.jr_syntax.specs.declared.command.Command.TheVariants as commands;
 ghost use Rattle.jr_scripts.specs.Text.{text_line, verdict, says as what_is_said, refused as refusal, printed as text_printed, heading as text_heading, ending as text_ending};
 
 use crate::reply::Reply;
 use jr_model::Summary;
-use jr_syntax::{Command, Name, Verb};
+use jr_syntax::{Command, Name, On, Reference, Verb};
 use jr_word::Fault;
 use std::alloc::{AllocError, Global};
 
@@ -59,32 +62,82 @@ fn word_of(answer: bool) -> &'static [u8]
     if answer { b"true" } else { b"false" }
 }
 
+/// A line of two words, and units behind them.
+fn line_of_units(
+    alloc: Global,
+    word: &[u8],
+    subject: &[u8],
+    units: &[u16],
+) -> Result<Vec<u8>, AllocError>
+    ensures { IfOk result (λ text. text.items ≡ text_line (word.now ∷ subject.now ∷ map decimal units.now)) }
+{
+    let mut text = Vec::from_slice(alloc, word)?;
+    add_word(&mut text, subject)?;
+    for unit in units {
+        let number = unit.to_string(alloc)?;
+        add_word(&mut text, number.as_bytes())?;
+    }
+    text.push(b'\n')?;
+    Ok(text)
+}
+
+/// What is printed for a command on a reference that was not refused.
+fn says_on(
+    alloc: Global,
+    verb: On,
+    target: &Reference,
+    reply: &Reply,
+) -> Result<Vec<u8>, AllocError>
+    ensures { IfOk result (λ text. text.items ≡ what_is_said (commands.On verb target.now) reply.now) }
+{
+    let word = Verb::On(verb).word();
+    match reply {
+        Reply::Type(number) => {
+            let number = number.to_string(alloc)?;
+            line_of_three(alloc, word, target.word(), number.as_bytes())
+        }
+        Reply::Length(length) => {
+            let length = length.to_string(alloc)?;
+            line_of_three(alloc, word, target.word(), length.as_bytes())
+        }
+        Reply::Units(units) => line_of_units(alloc, word, target.word(), units.as_slice()),
+        _ => Ok(Vec::new(alloc)),
+    }
+}
+
+/// The line of a number at an index.
+fn line_of_value(
+    alloc: Global,
+    verb: Verb,
+    subject: &[u8],
+    index: u32,
+    value: i64,
+) -> Result<Vec<u8>, AllocError>
+    ensures { IfOk result (λ text. text.items ≡ text_line (verb_word verb ∷ subject.now ∷ decimal index ∷ signed_decimal value ∷ [])) }
+{
+    let index = index.to_string(alloc)?;
+    let value = value.to_string(alloc)?;
+    let (index, value) = (index.as_bytes(), value.as_bytes());
+    line_of_four(alloc, verb.word(), subject, index, value)
+}
+
 /// What is printed for a command that was not refused.
-fn says(alloc: Global, command: &Command, reply: Reply) -> Result<Vec<u8>, AllocError>
-    ensures { IfOk result (λ text. text.items ≡ what_is_said command.now reply) }
+fn says(alloc: Global, command: &Command, reply: &Reply) -> Result<Vec<u8>, AllocError>
+    ensures { IfOk result (λ text. text.items ≡ what_is_said command.now reply.now) }
 {
     match (command, reply) {
         (Command::MakeFrom { verb, name, .. }, Reply::Made(None)) => {
             let word = Verb::MakeFrom(*verb).word();
             line_of_three(alloc, word, name.as_slice(), b"null")
         }
-        (Command::On { verb, target }, Reply::Type(number)) => {
-            let word = Verb::On(*verb).word();
-            let number = number.to_string(alloc)?;
-            line_of_three(alloc, word, target.word(), number.as_bytes())
-        }
-        (Command::On { verb, target }, Reply::Length(length)) => {
-            let word = Verb::On(*verb).word();
-            let length = length.to_string(alloc)?;
-            line_of_three(alloc, word, target.word(), length.as_bytes())
-        }
-        (Command::OnBoth { verb, left, right }, Reply::Same(same)) => {
-            let word = Verb::OnBoth(*verb).word();
-            line_of_four(alloc, word, left.word(), right.word(), word_of(same))
-        }
         (Command::MakeAt { verb, name, .. }, Reply::Made(None)) => {
             let word = Verb::MakeAt(*verb).word();
             line_of_three(alloc, word, name.as_slice(), b"null")
+        }
+        (Command::On { verb, target }, reply) => says_on(alloc, *verb, target, reply),
+        (Command::OnBoth { verb, left, right }, Reply::Same(same)) => {
+            let word = Verb::OnBoth(*verb).word();
+            line_of_four(alloc, word, left.word(), right.word(), word_of(*same))
         }
         (
             Command::OnAt {
@@ -93,12 +146,10 @@ fn says(alloc: Global, command: &Command, reply: Reply) -> Result<Vec<u8>, Alloc
                 index,
             },
             Reply::Value(value),
-        ) => {
-            let word = Verb::OnAt(*verb).word();
-            let index = index.to_string(alloc)?;
-            let value = value.to_string(alloc)?;
-            let (index, value) = (index.as_bytes(), value.as_bytes());
-            line_of_four(alloc, word, target.word(), index, value)
+        ) => { line_of_value(alloc, Verb::OnAt(*verb), target.word(), *index, *value) }
+        (Command::OnNameAt { verb, name, index }, Reply::Value(value)) => {
+            let verb = Verb::OnNameAt(*verb);
+            line_of_value(alloc, verb, name.as_slice(), *index, *value)
         }
         _ => Ok(Vec::new(alloc)),
     }
@@ -121,13 +172,13 @@ pub fn printed(
     alloc: Global,
     line: usize,
     command: &Command,
-    answer: Result<Reply, Fault>,
+    answer: &Result<Reply, Fault>,
 ) -> Result<Vec<u8>, AllocError>
-    ensures { IfOk result (λ text. text.items ≡ text_printed line command.now answer) }
+    ensures { IfOk result (λ text. text.items ≡ text_printed line command.now answer.now) }
 {
     match answer {
         Ok(reply) => says(alloc, command, reply),
-        Err(fault) => refused(alloc, line, fault),
+        Err(fault) => refused(alloc, line, *fault),
     }
 }
 

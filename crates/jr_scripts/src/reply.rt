@@ -2,10 +2,12 @@
 
 ghost use Rattle.std.specs.Prelude.{◌≡◌};
 
+use crate::buffer::Buffer;
+use crate::copied_units::CopiedUnits;
 use jr_word::Handle;
 
 /// What a command that was not refused is answered.
-#[derive(Clone, Copy, Debug, PartialEq, Eq)]
+#[derive(Drop)]
 pub enum Reply {
     /// The command was done, and made nothing.
     Done,
@@ -19,6 +21,12 @@ pub enum Reply {
     Length(u32),
     /// The number that an element is.
     Value(i64),
+    /// Elements were copied.
+    Copied(Buffer),
+    /// The units of a string.
+    Units(CopiedUnits),
+    /// A level of a critical region was opened, over an object of this number.
+    Level(u16),
 }
 
 /// What a call answers, which is a reply to the command that made it.
@@ -100,5 +108,25 @@ impl IntoReply for i64 {
 
     fn into_reply(self) -> Reply {
         Reply::Value(self)
+    }
+}
+
+impl IntoReply for Buffer {
+    ghost use Rattle.jr_scripts.specs.declared.reply.Reply.TheVariants.{Copied};
+
+    ghost reply = { λ b. Copied b };
+
+    fn into_reply(self) -> Reply {
+        Reply::Copied(self)
+    }
+}
+
+impl IntoReply for CopiedUnits {
+    ghost use Rattle.jr_scripts.specs.declared.reply.Reply.TheVariants.{Units};
+
+    ghost reply = { λ units. Units units };
+
+    fn into_reply(self) -> Reply {
+        Reply::Units(self)
     }
 }

@@ -11,7 +11,7 @@ use jr_steps::Steps;
 use jr_word::Fault;
 
 /// Whether a call with this answer is made again.
-fn is_made_again<A>(answer: &Result<A, Fault>) -> bool
+pub(crate) fn is_made_again<A>(answer: &Result<A, Fault>) -> bool
     ensures { result ≡ is_tried_again answer.now }
 {
     matches!(answer, Err(Fault::Raced(..)) | Err(Fault::Barred))

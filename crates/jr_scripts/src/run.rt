@@ -3,15 +3,17 @@
 ghost use Rattle.std.specs.Prelude.{◌≡◌, ◌++◌, ◌+◌, ◌<◌, ◌^◌, List, ℕ, IfErr, OnOk, MatchOption, Some, None, length};
 ghost use Rattle.jr_word.specs.declared.fault.Fault.TheVariants.{Memory};
 ghost use Rattle.jr_env.specs.Envs.{IsOutside};
-ghost use Rattle.jr_scripts.specs.Text.{sets, names_after};
+ghost use Rattle.jr_scripts.specs.Text.{sets, names_set, standing_made as made_to_stand};
 ghost use Rattle.jr_scripts.specs.Runs.{RanThread, WritesDown};
 
 use crate::board::Board;
 use crate::hold::Hold;
 use crate::names::Names;
-use crate::perform::perform;
+use crate::advance::{Left, advance};
+use crate::region_commands::end;
 use crate::printed::printed;
 use crate::reply::Reply;
+use crate::standing::Standing;
 use jr_env::Env;
 use jr_steps::Steps;
 use jr_syntax::{Command, Name};
@@ -33,21 +35,35 @@ fn set_by(command: &Command) -> Option<&Name>
     }
 }
 
+/// What a command that made something makes its name stand for.
+fn standing_made(reply: Reply) -> Option<Standing>
+    ensures { result ≡ made_to_stand reply }
+{
+    match reply {
+        Reply::Made(handle) => Some(Standing::Reference(handle.unwrap_or(Handle::NULL))),
+        Reply::Copied(buffer) => Some(Standing::Buffer(buffer)),
+        _ => None,
+    }
+}
+
 /// Sets the name of a command that made something.
 fn settle(
     names: &mut Names,
     command: &Command,
     answer: Result<Reply, Fault>,
 ) -> Result<(), AllocError>
-    ensures { OnOk result (names.new ≡ names_after command.now answer names.old) }
+    ensures { OnOk result (names.new ≡ names_set command.now answer names.old) }
 {
-    let Ok(Reply::Made(handle)) = answer else {
+    let Ok(reply) = answer else {
+        return Ok(());
+    };
+    let Some(standing) = standing_made(reply) else {
         return Ok(());
     };
     let Some(name) = set_by(command) else {
         return Ok(());
     };
-    names.set(name, handle.unwrap_or(Handle::NULL))
+    names.set(name, standing)
 }
 
 /// Writes the line of a command, and sets its name.
@@ -61,7 +77,7 @@ fn record(
 ) -> Result<(), AllocError>
     ensures { WritesDown line command.now answer names.old names.new result out.old.items out.new.items }
 {
-    let text = printed(alloc, line, command, answer)?;
+    let text = printed(alloc, line, command, &answer)?;
     settle(names, command, answer)?;
     out.extend_from_slice(&text)?;
     Ok(())
@@ -71,7 +87,7 @@ fn record(
 ///
 /// # Errors
 ///
-/// E16 alone: memory was refused. What the commands that were done have changed stays, and the text has their lines, perhaps but for the last one's.
+/// E16 alone: memory was refused, and a region that stands is ended. What the commands that were done have changed stays, and the text has their lines, perhaps but for the last one's.
 pub fn run_thread<S: Steps, B: Board, H: Hold>(
     alloc: Global,
     env: &mut Env<S>,
@@ -89,14 +105,19 @@ pub fn run_thread<S: Steps, B: Board, H: Hold>(
     ensures memory { IfErr result (λ e. e ≡ Memory) }
 {
     let mut names = Names::new(alloc);
+    let mut region = None;
     for (i, command) in commands.iter().enumerate() {
         let line = first + i;
         hold.before(env.held.steps.thread(), line);
-        let answer = perform(env, &names, board, turns, command);
+        let left = advance(alloc, env, &mut names, region, board, turns, command);
         hold.after(env.held.steps.thread(), line);
+        let Left { region: stands, answer } = left;
+        region = stands;
         let Ok(()) = record(alloc, &mut names, line, command, answer, out) else {
+            end(env, region);
             return Err(Fault::Memory);
         };
     }
+    end(env, region);
     Ok(())
 }

@@ -6,7 +6,11 @@ mod board;
 #[cfg(test)]
 mod commands;
 #[cfg(test)]
+mod copies;
+#[cfg(test)]
 mod objects;
+#[cfg(test)]
+mod regions;
 #[cfg(test)]
 mod scripts;
 #[cfg(test)]

@@ -55,6 +55,17 @@ fn a_local_reference_is_of_its_own_thread_alone(rt: HostRuntime) -> Result<(), F
 }
 
 #[test]
+fn an_array_is_copied_by_no_other_local_reference(rt: HostRuntime) -> Result<(), Fail> {
+    threads_print(
+        &rt,
+        rt.alloc(),
+        b"vm threads 2 slots 4 objects 8 words 16 locals 16\nthread a\nint x 2\nstring s 1\npost x\npost s\nthread b\nwait x\nwait s\nelems e x\nchars s\nint y 2\nelems e y\nrelease e x copy\nrelease e x commit\neget e 1\nrelease e x abort\neget e 1\n",
+        &NoHold,
+        b"[a]\n[b]\n10 ! E3\n11 ! E3\n14 ! E3\n15 ! E3\neget e 1 0\n18 ! E2\n[end]\nglobals 0 weaks 0 live 3 used 5\n",
+    )
+}
+
+#[test]
 fn an_element_is_handed_over(rt: HostRuntime) -> Result<(), Fail> {
     threads_print(
         &rt,
@@ -62,6 +73,72 @@ fn an_element_is_handed_over(rt: HostRuntime) -> Result<(), Fail> {
         b"vm threads 2 slots 4 objects 8 words 16 locals 16\nthread a\nint x 1\nglobal g x\npost g\nwait done\nload g 0\nthread b\nwait g\nstore g 0 7\npost done\n",
         &NoHold,
         b"[a]\nload g 0 7\n[b]\n[end]\nglobals 1 weaks 0 live 1 used 1\n",
+    )
+}
+
+#[test]
+fn a_region_stands_while_another_thread_looks(rt: HostRuntime) -> Result<(), Fail> {
+    threads_print(
+        &rt,
+        rt.alloc(),
+        b"vm threads 2 slots 4 objects 8 words 16 locals 16\nthread a\nint x 3\nint y 2\ndrop x\ncrit r y\ncrit s y\ncset r 0 11\npost held\nwait tried\ncset s 1 12\nload y 0\nendcrit copy\nendcrit abort\npost free\nwait done\nload y 0\nload y 1\nthread b\nwait held\npost tried\nwait free\npost done\n",
+        &NoHold,
+        b"[a]\n12 ! E19\nload y 0 11\nload y 1 12\n[b]\n[end]\nglobals 0 weaks 0 live 2 used 5\n",
+    )
+}
+
+#[test]
+fn a_level_is_added_when_another_thread_has_tried(rt: HostRuntime) -> Result<(), Fail> {
+    threads_print(
+        &rt,
+        rt.alloc(),
+        b"vm threads 2 slots 4 objects 8 words 16 locals 16\nthread a\nint x 2\ncrit r x\npost held\nwait tried\ncrit s x\ncset s 1 5\nendcrit copy\nendcrit copy\npost free\nwait done\nload x 1\nthread b\nwait held\npost tried\nwait free\npost done\n",
+        &NoHold,
+        b"[a]\nload x 1 5\n[b]\n[end]\nglobals 0 weaks 0 live 1 used 2\n",
+    )
+}
+
+#[test]
+fn two_regions_at_one_array(rt: HostRuntime) -> Result<(), Fail> {
+    threads_print(
+        &rt,
+        rt.alloc(),
+        b"vm threads 2 slots 4 objects 8 words 16 locals 16\nthread a\nint x 2\nglobal g x\npost g\ncrit r g\ncset r 0 4\npost first\nwait second\ncget r 1\nendcrit copy\nthread b\nwait g\nwait first\ncrit r g\ncget r 0\ncset r 1 6\npost second\nendcrit abort\nload g 1\n",
+        &NoHold,
+        b"[a]\ncget r 1 6\n[b]\ncget r 0 4\nload g 1 6\n[end]\nglobals 1 weaks 0 live 1 used 2\n",
+    )
+}
+
+#[test]
+fn a_level_stands_when_its_reference_is_deleted(rt: HostRuntime) -> Result<(), Fail> {
+    threads_print(
+        &rt,
+        rt.alloc(),
+        b"vm threads 2 slots 4 objects 8 words 16 locals 16\nthread a\nint x 1\nglobal g x\ndrop x\npost g\ncrit r g\npost held\nwait gone\ncset r 0 4\ncget r 0\ncrit s g\nendcrit copy\ncrit r g\nthread b\nwait g\nwait held\ndrop g\npost gone\n",
+        &NoHold,
+        b"[a]\ncget r 0 4\n12 ! E2\n14 ! E2\n[b]\n[end]\nglobals 0 weaks 0 live 1 used 1\n",
+    )
+}
+
+#[test]
+fn no_region_over_another_threads_local_reference(rt: HostRuntime) -> Result<(), Fail> {
+    threads_print(
+        &rt,
+        rt.alloc(),
+        b"vm threads 2 slots 4 objects 8 words 16 locals 16\nthread a\nint x 1\nstring s 1\npost x\npost s\nwait done\nthread b\nwait x\nwait s\ncrit r x\ncritstr r s\nint y 1\ncrit r y\ncrit q x\ncritstr q s\ncget r 0\nendcrit copy\npost done\n",
+        &NoHold,
+        b"[a]\n[b]\n11 ! E3\n12 ! E3\n15 ! E3\n16 ! E3\ncget r 0 0\n[end]\nglobals 0 weaks 0 live 3 used 3\n",
+    )
+}
+
+#[test]
+fn a_thread_ends_in_its_region(rt: HostRuntime) -> Result<(), Fail> {
+    threads_print(
+        &rt,
+        rt.alloc(),
+        b"vm threads 2 slots 4 objects 8 words 16 locals 16\nthread a\nint x 1\nglobal g x\npost g\ncrit r g\ncrit s x\ncset s 0 8\npost held\nthread b\nwait g\nwait held\nload g 0\ncrit r g\ncget r 0\n",
+        &NoHold,
+        b"[a]\n[b]\nload g 0 8\ncget r 0 8\n[end]\nglobals 1 weaks 0 live 1 used 1\n",
     )
 }
 

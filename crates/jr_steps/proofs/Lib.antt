@@ -1,3 +1,4 @@
 pub mod StepFacts
 pub mod Spots
 pub mod CollectorFacts
+pub mod PartFacts

@@ -9,7 +9,7 @@ use Rattle.jr_word.specs.declared.slot.SlotParts.TheVariants.{Free}
 use Rattle.jr_model.specs.declared.event.Role.{Role}
 use Rattle.jr_model.specs.declared.event.Role.TheVariants.{Within}
 use Rattle.jr_model.specs.declared.event.Act.{Act}
-use Rattle.jr_model.specs.declared.event.Act.TheVariants.{Look, Leave, LocalPut, LocalDrop}
+use Rattle.jr_model.specs.declared.event.Act.TheVariants.{Look, Leave, LocalPut, LocalDrop, Read}
 use Rattle.jr_model.specs.declared.event.Found.{Found}
 use Rattle.jr_model.specs.State.{Handle, State, Contents, IsPresent, IsOccupied, IsClosed, IsWord, AreWords}
 use Rattle.jr_model.specs.History.{History, by, state, IsLegal, mine, PassView, role_of, role_from}
@@ -236,6 +236,11 @@ AreOf {S = S} facts = (s : S) (k : Known) → (facts s).knows k → IsOf (facts 
 abbrev pub Leads : {S : Type 0} → (S → Facts) → S → S → (Known → Type 0) → (Known → Known → Type 0) → (Known → Known → Type 0) → Type 0
 Leads facts old new met made shows = (k : Known) → (facts old).knows k → met k → (k' : Known) × (facts new).knows k' × made k k' × shows k k'
 
+-- THESE WORDS WERE READ IN TURN at elements of the object from an index on, each by one step more, and the pass holds what it held
+abbrev pub ReadsInTurn : ℕ → ℕ → List ℕ → Known → Known → Type 0
+ReadsInTurn o i [] k k' = k' ≡ k
+ReadsInTurn o i (v ∷ vs) k k' = (next : Known) × Goes k (Read o i v ∷ []) next × keeps k next × ReadsInTurn o (i + 1) vs next k'
+
 module _ {S : Type 0} (facts : S → Facts) where
   -- ONE STEP WAS TAKEN, with acts that may depend on what was known: it leaves the pass standing so, leaves the hint as it was, and shows this; and nobody else did anything in between where the pass is of no room
   pub record TookWith (old new : S) (acts : Known → List Act) (stood : Standing) (met : Known → Type 0) (shows : Known → Known → Type 0) : Type 0 where
@@ -269,3 +274,11 @@ module _ {S : Type 0} (facts : S → Facts) where
     pub hint_is : (facts new).hint ≡ index
     pub stands_is : (facts new).stands ≡ (facts old).stands
     pub same : (k : Known) → (facts old).knows k ↔ (facts new).knows k
+
+  -- A PART OF AN OBJECT WAS READ: words of its elements from an index on, a step for each, which leave the pass standing so; and these values are what the words are taken for
+  pub record SawPart {V : Type 0} (old new : S) (o : ℕ) (h : HeaderParts) (start : ℕ) (taken : ℕ → V) (values : List V) : Type 0 where
+    pub words : List ℕ
+    pub are : values ≡ map taken words
+    pub stands_is : (facts new).stands ≡ (facts old).stands
+    pub hint_is : (facts new).hint ≡ (facts old).hint
+    pub leads : Leads facts old new (KnowsHeader o h) (ReadsInTurn o start words) keeps

@@ -1,5 +1,5 @@
 //! The kinds of atomic step, over any row of words.
-ghost use Rattle.std.specs.Prelude.{◌≡◌, ◌≢◌, ◌⊎◌, ◌<◌, ◌≤◌, ◌+◌, [], ◌∷◌, true};
+ghost use Rattle.std.specs.Prelude.{◌≡◌, ◌≢◌, ◌⊎◌, ◌<◌, ◌≤◌, ◌+◌, [], ◌∷◌, true, length};
 ghost use Rattle.jr_word.specs.Config.{in_limits};
 ghost use Rattle.jr_word.specs.declared.handle.RefKind.TheVariants.{Local, Weak};
 ghost use Rattle.jr_word.specs.declared.kind.Kind.TheVariants.{Text};
@@ -8,13 +8,13 @@ ghost use Rattle.jr_model.specs.declared.event.Act.TheVariants.{Reopen, Read, Wr
 ghost use Rattle.jr_steps.specs.Collecting.{ShowsLocal, ShowsElement, IsThere, CanWipe, CanDrop, ShowsDropped, CanMove, ShowsMoved, placed, CanPlace, ShowsPlaced, CanSettle};
 ghost use Rattle.jr_model.specs.declared.event.Role.TheVariants.{Outside, Within, Knocking, Collecting};
 ghost use Rattle.jr_steps.specs.Acts.{act_of_entry, act_of_exit, act_of_bar, act_of_gate_load, GateLoadFits, all_counted, act_of_slot_load, SlotLoadFits, act_of_claim, act_of_free, act_of_put, acts_of_publication, acts_of_top_load, act_of_reservation, found_of, handle_of};
-ghost use Rattle.jr_steps.specs.Knowing.{anything, KnowsHeader, HasWord, IsWordNow, IsFilled, words_for, ShowsHeader, ShowsPublished, ShowsUsed, WasUsed, ShowsRange, ShowsWord, TookWith, HasObject, HasOptional, HasLooked, HasNoLocals, CanReopen, ShowsBarred, IsFreeSlot, ShowsGate, ShowsSlot, LostClaim, MayKnow, Took, Spent, Hinted, keeps, lets_go};
+ghost use Rattle.jr_steps.specs.Knowing.{anything, KnowsHeader, HasWord, IsWordNow, IsFilled, words_for, ShowsHeader, ShowsPublished, ShowsUsed, WasUsed, ShowsRange, ShowsWord, TookWith, HasObject, HasOptional, HasLooked, HasNoLocals, CanReopen, ShowsBarred, IsFreeSlot, ShowsGate, ShowsSlot, LostClaim, MayKnow, SawPart, Took, Spent, Hinted, keeps, lets_go};
 
 use crate::loads::{GateLoad, SlotLoad, TopLoad};
 use jr_model::Role;
-use jr_word::{Config, GateParts, HandleParts, HeaderParts, LocalParts, RefKind, SlotParts};
+use jr_word::{Config, Elem, GateParts, HandleParts, HeaderParts, LocalParts, RefKind, SlotParts};
 
-/// The steps of one thread: each from `go_in` to `set_top` is one atomic operation on one word of the row. The others tell what the pass is, or spend it, and touch no word.
+/// The steps of one thread: each from `go_in` to `set_top` is one atomic operation on one word of the row, but for `see_part`, which is one for each element. The others tell what the pass is, or spend it, and touch no word.
 pub trait Steps {
     ghost use Rattle.jr_steps.specs.Knowing.{Facts, IsOf};
     ghost use Rattle.jr_steps.specs.declared.known.Known.{Known};
@@ -149,6 +149,20 @@ pub trait Steps {
         requires index { index < header.length }
         requires known { MayKnow facts self.old (KnowsHeader object header) }
         ensures { Took facts self.old self.new (Read object index result ∷ []) (KnowsHeader object header) keeps };
+
+    /// Loads elements of an object whose header the pass knows, from an index on: as many as the slice has room for, in rising order, and each by one atomic operation.
+    fn see_part<E: Elem>(
+        &mut self,
+        object: u16,
+        header: HeaderParts,
+        start: u32,
+        elements: &mut [E],
+    )
+        requires role { (facts self.old).stands.role ≡ Within }
+        requires part { start + length elements.old ≤ header.length }
+        requires known { MayKnow facts self.old (KnowsHeader object header) }
+        ensures size { length elements.new ≡ length elements.old }
+        ensures steps { SawPart facts self.old self.new object header start E.element_of elements.new };
 
     /// Stores an element of an object whose header the pass knows. It is no string.
     fn put_element(&mut self, object: u16, header: HeaderParts, index: u32, word: u64)

@@ -9,7 +9,7 @@ use Rattle.std.proofs.lemmas.Bool.{and_parts, and_from, eqb-true, leb-true, fals
 use Rattle.std.proofs.lemmas.List.{length-map}
 use Rattle.std.proofs.lemmas.Slice.Eq.{bytes_eq-Decides}
 use Rattle.jr_syntax.specs.declared.verb.Verb.{Verb}
-use Rattle.jr_syntax.specs.declared.verb.Verb.TheVariants.{Make, MakeFrom, On, OnBoth, OnName, WithCount, MakeSized, MakeFilled, MakeText, MakeAt, OnAt, SetAt, StoreAt}
+use Rattle.jr_syntax.specs.declared.verb.Verb.TheVariants.{Make, MakeFrom, On, OnBoth, OnName, WithCount, MakeSized, MakeFilled, MakeText, MakeAt, OnAt, SetAt, StoreAt, OnNameAt, PutAt, Release, OpenLevel, CloseLevel}
 use Rattle.jr_syntax.specs.declared.command.Command.{Command}
 use Rattle.jr_syntax.specs.declared.name.Reference.TheVariants.{Null, Named}
 use Rattle.jr_syntax.specs.Name.{is_name}
@@ -20,6 +20,8 @@ use Rattle.jr_syntax.specs.Reference.{reference, reference_word, is_good_referen
 use Rattle.jr_syntax.specs.Count.{number_at_most, most_count, count}
 use Rattle.jr_syntax.specs.Units.{most_units, unit, units}
 use Rattle.jr_syntax.specs.Value.{value}
+use Rattle.jr_model.specs.declared.frames.Mode.TheVariants.{Copy, Commit, Abort}
+use Rattle.jr_syntax.specs.Modes.{mode, word_of_mode}
 use Rattle.jr_syntax.proofs.DecimalLaws.{decimal_number}
 use Rattle.jr_syntax.proofs.ValueLaws.{value_back}
 use Rattle.jr_syntax.specs.Command.{verb_word, verb_of, all_verbs, behind_verb, spelling_of, words_of_command, is_command, line_has_form, line_in_range, line_command}
@@ -63,6 +65,18 @@ unit_takes = number_takes 65535 (omega arith)
 
 value_takes : Takes value
 value_takes = record { back = value_back; good = λ w f r. r }
+
+mode_back : (w : List ℕ) (a b c : Bool) → bytes_eq w (codes "copy") ≡ a → bytes_eq w (codes "commit") ≡ b → bytes_eq w (codes "abort") ≡ c → (a || b || c) ≡ true → word_of_mode (if a then Copy else (if b then Commit else Abort)) ≡ w
+mode_back w true b c e f g h = sym ((bytes_eq-Decides w (codes "copy")).0 e)
+mode_back w false true c e f g h = sym ((bytes_eq-Decides w (codes "commit")).0 f)
+mode_back w false false true e f g h = sym ((bytes_eq-Decides w (codes "abort")).0 g)
+mode_back w false false false e f g h = absurd (false≢true h)
+
+mode_takes : Takes mode
+mode_takes = record {
+  back = λ w f r. mode_back w (bytes_eq w (codes "copy")) (bytes_eq w (codes "commit")) (bytes_eq w (codes "abort")) refl refl refl f;
+  good = λ w f r. refl;
+}
 
 -- ---- arguments
 
@@ -191,6 +205,11 @@ command_takes (MakeAt v) = by _ (three_takes name reference count name_takes ref
 command_takes (OnAt v) = by _ (two_takes reference count reference_takes count_takes) _
 command_takes (SetAt v) = by _ (three_takes reference count reference reference_takes count_takes reference_takes) _
 command_takes (StoreAt v) = by _ (three_takes reference count value reference_takes count_takes value_takes) _
+command_takes (OnNameAt v) = by _ (two_takes name count name_takes count_takes) _
+command_takes (PutAt v) = by _ (three_takes name count value name_takes count_takes value_takes) _
+command_takes (Release v) = by _ (three_takes name reference mode name_takes reference_takes mode_takes) _
+command_takes (OpenLevel v) = by _ (two_takes name reference name_takes reference_takes) _
+command_takes (CloseLevel v) = by _ (one_takes mode mode_takes) _
 
 -- ---- lines
 

@@ -9,9 +9,9 @@ use Rattle.std.proofs.lemmas.Bool.{and_parts, and_from, leb-true, le-leb, eq-eqb
 use Rattle.std.proofs.lemmas.List.{length-map}
 use Rattle.jr_word.specs.Config.{is_between}
 use Rattle.jr_syntax.specs.declared.verb.Verb.{Verb}
-use Rattle.jr_syntax.specs.declared.verb.Verb.TheVariants.{Make, MakeFrom, On, OnBoth, OnName, WithCount, MakeSized, MakeFilled, MakeText, MakeAt, OnAt, SetAt, StoreAt}
+use Rattle.jr_syntax.specs.declared.verb.Verb.TheVariants.{Make, MakeFrom, On, OnBoth, OnName, WithCount, MakeSized, MakeFilled, MakeText, MakeAt, OnAt, SetAt, StoreAt, OnNameAt, PutAt, Release, OpenLevel, CloseLevel}
 use Rattle.jr_syntax.specs.declared.verb.Make.TheVariants.{Plain, Wait}
-use Rattle.jr_syntax.specs.declared.verb.MakeFrom.TheVariants.{Global, Weak, Local, Pop}
+use Rattle.jr_syntax.specs.declared.verb.MakeFrom.TheVariants.{Global, Weak, Local, Pop, Elements}
 use Rattle.jr_syntax.specs.declared.verb.On.TheVariants as on
 use Rattle.jr_syntax.specs.declared.verb.OnBoth.TheVariants.{Same}
 use Rattle.jr_syntax.specs.declared.verb.OnName.TheVariants.{Post}
@@ -23,6 +23,11 @@ use Rattle.jr_syntax.specs.declared.verb.MakeAt.TheVariants.{Get}
 use Rattle.jr_syntax.specs.declared.verb.OnAt.TheVariants.{Load}
 use Rattle.jr_syntax.specs.declared.verb.SetAt.TheVariants as set_at
 use Rattle.jr_syntax.specs.declared.verb.StoreAt.TheVariants.{Store}
+use Rattle.jr_syntax.specs.declared.verb.OnNameAt.TheVariants as named_at
+use Rattle.jr_syntax.specs.declared.verb.PutAt.TheVariants.{Put, PutInLevel}
+use Rattle.jr_syntax.specs.declared.verb.Release.TheVariants as releases
+use Rattle.jr_syntax.specs.declared.verb.OpenLevel.TheVariants as opens
+use Rattle.jr_syntax.specs.declared.verb.CloseLevel.TheVariants.{Newest}
 use Rattle.jr_syntax.specs.declared.command.Command.{Command}
 use Rattle.jr_syntax.specs.declared.command.Command.TheVariants as commands
 use Rattle.jr_syntax.specs.declared.name.Reference.{Reference}
@@ -35,6 +40,9 @@ use Rattle.jr_syntax.specs.Reference.{reference, reference_word, reference_at, i
 use Rattle.jr_syntax.specs.Count.{number_at_most, most_count, count}
 use Rattle.jr_syntax.specs.Units.{most_units, unit, units}
 use Rattle.jr_syntax.specs.Value.{is_long, value}
+use Rattle.jr_model.specs.declared.frames.Mode.{Mode}
+use Rattle.jr_model.specs.declared.frames.Mode.TheVariants.{Copy, Commit, Abort}
+use Rattle.jr_syntax.specs.Modes.{mode, is_mode_word, mode_of, word_of_mode}
 use Rattle.jr_syntax.specs.Command.{verb_word, verb_of, all_verbs, behind_verb, spelling_of, words_of_command, is_command, line_has_form, line_in_range, line_command}
 use Rattle.jr_syntax.specs.Script.{thread}
 use Rattle.jr_syntax.proofs.DecimalLaws.{decimal_digits, decimal_form, number_decimal}
@@ -127,6 +135,24 @@ value_solid (negsuc n) g = let small = long_below n g in decimal_solid (suc n) (
 
 value_word_again : AgainWord value
 value_word_again = record { solid = value_solid; form = value_form; range = λ z g. ap is_long (value_again z g) ∙ g; back = value_again }
+
+mode_solid : (m : Mode) → is_solid (word_of_mode m) ≡ true
+mode_solid Copy = refl
+mode_solid Commit = refl
+mode_solid Abort = refl
+
+mode_form : (m : Mode) → is_mode_word (word_of_mode m) ≡ true
+mode_form Copy = refl
+mode_form Commit = refl
+mode_form Abort = refl
+
+mode_back : (m : Mode) → mode_of (word_of_mode m) ≡ m
+mode_back Copy = refl
+mode_back Commit = refl
+mode_back Abort = refl
+
+mode_again : AgainWord mode
+mode_again = record { solid = λ m g. mode_solid m; form = λ m g. mode_form m; range = λ m g. refl; back = λ m g. mode_back m }
 
 -- ---- arguments
 
@@ -243,10 +269,12 @@ verb_again (MakeFrom Global) = refl
 verb_again (MakeFrom Weak) = refl
 verb_again (MakeFrom Local) = refl
 verb_again (MakeFrom Pop) = refl
+verb_again (MakeFrom Elements) = refl
 verb_again (On on.Drop) = refl
 verb_again (On on.Type) = refl
 verb_again (On on.Len) = refl
 verb_again (On on.TextLength) = refl
+verb_again (On on.Chars) = refl
 verb_again (OnBoth Same) = refl
 verb_again (OnName Post) = refl
 verb_again (WithCount Push) = refl
@@ -263,6 +291,14 @@ verb_again (MakeAt Get) = refl
 verb_again (OnAt Load) = refl
 verb_again (SetAt set_at.Set) = refl
 verb_again (StoreAt Store) = refl
+verb_again (OnNameAt named_at.Get) = refl
+verb_again (OnNameAt named_at.GetInLevel) = refl
+verb_again (PutAt Put) = refl
+verb_again (PutAt PutInLevel) = refl
+verb_again (Release releases.Elements) = refl
+verb_again (OpenLevel opens.Array) = refl
+verb_again (OpenLevel opens.Text) = refl
+verb_again (CloseLevel Newest) = refl
 
 -- the word of a verb can be told from spaces, and from a thread line's
 abbrev can_begin : Verb → Bool
@@ -316,3 +352,8 @@ command_again (commands.MakeAt v n r i) g = by _ (three_again name reference cou
 command_again (commands.OnAt v r i) g = by _ (two_again reference count reference_again count_again) (OnAt v) (λ x. commands.OnAt v x.0 x.1) (λ _. refl) (λ _. refl) (λ _. refl) (r, i) g
 command_again (commands.SetAt v r i q) g = by _ (three_again reference count reference reference_again count_again reference_again) (SetAt v) (λ x. commands.SetAt v x.0 x.1 x.2) (λ _. refl) (λ _. refl) (λ _. refl) (r, i, q) g
 command_again (commands.StoreAt v r i x) g = by _ (three_again reference count value reference_again count_again value_word_again) (StoreAt v) (λ y. commands.StoreAt v y.0 y.1 y.2) (λ _. refl) (λ _. refl) (λ _. refl) (r, i, x) g
+command_again (commands.OnNameAt v n i) g = by _ (two_again name count name_again count_again) (OnNameAt v) (λ x. commands.OnNameAt v x.0 x.1) (λ _. refl) (λ _. refl) (λ _. refl) (n, i) g
+command_again (commands.PutAt v n i x) g = by _ (three_again name count value name_again count_again value_word_again) (PutAt v) (λ y. commands.PutAt v y.0 y.1 y.2) (λ _. refl) (λ _. refl) (λ _. refl) (n, i, x) g
+command_again (commands.Release v n r m) g = by _ (three_again name reference mode name_again reference_again mode_again) (Release v) (λ x. commands.Release v x.0 x.1 x.2) (λ _. refl) (λ _. refl) (λ _. refl) (n, r, m) g
+command_again (commands.OpenLevel v n r) g = by _ (two_again name reference name_again reference_again) (OpenLevel v) (λ x. commands.OpenLevel v x.0 x.1) (λ _. refl) (λ _. refl) (λ _. refl) (n, r) g
+command_again (commands.CloseLevel v m) g = by _ (one_again mode mode_again) (CloseLevel v) (λ x. commands.CloseLevel v x) (λ _. refl) (λ _. refl) (λ _. refl) m g

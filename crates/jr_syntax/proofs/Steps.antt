@@ -88,6 +88,11 @@ apart_posted xs (commands.MakeAt v n r i) h new = ap all_apart (append-nil xs) �
 apart_posted xs (commands.OnAt v r i) h new = ap all_apart (append-nil xs) ∙ h
 apart_posted xs (commands.SetAt v r i q) h new = ap all_apart (append-nil xs) ∙ h
 apart_posted xs (commands.StoreAt v r i x) h new = ap all_apart (append-nil xs) ∙ h
+apart_posted xs (commands.OnNameAt v n i) h new = ap all_apart (append-nil xs) ∙ h
+apart_posted xs (commands.PutAt v n i x) h new = ap all_apart (append-nil xs) ∙ h
+apart_posted xs (commands.Release v n r m) h new = ap all_apart (append-nil xs) ∙ h
+apart_posted xs (commands.OpenLevel v n r) h new = ap all_apart (append-nil xs) ∙ h
+apart_posted xs (commands.CloseLevel v m) h new = ap all_apart (append-nil xs) ∙ h
 
 -- ---- one more part
 

@@ -6,9 +6,9 @@ use Rattle.std.specs.Str.{bytes_eq}
 use Rattle.jr_syntax.specs.declared.argument.LineError.{LineError}
 use Rattle.jr_syntax.specs.declared.argument.LineError.TheVariants as errors
 use Rattle.jr_syntax.specs.declared.verb.Verb.{Verb}
-use Rattle.jr_syntax.specs.declared.verb.Verb.TheVariants.{Make, MakeFrom, On, OnBoth, OnName, WithCount, MakeSized, MakeFilled, MakeText, MakeAt, OnAt, SetAt, StoreAt}
+use Rattle.jr_syntax.specs.declared.verb.Verb.TheVariants.{Make, MakeFrom, On, OnBoth, OnName, WithCount, MakeSized, MakeFilled, MakeText, MakeAt, OnAt, SetAt, StoreAt, OnNameAt, PutAt, Release, OpenLevel, CloseLevel}
 use Rattle.jr_syntax.specs.declared.verb.Make.TheVariants.{Plain, Wait}
-use Rattle.jr_syntax.specs.declared.verb.MakeFrom.TheVariants.{Global, Weak, Local, Pop}
+use Rattle.jr_syntax.specs.declared.verb.MakeFrom.TheVariants.{Global, Weak, Local, Pop, Elements}
 use Rattle.jr_syntax.specs.declared.verb.On.TheVariants as on
 use Rattle.jr_syntax.specs.declared.verb.OnBoth.TheVariants.{Same}
 use Rattle.jr_syntax.specs.declared.verb.OnName.TheVariants.{Post}
@@ -20,6 +20,11 @@ use Rattle.jr_syntax.specs.declared.verb.MakeAt.TheVariants.{Get}
 use Rattle.jr_syntax.specs.declared.verb.OnAt.TheVariants.{Load}
 use Rattle.jr_syntax.specs.declared.verb.SetAt.TheVariants as set_at
 use Rattle.jr_syntax.specs.declared.verb.StoreAt.TheVariants.{Store}
+use Rattle.jr_syntax.specs.declared.verb.OnNameAt.TheVariants as named_at
+use Rattle.jr_syntax.specs.declared.verb.PutAt.TheVariants.{Put, PutInLevel}
+use Rattle.jr_syntax.specs.declared.verb.Release.TheVariants as releases
+use Rattle.jr_syntax.specs.declared.verb.OpenLevel.TheVariants as opens
+use Rattle.jr_syntax.specs.declared.verb.CloseLevel.TheVariants.{Newest}
 use Rattle.jr_syntax.specs.declared.command.Command.{Command}
 use Rattle.jr_syntax.specs.declared.command.Command.TheVariants as commands
 use Rattle.jr_syntax.specs.Kind.{Arguments, Reading, one, two, three, before, name}
@@ -27,6 +32,7 @@ use Rattle.jr_syntax.specs.Reference.{reference}
 use Rattle.jr_syntax.specs.Count.{count}
 use Rattle.jr_syntax.specs.Units.{units}
 use Rattle.jr_syntax.specs.Value.{value}
+use Rattle.jr_syntax.specs.Modes.{mode}
 
 -- ---- the verbs, two rows for each
 
@@ -38,10 +44,12 @@ verb_word (MakeFrom Global) = codes "global"
 verb_word (MakeFrom Weak) = codes "weak"
 verb_word (MakeFrom Local) = codes "local"
 verb_word (MakeFrom Pop) = codes "pop"
+verb_word (MakeFrom Elements) = codes "elems"
 verb_word (On on.Drop) = codes "drop"
 verb_word (On on.Type) = codes "type"
 verb_word (On on.Len) = codes "len"
 verb_word (On on.TextLength) = codes "slen"
+verb_word (On on.Chars) = codes "chars"
 verb_word (OnBoth Same) = codes "same"
 verb_word (OnName Post) = codes "post"
 verb_word (WithCount Push) = codes "push"
@@ -58,13 +66,23 @@ verb_word (MakeAt Get) = codes "get"
 verb_word (OnAt Load) = codes "load"
 verb_word (SetAt set_at.Set) = codes "set"
 verb_word (StoreAt Store) = codes "store"
+verb_word (OnNameAt named_at.Get) = codes "eget"
+verb_word (OnNameAt named_at.GetInLevel) = codes "cget"
+verb_word (PutAt Put) = codes "eput"
+verb_word (PutAt PutInLevel) = codes "cset"
+verb_word (Release releases.Elements) = codes "release"
+verb_word (OpenLevel opens.Array) = codes "crit"
+verb_word (OpenLevel opens.Text) = codes "critstr"
+verb_word (CloseLevel Newest) = codes "endcrit"
 
 -- every verb
 abbrev pub all_verbs : List Verb
 all_verbs =
-    Make Plain ∷ Make Wait ∷ MakeFrom Global ∷ MakeFrom Weak ∷ MakeFrom Local ∷ MakeFrom Pop ∷ On on.Drop ∷ On on.Type ∷ On on.Len ∷ On on.TextLength ∷ OnBoth Same ∷ OnName Post ∷ WithCount Push ∷ WithCount Ensure
+    Make Plain ∷ Make Wait ∷ MakeFrom Global ∷ MakeFrom Weak ∷ MakeFrom Local ∷ MakeFrom Pop ∷ MakeFrom Elements ∷ On on.Drop ∷ On on.Type ∷ On on.Len ∷ On on.TextLength ∷ On on.Chars ∷ OnBoth Same ∷ OnName Post ∷ WithCount Push ∷ WithCount Ensure
     ∷ MakeSized sized.Boolean ∷ MakeSized sized.Byte ∷ MakeSized sized.Char ∷ MakeSized sized.Short ∷ MakeSized sized.Int ∷ MakeSized sized.Long
-    ∷ MakeFilled Objects ∷ MakeText text.String ∷ MakeAt Get ∷ OnAt Load ∷ SetAt set_at.Set ∷ StoreAt Store ∷ []
+    ∷ MakeFilled Objects ∷ MakeText text.String ∷ MakeAt Get ∷ OnAt Load ∷ SetAt set_at.Set ∷ StoreAt Store
+    ∷ OnNameAt named_at.Get ∷ OnNameAt named_at.GetInLevel ∷ PutAt Put ∷ PutAt PutInLevel ∷ Release releases.Elements
+    ∷ OpenLevel opens.Array ∷ OpenLevel opens.Text ∷ CloseLevel Newest ∷ []
 
 -- ---- the shapes of commands: the arguments behind a verb
 
@@ -87,6 +105,11 @@ behind_verb (MakeAt v) = command_of (three name reference count) (λ x. commands
 behind_verb (OnAt v) = command_of (two reference count) (λ x. commands.OnAt v x.0 x.1)
 behind_verb (SetAt v) = command_of (three reference count reference) (λ x. commands.SetAt v x.0 x.1 x.2)
 behind_verb (StoreAt v) = command_of (three reference count value) (λ x. commands.StoreAt v x.0 x.1 x.2)
+behind_verb (OnNameAt v) = command_of (two name count) (λ x. commands.OnNameAt v x.0 x.1)
+behind_verb (PutAt v) = command_of (three name count value) (λ x. commands.PutAt v x.0 x.1 x.2)
+behind_verb (Release v) = command_of (three name reference mode) (λ x. commands.Release v x.0 x.1 x.2)
+behind_verb (OpenLevel v) = command_of (two name reference) (λ x. commands.OpenLevel v x.0 x.1)
+behind_verb (CloseLevel v) = command_of (one mode) (λ m. commands.CloseLevel v m)
 
 -- A command's verb and words, and whether its names are names and its numbers within bounds.
 pub record Spelling : Type 0 where
@@ -112,6 +135,11 @@ spelling_of (commands.MakeAt v n r i) = spelled (MakeAt v) (three name reference
 spelling_of (commands.OnAt v r i) = spelled (OnAt v) (two reference count) (r, i)
 spelling_of (commands.SetAt v r i x) = spelled (SetAt v) (three reference count reference) (r, i, x)
 spelling_of (commands.StoreAt v r i x) = spelled (StoreAt v) (three reference count value) (r, i, x)
+spelling_of (commands.OnNameAt v n i) = spelled (OnNameAt v) (two name count) (n, i)
+spelling_of (commands.PutAt v n i x) = spelled (PutAt v) (three name count value) (n, i, x)
+spelling_of (commands.Release v n r m) = spelled (Release v) (three name reference mode) (n, r, m)
+spelling_of (commands.OpenLevel v n r) = spelled (OpenLevel v) (two name reference) (n, r)
+spelling_of (commands.CloseLevel v m) = spelled (CloseLevel v) (one mode) m
 
 -- ---- what follows from them
 

@@ -6,7 +6,9 @@ pub mod Reference
 pub mod Count
 pub mod Units
 pub mod Value
+pub mod Modes
 pub mod Command
+pub mod Printing
 pub mod Script
 pub mod Faults
 pub mod Parse

@@ -7,11 +7,14 @@ ghost use Rattle.jr_syntax.specs.Reference.{reference};
 ghost use Rattle.jr_syntax.specs.Count.{count};
 ghost use Rattle.jr_syntax.specs.Units.{unit};
 ghost use Rattle.jr_syntax.specs.Value.{value};
+ghost use Rattle.jr_syntax.specs.Modes.{mode};
 
+use crate::mode::{is_mode, mode_at, mode_word};
 use crate::name::{Name, Reference, is_name, is_reference};
 use crate::number::{is_number, number_up_to};
 use crate::value::{is_value, long_of};
 use crate::word::Words;
+use jr_model::Mode;
 use std::alloc::AllocError;
 
 /// The greatest count.
@@ -136,6 +139,23 @@ impl Argument for i64 {
     fn put(&self, out: &mut Vec<u8>) -> Result<(), AllocError> {
         let value = format!(in *out.allocator(); "{self}")?;
         out.extend_from_slice(value.as_bytes())?;
+        Ok(())
+    }
+}
+
+impl Argument for Mode {
+    ghost kind = { mode };
+
+    fn has_form(word: &[u8]) -> bool {
+        is_mode(word)
+    }
+
+    fn read(word: &[u8]) -> Option<Mode> {
+        Some(mode_at(word))
+    }
+
+    fn put(&self, out: &mut Vec<u8>) -> Result<(), AllocError> {
+        out.extend_from_slice(mode_word(*self))?;
         Ok(())
     }
 }

@@ -1,20 +1,22 @@
 //! Commands, and the lines that they are.
 
-ghost use Rattle.std.specs.Prelude.{◌≡◌, ◌++◌, OnOk};
+ghost use Rattle.std.specs.Prelude.{◌≡◌, ◌∷◌, ◌++◌, true, OnOk};
 ghost use Rattle.jr_syntax.specs.Kind.{Reads};
 ghost use Rattle.jr_syntax.specs.Line.{line};
 ghost use Rattle.jr_syntax.specs.declared.verb.Verb.TheVariants as with;
 ghost use Rattle.jr_syntax.specs.Command.{behind_verb, spelling_of, words_of_command, ReadsLine};
+ghost use Rattle.jr_syntax.specs.Printing.{has_three_arguments, arguments_of};
 
 use crate::argument::{LineError, one, put_one, put_three, put_two, three, two};
 use crate::name::{Name, Reference};
 use crate::text::{named_units, put_named_units};
 use crate::units::Units;
 use crate::verb::{
-    Make, MakeAt, MakeFilled, MakeFrom, MakeSized, MakeText, On, OnAt, OnBoth, OnName, SetAt,
-    StoreAt, Verb, WithCount,
+    CloseLevel, Make, MakeAt, MakeFilled, MakeFrom, MakeSized, MakeText, On, OnAt, OnBoth, OnName,
+    OnNameAt, OpenLevel, PutAt, Release, SetAt, StoreAt, Verb, WithCount,
 };
 use crate::word::Words;
+use jr_model::Mode;
 use std::alloc::AllocError;
 
 /// A command of a thread: a verb, and the arguments of its shape.
@@ -98,6 +100,37 @@ pub enum Command {
         index: u32,
         value: i64,
     },
+    /// `VERB N I`: is about an element of what a name stands for, and sets no name; index 0 to 16,777,215.
+    OnNameAt {
+        verb: OnNameAt,
+        name: Name,
+        index: u32,
+    },
+    /// `VERB N I VALUE`: makes a value an element of what a name stands for.
+    PutAt {
+        verb: PutAt,
+        name: Name,
+        index: u32,
+        value: i64,
+    },
+    /// `VERB N REF MODE`: hands what a name stands for back to what a reference names.
+    Release {
+        verb: Release,
+        name: Name,
+        target: Reference,
+        mode: Mode,
+    },
+    /// `VERB N REF`: opens a level of a critical region at what a reference names, for which the name then stands among levels.
+    OpenLevel {
+        verb: OpenLevel,
+        name: Name,
+        target: Reference,
+    },
+    /// `VERB MODE`: ends a level of a critical region.
+    CloseLevel {
+        verb: CloseLevel,
+        mode: Mode,
+    },
 }
 
 impl Command {
@@ -138,6 +171,11 @@ impl Command {
             Verb::OnAt(verb) => Command::read_at(verb, words),
             Verb::SetAt(verb) => Command::read_set(verb, words),
             Verb::StoreAt(verb) => Command::read_stored(verb, words),
+            Verb::OnNameAt(verb) => Command::read_name_at(verb, words),
+            Verb::PutAt(verb) => Command::read_put(verb, words),
+            Verb::Release(verb) => Command::read_release(verb, words),
+            Verb::OpenLevel(verb) => Command::read_opening(verb, words),
+            Verb::CloseLevel(verb) => Command::read_closing(verb, words),
         }
     }
 
@@ -221,6 +259,56 @@ impl Command {
         })
     }
 
+    #[tactic(auto, unfolding(crate::specs::Command::behind_verb))]
+    fn read_name_at(verb: OnNameAt, words: Words) -> Result<Command, LineError>
+        ensures { Reads (behind_verb (with.OnNameAt verb)) words.entry result }
+    {
+        let (name, index) = two(words)?;
+        Ok(Command::OnNameAt { verb, name, index })
+    }
+
+    #[tactic(auto, unfolding(crate::specs::Command::behind_verb))]
+    fn read_put(verb: PutAt, words: Words) -> Result<Command, LineError>
+        ensures { Reads (behind_verb (with.PutAt verb)) words.entry result }
+    {
+        let (name, index, value) = three(words)?;
+        Ok(Command::PutAt {
+            verb,
+            name,
+            index,
+            value,
+        })
+    }
+
+    #[tactic(auto, unfolding(crate::specs::Command::behind_verb))]
+    fn read_release(verb: Release, words: Words) -> Result<Command, LineError>
+        ensures { Reads (behind_verb (with.Release verb)) words.entry result }
+    {
+        let (name, target, mode) = three(words)?;
+        Ok(Command::Release {
+            verb,
+            name,
+            target,
+            mode,
+        })
+    }
+
+    #[tactic(auto, unfolding(crate::specs::Command::behind_verb))]
+    fn read_opening(verb: OpenLevel, words: Words) -> Result<Command, LineError>
+        ensures { Reads (behind_verb (with.OpenLevel verb)) words.entry result }
+    {
+        let (name, target) = two(words)?;
+        Ok(Command::OpenLevel { verb, name, target })
+    }
+
+    #[tactic(auto, unfolding(crate::specs::Command::behind_verb))]
+    fn read_closing(verb: CloseLevel, words: Words) -> Result<Command, LineError>
+        ensures { Reads (behind_verb (with.CloseLevel verb)) words.entry result }
+    {
+        let mode = one(words)?;
+        Ok(Command::CloseLevel { verb, mode })
+    }
+
     /// Its verb.
     #[tactic(auto, unfolding(crate::specs::Command::spelling_of))]
     fn verb(&self) -> Verb
@@ -240,6 +328,11 @@ impl Command {
             Command::OnAt { verb, .. } => Verb::OnAt(*verb),
             Command::SetAt { verb, .. } => Verb::SetAt(*verb),
             Command::StoreAt { verb, .. } => Verb::StoreAt(*verb),
+            Command::OnNameAt { verb, .. } => Verb::OnNameAt(*verb),
+            Command::PutAt { verb, .. } => Verb::PutAt(*verb),
+            Command::Release { verb, .. } => Verb::Release(*verb),
+            Command::OpenLevel { verb, .. } => Verb::OpenLevel(*verb),
+            Command::CloseLevel { verb, .. } => Verb::CloseLevel(*verb),
         }
     }
 
@@ -257,20 +350,39 @@ impl Command {
             Command::OnName { name, .. } => put_one(out, word, name),
             Command::WithCount { count, .. } => put_one(out, word, count),
             Command::MakeSized { name, length, .. } => put_two(out, word, name, length),
+            Command::MakeText { name, units, .. } => put_named_units(out, word, name, units),
+            Command::OnAt { target, index, .. } => put_two(out, word, target, index),
+            Command::OnNameAt { name, index, .. } => put_two(out, word, name, index),
+            Command::OpenLevel { name, target, .. } => put_two(out, word, name, target),
+            Command::CloseLevel { mode, .. } => put_one(out, word, mode),
+            Command::MakeFilled { .. }
+            | Command::MakeAt { .. }
+            | Command::SetAt { .. }
+            | Command::StoreAt { .. }
+            | Command::PutAt { .. }
+            | Command::Release { .. } => self.put_longer(out, word),
+        }
+    }
+
+    /// Writes a word and the three arguments of a command that has three behind it.
+    #[tactic(auto, unfolding(crate::specs::Command::spelling_of))]
+    fn put_longer(&self, out: &mut Vec<u8>, word: &[u8]) -> Result<(), AllocError>
+        requires { has_three_arguments self.now ≡ true }
+        ensures { OnOk result (out.new.items ≡ out.old.items ++ line (word.now ∷ arguments_of self.now)) }
+    {
+        match self {
             Command::MakeFilled {
                 name,
                 length,
                 target,
                 ..
             } => put_three(out, word, name, length, target),
-            Command::MakeText { name, units, .. } => put_named_units(out, word, name, units),
             Command::MakeAt {
                 name,
                 target,
                 index,
                 ..
             } => put_three(out, word, name, target, index),
-            Command::OnAt { target, index, .. } => put_two(out, word, target, index),
             Command::SetAt {
                 target,
                 index,
@@ -283,6 +395,19 @@ impl Command {
                 value,
                 ..
             } => put_three(out, word, target, index, value),
+            Command::PutAt {
+                name,
+                index,
+                value,
+                ..
+            } => put_three(out, word, name, index, value),
+            Command::Release {
+                name,
+                target,
+                mode,
+                ..
+            } => put_three(out, word, name, target, mode),
+            _ => Ok(()),
         }
     }
 }

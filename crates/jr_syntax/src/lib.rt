@@ -7,6 +7,7 @@ mod draft;
 mod fault;
 mod laws;
 mod line;
+mod mode;
 mod name;
 mod number;
 mod reader;
@@ -36,7 +37,7 @@ pub use sequence::Sequence;
 pub use thread::ThreadPart;
 pub use units::Units;
 pub use verb::{
-    Make, MakeAt, MakeFilled, MakeFrom, MakeSized, MakeText, On, OnAt, OnBoth, OnName, SetAt,
-    StoreAt, Verb, WithCount,
+    CloseLevel, Make, MakeAt, MakeFilled, MakeFrom, MakeSized, MakeText, On, OnAt, OnBoth, OnName,
+    OnNameAt, OpenLevel, PutAt, Release, SetAt, StoreAt, Verb, WithCount,
 };
 pub use writer::print;

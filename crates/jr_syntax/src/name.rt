@@ -66,6 +66,17 @@ impl Name {
     }
 }
 
+/// The name `a`.
+impl Default for Name {
+    ghost use Rattle.std.specs.Prelude.{◌≡◌, codes};
+
+    ghost is_default = { λ name. name ≡ codes "a" };
+
+    fn default() -> Name {
+        Name::new(b"a")
+    }
+}
+
 impl PartialEq for Name {
     ghost use Rattle.std.proofs.Common.{rules};
     ghost use Rattle.std.specs.Str.{bytes_eq};

@@ -4,6 +4,8 @@
 //! each growth may be refused in turn, and the assertions stand.
 
 mod arrays;
+mod copies;
+mod regions;
 
 use crate::command::Command;
 use crate::fault::{Reason, ScriptFault};
@@ -75,6 +77,41 @@ fn commands(rt: &impl Abort, script: &Script, wanted: &[Command]) {
     assert_eq!(rt; threads.len(), 1);
     assert!(rt; threads[0].name.is(b"a"));
     assert_eq!(rt; threads[0].commands.as_slice(), wanted);
+}
+
+/// What a name refers to.
+fn named(rt: &impl Abort, word: &[u8]) -> Reference {
+    Reference::Named(name(rt, word))
+}
+
+/// Checks that lines behind the thread line are these commands, and are printed as they are.
+fn read_and_printed(
+    rt: &impl Abort,
+    alloc: Global,
+    lines: &[u8],
+    wanted: &[Command],
+) -> Result<(), ScriptFault> {
+    let Ok(text) = behind_head(alloc, lines) else {
+        return Err(ScriptFault::Memory);
+    };
+    let script = parse(alloc, &text)?;
+    commands(rt, &script, wanted);
+    let printed = a_text_read_is_printed_again(alloc, &text)?;
+    assert_eq!(rt; printed, text);
+    Ok(())
+}
+
+/// Checks the fault of each of some lines behind the thread line.
+fn each_is(
+    rt: &impl Abort,
+    alloc: Global,
+    lines: &[&[u8]],
+    reason: Reason,
+) -> Result<(), ScriptFault> {
+    for line in lines {
+        third_line(rt, alloc, line, reason)?;
+    }
+    Ok(())
 }
 
 #[test]

@@ -23,6 +23,8 @@ pub enum MakeFrom {
     Local,
     /// `pop`: a local reference in the frame below, once the newest frame is taken away.
     Pop,
+    /// `elems`: a copy of an array's elements.
+    Elements,
 }
 
 /// A verb with a reference behind it.
@@ -36,6 +38,8 @@ pub enum On {
     Len,
     /// `slen`: prints how many units a string has.
     TextLength,
+    /// `chars`: prints the units of a string.
+    Chars,
 }
 
 /// A verb with two references behind it.
@@ -120,6 +124,47 @@ pub enum StoreAt {
     Store,
 }
 
+/// A verb with a name and an index behind it: it is about an element of what the name stands for.
+#[derive(Clone, Copy, Debug, PartialEq, Eq)]
+pub enum OnNameAt {
+    /// `eget`: prints the element at the index of copied elements.
+    Get,
+    /// `cget`: prints the element at the index of a level of a critical region.
+    GetInLevel,
+}
+
+/// A verb with a name, an index and a value behind it: it changes what the name stands for.
+#[derive(Clone, Copy, Debug, PartialEq, Eq)]
+pub enum PutAt {
+    /// `eput`: makes the value the element at the index of copied elements.
+    Put,
+    /// `cset`: makes the value the element at the index of a level of a critical region.
+    PutInLevel,
+}
+
+/// A verb with a name, a reference and a mode behind it: it hands back to what the reference names what the name stands for.
+#[derive(Clone, Copy, Debug, PartialEq, Eq)]
+pub enum Release {
+    /// `release`: hands copied elements back to their array.
+    Elements,
+}
+
+/// A verb with a name and a reference behind it: it opens a level of a critical region at what the reference names, for which the name then stands.
+#[derive(Clone, Copy, Debug, PartialEq, Eq)]
+pub enum OpenLevel {
+    /// `crit`: a level at an array.
+    Array,
+    /// `critstr`: a level at a string.
+    Text,
+}
+
+/// A verb with a mode behind it: it ends a level of a critical region.
+#[derive(Clone, Copy, Debug, PartialEq, Eq)]
+pub enum CloseLevel {
+    /// `endcrit`: ends the newest level, and with the first the region.
+    Newest,
+}
+
 /// A verb of any shape.
 #[derive(Clone, Copy)]
 pub enum Verb {
@@ -149,19 +194,31 @@ pub enum Verb {
     SetAt(SetAt),
     /// With a reference, an index and a value.
     StoreAt(StoreAt),
+    /// With a name that it does not set, and an index.
+    OnNameAt(OnNameAt),
+    /// With a name that it does not set, an index and a value.
+    PutAt(PutAt),
+    /// With a name, a reference and a mode.
+    Release(Release),
+    /// With a name of a level and a reference.
+    OpenLevel(OpenLevel),
+    /// With a mode.
+    CloseLevel(CloseLevel),
 }
 
-const VERBS: [Verb; 26] = [
+const VERBS: [Verb; 36] = [
     Verb::Make(Make::Plain),
     Verb::Make(Make::Wait),
     Verb::MakeFrom(MakeFrom::Global),
     Verb::MakeFrom(MakeFrom::Weak),
     Verb::MakeFrom(MakeFrom::Local),
     Verb::MakeFrom(MakeFrom::Pop),
+    Verb::MakeFrom(MakeFrom::Elements),
     Verb::On(On::Drop),
     Verb::On(On::Type),
     Verb::On(On::Len),
     Verb::On(On::TextLength),
+    Verb::On(On::Chars),
     Verb::OnBoth(OnBoth::Same),
     Verb::OnName(OnName::Post),
     Verb::WithCount(WithCount::Push),
@@ -178,6 +235,14 @@ const VERBS: [Verb; 26] = [
     Verb::OnAt(OnAt::Load),
     Verb::SetAt(SetAt::Set),
     Verb::StoreAt(StoreAt::Store),
+    Verb::OnNameAt(OnNameAt::Get),
+    Verb::OnNameAt(OnNameAt::GetInLevel),
+    Verb::PutAt(PutAt::Put),
+    Verb::PutAt(PutAt::PutInLevel),
+    Verb::Release(Release::Elements),
+    Verb::OpenLevel(OpenLevel::Array),
+    Verb::OpenLevel(OpenLevel::Text),
+    Verb::CloseLevel(CloseLevel::Newest),
 ];
 
 impl Verb {
@@ -192,10 +257,12 @@ impl Verb {
             Verb::MakeFrom(MakeFrom::Weak) => b"weak",
             Verb::MakeFrom(MakeFrom::Local) => b"local",
             Verb::MakeFrom(MakeFrom::Pop) => b"pop",
+            Verb::MakeFrom(MakeFrom::Elements) => b"elems",
             Verb::On(On::Drop) => b"drop",
             Verb::On(On::Type) => b"type",
             Verb::On(On::Len) => b"len",
             Verb::On(On::TextLength) => b"slen",
+            Verb::On(On::Chars) => b"chars",
             Verb::OnBoth(OnBoth::Same) => b"same",
             Verb::OnName(OnName::Post) => b"post",
             Verb::WithCount(WithCount::Push) => b"push",
@@ -212,6 +279,14 @@ impl Verb {
             Verb::OnAt(OnAt::Load) => b"load",
             Verb::SetAt(SetAt::Set) => b"set",
             Verb::StoreAt(StoreAt::Store) => b"store",
+            Verb::OnNameAt(OnNameAt::Get) => b"eget",
+            Verb::OnNameAt(OnNameAt::GetInLevel) => b"cget",
+            Verb::PutAt(PutAt::Put) => b"eput",
+            Verb::PutAt(PutAt::PutInLevel) => b"cset",
+            Verb::Release(Release::Elements) => b"release",
+            Verb::OpenLevel(OpenLevel::Array) => b"crit",
+            Verb::OpenLevel(OpenLevel::Text) => b"critstr",
+            Verb::CloseLevel(CloseLevel::Newest) => b"endcrit",
         }
     }
 

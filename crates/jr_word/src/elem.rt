@@ -4,7 +4,7 @@ ghost use Rattle.std.specs.Prelude.{◌≡◌, ℕ, ◌^◌, ◌<◌, ⊤, FitsS
 ghost use Rattle.std.specs.Int.{w8, w16, w32, w64};
 ghost use Rattle.jr_word.specs.declared.kind.Kind.{Kind};
 ghost use Rattle.jr_word.specs.declared.kind.Kind.TheVariants.{Boolean, Byte, Char, Short, Int, Long};
-ghost use Rattle.jr_word.specs.Elem.{ElemLaws, bool_word, bool_at, signed_word, signed_at, unsigned_at};
+ghost use Rattle.jr_word.specs.Elem.{ElemLaws, bool_word, bool_at, bool_of, signed_word, signed_at, signed_of, unsigned_at, unsigned_of};
 ghost use Rattle.jr_word.specs.ElementLaws.{bool_laws, i8_laws, u16_laws, i16_laws, i32_laws, i64_laws};
 
 use crate::kind::Kind;
@@ -22,6 +22,8 @@ pub trait Elem: Copy {
 
     ghost value_at: { ℕ → Option Self };
 
+    ghost element_of: { ℕ → Self };
+
     /// The word of an element.
     fn to_word(self) -> u64
         ensures word { result ≡ word_of self }
@@ -31,7 +33,11 @@ pub trait Elem: Copy {
     fn from_word(word: u64) -> Option<Self>
         ensures { result ≡ value_at word };
 
-    ghost laws: { ElemLaws KIND Fits word_of value_at };
+    /// The element that a word of the kind is. Of any other word, that of as many of its low bits as an element has.
+    fn of_word(word: u64) -> Self
+        ensures { result ≡ element_of word };
+
+    ghost laws: { ElemLaws KIND Fits word_of value_at element_of };
 }
 
 impl Elem for bool {
@@ -44,6 +50,8 @@ impl Elem for bool {
     ghost word_of = { bool_word };
 
     ghost value_at = { bool_at };
+
+    ghost element_of = { bool_of };
 
     ghost laws = { bool_laws };
 
@@ -60,6 +68,11 @@ impl Elem for bool {
             _ => None,
         }
     }
+
+    #[inline]
+    fn of_word(word: u64) -> Self {
+        word % 2 == 1
+    }
 }
 
 impl Elem for i8 {
@@ -72,6 +85,8 @@ impl Elem for i8 {
     ghost word_of = { signed_word w8 };
 
     ghost value_at = { signed_at w8 };
+
+    ghost element_of = { signed_of w8 };
 
     ghost laws = { i8_laws };
 
@@ -86,6 +101,12 @@ impl Elem for i8 {
         let bits = u8::try_from(word).ok()?;
         Some(bits.cast_signed())
     }
+
+    #[inline]
+    fn of_word(word: u64) -> Self {
+        let bits = (word & 0xff) as u8;
+        bits.cast_signed()
+    }
 }
 
 impl Elem for u16 {
@@ -99,6 +120,8 @@ impl Elem for u16 {
 
     ghost value_at = { unsigned_at w16 };
 
+    ghost element_of = { unsigned_of w16 };
+
     ghost laws = { u16_laws };
 
     #[inline]
@@ -109,6 +132,11 @@ impl Elem for u16 {
     #[inline]
     fn from_word(word: u64) -> Option<Self> {
         u16::try_from(word).ok()
+    }
+
+    #[inline]
+    fn of_word(word: u64) -> Self {
+        (word & 0xffff) as u16
     }
 }
 
@@ -123,6 +151,8 @@ impl Elem for i16 {
 
     ghost value_at = { signed_at w16 };
 
+    ghost element_of = { signed_of w16 };
+
     ghost laws = { i16_laws };
 
     #[inline]
@@ -135,6 +165,12 @@ impl Elem for i16 {
     fn from_word(word: u64) -> Option<Self> {
         let bits = u16::try_from(word).ok()?;
         Some(bits.cast_signed())
+    }
+
+    #[inline]
+    fn of_word(word: u64) -> Self {
+        let bits = (word & 0xffff) as u16;
+        bits.cast_signed()
     }
 }
 
@@ -149,6 +185,8 @@ impl Elem for i32 {
 
     ghost value_at = { signed_at w32 };
 
+    ghost element_of = { signed_of w32 };
+
     ghost laws = { i32_laws };
 
     #[inline]
@@ -161,6 +199,12 @@ impl Elem for i32 {
     fn from_word(word: u64) -> Option<Self> {
         let bits = u32::try_from(word).ok()?;
         Some(bits.cast_signed())
+    }
+
+    #[inline]
+    fn of_word(word: u64) -> Self {
+        let bits = (word & 0xffff_ffff) as u32;
+        bits.cast_signed()
     }
 }
 
@@ -175,6 +219,8 @@ impl Elem for i64 {
 
     ghost value_at = { signed_at w64 };
 
+    ghost element_of = { signed_of w64 };
+
     ghost laws = { i64_laws };
 
     #[inline]
@@ -185,5 +231,10 @@ impl Elem for i64 {
     #[inline]
     fn from_word(word: u64) -> Option<Self> {
         Some(word.cast_signed())
+    }
+
+    #[inline]
+    fn of_word(word: u64) -> Self {
+        word.cast_signed()
     }
 }

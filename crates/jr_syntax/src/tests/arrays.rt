@@ -1,38 +1,14 @@
 //! Commands of arrays and strings.
 
-use super::{behind_head, commands, name, third_line};
+use super::{each_is, name, named, read_and_printed, third_line};
 use crate::command::Command;
-use crate::fault::{Reason, ScriptFault};
-use crate::laws::a_text_read_is_printed_again;
+use crate::fault::Reason;
 use crate::name::Reference;
-use crate::reader::parse;
 use crate::units::Units;
 use crate::verb::{MakeAt, MakeFilled, MakeSized, MakeText, On, OnAt, SetAt, StoreAt};
 use std::alloc::{AllocError, Global};
 use std::process::Abort;
 use std::test::Fail;
-
-/// What a name refers to.
-fn named(rt: &impl Abort, word: &[u8]) -> Reference {
-    Reference::Named(name(rt, word))
-}
-
-/// Checks that lines behind the thread line are these commands, and are printed as they are.
-fn read_and_printed(
-    rt: &impl Abort,
-    alloc: Global,
-    lines: &[u8],
-    wanted: &[Command],
-) -> Result<(), ScriptFault> {
-    let Ok(text) = behind_head(alloc, lines) else {
-        return Err(ScriptFault::Memory);
-    };
-    let script = parse(alloc, &text)?;
-    commands(rt, &script, wanted);
-    let printed = a_text_read_is_printed_again(alloc, &text)?;
-    assert_eq!(rt; printed, text);
-    Ok(())
-}
 
 /// The units of a string.
 fn units(rt: &impl Abort, list: &[u16]) -> Units {
@@ -184,19 +160,6 @@ fn as_many_units_as_there_may_be(rt: HostRuntime) -> Result<(), Fail> {
     third_line(&rt, rt.alloc(), &too_many, Reason::CommandExpected)?;
     let form_first = string_line(rt.alloc(), 64, b"65536", b"7")?;
     third_line(&rt, rt.alloc(), &form_first, Reason::CommandExpected)?;
-    Ok(())
-}
-
-/// Checks the fault of each of some lines behind the thread line.
-fn each_is(
-    rt: &impl Abort,
-    alloc: Global,
-    lines: &[&[u8]],
-    reason: Reason,
-) -> Result<(), ScriptFault> {
-    for line in lines {
-        third_line(rt, alloc, line, reason)?;
-    }
     Ok(())
 }
 

@@ -1,15 +1,16 @@
-use Rattle.std.proofs.Common.{rules, arith}
+use Rattle.std.proofs.Common.{rules, arith, ◌∙◌}
 use Rattle.jr_scripts.proofs.CommandLoop.{begun, finished, went_on, cut_off}
 use Rattle.jr_scripts.proofs.run.run_thread.Goals as goal
 
 pub loop-i-init : goal.loop-i-init
-loop-i-init g c = begun _ _ _ _ _ _ c.new-names.ensures
+loop-i-init g c = (begun _ _ _ _ _ _ c.requires.outside c.new-names.ensures, c.requires.outside)
 
 pub loop-i-preserved : goal.loop-i-preserved
-loop-i-preserved g c = went_on _ _ _ c.loop-i.i c.index-commands-i.result _ _ c.record.result (omega arith) (search rules) c.loop-i.invariant c.perform-answer.ensures c.record.ensures c.in-Ok.is
+loop-i-preserved g c =
+    (went_on _ _ _ c.loop-i.i c.index-commands-i.result _ _ _ _ _ c.record.result (omega arith) (search rules) c.loop-i.invariant.0 c.advance-left.ensures.does c.advance-left.ensures.names c.advance-left.ensures.levels c.advance-left.ensures.objects c.record.ensures c.in-Ok.is, c.advance-left.ensures.stand)
 
 pub returns-in_default-clause-explained : goal.returns-in_default-clause-explained
-returns-in_default-clause-explained g c = cut_off _ _ _ c.loop-i.i c.index-commands-i.result _ _ c.record.result _ (omega arith) (search rules) c.loop-i.invariant c.perform-answer.ensures c.record.ensures c.in_default.is
+returns-in_default-clause-explained g c = cut_off _ _ _ c.loop-i.i c.index-commands-i.result _ _ _ _ _ c.record.result _ c.requires.outside (omega arith) (search rules) c.loop-i.invariant.0 c.advance-left.ensures.does c.advance-left.ensures.objects c.record.ensures c.in_default.is c.end.ensures.does
 
 pub returns-clause-explained : goal.returns-clause-explained
-returns-clause-explained g c = finished c.loop-i.i (omega arith) c.loop-i.invariant
+returns-clause-explained g c = finished c.loop-i.i c.requires.outside (omega arith) c.loop-i.invariant.0 c.end-2.ensures.does

@@ -33,11 +33,11 @@ put_element-requires-clause-kind g c = λ e. let is = (checks_passed c.header-he
 
 pub put_element-requires-clause-known : goal.put_element-requires-clause-known
 put_element-requires-clause-known g c = may_write g.met.S.Steps.fits (word_of c.args.self.target) (word_of c.args.self.value) c.args.self.index c.in-Some.is c.in_ok-array.ensures c.requires.ready.role_is c.header-header.ensures.stands c.header-header.ensures.call
-    c.in_ok-has_element.ensures c.element_for-word.ensures c.requires.ready.own.agrees
+    c.in_ok-has_element.ensures c.element_word-word.ensures c.requires.ready.own.agrees
 
 pub returns-clause-call : goal.returns-clause-call
 returns-clause-call g c = writes_element g.met.S.Steps.fits (word_of c.args.self.target) (word_of c.args.self.value) c.args.self.index c.in-Some.is c.in_ok-array.ensures c.requires.ready.role_is c.header-header.ensures.stands c.header-header.ensures.call
-    c.in_ok-has_element.ensures c.element_for-word.ensures c.put_element.ensures
+    c.in_ok-has_element.ensures c.element_word-word.ensures c.put_element.ensures
 
 pub returns-clause-steady : goal.returns-clause-steady
 returns-clause-steady g c = let s = (g.S.Steps.facts c.args.steps.now).stands in steady_writing s.config s.last s.thread (word_of c.args.self.target) (word_of c.args.self.value) c.args.self.index

@@ -1,0 +1,71 @@
+//! The calls that copy elements out and back.
+
+use crate::case::{Env, make_each};
+use jr_model::Mode;
+use jr_steps::Steps;
+use jr_word::Handle;
+use std::alloc::Global;
+
+/// Which copies are made.
+#[derive(Clone, Copy)]
+pub(crate) enum CopyCase {
+    /// Of all elements of an array of so many, which are released with a copy back.
+    Back(u32),
+    /// The same, where they are committed first and then given up.
+    Committed(u32),
+    /// Of all units of a string.
+    Text,
+}
+
+/// How many units the string has.
+const UNITS: usize = 64;
+
+impl CopyCase {
+    /// The array or string at which the calls are made.
+    pub(crate) fn array<S: Steps>(self, env: &mut Env<S>) -> Option<Handle> {
+        match self {
+            CopyCase::Back(length) | CopyCase::Committed(length) => {
+                env.new_array::<i32>(length).ok()
+            }
+            CopyCase::Text => env.new_string(&[0; UNITS]).ok(),
+        }
+    }
+
+    /// Makes the calls with each of the handles: how often they answered as they should.
+    pub(crate) fn make_all<S: Steps>(
+        self,
+        env: &mut Env<S>,
+        alloc: Global,
+        handed: &[Handle],
+    ) -> usize {
+        match self {
+            CopyCase::Back(_) => make_each(env, handed, |env, _, at| {
+                copy_back(env, alloc, at).is_some()
+            }),
+            CopyCase::Committed(_) => make_each(env, handed, |env, _, at| {
+                commit(env, alloc, at).is_some()
+            }),
+            CopyCase::Text => make_each(env, handed, |env, _, at| {
+                env.get_string_chars(alloc, at).is_ok()
+            }),
+        }
+    }
+}
+
+/// Copies all elements out, and back.
+fn copy_back<S: Steps>(env: &mut Env<S>, alloc: Global, array: Handle) -> Option<()> {
+    let elements = env.get_array_elements::<i32>(alloc, array).ok()?;
+    env.release_array_elements(array, elements, Mode::Copy)
+        .ok()?;
+    Some(())
+}
+
+/// Copies all elements out, commits them, and gives them up.
+fn commit<S: Steps>(env: &mut Env<S>, alloc: Global, array: Handle) -> Option<()> {
+    let elements = env.get_array_elements::<i32>(alloc, array).ok()?;
+    let kept = env
+        .release_array_elements(array, elements, Mode::Commit)
+        .ok()??;
+    env.release_array_elements(array, kept, Mode::Abort).ok()?;
+    Some(())
+}

@@ -1,0 +1,96 @@
+//! The calls of critical regions.
+
+use crate::case::{Env, make_each};
+use jr_env::Region;
+use jr_model::Mode;
+use jr_steps::Steps;
+use jr_word::Handle;
+
+/// What is done with critical regions.
+#[derive(Clone, Copy)]
+pub(crate) enum CriticalCase {
+    /// Each is opened and ended.
+    Open,
+    /// An element of one is read.
+    Get,
+    /// An element of one is written.
+    Set,
+}
+
+/// How many elements the array of a region has.
+const LENGTH: u32 = 4_096;
+
+/// The last of the elements that are reached.
+const LAST_INDEX: u64 = 63;
+
+impl CriticalCase {
+    /// The array of the regions.
+    pub(crate) fn array<S: Steps>(self, env: &mut Env<S>) -> Option<Handle> {
+        env.new_array::<i32>(LENGTH).ok()
+    }
+
+    /// Does it with each of the handles: how often it was answered as it should be.
+    pub(crate) fn make_all<S: Steps>(self, env: &mut Env<S>, handed: &[Handle]) -> usize {
+        match self {
+            CriticalCase::Open => make_each(env, handed, |env, _, at| is_opened(env, at)),
+            CriticalCase::Get => read_each(env, handed),
+            CriticalCase::Set => write_each(env, handed),
+        }
+    }
+}
+
+/// Opens a region, and ends it: whether it was opened.
+fn is_opened<S: Steps>(env: &mut Env<S>, array: Handle) -> bool {
+    let Ok(region) = env.get_array_critical(array) else {
+        return false;
+    };
+    match region.release(Mode::Copy) {
+        Some(_) => unreachable!(),
+        None => true,
+    }
+}
+
+/// The index at which an element is reached.
+fn index_by(handle: Handle) -> u32 {
+    (handle.0 & LAST_INDEX) as u32
+}
+
+/// Reads an element of one region for each of the handles: how often it was 0, as each is.
+fn read_each<S: Steps>(env: &mut Env<S>, handed: &[Handle]) -> usize {
+    let Some(first) = handed.first() else {
+        return 0;
+    };
+    let Ok(mut region) = env.get_array_critical(*first) else {
+        return 0;
+    };
+    let mut right = 0usize;
+    for handle in handed {
+        if matches!(region.get::<i32>(0, index_by(*handle)), Ok(0)) {
+            right = right.saturating_add(1);
+        }
+    }
+    match region.release(Mode::Copy) {
+        Some(_) => unreachable!(),
+        None => right,
+    }
+}
+
+/// Writes an element of one region for each of the handles: how often that was done.
+fn write_each<S: Steps>(env: &mut Env<S>, handed: &[Handle]) -> usize {
+    let Some(first) = handed.first() else {
+        return 0;
+    };
+    let Ok(mut region) = env.get_array_critical(*first) else {
+        return 0;
+    };
+    let mut right = 0usize;
+    for handle in handed {
+        if region.set::<i32>(0, index_by(*handle), 0).is_ok() {
+            right = right.saturating_add(1);
+        }
+    }
+    match region.release(Mode::Copy) {
+        Some(_) => unreachable!(),
+        None => right,
+    }
+}

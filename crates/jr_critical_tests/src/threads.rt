@@ -1,0 +1,244 @@
+//! Regions of threads of one room, and collections beside them.
+ghost use Rattle.std.specs.Prelude.{◌≡◌, All, IfOk};
+ghost use Rattle.jr_model.specs.declared.event.Role.TheVariants.{Outside};
+ghost use Rattle.jr_rule.specs.Passes.{IsOpened};
+
+use crate::at_a_level::{has, put};
+use crate::envs::{LAST, ONES, OWN, TWO, has_elements, is_outside, next_env};
+use crate::refused::{array_refused, string_refused};
+use jr_env::{Env, Region};
+use jr_gate::shut_gate;
+use jr_model::Mode;
+use jr_rule::{Pass, Room, RoomSteps};
+use jr_steps::{Role, Steps};
+use jr_word::{Config, Fault, Handle};
+use std::process::Abort;
+use std::sync::Wait;
+use std::test::Fail;
+use std::thread;
+use std::thread::Threads;
+
+/// A room of three threads.
+const THREE: Config = Config { threads: 3, ..TWO };
+
+/// How often a thread opens a region.
+const REGIONS: u32 = 10_000;
+
+/// How often a thread collects.
+const COLLECTIONS: u32 = 10_000;
+
+/// How often a thread tries at most.
+const TRIES: u32 = 5_000_000;
+
+/// The last of the passes.
+fn last_of(_room: &Room<LAST>, passes: &mut Vec<Pass>) -> Result<Pass, Fail>
+    requires { All (λ p. IsOpened _room.now.row p) passes.old.items }
+    ensures others { All (λ p. IsOpened _room.now.row p) passes.new.items }
+    ensures pass { IfOk result (λ p. IsOpened _room.now.row p) }
+{
+    let Some(pass) = passes.pop() else {
+        return Err("there is no pass for each thread")?;
+    };
+    Ok(pass)
+}
+
+/// Why a collection is refused, if it is. It is ended at once.
+fn shut_refused<S: Steps>(steps: &mut S) -> Option<Fault>
+    requires { (S.facts steps.old).stands.role ≡ Outside }
+    ensures { (S.facts steps.new).stands ≡ (S.facts steps.old).stands }
+{
+    match shut_gate(steps) {
+        Ok(collection) => {
+            collection.reopen(steps);
+            None
+        }
+        Err(fault) => Some(fault),
+    }
+}
+
+/// From its opening to the release of its first level a region bars another thread's collections, whatever levels are added and given up in it. One that is not opened bars none.
+fn bars_collections<S: Steps, T: Steps>(
+    rt: &impl Abort,
+    env: &mut Env<S>,
+    other: &mut T,
+) -> Result<(), Fail>
+    requires { (T.facts other.old).stands.role ≡ Outside }
+    ensures { (T.facts other.new).stands ≡ (T.facts other.old).stands }
+{
+    let array = env.new_array::<i32>(2)?;
+    assert_eq!(rt; array_refused(rt, env, ONES), Some(Fault::Stale));
+    assert_eq!(rt; shut_refused(other), None);
+    let mut region = env.get_array_critical(array)?;
+    assert_eq!(rt; shut_refused(other), Some(Fault::Busy(1)));
+    assert_eq!(rt; region.nest_array(array), Ok(1));
+    assert_eq!(rt; region.nest_string(array), Err(Fault::WrongKind));
+    put(rt, &mut region, 1, 1, -20);
+    assert_eq!(rt; shut_refused(other), Some(Fault::Busy(1)));
+    let Some(mut region) = region.release(Mode::Abort) else {
+        panic!(rt; "no level is left")
+    };
+    has(rt, &mut region, 0, 1, -20);
+    assert_eq!(rt; shut_refused(other), Some(Fault::Busy(1)));
+    match region.release(Mode::Copy) {
+        None => {}
+        Some(_) => panic!(rt; "a level is left"),
+    }
+    assert_eq!(rt; shut_refused(other), None);
+    is_outside(rt, env);
+    Ok(())
+}
+
+/// While another thread collects no region is opened, over an array or a string, and none over what is neither: the gate comes before all. Afterwards they are.
+fn is_barred<S: Steps, T: Steps>(
+    rt: &impl Abort,
+    env: &mut Env<S>,
+    other: &mut T,
+) -> Result<(), Fail>
+    requires { (T.facts other.old).stands.role ≡ Outside }
+{
+    let array = env.new_array::<i32>(2)?;
+    let string = env.new_string(&[104])?;
+    let Ok(collection) = shut_gate(other) else {
+        return Err("a thread is inside")?;
+    };
+    assert_eq!(rt; array_refused(rt, env, array), Some(Fault::Barred));
+    assert_eq!(rt; string_refused(rt, env, string), Some(Fault::Barred));
+    assert_eq!(rt; array_refused(rt, env, ONES), Some(Fault::Barred));
+    assert_eq!(rt; env.held.steps.role(), Role::Outside);
+    collection.reopen(other);
+    assert_eq!(rt; array_refused(rt, env, array), None);
+    assert_eq!(rt; string_refused(rt, env, string), None);
+    Ok(())
+}
+
+#[test]
+fn a_region_and_a_collection_exclude_each_other(rt: HostRuntime) -> Result<(), Fail> {
+    let (room, mut passes) = Room::<LAST>::open(rt.alloc(), TWO)?;
+    let other = last_of(&room, &mut passes)?;
+    let mut other = RoomSteps::new(&room, other);
+    let mut env = next_env(&room, &mut passes)?;
+    bars_collections(&rt, &mut env, &mut other)?;
+    is_barred(&rt, &mut env, &mut other)
+}
+
+/// A second thread's region over the array of a region that stands: each reads what was written in the other, and a third thread that would collect finds two threads inside.
+fn stands_beside<S: Steps, T: Steps, U: Steps>(
+    rt: &impl Abort,
+    first: &mut Region<'_, S>,
+    second: &mut Env<T>,
+    shared: Handle,
+    third: &mut U,
+) -> Result<(), Fail>
+    requires { (U.facts third.old).stands.role ≡ Outside }
+    ensures { (U.facts third.new).stands ≡ (U.facts third.old).stands }
+{
+    assert_eq!(rt; shut_refused(third), Some(Fault::Busy(1)));
+    let mut region = second.get_array_critical(shared)?;
+    assert_eq!(rt; shut_refused(third), Some(Fault::Busy(2)));
+    put(rt, first, 0, 0, 65_535u16);
+    has(rt, &mut region, 0, 0, 65_535u16);
+    put(rt, &mut region, 0, 1, 1u16);
+    has(rt, first, 0, 1, 1u16);
+    match region.release(Mode::Copy) {
+        None => {}
+        Some(_) => panic!(rt; "a level is left"),
+    }
+    assert_eq!(rt; shut_refused(third), Some(Fault::Busy(1)));
+    Ok(())
+}
+
+/// Two threads' regions stand over one array at once, of which the one has a local reference, and the other needs a global one.
+fn stand_at_once<S: Steps, T: Steps, U: Steps>(
+    rt: &impl Abort,
+    first: &mut Env<S>,
+    second: &mut Env<T>,
+    third: &mut U,
+) -> Result<(), Fail>
+    requires { (U.facts third.old).stands.role ≡ Outside }
+    ensures { (U.facts third.new).stands ≡ (U.facts third.old).stands }
+{
+    let array = first.new_array::<u16>(2)?;
+    let shared = first.new_global_ref(array)?.ok_or("an object")?;
+    assert_eq!(rt; array_refused(rt, second, array), Some(Fault::Foreign));
+    let mut region = first.get_array_critical(array)?;
+    let answer = stands_beside(rt, &mut region, second, shared, third);
+    match region.release(Mode::Copy) {
+        None => {}
+        Some(_) => panic!(rt; "a level is left"),
+    }
+    assert_eq!(rt; shut_refused(third), None);
+    answer
+}
+
+#[test]
+fn regions_of_two_threads_stand_at_once(rt: HostRuntime) -> Result<(), Fail> {
+    let (room, mut passes) = Room::<LAST>::open(rt.alloc(), THREE)?;
+    let third = last_of(&room, &mut passes)?;
+    let mut third = RoomSteps::new(&room, third);
+    let mut second = next_env(&room, &mut passes)?;
+    let mut first = next_env(&room, &mut passes)?;
+    stand_at_once(&rt, &mut first, &mut second, &mut third)
+}
+
+/// Opens a region over the first array so often, or until it has tried so often, and writes there how many it opened before. How often that was read.
+fn write_often<S: Steps>(env: &mut Env<S>, regions: u32, tries: u32) -> u32 {
+    let mut done = 0;
+    for _ in 0..tries {
+        if done >= regions {
+            break;
+        }
+        let Ok(mut region) = env.get_array_critical(OWN) else {
+            thread::yield_now();
+            continue;
+        };
+        let number = i64::from(done);
+        let written = region.set(0, 1, number);
+        let read = region.get::<i64>(0, 1);
+        match region.release(Mode::Copy) {
+            None => {}
+            Some(_) => unreachable!(),
+        }
+        if written == Ok(()) && read == Ok(number) {
+            done += 1;
+        }
+    }
+    done
+}
+
+/// Shuts the gate and opens it again so often, or until it has tried so often. How often it was shut.
+fn collect_often<S: Steps>(steps: &mut S, collections: u32, tries: u32) -> u32 {
+    let mut done = 0;
+    for _ in 0..tries {
+        if done >= collections || steps.role() != Role::Outside {
+            break;
+        }
+        match shut_gate(steps) {
+            Ok(collection) => {
+                collection.reopen(steps);
+                done += 1;
+            }
+            Err(_) => thread::yield_now(),
+        }
+    }
+    done
+}
+
+#[test]
+fn regions_and_collections_of_two_threads_end(rt: HostRuntime) -> Result<(), Fail> {
+    let (room, mut passes) = Room::<LAST>::open(rt.alloc(), TWO)?;
+    let other = last_of(&room, &mut passes)?;
+    let mut other = RoomSteps::new(&room, other);
+    let mut env = next_env(&room, &mut passes)?;
+    let array = env.new_array::<i64>(2)?;
+    assert_eq!(rt; array, OWN);
+    let both = thread::scope(thread::scope_env(), &rt, |scope| {
+        let one = scope.spawn(|| write_often(&mut env, REGIONS, TRIES));
+        let two = scope.spawn(|| collect_often(&mut other, COLLECTIONS, TRIES));
+        (
+            one.map(|one| one.join(&rt)).ok(),
+            two.map(|two| two.join(&rt)).ok(),
+        )
+    });
+    assert_eq!(rt; both, (Some(REGIONS), Some(COLLECTIONS)));
+    has_elements(&rt, &mut env, array, &mut [7i64; 2], &[0, 9_999])
+}

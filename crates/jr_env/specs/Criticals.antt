@@ -1,0 +1,70 @@
+-- What a critical region of an env is, and what the calls that open and end it leave, as a value that borrows the env (`Region`) or as levels beside it (`HasEntered`). Whatever is known before its opening leads to a region that stands (`IsRegion`), by the opening (`WasOpened`) and each call since (`Nests`, `Reaches`, `GivesUpLast`), since each shows the headers of the levels that the next one asks for: so the law `regions_exclude_collections` speaks of it, up to its end (`HasEnded`).
+use Rattle.std.specs.Prelude.{◌≡◌, ℕ, Option, None, Result, Ok, Err, IfErr, length}
+use Rattle.std.specs.Borrow.{Fml, MutBor, RattleType, RestsIfErr, RestsIfNone}
+use Rattle.jr_word.specs.declared.config.Config.{Config}
+use Rattle.jr_word.specs.declared.fault.Fault.{Fault}
+use Rattle.jr_model.specs.declared.event.Role.TheVariants.{Within}
+use Rattle.jr_model.specs.State.{State}
+use Rattle.jr_model.specs.Calls.{Call}
+use Rattle.jr_model.specs.Checks.{Word}
+use Rattle.jr_frames.specs.Table.{Table}
+use Rattle.jr_steps.specs.declared.steps.Steps as steps
+use Rattle.jr_critical.specs.declared.levels.Levels.{Levels}
+use Rattle.jr_critical.specs.Levels.{objects_of, GivesUpLast, LeavesBefore, Opens, Stand}
+use Rattle.jr_env.specs.declared.env.Env.{Env}
+use Rattle.jr_env.specs.contracts.env.Env as env
+use Rattle.jr_env.specs.declared.region.Region.{Region}
+use Rattle.jr_env.specs.Envs.{IsOutside}
+
+module _ {S : Type 0} {G : steps.Ghosts S} where
+  -- the env that a region borrows
+  abbrev pub env_of : Region S G → MutBor (Env S G)
+  env_of r = r.env
+
+  -- its levels
+  abbrev pub levels_of : Region S G → Levels
+  levels_of r = r.levels
+
+  -- the steps of its env
+  abbrev pub steps_of : Region S G → S
+  steps_of r = r.env.now.held.steps
+
+  -- the frames of its env
+  abbrev pub frames_of : Region S G → Table
+  frames_of r = r.env.now.held.frames
+
+  -- A REGION WAS OPENED by this call, where the thread stood outside: there is one level, of the object that the call found; and in any case the thread is within, and the frames are as they were
+  pub record WasOpened (old : Env S G) (r : Region S G) (w : ℕ) (call : Config → ℕ → ℕ → State → Word → Call ℕ) : Type 0 where
+    pub opens : IsOutside old → Opens G.facts old.held.steps (steps_of r) old.held.frames.frames w call (Ok (levels_of r))
+    pub one : length (objects_of (levels_of r)) ≡ 1
+    pub frames : frames_of r ≡ old.held.frames
+    pub within : (G.facts (steps_of r)).stands.role ≡ Within
+
+  -- THESE LEVELS WERE ENTERED by this call, where the thread stood outside: there is one, of the object that the call found; and in any case they stand over the env, whose thread is within, and the frames are as they were
+  pub record HasEntered (old new : Env S G) (v : Levels) (w : ℕ) (call : Config → ℕ → ℕ → State → Word → Call ℕ) : Type 0 where
+    pub opens : IsOutside old → Opens G.facts old.held.steps new.held.steps old.held.frames.frames w call (Ok v)
+    pub one : length (objects_of v) ≡ 1
+    pub frames : new.held.frames ≡ old.held.frames
+    pub stand : Stand G.facts v new.held.steps new.held.frames
+
+  -- NO REGION WAS OPENED by this call, but it was refused for this, where the thread stood outside; and afterwards it stands outside in any case, with the frames as they were
+  pub record WasRefused (old new : Env S G) (w : ℕ) (call : Config → ℕ → ℕ → State → Word → Call ℕ) (e : Fault) : Type 0 where
+    pub refuses : IsOutside old → Opens G.facts old.held.steps new.held.steps old.held.frames.frames w call (Err e)
+    pub frames : new.held.frames ≡ old.held.frames
+    pub outside : IsOutside new
+
+  -- THE REGION ENDED with its only level: its thread left the gate and stands outside, with the frames as they were
+  pub record HasEnded (r : Region S G) (new : Env S G) : Type 0 where
+    pub call : GivesUpLast G.facts (steps_of r) new.held.steps (frames_of r).frames (levels_of r) None
+    pub last : LeavesBefore (levels_of r) None
+    pub frames : new.held.frames ≡ frames_of r
+    pub outside : IsOutside new
+
+module _ (S : RattleType) (G : steps.Ghosts S.Denot) where
+  -- the env rests in the region that was opened, or is what the refusal left
+  abbrev pub rests_in : ℕ → (Config → ℕ → ℕ → State → Word → Call ℕ) → MutBor (Env S.Denot G) → Result (Region S.Denot G) Fault → Fml
+  rests_in w call old result = RestsIfErr (env.the_row S G) old (λ r. r.env.ghost_name) result (λ new. IfErr result (λ e. WasRefused old.now new w call e))
+
+  -- the env rests in the region with the levels that are left, or is what its end left
+  abbrev pub rests_in_left : Region S.Denot G → Option (Region S.Denot G) → Fml
+  rests_in_left r result = RestsIfNone (env.the_row S G) r.env (λ left. left.env.ghost_name) result (HasEnded r)

@@ -1,0 +1,34 @@
+//! The calls of the Java Native Interface that open a critical region, over any steps.
+use crate::env::Env;
+use crate::region::Region;
+use jr_steps::Steps;
+use jr_word::{Fault, Handle};
+
+impl<S: Steps> Env<S> {
+    ghost use Rattle.std.specs.Prelude.{◌≡◌, IfOk};
+    ghost use Rattle.std.specs.Borrow.{sem};
+    ghost use Rattle.jr_model.specs.Objects.{get_array_critical, get_string_critical};
+    ghost use Rattle.jr_env.specs.Criticals.{env_of, rests_in, WasOpened};
+
+    /// Opens a critical region, with the array at its first level: E1, E2, E3, E5, E6, E13. (JNI Specification, chapter 4, "GetPrimitiveArrayCritical")
+    #[inline(always)]
+    pub fn get_array_critical(&mut self, array: Handle) -> Result<Region<'_, S>, Fault>
+        ensures* rests { sem 𝓛 (rests_in S.row S.Steps array.0 get_array_critical self.entry result) }
+        ensures same_reference { IfOk result (λ r. (env_of r).ghost_name ≡ self.entry.ghost_name) }
+        ensures opened { IfOk result (λ r. WasOpened self.old r array.0 get_array_critical) }
+    {
+        let levels = self.open_array_critical(array)?;
+        Ok(Region::over(self, levels))
+    }
+
+    /// Opens a critical region, with the string at its first level: E1, E2, E3, E4, E13. (JNI Specification, chapter 4, "GetStringCritical")
+    #[inline(always)]
+    pub fn get_string_critical(&mut self, string: Handle) -> Result<Region<'_, S>, Fault>
+        ensures* rests { sem 𝓛 (rests_in S.row S.Steps string.0 get_string_critical self.entry result) }
+        ensures same_reference { IfOk result (λ r. (env_of r).ghost_name ≡ self.entry.ghost_name) }
+        ensures opened { IfOk result (λ r. WasOpened self.old r string.0 get_string_critical) }
+    {
+        let levels = self.open_string_critical(string)?;
+        Ok(Region::over(self, levels))
+    }
+}

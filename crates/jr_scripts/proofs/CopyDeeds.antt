@@ -1,0 +1,154 @@
+-- What calls make up a command about copied elements, for whatever was known.
+use Rattle.std.proofs.Common.{MatchOption, ◌≡◌, ◌∙◌, ℕ, ℤ, List, Option, Some, None, Result, Ok, Err, ap, sym, subst, refl, inl, inr, true}
+use Rattle.std.specs.Result.{IsErrAnd}
+use Rattle.std.specs.Option.{IsSomeAnd}
+use Rattle.std.proofs.lemmas.Result.{err_from_is_err_and}
+use Rattle.jr_word.specs.declared.fault.Fault.{Fault}
+use Rattle.jr_word.specs.declared.kind.Kind.{Kind}
+use Rattle.jr_model.specs.declared.frames.Mode.{Mode}
+use Rattle.jr_model.specs.declared.frames.Mode.TheVariants.{Copy, Commit, Abort}
+use Rattle.jr_model.specs.Frames.{Frames}
+use Rattle.jr_steps.specs.Knowing.{Facts}
+use Rattle.jr_elements.specs.Copies.{answer_in, kept}
+use Rattle.jr_env.specs.Deeds.{Deed, DoesDeed, answered_by, decided, done, release_answer, release_array_elements, get_array_elements, kind_of, ◌>>◌, ◌>>=◌}
+use Rattle.jr_env.proofs.EnvCalls.{did_answer, did_refuse}
+use Rattle.jr_syntax.specs.declared.command.Command.TheVariants as commands
+use Rattle.jr_syntax.specs.declared.verb.OnNameAt.{OnNameAt}
+use Rattle.jr_syntax.specs.declared.verb.OnNameAt.TheVariants as on_name_at
+use Rattle.jr_syntax.specs.declared.verb.PutAt.{PutAt}
+use Rattle.jr_syntax.specs.declared.verb.PutAt.TheVariants as put_at
+use Rattle.jr_scripts.specs.declared.number.NumberKind.{NumberKind}
+use Rattle.jr_scripts.specs.declared.reply.Reply.{Reply}
+use Rattle.jr_scripts.specs.declared.reply.Reply.TheVariants as replies
+use Rattle.jr_scripts.specs.declared.standing.Standing.{Standing}
+use Rattle.jr_scripts.specs.declared.standing.Standing.TheVariants.{Nothing, Buffer}
+use Rattle.jr_scripts.specs.declared.buffer.CopiedElements.{CopiedElements}
+use Rattle.jr_scripts.specs.Buffers.{Copied, copied_as, copied_in, copy_of}
+use Rattle.jr_scripts.specs.Names.{Names, getting, names_put, putting, standing, standing_left}
+use Rattle.jr_scripts.specs.Numbers.{kind_numbered}
+use Rattle.jr_scripts.specs.Commands.{copying, copying_as, deed, releasing, tried}
+use Rattle.jr_scripts.specs.Tries.{Tried, is_tried_again}
+use Rattle.jr_scripts.specs.Text.{buffers_after, elements_left, left_by}
+use Rattle.jr_scripts.specs.Advancing.{got_by, put_by}
+use Rattle.jr_gate.specs.Performing.{Moment}
+use Rattle.jr_scripts.proofs.FormedTries.{formed, tried_formed}
+use Rattle.jr_scripts.proofs.CommandDeeds.{does_more, does_nothing, does_of_kind, does_tried_form, numbered_has}
+
+module _ {S : Type 0} {facts : S → Facts} where
+  -- a copy of elements, by the call of their kind
+  pub does_copy : {a b c : S} {f g h : Frames} {answer : Result Reply Fault} (turns w : ℕ) (k : Kind) (n : NumberKind) → k ≡ kind_numbered n → DoesDeed facts a b f g (tried turns (kind_of w)) (Ok k)
+      → DoesDeed facts b c g h (answered_by (λ x. replies.Copied x) (tried turns (answered_by (λ words. copy_of (kind_numbered n) words) (get_array_elements (kind_numbered n) w)))) answer → DoesDeed facts a c f h (copying turns w) answer
+  does_copy turns w k n is first more =
+      does_of_kind turns w k (kind_numbered n) (copying_as turns w) is (numbered_has n) first
+      (does_tried_form turns (λ words. copy_of (kind_numbered n) words) (λ x. replies.Copied x) (get_array_elements (kind_numbered n) w) more)
+
+  module _ {a b : S} {f g : Frames} (w : ℕ) (n m : NumberKind) (is : n ≡ m) where
+    same_kind : (answer : Result Copied Fault) → DoesDeed facts a b f g (answered_by (λ words. copy_of (kind_numbered m) words) (get_array_elements (kind_numbered m) w)) answer → DoesDeed facts a b f g (answered_by (λ words. copy_of (kind_numbered n) words) (get_array_elements (kind_numbered n) w)) answer
+    same_kind answer = subst (λ (x : NumberKind). DoesDeed facts a b f g (answered_by (λ words. copy_of (kind_numbered x) words) (get_array_elements (kind_numbered x) w)) answer) (sym is)
+
+    -- a copy by the call of a kind that is known
+    pub does_copied : (words : List ℕ) (copied : Copied) → copied ≡ copy_of (kind_numbered m) words → DoesDeed facts a b f g (get_array_elements (kind_numbered m) w) (Ok words) → DoesDeed facts a b f g (answered_by (λ words. copy_of (kind_numbered n) words) (get_array_elements (kind_numbered n) w)) (Ok copied)
+    does_copied words copied made d = same_kind (Ok copied) (did_answer (λ words. copy_of (kind_numbered m) words) made d)
+
+    pub does_not_copy : (e : Fault) (answer : Result Copied Fault) → IsErrAnd answer (λ y. y ≡ e) → DoesDeed facts a b f g (get_array_elements (kind_numbered m) w) (Err e) → DoesDeed facts a b f g (answered_by (λ words. copy_of (kind_numbered n) words) (get_array_elements (kind_numbered n) w)) answer
+    does_not_copy e answer refused d = same_kind answer (did_refuse (λ words. copy_of (kind_numbered m) words) answer refused d)
+
+-- elements that a release leaves
+pub some_left : {V : Type 0} (k : Kind) (word_of : V → ℕ) (mode : Mode) (answer : Result Reply Fault) (values left : List V) (b : Copied) → copied_as k word_of values ≡ b → Some left ≡ elements_left mode answer values → Buffer (copied_as k word_of left) ≡ left_by mode answer (Buffer b)
+some_left k word_of Copy (Ok r) values left b is kept = absurd cc
+some_left k word_of Commit (Ok r) values left b is kept = let same : left ≡ values = cc in ap (λ xs. Buffer (copied_as k word_of xs)) same ∙ ap (λ (x : Copied). Buffer x) is
+some_left k word_of Abort (Ok r) values left b is kept = absurd cc
+some_left k word_of mode (Err e) values left b is kept = let same : left ≡ values = cc in ap (λ xs. Buffer (copied_as k word_of xs)) same ∙ ap (λ (x : Copied). Buffer x) is
+
+-- and none
+pub none_left : {A : Type 0} (mode : Mode) (answer : Result Reply Fault) (values : A) (s : Standing) → ◌≡◌ {A = Option A} None (elements_left mode answer values) → Nothing ≡ left_by mode answer s
+none_left Copy (Ok r) values s gone = refl
+none_left Commit (Ok r) values s gone = absurd cc
+none_left Abort (Ok r) values s gone = refl
+none_left mode (Err e) values s gone = absurd cc
+
+-- a call that is made again leaves what stood there
+pub left_again : (mode : Mode) (answer : Result Reply Fault) (s : Standing) → is_tried_again answer ≡ true → left_by mode answer s ≡ s
+left_again mode (Ok r) s more = absurd cc
+left_again mode (Err e) s more = refl
+
+module _ {S : Type 0} {facts : S → Facts} where
+  -- the same is released
+  pub does_release_same : {a b : S} {f g : Frames} {answer : Result Reply Fault} (turns w : ℕ) (mode : Mode) (s t : Standing) → s ≡ t → DoesDeed facts a b f g (tried turns (releasing w mode s)) answer → DoesDeed facts a b f g (tried turns (releasing w mode t)) answer
+  does_release_same {a} {b} {f} {g} {answer} turns w mode s t is = subst (λ (x : Standing). DoesDeed facts a b f g (tried turns (releasing w mode x)) answer) is
+
+  -- the same elements are released, and the answer is handed on
+  pub does_release_of : {a b : S} {f g : Frames} (w : ℕ) (mode : Mode) (x y : Copied) (answer handed : Result Reply Fault) → x ≡ y → handed ≡ answer → DoesDeed facts a b f g (answered_by (λ _. replies.Done) (release_array_elements x.kind w x.words mode)) answer → DoesDeed facts a b f g (answered_by (λ _. replies.Done) (release_array_elements y.kind w y.words mode)) handed
+  does_release_of {a} {b} {f} {g} w mode x y answer handed is same d =
+      subst (λ (z : Copied). DoesDeed facts a b f g (answered_by (λ _. replies.Done) (release_array_elements z.kind w z.words mode)) handed) is
+      (subst (λ z. DoesDeed facts a b f g (answered_by (λ _. replies.Done) (release_array_elements x.kind w x.words mode)) z) (sym same) d)
+
+  -- a release whose reply is that it was done
+  pub does_released : {A : Type 0} {a b : S} {f g : Frames} {answer : Result Reply Fault} (turns : ℕ) (one : Deed A) → DoesDeed facts a b f g (tried turns (answered_by (λ _. replies.Done) one)) answer → DoesDeed facts a b f g (tried turns one >> done replies.Done) answer
+  does_released {A} {answer = answer} turns one = does_more (λ p q d. let y = tried_formed (λ _. replies.Done) one turns p q answer d in go p q y.0 y.1 y.2)
+    where
+      go : (p q : Moment) (r : Result A Fault) → answer ≡ formed (λ _. replies.Done) r → Tried one turns p r q → (tried turns one >> done replies.Done) p answer q
+      go p q (Ok x) is t = inl (x, q, t, (is, refl))
+      go p q (Err e) is t = inr (e, is, t)
+
+  -- the answer of a call is what was read of it
+  pub does_read : {A : Type 0} {a b : S} {f g : Frames} {deed : Deed A} (x y : A) → y ≡ x → DoesDeed facts a b f g deed (Ok x) → DoesDeed facts a b f g deed (Ok y)
+  does_read {A} {a} {b} {f} {g} {deed} x y is = subst (λ z. DoesDeed facts a b f g deed (Ok z)) (sym is)
+
+  -- what was decided without a call, and is answered
+  pub does_decide : {A B : Type 0} {a : S} {f : Frames} (r : Result A Fault) (form : A → B) (answer : Result B Fault) → answer ≡ answer_in form r → DoesDeed facts a a f f (decided r >>= (λ x. done (form x))) answer
+  does_decide (Ok x) form answer is = does_nothing (λ p. inl (x, p, (refl, refl), (is, refl)))
+  does_decide (Err e) form answer is = does_nothing (λ p. inr (e, is, (refl, refl)))
+
+  -- a release that was done, whatever it left
+  pub does_release_done : {A : Type 0} {a b : S} {f g : Frames} {one : Deed (Option (List ℕ))} (words : A → List ℕ) (left : Option A) → DoesDeed facts a b f g one (release_answer words (Ok left)) → DoesDeed facts a b f g (answered_by (λ _. replies.Done) one) (Ok replies.Done)
+  does_release_done words None d = did_answer (λ _. replies.Done) refl d
+  does_release_done words (Some x) d = did_answer (λ _. replies.Done) refl d
+
+  -- a release that was refused
+  pub does_release_refused : {A : Type 0} {a b : S} {f g : Frames} {one : Deed A} (e : Fault) → DoesDeed facts a b f g one (Err e) → DoesDeed facts a b f g (answered_by (λ _. replies.Done) one) (Err e)
+  does_release_refused e d = did_refuse (λ _. replies.Done) (Err e) refl d
+
+-- a release that was done leaves the elements that are kept by mode
+pub kept_left : {A : Type 0} (mode : Mode) (x : A) (r : Reply) → kept mode x ≡ elements_left mode (Ok r) x
+kept_left Copy x r = refl
+kept_left Commit x r = refl
+kept_left Abort x r = refl
+
+-- and one that was refused all of them
+pub all_left : {A : Type 0} (mode : Mode) (x y : A) (e : Fault) → y ≡ x → Some y ≡ elements_left mode (Err e) x
+all_left Copy x y e is = ap (λ z. Some z) is
+all_left Commit x y e is = ap (λ z. Some z) is
+all_left Abort x y e is = ap (λ z. Some z) is
+
+-- what is left of elements of a type, as what a name stands for
+pub left_mapped : {V : Type 0} (k : Kind) (word_of : V → ℕ) (wrap : List V → CopiedElements) → ((vs : List V) → copied_in (wrap vs) ≡ copied_as k word_of vs) → (mode : Mode) (answer : Result Reply Fault) (values : List V) (left : Option (List V)) (mapped : Option CopiedElements) (b : Copied)
+    → copied_as k word_of values ≡ b → left ≡ elements_left mode answer values → MatchOption left (mapped ≡ None) (λ x. IsSomeAnd mapped (λ y. y ≡ wrap x)) → standing_left mapped ≡ left_by mode answer (Buffer b)
+left_mapped k word_of wrap same mode answer values (Some x) (Some y) b is left cases =
+    ap (λ (z : CopiedElements). Buffer (copied_in z)) cases ∙ (ap (λ (z : Copied). Buffer z) (same x) ∙ some_left k word_of mode answer values x b is left)
+left_mapped k word_of wrap same mode answer values (Some x) None b is left cases = absurd cases
+left_mapped k word_of wrap same mode answer values None mapped b is left cases = ap standing_left cases ∙ none_left mode answer values (Buffer b) left
+
+-- what was put was answered so
+pub done_of : {A : Type 0} (r : Result A Fault) → ◌≡◌ {A = Result (Unit {0}) Fault} (Ok tt) (answer_in (λ _. tt) r) → ◌≡◌ {A = Result Reply Fault} (Ok replies.Done) (answer_in (λ _. replies.Done) r)
+done_of (Ok x) is = refl
+done_of (Err e) is = absurd cc
+
+pub refused_of : {A : Type 0} (r : Result A Fault) (e : Fault) (answer : Result Reply Fault) → ◌≡◌ {A = Result (Unit {0}) Fault} (Err e) (answer_in (λ _. tt) r) → IsErrAnd answer (λ y. y ≡ e) → answer ≡ answer_in (λ _. replies.Done) r
+refused_of (Ok x) e answer is given = absurd cc
+refused_of (Err d) e answer is given = let why = err_from_is_err_and answer given in let same : e ≡ d = cc in why.1 ∙ ap (λ (v : Fault). Err v) (why.2 ∙ same)
+
+-- a number at an index, where the verb is known to ask for a buffer's or for a level's
+module _ {S : Type 0} {facts : S → Facts} {a : S} {f : Frames} (turns : ℕ) (names : Names) where
+  pub does_get : (v : OnNameAt) (n : List ℕ) (i : ℕ) (answer : Result Reply Fault) → answer ≡ got_by v (answer_in (λ x. replies.Value x) (getting i (standing names n))) → DoesDeed facts a a f f (deed turns names (commands.OnNameAt v n i)) answer
+  does_get on_name_at.Get n i answer is = does_decide (getting i (standing names n)) (λ x. replies.Value x) answer is
+  does_get on_name_at.GetInLevel n i answer is = does_nothing (λ p. (is, refl))
+
+  pub does_put : (v : PutAt) (n : List ℕ) (i : ℕ) (x : ℤ) (answer : Result Reply Fault) → answer ≡ put_by v (answer_in (λ _. replies.Done) (putting i x (standing names n))) → DoesDeed facts a a f f (deed turns names (commands.PutAt v n i x)) answer
+  does_put put_at.Put n i x answer is = does_decide (putting i x (standing names n)) (λ _. replies.Done) answer is
+  does_put put_at.PutInLevel n i x answer is = does_nothing (λ p. (is, refl))
+
+-- the names once a buffer was changed, or that was refused
+pub buffers_put : (names : Names) (n : List ℕ) (i : ℕ) (x : ℤ) (r : Result Standing Fault) (answer : Result Reply Fault) → answer ≡ answer_in (λ _. replies.Done) r → r ≡ putting i x (standing names n) → names_put names n r ≡ buffers_after (commands.PutAt put_at.Put n i x) answer names
+buffers_put names n i x (Ok s) answer is same = ap (names_put names n) same ∙ ap (λ a. buffers_after (commands.PutAt put_at.Put n i x) a names) (sym is)
+buffers_put names n i x (Err e) answer is same = ap (λ a. buffers_after (commands.PutAt put_at.Put n i x) a names) (sym is)

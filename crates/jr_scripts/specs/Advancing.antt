@@ -1,0 +1,95 @@
+-- For the crate's own functions: where a thread stands with its region, and what it did there, for whatever was known.
+use Rattle.std.specs.Prelude.{◌≡◌, ℕ, List, [], length, Option, Some, None, Result, Ok, Err}
+use Rattle.jr_word.specs.declared.fault.Fault.{Fault}
+use Rattle.jr_word.specs.declared.fault.Fault.TheVariants as fault
+use Rattle.jr_model.specs.declared.event.Role.{Role}
+use Rattle.jr_model.specs.declared.event.Role.TheVariants.{Outside, Within}
+use Rattle.jr_model.specs.Frames.{Frames}
+use Rattle.jr_steps.specs.declared.known.Known.{Known}
+use Rattle.jr_steps.specs.declared.steps.Steps.{Ghosts}
+use Rattle.jr_steps.specs.Knowing.{Facts, Leads, Holds}
+use Rattle.jr_gate.specs.Performing.{IsAsBefore, moment}
+use Rattle.jr_frames.specs.Table.{Table}
+use Rattle.jr_critical.specs.declared.levels.Levels.{Levels}
+use Rattle.jr_critical.specs.Levels.{KnowsLevels, Stand, level_object, object_opened, objects_of, role_opened}
+use Rattle.jr_env.specs.declared.env.Env.{Env}
+use Rattle.jr_env.specs.Deeds.{Deed}
+use Rattle.jr_syntax.specs.declared.verb.OnNameAt.{OnNameAt}
+use Rattle.jr_syntax.specs.declared.verb.OnNameAt.TheVariants as on_name_at
+use Rattle.jr_syntax.specs.declared.verb.PutAt.{PutAt}
+use Rattle.jr_syntax.specs.declared.verb.PutAt.TheVariants as put_at
+use Rattle.jr_scripts.specs.declared.region.Region.{Region}
+use Rattle.jr_scripts.specs.declared.reply.Reply.{Reply}
+use Rattle.jr_scripts.specs.Names.{Names}
+use Rattle.jr_scripts.specs.Places.{Place}
+
+-- the answer of a command at an index where no region stands: E19 where it is about a level
+abbrev pub got_by : OnNameAt → Result Reply Fault → Result Reply Fault
+got_by on_name_at.Get answer = answer
+got_by on_name_at.GetInLevel answer = Err fault.InCritical
+
+-- the same of one that stores a number
+abbrev pub put_by : PutAt → Result Reply Fault → Result Reply Fault
+put_by put_at.Put answer = answer
+put_by put_at.PutInLevel answer = Err fault.InCritical
+
+-- the names of the levels of a region, the first first
+abbrev pub level_names : Option Region → List (List ℕ)
+level_names None = []
+level_names (Some r) = r.names.items
+
+-- their objects
+abbrev pub objects_in : Option Region → List ℕ
+objects_in None = []
+objects_in (Some r) = objects_of r.levels
+
+-- the place of a thread whose names stand for this, with its region
+abbrev pub place_with : Names → Option Region → Place
+place_with names region = record { names = names; levels = level_names region; objects = objects_in region }
+
+-- the thread is within while a region stands
+abbrev pub role_with : Option Region → Role
+role_with None = Outside
+role_with (Some r) = Within
+
+-- the frames are those of the thread's locals, and the header of each level is known
+abbrev pub KnowsWith : Option Region → Frames → Known → Type 0
+KnowsWith None f k = Holds f k
+KnowsWith (Some r) f k = KnowsLevels r.levels f k
+
+-- the same of the levels that an opening answered
+abbrev pub KnowsOpened : Result Levels Fault → Frames → Known → Type 0
+KnowsOpened (Ok v) f k = KnowsLevels v f k
+KnowsOpened (Err e) f k = Holds f k
+
+module _ {S : Type 0} (facts : S → Facts) where
+  -- a region stands, and each of its levels has a name
+  pub record StandsIn (r : Region) (s : S) (t : Table) : Type 0 where
+    pub stand : Stand facts r.levels s t
+    pub named : length r.names.items ≡ length (objects_of r.levels)
+
+  -- the thread stands outside, or in a region
+  abbrev pub StandsWith : Option Region → S → Table → Type 0
+  StandsWith None s t = (facts s).stands.role ≡ Outside
+  StandsWith (Some r) s t = StandsIn r s t
+
+  -- THE DEED WAS DONE, with this answer: for whatever was known and met the condition, something is known that it led to and that shows the other; and afterwards the thread has the role
+  pub record CarriedOut {A : Type 0} (old new : S) (f g : Frames) (role : Role) (met shown : Known → Type 0) (deed : Deed A) (answer : Result A Fault) : Type 0 where
+    pub stands_is : IsAsBefore (record ((facts old).stands) { role = role }) (facts new).stands
+    pub did : Leads facts old new met (λ k k'. shown k') (λ k k'. deed (moment (facts old).stands.fresh k f) answer (moment (facts new).stands.fresh k' g))
+
+module _ {S A : Type 0} {G : Ghosts S} where
+  -- the deed was done, from one region to another
+  abbrev pub DidWith : Env S G → Env S G → Option Region → Option Region → Deed A → Result A Fault → Type 0
+  DidWith old new region left deed answer =
+      CarriedOut G.facts old.held.steps new.held.steps old.held.frames.frames new.held.frames.frames (role_with left) (KnowsWith region old.held.frames.frames) (KnowsWith left new.held.frames.frames) deed answer
+
+  -- the deed was done in the stay of a region, from its levels to these
+  abbrev pub DidWithin : Env S G → Env S G → Levels → Levels → Deed A → Result A Fault → Type 0
+  DidWithin old new v w deed answer = CarriedOut G.facts old.held.steps new.held.steps old.held.frames.frames new.held.frames.frames Within (KnowsLevels v old.held.frames.frames) (KnowsLevels w new.held.frames.frames) deed answer
+
+module _ {S : Type 0} {G : Ghosts S} where
+  -- a region was opened, or refused
+  abbrev pub DidOpen : Env S G → Env S G → Deed ℕ → Result Levels Fault → Type 0
+  DidOpen old new deed answer =
+      CarriedOut G.facts old.held.steps new.held.steps old.held.frames.frames new.held.frames.frames (role_opened answer) (Holds old.held.frames.frames) (KnowsOpened answer new.held.frames.frames) deed (object_opened answer)

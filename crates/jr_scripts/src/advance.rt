@@ -1,0 +1,209 @@
+//! One command of a thread, where it stands: in a critical region or in none.
+
+ghost use Rattle.std.specs.Prelude.{◌≡◌, IfErr, IfOk, None, Some, [], false, length};
+ghost use Rattle.jr_critical.specs.Levels.{objects_of, Stand};
+ghost use Rattle.jr_env.specs.Envs.{IsOutside};
+ghost use Rattle.jr_gate.specs.Performing.{Moment};
+ghost use Rattle.jr_syntax.specs.declared.command.Command.TheVariants as commands;
+ghost use Rattle.jr_scripts.specs.Advancing.{level_names, objects_in, place_with, DidOpen, DidWith, StandsIn, StandsWith};
+ghost use Rattle.jr_scripts.specs.Commands.{deed, opening_levels};
+ghost use Rattle.jr_scripts.specs.Places.{is_closing, levels_after, objects_after};
+ghost use Rattle.jr_scripts.specs.RegionCommands.{deed_at, deed_within, waiting_by};
+ghost use Rattle.jr_scripts.specs.Text.{buffers_after};
+
+use crate::board::Board;
+use crate::names::Names;
+use crate::perform::perform;
+use crate::posting::{post, wait};
+use crate::region::{Region, first};
+use crate::region_commands::{close, nest, open, read_by, write_by};
+use crate::reply::Reply;
+use jr_critical::Levels;
+use jr_env::Env;
+use jr_steps::Steps;
+use jr_syntax::{Command, Make, Name, OpenLevel, Reference as Target};
+use jr_word::Fault;
+use std::alloc::Global;
+
+/// What a command leaves, and its answer.
+pub(crate) struct Left {
+    /// The region in which the thread stands then, if it does in one.
+    pub(crate) region: Option<Region>,
+    /// The reply, or the refusal.
+    pub(crate) answer: Result<Reply, Fault>,
+}
+
+/// Opens a region over what a reference names.
+fn open_levels<S: Steps>(
+    env: &mut Env<S>,
+    names: &Names,
+    turns: u64,
+    verb: OpenLevel,
+    target: &Target,
+) -> Result<Levels, Fault>
+    requires { IsOutside env.old }
+    ensures does { DidOpen env.old env.new (opening_levels turns names.now verb target.now) result }
+    ensures stand { IfOk result (λ v. Stand S.facts v env.new.held.steps env.new.held.frames) }
+    ensures one { IfOk result (λ v. length (objects_of v) ≡ 1) }
+    ensures outside { IfErr result (λ _. IsOutside env.new) }
+{
+    let handle = names.wanted(target)?;
+    open(env, turns, verb, handle)
+}
+
+/// Opens a region, whose first level has a name.
+fn open_region<S: Steps>(
+    env: &mut Env<S>,
+    names: &Names,
+    turns: u64,
+    verb: OpenLevel,
+    name: &Name,
+    target: &Target,
+) -> Left
+    requires { IsOutside env.old }
+    ensures does { DidWith env.old env.new None result.region (deed turns names.now (commands.OpenLevel verb name.now target.now)) result.answer }
+    ensures stand { StandsWith S.facts result.region env.new.held.steps env.new.held.frames }
+    ensures levels { level_names result.region ≡ levels_after (commands.OpenLevel verb name.now target.now) result.answer [] }
+    ensures objects { objects_in result.region ≡ objects_after (commands.OpenLevel verb name.now target.now) result.answer [] }
+{
+    match open_levels(env, names, turns, verb, target) {
+        Ok(levels) => {
+            let object = levels.object(0);
+            Left {
+                region: Some(first(levels, name)),
+                answer: Ok(Reply::Level(object)),
+            }
+        }
+        Err(fault) => Left {
+            region: None,
+            answer: Err(fault),
+        },
+    }
+}
+
+/// What a command does where no region stands.
+fn advance_outside<S: Steps, B: Board>(
+    alloc: Global,
+    env: &mut Env<S>,
+    names: &mut Names,
+    board: &B,
+    turns: u64,
+    command: &Command,
+) -> Left
+    requires { IsOutside env.old }
+    ensures does { DidWith env.old env.new None result.region (deed turns names.old command.now) result.answer }
+    ensures stand { StandsWith S.facts result.region env.new.held.steps env.new.held.frames }
+    ensures levels { level_names result.region ≡ levels_after command.now result.answer [] }
+    ensures objects { objects_in result.region ≡ objects_after command.now result.answer [] }
+    ensures names { names.new ≡ buffers_after command.now result.answer names.old }
+{
+    match command {
+        Command::OpenLevel { verb, name, target } => {
+            open_region(env, names, turns, *verb, name, target)
+        }
+        _ => {
+            let answer = perform(alloc, env, names, board, turns, command);
+            Left {
+                region: None,
+                answer,
+            }
+        }
+    }
+}
+
+/// Waits in a region, where nothing is made.
+fn wait_within<B: Board>(board: &B, turns: u64, verb: Make, name: &Name) -> Result<Reply, Fault>
+    ensures { (m : Moment) → waiting_by verb m result m }
+{
+    match verb {
+        Make::Wait => wait(board, name, turns),
+        Make::Plain => Err(Fault::InCritical),
+    }
+}
+
+/// What a command does in a region that stands afterwards too, as it does but after `endcrit`.
+fn stay<S: Steps, B: Board>(
+    env: &mut Env<S>,
+    names: &Names,
+    region: &mut Region,
+    board: &B,
+    turns: u64,
+    command: &Command,
+) -> Result<Reply, Fault>
+    requires stand { StandsIn S.facts region.old env.old.held.steps env.old.held.frames }
+    requires stays { is_closing command.now ≡ false }
+    ensures does { DidWith env.old env.new (Some region.old) (Some region.new) (deed_within (place_with names.now (Some region.old)) command.now) result }
+    ensures stand { StandsIn S.facts region.new env.new.held.steps env.new.held.frames }
+    ensures levels { level_names (Some region.new) ≡ levels_after command.now result (level_names (Some region.old)) }
+    ensures objects { objects_in (Some region.new) ≡ objects_after command.now result (objects_in (Some region.old)) }
+    ensures names { names.now ≡ buffers_after command.now result names.now }
+{
+    match command {
+        Command::OpenLevel { verb, name, target } => nest(env, names, region, *verb, name, target),
+        Command::OnNameAt { verb, name, index } => read_by(env, region, *verb, name, *index),
+        Command::PutAt {
+            verb,
+            name,
+            index,
+            value,
+        } => write_by(env, region, *verb, name, *index, *value),
+        Command::OnName { name, .. } => Ok(post(board, names, name)),
+        Command::Make { verb, name } => wait_within(board, turns, *verb, name),
+        _ => Err(Fault::InCritical),
+    }
+}
+
+/// What a command does in a region.
+fn advance_within<S: Steps, B: Board>(
+    env: &mut Env<S>,
+    names: &Names,
+    region: Region,
+    board: &B,
+    turns: u64,
+    command: &Command,
+) -> Left
+    requires { StandsIn S.facts region env.old.held.steps env.old.held.frames }
+    ensures does { DidWith env.old env.new (Some region) result.region (deed_within (place_with names.now (Some region)) command.now) result.answer }
+    ensures stand { StandsWith S.facts result.region env.new.held.steps env.new.held.frames }
+    ensures levels { level_names result.region ≡ levels_after command.now result.answer (level_names (Some region)) }
+    ensures objects { objects_in result.region ≡ objects_after command.now result.answer (objects_in (Some region)) }
+    ensures names { names.now ≡ buffers_after command.now result.answer names.now }
+{
+    match command {
+        Command::CloseLevel { mode, .. } => Left {
+            region: close(env, region, *mode),
+            answer: Ok(Reply::Done),
+        },
+        _ => {
+            let mut region = region;
+            let answer = stay(env, names, &mut region, board, turns, command);
+            Left {
+                region: Some(region),
+                answer,
+            }
+        }
+    }
+}
+
+/// What a command does where the thread stands.
+pub(crate) fn advance<S: Steps, B: Board>(
+    alloc: Global,
+    env: &mut Env<S>,
+    names: &mut Names,
+    region: Option<Region>,
+    board: &B,
+    turns: u64,
+    command: &Command,
+) -> Left
+    requires { StandsWith S.facts region env.old.held.steps env.old.held.frames }
+    ensures does { DidWith env.old env.new region result.region (deed_at turns (place_with names.old region) command.now) result.answer }
+    ensures stand { StandsWith S.facts result.region env.new.held.steps env.new.held.frames }
+    ensures levels { level_names result.region ≡ levels_after command.now result.answer (level_names region) }
+    ensures objects { objects_in result.region ≡ objects_after command.now result.answer (objects_in region) }
+    ensures names { names.new ≡ buffers_after command.now result.answer names.old }
+{
+    match region {
+        None => advance_outside(alloc, env, names, board, turns, command),
+        Some(region) => advance_within(env, names, region, board, turns, command),
+    }
+}

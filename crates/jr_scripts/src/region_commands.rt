@@ -1,0 +1,287 @@
+//! What the commands of a critical region do at its levels.
+
+ghost use Rattle.std.specs.Prelude.{◌≡◌, ◌<◌, IfErr, IfOk, Ok, Err, Some, None, length};
+ghost use Rattle.jr_word.specs.declared.fault.Fault.TheVariants.{InCritical};
+ghost use Rattle.jr_syntax.specs.declared.command.Command.TheVariants as commands;
+ghost use Rattle.jr_syntax.specs.declared.verb.PutAt.TheVariants as put_verbs;
+ghost use Rattle.jr_critical.specs.Levels.{level_object, level_nested, objects_of, Stand, WasAdded};
+ghost use Rattle.jr_env.specs.Envs.{IsOutside};
+ghost use Rattle.jr_scripts.specs.Advancing.{level_names, objects_in, place_with, DidWith, DidWithin, DidOpen, StandsIn, StandsWith};
+ghost use Rattle.jr_scripts.specs.Commands.{opening_by, tried};
+ghost use Rattle.jr_scripts.specs.Places.{all_but_last, levels_after, objects_after};
+ghost use Rattle.jr_scripts.specs.RegionCommands.{deed_within, giving_up, giving_up_all, nesting, read_kind as kind_read, level_reading, reading_as, reading_at, reading_by, level_writing, writing_as, writing_at, writing_by};
+
+use crate::names::Names;
+use crate::number::{Number, NumberKind};
+use crate::region::Region;
+use crate::reply::Reply;
+use crate::retry::is_made_again;
+use jr_critical::Levels;
+use jr_env::Env;
+use jr_model::Mode;
+use jr_steps::Steps;
+use jr_syntax::{Name, OnNameAt, OpenLevel, PutAt, Reference as Target};
+use jr_word::{Fault, Handle, Kind};
+
+/// Opens a region over what a handle names, by one call.
+fn open_once<S: Steps>(env: &mut Env<S>, verb: OpenLevel, handle: Handle) -> Result<Levels, Fault>
+    requires { IsOutside env.old }
+    ensures does { DidOpen env.old env.new (opening_by verb handle.0) result }
+    ensures stand { IfOk result (λ v. Stand S.facts v env.new.held.steps env.new.held.frames) }
+    ensures one { IfOk result (λ v. length (objects_of v) ≡ 1) }
+    ensures outside { IfErr result (λ _. IsOutside env.new) }
+{
+    match verb {
+        OpenLevel::Array => env.open_array_critical(handle),
+        OpenLevel::Text => env.open_string_critical(handle),
+    }
+}
+
+/// Opens a region over what a handle names, and again as long as the call is barred: E20 once it was made so many times.
+pub(crate) fn open<S: Steps>(
+    env: &mut Env<S>,
+    turns: u64,
+    verb: OpenLevel,
+    handle: Handle,
+) -> Result<Levels, Fault>
+    requires { IsOutside env.old }
+    ensures does { DidOpen env.old env.new (tried turns (opening_by verb handle.0)) result }
+    ensures stand { IfOk result (λ v. Stand S.facts v env.new.held.steps env.new.held.frames) }
+    ensures one { IfOk result (λ v. length (objects_of v) ≡ 1) }
+    ensures outside { IfErr result (λ _. IsOutside env.new) }
+{
+    for _ in 0..turns {
+        match open_once(env, verb, handle) {
+            Ok(levels) => return Ok(levels),
+            Err(fault) => {
+                if !is_made_again::<()>(&Err(fault)) {
+                    return Err(fault);
+                }
+            }
+        }
+    }
+    Err(Fault::Turns)
+}
+
+/// Adds a level over what a handle names: its number.
+fn add<S: Steps>(
+    env: &mut Env<S>,
+    levels: &mut Levels,
+    verb: OpenLevel,
+    handle: Handle,
+) -> Result<usize, Fault>
+    requires { Stand S.facts levels.old env.old.held.steps env.old.held.frames }
+    ensures does { DidWithin env.old env.new levels.old levels.new (nesting verb (objects_of levels.old) handle.0) (level_nested result levels.new) }
+    ensures stand { Stand S.facts levels.new env.new.held.steps env.new.held.frames }
+    ensures added { IfOk result (λ n. WasAdded levels.old levels.new n) }
+    ensures err { IfErr result (λ _. levels.new ≡ levels.old) }
+{
+    match verb {
+        OpenLevel::Array => env.nest_array_critical(levels, handle),
+        OpenLevel::Text => env.nest_string_critical(levels, handle),
+    }
+}
+
+/// Adds a level of a name over what a reference names. The room of the names is that of the levels.
+pub(crate) fn nest<S: Steps>(
+    env: &mut Env<S>,
+    names: &Names,
+    region: &mut Region,
+    verb: OpenLevel,
+    name: &Name,
+    target: &Target,
+) -> Result<Reply, Fault>
+    requires { StandsIn S.facts region.old env.old.held.steps env.old.held.frames }
+    ensures does { DidWith env.old env.new (Some region.old) (Some region.new) (deed_within (place_with names.now (Some region.old)) (commands.OpenLevel verb name.now target.now)) result }
+    ensures stand { StandsIn S.facts region.new env.new.held.steps env.new.held.frames }
+    ensures levels { level_names (Some region.new) ≡ levels_after (commands.OpenLevel verb name.now target.now) result (level_names (Some region.old)) }
+    ensures objects { objects_in (Some region.new) ≡ objects_after (commands.OpenLevel verb name.now target.now) result (objects_in (Some region.old)) }
+{
+    let handle = names.wanted(target)?;
+    let number = add(env, &mut region.levels, verb, handle)?;
+    let _ = region.names.try_push(name.copy());
+    Ok(Reply::Level(region.levels.object(number)))
+}
+
+/// The number at an index of a level whose elements are read as of a type.
+fn read_as<S: Steps, E: Number>(
+    env: &mut Env<S>,
+    levels: &Levels,
+    level: usize,
+    index: u32,
+) -> Result<Reply, Fault>
+    requires stand { Stand S.facts levels.now env.old.held.steps env.old.held.frames }
+    requires level { level < length (objects_of levels.now) }
+    ensures does { DidWithin env.old env.new levels.now levels.now (reading_as (level_object levels.now level) index E.KIND) result }
+    ensures stand { Stand S.facts levels.now env.new.held.steps env.new.held.frames }
+{
+    let element = env.get_critical::<E>(levels, level, index)?;
+    Ok(Reply::Value(element.to_number()))
+}
+
+/// The kind of which elements are read: the units of a string are chars.
+fn read_kind(kind: Kind) -> Kind
+    ensures { result ≡ kind_read kind }
+{
+    match kind {
+        Kind::Text => Kind::Char,
+        _ => kind,
+    }
+}
+
+/// The number at an index of a level.
+fn read_at<S: Steps>(
+    env: &mut Env<S>,
+    levels: &Levels,
+    level: usize,
+    index: u32,
+) -> Result<Reply, Fault>
+    requires stand { Stand S.facts levels.now env.old.held.steps env.old.held.frames }
+    requires level { level < length (objects_of levels.now) }
+    ensures does { DidWithin env.old env.new levels.now levels.now (level_reading (level_object levels.now level) index) result }
+    ensures stand { Stand S.facts levels.now env.new.held.steps env.new.held.frames }
+{
+    match NumberKind::of(read_kind(levels.kind(level)))? {
+        NumberKind::Boolean => read_as::<S, bool>(env, levels, level, index),
+        NumberKind::Byte => read_as::<S, i8>(env, levels, level, index),
+        NumberKind::Char => read_as::<S, u16>(env, levels, level, index),
+        NumberKind::Short => read_as::<S, i16>(env, levels, level, index),
+        NumberKind::Int => read_as::<S, i32>(env, levels, level, index),
+        NumberKind::Long => read_as::<S, i64>(env, levels, level, index),
+    }
+}
+
+/// The number at an index of the level that a name means.
+fn read<S: Steps>(
+    env: &mut Env<S>,
+    region: &Region,
+    name: &Name,
+    index: u32,
+) -> Result<Reply, Fault>
+    requires { StandsIn S.facts region.now env.old.held.steps env.old.held.frames }
+    ensures does { DidWith env.old env.new (Some region.now) (Some region.now) (reading_at region.now.names.items (objects_of region.now.levels) name.now index) result }
+    ensures stand { StandsIn S.facts region.now env.new.held.steps env.new.held.frames }
+{
+    let level = region.level(name)?;
+    read_at(env, &region.levels, level, index)
+}
+
+/// The number at an index of the level that a name means, where that is what the verb asks for: E19 where it asks for another.
+pub(crate) fn read_by<S: Steps>(
+    env: &mut Env<S>,
+    region: &Region,
+    verb: OnNameAt,
+    name: &Name,
+    index: u32,
+) -> Result<Reply, Fault>
+    requires { StandsIn S.facts region.now env.old.held.steps env.old.held.frames }
+    ensures does { DidWith env.old env.new (Some region.now) (Some region.now) (reading_by verb region.now.names.items (objects_of region.now.levels) name.now index) result }
+    ensures stand { StandsIn S.facts region.now env.new.held.steps env.new.held.frames }
+{
+    match verb {
+        OnNameAt::GetInLevel => read(env, region, name, index),
+        OnNameAt::Get => Err(Fault::InCritical),
+    }
+}
+
+/// Stores a number at an index of a level whose elements are of a type.
+fn write_as<S: Steps, E: Number>(
+    env: &mut Env<S>,
+    levels: &Levels,
+    level: usize,
+    index: u32,
+    number: i64,
+) -> Result<Reply, Fault>
+    requires stand { Stand S.facts levels.now env.old.held.steps env.old.held.frames }
+    requires level { level < length (objects_of levels.now) }
+    ensures does { DidWithin env.old env.new levels.now levels.now (writing_as (level_object levels.now level) index number E.KIND) result }
+    ensures stand { Stand S.facts levels.now env.new.held.steps env.new.held.frames }
+{
+    let element = E::from_number(number)?;
+    env.set_critical(levels, level, index, element)?;
+    Ok(Reply::Done)
+}
+
+/// Stores a number at an index of a level: E5 at a string, and then E18 where no element is that number.
+fn write_at<S: Steps>(
+    env: &mut Env<S>,
+    levels: &Levels,
+    level: usize,
+    index: u32,
+    number: i64,
+) -> Result<Reply, Fault>
+    requires stand { Stand S.facts levels.now env.old.held.steps env.old.held.frames }
+    requires level { level < length (objects_of levels.now) }
+    ensures does { DidWithin env.old env.new levels.now levels.now (level_writing (level_object levels.now level) index number) result }
+    ensures stand { Stand S.facts levels.now env.new.held.steps env.new.held.frames }
+{
+    match NumberKind::of(levels.kind(level))? {
+        NumberKind::Boolean => write_as::<S, bool>(env, levels, level, index, number),
+        NumberKind::Byte => write_as::<S, i8>(env, levels, level, index, number),
+        NumberKind::Char => write_as::<S, u16>(env, levels, level, index, number),
+        NumberKind::Short => write_as::<S, i16>(env, levels, level, index, number),
+        NumberKind::Int => write_as::<S, i32>(env, levels, level, index, number),
+        NumberKind::Long => write_as::<S, i64>(env, levels, level, index, number),
+    }
+}
+
+/// Stores a number at an index of the level that a name means.
+fn write<S: Steps>(
+    env: &mut Env<S>,
+    region: &Region,
+    name: &Name,
+    index: u32,
+    number: i64,
+) -> Result<Reply, Fault>
+    requires { StandsIn S.facts region.now env.old.held.steps env.old.held.frames }
+    ensures does { DidWith env.old env.new (Some region.now) (Some region.now) (writing_at region.now.names.items (objects_of region.now.levels) name.now index number) result }
+    ensures stand { StandsIn S.facts region.now env.new.held.steps env.new.held.frames }
+{
+    let level = region.level(name)?;
+    write_at(env, &region.levels, level, index, number)
+}
+
+/// Stores a number at an index of the level that a name means, where that is what the verb asks for: E19 where it asks for another.
+pub(crate) fn write_by<S: Steps>(
+    env: &mut Env<S>,
+    region: &Region,
+    verb: PutAt,
+    name: &Name,
+    index: u32,
+    number: i64,
+) -> Result<Reply, Fault>
+    requires { StandsIn S.facts region.now env.old.held.steps env.old.held.frames }
+    ensures does { DidWith env.old env.new (Some region.now) (Some region.now) (writing_by verb region.now.names.items (objects_of region.now.levels) name.now index number) result }
+    ensures other { verb ≡ put_verbs.Put → result ≡ Err InCritical }
+    ensures stand { StandsIn S.facts region.now env.new.held.steps env.new.held.frames }
+{
+    match verb {
+        PutAt::PutInLevel => write(env, region, name, index, number),
+        PutAt::Put => Err(Fault::InCritical),
+    }
+}
+
+/// Gives up the last level of a region: none is left of its first one.
+pub(crate) fn close<S: Steps>(env: &mut Env<S>, region: Region, mode: Mode) -> Option<Region>
+    requires { StandsIn S.facts region env.old.held.steps env.old.held.frames }
+    ensures does { DidWith env.old env.new (Some region) result (giving_up (length (objects_of region.levels))) (Ok tt) }
+    ensures stand { StandsWith S.facts result env.new.held.steps env.new.held.frames }
+    ensures names { level_names result ≡ all_but_last region.names.items }
+    ensures objects { objects_in result ≡ all_but_last (objects_of region.levels) }
+{
+    let Region { levels, mut names } = region;
+    names.pop();
+    let levels = env.close_critical(levels, mode)?;
+    Some(Region { levels, names })
+}
+
+/// Gives up all levels of a region, if one stands.
+pub(crate) fn end<S: Steps>(env: &mut Env<S>, region: Option<Region>)
+    requires { StandsWith S.facts region env.old.held.steps env.old.held.frames }
+    ensures does { DidWith env.old env.new region None (giving_up_all (objects_in region)) (Ok tt) }
+    ensures outside { IsOutside env.new }
+{
+    if let Some(Region { levels, names: _ }) = region {
+        env.close_all_critical(levels);
+    }
+}

@@ -1,0 +1,61 @@
+//! Clearing the weak references to objects that are not marked.
+ghost use Rattle.std.specs.Prelude.{◌≡◌, ◌<◌};
+ghost use Rattle.jr_model.specs.declared.event.Role.TheVariants.{Collecting};
+ghost use Rattle.jr_steps.specs.Knowing.{MayKnow};
+ghost use Rattle.jr_weak.specs.Marks.{weak_in};
+ghost use Rattle.jr_weak.specs.Marking.{IsMarkedNow};
+ghost use Rattle.jr_weak.specs.Markers.{marks_of};
+ghost use Rattle.jr_weak.specs.Sweeping.{SweepsSlot, ClearsUnreached};
+
+use crate::marker::Marker;
+use jr_steps::Steps;
+use jr_word::SlotParts;
+
+/// The serial and the object of a slot's weak reference, if one stands and is not cleared.
+fn weak_of(parts: SlotParts) -> Option<(u32, u16)>
+    ensures { result ≡ weak_in parts }
+{
+    match parts {
+        SlotParts::Weak {
+            serial,
+            object: Some(object),
+        } => Some((serial, object)),
+        _ => None,
+    }
+}
+
+impl Marker {
+    /// Clears the weak reference of a slot if its object is not marked, and tells whether it did.
+    fn clear_slot<S: Steps>(&self, steps: &mut S, index: u16) -> bool
+        requires role { (S.facts steps.old).stands.role ≡ Collecting }
+        requires row { index < (S.facts steps.old).stands.config.slots }
+        requires marked { MayKnow S.facts steps.old (IsMarkedNow (marks_of self.now)) }
+        ensures { SweepsSlot S.facts (marks_of self.now) index steps.old steps.new result }
+    {
+        let parts = steps.scan_slot(index);
+        let Some((serial, object)) = weak_of(parts) else {
+            return false;
+        };
+        if self.is_marked(object) {
+            return false;
+        }
+        steps.wipe(index, serial, object);
+        true
+    }
+
+    /// Clears each weak reference that is not cleared to an object that is not marked, once, and tells how many. It takes one look at each slot, and an exchange for each that it clears.
+    pub fn clear_weak<S: Steps>(&self, steps: &mut S) -> u32
+        requires role { (S.facts steps.old).stands.role ≡ Collecting }
+        requires marked { MayKnow S.facts steps.old (IsMarkedNow (marks_of self.now)) }
+        ensures { ClearsUnreached S.facts (marks_of self.now) steps.old steps.new result }
+    {
+        let slots = steps.config().slots;
+        let mut cleared = 0;
+        for index in 0..slots {
+            if self.clear_slot(steps, index as u16) {
+                cleared += 1;
+            }
+        }
+        cleared
+    }
+}

@@ -1,0 +1,44 @@
+//! Dropping the objects that are not marked.
+ghost use Rattle.std.specs.Prelude.{◌≡◌, ◌≤◌};
+ghost use Rattle.jr_model.specs.declared.event.Role.TheVariants.{Collecting};
+ghost use Rattle.jr_steps.specs.Knowing.{MayKnow};
+ghost use Rattle.jr_weak.specs.Markers.{marks_of};
+ghost use Rattle.jr_weak.specs.Sweeping.{AreCleared, MayDrop, SweepsNumber, DropsUnreached};
+
+use crate::marker::Marker;
+use jr_steps::Steps;
+
+impl Marker {
+    /// Drops an object if it is present and not marked, and tells whether it did.
+    fn drop_number<S: Steps>(&self, steps: &mut S, object: u16) -> bool
+        requires role { (S.facts steps.old).stands.role ≡ Collecting }
+        requires number { (1 ≤ object) × (object ≤ (S.facts steps.old).stands.config.objects) }
+        requires can { MayKnow S.facts steps.old (MayDrop (marks_of self.now)) }
+        ensures { SweepsNumber S.facts (marks_of self.now) object steps.old steps.new result }
+    {
+        if self.is_marked(object) {
+            return false;
+        }
+        let Some(_header) = steps.scan_header(object) else {
+            return false;
+        };
+        steps.drop_header(object);
+        true
+    }
+
+    /// Drops each present object that is not marked, once, and tells how many. No weak reference may name one of them.
+    pub fn drop_unreached<S: Steps>(&self, steps: &mut S) -> u32
+        requires role { (S.facts steps.old).stands.role ≡ Collecting }
+        requires cleared { MayKnow S.facts steps.old (AreCleared (marks_of self.now)) }
+        ensures { DropsUnreached S.facts (marks_of self.now) steps.old steps.new result }
+    {
+        let objects = steps.config().objects;
+        let mut dropped = 0;
+        for index in 0..objects {
+            if self.drop_number(steps, (index + 1) as u16) {
+                dropped += 1;
+            }
+        }
+        dropped
+    }
+}
