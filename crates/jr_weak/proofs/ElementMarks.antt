@@ -1,12 +1,14 @@
 -- What a marked array names is marked.
-use Rattle.std.proofs.Common.{◌≡◌, ◌≢◌, ⊎_elim, ◌+◌, ◌<◌, ◌≤◌, ℕ, Bool, cond, Option, Some, None, List, [], length, get_or, slice_get, refl, sym, ap, subst, ◌∙◌, arith, eq-eqb}
+use Rattle.std.proofs.Common.{◌≡◌, ◌≢◌, ⊎_elim, ◌+◌, ◌<◌, ◌≤◌, ℕ, Bool, true, false, cond, Option, Some, None, List, [], length, get_or, slice_get, refl, sym, ap, subst, ◌∙◌, arith, eq-eqb}
 use Rattle.std.proofs.lemmas.Option.{slice_get_within}
 use Rattle.std.proofs.Math.Logic.{∥∥₁_elim}
 use Rattle.std.proofs.Props.{props}
 use mathlib.Core.Logic.{dite}
 use native.Mathlib.Decide.{ℕ_discrete}
 use Rattle.jr_word.specs.declared.header.HeaderParts.{HeaderParts}
-use Rattle.jr_word.specs.declared.kind.Kind.TheVariants.{Objects}
+use Rattle.jr_word.specs.declared.kind.Kind.{Kind}
+use Rattle.jr_word.specs.declared.kind.Kind.TheVariants.{Plain, Boolean, Byte, Char, Short, Int, Long, Objects, Text}
+use Rattle.jr_model.specs.Checks.{is_objects}
 use Rattle.jr_model.specs.declared.event.Role.TheVariants.{Collecting}
 use Rattle.jr_model.specs.State.{Contents, State, IsPresent, IsReached, from_element, HaveSameTables}
 use Rattle.jr_steps.specs.declared.known.Known.{Known}
@@ -28,6 +30,21 @@ pub record ElementsBelow (a : ℕ) (h : HeaderParts) (n : ℕ) (marks : List Boo
 -- the elements of the first n that were found are marked
 abbrev pub Followed : List ℕ → ℕ → List Bool → Known → Type 0
 Followed found n marks k = (i : ℕ) → i < n → HasElementsOf (get_or found i 0) marks (state_of k)
+
+-- a kind is that of object arrays, or isn't
+pub kind_objects : (k : Kind) → is_objects k ≡ true → k ≡ Objects
+kind_objects Objects e = refl
+kind_objects Plain e = absurd cc
+kind_objects Boolean e = absurd cc
+kind_objects Byte e = absurd cc
+kind_objects Char e = absurd cc
+kind_objects Short e = absurd cc
+kind_objects Int e = absurd cc
+kind_objects Long e = absurd cc
+kind_objects Text e = absurd cc
+
+pub kind_other : (k : Kind) → is_objects k ≡ false → k ≢ Objects
+kind_other k e same = let all : is_objects k ≡ true = ap is_objects same in absurd cc
 
 same_contents : (s : State) (a : ℕ) (x y : Contents) → s.objects a ≡ Some x → s.objects a ≡ Some y → x ≡ y
 same_contents s a x y e f = let z = sym e ∙ f in cc

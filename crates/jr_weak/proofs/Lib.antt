@@ -6,3 +6,5 @@ pub mod AllMarked
 pub mod Kept
 pub mod Sweeps
 pub mod Drops
+pub mod Together
+pub mod Collects

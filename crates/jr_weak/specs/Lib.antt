@@ -2,3 +2,4 @@ pub mod Marks
 pub mod Marking
 pub mod Markers
 pub mod Sweeping
+pub mod Collecting

@@ -12,7 +12,8 @@ use std::alloc::{AllocError, Global};
 
 /// A marker in which nothing is marked.
 fn unmarked(alloc: Global, objects: u16) -> Result<Marker, AllocError>
-    ensures { IfOk result (λ m. room_of m ≡ objects) }
+    ensures room { IfOk result (λ m. room_of m ≡ objects) }
+    ensures none { IfOk result (λ m. (o : ℕ) → ¬ (IsMarked (marks_of m) o)) }
 {
     let room = usize::from(objects);
     let marked = vec![in alloc; false; room + 1]?;
@@ -27,13 +28,14 @@ fn unmarked(alloc: Global, objects: u16) -> Result<Marker, AllocError>
 }
 
 impl Marker {
-    /// A marker for a room of so many objects. It takes all the memory that a collection needs.
+    /// A marker for a room of so many objects, in which nothing is marked. It takes all the memory that a collection needs.
     ///
     /// # Errors
     ///
     /// E16 where that memory was refused.
     pub fn new(alloc: Global, objects: u16) -> Result<Self, Fault>
-        ensures ok { IfOk result (λ m. room_of m ≡ objects) }
+        ensures room { IfOk result (λ m. room_of m ≡ objects) }
+        ensures none { IfOk result (λ m. (o : ℕ) → ¬ (IsMarked (marks_of m) o)) }
         ensures err { IfErr result (λ e. e ≡ Memory) }
     {
         unmarked(alloc, objects).map_err(|_| Fault::Memory)

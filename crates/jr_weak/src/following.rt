@@ -1,21 +1,13 @@
 //! What is reached through arrays of objects: a work list is followed to its end.
-ghost use Rattle.std.specs.Prelude.{◌≡◌, ◌↔◌, IsTrue, ◌≤◌, vec_len};
-ghost use Rattle.jr_word.specs.declared.kind.Kind.TheVariants.{Objects};
+ghost use Rattle.std.specs.Prelude.{◌≡◌, ◌≤◌, vec_len};
 ghost use Rattle.jr_model.specs.declared.event.Role.TheVariants.{Collecting};
 ghost use Rattle.jr_steps.specs.Knowing.{MayKnow};
 ghost use Rattle.jr_weak.specs.Marks.{IsMarked, IsBefore, IsObjectWord, HasElementsOf, HasElements};
 ghost use Rattle.jr_weak.specs.Marking.{IsMarking, MarksAll};
 
 use crate::marker::Marker;
+use jr_heap::is_objects;
 use jr_steps::Steps;
-use jr_word::Kind;
-
-/// Whether an object of the kind is an array of objects.
-fn is_objects(kind: Kind) -> bool
-    ensures { IsTrue result ↔ (kind ≡ Objects) }
-{
-    matches!(kind, Kind::Objects)
-}
 
 /// The object that an element of an object array names.
 fn object_of(word: u64) -> Option<u16>

@@ -1,12 +1,18 @@
-//! What a collection reaches, over any steps: marking, clearing and dropping.
+//! What a collection reaches, and a collection as a whole, over any steps: marking, clearing, dropping and moving together.
 #![tactic(auto)]
 
 mod buffers;
 mod clearing;
+mod collecting;
+mod compacting;
 mod dropping;
 mod following;
 mod marker;
 mod marking;
 mod roots;
 
+pub use collecting::{Collected, collect};
 pub use marker::Marker;
+
+#[cfg(test)]
+mod tests;

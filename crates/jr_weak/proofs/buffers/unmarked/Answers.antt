@@ -1,5 +1,5 @@
 use Rattle.std.proofs.Common.{rules, ◌≡◌, ◌+◌, ◌≤◌, length, replicate, false, arith}
-use Rattle.jr_weak.proofs.Queues.{queue_empty}
+use Rattle.jr_weak.proofs.Queues.{queue_empty, empty_marks}
 use Rattle.jr_weak.proofs.buffers.unmarked.Goals as goal
 
 pub invariant_of-result : goal.invariant_of-result
@@ -9,3 +9,8 @@ invariant_of-result c =
     let room : length c.in_ok-noted.noted.items ≡ c.args.objects = search rules in
     let fits : c.args.objects ≤ 65535 = let f = c.ranges.objects.fits in omega arith in
     record { queue = queue_empty c.in_ok-marked.marked.items (c.args.objects + 1) c.in_ok-found.found.items is (omega arith); same_room = omega arith; few = omega arith }
+
+pub returns-then-none : goal.returns-then-none
+returns-then-none c =
+    let is : c.in_ok-marked.marked.items ≡ replicate (c.args.objects + 1) false = search rules in
+    empty_marks c.in_ok-marked.marked.items (c.args.objects + 1) is

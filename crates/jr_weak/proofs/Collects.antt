@@ -1,0 +1,145 @@
+-- A collection, from the shut of the gate to its reopening, is the model's.
+use Rattle.std.proofs.Common.{◌≡◌, ℕ, Bool, Option, IsSome, List, [], ◌∷◌, ◌++◌, map, refl, sym, ap, subst, ◌∙◌, append_assoc}
+use Rattle.std.proofs.lemmas.List.{append-nil}
+use mathlib.Core.Logic.{∥∥₁_map}
+use Rattle.jr_model.specs.declared.event.Event.{Event}
+use Rattle.jr_model.specs.declared.event.Role.TheVariants.{Outside}
+use Rattle.jr_model.specs.declared.event.Found.{Found}
+use Rattle.jr_model.specs.declared.event.Act.TheVariants.{Shut, Clear, Drop, Settle, Reopen}
+use Rattle.jr_model.specs.State.{Handle, Contents, State, HaveSameTables}
+use Rattle.jr_model.specs.History.{History, by, state, mine, Did}
+use Rattle.jr_model.specs.CollectionCalls.{IsWhole, sweeping_acts, CollectionIn}
+use Rattle.jr_model.proofs.Histories.{mine_append, state_push}
+use Rattle.jr_model.proofs.Stays.{did_added, did_then, mine_did}
+use Rattle.jr_model.proofs.Windows.{window_stay, stepped_last}
+use Rattle.jr_steps.specs.declared.known.Known.{Known}
+use Rattle.jr_steps.specs.declared.known.Holdings.{Holdings}
+use Rattle.jr_steps.specs.Knowing.{AreOf, Facts, Goes, MayKnow, Saw, Sees, Standing, Took, CanReopen, IsClosedNow, anything, lets_go, standing_after, state_of, view}
+use Rattle.jr_steps.proofs.CollectorFacts.{tables_seen}
+use Rattle.jr_steps.proofs.StepFacts.{goes_stepped}
+use Rattle.jr_gate.specs.Acting.{ActedTo}
+use Rattle.jr_compact.specs.Compacting.{AreCompacted}
+use Rattle.jr_weak.specs.Marking.{IsMarkedNow}
+use Rattle.jr_weak.specs.Sweeping.{AreCleared, AreDropped, ClearsUnreached, DropsUnreached, IsExactlyToClear, IsExactlyToDrop}
+use Rattle.jr_weak.specs.Collecting.{MakesCollection}
+use Rattle.jr_weak.proofs.Leading.{closed_on, reached_on}
+
+sees_did : {k k' : Known} → Sees k k' → Did (view k) (view k') []
+sees_did {k} {k'} s = did_added s.between [] s.config s.last s.thread (s.seen ∙ sym (append-nil (k.seen ++ s.between))) s.others s.legal
+
+-- the gate may be opened, once all arrays stand together
+can_reopen : (marks : List Bool) (used : ℕ) (k k' : Known) → AreDropped marks k → AreCompacted used k k' → CanReopen k'
+can_reopen marks used k k' d c = (closed_on (record (state_of k) { used = used }) (state_of k') c.tables d.can.0, c.settled)
+
+-- events one after the other, as one list
+joined : (before more after : History) (s r : Event) → (((before ++ s ∷ []) ++ more) ++ after) ++ r ∷ [] ≡ before ++ s ∷ (more ++ after) ++ r ∷ []
+joined before more after s r =
+    ap (λ l. l ++ r ∷ []) (append_assoc (before ++ s ∷ []) more after ∙ append_assoc before (s ∷ []) (more ++ after))
+
+-- where the collection lies
+place_of : {k k1 k5 k6 : Known} (cleared : List Handle) (dropped : List ℕ) (used : ℕ) → Goes k (Shut ∷ []) k1 → Did (view k1) (view k5) (sweeping_acts cleared dropped used) → Goes k5 (Reopen ∷ []) k6 → CollectionIn (view k) (view k6) cleared dropped used
+place_of {k} {k1} {k5} {k6} cleared dropped used g d h =
+    let more : History = d.begins.0 in
+    let five : k5.seen ≡ ((k.seen ++ g.between) ++ by k.thread Shut ∷ []) ++ more = sym d.begins.1 ∙ ap (λ l. l ++ more) g.seen in
+    let thread : k5.thread ≡ k.thread = d.thread ∙ g.thread in
+    let swept : mine more k.thread ≡ sweeping_acts cleared dropped used = ap (mine more) (sym g.thread) ∙ mine_did (sweeping_acts cleared dropped used) d in
+    let none : mine h.between k.thread ≡ [] = ap (mine h.between) (sym thread) ∙ h.others in
+    record {
+      before = k.seen ++ g.between;
+      inside = more ++ h.between;
+      rest = [];
+      from = (g.between, refl);
+      parts = h.seen
+          ∙ (ap (λ l. (l ++ h.between) ++ by k5.thread Reopen ∷ []) five
+          ∙ (ap (λ t. ((((k.seen ++ g.between) ++ by k.thread Shut ∷ []) ++ more) ++ h.between) ++ by t Reopen ∷ []) thread
+          ∙ joined (k.seen ++ g.between) more h.between (by k.thread Shut) (by k.thread Reopen)));
+      own = mine_append more h.between k.thread
+          ∙ (ap (λ l. l ++ mine h.between k.thread) swept
+          ∙ (ap (λ l. sweeping_acts cleared dropped used ++ l) none ∙ append-nil (sweeping_acts cleared dropped used)));
+    }
+
+-- the step that shuts the gate leaves the tables
+shut_tables : {k k1 : Known} (g : Goes k (Shut ∷ []) k1) → HaveSameTables (state (k.seen ++ g.between)) (state_of k1)
+shut_tables {k} g =
+    let is = ap state g.seen ∙ state_push (k.seen ++ g.between) (by k.thread Shut) in
+    record {
+      refs = ap (λ (s : State). s.refs) is;
+      given = ap (λ (s : State). s.given) is;
+      locals = ap (λ (s : State). s.locals) is;
+      objects = ap (λ (s : State). s.objects) is;
+      used = ap (λ (s : State). s.used) is;
+    }
+
+same_then : {r s t : State} → HaveSameTables r s → HaveSameTables s t → HaveSameTables r t
+same_then a b = record { refs = b.refs ∙ a.refs; given = b.given ∙ a.given; locals = b.locals ∙ a.locals; objects = b.objects ∙ a.objects; used = b.used ∙ a.used }
+
+same_back : {s t : State} → HaveSameTables s t → HaveSameTables t s
+same_back a = record { refs = sym a.refs; given = sym a.given; locals = sym a.locals; objects = sym a.objects; used = sym a.used }
+
+-- nothing that was to be cleared or dropped at the shut is left out
+whole_of : (marks : List Bool) (s : State) (k k' : Known) (cleared : List Handle) (dropped : List ℕ) → HaveSameTables s (state_of k) → IsMarkedNow marks k → AreCleared marks k' → (state_of k').objects ≡ (state_of k).objects
+    → IsExactlyToClear (state_of k) cleared → IsExactlyToDrop (state_of k') dropped → IsWhole s cleared dropped
+whole_of marks s k k' cleared dropped same marked cleared' objects c d = record {
+  clears = λ h z. c.all h (z.0, z.1, ap (λ (f : Handle → Found). f h) same.refs ∙ z.2, λ r. z.3 (reached_on (same_back same) z.1 r));
+  drops = λ o z. d.all o (
+    subst (λ (f : ℕ → Option Contents). IsSome (f o)) (sym (objects ∙ same.objects)) z.0,
+    λ r. z.1 (reached_on (same_back same) o ((marked.0 o).0 ((cleared'.marked.0 o).1 r))),
+  );
+}
+
+-- what may be known while it goes on
+module _ {S : Type 0} (facts : S → Facts) (a b : S) (marks : List Bool) where
+  pub may_clear : MayKnow facts a CanReopen → Saw facts a b CanReopen (λ j k. IsMarkedNow marks k) → MayKnow facts b (IsMarkedNow marks)
+  may_clear may p = ∥∥₁_map may (λ k. let x = p.leads k.0 k.1 k.2 in (x.0, x.1, x.3))
+
+  pub may_drop : {n : ℕ} → MayKnow facts a (IsMarkedNow marks) → ClearsUnreached facts marks a b n → MayKnow facts b (AreCleared marks)
+  may_drop may p = ∥∥₁_map may (λ k. let x = p.went.leads k.0 k.1 k.2 in (x.0, x.1, x.3.2))
+
+  pub may_move : {n : ℕ} → MayKnow facts a (AreCleared marks) → DropsUnreached facts marks a b n → MayKnow facts b (AreDropped marks)
+  may_move may p = ∥∥₁_map may (λ k. let x = p.went.leads k.0 k.1 k.2 in (x.0, x.1, x.3.1))
+
+  pub may_reopen : {used : ℕ} → MayKnow facts a (AreDropped marks) → ActedTo facts a b (Settle used ∷ []) (AreDropped marks) (AreCompacted used) → MayKnow facts b CanReopen
+  may_reopen {used} may p = ∥∥₁_map may (λ k. let x = p.leads k.0 k.1 k.2 in (x.0, x.1, can_reopen marks used k.0 x.0 k.2 x.3.0))
+
+module _ {S : Type 0} (facts : S → Facts) (fits : AreOf facts) (marks : List Bool) {a b c d e f z : S} {cleared_count dropped_count used : ℕ} (outside : (facts a).stands.role ≡ Outside)
+    (shut : Took facts a b (Shut ∷ []) anything (λ j k. IsClosedNow k × lets_go j k)) (marked : Saw facts b c CanReopen (λ j k. IsMarkedNow marks k)) (clear : ClearsUnreached facts marks c d cleared_count) (drop : DropsUnreached facts marks d e dropped_count)
+    (moved : ActedTo facts e f (Settle used ∷ []) (AreDropped marks) (AreCompacted used)) (opened : Took facts f z (Reopen ∷ []) CanReopen lets_go) where
+  stood : (facts f).stands ≡ standing_after (facts a).stands (Shut ∷ [])
+  stood = moved.stands_is ∙ ap (λ s. standing_after s (Settle used ∷ [])) (drop.went.stands_is ∙ (clear.went.stands_is ∙ (marked.stands_is ∙ shut.stands_is)))
+
+  -- A COLLECTION WAS MADE
+  pub makes : MakesCollection facts a z cleared_count dropped_count used
+  unfolding place_of
+  makes = record {
+    cleared = clear.cleared;
+    dropped = drop.dropped;
+    clears = clear.counted;
+    drops = drop.counted;
+    went = record {
+      stands_is = opened.stands_is ∙ (ap (λ s. standing_after s (Reopen ∷ [])) stood ∙ ap (λ r. record ((facts a).stands) { role = r }) (sym outside));
+      hint_is = opened.hint_is ∙ (moved.hint_is ∙ (drop.went.hint_is ∙ (clear.went.hint_is ∙ (marked.hint_is ∙ shut.hint_is))));
+      leads = λ k s m.
+          let acts = sweeping_acts clear.cleared drop.dropped used in
+          let k1 = shut.goes k s tt in
+          let k2 = marked.leads k1.0 k1.1 (k1.3.0, ap (λ (g : Holdings). g.moving) k1.3.1) in
+          let k3 = clear.went.leads k2.0 k2.1 k2.3 in
+          let k4 = drop.went.leads k3.0 k3.1 k3.3.2 in
+          let k5 = moved.leads k4.0 k4.1 k4.3.1 in
+          let k6 = opened.goes k5.0 k5.1 (can_reopen marks used k4.0 k5.0 k4.3.1 k5.3.0) in
+          let swept : Did (view k1.0) (view k5.0) acts = did_then [] acts (sees_did k2.2) (did_then (map Clear clear.cleared ++ map Drop drop.dropped) (Settle used ∷ []) (did_then (map Clear clear.cleared) (map Drop drop.dropped) k3.2 k4.2) k5.2) in
+          let first = goes_stepped k1.2 in
+          let last = goes_stepped k6.2 in
+          let role = ap (λ (s : Standing). s.role) shut.stands_is in
+          let same = same_then (shut_tables k1.2) (tables_seen k2.2 ((fits b k1.0 k1.1).role ∙ role)) in
+          let did : Did (view k) (view k6.0) (Shut ∷ acts ++ Reopen ∷ []) = did_then (Shut ∷ []) (acts ++ Reopen ∷ []) first.did (did_then acts (Reopen ∷ []) swept last.did) in (
+            k6.0,
+            k6.1,
+            record {
+              did = did;
+              place = place_of clear.cleared drop.dropped used k1.2 swept k6.2;
+              whole = whole_of marks (state (k.seen ++ k1.2.between)) k2.0 k3.0 clear.cleared drop.dropped same k2.3 k3.3.2 k3.3.1 k3.3.0 k4.3.0;
+            },
+            (k6.3, (k1.0.seen, window_stay Shut acts Reopen first first.behind swept last (stepped_last last))),
+          );
+    };
+  }

@@ -1,0 +1,25 @@
+//! Moving what is marked together.
+ghost use Rattle.std.specs.Prelude.{◌≡◌, [], ◌∷◌};
+ghost use Rattle.jr_model.specs.declared.event.Act.TheVariants.{Settle};
+ghost use Rattle.jr_model.specs.declared.event.Role.TheVariants.{Collecting};
+ghost use Rattle.jr_steps.specs.Knowing.{MayKnow};
+ghost use Rattle.jr_gate.specs.Acting.{ActedTo};
+ghost use Rattle.jr_compact.specs.Compacting.{AreCompacted};
+ghost use Rattle.jr_weak.specs.Markers.{room_of, marks_of};
+ghost use Rattle.jr_weak.specs.Sweeping.{AreDropped};
+
+use crate::marker::Marker;
+use jr_compact::compact;
+use jr_steps::Steps;
+
+impl Marker {
+    /// Moves all arrays together, once only marked objects are present, and sets how many words are used, which it answers.
+    pub fn compact<S: Steps>(&mut self, steps: &mut S) -> u32
+        requires role { (S.facts steps.old).stands.role ≡ Collecting }
+        requires dropped { MayKnow S.facts steps.old (AreDropped (marks_of self.old)) }
+        ensures room { room_of self.new ≡ room_of self.old }
+        ensures acts { ActedTo S.facts steps.old steps.new (Settle result ∷ []) (AreDropped (marks_of self.old)) (AreCompacted result) }
+    {
+        compact(steps, &self.found[..self.count], &mut self.noted)
+    }
+}
