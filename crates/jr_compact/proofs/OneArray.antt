@@ -154,9 +154,11 @@ module _ {S : Type 0} (facts : S → Facts) (fits : AreOf facts) where
       none_there : (x : Option Contents) → x ≡ None → IsSome x → ⊥
       none_there None e p = absurd cc
       none_there (Some x) e p = absurd cc
+
       long_some : (x : Option Contents) → 1 ≤ length_of x → IsSome x
       long_some None l = absurd (omega arith)
       long_some (Some x) l = refl
+
       is_there : (r : ℕ) → Contains (1 ∷ []) r → IsPresent (state_of k) r
       is_there r (zero, l, is) = subst (λ n. IsPresent (state_of k) n) is (long_some ((state_of k).objects 1) (let long = o.long in omega arith))
       is_there r (suc i, l, is) = absurd (omega arith)

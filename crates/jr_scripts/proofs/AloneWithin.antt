@@ -228,12 +228,12 @@ module _ (p : Place) (n : List ℕ) (i l : ℕ) (level : newest p.levels n ≡ S
   reading_by_level = bind_by (HasKindAt at_level) (kind_by at_level) (λ old mid k so d. kind_at at_level old mid k d) (λ k.
       choose_by (has_numbers (read_kind k)) (has_read_by k) (λ u is.
       then_by (stay_by 0 (λ c last t s. region_get c last t s (read_kind k) at_level i)
-          (λ c last t s f g acts answer one first r. get_acts c last t s (read_kind k) at_level i f g acts answer r)
-          (λ old new e so alone one first r.
-              let f = get_refused old.pass.config old.pass.last old.pass.thread (state new.pass.seen) (read_kind k) at_level i old.frames new.frames r.acts e r.is in
-              let same = same_state old.pass new.pass old.frames new.frames (region_get old.pass.config old.pass.last old.pass.thread (state new.pass.seen) (read_kind k) at_level i) (Err e) alone r f.none in
-              let why = read_refused k (read_kind k) (state old.pass.seen) (state new.pass.seen) e r.acts (read_as_it_is k u is) same so.0 so.1 so.2 f in
-              subst (IsReadingFault p n i (state new.pass.seen)) (sym why.0) why.1))
+      (λ c last t s f g acts answer one first r. get_acts c last t s (read_kind k) at_level i f g acts answer r)
+      (λ old new e so alone one first r.
+      let f = get_refused old.pass.config old.pass.last old.pass.thread (state new.pass.seen) (read_kind k) at_level i old.frames new.frames r.acts e r.is in
+      let same = same_state old.pass new.pass old.frames new.frames (region_get old.pass.config old.pass.last old.pass.thread (state new.pass.seen) (read_kind k) at_level i) (Err e) alone r f.none in
+      let why = read_refused k (read_kind k) (state old.pass.seen) (state new.pass.seen) e r.acts (read_as_it_is k u is) same so.0 so.1 so.2 f in
+      subst (IsReadingFault p n i (state new.pass.seen)) (sym why.0) why.1))
       (λ word. done_by _)))
 
   module _ (v : ℤ) where
@@ -258,14 +258,14 @@ module _ (p : Place) (n : List ℕ) (i l : ℕ) (level : newest p.levels n ≡ S
     write_refused : (k : Kind) (u : Unit {0}) → has_numbers k ≡ Ok u → (w : ℕ) (old new : Moment) (e : Fault) → HasKindAt at_level k old → IsAlone new.pass → Ran old.pass new.pass old.frames new.frames (region_set old.pass.config old.pass.last old.pass.thread (state new.pass.seen) k at_level i w) (Err e) → IsWritingFault p n i v (state new.pass.seen) e
     write_refused k u is w old new e so alone r = ⊎_elim
         (λ f.
-            let same = same_state old.pass new.pass old.frames new.frames work (Err e) alone r f.2 in
-            let one = same_contents (state new.pass.seen) (state old.pass.seen) at_level f.0 so.0 same f.1 so.1 in
-            let kind : f.0.kind ≡ k = ap (λ (z : Contents). z.kind) one ∙ so.2 in
-            absurd (let not = sym f.3 ∙ (ap is_text kind ∙ (read_as_itself k u is).1) in cc))
+        let same = same_state old.pass new.pass old.frames new.frames work (Err e) alone r f.2 in
+        let one = same_contents (state new.pass.seen) (state old.pass.seen) at_level f.0 so.0 same f.1 so.1 in
+        let kind : f.0.kind ≡ k = ap (λ (z : Contents). z.kind) one ∙ so.2 in
+        absurd (let not = sym f.3 ∙ (ap is_text kind ∙ (read_as_itself k u is).1) in cc))
         (λ f.
-            let same = same_state old.pass new.pass old.frames new.frames work (Err e) alone r f.none in
-            let why = read_refused k k (state old.pass.seen) (state new.pass.seen) e r.acts (read_as_itself k u is).0 same so.0 so.1 so.2 f in
-            subst (IsWritingFault p n i v (state new.pass.seen)) (sym why.0) why.1)
+        let same = same_state old.pass new.pass old.frames new.frames work (Err e) alone r f.none in
+        let why = read_refused k k (state old.pass.seen) (state new.pass.seen) e r.acts (read_as_itself k u is).0 same so.0 so.1 so.2 f in
+        subst (IsWritingFault p n i v (state new.pass.seen)) (sym why.0) why.1)
         (set_refused old.pass.config old.pass.last old.pass.thread (state new.pass.seen) k at_level i w old.frames new.frames r.acts e r.is)
       where
         work : Call (Unit {0})
@@ -276,8 +276,8 @@ module _ (p : Place) (n : List ℕ) (i l : ℕ) (level : newest p.levels n ≡ S
         choose_by (has_numbers k) (has_written_by k) (λ u is.
         choose_by (word_of_number k v) (word_by k (are_numbers k is)) (λ w fits.
         then_by (stay_by 0 (λ c last t s. region_set c last t s k at_level i w)
-            (λ c last t s f g acts answer one first r. set_acts c last t s k at_level i w f g acts answer r)
-            (λ old new e so alone one first r. write_refused k u is w old new e so alone r))
+        (λ c last t s f g acts answer one first r. set_acts c last t s k at_level i w f g acts answer r)
+        (λ old new e so alone one first r. write_refused k u is w old new e so alone r))
         (λ x. done_by _))))
 
 no_level : (P : State → Fault → Type 0) (m : Option ℕ) → ((s : State) → m ≡ None → P s Stale) → (s : State) → IfErr (level_wanted m) (P s)

@@ -69,13 +69,17 @@ module _ {S : Type 0} {facts : S → Facts} where
       stands_is = outside_again outside (role_then (facts old).stands (facts now).stands (facts last).stands (role_with region) Outside d.stands_is e.stands_is);
       explained = λ k s m.
           let x = d.explained k s m in
-          let y = e.did x.0 x.1 x.2 in
-          (y.0, y.1, y.2, record {
-            place = place_with names region;
-            done = moment (facts now).stands.fresh x.0 g;
-            explains = subst (λ cs. Explains turns first (moment (facts old).stands.fresh k f) cs d.text (moment (facts now).stands.fresh x.0 g) (place_with names region)) (take_all i commands all) x.3;
-            ended = y.3;
-          });
+          let y = e.did x.0 x.1 x.2 in (
+            y.0,
+            y.1,
+            y.2,
+            record {
+              place = place_with names region;
+              done = moment (facts now).stands.fresh x.0 g;
+              explains = subst (λ cs. Explains turns first (moment (facts old).stands.fresh k f) cs d.text (moment (facts now).stands.fresh x.0 g) (place_with names region)) (take_all i commands all) x.3;
+              ended = y.3;
+            },
+          );
     },
   )
 
@@ -126,8 +130,8 @@ module _ {S : Type 0} {facts : S → Facts} where
                   (
                     refl,
                     unwritten (take i commands) c (drop (suc i) commands) (moment (facts mid).stands.fresh x.0 g) (moment (facts new).stands.fresh y.0 h) (place_with names region) answer
-                    (sym (take-append-drop (suc i) commands) ∙ (ap (λ cs. cs ++ drop (suc i) commands) (done_so_far commands i c small is) ∙ append_assoc (take i commands) (c ∷ []) (drop (suc i) commands))) x.3 y.3
-                    (subst (λ os. giving_up_all os (moment (facts new).stands.fresh y.0 h) (Ok tt) (moment (facts last).stands.fresh z.0 j)) objects z.3),
+                        (sym (take-append-drop (suc i) commands) ∙ (ap (λ cs. cs ++ drop (suc i) commands) (done_so_far commands i c small is) ∙ append_assoc (take i commands) (c ∷ []) (drop (suc i) commands))) x.3 y.3
+                        (subst (λ os. giving_up_all os (moment (facts new).stands.fresh y.0 h) (Ok tt) (moment (facts last).stands.fresh z.0 j)) objects z.3),
                   ),
                 );
           },

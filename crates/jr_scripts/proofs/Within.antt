@@ -184,11 +184,11 @@ module _ {S : Type 0} (facts : S → Facts) (fits : AreOf facts) where
   did_open {a} {b} {f} verb u word answer which same made =
       let o : Opens facts a b f word (opens verb) answer = subst (λ x. Opens facts a b f word (opens x) answer) (sym which) made in
       subst (λ h. CarriedOut facts a b f h (role_opened answer) (Holds f) (KnowsOpened answer h) (opening_by verb word) (object_opened answer)) (sym same) (record {
-    stands_is = o.2.stands_is;
-    did = λ k s m.
-        let x = o.2.ran k s m in
-        (x.0, x.1, held answer k x.0 x.3, (o.0, o.1, own_call (λ c last t s. opens verb c last t s o.0) k x.0 s x.2, gone answer k x.0 x.3));
-  })
+        stands_is = o.2.stands_is;
+        did = λ k s m.
+            let x = o.2.ran k s m in
+            (x.0, x.1, held answer k x.0 x.3, (o.0, o.1, own_call (λ c last t s. opens verb c last t s o.0) k x.0 s x.2, gone answer k x.0 x.3));
+      })
     where
       held : (r : Result Levels Fault) (j k : Known) → LearnsFirst r j k × Holds f k → KnowsOpened r f k
       held (Ok v) j k x = (x.0.0, x.1)

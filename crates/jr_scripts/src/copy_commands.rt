@@ -53,12 +53,7 @@ fn get(names: &Names, name: &Name, index: u32) -> Result<Reply, Fault>
 }
 
 /// The number at an index of the buffer that a name stands for, where that is what the verb asks for: E19 where it asks for a level's.
-pub(crate) fn get_by(
-    names: &Names,
-    verb: OnNameAt,
-    name: &Name,
-    index: u32,
-) -> Result<Reply, Fault>
+pub(crate) fn get_by(names: &Names, verb: OnNameAt, name: &Name, index: u32) -> Result<Reply, Fault>
     ensures { result ≡ got_by verb (answer_in (λ x. replies.Value x) (getting index (standing_at names.now name.now))) }
 {
     match verb {

@@ -6,12 +6,12 @@ ghost use Rattle.jr_env.specs.Envs.{IsOutside};
 ghost use Rattle.jr_scripts.specs.Text.{sets, names_set, standing_made as made_to_stand};
 ghost use Rattle.jr_scripts.specs.Runs.{RanThread, WritesDown};
 
+use crate::advance::{Left, advance};
 use crate::board::Board;
 use crate::hold::Hold;
 use crate::names::Names;
-use crate::advance::{Left, advance};
-use crate::region_commands::end;
 use crate::printed::printed;
+use crate::region_commands::end;
 use crate::reply::Reply;
 use crate::standing::Standing;
 use jr_env::Env;
@@ -111,7 +111,10 @@ pub fn run_thread<S: Steps, B: Board, H: Hold>(
         hold.before(env.held.steps.thread(), line);
         let left = advance(alloc, env, &mut names, region, board, turns, command);
         hold.after(env.held.steps.thread(), line);
-        let Left { region: stands, answer } = left;
+        let Left {
+            region: stands,
+            answer,
+        } = left;
         region = stands;
         let Ok(()) = record(alloc, &mut names, line, command, answer, out) else {
             end(env, region);
