@@ -1,22 +1,21 @@
 use super::*;
-use jr_word::Fault;
-use std::alloc::Global;
+use std::test::Fail;
 
 #[test]
-fn a_marker_of_no_objects() -> Result<(), Fault> {
-    let marker = Marker::new(Global, 0)?;
-    assert_eq!(marker.found().len(), 0);
-    assert!(!marker.is_marked(0));
-    assert!(!marker.is_marked(1));
+fn a_marker_of_no_objects(rt: HostRuntime) -> Result<(), Fail> {
+    let marker = Marker::new(rt.alloc(), 0)?;
+    assert_eq!(rt; marker.found().len(), 0);
+    assert!(rt; !marker.is_marked(0));
+    assert!(rt; !marker.is_marked(1));
     Ok(())
 }
 
 #[test]
-fn a_marker_of_60_000_objects() -> Result<(), Fault> {
-    let marker = Marker::new(Global, 60_000)?;
-    assert_eq!(marker.found().len(), 0);
-    assert!(!marker.is_marked(1));
-    assert!(!marker.is_marked(60_000));
-    assert!(!marker.is_marked(60_001));
+fn a_marker_of_60_000_objects(rt: HostRuntime) -> Result<(), Fail> {
+    let marker = Marker::new(rt.alloc(), 60_000)?;
+    assert_eq!(rt; marker.found().len(), 0);
+    assert!(rt; !marker.is_marked(1));
+    assert!(rt; !marker.is_marked(60_000));
+    assert!(rt; !marker.is_marked(60_001));
     Ok(())
 }

@@ -10,7 +10,7 @@ invariant_of-result c =
     let fits : c.args.objects ≤ 65535 = let f = c.ranges.objects.fits in omega arith in
     record { queue = queue_empty c.in_ok-marked.marked.items (c.args.objects + 1) c.in_ok-found.found.items is (omega arith); same_room = omega arith; few = omega arith }
 
-pub returns-clause-none : goal.returns-then-none
+pub returns-clause-none : goal.returns-clause-none
 returns-clause-none c =
     let is : c.in_ok-marked.marked.items ≡ replicate (c.args.objects + 1) false = search rules in
     empty_marks c.in_ok-marked.marked.items (c.args.objects + 1) is
