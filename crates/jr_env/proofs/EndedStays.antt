@@ -33,4 +33,5 @@ module _ {S : Type 0} {facts : S → Facts} where
         frames = refl;
         ready = record { role_is = ap (λ (s : Standing). s.role) l.stands_is; spent = ap (λ (s : Standing). s.fresh) l.stands_is ∙ can.spent; own = own_stepped Leave refl own l };
         thread = ap (λ (s : Standing). s.thread) l.stands_is;
+        config = ap (λ (s : Standing). s.config) l.stands_is;
       }

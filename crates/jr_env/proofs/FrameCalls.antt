@@ -63,7 +63,7 @@ module _ {S : Type 0} {facts : S → Facts} where
   })
 
   -- a deed, once a stay that was left has been ended
-  does_from : {o a b : S} {r t : Table} {g : Frames} {A : Type 0} {deed : Deed A} {answer : Result A Fault} → EndsStay facts o a r t → DoesDeed facts a b t.frames g deed answer → DoesOutside facts o b r.frames g deed answer
+  pub does_from : {o a b : S} {r t : Table} {g : Frames} {A : Type 0} {deed : Deed A} {answer : Result A Fault} → EndsStay facts o a r t → DoesDeed facts a b t.frames g deed answer → DoesOutside facts o b r.frames g deed answer
   does_from {o} {a} {b} {r} {t} {g} {deed = deed} {answer = answer} e d = record {
     does = λ out. subst (λ (m : S). DoesDeed facts m b r.frames g deed answer) (e.same out) (subst (λ (x : Table). DoesDeed facts a b x.frames g deed answer) e.frames d);
     outside = d.stands_is.role ∙ e.ready.role_is;

@@ -14,3 +14,4 @@ pub mod ArrayParts
 pub mod ElementWriting
 pub mod WholeCopies
 pub mod ReleasedElements
+pub mod WholeCollections

@@ -6,3 +6,4 @@ pub mod Works
 pub mod Regions
 pub mod Copies
 pub mod Criticals
+pub mod Collections

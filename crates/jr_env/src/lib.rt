@@ -2,6 +2,7 @@
 #![tactic(auto)]
 
 mod calls;
+mod collecting;
 mod copies;
 mod copy_calls;
 mod critical_calls;

@@ -1,0 +1,29 @@
+//! A collection as a call of an env.
+use crate::env::Env;
+use crate::work::outside;
+use jr_steps::Steps;
+use jr_weak::{Collected, Marker, collect};
+use jr_word::Fault;
+
+impl<S: Steps> Env<S> {
+    ghost use Rattle.std.specs.Prelude.{◌≡◌, IsOk};
+    ghost use Rattle.jr_weak.specs.Markers.{room_of};
+    ghost use Rattle.jr_env.specs.Collections.{collection};
+    ghost use Rattle.jr_env.specs.Envs.{Does, IsOutside};
+
+    /// Collects: clears each weak reference to an object that is not reached, drops each such object, moves all arrays together, and tells how many it cleared and dropped, and how many words are used then. What is reached keeps its kind and elements, and every handle stands for what it stood for. No thread comes in meanwhile. It takes no memory and never waits; the marker, made for a room of so many objects, serves again.
+    ///
+    /// # Errors
+    ///
+    /// E14 alone, with how many threads were inside, knocking or collecting at its one step, at least 1; then nothing has changed. Over one thread it is never refused.
+    pub fn collect(&mut self, marker: &mut Marker) -> Result<Collected, Fault>
+        requires { room_of marker.old ≡ (S.facts self.old.held.steps).stands.config.objects }
+        ensures call { Does self.old self.new collection result }
+        ensures room { room_of marker.new ≡ room_of marker.old }
+        ensures alone { (S.facts self.old.held.steps).stands.config.threads ≡ 1 → IsOk result }
+    {
+        let held = &mut self.held;
+        outside(held);
+        collect(&mut held.steps, marker)
+    }
+}
