@@ -1,21 +1,23 @@
 //! Making a marker, and reading it.
-ghost use Rattle.std.specs.Prelude.{◌≡◌, ◌↔◌, IsTrue, ℕ, nat_eq, IfOk, IfErr, Contains};
+ghost use Rattle.std.specs.Prelude.{◌≡◌, ◌↔◌, ◌⊎◌, ◌≤◌, IsTrue, ℕ, false, nat_eq, Err, IfOk, IfErr, Contains};
 ghost use Rattle.std.specs.List.{IsDistinct};
-ghost use Rattle.jr_word.specs.declared.fault.Fault.TheVariants.{Memory};
+ghost use Rattle.jr_word.specs.declared.fault.Fault.TheVariants.{Memory, Size};
+ghost use Rattle.jr_word.specs.Config.{in_limits};
 ghost use Rattle.jr_weak.specs.Marks.{IsMarked};
 ghost use Rattle.jr_weak.specs.Markers.{room_of, marks_of};
 
 use crate::marker::Marker;
 use jr_compact::PlacedObject;
-use jr_word::Fault;
+use jr_word::{Config, Fault};
 use std::alloc::{AllocError, Global};
 
 /// A marker in which nothing is marked.
-fn unmarked(alloc: Global, objects: u16) -> Result<Marker, AllocError>
+fn unmarked(alloc: Global, objects: u32) -> Result<Marker, AllocError>
+    requires { objects ≤ 65535 }
     ensures room { IfOk result (λ m. room_of m ≡ objects) }
     ensures none { IfOk result (λ m. (o : ℕ) → ¬ (IsMarked (marks_of m) o)) }
 {
-    let room = usize::from(objects);
+    let room = objects as usize;
     let marked = vec![in alloc; false; room + 1]?;
     let found = vec![in alloc; 0u16; room]?;
     let noted = vec![in alloc; PlacedObject::UNUSED; room]?;
@@ -28,17 +30,21 @@ fn unmarked(alloc: Global, objects: u16) -> Result<Marker, AllocError>
 }
 
 impl Marker {
-    /// A marker for a room of so many objects, in which nothing is marked. It takes all the memory that a collection needs.
+    /// A marker for a room of these sizes, in which nothing is marked. It takes all the memory that a collection needs.
     ///
     /// # Errors
     ///
-    /// E16 where that memory was refused.
-    pub fn new(alloc: Global, objects: u16) -> Result<Self, Fault>
-        ensures room { IfOk result (λ m. room_of m ≡ objects) }
+    /// E17 exactly where the sizes are beyond their limits, so that there is no such room, and E16 where the memory was refused.
+    pub fn new(alloc: Global, config: Config) -> Result<Self, Fault>
+        ensures size { (result ≡ Err Size) ↔ (in_limits config ≡ false) }
+        ensures memory { IfErr result (λ e. (e ≡ Size) ⊎ (e ≡ Memory)) }
+        ensures room { IfOk result (λ m. room_of m ≡ config.objects) }
         ensures none { IfOk result (λ m. (o : ℕ) → ¬ (IsMarked (marks_of m) o)) }
-        ensures err { IfErr result (λ e. e ≡ Memory) }
     {
-        unmarked(alloc, objects).map_err(|_| Fault::Memory)
+        if !config.in_limits() {
+            return Err(Fault::Size);
+        }
+        unmarked(alloc, config.objects).map_err(|_| Fault::Memory)
     }
 
     /// Takes all marks away.

@@ -1,0 +1,63 @@
+//! Chains of as many arrays as there may be, each of which names the one before, followed without recursion.
+
+use crate::envs::{collected, global, lone_env, sized, weak};
+use jr_env::Env;
+use jr_steps::Steps;
+use jr_word::Handle;
+use std::process::Abort;
+use std::test::Fail;
+
+/// How many arrays a chain has.
+const LINKS: u32 = 60_000;
+
+/// The last of a chain of arrays of one element, each of which names the one before, from the first one on.
+fn chain<S: Steps>(env: &mut Env<S>, first: Handle, links: u32) -> Result<Handle, Fail> {
+    let mut last = first;
+    for _ in 1..links {
+        let next = env.new_object_array(1, last)?;
+        env.delete_local_ref(last)?;
+        last = next;
+    }
+    Ok(last)
+}
+
+/// Lets the first of a chain name the last, so that each is reached from each.
+fn close<S: Steps>(
+    rt: &impl Abort,
+    env: &mut Env<S>,
+    first: Handle,
+    last: Handle,
+) -> Result<(), Fail> {
+    env.set_object_array_element(first, 0, last)?;
+    env.delete_local_ref(last)?;
+    let found = env.get_object_array_element(first, 0)?;
+    assert!(rt; found.is_some());
+    env.delete_local_ref(found.unwrap_or(Handle::NULL))?;
+    Ok(())
+}
+
+#[test]
+fn a_chain_is_reached_from_its_last(rt: HostRuntime) -> Result<(), Fail> {
+    let mut env = lone_env(rt.alloc(), sized(LINKS, LINKS))?;
+    let first = env.new_object_array(1, Handle::NULL)?;
+    let last = chain(&mut env, first, LINKS)?;
+    assert_eq!(rt; collected(rt.alloc(), &mut env), Ok([0, 0, 60_000]));
+    env.delete_local_ref(last)?;
+    assert_eq!(rt; collected(rt.alloc(), &mut env), Ok([0, 60_000, 0]));
+    Ok(())
+}
+
+#[test]
+fn a_cycle_is_reached_from_any_and_else_dropped(rt: HostRuntime) -> Result<(), Fail> {
+    let mut env = lone_env(rt.alloc(), sized(LINKS, LINKS))?;
+    let first = env.new_object_array(1, Handle::NULL)?;
+    let kept = global(&mut env, first)?;
+    let word = weak(&mut env, first)?;
+    let last = chain(&mut env, first, LINKS)?;
+    close(&rt, &mut env, kept, last)?;
+    assert_eq!(rt; collected(rt.alloc(), &mut env), Ok([0, 0, 60_000]));
+    env.delete_global_ref(kept)?;
+    assert_eq!(rt; collected(rt.alloc(), &mut env), Ok([1, 60_000, 0]));
+    assert_eq!(rt; env.get_object_ref_type(word)?, 3);
+    Ok(())
+}
