@@ -9,13 +9,13 @@ use Rattle.std.proofs.lemmas.Bool.{and_parts, and_from, eqb-true, leb-true, fals
 use Rattle.std.proofs.lemmas.List.{length-map}
 use Rattle.std.proofs.lemmas.Slice.Eq.{bytes_eq-Decides}
 use Rattle.jr_syntax.specs.declared.verb.Verb.{Verb}
-use Rattle.jr_syntax.specs.declared.verb.Verb.TheVariants.{Make, MakeFrom, On, OnBoth, OnName, WithCount, MakeSized, MakeFilled, MakeText, MakeAt, OnAt, SetAt, StoreAt, OnNameAt, PutAt, Release, OpenLevel, CloseLevel}
+use Rattle.jr_syntax.specs.declared.verb.Verb.TheVariants.{Make, MakeFrom, On, OnBoth, OnName, WithCount, MakeSized, MakeFilled, MakeText, MakeAt, OnAt, SetAt, StoreAt, OnNameAt, PutAt, Release, OpenLevel, CloseLevel, OfRoom}
 use Rattle.jr_syntax.specs.declared.command.Command.{Command}
 use Rattle.jr_syntax.specs.declared.name.Reference.TheVariants.{Null, Named}
 use Rattle.jr_syntax.specs.Name.{is_name}
 use Rattle.jr_syntax.specs.Number.{is_number, number_of_digits}
 use Rattle.jr_syntax.specs.Line.{word_at}
-use Rattle.jr_syntax.specs.Kind.{Kind, WordKind, Arguments, name, one, two, three, up_to, before}
+use Rattle.jr_syntax.specs.Kind.{Kind, WordKind, Arguments, name, nothing, one, two, three, up_to, before}
 use Rattle.jr_syntax.specs.Reference.{reference, reference_word, is_good_reference}
 use Rattle.jr_syntax.specs.Count.{number_at_most, most_count, count}
 use Rattle.jr_syntax.specs.Units.{most_units, unit, units}
@@ -90,6 +90,13 @@ words_2 (a ∷ b ∷ []) e = refl
 words_2 [] e = absurd (omega arith)
 words_2 (a ∷ []) e = absurd (omega arith)
 words_2 (a ∷ b ∷ c ∷ ws) e = absurd (omega arith)
+
+words_0 : (ws : List (List ℕ)) → length ws ≡ 0 → [] ≡ ws
+words_0 [] e = refl
+words_0 (a ∷ ws) e = absurd (omega arith)
+
+nothing_takes : Takes nothing
+nothing_takes = record { back = λ ws f r. words_0 ws (eqb-true _ _ f); good = λ ws f r. refl }
 
 one_takes : {X : Type 0} (k : WordKind X) → Takes k → Takes (one k)
 one_takes k t = record {
@@ -210,6 +217,7 @@ command_takes (PutAt v) = by _ (three_takes name count value name_takes count_ta
 command_takes (Release v) = by _ (three_takes name reference mode name_takes reference_takes mode_takes) _
 command_takes (OpenLevel v) = by _ (two_takes name reference name_takes reference_takes) _
 command_takes (CloseLevel v) = by _ (one_takes mode mode_takes) _
+command_takes (OfRoom v) = by _ nothing_takes _
 
 -- ---- lines
 

@@ -9,7 +9,7 @@ use Rattle.std.proofs.lemmas.Bool.{and_parts, and_from, leb-true, le-leb, eq-eqb
 use Rattle.std.proofs.lemmas.List.{length-map}
 use Rattle.jr_word.specs.Config.{is_between}
 use Rattle.jr_syntax.specs.declared.verb.Verb.{Verb}
-use Rattle.jr_syntax.specs.declared.verb.Verb.TheVariants.{Make, MakeFrom, On, OnBoth, OnName, WithCount, MakeSized, MakeFilled, MakeText, MakeAt, OnAt, SetAt, StoreAt, OnNameAt, PutAt, Release, OpenLevel, CloseLevel}
+use Rattle.jr_syntax.specs.declared.verb.Verb.TheVariants.{Make, MakeFrom, On, OnBoth, OnName, WithCount, MakeSized, MakeFilled, MakeText, MakeAt, OnAt, SetAt, StoreAt, OnNameAt, PutAt, Release, OpenLevel, CloseLevel, OfRoom}
 use Rattle.jr_syntax.specs.declared.verb.Make.TheVariants.{Plain, Wait}
 use Rattle.jr_syntax.specs.declared.verb.MakeFrom.TheVariants.{Global, Weak, Local, Pop, Elements}
 use Rattle.jr_syntax.specs.declared.verb.On.TheVariants as on
@@ -28,6 +28,7 @@ use Rattle.jr_syntax.specs.declared.verb.PutAt.TheVariants.{Put, PutInLevel}
 use Rattle.jr_syntax.specs.declared.verb.Release.TheVariants as releases
 use Rattle.jr_syntax.specs.declared.verb.OpenLevel.TheVariants as opens
 use Rattle.jr_syntax.specs.declared.verb.CloseLevel.TheVariants.{Newest}
+use Rattle.jr_syntax.specs.declared.verb.OfRoom.TheVariants.{Collect}
 use Rattle.jr_syntax.specs.declared.command.Command.{Command}
 use Rattle.jr_syntax.specs.declared.command.Command.TheVariants as commands
 use Rattle.jr_syntax.specs.declared.name.Reference.{Reference}
@@ -35,7 +36,7 @@ use Rattle.jr_syntax.specs.declared.name.Reference.TheVariants.{Null, Named}
 use Rattle.jr_syntax.specs.Name.{is_name, is_name_byte, is_digit, is_reference}
 use Rattle.jr_syntax.specs.Number.{all_digits, number_of_digits}
 use Rattle.jr_syntax.specs.Line.{line, words_of}
-use Rattle.jr_syntax.specs.Kind.{WordKind, Arguments, name, one, two, three, up_to, before}
+use Rattle.jr_syntax.specs.Kind.{WordKind, Arguments, name, nothing, one, two, three, up_to, before}
 use Rattle.jr_syntax.specs.Reference.{reference, reference_word, reference_at, is_good_reference}
 use Rattle.jr_syntax.specs.Count.{number_at_most, most_count, count}
 use Rattle.jr_syntax.specs.Units.{most_units, unit, units}
@@ -162,6 +163,9 @@ record Again {X : Type 0} (a : Arguments X) : Type 0 where
   form : (x : X) → a.is_good x ≡ true → a.has_form (a.spell x) ≡ true
   range : (x : X) → a.is_good x ≡ true → a.in_range (a.spell x) ≡ true
   back : (x : X) → a.is_good x ≡ true → a.value (a.spell x) ≡ x
+
+nothing_again : Again nothing
+nothing_again = record { solid = λ x g. refl; form = λ x g. refl; range = λ x g. refl; back = λ x g. refl }
 
 one_again : {X : Type 0} (k : WordKind X) → AgainWord k → Again (one k)
 one_again k t = record {
@@ -299,6 +303,7 @@ verb_again (Release releases.Elements) = refl
 verb_again (OpenLevel opens.Array) = refl
 verb_again (OpenLevel opens.Text) = refl
 verb_again (CloseLevel Newest) = refl
+verb_again (OfRoom Collect) = refl
 
 -- the word of a verb can be told from spaces, and from a thread line's
 abbrev can_begin : Verb → Bool
@@ -357,3 +362,4 @@ command_again (commands.PutAt v n i x) g = by _ (three_again name count value na
 command_again (commands.Release v n r m) g = by _ (three_again name reference mode name_again reference_again mode_again) (Release v) (λ x. commands.Release v x.0 x.1 x.2) (λ _. refl) (λ _. refl) (λ _. refl) (n, r, m) g
 command_again (commands.OpenLevel v n r) g = by _ (two_again name reference name_again reference_again) (OpenLevel v) (λ x. commands.OpenLevel v x.0 x.1) (λ _. refl) (λ _. refl) (λ _. refl) (n, r) g
 command_again (commands.CloseLevel v m) g = by _ (one_again mode mode_again) (CloseLevel v) (λ x. commands.CloseLevel v x) (λ _. refl) (λ _. refl) (λ _. refl) m g
+command_again (commands.OfRoom v) g = by _ nothing_again (OfRoom v) (λ x. commands.OfRoom v) (λ _. refl) (λ _. refl) (λ _. refl) tt g

@@ -36,6 +36,16 @@ Arguments X = Kind (List (List ℕ)) X
 abbrev pub name : WordKind (List ℕ)
 name = record { has_form = is_name; in_range = λ _. true; value = λ w. w; spell = λ n. n; is_good = is_name }
 
+-- no argument
+abbrev pub nothing : Arguments (Unit {0})
+nothing = record {
+  has_form = λ ws. length ws == 0;
+  in_range = λ ws. true;
+  value = λ ws. tt;
+  spell = λ _. [];
+  is_good = λ _. true;
+}
+
 -- one argument
 abbrev pub one : {X : Type 0} → WordKind X → Arguments X
 one k = record {

@@ -1,7 +1,7 @@
 //! The arguments of a command, each one word.
 
 ghost use Rattle.std.specs.Prelude.{◌≡◌, ◌∷◌, ◌++◌, true, OnOk};
-ghost use Rattle.jr_syntax.specs.Kind.{WordKind, reading, ReadsWord, Reads, one as one_of, two as two_of, three as three_of, name};
+ghost use Rattle.jr_syntax.specs.Kind.{WordKind, reading, ReadsWord, Reads, nothing, one as one_of, two as two_of, three as three_of, name};
 ghost use Rattle.jr_syntax.specs.Line.{line};
 ghost use Rattle.jr_syntax.specs.Reference.{reference};
 ghost use Rattle.jr_syntax.specs.Count.{count};
@@ -160,6 +160,16 @@ impl Argument for Mode {
     }
 }
 
+/// Reads words that are no argument.
+pub fn none(mut words: Words) -> Result<(), LineError>
+    ensures { Reads (reading nothing) words.entry result }
+{
+    if words.next().is_some() {
+        return Err(LineError::Form);
+    }
+    Ok(())
+}
+
 /// Reads words that are one argument.
 pub fn one<A: Argument>(mut words: Words) -> Result<A, LineError>
     ensures { Reads (reading (one_of A.kind)) words.entry result }
@@ -209,6 +219,14 @@ pub fn three<A: Argument, B: Argument, C: Argument>(
         return Err(LineError::Range);
     };
     Ok((a, b, c))
+}
+
+/// Writes a word with no argument behind it.
+pub fn put_none(out: &mut Vec<u8>, word: &[u8]) -> Result<(), AllocError>
+    ensures { OnOk result (out.new.items ≡ out.old.items ++ line (word.now ∷ nothing.spell tt)) }
+{
+    out.extend_from_slice(word)?;
+    Ok(())
 }
 
 /// Writes a word and one argument behind it.

@@ -7,13 +7,13 @@ ghost use Rattle.jr_syntax.specs.declared.verb.Verb.TheVariants as with;
 ghost use Rattle.jr_syntax.specs.Command.{behind_verb, spelling_of, words_of_command, ReadsLine};
 ghost use Rattle.jr_syntax.specs.Printing.{has_three_arguments, arguments_of};
 
-use crate::argument::{LineError, one, put_one, put_three, put_two, three, two};
+use crate::argument::{LineError, none, one, put_none, put_one, put_three, put_two, three, two};
 use crate::name::{Name, Reference};
 use crate::text::{named_units, put_named_units};
 use crate::units::Units;
 use crate::verb::{
-    CloseLevel, Make, MakeAt, MakeFilled, MakeFrom, MakeSized, MakeText, On, OnAt, OnBoth, OnName,
-    OnNameAt, OpenLevel, PutAt, Release, SetAt, StoreAt, Verb, WithCount,
+    CloseLevel, Make, MakeAt, MakeFilled, MakeFrom, MakeSized, MakeText, OfRoom, On, OnAt, OnBoth,
+    OnName, OnNameAt, OpenLevel, PutAt, Release, SetAt, StoreAt, Verb, WithCount,
 };
 use crate::word::Words;
 use jr_model::Mode;
@@ -131,6 +131,10 @@ pub enum Command {
         verb: CloseLevel,
         mode: Mode,
     },
+    /// `VERB`: is about the room as a whole.
+    OfRoom {
+        verb: OfRoom,
+    },
 }
 
 impl Command {
@@ -176,6 +180,7 @@ impl Command {
             Verb::Release(verb) => Command::read_release(verb, words),
             Verb::OpenLevel(verb) => Command::read_opening(verb, words),
             Verb::CloseLevel(verb) => Command::read_closing(verb, words),
+            Verb::OfRoom(verb) => Command::read_of_room(verb, words),
         }
     }
 
@@ -309,6 +314,14 @@ impl Command {
         Ok(Command::CloseLevel { verb, mode })
     }
 
+    #[tactic(auto, unfolding(crate::specs::Command::behind_verb))]
+    fn read_of_room(verb: OfRoom, words: Words) -> Result<Command, LineError>
+        ensures { Reads (behind_verb (with.OfRoom verb)) words.entry result }
+    {
+        none(words)?;
+        Ok(Command::OfRoom { verb })
+    }
+
     /// Its verb.
     #[tactic(auto, unfolding(crate::specs::Command::spelling_of))]
     fn verb(&self) -> Verb
@@ -333,6 +346,7 @@ impl Command {
             Command::Release { verb, .. } => Verb::Release(*verb),
             Command::OpenLevel { verb, .. } => Verb::OpenLevel(*verb),
             Command::CloseLevel { verb, .. } => Verb::CloseLevel(*verb),
+            Command::OfRoom { verb } => Verb::OfRoom(*verb),
         }
     }
 
@@ -355,6 +369,7 @@ impl Command {
             Command::OnNameAt { name, index, .. } => put_two(out, word, name, index),
             Command::OpenLevel { name, target, .. } => put_two(out, word, name, target),
             Command::CloseLevel { mode, .. } => put_one(out, word, mode),
+            Command::OfRoom { .. } => put_none(out, word),
             Command::MakeFilled { .. }
             | Command::MakeAt { .. }
             | Command::SetAt { .. }

@@ -37,7 +37,7 @@ pub use sequence::Sequence;
 pub use thread::ThreadPart;
 pub use units::Units;
 pub use verb::{
-    CloseLevel, Make, MakeAt, MakeFilled, MakeFrom, MakeSized, MakeText, On, OnAt, OnBoth, OnName,
-    OnNameAt, OpenLevel, PutAt, Release, SetAt, StoreAt, Verb, WithCount,
+    CloseLevel, Make, MakeAt, MakeFilled, MakeFrom, MakeSized, MakeText, OfRoom, On, OnAt, OnBoth,
+    OnName, OnNameAt, OpenLevel, PutAt, Release, SetAt, StoreAt, Verb, WithCount,
 };
 pub use writer::print;

@@ -165,6 +165,13 @@ pub enum CloseLevel {
     Newest,
 }
 
+/// A verb with nothing behind it: it is about the room as a whole.
+#[derive(Clone, Copy, Debug, PartialEq, Eq)]
+pub enum OfRoom {
+    /// `gc`: collects.
+    Collect,
+}
+
 /// A verb of any shape.
 #[derive(Clone, Copy)]
 pub enum Verb {
@@ -204,9 +211,11 @@ pub enum Verb {
     OpenLevel(OpenLevel),
     /// With a mode.
     CloseLevel(CloseLevel),
+    /// With nothing behind it.
+    OfRoom(OfRoom),
 }
 
-const VERBS: [Verb; 36] = [
+const VERBS: [Verb; 37] = [
     Verb::Make(Make::Plain),
     Verb::Make(Make::Wait),
     Verb::MakeFrom(MakeFrom::Global),
@@ -243,6 +252,7 @@ const VERBS: [Verb; 36] = [
     Verb::OpenLevel(OpenLevel::Array),
     Verb::OpenLevel(OpenLevel::Text),
     Verb::CloseLevel(CloseLevel::Newest),
+    Verb::OfRoom(OfRoom::Collect),
 ];
 
 impl Verb {
@@ -287,6 +297,7 @@ impl Verb {
             Verb::OpenLevel(OpenLevel::Array) => b"crit",
             Verb::OpenLevel(OpenLevel::Text) => b"critstr",
             Verb::CloseLevel(CloseLevel::Newest) => b"endcrit",
+            Verb::OfRoom(OfRoom::Collect) => b"gc",
         }
     }
 
