@@ -11,6 +11,7 @@ use Rattle.jr_model.specs.State.{Handle}
 use Rattle.jr_model.specs.CollectionCalls.{collection_acts, sweeping_acts}
 use Rattle.jr_model.specs.Refusals.{Grounds}
 use Rattle.jr_model.proofs.Agreement.{spares_places}
+use Rattle.jr_model.proofs.Exactly.{append_all}
 use Rattle.jr_model.proofs.Windows.{window_act}
 use Rattle.jr_steps.specs.Knowing.{Facts, Standing, Took, anything, keeps, view}
 use Rattle.jr_steps.proofs.StepFacts.{goes_did}
@@ -31,10 +32,6 @@ use Rattle.jr_env.proofs.FrameCalls.{does_from}
 abbrev AllSpare : List Act → Type 0
 AllSpare acts = AllByRecursion (λ a. spares_places a ≡ true) acts
 
-spare_then : (acts more : List Act) → AllSpare acts → AllSpare more → AllSpare (acts ++ more)
-spare_then [] more h r = r
-spare_then (a ∷ acts) more h r = (h.0, spare_then acts more h.1 r)
-
 clears_spare : (hs : List Handle) → AllSpare (map Clear hs)
 clears_spare [] = tt
 clears_spare (h ∷ hs) = (refl, clears_spare hs)
@@ -44,7 +41,7 @@ drops_spare [] = tt
 drops_spare (o ∷ os) = (refl, drops_spare os)
 
 collection_spares : (hs : List Handle) (os : List ℕ) (used : ℕ) → AllSpare (collection_acts hs os used)
-collection_spares hs os used = (refl, spare_then (sweeping_acts hs os used) (Reopen ∷ []) (spare_then (map Clear hs ++ map Drop os) (Settle used ∷ []) (spare_then (map Clear hs) (map Drop os) (clears_spare hs) (drops_spare os)) (refl, tt)) (refl, tt))
+collection_spares hs os used = (refl, append_all _ (sweeping_acts hs os used) (Reopen ∷ []) (append_all _ (map Clear hs ++ map Drop os) (Settle used ∷ []) (append_all _ (map Clear hs) (map Drop os) (clears_spare hs) (drops_spare os)) (refl, tt)) (refl, tt))
 
 -- one of the two that a call of the steps answers
 abbrev pub CollectsOr : {S : Type 0} → (S → Facts) → S → S → Result Collected Fault → Type 0

@@ -6,7 +6,8 @@ use jr_weak::{Collected, Marker, collect};
 use jr_word::Fault;
 
 impl<S: Steps> Env<S> {
-    ghost use Rattle.std.specs.Prelude.{◌≡◌, IsOk};
+    ghost use Rattle.std.specs.Prelude.{◌≡◌, ◌≤◌, ℕ, IsOk, IfErr};
+    ghost use Rattle.jr_word.specs.declared.fault.Fault.TheVariants.{Busy};
     ghost use Rattle.jr_weak.specs.Markers.{room_of};
     ghost use Rattle.jr_env.specs.Collections.{collection};
     ghost use Rattle.jr_env.specs.Envs.{Does, IsOutside};
@@ -20,6 +21,7 @@ impl<S: Steps> Env<S> {
         requires { room_of marker.old ≡ (S.facts self.old.held.steps).stands.config.objects }
         ensures call { Does self.old self.new collection result }
         ensures room { room_of marker.new ≡ room_of marker.old }
+        ensures busy { IfErr result (λ e. (n : ℕ) × (e ≡ Busy n) × (1 ≤ n)) }
         ensures alone { (S.facts self.old.held.steps).stands.config.threads ≡ 1 → IsOk result }
     {
         let held = &mut self.held;

@@ -61,6 +61,7 @@ outside_alone turns names (commands.OnAt v r i) old new answer alone d = made_ou
 outside_alone turns names (commands.SetAt v r i q) old new answer alone d = made_outside turns names (commands.SetAt v r i q) tt (λ v m e h. h) old new answer alone d
 outside_alone turns names (commands.StoreAt v r i x) old new answer alone d = made_outside turns names (commands.StoreAt v r i x) tt (λ v m e h. h) old new answer alone d
 outside_alone turns names (commands.Release v n r mode) old new answer alone d = made_outside turns names (commands.Release v n r mode) tt (λ v m e h. h) old new answer alone d
+outside_alone turns names (commands.OfRoom v) old new answer alone d = made_outside turns names (commands.OfRoom v) tt (λ v m e h. h) old new answer alone d
 outside_alone turns names (commands.OpenLevel v n r) old new answer alone d = made_outside turns names (commands.OpenLevel v n r) tt (λ v m e h. h) old new answer alone d
 
 -- a command where the thread stands

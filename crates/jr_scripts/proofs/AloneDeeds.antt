@@ -44,6 +44,7 @@ use Rattle.jr_syntax.specs.declared.verb.OnNameAt.TheVariants as on_name_at
 use Rattle.jr_syntax.specs.declared.verb.PutAt.TheVariants as put_at
 use Rattle.jr_syntax.specs.declared.verb.Release.TheVariants as release
 use Rattle.jr_syntax.specs.declared.verb.OpenLevel.TheVariants as at
+use Rattle.jr_syntax.specs.declared.verb.OfRoom.TheVariants as of_room
 use Rattle.jr_scripts.specs.declared.reply.Reply.{Reply}
 use Rattle.jr_scripts.specs.declared.reply.Reply.TheVariants as replies
 use Rattle.jr_frames.specs.Reading.{IsReadAs}
@@ -57,6 +58,7 @@ use Rattle.jr_scripts.specs.AloneAnswers.{IsCommandFault, LacksArray, LacksEleme
 use Rattle.jr_scripts.proofs.AloneCalls.{LedAlone, LeadsAlone, call_alone, opened_ran}
 use Rattle.jr_scripts.proofs.AloneParts.{LeadsFrom, answered_alone, bind_alone, bind_found, decided_alone, decided_from, done_alone, from_any, on_alone, on_both_alone, reference_in_alone, stayed, the_reference_alone, tried_alone}
 use Rattle.jr_scripts.proofs.AloneCopies.{elements_alone, units_alone}
+use Rattle.jr_scripts.proofs.AloneCollections.{collecting_alone}
 use Rattle.jr_scripts.proofs.AloneBuffers.{get_element_alone, put_element_alone, release_alone}
 use Rattle.jr_scripts.proofs.UncontendedObjects.{first_array_uncontended, first_string_uncontended, kind_uncontended, length_uncontended, element_reading_uncontended, element_writing_uncontended, part_reading_uncontended, part_writing_uncontended}
 use Rattle.jr_scripts.proofs.Uncontended.{Asked, MayLack, made_uncontended, array_making_uncontended, making_uncontended, creation_uncontended, local_creation_uncontended, comparison_uncontended, removal_uncontended, local_removal_uncontended, typing_uncontended, ensure_refused, push_refused, popped_to, pop_uncontended}
@@ -330,3 +332,4 @@ module _ (turns : ℕ) where
   deed_alone names (commands.OnNameAt on_name_at.GetInLevel n i) made = absurd made
   deed_alone names (commands.PutAt put_at.PutInLevel n i x) made = absurd made
   deed_alone names (commands.CloseLevel v mode) made = absurd made
+  deed_alone names (commands.OfRoom of_room.Collect) made = collecting_alone turns names

@@ -91,6 +91,7 @@ no_turns (commands.PutAt v n i x) = refl
 no_turns (commands.Release v n r mode) = refl
 no_turns (commands.OpenLevel v n r) = refl
 no_turns (commands.CloseLevel v mode) = refl
+no_turns (commands.OfRoom v) = refl
 
 -- no call of a lone thread is made again
 pub once_alone : {A : Type 0} (command : Asked) (p : PassView) (f : Frames) (r : Result A Fault) → is_tried_again r ≡ true → IfErr r (IsCommandFault 0 command.0 command.1 p f) → ⊥

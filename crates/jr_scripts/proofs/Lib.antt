@@ -17,6 +17,7 @@ pub mod AloneCalls
 pub mod AloneParts
 pub mod AloneCopies
 pub mod AloneBuffers
+pub mod AloneCollections
 pub mod AloneDeeds
 pub mod QuietCalls
 pub mod AloneWithin

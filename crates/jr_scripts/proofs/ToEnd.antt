@@ -1,14 +1,24 @@
 -- A thread's commands, and then the end of its local references, for whatever was known.
-use Rattle.std.proofs.Common.{ℕ, List, Result}
+use Rattle.std.proofs.Common.{ℕ, List, [], Result, Err, refl}
 use Rattle.jr_word.specs.declared.fault.Fault.{Fault}
+use Rattle.jr_word.specs.declared.fault.Fault.TheVariants as fault
 use Rattle.jr_model.specs.Frames.{Frames}
 use Rattle.jr_syntax.specs.declared.command.Command.{Command}
 use Rattle.jr_steps.specs.Knowing.{Facts}
 use Rattle.jr_gate.specs.Performing.{moment}
-use Rattle.jr_gate.proofs.SameRoom.{still_before}
+use Rattle.jr_gate.proofs.SameRoom.{nothing_changed, still_before}
 use Rattle.jr_env.specs.Deeds.{DoesDeed, free_locals}
 use Rattle.jr_scripts.specs.Commands.{tried}
+use Rattle.jr_scripts.specs.Explains.{nothing, written}
+use Rattle.jr_scripts.specs.Places.{nowhere}
 use Rattle.jr_scripts.specs.Runs.{RanThread, RanToEnd}
+
+-- no command was done, since memory was refused before the first
+pub not_begun : {S : Type 0} {facts : S → Facts} {a : S} {f : Frames} (turns first : ℕ) (commands : List Command) → RanThread facts a a f f turns first commands (Err fault.Memory) []
+not_begun {facts = facts} {a = a} {f = f} turns first commands = record {
+  stands_is = nothing_changed;
+  explained = λ k s m. let here = moment (facts a).stands.fresh k f in (k, s, m, (refl, written [] commands nowhere here refl nothing (refl, refl)));
+}
 
 pub ran_to_end : {S : Type 0} {facts : S → Facts} {a b c : S} {f g h : Frames} {turns first : ℕ} {commands : List Command} {answer freed : Result (Unit {0}) Fault} {text : List ℕ}
     → RanThread facts a b f g turns first commands answer text → DoesDeed facts b c g h (tried turns free_locals) freed → RanToEnd facts a c f h turns first commands answer text

@@ -1,5 +1,5 @@
 -- What commands do.
-use Rattle.std.specs.Prelude.{◌≡◌, ℕ, ℤ, Option, Some, None, Err, IfErr, [], ◌∷◌}
+use Rattle.std.specs.Prelude.{◌≡◌, ℕ, ℤ, Option, Some, None, Ok, Err, IfErr, [], ◌∷◌}
 use Rattle.jr_word.specs.declared.config.Config.{Config}
 use Rattle.jr_word.specs.declared.handle.RefKind.{RefKind}
 use Rattle.jr_word.specs.declared.handle.RefKind.TheVariants.{Local, Global, Weak}
@@ -34,6 +34,7 @@ use Rattle.jr_syntax.specs.declared.verb.MakeSized.{MakeSized}
 use Rattle.jr_syntax.specs.declared.verb.MakeSized.TheVariants as make_sized
 use Rattle.jr_syntax.specs.declared.verb.OpenLevel.{OpenLevel}
 use Rattle.jr_syntax.specs.declared.verb.OpenLevel.TheVariants as at
+use Rattle.jr_syntax.specs.declared.verb.OfRoom.TheVariants as of_room
 use Rattle.jr_scripts.specs.declared.reply.Reply.{Reply}
 use Rattle.jr_scripts.specs.declared.reply.Reply.TheVariants as replies
 use Rattle.jr_frames.specs.Reading.{IsReadAs}
@@ -41,6 +42,7 @@ use Rattle.jr_scripts.specs.declared.standing.Standing.{Standing}
 use Rattle.jr_scripts.specs.declared.standing.Standing.TheVariants as stands
 use Rattle.jr_scripts.specs.Buffers.{copy_of}
 use Rattle.jr_scripts.specs.Names.{Names, buffer_in, getting, putting, reference_in, referent, standing, wanted}
+use Rattle.jr_env.specs.Collections.{collection}
 use Rattle.jr_env.specs.Deeds.{Deed, decided, done, new_plain, new_array, new_object_array, new_string, new_reference, new_local_ref, delete_reference, delete_local_ref, is_same_object, get_object_ref_type, push_local_frame, ensure_local_capacity, pop_local_frame, kind_of, get_array_length, get_string_length, get_object_array_element, set_object_array_element, get_array_region, set_array_region, get_array_elements, release_array_elements, get_string_chars, answered_by, ◌>>=◌, ◌>>◌}
 use Rattle.jr_scripts.specs.Posting.{IsAwaited}
 use Rattle.jr_scripts.specs.Tries.{Tried}
@@ -155,6 +157,12 @@ abbrev pub opening_by : OpenLevel → ℕ → Deed ℕ
 opening_by v w old answer new =
     (a : Word) × IsReadAs w a × IsMade 1 old new (opens v old.pass.config old.pass.last old.pass.thread (state new.pass.seen) a) answer × IfErr answer (λ e. new.held ≡ empty)
 
+-- a collection, or so many threads were not outside. It is tried once, and never refused
+abbrev pub collecting : Deed Reply
+collecting old (Ok (replies.Collected c)) new = collection old (Ok c) new
+collecting old (Ok (replies.Busy n)) new = collection old (Err (fault.Busy n)) new
+collecting old _ new = ⊥
+
 -- some word that is posted, or the turns ran out; neither an event nor a step
 abbrev pub awaited : Deed Reply
 awaited old answer new = IsAwaited answer × (new ≡ old)
@@ -253,6 +261,7 @@ module _ (turns : ℕ) (names : Names) where
     o ← opening_levels v r
     done (replies.Level o)
   deed (commands.CloseLevel v mode) = decided (Err fault.InCritical)
+  deed (commands.OfRoom of_room.Collect) = collecting
   deed (commands.OnNameAt on_name_at.GetInLevel n i) = decided (Err fault.InCritical)
   deed (commands.PutAt put_at.PutInLevel n i x) = decided (Err fault.InCritical)
   deed (commands.OnNameAt on_name_at.Get n i) = do

@@ -11,7 +11,7 @@ use Rattle.jr_model.specs.declared.summary.Summary.{Summary}
 use Rattle.jr_syntax.specs.Line.{line as words_line}
 use Rattle.jr_syntax.specs.Reference.{reference_word}
 use Rattle.jr_syntax.specs.Command.{verb_word}
-use Rattle.jr_syntax.specs.declared.verb.Verb.TheVariants.{MakeFrom, On, OnBoth, MakeAt, OnAt, OnNameAt}
+use Rattle.jr_syntax.specs.declared.verb.Verb.TheVariants.{MakeFrom, On, OnBoth, MakeAt, OnAt, OnNameAt, OfRoom}
 use Rattle.jr_syntax.specs.declared.verb.PutAt.TheVariants as put_at
 use Rattle.jr_syntax.specs.declared.verb.Release.TheVariants as release
 use Rattle.jr_syntax.specs.declared.command.Command.{Command}
@@ -41,6 +41,8 @@ says (commands.OnBoth v q r) (replies.Same same) = text_line (verb_word (OnBoth 
 says (commands.MakeAt v n r i) (replies.Made None) = text_line (verb_word (MakeAt v) ∷ n ∷ codes "null" ∷ [])
 says (commands.OnAt v r i) (replies.Value x) = text_line (verb_word (OnAt v) ∷ reference_word r ∷ decimal i ∷ signed_decimal x ∷ [])
 says (commands.OnNameAt v n i) (replies.Value x) = text_line (verb_word (OnNameAt v) ∷ n ∷ decimal i ∷ signed_decimal x ∷ [])
+says (commands.OfRoom v) (replies.Collected c) = text_line (verb_word (OfRoom v) ∷ codes "cleared" ∷ decimal c.cleared ∷ codes "dropped" ∷ decimal c.dropped ∷ codes "used" ∷ decimal c.used ∷ [])
+says (commands.OfRoom v) (replies.Busy n) = text_line (verb_word (OfRoom v) ∷ codes "busy" ∷ decimal n ∷ [])
 says _ _ = []
 
 -- a number that stands behind the fault's

@@ -4,6 +4,7 @@ ghost use Rattle.std.specs.Prelude.{◌≡◌, IfErr, IfOk, None, Some, [], fals
 ghost use Rattle.jr_critical.specs.Levels.{objects_of, Stand};
 ghost use Rattle.jr_env.specs.Envs.{IsOutside};
 ghost use Rattle.jr_gate.specs.Performing.{Moment};
+ghost use Rattle.jr_weak.specs.Markers.{room_of};
 ghost use Rattle.jr_syntax.specs.declared.command.Command.TheVariants as commands;
 ghost use Rattle.jr_scripts.specs.Advancing.{level_names, objects_in, place_with, DidOpen, DidWith, StandsIn, StandsWith};
 ghost use Rattle.jr_scripts.specs.Commands.{deed, opening_levels};
@@ -22,6 +23,7 @@ use jr_critical::Levels;
 use jr_env::Env;
 use jr_steps::Steps;
 use jr_syntax::{Command, Make, Name, OpenLevel, Reference as Target};
+use jr_weak::Marker;
 use jr_word::Fault;
 use std::alloc::Global;
 
@@ -86,23 +88,26 @@ fn advance_outside<S: Steps, B: Board>(
     alloc: Global,
     env: &mut Env<S>,
     names: &mut Names,
+    marker: &mut Marker,
     board: &B,
     turns: u64,
     command: &Command,
 ) -> Left
-    requires { IsOutside env.old }
+    requires outside { IsOutside env.old }
+    requires room { room_of marker.old ≡ (S.facts env.old.held.steps).stands.config.objects }
     ensures does { DidWith env.old env.new None result.region (deed turns names.old command.now) result.answer }
     ensures stand { StandsWith S.facts result.region env.new.held.steps env.new.held.frames }
     ensures levels { level_names result.region ≡ levels_after command.now result.answer [] }
     ensures objects { objects_in result.region ≡ objects_after command.now result.answer [] }
     ensures names { names.new ≡ buffers_after command.now result.answer names.old }
+    ensures room { room_of marker.new ≡ room_of marker.old }
 {
     match command {
         Command::OpenLevel { verb, name, target } => {
             open_region(env, names, turns, *verb, name, target)
         }
         _ => {
-            let answer = perform(alloc, env, names, board, turns, command);
+            let answer = perform(alloc, env, names, marker, board, turns, command);
             Left {
                 region: None,
                 answer,
@@ -190,20 +195,23 @@ pub(crate) fn advance<S: Steps, B: Board>(
     alloc: Global,
     env: &mut Env<S>,
     names: &mut Names,
+    marker: &mut Marker,
     region: Option<Region>,
     board: &B,
     turns: u64,
     command: &Command,
 ) -> Left
-    requires { StandsWith S.facts region env.old.held.steps env.old.held.frames }
+    requires stand { StandsWith S.facts region env.old.held.steps env.old.held.frames }
+    requires room { room_of marker.old ≡ (S.facts env.old.held.steps).stands.config.objects }
     ensures does { DidWith env.old env.new region result.region (deed_at turns (place_with names.old region) command.now) result.answer }
     ensures stand { StandsWith S.facts result.region env.new.held.steps env.new.held.frames }
     ensures levels { level_names result.region ≡ levels_after command.now result.answer (level_names region) }
     ensures objects { objects_in result.region ≡ objects_after command.now result.answer (objects_in region) }
     ensures names { names.new ≡ buffers_after command.now result.answer names.old }
+    ensures room { room_of marker.new ≡ room_of marker.old }
 {
     match region {
-        None => advance_outside(alloc, env, names, board, turns, command),
+        None => advance_outside(alloc, env, names, marker, board, turns, command),
         Some(region) => advance_within(env, names, region, board, turns, command),
     }
 }

@@ -6,6 +6,7 @@ mod all;
 mod ask;
 mod board;
 mod buffer;
+mod collection;
 mod copied_units;
 mod copy_call;
 mod copy_commands;

@@ -7,12 +7,14 @@ ghost use Rattle.jr_scripts.specs.declared.reply.Reply.TheVariants as replies;
 ghost use Rattle.jr_env.specs.Deeds.{answered_by};
 ghost use Rattle.jr_env.specs.Envs.{WasDone, IsOutside};
 ghost use Rattle.std.specs.Prelude.{◌≡◌, false};
+ghost use Rattle.jr_weak.specs.Markers.{room_of};
 ghost use Rattle.jr_scripts.specs.Places.{is_opening};
 ghost use Rattle.jr_scripts.specs.Text.{buffers_after};
 ghost use Rattle.jr_scripts.specs.Commands.{deletion, type_of as type_deed, made_of, making_or_waiting, making_room, filling, referring_to, deed};
 
 use crate::ask::ask;
 use crate::board::Board;
+use crate::collection::collect;
 use crate::copy_call::GetStringChars;
 use crate::copy_commands::{copy, get_by, put_by, release};
 use crate::element::{load, store};
@@ -32,6 +34,7 @@ use jr_env::Env;
 use jr_frames::Reference;
 use jr_steps::Steps;
 use jr_syntax::{Command, Make, MakeFrom, Name, On, Reference as Target, WithCount};
+use jr_weak::Marker;
 use jr_word::{Fault, Handle, RefKind};
 use std::alloc::Global;
 
@@ -206,14 +209,17 @@ pub fn perform<S: Steps, B: Board>(
     alloc: Global,
     env: &mut Env<S>,
     names: &mut Names,
+    marker: &mut Marker,
     board: &B,
     turns: u64,
     command: &Command,
 ) -> Result<Reply, Fault>
     requires outside { IsOutside env.old }
     requires opens { is_opening command.now ≡ false }
+    requires room { room_of marker.old ≡ (S.facts env.old.held.steps).stands.config.objects }
     ensures does { WasDone env.old env.new (deed turns names.old command.now) result }
     ensures names { names.new ≡ buffers_after command.now result names.old }
+    ensures room { room_of marker.new ≡ room_of marker.old }
 {
     match command {
         Command::Make { verb, name } => make(env, board, turns, *verb, name),
@@ -252,6 +258,7 @@ pub fn perform<S: Steps, B: Board>(
             mode,
             ..
         } => release(env, names, turns, name, target, *mode),
+        Command::OfRoom { .. } => collect(env, marker),
         Command::CloseLevel { .. } => Err(Fault::InCritical),
         Command::OpenLevel { .. } => unreachable!(),
     }

@@ -8,7 +8,8 @@ ghost use Rattle.jr_scripts.specs.Text.{text_line, verdict, says as what_is_said
 
 use crate::reply::Reply;
 use jr_model::Summary;
-use jr_syntax::{Command, Name, On, Reference, Verb};
+use jr_syntax::{Command, Name, OfRoom, On, Reference, Verb};
+use jr_weak::Collected;
 use jr_word::Fault;
 use std::alloc::{AllocError, Global};
 
@@ -121,6 +122,34 @@ fn line_of_value(
     line_of_four(alloc, verb.word(), subject, index, value)
 }
 
+/// The line of a collection.
+fn line_of_collection(alloc: Global, collected: Collected) -> Result<Vec<u8>, AllocError>
+    ensures { IfOk result (λ text. text.items ≡ text_line (codes "gc" ∷ codes "cleared" ∷ decimal collected.cleared ∷ codes "dropped" ∷ decimal collected.dropped ∷ codes "used" ∷ decimal collected.used ∷ [])) }
+{
+    let Collected {
+        cleared,
+        dropped,
+        used,
+    } = collected;
+    let text = format!(in alloc; "gc cleared {cleared} dropped {dropped} used {used}\n")?;
+    Ok(text.into_bytes())
+}
+
+/// What is printed for a command about the room that was not refused.
+fn says_of_room(alloc: Global, verb: OfRoom, reply: &Reply) -> Result<Vec<u8>, AllocError>
+    ensures { IfOk result (λ text. text.items ≡ what_is_said (commands.OfRoom verb) reply.now) }
+{
+    let OfRoom::Collect = verb;
+    match reply {
+        Reply::Collected(collected) => line_of_collection(alloc, *collected),
+        Reply::Busy(count) => {
+            let text = format!(in alloc; "gc busy {count}\n")?;
+            Ok(text.into_bytes())
+        }
+        _ => Ok(Vec::new(alloc)),
+    }
+}
+
 /// What is printed for a command that was not refused.
 fn says(alloc: Global, command: &Command, reply: &Reply) -> Result<Vec<u8>, AllocError>
     ensures { IfOk result (λ text. text.items ≡ what_is_said command.now reply.now) }
@@ -151,6 +180,7 @@ fn says(alloc: Global, command: &Command, reply: &Reply) -> Result<Vec<u8>, Allo
             let verb = Verb::OnNameAt(*verb);
             line_of_value(alloc, verb, name.as_slice(), *index, *value)
         }
+        (Command::OfRoom { verb }, reply) => says_of_room(alloc, *verb, reply),
         _ => Ok(Vec::new(alloc)),
     }
 }

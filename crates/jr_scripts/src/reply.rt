@@ -4,6 +4,7 @@ ghost use Rattle.std.specs.Prelude.{◌≡◌};
 
 use crate::buffer::Buffer;
 use crate::copied_units::CopiedUnits;
+use jr_weak::Collected;
 use jr_word::Handle;
 
 /// What a command that was not refused is answered.
@@ -27,6 +28,10 @@ pub enum Reply {
     Units(CopiedUnits),
     /// A level of a critical region was opened, over an object of this number.
     Level(u16),
+    /// A collection was made.
+    Collected(Collected),
+    /// No collection was made, since so many threads were inside, knocking or collecting.
+    Busy(u32),
 }
 
 /// What a call answers, which is a reply to the command that made it.

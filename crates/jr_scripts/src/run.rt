@@ -2,6 +2,7 @@
 
 ghost use Rattle.std.specs.Prelude.{◌≡◌, ◌++◌, ◌+◌, ◌<◌, ◌^◌, List, ℕ, IfErr, OnOk, MatchOption, Some, None, length};
 ghost use Rattle.jr_word.specs.declared.fault.Fault.TheVariants.{Memory};
+ghost use Rattle.jr_weak.specs.Markers.{room_of};
 ghost use Rattle.jr_env.specs.Envs.{IsOutside};
 ghost use Rattle.jr_scripts.specs.Text.{sets, names_set, standing_made as made_to_stand};
 ghost use Rattle.jr_scripts.specs.Runs.{RanThread, WritesDown};
@@ -17,6 +18,7 @@ use crate::standing::Standing;
 use jr_env::Env;
 use jr_steps::Steps;
 use jr_syntax::{Command, Name};
+use jr_weak::Marker;
 use jr_word::{Fault, Handle};
 use std::alloc::{AllocError, Global};
 
@@ -83,7 +85,7 @@ fn record(
     Ok(())
 }
 
-/// Runs the commands of a thread, of which the first stands on this line of the script, and appends what they print. A call that is raced or barred is made again, up to `turns` calls in all. The hold is called around each command.
+/// Runs the commands of a thread, of which the first stands on this line of the script, and appends what they print. A call that is raced or barred is made again, up to `turns` calls in all. The hold is called around each command. The marker, made for the env's room, serves all collections.
 ///
 /// # Errors
 ///
@@ -91,6 +93,7 @@ fn record(
 pub fn run_thread<S: Steps, B: Board, H: Hold>(
     alloc: Global,
     env: &mut Env<S>,
+    marker: &mut Marker,
     first: usize,
     commands: &[Command],
     board: &B,
@@ -100,16 +103,20 @@ pub fn run_thread<S: Steps, B: Board, H: Hold>(
 ) -> Result<(), Fault>
     requires lines { first + length commands.now < 2 ^ 64 }
     requires outside { IsOutside env.old }
+    requires room { room_of marker.old ≡ (S.facts env.old.held.steps).stands.config.objects }
     ensures explained { (text : List ℕ) × (out.new.items ≡ out.old.items ++ text) × RanThread S.facts env.old.held.steps env.new.held.steps env.old.held.frames.frames env.new.held.frames.frames turns first commands.now result text }
     ensures outside { IsOutside env.new }
     ensures memory { IfErr result (λ e. e ≡ Memory) }
+    ensures room { room_of marker.new ≡ room_of marker.old }
 {
     let mut names = Names::new(alloc);
     let mut region = None;
     for (i, command) in commands.iter().enumerate() {
         let line = first + i;
         hold.before(env.held.steps.thread(), line);
-        let left = advance(alloc, env, &mut names, region, board, turns, command);
+        let left = advance(
+            alloc, env, &mut names, marker, region, board, turns, command,
+        );
         hold.after(env.held.steps.thread(), line);
         let Left {
             region: stands,

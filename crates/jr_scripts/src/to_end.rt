@@ -3,7 +3,7 @@
 ghost use Rattle.std.specs.Prelude.{◌≡◌, ◌++◌, ◌+◌, ◌<◌, ◌^◌, List, ℕ, IfErr, length};
 ghost use Rattle.jr_word.specs.declared.fault.Fault.TheVariants.{Memory};
 ghost use Rattle.jr_env.specs.Envs.{IsOutside};
-ghost use Rattle.jr_scripts.specs.Runs.{RanToEnd};
+ghost use Rattle.jr_scripts.specs.Runs.{RanThread, RanToEnd};
 
 use crate::board::Board;
 use crate::env_call::FreeLocals;
@@ -13,10 +13,44 @@ use crate::run::run_thread;
 use jr_env::Env;
 use jr_steps::Steps;
 use jr_syntax::Command;
+use jr_weak::Marker;
 use jr_word::Fault;
 use std::alloc::Global;
 
-/// Runs the commands of a thread as `run_thread` does, and then frees its local references, whatever the commands answered: as at the end of a native method. Where the turns run out, they stay.
+/// Runs the commands of a thread as `run_thread` does, with a marker that it makes before the first of them.
+fn run_with_marker<S: Steps, B: Board, H: Hold>(
+    alloc: Global,
+    env: &mut Env<S>,
+    first: usize,
+    commands: &[Command],
+    board: &B,
+    hold: &H,
+    turns: u64,
+    out: &mut Vec<u8>,
+) -> Result<(), Fault>
+    requires lines { first + length commands.now < 2 ^ 64 }
+    requires outside { IsOutside env.old }
+    ensures explained { (text : List ℕ) × (out.new.items ≡ out.old.items ++ text) × RanThread S.facts env.old.held.steps env.new.held.steps env.old.held.frames.frames env.new.held.frames.frames turns first commands.now result text }
+    ensures outside { IsOutside env.new }
+    ensures memory { IfErr result (λ e. e ≡ Memory) }
+{
+    let Ok(mut marker) = Marker::new(alloc, env.held.steps.config()) else {
+        return Err(Fault::Memory);
+    };
+    run_thread(
+        alloc,
+        env,
+        &mut marker,
+        first,
+        commands,
+        board,
+        hold,
+        turns,
+        out,
+    )
+}
+
+/// Runs the commands of a thread as `run_thread` does, with a marker of its own, and then frees its local references, whatever the commands answered: as at the end of a native method. Where the turns run out, they stay.
 pub fn run_to_end<S: Steps, B: Board, H: Hold>(
     alloc: Global,
     env: &mut Env<S>,
@@ -33,7 +67,7 @@ pub fn run_to_end<S: Steps, B: Board, H: Hold>(
     ensures outside { IsOutside env.new }
     ensures memory { IfErr result (λ e. e ≡ Memory) }
 {
-    let answer = run_thread(alloc, env, first, commands, board, hold, turns, out);
+    let answer = run_with_marker(alloc, env, first, commands, board, hold, turns, out);
     let _ = retry(env, turns, &FreeLocals);
     answer
 }

@@ -4,6 +4,8 @@
 #[cfg(test)]
 mod board;
 #[cfg(test)]
+mod collections;
+#[cfg(test)]
 mod commands;
 #[cfg(test)]
 mod copies;

@@ -12,7 +12,7 @@ fn bytes_in_a_region(rt: HostRuntime) -> Result<(), Fail> {
     copies_print(
         &rt,
         rt.alloc(),
-        b"vm threads 1 slots 4 objects 8 words 16 locals 16\nthread a\nbyte a 2\ncrit r a\ncset r 0 300\ncset r 0 -128\ncset r 2 1\nplain p\nendcrit abort\nload a 0\nstore a 0 128\nendcrit copy\n",
+        b"vm threads 1 slots 4 objects 8 words 16 locals 16\nthread a\nbyte a 2\ncrit r a\ncset r 0 300\ncset r 0 -128\ncset r 2 1\ngc\nendcrit abort\nload a 0\nstore a 0 128\nendcrit copy\n",
         b"[a]\n5 ! E18\n7 ! E7\n8 ! E19\nload a 0 -128\n11 ! E18\n12 ! E19\n[end]\nglobals 0 weaks 0 live 1 used 2\n",
     )
 }

@@ -5,9 +5,11 @@
 
 use crate::thread_ends::plain_env;
 use jr_scripts::{Hold, NoHold, Posts, run_all, run_one, run_thread};
+use jr_steps::Steps;
 use jr_syntax::{
     Command, Make, MakeFrom, Name, On, Reference, Script, Sequence, ThreadPart, is_name, parse,
 };
+use jr_weak::Marker;
 use jr_word::{Config, Fault};
 use std::alloc::{AllocError, Global};
 use std::process::Abort;
@@ -261,9 +263,31 @@ fn a_thread_without_turns(rt: HostRuntime) -> Result<(), Fail> {
     let mut env = plain_env(alloc)?;
     let board = Posts::new(alloc);
     let mut out = Vec::from_slice(alloc, BEFORE)?;
-    run_thread(alloc, &mut env, 10, &commands, &board, &NoHold, 0, &mut out)?;
+    let mut marker = Marker::new(alloc, env.held.steps.config())?;
+    run_thread(
+        alloc,
+        &mut env,
+        &mut marker,
+        10,
+        &commands,
+        &board,
+        &NoHold,
+        0,
+        &mut out,
+    )?;
     assert_eq!(rt; out.as_slice(), b"before\n10 ! E20\ntype p 0\n".as_slice());
-    run_thread(alloc, &mut env, 10, &commands, &board, &NoHold, 1, &mut out)?;
+    let mut marker = Marker::new(alloc, env.held.steps.config())?;
+    run_thread(
+        alloc,
+        &mut env,
+        &mut marker,
+        10,
+        &commands,
+        &board,
+        &NoHold,
+        1,
+        &mut out,
+    )?;
     assert_eq!(rt;
         out.as_slice(),
         b"before\n10 ! E20\ntype p 0\ntype p 1\n".as_slice()

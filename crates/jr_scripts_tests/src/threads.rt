@@ -283,3 +283,14 @@ fn sixty_four_threads_in_a_circle(rt: HostRuntime) -> Result<(), Fail> {
     let (script, wanted) = in_a_circle(alloc)?;
     threads_print(&rt, alloc, &script, &NoHold, &wanted)
 }
+
+#[test]
+fn a_collection_waits_for_a_region(rt: HostRuntime) -> Result<(), Fail> {
+    threads_print(
+        &rt,
+        rt.alloc(),
+        b"vm threads 2 slots 4 objects 8 words 16 locals 16\nthread a\nint x 3\nint y 2\ndrop x\ncrit r y\ncrit s y\ncset r 0 11\npost held\nwait tried\ncset s 1 12\nload y 0\nendcrit copy\nendcrit abort\npost free\nwait done\nload y 0\nload y 1\nthread b\nwait held\ngc\npost tried\nwait free\ngc\npost done\n",
+        &NoHold,
+        b"[a]\n12 ! E19\nload y 0 11\nload y 1 12\n[b]\ngc busy 1\ngc cleared 0 dropped 1 used 2\n[end]\nglobals 0 weaks 0 live 1 used 2\n",
+    )
+}

@@ -6,6 +6,7 @@
 mod arrays;
 mod copies;
 mod regions;
+mod rooms;
 
 use crate::command::Command;
 use crate::fault::{Reason, ScriptFault};

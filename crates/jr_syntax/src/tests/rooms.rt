@@ -1,0 +1,32 @@
+//! The command that is about the room as a whole.
+
+use super::{each_is, read_and_printed};
+use crate::command::Command;
+use crate::fault::Reason;
+use crate::verb::OfRoom;
+use std::test::Fail;
+
+#[test]
+fn collections(rt: HostRuntime) -> Result<(), Fail> {
+    let collect = || Command::OfRoom {
+        verb: OfRoom::Collect,
+    };
+    read_and_printed(&rt, rt.alloc(), b"gc\ngc\n", &[collect(), collect()])?;
+    Ok(())
+}
+
+#[test]
+fn collections_with_other_words(rt: HostRuntime) -> Result<(), Fail> {
+    let lines: [&[u8]; 8] = [
+        b"gc \n",
+        b"gc 1\n",
+        b"gc p\n",
+        b"gc null\n",
+        b"gc gc\n",
+        b" gc\n",
+        b"g\n",
+        b"Gc\n",
+    ];
+    each_is(&rt, rt.alloc(), &lines, Reason::CommandExpected)?;
+    Ok(())
+}
