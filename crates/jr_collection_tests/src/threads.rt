@@ -130,12 +130,12 @@ fn replace<S: Steps>(
 }
 
 /// Replaces an array so often. How often what was written was read.
-fn replace_often<S: Steps>(alloc: Global, env: &mut Env<S>, rounds: u32) -> u32 {
-    let Ok(mut array) = make(alloc, env) else {
+fn replace_often<S: Steps + Drop>(alloc: Global, mut env: Env<S>, rounds: u32) -> u32 {
+    let Ok(mut array) = make(alloc, &mut env) else {
         return 0;
     };
     for done in 0..rounds {
-        match replace(alloc, env, array, i64::from(done)) {
+        match replace(alloc, &mut env, array, i64::from(done)) {
             Ok(next) => array = next,
             Err(_) => return done,
         }
@@ -144,13 +144,13 @@ fn replace_often<S: Steps>(alloc: Global, env: &mut Env<S>, rounds: u32) -> u32 
 }
 
 /// Collects so often.
-fn collect_often<S: Steps>(alloc: Global, env: &mut Env<S>, collections: u32) -> u32 {
+fn collect_often<S: Steps + Drop>(alloc: Global, mut env: Env<S>, collections: u32) -> u32 {
     let mut done = 0;
     for _ in 0..TRIES {
         if done >= collections {
             break;
         }
-        match collected(alloc, env) {
+        match collected(alloc, &mut env) {
             Ok(_) => done += 1,
             Err(_) => thread::yield_now(),
         }
@@ -161,26 +161,27 @@ fn collect_often<S: Steps>(alloc: Global, env: &mut Env<S>, collections: u32) ->
 #[test]
 fn four_threads_and_one_that_collects(rt: HostRuntime) -> Result<(), Fail> {
     let (room, mut passes) = Room::<LAST>::open(rt.alloc(), FIVE)?;
-    let mut first = next_env(&room, &mut passes)?;
-    let mut second = next_env(&room, &mut passes)?;
-    let mut third = next_env(&room, &mut passes)?;
-    let mut fourth = next_env(&room, &mut passes)?;
-    let mut collector = next_env(&room, &mut passes)?;
+    let first = next_env(&room, &mut passes)?;
+    let second = next_env(&room, &mut passes)?;
+    let third = next_env(&room, &mut passes)?;
+    let fourth = next_env(&room, &mut passes)?;
+    let collector = next_env(&room, &mut passes)?;
     let alloc = rt.alloc();
     let all = thread::scope(thread::scope_env(), &rt, |scope| {
-        let one = scope.spawn(|| replace_often(alloc, &mut first, ROUNDS));
-        let two = scope.spawn(|| replace_often(alloc, &mut second, ROUNDS));
-        let three = scope.spawn(|| replace_often(alloc, &mut third, ROUNDS));
-        let four = scope.spawn(|| replace_often(alloc, &mut fourth, ROUNDS));
-        let collections = collect_often(alloc, &mut collector, COLLECTIONS);
-        let rounds = [
+        let one = scope.spawn(move || replace_often(alloc, first, ROUNDS));
+        let two = scope.spawn(move || replace_often(alloc, second, ROUNDS));
+        let three = scope.spawn(move || replace_often(alloc, third, ROUNDS));
+        let four = scope.spawn(move || replace_often(alloc, fourth, ROUNDS));
+        let five = scope.spawn(move || collect_often(alloc, collector, COLLECTIONS));
+        [
             one.map(|one| one.join(&rt)).ok(),
             two.map(|two| two.join(&rt)).ok(),
             three.map(|three| three.join(&rt)).ok(),
             four.map(|four| four.join(&rt)).ok(),
-        ];
-        (rounds, collections)
+            five.map(|five| five.join(&rt)).ok(),
+        ]
     });
-    assert_eq!(rt; all, ([Some(ROUNDS); 4], COLLECTIONS));
+    let rounds = Some(ROUNDS);
+    assert_eq!(rt; all, [rounds, rounds, rounds, rounds, Some(COLLECTIONS)]);
     Ok(())
 }
