@@ -38,9 +38,9 @@ collected_uncontended hs os used = (
 )
 
 collect_uncontended : (old new : Frames) (acts : List Act) (answer : Result (ℕ × ℕ × ℕ) Fault) → parts.collect old acts answer new → AreUncontended acts
-collect_uncontended old new acts answer (inl (hs, os, used, is, more)) = subst AreUncontended (sym is) (collected_uncontended hs os used)
-collect_uncontended old new acts answer (inr (inl (n, mid, front, rest, is, (m, one, more), (none, last)))) = subst AreUncontended (sym (is ∙ (ap (λ l. l ++ rest) one ∙ ap (λ l. ShutBusy m ∷ l) none))) (refl, tt)
-collect_uncontended old new acts answer (inr (inr (e, is, (m, one, bad, more)))) = absurd cc
+collect_uncontended old new acts answer (inl (hs, os, used, is, counts, same)) = subst AreUncontended (sym is) (collected_uncontended hs os used)
+collect_uncontended old new acts answer (inr (inl (n, mid, front, rest, is, first, next))) = subst AreUncontended (sym (is ∙ (ap (λ l. l ++ rest) first.1 ∙ ap (λ l. ShutBusy first.0 ∷ l) next.0))) (refl, tt)
+collect_uncontended old new acts answer (inr (inr r)) = let bad = r.2.2 in absurd cc
 
 module _ (turns : ℕ) (names : Names) where
   ran_collecting : (old new : Moment) (answer : Result Reply Fault) (found : Result (ℕ × ℕ × ℕ) Fault) → IsAlone new.pass → IfErr answer (IsCommandFault turns names (commands.OfRoom of_room.Collect) new.pass new.frames) → Ran old.pass new.pass old.frames new.frames parts.collect found → LedAlone turns (names, commands.OfRoom of_room.Collect) old.pass new.pass new.frames answer

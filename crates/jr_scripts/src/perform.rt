@@ -259,7 +259,6 @@ pub fn perform<S: Steps, B: Board>(
             ..
         } => release(env, names, turns, name, target, *mode),
         Command::OfRoom { .. } => collect(env, marker),
-        Command::CloseLevel { .. } => Err(Fault::InCritical),
-        Command::OpenLevel { .. } => unreachable!(),
+        Command::OpenLevel { .. } | Command::CloseLevel { .. } => Err(Fault::InCritical),
     }
 }

@@ -3,7 +3,10 @@
 //! A refused growth ends a test with `Memory`, once it is checked that nothing was printed. Any other answer than the
 //! one that is wanted fails an assertion: so each growth may be refused in turn, and the assertions stand.
 
+ghost use Rattle.jr_env.specs.Envs.{IsOutside};
+
 use crate::thread_ends::plain_env;
+use jr_env::Env;
 use jr_scripts::{Hold, NoHold, Posts, run_all, run_one, run_thread};
 use jr_steps::Steps;
 use jr_syntax::{
@@ -247,6 +250,32 @@ fn a_script_whose_sizes_do_not_fit(rt: HostRuntime) -> Result<(), Fail> {
     Ok(())
 }
 
+/// Runs commands, of which the first stands on line 10, with a marker that is made for it.
+fn run_from_line_10<S: Steps>(
+    alloc: Global,
+    env: &mut Env<S>,
+    commands: &[Command; 2],
+    turns: u64,
+    out: &mut Vec<u8>,
+) -> Result<(), Fault>
+    requires { IsOutside env.old }
+    ensures { IsOutside env.new }
+{
+    let board = Posts::new(alloc);
+    let mut marker = Marker::new(alloc, env.held.steps.config())?;
+    run_thread(
+        alloc,
+        env,
+        &mut marker,
+        10,
+        commands,
+        &board,
+        &NoHold,
+        turns,
+        out,
+    )
+}
+
 #[test]
 fn a_thread_without_turns(rt: HostRuntime) -> Result<(), Fail> {
     let alloc = rt.alloc();
@@ -261,33 +290,10 @@ fn a_thread_without_turns(rt: HostRuntime) -> Result<(), Fail> {
         },
     ];
     let mut env = plain_env(alloc)?;
-    let board = Posts::new(alloc);
     let mut out = Vec::from_slice(alloc, BEFORE)?;
-    let mut marker = Marker::new(alloc, env.held.steps.config())?;
-    run_thread(
-        alloc,
-        &mut env,
-        &mut marker,
-        10,
-        &commands,
-        &board,
-        &NoHold,
-        0,
-        &mut out,
-    )?;
+    run_from_line_10(alloc, &mut env, &commands, 0, &mut out)?;
     assert_eq!(rt; out.as_slice(), b"before\n10 ! E20\ntype p 0\n".as_slice());
-    let mut marker = Marker::new(alloc, env.held.steps.config())?;
-    run_thread(
-        alloc,
-        &mut env,
-        &mut marker,
-        10,
-        &commands,
-        &board,
-        &NoHold,
-        1,
-        &mut out,
-    )?;
+    run_from_line_10(alloc, &mut env, &commands, 1, &mut out)?;
     assert_eq!(rt;
         out.as_slice(),
         b"before\n10 ! E20\ntype p 0\ntype p 1\n".as_slice()
