@@ -11,10 +11,11 @@ use Rattle.jr_syntax.specs.declared.command.Command.TheVariants as commands
 use Rattle.jr_syntax.specs.declared.verb.OnName.TheVariants as on_name
 use Rattle.jr_syntax.specs.declared.verb.OnNameAt.TheVariants as on_name_at
 use Rattle.jr_syntax.specs.declared.verb.PutAt.TheVariants as put_at
+use Rattle.jr_syntax.specs.declared.verb.OfRoom.TheVariants as of_room
 use Rattle.jr_scripts.specs.declared.reply.Reply.{Reply}
 use Rattle.jr_scripts.specs.Names.{Names}
 use Rattle.jr_scripts.specs.Places.{Place, by_region}
-use Rattle.jr_scripts.specs.Commands.{deed}
+use Rattle.jr_scripts.specs.Commands.{collecting, deed}
 use Rattle.jr_scripts.specs.RegionCommands.{deed_at, deed_within, giving_up_all}
 use Rattle.jr_gate.specs.Performing.{Moment}
 use Rattle.jr_scripts.specs.Explains.{Explains, nothing, then}
@@ -41,6 +42,11 @@ made_outside turns names c made weaker old new answer alone d =
     go (Ok x) h = tt
     go (Err e) h = weaker new.pass new e h
 
+-- a collection is answered, and not refused
+never_refused : (old new : Moment) (answer : Result Reply Fault) → collecting old answer new → IfErr answer (λ e. ⊥)
+never_refused old new (Ok x) d = tt
+never_refused old new (Err e) d = d
+
 outside_alone : (turns : ℕ) (names : Names) (c : Command) (old new : Moment) (answer : Result Reply Fault) → IsAlone new.pass → deed turns names c old answer new → Led (IsFaultOutside turns names c new.pass new.frames) old.pass new.pass answer
 outside_alone turns names (commands.OnNameAt on_name_at.GetInLevel n i) old new answer alone d = (decided_by {P = λ s e. e ≡ InCritical} {Q = λ m. Unit {0}} (Err InCritical) (λ m so. refl)).led old new answer tt alone d
 outside_alone turns names (commands.PutAt put_at.PutInLevel n i x) old new answer alone d = (decided_by {P = λ s e. e ≡ InCritical} {Q = λ m. Unit {0}} (Err InCritical) (λ m so. refl)).led old new answer tt alone d
@@ -61,7 +67,9 @@ outside_alone turns names (commands.OnAt v r i) old new answer alone d = made_ou
 outside_alone turns names (commands.SetAt v r i q) old new answer alone d = made_outside turns names (commands.SetAt v r i q) tt (λ v m e h. h) old new answer alone d
 outside_alone turns names (commands.StoreAt v r i x) old new answer alone d = made_outside turns names (commands.StoreAt v r i x) tt (λ v m e h. h) old new answer alone d
 outside_alone turns names (commands.Release v n r mode) old new answer alone d = made_outside turns names (commands.Release v n r mode) tt (λ v m e h. h) old new answer alone d
-outside_alone turns names (commands.OfRoom v) old new answer alone d = made_outside turns names (commands.OfRoom v) tt (λ v m e h. h) old new answer alone d
+outside_alone turns names (commands.OfRoom of_room.Collect) old new answer alone d =
+    let y = (deed_alone turns names (commands.OfRoom of_room.Collect) tt).led old new answer alone d in
+    record { config = y.config; thread = y.thread; begins = y.begins; uncontended = y.uncontended; fault = never_refused old new answer d }
 outside_alone turns names (commands.OpenLevel v n r) old new answer alone d = made_outside turns names (commands.OpenLevel v n r) tt (λ v m e h. h) old new answer alone d
 
 -- a command where the thread stands
