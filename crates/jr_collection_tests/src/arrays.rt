@@ -11,7 +11,7 @@ fn an_array_of_all_words_and_one_of_none(rt: HostRuntime) -> Result<(), Fail> {
     assert_eq!(rt; env.new_array::<i32>(1), Err(Fault::SpaceFull(8)));
     let none = env.new_array::<i32>(0)?;
     env.delete_local_ref(all)?;
-    assert_eq!(rt; collected(rt.alloc(), &mut env), Ok([0, 1, 0]));
+    assert_eq!(rt; collected(rt.alloc(), &mut env)?, [0, 1, 0]);
     let again = env.new_array::<i32>(8)?;
     assert_eq!(rt; env.get_array_length(none)?, 0);
     has_elements(&rt, &mut env, again, &mut [7i32; 8], &[0; 8])
@@ -26,7 +26,7 @@ fn arrays_before_and_behind_one_that_is_dropped(rt: HostRuntime) -> Result<(), F
     env.set_array_region(behind, 0, &[1, 2, 3, 4])?;
     env.set_array_region(before, 2, &[9])?;
     env.delete_local_ref(dropped)?;
-    assert_eq!(rt; collected(rt.alloc(), &mut env), Ok([0, 1, 7]));
+    assert_eq!(rt; collected(rt.alloc(), &mut env)?, [0, 1, 7]);
     has_elements(&rt, &mut env, behind, &mut [7i32; 4], &[1, 2, 3, 4])?;
     has_elements(&rt, &mut env, before, &mut [7i32; 3], &[0, 0, 9])?;
     let new = env.new_array::<i32>(2)?;
@@ -40,7 +40,7 @@ fn an_array_moves_by_one_place_over_itself(rt: HostRuntime) -> Result<(), Fail> 
     let second = env.new_array::<i32>(7)?;
     env.set_array_region(second, 0, &[1, 2, 3, 4, 5, 6, 7])?;
     env.delete_local_ref(first)?;
-    assert_eq!(rt; collected(rt.alloc(), &mut env), Ok([0, 1, 7]));
+    assert_eq!(rt; collected(rt.alloc(), &mut env)?, [0, 1, 7]);
     has_elements(
         &rt,
         &mut env,
@@ -59,9 +59,9 @@ fn reserved_words_of_what_was_refused_are_free_again(rt: HostRuntime) -> Result<
     let array = env.new_array::<i32>(4)?;
     assert_eq!(rt; env.new_array::<i32>(2), Err(Fault::ObjectsFull));
     assert_eq!(rt; env.new_array::<i32>(3), Err(Fault::SpaceFull(6)));
-    assert_eq!(rt; collected(rt.alloc(), &mut env), Ok([0, 0, 4]));
+    assert_eq!(rt; collected(rt.alloc(), &mut env)?, [0, 0, 4]);
     env.delete_local_ref(array)?;
-    assert_eq!(rt; collected(rt.alloc(), &mut env), Ok([0, 1, 0]));
+    assert_eq!(rt; collected(rt.alloc(), &mut env)?, [0, 1, 0]);
     let all = env.new_array::<i32>(8)?;
     has_elements(&rt, &mut env, all, &mut [7i32; 8], &[0; 8])
 }
@@ -74,7 +74,7 @@ fn a_string_and_an_array_of_objects_move(rt: HostRuntime) -> Result<(), Fail> {
     let objects = env.new_object_array(2, string)?;
     env.delete_local_ref(first)?;
     env.delete_local_ref(string)?;
-    assert_eq!(rt; collected(rt.alloc(), &mut env), Ok([0, 1, 4]));
+    assert_eq!(rt; collected(rt.alloc(), &mut env)?, [0, 1, 4]);
     let found = env
         .get_object_array_element(objects, 1)?
         .unwrap_or(Handle::NULL);

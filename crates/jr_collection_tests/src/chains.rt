@@ -41,9 +41,9 @@ fn a_chain_is_reached_from_its_last(rt: HostRuntime) -> Result<(), Fail> {
     let mut env = lone_env(rt.alloc(), sized(LINKS, LINKS))?;
     let first = env.new_object_array(1, Handle::NULL)?;
     let last = chain(&mut env, first, LINKS)?;
-    assert_eq!(rt; collected(rt.alloc(), &mut env), Ok([0, 0, 60_000]));
+    assert_eq!(rt; collected(rt.alloc(), &mut env)?, [0, 0, 60_000]);
     env.delete_local_ref(last)?;
-    assert_eq!(rt; collected(rt.alloc(), &mut env), Ok([0, 60_000, 0]));
+    assert_eq!(rt; collected(rt.alloc(), &mut env)?, [0, 60_000, 0]);
     Ok(())
 }
 
@@ -55,9 +55,9 @@ fn a_cycle_is_reached_from_any_and_else_dropped(rt: HostRuntime) -> Result<(), F
     let word = weak(&mut env, first)?;
     let last = chain(&mut env, first, LINKS)?;
     close(&rt, &mut env, kept, last)?;
-    assert_eq!(rt; collected(rt.alloc(), &mut env), Ok([0, 0, 60_000]));
+    assert_eq!(rt; collected(rt.alloc(), &mut env)?, [0, 0, 60_000]);
     env.delete_global_ref(kept)?;
-    assert_eq!(rt; collected(rt.alloc(), &mut env), Ok([1, 60_000, 0]));
+    assert_eq!(rt; collected(rt.alloc(), &mut env)?, [1, 60_000, 0]);
     assert_eq!(rt; env.get_object_ref_type(word)?, 3);
     Ok(())
 }

@@ -23,11 +23,11 @@ fn a_weak_reference_to_what_is_not_reached(rt: HostRuntime) -> Result<(), Fail> 
     let mut env = lone_env(rt.alloc(), sized(8, 16))?;
     let plain = env.new_plain()?;
     let word = weak(&mut env, plain)?;
-    assert_eq!(rt; collected(rt.alloc(), &mut env), Ok([0, 0, 0]));
+    assert_eq!(rt; collected(rt.alloc(), &mut env)?, [0, 0, 0]);
     assert!(rt; env.is_same_object(word, plain)?);
     env.delete_local_ref(plain)?;
-    assert_eq!(rt; collected(rt.alloc(), &mut env), Ok([1, 1, 0]));
-    assert_eq!(rt; collected(rt.alloc(), &mut env), Ok([0, 0, 0]));
+    assert_eq!(rt; collected(rt.alloc(), &mut env)?, [1, 1, 0]);
+    assert_eq!(rt; collected(rt.alloc(), &mut env)?, [0, 0, 0]);
     is_cleared(&rt, &mut env, word)
 }
 
@@ -41,7 +41,7 @@ fn an_object_that_an_array_names(rt: HostRuntime) -> Result<(), Fail> {
     let word = weak(&mut env, plain)?;
     env.delete_local_ref(plain)?;
     env.delete_local_ref(array)?;
-    assert_eq!(rt; collected(rt.alloc(), &mut env), Ok([0, 0, 2]));
+    assert_eq!(rt; collected(rt.alloc(), &mut env)?, [0, 0, 2]);
     let found = env.get_object_array_element(kept, 1)?;
     assert!(rt; env.is_same_object(found.unwrap_or(Handle::NULL), word)?);
     assert_eq!(rt; env.get_object_array_element(kept, 0)?, None);
@@ -55,9 +55,9 @@ fn arrays_that_name_each_other(rt: HostRuntime) -> Result<(), Fail> {
     let two = env.new_object_array(1, one)?;
     env.set_object_array_element(one, 0, two)?;
     env.delete_local_ref(one)?;
-    assert_eq!(rt; collected(rt.alloc(), &mut env), Ok([0, 0, 2]));
+    assert_eq!(rt; collected(rt.alloc(), &mut env)?, [0, 0, 2]);
     env.delete_local_ref(two)?;
-    assert_eq!(rt; collected(rt.alloc(), &mut env), Ok([0, 2, 0]));
+    assert_eq!(rt; collected(rt.alloc(), &mut env)?, [0, 2, 0]);
     Ok(())
 }
 
@@ -73,7 +73,7 @@ fn clears_all_of_one<S: Steps>(
     let other = weak(env, kept)?;
     assert_eq!(rt; env.new_weak_global_ref(kept), Err(Fault::RowFull));
     env.delete_local_ref(gone)?;
-    assert_eq!(rt; collected(alloc, env), Ok([3, 1, 0]));
+    assert_eq!(rt; collected(alloc, env)?, [3, 1, 0]);
     for word in words {
         is_cleared(rt, env, word)?;
     }
@@ -93,10 +93,10 @@ fn references_of_an_older_frame(rt: HostRuntime) -> Result<(), Fail> {
     let older = env.new_array::<i64>(3)?;
     env.push_local_frame(4)?;
     let newer = env.new_array::<i64>(2)?;
-    assert_eq!(rt; collected(rt.alloc(), &mut env), Ok([0, 0, 5]));
+    assert_eq!(rt; collected(rt.alloc(), &mut env)?, [0, 0, 5]);
     assert_eq!(rt; env.get_array_length(newer)?, 2);
     assert_eq!(rt; env.pop_local_frame(Handle::NULL)?, None);
-    assert_eq!(rt; collected(rt.alloc(), &mut env), Ok([0, 1, 3]));
+    assert_eq!(rt; collected(rt.alloc(), &mut env)?, [0, 1, 3]);
     assert_eq!(rt; env.get_array_length(older)?, 3);
     assert_eq!(rt; env.get_array_length(newer), Err(Fault::Stale));
     Ok(())

@@ -53,7 +53,7 @@ fn bars_and_lets<S: Steps, T: Steps>(
     assert_eq!(rt; written, Ok(()));
     assert_eq!(rt; barred, Err(Fault::Busy(1)));
     assert_eq!(rt; read, Ok(7));
-    assert_eq!(rt; collected(alloc, other), Ok([0, 1, 2]));
+    assert_eq!(rt; collected(alloc, other)?, [0, 1, 2]);
     Ok(())
 }
 
