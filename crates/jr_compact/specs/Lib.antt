@@ -1,3 +1,3 @@
-pub mod Sliding
 pub mod Compacting
 pub mod Noting
+pub mod Sliding

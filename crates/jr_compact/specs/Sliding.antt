@@ -1,4 +1,4 @@
--- What a collector has to know to move an object down, and to end its collection.
+-- For the crate's own functions: what a collector has to know to move an object down.
 use Rattle.std.specs.Prelude.{◌+◌, ◌<◌, ◌≤◌, ℕ}
 use Rattle.jr_word.specs.declared.header.HeaderParts.{HeaderParts}
 use Rattle.jr_steps.specs.declared.known.Known.{Known}

@@ -7,4 +7,3 @@ mod sliding;
 
 pub use compacting::compact;
 pub use placed::PlacedObject;
-pub use sliding::slide;

@@ -10,7 +10,7 @@ use jr_steps::Steps;
 use jr_word::HeaderParts;
 
 /// Moves an object down to a place, element by element from the first on, since the two places may overlap, and then its header. No step of it is one of the machine.
-pub fn slide<S: Steps>(steps: &mut S, object: u16, header: HeaderParts, place: u32)
+pub(crate) fn slide<S: Steps>(steps: &mut S, object: u16, header: HeaderParts, place: u32)
     requires role { (S.facts steps.old).stands.role ≡ Collecting }
     requires number { (1 ≤ object) × (object ≤ (S.facts steps.old).stands.config.objects) }
     requires header { IsHeader (placed header place) }

@@ -2,7 +2,7 @@
 
 ghost use Rattle.std.specs.Prelude.{◌≡◌, true, length, map, IfOk, IsOk, Ok};
 ghost use Rattle.jr_model.specs.declared.event.Role.TheVariants.{Within};
-ghost use Rattle.jr_model.specs.Calls.{unless_memory};
+ghost use Rattle.jr_model.specs.Calls.{unless_memory_for};
 ghost use Rattle.jr_model.specs.Checks.{is_read_as, same_element};
 ghost use Rattle.jr_model.specs.Parts.{read as reading, write as writing};
 ghost use Rattle.jr_steps.specs.Knowing.{MayKnow};
@@ -44,7 +44,7 @@ pub fn read_all<S: Steps, E: Elem>(
     ensures stands { (S.facts steps.new).stands ≡ (S.facts steps.old).stands }
     ensures size { IfOk result (λ items. length items.items ≡ header.length) }
     ensures none { header.length ≡ 0 → IsOk result }
-    ensures call { Called S.facts steps.old steps.new (HoldsHeader object header) (λ j k. unless_memory (reading object 0 header.length)) (answer_in (λ items. map E.word_of items.items) result) (by_steps (copy_steps header.length result) (LeavesObject object header)) }
+    ensures call { Called S.facts steps.old steps.new (HoldsHeader object header) (λ j k. unless_memory_for header.length (reading object 0 header.length)) (answer_in (λ items. map E.word_of items.items) result) (by_steps (copy_steps header.length result) (LeavesObject object header)) }
     ensures known { MayKnow S.facts steps.new (HoldsHeader object header) }
 {
     let Ok(mut items) = zeros(alloc, header.length) else {

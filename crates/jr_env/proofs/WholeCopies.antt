@@ -1,18 +1,18 @@
 -- All elements of an object are copied, or written back.
-use Rattle.std.proofs.Common.{◌≡◌, ◌≢◌, ℕ, ◌==◌, true, false, not, List, length, map, Result, Ok, Err, inl, inr, refl, sym, ap, subst, ◌∙◌, arith}
+use Rattle.std.proofs.Common.{◌≡◌, ◌≢◌, ℕ, zero, suc, ◌==◌, true, false, not, List, length, map, Result, Ok, Err, inl, inr, refl, sym, ap, subst, ◌∙◌, arith}
 use Rattle.std.proofs.lemmas.Bool.Decides.{nat_tests}
 use Rattle.std.proofs.lemmas.List.{map-id}
 use Rattle.std.specs.Result.{IsErrAnd}
 use Rattle.jr_word.specs.declared.config.Config.{Config}
 use Rattle.jr_word.specs.declared.fault.Fault.{Fault}
-use Rattle.jr_word.specs.declared.fault.Fault.TheVariants.{WrongKind, NotArray, WrongElement, Range}
+use Rattle.jr_word.specs.declared.fault.Fault.TheVariants.{Memory, WrongKind, NotArray, WrongElement, Range}
 use Rattle.jr_word.specs.declared.header.HeaderParts.{HeaderParts}
 use Rattle.jr_word.specs.declared.kind.Kind.{Kind}
 use Rattle.jr_model.specs.declared.event.Act.{Act}
 use Rattle.jr_model.specs.State.{State}
 use Rattle.jr_model.specs.History.{PassView, IsLegal}
 use Rattle.jr_model.specs.Frames.{Frames}
-use Rattle.jr_model.specs.Calls.{Call, Ran, ◌>>◌, done, entered, for_object, refuse_if, unless_memory}
+use Rattle.jr_model.specs.Calls.{Call, Ran, ◌>>◌, done, entered, for_object, one_of, refuse, refuse_if, unless_memory_for}
 use Rattle.jr_model.specs.Checks.{Word, is_array, is_text, same_element}
 use Rattle.jr_model.specs.Parts.{read, write}
 use Rattle.jr_model.proofs.Runs.{ran_err, ran_give}
@@ -52,7 +52,7 @@ units_then next o l n = do
 
 -- n elements, unless no memory is left
 abbrev pub copied : ℕ → ℕ → Call (List ℕ)
-copied o n = unless_memory (read o 0 n)
+copied o n = unless_memory_for n (read o 0 n)
 
 -- a buffer of just n words, written from the first element on
 abbrev pub written : List ℕ → ℕ → ℕ → Call (Unit {0})
@@ -117,11 +117,19 @@ steady_then_at c last t w next = steady_at c last t w (λ s o. for_object s o (n
 
 -- ACTS of a copy: as many as it has elements, and none where the memory was refused
 
+-- the elements were read, or no memory was left
+read_or_short : (o n : ℕ) (f g : Frames) (acts : List Act) (answer : Result (List ℕ) Fault) → copied o n f acts answer g → one_of (read o 0 n) (refuse Memory) f acts answer g
+read_or_short o zero f g acts answer r = inl r
+read_or_short o (suc n) f g acts answer r = r
+
+spared_by : {A : Type 0} (form : A → List ℕ) (o n : ℕ) (f g : Frames) (acts : List Act) (answer : Result A Fault) → one_of (read o 0 n) (refuse Memory) f acts (answer_in form answer) g → AreSpared (copy_steps n answer) acts
+spared_by form o n f g acts (Ok x) (inl r) = read_spared o 0 n f g acts (Ok (form x)) r
+spared_by form o n f g acts (Ok x) (inr r) = absurd (let e = r.1 in cc)
+spared_by form o n f g acts (Err e) (inl r) = absurd (let d = r.3 in cc)
+spared_by form o n f g acts (Err e) (inr r) = subst (AreSpared 0) (sym r.0) (record { long = refl; spares = tt; fresh = λ b. refl })
+
 pub copy_spared : {A : Type 0} (form : A → List ℕ) (o n : ℕ) (f g : Frames) (acts : List Act) (answer : Result A Fault) → copied o n f acts (answer_in form answer) g → AreSpared (copy_steps n answer) acts
-copy_spared form o n f g acts (Ok x) (inl r) = read_spared o 0 n f g acts (Ok (form x)) r
-copy_spared form o n f g acts (Ok x) (inr r) = absurd (let e = r.1 in cc)
-copy_spared form o n f g acts (Err e) (inl r) = absurd (let d = r.3 in cc)
-copy_spared form o n f g acts (Err e) (inr r) = subst (AreSpared 0) (sym r.0) (record { long = refl; spares = tt; fresh = λ b. refl })
+copy_spared form o n f g acts answer r = spared_by form o n f g acts answer (read_or_short o n f g acts (answer_in form answer) r)
 
 -- WORKS
 

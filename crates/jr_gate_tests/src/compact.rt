@@ -8,7 +8,6 @@ ghost use Rattle.jr_rule.specs.Passes.{IsOpened};
 ghost use Rattle.jr_compact.specs.Sliding.{CanSlide};
 
 use crate::rooms::last_of;
-use jr_compact::slide;
 use jr_heap::{Numbers, fill, publish, reserve, write};
 use jr_rule::{Pass, PlainSteps, Room, RoomSteps};
 use jr_steps::{Role, Steps, TopLoad};
@@ -50,7 +49,7 @@ pub(crate) fn make<S: Steps>(steps: &mut S) -> Result<(), Fail> {
     Ok(())
 }
 
-/// Moves an array down as `slide` does, and looks at each of its elements that is still to be moved.
+/// Moves an array down as a collection does, and looks at each of its elements that is still to be moved.
 fn slide_and_look<S: Steps>(
     rt: &impl Abort,
     steps: &mut S,

@@ -16,7 +16,7 @@ use Rattle.jr_model.specs.declared.frames.Mode.TheVariants.{Copy, Commit, Abort}
 use Rattle.jr_model.specs.declared.frames.TheConstants.{FRAMES, LEVELS}
 use Rattle.jr_model.specs.State.{Handle, State}
 use Rattle.jr_model.specs.Frames.{Frames, LeadsTo, stays, goes_on, pushes, adds, deletes, pops, frees, without_local, free_places, object_of, popped, pushed}
-use Rattle.jr_model.specs.Calls.{Call, ◌>>=◌, ◌>>◌, act, done, entered, opened, one_of, refuse, refuse_if, some_act, for_object}
+use Rattle.jr_model.specs.Calls.{Call, ◌>>=◌, ◌>>◌, act, done, entered, opened, one_of, refuse, refuse_if, some_act, unless_memory_for, for_object}
 use Rattle.jr_model.specs.Checks.{Word, Nothing, Malformed, Parts, is_array, is_foreign, is_local, is_malformed, is_of_kind, is_objects, is_out_of_bounds, is_primitive, is_text, same_element, type_local}
 use Rattle.jr_model.specs.Parts.{create, created, delete_at, delete_found, delete_local_at, drop_local, found_object, frame_left, frame_to_pop, local_object, look, looked, looked_at, new_frame, not_null, probes, publish, read, reserve, take_frame, type_at, write}
 use Rattle.jr_model.specs.References.{resolved, resolved_both, room_for, room_after, added, new_local, made, delete_local, local_removal, freeing, popping}
@@ -71,6 +71,10 @@ module _ (last thread : ℕ) where
       leads : (old new : Frames) (acts : List Act) (answer : Result A Fault) → one_of p q old acts answer new → LeadsTo last thread old new
       leads old new acts answer (inl r) = a.leads old new acts answer r
       leads old new acts answer (inr r) = b.leads old new acts answer r
+
+  memory_moves : {A : Type 0} {work : Call A} (n : ℕ) → MovesFrames last thread work → MovesFrames last thread (unless_memory_for n work)
+  memory_moves zero q = q
+  memory_moves (suc n) q = one_moves q (refuse_moves fault.Memory)
 
   header_moves : {A : Type 0} (s : State) (o : ℕ) {next : Kind → ℕ → Call A} → ((k : Kind) (n : ℕ) → MovesFrames last thread (next k n)) → MovesFrames last thread (for_object s o next)
   header_moves s o q = record { leads = λ old new acts answer r. (q _ _).leads old new acts answer r.2 }
@@ -342,8 +346,8 @@ module _ (last thread : ℕ) where
         get_array_region = λ k a start n. entered_moves (bind_moves (part_moves k start n a) (λ o. read_moves o start n));
         set_array_region = λ k a start vs. entered_moves (bind_moves (part_moves k start (length vs) a) (λ o. write_moves o start vs));
         get_array_elements = λ k a. entered_moves (bind_moves (resolved_moves a) (λ x. bind_moves (null_moves x) (λ o. header_moves s o (λ l n.
-            bind_moves (check_moves (not (is_array l)) NotArray) (λ y. bind_moves (check_moves (not (same_element k l)) WrongElement) (λ z. one_moves (read_moves o 0 n) (refuse_moves fault.Memory)))))));
-        get_string_chars = λ a. entered_moves (bind_moves (resolved_moves a) (λ x. bind_moves (null_moves x) (λ o. header_moves s o (λ l n. bind_moves (check_moves (not (is_text l)) WrongKind) (λ y. one_moves (read_moves o 0 n) (refuse_moves fault.Memory))))));
+            bind_moves (check_moves (not (is_array l)) NotArray) (λ y. bind_moves (check_moves (not (same_element k l)) WrongElement) (λ z. memory_moves n (read_moves o 0 n)))))));
+        get_string_chars = λ a. entered_moves (bind_moves (resolved_moves a) (λ x. bind_moves (null_moves x) (λ o. header_moves s o (λ l n. bind_moves (check_moves (not (is_text l)) WrongKind) (λ y. memory_moves n (read_moves o 0 n))))));
         release_array_elements = release_moves;
         get_array_critical = λ a. opened_moves (array_moves 0 a);
         get_string_critical = λ a. opened_moves (string_moves 0 a);

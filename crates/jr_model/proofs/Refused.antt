@@ -1,14 +1,14 @@
 -- Refusals change nothing.
-use Rattle.std.proofs.Common.{◌≡◌, inl, inr, ℕ, Bool, true, false, List, [], ◌∷◌, Result, Ok, Err, refl, sym, subst, ◌∙◌}
+use Rattle.std.proofs.Common.{◌≡◌, inl, inr, ℕ, zero, suc, Bool, true, false, List, [], ◌∷◌, Result, Ok, Err, refl, sym, subst, ◌∙◌}
 use Rattle.std.specs.List.{AllByRecursion}
 use Rattle.jr_word.specs.declared.fault.Fault.{Fault}
-use Rattle.jr_word.specs.declared.fault.Fault.TheVariants.{ObjectsFull}
+use Rattle.jr_word.specs.declared.fault.Fault.TheVariants.{Memory, ObjectsFull}
 use Rattle.jr_word.specs.declared.kind.Kind.{Kind}
 use Rattle.jr_model.specs.declared.event.Act.{Act}
 use Rattle.jr_model.specs.declared.event.Act.TheVariants.{Enter, Leave, Reserve}
 use Rattle.jr_model.specs.State.{State}
 use Rattle.jr_model.specs.Frames.{Frames}
-use Rattle.jr_model.specs.Calls.{Call, ◌>>=◌, act, done, refuse, refuse_if, some_act, one_of, for_object, entered, opened}
+use Rattle.jr_model.specs.Calls.{Call, ◌>>=◌, act, done, refuse, refuse_if, some_act, one_of, unless_memory_for, for_object, entered, opened}
 use Rattle.jr_model.specs.RefusedCalls.{is_harmless, may_precede, ChangesNothing}
 use Rattle.jr_model.proofs.Exactly.{append_all}
 
@@ -139,6 +139,10 @@ one_of_safe {A} {p} {q} a b = record { frames = frames; acts = acts_of }
     acts_of : (old new : Frames) (acts : List Act) (e : Fault) → one_of p q old acts (Err e) new → AllByRecursion (λ x. may_precede e x ≡ true) acts
     acts_of old new acts e (inl r) = a.acts old new acts e r
     acts_of old new acts e (inr r) = b.acts old new acts e r
+
+pub memory_safe : {A : Type 0} {work : Call A} (n : ℕ) → ChangesNothing work → ChangesNothing (unless_memory_for n work)
+memory_safe zero q = q
+memory_safe (suc n) q = one_of_safe q (refuse_calm Memory).safe
 
 pub header_safe : {A : Type 0} (s : State) (o : ℕ) {next : Kind → ℕ → Call A} → ((k : Kind) (n : ℕ) → ChangesNothing (next k n)) → ChangesNothing (for_object s o next)
 header_safe s o q = record { frames = λ old new acts e r. (q _ _).frames old new acts e r.2; acts = λ old new acts e r. (q _ _).acts old new acts e r.2 }

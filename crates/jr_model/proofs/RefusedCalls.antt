@@ -23,7 +23,7 @@ use Rattle.jr_model.specs.References.{resolved, resolved_both, room_for, room_af
 use Rattle.jr_model.specs.Objects.{part_of, copying_back, length_reading, level_array, level_string, region_release, release_array_elements}
 use Rattle.jr_model.specs.RefusedCalls.{may_precede, ChangesNothing, RefusalsChangeNothing, HarmlessChangesNothing}
 use Rattle.jr_model.proofs.Exactly.{append_all}
-use Rattle.jr_model.proofs.Refused.{AreHarmless, NeverRefuses, IsCalm, never_safe, done_never, done_calm, refuse_calm, refuse_if_calm, act_never, act_calm, some_act_never, some_act_calm, bind_safe, bind_never, never_bind, bind_calm, one_of_safe, header_safe, header_calm, entered_safe, opened_safe}
+use Rattle.jr_model.proofs.Refused.{AreHarmless, NeverRefuses, IsCalm, never_safe, done_never, done_calm, refuse_calm, refuse_if_calm, act_never, act_calm, some_act_never, some_act_calm, bind_safe, bind_never, never_bind, bind_calm, one_of_safe, memory_safe, header_safe, header_calm, entered_safe, opened_safe}
 
 -- PARTS
 
@@ -321,9 +321,9 @@ module _ (c : Config) (last thread : ℕ) (s : State) where
     get_array_region = λ k a start n. entered_safe (bind_safe (part_calm k start n a) (λ o. never_safe (read_never o start n)));
     set_array_region = λ k a start vs. entered_safe (bind_safe (part_calm k start (length vs) a) (λ o. never_safe (write_never o start vs)));
     get_array_elements = λ k a. entered_safe (bind_safe (resolved_calm c last thread a) (λ x. bind_safe (not_null_calm x) (λ o. header_safe s o (λ l n.
-        bind_safe (refuse_if_calm (not (is_array l)) NotArray) (λ y. bind_safe (refuse_if_calm (not (same_element k l)) WrongElement) (λ z. one_of_safe (never_safe (read_never o 0 n)) (refuse_calm Memory).safe))))));
+        bind_safe (refuse_if_calm (not (is_array l)) NotArray) (λ y. bind_safe (refuse_if_calm (not (same_element k l)) WrongElement) (λ z. memory_safe n (never_safe (read_never o 0 n))))))));
     get_string_chars = λ a. entered_safe (bind_safe (resolved_calm c last thread a) (λ x. bind_safe (not_null_calm x) (λ o. header_safe s o (λ l n.
-        bind_safe (refuse_if_calm (not (is_text l)) WrongKind) (λ y. one_of_safe (never_safe (read_never o 0 n)) (refuse_calm Memory).safe)))));
+        bind_safe (refuse_if_calm (not (is_text l)) WrongKind) (λ y. memory_safe n (never_safe (read_never o 0 n)))))));
     release_array_elements = release_safe;
     get_array_critical = λ a. opened_safe (level_array_calm 0 a).safe;
     get_string_critical = λ a. opened_safe (level_string_calm 0 a).safe;

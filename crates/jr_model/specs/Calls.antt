@@ -1,5 +1,5 @@
 -- What a call may do: its acts in order, its answer, and the frames that it leaves.
-use Rattle.std.specs.Prelude.{◌≡◌, ◌⊎◌, ℕ, Bool, true, false, Some, Result, Ok, Err, MatchResult, IfErr, List, [], ◌∷◌, ◌++◌, length}
+use Rattle.std.specs.Prelude.{◌≡◌, ◌⊎◌, ℕ, zero, suc, Bool, true, false, Some, Result, Ok, Err, MatchResult, IfErr, List, [], ◌∷◌, ◌++◌, length}
 use Rattle.jr_word.specs.declared.kind.Kind.{Kind}
 use Rattle.jr_word.specs.declared.fault.Fault.{Fault}
 use Rattle.jr_word.specs.declared.fault.Fault.TheVariants.{Barred, Memory}
@@ -56,9 +56,10 @@ abbrev pub refuse_if : Bool → Fault → Call (Unit {0})
 refuse_if true e = refuse e
 refuse_if false e = done tt
 
--- the work, or no memory is left for it
-abbrev pub unless_memory : {A : Type 0} → Call A → Call A
-unless_memory work = one_of work (refuse Memory)
+-- the work, or no memory is left for so many elements; for none it is not asked
+abbrev pub unless_memory_for : {A : Type 0} → ℕ → Call A → Call A
+unless_memory_for zero work = work
+unless_memory_for (suc n) work = one_of work (refuse Memory)
 
 -- what follows for the kind and the length of the object in s
 abbrev pub for_object : {A : Type 0} → State → ℕ → (Kind → ℕ → Call A) → Call A

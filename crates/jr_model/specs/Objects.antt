@@ -9,7 +9,7 @@ use Rattle.jr_model.specs.declared.frames.TheConstants.{LEVELS}
 use Rattle.jr_model.specs.declared.frames.Mode.{Mode}
 use Rattle.jr_model.specs.declared.frames.Mode.TheVariants.{Copy, Commit, Abort}
 use Rattle.jr_model.specs.State.{Handle, State}
-use Rattle.jr_model.specs.Calls.{Call, act, done, entered, opened, refuse_if, some_act, unless_memory, for_object, ◌>>=◌, ◌>>◌}
+use Rattle.jr_model.specs.Calls.{Call, act, done, entered, opened, refuse_if, some_act, unless_memory_for, for_object, ◌>>=◌, ◌>>◌}
 use Rattle.jr_model.specs.Checks.{Word, is_array, is_objects, is_primitive, is_read_as, is_text, object_of_word, same_element, element_word}
 use Rattle.jr_model.specs.Parts.{leave, not_null, read, write}
 use Rattle.jr_model.specs.References.{resolved, resolved_both, new_local}
@@ -85,7 +85,7 @@ module _ (c : Config) (last thread : ℕ) (s : State) where
     for_object s o (λ l n. do
       refuse_if (not (is_array l)) NotArray
       refuse_if (not (same_element k l)) WrongElement
-      unless_memory (read o 0 n))
+      unless_memory_for n (read o 0 n))
 
   -- a copy of all units of a string
   abbrev pub units_copying : Word → Call (List ℕ)
@@ -94,7 +94,7 @@ module _ (c : Config) (last thread : ℕ) (s : State) where
     o ← not_null x
     for_object s o (λ l n. do
       refuse_if (not (is_text l)) WrongKind
-      unless_memory (read o 0 n))
+      unless_memory_for n (read o 0 n))
 
   -- the buffer is copied back to the whole array
   abbrev pub copying_back : Kind → Word → List ℕ → Call (Unit {0})

@@ -1,5 +1,5 @@
 -- The acts and refusals of the calls at objects are uncontended, but for the gate: no refusal that another thread causes.
-use Rattle.std.proofs.Common.{◌≡◌, ◌≢◌, ◌≤◌, ◌==◌, ◌+◌, ◌&&◌, ℕ, Bool, true, false, not, Option, Some, None, List, [], ◌∷◌, length, nat_le, nat_lt, refl, sym, subst, arith}
+use Rattle.std.proofs.Common.{◌≡◌, ◌≢◌, ◌≤◌, ◌==◌, ◌+◌, ◌&&◌, ℕ, zero, suc, Bool, true, false, not, Option, Some, None, List, [], ◌∷◌, length, nat_le, nat_lt, refl, sym, subst, arith}
 use Rattle.std.proofs.lemmas.Bool.{leb-true}
 use Rattle.std.proofs.lemmas.Bool.Decides.{nat_tests}
 use Rattle.jr_word.specs.declared.config.Config.{Config}
@@ -11,7 +11,7 @@ use Rattle.jr_model.specs.declared.event.Act.TheVariants.{Read, Write}
 use Rattle.jr_model.specs.declared.frames.TheConstants.{LEVELS}
 use Rattle.jr_model.specs.State.{Contents, State}
 use Rattle.jr_model.specs.Frames.{Frames, free_places}
-use Rattle.jr_model.specs.Calls.{Call, done, for_object, refuse_if, unless_memory, ◌>>◌}
+use Rattle.jr_model.specs.Calls.{Call, done, for_object, refuse_if, unless_memory_for, ◌>>◌}
 use Rattle.jr_model.specs.Checks.{Word, element_word, is_array, is_objects, is_primitive, is_text, object_of_word, same_element}
 use Rattle.jr_model.specs.Parts.{not_null, read, read_acts, write, write_acts}
 use Rattle.jr_model.specs.Objects.{copying_back, element_reading, element_writing, elements_copying, kind_reading, length_reading, level_array, level_string, part_of, part_reading, part_writing, units_copying}
@@ -64,8 +64,9 @@ module _ {s : State} {last : ℕ} {command : Asked} where
   write_uncontended o start vs = record { acts = λ old new acts answer u r. subst AreUncontended (sym r.0) (all_writes o start vs); fault = λ old new acts e r. let bad = r.1 in cc }
 
   -- a work that may find no memory, of a command that takes some
-  memory_uncontended : {A : Type 0} {work : Call A} → TakesMemory command.1 → IsUncontended s last command work → IsUncontended s last command (unless_memory work)
-  memory_uncontended takes q = one_of_uncontended q (refuse_uncontended Memory (λ acts f. takes))
+  memory_uncontended : {A : Type 0} {work : Call A} (n : ℕ) → TakesMemory command.1 → IsUncontended s last command work → IsUncontended s last command (unless_memory_for n work)
+  memory_uncontended zero takes q = q
+  memory_uncontended (suc n) takes q = one_of_uncontended q (refuse_uncontended Memory (λ acts f. takes))
 
   -- two tests of an array, and what follows
   tests_uncontended : {A : Type 0} (a b : Bool) {next : Call A} → (a ≡ true → LacksArray s command.1) → (a ≡ false → b ≡ true → LacksElements s command.0 command.1) → (a ≡ false → IsUncontended s last command next) → IsUncontended s last command (refuse_if a NotArray >> (refuse_if b WrongElement >> next))
@@ -86,9 +87,9 @@ module _ (s : State) (command : Asked) (c : Config) (last thread : ℕ) (one : c
   -- a copy of a string's units
   pub units_copying_uncontended : TakesMemory command.1 → (SomeObject s (λ k n. is_text k ≡ false) → LacksText s command.1) → (a : Word) → IsUncontended s last command (units_copying c last thread s a)
   units_copying_uncontended takes text a = bind_uncontended (resolved_uncontended s command c last thread one first a) (λ x. bind_uncontended (not_null_uncontended object x) (λ o.
-      object_uncontended o (λ k n. refuse_if (not (is_text k)) WrongKind >> unless_memory (read o 0 n)) (λ y is.
+      object_uncontended o (λ k n. refuse_if (not (is_text k)) WrongKind >> unless_memory_for n (read o 0 n)) (λ y is.
       bind_uncontended (refuse_when_uncontended (not (is_text y.kind)) WrongKind (λ fails acts f. text (o, y, is, not_so (is_text y.kind) fails))) (λ z.
-      memory_uncontended takes (read_uncontended o 0 (length y.words))))))
+      memory_uncontended (length y.words) takes (read_uncontended o 0 (length y.words))))))
 
   -- a string for the first level of a region
   pub first_string_uncontended : (SomeObject s (λ k n. is_text k ≡ false) → LacksText s command.1) → (a : Word) → IsUncontended s last command (level_string c last thread s 0 a)
@@ -110,10 +111,10 @@ module _ (s : State) (command : Asked) (c : Config) (last thread : ℕ) (one : c
     module _ (k : Kind) (element : SomeObject s (λ l n. (is_array l ≡ true) × (same_element k l ≡ false)) → LacksElements s command.0 command.1) where
       pub elements_copying_uncontended : TakesMemory command.1 → (a : Word) → IsUncontended s last command (elements_copying c last thread s k a)
       elements_copying_uncontended takes a = bind_uncontended (resolved_uncontended s command c last thread one first a) (λ x. bind_uncontended (not_null_uncontended object x) (λ o.
-          object_uncontended o (λ l n. refuse_if (not (is_array l)) NotArray >> (refuse_if (not (same_element k l)) WrongElement >> unless_memory (read o 0 n))) (λ y is.
+          object_uncontended o (λ l n. refuse_if (not (is_array l)) NotArray >> (refuse_if (not (same_element k l)) WrongElement >> unless_memory_for n (read o 0 n))) (λ y is.
           tests_uncontended (not (is_array y.kind)) (not (same_element k y.kind)) (λ fails. array (o, y, is, not_so (is_array y.kind) fails))
           (λ holds fails. element (o, y, is, (so (is_array y.kind) holds, not_so (same_element k y.kind) fails)))
-          (λ holds. memory_uncontended takes (read_uncontended o 0 (length y.words))))))
+          (λ holds. memory_uncontended (length y.words) takes (read_uncontended o 0 (length y.words))))))
 
       pub copying_back_uncontended : (buffer : List ℕ) → (SomeObject s (λ l n. (is_array l ≡ true) × (n ≢ length buffer)) → LacksIndex s command.0 command.1) → (a : Word) → IsUncontended s last command (copying_back c last thread s k a buffer)
       copying_back_uncontended buffer index a = bind_uncontended (resolved_uncontended s command c last thread one first a) (λ x. bind_uncontended (not_null_uncontended object x) (λ o.

@@ -128,6 +128,7 @@ impl Names {
     pub fn take(&mut self, name: &Name) -> Standing
         ensures old { result ≡ standing self.old name.now }
         ensures new { IsSet self.old name.now → self.new ≡ with_name self.old name.now Nothing }
+        ensures unset { (IsSet self.old name.now → ⊥) → self.new ≡ self.old }
     {
         match self.standings.get_mut(name) {
             Some(standing) => mem::replace(standing, Standing::Nothing),

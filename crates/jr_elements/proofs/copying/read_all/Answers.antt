@@ -4,7 +4,7 @@ use Rattle.jr_elements.proofs.CopiedParts.{copies_read, copies_nothing}
 use Rattle.jr_elements.proofs.copying.read_all.Goals as goal
 
 pub returns-in_default-clause-call : goal.returns-in_default-clause-call
-returns-in_default-clause-call g c = copies_nothing g.met.S.Steps.fits c.args.object c.args.header c.args.header.length c.args.steps.now
+returns-in_default-clause-call g c = copies_nothing g.met.S.Steps.fits c.args.object c.args.header c.args.header.length c.args.steps.now (λ none. let no = c.in_default.ensures.none none in cc)
 
 pub returns-clause-call : goal.returns-clause-call
 returns-clause-call g c =
