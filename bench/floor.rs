@@ -931,21 +931,180 @@ fn time_of_call(work: Work, done: &[Done]) -> Option<u128> {
     (sum * 10).as_nanos().checked_div(done.len() as u128 * calls as u128)
 }
 
-fn main() {
-    let words: Vec<u32> = std::env::args().skip(1).filter_map(|word| word.parse().ok()).collect();
-    let [threads, standing, calls, rounds] = words[..] else {
-        eprintln!("usage: floor THREADS STANDING CALLS ROUNDS");
-        std::process::exit(1);
-    };
-    let work = Work { threads, standing, calls };
-    for (case, name) in CASES.iter().enumerate() {
-        let mut times: Vec<u128> = (0..rounds).filter_map(|_| time_of_call(work, &round(case, work)?)).collect();
-        times.sort();
-        match (times.first(), times.get(times.len() / 2)) {
-            (Some(least), Some(median)) => {
-                println!("{name} {}.{} {}.{} {}", median / 10, median % 10, least / 10, least % 10, times.len())
+/// A room of one thread that its arrays fill: the gate, the top, slots, local words, headers, and elements, with a global reference to each array that is reached.
+struct FullRoom {
+    row: Vec<AtomicU64>,
+    arrays: usize,
+    marked: Vec<bool>,
+    found: Vec<u16>,
+    noted: Vec<(u32, u16, u32)>,
+}
+
+/// How many local places the thread of a full room has.
+const FEW_PLACES: usize = 16;
+
+impl FullRoom {
+    /// A room of so many arrays, of which one in so many is not reached, and how many are.
+    fn new(arrays: usize, every: usize) -> (FullRoom, usize) {
+        let length = SHORT as usize;
+        let words = 2 + arrays + FEW_PLACES + arrays + arrays * length;
+        let row: Vec<_> = (0..words).map(|_| AtomicU64::new(0)).collect();
+        let (mut marked, mut found, mut noted) = (vec![true; arrays + 1], vec![1; arrays], vec![(1, 1, 1); arrays]);
+        (marked.fill(false), found.fill(0), noted.fill((0, 0, 0)));
+        let room = FullRoom { row, arrays, marked, found, noted };
+        let mut reached = 0;
+        for number in 0..arrays {
+            room.header(number + 1).store(INT | SHORT << 4 | ((number * length) as u64) << 28, SeqCst);
+            if every == 0 || number % every != 0 {
+                room.word(2 + reached).store(GLOBAL | (number as u64 + 1) << 34, SeqCst);
+                reached += 1;
             }
-            _ => println!("{name} - - 0"),
+        }
+        room.word(1).store((arrays * length) as u64, SeqCst);
+        (room, reached)
+    }
+    #[inline(always)]
+    fn word(&self, at: usize) -> &AtomicU64 {
+        unsafe { self.row.get_unchecked(at) }
+    }
+    #[inline(always)]
+    fn header(&self, object: usize) -> &AtomicU64 {
+        self.word(1 + self.arrays + FEW_PLACES + object)
+    }
+    #[inline(always)]
+    fn element(&self, place: usize) -> &AtomicU64 {
+        self.word(2 + self.arrays + FEW_PLACES + self.arrays + place)
+    }
+    #[inline(always)]
+    fn reach(&mut self, object: usize, count: &mut usize) {
+        if object != 0 && !self.marked[object] {
+            self.marked[object] = true;
+            self.found[*count] = object as u16;
+            *count += 1;
+        }
+    }
+    /// Marks what global and local references name, and what marked arrays of objects name.
+    fn mark(&mut self) -> usize {
+        self.marked.fill(false);
+        let mut count = 0;
+        for at in 2..2 + self.arrays {
+            let word = self.word(at).load(SeqCst);
+            if word & 3 == GLOBAL {
+                self.reach((word >> 34) as usize, &mut count);
+            }
+        }
+        for at in 2 + self.arrays..2 + self.arrays + FEW_PLACES {
+            self.reach(self.word(at).load(SeqCst) as usize, &mut count);
+        }
+        let mut next = 0;
+        while next < count {
+            let header = self.header(self.found[next] as usize).load(SeqCst);
+            if header & 15 == OBJECT_ARRAY {
+                for at in 0..header >> 4 & 0xff_ffff {
+                    self.reach(self.element(((header >> 28) + at) as usize).load(SeqCst) as usize, &mut count);
+                }
+            }
+            next += 1;
+        }
+        count
+    }
+    fn clear_weak(&self) -> u32 {
+        let mut cleared = 0;
+        for at in 2..2 + self.arrays {
+            let word = self.word(at).load(SeqCst);
+            if word & 3 == WEAK && word >> 34 != 0 && !self.marked[(word >> 34) as usize] {
+                self.word(at).store(word & 0x3_ffff_ffff, SeqCst);
+                cleared += 1;
+            }
+        }
+        cleared
+    }
+    fn drop_unreached(&self) -> usize {
+        let mut dropped = 0;
+        for object in 1..=self.arrays {
+            if !self.marked[object] && self.header(object).load(SeqCst) != 0 {
+                self.header(object).store(0, SeqCst);
+                dropped += 1;
+            }
+        }
+        dropped
+    }
+    /// Moves all marked arrays together in the order of their places, and sets the top.
+    fn compact(&mut self, count: usize) -> usize {
+        let mut arrays = 0;
+        for at in 0..count {
+            let object = self.found[at];
+            let header = self.header(object as usize).load(SeqCst);
+            let length = (header >> 4 & 0xff_ffff) as u32;
+            if length != 0 {
+                self.noted[arrays] = ((header >> 28) as u32, object, length);
+                arrays += 1;
+            }
+        }
+        self.noted[..arrays].sort_unstable_by_key(|noted| noted.0);
+        let mut used = 0;
+        for &(place, object, length) in &self.noted[..arrays] {
+            if place as usize != used {
+                for at in 0..length as usize {
+                    let word = self.element(place as usize + at).load(SeqCst);
+                    self.element(used + at).store(word, SeqCst);
+                }
+                let header = self.header(object as usize);
+                header.store(header.load(SeqCst) & 0xfff_ffff | (used as u64) << 28, SeqCst);
+            }
+            used += length as usize;
+        }
+        self.word(1).store(used as u64, SeqCst);
+        used
+    }
+    /// A collection: how many weak references it cleared, how many arrays it dropped, and how many words are used then.
+    #[inline(never)]
+    fn collect(&mut self) -> Option<(u32, usize, usize)> {
+        self.word(0).compare_exchange(0, SHUT, SeqCst, SeqCst).ok()?;
+        let count = self.mark();
+        let (cleared, dropped) = (self.clear_weak(), self.drop_unreached());
+        let used = self.compact(count);
+        self.word(0).fetch_sub(SHUT, SeqCst);
+        Some((cleared, dropped, used))
+    }
+}
+
+/// How long a collection took, in tenths of nanoseconds.
+fn time_of_collection(arrays: usize, every: usize) -> Option<u128> {
+    let (mut room, reached) = FullRoom::new(arrays, every);
+    let began = Instant::now();
+    let collected = room.collect()?;
+    let time = began.elapsed();
+    if collected == (0, arrays - reached, reached * SHORT as usize) { Some((time * 10).as_nanos()) } else { None }
+}
+
+/// Prints a line of times in tenths of nanoseconds.
+fn print_times(name: &str, mut times: Vec<u128>) {
+    times.sort();
+    match (times.first(), times.get(times.len() / 2)) {
+        (Some(least), Some(median)) => {
+            println!("{name} {}.{} {}.{} {}", median / 10, median % 10, least / 10, least % 10, times.len())
+        }
+        _ => println!("{name} - - 0"),
+    }
+}
+
+fn main() {
+    let is_collection = std::env::args().nth(1).is_some_and(|word| word == "collect");
+    let words: Vec<u32> = std::env::args().skip(1 + usize::from(is_collection)).filter_map(|word| word.parse().ok()).collect();
+    match words[..] {
+        [arrays, every, rounds] if is_collection => {
+            print_times("collect", (0..rounds).filter_map(|_| time_of_collection(arrays as usize, every as usize)).collect());
+        }
+        [threads, standing, calls, rounds] if !is_collection => {
+            let work = Work { threads, standing, calls };
+            for (case, name) in CASES.iter().enumerate() {
+                print_times(name, (0..rounds).filter_map(|_| time_of_call(work, &round(case, work)?)).collect());
+            }
+        }
+        _ => {
+            eprintln!("usage: floor THREADS STANDING CALLS ROUNDS | floor collect ARRAYS EVERY ROUNDS");
+            std::process::exit(1);
         }
     }
 }

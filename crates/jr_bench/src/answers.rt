@@ -1,6 +1,7 @@
 //! The fixed text: how often calls answer as they should.
 
 use crate::case::{CASES, Case};
+use crate::collections::{Collections, time_of};
 use crate::round::{Work, round};
 use std::alloc::Global;
 use std::io;
@@ -34,6 +35,16 @@ pub(crate) fn print<R: Threads + Clock + Print + Sync>(rt: &R, alloc: Global) ->
         let one = right(rt, alloc, case, 1);
         let two = right(rt, alloc, case, 2);
         println!(rt; "{name}: {one} by one thread, {two} by two")?;
+    }
+    for (every, reached) in [(0, "all"), (2, "half"), (1, "none")] {
+        let work = Collections {
+            arrays: CALLS,
+            every,
+        };
+        let is_right = time_of(rt, alloc, work).is_some();
+        println!(rt;
+            "collect, with {reached} of {CALLS} arrays reached, answered as it should: {is_right}"
+        )?;
     }
     Ok(())
 }

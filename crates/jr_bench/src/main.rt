@@ -1,17 +1,19 @@
 //! How long the calls for references and arrays take in a room that threads share, and how often they answer as they should.
 //!
 //! With no word it makes each call a few hundred times, by one thread and by two, and prints how often each answered as it should: the same text on every machine.
-//! With the words THREADS STANDING CALLS ROUNDS it measures itself: `measure` tells what it prints.
+//! With the words THREADS STANDING CALLS ROUNDS it measures each call, and with the words collect ARRAYS EVERY ROUNDS a collection: `measure` tells what it prints.
 #![tactic(auto)]
 
 mod answers;
 mod arrays;
 mod case;
+mod collections;
 mod copies;
 mod criticals;
 mod measure;
 mod round;
 
+use crate::collections::Collections;
 use crate::round::Work;
 use std::rt::{Clock, Env};
 use std::thread::Threads;
@@ -21,6 +23,15 @@ fn main(rt: HostRuntime) -> io::Result<()> {
     act(&rt)
 }
 
+/// What is measured.
+#[derive(Clone, Copy)]
+enum Measured {
+    /// Each call.
+    Calls(Work),
+    /// A collection.
+    Collection(Collections),
+}
+
 /// Does what the words of the command line ask for.
 fn act<R: AllocGlobal + Env + Print + Eprint + Clock + Threads + Sync>(rt: &R) -> io::Result<()> {
     let words = env::args(rt)?.skip(1).collect::<Vec<String>>(rt.alloc())?;
@@ -28,25 +39,37 @@ fn act<R: AllocGlobal + Env + Print + Eprint + Clock + Threads + Sync>(rt: &R) -
         return answers::print(rt, rt.alloc());
     }
     match asked(words.as_slice()) {
-        Some((work, rounds)) => measure::print(rt, rt.alloc(), work, rounds),
+        Some((Measured::Calls(work), rounds)) => measure::print(rt, rt.alloc(), work, rounds),
+        Some((Measured::Collection(work), rounds)) => {
+            collections::print(rt, rt.alloc(), work, rounds)
+        }
         None => {
-            eprintln!(rt; "usage: jr_bench [THREADS STANDING CALLS ROUNDS]")?;
+            eprintln!(rt;
+                "usage: jr_bench [THREADS STANDING CALLS ROUNDS | collect ARRAYS EVERY ROUNDS]"
+            )?;
             Err(io::Error::from(io::ErrorKind::InvalidInput))
         }
     }
 }
 
 /// What the words ask to be measured, and in how many rounds.
-fn asked(words: &[String]) -> Option<(Work, u32)> {
-    let [threads, standing, calls, rounds] = words else {
+fn asked(words: &[String]) -> Option<(Measured, u32)> {
+    let [first, second, third, rounds] = words else {
         return None;
     };
-    let work = Work {
-        threads: number(threads)?,
-        standing: number(standing)?,
-        calls: number(calls)?,
+    let measured = if first.as_str() == "collect" {
+        Measured::Collection(Collections {
+            arrays: number(second)?,
+            every: number(third)?,
+        })
+    } else {
+        Measured::Calls(Work {
+            threads: number(first)?,
+            standing: number(second)?,
+            calls: number(third)?,
+        })
     };
-    Some((work, number(rounds)?))
+    Some((measured, number(rounds)?))
 }
 
 /// The number that a word says.

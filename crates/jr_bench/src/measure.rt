@@ -64,14 +64,18 @@ pub(crate) fn print<R: Threads + Clock + Print + Sync>(
 ) -> io::Result<()> {
     for (case, name) in CASES {
         let times = times_of_call(rt, alloc, case, work, rounds)?;
-        let counted = times.len();
-        let (Some(least), Some(median)) = (times.first(), times.get(counted / 2)) else {
-            println!(rt; "{name} - - 0")?;
-            continue;
-        };
-        let (whole, tenth) = (*median / 10, *median % 10);
-        let (least_whole, least_tenth) = (*least / 10, *least % 10);
-        println!(rt; "{name} {whole}.{tenth} {least_whole}.{least_tenth} {counted}")?;
+        print_times(rt, name, times.as_slice())?;
     }
     Ok(())
+}
+
+/// Prints a line of times in order, which are in tenths of nanoseconds.
+pub(crate) fn print_times<R: Print>(rt: &R, name: &str, times: &[u128]) -> io::Result<()> {
+    let counted = times.len();
+    let (Some(least), Some(median)) = (times.first(), times.get(counted / 2)) else {
+        return println!(rt; "{name} - - 0");
+    };
+    let (whole, tenth) = (*median / 10, *median % 10);
+    let (least_whole, least_tenth) = (*least / 10, *least % 10);
+    println!(rt; "{name} {whole}.{tenth} {least_whole}.{least_tenth} {counted}")
 }

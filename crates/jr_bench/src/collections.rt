@@ -1,0 +1,114 @@
+//! How long a collection takes.
+
+ghost use Rattle.jr_rule.specs.Passes.{IsOpened};
+
+use crate::case::Env;
+use crate::measure::print_times;
+use jr_rule::{Pass, Room, RoomSteps};
+use jr_steps::Steps;
+use jr_weak::{Collected, Marker};
+use jr_word::Config;
+use std::alloc::Global;
+use std::io;
+use std::rt::Clock;
+use std::time::Instant;
+
+/// The last serial of a slot and of a local place.
+const LAST: u32 = 4_294_967_295;
+
+/// How many elements each array has.
+const LENGTH: u32 = 16;
+
+/// How many local places the one thread has.
+const LOCALS: u32 = 16;
+
+/// What is collected: a room full of arrays of 16 elements, of which some are reached, each by a global reference of its own.
+#[derive(Clone, Copy)]
+pub(crate) struct Collections {
+    /// How many arrays the room has.
+    pub(crate) arrays: u32,
+    /// One in so many of them is not reached: 0 where all are, 1 where none is.
+    pub(crate) every: u32,
+}
+
+impl Collections {
+    /// The sizes of a room that just these arrays fill.
+    fn config(self) -> Config {
+        Config {
+            threads: 1,
+            slots: self.arrays,
+            objects: self.arrays,
+            words: self.arrays.saturating_mul(LENGTH),
+            locals: LOCALS,
+        }
+    }
+
+    /// Makes the arrays, and tells how many of them are reached.
+    fn fill<S: Steps>(self, env: &mut Env<S>) -> Option<u32> {
+        let mut reached = 0u32;
+        for number in 0..self.arrays {
+            let array = env.new_array::<i32>(LENGTH).ok()?;
+            if number.checked_rem(self.every) != Some(0) {
+                env.new_global_ref(array).ok()??;
+                reached = reached.saturating_add(1);
+            }
+            env.delete_local_ref(array).ok()?;
+        }
+        Some(reached)
+    }
+
+    /// What a collection is to answer where so many of the arrays are reached.
+    fn answer(self, reached: u32) -> Collected {
+        Collected {
+            cleared: 0,
+            dropped: self.arrays.saturating_sub(reached),
+            used: reached.saturating_mul(LENGTH),
+        }
+    }
+}
+
+/// How long a collection in the room of the pass took, in tenths of nanoseconds: none where it did not answer as it should.
+fn time_in<R: Clock>(
+    rt: &R,
+    alloc: Global,
+    room: &Room<LAST>,
+    pass: Pass,
+    work: Collections,
+) -> Option<u128>
+    requires { IsOpened room.now.row pass }
+{
+    let mut env = Env::new(RoomSteps::new(room, pass)).ok()?;
+    let wanted = work.answer(work.fill(&mut env)?);
+    let mut marker = Marker::new(alloc, env.held.steps.config()).ok()?;
+    let began = Instant::now(rt).ok()?;
+    let collected = env.collect(&mut marker);
+    let ended = Instant::now(rt).ok()?;
+    if collected != Ok(wanted) {
+        return None;
+    }
+    Some(ended.duration_since(began).saturating_mul(10).as_nanos())
+}
+
+/// How long a collection took in a room of its own, in tenths of nanoseconds: none where it did not answer as it should.
+pub(crate) fn time_of<R: Clock>(rt: &R, alloc: Global, work: Collections) -> Option<u128> {
+    let (room, mut passes) = Room::<LAST>::open(alloc, work.config()).ok()?;
+    let pass = passes.pop()?;
+    time_in(rt, alloc, &room, pass, work)
+}
+
+/// Prints the line of a collection, as those of calls are.
+pub(crate) fn print<R: Clock + Print>(
+    rt: &R,
+    alloc: Global,
+    work: Collections,
+    rounds: u32,
+) -> io::Result<()> {
+    let mut times = Vec::new(alloc);
+    for _ in 0..rounds {
+        if let Some(time) = time_of(rt, alloc, work) {
+            times.push(time)?;
+        }
+    }
+    times.sort()?;
+    print_times(rt, "collect", times.as_slice())
+}
