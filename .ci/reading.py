@@ -20,7 +20,7 @@ BLANKED = re.compile(r"//[^\n]*|/\*.*?\*/|\"(?:\\.|[^\"\\])*\"|'(?:\\.|[^\\'\n])
 ITEM = re.compile(r"(?P<public>pub(?:\((?P<within>\w+)\))? )?(?:const (?=fn))?(?P<kind>ghost use|ghost|fn|struct|enum|trait|impl|mod|const|use|type)\b\s*(?P<name>\w*)")
 PUBLIC_FIELD = re.compile(r"\bpub ([^,{;\n]*)")
 HELD_TYPE = re.compile(r"[(:<] ?([A-Z]\w*)")
-CLAUSE = re.compile(r"\b(?:requires|ensures)(?:\s+\w+)?\s*\Z")
+CLAUSE = re.compile(r"\b(requires|ensures)\*?(?:\s+(\w+))?\s*\Z")
 
 
 @dataclass
@@ -37,7 +37,9 @@ class Definition:
 
 @dataclass
 class Item:
-    """A function, a type or a ghost member of src/: the trait, the type or `Trait for Type` that it stands in, the names that its clauses say, and the words of its signature or its public fields that may be Rust types, each with the crate that it is of."""
+    """A function, a type or a ghost member of src/: the file, and from where to where its head stands there; the trait, the type or `Trait for Type` that it stands in; its clauses; the names that they say; and the words of its signature or its public fields that may be Rust types, each with the crate that it is of."""
+    file: str
+    place: tuple
     crate: str
     module: str
     kind: str
@@ -45,8 +47,17 @@ class Item:
     is_public: bool
     inside: str
     in_trait: bool
+    clauses: list
     says: set
     types: set
+
+
+@dataclass
+class Clause:
+    """A clause of a function: `requires` or `ensures`, its own name, which may be empty, and the names that it says."""
+    kind: str
+    name: str
+    says: set
 
 
 def text_of(path):
@@ -179,7 +190,7 @@ class Source:
 
     def __init__(self, path):
         parts = path[len("crates/"):-len(".rt")].split("/")
-        self.crate, self.module = parts[0], ".".join(parts[2:])
+        self.path, self.crate, self.module = path, parts[0], ".".join(parts[2:])
         self.code = BLANKED.sub(lambda it: re.sub(r"[^\n]", " ", it[0]), text_of(path))
         self.items, self.crates = [], {}
 
@@ -208,12 +219,19 @@ class Source:
         """Returns a function, a type or a ghost member."""
         kind, first = head["kind"], braces[0][0] if braces else stop
         signature = self.code[head.start():first] if kind == "fn" else ""
-        clauses = [self.code[start:close] for start, close, is_said in braces if is_said and kind in ("fn", "ghost")]
-        said = set().union(*(scope.says(it, bound_words(it).union(re.findall(r"(\w+):", signature))) for it in clauses))
+        bound = set(re.findall(r"(\w+):", signature))
+        clauses, before = [], head.start()
+        for start, close, is_said in braces:
+            if is_said and kind in ("fn", "ghost"):
+                text, word = self.code[start:close], CLAUSE.search(self.code, before, start)
+                clauses.append(Clause(word[1] if word else "", word[2] or "" if word else "", scope.says(text, bound_words(text) | bound)))
+            before = close
+        said = set().union(*(it.says for it in clauses))
         held = {"struct": PUBLIC_FIELD, "enum": HELD_TYPE}
         text = " ".join(held[kind].findall(self.code, head.end(), stop)) if kind in held else f"{inside} {signature}" if signature else ""
         types = {(self.crates.get(it, self.crate), it) for it in re.findall(r"\b[A-Z]\w*", text)}
-        return Item(self.crate, self.module, kind, head["name"], bool(head["public"]) and not head["within"], inside, in_trait, said, types)
+        is_public = bool(head["public"]) and not head["within"]
+        return Item(self.path, (head.start(), first if kind == "fn" else stop), self.crate, self.module, kind, head["name"], is_public, inside, in_trait, clauses, said, types)
 
     def split(self, at, end):
         """Yields each item's head, its braces (and whether they are a clause or a ghost value), and its end."""
