@@ -54,9 +54,10 @@ class Item:
 
 @dataclass
 class Clause:
-    """A clause of a function: `requires` or `ensures`, its own name, which may be empty, and the names that it says."""
+    """A clause of a function: `requires` or `ensures`, its own name, which may be empty, from where to where it stands in its file, and the names that it says."""
     kind: str
     name: str
+    place: tuple
     says: set
 
 
@@ -224,7 +225,7 @@ class Source:
         for start, close, is_said in braces:
             if is_said and kind in ("fn", "ghost"):
                 text, word = self.code[start:close], CLAUSE.search(self.code, before, start)
-                clauses.append(Clause(word[1] if word else "", word[2] or "" if word else "", scope.says(text, bound_words(text) | bound)))
+                clauses.append(Clause(word[1] if word else "", word[2] or "" if word else "", (start, close), scope.says(text, bound_words(text) | bound)))
             before = close
         said = set().union(*(it.says for it in clauses))
         held = {"struct": PUBLIC_FIELD, "enum": HELD_TYPE}

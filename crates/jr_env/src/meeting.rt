@@ -10,7 +10,7 @@ use crate::env::Env;
 use jr_rule::{Pass, RoomSteps};
 
 impl<const LAST: u32> Env<RoomSteps<'_, LAST>> {
-    /// Learns all that the holder of another pass of the room has seen, which gets its pass back as it was. The local references stay as they are.
+    /// Learns all that the holder of another pass of the room has seen, which gets its pass back as it was. The local references stay as they are. An env in a room alone has this call.
     ///
     /// # Operations
     ///
