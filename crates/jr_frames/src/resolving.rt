@@ -101,7 +101,7 @@ pub fn resolve<S: Steps>(
 ///
 /// # Errors
 ///
-/// E2 where one is malformed; E2 where one lies outside the room; E3 where one is a local one of another thread; E2 where one does not stand.
+/// E2 where one is malformed or lies outside the room; E3 where one is a local one of another thread; E2 where one does not stand.
 ///
 /// Nothing has changed then.
 ///

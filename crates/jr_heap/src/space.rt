@@ -46,7 +46,7 @@ impl Range {
 ///
 /// # Errors
 ///
-/// E10 with how many words are used, where so many more don't fit; E12 with how many were looked at and how many were found, where another thread reserved words in between, and so never over plain words.
+/// E10 with how many words are reserved, where so many more don't fit; E12 with how many were looked at and how many were found, where another thread reserved words in between, and so never over plain words.
 ///
 /// What the pass holds is as it was.
 ///

@@ -50,7 +50,7 @@ impl<const LAST: u32> PlainSteps<LAST> {
     ghost use Rattle.jr_steps.specs.Knowing.{HasNoLocals, state_of};
     ghost use Rattle.jr_rule.specs.Plain.{unseen};
 
-    /// The steps over a row of zeros, for one thread.
+    /// The steps of thread 0 over a row of zeros, outside the gate and fresh.
     ///
     /// # Errors
     ///

@@ -18,7 +18,7 @@ pub struct Room<const LAST: u32> {
 impl<const LAST: u32> Room<LAST> {
     ghost use Rattle.jr_rule.specs.Rooms.{IsOpening};
 
-    /// Opens a room of zeros, with one pass a thread, from thread 0 upward.
+    /// Opens a room of zeros, with one pass a thread, from thread 0 upward, each outside the gate and fresh.
     ///
     /// # Errors
     ///

@@ -47,7 +47,7 @@ pub enum Fault {
     RowFull,
     /// No local place left, too few for a frame or a capacity, or 256 frames open.
     ///
-    /// Delete local references, pop a frame, or return from the native method.
+    /// Delete local references, pop a frame, or return from the native method. JNI's status for it is JNI_ENOMEM.
     #[error("E9")]
     LocalsFull,
     /// So many words are reserved, and the request does not fit beside them.
@@ -82,7 +82,7 @@ pub enum Fault {
     NoFrame,
     /// A growth was refused, or a thread could not be started.
     ///
-    /// Give memory back, and make the call again.
+    /// Give memory back, and make the call again. JNI's status for it is JNI_ENOMEM.
     #[error("E16")]
     Memory,
     /// A configuration outside the limits, a seventeenth level, or a script of several threads where one is asked for.
