@@ -25,7 +25,7 @@ CLAUSE = re.compile(r"\b(requires|ensures)\*?(?:\s+(\w+))?\s*\Z")
 
 @dataclass
 class Definition:
-    """A definition, or a proof, of specs/: its lines without comments, and the names that it says."""
+    """A definition, or a proof, of specs/: its lines without comments, the names that it says, and for each of its equations the words that mean something, in their order, each with the name that it means."""
     name: tuple
     file: str
     number: int
@@ -33,6 +33,7 @@ class Definition:
     around: str
     lines: list = field(default_factory=list)
     says: set = field(default_factory=set)
+    equations: list = field(default_factory=list)
 
 
 @dataclass
@@ -54,11 +55,11 @@ class Item:
 
 @dataclass
 class Clause:
-    """A clause of a function: `requires` or `ensures`, its own name, which may be empty, from where to where it stands in its file, and the names that it says."""
+    """A clause of a function: `requires` or `ensures`, its own name, which may be empty, from where to where it stands in its file, and the words of it that mean something, in their order, each with the name that it means."""
     kind: str
     name: str
     place: tuple
-    says: set
+    words: list
 
 
 def text_of(path):
@@ -125,11 +126,16 @@ class Scope:
             return target_of(self.modules[head], rest.partition(".")[0])
         return self.words.get(head)
 
+    def words_said(self, text, hidden=()):
+        """Returns the words of a text that mean something, in their order, each with the name that it means, where these words hide what they mean elsewhere."""
+        words = WORD.findall(LABEL.sub(" ", PROJECTION.sub("", text)))
+        words += [">>=", ">>"] if "do" in words else []
+        said = ((it, self.meaning(it)) for it in words if it.partition(".")[0] not in hidden)
+        return [(word, name) for word, name in said if name]
+
     def says(self, text, hidden=()):
         """Returns the names that a text says, where these words hide what they mean elsewhere."""
-        words = set(WORD.findall(LABEL.sub(" ", PROJECTION.sub("", text))))
-        words |= {">>=", ">>"} if "do" in words else set()
-        return {self.meaning(it) for it in words if it.partition(".")[0] not in hidden} - {None}
+        return {name for _, name in self.words_said(text, hidden)}
 
 
 class Specs:
@@ -182,7 +188,8 @@ class Specs:
             is_equation = text.split(" ")[0] == own and not text.startswith(f"{own} :")
             left = re.split(r"\s=(?:\s|$)", text)[0] if is_equation else ""
             hidden = bound_words(text).union(re.findall(r"(?<![\w.'])[a-z][\w']*(?![\w.'])", left))
-            said |= self.scope.says(text, hidden - {own})
+            definition.equations.append(self.scope.words_said(text, hidden - {own}))
+            said |= {name for _, name in definition.equations[-1]}
         return said - {definition.name}
 
 
@@ -225,9 +232,10 @@ class Source:
         for start, close, is_said in braces:
             if is_said and kind in ("fn", "ghost"):
                 text, word = self.code[start:close], CLAUSE.search(self.code, before, start)
-                clauses.append(Clause(word[1] if word else "", word[2] or "" if word else "", (start, close), scope.says(text, bound_words(text) | bound)))
+                words = scope.words_said(text, bound_words(text) | bound)
+                clauses.append(Clause(word[1] if word else "", word[2] or "" if word else "", (start, close), words))
             before = close
-        said = set().union(*(it.says for it in clauses))
+        said = {name for it in clauses for _, name in it.words}
         held = {"struct": PUBLIC_FIELD, "enum": HELD_TYPE}
         text = " ".join(held[kind].findall(self.code, head.end(), stop)) if kind in held else f"{inside} {signature}" if signature else ""
         types = {(self.crates.get(it, self.crate), it) for it in re.findall(r"\b[A-Z]\w*", text)}
