@@ -46,7 +46,7 @@ impl RefKind {
         }
     }
 
-    /// The kind with a number.
+    /// The kind with a number, if one has it.
     #[inline]
     pub fn from_code(code: u64) -> Option<Self>
         ensures sound { IfSome result (λ kind. code ≡ reference_code kind) }
