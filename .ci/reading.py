@@ -20,12 +20,12 @@ BLANKED = re.compile(r"//[^\n]*|/\*.*?\*/|\"(?:\\.|[^\"\\])*\"|'(?:\\.|[^\\'\n])
 ITEM = re.compile(r"(?P<public>pub(?:\((?P<within>\w+)\))? )?(?:const (?=fn))?(?P<kind>ghost use|ghost|fn|struct|enum|trait|impl|mod|const|use|type)\b\s*(?P<name>\w*)")
 PUBLIC_FIELD = re.compile(r"\bpub ([^,{;\n]*)")
 HELD_TYPE = re.compile(r"[(:<] ?([A-Z]\w*)")
-CLAUSE = re.compile(r"\b(?:requires|ensures)(?:\s+\w+)?\s*\Z")
+CLAUSE = re.compile(r"\b(requires|ensures)\*?(?:\s+(\w+))?\s*\Z")
 
 
 @dataclass
 class Definition:
-    """A definition, or a proof, of specs/: its lines without comments, and the names that it says."""
+    """A definition, or a proof, of specs/: its lines without comments, the names that it says, and for each of its equations the words that mean something, in their order, each with the name that it means."""
     name: tuple
     file: str
     number: int
@@ -33,11 +33,14 @@ class Definition:
     around: str
     lines: list = field(default_factory=list)
     says: set = field(default_factory=set)
+    equations: list = field(default_factory=list)
 
 
 @dataclass
 class Item:
-    """A function, a type or a ghost member of src/: the trait, the type or `Trait for Type` that it stands in, the names that its clauses say, and the words of its signature or its public fields that may be Rust types, each with the crate that it is of."""
+    """A function, a type or a ghost member of src/: the file, and from where to where its head stands there; the trait, the type or `Trait for Type` that it stands in; its clauses; the names that they say; and the words of its signature or its public fields that may be Rust types, each with the crate that it is of."""
+    file: str
+    place: tuple
     crate: str
     module: str
     kind: str
@@ -45,8 +48,18 @@ class Item:
     is_public: bool
     inside: str
     in_trait: bool
+    clauses: list
     says: set
     types: set
+
+
+@dataclass
+class Clause:
+    """A clause of a function: `requires` or `ensures`, its own name, which may be empty, from where to where it stands in its file, and the words of it that mean something, in their order, each with the name that it means."""
+    kind: str
+    name: str
+    place: tuple
+    words: list
 
 
 def text_of(path):
@@ -113,11 +126,16 @@ class Scope:
             return target_of(self.modules[head], rest.partition(".")[0])
         return self.words.get(head)
 
+    def words_said(self, text, hidden=()):
+        """Returns the words of a text that mean something, in their order, each with the name that it means, where these words hide what they mean elsewhere."""
+        words = WORD.findall(LABEL.sub(" ", PROJECTION.sub("", text)))
+        words += [">>=", ">>"] if "do" in words else []
+        said = ((it, self.meaning(it)) for it in words if it.partition(".")[0] not in hidden)
+        return [(word, name) for word, name in said if name]
+
     def says(self, text, hidden=()):
         """Returns the names that a text says, where these words hide what they mean elsewhere."""
-        words = set(WORD.findall(LABEL.sub(" ", PROJECTION.sub("", text))))
-        words |= {">>=", ">>"} if "do" in words else set()
-        return {self.meaning(it) for it in words if it.partition(".")[0] not in hidden} - {None}
+        return {name for _, name in self.words_said(text, hidden)}
 
 
 class Specs:
@@ -170,7 +188,8 @@ class Specs:
             is_equation = text.split(" ")[0] == own and not text.startswith(f"{own} :")
             left = re.split(r"\s=(?:\s|$)", text)[0] if is_equation else ""
             hidden = bound_words(text).union(re.findall(r"(?<![\w.'])[a-z][\w']*(?![\w.'])", left))
-            said |= self.scope.says(text, hidden - {own})
+            definition.equations.append(self.scope.words_said(text, hidden - {own}))
+            said |= {name for _, name in definition.equations[-1]}
         return said - {definition.name}
 
 
@@ -179,7 +198,7 @@ class Source:
 
     def __init__(self, path):
         parts = path[len("crates/"):-len(".rt")].split("/")
-        self.crate, self.module = parts[0], ".".join(parts[2:])
+        self.path, self.crate, self.module = path, parts[0], ".".join(parts[2:])
         self.code = BLANKED.sub(lambda it: re.sub(r"[^\n]", " ", it[0]), text_of(path))
         self.items, self.crates = [], {}
 
@@ -208,12 +227,20 @@ class Source:
         """Returns a function, a type or a ghost member."""
         kind, first = head["kind"], braces[0][0] if braces else stop
         signature = self.code[head.start():first] if kind == "fn" else ""
-        clauses = [self.code[start:close] for start, close, is_said in braces if is_said and kind in ("fn", "ghost")]
-        said = set().union(*(scope.says(it, bound_words(it).union(re.findall(r"(\w+):", signature))) for it in clauses))
+        bound = set(re.findall(r"(\w+):", signature))
+        clauses, before = [], head.start()
+        for start, close, is_said in braces:
+            if is_said and kind in ("fn", "ghost"):
+                text, word = self.code[start:close], CLAUSE.search(self.code, before, start)
+                words = scope.words_said(text, bound_words(text) | bound)
+                clauses.append(Clause(word[1] if word else "", word[2] or "" if word else "", (start, close), words))
+            before = close
+        said = {name for it in clauses for _, name in it.words}
         held = {"struct": PUBLIC_FIELD, "enum": HELD_TYPE}
         text = " ".join(held[kind].findall(self.code, head.end(), stop)) if kind in held else f"{inside} {signature}" if signature else ""
         types = {(self.crates.get(it, self.crate), it) for it in re.findall(r"\b[A-Z]\w*", text)}
-        return Item(self.crate, self.module, kind, head["name"], bool(head["public"]) and not head["within"], inside, in_trait, said, types)
+        is_public = bool(head["public"]) and not head["within"]
+        return Item(self.path, (head.start(), first if kind == "fn" else stop), self.crate, self.module, kind, head["name"], is_public, inside, in_trait, clauses, said, types)
 
     def split(self, at, end):
         """Yields each item's head, its braces (and whether they are a clause or a ghost value), and its end."""

@@ -61,11 +61,17 @@ impl Levels {
     ghost use Rattle.jr_critical.specs.Finding.{level_nesting};
     ghost use Rattle.jr_critical.specs.Levels.{objects_of, level_object, level_at, in_words, Opens, Nests, Reaches, GivesUpAll, GivesUpLast, LeavesBefore, Stand, TellsKind, TellsLength, WasAdded};
 
-    /// Enters the gate, and opens the first level over an array whose elements are no objects. (GetPrimitiveArrayCritical.)
+    /// Enters the gate, and opens the first level over an array whose elements are no objects. The thread has to stand outside. (JNI Specification, chapter 4, "GetPrimitiveArrayCritical")
     ///
     /// # Errors
     ///
-    /// E13 E1 E2 E3 E5 E6, and then the thread is outside and ready for its next call.
+    /// E13 where a thread is collecting at the entry; E2 where the handle is malformed or lies outside the room; E3 where it is a local one of another thread; E2 where its reference does not stand; E1 where it is to null; E5 where it is to a plain object or a string; E6 where it is to an array of objects.
+    ///
+    /// Nothing has changed then, and the thread is outside and ready for its next call.
+    ///
+    /// # Operations
+    ///
+    /// At most 3: the entry, a look at the slot of a global or weak handle, and one at the array's header. Where it is refused, the exit too.
     #[inline(always)]
     pub fn open_array<S: Steps>(held: &mut Held<S>, handle: Handle) -> Result<Levels, Fault>
         requires { StandsReady S.facts Outside held.old.steps held.old.frames }
@@ -77,11 +83,17 @@ impl Levels {
         open(held, handle, Wanted::Array)
     }
 
-    /// Enters the gate, and opens the first level over a string. (GetStringCritical.)
+    /// Enters the gate, and opens the first level over a string. The thread has to stand outside. (JNI Specification, chapter 4, "GetStringCritical")
     ///
     /// # Errors
     ///
-    /// E13 E1 E2 E3 E4, and then the thread is outside and ready for its next call.
+    /// E13 where a thread is collecting at the entry; E2 where the handle is malformed or lies outside the room; E3 where it is a local one of another thread; E2 where its reference does not stand; E1 where it is to null; E4 where it is to no string.
+    ///
+    /// Nothing has changed then, and the thread is outside and ready for its next call.
+    ///
+    /// # Operations
+    ///
+    /// At most 3: the entry, a look at the slot of a global or weak handle, and one at the string's header. Where it is refused, the exit too.
     #[inline(always)]
     pub fn open_string<S: Steps>(held: &mut Held<S>, handle: Handle) -> Result<Levels, Fault>
         requires { StandsReady S.facts Outside held.old.steps held.old.frames }
@@ -121,11 +133,17 @@ impl Levels {
         Ok(count)
     }
 
-    /// Adds a level over an array whose elements are no objects, and answers its number. An array may stand at several levels. It takes no step at the gate.
+    /// Adds a level over an array whose elements are no objects, and answers its number. An array may stand at several levels. The levels have to stand over the steps and the frames.
     ///
     /// # Errors
     ///
-    /// E1 E2 E3 E5 E6, and E17 where sixteen levels stand; the levels stay as they were then.
+    /// E2 where the handle is malformed or lies outside the room; E3 where it is a local one of another thread; E2 where its reference does not stand; E1 where it is to null; E5 where it is to a plain object or a string; E6 where it is to an array of objects; E17 where sixteen levels stand.
+    ///
+    /// The levels are as they were, and stand.
+    ///
+    /// # Operations
+    ///
+    /// At most 2: a look at the slot of a global or weak handle, and one at the array's header. It takes none at the gate.
     pub fn nest_array<S: Steps>(
         &mut self,
         held: &mut Held<S>,
@@ -141,11 +159,17 @@ impl Levels {
         self.nest(held, handle, Wanted::Array)
     }
 
-    /// Adds a level over a string, and answers its number. A string may stand at several levels. It takes no step at the gate.
+    /// Adds a level over a string, and answers its number. A string may stand at several levels. The levels have to stand over the steps and the frames.
     ///
     /// # Errors
     ///
-    /// E1 E2 E3 E4, and E17 where sixteen levels stand; the levels stay as they were then.
+    /// E2 where the handle is malformed or lies outside the room; E3 where it is a local one of another thread; E2 where its reference does not stand; E1 where it is to null; E4 where it is to no string; E17 where sixteen levels stand.
+    ///
+    /// The levels are as they were, and stand.
+    ///
+    /// # Operations
+    ///
+    /// At most 2: a look at the slot of a global or weak handle, and one at the string's header. It takes none at the gate.
     pub fn nest_string<S: Steps>(
         &mut self,
         held: &mut Held<S>,
@@ -169,11 +193,17 @@ impl Levels {
         self.levels[number]
     }
 
-    /// An element of a level's array, or a unit of its string as a char, by one load.
+    /// An element of a level's array, or a unit of its string as a char. The levels have to stand over the steps and the frames, and the level has to be one of them.
     ///
     /// # Errors
     ///
-    /// E6 where its elements are of another kind, E7 past its length, both by no step.
+    /// E6 where its elements are of another kind; E7 where the index is not below the length.
+    ///
+    /// Nothing is read then, and the levels stand.
+    ///
+    /// # Operations
+    ///
+    /// One load, and none where it is refused.
     pub fn get<S: Steps, E: Elem>(
         &self,
         held: &mut Held<S>,
@@ -197,11 +227,17 @@ impl Levels {
         Ok(E::from_word(word).unwrap())
     }
 
-    /// Writes an element of a level's array, by one store.
+    /// Writes an element of a level's array. The levels have to stand over the steps and the frames, and the level has to be one of them.
     ///
     /// # Errors
     ///
-    /// E5 at a string, E6 where its elements are of another kind, E7 past its length, each by no step.
+    /// E5 at a string; E6 where its elements are of another kind; E7 where the index is not below the length.
+    ///
+    /// Nothing is written then, and the levels stand.
+    ///
+    /// # Operations
+    ///
+    /// One store, and none where it is refused.
     pub fn set<S: Steps, E: Elem>(
         &self,
         held: &mut Held<S>,
@@ -230,7 +266,7 @@ impl Levels {
         Ok(())
     }
 
-    /// The length of a level's array or string, in elements or units. It takes no step.
+    /// The length of a level's array or string, in elements or units. The level has to be one that stands.
     pub fn length(&self, level: usize) -> u32
         requires { level < length (objects_of self.now) }
         ensures { TellsLength self.now level result }
@@ -238,7 +274,7 @@ impl Levels {
         self.level(level).header.length
     }
 
-    /// The kind of a level's object. It takes no step.
+    /// The kind of a level's object. The level has to be one that stands.
     pub fn kind(&self, level: usize) -> Kind
         requires { level < length (objects_of self.now) }
         ensures { TellsKind self.now level result }
@@ -246,7 +282,7 @@ impl Levels {
         self.level(level).header.kind
     }
 
-    /// The number of a level's object. It takes no step.
+    /// The number of a level's object. The level has to be one that stands.
     pub fn object(&self, level: usize) -> u16
         requires { level < length (objects_of self.now) }
         ensures { result ≡ level_object self.now level }
@@ -262,7 +298,11 @@ impl Levels {
         self.levels.len()
     }
 
-    /// Gives up the last level. With the first one the stay ends, by one step, and the answer is none; else by no step the levels before it. A region is no copy, so that every mode does the same. (ReleasePrimitiveArrayCritical, ReleaseStringCritical.)
+    /// Gives up the last level. With the first one the stay ends, and the answer is none; else it is the levels before it. A region is no copy, so that every mode does the same. (JNI Specification, chapter 4, "ReleasePrimitiveArrayCritical", "ReleaseStringCritical")
+    ///
+    /// # Operations
+    ///
+    /// One with the first level, the exit, and else none.
     #[inline(always)]
     pub fn close<S: Steps>(self, held: &mut Held<S>, _mode: Mode) -> Option<Levels>
         requires { Stand S.facts self held.old.steps held.old.frames }
@@ -281,7 +321,11 @@ impl Levels {
         Some(Levels { inside, levels })
     }
 
-    /// Gives up all levels at once: the stay ends, by one step.
+    /// Gives up all levels at once: the stay ends.
+    ///
+    /// # Operations
+    ///
+    /// One, the exit.
     pub fn close_all<S: Steps>(self, held: &mut Held<S>)
         requires { Stand S.facts self held.old.steps held.old.frames }
         ensures call { GivesUpAll S.facts held.old.steps held.new.steps held.old.frames.frames self }

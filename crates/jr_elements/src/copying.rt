@@ -27,11 +27,17 @@ fn zeros<E: Elem>(alloc: Global, count: u32) -> Result<Vec<E>, AllocError>
     Ok(items)
 }
 
-/// Copies all elements of an object whose header was read in this stay. The units of a string are read as chars. Memory for all of them is taken first, and none for no elements.
+/// Copies all elements of an object whose header was read in this stay, one after the other, rising. The units of a string are read as chars. Memory for all of them is taken first, and none for no elements.
 ///
 /// # Errors
 ///
-/// E16 where that memory was refused: no element was read.
+/// E16 where that memory was refused.
+///
+/// No element is read then.
+///
+/// # Operations
+///
+/// A load for each element, and none where it is refused.
 pub fn read_all<S: Steps, E: Elem>(
     alloc: Global,
     steps: &mut S,
@@ -54,7 +60,11 @@ pub fn read_all<S: Steps, E: Elem>(
     Ok(items)
 }
 
-/// Writes elements to the whole array that they are a copy of, whose header was read in this stay, from the first element on.
+/// Writes elements to the whole array that they are a copy of, whose header was read in this stay, one after the other, rising. They have to be as many.
+///
+/// # Operations
+///
+/// A store for each element.
 pub fn put_back<S: Steps, E: Elem>(
     steps: &mut S,
     object: u16,

@@ -40,7 +40,7 @@ impl<E: Elem> Elements<E> {
     ///
     /// # Errors
     ///
-    /// E7 where the index is not below the length.
+    /// E7 exactly where the index is not below the length.
     pub fn get(&self, index: u32) -> Result<E, Fault>
         ensures call { AnswersAs (elements_get (map E.word_of self.now) index) (answer_in E.word_of result) }
         ensures ok { IfOk result (λ value. (index < length self.now) × (value ≡ slice_index_or self.now index value)) }
@@ -56,7 +56,9 @@ impl<E: Elem> Elements<E> {
     ///
     /// # Errors
     ///
-    /// E7 where the index is not below the length: the elements are as they were.
+    /// E7 exactly where the index is not below the length.
+    ///
+    /// The elements are as they were.
     pub fn set(&mut self, index: u32, value: E) -> Result<(), Fault>
         ensures call { AnswersAs (elements_set (map E.word_of self.old) index (E.word_of value)) (answer_in (λ _. map E.word_of self.new) result) }
         ensures ok { IfOk result (λ _. (index < length self.old) × (self.new ≡ slice_set self.old index value)) }

@@ -16,7 +16,17 @@ impl<S: Steps> Env<S> {
     ghost use Rattle.jr_env.specs.Envs.{Does};
     ghost use Rattle.jr_env.specs.Deeds.{get_array_elements, get_string_chars, release_answer, release_array_elements};
 
-    /// Copies all elements of an array: E1, E2, E3, E5, E6, E13, and E16 where the memory for them was refused. (JNI Specification, chapter 4, "Get<PrimitiveType>ArrayElements Routines")
+    /// Copies all elements of an array, one after the other, rising. (JNI Specification, chapter 4, "Get<PrimitiveType>ArrayElements Routines")
+    ///
+    /// # Errors
+    ///
+    /// E13 where a thread is collecting at the entry; E2 where the handle is malformed or lies outside the room; E3 where it is a local one of another thread; E2 where its reference does not stand; E1 where it is to null; E5 where it is to a plain object or a string; E6 where it is to an array of other elements; E16 where the memory for them was refused.
+    ///
+    /// No element is read then, nothing has changed, and the thread stands outside.
+    ///
+    /// # Operations
+    ///
+    /// At most 4, and one for each element: the entry, a look at the slot of a global or weak handle, one at the array's header, a load for each element, and the exit.
     pub fn get_array_elements<E: Elem>(
         &mut self,
         alloc: Global,
@@ -36,7 +46,17 @@ impl<S: Steps> Env<S> {
         )
     }
 
-    /// Releases copied elements. To copy and to commit write them to the whole array: E1, E2, E3, E5, E6, E7 unless it has as many, E13. To commit hands them back, as they were; to abort enters no gate, looks at nothing and is never refused. A refusal hands the elements back, as they were, and nothing is written. (JNI Specification, chapter 4, "Release<PrimitiveType>ArrayElements Routines")
+    /// Releases copied elements by a mode. To copy writes them to the whole array, one after the other, rising, and gives them up; to commit writes them and hands them back, as they were; to abort gives them up, enters no gate, looks at no reference and is never refused. (JNI Specification, chapter 4, "Release<PrimitiveType>ArrayElements Routines")
+    ///
+    /// # Errors
+    ///
+    /// E13 where a thread is collecting at the entry; E2 where the handle is malformed or lies outside the room; E3 where it is a local one of another thread; E2 where its reference does not stand; E1 where it is to null; E5 where it is to a plain object or a string; E6 where it is to an array of other elements; E7 where the array has another number of elements.
+    ///
+    /// The elements are handed back as they were, nothing is written, and the thread stands outside.
+    ///
+    /// # Operations
+    ///
+    /// At most 4, and one for each element: the entry, a look at the slot of a global or weak handle, one at the array's header, a store for each element, and the exit. To abort takes none.
     pub fn release_array_elements<E: Elem>(
         &mut self,
         array: Handle,
@@ -62,7 +82,17 @@ impl<S: Steps> Env<S> {
         }
     }
 
-    /// Copies all UTF-16 units of a string: E1, E2, E3, E4, E13, and E16 where the memory for them was refused. (JNI Specification, chapter 4, "GetStringChars")
+    /// Copies all UTF-16 units of a string, one after the other, rising. (JNI Specification, chapter 4, "GetStringChars")
+    ///
+    /// # Errors
+    ///
+    /// E13 where a thread is collecting at the entry; E2 where the handle is malformed or lies outside the room; E3 where it is a local one of another thread; E2 where its reference does not stand; E1 where it is to null; E4 where it is to no string; E16 where the memory for them was refused.
+    ///
+    /// No unit is read then, nothing has changed, and the thread stands outside.
+    ///
+    /// # Operations
+    ///
+    /// At most 4, and one for each unit: the entry, a look at the slot of a global or weak handle, one at the string's header, a load for each unit, and the exit.
     pub fn get_string_chars(&mut self, alloc: Global, string: Handle) -> Result<Vec<u16>, Fault>
         ensures { Does self.old self.new (get_string_chars string.0) (answer_in (λ units. units.items) result) }
     {

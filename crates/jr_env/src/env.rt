@@ -28,11 +28,17 @@ impl<S: Steps> Env<S> {
     ghost use Rattle.jr_env.specs.Envs.{Does, IsOutside};
     ghost use Rattle.jr_env.specs.Deeds.{new_reference, new_local_ref, delete_reference, delete_local_ref, is_same_object, get_object_ref_type};
 
-    /// The env of a thread, with one base frame, over a pass that is fresh, which is spent. It takes no step.
+    /// The env of a thread, with one base frame, over a pass that is fresh, which is spent. The thread has to stand outside.
     ///
     /// # Errors
     ///
-    /// E21 where the pass is not fresh: the steps are handed back.
+    /// E21 where the pass is not fresh.
+    ///
+    /// The steps are handed back as they were.
+    ///
+    /// # Operations
+    ///
+    /// None.
     pub fn new(mut steps: S) -> Result<Self, (S, Fault)>
         requires { (S.facts steps).stands.role ≡ Outside }
         ensures fresh { IfOk result (λ _. (S.facts steps).stands.fresh ≡ true) }
@@ -52,7 +58,11 @@ impl<S: Steps> Env<S> {
         Ok(Env { held, numbers })
     }
 
-    /// The steps, whose pass is not fresh, so that no second env is made over it. Local references that stand stay in the row. It takes no step where the thread is outside.
+    /// The steps, whose pass is not fresh, so that no second env is made over it. Local references that stand stay in the row.
+    ///
+    /// # Operations
+    ///
+    /// None where the thread stands outside. A stay that a region left is ended first.
     pub fn into_pass(self) -> S
         ensures steps { IsOutside self → result ≡ self.held.steps }
         ensures outside { (S.facts result).stands.role ≡ Outside }
@@ -64,21 +74,51 @@ impl<S: Steps> Env<S> {
         steps
     }
 
-    /// Makes a global reference to what the handle names, or none for null: E2, E3, E8, E13. (JNI Specification, chapter 4, "NewGlobalRef")
+    /// Makes a global reference to what the handle names, none for NULL and for a weak one that is cleared. (JNI Specification, chapter 4, "NewGlobalRef")
+    ///
+    /// # Errors
+    ///
+    /// E13 where a thread is collecting at the entry; E2 where the handle is malformed or lies outside the room; E3 where it is a local one of another thread; E2 where its reference does not stand; E8 where each slot was occupied when it was tried, or later in the call.
+    ///
+    /// Nothing has changed then, and the thread stands outside.
+    ///
+    /// # Operations
+    ///
+    /// Just its events: the entry, a look at the slot of a global or weak handle, a look at each slot that is tried, the exchange of each that was free, and the exit.
     pub fn new_global_ref(&mut self, handle: Handle) -> Result<Option<Handle>, Fault>
         ensures { Does self.old self.new (new_reference Global handle.0) result }
     {
         self.new_reference(RefKind::Global, handle)
     }
 
-    /// Makes a weak global reference to what the handle names, or none for null: E2, E3, E8, E13. (JNI Specification, chapter 4, "NewWeakGlobalRef")
+    /// Makes a weak global reference to what the handle names, none for NULL and for a weak one that is cleared. (JNI Specification, chapter 4, "NewWeakGlobalRef")
+    ///
+    /// # Errors
+    ///
+    /// E13 where a thread is collecting at the entry; E2 where the handle is malformed or lies outside the room; E3 where it is a local one of another thread; E2 where its reference does not stand; E8 where each slot was occupied when it was tried, or later in the call.
+    ///
+    /// Nothing has changed then, and the thread stands outside.
+    ///
+    /// # Operations
+    ///
+    /// Just its events: the entry, a look at the slot of a global or weak handle, a look at each slot that is tried, the exchange of each that was free, and the exit.
     pub fn new_weak_global_ref(&mut self, handle: Handle) -> Result<Option<Handle>, Fault>
         ensures { Does self.old self.new (new_reference Weak handle.0) result }
     {
         self.new_reference(RefKind::Weak, handle)
     }
 
-    /// Makes a local reference to what the handle names, or none for null, which needs no place: E2, E3, E9, E13. (JNI Specification, chapter 4, "NewLocalRef")
+    /// Makes a local reference to what the handle names, none for NULL and for a weak one that is cleared, which needs no place. (JNI Specification, chapter 4, "NewLocalRef")
+    ///
+    /// # Errors
+    ///
+    /// E13 where a thread is collecting at the entry; E2 where the handle is malformed or lies outside the room; E3 where it is a local one of another thread; E2 where its reference does not stand; E9 where no local place is free.
+    ///
+    /// Nothing has changed then, and the thread stands outside.
+    ///
+    /// # Operations
+    ///
+    /// Just its events, 2 to 4: the entry, a look at the slot of a global or weak handle, the store of the local word, and the exit.
     pub fn new_local_ref(&mut self, handle: Handle) -> Result<Option<Handle>, Fault>
         ensures { Does self.old self.new (new_local_ref handle.0) result }
     {
@@ -87,7 +127,17 @@ impl<S: Steps> Env<S> {
         Ok(made.map(Handle::pack))
     }
 
-    /// Deletes a global reference; NULL is no refusal: E2, E4, E13. (JNI Specification, chapter 4, "DeleteGlobalRef")
+    /// Deletes a global reference. For NULL it deletes nothing, and is not refused. (JNI Specification, chapter 4, "DeleteGlobalRef")
+    ///
+    /// # Errors
+    ///
+    /// E13 where a thread is collecting at the entry; E2 where the handle is malformed; E4 where it is of another kind; E2 where it lies outside the room, its reference does not stand, or another thread deletes it first.
+    ///
+    /// Nothing has changed then, and the thread stands outside.
+    ///
+    /// # Operations
+    ///
+    /// Just its events, 2 to 4: the entry, a look at the slot, the exchange of a word that stands there, and the exit.
     pub fn delete_global_ref(&mut self, handle: Handle) -> Result<(), Fault>
         ensures { Does self.old self.new (delete_reference Global handle.0) result }
     {
@@ -96,7 +146,17 @@ impl<S: Steps> Env<S> {
         make(&mut self.held, Removal { kind, target })
     }
 
-    /// Deletes a weak global reference; NULL is no refusal: E2, E4, E13. (JNI Specification, chapter 4, "DeleteWeakGlobalRef")
+    /// Deletes a weak global reference, cleared or not. For NULL it deletes nothing, and is not refused. (JNI Specification, chapter 4, "DeleteWeakGlobalRef")
+    ///
+    /// # Errors
+    ///
+    /// E13 where a thread is collecting at the entry; E2 where the handle is malformed; E4 where it is of another kind; E2 where it lies outside the room, its reference does not stand, or another thread deletes it first.
+    ///
+    /// Nothing has changed then, and the thread stands outside.
+    ///
+    /// # Operations
+    ///
+    /// Just its events, 2 to 4: the entry, a look at the slot, the exchange of a word that stands there, and the exit.
     pub fn delete_weak_global_ref(&mut self, handle: Handle) -> Result<(), Fault>
         ensures { Does self.old self.new (delete_reference Weak handle.0) result }
     {
@@ -105,7 +165,17 @@ impl<S: Steps> Env<S> {
         make(&mut self.held, Removal { kind, target })
     }
 
-    /// Deletes a local reference of the thread; NULL is no refusal: E2, E3, E4, E13. (JNI Specification, chapter 4, "DeleteLocalRef")
+    /// Deletes a local reference of the thread, whichever frame has it. For NULL it deletes nothing, and is not refused. (JNI Specification, chapter 4, "DeleteLocalRef")
+    ///
+    /// # Errors
+    ///
+    /// E13 where a thread is collecting at the entry; E2 where the handle is malformed; E4 where it is of another kind; E2 where it lies outside the room; E3 where it is one of another thread; E2 where its reference does not stand.
+    ///
+    /// Nothing has changed then, and the thread stands outside.
+    ///
+    /// # Operations
+    ///
+    /// Just its events, 2 or 3: the entry, the store of the local word, and the exit.
     pub fn delete_local_ref(&mut self, handle: Handle) -> Result<(), Fault>
         ensures { Does self.old self.new (delete_local_ref handle.0) result }
     {
@@ -113,7 +183,17 @@ impl<S: Steps> Env<S> {
         make(&mut self.held, LocalRemoval(target))
     }
 
-    /// Whether two references are to one object, or both to null: E2, E3, E13. (JNI Specification, chapter 4, "IsSameObject")
+    /// Whether two references are to one object, or both to null. The look at the first and the look at the second are two moments. Each check is made of the first handle and then of the second, before the next check. (JNI Specification, chapter 4, "IsSameObject")
+    ///
+    /// # Errors
+    ///
+    /// E13 where a thread is collecting at the entry; E2 where a handle is malformed or lies outside the room; E3 where one is a local one of another thread; E2 where the reference of one does not stand.
+    ///
+    /// Nothing has changed then, and the thread stands outside.
+    ///
+    /// # Operations
+    ///
+    /// Just its events, 2 to 4: the entry, a look at the slot of each handle that is global or weak, and the exit.
     pub fn is_same_object(&mut self, left: Handle, right: Handle) -> Result<bool, Fault>
         ensures { Does self.old self.new (is_same_object left.0 right.0) result }
     {
@@ -122,7 +202,17 @@ impl<S: Steps> Env<S> {
         make(&mut self.held, Comparison(left, right))
     }
 
-    /// The type of a reference: 0 invalid, 1 local, 2 global, 3 weak global: E13 alone. (JNI Specification, chapter 4, "GetObjectRefType")
+    /// The type of a reference: 1 local, 2 global, 3 weak global, be it cleared, and 0 for NULL, a malformed handle, one that lies outside the room, a local one of another thread, and one whose reference does not stand. (JNI Specification, chapter 4, "GetObjectRefType")
+    ///
+    /// # Errors
+    ///
+    /// E13 where a thread is collecting at the entry.
+    ///
+    /// Nothing has changed then, and the thread stands outside.
+    ///
+    /// # Operations
+    ///
+    /// Just its events, 2 or 3: the entry, a look at the slot of a global or weak handle, and the exit.
     pub fn get_object_ref_type(&mut self, handle: Handle) -> Result<u8, Fault>
         ensures { Does self.old self.new (get_object_ref_type handle.0) result }
     {

@@ -16,7 +16,17 @@ impl<S: Steps> Env<S> {
     ghost use Rattle.jr_env.specs.Envs.{IsOutside};
     ghost use Rattle.jr_env.specs.Criticals.{HasEntered, WasRefused};
 
-    /// Opens a critical region, with the array at its first level: E1, E2, E3, E5, E6, E13. (JNI Specification, chapter 4, "GetPrimitiveArrayCritical")
+    /// Opens a critical region, with the array at its first level. The thread is within until that level is given up. (JNI Specification, chapter 4, "GetPrimitiveArrayCritical")
+    ///
+    /// # Errors
+    ///
+    /// E13 where a thread is collecting at the entry; E2 where the handle is malformed or lies outside the room; E3 where it is a local one of another thread; E2 where its reference does not stand; E1 where it is to null; E5 where it is to a plain object or a string; E6 where it is to an array of objects.
+    ///
+    /// Nothing has changed then, and the thread stands outside.
+    ///
+    /// # Operations
+    ///
+    /// At most 3: the entry, a look at the slot of a global or weak handle, and one at the array's header. Where it is refused, the exit too.
     #[inline(always)]
     pub fn open_array_critical(&mut self, array: Handle) -> Result<Levels, Fault>
         ensures entered { IfOk result (λ v. HasEntered self.old self.new v array.0 get_array_critical) }
@@ -26,7 +36,17 @@ impl<S: Steps> Env<S> {
         Levels::open_array(&mut self.held, array)
     }
 
-    /// Opens a critical region, with the string at its first level: E1, E2, E3, E4, E13. (JNI Specification, chapter 4, "GetStringCritical")
+    /// Opens a critical region, with the string at its first level. The thread is within until that level is given up. (JNI Specification, chapter 4, "GetStringCritical")
+    ///
+    /// # Errors
+    ///
+    /// E13 where a thread is collecting at the entry; E2 where the handle is malformed or lies outside the room; E3 where it is a local one of another thread; E2 where its reference does not stand; E1 where it is to null; E4 where it is to no string.
+    ///
+    /// Nothing has changed then, and the thread stands outside.
+    ///
+    /// # Operations
+    ///
+    /// At most 3: the entry, a look at the slot of a global or weak handle, and one at the string's header. Where it is refused, the exit too.
     #[inline(always)]
     pub fn open_string_critical(&mut self, string: Handle) -> Result<Levels, Fault>
         ensures entered { IfOk result (λ v. HasEntered self.old self.new v string.0 get_string_critical) }
@@ -36,7 +56,17 @@ impl<S: Steps> Env<S> {
         Levels::open_string(&mut self.held, string)
     }
 
-    /// Adds a level over an array whose elements are no objects, and answers its number: E1, E2, E3, E5, E6, E17 where sixteen levels stand. It takes no step at the gate. (JNI Specification, chapter 4, "GetPrimitiveArrayCritical")
+    /// Adds a level over an array whose elements are no objects, and answers its number. An array may stand at several levels. The levels have to stand over the env. (JNI Specification, chapter 4, "GetPrimitiveArrayCritical")
+    ///
+    /// # Errors
+    ///
+    /// E2 where the handle is malformed or lies outside the room; E3 where it is a local one of another thread; E2 where its reference does not stand; E1 where it is to null; E5 where it is to a plain object or a string; E6 where it is to an array of objects; E17 where sixteen levels stand.
+    ///
+    /// The levels are as they were, and stand.
+    ///
+    /// # Operations
+    ///
+    /// At most 2: a look at the slot of a global or weak handle, and one at the array's header. It takes none at the gate.
     pub fn nest_array_critical(
         &mut self,
         levels: &mut Levels,
@@ -52,7 +82,17 @@ impl<S: Steps> Env<S> {
         levels.nest_array(&mut self.held, array)
     }
 
-    /// Adds a level over a string, and answers its number: E1, E2, E3, E4, E17 where sixteen levels stand. It takes no step at the gate. (JNI Specification, chapter 4, "GetStringCritical")
+    /// Adds a level over a string, and answers its number. A string may stand at several levels. The levels have to stand over the env. (JNI Specification, chapter 4, "GetStringCritical")
+    ///
+    /// # Errors
+    ///
+    /// E2 where the handle is malformed or lies outside the room; E3 where it is a local one of another thread; E2 where its reference does not stand; E1 where it is to null; E4 where it is to no string; E17 where sixteen levels stand.
+    ///
+    /// The levels are as they were, and stand.
+    ///
+    /// # Operations
+    ///
+    /// At most 2: a look at the slot of a global or weak handle, and one at the string's header. It takes none at the gate.
     pub fn nest_string_critical(
         &mut self,
         levels: &mut Levels,
@@ -68,7 +108,17 @@ impl<S: Steps> Env<S> {
         levels.nest_string(&mut self.held, string)
     }
 
-    /// An element of a level's array, or a unit of its string as a char: E6 where its elements are of another kind, E7 past its length. It is one load.
+    /// An element of a level's array, or a unit of its string as a char. The levels have to stand over the env, and the level has to be one of them.
+    ///
+    /// # Errors
+    ///
+    /// E6 where its elements are of another kind; E7 where the index is not below the length.
+    ///
+    /// Nothing is read then, and the levels stand.
+    ///
+    /// # Operations
+    ///
+    /// One load, and none where it is refused.
     pub fn get_critical<E: Elem>(
         &mut self,
         levels: &Levels,
@@ -84,7 +134,17 @@ impl<S: Steps> Env<S> {
         levels.get(&mut self.held, level, index)
     }
 
-    /// Writes an element of a level's array: E5 at a string, E6 where its elements are of another kind, E7 past its length, each before the write. It is one store.
+    /// Writes an element of a level's array. The levels have to stand over the env, and the level has to be one of them.
+    ///
+    /// # Errors
+    ///
+    /// E5 at a string; E6 where its elements are of another kind; E7 where the index is not below the length.
+    ///
+    /// Nothing is written then, and the levels stand.
+    ///
+    /// # Operations
+    ///
+    /// One store, and none where it is refused.
     pub fn set_critical<E: Elem>(
         &mut self,
         levels: &Levels,
@@ -101,7 +161,11 @@ impl<S: Steps> Env<S> {
         levels.set(&mut self.held, level, index, value)
     }
 
-    /// Gives up the last level. With the first one the thread leaves the gate, and none is left. Every mode does the same, since a region is no copy. (JNI Specification, chapter 4, "ReleasePrimitiveArrayCritical", "ReleaseStringCritical")
+    /// Gives up the last level, and answers those before it. With the first one the thread leaves the gate, and none is left. Every mode does the same, since a region is no copy. The levels have to stand over the env. (JNI Specification, chapter 4, "ReleasePrimitiveArrayCritical", "ReleaseStringCritical")
+    ///
+    /// # Operations
+    ///
+    /// One with the first level, the exit, and else none.
     #[inline(always)]
     pub fn close_critical(&mut self, levels: Levels, mode: Mode) -> Option<Levels>
         requires { Stand S.facts levels self.old.held.steps self.old.held.frames }
@@ -114,7 +178,11 @@ impl<S: Steps> Env<S> {
         levels.close(&mut self.held, mode)
     }
 
-    /// Gives up all levels at once, as where a native method ends within its region: the thread leaves the gate.
+    /// Gives up all levels at once, as where a native method ends within its region: the thread leaves the gate. The levels have to stand over the env.
+    ///
+    /// # Operations
+    ///
+    /// One, the exit.
     pub fn close_all_critical(&mut self, levels: Levels)
         requires { Stand S.facts levels self.old.held.steps self.old.held.frames }
         ensures call { GivesUpAll S.facts self.old.held.steps self.new.held.steps self.old.held.frames.frames levels }

@@ -10,7 +10,11 @@ use crate::env::Env;
 use jr_rule::{Pass, RoomSteps};
 
 impl<const LAST: u32> Env<RoomSteps<'_, LAST>> {
-    /// Learns all that the holder of another pass of the room has seen, which gets its pass back as it was. The local references stay as they are.
+    /// Learns all that the holder of another pass of the room has seen, which gets its pass back as it was. The local references stay as they are. An env in a room alone has this call.
+    ///
+    /// # Operations
+    ///
+    /// One, a load of the gate. The passes join for it and part again, each by a load of the gate that no clause counts.
     pub fn meet(&mut self, pass: Pass) -> Pass
         requires { IsOfRoom self.old.held.steps.room.now pass }
         ensures room { self.new.held.steps.room ≡ self.old.held.steps.room }

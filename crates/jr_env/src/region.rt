@@ -32,7 +32,17 @@ impl<'e, S: Steps> Region<'e, S> {
         Region { env, levels }
     }
 
-    /// Adds a level over an array whose elements are no objects, and answers its number: E1, E2, E3, E5, E6, E17 where sixteen levels stand. An array may stand at several levels. It takes no step at the gate. (JNI Specification, chapter 4, "GetPrimitiveArrayCritical")
+    /// Adds a level over an array whose elements are no objects, and answers its number. An array may stand at several levels. (JNI Specification, chapter 4, "GetPrimitiveArrayCritical")
+    ///
+    /// # Errors
+    ///
+    /// E2 where the handle is malformed or lies outside the room; E3 where it is a local one of another thread; E2 where its reference does not stand; E1 where it is to null; E5 where it is to a plain object or a string; E6 where it is to an array of objects; E17 where sixteen levels stand.
+    ///
+    /// The levels are as they were, and stand.
+    ///
+    /// # Operations
+    ///
+    /// At most 2: a look at the slot of a global or weak handle, and one at the array's header. It takes none at the gate.
     pub fn nest_array(&mut self, array: Handle) -> Result<usize, Fault>
         ensures same_reference { (env_of self.new).ghost_name ≡ (env_of self.old).ghost_name }
         ensures call { Nests S.facts (steps_of self.old) (steps_of self.new) (frames_of self.old).frames array.0 nest_array (levels_of self.old) (levels_of self.new) result }
@@ -43,7 +53,17 @@ impl<'e, S: Steps> Region<'e, S> {
         self.env.nest_array_critical(&mut self.levels, array)
     }
 
-    /// Adds a level over a string, and answers its number: E1, E2, E3, E4, E17 where sixteen levels stand. A string may stand at several levels. It takes no step at the gate. (JNI Specification, chapter 4, "GetStringCritical")
+    /// Adds a level over a string, and answers its number. A string may stand at several levels. (JNI Specification, chapter 4, "GetStringCritical")
+    ///
+    /// # Errors
+    ///
+    /// E2 where the handle is malformed or lies outside the room; E3 where it is a local one of another thread; E2 where its reference does not stand; E1 where it is to null; E4 where it is to no string; E17 where sixteen levels stand.
+    ///
+    /// The levels are as they were, and stand.
+    ///
+    /// # Operations
+    ///
+    /// At most 2: a look at the slot of a global or weak handle, and one at the string's header. It takes none at the gate.
     pub fn nest_string(&mut self, string: Handle) -> Result<usize, Fault>
         ensures same_reference { (env_of self.new).ghost_name ≡ (env_of self.old).ghost_name }
         ensures call { Nests S.facts (steps_of self.old) (steps_of self.new) (frames_of self.old).frames string.0 nest_string (levels_of self.old) (levels_of self.new) result }
@@ -54,7 +74,17 @@ impl<'e, S: Steps> Region<'e, S> {
         self.env.nest_string_critical(&mut self.levels, string)
     }
 
-    /// An element of a level's array, or a unit of its string as a char: E6 where its elements are of another kind, E7 past its length. It is one load.
+    /// An element of a level's array, or a unit of its string as a char. The level has to be one that stands.
+    ///
+    /// # Errors
+    ///
+    /// E6 where its elements are of another kind; E7 where the index is not below the length.
+    ///
+    /// Nothing is read then, and the levels stand.
+    ///
+    /// # Operations
+    ///
+    /// One load, and none where it is refused.
     pub fn get<E: Elem>(&mut self, level: usize, index: u32) -> Result<E, Fault>
         requires { level < length (objects_of (levels_of self.old)) }
         ensures same_reference { (env_of self.new).ghost_name ≡ (env_of self.old).ghost_name }
@@ -65,7 +95,17 @@ impl<'e, S: Steps> Region<'e, S> {
         self.env.get_critical(&self.levels, level, index)
     }
 
-    /// Writes an element of a level's array: E5 at a string, E6 where its elements are of another kind, E7 past its length, each before the write. It is one store.
+    /// Writes an element of a level's array. The level has to be one that stands.
+    ///
+    /// # Errors
+    ///
+    /// E5 at a string; E6 where its elements are of another kind; E7 where the index is not below the length.
+    ///
+    /// Nothing is written then, and the levels stand.
+    ///
+    /// # Operations
+    ///
+    /// One store, and none where it is refused.
     pub fn set<E: Elem>(&mut self, level: usize, index: u32, value: E) -> Result<(), Fault>
         requires { level < length (objects_of (levels_of self.old)) }
         ensures same_reference { (env_of self.new).ghost_name ≡ (env_of self.old).ghost_name }
@@ -76,7 +116,7 @@ impl<'e, S: Steps> Region<'e, S> {
         self.env.set_critical(&self.levels, level, index, value)
     }
 
-    /// How many elements or units a level's array or string has. It takes no step.
+    /// How many elements or units a level's array or string has. The level has to be one that stands.
     pub fn length(&self, level: usize) -> u32
         requires { level < length (objects_of (levels_of self.now)) }
         ensures { TellsLength (levels_of self.now) level result }
@@ -84,7 +124,7 @@ impl<'e, S: Steps> Region<'e, S> {
         self.levels.length(level)
     }
 
-    /// The kind of a level's array or string. It takes no step.
+    /// The kind of a level's array or string. The level has to be one that stands.
     pub fn kind(&self, level: usize) -> Kind
         requires { level < length (objects_of (levels_of self.now)) }
         ensures { TellsKind (levels_of self.now) level result }
@@ -108,6 +148,10 @@ impl<'e, S: Steps> Region<'e, S> {
     }
 
     /// Gives up the last level. With the first one the thread leaves the gate, and the env can be called again: none is left. Every mode does the same, since a region is no copy: none undoes a write, and none keeps the elements. (JNI Specification, chapter 4, "ReleasePrimitiveArrayCritical", "ReleaseStringCritical")
+    ///
+    /// # Operations
+    ///
+    /// One with the first level, the exit, and else none.
     #[inline(always)]
     pub fn release(self, mode: Mode) -> Option<Region<'e, S>>
         ensures* rests { sem 𝓛 (rests_in_left S.row S.Steps self.entry result) }

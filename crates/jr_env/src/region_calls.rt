@@ -11,7 +11,17 @@ impl<S: Steps> Env<S> {
     ghost use Rattle.jr_env.specs.Envs.{Does};
     ghost use Rattle.jr_env.specs.Deeds.{get_array_region, read_answer, set_array_region};
 
-    /// Copies a part of an array out, from an index on: as many elements as the slice has room for: E1, E2, E3, E5, E6, E7, E13. Where it is refused, the slice stays as it was. (JNI Specification, chapter 4, "Get<PrimitiveType>ArrayRegion Routines")
+    /// Copies a part of an array out, from an index on: as many elements as the slice has room for, one after the other, rising. No elements are in range up to the end of the array. (JNI Specification, chapter 4, "Get<PrimitiveType>ArrayRegion Routines")
+    ///
+    /// # Errors
+    ///
+    /// E13 where a thread is collecting at the entry; E2 where the handle is malformed or lies outside the room; E3 where it is a local one of another thread; E2 where its reference does not stand; E1 where it is to null; E5 where it is to a plain object or a string; E6 where it is to an array of other elements; E7 where the part does not lie in the array.
+    ///
+    /// The slice is as it was, nothing has changed, and the thread stands outside.
+    ///
+    /// # Operations
+    ///
+    /// At most 4, and one for each element: the entry, a look at the slot of a global or weak handle, one at the array's header, a load for each element, and the exit.
     pub fn get_array_region<E: Elem>(
         &mut self,
         array: Handle,
@@ -26,7 +36,17 @@ impl<S: Steps> Env<S> {
         copy_out(&mut self.held, Part { array, start }, elements)
     }
 
-    /// Copies elements into a part of an array, from an index on: E1, E2, E3, E5, E6, E7, E13. Where it is refused, nothing is written. (JNI Specification, chapter 4, "Set<PrimitiveType>ArrayRegion Routines")
+    /// Copies elements into a part of an array, from an index on, one after the other, rising. No elements are in range up to the end of the array. (JNI Specification, chapter 4, "Set<PrimitiveType>ArrayRegion Routines")
+    ///
+    /// # Errors
+    ///
+    /// E13 where a thread is collecting at the entry; E2 where the handle is malformed or lies outside the room; E3 where it is a local one of another thread; E2 where its reference does not stand; E1 where it is to null; E5 where it is to a plain object or a string; E6 where it is to an array of other elements; E7 where the part does not lie in the array.
+    ///
+    /// Nothing is written then, and the thread stands outside.
+    ///
+    /// # Operations
+    ///
+    /// At most 4, and one for each element: the entry, a look at the slot of a global or weak handle, one at the array's header, a store for each element, and the exit.
     pub fn set_array_region<E: Elem>(
         &mut self,
         array: Handle,

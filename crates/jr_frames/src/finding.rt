@@ -20,7 +20,13 @@ use jr_word::{Fault, HeaderParts};
 ///
 /// # Errors
 ///
-/// E2 and E3 for what is no reference here, E1 where it names no object.
+/// E2 where it is malformed or lies outside the room; E3 where it is a local one of another thread; E2 where it does not stand; E1 where it is to null.
+///
+/// Nothing has changed then.
+///
+/// # Operations
+///
+/// At most two: a look at the slot of a global or weak handle, and one at the header.
 #[inline(always)]
 pub fn find<S: Steps>(
     steps: &mut S,

@@ -57,7 +57,7 @@ impl Frames {
         }
     }
 
-    /// The handle that a new reference gets, if a place is free.
+    /// The handle that the next reference is to get, none where no place is free. Which of the free places it has no clause says.
     pub fn next(&self) -> Option<HandleParts>
         ensures none { IfNone result (free_places self.now.last self.now.frames ≡ 0) }
         ensures some { IfSome result (IsNext self.now) }
@@ -109,7 +109,7 @@ impl Frames {
         }
     }
 
-    /// Removes the reference of a handle that stands, whichever frame has it. Its place is given next, unless it is retired.
+    /// Removes the reference of a handle that stands, whichever frame has it. In the code its place is given next, unless it is retired.
     pub fn delete(&mut self, handle: HandleParts)
         requires { IsSome (object_of self.old.frames handle) }
         ensures deleted { self.new.frames ≡ without_local self.old.frames handle }
@@ -196,7 +196,7 @@ impl Frames {
         self.rings.pop();
     }
 
-    /// Whether a place is free once the newest frame is taken away with its references. Those are gone through where none is free already.
+    /// Whether a place is free once the newest frame is taken away with its references. In the code those are gone through where none is free already.
     pub fn has_room_after_pop(&self) -> bool
         ensures { IsTrue result ↔ (1 ≤ free_places self.now.last (popped self.now.frames)) }
     {

@@ -14,6 +14,10 @@ use jr_steps::Steps;
 use jr_word::HandleParts;
 
 /// Frees all local references, frames and references oldest first. One empty frame is left.
+///
+/// # Operations
+///
+/// A store for each local reference.
 pub fn free_all<S: Steps>(steps: &mut S, inside: &Inside, frames: &mut Frames)
     requires stay { IsOwnStay inside.now (S.facts steps.old).stands }
     requires ready { StandsReady S.facts Within steps.old frames.old }

@@ -22,11 +22,17 @@ pub struct Held<S: Steps> {
 }
 
 impl<S: Steps> Held<S> {
-    /// The object of the reference that a handle is, in a stay of the thread: none for NULL and a cleared one. It takes at most one step.
+    /// The object of the reference that a handle is, in a stay of the thread: none for NULL and a cleared one.
     ///
     /// # Errors
     ///
-    /// E2 where it is no reference, or one that was deleted or lies outside the room; E3 where it is a local one of another thread.
+    /// E2 where the handle is malformed or lies outside the room; E3 where it is a local one of another thread; E2 where its reference does not stand.
+    ///
+    /// Nothing has changed then.
+    ///
+    /// # Operations
+    ///
+    /// At most one, a look at the slot of a global or weak handle.
     #[inline(always)]
     pub fn resolve(&mut self, inside: &Inside, handle: Handle) -> Result<Option<u16>, Fault>
         requires { IsOwnStay inside.now (S.facts self.old.steps).stands }

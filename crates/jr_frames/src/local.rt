@@ -15,11 +15,17 @@ use jr_gate::Inside;
 use jr_steps::Steps;
 use jr_word::{Fault, HandleParts};
 
-/// Makes a local reference to a present object, none to none, in the newest frame. It takes one step where it makes one, and none else.
+/// Makes a local reference to a present object, none to none, in the newest frame.
 ///
 /// # Errors
 ///
 /// E9 where no place is free.
+///
+/// Nothing has changed then.
+///
+/// # Operations
+///
+/// One store where it makes one, and else none.
 pub fn new_local<S: Steps>(
     steps: &mut S,
     inside: &Inside,
@@ -48,7 +54,13 @@ pub fn new_local<S: Steps>(
 ///
 /// # Errors
 ///
-/// E4 where it is no local one, E2 where it does not stand, E3 where it is another thread's.
+/// E4 where it is no local one; E2 where it lies outside the room; E3 where it is another thread's; E2 where it does not stand.
+///
+/// Nothing has changed then.
+///
+/// # Operations
+///
+/// One store, and none where it is refused.
 pub fn delete_local<S: Steps>(
     steps: &mut S,
     inside: &Inside,

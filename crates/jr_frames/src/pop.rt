@@ -18,11 +18,17 @@ use jr_gate::Inside;
 use jr_steps::Steps;
 use jr_word::{Fault, HandleParts};
 
-/// Takes the newest frame away with its references, the oldest first, and makes a local reference to a present object in the frame below, none to none.
+/// Takes the newest frame away with its references, the oldest first, and makes a local reference to a present object in the frame below, none to none. There has to be a frame below.
 ///
 /// # Errors
 ///
-/// E9 where an object is given and no place would be free for it: nothing is taken away.
+/// E9 where an object is given and no place would be free for it.
+///
+/// Nothing is taken away then.
+///
+/// # Operations
+///
+/// A store for each reference of the frame, and one for the new one. None where it is refused.
 pub fn pop_frame<S: Steps>(
     steps: &mut S,
     inside: &Inside,

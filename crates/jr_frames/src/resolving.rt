@@ -66,7 +66,17 @@ fn look_up<S: Steps>(
     }
 }
 
-/// The object of a reference: none for NULL and a cleared one, E2 and E3 for what is no reference here.
+/// The object of a reference, none for NULL and a cleared one.
+///
+/// # Errors
+///
+/// E2 where it is malformed or lies outside the room; E3 where it is a local one of another thread; E2 where it does not stand.
+///
+/// Nothing has changed then.
+///
+/// # Operations
+///
+/// At most one, a look at the slot of a global or weak handle.
 #[inline(always)]
 pub fn resolve<S: Steps>(
     steps: &mut S,
@@ -87,7 +97,17 @@ pub fn resolve<S: Steps>(
     look_up(steps, inside, frames, reference)
 }
 
-/// The objects of two references, which are present: each check is made of the first and then of the second, before the next check. E2, E3.
+/// The objects of two references, none for NULL and a cleared one. Each check is made of the first and then of the second, before the next check.
+///
+/// # Errors
+///
+/// E2 where one is malformed or lies outside the room; E3 where one is a local one of another thread; E2 where one does not stand.
+///
+/// Nothing has changed then.
+///
+/// # Operations
+///
+/// At most two, a look at the slot of each that is global or weak.
 #[inline(always)]
 pub fn resolve_both<S: Steps>(
     steps: &mut S,
@@ -166,6 +186,10 @@ fn type_of_parts<S: Steps>(
 }
 
 /// The type of a reference: 1 local, 2 global, 3 weak global, and 0 for NULL and for what is no reference here.
+///
+/// # Operations
+///
+/// At most one, a look at the slot of a global or weak handle.
 #[inline(always)]
 pub fn type_of<S: Steps>(
     steps: &mut S,

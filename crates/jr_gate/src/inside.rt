@@ -16,7 +16,11 @@ pub struct Inside {
 }
 
 impl Inside {
-    /// Ends the steps' own stay. Own is by the number of the thread and the role of the steps: the stay has their thread's number, and they are within.
+    /// Ends the steps' own stay. Own is by the number of the thread and the role of the steps: the stay has their thread's number, and they are within. What the pass held ends with the stay.
+    ///
+    /// # Operations
+    ///
+    /// One.
     pub fn leave<S: Steps>(self, steps: &mut S)
         requires { IsOwnStay self (S.facts steps.old).stands }
         ensures { Took S.facts steps.old steps.new (Leave ∷ []) anything lets_go }
@@ -26,7 +30,17 @@ impl Inside {
     }
 }
 
-/// Enters the gate by one operation: E13 only where a thread was collecting at the entry step, and then a second operation withdraws. Over one thread it is never refused. The stay is the steps' own, by the number of the thread and the role of the steps.
+/// Enters the gate. The thread has to stand outside. The stay is the steps' own, by the number of the thread and the role of the steps. Over one thread it is never refused.
+///
+/// # Errors
+///
+/// E13 where a thread was collecting at the entry step.
+///
+/// The knock is withdrawn: the thread stands outside, and its pass holds nothing.
+///
+/// # Operations
+///
+/// One, the entry. Where it is refused, two: the knock and its withdrawal.
 pub fn enter<S: Steps>(steps: &mut S) -> Result<Inside, Fault>
     requires { (S.facts steps.old).stands.role ≡ Outside }
     ensures ok { IfOk result (λ i. IsOwnStay i (S.facts steps.new).stands × Took S.facts steps.old steps.new (Enter ∷ []) anything keeps) }

@@ -16,6 +16,10 @@ pub struct Shut {
 
 impl Shut {
     /// Opens the gate after the steps' own collection. Own is by the number of the thread and the role of the steps: the collection has their thread's number, and they are collecting. No present object array may name an absent object, and no move may be unfinished.
+    ///
+    /// # Operations
+    ///
+    /// One.
     pub fn reopen<S: Steps>(self, steps: &mut S)
         requires own { IsOwnCollection self (S.facts steps.old).stands }
         requires closed { MayKnow S.facts steps.old CanReopen }
@@ -26,7 +30,17 @@ impl Shut {
     }
 }
 
-/// Shuts the gate for a collection: E14 with how many threads are inside, knocking or collecting at that one step, at least 1. Where it is shut, no present object array names an absent object, and the pass holds nothing. Over one thread it is never refused. The collection is the steps' own, by the number of the thread and the role of the steps.
+/// Shuts the gate for a collection. The thread has to stand outside. Where the gate is shut, no present object array names an absent object, and the pass holds nothing. The collection is the steps' own, by the number of the thread and the role of the steps. Over one thread it is never refused.
+///
+/// # Errors
+///
+/// E14 with how many threads are inside, knocking or collecting at that one step, at least 1.
+///
+/// Nothing has changed then, and the thread stands outside.
+///
+/// # Operations
+///
+/// One.
 pub fn shut_gate<S: Steps>(steps: &mut S) -> Result<Shut, Fault>
     requires { (S.facts steps.old).stands.role ≡ Outside }
     ensures ok { IfOk result (λ s. IsOwnCollection s (S.facts steps.new).stands × Took S.facts steps.old steps.new (Shuts ∷ []) anything (λ j k. IsClosedNow k × lets_go j k)) }

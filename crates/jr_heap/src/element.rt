@@ -22,7 +22,17 @@ use crate::object::header;
 use jr_steps::Steps;
 use jr_word::{Fault, HeaderParts, Kind};
 
-/// The element at an index of a present object: E5 of a plain object, E7 past its length. It is a word of the object's kind.
+/// The element at an index of a present object. It is a word of the object's kind.
+///
+/// # Errors
+///
+/// E5 of a plain object; E7 where the index is not below the length.
+///
+/// Nothing has changed then.
+///
+/// # Operations
+///
+/// Two loads, the header and the element. One where it is refused.
 pub fn read<S: Steps>(steps: &mut S, object: u16, index: u32) -> Result<u64, Fault>
     requires role { (S.facts steps.old).stands.role ≡ Within }
     requires object { MayKnow S.facts steps.old (HasObject object) }
@@ -34,7 +44,17 @@ pub fn read<S: Steps>(steps: &mut S, object: u16, index: u32) -> Result<u64, Fau
     read_element(steps, object, header, index)
 }
 
-/// The element at an index of an object whose header was read in this stay: E5 of a plain object, E7 past its length. It is a word of the object's kind.
+/// The element at an index of an object whose header was read in this stay. It is a word of the object's kind.
+///
+/// # Errors
+///
+/// E5 of a plain object; E7 where the index is not below the length.
+///
+/// Nothing has changed then.
+///
+/// # Operations
+///
+/// One load, and none where it is refused.
 pub fn read_element<S: Steps>(
     steps: &mut S,
     object: u16,
@@ -57,7 +77,17 @@ pub fn read_element<S: Steps>(
     Ok(steps.see_element(object, header, index))
 }
 
-/// Writes the element at an index of a present object: E5 of a plain object or a string, E7 past its length, E18 where the word is not of its kind, all before the write. A word of an object array is 0 or a present object's number.
+/// Writes the element at an index of a present object. A word of an object array has to be 0 or a present object's number.
+///
+/// # Errors
+///
+/// E5 of a plain object or a string; E7 where the index is not below the length; E18 where the word is not of the object's kind.
+///
+/// Nothing is written then.
+///
+/// # Operations
+///
+/// Two, the load of the header and the store. One where it is refused.
 pub fn write<S: Steps>(steps: &mut S, object: u16, index: u32, word: u64) -> Result<(), Fault>
     requires role { (S.facts steps.old).stands.role ≡ Within }
     requires object { MayKnow S.facts steps.old (λ k. HasObject object k × MayBeNamedIn object word k) }
@@ -69,7 +99,17 @@ pub fn write<S: Steps>(steps: &mut S, object: u16, index: u32, word: u64) -> Res
     write_element(steps, object, header, index, word)
 }
 
-/// Writes the element at an index of an object whose header was read in this stay: E5 of a plain object or a string, E7 past its length, E18 where the word is not of its kind, all before the write. A word of an object array is 0 or a present object's number.
+/// Writes the element at an index of an object whose header was read in this stay. A word of an object array has to be 0 or a present object's number.
+///
+/// # Errors
+///
+/// E5 of a plain object or a string; E7 where the index is not below the length; E18 where the word is not of the object's kind.
+///
+/// Nothing is written then.
+///
+/// # Operations
+///
+/// One store, and none where it is refused.
 pub fn write_element<S: Steps>(
     steps: &mut S,
     object: u16,

@@ -48,7 +48,17 @@ fn number(first: u32, turn: u32, objects: u32) -> u16
     (next - objects + 1) as u16
 }
 
-/// A new object, whose elements are the words of a range of the pass's own, which it gives away; its header holds until the pass leaves. It takes an exchange for each number that it comes to, and comes to each at the most once. E11 where every number is present, and then its words stay reserved. A plain object has none.
+/// A new object, whose elements are the words of a range of the pass's own, which it gives away; its header holds until the pass leaves. The words have to be of the kind. A plain object has none.
+///
+/// # Errors
+///
+/// E11 where every number was present at one moment of the call.
+///
+/// The words of the range stay reserved until the next collection.
+///
+/// # Operations
+///
+/// An exchange for each number that it comes to, at least one, and each at the most once. Where it is refused, one for each object number of the room.
 pub fn publish<S: Steps>(
     steps: &mut S,
     numbers: &mut Numbers,
@@ -77,6 +87,10 @@ pub fn publish<S: Steps>(
 }
 
 /// The header of a present object. It holds until the pass leaves.
+///
+/// # Operations
+///
+/// One load.
 pub fn header<S: Steps>(steps: &mut S, object: u16) -> HeaderParts
     requires role { (S.facts steps.old).stands.role ≡ Within }
     requires object { MayKnow S.facts steps.old (HasObject object) }

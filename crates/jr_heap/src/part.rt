@@ -9,7 +9,11 @@ ghost use Rattle.jr_heap.specs.Heap.{Called, HoldsHeader, LeavesObject, by_steps
 use jr_steps::Steps;
 use jr_word::{Elem, HeaderParts};
 
-/// Reads elements of an array whose header was read in this stay, from an index on: as many as the slice has room for. The units of a string are read as chars.
+/// Reads elements of an array whose header was read in this stay, from an index on: as many as the slice has room for, one after the other, rising. They have to lie in the array. The units of a string are read as chars.
+///
+/// # Operations
+///
+/// A load for each element.
 pub fn read_part<S: Steps, E: Elem>(
     steps: &mut S,
     object: u16,
@@ -29,7 +33,11 @@ pub fn read_part<S: Steps, E: Elem>(
     steps.see_part(object, header, start, elements);
 }
 
-/// Writes elements of an array whose header was read in this stay, from an index on.
+/// Writes elements of an array whose header was read in this stay, from an index on, one after the other, rising. They have to lie in the array.
+///
+/// # Operations
+///
+/// A store for each element.
 pub fn write_part<S: Steps, E: Elem>(
     steps: &mut S,
     object: u16,

@@ -42,7 +42,17 @@ impl Range {
     }
 }
 
-/// Reserves so many words, by one look at the top and one exchange; none are reserved by no step. E10 with the number of words that are reserved where these don't fit beside them; E12 with what was looked at and what was found where another thread reserved words in between, and so never over plain words.
+/// Reserves so many words. None are reserved by no step.
+///
+/// # Errors
+///
+/// E10 with how many words are reserved, where so many more don't fit; E12 with how many were looked at and how many were found, where another thread reserved words in between, and so never over plain words.
+///
+/// What the pass holds is as it was.
+///
+/// # Operations
+///
+/// Two, a look at the top and an exchange. One where the words don't fit, and none for no words.
 pub fn reserve<S: Steps>(steps: &mut S, words: u32) -> Result<Range, Fault>
     requires role { (S.facts steps.old).stands.role ≡ Within }
     ensures stands { (S.facts steps.new).stands ≡ (S.facts steps.old).stands }
@@ -69,6 +79,10 @@ pub fn reserve<S: Steps>(steps: &mut S, words: u32) -> Result<Range, Fault>
 }
 
 /// Fills a range of the pass's own with a word.
+///
+/// # Operations
+///
+/// A store for each word.
 pub fn fill<S: Steps>(steps: &mut S, range: &Range, word: u64)
     requires role { (S.facts steps.old).stands.role ≡ Within }
     requires own { MayKnow S.facts steps.old (IsOwn (place_of range.now) (size_of range.now)) }
@@ -82,7 +96,11 @@ pub fn fill<S: Steps>(steps: &mut S, range: &Range, word: u64)
     }
 }
 
-/// Fills a range of the pass's own with the units of a string.
+/// Fills a range of the pass's own with the units of a string, of which there have to be as many.
+///
+/// # Operations
+///
+/// A store for each unit.
 pub fn fill_from<S: Steps>(steps: &mut S, range: &Range, units: &[u16])
     requires role { (S.facts steps.old).stands.role ≡ Within }
     requires own { MayKnow S.facts steps.old (IsOwn (place_of range.now) (size_of range.now)) }

@@ -91,7 +91,17 @@ fn slot_after(index: u16, slots: u32) -> u16
     if next == slots { 0 } else { next as u16 }
 }
 
-/// A new reference to a present object, in the first slot that is found free from the hint on: E8 where none is. At most two operations a slot. The next search begins behind the new reference.
+/// A new reference to a present object, in the first slot that is found free from the hint on, round to the slot before it. The next search begins behind the new reference.
+///
+/// # Errors
+///
+/// E8 where each slot was occupied when it was tried, or later in the call.
+///
+/// The next search begins where this one did, and what the pass holds is as it was.
+///
+/// # Operations
+///
+/// Just its events, at most two a slot: a look, and an exchange where it was free.
 #[inline(always)]
 pub fn create<S: Steps>(
     steps: &mut S,

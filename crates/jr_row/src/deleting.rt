@@ -12,7 +12,17 @@ use jr_gate::Inside;
 use jr_steps::Steps;
 use jr_word::{Fault, HandleParts};
 
-/// Deletes a reference by one look, and one exchange where it stands: E2 where it does not.
+/// Deletes a reference by one look, and one exchange where it stands. The handle has to be a global or weak one, of a slot of the room.
+///
+/// # Errors
+///
+/// E2 where the reference does not stand, or another thread deletes it first.
+///
+/// Nothing has changed then.
+///
+/// # Operations
+///
+/// Just its events, one or two: the look, and the exchange where the reference stands.
 #[inline(always)]
 pub fn delete<S: Steps>(steps: &mut S, inside: &Inside, handle: HandleParts) -> Result<(), Fault>
     requires stay { IsOwnStay inside.now (S.facts steps.old).stands }

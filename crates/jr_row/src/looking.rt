@@ -13,7 +13,11 @@ use jr_model::Found;
 use jr_steps::{SlotLoad, Steps};
 use jr_word::{Fault, HandleParts, RefKind, SlotParts};
 
-/// Looks a handle up in its slot.
+/// Looks a handle up in its slot. It has to be a global or weak one, of a slot of the room.
+///
+/// # Operations
+///
+/// One load.
 #[inline(always)]
 pub fn look<S: Steps>(steps: &mut S, inside: &Inside, handle: HandleParts) -> Found
     requires stay { IsOwnStay inside.now (S.facts steps.old).stands }
@@ -55,7 +59,11 @@ fn found_standing(handle: HandleParts, kind: RefKind, serial: u32, object: Optio
     }
 }
 
-/// The object that a look found: none where the reference is cleared, E2 where it does not stand.
+/// The object that a look found, none where the reference is cleared.
+///
+/// # Errors
+///
+/// E2 exactly where the look found no such reference.
 #[inline(always)]
 pub fn object_found(found: Found) -> Result<Option<u16>, Fault>
     ensures { result ≡ found_answer found }

@@ -28,7 +28,17 @@ impl<const LAST: u32> Room<LAST> {
     ghost use Rattle.jr_rule.specs.Passes.{known_of, Closes};
     ghost use Rattle.jr_rule.specs.Rooms.{IsOfRoom, IsLeft};
 
-    /// Closes the room, and tells what stands in it: E22 where a thread is inside, knocking or collecting.
+    /// Closes the room, and tells what stands in it: what stands after a legal history that begins with all that the pass has seen, and has no more events of its thread. The pass has to be one of the room's.
+    ///
+    /// # Errors
+    ///
+    /// E22 with how many threads were inside, knocking or collecting at its one look, at least 1.
+    ///
+    /// The room is handed back as it was, and the pass, which has looked at the gate. They can be closed again.
+    ///
+    /// # Operations
+    ///
+    /// One, the look at the gate. Then no thread shares the words any more.
     pub fn close(self, mut pass: Pass) -> Result<Summary, Left<LAST>>
         requires { IsOfRoom self pass }
         ensures ok { IfOk result (λ s. Closes (known_of pass) s) }

@@ -29,7 +29,17 @@ impl<const LAST: u32> Room<LAST> {
     ghost use Rattle.jr_rule.specs.Passes.{known_of, ClosesAll, HasSeenAll};
     ghost use Rattle.jr_rule.specs.Rooms.{IsOfRoom, AreLeft};
 
-    /// Closes the room with several of its passes, and tells what stands in it: E22 where a thread is inside, knocking or collecting. What is told is of a history that has no more events of any of them, and where the pass has seen all that each other thread did, it is of what the pass has seen.
+    /// Closes the room with several of its passes, and tells what stands in it. What is told is of a history that has no more events of any of them, and where the pass has seen all that each other thread did, it is of what the pass has seen. The passes have to be the room's.
+    ///
+    /// # Errors
+    ///
+    /// E22 with how many threads were inside, knocking or collecting at its one look, at least 1.
+    ///
+    /// The room and the other passes are handed back as they were, and the first pass, which has looked at the gate. They can be closed again.
+    ///
+    /// # Operations
+    ///
+    /// One, the look at the gate. The other passes join the first, each by a load of the gate that no clause counts; then no thread shares the words any more.
     pub fn close_all(self, mut pass: Pass, others: Vec<Pass>) -> Result<Summary, AllLeft<LAST>>
         requires pass { IsOfRoom self pass }
         requires others { All (λ p. IsOfRoom self p) others.items }

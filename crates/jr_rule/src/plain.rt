@@ -50,7 +50,11 @@ impl<const LAST: u32> PlainSteps<LAST> {
     ghost use Rattle.jr_steps.specs.Knowing.{HasNoLocals, state_of};
     ghost use Rattle.jr_rule.specs.Plain.{unseen};
 
-    /// The steps over a row of zeros: E16, E17.
+    /// The steps of thread 0 over a row of zeros, outside the gate and fresh.
+    ///
+    /// # Errors
+    ///
+    /// E17 exactly where the sizes are beyond their limits; E16 where memory was refused.
     pub fn new(alloc: Global, config: Config) -> Result<Self, Fault>
         ensures size { (result ≡ Err Size) ↔ (in_limits config ≡ false) }
         ensures memory { IfErr result (λ e. (e ≡ Size) ⊎ (e ≡ Memory)) }

@@ -18,7 +18,11 @@ pub struct Room<const LAST: u32> {
 impl<const LAST: u32> Room<LAST> {
     ghost use Rattle.jr_rule.specs.Rooms.{IsOpening};
 
-    /// Opens a room of zeros, with one pass a thread, from thread 0 upward: E16, E17.
+    /// Opens a room of zeros, with one pass a thread, from thread 0 upward, each outside the gate and fresh.
+    ///
+    /// # Errors
+    ///
+    /// E17 exactly where the sizes are beyond their limits; E16 where memory was refused.
     pub fn open(alloc: Global, config: Config) -> Result<(Room<LAST>, Vec<Pass>), Fault>
         ensures size { (result ≡ Err Size) ↔ (in_limits config ≡ false) }
         ensures memory { IfErr result (λ e. (e ≡ Size) ⊎ (e ≡ Memory)) }

@@ -25,7 +25,7 @@ impl<'a, const LAST: u32> RoomSteps<'a, LAST> {
     ghost use Rattle.jr_rule.specs.Passes.{facts_of, known_of, IsSame};
     ghost use Rattle.jr_rule.specs.Rooms.{IsOfRoom};
 
-    /// The steps of a pass in its own room.
+    /// The steps of a pass in its own room. That the pass is one of the room's is a condition: it has no bytes that name its room.
     pub fn new(room: &'a Room<LAST>, pass: Pass) -> Self
         requires { IsOfRoom room.now pass }
         ensures { (result.room ≡ room.entry) × (result.pass ≡ pass) }
@@ -34,6 +34,10 @@ impl<'a, const LAST: u32> RoomSteps<'a, LAST> {
     }
 
     /// The pass, as it is.
+    ///
+    /// # Operations
+    ///
+    /// None.
     pub fn into_pass(self) -> Pass
         ensures { (result ≡ self.entry.pass) × IsOfRoom self.entry.room.now result }
     {
@@ -42,6 +46,10 @@ impl<'a, const LAST: u32> RoomSteps<'a, LAST> {
     }
 
     /// Learns all that the holder of another pass of the room has seen, which gets its pass back as it was.
+    ///
+    /// # Operations
+    ///
+    /// One, a load of the gate. The passes join for it and part again, each by a load of the gate that no clause counts.
     pub fn meet(&mut self, other: Pass) -> Pass
         requires { IsOfRoom self.old.room.now other }
         ensures room { self.new.room ≡ self.old.room }

@@ -85,11 +85,13 @@ fn record(
     Ok(())
 }
 
-/// Runs the commands of a thread, of which the first stands on this line of the script, and appends what they print. A call that is raced or barred is made again, up to `turns` calls in all. The hold is called around each command. The marker, made for the env's room, serves all collections.
+/// Runs the commands of a thread, of which the first stands on this line of the script, and appends what they print. A call that is raced or barred is made again, up to `turns` calls in all. The hold is called around each command. The marker, made for the env's room, serves all collections. The thread has to stand outside, and stands there afterwards in any case: a region that stands at the end is ended.
 ///
 /// # Errors
 ///
-/// E16 alone: memory was refused, and a region that stands is ended. What the commands that were done have changed stays, and the text has their lines, perhaps but for the last one's.
+/// E16 where memory was refused.
+///
+/// What the commands that were done have changed stays, and the text has their lines, perhaps but for the last one's.
 pub fn run_thread<S: Steps, B: Board, H: Hold>(
     alloc: Global,
     env: &mut Env<S>,

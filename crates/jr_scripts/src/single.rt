@@ -61,7 +61,9 @@ fn run_part(alloc: Global, config: Config, part: &ThreadPart, turns: u64) -> Res
 ///
 /// # Errors
 ///
-/// E17 where the script has not one thread, or sizes outside the limits, and E16 where memory was refused: the output is as it was.
+/// E17 exactly where the script has not one thread, or sizes outside the limits; E16 where memory was refused.
+///
+/// The output is as it was.
 pub fn run_one(alloc: Global, script: &Script, turns: u64, out: &mut Vec<u8>) -> Result<(), Fault>
     ensures size { (result ≡ Err Size) ↔ (¬ (IsSingle script.now)) }
     ensures memory { IfErr result (λ e. (e ≡ Size) ⊎ (e ≡ Memory)) }

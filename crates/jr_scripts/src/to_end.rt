@@ -51,6 +51,12 @@ fn run_with_marker<S: Steps, B: Board, H: Hold>(
 }
 
 /// Runs the commands of a thread as `run_thread` does, with a marker of its own, and then frees its local references, whatever the commands answered: as at the end of a native method. Where the turns run out, they stay.
+///
+/// # Errors
+///
+/// E16 where memory was refused, also for the marker.
+///
+/// What the commands that were done have changed stays but for the local references, and the text has their lines, perhaps but for the last one's.
 pub fn run_to_end<S: Steps, B: Board, H: Hold>(
     alloc: Global,
     env: &mut Env<S>,

@@ -34,7 +34,7 @@ impl Marker {
     ///
     /// # Errors
     ///
-    /// E17 exactly where the sizes are beyond their limits, so that there is no such room, and E16 where the memory was refused.
+    /// E17 exactly where the sizes are beyond their limits, so that there is no such room; E16 where the memory was refused.
     pub fn new(alloc: Global, config: Config) -> Result<Self, Fault>
         ensures size { (result ≡ Err Size) ↔ (in_limits config ≡ false) }
         ensures memory { IfErr result (λ e. (e ≡ Size) ⊎ (e ≡ Memory)) }

@@ -43,7 +43,11 @@ impl Marker {
         true
     }
 
-    /// Clears each weak reference that is not cleared to an object that is not marked, once, and tells how many. It takes one look at each slot, and an exchange for each that it clears.
+    /// Clears each weak reference that is not cleared to an object that is not marked, once, and tells how many. The marks have to be those of `mark`.
+    ///
+    /// # Operations
+    ///
+    /// No clause counts them. In the code they are a look at each slot, and an exchange for each reference that it clears.
     pub fn clear_weak<S: Steps>(&self, steps: &mut S) -> u32
         requires role { (S.facts steps.old).stands.role ≡ Collecting }
         requires marked { MayKnow S.facts steps.old (IsMarkedNow (marks_of self.now)) }

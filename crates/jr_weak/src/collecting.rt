@@ -23,11 +23,17 @@ pub struct Collected {
     pub used: u32,
 }
 
-/// Collects: clears each weak reference to an object that is not reached, drops each such object, moves all arrays together, and tells how many it cleared and dropped, and how many words are used then. What is reached keeps its kind and elements. The gate is shut meanwhile. It takes no memory, and the marker, made for a room of so many objects, serves again.
+/// Collects: clears each weak reference to an object that is not reached, drops each such object, moves all arrays together, and tells how many it cleared and dropped, and how many words are used then. What is reached keeps its kind and elements. The gate is shut meanwhile. It takes no memory, and the marker, made for a room of so many objects, serves again. The thread has to stand outside.
 ///
 /// # Errors
 ///
-/// E14 with how many threads were inside, knocking or collecting at the step that shuts the gate, at least 1; then nothing has changed. Over one thread it is never refused.
+/// E14 with how many threads were inside, knocking or collecting at the step that shuts the gate, at least 1.
+///
+/// Nothing has changed then. Over one thread it is never refused.
+///
+/// # Operations
+///
+/// One where it is refused. Those of a collection that is made no clause counts; in the code they are those of `mark`, `clear_weak`, `drop_unreached` and `compact`, and two at the gate.
 pub fn collect<S: Steps>(steps: &mut S, marker: &mut Marker) -> Result<Collected, Fault>
     requires outside { (S.facts steps.old).stands.role ≡ Outside }
     requires room { room_of marker.old ≡ (S.facts steps.old).stands.config.objects }

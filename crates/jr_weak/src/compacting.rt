@@ -13,7 +13,11 @@ use jr_compact::compact;
 use jr_steps::Steps;
 
 impl Marker {
-    /// Moves all arrays together, once only marked objects are present, and sets how many words are used, which it answers.
+    /// Moves all arrays together, once only marked objects are present, as after `drop_unreached`, and sets how many words are used, which it answers. Its one event is the last.
+    ///
+    /// # Operations
+    ///
+    /// No clause counts them. In the code they are a look at the header of each marked object, a load and a store for each element that moves, a store for the header of each array that moves, and one at the top.
     pub fn compact<S: Steps>(&mut self, steps: &mut S) -> u32
         requires role { (S.facts steps.old).stands.role ≡ Collecting }
         requires dropped { MayKnow S.facts steps.old (AreDropped (marks_of self.old)) }

@@ -26,7 +26,11 @@ impl Marker {
         true
     }
 
-    /// Drops each present object that is not marked, once, and tells how many. No weak reference may name one of them.
+    /// Drops each present object that is not marked, once, and tells how many. No weak reference may name one of them, as after `clear_weak`.
+    ///
+    /// # Operations
+    ///
+    /// No clause counts them. In the code they are a look at the header of each object number that is not marked, and a store for each object that it drops.
     pub fn drop_unreached<S: Steps>(&self, steps: &mut S) -> u32
         requires role { (S.facts steps.old).stands.role ≡ Collecting }
         requires cleared { MayKnow S.facts steps.old (AreCleared (marks_of self.now)) }

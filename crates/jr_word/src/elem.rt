@@ -9,7 +9,7 @@ ghost use Rattle.jr_word.specs.ElementLaws.{bool_laws, i8_laws, u16_laws, i16_la
 
 use crate::kind::Kind;
 
-/// An element of a primitive array. One element is one word.
+/// An element of a primitive array: bool, i8, u16, i16, i32 or i64. One element is one word.
 pub trait Elem: Copy {
     /// The kind of the arrays whose elements these are.
     const KIND: Kind;

@@ -6,69 +6,113 @@ use thiserror::Error;
 #[derive(Clone, Copy, Debug, PartialEq, Eq, Error)]
 pub enum Fault {
     /// NULL or a cleared weak reference, where an object is needed.
+    ///
+    /// Hand in a reference to an object. Any collection may clear a weak one: make a local or global one of it first, and see whether that is NULL.
     #[error("E1")]
     Null,
     /// A malformed handle, an index past the row, an owner past the threads, or a handle that is not valid now.
+    ///
+    /// Let go of the handle. One that was deleted never stands again.
     #[error("E2")]
     Stale,
     /// A local handle of another thread of the room.
+    ///
+    /// Make a global reference in the thread that owns it, and hand that over.
     #[error("E3")]
     Foreign,
     /// A delete call was given another kind of reference; a string call an object that is no string.
+    ///
+    /// Delete by the call for the kind, which `get_object_ref_type` tells. Ask `kind_of` what an object is.
     #[error("E4")]
     WrongKind,
     /// A plain object or a string where an array is needed; a write to a string.
+    ///
+    /// Ask `kind_of` what an object is. Make another string in place of writing to one.
     #[error("E5")]
     NotArray,
     /// An array whose element kind is not the one asked for; an object array in a critical call.
+    ///
+    /// Ask `kind_of` for the kind, and make the call with its elements.
     #[error("E6")]
     WrongElement,
     /// An index or part outside the array, string or buffer; a buffer whose length is not the array's.
+    ///
+    /// Ask for the length, which an object keeps while it is present.
     #[error("E7")]
     Range,
     /// No slot was free when the search came to it.
+    ///
+    /// Delete global or weak references that are not needed, and make the call again. Slots that gave their last handle never come back: a room that lasts needs more of them.
     #[error("E8")]
     RowFull,
     /// No local place left, too few for a frame or a capacity, or 256 frames open.
+    ///
+    /// Delete local references, pop a frame, or return from the native method. JNI's status for it is JNI_ENOMEM.
     #[error("E9")]
     LocalsFull,
     /// So many words are reserved, and the request does not fit beside them.
+    ///
+    /// Collect, and make the call again. Where it is refused then too, let go of arrays, or open rooms with more words.
     #[error("E10")]
     SpaceFull(u32),
     /// Every object number is present.
+    ///
+    /// Collect, and make the call again. Where it is refused then too, let go of objects, or open rooms with more of them.
     #[error("E11")]
     ObjectsFull,
     /// Another thread reserved space between the look and the exchange: what was looked at, and what was found.
+    ///
+    /// Make the call again.
     #[error("E12")]
     Raced(u32, u32),
     /// The entry found the gate shut.
+    ///
+    /// Make the call again, and let other threads run in between. That it is ever let in is not promised.
     #[error("E13")]
     Barred,
     /// The shut step found so many threads inside, knocking or collecting: at least 1.
+    ///
+    /// Make the call again, once threads have left their calls and critical regions. That a collection is ever let in is not promised.
     #[error("E14")]
     Busy(u32),
     /// Pop of the base frame.
+    ///
+    /// Pop only frames that were pushed.
     #[error("E15")]
     NoFrame,
     /// A growth was refused, or a thread could not be started.
+    ///
+    /// Give memory back, and make the call again. JNI's status for it is JNI_ENOMEM.
     #[error("E16")]
     Memory,
     /// A configuration outside the limits, a seventeenth level, or a script of several threads where one is asked for.
+    ///
+    /// Keep to the limits of `Config` and to sixteen levels. Scripts of several threads are for `run_all`.
     #[error("E17")]
     Size,
     /// A word that is not of the array's element kind.
+    ///
+    /// Give a word of the kind. No call of `Env` or `Region` is refused by it, since these take elements by their type.
     #[error("E18")]
     Value,
     /// A JNI command in a critical region, or a region command outside one.
+    ///
+    /// Scripts alone meet it: end the region first, or open one. In Rust no such call compiles while a `Region` stands.
     #[error("E19")]
     InCritical,
     /// The turns ran out.
+    ///
+    /// Scripts alone meet it: run them with more turns, and see that what they wait for is posted.
     #[error("E20")]
     Turns,
     /// An env is asked for over a pass that is not fresh.
+    ///
+    /// Make one env of each pass. A pass that was spent still serves to meet and to close.
     #[error("E21")]
     NotFresh,
     /// The room was closed with so many threads inside, knocking or collecting.
+    ///
+    /// Let them leave, and close the room that was handed back.
     #[error("E22")]
     LeftInside(u32),
 }

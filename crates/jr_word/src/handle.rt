@@ -46,7 +46,7 @@ impl RefKind {
         }
     }
 
-    /// The kind with a number.
+    /// The kind with a number, if one has it.
     #[inline]
     pub fn from_code(code: u64) -> Option<Self>
         ensures sound { IfSome result (λ kind. code ≡ reference_code kind) }
@@ -79,7 +79,7 @@ impl Handle {
     /// The reference to null.
     pub const NULL: Self = Handle(0);
 
-    /// The handle with these parts.
+    /// The handle with these parts. Only a local one has an owner other than 0, of the 64 that there may be.
     #[inline]
     pub fn pack(parts: HandleParts) -> Self
         requires { parts.owner < owner_limit parts.kind }
@@ -91,7 +91,7 @@ impl Handle {
         Handle(parts.kind.code() + serial + index + owner)
     }
 
-    /// What a word says as a handle, if it is well formed.
+    /// What a word says as a handle, if it is well formed. NULL is none.
     #[inline]
     pub fn parts(word: u64) -> Option<HandleParts>
         ensures sound { IfSome result (λ parts. IsHandle parts × (word ≡ handle_word parts)) }

@@ -37,7 +37,7 @@ impl Header {
     ghost use Rattle.std.specs.Prelude.{◌≡◌, IfSome};
     ghost use Rattle.jr_word.specs.Header.{header_word, IsHeader};
 
-    /// The header of an object with these parts.
+    /// The header of an object with these parts. Length and place have to be below 2^24; a plain object has no elements, and what has none has place 0.
     #[inline]
     pub fn pack(parts: HeaderParts) -> Self
         requires { IsHeader parts }

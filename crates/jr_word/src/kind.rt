@@ -45,7 +45,7 @@ impl Kind {
         }
     }
 
-    /// The kind with a number.
+    /// The kind with a number, if one has it.
     #[inline]
     pub fn from_code(code: u64) -> Option<Self>
         ensures sound { IfSome result (λ kind. code ≡ kind_code kind) }

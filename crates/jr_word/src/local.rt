@@ -17,7 +17,7 @@ impl LocalWord {
     ghost use Rattle.std.specs.Prelude.{◌≡◌, IfSome};
     ghost use Rattle.jr_word.specs.Local.{local_word, IsLocalPlace};
 
-    /// The word of a local place with these parts.
+    /// The word of a local place with these parts. An object's number has to be 1 at least.
     #[inline]
     pub fn pack(parts: LocalParts) -> Self
         requires { IsLocalPlace parts }

@@ -23,7 +23,7 @@ impl SlotWord {
     ghost use Rattle.std.specs.Prelude.{◌≡◌, IfSome};
     ghost use Rattle.jr_word.specs.Slot.{slot_word, IsSlot, NamesObject};
 
-    /// The word of a slot with these parts.
+    /// The word of a slot with these parts. An object's number has to be 1 at least.
     #[inline]
     pub fn pack(parts: SlotParts) -> Self
         requires { NamesObject parts }

@@ -17,7 +17,7 @@ impl TopWord {
     ghost use Rattle.std.specs.Prelude.{◌≡◌, IfSome};
     ghost use Rattle.jr_word.specs.Top.{top_word, IsTop};
 
-    /// The word of a top with these parts.
+    /// The word of a top with these parts. Fewer than 2^24 words have to be reserved.
     #[inline]
     pub fn pack(parts: TopParts) -> Self
         requires { IsTop parts }
