@@ -1,5 +1,5 @@
 /* How long a Java machine's own JNI calls take, in rounds as those of crates/jr_bench. Each call has the name that it has there.
-   A round makes one call so many times, by all threads at once, each with objects and references of its own, and takes the time before the first and behind the last. It counts where each call answered as it should and all threads ran for three quarters of the time. For each call a line says its name, the median and the least of the times in nanoseconds, and how many rounds counted. */
+   A round makes one call so many times, by all threads at once, each with objects and references of its own, and takes the time before the first and behind the last. It counts where each call answered as it should, no exception is pending behind the last, and all threads ran for three quarters of the time. For each call a line says its name, the median and the least of the times in nanoseconds, and how many rounds counted. */
 
 #include <jni.h>
 #include <stdatomic.h>
@@ -41,14 +41,8 @@ typedef struct {
 } Done;
 
 static int threads, calls, rounds;
-static jboolean exception_checks;
 static atomic_int came;
 static Done done[MOST_THREADS];
-
-/* Whether a call that answers by an exception was right. With no ExceptionCheck behind each, the round looks once behind the last. */
-static int is_done(JNIEnv *env) {
-    return !exception_checks || !(*env)->ExceptionCheck(env);
-}
 
 /* A loop of its own for a call: `it` is what it is handed, `at` which one it is. */
 #define LOOP(NAME, IS_RIGHT)                      \
@@ -75,11 +69,11 @@ LOOP(same, (*env)->IsSameObject(env, work->global, it) == JNI_TRUE)
 LOOP(type_of_global, (*env)->GetObjectRefType(env, it) == JNIGlobalRefType)
 LOOP(empty_frame, (*env)->EnsureLocalCapacity(env, CAPACITY) == JNI_OK && (*env)->PushLocalFrame(env, CAPACITY) == JNI_OK && (*env)->PopLocalFrame(env, it) == NULL)
 LOOP(length, (*env)->GetArrayLength(env, it) == LONG)
-LOOP(copy_out, ((*env)->GetIntArrayRegion(env, it, 0, work->length, work->elements), is_done(env)))
-LOOP(copy_in, ((*env)->SetIntArrayRegion(env, it, 0, work->length, work->elements), is_done(env)))
+LOOP(copy_out, ((*env)->GetIntArrayRegion(env, it, 0, work->length, work->elements), 1))
+LOOP(copy_in, ((*env)->SetIntArrayRegion(env, it, 0, work->length, work->elements), 1))
 LOOP(new_array, (*env)->NewIntArray(env, SHORT) != NULL)
-LOOP(get_element, (*env)->GetObjectArrayElement(env, it, 0) != NULL && is_done(env))
-LOOP(set_element, ((*env)->SetObjectArrayElement(env, it, 0, it), is_done(env)))
+LOOP(get_element, (*env)->GetObjectArrayElement(env, it, 0) != NULL)
+LOOP(set_element, ((*env)->SetObjectArrayElement(env, it, 0, it), 1))
 LOOP(exception_check, !(*env)->ExceptionCheck(env))
 
 /* A frame with four local references, whose result is one more and is deleted. */
@@ -284,13 +278,12 @@ static void print_line(const Case *of, double *times, int counted) {
     fflush(stdout);
 }
 
-JNIEXPORT void JNICALL Java_Calls_begin(JNIEnv *env, jclass class, jint asked_threads, jint asked_calls, jint asked_rounds, jboolean asked_checks) {
+JNIEXPORT void JNICALL Java_Calls_begin(JNIEnv *env, jclass class, jint asked_threads, jint asked_calls, jint asked_rounds) {
     (void)env, (void)class;
     if (asked_threads < 1 || asked_threads > MOST_THREADS || asked_calls < 1 || asked_rounds < 1) abort();
     threads = asked_threads;
     calls = asked_calls;
     rounds = asked_rounds;
-    exception_checks = asked_checks;
 }
 
 JNIEXPORT void JNICALL Java_Calls_measure(JNIEnv *env, jclass class, jint thread) {
