@@ -14,9 +14,9 @@ pub struct PlacedObject {
 }
 
 impl PlacedObject {
-    /// What a place of a buffer has before an object is noted there.
+    /// What a place of a buffer has before an object is noted there. It is not all zeros, so that a new buffer's memory is written when it is made, and no collection waits for its pages.
     pub const UNUSED: PlacedObject = PlacedObject {
-        object: 0,
+        object: u16::MAX,
         header: HeaderParts {
             kind: Kind::Plain,
             length: 0,

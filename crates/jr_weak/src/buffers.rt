@@ -19,7 +19,8 @@ fn unmarked(alloc: Global, objects: u32) -> Result<Marker, AllocError>
 {
     let room = objects as usize;
     let marked = vec![in alloc; false; room + 1]?;
-    let found = vec![in alloc; 0u16; room]?;
+    // (not zeros, as the noted ones aren't either: so the memory is written here, and not by the first collection)
+    let found = vec![in alloc; u16::MAX; room]?;
     let noted = vec![in alloc; PlacedObject::UNUSED; room]?;
     Ok(Marker {
         marked,
