@@ -944,16 +944,17 @@ struct FullRoom {
 const FEW_PLACES: usize = 16;
 
 impl FullRoom {
-    /// A room of so many arrays, of which one in so many is not reached, and how many are.
+    /// A room of so many arrays, of which one in so many is not reached, and how many are. Its words are stored in the order in which calls store them, and the buffers are made behind them, so that the collection finds in the caches what the product's does.
     fn new(arrays: usize, every: usize) -> (FullRoom, usize) {
         let length = SHORT as usize;
         let words = 2 + arrays + FEW_PLACES + arrays + arrays * length;
-        let row: Vec<_> = (0..words).map(|_| AtomicU64::new(0)).collect();
-        let (mut marked, mut found, mut noted) = (vec![true; arrays + 1], vec![1; arrays], vec![(1, 1, 1); arrays]);
-        (marked.fill(false), found.fill(0), noted.fill((0, 0, 0)));
-        let room = FullRoom { row, arrays, marked, found, noted };
+        let row = (0..words).map(|_| AtomicU64::new(0)).collect();
+        let mut room = FullRoom { row, arrays, marked: Vec::new(), found: Vec::new(), noted: Vec::new() };
         let mut reached = 0;
         for number in 0..arrays {
+            for at in 0..length {
+                room.element(number * length + at).store(0, SeqCst);
+            }
             room.header(number + 1).store(INT | SHORT << 4 | ((number * length) as u64) << 28, SeqCst);
             if every == 0 || number % every != 0 {
                 room.word(2 + reached).store(GLOBAL | (number as u64 + 1) << 34, SeqCst);
@@ -961,6 +962,9 @@ impl FullRoom {
             }
         }
         room.word(1).store((arrays * length) as u64, SeqCst);
+        room.marked.resize(arrays + 1, false);
+        room.found.resize(arrays, 0);
+        room.noted.resize(arrays, (0, 0, 0));
         (room, reached)
     }
     #[inline(always)]

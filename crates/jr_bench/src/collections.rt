@@ -1,5 +1,6 @@
 //! How long a collection takes.
 
+ghost use Rattle.std.specs.Prelude.{All};
 ghost use Rattle.jr_rule.specs.Passes.{IsOpened};
 
 use crate::case::Env;
@@ -67,18 +68,22 @@ impl Collections {
     }
 }
 
-/// How long a collection in the room of the pass took, in tenths of nanoseconds: none where it did not answer as it should.
-fn time_in<R: Clock>(
+/// The env over the last of the passes.
+fn env_of<'a>(room: &'a Room<LAST>, passes: &mut Vec<Pass>) -> Option<Env<RoomSteps<'a, LAST>>>
+    requires { All (λ p. IsOpened room.now.row p) passes.old.items }
+{
+    let pass = passes.pop()?;
+    Env::new(RoomSteps::new(room, pass)).ok()
+}
+
+/// How long a collection by the env took, in tenths of nanoseconds: none where it did not answer as it should.
+fn time_in<R: Clock, S: Steps>(
     rt: &R,
     alloc: Global,
-    room: &Room<LAST>,
-    pass: Pass,
+    env: &mut Env<S>,
     work: Collections,
-) -> Option<u128>
-    requires { IsOpened room.now.row pass }
-{
-    let mut env = Env::new(RoomSteps::new(room, pass)).ok()?;
-    let wanted = work.answer(work.fill(&mut env)?);
+) -> Option<u128> {
+    let wanted = work.answer(work.fill(env)?);
     let mut marker = Marker::new(alloc, env.held.steps.config()).ok()?;
     let began = Instant::now(rt).ok()?;
     let collected = env.collect(&mut marker);
@@ -91,9 +96,11 @@ fn time_in<R: Clock>(
 
 /// How long a collection took in a room of its own, in tenths of nanoseconds: none where it did not answer as it should.
 pub(crate) fn time_of<R: Clock>(rt: &R, alloc: Global, work: Collections) -> Option<u128> {
-    let (room, mut passes) = Room::<LAST>::open(alloc, work.config()).ok()?;
-    let pass = passes.pop()?;
-    time_in(rt, alloc, &room, pass, work)
+    let Ok((room, mut passes)) = Room::<LAST>::open(alloc, work.config()) else {
+        return None;
+    };
+    let mut env = env_of(&room, &mut passes)?;
+    time_in(rt, alloc, &mut env, work)
 }
 
 /// Prints the line of a collection, as those of calls are.
