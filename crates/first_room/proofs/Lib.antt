@@ -1,0 +1,3 @@
+-- Lemmas of the program.
+pub mod Passes
+pub mod Texts

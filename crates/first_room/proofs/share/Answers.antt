@@ -1,0 +1,45 @@
+-- The thread is in its room still, whatever it did there.
+use Rattle.std.proofs.Common.{◌≡◌, rules, ap, sym, ◌∙◌}
+use Rattle.jr_word.specs.declared.config.Config.{Config}
+use Rattle.jr_weak.specs.Markers.{room_of}
+use Rattle.jr_rule.specs.declared.room_steps.RoomSteps.{RoomSteps}
+use Rattle.jr_rule.specs.Passes.{known_of}
+use Rattle.first_room.proofs.Passes.{same_then, same_before, same_spent, at_end, busy_some}
+use Rattle.first_room.proofs.share.Goals as goal
+
+pub collect-requires-2 : goal.collect-requires-2
+collect-requires-2 c =
+    let first : room_of c.in_ok-marker.marker ≡ (known_of c.pop_local_frame.new.self.held.steps.pass).config.objects = search rules in
+    let same = ((c.in-Err-Busy.ensures.call).does (c.in_ok-pop_local_frame.ensures).outside).stands_is.config in
+    c.collect.ensures.room ∙ (first ∙ sym (ap (λ (k : Config). k.objects) same))
+
+pub returns : goal.returns
+returns c =
+    let d1 = c.in_ok-push_local_frame.ensures in
+    let d2 = c.in_ok-lost.ensures in
+    let d3 = c.in_ok-new_weak_global_ref.ensures in
+    let d4 = c.in_ok-array.ensures in
+    let d5 = c.in_ok-set_array_region.ensures in
+    let d6 = c.in_ok-new_global_ref.ensures in
+    let d7 = c.in_ok-pop_local_frame.ensures in
+    let d8 = c.in-Err-Busy.ensures.call in
+    let d9 = c.in_ok-collect.ensures.call in
+    let d10 = c.in_ok-cleared.ensures in
+    let d11 = c.in_ok-delete_global_ref.ensures in
+    let d12 = c.in_ok-kind.ensures in
+    let same = same_then (same_spent _ (c.in-Ok.ensures.steps).stands_is)
+    (same_then (same_before (d1.does c.in-Ok.ensures.outside).stands_is)
+    (same_then (same_before (d2.does d1.outside).stands_is)
+    (same_then (same_before (d3.does d2.outside).stands_is)
+    (same_then (same_before (d4.does d3.outside).stands_is)
+    (same_then (same_before (d5.does d4.outside).stands_is)
+    (same_then (same_before (d6.does d5.outside).stands_is)
+    (same_then (same_before (d7.does d6.outside).stands_is)
+    (same_then (same_before (d8.does d7.outside).stands_is)
+    (same_then (same_before (d9.does d8.outside).stands_is)
+    (same_then (same_before (d10.does d9.outside).stands_is)
+    (same_then (same_before (d11.does d10.outside).stands_is)
+    (same_before (d12.does d11.outside).stands_is)))))))))))) in (
+      at_end c.args.room.now.row c.args.pass c.new.result.pass _ c.into_pass-2.result c.requires.row c.new.ensures.1 same (c.into_pass-2.ensures.0 ∙ ap (λ (s : RoomSteps _). s.pass) (c.into_pass.ensures.steps d12.outside)),
+      busy_some _ c.in-Err-Busy.inside c.in-Err-Busy.field-0-is c.in-Err-Busy.ensures.busy,
+    )

@@ -1,0 +1,45 @@
+-- What the program writes, and what is so of it.
+use Rattle.std.specs.Prelude.{◌≤◌, ℕ, ℤ, Bool, if◌then◌else◌, Option, List, [], ◌∷◌, ◌++◌, codes}
+use Rattle.std.specs.Fmt.{decimal, signed_decimal}
+use Rattle.std.specs.Io.KnownBytes.{Appends}
+use Rattle.jr_model.specs.declared.summary.Summary.{Summary}
+
+-- what the two threads found
+pub record Report : Type 0 where
+  pub read : ℤ  -- what the second thread read in the first one's array
+  pub inside : ℕ  -- how many threads were inside as a collection of the first was refused
+  pub cleared : Bool  -- whether its weak reference is to null after the next one
+  pub kind : ℕ  -- the type of its global reference, which it deleted
+  pub left : Summary  -- what stood in the room as it was closed
+
+-- a yes or no
+abbrev pub yes_or_no : Bool → List ℕ
+yes_or_no b = if b then codes "true" else codes "false"
+
+-- a line: words, and behind them what they tell of
+abbrev pub told_line : List ℕ → List ℕ → List ℕ
+told_line words told = words ++ (told ++ 10 ∷ [])
+
+-- THE LINES of a report
+abbrev pub report_lines : Report → List (List ℕ)
+report_lines r =
+    told_line (codes "a collection is refused: E14, inside: ") (decimal r.inside)
+    ∷ told_line (codes "the second thread reads ") (signed_decimal r.read)
+    ∷ told_line (codes "the weak reference is to null: ") (yes_or_no r.cleared)
+    ∷ told_line (codes "the deleted reference has type ") (decimal r.kind)
+    ∷ told_line (codes "global references left: ") (decimal r.left.globals)
+    ∷ told_line (codes "weak references left: ") (decimal r.left.weaks)
+    ∷ told_line (codes "objects left: ") (decimal r.left.live)
+    ∷ told_line (codes "words left: ") (decimal r.left.used)
+    ∷ []
+
+-- its text: the lines, one after the other
+abbrev pub report_text : List (List ℕ) → List ℕ
+report_text [] = []
+report_text (l ∷ ls) = l ++ report_text ls
+
+-- WHAT IS WRITTEN is the text of a report, and nothing else, where it is known
+pub record IsWritten (old new : Option (List ℕ)) : Type 0 where
+  pub report : Report
+  pub some : 1 ≤ report.inside
+  pub text : Appends old new (report_text (report_lines report))

@@ -1,0 +1,143 @@
+//! An embedder's first hour: two native threads in one room, with references, arrays, a critical region and a collection.
+//!
+//! What stands behind `ghost`, `requires` and `ensures` is proved, and takes no time as the program runs. Skip it at first.
+#![tactic(auto)]
+
+ghost use Rattle.std.specs.Prelude.{◌≤◌, IfOk, OnOk};
+ghost use Rattle.jr_rule.specs.Passes.{IsOpened};
+ghost use Rattle.jr_rule.specs.Rooms.{IsOfRoom};
+ghost use Rattle.first_room.specs.Hour.{IsWritten};
+
+use jr_env::Env;
+use jr_rule::{Pass, Room, RoomSteps, Steps};
+use jr_weak::Marker;
+use jr_word::{Config, Fault, Handle};
+use std::alloc::Global;
+use std::io::Write;
+use std::sync::atomic::{AtomicU64, Ordering};
+use std::thread::Threads;
+use std::{io, thread};
+use thiserror::Error;
+
+/// How often a slot gives a handle, one less.
+const LAST: u32 = 4_294_967_295;
+
+/// The sizes of the room.
+const SIZES: Config = Config {
+    threads: 2,
+    slots: 16,
+    objects: 16,
+    words: 64,
+    locals: 16,
+};
+
+/// Why the program fails.
+#[derive(Debug, Drop, Error)]
+enum Trouble {
+    #[error("refused: {0}")]
+    Refused(#[from] Fault),
+    #[error("not written: {0}")]
+    Output(#[from] io::Error),
+}
+
+fn main(rt: HostRuntime) -> Result<(), Trouble> {
+    run(&rt, rt.alloc(), &mut io::writer(&rt))
+}
+
+/// Opens a room, gives each of two threads its pass, closes the room once both have ended, and writes what they found.
+fn run<T: Threads, W: Write + Drop>(rt: &T, alloc: Global, out: &mut W) -> Result<(), Trouble>
+    ensures { OnOk result (IsWritten (W.contents out.old) (W.contents out.new)) }
+{
+    let (room, mut passes) = Room::<LAST>::open(alloc, SIZES)?;
+    let (first, second) = (passes.remove(0), passes.remove(0));
+    let baton = AtomicU64::new(0);
+    let (shared, visited) = thread::join(
+        rt,
+        || share(alloc, &room, first, &baton),
+        || visit(&room, second, &baton),
+    );
+    let (first, inside, cleared, kind) = shared?;
+    let (second, read) = visited?;
+    passes.push(second).map_err(|_| Fault::Memory)?;
+    let left = room
+        .close_all(first, passes)
+        .map_err(|refused| refused.left.fault)?;
+    writeln!(out, "a collection is refused: E14, inside: {inside}")?;
+    writeln!(out, "the second thread reads {read}")?;
+    writeln!(out, "the weak reference is to null: {cleared}")?;
+    writeln!(out, "the deleted reference has type {kind}")?;
+    writeln!(out, "global references left: {}", left.globals)?;
+    writeln!(out, "weak references left: {}", left.weaks)?;
+    writeln!(out, "objects left: {}", left.live)?;
+    writeln!(out, "words left: {}", left.used)?;
+    Ok(())
+}
+
+/// The first thread shares an array, and collects: while the other has a critical region, and once it has none.
+fn share(
+    alloc: Global,
+    room: &Room<LAST>,
+    pass: Pass,
+    baton: &AtomicU64,
+) -> Result<(Pass, u32, bool, u8), Fault>
+    requires { IsOpened room.now.row pass }
+    ensures { IfOk result (λ r. IsOfRoom room.now r.0 × (1 ≤ r.1)) }
+{
+    let Ok(mut env) = Env::new(RoomSteps::new(room, pass)) else {
+        unreachable!();
+    };
+    env.push_local_frame(4)?;
+    let lost = env.new_array::<i64>(4)?;
+    let weak = env.new_weak_global_ref(lost)?.unwrap_or(Handle::NULL);
+    let array = env.new_array::<i32>(3)?;
+    env.set_array_region(array, 0, &[10, 20, 30])?;
+    let global = env.new_global_ref(array)?.unwrap_or(Handle::NULL);
+    env.pop_local_frame(Handle::NULL)?;
+    baton.store(global.0, Ordering::SeqCst);
+    wait(baton, global.0)?;
+    let mut marker = Marker::new(alloc, env.held.steps.config())?;
+    let Err(Fault::Busy(inside)) = env.collect(&mut marker) else {
+        return Err(Fault::Turns);
+    };
+    baton.store(2, Ordering::SeqCst);
+    wait(baton, 2)?;
+    env.collect(&mut marker)?;
+    let cleared = env.is_same_object(weak, Handle::NULL)?;
+    env.delete_global_ref(global)?;
+    let kind = env.get_object_ref_type(global)?;
+    Ok((env.into_pass().into_pass(), inside, cleared, kind))
+}
+
+/// The second thread has objects of its own, and reads in the first one's array, in a critical region.
+fn visit(room: &Room<LAST>, pass: Pass, baton: &AtomicU64) -> Result<(Pass, i32), Fault>
+    requires { IsOpened room.now.row pass }
+    ensures { IfOk result (λ r. IsOfRoom room.now r.0) }
+{
+    let Ok(mut env) = Env::new(RoomSteps::new(room, pass)) else {
+        unreachable!();
+    };
+    let global = Handle(wait(baton, 0)?);
+    env.push_local_frame(4)?;
+    let object = env.new_plain()?;
+    env.new_object_array(2, object)?;
+    env.pop_local_frame(Handle::NULL)?;
+    let region = env.open_array_critical(global)?;
+    let read = env.get_critical::<i32>(&region, 0, 1);
+    baton.store(1, Ordering::SeqCst);
+    let refused = wait(baton, 1);
+    env.close_all_critical(region);
+    baton.store(3, Ordering::SeqCst);
+    refused?;
+    Ok((env.into_pass().into_pass(), read?))
+}
+
+/// Waits until another word than the own stands there, and gives it: E20 where none comes.
+fn wait(baton: &AtomicU64, own: u64) -> Result<u64, Fault> {
+    for _ in 0..1u32 << 26 {
+        match baton.load(Ordering::SeqCst) {
+            word if word != own => return Ok(word),
+            _ => thread::yield_now(),
+        }
+    }
+    Err(Fault::Turns)
+}
