@@ -18,7 +18,7 @@ use std::marker::Brand;
 
 impl Row {
     ghost use Rattle.jr_rule.specs.Passes.{facts_of, standing_of, IsAt};
-    ghost use Rattle.jr_rule.specs.Parts.{ReadsOne, ReadsRest};
+    ghost use Rattle.jr_rule.specs.Parts.{ReadsFour, ReadsOne, ReadsRest};
 
     pub(crate) fn see_header(&self, pass: &mut Pass, object: u16) -> Option<HeaderParts>
         requires row { IsAt self.now pass.old }
@@ -133,39 +133,51 @@ impl Row {
         ensures steps { SawPart facts_of pass.old pass.new object header start E.element_of elements.new }
     {
         let first = self.elements + header.place as usize + start as usize;
-        for four in 0..elements.len() / 4 {
-            let index = four * 4;
-            self.see_into(pass, object, header, start, first + index, elements, index);
-            self.see_into(
+        for eight in 0..elements.len() / 8 {
+            let index = eight * 8;
+            self.see_four(pass, object, header, start, first + index, elements, index);
+            self.see_four(
                 pass,
                 object,
                 header,
                 start,
-                first + index + 1,
+                first + index + 4,
                 elements,
-                index + 1,
-            );
-            self.see_into(
-                pass,
-                object,
-                header,
-                start,
-                first + index + 2,
-                elements,
-                index + 2,
-            );
-            self.see_into(
-                pass,
-                object,
-                header,
-                start,
-                first + index + 3,
-                elements,
-                index + 3,
+                index + 4,
             );
         }
-        let done = elements.len() / 4 * 4;
+        let done = elements.len() / 8 * 8;
         self.see_rest(pass, object, header, start, first, elements, done);
+    }
+
+    /// Loads four elements of a part into their places in the slice.
+    #[inline(always)]
+    fn see_four<E: Elem>(
+        &self,
+        pass: &mut Pass,
+        object: u16,
+        header: HeaderParts,
+        start: u32,
+        at: usize,
+        elements: &mut [E],
+        index: usize,
+    )
+        requires row { IsAt self.now pass.old }
+        requires role { pass.old.role ≡ Within }
+        requires part { start + length elements.old ≤ header.length }
+        requires index { index + 4 ≤ length elements.old }
+        requires known { MayKnow facts_of pass.old (KnowsHeader object header) }
+        requires place { at ≡ self.now.elements + header.place + start + index }
+        ensures row { IsAt self.now pass.new }
+        ensures role { pass.new.role ≡ Within }
+        ensures size { length elements.new ≡ length elements.old }
+        ensures known { MayKnow facts_of pass.new (KnowsHeader object header) }
+        ensures step { ReadsFour object header start E.element_of index pass.old pass.new elements.old elements.new }
+    {
+        self.see_into(pass, object, header, start, at, elements, index);
+        self.see_into(pass, object, header, start, at + 1, elements, index + 1);
+        self.see_into(pass, object, header, start, at + 2, elements, index + 2);
+        self.see_into(pass, object, header, start, at + 3, elements, index + 3);
     }
 
     /// Loads one element of a part into its place in the slice.
