@@ -14,7 +14,7 @@ use Rattle.jr_word.specs.declared.top.TopParts.{TopParts}
 use Rattle.jr_word.specs.Top.{top_word, IsTop}
 use Rattle.jr_word.specs.declared.kind.Kind.{Kind}
 use Rattle.jr_word.specs.declared.kind.Kind.TheVariants.{Plain, Boolean, Byte, Char, Short, Int, Long, Objects, Text}
-use Rattle.jr_word.specs.Header.{header_word, IsHeader}
+use Rattle.jr_word.specs.Header.{header_word, IsHeader, IsHeaderOrZero}
 use Rattle.jr_model.specs.declared.event.Role.TheVariants.{Within}
 use Rattle.jr_model.specs.declared.event.Act.{Act}
 use Rattle.jr_model.specs.declared.event.Act.TheVariants.{New, Reserve, ReserveFull, ReserveLost, Read, Write}
@@ -208,6 +208,15 @@ pub header_read : (q r : Option HeaderParts) (n : ℕ) → IsHeaderWord r n → 
 header_read q (Some h) n is sound complete = complete h is.0 is.1
 header_read None None n is sound complete = refl
 header_read (Some p) None n is sound complete = let some = header_positive p in let a = sound.1 in absurd (omega arith)
+
+-- what is read of a word that is known to be a header's, or 0
+pub header_or_zero : (r : Option HeaderParts) (n : ℕ) → IsHeaderWord r n → IsHeaderOrZero n
+header_or_zero None n is = inl is
+header_or_zero (Some h) n is = inr (h, is.0, is.1)
+
+pub header_known : (q r : Option HeaderParts) (n : ℕ) → IsHeaderWord r n → (n ≡ 0 → q ≡ None) → ((p : HeaderParts) → IsHeader p → n ≡ header_word p → q ≡ Some p) → q ≡ r
+header_known q (Some h) n is none some = some h is.0 is.1
+header_known q None n is none some = none is
 
 pub top_some : (n : ℕ) (q : Option TopParts) (u : ℕ) → u < 2 ^ 24 → n ≡ used_word u → ((p : TopParts) → IsTop p → n ≡ top_word p → q ≡ Some p) → IsSome q
 top_some n q u few is complete = is_read q (record { used = u }) (complete (record { used = u }) (record { used = few }) is)

@@ -29,7 +29,7 @@ impl Row {
     {
         let at = self.header_at(u32::from(object));
         let found = self.load::<Brand, u16>(&mut pass.seat, at, object);
-        Header::parts(found)
+        Header::of_word(found)
     }
 
     pub(crate) fn claim_header(&self, pass: &mut Pass, object: u16, header: HeaderParts) -> bool

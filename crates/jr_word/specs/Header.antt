@@ -1,5 +1,5 @@
 -- The header of an object.
-use Rattle.std.specs.Prelude.{◌≡◌, ℕ, ◌+◌, ◌*◌, ◌^◌, ◌<◌}
+use Rattle.std.specs.Prelude.{◌≡◌, ◌⊎◌, ℕ, ◌+◌, ◌*◌, ◌^◌, ◌<◌}
 use Rattle.jr_word.specs.declared.kind.Kind.TheVariants.{Plain}
 use Rattle.jr_word.specs.declared.header.HeaderParts.{HeaderParts}
 use Rattle.jr_word.specs.Kind.{kind_code}
@@ -22,3 +22,7 @@ pub record IsHeader (p : HeaderParts) : Type 0 where
 -- THE WORD of a header: bits 0 to 3 the kind, 4 to 27 the length, 28 to 51 the place
 abbrev pub header_word : HeaderParts → ℕ
 header_word p = kind_code p.kind + 16 * p.length + 2 ^ 28 * p.place
+
+-- the word of a header, or 0
+abbrev pub IsHeaderOrZero : ℕ → Type 0
+IsHeaderOrZero n = (n ≡ 0) ⊎ ((p : HeaderParts) × IsHeader p × (n ≡ header_word p))

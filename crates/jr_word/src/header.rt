@@ -34,8 +34,8 @@ impl HeaderParts {
 }
 
 impl Header {
-    ghost use Rattle.std.specs.Prelude.{◌≡◌, IfSome};
-    ghost use Rattle.jr_word.specs.Header.{header_word, IsHeader};
+    ghost use Rattle.std.specs.Prelude.{◌≡◌, IfSome, Some, None};
+    ghost use Rattle.jr_word.specs.Header.{header_word, IsHeader, IsHeaderOrZero};
 
     /// The header of an object with these parts. Length and place have to be below 2^24; a plain object has no elements, and what has none has place 0.
     #[inline]
@@ -63,5 +63,22 @@ impl Header {
             place: u24_at(word, 28),
         };
         if parts.agree() { Some(parts) } else { None }
+    }
+
+    /// What a word says that is 0, as where there is no header, or the word of one: the same as `parts`, with no check.
+    #[inline]
+    pub fn of_word(word: u64) -> Option<HeaderParts>
+        requires { IsHeaderOrZero word }
+        ensures none { word ≡ 0 → result ≡ None }
+        ensures header { (parts : _) → IsHeader parts → word ≡ header_word parts → result ≡ Some parts }
+    {
+        if word == 0 {
+            return None;
+        }
+        Some(HeaderParts {
+            kind: Kind::of_code(word & 0xf),
+            length: u24_at(word, 4),
+            place: u24_at(word, 28),
+        })
     }
 }

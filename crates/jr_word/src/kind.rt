@@ -24,7 +24,8 @@ pub enum Kind {
 }
 
 impl Kind {
-    ghost use Rattle.std.specs.Prelude.{◌≡◌, IfSome};
+    ghost use Rattle.std.specs.Prelude.{◌≡◌, ◌<◌, IfSome};
+    ghost use Rattle.jr_word.specs.declared.kind.Kind.TheVariants.{Text};
     ghost use Rattle.jr_word.specs.Kind.{kind_code};
 
     /// The number of the kind, 1 to 9.
@@ -62,6 +63,26 @@ impl Kind {
             8 => Some(Kind::Objects),
             9 => Some(Kind::Text),
             _ => None,
+        }
+    }
+
+    /// The kind with a number, a string for a number that no kind has.
+    #[inline]
+    pub fn of_code(code: u64) -> Self
+        ensures known { (kind : _) → code ≡ kind_code kind → result ≡ kind }
+        ensures zero { code ≡ 0 → result ≡ Text }
+        ensures over { 9 < code → result ≡ Text }
+    {
+        match code {
+            1 => Kind::Plain,
+            2 => Kind::Boolean,
+            3 => Kind::Byte,
+            4 => Kind::Char,
+            5 => Kind::Short,
+            6 => Kind::Int,
+            7 => Kind::Long,
+            8 => Kind::Objects,
+            _ => Kind::Text,
         }
     }
 }

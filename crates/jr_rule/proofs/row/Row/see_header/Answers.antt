@@ -3,7 +3,7 @@ use Rattle.jr_rule.specs.Image.{header_at}
 use Rattle.jr_steps.specs.Knowing.{ShowsHeader}
 use Rattle.jr_rule.specs.Passes.{known_of}
 use Rattle.jr_rule.specs.Rule.{Owes}
-use Rattle.jr_rule.proofs.HeapOwed.{sees_header, header_read}
+use Rattle.jr_rule.proofs.HeapOwed.{sees_header, header_known, header_or_zero}
 use Rattle.jr_rule.proofs.PassAfterStep.{held_next, took}
 use Rattle.jr_rule.proofs.Told.{SawHeader}
 use Rattle.jr_rule.proofs.row.Row.see_header.Goals as goal
@@ -27,5 +27,8 @@ returns-clause-step c =
     let o = c.args.object in
     let t = c.load-found.ensures.1 in
     let s = t.says in
-    let read = header_read c.parts.result s.0 c.load-found.result s.1 c.parts.ensures.sound c.parts.ensures.complete in
+    let read = header_known c.of_word.result s.0 c.load-found.result s.1 c.of_word.ensures.none c.of_word.ensures.header in
     took p _ c.load-found.result t _ c.load-found.ensures.0 s.2 refl refl refl (λ m. subst (λ z. ShowsHeader o z (known_of p) t.new) (sym read) s.3)
+
+pub of_word-requires : goal.of_word-requires
+of_word-requires c = let s = c.load-found.ensures.1.says in header_or_zero s.0 c.load-found.result s.1
