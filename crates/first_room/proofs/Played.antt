@@ -20,7 +20,7 @@ use Rattle.jr_rule.specs.declared.pass.Pass.{Pass}
 use Rattle.jr_rule.specs.Passes.{facts_of, standing_of}
 use Rattle.jr_critical.specs.declared.levels.Levels.{Levels}
 use Rattle.jr_critical.specs.Levels.{GivesUpAll, Opens, Reaches, level_object}
-use Rattle.jr_weak.specs.declared.collecting_twice.Collected.{Collected}
+use Rattle.jr_weak.specs.declared.collecting.Collected.{Collected}
 use Rattle.jr_env.specs.Collections.{collection}
 use Rattle.jr_env.specs.Deeds.{Deed, DoesDeed, DoesOutside, new_plain, new_array, new_object_array, new_reference, delete_reference, is_same_object, get_object_ref_type, push_local_frame, pop_local_frame, set_array_region, done, ◌>>=◌}
 use Rattle.first_room.specs.Calls.{clearing, collecting_twice, preparing, sharing, visiting, word_made}
