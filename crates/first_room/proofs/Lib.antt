@@ -1,3 +1,5 @@
 -- Lemmas of the program.
+pub mod OneHistory
 pub mod Passes
+pub mod Played
 pub mod Texts

@@ -1,4 +1,5 @@
 -- The passes of the room: the two that are handed out, and those that come back.
+use Rattle.std.specs.Prelude.{Result, Ok, Err, MatchResult, IfOk}
 use Rattle.std.proofs.Common.{◌≡◌, ◌≤◌, ◌∙◌, ℕ, zero, suc, Bool, List, [], ◌∷◌, ◌++◌, map, arith, ap, subst, sym, refl}
 use Rattle.std.specs.Prelude.{remove}
 use Rattle.std.specs.List.{All}
@@ -59,3 +60,11 @@ number_in _ = 0
 -- the number of a refused collection is one at least
 pub busy_some : (e : Fault) (i : ℕ) → e ≡ Busy i → (n : ℕ) × (e ≡ Busy n) × (1 ≤ n) → 1 ≤ i
 busy_some e i is b = subst (λ k. 1 ≤ k) (ap number_in (sym b.1 ∙ is)) b.2
+
+-- an answer whose refusal was given another form is the same
+pub ok_as : {X E : Type 0} (D : Type 0) (r : Result X E) (x : X) (P : X → Type 0) → MatchResult r (λ y. ◌≡◌ {A = Result X D} (Ok x) (Ok y)) (λ e. ⊥) → IfOk r P → P x
+ok_as D (Ok y) x P is h = subst P (sym (ap (either_way x) is)) h where
+  either_way : {X D : Type 0} → X → Result X D → X
+  either_way z (Ok v) = v
+  either_way z (Err e) = z
+ok_as D (Err e) x P is h = absurd is

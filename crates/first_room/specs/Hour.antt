@@ -1,8 +1,16 @@
 -- What the program writes, and what is so of it.
-use Rattle.std.specs.Prelude.{◌≤◌, ℕ, ℤ, Bool, if◌then◌else◌, Option, List, [], ◌∷◌, ◌++◌, codes}
+use Rattle.std.specs.Prelude.{◌≡◌, ◌≤◌, ℕ, ℤ, Bool, if◌then◌else◌, Option, List, [], ◌∷◌, ◌++◌, codes}
 use Rattle.std.specs.Fmt.{decimal, signed_decimal}
 use Rattle.std.specs.Io.KnownBytes.{Appends}
+use Rattle.std.specs.Int.{w32}
+use Rattle.first_room.specs.declared.TheConstants.{LAST, SIZES}
+use Rattle.jr_word.specs.Elem.{signed_word}
+use Rattle.jr_model.specs.declared.event.Act.TheVariants.{Meet}
 use Rattle.jr_model.specs.declared.summary.Summary.{Summary}
+use Rattle.jr_model.specs.State.{summary}
+use Rattle.jr_model.specs.History.{History, IsLegal, state}
+use Rattle.first_room.specs.Calls.{sharing, visiting}
+use Rattle.first_room.specs.Parts.{PlaysPart}
 
 -- what the two threads found
 pub record Report : Type 0 where
@@ -38,8 +46,17 @@ abbrev pub report_text : List (List ℕ) → List ℕ
 report_text [] = []
 report_text (l ∷ ls) = l ++ report_text ls
 
--- WHAT IS WRITTEN is the text of a report, and nothing else, where it is known
+-- THE REPORT IS TRUE: there is one legal history of the machine, in which the first thread's calls and then its look at the gate as the room closes are all that it did, and the second thread's calls all that that one did; the numbers are the calls' answers, and what was left is what stands at the end
+pub record IsTrueReport (r : Report) : Type 0 where
+  pub whole : History
+  pub legal : IsLegal SIZES LAST whole
+  pub first : PlaysPart whole 0 sharing (r.inside, r.cleared, r.kind) (Meet ∷ [])
+  pub second : PlaysPart whole 1 visiting (signed_word w32 r.read) []
+  pub is_left : r.left ≡ summary SIZES LAST (state whole)
+  pub some : 1 ≤ r.inside
+
+-- WHAT IS WRITTEN is the text of a true report, and nothing else, where it is known
 pub record IsWritten (old new : Option (List ℕ)) : Type 0 where
   pub report : Report
-  pub some : 1 ≤ report.inside
+  pub is_true : IsTrueReport report
   pub text : Appends old new (report_text (report_lines report))

@@ -1,2 +1,4 @@
 -- What the program promises.
+pub mod Calls
 pub mod Hour
+pub mod Parts

@@ -7,6 +7,7 @@ ghost use Rattle.std.specs.Prelude.{◌≤◌, IfOk, OnOk};
 ghost use Rattle.jr_rule.specs.Passes.{IsOpened};
 ghost use Rattle.jr_rule.specs.Rooms.{IsOfRoom};
 ghost use Rattle.first_room.specs.Hour.{IsWritten};
+ghost use Rattle.first_room.specs.Parts.{HasShared, HasVisited};
 
 use jr_env::Env;
 use jr_rule::{Pass, Room, RoomSteps, Steps};
@@ -33,9 +34,11 @@ const SIZES: Config = Config {
 
 /// Why the program fails.
 #[derive(Debug, Drop, Error)]
-enum Trouble {
+pub enum Trouble {
+    /// A call was refused.
     #[error("refused: {0}")]
     Refused(#[from] Fault),
+    /// What the threads found was not written.
     #[error("not written: {0}")]
     Output(#[from] io::Error),
 }
@@ -45,7 +48,7 @@ fn main(rt: HostRuntime) -> Result<(), Trouble> {
 }
 
 /// Opens a room, gives each of two threads its pass, closes the room once both have ended, and writes what they found.
-fn run<T: Threads, W: Write + Drop>(rt: &T, alloc: Global, out: &mut W) -> Result<(), Trouble>
+pub fn run<T: Threads, W: Write + Drop>(rt: &T, alloc: Global, out: &mut W) -> Result<(), Trouble>
     ensures { OnOk result (IsWritten (W.contents out.old) (W.contents out.new)) }
 {
     let (room, mut passes) = Room::<LAST>::open(alloc, SIZES)?;
@@ -81,7 +84,7 @@ fn share(
     baton: &AtomicU64,
 ) -> Result<(Pass, u32, bool, u8), Fault>
     requires { IsOpened room.now.row pass }
-    ensures { IfOk result (λ r. IsOfRoom room.now r.0 × (1 ≤ r.1)) }
+    ensures { IfOk result (λ r. IsOfRoom room.now r.0 × (1 ≤ r.1) × HasShared pass r.0 r.1 r.2 r.3) }
 {
     let Ok(mut env) = Env::new(RoomSteps::new(room, pass)) else {
         unreachable!();
@@ -111,7 +114,7 @@ fn share(
 /// The second thread has objects of its own, and reads in the first one's array, in a critical region.
 fn visit(room: &Room<LAST>, pass: Pass, baton: &AtomicU64) -> Result<(Pass, i32), Fault>
     requires { IsOpened room.now.row pass }
-    ensures { IfOk result (λ r. IsOfRoom room.now r.0) }
+    ensures { IfOk result (λ r. IsOfRoom room.now r.0 × HasVisited pass r.0 r.1) }
 {
     let Ok(mut env) = Env::new(RoomSteps::new(room, pass)) else {
         unreachable!();

@@ -1,9 +1,13 @@
--- The thread is in its room still, whatever it did there.
+-- The thread did its calls, one after the other, and is in its room still.
 use Rattle.std.proofs.Common.{◌≡◌, rules, ap, sym, ◌∙◌}
 use Rattle.jr_word.specs.declared.config.Config.{Config}
 use Rattle.jr_weak.specs.Markers.{room_of}
 use Rattle.jr_rule.specs.declared.room_steps.RoomSteps.{RoomSteps}
-use Rattle.jr_rule.specs.Passes.{known_of}
+use Rattle.jr_rule.specs.declared.pass.Pass.{Pass}
+use Rattle.jr_rule.specs.Passes.{known_of, standing_of}
+use Rattle.jr_model.specs.Frames.{fresh_frames}
+use Rattle.first_room.specs.Calls.{sharing}
+use Rattle.first_room.proofs.Played.{shared, refused_as, same_on, deleted_on, typed_on, played, word_or_null}
 use Rattle.first_room.proofs.Passes.{same_then, same_before, same_spent, at_end, busy_some}
 use Rattle.first_room.proofs.share.Goals as goal
 
@@ -39,7 +43,14 @@ returns c =
     (same_then (same_before (d9.does d8.outside).stands_is)
     (same_then (same_before (d10.does d9.outside).stands_is)
     (same_then (same_before (d11.does d10.outside).stands_is)
-    (same_before (d12.does d11.outside).stands_is)))))))))))) in (
-      at_end c.args.room.now.row c.args.pass c.new.result.pass _ c.into_pass-2.result c.requires.row c.new.ensures.1 same (c.into_pass-2.ensures.0 ∙ ap (λ (s : RoomSteps _). s.pass) (c.into_pass.ensures.steps d12.outside)),
+    (same_before (d12.does d11.outside).stands_is)))))))))))) in
+    let weak = word_or_null c.in_ok-new_weak_global_ref.field-0 c.unwrap_or-weak.result c.unwrap_or-weak.ensures in
+    let global = word_or_null c.in_ok-new_global_ref.field-0 c.unwrap_or-global.result c.unwrap_or-global.ensures in
+    let calls = shared _ _ _ _ _ _ _ _ _ _ _ _ _ _ _ _ _ _ _ _ _ _ _ _ _ _ c.in_ok-lost.lost c.in_ok-array.array c.in_ok-new_weak_global_ref.field-0 c.in_ok-new_global_ref.field-0 c.in_ok-pop_local_frame.field-0 c.in-Err-Busy.inside c.in_ok-collect.field-0 c.in_ok-cleared.cleared c.in_ok-kind.kind
+    c.in-Ok.ensures.outside d1 d2 d3 d4 d5 d6 d7 (refused_as c.in-Err-Busy.field-0-is d8) d9 (same_on _ _ 0 _ weak d10) (deleted_on _ _ _ global d11) (typed_on _ _ _ global d12) in
+    let handed = c.into_pass-2.ensures.0 ∙ ap (λ (s : RoomSteps _). s.pass) (c.into_pass.ensures.steps d12.outside) in (
+      at_end c.args.room.now.row c.args.pass c.new.result.pass _ c.into_pass-2.result c.requires.row c.new.ensures.1 same handed,
       busy_some _ c.in-Err-Busy.inside c.in-Err-Busy.field-0-is c.in-Err-Busy.ensures.busy,
+      played (λ (s : RoomSteps _). s.pass) sharing c.new.result _ _ c.args.pass c.into_pass-2.result _ _ (c.in-Err-Busy.inside, c.in_ok-cleared.cleared, c.in_ok-kind.kind) c.in-Ok.ensures.steps calls c.new.ensures.1 handed
+          (c.in-Ok.ensures.frames ∙ ap (λ (p : Pass). fresh_frames (standing_of p).config.locals) c.new.ensures.1),
     )

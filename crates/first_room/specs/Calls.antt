@@ -1,0 +1,85 @@
+-- What each of the two threads does, call by call.
+use Rattle.std.specs.Prelude.{◌≡◌, ℕ, Bool, Option, Some, None, Ok, Err, [], ◌∷◌}
+use Rattle.jr_word.specs.declared.config.Config.{Config}
+use Rattle.jr_word.specs.declared.fault.Fault.TheVariants.{Busy}
+use Rattle.jr_word.specs.declared.handle.Handle.{Handle}
+use Rattle.jr_word.specs.declared.handle.RefKind.TheVariants.{Global, Weak}
+use Rattle.jr_word.specs.declared.kind.Kind.TheVariants.{Int, Long}
+use Rattle.jr_model.specs.State.{State}
+use Rattle.jr_model.specs.History.{state}
+use Rattle.jr_model.specs.Calls.{Call}
+use Rattle.jr_model.specs.Checks.{Word}
+use Rattle.jr_model.specs.Objects.{get_array_critical, region_get, region_release}
+use Rattle.jr_frames.specs.Reading.{IsReadAs}
+use Rattle.jr_gate.specs.Performing.{IsMade}
+use Rattle.jr_env.specs.Collections.{collection}
+use Rattle.jr_env.specs.Deeds.{Deed, done, new_plain, new_array, new_object_array, new_reference, delete_reference, is_same_object, get_object_ref_type, push_local_frame, pop_local_frame, set_array_region, ◌>>=◌, ◌>>◌}
+
+-- the word of a reference that was made, 0 for NULL
+abbrev pub word_made : Option Handle → ℕ
+word_made None = 0
+word_made (Some h) = h.0
+
+-- a collection is refused, with so many threads inside
+abbrev pub is_kept_out : Deed ℕ
+is_kept_out old answer new = (n : ℕ) × (answer ≡ Ok n) × collection old (Err (Busy n)) new
+
+-- two arrays are made in a frame, and then a weak reference to the one and a global one to the other: the words of the two references
+abbrev pub preparing : Deed (ℕ × ℕ)
+preparing = do
+  push_local_frame 4
+  lost ← new_array Long 4
+  weak ← new_reference Weak lost.0
+  array ← new_array Int 3
+  set_array_region Int array.0 0 (10 ∷ 20 ∷ 30 ∷ [])
+  global ← new_reference Global array.0
+  pop_local_frame 0
+  done (word_made weak, word_made global)
+
+-- a collection is refused, and the next is made
+abbrev pub collecting_twice : Deed ℕ
+collecting_twice = do
+  inside ← is_kept_out
+  collection
+  done inside
+
+-- whether the weak reference is to null; and the type of the global one, once it is deleted
+abbrev pub clearing : ℕ → ℕ → Deed (Bool × ℕ)
+clearing weak global = do
+  cleared ← is_same_object weak 0
+  delete_reference Global global
+  kind ← get_object_ref_type global
+  done (cleared, kind)
+
+-- THE FIRST THREAD does this
+abbrev pub sharing : Deed (ℕ × Bool × ℕ)
+sharing = do
+  words ← preparing
+  inside ← collecting_twice
+  found ← clearing words.0 words.1
+  done (inside, found.0, found.1)
+
+-- some word was handed over by the other thread, which is no call
+abbrev pub is_handed : Deed ℕ
+is_handed old answer new = (w : ℕ) × (answer ≡ Ok w) × (new ≡ old)
+
+-- a critical region is opened over the array that a word names: its object
+abbrev pub opens_region : ℕ → Deed ℕ
+opens_region w old answer new = (a : Word) × IsReadAs w a × IsMade 1 old new (get_array_critical old.pass.config old.pass.last old.pass.thread (state new.pass.seen) a) answer
+
+-- a call in the region, by one operation for each of its events
+abbrev pub within_region : {A : Type 0} → (Config → ℕ → ℕ → State → Call A) → Deed A
+within_region asked old answer new = IsMade 0 old new (asked old.pass.config old.pass.last old.pass.thread (state new.pass.seen)) answer
+
+-- THE SECOND THREAD is handed a word, and makes two objects in a frame; and it reads an element of the array that the word names, in a critical region: the element's word
+abbrev pub visiting : Deed ℕ
+visiting = do
+  global ← is_handed
+  push_local_frame 4
+  object ← new_plain
+  new_object_array 2 object.0
+  pop_local_frame 0
+  o ← opens_region global
+  word ← within_region (λ c last t s. region_get c last t s Int o 1)
+  within_region (λ c last t s. region_release 1)
+  done word
