@@ -97,6 +97,7 @@ impl Frames {
     }
 
     /// The object of a handle, if its reference stands.
+    #[inline(always)]
     pub fn object_of(&self, handle: HandleParts) -> Option<u16>
         ensures object { result ≡ object_of self.now.frames handle }
         ensures place { IfSome result (λ o. object_at self.now.frames handle.index ≡ Some o) }

@@ -14,6 +14,7 @@ use jr_word::{Elem, HeaderParts};
 /// # Operations
 ///
 /// A load for each element.
+#[inline(always)]
 pub fn read_part<S: Steps, E: Elem>(
     steps: &mut S,
     object: u16,

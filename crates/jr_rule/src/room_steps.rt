@@ -119,6 +119,7 @@ impl<const LAST: u32> Steps for RoomSteps<'_, LAST> {
         self.room.row.see_gate(&mut self.pass, name)
     }
 
+    #[inline(always)]
     fn see_slot(&mut self, index: u16, name: SlotLoad) -> SlotParts {
         self.room.row.see_slot(&mut self.pass, index, name)
     }

@@ -16,6 +16,7 @@ use std::marker::Brand;
 impl Row {
     ghost use Rattle.jr_rule.specs.Passes.{facts_of, standing_of, IsAt};
 
+    #[inline(always)]
     pub(crate) fn see_slot(&self, pass: &mut Pass, index: u16, name: SlotLoad) -> SlotParts
         requires row { IsAt self.now pass.old }
         requires role { pass.old.role ≡ Within }
@@ -27,7 +28,7 @@ impl Row {
         let at = slot_at(index);
         let about = (index, name);
         let found = self.load::<Brand, (u16, SlotLoad)>(&mut pass.seat, at, about);
-        SlotWord::parts(found).unwrap()
+        SlotWord::of_word(found)
     }
 
     pub(crate) fn claim(
@@ -58,7 +59,7 @@ impl Row {
             about,
         );
         if found != looked.0 {
-            return Err(SlotWord::parts(found).unwrap());
+            return Err(SlotWord::of_word(found));
         }
         Ok(())
     }

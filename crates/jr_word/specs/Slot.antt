@@ -1,5 +1,5 @@
 -- The word of a slot.
-use Rattle.std.specs.Prelude.{ℕ, ◌+◌, ◌*◌, ◌^◌, ◌<◌, ⊤, Some, None, unwrap_or}
+use Rattle.std.specs.Prelude.{ℕ, ◌≡◌, ◌+◌, ◌*◌, ◌^◌, ◌<◌, ⊤, Some, None, unwrap_or}
 use Rattle.jr_word.specs.declared.slot.SlotParts.{SlotParts}
 use Rattle.jr_word.specs.declared.slot.SlotParts.TheVariants.{Free, Retired, Global, Weak}
 
@@ -41,3 +41,7 @@ pub record IsSlot (p : SlotParts) : Type 0 where
 -- THE WORD of a slot: bits 0 to 1 its state, 2 to 33 its serial, 34 to 49 its object
 abbrev pub slot_word : SlotParts → ℕ
 slot_word p = slot_state p + 4 * slot_serial p + 2 ^ 34 * slot_object p
+
+-- a number that is the word of some slot
+abbrev pub IsSlotWord : ℕ → Type 0
+IsSlotWord n = (p : SlotParts) × IsSlot p × (n ≡ slot_word p)

@@ -21,7 +21,7 @@ pub struct SlotWord(pub u64);
 
 impl SlotWord {
     ghost use Rattle.std.specs.Prelude.{◌≡◌, IfSome};
-    ghost use Rattle.jr_word.specs.Slot.{slot_word, IsSlot, NamesObject};
+    ghost use Rattle.jr_word.specs.Slot.{slot_word, IsSlot, IsSlotWord, NamesObject};
 
     /// The word of a slot with these parts. An object's number has to be 1 at least.
     #[inline]
@@ -62,6 +62,29 @@ impl SlotWord {
                 object: Some(object),
             }),
             _ => None,
+        }
+    }
+
+    /// What a word says of a slot that is the word of one: the same as `parts`, with no check.
+    #[inline]
+    pub fn of_word(word: u64) -> SlotParts
+        requires { IsSlotWord word }
+        ensures { (parts : _) → IsSlot parts → word ≡ slot_word parts → result ≡ parts }
+    {
+        let serial = u32_at(word, 2);
+        let object = u16_at(word, 34);
+        match (word & 3, object) {
+            (0, _) => SlotParts::Free { serial },
+            (1, _) => SlotParts::Retired { serial },
+            (2, _) => SlotParts::Global { serial, object },
+            (_, 0) => SlotParts::Weak {
+                serial,
+                object: None,
+            },
+            _ => SlotParts::Weak {
+                serial,
+                object: Some(object),
+            },
         }
     }
 }

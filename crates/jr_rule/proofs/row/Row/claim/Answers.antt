@@ -10,7 +10,6 @@ use Rattle.jr_rule.proofs.Told.{Claimed}
 use Rattle.jr_rule.proofs.PassAfterStep.{held_next, took}
 use Rattle.jr_rule.proofs.ActEffects.{claiming_role, claiming_fresh}
 use Rattle.jr_rule.proofs.SlotWords.{names_object}
-use Rattle.jr_rule.proofs.Readings.{is_read, read_once}
 use Rattle.jr_rule.proofs.row.Row.claim.Goals as goal
 
 pub pack-made-requires : goal.pack-made-requires
@@ -33,10 +32,10 @@ invariant_of-pass c =
     let done = claim_done i c.args.serial c.args.kind c.args.object (known_of p) c.exchange-found.result t.acts t.new t.says in
     record { held = held_next p.seat.me c.exchange-found.result _ t p.thread p.role p.fresh p.held _ _ _ done.1 (claiming_role i c.args.serial c.args.kind c.args.object done.0 p.role) (claiming_fresh i c.args.serial c.args.kind c.args.object done.0 p.fresh) }
 
-pub unwrap-requires : goal.unwrap-requires
-unwrap-requires c =
+pub of_word-requires : goal.of_word-requires
+of_word-requires c =
     let s = (c.exchange-found.ensures.1).says.1 (λ e. c.if-found-looked.true (e ∙ sym c.pack-looked.ensures)) in
-    is_read c.parts.result s.0 (c.parts.ensures.complete s.0 s.1 s.2)
+    (s.0, s.1, s.2)
 
 pub returns-then-found-looked-clause-step : goal.returns-then-found-looked-clause-step
 returns-then-found-looked-clause-step c =
@@ -44,8 +43,8 @@ returns-then-found-looked-clause-step c =
     let t = c.exchange-found.ensures.1 in
     let s = (t.says).1 (λ e. c.if-found-looked.true (e ∙ sym c.pack-looked.ensures)) in
     let i = c.args.index in
-    let q = c.unwrap.result in
-    let read = read_once c.parts.result s.0 q (c.parts.ensures.complete s.0 s.1 s.2) c.unwrap.ensures in
+    let q = c.of_word.result in
+    let read = c.of_word.ensures s.0 s.1 s.2 in
     took p _ c.exchange-found.result t _ c.exchange-found.ensures.0 (s.3 ∙ ap (λ z. act_of_claim i c.args.serial c.args.kind c.args.object (Err z) ∷ []) (sym read)) refl refl refl
     (λ m. (subst (λ z. LostClaim i (Err z) (known_of p) t.new) (sym read) (s.4 m.1), (t.says).2))
 

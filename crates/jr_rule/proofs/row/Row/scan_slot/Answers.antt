@@ -5,7 +5,6 @@ use Rattle.jr_rule.specs.Rule.{Owes}
 use Rattle.jr_rule.proofs.CollectOwed.{scans_slot}
 use Rattle.jr_rule.proofs.CollectTold.{ScannedSlot}
 use Rattle.jr_rule.proofs.PassAfterStep.{held_next, took}
-use Rattle.jr_rule.proofs.Readings.{is_read, read_once}
 use Rattle.jr_rule.proofs.row.Row.scan_slot.Goals as goal
 
 pub load-found-requires-clause-owes : goal.load-found-requires-clause-owes
@@ -19,15 +18,13 @@ invariant_of-pass c =
     let t = c.load-found.ensures.1 in
     record { held = held_next p.seat.me c.load-found.result _ t p.thread p.role p.fresh p.held _ _ _ t.says.3 refl refl }
 
-pub unwrap-requires : goal.unwrap-requires
-unwrap-requires c =
-    let s = (c.load-found.ensures.1).says in
-    is_read c.parts.result s.0 (c.parts.ensures.complete s.0 s.1 s.2)
+pub of_word-requires : goal.of_word-requires
+of_word-requires c = let s = c.load-found.ensures.1.says in (s.0, s.1, s.2)
 
 pub returns-clause-step : goal.returns-clause-step
 returns-clause-step c =
     let p = c.args.pass.now in
     let t = c.load-found.ensures.1 in
     let s = t.says in
-    let read = read_once c.parts.result s.0 c.unwrap.result (c.parts.ensures.complete s.0 s.1 s.2) c.unwrap.ensures in
+    let read = c.of_word.ensures s.0 s.1 s.2 in
     took p _ c.load-found.result t _ c.load-found.ensures.0 s.3 refl refl refl (λ m. (subst (λ q. ShowsSlot c.args.index q t.new) (sym read) s.4, s.5))

@@ -7,7 +7,6 @@ use Rattle.jr_rule.proofs.SlotOwed.{sees_slot}
 use Rattle.jr_rule.proofs.PassAfterStep.{held_next, took}
 use Rattle.jr_rule.proofs.Told.{SawSlot}
 use Rattle.jr_rule.proofs.ActEffects.{slot_load_role, slot_load_fresh}
-use Rattle.jr_rule.proofs.Readings.{is_read, read_once}
 use Rattle.jr_rule.proofs.row.Row.see_slot.Goals as goal
 
 pub load-found-requires-clause-owes : goal.load-found-requires-clause-owes
@@ -22,10 +21,8 @@ invariant_of-pass c =
     let s = t.says in
     record { held = held_next p.seat.me c.load-found.result _ t p.thread p.role p.fresh p.held _ _ _ s.3 (slot_load_role c.args.index c.args.name s.0 p.role) (slot_load_fresh c.args.index c.args.name s.0 p.fresh) }
 
-pub unwrap-requires : goal.unwrap-requires
-unwrap-requires c =
-    let s = (c.load-found.ensures.1).says in
-    is_read c.parts.result s.0 (c.parts.ensures.complete s.0 s.1 s.2)
+pub of_word-requires : goal.of_word-requires
+of_word-requires c = let s = c.load-found.ensures.1.says in (s.0, s.1, s.2)
 
 pub returns-clause-step : goal.returns-clause-step
 returns-clause-step c =
@@ -34,7 +31,7 @@ returns-clause-step c =
     let s = t.says in
     let i = c.args.index in
     let name = c.args.name in
-    let q = c.unwrap.result in
-    let read = read_once c.parts.result s.0 q (c.parts.ensures.complete s.0 s.1 s.2) c.unwrap.ensures in
+    let q = c.of_word.result in
+    let read = c.of_word.ensures s.0 s.1 s.2 in
     took p _ c.load-found.result t _ c.load-found.ensures.0 (s.3 ∙ ap (λ z. act_of_slot_load i name z ∷ []) (sym read)) refl (slot_load_role i name q p.role) (slot_load_fresh i name q p.fresh)
     (λ m. (subst (λ z. ShowsSlot i z t.new) (sym read) s.4, s.5))
