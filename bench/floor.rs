@@ -1,7 +1,8 @@
 //! The floor under `jr_bench`: the same calls in plain Rust, with just the atomic operations that each takes, and the checks of its refusals.
 //!
-//! The row of words, the handles, the order in which slots and local places are given, and the rounds are those of the product; there is no proof, and no index is checked. Its words and lines are those of `jr_bench`.
+//! The row of words, the handles, the order in which slots and local places are given, and the rounds are those of the product; there is no proof, and no index is checked where no refusal asks for it. A room's sizes are known when it is opened, as an embedder's are, and not when the floor is built. Its words and lines are those of `jr_bench`.
 
+use std::hint::black_box;
 use std::sync::atomic::{AtomicU64, Ordering::SeqCst};
 use std::time::{Duration, Instant};
 
@@ -40,16 +41,26 @@ const OBJECTS_FULL: u64 = ERROR + 11;
 const RACED: u64 = ERROR + 12;
 const BARRED: u64 = ERROR + 13;
 
-/// A room: the gate, the top, slots, local words thread by thread, headers, and elements.
+/// A room: the gate, the top, slots, local words thread by thread, headers, and elements. Its sizes, and where headers and elements begin.
 struct Room {
     row: Vec<AtomicU64>,
     threads: u64,
+    slots: usize,
+    places: usize,
+    objects: u64,
+    words: u64,
+    headers: usize,
+    elements: usize,
 }
 
 impl Room {
     fn new(threads: u64) -> Room {
-        let words = 2 + SLOTS + threads as usize * PLACES + OBJECTS as usize + WORDS as usize;
-        Room { row: (0..words).map(|_| AtomicU64::new(0)).collect(), threads }
+        // (or the compiler would leave out the checks of an index against them)
+        let (slots, places, objects, words) = black_box((SLOTS, PLACES, OBJECTS, WORDS));
+        let headers = 2 + slots + threads as usize * places;
+        let elements = headers + objects as usize;
+        let row = (0..elements + words as usize).map(|_| AtomicU64::new(0)).collect();
+        Room { row, threads, slots, places, objects, words, headers, elements }
     }
     #[inline(always)]
     fn word(&self, at: usize) -> &AtomicU64 {
@@ -66,12 +77,12 @@ impl Room {
     }
     #[inline(always)]
     fn header(&self, object: u64) -> &AtomicU64 {
-        self.word(1 + SLOTS + self.threads as usize * PLACES + object as usize)
+        self.word(self.headers + object as usize - 1)
     }
     /// The words of elements from a place on, so many.
     #[inline(always)]
     fn elements(&self, place: u64, length: usize) -> &[AtomicU64] {
-        let first = 2 + SLOTS + self.threads as usize * PLACES + OBJECTS as usize + place as usize;
+        let first = self.elements + place as usize;
         unsafe { self.row.get_unchecked(first..first + length) }
     }
 }
@@ -105,23 +116,26 @@ struct Env<'a> {
     next_object: u64,
     free: u32,
     frame: u16,
+    /// The ends of the ring of the free places and of that of the first frame.
+    free_end: u16,
+    base: u16,
     places: Vec<Place>,
     links: Vec<Link>,
 }
 
-const FREE: u16 = PLACES as u16;
-const BASE: u16 = FREE + 1;
 const FRAMES: u16 = 256;
 const CAPACITY: u32 = 16;
 
 impl Env<'_> {
     fn new(room: &Room, thread: u64) -> Env<'_> {
-        let mut links = vec![Link::default(); PLACES + 1 + FRAMES as usize];
-        for at in 0..=FREE {
-            links[at as usize] = Link { older: at.checked_sub(1).unwrap_or(FREE), newer: if at == FREE { 0 } else { at + 1 } };
+        let places = vec![Place::default(); room.places];
+        let (free_end, base) = (room.places as u16, room.places as u16 + 1);
+        let mut links = vec![Link::default(); room.places + 1 + FRAMES as usize];
+        for at in 0..=free_end {
+            links[at as usize] = Link { older: at.checked_sub(1).unwrap_or(free_end), newer: if at == free_end { 0 } else { at + 1 } };
         }
-        links[BASE as usize] = Link { older: BASE, newer: BASE };
-        Env { room, thread, hint: 0, next_object: 1, free: PLACES as u32, frame: BASE, places: vec![Place::default(); PLACES], links }
+        links[base as usize] = Link { older: base, newer: base };
+        Env { room, thread, hint: 0, next_object: 1, free: room.places as u32, frame: base, free_end, base, places, links }
     }
     #[inline(always)]
     fn link(&mut self, at: u16) -> &mut Link {
@@ -169,7 +183,7 @@ impl Env<'_> {
     fn resolve_local(&mut self, handle: u64) -> u64 {
         let owner = handle >> 50;
         let index = Self::index_of(handle);
-        if owner >= self.room.threads || index >= PLACES {
+        if owner >= self.room.threads || index >= self.room.places {
             return STALE;
         }
         if owner != self.thread {
@@ -180,7 +194,7 @@ impl Env<'_> {
     }
     #[inline(always)]
     fn look(&mut self, handle: u64) -> u64 {
-        if handle & 3 == 0 || handle >> 50 != 0 || Self::index_of(handle) >= SLOTS {
+        if handle & 3 == 0 || handle >> 50 != 0 || Self::index_of(handle) >= self.room.slots {
             return STALE;
         }
         let word = self.room.slot(Self::index_of(handle)).load(SeqCst);
@@ -190,8 +204,8 @@ impl Env<'_> {
     #[inline(always)]
     fn create(&mut self, kind: u64, object: u64) -> u64 {
         let mut index = self.hint;
-        for _ in 0..SLOTS {
-            let next = if index + 1 == SLOTS { 0 } else { index + 1 };
+        for _ in 0..self.room.slots {
+            let next = if index + 1 == self.room.slots { 0 } else { index + 1 };
             let word = self.room.slot(index).load(SeqCst);
             if word & 3 == 0 {
                 let made = kind | word | object << 34;
@@ -209,7 +223,7 @@ impl Env<'_> {
         if self.free == 0 {
             return LOCALS_FULL;
         }
-        let at = self.link(FREE).newer;
+        let at = self.link(self.free_end).newer;
         let serial = u64::from(self.place(at as usize).given);
         self.local_word(at as usize).store(object, SeqCst);
         *self.place(at as usize) = Place { given: serial as u32 + 1, object: object as u32 };
@@ -219,14 +233,14 @@ impl Env<'_> {
     }
     #[inline(always)]
     fn local_word(&self, at: usize) -> &AtomicU64 {
-        self.room.word(2 + SLOTS + self.thread as usize * PLACES + at)
+        self.room.word(2 + self.room.slots + self.thread as usize * self.room.places + at)
     }
     /// Exchanges the header of the first absent object from the next number on, and makes a local reference to it.
     #[inline(always)]
     fn publish(&mut self, header: u64) -> u64 {
         let mut object = self.next_object;
-        for _ in 0..OBJECTS {
-            let next = if object == OBJECTS { 1 } else { object + 1 };
+        for _ in 0..self.room.objects {
+            let next = if object == self.room.objects { 1 } else { object + 1 };
             if self.room.header(object).compare_exchange(0, header, SeqCst, SeqCst).is_ok() {
                 self.next_object = next;
                 return self.add_local(object);
@@ -247,7 +261,7 @@ impl Env<'_> {
         }
         let top = self.room.word(1);
         let used = top.load(SeqCst);
-        if used + length > WORDS {
+        if used + length > self.room.words {
             return SPACE_FULL;
         }
         if top.compare_exchange(used, used + length, SeqCst, SeqCst).is_err() {
@@ -506,7 +520,7 @@ impl Env<'_> {
             if handle & 3 != kind {
                 return if handle & 3 == 0 { STALE } else { WRONG_KIND };
             }
-            if handle >> 50 != 0 || Self::index_of(handle) >= SLOTS {
+            if handle >> 50 != 0 || Self::index_of(handle) >= env.room.slots {
                 return STALE;
             }
             let slot = env.room.slot(Self::index_of(handle));
@@ -549,7 +563,7 @@ impl Env<'_> {
         self.local_word(at).store(0, SeqCst);
         self.place(at).object = 0;
         if self.place(at).given != 0 {
-            self.move_to(at as u16, FREE);
+            self.move_to(at as u16, self.free_end);
             self.free += 1;
         }
     }
@@ -567,7 +581,7 @@ impl Env<'_> {
     }
     #[inline(always)]
     fn push(&mut self, capacity: u32) -> u64 {
-        if self.frame == BASE + FRAMES - 1 || self.free < capacity {
+        if self.frame == self.base + FRAMES - 1 || self.free < capacity {
             return LOCALS_FULL;
         }
         self.frame += 1;
@@ -578,7 +592,7 @@ impl Env<'_> {
     #[inline(always)]
     fn pop(&mut self, kept: u64) -> u64 {
         self.call(|env| {
-            if env.frame == BASE {
+            if env.frame == env.base {
                 return NO_FRAME;
             }
             let object = env.resolve(kept);
@@ -596,10 +610,10 @@ impl Env<'_> {
     #[inline(always)]
     fn free_locals(&mut self) -> u64 {
         self.call(|env| {
-            for end in BASE..=env.frame {
+            for end in env.base..=env.frame {
                 env.drop_frame(end);
             }
-            env.frame = BASE;
+            env.frame = env.base;
             0
         })
     }
