@@ -7,7 +7,7 @@ ghost use Rattle.jr_steps.specs.Acts.{act_of_entry, act_of_exit, act_of_bar, act
 ghost use Rattle.jr_steps.specs.Knowing.{view, anything, Goes, CanReopen, ShowsBarred, ShowsGate, MayKnow, Took, keeps, lets_go};
 
 use crate::layout::GATE;
-use crate::parts::{all_counted, is_shut, role_of_entry};
+use crate::parts::{all_counted, is_shut};
 use crate::pass::Pass;
 use crate::row::Row;
 use crate::rule::{Gather, Part};
@@ -25,10 +25,14 @@ impl Row {
         ensures row { IsAt self.now pass.new }
         ensures step { Took facts_of pass.old pass.new (act_of_entry result ∷ []) anything keeps }
     {
+        // (the role that it mostly is, stored first, so that the exit waits for no store of what the entry found)
+        pass.role = Role::Within;
         let found = self.add::<Brand, ()>(&mut pass.seat, GATE, 1, ());
-        let entered = !is_shut(found);
-        pass.role = role_of_entry(entered);
-        entered
+        if is_shut(found) {
+            pass.role = Role::Knocking;
+            return false;
+        }
+        true
     }
 
     pub(crate) fn go_out(&self, pass: &mut Pass)
