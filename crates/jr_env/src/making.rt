@@ -1,5 +1,5 @@
 //! The calls that make objects: a plain one, arrays and strings, each with a local reference to it.
-ghost use Rattle.std.specs.Prelude.{◌≡◌, ◌≢◌, ◌<◌, ◌^◌, ℕ, List, length, replicate, IfOk};
+ghost use Rattle.std.specs.Prelude.{◌≡◌, ◌≢◌, ℕ, List, length, replicate, IfOk};
 ghost use Rattle.jr_word.specs.declared.handle.RefKind.TheVariants.{Local};
 ghost use Rattle.jr_word.specs.declared.kind.Kind.TheVariants.{Plain, Text};
 ghost use Rattle.jr_model.specs.declared.event.Role.TheVariants.{Within};
@@ -155,7 +155,7 @@ pub struct StringMaking<'a> {
 }
 
 impl<S: Steps> Work<S> for StringMaking<'_> {
-    ghost use Rattle.std.specs.Prelude.{◌≡◌, ◌<◌, ◌^◌, length};
+    ghost use Rattle.std.specs.Prelude.{◌≡◌, length};
     ghost use Rattle.jr_word.specs.declared.handle.RefKind.TheVariants.{Local};
     ghost use Rattle.jr_word.specs.declared.kind.Kind.TheVariants.{Text};
     ghost use Rattle.jr_model.specs.References.{made};
@@ -163,7 +163,7 @@ impl<S: Steps> Work<S> for StringMaking<'_> {
 
     type Answer = HandleParts;
 
-    ghost can_work = { λ w. length w.units.now < 2 ^ 32 };
+    ghost can_work = { λ _. Unit {0} };
 
     ghost silent = { λ w c. making_steps (length w.units.now) c };
 
@@ -185,11 +185,10 @@ impl<S: Steps> Work<S> for StringMaking<'_> {
 }
 
 /// How many units there are.
-fn count(units: &[u16]) -> u32
-    requires { length units.now < 2 ^ 32 }
+fn count(units: &[u16]) -> u64
     ensures { result ≡ length units.now }
 {
-    units.len() as u32
+    units.len() as u64
 }
 
 /// Makes a string of these units, and a local reference to it.
@@ -200,7 +199,6 @@ fn make_string<S: Steps>(
     units: &[u16],
 ) -> Result<HandleParts, Fault>
     requires ready { StandsReady S.facts Within steps.old frames.old }
-    requires few { length units.now < 2 ^ 32 }
     ensures call { MakesArray S.facts steps.old steps.new frames.old.frames frames.new.frames Text units.now anything result }
     ensures same { KeepsOwner frames.old frames.new }
     ensures given { IfOk result (λ h. (h.kind ≡ Local) × (h.owner ≡ (S.facts steps.old).stands.thread)) }
@@ -232,7 +230,7 @@ fn make_array<S: Steps>(
     let Some(handle) = frames.next() else {
         return Err(Fault::LocalsFull);
     };
-    let range = reserve(steps, length)?;
+    let range = reserve(steps, u64::from(length))?;
     fill(steps, &range, word);
     refer(steps, frames, numbers, handle, kind, range)
 }

@@ -7,7 +7,6 @@ use jr_steps::Steps;
 use jr_word::{Elem, Fault, Handle};
 
 impl<S: Steps> Env<S> {
-    ghost use Rattle.std.specs.Prelude.{◌<◌, ◌^◌, length};
     ghost use Rattle.jr_env.specs.Envs.{Does};
     ghost use Rattle.jr_env.specs.Deeds.{new_plain, new_array, new_object_array, new_string};
 
@@ -83,7 +82,7 @@ impl<S: Steps> Env<S> {
         Ok(Handle::pack(made))
     }
 
-    /// Makes a string of these UTF-16 units, and a local reference to it. There have to be fewer than 2^32. (JNI Specification, chapter 4, "NewString")
+    /// Makes a string of these UTF-16 units, and a local reference to it. (JNI Specification, chapter 4, "NewString")
     ///
     /// # Errors
     ///
@@ -95,7 +94,6 @@ impl<S: Steps> Env<S> {
     ///
     /// At most 6, and one for each unit and for each object number of the room: its events (the entry, the exchange of the top, that of a header, the store of the local word, the exit), the look at the top, a store for each unit, and an exchange for each number that is found present. Without units nothing is reserved.
     pub fn new_string(&mut self, units: &[u16]) -> Result<Handle, Fault>
-        requires { length units.now < 2 ^ 32 }
         ensures { Does self.old self.new (new_string units.now) result }
     {
         let numbers = &mut self.numbers;

@@ -1,5 +1,5 @@
 -- Space is reserved by one look and one exchange.
-use Rattle.std.proofs.Common.{arith, ◌≡◌, ◌≢◌, ◌≤◌, ◌<◌, ◌+◌, ◌==◌, ℕ, zero, suc, false, cond, None, List, [], ◌∷◌, ◌++◌, length, Ok, Err, inl, inr, refl, sym, ap, subst, ◌∙◌}
+use Rattle.std.proofs.Common.{arith, ◌≡◌, ◌≢◌, ◌≤◌, ◌<◌, ◌+◌, ◌-◌, ◌==◌, ℕ, zero, suc, false, cond, None, List, [], ◌∷◌, ◌++◌, length, Ok, Err, inl, inr, refl, sym, ap, subst, ◌∙◌}
 use mathlib.Core.Logic.{∥∥₁_map}
 use Rattle.std.proofs.Math.Logic.{∥∥₁_elim}
 use Rattle.std.proofs.lemmas.List.{append-nil}
@@ -51,12 +51,13 @@ reserved_steps : (n : ℕ) (k l : Known) → n ≢ 0 → Takes 2 k l → Takes (
 reserved_steps zero k l some t = absurd (some refl)
 reserved_steps (suc n) k l some t = t
 
--- sums in wide numbers
-pub over : {u n w x y z : ℕ} → x ≡ u → y ≡ n → z ≡ w → z < x + y → w < u + n
-over p q r l = omega arith
+-- more words than are free do not fit beside those that are used, where none are free too
+pub over : (u : ℕ) {n w z free wide : ℕ} → wide ≡ free → free ≡ z - u → z ≡ w → wide < n → w < u + n
+over u p q r l = omega arith
 
-pub within : {u n w x y z : ℕ} → x ≡ u → y ≡ n → z ≡ w → x + y ≤ z → u + n ≤ w
-within p q r l = omega arith
+-- some words that are no more than are free do
+pub within : (u : ℕ) {n w z free wide : ℕ} → wide ≡ free → free ≡ z - u → z ≡ w → n ≢ 0 → n ≤ wide → u + n ≤ w
+within u p q r some l = omega arith
 
 -- the look does not fit, or it does
 named_full : (words n u : ℕ) → words < u + n → acts_of_top_load words (top.Full n) u ≡ ReserveFull n u ∷ []

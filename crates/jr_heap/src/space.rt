@@ -53,7 +53,7 @@ impl Range {
 /// # Operations
 ///
 /// Two, a look at the top and an exchange. One where the words don't fit, and none for no words.
-pub fn reserve<S: Steps>(steps: &mut S, words: u32) -> Result<Range, Fault>
+pub fn reserve<S: Steps>(steps: &mut S, words: u64) -> Result<Range, Fault>
     requires role { (S.facts steps.old).stands.role ≡ Within }
     ensures stands { (S.facts steps.new).stands ≡ (S.facts steps.old).stands }
     ensures ok { IfOk result (λ r. (size_of r ≡ words) × Called S.facts steps.old steps.new anything (λ j k. reservation words) (Ok tt) (by_steps (reserve_steps words) (Gains words (place_of r)))) }
@@ -66,13 +66,14 @@ pub fn reserve<S: Steps>(steps: &mut S, words: u32) -> Result<Range, Fault>
     }
     let space = steps.config().words;
     let used = steps.see_top(TopLoad::Full { words });
-    if u64::from(used) + u64::from(words) > u64::from(space) {
+    if words > u64::from(space.saturating_sub(used)) {
         return Err(Fault::SpaceFull(used));
     }
-    match steps.claim_top(used, words) {
+    let length = words as u32;
+    match steps.claim_top(used, length) {
         Ok(()) => Ok(Range {
             place: used,
-            length: words,
+            length,
         }),
         Err(found) => Err(Fault::Raced(used, found)),
     }

@@ -88,7 +88,7 @@ fn made<S: Steps>(
     ensures stands { (S.facts steps.new).stands ≡ (S.facts steps.old).stands }
     ensures object { IfOk result (λ o. MayKnow S.facts steps.new (HasKind o kind)) }
 {
-    let range = reserve(steps, length)?;
+    let range = reserve(steps, u64::from(length))?;
     fill(steps, &range, word);
     publish(steps, numbers, kind, range)
 }
@@ -593,7 +593,9 @@ fn refuses_too_many<S: Steps>(rt: &impl Abort, steps: &mut S)
 {
     let past = reserve(steps, 1_048_577);
     assert_eq!(rt; past.err(), Some(Fault::SpaceFull(0)));
-    let far_past = reserve(steps, u32::MAX);
+    let one_in_32_bits = reserve(steps, 4_294_967_297);
+    assert_eq!(rt; one_in_32_bits.err(), Some(Fault::SpaceFull(0)));
+    let far_past = reserve(steps, u64::MAX);
     assert_eq!(rt; far_past.err(), Some(Fault::SpaceFull(0)));
 }
 

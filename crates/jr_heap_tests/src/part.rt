@@ -39,7 +39,7 @@ fn made_array<S: Steps>(
     ensures kind { IfOk result (λ r. r.1.kind ≡ kind) }
     ensures long { IfOk result (λ r. r.1.length ≡ count) }
 {
-    let range = reserve(steps, count)?;
+    let range = reserve(steps, u64::from(count))?;
     fill(steps, &range, 0);
     let header = range.header(kind);
     let object = publish(steps, numbers, kind, range)?;
@@ -60,7 +60,7 @@ fn made_text<S: Steps>(
     ensures kind { IfOk result (λ r. r.1.kind ≡ Text) }
     ensures long { IfOk result (λ r. r.1.length ≡ count) }
 {
-    let range = reserve(steps, count)?;
+    let range = reserve(steps, u64::from(count))?;
     fill_from(steps, &range, units);
     let header = range.header(Kind::Text);
     let object = publish(steps, numbers, Kind::Text, range)?;

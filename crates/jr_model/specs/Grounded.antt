@@ -3,6 +3,7 @@ use Rattle.std.specs.Prelude.{◌≡◌, ◌⊎◌, ◌+◌, ◌<◌, ◌≤◌,
 use mathlib.Core.List.{IsPrefix}
 use Rattle.jr_word.specs.declared.config.Config.{Config}
 use Rattle.jr_word.specs.declared.handle.RefKind.{RefKind}
+use Rattle.jr_word.specs.declared.kind.Kind.{Kind}
 use Rattle.jr_word.specs.declared.fault.Fault.{Fault}
 use Rattle.jr_word.specs.declared.fault.Fault.TheVariants.{RowFull, SpaceFull, Barred, Busy}
 use Rattle.jr_model.specs.declared.event.Act.{Act}
@@ -53,7 +54,7 @@ abbrev pub IsItsStay : {A : Type 0} → PassView → PassView → Call A → Typ
 IsItsStay {A} old new call = (f g : Frames) (answer : Result A Fault) (r : Ran old new f g call answer)
     → ((answer ≡ Err Barred) × IsBehind old Knock r.begun × IsLastSeen new Withdraw) ⊎ (IsBehind old Enter r.begun × IsLastSeen new Leave)
 
--- each call that says what a reference is to, or what its object is like, and those that make and delete one
+-- each call that has a stay of its own: those at references, those that make an object, and those that look into one or write to it
 pub record CallsAreTheirStays (c : Config) (last thread : ℕ) (old new : PassView) : Type 0 where
   pub new_reference : (k : RefKind) (a : Word) → IsItsStay old new (references.new_reference c last thread k a)
   pub new_local_ref : (a : Word) → IsItsStay old new (references.new_local_ref c last thread a)
@@ -61,10 +62,21 @@ pub record CallsAreTheirStays (c : Config) (last thread : ℕ) (old new : PassVi
   pub delete_local_ref : (a : Word) → IsItsStay old new (references.delete_local_ref c last thread a)
   pub is_same_object : (a b : Word) → IsItsStay old new (references.is_same_object c last thread a b)
   pub get_object_ref_type : (a : Word) → IsItsStay old new (references.get_object_ref_type c last thread a)
+  pub pop_local_frame : (a : Word) → IsItsStay old new (references.pop_local_frame c last thread a)
+  pub free_locals : IsItsStay old new references.free_locals
   pub new_plain : IsItsStay old new (references.new_plain c last thread)
+  pub new_array : (k : Kind) (n : ℕ) → IsItsStay old new (references.new_array c last thread k n)
+  pub new_object_array : (n : ℕ) (a : Word) → IsItsStay old new (references.new_object_array c last thread n a)
+  pub new_string : (units : List ℕ) → IsItsStay old new (references.new_string c last thread units)
   pub kind_of : (a : Word) → IsItsStay old new (objects.kind_of c last thread (state new.seen) a)
   pub get_array_length : (a : Word) → IsItsStay old new (objects.get_array_length c last thread (state new.seen) a)
   pub get_string_length : (a : Word) → IsItsStay old new (objects.get_string_length c last thread (state new.seen) a)
+  pub get_object_array_element : (a : Word) (i : ℕ) → IsItsStay old new (objects.get_object_array_element c last thread (state new.seen) a i)
+  pub set_object_array_element : (a : Word) (i : ℕ) (b : Word) → IsItsStay old new (objects.set_object_array_element c last thread (state new.seen) a i b)
+  pub get_array_region : (k : Kind) (a : Word) (start n : ℕ) → IsItsStay old new (objects.get_array_region c last thread (state new.seen) k a start n)
+  pub set_array_region : (k : Kind) (a : Word) (start : ℕ) (vs : List ℕ) → IsItsStay old new (objects.set_array_region c last thread (state new.seen) k a start vs)
+  pub get_array_elements : (k : Kind) (a : Word) → IsItsStay old new (objects.get_array_elements c last thread (state new.seen) k a)
+  pub get_string_chars : (a : Word) → IsItsStay old new (objects.get_string_chars c last thread (state new.seen) a)
 
 -- a new reference that is refused for want of an index has a probe of each among its own acts
 abbrev pub EachIsProbed : Type 0

@@ -99,7 +99,7 @@ pub enum Act {
     },
     /// Finds no room for the words beside those that are used.
     ReserveFull {
-        words: u32,
+        words: u64,
         used: u32,
     },
     /// Finds another number of words used than was looked at.

@@ -27,5 +27,5 @@ pub enum TopLoad {
     /// Nothing but what others did.
     Look,
     /// A refusal of space, where this many words don't fit beside those that are reserved.
-    Full { words: u32 },
+    Full { words: u64 },
 }
