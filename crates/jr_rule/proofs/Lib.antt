@@ -8,7 +8,6 @@ pub mod GateSteps
 pub mod Looked
 pub mod Slots
 pub mod SlotSteps
-pub mod LostClaims
 pub mod Headers
 pub mod HeapSpaces
 pub mod MoveSpaces
