@@ -22,8 +22,7 @@ use Rattle.jr_rule.specs.Slots.{CanStand}
 use Rattle.jr_model.proofs.InRoom.{in_room}
 use Rattle.jr_rule.proofs.Looked.{looked_at}
 use Rattle.jr_rule.proofs.PlaceOwed.{optional_fits}
-use Rattle.jr_rule.proofs.SlotWords.{can_prop}
-use Rattle.jr_rule.proofs.Slots.{free_fits}
+use Rattle.jr_rule.proofs.Slots.{can_prop, free_fits}
 
 module _ (p : Pass) where
   -- a fact that may be known is one of what the pass knows

@@ -39,9 +39,8 @@ use Rattle.jr_rule.proofs.HeapSteps.{sees_there, reserves, publishes_own, reads,
 use Rattle.jr_rule.proofs.Headers.{header_some, header_positive}
 use Rattle.jr_rule.proofs.HeapSpaces.{elements_from, elements_length, none_beyond}
 use Rattle.jr_rule.proofs.Readings.{is_read, read_once}
-use Rattle.jr_rule.proofs.Obligations.{gaining, quiet, written as renamed, unwritten, won, lost}
+use Rattle.jr_rule.proofs.LegalSteps.{gaining, quiet, written as renamed, unwritten, won, lost, LegalStep, one_legal, none_legal}
 use Rattle.jr_rule.proofs.Told.{IsHeaderWord, SawHeader, Published, used_word, SawTop, ClaimedTop, SawElement, PutElement, PutOwn}
-use Rattle.jr_rule.proofs.LegalSteps.{LegalStep, one_legal, none_legal}
 
 -- a word of a kind is one without a choice: an element of an object array is 0, or else an object's number
 word_is : (s : State) (kind : Kind) (v : ℕ) → ∥ IsWord s kind v ∥₁ → IsWord s kind v

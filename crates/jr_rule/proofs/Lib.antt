@@ -1,4 +1,3 @@
-pub mod SlotWords
 pub mod Readings
 pub mod Spaces
 pub mod Images
@@ -27,7 +26,6 @@ pub mod Seats
 pub mod PassAfterStep
 pub mod StillSo
 pub mod Told
-pub mod Obligations
 pub mod GateOwed
 pub mod SlotOwed
 pub mod PlaceOwed

@@ -47,16 +47,14 @@ use Rattle.jr_rule.proofs.GateSteps.{gate_fits, gate_most, counted, shut_counted
 use Rattle.jr_rule.proofs.GateOwed.{enters, leaves, shuts, reopens, sees_gate}
 use Rattle.jr_rule.proofs.Looked.{looked_at}
 use Rattle.jr_rule.proofs.SlotOwed.{sees_slot, claims_slot, frees_slot}
-use Rattle.jr_rule.proofs.Slots.{free_fits}
-use Rattle.jr_rule.proofs.SlotWords.{some_reference, can_prop}
+use Rattle.jr_rule.proofs.Slots.{free_fits, some_reference, can_prop}
 use Rattle.jr_rule.proofs.PlaceOwed.{optional_fits, puts_local}
 use Rattle.jr_rule.proofs.HeapOwed.{header_read, top_is, sees_header, publishes_header, sees_top, claims_top, sees_element, puts_element, puts_own}
 use Rattle.jr_rule.proofs.CollectOwed.{scans_slot, scans_local, scans_header, scans_element, wiped_word, wipes_slot, drops_header, moves_element, places_header, settles_top}
-use Rattle.jr_rule.proofs.Obligations.{won, lost as unchanged}
+use Rattle.jr_rule.proofs.LegalSteps.{won, lost as unchanged, LegalStep}
 use Rattle.jr_rule.proofs.PlainTook.{stands_same, alone_here, turn_alone, Turned}
 use Rattle.jr_rule.proofs.Readings.{is_read, read_once}
 use Rattle.jr_rule.proofs.Told.{IsHeaderWord, SawHeader, used_word}
-use Rattle.jr_rule.proofs.LegalSteps.{LegalStep}
 
 module _ (LAST : ℕ) (few : LAST < 2 ^ 32) (p : PlainSteps LAST) where
   abbrev old : Standing

@@ -17,7 +17,7 @@ use Rattle.jr_steps.specs.Acts.{is_occupied, found_of, act_of_slot_load, SlotLoa
 use Rattle.jr_steps.specs.Knowing.{IsFreeSlot, view, HasObject, HasLooked}
 use Rattle.jr_steps.specs.Says.{StandsAs}
 use Rattle.jr_rule.specs.Image.{IsSlotOf, slot_at}
-use Rattle.jr_rule.proofs.Slots.{probes, slot_fits, shows_slot}
+use Rattle.jr_rule.proofs.Slots.{probes, slot_fits, shows_slot, reference_fits, can_prop}
 use Rattle.std.proofs.Math.Logic.{∥∥₁_elim}
 use Rattle.std.proofs.Props.{props}
 use mathlib.Core.Logic.{dite, ∥∥₁_map}
@@ -35,12 +35,11 @@ use Rattle.jr_steps.specs.declared.loads.SlotLoad.TheVariants as loads
 use Rattle.jr_rule.specs.Rule.{IsSized, known_at, Owes}
 use Rattle.jr_rule.specs.Slots.{IsReference, parts_once_free}
 use Rattle.jr_rule.proofs.StillSo.{now, role_at, present_now, looked_later}
-use Rattle.jr_rule.proofs.Obligations.{quiet, written, unwritten, won, lost}
+use Rattle.jr_rule.proofs.LegalSteps.{quiet, written, unwritten, won, lost}
 use Rattle.jr_rule.proofs.Looked.{IsLooked, looked_at}
 use Rattle.jr_rule.proofs.SlotSteps.{sees, claims, frees, frees_late}
 use Rattle.jr_rule.proofs.Told.{SawSlot, Claimed, Freed}
 use Rattle.jr_rule.proofs.ActEffects.{slot_load_state}
-use Rattle.jr_rule.proofs.SlotWords.{reference_fits, can_prop}
 
 -- from one moment to a later one of a legal history
 module _ (c : Config) (last : ℕ) (old new : History) (later : IsPrefix old new) (legal : IsLegal c last new) where

@@ -2,7 +2,7 @@ use Rattle.std.proofs.Common.{refl, ◌≡◌, Some, arith}
 use Rattle.jr_rule.proofs.PlainTook.{took, shown}
 use Rattle.jr_rule.proofs.PlainOwed.{claimed, lost, object_some}
 use Rattle.jr_rule.proofs.Unused.{unused_slot}
-use Rattle.jr_rule.proofs.SlotWords.{names_object}
+use Rattle.jr_rule.proofs.Slots.{names_object}
 use Rattle.jr_rule.proofs.plain.PlainStepsSteps.claim.Goals as goal
 
 pub returns-then-not-is_free : goal.returns-then-not-is_free

@@ -3,7 +3,7 @@ use Rattle.jr_word.specs.Slot.{slot_word}
 use Rattle.jr_rule.proofs.PlainTook.{took, shown}
 use Rattle.jr_rule.proofs.PlainOwed.{looked_can, looked_object, deleted, deleted_late}
 use Rattle.jr_rule.proofs.Unused.{unused_slot}
-use Rattle.jr_rule.proofs.SlotWords.{names_object}
+use Rattle.jr_rule.proofs.Slots.{names_object}
 use Rattle.jr_rule.proofs.plain.PlainStepsSteps.free.Goals as goal
 
 pub reference-requires : goal.reference-requires

@@ -9,7 +9,7 @@ use Rattle.jr_rule.proofs.SlotOwed.{claims_slot, claim_done}
 use Rattle.jr_rule.proofs.Told.{Claimed}
 use Rattle.jr_rule.proofs.PassAfterStep.{held_next, took}
 use Rattle.jr_rule.proofs.ActEffects.{claiming_role, claiming_fresh}
-use Rattle.jr_rule.proofs.SlotWords.{names_object}
+use Rattle.jr_rule.proofs.Slots.{names_object}
 use Rattle.jr_rule.proofs.row.Row.claim.Goals as goal
 
 pub pack-made-requires : goal.pack-made-requires

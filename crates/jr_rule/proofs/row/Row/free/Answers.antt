@@ -9,7 +9,7 @@ use Rattle.jr_rule.proofs.SlotOwed.{frees_slot, free_done}
 use Rattle.jr_rule.proofs.Told.{Freed}
 use Rattle.jr_rule.proofs.PassAfterStep.{held_next, took}
 use Rattle.jr_rule.proofs.ActEffects.{freeing_role, freeing_fresh}
-use Rattle.jr_rule.proofs.SlotWords.{names_object}
+use Rattle.jr_rule.proofs.Slots.{names_object}
 use Rattle.jr_rule.proofs.row.Row.free.Goals as goal
 
 pub reference-requires : goal.reference-requires
