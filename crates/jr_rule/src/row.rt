@@ -35,9 +35,9 @@ ghost use Rattle.jr_steps.specs.Holdings.{empty};
 ghost use Rattle.jr_rule.specs.Image.{header_at as place_of_header, element_at as place_of_element};
 ghost use Rattle.jr_rule.specs.Rule.{IsSized, sizes, known, view_of, newcomers, others_of, acting, IsAlone, IsSeated, Owes, Tells};
 
-use crate::layout::{first_element, first_header};
 use crate::pass::Pass;
 use crate::rule::{Deal, Rule, Sizes, Tell, Telling, View};
+use crate::words::{first_element, first_header};
 use atomic_table::{Seat, Table};
 use jr_model::Role;
 use jr_word::Config;
