@@ -27,9 +27,8 @@ use Rattle.jr_steps.specs.Collecting.{placed}
 use Rattle.jr_steps.specs.Holdings.{empty, words_at, header_in, without_header, with_header, with_move, move_of, HasDone, hold}
 use Rattle.jr_rule.specs.Image.{top_at, slot_at, header_at, element_at, IsTopOf, MayHold, AreHeld, IsIn, IsKnown, IsSpace, IsImage}
 use Rattle.jr_word.proofs.OneWord.{header_word-injective}
-use Rattle.jr_rule.proofs.HeapImages.{there}
-use Rattle.jr_rule.proofs.Images.{top_set, header_set, element_set, slot_set, with_space}
-use Rattle.jr_rule.proofs.HeapSpaces.{space_known}
+use Rattle.jr_rule.proofs.HeapImages.{there, known_is}
+use Rattle.jr_rule.proofs.Images.{top_set, header_set, element_set, slot_set}
 use Rattle.jr_rule.proofs.MoveSpaces.{space_moved, space_set, space_dropped, space_settled}
 use Rattle.jr_rule.proofs.Slots.{reference_is, stands_in, one_reference}
 use Rattle.jr_rule.proofs.Spaces.{hold_here, hold_else, header_stays}
@@ -85,25 +84,12 @@ module _ (c : Config) (last : ℕ) (log : History) (t : ℕ) (words : List ℕ) 
     only_own : (words' : List ℕ) → ((r : ℕ) (k : HeaderParts) → header_in r g'.headers ≡ Some k → IsKnown c words' r k) → (u r : ℕ) (k : HeaderParts) → header_in r (hold held t g' u).headers ≡ Some k → IsKnown c words' r k
     only_own words' mine u r k = held_at (λ u z. header_in r z.headers ≡ Some k → IsKnown c words' r k) (mine r k) (λ u ne e. absurd cc) u
 
-  -- a header that it knows is so
-  pub known_is : (o : ℕ) (h : HeaderParts) → header_in o g.headers ≡ Some h → IsKnown c words o h
-  known_is o h e = image.space.header t o h (ap (λ (z : Holdings). header_in o z.headers) is ∙ e)
-
   most : now.used ≤ c.words
   most = (lengths_fit c last log legal).1
 
   -- SETTING A HEADER: the header of each other object stays
   headers_else : (o w : ℕ) (r : ℕ) (k : HeaderParts) → 1 ≤ o → o ≢ r → IsKnown c words r k → IsKnown c (slice_set words (header_at c o) w) r k
   headers_else o w r k some ne z = record { number = z.number; fits = z.fits; word = get_or-set_other words (header_at c o) (header_at c r) w 0 (λ e. let a = z.number.0 in ne (omega arith)) ∙ z.word }
-
-  -- A HEADER IS KNOWN
-  pub knows_header : (o : ℕ) (h : HeaderParts) → IsKnown c words o h → LegalStep c last log t [] words (hold held t (with_header g o h))
-  knows_header o h known =
-      let g' : Holdings = with_header g o h in
-      let for : IsFor g' image.moving = record { moves = own.0; ranges = own.1 } in
-      none_legal c last log t words (hold held t g') legal
-      (with_space c last words now held image image.moving (hold held t g') (hands g' image.moving for)
-      (subst (λ (z : Holdings). IsSpace c words now.objects (IsIn now.used) image.moving (hold held t (with_header z o h))) is (space_known c words now.objects (IsIn now.used) image.moving held image.space t o h known)))
 
   -- A WEAK REFERENCE IS CLEARED
   pub wipes : (i serial o : ℕ) → i < c.slots → now.refs (handle_of Weak serial i) ≡ Object o → ¬ (IsReached now o)
@@ -139,7 +125,7 @@ module _ (c : Config) (last : ℕ) (log : History) (t : ℕ) (words : List ℕ) 
   moves o h place j v x knows done at value short room later free =
       let g' : Holdings = with_move g (Some (move_of o place (j + 1))) in
       let for : IsFor g' (Some (move_of o place (j + 1))) = record { moves = refl; ranges = own.1 } in
-      let known = known_is o h knows in
+      let known = known_is c last words now held image t g is o h knows in
       let z = there c last words now held image o h known in
       let q : x ≡ z.contents = let e = sym at ∙ z.is in cc in
       let long : length x.words ≡ h.length = ap (λ (y : Contents). length y.words) q ∙ z.long in
@@ -150,10 +136,10 @@ module _ (c : Config) (last : ℕ) (log : History) (t : ℕ) (words : List ℕ) 
       (subst (λ m. HasDone m o place j) own.0 done) short room (λ i l m. later i l (omega arith)) value
       (λ r y k ne some few is' good word i l.
       let f = free r y ne is' (omega arith) in
-      let same : f.0 ≡ k = header_is r f.0 k (known_is r f.0 f.1) good word in
+      let same : f.0 ≡ k = header_is r f.0 k (known_is c last words now held image t g is r f.0 f.1) good word in
       let long = long_is r y k is' good word some few in
       subst (λ (k : HeaderParts). k.place + i ≢ place + j) same (f.2 i (let e = ap (λ (k : HeaderParts). k.length) same in omega arith)))
-      (only_own g' (Some (move_of o place (j + 1))) for words' (λ r k e. let q = known_is r k e in record { number = q.number; fits = q.fits; word = get_or-set_other words (element_at c (place + j)) (header_at c r) v 0 (λ e. let a = q.number.1 in let b = q.number.0 in absurd (omega arith)) ∙ q.word }))))
+      (only_own g' (Some (move_of o place (j + 1))) for words' (λ r k e. let q = known_is c last words now held image t g is r k e in record { number = q.number; fits = q.fits; word = get_or-set_other words (element_at c (place + j)) (header_at c r) v 0 (λ e. let a = q.number.1 in let b = q.number.0 in absurd (omega arith)) ∙ q.word }))))
     where
       header_is : (r : ℕ) (a k : HeaderParts) → IsKnown c words r a → IsHeader k → get_or words (header_at c r) 0 ≡ header_word k → a ≡ k
       header_is r a k z good word = header_word-injective a k z.fits good (sym z.word ∙ word)
@@ -171,7 +157,7 @@ module _ (c : Config) (last : ℕ) (log : History) (t : ℕ) (words : List ℕ) 
       let new : HeaderParts = placed h place in
       let g' : Holdings = with_header (with_move g None) o new in
       let for : IsFor g' None = record { moves = refl; ranges = own.1 } in
-      let known = known_is o h knows in
+      let known = known_is c last words now held image t g is o h knows in
       let z = there c last words now held image o h known in
       let q : x ≡ z.contents = let e = sym at ∙ z.is in cc in
       let long : length x.words ≡ h.length = ap (λ (y : Contents). length y.words) q ∙ z.long in
@@ -188,7 +174,7 @@ module _ (c : Config) (last : ℕ) (log : History) (t : ℕ) (words : List ℕ) 
       (only_own g' None for words' (λ r k e. dite (ℕ_discrete o r)
       (λ s. let k_is : new ≡ k = let w = sym (ap (λ b. cond b (Some new) (header_in r g.headers)) (eq-eqb o r s)) ∙ e in cc in
       subst (λ (w : ℕ × HeaderParts). IsKnown c words' w.0 w.1) (λ i. (s i, k_is i)) (record { number = known.number; fits = fits; word = here }))
-      (λ ne. headers_else o (header_word new) r k known.number.0 ne (known_is r k (sym (ap (λ b. cond b (Some new) (header_in r g.headers)) (ne_eqb o r ne)) ∙ e)))))))))
+      (λ ne. headers_else o (header_word new) r k known.number.0 ne (known_is c last words now held image t g is r k (sym (ap (λ b. cond b (Some new) (header_in r g.headers)) (ne_eqb o r ne)) ∙ e)))))))))
     where
       -- an object that is put where it stands changes nothing
       same_at : (o : ℕ) (x : Contents) → now.objects o ≡ Some x → (r : ℕ) → update nat_eq now.objects o (Some x) r ≡ now.objects r
@@ -215,7 +201,7 @@ module _ (c : Config) (last : ℕ) (log : History) (t : ℕ) (words : List ℕ) 
       (space_dropped c words now.objects (IsIn now.used) image.moving held image.space image.wide (λ x l. omega (arith, l, most)) (hold held t g') (no_range g' image.moving for) o low high
       (only_own g' image.moving for words' (λ r k e. dite (ℕ_discrete o r)
       (λ s. absurd (let w = sym (ap (λ b. cond b None (header_in r g.headers)) (eq-eqb o r s)) ∙ e in cc))
-      (λ ne. headers_else o 0 r k low ne (known_is r k (sym (ap (λ b. cond b None (header_in r g.headers)) (ne_eqb o r ne)) ∙ e)))))))
+      (λ ne. headers_else o 0 r k low ne (known_is c last words now held image t g is r k (sym (ap (λ b. cond b None (header_in r g.headers)) (ne_eqb o r ne)) ∙ e)))))))
 
   -- THE TOP IS SET
   pub settles : (used w : ℕ) → used ≡ present_words c now → g.moving ≡ None → IsTopOf used w
@@ -229,7 +215,7 @@ module _ (c : Config) (last : ℕ) (log : History) (t : ℕ) (words : List ℕ) 
       (space_settled c words now.objects (IsIn now.used) image.moving held image.space image.wide (λ x l. omega (arith, l, most)) (hold held t g) (no_range g image.moving for) w (IsIn used) (λ y. nat_lt y used) (λ y l. lt-ltb y used l) (λ y e. grind (arith, nat_tests)) (sym own.0 ∙ settled)
       (λ r y k some few is' good word i l.
       let f = below r y is' (omega arith) in
-      let a = known_is r f.0 f.1 in
+      let a = known_is c last words now held image t g is r f.0 f.1 in
       let same : f.0 ≡ k = header_word-injective f.0 k a.fits good (sym a.word ∙ word) in
       let z = there c last words now held image r k (record { number = (some, few); fits = good; word = word }) in
       let q : y ≡ z.contents = let e = sym is' ∙ z.is in cc in
@@ -237,4 +223,4 @@ module _ (c : Config) (last : ℕ) (log : History) (t : ℕ) (words : List ℕ) 
       let p = ap (λ (k : HeaderParts). k.place) same in
       let n = ap (λ (k : HeaderParts). k.length) same in
       let m = f.2 in omega arith)
-      (only_own g image.moving for words' (λ r k e. let q = known_is r k e in record { number = q.number; fits = q.fits; word = header_stays c words top_at w (omega arith) r q.number.0 ∙ q.word }))))
+      (only_own g image.moving for words' (λ r k e. let q = known_is c last words now held image t g is r k e in record { number = q.number; fits = q.fits; word = header_stays c words top_at w (omega arith) r q.number.0 ∙ q.word }))))

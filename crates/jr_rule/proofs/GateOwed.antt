@@ -19,9 +19,8 @@ use Rattle.jr_rule.proofs.StillSo.{role_at, closed_now, moves_as_known}
 use Rattle.jr_rule.proofs.Images.{image_let_go}
 use Rattle.jr_rule.proofs.Spaces.{hold_here}
 use Rattle.jr_rule.proofs.GateSteps.{gate_fits, gate_most, shows_gate, goes_in, goes_out, counted, shut_counted, gate_seen, bars, bars_lost, unbars}
-use Rattle.jr_rule.proofs.Obligations.{quiet, gaining, written, unwritten, won, lost}
+use Rattle.jr_rule.proofs.LegalSteps.{quiet, gaining, written, unwritten, won, lost, one_legal}
 use Rattle.jr_rule.proofs.Told.{Entered, Left, Barred, Reopened, SawGate, Met}
-use Rattle.jr_rule.proofs.LegalSteps.{one_legal}
 use Rattle.jr_rule.proofs.ActEffects.{gate_load_state}
 
 -- who is within or knocking has no move unfinished

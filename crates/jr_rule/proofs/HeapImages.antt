@@ -48,9 +48,13 @@ module _ (c : Config) (last : ℕ) (words : List ℕ) (s : State) (held : ℕ �
             low = λ j l. let long = w.says.long in let kept = ap (λ (p : HeaderParts). p.length) same in image.space.low o x h known.number.0 known.number.1 e known.fits known.word j (omega arith);
           }
 
-  -- a header that a thread knows is the one that stands there
+  -- a header that a thread knows is so
+  pub known_is : (t : ℕ) (g : Holdings) → held t ≡ g → (o : ℕ) (h : HeaderParts) → header_in o g.headers ≡ Some h → IsKnown c words o h
+  known_is t g own o h e = image.space.header t o h (ap (λ (z : Holdings). header_in o z.headers) own ∙ e)
+
+  -- and is the one that stands there
   pub one_header : (t o : ℕ) (g : Holdings) → held t ≡ g → (h : HeaderParts) → IsKnown c words o h → (z : HeaderParts) → header_in o g.headers ≡ Some z → z ≡ h
-  one_header t o g own h known z e = let is = image.space.header t o z (subst (λ (y : Holdings). header_in o y.headers ≡ Some z) (sym own) e) in header_word-injective z h is.fits known.fits (sym is.word ∙ known.word)
+  one_header t o g own h known z e = let is = known_is t g own o z e in header_word-injective z h is.fits known.fits (sym is.word ∙ known.word)
 
   pub known_element : (o : ℕ) (h : HeaderParts) (i : ℕ) → IsKnown c words o h → i < h.length → h.place + i < s.used
   known_element o h i known l =

@@ -1,5 +1,5 @@
 -- What the steps of the heap owe, wherever they find the row.
-use Rattle.std.proofs.Common.{◌≡◌, ◌≢◌, ⊎_elim, inl, inr, ◌+◌, ◌<◌, ◌≤◌, ◌==◌, ◌^◌, ℕ, Bool, true, false, cond, nat_lt, Option, Some, None, IsSome, IfSome, List, [], ◌∷◌, length, get_or, slice_set, eqb, eq-eqb, ne_eqb, refl, sym, ap, subst, ◌∙◌, arith}
+use Rattle.std.proofs.Common.{◌≡◌, ◌≢◌, ◌⊎◌, ⊎_elim, inl, inr, ◌+◌, ◌<◌, ◌≤◌, ◌==◌, ◌^◌, ℕ, Bool, true, false, cond, nat_lt, Option, Some, None, IsSome, IfSome, List, [], ◌∷◌, length, get_or, slice_set, eqb, eq-eqb, ne_eqb, refl, sym, ap, subst, ◌∙◌, arith}
 use Rattle.std.proofs.lemmas.List.{append-nil}
 use Rattle.std.proofs.lemmas.Bool.Decides.{nat_tests}
 use Rattle.std.proofs.Math.Logic.{∥∥₁_elim}
@@ -15,12 +15,12 @@ use Rattle.jr_word.specs.Top.{top_word, IsTop}
 use Rattle.jr_word.specs.declared.kind.Kind.{Kind}
 use Rattle.jr_word.specs.declared.kind.Kind.TheVariants.{Plain, Boolean, Byte, Char, Short, Int, Long, Objects, Text}
 use Rattle.jr_word.specs.Header.{header_word, IsHeader, IsHeaderOrZero}
-use Rattle.jr_model.specs.declared.event.Role.TheVariants.{Within}
+use Rattle.jr_model.specs.declared.event.Role.TheVariants.{Within, Collecting}
 use Rattle.jr_model.specs.declared.event.Act.{Act}
 use Rattle.jr_model.specs.declared.event.Act.TheVariants.{New, Reserve, ReserveFull, ReserveLost, Read, Write}
 use Rattle.jr_model.specs.State.{Contents, State, IsPresent, IsWord, AreWords}
 use Rattle.jr_model.specs.declared.event.Role.{Role}
-use Rattle.jr_model.specs.History.{History, by, state, role_of, role_from}
+use Rattle.jr_model.specs.History.{by, state, role_of, role_from}
 use Rattle.jr_model.proofs.Histories.{state_push}
 use Rattle.jr_model.proofs.Lengths.{lengths_fit}
 use Rattle.jr_model.proofs.Updates.{at_number_self}
@@ -32,16 +32,16 @@ use Rattle.jr_steps.specs.Acts.{acts_of_publication}
 use Rattle.jr_steps.specs.Holdings.{words_at, with_range, with_header, hold}
 use Rattle.jr_rule.specs.Image.{top_at, header_at, element_at, IsIn, IsHeaderOf, IsKnown}
 use Rattle.jr_steps.specs.Knowing.{view, state_of, KnowsHeader, HasWord, IsWordNow, IsFilled, words_for, without_range_of, fresh_from, ShowsPublished}
-use Rattle.jr_rule.specs.Rule.{IsFound, Makes, Owes}
+use Rattle.jr_rule.specs.Rule.{Makes, Owes}
 use Rattle.jr_rule.proofs.StillSo.{role_at, present_now}
 use Rattle.jr_rule.proofs.HeapImages.{one_header, none_known}
-use Rattle.jr_rule.proofs.HeapSteps.{sees_there, reserves, publishes_own, reads, writes, puts_own as stores_own}
+use Rattle.jr_rule.proofs.HeapSteps.{reserves, publishes_own, reads, writes, puts_own as stores_own}
 use Rattle.jr_rule.proofs.Headers.{header_some, header_positive}
+use Rattle.jr_rule.proofs.LocalSteps.{knows_header}
 use Rattle.jr_rule.proofs.HeapSpaces.{elements_from, elements_length, none_beyond}
 use Rattle.jr_rule.proofs.Readings.{is_read, read_once}
-use Rattle.jr_rule.proofs.Obligations.{gaining, quiet, written as renamed, unwritten, won, lost}
+use Rattle.jr_rule.proofs.LegalSteps.{gaining, quiet, written as renamed, unwritten, won, lost, LegalStep, one_legal, none_legal}
 use Rattle.jr_rule.proofs.Told.{IsHeaderWord, SawHeader, Published, used_word, SawTop, ClaimedTop, SawElement, PutElement, PutOwn}
-use Rattle.jr_rule.proofs.LegalSteps.{LegalStep, one_legal, none_legal}
 
 -- a word of a kind is one without a choice: an element of an object array is 0, or else an object's number
 word_is : (s : State) (kind : Kind) (v : ℕ) → ∥ IsWord s kind v ∥₁ → IsWord s kind v
@@ -70,11 +70,9 @@ word_stays s s' Text v stay w = w
 word_stays s s' Objects v stay w = ⊎_elim (λ e. inl e) (λ p. inr (stay v p)) w
 
 module _ (k : Known) where
-  -- a load of a header, from the legal step after which the thread knows the one that stands there
-  pub loads_header : (o : ℕ) → 1 ≤ o → o ≤ k.config.objects
-      → ((log : History) (words : List ℕ) (held : ℕ → Holdings) → IsFound k log words held → (h : HeaderParts) → IsKnown k.config words o h → LegalStep k.config k.last log k.thread [] words (hold held k.thread (with_header k.holdings o h)))
-      → Owes k (header_at k.config o) (λ n. n) (SawHeader o k)
-  loads_header o low high turn log words held f = go ((state log).objects o) refl (f.image.header o low high)
+  -- a load of a header, by a thread within or one that collects
+  pub loads_header : (role_of (view k) ≡ Within) ⊎ (role_of (view k) ≡ Collecting) → (o : ℕ) → 1 ≤ o → o ≤ k.config.objects → Owes k (header_at k.config o) (λ n. n) (SawHeader o k)
+  loads_header inside o low high log words held f = go ((state log).objects o) refl (f.image.header o low high)
     where
       go : (z : Option Contents) → (state log).objects o ≡ z → IsHeaderOf z (get_or words (header_at k.config o) 0) → Makes k log (slice_set words (header_at k.config o) (get_or words (header_at k.config o) 0)) held (SawHeader o k (get_or words (header_at k.config o) 0))
       go None e w = quiet k log words held f _ (SawHeader o k (get_or words (header_at k.config o) 0)) []
@@ -84,12 +82,12 @@ module _ (k : Known) where
           let known : IsKnown k.config words o w.parts = record { number = (low, high); fits = w.fits; word = w.word } in
           let g = with_header k.holdings o w.parts in
           gaining k log _ held (SawHeader o k (get_or words (header_at k.config o) 0)) [] g
-          (unwritten k log words (hold held k.thread g) (header_at k.config o) (turn log words held f w.parts known))
+          (unwritten k log words (hold held k.thread g) (header_at k.config o) (knows_header k.config k.last log k.thread words f.legal held f.image (⊎_elim (λ e. inl (role_at k log words held f ∙ e)) (λ e. inr (role_at k log words held f ∙ e)) inside) k.holdings f.fits.holdings o w.parts known))
           (Some w.parts, (w.fits, w.word), refl, (record { contents = x; is = subst (λ l. (state l).objects o ≡ Some x) (sym (append-nil log)) e; says = w.says }, refl, one_header k.config k.last words (state log) held f.image k.thread o k.holdings f.fits.holdings w.parts known))
 
 module _ (k : Known) (within : role_of (view k) ≡ Within) where
   pub sees_header : (o : ℕ) → 1 ≤ o → o ≤ k.config.objects → Owes k (header_at k.config o) (λ n. n) (SawHeader o k)
-  sees_header o low high = loads_header k o low high (λ log words held f. sees_there k.config k.last log k.thread words f.legal held f.image f.fits.row (role_at k log words held f ∙ within) k.holdings f.fits.holdings o)
+  sees_header o low high = loads_header k (inl within) o low high
 
   pub sees_top : (name : TopLoad) → Owes k top_at (λ n. n) (SawTop name k)
   sees_top name log words held f =

@@ -18,11 +18,11 @@ use Rattle.jr_model.proofs.Updates.{at_number}
 use Rattle.jr_steps.specs.declared.known.Holdings.{Holdings}
 use Rattle.jr_steps.specs.Holdings.{words_at, header_in, with_range, with_header, hold}
 use Rattle.jr_steps.specs.Says.{spot}
-use Rattle.jr_rule.specs.Image.{top_at, header_at, element_at, MayHold, AreHeld, IsIn, IsTopOf, IsHeaderOf, IsKnown, IsSpace, IsImage}
+use Rattle.jr_rule.specs.Image.{top_at, header_at, element_at, MayHold, AreHeld, IsIn, IsTopOf, IsHeaderOf, IsSpace, IsImage}
 use Rattle.jr_steps.specs.Knowing.{without_range_of}
-use Rattle.jr_rule.proofs.HeapImages.{given_words, there, own_element, known_element, given_fit, space_headed}
-use Rattle.jr_rule.proofs.HeapSpaces.{elements_from, space_reserved, space_put, space_written, space_known}
-use Rattle.jr_rule.proofs.Images.{hands_held, top_set, element_set, with_space}
+use Rattle.jr_rule.proofs.HeapImages.{given_words, there, known_is, own_element, known_element, given_fit, space_headed}
+use Rattle.jr_rule.proofs.HeapSpaces.{elements_from, space_reserved, space_put, space_written}
+use Rattle.jr_rule.proofs.Images.{hands_held, top_set, element_set}
 use Rattle.jr_model.proofs.InRoom.{in_room}
 use Rattle.jr_rule.proofs.LocalSteps.{publishes}
 use Rattle.jr_rule.proofs.LegalSteps.{LegalStep, one_legal, none_legal}
@@ -55,12 +55,6 @@ module _ (c : Config) (last : ℕ) (log : History) (t : ℕ) (words : List ℕ) 
   held_still : AreHeld now.role None held
   held_still = subst (λ m. AreHeld now.role m held) unmoved image.hands
 
-  -- a load of a header that stands: it is known from now on
-  pub sees_there : (o : ℕ) (h : HeaderParts) → IsKnown c words o h → LegalStep c last log t [] words (hold held t (with_header g o h))
-  sees_there o h known = subst (λ (z : Holdings). LegalStep c last log t [] words (hold held t (with_header z o h))) is
-      (none_legal c last log t words (hold held t (with_header (held t) o h)) legal
-      (with_space c last words now held image image.moving (hold held t (with_header (held t) o h)) (holds (with_header (held t) o h) refl) (space_known c words now.objects (IsIn now.used) image.moving held image.space t o h known)))
-
   -- the top goes up, and the words between are the thread's own
   pub reserves : (n w : ℕ) → now.used + n ≤ c.words → IsTopOf (now.used + n) w → LegalStep c last log t (Reserve n ∷ []) (slice_set words top_at w) (hold held t (with_range g now.used (elements_from c words now.used n)))
   reserves n w room top =
@@ -79,12 +73,8 @@ module _ (c : Config) (last : ℕ) (log : History) (t : ℕ) (words : List ℕ) 
       (subst (λ (z : Holdings). IsSpace c (slice_set words (header_at c o) (header_word h)) (update nat_eq now.objects o (Some (record { kind = h.kind; words = given_words h z }))) (IsIn now.used) image.moving (hold held t (with_header (without_range_of h z) o h))) is
       (space_headed c last words now held image unmoved t o h low high fits none))
 
-  -- a header that the thread knows is so
-  pub known_is : (o : ℕ) (h : HeaderParts) → header_in o g.headers ≡ Some h → IsKnown c words o h
-  known_is o h e = image.space.header t o h (ap (λ (z : Holdings). header_in o z.headers) is ∙ e)
-
   pub known_below : (o : ℕ) (h : HeaderParts) (i : ℕ) → header_in o g.headers ≡ Some h → i < h.length → h.place + i < c.words
-  known_below o h i e l = let below = known_element c last words now held image o h i (known_is o h e) l in let most = (lengths_fit c last log legal).1 in omega arith
+  known_below o h i e l = let below = known_element c last words now held image o h i (known_is c last words now held image t g is o h e) l in let most = (lengths_fit c last log legal).1 in omega arith
 
   own_here : (p i : ℕ) → i < length (words_at p g.ranges) → i < length (words_at p (held t).ranges)
   own_here p i l = subst (λ (z : Holdings). i < length (words_at p z.ranges)) (sym is) l
@@ -95,7 +85,7 @@ module _ (c : Config) (last : ℕ) (log : History) (t : ℕ) (words : List ℕ) 
   -- a load of an element
   pub reads : (o : ℕ) (h : HeaderParts) (i : ℕ) → header_in o g.headers ≡ Some h → i < h.length → LegalStep c last log t (Read o i (get_or words (element_at c (h.place + i)) 0) ∷ []) words held
   reads o h i e l =
-      let x = there c last words now held image o h (known_is o h e) in
+      let x = there c last words now held image o h (known_is c last words now held image t g is o h e) in
       let long = x.long in
       let short : i < length x.contents.words = omega arith in
       one_legal c last log t words held legal (Read o i (get_or words (element_at c (h.place + i)) 0))
@@ -104,7 +94,7 @@ module _ (c : Config) (last : ℕ) (log : History) (t : ℕ) (words : List ℕ) 
   -- a store to an element
   pub writes : (o : ℕ) (h : HeaderParts) (i v : ℕ) → header_in o g.headers ≡ Some h → i < h.length → h.kind ≢ Text → IsWord now h.kind v → LegalStep c last log t (Write o i v ∷ []) (slice_set words (element_at c (h.place + i)) v) held
   writes o h i v e l kind word =
-      let known = known_is o h e in
+      let known = known_is c last words now held image t g is o h e in
       let x = there c last words now held image o h known in
       let long = x.long in
       let short : i < length x.contents.words = omega arith in

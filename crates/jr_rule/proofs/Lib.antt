@@ -1,4 +1,3 @@
-pub mod SlotWords
 pub mod Readings
 pub mod Spaces
 pub mod Images
@@ -8,7 +7,6 @@ pub mod GateSteps
 pub mod Looked
 pub mod Slots
 pub mod SlotSteps
-pub mod LostClaims
 pub mod Headers
 pub mod HeapSpaces
 pub mod MoveSpaces
@@ -28,7 +26,6 @@ pub mod Seats
 pub mod PassAfterStep
 pub mod StillSo
 pub mod Told
-pub mod Obligations
 pub mod GateOwed
 pub mod SlotOwed
 pub mod PlaceOwed

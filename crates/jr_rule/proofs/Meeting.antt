@@ -4,8 +4,7 @@ use Rattle.jr_model.specs.declared.event.Act.{Act}
 use Rattle.jr_steps.specs.declared.known.Known.{Known}
 use Rattle.jr_steps.specs.Holdings.{InSpace}
 use Rattle.jr_steps.specs.Knowing.{view}
-use Rattle.jr_rule.specs.Rule.{view_of as seats, EachFits, Sat, acting, others_of, Tells, IsAlone, together, first_alone}
-use Rattle.jr_rule.specs.Holding.{IsSeated}
+use Rattle.jr_rule.specs.Rule.{view_of as seats, EachFits, Sat, acting, others_of, Tells, IsAlone, IsSeated, together, first_alone}
 use Rattle.jr_rule.proofs.Seats.{joined_is}
 
 module _ (a b m : Sat) (alone : IsAlone a) (other : IsAlone b) (joined : m ≡ (together a.0 b.0, a.1)) where

@@ -12,8 +12,7 @@ use Rattle.jr_steps.specs.declared.known.Known.{Known}
 use Rattle.jr_rule.specs.declared.pass.Pass.{Pass}
 use Rattle.jr_steps.specs.Holdings.{InSpace}
 use Rattle.jr_steps.specs.Knowing.{IsOf, view, fresh_from, HasNoLocals, Goes, Took, TookWith}
-use Rattle.jr_rule.specs.Rule.{view_of as seats, Sat, acting, others_of, Tells}
-use Rattle.jr_rule.specs.Holding.{IsHeld}
+use Rattle.jr_rule.specs.Rule.{view_of as seats, Sat, acting, others_of, IsHeld, Tells}
 use Rattle.jr_rule.specs.Passes.{facts_of, known_of, standing_of}
 use Rattle.jr_steps.proofs.StepFacts.{goes_did}
 

@@ -14,7 +14,7 @@ use Rattle.jr_rule.specs.Image.{local_at}
 use Rattle.jr_steps.specs.Knowing.{view, HasOptional}
 use Rattle.jr_rule.specs.Rule.{Owes}
 use Rattle.jr_rule.proofs.StillSo.{role_at, present_now}
-use Rattle.jr_rule.proofs.Obligations.{quiet}
+use Rattle.jr_rule.proofs.LegalSteps.{quiet}
 use Rattle.jr_rule.proofs.LocalSteps.{puts}
 use Rattle.jr_rule.proofs.Told.{Put}
 

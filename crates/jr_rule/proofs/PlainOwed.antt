@@ -24,7 +24,6 @@ use Rattle.jr_model.specs.declared.event.Act.{Act}
 use Rattle.jr_model.specs.declared.event.Act.TheVariants.{Shut, ShutBusy, Reopen, Read, Write, Clear, Drop, Settle}
 use Rattle.jr_model.specs.State.{Handle}
 use Rattle.jr_model.specs.History.{History, state, role_after}
-use Rattle.jr_model.proofs.InRoom.{in_room}
 use Rattle.jr_model.proofs.Lengths.{lengths_fit}
 use Rattle.jr_model.proofs.Moments.{prefix_self}
 use Rattle.jr_steps.specs.declared.known.Known.{Known}
@@ -41,22 +40,19 @@ use Rattle.jr_rule.specs.Image.{top_at, slot_at, local_at, header_at, element_at
 use Rattle.jr_steps.specs.Knowing.{Standing, standing_after, MayKnow, anything, keeps, lets_go, CanReopen, ShowsGate, ShowsSlot, HasObject, HasOptional, HasLooked, IsFreeSlot, LostClaim, KnowsHeader, HasWord, IsWordNow, IsFilled, words_for, ShowsHeader, ShowsPublished, ShowsUsed, WasUsed, ShowsRange, ShowsWord}
 use Rattle.jr_rule.specs.Plain.{facts_over, alone, standing_alone, Shows}
 use Rattle.jr_rule.specs.Rule.{IsFound, IsSized, known, known_at, Makes}
-use Rattle.jr_rule.specs.Slots.{CanStand, IsReference, parts_once_free}
+use Rattle.jr_rule.specs.Slots.{IsReference, parts_once_free}
 use Rattle.jr_rule.proofs.ActEffects.{entered_fresh, left_role, left_fresh, gate_load_role, gate_load_fresh, slot_load_role, slot_load_fresh, putting_role, putting_spends, publishing_role, publishing_fresh, top_load_role, top_load_fresh}
 use Rattle.jr_rule.proofs.GateSteps.{gate_fits, gate_most, counted, shut_counted, nobody}
 use Rattle.jr_rule.proofs.GateOwed.{enters, leaves, shuts, reopens, sees_gate}
-use Rattle.jr_rule.proofs.Looked.{looked_at}
 use Rattle.jr_rule.proofs.SlotOwed.{sees_slot, claims_slot, frees_slot}
-use Rattle.jr_rule.proofs.Slots.{free_fits}
-use Rattle.jr_rule.proofs.SlotWords.{some_reference, can_prop}
-use Rattle.jr_rule.proofs.PlaceOwed.{optional_fits, puts_local}
+use Rattle.jr_rule.proofs.Slots.{free_fits, some_reference}
+use Rattle.jr_rule.proofs.PlaceOwed.{puts_local}
 use Rattle.jr_rule.proofs.HeapOwed.{header_read, top_is, sees_header, publishes_header, sees_top, claims_top, sees_element, puts_element, puts_own}
 use Rattle.jr_rule.proofs.CollectOwed.{scans_slot, scans_local, scans_header, scans_element, wiped_word, wipes_slot, drops_header, moves_element, places_header, settles_top}
-use Rattle.jr_rule.proofs.Obligations.{won, lost as unchanged}
+use Rattle.jr_rule.proofs.LegalSteps.{won, lost as unchanged, LegalStep}
 use Rattle.jr_rule.proofs.PlainTook.{stands_same, alone_here, turn_alone, Turned}
 use Rattle.jr_rule.proofs.Readings.{is_read, read_once}
 use Rattle.jr_rule.proofs.Told.{IsHeaderWord, SawHeader, used_word}
-use Rattle.jr_rule.proofs.LegalSteps.{LegalStep}
 
 module _ (LAST : ℕ) (few : LAST < 2 ^ 32) (p : PlainSteps LAST) where
   abbrev old : Standing
@@ -206,9 +202,6 @@ module _ (LAST : ℕ) (few : LAST < 2 ^ 32) (p : PlainSteps LAST) where
       let same = slot_word-injective s.0 q s.1 fits (sym s.2 ∙ is) in
       (s.3 ∙ ap (λ z. act_of_slot_load i name z ∷ []) same, (subst (λ z. ShowsSlot i z k') same s.4, s.5))))
 
-  pub object_some : {T : Known → Type 0} (o : ℕ) → MayKnow (facts_over old) words (λ k. HasObject o k × T k) → 0 < o
-  object_some o may = each (hlevel props) may (λ log g n h m. ((in_room p.config LAST log h.pass.legal).objects o m.0).0)
-
   pub claimed : (i at serial : ℕ) (kind : RefKind) (o : ℕ) (q : SlotParts) (w : ℕ) → at ≡ slot_at i → i < p.config.slots → kind ≢ Local → IsReference kind serial (Some o) q → (was : SlotParts) → get_or words (slot_at i) 0 ≡ slot_word was → was ≡ slot.Free serial → w ≡ slot_word q → p.role ≡ Within
       → Turned old words old (slice_set words at w) (λ k. act_of_claim i serial kind o (Ok tt) ∷ []) (λ k. HasObject o k × IsFreeSlot i serial k) (λ j k. LostClaim i (Ok tt) j k × keeps j k)
   claimed i at serial kind o q w place l global is was reads free word within =
@@ -232,12 +225,6 @@ module _ (LAST : ℕ) (few : LAST < 2 ^ 32) (p : PlainSteps LAST) where
       (s.3 ∙ ap (λ z. act_of_claim i serial kind o (Err z) ∷ []) same, (subst (λ z. LostClaim i (Err z) (own log g n) k') same (s.4 m.1), t.2))))
 
   module _ (a : Handle) (o : Option ℕ) where
-    pub looked_can : MayKnow (facts_over old) words (HasLooked a (found_of o)) → CanStand a.kind o
-    looked_can may = each (can_prop a.kind o) may (λ log g n h m. (looked_at p.config LAST a o (own log g n) h.pass.legal m).can)
-
-    pub looked_object : MayKnow (facts_over old) words (HasLooked a (found_of o)) → (x : ℕ) → o ≡ Some x → 0 < x
-    looked_object may x e = each (hlevel props) may (λ log g n h m. ((looked_at p.config LAST a o (own log g n) h.pass.legal m).object x e).0)
-
     pub deleted : (at : ℕ) (q : SlotParts) (w : ℕ) → at ≡ slot_at a.index → IsReference a.kind a.serial o q → get_or words at 0 ≡ slot_word q → w ≡ slot_word (parts_once_free LAST a.serial) → p.role ≡ Within
         → Turned old words old (slice_set words at w) (λ k. act_of_free a true ∷ []) (HasLooked a (found_of o)) keeps
     deleted at q w place is reads word within = owed (λ k. refl) (λ log g n h m.
@@ -255,9 +242,6 @@ module _ (LAST : ℕ) (few : LAST < 2 ^ 32) (p : PlainSteps LAST) where
         (λ done k' s. (s.1 other, s.2)))
 
   -- LOCAL WORDS
-  pub optional_few : (o : Option ℕ) → MayKnow (facts_over old) words (HasOptional o) → (x : ℕ) → o ≡ Some x → (0 < x) × (x < 2 ^ 16)
-  optional_few o may x e = each (hlevel props) may (λ log g n h m. optional_fits o (own log g n) h.pass.legal p.limited.objects.1 m x e)
-
   pub put : (i at : ℕ) (o : Option ℕ) (w : ℕ) → at ≡ local_at p.config 0 i → i < p.config.locals → w ≡ local_word (local_parts o) → p.role ≡ Within
       → Turned old words (standing_alone p.config LAST p.role false) (slice_set words at w) (λ k. act_of_put i o ∷ []) (HasOptional o) keeps
   put i at o w place l word within = owed (λ k. stands_same p.config LAST (putting_role i o p.role) (putting_spends i o p.fresh)) (λ log g n h m.
@@ -398,6 +382,3 @@ module _ (LAST : ℕ) (few : LAST < 2 ^ 32) (p : PlainSteps LAST) where
 
     pub there_few : (o : ℕ) (e : HeaderParts) (i : ℕ) → MayKnow (facts_over old) words (IsThere o e i) → e.place + i < p.config.words
     there_few o e i may = each (hlevel props) may (λ log g n h m. (h.space).elements o e m.0 i m.1)
-
-    pub move_few : (o : ℕ) (e : HeaderParts) (place i v : ℕ) → i < e.length → MayKnow (facts_over old) words (CanMove o e place i v) → place + i < p.config.words
-    move_few o e place i v short may = each (hlevel props) may (λ log g n h m. let below = m.room in let most = (lengths_fit p.config LAST log h.pass.legal).1 in omega arith)

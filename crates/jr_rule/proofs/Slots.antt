@@ -1,13 +1,15 @@
--- What the word of a slot tells.
-use Rattle.std.proofs.Common.{◌≡◌, ◌≢◌, inl, inr, ⊎_elim, ◌↔◌, ◌^◌, ◌<◌, ◌≤◌, ◌==◌, ℕ, Bool, true, false, cond, IsTrue, Option, Some, None, refl, sym, ap, subst, ◌∙◌, arith}
+-- What the word of a slot tells, and the parts of references.
+use Rattle.std.proofs.Common.{◌≡◌, ◌≢◌, ◌<◌, ℕ, Option, Some, None, refl, arith, ◌^◌, inl, inr, ⊎_elim, ◌↔◌, ◌≤◌, ◌==◌, Bool, true, false, cond, IsTrue, sym, ap, subst, ◌∙◌}
+use Rattle.std.proofs.Props.{props}
+use Rattle.jr_word.specs.declared.handle.RefKind.{RefKind}
+use Rattle.jr_rule.specs.Slots.{CanStand, IsReference}
+use Rattle.jr_word.specs.declared.slot.SlotParts.{SlotParts}
+use Rattle.jr_word.specs.Slot.{NamesObject, IsSlot, slot_word}
 use Rattle.jr_steps.specs.declared.known.Known.{Known}
 use Rattle.jr_steps.specs.Knowing.{IsFreeSlot, ShowsSlot, state_of}
 use Rattle.jr_word.specs.declared.config.Config.{Config}
-use Rattle.jr_word.specs.declared.handle.RefKind.{RefKind}
-use Rattle.jr_word.specs.declared.handle.RefKind.TheVariants.{Global, Weak}
-use Rattle.jr_word.specs.declared.slot.SlotParts.{SlotParts}
+use Rattle.jr_word.specs.declared.handle.RefKind.TheVariants.{Local, Global, Weak}
 use Rattle.jr_word.specs.declared.slot.SlotParts.TheVariants as slot
-use Rattle.jr_word.specs.Slot.{slot_word, IsSlot}
 use Rattle.jr_word.proofs.OneWord.{slot_word-injective}
 use Rattle.jr_model.specs.declared.event.Found.{Found}
 use Rattle.jr_model.specs.declared.event.Found.TheVariants.{Object, Cleared, Stale}
@@ -19,8 +21,34 @@ use Rattle.jr_model.proofs.Presence.{sound_state}
 use Rattle.jr_steps.specs.Acts.{found_of, is_its, reply, is_occupied, handle_of}
 use Rattle.jr_steps.specs.Says.{StandsAlone, StandsAs, SaysOfSlot}
 use Rattle.jr_rule.specs.Image.{IsSlotOf}
-use Rattle.jr_rule.specs.Slots.{IsReference}
 use Rattle.jr_model.proofs.InRoom.{in_room}
+
+-- the parts of a reference are those that a slot can have
+pub names_object : (kind : RefKind) (n : ℕ) (o : Option ℕ) (p : SlotParts) → IsReference kind n o p → ((x : ℕ) → o ≡ Some x → 0 < x) → NamesObject p
+names_object kind n o (slot.Free m) is some = absurd is
+names_object kind n o (slot.Retired m) is some = absurd is
+names_object kind n o (slot.Global m r) is some = some r is.2
+names_object kind n o (slot.Weak m None) is some = tt
+names_object kind n o (slot.Weak m (Some r)) is some = some r is.2
+
+pub reference_fits : (kind : RefKind) (n : ℕ) (o : Option ℕ) (p : SlotParts) → IsReference kind n o p → n < 2 ^ 32 → ((x : ℕ) → o ≡ Some x → (0 < x) × (x < 2 ^ 16)) → IsSlot p
+reference_fits kind n o (slot.Free m) is l some = absurd is
+reference_fits kind n o (slot.Retired m) is l some = absurd is
+reference_fits kind n o (slot.Global m r) is l some = let x = some r is.2 in let e = is.1 in record { serial = omega arith; object = x.1; names = x.0 }
+reference_fits kind n o (slot.Weak m None) is l some = let e = is.1 in record { serial = omega arith; object = omega arith; names = tt }
+reference_fits kind n o (slot.Weak m (Some r)) is l some = let x = some r is.2 in let e = is.1 in record { serial = omega arith; object = x.1; names = x.0 }
+
+-- each global or weak reference to an object has parts
+pub some_reference : (kind : RefKind) (n o : ℕ) → kind ≢ Local → (p : SlotParts) × IsReference kind n (Some o) p
+some_reference Local n o global = absurd (global refl)
+some_reference Global n o global = (slot.Global n o, (refl, refl, refl))
+some_reference Weak n o global = (slot.Weak n (Some o), (refl, refl, refl))
+
+pub can_prop : (kind : RefKind) (o : Option ℕ) → IsProp (CanStand kind o)
+can_prop Local o = hlevel props
+can_prop Global None = hlevel props
+can_prop Global (Some o) = hlevel props
+can_prop Weak o = hlevel props
 
 same_handles : (k k' : RefKind) (n n' i i' o o' : ℕ) → k ≡ k' → n ≡ n' → i ≡ i' → o ≡ o'
     → ◌≡◌ {A = Handle} (record { kind = k; serial = n; index = i; owner = o }) (record { kind = k'; serial = n'; index = i'; owner = o' })

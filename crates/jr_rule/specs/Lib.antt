@@ -3,7 +3,6 @@ pub mod Slots
 pub mod Shown
 pub mod Plain
 pub mod Rule
-pub mod Holding
 pub mod Passes
 pub mod PassLaws
 pub mod Rooms

@@ -1,5 +1,5 @@
 -- THE RULE OF THE ROW: its words are the image of the machine's state after one legal history, the longest that any pass has seen, and each pass has seen a beginning of it, with all its own events.
-use Rattle.std.specs.Prelude.{◌≡◌, ◌+◌, ◌<◌, ◌^◌, ◌==◌, ℕ, zero, suc, true, cond, List, [], ◌∷◌, ◌++◌, map, slice_index, slice_set}
+use Rattle.std.specs.Prelude.{◌≡◌, ◌+◌, ◌<◌, ◌^◌, ◌==◌, ℕ, zero, suc, Bool, true, cond, List, [], ◌∷◌, ◌++◌, map, slice_index, slice_set}
 use mathlib.Core.List.{IsPrefix}
 use mathlib.Core.Option.{some}
 use lib.ListN.{get_elem?}
@@ -7,14 +7,15 @@ use Rattle.atomic_table.specs.Table.{State as Table, Me}
 use Rattle.jr_word.specs.declared.config.Config.{Config}
 use Rattle.jr_word.specs.Config.{in_limits, IsLimited}
 use Rattle.jr_model.specs.declared.event.Act.{Act}
-use Rattle.jr_model.specs.History.{History, by, state, IsLegal, mine}
+use Rattle.jr_model.specs.declared.event.Role.{Role}
+use Rattle.jr_model.specs.History.{History, by, state, IsLegal, mine, role_of}
 use Rattle.jr_steps.specs.declared.known.Known.{Known}
 use Rattle.jr_rule.specs.declared.rule.View.{View}
 use Rattle.jr_rule.specs.declared.rule.Sizes.{Sizes}
 use Rattle.jr_steps.specs.declared.known.Holdings.{Holdings}
 use Rattle.jr_steps.specs.Holdings.{InSpace, empty, hold}
 use Rattle.jr_rule.specs.Image.{IsImage}
-use Rattle.jr_steps.specs.Knowing.{Goes}
+use Rattle.jr_steps.specs.Knowing.{Goes, view, HasNoLocals}
 
 abbrev pub sizes : Config → ℕ → Sizes
 sizes c last = record { config = c; last = last }
@@ -97,6 +98,23 @@ acting m = first_of m.0.passes
 -- a seat of one pass
 abbrev pub IsAlone : Sat → Type 0
 IsAlone m = m ≡ (view_of (acting m ∷ []), [])
+
+-- the seat has a pass to step, and no slots
+abbrev pub IsSeated : Sat → Type 0
+IsSeated m = m ≡ (view_of (acting m ∷ others_of m.0.passes), [])
+
+-- WHAT A PASS HOLDS beside its seat: it sits alone, its thread, role and freshness are those of what it knows, and its hint is one of its room's slots
+pub record IsHeld (m : Sat) (thread : ℕ) (role : Role) (fresh : Bool) (hint : ℕ) : Type 0 where
+  pub alone : IsAlone m
+  pub thread_is : (acting m).thread ≡ thread
+  pub role_is : role_of (view (acting m)) ≡ role
+  pub legal : ∥ IsLegal (acting m).config (acting m).last (acting m).seen ∥₁
+  pub sized : IsSized (acting m).config (acting m).last
+  pub row : thread < (acting m).config.threads
+  pub few : thread < 64
+  pub unused : fresh ≡ true → HasNoLocals (acting m)
+  pub space : InSpace (acting m).config (acting m).holdings
+  pub below : hint < (acting m).config.slots
 
 -- WHAT A STEP TELLS: its pass has then seen what it had, what others did since, and last the step's acts, none or one; and this holds of the number that it found
 pub record Tells (told : Known → ℕ → List Act → Known → Type 0) (m : Sat) (n : ℕ) (m' : Sat) : Type 0 where

@@ -2,11 +2,11 @@
 ghost use Rattle.std.specs.Prelude.{◌≡◌, length, IfOk, IfErr};
 ghost use Rattle.std.specs.Slots.{slots_items, slots_len, IsFull};
 
-use crate::parts::all_counted;
 use crate::pass::Pass;
 use crate::room::Room;
 use crate::row::Row;
 use crate::summing::{Words, summary};
+use crate::words::all_counted;
 use atomic_table::Closed;
 use jr_model::Summary;
 use jr_steps::GateLoad;

@@ -5,12 +5,12 @@ ghost use Rattle.jr_steps.specs.Knowing.{state_of};
 ghost use Rattle.std.specs.Slots.{slots_items, slots_len, IsFull};
 
 use crate::closing::{ClosedWords, Left};
-use crate::parts::all_counted;
 use crate::pass::Pass;
 use crate::room::Room;
 use crate::row::Row;
 use crate::rule::{Gather, View};
 use crate::summing::summary;
+use crate::words::all_counted;
 use atomic_table::Seat;
 use jr_model::Summary;
 use jr_steps::GateLoad;

@@ -6,11 +6,10 @@ ghost use Rattle.jr_model.specs.History.{HasMet};
 ghost use Rattle.jr_steps.specs.Acts.{act_of_entry, act_of_exit, act_of_bar, act_of_gate_load, GateLoadFits, all_counted as all_of};
 ghost use Rattle.jr_steps.specs.Knowing.{view, anything, Goes, CanReopen, ShowsBarred, ShowsGate, MayKnow, Took, keeps, lets_go};
 
-use crate::layout::GATE;
-use crate::parts::{all_counted, is_shut};
 use crate::pass::Pass;
 use crate::row::Row;
 use crate::rule::{Gather, Part};
+use crate::words::{GATE, all_counted, is_shut};
 use jr_model::Role;
 use jr_steps::GateLoad;
 use jr_word::{GateParts, GateWord};

@@ -8,10 +8,9 @@ ghost use Rattle.jr_steps.specs.Acts.{acts_of_publication, acts_of_top_load, act
 ghost use Rattle.jr_rule.specs.Image.{element_at};
 ghost use Rattle.jr_steps.specs.Knowing.{anything, keeps, KnowsHeader, HasWord, IsWordNow, IsFilled, words_for, ShowsHeader, ShowsPublished, ShowsUsed, WasUsed, ShowsRange, ShowsWord, MayKnow, SawPart, Took, TookWith};
 
-use crate::layout::TOP;
-use crate::parts::top_word;
 use crate::pass::Pass;
 use crate::row::Row;
+use crate::words::{TOP, top_word};
 use jr_steps::TopLoad;
 use jr_word::{Elem, Header, HeaderParts, TopWord};
 use std::marker::Brand;

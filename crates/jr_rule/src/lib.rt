@@ -6,9 +6,7 @@ mod closing_all;
 mod collect_steps;
 mod gate_steps;
 mod heap_steps;
-mod layout;
 mod local_steps;
-mod parts;
 mod pass;
 mod plain;
 mod room;
@@ -17,6 +15,7 @@ mod row;
 mod rule;
 mod slot_steps;
 mod summing;
+mod words;
 
 pub use closing::Left;
 pub use closing_all::AllLeft;

@@ -4,10 +4,9 @@ ghost use Rattle.jr_model.specs.declared.event.Role.TheVariants.{Within};
 ghost use Rattle.jr_steps.specs.Acts.{act_of_put};
 ghost use Rattle.jr_steps.specs.Knowing.{HasOptional, MayKnow, Took, keeps};
 
-use crate::layout::local_at;
-use crate::parts::local_parts;
 use crate::pass::Pass;
 use crate::row::Row;
+use crate::words::{local_at, local_parts};
 use jr_word::LocalWord;
 use std::marker::Brand;
 

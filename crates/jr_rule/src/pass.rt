@@ -1,5 +1,5 @@
 //! A thread's right to step.
-ghost use Rattle.jr_rule.specs.Holding.{IsHeld};
+ghost use Rattle.jr_rule.specs.Rule.{IsHeld};
 
 use crate::rule::View;
 use atomic_table::Seat;

@@ -11,11 +11,11 @@ ghost use Rattle.jr_steps.specs.Knowing.{anything, MayKnow, HasNoLocals};
 ghost use Rattle.jr_steps.specs.declared.known.Known.{Known};
 ghost use Rattle.jr_rule.specs.Plain.{facts_over, facts_from, standing_alone, Shows, IsUnused};
 
-use crate::layout::{GATE, TOP, element_at, header_at, local_at, slot_at};
-use crate::parts::{
-    all_counted, freed_slot, is_free, is_shut, local_parts, reference, role_of_entry, top_word,
-};
 use crate::summing::summary;
+use crate::words::{
+    GATE, TOP, all_counted, element_at, freed_slot, header_at, is_free, is_shut, local_at,
+    local_parts, reference, role_of_entry, slot_at, top_word,
+};
 use jr_model::{Role, Summary};
 use jr_steps::{GateLoad, SlotLoad, Steps, TopLoad};
 use jr_word::{

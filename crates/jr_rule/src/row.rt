@@ -33,11 +33,11 @@ ghost use Rattle.jr_word.specs.Config.{in_limits, row_words};
 ghost use Rattle.jr_model.specs.declared.event.Role.TheVariants.{Outside};
 ghost use Rattle.jr_steps.specs.Holdings.{empty};
 ghost use Rattle.jr_rule.specs.Image.{header_at as place_of_header, element_at as place_of_element};
-ghost use Rattle.jr_rule.specs.Rule.{IsSized, sizes, known, view_of, newcomers, others_of, acting, IsAlone, Owes, Tells};
+ghost use Rattle.jr_rule.specs.Rule.{IsSized, sizes, known, view_of, newcomers, others_of, acting, IsAlone, IsSeated, Owes, Tells};
 
-use crate::layout::{first_element, first_header};
 use crate::pass::Pass;
 use crate::rule::{Deal, Rule, Sizes, Tell, Telling, View};
+use crate::words::{first_element, first_header};
 use atomic_table::{Seat, Table};
 use jr_model::Role;
 use jr_word::Config;
@@ -63,7 +63,6 @@ pub struct Row {
 
 impl Row {
     ghost use Rattle.jr_rule.specs.Passes.{AreOpened, IsOpened};
-    ghost use Rattle.jr_rule.specs.Holding.{IsSeated};
 
     /// A row of zeros, with one pass a thread, from thread 0 upward.
     pub(crate) fn open(

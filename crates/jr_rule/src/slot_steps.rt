@@ -5,10 +5,9 @@ ghost use Rattle.jr_model.specs.declared.event.Role.TheVariants.{Within};
 ghost use Rattle.jr_steps.specs.Acts.{act_of_slot_load, SlotLoadFits, act_of_claim, act_of_free, found_of};
 ghost use Rattle.jr_steps.specs.Knowing.{anything, HasObject, HasLooked, IsFreeSlot, ShowsSlot, LostClaim, MayKnow, Took, keeps};
 
-use crate::layout::slot_at;
-use crate::parts::{freed_slot, reference};
 use crate::pass::Pass;
 use crate::row::Row;
+use crate::words::{freed_slot, reference, slot_at};
 use jr_steps::SlotLoad;
 use jr_word::{HandleParts, RefKind, SlotParts, SlotWord};
 use std::marker::Brand;

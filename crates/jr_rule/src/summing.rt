@@ -5,8 +5,7 @@ ghost use Rattle.jr_model.specs.State.{references, summary as summary_of};
 ghost use Rattle.jr_model.specs.History.{History, state};
 ghost use Rattle.jr_rule.specs.Shown.{IsHistoryOf, HasHistory};
 
-use crate::layout::{TOP, header_at, slot_at};
-use crate::parts::is_reference;
+use crate::words::{TOP, header_at, is_reference, slot_at};
 use jr_model::Summary;
 use jr_word::{Config, RefKind, SlotWord, TopWord};
 

@@ -1,8 +1,10 @@
 use Rattle.std.proofs.Common.{refl, ◌≡◌, Some, arith}
+use Rattle.jr_rule.specs.Plain.{facts_over, standing_alone}
 use Rattle.jr_rule.proofs.PlainTook.{took, shown}
-use Rattle.jr_rule.proofs.PlainOwed.{claimed, lost, object_some}
+use Rattle.jr_rule.proofs.PlainOwed.{claimed, lost}
+use Rattle.jr_rule.proofs.FromMayKnow.{object_some}
 use Rattle.jr_rule.proofs.Unused.{unused_slot}
-use Rattle.jr_rule.proofs.SlotWords.{names_object}
+use Rattle.jr_rule.proofs.Slots.{names_object}
 use Rattle.jr_rule.proofs.plain.PlainStepsSteps.claim.Goals as goal
 
 pub returns-then-not-is_free : goal.returns-then-not-is_free
@@ -15,7 +17,7 @@ returns-then-not-is_free g c =
 pub pack-made-requires : goal.pack-made-requires
 pack-made-requires g c =
     let s = c.args.self.now in
-    let some = object_some g.row.LAST (omega arith) s c.args.object c.requires.looked in
+    let some = object_some (facts_over (standing_alone s.config g.row.LAST s.role s.fresh)) (λ z k h. h.pass) s.words.items c.args.object c.requires.looked in
     names_object c.args.kind c.args.serial (Some c.args.object) c.reference.result c.reference.ensures (λ x e. let same : c.args.object ≡ x = cc in omega arith)
 
 pub returns : goal.returns

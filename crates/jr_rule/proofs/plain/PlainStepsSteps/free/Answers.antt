@@ -1,21 +1,23 @@
 use Rattle.std.proofs.Common.{refl, ◌∙◌, ap, sym, arith}
 use Rattle.jr_word.specs.Slot.{slot_word}
+use Rattle.jr_rule.specs.Plain.{facts_over, standing_alone}
 use Rattle.jr_rule.proofs.PlainTook.{took, shown}
-use Rattle.jr_rule.proofs.PlainOwed.{looked_can, looked_object, deleted, deleted_late}
+use Rattle.jr_rule.proofs.PlainOwed.{deleted, deleted_late}
+use Rattle.jr_rule.proofs.FromMayKnow.{looked_can, looked_object}
 use Rattle.jr_rule.proofs.Unused.{unused_slot}
-use Rattle.jr_rule.proofs.SlotWords.{names_object}
+use Rattle.jr_rule.proofs.Slots.{names_object}
 use Rattle.jr_rule.proofs.plain.PlainStepsSteps.free.Goals as goal
 
 pub reference-requires : goal.reference-requires
 reference-requires g c =
     let s = c.args.self.now in
-    looked_can g.row.LAST (omega arith) s c.args.handle c.args.object c.requires.looked
+    looked_can (facts_over (standing_alone s.config g.row.LAST s.role s.fresh)) (λ z k h. h.pass) s.words.items c.args.handle c.args.object c.requires.looked
 
 pub pack-looked-requires : goal.pack-looked-requires
 pack-looked-requires g c =
     let s = c.args.self.now in
     names_object c.args.handle.kind c.args.handle.serial c.args.object c.reference.result c.reference.ensures
-    (looked_object g.row.LAST (omega arith) s c.args.handle c.args.object c.requires.looked)
+    (looked_object (facts_over (standing_alone s.config g.row.LAST s.role s.fresh)) (λ z k h. h.pass) s.words.items c.args.handle c.args.object c.requires.looked)
 
 pub returns-then-word-looked : goal.returns-then-word-looked
 returns-then-word-looked g c =

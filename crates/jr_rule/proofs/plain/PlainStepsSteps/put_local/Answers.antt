@@ -1,7 +1,9 @@
 use Rattle.std.proofs.Common.{refl, ◌∙◌, ap, sym, subst, arith}
 use Rattle.jr_word.specs.Local.{local_word, IsLocalPlace}
+use Rattle.jr_rule.specs.Plain.{facts_over, standing_alone}
 use Rattle.jr_rule.proofs.PlainTook.{took, shown}
-use Rattle.jr_rule.proofs.PlainOwed.{optional_few, put}
+use Rattle.jr_rule.proofs.PlainOwed.{put}
+use Rattle.jr_rule.proofs.FromMayKnow.{optional_few}
 use Rattle.jr_rule.proofs.LocalSteps.{place_fits}
 use Rattle.jr_rule.proofs.plain.PlainStepsSteps.put_local.Goals as goal
 
@@ -9,7 +11,7 @@ pub pack-requires : goal.pack-requires
 pack-requires g c =
     let s = c.args.self.now in
     subst (λ p. IsLocalPlace p) (sym c.local_parts.ensures)
-    (place_fits c.args.object (optional_few g.row.LAST (omega arith) s c.args.object c.requires.object))
+    (place_fits c.args.object (optional_few (facts_over (standing_alone s.config g.row.LAST s.role s.fresh)) (λ z k h. h.pass) s.words.items c.args.object c.requires.object s.limited.objects.1))
 
 pub returns : goal.returns
 returns g c =

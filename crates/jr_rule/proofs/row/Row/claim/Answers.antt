@@ -2,19 +2,19 @@ use Rattle.std.proofs.Common.{◌≡◌, ℕ, Some, Err, [], ◌∷◌, refl, sy
 use prog.Atomic.{either}
 use Rattle.jr_steps.specs.Acts.{act_of_claim}
 use Rattle.jr_steps.specs.Knowing.{LostClaim}
-use Rattle.jr_rule.specs.Passes.{known_of}
+use Rattle.jr_rule.specs.Passes.{facts_of, known_of}
 use Rattle.jr_rule.specs.Rule.{Owes}
 use Rattle.jr_rule.proofs.FromMayKnow.{object_known, object_some, serial_fits}
 use Rattle.jr_rule.proofs.SlotOwed.{claims_slot, claim_done}
 use Rattle.jr_rule.proofs.Told.{Claimed}
 use Rattle.jr_rule.proofs.PassAfterStep.{held_next, took}
 use Rattle.jr_rule.proofs.ActEffects.{claiming_role, claiming_fresh}
-use Rattle.jr_rule.proofs.SlotWords.{names_object}
+use Rattle.jr_rule.proofs.Slots.{names_object}
 use Rattle.jr_rule.proofs.row.Row.claim.Goals as goal
 
 pub pack-made-requires : goal.pack-made-requires
 pack-made-requires c =
-    let some = object_some c.args.pass.now c.args.object c.requires.looked in
+    let some = object_some facts_of (λ p k h. h.pass) c.args.pass.now c.args.object c.requires.looked in
     names_object c.args.kind c.args.serial (Some c.args.object) c.reference.result c.reference.ensures (λ x e. let same : c.args.object ≡ x = cc in omega arith)
 
 pub exchange-found-requires-clause-owes : goal.exchange-found-requires-clause-owes

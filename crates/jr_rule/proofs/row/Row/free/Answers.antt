@@ -1,7 +1,7 @@
 use Rattle.std.proofs.Common.{◌≡◌, ◌==◌, ℕ, refl, sym, ap, subst, ◌∙◌, eqb}
 use prog.Atomic.{either}
 use Rattle.jr_word.specs.Slot.{slot_word}
-use Rattle.jr_rule.specs.Passes.{known_of}
+use Rattle.jr_rule.specs.Passes.{facts_of, known_of}
 use Rattle.jr_rule.specs.Rule.{Owes}
 use Rattle.jr_rule.specs.Slots.{parts_once_free}
 use Rattle.jr_rule.proofs.FromMayKnow.{of_pass, looked_can, looked_object}
@@ -9,14 +9,14 @@ use Rattle.jr_rule.proofs.SlotOwed.{frees_slot, free_done}
 use Rattle.jr_rule.proofs.Told.{Freed}
 use Rattle.jr_rule.proofs.PassAfterStep.{held_next, took}
 use Rattle.jr_rule.proofs.ActEffects.{freeing_role, freeing_fresh}
-use Rattle.jr_rule.proofs.SlotWords.{names_object}
+use Rattle.jr_rule.proofs.Slots.{names_object}
 use Rattle.jr_rule.proofs.row.Row.free.Goals as goal
 
 pub reference-requires : goal.reference-requires
-reference-requires c = looked_can c.args.pass.now c.args.handle c.args.object c.requires.looked
+reference-requires c = looked_can facts_of (λ p k h. h.pass) c.args.pass.now c.args.handle c.args.object c.requires.looked
 
 pub pack-looked-requires : goal.pack-looked-requires
-pack-looked-requires c = names_object c.args.handle.kind c.args.handle.serial c.args.object c.reference.result c.reference.ensures (looked_object c.args.pass.now c.args.handle c.args.object c.requires.looked)
+pack-looked-requires c = names_object c.args.handle.kind c.args.handle.serial c.args.object c.reference.result c.reference.ensures (looked_object facts_of (λ p k h. h.pass) c.args.pass.now c.args.handle c.args.object c.requires.looked)
 
 pub exchange-found-requires-clause-owes : goal.exchange-found-requires-clause-owes
 exchange-found-requires-clause-owes c =

@@ -1,4 +1,4 @@
-use Rattle.std.proofs.Common.{not, true, false, [], ◌∷◌, refl, sym, ap, ◌∙◌}
+use Rattle.std.proofs.Common.{not, true, false, [], ◌∷◌, sym, ap, ◌∙◌}
 use Rattle.jr_model.specs.History.{role_after}
 use Rattle.jr_steps.specs.Acts.{act_of_entry}
 use Rattle.jr_rule.proofs.GateOwed.{enters}

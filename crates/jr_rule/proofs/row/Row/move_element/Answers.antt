@@ -1,7 +1,7 @@
 use Rattle.std.proofs.Common.{◌≡◌, ◌+◌, ◌<◌, refl, sym, ap, subst, ◌∙◌, arith}
 use Rattle.jr_word.specs.Config.{row_words}
 use Rattle.jr_rule.specs.Image.{element_at}
-use Rattle.jr_rule.specs.Passes.{known_of}
+use Rattle.jr_rule.specs.Passes.{facts_of, known_of}
 use Rattle.jr_rule.specs.Rule.{Owes}
 use Rattle.jr_rule.proofs.FromMayKnow.{move_known, move_few}
 use Rattle.jr_rule.proofs.CollectOwed.{moves_element}
@@ -13,13 +13,13 @@ use Rattle.jr_rule.proofs.row.Row.move_element.Goals as goal
 pub overflow_add-place : goal.overflow_add-place
 overflow_add-place c =
     let p = c.args.pass.now in
-    let below = move_few p c.args.object c.args.header c.args.place c.args.index c.args.word c.requires.can in
+    let below = move_few facts_of (λ p k h. h.pass) p c.args.object c.args.header c.args.place c.args.index c.args.word c.requires.can in
     let most = p.held.sized.limited.words in omega (arith, below, most)
 
 pub element_at-at-requires : goal.element_at-at-requires
 element_at-at-requires c =
     let p = c.args.pass.now in
-    let below = move_few p c.args.object c.args.header c.args.place c.args.index c.args.word c.requires.can in
+    let below = move_few facts_of (λ p k h. h.pass) p c.args.object c.args.header c.args.place c.args.index c.args.word c.requires.can in
     subst (λ z. c.args.place + c.args.index < z.words) (c.requires.row).config below
 
 pub store-requires-clause-owes : goal.store-requires-clause-owes
@@ -37,7 +37,7 @@ pub store-requires-clause-room : goal.store-requires-clause-room
 store-requires-clause-room c =
     let p = c.args.pass.now in
     let r = c.args.self.now.config in
-    let below = move_few p c.args.object c.args.header c.args.place c.args.index c.args.word c.requires.can in
+    let below = move_few facts_of (λ p k h. h.pass) p c.args.object c.args.header c.args.place c.args.index c.args.word c.requires.can in
     let few = subst (λ z. c.args.place + c.args.index < z.words) (c.requires.row).config below in
     ((c.requires.row).row, subst (λ n. n < row_words r) (sym c.element_at-at.ensures) (element_in_row r (c.args.place + c.args.index) few))
 

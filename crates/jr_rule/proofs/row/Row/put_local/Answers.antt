@@ -3,7 +3,7 @@ use Rattle.jr_word.specs.declared.config.Config.{Config}
 use Rattle.jr_word.specs.Local.{local_word, IsLocalPlace}
 use Rattle.jr_steps.specs.Says.{local_parts}
 use Rattle.jr_rule.specs.Image.{local_at}
-use Rattle.jr_rule.specs.Passes.{known_of}
+use Rattle.jr_rule.specs.Passes.{facts_of, known_of}
 use Rattle.jr_rule.specs.Rule.{Owes}
 use Rattle.jr_rule.proofs.FromMayKnow.{of_pass, optional_few}
 use Rattle.jr_rule.proofs.PlaceOwed.{optional_is, puts_local}
@@ -16,7 +16,7 @@ use Rattle.jr_rule.proofs.row.Row.put_local.Goals as goal
 pub pack-new-requires : goal.pack-new-requires
 pack-new-requires c =
     let p = c.args.pass.now in
-    subst (λ q. IsLocalPlace q) (sym c.local_parts.ensures) (place_fits c.args.object (optional_few p c.args.object c.requires.object (p.held.sized).limited.objects.1))
+    subst (λ q. IsLocalPlace q) (sym c.local_parts.ensures) (place_fits c.args.object (optional_few facts_of (λ p k h. h.pass) p c.args.object c.requires.object (p.held.sized).limited.objects.1))
 
 pub store-requires-clause-owes : goal.store-requires-clause-owes
 store-requires-clause-owes c =
