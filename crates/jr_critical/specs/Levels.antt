@@ -12,12 +12,14 @@ use Rattle.jr_model.specs.State.{State}
 use Rattle.jr_model.specs.Frames.{Frames}
 use Rattle.jr_model.specs.Calls.{Call}
 use Rattle.jr_model.specs.Checks.{Word}
-use Rattle.jr_model.specs.Objects.{region_kind, region_length, region_release}
+use Rattle.jr_model.specs.Objects.{region_get, region_kind, region_length, region_release, region_set}
 use Rattle.jr_steps.specs.declared.known.Known.{Known}
+use Rattle.jr_steps.specs.declared.steps.Steps.{Ghosts}
 use Rattle.jr_steps.specs.Knowing.{Facts, Leads, MayKnow, state_of, keeps, lets_go, Holds}
 use Rattle.jr_gate.specs.Performing.{IsAsBefore, IsMade, Performed, moment}
 use Rattle.jr_gate.specs.Stays.{IsOwnStay}
 use Rattle.jr_heap.specs.Heap.{HoldsHeader, Learns}
+use Rattle.jr_frames.specs.declared.held.Held.{Held}
 use Rattle.jr_frames.specs.Reading.{IsReadAs}
 use Rattle.jr_frames.specs.Ready.{StandsReady}
 use Rattle.jr_frames.specs.Table.{Table}
@@ -132,3 +134,37 @@ module _ {S : Type 0} (facts : S → Facts) where
   pub record GivesUpAll (old new : S) (f : Frames) (v : Levels) : Type 0 where
     pub stands_is : IsAsBefore (record ((facts old).stands) { role = Outside }) (facts new).stands
     pub ran : Leads facts old new (KnowsLevels v f) (λ k k'. IsMade 0 (moment (facts old).stands.fresh k f) (moment (facts new).stands.fresh k' f) (region_release 1) (Ok tt)) (λ j k. lets_go j k × Holds f k)
+
+-- the same of the steps and frames that a thread holds together, as contracts say it
+module _ {S : Type 0} {G : Ghosts S} where
+  -- THE THREAD STANDS OUTSIDE, ready for its next call
+  abbrev pub StandsOutside : Held S G → Type 0
+  StandsOutside held = StandsReady G.facts Outside held.steps held.frames
+
+  -- the levels stand over what the thread holds
+  abbrev pub StandOver : Levels → Held S G → Type 0
+  StandOver v held = Stand G.facts v held.steps held.frames
+
+  -- a region was opened, or refused, by a reference word that was read
+  abbrev pub OpensOver : Held S G → Held S G → ℕ → (Config → ℕ → ℕ → State → Word → Call ℕ) → Result Levels Fault → Type 0
+  OpensOver old new w call answer = Opens G.facts old.steps new.steps old.frames.frames w call answer
+
+  -- a level was added to these levels, or refused
+  abbrev pub NestsOver : Held S G → Held S G → ℕ → (Config → ℕ → ℕ → State → List ℕ → Word → Call (ℕ × List ℕ)) → Levels → Levels → Result ℕ Fault → Type 0
+  NestsOver old new w call v v' answer = Nests G.facts old.steps new.steps old.frames.frames w call v v' answer
+
+  -- AN ELEMENT OF A LEVEL WAS READ as one of this kind, or refused
+  abbrev pub ReadsAt : Held S G → Held S G → Levels → ℕ → Kind → ℕ → Result ℕ Fault → Type 0
+  ReadsAt old new v level kind index answer = Reaches G.facts old.steps new.steps old.frames.frames v (λ c last t s. region_get c last t s kind (level_object v level) index) answer
+
+  -- AN ELEMENT OF A LEVEL WAS WRITTEN as one of this kind, or refused
+  abbrev pub WritesAt : Held S G → Held S G → Levels → ℕ → Kind → ℕ → ℕ → Result (Unit {0}) Fault → Type 0
+  WritesAt old new v level kind index word answer = Reaches G.facts old.steps new.steps old.frames.frames v (λ c last t s. region_set c last t s kind (level_object v level) index word) answer
+
+  -- the last level was given up
+  abbrev pub GivesUpLastOver : Held S G → Held S G → Levels → Option Levels → Type 0
+  GivesUpLastOver old new v left = GivesUpLast G.facts old.steps new.steps old.frames.frames v left
+
+  -- all levels were given up at once
+  abbrev pub GivesUpAllOver : Held S G → Held S G → Levels → Type 0
+  GivesUpAllOver old new v = GivesUpAll G.facts old.steps new.steps old.frames.frames v

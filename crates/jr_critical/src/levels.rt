@@ -1,10 +1,8 @@
 //! The levels of a critical region.
 ghost use Rattle.std.specs.Prelude.{◌≡◌, ◌<◌, ◌∷◌, [], IfOk, IfErr, length};
-ghost use Rattle.jr_model.specs.declared.event.Role.TheVariants.{Outside};
-ghost use Rattle.jr_frames.specs.Ready.{StandsReady};
 ghost use Rattle.jr_model.specs.Calls.{opened};
 ghost use Rattle.jr_critical.specs.Finding.{level_work};
-ghost use Rattle.jr_critical.specs.Levels.{objects_of, Opens, Stand};
+ghost use Rattle.jr_critical.specs.Levels.{objects_of, OpensOver, StandOver, StandsOutside};
 
 use crate::level::{Level, Wanted, find_level, is_read_as};
 use arrayvec::ArrayVec;
@@ -35,11 +33,11 @@ fn first(inside: Inside, level: Level) -> Levels
 /// Enters the gate, and opens the first level over what a reference names.
 #[inline(always)]
 fn open<S: Steps>(held: &mut Held<S>, handle: Handle, wanted: Wanted) -> Result<Levels, Fault>
-    requires { StandsReady S.facts Outside held.old.steps held.old.frames }
-    ensures call { Opens S.facts held.old.steps held.new.steps held.old.frames.frames handle.0 (λ c last t s a. opened (level_work wanted c last t s 0 a)) result }
+    requires { StandsOutside held.old }
+    ensures call { OpensOver held.old held.new handle.0 (λ c last t s a. opened (level_work wanted c last t s 0 a)) result }
     ensures frames { held.new.frames ≡ held.old.frames }
-    ensures ok { IfOk result (λ v. Stand S.facts v held.new.steps held.new.frames × (length (objects_of v) ≡ 1)) }
-    ensures err { IfErr result (λ _. StandsReady S.facts Outside held.new.steps held.new.frames) }
+    ensures ok { IfOk result (λ v. StandOver v held.new × (length (objects_of v) ≡ 1)) }
+    ensures err { IfErr result (λ _. StandsOutside held.new) }
 {
     let target = Reference::of(handle);
     let inside = enter(&mut held.steps)?;
@@ -55,11 +53,9 @@ fn open<S: Steps>(held: &mut Held<S>, handle: Handle, wanted: Wanted) -> Result<
 impl Levels {
     ghost use Rattle.std.specs.Prelude.{◌≡◌, ◌<◌, ◌≤◌, IfOk, IfErr, IfSome, IfNone, length};
     ghost use Rattle.jr_model.specs.declared.frames.TheConstants.{LEVELS};
-    ghost use Rattle.jr_model.specs.declared.event.Role.TheVariants.{Outside};
-    ghost use Rattle.jr_model.specs.Objects.{get_array_critical, get_string_critical, nest_array, nest_string, region_get, region_set};
-    ghost use Rattle.jr_frames.specs.Ready.{StandsReady};
+    ghost use Rattle.jr_model.specs.Objects.{get_array_critical, get_string_critical, nest_array, nest_string};
     ghost use Rattle.jr_critical.specs.Finding.{level_nesting};
-    ghost use Rattle.jr_critical.specs.Levels.{objects_of, level_object, level_at, in_words, Opens, Nests, Reaches, GivesUpAll, GivesUpLast, LeavesBefore, Stand, TellsKind, TellsLength, WasAdded};
+    ghost use Rattle.jr_critical.specs.Levels.{objects_of, level_object, level_at, in_words, OpensOver, NestsOver, ReadsAt, WritesAt, GivesUpAllOver, GivesUpLastOver, LeavesBefore, StandOver, StandsOutside, TellsKind, TellsLength, WasAdded};
 
     /// Enters the gate, and opens the first level over an array whose elements are no objects. The thread has to stand outside. (JNI Specification, chapter 4, "GetPrimitiveArrayCritical")
     ///
@@ -74,11 +70,11 @@ impl Levels {
     /// At most 3: the entry, a look at the slot of a global or weak handle, and one at the array's header. Where it is refused, the exit too.
     #[inline(always)]
     pub fn open_array<S: Steps>(held: &mut Held<S>, handle: Handle) -> Result<Levels, Fault>
-        requires { StandsReady S.facts Outside held.old.steps held.old.frames }
-        ensures call { Opens S.facts held.old.steps held.new.steps held.old.frames.frames handle.0 get_array_critical result }
+        requires { StandsOutside held.old }
+        ensures call { OpensOver held.old held.new handle.0 get_array_critical result }
         ensures frames { held.new.frames ≡ held.old.frames }
-        ensures ok { IfOk result (λ v. Stand S.facts v held.new.steps held.new.frames × (length (objects_of v) ≡ 1)) }
-        ensures err { IfErr result (λ _. StandsReady S.facts Outside held.new.steps held.new.frames) }
+        ensures ok { IfOk result (λ v. StandOver v held.new × (length (objects_of v) ≡ 1)) }
+        ensures err { IfErr result (λ _. StandsOutside held.new) }
     {
         open(held, handle, Wanted::Array)
     }
@@ -96,11 +92,11 @@ impl Levels {
     /// At most 3: the entry, a look at the slot of a global or weak handle, and one at the string's header. Where it is refused, the exit too.
     #[inline(always)]
     pub fn open_string<S: Steps>(held: &mut Held<S>, handle: Handle) -> Result<Levels, Fault>
-        requires { StandsReady S.facts Outside held.old.steps held.old.frames }
-        ensures call { Opens S.facts held.old.steps held.new.steps held.old.frames.frames handle.0 get_string_critical result }
+        requires { StandsOutside held.old }
+        ensures call { OpensOver held.old held.new handle.0 get_string_critical result }
         ensures frames { held.new.frames ≡ held.old.frames }
-        ensures ok { IfOk result (λ v. Stand S.facts v held.new.steps held.new.frames × (length (objects_of v) ≡ 1)) }
-        ensures err { IfErr result (λ _. StandsReady S.facts Outside held.new.steps held.new.frames) }
+        ensures ok { IfOk result (λ v. StandOver v held.new × (length (objects_of v) ≡ 1)) }
+        ensures err { IfErr result (λ _. StandsOutside held.new) }
     {
         open(held, handle, Wanted::Text)
     }
@@ -112,10 +108,10 @@ impl Levels {
         handle: Handle,
         wanted: Wanted,
     ) -> Result<usize, Fault>
-        requires { Stand S.facts self.old held.old.steps held.old.frames }
-        ensures call { Nests S.facts held.old.steps held.new.steps held.old.frames.frames handle.0 (level_nesting wanted) self.old self.new result }
+        requires { StandOver self.old held.old }
+        ensures call { NestsOver held.old held.new handle.0 (level_nesting wanted) self.old self.new result }
         ensures frames { held.new.frames ≡ held.old.frames }
-        ensures stand { Stand S.facts self.new held.new.steps held.new.frames }
+        ensures stand { StandOver self.new held.new }
         ensures added { IfOk result (λ n. WasAdded self.old self.new n) }
         ensures err { IfErr result (λ _. self.new ≡ self.old) }
     {
@@ -149,10 +145,10 @@ impl Levels {
         held: &mut Held<S>,
         handle: Handle,
     ) -> Result<usize, Fault>
-        requires { Stand S.facts self.old held.old.steps held.old.frames }
-        ensures call { Nests S.facts held.old.steps held.new.steps held.old.frames.frames handle.0 nest_array self.old self.new result }
+        requires { StandOver self.old held.old }
+        ensures call { NestsOver held.old held.new handle.0 nest_array self.old self.new result }
         ensures frames { held.new.frames ≡ held.old.frames }
-        ensures stand { Stand S.facts self.new held.new.steps held.new.frames }
+        ensures stand { StandOver self.new held.new }
         ensures added { IfOk result (λ n. WasAdded self.old self.new n) }
         ensures err { IfErr result (λ _. self.new ≡ self.old) }
     {
@@ -175,10 +171,10 @@ impl Levels {
         held: &mut Held<S>,
         handle: Handle,
     ) -> Result<usize, Fault>
-        requires { Stand S.facts self.old held.old.steps held.old.frames }
-        ensures call { Nests S.facts held.old.steps held.new.steps held.old.frames.frames handle.0 nest_string self.old self.new result }
+        requires { StandOver self.old held.old }
+        ensures call { NestsOver held.old held.new handle.0 nest_string self.old self.new result }
         ensures frames { held.new.frames ≡ held.old.frames }
-        ensures stand { Stand S.facts self.new held.new.steps held.new.frames }
+        ensures stand { StandOver self.new held.new }
         ensures added { IfOk result (λ n. WasAdded self.old self.new n) }
         ensures err { IfErr result (λ _. self.new ≡ self.old) }
     {
@@ -210,11 +206,11 @@ impl Levels {
         level: usize,
         index: u32,
     ) -> Result<E, Fault>
-        requires stand { Stand S.facts self.now held.old.steps held.old.frames }
+        requires stand { StandOver self.now held.old }
         requires level { level < length (objects_of self.now) }
-        ensures call { Reaches S.facts held.old.steps held.new.steps held.old.frames.frames self.now (λ c last t s. region_get c last t s E.KIND (level_object self.now level) index) (in_words E.word_of result) }
+        ensures call { ReadsAt held.old held.new self.now level E.KIND index (in_words E.word_of result) }
         ensures frames { held.new.frames ≡ held.old.frames }
-        ensures stand { Stand S.facts self.now held.new.steps held.new.frames }
+        ensures stand { StandOver self.now held.new }
     {
         let Level { object, header } = self.level(level);
         if !is_read_as(E::KIND, header.kind) {
@@ -245,11 +241,11 @@ impl Levels {
         index: u32,
         value: E,
     ) -> Result<(), Fault>
-        requires stand { Stand S.facts self.now held.old.steps held.old.frames }
+        requires stand { StandOver self.now held.old }
         requires level { level < length (objects_of self.now) }
-        ensures call { Reaches S.facts held.old.steps held.new.steps held.old.frames.frames self.now (λ c last t s. region_set c last t s E.KIND (level_object self.now level) index (E.word_of value)) result }
+        ensures call { WritesAt held.old held.new self.now level E.KIND index (E.word_of value) result }
         ensures frames { held.new.frames ≡ held.old.frames }
-        ensures stand { Stand S.facts self.now held.new.steps held.new.frames }
+        ensures stand { StandOver self.now held.new }
     {
         let Level { object, header } = self.level(level);
         if is_text(header.kind) {
@@ -305,12 +301,12 @@ impl Levels {
     /// One with the first level, the exit, and else none.
     #[inline(always)]
     pub fn close<S: Steps>(self, held: &mut Held<S>, _mode: Mode) -> Option<Levels>
-        requires { Stand S.facts self held.old.steps held.old.frames }
-        ensures call { GivesUpLast S.facts held.old.steps held.new.steps held.old.frames.frames self result }
+        requires { StandOver self held.old }
+        ensures call { GivesUpLastOver held.old held.new self result }
         ensures levels { LeavesBefore self result }
         ensures frames { held.new.frames ≡ held.old.frames }
-        ensures stand { IfSome result (λ v. Stand S.facts v held.new.steps held.new.frames) }
-        ensures ready { IfNone result (StandsReady S.facts Outside held.new.steps held.new.frames) }
+        ensures stand { IfSome result (λ v. StandOver v held.new) }
+        ensures ready { IfNone result (StandsOutside held.new) }
     {
         let Levels { inside, mut levels } = self;
         levels.pop();
@@ -327,10 +323,10 @@ impl Levels {
     ///
     /// One, the exit.
     pub fn close_all<S: Steps>(self, held: &mut Held<S>)
-        requires { Stand S.facts self held.old.steps held.old.frames }
-        ensures call { GivesUpAll S.facts held.old.steps held.new.steps held.old.frames.frames self }
+        requires { StandOver self held.old }
+        ensures call { GivesUpAllOver held.old held.new self }
         ensures frames { held.new.frames ≡ held.old.frames }
-        ensures ready { StandsReady S.facts Outside held.new.steps held.new.frames }
+        ensures ready { StandsOutside held.new }
     {
         let Levels { inside, levels: _ } = self;
         inside.leave(&mut held.steps);

@@ -6,9 +6,13 @@ use Rattle.jr_model.specs.State.{Handle}
 use Rattle.jr_model.specs.Calls.{Ran}
 use Rattle.jr_model.specs.CollectionCalls.{Collects}
 use Rattle.jr_model.specs.Parts as parts
+use Rattle.jr_steps.specs.declared.steps.Steps.{Ghosts}
 use Rattle.jr_steps.specs.Holdings.{empty}
 use Rattle.jr_gate.specs.Performing.{Moment, IsMade}
 use Rattle.jr_weak.specs.declared.collecting.Collected.{Collected}
+use Rattle.jr_weak.specs.declared.marker.Marker.{Marker}
+use Rattle.jr_weak.specs.Markers.{room_of}
+use Rattle.jr_env.specs.declared.env.Env.{Env}
 use Rattle.jr_env.specs.Deeds.{Deed}
 
 -- A COLLECTION WAS MADE: the machine's, which clears and drops so many, all that was to be in the state at its shut, and leaves so many words used. The frames stay as they are, and afterwards the thread holds nothing
@@ -34,3 +38,7 @@ pub record IsKeptOut (old new : Moment) (e : Fault) : Type 0 where
 abbrev pub collection : Deed Collected
 collection old (Ok c) new = IsCollected old new c
 collection old (Err e) new = IsKeptOut old new e
+
+-- the marker fits the env's room: it has marks for as many objects as the room may have
+abbrev pub FitsRoom : {S : Type 0} {G : Ghosts S} → Marker → Env S G → Type 0
+FitsRoom {G = G} marker env = room_of marker ≡ (G.facts env.held.steps).stands.config.objects

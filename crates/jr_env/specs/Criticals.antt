@@ -1,4 +1,4 @@
--- What a critical region of an env is, and what the calls that open and end it leave, as a value that borrows the env (`Region`) or as levels beside it (`HasEntered`). Whatever is known before its opening leads to a region that stands (`IsRegion`), by the opening (`WasOpened`) and each call since (`Nests`, `Reaches`, `GivesUpLast`), since each shows the headers of the levels that the next one asks for: so the law `regions_exclude_collections` speaks of it, up to its end (`HasEnded`).
+-- What a critical region of an env is, and what the calls that open and end it leave, as a value that borrows the env (`Region`) or as levels beside it (`HasEntered`). Whatever is known before its opening leads to a region that stands (`IsRegion`), by the opening (`WasOpened`) and each call since (`NestsOver`, `ReadsAt`, `WritesAt`, `GivesUpLastOver`), since each shows the headers of the levels that the next one asks for: so the law `regions_exclude_collections` speaks of it, up to its end (`HasEnded`).
 use Rattle.std.specs.Prelude.{◌≡◌, ℕ, Option, None, Result, Ok, Err, IfErr, length}
 use Rattle.std.specs.Borrow.{Fml, MutBor, RattleType, RestsIfErr, RestsIfNone}
 use Rattle.jr_word.specs.declared.config.Config.{Config}
@@ -7,10 +7,11 @@ use Rattle.jr_model.specs.declared.event.Role.TheVariants.{Within}
 use Rattle.jr_model.specs.State.{State}
 use Rattle.jr_model.specs.Calls.{Call}
 use Rattle.jr_model.specs.Checks.{Word}
+use Rattle.jr_frames.specs.declared.held.Held.{Held}
 use Rattle.jr_frames.specs.Table.{Table}
 use Rattle.jr_steps.specs.declared.steps.Steps as steps
 use Rattle.jr_critical.specs.declared.levels.Levels.{Levels}
-use Rattle.jr_critical.specs.Levels.{objects_of, GivesUpLast, LeavesBefore, Opens, Stand}
+use Rattle.jr_critical.specs.Levels.{objects_of, GivesUpLastOver, LeavesBefore, OpensOver, StandOver}
 use Rattle.jr_env.specs.declared.env.Env.{Env}
 use Rattle.jr_env.specs.contracts.env.Env as env
 use Rattle.jr_env.specs.declared.region.Region.{Region}
@@ -25,37 +26,41 @@ module _ {S : Type 0} {G : steps.Ghosts S} where
   abbrev pub levels_of : Region S G → Levels
   levels_of r = r.levels
 
-  -- the steps of its env
-  abbrev pub steps_of : Region S G → S
-  steps_of r = r.env.now.held.steps
+  -- the steps and frames that its env holds
+  abbrev pub held_of : Region S G → Held S G
+  held_of r = r.env.now.held
 
-  -- the frames of its env
+  -- its steps
+  abbrev pub steps_of : Region S G → S
+  steps_of r = (held_of r).steps
+
+  -- its frames
   abbrev pub frames_of : Region S G → Table
-  frames_of r = r.env.now.held.frames
+  frames_of r = (held_of r).frames
 
   -- A REGION WAS OPENED by this call, where the thread stood outside: there is one level, of the object that the call found; and in any case the thread is within, and the frames are as they were
   pub record WasOpened (old : Env S G) (r : Region S G) (w : ℕ) (call : Config → ℕ → ℕ → State → Word → Call ℕ) : Type 0 where
-    pub opens : IsOutside old → Opens G.facts old.held.steps (steps_of r) old.held.frames.frames w call (Ok (levels_of r))
+    pub opens : IsOutside old → OpensOver old.held (held_of r) w call (Ok (levels_of r))
     pub one : length (objects_of (levels_of r)) ≡ 1
     pub frames : frames_of r ≡ old.held.frames
     pub within : (G.facts (steps_of r)).stands.role ≡ Within
 
   -- THESE LEVELS WERE ENTERED by this call, where the thread stood outside: there is one, of the object that the call found; and in any case they stand over the env, whose thread is within, and the frames are as they were
   pub record HasEntered (old new : Env S G) (v : Levels) (w : ℕ) (call : Config → ℕ → ℕ → State → Word → Call ℕ) : Type 0 where
-    pub opens : IsOutside old → Opens G.facts old.held.steps new.held.steps old.held.frames.frames w call (Ok v)
+    pub opens : IsOutside old → OpensOver old.held new.held w call (Ok v)
     pub one : length (objects_of v) ≡ 1
     pub frames : new.held.frames ≡ old.held.frames
-    pub stand : Stand G.facts v new.held.steps new.held.frames
+    pub stand : StandOver v new.held
 
   -- NO REGION WAS OPENED by this call, but it was refused for this, where the thread stood outside; and afterwards it stands outside in any case, with the frames as they were
   pub record WasRefused (old new : Env S G) (w : ℕ) (call : Config → ℕ → ℕ → State → Word → Call ℕ) (e : Fault) : Type 0 where
-    pub refuses : IsOutside old → Opens G.facts old.held.steps new.held.steps old.held.frames.frames w call (Err e)
+    pub refuses : IsOutside old → OpensOver old.held new.held w call (Err e)
     pub frames : new.held.frames ≡ old.held.frames
     pub outside : IsOutside new
 
   -- THE REGION ENDED with its only level: its thread left the gate and stands outside, with the frames as they were
   pub record HasEnded (r : Region S G) (new : Env S G) : Type 0 where
-    pub call : GivesUpLast G.facts (steps_of r) new.held.steps (frames_of r).frames (levels_of r) None
+    pub call : GivesUpLastOver (held_of r) new.held (levels_of r) None
     pub last : LeavesBefore (levels_of r) None
     pub frames : new.held.frames ≡ frames_of r
     pub outside : IsOutside new

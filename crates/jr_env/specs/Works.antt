@@ -7,15 +7,17 @@ use Rattle.jr_word.specs.declared.kind.Kind.TheVariants.{Plain}
 use Rattle.jr_model.specs.declared.event.Role.TheVariants.{Outside}
 use Rattle.jr_model.specs.State.{Handle, State}
 use Rattle.jr_model.specs.Frames.{Frames, object_at}
-use Rattle.jr_model.specs.Calls.{Call, ◌>>=◌, ◌>>◌}
+use Rattle.jr_model.specs.Calls.{Call, entered, ◌>>=◌, ◌>>◌}
 use Rattle.jr_model.specs.Checks.{Word}
 use Rattle.jr_model.specs.Parts.{frame_to_pop, publish}
 use Rattle.jr_model.specs.References.{added, made, popping, resolved}
 use Rattle.jr_steps.specs.declared.known.Known.{Known}
+use Rattle.jr_steps.specs.declared.steps.Steps.{Ghosts}
 use Rattle.jr_steps.specs.Holdings.{with_header}
 use Rattle.jr_steps.specs.Knowing.{Facts, keeps, without_range_of, Holds}
 use Rattle.jr_gate.specs.Performing.{Performed}
 use Rattle.jr_heap.specs.Heap.{header_of, own_words, IsReady}
+use Rattle.jr_frames.specs.declared.held.Held.{Held}
 use Rattle.jr_frames.specs.Table.{Table}
 use Rattle.jr_frames.specs.OverSteps.{CallsWhole}
 use Rattle.jr_frames.specs.Ready.{StandsReady}
@@ -63,3 +65,14 @@ module _ {S : Type 0} (facts : S → Facts) where
   pub record Completes {A : Type 0} (old new : S) (before after : Table) (silent : ℕ) (asked : State → Call A) (answer : Result A Fault) : Type 0 where
     pub call : (facts old).stands.role ≡ Outside → CallsWhole facts old new before.frames after.frames silent asked answer
     pub ready : StandsReady facts Outside new after
+
+-- the same of the steps and frames that a thread holds together, as contracts say it
+module _ {S : Type 0} {G : Ghosts S} where
+  -- a stay that was left was ended
+  abbrev pub EndsStayOver : Held S G → Held S G → Type 0
+  EndsStayOver old new = EndsStay G.facts old.steps new.steps old.frames new.frames
+
+  -- a whole call was made round this work, by so many operations beside its acts as it takes in the room's sizes
+  abbrev pub CompletesOver : {A : Type 0} → Held S G → Held S G → (Config → ℕ) → (Config → ℕ → ℕ → State → Call A) → Result A Fault → Type 0
+  CompletesOver old new silent asked answer =
+      Completes G.facts old.steps new.steps old.frames new.frames (silent (G.facts old.steps).stands.config) (λ s. entered (asked (G.facts old.steps).stands.config (G.facts old.steps).stands.last (G.facts old.steps).stands.thread s)) answer

@@ -9,7 +9,7 @@ impl<S: Steps> Env<S> {
     ghost use Rattle.std.specs.Prelude.{◌≡◌, ◌≤◌, ℕ, IsOk, IfErr};
     ghost use Rattle.jr_word.specs.declared.fault.Fault.TheVariants.{Busy};
     ghost use Rattle.jr_weak.specs.Markers.{room_of};
-    ghost use Rattle.jr_env.specs.Collections.{collection};
+    ghost use Rattle.jr_env.specs.Collections.{FitsRoom, collection};
     ghost use Rattle.jr_env.specs.Envs.{Does, IsOutside};
 
     /// Collects: clears each weak reference to an object that is not reached, drops each such object, moves all arrays together, and tells how many it cleared and dropped, and how many words are used then. What is reached keeps its kind and elements, and every handle stands for what it stood for. No thread comes in meanwhile. It takes no memory and never waits. The marker has to be made for a room of so many objects, and serves again.
@@ -24,7 +24,7 @@ impl<S: Steps> Env<S> {
     ///
     /// One where it is refused. Those of a collection that is made no clause counts; in the code they are two looks at each slot, one at each local place of every thread, one or two at each object number's header, a load for each element of an object array that is reached, a load and a store for each element that moves, one for each reference that is cleared, each object that is dropped and each array that moves, and three at the gate and the top.
     pub fn collect(&mut self, marker: &mut Marker) -> Result<Collected, Fault>
-        requires { room_of marker.old ≡ (S.facts self.old.held.steps).stands.config.objects }
+        requires { FitsRoom marker.old self.old }
         ensures call { Does self.old self.new collection result }
         ensures room { room_of marker.new ≡ room_of marker.old }
         ensures busy { IfErr result (λ e. (n : ℕ) × (e ≡ Busy n) × (1 ≤ n)) }

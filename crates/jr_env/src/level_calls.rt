@@ -1,5 +1,4 @@
 //! The calls of a critical region by its levels, which stand beside their env and don't borrow it, over any steps.
-ghost use Rattle.jr_critical.specs.Levels.{Stand};
 
 use crate::env::Env;
 use crate::work::outside;
@@ -11,8 +10,8 @@ use jr_word::{Elem, Fault, Handle};
 /// The levels have to be closed on the env that opened them, the last first. Each other call of the env ends the stay that they stand in.
 impl<S: Steps> Env<S> {
     ghost use Rattle.std.specs.Prelude.{◌≡◌, ◌<◌, IfErr, IfOk, length, IfNone, IfSome};
-    ghost use Rattle.jr_model.specs.Objects.{get_array_critical, get_string_critical, nest_array, nest_string, region_get, region_set};
-    ghost use Rattle.jr_critical.specs.Levels.{objects_of, level_object, in_words, GivesUpAll, GivesUpLast, LeavesBefore, Nests, Reaches, WasAdded};
+    ghost use Rattle.jr_model.specs.Objects.{get_array_critical, get_string_critical, nest_array, nest_string};
+    ghost use Rattle.jr_critical.specs.Levels.{objects_of, in_words, GivesUpAllOver, GivesUpLastOver, LeavesBefore, NestsOver, ReadsAt, StandOver, WasAdded, WritesAt};
     ghost use Rattle.jr_env.specs.Envs.{IsOutside};
     ghost use Rattle.jr_env.specs.Criticals.{HasEntered, WasRefused};
 
@@ -72,10 +71,10 @@ impl<S: Steps> Env<S> {
         levels: &mut Levels,
         array: Handle,
     ) -> Result<usize, Fault>
-        requires { Stand S.facts levels.old self.old.held.steps self.old.held.frames }
-        ensures call { Nests S.facts self.old.held.steps self.new.held.steps self.old.held.frames.frames array.0 nest_array levels.old levels.new result }
+        requires { StandOver levels.old self.old.held }
+        ensures call { NestsOver self.old.held self.new.held array.0 nest_array levels.old levels.new result }
         ensures frames { self.new.held.frames ≡ self.old.held.frames }
-        ensures stand { Stand S.facts levels.new self.new.held.steps self.new.held.frames }
+        ensures stand { StandOver levels.new self.new.held }
         ensures added { IfOk result (λ n. WasAdded levels.old levels.new n) }
         ensures err { IfErr result (λ _. levels.new ≡ levels.old) }
     {
@@ -98,10 +97,10 @@ impl<S: Steps> Env<S> {
         levels: &mut Levels,
         string: Handle,
     ) -> Result<usize, Fault>
-        requires { Stand S.facts levels.old self.old.held.steps self.old.held.frames }
-        ensures call { Nests S.facts self.old.held.steps self.new.held.steps self.old.held.frames.frames string.0 nest_string levels.old levels.new result }
+        requires { StandOver levels.old self.old.held }
+        ensures call { NestsOver self.old.held self.new.held string.0 nest_string levels.old levels.new result }
         ensures frames { self.new.held.frames ≡ self.old.held.frames }
-        ensures stand { Stand S.facts levels.new self.new.held.steps self.new.held.frames }
+        ensures stand { StandOver levels.new self.new.held }
         ensures added { IfOk result (λ n. WasAdded levels.old levels.new n) }
         ensures err { IfErr result (λ _. levels.new ≡ levels.old) }
     {
@@ -125,11 +124,11 @@ impl<S: Steps> Env<S> {
         level: usize,
         index: u32,
     ) -> Result<E, Fault>
-        requires stand { Stand S.facts levels.now self.old.held.steps self.old.held.frames }
+        requires stand { StandOver levels.now self.old.held }
         requires level { level < length (objects_of levels.now) }
-        ensures call { Reaches S.facts self.old.held.steps self.new.held.steps self.old.held.frames.frames levels.now (λ c last t s. region_get c last t s E.KIND (level_object levels.now level) index) (in_words E.word_of result) }
+        ensures call { ReadsAt self.old.held self.new.held levels.now level E.KIND index (in_words E.word_of result) }
         ensures frames { self.new.held.frames ≡ self.old.held.frames }
-        ensures stand { Stand S.facts levels.now self.new.held.steps self.new.held.frames }
+        ensures stand { StandOver levels.now self.new.held }
     {
         levels.get(&mut self.held, level, index)
     }
@@ -152,11 +151,11 @@ impl<S: Steps> Env<S> {
         index: u32,
         value: E,
     ) -> Result<(), Fault>
-        requires stand { Stand S.facts levels.now self.old.held.steps self.old.held.frames }
+        requires stand { StandOver levels.now self.old.held }
         requires level { level < length (objects_of levels.now) }
-        ensures call { Reaches S.facts self.old.held.steps self.new.held.steps self.old.held.frames.frames levels.now (λ c last t s. region_set c last t s E.KIND (level_object levels.now level) index (E.word_of value)) result }
+        ensures call { WritesAt self.old.held self.new.held levels.now level E.KIND index (E.word_of value) result }
         ensures frames { self.new.held.frames ≡ self.old.held.frames }
-        ensures stand { Stand S.facts levels.now self.new.held.steps self.new.held.frames }
+        ensures stand { StandOver levels.now self.new.held }
     {
         levels.set(&mut self.held, level, index, value)
     }
@@ -168,11 +167,11 @@ impl<S: Steps> Env<S> {
     /// One with the first level, the exit, and else none.
     #[inline(always)]
     pub fn close_critical(&mut self, levels: Levels, mode: Mode) -> Option<Levels>
-        requires { Stand S.facts levels self.old.held.steps self.old.held.frames }
-        ensures call { GivesUpLast S.facts self.old.held.steps self.new.held.steps self.old.held.frames.frames levels result }
+        requires { StandOver levels self.old.held }
+        ensures call { GivesUpLastOver self.old.held self.new.held levels result }
         ensures levels { LeavesBefore levels result }
         ensures frames { self.new.held.frames ≡ self.old.held.frames }
-        ensures stand { IfSome result (λ v. Stand S.facts v self.new.held.steps self.new.held.frames) }
+        ensures stand { IfSome result (λ v. StandOver v self.new.held) }
         ensures outside { IfNone result (IsOutside self.new) }
     {
         levels.close(&mut self.held, mode)
@@ -184,8 +183,8 @@ impl<S: Steps> Env<S> {
     ///
     /// One, the exit.
     pub fn close_all_critical(&mut self, levels: Levels)
-        requires { Stand S.facts levels self.old.held.steps self.old.held.frames }
-        ensures call { GivesUpAll S.facts self.old.held.steps self.new.held.steps self.old.held.frames.frames levels }
+        requires { StandOver levels self.old.held }
+        ensures call { GivesUpAllOver self.old.held self.new.held levels }
         ensures frames { self.new.held.frames ≡ self.old.held.frames }
         ensures outside { IsOutside self.new }
     {

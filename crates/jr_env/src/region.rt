@@ -1,5 +1,5 @@
 //! Critical regions of an env.
-ghost use Rattle.jr_critical.specs.Levels.{Stand};
+ghost use Rattle.jr_critical.specs.Levels.{StandOver};
 
 use crate::env::Env;
 use jr_critical::Levels;
@@ -11,20 +11,20 @@ use jr_word::{Elem, Fault, Handle, Kind};
 pub struct Region<'e, S: Steps> {
     env: &'e mut Env<S>,
     levels: Levels,
-    ghost stand: { Stand S.facts levels env.now.held.steps env.now.held.frames },
+    ghost stand: { StandOver levels env.now.held },
 }
 
 impl<'e, S: Steps> Region<'e, S> {
     ghost use Rattle.std.specs.Prelude.{◌≡◌, ◌<◌, ◌+◌, IfErr, IfOk, IfSome, Some, false, length};
     ghost use Rattle.std.specs.Borrow.{sem};
-    ghost use Rattle.jr_model.specs.Objects.{nest_array, nest_string, region_get, region_set};
-    ghost use Rattle.jr_critical.specs.Levels.{objects_of, level_object, in_words, GivesUpLast, LeavesBefore, Nests, Reaches, TellsKind, TellsLength, WasAdded};
-    ghost use Rattle.jr_env.specs.Criticals.{env_of, levels_of, steps_of, frames_of, rests_in_left};
+    ghost use Rattle.jr_model.specs.Objects.{nest_array, nest_string};
+    ghost use Rattle.jr_critical.specs.Levels.{objects_of, in_words, GivesUpLastOver, LeavesBefore, NestsOver, ReadsAt, TellsKind, TellsLength, WasAdded, WritesAt};
+    ghost use Rattle.jr_env.specs.Criticals.{env_of, levels_of, held_of, frames_of, rests_in_left};
 
     /// The region of an env whose levels stand.
     #[inline(always)]
     pub(crate) fn over(env: &'e mut Env<S>, levels: Levels) -> Self
-        requires { Stand S.facts levels env.old.held.steps env.old.held.frames }
+        requires { StandOver levels env.old.held }
         ensures same_reference { (env_of result).ghost_name ≡ env.entry.ghost_name }
         ensures env { (env_of result).now ≡ env.old }
         ensures levels { levels_of result ≡ levels }
@@ -45,7 +45,7 @@ impl<'e, S: Steps> Region<'e, S> {
     /// At most 2: a look at the slot of a global or weak handle, and one at the array's header. It takes none at the gate.
     pub fn nest_array(&mut self, array: Handle) -> Result<usize, Fault>
         ensures same_reference { (env_of self.new).ghost_name ≡ (env_of self.old).ghost_name }
-        ensures call { Nests S.facts (steps_of self.old) (steps_of self.new) (frames_of self.old).frames array.0 nest_array (levels_of self.old) (levels_of self.new) result }
+        ensures call { NestsOver (held_of self.old) (held_of self.new) array.0 nest_array (levels_of self.old) (levels_of self.new) result }
         ensures frames { frames_of self.new ≡ frames_of self.old }
         ensures added { IfOk result (λ n. WasAdded (levels_of self.old) (levels_of self.new) n) }
         ensures err { IfErr result (λ _. levels_of self.new ≡ levels_of self.old) }
@@ -66,7 +66,7 @@ impl<'e, S: Steps> Region<'e, S> {
     /// At most 2: a look at the slot of a global or weak handle, and one at the string's header. It takes none at the gate.
     pub fn nest_string(&mut self, string: Handle) -> Result<usize, Fault>
         ensures same_reference { (env_of self.new).ghost_name ≡ (env_of self.old).ghost_name }
-        ensures call { Nests S.facts (steps_of self.old) (steps_of self.new) (frames_of self.old).frames string.0 nest_string (levels_of self.old) (levels_of self.new) result }
+        ensures call { NestsOver (held_of self.old) (held_of self.new) string.0 nest_string (levels_of self.old) (levels_of self.new) result }
         ensures frames { frames_of self.new ≡ frames_of self.old }
         ensures added { IfOk result (λ n. WasAdded (levels_of self.old) (levels_of self.new) n) }
         ensures err { IfErr result (λ _. levels_of self.new ≡ levels_of self.old) }
@@ -88,7 +88,7 @@ impl<'e, S: Steps> Region<'e, S> {
     pub fn get<E: Elem>(&mut self, level: usize, index: u32) -> Result<E, Fault>
         requires { level < length (objects_of (levels_of self.old)) }
         ensures same_reference { (env_of self.new).ghost_name ≡ (env_of self.old).ghost_name }
-        ensures call { Reaches S.facts (steps_of self.old) (steps_of self.new) (frames_of self.old).frames (levels_of self.old) (λ c last t s. region_get c last t s E.KIND (level_object (levels_of self.old) level) index) (in_words E.word_of result) }
+        ensures call { ReadsAt (held_of self.old) (held_of self.new) (levels_of self.old) level E.KIND index (in_words E.word_of result) }
         ensures frames { frames_of self.new ≡ frames_of self.old }
         ensures levels { levels_of self.new ≡ levels_of self.old }
     {
@@ -109,7 +109,7 @@ impl<'e, S: Steps> Region<'e, S> {
     pub fn set<E: Elem>(&mut self, level: usize, index: u32, value: E) -> Result<(), Fault>
         requires { level < length (objects_of (levels_of self.old)) }
         ensures same_reference { (env_of self.new).ghost_name ≡ (env_of self.old).ghost_name }
-        ensures call { Reaches S.facts (steps_of self.old) (steps_of self.new) (frames_of self.old).frames (levels_of self.old) (λ c last t s. region_set c last t s E.KIND (level_object (levels_of self.old) level) index (E.word_of value)) result }
+        ensures call { WritesAt (held_of self.old) (held_of self.new) (levels_of self.old) level E.KIND index (E.word_of value) result }
         ensures frames { frames_of self.new ≡ frames_of self.old }
         ensures levels { levels_of self.new ≡ levels_of self.old }
     {
@@ -156,7 +156,7 @@ impl<'e, S: Steps> Region<'e, S> {
     pub fn release(self, mode: Mode) -> Option<Region<'e, S>>
         ensures* rests { sem 𝓛 (rests_in_left S.row S.Steps self.entry result) }
         ensures same_reference { IfSome result (λ r. (env_of r).ghost_name ≡ (env_of self.entry).ghost_name) }
-        ensures call { IfSome result (λ r. GivesUpLast S.facts (steps_of self.entry) (steps_of r) (frames_of self.entry).frames (levels_of self.entry) (Some (levels_of r))) }
+        ensures call { IfSome result (λ r. GivesUpLastOver (held_of self.entry) (held_of r) (levels_of self.entry) (Some (levels_of r))) }
         ensures frames { IfSome result (λ r. frames_of r ≡ frames_of self.entry) }
         ensures levels { IfSome result (λ r. LeavesBefore (levels_of self.entry) (Some (levels_of r))) }
         ensures fewer { IfSome result (λ r. length (objects_of (levels_of self.entry)) ≡ length (objects_of (levels_of r)) + 1) }

@@ -2,17 +2,14 @@
 ghost use Rattle.std.specs.Prelude.{◌≡◌, ◌+◌, nat_lt, IfOk, IfErr, map, length};
 ghost use Rattle.jr_gate.specs.Stays.{IsOwnStay};
 ghost use Rattle.jr_model.specs.declared.event.Role.TheVariants.{Within};
-ghost use Rattle.jr_model.specs.Calls.{entered};
 ghost use Rattle.jr_model.specs.Checks.{same_element as same_element_of};
-ghost use Rattle.jr_model.specs.Objects.{part_reading};
 ghost use Rattle.jr_steps.specs.Knowing.{MayKnow};
 ghost use Rattle.jr_heap.specs.Heap.{HoldsHeader};
 ghost use Rattle.jr_frames.specs.Ready.{StandsReady};
 ghost use Rattle.jr_frames.specs.Reading.{word_of, OwnerFits};
 ghost use Rattle.jr_env.specs.Deeds.{read_answer};
 ghost use Rattle.jr_env.specs.Standing.{CanCall};
-ghost use Rattle.jr_env.specs.Works.{Completes};
-ghost use Rattle.jr_env.specs.Regions.{FindsPart, ReadsPart};
+ghost use Rattle.jr_env.specs.Regions.{CopiesOut, FindsPart, ReadsPart};
 
 use crate::work::{Work, outside};
 use jr_frames::{Frames, Held, Reference, find};
@@ -74,7 +71,7 @@ pub fn copy_out<S: Steps, E: Elem>(
     requires ready { CanCall (S.facts held.old.steps).stands }
     requires fits { OwnerFits part.array }
     ensures size { length elements.new ≡ length elements.old }
-    ensures call { Completes S.facts held.old.steps held.new.steps held.old.frames held.new.frames 1 (λ s. entered (part_reading (S.facts held.old.steps).stands.config (S.facts held.old.steps).stands.last (S.facts held.old.steps).stands.thread s E.KIND (word_of part.array) part.start (length elements.old))) (read_answer result (map E.word_of elements.new)) }
+    ensures call { CopiesOut held.old held.new part E.KIND (length elements.old) (read_answer result (map E.word_of elements.new)) }
     ensures next { CanCall (S.facts held.new.steps).stands }
     ensures err { IfErr result (λ _. elements.new ≡ elements.old) }
 {

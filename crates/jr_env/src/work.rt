@@ -1,9 +1,8 @@
 //! What a call does within a stay, and the call round it.
 
 ghost use Rattle.std.specs.Prelude.{IfOk};
-ghost use Rattle.jr_model.specs.Calls.{entered as entered_call};
 ghost use Rattle.jr_env.specs.Standing.{CanCall};
-ghost use Rattle.jr_env.specs.Works.{Completes, EndsStay};
+ghost use Rattle.jr_env.specs.Works.{CompletesOver, EndsStayOver};
 
 use jr_frames::{Frames, Held};
 use jr_gate::{Inside, enter};
@@ -63,7 +62,7 @@ pub trait Work<S: Steps> {
 #[inline(always)]
 pub fn outside<S: Steps>(held: &mut Held<S>)
     requires { CanCall (S.facts held.old.steps).stands }
-    ensures { EndsStay S.facts held.old.steps held.new.steps held.old.frames held.new.frames }
+    ensures { EndsStayOver held.old held.new }
 {
     if let Role::Within = held.steps.role() {
         held.steps.go_out();
@@ -79,7 +78,7 @@ pub fn outside<S: Steps>(held: &mut Held<S>)
 pub fn make<S: Steps, W: Work<S> + Drop>(held: &mut Held<S>, work: W) -> Result<W::Answer, Fault>
     requires ready { CanCall (S.facts held.old.steps).stands }
     requires can { W.can_work work }
-    ensures call { Completes S.facts held.old.steps held.new.steps held.old.frames held.new.frames (W.silent work (S.facts held.old.steps).stands.config) (λ s. entered_call (W.asked work (S.facts held.old.steps).stands.config (S.facts held.old.steps).stands.last (S.facts held.old.steps).stands.thread s)) result }
+    ensures call { CompletesOver held.old held.new (W.silent work) (W.asked work) result }
     ensures next { CanCall (S.facts held.new.steps).stands }
     ensures given { IfOk result (λ answer. W.gives (S.facts held.old.steps).stands.thread answer) }
 {
