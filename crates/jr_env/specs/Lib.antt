@@ -1,9 +1,9 @@
 pub mod Deeds
-pub mod Elements
 pub mod Envs
+pub mod Criticals
+pub mod Collections
+pub mod Elements
 pub mod Standing
 pub mod Works
 pub mod Regions
 pub mod Copies
-pub mod Criticals
-pub mod Collections

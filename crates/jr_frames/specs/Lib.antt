@@ -4,10 +4,10 @@ pub mod Rings
 pub mod Shown
 pub mod Popping
 pub mod Freeing
-pub mod Giving
 pub mod Reading
 pub mod OverSteps
 pub mod Finding
-pub mod Steady
 pub mod Ready
 pub mod Dropping
+pub mod Giving
+pub mod Steady

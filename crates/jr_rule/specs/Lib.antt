@@ -1,9 +1,10 @@
 pub mod Image
-pub mod Slots
-pub mod Shown
 pub mod Plain
 pub mod Rule
 pub mod Passes
 pub mod PassLaws
 pub mod Rooms
+pub mod Slots
+pub mod Shown
+pub mod Holding
 pub mod Parts

@@ -8,9 +8,9 @@ pub mod Units
 pub mod Value
 pub mod Modes
 pub mod Command
-pub mod Printing
 pub mod Script
 pub mod Faults
 pub mod Parse
+pub mod Printing
 pub mod VmLine
 pub mod Draft
