@@ -6,5 +6,4 @@ pub mod PassLaws
 pub mod Rooms
 pub mod Slots
 pub mod Shown
-pub mod Holding
 pub mod Parts
