@@ -4,7 +4,7 @@ use Rattle.std.specs.List.{AllByRecursion, IsDistinct, list_any}
 use Rattle.std.proofs.lemmas.List.Elements.{All-from_recursion, recursion_from_All, All-filter, All-head, All-tail}
 use Rattle.std.proofs.lemmas.List.Sums.{sum_by-cons}
 use Rattle.jr_model.specs.Maps.{update, sum_below}
-use Rattle.jr_model.proofs.Lengths.{sum_same}
+use Rattle.jr_model.proofs.Lengths.{sum_same, sum_zero}
 use Rattle.jr_model.proofs.Updates.{eq_true, eq_false, at_number}
 
 -- a number that is left out of a sum
@@ -28,13 +28,6 @@ sum_without (suc n) k f l = go (k == n) refl (λ m. sum_without n k f m)
         let before : sum_below n f ≡ f k + sum_below n (update nat_eq f k 0) = rest (omega arith) in
         let last : update nat_eq f k 0 n ≡ f n = left_out f k n apart in
         omega arith
-
-sum_zero : (n : ℕ) (f : ℕ → ℕ) → ((o : ℕ) → f o ≡ 0) → sum_below n f ≡ 0
-unfolding sum_below
-sum_zero zero f none = refl
-sum_zero (suc n) f none =
-    let before = sum_zero n f none in
-    let last = none n in omega arith
 
 sum_but : (xs : List ℕ) (x : ℕ) (f : ℕ → ℕ) → AllByRecursion (λ y. nat_eq x y ≡ false) xs → sum_by (update nat_eq f x 0) xs ≡ sum_by f xs
 sum_but [] x f apart = refl

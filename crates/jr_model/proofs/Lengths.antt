@@ -33,10 +33,14 @@ sum_changed (suc n) f g k h = go (k == n) refl (sum_changed n f g k h)
         let there : g n ≡ f n = h n (eq_false k n e) in
         ⊎_elim (λ (q : sum_below n g ≡ sum_below n f). inl (omega arith)) (λ (q : sum_below n g + f k ≡ sum_below n f + g k). inr (omega arith)) r
 
-pub sum_none : (n : ℕ) → sum_below n (λ j. 0) ≡ 0
+-- a sum of which each part is 0
+pub sum_zero : (n : ℕ) (f : ℕ → ℕ) → ((j : ℕ) → f j ≡ 0) → sum_below n f ≡ 0
 unfolding sum_below
-sum_none zero = refl
-sum_none (suc n) = rw (sum_none n) refl
+sum_zero zero f none = refl
+sum_zero (suc n) f none = let before = sum_zero n f none in let last = none n in omega arith
+
+pub sum_none : (n : ℕ) → sum_below n (λ j. 0) ≡ 0
+sum_none n = sum_zero n (λ j. 0) (λ j. refl)
 
 -- the lengths after an object's number gets other contents
 present_words_changed : (c : Config) (s : State) (o : ℕ) (x : Option Contents) → (present_words c (record s { objects = update nat_eq s.objects o x }) ≡ present_words c s) ⊎ (present_words c (record s { objects = update nat_eq s.objects o x }) + length_of (s.objects o) ≡ present_words c s + length_of x)

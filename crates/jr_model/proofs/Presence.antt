@@ -39,7 +39,7 @@ quiet_before : (role : ℕ → Role) (t : ℕ) (r : Role) → role t ≢ Collect
 quiet_before role t r quiet nobody u = at_number (λ x. x ≢ Collecting → role u ≢ Collecting) role t u r (λ e p. subst (λ v. role v ≢ Collecting) e quiet) (λ ne p. p) (nobody u)
 
 -- a word of the kind stays one where no object goes
-word_mono : (s s' : State) (k : Kind) (v : ℕ) → ((o : ℕ) → IsPresent s o → IsPresent s' o) → IsWord s k v → IsWord s' k v
+pub word_mono : (s s' : State) (k : Kind) (v : ℕ) → ((o : ℕ) → IsPresent s o → IsPresent s' o) → IsWord s k v → IsWord s' k v
 word_mono s s' Objects v more w = ⊎_elim (λ e. inl e) (λ p. inr (more v p)) w
 word_mono s s' Plain v more w = w
 word_mono s s' Boolean v more w = w

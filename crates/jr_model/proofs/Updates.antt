@@ -47,7 +47,8 @@ pub and_right : (a b : Bool) → (a && b) ≡ true → b ≡ true
 and_right true b e = e
 and_right false b e = cc
 
-same_parts : (k k' : RefKind) (s s' i i' o o' : ℕ) → k ≡ k' → s ≡ s' → i ≡ i' → o ≡ o'
+-- handles with the same parts are one
+pub same_parts : (k k' : RefKind) (s s' i i' o o' : ℕ) → k ≡ k' → s ≡ s' → i ≡ i' → o ≡ o'
     → ◌≡◌ {A = Handle} (record { kind = k; serial = s; index = i; owner = o }) (record { kind = k'; serial = s'; index = i'; owner = o' })
 same_parts k k' s s' i i' o o' a b c d = cc
 

@@ -4,12 +4,8 @@ use mathlib.Core.Logic.{dite}
 use native.Mathlib.Decide.{ℕ_discrete}
 use Rattle.jr_model.specs.Maps.{sum_below}
 use Rattle.jr_model.proofs.Counts.{sum_at}
+use Rattle.jr_model.proofs.Lengths.{sum_zero}
 use Rattle.jr_rule.specs.Image.{Owner, unowned, of_object, of_range}
-
-sum_zero : (n : ℕ) (f : ℕ → ℕ) → ((k : ℕ) → f k ≡ 0) → sum_below n f ≡ 0
-unfolding sum_below
-sum_zero zero f none = refl
-sum_zero (suc n) f none = let a = sum_zero n f none in let b = none n in omega arith
 
 sum_most : (n : ℕ) (f : ℕ → ℕ) → ((k : ℕ) → f k ≤ 1) → sum_below n f ≤ n
 unfolding sum_below

@@ -23,6 +23,7 @@ use Rattle.jr_model.specs.declared.event.Role.{Role}
 use Rattle.jr_model.specs.History.{by, state, role_of, role_from}
 use Rattle.jr_model.proofs.Histories.{state_push}
 use Rattle.jr_model.proofs.Lengths.{lengths_fit}
+use Rattle.jr_model.proofs.Presence.{word_mono}
 use Rattle.jr_model.proofs.Updates.{at_number_self}
 use Rattle.jr_steps.specs.declared.known.Known.{Known}
 use Rattle.jr_steps.specs.declared.known.Holdings.{Holdings}
@@ -56,18 +57,6 @@ word_is s Text v h = ∥∥₁_elim h (hlevel props) (λ z. z)
 word_is s Objects v h = dite (ℕ_discrete v 0)
     (λ e. inl e)
     (λ ne. inr (∥∥₁_elim h (hlevel props) (λ z. ⊎_elim (λ e. absurd (ne e)) (λ p. p) z)))
-
--- a word of a kind stays one while the objects stay
-word_stays : (s s' : State) (kind : Kind) (v : ℕ) → ((o : ℕ) → IsPresent s o → IsPresent s' o) → IsWord s kind v → IsWord s' kind v
-word_stays s s' Plain v stay w = w
-word_stays s s' Boolean v stay w = w
-word_stays s s' Byte v stay w = w
-word_stays s s' Char v stay w = w
-word_stays s s' Short v stay w = w
-word_stays s s' Int v stay w = w
-word_stays s s' Long v stay w = w
-word_stays s s' Text v stay w = w
-word_stays s s' Objects v stay w = ⊎_elim (λ e. inl e) (λ p. inr (stay v p)) w
 
 module _ (k : Known) where
   -- a load of a header, by a thread within or one that collects
@@ -152,7 +141,7 @@ module _ (k : Known) (within : role_of (view k) ≡ Within) where
 
     pub puts_element : (v : ℕ) → h.kind ≢ Text → ∥ IsWordNow h.kind v k ∥₁ → Owes k (element_at k.config (h.place + i)) (λ n. v) (λ n. PutElement o i v k v)
     puts_element v no_text word log words held f =
-        let here = word_stays (state_of k) (state log) h.kind v (λ r p. present_now k log words held f r within p) (word_is (state_of k) h.kind v word) in
+        let here = word_mono (state_of k) (state log) h.kind v (λ r p. present_now k log words held f r within p) (word_is (state_of k) h.kind v word) in
         quiet k log words held f _ (PutElement o i v k v) (Write o i v ∷ [])
         (writes k.config k.last log k.thread words f.legal held f.image f.fits.row (role_at k log words held f ∙ within) k.holdings f.fits.holdings o h i v knows inside no_text here) (refl, refl)
 
@@ -181,7 +170,7 @@ module _ (k : Known) (within : role_of (view k) ≡ Within) where
       word = either (eqb n 0) (header_word h) n
 
       are : AreWords s h.kind ws
-      are i v at = word_stays (state_of k) s h.kind v (λ r p. present_now k log words held f r within p) (words_are (state_of k) h.kind ws (∥∥₁_map filled (λ (z : IsFilled h k). z.words)) i v at)
+      are i v at = word_mono (state_of k) s h.kind v (λ r p. present_now k log words held f r within p) (words_are (state_of k) h.kind ws (∥∥₁_map filled (λ (z : IsFilled h k). z.words)) i v at)
 
       long : length ws ≡ h.length
       long = ∥∥₁_elim filled (hlevel props) (λ (z : IsFilled h k). z.long)

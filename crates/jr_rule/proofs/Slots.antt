@@ -15,7 +15,7 @@ use Rattle.jr_model.specs.declared.event.Found.{Found}
 use Rattle.jr_model.specs.declared.event.Found.TheVariants.{Object, Cleared, Stale}
 use Rattle.jr_model.specs.State.{Handle, State, same_kind, same_handle, IsOccupied}
 use Rattle.jr_model.specs.History.{History, state, IsLegal}
-use Rattle.jr_model.proofs.Updates.{and_left, and_right, kind_true, kind_self, eq_true, eq_self, handle_true, handle_false}
+use Rattle.jr_model.proofs.Updates.{and_left, and_right, kind_true, kind_self, eq_true, eq_self, same_parts, handle_true, handle_false}
 use Rattle.jr_model.proofs.References.{kept_state}
 use Rattle.jr_model.proofs.Presence.{sound_state}
 use Rattle.jr_steps.specs.Acts.{found_of, is_its, reply, is_occupied, handle_of}
@@ -50,13 +50,9 @@ can_prop Global None = hlevel props
 can_prop Global (Some o) = hlevel props
 can_prop Weak o = hlevel props
 
-same_handles : (k k' : RefKind) (n n' i i' o o' : ℕ) → k ≡ k' → n ≡ n' → i ≡ i' → o ≡ o'
-    → ◌≡◌ {A = Handle} (record { kind = k; serial = n; index = i; owner = o }) (record { kind = k'; serial = n'; index = i'; owner = o' })
-same_handles k k' n n' i i' o o' a b c d = cc
-
 -- a handle of a slot is told by its kind and serial
 pub handle_is : (h : Handle) (k : RefKind) (n i : ℕ) → k ≡ h.kind → n ≡ h.serial → h.index ≡ i → h.owner ≡ 0 → handle_of k n i ≡ h
-handle_is h k n i a b at owner = same_handles k h.kind n h.serial i h.index 0 h.owner a b (sym at) (sym owner)
+handle_is h k n i a b at owner = same_parts k h.kind n h.serial i h.index 0 h.owner a b (sym at) (sym owner)
 
 -- the test whether a slot's reference is the handle's
 its : (refs : Handle → Found) (next : ℕ) (h : Handle) (k : RefKind) (n i : ℕ) (r : Found) → h.index ≡ i → h.owner ≡ 0 → StandsAlone refs next (handle_of k n i) r → cond (is_its h k n) r Stale ≡ refs h
