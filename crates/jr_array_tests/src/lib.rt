@@ -10,6 +10,8 @@ mod making;
 #[cfg(test)]
 mod objects;
 #[cfg(test)]
+mod overtaken;
+#[cfg(test)]
 mod racing;
 #[cfg(test)]
 mod regions;

@@ -171,6 +171,9 @@ fn checks_of_an_array_and_a_value(rt: HostRuntime) -> Result<(), Fail> {
         (Handle::NULL, plain, Fault::Null),
         (plain, FOREIGN, Fault::Foreign),
         (plain, Handle(5), Fault::Stale),
+        (Handle(5), FOREIGN, Fault::Foreign),
+        (FOREIGN, Handle(5), Fault::Foreign),
+        (Handle::NULL, Handle(5), Fault::Stale),
         (plain, plain, Fault::NotArray),
     ];
     for (array, value, fault) in rows {

@@ -1,12 +1,10 @@
 //! A thread whose words another reserves while it looks for them.
-ghost use Rattle.std.specs.Prelude.{All};
-ghost use Rattle.jr_rule.specs.Passes.{IsOpened};
 
 use crate::envs::LAST;
-use crate::sharing::next_env;
+use crate::sharing::{closed, next_env};
 use jr_env::Env;
 use jr_model::Summary;
-use jr_rule::{Pass, Room};
+use jr_rule::Room;
 use jr_steps::Steps;
 use jr_word::{Config, Fault};
 use std::test::Fail;
@@ -43,17 +41,6 @@ fn make_often<S: Steps>(env: &mut Env<S>) -> Result<u32, Fault> {
         }
     }
     Ok(made)
-}
-
-/// What stands in a room that is closed with the last of the passes.
-fn closed(room: Room<LAST>, passes: Vec<Pass>) -> Option<Summary>
-    requires { All (λ p. IsOpened room.row p) passes.items }
-{
-    let mut passes = passes;
-    match passes.pop() {
-        Some(pass) => room.close(pass).ok(),
-        None => None,
-    }
 }
 
 // E12 comes hundreds of times where each thread has a processor, and perhaps never where they share one; the test passes then too. A call that it refused has changed nothing.

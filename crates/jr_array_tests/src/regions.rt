@@ -1,8 +1,10 @@
-//! Regions of arrays, through the calls that copy them out and in, over plain words.
+//! Regions of arrays, through the calls that copy them out and in, over plain words, and long ones over a room too.
 ghost use Rattle.std.specs.Prelude.{◌≤◌};
 
-use crate::envs::{lone_env, refuses};
+use crate::envs::{LAST, lone_env, refuses};
+use crate::sharing::next_env;
 use jr_env::Env;
+use jr_rule::Room;
 use jr_steps::Steps;
 use jr_word::{Config, Elem, Fault, Handle};
 use std::process::Abort;
@@ -153,13 +155,14 @@ fn regions_of_none_of_one_of_all_and_past_the_end(rt: HostRuntime) -> Result<(),
     has_elements(&rt, &mut env, array, 0, &mut [7; 3], &[10, 20, -40])
 }
 
-#[test]
-fn four_thousand_and_ninety_six_elements(rt: HostRuntime) -> Result<(), Fail> {
-    let config = Config {
-        words: 4_096,
-        ..TWO
-    };
-    let mut env = lone_env(rt.alloc(), config)?;
+/// Two threads, and words for an array of 4,096 elements.
+const LONG: Config = Config {
+    words: 4_096,
+    ..TWO
+};
+
+/// The elements of a long array are read as they were written: all, all but the first, and thirteen from the sixth on.
+fn a_long_part<S: Steps>(rt: &impl Abort, env: &mut Env<S>) -> Result<(), Fail> {
     let array = env.new_array::<i64>(4_096)?;
     let mut written = [0i64; 4_096];
     let mut next = i64::MIN;
@@ -168,10 +171,22 @@ fn four_thousand_and_ninety_six_elements(rt: HostRuntime) -> Result<(), Fail> {
         next = next.wrapping_mul(3).wrapping_add(1);
     }
     env.set_array_region(array, 0, &written)?;
-    let mut read = [0i64; 4_096];
-    env.get_array_region(array, 0, &mut read)?;
-    assert!(rt; read == written);
-    Ok(())
+    has_elements(rt, env, array, 0, &mut [0; 4_096], &written)?;
+    has_elements(rt, env, array, 1, &mut [0; 4_095], &written[1..])?;
+    has_elements(rt, env, array, 5, &mut [0; 13], &written[5..18])
+}
+
+#[test]
+fn four_thousand_and_ninety_six_elements(rt: HostRuntime) -> Result<(), Fail> {
+    let mut env = lone_env(rt.alloc(), LONG)?;
+    a_long_part(&rt, &mut env)
+}
+
+#[test]
+fn four_thousand_and_ninety_six_elements_in_a_room(rt: HostRuntime) -> Result<(), Fail> {
+    let (room, mut passes) = Room::<LAST>::open(rt.alloc(), LONG)?;
+    let mut env = next_env(&room, &mut passes)?;
+    a_long_part(&rt, &mut env)
 }
 
 /// What the word names is no array of 16-bit integers: nothing is read or written from the index on.

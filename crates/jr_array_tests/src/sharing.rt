@@ -5,15 +5,16 @@ ghost use Rattle.jr_rule.specs.Passes.{IsOpened};
 use crate::envs::{LAST, env_of, refuses};
 use crate::objects::has_element;
 use jr_env::Env;
+use jr_model::Summary;
 use jr_rule::{Pass, Room, RoomSteps};
 use jr_steps::Steps;
 use jr_word::{Config, Fault, Handle};
 use std::process::Abort;
 use std::test::Fail;
 
-/// A room of two threads, for just the objects and words that they make.
+/// A room of two threads, for just the objects and words that they make, with a third that takes no step.
 const SHARED: Config = Config {
-    threads: 2,
+    threads: 3,
     slots: 4,
     objects: 6,
     words: 14,
@@ -31,6 +32,17 @@ pub(crate) fn next_env<'a>(
     match passes.pop() {
         Some(pass) => env_of(RoomSteps::new(room, pass)),
         None => Err("a thread has no pass")?,
+    }
+}
+
+/// What stands in a room that is closed with the last of the passes.
+pub(crate) fn closed(room: Room<LAST>, passes: Vec<Pass>) -> Option<Summary>
+    requires { All (λ p. IsOpened room.row p) passes.items }
+{
+    let mut passes = passes;
+    match passes.pop() {
+        Some(pass) => room.close(pass).ok(),
+        None => None,
     }
 }
 
@@ -97,5 +109,18 @@ fn two_threads_share_arrays(rt: HostRuntime) -> Result<(), Fail> {
     let mut first = next_env(&room, &mut passes)?;
     shares(&rt, &mut first, &mut second)?;
     hands_on(&rt, &mut second, &mut first)?;
-    makes_beside(&rt, &mut first, &mut second)
+    makes_beside(&rt, &mut first, &mut second)?;
+    let (_first, _second) = (
+        first.into_pass().into_pass(),
+        second.into_pass().into_pass(),
+    );
+    // A global reference to three of the six objects, which have 3, 0, 3, 3, 2 and 3 elements; a refused call left nothing.
+    let summary = Summary {
+        globals: 3,
+        weaks: 0,
+        live: 6,
+        used: 14,
+    };
+    assert_eq!(rt; closed(room, passes), Some(summary));
+    Ok(())
 }
