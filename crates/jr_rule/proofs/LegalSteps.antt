@@ -1,6 +1,8 @@
 -- What a kind of step owes, over any words and any history, and how that is owed at the row as it is found.
 use Rattle.std.proofs.Common.{◌≡◌, ℕ, List, [], ◌∷◌, ◌++◌, map, sym, ap, subst, ◌∙◌, ◌≢◌, get_or, slice_set, eqb, eq-eqb, ne_eqb}
 use Rattle.std.proofs.lemmas.List.{append-nil}
+use lib.Seq.{set-get_or}
+use prog.Atomic.{either}
 use Rattle.jr_word.specs.declared.config.Config.{Config}
 use Rattle.jr_model.specs.declared.event.Act.{Act}
 use Rattle.jr_model.specs.State.{State}
@@ -9,11 +11,9 @@ use Rattle.jr_model.specs.History.{History, by, state, IsLegal, role_from}
 use Rattle.jr_model.proofs.Histories.{state_append, legal_push, state_push, mine_all}
 use Rattle.jr_model.proofs.Stays.{role_is_own}
 use Rattle.jr_steps.specs.declared.known.Holdings.{Holdings}
-use Rattle.jr_rule.specs.Image.{IsImage}
-use lib.Seq.{set-get_or}
-use prog.Atomic.{either}
 use Rattle.jr_steps.specs.declared.known.Known.{Known}
 use Rattle.jr_steps.specs.Holdings.{hold}
+use Rattle.jr_rule.specs.Image.{IsImage}
 use Rattle.jr_rule.specs.Rule.{IsFound, known_at, Makes}
 use Rattle.jr_rule.proofs.Images.{image_same}
 use Rattle.jr_rule.proofs.Spaces.{hold_same}

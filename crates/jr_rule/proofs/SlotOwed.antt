@@ -1,39 +1,39 @@
 -- What the steps of slots owe, wherever they find the row, and what a claim that is lost shows.
 use Rattle.std.proofs.Common.{◌≡◌, ◌≢◌, ⊎_elim, ◌<◌, ◌≤◌, ℕ, true, false, ◌++◌, refl, sym, ap, subst, ◌∙◌, arith, append_assoc, ◌⊎◌, inl, inr, ◌^◌, ◌==◌, Result, Option, Some, Ok, Err, List, [], ◌∷◌, get_or, slice_set, eqb, eq-eqb, ne_eqb}
 use Rattle.std.proofs.lemmas.Bool.{cases_lt}
+use Rattle.std.proofs.Math.Logic.{∥∥₁_elim}
+use Rattle.std.proofs.Props.{props}
 use mathlib.Core.List.{IsPrefix}
+use mathlib.Core.Logic.{dite, ∥∥₁_map}
+use native.Mathlib.Decide.{ℕ_discrete}
+use prog.Atomic.{either}
 use Rattle.jr_word.specs.declared.config.Config.{Config}
 use Rattle.jr_word.specs.declared.slot.SlotParts.{SlotParts}
 use Rattle.jr_word.specs.declared.slot.SlotParts.TheVariants as slot
 use Rattle.jr_word.specs.Slot.{slot_word}
+use Rattle.jr_word.specs.declared.handle.RefKind.{RefKind}
+use Rattle.jr_word.specs.declared.handle.RefKind.TheVariants.{Local}
 use Rattle.jr_model.specs.State.{Handle, State, IsOccupied}
 use Rattle.jr_model.specs.History.{History, state, state_from, IsLegal, IsLegalFrom, by, role_of}
 use Rattle.jr_model.specs.Refusals.{Sometime}
 use Rattle.jr_model.proofs.Histories.{legal_append, state_append, kept_from}
 use Rattle.jr_model.proofs.References.{given_act, occupied_between}
 use Rattle.jr_model.proofs.Moments.{sometime_last, prefix_self, sometime_wider}
-use Rattle.jr_steps.specs.declared.known.Known.{Known}
-use Rattle.jr_steps.specs.Acts.{is_occupied, found_of, act_of_slot_load, SlotLoadFits, act_of_claim, act_of_free}
-use Rattle.jr_steps.specs.Knowing.{IsFreeSlot, view, HasObject, HasLooked}
-use Rattle.jr_steps.specs.Says.{StandsAs}
-use Rattle.jr_rule.specs.Image.{IsSlotOf, slot_at}
-use Rattle.jr_rule.proofs.Slots.{probes, slot_fits, shows_slot, reference_fits, can_prop}
-use Rattle.std.proofs.Math.Logic.{∥∥₁_elim}
-use Rattle.std.proofs.Props.{props}
-use mathlib.Core.Logic.{dite, ∥∥₁_map}
-use native.Mathlib.Decide.{ℕ_discrete}
-use prog.Atomic.{either}
-use Rattle.jr_word.specs.declared.handle.RefKind.{RefKind}
-use Rattle.jr_word.specs.declared.handle.RefKind.TheVariants.{Local}
 use Rattle.jr_model.specs.declared.event.Role.TheVariants.{Within}
 use Rattle.jr_model.specs.declared.event.Found.{Found}
 use Rattle.jr_model.specs.declared.event.Found.TheVariants.{Object, Cleared, Stale}
 use Rattle.jr_model.specs.declared.event.Act.{Act}
 use Rattle.jr_model.specs.declared.event.Act.TheVariants.{Probe}
+use Rattle.jr_steps.specs.declared.known.Known.{Known}
+use Rattle.jr_steps.specs.Acts.{is_occupied, found_of, act_of_slot_load, SlotLoadFits, act_of_claim, act_of_free}
+use Rattle.jr_steps.specs.Knowing.{IsFreeSlot, view, HasObject, HasLooked}
+use Rattle.jr_steps.specs.Says.{StandsAs}
 use Rattle.jr_steps.specs.declared.loads.SlotLoad.{SlotLoad}
 use Rattle.jr_steps.specs.declared.loads.SlotLoad.TheVariants as loads
+use Rattle.jr_rule.specs.Image.{IsSlotOf, slot_at}
 use Rattle.jr_rule.specs.Rule.{IsSized, known_at, Owes}
 use Rattle.jr_rule.specs.Slots.{IsReference, parts_once_free}
+use Rattle.jr_rule.proofs.Slots.{probes, slot_fits, shows_slot, reference_fits, can_prop}
 use Rattle.jr_rule.proofs.StillSo.{now, role_at, present_now, looked_later}
 use Rattle.jr_rule.proofs.LegalSteps.{quiet, written, unwritten, won, lost}
 use Rattle.jr_rule.proofs.Looked.{IsLooked, looked_at}

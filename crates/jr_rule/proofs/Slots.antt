@@ -2,11 +2,8 @@
 use Rattle.std.proofs.Common.{◌≡◌, ◌≢◌, ◌<◌, ℕ, Option, Some, None, refl, arith, ◌^◌, inl, inr, ⊎_elim, ◌↔◌, ◌≤◌, ◌==◌, Bool, true, false, cond, IsTrue, sym, ap, subst, ◌∙◌}
 use Rattle.std.proofs.Props.{props}
 use Rattle.jr_word.specs.declared.handle.RefKind.{RefKind}
-use Rattle.jr_rule.specs.Slots.{CanStand, IsReference}
 use Rattle.jr_word.specs.declared.slot.SlotParts.{SlotParts}
 use Rattle.jr_word.specs.Slot.{NamesObject, IsSlot, slot_word}
-use Rattle.jr_steps.specs.declared.known.Known.{Known}
-use Rattle.jr_steps.specs.Knowing.{IsFreeSlot, ShowsSlot, state_of}
 use Rattle.jr_word.specs.declared.config.Config.{Config}
 use Rattle.jr_word.specs.declared.handle.RefKind.TheVariants.{Local, Global, Weak}
 use Rattle.jr_word.specs.declared.slot.SlotParts.TheVariants as slot
@@ -18,10 +15,13 @@ use Rattle.jr_model.specs.History.{History, state, IsLegal}
 use Rattle.jr_model.proofs.Updates.{and_left, and_right, kind_true, kind_self, eq_true, eq_self, same_parts, handle_true, handle_false}
 use Rattle.jr_model.proofs.References.{kept_state}
 use Rattle.jr_model.proofs.Presence.{sound_state}
+use Rattle.jr_model.proofs.InRoom.{in_room}
+use Rattle.jr_steps.specs.declared.known.Known.{Known}
+use Rattle.jr_steps.specs.Knowing.{IsFreeSlot, ShowsSlot, state_of}
 use Rattle.jr_steps.specs.Acts.{found_of, is_its, reply, is_occupied, handle_of}
 use Rattle.jr_steps.specs.Says.{StandsAlone, StandsAs, SaysOfSlot}
+use Rattle.jr_rule.specs.Slots.{CanStand, IsReference}
 use Rattle.jr_rule.specs.Image.{IsSlotOf}
-use Rattle.jr_model.proofs.InRoom.{in_room}
 
 -- the parts of a reference are those that a slot can have
 pub names_object : (kind : RefKind) (n : ℕ) (o : Option ℕ) (p : SlotParts) → IsReference kind n o p → ((x : ℕ) → o ≡ Some x → 0 < x) → NamesObject p
