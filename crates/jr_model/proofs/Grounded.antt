@@ -1,18 +1,24 @@
 -- The refusals that speak of the shared room are true.
-use Rattle.std.proofs.Common.{◌≡◌, ◌⊎◌, ⊎_elim, inl, inr, ℕ, Bool, cond, zero, suc, ◌+◌, ◌<◌, ◌≤◌, List, [], ◌∷◌, ◌++◌, Result, Err, ap, sym, subst, ◌∙◌, append_assoc}
+use Rattle.std.proofs.Common.{◌≡◌, ◌≢◌, ◌⊎◌, ⊎_elim, inl, inr, ℕ, Bool, cond, zero, suc, ◌+◌, ◌<◌, ◌≤◌, List, [], ◌∷◌, ◌++◌, Some, None, Result, Ok, Err, ap, refl, sym, subst, ◌∙◌, append_assoc}
 use mathlib.Core.List.{IsPrefix}
+use Rattle.std.proofs.lemmas.List.{append-nil}
 use Rattle.jr_word.specs.declared.config.Config.{Config}
 use Rattle.jr_word.specs.declared.handle.RefKind.{RefKind}
+use Rattle.jr_word.specs.declared.kind.Kind.{Kind}
 use Rattle.jr_word.specs.declared.fault.Fault.{Fault}
 use Rattle.jr_word.specs.declared.fault.Fault.TheVariants.{RowFull, SpaceFull, Barred, Busy}
 use Rattle.jr_model.specs.declared.event.Act.{Act}
 use Rattle.jr_model.specs.declared.event.Act.TheVariants.{Enter, Knock, Leave, Withdraw, ShutBusy, Probe, ReserveFull}
+use Rattle.jr_model.specs.declared.frames.Mode.{Mode}
+use Rattle.jr_model.specs.declared.frames.Mode.TheVariants.{Copy, Commit, Abort}
 use Rattle.jr_model.specs.State.{State, SomebodyCollects, not_outside, IsOccupied}
 use Rattle.jr_model.specs.History.{History, by, state, mine, PassView, Did}
 use Rattle.jr_model.specs.Frames.{Frames}
 use Rattle.jr_model.specs.Windows.{IsBehind, IsLastSeen, Begins, Ends}
 use Rattle.jr_model.specs.Refusals.{RowWasFull}
-use Rattle.jr_model.specs.Calls.{Call, Ran, entered}
+use Rattle.jr_model.specs.Calls.{Call, Ran, done, entered, ◌>>◌}
+use Rattle.jr_model.specs.Checks.{Word}
+use Rattle.jr_model.specs.Objects.{copying_back, release_array_elements}
 use Rattle.jr_model.specs.Parts.{enter, shut, reserve, create}
 use Rattle.jr_model.specs.Grounded.{TookWhere, BarredByCollector, BusyIsCounted, SpaceWasFull, FreeIndexIsFound, RefusedInItsStay, EachIsProbed, IsItsStay, CallsAreTheirStays}
 use Rattle.jr_model.proofs.Moments.{OneAct, first_done, prefix_trans}
@@ -75,14 +81,30 @@ module _ (old new : PassView) (f g : Frames) where
       m.to
       (subst (λ n. IsOccupied n (state m.moment) i) r.did.last m.met)
 
+  -- the entry and the exit of work in a stay that begins and ends with its own acts
+  stay_by : {A : Type 0} (work : Call A) (acts : List Act) (begun : History) → Begins old acts begun → Ends old new acts → (answer : Result A Fault) (h : Frames) → entered work f acts answer h
+      → ((answer ≡ Err Barred) × IsBehind old Knock begun × IsLastSeen new Withdraw) ⊎ (IsBehind old Enter begun × IsLastSeen new Leave)
+  stay_by work acts begun first last answer h (inl x) = inl (x.1, subst (λ acts. Begins old acts begun) x.0 first, subst (Ends old new) x.0 last)
+  stay_by work acts begun first last answer h (inr x) = inr (subst (λ acts. Begins old acts begun) x.1 first, ends_last old new (Enter ∷ x.0) Leave (subst (Ends old new) x.1 last))
+
   -- the entry and the exit of a call
   stay_of : {A : Type 0} (work : Call A) (answer : Result A Fault) (r : Ran old new f g (entered work) answer)
       → ((answer ≡ Err Barred) × IsBehind old Knock r.begun × IsLastSeen new Withdraw) ⊎ (IsBehind old Enter r.begun × IsLastSeen new Leave)
-  stay_of work answer r = go r.is
+  stay_of work answer r = stay_by work r.acts r.begun r.window.first r.window.last answer g r.is
+
+  -- the same of a call that goes on with no act
+  stay_then : {A B : Type 0} (work : Call A) (b : B) (answer : Result B Fault) (r : Ran old new f g (do entered work; done b) answer)
+      → ((answer ≡ Err Barred) × IsBehind old Knock r.begun × IsLastSeen new Withdraw) ⊎ (IsBehind old Enter r.begun × IsLastSeen new Leave)
+  stay_then {A} {B} work b answer r = go r.is
     where
-      go : entered work f r.acts answer g → ((answer ≡ Err Barred) × IsBehind old Knock r.begun × IsLastSeen new Withdraw) ⊎ (IsBehind old Enter r.begun × IsLastSeen new Leave)
-      go (inl x) = inl (x.1, subst (λ acts. Begins old acts r.begun) x.0 r.window.first, subst (Ends old new) x.0 r.window.last)
-      go (inr x) = inr (subst (λ acts. Begins old acts r.begun) x.1 r.window.first, ends_last old new (Enter ∷ x.0) Leave (subst (Ends old new) x.1 r.window.last))
+      go : (do entered work; done b) f r.acts answer g → ((answer ≡ Err Barred) × IsBehind old Knock r.begun × IsLastSeen new Withdraw) ⊎ (IsBehind old Enter r.begun × IsLastSeen new Leave)
+      go (inl x) =
+          let own : r.acts ≡ x.2 = x.4 ∙ (ap (λ rest. x.2 ++ rest) x.6.0 ∙ append-nil x.2) in
+          ⊎_elim (λ barred. absurd (let bad = barred.0 in cc)) (λ stay. inr stay)
+          (stay_by work x.2 r.begun (subst (λ acts. Begins old acts r.begun) own r.window.first) (subst (Ends old new) own r.window.last) (Ok x.0) x.1 x.5)
+      go (inr x) =
+          ⊎_elim (λ barred. inl ((let why = x.1 in let is = barred.0 in cc), barred.1, barred.2)) (λ stay. inr stay)
+          (stay_by work r.acts r.begun r.window.first r.window.last (Err x.0) g x.2)
 
   -- what was refused within a stay was refused between its entry and its exit
   refused_inside : {A : Type 0} (work : Call A) → Ran old new f g (entered work) (Err RowFull) → (begun : History) × IsBehind old Enter begun × IsLastSeen new Leave × RowWasFull begun new
@@ -115,6 +137,12 @@ each_is_probed old new f g k a r i l = probed_act old new f g _ r i l
 its_stay : {A : Type 0} (old new : PassView) (work : Call A) → IsItsStay old new (entered work)
 its_stay old new work f g answer r = stay_of old new f g work answer r
 
+-- a release that copies back
+release_stay : (c : Config) (last thread : ℕ) (old new : PassView) (k : Kind) (a : Word) (buffer : List ℕ) (mode : Mode) → mode ≢ Abort → IsItsStay old new (release_array_elements c last thread (state new.seen) k a buffer mode)
+release_stay c last thread old new k a buffer Copy ne f g answer r = stay_then old new f g (copying_back c last thread (state new.seen) k a buffer) None answer r
+release_stay c last thread old new k a buffer Commit ne f g answer r = stay_then old new f g (copying_back c last thread (state new.seen) k a buffer) (Some buffer) answer r
+release_stay c last thread old new k a buffer Abort ne f g answer r = absurd (ne refl)
+
 pub calls_are_their_stays : (c : Config) (last thread : ℕ) (old new : PassView) → CallsAreTheirStays c last thread old new
 calls_are_their_stays c last thread old new = record {
   new_reference = λ k a. its_stay old new _;
@@ -138,4 +166,5 @@ calls_are_their_stays c last thread old new = record {
   set_array_region = λ k a start vs. its_stay old new _;
   get_array_elements = λ k a. its_stay old new _;
   get_string_chars = λ a. its_stay old new _;
+  release_array_elements = release_stay c last thread old new;
 }

@@ -1,5 +1,5 @@
 -- What the refusals that speak of the shared room tell of it.
-use Rattle.std.specs.Prelude.{◌≡◌, ◌⊎◌, ◌+◌, ◌<◌, ◌≤◌, ℕ, Bool, Result, Err, List, [], ◌∷◌, ◌++◌}
+use Rattle.std.specs.Prelude.{◌≡◌, ◌≢◌, ◌⊎◌, ◌+◌, ◌<◌, ◌≤◌, ℕ, Bool, Result, Err, List, [], ◌∷◌, ◌++◌}
 use mathlib.Core.List.{IsPrefix}
 use Rattle.jr_word.specs.declared.config.Config.{Config}
 use Rattle.jr_word.specs.declared.handle.RefKind.{RefKind}
@@ -8,6 +8,8 @@ use Rattle.jr_word.specs.declared.fault.Fault.{Fault}
 use Rattle.jr_word.specs.declared.fault.Fault.TheVariants.{RowFull, SpaceFull, Barred, Busy}
 use Rattle.jr_model.specs.declared.event.Act.{Act}
 use Rattle.jr_model.specs.declared.event.Act.TheVariants.{Enter, Knock, Leave, Withdraw, ShutBusy, Probe, ReserveFull}
+use Rattle.jr_model.specs.declared.frames.Mode.{Mode}
+use Rattle.jr_model.specs.declared.frames.Mode.TheVariants.{Abort}
 use Rattle.jr_model.specs.State.{State, SomebodyCollects, not_outside, IsOccupied}
 use Rattle.jr_model.specs.History.{History, by, state, PassView}
 use Rattle.jr_model.specs.Frames.{Frames}
@@ -54,7 +56,7 @@ abbrev pub IsItsStay : {A : Type 0} → PassView → PassView → Call A → Typ
 IsItsStay {A} old new call = (f g : Frames) (answer : Result A Fault) (r : Ran old new f g call answer)
     → ((answer ≡ Err Barred) × IsBehind old Knock r.begun × IsLastSeen new Withdraw) ⊎ (IsBehind old Enter r.begun × IsLastSeen new Leave)
 
--- each call that has a stay of its own: those at references, those that make an object, and those that look into one or write to it
+-- each call that has a stay of its own: those at references, those that make an object, those that look into one or write to it, and copies of all elements out or back
 pub record CallsAreTheirStays (c : Config) (last thread : ℕ) (old new : PassView) : Type 0 where
   pub new_reference : (k : RefKind) (a : Word) → IsItsStay old new (references.new_reference c last thread k a)
   pub new_local_ref : (a : Word) → IsItsStay old new (references.new_local_ref c last thread a)
@@ -77,6 +79,7 @@ pub record CallsAreTheirStays (c : Config) (last thread : ℕ) (old new : PassVi
   pub set_array_region : (k : Kind) (a : Word) (start : ℕ) (vs : List ℕ) → IsItsStay old new (objects.set_array_region c last thread (state new.seen) k a start vs)
   pub get_array_elements : (k : Kind) (a : Word) → IsItsStay old new (objects.get_array_elements c last thread (state new.seen) k a)
   pub get_string_chars : (a : Word) → IsItsStay old new (objects.get_string_chars c last thread (state new.seen) a)
+  pub release_array_elements : (k : Kind) (a : Word) (buffer : List ℕ) (mode : Mode) → mode ≢ Abort → IsItsStay old new (objects.release_array_elements c last thread (state new.seen) k a buffer mode)
 
 -- a new reference that is refused for want of an index has a probe of each among its own acts
 abbrev pub EachIsProbed : Type 0
