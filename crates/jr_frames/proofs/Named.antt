@@ -3,11 +3,10 @@ use Rattle.std.proofs.Common.{◌≡◌, ◌≢◌, ◌==◌, ◌&&◌, ◌+◌,
 use Rattle.std.proofs.lemmas.List.{get_or_past}
 use Rattle.std.proofs.lemmas.Bool.{cases_lt}
 use Rattle.std.proofs.lemmas.Bool.Decides.{nat_tests}
-use Rattle.jr_word.specs.declared.handle.RefKind.{RefKind}
 use Rattle.jr_word.specs.declared.handle.RefKind.TheVariants.{Local}
 use Rattle.jr_model.specs.State.{Handle, same_handle}
 use Rattle.jr_model.specs.Frames.{object_of}
-use Rattle.jr_model.proofs.Updates.{and_left, and_right, handle_true, handle_self}
+use Rattle.jr_model.proofs.Updates.{and_left, and_right, same_parts, handle_true, handle_self}
 use Rattle.jr_frames.specs.declared.place.Place.{Place}
 use Rattle.jr_frames.specs.declared.frames.Frames.TheInside.{Inside}
 use Rattle.jr_frames.specs.Places.{given_of, unused, place_at, is_taken, ref_at}
@@ -20,10 +19,6 @@ not_zero n ne = grind (arith, nat_tests)
 some_true : (b : Bool) (o : ℕ) → IsSome (cond b (Some o) None) → b ≡ true
 some_true true o s = refl
 some_true false o s = absurd cc
-
-same_parts : (k l : RefKind) (s t i o u : ℕ) → k ≡ l → s ≡ t → o ≡ u
-    → ◌≡◌ {A = Handle} (record { kind = k; serial = s; index = i; owner = o }) (record { kind = l; serial = t; index = i; owner = u })
-same_parts k l s t i o u a b c = cc
 
 -- no reference stands beyond the places
 pub taken_index : (places : List Place) (p : ℕ) → is_taken places p ≡ true → p < length places
@@ -41,7 +36,7 @@ module _ (a : Inside) (free : List ℕ) (order : List (List ℕ)) (is : IsArrang
   pub named_object : (place_at a.places.items h.index).object ≢ 0 → h.kind ≡ Local → h.serial + 1 ≡ given_of (place_at a.places.items h.index) → h.owner ≡ a.thread
       → object_of (table_of a order).frames h ≡ Some (place_at a.places.items h.index).object
   named_object ne kind serial owner =
-      let same : (ref_at a.thread a.places.items h.index).handle ≡ h = same_parts Local h.kind _ h.serial h.index a.thread h.owner (sym kind) (omega arith) (sym owner) in
+      let same : (ref_at a.thread a.places.items h.index).handle ≡ h = same_parts Local h.kind _ h.serial h.index h.index a.thread h.owner (sym kind) (omega arith) refl (sym owner) in
       object_of_handle a free order is h
       ∙ ap (λ b. cond (not b && same_handle (ref_at a.thread a.places.items h.index).handle h) (Some (place_at a.places.items h.index).object) None) (not_zero _ ne)
       ∙ ap (λ k. cond (same_handle k h) (Some (place_at a.places.items h.index).object) None) same
