@@ -27,9 +27,10 @@ use Rattle.jr_steps.proofs.StepFacts.{goes_did}
 use Rattle.jr_scripts.specs.declared.part.Job.{Job}
 use Rattle.jr_scripts.specs.declared.part.ThreadRun.{ThreadRun}
 use Rattle.jr_gate.specs.Performing.{Moment, moment}
+use Rattle.jr_env.specs.Deeds.{DoesDeed}
 use Rattle.jr_scripts.specs.Explains.{Explained}
 use Rattle.jr_scripts.specs.Text.{heading, ending}
-use Rattle.jr_scripts.specs.Runs.{RanToEnd, IsFreed}
+use Rattle.jr_scripts.specs.Runs.{IsFreed, running_to_end}
 use Rattle.jr_scripts.specs.AllRuns.{RanPass, seeing_as, opening_of, IsPartOf, ArePartsOf, text_of_parts, IsRunOfAll}
 use Rattle.jr_scripts.specs.Jobs.{HasRun, IsFor, IsJobOf, AreJobsOf, IsDone, AreTold}
 
@@ -68,20 +69,20 @@ played turns last c r p q first commands answer lines config_is last_is o x done
     let knows0 : known_of p ≡ k0 = o.knows ∙ (λ i. known (config_is i) (last_is i) t [] empty 0) in
     let fresh : fresh_frames (standing_of p).config.locals ≡ fresh_frames c.locals = ap (λ (k : Known). fresh_frames k.config.locals) knows0 in
     let spent : standing_of x.spent ≡ record (standing_of p) { fresh = false } = (x.spends).stands_is in
-    let ran : RanToEnd facts_of x.spent q (fresh_frames c.locals) x.frames turns first commands (Ok tt) lines
-    = subst (λ a. RanToEnd facts_of x.spent q (fresh_frames c.locals) x.frames turns first commands a lines) done
-    (subst (λ f. RanToEnd facts_of x.spent q f x.frames turns first commands answer lines) fresh x.ran) in
+    let ran : DoesDeed facts_of x.spent q (fresh_frames c.locals) x.frames (running_to_end turns first commands lines) (Ok tt)
+    = subst (λ a. DoesDeed facts_of x.spent q (fresh_frames c.locals) x.frames (running_to_end turns first commands lines) a) done
+    (subst (λ f. DoesDeed facts_of x.spent q f x.frames (running_to_end turns first commands lines) answer) fresh x.ran) in
     let holds0 : Holds (fresh_frames c.locals) k0 = λ place. refl in
-    let y = ran.ended (known_of p) (((x.spends).same (known_of p)).0 (opened_knows r p o)) (subst (Holds (fresh_frames c.locals)) (sym knows0) holds0) in
+    let y = ran.did (known_of p) (((x.spends).same (known_of p)).0 (opened_knows r p o)) (subst (Holds (fresh_frames c.locals)) (sym knows0) holds0) in
     let is : y.0 ≡ known_of q = (y.1).is in
     let s = ran.stands_is in
     let same_config : (known_of q).config ≡ c = s.config ∙ (ap (λ (z : Standing). z.config) spent ∙ ap (λ (k : Known). k.config) knows0) in
     let same_last : (known_of q).last ≡ last = s.last ∙ (ap (λ (z : Standing). z.last) spent ∙ ap (λ (k : Known). k.last) knows0) in
     let is_of : (known_of q).thread ≡ t = q.held.thread_is ∙ (s.thread ∙ ap (λ (z : Standing). z.thread) spent) in
     let end : Known → Moment = λ k. moment (standing_of q).fresh k x.frames in
-    let told = y.3 in
+    let told = y.3.0 in
     let from : Explained turns first (opening_of c last t) commands lines told
-    = subst (λ b. Explained turns first (moment b k0 (fresh_frames c.locals)) commands lines told) (ap (λ (z : Standing). z.fresh) spent) (subst (λ (k : Known). Explained turns first (moment (standing_of x.spent).fresh k (fresh_frames c.locals)) commands lines told) knows0 y.4) in
+    = subst (λ b. Explained turns first (moment b k0 (fresh_frames c.locals)) commands lines told) (ap (λ (z : Standing). z.fresh) spent) (subst (λ (k : Known). Explained turns first (moment (standing_of x.spent).fresh k (fresh_frames c.locals)) commands lines told) knows0 y.3.1) in
     record {
       same_config = same_config;
       same_last = same_last;
@@ -89,7 +90,7 @@ played turns last c r p q first commands answer lines config_is last_is o x done
       told = told;
       explained = from;
       left = end (known_of q);
-      freed = subst (λ (k : Known). IsFreed turns told (end k)) is y.5;
+      freed = subst (λ (k : Known). IsFreed turns told (end k)) is y.3.2;
       saw = view_is c last t (known_of q) same_config same_last is_of;
     }
 

@@ -9,6 +9,7 @@ use Rattle.jr_model.specs.Frames.{Frames}
 use Rattle.jr_syntax.specs.declared.command.Command.{Command}
 use Rattle.jr_steps.specs.declared.known.Known.{Known}
 use Rattle.jr_steps.specs.Knowing.{Facts, Holds}
+use Rattle.jr_env.specs.Deeds.{DoesDeed}
 use Rattle.jr_scripts.specs.declared.reply.Reply.{Reply}
 use Rattle.jr_model.specs.declared.event.Role.TheVariants.{Outside}
 use Rattle.jr_scripts.specs.declared.region.Region.{Region}
@@ -18,7 +19,7 @@ use Rattle.jr_scripts.specs.RegionCommands.{deed_at, giving_up_all}
 use Rattle.jr_scripts.specs.Advancing.{CarriedOut, KnowsWith, level_names, objects_in, place_with, role_with}
 use Rattle.jr_scripts.specs.Text.{buffers_after, printed, names_after, names_set}
 use Rattle.jr_scripts.specs.Explains.{Explains, nothing, then, unwritten}
-use Rattle.jr_scripts.specs.Runs.{RanThread, WritesDown}
+use Rattle.jr_scripts.specs.Runs.{WritesDown, running}
 use Rattle.jr_gate.specs.Performing.{IsAsBefore, moment}
 use Rattle.jr_scripts.proofs.Within.{role_kept, role_then}
 use Rattle.jr_steps.specs.Knowing.{Standing}
@@ -61,13 +62,13 @@ module _ {S : Type 0} {facts : S → Facts} where
   -- all commands were done, and a region that stood was given up
   pub finished : {old now last : S} {f g h : Frames} {turns first : ℕ} {commands : List Command} {out out' : List ℕ} {names : Names} {region : Option Region} (i : ℕ) → (facts old).stands.role ≡ Outside → length commands ≤ i
       → Going facts old now f g turns first (take i commands) out out' names region → CarriedOut facts now last g h Outside (KnowsWith region g) (Holds h) (giving_up_all (objects_in region)) (Ok tt)
-      → (text : List ℕ) × (out' ≡ out ++ text) × RanThread facts old last f h turns first commands (Ok tt) text
+      → (text : List ℕ) × (out' ≡ out ++ text) × DoesDeed facts old last f h (running turns first commands text) (Ok tt)
   finished {old} {now} {last} {f} {g} {h} {turns} {first} {commands} {out} {out'} {names} {region} i outside all d e = (
     d.text,
     d.grew,
     record {
       stands_is = outside_again outside (role_then (facts old).stands (facts now).stands (facts last).stands (role_with region) Outside d.stands_is e.stands_is);
-      explained = λ k s m.
+      did = λ k s m.
           let x = d.explained k s m in
           let y = e.did x.0 x.1 x.2 in (
             y.0,
@@ -113,14 +114,14 @@ module _ {S : Type 0} {facts : S → Facts} where
         → CarriedOut facts mid new g h (role_with left) (KnowsWith region g) (KnowsWith left h) (deed_at turns (place_with names region) c) answer
         → objects_in left ≡ objects_after c answer (objects_in region) → WritesDown (first + i) c answer between names' r out' out'' → r ≡ Err e
         → CarriedOut facts new last h j Outside (KnowsWith left h) (Holds j) (giving_up_all (objects_in left)) (Ok tt)
-        → (text : List ℕ) × (out'' ≡ out ++ text) × RanThread facts old last f j turns first commands (Err fault.Memory) text
+        → (text : List ℕ) × (out'' ≡ out ++ text) × DoesDeed facts old last f j (running turns first commands text) (Err fault.Memory)
     cut_off {last} {j} r e outside small is d does objects kept bad ended =
         let w : WritesDown (first + i) c answer between names' (Err e) out' out'' = subst (λ r. WritesDown (first + i) c answer between names' r out' out'') bad kept in (
           d.text,
           w ∙ d.grew,
           record {
             stands_is = outside_again outside (role_then (facts old).stands (facts new).stands (facts last).stands (role_with left) Outside (role_then (facts old).stands (facts mid).stands (facts new).stands (role_with region) (role_with left) d.stands_is does.stands_is) ended.stands_is);
-            explained = λ k s a.
+            did = λ k s a.
                 let x = d.explained k s a in
                 let y = does.did x.0 x.1 x.2 in
                 let z = ended.did y.0 y.1 y.2 in (

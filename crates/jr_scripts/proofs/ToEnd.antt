@@ -11,21 +11,21 @@ use Rattle.jr_env.specs.Deeds.{DoesDeed, free_locals}
 use Rattle.jr_scripts.specs.Commands.{tried}
 use Rattle.jr_scripts.specs.Explains.{nothing, written}
 use Rattle.jr_scripts.specs.Places.{nowhere}
-use Rattle.jr_scripts.specs.Runs.{RanThread, RanToEnd}
+use Rattle.jr_scripts.specs.Runs.{running, running_to_end}
 
 -- no command was done, since memory was refused before the first
-pub not_begun : {S : Type 0} {facts : S → Facts} {a : S} {f : Frames} (turns first : ℕ) (commands : List Command) → RanThread facts a a f f turns first commands (Err fault.Memory) []
+pub not_begun : {S : Type 0} {facts : S → Facts} {a : S} {f : Frames} (turns first : ℕ) (commands : List Command) → DoesDeed facts a a f f (running turns first commands []) (Err fault.Memory)
 not_begun {facts = facts} {a = a} {f = f} turns first commands = record {
   stands_is = nothing_changed;
-  explained = λ k s m. let here = moment (facts a).stands.fresh k f in (k, s, m, (refl, written [] commands nowhere here refl nothing (refl, refl)));
+  did = λ k s m. let here = moment (facts a).stands.fresh k f in (k, s, m, (refl, written [] commands nowhere here refl nothing (refl, refl)));
 }
 
 pub ran_to_end : {S : Type 0} {facts : S → Facts} {a b c : S} {f g h : Frames} {turns first : ℕ} {commands : List Command} {answer freed : Result (Unit {0}) Fault} {text : List ℕ}
-    → RanThread facts a b f g turns first commands answer text → DoesDeed facts b c g h (tried turns free_locals) freed → RanToEnd facts a c f h turns first commands answer text
+    → DoesDeed facts a b f g (running turns first commands text) answer → DoesDeed facts b c g h (tried turns free_locals) freed → DoesDeed facts a c f h (running_to_end turns first commands text) answer
 ran_to_end {facts = facts} {b = b} {g = g} {freed = freed} r d = record {
   stands_is = still_before r.stands_is d.stands_is;
-  ended = λ k s m.
-      let x = r.explained k s m in
+  did = λ k s m.
+      let x = r.did k s m in
       let y = d.did x.0 x.1 x.2 in
-      (y.0, y.1, y.2, moment (facts b).stands.fresh x.0 g, x.3, record { answer = freed; tries = y.3 });
+      (y.0, y.1, y.2, (moment (facts b).stands.fresh x.0 g, x.3, record { answer = freed; tries = y.3 }));
 }

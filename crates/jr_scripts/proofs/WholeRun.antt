@@ -14,9 +14,10 @@ use Rattle.jr_steps.specs.Knowing.{AreOf, Facts, Standing, view, Holds, Spent}
 use Rattle.jr_rule.specs.declared.plain.PlainSteps.{PlainSteps}
 use Rattle.jr_rule.specs.Plain.{unseen, standing_alone, facts_from, Shows}
 use Rattle.jr_gate.specs.Performing.{moment}
+use Rattle.jr_env.specs.Deeds.{DoesDeed}
 use Rattle.jr_scripts.specs.Text.{heading, ending}
 use Rattle.jr_scripts.specs.Explains.{Explained}
-use Rattle.jr_scripts.specs.Runs.{RanToEnd, IsRun, seeing, opening_moment}
+use Rattle.jr_scripts.specs.Runs.{IsRun, running_to_end, seeing, opening_moment}
 use Rattle.jr_scripts.proofs.Alone.{undisturbed}
 use Rattle.jr_scripts.proofs.AloneAnswers.{lone_pass, unbarred}
 use Rattle.jr_scripts.proofs.FreedAlone.{ended_alone}
@@ -36,13 +37,13 @@ module _ {S : Type 0} {facts : S → Facts} (fits : AreOf facts) where
   pub is_run : {old new : S} {f g : Frames} (turns last : ℕ) (c : Config) (part : ThreadPart) (lines whole : List ℕ) (v : Summary)
       → c.threads ≡ 1 → (facts old).stands.config ≡ c → (facts old).stands.last ≡ last → (facts old).stands.thread ≡ 0 → (facts old).stands.fresh ≡ false
       → (facts old).knows (unseen c last) → f ≡ fresh_frames c.locals
-      → RanToEnd facts old new f g turns 3 part.commands (Ok tt) lines
+      → DoesDeed facts old new f g (running_to_end turns 3 part.commands lines) (Ok tt)
       → ((k : Known) → (facts new).knows k → v ≡ summary k.config k.last (state k.seen))
       → whole ≡ heading part.name ++ lines ++ ending v
       → IsRun turns last c part whole
   is_run {old} {new} {f} {g} turns last c part lines whole v one config_is last_is thread_is spent known fresh ran tells whole_is =
       let k0 = unseen c last in
-      let x = ran.ended k0 known (subst (λ h. Holds h k0) (sym fresh) (opening_holds c last)) in
+      let x = ran.did k0 known (subst (λ h. Holds h k0) (sym fresh) (opening_holds c last)) in
       let k = x.0 in
       let of = fits new k x.1 in
       let config_of : k.config ≡ c = of.config ∙ (ran.stands_is.config ∙ config_is) in
@@ -51,10 +52,10 @@ module _ {S : Type 0} {facts : S → Facts} (fits : AreOf facts) where
       let legal : IsLegal c last k.seen = subst (λ d. IsLegal d last k.seen) config_of (subst (λ l. IsLegal k.config l k.seen) last_of of.legal) in
       let sum : v ≡ summary c last (state k.seen) = tells k x.1 ∙ (ap (λ d. summary d k.last (state k.seen)) config_of ∙ ap (λ l. summary c l (state k.seen)) last_of) in
       let end = moment (facts new).stands.fresh k g in
-      let told = x.3 in
-      let from : Explained turns 3 (opening_moment c last) part.commands lines told = subst (λ b. Explained turns 3 (moment b k0 (fresh_frames c.locals)) part.commands lines told) spent (subst (λ h. Explained turns 3 (moment (facts old).stands.fresh k0 h) part.commands lines told) fresh x.4) in
+      let told = x.3.0 in
+      let from : Explained turns 3 (opening_moment c last) part.commands lines told = subst (λ b. Explained turns 3 (moment b k0 (fresh_frames c.locals)) part.commands lines told) spent (subst (λ h. Explained turns 3 (moment (facts old).stands.fresh k0 h) part.commands lines told) fresh x.3.1) in
       let all = undisturbed c last one k.seen legal in
-      let ended = ended_alone turns 3 (opening_moment c last) told end part.commands lines from x.5 (lone_pass (view k) (ap (λ d. d.threads) config_of ∙ one) thread_of all) in
+      let ended = ended_alone turns 3 (opening_moment c last) told end part.commands lines from x.3.2 (lone_pass (view k) (ap (λ d. d.threads) config_of ∙ one) thread_of all) in
       record {
         seen = k.seen;
         lines = lines;
@@ -64,7 +65,7 @@ module _ {S : Type 0} {facts : S → Facts} (fits : AreOf facts) where
         explained = from;
         answers = ended.answers;
         left = end;
-        freed = x.5;
+        freed = x.3.2;
         freed_all = ended.all;
         saw = same_view c last k config_of last_of thread_of;
         text_is = whole_is ∙ ap (λ s. heading part.name ++ lines ++ ending s) sum;
@@ -79,7 +80,7 @@ pub plain_run : {old new : PlainSteps 4294967295} {f g : Frames} {commands : Lis
     → c.threads ≡ 1 → made.config ≡ c → made.role ≡ Outside → made.fresh ≡ true → Shows (standing_alone c 4294967295 Outside true) made.words.items (unseen c 4294967295)
     → Spent plain_facts made old → f ≡ fresh_frames made.config.locals
     → commands ≡ part.commands → answer ≡ Ok tt
-    → RanToEnd plain_facts old new f g turns 3 commands answer lines
+    → DoesDeed plain_facts old new f g (running_to_end turns 3 commands lines) answer
     → ((k : Known) → Shows (standing_alone new.config 4294967295 new.role new.fresh) new.words.items k → v ≡ summary k.config k.last (state k.seen))
     → whole ≡ heading part.name ++ lines ++ ending v
     → IsRun turns 4294967295 c part whole
@@ -90,5 +91,5 @@ plain_run {old} {new} {f} {g} {commands} turns c part lines whole v made one con
     (subst (λ b. Shows (standing_alone c 4294967295 Outside b) made.words.items (unseen c 4294967295)) (sym fresh_is) opening)) in
     let stands = spent.stands_is in
     let Leads : List Command → Result (Unit {0}) Fault → Type 0
-    = λ cs r. RanToEnd plain_facts old new f g turns 3 cs r lines in
+    = λ cs r. DoesDeed plain_facts old new f g (running_to_end turns 3 cs lines) r in
     is_run (λ s k h. h.pass) turns 4294967295 c part lines whole v one (ap (λ (s : Standing). s.config) stands ∙ config_is) refl refl (ap (λ (s : Standing). s.fresh) stands) ((spent.same (unseen c 4294967295)).0 known) (fresh ∙ ap (λ d. fresh_frames d.locals) config_is) (subst (λ cs. Leads cs (Ok tt)) these (subst (Leads commands) good ran)) tells whole_is

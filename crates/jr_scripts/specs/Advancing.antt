@@ -9,11 +9,11 @@ use Rattle.jr_steps.specs.declared.known.Known.{Known}
 use Rattle.jr_steps.specs.declared.steps.Steps.{Ghosts}
 use Rattle.jr_steps.specs.Knowing.{Facts, Leads, Holds}
 use Rattle.jr_gate.specs.Performing.{IsAsBefore, moment}
-use Rattle.jr_frames.specs.Table.{Table}
 use Rattle.jr_critical.specs.declared.levels.Levels.{Levels}
-use Rattle.jr_critical.specs.Levels.{KnowsLevels, Stand, level_object, object_opened, objects_of, role_opened}
+use Rattle.jr_critical.specs.Levels.{KnowsLevels, StandOver, level_object, object_opened, objects_of, role_opened}
 use Rattle.jr_env.specs.declared.env.Env.{Env}
 use Rattle.jr_env.specs.Deeds.{Deed}
+use Rattle.jr_env.specs.Envs.{IsOutside}
 use Rattle.jr_syntax.specs.declared.verb.OnNameAt.{OnNameAt}
 use Rattle.jr_syntax.specs.declared.verb.OnNameAt.TheVariants as on_name_at
 use Rattle.jr_syntax.specs.declared.verb.PutAt.{PutAt}
@@ -62,17 +62,18 @@ abbrev pub KnowsOpened : Result Levels Fault → Frames → Known → Type 0
 KnowsOpened (Ok v) f k = KnowsLevels v f k
 KnowsOpened (Err e) f k = Holds f k
 
-module _ {S : Type 0} (facts : S → Facts) where
-  -- a region stands, and each of its levels has a name
-  pub record StandsIn (r : Region) (s : S) (t : Table) : Type 0 where
-    pub stand : Stand facts r.levels s t
+module _ {S : Type 0} {G : Ghosts S} where
+  -- a region stands over the env, and each of its levels has a name
+  pub record StandsIn (r : Region) (env : Env S G) : Type 0 where
+    pub stand : StandOver r.levels env.held
     pub named : length r.names.items ≡ length (objects_of r.levels)
 
-  -- the thread stands outside, or in a region
-  abbrev pub StandsWith : Option Region → S → Table → Type 0
-  StandsWith None s t = (facts s).stands.role ≡ Outside
-  StandsWith (Some r) s t = StandsIn r s t
+  -- the thread of the env stands outside, or in a region
+  abbrev pub StandsWith : Option Region → Env S G → Type 0
+  StandsWith None env = IsOutside env
+  StandsWith (Some r) env = StandsIn r env
 
+module _ {S : Type 0} (facts : S → Facts) where
   -- THE DEED WAS DONE, with this answer: for whatever was known and met the condition, something is known that it led to and that shows the other; and afterwards the thread has the role
   pub record CarriedOut {A : Type 0} (old new : S) (f g : Frames) (role : Role) (met shown : Known → Type 0) (deed : Deed A) (answer : Result A Fault) : Type 0 where
     pub stands_is : IsAsBefore (record ((facts old).stands) { role = role }) (facts new).stands

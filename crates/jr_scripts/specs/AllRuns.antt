@@ -18,9 +18,10 @@ use Rattle.jr_rule.specs.Passes.{facts_of, standing_of}
 use Rattle.jr_gate.specs.Performing.{Moment}
 use Rattle.jr_steps.specs.Holdings.{empty}
 use Rattle.jr_steps.specs.Knowing.{Spent}
+use Rattle.jr_env.specs.Deeds.{DoesDeed}
 use Rattle.jr_scripts.specs.Text.{heading, ending}
 use Rattle.jr_scripts.specs.Explains.{Explained}
-use Rattle.jr_scripts.specs.Runs.{RanToEnd, IsFreed, RunsSingle}
+use Rattle.jr_scripts.specs.Runs.{IsFreed, RunsSingle, running_to_end}
 
 -- a thread ran these commands with its pass, which was spent first, freed its local references, and handed the pass back, not fresh
 pub record RanPass (turns first : ℕ) (commands : List Command) (old new : Pass) (answer : Result (Unit {0}) Fault) (text : List ℕ) : Type 0 where
@@ -28,7 +29,7 @@ pub record RanPass (turns first : ℕ) (commands : List Command) (old new : Pass
   pub spends : Spent facts_of old spent
   pub used_up : new.fresh ≡ false
   pub frames : Frames
-  pub ran : RanToEnd facts_of spent new (fresh_frames (standing_of old).config.locals) frames turns first commands answer text
+  pub ran : DoesDeed facts_of spent new (fresh_frames (standing_of old).config.locals) frames (running_to_end turns first commands text) answer
 
 -- a pass of the thread that has seen this
 abbrev pub seeing_as : Config → ℕ → ℕ → History → PassView

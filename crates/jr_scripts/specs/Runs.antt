@@ -9,15 +9,16 @@ use Rattle.jr_model.specs.declared.event.Event.{Event}
 use Rattle.jr_model.specs.declared.event.Act.TheVariants.{Knock, ReserveLost, ShutBusy}
 use Rattle.jr_model.specs.State.{summary}
 use Rattle.jr_model.specs.History.{History, state, IsLegal, PassView}
-use Rattle.jr_model.specs.Frames.{Frames, fresh_frames}
+use Rattle.jr_model.specs.Frames.{fresh_frames}
 use Rattle.jr_syntax.specs.declared.command.Command.{Command}
 use Rattle.jr_syntax.specs.declared.thread.ThreadPart.{ThreadPart}
 use Rattle.jr_syntax.specs.declared.script.Script.{Script}
-use Rattle.jr_steps.specs.declared.known.Known.{Known}
-use Rattle.jr_steps.specs.Knowing.{Facts, Holds}
+use Rattle.jr_steps.specs.declared.steps.Steps.{Ghosts}
 use Rattle.jr_steps.specs.Holdings.{empty}
-use Rattle.jr_gate.specs.Performing.{IsAsBefore, Moment, moment}
-use Rattle.jr_env.specs.Deeds.{free_locals}
+use Rattle.jr_gate.specs.Performing.{Moment}
+use Rattle.jr_env.specs.declared.env.Env.{Env}
+use Rattle.jr_env.specs.Deeds.{Deed, free_locals}
+use Rattle.jr_env.specs.Envs.{WasDone}
 use Rattle.jr_scripts.specs.declared.reply.Reply.{Reply}
 use Rattle.jr_scripts.specs.Names.{Names}
 use Rattle.jr_scripts.specs.Commands.{tried}
@@ -25,22 +26,27 @@ use Rattle.jr_scripts.specs.Text.{printed, names_set, heading, ending}
 use Rattle.jr_scripts.specs.Explains.{Explained, LeavesText}
 use Rattle.jr_scripts.specs.AloneAnswers.{AnswersAlone}
 
-module _ {S : Type 0} (facts : S → Facts) where
-  -- the commands were run: for whatever was known, something is known that explains the text
-  pub record RanThread (old new : S) (before after : Frames) (turns first : ℕ) (commands : List Command) (answer : Result (Unit {0}) Fault) (text : List ℕ) : Type 0 where
-    pub stands_is : IsAsBefore (facts old).stands (facts new).stands
-    pub explained : (k : Known) → (facts old).knows k → Holds before k → (k' : Known) × (facts new).knows k' × Holds after k' × LeavesText turns first (moment (facts old).stands.fresh k before) commands answer text (moment (facts new).stands.fresh k' after)
+-- THE COMMANDS RUN, and add the text: from one moment to the other all of it is explained, or memory was refused
+abbrev pub running : ℕ → ℕ → List Command → List ℕ → Deed (Unit {0})
+running turns first commands text begun answer told = LeavesText turns first begun commands answer text told
 
 -- A THREAD'S END: from one moment to the other its local references were freed, by a call that was made again where it was barred, up to so many in all, with this answer
 pub record IsFreed (turns : ℕ) (told left : Moment) : Type 0 where
   pub answer : Result (Unit {0}) Fault
   pub tries : tried turns free_locals told answer left
 
-module _ {S : Type 0} (facts : S → Facts) where
-  -- the commands were run, and then the local references were freed: for whatever was known, something is known that leads from a moment up to which the text is explained
-  pub record RanToEnd (old new : S) (before after : Frames) (turns first : ℕ) (commands : List Command) (answer : Result (Unit {0}) Fault) (text : List ℕ) : Type 0 where
-    pub stands_is : IsAsBefore (facts old).stands (facts new).stands
-    pub ended : (k : Known) → (facts old).knows k → Holds before k → (k' : Known) × (facts new).knows k' × Holds after k' × (told : Moment) × LeavesText turns first (moment (facts old).stands.fresh k before) commands answer text told × IsFreed turns told (moment (facts new).stands.fresh k' after)
+-- the commands run, and then the local references are freed: the text is explained up to a moment in between
+abbrev pub running_to_end : ℕ → ℕ → List Command → List ℕ → Deed (Unit {0})
+running_to_end turns first commands text begun answer left = (told : Moment) × LeavesText turns first begun commands answer text told × IsFreed turns told left
+
+module _ {S : Type 0} {G : Ghosts S} where
+  -- the commands were run
+  abbrev pub RanThread : Env S G → Env S G → ℕ → ℕ → List Command → Result (Unit {0}) Fault → List ℕ → Type 0
+  RanThread old new turns first commands answer text = WasDone old new (running turns first commands text) answer
+
+  -- the commands were run, and then the local references were freed
+  abbrev pub RanToEnd : Env S G → Env S G → ℕ → ℕ → List Command → Result (Unit {0}) Fault → List ℕ → Type 0
+  RanToEnd old new turns first commands answer text = WasDone old new (running_to_end turns first commands text) answer
 
 -- what is kept of a command that was done: its line is written and its name set, or memory was refused and nothing is written
 abbrev pub WritesDown : ℕ → Command → Result Reply Fault → Names → Names → Result (Unit {0}) AllocError → List ℕ → List ℕ → Type 0

@@ -1,7 +1,8 @@
 //! One command of a thread, where it stands: in a critical region or in none.
 
 ghost use Rattle.std.specs.Prelude.{◌≡◌, IfErr, IfOk, None, Some, [], false, length};
-ghost use Rattle.jr_critical.specs.Levels.{objects_of, Stand};
+ghost use Rattle.jr_critical.specs.Levels.{objects_of, StandOver};
+ghost use Rattle.jr_env.specs.Collections.{FitsRoom};
 ghost use Rattle.jr_env.specs.Envs.{IsOutside};
 ghost use Rattle.jr_gate.specs.Performing.{Moment};
 ghost use Rattle.jr_weak.specs.Markers.{room_of};
@@ -45,7 +46,7 @@ fn open_levels<S: Steps>(
 ) -> Result<Levels, Fault>
     requires { IsOutside env.old }
     ensures does { DidOpen env.old env.new (opening_levels turns names.now verb target.now) result }
-    ensures stand { IfOk result (λ v. Stand S.facts v env.new.held.steps env.new.held.frames) }
+    ensures stand { IfOk result (λ v. StandOver v env.new.held) }
     ensures one { IfOk result (λ v. length (objects_of v) ≡ 1) }
     ensures outside { IfErr result (λ _. IsOutside env.new) }
 {
@@ -64,7 +65,7 @@ fn open_region<S: Steps>(
 ) -> Left
     requires { IsOutside env.old }
     ensures does { DidWith env.old env.new None result.region (deed turns names.now (commands.OpenLevel verb name.now target.now)) result.answer }
-    ensures stand { StandsWith S.facts result.region env.new.held.steps env.new.held.frames }
+    ensures stand { StandsWith result.region env.new }
     ensures levels { level_names result.region ≡ levels_after (commands.OpenLevel verb name.now target.now) result.answer [] }
     ensures objects { objects_in result.region ≡ objects_after (commands.OpenLevel verb name.now target.now) result.answer [] }
 {
@@ -94,9 +95,9 @@ fn advance_outside<S: Steps, B: Board>(
     command: &Command,
 ) -> Left
     requires outside { IsOutside env.old }
-    requires room { room_of marker.old ≡ (S.facts env.old.held.steps).stands.config.objects }
+    requires room { FitsRoom marker.old env.old }
     ensures does { DidWith env.old env.new None result.region (deed turns names.old command.now) result.answer }
-    ensures stand { StandsWith S.facts result.region env.new.held.steps env.new.held.frames }
+    ensures stand { StandsWith result.region env.new }
     ensures levels { level_names result.region ≡ levels_after command.now result.answer [] }
     ensures objects { objects_in result.region ≡ objects_after command.now result.answer [] }
     ensures names { names.new ≡ buffers_after command.now result.answer names.old }
@@ -135,10 +136,10 @@ fn stay<S: Steps, B: Board>(
     turns: u64,
     command: &Command,
 ) -> Result<Reply, Fault>
-    requires stand { StandsIn S.facts region.old env.old.held.steps env.old.held.frames }
+    requires stand { StandsIn region.old env.old }
     requires stays { is_closing command.now ≡ false }
     ensures does { DidWith env.old env.new (Some region.old) (Some region.new) (deed_within (place_with names.now (Some region.old)) command.now) result }
-    ensures stand { StandsIn S.facts region.new env.new.held.steps env.new.held.frames }
+    ensures stand { StandsIn region.new env.new }
     ensures levels { level_names (Some region.new) ≡ levels_after command.now result (level_names (Some region.old)) }
     ensures objects { objects_in (Some region.new) ≡ objects_after command.now result (objects_in (Some region.old)) }
     ensures names { names.now ≡ buffers_after command.now result names.now }
@@ -167,9 +168,9 @@ fn advance_within<S: Steps, B: Board>(
     turns: u64,
     command: &Command,
 ) -> Left
-    requires { StandsIn S.facts region env.old.held.steps env.old.held.frames }
+    requires { StandsIn region env.old }
     ensures does { DidWith env.old env.new (Some region) result.region (deed_within (place_with names.now (Some region)) command.now) result.answer }
-    ensures stand { StandsWith S.facts result.region env.new.held.steps env.new.held.frames }
+    ensures stand { StandsWith result.region env.new }
     ensures levels { level_names result.region ≡ levels_after command.now result.answer (level_names (Some region)) }
     ensures objects { objects_in result.region ≡ objects_after command.now result.answer (objects_in (Some region)) }
     ensures names { names.now ≡ buffers_after command.now result.answer names.now }
@@ -201,10 +202,10 @@ pub(crate) fn advance<S: Steps, B: Board>(
     turns: u64,
     command: &Command,
 ) -> Left
-    requires stand { StandsWith S.facts region env.old.held.steps env.old.held.frames }
-    requires room { room_of marker.old ≡ (S.facts env.old.held.steps).stands.config.objects }
+    requires stand { StandsWith region env.old }
+    requires room { FitsRoom marker.old env.old }
     ensures does { DidWith env.old env.new region result.region (deed_at turns (place_with names.old region) command.now) result.answer }
-    ensures stand { StandsWith S.facts result.region env.new.held.steps env.new.held.frames }
+    ensures stand { StandsWith result.region env.new }
     ensures levels { level_names result.region ≡ levels_after command.now result.answer (level_names region) }
     ensures objects { objects_in result.region ≡ objects_after command.now result.answer (objects_in region) }
     ensures names { names.new ≡ buffers_after command.now result.answer names.old }

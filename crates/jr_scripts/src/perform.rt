@@ -5,6 +5,7 @@ ghost use Rattle.jr_syntax.specs.declared.verb.OnBoth.TheVariants.{Same};
 ghost use Rattle.jr_syntax.specs.declared.verb.SetAt.TheVariants.{Set};
 ghost use Rattle.jr_scripts.specs.declared.reply.Reply.TheVariants as replies;
 ghost use Rattle.jr_env.specs.Deeds.{answered_by};
+ghost use Rattle.jr_env.specs.Collections.{FitsRoom};
 ghost use Rattle.jr_env.specs.Envs.{WasDone, IsOutside};
 ghost use Rattle.std.specs.Prelude.{◌≡◌, false};
 ghost use Rattle.jr_weak.specs.Markers.{room_of};
@@ -216,7 +217,7 @@ pub fn perform<S: Steps, B: Board>(
 ) -> Result<Reply, Fault>
     requires outside { IsOutside env.old }
     requires opens { is_opening command.now ≡ false }
-    requires room { room_of marker.old ≡ (S.facts env.old.held.steps).stands.config.objects }
+    requires room { FitsRoom marker.old env.old }
     ensures does { WasDone env.old env.new (deed turns names.old command.now) result }
     ensures names { names.new ≡ buffers_after command.now result names.old }
     ensures room { room_of marker.new ≡ room_of marker.old }

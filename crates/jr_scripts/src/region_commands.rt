@@ -4,7 +4,7 @@ ghost use Rattle.std.specs.Prelude.{◌≡◌, ◌<◌, IfErr, IfOk, Ok, Err, So
 ghost use Rattle.jr_word.specs.declared.fault.Fault.TheVariants.{InCritical};
 ghost use Rattle.jr_syntax.specs.declared.command.Command.TheVariants as commands;
 ghost use Rattle.jr_syntax.specs.declared.verb.PutAt.TheVariants as put_verbs;
-ghost use Rattle.jr_critical.specs.Levels.{level_object, level_nested, objects_of, Stand, WasAdded};
+ghost use Rattle.jr_critical.specs.Levels.{level_object, level_nested, objects_of, StandOver, WasAdded};
 ghost use Rattle.jr_env.specs.Envs.{IsOutside};
 ghost use Rattle.jr_scripts.specs.Advancing.{level_names, objects_in, place_with, DidWith, DidWithin, DidOpen, StandsIn, StandsWith};
 ghost use Rattle.jr_scripts.specs.Commands.{opening_by, tried};
@@ -27,7 +27,7 @@ use jr_word::{Fault, Handle, Kind};
 fn open_once<S: Steps>(env: &mut Env<S>, verb: OpenLevel, handle: Handle) -> Result<Levels, Fault>
     requires { IsOutside env.old }
     ensures does { DidOpen env.old env.new (opening_by verb handle.0) result }
-    ensures stand { IfOk result (λ v. Stand S.facts v env.new.held.steps env.new.held.frames) }
+    ensures stand { IfOk result (λ v. StandOver v env.new.held) }
     ensures one { IfOk result (λ v. length (objects_of v) ≡ 1) }
     ensures outside { IfErr result (λ _. IsOutside env.new) }
 {
@@ -46,7 +46,7 @@ pub(crate) fn open<S: Steps>(
 ) -> Result<Levels, Fault>
     requires { IsOutside env.old }
     ensures does { DidOpen env.old env.new (tried turns (opening_by verb handle.0)) result }
-    ensures stand { IfOk result (λ v. Stand S.facts v env.new.held.steps env.new.held.frames) }
+    ensures stand { IfOk result (λ v. StandOver v env.new.held) }
     ensures one { IfOk result (λ v. length (objects_of v) ≡ 1) }
     ensures outside { IfErr result (λ _. IsOutside env.new) }
 {
@@ -70,9 +70,9 @@ fn add<S: Steps>(
     verb: OpenLevel,
     handle: Handle,
 ) -> Result<usize, Fault>
-    requires { Stand S.facts levels.old env.old.held.steps env.old.held.frames }
+    requires { StandOver levels.old env.old.held }
     ensures does { DidWithin env.old env.new levels.old levels.new (nesting verb (objects_of levels.old) handle.0) (level_nested result levels.new) }
-    ensures stand { Stand S.facts levels.new env.new.held.steps env.new.held.frames }
+    ensures stand { StandOver levels.new env.new.held }
     ensures added { IfOk result (λ n. WasAdded levels.old levels.new n) }
     ensures err { IfErr result (λ _. levels.new ≡ levels.old) }
 {
@@ -91,9 +91,9 @@ pub(crate) fn nest<S: Steps>(
     name: &Name,
     target: &Target,
 ) -> Result<Reply, Fault>
-    requires { StandsIn S.facts region.old env.old.held.steps env.old.held.frames }
+    requires { StandsIn region.old env.old }
     ensures does { DidWith env.old env.new (Some region.old) (Some region.new) (deed_within (place_with names.now (Some region.old)) (commands.OpenLevel verb name.now target.now)) result }
-    ensures stand { StandsIn S.facts region.new env.new.held.steps env.new.held.frames }
+    ensures stand { StandsIn region.new env.new }
     ensures levels { level_names (Some region.new) ≡ levels_after (commands.OpenLevel verb name.now target.now) result (level_names (Some region.old)) }
     ensures objects { objects_in (Some region.new) ≡ objects_after (commands.OpenLevel verb name.now target.now) result (objects_in (Some region.old)) }
 {
@@ -110,10 +110,10 @@ fn read_as<S: Steps, E: Number>(
     level: usize,
     index: u32,
 ) -> Result<Reply, Fault>
-    requires stand { Stand S.facts levels.now env.old.held.steps env.old.held.frames }
+    requires stand { StandOver levels.now env.old.held }
     requires level { level < length (objects_of levels.now) }
     ensures does { DidWithin env.old env.new levels.now levels.now (reading_as (level_object levels.now level) index E.KIND) result }
-    ensures stand { Stand S.facts levels.now env.new.held.steps env.new.held.frames }
+    ensures stand { StandOver levels.now env.new.held }
 {
     let element = env.get_critical::<E>(levels, level, index)?;
     Ok(Reply::Value(element.to_number()))
@@ -136,10 +136,10 @@ fn read_at<S: Steps>(
     level: usize,
     index: u32,
 ) -> Result<Reply, Fault>
-    requires stand { Stand S.facts levels.now env.old.held.steps env.old.held.frames }
+    requires stand { StandOver levels.now env.old.held }
     requires level { level < length (objects_of levels.now) }
     ensures does { DidWithin env.old env.new levels.now levels.now (level_reading (level_object levels.now level) index) result }
-    ensures stand { Stand S.facts levels.now env.new.held.steps env.new.held.frames }
+    ensures stand { StandOver levels.now env.new.held }
 {
     match NumberKind::of(read_kind(levels.kind(level)))? {
         NumberKind::Boolean => read_as::<S, bool>(env, levels, level, index),
@@ -158,9 +158,9 @@ fn read<S: Steps>(
     name: &Name,
     index: u32,
 ) -> Result<Reply, Fault>
-    requires { StandsIn S.facts region.now env.old.held.steps env.old.held.frames }
+    requires { StandsIn region.now env.old }
     ensures does { DidWith env.old env.new (Some region.now) (Some region.now) (reading_at region.now.names.items (objects_of region.now.levels) name.now index) result }
-    ensures stand { StandsIn S.facts region.now env.new.held.steps env.new.held.frames }
+    ensures stand { StandsIn region.now env.new }
 {
     let level = region.level(name)?;
     read_at(env, &region.levels, level, index)
@@ -174,9 +174,9 @@ pub(crate) fn read_by<S: Steps>(
     name: &Name,
     index: u32,
 ) -> Result<Reply, Fault>
-    requires { StandsIn S.facts region.now env.old.held.steps env.old.held.frames }
+    requires { StandsIn region.now env.old }
     ensures does { DidWith env.old env.new (Some region.now) (Some region.now) (reading_by verb region.now.names.items (objects_of region.now.levels) name.now index) result }
-    ensures stand { StandsIn S.facts region.now env.new.held.steps env.new.held.frames }
+    ensures stand { StandsIn region.now env.new }
 {
     match verb {
         OnNameAt::GetInLevel => read(env, region, name, index),
@@ -192,10 +192,10 @@ fn write_as<S: Steps, E: Number>(
     index: u32,
     number: i64,
 ) -> Result<Reply, Fault>
-    requires stand { Stand S.facts levels.now env.old.held.steps env.old.held.frames }
+    requires stand { StandOver levels.now env.old.held }
     requires level { level < length (objects_of levels.now) }
     ensures does { DidWithin env.old env.new levels.now levels.now (writing_as (level_object levels.now level) index number E.KIND) result }
-    ensures stand { Stand S.facts levels.now env.new.held.steps env.new.held.frames }
+    ensures stand { StandOver levels.now env.new.held }
 {
     let element = E::from_number(number)?;
     env.set_critical(levels, level, index, element)?;
@@ -210,10 +210,10 @@ fn write_at<S: Steps>(
     index: u32,
     number: i64,
 ) -> Result<Reply, Fault>
-    requires stand { Stand S.facts levels.now env.old.held.steps env.old.held.frames }
+    requires stand { StandOver levels.now env.old.held }
     requires level { level < length (objects_of levels.now) }
     ensures does { DidWithin env.old env.new levels.now levels.now (level_writing (level_object levels.now level) index number) result }
-    ensures stand { Stand S.facts levels.now env.new.held.steps env.new.held.frames }
+    ensures stand { StandOver levels.now env.new.held }
 {
     match NumberKind::of(levels.kind(level))? {
         NumberKind::Boolean => write_as::<S, bool>(env, levels, level, index, number),
@@ -233,9 +233,9 @@ fn write<S: Steps>(
     index: u32,
     number: i64,
 ) -> Result<Reply, Fault>
-    requires { StandsIn S.facts region.now env.old.held.steps env.old.held.frames }
+    requires { StandsIn region.now env.old }
     ensures does { DidWith env.old env.new (Some region.now) (Some region.now) (writing_at region.now.names.items (objects_of region.now.levels) name.now index number) result }
-    ensures stand { StandsIn S.facts region.now env.new.held.steps env.new.held.frames }
+    ensures stand { StandsIn region.now env.new }
 {
     let level = region.level(name)?;
     write_at(env, &region.levels, level, index, number)
@@ -250,10 +250,10 @@ pub(crate) fn write_by<S: Steps>(
     index: u32,
     number: i64,
 ) -> Result<Reply, Fault>
-    requires { StandsIn S.facts region.now env.old.held.steps env.old.held.frames }
+    requires { StandsIn region.now env.old }
     ensures does { DidWith env.old env.new (Some region.now) (Some region.now) (writing_by verb region.now.names.items (objects_of region.now.levels) name.now index number) result }
     ensures other { verb ≡ put_verbs.Put → result ≡ Err InCritical }
-    ensures stand { StandsIn S.facts region.now env.new.held.steps env.new.held.frames }
+    ensures stand { StandsIn region.now env.new }
 {
     match verb {
         PutAt::PutInLevel => write(env, region, name, index, number),
@@ -263,9 +263,9 @@ pub(crate) fn write_by<S: Steps>(
 
 /// Gives up the last level of a region: none is left of its first one.
 pub(crate) fn close<S: Steps>(env: &mut Env<S>, region: Region, mode: Mode) -> Option<Region>
-    requires { StandsIn S.facts region env.old.held.steps env.old.held.frames }
+    requires { StandsIn region env.old }
     ensures does { DidWith env.old env.new (Some region) result (giving_up (length (objects_of region.levels))) (Ok tt) }
-    ensures stand { StandsWith S.facts result env.new.held.steps env.new.held.frames }
+    ensures stand { StandsWith result env.new }
     ensures names { level_names result ≡ all_but_last region.names.items }
     ensures objects { objects_in result ≡ all_but_last (objects_of region.levels) }
 {
@@ -277,7 +277,7 @@ pub(crate) fn close<S: Steps>(env: &mut Env<S>, region: Region, mode: Mode) -> O
 
 /// Gives up all levels of a region, if one stands.
 pub(crate) fn end<S: Steps>(env: &mut Env<S>, region: Option<Region>)
-    requires { StandsWith S.facts region env.old.held.steps env.old.held.frames }
+    requires { StandsWith region env.old }
     ensures does { DidWith env.old env.new region None (giving_up_all (objects_in region)) (Ok tt) }
     ensures outside { IsOutside env.new }
 {

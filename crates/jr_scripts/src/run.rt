@@ -3,6 +3,7 @@
 ghost use Rattle.std.specs.Prelude.{◌≡◌, ◌++◌, ◌+◌, ◌<◌, ◌^◌, List, ℕ, IfErr, OnOk, MatchOption, Some, None, length};
 ghost use Rattle.jr_word.specs.declared.fault.Fault.TheVariants.{Memory};
 ghost use Rattle.jr_weak.specs.Markers.{room_of};
+ghost use Rattle.jr_env.specs.Collections.{FitsRoom};
 ghost use Rattle.jr_env.specs.Envs.{IsOutside};
 ghost use Rattle.jr_scripts.specs.Text.{sets, names_set, standing_made as made_to_stand};
 ghost use Rattle.jr_scripts.specs.Runs.{RanThread, WritesDown};
@@ -105,8 +106,8 @@ pub fn run_thread<S: Steps, B: Board, H: Hold>(
 ) -> Result<(), Fault>
     requires lines { first + length commands.now < 2 ^ 64 }
     requires outside { IsOutside env.old }
-    requires room { room_of marker.old ≡ (S.facts env.old.held.steps).stands.config.objects }
-    ensures explained { (text : List ℕ) × (out.new.items ≡ out.old.items ++ text) × RanThread S.facts env.old.held.steps env.new.held.steps env.old.held.frames.frames env.new.held.frames.frames turns first commands.now result text }
+    requires room { FitsRoom marker.old env.old }
+    ensures explained { (text : List ℕ) × (out.new.items ≡ out.old.items ++ text) × RanThread env.old env.new turns first commands.now result text }
     ensures outside { IsOutside env.new }
     ensures memory { IfErr result (λ e. e ≡ Memory) }
     ensures room { room_of marker.new ≡ room_of marker.old }

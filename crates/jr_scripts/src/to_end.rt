@@ -30,7 +30,7 @@ fn run_with_marker<S: Steps, B: Board, H: Hold>(
 ) -> Result<(), Fault>
     requires lines { first + length commands.now < 2 ^ 64 }
     requires outside { IsOutside env.old }
-    ensures explained { (text : List ℕ) × (out.new.items ≡ out.old.items ++ text) × RanThread S.facts env.old.held.steps env.new.held.steps env.old.held.frames.frames env.new.held.frames.frames turns first commands.now result text }
+    ensures explained { (text : List ℕ) × (out.new.items ≡ out.old.items ++ text) × RanThread env.old env.new turns first commands.now result text }
     ensures outside { IsOutside env.new }
     ensures memory { IfErr result (λ e. e ≡ Memory) }
 {
@@ -69,7 +69,7 @@ pub fn run_to_end<S: Steps, B: Board, H: Hold>(
 ) -> Result<(), Fault>
     requires lines { first + length commands.now < 2 ^ 64 }
     requires outside { IsOutside env.old }
-    ensures ended { (text : List ℕ) × (out.new.items ≡ out.old.items ++ text) × RanToEnd S.facts env.old.held.steps env.new.held.steps env.old.held.frames.frames env.new.held.frames.frames turns first commands.now result text }
+    ensures ended { (text : List ℕ) × (out.new.items ≡ out.old.items ++ text) × RanToEnd env.old env.new turns first commands.now result text }
     ensures outside { IsOutside env.new }
     ensures memory { IfErr result (λ e. e ≡ Memory) }
 {

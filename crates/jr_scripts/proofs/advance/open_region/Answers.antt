@@ -1,5 +1,5 @@
 use Rattle.std.proofs.Common.{ap, length, sym, subst, ◌∙◌}
-use Rattle.jr_critical.specs.Levels.{Stand, objects_of}
+use Rattle.jr_critical.specs.Levels.{StandOver, objects_of}
 use Rattle.jr_scripts.specs.declared.reply.Reply.TheVariants as replies
 use Rattle.jr_env.specs.Deeds.{done}
 use Rattle.jr_scripts.proofs.Within.{did_refused}
@@ -7,7 +7,7 @@ use Rattle.jr_scripts.proofs.advance.open_region.Goals as goal
 
 pub returns-in-Ok-clause-stand : goal.returns-in-Ok-clause-stand
 returns-in-Ok-clause-stand g c = record {
-  stand = subst (λ v. Stand g.S.Steps.facts v c.open_levels.new.env.held.steps c.open_levels.new.env.held.frames) (sym c.first.ensures.levels) c.in-Ok.ensures.stand;
+  stand = subst (λ v. StandOver v c.open_levels.new.env.held) (sym c.first.ensures.levels) c.in-Ok.ensures.stand;
   named = ap length c.first.ensures.names ∙ sym (ap (λ v. length (objects_of v)) c.first.ensures.levels ∙ c.in-Ok.ensures.one);
 }
 

@@ -7,5 +7,5 @@ use Rattle.jr_scripts.proofs.run.run_thread.Given as goal
 abbrev pub invariant-loop-i : goal.invariant-loop-i
 invariant-loop-i g l =
     Going g.S.Steps.facts l.fn.env.held.steps l.env.held.steps l.fn.env.held.frames.frames l.env.held.frames.frames l.turns l.first (take l.i l.commands) l.fn.out.items l.out.items l.names l.region
-    × StandsWith g.S.Steps.facts l.region l.env.held.steps l.env.held.frames
+    × StandsWith l.region l.env
     × (room_of l.marker ≡ room_of l.fn.marker)
