@@ -207,7 +207,7 @@ impl<S: Steps, U: Steps> Steps for Overtaken<S, U> {
     ghost below = { λ s. S.below s.steps };
 }
 
-/// The steps of the next pass, which another env overtakes.
+/// The env over the next pass, which another env overtakes.
 fn next_overtaken<'a, U: Steps + Drop>(
     room: &'a Room<LAST>,
     passes: &mut Vec<Pass>,

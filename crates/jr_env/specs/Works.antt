@@ -61,7 +61,7 @@ module _ {S : Type 0} (facts : S → Facts) where
     pub thread : (facts new).stands.thread ≡ (facts old).stands.thread
     pub config : (facts new).stands.config ≡ (facts old).stands.config
 
-  -- a whole call was made where the thread stood outside, by at most so many operations beside its acts; and the next can be in any case
+  -- where the thread stood outside, a whole call was made, by at most so many operations beside its acts; and the next can be in any case
   pub record Completes {A : Type 0} (old new : S) (before after : Table) (silent : ℕ) (asked : State → Call A) (answer : Result A Fault) : Type 0 where
     pub call : (facts old).stands.role ≡ Outside → CallsWhole facts old new before.frames after.frames silent asked answer
     pub ready : StandsReady facts Outside new after

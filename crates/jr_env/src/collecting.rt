@@ -10,7 +10,7 @@ impl<S: Steps> Env<S> {
     ghost use Rattle.jr_word.specs.declared.fault.Fault.TheVariants.{Busy};
     ghost use Rattle.jr_weak.specs.Markers.{room_of};
     ghost use Rattle.jr_env.specs.Collections.{FitsRoom, collection};
-    ghost use Rattle.jr_env.specs.Envs.{Does, IsOutside};
+    ghost use Rattle.jr_env.specs.Envs.{Does};
 
     /// Collects: clears each weak reference to an object that is not reached, drops each such object, moves all arrays together, and tells how many it cleared and dropped, and how many words are used then. What is reached keeps its kind and elements, and every handle stands for what it stood for. No thread comes in meanwhile. It takes no memory and never waits. The marker has to be made for a room of so many objects, and serves again.
     ///

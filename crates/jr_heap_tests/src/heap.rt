@@ -1,5 +1,5 @@
 //! The heap of a room that several passes share.
-ghost use Rattle.std.specs.Prelude.{◌≡◌, ◌≢◌, All, IfOk};
+ghost use Rattle.std.specs.Prelude.{◌≡◌, ◌≢◌, IfOk};
 ghost use Rattle.jr_word.specs.declared.kind.Kind.TheVariants.{Int, Plain};
 ghost use Rattle.jr_model.specs.declared.event.Role.TheVariants.{Within};
 ghost use Rattle.jr_steps.specs.declared.known.Known.{Known};
@@ -10,9 +10,7 @@ ghost use Rattle.jr_heap.specs.Ranges.{place_of, size_of, AreReady};
 
 use crate::rooms::last_of;
 use jr_gate::enter;
-use jr_heap::{
-    Numbers, Range, fill, header, publish, read, read_element, reserve, write, write_element,
-};
+use jr_heap::{Numbers, Range, fill, header, publish, read, read_element, reserve, write};
 use jr_model::{Role, Summary};
 use jr_rule::{Pass, PlainSteps, Room, RoomSteps};
 use jr_steps::{Steps, TopLoad};

@@ -144,7 +144,7 @@ pub fn refusals_are_true()
     ensures probes { EachIsProbed }
 {}
 
-/// A whole call is its stay: it begins right behind its own entry, and ends with its own exit, the last event that it has seen.
+/// A call with a stay of its own is that stay: it begins right behind its own entry, and ends with its own exit, the last event that it has seen.
 pub fn calls_are_their_stays()
     ensures { (c : Config) (last thread : ℕ) (old new : PassView) → CallsAreTheirStays c last thread old new }
 {}

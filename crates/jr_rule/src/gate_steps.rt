@@ -24,7 +24,8 @@ impl Row {
         ensures row { IsAt self.now pass.new }
         ensures step { Took facts_of pass.old pass.new (act_of_entry result ∷ []) anything keeps }
     {
-        // (the role that it mostly is, stored first, so that the exit waits for no store of what the entry found)
+        // (the role that it mostly is, stored before the addition: the exit's subtraction waits for every store
+        // before it, and would wait for one that depends on what the entry found)
         pass.role = Role::Within;
         let found = self.add::<Brand, ()>(&mut pass.seat, GATE, 1, ());
         if is_shut(found) {

@@ -1,5 +1,5 @@
 -- One command after the other, for whatever was known.
-use Rattle.std.proofs.Common.{◌≡◌, ◌++◌, ◌∷◌, [], ◌<◌, ◌≤◌, ◌+◌, ◌∙◌, ℕ, suc, arith, List, Option, Some, None, Result, Ok, Err, length, take, drop, get_or, subst, sym, ap, refl, append_assoc}
+use Rattle.std.proofs.Common.{◌≡◌, ◌++◌, ◌∷◌, [], ◌<◌, ◌≤◌, ◌+◌, ◌∙◌, ℕ, suc, arith, List, Option, None, Result, Ok, Err, length, take, drop, get_or, subst, sym, ap, refl, append_assoc}
 use Rattle.std.proofs.lemmas.List.{append-nil, take-append-drop, take_all, length-take-le}
 use Rattle.std.proofs.Math.Seq.{take-suc}
 use Rattle.std.specs.declared.alloc.AllocError.{AllocError}
@@ -17,7 +17,7 @@ use Rattle.jr_scripts.specs.Names.{Names, no_names}
 use Rattle.jr_scripts.specs.Places.{Place, levels_after, objects_after, place_after}
 use Rattle.jr_scripts.specs.RegionCommands.{deed_at, giving_up_all}
 use Rattle.jr_scripts.specs.Advancing.{CarriedOut, KnowsWith, level_names, objects_in, place_with, role_with}
-use Rattle.jr_scripts.specs.Text.{buffers_after, printed, names_after, names_set}
+use Rattle.jr_scripts.specs.Text.{buffers_after, printed, names_set}
 use Rattle.jr_scripts.specs.Explains.{Explains, nothing, then, unwritten}
 use Rattle.jr_scripts.specs.Runs.{WritesDown, running}
 use Rattle.jr_gate.specs.Performing.{IsAsBefore, moment}

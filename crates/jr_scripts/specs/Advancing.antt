@@ -10,7 +10,7 @@ use Rattle.jr_steps.specs.declared.steps.Steps.{Ghosts}
 use Rattle.jr_steps.specs.Knowing.{Facts, Leads, Holds}
 use Rattle.jr_gate.specs.Performing.{IsAsBefore, moment}
 use Rattle.jr_critical.specs.declared.levels.Levels.{Levels}
-use Rattle.jr_critical.specs.Levels.{KnowsLevels, StandOver, level_object, object_opened, objects_of, role_opened}
+use Rattle.jr_critical.specs.Levels.{KnowsLevels, StandOver, object_opened, objects_of, role_opened}
 use Rattle.jr_env.specs.declared.env.Env.{Env}
 use Rattle.jr_env.specs.Deeds.{Deed}
 use Rattle.jr_env.specs.Envs.{IsOutside}
