@@ -1,8 +1,9 @@
 //! What is done at the levels of a region, and how it ends.
 
 use jr_env::Region;
+use jr_model::Mode;
 use jr_steps::Steps;
-use jr_word::{Elem, Fault, Kind};
+use jr_word::{Elem, Fault, Handle, Kind};
 use std::process::Abort;
 
 /// An element at a level that stands.
@@ -49,7 +50,30 @@ pub(crate) fn put<S: Steps, E: Elem>(
     index: u32,
     value: E,
 ) {
-    assert_eq!(rt; write(rt, region, level, index, value), Ok(()));
+    assert!(rt; write(rt, region, level, index, value) == Ok(()));
+}
+
+/// Checks with what an element, which is read as one of this type, is refused.
+pub(crate) fn is_not_read<S: Steps, E: Elem + PartialEq>(
+    rt: &impl Abort,
+    region: &mut Region<'_, S>,
+    level: usize,
+    index: u32,
+    wanted: Fault,
+) {
+    assert!(rt; read::<_, E>(rt, region, level, index) == Err(wanted));
+}
+
+/// Checks with what a write of an element is refused.
+pub(crate) fn is_not_put<S: Steps, E: Elem>(
+    rt: &impl Abort,
+    region: &mut Region<'_, S>,
+    level: usize,
+    index: u32,
+    value: E,
+    wanted: Fault,
+) {
+    assert!(rt; write(rt, region, level, index, value) == Err(wanted));
 }
 
 /// Checks the kind and the length of what stands at a level. It is never a copy.
@@ -62,7 +86,44 @@ pub(crate) fn is_told<S: Steps>(
 ) {
     let depth = region.depth();
     assert!(rt; level < depth);
-    assert_eq!(rt; region.kind(level), kind);
-    assert_eq!(rt; region.length(level), length);
+    assert!(rt; region.kind(level) == kind);
+    assert!(rt; region.length(level) == length);
     assert!(rt; !region.is_copy());
+}
+
+/// Checks how many levels stand.
+pub(crate) fn is_deep<S: Steps>(rt: &impl Abort, region: &Region<'_, S>, wanted: usize) {
+    assert!(rt; region.depth() == wanted);
+}
+
+/// Checks what is answered where a level is to be added over an array: the level, or why there is none.
+pub(crate) fn nests_array<S: Steps>(
+    rt: &impl Abort,
+    region: &mut Region<'_, S>,
+    word: Handle,
+    wanted: Result<usize, Fault>,
+) {
+    assert!(rt; region.nest_array(word) == wanted);
+}
+
+/// The same of a level over a string.
+pub(crate) fn nests_string<S: Steps>(
+    rt: &impl Abort,
+    region: &mut Region<'_, S>,
+    word: Handle,
+    wanted: Result<usize, Fault>,
+) {
+    assert!(rt; region.nest_string(word) == wanted);
+}
+
+/// Gives up the last level, which is not the only one.
+pub(crate) fn give_up<'e, S: Steps>(
+    rt: &impl Abort,
+    region: Region<'e, S>,
+    mode: Mode,
+) -> Region<'e, S> {
+    match region.release(mode) {
+        Some(left) => left,
+        None => panic!(rt; "no level is left"),
+    }
 }

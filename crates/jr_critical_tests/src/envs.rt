@@ -65,8 +65,18 @@ pub(crate) fn next_env<'a>(
 
 /// Checks that the thread is outside the gate, and that its calls are made.
 pub(crate) fn is_outside<S: Steps>(rt: &impl Abort, env: &mut Env<S>) {
-    assert_eq!(rt; env.held.steps.role(), Role::Outside);
-    assert_eq!(rt; env.get_object_ref_type(Handle::NULL), Ok(0));
+    assert!(rt; env.held.steps.role() == Role::Outside);
+    assert!(rt; env.get_object_ref_type(Handle::NULL) == Ok(0));
+}
+
+/// A global reference to what the word names.
+pub(crate) fn global<S: Steps>(env: &mut Env<S>, word: Handle) -> Result<Handle, Fail> {
+    Ok(env.new_global_ref(word)?.ok_or("an object")?)
+}
+
+/// A weak global reference to what the word names.
+pub(crate) fn weak<S: Steps>(env: &mut Env<S>, word: Handle) -> Result<Handle, Fail> {
+    Ok(env.new_weak_global_ref(word)?.ok_or("an object")?)
 }
 
 /// The array has these elements.

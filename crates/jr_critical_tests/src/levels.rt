@@ -1,7 +1,7 @@
 //! Levels of a region, from its first to its sixteenth and back, over plain words.
 
-use crate::at_a_level::{has, is_told, put};
-use crate::envs::{FOREIGN, ONES, has_elements, is_outside, lone_env};
+use crate::at_a_level::{give_up, has, is_deep, is_told, nests_array, nests_string, put};
+use crate::envs::{FOREIGN, ONES, global, has_elements, is_outside, lone_env, weak};
 use jr_env::{Env, Region};
 use jr_model::Mode;
 use jr_steps::Steps;
@@ -11,25 +11,25 @@ use std::test::Fail;
 
 /// Adds levels over an array until sixteen stand.
 fn fills_up<S: Steps>(rt: &impl Abort, region: &mut Region<'_, S>, array: Handle) {
-    assert_eq!(rt; region.depth(), 1);
+    is_deep(rt, region, 1);
     for level in 1..16 {
-        assert_eq!(rt; region.nest_array(array), Ok(level));
+        nests_array(rt, region, array, Ok(level));
     }
-    assert_eq!(rt; region.depth(), 16);
+    is_deep(rt, region, 16);
 }
 
 /// A seventeenth level is refused, over an array and over a string, and the sixteen stand. What the word names is looked at before.
 fn has_no_seventeenth<S: Steps>(rt: &impl Abort, region: &mut Region<'_, S>, words: [Handle; 3]) {
     let [array, string, plain] = words;
-    assert_eq!(rt; region.nest_array(array), Err(Fault::Size));
-    assert_eq!(rt; region.nest_string(string), Err(Fault::Size));
-    assert_eq!(rt; region.nest_array(string), Err(Fault::NotArray));
-    assert_eq!(rt; region.nest_string(array), Err(Fault::WrongKind));
-    assert_eq!(rt; region.nest_array(plain), Err(Fault::NotArray));
-    assert_eq!(rt; region.nest_array(Handle::NULL), Err(Fault::Null));
-    assert_eq!(rt; region.nest_string(ONES), Err(Fault::Stale));
-    assert_eq!(rt; region.nest_array(FOREIGN), Err(Fault::Foreign));
-    assert_eq!(rt; region.depth(), 16);
+    nests_array(rt, region, array, Err(Fault::Size));
+    nests_string(rt, region, string, Err(Fault::Size));
+    nests_array(rt, region, string, Err(Fault::NotArray));
+    nests_string(rt, region, array, Err(Fault::WrongKind));
+    nests_array(rt, region, plain, Err(Fault::NotArray));
+    nests_array(rt, region, Handle::NULL, Err(Fault::Null));
+    nests_string(rt, region, ONES, Err(Fault::Stale));
+    nests_array(rt, region, FOREIGN, Err(Fault::Foreign));
+    is_deep(rt, region, 16);
 }
 
 /// Sixteen levels stand, each with the elements of the one array, and are given up one by one.
@@ -50,27 +50,29 @@ fn stand_and_end<S: Steps>(
     }
     let mut rest = region;
     for _ in 1..16 {
-        match rest.release(mode) {
-            Some(left) => rest = left,
-            None => panic!(rt; "no level is left"),
-        }
+        rest = give_up(rt, rest, mode);
     }
     match rest.release(mode) {
         None => {}
-        Some(_) => panic!(rt; "a seventeenth level stood"),
+        Some(_) => panic!(rt; "a level is left"),
     }
     is_outside(rt, env);
     has_elements(rt, env, array, &mut [7i64; 2], &[0, i64::MIN])
 }
 
-#[test]
-fn sixteen_levels_and_no_seventeenth(rt: HostRuntime) -> Result<(), Fail> {
-    let mut env = lone_env(rt.alloc())?;
+/// Sixteen levels are given up in either mode.
+fn stand_and_end_twice<S: Steps>(rt: &impl Abort, env: &mut Env<S>) -> Result<(), Fail> {
     let array = env.new_array::<i64>(2)?;
     let string = env.new_string(&[104])?;
     let plain = env.new_plain()?;
-    stand_and_end(&rt, &mut env, [array, string, plain], Mode::Copy)?;
-    stand_and_end(&rt, &mut env, [array, string, plain], Mode::Abort)
+    stand_and_end(rt, env, [array, string, plain], Mode::Copy)?;
+    stand_and_end(rt, env, [array, string, plain], Mode::Abort)
+}
+
+#[test]
+fn sixteen_levels_and_no_seventeenth(rt: HostRuntime) -> Result<(), Fail> {
+    let mut env = lone_env(rt.alloc())?;
+    stand_and_end_twice(&rt, &mut env)
 }
 
 /// What is written to an array at one of its two levels is read at the other.
@@ -81,16 +83,14 @@ fn is_one_array<S: Steps>(
     again: Handle,
 ) -> Result<(), Fail> {
     let mut region = env.get_array_critical(array)?;
-    assert_eq!(rt; region.nest_array(again), Ok(1));
+    nests_array(rt, &mut region, again, Ok(1));
     put(rt, &mut region, 0, 0, -128i8);
     put(rt, &mut region, 1, 1, 127i8);
     has(rt, &mut region, 1, 0, -128i8);
     has(rt, &mut region, 0, 1, 127i8);
     put(rt, &mut region, 1, 0, 1i8);
     has(rt, &mut region, 0, 0, 1i8);
-    let Some(region) = region.release(Mode::Copy) else {
-        panic!(rt; "no level is left")
-    };
+    let region = give_up(rt, region, Mode::Copy);
     match region.release(Mode::Copy) {
         None => {}
         Some(_) => panic!(rt; "a level is left"),
@@ -98,15 +98,20 @@ fn is_one_array<S: Steps>(
     has_elements(rt, env, array, &mut [7i8; 2], &[1, 127])
 }
 
+/// Each of the levels may be over a reference of any kind.
+fn is_one_array_by_each_reference<S: Steps>(rt: &impl Abort, env: &mut Env<S>) -> Result<(), Fail> {
+    let array = env.new_array::<i8>(2)?;
+    is_one_array(rt, env, array, array)?;
+    let shared = global(env, array)?;
+    is_one_array(rt, env, array, shared)?;
+    let word = weak(env, array)?;
+    is_one_array(rt, env, word, array)
+}
+
 #[test]
 fn an_array_at_two_levels(rt: HostRuntime) -> Result<(), Fail> {
     let mut env = lone_env(rt.alloc())?;
-    let array = env.new_array::<i8>(2)?;
-    is_one_array(&rt, &mut env, array, array)?;
-    let shared = env.new_global_ref(array)?.ok_or("an object")?;
-    is_one_array(&rt, &mut env, array, shared)?;
-    let weak = env.new_weak_global_ref(array)?.ok_or("an object")?;
-    is_one_array(&rt, &mut env, weak, array)
+    is_one_array_by_each_reference(&rt, &mut env)
 }
 
 /// Levels that are given up in these modes, the last first, leave what was written at any of them.
@@ -118,19 +123,15 @@ fn keeps_what_was_written<S: Steps>(
     let [third, second, first] = modes;
     let array = env.new_array::<i32>(3)?;
     let mut region = env.get_array_critical(array)?;
-    assert_eq!(rt; region.nest_array(array), Ok(1));
-    assert_eq!(rt; region.nest_array(array), Ok(2));
+    nests_array(rt, &mut region, array, Ok(1));
+    nests_array(rt, &mut region, array, Ok(2));
     put(rt, &mut region, 2, 2, -30);
-    let Some(mut region) = region.release(third) else {
-        panic!(rt; "no level is left")
-    };
-    assert_eq!(rt; region.depth(), 2);
+    let mut region = give_up(rt, region, third);
+    is_deep(rt, &region, 2);
     has(rt, &mut region, 1, 2, -30);
     put(rt, &mut region, 1, 1, 20);
-    let Some(mut region) = region.release(second) else {
-        panic!(rt; "no level is left")
-    };
-    assert_eq!(rt; region.depth(), 1);
+    let mut region = give_up(rt, region, second);
+    is_deep(rt, &region, 1);
     has(rt, &mut region, 0, 2, -30);
     has(rt, &mut region, 0, 1, 20);
     put(rt, &mut region, 0, 0, 10);
@@ -156,20 +157,16 @@ fn stands_anew<S: Steps>(rt: &impl Abort, env: &mut Env<S>) -> Result<(), Fail> 
     let second = env.new_array::<bool>(2)?;
     let text = env.new_string(&[1, 2, 3])?;
     let mut region = env.get_array_critical(first)?;
-    assert_eq!(rt; region.nest_array(second), Ok(1));
+    nests_array(rt, &mut region, second, Ok(1));
     put(rt, &mut region, 0, 0, -9i16);
     put(rt, &mut region, 1, 1, true);
-    let Some(mut region) = region.release(Mode::Copy) else {
-        panic!(rt; "no level is left")
-    };
+    let mut region = give_up(rt, region, Mode::Copy);
     is_told(rt, &region, 0, Kind::Short, 1);
     has(rt, &mut region, 0, 0, -9i16);
-    assert_eq!(rt; region.nest_string(text), Ok(1));
+    nests_string(rt, &mut region, text, Ok(1));
     is_told(rt, &region, 1, Kind::Text, 3);
     has(rt, &mut region, 1, 2, 3u16);
-    let Some(region) = region.release(Mode::Copy) else {
-        panic!(rt; "no level is left")
-    };
+    let region = give_up(rt, region, Mode::Copy);
     match region.release(Mode::Copy) {
         None => {}
         Some(_) => panic!(rt; "a level is left"),

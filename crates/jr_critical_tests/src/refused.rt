@@ -1,7 +1,7 @@
 //! Regions that are not opened, and levels that are not added, over plain words.
 
-use crate::at_a_level::{has, put};
-use crate::envs::{FOREIGN, NO_SLOT, ONES, OWN, is_outside, lone_env};
+use crate::at_a_level::{give_up, has, is_deep, nests_array, nests_string, put};
+use crate::envs::{FOREIGN, NO_SLOT, ONES, OWN, global, is_outside, lone_env, weak};
 use jr_env::{Env, Region};
 use jr_model::Mode;
 use jr_steps::Steps;
@@ -10,11 +10,7 @@ use std::process::Abort;
 use std::test::Fail;
 
 /// With what a region over an array is refused; one that is opened is ended at once.
-pub(crate) fn array_refused<S: Steps>(
-    rt: &impl Abort,
-    env: &mut Env<S>,
-    word: Handle,
-) -> Option<Fault> {
+fn array_refused<S: Steps>(rt: &impl Abort, env: &mut Env<S>, word: Handle) -> Option<Fault> {
     match env.get_array_critical(word) {
         Ok(region) => {
             match region.release(Mode::Copy) {
@@ -28,11 +24,7 @@ pub(crate) fn array_refused<S: Steps>(
 }
 
 /// The same of a region over a string.
-pub(crate) fn string_refused<S: Steps>(
-    rt: &impl Abort,
-    env: &mut Env<S>,
-    word: Handle,
-) -> Option<Fault> {
+fn string_refused<S: Steps>(rt: &impl Abort, env: &mut Env<S>, word: Handle) -> Option<Fault> {
     match env.get_string_critical(word) {
         Ok(region) => {
             match region.release(Mode::Copy) {
@@ -45,6 +37,26 @@ pub(crate) fn string_refused<S: Steps>(
     }
 }
 
+/// Checks with what a region over an array is refused, if it is.
+pub(crate) fn opens_array<S: Steps>(
+    rt: &impl Abort,
+    env: &mut Env<S>,
+    word: Handle,
+    wanted: Option<Fault>,
+) {
+    assert!(rt; array_refused(rt, env, word) == wanted);
+}
+
+/// The same of a region over a string.
+pub(crate) fn opens_string<S: Steps>(
+    rt: &impl Abort,
+    env: &mut Env<S>,
+    word: Handle,
+    wanted: Option<Fault>,
+) {
+    assert!(rt; string_refused(rt, env, word) == wanted);
+}
+
 /// With what a region is refused, over an array and over a string; each time the thread is outside, and its next call is made.
 fn opens<S: Steps>(
     rt: &impl Abort,
@@ -53,62 +65,79 @@ fn opens<S: Steps>(
     array: Option<Fault>,
     string: Option<Fault>,
 ) {
-    assert_eq!(rt; array_refused(rt, env, word), array);
+    opens_array(rt, env, word, array);
     is_outside(rt, env);
-    assert_eq!(rt; string_refused(rt, env, word), string);
+    opens_string(rt, env, word, string);
     is_outside(rt, env);
+}
+
+/// No region is opened over a word that names no object.
+fn opens_none<S: Steps>(rt: &impl Abort, env: &mut Env<S>) {
+    opens(rt, env, Handle::NULL, Some(Fault::Null), Some(Fault::Null));
+    opens(rt, env, OWN, Some(Fault::Stale), Some(Fault::Stale));
+    opens(rt, env, ONES, Some(Fault::Stale), Some(Fault::Stale));
+    opens(rt, env, NO_SLOT, Some(Fault::Stale), Some(Fault::Stale));
+    opens(rt, env, FOREIGN, Some(Fault::Foreign), Some(Fault::Foreign));
 }
 
 #[test]
 fn words_that_name_no_object(rt: HostRuntime) -> Result<(), Fail> {
     let mut env = lone_env(rt.alloc())?;
-    let rows = [
-        (Handle::NULL, Fault::Null),
-        (OWN, Fault::Stale),
-        (ONES, Fault::Stale),
-        (NO_SLOT, Fault::Stale),
-        (FOREIGN, Fault::Foreign),
-    ];
-    for (word, fault) in rows {
-        opens(&rt, &mut env, word, Some(fault), Some(fault));
-    }
+    opens_none(&rt, &mut env);
+    Ok(())
+}
+
+/// Refusals of an object that is no array of elements, and of one that is no string.
+const NO_ARRAY: Option<Fault> = Some(Fault::NotArray);
+
+const NO_ELEMENTS: Option<Fault> = Some(Fault::WrongElement);
+
+const NO_STRING: Option<Fault> = Some(Fault::WrongKind);
+
+/// A region is opened over an object of the kind that is asked for.
+fn opens_by_kind<S: Steps>(rt: &impl Abort, env: &mut Env<S>) -> Result<(), Fail> {
+    let plain = env.new_plain()?;
+    opens(rt, env, plain, NO_ARRAY, NO_STRING);
+    let string = env.new_string(&[1, 2])?;
+    opens(rt, env, string, NO_ARRAY, None);
+    let objects = env.new_object_array(2, plain)?;
+    opens(rt, env, objects, NO_ELEMENTS, NO_STRING);
+    let none = env.new_object_array(0, Handle::NULL)?;
+    opens(rt, env, none, NO_ELEMENTS, NO_STRING);
+    let chars = env.new_array::<u16>(2)?;
+    opens(rt, env, chars, None, NO_STRING);
     Ok(())
 }
 
 #[test]
 fn objects_of_another_kind(rt: HostRuntime) -> Result<(), Fail> {
     let mut env = lone_env(rt.alloc())?;
-    let no_array = Some(Fault::NotArray);
-    let no_string = Some(Fault::WrongKind);
-    let plain = env.new_plain()?;
-    opens(&rt, &mut env, plain, no_array, no_string);
-    let string = env.new_string(&[1, 2])?;
-    opens(&rt, &mut env, string, no_array, None);
-    let objects = env.new_object_array(2, plain)?;
-    opens(&rt, &mut env, objects, Some(Fault::WrongElement), no_string);
-    let none = env.new_object_array(0, Handle::NULL)?;
-    opens(&rt, &mut env, none, Some(Fault::WrongElement), no_string);
-    let chars = env.new_array::<u16>(2)?;
-    opens(&rt, &mut env, chars, None, no_string);
+    opens_by_kind(&rt, &mut env)
+}
+
+/// The refusal of a reference that was deleted.
+const STALE: Option<Fault> = Some(Fault::Stale);
+
+/// A region is opened over a reference until that is deleted, and no longer.
+fn opens_until_deleted<S: Steps>(rt: &impl Abort, env: &mut Env<S>) -> Result<(), Fail> {
+    let array = env.new_array::<i32>(2)?;
+    let shared = global(env, array)?;
+    let word = weak(env, array)?;
+    env.delete_local_ref(array)?;
+    opens(rt, env, array, STALE, STALE);
+    opens(rt, env, word, None, NO_STRING);
+    env.delete_weak_global_ref(word)?;
+    opens(rt, env, word, STALE, STALE);
+    opens(rt, env, shared, None, NO_STRING);
+    env.delete_global_ref(shared)?;
+    opens(rt, env, shared, STALE, STALE);
     Ok(())
 }
 
 #[test]
 fn references_that_were_deleted(rt: HostRuntime) -> Result<(), Fail> {
     let mut env = lone_env(rt.alloc())?;
-    let stale = Some(Fault::Stale);
-    let array = env.new_array::<i32>(2)?;
-    let shared = env.new_global_ref(array)?.ok_or("an object")?;
-    let weak = env.new_weak_global_ref(array)?.ok_or("an object")?;
-    env.delete_local_ref(array)?;
-    opens(&rt, &mut env, array, stale, stale);
-    opens(&rt, &mut env, weak, None, Some(Fault::WrongKind));
-    env.delete_weak_global_ref(weak)?;
-    opens(&rt, &mut env, weak, stale, stale);
-    opens(&rt, &mut env, shared, None, Some(Fault::WrongKind));
-    env.delete_global_ref(shared)?;
-    opens(&rt, &mut env, shared, stale, stale);
-    Ok(())
+    opens_until_deleted(&rt, &mut env)
 }
 
 /// With what a level is refused, over an array and over a string. The region stands as it did.
@@ -119,9 +148,9 @@ fn nests<S: Steps>(
     array: Fault,
     string: Fault,
 ) {
-    assert_eq!(rt; region.nest_array(word), Err(array));
-    assert_eq!(rt; region.nest_string(word), Err(string));
-    assert_eq!(rt; region.depth(), 1);
+    nests_array(rt, region, word, Err(array));
+    nests_string(rt, region, word, Err(string));
+    is_deep(rt, region, 1);
     has(rt, region, 0, 1, i32::MAX);
 }
 
@@ -156,15 +185,20 @@ fn adds_no_level<S: Steps>(
     Ok(())
 }
 
-#[test]
-fn levels_that_are_not_added(rt: HostRuntime) -> Result<(), Fail> {
-    let mut env = lone_env(rt.alloc())?;
+/// The objects for it: one that was deleted, a plain one, and an array of objects.
+fn adds_no_level_over_others<S: Steps>(rt: &impl Abort, env: &mut Env<S>) -> Result<(), Fail> {
     let deleted = env.new_plain()?;
     env.delete_local_ref(deleted)?;
     let array = env.new_array::<i32>(2)?;
     let plain = env.new_plain()?;
     let objects = env.new_object_array(1, plain)?;
-    adds_no_level(&rt, &mut env, array, [deleted, plain, objects])
+    adds_no_level(rt, env, array, [deleted, plain, objects])
+}
+
+#[test]
+fn levels_that_are_not_added(rt: HostRuntime) -> Result<(), Fail> {
+    let mut env = lone_env(rt.alloc())?;
+    adds_no_level_over_others(&rt, &mut env)
 }
 
 /// A level over a string is refused where an array is wanted, and the other way round, and is added where it is what is wanted.
@@ -172,18 +206,14 @@ fn adds_what_is_wanted<S: Steps>(rt: &impl Abort, env: &mut Env<S>) -> Result<()
     let array = env.new_array::<i32>(1)?;
     let string = env.new_string(&[9])?;
     let mut region = env.get_array_critical(array)?;
-    assert_eq!(rt; region.nest_array(string), Err(Fault::NotArray));
-    assert_eq!(rt; region.nest_string(array), Err(Fault::WrongKind));
-    assert_eq!(rt; region.nest_string(string), Ok(1));
-    assert_eq!(rt; region.nest_array(array), Ok(2));
+    nests_array(rt, &mut region, string, Err(Fault::NotArray));
+    nests_string(rt, &mut region, array, Err(Fault::WrongKind));
+    nests_string(rt, &mut region, string, Ok(1));
+    nests_array(rt, &mut region, array, Ok(2));
     has(rt, &mut region, 1, 0, 9u16);
     has(rt, &mut region, 2, 0, 0i32);
-    let Some(region) = region.release(Mode::Copy) else {
-        panic!(rt; "no level is left")
-    };
-    let Some(region) = region.release(Mode::Copy) else {
-        panic!(rt; "no level is left")
-    };
+    let region = give_up(rt, region, Mode::Copy);
+    let region = give_up(rt, region, Mode::Copy);
     match region.release(Mode::Copy) {
         None => {}
         Some(_) => panic!(rt; "a level is left"),

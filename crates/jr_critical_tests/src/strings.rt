@@ -1,7 +1,9 @@
 //! Units of strings in a region, over plain words.
 
-use crate::at_a_level::{has, is_told, put, read, write};
-use crate::envs::{is_outside, lone_env};
+use crate::at_a_level::{
+    give_up, has, is_not_put, is_not_read, is_told, nests_array, nests_string, put,
+};
+use crate::envs::{global, is_outside, lone_env};
 use jr_env::{Env, Region};
 use jr_model::Mode;
 use jr_steps::Steps;
@@ -16,20 +18,20 @@ fn are_read<S: Steps>(rt: &impl Abort, region: &mut Region<'_, S>) {
     has(rt, region, 0, 1, 0u16);
     has(rt, region, 0, 2, 65_535u16);
     has(rt, region, 0, 3, 55_296u16);
-    assert_eq!(rt; read::<_, u16>(rt, region, 0, 4), Err(Fault::Range));
-    assert_eq!(rt; read::<_, u16>(rt, region, 0, u32::MAX), Err(Fault::Range));
-    assert_eq!(rt; read::<_, i16>(rt, region, 0, 0), Err(Fault::WrongElement));
+    is_not_read::<_, u16>(rt, region, 0, 4, Fault::Range);
+    is_not_read::<_, u16>(rt, region, 0, u32::MAX, Fault::Range);
+    is_not_read::<_, i16>(rt, region, 0, 0, Fault::WrongElement);
     // The type is looked at before the index.
-    assert_eq!(rt; read::<_, i64>(rt, region, 0, 4), Err(Fault::WrongElement));
+    is_not_read::<_, i64>(rt, region, 0, 4, Fault::WrongElement);
 }
 
 /// None is written, of whatever type and at whatever index.
 fn are_not_written<S: Steps>(rt: &impl Abort, region: &mut Region<'_, S>) {
-    assert_eq!(rt; write(rt, region, 0, 0, 105u16), Err(Fault::NotArray));
-    assert_eq!(rt; write(rt, region, 0, 3, 55_296u16), Err(Fault::NotArray));
-    assert_eq!(rt; write(rt, region, 0, 4, 1u16), Err(Fault::NotArray));
-    assert_eq!(rt; write(rt, region, 0, 0, true), Err(Fault::NotArray));
-    assert_eq!(rt; write(rt, region, 0, 4, -1i64), Err(Fault::NotArray));
+    is_not_put(rt, region, 0, 0, 105u16, Fault::NotArray);
+    is_not_put(rt, region, 0, 3, 55_296u16, Fault::NotArray);
+    is_not_put(rt, region, 0, 4, 1u16, Fault::NotArray);
+    is_not_put(rt, region, 0, 0, true, Fault::NotArray);
+    is_not_put(rt, region, 0, 4, -1i64, Fault::NotArray);
 }
 
 /// The units of a string are read in each of its regions, and none was written.
@@ -46,15 +48,20 @@ fn are_units<S: Steps>(rt: &impl Abort, env: &mut Env<S>, string: Handle) -> Res
     Ok(())
 }
 
+/// They are so by a local reference and by a global one.
+fn are_units_by_each_reference<S: Steps>(rt: &impl Abort, env: &mut Env<S>) -> Result<(), Fail> {
+    let string = env.new_string(&[104, 0, 65_535, 55_296])?;
+    are_units(rt, env, string)?;
+    let shared = global(env, string)?;
+    are_units(rt, env, shared)?;
+    assert!(rt; env.get_string_length(string) == Ok(4));
+    Ok(())
+}
+
 #[test]
 fn units_are_read_and_not_written(rt: HostRuntime) -> Result<(), Fail> {
     let mut env = lone_env(rt.alloc())?;
-    let string = env.new_string(&[104, 0, 65_535, 55_296])?;
-    are_units(&rt, &mut env, string)?;
-    let shared = env.new_global_ref(string)?.ok_or("an object")?;
-    are_units(&rt, &mut env, shared)?;
-    assert_eq!(rt; env.get_string_length(string)?, 4);
-    Ok(())
+    are_units_by_each_reference(&rt, &mut env)
 }
 
 /// A string of no units has a kind and a length, and no unit.
@@ -62,12 +69,9 @@ fn has_no_units<S: Steps>(rt: &impl Abort, env: &mut Env<S>) -> Result<(), Fail>
     let string = env.new_string(&[])?;
     let mut region = env.get_string_critical(string)?;
     is_told(rt, &region, 0, Kind::Text, 0);
-    assert_eq!(rt; read::<_, u16>(rt, &mut region, 0, 0), Err(Fault::Range));
-    assert_eq!(rt;
-        read::<_, i8>(rt, &mut region, 0, 0),
-        Err(Fault::WrongElement)
-    );
-    assert_eq!(rt; write(rt, &mut region, 0, 0, 1u16), Err(Fault::NotArray));
+    is_not_read::<_, u16>(rt, &mut region, 0, 0, Fault::Range);
+    is_not_read::<_, i8>(rt, &mut region, 0, 0, Fault::WrongElement);
+    is_not_put(rt, &mut region, 0, 0, 1u16, Fault::NotArray);
     match region.release(Mode::Abort) {
         None => {}
         Some(_) => panic!(rt; "a level is left"),
@@ -88,22 +92,18 @@ fn stand_beside<S: Steps>(rt: &impl Abort, env: &mut Env<S>) -> Result<(), Fail>
     let other = env.new_string(&[7])?;
     let array = env.new_array::<u16>(3)?;
     let mut region = env.get_string_critical(string)?;
-    assert_eq!(rt; region.nest_array(array), Ok(1));
-    assert_eq!(rt; region.nest_string(other), Ok(2));
+    nests_array(rt, &mut region, array, Ok(1));
+    nests_string(rt, &mut region, other, Ok(2));
     is_told(rt, &region, 0, Kind::Text, 2);
     is_told(rt, &region, 1, Kind::Char, 3);
     is_told(rt, &region, 2, Kind::Text, 1);
     put(rt, &mut region, 1, 0, 65_535u16);
-    assert_eq!(rt; write(rt, &mut region, 2, 0, 8u16), Err(Fault::NotArray));
+    is_not_put(rt, &mut region, 2, 0, 8u16, Fault::NotArray);
     has(rt, &mut region, 0, 0, 104u16);
     has(rt, &mut region, 1, 0, 65_535u16);
     has(rt, &mut region, 2, 0, 7u16);
-    let Some(region) = region.release(Mode::Copy) else {
-        panic!(rt; "no level is left")
-    };
-    let Some(region) = region.release(Mode::Copy) else {
-        panic!(rt; "no level is left")
-    };
+    let region = give_up(rt, region, Mode::Copy);
+    let region = give_up(rt, region, Mode::Copy);
     match region.release(Mode::Copy) {
         None => {}
         Some(_) => panic!(rt; "a level is left"),

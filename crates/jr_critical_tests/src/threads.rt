@@ -1,11 +1,10 @@
 //! Regions of threads of one room, and collections beside them.
-ghost use Rattle.std.specs.Prelude.{◌≡◌, All, IfOk};
-ghost use Rattle.jr_model.specs.declared.event.Role.TheVariants.{Outside};
+ghost use Rattle.std.specs.Prelude.{All};
 ghost use Rattle.jr_rule.specs.Passes.{IsOpened};
 
-use crate::at_a_level::{has, put};
-use crate::envs::{LAST, ONES, OWN, TWO, has_elements, is_outside, next_env};
-use crate::refused::{array_refused, string_refused};
+use crate::at_a_level::{give_up, has, nests_array, nests_string, put};
+use crate::envs::{LAST, ONES, OWN, TWO, global, has_elements, is_outside, next_env};
+use crate::refused::{opens_array, opens_string};
 use jr_env::{Env, Region};
 use jr_gate::shut_gate;
 use jr_model::Mode;
@@ -30,23 +29,22 @@ const COLLECTIONS: u32 = 10_000;
 /// How often a thread tries at most.
 const TRIES: u32 = 5_000_000;
 
-/// The last of the passes.
-fn last_of(_room: &Room<LAST>, passes: &mut Vec<Pass>) -> Result<Pass, Fail>
-    requires { All (λ p. IsOpened _room.now.row p) passes.old.items }
-    ensures others { All (λ p. IsOpened _room.now.row p) passes.new.items }
-    ensures pass { IfOk result (λ p. IsOpened _room.now.row p) }
+/// The steps over the last of the passes.
+fn next_steps<'a>(room: &'a Room<LAST>, passes: &mut Vec<Pass>) -> Result<RoomSteps<'a, LAST>, Fail>
+    requires { All (λ p. IsOpened room.now.row p) passes.old.items }
+    ensures { All (λ p. IsOpened room.now.row p) passes.new.items }
 {
-    let Some(pass) = passes.pop() else {
-        return Err("there is no pass for each thread")?;
-    };
-    Ok(pass)
+    match passes.pop() {
+        Some(pass) => Ok(RoomSteps::new(room, pass)),
+        None => Err("a thread has no pass")?,
+    }
 }
 
-/// Why a collection is refused, if it is. It is ended at once.
-fn shut_refused<S: Steps>(steps: &mut S) -> Option<Fault>
-    requires { (S.facts steps.old).stands.role ≡ Outside }
-    ensures { (S.facts steps.new).stands ≡ (S.facts steps.old).stands }
-{
+/// Why a collection of a thread that is outside is refused, if it is. It is ended at once.
+fn shut_refused<S: Steps>(rt: &impl Abort, steps: &mut S) -> Option<Fault> {
+    let Role::Outside = steps.role() else {
+        panic!(rt; "the thread is inside")
+    };
     match shut_gate(steps) {
         Ok(collection) => {
             collection.reopen(steps);
@@ -56,34 +54,34 @@ fn shut_refused<S: Steps>(steps: &mut S) -> Option<Fault>
     }
 }
 
+/// Checks with what a collection is refused, if it is.
+fn shuts<S: Steps>(rt: &impl Abort, steps: &mut S, wanted: Option<Fault>) {
+    assert!(rt; shut_refused(rt, steps) == wanted);
+}
+
 /// From its opening to the release of its first level a region bars another thread's collections, whatever levels are added and given up in it. One that is not opened bars none.
 fn bars_collections<S: Steps, T: Steps>(
     rt: &impl Abort,
     env: &mut Env<S>,
     other: &mut T,
-) -> Result<(), Fail>
-    requires { (T.facts other.old).stands.role ≡ Outside }
-    ensures { (T.facts other.new).stands ≡ (T.facts other.old).stands }
-{
+) -> Result<(), Fail> {
     let array = env.new_array::<i32>(2)?;
-    assert_eq!(rt; array_refused(rt, env, ONES), Some(Fault::Stale));
-    assert_eq!(rt; shut_refused(other), None);
+    opens_array(rt, env, ONES, Some(Fault::Stale));
+    shuts(rt, other, None);
     let mut region = env.get_array_critical(array)?;
-    assert_eq!(rt; shut_refused(other), Some(Fault::Busy(1)));
-    assert_eq!(rt; region.nest_array(array), Ok(1));
-    assert_eq!(rt; region.nest_string(array), Err(Fault::WrongKind));
+    shuts(rt, other, Some(Fault::Busy(1)));
+    nests_array(rt, &mut region, array, Ok(1));
+    nests_string(rt, &mut region, array, Err(Fault::WrongKind));
     put(rt, &mut region, 1, 1, -20);
-    assert_eq!(rt; shut_refused(other), Some(Fault::Busy(1)));
-    let Some(mut region) = region.release(Mode::Abort) else {
-        panic!(rt; "no level is left")
-    };
+    shuts(rt, other, Some(Fault::Busy(1)));
+    let mut region = give_up(rt, region, Mode::Abort);
     has(rt, &mut region, 0, 1, -20);
-    assert_eq!(rt; shut_refused(other), Some(Fault::Busy(1)));
+    shuts(rt, other, Some(Fault::Busy(1)));
     match region.release(Mode::Copy) {
         None => {}
         Some(_) => panic!(rt; "a level is left"),
     }
-    assert_eq!(rt; shut_refused(other), None);
+    shuts(rt, other, None);
     is_outside(rt, env);
     Ok(())
 }
@@ -93,29 +91,29 @@ fn is_barred<S: Steps, T: Steps>(
     rt: &impl Abort,
     env: &mut Env<S>,
     other: &mut T,
-) -> Result<(), Fail>
-    requires { (T.facts other.old).stands.role ≡ Outside }
-{
+) -> Result<(), Fail> {
     let array = env.new_array::<i32>(2)?;
     let string = env.new_string(&[104])?;
+    let Role::Outside = other.role() else {
+        panic!(rt; "the thread is inside")
+    };
     let Ok(collection) = shut_gate(other) else {
         return Err("a thread is inside")?;
     };
-    assert_eq!(rt; array_refused(rt, env, array), Some(Fault::Barred));
-    assert_eq!(rt; string_refused(rt, env, string), Some(Fault::Barred));
-    assert_eq!(rt; array_refused(rt, env, ONES), Some(Fault::Barred));
-    assert_eq!(rt; env.held.steps.role(), Role::Outside);
+    opens_array(rt, env, array, Some(Fault::Barred));
+    opens_string(rt, env, string, Some(Fault::Barred));
+    opens_array(rt, env, ONES, Some(Fault::Barred));
+    assert!(rt; env.held.steps.role() == Role::Outside);
     collection.reopen(other);
-    assert_eq!(rt; array_refused(rt, env, array), None);
-    assert_eq!(rt; string_refused(rt, env, string), None);
+    opens_array(rt, env, array, None);
+    opens_string(rt, env, string, None);
     Ok(())
 }
 
 #[test]
 fn a_region_and_a_collection_exclude_each_other(rt: HostRuntime) -> Result<(), Fail> {
     let (room, mut passes) = Room::<LAST>::open(rt.alloc(), TWO)?;
-    let other = last_of(&room, &mut passes)?;
-    let mut other = RoomSteps::new(&room, other);
+    let mut other = next_steps(&room, &mut passes)?;
     let mut env = next_env(&room, &mut passes)?;
     bars_collections(&rt, &mut env, &mut other)?;
     is_barred(&rt, &mut env, &mut other)
@@ -128,13 +126,10 @@ fn stands_beside<S: Steps, T: Steps, U: Steps>(
     second: &mut Env<T>,
     shared: Handle,
     third: &mut U,
-) -> Result<(), Fail>
-    requires { (U.facts third.old).stands.role ≡ Outside }
-    ensures { (U.facts third.new).stands ≡ (U.facts third.old).stands }
-{
-    assert_eq!(rt; shut_refused(third), Some(Fault::Busy(1)));
+) -> Result<(), Fail> {
+    shuts(rt, third, Some(Fault::Busy(1)));
     let mut region = second.get_array_critical(shared)?;
-    assert_eq!(rt; shut_refused(third), Some(Fault::Busy(2)));
+    shuts(rt, third, Some(Fault::Busy(2)));
     put(rt, first, 0, 0, 65_535u16);
     has(rt, &mut region, 0, 0, 65_535u16);
     put(rt, &mut region, 0, 1, 1u16);
@@ -143,7 +138,7 @@ fn stands_beside<S: Steps, T: Steps, U: Steps>(
         None => {}
         Some(_) => panic!(rt; "a level is left"),
     }
-    assert_eq!(rt; shut_refused(third), Some(Fault::Busy(1)));
+    shuts(rt, third, Some(Fault::Busy(1)));
     Ok(())
 }
 
@@ -153,28 +148,24 @@ fn stand_at_once<S: Steps, T: Steps, U: Steps>(
     first: &mut Env<S>,
     second: &mut Env<T>,
     third: &mut U,
-) -> Result<(), Fail>
-    requires { (U.facts third.old).stands.role ≡ Outside }
-    ensures { (U.facts third.new).stands ≡ (U.facts third.old).stands }
-{
+) -> Result<(), Fail> {
     let array = first.new_array::<u16>(2)?;
-    let shared = first.new_global_ref(array)?.ok_or("an object")?;
-    assert_eq!(rt; array_refused(rt, second, array), Some(Fault::Foreign));
+    let shared = global(first, array)?;
+    opens_array(rt, second, array, Some(Fault::Foreign));
     let mut region = first.get_array_critical(array)?;
     let answer = stands_beside(rt, &mut region, second, shared, third);
     match region.release(Mode::Copy) {
         None => {}
         Some(_) => panic!(rt; "a level is left"),
     }
-    assert_eq!(rt; shut_refused(third), None);
+    shuts(rt, third, None);
     answer
 }
 
 #[test]
 fn regions_of_two_threads_stand_at_once(rt: HostRuntime) -> Result<(), Fail> {
     let (room, mut passes) = Room::<LAST>::open(rt.alloc(), THREE)?;
-    let third = last_of(&room, &mut passes)?;
-    let mut third = RoomSteps::new(&room, third);
+    let mut third = next_steps(&room, &mut passes)?;
     let mut second = next_env(&room, &mut passes)?;
     let mut first = next_env(&room, &mut passes)?;
     stand_at_once(&rt, &mut first, &mut second, &mut third)
@@ -223,15 +214,25 @@ fn collect_often<S: Steps>(steps: &mut S, collections: u32, tries: u32) -> u32 {
     done
 }
 
+/// The first array of a thread's env.
+fn own_array<S: Steps>(rt: &impl Abort, env: &mut Env<S>) -> Result<Handle, Fail> {
+    let array = env.new_array::<i64>(2)?;
+    assert!(rt; array == OWN);
+    Ok(array)
+}
+
+/// The array has what was written last.
+fn has_last_number<S: Steps>(rt: &impl Abort, env: &mut Env<S>, array: Handle) -> Result<(), Fail> {
+    has_elements(rt, env, array, &mut [7i64; 2], &[0, 9_999])
+}
+
 #[test]
 fn regions_and_collections_of_two_threads_end(rt: HostRuntime) -> Result<(), Fail> {
     let (room, mut passes) = Room::<LAST>::open(rt.alloc(), TWO)?;
-    let other = last_of(&room, &mut passes)?;
-    let mut other = RoomSteps::new(&room, other);
+    let mut other = next_steps(&room, &mut passes)?;
     let mut env = next_env(&room, &mut passes)?;
-    let array = env.new_array::<i64>(2)?;
-    assert_eq!(rt; array, OWN);
-    let both = thread::scope(thread::scope_env(), &rt, |scope| {
+    let array = own_array(&rt, &mut env)?;
+    let (regions, collections) = thread::scope(thread::scope_env(), &rt, |scope| {
         let one = scope.spawn(|| write_often(&mut env, REGIONS, TRIES));
         let two = scope.spawn(|| collect_often(&mut other, COLLECTIONS, TRIES));
         (
@@ -239,6 +240,7 @@ fn regions_and_collections_of_two_threads_end(rt: HostRuntime) -> Result<(), Fai
             two.map(|two| two.join(&rt)).ok(),
         )
     });
-    assert_eq!(rt; both, (Some(REGIONS), Some(COLLECTIONS)));
-    has_elements(&rt, &mut env, array, &mut [7i64; 2], &[0, 9_999])
+    assert!(rt; regions == Some(REGIONS));
+    assert!(rt; collections == Some(COLLECTIONS));
+    has_last_number(&rt, &mut env, array)
 }
