@@ -12,6 +12,7 @@ use jr_word::{
     Config, Elem, Fault, GateParts, Handle, HandleParts, HeaderParts, LocalParts, RefKind,
     SlotParts,
 };
+use std::process::Abort;
 use std::test::Fail;
 
 /// Two threads and eight words, with a third thread that takes no step.
@@ -26,14 +27,26 @@ const SMALL: Config = Config {
 /// Local, of thread 1, with serial 0 at the first place.
 const FIRST: Handle = Handle(0x4_0000_0000_0001);
 
-/// The steps of a thread. Before each exchange of the top another thread makes an array of one element.
-#[derive(Drop)]
-struct Overtaken<S: Steps, U: Steps> {
-    steps: S,
-    other: Env<U>,
+/// What another thread does between two steps of a thread.
+trait Meanwhile {
+    fn act(&mut self);
 }
 
-impl<S: Steps, U: Steps> Steps for Overtaken<S, U> {
+/// It makes an array of one element.
+impl<U: Steps> Meanwhile for Env<U> {
+    fn act(&mut self) {
+        let _ = self.new_array::<i32>(1);
+    }
+}
+
+/// The steps of a thread. Before each exchange of the top another thread acts.
+#[derive(Drop)]
+struct Overtaken<S: Steps, M: Meanwhile> {
+    steps: S,
+    other: M,
+}
+
+impl<S: Steps, M: Meanwhile> Steps for Overtaken<S, M> {
     ghost facts = { λ s. S.facts s.steps };
 
     fn config(&self) -> Config {
@@ -123,7 +136,7 @@ impl<S: Steps, U: Steps> Steps for Overtaken<S, U> {
     }
 
     fn claim_top(&mut self, looked: u32, more: u32) -> Result<(), u32> {
-        let _ = self.other.new_array::<i32>(1);
+        self.other.act();
         self.steps.claim_top(looked, more)
     }
 
@@ -207,12 +220,12 @@ impl<S: Steps, U: Steps> Steps for Overtaken<S, U> {
     ghost below = { λ s. S.below s.steps };
 }
 
-/// The env over the next pass, which another env overtakes.
-fn next_overtaken<'a, U: Steps + Drop>(
+/// The env over the next pass, which another thread overtakes.
+fn next_overtaken<'a, M: Meanwhile + Drop>(
     room: &'a Room<LAST>,
     passes: &mut Vec<Pass>,
-    other: Env<U>,
-) -> Result<Env<Overtaken<RoomSteps<'a, LAST>, U>>, Fail>
+    other: M,
+) -> Result<Env<Overtaken<RoomSteps<'a, LAST>, M>>, Fail>
     requires { All (λ p. IsOpened room.now.row p) passes.old.items }
     ensures { All (λ p. IsOpened room.now.row p) passes.new.items }
 {
@@ -225,21 +238,27 @@ fn next_overtaken<'a, U: Steps + Drop>(
     }
 }
 
+/// Each call that reserves words is refused with E12, as another thread reserved one more each time. It has left no local reference.
+fn is_overtaken<S: Steps>(rt: &impl Abort, env: &mut Env<S>) -> Result<(), Fail> {
+    refuses(rt, env.new_array::<i32>(3), Fault::Raced(0, 1));
+    refuses(rt, env.new_string(&[1, 2]), Fault::Raced(1, 2));
+    refuses(
+        rt,
+        env.new_object_array(3, Handle::NULL),
+        Fault::Raced(2, 3),
+    );
+    assert_eq!(rt; env.held.steps.thread(), 1);
+    assert_eq!(rt; env.get_object_ref_type(FIRST)?, 0);
+    Ok(())
+}
+
 // A call that E12 refused has left no local reference, no object and no word.
 #[test]
 fn another_thread_is_always_faster(rt: HostRuntime) -> Result<(), Fail> {
     let (room, mut passes) = Room::<LAST>::open(rt.alloc(), SMALL)?;
     let other = next_env(&room, &mut passes)?;
     let mut env = next_overtaken(&room, &mut passes, other)?;
-    refuses(&rt, env.new_array::<i32>(3), Fault::Raced(0, 1));
-    refuses(&rt, env.new_string(&[1, 2]), Fault::Raced(1, 2));
-    refuses(
-        &rt,
-        env.new_object_array(3, Handle::NULL),
-        Fault::Raced(2, 3),
-    );
-    assert_eq!(rt; env.held.steps.thread(), 1);
-    assert_eq!(rt; env.get_object_ref_type(FIRST)?, 0);
+    is_overtaken(&rt, &mut env)?;
     let Overtaken { steps, other } = env.into_pass();
     let (_steps, _other) = (steps.into_pass(), other.into_pass().into_pass());
     // Three arrays of the other thread, with an element each.
