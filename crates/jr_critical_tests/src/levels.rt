@@ -54,7 +54,7 @@ fn stand_and_end<S: Steps>(
     }
     match rest.release(mode) {
         None => {}
-        Some(_) => panic!(rt; "a level is left"),
+        Some(_) => panic!(rt; "a seventeenth level stood"),
     }
     is_outside(rt, env);
     has_elements(rt, env, array, &mut [7i64; 2], &[0, i64::MIN])
