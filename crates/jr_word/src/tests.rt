@@ -3,6 +3,7 @@
 ghost use Rattle.std.specs.Prelude.{◌≡◌, Some};
 
 use crate::*;
+use std::process::Abort;
 use std::test::Fail;
 
 fn handle(kind: RefKind, serial: u32, index: u16, owner: u8) -> Option<HandleParts> {
@@ -12,6 +13,11 @@ fn handle(kind: RefKind, serial: u32, index: u16, owner: u8) -> Option<HandlePar
         index,
         owner,
     })
+}
+
+/// Asserts what a word is read as.
+fn reads_handle(rt: &impl Abort, word: u64, parts: Option<HandleParts>) {
+    assert_eq!(rt; Handle::parts(word), parts, "at {word:x}");
 }
 
 #[test]
@@ -42,7 +48,7 @@ fn handles(rt: HostRuntime) {
         (u64::MAX, None),
     ];
     for (word, parts) in rows {
-        assert_eq!(rt; Handle::parts(word), parts, "at {word:x}");
+        reads_handle(&rt, word, parts);
     }
     let last = HandleParts {
         kind: RefKind::Local,
@@ -61,7 +67,7 @@ fn handles_of_one_bit(rt: HostRuntime) {
             1 => handle(RefKind::Global, 0, 0, 0),
             _ => None,
         };
-        assert_eq!(rt; Handle::parts(1 << k), alone, "bit {k}");
+        reads_handle(&rt, 1 << k, alone);
         let local = match k {
             0 => alone,
             1 => handle(RefKind::Weak, 0, 0, 0),
@@ -70,8 +76,13 @@ fn handles_of_one_bit(rt: HostRuntime) {
             50..=55 => handle(RefKind::Local, 0, 0, 1 << (k - 50)),
             _ => None,
         };
-        assert_eq!(rt; Handle::parts(1 | 1 << k), local, "bits 0 and {k}");
+        reads_handle(&rt, 1 | 1 << k, local);
     }
+}
+
+/// Asserts what a handle of the old form is widened to.
+fn widens(rt: &impl Abort, word: u64, wide: Option<u64>) {
+    assert_eq!(rt; Handle::widen(word), wide, "at {word:x}");
 }
 
 #[test]
@@ -92,7 +103,7 @@ fn widened_handles(rt: HostRuntime) {
         (u64::MAX, None),
     ];
     for (word, wide) in rows {
-        assert_eq!(rt; Handle::widen(word), wide, "at {word:x}");
+        widens(&rt, word, wide);
     }
 }
 
@@ -103,14 +114,19 @@ fn widened_handles_of_one_bit(rt: HostRuntime) {
             0 | 1 => Some(1 << k),
             _ => None,
         };
-        assert_eq!(rt; Handle::widen(1 << k), alone, "bit {k}");
+        widens(&rt, 1 << k, alone);
         let local = match k {
             0..=17 => Some(1 | 1 << k),
             18..=39 => Some(1 | 1 << (k + 16)),
             _ => None,
         };
-        assert_eq!(rt; Handle::widen(1 | 1 << k), local, "bits 0 and {k}");
+        widens(&rt, 1 | 1 << k, local);
     }
+}
+
+/// Asserts what a word is read as.
+fn reads_slot(rt: &impl Abort, word: u64, parts: Option<SlotParts>) {
+    assert_eq!(rt; SlotWord::parts(word), parts, "at {word:x}");
 }
 
 #[test]
@@ -120,18 +136,18 @@ fn slots(rt: HostRuntime) {
         object: 3,
     };
     assert_eq!(rt; SlotWord::pack(global), SlotWord(0xc_0000_0016));
-    assert_eq!(rt; SlotWord::parts(0xc_0000_0016), Some(global));
-    assert_eq!(rt; SlotWord::parts(0), Some(SlotParts::Free { serial: 0 }));
+    reads_slot(&rt, 0xc_0000_0016, Some(global));
+    reads_slot(&rt, 0, Some(SlotParts::Free { serial: 0 }));
     let retired = SlotParts::Retired { serial: 2 };
     assert_eq!(rt; SlotWord::pack(retired), SlotWord(9));
-    assert_eq!(rt; SlotWord::parts(9), Some(retired));
+    reads_slot(&rt, 9, Some(retired));
     let cleared = SlotParts::Weak {
         serial: u32::MAX,
         object: None,
     };
     assert_eq!(rt; SlotWord::pack(cleared), SlotWord(0x3_ffff_ffff));
-    assert_eq!(rt; SlotWord::parts(0x3_ffff_ffff), Some(cleared));
-    assert_eq!(rt; SlotWord::parts(u64::MAX), None);
+    reads_slot(&rt, 0x3_ffff_ffff, Some(cleared));
+    reads_slot(&rt, u64::MAX, None);
 }
 
 #[test]
@@ -144,7 +160,7 @@ fn slots_of_one_bit(rt: HostRuntime) {
             }),
             _ => None,
         };
-        assert_eq!(rt; SlotWord::parts(1 << k), alone, "bit {k}");
+        reads_slot(&rt, 1 << k, alone);
     }
     for k in 34..50_u32 {
         let object = 1 << (k - 34);
@@ -153,10 +169,15 @@ fn slots_of_one_bit(rt: HostRuntime) {
             serial: 0,
             object: Some(object),
         };
-        assert_eq!(rt; SlotWord::parts(1 | 1 << k), None, "retired, bit {k}");
-        assert_eq!(rt; SlotWord::parts(2 | 1 << k), Some(global), "bit {k}");
-        assert_eq!(rt; SlotWord::parts(3 | 1 << k), Some(weak), "bit {k}");
+        reads_slot(&rt, 1 | 1 << k, None);
+        reads_slot(&rt, 2 | 1 << k, Some(global));
+        reads_slot(&rt, 3 | 1 << k, Some(weak));
     }
+}
+
+/// Asserts what a word is read as.
+fn reads_gate(rt: &impl Abort, word: u64, parts: Option<GateParts>) {
+    assert_eq!(rt; GateWord::parts(word), parts, "at {word:x}");
 }
 
 fn gate(count: u16, shut: bool) -> Option<GateParts> {
@@ -171,32 +192,42 @@ fn gates(rt: HostRuntime) {
     };
     assert_eq!(rt; GateWord::pack(barred), GateWord(65_537));
     assert_eq!(rt; GateWord::SHUT, 65_536);
-    assert_eq!(rt; GateWord::parts(0), gate(0, false));
-    assert_eq!(rt; GateWord::parts(65_537), gate(1, true));
-    assert_eq!(rt; GateWord::parts(0x1_ffff), gate(65_535, true));
+    reads_gate(&rt, 0, gate(0, false));
+    reads_gate(&rt, 65_537, gate(1, true));
+    reads_gate(&rt, 0x1_ffff, gate(65_535, true));
     for k in 0..64_u32 {
         let alone = match k {
             0..=15 => gate(1 << k, false),
             16 => gate(0, true),
             _ => None,
         };
-        assert_eq!(rt; GateWord::parts(1 << k), alone, "bit {k}");
+        reads_gate(&rt, 1 << k, alone);
     }
+}
+
+/// Asserts what a word is read as.
+fn reads_top(rt: &impl Abort, word: u64, parts: Option<TopParts>) {
+    assert_eq!(rt; TopWord::parts(word), parts, "at {word:x}");
 }
 
 #[test]
 fn tops(rt: HostRuntime) {
     let full = TopParts { used: 0xff_ffff };
     assert_eq!(rt; TopWord::pack(full), TopWord(0xff_ffff));
-    assert_eq!(rt; TopWord::parts(0), Some(TopParts { used: 0 }));
-    assert_eq!(rt; TopWord::parts(0xff_ffff), Some(full));
+    reads_top(&rt, 0, Some(TopParts { used: 0 }));
+    reads_top(&rt, 0xff_ffff, Some(full));
     for k in 0..64_u32 {
         let alone = match k {
             0..=23 => Some(TopParts { used: 1 << k }),
             _ => None,
         };
-        assert_eq!(rt; TopWord::parts(1 << k), alone, "bit {k}");
+        reads_top(&rt, 1 << k, alone);
     }
+}
+
+/// Asserts what a word is read as.
+fn reads_header(rt: &impl Abort, word: u64, parts: Option<HeaderParts>) {
+    assert_eq!(rt; Header::parts(word), parts, "at {word:x}");
 }
 
 fn header(kind: Kind, length: u32, place: u32) -> Option<HeaderParts> {
@@ -215,11 +246,11 @@ fn headers(rt: HostRuntime) {
         place: 5,
     };
     assert_eq!(rt; Header::pack(ints), Header(1_342_177_350));
-    assert_eq!(rt; Header::parts(1_342_177_350), Some(ints));
+    reads_header(&rt, 1_342_177_350, Some(ints));
     let most = header(Kind::Text, 0xff_ffff, 0xff_ffff);
-    assert_eq!(rt; Header::parts(0xf_ffff_ffff_fff9), most);
+    reads_header(&rt, 0xf_ffff_ffff_fff9, most);
     for word in [0, 10, 15, 17, 0x1000_0001, 0x1000_0002, u64::MAX] {
-        assert_eq!(rt; Header::parts(word), None, "at {word:x}");
+        reads_header(&rt, word, None);
     }
     let kinds = [
         Kind::Plain,
@@ -233,11 +264,7 @@ fn headers(rt: HostRuntime) {
         Kind::Text,
     ];
     for (i, kind) in kinds.iter().enumerate() {
-        assert_eq!(rt;
-            Header::parts(i as u64 + 1),
-            header(*kind, 0, 0),
-            "kind {i}"
-        );
+        reads_header(&rt, i as u64 + 1, header(*kind, 0, 0));
     }
 }
 
@@ -251,15 +278,20 @@ fn headers_of_one_bit(rt: HostRuntime) {
             3 => header(Kind::Objects, 0, 0),
             _ => None,
         };
-        assert_eq!(rt; Header::parts(1 << k), alone, "bit {k}");
+        reads_header(&rt, 1 << k, alone);
         let text = match k {
             0 | 3 | 4 => header(Kind::Text, 1, 0),
             5..=27 => header(Kind::Text, 1 | 1 << (k - 4), 0),
             28..=51 => header(Kind::Text, 1, 1 << (k - 28)),
             _ => None,
         };
-        assert_eq!(rt; Header::parts(0x19 | 1 << k), text, "a text, bit {k}");
+        reads_header(&rt, 0x19 | 1 << k, text);
     }
+}
+
+/// Asserts what a word is read as.
+fn reads_local(rt: &impl Abort, word: u64, parts: Option<LocalParts>) {
+    assert_eq!(rt; LocalWord::parts(word), parts, "at {word:x}");
 }
 
 #[test]
@@ -269,13 +301,13 @@ fn local_places(rt: HostRuntime) {
         LocalWord::pack(LocalParts::Object(65_535)),
         LocalWord(65_535)
     );
-    assert_eq!(rt; LocalWord::parts(0), Some(LocalParts::Free));
+    reads_local(&rt, 0, Some(LocalParts::Free));
     for k in 0..64_u32 {
         let alone = match k {
             0..=15 => Some(LocalParts::Object(1 << k)),
             _ => None,
         };
-        assert_eq!(rt; LocalWord::parts(1 << k), alone, "bit {k}");
+        reads_local(&rt, 1 << k, alone);
     }
 }
 
@@ -287,46 +319,51 @@ fn word_and_back<E: Elem>(value: E) -> (u64, Option<E>)
     (word, E::from_word(word))
 }
 
+/// Asserts the word of an element. That it is read as the element again is proved.
+fn is_written<E: Elem>(rt: &impl Abort, value: E, word: u64) {
+    let (written, back) = word_and_back(value);
+    assert_eq!(rt; written, word);
+    assert!(rt; back.is_some());
+}
+
 #[test]
 fn elements(rt: HostRuntime) {
-    assert_eq!(rt; word_and_back(false), (0, Some(false)));
-    assert_eq!(rt; word_and_back(true), (1, Some(true)));
-    assert_eq!(rt; word_and_back(-128_i8), (128, Some(-128)));
-    assert_eq!(rt; word_and_back(-1_i8), (255, Some(-1)));
-    assert_eq!(rt; word_and_back(127_i8), (127, Some(127)));
-    assert_eq!(rt; word_and_back(0_u16), (0, Some(0)));
-    assert_eq!(rt; word_and_back(65_535_u16), (65_535, Some(65_535)));
-    assert_eq!(rt; word_and_back(i16::MIN), (32_768, Some(i16::MIN)));
-    assert_eq!(rt; word_and_back(i16::MAX), (32_767, Some(i16::MAX)));
-    assert_eq!(rt; word_and_back(i32::MIN), (2_147_483_648, Some(i32::MIN)));
-    assert_eq!(rt; word_and_back(i32::MAX), (2_147_483_647, Some(i32::MAX)));
-    assert_eq!(rt;
-        word_and_back(i64::MIN),
-        (0x8000_0000_0000_0000, Some(i64::MIN))
-    );
-    assert_eq!(rt;
-        word_and_back(i64::MAX),
-        (0x7fff_ffff_ffff_ffff, Some(i64::MAX))
-    );
-    assert_eq!(rt; word_and_back(-1_i64), (u64::MAX, Some(-1)));
+    is_written(&rt, false, 0);
+    is_written(&rt, true, 1);
+    is_written(&rt, -128_i8, 128);
+    is_written(&rt, -1_i8, 255);
+    is_written(&rt, 127_i8, 127);
+    is_written(&rt, 0_u16, 0);
+    is_written(&rt, 65_535_u16, 65_535);
+    is_written(&rt, i16::MIN, 32_768);
+    is_written(&rt, i16::MAX, 32_767);
+    is_written(&rt, i32::MIN, 2_147_483_648);
+    is_written(&rt, i32::MAX, 2_147_483_647);
+    is_written(&rt, i64::MIN, 0x8000_0000_0000_0000);
+    is_written(&rt, i64::MAX, 0x7fff_ffff_ffff_ffff);
+    is_written(&rt, -1_i64, u64::MAX);
+}
+
+fn is_kind(rt: &impl Abort, kind: Kind, wanted: Kind) {
+    assert_eq!(rt; kind, wanted);
 }
 
 #[test]
 fn words_past_the_range(rt: HostRuntime) {
     for past in [0, 1 << 32, u64::MAX - 0xffff_ffff] {
-        assert_eq!(rt; bool::from_word(past | 2), None);
-        assert_eq!(rt; i8::from_word(past | 0x100), None);
-        assert_eq!(rt; u16::from_word(past | 0x1_0000), None);
-        assert_eq!(rt; i16::from_word(past | 0x1_0000), None);
+        assert!(rt; bool::from_word(past | 2).is_none());
+        assert!(rt; i8::from_word(past | 0x100).is_none());
+        assert!(rt; u16::from_word(past | 0x1_0000).is_none());
+        assert!(rt; i16::from_word(past | 0x1_0000).is_none());
     }
-    assert_eq!(rt; i32::from_word(1 << 32), None);
-    assert_eq!(rt; i32::from_word(u64::MAX), None);
-    assert_eq!(rt; bool::KIND, Kind::Boolean);
-    assert_eq!(rt; i8::KIND, Kind::Byte);
-    assert_eq!(rt; u16::KIND, Kind::Char);
-    assert_eq!(rt; i16::KIND, Kind::Short);
-    assert_eq!(rt; i32::KIND, Kind::Int);
-    assert_eq!(rt; i64::KIND, Kind::Long);
+    assert!(rt; i32::from_word(1 << 32).is_none());
+    assert!(rt; i32::from_word(u64::MAX).is_none());
+    is_kind(&rt, bool::KIND, Kind::Boolean);
+    is_kind(&rt, i8::KIND, Kind::Byte);
+    is_kind(&rt, u16::KIND, Kind::Char);
+    is_kind(&rt, i16::KIND, Kind::Short);
+    is_kind(&rt, i32::KIND, Kind::Int);
+    is_kind(&rt, i64::KIND, Kind::Long);
 }
 
 #[test]
