@@ -13,8 +13,6 @@ mod number;
 mod reader;
 mod script;
 mod sequence;
-#[cfg(test)]
-mod tests;
 mod text;
 mod thread;
 mod units;

@@ -8,16 +8,11 @@ mod copies;
 mod regions;
 mod rooms;
 
-use crate::command::Command;
-use crate::fault::{Reason, ScriptFault};
-use crate::laws::{a_script_printed_is_read_again, a_text_read_is_printed_again};
-use crate::name::{Name, Reference, is_name};
-use crate::reader::parse;
-use crate::script::Script;
-use crate::sequence::Sequence;
-use crate::thread::ThreadPart;
-use crate::verb::{Make, MakeFrom, On, OnBoth, OnName, WithCount};
-use crate::writer::print;
+use jr_syntax::{
+    Command, Make, MakeFrom, Name, On, OnBoth, OnName, Reason, Reference, Script, ScriptFault,
+    Sequence, ThreadPart, WithCount, a_script_printed_is_read_again, a_text_read_is_printed_again,
+    is_name, parse, print,
+};
 use jr_word::Config;
 use std::alloc::{AllocError, Global};
 use std::process::Abort;

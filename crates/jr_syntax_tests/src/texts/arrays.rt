@@ -1,11 +1,10 @@
 //! Commands of arrays and strings.
 
 use super::{each_is, name, named, read_and_printed, third_line};
-use crate::command::Command;
-use crate::fault::Reason;
-use crate::name::Reference;
-use crate::units::Units;
-use crate::verb::{MakeAt, MakeFilled, MakeSized, MakeText, On, OnAt, SetAt, StoreAt};
+use jr_syntax::{
+    Command, MakeAt, MakeFilled, MakeSized, MakeText, On, OnAt, Reason, Reference, SetAt, StoreAt,
+    Units,
+};
 use std::alloc::{AllocError, Global};
 use std::process::Abort;
 use std::test::Fail;

@@ -1,11 +1,10 @@
 //! Commands of critical regions.
 
 use super::{each_is, name, named, read_and_printed};
-use crate::command::Command;
-use crate::fault::Reason;
-use crate::name::{Name, Reference, is_name};
-use crate::verb::{CloseLevel, OnNameAt, OpenLevel, PutAt};
 use jr_model::Mode;
+use jr_syntax::{
+    CloseLevel, Command, Name, OnNameAt, OpenLevel, PutAt, Reason, Reference, is_name,
+};
 use std::test::Fail;
 
 #[test]

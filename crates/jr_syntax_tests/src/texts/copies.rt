@@ -1,11 +1,8 @@
 //! Commands of copied elements, and of the units of a string.
 
 use super::{each_is, name, named, read_and_printed};
-use crate::command::Command;
-use crate::fault::Reason;
-use crate::name::Reference;
-use crate::verb::{MakeFrom, On, OnNameAt, PutAt, Release};
 use jr_model::Mode;
+use jr_syntax::{Command, MakeFrom, On, OnNameAt, PutAt, Reason, Reference, Release};
 use std::test::Fail;
 
 #[test]

@@ -1,9 +1,7 @@
 //! The command that is about the room as a whole.
 
 use super::{each_is, read_and_printed};
-use crate::command::Command;
-use crate::fault::Reason;
-use crate::verb::OfRoom;
+use jr_syntax::{Command, OfRoom, Reason};
 use std::test::Fail;
 
 #[test]
