@@ -24,7 +24,7 @@ use std::sync::Wait;
 use std::thread::Threads;
 
 /// Does what the words ask for, and gives the exit status. Output is written only once all of it is there; a fault's line goes to the second writer.
-pub fn act<'a, T: Threads + Wait, R: Read + Drop, W: Write + Drop, F: Write + Drop>(
+pub(crate) fn act<'a, T: Threads + Wait, R: Read + Drop, W: Write + Drop, F: Write + Drop>(
     rt: &T,
     alloc: Global,
     words: &'a [&'a str],

@@ -14,7 +14,11 @@ use std::thread::Threads;
 const TURNS: u64 = 10_000_000;
 
 /// Runs the script of a text, each of its threads in one of its own, and gives what it prints.
-pub fn answer_of<T: Threads + Wait>(rt: &T, alloc: Global, text: &[u8]) -> Result<Vec<u8>, Trouble>
+pub(crate) fn answer_of<T: Threads + Wait>(
+    rt: &T,
+    alloc: Global,
+    text: &[u8],
+) -> Result<Vec<u8>, Trouble>
     ensures answer { IfOk result (λ output. IsAnswer 10000000 4294967295 text.now output.items) }
     ensures refused { IfErr result (IsRefused text.now) }
 {

@@ -22,7 +22,7 @@ fn commands_in(threads: &[ThreadPart]) -> usize
 }
 
 /// Parses a text, and gives the line of its script.
-pub fn check_of(alloc: Global, text: &[u8]) -> Result<Vec<u8>, Trouble>
+pub(crate) fn check_of(alloc: Global, text: &[u8]) -> Result<Vec<u8>, Trouble>
     ensures checked { IfOk result (λ output. IsCheck text.now output.items) }
     ensures refused { IfErr result (IsRefused text.now) }
 {

@@ -13,7 +13,7 @@ use std::alloc::{AllocError, Global};
 const MOST_DIGITS: usize = 16;
 
 /// The word that 1 to 16 hexadecimal digits of either case stand for.
-pub fn word_of_hex(text: &str) -> Option<u64>
+pub(crate) fn word_of_hex(text: &str) -> Option<u64>
     ensures { result ≡ hex_value text.now }
 {
     if text.is_empty() || text.len() > MOST_DIGITS || !are_digits(text.as_bytes()) {
@@ -41,7 +41,7 @@ fn name_of(kind: RefKind) -> &'static str
 }
 
 /// A line that says what a word is as a handle: `null`, `invalid`, or its parts.
-pub fn description_of(alloc: Global, word: u64) -> Result<String, AllocError>
+pub(crate) fn description_of(alloc: Global, word: u64) -> Result<String, AllocError>
     ensures { IfOk result (λ text. Describes word (string_bytes text)) }
 {
     if Handle(word) == Handle::NULL {
@@ -68,7 +68,7 @@ fn line_of(alloc: Global, parts: HandleParts) -> Result<String, AllocError>
 }
 
 /// A line that says what a word of the earlier layout is today: `null`, `invalid`, or the word in hexadecimal digits.
-pub fn widened_of(alloc: Global, word: u64) -> Result<String, AllocError>
+pub(crate) fn widened_of(alloc: Global, word: u64) -> Result<String, AllocError>
     ensures { IfOk result (λ text. SaysWidened word (string_bytes text)) }
 {
     match Handle::widen(word) {

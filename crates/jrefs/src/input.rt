@@ -39,7 +39,7 @@ fn read_piece<R: Read + Drop>(reader: &mut R, input: &mut Vec<u8>) -> Result<usi
 }
 
 /// What a reader gives, as far as a script may go and one byte more.
-pub fn input_of<R: Read + Drop>(alloc: Global, reader: &mut R) -> Result<Vec<u8>, Trouble>
+pub(crate) fn input_of<R: Read + Drop>(alloc: Global, reader: &mut R) -> Result<Vec<u8>, Trouble>
     ensures ok { IfOk result (λ input. IfSome (R.remaining reader.old) (λ bytes. input.items ≡ take MOST_INPUT bytes)) }
     ensures err { IfErr result (λ t. (t ≡ Memory) ⊎ (t ≡ Input)) }
     ensures reads { ReadsAtMost MOST_INPUT (R.remaining reader.old) (R.remaining reader.new) }

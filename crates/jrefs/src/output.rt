@@ -29,7 +29,7 @@ fn write_piece<W: Write + Drop>(writer: &mut W, bytes: &[u8]) -> Result<usize, T
 }
 
 /// Writes all of the bytes, and flushes. Where that fails, a beginning of them was written.
-pub fn write_out<W: Write + Drop>(writer: &mut W, bytes: &[u8]) -> Result<(), Trouble>
+pub(crate) fn write_out<W: Write + Drop>(writer: &mut W, bytes: &[u8]) -> Result<(), Trouble>
     ensures ok { OnOk result (Appends (W.contents writer.old) (W.contents writer.new) bytes.now) }
     ensures cut_off { OnErr result (AppendsBeginning (W.contents writer.old) (W.contents writer.new) bytes.now) }
     ensures err { IfErr result (λ t. t ≡ Output) }
@@ -54,7 +54,7 @@ fn write_trouble<F: Write + Drop>(trouble: &Trouble, faults: &mut F) -> Result<(
 }
 
 /// Writes why the program failed, and gives its exit status, also where the writer fails.
-pub fn tell<F: Write + Drop>(trouble: &Trouble, faults: &mut F) -> u8
+pub(crate) fn tell<F: Write + Drop>(trouble: &Trouble, faults: &mut F) -> u8
     ensures status { result ≡ status_of trouble.now }
     ensures told { AppendsBeginning (F.contents faults.old) (F.contents faults.new) (trouble_line trouble.now) }
 {

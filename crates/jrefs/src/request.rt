@@ -81,7 +81,7 @@ fn refusal(error: &Error) -> Trouble
 }
 
 /// The request that the words are, without the program's name.
-pub fn request_of<'a>(alloc: Global, words: &'a [&'a str]) -> Result<Request, Trouble>
+pub(crate) fn request_of<'a>(alloc: Global, words: &'a [&'a str]) -> Result<Request, Trouble>
     ensures ok { IfOk result (λ r. asked_for (map (λ w. w.now) words.entry.now) ≡ Some r) }
     ensures err { IfErr result (λ t. (t ≡ Memory) ⊎ (t ≡ Usage)) }
     ensures refused { AskNothing (map (λ w. w.now) words.entry.now) → IsErrAnd result (λ t. (t ≡ Memory) ⊎ (t ≡ Usage)) }

@@ -9,7 +9,7 @@ use jr_scripts::{Script, parse};
 use std::alloc::Global;
 
 /// The script of a text.
-pub fn script_of(alloc: Global, text: &[u8]) -> Result<Script, Trouble>
+pub(crate) fn script_of(alloc: Global, text: &[u8]) -> Result<Script, Trouble>
     ensures read { IfOk result (λ s. IsScript s × (text.now ≡ text_of s)) }
     ensures refused { IfErr result (IsRefused text.now) }
 {

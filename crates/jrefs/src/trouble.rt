@@ -24,7 +24,7 @@ impl Trouble {
     ghost use Rattle.jrefs.specs.Trouble.{status_of};
 
     /// The exit status.
-    pub fn status(&self) -> u8
+    pub(crate) fn status(&self) -> u8
         ensures { result ≡ status_of self.now }
     {
         match self {

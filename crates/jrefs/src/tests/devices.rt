@@ -39,7 +39,7 @@ pub struct Source<'a> {
 
 impl<'a> Source<'a> {
     /// Its call with the number `failing` fails, counted from 1.
-    pub fn new(bytes: &'a [u8], most: usize, failing: usize) -> Self {
+    pub(crate) fn new(bytes: &'a [u8], most: usize, failing: usize) -> Self {
         Source {
             rest: bytes,
             most,
@@ -66,7 +66,7 @@ pub struct Sink {
 
 impl Sink {
     /// Its call with the number `failing` fails, counted from 1. It has memory for `room` bytes, and asks for none until it is full.
-    pub fn new(
+    pub(crate) fn new(
         alloc: Global,
         room: usize,
         most: usize,
@@ -80,7 +80,7 @@ impl Sink {
     }
 
     /// What it took.
-    pub fn taken(&self) -> &[u8] {
+    pub(crate) fn taken(&self) -> &[u8] {
         self.taken.as_slice()
     }
 }
