@@ -4,6 +4,8 @@
 #[cfg(test)]
 mod copies;
 #[cfg(test)]
+mod elements;
+#[cfg(test)]
 mod envs;
 #[cfg(test)]
 mod making;

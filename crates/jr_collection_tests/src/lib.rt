@@ -8,6 +8,8 @@ mod chains;
 #[cfg(test)]
 mod envs;
 #[cfg(test)]
+mod markers;
+#[cfg(test)]
 mod reached;
 #[cfg(test)]
 mod threads;

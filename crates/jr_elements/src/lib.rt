@@ -3,8 +3,6 @@
 
 mod copying;
 mod elements;
-#[cfg(test)]
-mod tests;
 
 pub use copying::{put_back, read_all};
 pub use elements::{Elements, elements_of};

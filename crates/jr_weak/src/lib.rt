@@ -13,6 +13,3 @@ mod roots;
 
 pub use collecting::{Collected, collect};
 pub use marker::Marker;
-
-#[cfg(test)]
-mod tests;

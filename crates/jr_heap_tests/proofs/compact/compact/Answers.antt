@@ -4,7 +4,7 @@ use Rattle.jr_model.specs.declared.event.Role.TheVariants.{Collecting}
 use Rattle.jr_steps.specs.Collecting.{placed}
 use Rattle.jr_steps.specs.Knowing.{Standing}
 use Rattle.jr_compact.proofs.OneArray.{shut_reopens, one_seen, one_slidable, one_moved, one_there, one_kept, one_settled, one_reopens}
-use Rattle.jr_gate_tests.proofs.compact.compact.Goals as goal
+use Rattle.jr_heap_tests.proofs.compact.compact.Goals as goal
 
 pub slide_and_look-requires-clause-can : goal.slide_and_look-requires-clause-can
 slide_and_look-requires-clause-can g c =

@@ -1,7 +1,7 @@
 use Rattle.std.proofs.Common.{refl, inl, arith}
 use mathlib.Core.Logic.{∥∥₁_map}
 use Rattle.jr_word.specs.declared.kind.Kind.TheVariants.{Long}
-use Rattle.jr_gate_tests.proofs.compact.make.Goals as goal
+use Rattle.jr_heap_tests.proofs.compact.make.Goals as goal
 
 pub publish-requires-clause-ready : goal.publish-requires-clause-ready
 publish-requires-clause-ready g c = c.fill.ensures.ready Long (∥∥₁_map c.in_ok-range.ensures.own (λ k. (k.0, k.1, (k.2, omega arith))))

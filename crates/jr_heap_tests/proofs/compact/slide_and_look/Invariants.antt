@@ -1,6 +1,6 @@
 use Rattle.std.specs.Prelude.{◌+◌}
 use Rattle.jr_compact.proofs.Slides.{SlidTo}
-use Rattle.jr_gate_tests.proofs.compact.slide_and_look.Given as goal
+use Rattle.jr_heap_tests.proofs.compact.slide_and_look.Given as goal
 
 abbrev pub invariant-loop-index : goal.invariant-loop-index
 invariant-loop-index g l = SlidTo g.S.Steps.facts l.fn.object l.fn.header l.fn.place l.fn.steps l.steps l.index

@@ -3,7 +3,7 @@ use Rattle.jr_word.specs.declared.config.Config.{Config}
 use Rattle.jr_model.specs.declared.event.Role.TheVariants.{Collecting}
 use Rattle.jr_steps.specs.Knowing.{Standing}
 use Rattle.jr_compact.proofs.OneArray.{shut_reopens, one_seen, one_compactable, one_compacted}
-use Rattle.jr_gate_tests.proofs.together.bring_together.Goals as goal
+use Rattle.jr_heap_tests.proofs.together.bring_together.Goals as goal
 
 pub compact-used-requires-clause-can : goal.compact-used-requires-clause-can
 compact-used-requires-clause-can g c =

@@ -1,4 +1,4 @@
-use crate::{Elements, elements_of};
+use jr_elements::{Elements, elements_of};
 use jr_model::Mode;
 use jr_word::{Elem, Fault};
 use std::process::Abort;

@@ -1,4 +1,4 @@
-use super::*;
+use jr_weak::Marker;
 use jr_word::{Config, Fault};
 use std::test::Fail;
 

@@ -1,6 +1,6 @@
 use Rattle.std.proofs.Common.{◌≡◌, arith}
 use Rattle.jr_compact.proofs.Slides.{next_there, later_there, slid_looked, next_movable, slid_more, placeable, slid_all}
-use Rattle.jr_gate_tests.proofs.compact.slide_and_look.Goals as goal
+use Rattle.jr_heap_tests.proofs.compact.slide_and_look.Goals as goal
 
 pub scan_element-word-requires-clause-there : goal.scan_element-word-requires-clause-there
 scan_element-word-requires-clause-there g c = next_there g.met.S.Steps.fits c.args.object c.args.header c.args.place c.loop-index.invariant c.loop-index-test.true c.requires.can

@@ -4,7 +4,7 @@ use Rattle.jr_steps.specs.Holdings.{header_in}
 use Rattle.jr_steps.specs.Knowing.{Standing}
 use Rattle.jr_steps.proofs.StepFacts.{may_then}
 use Rattle.jr_compact.proofs.OneArray.{knows_now}
-use Rattle.jr_gate_tests.proofs.compact.look_after.Goals as goal
+use Rattle.jr_heap_tests.proofs.compact.look_after.Goals as goal
 
 pub loop-index-init : goal.loop-index-init
 loop-index-init g c = (search rules, may_then c.in-Some.ensures (λ k s m. m) (g.met.S.Steps.some_known _) (λ k k' s m d x. ap (λ (y : Holdings). header_in 1 y.headers) x.1 ∙ knows_now 1 c.in-Some.header (header_in 1 k.holdings.headers)))
