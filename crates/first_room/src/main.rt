@@ -48,7 +48,11 @@ fn main(rt: HostRuntime) -> Result<(), Trouble> {
 }
 
 /// Opens a room, gives each of two threads its pass, closes the room once both have ended, and writes what they found.
-pub fn run<T: Threads, W: Write + Drop>(rt: &T, alloc: Global, out: &mut W) -> Result<(), Trouble>
+pub(crate) fn run<T: Threads, W: Write + Drop>(
+    rt: &T,
+    alloc: Global,
+    out: &mut W,
+) -> Result<(), Trouble>
     ensures { OnOk result (IsWritten (W.contents out.old) (W.contents out.new)) }
 {
     let (room, mut passes) = Room::<LAST>::open(alloc, SIZES)?;

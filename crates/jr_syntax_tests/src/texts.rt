@@ -97,15 +97,28 @@ fn read_and_printed(
     Ok(())
 }
 
-/// Checks the fault of each of some lines behind the thread line.
+/// Checks the fault of each of some lines, which stands alone behind the thread line.
 fn each_is(
     rt: &impl Abort,
     alloc: Global,
-    lines: &[&[u8]],
+    lines: &[u8],
     reason: Reason,
 ) -> Result<(), ScriptFault> {
-    for line in lines {
+    for line in lines.split_inclusive(|byte| *byte == b'\n') {
         third_line(rt, alloc, line, reason)?;
+    }
+    Ok(())
+}
+
+/// Checks the fault of each of some lines, which is the whole text.
+fn each_text_is(
+    rt: &impl Abort,
+    alloc: Global,
+    lines: &[u8],
+    reason: Reason,
+) -> Result<(), ScriptFault> {
+    for line in lines.split_inclusive(|byte| *byte == b'\n') {
+        faulty(rt, alloc, line, 1, reason)?;
     }
     Ok(())
 }
@@ -344,62 +357,24 @@ fn first_lines_of_another_form(rt: HostRuntime) -> Result<(), Fail> {
     faulty(&rt, alloc, b"", 1, Reason::EmptyInput)?;
     faulty(&rt, alloc, b"vm", 1, Reason::UnfinishedLine)?;
     faulty(&rt, alloc, b"vm\tthreads\n", 1, Reason::NotAscii)?;
-    faulty(&rt, alloc, b"\n", 1, Reason::VmLineExpected)?;
-    faulty(
-        &rt,
-        alloc,
-        b"vm threads 01 slots 4 objects 8 words 16 locals 16\n",
-        1,
-        Reason::VmLineExpected,
-    )?;
-    faulty(
-        &rt,
-        alloc,
-        b"vm threads 65 slots +4 objects 8 words 16 locals 16\n",
-        1,
-        Reason::VmLineExpected,
-    )?;
+    let lines = b"\
+        \n\
+        vm threads 01 slots 4 objects 8 words 16 locals 16\n\
+        vm threads 65 slots +4 objects 8 words 16 locals 16\n";
+    each_text_is(&rt, alloc, lines, Reason::VmLineExpected)?;
     Ok(())
 }
 
 #[test]
 fn numbers_of_the_first_line_out_of_range(rt: HostRuntime) -> Result<(), Fail> {
     let alloc = rt.alloc();
-    faulty(
-        &rt,
-        alloc,
-        b"vm threads 65 slots 4 objects 8 words 16 locals 16\n",
-        1,
-        Reason::NumberOutOfRange,
-    )?;
-    faulty(
-        &rt,
-        alloc,
-        b"vm threads 0 slots 4 objects 8 words 16 locals 16\n",
-        1,
-        Reason::NumberOutOfRange,
-    )?;
-    faulty(
-        &rt,
-        alloc,
-        b"vm threads 1 slots 99999999999999999999999 objects 8 words 16 locals 16\n",
-        1,
-        Reason::NumberOutOfRange,
-    )?;
-    faulty(
-        &rt,
-        alloc,
-        b"vm threads 1 slots 4 objects 65536 words 16 locals 16\n",
-        1,
-        Reason::NumberOutOfRange,
-    )?;
-    faulty(
-        &rt,
-        alloc,
-        b"vm threads 1 slots 4 objects 8 words 16 locals 15\n",
-        1,
-        Reason::NumberOutOfRange,
-    )?;
+    let lines = b"\
+        vm threads 65 slots 4 objects 8 words 16 locals 16\n\
+        vm threads 0 slots 4 objects 8 words 16 locals 16\n\
+        vm threads 1 slots 99999999999999999999999 objects 8 words 16 locals 16\n\
+        vm threads 1 slots 4 objects 65536 words 16 locals 16\n\
+        vm threads 1 slots 4 objects 8 words 16 locals 15\n";
+    each_text_is(&rt, alloc, lines, Reason::NumberOutOfRange)?;
     Ok(())
 }
 
@@ -499,77 +474,79 @@ fn faults_of_a_command_line(rt: HostRuntime) -> Result<(), Fail> {
     third_line(&rt, alloc, b"plain", Reason::UnfinishedLine)?;
     third_line(&rt, alloc, b"plain \x7f", Reason::UnfinishedLine)?;
     third_line(&rt, alloc, b"plain p\r\n", Reason::NotAscii)?;
-    third_line(&rt, alloc, b"thread b\n", Reason::TooManyThreads)?;
-    third_line(&rt, alloc, b"thread a\n", Reason::TooManyThreads)?;
-    third_line(&rt, alloc, b"thread\n", Reason::CommandExpected)?;
-    third_line(&rt, alloc, b"\n", Reason::CommandExpected)?;
-    third_line(&rt, alloc, b"plain\n", Reason::CommandExpected)?;
-    third_line(&rt, alloc, b" plain p\n", Reason::CommandExpected)?;
-    third_line(&rt, alloc, b"plain p \n", Reason::CommandExpected)?;
-    third_line(&rt, alloc, b"plain  p\n", Reason::CommandExpected)?;
-    third_line(&rt, alloc, b"plain null\n", Reason::CommandExpected)?;
-    third_line(
-        &rt,
-        alloc,
-        b"plain abcdefghijklmnopq\n",
-        Reason::CommandExpected,
-    )?;
-    third_line(&rt, alloc, b"global null p\n", Reason::CommandExpected)?;
-    third_line(&rt, alloc, b"global g\n", Reason::CommandExpected)?;
-    third_line(&rt, alloc, b"global g p q\n", Reason::CommandExpected)?;
-    third_line(&rt, alloc, b"float x 1\n", Reason::CommandExpected)?;
-    third_line(&rt, alloc, b"Drop p\n", Reason::CommandExpected)?;
+    let lines = b"\
+        thread b\n\
+        thread a\n";
+    each_is(&rt, alloc, lines, Reason::TooManyThreads)?;
+    let lines = b"\
+        thread\n\
+        \n\
+        plain\n\
+        \x20plain p\n\
+        plain p \n\
+        plain  p\n\
+        plain null\n\
+        plain abcdefghijklmnopq\n\
+        global null p\n\
+        global g\n\
+        global g p q\n\
+        float x 1\n\
+        Drop p\n";
+    each_is(&rt, alloc, lines, Reason::CommandExpected)?;
     Ok(())
 }
 
 #[test]
 fn faults_of_lines_with_two_words_behind_the_verb(rt: HostRuntime) -> Result<(), Fail> {
     let alloc = rt.alloc();
-    third_line(&rt, alloc, b"weak w\n", Reason::CommandExpected)?;
-    third_line(&rt, alloc, b"weak w p q\n", Reason::CommandExpected)?;
-    third_line(&rt, alloc, b"weak null p\n", Reason::CommandExpected)?;
-    third_line(&rt, alloc, b"weak w 9p\n", Reason::CommandExpected)?;
-    third_line(&rt, alloc, b"local l\n", Reason::CommandExpected)?;
-    third_line(&rt, alloc, b"local l p q\n", Reason::CommandExpected)?;
-    third_line(&rt, alloc, b"local null p\n", Reason::CommandExpected)?;
-    third_line(&rt, alloc, b"local l P\n", Reason::CommandExpected)?;
-    third_line(&rt, alloc, b"same p\n", Reason::CommandExpected)?;
-    third_line(&rt, alloc, b"same p q r\n", Reason::CommandExpected)?;
-    third_line(&rt, alloc, b"same p 1\n", Reason::CommandExpected)?;
-    third_line(&rt, alloc, b"same -p q\n", Reason::CommandExpected)?;
+    let lines = b"\
+        weak w\n\
+        weak w p q\n\
+        weak null p\n\
+        weak w 9p\n\
+        local l\n\
+        local l p q\n\
+        local null p\n\
+        local l P\n\
+        same p\n\
+        same p q r\n\
+        same p 1\n\
+        same -p q\n";
+    each_is(&rt, alloc, lines, Reason::CommandExpected)?;
     Ok(())
 }
 
 #[test]
 fn faults_of_lines_with_a_count(rt: HostRuntime) -> Result<(), Fail> {
     let alloc = rt.alloc();
-    third_line(&rt, alloc, b"push 16777216\n", Reason::NumberOutOfRange)?;
-    third_line(&rt, alloc, b"ensure 16777216\n", Reason::NumberOutOfRange)?;
-    third_line(
-        &rt,
-        alloc,
-        b"ensure 18446744073709551617\n",
-        Reason::NumberOutOfRange,
-    )?;
-    third_line(&rt, alloc, b"push 16777216 1\n", Reason::CommandExpected)?;
-    third_line(&rt, alloc, b"push 04\n", Reason::CommandExpected)?;
-    third_line(&rt, alloc, b"push -1\n", Reason::CommandExpected)?;
-    third_line(&rt, alloc, b"push\n", Reason::CommandExpected)?;
-    third_line(&rt, alloc, b"ensure p\n", Reason::CommandExpected)?;
-    third_line(&rt, alloc, b"ensure 1 2\n", Reason::CommandExpected)?;
+    let lines = b"\
+        push 16777216\n\
+        ensure 16777216\n\
+        ensure 18446744073709551617\n";
+    each_is(&rt, alloc, lines, Reason::NumberOutOfRange)?;
+    let lines = b"\
+        push 16777216 1\n\
+        push 04\n\
+        push -1\n\
+        push\n\
+        ensure p\n\
+        ensure 1 2\n";
+    each_is(&rt, alloc, lines, Reason::CommandExpected)?;
     Ok(())
 }
 
 #[test]
 fn faults_of_lines_with_a_name_alone(rt: HostRuntime) -> Result<(), Fail> {
     let alloc = rt.alloc();
-    third_line(&rt, alloc, b"pop r\n", Reason::CommandExpected)?;
-    third_line(&rt, alloc, b"pop null r\n", Reason::CommandExpected)?;
-    third_line(&rt, alloc, b"post null\n", Reason::CommandExpected)?;
-    third_line(&rt, alloc, b"post g h\n", Reason::CommandExpected)?;
-    third_line(&rt, alloc, b"wait\n", Reason::CommandExpected)?;
-    third_line(&rt, alloc, b"wait null\n", Reason::CommandExpected)?;
-    third_line(&rt, alloc, b"wait 1\n", Reason::CommandExpected)?;
+    let lines = b"\
+        pop r\n\
+        pop null r\n\
+        post null\n\
+        post g h\n\
+        wait\n\
+        wait null\n\
+        wait 1\n";
+    each_is(&rt, alloc, lines, Reason::CommandExpected)?;
     Ok(())
 }
 

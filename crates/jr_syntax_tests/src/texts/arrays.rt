@@ -164,90 +164,85 @@ fn as_many_units_as_there_may_be(rt: HostRuntime) -> Result<(), Fail> {
 
 #[test]
 fn words_that_are_no_values(rt: HostRuntime) -> Result<(), Fail> {
-    let lines: [&[u8]; 9] = [
-        b"store i 0 -0\n",
-        b"store i 0 -\n",
-        b"store i 0 01\n",
-        b"store i 0 -01\n",
-        b"store i 0 +1\n",
-        b"store i 0 --1\n",
-        b"store i 0 1-\n",
-        b"store i 0 x\n",
-        b"store i 16777216 -0\n",
-    ];
-    each_is(&rt, rt.alloc(), &lines, Reason::CommandExpected)?;
+    let lines = b"\
+        store i 0 -0\n\
+        store i 0 -\n\
+        store i 0 01\n\
+        store i 0 -01\n\
+        store i 0 +1\n\
+        store i 0 --1\n\
+        store i 0 1-\n\
+        store i 0 x\n\
+        store i 16777216 -0\n";
+    each_is(&rt, rt.alloc(), lines, Reason::CommandExpected)?;
     Ok(())
 }
 
 #[test]
 fn values_out_of_range(rt: HostRuntime) -> Result<(), Fail> {
-    let lines: [&[u8]; 6] = [
-        b"store i 0 9223372036854775808\n",
-        b"store i 0 -9223372036854775809\n",
-        b"store i 0 18446744073709551616\n",
-        b"store i 0 -340282366920938463463374607431768211457\n",
-        b"store i 0 3402823669209384634633746074317682114560\n",
-        b"store i 16777216 1\n",
-    ];
-    each_is(&rt, rt.alloc(), &lines, Reason::NumberOutOfRange)?;
+    let lines = b"\
+        store i 0 9223372036854775808\n\
+        store i 0 -9223372036854775809\n\
+        store i 0 18446744073709551616\n\
+        store i 0 -340282366920938463463374607431768211457\n\
+        store i 0 3402823669209384634633746074317682114560\n\
+        store i 16777216 1\n";
+    each_is(&rt, rt.alloc(), lines, Reason::NumberOutOfRange)?;
     Ok(())
 }
 
 #[test]
 fn lengths_indices_and_units_out_of_range(rt: HostRuntime) -> Result<(), Fail> {
-    let lines: [&[u8]; 8] = [
-        b"int i 16777216\n",
-        b"boolean z 4294967296\n",
-        b"objs o 16777216 p\n",
-        b"get g o 16777216\n",
-        b"set o 16777216 p\n",
-        b"load i 16777216\n",
-        b"string s 65536\n",
-        b"string s 0 18446744073709551616 1\n",
-    ];
-    each_is(&rt, rt.alloc(), &lines, Reason::NumberOutOfRange)?;
+    let lines = b"\
+        int i 16777216\n\
+        boolean z 4294967296\n\
+        objs o 16777216 p\n\
+        get g o 16777216\n\
+        set o 16777216 p\n\
+        load i 16777216\n\
+        string s 65536\n\
+        string s 0 18446744073709551616 1\n";
+    each_is(&rt, rt.alloc(), lines, Reason::NumberOutOfRange)?;
     Ok(())
 }
 
 #[test]
 fn lines_of_arrays_with_other_words(rt: HostRuntime) -> Result<(), Fail> {
-    let lines: [&[u8]; 13] = [
-        b"int i\n",
-        b"int i 1 2\n",
-        b"int null 1\n",
-        b"int i -1\n",
-        b"int i p\n",
-        b"objs o 1\n",
-        b"objs o 1 p q\n",
-        b"objs o p 1\n",
-        b"objs o 16777216 9\n",
-        b"string\n",
-        b"string null 1\n",
-        b"string s 1 x\n",
-        b"string s 65536 00\n",
-    ];
-    each_is(&rt, rt.alloc(), &lines, Reason::CommandExpected)?;
+    let lines = b"\
+        int i\n\
+        int i 1 2\n\
+        int null 1\n\
+        int i -1\n\
+        int i p\n\
+        objs o 1\n\
+        objs o 1 p q\n\
+        objs o p 1\n\
+        objs o 16777216 9\n\
+        string\n\
+        string null 1\n\
+        string s 1 x\n\
+        string s 65536 00\n";
+    each_is(&rt, rt.alloc(), lines, Reason::CommandExpected)?;
     Ok(())
 }
 
 #[test]
 fn lines_of_elements_with_other_words(rt: HostRuntime) -> Result<(), Fail> {
-    let lines: [&[u8]; 14] = [
-        b"len\n",
-        b"len a b\n",
-        b"slen 1\n",
-        b"get g o\n",
-        b"get g o 1 2\n",
-        b"get null o 1\n",
-        b"set o 1\n",
-        b"set o 1 p q\n",
-        b"set o p 1\n",
-        b"load o\n",
-        b"load o 1 2\n",
-        b"load 1 o\n",
-        b"store o 1\n",
-        b"store o 1 2 3\n",
-    ];
-    each_is(&rt, rt.alloc(), &lines, Reason::CommandExpected)?;
+    let lines = b"\
+        len\n\
+        len a b\n\
+        slen 1\n\
+        get g o\n\
+        get g o 1 2\n\
+        get null o 1\n\
+        set o 1\n\
+        set o 1 p q\n\
+        set o p 1\n\
+        load o\n\
+        load o 1 2\n\
+        load 1 o\n\
+        store o 1\n\
+        store o 1 2 3\n";
+    each_is(&rt, rt.alloc(), lines, Reason::CommandExpected)?;
     Ok(())
 }

@@ -77,70 +77,66 @@ fn releases_in_each_mode(rt: HostRuntime) -> Result<(), Fail> {
 
 #[test]
 fn words_that_are_no_modes(rt: HostRuntime) -> Result<(), Fail> {
-    let lines: [&[u8]; 8] = [
-        b"release e i 0\n",
-        b"release e i 2\n",
-        b"release e i cop\n",
-        b"release e i copyy\n",
-        b"release e i commits\n",
-        b"release e i Abort\n",
-        b"release e i null\n",
-        b"release e i \n",
-    ];
-    each_is(&rt, rt.alloc(), &lines, Reason::CommandExpected)?;
+    let lines = b"\
+        release e i 0\n\
+        release e i 2\n\
+        release e i cop\n\
+        release e i copyy\n\
+        release e i commits\n\
+        release e i Abort\n\
+        release e i null\n\
+        release e i \n";
+    each_is(&rt, rt.alloc(), lines, Reason::CommandExpected)?;
     Ok(())
 }
 
 #[test]
 fn numbers_of_copies_out_of_range(rt: HostRuntime) -> Result<(), Fail> {
-    let lines: [&[u8]; 6] = [
-        b"eget e 16777216\n",
-        b"eget e 18446744073709551616\n",
-        b"eput e 16777216 0\n",
-        b"eput e 0 9223372036854775808\n",
-        b"eput e 0 -9223372036854775809\n",
-        b"eput e 16777216 9223372036854775808\n",
-    ];
-    each_is(&rt, rt.alloc(), &lines, Reason::NumberOutOfRange)?;
+    let lines = b"\
+        eget e 16777216\n\
+        eget e 18446744073709551616\n\
+        eput e 16777216 0\n\
+        eput e 0 9223372036854775808\n\
+        eput e 0 -9223372036854775809\n\
+        eput e 16777216 9223372036854775808\n";
+    each_is(&rt, rt.alloc(), lines, Reason::NumberOutOfRange)?;
     Ok(())
 }
 
 #[test]
 fn lines_of_copies_with_other_words(rt: HostRuntime) -> Result<(), Fail> {
-    let lines: [&[u8]; 12] = [
-        b"elems e\n",
-        b"elems e i j\n",
-        b"elems null i\n",
-        b"elems e 1\n",
-        b"chars\n",
-        b"chars s t\n",
-        b"chars 1\n",
-        b"release e i\n",
-        b"release e i copy copy\n",
-        b"release null i copy\n",
-        b"release e 1 copy\n",
-        b"release e copy\n",
-    ];
-    each_is(&rt, rt.alloc(), &lines, Reason::CommandExpected)?;
+    let lines = b"\
+        elems e\n\
+        elems e i j\n\
+        elems null i\n\
+        elems e 1\n\
+        chars\n\
+        chars s t\n\
+        chars 1\n\
+        release e i\n\
+        release e i copy copy\n\
+        release null i copy\n\
+        release e 1 copy\n\
+        release e copy\n";
+    each_is(&rt, rt.alloc(), lines, Reason::CommandExpected)?;
     Ok(())
 }
 
 #[test]
 fn lines_of_copied_elements_with_other_words(rt: HostRuntime) -> Result<(), Fail> {
-    let lines: [&[u8]; 12] = [
-        b"eget e\n",
-        b"eget e 1 2\n",
-        b"eget null 1\n",
-        b"eget 1 e\n",
-        b"eget e -1\n",
-        b"eput e 1\n",
-        b"eput e 1 2 3\n",
-        b"eput null 1 2\n",
-        b"eput e -1 2\n",
-        b"eput e 0 -0\n",
-        b"eput e 0 01\n",
-        b"eput e 16777216 -0\n",
-    ];
-    each_is(&rt, rt.alloc(), &lines, Reason::CommandExpected)?;
+    let lines = b"\
+        eget e\n\
+        eget e 1 2\n\
+        eget null 1\n\
+        eget 1 e\n\
+        eget e -1\n\
+        eput e 1\n\
+        eput e 1 2 3\n\
+        eput null 1 2\n\
+        eput e -1 2\n\
+        eput e 0 -0\n\
+        eput e 0 01\n\
+        eput e 16777216 -0\n";
+    each_is(&rt, rt.alloc(), lines, Reason::CommandExpected)?;
     Ok(())
 }

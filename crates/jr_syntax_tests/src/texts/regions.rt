@@ -100,79 +100,75 @@ fn elements_of_levels_and_of_copies_differ(rt: HostRuntime) -> Result<(), Fail> 
 
 #[test]
 fn numbers_of_levels_out_of_range(rt: HostRuntime) -> Result<(), Fail> {
-    let lines: [&[u8]; 6] = [
-        b"cget r 16777216\n",
-        b"cget r 18446744073709551616\n",
-        b"cset r 16777216 0\n",
-        b"cset r 0 9223372036854775808\n",
-        b"cset r 0 -9223372036854775809\n",
-        b"cset r 16777216 9223372036854775808\n",
-    ];
-    each_is(&rt, rt.alloc(), &lines, Reason::NumberOutOfRange)?;
+    let lines = b"\
+        cget r 16777216\n\
+        cget r 18446744073709551616\n\
+        cset r 16777216 0\n\
+        cset r 0 9223372036854775808\n\
+        cset r 0 -9223372036854775809\n\
+        cset r 16777216 9223372036854775808\n";
+    each_is(&rt, rt.alloc(), lines, Reason::NumberOutOfRange)?;
     Ok(())
 }
 
 #[test]
 fn lines_of_levels_with_other_words(rt: HostRuntime) -> Result<(), Fail> {
-    let lines: [&[u8]; 14] = [
-        b"crit\n",
-        b"crit r\n",
-        b"crit r a b\n",
-        b"crit null a\n",
-        b"crit r 1\n",
-        b"crit 1 a\n",
-        b"critstr\n",
-        b"critstr r\n",
-        b"critstr r s t\n",
-        b"critstr null s\n",
-        b"critstr r 1\n",
-        b"critst r s\n",
-        b"critstrs r s\n",
-        b"Crit r a\n",
-    ];
-    each_is(&rt, rt.alloc(), &lines, Reason::CommandExpected)?;
+    let lines = b"\
+        crit\n\
+        crit r\n\
+        crit r a b\n\
+        crit null a\n\
+        crit r 1\n\
+        crit 1 a\n\
+        critstr\n\
+        critstr r\n\
+        critstr r s t\n\
+        critstr null s\n\
+        critstr r 1\n\
+        critst r s\n\
+        critstrs r s\n\
+        Crit r a\n";
+    each_is(&rt, rt.alloc(), lines, Reason::CommandExpected)?;
     Ok(())
 }
 
 #[test]
 fn ends_of_levels_with_other_words(rt: HostRuntime) -> Result<(), Fail> {
-    let lines: [&[u8]; 12] = [
-        b"endcrit\n",
-        b"endcrit 0\n",
-        b"endcrit r\n",
-        b"endcrit null\n",
-        b"endcrit Copy\n",
-        b"endcrit cop\n",
-        b"endcrit copyy\n",
-        b"endcrit commits\n",
-        b"endcrit r copy\n",
-        b"endcrit copy abort\n",
-        b"endcrit copy \n",
-        b"endcri copy\n",
-    ];
-    each_is(&rt, rt.alloc(), &lines, Reason::CommandExpected)?;
+    let lines = b"\
+        endcrit\n\
+        endcrit 0\n\
+        endcrit r\n\
+        endcrit null\n\
+        endcrit Copy\n\
+        endcrit cop\n\
+        endcrit copyy\n\
+        endcrit commits\n\
+        endcrit r copy\n\
+        endcrit copy abort\n\
+        endcrit copy \n\
+        endcri copy\n";
+    each_is(&rt, rt.alloc(), lines, Reason::CommandExpected)?;
     Ok(())
 }
 
 #[test]
 fn lines_of_elements_of_levels_with_other_words(rt: HostRuntime) -> Result<(), Fail> {
-    let lines: [&[u8]; 14] = [
-        b"cget\n",
-        b"cget r\n",
-        b"cget r 1 2\n",
-        b"cget null 1\n",
-        b"cget 1 r\n",
-        b"cget r -1\n",
-        b"cset r\n",
-        b"cset r 1\n",
-        b"cset r 1 2 3\n",
-        b"cset null 1 2\n",
-        b"cset r -1 2\n",
-        b"cset r 0 -0\n",
-        b"cset r 0 01\n",
-        b"cset r 16777216 -0\n",
-    ];
-    each_is(&rt, rt.alloc(), &lines, Reason::CommandExpected)?;
+    let lines = b"\
+        cget\n\
+        cget r\n\
+        cget r 1 2\n\
+        cget null 1\n\
+        cget 1 r\n\
+        cget r -1\n\
+        cset r\n\
+        cset r 1\n\
+        cset r 1 2 3\n\
+        cset null 1 2\n\
+        cset r -1 2\n\
+        cset r 0 -0\n\
+        cset r 0 01\n\
+        cset r 16777216 -0\n";
+    each_is(&rt, rt.alloc(), lines, Reason::CommandExpected)?;
     Ok(())
 }
 

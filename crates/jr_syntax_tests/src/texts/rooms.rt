@@ -15,16 +15,15 @@ fn collections(rt: HostRuntime) -> Result<(), Fail> {
 
 #[test]
 fn collections_with_other_words(rt: HostRuntime) -> Result<(), Fail> {
-    let lines: [&[u8]; 8] = [
-        b"gc \n",
-        b"gc 1\n",
-        b"gc p\n",
-        b"gc null\n",
-        b"gc gc\n",
-        b" gc\n",
-        b"g\n",
-        b"Gc\n",
-    ];
-    each_is(&rt, rt.alloc(), &lines, Reason::CommandExpected)?;
+    let lines = b"\
+        gc \n\
+        gc 1\n\
+        gc p\n\
+        gc null\n\
+        gc gc\n\
+        \x20gc\n\
+        g\n\
+        Gc\n";
+    each_is(&rt, rt.alloc(), lines, Reason::CommandExpected)?;
     Ok(())
 }
