@@ -1,6 +1,8 @@
-//! Tests of the calls of an env for references and frames, over rooms and over plain words.
+//! Tests of the calls of an env for references and frames, and of its collections, over rooms and over plain words.
 #![tactic(auto)]
 
+#[cfg(test)]
+mod collections;
 #[cfg(test)]
 mod envs;
 #[cfg(test)]

@@ -1,6 +1,6 @@
 //! Threads of one room, of which one collects while others are inside, or make, write and drop arrays.
 
-use crate::envs::{LAST, collected, global, next_env};
+use super::envs::{LAST, collected, global, next_env};
 use jr_env::Env;
 use jr_model::Mode;
 use jr_rule::Room;

@@ -1,6 +1,6 @@
 //! Chains of as many arrays as there may be, each of which names the one before, followed without recursion.
 
-use crate::envs::{collected, global, lone_env, sized, weak};
+use super::envs::{collected, global, lone_env, sized, weak};
 use jr_env::Env;
 use jr_steps::Steps;
 use jr_word::Handle;

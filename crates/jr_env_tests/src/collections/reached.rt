@@ -1,6 +1,6 @@
 //! What is reached stays, and all else is cleared and dropped, each once.
 
-use crate::envs::{collected, global, lone_env, sized, weak};
+use super::envs::{collected, global, lone_env, sized, weak};
 use jr_env::Env;
 use jr_steps::Steps;
 use jr_word::{Fault, Handle};

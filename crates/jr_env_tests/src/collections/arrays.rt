@@ -1,6 +1,6 @@
 //! Arrays keep their elements when they move, and what is behind them is free again.
 
-use crate::envs::{collected, has_elements, lone_env, sized};
+use super::envs::{collected, has_elements, lone_env, sized};
 use jr_word::{Fault, Handle};
 use std::test::Fail;
 

@@ -1,0 +1,8 @@
+//! An env's collections, over plain words and over a room that several threads share.
+
+mod arrays;
+mod chains;
+mod envs;
+mod markers;
+mod reached;
+mod threads;
