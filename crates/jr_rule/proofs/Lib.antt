@@ -37,3 +37,15 @@ pub mod PlainOwed
 pub mod Meeting
 pub mod Ended
 pub mod Gathered
+mod StepTaken
+mod GateReads
+mod PlainStepped
+mod SeatStepped
+mod OneReading
+mod OwedAt
+mod FromMet
+mod SlotReads
+mod HeapReads
+mod CollectReads
+mod PassOver
+mod PlainOpened

@@ -23,7 +23,7 @@ fresh_spares f (LocalPut p o ∷ acts) e = let r = (fresh_spares _ acts e).0 in 
 fresh_spares f (LocalDrop p ∷ acts) e = let r = (fresh_spares _ acts e).0 in absurd cc
 fresh_spares f (_ ∷ acts) e = let r = fresh_spares f acts e in (r.0, (refl, r.1))
 
-no_locals_next : (k k' : Known) (acts : List Act) (f : Bool) → Goes k acts k' → fresh_from f acts ≡ true → (f ≡ true → HasNoLocals k) → HasNoLocals k'
+pub no_locals_next : (k k' : Known) (acts : List Act) (f : Bool) → Goes k acts k' → fresh_from f acts ≡ true → (f ≡ true → HasNoLocals k) → HasNoLocals k'
 no_locals_next k k' acts f g e none p =
     let r = fresh_spares f acts e in
     let d = goes_did g in

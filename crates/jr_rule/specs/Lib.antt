@@ -7,3 +7,9 @@ pub mod Rooms
 pub mod Slots
 pub mod Shown
 pub mod Parts
+pub mod Cells
+pub mod CellLaws
+pub mod CellsOf
+pub mod CellsOfLaws
+pub mod Over
+pub mod Carries

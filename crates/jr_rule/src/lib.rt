@@ -1,15 +1,21 @@
 //! The room: one row of atomic words that threads step on without locks, under a rule that ties it to one legal history of the machine.
 #![tactic(auto)]
 
+mod cells;
 mod closing;
 mod closing_all;
 mod collect_steps;
 mod gate_steps;
 mod heap_steps;
 mod local_steps;
+mod over;
+mod over_plain;
+mod over_room;
 mod pass;
 mod plain;
+mod plain_cells;
 mod room;
+mod room_cells;
 mod room_steps;
 mod row;
 mod rule;
@@ -17,14 +23,20 @@ mod slot_steps;
 mod summing;
 mod words;
 
+pub use cells::{Cells, StepKind};
 pub use closing::Left;
 pub use closing_all::AllLeft;
 pub use jr_model::{Role, Summary};
 pub use jr_steps::{
     GateLoad, Holdings, Known, KnownHeader, Move, OwnRange, SlotLoad, Steps, TopLoad,
 };
+pub use over::StepsOver;
+pub use over_plain::StepsAlone;
+pub use over_room::StepsInRoom;
 pub use pass::Pass;
 pub use plain::PlainSteps;
+pub use plain_cells::PlainCells;
 pub use room::Room;
+pub use room_cells::RoomCells;
 pub use room_steps::RoomSteps;
 pub use rule::View;

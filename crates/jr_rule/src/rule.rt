@@ -1,4 +1,5 @@
 //! The rule of the row, and what its steps tell.
+use crate::cells::StepKind;
 use atomic_table::{Join, Play, Split, TableRule};
 use jr_steps::Known;
 use jr_word::Config;
@@ -43,6 +44,15 @@ pub trait Telling {
 /// The call that steps picks what is told.
 impl Telling for Brand {
     ghost told = { λ k n acts k'. Unit {0} };
+}
+
+/// What a kind of step tells.
+pub struct TellOf<T> {
+    kind: PhantomData<T>,
+}
+
+impl<T: StepKind> Telling for TellOf<T> {
+    ghost told = { T.told };
 }
 
 /// A step that tells this.

@@ -1,0 +1,49 @@
+use Rattle.std.proofs.Common.{◌≡◌, ◌<◌, Some, rules, refl, sym, subst, ◌∙◌, arith}
+use Rattle.std.proofs.Math.Logic.{∥∥₁_elim}
+use Rattle.std.proofs.Props.{props}
+use Rattle.jr_word.specs.declared.config.Config.{Config}
+use Rattle.jr_rule.proofs.FromMayKnow.{object_some}
+use Rattle.jr_rule.proofs.OneReading.{one_slot, found_so}
+use Rattle.jr_rule.proofs.OwedAt.{exchange_at}
+use Rattle.jr_rule.proofs.SlotOwed.{claims_slot}
+use Rattle.jr_rule.proofs.SlotReads.{claim_leaves, claim_won, claim_lost}
+use Rattle.jr_rule.proofs.Slots.{free_fits, names_object}
+use Rattle.jr_rule.proofs.Told.{Claimed}
+use Rattle.jr_rule.specs.Over.{facts_over as facts}
+use Rattle.jr_rule.proofs.StepTaken.{may_in, owed, standing_next, took}
+use Rattle.jr_rule.proofs.over.StepsOverSteps.claim.Goals as goal
+
+pub pack-made-requires : goal.pack-made-requires
+pack-made-requires g c =
+    let some = object_some facts (λ s k h. h.pass) c.args.self.now c.args.object c.requires.looked in
+    names_object c.args.kind c.args.serial (Some c.args.object) c.reference.result c.reference.ensures (λ x e. let same : c.args.object ≡ x = cc in omega arith)
+
+pub exchange-found-requires : goal.exchange-found-requires
+exchange-found-requires g c =
+    let s = c.args.self.now in
+    let i = c.args.index in
+    let o = c.args.object in
+    let serial = c.args.serial in
+    owed (search rules) (may_in (g.C.Cells.sight s.cells) c.requires.role c.requires.looked) (λ k among role m.
+    exchange_at k (Claimed i serial c.args.kind o k) (sym c.slot_at-at.ensures) (sym c.pack-looked.ensures) (sym c.pack-made.ensures)
+    (claims_slot k role i serial c.args.kind o c.reference.result (subst (λ (z : Config). i < z.slots) (sym among.config) c.requires.row) (∥∥₁_elim m (hlevel props) (λ q. free_fits i serial k q.1)) c.requires.kind c.reference.ensures (∥∥₁_elim m (hlevel props) (λ q. q.0))))
+
+pub invariant_of-self : goal.invariant_of-self
+invariant_of-self g c =
+    let s = c.args.self.now in
+    record { stands = standing_next c.exchange-found.ensures (claim_leaves c.args.index c.args.serial c.args.kind c.args.object) c.requires.role (g.met.C.Cells.sound c.exchange-found.new.cells) s.stands (may_in (g.C.Cells.sight s.cells) c.requires.role c.requires.looked) }
+
+pub of_word-requires : goal.of_word-requires
+of_word-requires g c =
+    let s = c.args.self.now in
+    one_slot (found_so c.exchange-found.ensures (may_in (g.C.Cells.sight s.cells) c.requires.role c.requires.looked) (λ k k' done t. let u = t.1 (λ e. c.if-found-looked.true (e ∙ sym c.pack-looked.ensures)) in (u.0, u.1, u.2)))
+
+pub returns-then-found-looked : goal.returns-then-found-looked
+returns-then-found-looked g c =
+    let s = c.args.self.now in
+    took s _ c.exchange-found.ensures refl c.requires.role _ (claim_lost c.args.index c.args.serial c.args.kind c.args.object (λ e. c.if-found-looked.true (e ∙ sym c.pack-looked.ensures)) c.of_word.result c.of_word.ensures) refl refl
+
+pub returns : goal.returns
+returns g c =
+    let s = c.args.self.now in
+    took s _ c.exchange-found.ensures refl c.requires.role _ (claim_won c.args.index c.args.serial c.args.kind c.args.object (c.if-found-looked.false ∙ c.pack-looked.ensures)) refl refl

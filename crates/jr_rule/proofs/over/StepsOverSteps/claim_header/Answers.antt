@@ -1,0 +1,38 @@
+use Rattle.std.proofs.Common.{◌≡◌, ◌≤◌, refl, sym, ap, subst, ◌∙◌, ◌==◌}
+use Rattle.jr_word.specs.declared.config.Config.{Config}
+use Rattle.jr_steps.specs.Knowing.{words_for}
+use Rattle.jr_rule.specs.Image.{header_at}
+use Rattle.jr_rule.proofs.ActEffects.{publishing_role, publishing_fresh}
+use Rattle.jr_rule.proofs.HeapOwed.{publishes_header}
+use Rattle.jr_rule.proofs.HeapReads.{publishing}
+use Rattle.jr_rule.proofs.OwedAt.{exchange_at, header_in}
+use Rattle.jr_rule.proofs.Told.{Published}
+use Rattle.jr_rule.proofs.StepTaken.{may_in, owed, leaves, standing_next, took_with}
+use Rattle.jr_rule.proofs.over.StepsOverSteps.claim_header.Goals as goal
+
+pub exchange-found-requires : goal.exchange-found-requires
+exchange-found-requires g c =
+    let s = c.args.self.now in
+    let h = c.args.header in
+    let z = g.C.Cells.sight s.cells in
+    let o = c.args.object in
+    let here : c.header_at-at.result ≡ header_at z.config o = c.header_at-at.ensures ∙ ap (header_at z.config) c.from.ensures in
+    owed (header_in z.config o here c.requires.number.0 c.requires.number.1) (may_in (g.C.Cells.sight s.cells) c.requires.role c.requires.filled) (λ k among role m.
+    let at : header_at k.config o ≡ c.header_at-at.result = ap (λ x. header_at x o) among.config ∙ sym here in
+    exchange_at k (Published o h k) at refl (sym c.pack-new.ensures) (publishes_header k role o h c.requires.number.0 (subst (λ (x : Config). o ≤ x.objects) (sym among.config) c.requires.number.1) c.requires.header m))
+
+pub invariant_of-self : goal.invariant_of-self
+invariant_of-self g c =
+    let s = c.args.self.now in
+    let o = c.args.object in
+    let h = c.args.header in
+    let n = c.exchange-found.result in
+    record { stands = standing_next c.exchange-found.ensures (leaves (publishing o h) (λ k. publishing_role o h.kind (words_for h k) (n == 0) s.role) (λ k. publishing_fresh o h.kind (words_for h k) (n == 0) s.fresh)) c.requires.role (g.met.C.Cells.sound c.exchange-found.new.cells) s.stands (may_in (g.C.Cells.sight s.cells) c.requires.role c.requires.filled) }
+
+pub returns : goal.returns
+returns g c =
+    let s = c.args.self.now in
+    let o = c.args.object in
+    let h = c.args.header in
+    let n = c.exchange-found.result in
+    took_with s _ c.exchange-found.ensures refl c.requires.role (publishing o h) refl refl (λ k. publishing_role o h.kind (words_for h k) (n == 0) s.role) (λ k. publishing_fresh o h.kind (words_for h k) (n == 0) s.fresh)

@@ -1,0 +1,34 @@
+use Rattle.std.proofs.Common.{◌≡◌, ◌≤◌, refl, sym, ap, subst, ◌∙◌}
+use Rattle.jr_word.specs.declared.config.Config.{Config}
+use Rattle.jr_rule.specs.Image.{header_at}
+use Rattle.jr_rule.proofs.CollectOwed.{scans_header}
+use Rattle.jr_rule.proofs.HeapOwed.{header_or_zero}
+use Rattle.jr_rule.proofs.HeapReads.{header_load, header_look_leaves}
+use Rattle.jr_rule.proofs.OneReading.{one_header, found_so}
+use Rattle.jr_rule.proofs.OwedAt.{load_at, header_in}
+use Rattle.jr_rule.proofs.Told.{SawHeader}
+use Rattle.jr_rule.proofs.StepTaken.{may_any, owed, standing_next, took}
+use Rattle.jr_rule.proofs.over.StepsOverSteps.scan_header.Goals as goal
+
+pub load-found-requires : goal.load-found-requires
+load-found-requires g c =
+    let s = c.args.self.now in
+    let z = g.C.Cells.sight s.cells in
+    let o = c.args.object in
+    let here : c.header_at-at.result ≡ header_at z.config o = c.header_at-at.ensures ∙ ap (header_at z.config) c.from.ensures in
+    owed (header_in z.config o here c.requires.number.0 c.requires.number.1) (may_any (g.C.Cells.sight s.cells) c.requires.role s.stands) (λ k among role m.
+    let at : header_at k.config o ≡ c.header_at-at.result = ap (λ x. header_at x o) among.config ∙ sym here in
+    load_at k (SawHeader o k) at (scans_header k role o c.requires.number.0 (subst (λ (x : Config). o ≤ x.objects) (sym among.config) c.requires.number.1)))
+
+pub invariant_of-self : goal.invariant_of-self
+invariant_of-self g c =
+    let s = c.args.self.now in
+    record { stands = standing_next c.load-found.ensures (header_look_leaves c.args.object) c.requires.role (g.met.C.Cells.sound c.load-found.new.cells) s.stands (may_any (g.C.Cells.sight s.cells) c.requires.role s.stands) }
+
+pub of_word-requires : goal.of_word-requires
+of_word-requires g c = let s = c.args.self.now in one_header (found_so c.load-found.ensures (may_any (g.C.Cells.sight s.cells) c.requires.role s.stands) (λ k k' done t. header_or_zero t.0 c.load-found.result t.1))
+
+pub returns : goal.returns
+returns g c =
+    let s = c.args.self.now in
+    took s _ c.load-found.ensures refl c.requires.role _ (header_load c.args.object c.of_word.result c.of_word.ensures.none c.of_word.ensures.header) refl refl

@@ -1,0 +1,13 @@
+use Rattle.std.proofs.Common.{arith}
+use Rattle.jr_rule.proofs.FromMet.{known_few}
+use Rattle.jr_rule.proofs.StepTaken.{may_in}
+use Rattle.jr_rule.proofs.over.StepsOverSteps.see_element.Goals as goal
+
+pub overflow_add-header : goal.overflow_add-header
+overflow_add-header g c =
+    let s = c.args.self.now in
+    let below = known_few (g.met.C.Cells.sound s.cells) (may_in (g.C.Cells.sight s.cells) c.requires.role c.requires.known) c.args.object c.args.header c.args.index (λ k h. h) c.requires.index in
+    let most = (g.met.C.Cells.sound s.cells).sized.limited.words in omega (arith, below, most)
+
+pub element_at-at-requires : goal.element_at-at-requires
+element_at-at-requires g c = let s = c.args.self.now in known_few (g.met.C.Cells.sound s.cells) (may_in (g.C.Cells.sight s.cells) c.requires.role c.requires.known) c.args.object c.args.header c.args.index (λ k h. h) c.requires.index

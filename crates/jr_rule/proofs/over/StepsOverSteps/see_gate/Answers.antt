@@ -1,0 +1,26 @@
+use Rattle.std.proofs.Common.{rules, refl, sym, subst}
+use Rattle.jr_steps.specs.Acts.{GateLoadFits, all_counted}
+use Rattle.jr_rule.proofs.ActEffects.{gate_load_role, gate_load_fresh}
+use Rattle.jr_rule.proofs.GateOwed.{sees_gate}
+use Rattle.jr_rule.proofs.GateReads.{gate_load, look_leaves, word_read}
+use Rattle.jr_rule.proofs.StepTaken.{may_any, owed, standing_next, took}
+use Rattle.jr_rule.proofs.over.StepsOverSteps.see_gate.Goals as goal
+
+pub load-found-requires : goal.load-found-requires
+load-found-requires g c =
+    let s = c.args.self.now in
+    owed (search rules) (may_any (g.C.Cells.sight s.cells) refl s.stands) (λ k among role m. sees_gate k c.args.name (subst (λ r. GateLoadFits r c.args.name) (sym role) c.requires))
+
+pub invariant_of-self : goal.invariant_of-self
+invariant_of-self g c =
+    let s = c.args.self.now in
+    record { stands = standing_next c.load-found.ensures (look_leaves c.args.name) refl (g.met.C.Cells.sound c.load-found.new.cells) s.stands (may_any (g.C.Cells.sight s.cells) refl s.stands) }
+
+pub unwrap-requires : goal.unwrap-requires
+unwrap-requires g c = let s = c.args.self.now in word_read c.load-found.ensures (may_any (g.C.Cells.sight s.cells) refl s.stands) (λ k k' done t. (t.0, t.1, t.2)) c.parts.result c.parts.ensures.complete
+
+pub returns : goal.returns
+returns g c =
+    let s = c.args.self.now in
+    let n = all_counted c.unwrap.result in
+    took s _ c.load-found.ensures refl refl _ (gate_load _ c.parts.ensures.complete _ c.unwrap.ensures c.args.name) (gate_load_role c.args.name n s.role) (gate_load_fresh c.args.name n s.fresh)

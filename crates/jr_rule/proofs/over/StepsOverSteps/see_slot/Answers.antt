@@ -1,0 +1,33 @@
+use Rattle.std.proofs.Common.{rules, refl, sym, subst, ◌<◌}
+use Rattle.jr_word.specs.declared.config.Config.{Config}
+use Rattle.jr_rule.proofs.ActEffects.{slot_load_role, slot_load_fresh}
+use Rattle.jr_rule.proofs.OneReading.{one_slot, found_so}
+use Rattle.jr_rule.proofs.OwedAt.{load_at}
+use Rattle.jr_rule.proofs.SlotOwed.{sees_slot}
+use Rattle.jr_rule.proofs.SlotReads.{slot_load, slot_look_leaves}
+use Rattle.jr_rule.proofs.Told.{SawSlot}
+use Rattle.jr_rule.proofs.StepTaken.{may_any, owed, standing_next, took}
+use Rattle.jr_rule.proofs.over.StepsOverSteps.see_slot.Goals as goal
+
+pub load-found-requires : goal.load-found-requires
+load-found-requires g c =
+    let s = c.args.self.now in
+    let i = c.args.index in
+    owed (search rules) (may_any (g.C.Cells.sight s.cells) c.requires.role s.stands) (λ k among role m.
+    load_at k (SawSlot i c.args.name k) (sym c.slot_at-at.ensures) (sees_slot k role i c.args.name (subst (λ (z : Config). i < z.slots) (sym among.config) c.requires.row) c.requires.fits))
+
+pub invariant_of-self : goal.invariant_of-self
+invariant_of-self g c =
+    let s = c.args.self.now in
+    record { stands = standing_next c.load-found.ensures (slot_look_leaves c.args.index c.args.name) c.requires.role (g.met.C.Cells.sound c.load-found.new.cells) s.stands (may_any (g.C.Cells.sight s.cells) c.requires.role s.stands) }
+
+pub of_word-requires : goal.of_word-requires
+of_word-requires g c = let s = c.args.self.now in one_slot (found_so c.load-found.ensures (may_any (g.C.Cells.sight s.cells) c.requires.role s.stands) (λ k k' done t. (t.0, t.1, t.2)))
+
+pub returns : goal.returns
+returns g c =
+    let s = c.args.self.now in
+    let i = c.args.index in
+    let name = c.args.name in
+    let q = c.of_word.result in
+    took s _ c.load-found.ensures refl c.requires.role _ (slot_load i name q c.of_word.ensures) (slot_load_role i name q s.role) (slot_load_fresh i name q s.fresh)

@@ -1,0 +1,29 @@
+use Rattle.std.proofs.Common.{rules, refl, sym, subst, ◌<◌}
+use Rattle.jr_word.specs.declared.config.Config.{Config}
+use Rattle.jr_rule.proofs.CollectOwed.{wipes_slot}
+use Rattle.jr_rule.proofs.CollectReads.{wiped_some}
+use Rattle.jr_rule.proofs.CollectTold.{Wiped}
+use Rattle.jr_rule.proofs.FromMet.{wipe_is}
+use Rattle.jr_rule.proofs.HeapReads.{plainly}
+use Rattle.jr_rule.proofs.OwedAt.{exchange_at}
+use Rattle.jr_rule.proofs.StepTaken.{may_in, owed, leaves, standing_next, took}
+use Rattle.jr_rule.proofs.over.StepsOverSteps.wipe.Goals as goal
+
+pub pack-looked-requires : goal.pack-looked-requires
+pack-looked-requires g c = let s = c.args.self.now in wiped_some c.args.index c.args.serial c.args.object (may_in (g.C.Cells.sight s.cells) c.requires.role c.requires.can)
+
+pub exchange-requires : goal.exchange-requires
+exchange-requires g c =
+    let s = c.args.self.now in
+    let i = c.args.index in
+    owed (search rules) (may_in (g.C.Cells.sight s.cells) c.requires.role c.requires.can) (λ k among role m.
+    exchange_at k (Wiped i c.args.serial k) (sym c.slot_at-at.ensures) (sym c.pack-looked.ensures) (sym c.pack-cleared.ensures)
+    (wipes_slot k role i c.args.serial c.args.object (subst (λ (z : Config). i < z.slots) (sym among.config) c.requires.row) (wipe_is k i c.args.serial c.args.object m)))
+
+pub invariant_of-self : goal.invariant_of-self
+invariant_of-self g c =
+    let s = c.args.self.now in
+    record { stands = standing_next c.exchange.ensures (leaves (plainly (λ k k' done t. t)) (λ k. refl) (λ k. refl)) c.requires.role (g.met.C.Cells.sound c.exchange.new.cells) s.stands (may_in (g.C.Cells.sight s.cells) c.requires.role c.requires.can) }
+
+pub returns : goal.returns
+returns g c = let s = c.args.self.now in took s _ c.exchange.ensures refl c.requires.role _ (plainly (λ k k' done t. t)) refl refl

@@ -1,0 +1,16 @@
+use Rattle.std.proofs.Common.{get_or, slice_set, sym, ap, ◌∙◌}
+use lib.Seq.{set-get_or}
+use Rattle.jr_rule.proofs.LegalSteps.{won, lost}
+use Rattle.jr_rule.proofs.PlainStepped.{stepped}
+use Rattle.jr_rule.proofs.plain_cells.PlainCellsCells.exchange.Goals as goal
+
+pub returns-then-found-old : goal.returns-then-found-old
+returns-then-found-old g c =
+    let s = c.args.self.now in
+    stepped (λ m. m) (record { limits = s.limits; limited = s.limited; serials = s.few }) c.requires (ap (slice_set s.words.items c.args.at) (sym (won c.args.old c.args.new _ (sym c.word-found.ensures ∙ c.if-found-old.true)))) c.word-found.ensures
+
+pub returns-else-found-old : goal.returns-else-found-old
+returns-else-found-old g c =
+    let s = c.args.self.now in
+    stepped (λ m. m) (record { limits = s.limits; limited = s.limited; serials = s.few }) c.requires
+    (sym (ap (slice_set s.words.items c.args.at) (lost c.args.old c.args.new (get_or s.words.items c.args.at 0) (λ e. c.if-found-old.false (c.word-found.ensures ∙ e))) ∙ set-get_or s.words.items c.args.at 0)) c.word-found.ensures

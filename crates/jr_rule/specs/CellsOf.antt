@@ -1,0 +1,45 @@
+-- The two kinds of words: those of a room, with a seat at them, and plain ones, which one thread has.
+use Rattle.std.specs.Prelude.{◌≡◌, ◌<◌, ℕ, Bool, true, Some, None, List}
+use Rattle.atomic_table.specs.Seated.{TableId}
+use Rattle.jr_word.specs.declared.config.Config.{Config}
+use Rattle.jr_model.specs.declared.event.Role.{Role}
+use Rattle.jr_model.specs.declared.event.Role.TheVariants.{Outside}
+use Rattle.jr_steps.specs.declared.known.Known.{Known}
+use Rattle.jr_steps.specs.Holdings.{InSpace}
+use Rattle.jr_steps.specs.Knowing.{state_of}
+use Rattle.jr_rule.specs.declared.row.Row.{Row}
+use Rattle.jr_rule.specs.Cells.{Sight}
+use Rattle.jr_rule.specs.Image.{IsImage}
+use Rattle.jr_rule.specs.Plain.{alone, unseen}
+use Rattle.jr_rule.specs.Rule.{Sat, IsAlone, IsSized, acting}
+
+-- A SEAT knows one history: its own
+abbrev pub sight_of_seat : TableId → Sat → Sight
+sight_of_seat id m = record { room = Some id; config = (acting m).config; last = (acting m).last; thread = (acting m).thread; knows = λ k. k ≡ acting m }
+
+-- it is one of the row's own, and sits alone
+pub record IsSeatOf (r : Row) (id : TableId) (m : Sat) (thread : ℕ) : Type 0 where
+  pub table : id ≡ r.table.shared.table_id
+  pub config : (acting m).config ≡ r.config
+  pub last : (acting m).last ≡ r.last
+  pub alone : IsAlone m
+  pub thread_is : (acting m).thread ≡ thread
+  pub sized : IsSized (acting m).config (acting m).last
+  pub row : (acting m).thread < (acting m).config.threads
+  pub space : InSpace (acting m).config (acting m).holdings
+
+-- PLAIN WORDS show any history whose image they are
+pub record Depicts (words : List ℕ) (k : Known) : Type 0 where
+  pub image : IsImage k.config k.last words (state_of k) (alone k.holdings)
+  pub space : InSpace k.config k.holdings
+
+abbrev pub sight_of_words : Config → ℕ → List ℕ → Sight
+sight_of_words c last words = record { room = None; config = c; last = last; thread = 0; knows = Depicts words }
+
+-- A ROW OF PLAIN WORDS AS IT WAS OPENED: of these sizes, with the thread outside and fresh, which knows that nothing has happened yet
+pub record IsOpenedAlone (asked : Config) (last : ℕ) (c : Config) (words : List ℕ) (role : Role) (fresh : Bool) (hint : ℕ) : Type 0 where
+  pub sizes : c ≡ asked
+  pub role_is : role ≡ Outside
+  pub fresh_is : fresh ≡ true
+  pub hint_is : hint ≡ 0
+  pub nothing : Depicts words (unseen asked last)

@@ -1,0 +1,413 @@
+//! The steps of one thread, over any words: each is one operation on one word.
+ghost use Rattle.std.specs.Prelude.{◌≡◌};
+ghost use Rattle.jr_rule.specs.Cells.{IsStanding};
+
+use crate::cells::{Cells, add, element_at, exchange, header_at, load, store, take};
+use crate::words::{
+    GATE, TOP, all_counted, freed_slot, is_shut, local_at, local_parts, reference, slot_at,
+    top_word,
+};
+use jr_model::Role;
+use jr_steps::{GateLoad, SlotLoad, Steps, TopLoad};
+use jr_word::{
+    Config, Elem, GateParts, GateWord, HandleParts, Header, HeaderParts, LocalParts, LocalWord,
+    RefKind, SlotParts, SlotWord, TopWord,
+};
+use std::marker::Brand;
+
+/// The steps of one thread over words.
+#[derive(Drop)]
+pub struct StepsOver<C: Cells> {
+    /// The words, and who steps on them.
+    pub cells: C,
+    /// Where the thread stands towards the gate.
+    pub role: Role,
+    /// Whether no local word was stored and the pass was not spent.
+    pub fresh: bool,
+    /// Where the next search for a free slot begins.
+    pub hint: u16,
+    ghost stands: { IsStanding (C.sight cells) role fresh hint },
+}
+
+impl<C: Cells> StepsOver<C> {
+    ghost use Rattle.std.specs.Prelude.{◌<◌, ◌≤◌, ◌+◌, [], ◌∷◌, length};
+    ghost use Rattle.jr_model.specs.declared.event.Act.TheVariants.{Read};
+    ghost use Rattle.jr_model.specs.declared.event.Role.TheVariants.{Within};
+    ghost use Rattle.jr_steps.specs.Knowing.{MayKnow, KnowsHeader, SawPart, Took, keeps};
+    ghost use Rattle.jr_rule.specs.Image.{element_at as place_of_element};
+    ghost use Rattle.jr_rule.specs.Over.{facts_over, ReadsTo, ReadsRest};
+
+    /// Loads an element of an object whose header the pass knows, at its place in the row.
+    #[inline(always)]
+    fn see_element_at(&mut self, object: u16, header: HeaderParts, index: u32, at: usize) -> u64
+        requires role { self.old.role ≡ Within }
+        requires index { index < header.length }
+        requires known { MayKnow facts_over self.old (KnowsHeader object header) }
+        requires place { at ≡ place_of_element (C.sight self.old.cells).config (header.place + index) }
+        ensures { Took facts_over self.old self.new (Read object index result ∷ []) (KnowsHeader object header) keeps }
+    {
+        let about = (object, header, index);
+        load::<C, Brand, (u16, HeaderParts, u32)>(&mut self.cells, at, about)
+    }
+
+    /// Loads four elements of a part into their places in the slice.
+    #[inline(always)]
+    fn see_four<E: Elem>(
+        &mut self,
+        object: u16,
+        header: HeaderParts,
+        start: u32,
+        at: usize,
+        elements: &mut [E],
+        index: usize,
+    )
+        requires role { self.old.role ≡ Within }
+        requires part { start + length elements.old ≤ header.length }
+        requires index { index + 4 ≤ length elements.old }
+        requires known { MayKnow facts_over self.old (KnowsHeader object header) }
+        requires place { at ≡ place_of_element (C.sight self.old.cells).config 0 + header.place + start + index }
+        ensures config { (C.sight self.new.cells).config ≡ (C.sight self.old.cells).config }
+        ensures role { self.new.role ≡ Within }
+        ensures size { length elements.new ≡ length elements.old }
+        ensures known { MayKnow facts_over self.new (KnowsHeader object header) }
+        ensures step { ReadsTo object header start E.element_of index (index + 4) self.old self.new elements.old elements.new }
+    {
+        self.see_into(object, header, start, at, elements, index);
+        self.see_into(object, header, start, at + 1, elements, index + 1);
+        self.see_into(object, header, start, at + 2, elements, index + 2);
+        self.see_into(object, header, start, at + 3, elements, index + 3);
+    }
+
+    /// Loads one element of a part into its place in the slice.
+    #[inline(always)]
+    fn see_into<E: Elem>(
+        &mut self,
+        object: u16,
+        header: HeaderParts,
+        start: u32,
+        at: usize,
+        elements: &mut [E],
+        index: usize,
+    )
+        requires role { self.old.role ≡ Within }
+        requires part { start + length elements.old ≤ header.length }
+        requires index { index < length elements.old }
+        requires known { MayKnow facts_over self.old (KnowsHeader object header) }
+        requires place { at ≡ place_of_element (C.sight self.old.cells).config 0 + header.place + start + index }
+        ensures config { (C.sight self.new.cells).config ≡ (C.sight self.old.cells).config }
+        ensures role { self.new.role ≡ Within }
+        ensures size { length elements.new ≡ length elements.old }
+        ensures known { MayKnow facts_over self.new (KnowsHeader object header) }
+        ensures step { ReadsTo object header start E.element_of index (index + 1) self.old self.new elements.old elements.new }
+    {
+        let word = self.see_element_at(object, header, start + index as u32, at);
+        elements[index] = E::of_word(word);
+    }
+
+    /// Loads the elements of a part from one on, to its end.
+    #[inline(always)]
+    fn see_rest<E: Elem>(
+        &mut self,
+        object: u16,
+        header: HeaderParts,
+        start: u32,
+        first: usize,
+        elements: &mut [E],
+        done: usize,
+    )
+        requires role { self.old.role ≡ Within }
+        requires part { start + length elements.old ≤ header.length }
+        requires done { done ≤ length elements.old }
+        requires known { MayKnow facts_over self.old (KnowsHeader object header) }
+        requires place { first ≡ place_of_element (C.sight self.old.cells).config 0 + header.place + start }
+        ensures size { length elements.new ≡ length elements.old }
+        ensures steps { ReadsRest object header start E.element_of done self.old self.new elements.old elements.new }
+    {
+        for index in done..elements.len() {
+            self.see_into(object, header, start, first + index, elements, index);
+        }
+    }
+}
+
+impl<C: Cells> Steps for StepsOver<C> {
+    ghost use Rattle.jr_rule.specs.Cells.{facts_at};
+    ghost use Rattle.jr_rule.specs.CellLaws.{some_of, seen_of};
+
+    ghost facts = { λ s. facts_at (C.sight s.cells) s.role s.fresh s.hint };
+
+    fn config(&self) -> Config {
+        self.cells.config()
+    }
+
+    fn thread(&self) -> u8 {
+        self.cells.thread()
+    }
+
+    fn last(&self) -> u32 {
+        self.cells.last()
+    }
+
+    fn role(&self) -> Role {
+        self.role
+    }
+
+    fn fresh(&self) -> bool {
+        self.fresh
+    }
+
+    fn spend(&mut self) {
+        self.fresh = false;
+    }
+
+    fn hint(&self) -> u16 {
+        self.hint
+    }
+
+    fn keep_hint(&mut self, index: u16) {
+        self.hint = index;
+    }
+
+    fn go_in(&mut self) -> bool {
+        // (the role that it mostly is, stored before the addition: the exit's subtraction waits for every store
+        // before it, and would wait for one that depends on what the entry found)
+        self.role = Role::Within;
+        let found = add::<C, Brand, ()>(&mut self.cells, GATE, 1, ());
+        if is_shut(found) {
+            self.role = Role::Knocking;
+            return false;
+        }
+        true
+    }
+
+    fn go_out(&mut self) {
+        take::<C, Brand, Role>(&mut self.cells, GATE, 1, self.role);
+        self.role = Role::Outside;
+    }
+
+    fn bar(&mut self) -> Result<(), u32> {
+        let found = exchange::<C, Brand, ()>(&mut self.cells, GATE, 0, GateWord::SHUT, ());
+        if found != 0 {
+            return Err(all_counted(GateWord::parts(found).unwrap()));
+        }
+        self.role = Role::Collecting;
+        Ok(())
+    }
+
+    fn unbar(&mut self) {
+        take::<C, Brand, ()>(&mut self.cells, GATE, GateWord::SHUT, ());
+        self.role = Role::Outside;
+    }
+
+    fn see_gate(&mut self, name: GateLoad) -> GateParts {
+        let found = load::<C, Brand, (GateLoad, Role)>(&mut self.cells, GATE, (name, self.role));
+        GateWord::parts(found).unwrap()
+    }
+
+    #[inline(always)]
+    fn see_slot(&mut self, index: u16, name: SlotLoad) -> SlotParts {
+        let at = slot_at(index);
+        let about = (index, name);
+        let found = load::<C, Brand, (u16, SlotLoad)>(&mut self.cells, at, about);
+        SlotWord::of_word(found)
+    }
+
+    fn claim(
+        &mut self,
+        index: u16,
+        serial: u32,
+        kind: RefKind,
+        object: u16,
+    ) -> Result<(), SlotParts> {
+        let at = slot_at(index);
+        let looked = SlotWord::pack(SlotParts::Free { serial });
+        let made = SlotWord::pack(reference(kind, serial, Some(object)));
+        let about = (index, serial, kind, object);
+        let found = exchange::<C, Brand, (u16, u32, RefKind, u16)>(
+            &mut self.cells,
+            at,
+            looked.0,
+            made.0,
+            about,
+        );
+        if found != looked.0 {
+            return Err(SlotWord::of_word(found));
+        }
+        Ok(())
+    }
+
+    fn free(&mut self, handle: HandleParts, object: Option<u16>) -> bool {
+        let at = slot_at(handle.index);
+        let looked = SlotWord::pack(reference(handle.kind, handle.serial, object));
+        let freed = SlotWord::pack(freed_slot(handle.serial, self.cells.last()));
+        let about = (handle, object);
+        let found = exchange::<C, Brand, (HandleParts, Option<u16>)>(
+            &mut self.cells,
+            at,
+            looked.0,
+            freed.0,
+            about,
+        );
+        found == looked.0
+    }
+
+    fn put_local(&mut self, place: u16, object: Option<u16>) {
+        let at = local_at(&self.cells.config(), self.cells.thread(), place);
+        let new = LocalWord::pack(local_parts(object));
+        let about = (place, object);
+        store::<C, Brand, (u16, Option<u16>)>(&mut self.cells, at, new.0, about);
+        self.fresh = false;
+    }
+
+    fn see_header(&mut self, object: u16) -> Option<HeaderParts> {
+        let at = header_at(&self.cells, u32::from(object));
+        let found = load::<C, Brand, u16>(&mut self.cells, at, object);
+        Header::of_word(found)
+    }
+
+    fn claim_header(&mut self, object: u16, header: HeaderParts) -> bool {
+        let at = header_at(&self.cells, u32::from(object));
+        let new = Header::pack(header);
+        let about = (object, header);
+        let found = exchange::<C, Brand, (u16, HeaderParts)>(&mut self.cells, at, 0, new.0, about);
+        found == 0
+    }
+
+    fn see_top(&mut self, name: TopLoad) -> u32 {
+        let found = load::<C, Brand, TopLoad>(&mut self.cells, TOP, name);
+        TopWord::parts(found).unwrap().used
+    }
+
+    fn claim_top(&mut self, looked: u32, more: u32) -> Result<(), u32> {
+        let old = top_word(looked);
+        let new = top_word(looked + more);
+        let about = (looked, more);
+        let found = exchange::<C, Brand, (u32, u32)>(&mut self.cells, TOP, old, new, about);
+        if found != old {
+            return Err(TopWord::parts(found).unwrap().used);
+        }
+        Ok(())
+    }
+
+    fn see_element(&mut self, object: u16, header: HeaderParts, index: u32) -> u64 {
+        let at = element_at(&self.cells, header.place + index);
+        self.see_element_at(object, header, index, at)
+    }
+
+    #[inline(always)]
+    fn see_part<E: Elem>(
+        &mut self,
+        object: u16,
+        header: HeaderParts,
+        start: u32,
+        elements: &mut [E],
+    ) {
+        let first = self.cells.elements() + header.place as usize + start as usize;
+        for eight in 0..elements.len() / 8 {
+            let index = eight * 8;
+            self.see_four(object, header, start, first + index, elements, index);
+            self.see_four(
+                object,
+                header,
+                start,
+                first + index + 4,
+                elements,
+                index + 4,
+            );
+        }
+        let done = elements.len() / 8 * 8;
+        self.see_rest(object, header, start, first, elements, done);
+    }
+
+    fn put_element(&mut self, object: u16, header: HeaderParts, index: u32, word: u64) {
+        let at = element_at(&self.cells, header.place + index);
+        let about = (object, header, index);
+        store::<C, Brand, (u16, HeaderParts, u32)>(&mut self.cells, at, word, about);
+    }
+
+    fn put_reserved(&mut self, place: u32, index: u32, word: u64) {
+        let at = element_at(&self.cells, place + index);
+        store::<C, Brand, (u32, u32)>(&mut self.cells, at, word, (place, index));
+    }
+
+    fn scan_slot(&mut self, index: u16) -> SlotParts {
+        let at = slot_at(index);
+        let found = load::<C, Brand, u16>(&mut self.cells, at, index);
+        SlotWord::of_word(found)
+    }
+
+    fn scan_local(&mut self, thread: u8, place: u16) -> LocalParts {
+        let at = local_at(&self.cells.config(), thread, place);
+        let found = load::<C, Brand, (u8, u16)>(&mut self.cells, at, (thread, place));
+        LocalWord::parts(found).unwrap()
+    }
+
+    fn scan_header(&mut self, object: u16) -> Option<HeaderParts> {
+        let at = header_at(&self.cells, u32::from(object));
+        let found = load::<C, Brand, u16>(&mut self.cells, at, object);
+        Header::of_word(found)
+    }
+
+    fn scan_element(&mut self, object: u16, header: HeaderParts, index: u32) -> u64 {
+        let at = element_at(&self.cells, header.place + index);
+        let about = (object, header, index);
+        load::<C, Brand, (u16, HeaderParts, u32)>(&mut self.cells, at, about)
+    }
+
+    fn wipe(&mut self, index: u16, serial: u32, object: u16) {
+        let at = slot_at(index);
+        let looked = SlotWord::pack(SlotParts::Weak {
+            serial,
+            object: Some(object),
+        });
+        let cleared = SlotWord::pack(SlotParts::Weak {
+            serial,
+            object: None,
+        });
+        let about = (index, serial, object);
+        exchange::<C, Brand, (u16, u32, u16)>(&mut self.cells, at, looked.0, cleared.0, about);
+    }
+
+    fn drop_header(&mut self, object: u16) {
+        let at = header_at(&self.cells, u32::from(object));
+        store::<C, Brand, u16>(&mut self.cells, at, 0, object);
+    }
+
+    fn move_element(
+        &mut self,
+        object: u16,
+        header: HeaderParts,
+        place: u32,
+        index: u32,
+        word: u64,
+    ) {
+        let at = element_at(&self.cells, place + index);
+        let about = (object, header, place, index);
+        store::<C, Brand, (u16, HeaderParts, u32, u32)>(&mut self.cells, at, word, about);
+    }
+
+    fn set_header(&mut self, object: u16, header: HeaderParts, place: u32) {
+        let at = header_at(&self.cells, u32::from(object));
+        let new = Header::pack(HeaderParts { place, ..header });
+        let about = (object, header, place);
+        store::<C, Brand, (u16, HeaderParts, u32)>(&mut self.cells, at, new.0, about);
+    }
+
+    fn set_top(&mut self, used: u32) {
+        let new = top_word(used);
+        store::<C, Brand, u32>(&mut self.cells, TOP, new, used);
+    }
+
+    ghost fits = { λ s k h. h.pass };
+
+    ghost some_known = { λ s. some_of (C.sight s.cells) s.role s.fresh s.hint s.stands };
+
+    ghost unused = { λ s k f h. s.stands.unused f k (seen_of (C.sight s.cells) s.role s.fresh k h) };
+
+    ghost in_space = { λ s k h. (C.sound s.cells).space k (seen_of (C.sight s.cells) s.role s.fresh k h) };
+
+    ghost limits = { λ s. (C.sound s.cells).sized.limits };
+
+    ghost row = { λ s. (C.sound s.cells).row };
+
+    ghost below = { λ s. s.stands.below };
+}
