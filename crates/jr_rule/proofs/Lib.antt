@@ -17,9 +17,7 @@ pub mod HeapSteps
 pub mod CollectSteps
 pub mod HoldingsInSpace
 pub mod PlainTook
-pub mod Unused
 pub mod Zeros
-pub mod PlainHistories
 pub mod Summaries
 pub mod RuleKept
 pub mod Seats
@@ -33,7 +31,6 @@ pub mod HeapOwed
 pub mod CollectTold
 pub mod CollectOwed
 pub mod FromMayKnow
-pub mod PlainOwed
 pub mod Meeting
 pub mod Ended
 pub mod Gathered

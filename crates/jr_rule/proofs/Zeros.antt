@@ -13,8 +13,7 @@ use Rattle.jr_steps.specs.Holdings.{empty}
 use Rattle.jr_rule.proofs.HoldingsInSpace.{holdings_in_space}
 use Rattle.jr_rule.proofs.Images.{image_same}
 use Rattle.jr_rule.proofs.Spaces.{hold_same}
-use Rattle.jr_rule.specs.Plain.{alone, standing_alone, unseen, Shows, IsUnused}
-use Rattle.jr_rule.proofs.Unused.{unused_zeros}
+use Rattle.jr_rule.specs.Plain.{alone, standing_alone, unseen, Shows}
 
 zeros : (n j : ℕ) → ◌≡◌ {A = ℕ} (get_or (replicate n 0) j 0) 0
 zeros zero j = refl
@@ -69,7 +68,3 @@ module _ (config : Config) (last : ℕ) (words : List ℕ) (none : (j : ℕ) →
     image = image_same config last words opening (λ t. empty) (opening_image wide) (alone empty) (hold_same (λ t. empty) 0 empty refl);
     space = holdings_in_space config last [] words (λ t. empty) tt (opening_image wide) 0 empty refl;
   }
-
-  -- nobody has a local reference where the words are zeros
-  pub unused_opening : IsUnused (standing_alone config last Outside true) words
-  unused_opening = unused_zeros config last Outside true words (λ p l. none (local_at config 0 p))

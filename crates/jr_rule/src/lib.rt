@@ -12,7 +12,6 @@ mod over;
 mod over_plain;
 mod over_room;
 mod pass;
-mod plain;
 mod plain_cells;
 mod room;
 mod room_cells;
@@ -31,10 +30,9 @@ pub use jr_steps::{
     GateLoad, Holdings, Known, KnownHeader, Move, OwnRange, SlotLoad, Steps, TopLoad,
 };
 pub use over::StepsOver;
-pub use over_plain::StepsAlone;
+pub use over_plain::PlainSteps;
 pub use over_room::StepsInRoom;
 pub use pass::Pass;
-pub use plain::PlainSteps;
 pub use plain_cells::PlainCells;
 pub use room::Room;
 pub use room_cells::RoomCells;

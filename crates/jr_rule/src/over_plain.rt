@@ -7,7 +7,7 @@ use jr_word::{Config, Fault};
 use std::alloc::Global;
 
 /// The steps of thread 0 over a row of plain words, with `LAST` as the last serial.
-pub type StepsAlone<const LAST: u32> = StepsOver<PlainCells<LAST>>;
+pub type PlainSteps<const LAST: u32> = StepsOver<PlainCells<LAST>>;
 
 impl<const LAST: u32> StepsOver<PlainCells<LAST>> {
     ghost use Rattle.std.specs.Prelude.{◌≡◌, ◌⊎◌, ◌↔◌, false, IfOk, IfErr, Err};

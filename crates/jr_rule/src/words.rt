@@ -69,16 +69,6 @@ pub(crate) fn first_element(config: &Config) -> usize
     first_header(config) + config.objects as usize
 }
 
-/// The place of a word of array space in the row.
-pub(crate) fn element_at(config: &Config, place: u32) -> usize
-    requires limited { IsLimited config.now }
-    requires place { place < config.now.words }
-    ensures { result ≡ place_of_element config.now place }
-{
-    let locals = config.threads as usize * config.locals as usize;
-    SLOTS + config.slots as usize + locals + config.objects as usize + place as usize
-}
-
 /// The word of a top that has so many words used.
 pub(crate) fn top_word(used: u32) -> u64
     requires { used < 2 ^ 24 }
@@ -109,24 +99,6 @@ pub(crate) fn is_reference(kind: RefKind, parts: SlotParts) -> bool
         SlotParts::Global { .. } => kind == RefKind::Global,
         SlotParts::Weak { .. } => kind == RefKind::Weak,
         _ => false,
-    }
-}
-
-/// Whether what the word of a slot says is that it is free with the serial.
-pub(crate) fn is_free(parts: SlotParts, serial: u32) -> bool
-    ensures { IsTrue result ↔ (parts ≡ Free serial) }
-{
-    matches!(parts, SlotParts::Free { serial: next } if next == serial)
-}
-
-/// The role of a thread whose entry went in, or did not.
-pub(crate) fn role_of_entry(entered: bool) -> Role
-    ensures { result ≡ role_after Outside (act_of_entry entered) }
-{
-    if entered {
-        Role::Within
-    } else {
-        Role::Knocking
     }
 }
 
