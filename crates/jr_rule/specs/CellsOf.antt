@@ -1,17 +1,18 @@
 -- The two kinds of words: those of a room, with a seat at them, and plain ones, which one thread has.
-use Rattle.std.specs.Prelude.{◌≡◌, ◌<◌, ℕ, Bool, true, Some, None, List}
+use Rattle.std.specs.Prelude.{◌≡◌, ◌<◌, ℕ, Bool, true, Some, None, List, [], ◌∷◌}
 use Rattle.atomic_table.specs.Seated.{TableId}
 use Rattle.jr_word.specs.declared.config.Config.{Config}
+use Rattle.jr_model.specs.declared.event.Act.TheVariants.{Meet}
 use Rattle.jr_model.specs.declared.event.Role.{Role}
 use Rattle.jr_model.specs.declared.event.Role.TheVariants.{Outside}
 use Rattle.jr_steps.specs.declared.known.Known.{Known}
 use Rattle.jr_steps.specs.Holdings.{InSpace}
-use Rattle.jr_steps.specs.Knowing.{state_of}
+use Rattle.jr_steps.specs.Knowing.{keeps, state_of}
 use Rattle.jr_rule.specs.declared.row.Row.{Row}
 use Rattle.jr_rule.specs.Cells.{Sight}
 use Rattle.jr_rule.specs.Image.{IsImage}
 use Rattle.jr_rule.specs.Plain.{alone, unseen}
-use Rattle.jr_rule.specs.Rule.{Sat, IsAlone, IsSized, acting}
+use Rattle.jr_rule.specs.Rule.{Sat, IsAlone, IsSized, Tells, acting}
 
 -- A SEAT knows one history: its own
 abbrev pub sight_of_seat : TableId → Sat → Sight
@@ -43,3 +44,7 @@ pub record IsOpenedAlone (asked : Config) (last : ℕ) (c : Config) (words : Lis
   pub fresh_is : fresh ≡ true
   pub hint_is : hint ≡ 0
   pub nothing : Depicts words (unseen asked last)
+
+-- a seat's pass has looked at the gate, and knows what others did
+abbrev pub LooksWith : Sat → Sat → Type 0
+LooksWith m m' = (n : ℕ) × Tells (λ k found acts k'. (acts ≡ Meet ∷ []) × keeps k k') m n m'

@@ -8,7 +8,13 @@ use crate::room_cells::RoomCells;
 pub type StepsInRoom<'a, const LAST: u32> = StepsOver<RoomCells<'a, LAST>>;
 
 impl<'a, const LAST: u32> StepsOver<RoomCells<'a, LAST>> {
-    ghost use Rattle.std.specs.Prelude.{◌≡◌};
+    ghost use Rattle.std.specs.Prelude.{◌≡◌, [], ◌∷◌};
+    ghost use Rattle.jr_model.specs.declared.event.Act.TheVariants.{Meet};
+    ghost use Rattle.jr_model.specs.History.{HasMet};
+    ghost use Rattle.jr_steps.specs.Knowing.{view, anything, Took, keeps};
+    ghost use Rattle.jr_rule.specs.Over.{facts_over};
+    ghost use Rattle.jr_rule.specs.Passes.{known_of, IsSame};
+    ghost use Rattle.jr_rule.specs.Rule.{acting};
     ghost use Rattle.jr_rule.specs.Carries.{Carries};
     ghost use Rattle.jr_rule.specs.Rooms.{IsOfRoom};
 
@@ -52,6 +58,35 @@ impl<'a, const LAST: u32> StepsOver<RoomCells<'a, LAST>> {
             seat,
             thread,
         } = cells;
+        Pass {
+            seat,
+            thread,
+            role,
+            fresh,
+            hint,
+        }
+    }
+
+    /// Learns all that the holder of another pass of the room has seen, which gets its pass back as it was.
+    ///
+    /// # Operations
+    ///
+    /// One, a load of the gate. The passes join for it and part again, each by a load of the gate that no clause counts.
+    pub fn meet(&mut self, other: Pass) -> Pass
+        requires { IsOfRoom self.old.cells.room.now other }
+        ensures room { self.new.cells.room ≡ self.old.cells.room }
+        ensures step { Took facts_over self.old self.new (Meet ∷ []) anything keeps }
+        ensures met { HasMet (view (known_of other)) (view (acting self.new.cells.seat.me)) }
+        ensures other { IsOfRoom self.old.cells.room.now result × IsSame other result }
+    {
+        let Pass {
+            seat,
+            thread,
+            role,
+            fresh,
+            hint,
+        } = other;
+        let seat = self.cells.meet(seat);
         Pass {
             seat,
             thread,
