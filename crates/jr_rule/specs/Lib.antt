@@ -6,7 +6,6 @@ pub mod PassLaws
 pub mod Rooms
 pub mod Slots
 pub mod Shown
-pub mod Parts
 pub mod Cells
 pub mod CellLaws
 pub mod CellsOf

@@ -4,10 +4,7 @@
 mod cells;
 mod closing;
 mod closing_all;
-mod collect_steps;
 mod gate_steps;
-mod heap_steps;
-mod local_steps;
 mod over;
 mod over_plain;
 mod over_room;
@@ -15,10 +12,8 @@ mod pass;
 mod plain_cells;
 mod room;
 mod room_cells;
-mod room_steps;
 mod row;
 mod rule;
-mod slot_steps;
 mod summing;
 mod words;
 
@@ -31,10 +26,9 @@ pub use jr_steps::{
 };
 pub use over::StepsOver;
 pub use over_plain::PlainSteps;
-pub use over_room::StepsInRoom;
+pub use over_room::RoomSteps;
 pub use pass::Pass;
 pub use plain_cells::PlainCells;
 pub use room::Room;
 pub use room_cells::RoomCells;
-pub use room_steps::RoomSteps;
 pub use rule::View;

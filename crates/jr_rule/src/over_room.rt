@@ -5,7 +5,7 @@ use crate::room::Room;
 use crate::room_cells::RoomCells;
 
 /// The steps that the holder of a pass takes in its room.
-pub type StepsInRoom<'a, const LAST: u32> = StepsOver<RoomCells<'a, LAST>>;
+pub type RoomSteps<'a, const LAST: u32> = StepsOver<RoomCells<'a, LAST>>;
 
 impl<'a, const LAST: u32> StepsOver<RoomCells<'a, LAST>> {
     ghost use Rattle.std.specs.Prelude.{◌≡◌, [], ◌∷◌};
@@ -19,7 +19,7 @@ impl<'a, const LAST: u32> StepsOver<RoomCells<'a, LAST>> {
     ghost use Rattle.jr_rule.specs.Rooms.{IsOfRoom};
 
     /// The steps of a pass in its own room. That the pass is one of the room's is a condition: it has no bytes that name its room.
-    pub fn of_pass(room: &'a Room<LAST>, pass: Pass) -> Self
+    pub fn new(room: &'a Room<LAST>, pass: Pass) -> Self
         requires { IsOfRoom room.now pass }
         ensures { (result.cells.room ≡ room.entry) × Carries pass result.cells result.role result.fresh result.hint }
     {

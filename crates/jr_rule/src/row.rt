@@ -119,24 +119,6 @@ impl Row {
         }
     }
 
-    /// The place of an object's header in the row.
-    #[inline(always)]
-    pub(crate) fn header_at(&self, object: u32) -> usize
-        requires { (1 ≤ object) × (object ≤ self.now.config.objects) }
-        ensures { result ≡ place_of_header self.now.config object }
-    {
-        self.headers + (object as usize - 1)
-    }
-
-    /// The place of a word of array space in the row.
-    #[inline(always)]
-    pub(crate) fn element_at(&self, place: u32) -> usize
-        requires { place < self.now.config.words }
-        ensures { result ≡ place_of_element self.now.config place }
-    {
-        self.elements + place as usize
-    }
-
     /// Loads a word.
     pub(crate) fn load<T: Telling, A: Copy>(
         &self,

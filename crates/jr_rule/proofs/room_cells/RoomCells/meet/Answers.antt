@@ -1,9 +1,8 @@
-use Rattle.std.proofs.Common.{rules, refl, ap}
+use Rattle.std.proofs.Common.{rules, ap}
 use Rattle.jr_rule.specs.Rule.{Sat, others_of}
 use Rattle.jr_rule.proofs.GateOwed.{meets}
-use Rattle.jr_rule.proofs.Meeting.{seated_both, told_alone}
+use Rattle.jr_rule.proofs.Meeting.{seated_both}
 use Rattle.jr_rule.proofs.Seats.{gathers, parts}
-use Rattle.jr_rule.proofs.SeatStepped.{seat_next}
 use Rattle.jr_rule.proofs.room_cells.RoomCells.meet.Goals as goal
 
 pub join_seat-requires : goal.join_seat-requires
