@@ -3,7 +3,9 @@ ghost use Rattle.std.specs.Prelude.{◌≡◌, [], ◌∷◌};
 ghost use Rattle.jr_model.specs.declared.event.Act.TheVariants.{Meet};
 ghost use Rattle.jr_model.specs.History.{HasMet};
 ghost use Rattle.jr_steps.specs.Knowing.{view, anything, Took, keeps};
-ghost use Rattle.jr_rule.specs.Passes.{facts_of, known_of, IsSame};
+ghost use Rattle.jr_rule.specs.Over.{facts_over};
+ghost use Rattle.jr_rule.specs.Passes.{known_of, IsSame};
+ghost use Rattle.jr_rule.specs.Rule.{acting};
 ghost use Rattle.jr_rule.specs.Rooms.{IsOfRoom};
 
 use crate::env::Env;
@@ -16,11 +18,11 @@ impl<const LAST: u32> Env<RoomSteps<'_, LAST>> {
     ///
     /// One, a load of the gate. The passes join for it and part again, each by a load of the gate that no clause counts.
     pub fn meet(&mut self, pass: Pass) -> Pass
-        requires { IsOfRoom self.old.held.steps.room.now pass }
-        ensures room { self.new.held.steps.room ≡ self.old.held.steps.room }
-        ensures step { Took facts_of self.old.held.steps.pass self.new.held.steps.pass (Meet ∷ []) anything keeps }
-        ensures met { HasMet (view (known_of pass)) (view (known_of self.new.held.steps.pass)) }
-        ensures other { IsOfRoom self.old.held.steps.room.now result × IsSame pass result }
+        requires { IsOfRoom self.old.held.steps.cells.room.now pass }
+        ensures room { self.new.held.steps.cells.room ≡ self.old.held.steps.cells.room }
+        ensures step { Took facts_over self.old.held.steps self.new.held.steps (Meet ∷ []) anything keeps }
+        ensures met { HasMet (view (known_of pass)) (view (acting self.new.held.steps.cells.seat.me)) }
+        ensures other { IsOfRoom self.old.held.steps.cells.room.now result × IsSame pass result }
         ensures frames { self.new.held.frames ≡ self.old.held.frames }
     {
         let held = &mut self.held;
