@@ -15,8 +15,8 @@ use Rattle.jr_model.proofs.Presence.{named_is_present}
 use Rattle.jr_steps.specs.declared.known.Known.{Known}
 use Rattle.jr_steps.specs.Acts.{handle_of}
 use Rattle.jr_steps.specs.Collecting.{CanWipe, ShowsLocal, ShowsElement}
-use Rattle.jr_steps.specs.Knowing.{fresh_from, anything, keeps, ShowsSlot}
-use Rattle.jr_rule.specs.Cells.{Sight, May, InRole}
+use Rattle.jr_steps.specs.Knowing.{fresh_from, anything, keeps, ShowsSlot, Standing}
+use Rattle.jr_rule.specs.Cells.{Knows, Sight}
 use Rattle.jr_rule.proofs.CollectTold.{ScannedSlot, ScannedLocal, ScannedElement}
 use Rattle.jr_rule.proofs.Readings.{read_once}
 use Rattle.jr_rule.proofs.StepTaken.{Reads, Leaves}
@@ -34,10 +34,10 @@ pub local_scan_leaves : {z : Sight} {n : ℕ} (t place : ℕ) {met : Known → T
 local_scan_leaves t place {role = role} {fresh = fresh} = record { left = λ k k' done among e m s. (ap (role_from role) (sym s.3), ap (fresh_from fresh) (sym s.3)) }
 
 -- the object of a weak reference that may be cleared has a number that is not 0
-pub wiped_some : {z : Sight} (i serial o : ℕ) → May z (InRole Collecting (CanWipe i serial o)) → 0 < o
+pub wiped_some : {knows : Known → Type 0} {s : Standing} (i serial o : ℕ) → ∥ ((k : Known) × Knows knows s k × CanWipe i serial o k) ∥₁ → 0 < o
 wiped_some i serial o may = ∥∥₁_elim may (hlevel props) (λ k.
-    let legal = (k.1).legal in
-    let present = (named_is_present k.0.config k.0.last k.0.seen legal).0 (handle_of Weak serial i) o k.2.1.0 in
+    let legal = (k.1).pass.legal in
+    let present = (named_is_present k.0.config k.0.last k.0.seen legal).0 (handle_of Weak serial i) o k.2.0 in
     let low = ((in_room k.0.config k.0.last k.0.seen legal).objects o present).0 in omega arith)
 
 pub element_scan : {z : Sight} {n : ℕ} {met : Known → Type 0} (o i : ℕ) → Reads z Collecting met (ScannedElement o i) n (λ k. []) (λ j k. ShowsElement o i n k × keeps j k)

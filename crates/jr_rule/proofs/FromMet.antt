@@ -9,7 +9,7 @@ use Rattle.jr_model.specs.declared.event.Role.{Role}
 use Rattle.jr_steps.specs.Collecting.{IsThere, CanWipe, CanDrop, CanMove, CanPlace}
 use Rattle.jr_steps.specs.declared.known.Known.{Known}
 use Rattle.jr_steps.specs.Knowing.{KnowsHeader, HasWord}
-use Rattle.jr_rule.specs.Cells.{Sight, IsSound, May, InRole}
+use Rattle.jr_rule.specs.Cells.{Sight, AreSoundWords, May, InRole}
 use Rattle.jr_rule.proofs.CollectOwed.{done_is, element_is, free_is}
 
 module _ (k : Known) where
@@ -41,9 +41,9 @@ module _ (k : Known) where
   place_is o h place m = record { known = ∥∥₁_elim m (hlevel props) (λ q. q.known); done = done_is k.holdings.moving o place h.length (∥∥₁_map m (λ q. q.done)) }
 
 -- where a known element, or a word of one's own, is lies in the array space
-module _ {z : Sight} (sound : IsSound z) {r : Role} {met : Known → Type 0} (may : May z (InRole r met)) where
+module _ {z : Sight} (sound : AreSoundWords z) {r : Role} {met : Known → Type 0} (may : May z (InRole r met)) where
   pub known_few : (o : ℕ) (h : HeaderParts) (i : ℕ) → ((k : Known) → met k → KnowsHeader o h k) → i < h.length → h.place + i < z.config.words
-  known_few o h i knows l = ∥∥₁_elim may (hlevel props) (λ k. subst (λ (c : Config). h.place + i < c.words) (k.1).among.config ((sound.space k.0 k.1).elements o h (knows k.0 k.2.1) i l))
+  known_few o h i knows l = ∥∥₁_elim may (hlevel props) (λ k. subst (λ (c : Config). h.place + i < c.words) (k.1).config ((sound.space k.0 k.1).elements o h (knows k.0 k.2.1) i l))
 
   pub own_few : (place i : ℕ) → ((k : Known) → met k → HasWord place i k) → place + i < z.config.words
-  own_few place i has = ∥∥₁_elim may (hlevel props) (λ k. subst (λ (c : Config). place + i < c.words) (k.1).among.config ((sound.space k.0 k.1).own place i (has k.0 k.2.1)))
+  own_few place i has = ∥∥₁_elim may (hlevel props) (λ k. subst (λ (c : Config). place + i < c.words) (k.1).config ((sound.space k.0 k.1).own place i (has k.0 k.2.1)))

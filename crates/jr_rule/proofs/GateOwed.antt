@@ -14,13 +14,13 @@ use Rattle.jr_steps.specs.Knowing.{view, IsClosedNow, IsSettled}
 use Rattle.jr_steps.specs.declared.known.Holdings.{Holdings}
 use Rattle.jr_steps.specs.Holdings.{empty, hold}
 use Rattle.jr_rule.specs.Image.{MayHold}
-use Rattle.jr_rule.specs.Rule.{known_at, IsFound, Owes}
+use Rattle.jr_rule.specs.Rule.{known_at, IsFound, Owes, Met}
 use Rattle.jr_rule.proofs.StillSo.{role_at, closed_now, moves_as_known}
 use Rattle.jr_rule.proofs.Images.{image_let_go}
 use Rattle.jr_rule.proofs.Spaces.{hold_here}
 use Rattle.jr_rule.proofs.GateSteps.{gate_fits, gate_most, shows_gate, goes_in, goes_out, counted, shut_counted, gate_seen, bars, bars_lost, unbars}
 use Rattle.jr_rule.proofs.LegalSteps.{quiet, gaining, written, unwritten, won, lost, one_legal}
-use Rattle.jr_rule.proofs.Told.{Entered, Left, Barred, Reopened, SawGate, Met}
+use Rattle.jr_rule.proofs.Told.{Entered, Left, Barred, Reopened, SawGate}
 use Rattle.jr_rule.proofs.ActEffects.{gate_load_state}
 
 -- who is within or knocking has no move unfinished

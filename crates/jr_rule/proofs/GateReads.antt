@@ -10,9 +10,10 @@ use Rattle.jr_model.specs.declared.event.Act.{Act}
 use Rattle.jr_model.specs.declared.event.Act.TheVariants.{Shut, ShutBusy, Reopen}
 use Rattle.jr_steps.specs.declared.loads.GateLoad.{GateLoad}
 use Rattle.jr_steps.specs.Acts.{act_of_entry, act_of_exit, all_counted, act_of_gate_load}
-use Rattle.jr_steps.specs.Knowing.{fresh_from, anything, keeps, lets_go, CanReopen, ShowsGate}
+use Rattle.jr_steps.specs.Knowing.{fresh_from, anything, keeps, lets_go, CanReopen, Goes, ShowsGate}
 use Rattle.jr_steps.specs.declared.known.Known.{Known}
-use Rattle.jr_rule.specs.Cells.{Sight, May, Stepped}
+use Rattle.jr_rule.specs.Cells.{Sight, InRole, May, HasStepped}
+use Rattle.jr_rule.specs.Over.{LooksSo}
 use Rattle.jr_rule.proofs.Told.{Entered, Left, Barred, Reopened, SawGate}
 use Rattle.jr_rule.proofs.Readings.{is_read, read_once}
 use Rattle.jr_rule.proofs.StepTaken.{Reads, Leaves}
@@ -43,11 +44,18 @@ module _ {n : ℕ} (r : Option GateParts) (complete : (p : GateParts) → IsGate
         (s.3 ∙ ap (λ z. act_of_gate_load name (all_counted z) ∷ []) e, (subst (λ z. ShowsGate z k') e s.4, s.5));
   }
 
+-- whatever was known, the look makes something of it that shows what it found
+pub looked_so : {z z' : Sight} {r : Role} {n : ℕ} {q : GateParts} (name : GateLoad) → HasStepped z z' (InRole r anything) (SawGate name) n → Reads z r anything (SawGate name) n (λ k. act_of_gate_load name (all_counted q) ∷ []) (λ j k. ShowsGate q k × keeps j k) → LooksSo z z' r name q
+looked_so name t reads k among role =
+    let u = t.makes k among (role, tt) in
+    let read = reads.read k u.new u.acts among role tt u.says in
+    (u.new, u.is, subst (λ done. Goes k done u.new) read.0 u.goes, read.1.0)
+
 pub reopening : {z : Sight} {n : ℕ} → Reads z Collecting CanReopen Reopened n (λ k. Reopen ∷ []) lets_go
 reopening = record { read = λ k k' done among role met s. s }
 
 -- whoever stepped was told of a word with a reading, so it has one
-pub word_read : {z z' : Sight} {met : Known → Type 0} {told : Known → ℕ → List Act → Known → Type 0} {n : ℕ} → Stepped z z' met told n → May z met → {A : Type 0} {Fits : A → Type 0} {word : A → ℕ}
+pub word_read : {z z' : Sight} {met : Known → Type 0} {told : Known → ℕ → List Act → Known → Type 0} {n : ℕ} → HasStepped z z' met told n → May z met → {A : Type 0} {Fits : A → Type 0} {word : A → ℕ}
     → ((k k' : Known) (done : List Act) → told k n done k' → (p : A) × Fits p × (n ≡ word p)) → (r : Option A) → ((p : A) → Fits p → n ≡ word p → r ≡ Some p) → IsSome r
 word_read t may says r complete = ∥∥₁_elim may (hlevel props) (λ k.
     let u = t.makes k.0 k.1 k.2 in

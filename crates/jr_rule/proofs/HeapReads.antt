@@ -14,7 +14,7 @@ use Rattle.jr_steps.specs.declared.known.Known.{Known}
 use Rattle.jr_steps.specs.declared.loads.TopLoad.{TopLoad}
 use Rattle.jr_steps.specs.Acts.{acts_of_publication, acts_of_top_load, act_of_reservation}
 use Rattle.jr_steps.specs.Knowing.{fresh_from, anything, keeps, words_for, IsFilled, ShowsHeader, ShowsPublished, ShowsUsed, WasUsed, ShowsRange}
-use Rattle.jr_rule.specs.Cells.{Sight, May, Stepped}
+use Rattle.jr_rule.specs.Cells.{Sight, May, HasStepped}
 use Rattle.jr_rule.proofs.ActEffects.{top_load_role, top_load_fresh}
 use Rattle.jr_rule.proofs.HeapOwed.{claimed_acts, header_known, published_acts, published_shows, top_is, top_some}
 use Rattle.jr_rule.proofs.StepTaken.{Reads, Leaves}
@@ -66,7 +66,7 @@ top_look_leaves name {role = role} {fresh} = record {
 }
 
 -- whoever stepped was told of a word of the top with a reading, so it has one
-pub top_word_read : {z z' : Sight} {met : Known → Type 0} {told : Known → ℕ → List Act → Known → Type 0} {n : ℕ} → Stepped z z' met told n → May z met
+pub top_word_read : {z z' : Sight} {met : Known → Type 0} {told : Known → ℕ → List Act → Known → Type 0} {n : ℕ} → HasStepped z z' met told n → May z met
     → ((k k' : Known) (done : List Act) → told k n done k' → (u : ℕ) × (u < 2 ^ 24) × (n ≡ used_word u)) → (q : Option TopParts) → ((p : TopParts) → IsTop p → n ≡ top_word p → q ≡ Some p) → IsSome q
 top_word_read {n = n} t may says q complete = ∥∥₁_elim may (hlevel props) (λ k.
     let u = t.makes k.0 k.1 k.2 in

@@ -14,7 +14,7 @@ use Rattle.jr_word.proofs.OneWord.{slot_word-injective, header_word-injective}
 use Rattle.jr_steps.specs.declared.known.Known.{Known}
 use Rattle.jr_model.specs.declared.event.Act.{Act}
 use Rattle.std.specs.Prelude.{List}
-use Rattle.jr_rule.specs.Cells.{Sight, May, Stepped}
+use Rattle.jr_rule.specs.Cells.{Sight, May, HasStepped}
 
 below_prop : (m n : ℕ) → IsProp (m < n)
 below_prop m n = hlevel props
@@ -64,5 +64,5 @@ one_header {n} may = dite (ℕ_discrete n 0)
     other some (inr w) = w
 
 -- WHAT A STEP SAYS OF THE NUMBER THAT IT FOUND is so, whatever was known
-pub found_so : {z z' : Sight} {met : Known → Type 0} {told : Known → ℕ → List Act → Known → Type 0} {n : ℕ} → Stepped z z' met told n → May z met → {P : Type 0} → ((k k' : Known) (done : List Act) → told k n done k' → P) → ∥ P ∥₁
+pub found_so : {z z' : Sight} {met : Known → Type 0} {told : Known → ℕ → List Act → Known → Type 0} {n : ℕ} → HasStepped z z' met told n → May z met → {P : Type 0} → ((k k' : Known) (done : List Act) → told k n done k' → P) → ∥ P ∥₁
 found_so t may says = ∥∥₁_map may (λ k. let u = t.makes k.0 k.1 k.2 in says k.0 u.new u.acts u.says)

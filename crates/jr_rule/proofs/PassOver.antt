@@ -1,38 +1,58 @@
--- The steps of a pass stand as it does, and a pass that is handed out as they do.
-use Rattle.std.proofs.Common.{◌≡◌, ◌<◌, ℕ, Bool, refl, sym, subst, arith}
+-- The steps of a pass stand as it does, and a pass that is handed out as they do; and it stays in its room.
+use Rattle.std.proofs.Common.{◌≡◌, ◌<◌, ℕ, Bool, Some, List, refl, sym, ap, subst, ◌∙◌, arith}
 use Rattle.std.proofs.Math.Logic.{∥∥₁_elim}
 use Rattle.std.proofs.Props.{props}
 use mathlib.Core.Logic.{∥∥₁_map}
 use Rattle.atomic_table.specs.Seated.{TableId}
+use Rattle.jr_word.specs.declared.config.Config.{Config}
 use Rattle.jr_model.specs.declared.event.Role.{Role}
+use Rattle.jr_model.specs.declared.event.Act.{Act}
 use Rattle.jr_model.specs.History.{IsLegal, role_of}
 use Rattle.jr_steps.specs.declared.known.Known.{Known}
-use Rattle.jr_steps.specs.Knowing.{HasNoLocals, view}
-use Rattle.jr_rule.specs.declared.row.Row.{Row}
+use Rattle.jr_steps.specs.Knowing.{HasNoLocals, Standing, Took, view}
 use Rattle.jr_rule.specs.Cells.{IsStanding}
-use Rattle.jr_rule.specs.CellsOf.{sight_of_seat, IsSeatOf}
+use Rattle.jr_rule.specs.Sights.{sight_of_seat, IsSeatOf}
+use Rattle.jr_rule.specs.declared.pass.Pass.{Pass}
+use Rattle.jr_rule.specs.declared.row.Row.{Row}
+use Rattle.jr_rule.specs.Passes.{Holder, facts_of, holder_of, standing_of, IsAt}
 use Rattle.jr_rule.specs.Rule.{Sat, IsHeld, acting}
 
 pub standing_of_held : {id : TableId} {m : Sat} {thread : ℕ} {role : Role} {fresh : Bool} {hint : ℕ} → IsHeld m thread role fresh hint → IsStanding (sight_of_seat id m) role fresh hint
 standing_of_held {m = m} h = record {
   some = ∥∥₁_map h.legal (λ l. (acting m, record { is = refl; pass = record { config = refl; last = refl; thread = refl; role = h.role_is; legal = l } }));
-  unused = λ f k s. subst HasNoLocals (sym s.among.is) (h.unused f);
+  unused = λ f k s. subst HasNoLocals (sym s.is) (h.unused f);
   below = h.below;
 }
 
-pub held_of_standing : {r : Row} {id : TableId} {m : Sat} {thread : ℕ} {role : Role} {fresh : Bool} {hint : ℕ} → IsSeatOf r id m thread → IsStanding (sight_of_seat id m) role fresh hint → IsHeld m thread role fresh hint
+pub held_of_standing : {row id : TableId} {c : Config} {last : ℕ} {m : Sat} {thread : ℕ} {role : Role} {fresh : Bool} {hint : ℕ} → IsSeatOf row c last id m thread → IsStanding (sight_of_seat id m) role fresh hint → IsHeld m thread role fresh hint
 held_of_standing {m = m} {thread} {role} {fresh} {hint} a s =
-    let row : thread < (acting m).config.threads = subst (λ t. t < (acting m).config.threads) a.thread_is a.row in
+    let below : thread < (acting m).config.threads = subst (λ t. t < (acting m).config.threads) a.thread_is a.below in
     let most = a.sized.limited.threads.1 in record {
       alone = a.alone;
       thread_is = a.thread_is;
       role_is = ∥∥₁_elim s.some (hlevel props) (λ k. subst (λ z. role_of (view z) ≡ role) (k.1).is (k.1).pass.role);
       legal = ∥∥₁_map s.some (λ k. subst (λ (z : Known). IsLegal z.config z.last z.seen) (k.1).is (k.1).pass.legal);
       sized = a.sized;
-      row = row;
+      row = below;
       few = omega arith;
       unused = λ f p. ∥∥₁_elim s.some (hlevel props) (λ k. s.unused f (acting m)
-          (record { among = record { is = refl; config = refl; last = refl; thread = refl }; legal = subst (λ (z : Known). IsLegal z.config z.last z.seen) (k.1).is (k.1).pass.legal }) p);
+          (record { is = refl; config = refl; last = refl; thread = refl }) p);
       space = a.space;
       below = s.below;
     }
+
+-- a pass that stands in the same room is one of the row's own
+pub still_of : (r : Row) (p q : Pass) → (standing_of q).room ≡ (standing_of p).room → (standing_of q).config ≡ (standing_of p).config → (standing_of q).last ≡ (standing_of p).last → IsAt r p → IsAt r q
+still_of r p q e c l h = record { row = table e ∙ h.row; config = c ∙ h.config; last = l ∙ h.last } where
+  table : Some q.seat.table_id ≡ Some p.seat.table_id → q.seat.table_id ≡ p.seat.table_id
+  table e = cc
+
+-- a step that was taken over what a pass is made of is one of the pass
+pub took_there : {S : Type 0} (holder : S → Holder) {a b : S} {h h' : Holder} {acts : List Act} {met : Known → Type 0} {shows : Known → Known → Type 0} → holder a ≡ h → holder b ≡ h' → Took (λ s. facts_of (holder s)) a b acts met shows → Took facts_of h h' acts met shows
+took_there holder {a} {b} {acts = acts} {met} {shows} first last t =
+    let there : Took facts_of (holder a) (holder b) acts met shows = record { stands_is = t.stands_is; hint_is = t.hint_is; goes = t.goes; alone = t.alone } in
+    subst (λ (z : Holder × Holder). Took facts_of z.0 z.1 acts met shows) (λ i. (first i, last i)) there
+
+-- and a pass of whose room the steps were is of that room then
+pub stays_of : (r : Row) (p q : Pass) {acts : List Act} {met : Known → Type 0} {shows : Known → Known → Type 0} → Took facts_of (holder_of p) (holder_of q) acts met shows → IsAt r p → IsAt r q
+stays_of r p q t at = still_of r p q (ap (λ (s : Standing). s.room) t.stands_is) (ap (λ (s : Standing). s.config) t.stands_is) (ap (λ (s : Standing). s.last) t.stands_is) at

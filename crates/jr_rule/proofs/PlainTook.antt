@@ -7,7 +7,7 @@ use Rattle.jr_model.specs.History.{state}
 use Rattle.jr_steps.specs.declared.known.Known.{Known}
 use Rattle.jr_steps.specs.declared.known.Holdings.{Holdings}
 use Rattle.jr_steps.specs.Holdings.{empty, hold}
-use Rattle.jr_rule.specs.Plain.{alone}
+use Rattle.jr_rule.specs.Sights.{alone}
 use Rattle.jr_rule.proofs.Images.{image_same}
 use Rattle.jr_rule.proofs.Spaces.{hold_here, hold_else}
 use Rattle.jr_rule.proofs.LegalSteps.{then, LegalStep}

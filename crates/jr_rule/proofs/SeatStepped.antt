@@ -3,14 +3,13 @@ use Rattle.std.proofs.Common.{◌≡◌, ◌<◌, ℕ, Some, None, List, [], ◌
 use mathlib.Core.Logic.{∥∥₁_map}
 use Rattle.atomic_table.specs.Seated.{TableId}
 use Rattle.jr_word.specs.declared.config.Config.{Config}
+use Rattle.jr_word.specs.Config.{row_words}
 use Rattle.jr_model.specs.declared.event.Act.{Act}
-use Rattle.jr_model.specs.History.{IsLegal}
 use Rattle.jr_steps.specs.declared.known.Known.{Known}
 use Rattle.jr_steps.specs.Holdings.{InSpace}
 use Rattle.jr_steps.specs.Knowing.{Goes}
-use Rattle.jr_rule.specs.declared.row.Row.{Row}
-use Rattle.jr_rule.specs.Cells.{IsOwed, Stepped}
-use Rattle.jr_rule.specs.CellsOf.{sight_of_seat, IsSeatOf}
+use Rattle.jr_rule.specs.Cells.{IsOwed, HasStepped}
+use Rattle.jr_rule.specs.Sights.{sight_of_seat, IsSeatOf}
 use Rattle.jr_rule.specs.Rule.{Sat, IsSeated, IsAlone, IsSized, Owes, Tells, acting, others_of, view_of}
 use Rattle.jr_rule.proofs.PassAfterStep.{acting_is}
 
@@ -18,9 +17,13 @@ use Rattle.jr_rule.proofs.PassAfterStep.{acting_is}
 pub seated : (m : Sat) → IsAlone m → IsSeated m
 seated m alone = alone ∙ (λ i. (view_of (acting m ∷ others_of (sym (ap (λ (z : Sat). z.0) alone) i).passes), []))
 
+-- a place of the words is one of the row's
+pub place_here : {row id : TableId} {c : Config} {last thread : ℕ} {m : Sat} → IsSeatOf row c last id m thread → row.words ≡ row_words c → {met : Known → Type 0} {i : ℕ} {f : ℕ → ℕ} {told : Known → ℕ → List Act → Known → Type 0} → IsOwed (sight_of_seat id m) met i f told → i < row.words
+place_here s words {i = i} o = subst (λ n. i < n) (ap row_words s.config ∙ sym words) o.place
+
 -- what the pass owes
 pub owes_here : (m : Sat) {id : TableId} {met : Known → Type 0} {i : ℕ} {f : ℕ → ℕ} {told : Known → ℕ → List Act → Known → Type 0} → IsOwed (sight_of_seat id m) met i f told → Owes (acting m) i f (told (acting m))
-owes_here m {met = met} o = o.owes (acting m) (record { is = refl; config = refl; last = refl; thread = refl }) (∥∥₁_map o.may (λ k. subst met (k.1).among.is k.2))
+owes_here m {met = met} o = o.owes (acting m) (record { is = refl; config = refl; last = refl; thread = refl }) (∥∥₁_map o.may (λ k. subst met (k.1).is k.2))
 
 module _ {told : Known → ℕ → List Act → Known → Type 0} {m m' : Sat} {n : ℕ} (t : Tells told m n m') where
   new_is : t.new ≡ acting m'
@@ -36,7 +39,7 @@ module _ {told : Known → ℕ → List Act → Known → Type 0} {m m' : Sat} {
   same_thread = ap (λ (k : Known). k.thread) (sym new_is) ∙ t.goes.thread
 
   -- the seat is one of the row's own still
-  pub seat_next : {r : Row} {id id' : TableId} {thread : ℕ} → id' ≡ id → IsSeatOf r id m thread → IsSeatOf r id' m' thread
+  pub seat_next : {row id id' : TableId} {c : Config} {last thread : ℕ} → id' ≡ id → IsSeatOf row c last id m thread → IsSeatOf row c last id' m' thread
   seat_next e s = record {
     table = e ∙ s.table;
     config = same_config ∙ s.config;
@@ -44,7 +47,7 @@ module _ {told : Known → ℕ → List Act → Known → Type 0} {m m' : Sat} {
     alone = t.is ∙ (λ i. (view_of (new_is i ∷ ap (λ (z : Sat). others_of z.0.passes) s.alone i), ap (λ (z : Sat). z.1) s.alone i));
     thread_is = same_thread ∙ s.thread_is;
     sized = subst (λ (z : Config × ℕ). IsSized z.0 z.1) (λ i. (sym same_config i, sym same_last i)) s.sized;
-    row = subst (λ (z : Config × ℕ). z.1 < (z.0).threads) (λ i. (sym same_config i, sym same_thread i)) s.row;
+    below = subst (λ (z : Config × ℕ). z.1 < (z.0).threads) (λ i. (sym same_config i, sym same_thread i)) s.below;
     space = subst (λ (k : Known). InSpace k.config k.holdings) new_is (subst (λ (c : Config). InSpace c (t.new).holdings) (sym t.goes.config) t.space);
   }
 
@@ -52,7 +55,7 @@ module _ {told : Known → ℕ → List Act → Known → Type 0} {m m' : Sat} {
   in_a_room e = cc
 
   -- and the step was taken
-  pub seat_stepped : {id id' : TableId} {met : Known → Type 0} → id' ≡ id → Stepped (sight_of_seat id m) (sight_of_seat id' m') met told n
+  pub seat_stepped : {id id' : TableId} {met : Known → Type 0} → id' ≡ id → HasStepped (sight_of_seat id m) (sight_of_seat id' m') met told n
   seat_stepped e = record {
     room = λ i. Some (e i);
     config = same_config;
@@ -62,12 +65,9 @@ module _ {told : Known → ℕ → List Act → Known → Type 0} {m m' : Sat} {
         let g = t.goes in record {
           new = t.new;
           acts = t.acts;
-          seen = record {
-            among = record { is = new_is; config = ap (λ (z : Known). z.config) new_is; last = ap (λ (z : Known). z.last) new_is; thread = ap (λ (z : Known). z.thread) new_is };
-            legal = subst (λ (z : Config × ℕ). IsLegal z.0 z.1 (t.new).seen) (λ i. (sym g.config i, sym g.last i)) g.legal;
-          };
-          goes = subst (λ z. Goes z t.acts t.new) (sym h.among.is) g;
-          says = subst (λ z. told z n t.acts t.new) (sym h.among.is) t.says;
+          is = record { is = new_is; config = ap (λ (z : Known). z.config) new_is; last = ap (λ (z : Known). z.last) new_is; thread = ap (λ (z : Known). z.thread) new_is };
+          goes = subst (λ z. Goes z t.acts t.new) (sym h.is) g;
+          says = subst (λ z. told z n t.acts t.new) (sym h.is) t.says;
           alone = λ none. absurd (in_a_room none);
         };
   }

@@ -7,15 +7,15 @@ use Rattle.jr_word.specs.declared.config.Config.{Config}
 use Rattle.jr_word.specs.Config.{row_words}
 use Rattle.jr_model.specs.declared.event.Role.{Role}
 use Rattle.jr_model.specs.declared.event.Act.{Act}
-use Rattle.jr_model.specs.History.{by, role_of, role_from}
+use Rattle.jr_model.specs.History.{by, IsLegal, role_of, role_from}
 use Rattle.jr_model.proofs.Stays.{role_did}
 use Rattle.jr_steps.specs.declared.known.Known.{Known}
 use Rattle.jr_steps.specs.Knowing.{Took, TookWith, Goes, view, anything, fresh_from}
 use Rattle.jr_steps.proofs.StepFacts.{goes_did}
 use Rattle.jr_rule.specs.declared.cells.Cells.{Ghosts}
 use Rattle.jr_rule.specs.declared.over.StepsOver.{StepsOver}
-use Rattle.jr_rule.specs.Cells.{Sight, IsAmong, IsSeen, IsSound, May, IsOwed, Stepped, InRole, Knows, IsStanding, stands_at}
-use Rattle.jr_rule.specs.CellLaws.{seen_of}
+use Rattle.jr_rule.specs.Cells.{Sight, IsAmong, AreSoundWords, May, IsOwed, HasStepped, InRole, Knows, IsStanding, stands_at}
+use Rattle.jr_rule.specs.CellLaws.{among_of}
 use Rattle.jr_rule.specs.Over.{facts_over as facts}
 use Rattle.jr_rule.specs.Rule.{Owes}
 use Rattle.jr_rule.proofs.PassAfterStep.{no_locals_next}
@@ -26,10 +26,10 @@ pub record Reads (z : Sight) (r : Role) (met : Known → Type 0) (told : Known �
 
 -- what may be known of the thread is seen, in its role
 pub may_in : (z : Sight) {role r : Role} {fresh : Bool} → role ≡ r → {met : Known → Type 0} → ∥ ((k : Known) × Knows z.knows (stands_at z role fresh) k × met k) ∥₁ → May z (InRole r met)
-may_in z {role} {r} {fresh} e may = ∥∥₁_map may (λ k. (k.0, seen_of z role fresh k.0 k.1, ((k.1).pass.role ∙ e, k.2)))
+may_in z {role} {r} {fresh} e may = ∥∥₁_map may (λ k. (k.0, among_of z role fresh k.0 k.1, ((k.1).pass.role ∙ e, k.2)))
 
 pub may_any : (z : Sight) {role r : Role} {fresh : Bool} {hint : ℕ} → role ≡ r → IsStanding z role fresh hint → May z (InRole r anything)
-may_any z {role} {r} {fresh} e s = ∥∥₁_map s.some (λ k. (k.0, seen_of z role fresh k.0 k.1, ((k.1).pass.role ∙ e, tt)))
+may_any z {role} {r} {fresh} e s = ∥∥₁_map s.some (λ k. (k.0, among_of z role fresh k.0 k.1, ((k.1).pass.role ∙ e, tt)))
 
 -- a step is owed by what is known of it in the thread's role
 pub owed : {z : Sight} {r : Role} {met : Known → Type 0} {i : ℕ} {f : ℕ → ℕ} {told : Known → ℕ → List Act → Known → Type 0} → i < row_words z.config → May z (InRole r met) → ((k : Known) → IsAmong z k → role_of (view k) ≡ r → ∥ met k ∥₁ → Owes k i f (told k))
@@ -49,34 +49,34 @@ leaves reads {role} {role'} {fresh} {fresh'} role_is fresh_is = record {
 }
 
 module _ {z z' : Sight} {r : Role} {met : Known → Type 0} {told : Known → ℕ → List Act → Known → Type 0} {n : ℕ} {role role' : Role} {fresh fresh' : Bool}
-    (t : Stepped z z' (InRole r met) told n) (left : Leaves z r met told n role role' fresh fresh') (is : role ≡ r) where
+    (t : HasStepped z z' (InRole r met) told n) (left : Leaves z r met told n role role' fresh fresh') (is : role ≡ r) where
   -- something is known of the new
-  known_next : (k : Known) (h : IsSeen z k) (e : role_of (view k) ≡ r) (m : met k) → Knows z'.knows (stands_at z' role' fresh') (t.makes k h (e, m)).new
+  known_next : (k : Known) (h : IsAmong z k) (e : role_of (view k) ≡ r) (m : met k) → Knows z'.knows (stands_at z' role' fresh') (t.makes k h (e, m)).new
   known_next k h e m =
       let u = t.makes k h (e, m) in record {
-        is = u.seen.among.is;
+        is = u.is.is;
         pass = record {
-          config = u.seen.among.config;
-          last = u.seen.among.last;
-          thread = u.seen.among.thread;
-          role = role_did u.acts (goes_did u.goes) ∙ (ap (λ x. role_from x u.acts) (e ∙ sym is) ∙ sym (left.left k u.new u.acts h.among e m u.says).0);
-          legal = u.seen.legal;
+          config = u.is.config;
+          last = u.is.last;
+          thread = u.is.thread;
+          role = role_did u.acts (goes_did u.goes) ∙ (ap (λ x. role_from x u.acts) (e ∙ sym is) ∙ sym (left.left k u.new u.acts h e m u.says).0);
+          legal = subst (λ (y : Config × ℕ). IsLegal y.0 y.1 (u.new).seen) (λ i. (sym u.goes.config i, sym u.goes.last i)) u.goes.legal;
         };
       }
 
   -- SO THE THREAD STANDS as it must
-  pub standing_next : IsSound z' → {hint : ℕ} → IsStanding z role fresh hint → May z (InRole r met) → IsStanding z' role' fresh' hint
+  pub standing_next : AreSoundWords z' → {hint : ℕ} → IsStanding z role fresh hint → May z (InRole r met) → IsStanding z' role' fresh' hint
   standing_next sound {hint} s may = record {
     some = ∥∥₁_map may (λ k. ((t.makes k.0 k.1 k.2).new, known_next k.0 k.1 k.2.0 k.2.1));
     unused = λ f k' h' p. ∥∥₁_elim may (hlevel props) (λ k.
         let u = t.makes k.0 k.1 k.2 in
-        let none = no_locals_next k.0 u.new u.acts fresh u.goes (sym (left.left k.0 u.new u.acts (k.1).among k.2.0 k.2.1 u.says).1 ∙ f) (λ e. s.unused e k.0 k.1) in
-        sound.locals u.new k' u.seen h' none p);
+        let none = no_locals_next k.0 u.new u.acts fresh u.goes (sym (left.left k.0 u.new u.acts k.1 k.2.0 k.2.1 u.says).1 ∙ f) (λ e. s.unused e k.0 k.1) in
+        sound.locals u.new k' u.is h' none p);
     below = subst (λ (c : Config). hint < c.slots) (sym t.config) s.below;
   }
 
 module _ {C : Type 0} {G : Ghosts C} (old new : StepsOver C G) {r : Role} {met : Known → Type 0} {told : Known → ℕ → List Act → Known → Type 0} {n : ℕ} {shows : Known → Known → Type 0}
-    (t : Stepped (G.sight old.cells) (G.sight new.cells) (InRole r met) told n) (hint_is : new.hint ≡ old.hint) (is : old.role ≡ r) where
+    (t : HasStepped (G.sight old.cells) (G.sight new.cells) (InRole r met) told n) (hint_is : new.hint ≡ old.hint) (is : old.role ≡ r) where
   -- AND THE STEP WAS TAKEN, with acts that may depend on what was known
   pub took_with : {acts : Known → List Act} {role : Role} {fresh : Bool} → Reads (G.sight old.cells) r met told n acts shows → new.role ≡ role → new.fresh ≡ fresh → ((k : Known) → role ≡ role_from old.role (acts k)) → ((k : Known) → fresh ≡ fresh_from old.fresh (acts k))
       → TookWith facts old new acts (record (facts old).stands { role = role; fresh = fresh }) met shows
@@ -86,13 +86,13 @@ module _ {C : Type 0} {G : Ghosts C} (old new : StepsOver C G) {r : Role} {met :
         hint_is = hint_is;
         goes = λ k h m.
             let e = h.pass.role ∙ is in
-            let s = seen_of (G.sight old.cells) old.role old.fresh k h in
+            let s = among_of (G.sight old.cells) old.role old.fresh k h in
             let u = t.makes k s (e, m) in
-            let read = reads.read k u.new u.acts s.among e m u.says in
+            let read = reads.read k u.new u.acts s e m u.says in
             let g = u.goes in
             let here : Goes k (acts k) u.new = record { config = g.config; last = g.last; thread = g.thread; between = g.between; seen = g.seen ∙ ap (λ l. (k.seen ++ g.between) ++ map (by k.thread) l) read.0; others = g.others; legal = g.legal; taken = g.taken } in
             (u.new, known_next t left is k s e m, here, read.1);
-        alone = λ nobody k h m. (t.makes k (seen_of (G.sight old.cells) old.role old.fresh k h) (h.pass.role ∙ is, m)).alone nobody;
+        alone = λ nobody k h m. (t.makes k (among_of (G.sight old.cells) old.role old.fresh k h) (h.pass.role ∙ is, m)).alone nobody;
       }
 
   -- with acts that are the same whatever was known

@@ -11,7 +11,7 @@ use Rattle.jr_word.specs.declared.slot.SlotParts.TheVariants as slot
 use Rattle.jr_word.specs.Gate.{gate_word, IsGate}
 use Rattle.jr_word.specs.Slot.{slot_word, IsSlot}
 use Rattle.jr_model.specs.declared.event.Act.{Act}
-use Rattle.jr_model.specs.declared.event.Act.TheVariants.{Shut, ShutBusy, Reopen, Meet, Read, Write}
+use Rattle.jr_model.specs.declared.event.Act.TheVariants.{Shut, ShutBusy, Reopen, Read, Write}
 use Rattle.jr_model.specs.State.{Handle}
 use Rattle.jr_model.specs.History.{role_of}
 use Rattle.jr_steps.specs.declared.known.Known.{Known}
@@ -94,6 +94,3 @@ PutElement o i v k n acts k' = (acts ≡ Write o i v ∷ []) × keeps k k'
 
 abbrev pub PutOwn : ℕ → ℕ → ℕ → Told
 PutOwn place i v k n acts k' = (acts ≡ []) × ShowsWord place i v k k'
-
-abbrev pub Met : Told
-Met k n acts k' = (acts ≡ Meet ∷ []) × keeps k k'

@@ -1,5 +1,5 @@
 -- A row of zeros is the image of the opening.
-use Rattle.std.proofs.Common.{◌≡◌, ◌+◌, ℕ, zero, suc, true, false, None, List, [], length, replicate, get_or, refl, sym, ap, ◌∙◌, arith}
+use Rattle.std.proofs.Common.{◌≡◌, ◌+◌, ℕ, zero, suc, false, None, List, [], length, replicate, get_or, refl, sym, ap, ◌∙◌, arith}
 use Rattle.std.proofs.lemmas.List.{length-replicate}
 use Rattle.jr_word.specs.declared.config.Config.{Config}
 use Rattle.jr_word.specs.declared.slot.SlotParts.TheVariants as slot
@@ -13,7 +13,7 @@ use Rattle.jr_steps.specs.Holdings.{empty}
 use Rattle.jr_rule.proofs.HoldingsInSpace.{holdings_in_space}
 use Rattle.jr_rule.proofs.Images.{image_same}
 use Rattle.jr_rule.proofs.Spaces.{hold_same}
-use Rattle.jr_rule.specs.Plain.{alone, standing_alone, unseen, Shows}
+use Rattle.jr_rule.specs.Sights.{Depicts, alone, unseen}
 
 zeros : (n j : ℕ) → ◌≡◌ {A = ℕ} (get_or (replicate n 0) j 0) 0
 zeros zero j = refl
@@ -62,9 +62,9 @@ module _ (config : Config) (last : ℕ) (words : List ℕ) (none : (j : ℕ) →
     };
   }
 
-  pub shows_unseen : length words ≡ row_words config → Shows (standing_alone config last Outside true) words (unseen config last)
-  shows_unseen wide = record {
-    pass = record { config = refl; last = refl; thread = refl; role = refl; legal = tt };
+  pub depicts_unseen : length words ≡ row_words config → Depicts words (unseen config last)
+  depicts_unseen wide = record {
+    legal = tt;
     image = image_same config last words opening (λ t. empty) (opening_image wide) (alone empty) (hold_same (λ t. empty) 0 empty refl);
     space = holdings_in_space config last [] words (λ t. empty) tt (opening_image wide) 0 empty refl;
   }

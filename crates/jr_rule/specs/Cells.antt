@@ -5,7 +5,7 @@ use Rattle.jr_word.specs.declared.config.Config.{Config}
 use Rattle.jr_word.specs.Config.{row_words}
 use Rattle.jr_model.specs.declared.event.Act.{Act}
 use Rattle.jr_model.specs.declared.event.Role.{Role}
-use Rattle.jr_model.specs.History.{IsLegal, role_of}
+use Rattle.jr_model.specs.History.{role_of}
 use Rattle.jr_steps.specs.declared.known.Known.{Known}
 use Rattle.jr_steps.specs.Holdings.{InSpace}
 use Rattle.jr_steps.specs.Knowing.{Facts, Standing, IsOf, Goes, HasNoLocals, view}
@@ -19,28 +19,23 @@ pub record Sight : Type 1 where
   pub thread : ℕ
   pub knows : Known → Type 0
 
--- the thread may know this, where its history is legal
+-- the thread may know this
 pub record IsAmong (z : Sight) (k : Known) : Type 0 where
   pub is : z.knows k
   pub config : k.config ≡ z.config
   pub last : k.last ≡ z.last
   pub thread : k.thread ≡ z.thread
 
--- the thread may know this
-pub record IsSeen (z : Sight) (k : Known) : Type 0 where
-  pub among : IsAmong z k
-  pub legal : IsLegal k.config k.last k.seen
-
 -- what always holds of the words: their sizes fit, the thread is one of the room's, what it holds lies in the space, and whatever it may know agrees on whether it has a local reference
-pub record IsSound (z : Sight) : Type 0 where
+pub record AreSoundWords (z : Sight) : Type 0 where
   pub sized : IsSized z.config z.last
   pub row : z.thread < z.config.threads
-  pub space : (k : Known) → IsSeen z k → InSpace k.config k.holdings
-  pub locals : (k k' : Known) → IsSeen z k → IsSeen z k' → HasNoLocals k → HasNoLocals k'
+  pub space : (k : Known) → IsAmong z k → InSpace k.config k.holdings
+  pub locals : (k k' : Known) → IsAmong z k → IsAmong z k' → HasNoLocals k → HasNoLocals k'
 
 -- something that may be known meets the condition
 abbrev pub May : Sight → (Known → Type 0) → Type 0
-May z met = ∥ ((k : Known) × IsSeen z k × met k) ∥₁
+May z met = ∥ ((k : Known) × IsAmong z k × met k) ∥₁
 
 -- WHAT A KIND OF STEP OWES THERE, whatever is known and meets the condition
 abbrev pub OwesThere : Sight → (Known → Type 0) → ℕ → (ℕ → ℕ) → (Known → ℕ → List Act → Known → Type 0) → Type 0
@@ -53,20 +48,20 @@ pub record IsOwed (z : Sight) (met : Known → Type 0) (i : ℕ) (f : ℕ → �
   pub owes : OwesThere z met i f told
 
 -- WHAT A STEP TELLS of what was known: it has made something known of it, by these acts, none or one, and this holds of the number that it found; and nobody else did anything in between where the words are of no room
-pub record Makes (z z' : Sight) (told : Known → ℕ → List Act → Known → Type 0) (n : ℕ) (k : Known) : Type 0 where
+pub record StepsTo (z z' : Sight) (told : Known → ℕ → List Act → Known → Type 0) (n : ℕ) (k : Known) : Type 0 where
   pub new : Known
   pub acts : List Act
-  pub seen : IsSeen z' new
+  pub is : IsAmong z' new
   pub goes : Goes k acts new
   pub says : told k n acts new
   pub alone : z.room ≡ None → goes.between ≡ []
 
-pub record Stepped (z z' : Sight) (met : Known → Type 0) (told : Known → ℕ → List Act → Known → Type 0) (n : ℕ) : Type 0 where
+pub record HasStepped (z z' : Sight) (met : Known → Type 0) (told : Known → ℕ → List Act → Known → Type 0) (n : ℕ) : Type 0 where
   pub room : z'.room ≡ z.room
   pub config : z'.config ≡ z.config
   pub last : z'.last ≡ z.last
   pub thread : z'.thread ≡ z.thread
-  pub makes : (k : Known) → IsSeen z k → met k → Makes z z' told n k
+  pub makes : (k : Known) → IsAmong z k → met k → StepsTo z z' told n k
 
 -- the condition, of a thread in this role
 abbrev pub InRole : Role → (Known → Type 0) → Known → Type 0
@@ -86,5 +81,5 @@ facts_at z role fresh hint = record { stands = stands_at z role fresh; knows = K
 -- what always holds of it: it knows something, has no local reference while it is fresh, and its hint is one of the room's slots
 pub record IsStanding (z : Sight) (role : Role) (fresh : Bool) (hint : ℕ) : Type 0 where
   pub some : ∥ ((k : Known) × Knows z.knows (stands_at z role fresh) k) ∥₁
-  pub unused : fresh ≡ true → (k : Known) → IsSeen z k → HasNoLocals k
+  pub unused : fresh ≡ true → (k : Known) → IsAmong z k → HasNoLocals k
   pub below : hint < z.config.slots

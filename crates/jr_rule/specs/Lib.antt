@@ -1,14 +1,10 @@
 pub mod Image
-pub mod Plain
 pub mod Rule
 pub mod Passes
-pub mod PassLaws
 pub mod Rooms
 pub mod Slots
 pub mod Shown
 pub mod Cells
 pub mod CellLaws
-pub mod CellsOf
-pub mod CellsOfLaws
 pub mod Over
-pub mod Carries
+pub mod Sights

@@ -1,8 +1,10 @@
 -- What a pass shows, and what a room gives.
-use Rattle.std.specs.Prelude.{◌≡◌, ◌⊎◌, ◌<◌, ℕ, zero, suc, true, Some, List, [], ◌∷◌, ◌++◌, map}
+use Rattle.std.specs.Prelude.{◌≡◌, ◌⊎◌, ◌<◌, ℕ, zero, suc, Bool, true, List, [], ◌∷◌, ◌++◌, map}
 use Rattle.std.specs.List.{All, AllByRecursion}
 use mathlib.Core.List.{IsPrefix}
+use Rattle.atomic_table.specs.declared.shared.Seat.{Seat}
 use Rattle.jr_word.specs.declared.config.Config.{Config}
+use Rattle.jr_model.specs.declared.event.Role.{Role}
 use Rattle.jr_model.specs.declared.event.Role.TheVariants.{Outside}
 use Rattle.jr_model.specs.declared.event.Act.TheVariants.{Meet}
 use Rattle.jr_model.specs.declared.summary.Summary.{Summary}
@@ -11,25 +13,34 @@ use Rattle.jr_model.specs.History.{History, state, mine, IsLegal}
 use Rattle.jr_steps.specs.declared.known.Known.{Known}
 use Rattle.jr_rule.specs.declared.pass.Pass.{Pass}
 use Rattle.jr_rule.specs.declared.row.Row.{Row}
-use Rattle.jr_steps.specs.Knowing.{Facts, Standing, IsOf, Goes, state_of}
+use Rattle.jr_steps.specs.Knowing.{Facts, Standing, Goes, state_of}
 use Rattle.jr_steps.specs.Holdings.{empty}
+use Rattle.jr_rule.specs.declared.rule.View.{View}
+use Rattle.jr_rule.specs.Cells.{facts_at}
+use Rattle.jr_rule.specs.Sights.{sight_of_seat}
 use Rattle.jr_rule.specs.Rule.{known, acting}
 
 -- what a pass knows: its room and thread, and what it has seen
 abbrev pub known_of : Pass → Known
 known_of p = acting p.seat.me
 
+-- WHAT A PASS IS MADE OF: a seat, the thread, and how it stands
+pub record Holder : Type 0 where
+  pub seat : Seat (Unit {0}) View
+  pub thread : ℕ
+  pub role : Role
+  pub fresh : Bool
+  pub hint : ℕ
+
+abbrev pub holder_of : Pass → Holder
+holder_of p = record { seat = p.seat; thread = p.thread; role = p.role; fresh = p.fresh; hint = p.hint }
+
+-- what it is, what it knows, and where its next search begins: what holds of steps over its seat's words
+abbrev pub facts_of : Holder → Facts
+facts_of h = facts_at (sight_of_seat h.seat.table_id h.seat.me) h.role h.fresh h.hint
+
 abbrev pub standing_of : Pass → Standing
-standing_of p = record { room = Some p.seat.table_id; config = (known_of p).config; last = (known_of p).last; thread = p.thread; role = p.role; fresh = p.fresh }
-
--- a pass knows one history: its own
-pub record Knows (p : Pass) (k : Known) : Type 0 where
-  pub is : k ≡ known_of p
-  pub pass : IsOf (standing_of p) k
-
--- what a pass is, what it knows, and where its next search begins
-abbrev pub facts_of : Pass → Facts
-facts_of p = record { stands = standing_of p; knows = Knows p; hint = p.hint }
+standing_of p = (facts_of (holder_of p)).stands
 
 -- THE PASS IS ONE OF THE ROW'S OWN
 pub record IsAt (r : Row) (p : Pass) : Type 0 where

@@ -8,12 +8,20 @@ use Rattle.jr_rule.specs.declared.closing.Left.{Left}
 use Rattle.jr_rule.specs.declared.closing_all.AllLeft.{AllLeft}
 use Rattle.jr_rule.specs.declared.pass.Pass.{Pass}
 use Rattle.jr_rule.specs.declared.room.Room.{Room}
-use Rattle.jr_steps.specs.Knowing.{anything, keeps, state_of, Took}
-use Rattle.jr_rule.specs.Passes.{facts_of, known_of, IsAt, AreOpened}
+use Rattle.jr_steps.specs.declared.known.Known.{Known}
+use Rattle.jr_steps.specs.Knowing.{anything, keeps, state_of, Goes, Took}
+use Rattle.jr_rule.specs.declared.cells.Cells.{Ghosts}
+use Rattle.jr_rule.specs.declared.over.StepsOver.{StepsOver}
+use Rattle.jr_rule.specs.declared.row.RoomCells.{RoomCells}
+use Rattle.jr_rule.specs.Passes.{Holder, facts_of, holder_of, known_of, IsAt, AreOpened}
 
 -- THE PASS IS ONE OF THE ROOM'S OWN
 abbrev pub IsOfRoom : {LAST : ℕ} → Room LAST → Pass → Type 0
 IsOfRoom r p = IsAt r.row p
+
+-- the steps of a pass are made of what it is made of
+abbrev pub holder_over : {LAST : ℕ} {G : Ghosts (RoomCells LAST)} → StepsOver (RoomCells LAST) G → Holder
+holder_over s = record { seat = s.cells.seat; thread = s.cells.thread; role = s.role; fresh = s.fresh; hint = s.hint }
 
 -- a room as it was opened, with its passes
 abbrev pub IsOpening : (LAST : ℕ) → Config → Room LAST → List Pass → Type 0
@@ -27,9 +35,14 @@ pub record IsLeft {LAST : ℕ} (r : Room LAST) (p : Pass) (l : Left LAST) : Type
   pub is : count ≡ not_outside (known_of l.pass).config (state_of (known_of l.pass))
   pub same : l.room ≡ r
   pub of_room : IsAt r.row l.pass
-  pub took : Took facts_of p l.pass (Meet ∷ []) anything keeps
+  pub took : Took facts_of (holder_of p) (holder_of l.pass) (Meet ∷ []) anything keeps
 
 -- a room is not closed, and the other passes are handed back as they are
 pub record AreLeft {LAST : ℕ} (r : Room LAST) (p : Pass) (others : List Pass) (l : AllLeft LAST) : Type 0 where
   pub left : IsLeft r p l.left
   pub same_others : l.others.items ≡ others
+
+-- THE PASS LOOKED AT THE GATE: it knows what it had, what others did since, and its look, and that so many threads are inside, knocking or collecting
+pub record CountsInside (k k' : Known) (count : ℕ) : Type 0 where
+  pub goes : Goes k (Meet ∷ []) k'
+  pub is : count ≡ not_outside k'.config (state_of k')

@@ -7,6 +7,7 @@ use Rattle.atomic_table.specs.Table.{State as Table, Me}
 use Rattle.jr_word.specs.declared.config.Config.{Config}
 use Rattle.jr_word.specs.Config.{in_limits, IsLimited}
 use Rattle.jr_model.specs.declared.event.Act.{Act}
+use Rattle.jr_model.specs.declared.event.Act.TheVariants.{Meet}
 use Rattle.jr_model.specs.declared.event.Role.{Role}
 use Rattle.jr_model.specs.History.{History, by, state, IsLegal, mine, role_of}
 use Rattle.jr_steps.specs.declared.known.Known.{Known}
@@ -15,7 +16,7 @@ use Rattle.jr_rule.specs.declared.rule.Sizes.{Sizes}
 use Rattle.jr_steps.specs.declared.known.Holdings.{Holdings}
 use Rattle.jr_steps.specs.Holdings.{InSpace, empty, hold}
 use Rattle.jr_rule.specs.Image.{IsImage}
-use Rattle.jr_steps.specs.Knowing.{Goes, view, HasNoLocals}
+use Rattle.jr_steps.specs.Knowing.{Goes, view, keeps, HasNoLocals}
 
 abbrev pub sizes : Config → ℕ → Sizes
 sizes c last = record { config = c; last = last }
@@ -126,6 +127,13 @@ pub record Tells (told : Known → ℕ → List Act → Known → Type 0) (m : S
   pub space : InSpace (acting m).config new.holdings
   pub held : ℕ → Holdings
   pub others : EachFits (acting m).config (acting m).last new.seen held (others_of m.0.passes)
+
+-- a pass has looked at the gate, beside others that meet it
+abbrev pub Met : Known → ℕ → List Act → Known → Type 0
+Met k n acts k' = (acts ≡ Meet ∷ []) × keeps k k'
+
+abbrev pub LooksWith : Sat → Sat → Type 0
+LooksWith m m' = (n : ℕ) × Tells Met m n m'
 
 -- HOW A SEAT IS CUT: the first pass alone, and the others
 abbrev pub first_alone : View → View

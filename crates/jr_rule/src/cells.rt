@@ -1,7 +1,7 @@
 //! The five operations on a word, whoever keeps the words: a row that threads share, or a plain vector. Steps are written over them once.
 ghost use Rattle.std.specs.Prelude.{◌≡◌, ◌+◌, ◌-◌, ◌%◌, ◌^◌, ◌==◌, ◌≤◌, ◌<◌};
 ghost use prog.Atomic.{either};
-ghost use Rattle.jr_rule.specs.Cells.{IsOwed, Stepped};
+ghost use Rattle.jr_rule.specs.Cells.{IsOwed, HasStepped};
 ghost use Rattle.jr_rule.specs.Image.{header_at as place_of_header, element_at as place_of_element};
 
 use jr_word::Config;
@@ -27,7 +27,7 @@ impl StepKind for Brand {
 
 /// The words of a row, and who steps on them: each operation is one on one word, and one step.
 pub trait Cells {
-    ghost use Rattle.jr_rule.specs.Cells.{Sight, IsSound};
+    ghost use Rattle.jr_rule.specs.Cells.{Sight, AreSoundWords};
 
     /// What is known of the words.
     ghost sight: { Self → Sight };
@@ -55,37 +55,37 @@ pub trait Cells {
     /// Loads a word.
     fn load<T: StepKind>(&mut self, at: usize) -> u64
         requires { IsOwed (sight self.old) T.met at (λ n. n) T.told }
-        ensures { Stepped (sight self.old) (sight self.new) T.met T.told result };
+        ensures { HasStepped (sight self.old) (sight self.new) T.met T.told result };
 
     /// Stores a word.
     fn store<T: StepKind>(&mut self, at: usize, new: u64)
         requires { IsOwed (sight self.old) T.met at (λ n. new) (λ k n. T.told k new) }
-        ensures { Stepped (sight self.old) (sight self.new) T.met T.told new };
+        ensures { HasStepped (sight self.old) (sight self.new) T.met T.told new };
 
     /// Adds to a word. The number that was found.
     fn add<T: StepKind>(&mut self, at: usize, more: u64) -> u64
         requires { IsOwed (sight self.old) T.met at (λ n. (n + more) % 2 ^ 64) T.told }
-        ensures { Stepped (sight self.old) (sight self.new) T.met T.told result };
+        ensures { HasStepped (sight self.old) (sight self.new) T.met T.told result };
 
     /// Takes away from a word. The number that was found.
     fn take<T: StepKind>(&mut self, at: usize, less: u64) -> u64
         requires { IsOwed (sight self.old) T.met at (λ n. (n + (2 ^ 64 - less)) % 2 ^ 64) T.told }
-        ensures { Stepped (sight self.old) (sight self.new) T.met T.told result };
+        ensures { HasStepped (sight self.old) (sight self.new) T.met T.told result };
 
     /// Exchanges a word for a new one where it is `old`. The number that was found.
     fn exchange<T: StepKind>(&mut self, at: usize, old: u64, new: u64) -> u64
         requires { IsOwed (sight self.old) T.met at (λ n. either (n == old) new n) T.told }
-        ensures { Stepped (sight self.old) (sight self.new) T.met T.told result };
+        ensures { HasStepped (sight self.old) (sight self.new) T.met T.told result };
 
     /// What always holds of the words.
-    ghost sound: { (s : Self) → IsSound (sight s) };
+    ghost sound: { (s : Self) → AreSoundWords (sight s) };
 }
 
 /// The same, about what the step is about: a call can pick what a step tells at a function, and not at a method of a bound.
 #[inline(always)]
 pub(crate) fn load<C: Cells, T: StepKind, A: Copy>(cells: &mut C, at: usize, _about: A) -> u64
     requires { IsOwed (C.sight cells.old) T.met at (λ n. n) T.told }
-    ensures { Stepped (C.sight cells.old) (C.sight cells.new) T.met T.told result }
+    ensures { HasStepped (C.sight cells.old) (C.sight cells.new) T.met T.told result }
 {
     cells.load::<T>(at)
 }
@@ -94,7 +94,7 @@ pub(crate) fn load<C: Cells, T: StepKind, A: Copy>(cells: &mut C, at: usize, _ab
 #[inline(always)]
 pub(crate) fn store<C: Cells, T: StepKind, A: Copy>(cells: &mut C, at: usize, new: u64, _about: A)
     requires { IsOwed (C.sight cells.old) T.met at (λ n. new) (λ k n. T.told k new) }
-    ensures { Stepped (C.sight cells.old) (C.sight cells.new) T.met T.told new }
+    ensures { HasStepped (C.sight cells.old) (C.sight cells.new) T.met T.told new }
 {
     cells.store::<T>(at, new);
 }
@@ -108,7 +108,7 @@ pub(crate) fn add<C: Cells, T: StepKind, A: Copy>(
     _about: A,
 ) -> u64
     requires { IsOwed (C.sight cells.old) T.met at (λ n. (n + more) % 2 ^ 64) T.told }
-    ensures { Stepped (C.sight cells.old) (C.sight cells.new) T.met T.told result }
+    ensures { HasStepped (C.sight cells.old) (C.sight cells.new) T.met T.told result }
 {
     cells.add::<T>(at, more)
 }
@@ -122,7 +122,7 @@ pub(crate) fn take<C: Cells, T: StepKind, A: Copy>(
     _about: A,
 ) -> u64
     requires { IsOwed (C.sight cells.old) T.met at (λ n. (n + (2 ^ 64 - less)) % 2 ^ 64) T.told }
-    ensures { Stepped (C.sight cells.old) (C.sight cells.new) T.met T.told result }
+    ensures { HasStepped (C.sight cells.old) (C.sight cells.new) T.met T.told result }
 {
     cells.take::<T>(at, less)
 }
@@ -137,7 +137,7 @@ pub(crate) fn exchange<C: Cells, T: StepKind, A: Copy>(
     _about: A,
 ) -> u64
     requires { IsOwed (C.sight cells.old) T.met at (λ n. either (n == old) new n) T.told }
-    ensures { Stepped (C.sight cells.old) (C.sight cells.new) T.met T.told result }
+    ensures { HasStepped (C.sight cells.old) (C.sight cells.new) T.met T.told result }
 {
     cells.exchange::<T>(at, old, new)
 }

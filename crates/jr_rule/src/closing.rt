@@ -1,11 +1,11 @@
 //! A room is closed, once nobody is in it.
-ghost use Rattle.std.specs.Prelude.{◌≡◌, length, IfOk, IfErr};
+ghost use Rattle.std.specs.Prelude.{◌≡◌, [], ◌∷◌, length, IfOk, IfErr};
 ghost use Rattle.std.specs.Slots.{slots_items, slots_len, IsFull};
 
+use crate::over_room::RoomSteps;
 use crate::pass::Pass;
 use crate::room::Room;
-use crate::row::Row;
-use crate::summing::{Words, summary};
+use crate::summing::Words;
 use crate::words::all_counted;
 use atomic_table::Closed;
 use jr_model::Summary;
@@ -25,8 +25,10 @@ pub struct Left<const LAST: u32> {
 }
 
 impl<const LAST: u32> Room<LAST> {
-    ghost use Rattle.jr_rule.specs.Passes.{known_of, Closes};
-    ghost use Rattle.jr_rule.specs.Rooms.{IsOfRoom, IsLeft};
+    ghost use Rattle.jr_model.specs.declared.event.Act.TheVariants.{Meet};
+    ghost use Rattle.jr_steps.specs.Knowing.{anything, keeps, Took};
+    ghost use Rattle.jr_rule.specs.Passes.{facts_of, holder_of, known_of, Closes};
+    ghost use Rattle.jr_rule.specs.Rooms.{IsOfRoom, IsLeft, CountsInside};
 
     /// Closes the room, and tells what stands in it: what stands after a legal history that begins with all that the pass has seen, and has no more events of its thread. The pass has to be one of the room's.
     ///
@@ -39,12 +41,12 @@ impl<const LAST: u32> Room<LAST> {
     /// # Operations
     ///
     /// One, the look at the gate. Then no thread shares the words any more.
-    pub fn close(self, mut pass: Pass) -> Result<Summary, Left<LAST>>
+    pub fn close(self, pass: Pass) -> Result<Summary, Left<LAST>>
         requires { IsOfRoom self pass }
         ensures ok { IfOk result (λ s. Closes (known_of pass) s) }
         ensures err { IfErr result (λ l. IsLeft self.entry pass l) }
     {
-        let inside = all_counted(self.row.see_gate(&mut pass, GateLoad::Meet));
+        let (inside, pass) = self.look(pass);
         if inside != 0 {
             return Err(Left {
                 room: self,
@@ -54,6 +56,18 @@ impl<const LAST: u32> Room<LAST> {
         }
         let Room { row } = self;
         Ok(row.close(pass))
+    }
+
+    /// The pass looks at the gate, as it does when it meets another one: how many threads are inside, knocking or collecting, and the pass.
+    pub(crate) fn look(&self, pass: Pass) -> (u32, Pass)
+        requires { IsOfRoom self.now pass }
+        ensures room { IsOfRoom self.now result.1 }
+        ensures step { Took facts_of (holder_of pass) (holder_of result.1) (Meet ∷ []) anything keeps }
+        ensures seen { CountsInside (known_of pass) (known_of result.1) result.0 }
+    {
+        let mut steps = RoomSteps::new(self, pass);
+        let inside = all_counted(steps.look(GateLoad::Meet));
+        (inside, steps.into_pass())
     }
 }
 
@@ -68,37 +82,5 @@ impl Words for ClosedWords {
 
     fn word(&self, at: usize) -> u64 {
         self.closed.word(at)
-    }
-}
-
-impl Row {
-    ghost use Rattle.jr_rule.specs.Passes.{known_of, IsAt, SumsUp};
-
-    /// What stands at the end.
-    fn close(self, pass: Pass) -> Summary
-        requires { IsAt self pass }
-        ensures { SumsUp (known_of pass) result }
-    {
-        let Row {
-            table,
-            config,
-            last: _,
-            headers: _,
-            elements: _,
-        } = self;
-        let Pass {
-            seat,
-            thread: _,
-            role: _,
-            fresh: _,
-            hint: _,
-        } = pass;
-        let words = ClosedWords {
-            closed: table.close_with(seat),
-        };
-        let summary = summary(&words, &config);
-        let ClosedWords { closed } = words;
-        closed.free();
-        summary
     }
 }

@@ -30,12 +30,25 @@ pub struct StepsOver<C: Cells> {
 }
 
 impl<C: Cells> StepsOver<C> {
+    ghost use Rattle.jr_steps.specs.Acts.{act_of_gate_load, GateLoadFits, all_counted as all_of};
+    ghost use Rattle.jr_rule.specs.Over.{LooksSo};
     ghost use Rattle.std.specs.Prelude.{◌<◌, ◌≤◌, ◌+◌, [], ◌∷◌, length};
     ghost use Rattle.jr_model.specs.declared.event.Act.TheVariants.{Read};
     ghost use Rattle.jr_model.specs.declared.event.Role.TheVariants.{Within};
-    ghost use Rattle.jr_steps.specs.Knowing.{MayKnow, KnowsHeader, SawPart, Took, keeps};
+    ghost use Rattle.jr_steps.specs.Knowing.{anything, MayKnow, KnowsHeader, SawPart, ShowsGate, Took, keeps};
     ghost use Rattle.jr_rule.specs.Image.{element_at as place_of_element};
     ghost use Rattle.jr_rule.specs.Over.{facts_over, ReadsTo, ReadsRest};
+
+    /// Loads the gate, which counts as what it is named.
+    pub(crate) fn look(&mut self, name: GateLoad) -> GateParts
+        requires { GateLoadFits self.old.role name }
+        ensures step { Took facts_over self.old self.new (act_of_gate_load name (all_of result) ∷ []) anything (λ j k. ShowsGate result k × keeps j k) }
+        ensures seen { LooksSo (C.sight self.old.cells) (C.sight self.new.cells) self.old.role name result }
+    {
+        let about = (name, self.role);
+        let found = load::<C, Brand, (GateLoad, Role)>(&mut self.cells, GATE, about);
+        GateWord::parts(found).unwrap()
+    }
 
     /// Loads an element of an object whose header the pass knows, at its place in the row.
     #[inline(always)]
@@ -131,7 +144,7 @@ impl<C: Cells> StepsOver<C> {
 
 impl<C: Cells> Steps for StepsOver<C> {
     ghost use Rattle.jr_rule.specs.Cells.{facts_at};
-    ghost use Rattle.jr_rule.specs.CellLaws.{some_of, seen_of};
+    ghost use Rattle.jr_rule.specs.CellLaws.{some_of, among_of};
 
     ghost facts = { λ s. facts_at (C.sight s.cells) s.role s.fresh s.hint };
 
@@ -199,8 +212,7 @@ impl<C: Cells> Steps for StepsOver<C> {
     }
 
     fn see_gate(&mut self, name: GateLoad) -> GateParts {
-        let found = load::<C, Brand, (GateLoad, Role)>(&mut self.cells, GATE, (name, self.role));
-        GateWord::parts(found).unwrap()
+        self.look(name)
     }
 
     #[inline(always)]
@@ -401,9 +413,9 @@ impl<C: Cells> Steps for StepsOver<C> {
 
     ghost some_known = { λ s. some_of (C.sight s.cells) s.role s.fresh s.hint s.stands };
 
-    ghost unused = { λ s k f h. s.stands.unused f k (seen_of (C.sight s.cells) s.role s.fresh k h) };
+    ghost unused = { λ s k f h. s.stands.unused f k (among_of (C.sight s.cells) s.role s.fresh k h) };
 
-    ghost in_space = { λ s k h. (C.sound s.cells).space k (seen_of (C.sight s.cells) s.role s.fresh k h) };
+    ghost in_space = { λ s k h. (C.sound s.cells).space k (among_of (C.sight s.cells) s.role s.fresh k h) };
 
     ghost limits = { λ s. (C.sound s.cells).sized.limits };
 

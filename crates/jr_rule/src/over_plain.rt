@@ -16,8 +16,8 @@ impl<const LAST: u32> StepsOver<PlainCells<LAST>> {
     ghost use Rattle.jr_model.specs.declared.event.Role.TheVariants.{Outside};
     ghost use Rattle.jr_model.specs.State.{summary as summary_of};
     ghost use Rattle.jr_steps.specs.Knowing.{state_of};
-    ghost use Rattle.jr_rule.specs.Cells.{IsSeen};
-    ghost use Rattle.jr_rule.specs.CellsOf.{sight_of_words, IsOpenedAlone};
+    ghost use Rattle.jr_rule.specs.Cells.{IsAmong};
+    ghost use Rattle.jr_rule.specs.Sights.{sight_of_words, IsOpenedAlone};
 
     /// The steps of thread 0 over a row of zeros, outside the gate and fresh.
     ///
@@ -46,7 +46,7 @@ impl<const LAST: u32> StepsOver<PlainCells<LAST>> {
 
     /// What stands in the room. It takes no memory.
     pub fn summary(&self) -> Summary
-        ensures { (k : _) → IsSeen (sight_of_words self.now.cells.config LAST self.now.cells.words.items) k → result ≡ summary_of k.config k.last (state_of k) }
+        ensures { (k : _) → IsAmong (sight_of_words self.now.cells.config LAST self.now.cells.words.items) k → result ≡ summary_of k.config k.last (state_of k) }
     {
         summary(&self.cells.words, &self.cells.config)
     }

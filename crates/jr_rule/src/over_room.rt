@@ -2,7 +2,7 @@
 use crate::over::StepsOver;
 use crate::pass::Pass;
 use crate::room::Room;
-use crate::room_cells::RoomCells;
+use crate::row::RoomCells;
 
 /// The steps that the holder of a pass takes in its room.
 pub type RoomSteps<'a, const LAST: u32> = StepsOver<RoomCells<'a, LAST>>;
@@ -12,16 +12,14 @@ impl<'a, const LAST: u32> StepsOver<RoomCells<'a, LAST>> {
     ghost use Rattle.jr_model.specs.declared.event.Act.TheVariants.{Meet};
     ghost use Rattle.jr_model.specs.History.{HasMet};
     ghost use Rattle.jr_steps.specs.Knowing.{view, anything, Took, keeps};
-    ghost use Rattle.jr_rule.specs.Over.{facts_over};
-    ghost use Rattle.jr_rule.specs.Passes.{known_of, IsSame};
+    ghost use Rattle.jr_rule.specs.Passes.{facts_of, holder_of, known_of, IsSame};
     ghost use Rattle.jr_rule.specs.Rule.{acting};
-    ghost use Rattle.jr_rule.specs.Carries.{Carries};
-    ghost use Rattle.jr_rule.specs.Rooms.{IsOfRoom};
+    ghost use Rattle.jr_rule.specs.Rooms.{IsOfRoom, holder_over};
 
     /// The steps of a pass in its own room. That the pass is one of the room's is a condition: it has no bytes that name its room.
     pub fn new(room: &'a Room<LAST>, pass: Pass) -> Self
         requires { IsOfRoom room.now pass }
-        ensures { (result.cells.room ≡ room.entry) × Carries pass result.cells result.role result.fresh result.hint }
+        ensures { (result.cells.room ≡ room.entry) × (holder_over result ≡ holder_of pass) }
     {
         let Pass {
             seat,
@@ -45,7 +43,7 @@ impl<'a, const LAST: u32> StepsOver<RoomCells<'a, LAST>> {
     ///
     /// None.
     pub fn into_pass(self) -> Pass
-        ensures { Carries result self.entry.cells self.entry.role self.entry.fresh self.entry.hint × IsOfRoom self.entry.cells.room.now result }
+        ensures { (holder_of result ≡ holder_over self.entry) × IsOfRoom self.entry.cells.room.now result }
     {
         let StepsOver {
             cells,
@@ -75,7 +73,7 @@ impl<'a, const LAST: u32> StepsOver<RoomCells<'a, LAST>> {
     pub fn meet(&mut self, other: Pass) -> Pass
         requires { IsOfRoom self.old.cells.room.now other }
         ensures room { self.new.cells.room ≡ self.old.cells.room }
-        ensures step { Took facts_over self.old self.new (Meet ∷ []) anything keeps }
+        ensures step { Took facts_of (holder_over self.old) (holder_over self.new) (Meet ∷ []) anything keeps }
         ensures met { HasMet (view (known_of other)) (view (acting self.new.cells.seat.me)) }
         ensures other { IsOfRoom self.old.cells.room.now result × IsSame other result }
     {

@@ -30,8 +30,8 @@ impl<const LAST: u32> PlainCells<LAST> {
 }
 
 impl<const LAST: u32> Cells for PlainCells<LAST> {
-    ghost use Rattle.jr_rule.specs.CellsOf.{sight_of_words};
-    ghost use Rattle.jr_rule.specs.CellsOfLaws.{words_sound};
+    ghost use Rattle.jr_rule.specs.Sights.{sight_of_words};
+    ghost use Rattle.jr_rule.specs.CellLaws.{words_sound};
 
     ghost sight = { λ s. sight_of_words s.config LAST s.words.items };
 

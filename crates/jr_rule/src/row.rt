@@ -27,32 +27,36 @@
 //! A COLLECTION: while the gate is shut, all other words are the collector's alone. It loads slots, local words, headers and elements, clears weak references to what nothing reaches, stores 0 in the headers of such objects, moves an object's elements down, from the first on, and then stores its header with the new place, sets the top to the sum of the lengths, and opens the gate. No thread knows a header from before: each was outside in between.
 //!
 //! What always holds of the words is `specs/Rule.antt`, with what each word says in `specs/Image.antt`; `docs/STEP.md` tells how one step is proved.
-ghost use Rattle.std.specs.Prelude.{◌≡◌, ◌+◌, ◌<◌, ◌≤◌, ◌^◌, ◌%◌, ◌-◌, ◌==◌, [], ◌∷◌, IfOk, true};
-ghost use prog.Atomic.{either};
+ghost use Rattle.std.specs.Prelude.{◌≡◌, ◌<◌, [], ◌∷◌, IfOk, true};
 ghost use Rattle.jr_word.specs.Config.{in_limits, row_words};
 ghost use Rattle.jr_model.specs.declared.event.Role.TheVariants.{Outside};
 ghost use Rattle.jr_steps.specs.Holdings.{empty};
 ghost use Rattle.jr_rule.specs.Image.{header_at as place_of_header, element_at as place_of_element};
-ghost use Rattle.jr_rule.specs.Rule.{IsSized, sizes, known, view_of, newcomers, others_of, acting, IsSeated, Owes, Tells};
+ghost use Rattle.jr_rule.specs.Sights.{IsSeatOf};
+ghost use Rattle.jr_rule.specs.Rule.{IsSized, sizes, known, view_of, newcomers, others_of};
 
+use crate::cells::{Cells, StepKind};
+use crate::closing::ClosedWords;
 use crate::pass::Pass;
-use crate::rule::{Deal, Rule, Sizes, Tell, Telling, View};
-use crate::words::{first_element, first_header};
+use crate::room::Room;
+use crate::rule::{Deal, Gather, Meeting, Part, Rule, Sizes, Tell, View};
+use crate::summing::summary;
+use crate::words::{GATE, first_element, first_header};
 use atomic_table::{Seat, Table};
-use jr_model::Role;
+use jr_model::{Role, Summary};
 use jr_word::Config;
 use std::alloc::{AllocError, Global};
 
 /// One row of atomic words, which the holders of its passes share.
 #[derive(Drop)]
 pub struct Row {
-    pub(crate) table: Table<(), View, Sizes, Rule, Global>,
-    pub(crate) config: Config,
-    pub(crate) last: u32,
+    table: Table<(), View, Sizes, Rule, Global>,
+    config: Config,
+    last: u32,
     /// Where the header of object 1 is in the row.
-    pub(crate) headers: usize,
+    headers: usize,
     /// Where the first word of array space is in the row.
-    pub(crate) elements: usize,
+    elements: usize,
     ghost key: { table.shared.key ≡ sizes config last },
     ghost no_slots: { table.shared.table_id.slots ≡ 0 },
     ghost words: { table.shared.table_id.words ≡ row_words config },
@@ -62,7 +66,8 @@ pub struct Row {
 }
 
 impl Row {
-    ghost use Rattle.jr_rule.specs.Passes.{AreOpened, IsOpened};
+    ghost use Rattle.std.specs.Prelude.{◌++◌, map, All};
+    ghost use Rattle.jr_rule.specs.Passes.{AreOpened, IsOpened, IsAt, SumsUp, EndsAll, known_of};
 
     /// A row of zeros, with one pass a thread, from thread 0 upward.
     pub(crate) fn open(
@@ -119,85 +124,178 @@ impl Row {
         }
     }
 
-    /// Loads a word.
-    pub(crate) fn load<T: Telling, A: Copy>(
-        &self,
-        seat: &mut Seat<(), View>,
-        at: usize,
-        _about: A,
-    ) -> u64
-        requires room { (seat.old.table_id ≡ self.now.table.shared.table_id) × (at < row_words self.now.config) }
-        requires seated { IsSeated seat.old.me }
-        requires owes { Owes (acting seat.old.me) at (λ n. n) (T.told (acting seat.old.me)) }
-        ensures { (seat.new.table_id ≡ seat.old.table_id) × Tells T.told seat.old.me result seat.new.me }
+    /// What stands at the end.
+    pub(crate) fn close(self, pass: Pass) -> Summary
+        requires { IsAt self pass }
+        ensures { SumsUp (known_of pass) result }
     {
-        self.table.shared.load::<Tell<T>>(seat, at)
+        let Row {
+            table,
+            config,
+            last: _,
+            headers: _,
+            elements: _,
+        } = self;
+        let Pass {
+            seat,
+            thread: _,
+            role: _,
+            fresh: _,
+            hint: _,
+        } = pass;
+        let words = ClosedWords {
+            closed: table.close_with(seat),
+        };
+        let summary = summary(&words, &config);
+        let ClosedWords { closed } = words;
+        closed.free();
+        summary
     }
 
-    /// Stores a word.
-    pub(crate) fn store<T: Telling, A: Copy>(
-        &self,
-        seat: &mut Seat<(), View>,
-        at: usize,
-        new: u64,
-        _about: A,
-    )
-        requires room { (seat.old.table_id ≡ self.now.table.shared.table_id) × (at < row_words self.now.config) }
-        requires seated { IsSeated seat.old.me }
-        requires owes { Owes (acting seat.old.me) at (λ n. new) (λ n. T.told (acting seat.old.me) new) }
-        ensures { (seat.new.table_id ≡ seat.old.table_id) × Tells T.told seat.old.me new seat.new.me }
+    /// The seats of the passes join this one.
+    fn gather(&self, seat: &mut Seat<(), View>, mut others: Vec<Pass>)
+        requires room { seat.old.table_id ≡ self.now.table.shared.table_id }
+        requires slots { seat.old.me.1 ≡ [] }
+        requires others { All (λ p. IsAt self.now p) others.items }
+        ensures room { seat.new.table_id ≡ seat.old.table_id }
+        ensures all { seat.new.me ≡ (view_of (seat.old.me.0.passes ++ map known_of others.items), []) }
     {
-        self.table.shared.store::<Tell<T>>(seat, at, new);
+        while !others.is_empty() {
+            let Pass {
+                seat: other,
+                thread: _,
+                role: _,
+                fresh: _,
+                hint: _,
+            } = others.remove(0);
+            self.table.shared.join_seat::<Gather>(seat, other);
+        }
     }
 
-    /// Adds to a word. The number that was found.
-    pub(crate) fn add<T: Telling, A: Copy>(
-        &self,
-        seat: &mut Seat<(), View>,
-        at: usize,
-        more: u64,
-        _about: A,
-    ) -> u64
-        requires room { (seat.old.table_id ≡ self.now.table.shared.table_id) × (at < row_words self.now.config) }
-        requires seated { IsSeated seat.old.me }
-        requires owes { Owes (acting seat.old.me) at (λ n. (n + more) % 2 ^ 64) (T.told (acting seat.old.me)) }
-        ensures { (seat.new.table_id ≡ seat.old.table_id) × Tells T.told seat.old.me result seat.new.me }
+    /// What stands at the end of all these passes.
+    pub(crate) fn close_all(self, pass: Pass, others: Vec<Pass>) -> Summary
+        requires pass { IsAt self pass }
+        requires others { All (λ p. IsAt self p) others.items }
+        ensures { EndsAll (known_of pass) (map known_of others.items) result }
     {
-        self.table.shared.fetch_add::<Tell<T>>(seat, at, more)
+        let Pass {
+            mut seat,
+            thread: _,
+            role: _,
+            fresh: _,
+            hint: _,
+        } = pass;
+        self.gather(&mut seat, others);
+        let Row {
+            table,
+            config,
+            last: _,
+            headers: _,
+            elements: _,
+        } = self;
+        let words = ClosedWords {
+            closed: table.close_with(seat),
+        };
+        let summary = summary(&words, &config);
+        let ClosedWords { closed } = words;
+        closed.free();
+        summary
     }
+}
 
-    /// Takes away from a word. The number that was found.
-    pub(crate) fn take<T: Telling, A: Copy>(
-        &self,
-        seat: &mut Seat<(), View>,
-        at: usize,
-        less: u64,
-        _about: A,
-    ) -> u64
-        requires room { (seat.old.table_id ≡ self.now.table.shared.table_id) × (at < row_words self.now.config) }
-        requires seated { IsSeated seat.old.me }
-        requires owes { Owes (acting seat.old.me) at (λ n. (n + (2 ^ 64 - less)) % 2 ^ 64) (T.told (acting seat.old.me)) }
-        ensures { (seat.new.table_id ≡ seat.old.table_id) × Tells T.told seat.old.me result seat.new.me }
-    {
-        self.table.shared.fetch_sub::<Tell<T>>(seat, at, less)
-    }
+/// The words of a room, which other threads step on too, with one thread's seat at them.
+#[derive(Drop)]
+pub struct RoomCells<'a, const LAST: u32> {
+    /// The room.
+    pub room: &'a Room<LAST>,
+    pub(crate) seat: Seat<(), View>,
+    pub(crate) thread: u8,
+    ghost at: { IsSeatOf room.now.row.table.shared.table_id room.now.row.config room.now.row.last seat.table_id seat.me thread },
+}
 
-    /// Exchanges a word for a new one where it is `old`. The number that was found.
-    pub(crate) fn exchange<T: Telling, A: Copy>(
-        &self,
-        seat: &mut Seat<(), View>,
-        at: usize,
-        old: u64,
-        new: u64,
-        _about: A,
-    ) -> u64
-        requires room { (seat.old.table_id ≡ self.now.table.shared.table_id) × (at < row_words self.now.config) }
-        requires seated { IsSeated seat.old.me }
-        requires owes { Owes (acting seat.old.me) at (λ n. either (n == old) new n) (T.told (acting seat.old.me)) }
-        ensures { (seat.new.table_id ≡ seat.old.table_id) × Tells T.told seat.old.me result seat.new.me }
+impl<const LAST: u32> RoomCells<'_, LAST> {
+    ghost use Rattle.std.specs.Prelude.{◌≡◌, ℕ};
+    ghost use Rattle.jr_model.specs.History.{HasMet};
+    ghost use Rattle.jr_steps.specs.Knowing.{view};
+    ghost use Rattle.jr_rule.specs.Rule.{IsAlone, LooksWith, acting};
+
+    /// The seat and another one of the room are joined, look at the gate together, and part.
+    pub(crate) fn meet(&mut self, other: Seat<(), View>) -> Seat<(), View>
+        requires row { other.table_id ≡ self.old.seat.table_id }
+        requires alone { IsAlone other.me }
+        ensures same { (self.new.room ≡ self.old.room) × (self.new.thread ≡ self.old.thread) × (self.new.seat.table_id ≡ self.old.seat.table_id) }
+        ensures looked { LooksWith self.old.seat.me self.new.seat.me }
+        ensures met { HasMet (view (acting other.me)) (view (acting self.new.seat.me)) }
+        ensures other { (result.table_id ≡ other.table_id) × (result.me ≡ other.me) }
     {
-        self.table
+        self.room
+            .row
+            .table
             .shared
-            .compare_exchange::<Tell<T>>(seat, at, old, new)
+            .join_seat::<Gather>(&mut self.seat, other);
+        self.room
+            .row
+            .table
+            .shared
+            .load::<Meeting>(&mut self.seat, GATE);
+        self.room
+            .row
+            .table
+            .shared
+            .split_seat::<Part>(&mut self.seat)
     }
+}
+
+impl<const LAST: u32> Cells for RoomCells<'_, LAST> {
+    ghost use Rattle.jr_rule.specs.Sights.{sight_of_seat};
+    ghost use Rattle.jr_rule.specs.CellLaws.{seat_sound};
+
+    ghost sight = { λ s. sight_of_seat s.seat.table_id s.seat.me };
+
+    fn config(&self) -> Config {
+        self.room.row.config
+    }
+
+    fn last(&self) -> u32 {
+        LAST
+    }
+
+    fn thread(&self) -> u8 {
+        self.thread
+    }
+
+    fn headers(&self) -> usize {
+        self.room.row.headers
+    }
+
+    fn elements(&self) -> usize {
+        self.room.row.elements
+    }
+
+    fn load<T: StepKind>(&mut self, at: usize) -> u64 {
+        let shared = &self.room.row.table.shared;
+        shared.load::<Tell<T>>(&mut self.seat, at)
+    }
+
+    fn store<T: StepKind>(&mut self, at: usize, new: u64) {
+        let shared = &self.room.row.table.shared;
+        shared.store::<Tell<T>>(&mut self.seat, at, new);
+    }
+
+    fn add<T: StepKind>(&mut self, at: usize, more: u64) -> u64 {
+        let shared = &self.room.row.table.shared;
+        shared.fetch_add::<Tell<T>>(&mut self.seat, at, more)
+    }
+
+    fn take<T: StepKind>(&mut self, at: usize, less: u64) -> u64 {
+        let shared = &self.room.row.table.shared;
+        shared.fetch_sub::<Tell<T>>(&mut self.seat, at, less)
+    }
+
+    fn exchange<T: StepKind>(&mut self, at: usize, old: u64, new: u64) -> u64 {
+        let shared = &self.room.row.table.shared;
+        shared.compare_exchange::<Tell<T>>(&mut self.seat, at, old, new)
+    }
+
+    ghost sound = { λ s. seat_sound s.at };
 }

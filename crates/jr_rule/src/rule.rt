@@ -4,7 +4,7 @@ use atomic_table::{Join, Play, Split, TableRule};
 use jr_steps::Known;
 use jr_word::Config;
 use std::collections::LinkedList;
-use std::marker::{Brand, PhantomData};
+use std::marker::PhantomData;
 
 /// The sizes of a row, and the last serial of its slots and local places.
 #[derive(Clone, Copy)]
@@ -32,38 +32,24 @@ impl TableRule<(), View, Sizes> for Rule {
     ghost first = { λ z. view_of (newcomers z.config z.last z.config.threads 0) };
 }
 
-/// What a step tells of what was known, the number that it found, its acts, and what is known then.
-pub trait Telling {
-    ghost use Rattle.std.specs.Prelude.{ℕ, List};
-    ghost use Rattle.jr_model.specs.declared.event.Act.{Act};
-    ghost use Rattle.jr_steps.specs.declared.known.Known.{Known};
-
-    ghost told: { Known → ℕ → List Act → Known → Type 0 };
-}
-
-/// The call that steps picks what is told.
-impl Telling for Brand {
-    ghost told = { λ k n acts k'. Unit {0} };
-}
-
-/// What a kind of step tells.
-pub struct TellOf<T> {
+/// A step of this kind.
+pub struct Tell<T> {
     kind: PhantomData<T>,
 }
 
-impl<T: StepKind> Telling for TellOf<T> {
-    ghost told = { T.told };
-}
-
-/// A step that tells this.
-pub struct Tell<T> {
-    telling: PhantomData<T>,
-}
-
-impl<T: Telling> Play<(), View> for Tell<T> {
+impl<T: StepKind> Play<(), View> for Tell<T> {
     ghost use Rattle.jr_rule.specs.Rule.{Tells};
 
     ghost then = { λ s m n m'. Tells T.told m n m' };
+}
+
+/// The look at the gate of passes that meet.
+pub struct Meeting;
+
+impl Play<(), View> for Meeting {
+    ghost use Rattle.jr_rule.specs.Rule.{Met, Tells};
+
+    ghost then = { λ s m n m'. Tells Met m n m' };
 }
 
 /// The first pass leaves the seat.

@@ -10,7 +10,7 @@ use Rattle.jr_rule.proofs.StepTaken.{may_in, owed, leaves, standing_next, took}
 use Rattle.jr_rule.proofs.over.StepsOverSteps.wipe.Goals as goal
 
 pub pack-looked-requires : goal.pack-looked-requires
-pack-looked-requires g c = let s = c.args.self.now in wiped_some c.args.index c.args.serial c.args.object (may_in (g.C.Cells.sight s.cells) c.requires.role c.requires.can)
+pack-looked-requires g c = wiped_some c.args.index c.args.serial c.args.object c.requires.can
 
 pub exchange-requires : goal.exchange-requires
 exchange-requires g c =

@@ -2,9 +2,9 @@ use Rattle.std.proofs.Common.{rules, refl, sym, subst}
 use Rattle.jr_steps.specs.Acts.{GateLoadFits, all_counted}
 use Rattle.jr_rule.proofs.ActEffects.{gate_load_role, gate_load_fresh}
 use Rattle.jr_rule.proofs.GateOwed.{sees_gate}
-use Rattle.jr_rule.proofs.GateReads.{gate_load, look_leaves, word_read}
+use Rattle.jr_rule.proofs.GateReads.{gate_load, look_leaves, looked_so, word_read}
 use Rattle.jr_rule.proofs.StepTaken.{may_any, owed, standing_next, took}
-use Rattle.jr_rule.proofs.over.StepsOverSteps.see_gate.Goals as goal
+use Rattle.jr_rule.proofs.over.StepsOver.look.Goals as goal
 
 pub load-found-requires : goal.load-found-requires
 load-found-requires g c =
@@ -19,8 +19,11 @@ invariant_of-self g c =
 pub unwrap-requires : goal.unwrap-requires
 unwrap-requires g c = let s = c.args.self.now in word_read c.load-found.ensures (may_any (g.C.Cells.sight s.cells) refl s.stands) (λ k k' done t. (t.0, t.1, t.2)) c.parts.result c.parts.ensures.complete
 
-pub returns : goal.returns
-returns g c =
+pub returns-clause-step : goal.returns-clause-step
+returns-clause-step g c =
     let s = c.args.self.now in
     let n = all_counted c.unwrap.result in
     took s _ c.load-found.ensures refl refl _ (gate_load _ c.parts.ensures.complete _ c.unwrap.ensures c.args.name) (gate_load_role c.args.name n s.role) (gate_load_fresh c.args.name n s.fresh)
+
+pub returns-clause-seen : goal.returns-clause-seen
+returns-clause-seen g c = looked_so c.args.name c.load-found.ensures (gate_load _ c.parts.ensures.complete _ c.unwrap.ensures c.args.name)

@@ -1,36 +1,44 @@
 -- The two kinds of words: those of a room, with a seat at them, and plain ones, which one thread has.
-use Rattle.std.specs.Prelude.{◌≡◌, ◌<◌, ℕ, Bool, true, Some, None, List, [], ◌∷◌}
+use Rattle.std.specs.Prelude.{◌≡◌, ◌<◌, ℕ, Bool, true, Some, None, List, []}
 use Rattle.atomic_table.specs.Seated.{TableId}
 use Rattle.jr_word.specs.declared.config.Config.{Config}
-use Rattle.jr_model.specs.declared.event.Act.TheVariants.{Meet}
 use Rattle.jr_model.specs.declared.event.Role.{Role}
 use Rattle.jr_model.specs.declared.event.Role.TheVariants.{Outside}
+use Rattle.jr_model.specs.History.{IsLegal}
 use Rattle.jr_steps.specs.declared.known.Known.{Known}
-use Rattle.jr_steps.specs.Holdings.{InSpace}
-use Rattle.jr_steps.specs.Knowing.{keeps, state_of}
-use Rattle.jr_rule.specs.declared.row.Row.{Row}
+use Rattle.jr_steps.specs.declared.known.Holdings.{Holdings}
+use Rattle.jr_steps.specs.Holdings.{InSpace, empty, hold}
+use Rattle.jr_steps.specs.Knowing.{state_of}
 use Rattle.jr_rule.specs.Cells.{Sight}
 use Rattle.jr_rule.specs.Image.{IsImage}
-use Rattle.jr_rule.specs.Plain.{alone, unseen}
-use Rattle.jr_rule.specs.Rule.{Sat, IsAlone, IsSized, Tells, acting}
+use Rattle.jr_rule.specs.Rule.{Sat, IsAlone, IsSized, acting}
 
 -- A SEAT knows one history: its own
 abbrev pub sight_of_seat : TableId → Sat → Sight
 sight_of_seat id m = record { room = Some id; config = (acting m).config; last = (acting m).last; thread = (acting m).thread; knows = λ k. k ≡ acting m }
 
--- it is one of the row's own, and sits alone
-pub record IsSeatOf (r : Row) (id : TableId) (m : Sat) (thread : ℕ) : Type 0 where
-  pub table : id ≡ r.table.shared.table_id
-  pub config : (acting m).config ≡ r.config
-  pub last : (acting m).last ≡ r.last
+-- it is one of the row's own, of these sizes and this last serial, and sits alone
+pub record IsSeatOf (row : TableId) (c : Config) (serial : ℕ) (id : TableId) (m : Sat) (thread : ℕ) : Type 0 where
+  pub table : id ≡ row
+  pub config : (acting m).config ≡ c
+  pub last : (acting m).last ≡ serial
   pub alone : IsAlone m
   pub thread_is : (acting m).thread ≡ thread
   pub sized : IsSized (acting m).config (acting m).last
-  pub row : (acting m).thread < (acting m).config.threads
+  pub below : (acting m).thread < (acting m).config.threads
   pub space : InSpace (acting m).config (acting m).holdings
 
--- PLAIN WORDS show any history whose image they are
+-- what is known where nothing has happened yet
+abbrev pub unseen : Config → ℕ → Known
+unseen config last = record { config = config; last = last; thread = 0; seen = []; holdings = empty; taken = 0 }
+
+-- thread 0 alone holds something
+abbrev pub alone : Holdings → ℕ → Holdings
+alone g = hold (λ t. empty) 0 g
+
+-- PLAIN WORDS show any legal history whose image they are
 pub record Depicts (words : List ℕ) (k : Known) : Type 0 where
+  pub legal : IsLegal k.config k.last k.seen
   pub image : IsImage k.config k.last words (state_of k) (alone k.holdings)
   pub space : InSpace k.config k.holdings
 
@@ -44,7 +52,3 @@ pub record IsOpenedAlone (asked : Config) (last : ℕ) (c : Config) (words : Lis
   pub fresh_is : fresh ≡ true
   pub hint_is : hint ≡ 0
   pub nothing : Depicts words (unseen asked last)
-
--- a seat's pass has looked at the gate, and knows what others did
-abbrev pub LooksWith : Sat → Sat → Type 0
-LooksWith m m' = (n : ℕ) × Tells (λ k found acts k'. (acts ≡ Meet ∷ []) × keeps k k') m n m'

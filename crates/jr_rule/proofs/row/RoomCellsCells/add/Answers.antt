@@ -1,0 +1,15 @@
+use Rattle.std.proofs.Common.{◌+◌, ◌%◌, ◌^◌}
+use Rattle.jr_rule.proofs.RuleKept.{plays}
+use Rattle.jr_rule.proofs.SeatStepped.{seated, place_here, owes_here, seat_next, seat_stepped}
+use Rattle.jr_rule.proofs.row.RoomCellsCells.add.Goals as goal
+
+pub fetch_add-requires : goal.fetch_add-requires
+fetch_add-requires g c =
+    let s = c.args.self.now in
+    (s.at.table, place_here s.at s.room.now.row.words c.requires, plays _ _ _ _ _ _ _ (seated s.seat.me s.at.alone) _ (λ n. (n + c.args.more) % 2 ^ 64) (λ n. n) g.T.StepKind.told (owes_here s.seat.me c.requires))
+
+pub invariant_of-self : goal.invariant_of-self
+invariant_of-self g c = record { at = seat_next c.fetch_add.ensures.2 c.fetch_add.ensures.0 c.args.self.now.at }
+
+pub returns : goal.returns
+returns g c = seat_stepped c.fetch_add.ensures.2 c.fetch_add.ensures.0
