@@ -26,4 +26,5 @@ returns-clause-step g c =
     let x = c.meet-seat.new.self in
     let z = sight_of_seat s.cells.seat.table_id s.cells.seat.me in
     let t : HasStepped z (sight_of_seat x.seat.table_id x.seat.me) (InRole s.role anything) Met c.meet-seat.ensures.looked.0 = seat_stepped c.meet-seat.ensures.looked.1 c.meet-seat.ensures.same.2 in
-    took_there holder_over refl refl (took s c.new.self t refl refl (Meet ∷ []) (plainly (λ k k' done u. u)) refl refl)
+    let next = record s { cells = x; stands = standing_next t (leaves (plainly {acts = Meet ∷ []} (λ k k' done u. u)) (λ k. refl) (λ k. refl)) refl (seat_sound x.at) s.stands (may_any z refl s.stands) } in
+    took_there holder_over refl refl (took s next t refl refl (Meet ∷ []) (plainly (λ k k' done u. u)) refl refl)
