@@ -3,10 +3,9 @@ ghost use Rattle.std.specs.Prelude.{◌≡◌, [], ◌∷◌};
 ghost use Rattle.jr_model.specs.declared.event.Act.TheVariants.{Meet};
 ghost use Rattle.jr_model.specs.History.{HasMet};
 ghost use Rattle.jr_steps.specs.Knowing.{view, anything, Took, keeps};
-ghost use Rattle.jr_rule.specs.Over.{facts_over};
-ghost use Rattle.jr_rule.specs.Passes.{known_of, IsSame};
+ghost use Rattle.jr_rule.specs.Passes.{facts_of, known_of, IsSame};
 ghost use Rattle.jr_rule.specs.Rule.{acting};
-ghost use Rattle.jr_rule.specs.Rooms.{IsOfRoom};
+ghost use Rattle.jr_rule.specs.Rooms.{IsOfRoom, holder_over};
 
 use crate::env::Env;
 use jr_rule::{Pass, RoomSteps};
@@ -20,7 +19,7 @@ impl<const LAST: u32> Env<RoomSteps<'_, LAST>> {
     pub fn meet(&mut self, pass: Pass) -> Pass
         requires { IsOfRoom self.old.held.steps.cells.room.now pass }
         ensures room { self.new.held.steps.cells.room ≡ self.old.held.steps.cells.room }
-        ensures step { Took facts_over self.old.held.steps self.new.held.steps (Meet ∷ []) anything keeps }
+        ensures step { Took facts_of (holder_over self.old.held.steps) (holder_over self.new.held.steps) (Meet ∷ []) anything keeps }
         ensures met { HasMet (view (known_of pass)) (view (acting self.new.held.steps.cells.seat.me)) }
         ensures other { IsOfRoom self.old.held.steps.cells.room.now result × IsSame pass result }
         ensures frames { self.new.held.frames ≡ self.old.held.frames }
