@@ -16,12 +16,11 @@ pub mod LocalSteps
 pub mod HeapSteps
 pub mod CollectSteps
 pub mod HoldingsInSpace
-pub mod PlainTook
+pub mod PlainWords
 pub mod Zeros
 pub mod Summaries
 pub mod RuleKept
 pub mod Seats
-pub mod PassAfterStep
 pub mod StillSo
 pub mod Told
 pub mod GateOwed
@@ -34,15 +33,7 @@ pub mod FromMayKnow
 pub mod Meeting
 pub mod Ended
 pub mod Gathered
-mod StepTaken
-mod GateReads
-mod PlainStepped
-mod SeatStepped
-mod OneReading
-mod OwedAt
-mod FromMet
-mod SlotReads
-mod HeapReads
-mod CollectReads
-mod PassOver
-mod PlainOpened
+pub mod StepTaken
+pub mod ReadAsActs
+pub mod SeatStepped
+pub mod PassOver

@@ -1,10 +1,9 @@
 -- What the steps of local words and headers owe.
 use Rattle.std.proofs.Common.{◌≡◌, ◌⊎◌, ⊎_elim, ◌+◌, ◌<◌, ◌≤◌, ℕ, Option, Some, None, List, [], ◌∷◌, length, get_or, slice_set, nat_eq, refl, sym, subst, ◌^◌}
-use Rattle.jr_word.specs.Local.{IsLocalPlace}
+use Rattle.jr_word.specs.Local.{IsLocalPlace, local_word}
 use Rattle.jr_word.specs.declared.config.Config.{Config}
 use Rattle.jr_word.specs.declared.header.HeaderParts.{HeaderParts}
 use Rattle.jr_word.specs.Header.{header_word, IsHeader}
-use Rattle.jr_word.specs.Local.{local_word}
 use Rattle.jr_model.specs.declared.event.Role.{Role}
 use Rattle.jr_model.specs.declared.event.Role.TheVariants.{Outside, Within, Knocking, Collecting}
 use Rattle.jr_model.specs.declared.event.Act.TheVariants.{LocalPut, LocalDrop, New}

@@ -11,7 +11,6 @@ use Rattle.jr_steps.specs.Knowing.{Goes}
 use Rattle.jr_rule.specs.Cells.{IsOwed, HasStepped}
 use Rattle.jr_rule.specs.Sights.{sight_of_seat, IsSeatOf}
 use Rattle.jr_rule.specs.Rule.{Sat, IsSeated, IsAlone, IsSized, Owes, Tells, acting, others_of, view_of}
-use Rattle.jr_rule.proofs.PassAfterStep.{acting_is}
 
 -- who sits alone is seated
 pub seated : (m : Sat) → IsAlone m → IsSeated m
@@ -27,7 +26,7 @@ owes_here m {met = met} o = o.owes (acting m) (record { is = refl; config = refl
 
 module _ {told : Known → ℕ → List Act → Known → Type 0} {m m' : Sat} {n : ℕ} (t : Tells told m n m') where
   new_is : t.new ≡ acting m'
-  new_is = sym (acting_is m n m' t)
+  new_is = sym (ap acting t.is)
 
   same_config : (acting m').config ≡ (acting m).config
   same_config = ap (λ (k : Known). k.config) (sym new_is) ∙ t.goes.config

@@ -1,24 +1,63 @@
--- What a step told makes of a thread that steps on words, whoever keeps them.
-use Rattle.std.proofs.Common.{◌≡◌, ◌<◌, ℕ, Bool, false, List, ◌++◌, map, refl, sym, ap, subst, ◌∙◌}
+-- What a step owes at a place and with words that are named otherwise, and what it told makes of the thread that took it.
+use Rattle.std.proofs.Common.{◌≡◌, ◌<◌, ◌≤◌, ℕ, List, sym, subst, eqb, arith, Bool, false, ◌++◌, map, refl, ap, ◌∙◌, true, [], ◌∷◌}
+use prog.Atomic.{either}
+use Rattle.jr_word.specs.declared.config.Config.{Config}
+use Rattle.jr_word.specs.Config.{row_words}
+use Rattle.jr_model.specs.declared.event.Act.{Act}
+use Rattle.jr_steps.specs.declared.known.Known.{Known}
+use Rattle.jr_rule.specs.Image.{local_at, header_at, element_at}
+use Rattle.jr_rule.specs.Rule.{Owes}
+use Rattle.jr_rule.proofs.Images.{local_below}
+use Rattle.jr_rule.proofs.HoldingsInSpace.{element_in_row}
 use Rattle.std.proofs.Math.Logic.{∥∥₁_elim}
 use Rattle.std.proofs.Props.{props}
 use mathlib.Core.Logic.{∥∥₁_map}
-use Rattle.jr_word.specs.declared.config.Config.{Config}
-use Rattle.jr_word.specs.Config.{row_words}
 use Rattle.jr_model.specs.declared.event.Role.{Role}
-use Rattle.jr_model.specs.declared.event.Act.{Act}
-use Rattle.jr_model.specs.History.{by, IsLegal, role_of, role_from}
+use Rattle.jr_model.specs.History.{by, IsLegal, role_of, role_from, state}
 use Rattle.jr_model.proofs.Stays.{role_did}
-use Rattle.jr_steps.specs.declared.known.Known.{Known}
-use Rattle.jr_steps.specs.Knowing.{Took, TookWith, Goes, view, anything, fresh_from}
+use Rattle.jr_steps.specs.Knowing.{Took, TookWith, Goes, view, anything, fresh_from, HasNoLocals}
 use Rattle.jr_steps.proofs.StepFacts.{goes_did}
 use Rattle.jr_rule.specs.declared.cells.Cells.{Ghosts}
 use Rattle.jr_rule.specs.declared.over.StepsOver.{StepsOver}
 use Rattle.jr_rule.specs.Cells.{Sight, IsAmong, AreSoundWords, May, IsOwed, HasStepped, InRole, Knows, IsStanding, stands_at}
 use Rattle.jr_rule.specs.CellLaws.{among_of}
 use Rattle.jr_rule.specs.Over.{facts_over as facts}
-use Rattle.jr_rule.specs.Rule.{Owes}
-use Rattle.jr_rule.proofs.PassAfterStep.{no_locals_next}
+use Rattle.std.specs.List.{AllByRecursion}
+use Rattle.jr_model.specs.declared.event.Act.TheVariants.{LocalPut, LocalDrop}
+use Rattle.jr_model.proofs.Agreement.{spares_places, places_did, all_spared}
+
+-- who is fresh afterwards was so, and has stored no local
+fresh_spares : (f : Bool) (acts : List Act) → fresh_from f acts ≡ true → (f ≡ true) × AllByRecursion (λ a. spares_places a ≡ true) acts
+fresh_spares f [] e = (e, tt)
+fresh_spares f (LocalPut p o ∷ acts) e = let r = (fresh_spares _ acts e).0 in absurd cc
+fresh_spares f (LocalDrop p ∷ acts) e = let r = (fresh_spares _ acts e).0 in absurd cc
+fresh_spares f (_ ∷ acts) e = let r = fresh_spares f acts e in (r.0, (refl, r.1))
+
+pub no_locals_next : (k k' : Known) (acts : List Act) (f : Bool) → Goes k acts k' → fresh_from f acts ≡ true → (f ≡ true → HasNoLocals k) → HasNoLocals k'
+no_locals_next k k' acts f g e none p =
+    let r = fresh_spares f acts e in
+    let d = goes_did g in
+    ap (λ l. l p) (places_did acts d ∙ all_spared ((state k.seen).locals k.thread) acts r.1) ∙ none r.0 p
+
+module _ (k : Known) (told : ℕ → List Act → Known → Type 0) {i j : ℕ} (at : i ≡ j) where
+  pub load_at : Owes k i (λ n. n) told → Owes k j (λ n. n) told
+  load_at = subst (λ z. Owes k z (λ n. n) told) at
+
+  pub store_at : {v w : ℕ} → v ≡ w → Owes k i (λ n. v) (λ n. told v) → Owes k j (λ n. w) (λ n. told w)
+  store_at e = subst (λ (z : ℕ × ℕ). Owes k z.0 (λ n. z.1) (λ n. told z.1)) (λ x. (at x, e x))
+
+  pub exchange_at : {old old' new new' : ℕ} → old ≡ old' → new ≡ new' → Owes k i (λ n. either (eqb n old) new n) told → Owes k j (λ n. either (eqb n old') new' n) told
+  exchange_at a b = subst (λ (z : ℕ × ℕ × ℕ). Owes k z.0 (λ n. either (eqb n z.1) z.2 n) told) (λ x. (at x, a x, b x))
+
+-- a place of the row lies in it
+pub local_in : (c : Config) (t p : ℕ) {at : ℕ} → at ≡ local_at c t p → t < c.threads → p < c.locals → at < row_words c
+local_in c t p is row l = let below = local_below c t p row l in omega arith
+
+pub element_in : (c : Config) (x : ℕ) {at : ℕ} → at ≡ element_at c x → x < c.words → at < row_words c
+element_in c x is l = subst (λ n. n < row_words c) (sym is) (element_in_row c x l)
+
+pub header_in : (c : Config) (o : ℕ) {at : ℕ} → at ≡ header_at c o → 1 ≤ o → o ≤ c.objects → at < row_words c
+header_in c o is low high = omega arith
 
 -- what is told of the number found says that these acts were done, and shows this
 pub record Reads (z : Sight) (r : Role) (met : Known → Type 0) (told : Known → ℕ → List Act → Known → Type 0) (n : ℕ) (acts : Known → List Act) (shows : Known → Known → Type 0) : Type 0 where

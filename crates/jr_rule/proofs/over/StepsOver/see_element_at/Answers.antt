@@ -2,12 +2,11 @@ use Rattle.std.proofs.Common.{◌≡◌, ◌+◌, refl, sym, ap, ◌∙◌}
 use Rattle.std.proofs.Math.Logic.{∥∥₁_elim}
 use Rattle.std.proofs.Props.{props}
 use Rattle.jr_rule.specs.Image.{element_at}
-use Rattle.jr_rule.proofs.FromMet.{known_few}
+use Rattle.jr_rule.proofs.FromMayKnow.{known_few}
 use Rattle.jr_rule.proofs.HeapOwed.{sees_element}
-use Rattle.jr_rule.proofs.HeapReads.{plainly}
-use Rattle.jr_rule.proofs.OwedAt.{load_at, element_in}
+use Rattle.jr_rule.proofs.ReadAsActs.{plainly}
+use Rattle.jr_rule.proofs.StepTaken.{load_at, element_in, may_in, owed, leaves, standing_next, took}
 use Rattle.jr_rule.proofs.Told.{SawElement}
-use Rattle.jr_rule.proofs.StepTaken.{may_in, owed, leaves, standing_next, took}
 use Rattle.jr_rule.proofs.over.StepsOver.see_element_at.Goals as goal
 
 pub load-requires : goal.load-requires

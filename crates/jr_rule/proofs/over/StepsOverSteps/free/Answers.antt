@@ -3,13 +3,12 @@ use Rattle.jr_word.specs.Slot.{slot_word}
 use Rattle.jr_rule.specs.Slots.{parts_once_free}
 use Rattle.jr_rule.proofs.ActEffects.{freeing_role, freeing_fresh}
 use Rattle.jr_rule.proofs.FromMayKnow.{looked_can, looked_object}
-use Rattle.jr_rule.proofs.OwedAt.{exchange_at}
+use Rattle.jr_rule.proofs.StepTaken.{exchange_at, may_in, owed, leaves, standing_next, took}
 use Rattle.jr_rule.proofs.SlotOwed.{frees_slot}
-use Rattle.jr_rule.proofs.SlotReads.{freeing}
+use Rattle.jr_rule.proofs.ReadAsActs.{freeing}
 use Rattle.jr_rule.proofs.Slots.{names_object}
 use Rattle.jr_rule.proofs.Told.{Freed}
 use Rattle.jr_rule.specs.Over.{facts_over as facts}
-use Rattle.jr_rule.proofs.StepTaken.{may_in, owed, leaves, standing_next, took}
 use Rattle.jr_rule.proofs.over.StepsOverSteps.free.Goals as goal
 
 pub reference-requires : goal.reference-requires

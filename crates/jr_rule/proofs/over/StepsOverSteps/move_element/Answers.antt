@@ -1,13 +1,11 @@
 use Rattle.std.proofs.Common.{◌≡◌, ◌+◌, refl, sym, ap, ◌∙◌, arith}
 use Rattle.jr_rule.specs.Image.{element_at}
 use Rattle.jr_rule.proofs.CollectOwed.{moves_element}
-use Rattle.jr_rule.proofs.FromMayKnow.{move_few}
-use Rattle.jr_rule.proofs.FromMet.{move_is}
-use Rattle.jr_rule.proofs.HeapReads.{plainly}
-use Rattle.jr_rule.proofs.OwedAt.{store_at, element_in}
+use Rattle.jr_rule.proofs.FromMayKnow.{move_few, move_is}
+use Rattle.jr_rule.proofs.ReadAsActs.{plainly}
+use Rattle.jr_rule.proofs.StepTaken.{store_at, element_in, may_in, owed, leaves, standing_next, took}
 use Rattle.jr_rule.proofs.CollectTold.{Moved}
 use Rattle.jr_rule.specs.Over.{facts_over as facts}
-use Rattle.jr_rule.proofs.StepTaken.{may_in, owed, leaves, standing_next, took}
 use Rattle.jr_rule.proofs.over.StepsOverSteps.move_element.Goals as goal
 
 pub overflow_add-place : goal.overflow_add-place

@@ -1,11 +1,10 @@
 use Rattle.std.proofs.Common.{◌≡◌, ◌+◌, refl, sym, ap, ◌∙◌, arith}
 use Rattle.jr_rule.specs.Image.{element_at}
 use Rattle.jr_rule.proofs.CollectOwed.{scans_element}
-use Rattle.jr_rule.proofs.CollectReads.{element_scan}
-use Rattle.jr_rule.proofs.FromMet.{known_few, there_is}
-use Rattle.jr_rule.proofs.OwedAt.{load_at, element_in}
+use Rattle.jr_rule.proofs.ReadAsActs.{element_scan}
+use Rattle.jr_rule.proofs.FromMayKnow.{known_few, there_is}
+use Rattle.jr_rule.proofs.StepTaken.{load_at, element_in, may_in, owed, leaves, standing_next, took}
 use Rattle.jr_rule.proofs.CollectTold.{ScannedElement}
-use Rattle.jr_rule.proofs.StepTaken.{may_in, owed, leaves, standing_next, took}
 use Rattle.jr_rule.proofs.over.StepsOverSteps.scan_element.Goals as goal
 
 pub overflow_add-header : goal.overflow_add-header

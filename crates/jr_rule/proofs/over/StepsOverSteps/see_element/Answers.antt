@@ -1,5 +1,5 @@
 use Rattle.std.proofs.Common.{arith}
-use Rattle.jr_rule.proofs.FromMet.{known_few}
+use Rattle.jr_rule.proofs.FromMayKnow.{known_few}
 use Rattle.jr_rule.proofs.StepTaken.{may_in}
 use Rattle.jr_rule.proofs.over.StepsOverSteps.see_element.Goals as goal
 

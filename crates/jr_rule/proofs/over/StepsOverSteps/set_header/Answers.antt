@@ -2,10 +2,9 @@ use Rattle.std.proofs.Common.{◌≡◌, refl, sym, ap, ◌∙◌}
 use Rattle.jr_rule.specs.Image.{header_at}
 use Rattle.jr_rule.proofs.CollectOwed.{places_header}
 use Rattle.jr_rule.proofs.CollectTold.{Placed}
-use Rattle.jr_rule.proofs.FromMet.{place_is}
-use Rattle.jr_rule.proofs.HeapReads.{plainly}
-use Rattle.jr_rule.proofs.OwedAt.{store_at, header_in}
-use Rattle.jr_rule.proofs.StepTaken.{may_in, owed, leaves, standing_next, took}
+use Rattle.jr_rule.proofs.FromMayKnow.{place_is}
+use Rattle.jr_rule.proofs.ReadAsActs.{plainly}
+use Rattle.jr_rule.proofs.StepTaken.{store_at, header_in, may_in, owed, leaves, standing_next, took}
 use Rattle.jr_rule.proofs.over.StepsOverSteps.set_header.Goals as goal
 
 pub store-requires : goal.store-requires

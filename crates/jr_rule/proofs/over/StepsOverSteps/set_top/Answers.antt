@@ -1,9 +1,8 @@
 use Rattle.std.proofs.Common.{rules, refl, sym}
 use Rattle.jr_rule.proofs.CollectOwed.{settles_top, below_is}
 use Rattle.jr_rule.proofs.CollectTold.{SettledTop}
-use Rattle.jr_rule.proofs.HeapReads.{plainly}
-use Rattle.jr_rule.proofs.OwedAt.{store_at}
-use Rattle.jr_rule.proofs.StepTaken.{may_in, owed, leaves, standing_next, took}
+use Rattle.jr_rule.proofs.ReadAsActs.{plainly}
+use Rattle.jr_rule.proofs.StepTaken.{store_at, may_in, owed, leaves, standing_next, took}
 use Rattle.jr_rule.proofs.over.StepsOverSteps.set_top.Goals as goal
 
 pub store-requires : goal.store-requires

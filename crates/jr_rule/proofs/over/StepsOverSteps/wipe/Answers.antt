@@ -1,12 +1,10 @@
 use Rattle.std.proofs.Common.{rules, refl, sym, subst, ◌<◌}
 use Rattle.jr_word.specs.declared.config.Config.{Config}
 use Rattle.jr_rule.proofs.CollectOwed.{wipes_slot}
-use Rattle.jr_rule.proofs.CollectReads.{wiped_some}
+use Rattle.jr_rule.proofs.ReadAsActs.{wiped_some, plainly}
 use Rattle.jr_rule.proofs.CollectTold.{Wiped}
-use Rattle.jr_rule.proofs.FromMet.{wipe_is}
-use Rattle.jr_rule.proofs.HeapReads.{plainly}
-use Rattle.jr_rule.proofs.OwedAt.{exchange_at}
-use Rattle.jr_rule.proofs.StepTaken.{may_in, owed, leaves, standing_next, took}
+use Rattle.jr_rule.proofs.FromMayKnow.{wipe_is}
+use Rattle.jr_rule.proofs.StepTaken.{exchange_at, may_in, owed, leaves, standing_next, took}
 use Rattle.jr_rule.proofs.over.StepsOverSteps.wipe.Goals as goal
 
 pub pack-looked-requires : goal.pack-looked-requires

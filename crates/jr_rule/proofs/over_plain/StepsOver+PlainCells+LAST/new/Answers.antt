@@ -1,7 +1,7 @@
 use Rattle.std.proofs.Common.{◌≡◌, ◌<◌, ◌∙◌, rules, true, arith}
 use Rattle.jr_word.specs.Config.{in_limits, IsLimited}
 use Rattle.jr_rule.specs.CellLaws.{words_sound}
-use Rattle.jr_rule.proofs.PlainOpened.{opened_standing, opened_alone}
+use Rattle.jr_rule.proofs.PlainWords.{opened_standing, opened_alone}
 use Rattle.jr_rule.proofs.Zeros.{all_zero, zeros_wide, depicts_unseen}
 use Rattle.jr_rule.proofs.over_plain.StepsOver+PlainCells+LAST.new.Goals as goal
 

@@ -5,7 +5,7 @@ use Rattle.jr_model.specs.State.{summary as summary_of}
 use Rattle.jr_steps.specs.Knowing.{state_of}
 use Rattle.jr_rule.specs.CellLaws.{among_of}
 use Rattle.jr_rule.specs.Sights.{sight_of_words}
-use Rattle.jr_rule.proofs.PlainOpened.{seen_history, some_history}
+use Rattle.jr_rule.proofs.PlainWords.{seen_history, some_history}
 use Rattle.jr_rule.proofs.over_plain.StepsOver+PlainCells+LAST.summary.Goals as goal
 
 pub summary-requires-clause-history : goal.summary-requires-clause-history

@@ -1,5 +1,5 @@
 use Rattle.std.proofs.Common.{◌+◌, ◌%◌, ◌^◌, ap, slice_set}
-use Rattle.jr_rule.proofs.PlainStepped.{stepped}
+use Rattle.jr_rule.proofs.PlainWords.{stepped}
 use Rattle.jr_rule.proofs.plain_cells.PlainCellsCells.add.Goals as goal
 
 pub returns : goal.returns

@@ -1,7 +1,7 @@
 use Rattle.std.proofs.Common.{get_or, slice_set, sym, ap, ◌∙◌}
 use lib.Seq.{set-get_or}
 use Rattle.jr_rule.proofs.LegalSteps.{won, lost}
-use Rattle.jr_rule.proofs.PlainStepped.{stepped}
+use Rattle.jr_rule.proofs.PlainWords.{stepped}
 use Rattle.jr_rule.proofs.plain_cells.PlainCellsCells.exchange.Goals as goal
 
 pub returns-then-found-old : goal.returns-then-found-old

@@ -1,6 +1,6 @@
 use Rattle.std.proofs.Common.{sym}
 use lib.Seq.{set-get_or}
-use Rattle.jr_rule.proofs.PlainStepped.{stepped}
+use Rattle.jr_rule.proofs.PlainWords.{stepped}
 use Rattle.jr_rule.proofs.plain_cells.PlainCellsCells.load.Goals as goal
 
 pub returns : goal.returns
