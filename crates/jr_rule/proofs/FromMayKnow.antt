@@ -76,8 +76,8 @@ module _ (k : Known) where
 
 -- where a known element, or a word of one's own, is lies in the array space
 module _ {z : Sight} (sound : AreSoundWords z) {r : Role} {met : Known → Type 0} (may : May z (InRole r met)) where
-  pub known_few : (o : ℕ) (h : HeaderParts) (i : ℕ) → ((k : Known) → met k → KnowsHeader o h k) → i < h.length → h.place + i < z.config.words
+  pub known_few : (o : ℕ) (h : HeaderParts) (i : ℕ) → ((k : Known) → met k → KnowsHeader o h k) → i < h.length → h.place + i < z.first.config.words
   known_few o h i knows l = ∥∥₁_elim may (hlevel props) (λ k. subst (λ (c : Config). h.place + i < c.words) (k.1).config ((sound.space k.0 k.1).elements o h (knows k.0 k.2.1) i l))
 
-  pub own_few : (place i : ℕ) → ((k : Known) → met k → HasWord place i k) → place + i < z.config.words
+  pub own_few : (place i : ℕ) → ((k : Known) → met k → HasWord place i k) → place + i < z.first.config.words
   own_few place i has = ∥∥₁_elim may (hlevel props) (λ k. subst (λ (c : Config). place + i < c.words) (k.1).config ((sound.space k.0 k.1).own place i (has k.0 k.2.1)))

@@ -19,7 +19,7 @@ use Rattle.jr_rule.specs.Rule.{Sat, IsHeld, acting}
 
 pub standing_of_held : {id : TableId} {m : Sat} {thread : ℕ} {role : Role} {fresh : Bool} {hint : ℕ} → IsHeld m thread role fresh hint → IsStanding (sight_of_seat id m) role fresh hint
 standing_of_held {m = m} h = record {
-  some = ∥∥₁_map h.legal (λ l. (acting m, record { is = refl; pass = record { config = refl; last = refl; thread = refl; role = h.role_is; legal = l } }));
+  some = ∥∥₁_map h.legal (λ l. (acting m, (refl, record { config = refl; last = refl; thread = refl; role = h.role_is; legal = l })));
   unused = λ f k s. subst HasNoLocals (sym s.is) (h.unused f);
   below = h.below;
 }
@@ -30,8 +30,8 @@ held_of_standing {m = m} {thread} {role} {fresh} {hint} a s =
     let most = a.sized.limited.threads.1 in record {
       alone = a.alone;
       thread_is = a.thread_is;
-      role_is = ∥∥₁_elim s.some (hlevel props) (λ k. subst (λ z. role_of (view z) ≡ role) (k.1).is (k.1).pass.role);
-      legal = ∥∥₁_map s.some (λ k. subst (λ (z : Known). IsLegal z.config z.last z.seen) (k.1).is (k.1).pass.legal);
+      role_is = ∥∥₁_elim s.some (hlevel props) (λ k. subst (λ z. role_of (view z) ≡ role) (k.1).0 (k.1).1.role);
+      legal = ∥∥₁_map s.some (λ k. subst (λ (z : Known). IsLegal z.config z.last z.seen) (k.1).0 (k.1).1.legal);
       sized = a.sized;
       row = below;
       few = omega arith;

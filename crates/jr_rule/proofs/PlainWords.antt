@@ -14,12 +14,12 @@ use Rattle.jr_rule.proofs.LegalSteps.{then, LegalStep}
 use Rattle.std.proofs.lemmas.List.{append-nil}
 use Rattle.jr_word.specs.declared.config.Config.{Config}
 use Rattle.jr_model.proofs.Moments.{prefix_self}
-use Rattle.jr_rule.specs.Cells.{IsOwed, IsAmong, StepsTo, HasStepped, AreSoundWords, IsStanding, Knows, stands_at}
+use Rattle.jr_rule.specs.Cells.{IsOwed, IsAmong, StepsTo, HasStepped, AreSoundWords, IsStanding, stands_at}
 use Rattle.jr_rule.specs.Image.{IsImage}
 use Rattle.jr_rule.specs.Rule.{IsFound, IsSized, known_at}
 use Rattle.jr_rule.proofs.HoldingsInSpace.{holdings_in_space}
 use Rattle.jr_model.specs.declared.event.Role.TheVariants.{Outside}
-use Rattle.jr_steps.specs.Knowing.{state_of}
+use Rattle.jr_steps.specs.Knowing.{state_of, IsOf}
 use Rattle.jr_rule.specs.CellLaws.{among_of}
 use Rattle.jr_rule.specs.Shown.{IsHistoryOf, HasHistory}
 
@@ -90,12 +90,12 @@ module _ {c : Config} {last : ℕ} {words words' : List ℕ} {met : Known → Ty
       }
 
   pub stepped : HasStepped (sight_of_words c last words) (sight_of_words c last words') met told n
-  stepped = record { room = refl; config = refl; last = refl; thread = refl; makes = makes }
+  stepped = record { first = refl; makes = makes }
 
 module _ (c : Config) (last : ℕ) (words : List ℕ) where
   module _ (nothing : Depicts words (unseen c last)) where
-    nothing_known : Knows (sight_of_words c last words).knows (stands_at (sight_of_words c last words) Outside true) (unseen c last)
-    nothing_known = record { is = nothing; pass = record { config = refl; last = refl; thread = refl; role = refl; legal = tt } }
+    nothing_known : Depicts words (unseen c last) × IsOf (stands_at (sight_of_words c last words) Outside true) (unseen c last)
+    nothing_known = (nothing, record { config = refl; last = refl; thread = refl; role = refl; legal = tt })
 
     pub opened_standing : AreSoundWords (sight_of_words c last words) → 0 < c.slots → IsStanding (sight_of_words c last words) Outside true 0
     opened_standing sound some = record {

@@ -10,9 +10,9 @@ use Rattle.jr_model.specs.declared.event.Act.{Act}
 use Rattle.jr_model.specs.declared.event.Act.TheVariants.{Shut, ShutBusy, Reopen}
 use Rattle.jr_steps.specs.declared.loads.GateLoad.{GateLoad}
 use Rattle.jr_steps.specs.Acts.{act_of_entry, act_of_exit, all_counted, act_of_gate_load, act_of_slot_load, act_of_claim, act_of_free, act_of_put, found_of, acts_of_publication, acts_of_top_load, act_of_reservation, handle_of}
-use Rattle.jr_steps.specs.Knowing.{fresh_from, anything, keeps, lets_go, CanReopen, Goes, ShowsGate, HasObject, HasOptional, HasLooked, IsFreeSlot, LostClaim, ShowsSlot, words_for, IsFilled, ShowsHeader, ShowsPublished, ShowsUsed, WasUsed, ShowsRange, Standing}
+use Rattle.jr_steps.specs.Knowing.{fresh_from, anything, keeps, lets_go, CanReopen, Goes, ShowsGate, HasObject, HasOptional, HasLooked, IsFreeSlot, LostClaim, ShowsSlot, words_for, IsFilled, ShowsHeader, ShowsPublished, ShowsUsed, WasUsed, ShowsRange, IsOf, Standing}
 use Rattle.jr_steps.specs.declared.known.Known.{Known}
-use Rattle.jr_rule.specs.Cells.{Sight, InRole, May, HasStepped, Knows}
+use Rattle.jr_rule.specs.Cells.{Sight, InRole, May, HasStepped}
 use Rattle.jr_rule.specs.Over.{LooksSo}
 use Rattle.jr_rule.proofs.Told.{Entered, Left, Barred, Reopened, SawGate, SawSlot, Claimed, Freed, Put, SawHeader, Published, SawTop, ClaimedTop, used_word}
 use Rattle.jr_rule.proofs.Readings.{is_read, read_once}
@@ -140,7 +140,7 @@ publishing {n = n} o h = record { read = λ k k' done among e m s. (published_ac
 
 -- a word of the top has one reading
 module _ {n : ℕ} (q : Option TopParts) (complete : (p : TopParts) → IsTop p → n ≡ top_word p → q ≡ Some p) (p : TopParts) (is : q ≡ Some p) where
-  pub top_load : {z : Sight} (name : TopLoad) → Reads z Within anything (SawTop name) n (λ k. acts_of_top_load z.config.words name p.used) (λ j k. ShowsUsed p.used k × keeps j k)
+  pub top_load : {z : Sight} (name : TopLoad) → Reads z Within anything (SawTop name) n (λ k. acts_of_top_load z.first.config.words name p.used) (λ j k. ShowsUsed p.used k × keeps j k)
   top_load {z} name = record {
     read = λ k k' done among e m s.
         let read = top_is n q s.0 p s.1 s.2 complete is in
@@ -194,9 +194,9 @@ pub local_scan_leaves : {z : Sight} {n : ℕ} (t place : ℕ) {met : Known → T
 local_scan_leaves t place {role = role} {fresh = fresh} = record { left = λ k k' done among e m s. (ap (role_from role) (sym s.3), ap (fresh_from fresh) (sym s.3)) }
 
 -- the object of a weak reference that may be cleared has a number that is not 0
-pub wiped_some : {knows : Known → Type 0} {s : Standing} (i serial o : ℕ) → ∥ ((k : Known) × Knows knows s k × CanWipe i serial o k) ∥₁ → 0 < o
+pub wiped_some : {knows : Known → Type 0} {s : Standing} (i serial o : ℕ) → ∥ ((k : Known) × (knows k × IsOf s k) × CanWipe i serial o k) ∥₁ → 0 < o
 wiped_some i serial o may = ∥∥₁_elim may (hlevel props) (λ k.
-    let legal = (k.1).pass.legal in
+    let legal = (k.1).1.legal in
     let present = (named_is_present k.0.config k.0.last k.0.seen legal).0 (handle_of Weak serial i) o k.2.0 in
     let low = ((in_room k.0.config k.0.last k.0.seen legal).objects o present).0 in omega arith)
 

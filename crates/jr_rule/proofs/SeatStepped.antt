@@ -1,10 +1,11 @@
 -- One operation on a room's words: what it tells of the seat is what it makes of what the thread knows.
-use Rattle.std.proofs.Common.{◌≡◌, ◌<◌, ℕ, Some, None, List, [], ◌∷◌, refl, sym, ap, subst, ◌∙◌}
+use Rattle.std.proofs.Common.{◌≡◌, ◌<◌, ℕ, true, Some, None, List, [], ◌∷◌, refl, sym, ap, subst, ◌∙◌}
 use mathlib.Core.Logic.{∥∥₁_map}
 use Rattle.atomic_table.specs.Seated.{TableId}
 use Rattle.jr_word.specs.declared.config.Config.{Config}
 use Rattle.jr_word.specs.Config.{row_words}
 use Rattle.jr_model.specs.declared.event.Act.{Act}
+use Rattle.jr_model.specs.declared.event.Role.TheVariants.{Outside}
 use Rattle.jr_steps.specs.declared.known.Known.{Known}
 use Rattle.jr_steps.specs.Holdings.{InSpace}
 use Rattle.jr_steps.specs.Knowing.{Goes}
@@ -56,10 +57,7 @@ module _ {told : Known → ℕ → List Act → Known → Type 0} {m m' : Sat} {
   -- and the step was taken
   pub seat_stepped : {id id' : TableId} {met : Known → Type 0} → id' ≡ id → HasStepped (sight_of_seat id m) (sight_of_seat id' m') met told n
   seat_stepped e = record {
-    room = λ i. Some (e i);
-    config = same_config;
-    last = same_last;
-    thread = same_thread;
+    first = λ i. record { room = Some (e i); config = same_config i; last = same_last i; thread = same_thread i; role = Outside; fresh = true };
     makes = λ k h q.
         let g = t.goes in record {
           new = t.new;

@@ -15,11 +15,11 @@ use mathlib.Core.Logic.{∥∥₁_map}
 use Rattle.jr_model.specs.declared.event.Role.{Role}
 use Rattle.jr_model.specs.History.{by, IsLegal, role_of, role_from, state}
 use Rattle.jr_model.proofs.Stays.{role_did}
-use Rattle.jr_steps.specs.Knowing.{Took, TookWith, Goes, view, anything, fresh_from, HasNoLocals}
+use Rattle.jr_steps.specs.Knowing.{Took, TookWith, Goes, view, anything, fresh_from, HasNoLocals, IsOf, Standing}
 use Rattle.jr_steps.proofs.StepFacts.{goes_did}
 use Rattle.jr_rule.specs.declared.cells.Cells.{Ghosts}
 use Rattle.jr_rule.specs.declared.over.StepsOver.{StepsOver}
-use Rattle.jr_rule.specs.Cells.{Sight, IsAmong, AreSoundWords, May, IsOwed, HasStepped, InRole, Knows, IsStanding, stands_at}
+use Rattle.jr_rule.specs.Cells.{Sight, IsAmong, AreSoundWords, May, IsOwed, HasStepped, InRole, IsStanding, stands_at}
 use Rattle.jr_rule.specs.CellLaws.{among_of}
 use Rattle.jr_rule.specs.Over.{facts_over as facts}
 use Rattle.std.specs.List.{AllByRecursion}
@@ -64,14 +64,14 @@ pub record Reads (z : Sight) (r : Role) (met : Known → Type 0) (told : Known �
   pub read : (k k' : Known) (done : List Act) → IsAmong z k → role_of (view k) ≡ r → met k → told k n done k' → (done ≡ acts k) × shows k k'
 
 -- what may be known of the thread is seen, in its role
-pub may_in : (z : Sight) {role r : Role} {fresh : Bool} → role ≡ r → {met : Known → Type 0} → ∥ ((k : Known) × Knows z.knows (stands_at z role fresh) k × met k) ∥₁ → May z (InRole r met)
-may_in z {role} {r} {fresh} e may = ∥∥₁_map may (λ k. (k.0, among_of z role fresh k.0 k.1, ((k.1).pass.role ∙ e, k.2)))
+pub may_in : (z : Sight) {role r : Role} {fresh : Bool} → role ≡ r → {met : Known → Type 0} → ∥ ((k : Known) × (z.knows k × IsOf (stands_at z role fresh) k) × met k) ∥₁ → May z (InRole r met)
+may_in z {role} {r} {fresh} e may = ∥∥₁_map may (λ k. (k.0, among_of z role fresh k.0 k.1, ((k.1).1.role ∙ e, k.2)))
 
 pub may_any : (z : Sight) {role r : Role} {fresh : Bool} {hint : ℕ} → role ≡ r → IsStanding z role fresh hint → May z (InRole r anything)
-may_any z {role} {r} {fresh} e s = ∥∥₁_map s.some (λ k. (k.0, among_of z role fresh k.0 k.1, ((k.1).pass.role ∙ e, tt)))
+may_any z {role} {r} {fresh} e s = ∥∥₁_map s.some (λ k. (k.0, among_of z role fresh k.0 k.1, ((k.1).1.role ∙ e, tt)))
 
 -- a step is owed by what is known of it in the thread's role
-pub owed : {z : Sight} {r : Role} {met : Known → Type 0} {i : ℕ} {f : ℕ → ℕ} {told : Known → ℕ → List Act → Known → Type 0} → i < row_words z.config → May z (InRole r met) → ((k : Known) → IsAmong z k → role_of (view k) ≡ r → ∥ met k ∥₁ → Owes k i f (told k))
+pub owed : {z : Sight} {r : Role} {met : Known → Type 0} {i : ℕ} {f : ℕ → ℕ} {told : Known → ℕ → List Act → Known → Type 0} → i < row_words z.first.config → May z (InRole r met) → ((k : Known) → IsAmong z k → role_of (view k) ≡ r → ∥ met k ∥₁ → Owes k i f (told k))
     → IsOwed z (InRole r met) i f told
 owed place may owes = record { place = place; may = may; owes = λ k among m. owes k among (∥∥₁_elim m (hlevel props) (λ q. q.0)) (∥∥₁_map m (λ q. q.1)) }
 
@@ -90,18 +90,18 @@ leaves reads {role} {role'} {fresh} {fresh'} role_is fresh_is = record {
 module _ {z z' : Sight} {r : Role} {met : Known → Type 0} {told : Known → ℕ → List Act → Known → Type 0} {n : ℕ} {role role' : Role} {fresh fresh' : Bool}
     (t : HasStepped z z' (InRole r met) told n) (left : Leaves z r met told n role role' fresh fresh') (is : role ≡ r) where
   -- something is known of the new
-  known_next : (k : Known) (h : IsAmong z k) (e : role_of (view k) ≡ r) (m : met k) → Knows z'.knows (stands_at z' role' fresh') (t.makes k h (e, m)).new
+  known_next : (k : Known) (h : IsAmong z k) (e : role_of (view k) ≡ r) (m : met k) → z'.knows (t.makes k h (e, m)).new × IsOf (stands_at z' role' fresh') (t.makes k h (e, m)).new
   known_next k h e m =
-      let u = t.makes k h (e, m) in record {
-        is = u.is.is;
-        pass = record {
+      let u = t.makes k h (e, m) in (
+        u.is.is,
+        record {
           config = u.is.config;
           last = u.is.last;
           thread = u.is.thread;
           role = role_did u.acts (goes_did u.goes) ∙ (ap (λ x. role_from x u.acts) (e ∙ sym is) ∙ sym (left.left k u.new u.acts h e m u.says).0);
           legal = subst (λ (y : Config × ℕ). IsLegal y.0 y.1 (u.new).seen) (λ i. (sym u.goes.config i, sym u.goes.last i)) u.goes.legal;
-        };
-      }
+        },
+      )
 
   -- SO THE THREAD STANDS as it must
   pub standing_next : AreSoundWords z' → {hint : ℕ} → IsStanding z role fresh hint → May z (InRole r met) → IsStanding z' role' fresh' hint
@@ -111,7 +111,7 @@ module _ {z z' : Sight} {r : Role} {met : Known → Type 0} {told : Known → �
         let u = t.makes k.0 k.1 k.2 in
         let none = no_locals_next k.0 u.new u.acts fresh u.goes (sym (left.left k.0 u.new u.acts k.1 k.2.0 k.2.1 u.says).1 ∙ f) (λ e. s.unused e k.0 k.1) in
         sound.locals u.new k' u.is h' none p);
-    below = subst (λ (c : Config). hint < c.slots) (sym t.config) s.below;
+    below = subst (λ (c : Config). hint < c.slots) (ap (λ (x : Standing). x.config) (sym t.first)) s.below;
   }
 
 module _ {C : Type 0} {G : Ghosts C} (old new : StepsOver C G) {r : Role} {met : Known → Type 0} {told : Known → ℕ → List Act → Known → Type 0} {n : ℕ} {shows : Known → Known → Type 0}
@@ -121,17 +121,17 @@ module _ {C : Type 0} {G : Ghosts C} (old new : StepsOver C G) {r : Role} {met :
       → TookWith facts old new acts (record (facts old).stands { role = role; fresh = fresh }) met shows
   took_with {acts} {role} {fresh} reads role_is fresh_is role_next fresh_next =
       let left : Leaves (G.sight old.cells) r met told n old.role new.role old.fresh new.fresh = leaves reads (λ k. role_is ∙ role_next k) (λ k. fresh_is ∙ fresh_next k) in record {
-        stands_is = λ i. record { room = t.room i; config = t.config i; last = t.last i; thread = t.thread i; role = role_is i; fresh = fresh_is i };
+        stands_is = λ i. record (t.first i) { role = role_is i; fresh = fresh_is i };
         hint_is = hint_is;
         goes = λ k h m.
-            let e = h.pass.role ∙ is in
+            let e = h.1.role ∙ is in
             let s = among_of (G.sight old.cells) old.role old.fresh k h in
             let u = t.makes k s (e, m) in
             let read = reads.read k u.new u.acts s e m u.says in
             let g = u.goes in
             let here : Goes k (acts k) u.new = record { config = g.config; last = g.last; thread = g.thread; between = g.between; seen = g.seen ∙ ap (λ l. (k.seen ++ g.between) ++ map (by k.thread) l) read.0; others = g.others; legal = g.legal; taken = g.taken } in
             (u.new, known_next t left is k s e m, here, read.1);
-        alone = λ nobody k h m. (t.makes k (among_of (G.sight old.cells) old.role old.fresh k h) (h.pass.role ∙ is, m)).alone nobody;
+        alone = λ nobody k h m. (t.makes k (among_of (G.sight old.cells) old.role old.fresh k h) (h.1.role ∙ is, m)).alone nobody;
       }
 
   -- with acts that are the same whatever was known
@@ -141,7 +141,7 @@ module _ {C : Type 0} {G : Ghosts C} (old new : StepsOver C G) {r : Role} {met :
 -- what may be known does not depend on whether the pass is fresh
 pub standing_spent : {z : Sight} {role : Role} {fresh : Bool} {hint : ℕ} → IsStanding z role fresh hint → IsStanding z role false hint
 standing_spent s = record {
-  some = ∥∥₁_map s.some (λ k. (k.0, record { is = (k.1).is; pass = record { config = (k.1).pass.config; last = (k.1).pass.last; thread = (k.1).pass.thread; role = (k.1).pass.role; legal = (k.1).pass.legal } }));
+  some = ∥∥₁_map s.some (λ k. (k.0, (k.1.0, record { config = k.1.1.config; last = k.1.1.last; thread = k.1.1.thread; role = k.1.1.role; legal = k.1.1.legal })));
   unused = λ f. absurd cc;
   below = s.below;
 }

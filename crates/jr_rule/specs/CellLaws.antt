@@ -3,8 +3,8 @@ use Rattle.std.specs.Prelude.{ℕ, Bool, ◌≡◌, ◌<◌, ◌^◌, true, Opti
 use mathlib.Core.Logic.{∥∥₁_map}
 use Rattle.jr_model.specs.declared.event.Role.{Role}
 use Rattle.jr_steps.specs.declared.known.Known.{Known}
-use Rattle.jr_steps.specs.Knowing.{anything, HasNoLocals, state_of}
-use Rattle.jr_rule.specs.Cells.{Sight, IsAmong, Knows, IsStanding, stands_at, AreSoundWords}
+use Rattle.jr_steps.specs.Knowing.{anything, HasNoLocals, IsOf, state_of}
+use Rattle.jr_rule.specs.Cells.{Sight, IsAmong, IsStanding, facts_at, stands_at, AreSoundWords}
 use Rattle.std.proofs.Common.{refl, sym, ap, subst, ◌∙◌, arith}
 use Rattle.atomic_table.specs.Seated.{TableId}
 use Rattle.jr_word.specs.declared.config.Config.{Config}
@@ -19,10 +19,10 @@ use Rattle.jr_rule.specs.Image.{local_at}
 use Rattle.jr_rule.specs.Rule.{Sat}
 
 module _ (z : Sight) (role : Role) (fresh : Bool) where
-  pub among_of : (k : Known) → Knows z.knows (stands_at z role fresh) k → IsAmong z k
-  among_of k h = record { is = h.is; config = h.pass.config; last = h.pass.last; thread = h.pass.thread }
+  pub among_of : (k : Known) → z.knows k × IsOf (stands_at z role fresh) k → IsAmong z k
+  among_of k h = record { is = h.0; config = h.1.config; last = h.1.last; thread = h.1.thread }
 
-  pub some_of : (hint : ℕ) → IsStanding z role fresh hint → ∥ ((k : Known) × Knows z.knows (stands_at z role fresh) k × anything k) ∥₁
+  pub some_of : (hint : ℕ) → IsStanding z role fresh hint → ∥ ((k : Known) × (facts_at z role fresh hint).knows k × anything k) ∥₁
   some_of hint s = ∥∥₁_map s.some (λ k. (k.0, k.1, tt))
 
 pub seat_sound : {row id : TableId} {c : Config} {last : ℕ} {m : Sat} {thread : ℕ} → IsSeatOf row c last id m thread → AreSoundWords (sight_of_seat id m)

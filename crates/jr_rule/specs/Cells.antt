@@ -1,7 +1,5 @@
 -- WORDS THAT ONE THREAD STEPS ON, whoever keeps them: what is known of them, what a kind of step owes there, and what it tells.
-use Rattle.std.specs.Prelude.{◌≡◌, ◌<◌, ℕ, Bool, true, Option, None, List, []}
-use Rattle.atomic_table.specs.Seated.{TableId}
-use Rattle.jr_word.specs.declared.config.Config.{Config}
+use Rattle.std.specs.Prelude.{◌≡◌, ◌<◌, ℕ, Bool, true, None, List, []}
 use Rattle.jr_word.specs.Config.{row_words}
 use Rattle.jr_model.specs.declared.event.Act.{Act}
 use Rattle.jr_model.specs.declared.event.Role.{Role}
@@ -11,25 +9,22 @@ use Rattle.jr_steps.specs.Holdings.{InSpace}
 use Rattle.jr_steps.specs.Knowing.{Facts, Standing, IsOf, Goes, HasNoLocals, view}
 use Rattle.jr_rule.specs.Rule.{IsSized, Owes}
 
--- WHAT IS KNOWN OF THE WORDS: their room (none where no other thread steps on them), its sizes and last serial, the thread that steps, and what it may know
+-- WHAT IS KNOWN OF THE WORDS: how the thread that steps on them stood at first, outside and fresh, in their room (none where no other thread steps on them); and what it may know
 pub record Sight : Type 1 where
-  pub room : Option TableId
-  pub config : Config
-  pub last : ℕ
-  pub thread : ℕ
+  pub first : Standing
   pub knows : Known → Type 0
 
 -- the thread may know this
 pub record IsAmong (z : Sight) (k : Known) : Type 0 where
   pub is : z.knows k
-  pub config : k.config ≡ z.config
-  pub last : k.last ≡ z.last
-  pub thread : k.thread ≡ z.thread
+  pub config : k.config ≡ z.first.config
+  pub last : k.last ≡ z.first.last
+  pub thread : k.thread ≡ z.first.thread
 
 -- what always holds of the words: their sizes fit, the thread is one of the room's, what it holds lies in the space, and whatever it may know agrees on whether it has a local reference
 pub record AreSoundWords (z : Sight) : Type 0 where
-  pub sized : IsSized z.config z.last
-  pub row : z.thread < z.config.threads
+  pub sized : IsSized z.first.config z.first.last
+  pub row : z.first.thread < z.first.config.threads
   pub space : (k : Known) → IsAmong z k → InSpace k.config k.holdings
   pub locals : (k k' : Known) → IsAmong z k → IsAmong z k' → HasNoLocals k → HasNoLocals k'
 
@@ -43,7 +38,7 @@ OwesThere z met i f told = (k : Known) → IsAmong z k → ∥ met k ∥₁ → 
 
 -- A STEP IS OWED at a word of the row: something that may be known meets the condition, and whatever does owes it
 pub record IsOwed (z : Sight) (met : Known → Type 0) (i : ℕ) (f : ℕ → ℕ) (told : Known → ℕ → List Act → Known → Type 0) : Type 0 where
-  pub place : i < row_words z.config
+  pub place : i < row_words z.first.config
   pub may : May z met
   pub owes : OwesThere z met i f told
 
@@ -54,13 +49,10 @@ pub record StepsTo (z z' : Sight) (told : Known → ℕ → List Act → Known �
   pub is : IsAmong z' new
   pub goes : Goes k acts new
   pub says : told k n acts new
-  pub alone : z.room ≡ None → goes.between ≡ []
+  pub alone : z.first.room ≡ None → goes.between ≡ []
 
 pub record HasStepped (z z' : Sight) (met : Known → Type 0) (told : Known → ℕ → List Act → Known → Type 0) (n : ℕ) : Type 0 where
-  pub room : z'.room ≡ z.room
-  pub config : z'.config ≡ z.config
-  pub last : z'.last ≡ z.last
-  pub thread : z'.thread ≡ z.thread
+  pub first : z'.first ≡ z.first
   pub makes : (k : Known) → IsAmong z k → met k → StepsTo z z' told n k
 
 -- the condition, of a thread in this role
@@ -69,17 +61,13 @@ InRole r met k = (role_of (view k) ≡ r) × met k
 
 -- A THREAD THAT STEPS ON THE WORDS: how it stands, and what may be known of it
 abbrev pub stands_at : Sight → Role → Bool → Standing
-stands_at z role fresh = record { room = z.room; config = z.config; last = z.last; thread = z.thread; role = role; fresh = fresh }
-
-pub record Knows (knows : Known → Type 0) (s : Standing) (k : Known) : Type 0 where
-  pub is : knows k
-  pub pass : IsOf s k
+stands_at z role fresh = record (z.first) { role = role; fresh = fresh }
 
 abbrev pub facts_at : Sight → Role → Bool → ℕ → Facts
-facts_at z role fresh hint = record { stands = stands_at z role fresh; knows = Knows z.knows (stands_at z role fresh); hint = hint }
+facts_at z role fresh hint = record { stands = stands_at z role fresh; knows = λ k. z.knows k × IsOf (stands_at z role fresh) k; hint = hint }
 
 -- what always holds of it: it knows something, has no local reference while it is fresh, and its hint is one of the room's slots
 pub record IsStanding (z : Sight) (role : Role) (fresh : Bool) (hint : ℕ) : Type 0 where
-  pub some : ∥ ((k : Known) × Knows z.knows (stands_at z role fresh) k) ∥₁
+  pub some : ∥ ((k : Known) × (facts_at z role fresh hint).knows k) ∥₁
   pub unused : fresh ≡ true → (k : Known) → IsAmong z k → HasNoLocals k
-  pub below : hint < z.config.slots
+  pub below : hint < z.first.config.slots

@@ -15,7 +15,7 @@ use Rattle.jr_rule.specs.Rule.{Sat, IsAlone, IsSized, acting}
 
 -- A SEAT knows one history: its own
 abbrev pub sight_of_seat : TableId → Sat → Sight
-sight_of_seat id m = record { room = Some id; config = (acting m).config; last = (acting m).last; thread = (acting m).thread; knows = λ k. k ≡ acting m }
+sight_of_seat id m = record { first = record { room = Some id; config = (acting m).config; last = (acting m).last; thread = (acting m).thread; role = Outside; fresh = true }; knows = λ k. k ≡ acting m }
 
 -- it is one of the row's own, of these sizes and this last serial, and sits alone
 pub record IsSeatOf (row : TableId) (c : Config) (serial : ℕ) (id : TableId) (m : Sat) (thread : ℕ) : Type 0 where
@@ -43,7 +43,7 @@ pub record Depicts (words : List ℕ) (k : Known) : Type 0 where
   pub space : InSpace k.config k.holdings
 
 abbrev pub sight_of_words : Config → ℕ → List ℕ → Sight
-sight_of_words c last words = record { room = None; config = c; last = last; thread = 0; knows = Depicts words }
+sight_of_words c last words = record { first = record { room = None; config = c; last = last; thread = 0; role = Outside; fresh = true }; knows = Depicts words }
 
 -- A ROW OF PLAIN WORDS AS IT WAS OPENED: of these sizes, with the thread outside and fresh, which knows that nothing has happened yet
 pub record IsOpenedAlone (asked : Config) (last : ℕ) (c : Config) (words : List ℕ) (role : Role) (fresh : Bool) (hint : ℕ) : Type 0 where

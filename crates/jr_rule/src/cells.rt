@@ -34,23 +34,23 @@ pub trait Cells {
 
     /// The sizes of the room.
     fn config(&self) -> Config
-        ensures { result ≡ (sight self.now).config };
+        ensures { result ≡ (sight self.now).first.config };
 
     /// The last serial.
     fn last(&self) -> u32
-        ensures { result ≡ (sight self.now).last };
+        ensures { result ≡ (sight self.now).first.last };
 
     /// The thread that steps.
     fn thread(&self) -> u8
-        ensures { result ≡ (sight self.now).thread };
+        ensures { result ≡ (sight self.now).first.thread };
 
     /// Where the header of object 1 is in the row.
     fn headers(&self) -> usize
-        ensures { result ≡ place_of_header (sight self.now).config 1 };
+        ensures { result ≡ place_of_header (sight self.now).first.config 1 };
 
     /// Where the first word of array space is in the row.
     fn elements(&self) -> usize
-        ensures { result ≡ place_of_element (sight self.now).config 0 };
+        ensures { result ≡ place_of_element (sight self.now).first.config 0 };
 
     /// Loads a word.
     fn load<T: StepKind>(&mut self, at: usize) -> u64
@@ -145,8 +145,8 @@ pub(crate) fn exchange<C: Cells, T: StepKind, A: Copy>(
 /// The place of an object's header in the row.
 #[inline(always)]
 pub(crate) fn header_at<C: Cells>(cells: &C, object: u32) -> usize
-    requires { (1 ≤ object) × (object ≤ (C.sight cells.now).config.objects) }
-    ensures { result ≡ place_of_header (C.sight cells.now).config object }
+    requires { (1 ≤ object) × (object ≤ (C.sight cells.now).first.config.objects) }
+    ensures { result ≡ place_of_header (C.sight cells.now).first.config object }
 {
     cells.headers() + (object as usize - 1)
 }
@@ -154,8 +154,8 @@ pub(crate) fn header_at<C: Cells>(cells: &C, object: u32) -> usize
 /// The place of a word of array space in the row.
 #[inline(always)]
 pub(crate) fn element_at<C: Cells>(cells: &C, place: u32) -> usize
-    requires { place < (C.sight cells.now).config.words }
-    ensures { result ≡ place_of_element (C.sight cells.now).config place }
+    requires { place < (C.sight cells.now).first.config.words }
+    ensures { result ≡ place_of_element (C.sight cells.now).first.config place }
 {
     cells.elements() + place as usize
 }

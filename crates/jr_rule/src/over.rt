@@ -56,7 +56,7 @@ impl<C: Cells> StepsOver<C> {
         requires role { self.old.role ≡ Within }
         requires index { index < header.length }
         requires known { MayKnow facts_over self.old (KnowsHeader object header) }
-        requires place { at ≡ place_of_element (C.sight self.old.cells).config (header.place + index) }
+        requires place { at ≡ place_of_element (C.sight self.old.cells).first.config (header.place + index) }
         ensures { Took facts_over self.old self.new (Read object index result ∷ []) (KnowsHeader object header) keeps }
     {
         let about = (object, header, index);
@@ -78,8 +78,8 @@ impl<C: Cells> StepsOver<C> {
         requires part { start + length elements.old ≤ header.length }
         requires index { index + 4 ≤ length elements.old }
         requires known { MayKnow facts_over self.old (KnowsHeader object header) }
-        requires place { at ≡ place_of_element (C.sight self.old.cells).config 0 + header.place + start + index }
-        ensures config { (C.sight self.new.cells).config ≡ (C.sight self.old.cells).config }
+        requires place { at ≡ place_of_element (C.sight self.old.cells).first.config 0 + header.place + start + index }
+        ensures config { (C.sight self.new.cells).first.config ≡ (C.sight self.old.cells).first.config }
         ensures role { self.new.role ≡ Within }
         ensures size { length elements.new ≡ length elements.old }
         ensures known { MayKnow facts_over self.new (KnowsHeader object header) }
@@ -106,8 +106,8 @@ impl<C: Cells> StepsOver<C> {
         requires part { start + length elements.old ≤ header.length }
         requires index { index < length elements.old }
         requires known { MayKnow facts_over self.old (KnowsHeader object header) }
-        requires place { at ≡ place_of_element (C.sight self.old.cells).config 0 + header.place + start + index }
-        ensures config { (C.sight self.new.cells).config ≡ (C.sight self.old.cells).config }
+        requires place { at ≡ place_of_element (C.sight self.old.cells).first.config 0 + header.place + start + index }
+        ensures config { (C.sight self.new.cells).first.config ≡ (C.sight self.old.cells).first.config }
         ensures role { self.new.role ≡ Within }
         ensures size { length elements.new ≡ length elements.old }
         ensures known { MayKnow facts_over self.new (KnowsHeader object header) }
@@ -132,7 +132,7 @@ impl<C: Cells> StepsOver<C> {
         requires part { start + length elements.old ≤ header.length }
         requires done { done ≤ length elements.old }
         requires known { MayKnow facts_over self.old (KnowsHeader object header) }
-        requires place { first ≡ place_of_element (C.sight self.old.cells).config 0 + header.place + start }
+        requires place { first ≡ place_of_element (C.sight self.old.cells).first.config 0 + header.place + start }
         ensures size { length elements.new ≡ length elements.old }
         ensures steps { ReadsRest object header start E.element_of done self.old self.new elements.old elements.new }
     {
@@ -409,7 +409,7 @@ impl<C: Cells> Steps for StepsOver<C> {
         store::<C, Brand, u32>(&mut self.cells, TOP, new, used);
     }
 
-    ghost fits = { λ s k h. h.pass };
+    ghost fits = { λ s k h. h.1 };
 
     ghost some_known = { λ s. some_of (C.sight s.cells) s.role s.fresh s.hint s.stands };
 

@@ -15,7 +15,7 @@ load-requires g c =
     let z = g.C.Cells.sight s.cells in
     let x = c.args.header.place + c.args.index in
     let few = known_few (g.met.C.Cells.sound s.cells) (may_in (g.C.Cells.sight s.cells) c.requires.role c.requires.known) c.args.object c.args.header c.args.index (λ k h. h) c.requires.index in
-    owed (element_in z.config x c.requires.place few) (may_in (g.C.Cells.sight s.cells) c.requires.role c.requires.known) (λ k among role m.
+    owed (element_in z.first.config x c.requires.place few) (may_in (g.C.Cells.sight s.cells) c.requires.role c.requires.known) (λ k among role m.
     let at : element_at k.config x ≡ c.args.at = ap (λ y. element_at y x) (among.config) ∙ sym c.requires.place in
     load_at k (SawElement c.args.object c.args.index k) at (sees_element k role c.args.object c.args.header (∥∥₁_elim m (hlevel props) (λ q. q)) c.args.index c.requires.index))
 

@@ -14,7 +14,7 @@ use Rattle.jr_rule.proofs.over.StepsOverSteps.claim.Goals as goal
 
 pub pack-made-requires : goal.pack-made-requires
 pack-made-requires g c =
-    let some = object_some facts (λ s k h. h.pass) c.args.self.now c.args.object c.requires.looked in
+    let some = object_some facts (λ s k h. h.1) c.args.self.now c.args.object c.requires.looked in
     names_object c.args.kind c.args.serial (Some c.args.object) c.reference.result c.reference.ensures (λ x e. let same : c.args.object ≡ x = cc in omega arith)
 
 pub exchange-found-requires : goal.exchange-found-requires

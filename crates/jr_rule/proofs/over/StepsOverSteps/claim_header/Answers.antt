@@ -15,8 +15,8 @@ exchange-found-requires g c =
     let h = c.args.header in
     let z = g.C.Cells.sight s.cells in
     let o = c.args.object in
-    let here : c.header_at-at.result ≡ header_at z.config o = c.header_at-at.ensures ∙ ap (header_at z.config) c.from.ensures in
-    owed (header_in z.config o here c.requires.number.0 c.requires.number.1) (may_in (g.C.Cells.sight s.cells) c.requires.role c.requires.filled) (λ k among role m.
+    let here : c.header_at-at.result ≡ header_at z.first.config o = c.header_at-at.ensures ∙ ap (header_at z.first.config) c.from.ensures in
+    owed (header_in z.first.config o here c.requires.number.0 c.requires.number.1) (may_in (g.C.Cells.sight s.cells) c.requires.role c.requires.filled) (λ k among role m.
     let at : header_at k.config o ≡ c.header_at-at.result = ap (λ x. header_at x o) among.config ∙ sym here in
     exchange_at k (Published o h k) at refl (sym c.pack-new.ensures) (publishes_header k role o h c.requires.number.0 (subst (λ (x : Config). o ≤ x.objects) (sym among.config) c.requires.number.1) c.requires.header m))
 

@@ -12,10 +12,10 @@ use Rattle.jr_rule.specs.Over.{facts_over as facts}
 use Rattle.jr_rule.proofs.over.StepsOverSteps.free.Goals as goal
 
 pub reference-requires : goal.reference-requires
-reference-requires g c = looked_can facts (λ s k h. h.pass) c.args.self.now c.args.handle c.args.object c.requires.looked
+reference-requires g c = looked_can facts (λ s k h. h.1) c.args.self.now c.args.handle c.args.object c.requires.looked
 
 pub pack-looked-requires : goal.pack-looked-requires
-pack-looked-requires g c = names_object c.args.handle.kind c.args.handle.serial c.args.object c.reference.result c.reference.ensures (looked_object facts (λ s k h. h.pass) c.args.self.now c.args.handle c.args.object c.requires.looked)
+pack-looked-requires g c = names_object c.args.handle.kind c.args.handle.serial c.args.object c.reference.result c.reference.ensures (looked_object facts (λ s k h. h.1) c.args.self.now c.args.handle c.args.object c.requires.looked)
 
 pub exchange-found-requires : goal.exchange-found-requires
 exchange-found-requires g c =

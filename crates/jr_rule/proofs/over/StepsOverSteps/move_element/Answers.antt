@@ -11,19 +11,19 @@ use Rattle.jr_rule.proofs.over.StepsOverSteps.move_element.Goals as goal
 pub overflow_add-place : goal.overflow_add-place
 overflow_add-place g c =
     let s = c.args.self.now in
-    let below = move_few facts (λ s k h. h.pass) s c.args.object c.args.header c.args.place c.args.index c.args.word c.requires.can in
+    let below = move_few facts (λ s k h. h.1) s c.args.object c.args.header c.args.place c.args.index c.args.word c.requires.can in
     let most = (g.met.C.Cells.sound s.cells).sized.limited.words in omega (arith, below, most)
 
 pub element_at-at-requires : goal.element_at-at-requires
-element_at-at-requires g c = let s = c.args.self.now in move_few facts (λ s k h. h.pass) s c.args.object c.args.header c.args.place c.args.index c.args.word c.requires.can
+element_at-at-requires g c = let s = c.args.self.now in move_few facts (λ s k h. h.1) s c.args.object c.args.header c.args.place c.args.index c.args.word c.requires.can
 
 pub store-requires : goal.store-requires
 store-requires g c =
     let s = c.args.self.now in
     let z = g.C.Cells.sight s.cells in
     let x = c.args.place + c.args.index in
-    let here : c.element_at-at.result ≡ element_at z.config x = c.element_at-at.ensures in
-    owed (element_in z.config x here (move_few facts (λ s k h. h.pass) s c.args.object c.args.header c.args.place c.args.index c.args.word c.requires.can)) (may_in (g.C.Cells.sight s.cells) c.requires.role c.requires.can) (λ k among role m.
+    let here : c.element_at-at.result ≡ element_at z.first.config x = c.element_at-at.ensures in
+    owed (element_in z.first.config x here (move_few facts (λ s k h. h.1) s c.args.object c.args.header c.args.place c.args.index c.args.word c.requires.can)) (may_in (g.C.Cells.sight s.cells) c.requires.role c.requires.can) (λ k among role m.
     let at : element_at k.config x ≡ c.element_at-at.result = ap (λ y. element_at y x) (among.config) ∙ sym here in
     store_at k (Moved c.args.object c.args.place c.args.index k) at refl (moves_element k role c.args.object c.args.header c.args.place c.args.index c.args.word c.requires.index (move_is k c.args.object c.args.header c.args.place c.args.index c.args.word m)))
 

@@ -16,7 +16,7 @@ use Rattle.jr_rule.proofs.over.StepsOverSteps.put_local.Goals as goal
 pub pack-new-requires : goal.pack-new-requires
 pack-new-requires g c =
     let s = c.args.self.now in
-    subst (λ q. IsLocalPlace q) (sym c.local_parts.ensures) (place_fits c.args.object (optional_few facts (λ s k h. h.pass) s c.args.object c.requires.object (g.met.C.Cells.sound s.cells).sized.limited.objects.1))
+    subst (λ q. IsLocalPlace q) (sym c.local_parts.ensures) (place_fits c.args.object (optional_few facts (λ s k h. h.1) s c.args.object c.requires.object (g.met.C.Cells.sound s.cells).sized.limited.objects.1))
 
 pub store-requires : goal.store-requires
 store-requires g c =
@@ -25,8 +25,8 @@ store-requires g c =
     let o = c.args.object in
     let new : local_word (local_parts o) ≡ c.pack-new.result.0 = sym (c.pack-new.ensures ∙ ap local_word c.local_parts.ensures) in
     let z = g.C.Cells.sight s.cells in
-    let here : c.local_at-at.result ≡ local_at z.config z.thread i = c.local_at-at.ensures ∙ ap (λ (x : Config × ℕ). local_at x.0 x.1 i) (λ j. (c.config.ensures j, c.thread.ensures j)) in
-    owed (local_in z.config z.thread i here (g.met.C.Cells.sound s.cells).row c.requires.place) (may_in (g.C.Cells.sight s.cells) c.requires.role c.requires.object) (λ k among role m.
+    let here : c.local_at-at.result ≡ local_at z.first.config z.first.thread i = c.local_at-at.ensures ∙ ap (λ (x : Config × ℕ). local_at x.0 x.1 i) (λ j. (c.config.ensures j, c.thread.ensures j)) in
+    owed (local_in z.first.config z.first.thread i here (g.met.C.Cells.sound s.cells).row c.requires.place) (may_in (g.C.Cells.sight s.cells) c.requires.role c.requires.object) (λ k among role m.
     let at : local_at k.config k.thread i ≡ c.local_at-at.result = ap (λ (x : Config × ℕ). local_at x.0 x.1 i) (λ j. (among.config j, among.thread j)) ∙ sym here in
     store_at k (Put i o k) at new (puts_local k role i o (subst (λ (z : Config). i < z.locals) (sym among.config) c.requires.place) (optional_is o k m)))
 

@@ -23,8 +23,8 @@ store-requires g c =
     let s = c.args.self.now in
     let z = g.C.Cells.sight s.cells in
     let x = c.args.place + c.args.index in
-    let here : c.element_at-at.result ≡ element_at z.config x = c.element_at-at.ensures in
-    owed (element_in z.config x here (own_few (g.met.C.Cells.sound s.cells) (may_in (g.C.Cells.sight s.cells) c.requires.role c.requires.own) c.args.place c.args.index (λ k h. h))) (may_in (g.C.Cells.sight s.cells) c.requires.role c.requires.own) (λ k among role m.
+    let here : c.element_at-at.result ≡ element_at z.first.config x = c.element_at-at.ensures in
+    owed (element_in z.first.config x here (own_few (g.met.C.Cells.sound s.cells) (may_in (g.C.Cells.sight s.cells) c.requires.role c.requires.own) c.args.place c.args.index (λ k h. h))) (may_in (g.C.Cells.sight s.cells) c.requires.role c.requires.own) (λ k among role m.
     let at : element_at k.config x ≡ c.element_at-at.result = ap (λ y. element_at y x) (among.config) ∙ sym here in
     store_at k (PutOwn c.args.place c.args.index c.args.word k) at refl (puts_own k role c.args.place c.args.index c.args.word (∥∥₁_elim m (hlevel props) (λ q. q))))
 

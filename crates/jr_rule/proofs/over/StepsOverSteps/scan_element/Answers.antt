@@ -21,8 +21,8 @@ load-requires g c =
     let s = c.args.self.now in
     let z = g.C.Cells.sight s.cells in
     let x = c.args.header.place + c.args.index in
-    let here : c.element_at-at.result ≡ element_at z.config x = c.element_at-at.ensures in
-    owed (element_in z.config x here (known_few (g.met.C.Cells.sound s.cells) (may_in (g.C.Cells.sight s.cells) c.requires.role c.requires.there) c.args.object c.args.header c.args.index (λ k h. h.0) c.requires.index)) (may_in (g.C.Cells.sight s.cells) c.requires.role c.requires.there) (λ k among role m.
+    let here : c.element_at-at.result ≡ element_at z.first.config x = c.element_at-at.ensures in
+    owed (element_in z.first.config x here (known_few (g.met.C.Cells.sound s.cells) (may_in (g.C.Cells.sight s.cells) c.requires.role c.requires.there) c.args.object c.args.header c.args.index (λ k h. h.0) c.requires.index)) (may_in (g.C.Cells.sight s.cells) c.requires.role c.requires.there) (λ k among role m.
     let at : element_at k.config x ≡ c.element_at-at.result = ap (λ y. element_at y x) (among.config) ∙ sym here in
     load_at k (ScannedElement c.args.object c.args.index k) at (scans_element k role c.args.object c.args.index c.args.header (there_is k c.args.object c.args.header c.args.index m)))
 

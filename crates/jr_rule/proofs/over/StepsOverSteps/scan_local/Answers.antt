@@ -13,8 +13,8 @@ load-found-requires g c =
     let z = g.C.Cells.sight s.cells in
     let t = c.args.thread in
     let i = c.args.place in
-    let here : c.local_at-at.result ≡ local_at z.config t i = c.local_at-at.ensures ∙ ap (λ x. local_at x t i) c.config.ensures in
-    owed (local_in z.config t i here c.requires.thread c.requires.place) (may_any (g.C.Cells.sight s.cells) c.requires.role s.stands) (λ k among role m.
+    let here : c.local_at-at.result ≡ local_at z.first.config t i = c.local_at-at.ensures ∙ ap (λ x. local_at x t i) c.config.ensures in
+    owed (local_in z.first.config t i here c.requires.thread c.requires.place) (may_any (g.C.Cells.sight s.cells) c.requires.role s.stands) (λ k among role m.
     let at : local_at k.config t i ≡ c.local_at-at.result = ap (λ x. local_at x t i) (among.config) ∙ sym here in
     load_at k (ScannedLocal t i k) at (scans_local k role t i (subst (λ (x : Config). t < x.threads) (sym among.config) c.requires.thread) (subst (λ (x : Config). i < x.locals) (sym among.config) c.requires.place)))
 

@@ -19,6 +19,6 @@ unwrap-requires g c = let s = c.args.self.now in top_word_read c.load-found.ensu
 pub returns : goal.returns
 returns g c =
     let s = c.args.self.now in
-    let words = (g.C.Cells.sight s.cells).config.words in
+    let words = (g.C.Cells.sight s.cells).first.config.words in
     let u = c.unwrap.result.used in
     took s _ c.load-found.ensures refl c.requires _ (top_load _ c.parts.ensures.complete _ c.unwrap.ensures c.args.name) (top_load_role words c.args.name u s.role) (top_load_fresh words c.args.name u s.fresh)
