@@ -2,9 +2,9 @@ pub mod Image
 pub mod Rule
 pub mod Passes
 pub mod Rooms
-pub mod Slots
-pub mod Shown
 pub mod Cells
 pub mod CellLaws
-pub mod Over
 pub mod Sights
+pub mod Slots
+pub mod Shown
+pub mod Over
