@@ -14,7 +14,7 @@ use Rattle.std.specs.List.{AllByRecursion}
 use Rattle.jr_steps.specs.declared.known.Known.{Known}
 use Rattle.jr_steps.specs.declared.known.Holdings.{Holdings}
 use Rattle.jr_rule.specs.Passes.{SumsUp, EndsAll, IsSeenIn, HasEachPass, HasNoOthers}
-use Rattle.jr_rule.specs.Rule.{view_of, sizes, Fits, EachFits, Row, Kept, Sat, acting, IsAlone}
+use Rattle.jr_rule.specs.Rule.{view_of, sizes, EachFits, Row, Kept}
 use Rattle.jr_rule.specs.Shown.{IsHistoryOf, HasHistory}
 
 pub read_at : (xs : List ℕ) (i x : ℕ) → get_elem? xs i ≡ some x → get_or xs i 0 ≡ x
@@ -28,22 +28,6 @@ kept_shows c last key r words is kept same =
     let k = subst (λ (z : Sizes). Kept z.last z.config r) is kept in
     subst (HasHistory c) same ∣ (last, k.log, record { few = k.sized.serials; legal = k.legal; held = k.held; image = k.image }) ∣₁
 
--- THE END: the history of the rule, whose image the words are, begins with what the pass has seen
-pub ends_kept : (c : Config) (last : ℕ) (key : Sizes) (r : Row) (words : List ℕ) (j : ℕ) (m : Sat) (s : Summary) → key ≡ sizes c last → Kept key.last key.config r → r.words ≡ words → get_elem? r.views j ≡ some m.0 → IsAlone m → (acting m).config ≡ c → (acting m).last ≡ last
-    → ((n : ℕ) (log : History) → IsHistoryOf c words n log → s ≡ summary c n (state log)) → SumsUp (acting m) s
-ends_kept c last key r words j m s is kept same at alone room serial counted = go (subst (λ (z : Sizes). Kept z.last z.config r) is kept)
-  where
-    go : Kept last c r → SumsUp (acting m) s
-    go kept =
-        let fits : Fits c last kept.log kept.held (acting m) = (subst (λ (v : View). EachFits c last kept.log kept.held v.passes) (ap (λ (z : Sat). z.0) alone) (kept.each j m.0 at)).0 in record {
-          whole = kept.log;
-          legal = subst (λ (z : Config × ℕ). IsLegal z.0 z.1 kept.log) (λ i. (sym room i, sym serial i)) kept.legal;
-          begins = fits.begins;
-          own = fits.own;
-          is = counted last kept.log (record { few = kept.sized.serials; legal = kept.legal; held = kept.held; image = subst (λ ws. IsImage c last ws (state kept.log) kept.held) same kept.image })
-              ∙ ap (λ (z : Config × ℕ). summary z.0 z.1 (state kept.log)) (λ i. (sym room i, sym serial i));
-        }
-
 seen_in : (c : Config) (last : ℕ) (log : History) (held : ℕ → Holdings) (ks : List Known) → EachFits c last log held ks → AllByRecursion (IsSeenIn log) ks
 seen_in c last log held [] fit = tt
 seen_in c last log held (k ∷ ks) fit = (record { begins = (fit.0).begins; own = (fit.0).own }, seen_in c last log held ks fit.1)
@@ -53,7 +37,7 @@ no_others : (c : Config) (last : ℕ) (s : State) (es : History) (ks : List Know
 no_others c last s [] ks legal each = tt
 no_others c last s (e ∷ es) ks legal each = (each e.thread (legal.0).0, no_others c last (after s e) es ks legal.1 each)
 
--- the same where the seat stands for several passes
+-- THE END: the history of the rule, whose image the words are, begins with what each of the passes has seen
 pub ends_all : (c : Config) (last : ℕ) (key : Sizes) (r : Row) (words : List ℕ) (j : ℕ) (v : View) (k : Known) (ks : List Known) (s : Summary) → key ≡ sizes c last → Kept key.last key.config r → r.words ≡ words → get_elem? r.views j ≡ some v → v ≡ view_of (k ∷ ks) → k.config ≡ c → k.last ≡ last
     → ((n : ℕ) (log : History) → IsHistoryOf c words n log → s ≡ summary c n (state log)) → EndsAll k ks s
 ends_all c last key r words j v k ks s is kept same at all room serial counted = go (subst (λ (z : Sizes). Kept z.last z.config r) is kept)
@@ -69,3 +53,7 @@ ends_all c last key r words j v k ks s is kept same at all room serial counted =
           is = counted last kept.log (record { few = kept.sized.serials; legal = kept.legal; held = kept.held; image = subst (λ ws. IsImage c last ws (state kept.log) kept.held) same kept.image })
               ∙ ap (λ (z : Config × ℕ). summary z.0 z.1 (state kept.log)) (λ i. (sym room i, sym serial i));
         }
+
+-- and of one pass alone
+pub ends_one : {k : Known} {ks : List Known} {s : Summary} → EndsAll k ks s → SumsUp k s
+ends_one e = record { whole = e.whole; legal = e.legal; begins = e.first.begins; own = e.first.own; is = e.is }

@@ -33,7 +33,7 @@ ghost use Rattle.jr_model.specs.declared.event.Role.TheVariants.{Outside};
 ghost use Rattle.jr_steps.specs.Holdings.{empty};
 ghost use Rattle.jr_rule.specs.Image.{header_at as place_of_header, element_at as place_of_element};
 ghost use Rattle.jr_rule.specs.Sights.{IsSeatOf};
-ghost use Rattle.jr_rule.specs.Rule.{IsSized, sizes, known, view_of, newcomers, others_of};
+ghost use Rattle.jr_rule.specs.Rule.{IsSeated, IsSized, acting, sizes, known, view_of, newcomers, others_of};
 
 use crate::cells::{Cells, StepKind};
 use crate::closing::ClosedWords;
@@ -124,10 +124,12 @@ impl Row {
         }
     }
 
-    /// What stands at the end.
-    pub(crate) fn close(self, pass: Pass) -> Summary
-        requires { IsAt self pass }
-        ensures { SumsUp (known_of pass) result }
+    /// What stands at the end of all passes of the seat.
+    fn end(self, seat: Seat<(), View>) -> Summary
+        requires room { seat.table_id ≡ self.table.shared.table_id }
+        requires seated { IsSeated seat.me }
+        requires first { ((acting seat.me).config ≡ self.config) × ((acting seat.me).last ≡ self.last) }
+        ensures { EndsAll (acting seat.me) (others_of seat.me.0.passes) result }
     {
         let Row {
             table,
@@ -136,13 +138,6 @@ impl Row {
             headers: _,
             elements: _,
         } = self;
-        let Pass {
-            seat,
-            thread: _,
-            role: _,
-            fresh: _,
-            hint: _,
-        } = pass;
         let words = ClosedWords {
             closed: table.close_with(seat),
         };
@@ -150,6 +145,21 @@ impl Row {
         let ClosedWords { closed } = words;
         closed.free();
         summary
+    }
+
+    /// What stands at the end of a pass.
+    pub(crate) fn close(self, pass: Pass) -> Summary
+        requires { IsAt self pass }
+        ensures { SumsUp (known_of pass) result }
+    {
+        let Pass {
+            seat,
+            thread: _,
+            role: _,
+            fresh: _,
+            hint: _,
+        } = pass;
+        self.end(seat)
     }
 
     /// The seats of the passes join this one.
@@ -186,20 +196,7 @@ impl Row {
             hint: _,
         } = pass;
         self.gather(&mut seat, others);
-        let Row {
-            table,
-            config,
-            last: _,
-            headers: _,
-            elements: _,
-        } = self;
-        let words = ClosedWords {
-            closed: table.close_with(seat),
-        };
-        let summary = summary(&words, &config);
-        let ClosedWords { closed } = words;
-        closed.free();
-        summary
+        self.end(seat)
     }
 }
 

@@ -1,20 +1,36 @@
-use Rattle.std.proofs.Common.{◌++◌, map, ap, ◌∙◌}
-use Rattle.std.specs.Slots.{slots_items}
-use Rattle.jr_rule.specs.Rule.{Sat, view_of}
-use Rattle.jr_rule.specs.Passes.{known_of}
-use Rattle.jr_rule.proofs.Ended.{kept_shows, ends_all}
+use Rattle.std.proofs.Common.{◌≡◌, ◌++◌, [], ◌∷◌, List, map, sym, ap, subst, ◌∙◌}
+use Rattle.jr_steps.specs.declared.known.Known.{Known}
+use Rattle.jr_rule.specs.Rule.{Sat, acting, others_of, view_of}
+use Rattle.jr_rule.specs.Passes.{known_of, EndsAll}
 use Rattle.jr_rule.proofs.row.Row.close_all.Goals as goal
 
-pub summary-summary-requires-clause-history : goal.summary-summary-requires-clause-history
-summary-summary-requires-clause-history c =
-    let room = c.args.self in
-    let end = c.close_with.ensures.values.2 in
-    kept_shows room.config room.last room.table.shared.key end.0 (slots_items c.close_with.result.words) room.key end.1.0 end.2
+-- one pass of a seat, and others that joined it
+pub joined : (m m' : Sat) (ks : List Known) → m ≡ (view_of (acting m ∷ []), []) → m' ≡ (view_of (m.0.passes ++ ks), []) → m' ≡ (view_of (acting m ∷ ks), [])
+joined m m' ks alone e = e ∙ ap (λ (z : Sat). (view_of (z.0.passes ++ ks), [])) alone
+
+module _ (m m' : Sat) (ks : List Known) (e : m' ≡ (view_of (acting m ∷ ks), [])) where
+  pub first_is : acting m' ≡ acting m
+  first_is = ap acting e
+
+  pub others_are : others_of m'.0.passes ≡ ks
+  others_are = ap (λ (z : Sat). others_of z.0.passes) e
+
+pub end-requires : goal.end-requires
+end-requires c =
+    let p = c.args.pass in
+    let m = c.gather.new.seat.me in
+    let ks = map known_of c.args.others.items in
+    let e = joined p.seat.me m ks p.held.alone c.gather.ensures.all in
+    let first = first_is p.seat.me m ks e in record {
+      room = c.gather.ensures.room ∙ c.requires.pass.row;
+      seated = e ∙ (λ i. (view_of (sym first i ∷ sym (others_are p.seat.me m ks e) i), []));
+      first = (ap (λ (k : Known). k.config) first ∙ c.requires.pass.config, ap (λ (k : Known). k.last) first ∙ c.requires.pass.last);
+    }
 
 pub returns : goal.returns
 returns c =
-    let room = c.args.self in
     let p = c.args.pass in
-    let end = c.close_with.ensures.values.2 in
-    ends_all room.config room.last room.table.shared.key end.0 (slots_items c.close_with.result.words) _ c.gather.new.seat.me.0 (known_of p) (map known_of c.args.others.items) c.summary-summary.result
-    room.key end.1.0 end.2 end.1.1 (ap (λ (m : Sat). m.0) c.gather.ensures.all ∙ ap (λ (m : Sat). view_of (m.0.passes ++ map known_of c.args.others.items)) p.held.alone) c.requires.pass.config c.requires.pass.last c.summary-summary.ensures
+    let m = c.gather.new.seat.me in
+    let ks = map known_of c.args.others.items in
+    let e = joined p.seat.me m ks p.held.alone c.gather.ensures.all in
+    subst (λ (z : Known × List Known). EndsAll z.0 z.1 c.end.result) (λ i. (first_is p.seat.me m ks e i, others_are p.seat.me m ks e i)) c.end.ensures
