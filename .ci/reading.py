@@ -19,6 +19,8 @@ LAMBDA = re.compile(r"λ ((?:\([^)]*\)|[^.(])*)\.")
 BLANKED = re.compile(r"//[^\n]*|/\*.*?\*/|\"(?:\\.|[^\"\\])*\"|'(?:\\.|[^\\'\n])'", re.S)
 ITEM = re.compile(r"(?P<public>pub(?:\((?P<within>\w+)\))? )?(?:const (?=fn))?(?P<kind>ghost use|ghost|fn|struct|enum|trait|impl|mod|const|use|type)\b\s*(?P<name>\w*)")
 PUBLIC_FIELD = re.compile(r"\bpub ([^,{;\n]*)")
+NAMED_TYPE = re.compile(r"=\s*([^;]+)")
+NAMED = re.compile(r"^pub type (\w+)[^=;]*=\s*([^;]+);", re.M)
 HELD_TYPE = re.compile(r"[(:<] ?([A-Z]\w*)")
 CLAUSE = re.compile(r"\b(requires|ensures)\*?(?:\s+(\w+))?\s*\Z")
 
@@ -38,7 +40,7 @@ class Definition:
 
 @dataclass
 class Item:
-    """A function, a type or a ghost member of src/: the file, and from where to where its head stands there; the trait, the type or `Trait for Type` that it stands in; its clauses; the names that they say; and the words of its signature or its public fields that may be Rust types, each with the crate that it is of."""
+    """A function, a type or a ghost member of src/: the file, and from where to where its head stands there; the trait, the type (by the name that the file gives it, where it gives one: `pub type Name = Type;`) or `Trait for Type` that it stands in; its clauses; the names that they say; and the words of its signature or its public fields that may be Rust types, each with the crate that it is of."""
     file: str
     place: tuple
     crate: str
@@ -201,6 +203,7 @@ class Source:
         self.path, self.crate, self.module = path, parts[0], ".".join(parts[2:])
         self.code = BLANKED.sub(lambda it: re.sub(r"[^\n]", " ", it[0]), text_of(path))
         self.items, self.crates = [], {}
+        self.named = {" ".join(of.split()): name for name, of in NAMED.findall(self.code)}
 
     def read(self):
         self.block(0, len(self.code), Scope(""), "", False)
@@ -216,11 +219,12 @@ class Source:
             if kind == "use":
                 crate, _, words = re.sub(r".*\buse ", "", text).partition("::")
                 self.crates.update({it: self.crate if crate == "crate" else crate for it in re.findall(r"\b[A-Z]\w*", words)})
-            elif kind in ("fn", "ghost", "struct", "enum", "trait"):
+            elif kind in ("fn", "ghost", "struct", "enum", "trait") or kind == "type" and not inside:
                 self.items.append(self.item(head, braces, stop, scope, inside, in_trait))
             if kind in ("impl", "trait"):
                 plain = re.sub(r"<[^<>]*(?:<[^<>]*>[^<>]*)*>", "", text).partition("where")[0]
-                within = " ".join(plain.split()[1:]) if kind == "impl" else head["name"]
+                of = " ".join(re.sub(r"^impl(?:<[^<>]*>)?", "", text).split())
+                within = self.named.get(of, " ".join(plain.split()[1:])) if kind == "impl" else head["name"]
                 self.block(braces[-1][0] + 1, stop - 1, scope, within, kind == "trait")
 
     def item(self, head, braces, stop, scope, inside, in_trait):
@@ -236,7 +240,7 @@ class Source:
                 clauses.append(Clause(word[1] if word else "", word[2] or "" if word else "", (start, close), words))
             before = close
         said = {name for it in clauses for _, name in it.words}
-        held = {"struct": PUBLIC_FIELD, "enum": HELD_TYPE}
+        held = {"struct": PUBLIC_FIELD, "enum": HELD_TYPE, "type": NAMED_TYPE}
         text = " ".join(held[kind].findall(self.code, head.end(), stop)) if kind in held else f"{inside} {signature}" if signature else ""
         types = {(self.crates.get(it, self.crate), it) for it in re.findall(r"\b[A-Z]\w*", text)}
         is_public = bool(head["public"]) and not head["within"]
@@ -308,7 +312,7 @@ class Shown:
 def public_items(crate, items):
     """Returns those of a crate's items that others can name. All of an impl of a trait is, where both the trait and the type are shown or another crate's, but no invariant of a model."""
     shown = Shown(crate)
-    own = {it.name: it for it in items if it.kind in ("struct", "enum", "trait")}
+    own = {it.name: it for it in items if it.kind in ("struct", "enum", "trait", "type")}
 
     def is_public(item):
         around = item.inside.split(" for ")
@@ -330,7 +334,7 @@ class Repository:
             items = [it for path in files_of(crate, "src", ".rt") for it in Source(path).read().items]
             self.items += items
             self.public += public_items(crate, items)
-            self.types.update({(crate, it.name): (f"{crate}.specs.declared.{it.module}", it.name) for it in items if it.kind in ("struct", "enum")})
+            self.types.update({(crate, it.name): (f"{crate}.specs.declared.{it.module}", it.name) for it in items if it.kind in ("struct", "enum", "type")})
         self.said.update({name: it.says for name, it in self.definitions.items()})
         self.read_types()
 
@@ -341,7 +345,7 @@ class Repository:
             for crate, word in it.types:
                 name = self.types.get((crate, word)) or (lowest.get(word) if crate in crates() and crate != it.crate else None)
                 it.says |= {name} if name else set()
-            if it.kind in ("struct", "enum"):
+            if it.kind in ("struct", "enum", "type"):
                 self.said[self.types[it.crate, it.name]] = it.says
         for it in self.items:
             trait, _, of = it.inside.partition(" for ")
