@@ -1,5 +1,5 @@
 -- What the steps of the heap owe, wherever they find the row.
-use Rattle.std.proofs.Common.{◌≡◌, ◌≢◌, ◌⊎◌, ⊎_elim, inl, inr, ◌+◌, ◌<◌, ◌≤◌, ◌==◌, ◌^◌, ℕ, Bool, true, false, cond, nat_lt, Option, Some, None, IsSome, IfSome, List, [], ◌∷◌, length, get_or, slice_set, eqb, eq-eqb, ne_eqb, refl, sym, ap, subst, ◌∙◌, arith}
+use Rattle.std.proofs.Common.{◌≡◌, ◌≢◌, ◌⊎◌, ⊎_elim, inl, inr, ◌+◌, ◌<◌, ◌≤◌, ◌^◌, ℕ, Bool, true, false, cond, nat_lt, Option, Some, None, IsSome, List, [], ◌∷◌, length, get_or, slice_set, eqb, refl, sym, ap, subst, ◌∙◌, arith}
 use Rattle.std.proofs.lemmas.List.{append-nil}
 use Rattle.std.proofs.lemmas.Bool.Decides.{nat_tests}
 use Rattle.std.proofs.Math.Logic.{∥∥₁_elim}
@@ -9,8 +9,6 @@ use native.Mathlib.Decide.{ℕ_discrete}
 use prog.Atomic.{either}
 use Rattle.jr_word.specs.declared.config.Config.{Config}
 use Rattle.jr_word.specs.declared.header.HeaderParts.{HeaderParts}
-use Rattle.jr_word.specs.declared.top.TopParts.{TopParts}
-use Rattle.jr_word.specs.Top.{top_word, IsTop}
 use Rattle.jr_word.specs.declared.kind.Kind.{Kind}
 use Rattle.jr_word.specs.declared.kind.Kind.TheVariants.{Plain, Boolean, Byte, Char, Short, Int, Long, Objects, Text}
 use Rattle.jr_word.specs.Header.{header_word, IsHeader, IsHeaderOrZero}
@@ -18,8 +16,7 @@ use Rattle.jr_model.specs.declared.event.Role.TheVariants.{Within, Collecting}
 use Rattle.jr_model.specs.declared.event.Act.{Act}
 use Rattle.jr_model.specs.declared.event.Act.TheVariants.{New, Reserve, ReserveFull, ReserveLost, Read, Write}
 use Rattle.jr_model.specs.State.{Contents, State, IsPresent, IsWord, AreWords}
-use Rattle.jr_model.specs.declared.event.Role.{Role}
-use Rattle.jr_model.specs.History.{by, state, role_of, role_from}
+use Rattle.jr_model.specs.History.{by, state, role_of}
 use Rattle.jr_model.proofs.Histories.{state_push}
 use Rattle.jr_model.proofs.Lengths.{lengths_fit}
 use Rattle.jr_model.proofs.Presence.{word_mono}
@@ -28,18 +25,16 @@ use Rattle.jr_steps.specs.declared.known.Known.{Known}
 use Rattle.jr_steps.specs.declared.known.Holdings.{Holdings}
 use Rattle.jr_steps.specs.declared.loads.TopLoad.{TopLoad}
 use Rattle.jr_steps.specs.declared.loads.TopLoad.TheVariants as top
-use Rattle.jr_steps.specs.Acts.{acts_of_publication}
 use Rattle.jr_steps.specs.Holdings.{words_at, with_range, with_header, hold}
 use Rattle.jr_rule.specs.Image.{top_at, header_at, element_at, IsIn, IsHeaderOf, IsKnown}
-use Rattle.jr_steps.specs.Knowing.{view, state_of, KnowsHeader, HasWord, IsWordNow, IsFilled, words_for, without_range_of, fresh_from, ShowsPublished}
+use Rattle.jr_steps.specs.Knowing.{view, state_of, KnowsHeader, HasWord, IsWordNow, IsFilled, words_for, without_range_of}
 use Rattle.jr_rule.specs.Rule.{Makes, Owes}
 use Rattle.jr_rule.proofs.StillSo.{role_at, present_now}
 use Rattle.jr_rule.proofs.HeapImages.{one_header, none_known}
 use Rattle.jr_rule.proofs.HeapSteps.{reserves, publishes_own, reads, writes, puts_own as stores_own}
-use Rattle.jr_rule.proofs.Headers.{header_some, header_positive}
+use Rattle.jr_rule.proofs.Headers.{header_some}
 use Rattle.jr_rule.proofs.LocalSteps.{knows_header}
 use Rattle.jr_rule.proofs.HeapSpaces.{elements_from, elements_length, none_beyond}
-use Rattle.jr_rule.proofs.Readings.{is_read, read_once}
 use Rattle.jr_rule.proofs.LegalSteps.{gaining, quiet, written as renamed, unwritten, won, lost, LegalStep, one_legal, none_legal}
 use Rattle.jr_rule.proofs.Told.{IsHeaderWord, SawHeader, Published, used_word, SawTop, ClaimedTop, SawElement, PutElement, PutOwn}
 
@@ -189,42 +184,7 @@ module _ (k : Known) (within : role_of (view k) ≡ Within) where
             subst (λ z. IsPresent z o) (sym (state_push log (by k.thread (New o h.kind ws)))) (subst IsSome (sym (at_number_self s.objects o (Some (record { kind = h.kind; words = ws })))) refl),
           )
 
--- what is read of a header, and of the top
-pub header_read : (q r : Option HeaderParts) (n : ℕ) → IsHeaderWord r n → IfSome q (λ p. IsHeader p × (n ≡ header_word p)) → ((p : HeaderParts) → IsHeader p → n ≡ header_word p → q ≡ Some p) → q ≡ r
-header_read q (Some h) n is sound complete = complete h is.0 is.1
-header_read None None n is sound complete = refl
-header_read (Some p) None n is sound complete = let some = header_positive p in let a = sound.1 in absurd (omega arith)
-
 -- what is read of a word that is known to be a header's, or 0
 pub header_or_zero : (r : Option HeaderParts) (n : ℕ) → IsHeaderWord r n → IsHeaderOrZero n
 header_or_zero None n is = inl is
 header_or_zero (Some h) n is = inr (h, is.0, is.1)
-
-pub header_known : (q r : Option HeaderParts) (n : ℕ) → IsHeaderWord r n → (n ≡ 0 → q ≡ None) → ((p : HeaderParts) → IsHeader p → n ≡ header_word p → q ≡ Some p) → q ≡ r
-header_known q (Some h) n is none some = some h is.0 is.1
-header_known q None n is none some = none is
-
-pub top_some : (n : ℕ) (q : Option TopParts) (u : ℕ) → u < 2 ^ 24 → n ≡ used_word u → ((p : TopParts) → IsTop p → n ≡ top_word p → q ≡ Some p) → IsSome q
-top_some n q u few is complete = is_read q (record { used = u }) (complete (record { used = u }) (record { used = few }) is)
-
-pub top_is : (n : ℕ) (q : Option TopParts) (u : ℕ) (p : TopParts) → u < 2 ^ 24 → n ≡ used_word u → ((p : TopParts) → IsTop p → n ≡ top_word p → q ≡ Some p) → q ≡ Some p → p.used ≡ u
-top_is n q u p few is complete read = ap (λ (z : TopParts). z.used) (read_once q (record { used = u }) p (complete (record { used = u }) (record { used = few }) is) read)
-
--- the acts of an exchange of the top, which leave the role and the freshness
-pub claimed_acts : (looked more : ℕ) (k : Known) (n : ℕ) (acts : List Act) (k' : Known) → ClaimedTop looked more k n acts k'
-    → (a : List Act) × (acts ≡ a) × ((r : Role) → r ≡ role_from r a) × ((f : Bool) → f ≡ fresh_from f a)
-claimed_acts looked more k n acts k' says = dite (ℕ_discrete n (used_word looked))
-    (λ e. (Reserve more ∷ [], (says.0 e).0, λ r. refl, λ f. refl))
-    (λ ne. let s = says.1 ne in (ReserveLost more looked s.0 ∷ [], s.3, λ r. refl, λ f. refl))
-
--- the acts of an exchange of a header
-pub published_acts : (o : ℕ) (h : HeaderParts) (k : Known) (n : ℕ) (acts : List Act) (k' : Known) → Published o h k n acts k' → acts ≡ acts_of_publication o h.kind (words_for h k) (n == 0)
-published_acts o h k n acts k' says = dite (ℕ_discrete n 0)
-    (λ e. (says.0 e).0 ∙ ap (acts_of_publication o h.kind (words_for h k)) (sym (eq-eqb n 0 e)))
-    (λ ne. (says.1 ne).0 ∙ ap (acts_of_publication o h.kind (words_for h k)) (sym (ne_eqb n 0 ne)))
-
--- what it shows
-pub published_shows : (o : ℕ) (h : HeaderParts) (k : Known) (n : ℕ) (acts : List Act) (k' : Known) → Published o h k n acts k' → ShowsPublished o h (n == 0) k k'
-published_shows o h k n acts k' says = dite (ℕ_discrete n 0)
-    (λ e. subst (λ b. ShowsPublished o h b k k') (sym (eq-eqb n 0 e)) (says.2, (says.0 e).1, (says.0 e).2))
-    (λ ne. subst (λ b. ShowsPublished o h b k k') (sym (ne_eqb n 0 ne)) (says.2, (says.1 ne).1))

@@ -27,13 +27,11 @@ pub mod GateOwed
 pub mod SlotOwed
 pub mod PlaceOwed
 pub mod HeapOwed
-pub mod CollectTold
 pub mod CollectOwed
 pub mod FromMayKnow
 pub mod Meeting
 pub mod Ended
 pub mod Gathered
 pub mod StepTaken
-pub mod ReadAsActs
 pub mod SeatStepped
 pub mod PassOver

@@ -1,4 +1,4 @@
--- What a store to a local word owes, wherever they find the row.
+-- What a store to a local word owes, wherever it finds the row.
 use Rattle.std.proofs.Common.{◌≡◌, ◌<◌, ◌≤◌, ◌^◌, ℕ, Option, Some, None, [], ◌∷◌, slice_set, refl, subst, ◌∙◌, arith}
 use Rattle.std.proofs.Math.Logic.{∥∥₁_elim}
 use Rattle.std.proofs.Props.{props}

@@ -1,4 +1,4 @@
--- Plain words: what thread 0 holds there, one operation on them, a row of zeros, and the histories that they show.
+-- Plain words: what thread 0 holds there, one operation on them, how they are opened, and the histories that they show.
 use Rattle.std.proofs.Common.{◌≡◌, ℕ, List, sym, ap, ◌∙◌, ◌<◌, [], ◌++◌, map, slice_index, slice_set, refl, subst, ◌^◌, true, arith}
 use mathlib.Core.Logic.{dite, ∥∥₁_map}
 use native.Mathlib.Decide.{ℕ_discrete}

@@ -1,5 +1,5 @@
 -- What the steps of slots owe, wherever they find the row, and what a claim that is lost shows.
-use Rattle.std.proofs.Common.{◌≡◌, ◌≢◌, ⊎_elim, ◌<◌, ◌≤◌, ℕ, true, false, ◌++◌, refl, sym, ap, subst, ◌∙◌, arith, append_assoc, ◌⊎◌, inl, inr, ◌^◌, ◌==◌, Result, Option, Some, Ok, Err, List, [], ◌∷◌, get_or, slice_set, eqb, eq-eqb, ne_eqb}
+use Rattle.std.proofs.Common.{◌≡◌, ◌≢◌, ⊎_elim, ◌<◌, ◌≤◌, ℕ, true, false, ◌++◌, refl, sym, ap, subst, ◌∙◌, arith, append_assoc, ◌⊎◌, inl, inr, ◌^◌, Option, Some, Ok, Err, List, [], ◌∷◌, get_or, slice_set, eqb}
 use Rattle.std.proofs.lemmas.Bool.{cases_lt}
 use Rattle.std.proofs.Math.Logic.{∥∥₁_elim}
 use Rattle.std.proofs.Props.{props}
@@ -110,13 +110,6 @@ looked_is c last h o s may = record {
   object = ∥∥₁_elim may (hlevel props) (λ q. q.object);
   stands = still_or_gone (s.refs h) (found_of o) (∥∥₁_map may (λ q. q.stands));
 }
-
--- what was done, by the number found
-pub claim_done : (i serial : ℕ) (kind : RefKind) (o : ℕ) (k : Known) (n : ℕ) (acts : List Act) (k' : Known) → Claimed i serial kind o k n acts k' → (x : Result (Unit {0}) SlotParts) × (acts ≡ act_of_claim i serial kind o x ∷ [])
-claim_done i serial kind o k n acts k' told = dite (ℕ_discrete n (slot_word (slot.Free serial))) (λ e. (Ok tt, told.0 e)) (λ ne. let s = told.1 ne in (Err s.0, s.3))
-
-pub free_done : (h : Handle) (w : ℕ) (k : Known) (n : ℕ) (acts : List Act) (k' : Known) → Freed h w k n acts k' → acts ≡ act_of_free h (n == w) ∷ []
-free_done h w k n acts k' told = dite (ℕ_discrete n w) (λ e. told.0 e ∙ ap (λ b. act_of_free h b ∷ []) (sym (eq-eqb n w e))) (λ ne. told.1 ne ∙ ap (λ b. act_of_free h b ∷ []) (sym (ne_eqb n w ne)))
 
 module _ (k : Known) (within : role_of (view k) ≡ Within) where
   pub sees_slot : (i : ℕ) (name : SlotLoad) → i < k.config.slots → SlotLoadFits i name → Owes k (slot_at i) (λ n. n) (SawSlot i name k)

@@ -2,7 +2,7 @@ use Rattle.std.proofs.Common.{rules, refl, sym, subst}
 use Rattle.jr_steps.specs.Acts.{GateLoadFits, all_counted}
 use Rattle.jr_rule.proofs.ActEffects.{gate_load_role, gate_load_fresh}
 use Rattle.jr_rule.proofs.GateOwed.{sees_gate}
-use Rattle.jr_rule.proofs.ReadAsActs.{gate_load, look_leaves, looked_so, word_read}
+use Rattle.jr_rule.proofs.Told.{gate_load, look_leaves, looked_so, word_read}
 use Rattle.jr_rule.proofs.StepTaken.{may_any, owed, standing_next, took}
 use Rattle.jr_rule.proofs.over.StepsOver.look.Goals as goal
 

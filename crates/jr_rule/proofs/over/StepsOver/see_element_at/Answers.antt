@@ -4,9 +4,8 @@ use Rattle.std.proofs.Props.{props}
 use Rattle.jr_rule.specs.Image.{element_at}
 use Rattle.jr_rule.proofs.FromMayKnow.{known_few}
 use Rattle.jr_rule.proofs.HeapOwed.{sees_element}
-use Rattle.jr_rule.proofs.ReadAsActs.{plainly}
+use Rattle.jr_rule.proofs.Told.{plainly, SawElement}
 use Rattle.jr_rule.proofs.StepTaken.{load_at, element_in, may_in, owed, leaves, standing_next, took}
-use Rattle.jr_rule.proofs.Told.{SawElement}
 use Rattle.jr_rule.proofs.over.StepsOver.see_element_at.Goals as goal
 
 pub load-requires : goal.load-requires

@@ -1,6 +1,6 @@
 use Rattle.std.proofs.Common.{rules, refl}
 use Rattle.jr_rule.proofs.GateOwed.{shuts}
-use Rattle.jr_rule.proofs.ReadAsActs.{barred, bar_lost, busy_leaves, word_read}
+use Rattle.jr_rule.proofs.Told.{barred, bar_lost, busy_leaves, word_read}
 use Rattle.jr_rule.proofs.StepTaken.{may_any, owed, leaves, standing_next, took}
 use Rattle.jr_rule.proofs.over.StepsOverSteps.bar.Goals as goal
 

@@ -6,9 +6,8 @@ use Rattle.jr_rule.proofs.FromMayKnow.{object_some}
 use Rattle.jr_rule.proofs.Readings.{one_slot, found_so}
 use Rattle.jr_rule.proofs.StepTaken.{exchange_at, may_in, owed, standing_next, took}
 use Rattle.jr_rule.proofs.SlotOwed.{claims_slot}
-use Rattle.jr_rule.proofs.ReadAsActs.{claim_leaves, claim_won, claim_lost}
+use Rattle.jr_rule.proofs.Told.{claim_leaves, claim_won, claim_lost, Claimed}
 use Rattle.jr_rule.proofs.Slots.{free_fits, names_object}
-use Rattle.jr_rule.proofs.Told.{Claimed}
 use Rattle.jr_rule.specs.Over.{facts_over as facts}
 use Rattle.jr_rule.proofs.over.StepsOverSteps.claim.Goals as goal
 

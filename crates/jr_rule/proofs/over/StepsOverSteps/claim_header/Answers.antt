@@ -4,9 +4,8 @@ use Rattle.jr_steps.specs.Knowing.{words_for}
 use Rattle.jr_rule.specs.Image.{header_at}
 use Rattle.jr_rule.proofs.ActEffects.{publishing_role, publishing_fresh}
 use Rattle.jr_rule.proofs.HeapOwed.{publishes_header}
-use Rattle.jr_rule.proofs.ReadAsActs.{publishing}
+use Rattle.jr_rule.proofs.Told.{publishing, Published}
 use Rattle.jr_rule.proofs.StepTaken.{exchange_at, header_in, may_in, owed, leaves, standing_next, took_with}
-use Rattle.jr_rule.proofs.Told.{Published}
 use Rattle.jr_rule.proofs.over.StepsOverSteps.claim_header.Goals as goal
 
 pub exchange-found-requires : goal.exchange-found-requires

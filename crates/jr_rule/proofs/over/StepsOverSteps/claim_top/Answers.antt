@@ -1,9 +1,8 @@
 use Rattle.std.proofs.Common.{◌+◌, ◌≤◌, rules, refl, sym, subst, ◌∙◌}
 use Rattle.jr_word.specs.declared.config.Config.{Config}
 use Rattle.jr_rule.proofs.HeapOwed.{claims_top}
-use Rattle.jr_rule.proofs.ReadAsActs.{reserve_won, reserve_lost, reserve_leaves, top_word_read}
+use Rattle.jr_rule.proofs.Told.{reserve_won, reserve_lost, reserve_leaves, top_word_read, ClaimedTop}
 use Rattle.jr_rule.proofs.StepTaken.{exchange_at, may_in, owed, standing_next, took}
-use Rattle.jr_rule.proofs.Told.{ClaimedTop}
 use Rattle.jr_rule.proofs.over.StepsOverSteps.claim_top.Goals as goal
 
 pub exchange-found-requires : goal.exchange-found-requires

@@ -2,9 +2,8 @@ use Rattle.std.proofs.Common.{◌≡◌, ◌≤◌, refl, sym, ap, subst, ◌∙
 use Rattle.jr_word.specs.declared.config.Config.{Config}
 use Rattle.jr_rule.specs.Image.{header_at}
 use Rattle.jr_rule.proofs.CollectOwed.{drops_header}
-use Rattle.jr_rule.proofs.CollectTold.{Dropped}
+use Rattle.jr_rule.proofs.Told.{Dropped, plainly}
 use Rattle.jr_rule.proofs.FromMayKnow.{drop_is}
-use Rattle.jr_rule.proofs.ReadAsActs.{plainly}
 use Rattle.jr_rule.proofs.StepTaken.{store_at, header_in, may_in, owed, leaves, standing_next, took}
 use Rattle.jr_rule.proofs.over.StepsOverSteps.drop_header.Goals as goal
 

@@ -1,6 +1,6 @@
 use Rattle.jr_model.specs.declared.event.Role.TheVariants.{Collecting}
 use Rattle.jr_steps.specs.Collecting.{CanDrop}
-use Rattle.jr_rule.proofs.CollectTold.{Dropped}
+use Rattle.jr_rule.proofs.Told.{Dropped}
 use Rattle.jr_rule.specs.Cells.{InRole}
 use Rattle.jr_rule.proofs.over.StepsOverSteps.drop_header.Given as goal
 

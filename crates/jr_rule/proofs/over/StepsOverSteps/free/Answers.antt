@@ -5,9 +5,8 @@ use Rattle.jr_rule.proofs.ActEffects.{freeing_role, freeing_fresh}
 use Rattle.jr_rule.proofs.FromMayKnow.{looked_can, looked_object}
 use Rattle.jr_rule.proofs.StepTaken.{exchange_at, may_in, owed, leaves, standing_next, took}
 use Rattle.jr_rule.proofs.SlotOwed.{frees_slot}
-use Rattle.jr_rule.proofs.ReadAsActs.{freeing}
+use Rattle.jr_rule.proofs.Told.{freeing, Freed}
 use Rattle.jr_rule.proofs.Slots.{names_object}
-use Rattle.jr_rule.proofs.Told.{Freed}
 use Rattle.jr_rule.specs.Over.{facts_over as facts}
 use Rattle.jr_rule.proofs.over.StepsOverSteps.free.Goals as goal
 

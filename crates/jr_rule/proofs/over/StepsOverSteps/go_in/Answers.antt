@@ -3,7 +3,7 @@ use Rattle.jr_model.specs.History.{role_after}
 use Rattle.jr_steps.specs.Acts.{act_of_entry}
 use Rattle.jr_rule.proofs.ActEffects.{entered_fresh}
 use Rattle.jr_rule.proofs.GateOwed.{enters}
-use Rattle.jr_rule.proofs.ReadAsActs.{entry}
+use Rattle.jr_rule.proofs.Told.{entry}
 use Rattle.jr_rule.proofs.StepTaken.{may_any, owed, leaves, standing_next, took}
 use Rattle.jr_rule.proofs.over.StepsOverSteps.go_in.Goals as goal
 

@@ -3,7 +3,7 @@ use Rattle.jr_model.specs.declared.event.Role.TheVariants.{Within, Knocking}
 use Rattle.jr_model.specs.declared.event.Role.{Role}
 use Rattle.jr_rule.proofs.ActEffects.{left_role, left_fresh}
 use Rattle.jr_rule.proofs.GateOwed.{leaves as leaving}
-use Rattle.jr_rule.proofs.ReadAsActs.{exit}
+use Rattle.jr_rule.proofs.Told.{exit}
 use Rattle.jr_rule.proofs.StepTaken.{may_any, owed, leaves, standing_next, took}
 use Rattle.jr_rule.proofs.over.StepsOverSteps.go_out.Goals as goal
 

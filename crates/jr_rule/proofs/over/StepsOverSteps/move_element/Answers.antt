@@ -2,9 +2,8 @@ use Rattle.std.proofs.Common.{◌≡◌, ◌+◌, refl, sym, ap, ◌∙◌, arit
 use Rattle.jr_rule.specs.Image.{element_at}
 use Rattle.jr_rule.proofs.CollectOwed.{moves_element}
 use Rattle.jr_rule.proofs.FromMayKnow.{move_few, move_is}
-use Rattle.jr_rule.proofs.ReadAsActs.{plainly}
+use Rattle.jr_rule.proofs.Told.{plainly, Moved}
 use Rattle.jr_rule.proofs.StepTaken.{store_at, element_in, may_in, owed, leaves, standing_next, took}
-use Rattle.jr_rule.proofs.CollectTold.{Moved}
 use Rattle.jr_rule.specs.Over.{facts_over as facts}
 use Rattle.jr_rule.proofs.over.StepsOverSteps.move_element.Goals as goal
 

@@ -1,6 +1,6 @@
 use Rattle.jr_model.specs.declared.event.Role.TheVariants.{Collecting}
 use Rattle.jr_steps.specs.Collecting.{CanMove}
-use Rattle.jr_rule.proofs.CollectTold.{Moved}
+use Rattle.jr_rule.proofs.Told.{Moved}
 use Rattle.jr_rule.specs.Cells.{InRole}
 use Rattle.jr_rule.proofs.over.StepsOverSteps.move_element.Given as goal
 

@@ -5,9 +5,8 @@ use mathlib.Core.Logic.{∥∥₁_map}
 use Rattle.std.proofs.Math.Logic.{∥∥₁_elim}
 use Rattle.std.proofs.Props.{props}
 use Rattle.jr_rule.proofs.FromMayKnow.{known_few}
-use Rattle.jr_rule.proofs.ReadAsActs.{plainly}
+use Rattle.jr_rule.proofs.Told.{plainly, PutElement}
 use Rattle.jr_rule.proofs.StepTaken.{store_at, element_in, may_in, owed, leaves, standing_next, took}
-use Rattle.jr_rule.proofs.Told.{PutElement}
 use Rattle.jr_rule.proofs.over.StepsOverSteps.put_element.Goals as goal
 
 pub overflow_add-header : goal.overflow_add-header

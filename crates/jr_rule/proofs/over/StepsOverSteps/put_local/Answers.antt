@@ -8,8 +8,7 @@ use Rattle.jr_rule.proofs.FromMayKnow.{optional_few}
 use Rattle.jr_rule.proofs.LocalSteps.{place_fits}
 use Rattle.jr_rule.proofs.StepTaken.{store_at, local_in, may_in, owed, leaves, standing_next, took}
 use Rattle.jr_rule.proofs.PlaceOwed.{optional_is, puts_local}
-use Rattle.jr_rule.proofs.ReadAsActs.{putting}
-use Rattle.jr_rule.proofs.Told.{Put}
+use Rattle.jr_rule.proofs.Told.{putting, Put}
 use Rattle.jr_rule.specs.Over.{facts_over as facts}
 use Rattle.jr_rule.proofs.over.StepsOverSteps.put_local.Goals as goal
 

@@ -4,9 +4,8 @@ use Rattle.jr_rule.proofs.HeapOwed.{puts_own}
 use Rattle.std.proofs.Math.Logic.{∥∥₁_elim}
 use Rattle.std.proofs.Props.{props}
 use Rattle.jr_rule.proofs.FromMayKnow.{own_few}
-use Rattle.jr_rule.proofs.ReadAsActs.{plainly}
+use Rattle.jr_rule.proofs.Told.{plainly, PutOwn}
 use Rattle.jr_rule.proofs.StepTaken.{store_at, element_in, may_in, owed, leaves, standing_next, took}
-use Rattle.jr_rule.proofs.Told.{PutOwn}
 use Rattle.jr_rule.proofs.over.StepsOverSteps.put_reserved.Goals as goal
 
 pub overflow_add-place : goal.overflow_add-place

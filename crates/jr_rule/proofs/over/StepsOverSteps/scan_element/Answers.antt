@@ -1,10 +1,9 @@
 use Rattle.std.proofs.Common.{◌≡◌, ◌+◌, refl, sym, ap, ◌∙◌, arith}
 use Rattle.jr_rule.specs.Image.{element_at}
 use Rattle.jr_rule.proofs.CollectOwed.{scans_element}
-use Rattle.jr_rule.proofs.ReadAsActs.{element_scan}
+use Rattle.jr_rule.proofs.Told.{element_scan, ScannedElement}
 use Rattle.jr_rule.proofs.FromMayKnow.{known_few, there_is}
 use Rattle.jr_rule.proofs.StepTaken.{load_at, element_in, may_in, owed, leaves, standing_next, took}
-use Rattle.jr_rule.proofs.CollectTold.{ScannedElement}
 use Rattle.jr_rule.proofs.over.StepsOverSteps.scan_element.Goals as goal
 
 pub overflow_add-header : goal.overflow_add-header

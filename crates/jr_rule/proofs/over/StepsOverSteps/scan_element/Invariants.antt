@@ -1,6 +1,6 @@
 use Rattle.jr_model.specs.declared.event.Role.TheVariants.{Collecting}
 use Rattle.jr_steps.specs.Collecting.{IsThere}
-use Rattle.jr_rule.proofs.CollectTold.{ScannedElement}
+use Rattle.jr_rule.proofs.Told.{ScannedElement}
 use Rattle.jr_rule.specs.Cells.{InRole}
 use Rattle.jr_rule.proofs.over.StepsOverSteps.scan_element.Given as goal
 

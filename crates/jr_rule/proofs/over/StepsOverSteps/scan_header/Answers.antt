@@ -3,10 +3,9 @@ use Rattle.jr_word.specs.declared.config.Config.{Config}
 use Rattle.jr_rule.specs.Image.{header_at}
 use Rattle.jr_rule.proofs.CollectOwed.{scans_header}
 use Rattle.jr_rule.proofs.HeapOwed.{header_or_zero}
-use Rattle.jr_rule.proofs.ReadAsActs.{header_load, header_look_leaves}
+use Rattle.jr_rule.proofs.Told.{header_load, header_look_leaves, SawHeader}
 use Rattle.jr_rule.proofs.Readings.{one_header, found_so}
 use Rattle.jr_rule.proofs.StepTaken.{load_at, header_in, may_any, owed, standing_next, took}
-use Rattle.jr_rule.proofs.Told.{SawHeader}
 use Rattle.jr_rule.proofs.over.StepsOverSteps.scan_header.Goals as goal
 
 pub load-found-requires : goal.load-found-requires

@@ -2,8 +2,7 @@ use Rattle.std.proofs.Common.{◌≡◌, ◌<◌, refl, sym, ap, subst, ◌∙�
 use Rattle.jr_word.specs.declared.config.Config.{Config}
 use Rattle.jr_rule.specs.Image.{local_at}
 use Rattle.jr_rule.proofs.CollectOwed.{scans_local}
-use Rattle.jr_rule.proofs.ReadAsActs.{local_scan, local_scan_leaves, word_read}
-use Rattle.jr_rule.proofs.CollectTold.{ScannedLocal}
+use Rattle.jr_rule.proofs.Told.{local_scan, local_scan_leaves, word_read, ScannedLocal}
 use Rattle.jr_rule.proofs.StepTaken.{load_at, local_in, may_any, owed, standing_next, took}
 use Rattle.jr_rule.proofs.over.StepsOverSteps.scan_local.Goals as goal
 

@@ -1,6 +1,6 @@
 use Rattle.jr_model.specs.declared.event.Role.TheVariants.{Collecting}
 use Rattle.jr_steps.specs.Knowing.{anything}
-use Rattle.jr_rule.proofs.CollectTold.{ScannedLocal}
+use Rattle.jr_rule.proofs.Told.{ScannedLocal}
 use Rattle.jr_rule.specs.Cells.{InRole}
 use Rattle.jr_rule.proofs.over.StepsOverSteps.scan_local.Given as goal
 

@@ -1,8 +1,7 @@
 use Rattle.std.proofs.Common.{rules, refl, sym, subst, ◌<◌}
 use Rattle.jr_word.specs.declared.config.Config.{Config}
 use Rattle.jr_rule.proofs.CollectOwed.{scans_slot}
-use Rattle.jr_rule.proofs.ReadAsActs.{slot_scan, slot_scan_leaves}
-use Rattle.jr_rule.proofs.CollectTold.{ScannedSlot}
+use Rattle.jr_rule.proofs.Told.{slot_scan, slot_scan_leaves, ScannedSlot}
 use Rattle.jr_rule.proofs.Readings.{one_slot, found_so}
 use Rattle.jr_rule.proofs.StepTaken.{load_at, may_any, owed, standing_next, took}
 use Rattle.jr_rule.proofs.over.StepsOverSteps.scan_slot.Goals as goal

@@ -2,10 +2,9 @@ use Rattle.std.proofs.Common.{◌≡◌, ◌≤◌, refl, sym, ap, subst, ◌∙
 use Rattle.jr_word.specs.declared.config.Config.{Config}
 use Rattle.jr_rule.specs.Image.{header_at}
 use Rattle.jr_rule.proofs.HeapOwed.{sees_header, header_or_zero}
-use Rattle.jr_rule.proofs.ReadAsActs.{header_load, header_look_leaves}
+use Rattle.jr_rule.proofs.Told.{header_load, header_look_leaves, SawHeader}
 use Rattle.jr_rule.proofs.Readings.{one_header, found_so}
 use Rattle.jr_rule.proofs.StepTaken.{load_at, header_in, may_any, owed, standing_next, took}
-use Rattle.jr_rule.proofs.Told.{SawHeader}
 use Rattle.jr_rule.proofs.over.StepsOverSteps.see_header.Goals as goal
 
 pub load-found-requires : goal.load-found-requires

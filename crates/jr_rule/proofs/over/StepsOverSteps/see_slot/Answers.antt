@@ -4,8 +4,7 @@ use Rattle.jr_rule.proofs.ActEffects.{slot_load_role, slot_load_fresh}
 use Rattle.jr_rule.proofs.Readings.{one_slot, found_so}
 use Rattle.jr_rule.proofs.StepTaken.{load_at, may_any, owed, standing_next, took}
 use Rattle.jr_rule.proofs.SlotOwed.{sees_slot}
-use Rattle.jr_rule.proofs.ReadAsActs.{slot_load, slot_look_leaves}
-use Rattle.jr_rule.proofs.Told.{SawSlot}
+use Rattle.jr_rule.proofs.Told.{slot_load, slot_look_leaves, SawSlot}
 use Rattle.jr_rule.proofs.over.StepsOverSteps.see_slot.Goals as goal
 
 pub load-found-requires : goal.load-found-requires

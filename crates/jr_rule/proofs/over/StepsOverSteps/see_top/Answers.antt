@@ -1,7 +1,7 @@
 use Rattle.std.proofs.Common.{rules, refl}
 use Rattle.jr_rule.proofs.ActEffects.{top_load_role, top_load_fresh}
 use Rattle.jr_rule.proofs.HeapOwed.{sees_top}
-use Rattle.jr_rule.proofs.ReadAsActs.{top_load, top_look_leaves, top_word_read}
+use Rattle.jr_rule.proofs.Told.{top_load, top_look_leaves, top_word_read}
 use Rattle.jr_rule.proofs.StepTaken.{may_any, owed, standing_next, took}
 use Rattle.jr_rule.proofs.over.StepsOverSteps.see_top.Goals as goal
 

@@ -1,9 +1,8 @@
 use Rattle.std.proofs.Common.{◌≡◌, refl, sym, ap, ◌∙◌}
 use Rattle.jr_rule.specs.Image.{header_at}
 use Rattle.jr_rule.proofs.CollectOwed.{places_header}
-use Rattle.jr_rule.proofs.CollectTold.{Placed}
+use Rattle.jr_rule.proofs.Told.{Placed, plainly}
 use Rattle.jr_rule.proofs.FromMayKnow.{place_is}
-use Rattle.jr_rule.proofs.ReadAsActs.{plainly}
 use Rattle.jr_rule.proofs.StepTaken.{store_at, header_in, may_in, owed, leaves, standing_next, took}
 use Rattle.jr_rule.proofs.over.StepsOverSteps.set_header.Goals as goal
 

@@ -1,6 +1,6 @@
 use Rattle.jr_model.specs.declared.event.Role.TheVariants.{Collecting}
 use Rattle.jr_steps.specs.Collecting.{CanPlace}
-use Rattle.jr_rule.proofs.CollectTold.{Placed}
+use Rattle.jr_rule.proofs.Told.{Placed}
 use Rattle.jr_rule.specs.Cells.{InRole}
 use Rattle.jr_rule.proofs.over.StepsOverSteps.set_header.Given as goal
 

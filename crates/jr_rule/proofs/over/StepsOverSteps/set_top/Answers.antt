@@ -1,7 +1,6 @@
 use Rattle.std.proofs.Common.{rules, refl, sym}
 use Rattle.jr_rule.proofs.CollectOwed.{settles_top, below_is}
-use Rattle.jr_rule.proofs.CollectTold.{SettledTop}
-use Rattle.jr_rule.proofs.ReadAsActs.{plainly}
+use Rattle.jr_rule.proofs.Told.{SettledTop, plainly}
 use Rattle.jr_rule.proofs.StepTaken.{store_at, may_in, owed, leaves, standing_next, took}
 use Rattle.jr_rule.proofs.over.StepsOverSteps.set_top.Goals as goal
 

@@ -1,6 +1,6 @@
 use Rattle.jr_model.specs.declared.event.Role.TheVariants.{Collecting}
 use Rattle.jr_steps.specs.Collecting.{CanSettle}
-use Rattle.jr_rule.proofs.CollectTold.{SettledTop}
+use Rattle.jr_rule.proofs.Told.{SettledTop}
 use Rattle.jr_rule.specs.Cells.{InRole}
 use Rattle.jr_rule.proofs.over.StepsOverSteps.set_top.Given as goal
 

@@ -3,7 +3,7 @@ use mathlib.Core.Logic.{∥∥₁_map}
 use Rattle.std.proofs.Math.Logic.{∥∥₁_elim}
 use Rattle.std.proofs.Props.{props}
 use Rattle.jr_rule.proofs.GateOwed.{reopens}
-use Rattle.jr_rule.proofs.ReadAsActs.{reopening}
+use Rattle.jr_rule.proofs.Told.{reopening}
 use Rattle.jr_rule.proofs.StepTaken.{may_in, owed, leaves, standing_next, took}
 use Rattle.jr_rule.proofs.over.StepsOverSteps.unbar.Goals as goal
 

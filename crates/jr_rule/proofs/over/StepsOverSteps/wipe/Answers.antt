@@ -1,8 +1,7 @@
 use Rattle.std.proofs.Common.{rules, refl, sym, subst, ◌<◌}
 use Rattle.jr_word.specs.declared.config.Config.{Config}
 use Rattle.jr_rule.proofs.CollectOwed.{wipes_slot}
-use Rattle.jr_rule.proofs.ReadAsActs.{wiped_some, plainly}
-use Rattle.jr_rule.proofs.CollectTold.{Wiped}
+use Rattle.jr_rule.proofs.Told.{wiped_some, plainly, Wiped}
 use Rattle.jr_rule.proofs.FromMayKnow.{wipe_is}
 use Rattle.jr_rule.proofs.StepTaken.{exchange_at, may_in, owed, leaves, standing_next, took}
 use Rattle.jr_rule.proofs.over.StepsOverSteps.wipe.Goals as goal

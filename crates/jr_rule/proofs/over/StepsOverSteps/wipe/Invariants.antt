@@ -1,6 +1,6 @@
 use Rattle.jr_model.specs.declared.event.Role.TheVariants.{Collecting}
 use Rattle.jr_steps.specs.Collecting.{CanWipe}
-use Rattle.jr_rule.proofs.CollectTold.{Wiped}
+use Rattle.jr_rule.proofs.Told.{Wiped}
 use Rattle.jr_rule.specs.Cells.{InRole}
 use Rattle.jr_rule.proofs.over.StepsOverSteps.wipe.Given as goal
 

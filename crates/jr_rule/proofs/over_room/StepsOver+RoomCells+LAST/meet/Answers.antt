@@ -6,7 +6,7 @@ use Rattle.jr_rule.specs.Sights.{sight_of_seat}
 use Rattle.jr_rule.specs.CellLaws.{seat_sound}
 use Rattle.jr_rule.specs.Rule.{Met}
 use Rattle.jr_rule.specs.Rooms.{holder_over}
-use Rattle.jr_rule.proofs.ReadAsActs.{plainly}
+use Rattle.jr_rule.proofs.Told.{plainly}
 use Rattle.jr_rule.proofs.PassOver.{took_there}
 use Rattle.jr_rule.proofs.SeatStepped.{seat_stepped}
 use Rattle.jr_rule.proofs.StepTaken.{may_any, leaves, standing_next, took}
