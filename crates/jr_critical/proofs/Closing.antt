@@ -105,7 +105,7 @@ module _ {S : Type 0} {facts : S → Facts} {a : S} {t : Table} {v : Levels} (st
       stands_is = record { room = refl; config = refl; last = refl; thread = refl; role = stand.ready.role_is };
       ran = λ k s m.
           let l = (fits a k s).legal in
-          (k, s, made_of (spend_none (facts a).stands.fresh k t.frames t.frames l) (more_left (view k) t.frames (length (objects_of v)) two_levels l), ((known_left k m.0, refl), m.1));
+          (k, s, made_of (spend_none (facts a) k t.frames t.frames l) (more_left (view k) t.frames (length (objects_of v)) two_levels l), ((known_left k m.0, refl), m.1));
     }
 
     pub stand_left : w.inside ≡ v.inside → Stand facts w a t

@@ -132,7 +132,7 @@ module _ {S : Type 0} {facts : S → Facts} (fits : AreOf facts) (v : Levels) (l
         → Performed facts a a f f 0 (KnowsLevels v f) (λ s. for_object s (o_of v level) next) answer (λ j k. keeps j k × KnowsLevels v f k)
     reaches_not a f next answer each = record {
       stands_is = nothing_changed;
-      ran = λ k s m. let l = (fits a k s).legal in (k, s, made_of (spend_none (facts a).stands.fresh k f f l) (ran_for k (o_of v level) (h_of v level) next (held_at v level inside k m.0).shown (each (view k) l)), (refl, m));
+      ran = λ k s m. let l = (fits a k s).legal in (k, s, made_of (spend_none (facts a) k f f l) (ran_for k (o_of v level) (h_of v level) next (held_at v level inside k m.0).shown (each (view k) l)), (refl, m));
     }
 
     module _ {a b : S} {x : Act} {met : Known → Type 0} (meets : (k : Known) → HoldsHeader (o_of v level) (h_of v level) k → met k) (took : Took facts a b (x ∷ []) met keeps) (stays : x ≢ Leave) (spares : spares_places x ≡ true) (same : standing_after (facts a).stands (x ∷ []) ≡ (facts a).stands) (within : (facts a).stands.role ≡ Within) where

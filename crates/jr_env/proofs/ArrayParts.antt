@@ -143,7 +143,7 @@ module _ {S : Type 0} {facts : S → Facts} (kind : Kind) (start n : ℕ) {a b :
     refuses_part : (e : Fault) → ((p : PassView) → IsLegal p.config p.last p.seen → Ran p p f f (checked kind start n o h.kind h.length) (Err e)) → FindsPart facts a b f kind start n w (Err e)
     refuses_part e each = finds_then w 0 (checked kind start n) found (record {
       stands_is = nothing_changed;
-      ran = λ k s m. let l = (fits b k s).legal in (k, s, made_of (spend_none (facts b).stands.fresh k f f l) (each (view k) l), (m.0.shown, m.1));
+      ran = λ k s m. let l = (fits b k s).legal in (k, s, made_of (spend_none (facts b) k f f l) (each (view k) l), (m.0.shown, m.1));
     })
 
     pub finds_no_array : is_array h.kind ≡ false → FindsPart facts a b f kind start n w (Err NotArray)

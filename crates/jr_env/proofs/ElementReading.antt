@@ -109,7 +109,7 @@ module _ {A : Type 0} (i : ℕ) (rest : ℕ → Call A) where
   element_refused {facts = facts} fits b f o h e checks = record {
     stands_is = nothing_changed;
     ran = λ k s m. let l = (fits b k s).legal in
-        (k, s, made_of (spend_none (facts b).stands.fresh k f f l) (ran_err (λ u. rest o) e (ran_for k o h (λ k n. element_checks k n i) m.0.shown (ran_checks h.kind h.length i (view k) f l checks))), (m.0.shown, m.1));
+        (k, s, made_of (spend_none (facts b) k f f l) (ran_err (λ u. rest o) e (ran_for k o h (λ k n. element_checks k n i) m.0.shown (ran_checks h.kind h.length i (view k) f l checks))), (m.0.shown, m.1));
   }
 
 -- what follows the checks of a reading

@@ -123,7 +123,7 @@ record IsReadied {S : Type 0} (facts : S → Facts) (a c : S) (kind : Kind) (pla
   pub quiet : Did (view mid) (view now) []
   pub begun : History
   pub window : IsWindow (view mid) (view now) [] begun
-  pub spends : Spending (1 + length ws) (moment (facts a).stands.fresh k f) (moment (facts c).stands.fresh now f)
+  pub spends : Spending (1 + length ws) (moment (facts a) k f) (moment (facts c) now f)
   pub holds : Holds f k → Holds f now
   pub ready : AreWords (state_of k) kind ws → IsReady kind place (length ws) now
   pub has : own_words place (length ws) now ≡ ws
@@ -153,8 +153,8 @@ module _ {S : Type 0} {facts : S → Facts} {a b c : S} {place : ℕ} {ws : List
         quiet = quiet;
         begun = q.begun;
         window = subst (λ xs. IsWindow (view x.0) (view y.0) xs q.begun) q.is.0 q.window;
-        spends = let t1 : Spending (reserve_steps (length ws) - length r.acts) (moment (facts a).stands.fresh k f) (moment (facts b).stands.fresh x.0 f) = spend_acts f f (reserve_steps (length ws) - length r.acts) r.acts (reserve_steps (length ws) - length r.acts) (omega arith) r.did (omega arith) (ap (λ (z : Standing). z.fresh) sb ∙ sym (acts.fresh (facts a).stands.fresh)) in
-            let t2 : Spending (length ws) (moment (facts b).stands.fresh x.0 f) (moment (facts c).stands.fresh y.0 f) = spend_acts f f (length ws) [] (length ws) (omega arith) quiet (omega arith) (ap (λ (z : Standing). z.fresh) sc) in
+        spends = let t1 : Spending (reserve_steps (length ws) - length r.acts) (moment (facts a) k f) (moment (facts b) x.0 f) = spend_acts f f (reserve_steps (length ws) - length r.acts) r.acts (reserve_steps (length ws) - length r.acts) (omega arith) r.did (omega arith) (ap (λ (z : Standing). z.fresh) sb ∙ sym (acts.fresh (facts a).stands.fresh)) in
+            let t2 : Spending (length ws) (moment (facts b) x.0 f) (moment (facts c) y.0 f) = spend_acts f f (length ws) [] (length ws) (omega arith) quiet (omega arith) (ap (λ (z : Standing). z.fresh) sc) in
             spend_up ((reserve_steps (length ws) - length r.acts) + length ws) (1 + length ws) (omega arith) (spend_then t1 t2);
         holds = λ m. holds_did x.0 y.0 f [] quiet tt (holds_did k x.0 f r.acts r.did acts.spares m);
         ready = λ m. record { long = long; words = subst (AreWords (state_of y.0) kind) (sym y.3.0.words) (λ i v there. word_later x.0 y.0 [] quiet ((fits b x.0 x.1).role ∙ (ap (λ (z : Standing). z.role) sb ∙ within)) tt kind v (word_later k x.0 r.acts r.did role acts.stays kind v (m i v there))) };

@@ -81,7 +81,7 @@ module _ {S : Type 0} (facts : S → Facts) where
 
 module _ {S : Type 0} {facts : S → Facts} {a b : S} (same : (facts b).stands ≡ (facts a).stands) (kind : Kind) (place n : ℕ) where
   -- what a publication takes
-  spent_publishing : {answer : Result ℕ Fault} (p : Publishing facts a b kind place n answer) (k : Known) (s : (facts a).knows k) (m : IsReady kind place n k) (f : Frames) → Spending (facts a).stands.config.objects (moment (facts a).stands.fresh k f) (moment (facts b).stands.fresh (p.ran k s m).0 f)
+  spent_publishing : {answer : Result ℕ Fault} (p : Publishing facts a b kind place n answer) (k : Known) (s : (facts a).knows k) (m : IsReady kind place n k) (f : Frames) → Spending (facts a).stands.config.objects (moment (facts a) k f) (moment (facts b) (p.ran k s m).0 f)
   spent_publishing {answer} p k s m f =
       let x = p.ran k s m in
       let r = x.2 f in

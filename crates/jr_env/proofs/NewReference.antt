@@ -39,7 +39,7 @@ search_fresh b o (l ∷ ls) (Some h) = search_fresh b o ls (Some h)
 
 -- a call, and then a search
 spent : {S : Type 0} {facts : S → Facts} {A : Type 0} {b c : S} {p : Moment} {k : Known} {call : Call A} {answer : Result A Fault} {kind : RefKind} {o from to : ℕ} {order : List (ℕ × Bool) → Option Handle → Type 0} {made : Option Handle} (f : Frames)
-    → IsMade 0 p (moment (facts b).stands.fresh k f) call answer → (q : Searched facts b c kind o order from to made) (s : (facts b).knows k) (m : HasObject o k) → Spending 0 p (moment (facts c).stands.fresh (q.did k s m).0 f)
+    → IsMade 0 p (moment (facts b) k f) call answer → (q : Searched facts b c kind o order from to made) (s : (facts b).knows k) (m : HasObject o k) → Spending 0 p (moment (facts c) (q.did k s m).0 f)
 spent {facts = facts} {b = b} {c = c} {k = k} {o = o} {made = made} f x q s m =
     let y = q.did k s m in
     let count = y.6 in

@@ -147,7 +147,7 @@ module _ {S : Type 0} {facts : S → Facts} {a b : S} {f : Frames} (w : Word) {A
     pub found_refused : (e : Fault) → ((p : PassView) → IsLegal p.config p.last p.seen → Ran p p f f (next o h.kind h.length) (Err e)) → Performed facts a b f f 1 (Holds f) (object_work facts a w next) (Err e) (λ j k. Unit {0} × Holds f k)
     found_refused e each = finds_then w 0 next found (record {
       stands_is = nothing_changed;
-      ran = λ k s m. let l = (fits b k s).legal in (k, s, made_of (spend_none (facts b).stands.fresh k f f l) (each (view k) l), (m.0.shown, m.1));
+      ran = λ k s m. let l = (fits b k s).legal in (k, s, made_of (spend_none (facts b) k f f l) (each (view k) l), (m.0.shown, m.1));
     })
 
     -- so many steps at the elements of what was found

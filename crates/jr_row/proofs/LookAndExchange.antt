@@ -70,7 +70,7 @@ module _ {S : Type 0} {facts : S → Facts} {a b : S} (h : Handle) (r : Found) (
 
     -- a look and an exchange
     spent_both : {c : S} {x : Act} (u : Took facts b c (x ∷ []) (HasLooked h (found_of z)) keeps) (k : Known) (s : (facts a).knows k) (m : anything k) (f : Frames)
-        → let g = t.goes k s m in Spending 0 (moment (facts a).stands.fresh k f) (moment (facts c).stands.fresh (u.goes g.0 g.1 (looked k g.0 g.2)).0 f)
+        → let g = t.goes k s m in Spending 0 (moment (facts a) k f) (moment (facts c) (u.goes g.0 g.1 (looked k g.0 g.2)).0 f)
     spent_both u k s m f = let g = t.goes k s m in spend_first (spend_step t k s m f f) (spend_step u g.0 g.1 (looked k g.0 g.2) f f)
 
     pub deleted_won : {c : S} → Took facts b c (Delete h ∷ []) (HasLooked h (found_of z)) keeps → (f : Frames) → Performed facts a c f f 0 anything (λ s. delete h) (Ok tt) keeps
