@@ -150,7 +150,7 @@ module _ {S : Type 0} {facts : S → Facts} (fits : AreOf facts) (v : Levels) (l
         ran = λ k s m.
             let y = took.goes k s (meets k (held_at v level inside k m.0)) in
             let r = known_reached f k s m in
-            (y.0, y.1, made_of (spend_step took k s (meets k (held_at v level inside k m.0)) f f) (ran_for y.0 (o_of v level) (h_of v level) next (held_at v level inside y.0 r.0).shown (each (view k) (view y.0) (goes_did y.2))), (y.3, r));
+            (y.0, y.1, made_of (spend_step took (λ n i. refl) k s (meets k (held_at v level inside k m.0)) f f) (ran_for y.0 (o_of v level) (h_of v level) next (held_at v level inside y.0 r.0).shown (each (view k) (view y.0) (goes_did y.2))), (y.3, r));
       }
 
       -- the levels stand still

@@ -120,7 +120,7 @@ module _ {S : Type 0} {facts : S → Facts} {a b : S} (same : (facts b).stands �
         let here = subst (λ n. IsAdded n (facts a).stands.thread t.frames (record { handle = h; object = o }) g) r.own.last (subst (λ n. IsAdded t.last n t.frames (record { handle = h; object = o }) g) r.own.owner added_is) in (
           y.0,
           y.1,
-          made_of (spend_first (spent_publishing p k s m.1 t.frames) (spend_step u x.0 x.1 present t.frames g)) (placed_ran (facts a).stands.config (facts a).stands.last (facts a).stands.thread kind ws h o z d here),
+          made_of (spend_first (spent_publishing p k s m.1 t.frames) (spend_step u (λ n i. refl) x.0 x.1 present t.frames g)) (placed_ran (facts a).stands.config (facts a).stands.last (facts a).stands.thread kind ws h o z d here),
           (subst (λ z. LearnsMade kind place n z k y.0) (sym there) (y.3 ∙ x.3.0.1), holds_put x.0 y.0 t.frames g h.index (Some o) d only (holds_did k x.0 t.frames z.acts z.did acts.spares m.0)),
         );
   }

@@ -119,7 +119,7 @@ module _ {S : Type 0} {facts : S → Facts} where
               count = n;
               busy = is;
               some = some;
-              made = made_of (spend_step z k s tt t.frames t.frames) (record {
+              made = made_of (spend_step z (λ n i. refl) k s tt t.frames t.frames) (record {
                 acts = ShutBusy n ∷ [];
                 did = did;
                 is = inr (inl (n, t.frames, ShutBusy n ∷ [], [], refl, (n, refl, refl, refl), (refl, ap (λ f. Err f) is, refl)));

@@ -89,7 +89,7 @@ module _ {S : Type 0} {facts : S → Facts} (fits : AreOf facts) where
         let d = goes_did y.2 in (
           y.0,
           y.1,
-          made_of (spend_step u k s tt f g) (record { acts = LocalDrop h.index ∷ []; did = d; is = (refl, refl); begun = k.seen; window = window_act (LocalDrop h.index) d tt tt; grounds = tt }),
+          made_of (spend_step u (λ n i. refl) k s tt f g) (record { acts = LocalDrop h.index ∷ []; did = d; is = (refl, refl); begun = k.seen; window = window_act (LocalDrop h.index) d tt tt; grounds = tt }),
           (y.3, holds_put k y.0 f g h.index None d only m.0, optional_stays o k y.0 h.index d ((fits a k s).role ∙ within) m.1),
         );
   }

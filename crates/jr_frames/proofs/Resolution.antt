@@ -43,14 +43,14 @@ module _ {S : Type 0} {facts : S → Facts} where
   resolves_remote f h r b t = record {
     stands_is = as_before _ t.stands_is;
     ran = λ k s m. let g = t.goes k s tt in let d = goes_did g.2 in
-        (g.0, g.1, made_of (spend_step t k s tt f f) (ran_remote f h r b d), (g.3, holds_did k g.0 f (Look h r ∷ []) d (refl, tt) m, remote_present k g.0 h r g.2));
+        (g.0, g.1, made_of (spend_step t (λ n i. refl) k s tt f f) (ran_remote f h r b d), (g.3, holds_did k g.0 f (Look h r ∷ []) d (refl, tt) m, remote_present k g.0 h r g.2));
   }
 
   pub types_remote : {a b : S} (f : Frames) (h : Handle) (r : Found) → is_local h ≡ false → Took facts a b (Look h r ∷ []) anything keeps → Calls facts a b f f (type_at (Parts h)) (Ok (type_found h.kind r))
   types_remote f h r b t = record {
     stands_is = as_before _ t.stands_is;
     ran = λ k s m. let g = t.goes k s tt in let d = goes_did g.2 in
-        (g.0, g.1, made_of (spend_step t k s tt f f) (ran_remote_type f h r b d), (g.3, holds_did k g.0 f (Look h r ∷ []) d (refl, tt) m));
+        (g.0, g.1, made_of (spend_step t (λ n i. refl) k s tt f f) (ran_remote_type f h r b d), (g.3, holds_did k g.0 f (Look h r ∷ []) d (refl, tt) m));
   }
 
   module _ (fits : AreOf facts) (a : S) (f : Frames) where
