@@ -25,7 +25,7 @@ use Rattle.jr_steps.specs.declared.known.Known.{Known}
 use Rattle.jr_steps.specs.Knowing.{AreOf, Facts, Standing, view, anything, keeps, HasObject, HasOptional, Holds, MayKnow, Took, fresh_from}
 use Rattle.jr_steps.proofs.StepFacts.{goes_did}
 use Rattle.jr_frames.specs.Table.{Table, IsNext, IsOnly}
-use Rattle.jr_gate.specs.Performing.{Performed, moment}
+use Rattle.jr_gate.specs.Performing.{Performed, hint_from, moment}
 use Rattle.jr_heap.specs.Heap.{Called, IsReady, Publishes, own_words, by_between, publish_steps}
 use Rattle.jr_frames.specs.OverSteps.{Calls}
 use Rattle.jr_env.specs.Works.{LearnsMade, LearnsNew, Refers, object_made}
@@ -51,19 +51,20 @@ module _ (c : Config) (last t : ℕ) where
       let y : Ran q r f g (added c last t o) (Ok h) = record { acts = LocalPut h.index o ∷ []; did = e; is = (h, refl, refl, a); begun = q.seen; window = window_act (LocalPut h.index o) e tt tt; grounds = tt } in
       ran_then {next = added c last t} o x y
 
--- the acts of a publication: no more than its steps, and none at a local word
+-- the acts of a publication: no more than its steps, and none at a local word or at a slot
 record ArePublications (n : ℕ) (answer : Result ℕ Fault) (acts : List Act) : Type 0 where
   pub few : length acts ≤ publish_steps n answer
   pub fresh : (b : Bool) → fresh_from b acts ≡ b
+  pub hint : (slots i : ℕ) → hint_from slots i acts ≡ i
   pub spares : AllByRecursion (λ a. spares_places a ≡ true) acts
 
 publications : (n : ℕ) (f : Frames) (kind : Kind) (ws : List ℕ) {acts : List Act} {answer : Result ℕ Fault} → publish kind ws f acts answer f → ArePublications n answer acts
 publications n f kind ws {acts} {answer} is = ⊎_elim
     (λ x.
-    let new : ArePublications n (Ok x.0) (New x.0 kind ws ∷ []) = record { few = let e : 1 ≤ 1 = omega arith in e; fresh = λ b. refl; spares = (refl, tt) } in
+    let new : ArePublications n (Ok x.0) (New x.0 kind ws ∷ []) = record { few = let e : 1 ≤ 1 = omega arith in e; fresh = λ b. refl; hint = λ slots i. refl; spares = (refl, tt) } in
     subst (λ r. ArePublications n r acts) (sym x.2) (subst (ArePublications n (Ok x.0)) (sym x.1) new))
     (λ x.
-    let none : ArePublications n (Err ObjectsFull) [] = record { few = let e : 0 ≤ n = omega arith in e; fresh = λ b. refl; spares = tt } in
+    let none : ArePublications n (Err ObjectsFull) [] = record { few = let e : 0 ≤ n = omega arith in e; fresh = λ b. refl; hint = λ slots i. refl; spares = tt } in
     subst (λ r. ArePublications n r acts) (sym x.1) (subst (ArePublications n (Err ObjectsFull)) (sym x.0) none))
     is
 
@@ -90,7 +91,7 @@ module _ {S : Type 0} {facts : S → Facts} {a b : S} (same : (facts b).stands �
       let low = x.3.1.low in
       let high = x.3.1.high in
       let takes = x.3.1.takes in
-      spend_acts f f (facts a).stands.config.objects r.acts (x.3.1.count - length r.acts) (omega arith) r.did (omega arith) (ap (λ (z : Standing). z.fresh) same ∙ sym (acts.fresh (facts a).stands.fresh))
+      spend_acts f f (facts a).stands.config.objects r.acts (x.3.1.count - length r.acts) (omega arith) r.did (omega arith) (ap (λ (z : Standing). z.fresh) same ∙ sym (acts.fresh (facts a).stands.fresh)) (p.hint_is ∙ sym (acts.hint k.config.slots (facts a).hint))
 
   pub refers_full : {e : Fault} {f : Frames} (answer : Result Handle Fault) → IsErrAnd answer (λ y. y ≡ e) → Publishing facts a b kind place n (Err e) → (ws : List ℕ) → Refers facts a b f f kind place n ws answer
   refers_full {e} {f} answer given p ws =
