@@ -55,7 +55,7 @@ spent {facts = facts} {b = b} {c = c} {k = k} {o = o} {made = made} f same next 
     let y = q.did k s m in
     let count = y.6 in
     spend_first (spending x) (spend_acts f f 0 (search_acts o y.4 made) 0 (omega arith) y.5 (omega arith) (ap (λ (z : Standing). z.fresh) q.stands_is ∙ sym (search_fresh (facts b).stands.fresh o y.4 made))
-        (next ∙ sym (search_hint k.config.slots (facts b).hint o y.4 made ∙ ap (λ (z : Config). hint_then z.slots (facts b).hint made) same)))
+    (next ∙ sym (search_hint k.config.slots (facts b).hint o y.4 made ∙ ap (λ (z : Config). hint_then z.slots (facts b).hint made) same)))
 
 module _ {S : Type 0} {facts : S → Facts} {a b : S} {f : Frames} {first : Call (Option ℕ)} where
   pub creates_refused : {B : Type 0} {e : Fault} (next : Option ℕ → Call B) (answer : Result B Fault) → IsErrAnd answer (λ y. y ≡ e) → Resolves facts a b f first (Err e) → Calls facts a b f f (first >>= next) answer
