@@ -34,9 +34,9 @@ HasVisited old new read = HasPlayed visiting old new (signed_word w32 read)
 abbrev pub seen_by : ℕ → History → PassView
 seen_by t seen = record { config = SIZES; last = LAST; thread = t; seen = seen }
 
--- before the thread's first call: it has seen nothing, no local reference stands, and its pass is spent
+-- before the thread's first call: it has seen nothing, no local reference stands, its pass is spent, and its first search for a free slot begins at slot 0
 abbrev pub first_moment : ℕ → Moment
-first_moment t = record { pass = seen_by t []; frames = fresh_frames SIZES.locals; held = empty; fresh = false; taken = 0 }
+first_moment t = record { pass = seen_by t []; frames = fresh_frames SIZES.locals; held = empty; fresh = false; hint = 0; taken = 0 }
 
 -- A THREAD'S PART in the history: from its first moment on it did this, with this answer; and of its events the history has those, the ones at the close, and no others
 pub record PlaysPart {A : Type 0} (whole : History) (t : ℕ) (story : Deed A) (x : A) (closing : List Act) : Type 0 where

@@ -83,7 +83,7 @@ module _ {S : Type 0} {facts : S → Facts} {a : S} {t : Table} {v : Levels} (st
           let y = took.goes k s tt in
           let d = goes_did y.2 in
           let left = ran_act t.frames Leave tt (stepped_last (goes_stepped y.2)) d in
-          (y.0, y.1, made_of (spend_step took k s tt t.frames t.frames) (subst (λ n. Ran (view k) (view y.0) t.frames t.frames (region_release n) (Ok tt)) (sym one_level) left), (y.3, holds_did k y.0 t.frames (Leave ∷ []) d (refl, tt) m.1));
+          (y.0, y.1, made_of (spend_step took (λ n i. refl) k s tt t.frames t.frames) (subst (λ n. Ran (view k) (view y.0) t.frames t.frames (region_release n) (Ok tt)) (sym one_level) left), (y.3, holds_did k y.0 t.frames (Leave ∷ []) d (refl, tt) m.1));
     }
 
     pub ready_left : StandsReady facts Outside b t
@@ -105,7 +105,7 @@ module _ {S : Type 0} {facts : S → Facts} {a : S} {t : Table} {v : Levels} (st
       stands_is = record { room = refl; config = refl; last = refl; thread = refl; role = stand.ready.role_is };
       ran = λ k s m.
           let l = (fits a k s).legal in
-          (k, s, made_of (spend_none (facts a).stands.fresh k t.frames t.frames l) (more_left (view k) t.frames (length (objects_of v)) two_levels l), ((known_left k m.0, refl), m.1));
+          (k, s, made_of (spend_none (facts a) k t.frames t.frames l) (more_left (view k) t.frames (length (objects_of v)) two_levels l), ((known_left k m.0, refl), m.1));
     }
 
     pub stand_left : w.inside ≡ v.inside → Stand facts w a t
@@ -131,7 +131,7 @@ module _ {S : Type 0} {facts : S → Facts} {a b : S} {t : Table} {v : Levels} (
         let y = took.goes k s tt in
         let d = goes_did y.2 in
         let left = ran_act t.frames Leave tt (stepped_last (goes_stepped y.2)) d in
-        (y.0, y.1, made_of (spend_step took k s tt t.frames t.frames) left, (y.3, holds_did k y.0 t.frames (Leave ∷ []) d (refl, tt) m.1));
+        (y.0, y.1, made_of (spend_step took (λ n i. refl) k s tt t.frames t.frames) left, (y.3, holds_did k y.0 t.frames (Leave ∷ []) d (refl, tt) m.1));
   }
 
   pub ready_outside : StandsReady facts Outside b t

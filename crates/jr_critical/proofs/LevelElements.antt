@@ -66,7 +66,7 @@ module _ {S : Type 0} {facts : S → Facts} (fits : AreOf facts) (v : Levels) (l
     pub gets : (f : Frames) (word : ℕ) → (facts a).stands.role ≡ Within → is_read_as k x.header.kind ≡ true → i < x.header.length → w ≡ word
         → Performed facts a b f f 0 (KnowsLevels v f) (λ s. for_object s (o_of v level) (get_work kind (o_of v level) i)) (Ok word) (λ j k. keeps j k × KnowsLevels v f k)
     gets f word within e near one = subst (λ n. Performed facts a b f f 0 (KnowsLevels v f) (λ s. for_object s (o_of v level) (get_work kind (o_of v level) i)) (Ok n) (λ j k. keeps j k × KnowsLevels v f k)) one
-        (reaches fits v level inside (λ k m. m.known) read_there (λ e. cc) refl refl within f (get_work kind (o_of v level) i) (Ok w)
+        (reaches fits v level inside (λ k m. m.known) read_there (λ e. cc) refl refl within (λ n i. refl) f (get_work kind (o_of v level) i) (Ok w)
         (λ p q d. get_there f kind (h_of v level).kind (o_of v level) i (h_of v level).length w (read_as v level is same e) (is_less (h_of v level).length i (there v level is i near)) d))
 
     pub stand_got : {t : Table} → Stand facts v a t → Stand facts v b t
@@ -87,7 +87,7 @@ module _ {S : Type 0} {facts : S → Facts} (fits : AreOf facts) (v : Levels) (l
       pub sets : (f : Frames) → (facts a).stands.role ≡ Within → i < x.header.length
           → Performed facts a b f f 0 (KnowsLevels v f) (λ s. for_object s (o_of v level) (set_work kind (o_of v level) i word)) (Ok tt) (λ j k. keeps j k × KnowsLevels v f k)
       sets f within near = subst (λ n. Performed facts a b f f 0 (KnowsLevels v f) (λ s. for_object s (o_of v level) (set_work kind (o_of v level) i n)) (Ok tt) (λ j k. keeps j k × KnowsLevels v f k)) one
-          (reaches fits v level inside (λ k m. (m.known, may_store v level is same w word one below none e k)) written_there (λ e. cc) refl refl within f (set_work kind (o_of v level) i w) (Ok tt)
+          (reaches fits v level inside (λ k m. (m.known, may_store v level is same w word one below none e k)) written_there (λ e. cc) refl refl within (λ n i. refl) f (set_work kind (o_of v level) i w) (Ok tt)
           (λ p q d. set_there f kind (h_of v level).kind (o_of v level) i (h_of v level).length w (text_is v level is none) (read_as v level is same e) (is_less (h_of v level).length i (there v level is i near)) d))
 
       pub stand_set : {t : Table} → Stand facts v a t → Stand facts v b t

@@ -133,7 +133,7 @@ module _ {S : Type 0} {facts : S → Facts} where
                 = subst (λ ls. AreKnown ls y.0 × Learns (slice_index_or ls 0 blank).object (slice_index_or ls 0 blank).header k y.0) (sym items) ((learnt l.object l.header k y.0 learns, tt), learns) in
                 let answer : ◌≡◌ {A = Result ℕ Fault} (Ok l.object) (object_opened (Ok v)) = ap (λ (ls : List Level). Ok (slice_index_or ls 0 blank).object) (sym items) in
                 let ran = ran_opened (goes_stepped x.2) y.2.ran in
-                let count = spend_last (spend_step enter k s tt t.frames t.frames) (spending y.2) in
+                let count = spend_last (spend_step enter (λ n i. refl) k s tt t.frames t.frames) (spending y.2) in
                 (y.0, y.1, made_of count (subst (λ (z : Result ℕ Fault). Ran (view k) (view y.0) t.frames t.frames (opened (first_work wanted w (facts a).stands.config (facts a).stands.last (facts a).stands.thread (state_of y.0))) z) answer ran), (shows, y.3.1));
           }
 

@@ -23,7 +23,7 @@ use Rattle.jr_steps.specs.Knowing.{AreOf, Facts, MayKnow, Standing, keeps, view,
 use Rattle.jr_steps.proofs.StepFacts.{goes_did}
 use Rattle.jr_gate.specs.Performing.{Performed}
 use Rattle.jr_gate.proofs.SameRoom.{as_before, nothing_changed}
-use Rattle.jr_gate.proofs.Spending.{made_of, spend_none, spend_step}
+use Rattle.jr_gate.proofs.Spending.{KeepsHint, made_of, spend_none, spend_step}
 use Rattle.jr_heap.specs.Heap.{HoldsHeader}
 use Rattle.jr_heap.proofs.Elements.{read_word}
 use Rattle.jr_heap.proofs.KnownHeaders.{steps_keep_headers}
@@ -132,7 +132,7 @@ module _ {S : Type 0} {facts : S → Facts} (fits : AreOf facts) (v : Levels) (l
         → Performed facts a a f f 0 (KnowsLevels v f) (λ s. for_object s (o_of v level) next) answer (λ j k. keeps j k × KnowsLevels v f k)
     reaches_not a f next answer each = record {
       stands_is = nothing_changed;
-      ran = λ k s m. let l = (fits a k s).legal in (k, s, made_of (spend_none (facts a).stands.fresh k f f l) (ran_for k (o_of v level) (h_of v level) next (held_at v level inside k m.0).shown (each (view k) l)), (refl, m));
+      ran = λ k s m. let l = (fits a k s).legal in (k, s, made_of (spend_none (facts a) k f f l) (ran_for k (o_of v level) (h_of v level) next (held_at v level inside k m.0).shown (each (view k) l)), (refl, m));
     }
 
     module _ {a b : S} {x : Act} {met : Known → Type 0} (meets : (k : Known) → HoldsHeader (o_of v level) (h_of v level) k → met k) (took : Took facts a b (x ∷ []) met keeps) (stays : x ≢ Leave) (spares : spares_places x ≡ true) (same : standing_after (facts a).stands (x ∷ []) ≡ (facts a).stands) (within : (facts a).stands.role ≡ Within) where
@@ -143,14 +143,14 @@ module _ {S : Type 0} {facts : S → Facts} (fits : AreOf facts) (v : Levels) (l
           let d = goes_did y.2 in
           (known_later v.levels.items k y.0 (x ∷ []) d ((fits a k s).role ∙ within) (stays, tt) (steps_keep_headers.kept k y.0 y.3) m.0, holds_did k y.0 f (x ∷ []) d (spares, tt) m.1)
 
-      pub reaches : {A : Type 0} (f : Frames) (next : Kind → ℕ → Call A) (answer : Result A Fault) → ((p q : PassView) → Did p q (x ∷ []) → Ran p q f f (next (h_of v level).kind (h_of v level).length) answer)
+      pub reaches : {A : Type 0} → KeepsHint x → (f : Frames) (next : Kind → ℕ → Call A) (answer : Result A Fault) → ((p q : PassView) → Did p q (x ∷ []) → Ran p q f f (next (h_of v level).kind (h_of v level).length) answer)
           → Performed facts a b f f 0 (KnowsLevels v f) (λ s. for_object s (o_of v level) next) answer (λ j k. keeps j k × KnowsLevels v f k)
-      reaches f next answer each = record {
+      reaches hint f next answer each = record {
         stands_is = as_before _ (took.stands_is ∙ same);
         ran = λ k s m.
             let y = took.goes k s (meets k (held_at v level inside k m.0)) in
             let r = known_reached f k s m in
-            (y.0, y.1, made_of (spend_step took k s (meets k (held_at v level inside k m.0)) f f) (ran_for y.0 (o_of v level) (h_of v level) next (held_at v level inside y.0 r.0).shown (each (view k) (view y.0) (goes_did y.2))), (y.3, r));
+            (y.0, y.1, made_of (spend_step took hint k s (meets k (held_at v level inside k m.0)) f f) (ran_for y.0 (o_of v level) (h_of v level) next (held_at v level inside y.0 r.0).shown (each (view k) (view y.0) (goes_did y.2))), (y.3, r));
       }
 
       -- the levels stand still

@@ -22,7 +22,7 @@ use Rattle.jr_model.specs.References.{resolved}
 use Rattle.jr_model.proofs.Agreement.{spares_places}
 use Rattle.jr_model.proofs.Runs.{ran_done, ran_err, ran_then}
 use Rattle.jr_steps.specs.Knowing.{AreOf, Facts, Standing, Holds, fresh_from, view, state_of}
-use Rattle.jr_gate.specs.Performing.{Performed}
+use Rattle.jr_gate.specs.Performing.{Performed, hint_from}
 use Rattle.jr_gate.proofs.HandedOn.{handed_on}
 use Rattle.jr_gate.proofs.SameRoom.{as_before, nothing_changed}
 use Rattle.jr_gate.proofs.Spending.{made_of, spending, spend_acts, spend_none}
@@ -93,20 +93,21 @@ module _ (kind : Kind) (start n o : ℕ) (l : Kind) (m : ℕ) (p : PassView) (f 
       (ran_passed (nat_lt m (start + n)) Range _ (lies_in m (start + n) inside)
       (ran_done p f o legal)))
 
--- ACTS that leave places and freshness as they are, so many
+-- ACTS that leave places, freshness and the hint as they are, so many
 
 pub record AreSpared (n : ℕ) (acts : List Act) : Type 0 where
   pub long : length acts ≡ n
   pub spares : AllByRecursion (λ a. spares_places a ≡ true) acts
   pub fresh : (b : Bool) → fresh_from b acts ≡ b
+  pub hint : (slots i : ℕ) → hint_from slots i acts ≡ i
 
 spared_read : (o start : ℕ) (vs : List ℕ) → AreSpared (length vs) (read_acts o start vs)
-spared_read o start [] = record { long = refl; spares = tt; fresh = λ b. refl }
-spared_read o start (v ∷ vs) = let x = spared_read o (start + 1) vs in record { long = ap suc x.long; spares = (refl, x.spares); fresh = x.fresh }
+spared_read o start [] = record { long = refl; spares = tt; fresh = λ b. refl; hint = λ slots i. refl }
+spared_read o start (v ∷ vs) = let x = spared_read o (start + 1) vs in record { long = ap suc x.long; spares = (refl, x.spares); fresh = x.fresh; hint = x.hint }
 
 spared_write : (o start : ℕ) (vs : List ℕ) → AreSpared (length vs) (write_acts o start vs)
-spared_write o start [] = record { long = refl; spares = tt; fresh = λ b. refl }
-spared_write o start (v ∷ vs) = let x = spared_write o (start + 1) vs in record { long = ap suc x.long; spares = (refl, x.spares); fresh = x.fresh }
+spared_write o start [] = record { long = refl; spares = tt; fresh = λ b. refl; hint = λ slots i. refl }
+spared_write o start (v ∷ vs) = let x = spared_write o (start + 1) vs in record { long = ap suc x.long; spares = (refl, x.spares); fresh = x.fresh; hint = x.hint }
 
 pub read_spared : (o start n : ℕ) (f g : Frames) (acts : List Act) (answer : Result (List ℕ) Fault) → read o start n f acts answer g → AreSpared n acts
 read_spared o start n f g acts answer r = subst (AreSpared n) (sym r.2) (subst (λ m. AreSpared m (read_acts o start r.0)) r.1 (spared_read o start r.0))
@@ -143,7 +144,7 @@ module _ {S : Type 0} {facts : S → Facts} (kind : Kind) (start n : ℕ) {a b :
     refuses_part : (e : Fault) → ((p : PassView) → IsLegal p.config p.last p.seen → Ran p p f f (checked kind start n o h.kind h.length) (Err e)) → FindsPart facts a b f kind start n w (Err e)
     refuses_part e each = finds_then w 0 (checked kind start n) found (record {
       stands_is = nothing_changed;
-      ran = λ k s m. let l = (fits b k s).legal in (k, s, made_of (spend_none (facts b).stands.fresh k f f l) (each (view k) l), (m.0.shown, m.1));
+      ran = λ k s m. let l = (fits b k s).legal in (k, s, made_of (spend_none (facts b) k f f l) (each (view k) l), (m.0.shown, m.1));
     })
 
     pub finds_no_array : is_array h.kind ≡ false → FindsPart facts a b f kind start n w (Err NotArray)
@@ -182,7 +183,7 @@ module _ {S : Type 0} {facts : S → Facts} (kind : Kind) (start n : ℕ) {a b :
               let steps = x.3.1 in (
                 x.0,
                 x.1,
-                made_of (spend_acts f f 0 r.acts 0 (omega arith) r.did (omega arith) (ap (λ (z : Standing). z.fresh) same ∙ sym (are.fresh (facts b).stands.fresh)))
+                made_of (spend_acts f f 0 r.acts 0 (omega arith) r.did (omega arith) (ap (λ (z : Standing). z.fresh) same ∙ sym (are.fresh (facts b).stands.fresh)) (q.hint_is ∙ sym (are.hint k.config.slots (facts b).hint)))
                     (ran_then {next = next} o (ran_for x.0 o h (checked kind start n o) x.3.0.0 (ran_checked kind start n o h.kind h.length (view k) f (fits b k s).legal p.1.same p.1.inside)) r),
                 (tt, holds_did k x.0 f r.acts r.did are.spares m.1),
               );

@@ -109,7 +109,7 @@ module _ {A : Type 0} (i : ℕ) (rest : ℕ → Call A) where
   element_refused {facts = facts} fits b f o h e checks = record {
     stands_is = nothing_changed;
     ran = λ k s m. let l = (fits b k s).legal in
-        (k, s, made_of (spend_none (facts b).stands.fresh k f f l) (ran_err (λ u. rest o) e (ran_for k o h (λ k n. element_checks k n i) m.0.shown (ran_checks h.kind h.length i (view k) f l checks))), (m.0.shown, m.1));
+        (k, s, made_of (spend_none (facts b) k f f l) (ran_err (λ u. rest o) e (ran_for k o h (λ k n. element_checks k n i) m.0.shown (ran_checks h.kind h.length i (view k) f l checks))), (m.0.shown, m.1));
   }
 
 -- what follows the checks of a reading
@@ -177,7 +177,7 @@ module _ {S : Type 0} {facts : S → Facts} (fits : AreOf facts) {b c : S} {o : 
               let made = subst (λ p. Ran (view y.0) (view x.0) f g (new_local s.config s.last s.thread p) answer) is x.2.ran in (
                 x.0,
                 x.1,
-                made_of (spend_first (spend_step read k known m.0.known f f) (spending x.2))
+                made_of (spend_first (spend_step read (λ n i. refl) k known m.0.known f f) (spending x.2))
                     (ran_then {next = λ u. element_named s.config s.last s.thread i o} tt (ran_for x.0 o h (λ k n. element_checks k n i) shown (ran_checks h.kind h.length i (view k) f l checks))
                     (ran_then {next = λ p. new_local s.config s.last s.thread (object_of_word p)} v (ran_some_act f (Read o i) v tt tt did) made)),
                 (shown, x.3.1),

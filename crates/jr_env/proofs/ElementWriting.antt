@@ -159,7 +159,7 @@ module _ {S : Type 0} {facts : S → Facts} (fits : AreOf facts) {a b c : S} {f 
         let put = subst (λ q. Ran (view x.0) (view u.0) f f (act (Write o i q)) (Ok tt)) word (ran_act f (Write o i n) tt tt did) in (
           u.0,
           u.1,
-          made_of (spend_first (spending x.2) (spend_step t x.0 x.1 met f f))
+          made_of (spend_first (spending x.2) (spend_step t (λ n i. refl) x.0 x.1 met f f))
               (ran_then {next = put_at i (state_of u.0)} (Some o, z) x.2.ran
               (ran_then {next = element_at i (element_put i z) (state_of u.0)} o (ran_done (view x.0) f o l)
               (ran_then {next = λ q. element_put i z o} tt (ran_for u.0 o h (λ k n. element_checks k n i) shown (ran_checks h.kind h.length i (view x.0) f l checks)) put))),

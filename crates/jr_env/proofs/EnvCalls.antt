@@ -36,8 +36,8 @@ module _ {S : Type 0} {facts : S → Facts} {a b : S} {A : Type 0} where
       did = λ k s m.
           let x = p.ran k s m in
           let i = fits a k s in
-          let old = moment (facts a).stands.fresh k f in
-          let new = moment (facts b).stands.fresh x.0 g in
+          let old = moment (facts a) k f in
+          let new = moment (facts b) x.0 g in
           let s' = state_of x.0 in (
             x.0,
             x.1,

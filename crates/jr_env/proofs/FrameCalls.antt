@@ -85,7 +85,7 @@ module _ {S : Type 0} {facts : S → Facts} where
             window = window_nothing (view k);
             grounds = grounds (view k);
           } in
-          (k, s, holds k m, (made_of (spend_none (facts a).stands.fresh k t.frames g i.legal) ran, refl));
+          (k, s, holds k m, (made_of (spend_none (facts a) k t.frames g i.legal) ran, refl));
     })
 
     pub ensures_room : (n : ℕ) → n ≤ free_places t.last t.frames → DoesOutside facts o a r.frames t.frames (call_apart (λ c last thread. ensure_local_capacity c last thread n)) (Ok tt)

@@ -29,7 +29,7 @@ use Rattle.jr_frames.specs.Table.{Table, IsNext}
 use Rattle.jr_frames.specs.Ready.{StandsReady}
 use Rattle.jr_frames.specs.OverSteps.{Calls, FoundPresent, Resolves}
 use Rattle.jr_frames.proofs.RoomFor.{room_at}
-use Rattle.jr_gate.specs.Performing.{Moment, Performed, moment}
+use Rattle.jr_gate.specs.Performing.{Moment, Performed, hint_from, moment}
 use Rattle.jr_gate.proofs.HandedOn.{handed_on}
 use Rattle.jr_gate.proofs.SameRoom.{as_before, but_fresh, still_before}
 use Rattle.jr_gate.proofs.Spending.{Spending, made_of, spending, spend_acts, spend_last, spend_more, spend_then}
@@ -46,25 +46,26 @@ use Rattle.jr_env.proofs.NewObject.{roomy, makes_nothing}
 pub has_elements : (kind : Kind) → 0 < word_limit kind → kind ≢ Plain
 has_elements kind low e = let none : 0 < 0 = subst (λ (k : Kind). 0 < word_limit k) e low in absurd (omega arith)
 
--- the acts of a reservation of so many steps: at most one step has none, and none stores a local word or leaves
+-- the acts of a reservation of so many steps: at most one step has none, and none stores a local word, makes a reference or leaves
 record AreReservations (steps : ℕ) (acts : List Act) : Type 0 where
   pub few : length acts ≤ steps
   pub most : steps ≤ length acts + 1
   pub fresh : (b : Bool) → fresh_from b acts ≡ b
+  pub hint : (slots i : ℕ) → hint_from slots i acts ≡ i
   pub spares : AllByRecursion (λ a. spares_places a ≡ true) acts
   pub stays : AllByRecursion (λ a. a ≢ Leave) acts
 
 reservations_none : AreReservations 0 []
-reservations_none = record { few = let e : 0 ≤ 0 = omega arith in e; most = let e : 0 ≤ 1 = omega arith in e; fresh = λ b. refl; spares = tt; stays = tt }
+reservations_none = record { few = let e : 0 ≤ 0 = omega arith in e; most = let e : 0 ≤ 1 = omega arith in e; fresh = λ b. refl; hint = λ slots i. refl; spares = tt; stays = tt }
 
 reservations_won : (n : ℕ) → AreReservations 2 (Reserve n ∷ [])
-reservations_won n = record { few = let e : 1 ≤ 2 = omega arith in e; most = let e : 2 ≤ 1 + 1 = omega arith in e; fresh = λ b. refl; spares = (refl, tt); stays = (λ e. cc, tt) }
+reservations_won n = record { few = let e : 1 ≤ 2 = omega arith in e; most = let e : 2 ≤ 1 + 1 = omega arith in e; fresh = λ b. refl; hint = λ slots i. refl; spares = (refl, tt); stays = (λ e. cc, tt) }
 
 reservations_full : (n u : ℕ) → AreReservations 1 (ReserveFull n u ∷ [])
-reservations_full n u = record { few = let e : 1 ≤ 1 = omega arith in e; most = let e : 1 ≤ 1 + 1 = omega arith in e; fresh = λ b. refl; spares = (refl, tt); stays = (λ e. cc, tt) }
+reservations_full n u = record { few = let e : 1 ≤ 1 = omega arith in e; most = let e : 1 ≤ 1 + 1 = omega arith in e; fresh = λ b. refl; hint = λ slots i. refl; spares = (refl, tt); stays = (λ e. cc, tt) }
 
 reservations_lost : (n l u : ℕ) → AreReservations 2 (ReserveLost n l u ∷ [])
-reservations_lost n l u = record { few = let e : 1 ≤ 2 = omega arith in e; most = let e : 2 ≤ 1 + 1 = omega arith in e; fresh = λ b. refl; spares = (refl, tt); stays = (λ e. cc, tt) }
+reservations_lost n l u = record { few = let e : 1 ≤ 2 = omega arith in e; most = let e : 2 ≤ 1 + 1 = omega arith in e; fresh = λ b. refl; hint = λ slots i. refl; spares = (refl, tt); stays = (λ e. cc, tt) }
 
 reserved_acts : (n : ℕ) (f : Frames) (acts : List Act) → reserve n f acts (Ok tt) f → AreReservations (reserve_steps n) acts
 reserved_acts zero f acts r = subst (AreReservations 0) (sym r.0) reservations_none
@@ -112,7 +113,7 @@ all_words kind n v k w i u there = subst (λ z. IsWordNow kind z k) (sym (among 
 spend_up : {p q : Moment} (m n : ℕ) → m ≤ n → Spending m p q → Spending n p q
 spend_up m n l s =
     let few = s.spent.most in
-    record { acts = s.acts; did = s.did; spent = record { without = s.spent.without; most = omega arith; taken = s.spent.taken; fresh = s.spent.fresh } }
+    record { acts = s.acts; did = s.did; spent = record { without = s.spent.without; most = omega arith; taken = s.spent.taken; fresh = s.spent.fresh; hint = s.spent.hint } }
 
 -- words were reserved and filled
 record IsReadied {S : Type 0} (facts : S → Facts) (a c : S) (kind : Kind) (place : ℕ) (ws : List ℕ) (f : Frames) (k : Known) : Type 0 where
@@ -123,7 +124,7 @@ record IsReadied {S : Type 0} (facts : S → Facts) (a c : S) (kind : Kind) (pla
   pub quiet : Did (view mid) (view now) []
   pub begun : History
   pub window : IsWindow (view mid) (view now) [] begun
-  pub spends : Spending (1 + length ws) (moment (facts a).stands.fresh k f) (moment (facts c).stands.fresh now f)
+  pub spends : Spending (1 + length ws) (moment (facts a) k f) (moment (facts c) now f)
   pub holds : Holds f k → Holds f now
   pub ready : AreWords (state_of k) kind ws → IsReady kind place (length ws) now
   pub has : own_words place (length ws) now ≡ ws
@@ -153,8 +154,8 @@ module _ {S : Type 0} {facts : S → Facts} {a b c : S} {place : ℕ} {ws : List
         quiet = quiet;
         begun = q.begun;
         window = subst (λ xs. IsWindow (view x.0) (view y.0) xs q.begun) q.is.0 q.window;
-        spends = let t1 : Spending (reserve_steps (length ws) - length r.acts) (moment (facts a).stands.fresh k f) (moment (facts b).stands.fresh x.0 f) = spend_acts f f (reserve_steps (length ws) - length r.acts) r.acts (reserve_steps (length ws) - length r.acts) (omega arith) r.did (omega arith) (ap (λ (z : Standing). z.fresh) sb ∙ sym (acts.fresh (facts a).stands.fresh)) in
-            let t2 : Spending (length ws) (moment (facts b).stands.fresh x.0 f) (moment (facts c).stands.fresh y.0 f) = spend_acts f f (length ws) [] (length ws) (omega arith) quiet (omega arith) (ap (λ (z : Standing). z.fresh) sc) in
+        spends = let t1 : Spending (reserve_steps (length ws) - length r.acts) (moment (facts a) k f) (moment (facts b) x.0 f) = spend_acts f f (reserve_steps (length ws) - length r.acts) r.acts (reserve_steps (length ws) - length r.acts) (omega arith) r.did (omega arith) (ap (λ (z : Standing). z.fresh) sb ∙ sym (acts.fresh (facts a).stands.fresh)) (won.hint_is ∙ sym (acts.hint k.config.slots (facts a).hint)) in
+            let t2 : Spending (length ws) (moment (facts b) x.0 f) (moment (facts c) y.0 f) = spend_acts f f (length ws) [] (length ws) (omega arith) quiet (omega arith) (ap (λ (z : Standing). z.fresh) sc) filled.hint_is in
             spend_up ((reserve_steps (length ws) - length r.acts) + length ws) (1 + length ws) (omega arith) (spend_then t1 t2);
         holds = λ m. holds_did x.0 y.0 f [] quiet tt (holds_did k x.0 f r.acts r.did acts.spares m);
         ready = λ m. record { long = long; words = subst (AreWords (state_of y.0) kind) (sym y.3.0.words) (λ i v there. word_later x.0 y.0 [] quiet ((fits b x.0 x.1).role ∙ (ap (λ (z : Standing). z.role) sb ∙ within)) tt kind v (word_later k x.0 r.acts r.did role acts.stays kind v (m i v there))) };
@@ -216,7 +217,7 @@ module _ {S : Type 0} {facts : S → Facts} where
             let takes = x.3.1 in (
               x.0,
               x.1,
-              made_of (spend_acts t.frames t.frames (making_steps (length ws) z.config) y.acts (refused_steps e - length y.acts) (omega arith) y.did (omega arith) (ap (λ (u : Standing). u.fresh) same ∙ sym (acts.fresh z.fresh)))
+              made_of (spend_acts t.frames t.frames (making_steps (length ws) z.config) y.acts (refused_steps e - length y.acts) (omega arith) y.did (omega arith) (ap (λ (u : Standing). u.fresh) same ∙ sym (acts.fresh z.fresh)) (lost.hint_is ∙ sym (acts.hint k.config.slots (facts a).hint)))
                   (roomy z.config z.last z.thread t.frames kind ws (room_at h r next) (ran_err (λ e. publish kind ws >>= added z.config z.last z.thread) e y)),
               (tt, holds_did k x.0 t.frames y.acts y.did acts.spares m.0),
             );

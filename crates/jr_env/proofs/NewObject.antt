@@ -25,7 +25,7 @@ use Rattle.jr_steps.specs.declared.known.Known.{Known}
 use Rattle.jr_steps.specs.Knowing.{AreOf, Facts, Standing, view, anything, keeps, HasObject, HasOptional, Holds, MayKnow, Took, fresh_from}
 use Rattle.jr_steps.proofs.StepFacts.{goes_did}
 use Rattle.jr_frames.specs.Table.{Table, IsNext, IsOnly}
-use Rattle.jr_gate.specs.Performing.{Performed, moment}
+use Rattle.jr_gate.specs.Performing.{Performed, hint_from, moment}
 use Rattle.jr_heap.specs.Heap.{Called, IsReady, Publishes, own_words, by_between, publish_steps}
 use Rattle.jr_frames.specs.OverSteps.{Calls}
 use Rattle.jr_env.specs.Works.{LearnsMade, LearnsNew, Refers, object_made}
@@ -51,19 +51,20 @@ module _ (c : Config) (last t : ℕ) where
       let y : Ran q r f g (added c last t o) (Ok h) = record { acts = LocalPut h.index o ∷ []; did = e; is = (h, refl, refl, a); begun = q.seen; window = window_act (LocalPut h.index o) e tt tt; grounds = tt } in
       ran_then {next = added c last t} o x y
 
--- the acts of a publication: no more than its steps, and none at a local word
+-- the acts of a publication: no more than its steps, and none at a local word or at a slot
 record ArePublications (n : ℕ) (answer : Result ℕ Fault) (acts : List Act) : Type 0 where
   pub few : length acts ≤ publish_steps n answer
   pub fresh : (b : Bool) → fresh_from b acts ≡ b
+  pub hint : (slots i : ℕ) → hint_from slots i acts ≡ i
   pub spares : AllByRecursion (λ a. spares_places a ≡ true) acts
 
 publications : (n : ℕ) (f : Frames) (kind : Kind) (ws : List ℕ) {acts : List Act} {answer : Result ℕ Fault} → publish kind ws f acts answer f → ArePublications n answer acts
 publications n f kind ws {acts} {answer} is = ⊎_elim
     (λ x.
-    let new : ArePublications n (Ok x.0) (New x.0 kind ws ∷ []) = record { few = let e : 1 ≤ 1 = omega arith in e; fresh = λ b. refl; spares = (refl, tt) } in
+    let new : ArePublications n (Ok x.0) (New x.0 kind ws ∷ []) = record { few = let e : 1 ≤ 1 = omega arith in e; fresh = λ b. refl; hint = λ slots i. refl; spares = (refl, tt) } in
     subst (λ r. ArePublications n r acts) (sym x.2) (subst (ArePublications n (Ok x.0)) (sym x.1) new))
     (λ x.
-    let none : ArePublications n (Err ObjectsFull) [] = record { few = let e : 0 ≤ n = omega arith in e; fresh = λ b. refl; spares = tt } in
+    let none : ArePublications n (Err ObjectsFull) [] = record { few = let e : 0 ≤ n = omega arith in e; fresh = λ b. refl; hint = λ slots i. refl; spares = tt } in
     subst (λ r. ArePublications n r acts) (sym x.1) (subst (ArePublications n (Err ObjectsFull)) (sym x.0) none))
     is
 
@@ -81,7 +82,7 @@ module _ {S : Type 0} (facts : S → Facts) where
 
 module _ {S : Type 0} {facts : S → Facts} {a b : S} (same : (facts b).stands ≡ (facts a).stands) (kind : Kind) (place n : ℕ) where
   -- what a publication takes
-  spent_publishing : {answer : Result ℕ Fault} (p : Publishing facts a b kind place n answer) (k : Known) (s : (facts a).knows k) (m : IsReady kind place n k) (f : Frames) → Spending (facts a).stands.config.objects (moment (facts a).stands.fresh k f) (moment (facts b).stands.fresh (p.ran k s m).0 f)
+  spent_publishing : {answer : Result ℕ Fault} (p : Publishing facts a b kind place n answer) (k : Known) (s : (facts a).knows k) (m : IsReady kind place n k) (f : Frames) → Spending (facts a).stands.config.objects (moment (facts a) k f) (moment (facts b) (p.ran k s m).0 f)
   spent_publishing {answer} p k s m f =
       let x = p.ran k s m in
       let r = x.2 f in
@@ -90,7 +91,7 @@ module _ {S : Type 0} {facts : S → Facts} {a b : S} (same : (facts b).stands �
       let low = x.3.1.low in
       let high = x.3.1.high in
       let takes = x.3.1.takes in
-      spend_acts f f (facts a).stands.config.objects r.acts (x.3.1.count - length r.acts) (omega arith) r.did (omega arith) (ap (λ (z : Standing). z.fresh) same ∙ sym (acts.fresh (facts a).stands.fresh))
+      spend_acts f f (facts a).stands.config.objects r.acts (x.3.1.count - length r.acts) (omega arith) r.did (omega arith) (ap (λ (z : Standing). z.fresh) same ∙ sym (acts.fresh (facts a).stands.fresh)) (p.hint_is ∙ sym (acts.hint k.config.slots (facts a).hint))
 
   pub refers_full : {e : Fault} {f : Frames} (answer : Result Handle Fault) → IsErrAnd answer (λ y. y ≡ e) → Publishing facts a b kind place n (Err e) → (ws : List ℕ) → Refers facts a b f f kind place n ws answer
   refers_full {e} {f} answer given p ws =
@@ -120,7 +121,7 @@ module _ {S : Type 0} {facts : S → Facts} {a b : S} (same : (facts b).stands �
         let here = subst (λ n. IsAdded n (facts a).stands.thread t.frames (record { handle = h; object = o }) g) r.own.last (subst (λ n. IsAdded t.last n t.frames (record { handle = h; object = o }) g) r.own.owner added_is) in (
           y.0,
           y.1,
-          made_of (spend_first (spent_publishing p k s m.1 t.frames) (spend_step u x.0 x.1 present t.frames g)) (placed_ran (facts a).stands.config (facts a).stands.last (facts a).stands.thread kind ws h o z d here),
+          made_of (spend_first (spent_publishing p k s m.1 t.frames) (spend_step u (λ n i. refl) x.0 x.1 present t.frames g)) (placed_ran (facts a).stands.config (facts a).stands.last (facts a).stands.thread kind ws h o z d here),
           (subst (λ z. LearnsMade kind place n z k y.0) (sym there) (y.3 ∙ x.3.0.1), holds_put x.0 y.0 t.frames g h.index (Some o) d only (holds_did k x.0 t.frames z.acts z.did acts.spares m.0)),
         );
   }

@@ -1,5 +1,5 @@
 -- A reference is made to what was resolved.
-use Rattle.std.proofs.Common.{◌≡◌, ℕ, Bool, true, arith, Option, Some, None, List, [], ◌∷◌, Result, Ok, Err, refl, sym, ap, subst, ◌∙◌}
+use Rattle.std.proofs.Common.{◌≡◌, ◌+◌, ◌%◌, ℕ, Bool, true, arith, Option, Some, None, List, [], ◌∷◌, Result, Ok, Err, refl, sym, ap, subst, ◌∙◌}
 use Rattle.std.specs.List.{AllByRecursion}
 use Rattle.std.specs.Result.{IsErrAnd}
 use mathlib.Core.Logic.{∥∥₁_map}
@@ -16,7 +16,7 @@ use Rattle.jr_model.proofs.Agreement.{spares_places}
 use Rattle.jr_model.proofs.Runs.{ran_done, ran_then, ran_err, ran_give, did_legal, ran_created, ran_row_full}
 use Rattle.jr_steps.specs.declared.known.Known.{Known}
 use Rattle.jr_steps.specs.Knowing.{AreOf, Facts, Standing, view, fresh_from, HasObject, Holds, MayKnow}
-use Rattle.jr_gate.specs.Performing.{Moment, moment, IsMade}
+use Rattle.jr_gate.specs.Performing.{Moment, hint_from, moment, IsMade}
 use Rattle.jr_row.specs.Searching.{Searched, search_acts}
 use Rattle.jr_frames.specs.OverSteps.{Resolves, Calls}
 use Rattle.jr_gate.proofs.SameRoom.{as_before, still_before}
@@ -37,13 +37,25 @@ search_fresh b o [] (Some h) = refl
 search_fresh b o (l ∷ ls) None = search_fresh b o ls None
 search_fresh b o (l ∷ ls) (Some h) = search_fresh b o ls (Some h)
 
+-- where the next search begins once one is over: behind what was won, and where nothing was, as before
+abbrev hint_then : ℕ → ℕ → Option Handle → ℕ
+hint_then slots hint None = hint
+hint_then slots hint (Some h) = (h.index + 1) % slots
+
+search_hint : (slots hint o : ℕ) (looks : List (ℕ × Bool)) (made : Option Handle) → hint_from slots hint (search_acts o looks made) ≡ hint_then slots hint made
+search_hint slots hint o [] None = refl
+search_hint slots hint o [] (Some h) = refl
+search_hint slots hint o (l ∷ ls) None = search_hint slots hint o ls None
+search_hint slots hint o (l ∷ ls) (Some h) = search_hint slots hint o ls (Some h)
+
 -- a call, and then a search
 spent : {S : Type 0} {facts : S → Facts} {A : Type 0} {b c : S} {p : Moment} {k : Known} {call : Call A} {answer : Result A Fault} {kind : RefKind} {o from to : ℕ} {order : List (ℕ × Bool) → Option Handle → Type 0} {made : Option Handle} (f : Frames)
-    → IsMade 0 p (moment (facts b).stands.fresh k f) call answer → (q : Searched facts b c kind o order from to made) (s : (facts b).knows k) (m : HasObject o k) → Spending 0 p (moment (facts c).stands.fresh (q.did k s m).0 f)
-spent {facts = facts} {b = b} {c = c} {k = k} {o = o} {made = made} f x q s m =
+    → k.config ≡ (facts b).stands.config → (facts c).hint ≡ hint_then (facts b).stands.config.slots (facts b).hint made → IsMade 0 p (moment (facts b) k f) call answer → (q : Searched facts b c kind o order from to made) (s : (facts b).knows k) (m : HasObject o k) → Spending 0 p (moment (facts c) (q.did k s m).0 f)
+spent {facts = facts} {b = b} {c = c} {k = k} {o = o} {made = made} f same next x q s m =
     let y = q.did k s m in
     let count = y.6 in
-    spend_first (spending x) (spend_acts f f 0 (search_acts o y.4 made) 0 (omega arith) y.5 (omega arith) (ap (λ (z : Standing). z.fresh) q.stands_is ∙ sym (search_fresh (facts b).stands.fresh o y.4 made)))
+    spend_first (spending x) (spend_acts f f 0 (search_acts o y.4 made) 0 (omega arith) y.5 (omega arith) (ap (λ (z : Standing). z.fresh) q.stands_is ∙ sym (search_fresh (facts b).stands.fresh o y.4 made))
+    (next ∙ sym (search_hint k.config.slots (facts b).hint o y.4 made ∙ ap (λ (z : Config). hint_then z.slots (facts b).hint made) same)))
 
 module _ {S : Type 0} {facts : S → Facts} {a b : S} {f : Frames} {first : Call (Option ℕ)} where
   pub creates_refused : {B : Type 0} {e : Fault} (next : Option ℕ → Call B) (answer : Result B Fault) → IsErrAnd answer (λ y. y ≡ e) → Resolves facts a b f first (Err e) → Calls facts a b f f (first >>= next) answer
@@ -67,8 +79,8 @@ module _ {S : Type 0} {facts : S → Facts} {a b : S} {f : Frames} {first : Call
   may_create is r some = let p = resolves_at is r in ∥∥₁_map some (λ k. let x = p.ran k.0 k.1 k.2 in (x.0, x.1, x.3.2))
 
   pub creates_full : {c : S} {z : Option ℕ} {o : ℕ} {order : List (ℕ × Bool) → Option Handle → Type 0} {e : Fault} (fits : AreOf facts) → (facts a).stands.role ≡ Within → (kind : RefKind) (answer : Result (Option Handle) Fault) → IsErrAnd answer (λ y. y ≡ e)
-      → z ≡ Some o → Resolves facts a b f first (Ok z) → (e ≡ RowFull) × Searched facts b c kind o order 0 (facts b).stands.config.slots None → Calls facts a c f f (first >>= created kind) answer
-  creates_full {c} {o = o} fits w kind answer given is r why = let p = resolves_at is r in let q = why.1 in handed_on answer (subst (λ y. IsErrAnd answer (λ z. z ≡ y)) why.0 given) (record {
+      → z ≡ Some o → Resolves facts a b f first (Ok z) → (e ≡ RowFull) × Searched facts b c kind o order 0 (facts b).stands.config.slots None → (facts c).hint ≡ (facts b).hint → Calls facts a c f f (first >>= created kind) answer
+  creates_full {c} {o = o} fits w kind answer given is r why hint = let p = resolves_at is r in let q = why.1 in handed_on answer (subst (λ y. IsErrAnd answer (λ z. z ≡ y)) why.0 given) (record {
     stands_is = still_before p.stands_is (as_before _ q.stands_is);
     ran = λ k s m.
         let x = p.ran k s m in
@@ -76,20 +88,20 @@ module _ {S : Type 0} {facts : S → Facts} {a b : S} {f : Frames} {first : Call
         let slots : y.0.config.slots ≡ (facts b).stands.config.slots = ap (λ (z : Config). z.slots) (y.5.config ∙ (fits b x.0 x.1).config) in (
           y.0,
           y.1,
-          made_of (spent f x.2 q x.1 x.3.2) (ran_then {next = created kind} (Some o) x.2.ran (ran_err (λ h. done (Some h)) RowFull (ran_row_full f kind o y.4 ((fits b x.0 x.1).role ∙ (p.stands_is.role ∙ w)) y.5 (λ i l. y.3 i (omega arith) (omega arith))))),
+          made_of (spent f (fits b x.0 x.1).config hint x.2 q x.1 x.3.2) (ran_then {next = created kind} (Some o) x.2.ran (ran_err (λ h. done (Some h)) RowFull (ran_row_full f kind o y.4 ((fits b x.0 x.1).role ∙ (p.stands_is.role ∙ w)) y.5 (λ i l. y.3 i (omega arith) (omega arith))))),
           (y.8 ∙ x.3.0, holds_did x.0 y.0 f (search_acts o y.4 None) y.5 (search_spares o y.4 None) x.3.1),
         );
   })
 
-  pub creates_won : {c : S} {z : Option ℕ} {o from to : ℕ} {order : List (ℕ × Bool) → Option Handle → Type 0} {kind : RefKind} {h : Handle} → z ≡ Some o → Resolves facts a b f first (Ok z) → Searched facts b c kind o order from to (Some h) → Calls facts a c f f (first >>= created kind) (Ok (Some h))
-  creates_won {o = o} {kind = kind} {h = h} is r q = let p = resolves_at is r in record {
+  pub creates_won : {c : S} {z : Option ℕ} {o from to : ℕ} {order : List (ℕ × Bool) → Option Handle → Type 0} {kind : RefKind} {h : Handle} → AreOf facts → z ≡ Some o → Resolves facts a b f first (Ok z) → Searched facts b c kind o order from to (Some h) → (facts c).hint ≡ (h.index + 1) % (facts b).stands.config.slots → Calls facts a c f f (first >>= created kind) (Ok (Some h))
+  creates_won {o = o} {kind = kind} {h = h} fits is r q hint = let p = resolves_at is r in record {
     stands_is = still_before p.stands_is (as_before _ q.stands_is);
     ran = λ k s m.
         let x = p.ran k s m in
         let y = q.did x.0 x.1 x.3.2 in (
           y.0,
           y.1,
-          made_of (spent f x.2 q x.1 x.3.2) (ran_then {next = created kind} (Some o) x.2.ran (ran_give (λ z. Some z) h (ran_created f kind o h y.4 q.kind_is.0 y.5))),
+          made_of (spent f (fits b x.0 x.1).config hint x.2 q x.1 x.3.2) (ran_then {next = created kind} (Some o) x.2.ran (ran_give (λ z. Some z) h (ran_created f kind o h y.4 q.kind_is.0 y.5))),
           (y.8 ∙ x.3.0, holds_did x.0 y.0 f (search_acts o y.4 (Some h)) y.5 (search_spares o y.4 (Some h)) x.3.1),
         );
   }

@@ -37,7 +37,7 @@ module _ {S : Type 0} {facts : S → Facts} (fits : AreOf facts) where
   -- what follows an object that was found, without a step
   pub at_once : {A : Type 0} (b : S) (f : Frames) (o : ℕ) (h : HeaderParts) {call : Call A} {answer : Result A Fault} → ((p : PassView) → IsLegal p.config p.last p.seen → Ran p p f f call answer)
       → Performed facts b b f f 0 (λ k. HoldsHeader o h k × Holds f k) (λ s. call) answer (λ j k. ShowsObject o h k × Holds f k)
-  at_once b f o h each = record { stands_is = nothing_changed; ran = λ k s m. let l = (fits b k s).legal in (k, s, made_of (spend_none (facts b).stands.fresh k f f l) (each (view k) l), (m.0.shown, m.1)) }
+  at_once b f o h each = record { stands_is = nothing_changed; ran = λ k s m. let l = (fits b k s).legal in (k, s, made_of (spend_none (facts b) k f f l) (each (view k) l), (m.0.shown, m.1)) }
 
   module _ {a b : S} {f : Frames} {o : ℕ} {h : HeaderParts} (w : Word) (found : Finds facts a b f w (Ok (o, h))) where
     pub tells_kind : Performed facts a b f f 1 (Holds f) (λ s. kind_reading (facts a).stands.config (facts a).stands.last (facts a).stands.thread s w) (Ok h.kind) (λ j k. Unit {0} × Holds f k)

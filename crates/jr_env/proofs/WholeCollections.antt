@@ -101,6 +101,7 @@ module _ {S : Type 0} {facts : S → Facts} where
                 grounds = tt;
               };
               fresh = ap (λ (s : Standing). s.fresh) m.went.stands_is;
+              hint = m.went.hint_is;
               lets_go = y.3.0;
             },
           );
@@ -119,7 +120,7 @@ module _ {S : Type 0} {facts : S → Facts} where
               count = n;
               busy = is;
               some = some;
-              made = made_of (spend_step z k s tt t.frames t.frames) (record {
+              made = made_of (spend_step z (λ n i. refl) k s tt t.frames t.frames) (record {
                 acts = ShutBusy n ∷ [];
                 did = did;
                 is = inr (inl (n, t.frames, ShutBusy n ∷ [], [], refl, (n, refl, refl, refl), (refl, ap (λ f. Err f) is, refl)));

@@ -126,7 +126,7 @@ spared_by : {A : Type 0} (form : A → List ℕ) (o n : ℕ) (f g : Frames) (act
 spared_by form o n f g acts (Ok x) (inl r) = read_spared o 0 n f g acts (Ok (form x)) r
 spared_by form o n f g acts (Ok x) (inr r) = absurd (let e = r.1 in cc)
 spared_by form o n f g acts (Err e) (inl r) = absurd (let d = r.3 in cc)
-spared_by form o n f g acts (Err e) (inr r) = subst (AreSpared 0) (sym r.0) (record { long = refl; spares = tt; fresh = λ b. refl })
+spared_by form o n f g acts (Err e) (inr r) = subst (AreSpared 0) (sym r.0) (record { long = refl; spares = tt; fresh = λ b. refl; hint = λ slots i. refl })
 
 pub copy_spared : {A : Type 0} (form : A → List ℕ) (o n : ℕ) (f g : Frames) (acts : List Act) (answer : Result A Fault) → copied o n f acts (answer_in form answer) g → AreSpared (copy_steps n answer) acts
 copy_spared form o n f g acts answer r = spared_by form o n f g acts answer (read_or_short o n f g acts (answer_in form answer) r)
@@ -147,7 +147,7 @@ module _ {S : Type 0} {facts : S → Facts} {a b : S} {f : Frames} (w : Word) {A
     pub found_refused : (e : Fault) → ((p : PassView) → IsLegal p.config p.last p.seen → Ran p p f f (next o h.kind h.length) (Err e)) → Performed facts a b f f 1 (Holds f) (object_work facts a w next) (Err e) (λ j k. Unit {0} × Holds f k)
     found_refused e each = finds_then w 0 next found (record {
       stands_is = nothing_changed;
-      ran = λ k s m. let l = (fits b k s).legal in (k, s, made_of (spend_none (facts b).stands.fresh k f f l) (each (view k) l), (m.0.shown, m.1));
+      ran = λ k s m. let l = (fits b k s).legal in (k, s, made_of (spend_none (facts b) k f f l) (each (view k) l), (m.0.shown, m.1));
     })
 
     -- so many steps at the elements of what was found
@@ -164,7 +164,7 @@ module _ {S : Type 0} {facts : S → Facts} {a b : S} {f : Frames} (w : Word) {A
           let steps = x.3.1 in (
             x.0,
             x.1,
-            made_of (spend_acts f f 0 r.acts 0 (omega arith) r.did (omega arith) (ap (λ (z : Standing). z.fresh) same ∙ sym (are.fresh (facts b).stands.fresh))) (passes (view k) (view x.0) r),
+            made_of (spend_acts f f 0 r.acts 0 (omega arith) r.did (omega arith) (ap (λ (z : Standing). z.fresh) same ∙ sym (are.fresh (facts b).stands.fresh)) (q.hint_is ∙ sym (are.hint k.config.slots (facts b).hint))) (passes (view k) (view x.0) r),
             (x.3.0.0, holds_did k x.0 f r.acts r.did are.spares m.1),
           );
     })

@@ -15,7 +15,7 @@ use Rattle.jr_weak.specs.Markers.{room_of}
 use Rattle.jr_env.specs.declared.env.Env.{Env}
 use Rattle.jr_env.specs.Deeds.{Deed}
 
--- A COLLECTION WAS MADE: the machine's, which clears and drops so many, all that was to be in the state at its shut, and leaves so many words used. The frames stay as they are, and afterwards the thread holds nothing
+-- A COLLECTION WAS MADE: the machine's, which clears and drops so many, all that was to be in the state at its shut, and leaves so many words used. The frames and the hint stay as they are, and afterwards the thread holds nothing
 pub record IsCollected (old new : Moment) (c : Collected) : Type 0 where
   pub cleared : List Handle
   pub dropped : List ℕ
@@ -24,6 +24,7 @@ pub record IsCollected (old new : Moment) (c : Collected) : Type 0 where
   pub collects : Collects old.pass new.pass cleared dropped c.used
   pub ran : Ran old.pass new.pass old.frames new.frames parts.collect (Ok (c.cleared, c.dropped, c.used))
   pub fresh : new.fresh ≡ old.fresh
+  pub hint : new.hint ≡ old.hint
   pub lets_go : new.held ≡ empty
 
 -- IT WAS REFUSED: at its one operation so many threads were not outside, at least one; and nothing has changed

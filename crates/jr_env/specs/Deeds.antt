@@ -203,7 +203,7 @@ module _ {S : Type 0} (facts : S → Facts) where
   -- the deed was done: for whatever was known, something is known that it may lead to
   pub record DoesDeed {A : Type 0} (old new : S) (before after : Frames) (deed : Deed A) (answer : Result A Fault) : Type 0 where
     pub stands_is : IsAsBefore (facts old).stands (facts new).stands
-    pub did : Leads facts old new (Holds before) (λ k k'. Holds after k') (λ k k'. deed (moment (facts old).stands.fresh k before) answer (moment (facts new).stands.fresh k' after))
+    pub did : Leads facts old new (Holds before) (λ k k'. Holds after k') (λ k k'. deed (moment (facts old) k before) answer (moment (facts new) k' after))
 
   -- the deed was done by a call, where the thread stood outside; and afterwards it stands outside in any case
   pub record DoesOutside {A : Type 0} (old new : S) (before after : Frames) (deed : Deed A) (answer : Result A Fault) : Type 0 where

@@ -42,7 +42,7 @@ module _ {S : Type 0} {facts : S → Facts} where
         let y = u.goes k s tt in
         let d = goes_did y.2 in
         let dropped : Ran (view k) (view y.0) f g (drop_local h) (Ok tt) = record { acts = LocalDrop h.index ∷ []; did = d; is = (refl, refl, gone); begun = k.seen; window = window_act (LocalDrop h.index) d tt tt; grounds = tt } in
-        (y.0, y.1, made_of (spend_step u k s tt f g) (local_ran c t h e e' e'' (ran_then {next = λ _. drop_local h} (Some o) (looked_ran h (Some o) e is (fits a k s).legal) dropped)), (y.3, holds_put k y.0 f g h.index None d only m));
+        (y.0, y.1, made_of (spend_step u (λ n i. refl) k s tt f g) (local_ran c t h e e' e'' (ran_then {next = λ _. drop_local h} (Some o) (looked_ran h (Some o) e is (fits a k s).legal) dropped)), (y.3, holds_put k y.0 f g h.index None d only m));
   }
 
   module _ (fits : AreOf facts) (a : S) (f : Frames) (c : Config) where

@@ -78,7 +78,7 @@ module _ {S : Type 0} {facts : S → Facts} (fits : AreOf facts) where
   drops_nothing a f o = record {
     stands_is = nothing_changed;
     ran = λ k s m. let l = (fits a k s).legal in
-        (k, s, made_of (spend_none (facts a).stands.fresh k f f l) (record { acts = []; did = did_nothing (view k) l; is = (refl, refl); begun = k.seen; window = window_nothing (view k); grounds = tt }), (refl, m.0, m.1));
+        (k, s, made_of (spend_none (facts a) k f f l) (record { acts = []; did = did_nothing (view k) l; is = (refl, refl); begun = k.seen; window = window_nothing (view k); grounds = tt }), (refl, m.0, m.1));
   }
 
   pub drops_one : {a b : S} {f g : Frames} (h : Handle) → (facts a).stands.role ≡ Within → Took facts a b (LocalDrop h.index ∷ []) (HasOptional None) keeps → IsOnly f h.index None g → Drops facts a b f g (dropping (LocalDrop h.index ∷ []))
@@ -89,7 +89,7 @@ module _ {S : Type 0} {facts : S → Facts} (fits : AreOf facts) where
         let d = goes_did y.2 in (
           y.0,
           y.1,
-          made_of (spend_step u k s tt f g) (record { acts = LocalDrop h.index ∷ []; did = d; is = (refl, refl); begun = k.seen; window = window_act (LocalDrop h.index) d tt tt; grounds = tt }),
+          made_of (spend_step u (λ n i. refl) k s tt f g) (record { acts = LocalDrop h.index ∷ []; did = d; is = (refl, refl); begun = k.seen; window = window_act (LocalDrop h.index) d tt tt; grounds = tt }),
           (y.3, holds_put k y.0 f g h.index None d only m.0, optional_stays o k y.0 h.index d ((fits a k s).role ∙ within) m.1),
         );
   }
@@ -100,7 +100,7 @@ module _ {S : Type 0} {facts : S → Facts} (fits : AreOf facts) where
     stands_is = (p o).stands_is;
     ran = λ k s m.
         let x = (p o).ran k s m in
-        let none = spend_none (facts b).stands.fresh x.0 g h (fits b x.0 x.1).legal in
+        let none = spend_none (facts b) x.0 g h (fits b x.0 x.1).legal in
         (x.0, x.1, made_of (spend_first (spending x.2) none) (dropped_as is x.2.ran), (x.3.0, (λ q. x.3.1 q ∙ sym (ap (object_where (λ r. r.handle.index == q)) same)), x.3.2));
   }
 

@@ -121,11 +121,11 @@ ran_header s o h a = record { acts = a.acts; did = a.did; is = (a.is.0, a.is.1, 
 module _ {S : Type 0} {facts : S → Facts} {b c : S} {h : HeaderParts} {o : ℕ} where
   -- the look at a header takes one step, without an act
   pub spend_look : (f : Frames) → (facts c).stands ≡ (facts b).stands → (q : Called facts b c (HasObject o) (λ j k. header (state_of k) o) (Ok (h.kind, h.length)) (by_steps 1 (Learns o h))) (k : Known) (s : (facts b).knows k) (m : HasObject o k)
-      → Spending 1 (moment (facts b).stands.fresh k f) (moment (facts c).stands.fresh (q.ran k s m).0 f)
+      → Spending 1 (moment (facts b) k f) (moment (facts c) (q.ran k s m).0 f)
   spend_look f same q k s m =
       let y = q.ran k s m in
       let r = y.2 f in
-      spend_acts f f 1 [] 1 (omega arith) (subst (λ l. Did (view k) (view y.0) l) r.is.2.0 r.did) y.3.1 (ap (λ (z : Standing). z.fresh) same)
+      spend_acts f f 1 [] 1 (omega arith) (subst (λ l. Did (view k) (view y.0) l) r.is.2.0 r.did) y.3.1 (ap (λ (z : Standing). z.fresh) same) q.hint_is
 
 -- a call for the kind and the length of an object that is shown by its header
 pub ran_for : {A : Type 0} {p q : PassView} {f g : Frames} (k : Known) (o : ℕ) (h : HeaderParts) (next : Kind → ℕ → Call A) {answer : Result A Fault} → ShowsObject o h k → Ran p q f g (next h.kind h.length) answer → Ran p q f g (for_object (state_of k) o next) answer

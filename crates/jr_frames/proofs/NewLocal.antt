@@ -47,7 +47,7 @@ module _ {S : Type 0} {facts : S → Facts} where
       let s = (facts a).stands in
       subst (λ y. MakesLocal facts a a f f y (new_local s.config s.last s.thread y) (Ok None)) (sym is) (record {
         stands_is = nothing_changed;
-        ran = λ k v m. let l = (fits a k v).legal in (k, v, made_of (spend_none s.fresh k f f l) (ran_done (view k) f None l), (refl, m.0));
+        ran = λ k v m. let l = (fits a k v).legal in (k, v, made_of (spend_none (facts a) k f f l) (ran_done (view k) f None l), (refl, m.0));
       })
 
   -- no place is free
@@ -58,7 +58,7 @@ module _ {S : Type 0} {facts : S → Facts} where
       let none_here = subst (λ n. free_places n t.frames ≡ 0) r.own.last none in
       subst (λ y. MakesLocal facts a a t.frames t.frames y (new_local s.config s.last s.thread y) (Err LocalsFull)) (sym is) (record {
         stands_is = nothing_changed;
-        ran = λ k v m. let l = (fits a k v).legal in (k, v, made_of (spend_none s.fresh k t.frames t.frames l) (full_ran s.config s.last s.thread _ none_here l), (refl, m.0));
+        ran = λ k v m. let l = (fits a k v).legal in (k, v, made_of (spend_none (facts a) k t.frames t.frames l) (full_ran s.config s.last s.thread _ none_here l), (refl, m.0));
       })
 
   pub makes_local : {a b : S} {t : Table} {g : Frames} {z : Option ℕ} {o : ℕ} {h : Handle} → z ≡ Some o → StandsReady facts Within a t → IsNext t h → Took facts a b (LocalPut h.index o ∷ []) (HasOptional (Some o)) keeps
@@ -72,7 +72,7 @@ module _ {S : Type 0} {facts : S → Facts} where
         ran = λ k v m.
             let y = u.goes k v m.1 in
             let d = goes_did y.2 in
-            (y.0, y.1, made_of (spend_step u k v m.1 t.frames g) (room_ran s.config s.last s.thread t.frames (room_at h r next) (ran_give (λ x. Some x) h (local_ran s.config s.last s.thread h o d here))), (y.3, holds_put k y.0 t.frames g h.index (Some o) d only m.0));
+            (y.0, y.1, made_of (spend_step u (λ n i. refl) k v m.1 t.frames g) (room_ran s.config s.last s.thread t.frames (room_at h r next) (ran_give (λ x. Some x) h (local_ran s.config s.last s.thread h o d here))), (y.3, holds_put k y.0 t.frames g h.index (Some o) d only m.0));
       })
 
   module _ {a b : S} {z : Option ℕ} where

@@ -63,7 +63,7 @@ module _ {S : Type 0} {facts : S → Facts} where
       let s = (facts a).stands in
       let none_here = subst (λ n. free_places n (popped f) ≡ 0) is none in record {
         stands_is = nothing_changed;
-        ran = λ k v m. let l = (fits a k v).legal in (k, v, made_of (spend_none s.fresh k f f l) (no_room_ran s.config s.last s.thread o _ none_here l), (refl, m.0));
+        ran = λ k v m. let l = (fits a k v).legal in (k, v, made_of (spend_none (facts a) k f f l) (no_room_ran s.config s.last s.thread o _ none_here l), (refl, m.0));
       }
 
   pub may_pop : {a b : S} {f g : Frames} (z : Option ℕ) → Drops facts a b f g take_frame → MayKnow facts a (λ k. Holds f k × HasOptional z k) → MayKnow facts b (HasOptional z)

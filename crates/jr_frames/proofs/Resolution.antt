@@ -43,24 +43,24 @@ module _ {S : Type 0} {facts : S → Facts} where
   resolves_remote f h r b t = record {
     stands_is = as_before _ t.stands_is;
     ran = λ k s m. let g = t.goes k s tt in let d = goes_did g.2 in
-        (g.0, g.1, made_of (spend_step t k s tt f f) (ran_remote f h r b d), (g.3, holds_did k g.0 f (Look h r ∷ []) d (refl, tt) m, remote_present k g.0 h r g.2));
+        (g.0, g.1, made_of (spend_step t (λ n i. refl) k s tt f f) (ran_remote f h r b d), (g.3, holds_did k g.0 f (Look h r ∷ []) d (refl, tt) m, remote_present k g.0 h r g.2));
   }
 
   pub types_remote : {a b : S} (f : Frames) (h : Handle) (r : Found) → is_local h ≡ false → Took facts a b (Look h r ∷ []) anything keeps → Calls facts a b f f (type_at (Parts h)) (Ok (type_found h.kind r))
   types_remote f h r b t = record {
     stands_is = as_before _ t.stands_is;
     ran = λ k s m. let g = t.goes k s tt in let d = goes_did g.2 in
-        (g.0, g.1, made_of (spend_step t k s tt f f) (ran_remote_type f h r b d), (g.3, holds_did k g.0 f (Look h r ∷ []) d (refl, tt) m));
+        (g.0, g.1, made_of (spend_step t (λ n i. refl) k s tt f f) (ran_remote_type f h r b d), (g.3, holds_did k g.0 f (Look h r ∷ []) d (refl, tt) m));
   }
 
   module _ (fits : AreOf facts) (a : S) (f : Frames) where
     -- a call that takes no step
     pub stays : {A : Type 0} {call : Call A} {answer : Result A Fault} → ((p : PassView) → IsLegal p.config p.last p.seen → Ran p p f f call answer) → Calls facts a a f f call answer
-    stays each = record { stands_is = nothing_changed; ran = λ k s m. let l = (fits a k s).legal in (k, s, made_of (spend_none (facts a).stands.fresh k f f l) (each (view k) l), (refl, m)) }
+    stays each = record { stands_is = nothing_changed; ran = λ k s m. let l = (fits a k s).legal in (k, s, made_of (spend_none (facts a) k f f l) (each (view k) l), (refl, m)) }
 
     -- a resolution that takes no step and finds no object
     pub resolves_none : {call : Call (Option ℕ)} {answer : Result (Option ℕ) Fault} → ((k : Known) → FoundPresent answer k) → ((p : PassView) → IsLegal p.config p.last p.seen → Ran p p f f call answer) → Resolves facts a a f call answer
-    resolves_none none each = record { stands_is = nothing_changed; ran = λ k s m. let l = (fits a k s).legal in (k, s, made_of (spend_none (facts a).stands.fresh k f f l) (each (view k) l), (refl, m, none k)) }
+    resolves_none none each = record { stands_is = nothing_changed; ran = λ k s m. let l = (fits a k s).legal in (k, s, made_of (spend_none (facts a) k f f l) (each (view k) l), (refl, m, none k)) }
 
     -- NULL and a malformed reference name no object
     pub resolves_void : (r : Reference) → ((h : Handle) → r ≢ reference.Parts h) → Resolves facts a a f (looked (word_of r)) (Ok None)
@@ -86,7 +86,7 @@ module _ {S : Type 0} {facts : S → Facts} where
     resolves_local h z b is at = record {
       stands_is = nothing_changed;
       ran = λ k s m. let l = (fits a k s).legal in
-          (k, s, made_of (spend_none (facts a).stands.fresh k f f l) (subst (λ y. Ran (view k) (view k) f f (looked_at h) (local_answer y)) (sym is) (ran_local (view k) f h b l)), (refl, m, found_there f h z at k l m));
+          (k, s, made_of (spend_none (facts a) k f f l) (subst (λ y. Ran (view k) (view k) f f (looked_at h) (local_answer y)) (sym is) (ran_local (view k) f h b l)), (refl, m, found_there f h z at k l m));
     }
 
     module _ (c : Config) (last t : ℕ) (w : Word) where

@@ -70,7 +70,7 @@ module _ (c : Config) (last t : ℕ) (v w : Word) where
     module _ (fits : AreOf facts) (a : S) (f : Frames) where
       -- a refusal before any step
       both_none : {e : Fault} → ((p : PassView) → IsLegal p.config p.last p.seen → Ran p p f f (resolved_both c last t v w) (Err e)) → ResolvesBoth facts a a f (resolved_both c last t v w) (Err e)
-      both_none each = record { stands_is = nothing_changed; ran = λ k s m. let l = (fits a k s).legal in (k, s, made_of (spend_none (facts a).stands.fresh k f f l) (each (view k) l), (refl, m, tt)) }
+      both_none each = record { stands_is = nothing_changed; ran = λ k s m. let l = (fits a k s).legal in (k, s, made_of (spend_none (facts a) k f f l) (each (view k) l), (refl, m, tt)) }
 
       pub both_malformed : (is_malformed v || is_malformed w) ≡ true → ResolvesBoth facts a a f (resolved_both c last t v w) (Err fault.Stale)
       both_malformed e = both_none (λ p l. ran_either p f (is_malformed v) (is_malformed w) fault.Stale _ e tt l)

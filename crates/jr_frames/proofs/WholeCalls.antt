@@ -77,6 +77,6 @@ module _ {S : Type 0} {facts : S → Facts} where
               let z = u.goes y.0 y.1 tt in
               let h = holds_did k x.0 f (Enter ∷ []) (goes_did x.2) (refl, tt) m in
               let run = ran_later {call = work (facts a).stands.config (facts a).stands.last (facts a).stands.thread} same (kept_by_leave y.0 z.0 (fits c y.0 y.1) within z.2) y.2.ran in
-              let count = spend_first (spend_last (spend_step e k s tt f f) (spending y.2)) (spend_step u y.0 y.1 tt g g) in
+              let count = spend_first (spend_last (spend_step e (λ n i. refl) k s tt f f) (spending y.2)) (spend_step u (λ n i. refl) y.0 y.1 tt g g) in
               (z.0, z.1, made_of count (ran_entered (goes_stepped x.2) run (goes_stepped z.2)), (z.3, holds_did y.0 z.0 g (Leave ∷ []) (goes_did z.2) (refl, tt) y.3.1));
         }

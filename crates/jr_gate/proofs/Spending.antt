@@ -1,6 +1,7 @@
 -- What a call takes from its pass, from what its steps take.
 use Rattle.std.proofs.Common.{◌≡◌, ◌≤◌, ◌+◌, ℕ, Bool, List, [], ◌∷◌, ◌++◌, length, Result, refl, sym, ap, subst, ◌∙◌, arith}
 use Rattle.std.proofs.lemmas.List.{length-append}
+use Rattle.jr_word.specs.declared.config.Config.{Config}
 use Rattle.jr_word.specs.declared.fault.Fault.{Fault}
 use Rattle.jr_model.specs.declared.event.Act.{Act}
 use Rattle.jr_model.specs.declared.event.Act.TheVariants.{Knock, Withdraw}
@@ -12,7 +13,7 @@ use Rattle.jr_steps.specs.declared.known.Known.{Known}
 use Rattle.jr_steps.specs.Knowing.{Facts, Standing, view, fresh_after, fresh_from, anything, Takes, Took}
 use Rattle.jr_steps.proofs.StepFacts.{goes_did}
 use Rattle.jr_gate.specs.Acting.{ActedTo, IsWithdrawn}
-use Rattle.jr_gate.specs.Performing.{Moment, moment, Spends, IsMade}
+use Rattle.jr_gate.specs.Performing.{Moment, hint_after, hint_from, moment, moment_with, Spends, IsMade}
 
 -- between two moments a thread's acts are one list
 acts_once : {p q : PassView} (xs ys : List Act) → Did p q xs → Did p q ys → xs ≡ ys
@@ -21,6 +22,14 @@ acts_once {p} xs ys d e = append_cancel (mine p.seen p.thread) xs ys (sym d.own 
 fresh_append : (f : Bool) (xs ys : List Act) → fresh_from f (xs ++ ys) ≡ fresh_from (fresh_from f xs) ys
 fresh_append f [] ys = refl
 fresh_append f (x ∷ xs) ys = fresh_append (fresh_after f x) xs ys
+
+hint_append : (slots hint : ℕ) (xs ys : List Act) → hint_from slots hint (xs ++ ys) ≡ hint_from slots (hint_from slots hint xs) ys
+hint_append slots hint [] ys = refl
+hint_append slots hint (x ∷ xs) ys = hint_append slots (hint_after slots hint x) xs ys
+
+-- the act makes no reference, so that the next search begins where it began
+abbrev pub KeepsHint : Act → Type 0
+KeepsHint a = (slots hint : ℕ) → hint_after slots hint a ≡ hint
 
 -- the acts between two moments, and what they take
 pub record Spending (silent : ℕ) (old new : Moment) : Type 0 where
@@ -50,6 +59,9 @@ spend_then {n} {m} {p} {q} {r} s t =
         most = omega arith;
         taken = omega arith;
         fresh = t.spent.fresh ∙ (ap (λ b. fresh_from b t.acts) s.spent.fresh ∙ sym (fresh_append p.fresh s.acts t.acts));
+        hint = t.spent.hint
+            ∙ (ap (λ (c : Config). hint_from c.slots q.hint t.acts) s.did.config
+            ∙ (ap (λ i. hint_from p.pass.config.slots i t.acts) s.spent.hint ∙ sym (hint_append p.pass.config.slots p.hint s.acts t.acts)));
       };
     }
 
@@ -64,33 +76,34 @@ spend_last {n} {p} {q} {r} s t = subst (λ m. Spending m p r) (let e : 0 + n ≡
 pub spend_more : {p q : Moment} (n : ℕ) → Spending 0 p q → Spending n p q
 spend_more n s =
     let none = s.spent.most in
-    record { acts = s.acts; did = s.did; spent = record { without = s.spent.without; most = omega arith; taken = s.spent.taken; fresh = s.spent.fresh } }
+    record { acts = s.acts; did = s.did; spent = record { without = s.spent.without; most = omega arith; taken = s.spent.taken; fresh = s.spent.fresh; hint = s.spent.hint } }
 
 -- no step
-pub spend_none : (fresh : Bool) (k : Known) (f g : Frames) → IsLegal k.config k.last k.seen → Spending 0 (moment fresh k f) (moment fresh k g)
-spend_none fresh k f g l = record {
+pub spend_none : (s : Facts) (k : Known) (f g : Frames) → IsLegal k.config k.last k.seen → Spending 0 (moment s k f) (moment s k g)
+spend_none s k f g l = record {
   acts = [];
   did = did_nothing (view k) l;
-  spent = record { without = 0; most = let e : 0 ≤ 0 = omega arith in e; taken = omega arith; fresh = refl };
+  spent = record { without = 0; most = let e : 0 ≤ 0 = omega arith in e; taken = omega arith; fresh = refl; hint = refl };
 }
 
 -- so many operations, with these acts
-pub spend_acts : {k k' : Known} {a b : Bool} (f g : Frames) (silent : ℕ) (acts : List Act) (without : ℕ) → without ≤ silent → Did (view k) (view k') acts → Takes (length acts + without) k k' → b ≡ fresh_from a acts → Spending silent (moment a k f) (moment b k' g)
-spend_acts f g silent acts without most did taken fresh = record { acts = acts; did = did; spent = record { without = without; most = most; taken = taken; fresh = fresh } }
+pub spend_acts : {k k' : Known} {a b : Bool} {h i : ℕ} (f g : Frames) (silent : ℕ) (acts : List Act) (without : ℕ)
+    → without ≤ silent → Did (view k) (view k') acts → Takes (length acts + without) k k' → b ≡ fresh_from a acts → i ≡ hint_from k.config.slots h acts → Spending silent (moment_with a h k f) (moment_with b i k' g)
+spend_acts f g silent acts without most did taken fresh hint = record { acts = acts; did = did; spent = record { without = without; most = most; taken = taken; fresh = fresh; hint = hint } }
 
 module _ {S : Type 0} {facts : S → Facts} where
-  -- one step with an act
-  pub spend_step : {a b : S} {x : Act} {met : Known → Type 0} {shows : Known → Known → Type 0} (t : Took facts a b (x ∷ []) met shows) (k : Known) (s : (facts a).knows k) (m : met k) (f g : Frames)
-      → Spending 0 (moment (facts a).stands.fresh k f) (moment (facts b).stands.fresh (t.goes k s m).0 g)
-  spend_step {a} {b} {x} t k s m f g =
+  -- one step with an act that makes no reference
+  pub spend_step : {a b : S} {x : Act} {met : Known → Type 0} {shows : Known → Known → Type 0} (t : Took facts a b (x ∷ []) met shows) → KeepsHint x → (k : Known) (s : (facts a).knows k) (m : met k) (f g : Frames)
+      → Spending 0 (moment (facts a) k f) (moment (facts b) (t.goes k s m).0 g)
+  spend_step {a} {b} {x} t keeps k s m f g =
       let y = t.goes k s m in
       let one = y.2.taken in
-      spend_acts f g 0 (x ∷ []) 0 (omega arith) (goes_did y.2) (omega arith) (ap (λ (z : Standing). z.fresh) t.stands_is)
+      spend_acts f g 0 (x ∷ []) 0 (omega arith) (goes_did y.2) (omega arith) (ap (λ (z : Standing). z.fresh) t.stands_is) (t.hint_is ∙ sym (keeps k.config.slots (facts a).hint))
 
   -- a knock and its withdrawal
   pub spend_barred : {a b : S} (t : ActedTo facts a b (Knock ∷ Withdraw ∷ []) anything IsWithdrawn) (k : Known) (s : (facts a).knows k) (f g : Frames)
-      → Spending 0 (moment (facts a).stands.fresh k f) (moment (facts b).stands.fresh (t.leads k s tt).0 g)
+      → Spending 0 (moment (facts a) k f) (moment (facts b) (t.leads k s tt).0 g)
   spend_barred {a} {b} t k s f g =
       let y = t.leads k s tt in
       let two = y.3.0.1 in
-      spend_acts f g 0 (Knock ∷ Withdraw ∷ []) 0 (omega arith) y.2 (omega arith) (ap (λ (z : Standing). z.fresh) t.stands_is)
+      spend_acts f g 0 (Knock ∷ Withdraw ∷ []) 0 (omega arith) y.2 (omega arith) (ap (λ (z : Standing). z.fresh) t.stands_is) t.hint_is

@@ -1,7 +1,8 @@
 -- What a call is, over any steps, for whatever was known.
-use Rattle.std.specs.Prelude.{◌≡◌, ◌≤◌, ◌+◌, ℕ, Bool, Result, List, length}
+use Rattle.std.specs.Prelude.{◌≡◌, ◌≤◌, ◌+◌, ◌%◌, ℕ, Bool, Result, List, [], ◌∷◌, length}
 use Rattle.jr_word.specs.declared.fault.Fault.{Fault}
 use Rattle.jr_model.specs.declared.event.Act.{Act}
+use Rattle.jr_model.specs.declared.event.Act.TheVariants.{Create}
 use Rattle.jr_model.specs.State.{State}
 use Rattle.jr_model.specs.History.{PassView}
 use Rattle.jr_model.specs.Frames.{Frames}
@@ -18,24 +19,40 @@ pub record IsAsBefore (old new : Standing) : Type 0 where
   pub thread : new.thread ≡ old.thread
   pub role : new.role ≡ old.role
 
--- A MOMENT of a thread: what its pass has seen and holds, its frames, whether the pass is fresh, and how many operations it has taken
+-- where the next search for a free slot begins after an act: behind the reference that it made, round the slots, and else where it began
+abbrev pub hint_after : ℕ → ℕ → Act → ℕ
+hint_after slots hint (Create h o) = (h.index + 1) % slots
+hint_after slots hint _ = hint
+
+-- the same after acts: behind the reference made last
+abbrev pub hint_from : ℕ → ℕ → List Act → ℕ
+hint_from slots hint [] = hint
+hint_from slots hint (a ∷ acts) = hint_from slots (hint_after slots hint a) acts
+
+-- A MOMENT of a thread: what its pass has seen and holds, its frames, whether the pass is fresh, where its next search for a free slot begins, and how many operations it has taken
 pub record Moment : Type 0 where
   pub pass : PassView
   pub frames : Frames
   pub held : Holdings
   pub fresh : Bool
+  pub hint : ℕ
   pub taken : ℕ
 
--- the moment at which so much is known
-abbrev pub moment : Bool → Known → Frames → Moment
-moment fresh k f = record { pass = view k; frames = f; held = k.holdings; fresh = fresh; taken = k.taken }
+-- the moment at which so much is known of a pass that is fresh or not, and whose next search begins there
+abbrev pub moment_with : Bool → ℕ → Known → Frames → Moment
+moment_with fresh hint k f = record { pass = view k; frames = f; held = k.holdings; fresh = fresh; hint = hint; taken = k.taken }
 
--- what acts take from a pass: one operation each, and at most so many more, of which nobody else could tell; and it is as fresh as they leave it
+-- the moment at which so much is known of such a pass
+abbrev pub moment : Facts → Known → Frames → Moment
+moment s = moment_with s.stands.fresh s.hint
+
+-- what acts take from a pass: one operation each, and at most so many more, of which nobody else could tell; it is as fresh as they leave it, and its next search begins where they leave it
 pub record Spends (silent : ℕ) (old new : Moment) (acts : List Act) : Type 0 where
   pub without : ℕ
   pub most : without ≤ silent
   pub taken : new.taken ≡ old.taken + (length acts + without)
   pub fresh : new.fresh ≡ fresh_from old.fresh acts
+  pub hint : new.hint ≡ hint_from old.pass.config.slots old.hint acts
 
 -- A CALL WAS MADE between two moments, with this answer, by one operation for each of its acts and at most so many more
 pub record IsMade {A : Type 0} (silent : ℕ) (old new : Moment) (call : Call A) (answer : Result A Fault) : Type 0 where
@@ -46,4 +63,4 @@ module _ {S : Type 0} (facts : S → Facts) where
   -- a call was made: for whatever was known and meets the condition, something is known from which the thread did what the call does, with this answer, and which shows this. The call may name the state that it leaves
   pub record Performed {A : Type 0} (old new : S) (before after : Frames) (silent : ℕ) (met : Known → Type 0) (call : State → Call A) (answer : Result A Fault) (shows : Known → Known → Type 0) : Type 0 where
     pub stands_is : IsAsBefore (facts old).stands (facts new).stands
-    pub ran : Leads facts old new met (λ k k'. IsMade silent (moment (facts old).stands.fresh k before) (moment (facts new).stands.fresh k' after) (call (state_of k')) answer) shows
+    pub ran : Leads facts old new met (λ k k'. IsMade silent (moment (facts old) k before) (moment (facts new) k' after) (call (state_of k')) answer) shows

@@ -86,7 +86,7 @@ module _ {S : Type 0} {facts : S → Facts} (fits : AreOf facts) (o : ℕ) (h : 
   -- a refusal, before any act
   refused : {A : Type 0} (a : S) (e : Fault) (met : Known → Type 0) (call : Known → Known → Call A) (shows : Known → Known → Type 0) → ((k : Known) → LeavesObject o h k k → shows k k) → ((k : Known) → met k → HoldsHeader o h k) → ((p : PassView) → Grounds p.seen p e)
       → ((k : Known) → (x : Contents) → (state_of k).objects o ≡ Some x → x.kind ≡ h.kind → length x.words ≡ h.length → (f : Frames) → call k k f [] (Err e) f) → Called facts a a met call (Err e) (by_steps 0 shows)
-  refused a e met call shows leaves holds grounds is = called_by (λ k s m. let x = (holds k m).shown in (k, s, [], record { did = did_nothing (view k) (fits a k s).legal; is = is k x.contents x.is x.says.kind x.says.long; window = window_nothing (view k); grounds = grounds (view k); shows = (leaves k (x, refl), no_step k) }))
+  refused a e met call shows leaves holds grounds is = called_by refl (λ k s m. let x = (holds k m).shown in (k, s, [], record { did = did_nothing (view k) (fits a k s).legal; is = is k x.contents x.is x.says.kind x.says.long; window = window_nothing (view k); grounds = grounds (view k); shows = (leaves k (x, refl), no_step k) }))
 
   pub read_plain : (a : S) → is_plain h.kind ≡ true → Called facts a a (HoldsHeader o h) (λ j k. read_element (state_of k) o i) (Err NotArray) (by_steps 0 (Finds o h (Err NotArray)))
   read_plain a plain = refused a NotArray (HoldsHeader o h) (λ j k. read_element (state_of k) o i) (Finds o h (Err NotArray)) (λ k l. (l, tt)) (λ k m. m) (λ p. tt) (λ k x there kind long f. (x, there, no_elements o i (length x.words) x.kind f (ap is_plain kind ∙ plain)))
@@ -97,7 +97,7 @@ module _ {S : Type 0} {facts : S → Facts} (fits : AreOf facts) (o : ℕ) (h : 
 
   pub read_found : {a b : S} (v : ℕ) → (facts a).stands.role ≡ Within → is_plain h.kind ≡ false → i < h.length → Took facts a b (Read o i v ∷ []) (KnowsHeader o h) keeps
       → Called facts a b (HoldsHeader o h) (λ j k. read_element (state_of k) o i) (Ok v) (by_steps 1 (Finds o h (Ok v)))
-  read_found {a} v w plain l t = called_by (λ k s m.
+  read_found {a} v w plain l t = called_by t.hint_is (λ k s m.
       let g = t.goes k s m.known in
       let d = goes_did g.2 in
       let x = object_later k g.0 (Read o i v ∷ []) d ((fits a k s).role ∙ w) ((λ e. cc), tt) o h m.shown in
@@ -134,7 +134,7 @@ module _ {S : Type 0} {facts : S → Facts} (fits : AreOf facts) (o : ℕ) (h : 
 
   pub write_stored : {a b : S} → (facts a).stands.role ≡ Within → (is_plain h.kind || is_text h.kind) ≡ false → i < h.length → is_value h.kind v ≡ true → Took facts a b (Write o i v ∷ []) (λ k. KnowsHeader o h k × IsWordNow h.kind v k) keeps
       → Called facts a b (MayWrite o h v) (λ j k. write_element (state_of k) o i v) (Ok tt) (by_steps 1 (LeavesObject o h))
-  write_stored {a} w plain l good t = called_by (λ k s m.
+  write_stored {a} w plain l good t = called_by t.hint_is (λ k s m.
       let g = t.goes k s (m.0.known, word_is (state_of k) h.kind v good m.1) in
       let d = goes_did g.2 in
       let x = object_later k g.0 (Write o i v ∷ []) d ((fits a k s).role ∙ w) ((λ e. cc), tt) o h m.0.shown in

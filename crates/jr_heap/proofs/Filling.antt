@@ -66,6 +66,7 @@ pub record IsFilledTo (place n : ℕ) (us : List ℕ) (i : ℕ) (j k : Known) : 
 -- what was done so far
 pub record FilledTo {S : Type 0} (facts : S → Facts) (place n : ℕ) (us : List ℕ) (old new : S) (i : ℕ) : Type 0 where
   pub stands_is : (facts new).stands ≡ (facts old).stands
+  pub hint_is : (facts new).hint ≡ (facts old).hint
   pub did : Leads facts old new (IsOwn place n) (λ k k'. Did (view k) (view k') []) (IsFilledTo place n us i)
 
 pub among : (n v i w : ℕ) → slice_get (replicate n v) i ≡ Some w → w ≡ v
@@ -115,12 +116,14 @@ module _ {S : Type 0} {facts : S → Facts} (fits : AreOf facts) (place n : ℕ)
   pub filled_nothing : (a : S) → FilledTo facts place n us a a 0
   filled_nothing a = record {
     stands_is = refl;
+    hint_is = refl;
     did = λ k s m. (k, s, did_nothing (view k) (fits a k s).legal, record { long = λ l. ap (λ (ws : List ℕ). length ws) (sym (words_some place n k l)) ∙ m; words = λ l. refl; headers = refl; others = λ p ne. refl; counted = omega arith });
   }
 
   pub filled_more : {a b c : S} (i v : ℕ) → FilledTo facts place n us a b i → i < n → slice_get us i ≡ Some v → Took facts b c [] (HasWord place i) (ShowsWord place i v) → FilledTo facts place n us a c (i + 1)
   filled_more i v p l at t = record {
     stands_is = t.stands_is ∙ p.stands_is;
+    hint_is = t.hint_is ∙ p.hint_is;
     did = λ k s m.
         let x = p.did k s m in
         let has : i < length (words_at place x.0.holdings.ranges) = let e = x.3.long (omega arith) in omega arith in
@@ -147,7 +150,7 @@ module _ {S : Type 0} {facts : S → Facts} (fits : AreOf facts) (place n : ℕ)
     whole = subst (λ m. FilledTo facts place n us a b m) end p
 
     pub filled_call : (facts a).stands.role ≡ Within → Called facts a b (IsOwn place n) (λ j k. no_act) (Ok tt) (by_steps n (FillsWith place us))
-    filled_call w = called_by (λ k s m. let x = whole.did k s m in (x.0, x.1, [], record { did = x.2; is = λ f. (refl, refl, refl); window = window_within [] x.2 ((fits a k s).role ∙ w) tt; grounds = tt; shows = (filled_all place n us k x.0 size x.3, x.3.counted) }))
+    filled_call w = called_by p.hint_is (λ k s m. let x = whole.did k s m in (x.0, x.1, [], record { did = x.2; is = λ f. (refl, refl, refl); window = window_within [] x.2 ((fits a k s).role ∙ w) tt; grounds = tt; shows = (filled_all place n us k x.0 size x.3, x.3.counted) }))
 
     pub filled_own : MayKnow facts a (IsOwn place n) → MayKnow facts b (IsOwn place n)
     filled_own may = ∥∥₁_map may (λ k. let x = whole.did k.0 k.1 k.2 in (x.0, x.1, own_length place n x.0 x.3.long))

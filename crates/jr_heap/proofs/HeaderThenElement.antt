@@ -47,6 +47,7 @@ module _ {S : Type 0} {facts : S → Facts} {a b : S} (o : ℕ) (h : HeaderParts
   pub called_at : {A : Type 0} {c : S} {met then' : Known → Type 0} {answer : Result A Fault} {shows shows' : Known → Known → Type 0} (call : State → Call A) → Called facts b c then' (λ j k. call (state_of k)) answer shows
       → ((k : Known) → met k → first k) → ((k j : Known) → (facts a).knows k → met k → Did (view k) (view j) [] → Learns o h k j → then' j) → ((k j q : Known) → Learns o h k j → Takes 1 k j → shows j q → shows' k q) → Called facts a c met (λ j k. call (state_of k)) answer shows'
   called_at call u meets next more = record {
+    hint_is = u.hint_is ∙ t.hint_is;
     ran = λ k s m.
         let r = t.ran k s (meets k m) in
         let d = λ (f : Frames). read_header k r.0 o h f (r.2 f) in

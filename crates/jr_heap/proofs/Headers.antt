@@ -53,7 +53,7 @@ module _ {S : Type 0} {facts : S → Facts} (fits : AreOf facts) (a : S) (o : �
       found = subst (λ x. Took facts a b [] anything (ShowsHeader o x)) is t
 
       pub called_header : (facts a).stands.role ≡ Within → Called facts a b (HasObject o) (λ j k. header (state_of k) o) (Ok (h.kind, h.length)) (by_steps 1 (Learns o h))
-      called_header w = called_by (λ k s m.
+      called_header w = called_by t.hint_is (λ k s m.
           let g = found.goes k s tt in
           let x = g.3.0 in
           let d = goes_did g.2 in

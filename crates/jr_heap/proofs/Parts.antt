@@ -107,6 +107,7 @@ same_no_text k l e t = no_text k (ap (λ z. same_element k z) (sym t) ∙ e)
 -- so many steps at the object's elements: these acts, and the object is as the header says
 pub record PartDone {S : Type 0} (facts : S → Facts) (o : ℕ) (h : HeaderParts) (acts : List Act) (n : ℕ) (old new : S) : Type 0 where
   pub stands_is : (facts new).stands ≡ (facts old).stands
+  pub hint_is : (facts new).hint ≡ (facts old).hint
   pub did : Leads facts old new (HoldsHeader o h) (λ k k'. Did (view k) (view k') acts) (λ k k'. LeavesObject o h k k' × Takes n k k')
 
 -- the header is known still
@@ -115,12 +116,13 @@ left_holds o h j k l x = record { known = ap (λ (g : Holdings). header_in o g.h
 
 module _ {S : Type 0} {facts : S → Facts} (fits : AreOf facts) (o : ℕ) (h : HeaderParts) where
   pub part_nothing : (a : S) → PartDone facts o h [] 0 a a
-  part_nothing a = record { stands_is = refl; did = λ k s m. (k, s, did_nothing (view k) (fits a k s).legal, ((m.shown, refl), no_step k)) }
+  part_nothing a = record { stands_is = refl; hint_is = refl; did = λ k s m. (k, s, did_nothing (view k) (fits a k s).legal, ((m.shown, refl), no_step k)) }
 
   pub part_more : {a b c : S} (acts : List Act) (n : ℕ) (x : Act) {met : Known → Type 0} → x ≢ Leave → (facts a).stands.role ≡ Within → standing_after (facts b).stands (x ∷ []) ≡ (facts b).stands → ((k : Known) → HoldsHeader o h k → met k)
       → PartDone facts o h acts n a b → Took facts b c (x ∷ []) met keeps → PartDone facts o h (acts ++ x ∷ []) (n + 1) a c
   part_more {a} {b} acts n x ne w same meets p t = record {
     stands_is = t.stands_is ∙ (same ∙ p.stands_is);
+    hint_is = t.hint_is ∙ p.hint_is;
     did = λ k s m.
         let y = p.did k s m in
         let held = left_holds o h k y.0 y.3.0 m in
@@ -149,7 +151,7 @@ module _ {S : Type 0} {facts : S → Facts} (fits : AreOf facts) (o : ℕ) (h : 
 
   module _ {E : Type 0} (f : E → ℕ) (start i n : ℕ) (es : List E) (end : i ≡ n) (size : length es ≡ n) where
     pub part_read : {a b : S} → (facts a).stands.role ≡ Within → PartDone facts o h (read_acts o start (map f (take i es))) i a b → Called facts a b (HoldsHeader o h) (λ j k. read o start n) (Ok (map f es)) (by_steps n (LeavesObject o h))
-    part_read {a} {b} w p = called_by (λ k s m.
+    part_read {a} {b} w p = called_by p.hint_is (λ k s m.
         let vs = map f es in
         let at_end = subst (λ m. PartDone facts o h (read_acts o start (map f (take m es))) m a b) end p in
         let all : PartDone facts o h (read_acts o start vs) n a b = subst (λ xs. PartDone facts o h (read_acts o start xs) n a b) (whole f n es size) at_end in
@@ -157,7 +159,7 @@ module _ {S : Type 0} {facts : S → Facts} (fits : AreOf facts) (o : ℕ) (h : 
         (x.0, x.1, read_acts o start vs, record { did = x.2; is = λ g. (vs, length-map es f ∙ size, refl, refl, refl); window = window_within (read_acts o start vs) x.2 ((fits a k s).role ∙ w) (read_within o start vs); grounds = tt; shows = x.3 }))
 
     pub part_written : {a b : S} → (facts a).stands.role ≡ Within → PartDone facts o h (write_acts o start (map f (take i es))) i a b → Called facts a b (HoldsHeader o h) (λ j k. write o start (map f es)) (Ok tt) (by_steps n (LeavesObject o h))
-    part_written {a} {b} w p = called_by (λ k s m.
+    part_written {a} {b} w p = called_by p.hint_is (λ k s m.
         let vs = map f es in
         let at_end = subst (λ m. PartDone facts o h (write_acts o start (map f (take m es))) m a b) end p in
         let all : PartDone facts o h (write_acts o start vs) n a b = subst (λ xs. PartDone facts o h (write_acts o start xs) n a b) (whole f n es size) at_end in

@@ -39,6 +39,7 @@ module _ {S : Type 0} (facts : S → Facts) (h : HeaderParts) (first objects : �
   -- so many numbers were found present, and nothing was done
   pub record Passed (old new : S) (n : ℕ) : Type 0 where
     pub stands_is : (facts new).stands ≡ (facts old).stands
+    pub hint_is : (facts new).hint ≡ (facts old).hint
     pub did : (k : Known) → (facts old).knows k → IsFilled h k
         → (k' : Known) × (facts new).knows k' × IsFilled h k' × (k'.holdings ≡ k.holdings) × ((t : ℕ) → t < n → HasObject (number_at_turn first t objects) k') × Did (view k) (view k') [] × Takes n k k'
 
@@ -58,6 +59,7 @@ module _ {S : Type 0} {facts : S → Facts} (fits : AreOf facts) (h : HeaderPart
       → TookWith facts b c (λ k. acts_of_publication o h.kind (words_for h k) false) (facts b).stands (IsFilled h) (ShowsPublished o h false) → Passed facts h first objects a c (n + 1)
   passed_more {a} {b} n o w is p t = record {
     stands_is = t.stands_is ∙ p.stands_is;
+    hint_is = t.hint_is ∙ p.hint_is;
     did = λ k s m.
         let x = p.did k s m in
         let y = t.goes x.0 x.1 x.2 in
@@ -75,7 +77,7 @@ module _ {S : Type 0} {facts : S → Facts} (fits : AreOf facts) (h : HeaderPart
 
   pub passed_new : {a b c : S} {n : ℕ} (o all : ℕ) → objects ≡ all → n < objects → Passed facts h first objects a b n → TookWith facts b c (λ k. acts_of_publication o h.kind (words_for h k) true) (facts b).stands (IsFilled h) (ShowsPublished o h true)
       → Called facts a c (IsFilled h) (λ j k. publish h.kind (words_for h j)) (Ok o) (by_between 1 all (λ j k. ((state_of k).objects o ≡ Some (record { kind = h.kind; words = words_for h j })) × (k.holdings ≡ with_header (without_range_of h j.holdings) o h) × (header_in o j.holdings.headers ≡ None)))
-  passed_new {n = n} o all same_all small p t = called_by (λ k s m.
+  passed_new {n = n} o all same_all small p t = called_by (t.hint_is ∙ p.hint_is) (λ k s m.
       let x = p.did k s m in
       let y = t.goes x.0 x.1 x.2 in
       let same : words_for h x.0 ≡ words_for h k = ap (λ (g : Holdings). words_for h (record k { holdings = g })) x.3 in
@@ -99,7 +101,7 @@ module _ {S : Type 0} {facts : S → Facts} (fits : AreOf facts) (h : HeaderPart
 
   pub passed_all : {a b : S} (n all : ℕ) → objects ≡ all → (facts a).stands.role ≡ Within → n ≤ objects → objects ≤ n → ((k : Known) → (facts a).knows k → k.config.objects ≡ objects) → (1 ≤ objects → first < objects) → Passed facts h first objects a b n
       → Called facts a b (IsFilled h) (λ j k. publish h.kind (words_for h j)) (Err ObjectsFull) (by_between all all (λ j k. k.holdings ≡ j.holdings))
-  passed_all {a} n all same_all w most end same low p = called_by (λ k s m.
+  passed_all {a} n all same_all w most end same low p = called_by p.hint_is (λ k s m.
       let x = p.did k s m in
       let each : (o : ℕ) → 1 ≤ o → o ≤ x.0.config.objects → HasObject o x.0 = λ o l u.
       let top : o ≤ objects = subst (λ z. o ≤ z) (ap (λ (c : Config). c.objects) x.5.config ∙ same k s) u in

@@ -56,7 +56,7 @@ module _ (o : ℕ) (h : HeaderParts) (kind : Kind) (fits_kind : is_read_as kind 
 
 module _ {S : Type 0} {facts : S → Facts} (fits : AreOf facts) (o : ℕ) (h : HeaderParts) (kind : Kind) (fits_kind : is_read_as kind h.kind ≡ true) {E : Type 0} (taken : ℕ → E) (word_of : E → ℕ) (back : (v : ℕ) → v < word_limit kind → word_of (taken v) ≡ v) (start n : ℕ) (es : List E) where
   pub part_seen : {a b : S} → (facts a).stands.role ≡ Within → length es ≡ n → SawPart facts a b o h start taken es → Called facts a b (HoldsHeader o h) (λ j k. read o start n) (Ok (map word_of es)) (by_steps n (LeavesObject o h))
-  part_seen {a} w size p = called_by (λ k s m.
+  part_seen {a} w size p = called_by p.hint_is (λ k s m.
       let x = p.leads k s m.known in
       let of_pass = fits a k s in
       let y = part_read_from o h kind fits_kind start p.words k x.0 x.2 (of_pass.role ∙ w) of_pass.legal m in

@@ -76,7 +76,7 @@ own_range place (suc n) j k ws long e = ap (λ b. length (cond b [] (words_at pl
 
 module _ {S : Type 0} {facts : S → Facts} {a b : S} (fits : AreOf facts) (inside : (facts a).stands.role ≡ Within) (n u words : ℕ) (some : n ≢ 0) (looked : Took facts a b (acts_of_top_load words (top.Full n) u) anything (λ j k. ShowsUsed u k × keeps j k)) where
   pub reserve_full : words < u + n → Called facts a b anything (λ j k. reserve n) (Err (SpaceFull u)) (by_steps 1 keeps)
-  reserve_full l = called_by (λ k s m.
+  reserve_full l = called_by looked.hint_is (λ k s m.
       let g = looked.goes k s tt in
       let d : Did (view k) (view g.0) (ReserveFull n u ∷ []) = subst (λ xs. Did (view k) (view g.0) xs) (named_full words n u l) (goes_did g.2) in
       (g.0, g.1, ReserveFull n u ∷ [], record { did = d; is = full n u some; window = window_act (ReserveFull n u) d tt tt; grounds = tt; shows = (g.3.1, g.2.taken) }))
@@ -93,7 +93,7 @@ module _ {S : Type 0} {facts : S → Facts} {a b : S} (fits : AreOf facts) (insi
     may_reserve some = ∥∥₁_map some (λ k. let j = first k.0 k.1 in (j.0, j.1, was_used k.0 k.1))
 
     pub reserve_won : {c : S} → Took facts b c (Reserve n ∷ []) (WasUsed u) (ShowsRange u n (Ok tt)) → Called facts a c anything (λ j k. reserve n) (Ok tt) (by_steps (reserve_steps n) (Gains n u))
-    reserve_won t = called_by (λ k s m.
+    reserve_won t = called_by (t.hint_is ∙ looked.hint_is) (λ k s m.
         let j = first k s in
         let g = t.goes j.0 j.1 (was_used k s) in
         let e : g.0.holdings ≡ with_range k.holdings u g.3.0 = g.3.2 ∙ ap (λ h. with_range h u g.3.0) j.4 in
@@ -101,7 +101,7 @@ module _ {S : Type 0} {facts : S → Facts} {a b : S} (fits : AreOf facts) (insi
         (g.0, g.1, Reserve n ∷ [], record { did = d; is = reserved n some; window = window_act (Reserve n) d tt tt; grounds = tt; shows = (gains n u k g.0 some g.3.0 g.3.1 e (subst (λ (h : Holdings). words_at u h.ranges ≡ []) j.4 g.3.3), reserved_steps n k g.0 some (two_steps k j.0 g.0 j.5 g.2.taken)) }))
 
     pub reserve_lost : {c : S} (found : ℕ) → ((k : Known) → (facts a).knows k → k.config.words ≡ words) → Took facts b c (ReserveLost n u found ∷ []) (WasUsed u) (ShowsRange u n (Err found)) → Called facts a c anything (λ j k. reserve n) (Err (Raced u found)) (by_steps 2 keeps)
-    reserve_lost found same t = called_by (λ k s m.
+    reserve_lost found same t = called_by (t.hint_is ∙ looked.hint_is) (λ k s m.
         let j = first k s in
         let g = t.goes j.0 j.1 (was_used k s) in
         let d = did_then [] (ReserveLost n u found ∷ []) j.2 (goes_did g.2) in

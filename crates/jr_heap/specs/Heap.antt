@@ -13,8 +13,9 @@ use Rattle.jr_steps.specs.Holdings.{words_at, header_in, with_range, with_header
 use Rattle.jr_steps.specs.Knowing.{Facts, Leads, view, state_of, keeps, without_range_of, KnowsHeader, IsFilled, IsWordNow, ShowsObject, Takes}
 
 module _ {S : Type 0} (facts : S → Facts) where
-  -- A CALL WAS MADE in a stay: for whatever was known and meets the condition, something is known from which the thread did what the call does, with this answer, and left the frames as they were; and it shows this. The call may name what was known and what is
+  -- A CALL WAS MADE in a stay, which leaves the hint as it was: for whatever was known and meets the condition, something is known from which the thread did what the call does, with this answer, and left the frames as they were; and it shows this. The call may name what was known and what is
   pub record Called {A : Type 0} (old new : S) (met : Known → Type 0) (call : Known → Known → Call A) (answer : Result A Fault) (shows : Known → Known → Type 0) : Type 0 where
+    pub hint_is : (facts new).hint ≡ (facts old).hint
     pub ran : Leads facts old new met (λ k k'. (f : Frames) → Ran (view k) (view k') f f (call k k') answer) shows
 
 -- what a call shows, and that it took so many steps

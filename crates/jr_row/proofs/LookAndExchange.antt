@@ -20,7 +20,7 @@ use Rattle.jr_steps.specs.Knowing.{Facts, view, anything, keeps, HasLooked, MayK
 use Rattle.jr_steps.proofs.StepFacts.{goes_did, looked_now}
 use Rattle.jr_gate.specs.Performing.{Performed, moment}
 use Rattle.jr_gate.proofs.SameRoom.{as_before, still_before}
-use Rattle.jr_gate.proofs.Spending.{Spending, made_of, spend_first, spend_step}
+use Rattle.jr_gate.proofs.Spending.{KeepsHint, Spending, made_of, spend_first, spend_step}
 use Rattle.jr_gate.proofs.HandedOn.{handed_on}
 
 -- what a look found, by what it answers
@@ -55,7 +55,7 @@ module _ {S : Type 0} {facts : S → Facts} {a b : S} (h : Handle) (r : Found) (
       let why = found_none r e is in
       handed_on answer (subst (λ y. IsErrAnd answer (λ z. z ≡ y)) why.1 given) (record {
         stands_is = as_before _ t.stands_is;
-        ran = λ k s m. let g = t.goes k s m in (g.0, g.1, made_of (spend_step t k s m f f) (stale_ran why.0 k g.0 g.2 f), g.3);
+        ran = λ k s m. let g = t.goes k s m in (g.0, g.1, made_of (spend_step t (λ n i. refl) k s m f f) (stale_ran why.0 k g.0 g.2 f), g.3);
       })
 
   module _ (z : Option ℕ) (is : found_answer r ≡ Ok z) where
@@ -69,20 +69,20 @@ module _ {S : Type 0} {facts : S → Facts} {a b : S} (h : Handle) (r : Found) (
     may_delete some = ∥∥₁_map some (λ k. let g = t.goes k.0 k.1 tt in (g.0, g.1, looked k.0 g.0 g.2))
 
     -- a look and an exchange
-    spent_both : {c : S} {x : Act} (u : Took facts b c (x ∷ []) (HasLooked h (found_of z)) keeps) (k : Known) (s : (facts a).knows k) (m : anything k) (f : Frames)
-        → let g = t.goes k s m in Spending 0 (moment (facts a).stands.fresh k f) (moment (facts c).stands.fresh (u.goes g.0 g.1 (looked k g.0 g.2)).0 f)
-    spent_both u k s m f = let g = t.goes k s m in spend_first (spend_step t k s m f f) (spend_step u g.0 g.1 (looked k g.0 g.2) f f)
+    spent_both : {c : S} {x : Act} (u : Took facts b c (x ∷ []) (HasLooked h (found_of z)) keeps) → KeepsHint x → (k : Known) (s : (facts a).knows k) (m : anything k) (f : Frames)
+        → let g = t.goes k s m in Spending 0 (moment (facts a) k f) (moment (facts c) (u.goes g.0 g.1 (looked k g.0 g.2)).0 f)
+    spent_both u keeps k s m f = let g = t.goes k s m in spend_first (spend_step t (λ n i. refl) k s m f f) (spend_step u keeps g.0 g.1 (looked k g.0 g.2) f f)
 
     pub deleted_won : {c : S} → Took facts b c (Delete h ∷ []) (HasLooked h (found_of z)) keeps → (f : Frames) → Performed facts a c f f 0 anything (λ s. delete h) (Ok tt) keeps
     deleted_won u f = record {
       stands_is = still_before (as_before _ t.stands_is) (as_before _ u.stands_is);
       ran = λ k s m. let g = t.goes k s m in let e = u.goes g.0 g.1 (looked k g.0 g.2) in
-          (e.0, e.1, made_of (spent_both u k s m f) (ran_then (found_of z) (ran_some_act f (Look h) (found_of z) tt tt (looked_did k g.0 g.2)) (won (view g.0) (view e.0) f h z (goes_did e.2))), e.3 ∙ g.3);
+          (e.0, e.1, made_of (spent_both u (λ n i. refl) k s m f) (ran_then (found_of z) (ran_some_act f (Look h) (found_of z) tt tt (looked_did k g.0 g.2)) (won (view g.0) (view e.0) f h z (goes_did e.2))), e.3 ∙ g.3);
     }
 
     pub deleted_lost : {c : S} → Took facts b c (DeleteStale h ∷ []) (HasLooked h (found_of z)) keeps → (f : Frames) → Performed facts a c f f 0 anything (λ s. delete h) (Err fault.Stale) keeps
     deleted_lost u f = record {
       stands_is = still_before (as_before _ t.stands_is) (as_before _ u.stands_is);
       ran = λ k s m. let g = t.goes k s m in let e = u.goes g.0 g.1 (looked k g.0 g.2) in
-          (e.0, e.1, made_of (spent_both u k s m f) (ran_then (found_of z) (ran_some_act f (Look h) (found_of z) tt tt (looked_did k g.0 g.2)) (lost (view g.0) (view e.0) f h z (goes_did e.2))), e.3 ∙ g.3);
+          (e.0, e.1, made_of (spent_both u (λ n i. refl) k s m f) (ran_then (found_of z) (ran_some_act f (Look h) (found_of z) tt tt (looked_did k g.0 g.2)) (lost (view g.0) (view e.0) f h z (goes_did e.2))), e.3 ∙ g.3);
     }

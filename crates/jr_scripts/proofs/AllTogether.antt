@@ -26,7 +26,7 @@ use Rattle.jr_rule.specs.Passes.{facts_of, known_of, standing_of, Knows, IsAt, I
 use Rattle.jr_steps.proofs.StepFacts.{goes_did}
 use Rattle.jr_scripts.specs.declared.part.Job.{Job}
 use Rattle.jr_scripts.specs.declared.part.ThreadRun.{ThreadRun}
-use Rattle.jr_gate.specs.Performing.{Moment, moment}
+use Rattle.jr_gate.specs.Performing.{Moment, moment, moment_with}
 use Rattle.jr_env.specs.Deeds.{DoesDeed}
 use Rattle.jr_scripts.specs.Explains.{Explained}
 use Rattle.jr_scripts.specs.Text.{heading, ending}
@@ -79,10 +79,13 @@ played turns last c r p q first commands answer lines config_is last_is o x done
     let same_config : (known_of q).config ≡ c = s.config ∙ (ap (λ (z : Standing). z.config) spent ∙ ap (λ (k : Known). k.config) knows0) in
     let same_last : (known_of q).last ≡ last = s.last ∙ (ap (λ (z : Standing). z.last) spent ∙ ap (λ (k : Known). k.last) knows0) in
     let is_of : (known_of q).thread ≡ t = q.held.thread_is ∙ (s.thread ∙ ap (λ (z : Standing). z.thread) spent) in
-    let end : Known → Moment = λ k. moment (standing_of q).fresh k x.frames in
+    let first_hint : (x.spent).hint ≡ 0 = (x.spends).hint_is ∙ o.hint in
+    let end : Known → Moment = λ k. moment (facts_of q) k x.frames in
     let told = y.3.0 in
     let from : Explained turns first (opening_of c last t) commands lines told
-    = subst (λ b. Explained turns first (moment b k0 (fresh_frames c.locals)) commands lines told) (ap (λ (z : Standing). z.fresh) spent) (subst (λ (k : Known). Explained turns first (moment (standing_of x.spent).fresh k (fresh_frames c.locals)) commands lines told) knows0 y.3.1) in
+    = subst (λ i. Explained turns first (moment_with false i k0 (fresh_frames c.locals)) commands lines told) first_hint
+    (subst (λ b. Explained turns first (moment_with b (x.spent).hint k0 (fresh_frames c.locals)) commands lines told) (ap (λ (z : Standing). z.fresh) spent)
+    (subst (λ (k : Known). Explained turns first (moment (facts_of x.spent) k (fresh_frames c.locals)) commands lines told) knows0 y.3.1)) in
     record {
       same_config = same_config;
       same_last = same_last;

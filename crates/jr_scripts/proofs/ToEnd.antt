@@ -17,7 +17,7 @@ use Rattle.jr_scripts.specs.Runs.{running, running_to_end}
 pub not_begun : {S : Type 0} {facts : S → Facts} {a : S} {f : Frames} (turns first : ℕ) (commands : List Command) → DoesDeed facts a a f f (running turns first commands []) (Err fault.Memory)
 not_begun {facts = facts} {a = a} {f = f} turns first commands = record {
   stands_is = nothing_changed;
-  did = λ k s m. let here = moment (facts a).stands.fresh k f in (k, s, m, (refl, written [] commands nowhere here refl nothing (refl, refl)));
+  did = λ k s m. let here = moment (facts a) k f in (k, s, m, (refl, written [] commands nowhere here refl nothing (refl, refl)));
 }
 
 pub ran_to_end : {S : Type 0} {facts : S → Facts} {a b c : S} {f g h : Frames} {turns first : ℕ} {commands : List Command} {answer freed : Result (Unit {0}) Fault} {text : List ℕ}
@@ -27,5 +27,5 @@ ran_to_end {facts = facts} {b = b} {g = g} {freed = freed} r d = record {
   did = λ k s m.
       let x = r.did k s m in
       let y = d.did x.0 x.1 x.2 in
-      (y.0, y.1, y.2, (moment (facts b).stands.fresh x.0 g, x.3, record { answer = freed; tries = y.3 }));
+      (y.0, y.1, y.2, (moment (facts b) x.0 g, x.3, record { answer = freed; tries = y.3 }));
 }

@@ -139,12 +139,12 @@ module _ {S : Type 0} {facts : S → Facts} where
 module _ {S : Type 0} (facts : S → Facts) (fits : AreOf facts) where
   -- a call of the steps' own thread is one of whoever knows the pass
   own_call : {A : Type 0} {a b : S} {f g : Frames} {n : ℕ} (call : Config → ℕ → ℕ → State → Call A) {answer : Result A Fault} (k k' : Known) → (facts a).knows k
-      → IsMade n (moment (facts a).stands.fresh k f) (moment (facts b).stands.fresh k' g) (call (facts a).stands.config (facts a).stands.last (facts a).stands.thread (state_of k')) answer
-      → IsMade n (moment (facts a).stands.fresh k f) (moment (facts b).stands.fresh k' g) (call k.config k.last k.thread (state_of k')) answer
+      → IsMade n (moment (facts a) k f) (moment (facts b) k' g) (call (facts a).stands.config (facts a).stands.last (facts a).stands.thread (state_of k')) answer
+      → IsMade n (moment (facts a) k f) (moment (facts b) k' g) (call k.config k.last k.thread (state_of k')) answer
   own_call {a = a} {b = b} {f = f} {g = g} {n = n} call {answer = answer} k k' s m =
       let of = fits a k s in
-      let p = moment (facts a).stands.fresh k f in
-      let q = moment (facts b).stands.fresh k' g in
+      let p = moment (facts a) k f in
+      let q = moment (facts b) k' g in
       subst (λ c. IsMade n p q (call c k.last k.thread (state_of k')) answer) (sym of.config)
       (subst (λ l. IsMade n p q (call (facts a).stands.config l k.thread (state_of k')) answer) (sym of.last)
       (subst (λ t. IsMade n p q (call (facts a).stands.config (facts a).stands.last t (state_of k')) answer) (sym of.thread) m))
@@ -176,7 +176,7 @@ module _ {S : Type 0} (facts : S → Facts) (fits : AreOf facts) where
     did = λ k s m.
         let l = (fits a k s).legal in
         let ran : Ran (view k) (view k) f f (region_kind k.config k.last k.thread (state_of k) (level_object v i)) (Ok kind) = record { acts = []; did = did_nothing (view k) l; is = tells k.config k.last k.thread k f m.0; begun = k.seen; window = window_nothing (view k); grounds = tt } in
-        (k, s, m, made_of (spend_none (facts a).stands.fresh k f f l) ran);
+        (k, s, m, made_of (spend_none (facts a) k f f l) ran);
   }
 
   -- a region was opened

@@ -35,9 +35,9 @@ pub record RanPass (turns first : ℕ) (commands : List Command) (old new : Pass
 abbrev pub seeing_as : Config → ℕ → ℕ → History → PassView
 seeing_as c last t seen = record { config = c; last = last; thread = t; seen = seen }
 
--- before the thread's first command: it has seen nothing, no local reference stands, and its pass is spent
+-- before the thread's first command: it has seen nothing, no local reference stands, its pass is spent, and its first search for a free slot begins at slot 0
 abbrev pub opening_of : Config → ℕ → ℕ → Moment
-opening_of c last t = record { pass = seeing_as c last t []; frames = fresh_frames c.locals; held = empty; fresh = false; taken = 0 }
+opening_of c last t = record { pass = seeing_as c last t []; frames = fresh_frames c.locals; held = empty; fresh = false; hint = 0; taken = 0 }
 
 -- what closing the room adds: the first thread looks at the gate
 abbrev pub closing_acts : ℕ → List Act

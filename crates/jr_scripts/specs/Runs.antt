@@ -57,9 +57,9 @@ WritesDown number c answer names names' (Err _) old new = new ≡ old
 abbrev pub seeing : Config → ℕ → History → PassView
 seeing c last seen = record { config = c; last = last; thread = 0; seen = seen }
 
--- before the first command: nothing has happened, no local reference stands, and the pass is spent
+-- before the first command: nothing has happened, no local reference stands, the pass is spent, and the first search for a free slot begins at slot 0
 abbrev pub opening_moment : Config → ℕ → Moment
-opening_moment c last = record { pass = seeing c last []; frames = fresh_frames c.locals; held = empty; fresh = false; taken = 0 }
+opening_moment c last = record { pass = seeing c last []; frames = fresh_frames c.locals; held = empty; fresh = false; hint = 0; taken = 0 }
 
 -- thread 0 did it, and it is no knock at a shut gate, no shut that others were in the way of, and no reservation that another was faster at
 pub record IsUnbarred (e : Event) : Type 0 where

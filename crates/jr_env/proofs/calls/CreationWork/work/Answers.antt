@@ -13,7 +13,7 @@ create-requires-clause-object g c = may_create c.in-Some.is c.in_ok-object.ensur
 
 pub returns-in_err-handle-clause-call : goal.returns-in_err-handle-clause-call
 returns-in_err-handle-clause-call g c =
-    creates_full g.met.S.Steps.fits c.requires.ready.role_is c.args.self.kind c.from_residual-in_err-handle.result c.from_residual-in_err-handle.ensures.1 c.in-Some.is c.in_ok-object.ensures c.in_err-handle.ensures.err
+    creates_full g.met.S.Steps.fits c.requires.ready.role_is c.args.self.kind c.from_residual-in_err-handle.result c.from_residual-in_err-handle.ensures.1 c.in-Some.is c.in_ok-object.ensures c.in_err-handle.ensures.err c.in_err-handle.ensures.stays
 
 pub returns-clause-call : goal.returns-clause-call
-returns-clause-call g c = creates_won c.in-Some.is c.in_ok-object.ensures c.in_ok-handle.ensures.ok
+returns-clause-call g c = creates_won g.met.S.Steps.fits c.in-Some.is c.in_ok-object.ensures c.in_ok-handle.ensures.ok c.in_ok-handle.ensures.next
