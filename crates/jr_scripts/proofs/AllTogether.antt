@@ -21,8 +21,8 @@ use Rattle.jr_rule.specs.declared.row.Row.{Row}
 use Rattle.jr_steps.specs.Holdings.{empty}
 use Rattle.jr_steps.specs.Knowing.{Standing, view, Holds}
 use Rattle.jr_rule.specs.Rule.{known}
-use Rattle.jr_rule.specs.PassLaws.{still_of}
-use Rattle.jr_rule.specs.Passes.{facts_of, known_of, standing_of, Knows, IsAt, IsOpened, AreOpened, numbers_below, IsSeenIn, ClosesAll}
+use Rattle.jr_rule.proofs.PassOver.{still_of}
+use Rattle.jr_rule.specs.Passes.{facts_of, holder_of, known_of, standing_of, IsAt, IsOpened, AreOpened, numbers_below, IsSeenIn, ClosesAll}
 use Rattle.jr_steps.proofs.StepFacts.{goes_did}
 use Rattle.jr_scripts.specs.declared.part.Job.{Job}
 use Rattle.jr_scripts.specs.declared.part.ThreadRun.{ThreadRun}
@@ -35,17 +35,8 @@ use Rattle.jr_scripts.specs.AllRuns.{RanPass, seeing_as, opening_of, IsPartOf, A
 use Rattle.jr_scripts.specs.Jobs.{HasRun, IsFor, IsJobOf, AreJobsOf, IsDone, AreTold}
 
 -- a pass that was opened knows what it shows
-opened_knows : (r : Row) (p : Pass) → IsOpened r p → Knows p (known_of p)
-opened_knows r p o = record {
-  is = refl;
-  pass = record {
-    config = refl;
-    last = refl;
-    thread = p.held.thread_is;
-    role = p.held.role_is;
-    legal = subst (λ (k : Known). IsLegal k.config k.last k.seen) (sym o.knows) tt;
-  };
-}
+opened_knows : (r : Row) (p : Pass) → IsOpened r p → (facts_of (holder_of p)).knows (known_of p)
+opened_knows r p o = (refl, record { config = refl; last = refl; thread = refl; role = p.held.role_is; legal = subst (λ (k : Known). IsLegal k.config k.last k.seen) (sym o.knows) tt })
 
 -- what a thread did since its pass was opened
 record Played (turns last : ℕ) (c : Config) (t first : ℕ) (commands : List Command) (lines : List ℕ) (k : Known) : Type 0 where
@@ -68,19 +59,19 @@ played turns last c r p q first commands answer lines config_is last_is o x done
     let k0 : Known = known c last t [] empty 0 in
     let knows0 : known_of p ≡ k0 = o.knows ∙ (λ i. known (config_is i) (last_is i) t [] empty 0) in
     let fresh : fresh_frames (standing_of p).config.locals ≡ fresh_frames c.locals = ap (λ (k : Known). fresh_frames k.config.locals) knows0 in
-    let spent : standing_of x.spent ≡ record (standing_of p) { fresh = false } = (x.spends).stands_is in
-    let ran : DoesDeed facts_of x.spent q (fresh_frames c.locals) x.frames (running_to_end turns first commands lines) (Ok tt)
-    = subst (λ a. DoesDeed facts_of x.spent q (fresh_frames c.locals) x.frames (running_to_end turns first commands lines) a) done
-    (subst (λ f. DoesDeed facts_of x.spent q f x.frames (running_to_end turns first commands lines) answer) fresh x.ran) in
+    let spent : (facts_of x.spent).stands ≡ record (standing_of p) { fresh = false } = (x.spends).stands_is in
+    let ran : DoesDeed facts_of x.spent (holder_of q) (fresh_frames c.locals) x.frames (running_to_end turns first commands lines) (Ok tt)
+    = subst (λ a. DoesDeed facts_of x.spent (holder_of q) (fresh_frames c.locals) x.frames (running_to_end turns first commands lines) a) done
+    (subst (λ f. DoesDeed facts_of x.spent (holder_of q) f x.frames (running_to_end turns first commands lines) answer) fresh x.ran) in
     let holds0 : Holds (fresh_frames c.locals) k0 = λ place. refl in
     let y = ran.did (known_of p) (((x.spends).same (known_of p)).0 (opened_knows r p o)) (subst (Holds (fresh_frames c.locals)) (sym knows0) holds0) in
-    let is : y.0 ≡ known_of q = (y.1).is in
+    let is : y.0 ≡ known_of q = (y.1).0 in
     let s = ran.stands_is in
     let same_config : (known_of q).config ≡ c = s.config ∙ (ap (λ (z : Standing). z.config) spent ∙ ap (λ (k : Known). k.config) knows0) in
     let same_last : (known_of q).last ≡ last = s.last ∙ (ap (λ (z : Standing). z.last) spent ∙ ap (λ (k : Known). k.last) knows0) in
-    let is_of : (known_of q).thread ≡ t = q.held.thread_is ∙ (s.thread ∙ ap (λ (z : Standing). z.thread) spent) in
+    let is_of : (known_of q).thread ≡ t = s.thread ∙ (ap (λ (z : Standing). z.thread) spent ∙ p.held.thread_is) in
     let first_hint : (x.spent).hint ≡ 0 = (x.spends).hint_is ∙ o.hint in
-    let end : Known → Moment = λ k. moment (facts_of q) k x.frames in
+    let end : Known → Moment = λ k. moment (facts_of (holder_of q)) k x.frames in
     let told = y.3.0 in
     let from : Explained turns first (opening_of c last t) commands lines told
     = subst (λ i. Explained turns first (moment_with false i k0 (fresh_frames c.locals)) commands lines told) first_hint

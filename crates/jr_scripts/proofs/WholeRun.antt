@@ -1,8 +1,7 @@
 -- A script of one thread, from the opening state to the last line.
-use Rattle.std.proofs.Common.{◌≡◌, ℕ, true, false, List, ◌++◌, Result, Ok, refl, sym, ap, subst, ◌∙◌}
+use Rattle.std.proofs.Common.{◌≡◌, ℕ, false, List, ◌++◌, Result, Ok, refl, sym, ap, subst, ◌∙◌}
 use Rattle.jr_word.specs.declared.config.Config.{Config}
 use Rattle.jr_word.specs.declared.fault.Fault.{Fault}
-use Rattle.jr_model.specs.declared.event.Role.TheVariants.{Outside}
 use Rattle.jr_model.specs.declared.summary.Summary.{Summary}
 use Rattle.jr_model.specs.State.{summary}
 use Rattle.jr_model.specs.History.{IsLegal, state}
@@ -11,8 +10,12 @@ use Rattle.jr_syntax.specs.declared.command.Command.{Command}
 use Rattle.jr_syntax.specs.declared.thread.ThreadPart.{ThreadPart}
 use Rattle.jr_steps.specs.declared.known.Known.{Known}
 use Rattle.jr_steps.specs.Knowing.{AreOf, Facts, Standing, view, Holds, Spent}
-use Rattle.jr_rule.specs.declared.plain.PlainSteps.{PlainSteps}
-use Rattle.jr_rule.specs.Plain.{unseen, standing_alone, facts_from, Shows}
+use Rattle.jr_rule.specs.declared.cells.Cells.{Ghosts}
+use Rattle.jr_rule.specs.declared.over.StepsOver.{StepsOver}
+use Rattle.jr_rule.specs.declared.plain_cells.PlainCells.{PlainCells}
+use Rattle.jr_rule.specs.Cells.{IsAmong, facts_at}
+use Rattle.jr_rule.specs.CellLaws.{among_of}
+use Rattle.jr_rule.specs.Sights.{IsOpenedAlone, sight_of_words, unseen}
 use Rattle.jr_gate.specs.Performing.{moment, moment_with}
 use Rattle.jr_env.specs.Deeds.{DoesDeed}
 use Rattle.jr_scripts.specs.Text.{heading, ending}
@@ -74,24 +77,22 @@ module _ {S : Type 0} {facts : S → Facts} (fits : AreOf facts) where
       }
 
 -- what is known of plain steps
-abbrev plain_facts : PlainSteps 4294967295 → Facts
-plain_facts s = facts_from s.hint (standing_alone s.config 4294967295 s.role s.fresh) s.words.items
+abbrev plain_facts : {G : Ghosts (PlainCells 4294967295)} → StepsOver (PlainCells 4294967295) G → Facts
+plain_facts s = facts_at (sight_of_words s.cells.config 4294967295 s.cells.words.items) s.role s.fresh s.hint
 
 -- the same over plain steps, which were spent as they were made
-pub plain_run : {old new : PlainSteps 4294967295} {f g : Frames} {commands : List Command} {answer : Result (Unit {0}) Fault} (turns : ℕ) (c : Config) (part : ThreadPart) (lines whole : List ℕ) (v : Summary) (made : PlainSteps 4294967295)
-    → c.threads ≡ 1 → made.config ≡ c → made.role ≡ Outside → made.fresh ≡ true → made.hint ≡ 0 → Shows (standing_alone c 4294967295 Outside true) made.words.items (unseen c 4294967295)
-    → Spent plain_facts made old → f ≡ fresh_frames made.config.locals
+pub plain_run : {G : Ghosts (PlainCells 4294967295)} {old new : StepsOver (PlainCells 4294967295) G} {f g : Frames} {commands : List Command} {answer : Result (Unit {0}) Fault} (turns : ℕ) (c : Config) (part : ThreadPart) (lines whole : List ℕ) (v : Summary) (made : StepsOver (PlainCells 4294967295) G)
+    → c.threads ≡ 1 → IsOpenedAlone c 4294967295 made.cells.config made.cells.words.items made.role made.fresh made.hint
+    → Spent plain_facts made old → f ≡ fresh_frames made.cells.config.locals
     → commands ≡ part.commands → answer ≡ Ok tt
     → DoesDeed plain_facts old new f g (running_to_end turns 3 commands lines) answer
-    → ((k : Known) → Shows (standing_alone new.config 4294967295 new.role new.fresh) new.words.items k → v ≡ summary k.config k.last (state k.seen))
+    → ((k : Known) → IsAmong (sight_of_words new.cells.config 4294967295 new.cells.words.items) k → v ≡ summary k.config k.last (state k.seen))
     → whole ≡ heading part.name ++ lines ++ ending v
     → IsRun turns 4294967295 c part whole
-plain_run {old} {new} {f} {g} {commands} turns c part lines whole v made one config_is role_is fresh_is hint_is opening spent fresh these good ran tells whole_is =
-    let known : Shows (standing_alone made.config 4294967295 made.role made.fresh) made.words.items (unseen c 4294967295)
-    = subst (λ d. Shows (standing_alone d 4294967295 made.role made.fresh) made.words.items (unseen c 4294967295)) (sym config_is)
-    (subst (λ r. Shows (standing_alone c 4294967295 r made.fresh) made.words.items (unseen c 4294967295)) (sym role_is)
-    (subst (λ b. Shows (standing_alone c 4294967295 Outside b) made.words.items (unseen c 4294967295)) (sym fresh_is) opening)) in
+plain_run {G} {old} {new} {f} {g} {commands} turns c part lines whole v made one opened spent fresh these good ran tells whole_is =
+    let known : (plain_facts made).knows (unseen c 4294967295)
+    = (opened.nothing, record { config = sym opened.sizes; last = refl; thread = refl; role = sym opened.role_is; legal = tt }) in
     let stands = spent.stands_is in
     let Leads : List Command → Result (Unit {0}) Fault → Type 0
     = λ cs r. DoesDeed plain_facts old new f g (running_to_end turns 3 cs lines) r in
-    is_run (λ s k h. h.pass) turns 4294967295 c part lines whole v one (ap (λ (s : Standing). s.config) stands ∙ config_is) refl refl (ap (λ (s : Standing). s.fresh) stands) (spent.hint_is ∙ hint_is) ((spent.same (unseen c 4294967295)).0 known) (fresh ∙ ap (λ d. fresh_frames d.locals) config_is) (subst (λ cs. Leads cs (Ok tt)) these (subst (Leads commands) good ran)) tells whole_is
+    is_run (λ s k h. h.1) turns 4294967295 c part lines whole v one (ap (λ (s : Standing). s.config) stands ∙ opened.sizes) refl refl (ap (λ (s : Standing). s.fresh) stands) (spent.hint_is ∙ opened.hint_is) ((spent.same (unseen c 4294967295)).0 known) (fresh ∙ ap (λ d. fresh_frames d.locals) opened.sizes) (subst (λ cs. Leads cs (Ok tt)) these (subst (Leads commands) good ran)) (λ k h. tells k (among_of (sight_of_words new.cells.config 4294967295 new.cells.words.items) new.role new.fresh k h)) whole_is

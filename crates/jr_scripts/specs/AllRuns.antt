@@ -14,7 +14,7 @@ use Rattle.jr_syntax.specs.declared.command.Command.{Command}
 use Rattle.jr_syntax.specs.declared.thread.ThreadPart.{ThreadPart}
 use Rattle.jr_syntax.specs.declared.script.Script.{Script}
 use Rattle.jr_rule.specs.declared.pass.Pass.{Pass}
-use Rattle.jr_rule.specs.Passes.{facts_of, standing_of}
+use Rattle.jr_rule.specs.Passes.{Holder, facts_of, holder_of, standing_of}
 use Rattle.jr_gate.specs.Performing.{Moment}
 use Rattle.jr_steps.specs.Holdings.{empty}
 use Rattle.jr_steps.specs.Knowing.{Spent}
@@ -25,11 +25,11 @@ use Rattle.jr_scripts.specs.Runs.{IsFreed, RunsSingle, running_to_end}
 
 -- a thread ran these commands with its pass, which was spent first, freed its local references, and handed the pass back, not fresh
 pub record RanPass (turns first : ℕ) (commands : List Command) (old new : Pass) (answer : Result (Unit {0}) Fault) (text : List ℕ) : Type 0 where
-  pub spent : Pass
-  pub spends : Spent facts_of old spent
+  pub spent : Holder
+  pub spends : Spent facts_of (holder_of old) spent
   pub used_up : new.fresh ≡ false
   pub frames : Frames
-  pub ran : DoesDeed facts_of spent new (fresh_frames (standing_of old).config.locals) frames (running_to_end turns first commands text) answer
+  pub ran : DoesDeed facts_of spent (holder_of new) (fresh_frames (standing_of old).config.locals) frames (running_to_end turns first commands text) answer
 
 -- a pass of the thread that has seen this
 abbrev pub seeing_as : Config → ℕ → ℕ → History → PassView
