@@ -22,17 +22,17 @@ use Rattle.jr_gate.specs.Performing.{Moment, moment, moment_with}
 use Rattle.jr_rule.specs.declared.pass.Pass.{Pass}
 use Rattle.jr_rule.specs.declared.row.Row.{Row}
 use Rattle.jr_rule.specs.Rule.{known}
-use Rattle.jr_rule.specs.Passes.{facts_of, known_of, standing_of, AreOpened, ClosesAll, IsOpened, IsSeenIn, Knows}
+use Rattle.jr_rule.specs.Passes.{facts_of, holder_of, known_of, standing_of, AreOpened, ClosesAll, IsOpened, IsSeenIn}
 use Rattle.jr_env.specs.Deeds.{Deed, DoesDeed}
 use Rattle.first_room.specs.Calls.{sharing, visiting}
 use Rattle.first_room.specs.Hour.{IsTrueReport}
 use Rattle.first_room.specs.Parts.{HasPlayed, HasShared, HasVisited, PlaysPart, first_moment, seen_by}
 
 -- a pass that was opened knows what it shows
-opened_knows : (r : Row) (p : Pass) → IsOpened r p → Knows p (known_of p)
+opened_knows : (r : Row) (p : Pass) → IsOpened r p → (facts_of (holder_of p)).knows (known_of p)
 opened_knows r p o = record {
   is = refl;
-  pass = record { config = refl; last = refl; thread = p.held.thread_is; role = p.held.role_is; legal = subst (λ (k : Known). IsLegal k.config k.last k.seen) (sym o.knows) tt };
+  pass = record { config = refl; last = refl; thread = refl; role = p.held.role_is; legal = subst (λ (k : Known). IsLegal k.config k.last k.seen) (sym o.knows) tt };
 }
 
 -- what a thread did since its pass was opened
@@ -50,17 +50,17 @@ since story r p q x config_is last_is o h =
     let k0 : Known = known SIZES LAST t [] empty 0 in
     let knows0 : known_of p ≡ k0 = o.knows ∙ (λ i. known (config_is i) (last_is i) t [] empty 0) in
     let fresh : fresh_frames (standing_of p).config.locals ≡ fresh_frames SIZES.locals = ap (λ (k : Known). fresh_frames k.config.locals) knows0 in
-    let spent : standing_of h.spent ≡ record (standing_of p) { fresh = false } = (h.spends).stands_is in
-    let did : DoesDeed facts_of h.spent q (fresh_frames SIZES.locals) h.frames story (Ok x) = subst (λ f. DoesDeed facts_of h.spent q f h.frames story (Ok x)) fresh h.did in
+    let spent : (facts_of h.spent).stands ≡ record (standing_of p) { fresh = false } = (h.spends).stands_is in
+    let did : DoesDeed facts_of h.spent (holder_of q) (fresh_frames SIZES.locals) h.frames story (Ok x) = subst (λ f. DoesDeed facts_of h.spent (holder_of q) f h.frames story (Ok x)) fresh h.did in
     let holds0 : Holds (fresh_frames SIZES.locals) k0 = λ place. refl in
     let y = did.did (known_of p) (((h.spends).same (known_of p)).0 (opened_knows r p o)) (subst (Holds (fresh_frames SIZES.locals)) (sym knows0) holds0) in
     let is : y.0 ≡ known_of q = (y.1).is in
     let s = did.stands_is in
     let same_config : (known_of q).config ≡ SIZES = s.config ∙ (ap (λ (z : Standing). z.config) spent ∙ ap (λ (k : Known). k.config) knows0) in
     let same_last : (known_of q).last ≡ LAST = s.last ∙ (ap (λ (z : Standing). z.last) spent ∙ ap (λ (k : Known). k.last) knows0) in
-    let is_of : (known_of q).thread ≡ t = q.held.thread_is ∙ (s.thread ∙ ap (λ (z : Standing). z.thread) spent) in
+    let is_of : (known_of q).thread ≡ t = s.thread ∙ (ap (λ (z : Standing). z.thread) spent ∙ p.held.thread_is) in
     let first_hint : (h.spent).hint ≡ 0 = (h.spends).hint_is ∙ o.hint in
-    let end : Known → Moment = λ k. moment (facts_of q) k h.frames in
+    let end : Known → Moment = λ k. moment (facts_of (holder_of q)) k h.frames in
     let from : story (first_moment t) (Ok x) (end y.0)
     = subst (λ i. story (moment_with false i k0 (fresh_frames SIZES.locals)) (Ok x) (end y.0)) first_hint
     (subst (λ b. story (moment_with b (h.spent).hint k0 (fresh_frames SIZES.locals)) (Ok x) (end y.0)) (ap (λ (z : Standing). z.fresh) spent)

@@ -1,6 +1,6 @@
 -- The passes of the room: the two that are handed out, and those that come back.
 use Rattle.std.specs.Prelude.{Result, Ok, Err, MatchResult, IfOk}
-use Rattle.std.proofs.Common.{◌≡◌, ◌≤◌, ◌∙◌, ℕ, zero, suc, Bool, List, [], ◌∷◌, ◌++◌, map, arith, ap, subst, sym, refl}
+use Rattle.std.proofs.Common.{◌≡◌, ◌≤◌, ◌∙◌, ℕ, zero, suc, Bool, Some, List, [], ◌∷◌, ◌++◌, map, arith, ap, subst, sym, refl}
 use Rattle.std.specs.Prelude.{remove}
 use Rattle.std.specs.List.{All}
 use Rattle.jr_word.specs.declared.config.Config.{Config}
@@ -10,8 +10,7 @@ use Rattle.jr_steps.specs.Knowing.{Standing}
 use Rattle.jr_gate.specs.Performing.{IsAsBefore}
 use Rattle.jr_rule.specs.declared.pass.Pass.{Pass}
 use Rattle.jr_rule.specs.declared.row.Row.{Row}
-use Rattle.jr_rule.specs.PassLaws.{still_of}
-use Rattle.jr_rule.specs.Passes.{standing_of, numbers_below, AreOpened, IsAt}
+use Rattle.jr_rule.specs.Passes.{Holder, facts_of, holder_of, numbers_below, AreOpened, IsAt}
 
 -- what stands in one room, with its sizes and serials
 pub record IsOfSame (s t : Standing) : Type 0 where
@@ -31,10 +30,13 @@ pub same_spent : (s : Standing) {t : Standing} {f : Bool} → t ≡ record s { f
 same_spent s e = record { room = ap (λ (u : Standing). u.room) e; config = ap (λ (u : Standing). u.config) e; last = ap (λ (u : Standing). u.last) e }
 
 -- a pass that was spent and stepped with is of its room still
-pub at_end : (r : Row) (p made now back : Pass) → IsAt r p → made ≡ p → IsOfSame (standing_of made) (standing_of now) → back ≡ now → IsAt r back
+pub at_end : (r : Row) (p : Pass) (made now : Holder) (back : Pass) → IsAt r p → made ≡ holder_of p → IsOfSame (facts_of made).stands (facts_of now).stands → holder_of back ≡ now → IsAt r back
 at_end r p made now back at is same handed =
-    subst (IsAt r) (sym handed)
-    (still_of r p now (same.room ∙ ap (λ q. (standing_of q).room) is) (same.config ∙ ap (λ q. (standing_of q).config) is) (same.last ∙ ap (λ q. (standing_of q).last) is) at)
+    let there : IsOfSame (facts_of (holder_of p)).stands (facts_of (holder_of back)).stands = subst (λ (z : Holder × Holder). IsOfSame (facts_of z.0).stands (facts_of z.1).stands) (λ i. (is i, sym handed i)) same in
+    record { row = table there.room ∙ at.row; config = there.config ∙ at.config; last = there.last ∙ at.last }
+  where
+    table : Some back.seat.table_id ≡ Some p.seat.table_id → back.seat.table_id ≡ p.seat.table_id
+    table e = cc
 
 -- of two passes none is left once both are removed
 pub none_left : (c : Config) (last : ℕ) (r : Row) (ps qs rs : List Pass) → c.threads ≡ 2 → AreOpened c last r ps → qs ≡ remove ps 0 → rs ≡ remove qs 0 → rs ≡ []

@@ -17,7 +17,7 @@ use Rattle.jr_steps.specs.Knowing.{AreOf, Facts, IsOf, Spent, Standing, state_of
 use Rattle.jr_gate.specs.Performing.{Moment, IsMade, moment}
 use Rattle.jr_gate.proofs.SameRoom.{still_before}
 use Rattle.jr_rule.specs.declared.pass.Pass.{Pass}
-use Rattle.jr_rule.specs.Passes.{facts_of, standing_of}
+use Rattle.jr_rule.specs.Passes.{Holder, facts_of, holder_of, standing_of}
 use Rattle.jr_critical.specs.declared.levels.Levels.{Levels}
 use Rattle.jr_critical.specs.Levels.{GivesUpAll, Opens, Reaches, level_object}
 use Rattle.jr_weak.specs.declared.collecting.Collected.{Collected}
@@ -231,17 +231,17 @@ module _ {S : Type 0} {facts : S → Facts} where
     pub typed_on : (v v' : ℕ) (r : Result ℕ Fault) → v ≡ v' → DoesOutside facts a b f g (get_object_ref_type v) r → DoesOutside facts a b f g (get_object_ref_type v') r
     typed_on v v' r = subst (λ n. DoesOutside facts a b f g (get_object_ref_type n) r)
 
--- what steps did their pass did
-pub played : {S : Type 0} (pass_of : S → Pass) {A : Type 0} (story : Deed A) (made a b : S) (p q : Pass) (f g : Frames) (x : A)
-    → Spent (λ s. facts_of (pass_of s)) made a → DoesDeed (λ s. facts_of (pass_of s)) a b f g story (Ok x) → pass_of made ≡ p → q ≡ pass_of b → f ≡ fresh_frames (standing_of p).config.locals → HasPlayed story p q x
-played pass_of story made a b p q f g x spent d old new fresh =
-    let here : DoesDeed facts_of (pass_of a) (pass_of b) f g story (Ok x) = record { stands_is = d.stands_is; did = d.did } in
-    let spends : Spent facts_of (pass_of made) (pass_of a) = record { stands_is = spent.stands_is; hint_is = spent.hint_is; same = spent.same } in
+-- what steps did the pass did that they are made of
+pub played : {S : Type 0} (holder : S → Holder) {A : Type 0} (story : Deed A) (made a b : S) (p q : Pass) (f g : Frames) (x : A)
+    → Spent (λ s. facts_of (holder s)) made a → DoesDeed (λ s. facts_of (holder s)) a b f g story (Ok x) → holder made ≡ holder_of p → holder_of q ≡ holder b → f ≡ fresh_frames (standing_of p).config.locals → HasPlayed story p q x
+played holder story made a b p q f g x spent d old new fresh =
+    let here : DoesDeed facts_of (holder a) (holder b) f g story (Ok x) = record { stands_is = d.stands_is; did = d.did } in
+    let spends : Spent facts_of (holder made) (holder a) = record { stands_is = spent.stands_is; hint_is = spent.hint_is; same = spent.same } in
     record {
-      spent = pass_of a;
-      spends = subst (λ z. Spent facts_of z (pass_of a)) old spends;
+      spent = holder a;
+      spends = subst (λ z. Spent facts_of z (holder a)) old spends;
       frames = g;
-      did = subst (λ h. DoesDeed facts_of (pass_of a) q h g story (Ok x)) fresh (subst (λ z. DoesDeed facts_of (pass_of a) z f g story (Ok x)) (sym new) here);
+      did = subst (λ h. DoesDeed facts_of (holder a) (holder_of q) h g story (Ok x)) fresh (subst (λ z. DoesDeed facts_of (holder a) z f g story (Ok x)) (sym new) here);
     }
 
 -- the word that stands for a reference, or NULL

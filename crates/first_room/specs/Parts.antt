@@ -11,16 +11,16 @@ use Rattle.jr_steps.specs.Holdings.{empty}
 use Rattle.jr_steps.specs.Knowing.{Spent}
 use Rattle.jr_gate.specs.Performing.{Moment}
 use Rattle.jr_rule.specs.declared.pass.Pass.{Pass}
-use Rattle.jr_rule.specs.Passes.{facts_of, standing_of}
+use Rattle.jr_rule.specs.Passes.{Holder, facts_of, holder_of, standing_of}
 use Rattle.jr_env.specs.Deeds.{Deed, DoesDeed}
 use Rattle.first_room.specs.Calls.{sharing, visiting}
 
 -- with its pass, which was spent first, a thread did this and nothing else, with this answer, and handed the pass back
 pub record HasPlayed {A : Type 0} (story : Deed A) (old new : Pass) (x : A) : Type 0 where
-  pub spent : Pass
-  pub spends : Spent facts_of old spent
+  pub spent : Holder
+  pub spends : Spent facts_of (holder_of old) spent
   pub frames : Frames
-  pub did : DoesDeed facts_of spent new (fresh_frames (standing_of old).config.locals) frames story (Ok x)
+  pub did : DoesDeed facts_of spent (holder_of new) (fresh_frames (standing_of old).config.locals) frames story (Ok x)
 
 -- the first thread's calls, with what it found
 abbrev pub HasShared : Pass → Pass → ℕ → Bool → ℕ → Type 0

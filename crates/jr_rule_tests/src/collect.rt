@@ -150,14 +150,14 @@ fn a_collection_leaves_these_words(rt: HostRuntime) -> Result<(), Fail> {
     row[1] = 2;
     row[2] = 0x4_0000_0003;
     row[35] = 1;
-    assert_eq!(rt; steps.words.as_slice(), row.as_slice());
+    assert_eq!(rt; steps.cells.words.as_slice(), row.as_slice());
     collect(&rt, &mut steps)?;
     row[1] = 0;
     row[2] = 3;
     row[35] = 0;
-    assert_eq!(rt; steps.words.as_slice(), row.as_slice());
+    assert_eq!(rt; steps.cells.words.as_slice(), row.as_slice());
     look_after(&rt, &mut steps)?;
     row[35] = 1;
-    assert_eq!(rt; steps.words.as_slice(), row.as_slice());
+    assert_eq!(rt; steps.cells.words.as_slice(), row.as_slice());
     Ok(())
 }

@@ -10,16 +10,16 @@ use std::test::Fail;
 #[test]
 fn begins_with_zeros_and_counts_who_is_inside(rt: HostRuntime) -> Result<(), Fail> {
     let mut steps = PlainSteps::<2>::new(rt.alloc(), Config::LEAST)?;
-    assert_eq!(rt; steps.words.as_slice(), [0; 20].as_slice());
+    assert_eq!(rt; steps.cells.words.as_slice(), [0; 20].as_slice());
     assert!(rt; steps.go_in());
-    assert_eq!(rt; steps.words[0], 1);
+    assert_eq!(rt; steps.cells.words[0], 1);
     let one = GateParts {
         count: 1,
         shut: false,
     };
     assert_eq!(rt; steps.see_gate(GateLoad::Meet), one);
     steps.go_out();
-    assert_eq!(rt; steps.words[0], 0);
+    assert_eq!(rt; steps.cells.words[0], 0);
     Ok(())
 }
 
@@ -53,9 +53,9 @@ fn shuts_and_opens_the_gate(rt: HostRuntime) -> Result<(), Fail> {
     let Ok(()) = steps.bar() else {
         return Err("the gate is not empty")?;
     };
-    assert_eq!(rt; steps.words[0], 0x1_0000);
+    assert_eq!(rt; steps.cells.words[0], 0x1_0000);
     steps.unbar();
-    assert_eq!(rt; steps.words[0], 0);
+    assert_eq!(rt; steps.cells.words[0], 0);
     Ok(())
 }
 
@@ -65,7 +65,7 @@ fn is_fresh_until_it_is_spent(rt: HostRuntime) -> Result<(), Fail> {
     assert!(rt; steps.fresh());
     steps.spend();
     assert!(rt; !steps.fresh());
-    assert_eq!(rt; steps.words.as_slice(), [0; 20].as_slice());
+    assert_eq!(rt; steps.cells.words.as_slice(), [0; 20].as_slice());
     Ok(())
 }
 
@@ -119,7 +119,7 @@ fn reserves_words_and_puts_its_own(rt: HostRuntime) -> Result<(), Fail> {
     row[0] = 1;
     row[1] = 2;
     row[21] = 7;
-    assert_eq!(rt; steps.words.as_slice(), row.as_slice());
+    assert_eq!(rt; steps.cells.words.as_slice(), row.as_slice());
     Ok(())
 }
 
@@ -174,6 +174,6 @@ fn retires_a_slot_after_its_last_serial(rt: HostRuntime) -> Result<(), Fail> {
     row[0] = 1;
     row[2] = 1;
     row[19] = 1;
-    assert_eq!(rt; steps.words.as_slice(), row.as_slice());
+    assert_eq!(rt; steps.cells.words.as_slice(), row.as_slice());
     Ok(())
 }

@@ -2,9 +2,9 @@
 use Rattle.std.proofs.Common.{◌≡◌, rules, ap, sym, ◌∙◌}
 use Rattle.jr_word.specs.declared.config.Config.{Config}
 use Rattle.jr_weak.specs.Markers.{room_of}
-use Rattle.jr_rule.specs.declared.room_steps.RoomSteps.{RoomSteps}
-use Rattle.jr_rule.specs.declared.pass.Pass.{Pass}
-use Rattle.jr_rule.specs.Passes.{known_of, standing_of}
+use Rattle.jr_rule.specs.Passes.{Holder, facts_of}
+use Rattle.jr_rule.specs.Rooms.{holder_over}
+use Rattle.jr_rule.specs.Rule.{acting}
 use Rattle.jr_model.specs.Frames.{fresh_frames}
 use Rattle.first_room.specs.Calls.{sharing}
 use Rattle.first_room.proofs.Played.{shared, refused_as, same_on, deleted_on, typed_on, played, word_or_null}
@@ -13,7 +13,7 @@ use Rattle.first_room.proofs.share.Goals as goal
 
 pub collect-requires-2 : goal.collect-requires-2
 collect-requires-2 c =
-    let first : room_of c.in_ok-marker.marker ≡ (known_of c.pop_local_frame.new.self.held.steps.pass).config.objects = search rules in
+    let first : room_of c.in_ok-marker.marker ≡ (acting c.pop_local_frame.new.self.held.steps.cells.seat.me).config.objects = search rules in
     let same = ((c.in-Err-Busy.ensures.call).does (c.in_ok-pop_local_frame.ensures).outside).stands_is.config in
     c.collect.ensures.room ∙ (first ∙ sym (ap (λ (k : Config). k.objects) same))
 
@@ -48,9 +48,9 @@ returns c =
     let global = word_or_null c.in_ok-new_global_ref.field-0 c.unwrap_or-global.result c.unwrap_or-global.ensures in
     let calls = shared _ _ _ _ _ _ _ _ _ _ _ _ _ _ _ _ _ _ _ _ _ _ _ _ _ _ c.in_ok-lost.lost c.in_ok-array.array c.in_ok-new_weak_global_ref.field-0 c.in_ok-new_global_ref.field-0 c.in_ok-pop_local_frame.field-0 c.in-Err-Busy.inside c.in_ok-collect.field-0 c.in_ok-cleared.cleared c.in_ok-kind.kind
     c.in-Ok.ensures.outside d1 d2 d3 d4 d5 d6 d7 (refused_as c.in-Err-Busy.field-0-is d8) d9 (same_on _ _ 0 _ weak d10) (deleted_on _ _ _ global d11) (typed_on _ _ _ global d12) in
-    let handed = c.into_pass-2.ensures.0 ∙ ap (λ (s : RoomSteps _). s.pass) (c.into_pass.ensures.steps d12.outside) in (
-      at_end c.args.room.now.row c.args.pass c.new.result.pass _ c.into_pass-2.result c.requires.row c.new.ensures.1 same handed,
+    let handed = c.into_pass-2.ensures.0 ∙ ap holder_over (c.into_pass.ensures.steps d12.outside) in (
+      at_end c.args.room.now.row c.args.pass (holder_over c.new.result) _ c.into_pass-2.result c.requires.row c.new.ensures.1 same handed,
       busy_some _ c.in-Err-Busy.inside c.in-Err-Busy.field-0-is c.in-Err-Busy.ensures.busy,
-      played (λ (s : RoomSteps _). s.pass) sharing c.new.result _ _ c.args.pass c.into_pass-2.result _ _ (c.in-Err-Busy.inside, c.in_ok-cleared.cleared, c.in_ok-kind.kind) c.in-Ok.ensures.steps calls c.new.ensures.1 handed
-          (c.in-Ok.ensures.frames ∙ ap (λ (p : Pass). fresh_frames (standing_of p).config.locals) c.new.ensures.1),
+      played holder_over sharing c.new.result _ _ c.args.pass c.into_pass-2.result _ _ (c.in-Err-Busy.inside, c.in_ok-cleared.cleared, c.in_ok-kind.kind) c.in-Ok.ensures.steps calls c.new.ensures.1 handed
+          (c.in-Ok.ensures.frames ∙ ap (λ (h : Holder). fresh_frames (facts_of h).stands.config.locals) c.new.ensures.1),
     )

@@ -1,7 +1,8 @@
-use Rattle.std.proofs.Common.{refl, arith, rules}
+use Rattle.std.proofs.Common.{refl}
 use mathlib.Core.Logic.{∥∥₁_map}
 use Rattle.jr_word.specs.declared.header.HeaderParts.{HeaderParts}
 use Rattle.jr_word.specs.declared.kind.Kind.TheVariants.{Plain}
+use Rattle.jr_rule.specs.CellLaws.{some_of}
 use Rattle.jr_rule.proofs.Headers.{header_fits, filled_none}
 use Rattle.jr_rule_tests.proofs.plain.sees_the_header_that_it_published.Goals as goal
 
@@ -9,5 +10,8 @@ use Rattle.jr_rule_tests.proofs.plain.sees_the_header_that_it_published.Goals as
 abbrev plain : HeaderParts
 plain = record { kind = Plain; length = 0; place = 0 }
 
-pub claim_header-requires : goal.claim_header-requires
-claim_header-requires g c = (omega arith, (search rules, (search rules, (header_fits plain (refl, refl), ∥∥₁_map c.see_header.new.self.shown (λ k. (k.0, k.1, filled_none plain k.0 refl))))))
+pub claim_header-requires-clause-header : goal.claim_header-requires-clause-header
+claim_header-requires-clause-header g c = header_fits plain (refl, refl)
+
+pub claim_header-requires-clause-filled : goal.claim_header-requires-clause-filled
+claim_header-requires-clause-filled g c = ∥∥₁_map (some_of _ _ _ _ c.see_header.new.self.stands) (λ k. (k.0, k.1, filled_none plain k.0 refl))
