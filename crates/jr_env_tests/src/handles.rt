@@ -122,7 +122,7 @@ fn retires_a_slot_after_its_last_serial(rt: HostRuntime) -> Result<(), Fail> {
     row[2] = 9;
     row[3] = 1;
     row[19] = 1;
-    assert_eq!(rt; env.held.steps.words.as_slice(), row.as_slice());
+    assert_eq!(rt; env.held.steps.cells.words.as_slice(), row.as_slice());
     Ok(())
 }
 

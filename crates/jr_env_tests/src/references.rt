@@ -191,7 +191,7 @@ fn an_env_is_made_of_a_fresh_pass_alone(rt: HostRuntime) -> Result<(), Fail> {
     assert!(rt; steps.fresh());
     steps.spend();
     let steps = refused(&rt, Env::new(steps))?;
-    assert_eq!(rt; steps.words.as_slice(), [0; 20].as_slice());
+    assert_eq!(rt; steps.cells.words.as_slice(), [0; 20].as_slice());
 
     let Ok(mut env) = Env::new(PlainSteps::<2>::new(rt.alloc(), Config::LEAST)?) else {
         return Err("the pass is fresh")?;
@@ -203,7 +203,7 @@ fn an_env_is_made_of_a_fresh_pass_alone(rt: HostRuntime) -> Result<(), Fail> {
     let mut row = [0; 20];
     row[3] = 1;
     row[19] = 1;
-    assert_eq!(rt; steps.words.as_slice(), row.as_slice());
+    assert_eq!(rt; steps.cells.words.as_slice(), row.as_slice());
     Ok(())
 }
 

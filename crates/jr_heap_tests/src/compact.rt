@@ -145,13 +145,13 @@ fn a_move_leaves_these_words(rt: HostRuntime) -> Result<(), Fail> {
     row[35] = 0x1000_0047;
     row[37] = 7;
     row[40] = 7;
-    assert_eq!(rt; steps.words.as_slice(), row.as_slice());
+    assert_eq!(rt; steps.cells.words.as_slice(), row.as_slice());
     compact(&rt, &mut steps)?;
     row[1] = 4;
     row[35] = 0x47;
     row[36] = 7;
     row[37] = 0;
     row[39] = 7;
-    assert_eq!(rt; steps.words.as_slice(), row.as_slice());
+    assert_eq!(rt; steps.cells.words.as_slice(), row.as_slice());
     look_after(&rt, &mut steps)
 }

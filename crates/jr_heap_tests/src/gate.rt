@@ -245,9 +245,9 @@ fn a_stay_is_counted_until_it_ends(rt: HostRuntime) -> Result<(), Fail> {
     let Ok(stay) = enter(&mut steps) else {
         return Err("nobody collects")?;
     };
-    assert_eq!(rt; steps.words[0], 1);
+    assert_eq!(rt; steps.cells.words[0], 1);
     stay.leave(&mut steps);
-    assert_eq!(rt; steps.words[0], 0);
+    assert_eq!(rt; steps.cells.words[0], 0);
     Ok(())
 }
 
@@ -257,8 +257,8 @@ fn a_collection_keeps_the_gate_shut_until_it_ends(rt: HostRuntime) -> Result<(),
     let Ok(collection) = shut_gate(&mut steps) else {
         return Err("nobody is inside")?;
     };
-    assert_eq!(rt; steps.words[0], 0x1_0000);
+    assert_eq!(rt; steps.cells.words[0], 0x1_0000);
     collection.reopen(&mut steps);
-    assert_eq!(rt; steps.words[0], 0);
+    assert_eq!(rt; steps.cells.words[0], 0);
     Ok(())
 }
