@@ -30,10 +30,7 @@ use Rattle.first_room.specs.Parts.{HasPlayed, HasShared, HasVisited, PlaysPart, 
 
 -- a pass that was opened knows what it shows
 opened_knows : (r : Row) (p : Pass) → IsOpened r p → (facts_of (holder_of p)).knows (known_of p)
-opened_knows r p o = record {
-  is = refl;
-  pass = record { config = refl; last = refl; thread = refl; role = p.held.role_is; legal = subst (λ (k : Known). IsLegal k.config k.last k.seen) (sym o.knows) tt };
-}
+opened_knows r p o = (refl, record { config = refl; last = refl; thread = refl; role = p.held.role_is; legal = subst (λ (k : Known). IsLegal k.config k.last k.seen) (sym o.knows) tt })
 
 -- what a thread did since its pass was opened
 record Since {A : Type 0} (story : Deed A) (t : ℕ) (x : A) (k : Known) : Type 0 where
@@ -54,7 +51,7 @@ since story r p q x config_is last_is o h =
     let did : DoesDeed facts_of h.spent (holder_of q) (fresh_frames SIZES.locals) h.frames story (Ok x) = subst (λ f. DoesDeed facts_of h.spent (holder_of q) f h.frames story (Ok x)) fresh h.did in
     let holds0 : Holds (fresh_frames SIZES.locals) k0 = λ place. refl in
     let y = did.did (known_of p) (((h.spends).same (known_of p)).0 (opened_knows r p o)) (subst (Holds (fresh_frames SIZES.locals)) (sym knows0) holds0) in
-    let is : y.0 ≡ known_of q = (y.1).is in
+    let is : y.0 ≡ known_of q = y.1.0 in
     let s = did.stands_is in
     let same_config : (known_of q).config ≡ SIZES = s.config ∙ (ap (λ (z : Standing). z.config) spent ∙ ap (λ (k : Known). k.config) knows0) in
     let same_last : (known_of q).last ≡ LAST = s.last ∙ (ap (λ (z : Standing). z.last) spent ∙ ap (λ (k : Known). k.last) knows0) in

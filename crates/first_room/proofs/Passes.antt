@@ -10,6 +10,7 @@ use Rattle.jr_steps.specs.Knowing.{Standing}
 use Rattle.jr_gate.specs.Performing.{IsAsBefore}
 use Rattle.jr_rule.specs.declared.pass.Pass.{Pass}
 use Rattle.jr_rule.specs.declared.row.Row.{Row}
+use Rattle.jr_rule.proofs.PassOver.{still_of}
 use Rattle.jr_rule.specs.Passes.{Holder, facts_of, holder_of, numbers_below, AreOpened, IsAt}
 
 -- what stands in one room, with its sizes and serials
@@ -33,10 +34,7 @@ same_spent s e = record { room = ap (λ (u : Standing). u.room) e; config = ap (
 pub at_end : (r : Row) (p : Pass) (made now : Holder) (back : Pass) → IsAt r p → made ≡ holder_of p → IsOfSame (facts_of made).stands (facts_of now).stands → holder_of back ≡ now → IsAt r back
 at_end r p made now back at is same handed =
     let there : IsOfSame (facts_of (holder_of p)).stands (facts_of (holder_of back)).stands = subst (λ (z : Holder × Holder). IsOfSame (facts_of z.0).stands (facts_of z.1).stands) (λ i. (is i, sym handed i)) same in
-    record { row = table there.room ∙ at.row; config = there.config ∙ at.config; last = there.last ∙ at.last }
-  where
-    table : Some back.seat.table_id ≡ Some p.seat.table_id → back.seat.table_id ≡ p.seat.table_id
-    table e = cc
+    still_of r p back there.room there.config there.last at
 
 -- of two passes none is left once both are removed
 pub none_left : (c : Config) (last : ℕ) (r : Row) (ps qs rs : List Pass) → c.threads ≡ 2 → AreOpened c last r ps → qs ≡ remove ps 0 → rs ≡ remove qs 0 → rs ≡ []

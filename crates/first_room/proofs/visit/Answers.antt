@@ -29,7 +29,7 @@ returns c =
     (same_then (same_before (c.get_critical-read.ensures.call).stands_is)
     (record { room = (ended.call).stands_is.room; config = (ended.call).stands_is.config; last = (ended.call).stands_is.last }))))))) in
     let frames = ap (λ (t : Table). t.frames) (c.in_ok-region.ensures.entered).frames in
-    let calls = visited (λ s k h. h.pass) _ _ _ _ _ _ _ _ _ _ _ _ _ c.in_ok-wait.field-0 c.in_ok-object.object c.in_ok-new_object_array.field-0 c.in_ok-pop_local_frame.field-0 c.in_ok-region.region (signed_word w32 c.in_ok-read.field-0)
+    let calls = visited (λ s k h. h.1) _ _ _ _ _ _ _ _ _ _ _ _ _ c.in_ok-wait.field-0 c.in_ok-object.object c.in_ok-new_object_array.field-0 c.in_ok-pop_local_frame.field-0 c.in_ok-region.region (signed_word w32 c.in_ok-read.field-0)
     c.in-Ok.ensures.outside d1 d2 d3 d4 ((c.in_ok-region.ensures.entered).opens d4.outside) _ _ frames (ap (λ (t : Table). t.frames) c.get_critical-read.ensures.frames ∙ frames) c.in_ok-read.ensures.call ended.call in
     let own : to_z w32 (of_z w32 c.in_ok-read.field-0) ≡ c.in_ok-read.field-0 = search rules in
     let handed = c.into_pass-2.ensures.0 ∙ ap holder_over (c.into_pass.ensures.steps ended.outside) in (

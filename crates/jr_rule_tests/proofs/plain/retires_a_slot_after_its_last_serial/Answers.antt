@@ -28,7 +28,7 @@ pub claim-requires-clause-looked : goal.claim-requires-clause-looked
 claim-requires-clause-looked g c =
     let within : c.claim_header.new.self.role ≡ Within = search rules in
     may_then c.see_slot.ensures (λ k s m. tt) (may_then c.claim_header.ensures (λ k s m. filled_none plain k refl) (some_of _ _ _ _ c.go_in.new.self.stands) (λ k k' s m d shown. shown_published 1 plain c.claim_header.result k k' shown))
-    (λ k k' s m d shown. (present_stays k k' _ 1 (goes_did d) (s.pass.role ∙ within) (λ e. cc, tt) m, (subst (λ p. ShowsSlot 0 p k') (c.in-Free-eq0.is ∙ ap Free c.in-Free-eq0.serial-test) shown.0)))
+    (λ k k' s m d shown. (present_stays k k' _ 1 (goes_did d) (s.1.role ∙ within) (λ e. cc, tt) m, (subst (λ p. ShowsSlot 0 p k') (c.in-Free-eq0.is ∙ ap Free c.in-Free-eq0.serial-test) shown.0)))
 
 pub free-requires-clause-looked : goal.free-requires-clause-looked
 free-requires-clause-looked g c =

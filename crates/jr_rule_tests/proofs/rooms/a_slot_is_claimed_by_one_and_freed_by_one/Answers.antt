@@ -14,12 +14,12 @@ use Rattle.jr_rule_tests.proofs.rooms.a_slot_is_claimed_by_one_and_freed_by_one.
 pub claim-requires-clause-looked : goal.claim-requires-clause-looked
 claim-requires-clause-looked g c =
     let within : c.claim_header.new.self.role ≡ Within = search rules in
-    claimable c.claim_header.result (λ k s. s.pass) (some_of _ _ _ _ c.go_in.new.self.stands) within c.claim_header.ensures c.see_slot.ensures (c.in-Free-eq0.is ∙ ap Free c.in-Free-eq0.serial-test)
+    claimable c.claim_header.result (λ k s. s.1) (some_of _ _ _ _ c.go_in.new.self.stands) within c.claim_header.ensures c.see_slot.ensures (c.in-Free-eq0.is ∙ ap Free c.in-Free-eq0.serial-test)
 
 pub claim-requires-2-clause-looked : goal.claim-requires-2-clause-looked
 claim-requires-2-clause-looked g c =
     let within : c.claim_header-2.new.self.role ≡ Within = search rules in
-    claimable c.claim_header-2.result (λ k s. s.pass) (some_of _ _ _ _ c.go_in-2.new.self.stands) within c.claim_header-2.ensures c.see_slot-2.ensures (c.in-Free-eq0-see_slot.is ∙ ap Free c.in-Free-eq0-see_slot.serial-test)
+    claimable c.claim_header-2.result (λ k s. s.1) (some_of _ _ _ _ c.go_in-2.new.self.stands) within c.claim_header-2.ensures c.see_slot-2.ensures (c.in-Free-eq0-see_slot.is ∙ ap Free c.in-Free-eq0-see_slot.serial-test)
 
 pub free-requires-clause-looked : goal.free-requires-clause-looked
 free-requires-clause-looked g c =
