@@ -93,6 +93,18 @@ impl<S: Steps, M: Meanwhile> Steps for Overtaken<S, M> {
         self.steps.bar()
     }
 
+    fn announce(&mut self, looked: u16) -> Result<(), GateParts> {
+        self.steps.announce(looked)
+    }
+
+    fn cancel(&mut self) {
+        self.steps.cancel();
+    }
+
+    fn bar_announced(&mut self) -> Result<(), u32> {
+        self.steps.bar_announced()
+    }
+
     fn unbar(&mut self) {
         self.steps.unbar();
     }

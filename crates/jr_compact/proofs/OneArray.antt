@@ -4,7 +4,8 @@ use mathlib.Core.Logic.{dite, ∥∥₁_map}
 use native.Mathlib.Decide.{ℕ_discrete}
 use Rattle.jr_word.specs.declared.config.Config.{Config}
 use Rattle.jr_word.specs.declared.header.HeaderParts.{HeaderParts}
-use Rattle.jr_model.specs.declared.event.Act.TheVariants.{Shut, Settle}
+use Rattle.jr_model.specs.declared.event.Act.TheVariants.{Gate, Settle}
+use Rattle.jr_model.specs.declared.event.GateAct.TheVariants.{Shut}
 use Rattle.jr_model.specs.declared.event.Role.TheVariants.{Collecting}
 use Rattle.jr_model.specs.Maps.{sum_below}
 use Rattle.jr_model.specs.State.{Contents, State, IsPresent, IsClosed, length_of, present_words}
@@ -47,7 +48,7 @@ pub knows_now : (o : ℕ) (h : HeaderParts) (hs : Option HeaderParts) → cond (
 knows_now o h hs = ap (λ b. cond b (Some h) hs) (eq_self o)
 
 -- a gate that was just shut may be opened again
-pub shut_reopens : {S : Type 0} {facts : S → Facts} {a b : S} → Took facts a b (Shut ∷ []) anything lets_go → MayKnow facts a anything → MayKnow facts b CanReopen
+pub shut_reopens : {S : Type 0} {facts : S → Facts} {a b : S} → Took facts a b (Gate Shut ∷ []) anything lets_go → MayKnow facts a anything → MayKnow facts b CanReopen
 shut_reopens took may = may_then took (λ k s m. tt) may (λ k k' s m g x. (shut_closed g, ap (λ (y : Holdings). y.moving) x))
 
 module _ {S : Type 0} (facts : S → Facts) (fits : AreOf facts) where

@@ -4,7 +4,8 @@ use Rattle.std.proofs.lemmas.Bool.Decides.{nat_tests}
 use Rattle.std.proofs.lemmas.List.{length-append, length-map}
 use mathlib.Core.Logic.{∥∥₁_map}
 use Rattle.jr_model.specs.declared.event.Role.TheVariants.{Outside}
-use Rattle.jr_model.specs.declared.event.Act.TheVariants.{Leave}
+use Rattle.jr_model.specs.declared.event.Act.TheVariants.{Gate}
+use Rattle.jr_model.specs.declared.event.GateAct.TheVariants.{Leave}
 use Rattle.jr_model.specs.Calls.{Ran}
 use Rattle.jr_model.specs.Frames.{Frames}
 use Rattle.jr_model.specs.History.{PassView, IsLegal}
@@ -66,7 +67,7 @@ module _ {S : Type 0} {facts : S → Facts} {a : S} {t : Table} {v : Levels} (st
   abbrev longer : Longer v.levels.items ys
   longer = last_of v.levels.items ys (some_levels v stand.some) rest
 
-  module _ {b : S} (empty : (length ys == 0) ≡ true) (took : Took facts a b (Leave ∷ []) anything lets_go) where
+  module _ {b : S} (empty : (length ys == 0) ≡ true) (took : Took facts a b (Gate Leave ∷ []) anything lets_go) where
     one_level : length (objects_of v) ≡ 1
     one_level = let e = one_more longer in let z = is_none (length ys) empty in count v ∙ (omega arith)
 
@@ -82,15 +83,15 @@ module _ {S : Type 0} {facts : S → Facts} {a : S} {t : Table} {v : Levels} (st
       ran = λ k s m.
           let y = took.goes k s tt in
           let d = goes_did y.2 in
-          let left = ran_act t.frames Leave tt (stepped_last (goes_stepped y.2)) d in
-          (y.0, y.1, made_of (spend_step took (λ n i. refl) k s tt t.frames t.frames) (subst (λ n. Ran (view k) (view y.0) t.frames t.frames (region_release n) (Ok tt)) (sym one_level) left), (y.3, holds_did k y.0 t.frames (Leave ∷ []) d (refl, tt) m.1));
+          let left = ran_act t.frames (Gate Leave) (λ out. absurd cc) (λ out. stepped_last (goes_stepped y.2)) d in
+          (y.0, y.1, made_of (spend_step took (λ n i. refl) k s tt t.frames t.frames) (subst (λ n. Ran (view k) (view y.0) t.frames t.frames (region_release n) (Ok tt)) (sym one_level) left), (y.3, holds_did k y.0 t.frames (Gate Leave ∷ []) d (refl, tt) m.1));
     }
 
     pub ready_left : StandsReady facts Outside b t
     ready_left = record {
       role_is = ap (λ (s : Standing). s.role) took.stands_is;
       spent = ap (λ (s : Standing). s.fresh) took.stands_is ∙ stand.ready.spent;
-      own = own_stepped Leave refl stand.ready.own took;
+      own = own_stepped (Gate Leave) refl stand.ready.own took;
     }
 
   module _ (left : (length ys == 0) ≡ false) (w : Levels) (same : w.levels.items ≡ ys) where
@@ -117,7 +118,7 @@ module _ {S : Type 0} {facts : S → Facts} {a : S} {t : Table} {v : Levels} (st
     }
 
 -- all levels are given up
-module _ {S : Type 0} {facts : S → Facts} {a b : S} {t : Table} {v : Levels} (stand : Stand facts v a t) (took : Took facts a b (Leave ∷ []) anything lets_go) where
+module _ {S : Type 0} {facts : S → Facts} {a b : S} {t : Table} {v : Levels} (stand : Stand facts v a t) (took : Took facts a b (Gate Leave ∷ []) anything lets_go) where
   pub closes_all : GivesUpAll facts a b t.frames v
   closes_all = record {
     stands_is = record {
@@ -130,13 +131,13 @@ module _ {S : Type 0} {facts : S → Facts} {a b : S} {t : Table} {v : Levels} (
     ran = λ k s m.
         let y = took.goes k s tt in
         let d = goes_did y.2 in
-        let left = ran_act t.frames Leave tt (stepped_last (goes_stepped y.2)) d in
-        (y.0, y.1, made_of (spend_step took (λ n i. refl) k s tt t.frames t.frames) left, (y.3, holds_did k y.0 t.frames (Leave ∷ []) d (refl, tt) m.1));
+        let left = ran_act t.frames (Gate Leave) (λ out. absurd cc) (λ out. stepped_last (goes_stepped y.2)) d in
+        (y.0, y.1, made_of (spend_step took (λ n i. refl) k s tt t.frames t.frames) left, (y.3, holds_did k y.0 t.frames (Gate Leave ∷ []) d (refl, tt) m.1));
   }
 
   pub ready_outside : StandsReady facts Outside b t
   ready_outside = record {
     role_is = ap (λ (s : Standing). s.role) took.stands_is;
     spent = ap (λ (s : Standing). s.fresh) took.stands_is ∙ stand.ready.spent;
-    own = own_stepped Leave refl stand.ready.own took;
+    own = own_stepped (Gate Leave) refl stand.ready.own took;
   }

@@ -8,7 +8,8 @@ use Rattle.jr_word.specs.declared.fault.Fault.{Fault}
 use Rattle.jr_word.specs.declared.fault.Fault.TheVariants.{Barred}
 use Rattle.jr_model.specs.declared.event.Role.TheVariants.{Outside, Within}
 use Rattle.jr_model.specs.declared.event.Act.{Act}
-use Rattle.jr_model.specs.declared.event.Act.TheVariants.{Enter, Knock, Leave, Withdraw}
+use Rattle.jr_model.specs.declared.event.Act.TheVariants.{Gate}
+use Rattle.jr_model.specs.declared.event.GateAct.TheVariants.{Enter, Knock, Leave, Withdraw}
 use Rattle.jr_model.specs.State.{State}
 use Rattle.jr_model.specs.Frames.{Frames}
 use Rattle.jr_model.specs.History.{PassView}
@@ -44,11 +45,11 @@ use Rattle.jr_critical.specs.Levels.{AreKnown, HasOpened, LearnsFirst, Stand, ob
 use Rattle.jr_critical.proofs.KnownLevels.{blank}
 
 -- an entry, and work that goes on in its stay
-ran_opened : {A : Type 0} {p q r : PassView} {f g : Frames} {work : Call A} {x : A} → Stepped p q Enter → Ran q r f g work (Ok x) → Ran p r f g (opened work) (Ok x)
+ran_opened : {A : Type 0} {p q r : PassView} {f g : Frames} {work : Call A} {x : A} → Stepped p q (Gate Enter) → Ran q r f g work (Ok x) → Ran p r f g (opened work) (Ok x)
 ran_opened {p} {q} a w =
-    let first : IsWindow p q (Enter ∷ []) q.seen = record { from = a.did.begins; to = prefix_self q.seen; first = a.behind; last = tt } in
-    let v = window_then (Enter ∷ []) w.acts a.did w.did first w.window in
-    record { acts = Enter ∷ w.acts; did = did_then (Enter ∷ []) w.acts a.did w.did; is = inr (w.acts, (refl, w.is)); begun = v.begun; window = v.window; grounds = tt }
+    let first : IsWindow p q (Gate Enter ∷ []) q.seen = record { from = a.did.begins; to = prefix_self q.seen; first = λ out. a.behind; last = λ out. absurd cc } in
+    let v = window_then (Gate Enter ∷ []) w.acts a.did w.did first w.window in
+    record { acts = Gate Enter ∷ w.acts; did = did_then (Gate Enter ∷ []) w.acts a.did w.did; is = inr (w.acts, (refl, w.is)); begun = v.begun; window = v.window; grounds = tt }
 
 -- work that was refused is left as any other
 refused_as : {A : Type 0} (work : Call A) {e : Fault} (f g : Frames) (acts : List Act) → entered work f acts (Err e) g → opened work f acts (Err e) g
@@ -85,18 +86,18 @@ module _ {S : Type 0} {facts : S → Facts} where
     ready_whole p = ready_after {so = lets_go} r (same_owner t) p
 
     -- the gate was shut
-    barred : (e : Fault) → (e ≡ Barred) × ActedTo facts a d (Knock ∷ Withdraw ∷ []) anything IsWithdrawn → CallsWhole facts a d t.frames t.frames 1 (λ s. entered (first_work wanted w (facts a).stands.config (facts a).stands.last (facts a).stands.thread s)) (Err e)
+    barred : (e : Fault) → (e ≡ Barred) × ActedTo facts a d (Gate Knock ∷ Gate Withdraw ∷ []) anything IsWithdrawn → CallsWhole facts a d t.frames t.frames 1 (λ s. entered (first_work wanted w (facts a).stands.config (facts a).stands.last (facts a).stands.thread s)) (Err e)
     barred e why = whole_more (subst (λ (y : Fault). CallsWhole facts a d t.frames t.frames 0 (λ s. entered (first_work wanted w (facts a).stands.config (facts a).stands.last (facts a).stands.thread s)) (Err y)) (sym why.0) (calls_barred (first_work wanted w) t.frames r.role_is why.1))
 
-    pub opens_barred : {e : Fault} (answer : Result Levels Fault) → IsErrAnd answer (λ y. y ≡ e) → (e ≡ Barred) × ActedTo facts a d (Knock ∷ Withdraw ∷ []) anything IsWithdrawn
+    pub opens_barred : {e : Fault} (answer : Result Levels Fault) → IsErrAnd answer (λ y. y ≡ e) → (e ≡ Barred) × ActedTo facts a d (Gate Knock ∷ Gate Withdraw ∷ []) anything IsWithdrawn
         → HasOpened facts a d t.frames (λ s. opened (first_work wanted w (facts a).stands.config (facts a).stands.last (facts a).stands.thread s)) answer
     opens_barred {e} answer given why = has_not_opened answer given (barred e why)
 
-    pub ready_barred : (e : Fault) → (e ≡ Barred) × ActedTo facts a d (Knock ∷ Withdraw ∷ []) anything IsWithdrawn → StandsReady facts Outside d t
+    pub ready_barred : (e : Fault) → (e ≡ Barred) × ActedTo facts a d (Gate Knock ∷ Gate Withdraw ∷ []) anything IsWithdrawn → StandsReady facts Outside d t
     ready_barred e why = ready_whole (barred e why)
 
     -- what was named was refused
-    module _ (fits : AreOf facts) {b c : S} {e : Fault} (enter : Took facts a b (Enter ∷ []) anything keeps) (p : FindsLevel facts b c t.frames wanted 0 w (Err e)) (leave : Took facts c d (Leave ∷ []) anything lets_go) where
+    module _ (fits : AreOf facts) {b c : S} {e : Fault} (enter : Took facts a b (Gate Enter ∷ []) anything keeps) (p : FindsLevel facts b c t.frames wanted 0 w (Err e)) (leave : Took facts c d (Gate Leave ∷ []) anything lets_go) where
       whole : CallsWhole facts a d t.frames t.frames 1 (λ s. entered (first_work wanted w (facts a).stands.config (facts a).stands.last (facts a).stands.thread s)) (Err e)
       whole = let s = (facts b).stands in calls_entered (first_work wanted w) fits (λ z. 1) {so = λ j k. LearnsLevel (Err e) j k} r.role_is enter p (steady_level wanted w s.config s.last s.thread) leave
 
@@ -107,7 +108,7 @@ module _ {S : Type 0} {facts : S → Facts} where
       ready_not = ready_whole whole
 
   -- it was found, and the stay goes on
-  module _ (wanted : Wanted) (w : Word) {a b c : S} {t : Table} (r : StandsReady facts Outside a t) {l : Level} (enter : Took facts a b (Enter ∷ []) anything keeps) (p : FindsLevel facts b c t.frames wanted 0 w (Ok l)) where
+  module _ (wanted : Wanted) (w : Word) {a b c : S} {t : Table} (r : StandsReady facts Outside a t) {l : Level} (enter : Took facts a b (Gate Enter ∷ []) anything keeps) (p : FindsLevel facts b c t.frames wanted 0 w (Ok l)) where
     pub ready_opened : StandsReady facts Within c t
     ready_opened = ready_after {so = λ j k. LearnsLevel (Ok l) j k} (ready_entered r enter) (same_owner t) p
 
@@ -127,7 +128,7 @@ module _ {S : Type 0} {facts : S → Facts} where
             };
             ran = λ k s m.
                 let x = enter.goes k s tt in
-                let y = q.ran x.0 x.1 (holds_did k x.0 t.frames (Enter ∷ []) (goes_did x.2) (refl, tt) m) in
+                let y = q.ran x.0 x.1 (holds_did k x.0 t.frames (Gate Enter ∷ []) (goes_did x.2) (refl, tt) m) in
                 let learns = learns_since l.object l.header k x.0 y.0 x.3 y.3.0 in
                 let shows : LearnsFirst (Ok v) k y.0
                 = subst (λ ls. AreKnown ls y.0 × Learns (slice_index_or ls 0 blank).object (slice_index_or ls 0 blank).header k y.0) (sym items) ((learnt l.object l.header k y.0 learns, tt), learns) in

@@ -11,7 +11,8 @@ use Rattle.jr_word.specs.declared.kind.Kind.TheVariants as kind
 use Rattle.jr_word.specs.Kind.{word_limit}
 use Rattle.jr_model.specs.declared.event.Role.TheVariants.{Within}
 use Rattle.jr_model.specs.declared.event.Act.{Act}
-use Rattle.jr_model.specs.declared.event.Act.TheVariants.{Leave, Read, Write}
+use Rattle.jr_model.specs.declared.event.Act.TheVariants.{Gate, Read, Write}
+use Rattle.jr_model.specs.declared.event.GateAct.TheVariants.{Leave}
 use Rattle.jr_model.specs.History.{PassView, IsLegal, Did}
 use Rattle.jr_model.specs.Frames.{Frames}
 use Rattle.jr_model.specs.Calls.{Call, Ran, act, for_object, refuse_if, some_act, ◌>>=◌}
@@ -135,7 +136,7 @@ module _ {S : Type 0} {facts : S → Facts} (fits : AreOf facts) (v : Levels) (l
       ran = λ k s m. let l = (fits a k s).legal in (k, s, made_of (spend_none (facts a) k f f l) (ran_for k (o_of v level) (h_of v level) next (held_at v level inside k m.0).shown (each (view k) l)), (refl, m));
     }
 
-    module _ {a b : S} {x : Act} {met : Known → Type 0} (meets : (k : Known) → HoldsHeader (o_of v level) (h_of v level) k → met k) (took : Took facts a b (x ∷ []) met keeps) (stays : x ≢ Leave) (spares : spares_places x ≡ true) (same : standing_after (facts a).stands (x ∷ []) ≡ (facts a).stands) (within : (facts a).stands.role ≡ Within) where
+    module _ {a b : S} {x : Act} {met : Known → Type 0} (meets : (k : Known) → HoldsHeader (o_of v level) (h_of v level) k → met k) (took : Took facts a b (x ∷ []) met keeps) (stays : x ≢ Gate Leave) (spares : spares_places x ≡ true) (same : standing_after (facts a).stands (x ∷ []) ≡ (facts a).stands) (within : (facts a).stands.role ≡ Within) where
       -- one step at an element, for one thing that was known
       known_reached : (f : Frames) (k : Known) (s : (facts a).knows k) (m : KnowsLevels v f k) → KnowsLevels v f (took.goes k s (meets k (held_at v level inside k m.0))).0
       known_reached f k s m =

@@ -2,7 +2,8 @@
 use Rattle.std.proofs.Common.{◌≡◌, [], ◌∷◌, refl, sym, ap, subst, ◌∙◌}
 use Rattle.jr_model.specs.declared.event.Role.{Role}
 use Rattle.jr_model.specs.declared.event.Role.TheVariants.{Outside, Within}
-use Rattle.jr_model.specs.declared.event.Act.TheVariants.{Leave, Meet}
+use Rattle.jr_model.specs.declared.event.Act.TheVariants.{Gate, Meet}
+use Rattle.jr_model.specs.declared.event.GateAct.TheVariants.{Leave}
 use Rattle.jr_steps.specs.Acts.{act_of_exit}
 use Rattle.jr_steps.specs.Knowing.{Facts, Standing, standing_after, anything, lets_go, Took}
 use Rattle.jr_frames.specs.Table.{Table}
@@ -16,22 +17,23 @@ pub can_call_met : {s u : Standing} → u ≡ standing_after s (Meet ∷ []) →
 can_call_met is can = record {
   spent = ap (λ (x : Standing). x.fresh) is ∙ can.spent;
   not_knocking = λ k. can.not_knocking (sym (ap (λ (x : Standing). x.role) is) ∙ k);
+  not_announcing = λ k. can.not_announcing (sym (ap (λ (x : Standing). x.role) is) ∙ k);
   not_collecting = λ k. can.not_collecting (sym (ap (λ (x : Standing). x.role) is) ∙ k);
 }
 
 module _ {S : Type 0} {facts : S → Facts} where
   -- a thread that stands ready outside can make a call
   pub can_call : {a : S} {t : Table} → StandsReady facts Outside a t → CanCall (facts a).stands
-  can_call r = record { spent = r.spent; not_knocking = λ e. let out = r.role_is in cc; not_collecting = λ e. let out = r.role_is in cc }
+  can_call r = record { spent = r.spent; not_knocking = λ e. let out = r.role_is in cc; not_announcing = λ e. let out = r.role_is in cc; not_collecting = λ e. let out = r.role_is in cc }
 
   -- the thread was within, and left
   pub ends_stay : {a b : S} {t : Table} → CanCall (facts a).stands → (facts a).stands.role ≡ Within → AreOwn facts a t → Took facts a b (act_of_exit (facts a).stands.role ∷ []) anything lets_go → EndsStay facts a b t t
   ends_stay {a} {b} can within own e =
-      let l : Took facts a b (Leave ∷ []) anything lets_go = subst (λ (r : Role). Took facts a b (act_of_exit r ∷ []) anything lets_go) within e in
+      let l : Took facts a b (Gate Leave ∷ []) anything lets_go = subst (λ (r : Role). Took facts a b (act_of_exit r ∷ []) anything lets_go) within e in
       record {
         same = λ out. absurd (let no_more = sym within ∙ out in cc);
         frames = refl;
-        ready = record { role_is = ap (λ (s : Standing). s.role) l.stands_is; spent = ap (λ (s : Standing). s.fresh) l.stands_is ∙ can.spent; own = own_stepped Leave refl own l };
+        ready = record { role_is = ap (λ (s : Standing). s.role) l.stands_is; spent = ap (λ (s : Standing). s.fresh) l.stands_is ∙ can.spent; own = own_stepped (Gate Leave) refl own l };
         thread = ap (λ (s : Standing). s.thread) l.stands_is;
         config = ap (λ (s : Standing). s.config) l.stands_is;
       }

@@ -5,7 +5,8 @@ use Rattle.jr_word.specs.declared.config.Config.{Config}
 use Rattle.jr_word.specs.declared.fault.Fault.{Fault}
 use Rattle.jr_word.specs.declared.fault.Fault.TheVariants.{Barred}
 use Rattle.jr_model.specs.declared.event.Role.TheVariants.{Outside}
-use Rattle.jr_model.specs.declared.event.Act.TheVariants.{Enter, Knock, Leave, Withdraw}
+use Rattle.jr_model.specs.declared.event.Act.TheVariants.{Gate}
+use Rattle.jr_model.specs.declared.event.GateAct.TheVariants.{Enter, Knock, Leave, Withdraw}
 use Rattle.jr_model.specs.State.{State}
 use Rattle.jr_model.specs.Calls.{Call, entered}
 use Rattle.jr_steps.specs.declared.known.Known.{Known}
@@ -32,16 +33,16 @@ module _ {S : Type 0} {facts : S → Facts} where
 
   module _ {A : Type 0} (work : Config → ℕ → ℕ → State → Call A) where
     -- an entry that found the gate shut
-    pub completes_barred : {a b : S} {t : Table} {e : Fault} → StandsReady facts Outside a t → (answer : Result A Fault) → IsErrAnd answer (λ y. y ≡ e) → (e ≡ Barred) × ActedTo facts a b (Knock ∷ Withdraw ∷ []) anything IsWithdrawn
+    pub completes_barred : {a b : S} {t : Table} {e : Fault} → StandsReady facts Outside a t → (answer : Result A Fault) → IsErrAnd answer (λ y. y ≡ e) → (e ≡ Barred) × ActedTo facts a b (Gate Knock ∷ Gate Withdraw ∷ []) anything IsWithdrawn
         → Completes facts a b t t 0 (λ s. entered (work (facts a).stands.config (facts a).stands.last (facts a).stands.thread s)) answer
     completes_barred {t} r answer given why =
         let p = handed_on answer (subst (λ y. IsErrAnd answer (λ z. z ≡ y)) why.0 given) (calls_barred work t.frames r.role_is why.1) in
         record { call = λ out. p; ready = ready_after {so = lets_go} r (same_owner t) p }
 
     -- work between an entry and its exit
-    pub completes : {a b c d : S} {t u : Table} (fits : AreOf facts) (silent : Config → ℕ) {so : Known → Known → Type 0} {answer : Result A Fault} → StandsReady facts Outside a t → Took facts a b (Enter ∷ []) anything keeps
+    pub completes : {a b c d : S} {t u : Table} (fits : AreOf facts) (silent : Config → ℕ) {so : Known → Known → Type 0} {answer : Result A Fault} → StandsReady facts Outside a t → Took facts a b (Gate Enter ∷ []) anything keeps
         → Performed facts b c t.frames u.frames (silent (facts b).stands.config) (Holds t.frames) (work (facts b).stands.config (facts b).stands.last (facts b).stands.thread) answer (λ j k. so j k × Holds u.frames k)
-        → IsSteady (work (facts b).stands.config (facts b).stands.last (facts b).stands.thread) → KeepsOwner t u → Took facts c d (Leave ∷ []) anything lets_go
+        → IsSteady (work (facts b).stands.config (facts b).stands.last (facts b).stands.thread) → KeepsOwner t u → Took facts c d (Gate Leave ∷ []) anything lets_go
         → Completes facts a d t u (silent (facts a).stands.config) (λ s. entered (work (facts a).stands.config (facts a).stands.last (facts a).stands.thread s)) answer
     completes fits silent {so = so} r e p steady o l = let q = calls_entered work fits silent {so = so} r.role_is e p steady l in record { call = λ out. q; ready = ready_after {so = lets_go} r o q }
 

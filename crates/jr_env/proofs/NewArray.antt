@@ -11,7 +11,8 @@ use Rattle.jr_word.specs.declared.fault.Fault.{Fault}
 use Rattle.jr_word.specs.declared.fault.Fault.TheVariants.{LocalsFull, SpaceFull, Raced}
 use Rattle.jr_model.specs.declared.event.Role.TheVariants.{Within}
 use Rattle.jr_model.specs.declared.event.Act.{Act}
-use Rattle.jr_model.specs.declared.event.Act.TheVariants.{Reserve, ReserveFull, ReserveLost, Leave}
+use Rattle.jr_model.specs.declared.event.Act.TheVariants.{Gate, Reserve, ReserveFull, ReserveLost}
+use Rattle.jr_model.specs.declared.event.GateAct.TheVariants.{Leave}
 use Rattle.jr_model.specs.State.{Handle, AreWords}
 use Rattle.jr_model.specs.History.{History, Did}
 use Rattle.jr_model.specs.Windows.{IsWindow}
@@ -53,7 +54,7 @@ record AreReservations (steps : ℕ) (acts : List Act) : Type 0 where
   pub fresh : (b : Bool) → fresh_from b acts ≡ b
   pub hint : (slots i : ℕ) → hint_from slots i acts ≡ i
   pub spares : AllByRecursion (λ a. spares_places a ≡ true) acts
-  pub stays : AllByRecursion (λ a. a ≢ Leave) acts
+  pub stays : AllByRecursion (λ a. a ≢ Gate Leave) acts
 
 reservations_none : AreReservations 0 []
 reservations_none = record { few = let e : 0 ≤ 0 = omega arith in e; most = let e : 0 ≤ 1 = omega arith in e; fresh = λ b. refl; hint = λ slots i. refl; spares = tt; stays = tt }

@@ -6,7 +6,8 @@ use Rattle.jr_word.specs.declared.fault.Fault.{Fault}
 use Rattle.jr_word.specs.declared.fault.Fault.TheVariants.{Busy}
 use Rattle.jr_model.specs.declared.event.Role.TheVariants.{Outside}
 use Rattle.jr_model.specs.declared.event.Act.{Act}
-use Rattle.jr_model.specs.declared.event.Act.TheVariants.{ShutBusy, Clear, Drop, Settle, Reopen}
+use Rattle.jr_model.specs.declared.event.Act.TheVariants.{Gate, ShutBusy, Clear, Drop, Settle}
+use Rattle.jr_model.specs.declared.event.GateAct.TheVariants.{Reopen}
 use Rattle.jr_model.specs.State.{Handle}
 use Rattle.jr_model.specs.CollectionCalls.{collection_acts, sweeping_acts}
 use Rattle.jr_model.specs.Refusals.{Grounds}
@@ -41,7 +42,7 @@ drops_spare [] = tt
 drops_spare (o ∷ os) = (refl, drops_spare os)
 
 collection_spares : (hs : List Handle) (os : List ℕ) (used : ℕ) → AllSpare (collection_acts hs os used)
-collection_spares hs os used = (refl, append_all _ (sweeping_acts hs os used) (Reopen ∷ []) (append_all _ (map Clear hs ++ map Drop os) (Settle used ∷ []) (append_all _ (map Clear hs) (map Drop os) (clears_spare hs) (drops_spare os)) (refl, tt)) (refl, tt))
+collection_spares hs os used = (refl, append_all _ (sweeping_acts hs os used) (Gate Reopen ∷ []) (append_all _ (map Clear hs ++ map Drop os) (Settle used ∷ []) (append_all _ (map Clear hs) (map Drop os) (clears_spare hs) (drops_spare os)) (refl, tt)) (refl, tt))
 
 -- one of the two that a call of the steps answers
 abbrev pub CollectsOr : {S : Type 0} → (S → Facts) → S → S → Result Collected Fault → Type 0

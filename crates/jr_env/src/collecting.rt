@@ -16,7 +16,7 @@ impl<S: Steps> Env<S> {
     ///
     /// # Errors
     ///
-    /// E14 with how many threads were inside, knocking or collecting at its one step, at least 1.
+    /// E14 with how many threads were inside, knocking, announcing or collecting at its one step, at least 1.
     ///
     /// Nothing has changed then, and the thread stands outside. Over one thread it is never refused.
     ///

@@ -78,7 +78,7 @@ impl<S: Steps> Env<S> {
     ///
     /// # Errors
     ///
-    /// E13 where a thread is collecting at the entry; E2 where the handle is malformed or lies outside the room; E3 where it is a local one of another thread; E2 where its reference does not stand; E8 where each slot was occupied when it was tried, or later in the call.
+    /// E13 where a thread is collecting at the entry, or has announced that it will; E2 where the handle is malformed or lies outside the room; E3 where it is a local one of another thread; E2 where its reference does not stand; E8 where each slot was occupied when it was tried, or later in the call.
     ///
     /// Nothing has changed then, and the thread stands outside.
     ///
@@ -95,7 +95,7 @@ impl<S: Steps> Env<S> {
     ///
     /// # Errors
     ///
-    /// E13 where a thread is collecting at the entry; E2 where the handle is malformed or lies outside the room; E3 where it is a local one of another thread; E2 where its reference does not stand; E8 where each slot was occupied when it was tried, or later in the call.
+    /// E13 where a thread is collecting at the entry, or has announced that it will; E2 where the handle is malformed or lies outside the room; E3 where it is a local one of another thread; E2 where its reference does not stand; E8 where each slot was occupied when it was tried, or later in the call.
     ///
     /// Nothing has changed then, and the thread stands outside.
     ///
@@ -112,7 +112,7 @@ impl<S: Steps> Env<S> {
     ///
     /// # Errors
     ///
-    /// E13 where a thread is collecting at the entry; E2 where the handle is malformed or lies outside the room; E3 where it is a local one of another thread; E2 where its reference does not stand; E9 where no local place is free.
+    /// E13 where a thread is collecting at the entry, or has announced that it will; E2 where the handle is malformed or lies outside the room; E3 where it is a local one of another thread; E2 where its reference does not stand; E9 where no local place is free.
     ///
     /// Nothing has changed then, and the thread stands outside.
     ///
@@ -131,7 +131,7 @@ impl<S: Steps> Env<S> {
     ///
     /// # Errors
     ///
-    /// E13 where a thread is collecting at the entry; E2 where the handle is malformed; E4 where it is of another kind; E2 where it lies outside the room, its reference does not stand, or another thread deletes it first.
+    /// E13 where a thread is collecting at the entry, or has announced that it will; E2 where the handle is malformed; E4 where it is of another kind; E2 where it lies outside the room, its reference does not stand, or another thread deletes it first.
     ///
     /// Nothing has changed then, and the thread stands outside.
     ///
@@ -150,7 +150,7 @@ impl<S: Steps> Env<S> {
     ///
     /// # Errors
     ///
-    /// E13 where a thread is collecting at the entry; E2 where the handle is malformed; E4 where it is of another kind; E2 where it lies outside the room, its reference does not stand, or another thread deletes it first.
+    /// E13 where a thread is collecting at the entry, or has announced that it will; E2 where the handle is malformed; E4 where it is of another kind; E2 where it lies outside the room, its reference does not stand, or another thread deletes it first.
     ///
     /// Nothing has changed then, and the thread stands outside.
     ///
@@ -169,7 +169,7 @@ impl<S: Steps> Env<S> {
     ///
     /// # Errors
     ///
-    /// E13 where a thread is collecting at the entry; E2 where the handle is malformed; E4 where it is of another kind; E2 where it lies outside the room; E3 where it is one of another thread; E2 where its reference does not stand.
+    /// E13 where a thread is collecting at the entry, or has announced that it will; E2 where the handle is malformed; E4 where it is of another kind; E2 where it lies outside the room; E3 where it is one of another thread; E2 where its reference does not stand.
     ///
     /// Nothing has changed then, and the thread stands outside.
     ///
@@ -187,7 +187,7 @@ impl<S: Steps> Env<S> {
     ///
     /// # Errors
     ///
-    /// E13 where a thread is collecting at the entry; E2 where a handle is malformed or lies outside the room; E3 where one is a local one of another thread; E2 where the reference of one does not stand.
+    /// E13 where a thread is collecting at the entry, or has announced that it will; E2 where a handle is malformed or lies outside the room; E3 where one is a local one of another thread; E2 where the reference of one does not stand.
     ///
     /// Nothing has changed then, and the thread stands outside.
     ///
@@ -206,7 +206,7 @@ impl<S: Steps> Env<S> {
     ///
     /// # Errors
     ///
-    /// E13 where a thread is collecting at the entry.
+    /// E13 where a thread is collecting at the entry, or has announced that it will.
     ///
     /// Nothing has changed then, and the thread stands outside.
     ///

@@ -62,7 +62,7 @@ impl<S: Steps> Env<S> {
     ///
     /// # Errors
     ///
-    /// E13 where a thread is collecting at the entry; E15 where no frame was pushed; E2 where the handle is malformed or lies outside the room; E3 where it is a local one of another thread; E2 where its reference does not stand; E9 where no place would be free for the result, once those of the frame are.
+    /// E13 where a thread is collecting at the entry, or has announced that it will; E15 where no frame was pushed; E2 where the handle is malformed or lies outside the room; E3 where it is a local one of another thread; E2 where its reference does not stand; E9 where no place would be free for the result, once those of the frame are.
     ///
     /// Nothing is taken away then, and the thread stands outside.
     ///
@@ -81,7 +81,7 @@ impl<S: Steps> Env<S> {
     ///
     /// # Errors
     ///
-    /// E13 where a thread is collecting at the entry.
+    /// E13 where a thread is collecting at the entry, or has announced that it will.
     ///
     /// Nothing has changed then, and the thread stands outside.
     ///

@@ -14,7 +14,7 @@ impl<S: Steps> Env<S> {
     ///
     /// # Errors
     ///
-    /// E13 where a thread is collecting at the entry; E9 where no local place is free; E11 where every object number was present at one moment of the call.
+    /// E13 where a thread is collecting at the entry, or has announced that it will; E9 where no local place is free; E11 where every object number was present at one moment of the call.
     ///
     /// Nothing has changed then, and the thread stands outside.
     ///
@@ -32,7 +32,7 @@ impl<S: Steps> Env<S> {
     ///
     /// # Errors
     ///
-    /// E13 where a thread is collecting at the entry; E9 where no local place is free; E10 with how many words are reserved, where so many more don't fit; E12 with how many words were looked at and how many were found, where another thread reserved some in between; E11 where every object number was present at one moment of the call.
+    /// E13 where a thread is collecting at the entry, or has announced that it will; E9 where no local place is free; E10 with how many words are reserved, where so many more don't fit; E12 with how many words were looked at and how many were found, where another thread reserved some in between; E11 where every object number was present at one moment of the call.
     ///
     /// Nothing has changed then, and the thread stands outside; but after E11 the words of the array stay reserved until the next collection.
     ///
@@ -59,7 +59,7 @@ impl<S: Steps> Env<S> {
     ///
     /// # Errors
     ///
-    /// E13 where a thread is collecting at the entry; E2 where the handle is malformed or lies outside the room; E3 where it is a local one of another thread; E2 where its reference does not stand; E9 where no local place is free; E10 with how many words are reserved, where so many more don't fit; E12 with how many words were looked at and how many were found, where another thread reserved some in between; E11 where every object number was present at one moment of the call.
+    /// E13 where a thread is collecting at the entry, or has announced that it will; E2 where the handle is malformed or lies outside the room; E3 where it is a local one of another thread; E2 where its reference does not stand; E9 where no local place is free; E10 with how many words are reserved, where so many more don't fit; E12 with how many words were looked at and how many were found, where another thread reserved some in between; E11 where every object number was present at one moment of the call.
     ///
     /// Nothing has changed then, and the thread stands outside; but after E11 the words of the array stay reserved until the next collection.
     ///
@@ -86,7 +86,7 @@ impl<S: Steps> Env<S> {
     ///
     /// # Errors
     ///
-    /// E13 where a thread is collecting at the entry; E9 where no local place is free; E10 with how many words are reserved, where so many more don't fit; E12 with how many words were looked at and how many were found, where another thread reserved some in between; E11 where every object number was present at one moment of the call.
+    /// E13 where a thread is collecting at the entry, or has announced that it will; E9 where no local place is free; E10 with how many words are reserved, where so many more don't fit; E12 with how many words were looked at and how many were found, where another thread reserved some in between; E11 where every object number was present at one moment of the call.
     ///
     /// Nothing has changed then, and the thread stands outside; but after E11 the words of the string stay reserved until the next collection.
     ///

@@ -17,11 +17,11 @@ impl<const LAST: u32> Env<RoomSteps<'_, LAST>> {
     ///
     /// One, a load of the gate. The passes join for it and part again, each by a load of the gate that no clause counts.
     pub fn meet(&mut self, pass: Pass) -> Pass
-        requires { IsOfRoom self.old.held.steps.cells.room.now pass }
-        ensures room { self.new.held.steps.cells.room ≡ self.old.held.steps.cells.room }
+        requires { IsOfRoom self.old.held.steps.place.now pass }
+        ensures room { self.new.held.steps.place ≡ self.old.held.steps.place }
         ensures step { Took facts_of (holder_over self.old.held.steps) (holder_over self.new.held.steps) (Meet ∷ []) anything keeps }
         ensures met { HasMet (view (known_of pass)) (view (acting self.new.held.steps.cells.seat.me)) }
-        ensures other { IsOfRoom self.old.held.steps.cells.room.now result × IsSame pass result }
+        ensures other { IsOfRoom self.old.held.steps.place.now result × IsSame pass result }
         ensures frames { self.new.held.frames ≡ self.old.held.frames }
     {
         let held = &mut self.held;

@@ -14,7 +14,7 @@ impl<S: Steps> Env<S> {
     ///
     /// # Errors
     ///
-    /// E13 where a thread is collecting at the entry; E2 where the handle is malformed or lies outside the room; E3 where it is a local one of another thread; E2 where its reference does not stand; E1 where it is to null.
+    /// E13 where a thread is collecting at the entry, or has announced that it will; E2 where the handle is malformed or lies outside the room; E3 where it is a local one of another thread; E2 where its reference does not stand; E1 where it is to null.
     ///
     /// Nothing has changed then, and the thread stands outside.
     ///
@@ -32,7 +32,7 @@ impl<S: Steps> Env<S> {
     ///
     /// # Errors
     ///
-    /// E13 where a thread is collecting at the entry; E2 where the handle is malformed or lies outside the room; E3 where it is a local one of another thread; E2 where its reference does not stand; E1 where it is to null; E5 where it is to a plain object or a string.
+    /// E13 where a thread is collecting at the entry, or has announced that it will; E2 where the handle is malformed or lies outside the room; E3 where it is a local one of another thread; E2 where its reference does not stand; E1 where it is to null; E5 where it is to a plain object or a string.
     ///
     /// Nothing has changed then, and the thread stands outside.
     ///
@@ -50,7 +50,7 @@ impl<S: Steps> Env<S> {
     ///
     /// # Errors
     ///
-    /// E13 where a thread is collecting at the entry; E2 where the handle is malformed or lies outside the room; E3 where it is a local one of another thread; E2 where its reference does not stand; E1 where it is to null; E4 where it is to no string.
+    /// E13 where a thread is collecting at the entry, or has announced that it will; E2 where the handle is malformed or lies outside the room; E3 where it is a local one of another thread; E2 where its reference does not stand; E1 where it is to null; E4 where it is to no string.
     ///
     /// Nothing has changed then, and the thread stands outside.
     ///
@@ -68,7 +68,7 @@ impl<S: Steps> Env<S> {
     ///
     /// # Errors
     ///
-    /// E13 where a thread is collecting at the entry; E2 where the handle is malformed or lies outside the room; E3 where it is a local one of another thread; E2 where its reference does not stand; E1 where it is to null; E5 where it is to a plain object or a string; E6 where it is to an array of other elements than objects; E7 where the index is not below the length; E9 where the element is to an object and no local place is free.
+    /// E13 where a thread is collecting at the entry, or has announced that it will; E2 where the handle is malformed or lies outside the room; E3 where it is a local one of another thread; E2 where its reference does not stand; E1 where it is to null; E5 where it is to a plain object or a string; E6 where it is to an array of other elements than objects; E7 where the index is not below the length; E9 where the element is to an object and no local place is free.
     ///
     /// Nothing has changed then, and the thread stands outside.
     ///
@@ -91,7 +91,7 @@ impl<S: Steps> Env<S> {
     ///
     /// # Errors
     ///
-    /// E13 where a thread is collecting at the entry; E2 where a handle is malformed or lies outside the room; E3 where one is a local one of another thread; E2 where the reference of one does not stand; E1 where the array's is to null; E5 where it is to a plain object or a string; E6 where it is to an array of other elements than objects; E7 where the index is not below the length.
+    /// E13 where a thread is collecting at the entry, or has announced that it will; E2 where a handle is malformed or lies outside the room; E3 where one is a local one of another thread; E2 where the reference of one does not stand; E1 where the array's is to null; E5 where it is to a plain object or a string; E6 where it is to an array of other elements than objects; E7 where the index is not below the length.
     ///
     /// Nothing has changed then, and the thread stands outside.
     ///

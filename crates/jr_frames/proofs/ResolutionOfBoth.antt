@@ -8,7 +8,8 @@ use Rattle.jr_word.specs.declared.fault.Fault.{Fault}
 use Rattle.jr_word.specs.declared.fault.Fault.TheVariants as fault
 use Rattle.jr_model.specs.declared.event.Role.TheVariants.{Within}
 use Rattle.jr_model.specs.declared.event.Act.{Act}
-use Rattle.jr_model.specs.declared.event.Act.TheVariants.{Leave, Look}
+use Rattle.jr_model.specs.declared.event.Act.TheVariants.{Gate, Look}
+use Rattle.jr_model.specs.declared.event.GateAct.TheVariants.{Leave}
 use Rattle.jr_model.specs.State.{Handle}
 use Rattle.jr_model.specs.History.{PassView, IsLegal, role_of, Did}
 use Rattle.jr_model.specs.Frames.{Frames, object_of}
@@ -32,17 +33,17 @@ abbrev pub looked_both : Word → Word → Call (Option ℕ × Option ℕ)
 looked_both v w = looked v >>= (λ x. looked w >>= (λ y. done (x, y)))
 
 -- a look is no leave
-at_stays : (b : Bool) (h : Handle) (f g : Frames) (acts : List Act) (answer : Result (Option ℕ) Fault) → cond b (λ old. local_object (object_of old h) old) (look h >>= found_object) f acts answer g → AllByRecursion (λ a. a ≢ Leave) acts
-at_stays true h f g acts answer y = subst (λ l. AllByRecursion (λ a. a ≢ Leave) l) (sym y.0) tt
-at_stays false h f g acts answer (inl y) = subst (λ l. AllByRecursion (λ a. a ≢ Leave) l) (sym (y.4 ∙ (ap (λ l. l ++ y.3) y.5.1 ∙ ap (λ l. Look h y.5.0 ∷ l) y.6.0))) ((λ e. cc), tt)
-at_stays false h f g acts answer (inr y) = subst (λ l. AllByRecursion (λ a. a ≢ Leave) l) (sym y.2.1) ((λ e. cc), tt)
+at_stays : (b : Bool) (h : Handle) (f g : Frames) (acts : List Act) (answer : Result (Option ℕ) Fault) → cond b (λ old. local_object (object_of old h) old) (look h >>= found_object) f acts answer g → AllByRecursion (λ a. a ≢ Gate Leave) acts
+at_stays true h f g acts answer y = subst (λ l. AllByRecursion (λ a. a ≢ Gate Leave) l) (sym y.0) tt
+at_stays false h f g acts answer (inl y) = subst (λ l. AllByRecursion (λ a. a ≢ Gate Leave) l) (sym (y.4 ∙ (ap (λ l. l ++ y.3) y.5.1 ∙ ap (λ l. Look h y.5.0 ∷ l) y.6.0))) ((λ e. cc), tt)
+at_stays false h f g acts answer (inr y) = subst (λ l. AllByRecursion (λ a. a ≢ Gate Leave) l) (sym y.2.1) ((λ e. cc), tt)
 
-looks_stay : (w : Word) (f g : Frames) (acts : List Act) (answer : Result (Option ℕ) Fault) → looked w f acts answer g → AllByRecursion (λ a. a ≢ Leave) acts
-looks_stay Nothing f g acts answer y = subst (λ l. AllByRecursion (λ a. a ≢ Leave) l) (sym y.0) tt
-looks_stay Malformed f g acts answer y = subst (λ l. AllByRecursion (λ a. a ≢ Leave) l) (sym y.0) tt
+looks_stay : (w : Word) (f g : Frames) (acts : List Act) (answer : Result (Option ℕ) Fault) → looked w f acts answer g → AllByRecursion (λ a. a ≢ Gate Leave) acts
+looks_stay Nothing f g acts answer y = subst (λ l. AllByRecursion (λ a. a ≢ Gate Leave) l) (sym y.0) tt
+looks_stay Malformed f g acts answer y = subst (λ l. AllByRecursion (λ a. a ≢ Gate Leave) l) (sym y.0) tt
 looks_stay (Parts h) f g acts answer y = at_stays (is_local h) h f g acts answer y
 
-optional_stays : (k k' : Known) (acts : List Act) (z : Option ℕ) → Did (view k) (view k') acts → role_of (view k) ≡ Within → AllByRecursion (λ a. a ≢ Leave) acts → HasOptional z k → HasOptional z k'
+optional_stays : (k k' : Known) (acts : List Act) (z : Option ℕ) → Did (view k) (view k') acts → role_of (view k) ≡ Within → AllByRecursion (λ a. a ≢ Gate Leave) acts → HasOptional z k → HasOptional z k'
 optional_stays k k' acts None d w q p = tt
 optional_stays k k' acts (Some o) d w q p = present_stays k k' acts o d w q p
 

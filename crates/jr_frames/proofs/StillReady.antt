@@ -9,7 +9,8 @@ use Rattle.jr_word.specs.declared.fault.Fault.{Fault}
 use Rattle.jr_model.specs.declared.event.Role.{Role}
 use Rattle.jr_model.specs.declared.event.Role.TheVariants.{Outside, Within}
 use Rattle.jr_model.specs.declared.event.Act.{Act}
-use Rattle.jr_model.specs.declared.event.Act.TheVariants.{Enter, LocalPut, LocalDrop, Meet}
+use Rattle.jr_model.specs.declared.event.Act.TheVariants.{Gate, LocalPut, LocalDrop, Meet}
+use Rattle.jr_model.specs.declared.event.GateAct.TheVariants.{Enter}
 use Rattle.jr_model.specs.State.{State}
 use Rattle.jr_model.specs.Frames.{fresh_frames, object_at}
 use Rattle.jr_model.specs.Calls.{Call}
@@ -86,11 +87,11 @@ module _ {S : Type 0} {facts : S → Facts} where
   }
 
   module _ {a b : S} {t : Table} (r : StandsReady facts Outside a t) where
-    pub ready_entered : Took facts a b (Enter ∷ []) anything keeps → StandsReady facts Within b t
+    pub ready_entered : Took facts a b (Gate Enter ∷ []) anything keeps → StandsReady facts Within b t
     ready_entered e = record {
       role_is = ap (λ (s : Standing). s.role) e.stands_is;
       spent = ap (λ (s : Standing). s.fresh) e.stands_is ∙ r.spent;
-      own = own_stepped Enter refl r.own e;
+      own = own_stepped (Gate Enter) refl r.own e;
     }
 
     -- frames that agree go on agreeing, whatever the thread learns

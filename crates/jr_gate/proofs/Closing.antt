@@ -2,7 +2,8 @@
 use Rattle.std.proofs.Common.{◌≤◌, ℕ, [], ◌∷◌, ◌++◌, ap, subst}
 use Rattle.std.proofs.Math.Bridge.{le_prop}
 use Rattle.std.proofs.Math.Logic.{∥∥₁_elim, ∥∥₁_map}
-use Rattle.jr_model.specs.declared.event.Act.TheVariants.{Shut, ShutBusy}
+use Rattle.jr_model.specs.declared.event.Act.TheVariants.{Gate, ShutBusy}
+use Rattle.jr_model.specs.declared.event.GateAct.TheVariants.{Shut}
 use Rattle.jr_model.specs.History.{by, IsLegal}
 use Rattle.jr_model.proofs.Histories.{legal_push}
 use Rattle.jr_steps.specs.declared.known.Holdings.{Holdings}
@@ -22,9 +23,9 @@ module _ {S : Type 0} {facts : S → Facts} {old new : S} (some : MayKnow facts 
       let each : ((k : Known) × (facts old).knows k × anything k) → 1 ≤ n = λ k. counted n (t.goes k.0 k.1 tt).2 in
       ∥∥₁_elim some le_prop each
 
-  pub shut_closes : Took facts old new (Shut ∷ []) anything lets_go → MayKnow facts new CanReopen
+  pub shut_closes : Took facts old new (Gate Shut ∷ []) anything lets_go → MayKnow facts new CanReopen
   shut_closes t = ∥∥₁_map some (λ k. let g = t.goes k.0 k.1 tt in (g.0, g.1, (shut_closed g.2, ap (λ (z : Holdings). z.moving) g.3)))
 
 module _ {S : Type 0} {facts : S → Facts} {old new : S} where
-  pub shut_shows : Took facts old new (Shut ∷ []) anything lets_go → Took facts old new (Shut ∷ []) anything (λ j k. IsClosedNow k × lets_go j k)
+  pub shut_shows : Took facts old new (Gate Shut ∷ []) anything lets_go → Took facts old new (Gate Shut ∷ []) anything (λ j k. IsClosedNow k × lets_go j k)
   shut_shows t = record { stands_is = t.stands_is; hint_is = t.hint_is; goes = λ k s m. let g = t.goes k s m in (g.0, g.1, g.2, (shut_closed g.2, g.3)); alone = λ e k s m. t.alone e k s m }

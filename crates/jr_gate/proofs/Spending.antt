@@ -4,7 +4,8 @@ use Rattle.std.proofs.lemmas.List.{length-append}
 use Rattle.jr_word.specs.declared.config.Config.{Config}
 use Rattle.jr_word.specs.declared.fault.Fault.{Fault}
 use Rattle.jr_model.specs.declared.event.Act.{Act}
-use Rattle.jr_model.specs.declared.event.Act.TheVariants.{Knock, Withdraw}
+use Rattle.jr_model.specs.declared.event.Act.TheVariants.{Gate}
+use Rattle.jr_model.specs.declared.event.GateAct.TheVariants.{Knock, Withdraw}
 use Rattle.jr_model.specs.History.{PassView, IsLegal, mine, Did}
 use Rattle.jr_model.specs.Frames.{Frames}
 use Rattle.jr_model.specs.Calls.{Call, Ran}
@@ -101,9 +102,9 @@ module _ {S : Type 0} {facts : S → Facts} where
       spend_acts f g 0 (x ∷ []) 0 (omega arith) (goes_did y.2) (omega arith) (ap (λ (z : Standing). z.fresh) t.stands_is) (t.hint_is ∙ sym (keeps k.config.slots (facts a).hint))
 
   -- a knock and its withdrawal
-  pub spend_barred : {a b : S} (t : ActedTo facts a b (Knock ∷ Withdraw ∷ []) anything IsWithdrawn) (k : Known) (s : (facts a).knows k) (f g : Frames)
+  pub spend_barred : {a b : S} (t : ActedTo facts a b (Gate Knock ∷ Gate Withdraw ∷ []) anything IsWithdrawn) (k : Known) (s : (facts a).knows k) (f g : Frames)
       → Spending 0 (moment (facts a) k f) (moment (facts b) (t.leads k s tt).0 g)
   spend_barred {a} {b} t k s f g =
       let y = t.leads k s tt in
       let two = y.3.0.1 in
-      spend_acts f g 0 (Knock ∷ Withdraw ∷ []) 0 (omega arith) y.2 (omega arith) (ap (λ (z : Standing). z.fresh) t.stands_is) t.hint_is
+      spend_acts f g 0 (Gate Knock ∷ Gate Withdraw ∷ []) 0 (omega arith) y.2 (omega arith) (ap (λ (z : Standing). z.fresh) t.stands_is) t.hint_is

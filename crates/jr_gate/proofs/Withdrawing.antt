@@ -2,7 +2,8 @@
 use Rattle.std.proofs.Common.{List, [], ◌∷◌, ap, subst, ◌∙◌, arith}
 use Rattle.jr_model.specs.declared.event.Role.{Role}
 use Rattle.jr_model.specs.declared.event.Act.{Act}
-use Rattle.jr_model.specs.declared.event.Act.TheVariants.{Knock, Withdraw}
+use Rattle.jr_model.specs.declared.event.Act.TheVariants.{Gate}
+use Rattle.jr_model.specs.declared.event.GateAct.TheVariants.{Knock, Withdraw}
 use Rattle.jr_model.proofs.Stays.{did_then, did_nothing}
 use Rattle.jr_model.proofs.Runs.{did_legal}
 use Rattle.jr_model.proofs.Windows.{window_stay, stepped_last}
@@ -17,19 +18,19 @@ two : {j k l : Known} {xs ys : List Act} → Goes j xs k → Goes k ys l → Tak
 two g h = let a = g.taken in let b = h.taken in omega arith
 
 module _ {S : Type 0} {facts : S → Facts} {a b c : S} {shows : Known → Known → Type 0} where
-  withdraws : Took facts a b (Knock ∷ []) anything shows → Took facts b c (Withdraw ∷ []) anything lets_go → ActedTo facts a c (Knock ∷ Withdraw ∷ []) anything IsWithdrawn
+  withdraws : Took facts a b (Gate Knock ∷ []) anything shows → Took facts b c (Gate Withdraw ∷ []) anything lets_go → ActedTo facts a c (Gate Knock ∷ Gate Withdraw ∷ []) anything IsWithdrawn
   withdraws p q = record {
-    stands_is = q.stands_is ∙ ap (λ s. standing_after s (Withdraw ∷ [])) p.stands_is;
+    stands_is = q.stands_is ∙ ap (λ s. standing_after s (Gate Withdraw ∷ [])) p.stands_is;
     hint_is = q.hint_is ∙ p.hint_is;
     leads = λ k s m.
         let g = p.goes k s m in
         let h = q.goes g.0 g.1 tt in
         let first = goes_stepped g.2 in
         let last = goes_stepped h.2 in
-        let none = did_nothing (view g.0) (did_legal (Knock ∷ []) first.did) in
-        (h.0, h.1, did_then (Knock ∷ []) (Withdraw ∷ []) first.did last.did, ((h.3, two g.2 h.2), g.0.seen, window_stay Knock [] Withdraw first first.behind none last (stepped_last last)));
+        let none = did_nothing (view g.0) (did_legal (Gate Knock ∷ []) first.did) in
+        (h.0, h.1, did_then (Gate Knock ∷ []) (Gate Withdraw ∷ []) first.did last.did, ((h.3, two g.2 h.2), g.0.seen, window_stay (Gate Knock) [] (Gate Withdraw) first (λ out. first.behind) none last (λ out. stepped_last last)));
   }
 
   -- who leaves after a knock withdraws it
-  pub withdrawn : Took facts a b (Knock ∷ []) anything shows → Took facts b c (act_of_exit (facts b).stands.role ∷ []) anything lets_go → ActedTo facts a c (Knock ∷ Withdraw ∷ []) anything IsWithdrawn
+  pub withdrawn : Took facts a b (Gate Knock ∷ []) anything shows → Took facts b c (act_of_exit (facts b).stands.role ∷ []) anything lets_go → ActedTo facts a c (Gate Knock ∷ Gate Withdraw ∷ []) anything IsWithdrawn
   withdrawn p q = withdraws p (subst (λ (r : Role). Took facts b c (act_of_exit r ∷ []) anything lets_go) (ap (λ (s : Standing). s.role) p.stands_is) q)

@@ -2,7 +2,8 @@
 ghost use Rattle.std.specs.Prelude.{◌≡◌, [], ◌∷◌, IsOk, IfOk, IfErr};
 ghost use Rattle.jr_word.specs.declared.fault.Fault.TheVariants.{Barred};
 ghost use Rattle.jr_model.specs.declared.event.Role.TheVariants.{Outside};
-ghost use Rattle.jr_model.specs.declared.event.Act.TheVariants.{Enter, Knock, Leave, Withdraw};
+ghost use Rattle.jr_model.specs.declared.event.Act.TheVariants.{Gate};
+ghost use Rattle.jr_model.specs.declared.event.GateAct.TheVariants.{Enter, Knock, Leave, Withdraw};
 ghost use Rattle.jr_steps.specs.Knowing.{anything, keeps, lets_go, Took};
 ghost use Rattle.jr_gate.specs.Acting.{ActedTo, IsWithdrawn};
 ghost use Rattle.jr_gate.specs.Stays.{IsOwnStay};
@@ -23,7 +24,7 @@ impl Inside {
     /// One.
     pub fn leave<S: Steps>(self, steps: &mut S)
         requires { IsOwnStay self (S.facts steps.old).stands }
-        ensures { Took S.facts steps.old steps.new (Leave ∷ []) anything lets_go }
+        ensures { Took S.facts steps.old steps.new (Gate Leave ∷ []) anything lets_go }
     {
         let Inside { thread: _ } = self;
         steps.go_out();
@@ -34,7 +35,7 @@ impl Inside {
 ///
 /// # Errors
 ///
-/// E13 where a thread was collecting at the entry step.
+/// E13 where a thread was collecting at the entry step, or had announced that it would.
 ///
 /// The knock is withdrawn: the thread stands outside, and its pass holds nothing.
 ///
@@ -43,8 +44,8 @@ impl Inside {
 /// One, the entry. Where it is refused, two: the knock and its withdrawal.
 pub fn enter<S: Steps>(steps: &mut S) -> Result<Inside, Fault>
     requires { (S.facts steps.old).stands.role ≡ Outside }
-    ensures ok { IfOk result (λ i. IsOwnStay i (S.facts steps.new).stands × Took S.facts steps.old steps.new (Enter ∷ []) anything keeps) }
-    ensures err { IfErr result (λ e. (e ≡ Barred) × ActedTo S.facts steps.old steps.new (Knock ∷ Withdraw ∷ []) anything IsWithdrawn) }
+    ensures ok { IfOk result (λ i. IsOwnStay i (S.facts steps.new).stands × Took S.facts steps.old steps.new (Gate Enter ∷ []) anything keeps) }
+    ensures err { IfErr result (λ e. (e ≡ Barred) × ActedTo S.facts steps.old steps.new (Gate Knock ∷ Gate Withdraw ∷ []) anything IsWithdrawn) }
     ensures alone { (S.facts steps.old).stands.config.threads ≡ 1 → IsOk result }
 {
     if steps.go_in() {

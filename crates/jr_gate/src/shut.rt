@@ -2,7 +2,8 @@
 ghost use Rattle.std.specs.Prelude.{◌≡◌, ◌≤◌, ℕ, [], ◌∷◌, IsOk, IfOk, IfErr};
 ghost use Rattle.jr_word.specs.declared.fault.Fault.TheVariants.{Busy};
 ghost use Rattle.jr_model.specs.declared.event.Role.TheVariants.{Outside};
-ghost use Rattle.jr_model.specs.declared.event.Act.TheVariants.{Shut as Shuts, ShutBusy, Reopen};
+ghost use Rattle.jr_model.specs.declared.event.Act.TheVariants.{Gate, ShutBusy};
+ghost use Rattle.jr_model.specs.declared.event.GateAct.TheVariants.{Shut as Shuts, Reopen};
 ghost use Rattle.jr_steps.specs.Knowing.{anything, keeps, lets_go, IsClosedNow, CanReopen, MayKnow, Took};
 ghost use Rattle.jr_gate.specs.Stays.{IsOwnCollection};
 
@@ -23,7 +24,7 @@ impl Shut {
     pub fn reopen<S: Steps>(self, steps: &mut S)
         requires own { IsOwnCollection self (S.facts steps.old).stands }
         requires closed { MayKnow S.facts steps.old CanReopen }
-        ensures { Took S.facts steps.old steps.new (Reopen ∷ []) CanReopen lets_go }
+        ensures { Took S.facts steps.old steps.new (Gate Reopen ∷ []) CanReopen lets_go }
     {
         let Shut { thread: _ } = self;
         steps.unbar();
@@ -34,7 +35,7 @@ impl Shut {
 ///
 /// # Errors
 ///
-/// E14 with how many threads are inside, knocking or collecting at that one step, at least 1.
+/// E14 with how many threads are inside, knocking, announcing or collecting at that one step, at least 1.
 ///
 /// Nothing has changed then, and the thread stands outside.
 ///
@@ -43,7 +44,7 @@ impl Shut {
 /// One.
 pub fn shut_gate<S: Steps>(steps: &mut S) -> Result<Shut, Fault>
     requires { (S.facts steps.old).stands.role ≡ Outside }
-    ensures ok { IfOk result (λ s. IsOwnCollection s (S.facts steps.new).stands × Took S.facts steps.old steps.new (Shuts ∷ []) anything (λ j k. IsClosedNow k × lets_go j k)) }
+    ensures ok { IfOk result (λ s. IsOwnCollection s (S.facts steps.new).stands × Took S.facts steps.old steps.new (Gate Shuts ∷ []) anything (λ j k. IsClosedNow k × lets_go j k)) }
     ensures closed { IfOk result (λ _. MayKnow S.facts steps.new CanReopen) }
     ensures err { IfErr result (λ e. (n : ℕ) × (e ≡ Busy n) × (1 ≤ n) × Took S.facts steps.old steps.new (ShutBusy n ∷ []) anything keeps) }
     ensures alone { (S.facts steps.old).stands.config.threads ≡ 1 → IsOk result }

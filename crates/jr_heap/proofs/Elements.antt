@@ -9,7 +9,8 @@ use Rattle.jr_word.specs.declared.header.HeaderParts.{HeaderParts}
 use Rattle.jr_word.specs.declared.kind.Kind.{Kind}
 use Rattle.jr_model.specs.declared.event.Role.TheVariants.{Within}
 use Rattle.jr_model.specs.declared.event.Act.{Act}
-use Rattle.jr_model.specs.declared.event.Act.TheVariants.{Leave, Read, Write}
+use Rattle.jr_model.specs.declared.event.Act.TheVariants.{Gate, Read, Write}
+use Rattle.jr_model.specs.declared.event.GateAct.TheVariants.{Leave}
 use Rattle.jr_model.specs.State.{Contents, State, IsWord}
 use Rattle.jr_model.specs.History.{by, state, IsLegal, PassView}
 use Rattle.jr_model.specs.Frames.{Frames}
@@ -144,5 +145,5 @@ module _ {S : Type 0} {facts : S → Facts} (fits : AreOf facts) (o : ℕ) (h : 
 
 -- what may be known after a step at an element
 module _ {S : Type 0} {facts : S → Facts} (fits : AreOf facts) (o : ℕ) (h : HeaderParts) {a b : S} {x : Act} {met : Known → Type 0} where
-  pub still_holds : x ≢ Leave → (facts a).stands.role ≡ Within → Took facts a b (x ∷ []) met keeps → MayKnow facts a (λ k. HoldsHeader o h k × met k) → MayKnow facts b (HoldsHeader o h)
+  pub still_holds : x ≢ Gate Leave → (facts a).stands.role ≡ Within → Took facts a b (x ∷ []) met keeps → MayKnow facts a (λ k. HoldsHeader o h k × met k) → MayKnow facts b (HoldsHeader o h)
   still_holds ne w t may = ∥∥₁_map may (λ k. let g = t.goes k.0 k.1 k.2.1 in (g.0, g.1, header_later k.0 g.0 (x ∷ []) (goes_did g.2) ((fits a k.0 k.1).role ∙ w) (ne, tt) o h g.3 k.2.0))

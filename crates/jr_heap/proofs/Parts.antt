@@ -10,7 +10,8 @@ use Rattle.jr_word.specs.declared.kind.Kind.TheVariants.{Boolean, Byte, Char, Sh
 use Rattle.jr_word.specs.Kind.{word_limit}
 use Rattle.jr_model.specs.declared.event.Role.TheVariants.{Within}
 use Rattle.jr_model.specs.declared.event.Act.{Act}
-use Rattle.jr_model.specs.declared.event.Act.TheVariants.{Leave, Read, Write}
+use Rattle.jr_model.specs.declared.event.Act.TheVariants.{Gate, Read, Write}
+use Rattle.jr_model.specs.declared.event.GateAct.TheVariants.{Leave}
 use Rattle.jr_model.specs.State.{State, IsWord}
 use Rattle.jr_model.specs.History.{Did}
 use Rattle.jr_model.specs.Checks.{is_read_as, same_element}
@@ -118,7 +119,7 @@ module _ {S : Type 0} {facts : S → Facts} (fits : AreOf facts) (o : ℕ) (h : 
   pub part_nothing : (a : S) → PartDone facts o h [] 0 a a
   part_nothing a = record { stands_is = refl; hint_is = refl; did = λ k s m. (k, s, did_nothing (view k) (fits a k s).legal, ((m.shown, refl), no_step k)) }
 
-  pub part_more : {a b c : S} (acts : List Act) (n : ℕ) (x : Act) {met : Known → Type 0} → x ≢ Leave → (facts a).stands.role ≡ Within → standing_after (facts b).stands (x ∷ []) ≡ (facts b).stands → ((k : Known) → HoldsHeader o h k → met k)
+  pub part_more : {a b c : S} (acts : List Act) (n : ℕ) (x : Act) {met : Known → Type 0} → x ≢ Gate Leave → (facts a).stands.role ≡ Within → standing_after (facts b).stands (x ∷ []) ≡ (facts b).stands → ((k : Known) → HoldsHeader o h k → met k)
       → PartDone facts o h acts n a b → Took facts b c (x ∷ []) met keeps → PartDone facts o h (acts ++ x ∷ []) (n + 1) a c
   part_more {a} {b} acts n x ne w same meets p t = record {
     stands_is = t.stands_is ∙ (same ∙ p.stands_is);

@@ -6,7 +6,8 @@ use Rattle.jr_word.specs.declared.kind.Kind.{Kind}
 use Rattle.jr_word.specs.declared.kind.Kind.TheVariants.{Plain, Boolean, Byte, Char, Short, Int, Long, Objects, Text}
 use Rattle.jr_model.specs.declared.event.Role.TheVariants.{Within}
 use Rattle.jr_model.specs.declared.event.Act.{Act}
-use Rattle.jr_model.specs.declared.event.Act.TheVariants.{Leave}
+use Rattle.jr_model.specs.declared.event.Act.TheVariants.{Gate}
+use Rattle.jr_model.specs.declared.event.GateAct.TheVariants.{Leave}
 use Rattle.jr_model.specs.State.{Contents, State, IsWord}
 use Rattle.jr_model.specs.History.{role_of, Did}
 use Rattle.jr_model.proofs.Stays.{IsStill, still_did}
@@ -19,7 +20,7 @@ use Rattle.jr_heap.specs.Heap.{HoldsHeader}
 
 -- no act is a Leave
 abbrev pub NoLeave : List Act → Type 0
-NoLeave acts = AllByRecursion (λ a. a ≢ Leave) acts
+NoLeave acts = AllByRecursion (λ a. a ≢ Gate Leave) acts
 
 pub word_still : (s s' : State) → IsStill s s' → (kind : Kind) (v : ℕ) → IsWord s kind v → IsWord s' kind v
 word_still s s' still Objects v w = ⊎_elim (λ e. inl e) (λ p. inr (present_still s s' v still p)) w

@@ -6,7 +6,8 @@ use Rattle.jr_word.specs.declared.header.HeaderParts.{HeaderParts}
 use Rattle.jr_word.specs.declared.kind.Kind.{Kind}
 use Rattle.jr_model.specs.declared.event.Role.TheVariants.{Within}
 use Rattle.jr_model.specs.declared.event.Act.{Act}
-use Rattle.jr_model.specs.declared.event.Act.TheVariants.{Leave, Read, Write}
+use Rattle.jr_model.specs.declared.event.Act.TheVariants.{Gate, Read, Write}
+use Rattle.jr_model.specs.declared.event.GateAct.TheVariants.{Leave}
 use Rattle.jr_model.specs.State.{Contents, State}
 use Rattle.jr_model.specs.History.{PassView, role_of, Did}
 use Rattle.jr_model.specs.Refusals.{Sometime}
@@ -16,7 +17,7 @@ use Rattle.jr_heap.specs.Heap.{Gains, FillsWith, Publishes, HoldsHeader, Learns,
 
 -- while the pass is within and does not leave, and goes on knowing the header, the object has its kind and length, whatever else the pass did and holds
 abbrev pub HeadersHold : Type 0
-HeadersHold = (k k' : Known) (acts : List Act) (o : ℕ) (h : HeaderParts) → Did (view k) (view k') acts → role_of (view k) ≡ Within → AllByRecursion (λ a. a ≢ Leave) acts → KnowsHeader o h k' → HoldsHeader o h k → HoldsHeader o h k'
+HeadersHold = (k k' : Known) (acts : List Act) (o : ℕ) (h : HeaderParts) → Did (view k) (view k') acts → role_of (view k) ≡ Within → AllByRecursion (λ a. a ≢ Gate Leave) acts → KnowsHeader o h k' → HoldsHeader o h k → HoldsHeader o h k'
 
 -- the headers that were known are known still
 abbrev pub GoesOnKnowing : Known → Known → Type 0

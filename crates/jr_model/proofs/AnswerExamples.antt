@@ -4,7 +4,8 @@ use Rattle.jr_word.specs.declared.fault.Fault.{Fault}
 use Rattle.jr_word.specs.declared.fault.Fault.TheVariants as fault
 use Rattle.jr_word.specs.declared.kind.Kind.TheVariants.{Text}
 use Rattle.jr_model.specs.declared.event.Found.TheVariants.{Cleared}
-use Rattle.jr_model.specs.declared.event.Act.TheVariants.{Enter, Leave, Look}
+use Rattle.jr_model.specs.declared.event.Act.TheVariants.{Gate, Look}
+use Rattle.jr_model.specs.declared.event.GateAct.TheVariants.{Enter, Leave}
 use Rattle.jr_word.specs.declared.handle.RefKind.TheVariants.{Weak}
 use Rattle.jr_model.specs.Frames.{Frames}
 use Rattle.jr_model.specs.Checks.{Parts, is_array, is_primitive, is_text, type_found}
@@ -35,12 +36,12 @@ type_of_nothing = record {
   foreign = inr ([], refl, (refl, refl, refl));
 }
 
-type_only : (n : ℕ) (g : Frames) → get_object_ref_type quiet_room last_serial 0 (Parts w) fresh (Enter ∷ Look w Cleared ∷ Leave ∷ []) (Ok n) g → n ≡ 3
+type_only : (n : ℕ) (g : Frames) → get_object_ref_type quiet_room last_serial 0 (Parts w) fresh (Gate Enter ∷ Look w Cleared ∷ Gate Leave ∷ []) (Ok n) g → n ≡ 3
 type_only n g (inl r) = absurd (let bad = r.1 in cc)
 type_only n g (inr (inside, acts, inr q)) = absurd (let bad = q.1 in cc)
 type_only n g (inr (inside, acts, inl q)) =
     let is : inside ≡ Look w q.5.0 ∷ [] = q.4 ∙ (ap (λ l. l ++ q.3) q.5.1 ∙ ap (λ l. Look w q.5.0 ∷ l) q.6.0) in
-    let whole : Enter ∷ Look w Cleared ∷ Leave ∷ [] ≡ Enter ∷ Look w q.5.0 ∷ Leave ∷ [] = acts ∙ ap (λ l. Enter ∷ l ++ Leave ∷ []) is in
+    let whole : Gate Enter ∷ Look w Cleared ∷ Gate Leave ∷ [] ≡ Gate Enter ∷ Look w q.5.0 ∷ Gate Leave ∷ [] = acts ∙ ap (λ l. Gate Enter ∷ l ++ Gate Leave ∷ []) is in
     let found : q.0 ≡ Cleared = let given = q.5.2 in cc in
     let answer : n ≡ type_found Weak q.0 = let gives = q.6.1 in cc in
     answer ∙ ap (type_found Weak) found

@@ -5,9 +5,10 @@ use Rattle.jr_word.specs.declared.kind.Kind.TheVariants.{Int}
 use Rattle.jr_model.specs.declared.event.Role.{Role}
 use Rattle.jr_model.specs.declared.event.Role.TheVariants.{Outside, Within, Knocking, Collecting}
 use Rattle.jr_model.specs.declared.event.Found.TheVariants.{Object, Cleared, Stale}
-use Rattle.jr_model.specs.declared.event.Act.TheVariants.{Shut, Clear, Drop}
+use Rattle.jr_model.specs.declared.event.Act.TheVariants.{Gate, Clear, Drop}
+use Rattle.jr_model.specs.declared.event.GateAct.TheVariants.{Shut}
 use Rattle.jr_model.specs.Maps.{update, sum_below}
-use Rattle.jr_model.specs.State.{Handle, same_handle, Contents, State, opening, IsReached, from_global, from_local, from_element}
+use Rattle.jr_model.specs.State.{Handle, same_handle, Contents, State, opening, is_barring, IsReached, from_global, from_local, from_element}
 use Rattle.jr_model.specs.History.{by, state, state_from, IsLegalFrom, IsLegal}
 use Rattle.jr_model.specs.Examples.{one_object, w, array_made, array_used, array_collected, CollectionIsLegal, CollectingReachedIsIllegal}
 use Rattle.jr_model.proofs.Updates.{at_number, at_handle}
@@ -19,7 +20,7 @@ s1 = state_from opening array_made
 first_legal : IsLegal one_object 2 array_made
 unfolding sum_below
 first_legal = (
-  (lit< tt, (refl, λ u e. cc)),
+  (lit< tt, (refl, λ u. refl)),
   (
     (lit< tt, (refl, lit≤ tt)),
     (
@@ -31,7 +32,7 @@ first_legal = (
           (
             (lit< tt, (refl, refl, (λ e. cc, refl, lit< tt, lit≤ tt), (λ g e. refl), (λ g e f. refl))),
             (
-              (lit< tt, refl),
+              (lit< tt, (refl, tt)),
               tt,
             ),
           ),
@@ -59,9 +60,9 @@ each_role P role t r here there u = at_number P role t u r (λ e. here) (λ ne. 
 second_legal : IsLegalFrom one_object 2 s1 array_used
 unfolding sum_below
 second_legal = (
-  (lit< tt, (refl, each_role (λ r. r ≢ Collecting) _ 0 Outside (λ e. cc) (each_role (λ r. r ≢ Collecting) _ 0 Within (λ e. cc) (λ u e. cc)))),
+  (lit< tt, (refl, each_role (λ r. is_barring r ≡ false) _ 0 Outside refl (each_role (λ r. is_barring r ≡ false) _ 0 Within refl (λ u. refl)))),
   (
-    (lit< tt, (refl, refl, lit≤ tt)),
+    (lit< tt, (inl refl, refl, lit≤ tt)),
     (
       (lit< tt, (refl, refl)),
       (
@@ -69,13 +70,13 @@ second_legal = (
         (
           (lit< tt, (refl, record { kind = Int; words = 9 ∷ [] }, refl, refl)),
           (
-            (lit< tt, refl),
+            (lit< tt, (refl, tt)),
             (
-              (lit< tt, (refl, each_role (λ r. r ≢ Collecting) _ 1 Outside (λ e. cc) (each_role (λ r. r ≢ Collecting) _ 1 Within (λ e. cc) (each_role (λ r. r ≢ Collecting) _ 0 Outside (λ e. cc) (each_role (λ r. r ≢ Collecting) _ 0 Within (λ e. cc) (λ u e. cc)))))),
+              (lit< tt, (refl, each_role (λ r. is_barring r ≡ false) _ 1 Outside refl (each_role (λ r. is_barring r ≡ false) _ 1 Within refl (each_role (λ r. is_barring r ≡ false) _ 0 Outside refl (each_role (λ r. is_barring r ≡ false) _ 0 Within refl (λ u. refl)))))),
               (
                 (lit< tt, (refl, lit< tt)),
                 (
-                  (lit< tt, refl),
+                  (lit< tt, (refl, tt)),
                   tt,
                 ),
               ),
@@ -145,7 +146,7 @@ closed o x =
 third_legal : IsLegalFrom one_object 2 s2 array_collected
 unfolding sum_below
 third_legal = (
-  (lit< tt, outside),
+  (lit< tt, (inl refl, λ u ne. outside u)),
   (
     (lit< tt, (refl, (0, refl))),
     (
@@ -153,7 +154,7 @@ third_legal = (
       (
         (lit< tt, (refl, refl, unreached _ no_global' no_local, no_weak)),
         (
-          (lit< tt, refl),
+          (lit< tt, (refl, tt)),
           (
             (lit< tt, (refl, refl)),
             (
@@ -167,7 +168,7 @@ third_legal = (
                     (
                       (lit< tt, (refl, refl)),
                       (
-                        (lit< tt, refl),
+                        (lit< tt, (refl, tt)),
                         tt,
                       ),
                     ),
@@ -182,12 +183,12 @@ third_legal = (
   ),
 )
   where
-    nobody : (u : ℕ) → update nat_eq (update nat_eq (update nat_eq (update nat_eq s2.role 0 Collecting) 1 Knocking) 1 Outside) 0 Outside u ≢ Collecting
+    nobody : (u : ℕ) → is_barring (update nat_eq (update nat_eq (update nat_eq (update nat_eq s2.role 0 Collecting) 1 Knocking) 1 Outside) 0 Outside u) ≡ false
     nobody u =
-        at_number (λ r. r ≢ Collecting) (update nat_eq (update nat_eq (update nat_eq s2.role 0 Collecting) 1 Knocking) 1 Outside) 0 u Outside (λ e r. cc) (λ ne.
-        at_number (λ r. r ≢ Collecting) (update nat_eq (update nat_eq s2.role 0 Collecting) 1 Knocking) 1 u Outside (λ e r. cc) (λ z.
-        at_number (λ r. r ≢ Collecting) (update nat_eq s2.role 0 Collecting) 1 u Knocking (λ e r. cc) (λ z.
-        at_number (λ r. r ≢ Collecting) s2.role 0 u Collecting (λ e. absurd (ne e)) (λ z r. let o = outside u in cc))))
+        at_number (λ r. is_barring r ≡ false) (update nat_eq (update nat_eq (update nat_eq s2.role 0 Collecting) 1 Knocking) 1 Outside) 0 u Outside (λ e. refl) (λ ne.
+        at_number (λ r. is_barring r ≡ false) (update nat_eq (update nat_eq s2.role 0 Collecting) 1 Knocking) 1 u Outside (λ e. refl) (λ z.
+        at_number (λ r. is_barring r ≡ false) (update nat_eq s2.role 0 Collecting) 1 u Knocking (λ e. refl) (λ z.
+        at_number (λ r. is_barring r ≡ false) s2.role 0 u Collecting (λ e. absurd (ne e)) (λ z. ap is_barring (outside u)))))
 
 pub collection_is_legal : CollectionIsLegal
 collection_is_legal =
@@ -195,14 +196,14 @@ collection_is_legal =
     ((legal_from_append one_object 2 opening array_made array_used).1 (first_legal, second_legal), third_legal)
 
 -- the local reference of thread 0 reaches the object
-reached : IsReached (state (array_made ++ by 0 Shut ∷ [])) 1
+reached : IsReached (state (array_made ++ by 0 (Gate Shut) ∷ [])) 1
 reached = from_local 0 0 refl refl
 
 pub collecting_reached_is_illegal : CollectingReachedIsIllegal
 collecting_reached_is_illegal = (
-  λ l. ((legal_append one_object 2 (array_made ++ by 0 Shut ∷ []) (by 0 (Drop 1) ∷ [])).0 l).1.0.1.2 reached,
+  λ l. ((legal_append one_object 2 (array_made ++ by 0 (Gate Shut) ∷ []) (by 0 (Drop 1) ∷ [])).0 l).1.0.1.2 reached,
   λ l.
-      let needs = ((legal_append one_object 2 (array_made ++ by 0 Shut ∷ []) (by 0 (Clear w) ∷ [])).0 l).1.0.1 in
+      let needs = ((legal_append one_object 2 (array_made ++ by 0 (Gate Shut) ∷ []) (by 0 (Clear w) ∷ [])).0 l).1.0.1 in
       let same : 1 ≡ needs.2 = let is = needs.3 in cc in
-      needs.4 (subst (λ o. IsReached (state (array_made ++ by 0 Shut ∷ [])) o) same reached),
+      needs.4 (subst (λ o. IsReached (state (array_made ++ by 0 (Gate Shut) ∷ [])) o) same reached),
 )

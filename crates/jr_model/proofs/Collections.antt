@@ -6,7 +6,8 @@ use Rattle.jr_word.specs.declared.handle.RefKind.TheVariants.{Global, Weak}
 use Rattle.jr_model.specs.declared.event.Role.TheVariants.{Collecting}
 use Rattle.jr_model.specs.declared.event.Found.TheVariants.{Object, Cleared}
 use Rattle.jr_model.specs.declared.event.Act.{Act}
-use Rattle.jr_model.specs.declared.event.Act.TheVariants.{Reopen, Create, Delete, Clear, LocalPut, LocalDrop, New, Write, Drop}
+use Rattle.jr_model.specs.declared.event.Act.TheVariants.{Gate, Create, Delete, Clear, LocalPut, LocalDrop, New, Write, Drop}
+use Rattle.jr_model.specs.declared.event.GateAct.TheVariants.{Reopen}
 use Rattle.jr_model.specs.Maps.{update}
 use Rattle.jr_model.specs.State.{Handle, same_handle, Contents, State, IsPresent, IsReached, from_global, from_local, from_element}
 use Rattle.jr_model.specs.Steps.{ActNeeds, act_after, after}
@@ -92,7 +93,7 @@ module _ (c : Config) (last : ℕ) where
   same_reach_act t s u _ i w n = record { forth = record { globals = λ h o g r. r; locals = λ v p o r. r; objects = λ o x r e. e }; back = record { globals = λ h o g r. r; locals = λ v p o r. r; objects = λ o x r e. e } }
 
   -- while t collects, the objects that are reached are the same, with their kinds and elements
-  pub same_reach_along : (t : ℕ) (s : State) (es : History) → IsApart s.role → s.role t ≡ Collecting → AllByRecursion (λ e. e ≢ by t Reopen) es → IsLegalFrom c last s es → IsSameReach s (state_from s es)
+  pub same_reach_along : (t : ℕ) (s : State) (es : History) → IsApart s.role → s.role t ≡ Collecting → AllByRecursion (λ e. e ≢ by t (Gate Reopen)) es → IsLegalFrom c last s es → IsSameReach s (state_from s es)
   same_reach_along t s [] i w q l = same_self s
   same_reach_along t s (e ∷ es) i w q l =
       let r = collection_act c last t s e.thread e.act i w q.0 l.0.1 in

@@ -1,13 +1,14 @@
 -- Counts of threads and of references.
-use Rattle.std.proofs.Common.{◌≡◌, ◌≢◌, ⊎_elim, ℕ, zero, suc, ◌+◌, ◌<◌, ◌≤◌, ◌==◌, Bool, true, false, not, cond, if◌then◌else◌, refl, ap, subst, ◌∙◌, arith, nat_eq}
+use Rattle.std.proofs.Common.{◌≡◌, ◌≢◌, ⊎_elim, ℕ, zero, suc, ◌+◌, ◌<◌, ◌≤◌, ◌==◌, Bool, true, false, not, cond, if◌then◌else◌, refl, sym, ap, subst, ◌∙◌, arith, nat_eq}
 use Rattle.jr_word.specs.declared.config.Config.{Config}
 use Rattle.jr_model.specs.declared.event.Role.{Role}
 use Rattle.jr_model.specs.Maps.{update, sum_below, count_below}
-use Rattle.jr_model.specs.State.{State, opening, is_outside, not_outside}
+use Rattle.jr_model.specs.State.{State, opening, is_barring, is_inside, is_outside, not_outside}
 use Rattle.std.proofs.lemmas.Bool.{cases_lt}
-use Rattle.jr_model.specs.declared.event.Role.TheVariants.{Outside, Within, Knocking, Collecting}
+use Rattle.jr_model.specs.declared.event.Role.TheVariants.{Outside, Within, Knocking, Announcing, Collecting}
 use Rattle.jr_model.specs.declared.event.Event.{Event}
-use Rattle.jr_model.specs.declared.event.Act.TheVariants.{Knock, ShutBusy}
+use Rattle.jr_model.specs.declared.event.Act.TheVariants.{Gate, ShutBusy}
+use Rattle.jr_model.specs.declared.event.GateAct.TheVariants.{Knock}
 use Rattle.jr_model.specs.Steps.{ActNeeds, Needs, after}
 use Rattle.jr_model.specs.History.{History, state, IsLegal, role_after}
 use Rattle.jr_model.proofs.Histories.{kept_from}
@@ -66,11 +67,52 @@ count_single n p k l here others =
     let one : bit (p k) ≡ 1 = ap bit here in
     omega arith
 
+pub sum_split : (n : ℕ) (f g h : ℕ → ℕ) → ((k : ℕ) → h k ≡ f k + g k) → sum_below n h ≡ sum_below n f + sum_below n g
+unfolding sum_below
+sum_split zero f g h e = refl
+sum_split (suc n) f g h e = let rest = sum_split n f g h e in let here = e n in omega arith
+
+-- who is not outside is inside, or keeps the gate closed
+bit_outside : (r : Role) → bit (not (is_outside r)) ≡ bit (is_inside r) + bit (is_barring r)
+bit_outside Outside = refl
+bit_outside Within = refl
+bit_outside Knocking = refl
+bit_outside Announcing = refl
+bit_outside Collecting = refl
+
+pub not_outside_split : (c : Config) (s : State) → not_outside c s ≡ count_below c.threads (λ t. is_inside (s.role t)) + count_below c.threads (λ t. is_barring (s.role t))
+not_outside_split c s = sum_split c.threads (λ t. bit (is_inside (s.role t))) (λ t. bit (is_barring (s.role t))) (λ t. bit (not (is_outside (s.role t)))) (λ t. bit_outside (s.role t))
+
+-- what is not true is false
+pub not_true : (b : Bool) → (b ≡ true → ⊥) → b ≡ false
+not_true true no' = absurd (no' refl)
+not_true false no' = refl
+
 outside_true : (r : Role) → not (is_outside r) ≡ false → r ≡ Outside
 outside_true Outside e = refl
 outside_true Within e = absurd cc
 outside_true Knocking e = absurd cc
+outside_true Announcing e = absurd cc
 outside_true Collecting e = absurd cc
+
+-- one thread is all that is counted
+count_one : (n : ℕ) (p : ℕ → Bool) (k : ℕ) → k < n → ((j : ℕ) → k ≢ j → p j ≡ false) → count_below n p ≡ bit (p k)
+count_one n p k l others = go (p k) refl
+  where
+    go : (b : Bool) → p k ≡ b → count_below n p ≡ bit b
+    go true here = count_single n p k l here others
+    go false here = count_all_false n p (λ j m. each j (k == j) refl)
+      where
+        each : (j : ℕ) (d : Bool) → (k == j) ≡ d → p j ≡ false
+        each j true e = sym (ap p (eq_true k j e)) ∙ here
+        each j false e = others j (eq_false k j e)
+
+own_is : (r : Role) → ◌≡◌ {A = ℕ} (if is_outside r then 0 else 1) (bit (not (is_outside r)))
+own_is Outside = refl
+own_is Within = refl
+own_is Knocking = refl
+own_is Announcing = refl
+own_is Collecting = refl
 
 module _ (c : Config) (last : ℕ) where
   beyond_after : (s : State) (e : Event) → ((t : ℕ) → c.threads ≤ t → s.role t ≡ Outside) → Needs c last s e → (t : ℕ) → c.threads ≤ t → (after s e).role t ≡ Outside
@@ -89,13 +131,15 @@ module _ (c : Config) (last : ℕ) where
       (λ (h : c.threads ≤ t). outside_beyond es l t h)
       (cases_lt t c.threads)
 
-  -- where all are outside, nobody knocks and nobody is refused a shut
-  pub nobody_knocks : (s : State) (t : ℕ) → ((u : ℕ) → s.role u ≡ Outside) → ActNeeds c last s t Knock → ⊥
+  -- where all are outside, nobody knocks
+  pub nobody_knocks : (s : State) (t : ℕ) → ((u : ℕ) → s.role u ≡ Outside) → ActNeeds c last s t (Gate Knock) → ⊥
   nobody_knocks s t out needs = let collects = needs.1 in let is = collects.1 in let o = out collects.0 in cc
 
-  pub nobody_is_busy : (n : ℕ) (s : State) (t : ℕ) → ((u : ℕ) → s.role u ≡ Outside) → ActNeeds c last s t (ShutBusy n) → ⊥
-  nobody_is_busy n s t out needs =
-      let none = count_all_false c.threads (λ u. not (is_outside (s.role u))) (λ u h. ap (λ r. not (is_outside r)) (out u)) in
+  -- and where all others are, nobody is refused a shut
+  pub nobody_is_busy : (n : ℕ) (s : State) (t : ℕ) → t < c.threads → ((u : ℕ) → u ≢ t → s.role u ≡ Outside) → ActNeeds c last s t (ShutBusy n) → ⊥
+  nobody_is_busy n s t row out needs =
+      let one = count_one c.threads (λ u. not (is_outside (s.role u))) t row (λ u ne. ap (λ r. not (is_outside r)) (out u (λ z. ne (sym z)))) in
+      let own = own_is (s.role t) in
       let least : 1 ≤ n = needs.2 in
-      let zero_is : n ≡ 0 = needs.1 ∙ none in
-      omega arith
+      let counted = needs.1 in
+      absurd (omega (arith, one, own, least, counted))

@@ -7,7 +7,8 @@ use Rattle.jr_word.specs.declared.fault.Fault.{Fault}
 use Rattle.jr_word.specs.declared.fault.Fault.TheVariants as fault
 use Rattle.jr_word.specs.declared.kind.Kind.{Kind}
 use Rattle.jr_model.specs.declared.event.Act.{Act}
-use Rattle.jr_model.specs.declared.event.Act.TheVariants.{Enter, Leave, Look, Read, Write}
+use Rattle.jr_model.specs.declared.event.Act.TheVariants.{Gate, Look, Read, Write}
+use Rattle.jr_model.specs.declared.event.GateAct.TheVariants.{Enter, Leave}
 use Rattle.jr_model.specs.declared.event.Found.{Found}
 use Rattle.jr_model.specs.declared.event.Found.TheVariants.{Object, Cleared, Stale}
 use Rattle.jr_model.specs.declared.frames.TheConstants.{LEVELS}
@@ -30,7 +31,7 @@ use Rattle.jr_model.proofs.Stays.{did_then, mine_did, never}
 -- NO LEAVE
 
 abbrev pub NoLeave : List Act → Type 0
-NoLeave acts = AllByRecursion (λ a. a ≢ Leave) acts
+NoLeave acts = AllByRecursion (λ a. a ≢ Gate Leave) acts
 
 -- a call that never leaves the gate
 abbrev pub Stays : {A : Type 0} → Call A → Type 0
@@ -39,10 +40,10 @@ Stays {A} call = (f g : Frames) (acts : List Act) (answer : Result A Fault) → 
 decided_stays : {A : Type 0} (r : Result A Fault) → Stays (decided r)
 decided_stays r f g acts answer is = subst NoLeave (sym is.0) tt
 
-act_stays : (a : Act) → a ≢ Leave → Stays (act a)
+act_stays : (a : Act) → a ≢ Gate Leave → Stays (act a)
 act_stays a ne f g acts answer is = subst NoLeave (sym is.0) (ne, tt)
 
-some_act_stays : {X : Type 0} (a : X → Act) → ((x : X) → a x ≢ Leave) → Stays (some_act a)
+some_act_stays : {X : Type 0} (a : X → Act) → ((x : X) → a x ≢ Gate Leave) → Stays (some_act a)
 some_act_stays a ne f g acts answer is = subst NoLeave (sym is.1) (ne is.0, tt)
 
 refuse_if_stays : (b : Bool) (e : Fault) → Stays (refuse_if b e)
@@ -50,7 +51,7 @@ refuse_if_stays true e = decided_stays (Err e)
 refuse_if_stays false e = decided_stays (Ok tt)
 
 bind_stays : {A B : Type 0} (first : Call A) (next : A → Call B) → Stays first → ((x : A) → Stays (next x)) → Stays (first >>= next)
-bind_stays first next p q f g acts answer (inl r) = subst NoLeave (sym r.4) (append_all (λ a. a ≢ Leave) r.2 r.3 (p f r.1 r.2 (Ok r.0) r.5) (q r.0 r.1 g r.3 answer r.6))
+bind_stays first next p q f g acts answer (inl r) = subst NoLeave (sym r.4) (append_all (λ a. a ≢ Gate Leave) r.2 r.3 (p f r.1 r.2 (Ok r.0) r.5) (q r.0 r.1 g r.3 answer r.6))
 bind_stays first next p q f g acts answer (inr r) = p f g acts (Err r.0) r.2
 
 for_stays : {A : Type 0} (s : State) (o : ℕ) (next : Kind → ℕ → Call A) → ((k : Kind) (n : ℕ) → Stays (next k n)) → Stays (for_object s o next)
@@ -128,7 +129,7 @@ module _ (c : Config) (last thread : ℕ) where
 -- its thread entered, and did not leave since
 record Stands (old mid : PassView) : Type 0 where
   acts : List Act
-  did : Did old mid (Enter ∷ acts)
+  did : Did old mid (Gate Enter ∷ acts)
   stays : NoLeave acts
 
 opened_stands : {old mid : PassView} {f g : Frames} {o : ℕ} (work : Call ℕ) → Stays work → Ran old mid f g (opened work) (Ok o) → Stands old mid
@@ -143,11 +144,11 @@ stands {old} (opened_at_array s a o r) = opened_stands (level_array old.config o
 stands {old} (opened_at_string s a o r) = opened_stands (level_string old.config old.last old.thread s 0 a) (level_string_stays old.config old.last old.thread s 0 a) r
 stands {old} (goes_on {g = g} {h = h} s acts before d is) =
     let p = stands before in
-    record { acts = p.acts ++ acts; did = did_then (Enter ∷ p.acts) acts p.did d; stays = append_all (λ a. a ≢ Leave) p.acts acts p.stays (call_stays old.config old.last old.thread s g h acts is) }
+    record { acts = p.acts ++ acts; did = did_then (Gate Enter ∷ p.acts) acts p.did d; stays = append_all (λ a. a ≢ Gate Leave) p.acts acts p.stays (call_stays old.config old.last old.thread s g h acts is) }
 
 -- what was seen since the moment before the region, cut at its entry
-abbrev since : {old mid : PassView} (p : Stands old mid) → FirstAct old.thread Enter p.acts p.did.begins.0
-since {old} {mid} p = first_act old.thread Enter p.acts p.did.begins.0 (mine_did (Enter ∷ p.acts) p.did)
+abbrev since : {old mid : PassView} (p : Stands old mid) → FirstAct old.thread (Gate Enter) p.acts p.did.begins.0
+since {old} {mid} p = first_act old.thread (Gate Enter) p.acts p.did.begins.0 (mine_did (Gate Enter ∷ p.acts) p.did)
 
 module _ {old mid : PassView} (p : Stands old mid) where
   abbrev front : History
@@ -156,16 +157,16 @@ module _ {old mid : PassView} (p : Stands old mid) where
   front_own : mine front old.thread ≡ mine old.seen old.thread
   front_own = mine_append old.seen (since p).before old.thread ∙ (ap (λ l. mine old.seen old.thread ++ l) (since p).none ∙ append-nil (mine old.seen old.thread))
 
-  parts : mid.seen ≡ front ++ by old.thread Enter ∷ (since p).since
-  parts = sym p.did.begins.1 ∙ (ap (λ l. old.seen ++ l) (since p).parts ∙ sym (append_assoc old.seen (since p).before (by old.thread Enter ∷ (since p).since)))
+  parts : mid.seen ≡ front ++ by old.thread (Gate Enter) ∷ (since p).since
+  parts = sym p.did.begins.1 ∙ (ap (λ l. old.seen ++ l) (since p).parts ∙ sym (append_assoc old.seen (since p).before (by old.thread (Gate Enter) ∷ (since p).since)))
 
-  inside_stays : AllByRecursion (λ e. e ≢ by old.thread Leave) (since p).since
-  inside_stays = never Leave (since p).since old.thread (subst NoLeave (sym (since p).rest) p.stays)
+  inside_stays : AllByRecursion (λ e. e ≢ by old.thread (Gate Leave)) (since p).since
+  inside_stays = never (Gate Leave) (since p).since old.thread (subst NoLeave (sym (since p).rest) p.stays)
 
 pub no_collection_in_region : NoCollectionInRegion
 no_collection_in_region old mid f g r =
     let p = stands r in
-    let stay : IsStay old.thread mid.seen (front p) (since p).since [] = record { parts = parts p ∙ sym (append-nil (front p ++ by old.thread Enter ∷ (since p).since)); stays = inside_stays p; ends = tt } in
+    let stay : IsStay old.thread mid.seen (front p) (since p).since [] = record { parts = parts p ∙ sym (append-nil (front p ++ by old.thread (Gate Enter) ∷ (since p).since)); stays = inside_stays p; ends = tt } in
     record {
       before = front p;
       inside = (since p).since;
@@ -198,19 +199,19 @@ same_last (a ∷ xs) (b ∷ ys) x y e = same_last xs ys x y cc
 -- events whose only one of the thread is a leave, and which end with it: the others' come before
 record LeftLast (t : ℕ) (es : History) : Type 0 where
   others : History
-  parts : es ≡ others ++ by t Leave ∷ []
+  parts : es ≡ others ++ by t (Gate Leave) ∷ []
   none : mine others t ≡ []
 
-left_last : (t : ℕ) (before es : History) (ends : History) → mine es t ≡ Leave ∷ [] → before ++ es ≡ ends ++ by t Leave ∷ [] → LeftLast t es
+left_last : (t : ℕ) (before es : History) (ends : History) → mine es t ≡ Gate Leave ∷ [] → before ++ es ≡ ends ++ by t (Gate Leave) ∷ [] → LeftLast t es
 left_last t before [] ends own is = absurd cc
 left_last t before (e ∷ es) ends own is =
     let z = ended e es in
-    let last : z.last ≡ by t Leave = same_last (before ++ z.front) ends z.last (by t Leave) (append_assoc before z.front (z.last ∷ []) ∙ (ap (λ l. before ++ l) (sym z.is) ∙ is)) in
-    let parts : e ∷ es ≡ z.front ++ by t Leave ∷ [] = subst (λ x. e ∷ es ≡ z.front ++ x ∷ []) last z.is in
+    let last : z.last ≡ by t (Gate Leave) = same_last (before ++ z.front) ends z.last (by t (Gate Leave)) (append_assoc before z.front (z.last ∷ []) ∙ (ap (λ l. before ++ l) (sym z.is) ∙ is)) in
+    let parts : e ∷ es ≡ z.front ++ by t (Gate Leave) ∷ [] = subst (λ x. e ∷ es ≡ z.front ++ x ∷ []) last z.is in
     record {
       others = z.front;
       parts = parts;
-      none = nothing_before (mine z.front t) Leave (sym (mine_push z.front t Leave) ∙ (ap (λ l. mine l t) (sym parts) ∙ own));
+      none = nothing_before (mine z.front t) (Gate Leave) (sym (mine_push z.front t (Gate Leave)) ∙ (ap (λ l. mine l t) (sym parts) ∙ own));
     }
   where
     nothing_before : (xs : List Act) (a : Act) → xs ++ a ∷ [] ≡ a ∷ [] → xs ≡ []
@@ -221,26 +222,26 @@ left_last t before (e ∷ es) ends own is =
 pub no_collection_up_to_release : NoCollectionUpToRelease
 no_collection_up_to_release old mid new f g h r release =
     let p = stands r in
-    let d : Did mid new (Leave ∷ []) = subst (Did mid new) release.is.0 release.did in
-    let seen : IsLastSeen new Leave = subst (Ends mid new) release.is.0 release.window.last in
+    let d : Did mid new (Gate Leave ∷ []) = subst (Did mid new) release.is.0 release.did in
+    let seen : IsLastSeen new (Gate Leave) = subst (Ends mid new) release.is.0 release.window.last refl in
     let thread : new.thread ≡ old.thread = d.thread ∙ p.did.thread in
-    let own : mine d.begins.0 old.thread ≡ Leave ∷ [] = subst (λ t. mine d.begins.0 t ≡ Leave ∷ []) p.did.thread (mine_did (Leave ∷ []) d) in
-    let left : LeftLast old.thread d.begins.0 = left_last old.thread mid.seen d.begins.0 seen.before own (d.begins.1 ∙ subst (λ t. new.seen ≡ seen.before ++ by t Leave ∷ []) thread seen.is) in
+    let own : mine d.begins.0 old.thread ≡ Gate Leave ∷ [] = subst (λ t. mine d.begins.0 t ≡ Gate Leave ∷ []) p.did.thread (mine_did (Gate Leave ∷ []) d) in
+    let left : LeftLast old.thread d.begins.0 = left_last old.thread mid.seen d.begins.0 seen.before own (d.begins.1 ∙ subst (λ t. new.seen ≡ seen.before ++ by t (Gate Leave) ∷ []) thread seen.is) in
     let inside = (since p).since ++ left.others in
-    let legal : IsLegal old.config old.last new.seen = (did_then (Enter ∷ p.acts) (Leave ∷ []) p.did d).legal in
-    let inner = by old.thread Enter ∷ (since p).since in
-    let whole : new.seen ≡ front p ++ by old.thread Enter ∷ inside ++ by old.thread Leave ∷ [] =
+    let legal : IsLegal old.config old.last new.seen = (did_then (Gate Enter ∷ p.acts) (Gate Leave ∷ []) p.did d).legal in
+    let inner = by old.thread (Gate Enter) ∷ (since p).since in
+    let whole : new.seen ≡ front p ++ by old.thread (Gate Enter) ∷ inside ++ by old.thread (Gate Leave) ∷ [] =
     sym d.begins.1 ∙ (ap (λ l. l ++ d.begins.0) (parts p)
     ∙ (ap (λ l. (front p ++ inner) ++ l) left.parts
-    ∙ (sym (append_assoc (front p ++ inner) left.others (by old.thread Leave ∷ []))
-    ∙ ap (λ l. l ++ by old.thread Leave ∷ []) (append_assoc (front p) inner left.others)))) in
-    let others : AllByRecursion (λ e. e ≢ by old.thread Leave) left.others = never Leave left.others old.thread (subst NoLeave (sym left.none) tt) in
-    let stay : IsStay old.thread new.seen (front p) inside (by old.thread Leave ∷ []) = record { parts = whole; stays = append_all (λ e. e ≢ by old.thread Leave) (since p).since left.others (inside_stays p) others; ends = refl } in
+    ∙ (sym (append_assoc (front p ++ inner) left.others (by old.thread (Gate Leave) ∷ []))
+    ∙ ap (λ l. l ++ by old.thread (Gate Leave) ∷ []) (append_assoc (front p) inner left.others)))) in
+    let others : AllByRecursion (λ e. e ≢ by old.thread (Gate Leave)) left.others = never (Gate Leave) left.others old.thread (subst NoLeave (sym left.none) tt) in
+    let stay : IsStay old.thread new.seen (front p) inside (by old.thread (Gate Leave) ∷ []) = record { parts = whole; stays = append_all (λ e. e ≢ by old.thread (Gate Leave)) (since p).since left.others (inside_stays p) others; ends = refl } in
     record {
       before = front p;
       inside = inside;
       stay = stay;
       begins = ((since p).before, refl);
       own = front_own p;
-      clear = no_collection_inside old.config old.last old.thread new.seen (front p) inside (by old.thread Leave ∷ []) legal stay;
+      clear = no_collection_inside old.config old.last old.thread new.seen (front p) inside (by old.thread (Gate Leave) ∷ []) legal stay;
     }

@@ -6,7 +6,8 @@ use Rattle.jr_model.specs.declared.event.Role.TheVariants.{Collecting}
 use Rattle.jr_model.specs.declared.event.Found.TheVariants.{Object, Cleared}
 use Rattle.jr_model.specs.declared.event.Event.{Event}
 use Rattle.jr_model.specs.declared.event.Act.{Act}
-use Rattle.jr_model.specs.declared.event.Act.TheVariants.{Shut, Create, Delete, Clear, New, Write, Drop, Settle, Reopen}
+use Rattle.jr_model.specs.declared.event.Act.TheVariants.{Gate, Create, Delete, Clear, New, Write, Drop, Settle}
+use Rattle.jr_model.specs.declared.event.GateAct.TheVariants.{Shut, Reopen}
 use Rattle.jr_model.specs.State.{Handle, same_handle, Contents, State, present_words}
 use Rattle.jr_model.specs.Steps.{Needs, ActNeeds, act_after, after}
 use Rattle.jr_model.specs.History.{History, by, state, state_from, IsLegal, IsLegalFrom, mine, PassView, Did}
@@ -37,7 +38,7 @@ map_all : {X Y : Type 0} (P : Y → Type 0) (Q : X → Type 0) (f : X → Y) (xs
 map_all P Q f [] each h = tt
 map_all P Q f (x ∷ xs) each h = (each x h.0, map_all P Q f xs each h.1)
 
-sweeping_on : (cleared : List Handle) (dropped : List ℕ) (used : ℕ) → AllByRecursion (λ a. a ≢ Reopen) (sweeping_acts cleared dropped used)
+sweeping_on : (cleared : List Handle) (dropped : List ℕ) (used : ℕ) → AllByRecursion (λ a. a ≢ Gate Reopen) (sweeping_acts cleared dropped used)
 sweeping_on cleared dropped used =
     append_all _ (map Clear cleared ++ map Drop dropped) (Settle used ∷ [])
     (append_all _ (map Clear cleared) (map Drop dropped) (all_map _ Clear cleared (λ h e. cc)) (all_map _ Drop dropped (λ o e. cc)))
@@ -88,14 +89,14 @@ module _ (c : Config) (last : ℕ) (t : ℕ) where
   abbrev Keeps : (State → Type 0) → Type 0
   Keeps I = (s : State) (u : ℕ) (a : Act) → IsSweeping s → ActNeeds c last s u a → I s → I (act_after s u a)
 
-  sweeping_after : (s : State) (e : Event) → IsSweeping s → e ≢ by t Reopen → Needs c last s e → IsSweeping (after s e)
+  sweeping_after : (s : State) (e : Event) → IsSweeping s → e ≢ by t (Gate Reopen) → Needs c last s e → IsSweeping (after s e)
   sweeping_after s e i q n = record {
     apart = apart_after c last s e i.apart n;
     collecting = (collection_act c last t s e.thread e.act i.apart i.collecting q n.1).0;
   }
 
   -- what is kept holds at the end
-  kept_along : (I : State → Type 0) → Keeps I → (s : State) (es : History) → IsSweeping s → AllByRecursion (λ e. e ≢ by t Reopen) es → I s → IsLegalFrom c last s es → IsSweeping (state_from s es) × I (state_from s es)
+  kept_along : (I : State → Type 0) → Keeps I → (s : State) (es : History) → IsSweeping s → AllByRecursion (λ e. e ≢ by t (Gate Reopen)) es → I s → IsLegalFrom c last s es → IsSweeping (state_from s es) × I (state_from s es)
   kept_along I keeps s [] w q i l = (w, i)
   kept_along I keeps s (e ∷ es) w q i l = kept_along I keeps (after s e) es (sweeping_after s e w q.0 l.0) q.1 (keeps s e.thread e.act w l.0.1 i) l.1
 
@@ -104,7 +105,7 @@ module _ (c : Config) (last : ℕ) (t : ℕ) where
   Taken I a = (s : State) × I s × ActNeeds c last s t a
 
   -- what is kept holds where each own act is taken
-  taken_along : (I : State → Type 0) → Keeps I → (s : State) (es : History) → IsSweeping s → AllByRecursion (λ e. e ≢ by t Reopen) es → I s → IsLegalFrom c last s es → AllByRecursion (Taken I) (mine es t)
+  taken_along : (I : State → Type 0) → Keeps I → (s : State) (es : History) → IsSweeping s → AllByRecursion (λ e. e ≢ by t (Gate Reopen)) es → I s → IsLegalFrom c last s es → AllByRecursion (Taken I) (mine es t)
   taken_along I keeps s [] w q i l = tt
   taken_along I keeps s (e ∷ es) w q i l = go (e.thread == t) refl (taken_along I keeps (after s e) es (sweeping_after s e w q.0 l.0) q.1 (keeps s e.thread e.act w l.0.1 i) l.1)
     where
@@ -162,13 +163,13 @@ module _ (c : Config) (last : ℕ) (t : ℕ) where
         go true e = absurd (clash x y k.0 k.1 k.2 e)
         go false e = refl
 
-    once : (front : List Act) (xs : List X) (rest : List Act) (s : State) (es : History) → IsSweeping s → AllByRecursion (λ e. e ≢ by t Reopen) es → IsLegalFrom c last s es → mine es t ≡ front ++ (map make xs ++ rest) → IsDistinct same xs
+    once : (front : List Act) (xs : List X) (rest : List Act) (s : State) (es : History) → IsSweeping s → AllByRecursion (λ e. e ≢ by t (Gate Reopen)) es → IsLegalFrom c last s es → mine es t ≡ front ++ (map make xs ++ rest) → IsDistinct same xs
     unfolding IsDistinct
     once front [] rest s es w q l is = tt
     once front (x ∷ xs) rest s es w q l is =
         let k = own_cut t front (make x) (map make xs ++ rest) es is in
         let both = (legal_from_append c last s k.before (by t (make x) ∷ k.since)).0 (subst (IsLegalFrom c last s) k.parts l) in
-        let never_reopens = all_append _ k.before (by t (make x) ∷ k.since) (subst (AllByRecursion (λ e. e ≢ by t Reopen)) k.parts q) in
+        let never_reopens = all_append _ k.before (by t (make x) ∷ k.since) (subst (AllByRecursion (λ e. e ≢ by t (Gate Reopen))) k.parts q) in
         let here = kept_along (λ z. Unit {0}) (λ z u a w n i. tt) s k.before w never_reopens.0 tt both.0 in
         let there = sweeping_after (state_from s k.before) (by t (make x)) here.0 never_reopens.1.0 both.1.0 in
         let taken = taken_along (Mark x) (keeps x) (after (state_from s k.before) (by t (make x))) k.since there never_reopens.1.1 (leaves x (state_from s k.before)) both.1.1 in (
@@ -178,8 +179,8 @@ module _ (c : Config) (last : ℕ) (t : ℕ) where
 
   module _ (S s : State) (swept : IsSwept S s) (es : History) (cleared : List Handle) (dropped : List ℕ) (used : ℕ)
       (w : IsSweeping s) (l : IsLegalFrom c last s es) (own : mine es t ≡ sweeping_acts cleared dropped used) where
-    goes_on : AllByRecursion (λ e. e ≢ by t Reopen) es
-    goes_on = never Reopen es t (subst (AllByRecursion (λ a. a ≢ Reopen)) (sym own) (sweeping_on cleared dropped used))
+    goes_on : AllByRecursion (λ e. e ≢ by t (Gate Reopen)) es
+    goes_on = never (Gate Reopen) es t (subst (AllByRecursion (λ a. a ≢ Gate Reopen)) (sym own) (sweeping_on cleared dropped used))
 
     taken : AllByRecursion (Taken (IsSwept S)) (map Clear cleared) × AllByRecursion (Taken (IsSwept S)) (map Drop dropped)
     taken =
@@ -212,7 +213,7 @@ module _ (c : Config) (last : ℕ) (t : ℕ) where
         let end = kept_along (IsSwept S) (swept_act S) s es w goes_on swept l in
         let k = own_cut t (map Clear cleared ++ map Drop dropped) (Settle used) [] es own in
         let both = (legal_from_append c last s k.before (by t (Settle used) ∷ k.since)).0 (subst (IsLegalFrom c last s) k.parts l) in
-        let before = all_append _ k.before (by t (Settle used) ∷ k.since) (subst (AllByRecursion (λ e. e ≢ by t Reopen)) k.parts goes_on) in
+        let before = all_append _ k.before (by t (Settle used) ∷ k.since) (subst (AllByRecursion (λ e. e ≢ by t (Gate Reopen))) k.parts goes_on) in
         let here = kept_along (λ z. Unit {0}) (λ z u a w n i. tt) s k.before w before.0 tt both.0 in
         let settled = after (state_from s k.before) (by t (Settle used)) in
         let there = sweeping_after (state_from s k.before) (by t (Settle used)) here.0 before.1.0 both.1.0 in
@@ -230,10 +231,10 @@ module _ (c : Config) (last : ℕ) (t : ℕ) where
 module _ (c : Config) (last : ℕ) where
   pub collection_is_exact : CollectionIsExact c last
   collection_is_exact t before inside rest cleared dropped used l own whole =
-      let front = ((legal_append c last (before ++ by t Shut ∷ inside) (by t Reopen ∷ rest)).0 l).0 in
-      let both = (legal_append c last before (by t Shut ∷ inside)).0 front in
-      let s = after (state before) (by t Shut) in
-      let w : IsSweeping c last t s = record { apart = apart_after c last (state before) (by t Shut) (apart_state c last before both.0) both.1.0; collecting = at_number_self (state before).role t Collecting } in
+      let front = ((legal_append c last (before ++ by t (Gate Shut) ∷ inside) (by t (Gate Reopen) ∷ rest)).0 l).0 in
+      let both = (legal_append c last before (by t (Gate Shut) ∷ inside)).0 front in
+      let s = after (state before) (by t (Gate Shut)) in
+      let w : IsSweeping c last t s = record { apart = apart_after c last (state before) (by t (Gate Shut)) (apart_state c last before both.0) both.1.0; collecting = at_number_self (state before).role t Collecting } in
       let swept : IsSwept c last t (state before) s = record {
         reach = record {
           forth = record { globals = λ h o g r. r; locals = λ u p o r. r; objects = λ o x r e. e };
@@ -243,15 +244,15 @@ module _ (c : Config) (last : ℕ) where
         objects = λ o x e. e;
       } in (
         exact c last t (state before) s swept inside cleared dropped used w both.1.1 own whole,
-        subst (λ z. KeepsReached c (state before) z used) (sym (state_append before (by t Shut ∷ inside))) (keeps c last t (state before) s swept inside cleared dropped used w both.1.1 own),
+        subst (λ z. KeepsReached c (state before) z used) (sym (state_append before (by t (Gate Shut) ∷ inside))) (keeps c last t (state before) s swept inside cleared dropped used w both.1.1 own),
       )
 
 -- a collection that a thread did lies in what it has seen
 pub collection_in : {old new : PassView} (cleared : List Handle) (dropped : List ℕ) (used : ℕ) → Did old new (collection_acts cleared dropped used) → CollectionIn old new cleared dropped used
 collection_in {old} {new} cleared dropped used d =
     let t = old.thread in
-    let f = first_act t Shut (sweeping_acts cleared dropped used ++ Reopen ∷ []) d.begins.0 (mine_did (collection_acts cleared dropped used) d) in
-    let k = own_cut t (sweeping_acts cleared dropped used) Reopen [] f.since f.rest in
+    let f = first_act t (Gate Shut) (sweeping_acts cleared dropped used ++ Gate Reopen ∷ []) d.begins.0 (mine_did (collection_acts cleared dropped used) d) in
+    let k = own_cut t (sweeping_acts cleared dropped used) (Gate Reopen) [] f.since f.rest in
     record {
       before = old.seen ++ f.before;
       inside = k.before;
@@ -259,14 +260,14 @@ collection_in {old} {new} cleared dropped used d =
       from = (f.before, refl);
       parts = sym d.begins.1
           ∙ (ap (λ l. old.seen ++ l) f.parts
-          ∙ (sym (append_assoc old.seen f.before (by t Shut ∷ f.since))
-          ∙ (ap (λ l. (old.seen ++ f.before) ++ by t Shut ∷ l) k.parts
-          ∙ sym (append_assoc (old.seen ++ f.before) (by t Shut ∷ k.before) (by t Reopen ∷ k.since)))));
+          ∙ (sym (append_assoc old.seen f.before (by t (Gate Shut) ∷ f.since))
+          ∙ (ap (λ l. (old.seen ++ f.before) ++ by t (Gate Shut) ∷ l) k.parts
+          ∙ sym (append_assoc (old.seen ++ f.before) (by t (Gate Shut) ∷ k.before) (by t (Gate Reopen) ∷ k.since)))));
       own = k.first;
     }
 
 -- a collection that a thread did and that left nothing out is exact
 pub collects_exactly : {old new : PassView} {cleared : List Handle} {dropped : List ℕ} {used : ℕ} (k : Collects old new cleared dropped used)
-    → IsExact (state k.place.before) cleared dropped × KeepsReached old.config (state k.place.before) (state (k.place.before ++ by old.thread Shut ∷ k.place.inside)) used
+    → IsExact (state k.place.before) cleared dropped × KeepsReached old.config (state k.place.before) (state (k.place.before ++ by old.thread (Gate Shut) ∷ k.place.inside)) used
 collects_exactly {old} {cleared} {dropped} {used} k =
     collection_is_exact old.config old.last old.thread k.place.before k.place.inside k.place.rest cleared dropped used (subst (IsLegal old.config old.last) k.place.parts k.did.legal) k.place.own k.whole

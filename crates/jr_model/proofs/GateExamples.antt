@@ -1,10 +1,10 @@
 -- The examples of the gate, and of space, reads and writes.
-use Rattle.std.proofs.Common.{◌≡◌, ◌≢◌, ℕ, zero, suc, ◌<◌, ◌^◌, Some, List, [], ◌∷◌, slice_get, refl, ap, subst, ◌∙◌, arith, nat_eq, lit<, lit≤}
+use Rattle.std.proofs.Common.{◌≡◌, ◌≢◌, inl, ℕ, ◌+◌, false, zero, suc, ◌<◌, ◌^◌, Some, List, [], ◌∷◌, slice_get, refl, ap, subst, ◌∙◌, arith, nat_eq, lit<, lit≤}
 use Rattle.jr_word.specs.declared.handle.RefKind.TheVariants.{Global, Weak}
 use Rattle.jr_word.specs.declared.kind.Kind.TheVariants.{Int}
 use Rattle.jr_model.specs.declared.event.Role.TheVariants.{Outside, Within, Collecting}
 use Rattle.jr_model.specs.Maps.{update, sum_below}
-use Rattle.jr_model.specs.State.{Contents, opening}
+use Rattle.jr_model.specs.State.{Contents, opening, is_barring}
 use Rattle.jr_model.specs.Examples.{two_threads, last_serial, GateIsLegal, WrongCountIsIllegal, ShuttingOverIsIllegal, EnteringBesideIsIllegal, SpaceIsLegal, ReadingAnotherIsIllegal, MakingBeyondIsIllegal}
 use Rattle.jr_model.proofs.Updates.{at_number}
 use Rattle.jr_model.proofs.ReferenceExamples.{IsQuiet, none_stands, same_counts}
@@ -17,16 +17,16 @@ pub gate_is_legal : GateIsLegal
 unfolding sum_below
 gate_is_legal = (
   (
-    (lit< tt, (refl, λ u e. cc)),
+    (lit< tt, (refl, λ u. refl)),
     (
-      (lit< tt, (refl, refl, lit≤ tt)),
+      (lit< tt, (inl refl, refl, lit≤ tt)),
       (
-        (lit< tt, refl),
+        (lit< tt, (refl, tt)),
         (
-          (lit< tt, outside_again 0),
+          (lit< tt, (inl refl, λ u ne. outside_again 0 u)),
           (
             (lit< tt, (refl, (1, refl))),
-            ((lit< tt, refl), ((lit< tt, (refl, refl, lit≤ tt)), ((lit< tt, tt), ((lit< tt, (refl, λ o x e. absurd cc)), ((lit< tt, tt), tt))))),
+            ((lit< tt, (refl, tt)), ((lit< tt, (inl refl, refl, lit≤ tt)), ((lit< tt, tt), ((lit< tt, (refl, λ o x e. absurd cc)), ((lit< tt, tt), tt))))),
           ),
         ),
       ),
@@ -37,13 +37,13 @@ gate_is_legal = (
 
 pub wrong_count_is_illegal : WrongCountIsIllegal
 unfolding sum_below
-wrong_count_is_illegal n ne l = ne l.1.0.1.1
+wrong_count_is_illegal n ne l = let others : 1 ≡ n + 0 = l.1.0.1.1 in ne (omega arith)
 
 pub shutting_over_is_illegal : ShuttingOverIsIllegal
-shutting_over_is_illegal l = let out = l.1.0.1 0 in cc
+shutting_over_is_illegal l = let out = l.1.0.1.1 0 (λ e. cc) in cc
 
 pub entering_beside_is_illegal : EnteringBesideIsIllegal
-entering_beside_is_illegal l = l.1.0.1.1 1 refl
+entering_beside_is_illegal l = let none = l.1.0.1.1 1 in cc
 
 -- SPACE
 
@@ -55,13 +55,13 @@ zeros : (i v : ℕ) → slice_get (0 ∷ 0 ∷ 0 ∷ []) i ≡ Some v → v < 2 
 zeros = small 0 (0 ∷ 0 ∷ []) (small 0 (0 ∷ []) (small 0 [] (λ i v e. absurd cc) (lit< tt)) (lit< tt)) (lit< tt)
 
 entered_quiet : IsQuiet (update nat_eq (λ t. Outside) 0 Within)
-entered_quiet u = at_number (λ r. r ≢ Collecting) (λ t. Outside) 0 u Within (λ e r. cc) (λ n r. cc)
+entered_quiet u = at_number (λ r. is_barring r ≡ false) (λ t. Outside) 0 u Within (λ e. refl) (λ n. refl)
 
 pub space_is_legal : SpaceIsLegal
 unfolding sum_below
 space_is_legal = (
   (
-    (lit< tt, (refl, λ u e. cc)),
+    (lit< tt, (refl, λ u. refl)),
     (
       (lit< tt, (refl, entered_quiet)),
       (
@@ -78,7 +78,7 @@ space_is_legal = (
                   (lit< tt, (refl, lit≤ tt)),
                   (
                     (lit< tt, (refl, refl, λ e. absurd cc)),
-                    ((lit< tt, (refl, lit≤ tt, lit≤ tt, refl, (λ i v e. absurd cc), lit≤ tt)), ((lit< tt, refl), ((lit< tt, refl), tt))),
+                    ((lit< tt, (refl, lit≤ tt, lit≤ tt, refl, (λ i v e. absurd cc), lit≤ tt)), ((lit< tt, (refl, tt)), ((lit< tt, (refl, tt)), tt))),
                   ),
                 ),
               ),

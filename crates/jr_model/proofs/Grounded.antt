@@ -1,5 +1,5 @@
 -- The refusals that speak of the shared room are true.
-use Rattle.std.proofs.Common.{◌≡◌, ◌≢◌, ◌⊎◌, ⊎_elim, inl, inr, ℕ, Bool, cond, zero, suc, ◌+◌, ◌<◌, ◌≤◌, List, [], ◌∷◌, ◌++◌, Some, None, Result, Ok, Err, ap, refl, sym, subst, ◌∙◌, append_assoc}
+use Rattle.std.proofs.Common.{◌≡◌, ◌≢◌, ◌⊎◌, ⊎_elim, inl, inr, ℕ, Bool, cond, if◌then◌else◌, zero, suc, ◌+◌, ◌<◌, ◌≤◌, List, [], ◌∷◌, ◌++◌, Some, None, Result, Ok, Err, ap, refl, sym, subst, ◌∙◌, append_assoc, arith}
 use mathlib.Core.List.{IsPrefix}
 use Rattle.std.proofs.lemmas.List.{append-nil}
 use Rattle.jr_word.specs.declared.config.Config.{Config}
@@ -7,11 +7,13 @@ use Rattle.jr_word.specs.declared.handle.RefKind.{RefKind}
 use Rattle.jr_word.specs.declared.kind.Kind.{Kind}
 use Rattle.jr_word.specs.declared.fault.Fault.{Fault}
 use Rattle.jr_word.specs.declared.fault.Fault.TheVariants.{RowFull, SpaceFull, Barred, Busy}
+use Rattle.jr_model.specs.declared.event.Role.TheVariants.{Outside}
 use Rattle.jr_model.specs.declared.event.Act.{Act}
-use Rattle.jr_model.specs.declared.event.Act.TheVariants.{Enter, Knock, Leave, Withdraw, ShutBusy, Probe, ReserveFull}
+use Rattle.jr_model.specs.declared.event.Act.TheVariants.{Gate, ShutBusy, Probe, ReserveFull}
+use Rattle.jr_model.specs.declared.event.GateAct.TheVariants.{Enter, Knock, Leave, Withdraw}
 use Rattle.jr_model.specs.declared.frames.Mode.{Mode}
 use Rattle.jr_model.specs.declared.frames.Mode.TheVariants.{Copy, Commit, Abort}
-use Rattle.jr_model.specs.State.{State, SomebodyCollects, not_outside, IsOccupied}
+use Rattle.jr_model.specs.State.{State, SomebodyCloses, AreOthers, is_outside, not_outside, IsOccupied}
 use Rattle.jr_model.specs.History.{History, by, state, mine, PassView, Did}
 use Rattle.jr_model.specs.Frames.{Frames}
 use Rattle.jr_model.specs.Windows.{IsBehind, IsLastSeen, Begins, Ends}
@@ -20,7 +22,7 @@ use Rattle.jr_model.specs.Calls.{Call, Ran, done, entered, ◌>>◌}
 use Rattle.jr_model.specs.Checks.{Word}
 use Rattle.jr_model.specs.Objects.{copying_back, release_array_elements}
 use Rattle.jr_model.specs.Parts.{enter, shut, reserve, create}
-use Rattle.jr_model.specs.Grounded.{TookWhere, BarredByCollector, BusyIsCounted, SpaceWasFull, FreeIndexIsFound, RefusedInItsStay, EachIsProbed, IsItsStay, CallsAreTheirStays}
+use Rattle.jr_model.specs.Grounded.{TookWhere, BarredByCloser, BusyIsCounted, SpaceWasFull, FreeIndexIsFound, RefusedInItsStay, EachIsProbed, IsItsStay, CallsAreTheirStays}
 use Rattle.jr_model.proofs.Moments.{OneAct, first_done, prefix_trans}
 use Rattle.jr_model.proofs.Windows.{ends_last}
 use Rattle.jr_model.proofs.Updates.{eq_self}
@@ -30,21 +32,27 @@ use Rattle.jr_model.proofs.Stays.{append_cancel}
 taken : {P : State → Type 0} {old new : PassView} {a : Act} (o : OneAct old new a) → P (state o.before) → TookWhere P old new a
 taken o met = record { before = o.before; since = o.since; took = o.parts; from = o.from; met = met }
 
+-- of a thread outside, those other than itself are all who are not
+all_others : (c : Config) (s : State) (t n : ℕ) → AreOthers c s t n → s.role t ≡ Outside → n ≡ not_outside c s
+all_others c s t n others out =
+    let none : ◌≡◌ {A = ℕ} (if is_outside (s.role t) then 0 else 1) 0 = ap (λ r. if is_outside r then 0 else 1) out in
+    omega (arith, others, none)
+
 module _ (old new : PassView) (f g : Frames) where
-  knocked : (acts : List Act) → Did old new acts → enter f acts (Err Barred) g → TookWhere SomebodyCollects old new Knock
+  knocked : (acts : List Act) → Did old new acts → enter f acts (Err Barred) g → TookWhere SomebodyCloses old new (Gate Knock)
   knocked acts d (inl r) = absurd (let bad = r.1 in cc)
   knocked acts d (inr (inr r)) = absurd (let bad = r.2.1 in cc)
   knocked acts d (inr (inl r)) =
-      let o = first_done Knock r.3 (subst (Did old new) (r.4 ∙ ap (λ l. l ++ r.3) r.5.0) d) in
+      let o = first_done (Gate Knock) r.3 (subst (Did old new) (r.4 ∙ ap (λ l. l ++ r.3) r.5.0) d) in
       taken o o.needs.1.1
 
-  counted : (n : ℕ) (acts : List Act) → Did old new acts → shut f acts (Err (Busy n)) g → TookWhere (λ s. (n ≡ not_outside old.config s) × (1 ≤ n)) old new (ShutBusy n)
+  counted : (n : ℕ) (acts : List Act) → Did old new acts → shut f acts (Err (Busy n)) g → TookWhere (λ s. AreOthers old.config s old.thread n × (s.role old.thread ≡ Outside → n ≡ not_outside old.config s) × (1 ≤ n)) old new (ShutBusy n)
   counted n acts d (inl r) = absurd (let bad = r.1 in cc)
   counted n acts d (inr (inr r)) = absurd (let bad = r.2.2 in cc)
   counted n acts d (inr (inl r)) =
       let same : r.5.0 ≡ n = let a = r.5.2 in let b = r.6.1 in cc in
       let o = first_done (ShutBusy r.5.0) r.3 (subst (Did old new) (r.4 ∙ ap (λ l. l ++ r.3) r.5.1) d) in
-      subst (λ m. TookWhere (λ s. (m ≡ not_outside old.config s) × (1 ≤ m)) old new (ShutBusy m)) same (taken o (o.needs.1.1, o.needs.1.2))
+      subst (λ m. TookWhere (λ s. AreOthers old.config s old.thread m × (s.role old.thread ≡ Outside → m ≡ not_outside old.config s) × (1 ≤ m)) old new (ShutBusy m)) same (taken o (o.needs.1.1, all_others old.config (state o.before) old.thread r.5.0 o.needs.1.1, o.needs.1.2))
 
   filled : (words used : ℕ) (acts : List Act) → Did old new acts → reserve words f acts (Err (SpaceFull used)) g → TookWhere (λ s. (used ≡ s.used) × (old.config.words < used + words)) old new (ReserveFull words used)
   filled zero used acts d r = absurd (let bad = r.1 in cc)
@@ -57,8 +65,8 @@ module _ (old new : PassView) (f g : Frames) where
       let o = first_done (ReserveFull (suc n) r.5.0) r.3 (subst (Did old new) (r.4 ∙ ap (λ l. l ++ r.3) r.5.1) d) in
       subst (λ (u : ℕ). TookWhere (λ s. (u ≡ s.used) × (old.config.words < u + suc n)) old new (ReserveFull (suc n) u)) same (taken o (o.needs.1.1, o.needs.1.2))
 
-pub barred_by_collector : BarredByCollector
-barred_by_collector old new f g r = knocked old new f g r.acts r.did r.is
+pub barred_by_closer : BarredByCloser
+barred_by_closer old new f g r = knocked old new f g r.acts r.did r.is
 
 pub busy_is_counted : BusyIsCounted
 busy_is_counted old new f g n r = counted old new f g n r.acts r.did r.is
@@ -83,21 +91,21 @@ module _ (old new : PassView) (f g : Frames) where
 
   -- the entry and the exit of work in a stay that begins and ends with its own acts
   stay_by : {A : Type 0} (work : Call A) (acts : List Act) (begun : History) → Begins old acts begun → Ends old new acts → (answer : Result A Fault) (h : Frames) → entered work f acts answer h
-      → ((answer ≡ Err Barred) × IsBehind old Knock begun × IsLastSeen new Withdraw) ⊎ (IsBehind old Enter begun × IsLastSeen new Leave)
-  stay_by work acts begun first last answer h (inl x) = inl (x.1, subst (λ acts. Begins old acts begun) x.0 first, subst (Ends old new) x.0 last)
-  stay_by work acts begun first last answer h (inr x) = inr (subst (λ acts. Begins old acts begun) x.1 first, ends_last old new (Enter ∷ x.0) Leave (subst (Ends old new) x.1 last))
+      → ((answer ≡ Err Barred) × IsBehind old (Gate Knock) begun × IsLastSeen new (Gate Withdraw)) ⊎ (IsBehind old (Gate Enter) begun × IsLastSeen new (Gate Leave))
+  stay_by work acts begun first last answer h (inl x) = inl (x.1, subst (λ acts. Begins old acts begun) x.0 first refl, subst (Ends old new) x.0 last refl)
+  stay_by work acts begun first last answer h (inr x) = inr (subst (λ acts. Begins old acts begun) x.1 first refl, ends_last old new (Gate Enter ∷ x.0) (Gate Leave) (subst (Ends old new) x.1 last) refl)
 
   -- the entry and the exit of a call
   stay_of : {A : Type 0} (work : Call A) (answer : Result A Fault) (r : Ran old new f g (entered work) answer)
-      → ((answer ≡ Err Barred) × IsBehind old Knock r.begun × IsLastSeen new Withdraw) ⊎ (IsBehind old Enter r.begun × IsLastSeen new Leave)
+      → ((answer ≡ Err Barred) × IsBehind old (Gate Knock) r.begun × IsLastSeen new (Gate Withdraw)) ⊎ (IsBehind old (Gate Enter) r.begun × IsLastSeen new (Gate Leave))
   stay_of work answer r = stay_by work r.acts r.begun r.window.first r.window.last answer g r.is
 
   -- the same of a call that goes on with no act
   stay_then : {A B : Type 0} (work : Call A) (b : B) (answer : Result B Fault) (r : Ran old new f g (do entered work; done b) answer)
-      → ((answer ≡ Err Barred) × IsBehind old Knock r.begun × IsLastSeen new Withdraw) ⊎ (IsBehind old Enter r.begun × IsLastSeen new Leave)
+      → ((answer ≡ Err Barred) × IsBehind old (Gate Knock) r.begun × IsLastSeen new (Gate Withdraw)) ⊎ (IsBehind old (Gate Enter) r.begun × IsLastSeen new (Gate Leave))
   stay_then {A} {B} work b answer r = go r.is
     where
-      go : (do entered work; done b) f r.acts answer g → ((answer ≡ Err Barred) × IsBehind old Knock r.begun × IsLastSeen new Withdraw) ⊎ (IsBehind old Enter r.begun × IsLastSeen new Leave)
+      go : (do entered work; done b) f r.acts answer g → ((answer ≡ Err Barred) × IsBehind old (Gate Knock) r.begun × IsLastSeen new (Gate Withdraw)) ⊎ (IsBehind old (Gate Enter) r.begun × IsLastSeen new (Gate Leave))
       go (inl x) =
           let own : r.acts ≡ x.2 = x.4 ∙ (ap (λ rest. x.2 ++ rest) x.6.0 ∙ append-nil x.2) in
           ⊎_elim (λ barred. absurd (let bad = barred.0 in cc)) (λ stay. inr stay)
@@ -107,7 +115,7 @@ module _ (old new : PassView) (f g : Frames) where
           (stay_by work r.acts r.begun r.window.first r.window.last (Err x.0) g x.2)
 
   -- what was refused within a stay was refused between its entry and its exit
-  refused_inside : {A : Type 0} (work : Call A) → Ran old new f g (entered work) (Err RowFull) → (begun : History) × IsBehind old Enter begun × IsLastSeen new Leave × RowWasFull begun new
+  refused_inside : {A : Type 0} (work : Call A) → Ran old new f g (entered work) (Err RowFull) → (begun : History) × IsBehind old (Gate Enter) begun × IsLastSeen new (Gate Leave) × RowWasFull begun new
   refused_inside work r = ⊎_elim (λ barred. absurd (let bad = barred.0 in cc)) (λ stay. (r.begun, stay.0, stay.1, r.grounds)) (stay_of work (Err RowFull) r)
 
   -- a probe after the beginning of a call is one of its acts

@@ -6,11 +6,12 @@ use Rattle.jr_word.specs.declared.handle.RefKind.TheVariants.{Local, Global, Wea
 use Rattle.jr_word.specs.declared.kind.Kind.{Kind}
 use Rattle.jr_word.specs.declared.kind.Kind.TheVariants.{Plain, Boolean, Byte, Char, Short, Int, Long, Objects, Text}
 use Rattle.jr_model.specs.declared.event.Role.{Role}
-use Rattle.jr_model.specs.declared.event.Role.TheVariants.{Outside, Knocking, Collecting}
+use Rattle.jr_model.specs.declared.event.Role.TheVariants.{Outside, Within, Knocking, Announcing, Collecting}
 use Rattle.jr_model.specs.declared.event.Found.TheVariants.{Object, Cleared, Stale}
 use Rattle.jr_model.specs.declared.event.Event.{Event}
 use Rattle.jr_model.specs.declared.event.Act.{Act}
-use Rattle.jr_model.specs.declared.event.Act.TheVariants.{Enter, Knock, Leave, Withdraw, Shut, Reopen, Create, Delete, Clear, LocalPut, LocalDrop, New, Write, Drop}
+use Rattle.jr_model.specs.declared.event.Act.TheVariants.{Gate, Create, Delete, Clear, LocalPut, LocalDrop, New, Write, Drop}
+use Rattle.jr_model.specs.declared.event.GateAct.TheVariants.{Enter, Knock, Leave, Withdraw, Announce, Cancel, Shut, Reopen}
 use Rattle.jr_model.specs.Maps.{update}
 use Rattle.jr_model.specs.State.{Handle, Contents, State, opening, IsPresent, NobodyCollects, IsWord, AreWords, IsClosed, from_global, from_local}
 use Rattle.jr_model.specs.Steps.{Needs, ActNeeds, act_after, after, written}
@@ -70,12 +71,14 @@ words_written s x y i v w old is kind j u at =
 
 module _ (c : Config) (last : ℕ) where
   sound_act : (s : State) (t : ℕ) (a : Act) → IsKept c last s → IsApart s.role → IsSound s → ActNeeds c last s t a → IsSound (act_after s t a)
-  sound_act s t Enter k g i n = record { named = i.named; local = i.local; closed = λ nobody. i.closed n.1 }
-  sound_act s t Knock k g i n = record { named = i.named; local = i.local; closed = λ nobody. i.closed (quiet_before s.role t Knocking (λ e. let r = n.0 in cc) nobody) }
-  sound_act s t Leave k g i n = record { named = i.named; local = i.local; closed = λ nobody. i.closed (quiet_before s.role t Outside (λ e. cc) nobody) }
-  sound_act s t Withdraw k g i n = record { named = i.named; local = i.local; closed = λ nobody. i.closed (quiet_before s.role t Outside (λ e. cc) nobody) }
-  sound_act s t Shut k g i n = record { named = i.named; local = i.local; closed = λ nobody. absurd (nobody t (at_number_self s.role t Collecting)) }
-  sound_act s t Reopen k g i n = record { named = i.named; local = i.local; closed = λ nobody. n.1 }
+  sound_act s t (Gate Enter) k g i n = record { named = i.named; local = i.local; closed = λ nobody. i.closed (quiet_before s.role t Within (λ e. let r = n.0 in cc) nobody) }
+  sound_act s t (Gate Knock) k g i n = record { named = i.named; local = i.local; closed = λ nobody. i.closed (quiet_before s.role t Knocking (λ e. let r = n.0 in cc) nobody) }
+  sound_act s t (Gate Leave) k g i n = record { named = i.named; local = i.local; closed = λ nobody. i.closed (quiet_before s.role t Outside (λ e. let r = n.0 in cc) nobody) }
+  sound_act s t (Gate Withdraw) k g i n = record { named = i.named; local = i.local; closed = λ nobody. i.closed (quiet_before s.role t Outside (λ e. let r = n.0 in cc) nobody) }
+  sound_act s t (Gate Announce) k g i n = record { named = i.named; local = i.local; closed = λ nobody. i.closed (quiet_before s.role t Announcing (λ e. let r = n.0 in cc) nobody) }
+  sound_act s t (Gate Cancel) k g i n = record { named = i.named; local = i.local; closed = λ nobody. i.closed (quiet_before s.role t Outside (λ e. let r = n.0 in cc) nobody) }
+  sound_act s t (Gate Shut) k g i n = record { named = i.named; local = i.local; closed = λ nobody. absurd (nobody t (at_number_self s.role t Collecting)) }
+  sound_act s t (Gate Reopen) k g i n = record { named = i.named; local = i.local; closed = λ nobody. n.1 }
   sound_act s t (Create h o) k g i n = record {
     named = λ f p. at_handle (λ x. x ≡ Object p → IsPresent s p) s.refs h f (Object o)
         (λ e q. let same : o ≡ p = cc in subst (λ j. IsPresent s j) same n.1)

@@ -7,9 +7,10 @@ use Rattle.jr_word.specs.declared.kind.Kind.TheVariants.{Plain}
 use Rattle.jr_model.specs.declared.event.Role.{Role}
 use Rattle.jr_model.specs.declared.event.Role.TheVariants.{Outside, Within, Collecting}
 use Rattle.jr_model.specs.declared.event.Found.TheVariants.{Object, Stale}
-use Rattle.jr_model.specs.declared.event.Act.TheVariants.{Enter, Create, Look, Probe, New}
+use Rattle.jr_model.specs.declared.event.Act.TheVariants.{Gate, Create, Look, Probe, New}
+use Rattle.jr_model.specs.declared.event.GateAct.TheVariants.{Enter}
 use Rattle.jr_model.specs.Maps.{update, sum_below, count_below}
-use Rattle.jr_model.specs.State.{Handle, same_handle, State, opening, is_there, references}
+use Rattle.jr_model.specs.State.{Handle, same_handle, State, opening, is_barring, is_there, references}
 use Rattle.jr_model.specs.History.{History, by, state, state_from, IsLegal, IsLegalFrom}
 use Rattle.jr_model.specs.Examples.{one_thread, last_serial, counts, g, plain_p, global_g, type_g, drop_g, type_g_again, free_p, DropIsLegal, FindingDroppedIsIllegal, CreatingBesideIsIllegal, one_slot, serial, create_and_delete, thrice, ThriceIsLegal, FourthIsIllegal}
 use Rattle.jr_model.proofs.Updates.{at_number, at_handle}
@@ -19,11 +20,11 @@ use Rattle.jr_model.proofs.Counts.{count_all_false}
 
 -- no thread has this role
 abbrev pub IsQuiet : (ℕ → Role) → Type 0
-IsQuiet role = (u : ℕ) → role u ≢ Collecting
+IsQuiet role = (u : ℕ) → is_barring (role u) ≡ false
 
 -- after a stay of t
-pub quiet_again : {role : ℕ → Role} (t : ℕ) → IsQuiet role → IsQuiet (update nat_eq (update nat_eq role t Within) t Outside)
-quiet_again {role} t q u = at_number (λ r. r ≢ Collecting) (update nat_eq role t Within) t u Outside (λ e r. cc) (λ n. at_number (λ r. r ≢ Collecting) role t u Within (λ e r. cc) (λ m. q u))
+pub quiet_again : (role : ℕ → Role) (t : ℕ) → IsQuiet role → IsQuiet (update nat_eq (update nat_eq role t Within) t Outside)
+quiet_again role t q u = at_number (λ r. is_barring r ≡ false) (update nat_eq role t Within) t u Outside (λ e. refl) (λ n. at_number (λ r. is_barring r ≡ false) role t u Within (λ e. refl) (λ m. q u))
 
 -- no reference is counted where none stands
 pub none_stands : (c : Config) (last : ℕ) (k : RefKind) (s : State) → ((h : Handle) → s.refs h ≡ Stale) → references c last k s ≡ 0
@@ -55,29 +56,29 @@ abbrev s5 : State
 s5 = state_from s4 type_g_again
 
 q1 : IsQuiet s1.role
-q1 = quiet_again 0 (λ u e. cc)
+q1 = quiet_again _ 0 (λ u. refl)
 
 q2 : IsQuiet s2.role
-q2 = quiet_again 0 q1
+q2 = quiet_again _ 0 q1
 
 q3 : IsQuiet s3.role
-q3 = quiet_again 0 q2
+q3 = quiet_again _ 0 q2
 
 q4 : IsQuiet s4.role
-q4 = quiet_again 0 q3
+q4 = quiet_again _ 0 q3
 
 q5 : IsQuiet s5.role
-q5 = quiet_again 0 q4
+q5 = quiet_again _ 0 q4
 
 plain_legal : IsLegal one_thread last_serial plain_p
 unfolding sum_below
 plain_legal = (
-  (lit< tt, (refl, λ u e. cc)),
+  (lit< tt, (refl, λ u. refl)),
   (
     (lit< tt, (refl, lit≤ tt, lit≤ tt, refl, (λ i v e. absurd cc), lit≤ tt)),
     (
       (lit< tt, (refl, lit< tt, refl)),
-      ((lit< tt, refl), tt),
+      ((lit< tt, (refl, tt)), tt),
     ),
   ),
 )
@@ -89,22 +90,22 @@ global_legal = (
     (lit< tt, (refl, ((λ e. absurd cc), (λ o. absurd (free_index o))))),
     (
       (lit< tt, (refl, refl, (λ e. cc, refl, lit< tt, lit≤ tt), (λ h e. refl), (λ h e f. refl))),
-      ((lit< tt, refl), tt),
+      ((lit< tt, (refl, tt)), tt),
     ),
   ),
 )
 
 type_legal : IsLegalFrom one_thread last_serial s2 type_g
-type_legal = ((lit< tt, (refl, q2)), ((lit< tt, (refl, refl)), ((lit< tt, refl), tt)))
+type_legal = ((lit< tt, (refl, q2)), ((lit< tt, (refl, refl)), ((lit< tt, (refl, tt)), tt)))
 
 drop_legal : IsLegalFrom one_thread last_serial s3 drop_g
-drop_legal = ((lit< tt, (refl, q3)), ((lit< tt, (refl, refl)), ((lit< tt, (refl, λ e. cc)), ((lit< tt, refl), tt))))
+drop_legal = ((lit< tt, (refl, q3)), ((lit< tt, (refl, refl)), ((lit< tt, (refl, λ e. cc)), ((lit< tt, (refl, tt)), tt))))
 
 type_again_legal : IsLegalFrom one_thread last_serial s4 type_g_again
-type_again_legal = ((lit< tt, (refl, q4)), ((lit< tt, (refl, refl)), ((lit< tt, refl), tt)))
+type_again_legal = ((lit< tt, (refl, q4)), ((lit< tt, (refl, refl)), ((lit< tt, (refl, tt)), tt)))
 
 free_legal : IsLegalFrom one_thread last_serial s5 free_p
-free_legal = ((lit< tt, (refl, q5)), ((lit< tt, (refl, lit< tt)), ((lit< tt, refl), tt)))
+free_legal = ((lit< tt, (refl, q5)), ((lit< tt, (refl, lit< tt)), ((lit< tt, (refl, tt)), tt)))
 
 -- one legal part after another
 pub then_legal : (c : Config) (last : ℕ) (s : State) (xs ys : History) → IsLegalFrom c last s xs → IsLegalFrom c last (state_from s xs) ys → IsLegalFrom c last s (xs ++ ys)
@@ -126,12 +127,12 @@ drop_is_legal = (
 
 pub finding_dropped_is_illegal : FindingDroppedIsIllegal
 finding_dropped_is_illegal t o l =
-    let found = ((legal_append one_thread last_serial (plain_p ++ global_g ++ drop_g ++ by 0 Enter ∷ []) (by t (Look g (Object o)) ∷ [])).0 l).1.0.1.1 in
+    let found = ((legal_append one_thread last_serial (plain_p ++ global_g ++ drop_g ++ by 0 (Gate Enter) ∷ []) (by t (Look g (Object o)) ∷ [])).0 l).1.0.1.1 in
     cc
 
 pub creating_beside_is_illegal : CreatingBesideIsIllegal
 creating_beside_is_illegal t o h index l =
-    let free = ((legal_append one_thread last_serial (plain_p ++ global_g ++ by 0 Enter ∷ []) (by t (Create h o) ∷ [])).0 l).1.0.1.3 g (sym index) in
+    let free = ((legal_append one_thread last_serial (plain_p ++ global_g ++ by 0 (Gate Enter) ∷ []) (by t (Create h o) ∷ [])).0 l).1.0.1.3 g (sym index) in
     cc
 
 -- THE SLOT OF ONE ROW
@@ -145,7 +146,7 @@ fresh_again : (s : State) (n : ℕ) (h : Handle) → h.serial ≢ n → s.given 
 fresh_again s n h ne fresh = at_handle (λ b. b ≡ false) s.given (serial n) h true (λ e. absurd (ne (ap (λ (k : Handle). k.serial) (sym e)))) (λ m. fresh)
 
 abbrev t0 : State
-t0 = state (by 0 Enter ∷ by 0 (New 1 Plain []) ∷ [])
+t0 = state (by 0 (Gate Enter) ∷ by 0 (New 1 Plain []) ∷ [])
 
 abbrev t1 : State
 t1 = state_from t0 (create_and_delete 0)
@@ -174,9 +175,9 @@ all_given (suc zero) l = refl
 all_given (suc (suc zero)) l = refl
 all_given (suc (suc (suc n))) l = absurd (omega arith)
 
-opened_legal : IsLegal one_slot 2 (by 0 Enter ∷ by 0 (New 1 Plain []) ∷ [])
+opened_legal : IsLegal one_slot 2 (by 0 (Gate Enter) ∷ by 0 (New 1 Plain []) ∷ [])
 unfolding sum_below
-opened_legal = ((lit< tt, (refl, λ u e. cc)), ((lit< tt, (refl, lit≤ tt, lit≤ tt, refl, (λ i v e. absurd cc), lit≤ tt)), tt))
+opened_legal = ((lit< tt, (refl, λ u. refl)), ((lit< tt, (refl, lit≤ tt, lit≤ tt, refl, (λ i v e. absurd cc), lit≤ tt)), tt))
 
 first_legal : IsLegalFrom one_slot 2 t0 (create_and_delete 0)
 first_legal = ((lit< tt, (refl, refl, (λ e. cc, refl, lit< tt, lit≤ tt), (λ h e. refl), (λ h e f. refl))), ((lit< tt, (refl, λ e. cc)), tt))
@@ -190,9 +191,9 @@ third_legal = ((lit< tt, (refl, refl, (λ e. cc, refl, lit< tt, lit≤ tt), (λ 
 pub thrice_is_legal : ThriceIsLegal
 thrice_is_legal =
     then_legal one_slot 2 opening thrice (by 0 (Probe 0 true) ∷ [])
-    (then_legal one_slot 2 opening (by 0 Enter ∷ by 0 (New 1 Plain []) ∷ create_and_delete 0 ++ create_and_delete 1) (create_and_delete 2)
-    (then_legal one_slot 2 opening (by 0 Enter ∷ by 0 (New 1 Plain []) ∷ create_and_delete 0) (create_and_delete 1)
-    (then_legal one_slot 2 opening (by 0 Enter ∷ by 0 (New 1 Plain []) ∷ []) (create_and_delete 0) opened_legal first_legal) second_legal) third_legal)
+    (then_legal one_slot 2 opening (by 0 (Gate Enter) ∷ by 0 (New 1 Plain []) ∷ create_and_delete 0 ++ create_and_delete 1) (create_and_delete 2)
+    (then_legal one_slot 2 opening (by 0 (Gate Enter) ∷ by 0 (New 1 Plain []) ∷ create_and_delete 0) (create_and_delete 1)
+    (then_legal one_slot 2 opening (by 0 (Gate Enter) ∷ by 0 (New 1 Plain []) ∷ []) (create_and_delete 0) opened_legal first_legal) second_legal) third_legal)
     ((lit< tt, (refl, ((λ e. inr (λ n l. (serial n, refl, refl, all_given n l))), (λ o. refl)))), tt)
 
 pub fourth_is_illegal : FourthIsIllegal

@@ -5,7 +5,8 @@ use Rattle.jr_word.specs.declared.fault.Fault.{Fault}
 use Rattle.jr_word.specs.declared.fault.Fault.TheVariants.{Memory, ObjectsFull}
 use Rattle.jr_word.specs.declared.kind.Kind.{Kind}
 use Rattle.jr_model.specs.declared.event.Act.{Act}
-use Rattle.jr_model.specs.declared.event.Act.TheVariants.{Enter, Leave, Reserve}
+use Rattle.jr_model.specs.declared.event.Act.TheVariants.{Gate, Reserve}
+use Rattle.jr_model.specs.declared.event.GateAct.TheVariants.{Enter, Leave}
 use Rattle.jr_model.specs.State.{State}
 use Rattle.jr_model.specs.Frames.{Frames}
 use Rattle.jr_model.specs.Calls.{Call, ◌>>=◌, act, done, refuse, refuse_if, some_act, one_of, unless_memory_for, for_object, entered, opened}
@@ -164,7 +165,7 @@ entered_safe {A} {work} p = record { frames = frames; acts = acts_of }
     acts_of old new acts e (inl r) = subst (AllByRecursion (λ a. may_precede e a ≡ true)) (sym r.0) (precede e _ refl, (precede e _ refl, tt))
     acts_of old new acts e (inr r) =
         subst (AllByRecursion (λ a. may_precede e a ≡ true)) (sym r.1)
-        (append_all (λ a. may_precede e a ≡ true) (Enter ∷ r.0) (Leave ∷ []) (precede e Enter refl, p.acts old new r.0 e r.2) (precede e Leave refl, tt))
+        (append_all (λ a. may_precede e a ≡ true) (Gate Enter ∷ r.0) (Gate Leave ∷ []) (precede e (Gate Enter) refl, p.acts old new r.0 e r.2) (precede e (Gate Leave) refl, tt))
 
 pub opened_safe : {A : Type 0} {work : Call A} → ChangesNothing work → ChangesNothing (opened work)
 opened_safe {A} {work} p = record { frames = frames; acts = acts_of }
@@ -177,4 +178,4 @@ opened_safe {A} {work} p = record { frames = frames; acts = acts_of }
     acts_of old new acts e (inl r) = subst (AllByRecursion (λ a. may_precede e a ≡ true)) (sym r.0) (precede e _ refl, (precede e _ refl, tt))
     acts_of old new acts e (inr r) =
         subst (AllByRecursion (λ a. may_precede e a ≡ true)) (sym r.1.0)
-        (append_all (λ a. may_precede e a ≡ true) (Enter ∷ r.0) (Leave ∷ []) (precede e Enter refl, p.acts old new r.0 e r.1.1) (precede e Leave refl, tt))
+        (append_all (λ a. may_precede e a ≡ true) (Gate Enter ∷ r.0) (Gate Leave ∷ []) (precede e (Gate Enter) refl, p.acts old new r.0 e r.1.1) (precede e (Gate Leave) refl, tt))

@@ -8,7 +8,8 @@ use Rattle.jr_word.specs.declared.config.Config.{Config}
 use Rattle.jr_word.specs.declared.handle.RefKind.{RefKind}
 use Rattle.jr_word.specs.declared.kind.Kind.{Kind}
 use Rattle.jr_model.specs.declared.event.Act.{Act}
-use Rattle.jr_model.specs.declared.event.Act.TheVariants.{Enter, Knock, Leave, Withdraw, Meet, Look, Probe, DeleteStale, ReserveFull, ReserveLost, Read, Write, ShutBusy}
+use Rattle.jr_model.specs.declared.event.Act.TheVariants.{Gate, ShutBusy, Meet, Look, Probe, DeleteStale, ReserveFull, ReserveLost, Read, Write}
+use Rattle.jr_model.specs.declared.event.GateAct.TheVariants.{Enter, Knock, Leave, Withdraw}
 use Rattle.jr_model.specs.declared.event.Found.{Found}
 use Rattle.jr_model.specs.declared.event.Found.TheVariants.{Object, Cleared, Stale}
 use Rattle.jr_model.specs.declared.frames.TheConstants.{FRAMES, LEVELS}
@@ -216,7 +217,7 @@ module _ (c : Config) (last thread : ℕ) where
   left_calm = framed_calm (λ old. refuse_if (nat_le FRAMES (length old.frames)) LocalsFull) (λ f. refuse_if_calm (nat_le FRAMES (length f.frames)) LocalsFull)
 
 enter_safe : ChangesNothing enter
-enter_safe = one_of_safe (never_safe (act_never _)) (bind_calm (act_calm Knock refl) (λ x. bind_calm (act_calm Withdraw refl) (λ y. refuse_calm _))).safe
+enter_safe = one_of_safe (never_safe (act_never _)) (bind_calm (act_calm (Gate Knock) refl) (λ x. bind_calm (act_calm (Gate Withdraw) refl) (λ y. refuse_calm _))).safe
 
 shut_safe : ChangesNothing shut
 shut_safe = one_of_safe (never_safe (act_never _)) (bind_calm (some_act_calm ShutBusy (λ n. refl)) (λ n. refuse_calm _)).safe
@@ -346,10 +347,7 @@ module _ (c : Config) (last thread : ℕ) (s : State) where
 
 -- what the harmless acts leave
 pub harmless_changes_nothing : HarmlessChangesNothing
-harmless_changes_nothing s t Enter h = record { refs = refl; given = refl; locals = refl; objects = refl; used = refl }
-harmless_changes_nothing s t Knock h = record { refs = refl; given = refl; locals = refl; objects = refl; used = refl }
-harmless_changes_nothing s t Leave h = record { refs = refl; given = refl; locals = refl; objects = refl; used = refl }
-harmless_changes_nothing s t Withdraw h = record { refs = refl; given = refl; locals = refl; objects = refl; used = refl }
+harmless_changes_nothing s t (Gate a) h = record { refs = refl; given = refl; locals = refl; objects = refl; used = refl }
 harmless_changes_nothing s t (ShutBusy n) h = record { refs = refl; given = refl; locals = refl; objects = refl; used = refl }
 harmless_changes_nothing s t (Look g r) h = record { refs = refl; given = refl; locals = refl; objects = refl; used = refl }
 harmless_changes_nothing s t (Probe i b) h = record { refs = refl; given = refl; locals = refl; objects = refl; used = refl }

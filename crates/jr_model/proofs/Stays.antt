@@ -7,7 +7,8 @@ use Rattle.jr_model.specs.declared.event.Role.{Role}
 use Rattle.jr_model.specs.declared.event.Role.TheVariants.{Outside, Within, Collecting}
 use Rattle.jr_model.specs.declared.event.Event.{Event}
 use Rattle.jr_model.specs.declared.event.Act.{Act}
-use Rattle.jr_model.specs.declared.event.Act.TheVariants.{Enter, Knock, Leave, Withdraw, Shut, ShutBusy, Reopen, Clear, Reserve, New, Write, Drop, Settle, Meet}
+use Rattle.jr_model.specs.declared.event.Act.TheVariants.{Gate, ShutBusy, Clear, Reserve, New, Write, Drop, Settle, Meet}
+use Rattle.jr_model.specs.declared.event.GateAct.TheVariants.{Leave, Reopen}
 use Rattle.jr_model.specs.State.{Contents, State, opening, HaveSameTables}
 use Rattle.jr_model.specs.Steps.{ActNeeds, act_after, after, written}
 use Rattle.jr_model.specs.History.{History, by, state_from, state, IsLegalFrom, IsLegal, mine, PassView, role_of, role_after, role_from, Did}
@@ -24,12 +25,7 @@ cond_same true x = refl
 cond_same false x = refl
 
 pub role_step : (s : State) (u : ℕ) (a : Act) (t : ℕ) → (act_after s u a).role t ≡ cond (u == t) (role_after (s.role t) a) (s.role t)
-role_step s u Enter t = refl
-role_step s u Knock t = refl
-role_step s u Leave t = refl
-role_step s u Withdraw t = refl
-role_step s u Shut t = refl
-role_step s u Reopen t = refl
+role_step s u (Gate a) t = refl
 role_step s u _ t = cond_same (u == t) (s.role t)
 
 role_split : (s : State) (e : Event) (t : ℕ) (acts : List Act) (b : Bool) → role_from (cond b (role_after (s.role t) e.act) (s.role t)) acts ≡ role_from (s.role t) (cond b (e.act ∷ acts) acts)
@@ -90,7 +86,7 @@ module _ (c : Config) (last : ℕ) where
   }
   still_act t s u _ i w n = record { objects = λ o x e. (x, e, refl, refl); used = omega arith }
 
-  pub still_along : (t : ℕ) (s : State) (es : History) → IsApart s.role → s.role t ≡ Within → AllByRecursion (λ e. e ≢ by t Leave) es → IsLegalFrom c last s es → IsStill s (state_from s es)
+  pub still_along : (t : ℕ) (s : State) (es : History) → IsApart s.role → s.role t ≡ Within → AllByRecursion (λ e. e ≢ by t (Gate Leave)) es → IsLegalFrom c last s es → IsStill s (state_from s es)
   still_along t s [] i w q l = still_self s
   still_along t s (e ∷ es) i w q l =
       let r = stay_act c last t s e.thread e.act i w q.0 l.0.1 in
@@ -99,14 +95,9 @@ module _ (c : Config) (last : ℕ) where
       (still_along t (after s e) es (apart_after c last s e i l.0) r.0 q.1 l.1)
 
   same_act : (t : ℕ) (s : State) (u : ℕ) (a : Act) → IsApart s.role → s.role t ≡ Collecting → u ≢ t → ActNeeds c last s u a → HaveSameTables s (act_after s u a)
-  same_act t s u Leave i w ne n = record { refs = refl; given = refl; locals = refl; objects = refl; used = refl }
-  same_act t s u Enter i w ne n = record { refs = refl; given = refl; locals = refl; objects = refl; used = refl }
-  same_act t s u Knock i w ne n = record { refs = refl; given = refl; locals = refl; objects = refl; used = refl }
-  same_act t s u Withdraw i w ne n = record { refs = refl; given = refl; locals = refl; objects = refl; used = refl }
-  same_act t s u Shut i w ne n = record { refs = refl; given = refl; locals = refl; objects = refl; used = refl }
+  same_act t s u (Gate a) i w ne n = record { refs = refl; given = refl; locals = refl; objects = refl; used = refl }
   same_act t s u (ShutBusy m) i w ne n = record { refs = refl; given = refl; locals = refl; objects = refl; used = refl }
   same_act t s u Meet i w ne n = record { refs = refl; given = refl; locals = refl; objects = refl; used = refl }
-  same_act t s u Reopen i w ne n = record { refs = refl; given = refl; locals = refl; objects = refl; used = refl }
   same_act t s u (Clear h) i w ne n = absurd (ne (i.alone u t n.0 w))
   same_act t s u (Drop o) i w ne n = absurd (ne (i.alone u t n.0 w))
   same_act t s u (Settle m) i w ne n = absurd (ne (i.alone u t n.0 w))
@@ -171,11 +162,11 @@ mine_did {old} {new} acts d =
     append_cancel (mine old.seen old.thread) (mine d.begins.0 old.thread) acts (sym (mine_append old.seen d.begins.0 old.thread) ∙ (ap (λ l. mine l old.thread) d.begins.1 ∙ d.own))
 
 -- from within, what is present stays until the thread leaves
-pub still_did : {old new : PassView} (acts : List Act) → Did old new acts → role_of old ≡ Within → AllByRecursion (λ a. a ≢ Leave) acts → IsStill (state old.seen) (state new.seen)
+pub still_did : {old new : PassView} (acts : List Act) → Did old new acts → role_of old ≡ Within → AllByRecursion (λ a. a ≢ Gate Leave) acts → IsStill (state old.seen) (state new.seen)
 still_did {old} {new} acts d w q =
     let rest = d.begins.0 in
     let both = (legal_append old.config old.last old.seen rest).0 (subst (IsLegal old.config old.last) (sym d.begins.1) d.legal) in
     let own : mine rest old.thread ≡ acts = mine_did acts d in
     let still = still_along old.config old.last old.thread (state old.seen) rest (apart_state old.config old.last old.seen both.0) w
-    (never Leave rest old.thread (subst (AllByRecursion (λ a. a ≢ Leave)) (sym own) q)) both.1 in
+    (never (Gate Leave) rest old.thread (subst (AllByRecursion (λ a. a ≢ Gate Leave)) (sym own) q)) both.1 in
     subst (IsStill (state old.seen)) (sym (state_append old.seen rest) ∙ ap state d.begins.1) still

@@ -6,7 +6,7 @@ use mathlib.Core.List.{IsPrefix}
 use Rattle.jr_model.specs.declared.event.Role.{Role}
 use Rattle.jr_model.specs.declared.event.Role.TheVariants.{Outside, Within}
 use Rattle.jr_model.specs.declared.event.Act.{Act}
-use Rattle.jr_model.specs.declared.event.Act.TheVariants.{Enter, Knock, Leave, Withdraw, Shut, Reopen}
+use Rattle.jr_model.specs.declared.event.Act.TheVariants.{Gate}
 use Rattle.jr_model.specs.History.{History, by, mine, state, PassView, role_of, role_after, role_from, Did}
 use Rattle.jr_model.specs.Windows.{IsBehind, IsLastSeen, BeginsWith, Begins, EndsWith, Ends, IsWindow, Stepped}
 use Rattle.jr_model.proofs.Histories.{mine_append, mine_push}
@@ -31,9 +31,7 @@ module _ (mid new : PassView) (t : new.thread ≡ mid.thread) (same : role_of mi
   out_still a out l = last_seen mid new a t (still (sym same ∙ out_role mid a out l)) l
 
   end_still : (a : Act) → EndsWith mid a → EndsWith new a
-  end_still Leave l = out_still Leave (λ r. refl) l
-  end_still Withdraw l = out_still Withdraw (λ r. refl) l
-  end_still Reopen l = out_still Reopen (λ r. refl) l
+  end_still (Gate a) l = λ e. out_still (Gate a) (λ r. e) (l e)
   end_still _ l = tt
 
   -- what ends stays ended where nothing more was done
@@ -67,9 +65,7 @@ behind_earlier old mid a moment d b = record {
 
 begins_earlier : (old mid : PassView) (acts : List Act) (moment : History) → Did old mid [] → Begins mid acts moment → Begins old acts moment
 begins_earlier old mid [] moment d b = tt
-begins_earlier old mid (Enter ∷ acts) moment d b = behind_earlier old mid Enter moment d b
-begins_earlier old mid (Knock ∷ acts) moment d b = behind_earlier old mid Knock moment d b
-begins_earlier old mid (Shut ∷ acts) moment d b = behind_earlier old mid Shut moment d b
+begins_earlier old mid (Gate a ∷ acts) moment d b = λ out. behind_earlier old mid (Gate a) moment d (b out)
 begins_earlier old mid (_ ∷ acts) moment d b = tt
 
 -- two windows, one after the other, are one, which begins no later than the second
@@ -108,14 +104,9 @@ window_nothing p = record { from = prefix_self p.seen; to = prefix_self p.seen; 
 pub window_act : {old new : PassView} (a : Act) → Did old new (a ∷ []) → BeginsWith old a old.seen → EndsWith new a → IsWindow old new (a ∷ []) old.seen
 window_act {old} {new} a d b e = record { from = prefix_self old.seen; to = d.begins; first = b; last = e }
 
--- an act that neither goes in nor out at the gate
+-- an act that is none of the gate
 abbrev pub is_within : Act → Bool
-is_within Enter = false
-is_within Knock = false
-is_within Leave = false
-is_within Withdraw = false
-is_within Shut = false
-is_within Reopen = false
+is_within (Gate a) = false
 is_within _ = true
 
 abbrev pub AreWithin : List Act → Type 0
@@ -127,15 +118,11 @@ within_both (x ∷ xs) ys h k = (h.0, within_both xs ys h.1 k)
 
 within_begins : (old : PassView) (acts : List Act) → AreWithin acts → Begins old acts old.seen
 within_begins old [] h = tt
-within_begins old (Enter ∷ acts) h = absurd (let e = h.0 in cc)
-within_begins old (Knock ∷ acts) h = absurd (let e = h.0 in cc)
-within_begins old (Shut ∷ acts) h = absurd (let e = h.0 in cc)
+within_begins old (Gate a ∷ acts) h = absurd (let e = h.0 in cc)
 within_begins old (_ ∷ acts) h = tt
 
 within_end : (new : PassView) (a : Act) → is_within a ≡ true → EndsWith new a
-within_end new Leave e = absurd cc
-within_end new Withdraw e = absurd cc
-within_end new Reopen e = absurd cc
+within_end new (Gate a) e = absurd cc
 within_end new _ e = tt
 
 within_ends_some : (old new : PassView) (x : Act) (xs : List Act) → AreWithin (x ∷ xs) → Ends old new (x ∷ xs)
@@ -147,12 +134,7 @@ within_ends old new [] still h = still
 within_ends old new (x ∷ xs) still h = within_ends_some old new x xs h
 
 within_after : (r : Role) (a : Act) → is_within a ≡ true → role_after r a ≡ r
-within_after r Enter e = absurd cc
-within_after r Knock e = absurd cc
-within_after r Leave e = absurd cc
-within_after r Withdraw e = absurd cc
-within_after r Shut e = absurd cc
-within_after r Reopen e = absurd cc
+within_after r (Gate a) e = absurd cc
 within_after r _ e = refl
 
 within_from : (r : Role) (acts : List Act) → AreWithin acts → role_from r acts ≡ r

@@ -5,7 +5,8 @@ use Rattle.jr_word.specs.declared.handle.RefKind.TheVariants.{Local, Global, Wea
 use Rattle.jr_word.specs.declared.fault.Fault.TheVariants as fault
 use Rattle.jr_word.specs.declared.kind.Kind.TheVariants.{Text}
 use Rattle.jr_model.specs.declared.event.Found.TheVariants.{Cleared}
-use Rattle.jr_model.specs.declared.event.Act.TheVariants.{Enter, Knock, Leave, Withdraw, Look}
+use Rattle.jr_model.specs.declared.event.Act.TheVariants.{Gate, Look}
+use Rattle.jr_model.specs.declared.event.GateAct.TheVariants.{Enter, Knock, Leave, Withdraw}
 use Rattle.jr_model.specs.Maps.{update}
 use Rattle.jr_model.specs.State.{Handle, State, opening}
 use Rattle.jr_model.specs.Frames.{Frames, fresh_frames}
@@ -36,33 +37,33 @@ of_another = record { kind = Local; serial = 0; index = 0; owner = 1 }
 
 -- GetArrayLength where nothing was made: E1 for NULL, E2 for a word that is no handle, for a handle past the row and for one that was never given, E3 for one of another thread. None of them is looked up
 pub record LengthOfNothing : Type 0 where
-  pub null : get_array_length quiet_room last_serial 0 opening Nothing fresh (Enter ∷ Leave ∷ []) (Err fault.Null) fresh
-  pub malformed : get_array_length quiet_room last_serial 0 opening Malformed fresh (Enter ∷ Leave ∷ []) (Err fault.Stale) fresh
-  pub outside : get_array_length quiet_room last_serial 0 opening (Parts past_the_row) fresh (Enter ∷ Leave ∷ []) (Err fault.Stale) fresh
-  pub unknown : get_array_length quiet_room last_serial 0 opening (Parts never_given) fresh (Enter ∷ Leave ∷ []) (Err fault.Stale) fresh
-  pub foreign : get_array_length quiet_room last_serial 0 opening (Parts of_another) fresh (Enter ∷ Leave ∷ []) (Err fault.Foreign) fresh
-  pub barred : get_array_length quiet_room last_serial 0 opening Nothing fresh (Knock ∷ Withdraw ∷ []) (Err fault.Barred) fresh
+  pub null : get_array_length quiet_room last_serial 0 opening Nothing fresh (Gate Enter ∷ Gate Leave ∷ []) (Err fault.Null) fresh
+  pub malformed : get_array_length quiet_room last_serial 0 opening Malformed fresh (Gate Enter ∷ Gate Leave ∷ []) (Err fault.Stale) fresh
+  pub outside : get_array_length quiet_room last_serial 0 opening (Parts past_the_row) fresh (Gate Enter ∷ Gate Leave ∷ []) (Err fault.Stale) fresh
+  pub unknown : get_array_length quiet_room last_serial 0 opening (Parts never_given) fresh (Gate Enter ∷ Gate Leave ∷ []) (Err fault.Stale) fresh
+  pub foreign : get_array_length quiet_room last_serial 0 opening (Parts of_another) fresh (Gate Enter ∷ Gate Leave ∷ []) (Err fault.Foreign) fresh
+  pub barred : get_array_length quiet_room last_serial 0 opening Nothing fresh (Gate Knock ∷ Gate Withdraw ∷ []) (Err fault.Barred) fresh
 
 -- GetObjectRefType of each of them is 0
 pub record TypeOfNothing : Type 0 where
-  pub null : get_object_ref_type quiet_room last_serial 0 Nothing fresh (Enter ∷ Leave ∷ []) (Ok 0) fresh
-  pub malformed : get_object_ref_type quiet_room last_serial 0 Malformed fresh (Enter ∷ Leave ∷ []) (Ok 0) fresh
-  pub outside : get_object_ref_type quiet_room last_serial 0 (Parts past_the_row) fresh (Enter ∷ Leave ∷ []) (Ok 0) fresh
-  pub unknown : get_object_ref_type quiet_room last_serial 0 (Parts never_given) fresh (Enter ∷ Leave ∷ []) (Ok 0) fresh
-  pub foreign : get_object_ref_type quiet_room last_serial 0 (Parts of_another) fresh (Enter ∷ Leave ∷ []) (Ok 0) fresh
+  pub null : get_object_ref_type quiet_room last_serial 0 Nothing fresh (Gate Enter ∷ Gate Leave ∷ []) (Ok 0) fresh
+  pub malformed : get_object_ref_type quiet_room last_serial 0 Malformed fresh (Gate Enter ∷ Gate Leave ∷ []) (Ok 0) fresh
+  pub outside : get_object_ref_type quiet_room last_serial 0 (Parts past_the_row) fresh (Gate Enter ∷ Gate Leave ∷ []) (Ok 0) fresh
+  pub unknown : get_object_ref_type quiet_room last_serial 0 (Parts never_given) fresh (Gate Enter ∷ Gate Leave ∷ []) (Ok 0) fresh
+  pub foreign : get_object_ref_type quiet_room last_serial 0 (Parts of_another) fresh (Gate Enter ∷ Gate Leave ∷ []) (Ok 0) fresh
 
 -- a cleared weak reference has type 3 and no other, is the same as NULL, and a new global reference to it is NULL; DeleteGlobalRef of it is E4 without a look
 pub record CallsOnCleared : Type 0 where
-  pub type : get_object_ref_type quiet_room last_serial 0 (Parts w) fresh (Enter ∷ Look w Cleared ∷ Leave ∷ []) (Ok 3) fresh
-  pub type_only : (n : ℕ) (g : Frames) → get_object_ref_type quiet_room last_serial 0 (Parts w) fresh (Enter ∷ Look w Cleared ∷ Leave ∷ []) (Ok n) g → n ≡ 3
-  pub same : is_same_object quiet_room last_serial 0 (Parts w) Nothing fresh (Enter ∷ Look w Cleared ∷ Leave ∷ []) (Ok true) fresh
-  pub global : new_reference quiet_room last_serial 0 Global (Parts w) fresh (Enter ∷ Look w Cleared ∷ Leave ∷ []) (Ok None) fresh
-  pub other_kind : delete_reference quiet_room last_serial 0 Global (Parts w) fresh (Enter ∷ Leave ∷ []) (Err fault.WrongKind) fresh
+  pub type : get_object_ref_type quiet_room last_serial 0 (Parts w) fresh (Gate Enter ∷ Look w Cleared ∷ Gate Leave ∷ []) (Ok 3) fresh
+  pub type_only : (n : ℕ) (g : Frames) → get_object_ref_type quiet_room last_serial 0 (Parts w) fresh (Gate Enter ∷ Look w Cleared ∷ Gate Leave ∷ []) (Ok n) g → n ≡ 3
+  pub same : is_same_object quiet_room last_serial 0 (Parts w) Nothing fresh (Gate Enter ∷ Look w Cleared ∷ Gate Leave ∷ []) (Ok true) fresh
+  pub global : new_reference quiet_room last_serial 0 Global (Parts w) fresh (Gate Enter ∷ Look w Cleared ∷ Gate Leave ∷ []) (Ok None) fresh
+  pub other_kind : delete_reference quiet_room last_serial 0 Global (Parts w) fresh (Gate Enter ∷ Gate Leave ∷ []) (Err fault.WrongKind) fresh
 
 -- deleting NULL does nothing, and the base frame can't be popped
 pub record CallsOnNull : Type 0 where
-  pub delete : delete_reference quiet_room last_serial 0 Weak Nothing fresh (Enter ∷ Leave ∷ []) (Ok tt) fresh
-  pub pop : pop_local_frame quiet_room last_serial 0 Nothing fresh (Enter ∷ Leave ∷ []) (Err fault.NoFrame) fresh
+  pub delete : delete_reference quiet_room last_serial 0 Weak Nothing fresh (Gate Enter ∷ Gate Leave ∷ []) (Ok tt) fresh
+  pub pop : pop_local_frame quiet_room last_serial 0 Nothing fresh (Gate Enter ∷ Gate Leave ∷ []) (Err fault.NoFrame) fresh
 
 -- a string of two units, and its local reference
 abbrev pub with_text : State

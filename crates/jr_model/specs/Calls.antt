@@ -4,7 +4,8 @@ use Rattle.jr_word.specs.declared.kind.Kind.{Kind}
 use Rattle.jr_word.specs.declared.fault.Fault.{Fault}
 use Rattle.jr_word.specs.declared.fault.Fault.TheVariants.{Barred, Memory}
 use Rattle.jr_model.specs.declared.event.Act.{Act}
-use Rattle.jr_model.specs.declared.event.Act.TheVariants.{Enter, Knock, Leave, Withdraw}
+use Rattle.jr_model.specs.declared.event.Act.TheVariants.{Gate}
+use Rattle.jr_model.specs.declared.event.GateAct.TheVariants.{Enter, Knock, Leave, Withdraw}
 use Rattle.jr_model.specs.State.{Contents, State}
 use Rattle.jr_model.specs.History.{History, PassView, Did}
 use Rattle.jr_model.specs.Frames.{Frames}
@@ -68,14 +69,14 @@ for_object {A} s o next old acts answer new = (x : Contents) × (s.objects o ≡
 -- the work in a stay of its own, or the gate is shut
 abbrev pub entered : {A : Type 0} → Call A → Call A
 entered work old acts answer new =
-    ((acts ≡ Knock ∷ Withdraw ∷ []) × (answer ≡ Err Barred) × (new ≡ old))
-    ⊎ ((inside : List Act) × (acts ≡ Enter ∷ inside ++ Leave ∷ []) × work old inside answer new)
+    ((acts ≡ Gate Knock ∷ Gate Withdraw ∷ []) × (answer ≡ Err Barred) × (new ≡ old))
+    ⊎ ((inside : List Act) × (acts ≡ Gate Enter ∷ inside ++ Gate Leave ∷ []) × work old inside answer new)
 
 -- the same, but the stay goes on where the work is not refused
 abbrev pub opened : {A : Type 0} → Call A → Call A
 opened work old acts answer new =
-    ((acts ≡ Knock ∷ Withdraw ∷ []) × (answer ≡ Err Barred) × (new ≡ old))
-    ⊎ ((inside : List Act) × MatchResult answer (λ x. (acts ≡ Enter ∷ inside) × work old inside answer new) (λ e. (acts ≡ Enter ∷ inside ++ Leave ∷ []) × work old inside answer new))
+    ((acts ≡ Gate Knock ∷ Gate Withdraw ∷ []) × (answer ≡ Err Barred) × (new ≡ old))
+    ⊎ ((inside : List Act) × MatchResult answer (λ x. (acts ≡ Gate Enter ∷ inside) × work old inside answer new) (λ e. (acts ≡ Gate Enter ∷ inside ++ Gate Leave ∷ []) × work old inside answer new))
 
 -- A CALL THAT WAS MADE: between two moments of a pass and its frames the thread did what the call does, with this answer. The call has its window, and a refusal that speaks of the room has its grounds there
 pub record Ran {A : Type 0} (old new : PassView) (before after : Frames) (call : Call A) (answer : Result A Fault) : Type 0 where

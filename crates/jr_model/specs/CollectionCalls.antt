@@ -6,7 +6,8 @@ use Rattle.jr_word.specs.declared.config.Config.{Config}
 use Rattle.jr_word.specs.declared.handle.RefKind.TheVariants.{Weak}
 use Rattle.jr_model.specs.declared.event.Found.TheVariants.{Object}
 use Rattle.jr_model.specs.declared.event.Act.{Act}
-use Rattle.jr_model.specs.declared.event.Act.TheVariants.{Shut, Clear, Drop, Settle, Reopen}
+use Rattle.jr_model.specs.declared.event.Act.TheVariants.{Gate, Clear, Drop, Settle}
+use Rattle.jr_model.specs.declared.event.GateAct.TheVariants.{Shut, Reopen}
 use Rattle.jr_model.specs.State.{Handle, same_handle, Contents, State, IsPresent, IsReached, present_words}
 use Rattle.jr_model.specs.History.{History, by, state, mine, PassView, Did}
 
@@ -43,7 +44,7 @@ sweeping_acts cleared dropped used = map Clear cleared ++ map Drop dropped ++ Se
 
 -- all that it does
 abbrev pub collection_acts : List Handle → List ℕ → ℕ → List Act
-collection_acts cleared dropped used = Shut ∷ sweeping_acts cleared dropped used ++ Reopen ∷ []
+collection_acts cleared dropped used = Gate Shut ∷ sweeping_acts cleared dropped used ++ Gate Reopen ∷ []
 
 -- where a collection lies in what a pass has seen since a moment
 pub record CollectionIn (old new : PassView) (cleared : List Handle) (dropped : List ℕ) (used : ℕ) : Type 0 where
@@ -51,7 +52,7 @@ pub record CollectionIn (old new : PassView) (cleared : List Handle) (dropped : 
   pub inside : History
   pub rest : History
   pub from : IsPrefix old.seen before
-  pub parts : new.seen ≡ before ++ by old.thread Shut ∷ inside ++ by old.thread Reopen ∷ rest
+  pub parts : new.seen ≡ before ++ by old.thread (Gate Shut) ∷ inside ++ by old.thread (Gate Reopen) ∷ rest
   pub own : mine inside old.thread ≡ sweeping_acts cleared dropped used
 
 -- A COLLECTION between two moments: the thread did nothing else, and left nothing out of the state at its shut

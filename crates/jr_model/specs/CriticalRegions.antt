@@ -6,7 +6,8 @@ use Rattle.jr_word.specs.declared.config.Config.{Config}
 use Rattle.jr_word.specs.declared.kind.Kind.{Kind}
 use Rattle.jr_word.specs.declared.fault.Fault.{Fault}
 use Rattle.jr_model.specs.declared.event.Act.{Act}
-use Rattle.jr_model.specs.declared.event.Act.TheVariants.{Leave}
+use Rattle.jr_model.specs.declared.event.Act.TheVariants.{Gate}
+use Rattle.jr_model.specs.declared.event.GateAct.TheVariants.{Leave}
 use Rattle.jr_model.specs.State.{State}
 use Rattle.jr_model.specs.Frames.{Frames}
 use Rattle.jr_model.specs.History.{History, PassView, Did, IsStay, by, is_collection_step, mine}
@@ -45,4 +46,4 @@ NoCollectionInRegion = (old mid : PassView) (f g : Frames) → IsRegion old f mi
 
 -- none comes up to the release of its first level, which ends the stay
 abbrev pub NoCollectionUpToRelease : Type 0
-NoCollectionUpToRelease = (old mid new : PassView) (f g h : Frames) → IsRegion old f mid g → Ran mid new g h (region_release 1) (Ok tt) → IsOneStay old new (by old.thread Leave ∷ [])
+NoCollectionUpToRelease = (old mid new : PassView) (f g h : Frames) → IsRegion old f mid g → Ran mid new g h (region_release 1) (Ok tt) → IsOneStay old new (by old.thread (Gate Leave) ∷ [])

@@ -4,7 +4,8 @@ use Rattle.jr_word.specs.declared.config.Config.{Config}
 use Rattle.jr_word.specs.declared.handle.RefKind.TheVariants.{Global, Weak}
 use Rattle.jr_word.specs.declared.kind.Kind.TheVariants.{Plain, Int}
 use Rattle.jr_model.specs.declared.event.Found.TheVariants.{Object, Cleared, Stale}
-use Rattle.jr_model.specs.declared.event.Act.TheVariants.{Enter, Knock, Leave, Withdraw, Shut, ShutBusy, Reopen, Create, Look, Probe, Delete, Clear, LocalPut, LocalDrop, Reserve, ReserveFull, ReserveLost, New, Read, Write, Drop, Settle, Meet}
+use Rattle.jr_model.specs.declared.event.Act.TheVariants.{Gate, ShutBusy, Create, Look, Probe, Delete, Clear, LocalPut, LocalDrop, Reserve, ReserveFull, ReserveLost, New, Read, Write, Drop, Settle, Meet}
+use Rattle.jr_model.specs.declared.event.GateAct.TheVariants.{Enter, Knock, Leave, Withdraw, Shut, Reopen}
 use Rattle.jr_model.specs.declared.summary.Summary.{Summary}
 use Rattle.jr_model.specs.State.{Handle, summary}
 use Rattle.jr_model.specs.History.{History, by, state, IsLegal}
@@ -26,22 +27,22 @@ abbrev pub g : Handle
 g = record { kind = Global; serial = 0; index = 0; owner = 0 }
 
 abbrev pub plain_p : History
-plain_p = by 0 Enter ∷ by 0 (New 1 Plain []) ∷ by 0 (LocalPut 0 1) ∷ by 0 Leave ∷ []
+plain_p = by 0 (Gate Enter) ∷ by 0 (New 1 Plain []) ∷ by 0 (LocalPut 0 1) ∷ by 0 (Gate Leave) ∷ []
 
 abbrev pub global_g : History
-global_g = by 0 Enter ∷ by 0 (Probe 0 false) ∷ by 0 (Create g 1) ∷ by 0 Leave ∷ []
+global_g = by 0 (Gate Enter) ∷ by 0 (Probe 0 false) ∷ by 0 (Create g 1) ∷ by 0 (Gate Leave) ∷ []
 
 abbrev pub type_g : History
-type_g = by 0 Enter ∷ by 0 (Look g (Object 1)) ∷ by 0 Leave ∷ []
+type_g = by 0 (Gate Enter) ∷ by 0 (Look g (Object 1)) ∷ by 0 (Gate Leave) ∷ []
 
 abbrev pub drop_g : History
-drop_g = by 0 Enter ∷ by 0 (Look g (Object 1)) ∷ by 0 (Delete g) ∷ by 0 Leave ∷ []
+drop_g = by 0 (Gate Enter) ∷ by 0 (Look g (Object 1)) ∷ by 0 (Delete g) ∷ by 0 (Gate Leave) ∷ []
 
 abbrev pub type_g_again : History
-type_g_again = by 0 Enter ∷ by 0 (Look g Stale) ∷ by 0 Leave ∷ []
+type_g_again = by 0 (Gate Enter) ∷ by 0 (Look g Stale) ∷ by 0 (Gate Leave) ∷ []
 
 abbrev pub free_p : History
-free_p = by 0 Enter ∷ by 0 (LocalDrop 0) ∷ by 0 Leave ∷ []
+free_p = by 0 (Gate Enter) ∷ by 0 (LocalDrop 0) ∷ by 0 (Gate Leave) ∷ []
 
 -- an object and a global reference to it, which is found, dropped and then stale; at the end the object is left
 abbrev pub DropIsLegal : Type 0
@@ -50,11 +51,11 @@ DropIsLegal = let es = plain_p ++ global_g ++ type_g ++ drop_g ++ type_g_again +
 
 -- a look that finds the dropped reference is not legal
 abbrev pub FindingDroppedIsIllegal : Type 0
-FindingDroppedIsIllegal = (t o : ℕ) → ¬ (IsLegal one_thread last_serial (plain_p ++ global_g ++ drop_g ++ by 0 Enter ∷ by t (Look g (Object o)) ∷ []))
+FindingDroppedIsIllegal = (t o : ℕ) → ¬ (IsLegal one_thread last_serial (plain_p ++ global_g ++ drop_g ++ by 0 (Gate Enter) ∷ by t (Look g (Object o)) ∷ []))
 
 -- a creation at an index where a reference stands is not legal
 abbrev pub CreatingBesideIsIllegal : Type 0
-CreatingBesideIsIllegal = (t o : ℕ) (h : Handle) → h.index ≡ 0 → ¬ (IsLegal one_thread last_serial (plain_p ++ global_g ++ by 0 Enter ∷ by t (Create h o) ∷ []))
+CreatingBesideIsIllegal = (t o : ℕ) (h : Handle) → h.index ≡ 0 → ¬ (IsLegal one_thread last_serial (plain_p ++ global_g ++ by 0 (Gate Enter) ∷ by t (Create h o) ∷ []))
 
 -- TWO THREADS AT THE GATE
 
@@ -64,21 +65,21 @@ two_threads = record { threads = 2; slots = 4; objects = 8; words = 8; locals = 
 -- thread 1 can't shut the gate while thread 0 is inside; then it shuts it, and thread 0 can neither enter nor shut it; a room that is closed meanwhile would have one thread inside; then the gate is opened, and the room is empty
 abbrev pub GateIsLegal : Type 0
 GateIsLegal =
-    let shut = by 0 Enter ∷ by 1 (ShutBusy 1) ∷ by 0 Leave ∷ by 1 Shut ∷ by 0 Knock ∷ by 0 Withdraw ∷ by 0 (ShutBusy 1) ∷ by 0 Meet ∷ [] in
-    let es = shut ++ by 1 Reopen ∷ by 0 Meet ∷ [] in
+    let shut = by 0 (Gate Enter) ∷ by 1 (ShutBusy 1) ∷ by 0 (Gate Leave) ∷ by 1 (Gate Shut) ∷ by 0 (Gate Knock) ∷ by 0 (Gate Withdraw) ∷ by 0 (ShutBusy 1) ∷ by 0 Meet ∷ [] in
+    let es = shut ++ by 1 (Gate Reopen) ∷ by 0 Meet ∷ [] in
     IsLegal two_threads last_serial es × (summary two_threads last_serial (state es) ≡ counts 0 0 0 0)
 
 -- a refused shut that counts another number than that of the threads inside is not legal
 abbrev pub WrongCountIsIllegal : Type 0
-WrongCountIsIllegal = (n : ℕ) → n ≢ 1 → ¬ (IsLegal two_threads last_serial (by 0 Enter ∷ by 1 (ShutBusy n) ∷ []))
+WrongCountIsIllegal = (n : ℕ) → n ≢ 1 → ¬ (IsLegal two_threads last_serial (by 0 (Gate Enter) ∷ by 1 (ShutBusy n) ∷ []))
 
 -- a shut while a thread is inside is not legal
 abbrev pub ShuttingOverIsIllegal : Type 0
-ShuttingOverIsIllegal = ¬ (IsLegal two_threads last_serial (by 0 Enter ∷ by 1 Shut ∷ []))
+ShuttingOverIsIllegal = ¬ (IsLegal two_threads last_serial (by 0 (Gate Enter) ∷ by 1 (Gate Shut) ∷ []))
 
 -- an entry while a thread collects is not legal
 abbrev pub EnteringBesideIsIllegal : Type 0
-EnteringBesideIsIllegal = ¬ (IsLegal two_threads last_serial (by 1 Shut ∷ by 0 Enter ∷ []))
+EnteringBesideIsIllegal = ¬ (IsLegal two_threads last_serial (by 1 (Gate Shut) ∷ by 0 (Gate Enter) ∷ []))
 
 -- A SLOT GIVES EACH SERIAL ONCE
 
@@ -94,7 +95,7 @@ create_and_delete n = by 0 (Create (serial n) 1) ∷ by 0 (Delete (serial n)) �
 
 -- with 2 as the last serial, a reference is created and deleted three times
 abbrev pub thrice : History
-thrice = by 0 Enter ∷ by 0 (New 1 Plain []) ∷ create_and_delete 0 ++ create_and_delete 1 ++ create_and_delete 2
+thrice = by 0 (Gate Enter) ∷ by 0 (New 1 Plain []) ∷ create_and_delete 0 ++ create_and_delete 1 ++ create_and_delete 2
 
 -- this is legal, and then a probe finds the slot occupied
 abbrev pub ThriceIsLegal : Type 0
@@ -109,17 +110,17 @@ FourthIsIllegal = (t o : ℕ) (h : Handle) → ¬ (IsLegal one_slot 2 (thrice ++
 -- an array of three ints is made and written; six words more find no room beside the three; two words more do, and thread 1, which looked before, loses its reservation
 abbrev pub SpaceIsLegal : Type 0
 SpaceIsLegal =
-    let made = by 0 Enter ∷ by 1 Enter ∷ by 0 (Reserve 3) ∷ by 0 (New 1 Int (0 ∷ 0 ∷ 0 ∷ [])) ∷ by 0 (Write 1 2 7) ∷ by 0 (Read 1 2 7) ∷ [] in
-    let es = made ++ by 0 (ReserveFull 6 3) ∷ by 0 (Reserve 2) ∷ by 1 (ReserveLost 1 3 5) ∷ by 0 (New 2 Plain []) ∷ by 0 Leave ∷ by 1 Leave ∷ [] in
+    let made = by 0 (Gate Enter) ∷ by 1 (Gate Enter) ∷ by 0 (Reserve 3) ∷ by 0 (New 1 Int (0 ∷ 0 ∷ 0 ∷ [])) ∷ by 0 (Write 1 2 7) ∷ by 0 (Read 1 2 7) ∷ [] in
+    let es = made ++ by 0 (ReserveFull 6 3) ∷ by 0 (Reserve 2) ∷ by 1 (ReserveLost 1 3 5) ∷ by 0 (New 2 Plain []) ∷ by 0 (Gate Leave) ∷ by 1 (Gate Leave) ∷ [] in
     IsLegal two_threads last_serial es × (summary two_threads last_serial (state es) ≡ counts 0 0 2 5)
 
 -- a read of another word than the written one is not legal
 abbrev pub ReadingAnotherIsIllegal : Type 0
-ReadingAnotherIsIllegal = (t v : ℕ) → v ≢ 7 → ¬ (IsLegal two_threads last_serial (by 0 Enter ∷ by 0 (Reserve 1) ∷ by 0 (New 1 Int (0 ∷ [])) ∷ by 0 (Write 1 0 7) ∷ by t (Read 1 0 v) ∷ []))
+ReadingAnotherIsIllegal = (t v : ℕ) → v ≢ 7 → ¬ (IsLegal two_threads last_serial (by 0 (Gate Enter) ∷ by 0 (Reserve 1) ∷ by 0 (New 1 Int (0 ∷ [])) ∷ by 0 (Write 1 0 7) ∷ by t (Read 1 0 v) ∷ []))
 
 -- an array for which no space was reserved is not legal
 abbrev pub MakingBeyondIsIllegal : Type 0
-MakingBeyondIsIllegal = (t : ℕ) → ¬ (IsLegal two_threads last_serial (by 0 Enter ∷ by 0 (Reserve 1) ∷ by t (New 1 Int (0 ∷ 0 ∷ [])) ∷ []))
+MakingBeyondIsIllegal = (t : ℕ) → ¬ (IsLegal two_threads last_serial (by 0 (Gate Enter) ∷ by 0 (Reserve 1) ∷ by t (New 1 Int (0 ∷ 0 ∷ [])) ∷ []))
 
 -- A COLLECTION
 
@@ -131,15 +132,15 @@ w = record { kind = Weak; serial = 0; index = 0; owner = 0 }
 
 -- thread 0 makes an array, with a local and a weak reference to it
 abbrev pub array_made : History
-array_made = by 0 Enter ∷ by 0 (Reserve 1) ∷ by 0 (New 1 Int (7 ∷ [])) ∷ by 0 (LocalPut 0 1) ∷ by 0 (Probe 0 false) ∷ by 0 (Create w 1) ∷ by 0 Leave ∷ []
+array_made = by 0 (Gate Enter) ∷ by 0 (Reserve 1) ∷ by 0 (New 1 Int (7 ∷ [])) ∷ by 0 (LocalPut 0 1) ∷ by 0 (Probe 0 false) ∷ by 0 (Create w 1) ∷ by 0 (Gate Leave) ∷ []
 
 -- thread 1 goes in and writes, and meanwhile thread 0 can't collect; then thread 0 drops its local reference
 abbrev pub array_used : History
-array_used = by 1 Enter ∷ by 0 (ShutBusy 1) ∷ by 1 (Look w (Object 1)) ∷ by 1 (Write 1 0 9) ∷ by 1 (Read 1 0 9) ∷ by 1 Leave ∷ by 0 Enter ∷ by 0 (LocalDrop 0) ∷ by 0 Leave ∷ []
+array_used = by 1 (Gate Enter) ∷ by 0 (ShutBusy 1) ∷ by 1 (Look w (Object 1)) ∷ by 1 (Write 1 0 9) ∷ by 1 (Read 1 0 9) ∷ by 1 (Gate Leave) ∷ by 0 (Gate Enter) ∷ by 0 (LocalDrop 0) ∷ by 0 (Gate Leave) ∷ []
 
 -- thread 0 collects, while thread 1 finds the gate shut; then thread 1 finds its reference cleared, and deletes it
 abbrev pub array_collected : History
-array_collected = by 0 Shut ∷ by 1 Knock ∷ by 0 (Clear w) ∷ by 0 (Drop 1) ∷ by 1 Withdraw ∷ by 0 (Settle 0) ∷ by 0 Reopen ∷ by 1 Enter ∷ by 1 (Look w Cleared) ∷ by 1 (Delete w) ∷ by 1 (Look w Stale) ∷ by 1 Leave ∷ []
+array_collected = by 0 (Gate Shut) ∷ by 1 (Gate Knock) ∷ by 0 (Clear w) ∷ by 0 (Drop 1) ∷ by 1 (Gate Withdraw) ∷ by 0 (Settle 0) ∷ by 0 (Gate Reopen) ∷ by 1 (Gate Enter) ∷ by 1 (Look w Cleared) ∷ by 1 (Delete w) ∷ by 1 (Look w Stale) ∷ by 1 (Gate Leave) ∷ []
 
 -- all of this is legal
 abbrev pub CollectionIsLegal : Type 0
@@ -148,5 +149,5 @@ CollectionIsLegal = IsLegal one_object 2 (array_made ++ array_used ++ array_coll
 -- to drop an object that a local reference reaches is not legal, and no more to clear a weak reference to it
 abbrev pub CollectingReachedIsIllegal : Type 0
 CollectingReachedIsIllegal =
-    ¬ (IsLegal one_object 2 (array_made ++ by 0 Shut ∷ by 0 (Drop 1) ∷ []))
-    × ¬ (IsLegal one_object 2 (array_made ++ by 0 Shut ∷ by 0 (Clear w) ∷ []))
+    ¬ (IsLegal one_object 2 (array_made ++ by 0 (Gate Shut) ∷ by 0 (Drop 1) ∷ []))
+    × ¬ (IsLegal one_object 2 (array_made ++ by 0 (Gate Shut) ∷ by 0 (Clear w) ∷ []))

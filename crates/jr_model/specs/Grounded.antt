@@ -6,11 +6,13 @@ use Rattle.jr_word.specs.declared.handle.RefKind.{RefKind}
 use Rattle.jr_word.specs.declared.kind.Kind.{Kind}
 use Rattle.jr_word.specs.declared.fault.Fault.{Fault}
 use Rattle.jr_word.specs.declared.fault.Fault.TheVariants.{RowFull, SpaceFull, Barred, Busy}
+use Rattle.jr_model.specs.declared.event.Role.TheVariants.{Outside}
 use Rattle.jr_model.specs.declared.event.Act.{Act}
-use Rattle.jr_model.specs.declared.event.Act.TheVariants.{Enter, Knock, Leave, Withdraw, ShutBusy, Probe, ReserveFull}
+use Rattle.jr_model.specs.declared.event.Act.TheVariants.{Gate, ShutBusy, Probe, ReserveFull}
+use Rattle.jr_model.specs.declared.event.GateAct.TheVariants.{Enter, Knock, Leave, Withdraw}
 use Rattle.jr_model.specs.declared.frames.Mode.{Mode}
 use Rattle.jr_model.specs.declared.frames.Mode.TheVariants.{Abort}
-use Rattle.jr_model.specs.State.{State, SomebodyCollects, not_outside, IsOccupied}
+use Rattle.jr_model.specs.State.{State, SomebodyCloses, AreOthers, not_outside, IsOccupied}
 use Rattle.jr_model.specs.History.{History, by, state, PassView}
 use Rattle.jr_model.specs.Frames.{Frames}
 use Rattle.jr_model.specs.Windows.{IsBehind, IsLastSeen}
@@ -30,14 +32,14 @@ pub record TookWhere (P : State → Type 0) (old new : PassView) (a : Act) : Typ
   pub from : IsPrefix old.seen before
   pub met : P (state before)
 
--- an entry that was barred: somebody collected when it knocked
-abbrev pub BarredByCollector : Type 0
-BarredByCollector = (old new : PassView) (f g : Frames) → Ran old new f g enter (Err Barred) → TookWhere SomebodyCollects old new Knock
+-- an entry that was barred: somebody collected when it knocked, or had announced that it would
+abbrev pub BarredByCloser : Type 0
+BarredByCloser = (old new : PassView) (f g : Frames) → Ran old new f g enter (Err Barred) → TookWhere SomebodyCloses old new (Gate Knock)
 
--- a shut that was busy: so many threads were not outside at that very act, and that is one at least
+-- a shut that was busy: so many other threads were not outside at that very act, and that is one at least; where its own thread was outside, that is all who were not
 abbrev pub BusyIsCounted : Type 0
 BusyIsCounted = (old new : PassView) (f g : Frames) (n : ℕ) → Ran old new f g shut (Err (Busy n))
-    → TookWhere (λ s. (n ≡ not_outside old.config s) × (1 ≤ n)) old new (ShutBusy n)
+    → TookWhere (λ s. AreOthers old.config s old.thread n × (s.role old.thread ≡ Outside → n ≡ not_outside old.config s) × (1 ≤ n)) old new (ShutBusy n)
 
 -- a reservation for which there was no space: so many words were used when it looked, and its own did not fit beside them
 abbrev pub SpaceWasFull : Type 0
@@ -54,7 +56,7 @@ FreeIndexIsFound = (old new : PassView) (f g : Frames) (k : RefKind) (o i : ℕ)
 -- the call is its stay: it begins right behind its own Enter, or its own Knock where it is barred, and ends with its own Leave or Withdraw
 abbrev pub IsItsStay : {A : Type 0} → PassView → PassView → Call A → Type 0
 IsItsStay {A} old new call = (f g : Frames) (answer : Result A Fault) (r : Ran old new f g call answer)
-    → ((answer ≡ Err Barred) × IsBehind old Knock r.begun × IsLastSeen new Withdraw) ⊎ (IsBehind old Enter r.begun × IsLastSeen new Leave)
+    → ((answer ≡ Err Barred) × IsBehind old (Gate Knock) r.begun × IsLastSeen new (Gate Withdraw)) ⊎ (IsBehind old (Gate Enter) r.begun × IsLastSeen new (Gate Leave))
 
 -- each call that has a stay of its own: those at references, those that make an object, those that look into one or write to it, and copies of all elements out or back
 pub record CallsAreTheirStays (c : Config) (last thread : ℕ) (old new : PassView) : Type 0 where
@@ -89,4 +91,4 @@ EachIsProbed = (old new : PassView) (f g : Frames) (k : RefKind) (a : Word) (r :
 -- a new reference is refused for want of an index within its own stay alone: behind its own entry it probed each index, and before its own exit the index was occupied
 abbrev pub RefusedInItsStay : Type 0
 RefusedInItsStay = (old new : PassView) (f g : Frames) (k : RefKind) (a : Word) → Ran old new f g (new_reference old.config old.last old.thread k a) (Err RowFull)
-    → (entered : History) × IsBehind old Enter entered × IsLastSeen new Leave × RowWasFull entered new
+    → (entered : History) × IsBehind old (Gate Enter) entered × IsLastSeen new (Gate Leave) × RowWasFull entered new

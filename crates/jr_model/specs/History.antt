@@ -8,9 +8,10 @@ use Rattle.jr_model.specs.declared.event.Role.{Role}
 use Rattle.jr_model.specs.declared.event.Role.TheVariants.{Outside, Within, Knocking, Collecting}
 use Rattle.jr_model.specs.declared.event.Event.{Event}
 use Rattle.jr_model.specs.declared.event.Act.{Act}
-use Rattle.jr_model.specs.declared.event.Act.TheVariants.{Enter, Knock, Leave, Withdraw, Shut, ShutBusy, Reopen, Clear, New, Write, Drop, Settle, Meet}
+use Rattle.jr_model.specs.declared.event.Act.TheVariants.{Gate, ShutBusy, Clear, New, Write, Drop, Settle, Meet}
+use Rattle.jr_model.specs.declared.event.GateAct.TheVariants.{Enter, Knock, Leave, Withdraw, Shut, Reopen}
 use Rattle.jr_model.specs.State.{State, opening}
-use Rattle.jr_model.specs.Steps.{Needs, after}
+use Rattle.jr_model.specs.Steps.{Needs, role_behind, after}
 
 -- a history: the events of all threads, in the order in which they happened
 abbrev pub History : Type 0
@@ -45,17 +46,17 @@ mine (e ∷ es) t = cond (e.thread == t) (e.act ∷ mine es t) (mine es t)
 
 -- the steps of a collection
 abbrev pub is_collection_step : Act → Bool
-is_collection_step Shut = true
+is_collection_step (Gate Shut) = true
 is_collection_step (Clear h) = true
 is_collection_step (Drop o) = true
 is_collection_step (Settle u) = true
-is_collection_step Reopen = true
+is_collection_step (Gate Reopen) = true
 is_collection_step _ = false
 
 -- what another thread may do during a collection
 abbrev pub is_waiting : Act → Bool
-is_waiting Knock = true
-is_waiting Withdraw = true
+is_waiting (Gate Knock) = true
+is_waiting (Gate Withdraw) = true
 is_waiting (ShutBusy n) = true
 is_waiting Meet = true
 is_waiting _ = false
@@ -67,15 +68,15 @@ EndsAt e (f ∷ es) = f ≡ e
 
 -- a stay of t inside the gate: from an Enter of t to its next Leave, or to the end of the history
 pub record IsStay (t : ℕ) (whole : History) (before inside rest : History) : Type 0 where
-  pub parts : whole ≡ before ++ by t Enter ∷ inside ++ rest
-  pub stays : AllByRecursion (λ e. e ≢ by t Leave) inside
-  pub ends : EndsAt (by t Leave) rest
+  pub parts : whole ≡ before ++ by t (Gate Enter) ∷ inside ++ rest
+  pub stays : AllByRecursion (λ e. e ≢ by t (Gate Leave)) inside
+  pub ends : EndsAt (by t (Gate Leave)) rest
 
 -- a collection of t: from a Shut of t to its next Reopen, or to the end of the history
 pub record IsCollection (t : ℕ) (whole : History) (before inside rest : History) : Type 0 where
-  pub parts : whole ≡ before ++ by t Shut ∷ inside ++ rest
-  pub stays : AllByRecursion (λ e. e ≢ by t Reopen) inside
-  pub ends : EndsAt (by t Reopen) rest
+  pub parts : whole ≡ before ++ by t (Gate Shut) ∷ inside ++ rest
+  pub stays : AllByRecursion (λ e. e ≢ by t (Gate Reopen)) inside
+  pub ends : EndsAt (by t (Gate Reopen)) rest
 
 -- the act makes the object
 abbrev pub makes_object : ℕ → Act → Bool
@@ -98,12 +99,7 @@ pub data IsLastWord (o i v : ℕ) (es : History) : Type 0 where
 
 -- a thread's role after an act of its own
 abbrev pub role_after : Role → Act → Role
-role_after r Enter = Within
-role_after r Knock = Knocking
-role_after r Leave = Outside
-role_after r Withdraw = Outside
-role_after r Shut = Collecting
-role_after r Reopen = Outside
+role_after r (Gate a) = role_behind a
 role_after r _ = r
 
 -- a thread's role after acts of its own

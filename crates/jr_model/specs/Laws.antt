@@ -5,7 +5,8 @@ use Rattle.jr_word.specs.declared.config.Config.{Config}
 use Rattle.jr_word.specs.declared.kind.Kind.TheVariants.{Plain, Objects}
 use Rattle.jr_model.specs.declared.event.Found.TheVariants.{Object, Cleared, Stale}
 use Rattle.jr_model.specs.declared.event.Found.{Found}
-use Rattle.jr_model.specs.declared.event.Act.TheVariants.{Create, Look, Delete, Read, Shut, Reopen}
+use Rattle.jr_model.specs.declared.event.Act.TheVariants.{Gate, Create, Look, Delete, Read}
+use Rattle.jr_model.specs.declared.event.GateAct.TheVariants.{Shut, Reopen}
 use Rattle.jr_model.specs.declared.event.Event.{Event}
 use Rattle.jr_model.specs.declared.frames.Mode.{Mode}
 use Rattle.jr_model.specs.Steps.{Step}
@@ -126,9 +127,9 @@ HandleIsAtPlace = (f : Frames) (h : Handle) (o : ℕ) → AreSound f → object_
 -- a collection that leaves nothing out clears and drops exactly what is to be, each once, and keeps what is reached
 abbrev pub CollectionIsExact : Config → ℕ → Type 0
 CollectionIsExact c last = (t : ℕ) (before inside rest : History) (cleared : List Handle) (dropped : List ℕ) (used : ℕ)
-    → IsLegal c last (before ++ by t Shut ∷ inside ++ by t Reopen ∷ rest)
+    → IsLegal c last (before ++ by t (Gate Shut) ∷ inside ++ by t (Gate Reopen) ∷ rest)
     → mine inside t ≡ sweeping_acts cleared dropped used → IsWhole (state before) cleared dropped
-    → IsExact (state before) cleared dropped × KeepsReached c (state before) (state (before ++ by t Shut ∷ inside)) used
+    → IsExact (state before) cleared dropped × KeepsReached c (state before) (state (before ++ by t (Gate Shut) ∷ inside)) used
 
 -- where nobody writes in between, the acts of a release leave the array that the mode says
 abbrev pub ReleaseLeaves : Type 0

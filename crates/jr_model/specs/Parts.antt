@@ -8,7 +8,8 @@ use Rattle.jr_word.specs.declared.fault.Fault.TheVariants as fault
 use Rattle.jr_model.specs.declared.event.Found.{Found}
 use Rattle.jr_model.specs.declared.event.Found.TheVariants.{Object, Cleared, Stale}
 use Rattle.jr_model.specs.declared.event.Act.{Act}
-use Rattle.jr_model.specs.declared.event.Act.TheVariants.{Enter, Knock, Leave, Withdraw, Shut, ShutBusy, Reopen, Create, Look, Probe, Delete, DeleteStale, LocalDrop, Reserve, ReserveFull, ReserveLost, New, Read, Write, Meet}
+use Rattle.jr_model.specs.declared.event.Act.TheVariants.{Gate, ShutBusy, Create, Look, Probe, Delete, DeleteStale, LocalDrop, Reserve, ReserveFull, ReserveLost, New, Read, Write, Meet}
+use Rattle.jr_model.specs.declared.event.GateAct.TheVariants.{Enter, Knock, Leave, Withdraw, Shut, Reopen}
 use Rattle.jr_model.specs.declared.frames.TheConstants.{FRAMES}
 use Rattle.jr_model.specs.State.{Handle, State}
 use Rattle.jr_model.specs.Frames.{object_of, pushed, popped, without_local, last_frame, drop_all}
@@ -20,24 +21,24 @@ use Rattle.jr_model.specs.Checks.{Word, Parts, is_local, is_plain, is_text, is_v
 
 -- into the gate, or a knock that is withdrawn
 abbrev pub enter : Call (Unit {0})
-enter = one_of (act Enter) (do
-  act Knock
-  act Withdraw
+enter = one_of (act (Gate Enter)) (do
+  act (Gate Knock)
+  act (Gate Withdraw)
   refuse Barred)
 
 -- out of the gate
 abbrev pub leave : Call (Unit {0})
-leave = act Leave
+leave = act (Gate Leave)
 
 -- the gate is shut, or so many threads are not outside
 abbrev pub shut : Call (Unit {0})
-shut = one_of (act Shut) (do
+shut = one_of (act (Gate Shut)) (do
   n ← some_act ShutBusy
   refuse (Busy n))
 
 -- the gate is opened after a collection
 abbrev pub reopen : Call (Unit {0})
-reopen = act Reopen
+reopen = act (Gate Reopen)
 
 -- THE SLOTS
 

@@ -7,7 +7,8 @@ use Rattle.jr_word.specs.declared.kind.Kind.{Kind}
 use Rattle.jr_word.specs.declared.fault.Fault.{Fault}
 use Rattle.jr_word.specs.declared.fault.Fault.TheVariants.{ObjectsFull}
 use Rattle.jr_model.specs.declared.event.Act.{Act}
-use Rattle.jr_model.specs.declared.event.Act.TheVariants.{Enter, Knock, Leave, Withdraw, ShutBusy, Look, Probe, DeleteStale, Reserve, ReserveFull, ReserveLost, Read, Meet}
+use Rattle.jr_model.specs.declared.event.Act.TheVariants.{Gate, ShutBusy, Look, Probe, DeleteStale, Reserve, ReserveFull, ReserveLost, Read, Meet}
+use Rattle.jr_model.specs.declared.event.GateAct.TheVariants.{Shut, Reopen}
 use Rattle.jr_model.specs.declared.frames.Mode.{Mode}
 use Rattle.jr_model.specs.State.{Handle, State, HaveSameTables}
 use Rattle.jr_model.specs.Steps.{act_after}
@@ -20,10 +21,9 @@ use Rattle.jr_model.specs.Objects as objects
 
 -- the act changes nothing but where its thread stands towards the gate
 abbrev pub is_harmless : Act → Bool
-is_harmless Enter = true
-is_harmless Knock = true
-is_harmless Leave = true
-is_harmless Withdraw = true
+is_harmless (Gate Shut) = false
+is_harmless (Gate Reopen) = false
+is_harmless (Gate a) = true
 is_harmless (ShutBusy n) = true
 is_harmless (Look h r) = true
 is_harmless (Probe i b) = true

@@ -1,5 +1,5 @@
 -- The state of the machine.
-use Rattle.std.specs.Prelude.{◌≡◌, ◌≢◌, ◌⊎◌, ◌+◌, ◌<◌, ◌≤◌, ◌==◌, ◌&&◌, ◌^◌, ℕ, Bool, true, false, not, Option, Some, None, IsSome, is_some, List, length, slice_get}
+use Rattle.std.specs.Prelude.{◌≡◌, ◌≢◌, ◌⊎◌, ◌+◌, ◌<◌, ◌≤◌, ◌==◌, ◌&&◌, ◌^◌, ℕ, Bool, true, false, not, if◌then◌else◌, Option, Some, None, IsSome, is_some, List, length, slice_get}
 use Rattle.jr_word.specs.declared.config.Config.{Config}
 use Rattle.jr_word.specs.declared.handle.HandleParts.{HandleParts}
 use Rattle.jr_word.specs.declared.handle.RefKind.{RefKind}
@@ -7,7 +7,7 @@ use Rattle.jr_word.specs.declared.handle.RefKind.TheVariants.{Local, Global, Wea
 use Rattle.jr_word.specs.declared.kind.Kind.{Kind}
 use Rattle.jr_word.specs.declared.kind.Kind.TheVariants.{Plain, Boolean, Byte, Char, Short, Int, Long, Objects, Text}
 use Rattle.jr_model.specs.declared.event.Role.{Role}
-use Rattle.jr_model.specs.declared.event.Role.TheVariants.{Outside, Collecting}
+use Rattle.jr_model.specs.declared.event.Role.TheVariants.{Outside, Within, Knocking, Announcing, Collecting}
 use Rattle.jr_model.specs.declared.event.Found.{Found}
 use Rattle.jr_model.specs.declared.event.Found.TheVariants.{Object, Stale}
 use Rattle.jr_model.specs.declared.summary.Summary.{Summary}
@@ -65,18 +65,38 @@ EachPresent c s = (o : ℕ) → 1 ≤ o → o ≤ c.objects → IsPresent s o
 abbrev pub NobodyCollects : State → Type 0
 NobodyCollects s = (t : ℕ) → s.role t ≢ Collecting
 
--- some thread collects
-abbrev pub SomebodyCollects : State → Type 0
-SomebodyCollects s = (t : ℕ) × (s.role t ≡ Collecting)
+-- a thread of the role keeps the gate closed to entries: it collects, or has announced that it will
+abbrev pub is_barring : Role → Bool
+is_barring Announcing = true
+is_barring Collecting = true
+is_barring _ = false
+
+-- no thread keeps the gate closed
+abbrev pub NobodyCloses : State → Type 0
+NobodyCloses s = (t : ℕ) → is_barring (s.role t) ≡ false
+
+-- some thread keeps the gate closed
+abbrev pub SomebodyCloses : State → Type 0
+SomebodyCloses s = (t : ℕ) × (is_barring (s.role t) ≡ true)
 
 -- the role is Outside
 abbrev pub is_outside : Role → Bool
 is_outside Outside = true
 is_outside _ = false
 
--- how many of the threads are within, knocking or collecting
+-- a thread of the role has gone in, or knocks
+abbrev pub is_inside : Role → Bool
+is_inside Within = true
+is_inside Knocking = true
+is_inside _ = false
+
+-- how many of the threads are within, knocking, announcing or collecting
 abbrev pub not_outside : Config → State → ℕ
 not_outside c s = count_below c.threads (λ t. not (is_outside (s.role t)))
+
+-- so many threads other than this one are not outside
+abbrev pub AreOthers : Config → State → ℕ → ℕ → Type 0
+AreOthers c s t n = not_outside c s ≡ n + (if is_outside (s.role t) then 0 else 1)
 
 -- the length of an object, 0 for none
 abbrev pub length_of : Option Contents → ℕ

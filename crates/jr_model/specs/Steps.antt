@@ -1,29 +1,59 @@
 -- THE STEPS: what each needs, and what it changes. What is not named stays.
-use Rattle.std.specs.Prelude.{◌≡◌, ◌≢◌, ◌↔◌, ◌+◌, ◌<◌, ◌≤◌, ℕ, true, false, IsTrue, Option, Some, None, length, slice_get, slice_set, nat_eq}
+use Rattle.std.specs.Prelude.{◌≡◌, ◌≢◌, ◌⊎◌, ◌↔◌, ◌+◌, ◌<◌, ◌≤◌, ℕ, true, false, IsTrue, Option, Some, None, length, slice_get, slice_set, nat_eq}
 use Rattle.jr_word.specs.declared.config.Config.{Config}
 use Rattle.jr_word.specs.declared.handle.RefKind.TheVariants.{Local, Weak}
 use Rattle.jr_word.specs.declared.kind.Kind.TheVariants.{Text}
-use Rattle.jr_model.specs.declared.event.Role.TheVariants.{Outside, Within, Knocking, Collecting}
+use Rattle.jr_model.specs.declared.event.Role.{Role}
+use Rattle.jr_model.specs.declared.event.Role.TheVariants.{Outside, Within, Knocking, Announcing, Collecting}
 use Rattle.jr_model.specs.declared.event.Found.TheVariants.{Object, Cleared, Stale}
 use Rattle.jr_model.specs.declared.event.Event.{Event}
 use Rattle.jr_model.specs.declared.event.Act.{Act}
-use Rattle.jr_model.specs.declared.event.Act.TheVariants.{Enter, Knock, Leave, Withdraw, Shut, ShutBusy, Reopen, Create, Look, Probe, Delete, DeleteStale, Clear, LocalPut, LocalDrop, Reserve, ReserveFull, ReserveLost, New, Read, Write, Drop, Settle, Meet}
+use Rattle.jr_model.specs.declared.event.Act.TheVariants.{Gate, ShutBusy, Create, Look, Probe, Delete, DeleteStale, Clear, LocalPut, LocalDrop, Reserve, ReserveFull, ReserveLost, New, Read, Write, Drop, Settle, Meet}
+use Rattle.jr_model.specs.declared.event.GateAct.{GateAct}
+use Rattle.jr_model.specs.declared.event.GateAct.TheVariants.{Enter, Knock, Leave, Withdraw, Announce, Cancel, Shut, Reopen}
 use Rattle.jr_model.specs.Maps.{update}
-use Rattle.jr_model.specs.State.{Handle, same_handle, Contents, State, IsPresent, NobodyCollects, SomebodyCollects, not_outside, present_words, IsWord, AreWords, IsClosed, IsReached, IsOccupied}
+use Rattle.jr_model.specs.State.{Handle, same_handle, Contents, State, IsPresent, NobodyCloses, SomebodyCloses, AreOthers, present_words, IsWord, AreWords, IsClosed, IsReached, IsOccupied}
 
 -- a handle that can be created: global or weak, of no owner, with an index and a serial of the room
 abbrev pub IsInRow : Config → ℕ → Handle → Type 0
 IsInRow c last h = (h.kind ≢ Local) × (h.owner ≡ 0) × (h.index < c.slots) × (h.serial ≤ last)
 
+-- who may shut the gate is outside, or has announced that it will
+abbrev pub MayShut : Role → Type 0
+MayShut r = (r ≡ Outside) ⊎ (r ≡ Announcing)
+
+-- THE ACTS AT THE GATE: from which role a thread goes by each
+abbrev pub FromRole : GateAct → Role → Type 0
+FromRole Enter r = r ≡ Outside
+FromRole Knock r = r ≡ Outside
+FromRole Leave r = r ≡ Within
+FromRole Withdraw r = r ≡ Knocking
+FromRole Announce r = r ≡ Outside
+FromRole Cancel r = r ≡ Announcing
+FromRole Shut r = MayShut r
+FromRole Reopen r = r ≡ Collecting
+
+-- and to which
+abbrev pub role_behind : GateAct → Role
+role_behind Enter = Within
+role_behind Knock = Knocking
+role_behind Announce = Announcing
+role_behind Shut = Collecting
+role_behind _ = Outside
+
+-- what each needs beside that role
+abbrev pub GateNeeds : State → ℕ → GateAct → Type 0
+GateNeeds s t Enter = NobodyCloses s
+GateNeeds s t Knock = SomebodyCloses s
+GateNeeds s t Announce = NobodyCloses s
+GateNeeds s t Shut = (u : ℕ) → u ≢ t → s.role u ≡ Outside
+GateNeeds s t Reopen = IsClosed s
+GateNeeds s t _ = Unit {0}
+
 -- what the act of thread t needs of the state
 abbrev pub ActNeeds : Config → ℕ → State → ℕ → Act → Type 0
-ActNeeds c last s t Enter = (s.role t ≡ Outside) × NobodyCollects s
-ActNeeds c last s t Knock = (s.role t ≡ Outside) × SomebodyCollects s
-ActNeeds c last s t Leave = s.role t ≡ Within
-ActNeeds c last s t Withdraw = s.role t ≡ Knocking
-ActNeeds c last s t Shut = (u : ℕ) → s.role u ≡ Outside
-ActNeeds c last s t (ShutBusy n) = (s.role t ≡ Outside) × (n ≡ not_outside c s) × (1 ≤ n)
-ActNeeds c last s t Reopen = (s.role t ≡ Collecting) × IsClosed s
+ActNeeds c last s t (Gate a) = FromRole a (s.role t) × GateNeeds s t a
+ActNeeds c last s t (ShutBusy n) = MayShut (s.role t) × AreOthers c s t n × (1 ≤ n)
 ActNeeds c last s t (Create h o) =
     (s.role t ≡ Within) × IsPresent s o × IsInRow c last h
     × ((g : Handle) → g.index ≡ h.index → s.refs g ≡ Stale)
@@ -56,12 +86,7 @@ written (Some x) i v = Some (record { kind = x.kind; words = slice_set x.words i
 
 -- the state after the act of thread t
 abbrev pub act_after : State → ℕ → Act → State
-act_after s t Enter = record s { role = update nat_eq s.role t Within }
-act_after s t Knock = record s { role = update nat_eq s.role t Knocking }
-act_after s t Leave = record s { role = update nat_eq s.role t Outside }
-act_after s t Withdraw = record s { role = update nat_eq s.role t Outside }
-act_after s t Shut = record s { role = update nat_eq s.role t Collecting }
-act_after s t Reopen = record s { role = update nat_eq s.role t Outside }
+act_after s t (Gate a) = record s { role = update nat_eq s.role t (role_behind a) }
 act_after s t (Create h o) = record s { refs = update same_handle s.refs h (Object o); given = update same_handle s.given h true }
 act_after s t (Delete h) = record s { refs = update same_handle s.refs h Stale }
 act_after s t (Clear h) = record s { refs = update same_handle s.refs h Cleared }

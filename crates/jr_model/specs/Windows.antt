@@ -3,7 +3,8 @@ use Rattle.std.specs.Prelude.{◌≡◌, List, [], ◌∷◌, ◌++◌}
 use mathlib.Core.List.{IsPrefix}
 use Rattle.jr_model.specs.declared.event.Role.TheVariants.{Outside}
 use Rattle.jr_model.specs.declared.event.Act.{Act}
-use Rattle.jr_model.specs.declared.event.Act.TheVariants.{Enter, Knock, Leave, Withdraw, Shut, Reopen}
+use Rattle.jr_model.specs.declared.event.Act.TheVariants.{Gate}
+use Rattle.jr_model.specs.Steps.{FromRole, role_behind}
 use Rattle.jr_model.specs.History.{History, by, mine, PassView, role_of, Did}
 
 -- the moment right behind the thread's next own event, which has this act
@@ -17,22 +18,18 @@ pub record IsLastSeen (new : PassView) (a : Act) : Type 0 where
   pub before : History
   pub is : new.seen ≡ before ++ by new.thread a ∷ []
 
--- a call whose first act goes in at the gate, knocks at it or shuts it begins right behind that act
+-- a call whose first act takes its thread from outside begins right behind that act
 abbrev pub BeginsWith : PassView → Act → History → Type 0
-BeginsWith old Enter begun = IsBehind old Enter begun
-BeginsWith old Knock begun = IsBehind old Knock begun
-BeginsWith old Shut begun = IsBehind old Shut begun
+BeginsWith old (Gate a) begun = FromRole a Outside → IsBehind old (Gate a) begun
 BeginsWith old _ begun = Unit {0}
 
 abbrev pub Begins : PassView → List Act → History → Type 0
 Begins old [] begun = Unit {0}
 Begins old (a ∷ acts) begun = BeginsWith old a begun
 
--- a call whose last act goes out at the gate, withdraws from it or opens it ends with that act: nothing behind it is seen
+-- a call whose last act takes its thread outside ends with that act: nothing behind it is seen
 abbrev pub EndsWith : PassView → Act → Type 0
-EndsWith new Leave = IsLastSeen new Leave
-EndsWith new Withdraw = IsLastSeen new Withdraw
-EndsWith new Reopen = IsLastSeen new Reopen
+EndsWith new (Gate a) = role_behind a ≡ Outside → IsLastSeen new (Gate a)
 EndsWith new _ = Unit {0}
 
 -- a call without an act of a thread that is outside sees nothing

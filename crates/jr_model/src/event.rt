@@ -14,6 +14,8 @@ pub enum Role {
     Within,
     /// Its entry found the gate shut, and it has not withdrawn yet.
     Knocking,
+    /// It has announced that it will shut the gate, which bars entries from then on.
+    Announcing,
     /// It shut the gate, and has not opened it yet.
     Collecting,
 }
@@ -38,9 +40,9 @@ pub struct Event {
     pub act: Act,
 }
 
-/// What a step does, with its reply.
+/// A step at the gate by which the thread goes from one role to another.
 #[derive(Drop)]
-pub enum Act {
+pub enum GateAct {
     /// Goes in.
     Enter,
     /// Finds the gate shut on the way in.
@@ -49,14 +51,25 @@ pub enum Act {
     Leave,
     /// Gives the entry up that found the gate shut.
     Withdraw,
+    /// Announces that it will shut the gate, which bars entries from then on.
+    Announce,
+    /// Takes the announcement back.
+    Cancel,
     /// Shuts the gate, for a collection.
     Shut,
-    /// Does not shut the gate, since this many threads are not outside.
+    /// Opens the gate again after a collection.
+    Reopen,
+}
+
+/// What a step does, with its reply.
+#[derive(Drop)]
+pub enum Act {
+    /// Goes from one role to another, at the gate.
+    Gate(GateAct),
+    /// Does not shut the gate, since this many other threads are not outside.
     ShutBusy {
         count: u32,
     },
-    /// Opens the gate again after a collection.
-    Reopen,
     /// Makes a global or weak reference.
     Create {
         handle: HandleParts,

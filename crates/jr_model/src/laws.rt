@@ -3,7 +3,8 @@ ghost use Rattle.jr_word.specs.declared.config.Config.{Config};
 ghost use Rattle.jr_model.specs.State.{State};
 ghost use Rattle.jr_model.specs.History.{PassView};
 ghost use Rattle.jr_model.specs.CriticalRegions.{NoCollectionInRegion, NoCollectionUpToRelease};
-ghost use Rattle.jr_model.specs.Grounded.{BarredByCollector, BusyIsCounted, SpaceWasFull, FreeIndexIsFound, RefusedInItsStay, EachIsProbed, CallsAreTheirStays};
+ghost use Rattle.jr_model.specs.Announcements.{NobodyEnters, WithinOnlyLeave, AnnouncerCounts};
+ghost use Rattle.jr_model.specs.Grounded.{BarredByCloser, BusyIsCounted, SpaceWasFull, FreeIndexIsFound, RefusedInItsStay, EachIsProbed, CallsAreTheirStays};
 ghost use Rattle.jr_model.specs.Moves.{CallsMoveFrames};
 ghost use Rattle.jr_model.specs.RefusedCalls.{RefusalsChangeNothing, HarmlessChangesNothing};
 ghost use Rattle.jr_model.specs.Laws.{
@@ -136,7 +137,7 @@ pub fn refusals_change_nothing()
 
 /// What a refusal says of the shared room was so in the call: E13, E14 and E10 at the very act that they tell of, and E8 only where no index was free all the time since it was probed, within the stay alone.
 pub fn refusals_are_true()
-    ensures barred { BarredByCollector }
+    ensures barred { BarredByCloser }
     ensures busy { BusyIsCounted }
     ensures space { SpaceWasFull }
     ensures row { FreeIndexIsFound }
@@ -147,4 +148,19 @@ pub fn refusals_are_true()
 /// A call with a stay of its own is that stay: it begins right behind its own entry, and ends with its own exit, the last event that it has seen.
 pub fn calls_are_their_stays()
     ensures { (c : Config) (last thread : ℕ) (old new : PassView) → CallsAreTheirStays c last thread old new }
+{}
+
+/// From an announcement that the gate will be shut to its cancel or reopening, nobody goes in.
+pub fn nobody_enters_an_announced_gate()
+    ensures { (c : Config) (last : ℕ) → NobodyEnters c last }
+{}
+
+/// While an announcement stands, the threads within only leave: who is within at a moment of it was so at each earlier one, in the same stay.
+pub fn announced_gates_only_empty()
+    ensures { (c : Config) (last : ℕ) → WithinOnlyLeave c last }
+{}
+
+/// A refused shut of the thread that announced it counts just the threads that are within or knock.
+pub fn announcers_count_who_is_inside()
+    ensures { (c : Config) (last : ℕ) → AnnouncerCounts c last }
 {}

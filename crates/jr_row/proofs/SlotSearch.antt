@@ -7,7 +7,8 @@ use Rattle.jr_word.specs.declared.slot.SlotParts.{SlotParts}
 use Rattle.jr_word.specs.declared.slot.SlotParts.TheVariants as slot
 use Rattle.jr_model.specs.declared.event.Role.TheVariants.{Within}
 use Rattle.jr_model.specs.declared.event.Act.{Act}
-use Rattle.jr_model.specs.declared.event.Act.TheVariants.{Create, Leave, Probe}
+use Rattle.jr_model.specs.declared.event.Act.TheVariants.{Gate, Create, Probe}
+use Rattle.jr_model.specs.declared.event.GateAct.TheVariants.{Leave}
 use Rattle.jr_model.specs.State.{Handle}
 use Rattle.jr_model.specs.History.{PassView, Did, role_after}
 use Rattle.jr_model.specs.Refusals.{WasOccupied}
@@ -76,7 +77,7 @@ record Exchanged {S : Type 0} (facts : S → Facts) (c : S) (shows : Known → K
 module _ {S : Type 0} {facts : S → Facts} where
   module _ (fits : AreOf facts) where
     -- a step inside keeps what is present
-    pub took_present : {a b : S} {x : Act} {met : Known → Type 0} {shows : Known → Known → Type 0} → Took facts a b (x ∷ []) met shows → (facts a).stands.role ≡ Within → x ≢ Leave
+    pub took_present : {a b : S} {x : Act} {met : Known → Type 0} {shows : Known → Known → Type 0} → Took facts a b (x ∷ []) met shows → (facts a).stands.role ≡ Within → x ≢ Gate Leave
         → (o : ℕ) (k : Known) → (facts a).knows k → met k → HasObject o k → (k' : Known) × (facts b).knows k' × HasObject o k' × Did (view k) (view k') (x ∷ []) × shows k k' × Takes 1 k k'
     took_present {a} {x} t w ne o k s m p =
         let g = t.goes k s m in
@@ -97,7 +98,7 @@ module _ {S : Type 0} {facts : S → Facts} where
     searched_seen i _ kind o ne t w = searched_occupied i kind o t w
 
     exchanged : {a b c : S} {x y : Act} {shows : Known → Known → Type 0} (i n o : ℕ) → Took facts a b (x ∷ []) anything (λ j k. ShowsSlot i (slot.Free n) k × keeps j k) → Took facts b c (y ∷ []) (λ k. HasObject o k × IsFreeSlot i n k) shows
-        → (facts a).stands.role ≡ Within → x ≢ Leave → y ≢ Leave → role_after Within x ≡ Within → (k : Known) → (facts a).knows k → HasObject o k → Exchanged facts c shows o x y k
+        → (facts a).stands.role ≡ Within → x ≢ Gate Leave → y ≢ Gate Leave → role_after Within x ≡ Within → (k : Known) → (facts a).knows k → HasObject o k → Exchanged facts c shows o x y k
     exchanged {x} i n o t u w ne ne' still k s p =
         let m = took_present t w ne o k s tt p in
         let e = took_present u (ap (λ (z : Standing). z.role) t.stands_is ∙ (ap (λ r. role_after r x) w ∙ still)) ne' o m.0 m.1 (m.2, m.4.0) m.2 in

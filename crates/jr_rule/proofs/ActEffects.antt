@@ -5,7 +5,7 @@ use Rattle.jr_word.specs.declared.kind.Kind.{Kind}
 use Rattle.jr_word.specs.declared.slot.SlotParts.{SlotParts}
 use Rattle.jr_model.specs.declared.event.Role.{Role}
 use Rattle.jr_model.specs.declared.event.Act.TheVariants.{ReserveFull}
-use Rattle.jr_model.specs.declared.event.Role.TheVariants.{Outside, Within, Knocking, Collecting}
+use Rattle.jr_model.specs.declared.event.Role.TheVariants.{Outside, Within, Knocking, Announcing, Collecting}
 use Rattle.jr_model.specs.State.{Handle}
 use Rattle.jr_model.specs.History.{History, by, state, role_after, role_from}
 use Rattle.jr_model.proofs.Histories.{state_push}
@@ -35,6 +35,7 @@ pub left_fresh : (r : Role) (f : Bool) → f ≡ fresh_after f (act_of_exit r)
 left_fresh Outside f = refl
 left_fresh Within f = refl
 left_fresh Knocking f = refl
+left_fresh Announcing f = refl
 left_fresh Collecting f = refl
 
 -- a load of the gate changes no role

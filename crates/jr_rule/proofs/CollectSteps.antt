@@ -11,7 +11,7 @@ use Rattle.jr_word.specs.declared.slot.SlotParts.TheVariants as slot
 use Rattle.jr_word.specs.Header.{header_word, IsHeader}
 use Rattle.jr_word.specs.Slot.{slot_word}
 use Rattle.jr_model.specs.declared.event.Role.{Role}
-use Rattle.jr_model.specs.declared.event.Role.TheVariants.{Outside, Within, Knocking, Collecting}
+use Rattle.jr_model.specs.declared.event.Role.TheVariants.{Outside, Within, Knocking, Announcing, Collecting}
 use Rattle.jr_model.specs.declared.event.Found.TheVariants.{Object, Cleared, Stale}
 use Rattle.jr_model.specs.declared.event.Act.TheVariants.{Clear, Drop, Settle}
 use Rattle.jr_model.specs.Maps.{update}
@@ -54,6 +54,7 @@ module _ (c : Config) (last : ℕ) (log : History) (t : ℕ) (words : List ℕ) 
       go Collecting e h = absurd (ne (apart.alone u t e collects))
       go Outside e h = h
       go Knocking e h = h
+      go Announcing e h = h
 
   -- and so does not take part in what is held
   pub record IsFor (g' : Holdings) (moving : Option Move) : Type 0 where
@@ -77,6 +78,7 @@ module _ (c : Config) (last : ℕ) (log : History) (t : ℕ) (words : List ℕ) 
         go u ne Collecting e = absurd (ne ((apart_state c last log legal).alone u t e collects))
         go u ne Outside e = refl
         go u ne Knocking e = refl
+        go u ne Announcing e = refl
 
     no_range : (u p : ℕ) → words_at p (hold held t g' u).ranges ≡ []
     no_range u p = held_at (λ u z. words_at p z.ranges ≡ []) (ap (words_at p) for.ranges) (λ u ne. refl) u

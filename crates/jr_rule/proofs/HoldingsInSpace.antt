@@ -4,7 +4,7 @@ use Rattle.jr_word.specs.declared.config.Config.{Config}
 use Rattle.jr_word.specs.Config.{row_words}
 use Rattle.jr_word.specs.declared.header.HeaderParts.{HeaderParts}
 use Rattle.jr_model.specs.declared.event.Role.{Role}
-use Rattle.jr_model.specs.declared.event.Role.TheVariants.{Outside, Within, Knocking, Collecting}
+use Rattle.jr_model.specs.declared.event.Role.TheVariants.{Outside, Within, Knocking, Announcing, Collecting}
 use Rattle.jr_model.specs.State.{State}
 use Rattle.jr_model.specs.History.{History, state, IsLegal}
 use Rattle.jr_model.proofs.Gates.{apart_state}
@@ -33,6 +33,7 @@ holdings_in_space c last log words held legal image t g is = subst (InSpace c) i
     at_headers Collecting e h none = inl (sym h.0 ∙ none)
     at_headers Outside e h none = inr h
     at_headers Knocking e h none = inr h
+    at_headers Announcing e h none = inr h
 
     one : (o r i j : ℕ) → of_object o i ≡ of_object r j → o ≡ r
     one o r i j e = cc

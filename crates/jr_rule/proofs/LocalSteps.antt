@@ -5,7 +5,7 @@ use Rattle.jr_word.specs.declared.config.Config.{Config}
 use Rattle.jr_word.specs.declared.header.HeaderParts.{HeaderParts}
 use Rattle.jr_word.specs.Header.{header_word, IsHeader}
 use Rattle.jr_model.specs.declared.event.Role.{Role}
-use Rattle.jr_model.specs.declared.event.Role.TheVariants.{Outside, Within, Knocking, Collecting}
+use Rattle.jr_model.specs.declared.event.Role.TheVariants.{Outside, Within, Knocking, Announcing, Collecting}
 use Rattle.jr_model.specs.declared.event.Act.TheVariants.{LocalPut, LocalDrop, New}
 use Rattle.jr_model.specs.Maps.{update}
 use Rattle.jr_model.specs.State.{State, IsPresent, AreWords, present_words}
@@ -32,6 +32,7 @@ may_know moving Within g o h inside may = may
 may_know moving Collecting g o h inside may = may
 may_know moving Outside g o h inside may = ⊎_elim (λ e. absurd cc) (λ e. absurd cc) inside
 may_know moving Knocking g o h inside may = ⊎_elim (λ e. absurd cc) (λ e. absurd cc) inside
+may_know moving Announcing g o h inside may = ⊎_elim (λ e. absurd cc) (λ e. absurd cc) inside
 
 -- a load of a header that stands, by a thread within or one that collects: it is known from now on
 pub knows_header : (c : Config) (last : ℕ) (log : History) (t : ℕ) (words : List ℕ) → IsLegal c last log → (held : ℕ → Holdings) → IsImage c last words (state log) held → ((state log).role t ≡ Within) ⊎ ((state log).role t ≡ Collecting) → (g : Holdings) → held t ≡ g

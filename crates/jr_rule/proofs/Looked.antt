@@ -9,7 +9,8 @@ use Rattle.jr_model.specs.declared.event.Found.{Found}
 use Rattle.jr_model.specs.declared.event.Found.TheVariants.{Object, Stale}
 use Rattle.jr_model.specs.declared.event.Event.{Event}
 use Rattle.jr_model.specs.declared.event.Act.{Act}
-use Rattle.jr_model.specs.declared.event.Act.TheVariants.{Create, Look, Delete, Clear, Leave}
+use Rattle.jr_model.specs.declared.event.Act.TheVariants.{Gate, Create, Look, Delete, Clear}
+use Rattle.jr_model.specs.declared.event.GateAct.TheVariants.{Leave}
 use Rattle.jr_model.specs.State.{Handle, State}
 use Rattle.jr_model.specs.Steps.{IsInRow, ActNeeds, act_after, after}
 use Rattle.jr_model.specs.History.{History, by, state, state_from, IsLegal, IsLegalFrom}
@@ -41,7 +42,7 @@ module _ (c : Config) (last : ℕ) (t : ℕ) (h : Handle) (r : Found) where
   still_act s u (Clear g) i w x n = absurd (i.apart u t n.0 w)
   still_act s u _ i w x n = record { given = x.given; stands = x.stands }
 
-  still_along : (s : State) (es : History) → IsApart s.role → s.role t ≡ Within → AllByRecursion (λ e. e ≢ by t Leave) es → IsStillOrGone h r s → IsLegalFrom c last s es → IsStillOrGone h r (state_from s es)
+  still_along : (s : State) (es : History) → IsApart s.role → s.role t ≡ Within → AllByRecursion (λ e. e ≢ by t (Gate Leave)) es → IsStillOrGone h r s → IsLegalFrom c last s es → IsStillOrGone h r (state_from s es)
   still_along s [] i w q x l = x
   still_along s (e ∷ es) i w q x l =
       still_along (after s e) es (apart_after c last s e i l.0) (stay_act c last t s e.thread e.act i w q.0 l.0.1).0 q.1 (still_act s e.thread e.act i w x l.0.1) l.1
@@ -72,7 +73,7 @@ looked_at c last h o k legal q =
     let room = in_room c last q.before both.0 in
     let row = kept.in_row h given in
     let end : state k.seen ≡ state_from was q.since = ap state q.is ∙ state_append q.before (look ∷ q.since) in
-    let still = still_along c last t h (found_of o) was q.since (apart_state c last q.before both.0) needs.0 (never Leave q.since t q.stays) (record { given = given; stands = inl needs.1 }) both.1.1 in
+    let still = still_along c last t h (found_of o) was q.since (apart_state c last q.before both.0) needs.0 (never (Gate Leave) q.since t q.stays) (record { given = given; stands = inl needs.1 }) both.1.1 in
     record {
       row = row;
       can = can_stand h.kind o row.0 (λ e. room.cleared h (needs.1 ∙ ap found_of e));

@@ -114,7 +114,7 @@ module _ {z z' : Sight} {r : Role} {met : Known → Type 0} {told : Known → �
     below = subst (λ (c : Config). hint < c.slots) (ap (λ (x : Standing). x.config) (sym t.first)) s.below;
   }
 
-module _ {C : Type 0} {G : Ghosts C} (old new : StepsOver C G) {r : Role} {met : Known → Type 0} {told : Known → ℕ → List Act → Known → Type 0} {n : ℕ} {shows : Known → Known → Type 0}
+module _ {C P : Type 0} {G : Ghosts C P} (old new : StepsOver C P G) {r : Role} {met : Known → Type 0} {told : Known → ℕ → List Act → Known → Type 0} {n : ℕ} {shows : Known → Known → Type 0}
     (t : HasStepped (G.sight old.cells) (G.sight new.cells) (InRole r met) told n) (hint_is : new.hint ≡ old.hint) (is : old.role ≡ r) where
   -- AND THE STEP WAS TAKEN, with acts that may depend on what was known
   pub took_with : {acts : Known → List Act} {role : Role} {fresh : Bool} → Reads (G.sight old.cells) r met told n acts shows → new.role ≡ role → new.fresh ≡ fresh → ((k : Known) → role ≡ role_from old.role (acts k)) → ((k : Known) → fresh ≡ fresh_from old.fresh (acts k))

@@ -8,7 +8,8 @@ use mathlib.Core.Logic.{dite}
 use native.Mathlib.Decide.{ℕ_discrete}
 use Rattle.jr_model.specs.declared.event.Role.TheVariants.{Outside, Within, Collecting}
 use Rattle.jr_model.specs.declared.event.Found.{Found}
-use Rattle.jr_model.specs.declared.event.Act.TheVariants.{Look, Leave}
+use Rattle.jr_model.specs.declared.event.Act.TheVariants.{Gate, Look}
+use Rattle.jr_model.specs.declared.event.GateAct.TheVariants.{Leave}
 use Rattle.jr_model.specs.State.{Handle, Contents, State, IsPresent, IsClosed, HaveSameTables}
 use Rattle.jr_model.specs.History.{History, by, state, IsLegal, mine, role_of, role_from, Did}
 use Rattle.jr_model.proofs.Histories.{legal_append, state_append, mine_append}
@@ -63,7 +64,7 @@ module _ (k : Known) (log : History) (words : List ℕ) (held : ℕ → Holdings
     before = q.before;
     since = q.since ++ between;
     is = sym f.fits.begins.1 ∙ (ap (λ l. l ++ between) q.is ∙ append_assoc q.before (by t (Look h r) ∷ q.since) between);
-    stays = subst (AllByRecursion (λ a. a ≢ Leave)) (sym (mine_append q.since between t ∙ (ap (λ l. mine q.since t ++ l) quiet ∙ append-nil (mine q.since t)))) q.stays;
+    stays = subst (AllByRecursion (λ a. a ≢ Gate Leave)) (sym (mine_append q.since between t ∙ (ap (λ l. mine q.since t ++ l) quiet ∙ append-nil (mine q.since t)))) q.stays;
   }
 
   -- while a thread collects, nobody else changes references, locals, objects or used words

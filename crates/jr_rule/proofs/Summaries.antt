@@ -17,7 +17,7 @@ use Rattle.jr_model.specs.declared.summary.Summary.{Summary}
 use Rattle.jr_model.specs.Maps.{sum_below, count_below}
 use Rattle.jr_model.specs.State.{Handle, State, is_there}
 use Rattle.jr_model.specs.History.{History, state, IsLegal}
-use Rattle.jr_model.proofs.Counts.{bit, count_all_false, count_single}
+use Rattle.jr_model.proofs.Counts.{bit, count_all_false, count_single, not_true}
 use Rattle.jr_model.proofs.Lengths.{lengths_fit}
 use Rattle.jr_model.proofs.References.{kept_state}
 use Rattle.jr_steps.specs.Acts.{found_of, handle_of}
@@ -27,7 +27,7 @@ use Rattle.jr_rule.specs.Shown.{IsHistoryOf, HasHistory}
 use Rattle.jr_rule.specs.Slots.{has_kind}
 use Rattle.jr_model.proofs.InRoom.{in_room}
 use Rattle.jr_rule.proofs.Readings.{is_read}
-use Rattle.jr_rule.proofs.GateSteps.{bit_most, not_true}
+use Rattle.jr_rule.proofs.GateSteps.{bit_most}
 use Rattle.jr_rule.proofs.Slots.{found_there, slot_fits}
 use Rattle.jr_rule.proofs.Headers.{header_none, header_some}
 

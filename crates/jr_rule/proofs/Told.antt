@@ -7,18 +7,21 @@ use Rattle.jr_word.specs.Top.{top_word, IsTop}
 use Rattle.jr_steps.specs.declared.loads.TopLoad.{TopLoad}
 use Rattle.jr_word.specs.declared.handle.RefKind.{RefKind}
 use Rattle.jr_word.specs.declared.slot.SlotParts.{SlotParts}
-use Rattle.jr_word.specs.Gate.{gate_word, IsGate}
+use Rattle.jr_word.specs.declared.gate.GateState.{GateState}
+use Rattle.jr_word.specs.declared.gate.GateState.TheVariants.{Open}
+use Rattle.jr_word.specs.Gate.{gate_word, state_bits, IsGate}
 use Rattle.jr_word.specs.Slot.{slot_word, IsSlot}
 use Rattle.jr_model.specs.declared.event.Act.{Act}
-use Rattle.jr_model.specs.declared.event.Act.TheVariants.{Shut, ShutBusy, Reopen, Read, Write, Clear, Drop, Settle, Reserve, ReserveLost}
+use Rattle.jr_model.specs.declared.event.Act.TheVariants.{Gate, ShutBusy, Read, Write, Clear, Drop, Settle, Reserve, ReserveLost}
+use Rattle.jr_model.specs.declared.event.GateAct.TheVariants.{Announce, Cancel, Shut, Reopen}
 use Rattle.jr_model.specs.State.{Handle}
 use Rattle.jr_model.specs.History.{role_of, role_from}
 use Rattle.jr_steps.specs.declared.known.Known.{Known}
 use Rattle.jr_steps.specs.declared.loads.GateLoad.{GateLoad}
 use Rattle.jr_steps.specs.declared.loads.SlotLoad.{SlotLoad}
-use Rattle.jr_steps.specs.Acts.{act_of_entry, act_of_exit, all_counted, act_of_gate_load, act_of_slot_load, act_of_claim, act_of_free, act_of_put, acts_of_publication, acts_of_top_load, act_of_reservation, handle_of, found_of}
+use Rattle.jr_steps.specs.Acts.{act_of_entry, act_of_exit, act_of_announcement, all_counted, others_counted, is_closed, load_of, act_of_gate_load, act_of_slot_load, act_of_claim, act_of_free, act_of_put, acts_of_publication, acts_of_top_load, act_of_reservation, handle_of, found_of}
 use Rattle.jr_steps.specs.Holdings.{header_in, with_header}
-use Rattle.jr_steps.specs.Knowing.{view, keeps, lets_go, words_for, without_range_of, ShowsHeader, ShowsUsed, ShowsRange, ShowsWord, HasObject, IsFreeSlot, ShowsGate, ShowsSlot, LostClaim, fresh_from, ShowsPublished, anything, CanReopen, Goes, HasOptional, HasLooked, IsFilled, WasUsed, IsOf, Standing}
+use Rattle.jr_steps.specs.Knowing.{view, keeps, lets_go, words_for, without_range_of, ShowsHeader, ShowsUsed, ShowsRange, ShowsWord, HasObject, IsFreeSlot, ShowsGate, ShowsAnnounced, ShowsSlot, LostClaim, fresh_from, ShowsPublished, anything, CanReopen, Goes, HasOptional, HasLooked, IsFilled, WasUsed, IsOf, Standing}
 use Rattle.jr_word.specs.declared.handle.RefKind.TheVariants.{Weak}
 use Rattle.jr_word.specs.declared.local.LocalParts.{LocalParts}
 use Rattle.jr_word.specs.Local.{local_word, IsLocalPlace}
@@ -31,7 +34,7 @@ use Rattle.jr_model.specs.declared.event.Role.{Role}
 use Rattle.jr_rule.proofs.Readings.{is_read, read_once}
 use Rattle.std.proofs.Math.Logic.{∥∥₁_elim}
 use Rattle.std.proofs.Props.{props}
-use Rattle.jr_model.specs.declared.event.Role.TheVariants.{Outside, Collecting, Within}
+use Rattle.jr_model.specs.declared.event.Role.TheVariants.{Outside, Announcing, Collecting, Within}
 use Rattle.jr_rule.specs.Cells.{Sight, InRole, May, HasStepped}
 use Rattle.jr_rule.specs.Over.{LooksSo}
 use Rattle.jr_rule.proofs.StepTaken.{Reads, Leaves}
@@ -45,17 +48,24 @@ abbrev pub Told : Type 1
 Told = Known → ℕ → List Act → Known → Type 0
 
 abbrev pub Entered : Told
-Entered k n acts k' = (p : GateParts) × IsGate p × (n ≡ gate_word p) × (acts ≡ act_of_entry (not p.shut) ∷ []) × keeps k k'
+Entered k n acts k' = (p : GateParts) × IsGate p × (n ≡ gate_word p) × (acts ≡ act_of_entry (not (is_closed p.state)) ∷ []) × keeps k k'
 
 abbrev pub Left : Told
 Left k n acts k' = (acts ≡ act_of_exit (role_of (view k)) ∷ []) × lets_go k k'
 
--- a gate that was found empty is shut
-abbrev pub Barred : Told
-Barred k n acts k' = (n ≡ 0 → (acts ≡ Shut ∷ []) × lets_go k k') × (n ≢ 0 → (p : GateParts) × IsGate p × (n ≡ gate_word p) × (acts ≡ ShutBusy (all_counted p) ∷ []) × keeps k k')
+-- a gate that was found empty, and in this state, is shut
+abbrev pub Barred : GateState → Told
+Barred from k n acts k' = (n ≡ state_bits from → (acts ≡ Gate Shut ∷ []) × lets_go k k') × (n ≢ state_bits from → (p : GateParts) × IsGate p × (n ≡ gate_word p) × (acts ≡ ShutBusy (others_counted from p) ∷ []) × keeps k k')
+
+-- a gate that was found open with this count is announced to be shut
+abbrev pub Announced : ℕ → Told
+Announced looked k n acts k' = (n ≡ looked → (acts ≡ Gate Announce ∷ []) × lets_go k k') × (n ≢ looked → (p : GateParts) × IsGate p × (n ≡ gate_word p) × (acts ≡ act_of_announcement (Err p) ∷ []) × ShowsGate p k' × keeps k k')
+
+abbrev pub Cancelled : Told
+Cancelled k n acts k' = (acts ≡ Gate Cancel ∷ []) × lets_go k k'
 
 abbrev pub Reopened : Told
-Reopened k n acts k' = (acts ≡ Reopen ∷ []) × lets_go k k'
+Reopened k n acts k' = (acts ≡ Gate Reopen ∷ []) × lets_go k k'
 
 abbrev pub SawGate : GateLoad → Told
 SawGate name k n acts k' = (p : GateParts) × IsGate p × (n ≡ gate_word p) × (acts ≡ act_of_gate_load name (all_counted p) ∷ []) × ShowsGate p k' × keeps k k'
@@ -174,22 +184,40 @@ published_shows o h k n acts k' says = dite (ℕ_discrete n 0)
     (λ e. subst (λ b. ShowsPublished o h b k k') (sym (eq-eqb n 0 e)) (says.2, (says.0 e).1, (says.0 e).2))
     (λ ne. subst (λ b. ShowsPublished o h b k k') (sym (ne_eqb n 0 ne)) (says.2, (says.1 ne).1))
 
-pub entry : {z : Sight} {n : ℕ} (shut b : Bool) → ((p : GateParts) → IsGate p → n ≡ gate_word p → shut ≡ p.shut) → shut ≡ b → Reads z Outside anything Entered n (λ k. act_of_entry (not b) ∷ []) keeps
+pub entry : {z : Sight} {n : ℕ} (shut b : Bool) → ((p : GateParts) → IsGate p → n ≡ gate_word p → shut ≡ is_closed p.state) → shut ≡ b → Reads z Outside anything Entered n (λ k. act_of_entry (not b) ∷ []) keeps
 entry shut b is e = record { read = λ k k' done among role met s. (s.3 ∙ ap (λ x. act_of_entry (not x) ∷ []) (sym (is s.0 s.1 s.2) ∙ e), s.4) }
 
 pub exit : {z : Sight} (r : Role) {n : ℕ} → Reads z r anything Left n (λ k. act_of_exit r ∷ []) lets_go
 exit r = record { read = λ k k' done among role met s. (s.0 ∙ ap (λ x. act_of_exit x ∷ []) role, s.1) }
 
-pub barred : {z : Sight} {n : ℕ} → n ≡ 0 → Reads z Outside anything Barred n (λ k. Shut ∷ []) lets_go
-barred none = record { read = λ k k' done among role met s. s.0 none }
+pub barred : {z : Sight} {n : ℕ} (from : GateState) (role : Role) → n ≡ state_bits from → Reads z role anything (Barred from) n (λ k. Gate Shut ∷ []) lets_go
+barred from role none = record { read = λ k k' done among here met s. s.0 none }
+
+pub announced : {z : Sight} {n : ℕ} (looked : ℕ) → n ≡ looked → Reads z Outside anything (Announced looked) n (λ k. Gate Announce ∷ []) lets_go
+announced looked same = record { read = λ k k' done among here met s. s.0 same }
+
+pub cancelled : {z : Sight} {n : ℕ} → Reads z Announcing anything Cancelled n (λ k. Gate Cancel ∷ []) lets_go
+cancelled = record { read = λ k k' done among here met s. s }
 
 -- a word of the gate has one reading
 module _ {n : ℕ} (r : Option GateParts) (complete : (p : GateParts) → IsGate p → n ≡ gate_word p → r ≡ Some p) (q : GateParts) (is : r ≡ Some q) where
   one_reading : (p : GateParts) → IsGate p → n ≡ gate_word p → p ≡ q
   one_reading p fits word = sym (read_once r p q (complete p fits word) is)
 
-  pub bar_lost : {z : Sight} → n ≢ 0 → (m : ℕ) → m ≡ all_counted q → Reads z Outside anything Barred n (λ k. ShutBusy m ∷ []) keeps
-  bar_lost some m counts = record { read = λ k k' done among role met s. let t = s.1 some in (t.3 ∙ ap (λ z. ShutBusy z ∷ []) (ap all_counted (one_reading t.0 t.1 t.2) ∙ sym counts), t.4) }
+  pub bar_lost : {z : Sight} (from : GateState) (role : Role) → n ≢ state_bits from → (m : ℕ) → m ≡ others_counted from q → Reads z role anything (Barred from) n (λ k. ShutBusy m ∷ []) keeps
+  bar_lost from role some m counts = record { read = λ k k' done among here met s. let t = s.1 some in (t.3 ∙ ap (λ z. ShutBusy z ∷ []) (ap (others_counted from) (one_reading t.0 t.1 t.2) ∙ sym counts), t.4) }
+
+  -- an announcement that was lost found other parts than were looked at
+  pub announcement_lost : {z : Sight} (looked : ℕ) → n ≢ looked → Reads z Outside anything (Announced looked) n (λ k. act_of_announcement (Err q) ∷ []) (ShowsAnnounced looked (Err q))
+  announcement_lost looked other = record {
+    read = λ k k' done among here met s.
+        let t = s.1 other in
+        let e = one_reading t.0 t.1 t.2 in
+        (t.3 ∙ ap (λ z. act_of_announcement (Err z) ∷ []) e, ((λ z. other (t.2 ∙ (ap gate_word (e ∙ z) ∙ plain looked))), subst (λ z. ShowsGate z k') e t.4, t.5));
+  }
+    where
+      plain : (looked : ℕ) → gate_word (record { count = looked; state = Open }) ≡ looked
+      plain looked = omega arith
 
   pub gate_load : {z : Sight} (name : GateLoad) {role : Role} → Reads z role anything (SawGate name) n (λ k. act_of_gate_load name (all_counted q) ∷ []) (λ j k. ShowsGate q k × keeps j k)
   gate_load name = record {
@@ -205,7 +233,7 @@ looked_so name t reads k among role =
     let read = reads.read k u.new u.acts among role tt u.says in
     (u.new, u.is, subst (λ done. Goes k done u.new) read.0 u.goes, read.1.0)
 
-pub reopening : {z : Sight} {n : ℕ} → Reads z Collecting CanReopen Reopened n (λ k. Reopen ∷ []) lets_go
+pub reopening : {z : Sight} {n : ℕ} → Reads z Collecting CanReopen Reopened n (λ k. Gate Reopen ∷ []) lets_go
 reopening = record { read = λ k k' done among role met s. s }
 
 -- whoever stepped was told of a word with a reading, so it has one
@@ -217,8 +245,15 @@ word_read t may says r complete = ∥∥₁_elim may (hlevel props) (λ k.
     is_read r s.0 (complete s.0 s.1 s.2))
 
 -- what is left of the thread where its gate was busy, or was looked at
-pub busy_leaves : {z : Sight} {n : ℕ} → n ≢ 0 → {role : Role} {fresh : Bool} → Leaves z Outside anything Barred n role role fresh fresh
-busy_leaves some {role} {fresh} = record { left = λ k k' done among e met s. let t = s.1 some in (ap (role_from role) (sym t.3), ap (fresh_from fresh) (sym t.3)) }
+pub busy_leaves : {z : Sight} {n : ℕ} (from : GateState) (r : Role) → n ≢ state_bits from → {role : Role} {fresh : Bool} → Leaves z r anything (Barred from) n role role fresh fresh
+busy_leaves from r some {role} {fresh} = record { left = λ k k' done among e met s. let t = s.1 some in (ap (role_from role) (sym t.3), ap (fresh_from fresh) (sym t.3)) }
+
+pub lost_leaves : {z : Sight} {n : ℕ} (looked : ℕ) → n ≢ looked → {role : Role} {fresh : Bool} → Leaves z Outside anything (Announced looked) n role role fresh fresh
+lost_leaves looked other {role} {fresh} = record {
+  left = λ k k' done among e met s.
+      let t = s.1 other in
+      (gate_load_role (load_of (t.0).state) (all_counted t.0) role ∙ ap (role_from role) (sym t.3), gate_load_fresh (load_of (t.0).state) (all_counted t.0) fresh ∙ ap (fresh_from fresh) (sym t.3));
+}
 
 pub look_leaves : {z : Sight} (name : GateLoad) {r : Role} {n : ℕ} {role : Role} {fresh : Bool} → Leaves z r anything (SawGate name) n role role fresh fresh
 look_leaves name {role = role} {fresh} = record {

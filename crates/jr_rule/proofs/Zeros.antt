@@ -7,7 +7,8 @@ use Rattle.jr_word.specs.Config.{row_words}
 use Rattle.jr_model.specs.declared.event.Role.TheVariants.{Outside}
 use Rattle.jr_model.specs.State.{opening}
 use Rattle.jr_model.proofs.Counts.{count_all_false}
-use Rattle.jr_steps.specs.Says.{is_inside}
+use Rattle.jr_word.specs.declared.gate.GateState.TheVariants.{Open}
+use Rattle.jr_model.specs.State.{is_inside}
 use Rattle.jr_rule.specs.Image.{local_at, unowned, IsImage}
 use Rattle.jr_steps.specs.Holdings.{empty}
 use Rattle.jr_rule.proofs.HoldingsInSpace.{holdings_in_space}
@@ -31,11 +32,12 @@ module _ (config : Config) (last : ℕ) (words : List ℕ) (none : (j : ℕ) →
   opening_image wide = record {
     wide = wide;
     gate = record {
-      parts = record { count = 0; shut = false };
+      parts = record { count = 0; state = Open };
       word = none 0;
       says = record {
         count = sym (count_all_false config.threads (λ t. is_inside Outside) (λ t l. refl));
         shut = (λ e. absurd cc, λ u. absurd (let e = u.1 in cc));
+        announced = (λ e. absurd cc, λ u. absurd (let e = u.1 in cc));
       };
     };
     top = none 1;

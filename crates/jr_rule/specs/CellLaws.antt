@@ -1,6 +1,7 @@
 -- What always holds of words and of a thread that steps on them: the impls cite these, and there is nothing to believe.
 use Rattle.std.specs.Prelude.{ℕ, Bool, ◌≡◌, ◌<◌, ◌^◌, true, Option, Some, None, List, slice_index}
 use mathlib.Core.Logic.{∥∥₁_map}
+use Rattle.std.proofs.Props.{props}
 use Rattle.jr_model.specs.declared.event.Role.{Role}
 use Rattle.jr_steps.specs.declared.known.Known.{Known}
 use Rattle.jr_steps.specs.Knowing.{anything, HasNoLocals, IsOf, state_of}
@@ -24,6 +25,13 @@ module _ (z : Sight) (role : Role) (fresh : Bool) where
 
   pub some_of : (hint : ℕ) → IsStanding z role fresh hint → ∥ ((k : Known) × (facts_at z role fresh hint).knows k × anything k) ∥₁
   some_of hint s = ∥∥₁_map s.some (λ k. (k.0, k.1, tt))
+
+-- where words are is one fact
+pub seat_one : {row id : TableId} {c : Config} {last : ℕ} {m : Sat} {thread : ℕ} → IsProp (IsSeatOf row c last id m thread)
+seat_one = hlevel props
+
+pub unit_one : IsProp (Unit {0})
+unit_one = hlevel props
 
 pub seat_sound : {row id : TableId} {c : Config} {last : ℕ} {m : Sat} {thread : ℕ} → IsSeatOf row c last id m thread → AreSoundWords (sight_of_seat id m)
 seat_sound s = record {

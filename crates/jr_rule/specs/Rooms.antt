@@ -20,7 +20,7 @@ abbrev pub IsOfRoom : {LAST : ℕ} → Room LAST → Pass → Type 0
 IsOfRoom r p = IsAt r.row p
 
 -- the steps of a pass are made of what it is made of
-abbrev pub holder_over : {LAST : ℕ} {G : Ghosts (RoomCells LAST)} → StepsOver (RoomCells LAST) G → Holder
+abbrev pub holder_over : {P : Type 0} {G : Ghosts RoomCells P} → StepsOver RoomCells P G → Holder
 holder_over s = record { seat = s.cells.seat; thread = s.cells.thread; role = s.role; fresh = s.fresh; hint = s.hint }
 
 -- a room as it was opened, with its passes

@@ -25,137 +25,184 @@ impl StepKind for Brand {
     ghost told = { λ k n acts k'. Unit {0} };
 }
 
-/// The words of a row, and who steps on them: each operation is one on one word, and one step.
-pub trait Cells {
+/// Who steps on the words of a row: each operation is one on one word, and one step. `P` is where the words are.
+pub trait Cells<P: Copy> {
     ghost use Rattle.jr_rule.specs.Cells.{Sight, AreSoundWords};
 
     /// What is known of the words.
     ghost sight: { Self → Sight };
 
+    /// They are there.
+    ghost are_at: { Self → P → Type 0 };
+
+    /// Which is one fact.
+    ghost one: { (s : Self) (place : P) → IsProp (are_at s place) };
+
     /// The sizes of the room.
-    fn config(&self) -> Config
+    fn config(&self, place: P) -> Config
+        requires { are_at self.now place }
         ensures { result ≡ (sight self.now).first.config };
 
     /// The last serial.
-    fn last(&self) -> u32
+    fn last(&self, place: P) -> u32
+        requires { are_at self.now place }
         ensures { result ≡ (sight self.now).first.last };
 
     /// The thread that steps.
-    fn thread(&self) -> u8
+    fn thread(&self, place: P) -> u8
+        requires { are_at self.now place }
         ensures { result ≡ (sight self.now).first.thread };
 
     /// Where the header of object 1 is in the row.
-    fn headers(&self) -> usize
+    fn headers(&self, place: P) -> usize
+        requires { are_at self.now place }
         ensures { result ≡ place_of_header (sight self.now).first.config 1 };
 
     /// Where the first word of array space is in the row.
-    fn elements(&self) -> usize
+    fn elements(&self, place: P) -> usize
+        requires { are_at self.now place }
         ensures { result ≡ place_of_element (sight self.now).first.config 0 };
 
     /// Loads a word.
-    fn load<T: StepKind>(&mut self, at: usize) -> u64
-        requires { IsOwed (sight self.old) T.met at (λ n. n) T.told }
-        ensures { HasStepped (sight self.old) (sight self.new) T.met T.told result };
+    fn load<T: StepKind>(&mut self, place: P, at: usize) -> u64
+        requires there { are_at self.old place }
+        requires owed { IsOwed (sight self.old) T.met at (λ n. n) T.told }
+        ensures there { are_at self.new place }
+        ensures step { HasStepped (sight self.old) (sight self.new) T.met T.told result };
 
     /// Stores a word.
-    fn store<T: StepKind>(&mut self, at: usize, new: u64)
-        requires { IsOwed (sight self.old) T.met at (λ n. new) (λ k n. T.told k new) }
-        ensures { HasStepped (sight self.old) (sight self.new) T.met T.told new };
+    fn store<T: StepKind>(&mut self, place: P, at: usize, new: u64)
+        requires there { are_at self.old place }
+        requires owed { IsOwed (sight self.old) T.met at (λ n. new) (λ k n. T.told k new) }
+        ensures there { are_at self.new place }
+        ensures step { HasStepped (sight self.old) (sight self.new) T.met T.told new };
 
     /// Adds to a word. The number that was found.
-    fn add<T: StepKind>(&mut self, at: usize, more: u64) -> u64
-        requires { IsOwed (sight self.old) T.met at (λ n. (n + more) % 2 ^ 64) T.told }
-        ensures { HasStepped (sight self.old) (sight self.new) T.met T.told result };
+    fn add<T: StepKind>(&mut self, place: P, at: usize, more: u64) -> u64
+        requires there { are_at self.old place }
+        requires owed { IsOwed (sight self.old) T.met at (λ n. (n + more) % 2 ^ 64) T.told }
+        ensures there { are_at self.new place }
+        ensures step { HasStepped (sight self.old) (sight self.new) T.met T.told result };
 
     /// Takes away from a word. The number that was found.
-    fn take<T: StepKind>(&mut self, at: usize, less: u64) -> u64
-        requires { IsOwed (sight self.old) T.met at (λ n. (n + (2 ^ 64 - less)) % 2 ^ 64) T.told }
-        ensures { HasStepped (sight self.old) (sight self.new) T.met T.told result };
+    fn take<T: StepKind>(&mut self, place: P, at: usize, less: u64) -> u64
+        requires there { are_at self.old place }
+        requires owed { IsOwed (sight self.old) T.met at (λ n. (n + (2 ^ 64 - less)) % 2 ^ 64) T.told }
+        ensures there { are_at self.new place }
+        ensures step { HasStepped (sight self.old) (sight self.new) T.met T.told result };
 
     /// Exchanges a word for a new one where it is `old`. The number that was found.
-    fn exchange<T: StepKind>(&mut self, at: usize, old: u64, new: u64) -> u64
-        requires { IsOwed (sight self.old) T.met at (λ n. either (n == old) new n) T.told }
-        ensures { HasStepped (sight self.old) (sight self.new) T.met T.told result };
+    fn exchange<T: StepKind>(&mut self, place: P, at: usize, old: u64, new: u64) -> u64
+        requires there { are_at self.old place }
+        requires owed { IsOwed (sight self.old) T.met at (λ n. either (n == old) new n) T.told }
+        ensures there { are_at self.new place }
+        ensures step { HasStepped (sight self.old) (sight self.new) T.met T.told result };
 
     /// What always holds of the words.
-    ghost sound: { (s : Self) → AreSoundWords (sight s) };
+    ghost sound: { (s : Self) (place : P) → are_at s place → AreSoundWords (sight s) };
 }
 
 /// The same, about what the step is about: a call can pick what a step tells at a function, and not at a method of a bound.
 #[inline(always)]
-pub(crate) fn load<C: Cells, T: StepKind, A: Copy>(cells: &mut C, at: usize, _about: A) -> u64
-    requires { IsOwed (C.sight cells.old) T.met at (λ n. n) T.told }
-    ensures { HasStepped (C.sight cells.old) (C.sight cells.new) T.met T.told result }
-{
-    cells.load::<T>(at)
-}
-
-/// The same, about what the step is about: a call can pick what a step tells at a function, and not at a method of a bound.
-#[inline(always)]
-pub(crate) fn store<C: Cells, T: StepKind, A: Copy>(cells: &mut C, at: usize, new: u64, _about: A)
-    requires { IsOwed (C.sight cells.old) T.met at (λ n. new) (λ k n. T.told k new) }
-    ensures { HasStepped (C.sight cells.old) (C.sight cells.new) T.met T.told new }
-{
-    cells.store::<T>(at, new);
-}
-
-/// The same, about what the step is about: a call can pick what a step tells at a function, and not at a method of a bound.
-#[inline(always)]
-pub(crate) fn add<C: Cells, T: StepKind, A: Copy>(
+pub(crate) fn load<C: Cells<P>, P: Copy, T: StepKind, A: Copy>(
     cells: &mut C,
+    place: P,
+    at: usize,
+    _about: A,
+) -> u64
+    requires there { C.are_at cells.old place }
+    requires owed { IsOwed (C.sight cells.old) T.met at (λ n. n) T.told }
+    ensures there { C.are_at cells.new place }
+    ensures step { HasStepped (C.sight cells.old) (C.sight cells.new) T.met T.told result }
+{
+    cells.load::<T>(place, at)
+}
+
+/// The same, about what the step is about: a call can pick what a step tells at a function, and not at a method of a bound.
+#[inline(always)]
+pub(crate) fn store<C: Cells<P>, P: Copy, T: StepKind, A: Copy>(
+    cells: &mut C,
+    place: P,
+    at: usize,
+    new: u64,
+    _about: A,
+)
+    requires there { C.are_at cells.old place }
+    requires owed { IsOwed (C.sight cells.old) T.met at (λ n. new) (λ k n. T.told k new) }
+    ensures there { C.are_at cells.new place }
+    ensures step { HasStepped (C.sight cells.old) (C.sight cells.new) T.met T.told new }
+{
+    cells.store::<T>(place, at, new);
+}
+
+/// The same, about what the step is about: a call can pick what a step tells at a function, and not at a method of a bound.
+#[inline(always)]
+pub(crate) fn add<C: Cells<P>, P: Copy, T: StepKind, A: Copy>(
+    cells: &mut C,
+    place: P,
     at: usize,
     more: u64,
     _about: A,
 ) -> u64
-    requires { IsOwed (C.sight cells.old) T.met at (λ n. (n + more) % 2 ^ 64) T.told }
-    ensures { HasStepped (C.sight cells.old) (C.sight cells.new) T.met T.told result }
+    requires there { C.are_at cells.old place }
+    requires owed { IsOwed (C.sight cells.old) T.met at (λ n. (n + more) % 2 ^ 64) T.told }
+    ensures there { C.are_at cells.new place }
+    ensures step { HasStepped (C.sight cells.old) (C.sight cells.new) T.met T.told result }
 {
-    cells.add::<T>(at, more)
+    cells.add::<T>(place, at, more)
 }
 
 /// The same, about what the step is about: a call can pick what a step tells at a function, and not at a method of a bound.
 #[inline(always)]
-pub(crate) fn take<C: Cells, T: StepKind, A: Copy>(
+pub(crate) fn take<C: Cells<P>, P: Copy, T: StepKind, A: Copy>(
     cells: &mut C,
+    place: P,
     at: usize,
     less: u64,
     _about: A,
 ) -> u64
-    requires { IsOwed (C.sight cells.old) T.met at (λ n. (n + (2 ^ 64 - less)) % 2 ^ 64) T.told }
-    ensures { HasStepped (C.sight cells.old) (C.sight cells.new) T.met T.told result }
+    requires there { C.are_at cells.old place }
+    requires owed { IsOwed (C.sight cells.old) T.met at (λ n. (n + (2 ^ 64 - less)) % 2 ^ 64) T.told }
+    ensures there { C.are_at cells.new place }
+    ensures step { HasStepped (C.sight cells.old) (C.sight cells.new) T.met T.told result }
 {
-    cells.take::<T>(at, less)
+    cells.take::<T>(place, at, less)
 }
 
 /// The same, about what the step is about: a call can pick what a step tells at a function, and not at a method of a bound.
 #[inline(always)]
-pub(crate) fn exchange<C: Cells, T: StepKind, A: Copy>(
+pub(crate) fn exchange<C: Cells<P>, P: Copy, T: StepKind, A: Copy>(
     cells: &mut C,
+    place: P,
     at: usize,
     old: u64,
     new: u64,
     _about: A,
 ) -> u64
-    requires { IsOwed (C.sight cells.old) T.met at (λ n. either (n == old) new n) T.told }
-    ensures { HasStepped (C.sight cells.old) (C.sight cells.new) T.met T.told result }
+    requires there { C.are_at cells.old place }
+    requires owed { IsOwed (C.sight cells.old) T.met at (λ n. either (n == old) new n) T.told }
+    ensures there { C.are_at cells.new place }
+    ensures step { HasStepped (C.sight cells.old) (C.sight cells.new) T.met T.told result }
 {
-    cells.exchange::<T>(at, old, new)
+    cells.exchange::<T>(place, at, old, new)
 }
 
 /// The place of an object's header in the row.
 #[inline(always)]
-pub(crate) fn header_at<C: Cells>(cells: &C, object: u32) -> usize
-    requires { (1 ≤ object) × (object ≤ (C.sight cells.now).first.config.objects) }
+pub(crate) fn header_at<C: Cells<P>, P: Copy>(cells: &C, place: P, object: u32) -> usize
+    requires there { C.are_at cells.now place }
+    requires object { (1 ≤ object) × (object ≤ (C.sight cells.now).first.config.objects) }
     ensures { result ≡ place_of_header (C.sight cells.now).first.config object }
 {
-    cells.headers() + (object as usize - 1)
+    cells.headers(place) + (object as usize - 1)
 }
 
 /// The place of a word of array space in the row.
 #[inline(always)]
-pub(crate) fn element_at<C: Cells>(cells: &C, place: u32) -> usize
-    requires { place < (C.sight cells.now).first.config.words }
-    ensures { result ≡ place_of_element (C.sight cells.now).first.config place }
+pub(crate) fn element_at<C: Cells<P>, P: Copy>(cells: &C, place: P, index: u32) -> usize
+    requires there { C.are_at cells.now place }
+    requires index { index < (C.sight cells.now).first.config.words }
+    ensures { result ≡ place_of_element (C.sight cells.now).first.config index }
 {
-    cells.elements() + place as usize
+    cells.elements(place) + index as usize
 }

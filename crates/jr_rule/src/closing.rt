@@ -34,7 +34,7 @@ impl<const LAST: u32> Room<LAST> {
     ///
     /// # Errors
     ///
-    /// E22 with how many threads were inside, knocking or collecting at its one look, at least 1.
+    /// E22 with how many threads were inside, knocking, announcing or collecting at its one look, at least 1.
     ///
     /// The room is handed back as it was, and the pass, which has looked at the gate. They can be closed again.
     ///
@@ -58,7 +58,7 @@ impl<const LAST: u32> Room<LAST> {
         Ok(row.close(pass))
     }
 
-    /// The pass looks at the gate, as it does when it meets another one: how many threads are inside, knocking or collecting, and the pass.
+    /// The pass looks at the gate, as it does when it meets another one: how many threads are inside, knocking, announcing or collecting, and the pass.
     pub(crate) fn look(&self, pass: Pass) -> (u32, Pass)
         requires { IsOfRoom self.now pass }
         ensures room { IsOfRoom self.now result.1 }

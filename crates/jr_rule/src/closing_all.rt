@@ -26,7 +26,7 @@ impl<const LAST: u32> Room<LAST> {
     ///
     /// # Errors
     ///
-    /// E22 with how many threads were inside, knocking or collecting at its one look, at least 1.
+    /// E22 with how many threads were inside, knocking, announcing or collecting at its one look, at least 1.
     ///
     /// The room and the other passes are handed back as they were, and the first pass, which has looked at the gate. They can be closed again.
     ///

@@ -4,21 +4,21 @@ ghost use Rattle.jr_rule.specs.Cells.{IsStanding};
 
 use crate::cells::{Cells, add, element_at, exchange, header_at, load, store, take};
 use crate::words::{
-    GATE, TOP, all_counted, freed_slot, is_shut, local_at, local_parts, reference, slot_at,
+    GATE, TOP, all_counted, freed_slot, is_closed, local_at, local_parts, reference, slot_at,
     top_word,
 };
 use jr_model::Role;
 use jr_steps::{GateLoad, SlotLoad, Steps, TopLoad};
 use jr_word::{
-    Config, Elem, GateParts, GateWord, HandleParts, Header, HeaderParts, LocalParts, LocalWord,
-    RefKind, SlotParts, SlotWord, TopWord,
+    Config, Elem, GateParts, GateState, GateWord, HandleParts, Header, HeaderParts, LocalParts,
+    LocalWord, RefKind, SlotParts, SlotWord, TopWord,
 };
 use std::marker::Brand;
 
 /// The steps of one thread over words.
 #[derive(Drop)]
-pub struct StepsOver<C: Cells> {
-    /// The words, and who steps on them.
+pub struct StepsOver<C: Cells<P>, P: Copy> {
+    /// Who steps on the words.
     pub cells: C,
     /// Where the thread stands towards the gate.
     pub role: Role,
@@ -26,10 +26,13 @@ pub struct StepsOver<C: Cells> {
     pub fresh: bool,
     /// Where the next search for a free slot begins.
     pub hint: u16,
+    /// Where the words are.
+    pub place: P,
+    ghost at: { C.are_at cells place } by { C.one cells place },
     ghost stands: { IsStanding (C.sight cells) role fresh hint },
 }
 
-impl<C: Cells> StepsOver<C> {
+impl<C: Cells<P>, P: Copy> StepsOver<C, P> {
     ghost use Rattle.jr_steps.specs.Acts.{act_of_gate_load, GateLoadFits, all_counted as all_of};
     ghost use Rattle.jr_rule.specs.Over.{LooksSo};
     ghost use Rattle.std.specs.Prelude.{◌<◌, ◌≤◌, ◌+◌, [], ◌∷◌, length};
@@ -46,27 +49,37 @@ impl<C: Cells> StepsOver<C> {
         ensures seen { LooksSo (C.sight self.old.cells) (C.sight self.new.cells) self.old.role name result }
     {
         let about = (name, self.role);
-        let found = load::<C, Brand, (GateLoad, Role)>(&mut self.cells, GATE, about);
+        let found = load::<C, P, Brand, (GateLoad, Role)>(&mut self.cells, self.place, GATE, about);
         GateWord::parts(found).unwrap()
     }
 
     /// Loads an element of an object whose header the pass knows, at its place in the row.
     #[inline(always)]
-    fn see_element_at(&mut self, object: u16, header: HeaderParts, index: u32, at: usize) -> u64
+    fn see_element_at(
+        &mut self,
+        there: P,
+        object: u16,
+        header: HeaderParts,
+        index: u32,
+        at: usize,
+    ) -> u64
         requires role { self.old.role ≡ Within }
         requires index { index < header.length }
         requires known { MayKnow facts_over self.old (KnowsHeader object header) }
+        requires there { there ≡ self.old.place }
         requires place { at ≡ place_of_element (C.sight self.old.cells).first.config (header.place + index) }
-        ensures { Took facts_over self.old self.new (Read object index result ∷ []) (KnowsHeader object header) keeps }
+        ensures there { there ≡ self.new.place }
+        ensures step { Took facts_over self.old self.new (Read object index result ∷ []) (KnowsHeader object header) keeps }
     {
         let about = (object, header, index);
-        load::<C, Brand, (u16, HeaderParts, u32)>(&mut self.cells, at, about)
+        load::<C, P, Brand, (u16, HeaderParts, u32)>(&mut self.cells, there, at, about)
     }
 
     /// Loads four elements of a part into their places in the slice.
     #[inline(always)]
     fn see_four<E: Elem>(
         &mut self,
+        there: P,
         object: u16,
         header: HeaderParts,
         start: u32,
@@ -78,23 +91,26 @@ impl<C: Cells> StepsOver<C> {
         requires part { start + length elements.old ≤ header.length }
         requires index { index + 4 ≤ length elements.old }
         requires known { MayKnow facts_over self.old (KnowsHeader object header) }
+        requires there { there ≡ self.old.place }
         requires place { at ≡ place_of_element (C.sight self.old.cells).first.config 0 + header.place + start + index }
         ensures config { (C.sight self.new.cells).first.config ≡ (C.sight self.old.cells).first.config }
         ensures role { self.new.role ≡ Within }
         ensures size { length elements.new ≡ length elements.old }
         ensures known { MayKnow facts_over self.new (KnowsHeader object header) }
+        ensures there { there ≡ self.new.place }
         ensures step { ReadsTo object header start E.element_of index (index + 4) self.old self.new elements.old elements.new }
     {
-        self.see_into(object, header, start, at, elements, index);
-        self.see_into(object, header, start, at + 1, elements, index + 1);
-        self.see_into(object, header, start, at + 2, elements, index + 2);
-        self.see_into(object, header, start, at + 3, elements, index + 3);
+        self.see_into(there, object, header, start, at, elements, index);
+        self.see_into(there, object, header, start, at + 1, elements, index + 1);
+        self.see_into(there, object, header, start, at + 2, elements, index + 2);
+        self.see_into(there, object, header, start, at + 3, elements, index + 3);
     }
 
     /// Loads one element of a part into its place in the slice.
     #[inline(always)]
     fn see_into<E: Elem>(
         &mut self,
+        there: P,
         object: u16,
         header: HeaderParts,
         start: u32,
@@ -106,14 +122,16 @@ impl<C: Cells> StepsOver<C> {
         requires part { start + length elements.old ≤ header.length }
         requires index { index < length elements.old }
         requires known { MayKnow facts_over self.old (KnowsHeader object header) }
+        requires there { there ≡ self.old.place }
         requires place { at ≡ place_of_element (C.sight self.old.cells).first.config 0 + header.place + start + index }
         ensures config { (C.sight self.new.cells).first.config ≡ (C.sight self.old.cells).first.config }
         ensures role { self.new.role ≡ Within }
         ensures size { length elements.new ≡ length elements.old }
         ensures known { MayKnow facts_over self.new (KnowsHeader object header) }
+        ensures there { there ≡ self.new.place }
         ensures step { ReadsTo object header start E.element_of index (index + 1) self.old self.new elements.old elements.new }
     {
-        let word = self.see_element_at(object, header, start + index as u32, at);
+        let word = self.see_element_at(there, object, header, start + index as u32, at);
         elements[index] = E::of_word(word);
     }
 
@@ -121,6 +139,7 @@ impl<C: Cells> StepsOver<C> {
     #[inline(always)]
     fn see_rest<E: Elem>(
         &mut self,
+        there: P,
         object: u16,
         header: HeaderParts,
         start: u32,
@@ -132,32 +151,33 @@ impl<C: Cells> StepsOver<C> {
         requires part { start + length elements.old ≤ header.length }
         requires done { done ≤ length elements.old }
         requires known { MayKnow facts_over self.old (KnowsHeader object header) }
+        requires there { there ≡ self.old.place }
         requires place { first ≡ place_of_element (C.sight self.old.cells).first.config 0 + header.place + start }
         ensures size { length elements.new ≡ length elements.old }
         ensures steps { ReadsRest object header start E.element_of done self.old self.new elements.old elements.new }
     {
         for index in done..elements.len() {
-            self.see_into(object, header, start, first + index, elements, index);
+            self.see_into(there, object, header, start, first + index, elements, index);
         }
     }
 }
 
-impl<C: Cells> Steps for StepsOver<C> {
+impl<C: Cells<P>, P: Copy> Steps for StepsOver<C, P> {
     ghost use Rattle.jr_rule.specs.Cells.{facts_at};
     ghost use Rattle.jr_rule.specs.CellLaws.{some_of, among_of};
 
     ghost facts = { λ s. facts_at (C.sight s.cells) s.role s.fresh s.hint };
 
     fn config(&self) -> Config {
-        self.cells.config()
+        self.cells.config(self.place)
     }
 
     fn thread(&self) -> u8 {
-        self.cells.thread()
+        self.cells.thread(self.place)
     }
 
     fn last(&self) -> u32 {
-        self.cells.last()
+        self.cells.last(self.place)
     }
 
     fn role(&self) -> Role {
@@ -184,8 +204,8 @@ impl<C: Cells> Steps for StepsOver<C> {
         // (the role that it mostly is, stored before the addition: the exit's subtraction waits for every store
         // before it, and would wait for one that depends on what the entry found)
         self.role = Role::Within;
-        let found = add::<C, Brand, ()>(&mut self.cells, GATE, 1, ());
-        if is_shut(found) {
+        let found = add::<C, P, Brand, ()>(&mut self.cells, self.place, GATE, 1, ());
+        if is_closed(found) {
             self.role = Role::Knocking;
             return false;
         }
@@ -193,12 +213,13 @@ impl<C: Cells> Steps for StepsOver<C> {
     }
 
     fn go_out(&mut self) {
-        take::<C, Brand, Role>(&mut self.cells, GATE, 1, self.role);
+        take::<C, P, Brand, Role>(&mut self.cells, self.place, GATE, 1, self.role);
         self.role = Role::Outside;
     }
 
     fn bar(&mut self) -> Result<(), u32> {
-        let found = exchange::<C, Brand, ()>(&mut self.cells, GATE, 0, GateWord::SHUT, ());
+        let (open, shut) = (0, GateWord::SHUT);
+        let found = exchange::<C, P, Brand, ()>(&mut self.cells, self.place, GATE, open, shut, ());
         if found != 0 {
             return Err(all_counted(GateWord::parts(found).unwrap()));
         }
@@ -206,8 +227,54 @@ impl<C: Cells> Steps for StepsOver<C> {
         Ok(())
     }
 
+    fn announce(&mut self, looked: u16) -> Result<(), GateParts> {
+        let open = GateWord::pack(GateParts {
+            count: looked,
+            state: GateState::Open,
+        });
+        let announced = GateWord::pack(GateParts {
+            count: looked,
+            state: GateState::Announced,
+        });
+        let found = exchange::<C, P, Brand, u16>(
+            &mut self.cells,
+            self.place,
+            GATE,
+            open.0,
+            announced.0,
+            looked,
+        );
+        if found != open.0 {
+            return Err(GateWord::parts(found).unwrap());
+        }
+        self.role = Role::Announcing;
+        Ok(())
+    }
+
+    fn cancel(&mut self) {
+        take::<C, P, Brand, ()>(&mut self.cells, self.place, GATE, GateWord::ANNOUNCED, ());
+        self.role = Role::Outside;
+    }
+
+    fn bar_announced(&mut self) -> Result<(), u32> {
+        let (announced, shut) = (GateWord::ANNOUNCED, GateWord::SHUT);
+        let found = exchange::<C, P, Brand, ()>(
+            &mut self.cells,
+            self.place,
+            GATE,
+            announced,
+            shut,
+            (),
+        );
+        if found != GateWord::ANNOUNCED {
+            return Err(u32::from(GateWord::parts(found).unwrap().count));
+        }
+        self.role = Role::Collecting;
+        Ok(())
+    }
+
     fn unbar(&mut self) {
-        take::<C, Brand, ()>(&mut self.cells, GATE, GateWord::SHUT, ());
+        take::<C, P, Brand, ()>(&mut self.cells, self.place, GATE, GateWord::SHUT, ());
         self.role = Role::Outside;
     }
 
@@ -219,7 +286,7 @@ impl<C: Cells> Steps for StepsOver<C> {
     fn see_slot(&mut self, index: u16, name: SlotLoad) -> SlotParts {
         let at = slot_at(index);
         let about = (index, name);
-        let found = load::<C, Brand, (u16, SlotLoad)>(&mut self.cells, at, about);
+        let found = load::<C, P, Brand, (u16, SlotLoad)>(&mut self.cells, self.place, at, about);
         SlotWord::of_word(found)
     }
 
@@ -234,8 +301,9 @@ impl<C: Cells> Steps for StepsOver<C> {
         let looked = SlotWord::pack(SlotParts::Free { serial });
         let made = SlotWord::pack(reference(kind, serial, Some(object)));
         let about = (index, serial, kind, object);
-        let found = exchange::<C, Brand, (u16, u32, RefKind, u16)>(
+        let found = exchange::<C, P, Brand, (u16, u32, RefKind, u16)>(
             &mut self.cells,
+            self.place,
             at,
             looked.0,
             made.0,
@@ -250,10 +318,11 @@ impl<C: Cells> Steps for StepsOver<C> {
     fn free(&mut self, handle: HandleParts, object: Option<u16>) -> bool {
         let at = slot_at(handle.index);
         let looked = SlotWord::pack(reference(handle.kind, handle.serial, object));
-        let freed = SlotWord::pack(freed_slot(handle.serial, self.cells.last()));
+        let freed = SlotWord::pack(freed_slot(handle.serial, self.cells.last(self.place)));
         let about = (handle, object);
-        let found = exchange::<C, Brand, (HandleParts, Option<u16>)>(
+        let found = exchange::<C, P, Brand, (HandleParts, Option<u16>)>(
             &mut self.cells,
+            self.place,
             at,
             looked.0,
             freed.0,
@@ -263,29 +332,38 @@ impl<C: Cells> Steps for StepsOver<C> {
     }
 
     fn put_local(&mut self, place: u16, object: Option<u16>) {
-        let at = local_at(&self.cells.config(), self.cells.thread(), place);
+        let config = self.cells.config(self.place);
+        let own = self.cells.thread(self.place);
+        let at = local_at(&config, own, place);
         let new = LocalWord::pack(local_parts(object));
         let about = (place, object);
-        store::<C, Brand, (u16, Option<u16>)>(&mut self.cells, at, new.0, about);
+        store::<C, P, Brand, (u16, Option<u16>)>(&mut self.cells, self.place, at, new.0, about);
         self.fresh = false;
     }
 
     fn see_header(&mut self, object: u16) -> Option<HeaderParts> {
-        let at = header_at(&self.cells, u32::from(object));
-        let found = load::<C, Brand, u16>(&mut self.cells, at, object);
+        let at = header_at::<C, P>(&self.cells, self.place, u32::from(object));
+        let found = load::<C, P, Brand, u16>(&mut self.cells, self.place, at, object);
         Header::of_word(found)
     }
 
     fn claim_header(&mut self, object: u16, header: HeaderParts) -> bool {
-        let at = header_at(&self.cells, u32::from(object));
+        let at = header_at::<C, P>(&self.cells, self.place, u32::from(object));
         let new = Header::pack(header);
         let about = (object, header);
-        let found = exchange::<C, Brand, (u16, HeaderParts)>(&mut self.cells, at, 0, new.0, about);
+        let found = exchange::<C, P, Brand, (u16, HeaderParts)>(
+            &mut self.cells,
+            self.place,
+            at,
+            0,
+            new.0,
+            about,
+        );
         found == 0
     }
 
     fn see_top(&mut self, name: TopLoad) -> u32 {
-        let found = load::<C, Brand, TopLoad>(&mut self.cells, TOP, name);
+        let found = load::<C, P, Brand, TopLoad>(&mut self.cells, self.place, TOP, name);
         TopWord::parts(found).unwrap().used
     }
 
@@ -293,7 +371,14 @@ impl<C: Cells> Steps for StepsOver<C> {
         let old = top_word(looked);
         let new = top_word(looked + more);
         let about = (looked, more);
-        let found = exchange::<C, Brand, (u32, u32)>(&mut self.cells, TOP, old, new, about);
+        let found = exchange::<C, P, Brand, (u32, u32)>(
+            &mut self.cells,
+            self.place,
+            TOP,
+            old,
+            new,
+            about,
+        );
         if found != old {
             return Err(TopWord::parts(found).unwrap().used);
         }
@@ -301,8 +386,9 @@ impl<C: Cells> Steps for StepsOver<C> {
     }
 
     fn see_element(&mut self, object: u16, header: HeaderParts, index: u32) -> u64 {
-        let at = element_at(&self.cells, header.place + index);
-        self.see_element_at(object, header, index, at)
+        let at = element_at::<C, P>(&self.cells, self.place, header.place + index);
+        let there = self.place;
+        self.see_element_at(there, object, header, index, at)
     }
 
     #[inline(always)]
@@ -313,11 +399,13 @@ impl<C: Cells> Steps for StepsOver<C> {
         start: u32,
         elements: &mut [E],
     ) {
-        let first = self.cells.elements() + header.place as usize + start as usize;
+        let there = self.place;
+        let first = self.cells.elements(there) + header.place as usize + start as usize;
         for eight in 0..elements.len() / 8 {
             let index = eight * 8;
-            self.see_four(object, header, start, first + index, elements, index);
+            self.see_four(there, object, header, start, first + index, elements, index);
             self.see_four(
+                there,
                 object,
                 header,
                 start,
@@ -327,42 +415,48 @@ impl<C: Cells> Steps for StepsOver<C> {
             );
         }
         let done = elements.len() / 8 * 8;
-        self.see_rest(object, header, start, first, elements, done);
+        self.see_rest(there, object, header, start, first, elements, done);
     }
 
     fn put_element(&mut self, object: u16, header: HeaderParts, index: u32, word: u64) {
-        let at = element_at(&self.cells, header.place + index);
+        let at = element_at::<C, P>(&self.cells, self.place, header.place + index);
         let about = (object, header, index);
-        store::<C, Brand, (u16, HeaderParts, u32)>(&mut self.cells, at, word, about);
+        store::<C, P, Brand, (u16, HeaderParts, u32)>(&mut self.cells, self.place, at, word, about);
     }
 
     fn put_reserved(&mut self, place: u32, index: u32, word: u64) {
-        let at = element_at(&self.cells, place + index);
-        store::<C, Brand, (u32, u32)>(&mut self.cells, at, word, (place, index));
+        let at = element_at::<C, P>(&self.cells, self.place, place + index);
+        store::<C, P, Brand, (u32, u32)>(&mut self.cells, self.place, at, word, (place, index));
     }
 
     fn scan_slot(&mut self, index: u16) -> SlotParts {
         let at = slot_at(index);
-        let found = load::<C, Brand, u16>(&mut self.cells, at, index);
+        let found = load::<C, P, Brand, u16>(&mut self.cells, self.place, at, index);
         SlotWord::of_word(found)
     }
 
     fn scan_local(&mut self, thread: u8, place: u16) -> LocalParts {
-        let at = local_at(&self.cells.config(), thread, place);
-        let found = load::<C, Brand, (u8, u16)>(&mut self.cells, at, (thread, place));
+        let config = self.cells.config(self.place);
+        let at = local_at(&config, thread, place);
+        let found = load::<C, P, Brand, (u8, u16)>(
+            &mut self.cells,
+            self.place,
+            at,
+            (thread, place),
+        );
         LocalWord::parts(found).unwrap()
     }
 
     fn scan_header(&mut self, object: u16) -> Option<HeaderParts> {
-        let at = header_at(&self.cells, u32::from(object));
-        let found = load::<C, Brand, u16>(&mut self.cells, at, object);
+        let at = header_at::<C, P>(&self.cells, self.place, u32::from(object));
+        let found = load::<C, P, Brand, u16>(&mut self.cells, self.place, at, object);
         Header::of_word(found)
     }
 
     fn scan_element(&mut self, object: u16, header: HeaderParts, index: u32) -> u64 {
-        let at = element_at(&self.cells, header.place + index);
+        let at = element_at::<C, P>(&self.cells, self.place, header.place + index);
         let about = (object, header, index);
-        load::<C, Brand, (u16, HeaderParts, u32)>(&mut self.cells, at, about)
+        load::<C, P, Brand, (u16, HeaderParts, u32)>(&mut self.cells, self.place, at, about)
     }
 
     fn wipe(&mut self, index: u16, serial: u32, object: u16) {
@@ -376,12 +470,19 @@ impl<C: Cells> Steps for StepsOver<C> {
             object: None,
         });
         let about = (index, serial, object);
-        exchange::<C, Brand, (u16, u32, u16)>(&mut self.cells, at, looked.0, cleared.0, about);
+        exchange::<C, P, Brand, (u16, u32, u16)>(
+            &mut self.cells,
+            self.place,
+            at,
+            looked.0,
+            cleared.0,
+            about,
+        );
     }
 
     fn drop_header(&mut self, object: u16) {
-        let at = header_at(&self.cells, u32::from(object));
-        store::<C, Brand, u16>(&mut self.cells, at, 0, object);
+        let at = header_at::<C, P>(&self.cells, self.place, u32::from(object));
+        store::<C, P, Brand, u16>(&mut self.cells, self.place, at, 0, object);
     }
 
     fn move_element(
@@ -392,21 +493,33 @@ impl<C: Cells> Steps for StepsOver<C> {
         index: u32,
         word: u64,
     ) {
-        let at = element_at(&self.cells, place + index);
+        let at = element_at::<C, P>(&self.cells, self.place, place + index);
         let about = (object, header, place, index);
-        store::<C, Brand, (u16, HeaderParts, u32, u32)>(&mut self.cells, at, word, about);
+        store::<C, P, Brand, (u16, HeaderParts, u32, u32)>(
+            &mut self.cells,
+            self.place,
+            at,
+            word,
+            about,
+        );
     }
 
     fn set_header(&mut self, object: u16, header: HeaderParts, place: u32) {
-        let at = header_at(&self.cells, u32::from(object));
+        let at = header_at::<C, P>(&self.cells, self.place, u32::from(object));
         let new = Header::pack(HeaderParts { place, ..header });
         let about = (object, header, place);
-        store::<C, Brand, (u16, HeaderParts, u32)>(&mut self.cells, at, new.0, about);
+        store::<C, P, Brand, (u16, HeaderParts, u32)>(
+            &mut self.cells,
+            self.place,
+            at,
+            new.0,
+            about,
+        );
     }
 
     fn set_top(&mut self, used: u32) {
         let new = top_word(used);
-        store::<C, Brand, u32>(&mut self.cells, TOP, new, used);
+        store::<C, P, Brand, u32>(&mut self.cells, self.place, TOP, new, used);
     }
 
     ghost fits = { λ s k h. h.1 };
@@ -415,11 +528,11 @@ impl<C: Cells> Steps for StepsOver<C> {
 
     ghost unused = { λ s k f h. s.stands.unused f k (among_of (C.sight s.cells) s.role s.fresh k h) };
 
-    ghost in_space = { λ s k h. (C.sound s.cells).space k (among_of (C.sight s.cells) s.role s.fresh k h) };
+    ghost in_space = { λ s k h. (C.sound s.cells s.place s.at).space k (among_of (C.sight s.cells) s.role s.fresh k h) };
 
-    ghost limits = { λ s. (C.sound s.cells).sized.limits };
+    ghost limits = { λ s. (C.sound s.cells s.place s.at).sized.limits };
 
-    ghost row = { λ s. (C.sound s.cells).row };
+    ghost row = { λ s. (C.sound s.cells s.place s.at).row };
 
     ghost below = { λ s. s.stands.below };
 }

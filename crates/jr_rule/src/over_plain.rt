@@ -7,9 +7,9 @@ use jr_word::{Config, Fault};
 use std::alloc::Global;
 
 /// The steps of thread 0 over a row of plain words, with `LAST` as the last serial.
-pub type PlainSteps<const LAST: u32> = StepsOver<PlainCells<LAST>>;
+pub type PlainSteps<const LAST: u32> = StepsOver<PlainCells<LAST>, ()>;
 
-impl<const LAST: u32> StepsOver<PlainCells<LAST>> {
+impl<const LAST: u32> StepsOver<PlainCells<LAST>, ()> {
     ghost use Rattle.std.specs.Prelude.{◌≡◌, ◌⊎◌, ◌↔◌, false, IfOk, IfErr, Err};
     ghost use Rattle.jr_word.specs.declared.fault.Fault.TheVariants.{Memory, Size};
     ghost use Rattle.jr_word.specs.Config.{in_limits};
@@ -41,6 +41,7 @@ impl<const LAST: u32> StepsOver<PlainCells<LAST>> {
             role: Role::Outside,
             fresh: true,
             hint: 0,
+            place: (),
         })
     }
 

@@ -5,9 +5,9 @@ use crate::room::Room;
 use crate::row::RoomCells;
 
 /// The steps that the holder of a pass takes in its room.
-pub type RoomSteps<'a, const LAST: u32> = StepsOver<RoomCells<'a, LAST>>;
+pub type RoomSteps<'a, const LAST: u32> = StepsOver<RoomCells, &'a Room<LAST>>;
 
-impl<'a, const LAST: u32> StepsOver<RoomCells<'a, LAST>> {
+impl<'a, const LAST: u32> StepsOver<RoomCells, &'a Room<LAST>> {
     ghost use Rattle.std.specs.Prelude.{◌≡◌, [], ◌∷◌};
     ghost use Rattle.jr_model.specs.declared.event.Act.TheVariants.{Meet};
     ghost use Rattle.jr_model.specs.History.{HasMet};
@@ -19,7 +19,7 @@ impl<'a, const LAST: u32> StepsOver<RoomCells<'a, LAST>> {
     /// The steps of a pass in its own room. That the pass is one of the room's is a condition: it has no bytes that name its room.
     pub fn new(room: &'a Room<LAST>, pass: Pass) -> Self
         requires { IsOfRoom room.now pass }
-        ensures { (result.cells.room ≡ room.entry) × (holder_over result ≡ holder_of pass) }
+        ensures { (result.place ≡ room.entry) × (holder_over result ≡ holder_of pass) }
     {
         let Pass {
             seat,
@@ -28,12 +28,13 @@ impl<'a, const LAST: u32> StepsOver<RoomCells<'a, LAST>> {
             fresh,
             hint,
         } = pass;
-        let cells = RoomCells { room, seat, thread };
+        let cells = RoomCells { seat, thread };
         StepsOver {
             cells,
             role,
             fresh,
             hint,
+            place: room,
         }
     }
 
@@ -43,19 +44,16 @@ impl<'a, const LAST: u32> StepsOver<RoomCells<'a, LAST>> {
     ///
     /// None.
     pub fn into_pass(self) -> Pass
-        ensures { (holder_of result ≡ holder_over self.entry) × IsOfRoom self.entry.cells.room.now result }
+        ensures { (holder_of result ≡ holder_over self.entry) × IsOfRoom self.entry.place.now result }
     {
         let StepsOver {
             cells,
             role,
             fresh,
             hint,
+            place: _,
         } = self;
-        let RoomCells {
-            room: _,
-            seat,
-            thread,
-        } = cells;
+        let RoomCells { seat, thread } = cells;
         Pass {
             seat,
             thread,
@@ -71,11 +69,11 @@ impl<'a, const LAST: u32> StepsOver<RoomCells<'a, LAST>> {
     ///
     /// One, a load of the gate. The passes join for it and part again, each by a load of the gate that no clause counts.
     pub fn meet(&mut self, other: Pass) -> Pass
-        requires { IsOfRoom self.old.cells.room.now other }
-        ensures room { self.new.cells.room ≡ self.old.cells.room }
+        requires { IsOfRoom self.old.place.now other }
+        ensures room { self.new.place ≡ self.old.place }
         ensures step { Took facts_of (holder_over self.old) (holder_over self.new) (Meet ∷ []) anything keeps }
         ensures met { HasMet (view (known_of other)) (view (acting self.new.cells.seat.me)) }
-        ensures other { IsOfRoom self.old.cells.room.now result × IsSame other result }
+        ensures other { IsOfRoom self.old.place.now result × IsSame other result }
     {
         let Pass {
             seat,
@@ -84,7 +82,7 @@ impl<'a, const LAST: u32> StepsOver<RoomCells<'a, LAST>> {
             fresh,
             hint,
         } = other;
-        let seat = self.cells.meet(seat);
+        let seat = self.cells.meet(self.place, seat);
         Pass {
             seat,
             thread,

@@ -29,53 +29,57 @@ impl<const LAST: u32> PlainCells<LAST> {
     }
 }
 
-impl<const LAST: u32> Cells for PlainCells<LAST> {
+impl<const LAST: u32> Cells<()> for PlainCells<LAST> {
     ghost use Rattle.jr_rule.specs.Sights.{sight_of_words};
-    ghost use Rattle.jr_rule.specs.CellLaws.{words_sound};
+    ghost use Rattle.jr_rule.specs.CellLaws.{unit_one, words_sound};
 
     ghost sight = { λ s. sight_of_words s.config LAST s.words.items };
 
-    fn config(&self) -> Config {
+    ghost are_at = { λ s place. Unit {0} };
+
+    ghost one = { λ s place. unit_one };
+
+    fn config(&self, _place: ()) -> Config {
         self.config
     }
 
-    fn last(&self) -> u32 {
+    fn last(&self, _place: ()) -> u32 {
         LAST
     }
 
-    fn thread(&self) -> u8 {
+    fn thread(&self, _place: ()) -> u8 {
         0
     }
 
-    fn headers(&self) -> usize {
+    fn headers(&self, _place: ()) -> usize {
         first_header(&self.config)
     }
 
-    fn elements(&self) -> usize {
+    fn elements(&self, _place: ()) -> usize {
         first_element(&self.config)
     }
 
-    fn load<T: StepKind>(&mut self, at: usize) -> u64 {
+    fn load<T: StepKind>(&mut self, _place: (), at: usize) -> u64 {
         self.word(at)
     }
 
-    fn store<T: StepKind>(&mut self, at: usize, new: u64) {
+    fn store<T: StepKind>(&mut self, _place: (), at: usize, new: u64) {
         self.words[at] = new;
     }
 
-    fn add<T: StepKind>(&mut self, at: usize, more: u64) -> u64 {
+    fn add<T: StepKind>(&mut self, _place: (), at: usize, more: u64) -> u64 {
         let found = self.word(at);
         self.words[at] = found.wrapping_add(more);
         found
     }
 
-    fn take<T: StepKind>(&mut self, at: usize, less: u64) -> u64 {
+    fn take<T: StepKind>(&mut self, _place: (), at: usize, less: u64) -> u64 {
         let found = self.word(at);
         self.words[at] = found.wrapping_sub(less);
         found
     }
 
-    fn exchange<T: StepKind>(&mut self, at: usize, old: u64, new: u64) -> u64 {
+    fn exchange<T: StepKind>(&mut self, _place: (), at: usize, old: u64, new: u64) -> u64 {
         let found = self.word(at);
         if found == old {
             self.words[at] = new;
@@ -83,5 +87,5 @@ impl<const LAST: u32> Cells for PlainCells<LAST> {
         found
     }
 
-    ghost sound = { λ s. words_sound s.config LAST s.words.items s.limits s.limited s.few };
+    ghost sound = { λ s place at. words_sound s.config LAST s.words.items s.limits s.limited s.few };
 }

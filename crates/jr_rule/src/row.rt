@@ -200,99 +200,102 @@ impl Row {
     }
 }
 
-/// The words of a room, which other threads step on too, with one thread's seat at them.
+/// A seat at the words of a room, on which other threads step too.
 #[derive(Drop)]
-pub struct RoomCells<'a, const LAST: u32> {
-    /// The room.
-    pub room: &'a Room<LAST>,
+pub struct RoomCells {
     pub(crate) seat: Seat<(), View>,
     pub(crate) thread: u8,
-    ghost at: { IsSeatOf room.now.row.table.shared.table_id room.now.row.config room.now.row.last seat.table_id seat.me thread },
 }
 
-impl<const LAST: u32> RoomCells<'_, LAST> {
+impl RoomCells {
     ghost use Rattle.std.specs.Prelude.{◌≡◌, ℕ};
     ghost use Rattle.jr_model.specs.History.{HasMet};
     ghost use Rattle.jr_steps.specs.Knowing.{view};
     ghost use Rattle.jr_rule.specs.Rule.{IsAlone, LooksWith, acting};
 
     /// The seat and another one of the room are joined, look at the gate together, and part.
-    pub(crate) fn meet(&mut self, other: Seat<(), View>) -> Seat<(), View>
+    pub(crate) fn meet<const LAST: u32>(
+        &mut self,
+        room: &Room<LAST>,
+        other: Seat<(), View>,
+    ) -> Seat<(), View>
+        requires there { IsSeatOf room.now.row.table.shared.table_id room.now.row.config room.now.row.last self.old.seat.table_id self.old.seat.me self.old.thread }
         requires row { other.table_id ≡ self.old.seat.table_id }
         requires alone { IsAlone other.me }
-        ensures same { (self.new.room ≡ self.old.room) × (self.new.thread ≡ self.old.thread) × (self.new.seat.table_id ≡ self.old.seat.table_id) }
+        ensures there { IsSeatOf room.now.row.table.shared.table_id room.now.row.config room.now.row.last self.new.seat.table_id self.new.seat.me self.new.thread }
+        ensures same { (self.new.thread ≡ self.old.thread) × (self.new.seat.table_id ≡ self.old.seat.table_id) }
         ensures looked { LooksWith self.old.seat.me self.new.seat.me }
         ensures met { HasMet (view (acting other.me)) (view (acting self.new.seat.me)) }
         ensures other { (result.table_id ≡ other.table_id) × (result.me ≡ other.me) }
     {
-        self.room
-            .row
-            .table
-            .shared
-            .join_seat::<Gather>(&mut self.seat, other);
-        self.room
-            .row
-            .table
-            .shared
-            .load::<Meeting>(&mut self.seat, GATE);
-        self.room
-            .row
-            .table
-            .shared
-            .split_seat::<Part>(&mut self.seat)
+        let shared = &room.row.table.shared;
+        shared.join_seat::<Gather>(&mut self.seat, other);
+        shared.load::<Meeting>(&mut self.seat, GATE);
+        shared.split_seat::<Part>(&mut self.seat)
     }
 }
 
-impl<const LAST: u32> Cells for RoomCells<'_, LAST> {
+impl<'a, const LAST: u32> Cells<&'a Room<LAST>> for RoomCells {
+    ghost use Rattle.std.specs.Prelude.{◌≡◌};
     ghost use Rattle.jr_rule.specs.Sights.{sight_of_seat};
-    ghost use Rattle.jr_rule.specs.CellLaws.{seat_sound};
+    ghost use Rattle.jr_rule.specs.CellLaws.{seat_one, seat_sound};
 
     ghost sight = { λ s. sight_of_seat s.seat.table_id s.seat.me };
 
-    fn config(&self) -> Config {
-        self.room.row.config
+    ghost are_at = { λ s room. IsSeatOf room.now.row.table.shared.table_id room.now.row.config room.now.row.last s.seat.table_id s.seat.me s.thread };
+
+    ghost one = { λ s room. seat_one };
+
+    fn config(&self, place: &'a Room<LAST>) -> Config {
+        place.row.config
     }
 
-    fn last(&self) -> u32 {
+    fn last(&self, _place: &'a Room<LAST>) -> u32 {
         LAST
     }
 
-    fn thread(&self) -> u8 {
+    fn thread(&self, _place: &'a Room<LAST>) -> u8 {
         self.thread
     }
 
-    fn headers(&self) -> usize {
-        self.room.row.headers
+    fn headers(&self, place: &'a Room<LAST>) -> usize {
+        place.row.headers
     }
 
-    fn elements(&self) -> usize {
-        self.room.row.elements
+    fn elements(&self, place: &'a Room<LAST>) -> usize {
+        place.row.elements
     }
 
-    fn load<T: StepKind>(&mut self, at: usize) -> u64 {
-        let shared = &self.room.row.table.shared;
+    fn load<T: StepKind>(&mut self, place: &'a Room<LAST>, at: usize) -> u64 {
+        let shared = &place.row.table.shared;
         shared.load::<Tell<T>>(&mut self.seat, at)
     }
 
-    fn store<T: StepKind>(&mut self, at: usize, new: u64) {
-        let shared = &self.room.row.table.shared;
+    fn store<T: StepKind>(&mut self, place: &'a Room<LAST>, at: usize, new: u64) {
+        let shared = &place.row.table.shared;
         shared.store::<Tell<T>>(&mut self.seat, at, new);
     }
 
-    fn add<T: StepKind>(&mut self, at: usize, more: u64) -> u64 {
-        let shared = &self.room.row.table.shared;
+    fn add<T: StepKind>(&mut self, place: &'a Room<LAST>, at: usize, more: u64) -> u64 {
+        let shared = &place.row.table.shared;
         shared.fetch_add::<Tell<T>>(&mut self.seat, at, more)
     }
 
-    fn take<T: StepKind>(&mut self, at: usize, less: u64) -> u64 {
-        let shared = &self.room.row.table.shared;
+    fn take<T: StepKind>(&mut self, place: &'a Room<LAST>, at: usize, less: u64) -> u64 {
+        let shared = &place.row.table.shared;
         shared.fetch_sub::<Tell<T>>(&mut self.seat, at, less)
     }
 
-    fn exchange<T: StepKind>(&mut self, at: usize, old: u64, new: u64) -> u64 {
-        let shared = &self.room.row.table.shared;
+    fn exchange<T: StepKind>(
+        &mut self,
+        place: &'a Room<LAST>,
+        at: usize,
+        old: u64,
+        new: u64,
+    ) -> u64 {
+        let shared = &place.row.table.shared;
         shared.compare_exchange::<Tell<T>>(&mut self.seat, at, old, new)
     }
 
-    ghost sound = { λ s. seat_sound s.at };
+    ghost sound = { λ s place at. seat_sound at };
 }

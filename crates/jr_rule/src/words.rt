@@ -7,13 +7,15 @@ ghost use Rattle.jr_word.specs.Gate.{gate_word, IsGate};
 ghost use Rattle.jr_word.specs.Top.{top_word as word_of_top};
 ghost use Rattle.jr_model.specs.declared.event.Role.TheVariants.{Outside};
 ghost use Rattle.jr_model.specs.History.{role_after};
-ghost use Rattle.jr_steps.specs.Acts.{act_of_entry, all_counted as all_of};
+ghost use Rattle.jr_steps.specs.Acts.{act_of_entry, all_counted as all_of, is_closed as state_closed};
 ghost use Rattle.jr_steps.specs.Says.{local_parts as parts_of_local};
 ghost use Rattle.jr_rule.specs.Image.{slot_at as place_of_slot, local_at as place_of_local, header_at as place_of_header, element_at as place_of_element};
 ghost use Rattle.jr_rule.specs.Slots.{CanStand, IsReference, has_kind, parts_once_free};
 
 use jr_model::Role;
-use jr_word::{Config, GateParts, GateWord, LocalParts, RefKind, SlotParts, TopParts, TopWord};
+use jr_word::{
+    Config, GateParts, GateState, GateWord, LocalParts, RefKind, SlotParts, TopParts, TopWord,
+};
 
 /// The word of the gate.
 pub(crate) const GATE: usize = 0;
@@ -77,18 +79,24 @@ pub(crate) fn top_word(used: u32) -> u64
     TopWord::pack(TopParts { used }).0
 }
 
-/// Whether the word of a gate is that of a shut one.
-pub(crate) fn is_shut(word: u64) -> bool
-    ensures { (parts : Gates) → IsGate parts → word ≡ gate_word parts → result ≡ parts.shut }
+/// Whether the word of a gate is that of one that lets nobody in.
+pub(crate) fn is_closed(word: u64) -> bool
+    ensures { (parts : Gates) → IsGate parts → word ≡ gate_word parts → result ≡ state_closed parts.state }
 {
-    matches!(GateWord::parts(word), Some(GateParts { shut: true, .. }))
+    !matches!(
+        GateWord::parts(word),
+        Some(GateParts {
+            state: GateState::Open,
+            ..
+        })
+    )
 }
 
-/// How many threads are inside, knocking or collecting, as the gate says.
+/// How many threads are inside, knocking, announcing or collecting, as the gate says.
 pub(crate) fn all_counted(parts: GateParts) -> u32
     ensures { result ≡ all_of parts }
 {
-    u32::from(parts.count) + u32::from(parts.shut)
+    u32::from(parts.count) + u32::from(!matches!(parts.state, GateState::Open))
 }
 
 /// Whether what the word of a slot says is a reference of the kind.

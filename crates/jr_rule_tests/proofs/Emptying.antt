@@ -8,7 +8,8 @@ use Rattle.jr_word.specs.declared.header.HeaderParts.{HeaderParts}
 use Rattle.jr_word.specs.declared.local.LocalParts.TheVariants as local
 use Rattle.jr_word.specs.declared.slot.SlotParts.{SlotParts}
 use Rattle.jr_word.specs.declared.slot.SlotParts.TheVariants as slot
-use Rattle.jr_model.specs.declared.event.Act.TheVariants.{Shut, Clear, Drop, Settle}
+use Rattle.jr_model.specs.declared.event.Act.TheVariants.{Gate, Clear, Drop, Settle}
+use Rattle.jr_model.specs.declared.event.GateAct.TheVariants.{Shut}
 use Rattle.jr_model.specs.declared.event.Found.{Found}
 use Rattle.jr_model.specs.declared.event.Found.TheVariants.{Object, Cleared, Stale}
 use Rattle.jr_model.specs.declared.event.Role.TheVariants.{Collecting}
@@ -286,7 +287,7 @@ module _ {S : Type 0} {facts : S → Facts} (fits : AreOf facts) where
       can_reopen k' (ap (λ (z : Holdings). z.moving) x ∙ m.0, λ o. ap (λ (z : State). z.objects o) y.2 ∙ (ap (λ (f : ℕ → Option Contents). f o) same.objects ∙ m.1 o)))
 
   -- FROM STEP TO STEP of a collection that takes all away
-  module _ {z a b c d e : S} {p : SlotParts} (r : Option HeaderParts) (two : (facts z).stands.config.threads ≡ 2) (one : (facts z).stands.config.slots ≡ 1) (shut : Took facts z a (Shut ∷ []) anything lets_go) (first : FindsNone facts 0 a b) (second : FindsNone facts 1 b c) (seen : Took facts c d [] anything (λ j k. ShowsSlot 0 p k × keeps j k)) (weak : p ≡ slot.Weak 0 (Some 1)) (header : Took facts d e [] anything (ShowsHeader 1 r)) where
+  module _ {z a b c d e : S} {p : SlotParts} (r : Option HeaderParts) (two : (facts z).stands.config.threads ≡ 2) (one : (facts z).stands.config.slots ≡ 1) (shut : Took facts z a (Gate Shut ∷ []) anything lets_go) (first : FindsNone facts 0 a b) (second : FindsNone facts 1 b c) (seen : Took facts c d [] anything (λ j k. ShowsSlot 0 p k × keeps j k)) (weak : p ≡ slot.Weak 0 (Some 1)) (header : Took facts d e [] anything (ShowsHeader 1 r)) where
     collects_at : (facts a).stands.role ≡ Collecting
     collects_at = ap (λ (s : Standing). s.role) shut.stands_is
 

@@ -4,7 +4,7 @@ use crate::rooms::PLAIN;
 use jr_model::Summary;
 use jr_rule::PlainSteps;
 use jr_steps::{GateLoad, SlotLoad, Steps, TopLoad};
-use jr_word::{Config, Fault, GateParts, HandleParts, RefKind, SlotParts};
+use jr_word::{Config, Fault, GateParts, GateState, HandleParts, RefKind, SlotParts};
 use std::test::Fail;
 
 #[test]
@@ -15,7 +15,7 @@ fn begins_with_zeros_and_counts_who_is_inside(rt: HostRuntime) -> Result<(), Fai
     assert_eq!(rt; steps.cells.words[0], 1);
     let one = GateParts {
         count: 1,
-        shut: false,
+        state: GateState::Open,
     };
     assert_eq!(rt; steps.see_gate(GateLoad::Meet), one);
     steps.go_out();
@@ -47,7 +47,7 @@ fn shuts_and_opens_the_gate(rt: HostRuntime) -> Result<(), Fail> {
     let mut steps = PlainSteps::<2>::new(rt.alloc(), Config::LEAST)?;
     let empty = GateParts {
         count: 0,
-        shut: false,
+        state: GateState::Open,
     };
     assert_eq!(rt; steps.see_gate(GateLoad::Busy), empty);
     let Ok(()) = steps.bar() else {

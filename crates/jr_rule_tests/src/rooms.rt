@@ -5,7 +5,9 @@ ghost use Rattle.jr_rule.specs.Passes.{IsAt, IsOpened};
 use jr_model::{Role, Summary};
 use jr_rule::{AllLeft, Left, Pass, Room, RoomSteps};
 use jr_steps::{GateLoad, SlotLoad, Steps};
-use jr_word::{Config, Fault, GateParts, HandleParts, HeaderParts, Kind, RefKind, SlotParts};
+use jr_word::{
+    Config, Fault, GateParts, GateState, HandleParts, HeaderParts, Kind, RefKind, SlotParts,
+};
 use std::alloc::Global;
 use std::process::Abort;
 use std::test::Fail;
@@ -56,7 +58,10 @@ pub(crate) const NOTHING: Summary = Summary {
 
 /// The gate with so many threads inside.
 fn open_gate(count: u16) -> GateParts {
-    GateParts { count, shut: false }
+    GateParts {
+        count,
+        state: GateState::Open,
+    }
 }
 
 /// The last of the passes.

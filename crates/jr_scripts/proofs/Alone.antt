@@ -6,7 +6,8 @@ use native.Mathlib.Decide.{ℕ_discrete}
 use Rattle.jr_word.specs.declared.config.Config.{Config}
 use Rattle.jr_model.specs.declared.event.Role.TheVariants.{Outside}
 use Rattle.jr_model.specs.declared.event.Event.{Event}
-use Rattle.jr_model.specs.declared.event.Act.TheVariants.{Knock, ShutBusy}
+use Rattle.jr_model.specs.declared.event.Act.TheVariants.{Gate, ShutBusy}
+use Rattle.jr_model.specs.declared.event.GateAct.TheVariants.{Knock}
 use Rattle.jr_model.specs.State.{State, opening}
 use Rattle.jr_model.specs.Steps.{ActNeeds, after}
 use Rattle.jr_model.specs.History.{History, IsLegalFrom, IsLegal, role_after}
@@ -16,7 +17,7 @@ use Rattle.jr_model.proofs.Stays.{role_step}
 -- thread 0 did it, and nobody was in its way at the gate
 pub record IsUndisturbed (e : Event) : Type 0 where
   pub own : e.thread ≡ 0
-  pub enters : e.act ≢ Knock
+  pub enters : e.act ≢ Gate Knock
   pub shuts : (n : ℕ) → e.act ≢ ShutBusy n
 
 -- all threads but 0 are outside
@@ -28,7 +29,7 @@ all_outside : (s : State) (t : ℕ) → OthersOutside s → t ≡ 0 → s.role t
 all_outside s t o zero_th out u = dite (ℕ_discrete u 0) (λ first. ap s.role (first ∙ sym zero_th) ∙ out) (o u)
 
 module _ (c : Config) (last : ℕ) (one : c.threads ≡ 1) where
-  never_knocks : (s : State) (e : Event) → OthersOutside s → ActNeeds c last s e.thread e.act → e.thread ≡ 0 → e.act ≢ Knock
+  never_knocks : (s : State) (e : Event) → OthersOutside s → ActNeeds c last s e.thread e.act → e.thread ≡ 0 → e.act ≢ Gate Knock
   never_knocks s e o needs zero_th is =
       let n = subst (λ a. ActNeeds c last s e.thread a) is needs in
       nobody_knocks c last s e.thread (all_outside s e.thread o zero_th n.0) n
@@ -36,7 +37,7 @@ module _ (c : Config) (last : ℕ) (one : c.threads ≡ 1) where
   never_busy : (s : State) (e : Event) → OthersOutside s → ActNeeds c last s e.thread e.act → e.thread ≡ 0 → (n : ℕ) → e.act ≢ ShutBusy n
   never_busy s e o needs zero_th n is =
       let m = subst (λ a. ActNeeds c last s e.thread a) is needs in
-      nobody_is_busy c last n s e.thread (all_outside s e.thread o zero_th m.0) m
+      nobody_is_busy c last n s e.thread (omega arith) (λ u ne. o u (λ z. ne (z ∙ sym zero_th))) m
 
   others_stay : (s : State) (e : Event) → OthersOutside s → e.thread ≡ 0 → OthersOutside (after s e)
   others_stay s e o zero_th t other = role_step s e.thread e.act t ∙ go (e.thread == t) refl

@@ -7,7 +7,8 @@ use Rattle.jr_word.specs.declared.fault.Fault.{Fault}
 use Rattle.jr_word.specs.declared.fault.Fault.TheVariants.{Null, Stale, WrongKind, NotArray, WrongElement, Range, RowFull, LocalsFull, SpaceFull, ObjectsFull, Raced, NoFrame, Memory}
 use Rattle.jr_model.specs.declared.event.Event.{Event}
 use Rattle.jr_model.specs.declared.event.Act.{Act}
-use Rattle.jr_model.specs.declared.event.Act.TheVariants.{Enter, Knock, Leave}
+use Rattle.jr_model.specs.declared.event.Act.TheVariants.{Gate}
+use Rattle.jr_model.specs.declared.event.GateAct.TheVariants.{Enter, Knock, Leave}
 use Rattle.jr_model.specs.State.{State, IsPresent, IsOccupied}
 use Rattle.jr_model.specs.History.{History, state, PassView}
 use Rattle.jr_model.specs.Frames.{Frames}
@@ -29,7 +30,7 @@ pub record IsAlone (p : PassView) : Type 0 where
   pub one : p.config.threads ≡ 1
   pub first : p.thread ≡ 0
   pub own : AllByRecursion (λ e. e.thread ≡ p.thread) p.seen
-  pub enters : AllByRecursion (λ e. e.act ≢ Knock) p.seen
+  pub enters : AllByRecursion (λ e. e.act ≢ Gate Knock) p.seen
 
 -- no event is a reservation that was lost
 abbrev pub AllUncontended : History → Type 0
@@ -109,13 +110,13 @@ module _ {A : Type 0} (old new : PassView) (f g : Frames) (work : Call A) (alone
 module _ {A : Type 0} (s : State) (command : Asked) (last : ℕ) (work : Call A) (uncontended : IsUncontended s last command work) where
   acts_uncontended : (old new : Frames) (acts : List Act) (answer : Result A Fault) → IsUnraced answer → entered work old acts answer new → AreUncontended acts
   acts_uncontended old new acts answer u (inl r) = subst AreUncontended (sym r.0) (refl, (refl, tt))
-  acts_uncontended old new acts answer u (inr r) = subst AreUncontended (sym r.1) (refl, append_all (λ a. is_uncontended_act a ≡ true) r.0 (Leave ∷ []) (uncontended.acts old new r.0 answer u r.2) (refl, tt))
+  acts_uncontended old new acts answer u (inr r) = subst AreUncontended (sym r.1) (refl, append_all (λ a. is_uncontended_act a ≡ true) r.0 (Gate Leave ∷ []) (uncontended.acts old new r.0 answer u r.2) (refl, tt))
 
   -- a call that was not barred is refused for what its work is
-  fault_uncontended : (old new : Frames) (acts : List Act) (e : Fault) → AllByRecursion (λ a. a ≢ Knock) acts → entered work old acts (Err e) new → IsUncontendedFault s last command acts new e
-  fault_uncontended old new acts e enters (inl r) = absurd ((subst (AllByRecursion (λ a. a ≢ Knock)) r.0 enters).0 refl)
+  fault_uncontended : (old new : Frames) (acts : List Act) (e : Fault) → AllByRecursion (λ a. a ≢ Gate Knock) acts → entered work old acts (Err e) new → IsUncontendedFault s last command acts new e
+  fault_uncontended old new acts e enters (inl r) = absurd ((subst (AllByRecursion (λ a. a ≢ Gate Knock)) r.0 enters).0 refl)
   fault_uncontended old new acts e enters (inr r) =
-      subst (λ (all : List Act). IsUncontendedFault s last command all new e) (sym r.1) (more_fault s last command r.0 (Enter ∷ r.0 ++ Leave ∷ []) (λ n used h. inr (found_earlier n used r.0 (Leave ∷ []) h)) new e (uncontended.fault old new r.0 e r.2))
+      subst (λ (all : List Act). IsUncontendedFault s last command all new e) (sym r.1) (more_fault s last command r.0 (Gate Enter ∷ r.0 ++ Gate Leave ∷ []) (λ n used h. inr (found_earlier n used r.0 (Gate Leave ∷ []) h)) new e (uncontended.fault old new r.0 e r.2))
 
   unraced : (turns : ℕ) (p : PassView) (f : Frames) (answer : Result A Fault) → IfErr answer (IsCommandFault turns command.0 command.1 p f) → IsUnraced answer
   unraced turns p f (Ok x) h = tt
@@ -126,8 +127,8 @@ module _ {A : Type 0} (s : State) (command : Asked) (last : ℕ) (work : Call A)
     ran_fault : (answer : Result A Fault) → Ran old new f g (entered work) answer → IfErr answer (IsCommandFault turns command.0 command.1 new g)
     ran_fault (Ok x) r = tt
     ran_fault (Err e) r =
-        let enters = all_back (λ (x : Event). x.act ≢ Knock) old.seen r.did.begins.0 (subst (AllByRecursion (λ (x : Event). x.act ≢ Knock)) (sym r.did.begins.1) alone.enters) in
-        let acts : AllByRecursion (λ a. a ≢ Knock) r.acts = subst (AllByRecursion (λ a. a ≢ Knock)) (mine_did r.acts r.did) (own_acts (λ a. a ≢ Knock) old.thread r.did.begins.0 enters) in
+        let enters = all_back (λ (x : Event). x.act ≢ Gate Knock) old.seen r.did.begins.0 (subst (AllByRecursion (λ (x : Event). x.act ≢ Gate Knock)) (sym r.did.begins.1) alone.enters) in
+        let acts : AllByRecursion (λ a. a ≢ Gate Knock) r.acts = subst (AllByRecursion (λ a. a ≢ Gate Knock)) (mine_did r.acts r.did) (own_acts (λ a. a ≢ Gate Knock) old.thread r.did.begins.0 enters) in
         fault_alone old new f g (entered work) alone turns command e changes r (subst (λ n. IsUncontendedFault (state new.seen) n command r.acts g e) (sym (r.did.last ∙ same)) (subst (λ x. IsUncontendedFault x last command r.acts g e) now (fault_uncontended f g r.acts e acts r.is)))
 
     pub ran_alone : (answer : Result A Fault) → Ran old new f g (entered work) answer → LedAlone turns command old new g answer
@@ -144,19 +145,19 @@ module _ {A : Type 0} (s : State) (command : Asked) (last : ℕ) (work : Call A)
   opened_acts : (old new : Frames) (acts : List Act) (answer : Result A Fault) → IsUnraced answer → opened work old acts answer new → AreUncontended acts
   opened_acts old new acts answer u (inl r) = subst AreUncontended (sym r.0) (refl, (refl, tt))
   opened_acts old new acts (Ok x) u (inr r) = subst AreUncontended (sym r.1.0) (refl, uncontended.acts old new r.0 (Ok x) u r.1.1)
-  opened_acts old new acts (Err e) u (inr r) = subst AreUncontended (sym r.1.0) (refl, append_all (λ a. is_uncontended_act a ≡ true) r.0 (Leave ∷ []) (uncontended.acts old new r.0 (Err e) u r.1.1) (refl, tt))
+  opened_acts old new acts (Err e) u (inr r) = subst AreUncontended (sym r.1.0) (refl, append_all (λ a. is_uncontended_act a ≡ true) r.0 (Gate Leave ∷ []) (uncontended.acts old new r.0 (Err e) u r.1.1) (refl, tt))
 
-  opened_fault : (old new : Frames) (acts : List Act) (e : Fault) → AllByRecursion (λ a. a ≢ Knock) acts → opened work old acts (Err e) new → IsUncontendedFault s last command acts new e
-  opened_fault old new acts e enters (inl r) = absurd ((subst (AllByRecursion (λ a. a ≢ Knock)) r.0 enters).0 refl)
+  opened_fault : (old new : Frames) (acts : List Act) (e : Fault) → AllByRecursion (λ a. a ≢ Gate Knock) acts → opened work old acts (Err e) new → IsUncontendedFault s last command acts new e
+  opened_fault old new acts e enters (inl r) = absurd ((subst (AllByRecursion (λ a. a ≢ Gate Knock)) r.0 enters).0 refl)
   opened_fault old new acts e enters (inr r) =
-      subst (λ (all : List Act). IsUncontendedFault s last command all new e) (sym r.1.0) (more_fault s last command r.0 (Enter ∷ r.0 ++ Leave ∷ []) (λ n used h. inr (found_earlier n used r.0 (Leave ∷ []) h)) new e (uncontended.fault old new r.0 e r.1.1))
+      subst (λ (all : List Act). IsUncontendedFault s last command all new e) (sym r.1.0) (more_fault s last command r.0 (Gate Enter ∷ r.0 ++ Gate Leave ∷ []) (λ n used h. inr (found_earlier n used r.0 (Gate Leave ∷ []) h)) new e (uncontended.fault old new r.0 e r.1.1))
 
   module _ (turns : ℕ) (changes : ChangesNothing (opened work)) (old new : PassView) (f g : Frames) (same : old.last ≡ last) (now : s ≡ state new.seen) (alone : IsAlone new) where
     opened_refused : (answer : Result A Fault) → Ran old new f g (opened work) answer → IfErr answer (IsCommandFault turns command.0 command.1 new g)
     opened_refused (Ok x) r = tt
     opened_refused (Err e) r =
-        let enters = all_back (λ (x : Event). x.act ≢ Knock) old.seen r.did.begins.0 (subst (AllByRecursion (λ (x : Event). x.act ≢ Knock)) (sym r.did.begins.1) alone.enters) in
-        let acts : AllByRecursion (λ a. a ≢ Knock) r.acts = subst (AllByRecursion (λ a. a ≢ Knock)) (mine_did r.acts r.did) (own_acts (λ a. a ≢ Knock) old.thread r.did.begins.0 enters) in
+        let enters = all_back (λ (x : Event). x.act ≢ Gate Knock) old.seen r.did.begins.0 (subst (AllByRecursion (λ (x : Event). x.act ≢ Gate Knock)) (sym r.did.begins.1) alone.enters) in
+        let acts : AllByRecursion (λ a. a ≢ Gate Knock) r.acts = subst (AllByRecursion (λ a. a ≢ Gate Knock)) (mine_did r.acts r.did) (own_acts (λ a. a ≢ Gate Knock) old.thread r.did.begins.0 enters) in
         fault_alone old new f g (opened work) alone turns command e changes r (subst (λ n. IsUncontendedFault (state new.seen) n command r.acts g e) (sym (r.did.last ∙ same)) (subst (λ x. IsUncontendedFault x last command r.acts g e) now (opened_fault f g r.acts e acts r.is)))
 
     pub opened_ran : (answer : Result A Fault) → Ran old new f g (opened work) answer → LedAlone turns command old new g answer

@@ -3,7 +3,8 @@ use Rattle.std.proofs.Common.{◌≡◌, inl, inr, ℕ, true, List, [], ◌∷�
 use Rattle.jr_word.specs.declared.fault.Fault.{Fault}
 use Rattle.jr_word.specs.declared.fault.Fault.TheVariants.{Busy}
 use Rattle.jr_model.specs.declared.event.Act.{Act}
-use Rattle.jr_model.specs.declared.event.Act.TheVariants.{ShutBusy, Clear, Drop, Settle, Reopen}
+use Rattle.jr_model.specs.declared.event.Act.TheVariants.{Gate, ShutBusy, Clear, Drop, Settle}
+use Rattle.jr_model.specs.declared.event.GateAct.TheVariants.{Reopen}
 use Rattle.jr_model.specs.State.{Handle}
 use Rattle.jr_model.specs.Frames.{Frames}
 use Rattle.jr_model.specs.Calls.{Ran}
@@ -33,7 +34,7 @@ drops_uncontended (o ∷ os) = (refl, drops_uncontended os)
 collected_uncontended : (hs : List Handle) (os : List ℕ) (used : ℕ) → AreUncontended (collection_acts hs os used)
 collected_uncontended hs os used = (
   refl,
-  append_all (λ a. is_uncontended_act a ≡ true) (sweeping_acts hs os used) (Reopen ∷ [])
+  append_all (λ a. is_uncontended_act a ≡ true) (sweeping_acts hs os used) (Gate Reopen ∷ [])
       (append_all (λ a. is_uncontended_act a ≡ true) (map Clear hs ++ map Drop os) (Settle used ∷ []) (append_all (λ a. is_uncontended_act a ≡ true) (map Clear hs) (map Drop os) (clears_uncontended hs) (drops_uncontended os)) (refl, tt)) (refl, tt),
 )
 

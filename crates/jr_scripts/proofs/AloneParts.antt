@@ -4,7 +4,8 @@ use Rattle.std.specs.List.{AllByRecursion}
 use Rattle.jr_word.specs.declared.config.Config.{Config}
 use Rattle.jr_word.specs.declared.fault.Fault.{Fault}
 use Rattle.jr_word.specs.declared.fault.Fault.TheVariants.{Raced, Barred, Turns}
-use Rattle.jr_model.specs.declared.event.Act.TheVariants.{Knock}
+use Rattle.jr_model.specs.declared.event.Act.TheVariants.{Gate}
+use Rattle.jr_model.specs.declared.event.GateAct.TheVariants.{Knock}
 use Rattle.jr_model.specs.History.{PassView}
 use Rattle.jr_model.specs.State.{State}
 use Rattle.jr_model.specs.Frames.{Frames}
@@ -35,7 +36,7 @@ was_alone {old = old} {new = new} led a = record {
   one = ap (λ c. c.threads) (sym led.config) ∙ a.one;
   first = sym led.thread ∙ a.first;
   own = subst (λ t. AllByRecursion (λ e. e.thread ≡ t) old.seen) led.thread (all_prefix (λ e. e.thread ≡ new.thread) old.seen new.seen led.begins a.own);
-  enters = all_prefix (λ e. e.act ≢ Knock) old.seen new.seen led.begins a.enters;
+  enters = all_prefix (λ e. e.act ≢ Gate Knock) old.seen new.seen led.begins a.enters;
 }
 
 module _ (turns : ℕ) (command : Asked) where

@@ -11,7 +11,8 @@ use Rattle.jr_word.specs.declared.kind.Kind.{Kind}
 use Rattle.jr_word.specs.declared.kind.Kind.TheVariants.{Plain, Boolean, Byte, Char, Short, Int, Long, Objects, Text}
 use Rattle.jr_word.specs.Kind.{word_limit}
 use Rattle.jr_model.specs.declared.event.Act.{Act}
-use Rattle.jr_model.specs.declared.event.Act.TheVariants.{Knock}
+use Rattle.jr_model.specs.declared.event.Act.TheVariants.{Gate}
+use Rattle.jr_model.specs.declared.event.GateAct.TheVariants.{Knock}
 use Rattle.jr_model.specs.State.{Contents, State}
 use Rattle.jr_model.specs.History.{History, PassView, state}
 use Rattle.jr_model.specs.Frames.{Frames}
@@ -62,7 +63,7 @@ led_alone {old = old} {new = new} led a = record {
   one = ap (λ c. c.threads) (sym led.config) ∙ a.one;
   first = sym led.thread ∙ a.first;
   own = subst (λ t. AllByRecursion (λ e. e.thread ≡ t) old.seen) led.thread (all_prefix (λ e. e.thread ≡ new.thread) old.seen new.seen led.begins a.own);
-  enters = all_prefix (λ e. e.act ≢ Knock) old.seen new.seen led.begins a.enters;
+  enters = all_prefix (λ e. e.act ≢ Gate Knock) old.seen new.seen led.begins a.enters;
 }
 
 -- what the deed leads to from a moment that is so, where all that happened is the thread's own, and a refusal is such a one of the state afterwards

@@ -77,11 +77,11 @@ module _ {S : Type 0} {facts : S → Facts} (fits : AreOf facts) where
       }
 
 -- what is known of plain steps
-abbrev plain_facts : {G : Ghosts (PlainCells 4294967295)} → StepsOver (PlainCells 4294967295) G → Facts
+abbrev plain_facts : {P : Type 0} {G : Ghosts (PlainCells 4294967295) P} → StepsOver (PlainCells 4294967295) P G → Facts
 plain_facts s = facts_at (sight_of_words s.cells.config 4294967295 s.cells.words.items) s.role s.fresh s.hint
 
 -- the same over plain steps, which were spent as they were made
-pub plain_run : {G : Ghosts (PlainCells 4294967295)} {old new : StepsOver (PlainCells 4294967295) G} {f g : Frames} {commands : List Command} {answer : Result (Unit {0}) Fault} (turns : ℕ) (c : Config) (part : ThreadPart) (lines whole : List ℕ) (v : Summary) (made : StepsOver (PlainCells 4294967295) G)
+pub plain_run : {P : Type 0} {G : Ghosts (PlainCells 4294967295) P} {old new : StepsOver (PlainCells 4294967295) P G} {f g : Frames} {commands : List Command} {answer : Result (Unit {0}) Fault} (turns : ℕ) (c : Config) (part : ThreadPart) (lines whole : List ℕ) (v : Summary) (made : StepsOver (PlainCells 4294967295) P G)
     → c.threads ≡ 1 → IsOpenedAlone c 4294967295 made.cells.config made.cells.words.items made.role made.fresh made.hint
     → Spent plain_facts made old → f ≡ fresh_frames made.cells.config.locals
     → commands ≡ part.commands → answer ≡ Ok tt
@@ -89,7 +89,7 @@ pub plain_run : {G : Ghosts (PlainCells 4294967295)} {old new : StepsOver (Plain
     → ((k : Known) → IsAmong (sight_of_words new.cells.config 4294967295 new.cells.words.items) k → v ≡ summary k.config k.last (state k.seen))
     → whole ≡ heading part.name ++ lines ++ ending v
     → IsRun turns 4294967295 c part whole
-plain_run {G} {old} {new} {f} {g} {commands} turns c part lines whole v made one opened spent fresh these good ran tells whole_is =
+plain_run {P} {G} {old} {new} {f} {g} {commands} turns c part lines whole v made one opened spent fresh these good ran tells whole_is =
     let known : (plain_facts made).knows (unseen c 4294967295)
     = (opened.nothing, record { config = sym opened.sizes; last = refl; thread = refl; role = sym opened.role_is; legal = tt }) in
     let stands = spent.stands_is in

@@ -6,7 +6,8 @@ use Rattle.jr_word.specs.declared.config.Config.{Config}
 use Rattle.jr_word.specs.declared.fault.Fault.{Fault}
 use Rattle.jr_word.specs.Config.{in_limits}
 use Rattle.jr_model.specs.declared.event.Event.{Event}
-use Rattle.jr_model.specs.declared.event.Act.TheVariants.{Knock, ReserveLost, ShutBusy}
+use Rattle.jr_model.specs.declared.event.Act.TheVariants.{Gate, ShutBusy, ReserveLost}
+use Rattle.jr_model.specs.declared.event.GateAct.TheVariants.{Knock}
 use Rattle.jr_model.specs.State.{summary}
 use Rattle.jr_model.specs.History.{History, state, IsLegal, PassView}
 use Rattle.jr_model.specs.Frames.{fresh_frames}
@@ -64,7 +65,7 @@ opening_moment c last = record { pass = seeing c last []; frames = fresh_frames 
 -- thread 0 did it, and it is no knock at a shut gate, no shut that others were in the way of, and no reservation that another was faster at
 pub record IsUnbarred (e : Event) : Type 0 where
   pub own : e.thread ≡ 0
-  pub enters : e.act ≢ Knock
+  pub enters : e.act ≢ Gate Knock
   pub shuts : (n : ℕ) → e.act ≢ ShutBusy n
   pub reserves : (n looked found : ℕ) → e.act ≢ ReserveLost n looked found
 

@@ -30,7 +30,7 @@ pub enum Reply {
     Level(u16),
     /// A collection was made.
     Collected(Collected),
-    /// No collection was made, since so many threads were inside, knocking or collecting.
+    /// No collection was made, since so many threads were inside, knocking, announcing or collecting.
     Busy(u32),
 }
 

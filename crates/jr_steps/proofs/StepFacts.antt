@@ -1,5 +1,5 @@
 -- What follows from a step, and one step after the other.
-use Rattle.std.proofs.Common.{◌≡◌, ◌≢◌, ◌<◌, ◌==◌, ℕ, Bool, true, false, cond, Result, Ok, Err, eq-eqb, length, List, [], ◌∷◌, ◌++◌, Option, Some, None, IsSome, refl, sym, ap, subst, ◌∙◌, arith, append_assoc}
+use Rattle.std.proofs.Common.{◌≡◌, ◌≢◌, ⊎_elim, ◌<◌, ◌==◌, ℕ, Bool, true, false, cond, Result, Ok, Err, eq-eqb, length, List, [], ◌∷◌, ◌++◌, Option, Some, None, IsSome, refl, sym, ap, subst, ◌∙◌, arith, append_assoc}
 use Rattle.std.proofs.lemmas.List.{append-nil}
 use Rattle.std.specs.List.{AllByRecursion}
 use mathlib.Core.Logic.{∥∥₁_map}
@@ -9,10 +9,12 @@ use Rattle.jr_model.specs.declared.event.Event.{Event}
 use Rattle.jr_model.specs.declared.event.Found.{Found}
 use Rattle.jr_model.specs.declared.event.Found.TheVariants.{Object}
 use Rattle.jr_model.specs.declared.event.Act.{Act}
-use Rattle.jr_model.specs.declared.event.Act.TheVariants.{Look, Leave, Shut}
+use Rattle.jr_model.specs.declared.event.Act.TheVariants.{Gate, Look}
+use Rattle.jr_model.specs.declared.event.GateAct.TheVariants.{Leave, Shut}
 use Rattle.jr_model.specs.State.{Handle, Contents, State, IsPresent, IsClosed}
 use Rattle.jr_model.specs.History.{History, by, mine, state, IsLegal, role_of, Did}
 use Rattle.jr_model.specs.Windows.{Stepped}
+use Rattle.jr_model.proofs.Gates.{all_may_shut}
 use Rattle.jr_model.proofs.Updates.{eq_false}
 use Rattle.jr_model.proofs.Histories.{legal_push, state_push, mine_append}
 use Rattle.jr_model.proofs.Presence.{named_is_present, sound_state}
@@ -66,7 +68,7 @@ pub used_now : (u : ℕ) (k : Known) → role_of (view k) ≡ Within → (state_
 used_now u k within used = record { before = k.seen; since = []; is = sym (append-nil k.seen); used = used; within = within; stays = tt }
 
 -- and were so at a moment of the stay, whatever the thread has done since but leave
-pub used_later : (u : ℕ) (k k' : Known) (acts : List Act) → Did (view k) (view k') acts → AllByRecursion (λ a. a ≢ Leave) acts → WasUsed u k → WasUsed u k'
+pub used_later : (u : ℕ) (k k' : Known) (acts : List Act) → Did (view k) (view k') acts → AllByRecursion (λ a. a ≢ Gate Leave) acts → WasUsed u k → WasUsed u k'
 used_later u k k' acts d q w =
     let more : History = d.begins.0 in
     let own : mine more k.thread ≡ acts = mine_did acts d in
@@ -76,16 +78,16 @@ used_later u k k' acts d q w =
       is = sym d.begins.1 ∙ (ap (λ l. l ++ more) w.is ∙ append_assoc w.before w.since more);
       used = w.used;
       within = subst (λ t. (state w.before).role t ≡ Within) (sym d.thread) w.within;
-      stays = subst (λ t. AllByRecursion (λ a. a ≢ Leave) (mine (w.since ++ more) t)) (sym d.thread)
-          (subst (λ l. AllByRecursion (λ a. a ≢ Leave) l) (sym (mine_append w.since more k.thread ∙ ap (λ l. mine w.since k.thread ++ l) own)) (all_append (mine w.since k.thread) acts w.stays q));
+      stays = subst (λ t. AllByRecursion (λ a. a ≢ Gate Leave) (mine (w.since ++ more) t)) (sym d.thread)
+          (subst (λ l. AllByRecursion (λ a. a ≢ Gate Leave) l) (sym (mine_append w.since more k.thread ∙ ap (λ l. mine w.since k.thread ++ l) own)) (all_append (mine w.since k.thread) acts w.stays q));
     }
   where
-    all_append : (xs ys : List Act) → AllByRecursion (λ a. a ≢ Leave) xs → AllByRecursion (λ a. a ≢ Leave) ys → AllByRecursion (λ a. a ≢ Leave) (xs ++ ys)
+    all_append : (xs ys : List Act) → AllByRecursion (λ a. a ≢ Gate Leave) xs → AllByRecursion (λ a. a ≢ Gate Leave) ys → AllByRecursion (λ a. a ≢ Gate Leave) (xs ++ ys)
     all_append [] ys p r = r
     all_append (x ∷ xs) ys p r = (p.0, all_append xs ys p.1 r)
 
 -- an exchange of the top is no leave
-pub reserving_stays : (looked n : ℕ) (r : Result (Unit {0}) ℕ) → AllByRecursion (λ a. a ≢ Leave) (act_of_reservation looked n r ∷ [])
+pub reserving_stays : (looked n : ℕ) (r : Result (Unit {0}) ℕ) → AllByRecursion (λ a. a ≢ Gate Leave) (act_of_reservation looked n r ∷ [])
 reserving_stays looked n (Ok u) = ((λ e. cc), tt)
 reserving_stays looked n (Err f) = ((λ e. cc), tt)
 
@@ -97,16 +99,16 @@ present_still s s' o still = go (s.objects o) refl
     go (Some x) e p = let y = still.objects o x e in subst (λ z. IsSome z) (sym y.1) refl
 
 -- whoever has just shut the gate finds no array that names an absent object
-pub shut_closed : {k k' : Known} → Goes k (Shut ∷ []) k' → IsClosedNow k'
+pub shut_closed : {k k' : Known} → Goes k (Gate Shut ∷ []) k' → IsClosedNow k'
 shut_closed {k} {k'} g =
     let before = k.seen ++ g.between in
-    let e = by k.thread Shut in
+    let e = by k.thread (Gate Shut) in
     let both = (legal_push k.config k.last before e).0 (subst (IsLegal k.config k.last) g.seen g.legal) in
-    let closed : IsClosed (state before) = (sound_state k.config k.last before both.0).closed (λ u z. let out = both.1.1 u in cc) in
+    let closed : IsClosed (state before) = (sound_state k.config k.last before both.0).closed (λ u z. absurd (⊎_elim (λ e. cc) (λ e. cc) (all_may_shut (state before).role k.thread both.1.1.0 both.1.1.1 u))) in
     subst (λ (s : State). IsClosed s) (sym (ap state g.seen ∙ state_push before e)) closed
 
 -- what is present stays, until the thread leaves
-pub present_stays : (k k' : Known) (acts : List Act) (o : ℕ) → Did (view k) (view k') acts → role_of (view k) ≡ Within → AllByRecursion (λ a. a ≢ Leave) acts → HasObject o k → HasObject o k'
+pub present_stays : (k k' : Known) (acts : List Act) (o : ℕ) → Did (view k) (view k') acts → role_of (view k) ≡ Within → AllByRecursion (λ a. a ≢ Gate Leave) acts → HasObject o k → HasObject o k'
 present_stays k k' acts o d w q p = present_still (state_of k) (state_of k') o (still_did acts d w q) p
 
 -- the words that were reserved are the pass's own

@@ -3,6 +3,8 @@ use Rattle.std.specs.Prelude.{◌≡◌, ◌≢◌, ℕ, suc, ◌+◌, if◌then
 use Rattle.jr_word.specs.declared.handle.RefKind.{RefKind}
 use Rattle.jr_word.specs.declared.handle.RefKind.TheVariants.{Local, Global, Weak}
 use Rattle.jr_word.specs.declared.gate.GateParts.{GateParts}
+use Rattle.jr_word.specs.declared.gate.GateState.{GateState}
+use Rattle.jr_word.specs.declared.gate.GateState.TheVariants.{Open}
 use Rattle.jr_word.specs.declared.kind.Kind.{Kind}
 use Rattle.jr_word.specs.declared.slot.SlotParts.{SlotParts}
 use Rattle.jr_word.specs.declared.slot.SlotParts.TheVariants as slot
@@ -11,7 +13,8 @@ use Rattle.jr_model.specs.declared.event.Role.TheVariants.{Outside, Knocking}
 use Rattle.jr_model.specs.declared.event.Found.{Found}
 use Rattle.jr_model.specs.declared.event.Found.TheVariants.{Object, Cleared, Stale}
 use Rattle.jr_model.specs.declared.event.Act.{Act}
-use Rattle.jr_model.specs.declared.event.Act.TheVariants.{Enter, Knock, Leave, Withdraw, Shut, ShutBusy, Meet, Create, Look, Probe, Delete, DeleteStale, LocalPut, LocalDrop, New, Reserve, ReserveFull, ReserveLost}
+use Rattle.jr_model.specs.declared.event.Act.TheVariants.{Gate, ShutBusy, Meet, Create, Look, Probe, Delete, DeleteStale, LocalPut, LocalDrop, New, Reserve, ReserveFull, ReserveLost}
+use Rattle.jr_model.specs.declared.event.GateAct.TheVariants.{Enter, Knock, Leave, Withdraw, Announce, Shut}
 use Rattle.jr_model.specs.State.{Handle, same_kind}
 use Rattle.jr_steps.specs.declared.loads.SlotLoad.{SlotLoad}
 use Rattle.jr_steps.specs.declared.loads.SlotLoad.TheVariants as loads
@@ -22,27 +25,47 @@ use Rattle.jr_steps.specs.declared.loads.GateLoad.TheVariants as gate
 
 -- an entry, by whether the gate was open
 abbrev pub act_of_entry : Bool → Act
-act_of_entry true = Enter
-act_of_entry false = Knock
+act_of_entry true = Gate Enter
+act_of_entry false = Gate Knock
 
 -- how a thread of this role goes out
 abbrev pub act_of_exit : Role → Act
-act_of_exit Knocking = Withdraw
-act_of_exit _ = Leave
+act_of_exit Knocking = Gate Withdraw
+act_of_exit _ = Gate Leave
 
--- the exchange of an open, empty gate for a shut one: where it is lost, so many threads are inside, knocking or collecting
+-- the exchange of an open, empty gate for a shut one: where it is lost, so many other threads are inside, knocking, announcing or collecting
 abbrev pub act_of_bar : Result (Unit {0}) ℕ → Act
-act_of_bar (Ok _) = Shut
+act_of_bar (Ok _) = Gate Shut
 act_of_bar (Err n) = ShutBusy n
 
--- the threads that the gate's word counts, and the one that collects
-abbrev pub all_counted : GateParts → ℕ
-all_counted p = p.count + (if p.shut then 1 else 0)
+-- whether a gate in this state lets nobody in
+abbrev pub is_closed : GateState → Bool
+is_closed Open = false
+is_closed _ = true
 
--- a load of the gate that found so many threads inside, knocking or collecting
+-- the threads that the gate's word counts, and the one that keeps it closed
+abbrev pub all_counted : GateParts → ℕ
+all_counted p = p.count + (if is_closed p.state then 1 else 0)
+
+-- the same, but the thread that shuts the gate from this state: who has announced it is not counted
+abbrev pub others_counted : GateState → GateParts → ℕ
+others_counted Open p = all_counted p
+others_counted _ p = p.count
+
+-- a load of the gate that found so many threads inside, knocking, announcing or collecting
 abbrev pub act_of_gate_load : GateLoad → ℕ → Act
 act_of_gate_load gate.Busy (suc n) = ShutBusy (suc n)
 act_of_gate_load _ _ = Meet
+
+-- as what a load counts that finds the gate in this state, of a thread that would close it
+abbrev pub load_of : GateState → GateLoad
+load_of Open = gate.Meet
+load_of _ = gate.Busy
+
+-- the exchange of an open gate for one that is announced to be shut: where it is lost, the gate was closed, or another thread went in or out
+abbrev pub act_of_announcement : Result (Unit {0}) GateParts → Act
+act_of_announcement (Ok _) = Gate Announce
+act_of_announcement (Err p) = act_of_gate_load (load_of p.state) (all_counted p)
 
 -- only who is outside is refused the gate
 abbrev pub GateLoadFits : Role → GateLoad → Type 0

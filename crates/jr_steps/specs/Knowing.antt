@@ -4,12 +4,14 @@ use Rattle.std.specs.List.{AllByRecursion}
 use Rattle.atomic_table.specs.Seated.{TableId}
 use Rattle.jr_word.specs.declared.config.Config.{Config}
 use Rattle.jr_word.specs.declared.gate.GateParts.{GateParts}
+use Rattle.jr_word.specs.declared.gate.GateState.TheVariants.{Open}
 use Rattle.jr_word.specs.declared.slot.SlotParts.{SlotParts}
 use Rattle.jr_word.specs.declared.slot.SlotParts.TheVariants.{Free}
 use Rattle.jr_model.specs.declared.event.Role.{Role}
 use Rattle.jr_model.specs.declared.event.Role.TheVariants.{Within}
 use Rattle.jr_model.specs.declared.event.Act.{Act}
-use Rattle.jr_model.specs.declared.event.Act.TheVariants.{Look, Leave, LocalPut, LocalDrop, Read}
+use Rattle.jr_model.specs.declared.event.Act.TheVariants.{Gate, Look, LocalPut, LocalDrop, Read}
+use Rattle.jr_model.specs.declared.event.GateAct.TheVariants.{Leave}
 use Rattle.jr_model.specs.declared.event.Found.{Found}
 use Rattle.jr_model.specs.State.{Handle, State, Contents, IsPresent, IsOccupied, IsClosed, IsWord, AreWords}
 use Rattle.jr_model.specs.History.{History, by, state, IsLegal, mine, PassView, role_of, role_from}
@@ -122,7 +124,7 @@ pub record HasLooked (h : Handle) (r : Found) (k : Known) : Type 0 where
   pub before : History
   pub since : History
   pub is : k.seen ≡ before ++ by k.thread (Look h r) ∷ since
-  pub stays : AllByRecursion (λ a. a ≢ Leave) (mine since k.thread)
+  pub stays : AllByRecursion (λ a. a ≢ Gate Leave) (mine since k.thread)
 
 -- at a moment of this stay so many words were used
 pub record WasUsed (u : ℕ) (k : Known) : Type 0 where
@@ -131,7 +133,7 @@ pub record WasUsed (u : ℕ) (k : Known) : Type 0 where
   pub is : k.seen ≡ before ++ since
   pub used : (state before).used ≡ u
   pub within : (state before).role k.thread ≡ Within
-  pub stays : AllByRecursion (λ a. a ≢ Leave) (mine since k.thread)
+  pub stays : AllByRecursion (λ a. a ≢ Gate Leave) (mine since k.thread)
 
 -- A LOAD OF A SLOT shows what its parts say of the state then
 abbrev pub ShowsSlot : ℕ → SlotParts → Known → Type 0
@@ -214,6 +216,11 @@ CanReopen k = IsClosedNow k × IsSettled k
 abbrev pub ShowsBarred : Result (Unit {0}) ℕ → Known → Known → Type 0
 ShowsBarred (Ok _) k k' = lets_go k k'
 ShowsBarred (Err n) k k' = keeps k k'
+
+-- what an exchange shows that announces a shut where the gate was open with this count: where it is lost, the gate has other parts
+abbrev pub ShowsAnnounced : ℕ → Result (Unit {0}) GateParts → Known → Known → Type 0
+ShowsAnnounced looked (Ok _) k k' = lets_go k k'
+ShowsAnnounced looked (Err found) k k' = (found ≢ record { count = looked; state = Open }) × ShowsGate found k' × keeps k k'
 
 -- a lost claim: the index was occupied in between, and the word that was found stands there
 abbrev pub LostClaim : ℕ → Result (Unit {0}) SlotParts → Known → Known → Type 0

@@ -2,6 +2,7 @@
 use Rattle.std.specs.Prelude.{◌≡◌, ◌≢◌, ◌↔◌, ◌+◌, ◌<◌, ◌≤◌, ◌==◌, ◌&&◌, nat_lt, cond, ℕ, Bool, true, false, IsTrue, Option, Some, None, length}
 use Rattle.jr_word.specs.declared.config.Config.{Config}
 use Rattle.jr_word.specs.declared.gate.GateParts.{GateParts}
+use Rattle.jr_word.specs.declared.gate.GateState.TheVariants.{Announced, Shut}
 use Rattle.jr_word.specs.declared.handle.RefKind.TheVariants.{Global, Weak}
 use Rattle.jr_word.specs.declared.header.HeaderParts.{HeaderParts}
 use Rattle.jr_word.specs.declared.local.LocalParts.{LocalParts}
@@ -9,23 +10,19 @@ use Rattle.jr_word.specs.declared.local.LocalParts.TheVariants as local
 use Rattle.jr_word.specs.declared.slot.SlotParts.{SlotParts}
 use Rattle.jr_word.specs.declared.slot.SlotParts.TheVariants as slot
 use Rattle.jr_model.specs.declared.event.Role.{Role}
-use Rattle.jr_model.specs.declared.event.Role.TheVariants.{Within, Knocking, Collecting}
+use Rattle.jr_model.specs.declared.event.Role.TheVariants.{Announcing, Collecting}
 use Rattle.jr_model.specs.declared.event.Found.{Found}
 use Rattle.jr_model.specs.declared.event.Found.TheVariants.{Object, Stale}
 use Rattle.jr_model.specs.Maps.{count_below}
-use Rattle.jr_model.specs.State.{Handle, Contents}
+use Rattle.jr_model.specs.State.{Handle, Contents, is_inside}
 use Rattle.jr_steps.specs.declared.known.Move.{Move}
 use Rattle.jr_steps.specs.Acts.{found_of, handle_of}
 
-abbrev pub is_inside : Role → Bool
-is_inside Within = true
-is_inside Knocking = true
-is_inside _ = false
-
--- THE GATE counts the threads within or knocking, and is shut exactly where one is collecting
+-- THE GATE counts the threads within or knocking, is shut exactly where one is collecting, and announced to be exactly where one has announced it
 pub record SaysOfGate (c : Config) (role : ℕ → Role) (parts : GateParts) : Type 0 where
   pub count : parts.count ≡ count_below c.threads (λ t. is_inside (role t))
-  pub shut : IsTrue parts.shut ↔ ((t : ℕ) × (role t ≡ Collecting))
+  pub shut : (parts.state ≡ Shut) ↔ ((t : ℕ) × (role t ≡ Collecting))
+  pub announced : (parts.state ≡ Announced) ↔ ((t : ℕ) × (role t ≡ Announcing))
 
 -- the serials given at the index are those below `next`
 pub record AreGivenBelow (given : Handle → Bool) (i next : ℕ) : Type 0 where

@@ -17,7 +17,7 @@ pub enum SlotLoad {
 pub enum GateLoad {
     /// Nothing but what others did.
     Meet,
-    /// A refusal to shut the gate, where threads are inside, knocking or collecting.
+    /// A refusal to shut the gate, where threads are inside, knocking, announcing or collecting.
     Busy,
 }
 

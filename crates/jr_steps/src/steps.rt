@@ -4,11 +4,12 @@ ghost use Rattle.jr_word.specs.Config.{in_limits};
 ghost use Rattle.jr_word.specs.declared.handle.RefKind.TheVariants.{Local, Weak};
 ghost use Rattle.jr_word.specs.declared.kind.Kind.TheVariants.{Text};
 ghost use Rattle.jr_word.specs.Header.{IsHeader};
-ghost use Rattle.jr_model.specs.declared.event.Act.TheVariants.{Reopen, Read, Write, Clear, Drop, Settle};
+ghost use Rattle.jr_model.specs.declared.event.Act.TheVariants.{Gate, Read, Write, Clear, Drop, Settle};
+ghost use Rattle.jr_model.specs.declared.event.GateAct.TheVariants.{Cancel, Reopen};
 ghost use Rattle.jr_steps.specs.Collecting.{ShowsLocal, ShowsElement, IsThere, CanWipe, CanDrop, ShowsDropped, CanMove, ShowsMoved, placed, CanPlace, ShowsPlaced, CanSettle};
-ghost use Rattle.jr_model.specs.declared.event.Role.TheVariants.{Outside, Within, Knocking, Collecting};
-ghost use Rattle.jr_steps.specs.Acts.{act_of_entry, act_of_exit, act_of_bar, act_of_gate_load, GateLoadFits, all_counted, act_of_slot_load, SlotLoadFits, act_of_claim, act_of_free, act_of_put, acts_of_publication, acts_of_top_load, act_of_reservation, found_of, handle_of};
-ghost use Rattle.jr_steps.specs.Knowing.{anything, KnowsHeader, HasWord, IsWordNow, IsFilled, words_for, ShowsHeader, ShowsPublished, ShowsUsed, WasUsed, ShowsRange, ShowsWord, TookWith, HasObject, HasOptional, HasLooked, HasNoLocals, CanReopen, ShowsBarred, IsFreeSlot, ShowsGate, ShowsSlot, LostClaim, MayKnow, SawPart, Took, Spent, Hinted, keeps, lets_go};
+ghost use Rattle.jr_model.specs.declared.event.Role.TheVariants.{Outside, Within, Knocking, Announcing, Collecting};
+ghost use Rattle.jr_steps.specs.Acts.{act_of_entry, act_of_exit, act_of_bar, act_of_announcement, act_of_gate_load, GateLoadFits, all_counted, act_of_slot_load, SlotLoadFits, act_of_claim, act_of_free, act_of_put, acts_of_publication, acts_of_top_load, act_of_reservation, found_of, handle_of};
+ghost use Rattle.jr_steps.specs.Knowing.{anything, KnowsHeader, HasWord, IsWordNow, IsFilled, words_for, ShowsHeader, ShowsPublished, ShowsUsed, WasUsed, ShowsRange, ShowsWord, TookWith, HasObject, HasOptional, HasLooked, HasNoLocals, CanReopen, ShowsAnnounced, ShowsBarred, IsFreeSlot, ShowsGate, ShowsSlot, LostClaim, MayKnow, SawPart, Took, Spent, Hinted, keeps, lets_go};
 
 use crate::loads::{GateLoad, SlotLoad, TopLoad};
 use jr_model::Role;
@@ -66,16 +67,31 @@ pub trait Steps {
         requires { ((facts self.old).stands.role ≡ Within) ⊎ ((facts self.old).stands.role ≡ Knocking) }
         ensures { Took facts self.old self.new (act_of_exit (facts self.old).stands.role ∷ []) anything lets_go };
 
-    /// Shuts the gate for a collection where no thread is inside, knocking or collecting. Else how many are.
+    /// Shuts the gate for a collection where no thread is inside, knocking, announcing or collecting. Else how many are.
     fn bar(&mut self) -> Result<(), u32>
         requires { (facts self.old).stands.role ≡ Outside }
+        ensures { Took facts self.old self.new (act_of_bar result ∷ []) anything (ShowsBarred result) };
+
+    /// Announces that the gate will be shut, where it is open and counts as many as were looked at: entries are barred from then on. Else what was found.
+    fn announce(&mut self, looked: u16) -> Result<(), GateParts>
+        requires { (facts self.old).stands.role ≡ Outside }
+        ensures { Took facts self.old self.new (act_of_announcement result ∷ []) anything (ShowsAnnounced looked result) };
+
+    /// Takes the announcement back.
+    fn cancel(&mut self)
+        requires { (facts self.old).stands.role ≡ Announcing }
+        ensures { Took facts self.old self.new (Gate Cancel ∷ []) anything lets_go };
+
+    /// Shuts the gate for a collection, as announced, where no other thread is inside or knocking. Else how many are.
+    fn bar_announced(&mut self) -> Result<(), u32>
+        requires { (facts self.old).stands.role ≡ Announcing }
         ensures { Took facts self.old self.new (act_of_bar result ∷ []) anything (ShowsBarred result) };
 
     /// Opens the gate after a collection. No move may be unfinished.
     fn unbar(&mut self)
         requires role { (facts self.old).stands.role ≡ Collecting }
         requires closed { MayKnow facts self.old CanReopen }
-        ensures { Took facts self.old self.new (Reopen ∷ []) CanReopen lets_go };
+        ensures { Took facts self.old self.new (Gate Reopen ∷ []) CanReopen lets_go };
 
     /// Loads the gate, which counts as what it is named.
     fn see_gate(&mut self, name: GateLoad) -> GateParts

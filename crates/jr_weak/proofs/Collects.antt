@@ -5,7 +5,8 @@ use mathlib.Core.Logic.{∥∥₁_map}
 use Rattle.jr_model.specs.declared.event.Event.{Event}
 use Rattle.jr_model.specs.declared.event.Role.TheVariants.{Outside}
 use Rattle.jr_model.specs.declared.event.Found.{Found}
-use Rattle.jr_model.specs.declared.event.Act.TheVariants.{Shut, Clear, Drop, Settle, Reopen}
+use Rattle.jr_model.specs.declared.event.Act.TheVariants.{Gate, Clear, Drop, Settle}
+use Rattle.jr_model.specs.declared.event.GateAct.TheVariants.{Shut, Reopen}
 use Rattle.jr_model.specs.State.{Handle, Contents, State, HaveSameTables}
 use Rattle.jr_model.specs.History.{History, by, state, mine, Did}
 use Rattle.jr_model.specs.CollectionCalls.{IsWhole, sweeping_acts, CollectionIn}
@@ -37,10 +38,10 @@ joined before more after s r =
     ap (λ l. l ++ r ∷ []) (append_assoc (before ++ s ∷ []) more after ∙ append_assoc before (s ∷ []) (more ++ after))
 
 -- where the collection lies
-place_of : {k k1 k5 k6 : Known} (cleared : List Handle) (dropped : List ℕ) (used : ℕ) → Goes k (Shut ∷ []) k1 → Did (view k1) (view k5) (sweeping_acts cleared dropped used) → Goes k5 (Reopen ∷ []) k6 → CollectionIn (view k) (view k6) cleared dropped used
+place_of : {k k1 k5 k6 : Known} (cleared : List Handle) (dropped : List ℕ) (used : ℕ) → Goes k (Gate Shut ∷ []) k1 → Did (view k1) (view k5) (sweeping_acts cleared dropped used) → Goes k5 (Gate Reopen ∷ []) k6 → CollectionIn (view k) (view k6) cleared dropped used
 place_of {k} {k1} {k5} {k6} cleared dropped used g d h =
     let more : History = d.begins.0 in
-    let five : k5.seen ≡ ((k.seen ++ g.between) ++ by k.thread Shut ∷ []) ++ more = sym d.begins.1 ∙ ap (λ l. l ++ more) g.seen in
+    let five : k5.seen ≡ ((k.seen ++ g.between) ++ by k.thread (Gate Shut) ∷ []) ++ more = sym d.begins.1 ∙ ap (λ l. l ++ more) g.seen in
     let thread : k5.thread ≡ k.thread = d.thread ∙ g.thread in
     let swept : mine more k.thread ≡ sweeping_acts cleared dropped used = ap (mine more) (sym g.thread) ∙ mine_did (sweeping_acts cleared dropped used) d in
     let none : mine h.between k.thread ≡ [] = ap (mine h.between) (sym thread) ∙ h.others in
@@ -50,18 +51,18 @@ place_of {k} {k1} {k5} {k6} cleared dropped used g d h =
       rest = [];
       from = (g.between, refl);
       parts = h.seen
-          ∙ (ap (λ l. (l ++ h.between) ++ by k5.thread Reopen ∷ []) five
-          ∙ (ap (λ t. ((((k.seen ++ g.between) ++ by k.thread Shut ∷ []) ++ more) ++ h.between) ++ by t Reopen ∷ []) thread
-          ∙ joined (k.seen ++ g.between) more h.between (by k.thread Shut) (by k.thread Reopen)));
+          ∙ (ap (λ l. (l ++ h.between) ++ by k5.thread (Gate Reopen) ∷ []) five
+          ∙ (ap (λ t. ((((k.seen ++ g.between) ++ by k.thread (Gate Shut) ∷ []) ++ more) ++ h.between) ++ by t (Gate Reopen) ∷ []) thread
+          ∙ joined (k.seen ++ g.between) more h.between (by k.thread (Gate Shut)) (by k.thread (Gate Reopen))));
       own = mine_append more h.between k.thread
           ∙ (ap (λ l. l ++ mine h.between k.thread) swept
           ∙ (ap (λ l. sweeping_acts cleared dropped used ++ l) none ∙ append-nil (sweeping_acts cleared dropped used)));
     }
 
 -- the step that shuts the gate leaves the tables
-shut_tables : {k k1 : Known} (g : Goes k (Shut ∷ []) k1) → HaveSameTables (state (k.seen ++ g.between)) (state_of k1)
+shut_tables : {k k1 : Known} (g : Goes k (Gate Shut ∷ []) k1) → HaveSameTables (state (k.seen ++ g.between)) (state_of k1)
 shut_tables {k} g =
-    let is = ap state g.seen ∙ state_push (k.seen ++ g.between) (by k.thread Shut) in
+    let is = ap state g.seen ∙ state_push (k.seen ++ g.between) (by k.thread (Gate Shut)) in
     record {
       refs = ap (λ (s : State). s.refs) is;
       given = ap (λ (s : State). s.given) is;
@@ -102,9 +103,9 @@ module _ {S : Type 0} (facts : S → Facts) (a b : S) (marks : List Bool) where
   may_reopen {used} may p = ∥∥₁_map may (λ k. let x = p.leads k.0 k.1 k.2 in (x.0, x.1, can_reopen marks used k.0 x.0 k.2 x.3.0))
 
 module _ {S : Type 0} (facts : S → Facts) (fits : AreOf facts) (marks : List Bool) {a b c d e f z : S} {cleared_count dropped_count used : ℕ} (outside : (facts a).stands.role ≡ Outside)
-    (shut : Took facts a b (Shut ∷ []) anything (λ j k. IsClosedNow k × lets_go j k)) (marked : Saw facts b c CanReopen (λ j k. IsMarkedNow marks k)) (clear : ClearsUnreached facts marks c d cleared_count) (drop : DropsUnreached facts marks d e dropped_count)
-    (moved : ActedTo facts e f (Settle used ∷ []) (AreDropped marks) (AreCompacted used)) (opened : Took facts f z (Reopen ∷ []) CanReopen lets_go) where
-  stood : (facts f).stands ≡ standing_after (facts a).stands (Shut ∷ [])
+    (shut : Took facts a b (Gate Shut ∷ []) anything (λ j k. IsClosedNow k × lets_go j k)) (marked : Saw facts b c CanReopen (λ j k. IsMarkedNow marks k)) (clear : ClearsUnreached facts marks c d cleared_count) (drop : DropsUnreached facts marks d e dropped_count)
+    (moved : ActedTo facts e f (Settle used ∷ []) (AreDropped marks) (AreCompacted used)) (opened : Took facts f z (Gate Reopen ∷ []) CanReopen lets_go) where
+  stood : (facts f).stands ≡ standing_after (facts a).stands (Gate Shut ∷ [])
   stood = moved.stands_is ∙ ap (λ s. standing_after s (Settle used ∷ [])) (drop.went.stands_is ∙ (clear.went.stands_is ∙ (marked.stands_is ∙ shut.stands_is)))
 
   -- A COLLECTION WAS MADE
@@ -116,7 +117,7 @@ module _ {S : Type 0} (facts : S → Facts) (fits : AreOf facts) (marks : List B
     clears = clear.counted;
     drops = drop.counted;
     went = record {
-      stands_is = opened.stands_is ∙ (ap (λ s. standing_after s (Reopen ∷ [])) stood ∙ ap (λ r. record ((facts a).stands) { role = r }) (sym outside));
+      stands_is = opened.stands_is ∙ (ap (λ s. standing_after s (Gate Reopen ∷ [])) stood ∙ ap (λ r. record ((facts a).stands) { role = r }) (sym outside));
       hint_is = opened.hint_is ∙ (moved.hint_is ∙ (drop.went.hint_is ∙ (clear.went.hint_is ∙ (marked.hint_is ∙ shut.hint_is))));
       leads = λ k s m.
           let acts = sweeping_acts clear.cleared drop.dropped used in
@@ -131,7 +132,7 @@ module _ {S : Type 0} (facts : S → Facts) (fits : AreOf facts) (marks : List B
           let last = goes_stepped k6.2 in
           let role = ap (λ (s : Standing). s.role) shut.stands_is in
           let same = same_then (shut_tables k1.2) (tables_seen k2.2 ((fits b k1.0 k1.1).role ∙ role)) in
-          let did : Did (view k) (view k6.0) (Shut ∷ acts ++ Reopen ∷ []) = did_then (Shut ∷ []) (acts ++ Reopen ∷ []) first.did (did_then acts (Reopen ∷ []) swept last.did) in (
+          let did : Did (view k) (view k6.0) (Gate Shut ∷ acts ++ Gate Reopen ∷ []) = did_then (Gate Shut ∷ []) (acts ++ Gate Reopen ∷ []) first.did (did_then acts (Gate Reopen ∷ []) swept last.did) in (
             k6.0,
             k6.1,
             record {
@@ -139,7 +140,7 @@ module _ {S : Type 0} (facts : S → Facts) (fits : AreOf facts) (marks : List B
               place = place_of clear.cleared drop.dropped used k1.2 swept k6.2;
               whole = whole_of marks (state (k.seen ++ k1.2.between)) k2.0 k3.0 clear.cleared drop.dropped same k2.3 k3.3.2 k3.3.1 k3.3.0 k4.3.0;
             },
-            (k6.3, (k1.0.seen, window_stay Shut acts Reopen first first.behind swept last (stepped_last last))),
+            (k6.3, (k1.0.seen, window_stay (Gate Shut) acts (Gate Reopen) first (λ out. first.behind) swept last (λ out. stepped_last last))),
           );
     };
   }

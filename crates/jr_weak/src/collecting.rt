@@ -27,7 +27,7 @@ pub struct Collected {
 ///
 /// # Errors
 ///
-/// E14 with how many threads were inside, knocking or collecting at the step that shuts the gate, at least 1.
+/// E14 with how many threads were inside, knocking, announcing or collecting at the step that shuts the gate, at least 1.
 ///
 /// Nothing has changed then. Over one thread it is never refused.
 ///

@@ -1,7 +1,7 @@
 -- Refusals, by number.
 use Rattle.std.specs.Prelude.{ℕ, ℤ, negsuc, Option, Some, None}
 use Rattle.jr_word.specs.declared.fault.Fault.{Fault}
-use Rattle.jr_word.specs.declared.fault.Fault.TheVariants.{Null, Stale, Foreign, WrongKind, NotArray, WrongElement, Range, RowFull, LocalsFull, SpaceFull, ObjectsFull, Raced, Barred, Busy, NoFrame, Memory, Size, Value, InCritical, Turns, NotFresh, LeftInside}
+use Rattle.jr_word.specs.declared.fault.Fault.TheVariants.{Null, Stale, Foreign, WrongKind, NotArray, WrongElement, Range, RowFull, LocalsFull, SpaceFull, ObjectsFull, Raced, Barred, Busy, NoFrame, Memory, Size, Value, InCritical, Turns, NotFresh, LeftInside, Moved}
 
 -- the number of a refusal
 abbrev pub fault_number : Fault → ℕ
@@ -27,6 +27,7 @@ fault_number InCritical = 19
 fault_number Turns = 20
 fault_number NotFresh = 21
 fault_number (LeftInside threads) = 22
+fault_number (Moved looked found) = 23
 
 -- the status that JNI has for a refusal: -4, that memory is out, where no local place is left or a growth was refused
 abbrev pub jni_code_of : Fault → Option ℤ

@@ -65,12 +65,12 @@ pub enum Fault {
     /// Make the call again.
     #[error("E12")]
     Raced(u32, u32),
-    /// The entry found the gate shut.
+    /// The entry found the gate shut, or that it was announced to be.
     ///
     /// Make the call again, and let other threads run in between. That it is ever let in is not promised.
     #[error("E13")]
     Barred,
-    /// The shut step found so many threads inside, knocking or collecting: at least 1.
+    /// The shut step found so many threads inside, knocking, announcing or collecting: at least 1.
     ///
     /// Make the call again, once threads have left their calls and critical regions. That a collection is ever let in is not promised.
     #[error("E14")]
@@ -110,11 +110,16 @@ pub enum Fault {
     /// Make one env of each pass. A pass that was spent still serves to meet and to close.
     #[error("E21")]
     NotFresh,
-    /// The room was closed with so many threads inside, knocking or collecting.
+    /// The room was closed with so many threads inside, knocking, announcing or collecting.
     ///
     /// Let them leave, and close the room that was handed back.
     #[error("E22")]
     LeftInside(u32),
+    /// Another thread went in or out between the look at the gate and the exchange that announces: the threads inside or knocking that were looked at, and those that were found.
+    ///
+    /// Make the call again.
+    #[error("E23")]
+    Moved(u32, u32),
 }
 
 /// JNI's status where memory is out (JNI Specification, chapter 4, "Constants").
@@ -124,7 +129,7 @@ impl Fault {
     ghost use Rattle.std.specs.Prelude.{◌≡◌};
     ghost use Rattle.jr_word.specs.Fault.{fault_number, jni_code_of};
 
-    /// The number of the refusal, 1 to 22.
+    /// The number of the refusal, 1 to 23.
     pub fn number(self) -> u8
         ensures { result ≡ fault_number self }
     {
@@ -151,6 +156,7 @@ impl Fault {
             Fault::Turns => 20,
             Fault::NotFresh => 21,
             Fault::LeftInside(_) => 22,
+            Fault::Moved(_, _) => 23,
         }
     }
 

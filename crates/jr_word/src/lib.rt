@@ -17,7 +17,7 @@ mod top;
 pub use config::Config;
 pub use elem::Elem;
 pub use fault::Fault;
-pub use gate::{GateParts, GateWord};
+pub use gate::{GateParts, GateState, GateWord};
 pub use handle::{Handle, HandleParts, RefKind};
 pub use header::{Header, HeaderParts};
 pub use kind::Kind;

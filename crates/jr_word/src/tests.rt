@@ -180,25 +180,36 @@ fn reads_gate(rt: &impl Abort, word: u64, parts: Option<GateParts>) {
     assert_eq!(rt; GateWord::parts(word), parts, "at {word:x}");
 }
 
-fn gate(count: u16, shut: bool) -> Option<GateParts> {
-    Some(GateParts { count, shut })
+fn gate(count: u16, state: GateState) -> Option<GateParts> {
+    Some(GateParts { count, state })
 }
 
 #[test]
 fn gates(rt: HostRuntime) {
     let barred = GateParts {
         count: 1,
-        shut: true,
+        state: GateState::Shut,
     };
     assert_eq!(rt; GateWord::pack(barred), GateWord(65_537));
+    let announced = GateParts {
+        count: 2,
+        state: GateState::Announced,
+    };
+    assert_eq!(rt; GateWord::pack(announced), GateWord(131_074));
     assert_eq!(rt; GateWord::SHUT, 65_536);
-    reads_gate(&rt, 0, gate(0, false));
-    reads_gate(&rt, 65_537, gate(1, true));
-    reads_gate(&rt, 0x1_ffff, gate(65_535, true));
+    assert_eq!(rt; GateWord::ANNOUNCED, 131_072);
+    reads_gate(&rt, 0, gate(0, GateState::Open));
+    reads_gate(&rt, 65_537, gate(1, GateState::Shut));
+    reads_gate(&rt, 0x1_ffff, gate(65_535, GateState::Shut));
+    reads_gate(&rt, 131_073, gate(1, GateState::Announced));
+    reads_gate(&rt, 0x2_ffff, gate(65_535, GateState::Announced));
+    reads_gate(&rt, 196_608, None);
+    reads_gate(&rt, 196_609, None);
     for k in 0..64_u32 {
         let alone = match k {
-            0..=15 => gate(1 << k, false),
-            16 => gate(0, true),
+            0..=15 => gate(1 << k, GateState::Open),
+            16 => gate(0, GateState::Shut),
+            17 => gate(0, GateState::Announced),
             _ => None,
         };
         reads_gate(&rt, 1 << k, alone);
@@ -391,6 +402,7 @@ fn faults(rt: HostRuntime) -> Result<(), Fail> {
         Fault::Turns,
         Fault::NotFresh,
         Fault::LeftInside(7),
+        Fault::Moved(7, 8),
     ];
     for (i, fault) in all.iter().enumerate() {
         let number = i + 1;

@@ -1,8 +1,8 @@
-use Rattle.jr_model.proofs.Grounded.{barred_by_collector, busy_is_counted, space_was_full, free_index_is_found, refused_in_its_stay, each_is_probed}
+use Rattle.jr_model.proofs.Grounded.{barred_by_closer, busy_is_counted, space_was_full, free_index_is_found, refused_in_its_stay, each_is_probed}
 use Rattle.jr_model.proofs.laws.refusals_are_true.Goals as goal
 
 pub returns-clause-barred : goal.returns-clause-barred
-returns-clause-barred c = barred_by_collector
+returns-clause-barred c = barred_by_closer
 
 pub returns-clause-busy : goal.returns-clause-busy
 returns-clause-busy c = busy_is_counted

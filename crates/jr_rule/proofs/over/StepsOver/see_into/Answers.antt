@@ -7,13 +7,13 @@ use Rattle.jr_steps.proofs.PartFacts.{saw_more}
 use Rattle.jr_rule.proofs.over.StepsOver.see_into.Goals as goal
 
 pub returns-clause-known : goal.returns-clause-known
-returns-clause-known g c = may_then c.see_element_at-word.ensures (λ k s m. m) c.requires.known (λ k k' s m d x. ap (λ (y : Holdings). header_in c.args.object y.headers) x ∙ m)
+returns-clause-known g c = may_then c.see_element_at-word.ensures.step (λ k s m. m) c.requires.known (λ k k' s m d x. ap (λ (y : Holdings). header_in c.args.object y.headers) x ∙ m)
 
 pub returns-clause-config : goal.returns-clause-config
-returns-clause-config g c = ap (λ (s : Standing). s.config) c.see_element_at-word.ensures.stands_is
+returns-clause-config g c = ap (λ (s : Standing). s.config) c.see_element_at-word.ensures.step.stands_is
 
 pub returns-clause-role : goal.returns-clause-role
-returns-clause-role g c = ap (λ (s : Standing). s.role) c.see_element_at-word.ensures.stands_is ∙ c.requires.role
+returns-clause-role g c = ap (λ (s : Standing). s.role) c.see_element_at-word.ensures.step.stands_is ∙ c.requires.role
 
 pub returns-clause-step : goal.returns-clause-step
-returns-clause-step g c = λ p saw. saw_more g.E.Elem.element_of c.args.object c.args.header c.args.start c.args.index (c.args.start + c.args.index) c.args.elements.now c.of_word.result c.see_element_at-word.result c.requires.index refl c.of_word.ensures saw c.see_element_at-word.ensures
+returns-clause-step g c = λ p saw. saw_more g.E.Elem.element_of c.args.object c.args.header c.args.start c.args.index (c.args.start + c.args.index) c.args.elements.now c.of_word.result c.see_element_at-word.result c.requires.index refl c.of_word.ensures saw c.see_element_at-word.ensures.step

@@ -16,8 +16,8 @@ pack-made-requires g c =
     let some = object_some facts (λ s k h. h.1) c.args.self.now c.args.object c.requires.looked in
     names_object c.args.kind c.args.serial (Some c.args.object) c.reference.result c.reference.ensures (λ x e. let same : c.args.object ≡ x = cc in omega arith)
 
-pub exchange-found-requires : goal.exchange-found-requires
-exchange-found-requires g c =
+pub exchange-found-requires-clause-owed : goal.exchange-found-requires-clause-owed
+exchange-found-requires-clause-owed g c =
     let s = c.args.self.now in
     let i = c.args.index in
     let o = c.args.object in
@@ -29,19 +29,19 @@ exchange-found-requires g c =
 pub invariant_of-self : goal.invariant_of-self
 invariant_of-self g c =
     let s = c.args.self.now in
-    record { stands = standing_next c.exchange-found.ensures (claim_leaves c.args.index c.args.serial c.args.kind c.args.object) c.requires.role (g.met.C.Cells.sound c.exchange-found.new.cells) s.stands (may_in (g.C.Cells.sight s.cells) c.requires.role c.requires.looked) }
+    record { at = c.exchange-found.ensures.there; stands = standing_next c.exchange-found.ensures.step (claim_leaves c.args.index c.args.serial c.args.kind c.args.object) c.requires.role (g.met.C.Cells.sound c.exchange-found.new.cells s.place c.exchange-found.ensures.there) s.stands (may_in (g.C.Cells.sight s.cells) c.requires.role c.requires.looked) }
 
 pub of_word-requires : goal.of_word-requires
 of_word-requires g c =
     let s = c.args.self.now in
-    one_slot (found_so c.exchange-found.ensures (may_in (g.C.Cells.sight s.cells) c.requires.role c.requires.looked) (λ k k' done t. let u = t.1 (λ e. c.if-found-looked.true (e ∙ sym c.pack-looked.ensures)) in (u.0, u.1, u.2)))
+    one_slot (found_so c.exchange-found.ensures.step (may_in (g.C.Cells.sight s.cells) c.requires.role c.requires.looked) (λ k k' done t. let u = t.1 (λ e. c.if-found-looked.true (e ∙ sym c.pack-looked.ensures)) in (u.0, u.1, u.2)))
 
 pub returns-then-found-looked : goal.returns-then-found-looked
 returns-then-found-looked g c =
     let s = c.args.self.now in
-    took s _ c.exchange-found.ensures refl c.requires.role _ (claim_lost c.args.index c.args.serial c.args.kind c.args.object (λ e. c.if-found-looked.true (e ∙ sym c.pack-looked.ensures)) c.of_word.result c.of_word.ensures) refl refl
+    took s _ c.exchange-found.ensures.step refl c.requires.role _ (claim_lost c.args.index c.args.serial c.args.kind c.args.object (λ e. c.if-found-looked.true (e ∙ sym c.pack-looked.ensures)) c.of_word.result c.of_word.ensures) refl refl
 
 pub returns : goal.returns
 returns g c =
     let s = c.args.self.now in
-    took s _ c.exchange-found.ensures refl c.requires.role _ (claim_won c.args.index c.args.serial c.args.kind c.args.object (c.if-found-looked.false ∙ c.pack-looked.ensures)) refl refl
+    took s _ c.exchange-found.ensures.step refl c.requires.role _ (claim_won c.args.index c.args.serial c.args.kind c.args.object (c.if-found-looked.false ∙ c.pack-looked.ensures)) refl refl

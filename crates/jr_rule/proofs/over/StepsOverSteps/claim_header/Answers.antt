@@ -8,8 +8,8 @@ use Rattle.jr_rule.proofs.Told.{publishing, Published}
 use Rattle.jr_rule.proofs.StepTaken.{exchange_at, header_in, may_in, owed, leaves, standing_next, took_with}
 use Rattle.jr_rule.proofs.over.StepsOverSteps.claim_header.Goals as goal
 
-pub exchange-found-requires : goal.exchange-found-requires
-exchange-found-requires g c =
+pub exchange-found-requires-clause-owed : goal.exchange-found-requires-clause-owed
+exchange-found-requires-clause-owed g c =
     let s = c.args.self.now in
     let h = c.args.header in
     let z = g.C.Cells.sight s.cells in
@@ -25,7 +25,7 @@ invariant_of-self g c =
     let o = c.args.object in
     let h = c.args.header in
     let n = c.exchange-found.result in
-    record { stands = standing_next c.exchange-found.ensures (leaves (publishing o h) (λ k. publishing_role o h.kind (words_for h k) (n == 0) s.role) (λ k. publishing_fresh o h.kind (words_for h k) (n == 0) s.fresh)) c.requires.role (g.met.C.Cells.sound c.exchange-found.new.cells) s.stands (may_in (g.C.Cells.sight s.cells) c.requires.role c.requires.filled) }
+    record { at = c.exchange-found.ensures.there; stands = standing_next c.exchange-found.ensures.step (leaves (publishing o h) (λ k. publishing_role o h.kind (words_for h k) (n == 0) s.role) (λ k. publishing_fresh o h.kind (words_for h k) (n == 0) s.fresh)) c.requires.role (g.met.C.Cells.sound c.exchange-found.new.cells s.place c.exchange-found.ensures.there) s.stands (may_in (g.C.Cells.sight s.cells) c.requires.role c.requires.filled) }
 
 pub returns : goal.returns
 returns g c =
@@ -33,4 +33,4 @@ returns g c =
     let o = c.args.object in
     let h = c.args.header in
     let n = c.exchange-found.result in
-    took_with s _ c.exchange-found.ensures refl c.requires.role (publishing o h) refl refl (λ k. publishing_role o h.kind (words_for h k) (n == 0) s.role) (λ k. publishing_fresh o h.kind (words_for h k) (n == 0) s.fresh)
+    took_with s _ c.exchange-found.ensures.step refl c.requires.role (publishing o h) refl refl (λ k. publishing_role o h.kind (words_for h k) (n == 0) s.role) (λ k. publishing_fresh o h.kind (words_for h k) (n == 0) s.fresh)

@@ -16,8 +16,8 @@ reference-requires g c = looked_can facts (λ s k h. h.1) c.args.self.now c.args
 pub pack-looked-requires : goal.pack-looked-requires
 pack-looked-requires g c = names_object c.args.handle.kind c.args.handle.serial c.args.object c.reference.result c.reference.ensures (looked_object facts (λ s k h. h.1) c.args.self.now c.args.handle c.args.object c.requires.looked)
 
-pub exchange-found-requires : goal.exchange-found-requires
-exchange-found-requires g c =
+pub exchange-found-requires-clause-owed : goal.exchange-found-requires-clause-owed
+exchange-found-requires-clause-owed g c =
     let s = c.args.self.now in
     let h = c.args.handle in
     owed (search rules) (may_in (g.C.Cells.sight s.cells) c.requires.role c.requires.looked) (λ k among role m.
@@ -31,7 +31,7 @@ invariant_of-self g c =
     let h = c.args.handle in
     let n = c.exchange-found.result in
     let x = c.pack-looked.result.0 in
-    record { stands = standing_next c.exchange-found.ensures (leaves (freeing h c.args.object x) (λ k. freeing_role h (n == x) s.role) (λ k. freeing_fresh h (n == x) s.fresh)) c.requires.role (g.met.C.Cells.sound c.exchange-found.new.cells) s.stands (may_in (g.C.Cells.sight s.cells) c.requires.role c.requires.looked) }
+    record { at = c.exchange-found.ensures.there; stands = standing_next c.exchange-found.ensures.step (leaves (freeing h c.args.object x) (λ k. freeing_role h (n == x) s.role) (λ k. freeing_fresh h (n == x) s.fresh)) c.requires.role (g.met.C.Cells.sound c.exchange-found.new.cells s.place c.exchange-found.ensures.there) s.stands (may_in (g.C.Cells.sight s.cells) c.requires.role c.requires.looked) }
 
 pub returns : goal.returns
 returns g c =
@@ -39,4 +39,4 @@ returns g c =
     let h = c.args.handle in
     let n = c.exchange-found.result in
     let x = c.pack-looked.result.0 in
-    took s _ c.exchange-found.ensures refl c.requires.role _ (freeing h c.args.object x) (freeing_role h (n == x) s.role) (freeing_fresh h (n == x) s.fresh)
+    took s _ c.exchange-found.ensures.step refl c.requires.role _ (freeing h c.args.object x) (freeing_role h (n == x) s.role) (freeing_fresh h (n == x) s.fresh)

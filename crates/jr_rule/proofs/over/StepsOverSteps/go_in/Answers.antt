@@ -7,27 +7,27 @@ use Rattle.jr_rule.proofs.Told.{entry}
 use Rattle.jr_rule.proofs.StepTaken.{may_any, owed, leaves, standing_next, took}
 use Rattle.jr_rule.proofs.over.StepsOverSteps.go_in.Goals as goal
 
-pub add-found-requires : goal.add-found-requires
-add-found-requires g c = let s = c.args.self.now in owed (search rules) (may_any (g.C.Cells.sight s.cells) c.requires s.stands) (λ k among role m. enters k role)
+pub add-found-requires-clause-owed : goal.add-found-requires-clause-owed
+add-found-requires-clause-owed g c = let s = c.args.self.now in owed (search rules) (may_any (g.C.Cells.sight s.cells) c.requires s.stands) (λ k among role m. enters k role)
 
 pub invariant_of-self : goal.invariant_of-self
 invariant_of-self g c =
     let s = c.args.self.now in
-    let left = leaves (entry _ true c.is_shut.ensures c.if-is_shut.true) (λ k. ap (λ r. role_after r (act_of_entry false)) (sym c.requires)) (λ k. entered_fresh false s.fresh) in
-    record { stands = standing_next c.add-found.ensures left c.requires (g.met.C.Cells.sound c.add-found.new.cells) s.stands (may_any (g.C.Cells.sight s.cells) c.requires s.stands) }
+    let left = leaves (entry _ true c.is_closed.ensures c.if-is_closed.true) (λ k. ap (λ r. role_after r (act_of_entry false)) (sym c.requires)) (λ k. entered_fresh false s.fresh) in
+    record { at = c.add-found.ensures.there; stands = standing_next c.add-found.ensures.step left c.requires (g.met.C.Cells.sound c.add-found.new.cells s.place c.add-found.ensures.there) s.stands (may_any (g.C.Cells.sight s.cells) c.requires s.stands) }
 
-pub returns-then-is_shut : goal.returns-then-is_shut
-returns-then-is_shut g c =
+pub returns-then-is_closed : goal.returns-then-is_closed
+returns-then-is_closed g c =
     let s = c.args.self.now in
-    took s _ c.add-found.ensures refl c.requires _ (entry _ true c.is_shut.ensures c.if-is_shut.true) (ap (λ r. role_after r (act_of_entry false)) (sym c.requires)) (entered_fresh false s.fresh)
+    took s _ c.add-found.ensures.step refl c.requires _ (entry _ true c.is_closed.ensures c.if-is_closed.true) (ap (λ r. role_after r (act_of_entry false)) (sym c.requires)) (entered_fresh false s.fresh)
 
-pub invariant_of-self-else-is_shut : goal.invariant_of-self-else-is_shut
-invariant_of-self-else-is_shut g c =
+pub invariant_of-self-else-is_closed : goal.invariant_of-self-else-is_closed
+invariant_of-self-else-is_closed g c =
     let s = c.args.self.now in
-    let left = leaves (entry _ false c.is_shut.ensures c.if-is_shut.false) (λ k. ap (λ r. role_after r (act_of_entry true)) (sym c.requires)) (λ k. entered_fresh true s.fresh) in
-    record { stands = standing_next c.add-found.ensures left c.requires (g.met.C.Cells.sound c.add-found.new.cells) s.stands (may_any (g.C.Cells.sight s.cells) c.requires s.stands) }
+    let left = leaves (entry _ false c.is_closed.ensures c.if-is_closed.false) (λ k. ap (λ r. role_after r (act_of_entry true)) (sym c.requires)) (λ k. entered_fresh true s.fresh) in
+    record { at = c.add-found.ensures.there; stands = standing_next c.add-found.ensures.step left c.requires (g.met.C.Cells.sound c.add-found.new.cells s.place c.add-found.ensures.there) s.stands (may_any (g.C.Cells.sight s.cells) c.requires s.stands) }
 
 pub returns : goal.returns
 returns g c =
     let s = c.args.self.now in
-    took s _ c.add-found.ensures refl c.requires _ (entry _ false c.is_shut.ensures c.if-is_shut.false) (ap (λ r. role_after r (act_of_entry true)) (sym c.requires)) (entered_fresh true s.fresh)
+    took s _ c.add-found.ensures.step refl c.requires _ (entry _ false c.is_closed.ensures c.if-is_closed.false) (ap (λ r. role_after r (act_of_entry true)) (sym c.requires)) (entered_fresh true s.fresh)

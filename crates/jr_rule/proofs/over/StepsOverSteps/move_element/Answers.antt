@@ -11,13 +11,13 @@ pub overflow_add-place : goal.overflow_add-place
 overflow_add-place g c =
     let s = c.args.self.now in
     let below = move_few facts (λ s k h. h.1) s c.args.object c.args.header c.args.place c.args.index c.args.word c.requires.can in
-    let most = (g.met.C.Cells.sound s.cells).sized.limited.words in omega (arith, below, most)
+    let most = (g.met.C.Cells.sound s.cells s.place s.at).sized.limited.words in omega (arith, below, most)
 
-pub element_at-at-requires : goal.element_at-at-requires
-element_at-at-requires g c = let s = c.args.self.now in move_few facts (λ s k h. h.1) s c.args.object c.args.header c.args.place c.args.index c.args.word c.requires.can
+pub element_at-at-requires-clause-index : goal.element_at-at-requires-clause-index
+element_at-at-requires-clause-index g c = let s = c.args.self.now in move_few facts (λ s k h. h.1) s c.args.object c.args.header c.args.place c.args.index c.args.word c.requires.can
 
-pub store-requires : goal.store-requires
-store-requires g c =
+pub store-requires-clause-owed : goal.store-requires-clause-owed
+store-requires-clause-owed g c =
     let s = c.args.self.now in
     let z = g.C.Cells.sight s.cells in
     let x = c.args.place + c.args.index in
@@ -29,7 +29,7 @@ store-requires g c =
 pub invariant_of-self : goal.invariant_of-self
 invariant_of-self g c =
     let s = c.args.self.now in
-    record { stands = standing_next c.store.ensures (leaves (plainly (λ k k' done t. t)) (λ k. refl) (λ k. refl)) c.requires.role (g.met.C.Cells.sound c.store.new.cells) s.stands (may_in (g.C.Cells.sight s.cells) c.requires.role c.requires.can) }
+    record { at = c.store.ensures.there; stands = standing_next c.store.ensures.step (leaves (plainly (λ k k' done t. t)) (λ k. refl) (λ k. refl)) c.requires.role (g.met.C.Cells.sound c.store.new.cells s.place c.store.ensures.there) s.stands (may_in (g.C.Cells.sight s.cells) c.requires.role c.requires.can) }
 
 pub returns : goal.returns
-returns g c = let s = c.args.self.now in took s _ c.store.ensures refl c.requires.role _ (plainly (λ k k' done t. t)) refl refl
+returns g c = let s = c.args.self.now in took s _ c.store.ensures.step refl c.requires.role _ (plainly (λ k k' done t. t)) refl refl

@@ -7,8 +7,8 @@ use Rattle.jr_rule.proofs.Readings.{one_header, found_so}
 use Rattle.jr_rule.proofs.StepTaken.{load_at, header_in, may_any, owed, standing_next, took}
 use Rattle.jr_rule.proofs.over.StepsOverSteps.see_header.Goals as goal
 
-pub load-found-requires : goal.load-found-requires
-load-found-requires g c =
+pub load-found-requires-clause-owed : goal.load-found-requires-clause-owed
+load-found-requires-clause-owed g c =
     let s = c.args.self.now in
     let z = g.C.Cells.sight s.cells in
     let o = c.args.object in
@@ -20,12 +20,12 @@ load-found-requires g c =
 pub invariant_of-self : goal.invariant_of-self
 invariant_of-self g c =
     let s = c.args.self.now in
-    record { stands = standing_next c.load-found.ensures (header_look_leaves c.args.object) c.requires.role (g.met.C.Cells.sound c.load-found.new.cells) s.stands (may_any (g.C.Cells.sight s.cells) c.requires.role s.stands) }
+    record { at = c.load-found.ensures.there; stands = standing_next c.load-found.ensures.step (header_look_leaves c.args.object) c.requires.role (g.met.C.Cells.sound c.load-found.new.cells s.place c.load-found.ensures.there) s.stands (may_any (g.C.Cells.sight s.cells) c.requires.role s.stands) }
 
 pub of_word-requires : goal.of_word-requires
-of_word-requires g c = let s = c.args.self.now in one_header (found_so c.load-found.ensures (may_any (g.C.Cells.sight s.cells) c.requires.role s.stands) (λ k k' done t. header_or_zero t.0 c.load-found.result t.1))
+of_word-requires g c = let s = c.args.self.now in one_header (found_so c.load-found.ensures.step (may_any (g.C.Cells.sight s.cells) c.requires.role s.stands) (λ k k' done t. header_or_zero t.0 c.load-found.result t.1))
 
 pub returns : goal.returns
 returns g c =
     let s = c.args.self.now in
-    took s _ c.load-found.ensures refl c.requires.role _ (header_load c.args.object c.of_word.result c.of_word.ensures.none c.of_word.ensures.header) refl refl
+    took s _ c.load-found.ensures.step refl c.requires.role _ (header_load c.args.object c.of_word.result c.of_word.ensures.none c.of_word.ensures.header) refl refl

@@ -7,8 +7,8 @@ use Rattle.jr_rule.proofs.SlotOwed.{sees_slot}
 use Rattle.jr_rule.proofs.Told.{slot_load, slot_look_leaves, SawSlot}
 use Rattle.jr_rule.proofs.over.StepsOverSteps.see_slot.Goals as goal
 
-pub load-found-requires : goal.load-found-requires
-load-found-requires g c =
+pub load-found-requires-clause-owed : goal.load-found-requires-clause-owed
+load-found-requires-clause-owed g c =
     let s = c.args.self.now in
     let i = c.args.index in
     owed (search rules) (may_any (g.C.Cells.sight s.cells) c.requires.role s.stands) (λ k among role m.
@@ -17,10 +17,10 @@ load-found-requires g c =
 pub invariant_of-self : goal.invariant_of-self
 invariant_of-self g c =
     let s = c.args.self.now in
-    record { stands = standing_next c.load-found.ensures (slot_look_leaves c.args.index c.args.name) c.requires.role (g.met.C.Cells.sound c.load-found.new.cells) s.stands (may_any (g.C.Cells.sight s.cells) c.requires.role s.stands) }
+    record { at = c.load-found.ensures.there; stands = standing_next c.load-found.ensures.step (slot_look_leaves c.args.index c.args.name) c.requires.role (g.met.C.Cells.sound c.load-found.new.cells s.place c.load-found.ensures.there) s.stands (may_any (g.C.Cells.sight s.cells) c.requires.role s.stands) }
 
 pub of_word-requires : goal.of_word-requires
-of_word-requires g c = let s = c.args.self.now in one_slot (found_so c.load-found.ensures (may_any (g.C.Cells.sight s.cells) c.requires.role s.stands) (λ k k' done t. (t.0, t.1, t.2)))
+of_word-requires g c = let s = c.args.self.now in one_slot (found_so c.load-found.ensures.step (may_any (g.C.Cells.sight s.cells) c.requires.role s.stands) (λ k k' done t. (t.0, t.1, t.2)))
 
 pub returns : goal.returns
 returns g c =
@@ -28,4 +28,4 @@ returns g c =
     let i = c.args.index in
     let name = c.args.name in
     let q = c.of_word.result in
-    took s _ c.load-found.ensures refl c.requires.role _ (slot_load i name q c.of_word.ensures) (slot_load_role i name q s.role) (slot_load_fresh i name q s.fresh)
+    took s _ c.load-found.ensures.step refl c.requires.role _ (slot_load i name q c.of_word.ensures) (slot_load_role i name q s.role) (slot_load_fresh i name q s.fresh)

@@ -6,8 +6,8 @@ use Rattle.jr_rule.proofs.FromMayKnow.{place_is}
 use Rattle.jr_rule.proofs.StepTaken.{store_at, header_in, may_in, owed, leaves, standing_next, took}
 use Rattle.jr_rule.proofs.over.StepsOverSteps.set_header.Goals as goal
 
-pub store-requires : goal.store-requires
-store-requires g c =
+pub store-requires-clause-owed : goal.store-requires-clause-owed
+store-requires-clause-owed g c =
     let s = c.args.self.now in
     let z = g.C.Cells.sight s.cells in
     let o = c.args.object in
@@ -19,7 +19,7 @@ store-requires g c =
 pub invariant_of-self : goal.invariant_of-self
 invariant_of-self g c =
     let s = c.args.self.now in
-    record { stands = standing_next c.store.ensures (leaves (plainly (λ k k' done t. t)) (λ k. refl) (λ k. refl)) c.requires.role (g.met.C.Cells.sound c.store.new.cells) s.stands (may_in (g.C.Cells.sight s.cells) c.requires.role c.requires.can) }
+    record { at = c.store.ensures.there; stands = standing_next c.store.ensures.step (leaves (plainly (λ k k' done t. t)) (λ k. refl) (λ k. refl)) c.requires.role (g.met.C.Cells.sound c.store.new.cells s.place c.store.ensures.there) s.stands (may_in (g.C.Cells.sight s.cells) c.requires.role c.requires.can) }
 
 pub returns : goal.returns
-returns g c = let s = c.args.self.now in took s _ c.store.ensures refl c.requires.role _ (plainly (λ k k' done t. t)) refl refl
+returns g c = let s = c.args.self.now in took s _ c.store.ensures.step refl c.requires.role _ (plainly (λ k k' done t. t)) refl refl

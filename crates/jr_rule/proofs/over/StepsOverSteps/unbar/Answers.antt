@@ -7,15 +7,15 @@ use Rattle.jr_rule.proofs.Told.{reopening}
 use Rattle.jr_rule.proofs.StepTaken.{may_in, owed, leaves, standing_next, took}
 use Rattle.jr_rule.proofs.over.StepsOverSteps.unbar.Goals as goal
 
-pub take-requires : goal.take-requires
-take-requires g c =
+pub take-requires-clause-owed : goal.take-requires-clause-owed
+take-requires-clause-owed g c =
     let s = c.args.self.now in
     owed (search rules) (may_in (g.C.Cells.sight s.cells) c.requires.role c.requires.closed) (λ k among role m. reopens k role (∥∥₁_elim m (hlevel props) (λ q. q.1)) (∥∥₁_map m (λ q. q.0)))
 
 pub invariant_of-self : goal.invariant_of-self
 invariant_of-self g c =
     let s = c.args.self.now in
-    record { stands = standing_next c.take.ensures (leaves reopening (λ k. refl) (λ k. refl)) c.requires.role (g.met.C.Cells.sound c.take.new.cells) s.stands (may_in (g.C.Cells.sight s.cells) c.requires.role c.requires.closed) }
+    record { at = c.take.ensures.there; stands = standing_next c.take.ensures.step (leaves reopening (λ k. refl) (λ k. refl)) c.requires.role (g.met.C.Cells.sound c.take.new.cells s.place c.take.ensures.there) s.stands (may_in (g.C.Cells.sight s.cells) c.requires.role c.requires.closed) }
 
 pub returns : goal.returns
-returns g c = let s = c.args.self.now in took s _ c.take.ensures refl c.requires.role _ reopening refl refl
+returns g c = let s = c.args.self.now in took s _ c.take.ensures.step refl c.requires.role _ reopening refl refl

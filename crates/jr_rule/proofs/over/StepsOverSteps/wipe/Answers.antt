@@ -9,8 +9,8 @@ use Rattle.jr_rule.proofs.over.StepsOverSteps.wipe.Goals as goal
 pub pack-looked-requires : goal.pack-looked-requires
 pack-looked-requires g c = wiped_some c.args.index c.args.serial c.args.object c.requires.can
 
-pub exchange-requires : goal.exchange-requires
-exchange-requires g c =
+pub exchange-requires-clause-owed : goal.exchange-requires-clause-owed
+exchange-requires-clause-owed g c =
     let s = c.args.self.now in
     let i = c.args.index in
     owed (search rules) (may_in (g.C.Cells.sight s.cells) c.requires.role c.requires.can) (λ k among role m.
@@ -20,7 +20,7 @@ exchange-requires g c =
 pub invariant_of-self : goal.invariant_of-self
 invariant_of-self g c =
     let s = c.args.self.now in
-    record { stands = standing_next c.exchange.ensures (leaves (plainly (λ k k' done t. t)) (λ k. refl) (λ k. refl)) c.requires.role (g.met.C.Cells.sound c.exchange.new.cells) s.stands (may_in (g.C.Cells.sight s.cells) c.requires.role c.requires.can) }
+    record { at = c.exchange.ensures.there; stands = standing_next c.exchange.ensures.step (leaves (plainly (λ k k' done t. t)) (λ k. refl) (λ k. refl)) c.requires.role (g.met.C.Cells.sound c.exchange.new.cells s.place c.exchange.ensures.there) s.stands (may_in (g.C.Cells.sight s.cells) c.requires.role c.requires.can) }
 
 pub returns : goal.returns
-returns g c = let s = c.args.self.now in took s _ c.exchange.ensures refl c.requires.role _ (plainly (λ k k' done t. t)) refl refl
+returns g c = let s = c.args.self.now in took s _ c.exchange.ensures.step refl c.requires.role _ (plainly (λ k k' done t. t)) refl refl

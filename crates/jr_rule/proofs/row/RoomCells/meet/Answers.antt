@@ -13,7 +13,7 @@ pub load-requires : goal.load-requires
 load-requires g c =
     let s = c.args.self.now in
     let m = c.join_seat.new.seat.me in
-    let seated = seated_both s.seat.me c.args.other.me m s.at.alone c.requires.alone c.join_seat.ensures.2 in
+    let seated = seated_both s.seat.me c.args.other.me m c.requires.there.alone c.requires.alone c.join_seat.ensures.2 in
     (search rules, search rules, plays _ _ _ _ _ _ _ seated _ (λ n. n) (λ n. n) Met (meets _))
 
 pub split_seat-requires : goal.split_seat-requires

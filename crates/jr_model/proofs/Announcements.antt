@@ -1,0 +1,123 @@
+-- What holds while an announcement stands.
+use Rattle.std.proofs.Common.{◌≡◌, ◌≢◌, ◌⊎◌, inl, inr, ⊎_elim, ℕ, zero, suc, ◌+◌, ◌==◌, Bool, true, false, not, if◌then◌else◌, List, [], ◌∷◌, ◌++◌, refl, sym, ap, subst, ◌∙◌, arith, append_assoc}
+use Rattle.std.specs.List.{AllByRecursion}
+use Rattle.jr_word.specs.declared.config.Config.{Config}
+use Rattle.jr_model.specs.declared.event.Role.{Role}
+use Rattle.jr_model.specs.declared.event.Role.TheVariants.{Outside, Within, Knocking, Announcing, Collecting}
+use Rattle.jr_model.specs.declared.event.Event.{Event}
+use Rattle.jr_model.specs.declared.event.Act.{Act}
+use Rattle.jr_model.specs.declared.event.Act.TheVariants.{Gate, ShutBusy}
+use Rattle.jr_model.specs.declared.event.GateAct.{GateAct}
+use Rattle.jr_model.specs.declared.event.GateAct.TheVariants.{Enter, Knock, Leave, Withdraw, Announce, Cancel, Shut, Reopen}
+use Rattle.jr_model.specs.Maps.{count_below}
+use Rattle.jr_model.specs.State.{State, is_barring, is_inside, is_outside, not_outside}
+use Rattle.jr_model.specs.Steps.{Needs, ActNeeds, role_behind, act_after, after}
+use Rattle.jr_model.specs.History.{History, by, state_from, state, IsLegalFrom, IsLegal}
+use Rattle.jr_model.specs.Announcements.{IsAnnouncement, NobodyEnters, WithinOnlyLeave, AnnouncerCounts}
+use Rattle.jr_model.proofs.Counts.{count_single, not_outside_split, not_true}
+use Rattle.jr_model.proofs.Gates.{IsApart, apart_after, apart_state, legal_inside}
+use Rattle.jr_model.proofs.Histories.{legal_append, shown_along, state_append}
+use Rattle.jr_model.proofs.Updates.{at_number, at_number_self}
+
+-- who keeps the gate closed announces or collects
+pub closes_by : (r : Role) → is_barring r ≡ true → (r ≡ Announcing) ⊎ (r ≡ Collecting)
+closes_by Outside e = absurd cc
+closes_by Within e = absurd cc
+closes_by Knocking e = absurd cc
+closes_by Announcing e = inl refl
+closes_by Collecting e = inr refl
+
+-- one thread alone keeps the gate closed
+pub one_closes : {role : ℕ → Role} → IsApart role → (t u : ℕ) → is_barring (role t) ≡ true → is_barring (role u) ≡ true → t ≡ u
+one_closes {role} i t u p q = ⊎_elim
+    (λ (e : role t ≡ Announcing). i.announced t u e q)
+    (λ (e : role t ≡ Collecting). ⊎_elim
+    (λ (e' : role u ≡ Announcing). sym (i.announced u t e' p))
+    (λ (e' : role u ≡ Collecting). i.alone t u e e')
+    (closes_by (role u) q))
+    (closes_by (role t) p)
+
+module _ (c : Config) (last : ℕ) where
+  -- while t keeps the gate closed nobody goes in, and t keeps it closed until it takes its announcement back or opens the gate
+  closing_act : (t : ℕ) (s : State) (u : ℕ) (a : Act) → IsApart s.role → is_barring (s.role t) ≡ true → by u a ≢ by t (Gate Cancel) → by u a ≢ by t (Gate Reopen) → ActNeeds c last s u a → (is_barring ((act_after s u a).role t) ≡ true) × (a ≢ Gate Enter)
+  closing_act t s u (Gate Enter) i w q r n = absurd (let none = n.1 t in cc)
+  closing_act t s u (Gate Knock) i w q r n = (at_number (λ x. is_barring x ≡ true) s.role u t Knocking (λ e. absurd (let o = n.0 in cc)) (λ ne. w), λ e. cc)
+  closing_act t s u (Gate Leave) i w q r n = (at_number (λ x. is_barring x ≡ true) s.role u t Outside (λ e. absurd (let o = n.0 in cc)) (λ ne. w), λ e. cc)
+  closing_act t s u (Gate Withdraw) i w q r n = (at_number (λ x. is_barring x ≡ true) s.role u t Outside (λ e. absurd (let o = n.0 in cc)) (λ ne. w), λ e. cc)
+  closing_act t s u (Gate Announce) i w q r n = absurd (let none = n.1 t in cc)
+  closing_act t s u (Gate Cancel) i w q r n = absurd (q (ap (λ v. by v (Gate Cancel)) (i.announced u t n.0 w)))
+  closing_act t s u (Gate Shut) i w q r n = (at_number (λ x. is_barring x ≡ true) s.role u t Collecting (λ e. refl) (λ ne. w), λ e. cc)
+  closing_act t s u (Gate Reopen) i w q r n = absurd (r (ap (λ v. by v (Gate Reopen)) (one_closes i u t (ap is_barring n.0) w)))
+  closing_act t s u _ i w q r n = (w, λ e. cc)
+
+  closing_along : (t : ℕ) (s : State) (es : History) → IsApart s.role → is_barring (s.role t) ≡ true → AllByRecursion (λ e. (e ≢ by t (Gate Cancel)) × (e ≢ by t (Gate Reopen))) es → IsLegalFrom c last s es → is_barring ((state_from s es).role t) ≡ true
+  closing_along t s [] i w q l = w
+  closing_along t s (e ∷ es) i w q l = closing_along t (after s e) es (apart_after c last s e i l.0) (closing_act t s e.thread e.act i w q.0.0 q.0.1 l.0.1).0 q.1 l.1
+
+  pub nobody_enters : NobodyEnters c last
+  nobody_enters t es before inside rest l k =
+      let p = legal_inside c last es before (by t (Gate Announce)) inside rest l k.parts in
+      shown_along c last (λ s. IsApart s.role × (is_barring (s.role t) ≡ true)) (λ e. (e ≢ by t (Gate Cancel)) × (e ≢ by t (Gate Reopen))) (λ e. e.act ≢ Gate Enter)
+      (λ s e i q n. let r = closing_act t s e.thread e.act i.0 i.1 q.0 q.1 n.1 in ((apart_after c last s e i.0 n, r.0), r.1))
+      (after (state before) (by t (Gate Announce))) inside
+      (apart_after c last (state before) (by t (Gate Announce)) (apart_state c last before p.0) p.1.0, ap is_barring (at_number_self (state before).role t Announcing))
+      k.stands p.1.1
+
+-- one goes in by an entry alone
+behind_within : (a : GateAct) → role_behind a ≡ Within → a ≡ Enter
+behind_within Enter e = refl
+behind_within Knock e = absurd cc
+behind_within Leave e = absurd cc
+behind_within Withdraw e = absurd cc
+behind_within Announce e = absurd cc
+behind_within Cancel e = absurd cc
+behind_within Shut e = absurd cc
+behind_within Reopen e = absurd cc
+
+-- whoever is within behind an act that is no entry was so before it, and has not left by it
+within_before : (s : State) (v : ℕ) (a : Act) (u : ℕ) → a ≢ Gate Enter → (act_after s v a).role u ≡ Within → (s.role u ≡ Within) × (by v a ≢ by u (Gate Leave))
+within_before s v (Gate a) u ne w = at_number (λ x. x ≡ Within → (s.role u ≡ Within) × (by v (Gate a) ≢ by u (Gate Leave))) s.role v u (role_behind a)
+    (λ e p. absurd (ne (ap Gate (behind_within a p))))
+    (λ apart p. (p, λ e. apart (ap (λ (f : Event). f.thread) e)))
+    w
+within_before s v _ u ne w = (w, λ e. let same = ap (λ (f : Event). f.act) e in cc)
+
+within_along : (s : State) (es : History) (u : ℕ) → AllByRecursion (λ e. e.act ≢ Gate Enter) es → (state_from s es).role u ≡ Within → (s.role u ≡ Within) × AllByRecursion (λ e. e ≢ by u (Gate Leave)) es
+within_along s [] u q w = (w, tt)
+within_along s (e ∷ es) u q w =
+    let later = within_along (after s e) es u q.1 w in
+    let here = within_before s e.thread e.act u q.0 later.0 in
+    (here.0, (here.1, later.1))
+
+all_behind : (P : Event → Type 0) (xs ys : History) → AllByRecursion P (xs ++ ys) → AllByRecursion P ys
+all_behind P [] ys h = h
+all_behind P (x ∷ xs) ys h = all_behind P xs ys h.1
+
+module _ (c : Config) (last : ℕ) where
+  pub within_only_leave : WithinOnlyLeave c last
+  within_only_leave t u es before earlier since rest l k w =
+      let front = before ++ by t (Gate Announce) ∷ earlier in
+      let none = all_behind (λ e. e.act ≢ Gate Enter) earlier since (nobody_enters c last t es before (earlier ++ since) rest l k) in
+      let same : state (before ++ by t (Gate Announce) ∷ earlier ++ since) ≡ state_from (state front) since = state_append front since in
+      within_along (state front) since u none (sym (ap (λ (s : State). s.role u) same) ∙ w)
+
+  pub announcer_counts : AnnouncerCounts c last
+  announcer_counts t n es before inside rest l k =
+      let here = before ++ by t (Gate Announce) ∷ inside in
+      let parts : es ≡ here ++ by t (ShutBusy n) ∷ rest = k.parts in
+      let both = (legal_append c last here (by t (ShutBusy n) ∷ rest)).0 (subst (IsLegal c last) parts l) in
+      let p = (legal_append c last before (by t (Gate Announce) ∷ inside)).0 both.0 in
+      let s = state here in
+      let apart : IsApart s.role = apart_state c last here both.0 in
+      let closing : is_barring (s.role t) ≡ true =
+      ap (λ (z : State). is_barring (z.role t)) (state_append before (by t (Gate Announce) ∷ inside))
+      ∙ closing_along c last t (after (state before) (by t (Gate Announce))) inside
+      (apart_after c last (state before) (by t (Gate Announce)) (apart_state c last before p.0) p.1.0)
+      (ap is_barring (at_number_self (state before).role t Announcing)) k.stands p.1.1 in
+      let needs = both.1.0 in
+      let announces : is_outside (s.role t) ≡ false = ⊎_elim (λ (e : s.role t ≡ Outside). absurd (let w = closing in cc)) (λ (e : s.role t ≡ Announcing). ap is_outside e) needs.1.0 in
+      let own : ◌≡◌ {A = ℕ} (if is_outside (s.role t) then 0 else 1) 1 = ap (λ (b : Bool). if b then 0 else 1) announces in
+      let others = needs.1.1 in
+      let one : count_below c.threads (λ u. is_barring (s.role u)) ≡ 1 = count_single c.threads (λ u. is_barring (s.role u)) t needs.0 closing (λ j ne. not_true (is_barring (s.role j)) (λ e. ne (one_closes apart t j closing e))) in
+      let split = not_outside_split c s in
+      omega (arith, own, others, one, split)

@@ -1,0 +1,30 @@
+-- What holds from an announcement that the gate will be shut to its end.
+use Rattle.std.specs.Prelude.{◌≡◌, ◌≢◌, ℕ, List, [], ◌∷◌, ◌++◌}
+use Rattle.std.specs.List.{AllByRecursion}
+use Rattle.jr_word.specs.declared.config.Config.{Config}
+use Rattle.jr_model.specs.declared.event.Role.TheVariants.{Within}
+use Rattle.jr_model.specs.declared.event.Act.TheVariants.{Gate, ShutBusy}
+use Rattle.jr_model.specs.declared.event.GateAct.TheVariants.{Enter, Leave, Announce, Cancel, Reopen}
+use Rattle.jr_model.specs.Maps.{count_below}
+use Rattle.jr_model.specs.State.{is_inside}
+use Rattle.jr_model.specs.History.{History, by, state, IsLegal}
+
+-- AN ANNOUNCEMENT of t: from an Announce of t on, at most to its next Cancel or Reopen
+pub record IsAnnouncement (t : ℕ) (whole : History) (before inside rest : History) : Type 0 where
+  pub parts : whole ≡ before ++ by t (Gate Announce) ∷ inside ++ rest
+  pub stands : AllByRecursion (λ e. (e ≢ by t (Gate Cancel)) × (e ≢ by t (Gate Reopen))) inside
+
+-- NOBODY ENTERS while an announcement stands
+abbrev pub NobodyEnters : Config → ℕ → Type 0
+NobodyEnters c last = (t : ℕ) (es before inside rest : History) → IsLegal c last es → IsAnnouncement t es before inside rest → AllByRecursion (λ e. e.act ≢ Gate Enter) inside
+
+-- WHO IS WITHIN ONLY LEAVES: whoever is within at a moment of an announcement was so at each earlier one, in the same stay
+abbrev pub WithinOnlyLeave : Config → ℕ → Type 0
+WithinOnlyLeave c last = (t u : ℕ) (es before earlier since rest : History) → IsLegal c last es → IsAnnouncement t es before (earlier ++ since) rest
+    → (state (before ++ by t (Gate Announce) ∷ earlier ++ since)).role u ≡ Within
+    → ((state (before ++ by t (Gate Announce) ∷ earlier)).role u ≡ Within) × AllByRecursion (λ e. e ≢ by u (Gate Leave)) since
+
+-- A REFUSED SHUT of the announcer counts just those who are within or knock
+abbrev pub AnnouncerCounts : Config → ℕ → Type 0
+AnnouncerCounts c last = (t n : ℕ) (es before inside rest : History) → IsLegal c last es → IsAnnouncement t es before inside (by t (ShutBusy n) ∷ rest)
+    → n ≡ count_below c.threads (λ u. is_inside ((state (before ++ by t (Gate Announce) ∷ inside)).role u))

@@ -1,0 +1,38 @@
+use Rattle.std.proofs.Common.{◌≡◌, ◌+◌, ℕ, rules, refl, sym, ◌∙◌, arith}
+use Rattle.jr_steps.specs.Acts.{load_of, all_counted}
+use Rattle.jr_rule.proofs.ActEffects.{gate_load_role, gate_load_fresh}
+use Rattle.jr_rule.proofs.GateOwed.{announces_shut}
+use Rattle.jr_rule.proofs.Told.{Announced, announced, announcement_lost, lost_leaves, word_read}
+use Rattle.jr_rule.proofs.StepTaken.{exchange_at, may_any, owed, leaves, standing_next, took}
+use Rattle.jr_rule.proofs.over.StepsOverSteps.announce.Goals as goal
+
+-- the word of an open gate is its count
+open_is : {word count : ℕ} → word ≡ count + 0 → word ≡ count
+open_is e = omega (arith, e)
+
+pub exchange-found-requires-clause-owed : goal.exchange-found-requires-clause-owed
+exchange-found-requires-clause-owed g c =
+    let s = c.args.self.now in
+    owed (search rules) (may_any (g.C.Cells.sight s.cells) c.requires s.stands) (λ k among role m.
+    exchange_at k (Announced c.args.looked k) refl (sym (open_is c.pack-open.ensures)) (sym c.pack-announced.ensures) (announces_shut k c.args.looked (search rules) role))
+
+pub invariant_of-self : goal.invariant_of-self
+invariant_of-self g c =
+    let s = c.args.self.now in
+    record { at = c.exchange-found.ensures.there; stands = standing_next c.exchange-found.ensures.step (lost_leaves c.args.looked (λ e. c.if-found-open.true (e ∙ sym (open_is c.pack-open.ensures)))) c.requires (g.met.C.Cells.sound c.exchange-found.new.cells s.place c.exchange-found.ensures.there) s.stands (may_any (g.C.Cells.sight s.cells) c.requires s.stands) }
+
+pub unwrap-requires : goal.unwrap-requires
+unwrap-requires g c = let s = c.args.self.now in word_read c.exchange-found.ensures.step (may_any (g.C.Cells.sight s.cells) c.requires s.stands) (λ k k' done t. let u = t.1 (λ e. c.if-found-open.true (e ∙ sym (open_is c.pack-open.ensures))) in (u.0, u.1, u.2)) c.parts.result c.parts.ensures.complete
+
+pub returns-then-found-open : goal.returns-then-found-open
+returns-then-found-open g c =
+    let s = c.args.self.now in
+    took s _ c.exchange-found.ensures.step refl c.requires _ (announcement_lost _ c.parts.ensures.complete _ c.unwrap.ensures c.args.looked (λ e. c.if-found-open.true (e ∙ sym (open_is c.pack-open.ensures)))) (gate_load_role (load_of c.unwrap.result.state) (all_counted c.unwrap.result) s.role) (gate_load_fresh (load_of c.unwrap.result.state) (all_counted c.unwrap.result) s.fresh)
+
+pub invariant_of-self-2 : goal.invariant_of-self-2
+invariant_of-self-2 g c =
+    let s = c.args.self.now in
+    record { at = c.exchange-found.ensures.there; stands = standing_next c.exchange-found.ensures.step (leaves (announced c.args.looked (c.if-found-open.false ∙ open_is c.pack-open.ensures)) (λ k. refl) (λ k. refl)) c.requires (g.met.C.Cells.sound c.exchange-found.new.cells s.place c.exchange-found.ensures.there) s.stands (may_any (g.C.Cells.sight s.cells) c.requires s.stands) }
+
+pub returns : goal.returns
+returns g c = let s = c.args.self.now in took s _ c.exchange-found.ensures.step refl c.requires _ (announced c.args.looked (c.if-found-open.false ∙ open_is c.pack-open.ensures)) refl refl

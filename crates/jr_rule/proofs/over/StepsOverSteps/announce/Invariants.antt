@@ -1,0 +1,8 @@
+use Rattle.jr_model.specs.declared.event.Role.TheVariants.{Outside}
+use Rattle.jr_steps.specs.Knowing.{anything}
+use Rattle.jr_rule.proofs.Told.{Announced}
+use Rattle.jr_rule.specs.Cells.{InRole}
+use Rattle.jr_rule.proofs.over.StepsOverSteps.announce.Given as goal
+
+abbrev pub ghosts-exchange : goal.ghosts-exchange
+ghosts-exchange g a = record { met = InRole Outside anything; told = Announced a._about }

@@ -1,0 +1,8 @@
+use Rattle.jr_model.specs.declared.event.Role.TheVariants.{Announcing}
+use Rattle.jr_steps.specs.Knowing.{anything}
+use Rattle.jr_rule.proofs.Told.{Cancelled}
+use Rattle.jr_rule.specs.Cells.{InRole}
+use Rattle.jr_rule.proofs.over.StepsOverSteps.cancel.Given as goal
+
+abbrev pub ghosts-take : goal.ghosts-take
+ghosts-take g a = record { met = InRole Announcing anything; told = Cancelled }

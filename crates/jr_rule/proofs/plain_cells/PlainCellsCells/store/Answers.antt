@@ -1,8 +1,0 @@
-use Rattle.std.proofs.Common.{refl}
-use Rattle.jr_rule.proofs.PlainWords.{stepped}
-use Rattle.jr_rule.proofs.plain_cells.PlainCellsCells.store.Goals as goal
-
-pub returns : goal.returns
-returns g c =
-    let s = c.args.self.now in
-    stepped (λ m. c.args.new) (record { limits = s.limits; limited = s.limited; serials = s.few }) c.requires refl refl
