@@ -4,14 +4,14 @@ use Rattle.std.proofs.lemmas.List.{append-nil}
 use mathlib.Core.List.{IsPrefix}
 use Rattle.jr_word.specs.declared.config.Config.{Config}
 use Rattle.jr_word.specs.declared.fault.Fault.{Fault}
-use Rattle.jr_word.specs.declared.fault.Fault.TheVariants.{RowFull, ObjectsFull, Raced}
+use Rattle.jr_word.specs.declared.fault.Fault.TheVariants.{RowFull, ObjectsFull, Raced, Moved}
 use Rattle.jr_model.specs.declared.event.Event.{Event}
 use Rattle.jr_model.specs.declared.event.Act.{Act}
 use Rattle.jr_model.specs.declared.event.Act.TheVariants.{Probe, ReserveLost}
 use Rattle.jr_model.specs.State.{State, IsPresent, IsOccupied}
 use Rattle.jr_model.specs.Steps.{Needs}
 use Rattle.jr_model.specs.History.{History, by, state, IsLegal, mine, PassView, Did}
-use Rattle.jr_model.specs.Refusals.{Sometime, WasOccupied, ObjectsWereFull, WasRaced, Grounds}
+use Rattle.jr_model.specs.Refusals.{Sometime, WasOccupied, ObjectsWereFull, WasRaced, IsOpenWith, GateHasMoved, Grounds}
 use Rattle.jr_model.proofs.Updates.{eq_true}
 use Rattle.jr_model.proofs.Histories.{legal_append, state_push}
 use Rattle.jr_model.proofs.Stays.{mine_did}
@@ -140,6 +140,15 @@ module _ {begun first : History} (earlier : IsPrefix first begun) {r s : PassVie
     looked_at = sometime_wider earlier (prefix_self w.before) w.looked_at;
   }
 
+  moved_wider : (l f : ℕ) → GateHasMoved begun r l f → GateHasMoved first s l f
+  moved_wider l f w = record {
+    other = w.other;
+    before = w.before;
+    to = prefix_trans w.before r.seen s.seen w.to d.begins;
+    looked_at = subst (λ (c : Config). Sometime (IsOpenWith c l) first w.before) (sym d.config) (sometime_wider earlier (prefix_self w.before) w.looked_at);
+    later = subst (λ (c : Config). Sometime (IsOpenWith c f) w.before s.seen) (sym d.config) (sometime_wider (prefix_self w.before) d.begins w.later);
+  }
+
 -- an index that was occupied at some moment after the call had probed it
 pub probed_then : {old mid new : PassView} (i : ℕ) (found : Bool) (acts : List Act) → Did old mid (Probe i found ∷ []) → Did mid new acts → Sometime (λ s. IsOccupied mid.last s i) mid.seen new.seen → WasOccupied old.seen new i
 probed_then {old} {mid} {new} i found acts d e m =
@@ -163,6 +172,7 @@ module _ (begun first : History) (earlier : IsPrefix first begun) {r s : PassVie
   grounds_wider RowFull g = λ i l. occupied_wider earlier acts d i (g i (subst (λ (c : Config). i < c.slots) d.config l))
   grounds_wider ObjectsFull g = objects_wider earlier acts d g
   grounds_wider (Raced l f) g = raced_wider earlier acts d l f g
+  grounds_wider (Moved l f) g = moved_wider earlier acts d l f g
   grounds_wider _ g = tt
 
   pub answer_wider : {A : Type 0} (answer : Result A Fault) → IfErr answer (Grounds begun r) → IfErr answer (Grounds first s)

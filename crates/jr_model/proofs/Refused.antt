@@ -141,6 +141,17 @@ one_of_safe {A} {p} {q} a b = record { frames = frames; acts = acts_of }
     acts_of old new acts e (inl r) = a.acts old new acts e r
     acts_of old new acts e (inr r) = b.acts old new acts e r
 
+pub one_of_calm : {A : Type 0} {p q : Call A} → IsCalm p → IsCalm q → IsCalm (one_of p q)
+one_of_calm {A} {p} {q} a b = record { quiet = record { frames = frames; acts = acts_of }; safe = one_of_safe a.safe b.safe }
+  where
+    frames : (old new : Frames) (acts : List Act) (x : A) → one_of p q old acts (Ok x) new → new ≡ old
+    frames old new acts x (inl r) = a.quiet.frames old new acts x r
+    frames old new acts x (inr r) = b.quiet.frames old new acts x r
+
+    acts_of : (old new : Frames) (acts : List Act) (x : A) → one_of p q old acts (Ok x) new → AreHarmless acts
+    acts_of old new acts x (inl r) = a.quiet.acts old new acts x r
+    acts_of old new acts x (inr r) = b.quiet.acts old new acts x r
+
 pub memory_safe : {A : Type 0} {work : Call A} (n : ℕ) → ChangesNothing work → ChangesNothing (unless_memory_for n work)
 memory_safe zero q = q
 memory_safe (suc n) q = one_of_safe q (refuse_calm Memory).safe

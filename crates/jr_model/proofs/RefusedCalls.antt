@@ -1,5 +1,5 @@
 -- No call changes anything where it is refused.
-use Rattle.std.proofs.Common.{◌≡◌, inl, inr, ℕ, zero, suc, ◌+◌, ◌==◌, ◌||◌, Bool, true, false, not, cond, nat_lt, nat_le, Option, Some, None, List, [], ◌∷◌, map, length, Ok, Err, refl, sym, ap, subst, ◌∙◌, arith}
+use Rattle.std.proofs.Common.{◌≡◌, inl, inr, ℕ, zero, suc, ◌<◌, ◌+◌, ◌==◌, ◌||◌, Bool, true, false, not, cond, nat_lt, nat_le, Option, Some, None, List, [], ◌∷◌, map, length, Ok, Err, refl, sym, ap, subst, ◌∙◌, arith}
 use Rattle.std.proofs.lemmas.Bool.Decides.{nat_tests}
 use Rattle.std.specs.List.{AllByRecursion}
 use Rattle.jr_word.specs.declared.fault.Fault.{Fault}
@@ -9,7 +9,7 @@ use Rattle.jr_word.specs.declared.handle.RefKind.{RefKind}
 use Rattle.jr_word.specs.declared.kind.Kind.{Kind}
 use Rattle.jr_model.specs.declared.event.Act.{Act}
 use Rattle.jr_model.specs.declared.event.Act.TheVariants.{Gate, ShutBusy, Meet, Look, Probe, DeleteStale, ReserveFull, ReserveLost, Read, Write}
-use Rattle.jr_model.specs.declared.event.GateAct.TheVariants.{Enter, Knock, Leave, Withdraw}
+use Rattle.jr_model.specs.declared.event.GateAct.TheVariants.{Enter, Knock, Leave, Withdraw, Announce, Cancel}
 use Rattle.jr_model.specs.declared.event.Found.{Found}
 use Rattle.jr_model.specs.declared.event.Found.TheVariants.{Object, Cleared, Stale}
 use Rattle.jr_model.specs.declared.frames.TheConstants.{FRAMES, LEVELS}
@@ -19,12 +19,12 @@ use Rattle.jr_model.specs.State.{Handle, State}
 use Rattle.jr_model.specs.Frames.{Frames, free_places, object_of, popped}
 use Rattle.jr_model.specs.Calls.{Call, ◌>>=◌, ◌>>◌, done, entered, refuse_if, for_object}
 use Rattle.jr_model.specs.Checks.{Word, Nothing, Malformed, Parts, is_array, is_local, is_objects, is_plain, is_primitive, is_read_as, is_text, is_value, same_element, type_local}
-use Rattle.jr_model.specs.Parts.{collect, create, created, delete, delete_at, delete_found, delete_local_at, found_object, frame_left, frame_to_pop, enter, local_object, look, looked, looked_at, not_null, probes, publish, read, reserve, shut, take_frame, type_at, write}
+use Rattle.jr_model.specs.Parts.{announce, collect, collect_announced, collected, create, created, delete, delete_at, delete_found, delete_local_at, found_closed, found_moved, found_object, frame_left, frame_to_pop, enter, local_object, look, looked, looked_at, not_null, probes, publish, read, refused_shuts, reserve, shut, take_frame, type_at, write}
 use Rattle.jr_model.specs.References.{resolved, resolved_both, room_for, room_after, added, new_local, made, delete_local, freeing, popping}
 use Rattle.jr_model.specs.Objects.{part_of, copying_back, length_reading, level_array, level_string, region_release, release_array_elements}
 use Rattle.jr_model.specs.RefusedCalls.{may_precede, ChangesNothing, RefusalsChangeNothing, HarmlessChangesNothing}
 use Rattle.jr_model.proofs.Exactly.{append_all}
-use Rattle.jr_model.proofs.Refused.{AreHarmless, NeverRefuses, IsCalm, never_safe, done_never, done_calm, refuse_calm, refuse_if_calm, act_never, act_calm, some_act_never, some_act_calm, bind_safe, bind_never, never_bind, bind_calm, one_of_safe, memory_safe, header_safe, header_calm, entered_safe, opened_safe}
+use Rattle.jr_model.proofs.Refused.{AreHarmless, NeverRefuses, IsCalm, never_safe, done_never, done_calm, refuse_calm, refuse_if_calm, act_never, act_calm, some_act_never, some_act_calm, bind_safe, bind_never, never_bind, bind_calm, one_of_calm, one_of_safe, memory_safe, header_safe, header_calm, entered_safe, opened_safe}
 
 -- PARTS
 
@@ -76,6 +76,29 @@ probes_calm : IsCalm probes
 probes_calm = record {
   quiet = record { frames = λ old new acts x r. r.3; acts = λ old new acts x r. subst AreHarmless (sym r.1) (all_probes r.0) };
   safe = never_safe (record { never = λ old new acts e r. let bad = r.2 in cc });
+}
+
+-- the gate found closed, by another thread
+closed_calm : {A : Type 0} → IsCalm (found_closed {A = A})
+closed_calm = bind_calm (some_act_calm ShutBusy (λ n. refl)) (λ n. refuse_calm _)
+
+moved_calm : IsCalm found_moved
+moved_calm = record {
+  quiet = record { frames = λ old new acts x r. let bad = r.2.1 in cc; acts = λ old new acts x r. let bad = r.2.1 in cc };
+  safe = record { frames = λ old new acts e r. r.2.2; acts = λ old new acts e r. subst (λ l. AllByRecursion (λ a. may_precede e a ≡ true) l) (sym r.2.0) tt };
+}
+
+announce_calm : IsCalm announce
+announce_calm = one_of_calm closed_calm (bind_calm (act_calm Meet refl) (λ x. one_of_calm (act_calm (Gate Announce) refl) (one_of_calm closed_calm (bind_calm (act_calm Meet refl) (λ y. moved_calm)))))
+
+all_busy : (counts : List ℕ) → AreHarmless (map ShutBusy counts)
+all_busy [] = tt
+all_busy (n ∷ counts) = (refl, all_busy counts)
+
+refused_calm : (many : ℕ → Type 0) → IsCalm (refused_shuts many)
+refused_calm many = record {
+  quiet = record { frames = λ old new acts x r. r.4; acts = λ old new acts x r. subst AreHarmless (sym r.2) (all_busy r.0) };
+  safe = never_safe (record { never = λ old new acts e r. let bad = r.3 in cc });
 }
 
 create_safe : (k : RefKind) (o : ℕ) → ChangesNothing (create k o)
@@ -275,8 +298,15 @@ module _ (c : Config) (last thread : ℕ) (s : State) where
   release_safe k a buffer Commit = bind_never (copied_safe k a buffer) (λ x. done_never (Some buffer))
   release_safe k a buffer Abort = (done_calm None).safe
 
+  collected_safe : ChangesNothing collected
+  collected_safe = never_safe (record { never = λ old new acts e r. let bad = r.4 in cc })
+
   collect_safe : ChangesNothing collect
-  collect_safe = one_of_safe (never_safe (record { never = λ old new acts e r. let bad = r.4 in cc })) (bind_calm (some_act_calm ShutBusy (λ n. refl)) (λ n. refuse_calm _)).safe
+  collect_safe = one_of_safe collected_safe closed_calm.safe
+
+  collect_announced_safe : (tries : ℕ) → ChangesNothing (collect_announced tries)
+  collect_announced_safe tries = bind_safe announce_calm (λ x. one_of_safe (bind_safe (refused_calm (λ n. n < tries)) (λ y. collected_safe))
+      (bind_calm (refused_calm (λ n. n + 1 ≡ tries)) (λ y. bind_calm (some_act_calm ShutBusy (λ n. refl)) (λ n. bind_calm (act_calm (Gate Cancel) refl) (λ z. refuse_calm _)))).safe)
 
   pub refusals_change_nothing : RefusalsChangeNothing c last thread s
   refusals_change_nothing = record {
@@ -339,6 +369,8 @@ module _ (c : Config) (last thread : ℕ) (s : State) where
     elements_set = λ buffer i v. bind_safe (refuse_if_calm (nat_le (length buffer) i) Range) (λ x. (done_calm _).safe);
     elements_length = λ buffer. (done_calm _).safe;
     collect = collect_safe;
+    announce = announce_calm.safe;
+    collect_announced = collect_announced_safe;
     meet = never_safe (act_never _);
   }
     where

@@ -6,8 +6,8 @@ use Rattle.jr_word.specs.declared.config.Config.{Config}
 use Rattle.jr_word.specs.declared.handle.RefKind.TheVariants.{Weak}
 use Rattle.jr_model.specs.declared.event.Found.TheVariants.{Object}
 use Rattle.jr_model.specs.declared.event.Act.{Act}
-use Rattle.jr_model.specs.declared.event.Act.TheVariants.{Gate, Clear, Drop, Settle}
-use Rattle.jr_model.specs.declared.event.GateAct.TheVariants.{Shut, Reopen}
+use Rattle.jr_model.specs.declared.event.Act.TheVariants.{Gate, ShutBusy, Clear, Drop, Settle, Meet}
+use Rattle.jr_model.specs.declared.event.GateAct.TheVariants.{Announce, Shut, Reopen}
 use Rattle.jr_model.specs.State.{Handle, same_handle, Contents, State, IsPresent, IsReached, present_words}
 use Rattle.jr_model.specs.History.{History, by, state, mine, PassView, Did}
 
@@ -60,3 +60,13 @@ pub record Collects (old new : PassView) (cleared : List Handle) (dropped : List
   pub did : Did old new (collection_acts cleared dropped used)
   pub place : CollectionIn old new cleared dropped used
   pub whole : IsWhole (state place.before) cleared dropped
+
+-- what comes before the shut of a collection that was announced: the look, the announcement, and the shuts that were refused, with these counts
+abbrev pub announcing_acts : List ℕ → List Act
+announcing_acts refused = Meet ∷ Gate Announce ∷ map ShutBusy refused
+
+-- A COLLECTION THAT WAS ANNOUNCED between two moments: up to some moment the thread announced it and was refused with these counts, and from then on it collected
+pub record CollectsAnnounced (old new : PassView) (refused : List ℕ) (cleared : List Handle) (dropped : List ℕ) (used : ℕ) : Type 0 where
+  pub shutting : PassView
+  pub announced : Did old shutting (announcing_acts refused)
+  pub collects : Collects shutting new cleared dropped used

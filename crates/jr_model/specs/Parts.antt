@@ -1,15 +1,15 @@
 -- The parts that calls are made of, among them the calls of gate, slots and heap.
-use Rattle.std.specs.Prelude.{◌≡◌, ◌+◌, ◌||◌, ℕ, zero, suc, Bool, not, cond, nat_lt, nat_le, Option, Some, None, Result, Ok, Err, List, [], ◌∷◌, map, length}
+use Rattle.std.specs.Prelude.{◌≡◌, ◌<◌, ◌+◌, ◌||◌, ℕ, zero, suc, Bool, not, cond, nat_lt, nat_le, Option, Some, None, Result, Ok, Err, List, [], ◌∷◌, map, length}
 use Rattle.jr_word.specs.declared.handle.RefKind.{RefKind}
 use Rattle.jr_word.specs.declared.kind.Kind.{Kind}
 use Rattle.jr_word.specs.declared.fault.Fault.{Fault}
-use Rattle.jr_word.specs.declared.fault.Fault.TheVariants.{Null, NotArray, Range, RowFull, LocalsFull, SpaceFull, ObjectsFull, Raced, Barred, Busy, NoFrame, Value}
+use Rattle.jr_word.specs.declared.fault.Fault.TheVariants.{Null, NotArray, Range, RowFull, LocalsFull, SpaceFull, ObjectsFull, Raced, Barred, Busy, NoFrame, Value, Moved}
 use Rattle.jr_word.specs.declared.fault.Fault.TheVariants as fault
 use Rattle.jr_model.specs.declared.event.Found.{Found}
 use Rattle.jr_model.specs.declared.event.Found.TheVariants.{Object, Cleared, Stale}
 use Rattle.jr_model.specs.declared.event.Act.{Act}
 use Rattle.jr_model.specs.declared.event.Act.TheVariants.{Gate, ShutBusy, Create, Look, Probe, Delete, DeleteStale, LocalDrop, Reserve, ReserveFull, ReserveLost, New, Read, Write, Meet}
-use Rattle.jr_model.specs.declared.event.GateAct.TheVariants.{Enter, Knock, Leave, Withdraw, Shut, Reopen}
+use Rattle.jr_model.specs.declared.event.GateAct.TheVariants.{Enter, Knock, Leave, Withdraw, Announce, Cancel, Shut, Reopen}
 use Rattle.jr_model.specs.declared.frames.TheConstants.{FRAMES}
 use Rattle.jr_model.specs.State.{Handle, State}
 use Rattle.jr_model.specs.Frames.{object_of, pushed, popped, without_local, last_frame, drop_all}
@@ -213,11 +213,45 @@ collected old acts answer new =
     × (acts ≡ collection_acts cleared dropped used)
     × (answer ≡ Ok (length cleared, length dropped, used)) × (new ≡ old)
 
--- a collection, or so many threads are not outside. This names the acts alone, and would let one pass that clears and drops nothing: what a collection must take is `Collects` of Wholes.antt, and a contract of one cites that beside its answer
+-- a collection, or so many threads are not outside. This names the acts alone, and would let one pass that clears and drops nothing: what a collection must take is `Collects` of CollectionCalls.antt, and a contract of one cites that beside its answer
 abbrev pub collect : Call (ℕ × ℕ × ℕ)
 collect = one_of collected (do
   n ← some_act ShutBusy
   refuse (Busy n))
+
+-- the gate is closed by another thread: with that one so many are not outside
+abbrev pub found_closed : {A : Type 0} → Call A
+found_closed = do
+  n ← some_act ShutBusy
+  refuse (Busy n)
+
+-- another thread went in or out between a look at the gate and the exchange: two counts of an open gate, and no act
+abbrev pub found_moved : Call (Unit {0})
+found_moved old acts answer new = (looked : ℕ) × (found : ℕ) × refuse (Moved looked found) old acts answer new
+
+-- it is announced that the gate will be shut, after a look at it
+abbrev pub announce : Call (Unit {0})
+announce = one_of found_closed (do
+  act Meet
+  one_of (act (Gate Announce)) (one_of found_closed (do
+    act Meet
+    found_moved)))
+
+-- shuts that are refused, so many as this says
+abbrev pub refused_shuts : (ℕ → Type 0) → Call (Unit {0})
+refused_shuts many old acts answer new = (counts : List ℕ) × many (length counts) × (acts ≡ map ShutBusy counts) × (answer ≡ Ok tt) × (new ≡ old)
+
+-- a collection that is announced: it begins after fewer refused shuts than there are tries, or the last of them is refused too, with this count, and the announcement is taken back. Like `collect` it names the acts alone: what it must take is `CollectsAnnounced`
+abbrev pub collect_announced : ℕ → Call (ℕ × ℕ × ℕ)
+collect_announced tries = do
+  announce
+  one_of (do
+    refused_shuts (λ n. n < tries)
+    collected) (do
+    refused_shuts (λ n. n + 1 ≡ tries)
+    n ← some_act ShutBusy
+    act (Gate Cancel)
+    refuse (Busy n))
 
 -- what another pass saw is learned
 abbrev pub meet : Call (Unit {0})

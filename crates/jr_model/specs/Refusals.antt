@@ -1,10 +1,12 @@
 -- What the refusals say of the room that all threads share.
-use Rattle.std.specs.Prelude.{◌≡◌, ◌+◌, ◌<◌, ◌≤◌, ℕ, Bool, [], ◌∷◌, ◌++◌}
+use Rattle.std.specs.Prelude.{◌≡◌, ◌≢◌, ◌+◌, ◌<◌, ◌≤◌, ℕ, Bool, [], ◌∷◌, ◌++◌}
 use mathlib.Core.List.{IsPrefix}
+use Rattle.jr_word.specs.declared.config.Config.{Config}
 use Rattle.jr_word.specs.declared.fault.Fault.{Fault}
-use Rattle.jr_word.specs.declared.fault.Fault.TheVariants.{RowFull, ObjectsFull, Raced}
+use Rattle.jr_word.specs.declared.fault.Fault.TheVariants.{RowFull, ObjectsFull, Raced, Moved}
 use Rattle.jr_model.specs.declared.event.Act.TheVariants.{Probe, ReserveLost}
-use Rattle.jr_model.specs.State.{State, IsPresent, IsOccupied}
+use Rattle.jr_model.specs.Maps.{count_below}
+use Rattle.jr_model.specs.State.{State, IsPresent, IsOccupied, NobodyCloses, is_inside}
 use Rattle.jr_model.specs.History.{History, by, state, PassView}
 
 -- at some moment between two histories, of which the first begins the second, the state met P
@@ -40,9 +42,22 @@ pub record WasRaced (begun : History) (new : PassView) (looked found : ℕ) : Ty
   pub room : looked + words ≤ new.config.words
   pub looked_at : Sometime (λ s. s.used ≡ looked) begun before
 
+-- the gate is open, and so many threads are within or knock
+abbrev pub IsOpenWith : Config → ℕ → State → Type 0
+IsOpenWith c n s = NobodyCloses s × (count_below c.threads (λ t. is_inside (s.role t)) ≡ n)
+
+-- at one moment of the call the gate was open with one count, and at a later one with another
+pub record GateHasMoved (begun : History) (new : PassView) (looked found : ℕ) : Type 0 where
+  pub other : looked ≢ found
+  pub before : History
+  pub to : IsPrefix before new.seen
+  pub looked_at : Sometime (IsOpenWith new.config looked) begun before
+  pub later : Sometime (IsOpenWith new.config found) before new.seen
+
 -- THE GROUNDS of a refusal in a call that began at this moment, beside what the acts of the call show
 abbrev pub Grounds : History → PassView → Fault → Type 0
 Grounds begun new RowFull = RowWasFull begun new
 Grounds begun new ObjectsFull = ObjectsWereFull begun new
 Grounds begun new (Raced looked found) = WasRaced begun new looked found
+Grounds begun new (Moved looked found) = GateHasMoved begun new looked found
 Grounds begun new _ = Unit {0}

@@ -105,4 +105,6 @@ pub record RefusalsChangeNothing (c : Config) (last thread : ℕ) (s : State) : 
   pub elements_set : (buffer : List ℕ) (i v : ℕ) → ChangesNothing (objects.elements_set buffer i v)
   pub elements_length : (buffer : List ℕ) → ChangesNothing (objects.elements_length buffer)
   pub collect : ChangesNothing parts.collect
+  pub announce : ChangesNothing parts.announce
+  pub collect_announced : (tries : ℕ) → ChangesNothing (parts.collect_announced tries)
   pub meet : ChangesNothing parts.meet

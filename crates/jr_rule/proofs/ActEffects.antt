@@ -1,10 +1,11 @@
 -- What the acts of steps make of the role, of the freshness and of the state.
-use Rattle.std.proofs.Common.{◌≡◌, ◌⊎◌, ⊎_elim, ◌+◌, nat_lt, cond, List, ℕ, zero, suc, Bool, true, false, Option, Some, None, Result, Ok, Err, [], ◌∷◌, ◌++◌, refl, sym, subst}
+use Rattle.std.proofs.Common.{◌≡◌, ◌⊎◌, ⊎_elim, ◌+◌, if◌then◌else◌, nat_lt, cond, List, ℕ, zero, suc, Bool, true, false, Option, Some, None, Result, Ok, Err, [], ◌∷◌, ◌++◌, refl, sym, subst}
+use Rattle.jr_word.specs.declared.gate.GateParts.{GateParts}
 use Rattle.jr_word.specs.declared.handle.RefKind.{RefKind}
 use Rattle.jr_word.specs.declared.kind.Kind.{Kind}
 use Rattle.jr_word.specs.declared.slot.SlotParts.{SlotParts}
 use Rattle.jr_model.specs.declared.event.Role.{Role}
-use Rattle.jr_model.specs.declared.event.Act.TheVariants.{ReserveFull}
+use Rattle.jr_model.specs.declared.event.Act.TheVariants.{ReserveFull, ShutBusy, Meet}
 use Rattle.jr_model.specs.declared.event.Role.TheVariants.{Outside, Within, Knocking, Announcing, Collecting}
 use Rattle.jr_model.specs.State.{Handle}
 use Rattle.jr_model.specs.History.{History, by, state, role_after, role_from}
@@ -15,7 +16,7 @@ use Rattle.jr_steps.specs.declared.loads.SlotLoad.{SlotLoad}
 use Rattle.jr_steps.specs.declared.loads.SlotLoad.TheVariants as loads
 use Rattle.jr_steps.specs.declared.loads.TopLoad.{TopLoad}
 use Rattle.jr_steps.specs.declared.loads.TopLoad.TheVariants as top
-use Rattle.jr_steps.specs.Acts.{act_of_entry, act_of_exit, act_of_gate_load, act_of_slot_load, act_of_claim, act_of_free, act_of_put, acts_of_publication, acts_of_top_load}
+use Rattle.jr_steps.specs.Acts.{act_of_entry, act_of_exit, is_closed, all_counted, act_of_gate_load, act_of_slot_load, act_of_claim, act_of_free, act_of_put, acts_of_publication, acts_of_top_load}
 use Rattle.jr_steps.specs.Knowing.{fresh_after, fresh_from}
 
 -- THE GATE
@@ -39,21 +40,30 @@ left_fresh Announcing f = refl
 left_fresh Collecting f = refl
 
 -- a load of the gate changes no role
-pub gate_load_role : (name : GateLoad) (n : ℕ) (r : Role) → r ≡ role_after r (act_of_gate_load name n)
-gate_load_role gate.Meet n r = refl
-gate_load_role gate.Busy zero r = refl
-gate_load_role gate.Busy (suc n) r = refl
+pub gate_load_role : (name : GateLoad) (p : GateParts) (r : Role) → r ≡ role_after r (act_of_gate_load name p)
+gate_load_role gate.Meet p r = refl
+gate_load_role gate.Busy p r = go (is_closed p.state) (all_counted p) r
+  where
+    go : (closed : Bool) (n : ℕ) (r : Role) → r ≡ role_after r (if closed then ShutBusy n else Meet)
+    go true n r = refl
+    go false n r = refl
 
-pub gate_load_fresh : (name : GateLoad) (n : ℕ) (f : Bool) → f ≡ fresh_after f (act_of_gate_load name n)
-gate_load_fresh gate.Meet n f = refl
-gate_load_fresh gate.Busy zero f = refl
-gate_load_fresh gate.Busy (suc n) f = refl
+pub gate_load_fresh : (name : GateLoad) (p : GateParts) (f : Bool) → f ≡ fresh_after f (act_of_gate_load name p)
+gate_load_fresh gate.Meet p f = refl
+gate_load_fresh gate.Busy p f = go (is_closed p.state) (all_counted p) f
+  where
+    go : (closed : Bool) (n : ℕ) (f : Bool) → f ≡ fresh_after f (if closed then ShutBusy n else Meet)
+    go true n f = refl
+    go false n f = refl
 
 -- and nothing else
-pub gate_load_state : (log : History) (t : ℕ) (name : GateLoad) (n : ℕ) → state (log ++ by t (act_of_gate_load name n) ∷ []) ≡ state log
-gate_load_state log t gate.Meet n = state_push log (by t (act_of_gate_load gate.Meet n))
-gate_load_state log t gate.Busy zero = state_push log (by t (act_of_gate_load gate.Busy zero))
-gate_load_state log t gate.Busy (suc n) = state_push log (by t (act_of_gate_load gate.Busy (suc n)))
+pub gate_load_state : (log : History) (t : ℕ) (name : GateLoad) (p : GateParts) → state (log ++ by t (act_of_gate_load name p) ∷ []) ≡ state log
+gate_load_state log t gate.Meet p = state_push log (by t Meet)
+gate_load_state log t gate.Busy p = go (is_closed p.state) (all_counted p)
+  where
+    go : (closed : Bool) (n : ℕ) → state (log ++ by t (if closed then ShutBusy n else Meet) ∷ []) ≡ state log
+    go true n = state_push log (by t (ShutBusy n))
+    go false n = state_push log (by t Meet)
 
 -- SLOTS
 -- the name of a load leaves the role

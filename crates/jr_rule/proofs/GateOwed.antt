@@ -15,7 +15,7 @@ use Rattle.jr_steps.specs.declared.loads.GateLoad.TheVariants as gate
 use Rattle.jr_word.specs.declared.gate.GateState.{GateState}
 use Rattle.jr_word.specs.declared.gate.GateState.TheVariants as gates
 use Rattle.jr_word.specs.Gate.{state_bits}
-use Rattle.jr_steps.specs.Acts.{act_of_entry, act_of_exit, act_of_announcement, all_counted, others_counted, is_closed, load_of, act_of_gate_load, GateLoadFits}
+use Rattle.jr_steps.specs.Acts.{act_of_entry, act_of_exit, act_of_announcement, all_counted, others_counted, is_closed, act_of_gate_load, GateLoadFits}
 use Rattle.jr_steps.specs.Knowing.{view, IsClosedNow, IsSettled}
 use Rattle.jr_steps.specs.declared.known.Holdings.{Holdings}
 use Rattle.jr_steps.specs.Holdings.{empty, hold}
@@ -35,11 +35,6 @@ may_let_go k log words held f counts = ⊎_elim
     (λ e. subst (λ r. MayHold f.image.moving r empty) (sym (role_at k log words held f ∙ e)) refl)
     (λ e. subst (λ r. MayHold f.image.moving r empty) (sym (role_at k log words held f ∙ e)) refl)
     counts
-
--- who is outside may be refused the gate by any load
-outside_fits : {r : Role} (name : GateLoad) → r ≡ Outside → GateLoadFits r name
-outside_fits gate.Meet e = tt
-outside_fits gate.Busy e = e
 
 -- who is outside holds nothing
 nothing_outside : (k : Known) (log : History) (words : List ℕ) (held : ℕ → Holdings) (f : IsFound k log words held) → role_of (view k) ≡ Outside → held k.thread ≡ empty
@@ -86,15 +81,14 @@ module _ (k : Known) where
       let g = f.image.gate in
       let few = (f.sized).limited.threads.1 in
       let here = role_at k log words held f ∙ out in
-      let name = load_of g.parts.state in
       let acts : List Act = act_of_announcement (Err g.parts) ∷ [] in
       dite (ℕ_discrete n looked)
       (λ same. quiet k log words held f (slice_set words 0 (either (eqb n looked) (looked + 131072) n)) (Announced looked k n) (Gate Announce ∷ [])
       (written k log words held 0 (looked + 131072) (either (eqb n looked) (looked + 131072) n) (won looked (looked + 131072) n same) (announces k.config k.last log k.thread words f.legal held f.image f.fits.row few looked fits same here))
       (λ e. (refl, sym f.fits.holdings ∙ nothing_outside k log words held f out), λ ne. absurd (ne same)))
       (λ other. quiet k log words held f (slice_set words 0 (either (eqb n looked) (looked + 131072) n)) (Announced looked k n) acts
-      (written k log words held 0 n (either (eqb n looked) (looked + 131072) n) (lost looked (looked + 131072) n other) (unwritten k log words held 0 (gate_seen k.config k.last log k.thread words f.legal held f.image f.fits.row name (outside_fits name here))))
-      (λ e. absurd (other e), λ ne. (g.parts, gate_fits k.config (state log).role n few g, g.word, refl, shows_gate g.parts k.config (state log) (known_at k log acts k.holdings) g.says refl (gate_load_state log k.thread name (all_counted g.parts)), refl)))
+      (written k log words held 0 n (either (eqb n looked) (looked + 131072) n) (lost looked (looked + 131072) n other) (unwritten k log words held 0 (gate_seen k.config k.last log k.thread words f.legal held f.image f.fits.row gate.Busy here)))
+      (λ e. absurd (other e), λ ne. (g.parts, gate_fits k.config (state log).role n few g, g.word, refl, shows_gate g.parts k.config (state log) (known_at k log acts k.holdings) g.says refl (gate_load_state log k.thread gate.Busy g.parts), refl)))
 
   pub takes_back : role_of (view k) ≡ Announcing → Owes k 0 (λ n. (n + (2 ^ 64 - 131072)) % 2 ^ 64) (Cancelled k)
   takes_back at log words held f =
@@ -122,10 +116,10 @@ module _ (k : Known) where
   sees_gate name fits log words held f =
       let n : ℕ = get_or words 0 0 in
       let g = f.image.gate in
-      let acts : List Act = act_of_gate_load name (all_counted g.parts) ∷ [] in
+      let acts : List Act = act_of_gate_load name g.parts ∷ [] in
       let t = gate_seen k.config k.last log k.thread words f.legal held f.image f.fits.row name (subst (λ r. GateLoadFits r name) (sym (role_at k log words held f)) fits) in
       quiet k log words held f (slice_set words 0 n) (SawGate name k n) acts (unwritten k log words held 0 t)
-      (g.parts, gate_fits k.config (state log).role n (f.sized).limited.threads.1 g, g.word, refl, shows_gate g.parts k.config (state log) (known_at k log acts k.holdings) g.says refl (gate_load_state log k.thread name (all_counted g.parts)), refl)
+      (g.parts, gate_fits k.config (state log).role n (f.sized).limited.threads.1 g, g.word, refl, shows_gate g.parts k.config (state log) (known_at k log acts k.holdings) g.says refl (gate_load_state log k.thread name g.parts), refl)
 
   -- a load that only shows what others did
   pub meets : Owes k 0 (λ n. n) (Met k)

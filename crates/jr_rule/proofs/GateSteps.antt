@@ -279,13 +279,13 @@ module _ (c : Config) (last : ℕ) (log : History) (t : ℕ) (words : List ℕ) 
   others : (n : ℕ) → (state log).role t ≡ Outside → n ≡ not_outside c (state log) → AreOthers c (state log) t n
   others n out is = let own : ◌≡◌ {A = ℕ} (if is_outside ((state log).role t) then 0 else 1) 0 = ap (λ r. if is_outside r then 0 else 1) out in omega (arith, is, own)
 
-  pub gate_seen : (name : GateLoad) → GateLoadFits ((state log).role t) name → LegalStep c last log t (act_of_gate_load name (all_counted image.gate.parts) ∷ []) words held
-  gate_seen name fits = go name (all_counted image.gate.parts) fits (all_counted_is c last log legal image.gate.parts image.gate.says)
+  pub gate_seen : (name : GateLoad) → GateLoadFits ((state log).role t) name → LegalStep c last log t (act_of_gate_load name image.gate.parts ∷ []) words held
+  gate_seen gate.Meet fits = one_legal c last log t words held legal Meet (row, tt) image
+  gate_seen gate.Busy out = go (is_closed image.gate.parts.state) image.gate.parts.count (all_counted_is c last log legal image.gate.parts image.gate.says)
     where
-      go : (name : GateLoad) (n : ℕ) → GateLoadFits ((state log).role t) name → n ≡ not_outside c (state log) → LegalStep c last log t (act_of_gate_load name n ∷ []) words held
-      go gate.Meet n fits is = one_legal c last log t words held legal Meet (row, tt) image
-      go gate.Busy zero fits is = one_legal c last log t words held legal Meet (row, tt) image
-      go gate.Busy (suc n) out is = one_legal c last log t words held legal (ShutBusy (suc n)) (row, (inl out, others (suc n) out is, omega arith)) image
+      go : (closed : Bool) (count : ℕ) → count + bit closed ≡ not_outside c (state log) → LegalStep c last log t ((if closed then ShutBusy (count + bit closed) else Meet) ∷ []) words held
+      go true count is = one_legal c last log t words held legal (ShutBusy (count + 1)) (row, (inl out, others (count + 1) out is, omega arith)) image
+      go false count is = one_legal c last log t words held legal Meet (row, tt) image
 
   -- whoever shuts the gate is outside or has announced it, and nobody else keeps it closed
   shutter_is : (from : GateState) → CanShutFrom from → (state log).role t ≡ shutter from → MayShut ((state log).role t)

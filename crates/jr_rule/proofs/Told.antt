@@ -18,8 +18,9 @@ use Rattle.jr_model.specs.State.{Handle}
 use Rattle.jr_model.specs.History.{role_of, role_from}
 use Rattle.jr_steps.specs.declared.known.Known.{Known}
 use Rattle.jr_steps.specs.declared.loads.GateLoad.{GateLoad}
+use Rattle.jr_steps.specs.declared.loads.GateLoad.TheVariants as gate
 use Rattle.jr_steps.specs.declared.loads.SlotLoad.{SlotLoad}
-use Rattle.jr_steps.specs.Acts.{act_of_entry, act_of_exit, act_of_announcement, all_counted, others_counted, is_closed, load_of, act_of_gate_load, act_of_slot_load, act_of_claim, act_of_free, act_of_put, acts_of_publication, acts_of_top_load, act_of_reservation, handle_of, found_of}
+use Rattle.jr_steps.specs.Acts.{act_of_entry, act_of_exit, act_of_announcement, all_counted, others_counted, is_closed, act_of_gate_load, act_of_slot_load, act_of_claim, act_of_free, act_of_put, acts_of_publication, acts_of_top_load, act_of_reservation, handle_of, found_of}
 use Rattle.jr_steps.specs.Holdings.{header_in, with_header}
 use Rattle.jr_steps.specs.Knowing.{view, keeps, lets_go, words_for, without_range_of, ShowsHeader, ShowsUsed, ShowsRange, ShowsWord, HasObject, IsFreeSlot, ShowsGate, ShowsAnnounced, ShowsSlot, LostClaim, fresh_from, ShowsPublished, anything, CanReopen, Goes, HasOptional, HasLooked, IsFilled, WasUsed, IsOf, Standing}
 use Rattle.jr_word.specs.declared.handle.RefKind.TheVariants.{Weak}
@@ -68,7 +69,7 @@ abbrev pub Reopened : Told
 Reopened k n acts k' = (acts ≡ Gate Reopen ∷ []) × lets_go k k'
 
 abbrev pub SawGate : GateLoad → Told
-SawGate name k n acts k' = (p : GateParts) × IsGate p × (n ≡ gate_word p) × (acts ≡ act_of_gate_load name (all_counted p) ∷ []) × ShowsGate p k' × keeps k k'
+SawGate name k n acts k' = (p : GateParts) × IsGate p × (n ≡ gate_word p) × (acts ≡ act_of_gate_load name p ∷ []) × ShowsGate p k' × keeps k k'
 
 abbrev pub SawSlot : ℕ → SlotLoad → Told
 SawSlot i name k n acts k' = (p : SlotParts) × IsSlot p × (n ≡ slot_word p) × (acts ≡ act_of_slot_load i name p ∷ []) × ShowsSlot i p k' × keeps k k'
@@ -219,15 +220,15 @@ module _ {n : ℕ} (r : Option GateParts) (complete : (p : GateParts) → IsGate
       plain : (looked : ℕ) → gate_word (record { count = looked; state = Open }) ≡ looked
       plain looked = omega arith
 
-  pub gate_load : {z : Sight} (name : GateLoad) {role : Role} → Reads z role anything (SawGate name) n (λ k. act_of_gate_load name (all_counted q) ∷ []) (λ j k. ShowsGate q k × keeps j k)
+  pub gate_load : {z : Sight} (name : GateLoad) {role : Role} → Reads z role anything (SawGate name) n (λ k. act_of_gate_load name q ∷ []) (λ j k. ShowsGate q k × keeps j k)
   gate_load name = record {
     read = λ k k' done among role met s.
         let e = one_reading s.0 s.1 s.2 in
-        (s.3 ∙ ap (λ z. act_of_gate_load name (all_counted z) ∷ []) e, (subst (λ z. ShowsGate z k') e s.4, s.5));
+        (s.3 ∙ ap (λ z. act_of_gate_load name z ∷ []) e, (subst (λ z. ShowsGate z k') e s.4, s.5));
   }
 
 -- whatever was known, the look makes something of it that shows what it found
-pub looked_so : {z z' : Sight} {r : Role} {n : ℕ} {q : GateParts} (name : GateLoad) → HasStepped z z' (InRole r anything) (SawGate name) n → Reads z r anything (SawGate name) n (λ k. act_of_gate_load name (all_counted q) ∷ []) (λ j k. ShowsGate q k × keeps j k) → LooksSo z z' r name q
+pub looked_so : {z z' : Sight} {r : Role} {n : ℕ} {q : GateParts} (name : GateLoad) → HasStepped z z' (InRole r anything) (SawGate name) n → Reads z r anything (SawGate name) n (λ k. act_of_gate_load name q ∷ []) (λ j k. ShowsGate q k × keeps j k) → LooksSo z z' r name q
 looked_so name t reads k among role =
     let u = t.makes k among (role, tt) in
     let read = reads.read k u.new u.acts among role tt u.says in
@@ -252,12 +253,12 @@ pub lost_leaves : {z : Sight} {n : ℕ} (looked : ℕ) → n ≢ looked → {rol
 lost_leaves looked other {role} {fresh} = record {
   left = λ k k' done among e met s.
       let t = s.1 other in
-      (gate_load_role (load_of (t.0).state) (all_counted t.0) role ∙ ap (role_from role) (sym t.3), gate_load_fresh (load_of (t.0).state) (all_counted t.0) fresh ∙ ap (fresh_from fresh) (sym t.3));
+      (gate_load_role gate.Busy t.0 role ∙ ap (role_from role) (sym t.3), gate_load_fresh gate.Busy t.0 fresh ∙ ap (fresh_from fresh) (sym t.3));
 }
 
 pub look_leaves : {z : Sight} (name : GateLoad) {r : Role} {n : ℕ} {role : Role} {fresh : Bool} → Leaves z r anything (SawGate name) n role role fresh fresh
 look_leaves name {role = role} {fresh} = record {
-  left = λ k k' done among e met s. (gate_load_role name (all_counted s.0) role ∙ ap (role_from role) (sym s.3), gate_load_fresh name (all_counted s.0) fresh ∙ ap (fresh_from fresh) (sym s.3));
+  left = λ k k' done among e met s. (gate_load_role name s.0 role ∙ ap (role_from role) (sym s.3), gate_load_fresh name s.0 fresh ∙ ap (fresh_from fresh) (sym s.3));
 }
 
 module _ {n : ℕ} {met : Known → Type 0} {r : Role} where

@@ -4,7 +4,7 @@ use Rattle.jr_word.specs.declared.gate.GateParts.{GateParts}
 use Rattle.jr_word.specs.declared.header.HeaderParts.{HeaderParts}
 use Rattle.jr_model.specs.declared.event.Role.{Role}
 use Rattle.jr_model.specs.History.{role_of}
-use Rattle.jr_steps.specs.Acts.{act_of_gate_load, all_counted}
+use Rattle.jr_steps.specs.Acts.{act_of_gate_load}
 use Rattle.jr_steps.specs.declared.known.Known.{Known}
 use Rattle.jr_steps.specs.declared.loads.GateLoad.{GateLoad}
 use Rattle.jr_steps.specs.Knowing.{Facts, Goes, SawPart, ShowsGate, view}
@@ -17,7 +17,7 @@ facts_over {G = G} s = facts_at (G.sight s.cells) s.role s.fresh s.hint
 
 -- THE GATE WAS LOOKED AT: whatever was known of a thread in this role, something is known then that the look made of it, and that shows what it found
 abbrev pub LooksSo : Sight → Sight → Role → GateLoad → GateParts → Type 0
-LooksSo z z' r name found = (k : Known) → IsAmong z k → role_of (view k) ≡ r → (k' : Known) × IsAmong z' k' × Goes k (act_of_gate_load name (all_counted found) ∷ []) k' × ShowsGate found k'
+LooksSo z z' r name found = (k : Known) → IsAmong z k → role_of (view k) ≡ r → (k' : Known) × IsAmong z' k' × Goes k (act_of_gate_load name found ∷ []) k' × ShowsGate found k'
 
 -- MORE ELEMENTS of a part were read, from one on to another, whatever of it was read since the steps stood so
 abbrev pub ReadsTo : {C P E : Type 0} {G : Ghosts C P} → ℕ → HeaderParts → ℕ → (ℕ → E) → ℕ → ℕ → StepsOver C P G → StepsOver C P G → List E → List E → Type 0

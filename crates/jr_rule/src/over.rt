@@ -33,7 +33,7 @@ pub struct StepsOver<C: Cells<P>, P: Copy> {
 }
 
 impl<C: Cells<P>, P: Copy> StepsOver<C, P> {
-    ghost use Rattle.jr_steps.specs.Acts.{act_of_gate_load, GateLoadFits, all_counted as all_of};
+    ghost use Rattle.jr_steps.specs.Acts.{act_of_gate_load, GateLoadFits};
     ghost use Rattle.jr_rule.specs.Over.{LooksSo};
     ghost use Rattle.std.specs.Prelude.{◌<◌, ◌≤◌, ◌+◌, [], ◌∷◌, length};
     ghost use Rattle.jr_model.specs.declared.event.Act.TheVariants.{Read};
@@ -45,7 +45,7 @@ impl<C: Cells<P>, P: Copy> StepsOver<C, P> {
     /// Loads the gate, which counts as what it is named.
     pub(crate) fn look(&mut self, name: GateLoad) -> GateParts
         requires { GateLoadFits self.old.role name }
-        ensures step { Took facts_over self.old self.new (act_of_gate_load name (all_of result) ∷ []) anything (λ j k. ShowsGate result k × keeps j k) }
+        ensures step { Took facts_over self.old self.new (act_of_gate_load name result ∷ []) anything (λ j k. ShowsGate result k × keeps j k) }
         ensures seen { LooksSo (C.sight self.old.cells) (C.sight self.new.cells) self.old.role name result }
     {
         let about = (name, self.role);

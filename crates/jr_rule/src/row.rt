@@ -7,14 +7,17 @@
 //! WHO CHANGES WHICH WORD, by its thread's role (loads are open to the roles named in `steps.rt`):
 //!
 //!     word      outside           within                              collecting
-//!     gate      add 1; 0 to shut  take 1                              take the shut bit
+//!     gate      add 1; 0 to shut; take 1                              take the shut bit
+//!               announce
 //!     top                         exchange: more                      store
 //!     slot                        exchange                            exchange: a weak one is cleared
 //!     local                       store, in the thread's own
 //!     header                      exchange: 0 for an object's         store: 0, or with a new place
 //!     element                     store: own range, known object      store: a move
 //!
-//! THE GATE counts, in its low bits, the threads that went in, and has one bit for shut. A thread goes in by adding 1. Where it found the gate open, it is within. Else it knocks: it may only take its 1 away again. A collector shuts by an exchange of 0, that is open with nobody counted, for the shut bit alone. So while a thread is within nobody collects, and while one collects nobody is within. It opens by taking the bit away, since others may have knocked meanwhile, whose count stays. What a thread learns of objects or reserves in a stay (from its entry to its exit) holds until that exit, and no longer.
+//! Whoever knocks may take its 1 from the gate again, and whoever announced may take the announced bit from it, or exchange that bit alone for the shut bit: no other word is theirs.
+//!
+//! THE GATE counts, in its low bits, the threads that went in, and has one bit for shut and one for announced, never both. A thread goes in by adding 1. Where it found neither bit, it is within. Else it knocks: it may only take its 1 away again. A collector shuts by an exchange of 0, that is open with nobody counted, for the shut bit alone. So while a thread is within nobody collects, and while one collects nobody is within. It opens by taking the bit away, since others may have knocked meanwhile, whose count stays. Or it announces first that it will shut, by an exchange of the word of an open gate for the same with the announced bit: from then on whoever comes knocks, and those within may go on and leave. It shuts by an exchange of the announced bit alone for the shut bit, so once the last has left, or takes the announced bit away again. What a thread learns of objects or reserves in a stay (from its entry to its exit) holds until that exit, and no longer.
 //!
 //! A SLOT'S LIFE: it is free with a serial; claimed, by an exchange of just that word for kind, serial and object of a reference; read, by loads; freed, by an exchange of just the word that a look in this stay found, for free with the next serial; and, after its last serial, retired, which no exchange expects. Claims and frees of several threads may race: one exchange finds the word, and the others find that they lost. A collector that clears a weak reference takes its object alone, so that its handle stays its own.
 //!

@@ -52,20 +52,15 @@ abbrev pub others_counted : GateState → GateParts → ℕ
 others_counted Open p = all_counted p
 others_counted _ p = p.count
 
--- a load of the gate that found so many threads inside, knocking, announcing or collecting
-abbrev pub act_of_gate_load : GateLoad → ℕ → Act
-act_of_gate_load gate.Busy (suc n) = ShutBusy (suc n)
-act_of_gate_load _ _ = Meet
-
--- as what a load counts that finds the gate in this state, of a thread that would close it
-abbrev pub load_of : GateState → GateLoad
-load_of Open = gate.Meet
-load_of _ = gate.Busy
+-- a load of the gate: where it is closed, it may count as a refusal to shut it
+abbrev pub act_of_gate_load : GateLoad → GateParts → Act
+act_of_gate_load gate.Busy p = (if is_closed p.state then ShutBusy (all_counted p) else Meet)
+act_of_gate_load gate.Meet p = Meet
 
 -- the exchange of an open gate for one that is announced to be shut: where it is lost, the gate was closed, or another thread went in or out
 abbrev pub act_of_announcement : Result (Unit {0}) GateParts → Act
 act_of_announcement (Ok _) = Gate Announce
-act_of_announcement (Err p) = act_of_gate_load (load_of p.state) (all_counted p)
+act_of_announcement (Err p) = act_of_gate_load gate.Busy p
 
 -- only who is outside is refused the gate
 abbrev pub GateLoadFits : Role → GateLoad → Type 0

@@ -17,7 +17,7 @@ pub enum SlotLoad {
 pub enum GateLoad {
     /// Nothing but what others did.
     Meet,
-    /// A refusal to shut the gate, where threads are inside, knocking, announcing or collecting.
+    /// A refusal to shut the gate, where another thread keeps it closed; else nothing but what others did.
     Busy,
 }
 

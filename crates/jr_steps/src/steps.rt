@@ -8,7 +8,7 @@ ghost use Rattle.jr_model.specs.declared.event.Act.TheVariants.{Gate, Read, Writ
 ghost use Rattle.jr_model.specs.declared.event.GateAct.TheVariants.{Cancel, Reopen};
 ghost use Rattle.jr_steps.specs.Collecting.{ShowsLocal, ShowsElement, IsThere, CanWipe, CanDrop, ShowsDropped, CanMove, ShowsMoved, placed, CanPlace, ShowsPlaced, CanSettle};
 ghost use Rattle.jr_model.specs.declared.event.Role.TheVariants.{Outside, Within, Knocking, Announcing, Collecting};
-ghost use Rattle.jr_steps.specs.Acts.{act_of_entry, act_of_exit, act_of_bar, act_of_announcement, act_of_gate_load, GateLoadFits, all_counted, act_of_slot_load, SlotLoadFits, act_of_claim, act_of_free, act_of_put, acts_of_publication, acts_of_top_load, act_of_reservation, found_of, handle_of};
+ghost use Rattle.jr_steps.specs.Acts.{act_of_entry, act_of_exit, act_of_bar, act_of_announcement, act_of_gate_load, GateLoadFits, act_of_slot_load, SlotLoadFits, act_of_claim, act_of_free, act_of_put, acts_of_publication, acts_of_top_load, act_of_reservation, found_of, handle_of};
 ghost use Rattle.jr_steps.specs.Knowing.{anything, KnowsHeader, HasWord, IsWordNow, IsFilled, words_for, ShowsHeader, ShowsPublished, ShowsUsed, WasUsed, ShowsRange, ShowsWord, TookWith, HasObject, HasOptional, HasLooked, HasNoLocals, CanReopen, ShowsAnnounced, ShowsBarred, IsFreeSlot, ShowsGate, ShowsSlot, LostClaim, MayKnow, SawPart, Took, Spent, Hinted, keeps, lets_go};
 
 use crate::loads::{GateLoad, SlotLoad, TopLoad};
@@ -96,7 +96,7 @@ pub trait Steps {
     /// Loads the gate, which counts as what it is named.
     fn see_gate(&mut self, name: GateLoad) -> GateParts
         requires { GateLoadFits (facts self.old).stands.role name }
-        ensures { Took facts self.old self.new (act_of_gate_load name (all_counted result) ∷ []) anything (λ j k. ShowsGate result k × keeps j k) };
+        ensures { Took facts self.old self.new (act_of_gate_load name result ∷ []) anything (λ j k. ShowsGate result k × keeps j k) };
 
     /// Loads a slot, which counts as what it is named.
     fn see_slot(&mut self, index: u16, name: SlotLoad) -> SlotParts

@@ -1,5 +1,5 @@
 use Rattle.std.proofs.Common.{rules, refl, sym, subst}
-use Rattle.jr_steps.specs.Acts.{GateLoadFits, all_counted}
+use Rattle.jr_steps.specs.Acts.{GateLoadFits}
 use Rattle.jr_rule.proofs.ActEffects.{gate_load_role, gate_load_fresh}
 use Rattle.jr_rule.proofs.GateOwed.{sees_gate}
 use Rattle.jr_rule.proofs.Told.{gate_load, look_leaves, looked_so, word_read}
@@ -22,8 +22,7 @@ unwrap-requires g c = let s = c.args.self.now in word_read c.load-found.ensures.
 pub returns-clause-step : goal.returns-clause-step
 returns-clause-step g c =
     let s = c.args.self.now in
-    let n = all_counted c.unwrap.result in
-    took s _ c.load-found.ensures.step refl refl _ (gate_load _ c.parts.ensures.complete _ c.unwrap.ensures c.args.name) (gate_load_role c.args.name n s.role) (gate_load_fresh c.args.name n s.fresh)
+    took s _ c.load-found.ensures.step refl refl _ (gate_load _ c.parts.ensures.complete _ c.unwrap.ensures c.args.name) (gate_load_role c.args.name c.unwrap.result s.role) (gate_load_fresh c.args.name c.unwrap.result s.fresh)
 
 pub returns-clause-seen : goal.returns-clause-seen
 returns-clause-seen g c = looked_so c.args.name c.load-found.ensures.step (gate_load _ c.parts.ensures.complete _ c.unwrap.ensures c.args.name)

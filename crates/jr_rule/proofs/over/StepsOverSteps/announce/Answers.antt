@@ -1,5 +1,5 @@
 use Rattle.std.proofs.Common.{◌≡◌, ◌+◌, ℕ, rules, refl, sym, ◌∙◌, arith}
-use Rattle.jr_steps.specs.Acts.{load_of, all_counted}
+use Rattle.jr_steps.specs.declared.loads.GateLoad.TheVariants as gate
 use Rattle.jr_rule.proofs.ActEffects.{gate_load_role, gate_load_fresh}
 use Rattle.jr_rule.proofs.GateOwed.{announces_shut}
 use Rattle.jr_rule.proofs.Told.{Announced, announced, announcement_lost, lost_leaves, word_read}
@@ -27,7 +27,7 @@ unwrap-requires g c = let s = c.args.self.now in word_read c.exchange-found.ensu
 pub returns-then-found-open : goal.returns-then-found-open
 returns-then-found-open g c =
     let s = c.args.self.now in
-    took s _ c.exchange-found.ensures.step refl c.requires _ (announcement_lost _ c.parts.ensures.complete _ c.unwrap.ensures c.args.looked (λ e. c.if-found-open.true (e ∙ sym (open_is c.pack-open.ensures)))) (gate_load_role (load_of c.unwrap.result.state) (all_counted c.unwrap.result) s.role) (gate_load_fresh (load_of c.unwrap.result.state) (all_counted c.unwrap.result) s.fresh)
+    took s _ c.exchange-found.ensures.step refl c.requires _ (announcement_lost _ c.parts.ensures.complete _ c.unwrap.ensures c.args.looked (λ e. c.if-found-open.true (e ∙ sym (open_is c.pack-open.ensures)))) (gate_load_role gate.Busy c.unwrap.result s.role) (gate_load_fresh gate.Busy c.unwrap.result s.fresh)
 
 pub invariant_of-self-2 : goal.invariant_of-self-2
 invariant_of-self-2 g c =
