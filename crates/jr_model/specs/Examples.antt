@@ -5,7 +5,7 @@ use Rattle.jr_word.specs.declared.handle.RefKind.TheVariants.{Global, Weak}
 use Rattle.jr_word.specs.declared.kind.Kind.TheVariants.{Plain, Int}
 use Rattle.jr_model.specs.declared.event.Found.TheVariants.{Object, Cleared, Stale}
 use Rattle.jr_model.specs.declared.event.Act.TheVariants.{Gate, ShutBusy, Create, Look, Probe, Delete, Clear, LocalPut, LocalDrop, Reserve, ReserveFull, ReserveLost, New, Read, Write, Drop, Settle, Meet}
-use Rattle.jr_model.specs.declared.event.GateAct.TheVariants.{Enter, Knock, Leave, Withdraw, Shut, Reopen}
+use Rattle.jr_model.specs.declared.event.GateAct.TheVariants.{Enter, Knock, Leave, Withdraw, Announce, Cancel, Shut, Reopen}
 use Rattle.jr_model.specs.declared.summary.Summary.{Summary}
 use Rattle.jr_model.specs.State.{Handle, summary}
 use Rattle.jr_model.specs.History.{History, by, state, IsLegal}
@@ -80,6 +80,48 @@ ShuttingOverIsIllegal = ¬ (IsLegal two_threads last_serial (by 0 (Gate Enter) �
 -- an entry while a thread collects is not legal
 abbrev pub EnteringBesideIsIllegal : Type 0
 EnteringBesideIsIllegal = ¬ (IsLegal two_threads last_serial (by 1 (Gate Shut) ∷ by 0 (Gate Enter) ∷ []))
+
+-- AN ANNOUNCED CLOSING OF THE GATE
+
+abbrev pub three_threads : Config
+three_threads = record { threads = 3; slots = 4; objects = 8; words = 8; locals = 16 }
+
+-- thread 0 is inside when thread 1 announces that it will shut the gate, which thread 2 then finds closed
+abbrev pub gate_announced : History
+gate_announced = by 0 (Gate Enter) ∷ by 1 Meet ∷ by 1 (Gate Announce) ∷ by 2 (Gate Knock) ∷ by 2 (Gate Withdraw) ∷ []
+
+-- thread 2 counts two that are not outside, and thread 1 only one, since it doesn't count itself; thread 0 leaves, and thread 2 counts the announcer alone
+abbrev pub gate_counted : History
+gate_counted = by 2 (ShutBusy 2) ∷ by 1 (ShutBusy 1) ∷ by 0 (Gate Leave) ∷ by 2 (ShutBusy 1) ∷ []
+
+-- thread 1 shuts the gate, which thread 0 finds closed, and reopens it
+abbrev pub gate_shut_at_last : History
+gate_shut_at_last = by 1 (Gate Shut) ∷ by 0 (Gate Knock) ∷ by 0 (Gate Withdraw) ∷ by 1 (Gate Reopen) ∷ []
+
+-- thread 1 announces it again and takes that back, and thread 0 goes in and out
+abbrev pub gate_cancelled : History
+gate_cancelled = by 1 (Gate Announce) ∷ by 1 (Gate Cancel) ∷ by 0 (Gate Enter) ∷ by 0 (Gate Leave) ∷ []
+
+-- all of this is legal, and the room is empty at the end
+abbrev pub AnnouncingIsLegal : Type 0
+AnnouncingIsLegal = let es = gate_announced ++ gate_counted ++ gate_shut_at_last ++ gate_cancelled in
+    IsLegal three_threads last_serial es × (summary three_threads last_serial (state es) ≡ counts 0 0 0 0)
+
+-- an entry behind another thread's announcement is not legal
+abbrev pub EnteringAnnouncedIsIllegal : Type 0
+EnteringAnnouncedIsIllegal = ¬ (IsLegal three_threads last_serial (by 1 (Gate Announce) ∷ by 0 (Gate Enter) ∷ []))
+
+-- an announcement behind another thread's is not legal
+abbrev pub AnnouncingBesideIsIllegal : Type 0
+AnnouncingBesideIsIllegal = ¬ (IsLegal three_threads last_serial (by 1 (Gate Announce) ∷ by 2 (Gate Announce) ∷ []))
+
+-- a refused shut of the announcer that counts another number than that of the threads inside is not legal
+abbrev pub CountingTheAnnouncerIsIllegal : Type 0
+CountingTheAnnouncerIsIllegal = (n : ℕ) → n ≢ 1 → ¬ (IsLegal three_threads last_serial (by 0 (Gate Enter) ∷ by 1 (Gate Announce) ∷ by 1 (ShutBusy n) ∷ []))
+
+-- a shut of the announcer while a thread is inside is not legal
+abbrev pub ShuttingAnnouncedOverIsIllegal : Type 0
+ShuttingAnnouncedOverIsIllegal = ¬ (IsLegal three_threads last_serial (by 0 (Gate Enter) ∷ by 1 (Gate Announce) ∷ by 1 (Gate Shut) ∷ []))
 
 -- A SLOT GIVES EACH SERIAL ONCE
 

@@ -8,6 +8,11 @@ ghost use Rattle.jr_model.specs.Examples.{
   WrongCountIsIllegal,
   ShuttingOverIsIllegal,
   EnteringBesideIsIllegal,
+  AnnouncingIsLegal,
+  EnteringAnnouncedIsIllegal,
+  AnnouncingBesideIsIllegal,
+  CountingTheAnnouncerIsIllegal,
+  ShuttingAnnouncedOverIsIllegal,
   ThriceIsLegal,
   FourthIsIllegal,
   SpaceIsLegal,
@@ -30,6 +35,15 @@ pub fn the_gate_counts_threads()
     ensures count { WrongCountIsIllegal }
     ensures over { ShuttingOverIsIllegal }
     ensures beside { EnteringBesideIsIllegal }
+{}
+
+/// A gate that is announced to be shut lets nobody in and is shut once nobody is inside, and who announced it doesn't count itself.
+pub fn an_announced_gate_lets_nobody_in()
+    ensures legal { AnnouncingIsLegal }
+    ensures entering { EnteringAnnouncedIsIllegal }
+    ensures beside { AnnouncingBesideIsIllegal }
+    ensures count { CountingTheAnnouncerIsIllegal }
+    ensures over { ShuttingAnnouncedOverIsIllegal }
 {}
 
 /// With 2 as the last serial a slot gives three handles, and then none.
