@@ -22,7 +22,7 @@ use Rattle.jr_model.proofs.Windows.{window_then}
 use Rattle.jr_steps.specs.Knowing.{AreOf, Facts, Standing, anything, keeps, lets_go, view, state_of, Holds, Took}
 use Rattle.jr_steps.proofs.StepFacts.{goes_did, goes_stepped}
 use Rattle.jr_gate.specs.declared.inside.Inside.{Inside}
-use Rattle.jr_gate.specs.Acting.{ActedTo, IsWithdrawn}
+use Rattle.jr_gate.specs.Acting.{ActedTo, LetsGoInTwo}
 use Rattle.jr_gate.specs.Performing.{Performed}
 use Rattle.jr_gate.specs.Stays.{IsOwnStay}
 use Rattle.jr_gate.proofs.Spending.{made_of, spending, spend_last, spend_more, spend_step}
@@ -86,14 +86,14 @@ module _ {S : Type 0} {facts : S → Facts} where
     ready_whole p = ready_after {so = lets_go} r (same_owner t) p
 
     -- the gate was shut
-    barred : (e : Fault) → (e ≡ Barred) × ActedTo facts a d (Gate Knock ∷ Gate Withdraw ∷ []) anything IsWithdrawn → CallsWhole facts a d t.frames t.frames 1 (λ s. entered (first_work wanted w (facts a).stands.config (facts a).stands.last (facts a).stands.thread s)) (Err e)
+    barred : (e : Fault) → (e ≡ Barred) × ActedTo facts a d (Gate Knock ∷ Gate Withdraw ∷ []) anything LetsGoInTwo → CallsWhole facts a d t.frames t.frames 1 (λ s. entered (first_work wanted w (facts a).stands.config (facts a).stands.last (facts a).stands.thread s)) (Err e)
     barred e why = whole_more (subst (λ (y : Fault). CallsWhole facts a d t.frames t.frames 0 (λ s. entered (first_work wanted w (facts a).stands.config (facts a).stands.last (facts a).stands.thread s)) (Err y)) (sym why.0) (calls_barred (first_work wanted w) t.frames r.role_is why.1))
 
-    pub opens_barred : {e : Fault} (answer : Result Levels Fault) → IsErrAnd answer (λ y. y ≡ e) → (e ≡ Barred) × ActedTo facts a d (Gate Knock ∷ Gate Withdraw ∷ []) anything IsWithdrawn
+    pub opens_barred : {e : Fault} (answer : Result Levels Fault) → IsErrAnd answer (λ y. y ≡ e) → (e ≡ Barred) × ActedTo facts a d (Gate Knock ∷ Gate Withdraw ∷ []) anything LetsGoInTwo
         → HasOpened facts a d t.frames (λ s. opened (first_work wanted w (facts a).stands.config (facts a).stands.last (facts a).stands.thread s)) answer
     opens_barred {e} answer given why = has_not_opened answer given (barred e why)
 
-    pub ready_barred : (e : Fault) → (e ≡ Barred) × ActedTo facts a d (Gate Knock ∷ Gate Withdraw ∷ []) anything IsWithdrawn → StandsReady facts Outside d t
+    pub ready_barred : (e : Fault) → (e ≡ Barred) × ActedTo facts a d (Gate Knock ∷ Gate Withdraw ∷ []) anything LetsGoInTwo → StandsReady facts Outside d t
     ready_barred e why = ready_whole (barred e why)
 
     -- what was named was refused

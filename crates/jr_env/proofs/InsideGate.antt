@@ -11,7 +11,7 @@ use Rattle.jr_model.specs.State.{State}
 use Rattle.jr_model.specs.Calls.{Call, entered}
 use Rattle.jr_steps.specs.declared.known.Known.{Known}
 use Rattle.jr_steps.specs.Knowing.{AreOf, Facts, anything, keeps, lets_go, Holds, Took}
-use Rattle.jr_gate.specs.Acting.{ActedTo, IsWithdrawn}
+use Rattle.jr_gate.specs.Acting.{ActedTo, LetsGoInTwo}
 use Rattle.jr_frames.specs.Table.{Table}
 use Rattle.jr_gate.specs.Performing.{Performed}
 use Rattle.jr_frames.specs.Ready.{StandsReady, KeepsOwner}
@@ -33,7 +33,7 @@ module _ {S : Type 0} {facts : S → Facts} where
 
   module _ {A : Type 0} (work : Config → ℕ → ℕ → State → Call A) where
     -- an entry that found the gate shut
-    pub completes_barred : {a b : S} {t : Table} {e : Fault} → StandsReady facts Outside a t → (answer : Result A Fault) → IsErrAnd answer (λ y. y ≡ e) → (e ≡ Barred) × ActedTo facts a b (Gate Knock ∷ Gate Withdraw ∷ []) anything IsWithdrawn
+    pub completes_barred : {a b : S} {t : Table} {e : Fault} → StandsReady facts Outside a t → (answer : Result A Fault) → IsErrAnd answer (λ y. y ≡ e) → (e ≡ Barred) × ActedTo facts a b (Gate Knock ∷ Gate Withdraw ∷ []) anything LetsGoInTwo
         → Completes facts a b t t 0 (λ s. entered (work (facts a).stands.config (facts a).stands.last (facts a).stands.thread s)) answer
     completes_barred {t} r answer given why =
         let p = handed_on answer (subst (λ y. IsErrAnd answer (λ z. z ≡ y)) why.0 given) (calls_barred work t.frames r.role_is why.1) in

@@ -14,7 +14,7 @@ use Rattle.jr_model.proofs.Runs.{ran_barred, ran_entered}
 use Rattle.jr_steps.specs.declared.known.Known.{Known}
 use Rattle.jr_steps.specs.Knowing.{AreOf, Facts, Standing, state_of, anything, keeps, lets_go, Holds, Took, standing_after, view, IsOf, Goes}
 use Rattle.jr_steps.proofs.StepFacts.{goes_did, goes_stepped}
-use Rattle.jr_gate.specs.Acting.{ActedTo, IsWithdrawn}
+use Rattle.jr_gate.specs.Acting.{ActedTo, LetsGoInTwo}
 use Rattle.jr_gate.specs.Performing.{Performed, IsAsBefore}
 use Rattle.jr_gate.proofs.SameRoom.{as_before}
 use Rattle.jr_gate.proofs.Spending.{made_of, spending, spend_first, spend_last, spend_step, spend_barred}
@@ -55,7 +55,7 @@ with_role s r = record s { role = r }
 
 module _ {S : Type 0} {facts : S → Facts} where
   module _ {A : Type 0} (work : Config → ℕ → ℕ → State → Call A) where
-    pub calls_barred : {a b : S} (f : Frames) → (facts a).stands.role ≡ Outside → ActedTo facts a b (Gate Knock ∷ Gate Withdraw ∷ []) anything IsWithdrawn → CallsWhole facts a b f f 0 (λ s. entered (work (facts a).stands.config (facts a).stands.last (facts a).stands.thread s)) (Err Barred)
+    pub calls_barred : {a b : S} (f : Frames) → (facts a).stands.role ≡ Outside → ActedTo facts a b (Gate Knock ∷ Gate Withdraw ∷ []) anything LetsGoInTwo → CallsWhole facts a b f f 0 (λ s. entered (work (facts a).stands.config (facts a).stands.last (facts a).stands.thread s)) (Err Barred)
     calls_barred {a} f out t = record {
       stands_is = as_before _ (t.stands_is ∙ ap (with_role (facts a).stands) (sym out));
       ran = λ k s m. let g = t.leads k s tt in

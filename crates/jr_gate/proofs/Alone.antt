@@ -19,7 +19,7 @@ needed : {k k' : Known} (a : Act) (g : Goes k (a ∷ []) k') → let before = k.
 needed {k} a g = (legal_push k.config k.last (k.seen ++ g.between) (by k.thread a)).0 (subst (IsLegal k.config k.last) g.seen g.legal)
 
 -- where the one thread is outside, all are
-all_outside : (c : Config) (last : ℕ) (es : History) (mine : ℕ) → c.threads ≡ 1 → IsLegal c last es → mine < c.threads → (state es).role mine ≡ Outside → (t : ℕ) → (state es).role t ≡ Outside
+pub all_outside : (c : Config) (last : ℕ) (es : History) (mine : ℕ) → c.threads ≡ 1 → IsLegal c last es → mine < c.threads → (state es).role mine ≡ Outside → (t : ℕ) → (state es).role t ≡ Outside
 all_outside c last es mine one legal below out t = ⊎_elim
     (λ (h : t < c.threads). let same : t ≡ mine = omega arith in ap (state es).role same ∙ out)
     (λ (h : c.threads ≤ t). outside_beyond c last es legal t h)

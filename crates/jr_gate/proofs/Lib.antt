@@ -1,4 +1,5 @@
 mod Alone
+mod Announcing
 mod Closing
 mod Withdrawing
 pub mod SameRoom

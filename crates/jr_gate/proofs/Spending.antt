@@ -13,7 +13,7 @@ use Rattle.jr_model.proofs.Stays.{append_cancel, did_nothing, did_then}
 use Rattle.jr_steps.specs.declared.known.Known.{Known}
 use Rattle.jr_steps.specs.Knowing.{Facts, Standing, view, fresh_after, fresh_from, anything, Takes, Took}
 use Rattle.jr_steps.proofs.StepFacts.{goes_did}
-use Rattle.jr_gate.specs.Acting.{ActedTo, IsWithdrawn}
+use Rattle.jr_gate.specs.Acting.{ActedTo, LetsGoInTwo}
 use Rattle.jr_gate.specs.Performing.{Moment, hint_after, hint_from, moment, moment_with, Spends, IsMade}
 
 -- between two moments a thread's acts are one list
@@ -102,7 +102,7 @@ module _ {S : Type 0} {facts : S → Facts} where
       spend_acts f g 0 (x ∷ []) 0 (omega arith) (goes_did y.2) (omega arith) (ap (λ (z : Standing). z.fresh) t.stands_is) (t.hint_is ∙ sym (keeps k.config.slots (facts a).hint))
 
   -- a knock and its withdrawal
-  pub spend_barred : {a b : S} (t : ActedTo facts a b (Gate Knock ∷ Gate Withdraw ∷ []) anything IsWithdrawn) (k : Known) (s : (facts a).knows k) (f g : Frames)
+  pub spend_barred : {a b : S} (t : ActedTo facts a b (Gate Knock ∷ Gate Withdraw ∷ []) anything LetsGoInTwo) (k : Known) (s : (facts a).knows k) (f g : Frames)
       → Spending 0 (moment (facts a) k f) (moment (facts b) (t.leads k s tt).0 g)
   spend_barred {a} {b} t k s f g =
       let y = t.leads k s tt in

@@ -11,14 +11,14 @@ use Rattle.jr_steps.specs.declared.known.Known.{Known}
 use Rattle.jr_steps.specs.Acts.{act_of_exit}
 use Rattle.jr_steps.specs.Knowing.{Facts, Standing, view, standing_after, anything, lets_go, Goes, Took, Takes}
 use Rattle.jr_steps.proofs.StepFacts.{goes_stepped}
-use Rattle.jr_gate.specs.Acting.{ActedTo, IsWithdrawn}
+use Rattle.jr_gate.specs.Acting.{ActedTo, LetsGoInTwo}
 
 -- one step and one more are two
-two : {j k l : Known} {xs ys : List Act} → Goes j xs k → Goes k ys l → Takes 2 j l
+pub two : {j k l : Known} {xs ys : List Act} → Goes j xs k → Goes k ys l → Takes 2 j l
 two g h = let a = g.taken in let b = h.taken in omega arith
 
 module _ {S : Type 0} {facts : S → Facts} {a b c : S} {shows : Known → Known → Type 0} where
-  withdraws : Took facts a b (Gate Knock ∷ []) anything shows → Took facts b c (Gate Withdraw ∷ []) anything lets_go → ActedTo facts a c (Gate Knock ∷ Gate Withdraw ∷ []) anything IsWithdrawn
+  withdraws : Took facts a b (Gate Knock ∷ []) anything shows → Took facts b c (Gate Withdraw ∷ []) anything lets_go → ActedTo facts a c (Gate Knock ∷ Gate Withdraw ∷ []) anything LetsGoInTwo
   withdraws p q = record {
     stands_is = q.stands_is ∙ ap (λ s. standing_after s (Gate Withdraw ∷ [])) p.stands_is;
     hint_is = q.hint_is ∙ p.hint_is;
@@ -32,5 +32,5 @@ module _ {S : Type 0} {facts : S → Facts} {a b c : S} {shows : Known → Known
   }
 
   -- who leaves after a knock withdraws it
-  pub withdrawn : Took facts a b (Gate Knock ∷ []) anything shows → Took facts b c (act_of_exit (facts b).stands.role ∷ []) anything lets_go → ActedTo facts a c (Gate Knock ∷ Gate Withdraw ∷ []) anything IsWithdrawn
+  pub withdrawn : Took facts a b (Gate Knock ∷ []) anything shows → Took facts b c (act_of_exit (facts b).stands.role ∷ []) anything lets_go → ActedTo facts a c (Gate Knock ∷ Gate Withdraw ∷ []) anything LetsGoInTwo
   withdrawn p q = withdraws p (subst (λ (r : Role). Took facts b c (act_of_exit r ∷ []) anything lets_go) (ap (λ (s : Standing). s.role) p.stands_is) q)

@@ -1,3 +1,4 @@
 pub mod Acting
+pub mod Announcing
 pub mod Stays
 pub mod Performing

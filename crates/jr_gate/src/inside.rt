@@ -5,7 +5,7 @@ ghost use Rattle.jr_model.specs.declared.event.Role.TheVariants.{Outside};
 ghost use Rattle.jr_model.specs.declared.event.Act.TheVariants.{Gate};
 ghost use Rattle.jr_model.specs.declared.event.GateAct.TheVariants.{Enter, Knock, Leave, Withdraw};
 ghost use Rattle.jr_steps.specs.Knowing.{anything, keeps, lets_go, Took};
-ghost use Rattle.jr_gate.specs.Acting.{ActedTo, IsWithdrawn};
+ghost use Rattle.jr_gate.specs.Acting.{ActedTo, LetsGoInTwo};
 ghost use Rattle.jr_gate.specs.Stays.{IsOwnStay};
 
 use jr_steps::Steps;
@@ -45,7 +45,7 @@ impl Inside {
 pub fn enter<S: Steps>(steps: &mut S) -> Result<Inside, Fault>
     requires { (S.facts steps.old).stands.role ≡ Outside }
     ensures ok { IfOk result (λ i. IsOwnStay i (S.facts steps.new).stands × Took S.facts steps.old steps.new (Gate Enter ∷ []) anything keeps) }
-    ensures err { IfErr result (λ e. (e ≡ Barred) × ActedTo S.facts steps.old steps.new (Gate Knock ∷ Gate Withdraw ∷ []) anything IsWithdrawn) }
+    ensures err { IfErr result (λ e. (e ≡ Barred) × ActedTo S.facts steps.old steps.new (Gate Knock ∷ Gate Withdraw ∷ []) anything LetsGoInTwo) }
     ensures alone { (S.facts steps.old).stands.config.threads ≡ 1 → IsOk result }
 {
     if steps.go_in() {

@@ -12,7 +12,7 @@ use jr_word::Fault;
 
 /// A collection, in which the gate is shut. It has to be spent.
 pub struct Shut {
-    thread: u8,
+    pub(crate) thread: u8,
 }
 
 impl Shut {

@@ -18,7 +18,7 @@ use Rattle.jr_model.specs.Maps.{update, sum_below, count_below}
 use Rattle.jr_model.specs.State.{State, IsClosed, is_barring, is_inside, is_outside, not_outside, AreOthers}
 use Rattle.jr_model.specs.Steps.{MayShut}
 use Rattle.jr_model.specs.History.{History, state, IsLegal}
-use Rattle.jr_model.proofs.Announcements.{closes_by, one_closes}
+use Rattle.jr_model.proofs.Announcements.{one_closes}
 use Rattle.jr_model.proofs.Counts.{bit, count_role, count_none, count_all_false, count_single, not_outside_split, not_true, outside_beyond}
 use Rattle.jr_model.proofs.Gates.{IsApart, apart_state}
 use Rattle.jr_model.proofs.Updates.{at_number, at_number_self}
@@ -32,6 +32,7 @@ use Rattle.jr_steps.specs.Holdings.{empty}
 use Rattle.jr_steps.specs.Says.{SaysOfGate}
 use Rattle.jr_rule.specs.Image.{MayHold, AreHeld, IsGateOf, IsImage}
 use Rattle.jr_steps.specs.Knowing.{state_of, Goes, ShowsGate}
+use Rattle.jr_steps.proofs.GateFacts.{nobody_closes, somebody_closes}
 use Rattle.jr_rule.proofs.LegalSteps.{LegalStep, one_legal}
 use Rattle.jr_rule.proofs.Images.{gate_set}
 
@@ -102,21 +103,6 @@ state_is c role p t says none = go p.state refl
     go Open e = left_open (role t) (λ z. let shut = says.shut.1 (t, z) in cc) (λ z. let announced = says.announced.1 (t, z) in cc)
     go Announced e = let u = says.announced.0 e in ap left_by (sym (here Announcing refl u.0 u.1))
     go Closed e = let u = says.shut.0 e in ap left_by (sym (here Collecting refl u.0 u.1))
-
--- a gate that is not open is kept closed by somebody, and an open one by nobody
-pub somebody_closes : {c : Config} {role : ℕ → Role} {p : GateParts} → SaysOfGate c role p → is_closed p.state ≡ true → (t : ℕ) × (is_barring (role t) ≡ true)
-somebody_closes {role = role} {p} says = go p.state refl
-  where
-    go : (st : GateState) → p.state ≡ st → is_closed st ≡ true → (t : ℕ) × (is_barring (role t) ≡ true)
-    go Open e closed = absurd cc
-    go Announced e closed = let u = says.announced.0 e in (u.0, ap is_barring u.1)
-    go Closed e closed = let u = says.shut.0 e in (u.0, ap is_barring u.1)
-
-pub nobody_closes : {c : Config} {role : ℕ → Role} {p : GateParts} → SaysOfGate c role p → is_closed p.state ≡ false → (t : ℕ) → is_barring (role t) ≡ false
-nobody_closes {role = role} {p} says is_open t = not_true (is_barring (role t)) (λ e. ⊎_elim
-    (λ (z : role t ≡ Announcing). let state = ap is_closed (says.announced.1 (t, z)) in cc)
-    (λ (z : role t ≡ Collecting). let state = ap is_closed (says.shut.1 (t, z)) in cc)
-    (closes_by (role t) e))
 
 -- a thread that does not keep the gate closed takes another such role
 kept_by : (x : Role) {B : Type 0} (role : ℕ → Role) (t : ℕ) (new : Role) → role t ≢ x → new ≢ x → (B ↔ ((u : ℕ) × (role u ≡ x))) → B ↔ ((u : ℕ) × (update nat_eq role t new u ≡ x))
