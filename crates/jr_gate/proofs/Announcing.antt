@@ -1,7 +1,5 @@
 -- What an announcement shows, and what a refusal of one does.
-use Rattle.std.proofs.Common.{◌≡◌, ◌≢◌, ◌<◌, ◌≤◌, ℕ, Bool, true, false, if◌then◌else◌, Result, Err, IfErr, inl, inr, List, [], ◌∷◌, refl, sym, ap, subst, ◌∙◌, arith}
-use Rattle.std.specs.Result.{IsErrAnd}
-use Rattle.std.proofs.lemmas.Result.{err_from_is_err_and}
+use Rattle.std.proofs.Common.{◌≡◌, ◌≢◌, ◌<◌, ◌≤◌, ℕ, Bool, true, false, if◌then◌else◌, Err, inl, inr, List, [], ◌∷◌, refl, sym, ap, subst, ◌∙◌, arith}
 use Rattle.std.proofs.Math.Logic.{∥∥₁_elim}
 use mathlib.Core.List.{IsPrefix}
 use Rattle.jr_word.specs.declared.config.Config.{Config}
@@ -144,7 +142,3 @@ module _ {S : Type 0} {facts : S → Facts} where
           lost_other n m q (some b) is t
           (counts_none n (ap (λ (s : Standing). s.config.threads) stands ∙ one) (ap (λ (s : Standing). s.role) stands ∙ out) first k.0 k.1
           ∙ sym (counts_none m (ap (λ (s : Standing). s.config.threads) stood ∙ one) (ap (λ (s : Standing). s.role) stood ∙ out) last g.0 g.1)))
-
--- a refusal that `?` hands on
-pub handed_err : {A E : Type 0} {P Q : E → Type 0} (r : Result A E) → IsErrAnd r P → ((e : E) → P e → Q e) → IfErr r Q
-handed_err {Q = Q} r h then' = let x = err_from_is_err_and r h in subst (λ z. IfErr z Q) (sym x.1) (then' x.0 x.2)

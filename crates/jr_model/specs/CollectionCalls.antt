@@ -64,9 +64,3 @@ pub record Collects (old new : PassView) (cleared : List Handle) (dropped : List
 -- what comes before the shut of a collection that was announced: the look, the announcement, and the shuts that were refused, with these counts
 abbrev pub announcing_acts : List ℕ → List Act
 announcing_acts refused = Meet ∷ Gate Announce ∷ map ShutBusy refused
-
--- A COLLECTION THAT WAS ANNOUNCED between two moments: up to some moment the thread announced it and was refused with these counts, and from then on it collected
-pub record CollectsAnnounced (old new : PassView) (refused : List ℕ) (cleared : List Handle) (dropped : List ℕ) (used : ℕ) : Type 0 where
-  pub shutting : PassView
-  pub announced : Did old shutting (announcing_acts refused)
-  pub collects : Collects shutting new cleared dropped used

@@ -241,17 +241,17 @@ announce = one_of found_closed (do
 abbrev pub refused_shuts : (ℕ → Type 0) → Call (Unit {0})
 refused_shuts many old acts answer new = (counts : List ℕ) × many (length counts) × (acts ≡ map ShutBusy counts) × (answer ≡ Ok tt) × (new ≡ old)
 
--- a collection that is announced: it begins after fewer refused shuts than there are tries, or the last of them is refused too, with this count, and the announcement is taken back. Like `collect` it names the acts alone: what it must take is `CollectsAnnounced`
+-- a collection that is announced: it begins after fewer refused shuts than there are tries, or the last of them is refused too, with this count, and the announcement is taken back. Like `collect` it names the acts alone: what it must take from its shut on is `Collects`
 abbrev pub collect_announced : ℕ → Call (ℕ × ℕ × ℕ)
 collect_announced tries = do
   announce
   one_of (do
     refused_shuts (λ n. n < tries)
     collected) (do
-    refused_shuts (λ n. n + 1 ≡ tries)
-    n ← some_act ShutBusy
-    act (Gate Cancel)
-    refuse (Busy n))
+      refused_shuts (λ n. n + 1 ≡ tries)
+      n ← some_act ShutBusy
+      act (Gate Cancel)
+      refuse (Busy n))
 
 -- what another pass saw is learned
 abbrev pub meet : Call (Unit {0})

@@ -3,13 +3,14 @@ use Rattle.std.proofs.Common.{◌≡◌, ℕ, Bool, Option, IsSome, List, [], �
 use Rattle.std.proofs.lemmas.List.{append-nil}
 use mathlib.Core.Logic.{∥∥₁_map}
 use Rattle.jr_model.specs.declared.event.Event.{Event}
-use Rattle.jr_model.specs.declared.event.Role.TheVariants.{Outside}
+use Rattle.jr_model.specs.declared.event.Role.TheVariants.{Outside, Collecting}
 use Rattle.jr_model.specs.declared.event.Found.{Found}
 use Rattle.jr_model.specs.declared.event.Act.TheVariants.{Gate, Clear, Drop, Settle}
 use Rattle.jr_model.specs.declared.event.GateAct.TheVariants.{Shut, Reopen}
 use Rattle.jr_model.specs.State.{Handle, Contents, State, HaveSameTables}
 use Rattle.jr_model.specs.History.{History, by, state, mine, Did}
-use Rattle.jr_model.specs.CollectionCalls.{IsWhole, sweeping_acts, CollectionIn}
+use Rattle.jr_model.specs.CollectionCalls.{IsWhole, collection_acts, sweeping_acts, CollectionIn, Collects}
+use Rattle.jr_model.specs.Windows.{IsWindow}
 use Rattle.jr_model.proofs.Histories.{mine_append, state_push}
 use Rattle.jr_model.proofs.Stays.{did_added, did_then, mine_did}
 use Rattle.jr_model.proofs.Windows.{window_stay, stepped_last}
@@ -22,7 +23,7 @@ use Rattle.jr_gate.specs.Acting.{ActedTo}
 use Rattle.jr_compact.specs.Compacting.{AreCompacted}
 use Rattle.jr_weak.specs.Marking.{IsMarkedNow}
 use Rattle.jr_weak.specs.Sweeping.{AreCleared, AreDropped, ClearsUnreached, DropsUnreached, IsExactlyToClear, IsExactlyToDrop}
-use Rattle.jr_weak.specs.Collecting.{MakesCollection}
+use Rattle.jr_weak.specs.Collecting.{CollectsFrom, Finishes, MakesCollection}
 use Rattle.jr_weak.proofs.Leading.{closed_on, reached_on}
 
 sees_did : {k k' : Known} → Sees k k' → Did (view k) (view k') []
@@ -88,6 +89,13 @@ whole_of marks s k k' cleared dropped same marked cleared' objects c d = record 
   );
 }
 
+-- nothing is left out of the state before a step that leaves the tables, either
+whole_before : {s t : State} (cleared : List Handle) (dropped : List ℕ) → HaveSameTables s t → IsWhole t cleared dropped → IsWhole s cleared dropped
+whole_before cleared dropped same w = record {
+  clears = λ h z. w.clears h (z.0, z.1, ap (λ (f : Handle → Found). f h) same.refs ∙ z.2, λ r. z.3 (reached_on (same_back same) z.1 r));
+  drops = λ o z. w.drops o (subst (λ (f : ℕ → Option Contents). IsSome (f o)) (sym same.objects) z.0, λ r. z.1 (reached_on (same_back same) o r));
+}
+
 -- what may be known while it goes on
 module _ {S : Type 0} (facts : S → Facts) (a b : S) (marks : List Bool) where
   pub may_clear : MayKnow facts a CanReopen → Saw facts a b CanReopen (λ j k. IsMarkedNow marks k) → MayKnow facts b (IsMarkedNow marks)
@@ -102,45 +110,75 @@ module _ {S : Type 0} (facts : S → Facts) (a b : S) (marks : List Bool) where
   pub may_reopen : {used : ℕ} → MayKnow facts a (AreDropped marks) → ActedTo facts a b (Settle used ∷ []) (AreDropped marks) (AreCompacted used) → MayKnow facts b CanReopen
   may_reopen {used} may p = ∥∥₁_map may (λ k. let x = p.leads k.0 k.1 k.2 in (x.0, x.1, can_reopen marks used k.0 x.0 k.2 x.3.0))
 
-module _ {S : Type 0} (facts : S → Facts) (fits : AreOf facts) (marks : List Bool) {a b c d e f z : S} {cleared_count dropped_count used : ℕ} (outside : (facts a).stands.role ≡ Outside)
-    (shut : Took facts a b (Gate Shut ∷ []) anything (λ j k. IsClosedNow k × lets_go j k)) (marked : Saw facts b c CanReopen (λ j k. IsMarkedNow marks k)) (clear : ClearsUnreached facts marks c d cleared_count) (drop : DropsUnreached facts marks d e dropped_count)
+module _ {S : Type 0} (facts : S → Facts) (fits : AreOf facts) (marks : List Bool) {b c d e f z : S} {cleared_count dropped_count used : ℕ} (collecting : (facts b).stands.role ≡ Collecting)
+    (marked : Saw facts b c CanReopen (λ j k. IsMarkedNow marks k)) (clear : ClearsUnreached facts marks c d cleared_count) (drop : DropsUnreached facts marks d e dropped_count)
     (moved : ActedTo facts e f (Settle used ∷ []) (AreDropped marks) (AreCompacted used)) (opened : Took facts f z (Gate Reopen ∷ []) CanReopen lets_go) where
-  stood : (facts f).stands ≡ standing_after (facts a).stands (Gate Shut ∷ [])
-  stood = moved.stands_is ∙ ap (λ s. standing_after s (Settle used ∷ [])) (drop.went.stands_is ∙ (clear.went.stands_is ∙ (marked.stands_is ∙ shut.stands_is)))
-
-  -- A COLLECTION WAS MADE
-  pub makes : MakesCollection facts a z cleared_count dropped_count used
-  unfolding place_of
-  makes = record {
+  -- THE REST OF A COLLECTION WAS MADE
+  pub finishes : Finishes facts b z cleared_count dropped_count used
+  finishes = record {
     cleared = clear.cleared;
     dropped = drop.dropped;
     clears = clear.counted;
     drops = drop.counted;
     went = record {
-      stands_is = opened.stands_is ∙ (ap (λ s. standing_after s (Gate Reopen ∷ [])) stood ∙ ap (λ r. record ((facts a).stands) { role = r }) (sym outside));
-      hint_is = opened.hint_is ∙ (moved.hint_is ∙ (drop.went.hint_is ∙ (clear.went.hint_is ∙ (marked.hint_is ∙ shut.hint_is))));
-      leads = λ k s m.
-          let acts = sweeping_acts clear.cleared drop.dropped used in
-          let k1 = shut.goes k s tt in
-          let k2 = marked.leads k1.0 k1.1 (k1.3.0, ap (λ (g : Holdings). g.moving) k1.3.1) in
+      stands_is = opened.stands_is ∙ ap (λ s. standing_after s (Gate Reopen ∷ [])) (moved.stands_is ∙ ap (λ s. standing_after s (Settle used ∷ [])) (drop.went.stands_is ∙ (clear.went.stands_is ∙ marked.stands_is)));
+      hint_is = opened.hint_is ∙ (moved.hint_is ∙ (drop.went.hint_is ∙ (clear.went.hint_is ∙ marked.hint_is)));
+      leads = λ k1 s m.
+          let k2 = marked.leads k1 s m in
           let k3 = clear.went.leads k2.0 k2.1 k2.3 in
           let k4 = drop.went.leads k3.0 k3.1 k3.3.2 in
           let k5 = moved.leads k4.0 k4.1 k4.3.1 in
           let k6 = opened.goes k5.0 k5.1 (can_reopen marks used k4.0 k5.0 k4.3.1 k5.3.0) in
-          let swept : Did (view k1.0) (view k5.0) acts = did_then [] acts (sees_did k2.2) (did_then (map Clear clear.cleared ++ map Drop drop.dropped) (Settle used ∷ []) (did_then (map Clear clear.cleared) (map Drop drop.dropped) k3.2 k4.2) k5.2) in
-          let first = goes_stepped k1.2 in
-          let last = goes_stepped k6.2 in
-          let role = ap (λ (s : Standing). s.role) shut.stands_is in
-          let same = same_then (shut_tables k1.2) (tables_seen k2.2 ((fits b k1.0 k1.1).role ∙ role)) in
-          let did : Did (view k) (view k6.0) (Gate Shut ∷ acts ++ Gate Reopen ∷ []) = did_then (Gate Shut ∷ []) (acts ++ Gate Reopen ∷ []) first.did (did_then acts (Gate Reopen ∷ []) swept last.did) in (
+          let same = tables_seen k2.2 ((fits b k1 s).role ∙ collecting) in (
             k6.0,
             k6.1,
             record {
-              did = did;
-              place = place_of clear.cleared drop.dropped used k1.2 swept k6.2;
-              whole = whole_of marks (state (k.seen ++ k1.2.between)) k2.0 k3.0 clear.cleared drop.dropped same k2.3 k3.3.2 k3.3.1 k3.3.0 k4.3.0;
+              opening = k5.0;
+              swept = did_then [] (sweeping_acts clear.cleared drop.dropped used) (sees_did k2.2)
+                  (did_then (map Clear clear.cleared ++ map Drop drop.dropped) (Settle used ∷ []) (did_then (map Clear clear.cleared) (map Drop drop.dropped) k3.2 k4.2) k5.2);
+              opened = k6.2;
+              whole = whole_of marks (state_of k1) k2.0 k3.0 clear.cleared drop.dropped same k2.3 k3.3.2 k3.3.1 k3.3.0 k4.3.0;
             },
-            (k6.3, (k1.0.seen, window_stay (Gate Shut) acts (Gate Reopen) first (λ out. first.behind) swept last (λ out. stepped_last last))),
+            k6.3,
           );
+    };
+  }
+
+-- from the shut on
+pub record CollectsSince (k k' : Known) (cleared : List Handle) (dropped : List ℕ) (used : ℕ) : Type 0 where
+  pub collects : Collects (view k) (view k') cleared dropped used
+  pub begun : History
+  pub window : IsWindow (view k) (view k') (collection_acts cleared dropped used) begun
+
+pub collects_since : {k k1 k6 : Known} (cleared : List Handle) (dropped : List ℕ) (used : ℕ) → Goes k (Gate Shut ∷ []) k1 → CollectsFrom k1 k6 cleared dropped used → CollectsSince k k6 cleared dropped used
+unfolding place_of
+collects_since {k} {k1} {k6} cleared dropped used g rest =
+    let acts = sweeping_acts cleared dropped used in
+    let first = goes_stepped g in
+    let last = goes_stepped rest.opened in
+    let did : Did (view k) (view k6) (Gate Shut ∷ acts ++ Gate Reopen ∷ []) = did_then (Gate Shut ∷ []) (acts ++ Gate Reopen ∷ []) first.did (did_then acts (Gate Reopen ∷ []) rest.swept last.did) in
+    record {
+      collects = record { did = did; place = place_of cleared dropped used g rest.swept rest.opened; whole = whole_before cleared dropped (shut_tables g) rest.whole };
+      begun = k1.seen;
+      window = window_stay (Gate Shut) acts (Gate Reopen) first (λ out. first.behind) rest.swept last (λ out. stepped_last last);
+    }
+
+module _ {S : Type 0} (facts : S → Facts) {a b z : S} {cleared_count dropped_count used : ℕ} (outside : (facts a).stands.role ≡ Outside)
+    (shut : Took facts a b (Gate Shut ∷ []) anything (λ j k. IsClosedNow k × lets_go j k)) (rest : Finishes facts b z cleared_count dropped_count used) where
+  -- A COLLECTION WAS MADE
+  pub makes : MakesCollection facts a z cleared_count dropped_count used
+  makes = record {
+    cleared = rest.cleared;
+    dropped = rest.dropped;
+    clears = rest.clears;
+    drops = rest.drops;
+    went = record {
+      stands_is = rest.went.stands_is ∙ (ap (λ s. standing_after s (Gate Reopen ∷ [])) shut.stands_is ∙ ap (λ r. record ((facts a).stands) { role = r }) (sym outside));
+      hint_is = rest.went.hint_is ∙ shut.hint_is;
+      leads = λ k s m.
+          let k1 = shut.goes k s tt in
+          let k6 = rest.went.leads k1.0 k1.1 (k1.3.0, ap (λ (g : Holdings). g.moving) k1.3.1) in
+          let since = collects_since rest.cleared rest.dropped used k1.2 k6.2 in
+          (k6.0, k6.1, since.collects, (k6.3, (since.begun, since.window)));
     };
   }

@@ -8,3 +8,5 @@ pub mod Sweeps
 pub mod Drops
 pub mod Together
 pub mod Collects
+pub mod Tries
+pub mod AnnouncedCollects

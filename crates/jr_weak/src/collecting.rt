@@ -1,14 +1,17 @@
 //! A whole collection.
-ghost use Rattle.std.specs.Prelude.{◌≡◌, ◌≤◌, ℕ, [], ◌∷◌, IsOk, IfOk, IfErr};
+ghost use Rattle.std.specs.Prelude.{◌≡◌, ◌≤◌, ◌⊎◌, ℕ, [], ◌∷◌, IsOk, IfOk, IfErr};
 ghost use Rattle.jr_word.specs.declared.fault.Fault.TheVariants.{Busy};
 ghost use Rattle.jr_model.specs.declared.event.Role.TheVariants.{Outside};
 ghost use Rattle.jr_model.specs.declared.event.Act.TheVariants.{ShutBusy};
-ghost use Rattle.jr_steps.specs.Knowing.{anything, keeps, Took};
+ghost use Rattle.jr_steps.specs.Knowing.{anything, keeps, CanReopen, MayKnow, Took};
+ghost use Rattle.jr_gate.specs.Announcing.{WasNotAnnounced};
+ghost use Rattle.jr_gate.specs.Stays.{IsOwnCollection};
 ghost use Rattle.jr_weak.specs.Markers.{room_of};
-ghost use Rattle.jr_weak.specs.Collecting.{MakesCollection};
+ghost use Rattle.jr_weak.specs.Collecting.{Finishes, GivesUp, MakesAnnouncedCollection, MakesCollection};
 
 use crate::marker::Marker;
-use jr_gate::shut_gate;
+use crate::waiting::shut_within;
+use jr_gate::{Shut, announce, shut_gate};
 use jr_steps::Steps;
 use jr_word::Fault;
 
@@ -43,14 +46,57 @@ pub fn collect<S: Steps>(steps: &mut S, marker: &mut Marker) -> Result<Collected
     ensures alone { (S.facts steps.old).stands.config.threads ≡ 1 → IsOk result }
 {
     let shut = shut_gate(steps)?;
+    Ok(finish(steps, shut, marker))
+}
+
+/// Announces a collection, so that nobody is let in any more, shuts the gate once those inside have left, and collects as `collect` does. It tries to shut the gate so many times, and takes the announcement back where the last is refused, too. It takes no memory and never waits: what others do between two tries is their own. The thread has to stand outside.
+///
+/// # Errors
+///
+/// In this order:
+///
+/// - those of `announce`: E14, and E23,
+/// - E14 with how many other threads were inside or knocking at the last try, at least 1.
+///
+/// Nothing has changed then, and the thread stands outside. Over one thread it is never refused.
+///
+/// # Operations
+///
+/// Up to the shut of the gate those of `announce` and one for each try, with none between two tries; and one more where the announcement is taken back. Those of the collection no clause counts: see `collect`.
+pub fn collect_announced<S: Steps>(
+    steps: &mut S,
+    marker: &mut Marker,
+    tries: u32,
+) -> Result<Collected, Fault>
+    requires outside { (S.facts steps.old).stands.role ≡ Outside }
+    requires room { room_of marker.old ≡ (S.facts steps.old).stands.config.objects }
+    requires tries { 1 ≤ tries }
+    ensures room { room_of marker.new ≡ room_of marker.old }
+    ensures ok { IfOk result (λ c. MakesAnnouncedCollection S.facts steps.old steps.new tries c.cleared c.dropped c.used) }
+    ensures err { IfErr result (λ e. WasNotAnnounced S.facts steps.old steps.new e ⊎ GivesUp S.facts steps.old steps.new tries e) }
+    ensures alone { (S.facts steps.old).stands.config.threads ≡ 1 → IsOk result }
+{
+    let announced = announce(steps)?;
+    let shut = shut_within(steps, announced, tries)?;
+    Ok(finish(steps, shut, marker))
+}
+
+/// Collects while the gate is shut for it, and opens the gate.
+fn finish<S: Steps>(steps: &mut S, shut: Shut, marker: &mut Marker) -> Collected
+    requires own { IsOwnCollection shut (S.facts steps.old).stands }
+    requires closed { MayKnow S.facts steps.old CanReopen }
+    requires room { room_of marker.old ≡ (S.facts steps.old).stands.config.objects }
+    ensures room { room_of marker.new ≡ room_of marker.old }
+    ensures all { Finishes S.facts steps.old steps.new result.cleared result.dropped result.used }
+{
     marker.mark(steps);
     let cleared = marker.clear_weak(steps);
     let dropped = marker.drop_unreached(steps);
     let used = marker.compact(steps);
     shut.reopen(steps);
-    Ok(Collected {
+    Collected {
         cleared,
         dropped,
         used,
-    })
+    }
 }

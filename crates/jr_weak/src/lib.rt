@@ -10,6 +10,7 @@ mod following;
 mod marker;
 mod marking;
 mod roots;
+mod waiting;
 
-pub use collecting::{Collected, collect};
+pub use collecting::{Collected, collect, collect_announced};
 pub use marker::Marker;

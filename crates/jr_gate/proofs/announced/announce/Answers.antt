@@ -2,7 +2,8 @@ use Rattle.std.proofs.Common.{sym, ap, subst, ◌∙◌}
 use Rattle.jr_word.specs.declared.fault.Fault.TheVariants.{Moved}
 use Rattle.jr_steps.specs.Knowing.{Standing}
 use Rattle.jr_gate.specs.Announcing.{WasNotAnnounced}
-use Rattle.jr_gate.proofs.Announcing.{announced_in_two, handed_err, never_closed, never_closed_between, never_moved, was_closed, was_closed_between, was_moved_between}
+use Rattle.jr_gate.proofs.Announcing.{announced_in_two, never_closed, never_closed_between, never_moved, was_closed, was_closed_between, was_moved_between}
+use Rattle.jr_gate.proofs.HandedOn.{handed_err}
 use Rattle.jr_gate.proofs.announced.announce.Goals as goal
 
 pub returns-in_err-looked-clause-err : goal.returns-in_err-looked-clause-err

@@ -1,0 +1,31 @@
+-- For the crate's own functions: the tries to shut a gate that was announced to be shut.
+use Rattle.std.specs.Prelude.{◌≡◌, ◌<◌, ◌≤◌, ◌+◌, ℕ, List, [], ◌∷◌, ◌++◌, map, length}
+use Rattle.jr_word.specs.declared.fault.Fault.{Fault}
+use Rattle.jr_word.specs.declared.fault.Fault.TheVariants.{Busy}
+use Rattle.jr_model.specs.declared.event.Act.TheVariants.{Gate, ShutBusy}
+use Rattle.jr_model.specs.declared.event.GateAct.TheVariants.{Cancel, Shut}
+use Rattle.jr_model.specs.History.{Did}
+use Rattle.jr_model.specs.Windows.{IsLastSeen}
+use Rattle.jr_steps.specs.Knowing.{Facts, Went, Took, Takes, anything, keeps, lets_go, standing_after, view, IsClosedNow}
+
+module _ {S : Type 0} (facts : S → Facts) where
+  -- so many tries were refused, with these counts, and nothing else was done
+  pub record RefusedTries (old new : S) (refused : List ℕ) : Type 0 where
+    pub went : Went facts old new (facts old).stands anything (λ j k. Did (view j) (view k) (map ShutBusy refused)) (λ j k. keeps j k × Takes (length refused) j k)
+
+  -- THE GATE WAS SHUT after fewer refused tries than these
+  pub record ShutsAfter (old new : S) (tries : ℕ) : Type 0 where
+    pub refused : List ℕ
+    pub few : length refused < tries
+    pub shutting : S
+    pub waited : RefusedTries old shutting refused
+    pub shut : Took facts shutting new (Gate Shut ∷ []) anything (λ j k. IsClosedNow k × lets_go j k)
+
+  -- ALL TRIES WERE REFUSED, the last with this count, and the announcement was taken back
+  pub record CancelsAfter (old new : S) (tries : ℕ) (e : Fault) : Type 0 where
+    pub refused : List ℕ
+    pub count : ℕ
+    pub busy : e ≡ Busy count
+    pub some : 1 ≤ count
+    pub all : length refused + 1 ≡ tries
+    pub went : Went facts old new (standing_after (facts old).stands (Gate Cancel ∷ [])) anything (λ j k. Did (view j) (view k) (map ShutBusy refused ++ ShutBusy count ∷ Gate Cancel ∷ [])) (λ j k. lets_go j k × Takes (length refused + 2) j k × IsLastSeen (view k) (Gate Cancel))
