@@ -18,15 +18,15 @@ use Rattle.jr_model.specs.Windows.{IsWindow}
 use Rattle.jr_model.proofs.Counts.{count_all_false}
 use Rattle.jr_model.proofs.Moments.{prefix_self}
 use Rattle.jr_model.proofs.Stays.{did_then}
-use Rattle.jr_model.proofs.Windows.{window_some}
+use Rattle.jr_model.proofs.Windows.{stepped_last, window_some}
 use Rattle.jr_steps.specs.declared.known.Known.{Known}
 use Rattle.jr_steps.specs.declared.loads.GateLoad.TheVariants as gate
 use Rattle.jr_steps.specs.Acts.{act_of_gate_load, act_of_announcement, all_counted, is_closed}
 use Rattle.jr_steps.specs.Knowing.{AreOf, Facts, Goes, MayKnow, ShowsAnnounced, ShowsGate, Standing, Took, anything, keeps, lets_go, standing_after, view}
 use Rattle.jr_steps.proofs.GateFacts.{nobody_closes}
-use Rattle.jr_steps.proofs.StepFacts.{goes_did, took_less}
-use Rattle.jr_gate.specs.Acting.{ActedTo, KeepsInTwo, LetsGoInTwo}
-use Rattle.jr_gate.specs.Announcing.{WasNotAnnounced}
+use Rattle.jr_steps.proofs.StepFacts.{goes_did, goes_stepped, took_less}
+use Rattle.jr_gate.specs.Acting.{ActedTo, KeepsInTwo}
+use Rattle.jr_gate.specs.Announcing.{AnnouncesInTwo, WasNotAnnounced}
 use Rattle.jr_gate.proofs.Alone.{all_outside, never_busy}
 use Rattle.jr_gate.proofs.Closing.{busy_counts}
 use Rattle.jr_gate.proofs.Withdrawing.{two}
@@ -91,8 +91,8 @@ module _ {S : Type 0} {facts : S → Facts} where
 
   module _ {a b c : S} (some : (s : S) → MayKnow facts s anything) where
     pub announced_in_two : (p : GateParts) (n : ℕ) → p ≡ open_with n → Took facts a b (act_of_gate_load gate.Busy p ∷ []) anything (λ j k. ShowsGate p k × keeps j k) → Took facts b c (Gate Announce ∷ []) anything lets_go
-        → ActedTo facts a c (Meet ∷ Gate Announce ∷ []) anything LetsGoInTwo
-    announced_in_two p n e look t = acted Meet (Gate Announce) (λ q r d. announcing_window d) (λ j k l g h f s. (s, two g h)) (look_open p n e look) t
+        → ActedTo facts a c (Meet ∷ Gate Announce ∷ []) anything AnnouncesInTwo
+    announced_in_two p n e look t = acted Meet (Gate Announce) (λ q r d. announcing_window d) (λ j k l g h f s. ((s, two g h), stepped_last (goes_stepped h))) (look_open p n e look) t
 
     pub was_closed_between : (p q : GateParts) (n : ℕ) (e : Fault) → p ≡ open_with n → is_closed q.state ≡ true → e ≡ Busy (all_counted q) → Took facts a b (act_of_gate_load gate.Busy p ∷ []) anything (λ j k. ShowsGate p k × keeps j k)
         → Took facts b c (act_of_announcement (Err q) ∷ []) anything (ShowsAnnounced n (Err q)) → WasNotAnnounced facts a c e

@@ -1,11 +1,18 @@
--- Why it could not be announced that the gate will be shut.
+-- An announcement that the gate will be shut, and why there is none.
 use Rattle.std.specs.Prelude.{◌≡◌, ◌≤◌, ◌⊎◌, ℕ, [], ◌∷◌}
 use Rattle.jr_word.specs.declared.fault.Fault.{Fault}
 use Rattle.jr_word.specs.declared.fault.Fault.TheVariants.{Busy, Moved}
-use Rattle.jr_model.specs.declared.event.Act.TheVariants.{ShutBusy, Meet}
+use Rattle.jr_model.specs.declared.event.Act.TheVariants.{Gate, ShutBusy, Meet}
+use Rattle.jr_model.specs.declared.event.GateAct.TheVariants.{Announce}
 use Rattle.jr_model.specs.Refusals.{GateHasMoved}
+use Rattle.jr_model.specs.Windows.{IsLastSeen}
+use Rattle.jr_steps.specs.declared.known.Known.{Known}
 use Rattle.jr_steps.specs.Knowing.{Facts, anything, keeps, view, Took}
-use Rattle.jr_gate.specs.Acting.{ActedTo, KeepsInTwo}
+use Rattle.jr_gate.specs.Acting.{ActedTo, KeepsInTwo, LetsGoInTwo}
+
+-- two operations, of which the last announces it, and nothing is held then
+abbrev pub AnnouncesInTwo : Known → Known → Type 0
+AnnouncesInTwo j k = LetsGoInTwo j k × IsLastSeen (view k) (Gate Announce)
 
 module _ {S : Type 0} (facts : S → Facts) (old new : S) (e : Fault) where
   -- the look found the gate closed, by another thread

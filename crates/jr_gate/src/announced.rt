@@ -7,8 +7,8 @@ ghost use Rattle.jr_model.specs.declared.event.Act.TheVariants.{Gate, Meet, Shut
 ghost use Rattle.jr_model.specs.declared.event.GateAct.TheVariants.{Announce, Cancel, Shut as Shuts};
 ghost use Rattle.jr_steps.specs.Acts.{all_counted, is_closed};
 ghost use Rattle.jr_steps.specs.Knowing.{anything, keeps, lets_go, CanReopen, IsClosedNow, MayKnow, Took};
-ghost use Rattle.jr_gate.specs.Acting.{ActedTo, LetsGoInTwo};
-ghost use Rattle.jr_gate.specs.Announcing.{WasNotAnnounced};
+ghost use Rattle.jr_gate.specs.Acting.{ActedTo};
+ghost use Rattle.jr_gate.specs.Announcing.{AnnouncesInTwo, WasNotAnnounced};
 ghost use Rattle.jr_gate.specs.Stays.{IsOwnAnnouncement, IsOwnCollection};
 
 use crate::shut::Shut;
@@ -78,7 +78,7 @@ impl Announced {
 /// Two, a look and an exchange; one where the look finds the gate closed.
 pub fn announce<S: Steps>(steps: &mut S) -> Result<Announced, Fault>
     requires { (S.facts steps.old).stands.role ≡ Outside }
-    ensures ok { IfOk result (λ a. IsOwnAnnouncement a (S.facts steps.new).stands × ActedTo S.facts steps.old steps.new (Meet ∷ Gate Announce ∷ []) anything LetsGoInTwo) }
+    ensures ok { IfOk result (λ a. IsOwnAnnouncement a (S.facts steps.new).stands × ActedTo S.facts steps.old steps.new (Meet ∷ Gate Announce ∷ []) anything AnnouncesInTwo) }
     ensures err { IfErr result (λ e. WasNotAnnounced S.facts steps.old steps.new e) }
     ensures alone { (S.facts steps.old).stands.config.threads ≡ 1 → IsOk result }
 {

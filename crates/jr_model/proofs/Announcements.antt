@@ -1,5 +1,6 @@
 -- What holds while an announcement stands.
 use Rattle.std.proofs.Common.{◌≡◌, ◌≢◌, ◌⊎◌, inl, inr, ⊎_elim, ℕ, zero, suc, ◌+◌, ◌==◌, Bool, true, false, not, if◌then◌else◌, List, [], ◌∷◌, ◌++◌, refl, sym, ap, subst, ◌∙◌, arith, append_assoc}
+use Rattle.std.proofs.lemmas.List.{append-nil}
 use Rattle.std.specs.List.{AllByRecursion}
 use Rattle.jr_word.specs.declared.config.Config.{Config}
 use Rattle.jr_model.specs.declared.event.Role.{Role}
@@ -12,11 +13,13 @@ use Rattle.jr_model.specs.declared.event.GateAct.TheVariants.{Enter, Knock, Leav
 use Rattle.jr_model.specs.Maps.{count_below}
 use Rattle.jr_model.specs.State.{State, is_barring, is_inside, is_outside, not_outside}
 use Rattle.jr_model.specs.Steps.{Needs, ActNeeds, role_behind, act_after, after}
-use Rattle.jr_model.specs.History.{History, by, state_from, state, IsLegalFrom, IsLegal}
-use Rattle.jr_model.specs.Announcements.{IsAnnouncement, NobodyEnters, WithinOnlyLeave, AnnouncerCounts}
+use Rattle.jr_model.specs.History.{History, by, state_from, state, mine, IsLegalFrom, IsLegal, PassView, Did}
+use Rattle.jr_model.specs.Announcements.{AnnouncedUntil, IsAnnouncement, NobodyEnters, WithinOnlyLeave, AnnouncerCounts}
+use Rattle.jr_model.specs.Windows.{IsLastSeen, Stepped}
 use Rattle.jr_model.proofs.Counts.{count_single, not_outside_split, not_true}
 use Rattle.jr_model.proofs.Gates.{IsApart, apart_after, apart_state, legal_inside}
-use Rattle.jr_model.proofs.Histories.{legal_append, shown_along, state_append}
+use Rattle.jr_model.proofs.Histories.{legal_append, mine_append, shown_along, state_append}
+use Rattle.jr_model.proofs.Stays.{mine_did, never}
 use Rattle.jr_model.proofs.Updates.{at_number, at_number_self}
 
 -- who keeps the gate closed announces or collects
@@ -121,3 +124,33 @@ module _ (c : Config) (last : ℕ) where
       let one : count_below c.threads (λ u. is_barring (s.role u)) ≡ 1 = count_single c.threads (λ u. is_barring (s.role u)) t needs.0 closing (λ j ne. not_true (is_barring (s.role j)) (λ e. ne (one_closes apart t j closing e))) in
       let split = not_outside_split c s in
       omega (arith, own, others, one, split)
+
+all_both : {A : Type 0} (P Q : A → Type 0) (xs : List A) → AllByRecursion P xs → AllByRecursion Q xs → AllByRecursion (λ x. P x × Q x) xs
+all_both P Q [] p q = tt
+all_both P Q (x ∷ xs) p q = ((p.0, q.0), all_both P Q xs p.1 q.1)
+
+-- an event, some more of two parts, and one more
+around : (before more between : History) (first last : Event) → (((before ++ first ∷ []) ++ more) ++ between) ++ last ∷ [] ≡ before ++ first ∷ (more ++ between) ++ last ∷ []
+around before more between first last = ap (λ l. l ++ last ∷ []) (append_assoc (before ++ first ∷ []) more between ∙ append_assoc before (first ∷ []) (more ++ between))
+
+-- WHO ANNOUNCED, did no more than these acts, and then ended it
+pub announced_until : {q r s : PassView} (acts : List Act) (end : GateAct) → AllByRecursion (λ a. a ≢ Gate Cancel) acts → AllByRecursion (λ a. a ≢ Gate Reopen) acts → IsLastSeen q (Gate Announce) → Did q r acts → Stepped r s (Gate end) → AnnouncedUntil s acts end
+announced_until {q} {r} {s} acts end cancels reopens first d step =
+    let t = s.thread in
+    let to_r : t ≡ r.thread = step.did.thread in
+    let to_q : t ≡ q.thread = to_r ∙ d.thread in
+    let inside = d.begins.0 ++ step.behind.between in
+    let own : mine inside t ≡ acts = mine_append d.begins.0 step.behind.between t
+        ∙ (ap (λ l. mine d.begins.0 t ++ l) (subst (λ u. mine step.behind.between u ≡ []) (sym to_r) step.behind.others)
+        ∙ (append-nil (mine d.begins.0 t) ∙ subst (λ u. mine d.begins.0 u ≡ acts) (sym to_q) (mine_did acts d))) in
+    let parts : s.seen ≡ first.before ++ by t (Gate Announce) ∷ inside ++ by t (Gate end) ∷ [] = step.behind.is
+        ∙ (ap (λ l. (l ++ step.behind.between) ++ by r.thread (Gate end) ∷ []) (sym d.begins.1 ∙ ap (λ l. l ++ d.begins.0) first.is)
+        ∙ (ap (λ (u : ℕ × ℕ). (((first.before ++ by u.0 (Gate Announce) ∷ []) ++ d.begins.0) ++ step.behind.between) ++ by u.1 (Gate end) ∷ []) (λ i. (sym to_q i, sym to_r i))
+        ∙ around first.before d.begins.0 step.behind.between (by t (Gate Announce)) (by t (Gate end)))) in
+    let stands : IsAnnouncement t s.seen first.before inside (by t (Gate end) ∷ []) = record {
+      parts = parts;
+      stands = all_both (λ e. e ≢ by t (Gate Cancel)) (λ e. e ≢ by t (Gate Reopen)) inside
+          (never (Gate Cancel) inside t (subst (λ l. AllByRecursion (λ a. a ≢ Gate Cancel) l) (sym own) cancels))
+          (never (Gate Reopen) inside t (subst (λ l. AllByRecursion (λ a. a ≢ Gate Reopen) l) (sym own) reopens));
+    } in
+    record { before = first.before; inside = inside; stands = stands; own = own; nobody_enters = nobody_enters r.config r.last t s.seen first.before inside (by t (Gate end) ∷ []) step.did.legal stands }

@@ -3,16 +3,26 @@ use Rattle.std.specs.Prelude.{◌≡◌, ◌≢◌, ℕ, List, [], ◌∷◌, �
 use Rattle.std.specs.List.{AllByRecursion}
 use Rattle.jr_word.specs.declared.config.Config.{Config}
 use Rattle.jr_model.specs.declared.event.Role.TheVariants.{Within}
+use Rattle.jr_model.specs.declared.event.Act.{Act}
 use Rattle.jr_model.specs.declared.event.Act.TheVariants.{Gate, ShutBusy}
+use Rattle.jr_model.specs.declared.event.GateAct.{GateAct}
 use Rattle.jr_model.specs.declared.event.GateAct.TheVariants.{Enter, Leave, Announce, Cancel, Reopen}
 use Rattle.jr_model.specs.Maps.{count_below}
 use Rattle.jr_model.specs.State.{is_inside}
-use Rattle.jr_model.specs.History.{History, by, state, IsLegal}
+use Rattle.jr_model.specs.History.{History, by, state, mine, IsLegal, PassView}
 
 -- AN ANNOUNCEMENT of t: from an Announce of t on, at most to its next Cancel or Reopen
 pub record IsAnnouncement (t : ℕ) (whole : History) (before inside rest : History) : Type 0 where
   pub parts : whole ≡ before ++ by t (Gate Announce) ∷ inside ++ rest
   pub stands : AllByRecursion (λ e. (e ≢ by t (Gate Cancel)) × (e ≢ by t (Gate Reopen))) inside
+
+-- AN ANNOUNCEMENT AND ITS END, which is the last event that a pass has seen: between them its thread did these acts, and nobody entered
+pub record AnnouncedUntil (new : PassView) (acts : List Act) (end : GateAct) : Type 0 where
+  pub before : History
+  pub inside : History
+  pub stands : IsAnnouncement new.thread new.seen before inside (by new.thread (Gate end) ∷ [])
+  pub own : mine inside new.thread ≡ acts
+  pub nobody_enters : AllByRecursion (λ e. e.act ≢ Gate Enter) inside
 
 -- NOBODY ENTERS while an announcement stands
 abbrev pub NobodyEnters : Config → ℕ → Type 0

@@ -1,26 +1,30 @@
 -- A collection that was announced is the model's, and so is one that was given up.
-use Rattle.std.proofs.Common.{◌≡◌, ◌+◌, ℕ, List, [], ◌∷◌, ◌++◌, map, length, sym, ap, ◌∙◌, arith}
-use Rattle.std.proofs.lemmas.List.{length-map}
+use Rattle.std.proofs.Common.{◌≡◌, ◌≢◌, ◌+◌, ℕ, List, [], ◌∷◌, ◌++◌, map, length, sym, ap, subst, ◌∙◌, arith, append_assoc}
+use Rattle.std.proofs.lemmas.List.{length-append, length-map}
+use Rattle.std.specs.List.{AllByRecursion}
 use Rattle.jr_word.specs.declared.fault.Fault.{Fault}
 use Rattle.jr_model.specs.declared.event.Role.TheVariants.{Outside}
 use Rattle.jr_model.specs.declared.event.Act.{Act}
-use Rattle.jr_model.specs.declared.event.Act.TheVariants.{Gate, ShutBusy, Meet}
+use Rattle.jr_model.specs.declared.event.Act.TheVariants.{Gate, ShutBusy, Clear, Drop, Settle, Meet}
 use Rattle.jr_model.specs.declared.event.GateAct.TheVariants.{Announce, Cancel, Shut, Reopen}
 use Rattle.jr_model.specs.State.{Handle}
 use Rattle.jr_model.specs.History.{PassView, Did}
 use Rattle.jr_model.specs.CollectionCalls.{announcing_acts, collection_acts, sweeping_acts}
 use Rattle.jr_model.specs.Windows.{IsLastSeen, IsWindow}
+use Rattle.jr_model.proofs.Announcements.{announced_until}
 use Rattle.jr_model.proofs.Moments.{prefix_self}
 use Rattle.jr_model.proofs.Stays.{did_then}
 use Rattle.jr_model.proofs.Windows.{ends_behind, stepped_last}
 use Rattle.jr_steps.specs.declared.known.Holdings.{Holdings}
 use Rattle.jr_steps.specs.declared.known.Known.{Known}
 use Rattle.jr_steps.specs.Knowing.{Facts, Takes, anything, standing_after, view}
-use Rattle.jr_steps.proofs.StepFacts.{goes_stepped}
-use Rattle.jr_gate.specs.Acting.{ActedTo, LetsGoInTwo}
+use Rattle.jr_steps.proofs.StepFacts.{goes_did, goes_stepped}
+use Rattle.jr_gate.specs.Acting.{ActedTo}
+use Rattle.jr_gate.specs.Announcing.{AnnouncesInTwo}
 use Rattle.jr_weak.specs.Collecting.{CollectsFrom, Finishes, GivesUp, MakesAnnouncedCollection}
 use Rattle.jr_weak.specs.Waiting.{CancelsAfter, ShutsAfter}
 use Rattle.jr_weak.proofs.Collects.{collects_since}
+use Rattle.jr_weak.proofs.Tries.{one_more}
 
 -- a call that begins with a look, and ends with an act that takes its thread outside
 collection_window : {old new : PassView} (refused : List ℕ) (cleared : List Handle) (dropped : List ℕ) (used : ℕ) → Did old new (announcing_acts refused ++ collection_acts cleared dropped used) → IsLastSeen new (Gate Reopen)
@@ -40,11 +44,28 @@ cancel_window {old} {new} refused n d last = record {
   last = ends_behind old new (announcing_acts refused) (ShutBusy n) (Gate Cancel ∷ []) (λ out. last);
 }
 
+-- AN ACT x THAT IS NONE of refused shuts, of a sweep, or of both with a shut between them
+abbrev Spares : Act → List Act → Type 0
+Spares x acts = AllByRecursion (λ a. a ≢ x) acts
+
+busy_spares : (x : Act) → ((n : ℕ) → ShutBusy n ≢ x) → (refused : List ℕ) (n : ℕ) → Spares x (map ShutBusy refused ++ ShutBusy n ∷ [])
+busy_spares x ne [] n = (ne n, tt)
+busy_spares x ne (m ∷ refused) n = (ne m, busy_spares x ne refused n)
+
+shut_spares : (x : Act) → ((n : ℕ) → ShutBusy n ≢ x) → Gate Shut ≢ x → (refused : List ℕ) (acts : List Act) → Spares x acts → Spares x (map ShutBusy refused ++ Gate Shut ∷ acts)
+shut_spares x ne shut [] acts rest = (shut, rest)
+shut_spares x ne shut (m ∷ refused) acts rest = (ne m, shut_spares x ne shut refused acts rest)
+
+sweeping_spares : (x : Act) → ((h : Handle) → Clear h ≢ x) → ((o : ℕ) → Drop o ≢ x) → ((n : ℕ) → Settle n ≢ x) → (cleared : List Handle) (dropped : List ℕ) (used : ℕ) → Spares x (sweeping_acts cleared dropped used)
+sweeping_spares x clear drop settle [] [] used = (settle used, tt)
+sweeping_spares x clear drop settle [] (o ∷ dropped) used = (drop o, sweeping_spares x clear drop settle [] dropped used)
+sweeping_spares x clear drop settle (h ∷ cleared) dropped used = (clear h, sweeping_spares x clear drop settle cleared dropped used)
+
 -- one operation for each of the acts up to the shut
 announcing_takes : (refused : List ℕ) (j k l : Known) → Takes 2 j k → Takes (length refused) k l → Takes (length (announcing_acts refused)) j l
 announcing_takes refused j k l a b = let long : length (map ShutBusy refused) ≡ length refused = length-map refused ShutBusy in omega (arith, a, b, long)
 
-module _ {S : Type 0} (facts : S → Facts) {a b : S} (tries : ℕ) (outside : (facts a).stands.role ≡ Outside) (announced : ActedTo facts a b (Meet ∷ Gate Announce ∷ []) anything LetsGoInTwo) where
+module _ {S : Type 0} (facts : S → Facts) {a b : S} (tries : ℕ) (outside : (facts a).stands.role ≡ Outside) (announced : ActedTo facts a b (Meet ∷ Gate Announce ∷ []) anything AnnouncesInTwo) where
   pub makes_announced : {d z : S} {cleared_count dropped_count used : ℕ} → ShutsAfter facts b d tries → Finishes facts d z cleared_count dropped_count used → MakesAnnouncedCollection facts a z tries cleared_count dropped_count used
   makes_announced {used = used} sh rest = record {
     refused = sh.refused;
@@ -66,10 +87,12 @@ module _ {S : Type 0} (facts : S → Facts) {a b : S} (tries : ℕ) (outside : (
           let kz = rest.went.leads kd.0 kd.1 (kd.3.0, ap (λ (g : Holdings). g.moving) kd.3.1) in
           let since = collects_since rest.cleared rest.dropped used kd.2 kz.2 in
           let waiting : Did (view k) (view kc.0) (announcing_acts sh.refused) = did_then (Meet ∷ Gate Announce ∷ []) (map ShutBusy sh.refused) kb.2 kc.2 in
+          let acts = sweeping_acts rest.cleared rest.dropped used in
+          let swept : Did (view kb.0) (view (kz.2).opening) (map ShutBusy sh.refused ++ Gate Shut ∷ acts) = did_then (map ShutBusy sh.refused) (Gate Shut ∷ acts) kc.2 (did_then (Gate Shut ∷ []) acts (goes_did kd.2) (kz.2).swept) in
           let did = did_then (announcing_acts sh.refused) (collection_acts rest.cleared rest.dropped used) waiting since.collects.did in (
             kz.0,
             kz.1,
-            record { shutting = kc.0; announced = waiting; taken = announcing_takes sh.refused k kb.0 kc.0 kb.3.0.1 kc.3.1; collects = since.collects },
+            record { shutting = kc.0; announced = waiting; taken = announcing_takes sh.refused k kb.0 kc.0 kb.3.0.0.1 kc.3.1; collects = since.collects; announcement = announced_until (map ShutBusy sh.refused ++ Gate Shut ∷ acts) Reopen (shut_spares (Gate Cancel) (λ n e. cc) (λ e. cc) sh.refused acts (sweeping_spares (Gate Cancel) (λ h e. cc) (λ o e. cc) (λ n e. cc) rest.cleared rest.dropped used)) (shut_spares (Gate Reopen) (λ n e. cc) (λ e. cc) sh.refused acts (sweeping_spares (Gate Reopen) (λ h e. cc) (λ o e. cc) (λ n e. cc) rest.cleared rest.dropped used)) kb.3.0.1 swept (goes_stepped (kz.2).opened) },
             (kz.3, (k.seen, collection_window sh.refused rest.cleared rest.dropped used did (stepped_last (goes_stepped (kz.2).opened)))),
           );
     };
@@ -83,14 +106,22 @@ module _ {S : Type 0} (facts : S → Facts) {a b : S} (tries : ℕ) (outside : (
     some = u.some;
     all = u.all;
     went = record {
-      stands_is = u.went.stands_is ∙ (ap (λ s. standing_after s (Gate Cancel ∷ [])) announced.stands_is ∙ ap (λ r. record ((facts a).stands) { role = r }) (sym outside));
-      hint_is = u.went.hint_is ∙ announced.hint_is;
+      stands_is = u.cancelled.stands_is ∙ (ap (λ s. standing_after s (Gate Cancel ∷ [])) (u.waited.went.stands_is ∙ announced.stands_is) ∙ ap (λ r. record ((facts a).stands) { role = r }) (sym outside));
+      hint_is = u.cancelled.hint_is ∙ (u.waited.went.hint_is ∙ announced.hint_is);
       leads = λ k s m.
           let kb = announced.leads k s tt in
-          let kz = u.went.leads kb.0 kb.1 tt in
-          let did = did_then (Meet ∷ Gate Announce ∷ []) (map ShutBusy u.refused ++ ShutBusy u.count ∷ Gate Cancel ∷ []) kb.2 kz.2 in
-          let first = kb.3.0.1 in
-          let then' = kz.3.1 in
-          (kz.0, kz.1, did, (kz.3.0, omega arith, (k.seen, cancel_window u.refused u.count did kz.3.2)));
+          let kc = u.waited.went.leads kb.0 kb.1 tt in
+          let kz = u.cancelled.goes kc.0 kc.1 tt in
+          let acts = map ShutBusy u.refused ++ ShutBusy u.count ∷ [] in
+          let waiting : Did (view kb.0) (view kc.0) acts = subst (λ (l : List Act). Did (view kb.0) (view kc.0) l) (one_more u.refused u.count) kc.2 in
+          let both : Did (view kb.0) (view kz.0) (map ShutBusy u.refused ++ ShutBusy u.count ∷ Gate Cancel ∷ []) = subst (λ (l : List Act). Did (view kb.0) (view kz.0) l)
+                  (append_assoc (map ShutBusy u.refused) (ShutBusy u.count ∷ []) (Gate Cancel ∷ [])) (did_then acts (Gate Cancel ∷ []) waiting (goes_did kz.2)) in
+          let did = did_then (Meet ∷ Gate Announce ∷ []) (map ShutBusy u.refused ++ ShutBusy u.count ∷ Gate Cancel ∷ []) kb.2 both in
+          let long : length (u.refused ++ u.count ∷ []) ≡ length u.refused + 1 = length-append u.refused (u.count ∷ []) in
+          let first = kb.3.0.0.1 in
+          let then' = kc.3.1 in
+          let last = (kz.2).taken in
+          let until = announced_until acts Cancel (busy_spares (Gate Cancel) (λ n e. cc) u.refused u.count) (busy_spares (Gate Reopen) (λ n e. cc) u.refused u.count) kb.3.0.1 waiting (goes_stepped kz.2) in
+          (kz.0, kz.1, did, (kz.3, omega arith, until, (k.seen, cancel_window u.refused u.count did (stepped_last (goes_stepped kz.2)))));
     };
   }

@@ -1,4 +1,4 @@
--- Tries to shut a gate that was announced to be shut, one after the other, and the announcement that is taken back.
+-- Tries to shut a gate that was announced to be shut, one after the other.
 use Rattle.std.proofs.Common.{◌≡◌, ◌<◌, ◌≤◌, ◌+◌, ℕ, List, [], ◌∷◌, ◌++◌, map, length, sym, ap, subst, ◌∙◌, arith}
 use Rattle.std.proofs.lemmas.List.{length-append, map-append}
 use Rattle.jr_word.specs.declared.fault.Fault.TheVariants.{Busy}
@@ -7,14 +7,13 @@ use Rattle.jr_model.specs.declared.event.Act.TheVariants.{Gate, ShutBusy}
 use Rattle.jr_model.specs.declared.event.GateAct.TheVariants.{Cancel, Shut}
 use Rattle.jr_model.specs.History.{Did}
 use Rattle.jr_model.proofs.Stays.{did_nothing, did_then}
-use Rattle.jr_model.proofs.Windows.{stepped_last}
 use Rattle.jr_steps.specs.declared.known.Known.{Known}
 use Rattle.jr_steps.specs.Knowing.{AreOf, Facts, Took, Takes, anything, keeps, lets_go, standing_after, view, IsClosedNow}
-use Rattle.jr_steps.proofs.StepFacts.{goes_did, goes_stepped}
+use Rattle.jr_steps.proofs.StepFacts.{goes_did}
 use Rattle.jr_weak.specs.Waiting.{CancelsAfter, RefusedTries, ShutsAfter}
 
 -- one more refused try, as acts
-one_more : (refused : List ℕ) (n : ℕ) → map ShutBusy (refused ++ n ∷ []) ≡ map ShutBusy refused ++ ShutBusy n ∷ []
+pub one_more : (refused : List ℕ) (n : ℕ) → map ShutBusy (refused ++ n ∷ []) ≡ map ShutBusy refused ++ ShutBusy n ∷ []
 one_more refused n = map-append ShutBusy refused (n ∷ [])
 
 -- and as operations
@@ -44,22 +43,4 @@ module _ {S : Type 0} {facts : S → Facts} where
 
   pub cancels_after : {a b c d : S} (tries : ℕ) (refused : List ℕ) (n : ℕ) → 1 ≤ n → length refused + 1 ≡ tries → RefusedTries facts a b refused → Took facts b c (ShutBusy n ∷ []) anything keeps → Took facts c d (Gate Cancel ∷ []) anything lets_go
       → CancelsAfter facts a d tries (Busy n)
-  cancels_after tries refused n some all w t u = record {
-    refused = refused;
-    count = n;
-    busy = λ i. Busy n;
-    some = some;
-    all = all;
-    went = record {
-      stands_is = u.stands_is ∙ (ap (λ s. standing_after s (Gate Cancel ∷ [])) t.stands_is ∙ ap (λ s. standing_after s (Gate Cancel ∷ [])) w.went.stands_is);
-      hint_is = u.hint_is ∙ (t.hint_is ∙ w.went.hint_is);
-      leads = λ k s m.
-          let g = w.went.leads k s tt in
-          let h = t.goes g.0 g.1 tt in
-          let i = u.goes h.0 h.1 tt in
-          let one = (h.2).taken in
-          let last = (i.2).taken in
-          let first = g.3.1 in
-          (i.0, i.1, did_then (map ShutBusy refused) (ShutBusy n ∷ Gate Cancel ∷ []) g.2 (did_then (ShutBusy n ∷ []) (Gate Cancel ∷ []) (goes_did h.2) (goes_did i.2)), (i.3, omega arith, stepped_last (goes_stepped i.2)));
-    };
-  }
+  cancels_after {c = c} tries refused n some all w t u = record { refused = refused; count = n; busy = λ i. Busy n; some = some; all = all; cancelling = c; waited = refused_more refused n w t; cancelled = u }

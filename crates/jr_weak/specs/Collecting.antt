@@ -1,11 +1,12 @@
 -- A collection as a call, over any steps.
-use Rattle.std.specs.Prelude.{◌≡◌, ◌<◌, ◌≤◌, ◌+◌, ℕ, List, [], ◌∷◌, ◌++◌, length}
+use Rattle.std.specs.Prelude.{◌≡◌, ◌<◌, ◌≤◌, ◌+◌, ℕ, List, [], ◌∷◌, ◌++◌, map, length}
 use Rattle.jr_word.specs.declared.fault.Fault.{Fault}
 use Rattle.jr_word.specs.declared.fault.Fault.TheVariants.{Busy}
 use Rattle.jr_model.specs.declared.event.Act.TheVariants.{Gate, ShutBusy}
-use Rattle.jr_model.specs.declared.event.GateAct.TheVariants.{Cancel, Reopen}
+use Rattle.jr_model.specs.declared.event.GateAct.TheVariants.{Cancel, Shut, Reopen}
 use Rattle.jr_model.specs.State.{Handle}
 use Rattle.jr_model.specs.History.{History, Did}
+use Rattle.jr_model.specs.Announcements.{AnnouncedUntil}
 use Rattle.jr_model.specs.CollectionCalls.{IsWhole, announcing_acts, collection_acts, sweeping_acts, Collects}
 use Rattle.jr_model.specs.Windows.{IsWindow}
 use Rattle.jr_steps.specs.declared.known.Known.{Known}
@@ -18,12 +19,13 @@ pub record CollectsFrom (j k : Known) (cleared : List Handle) (dropped : List �
   pub opened : Goes opening (Gate Reopen ∷ []) k
   pub whole : IsWhole (state_of j) cleared dropped
 
--- A COLLECTION THAT WAS ANNOUNCED: up to some moment the thread announced it and was refused with these counts, by one operation for each of these acts, and from then on it collected
+-- A COLLECTION THAT WAS ANNOUNCED: up to some moment the thread announced it and was refused with these counts, by one operation for each of these acts, and from then on it collected. From its announcement to its reopening nobody entered
 pub record CollectsAnnounced (j k : Known) (refused : List ℕ) (cleared : List Handle) (dropped : List ℕ) (used : ℕ) : Type 0 where
   pub shutting : Known
   pub announced : Did (view j) (view shutting) (announcing_acts refused)
   pub taken : Takes (length (announcing_acts refused)) j shutting
   pub collects : Collects (view shutting) (view k) cleared dropped used
+  pub announcement : AnnouncedUntil (view k) (map ShutBusy refused ++ Gate Shut ∷ sweeping_acts cleared dropped used) Reopen
 
 module _ {S : Type 0} (facts : S → Facts) where
   -- For the crate's own functions: THE REST OF A COLLECTION WAS MADE, once the gate was shut
@@ -53,7 +55,7 @@ module _ {S : Type 0} (facts : S → Facts) where
     pub went : Went facts old new (facts old).stands anything (λ j k. CollectsAnnounced j k refused cleared dropped used)
         (λ j k. lets_go j k × ((begun : History) × IsWindow (view j) (view k) (announcing_acts refused ++ collection_acts cleared dropped used) begun))
 
-  -- IT WAS GIVEN UP: it was announced, each try to shut the gate was refused, the last with this count, and the announcement was taken back
+  -- IT WAS GIVEN UP: it was announced, each try to shut the gate was refused, the last with this count, and the announcement was taken back. From the one to the other nobody entered
   pub record GivesUp (old new : S) (tries : ℕ) (e : Fault) : Type 0 where
     pub refused : List ℕ
     pub count : ℕ
@@ -61,4 +63,4 @@ module _ {S : Type 0} (facts : S → Facts) where
     pub some : 1 ≤ count
     pub all : length refused + 1 ≡ tries
     pub went : Went facts old new (facts old).stands anything (λ j k. Did (view j) (view k) (announcing_acts refused ++ ShutBusy count ∷ Gate Cancel ∷ []))
-        (λ j k. lets_go j k × Takes (length refused + 4) j k × ((begun : History) × IsWindow (view j) (view k) (announcing_acts refused ++ ShutBusy count ∷ Gate Cancel ∷ []) begun))
+        (λ j k. lets_go j k × Takes (length refused + 4) j k × AnnouncedUntil (view k) (map ShutBusy refused ++ ShutBusy count ∷ []) Cancel × ((begun : History) × IsWindow (view j) (view k) (announcing_acts refused ++ ShutBusy count ∷ Gate Cancel ∷ []) begun))

@@ -5,8 +5,7 @@ use Rattle.jr_word.specs.declared.fault.Fault.TheVariants.{Busy}
 use Rattle.jr_model.specs.declared.event.Act.TheVariants.{Gate, ShutBusy}
 use Rattle.jr_model.specs.declared.event.GateAct.TheVariants.{Cancel, Shut}
 use Rattle.jr_model.specs.History.{Did}
-use Rattle.jr_model.specs.Windows.{IsLastSeen}
-use Rattle.jr_steps.specs.Knowing.{Facts, Went, Took, Takes, anything, keeps, lets_go, standing_after, view, IsClosedNow}
+use Rattle.jr_steps.specs.Knowing.{Facts, Went, Took, Takes, anything, keeps, lets_go, view, IsClosedNow}
 
 module _ {S : Type 0} (facts : S → Facts) where
   -- so many tries were refused, with these counts, and nothing else was done
@@ -28,4 +27,6 @@ module _ {S : Type 0} (facts : S → Facts) where
     pub busy : e ≡ Busy count
     pub some : 1 ≤ count
     pub all : length refused + 1 ≡ tries
-    pub went : Went facts old new (standing_after (facts old).stands (Gate Cancel ∷ [])) anything (λ j k. Did (view j) (view k) (map ShutBusy refused ++ ShutBusy count ∷ Gate Cancel ∷ [])) (λ j k. lets_go j k × Takes (length refused + 2) j k × IsLastSeen (view k) (Gate Cancel))
+    pub cancelling : S
+    pub waited : RefusedTries old cancelling (refused ++ count ∷ [])
+    pub cancelled : Took facts cancelling new (Gate Cancel ∷ []) anything lets_go
