@@ -15,3 +15,4 @@ pub mod ElementWriting
 pub mod WholeCopies
 pub mod ReleasedElements
 pub mod WholeCollections
+pub mod AnnouncedCollections

@@ -30,7 +30,7 @@ use Rattle.jr_env.specs.Works.{EndsStay}
 use Rattle.jr_env.proofs.FrameCalls.{does_from}
 
 -- no act of a collection is at the thread's places
-abbrev AllSpare : List Act → Type 0
+abbrev pub AllSpare : List Act → Type 0
 AllSpare acts = AllByRecursion (λ a. spares_places a ≡ true) acts
 
 clears_spare : (hs : List Handle) → AllSpare (map Clear hs)
@@ -41,7 +41,7 @@ drops_spare : (os : List ℕ) → AllSpare (map Drop os)
 drops_spare [] = tt
 drops_spare (o ∷ os) = (refl, drops_spare os)
 
-collection_spares : (hs : List Handle) (os : List ℕ) (used : ℕ) → AllSpare (collection_acts hs os used)
+pub collection_spares : (hs : List Handle) (os : List ℕ) (used : ℕ) → AllSpare (collection_acts hs os used)
 collection_spares hs os used = (refl, append_all _ (sweeping_acts hs os used) (Gate Reopen ∷ []) (append_all _ (map Clear hs ++ map Drop os) (Settle used ∷ []) (append_all _ (map Clear hs) (map Drop os) (clears_spare hs) (drops_spare os)) (refl, tt)) (refl, tt))
 
 -- one of the two that a call of the steps answers

@@ -1,10 +1,14 @@
 -- What a collection that an env makes did.
-use Rattle.std.specs.Prelude.{◌≡◌, ◌≤◌, ℕ, Ok, Err, List, length}
+use Rattle.std.specs.Prelude.{◌≡◌, ◌≢◌, ◌<◌, ◌≤◌, ◌⊎◌, ◌+◌, ℕ, Ok, Err, List, ◌∷◌, ◌++◌, map, length}
 use Rattle.jr_word.specs.declared.fault.Fault.{Fault}
-use Rattle.jr_word.specs.declared.fault.Fault.TheVariants.{Busy}
+use Rattle.jr_word.specs.declared.fault.Fault.TheVariants.{Busy, Moved}
+use Rattle.jr_model.specs.declared.event.Act.TheVariants.{Gate, ShutBusy}
+use Rattle.jr_model.specs.declared.event.GateAct.TheVariants.{Shut, Reopen}
+use Rattle.jr_model.specs.Announcements.{AnnouncedUntil}
 use Rattle.jr_model.specs.State.{Handle}
 use Rattle.jr_model.specs.Calls.{Ran}
-use Rattle.jr_model.specs.CollectionCalls.{Collects}
+use Rattle.jr_model.specs.CollectionCalls.{announcing_acts, sweeping_acts, Collects}
+use Rattle.jr_model.specs.History.{Did}
 use Rattle.jr_model.specs.Parts as parts
 use Rattle.jr_steps.specs.declared.steps.Steps.{Ghosts}
 use Rattle.jr_steps.specs.Holdings.{empty}
@@ -39,6 +43,40 @@ pub record IsKeptOut (old new : Moment) (e : Fault) : Type 0 where
 abbrev pub collection : Deed Collected
 collection old (Ok c) new = IsCollected old new c
 collection old (Err e) new = IsKeptOut old new e
+
+-- AN ANNOUNCED COLLECTION WAS MADE: after fewer refused shuts than there were tries, by one operation for each act up to its shut, the machine's as above. From the announcement to the reopening nobody entered
+pub record IsCollectedAnnounced (tries : ℕ) (old new : Moment) (c : Collected) : Type 0 where
+  pub refused : List ℕ
+  pub few : length refused < tries
+  pub shutting : Moment
+  pub announced : Did old.pass shutting.pass (announcing_acts refused)
+  pub taken : shutting.taken ≡ old.taken + length (announcing_acts refused)
+  pub cleared : List Handle
+  pub dropped : List ℕ
+  pub clears : length cleared ≡ c.cleared
+  pub drops : length dropped ≡ c.dropped
+  pub collects : Collects shutting.pass new.pass cleared dropped c.used
+  pub until : AnnouncedUntil new.pass (map ShutBusy refused ++ Gate Shut ∷ sweeping_acts cleared dropped c.used) Reopen
+  pub ran : Ran old.pass new.pass old.frames new.frames (parts.collect_announced tries) (Ok (c.cleared, c.dropped, c.used))
+  pub fresh : new.fresh ≡ old.fresh
+  pub hint : new.hint ≡ old.hint
+  pub lets_go : new.held ≡ empty
+
+-- IT GOT NO TURN: it was not announced, or each try was refused and the announcement taken back, by one operation for each act; the thread holds what it held, or nothing
+pub record IsGivenUp (tries : ℕ) (old new : Moment) (e : Fault) : Type 0 where
+  pub made : IsMade 0 old new (parts.collect_announced tries) (Err e)
+  pub holds : (new.held ≡ old.held) ⊎ (new.held ≡ empty)
+
+-- an announced collection, or its refusal
+abbrev pub announced_collection : ℕ → Deed Collected
+announced_collection tries old (Ok c) new = IsCollectedAnnounced tries old new c
+announced_collection tries old (Err e) new = IsGivenUp tries old new e
+
+-- why it gets no turn: so many threads kept it out, at least one, or another thread moved the count of the gate
+abbrev pub IsNoTurn : Fault → Type 0
+IsNoTurn (Busy n) = 1 ≤ n
+IsNoTurn (Moved looked found) = looked ≢ found
+IsNoTurn _ = ⊥
 
 -- the marker fits the env's room: it has marks for as many objects as the room may have
 abbrev pub FitsRoom : {S : Type 0} {G : Ghosts S} → Marker → Env S G → Type 0

@@ -2,14 +2,14 @@
 use crate::env::Env;
 use crate::work::outside;
 use jr_steps::Steps;
-use jr_weak::{Collected, Marker, collect};
+use jr_weak::{Collected, Marker, collect, collect_announced};
 use jr_word::Fault;
 
 impl<S: Steps> Env<S> {
     ghost use Rattle.std.specs.Prelude.{◌≡◌, ◌≤◌, ℕ, IsOk, IfErr};
     ghost use Rattle.jr_word.specs.declared.fault.Fault.TheVariants.{Busy};
     ghost use Rattle.jr_weak.specs.Markers.{room_of};
-    ghost use Rattle.jr_env.specs.Collections.{FitsRoom, collection};
+    ghost use Rattle.jr_env.specs.Collections.{FitsRoom, IsNoTurn, announced_collection, collection};
     ghost use Rattle.jr_env.specs.Envs.{Does};
 
     /// Collects: clears each weak reference to an object that is not reached, drops each such object, moves all arrays together, and tells how many it cleared and dropped, and how many words are used then. What is reached keeps its kind and elements, and every handle stands for what it stood for. No thread comes in meanwhile. It takes no memory and never waits. The marker has to be made for a room of so many objects, and serves again.
@@ -33,5 +33,33 @@ impl<S: Steps> Env<S> {
         let held = &mut self.held;
         outside(held);
         collect(&mut held.steps, marker)
+    }
+
+    /// Collects as `collect` does, and gets its turn in a room whose threads call without a break: it announces the collection first, and from then on no call goes in, until the gate is opened again. Those that are in may go on, nest levels of their critical regions, and leave, and the gate is shut once the last has left. It tries to so many times, and takes the announcement back where the last is refused, too. It takes no memory and never waits: a caller that wants to let others run between two tries asks for one try, and calls again. The marker has to be made for a room of so many objects, and serves again.
+    ///
+    /// # Errors
+    ///
+    /// In this order:
+    ///
+    /// - E14 with how many threads were inside, knocking, announcing or collecting, at least 1, where another thread kept the gate closed already,
+    /// - E23 with two counts of the open gate, where another thread went in or out between the look at it and the announcement,
+    /// - E14 with how many other threads were inside or knocking at the last try, at least 1.
+    ///
+    /// Nothing has changed then, and the thread stands outside. Over one thread it is never refused.
+    ///
+    /// # Operations
+    ///
+    /// One or two where it is not announced; a look, the announcement and one for each try up to the shut of the gate, with none between two tries; and one more where the announcement is taken back. Those of the collection no clause counts: see `collect`.
+    pub fn collect_announced(&mut self, marker: &mut Marker, tries: u32) -> Result<Collected, Fault>
+        requires room { FitsRoom marker.old self.old }
+        requires tries { 1 ≤ tries }
+        ensures call { Does self.old self.new (announced_collection tries) result }
+        ensures room { room_of marker.new ≡ room_of marker.old }
+        ensures refused { IfErr result IsNoTurn }
+        ensures alone { (S.facts self.old.held.steps).stands.config.threads ≡ 1 → IsOk result }
+    {
+        let held = &mut self.held;
+        outside(held);
+        collect_announced(&mut held.steps, marker, tries)
     }
 }

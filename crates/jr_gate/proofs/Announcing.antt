@@ -105,7 +105,7 @@ module _ {S : Type 0} {facts : S → Facts} where
     was_moved_between p q n m wide is look t =
         let other = lost_other n m q (some b) is t in
         let u = look_open q m is (lost_look n q t) in
-        inr (inr (n, m, refl, acted Meet Meet (λ v w d. window_some Meet (Meet ∷ []) d (refl, (refl, tt))) (λ j k l g h f s. (has_moved other g h f.0 s.0, (s.1 ∙ f.1, two g h))) (look_open p n wide look) u))
+        inr (inr (n, m, refl, other, acted Meet Meet (λ v w d. window_some Meet (Meet ∷ []) d (refl, (refl, tt))) (λ j k l g h f s. (has_moved other g h f.0 s.0, (s.1 ∙ f.1, two g h))) (look_open p n wide look) u))
 
   -- OVER ONE THREAD
   module _ (fits : AreOf facts) (some : (s : S) → MayKnow facts s anything) (row : (s : S) → (facts s).stands.thread < (facts s).stands.config.threads) where

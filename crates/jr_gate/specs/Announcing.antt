@@ -1,5 +1,5 @@
 -- An announcement that the gate will be shut, and why there is none.
-use Rattle.std.specs.Prelude.{◌≡◌, ◌≤◌, ◌⊎◌, ℕ, [], ◌∷◌}
+use Rattle.std.specs.Prelude.{◌≡◌, ◌≢◌, ◌≤◌, ◌⊎◌, ℕ, [], ◌∷◌}
 use Rattle.jr_word.specs.declared.fault.Fault.{Fault}
 use Rattle.jr_word.specs.declared.fault.Fault.TheVariants.{Busy, Moved}
 use Rattle.jr_model.specs.declared.event.Act.TheVariants.{Gate, ShutBusy, Meet}
@@ -25,7 +25,7 @@ module _ {S : Type 0} (facts : S → Facts) (old new : S) (e : Fault) where
 
   -- both found it open, with one count and with another
   abbrev pub WasMovedBetween : Type 0
-  WasMovedBetween = (looked : ℕ) × (found : ℕ) × (e ≡ Moved looked found) × ActedTo facts old new (Meet ∷ Meet ∷ []) anything (λ j k. GateHasMoved j.seen (view k) looked found × KeepsInTwo j k)
+  WasMovedBetween = (looked : ℕ) × (found : ℕ) × (e ≡ Moved looked found) × (looked ≢ found) × ActedTo facts old new (Meet ∷ Meet ∷ []) anything (λ j k. GateHasMoved j.seen (view k) looked found × KeepsInTwo j k)
 
   -- IT WAS NOT ANNOUNCED, for one of the three
   abbrev pub WasNotAnnounced : Type 0
