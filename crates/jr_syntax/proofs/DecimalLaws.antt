@@ -1,11 +1,15 @@
 -- Numbers and their digits.
 use Rattle.std.proofs.Common.{◌≡◌, ℕ, zero, suc, ◌^◌, ◌<◌, true, List, length, get_or, refl, arith, inl, inr, eqb, rules}
-use Rattle.std.specs.Prelude.{◌||◌, not}
+use Rattle.std.specs.Prelude.{◌||◌, not, nat_le}
 use Rattle.std.specs.Fmt.{decimal}
 use Rattle.std.proofs.lemmas.Bool.{and_parts, and_from, leb-true, le-leb, eqb-true, eqb-false, ne_eqb, not-true, or_cases}
 use Rattle.std.proofs.lemmas.Str.Parse.{IsNumeralModel, IsDigitsTest, numerals_by_fold}
 use Rattle.std.proofs.lemmas.Fmt.{decimal-digits_value, digits_decimal, digits_value-decimal, decimal_digit, decimal_nonempty, first_decimal}
 use Rattle.jr_syntax.specs.Number.{all_digits, is_number, number_from, number_of_digits}
+
+-- a number up to the greatest has few bits
+pub few_bits : (most : ℕ) → most < 2 ^ 64 → (n : ℕ) → nat_le n most ≡ true → n < 2 ^ 64
+few_bits most h n g = let le = leb-true n most g in omega (arith, le, h)
 
 digits_test : IsDigitsTest (λ ds. all_digits ds ≡ true)
 digits_test = search rules

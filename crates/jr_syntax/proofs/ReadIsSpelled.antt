@@ -4,25 +4,24 @@ use Rattle.std.specs.Prelude.{◌||◌, codes, nat_le, if◌then◌else◌}
 use Rattle.std.specs.Option.{option_map, option_map_or}
 use Rattle.std.specs.List.{find, list_all}
 use Rattle.std.specs.Str.{bytes_eq}
-use Rattle.std.specs.Fmt.{decimal}
-use Rattle.std.proofs.lemmas.Bool.{and_parts, and_from, eqb-true, leb-true, false≢true}
+use Rattle.std.proofs.lemmas.Bool.{and_parts, and_from, eqb-true, false≢true}
 use Rattle.std.proofs.lemmas.List.{length-map}
 use Rattle.std.proofs.lemmas.Slice.Eq.{bytes_eq-Decides}
 use Rattle.jr_syntax.specs.declared.verb.Verb.{Verb}
-use Rattle.jr_syntax.specs.declared.verb.Verb.TheVariants.{Make, MakeFrom, On, OnBoth, OnName, WithCount, MakeSized, MakeFilled, MakeText, MakeAt, OnAt, SetAt, StoreAt, OnNameAt, PutAt, Release, OpenLevel, CloseLevel, OfRoom}
+use Rattle.jr_syntax.specs.declared.verb.Verb.TheVariants.{Make, MakeFrom, On, OnBoth, OnName, WithCount, MakeSized, MakeFilled, MakeText, MakeAt, OnAt, SetAt, StoreAt, OnNameAt, PutAt, Release, OpenLevel, CloseLevel, OfRoom, WithTries}
 use Rattle.jr_syntax.specs.declared.command.Command.{Command}
 use Rattle.jr_syntax.specs.declared.name.Reference.TheVariants.{Null, Named}
 use Rattle.jr_syntax.specs.Name.{is_name}
-use Rattle.jr_syntax.specs.Number.{is_number, number_of_digits}
+use Rattle.jr_syntax.specs.Number.{number_of_digits}
 use Rattle.jr_syntax.specs.Line.{word_at}
 use Rattle.jr_syntax.specs.Kind.{Kind, WordKind, Arguments, name, nothing, one, two, three, up_to, before}
 use Rattle.jr_syntax.specs.Reference.{reference, reference_word, is_good_reference}
-use Rattle.jr_syntax.specs.Count.{number_at_most, most_count, count}
+use Rattle.jr_syntax.specs.Count.{number_if, most_count, count, is_tries, tries}
 use Rattle.jr_syntax.specs.Units.{most_units, unit, units}
 use Rattle.jr_syntax.specs.Value.{value}
 use Rattle.jr_model.specs.declared.frames.Mode.TheVariants.{Copy, Commit, Abort}
 use Rattle.jr_syntax.specs.Modes.{mode, word_of_mode}
-use Rattle.jr_syntax.proofs.DecimalLaws.{decimal_number}
+use Rattle.jr_syntax.proofs.DecimalLaws.{few_bits, decimal_number}
 use Rattle.jr_syntax.proofs.ValueLaws.{value_back}
 use Rattle.jr_syntax.specs.Command.{verb_word, verb_of, all_verbs, behind_verb, spelling_of, words_of_command, is_command, line_has_form, line_in_range, line_command}
 
@@ -50,18 +49,17 @@ reference_takes = record {
   good = λ w f r. reference_good w (bytes_eq w (codes "null")) f;
 }
 
--- a number that was read has few bits
-number_back : (most : ℕ) → most < 2 ^ 64 → (w : List ℕ) → is_number w ≡ true → nat_le (number_of_digits w) most ≡ true → decimal (number_of_digits w) ≡ w
-number_back most h w f r = let le = leb-true (number_of_digits w) most r in decimal_number w f (omega (arith, le, h))
-
-number_takes : (most : ℕ) → most < 2 ^ 64 → Takes (number_at_most most)
-number_takes most h = record { back = number_back most h; good = λ w f r. r }
+number_takes : (test : ℕ → Bool) → ((n : ℕ) → test n ≡ true → n < 2 ^ 64) → Takes (number_if test)
+number_takes test few = record { back = λ w f r. decimal_number w f (few (number_of_digits w) r); good = λ w f r. r }
 
 count_takes : Takes count
-count_takes = number_takes most_count (omega arith)
+count_takes = number_takes _ (few_bits most_count (omega arith))
+
+tries_takes : Takes tries
+tries_takes = number_takes is_tries (λ n g. few_bits most_count (omega arith) n (and_parts _ _ g).1)
 
 unit_takes : Takes unit
-unit_takes = number_takes 65535 (omega arith)
+unit_takes = number_takes _ (few_bits 65535 (omega arith))
 
 value_takes : Takes value
 value_takes = record { back = value_back; good = λ w f r. r }
@@ -218,6 +216,7 @@ command_takes (Release v) = by _ (three_takes name reference mode name_takes ref
 command_takes (OpenLevel v) = by _ (two_takes name reference name_takes reference_takes) _
 command_takes (CloseLevel v) = by _ (one_takes mode mode_takes) _
 command_takes (OfRoom v) = by _ nothing_takes _
+command_takes (WithTries v) = by _ (one_takes tries tries_takes) _
 
 -- ---- lines
 

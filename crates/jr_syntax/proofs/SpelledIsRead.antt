@@ -9,7 +9,7 @@ use Rattle.std.proofs.lemmas.Bool.{and_parts, and_from, leb-true, le-leb, eq-eqb
 use Rattle.std.proofs.lemmas.List.{length-map}
 use Rattle.jr_word.specs.Config.{is_between}
 use Rattle.jr_syntax.specs.declared.verb.Verb.{Verb}
-use Rattle.jr_syntax.specs.declared.verb.Verb.TheVariants.{Make, MakeFrom, On, OnBoth, OnName, WithCount, MakeSized, MakeFilled, MakeText, MakeAt, OnAt, SetAt, StoreAt, OnNameAt, PutAt, Release, OpenLevel, CloseLevel, OfRoom}
+use Rattle.jr_syntax.specs.declared.verb.Verb.TheVariants.{Make, MakeFrom, On, OnBoth, OnName, WithCount, MakeSized, MakeFilled, MakeText, MakeAt, OnAt, SetAt, StoreAt, OnNameAt, PutAt, Release, OpenLevel, CloseLevel, OfRoom, WithTries}
 use Rattle.jr_syntax.specs.declared.verb.Make.TheVariants.{Plain, Wait}
 use Rattle.jr_syntax.specs.declared.verb.MakeFrom.TheVariants.{Global, Weak, Local, Pop, Elements}
 use Rattle.jr_syntax.specs.declared.verb.On.TheVariants as on
@@ -29,16 +29,17 @@ use Rattle.jr_syntax.specs.declared.verb.Release.TheVariants as releases
 use Rattle.jr_syntax.specs.declared.verb.OpenLevel.TheVariants as opens
 use Rattle.jr_syntax.specs.declared.verb.CloseLevel.TheVariants.{Newest}
 use Rattle.jr_syntax.specs.declared.verb.OfRoom.TheVariants.{Collect}
+use Rattle.jr_syntax.specs.declared.verb.WithTries.TheVariants.{CollectAnnounced}
 use Rattle.jr_syntax.specs.declared.command.Command.{Command}
 use Rattle.jr_syntax.specs.declared.command.Command.TheVariants as commands
 use Rattle.jr_syntax.specs.declared.name.Reference.{Reference}
 use Rattle.jr_syntax.specs.declared.name.Reference.TheVariants.{Null, Named}
 use Rattle.jr_syntax.specs.Name.{is_name, is_name_byte, is_digit, is_reference}
-use Rattle.jr_syntax.specs.Number.{all_digits, number_of_digits}
+use Rattle.jr_syntax.specs.Number.{all_digits}
 use Rattle.jr_syntax.specs.Line.{line, words_of}
 use Rattle.jr_syntax.specs.Kind.{WordKind, Arguments, name, nothing, one, two, three, up_to, before}
 use Rattle.jr_syntax.specs.Reference.{reference, reference_word, reference_at, is_good_reference}
-use Rattle.jr_syntax.specs.Count.{number_at_most, most_count, count}
+use Rattle.jr_syntax.specs.Count.{number_if, most_count, count, is_tries, tries}
 use Rattle.jr_syntax.specs.Units.{most_units, unit, units}
 use Rattle.jr_syntax.specs.Value.{is_long, value}
 use Rattle.jr_model.specs.declared.frames.Mode.{Mode}
@@ -46,7 +47,7 @@ use Rattle.jr_model.specs.declared.frames.Mode.TheVariants.{Copy, Commit, Abort}
 use Rattle.jr_syntax.specs.Modes.{mode, is_mode_word, mode_of, word_of_mode}
 use Rattle.jr_syntax.specs.Command.{verb_word, verb_of, all_verbs, behind_verb, spelling_of, words_of_command, is_command, line_has_form, line_in_range, line_command}
 use Rattle.jr_syntax.specs.Script.{thread}
-use Rattle.jr_syntax.proofs.DecimalLaws.{decimal_digits, decimal_form, number_decimal}
+use Rattle.jr_syntax.proofs.DecimalLaws.{few_bits, decimal_digits, decimal_form, number_decimal}
 use Rattle.jr_syntax.proofs.ValueLaws.{or_right, long_above, long_below, value_form, value_again}
 use Rattle.jr_syntax.proofs.VmLaws.{not_all}
 
@@ -109,26 +110,22 @@ reference_back (Named n) g = rw (no_null n g) refl
 reference_again : AgainWord reference
 reference_again = record { solid = reference_solid; form = reference_form; range = λ x g. refl; back = reference_back }
 
--- a number up to the greatest has few bits
-fits : (most : ℕ) → most < 2 ^ 64 → (n : ℕ) → nat_le n most ≡ true → n < 2 ^ 64
-fits most h n g = let le = leb-true n most g in omega (arith, le, h)
-
-number_range : (most : ℕ) → most < 2 ^ 64 → (n : ℕ) → nat_le n most ≡ true → nat_le (number_of_digits (decimal n)) most ≡ true
-number_range most h n g = ap (λ m. nat_le m most) (number_decimal n (fits most h n g)) ∙ g
-
-number_again : (most : ℕ) → most < 2 ^ 64 → AgainWord (number_at_most most)
-number_again most h = record {
-  solid = λ n g. decimal_solid n (fits most h n g);
-  form = λ n g. decimal_form n (fits most h n g);
-  range = number_range most h;
-  back = λ n g. number_decimal n (fits most h n g);
+number_again : (test : ℕ → Bool) → ((n : ℕ) → test n ≡ true → n < 2 ^ 64) → AgainWord (number_if test)
+number_again test few = record {
+  solid = λ n g. decimal_solid n (few n g);
+  form = λ n g. decimal_form n (few n g);
+  range = λ n g. ap test (number_decimal n (few n g)) ∙ g;
+  back = λ n g. number_decimal n (few n g);
 }
 
 count_again : AgainWord count
-count_again = number_again most_count (omega arith)
+count_again = number_again _ (few_bits most_count (omega arith))
+
+tries_again : AgainWord tries
+tries_again = number_again is_tries (λ n g. few_bits most_count (omega arith) n (and_parts _ _ g).1)
 
 unit_again : AgainWord unit
-unit_again = number_again 65535 (omega arith)
+unit_again = number_again _ (few_bits 65535 (omega arith))
 
 value_solid : (z : ℤ) → is_long z ≡ true → is_solid (signed_decimal z) ≡ true
 value_solid (pos n) g = let small = long_above n g in decimal_solid n (omega (arith, small))
@@ -304,6 +301,7 @@ verb_again (OpenLevel opens.Array) = refl
 verb_again (OpenLevel opens.Text) = refl
 verb_again (CloseLevel Newest) = refl
 verb_again (OfRoom Collect) = refl
+verb_again (WithTries CollectAnnounced) = refl
 
 -- the word of a verb can be told from spaces, and from a thread line's
 abbrev can_begin : Verb → Bool
@@ -363,3 +361,4 @@ command_again (commands.Release v n r m) g = by _ (three_again name reference mo
 command_again (commands.OpenLevel v n r) g = by _ (two_again name reference name_again reference_again) (OpenLevel v) (λ x. commands.OpenLevel v x.0 x.1) (λ _. refl) (λ _. refl) (λ _. refl) (n, r) g
 command_again (commands.CloseLevel v m) g = by _ (one_again mode mode_again) (CloseLevel v) (λ x. commands.CloseLevel v x) (λ _. refl) (λ _. refl) (λ _. refl) m g
 command_again (commands.OfRoom v) g = by _ nothing_again (OfRoom v) (λ x. commands.OfRoom v) (λ _. refl) (λ _. refl) (λ _. refl) tt g
+command_again (commands.WithTries v n) g = by _ (one_again tries tries_again) (WithTries v) (λ x. commands.WithTries v x) (λ _. refl) (λ _. refl) (λ _. refl) n g

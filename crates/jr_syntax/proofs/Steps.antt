@@ -94,6 +94,7 @@ apart_posted xs (commands.Release v n r m) h new = ap all_apart (append-nil xs) 
 apart_posted xs (commands.OpenLevel v n r) h new = ap all_apart (append-nil xs) ∙ h
 apart_posted xs (commands.CloseLevel v m) h new = ap all_apart (append-nil xs) ∙ h
 apart_posted xs (commands.OfRoom v) h new = ap all_apart (append-nil xs) ∙ h
+apart_posted xs (commands.WithTries v n) h new = ap all_apart (append-nil xs) ∙ h
 
 -- ---- one more part
 

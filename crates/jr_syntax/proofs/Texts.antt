@@ -207,6 +207,7 @@ fresh_post xs (commands.Release v n r m) ys h = refl
 fresh_post xs (commands.OpenLevel v n r) ys h = refl
 fresh_post xs (commands.CloseLevel v m) ys h = refl
 fresh_post xs (commands.OfRoom v) ys h = refl
+fresh_post xs (commands.WithTries v n) ys h = refl
 
 -- what the lines so far say
 record SoFar (before : List (List ℕ)) (threads : ℕ) (names posts : List (List ℕ)) : Type 0 where

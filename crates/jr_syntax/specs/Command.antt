@@ -6,7 +6,7 @@ use Rattle.std.specs.Str.{bytes_eq}
 use Rattle.jr_syntax.specs.declared.argument.LineError.{LineError}
 use Rattle.jr_syntax.specs.declared.argument.LineError.TheVariants as errors
 use Rattle.jr_syntax.specs.declared.verb.Verb.{Verb}
-use Rattle.jr_syntax.specs.declared.verb.Verb.TheVariants.{Make, MakeFrom, On, OnBoth, OnName, WithCount, MakeSized, MakeFilled, MakeText, MakeAt, OnAt, SetAt, StoreAt, OnNameAt, PutAt, Release, OpenLevel, CloseLevel, OfRoom}
+use Rattle.jr_syntax.specs.declared.verb.Verb.TheVariants.{Make, MakeFrom, On, OnBoth, OnName, WithCount, MakeSized, MakeFilled, MakeText, MakeAt, OnAt, SetAt, StoreAt, OnNameAt, PutAt, Release, OpenLevel, CloseLevel, OfRoom, WithTries}
 use Rattle.jr_syntax.specs.declared.verb.Make.TheVariants.{Plain, Wait}
 use Rattle.jr_syntax.specs.declared.verb.MakeFrom.TheVariants.{Global, Weak, Local, Pop, Elements}
 use Rattle.jr_syntax.specs.declared.verb.On.TheVariants as on
@@ -26,11 +26,12 @@ use Rattle.jr_syntax.specs.declared.verb.Release.TheVariants as releases
 use Rattle.jr_syntax.specs.declared.verb.OpenLevel.TheVariants as opens
 use Rattle.jr_syntax.specs.declared.verb.CloseLevel.TheVariants.{Newest}
 use Rattle.jr_syntax.specs.declared.verb.OfRoom.TheVariants.{Collect}
+use Rattle.jr_syntax.specs.declared.verb.WithTries.TheVariants.{CollectAnnounced}
 use Rattle.jr_syntax.specs.declared.command.Command.{Command}
 use Rattle.jr_syntax.specs.declared.command.Command.TheVariants as commands
 use Rattle.jr_syntax.specs.Kind.{Arguments, Reading, nothing, one, two, three, before, name}
 use Rattle.jr_syntax.specs.Reference.{reference}
-use Rattle.jr_syntax.specs.Count.{count}
+use Rattle.jr_syntax.specs.Count.{count, tries}
 use Rattle.jr_syntax.specs.Units.{units}
 use Rattle.jr_syntax.specs.Value.{value}
 use Rattle.jr_syntax.specs.Modes.{mode}
@@ -76,6 +77,7 @@ verb_word (OpenLevel opens.Array) = codes "crit"
 verb_word (OpenLevel opens.Text) = codes "critstr"
 verb_word (CloseLevel Newest) = codes "endcrit"
 verb_word (OfRoom Collect) = codes "gc"
+verb_word (WithTries CollectAnnounced) = codes "gcann"
 
 -- every verb
 abbrev pub all_verbs : List Verb
@@ -84,7 +86,7 @@ all_verbs =
     ∷ MakeSized sized.Boolean ∷ MakeSized sized.Byte ∷ MakeSized sized.Char ∷ MakeSized sized.Short ∷ MakeSized sized.Int ∷ MakeSized sized.Long
     ∷ MakeFilled Objects ∷ MakeText text.String ∷ MakeAt Get ∷ OnAt Load ∷ SetAt set_at.Set ∷ StoreAt Store
     ∷ OnNameAt named_at.Get ∷ OnNameAt named_at.GetInLevel ∷ PutAt Put ∷ PutAt PutInLevel ∷ Release releases.Elements
-    ∷ OpenLevel opens.Array ∷ OpenLevel opens.Text ∷ CloseLevel Newest ∷ OfRoom Collect ∷ []
+    ∷ OpenLevel opens.Array ∷ OpenLevel opens.Text ∷ CloseLevel Newest ∷ OfRoom Collect ∷ WithTries CollectAnnounced ∷ []
 
 -- ---- the shapes of commands: the arguments behind a verb
 
@@ -113,6 +115,7 @@ behind_verb (Release v) = command_of (three name reference mode) (λ x. commands
 behind_verb (OpenLevel v) = command_of (two name reference) (λ x. commands.OpenLevel v x.0 x.1)
 behind_verb (CloseLevel v) = command_of (one mode) (λ m. commands.CloseLevel v m)
 behind_verb (OfRoom v) = command_of nothing (λ _. commands.OfRoom v)
+behind_verb (WithTries v) = command_of (one tries) (λ n. commands.WithTries v n)
 
 -- A command's verb and words, and whether its names are names and its numbers within bounds.
 pub record Spelling : Type 0 where
@@ -144,6 +147,7 @@ spelling_of (commands.Release v n r m) = spelled (Release v) (three name referen
 spelling_of (commands.OpenLevel v n r) = spelled (OpenLevel v) (two name reference) (n, r)
 spelling_of (commands.CloseLevel v m) = spelled (CloseLevel v) (one mode) m
 spelling_of (commands.OfRoom v) = spelled (OfRoom v) nothing tt
+spelling_of (commands.WithTries v n) = spelled (WithTries v) (one tries) n
 
 -- ---- what follows from them
 

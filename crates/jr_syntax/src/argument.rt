@@ -4,7 +4,7 @@ ghost use Rattle.std.specs.Prelude.{◌≡◌, ◌∷◌, ◌++◌, true, OnOk};
 ghost use Rattle.jr_syntax.specs.Kind.{WordKind, reading, ReadsWord, Reads, nothing, one as one_of, two as two_of, three as three_of, name};
 ghost use Rattle.jr_syntax.specs.Line.{line};
 ghost use Rattle.jr_syntax.specs.Reference.{reference};
-ghost use Rattle.jr_syntax.specs.Count.{count};
+ghost use Rattle.jr_syntax.specs.Count.{count, tries};
 ghost use Rattle.jr_syntax.specs.Units.{unit};
 ghost use Rattle.jr_syntax.specs.Value.{value};
 ghost use Rattle.jr_syntax.specs.Modes.{mode};
@@ -12,6 +12,7 @@ ghost use Rattle.jr_syntax.specs.Modes.{mode};
 use crate::mode::{is_mode, mode_at, mode_word};
 use crate::name::{Name, Reference, is_name, is_reference};
 use crate::number::{is_number, number_up_to};
+use crate::tries::Tries;
 use crate::value::{is_value, long_of};
 use crate::word::Words;
 use jr_model::Mode;
@@ -103,6 +104,26 @@ impl Argument for u32 {
         let digits = format!(in *out.allocator(); "{self}")?;
         out.extend_from_slice(digits.as_bytes())?;
         Ok(())
+    }
+}
+
+impl Argument for Tries {
+    ghost kind = { tries };
+
+    fn has_form(word: &[u8]) -> bool {
+        is_number(word)
+    }
+
+    fn read(word: &[u8]) -> Option<Tries> {
+        let count = number_up_to(word, MOST_COUNT)?;
+        if count == 0 {
+            return None;
+        }
+        Some(Tries::new(count))
+    }
+
+    fn put(&self, out: &mut Vec<u8>) -> Result<(), AllocError> {
+        self.count().put(out)
     }
 }
 

@@ -10,10 +10,11 @@ ghost use Rattle.jr_syntax.specs.Printing.{has_three_arguments, arguments_of};
 use crate::argument::{LineError, none, one, put_none, put_one, put_three, put_two, three, two};
 use crate::name::{Name, Reference};
 use crate::text::{named_units, put_named_units};
+use crate::tries::Tries;
 use crate::units::Units;
 use crate::verb::{
     CloseLevel, Make, MakeAt, MakeFilled, MakeFrom, MakeSized, MakeText, OfRoom, On, OnAt, OnBoth,
-    OnName, OnNameAt, OpenLevel, PutAt, Release, SetAt, StoreAt, Verb, WithCount,
+    OnName, OnNameAt, OpenLevel, PutAt, Release, SetAt, StoreAt, Verb, WithCount, WithTries,
 };
 use crate::word::Words;
 use jr_model::Mode;
@@ -135,6 +136,11 @@ pub enum Command {
     OfRoom {
         verb: OfRoom,
     },
+    /// `VERB K`: is about the room as a whole, and may try so often; 1 to 16,777,215.
+    WithTries {
+        verb: WithTries,
+        tries: Tries,
+    },
 }
 
 impl Command {
@@ -181,6 +187,7 @@ impl Command {
             Verb::OpenLevel(verb) => Command::read_opening(verb, words),
             Verb::CloseLevel(verb) => Command::read_closing(verb, words),
             Verb::OfRoom(verb) => Command::read_of_room(verb, words),
+            Verb::WithTries(verb) => Command::read_with_tries(verb, words),
         }
     }
 
@@ -322,6 +329,14 @@ impl Command {
         Ok(Command::OfRoom { verb })
     }
 
+    #[tactic(auto, unfolding(crate::specs::Command::behind_verb))]
+    fn read_with_tries(verb: WithTries, words: Words) -> Result<Command, LineError>
+        ensures { Reads (behind_verb (with.WithTries verb)) words.entry result }
+    {
+        let tries = one(words)?;
+        Ok(Command::WithTries { verb, tries })
+    }
+
     /// Its verb.
     #[tactic(auto, unfolding(crate::specs::Command::spelling_of))]
     fn verb(&self) -> Verb
@@ -347,6 +362,7 @@ impl Command {
             Command::OpenLevel { verb, .. } => Verb::OpenLevel(*verb),
             Command::CloseLevel { verb, .. } => Verb::CloseLevel(*verb),
             Command::OfRoom { verb } => Verb::OfRoom(*verb),
+            Command::WithTries { verb, .. } => Verb::WithTries(*verb),
         }
     }
 
@@ -370,6 +386,7 @@ impl Command {
             Command::OpenLevel { name, target, .. } => put_two(out, word, name, target),
             Command::CloseLevel { mode, .. } => put_one(out, word, mode),
             Command::OfRoom { .. } => put_none(out, word),
+            Command::WithTries { tries, .. } => put_one(out, word, tries),
             Command::MakeFilled { .. }
             | Command::MakeAt { .. }
             | Command::SetAt { .. }

@@ -15,6 +15,7 @@ mod script;
 mod sequence;
 mod text;
 mod thread;
+mod tries;
 mod units;
 mod value;
 mod verb;
@@ -33,9 +34,10 @@ pub use reader::parse;
 pub use script::Script;
 pub use sequence::Sequence;
 pub use thread::ThreadPart;
+pub use tries::Tries;
 pub use units::Units;
 pub use verb::{
     CloseLevel, Make, MakeAt, MakeFilled, MakeFrom, MakeSized, MakeText, OfRoom, On, OnAt, OnBoth,
-    OnName, OnNameAt, OpenLevel, PutAt, Release, SetAt, StoreAt, Verb, WithCount,
+    OnName, OnNameAt, OpenLevel, PutAt, Release, SetAt, StoreAt, Verb, WithCount, WithTries,
 };
 pub use writer::print;

@@ -172,6 +172,13 @@ pub enum OfRoom {
     Collect,
 }
 
+/// A verb with a number of tries behind it: it is about the room as a whole.
+#[derive(Clone, Copy, Debug, PartialEq, Eq)]
+pub enum WithTries {
+    /// `gcann`: collects, once it is announced, and tries so often.
+    CollectAnnounced,
+}
+
 /// A verb of any shape.
 #[derive(Clone, Copy)]
 pub enum Verb {
@@ -213,9 +220,11 @@ pub enum Verb {
     CloseLevel(CloseLevel),
     /// With nothing behind it.
     OfRoom(OfRoom),
+    /// With a number of tries.
+    WithTries(WithTries),
 }
 
-const VERBS: [Verb; 37] = [
+const VERBS: [Verb; 38] = [
     Verb::Make(Make::Plain),
     Verb::Make(Make::Wait),
     Verb::MakeFrom(MakeFrom::Global),
@@ -253,6 +262,7 @@ const VERBS: [Verb; 37] = [
     Verb::OpenLevel(OpenLevel::Text),
     Verb::CloseLevel(CloseLevel::Newest),
     Verb::OfRoom(OfRoom::Collect),
+    Verb::WithTries(WithTries::CollectAnnounced),
 ];
 
 impl Verb {
@@ -298,6 +308,7 @@ impl Verb {
             Verb::OpenLevel(OpenLevel::Text) => b"critstr",
             Verb::CloseLevel(CloseLevel::Newest) => b"endcrit",
             Verb::OfRoom(OfRoom::Collect) => b"gc",
+            Verb::WithTries(WithTries::CollectAnnounced) => b"gcann",
         }
     }
 
