@@ -12,6 +12,7 @@ use Rattle.jr_syntax.specs.declared.verb.OnName.TheVariants as on_name
 use Rattle.jr_syntax.specs.declared.verb.OnNameAt.TheVariants as on_name_at
 use Rattle.jr_syntax.specs.declared.verb.PutAt.TheVariants as put_at
 use Rattle.jr_syntax.specs.declared.verb.OfRoom.TheVariants as of_room
+use Rattle.jr_syntax.specs.declared.verb.WithTries.TheVariants as with_tries
 use Rattle.jr_scripts.specs.declared.reply.Reply.{Reply}
 use Rattle.jr_scripts.specs.Names.{Names}
 use Rattle.jr_scripts.specs.Places.{Place, by_region}
@@ -24,6 +25,7 @@ use Rattle.jr_scripts.specs.Runs.{IsUnbarred}
 use Rattle.jr_scripts.proofs.Alone.{IsUndisturbed}
 use Rattle.jr_scripts.proofs.Uncontended.{is_uncontended_act}
 use Rattle.jr_scripts.proofs.AloneCalls.{IsAlone, AllUncontended}
+use Rattle.jr_scripts.proofs.AloneAnnouncing.{only_turns}
 use Rattle.jr_scripts.proofs.AloneDeeds.{IsMadeOutside, deed_alone}
 use Rattle.jr_scripts.proofs.AloneWithin.{Led, decided_by, done_by, giving_up_by, led_alone, within_by}
 
@@ -70,6 +72,9 @@ outside_alone turns names (commands.Release v n r mode) old new answer alone d =
 outside_alone turns names (commands.OfRoom of_room.Collect) old new answer alone d =
     let y = (deed_alone turns names (commands.OfRoom of_room.Collect) tt).led old new answer alone d in
     record { config = y.config; thread = y.thread; begins = y.begins; uncontended = y.uncontended; fault = never_refused old new answer d }
+outside_alone turns names (commands.WithTries with_tries.CollectAnnounced tries) old new answer alone d =
+    let y = (deed_alone turns names (commands.WithTries with_tries.CollectAnnounced tries) tt).led old new answer alone d in
+    record { config = y.config; thread = y.thread; begins = y.begins; uncontended = y.uncontended; fault = only_turns turns tries names old new answer alone d }
 outside_alone turns names (commands.OpenLevel v n r) old new answer alone d = made_outside turns names (commands.OpenLevel v n r) tt (λ v m e h. h) old new answer alone d
 
 -- a command where the thread stands

@@ -31,7 +31,7 @@ drops_uncontended : (os : List ℕ) → AreUncontended (map Drop os)
 drops_uncontended [] = tt
 drops_uncontended (o ∷ os) = (refl, drops_uncontended os)
 
-collected_uncontended : (hs : List Handle) (os : List ℕ) (used : ℕ) → AreUncontended (collection_acts hs os used)
+pub collected_uncontended : (hs : List Handle) (os : List ℕ) (used : ℕ) → AreUncontended (collection_acts hs os used)
 collected_uncontended hs os used = (
   refl,
   append_all (λ a. is_uncontended_act a ≡ true) (sweeping_acts hs os used) (Gate Reopen ∷ [])

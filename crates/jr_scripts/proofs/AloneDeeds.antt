@@ -45,6 +45,7 @@ use Rattle.jr_syntax.specs.declared.verb.PutAt.TheVariants as put_at
 use Rattle.jr_syntax.specs.declared.verb.Release.TheVariants as release
 use Rattle.jr_syntax.specs.declared.verb.OpenLevel.TheVariants as at
 use Rattle.jr_syntax.specs.declared.verb.OfRoom.TheVariants as of_room
+use Rattle.jr_syntax.specs.declared.verb.WithTries.TheVariants as with_tries
 use Rattle.jr_scripts.specs.declared.reply.Reply.{Reply}
 use Rattle.jr_scripts.specs.declared.reply.Reply.TheVariants as replies
 use Rattle.jr_frames.specs.Reading.{IsReadAs}
@@ -58,6 +59,7 @@ use Rattle.jr_scripts.specs.AloneAnswers.{IsCommandFault, LacksArray, LacksEleme
 use Rattle.jr_scripts.proofs.AloneCalls.{LedAlone, LeadsAlone, call_alone, opened_ran}
 use Rattle.jr_scripts.proofs.AloneParts.{LeadsFrom, answered_alone, bind_alone, bind_found, decided_alone, decided_from, done_alone, from_any, on_alone, on_both_alone, reference_in_alone, stayed, the_reference_alone, tried_alone}
 use Rattle.jr_scripts.proofs.AloneCopies.{elements_alone, units_alone}
+use Rattle.jr_scripts.proofs.AloneAnnouncing.{announcing_alone}
 use Rattle.jr_scripts.proofs.AloneCollections.{collecting_alone}
 use Rattle.jr_scripts.proofs.AloneBuffers.{get_element_alone, put_element_alone, release_alone}
 use Rattle.jr_scripts.proofs.UncontendedObjects.{first_array_uncontended, first_string_uncontended, kind_uncontended, length_uncontended, element_reading_uncontended, element_writing_uncontended, part_reading_uncontended, part_writing_uncontended}
@@ -333,3 +335,4 @@ module _ (turns : ℕ) where
   deed_alone names (commands.PutAt put_at.PutInLevel n i x) made = absurd made
   deed_alone names (commands.CloseLevel v mode) made = absurd made
   deed_alone names (commands.OfRoom of_room.Collect) made = collecting_alone turns names
+  deed_alone names (commands.WithTries with_tries.CollectAnnounced tries) made = announcing_alone turns tries names

@@ -3,7 +3,7 @@ use Rattle.std.proofs.Common.{◌≡◌, ◌≢◌, inl, inr, ℕ, zero, suc, tr
 use Rattle.std.specs.List.{AllByRecursion}
 use Rattle.jr_word.specs.declared.config.Config.{Config}
 use Rattle.jr_word.specs.declared.fault.Fault.{Fault}
-use Rattle.jr_word.specs.declared.fault.Fault.TheVariants.{Raced, Barred, Turns}
+use Rattle.jr_word.specs.declared.fault.Fault.TheVariants.{Raced, Barred, Moved, Turns}
 use Rattle.jr_model.specs.declared.event.Act.TheVariants.{Gate}
 use Rattle.jr_model.specs.declared.event.GateAct.TheVariants.{Knock}
 use Rattle.jr_model.specs.History.{PassView}
@@ -93,11 +93,13 @@ no_turns (commands.Release v n r mode) = refl
 no_turns (commands.OpenLevel v n r) = refl
 no_turns (commands.CloseLevel v mode) = refl
 no_turns (commands.OfRoom v) = refl
+no_turns (commands.WithTries v tries) = refl
 
 -- no call of a lone thread is made again
 pub once_alone : {A : Type 0} (command : Asked) (p : PassView) (f : Frames) (r : Result A Fault) → is_tried_again r ≡ true → IfErr r (IsCommandFault 0 command.0 command.1 p f) → ⊥
 once_alone command p f (Err (Raced looked found)) m h = h
 once_alone command p f (Err Barred) m h = h
+once_alone command p f (Err (Moved looked found)) m h = h
 once_alone command p f _ m h = cc
 
 pub tries_alone : {A : Type 0} {one : Deed A} (command : Asked) → ((turns : ℕ) → LeadsAlone turns command one) → (n : ℕ) (old new : Moment) (answer : Result A Fault) → IsAlone new.pass → Tried one n old answer new → LedAlone n command old.pass new.pass new.frames answer

@@ -356,3 +356,4 @@ within_by p (commands.OnNameAt on_name_at.Get n i) = barred_by
 within_by p (commands.PutAt put_at.Put n i x) = barred_by
 within_by p (commands.Release v n r mode) = barred_by
 within_by p (commands.OfRoom v) = barred_by
+within_by p (commands.WithTries v tries) = barred_by

@@ -15,6 +15,7 @@ formed form (Err e) = Err e
 same_again : {A B : Type 0} (form : A → B) (r : Result A Fault) → is_tried_again (formed form r) ≡ is_tried_again r
 same_again form (Ok x) = refl
 same_again form (Err (fault.Raced l f)) = refl
+same_again form (Err (fault.Moved l f)) = refl
 same_again form (Err fault.Barred) = refl
 same_again form (Err e) = refl
 

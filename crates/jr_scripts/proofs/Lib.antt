@@ -4,6 +4,7 @@ pub mod CommandDeeds
 pub mod CopyDeeds
 pub mod UnitLines
 pub mod Retries
+pub mod AnnouncedTries
 pub mod CommandLoop
 pub mod NameMaps
 pub mod Alone
@@ -18,6 +19,7 @@ pub mod AloneParts
 pub mod AloneCopies
 pub mod AloneBuffers
 pub mod AloneCollections
+pub mod AloneAnnouncing
 pub mod AloneDeeds
 pub mod QuietCalls
 pub mod AloneWithin

@@ -211,13 +211,14 @@ IsCommandFault turns names c now frames Memory = TakesMemory c
 IsCommandFault turns names c now frames Turns = LacksTurns turns c
 IsCommandFault turns names c now frames _ = ⊥
 
--- its refusals where no region stands: E19, and nothing else, of `cget`, `cset` and `endcrit`, none of `post` and `gc`, and those of any other command
+-- its refusals where no region stands: E19, and nothing else, of `cget`, `cset` and `endcrit`, none of `post` and `gc`, of `gcann` that no turns were given, and those of any other command
 abbrev pub IsFaultOutside : ℕ → Names → Command → PassView → Frames → Fault → Type 0
 IsFaultOutside turns names (commands.OnNameAt on_name_at.GetInLevel n i) now frames e = e ≡ InCritical
 IsFaultOutside turns names (commands.PutAt put_at.PutInLevel n i x) now frames e = e ≡ InCritical
 IsFaultOutside turns names (commands.CloseLevel v mode) now frames e = e ≡ InCritical
 IsFaultOutside turns names (commands.OnName v n) now frames e = ⊥
 IsFaultOutside turns names (commands.OfRoom v) now frames e = ⊥
+IsFaultOutside turns names (commands.WithTries v tries) now frames e = (e ≡ Turns) × (turns ≡ 0)
 IsFaultOutside turns names c now frames e = IsCommandFault turns names c now frames e
 
 -- a lone thread's refusals of `crit` and `critstr` in a region: a name that stands for nothing or a reference that is not valid, a name that stands for a buffer, a reference to nothing, an object of another kind than the command wants, where there is some such object, and sixteen levels that stand

@@ -1,11 +1,12 @@
 -- What commands do.
-use Rattle.std.specs.Prelude.{◌≡◌, ℕ, ℤ, Option, Some, None, Ok, Err, IfErr, [], ◌∷◌}
+use Rattle.std.specs.Prelude.{◌≡◌, ℕ, ℤ, Option, Some, None, Result, Ok, Err, IfErr, [], ◌∷◌}
 use Rattle.jr_word.specs.declared.config.Config.{Config}
 use Rattle.jr_word.specs.declared.handle.RefKind.{RefKind}
 use Rattle.jr_word.specs.declared.handle.RefKind.TheVariants.{Local, Global, Weak}
 use Rattle.jr_word.specs.declared.handle.Handle.{Handle}
 use Rattle.jr_word.specs.declared.kind.Kind.{Kind}
 use Rattle.jr_word.specs.declared.kind.Kind.TheVariants.{Boolean, Byte, Char, Short, Int, Long}
+use Rattle.jr_word.specs.declared.fault.Fault.{Fault}
 use Rattle.jr_word.specs.declared.fault.Fault.TheVariants as fault
 use Rattle.jr_model.specs.declared.frames.Mode.{Mode}
 use Rattle.jr_model.specs.State.{State}
@@ -35,6 +36,7 @@ use Rattle.jr_syntax.specs.declared.verb.MakeSized.TheVariants as make_sized
 use Rattle.jr_syntax.specs.declared.verb.OpenLevel.{OpenLevel}
 use Rattle.jr_syntax.specs.declared.verb.OpenLevel.TheVariants as at
 use Rattle.jr_syntax.specs.declared.verb.OfRoom.TheVariants as of_room
+use Rattle.jr_syntax.specs.declared.verb.WithTries.TheVariants as with_tries
 use Rattle.jr_scripts.specs.declared.reply.Reply.{Reply}
 use Rattle.jr_scripts.specs.declared.reply.Reply.TheVariants as replies
 use Rattle.jr_frames.specs.Reading.{IsReadAs}
@@ -42,7 +44,8 @@ use Rattle.jr_scripts.specs.declared.standing.Standing.{Standing}
 use Rattle.jr_scripts.specs.declared.standing.Standing.TheVariants as stands
 use Rattle.jr_scripts.specs.Buffers.{copy_of}
 use Rattle.jr_scripts.specs.Names.{Names, buffer_in, getting, putting, reference_in, referent, standing, wanted}
-use Rattle.jr_env.specs.Collections.{collection}
+use Rattle.jr_weak.specs.declared.collecting.Collected.{Collected}
+use Rattle.jr_env.specs.Collections.{announced_collection, collection}
 use Rattle.jr_env.specs.Deeds.{Deed, decided, done, new_plain, new_array, new_object_array, new_string, new_reference, new_local_ref, delete_reference, delete_local_ref, is_same_object, get_object_ref_type, push_local_frame, ensure_local_capacity, pop_local_frame, kind_of, get_array_length, get_string_length, get_object_array_element, set_object_array_element, get_array_region, set_array_region, get_array_elements, release_array_elements, get_string_chars, answered_by, ◌>>=◌, ◌>>◌}
 use Rattle.jr_scripts.specs.Posting.{IsAwaited}
 use Rattle.jr_scripts.specs.Tries.{Tried}
@@ -58,7 +61,7 @@ kind_made make_sized.Int = Int
 kind_made make_sized.Long = Long
 
 module _ (turns : ℕ) where
-  -- a call, made again where it was raced or barred
+  -- a call, made again where it was raced, barred or moved
   abbrev pub tried : {A : Type 0} → Deed A → Deed A
   tried one = Tried one turns
 
@@ -163,6 +166,16 @@ collecting old (Ok (replies.Collected c)) new = collection old (Ok c) new
 collecting old (Ok (replies.Busy n)) new = collection old (Err (fault.Busy n)) new
 collecting old _ new = ⊥
 
+-- a collection, or so many threads kept it out
+abbrev pub told : Result Collected Fault → Result Reply Fault
+told (Ok c) = Ok (replies.Collected c)
+told (Err (fault.Busy n)) = Ok (replies.Busy n)
+told (Err e) = Err e
+
+-- a collection that is announced, with so many tries to shut the gate
+abbrev pub collecting_announced : ℕ → ℕ → Deed Reply
+collecting_announced turns tries old answer new = (once : Result Collected Fault) × (answer ≡ told once) × tried turns (announced_collection tries) old once new
+
 -- some word that is posted, or the turns ran out; neither an event nor a step
 abbrev pub awaited : Deed Reply
 awaited old answer new = IsAwaited answer × (new ≡ old)
@@ -262,6 +275,7 @@ module _ (turns : ℕ) (names : Names) where
     done (replies.Level o)
   deed (commands.CloseLevel v mode) = decided (Err fault.InCritical)
   deed (commands.OfRoom of_room.Collect) = collecting
+  deed (commands.WithTries with_tries.CollectAnnounced tries) = collecting_announced turns tries
   deed (commands.OnNameAt on_name_at.GetInLevel n i) = decided (Err fault.InCritical)
   deed (commands.PutAt put_at.PutInLevel n i x) = decided (Err fault.InCritical)
   deed (commands.OnNameAt on_name_at.Get n i) = do

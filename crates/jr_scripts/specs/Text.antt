@@ -12,6 +12,7 @@ use Rattle.jr_syntax.specs.Line.{line as words_line}
 use Rattle.jr_syntax.specs.Reference.{reference_word}
 use Rattle.jr_syntax.specs.Command.{verb_word}
 use Rattle.jr_syntax.specs.declared.verb.Verb.TheVariants.{MakeFrom, On, OnBoth, MakeAt, OnAt, OnNameAt, OfRoom}
+use Rattle.jr_syntax.specs.declared.verb.OfRoom.TheVariants.{Collect}
 use Rattle.jr_syntax.specs.declared.verb.PutAt.TheVariants as put_at
 use Rattle.jr_syntax.specs.declared.verb.Release.TheVariants as release
 use Rattle.jr_syntax.specs.declared.command.Command.{Command}
@@ -31,6 +32,12 @@ abbrev pub verdict : Bool → List ℕ
 verdict true = codes "true"
 verdict false = codes "false"
 
+-- what is printed of a collection, announced or not
+abbrev pub said_of_collection : Reply → List ℕ
+said_of_collection (replies.Collected c) = text_line (verb_word (OfRoom Collect) ∷ codes "cleared" ∷ decimal c.cleared ∷ codes "dropped" ∷ decimal c.dropped ∷ codes "used" ∷ decimal c.used ∷ [])
+said_of_collection (replies.Busy n) = text_line (verb_word (OfRoom Collect) ∷ codes "busy" ∷ decimal n ∷ [])
+said_of_collection _ = []
+
 -- what is printed for a command that was not refused
 abbrev pub says : Command → Reply → List ℕ
 says (commands.MakeFrom v n r) (replies.Made None) = text_line (verb_word (MakeFrom v) ∷ n ∷ codes "null" ∷ [])
@@ -41,8 +48,8 @@ says (commands.OnBoth v q r) (replies.Same same) = text_line (verb_word (OnBoth 
 says (commands.MakeAt v n r i) (replies.Made None) = text_line (verb_word (MakeAt v) ∷ n ∷ codes "null" ∷ [])
 says (commands.OnAt v r i) (replies.Value x) = text_line (verb_word (OnAt v) ∷ reference_word r ∷ decimal i ∷ signed_decimal x ∷ [])
 says (commands.OnNameAt v n i) (replies.Value x) = text_line (verb_word (OnNameAt v) ∷ n ∷ decimal i ∷ signed_decimal x ∷ [])
-says (commands.OfRoom v) (replies.Collected c) = text_line (verb_word (OfRoom v) ∷ codes "cleared" ∷ decimal c.cleared ∷ codes "dropped" ∷ decimal c.dropped ∷ codes "used" ∷ decimal c.used ∷ [])
-says (commands.OfRoom v) (replies.Busy n) = text_line (verb_word (OfRoom v) ∷ codes "busy" ∷ decimal n ∷ [])
+says (commands.OfRoom v) reply = said_of_collection reply
+says (commands.WithTries v tries) reply = said_of_collection reply
 says _ _ = []
 
 -- a number that stands behind the fault's

@@ -3,10 +3,11 @@ use Rattle.std.specs.Prelude.{◌≡◌, ℕ, suc, Bool, true, false, Result, Er
 use Rattle.jr_word.specs.declared.fault.Fault.{Fault}
 use Rattle.jr_word.specs.declared.fault.Fault.TheVariants as fault
 
--- a call with this answer is made again: it was raced or barred
+-- a call with this answer is made again: it was raced or barred, or another thread went in or out while it announced
 abbrev pub is_tried_again : {A : Type 0} → Result A Fault → Bool
 is_tried_again (Err (fault.Raced l f)) = true
 is_tried_again (Err fault.Barred) = true
+is_tried_again (Err (fault.Moved l f)) = true
 is_tried_again _ = false
 
 -- up to so many tries, until one is answered otherwise; and else the turns ran out

@@ -1,15 +1,17 @@
 //! Collects.
 
-ghost use Rattle.std.specs.Prelude.{◌≡◌};
+ghost use Rattle.std.specs.Prelude.{◌≡◌, ◌≤◌};
 ghost use Rattle.jr_weak.specs.Markers.{room_of};
-ghost use Rattle.jr_env.specs.Collections.{FitsRoom};
+ghost use Rattle.jr_env.specs.Collections.{FitsRoom, announced_collection};
 ghost use Rattle.jr_env.specs.Envs.{IsOutside, WasDone};
-ghost use Rattle.jr_scripts.specs.Commands.{collecting};
+ghost use Rattle.jr_scripts.specs.Commands.{collecting, collecting_announced, tried};
 
 use crate::reply::Reply;
+use crate::retry::is_made_again;
 use jr_env::Env;
 use jr_steps::Steps;
-use jr_weak::Marker;
+use jr_syntax::Tries;
+use jr_weak::{Collected, Marker};
 use jr_word::Fault;
 
 /// Collects, or tells how many threads are not outside. It is tried once.
@@ -24,4 +26,45 @@ pub(crate) fn collect<S: Steps>(env: &mut Env<S>, marker: &mut Marker) -> Result
         Err(Fault::Busy(count)) => Ok(Reply::Busy(count)),
         Err(_) => unreachable!(),
     }
+}
+
+/// Announces a collection and collects, or tells how many threads kept it out.
+pub(crate) fn collect_announced<S: Steps>(
+    env: &mut Env<S>,
+    marker: &mut Marker,
+    turns: u64,
+    tries: Tries,
+) -> Result<Reply, Fault>
+    requires outside { IsOutside env.old }
+    requires room { FitsRoom marker.old env.old }
+    ensures does { WasDone env.old env.new (collecting_announced turns tries) result }
+    ensures room { room_of marker.new ≡ room_of marker.old }
+{
+    match retry_announced(env, marker, turns, tries.count()) {
+        Ok(collected) => Ok(Reply::Collected(collected)),
+        Err(Fault::Busy(count)) => Ok(Reply::Busy(count)),
+        Err(fault) => Err(fault),
+    }
+}
+
+/// Makes the call of an announced collection, and again as long as it is moved: E20 once it was made so many times. (Its marker is no value that a call which `retry` makes could hold.)
+fn retry_announced<S: Steps>(
+    env: &mut Env<S>,
+    marker: &mut Marker,
+    turns: u64,
+    tries: u32,
+) -> Result<Collected, Fault>
+    requires outside { IsOutside env.old }
+    requires room { FitsRoom marker.old env.old }
+    requires tries { 1 ≤ tries }
+    ensures does { WasDone env.old env.new (tried turns (announced_collection tries)) result }
+    ensures room { room_of marker.new ≡ room_of marker.old }
+{
+    for _ in 0..turns {
+        let answer = env.collect_announced(marker, tries);
+        if !is_made_again(&answer) {
+            return answer;
+        }
+    }
+    Err(Fault::Turns)
 }

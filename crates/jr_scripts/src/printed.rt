@@ -4,11 +4,11 @@ ghost use Rattle.std.specs.Prelude.{◌≡◌, ◌∷◌, ◌++◌, [], IfOk, On
 ghost use Rattle.std.specs.Fmt.{decimal, signed_decimal};
 ghost use Rattle.jr_syntax.specs.Command.{verb_word};
 ghost use Rattle.jr_syntax.specs.declared.command.Command.TheVariants as commands;
-ghost use Rattle.jr_scripts.specs.Text.{text_line, verdict, says as what_is_said, refused as refusal, printed as text_printed, heading as text_heading, ending as text_ending};
+ghost use Rattle.jr_scripts.specs.Text.{text_line, verdict, says as what_is_said, said_of_collection, refused as refusal, printed as text_printed, heading as text_heading, ending as text_ending};
 
 use crate::reply::Reply;
 use jr_model::Summary;
-use jr_syntax::{Command, Name, OfRoom, On, Reference, Verb};
+use jr_syntax::{Command, Name, On, Reference, Verb};
 use jr_weak::Collected;
 use jr_word::Fault;
 use std::alloc::{AllocError, Global};
@@ -135,11 +135,10 @@ fn line_of_collection(alloc: Global, collected: Collected) -> Result<Vec<u8>, Al
     Ok(text.into_bytes())
 }
 
-/// What is printed for a command about the room that was not refused.
-fn says_of_room(alloc: Global, verb: OfRoom, reply: &Reply) -> Result<Vec<u8>, AllocError>
-    ensures { IfOk result (λ text. text.items ≡ what_is_said (commands.OfRoom verb) reply.now) }
+/// What is printed of a collection that was not refused.
+fn says_of_collection(alloc: Global, reply: &Reply) -> Result<Vec<u8>, AllocError>
+    ensures { IfOk result (λ text. text.items ≡ said_of_collection reply.now) }
 {
-    let OfRoom::Collect = verb;
     match reply {
         Reply::Collected(collected) => line_of_collection(alloc, *collected),
         Reply::Busy(count) => {
@@ -180,7 +179,9 @@ fn says(alloc: Global, command: &Command, reply: &Reply) -> Result<Vec<u8>, Allo
             let verb = Verb::OnNameAt(*verb);
             line_of_value(alloc, verb, name.as_slice(), *index, *value)
         }
-        (Command::OfRoom { verb }, reply) => says_of_room(alloc, *verb, reply),
+        (Command::OfRoom { .. } | Command::WithTries { .. }, reply) => {
+            says_of_collection(alloc, reply)
+        }
         _ => Ok(Vec::new(alloc)),
     }
 }
