@@ -89,9 +89,9 @@ module _ {S : Type 0} {facts : S → Facts} where
     last = r.last ∙ sym (ap (λ (s : Standing). s.last) w.stands_is);
     places = r.places ∙ sym (ap (λ (s : Standing). s.config.locals) w.stands_is);
     agrees = ∥∥₁_map r.agrees (λ k.
-    let x = w.leads k.0 k.1 tt in
-    let d = did k.0 x.0 x.2 in
-    (x.0, x.1, holds_did k.0 x.0 t.frames d.0 d.1 d.2 k.2));
+        let x = w.leads k.0 k.1 tt in
+        let d = did k.0 x.0 x.2 in
+        (x.0, x.1, holds_did k.0 x.0 t.frames d.0 d.1 d.2 k.2));
   }
 
   ready_after : {a b : S} {t : Table} {made shows : Known → Known → Type 0} → StandsReady facts Outside a t → Went facts a b (facts a).stands anything made shows
@@ -136,8 +136,15 @@ module _ {S : Type 0} {facts : S → Facts} where
               ran = record {
                 acts = acts;
                 did = did;
-                is = inl (tt, t.frames, Meet ∷ Gate Announce ∷ [], map ShutBusy m.refused ++ rest, refl, announced_is tries t.frames,
-                inl (inl (tt, t.frames, map ShutBusy m.refused, rest, refl, (m.refused, m.few, refl, refl, refl), (m.cleared, m.dropped, x.used, refl, sym (ap (λ z. Ok z) count), refl))));
+                is = inl (
+                  tt,
+                  t.frames,
+                  Meet ∷ Gate Announce ∷ [],
+                  map ShutBusy m.refused ++ rest,
+                  refl,
+                  announced_is tries t.frames,
+                  inl (inl (tt, t.frames, map ShutBusy m.refused, rest, refl, (m.refused, m.few, refl, refl, refl), (m.cleared, m.dropped, x.used, refl, sym (ap (λ z. Ok z) count), refl))),
+                );
                 begun = y.3.1.0;
                 window = y.3.1.1;
                 grounds = tt;
@@ -168,7 +175,7 @@ module _ {S : Type 0} {facts : S → Facts} where
                 window = window_act (ShutBusy n) did tt tt;
                 grounds = subst (λ f. Grounds k.seen (view y.0) f) (sym is) tt;
               });
-              holds = inl y.3;
+              ended = inl y.3;
             },
           );
     }
@@ -190,7 +197,7 @@ module _ {S : Type 0} {facts : S → Facts} where
               made = made_of
                   (spend_acts t.frames t.frames 0 (Meet ∷ x ∷ []) 0 (omega arith) y.2 two (ap (λ (s : Standing). s.fresh) stands ∙ sym (fresh (facts a).stands.fresh)) (z.hint_is ∙ sym (hint k.config.slots (facts a).hint)))
                   (record { acts = Meet ∷ x ∷ []; did = y.2; is = inr (e, refl, is); begun = k.seen; window = window_some Meet (x ∷ []) y.2 (refl, (within, tt)); grounds = shown.0 });
-              holds = inl shown.1.0;
+              ended = inl shown.1.0;
             },
           );
     }
@@ -211,17 +218,38 @@ module _ {S : Type 0} {facts : S → Facts} where
               made = made_of
                   (spend_acts t.frames t.frames 0 acts 0 (omega arith) y.2 (omega (arith, all, long)) (ap (λ (s : Standing). s.fresh) z.went.stands_is ∙ sym (waiting_fresh (facts a).stands.fresh z.refused last)) (z.went.hint_is ∙ sym (waiting_hint k.config.slots (facts a).hint z.refused last)))
                   (record {
-                acts = acts;
-                did = y.2;
-                is = inl (tt, t.frames, Meet ∷ Gate Announce ∷ [], map ShutBusy z.refused ++ last, refl, announced_is tries t.frames,
-                inr (inl (tt, t.frames, map ShutBusy z.refused, last, refl, (z.refused, z.all, refl, refl, refl),
-                inl (z.count, t.frames, ShutBusy z.count ∷ [], Gate Cancel ∷ [], refl, (z.count, refl, refl, refl),
-                inl (tt, t.frames, Gate Cancel ∷ [], [], refl, (refl, refl, refl), (refl, ap (λ f. Err f) z.busy, refl))))));
-                begun = y.3.3.0;
-                window = y.3.3.1;
-                grounds = subst (λ f. Grounds y.3.3.0 (view y.0) f) (sym z.busy) tt;
-              });
-              holds = inr y.3.0;
+                    acts = acts;
+                    did = y.2;
+                    is = inl (
+                      tt,
+                      t.frames,
+                      Meet ∷ Gate Announce ∷ [],
+                      map ShutBusy z.refused ++ last,
+                      refl,
+                      announced_is tries t.frames,
+                      inr (inl (
+                        tt,
+                        t.frames,
+                        map ShutBusy z.refused,
+                        last,
+                        refl,
+                        (z.refused, z.all, refl, refl, refl),
+                        inl (
+                          z.count,
+                          t.frames,
+                          ShutBusy z.count ∷ [],
+                          Gate Cancel ∷ [],
+                          refl,
+                          (z.count, refl, refl, refl),
+                          inl (tt, t.frames, Gate Cancel ∷ [], [], refl, (refl, refl, refl), (refl, ap (λ f. Err f) z.busy, refl)),
+                        ),
+                      )),
+                    );
+                    begun = y.3.3.0;
+                    window = y.3.3.1;
+                    grounds = subst (λ f. Grounds y.3.3.0 (view y.0) f) (sym z.busy) tt;
+                  });
+              ended = inr (record { refused = z.refused; count = z.count; all = z.all; until = y.3.2; lets_go = y.3.0 });
             },
           );
     }

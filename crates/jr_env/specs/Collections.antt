@@ -1,9 +1,9 @@
 -- What a collection that an env makes did.
-use Rattle.std.specs.Prelude.{◌≡◌, ◌≢◌, ◌<◌, ◌≤◌, ◌⊎◌, ◌+◌, ℕ, Ok, Err, List, ◌∷◌, ◌++◌, map, length}
+use Rattle.std.specs.Prelude.{◌≡◌, ◌≢◌, ◌<◌, ◌≤◌, ◌⊎◌, ◌+◌, ℕ, Ok, Err, List, [], ◌∷◌, ◌++◌, map, length}
 use Rattle.jr_word.specs.declared.fault.Fault.{Fault}
 use Rattle.jr_word.specs.declared.fault.Fault.TheVariants.{Busy, Moved}
 use Rattle.jr_model.specs.declared.event.Act.TheVariants.{Gate, ShutBusy}
-use Rattle.jr_model.specs.declared.event.GateAct.TheVariants.{Shut, Reopen}
+use Rattle.jr_model.specs.declared.event.GateAct.TheVariants.{Cancel, Shut, Reopen}
 use Rattle.jr_model.specs.Announcements.{AnnouncedUntil}
 use Rattle.jr_model.specs.State.{Handle}
 use Rattle.jr_model.specs.Calls.{Ran}
@@ -62,10 +62,18 @@ pub record IsCollectedAnnounced (tries : ℕ) (old new : Moment) (c : Collected)
   pub hint : new.hint ≡ old.hint
   pub lets_go : new.held ≡ empty
 
--- IT GOT NO TURN: it was not announced, or each try was refused and the announcement taken back, by one operation for each act; the thread holds what it held, or nothing
+-- IT WAS TAKEN BACK: each try was refused, the last with this count. From the announcement to its end nobody entered, and afterwards the thread holds nothing
+pub record IsTakenBack (tries : ℕ) (new : Moment) : Type 0 where
+  pub refused : List ℕ
+  pub count : ℕ
+  pub all : length refused + 1 ≡ tries
+  pub until : AnnouncedUntil new.pass (map ShutBusy refused ++ ShutBusy count ∷ []) Cancel
+  pub lets_go : new.held ≡ empty
+
+-- IT GOT NO TURN: it was taken back, or it was not announced, since another thread kept the gate closed or moved its count, and then the thread holds what it held
 pub record IsGivenUp (tries : ℕ) (old new : Moment) (e : Fault) : Type 0 where
   pub made : IsMade 0 old new (parts.collect_announced tries) (Err e)
-  pub holds : (new.held ≡ old.held) ⊎ (new.held ≡ empty)
+  pub ended : (new.held ≡ old.held) ⊎ IsTakenBack tries new
 
 -- an announced collection, or its refusal
 abbrev pub announced_collection : ℕ → Deed Collected

@@ -35,15 +35,11 @@ impl<S: Steps> Env<S> {
         collect(&mut held.steps, marker)
     }
 
-    /// Collects as `collect` does, and gets its turn in a room whose threads call without a break: it announces the collection first, and from then on no call goes in, until the gate is opened again. Those that are in may go on, nest levels of their critical regions, and leave, and the gate is shut once the last has left. It tries to so many times, and takes the announcement back where the last is refused, too. It takes no memory and never waits: a caller that wants to let others run between two tries asks for one try, and calls again. The marker has to be made for a room of so many objects, and serves again.
+    /// Collects as `collect` does, but announces it first: from then on no call goes in, until the gate is opened again, so that a room whose threads call without a break can be collected, too. Those that are in may go on, nest levels of their critical regions, and leave. It tries so many times to shut the gate, which is refused while another thread is in or knocks, and takes the announcement back where the last try is refused, too. It takes no memory and never waits. The marker has to be made for a room of so many objects, and serves again.
     ///
     /// # Errors
     ///
-    /// In this order:
-    ///
-    /// - E14 with how many threads were inside, knocking, announcing or collecting, at least 1, where another thread kept the gate closed already,
-    /// - E23 with two counts of the open gate, where another thread went in or out between the look at it and the announcement,
-    /// - E14 with how many other threads were inside or knocking at the last try, at least 1.
+    /// E14 with how many threads were inside, knocking, announcing or collecting, at least 1, where another thread kept the gate closed already; E23 with two counts of the open gate, where another thread went in or out between the look at it and the announcement; E14 with how many other threads were inside or knocking at the last try, at least 1.
     ///
     /// Nothing has changed then, and the thread stands outside. Over one thread it is never refused.
     ///

@@ -66,10 +66,7 @@ impl Announced {
 ///
 /// # Errors
 ///
-/// In this order:
-///
-/// - E14 with how many threads are inside, knocking, announcing or collecting, at least 1, where another thread keeps the gate closed, at the look or at the exchange,
-/// - E23 with the word of the gate at the look and at the exchange, where it was open at both and another thread went in or out between them.
+/// E14 with how many threads are inside, knocking, announcing or collecting, at least 1, where another thread keeps the gate closed, at the look or at the exchange; E23 with the word of the gate at the look and at the exchange, where it was open at both and another thread went in or out between them.
 ///
 /// Nothing has changed then, and the thread stands outside.
 ///

@@ -141,12 +141,12 @@ announced_until {q} {r} {s} acts end cancels reopens first d step =
     let to_q : t ≡ q.thread = to_r ∙ d.thread in
     let inside = d.begins.0 ++ step.behind.between in
     let own : mine inside t ≡ acts = mine_append d.begins.0 step.behind.between t
-        ∙ (ap (λ l. mine d.begins.0 t ++ l) (subst (λ u. mine step.behind.between u ≡ []) (sym to_r) step.behind.others)
-        ∙ (append-nil (mine d.begins.0 t) ∙ subst (λ u. mine d.begins.0 u ≡ acts) (sym to_q) (mine_did acts d))) in
+    ∙ (ap (λ l. mine d.begins.0 t ++ l) (subst (λ u. mine step.behind.between u ≡ []) (sym to_r) step.behind.others)
+    ∙ (append-nil (mine d.begins.0 t) ∙ subst (λ u. mine d.begins.0 u ≡ acts) (sym to_q) (mine_did acts d))) in
     let parts : s.seen ≡ first.before ++ by t (Gate Announce) ∷ inside ++ by t (Gate end) ∷ [] = step.behind.is
-        ∙ (ap (λ l. (l ++ step.behind.between) ++ by r.thread (Gate end) ∷ []) (sym d.begins.1 ∙ ap (λ l. l ++ d.begins.0) first.is)
-        ∙ (ap (λ (u : ℕ × ℕ). (((first.before ++ by u.0 (Gate Announce) ∷ []) ++ d.begins.0) ++ step.behind.between) ++ by u.1 (Gate end) ∷ []) (λ i. (sym to_q i, sym to_r i))
-        ∙ around first.before d.begins.0 step.behind.between (by t (Gate Announce)) (by t (Gate end)))) in
+    ∙ (ap (λ l. (l ++ step.behind.between) ++ by r.thread (Gate end) ∷ []) (sym d.begins.1 ∙ ap (λ l. l ++ d.begins.0) first.is)
+    ∙ (ap (λ (u : ℕ × ℕ). (((first.before ++ by u.0 (Gate Announce) ∷ []) ++ d.begins.0) ++ step.behind.between) ++ by u.1 (Gate end) ∷ []) (λ i. (sym to_q i, sym to_r i))
+    ∙ around first.before d.begins.0 step.behind.between (by t (Gate Announce)) (by t (Gate end)))) in
     let stands : IsAnnouncement t s.seen first.before inside (by t (Gate end) ∷ []) = record {
       parts = parts;
       stands = all_both (λ e. e ≢ by t (Gate Cancel)) (λ e. e ≢ by t (Gate Reopen)) inside

@@ -12,7 +12,7 @@ pub enum Role {
     Outside,
     /// In a stay.
     Within,
-    /// Its entry found the gate shut, and it has not withdrawn yet.
+    /// Its entry found the gate closed, and it has not withdrawn yet.
     Knocking,
     /// It has announced that it will shut the gate, which bars entries from then on.
     Announcing,
@@ -45,11 +45,11 @@ pub struct Event {
 pub enum GateAct {
     /// Goes in.
     Enter,
-    /// Finds the gate shut on the way in.
+    /// Finds the gate closed on the way in, shut or announced to be.
     Knock,
     /// Goes out.
     Leave,
-    /// Gives the entry up that found the gate shut.
+    /// Gives the entry up that found the gate closed.
     Withdraw,
     /// Announces that it will shut the gate, which bars entries from then on.
     Announce,

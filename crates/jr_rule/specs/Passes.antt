@@ -83,7 +83,7 @@ pub record SumsUp (k : Known) (s : Summary) : Type 0 where
   pub own : mine whole k.thread ≡ mine k.seen k.thread
   pub is : s ≡ summary k.config k.last (state whole)
 
--- A ROOM IS CLOSED: the pass found nobody inside, knocking or collecting, and then it ends
+-- A ROOM IS CLOSED: the pass found nobody inside, knocking, announcing or collecting, and then it ends
 pub record Closes (k : Known) (s : Summary) : Type 0 where
   pub met : Known
   pub goes : Goes k (Meet ∷ []) met
@@ -117,7 +117,7 @@ pub record EndsAll (k : Known) (ks : List Known) (s : Summary) : Type 0 where
   pub alone : HasEachPass k.config (k ∷ ks) → HasNoOthers whole (k ∷ ks)
   pub is : s ≡ summary k.config k.last (state whole)
 
--- A ROOM IS CLOSED WITH ALL THESE PASSES: the first found nobody inside, knocking or collecting, and then they end together
+-- A ROOM IS CLOSED WITH ALL THESE PASSES: the first found nobody inside, knocking, announcing or collecting, and then they end together
 pub record ClosesAll (k : Known) (ks : List Known) (s : Summary) : Type 0 where
   pub met : Known
   pub goes : Goes k (Meet ∷ []) met

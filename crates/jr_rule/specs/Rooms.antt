@@ -27,7 +27,7 @@ holder_over s = record { seat = s.cells.seat; thread = s.cells.thread; role = s.
 abbrev pub IsOpening : (LAST : ℕ) → Config → Room LAST → List Pass → Type 0
 IsOpening LAST c r passes = AreOpened c LAST r.row passes
 
--- A ROOM IS NOT CLOSED: the pass found so many threads inside, knocking or collecting, and has the room back, and itself with this look
+-- A ROOM IS NOT CLOSED: the pass found so many threads inside, knocking, announcing or collecting, and has the room back, and itself with this look
 pub record IsLeft {LAST : ℕ} (r : Room LAST) (p : Pass) (l : Left LAST) : Type 0 where
   pub count : ℕ
   pub fault : l.fault ≡ LeftInside count
@@ -42,7 +42,7 @@ pub record AreLeft {LAST : ℕ} (r : Room LAST) (p : Pass) (others : List Pass) 
   pub left : IsLeft r p l.left
   pub same_others : l.others.items ≡ others
 
--- THE PASS LOOKED AT THE GATE: it knows what it had, what others did since, and its look, and that so many threads are inside, knocking or collecting
+-- THE PASS LOOKED AT THE GATE: it knows what it had, what others did since, and its look, and that so many threads are inside, knocking, announcing or collecting
 pub record CountsInside (k k' : Known) (count : ℕ) : Type 0 where
   pub goes : Goes k (Meet ∷ []) k'
   pub is : count ≡ not_outside k'.config (state_of k')

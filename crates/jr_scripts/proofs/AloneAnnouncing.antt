@@ -176,10 +176,17 @@ module _ (turns tries : ℕ) (names : Names) where
       led old new (Err e) alone d = absurd (never_refused tries old.pass new.pass old.frames new.frames alone e d.made.ran)
 
   pub announcing_alone : LeadsAlone turns (names, commands.WithTries with_tries.CollectAnnounced tries) (collecting_announced turns tries)
-  announcing_alone = record { led = λ old new answer alone d.
-      let x = (tried_alone turns (names, commands.WithTries with_tries.CollectAnnounced tries) once_led).led old new d.0 alone d.2 in
-      record { config = x.config; thread = x.thread; begins = x.begins; uncontended = x.uncontended;
-      fault = subst (λ a. IfErr a (IsCommandFault turns names (commands.WithTries with_tries.CollectAnnounced tries) new.pass new.frames)) (sym d.1) (told_alone _ d.0 x.fault) } }
+  announcing_alone = record {
+    led = λ old new answer alone d.
+        let x = (tried_alone turns (names, commands.WithTries with_tries.CollectAnnounced tries) once_led).led old new d.0 alone d.2 in
+        record {
+          config = x.config;
+          thread = x.thread;
+          begins = x.begins;
+          uncontended = x.uncontended;
+          fault = subst (λ a. IfErr a (IsCommandFault turns names (commands.WithTries with_tries.CollectAnnounced tries) new.pass new.frames)) (sym d.1) (told_alone _ d.0 x.fault);
+        };
+  }
 
   only_turns_once : (n : ℕ) (old new : Moment) (once : Result Collected Fault) → IsAlone new.pass → Tried (announced_collection tries) n old once new → IfErr once (λ e. (e ≡ Turns) × (n ≡ 0))
   only_turns_once (suc n) old new (Ok c) alone (answered d final) = tt

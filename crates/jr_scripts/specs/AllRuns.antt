@@ -72,7 +72,7 @@ pub record CanBeRun (s : Script) : Type 0 where
   pub limits : in_limits s.config ≡ true
   pub numbered : 2 + lines_of_parts s.threads < 2 ^ 64
 
--- so many threads were left inside, knocking or collecting, one at least
+-- so many threads were left inside, knocking, announcing or collecting, one at least
 abbrev pub IsLeftInside : Fault → Type 0
 IsLeftInside e = (n : ℕ) × (e ≡ LeftInside n) × (1 ≤ n)
 

@@ -35,8 +35,6 @@ use Rattle.jr_syntax.specs.declared.verb.MakeSized.{MakeSized}
 use Rattle.jr_syntax.specs.declared.verb.MakeSized.TheVariants as make_sized
 use Rattle.jr_syntax.specs.declared.verb.OpenLevel.{OpenLevel}
 use Rattle.jr_syntax.specs.declared.verb.OpenLevel.TheVariants as at
-use Rattle.jr_syntax.specs.declared.verb.OfRoom.TheVariants as of_room
-use Rattle.jr_syntax.specs.declared.verb.WithTries.TheVariants as with_tries
 use Rattle.jr_scripts.specs.declared.reply.Reply.{Reply}
 use Rattle.jr_scripts.specs.declared.reply.Reply.TheVariants as replies
 use Rattle.jr_frames.specs.Reading.{IsReadAs}
@@ -176,6 +174,11 @@ told (Err e) = Err e
 abbrev pub collecting_announced : ℕ → ℕ → Deed Reply
 collecting_announced turns tries old answer new = (once : Result Collected Fault) × (answer ≡ told once) × tried turns (announced_collection tries) old once new
 
+-- a collection as the command asks for it
+abbrev pub collecting_by : ℕ → Command → Deed Reply
+collecting_by turns (commands.WithTries v tries) = collecting_announced turns tries
+collecting_by turns _ = collecting
+
 -- some word that is posted, or the turns ran out; neither an event nor a step
 abbrev pub awaited : Deed Reply
 awaited old answer new = IsAwaited answer × (new ≡ old)
@@ -274,8 +277,8 @@ module _ (turns : ℕ) (names : Names) where
     o ← opening_levels v r
     done (replies.Level o)
   deed (commands.CloseLevel v mode) = decided (Err fault.InCritical)
-  deed (commands.OfRoom of_room.Collect) = collecting
-  deed (commands.WithTries with_tries.CollectAnnounced tries) = collecting_announced turns tries
+  deed (commands.OfRoom v) = collecting_by turns (commands.OfRoom v)
+  deed (commands.WithTries v tries) = collecting_by turns (commands.WithTries v tries)
   deed (commands.OnNameAt on_name_at.GetInLevel n i) = decided (Err fault.InCritical)
   deed (commands.PutAt put_at.PutInLevel n i x) = decided (Err fault.InCritical)
   deed (commands.OnNameAt on_name_at.Get n i) = do

@@ -4,18 +4,36 @@ ghost use Rattle.std.specs.Prelude.{◌≡◌, ◌≤◌};
 ghost use Rattle.jr_weak.specs.Markers.{room_of};
 ghost use Rattle.jr_env.specs.Collections.{FitsRoom, announced_collection};
 ghost use Rattle.jr_env.specs.Envs.{IsOutside, WasDone};
-ghost use Rattle.jr_scripts.specs.Commands.{collecting, collecting_announced, tried};
+ghost use Rattle.jr_scripts.specs.Commands.{collecting, collecting_announced, collecting_by, tried};
 
 use crate::reply::Reply;
 use crate::retry::is_made_again;
 use jr_env::Env;
 use jr_steps::Steps;
-use jr_syntax::Tries;
+use jr_syntax::{Command, Tries};
 use jr_weak::{Collected, Marker};
 use jr_word::Fault;
 
+/// Makes the collection that a command asks for.
+pub(crate) fn collect<S: Steps>(
+    env: &mut Env<S>,
+    marker: &mut Marker,
+    turns: u64,
+    command: &Command,
+) -> Result<Reply, Fault>
+    requires outside { IsOutside env.old }
+    requires room { FitsRoom marker.old env.old }
+    ensures does { WasDone env.old env.new (collecting_by turns command.now) result }
+    ensures room { room_of marker.new ≡ room_of marker.old }
+{
+    match command {
+        Command::WithTries { tries, .. } => collect_announced(env, marker, turns, *tries),
+        _ => collect_at_once(env, marker),
+    }
+}
+
 /// Collects, or tells how many threads are not outside. It is tried once.
-pub(crate) fn collect<S: Steps>(env: &mut Env<S>, marker: &mut Marker) -> Result<Reply, Fault>
+fn collect_at_once<S: Steps>(env: &mut Env<S>, marker: &mut Marker) -> Result<Reply, Fault>
     requires outside { IsOutside env.old }
     requires room { FitsRoom marker.old env.old }
     ensures does { WasDone env.old env.new collecting result }
@@ -29,7 +47,7 @@ pub(crate) fn collect<S: Steps>(env: &mut Env<S>, marker: &mut Marker) -> Result
 }
 
 /// Announces a collection and collects, or tells how many threads kept it out.
-pub(crate) fn collect_announced<S: Steps>(
+fn collect_announced<S: Steps>(
     env: &mut Env<S>,
     marker: &mut Marker,
     turns: u64,

@@ -15,7 +15,7 @@ ghost use Rattle.jr_scripts.specs.Commands.{deletion, type_of as type_deed, made
 
 use crate::ask::ask;
 use crate::board::Board;
-use crate::collection::{collect, collect_announced};
+use crate::collection::collect;
 use crate::copy_call::GetStringChars;
 use crate::copy_commands::{copy, get_by, put_by, release};
 use crate::element::{load, store};
@@ -259,8 +259,7 @@ pub fn perform<S: Steps, B: Board>(
             mode,
             ..
         } => release(env, names, turns, name, target, *mode),
-        Command::OfRoom { .. } => collect(env, marker),
-        Command::WithTries { tries, .. } => collect_announced(env, marker, turns, *tries),
+        Command::OfRoom { .. } | Command::WithTries { .. } => collect(env, marker, turns, command),
         Command::OpenLevel { .. } | Command::CloseLevel { .. } => Err(Fault::InCritical),
     }
 }

@@ -14,7 +14,10 @@ use jr_word::Fault;
 pub(crate) fn is_made_again<A>(answer: &Result<A, Fault>) -> bool
     ensures { result ≡ is_tried_again answer.now }
 {
-    matches!(answer, Err(Fault::Raced(..) | Fault::Barred | Fault::Moved(..)))
+    matches!(
+        answer,
+        Err(Fault::Raced(..) | Fault::Barred | Fault::Moved(..))
+    )
 }
 
 /// Makes a call, and again as long as it is raced, barred or moved: E20 once it was made so many times.

@@ -57,7 +57,7 @@ pub trait Steps {
         requires { index < (facts self.old).stands.config.slots }
         ensures { Hinted facts self.old self.new index };
 
-    /// Enters the gate: true where it was not shut.
+    /// Enters the gate: true where it was open, neither shut nor announced to be.
     fn go_in(&mut self) -> bool
         requires { (facts self.old).stands.role ≡ Outside }
         ensures { Took facts self.old self.new (act_of_entry result ∷ []) anything keeps };

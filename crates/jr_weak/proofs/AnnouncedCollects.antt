@@ -115,7 +115,7 @@ module _ {S : Type 0} (facts : S → Facts) {a b : S} (tries : ℕ) (outside : (
           let acts = map ShutBusy u.refused ++ ShutBusy u.count ∷ [] in
           let waiting : Did (view kb.0) (view kc.0) acts = subst (λ (l : List Act). Did (view kb.0) (view kc.0) l) (one_more u.refused u.count) kc.2 in
           let both : Did (view kb.0) (view kz.0) (map ShutBusy u.refused ++ ShutBusy u.count ∷ Gate Cancel ∷ []) = subst (λ (l : List Act). Did (view kb.0) (view kz.0) l)
-                  (append_assoc (map ShutBusy u.refused) (ShutBusy u.count ∷ []) (Gate Cancel ∷ [])) (did_then acts (Gate Cancel ∷ []) waiting (goes_did kz.2)) in
+          (append_assoc (map ShutBusy u.refused) (ShutBusy u.count ∷ []) (Gate Cancel ∷ [])) (did_then acts (Gate Cancel ∷ []) waiting (goes_did kz.2)) in
           let did = did_then (Meet ∷ Gate Announce ∷ []) (map ShutBusy u.refused ++ ShutBusy u.count ∷ Gate Cancel ∷ []) kb.2 both in
           let long : length (u.refused ++ u.count ∷ []) ≡ length u.refused + 1 = length-append u.refused (u.count ∷ []) in
           let first = kb.3.0.0.1 in

@@ -2,5 +2,5 @@ pub mod Marks
 pub mod Marking
 pub mod Markers
 pub mod Sweeping
-pub mod Waiting
 pub mod Collecting
+pub mod Waiting

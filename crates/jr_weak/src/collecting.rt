@@ -49,14 +49,11 @@ pub fn collect<S: Steps>(steps: &mut S, marker: &mut Marker) -> Result<Collected
     Ok(finish(steps, shut, marker))
 }
 
-/// Announces a collection, so that nobody is let in any more, shuts the gate once those inside have left, and collects as `collect` does. It tries to shut the gate so many times, and takes the announcement back where the last is refused, too. It takes no memory and never waits: what others do between two tries is their own. The thread has to stand outside.
+/// Announces a collection, so that nobody is let in any more, shuts the gate, and collects as `collect` does. It tries so many times to shut the gate, which is refused while another thread is inside or knocks, and takes the announcement back where the last try is refused, too. It takes no memory and never waits. The thread has to stand outside.
 ///
 /// # Errors
 ///
-/// In this order:
-///
-/// - those of `announce`: E14, and E23,
-/// - E14 with how many other threads were inside or knocking at the last try, at least 1.
+/// E14 with how many threads were inside, knocking, announcing or collecting, at least 1, where another thread kept the gate closed already; E23 with two counts of the open gate, where another thread went in or out between the look at it and the announcement; E14 with how many other threads were inside or knocking at the last try, at least 1.
 ///
 /// Nothing has changed then, and the thread stands outside. Over one thread it is never refused.
 ///
