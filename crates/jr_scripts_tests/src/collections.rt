@@ -86,3 +86,23 @@ fn nothing_is_left_to_collect(rt: HostRuntime) -> Result<(), Fail> {
         b"[a]\ngc cleared 0 dropped 0 used 0\ngc cleared 0 dropped 0 used 0\ngc cleared 0 dropped 0 used 0\ngc cleared 0 dropped 1 used 0\ngc cleared 0 dropped 0 used 0\n[end]\nglobals 0 weaks 0 live 0 used 0\n",
     )
 }
+
+#[test]
+fn an_announced_collection_takes_what_another_does(rt: HostRuntime) -> Result<(), Fail> {
+    copies_print(
+        &rt,
+        rt.alloc(),
+        b"vm threads 1 slots 4 objects 8 words 16 locals 16\nthread a\nplain p\nweak w p\nint x 3\nint y 2\nstore y 1 7\ndrop p\ndrop x\ngcann 1\ntype w\nsame w null\nload y 1\ngcann 16777215\n",
+        b"[a]\ngc cleared 1 dropped 2 used 2\ntype w 3\nsame w null true\nload y 1 7\ngc cleared 0 dropped 0 used 2\n[end]\nglobals 0 weaks 1 live 1 used 2\n",
+    )
+}
+
+#[test]
+fn a_region_refuses_an_announced_collection(rt: HostRuntime) -> Result<(), Fail> {
+    copies_print(
+        &rt,
+        rt.alloc(),
+        b"vm threads 1 slots 4 objects 8 words 16 locals 16\nthread a\nint a 2\ncrit r a\ngcann 3\nendcrit copy\ngcann 3\n",
+        b"[a]\n5 ! E19\ngc cleared 0 dropped 0 used 2\n[end]\nglobals 0 weaks 0 live 1 used 2\n",
+    )
+}

@@ -294,3 +294,14 @@ fn a_collection_waits_for_a_region(rt: HostRuntime) -> Result<(), Fail> {
         b"[a]\n12 ! E19\nload y 0 11\nload y 1 12\n[b]\ngc busy 1\ngc cleared 0 dropped 1 used 2\n[end]\nglobals 0 weaks 0 live 1 used 2\n",
     )
 }
+
+#[test]
+fn an_announcement_is_taken_back_while_a_region_stands(rt: HostRuntime) -> Result<(), Fail> {
+    threads_print(
+        &rt,
+        rt.alloc(),
+        b"vm threads 2 slots 4 objects 8 words 16 locals 16\nthread a\nint x 2\ncrit r x\npost held\nwait tried\ncrit s x\ncset s 1 5\nendcrit copy\nendcrit copy\npost free\nwait done\nload x 1\nthread b\nwait held\ngcann 3\npost tried\nwait free\ngcann 3\npost done\n",
+        &NoHold,
+        b"[a]\nload x 1 5\n[b]\ngc busy 1\ngc cleared 0 dropped 0 used 2\n[end]\nglobals 0 weaks 0 live 1 used 2\n",
+    )
+}
