@@ -4,7 +4,6 @@ pub mod CommandDeeds
 pub mod CopyDeeds
 pub mod UnitLines
 pub mod Retries
-pub mod AnnouncedTries
 pub mod CommandLoop
 pub mod NameMaps
 pub mod Alone

@@ -60,7 +60,7 @@ fn collect_announced<S: Steps>(
 {
     match retry_announced(env, marker, turns, tries.count()) {
         Ok(collected) => Ok(Reply::Collected(collected)),
-        Err(Fault::Busy(count)) => Ok(Reply::Busy(count)),
+        Err(Fault::Busy(inside)) => Ok(Reply::Busy(inside)),
         Err(fault) => Err(fault),
     }
 }
