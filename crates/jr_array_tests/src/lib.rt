@@ -2,6 +2,8 @@
 #![tactic(auto)]
 
 #[cfg(test)]
+mod announced;
+#[cfg(test)]
 mod copies;
 #[cfg(test)]
 mod elements;

@@ -1,4 +1,4 @@
-//! A thread whose words another reserves each time, between its look at the top and its exchange.
+//! A thread that another overtakes, between a look and an exchange of its own. Here the other reserves words each time, between the look at the top and the exchange.
 ghost use Rattle.std.specs.Prelude.{All};
 ghost use Rattle.jr_rule.specs.Passes.{IsOpened};
 
@@ -27,23 +27,36 @@ const SMALL: Config = Config {
 /// Local, of thread 1, with serial 0 at the first place.
 const FIRST: Handle = Handle(0x4_0000_0000_0001);
 
-/// What another thread does between two steps of a thread.
-trait Meanwhile {
-    fn act(&mut self);
+/// The step before which another thread acts.
+#[derive(Clone, Copy, PartialEq, Eq)]
+pub(crate) enum Before {
+    /// The exchange of the top.
+    Reservation,
+    /// The exchange that announces that the gate will be shut.
+    Announcement,
+    /// The exchange that shuts it, as announced.
+    Shut,
+}
+
+/// What another thread does before a step of a thread.
+pub(crate) trait Meanwhile {
+    fn act(&mut self, before: Before);
 }
 
 /// It makes an array of one element.
 impl<U: Steps> Meanwhile for Env<U> {
-    fn act(&mut self) {
-        let _ = self.new_array::<i32>(1);
+    fn act(&mut self, before: Before) {
+        if before == Before::Reservation {
+            let _ = self.new_array::<i32>(1);
+        }
     }
 }
 
-/// The steps of a thread. Before each exchange of the top another thread acts.
+/// The steps of a thread. Before each exchange of the top, each announcement and each shut that was announced another thread acts.
 #[derive(Drop)]
-struct Overtaken<S: Steps, M: Meanwhile> {
-    steps: S,
-    other: M,
+pub(crate) struct Overtaken<S: Steps, M: Meanwhile> {
+    pub(crate) steps: S,
+    pub(crate) other: M,
 }
 
 impl<S: Steps, M: Meanwhile> Steps for Overtaken<S, M> {
@@ -94,6 +107,7 @@ impl<S: Steps, M: Meanwhile> Steps for Overtaken<S, M> {
     }
 
     fn announce(&mut self, looked: u16) -> Result<(), GateParts> {
+        self.other.act(Before::Announcement);
         self.steps.announce(looked)
     }
 
@@ -102,6 +116,7 @@ impl<S: Steps, M: Meanwhile> Steps for Overtaken<S, M> {
     }
 
     fn bar_announced(&mut self) -> Result<(), u32> {
+        self.other.act(Before::Shut);
         self.steps.bar_announced()
     }
 
@@ -148,7 +163,7 @@ impl<S: Steps, M: Meanwhile> Steps for Overtaken<S, M> {
     }
 
     fn claim_top(&mut self, looked: u32, more: u32) -> Result<(), u32> {
-        self.other.act();
+        self.other.act(Before::Reservation);
         self.steps.claim_top(looked, more)
     }
 
@@ -233,7 +248,7 @@ impl<S: Steps, M: Meanwhile> Steps for Overtaken<S, M> {
 }
 
 /// The env over the next pass, which another thread overtakes.
-fn next_overtaken<'a, M: Meanwhile + Drop>(
+pub(crate) fn next_overtaken<'a, M: Meanwhile + Drop>(
     room: &'a Room<LAST>,
     passes: &mut Vec<Pass>,
     other: M,

@@ -1,5 +1,6 @@
 //! An env's collections, over plain words and over a room that several threads share.
 
+mod announced;
 mod arrays;
 mod chains;
 mod envs;

@@ -9,7 +9,11 @@ use std::process::Abort;
 use std::test::Fail;
 
 /// A weak reference to what was collected is to null: it has its type, makes no reference, and can be deleted.
-fn is_cleared<S: Steps>(rt: &impl Abort, env: &mut Env<S>, word: Handle) -> Result<(), Fail> {
+pub(crate) fn is_cleared<S: Steps>(
+    rt: &impl Abort,
+    env: &mut Env<S>,
+    word: Handle,
+) -> Result<(), Fail> {
     assert_eq!(rt; env.get_object_ref_type(word)?, 3);
     assert!(rt; env.is_same_object(word, Handle::NULL)?);
     assert_eq!(rt; env.new_global_ref(word)?, None);

@@ -1,10 +1,13 @@
-//! Threads of one room, of which one collects while others are inside, or make, write and drop arrays.
+//! Threads of one room, of which some collect, announced or not, while others are inside, or make, write and drop arrays, or come in and go without a break.
+ghost use Rattle.std.specs.Prelude.{All};
+ghost use Rattle.jr_rule.specs.Passes.{IsOpened};
 
 use super::envs::{LAST, collected, global, next_env};
 use jr_env::Env;
-use jr_model::Mode;
-use jr_rule::Room;
+use jr_model::{Mode, Summary};
+use jr_rule::{Pass, Room};
 use jr_steps::Steps;
+use jr_weak::{Collected, Marker};
 use jr_word::{Config, Fault, Handle};
 use std::alloc::Global;
 use std::process::Abort;
@@ -22,11 +25,20 @@ const FIVE: Config = Config {
     locals: 16,
 };
 
+/// The same room, with two threads more: one that collects once the others have ended, and one that takes no step.
+const SEVEN: Config = Config { threads: 7, ..FIVE };
+
 /// How often a thread makes a new array and drops the one before.
 const ROUNDS: u32 = 10_000;
 
 /// How often a thread collects.
 const COLLECTIONS: u32 = 10_000;
+
+/// How often a thread makes a collection that is announced.
+const ANNOUNCED: u32 = 2_000;
+
+/// How often a thread comes in and goes, or knocks in vain.
+const KNOCKS: u32 = 200_000;
 
 /// How often a call is tried at most.
 const TRIES: u32 = 5_000_000;
@@ -88,13 +100,34 @@ fn read<S: Steps>(env: &mut Env<S>, array: Handle) -> Result<i64, Fault> {
     Err(Fault::Turns)
 }
 
+/// How a thread collects.
+#[derive(Clone, Copy)]
+enum How {
+    /// It announces nothing.
+    Plain,
+    /// It announces the collection, and has few tries to shut the gate.
+    Few,
+    /// It has many.
+    Many,
+}
+
+/// Collects, with a marker of its own.
+fn collect<S: Steps>(alloc: Global, env: &mut Env<S>, how: How) -> Result<Collected, Fault> {
+    let mut marker = Marker::new(alloc, env.held.steps.config())?;
+    match how {
+        How::Plain => env.collect(&mut marker),
+        How::Few => env.collect_announced(&mut marker, 8),
+        How::Many => env.collect_announced(&mut marker, 1000),
+    }
+}
+
 /// A new array, as soon as nobody collects and there is room; where there is none the thread collects itself.
-fn make<S: Steps>(alloc: Global, env: &mut Env<S>) -> Result<Handle, Fault> {
+fn make<S: Steps>(alloc: Global, env: &mut Env<S>, how: How) -> Result<Handle, Fault> {
     for _ in 0..TRIES {
         match env.new_array::<i64>(2) {
             Ok(array) => return Ok(array),
             Err(Fault::SpaceFull(_) | Fault::ObjectsFull) => {
-                let _ = collected(alloc, env);
+                let _ = collect(alloc, env, how);
             }
             Err(_) => thread::yield_now(),
         }
@@ -117,11 +150,12 @@ fn delete<S: Steps>(env: &mut Env<S>, array: Handle) -> Result<(), Fault> {
 fn replace<S: Steps>(
     alloc: Global,
     env: &mut Env<S>,
+    how: How,
     array: Handle,
     number: i64,
 ) -> Result<Handle, Fault> {
     write(env, array, number)?;
-    let next = make(alloc, env)?;
+    let next = make(alloc, env, how)?;
     if read(env, array)? != number {
         return Err(Fault::Value);
     }
@@ -130,12 +164,12 @@ fn replace<S: Steps>(
 }
 
 /// Replaces an array so often. How often what was written was read.
-fn replace_often<S: Steps + Drop>(alloc: Global, mut env: Env<S>, rounds: u32) -> u32 {
-    let Ok(mut array) = make(alloc, &mut env) else {
+fn replace_often<S: Steps>(alloc: Global, env: &mut Env<S>, how: How, rounds: u32) -> u32 {
+    let Ok(mut array) = make(alloc, env, how) else {
         return 0;
     };
     for done in 0..rounds {
-        match replace(alloc, &mut env, array, i64::from(done)) {
+        match replace(alloc, env, how, array, i64::from(done)) {
             Ok(next) => array = next,
             Err(_) => return done,
         }
@@ -143,14 +177,14 @@ fn replace_often<S: Steps + Drop>(alloc: Global, mut env: Env<S>, rounds: u32) -
     rounds
 }
 
-/// Collects so often.
-fn collect_often<S: Steps + Drop>(alloc: Global, mut env: Env<S>, collections: u32) -> u32 {
+/// Collects so often, and again where it gets no turn. How often it did.
+fn collect_often<S: Steps>(alloc: Global, env: &mut Env<S>, how: How, collections: u32) -> u32 {
     let mut done = 0;
     for _ in 0..TRIES {
         if done >= collections {
             break;
         }
-        match collected(alloc, &mut env) {
+        match collect(alloc, env, how) {
             Ok(_) => done += 1,
             Err(_) => thread::yield_now(),
         }
@@ -158,30 +192,148 @@ fn collect_often<S: Steps + Drop>(alloc: Global, mut env: Env<S>, collections: u
     done
 }
 
-#[test]
-fn four_threads_and_one_that_collects(rt: HostRuntime) -> Result<(), Fail> {
-    let (room, mut passes) = Room::<LAST>::open(rt.alloc(), FIVE)?;
+/// Comes in and goes, or knocks in vain, so often, and never waits in between. How often it did.
+fn knock_often<S: Steps>(env: &mut Env<S>, knocks: u32) -> u32 {
+    for done in 0..knocks {
+        match env.get_object_ref_type(Handle::NULL) {
+            Ok(0) | Err(Fault::Barred) => {}
+            _ => return done,
+        }
+    }
+    knocks
+}
+
+/// What a thread does, and how often.
+#[derive(Clone, Copy)]
+enum Job {
+    /// Makes, writes, reads and drops arrays, and collects so where there is no room.
+    Replace(How, u32),
+    /// Collects so.
+    Collect(How, u32),
+    /// Comes in and goes, or knocks, without a break.
+    Knock(u32),
+}
+
+impl Job {
+    /// How often it is to be done.
+    fn times(self) -> u32 {
+        match self {
+            Job::Replace(_, times) | Job::Collect(_, times) | Job::Knock(times) => times,
+        }
+    }
+
+    /// Does it. How often it was done.
+    fn work<S: Steps + Drop>(self, alloc: Global, mut env: Env<S>) -> u32 {
+        match self {
+            Job::Replace(how, times) => replace_often(alloc, &mut env, how, times),
+            Job::Collect(how, times) => collect_often(alloc, &mut env, how, times),
+            Job::Knock(times) => knock_often(&mut env, times),
+        }
+    }
+}
+
+/// Once all have ended, another thread collects, and the room is closed with the last of the passes: so many arrays of two elements stand, and no more.
+fn has_arrays(
+    rt: &impl Abort,
+    alloc: Global,
+    room: Room<LAST>,
+    passes: Vec<Pass>,
+    arrays: u32,
+) -> Result<(), Fail>
+    requires { All (λ p. IsOpened room.row p) passes.items }
+{
+    let mut passes = passes;
+    let mut env = next_env(&room, &mut passes)?;
+    let [cleared, _, used] = collected(alloc, &mut env)?;
+    let _pass = env.into_pass().into_pass();
+    assert_eq!(rt; (cleared, used / 2), (0, arrays));
+    let Some(pass) = passes.pop() else {
+        return Err("a thread has no pass")?;
+    };
+    let summary = Summary {
+        globals: 0,
+        weaks: 0,
+        live: arrays,
+        used,
+    };
+    assert_eq!(rt; room.close(pass).ok(), Some(summary));
+    Ok(())
+}
+
+/// Five threads do their jobs side by side, each as often as it is to. Then so many arrays stand.
+fn all_do<R: Threads + Wait + Abort>(
+    rt: &R,
+    alloc: Global,
+    jobs: [Job; 5],
+    arrays: u32,
+) -> Result<(), Fail> {
+    let (room, mut passes) = Room::<LAST>::open(alloc, SEVEN)?;
     let first = next_env(&room, &mut passes)?;
     let second = next_env(&room, &mut passes)?;
     let third = next_env(&room, &mut passes)?;
     let fourth = next_env(&room, &mut passes)?;
-    let collector = next_env(&room, &mut passes)?;
-    let alloc = rt.alloc();
-    let all = thread::scope(thread::scope_env(), &rt, |scope| {
-        let one = scope.spawn(move || replace_often(alloc, first, ROUNDS));
-        let two = scope.spawn(move || replace_often(alloc, second, ROUNDS));
-        let three = scope.spawn(move || replace_often(alloc, third, ROUNDS));
-        let four = scope.spawn(move || replace_often(alloc, fourth, ROUNDS));
-        let five = scope.spawn(move || collect_often(alloc, collector, COLLECTIONS));
+    let fifth = next_env(&room, &mut passes)?;
+    let [one, two, three, four, five] = jobs;
+    let done = thread::scope(thread::scope_env(), rt, |scope| {
+        let first = scope.spawn(move || one.work(alloc, first));
+        let second = scope.spawn(move || two.work(alloc, second));
+        let third = scope.spawn(move || three.work(alloc, third));
+        let fourth = scope.spawn(move || four.work(alloc, fourth));
+        let fifth = scope.spawn(move || five.work(alloc, fifth));
         [
-            one.map(|one| one.join(&rt)).ok(),
-            two.map(|two| two.join(&rt)).ok(),
-            three.map(|three| three.join(&rt)).ok(),
-            four.map(|four| four.join(&rt)).ok(),
-            five.map(|five| five.join(&rt)).ok(),
+            first.map(|it| it.join(rt)).ok(),
+            second.map(|it| it.join(rt)).ok(),
+            third.map(|it| it.join(rt)).ok(),
+            fourth.map(|it| it.join(rt)).ok(),
+            fifth.map(|it| it.join(rt)).ok(),
         ]
     });
-    let rounds = Some(ROUNDS);
-    assert_eq!(rt; all, [rounds, rounds, rounds, rounds, Some(COLLECTIONS)]);
-    Ok(())
+    let wanted = [one, two, three, four, five].map(|job| Some(job.times()));
+    assert_eq!(rt; done, wanted);
+    has_arrays(rt, alloc, room, passes, arrays)
+}
+
+/// Four threads make, write, read and drop arrays beside one that collects.
+#[test]
+fn four_threads_and_one_that_collects(rt: HostRuntime) -> Result<(), Fail> {
+    let replace = Job::Replace(How::Plain, ROUNDS);
+    let collect = Job::Collect(How::Plain, COLLECTIONS);
+    let jobs = [replace, replace, replace, replace, collect];
+    all_do(&rt, rt.alloc(), jobs, 4)
+}
+
+/// The same, where each collection is announced, also those of threads that find no room: each thread reads what it wrote, and each collection comes in.
+#[test]
+fn four_threads_and_one_that_announces(rt: HostRuntime) -> Result<(), Fail> {
+    let replace = Job::Replace(How::Few, ROUNDS);
+    let collect = Job::Collect(How::Many, ANNOUNCED);
+    let jobs = [replace, replace, replace, replace, collect];
+    all_do(&rt, rt.alloc(), jobs, 4)
+}
+
+/// One thread announces its collections and one doesn't, beside threads that make arrays.
+#[test]
+fn announced_collections_beside_plain_ones(rt: HostRuntime) -> Result<(), Fail> {
+    let jobs = [
+        Job::Replace(How::Plain, ROUNDS),
+        Job::Replace(How::Few, ROUNDS),
+        Job::Replace(How::Many, ROUNDS),
+        Job::Collect(How::Many, ANNOUNCED),
+        Job::Collect(How::Plain, COLLECTIONS),
+    ];
+    all_do(&rt, rt.alloc(), jobs, 3)
+}
+
+/// One thread comes in and goes, or knocks, without a break: announced collections come in nevertheless.
+#[test]
+fn announced_collections_beside_one_that_knocks(rt: HostRuntime) -> Result<(), Fail> {
+    let replace = Job::Replace(How::Few, ROUNDS);
+    let jobs = [
+        replace,
+        replace,
+        replace,
+        Job::Knock(KNOCKS),
+        Job::Collect(How::Many, ANNOUNCED),
+    ];
+    all_do(&rt, rt.alloc(), jobs, 3)
 }

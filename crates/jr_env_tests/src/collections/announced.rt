@@ -1,0 +1,445 @@
+//! Collections that are announced: what they do, what keeps them out, and what they keep out.
+ghost use Rattle.std.specs.Prelude.{◌≡◌, ◌≤◌, All, IfOk, IfSome};
+ghost use Rattle.jr_model.specs.declared.event.Role.TheVariants.{Outside};
+ghost use Rattle.jr_env.specs.Collections.{FitsRoom};
+ghost use Rattle.jr_env.specs.Envs.{IsOutside};
+ghost use Rattle.jr_rule.specs.Passes.{IsOpened};
+
+use super::envs::{LAST, global, has_elements, lone_env, next_env, sized, weak};
+use super::reached::is_cleared;
+use crate::envs::is_refused;
+use jr_env::Env;
+use jr_gate::{announce, enter};
+use jr_model::Mode;
+use jr_rule::{Left, Pass, Room, RoomSteps};
+use jr_steps::Steps;
+use jr_weak::{Collected, Marker};
+use jr_word::{Config, Fault, Handle};
+use std::alloc::Global;
+use std::process::Abort;
+use std::test::Fail;
+
+/// A room of four threads, with few words.
+const FOUR: Config = Config {
+    threads: 4,
+    slots: 4,
+    objects: 4,
+    words: 8,
+    locals: 16,
+};
+
+/// What a collection does with what `fill` makes.
+const OF_FILLED: Collected = Collected {
+    cleared: 1,
+    dropped: 1,
+    used: 2,
+};
+
+/// What the next collection does.
+const OF_NOTHING: Collected = Collected {
+    cleared: 0,
+    dropped: 0,
+    used: 2,
+};
+
+/// What a thread has made for a collection.
+#[derive(Clone, Copy, Drop)]
+struct Filled {
+    /// A global reference to an array of two elements, which stand behind three words of an array that no reference but a weak one names.
+    kept: Handle,
+    /// A weak reference to the one.
+    kept_weak: Handle,
+    /// A weak reference to the other.
+    gone_weak: Handle,
+}
+
+/// Makes two arrays, of which no reference but a weak one names the first.
+fn fill<S: Steps>(env: &mut Env<S>) -> Result<Filled, Fail>
+    ensures { IfOk result (λ _. IsOutside env.new) }
+{
+    let gone = env.new_array::<i32>(3)?;
+    let gone_weak = weak(env, gone)?;
+    let array = env.new_array::<i32>(2)?;
+    env.set_array_region(array, 0, &[5, -6])?;
+    let kept = global(env, array)?;
+    let kept_weak = weak(env, array)?;
+    env.delete_local_ref(array)?;
+    env.delete_local_ref(gone)?;
+    Ok(Filled {
+        kept,
+        kept_weak,
+        gone_weak,
+    })
+}
+
+/// A collection: announced, with so many tries, or else not announced.
+fn collection<S: Steps>(
+    env: &mut Env<S>,
+    marker: &mut Marker,
+    tries: Option<u32>,
+) -> Result<Collected, Fault>
+    requires room { FitsRoom marker.old env.old }
+    requires outside { IsOutside env.old }
+    requires tries { IfSome tries (λ n. 1 ≤ n) }
+    ensures room { FitsRoom marker.new env.new }
+    ensures outside { IsOutside env.new }
+{
+    match tries {
+        Some(tries) => env.collect_announced(marker, tries),
+        None => env.collect(marker),
+    }
+}
+
+/// Checks what a collection answers.
+fn collects<S: Steps>(
+    rt: &impl Abort,
+    env: &mut Env<S>,
+    marker: &mut Marker,
+    tries: Option<u32>,
+    wanted: Result<Collected, Fault>,
+)
+    requires room { FitsRoom marker.old env.old }
+    requires outside { IsOutside env.old }
+    requires tries { IfSome tries (λ n. 1 ≤ n) }
+    ensures room { FitsRoom marker.new env.new }
+    ensures outside { IsOutside env.new }
+{
+    assert_eq!(rt; collection(env, marker, tries), wanted);
+}
+
+/// Before a collection all stands, and five words are used.
+fn is_as_filled<S: Steps>(rt: &impl Abort, env: &mut Env<S>, filled: Filled)
+    ensures { IsOutside env.new }
+{
+    assert_eq!(rt;
+        env.is_same_object(filled.gone_weak, Handle::NULL),
+        Ok(false)
+    );
+    assert_eq!(rt; env.get_array_length(filled.gone_weak), Ok(3));
+    assert_eq!(rt; env.new_array::<i32>(6), Err(Fault::SpaceFull(5)));
+}
+
+/// Behind a collection the array that is reached has its elements, the weak reference to the other is to null, and all words but two are free.
+fn is_as_collected<S: Steps>(
+    rt: &impl Abort,
+    env: &mut Env<S>,
+    filled: Filled,
+) -> Result<(), Fail> {
+    has_elements(rt, env, filled.kept, &mut [7i32; 2], &[5, -6])?;
+    assert!(rt; env.is_same_object(filled.kept, filled.kept_weak)?);
+    is_cleared(rt, env, filled.gone_weak)?;
+    let all = env.new_array::<i32>(6)?;
+    has_elements(rt, env, all, &mut [7i32; 6], &[0; 6])?;
+    has_elements(rt, env, filled.kept, &mut [7i32; 2], &[5, -6])?;
+    assert_eq!(rt; env.new_array::<i32>(1), Err(Fault::SpaceFull(8)));
+    Ok(())
+}
+
+/// Collects twice, with one marker.
+fn clears_drops_and_moves<S: Steps>(
+    rt: &impl Abort,
+    alloc: Global,
+    env: &mut Env<S>,
+    tries: Option<u32>,
+) -> Result<(), Fail>
+    requires { IfSome tries (λ n. 1 ≤ n) }
+{
+    let filled = fill(env)?;
+    is_as_filled(rt, env, filled);
+    let mut marker = Marker::new(alloc, env.held.steps.config())?;
+    collects(rt, env, &mut marker, tries, Ok(OF_FILLED));
+    collects(rt, env, &mut marker, tries, Ok(OF_NOTHING));
+    is_as_collected(rt, env, filled)
+}
+
+/// Over plain words an announced collection of one try does what a collection does.
+#[test]
+fn plain_words_are_collected_as_unannounced(rt: HostRuntime) -> Result<(), Fail> {
+    let mut env = lone_env(rt.alloc(), sized(4, 8))?;
+    clears_drops_and_moves(&rt, rt.alloc(), &mut env, None)?;
+    let mut env = lone_env(rt.alloc(), sized(4, 8))?;
+    clears_drops_and_moves(&rt, rt.alloc(), &mut env, Some(1))
+}
+
+/// So it does in a room of which one thread makes calls.
+#[test]
+fn a_room_is_collected_as_unannounced(rt: HostRuntime) -> Result<(), Fail> {
+    let (room, mut passes) = Room::<LAST>::open(rt.alloc(), FOUR)?;
+    let mut env = next_env(&room, &mut passes)?;
+    clears_drops_and_moves(&rt, rt.alloc(), &mut env, None)?;
+    let (room, mut passes) = Room::<LAST>::open(rt.alloc(), FOUR)?;
+    let mut env = next_env(&room, &mut passes)?;
+    clears_drops_and_moves(&rt, rt.alloc(), &mut env, Some(1))
+}
+
+/// An announced collection gets no turn, in however many tries, since so many threads are inside. After each refusal another thread's calls go in, and find all as it was.
+fn gets_no_turn<S: Steps, T: Steps>(
+    rt: &impl Abort,
+    env: &mut Env<S>,
+    marker: &mut Marker,
+    inside: u32,
+    other: &mut Env<T>,
+    filled: Filled,
+)
+    requires room { FitsRoom marker.old env.old }
+    requires outside { IsOutside env.old }
+    ensures room { FitsRoom marker.new env.new }
+    ensures outside { IsOutside env.new }
+{
+    collects(rt, env, marker, Some(1), Err(Fault::Busy(inside)));
+    is_as_filled(rt, other, filled);
+    collects(rt, env, marker, Some(2), Err(Fault::Busy(inside)));
+    is_as_filled(rt, other, filled);
+    collects(rt, env, marker, Some(1000), Err(Fault::Busy(inside)));
+    is_as_filled(rt, other, filled);
+}
+
+/// While a thread's region stands, no other thread's announced collection gets its turn. Once it is released one does, with the marker that was refused.
+fn waits_for_a_region<S: Steps, T: Steps, U: Steps>(
+    rt: &impl Abort,
+    alloc: Global,
+    inside: &mut Env<S>,
+    env: &mut Env<T>,
+    other: &mut Env<U>,
+) -> Result<(), Fail> {
+    let filled = fill(env)?;
+    let mut marker = Marker::new(alloc, env.held.steps.config())?;
+    let mut region = inside.get_array_critical(filled.kept)?;
+    gets_no_turn(rt, env, &mut marker, 1, other, filled);
+    let read = region.get::<i32>(0, 1);
+    match region.release(Mode::Copy) {
+        None => {}
+        Some(_) => panic!(rt; "a level is left"),
+    }
+    assert_eq!(rt; read, Ok(-6));
+    collects(rt, env, &mut marker, Some(1000), Ok(OF_FILLED));
+    is_as_collected(rt, env, filled)
+}
+
+/// A region keeps announced collections out.
+#[test]
+fn a_region_bars_an_announced_collection(rt: HostRuntime) -> Result<(), Fail> {
+    let (room, mut passes) = Room::<LAST>::open(rt.alloc(), FOUR)?;
+    let mut inside = next_env(&room, &mut passes)?;
+    let mut other = next_env(&room, &mut passes)?;
+    let mut env = next_env(&room, &mut passes)?;
+    waits_for_a_region(&rt, rt.alloc(), &mut inside, &mut env, &mut other)
+}
+
+/// The steps over the last of the passes.
+fn next_steps<'a>(room: &'a Room<LAST>, passes: &mut Vec<Pass>) -> Result<RoomSteps<'a, LAST>, Fail>
+    requires { All (λ p. IsOpened room.now.row p) passes.old.items }
+    ensures others { All (λ p. IsOpened room.now.row p) passes.new.items }
+    ensures outside { IfOk result (λ s. s.role ≡ Outside) }
+{
+    match passes.pop() {
+        Some(pass) => Ok(RoomSteps::new(room, pass)),
+        None => Err("a thread has no pass")?,
+    }
+}
+
+/// While two threads are inside, each in a stay of its own, an announced collection finds both, and once one has left, the other. Once both have left it is made.
+fn waits_for_stays<S: Steps, T: Steps, U: Steps, V: Steps>(
+    rt: &impl Abort,
+    alloc: Global,
+    first: &mut S,
+    second: &mut T,
+    env: &mut Env<U>,
+    other: &mut Env<V>,
+) -> Result<(), Fail>
+    requires first { (S.facts first.old).stands.role ≡ Outside }
+    requires second { (T.facts second.old).stands.role ≡ Outside }
+{
+    let filled = fill(env)?;
+    let mut marker = Marker::new(alloc, env.held.steps.config())?;
+    let Ok(stay) = enter(first) else {
+        return Err("nobody keeps the gate closed")?;
+    };
+    gets_no_turn(rt, env, &mut marker, 1, other, filled);
+    match enter(second) {
+        Ok(stay) => {
+            gets_no_turn(rt, env, &mut marker, 2, other, filled);
+            stay.leave(second);
+        }
+        Err(_) => panic!(rt; "the announcement stands"),
+    }
+    gets_no_turn(rt, env, &mut marker, 1, other, filled);
+    stay.leave(first);
+    collects(rt, env, &mut marker, Some(1), Ok(OF_FILLED));
+    is_as_collected(rt, env, filled)
+}
+
+/// So do stays, by their number.
+#[test]
+fn stays_bar_an_announced_collection(rt: HostRuntime) -> Result<(), Fail> {
+    let (room, mut passes) = Room::<LAST>::open(rt.alloc(), FOUR)?;
+    let mut first = next_steps(&room, &mut passes)?;
+    let mut second = next_steps(&room, &mut passes)?;
+    let mut other = next_env(&room, &mut passes)?;
+    let mut env = next_env(&room, &mut passes)?;
+    waits_for_stays(
+        &rt,
+        rt.alloc(),
+        &mut first,
+        &mut second,
+        &mut env,
+        &mut other,
+    )
+}
+
+/// No collection is made, announced or not: so many threads are inside, knocking, announcing or collecting.
+fn is_kept_out<S: Steps>(rt: &impl Abort, env: &mut Env<S>, marker: &mut Marker, count: u32)
+    requires room { FitsRoom marker.old env.old }
+    requires outside { IsOutside env.old }
+    ensures room { FitsRoom marker.new env.new }
+    ensures outside { IsOutside env.new }
+{
+    collects(rt, env, marker, Some(1), Err(Fault::Busy(count)));
+    collects(rt, env, marker, Some(1000), Err(Fault::Busy(count)));
+    collects(rt, env, marker, None, Err(Fault::Busy(count)));
+}
+
+/// Each call on references that goes in is barred.
+fn bars_references<S: Steps>(rt: &impl Abort, env: &mut Env<S>, word: Handle) {
+    let barred = Some(Fault::Barred);
+    is_refused(rt, env.new_global_ref(word), barred);
+    is_refused(rt, env.new_weak_global_ref(word), barred);
+    is_refused(rt, env.new_local_ref(word), barred);
+    is_refused(rt, env.delete_global_ref(word), barred);
+    is_refused(rt, env.delete_weak_global_ref(word), barred);
+    is_refused(rt, env.delete_local_ref(word), barred);
+    is_refused(rt, env.is_same_object(word, word), barred);
+    is_refused(rt, env.get_object_ref_type(word), barred);
+    is_refused(rt, env.pop_local_frame(word), barred);
+    is_refused(rt, env.free_locals(), barred);
+}
+
+/// Each call on objects that goes in is barred.
+fn bars_objects<S: Steps>(rt: &impl Abort, alloc: Global, env: &mut Env<S>, word: Handle) {
+    let barred = Some(Fault::Barred);
+    is_refused(rt, env.new_plain(), barred);
+    is_refused(rt, env.new_array::<i32>(1), barred);
+    is_refused(rt, env.new_object_array(1, word), barred);
+    is_refused(rt, env.new_string(&[104]), barred);
+    is_refused(rt, env.kind_of(word), barred);
+    is_refused(rt, env.get_array_length(word), barred);
+    is_refused(rt, env.get_string_length(word), barred);
+    is_refused(rt, env.get_array_region(word, 0, &mut [0i32]), barred);
+    is_refused(rt, env.set_array_region(word, 0, &[0i32]), barred);
+    is_refused(rt, env.get_object_array_element(word, 0), barred);
+    is_refused(rt, env.set_object_array_element(word, 0, word), barred);
+    is_refused(rt, env.get_array_elements::<i32>(alloc, word), barred);
+    is_refused(rt, env.get_string_chars(alloc, word), barred);
+    match env.get_array_critical(word) {
+        Ok(_) => panic!(rt; "a region is opened"),
+        Err(fault) => assert_eq!(rt; Some(fault), barred),
+    }
+    match env.get_string_critical(word) {
+        Ok(_) => panic!(rt; "a region is opened"),
+        Err(fault) => assert_eq!(rt; Some(fault), barred),
+    }
+}
+
+/// While a thread announces, first beside one that is inside, and then alone, no other collects, and no call goes in. Once it has taken the announcement back, calls go in and find all as it was, and the other collects.
+fn is_barred_by_who_announces<S: Steps, T: Steps, U: Steps, V: Steps>(
+    rt: &impl Abort,
+    alloc: Global,
+    first: &mut S,
+    second: &mut T,
+    env: &mut Env<U>,
+    other: &mut Env<V>,
+) -> Result<(), Fail>
+    requires first { (S.facts first.old).stands.role ≡ Outside }
+    requires second { (T.facts second.old).stands.role ≡ Outside }
+{
+    let filled = fill(env)?;
+    let mut marker = Marker::new(alloc, env.held.steps.config())?;
+    let Ok(stay) = enter(first) else {
+        return Err("nobody keeps the gate closed")?;
+    };
+    match announce(second) {
+        Ok(announced) => {
+            is_kept_out(rt, env, &mut marker, 2);
+            stay.leave(first);
+            is_kept_out(rt, env, &mut marker, 1);
+            bars_references(rt, other, filled.kept);
+            bars_objects(rt, alloc, other, filled.kept);
+            announced.cancel(second);
+        }
+        Err(_) => panic!(rt; "nobody keeps the gate closed"),
+    }
+    is_as_filled(rt, other, filled);
+    collects(rt, env, &mut marker, Some(1), Ok(OF_FILLED));
+    is_as_collected(rt, env, filled)
+}
+
+/// One thread announces at a time, and from then on no other goes in.
+#[test]
+fn an_announcement_bars_calls_and_collections(rt: HostRuntime) -> Result<(), Fail> {
+    let (room, mut passes) = Room::<LAST>::open(rt.alloc(), FOUR)?;
+    let mut first = next_steps(&room, &mut passes)?;
+    let mut second = next_steps(&room, &mut passes)?;
+    let mut other = next_env(&room, &mut passes)?;
+    let mut env = next_env(&room, &mut passes)?;
+    is_barred_by_who_announces(
+        &rt,
+        rt.alloc(),
+        &mut first,
+        &mut second,
+        &mut env,
+        &mut other,
+    )
+}
+
+/// The steps of a thread are dropped while it announces.
+fn drop_while_announcing<S: Steps + Drop>(steps: S) -> Result<(), Fail>
+    requires { (S.facts steps).stands.role ≡ Outside }
+{
+    let mut steps = steps;
+    let Ok(()) = steps.announce(0) else {
+        return Err("nobody is inside")?;
+    };
+    drop(steps);
+    Ok(())
+}
+
+/// No call goes in any more, and no collection is made.
+fn is_barred_for_good<S: Steps>(
+    rt: &impl Abort,
+    alloc: Global,
+    env: &mut Env<S>,
+    word: Handle,
+) -> Result<(), Fail>
+    requires { IsOutside env.old }
+{
+    let mut marker = Marker::new(alloc, env.held.steps.config())?;
+    is_kept_out(rt, env, &mut marker, 1);
+    bars_references(rt, env, word);
+    bars_objects(rt, alloc, env, word);
+    Ok(())
+}
+
+/// Where a thread's pass is dropped while it announces, entries are barred for good, and the room is not closed any more: who announced is counted.
+#[test]
+fn a_pass_dropped_while_announcing_bars_all_calls(rt: HostRuntime) -> Result<(), Fail> {
+    let (room, mut passes) = Room::<LAST>::open(rt.alloc(), FOUR)?;
+    let dropped = next_steps(&room, &mut passes)?;
+    let mut env = next_env(&room, &mut passes)?;
+    let filled = fill(&mut env)?;
+    drop_while_announcing(dropped)?;
+    is_barred_for_good(&rt, rt.alloc(), &mut env, filled.kept)?;
+    let _pass = env.into_pass().into_pass();
+    let Some(pass) = passes.pop() else {
+        return Err("a thread has no pass")?;
+    };
+    let Err(left) = room.close(pass) else {
+        return Err("a thread announces")?;
+    };
+    let Left { room, pass, fault } = left;
+    assert_eq!(rt; fault, Fault::LeftInside(1));
+    let Err(left) = room.close(pass) else {
+        return Err("a thread announces")?;
+    };
+    assert_eq!(rt; left.fault, Fault::LeftInside(1));
+    Ok(())
+}
