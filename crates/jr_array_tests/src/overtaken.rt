@@ -1,16 +1,18 @@
-//! A thread that another overtakes, between a look and an exchange of its own. Here the other reserves words each time, between the look at the top and the exchange.
-ghost use Rattle.std.specs.Prelude.{All};
+//! A thread that another overtakes each time, between its look at a word and its exchange: at the top, where the other reserves words, and at the gate, where it goes in or out, or announces.
+ghost use Rattle.std.specs.Prelude.{◌≡◌, All, IfOk};
+ghost use Rattle.jr_model.specs.declared.event.Role.TheVariants.{Outside};
 ghost use Rattle.jr_rule.specs.Passes.{IsOpened};
 
 use crate::envs::{LAST, env_of, refuses};
 use crate::sharing::{closed, next_env};
 use jr_env::Env;
+use jr_gate::announce;
 use jr_model::Summary;
 use jr_rule::{Pass, Room, RoomSteps};
 use jr_steps::{GateLoad, Role, SlotLoad, Steps, TopLoad};
 use jr_word::{
-    Config, Elem, Fault, GateParts, Handle, HandleParts, HeaderParts, LocalParts, RefKind,
-    SlotParts,
+    Config, Elem, Fault, GateParts, GateState, Handle, HandleParts, HeaderParts, LocalParts,
+    RefKind, SlotParts,
 };
 use std::process::Abort;
 use std::test::Fail;
@@ -27,36 +29,59 @@ const SMALL: Config = Config {
 /// Local, of thread 1, with serial 0 at the first place.
 const FIRST: Handle = Handle(0x4_0000_0000_0001);
 
-/// The step before which another thread acts.
-#[derive(Clone, Copy, PartialEq, Eq)]
-pub(crate) enum Before {
-    /// The exchange of the top.
-    Reservation,
-    /// The exchange that announces that the gate will be shut.
-    Announcement,
-    /// The exchange that shuts it, as announced.
-    Shut,
-}
-
-/// What another thread does before a step of a thread.
-pub(crate) trait Meanwhile {
-    fn act(&mut self, before: Before);
+/// What another thread does between two steps of a thread.
+trait Meanwhile {
+    fn act(&mut self);
 }
 
 /// It makes an array of one element.
 impl<U: Steps> Meanwhile for Env<U> {
-    fn act(&mut self, before: Before) {
-        if before == Before::Reservation {
-            let _ = self.new_array::<i32>(1);
+    fn act(&mut self) {
+        let _ = self.new_array::<i32>(1);
+    }
+}
+
+/// A thread that goes in and out by turns.
+#[derive(Drop)]
+struct Visitor<S: Steps> {
+    steps: S,
+}
+
+impl<U: Steps> Meanwhile for Visitor<U> {
+    fn act(&mut self) {
+        match self.steps.role() {
+            Role::Outside => {
+                self.steps.go_in();
+            }
+            Role::Within => self.steps.go_out(),
+            _ => {}
         }
     }
 }
 
-/// The steps of a thread. Before each exchange of the top, each announcement and each shut that was announced another thread acts.
+/// A thread that announces that it will shut the gate, which nobody may be in, and takes that back, by turns.
 #[derive(Drop)]
-pub(crate) struct Overtaken<S: Steps, M: Meanwhile> {
-    pub(crate) steps: S,
-    pub(crate) other: M,
+struct Rival<S: Steps> {
+    steps: S,
+}
+
+impl<U: Steps> Meanwhile for Rival<U> {
+    fn act(&mut self) {
+        match self.steps.role() {
+            Role::Outside => {
+                let _ = self.steps.announce(0);
+            }
+            Role::Announcing => self.steps.cancel(),
+            _ => {}
+        }
+    }
+}
+
+/// The steps of a thread. Before each exchange of the top, and before each that announces, another thread acts.
+#[derive(Drop)]
+struct Overtaken<S: Steps, M: Meanwhile> {
+    steps: S,
+    other: M,
 }
 
 impl<S: Steps, M: Meanwhile> Steps for Overtaken<S, M> {
@@ -107,7 +132,7 @@ impl<S: Steps, M: Meanwhile> Steps for Overtaken<S, M> {
     }
 
     fn announce(&mut self, looked: u16) -> Result<(), GateParts> {
-        self.other.act(Before::Announcement);
+        self.other.act();
         self.steps.announce(looked)
     }
 
@@ -116,7 +141,6 @@ impl<S: Steps, M: Meanwhile> Steps for Overtaken<S, M> {
     }
 
     fn bar_announced(&mut self) -> Result<(), u32> {
-        self.other.act(Before::Shut);
         self.steps.bar_announced()
     }
 
@@ -163,7 +187,7 @@ impl<S: Steps, M: Meanwhile> Steps for Overtaken<S, M> {
     }
 
     fn claim_top(&mut self, looked: u32, more: u32) -> Result<(), u32> {
-        self.other.act(Before::Reservation);
+        self.other.act();
         self.steps.claim_top(looked, more)
     }
 
@@ -247,8 +271,23 @@ impl<S: Steps, M: Meanwhile> Steps for Overtaken<S, M> {
     ghost below = { λ s. S.below s.steps };
 }
 
+/// The steps over the next pass.
+fn steps_over_next<'a>(
+    room: &'a Room<LAST>,
+    passes: &mut Vec<Pass>,
+) -> Result<RoomSteps<'a, LAST>, Fail>
+    requires { All (λ p. IsOpened room.now.row p) passes.old.items }
+    ensures others { All (λ p. IsOpened room.now.row p) passes.new.items }
+    ensures outside { IfOk result (λ s. s.role ≡ Outside) }
+{
+    match passes.pop() {
+        Some(pass) => Ok(RoomSteps::new(room, pass)),
+        None => Err("a thread has no pass")?,
+    }
+}
+
 /// The env over the next pass, which another thread overtakes.
-pub(crate) fn next_overtaken<'a, M: Meanwhile + Drop>(
+fn next_overtaken<'a, M: Meanwhile + Drop>(
     room: &'a Room<LAST>,
     passes: &mut Vec<Pass>,
     other: M,
@@ -256,13 +295,8 @@ pub(crate) fn next_overtaken<'a, M: Meanwhile + Drop>(
     requires { All (λ p. IsOpened room.now.row p) passes.old.items }
     ensures { All (λ p. IsOpened room.now.row p) passes.new.items }
 {
-    match passes.pop() {
-        Some(pass) => env_of(Overtaken {
-            steps: RoomSteps::new(room, pass),
-            other,
-        }),
-        None => Err("a thread has no pass")?,
-    }
+    let steps = steps_over_next(room, passes)?;
+    env_of(Overtaken { steps, other })
 }
 
 /// Each call that reserves words is refused with E12, as another thread reserved one more each time. It has left no local reference.
@@ -296,5 +330,69 @@ fn another_thread_is_always_faster(rt: HostRuntime) -> Result<(), Fail> {
         used: 3,
     };
     assert_eq!(rt; closed(room, passes), Some(summary));
+    Ok(())
+}
+
+/// Why an announcement is refused, if it is. It is taken back at once.
+fn is_not_announced<S: Steps>(steps: &mut S) -> Option<Fault>
+    requires { (S.facts steps.old).stands.role ≡ Outside }
+    ensures { (S.facts steps.new).stands ≡ (S.facts steps.old).stands }
+{
+    match announce(steps) {
+        Ok(announced) => {
+            announced.cancel(steps);
+            None
+        }
+        Err(fault) => Some(fault),
+    }
+}
+
+/// An announcement is refused with E23 where another thread came in between, and where it left, and nothing changes: the thread stands outside, and the gate is open.
+fn is_moved<S: Steps>(rt: &impl Abort, steps: &mut S)
+    requires { (S.facts steps.old).stands.role ≡ Outside }
+{
+    assert_eq!(rt; is_not_announced(steps), Some(Fault::Moved(0, 1)));
+    assert_eq!(rt; is_not_announced(steps), Some(Fault::Moved(1, 0)));
+    assert_eq!(rt; is_not_announced(steps), Some(Fault::Moved(0, 1)));
+    assert_eq!(rt; steps.role(), Role::Outside);
+    let found = GateParts {
+        count: 1,
+        state: GateState::Open,
+    };
+    assert_eq!(rt; steps.see_gate(GateLoad::Meet), found);
+}
+
+#[test]
+fn another_thread_goes_in_or_out_first(rt: HostRuntime) -> Result<(), Fail> {
+    let (room, mut passes) = Room::<LAST>::open(rt.alloc(), SMALL)?;
+    let steps = steps_over_next(&room, &mut passes)?;
+    let other = Visitor {
+        steps: steps_over_next(&room, &mut passes)?,
+    };
+    let mut overtaken = Overtaken { steps, other };
+    is_moved(&rt, &mut overtaken);
+    Ok(())
+}
+
+/// An announcement is refused with E14 where another thread announced in between, and so is the next, which looks alone: the other would take its own back before the exchange.
+fn comes_too_late<S: Steps>(rt: &impl Abort, steps: &mut S)
+    requires { (S.facts steps.old).stands.role ≡ Outside }
+    ensures { (S.facts steps.new).stands ≡ (S.facts steps.old).stands }
+{
+    assert_eq!(rt; is_not_announced(steps), Some(Fault::Busy(1)));
+    assert_eq!(rt; is_not_announced(steps), Some(Fault::Busy(1)));
+    assert_eq!(rt; steps.role(), Role::Outside);
+}
+
+#[test]
+fn another_thread_announces_first(rt: HostRuntime) -> Result<(), Fail> {
+    let (room, mut passes) = Room::<LAST>::open(rt.alloc(), SMALL)?;
+    let steps = steps_over_next(&room, &mut passes)?;
+    let other = Rival {
+        steps: steps_over_next(&room, &mut passes)?,
+    };
+    let mut overtaken = Overtaken { steps, other };
+    comes_too_late(&rt, &mut overtaken);
+    assert_eq!(rt; overtaken.other.steps.role(), Role::Announcing);
     Ok(())
 }

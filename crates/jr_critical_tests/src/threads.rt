@@ -1,12 +1,13 @@
-//! Regions of threads of one room, and collections beside them.
+//! Regions of threads of one room, and collections beside them, announced or not.
 ghost use Rattle.std.specs.Prelude.{All};
+ghost use Rattle.jr_gate.specs.Stays.{IsOwnAnnouncement};
 ghost use Rattle.jr_rule.specs.Passes.{IsOpened};
 
 use crate::at_a_level::{give_up, has, nests_array, nests_string, put};
 use crate::envs::{LAST, ONES, OWN, TWO, global, has_elements, is_outside, next_env};
 use crate::refused::{opens_array, opens_string};
 use jr_env::{Env, Region};
-use jr_gate::shut_gate;
+use jr_gate::{Announced, announce, shut_gate};
 use jr_model::Mode;
 use jr_rule::{Pass, Room, RoomSteps};
 use jr_steps::{Role, Steps};
@@ -117,6 +118,66 @@ fn a_region_and_a_collection_exclude_each_other(rt: HostRuntime) -> Result<(), F
     let mut env = next_env(&room, &mut passes)?;
     bars_collections(&rt, &mut env, &mut other)?;
     is_barred(&rt, &mut env, &mut other)
+}
+
+/// The gate is not shut, as announced, since one other thread is inside. The announcement is handed back.
+fn is_kept_waiting<S: Steps>(rt: &impl Abort, steps: &mut S, announced: Announced) -> Announced
+    requires { IsOwnAnnouncement announced (S.facts steps.old).stands }
+    ensures { IsOwnAnnouncement result (S.facts steps.new).stands }
+{
+    match announced.shut(steps) {
+        Ok(_) => panic!(rt; "a region stands"),
+        Err((announced, fault)) => {
+            assert!(rt; fault == Fault::Busy(1));
+            announced
+        }
+    }
+}
+
+/// A region that stands goes on once another thread has announced that it will shut the gate: a level is added, and elements are read and written at both. The gate is not shut before the region has ended, and no other region is opened before it is open again.
+fn goes_on_while_announced<S: Steps, T: Steps>(
+    rt: &impl Abort,
+    env: &mut Env<S>,
+    other: &mut T,
+) -> Result<(), Fail> {
+    let array = env.new_array::<i32>(2)?;
+    let nested = env.new_array::<i64>(1)?;
+    let Role::Outside = other.role() else {
+        panic!(rt; "the thread is inside")
+    };
+    let mut region = env.get_array_critical(array)?;
+    let announced = match announce(other) {
+        Ok(announced) => announced,
+        Err(_) => panic!(rt; "nobody keeps the gate closed"),
+    };
+    let announced = is_kept_waiting(rt, other, announced);
+    nests_array(rt, &mut region, nested, Ok(1));
+    put(rt, &mut region, 0, 1, -20);
+    put(rt, &mut region, 1, 0, i64::MIN);
+    has(rt, &mut region, 0, 1, -20);
+    has(rt, &mut region, 1, 0, i64::MIN);
+    let announced = is_kept_waiting(rt, other, announced);
+    let region = give_up(rt, region, Mode::Copy);
+    let announced = is_kept_waiting(rt, other, announced);
+    match region.release(Mode::Copy) {
+        None => {}
+        Some(_) => panic!(rt; "a level is left"),
+    }
+    opens_array(rt, env, array, Some(Fault::Barred));
+    match announced.shut(other) {
+        Ok(collection) => collection.reopen(other),
+        Err(_) => panic!(rt; "nobody is inside"),
+    }
+    has_elements(rt, env, array, &mut [7; 2], &[0, -20])?;
+    has_elements(rt, env, nested, &mut [7i64], &[i64::MIN])
+}
+
+#[test]
+fn a_region_goes_on_while_a_collection_is_announced(rt: HostRuntime) -> Result<(), Fail> {
+    let (room, mut passes) = Room::<LAST>::open(rt.alloc(), TWO)?;
+    let mut other = next_steps(&room, &mut passes)?;
+    let mut env = next_env(&room, &mut passes)?;
+    goes_on_while_announced(&rt, &mut env, &mut other)
 }
 
 /// A second thread's region over the array of a region that stands: each reads what was written in the other, and a third thread that would collect finds two threads inside.

@@ -24,7 +24,7 @@ const SMALL: Config = Config {
 };
 
 /// What a room has in which nothing stands.
-const NOTHING: Summary = Summary {
+pub(crate) const NOTHING: Summary = Summary {
     globals: 0,
     weaks: 0,
     live: 0,
@@ -32,10 +32,10 @@ const NOTHING: Summary = Summary {
 };
 
 /// How often a thread enters and leaves.
-const STAYS: u32 = 10_000;
+pub(crate) const STAYS: u32 = 10_000;
 
 /// How often a thread tries at most.
-const TRIES: u32 = 5_000_000;
+pub(crate) const TRIES: u32 = 5_000_000;
 
 /// How often a thread collects.
 const COLLECTIONS: u32 = 10_000;
@@ -53,14 +53,14 @@ fn opened(alloc: Global) -> Result<(Room<2>, Pass, Pass, Pass, Pass), Fail>
 }
 
 /// The word of the gate.
-fn gate_word<S: Steps>(steps: &mut S) -> u64
+pub(crate) fn gate_word<S: Steps>(steps: &mut S) -> u64
     ensures { (S.facts steps.new).stands ≡ (S.facts steps.old).stands }
 {
     GateWord::pack(steps.see_gate(GateLoad::Meet)).0
 }
 
 /// Why an entry is refused, if it is. It is ended at once.
-fn entry_refused<S: Steps>(steps: &mut S) -> Option<Fault>
+pub(crate) fn entry_refused<S: Steps>(steps: &mut S) -> Option<Fault>
     requires { (S.facts steps.old).stands.role ≡ Outside }
     ensures { (S.facts steps.new).stands ≡ (S.facts steps.old).stands }
 {
@@ -74,7 +74,7 @@ fn entry_refused<S: Steps>(steps: &mut S) -> Option<Fault>
 }
 
 /// Why a collection is refused, if it is. It is ended at once.
-fn shut_refused<S: Steps>(steps: &mut S) -> Option<Fault>
+pub(crate) fn shut_refused<S: Steps>(steps: &mut S) -> Option<Fault>
     requires { (S.facts steps.old).stands.role ≡ Outside }
     ensures { (S.facts steps.new).stands ≡ (S.facts steps.old).stands }
 {
@@ -162,7 +162,7 @@ fn a_stay_and_a_collection_exclude_each_other(rt: HostRuntime) -> Result<(), Fai
 }
 
 /// Enters and leaves so often, or until it has tried so often. How often it was inside.
-fn stay_often<S: Steps>(steps: &mut S, stays: u32, tries: u32) -> u32 {
+pub(crate) fn stay_often<S: Steps>(steps: &mut S, stays: u32, tries: u32) -> u32 {
     let mut done = 0;
     for _ in 0..tries {
         if done >= stays || steps.role() != Role::Outside {

@@ -2,6 +2,8 @@
 #![tactic(auto)]
 
 #[cfg(test)]
+mod announced;
+#[cfg(test)]
 mod compact;
 #[cfg(test)]
 mod gate;

@@ -1,2 +1,3 @@
 mod Claimable
 mod Emptying
+mod Reopening

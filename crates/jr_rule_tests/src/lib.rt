@@ -2,6 +2,8 @@
 #![tactic(auto)]
 
 #[cfg(test)]
+mod announcing;
+#[cfg(test)]
 mod closing;
 #[cfg(test)]
 mod collect;

@@ -57,7 +57,7 @@ pub(crate) const NOTHING: Summary = Summary {
 };
 
 /// The gate with so many threads inside.
-fn open_gate(count: u16) -> GateParts {
+pub(crate) fn open_gate(count: u16) -> GateParts {
     GateParts {
         count,
         state: GateState::Open,
@@ -77,7 +77,7 @@ pub(crate) fn last_of(_room: &Room<2>, passes: &mut Vec<Pass>) -> Result<Pass, F
 }
 
 /// A room, and the passes of threads 0, 1 and 2.
-fn opened(alloc: Global) -> Result<(Room<2>, Pass, Pass, Pass), Fail>
+pub(crate) fn opened(alloc: Global) -> Result<(Room<2>, Pass, Pass, Pass), Fail>
     ensures passes { IfOk result (λ r. IsOpened r.0.row r.1 × IsOpened r.0.row r.2 × IsOpened r.0.row r.3) }
     ensures sizes { IfOk result (λ r. (r.0.row.config.slots ≡ 2) × (r.0.row.config.objects ≡ 2) × (r.0.row.config.locals ≡ 16)) }
 {
