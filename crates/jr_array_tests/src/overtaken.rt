@@ -29,15 +29,28 @@ const SMALL: Config = Config {
 /// Local, of thread 1, with serial 0 at the first place.
 const FIRST: Handle = Handle(0x4_0000_0000_0001);
 
-/// What another thread does between two steps of a thread.
-trait Meanwhile {
-    fn act(&mut self);
+/// The step before which another thread acts.
+#[derive(Clone, Copy, PartialEq, Eq)]
+pub(crate) enum Before {
+    /// The exchange of the top.
+    Reservation,
+    /// The exchange that announces that the gate will be shut.
+    Announcement,
+    /// The exchange that shuts it, as announced.
+    Shut,
+}
+
+/// What another thread does before a step of a thread.
+pub(crate) trait Meanwhile {
+    fn act(&mut self, before: Before);
 }
 
 /// It makes an array of one element.
 impl<U: Steps> Meanwhile for Env<U> {
-    fn act(&mut self) {
-        let _ = self.new_array::<i32>(1);
+    fn act(&mut self, before: Before) {
+        if before == Before::Reservation {
+            let _ = self.new_array::<i32>(1);
+        }
     }
 }
 
@@ -48,12 +61,12 @@ struct Visitor<S: Steps> {
 }
 
 impl<U: Steps> Meanwhile for Visitor<U> {
-    fn act(&mut self) {
-        match self.steps.role() {
-            Role::Outside => {
+    fn act(&mut self, before: Before) {
+        match (before, self.steps.role()) {
+            (Before::Announcement, Role::Outside) => {
                 self.steps.go_in();
             }
-            Role::Within => self.steps.go_out(),
+            (Before::Announcement, Role::Within) => self.steps.go_out(),
             _ => {}
         }
     }
@@ -66,22 +79,22 @@ struct Rival<S: Steps> {
 }
 
 impl<U: Steps> Meanwhile for Rival<U> {
-    fn act(&mut self) {
-        match self.steps.role() {
-            Role::Outside => {
+    fn act(&mut self, before: Before) {
+        match (before, self.steps.role()) {
+            (Before::Announcement, Role::Outside) => {
                 let _ = self.steps.announce(0);
             }
-            Role::Announcing => self.steps.cancel(),
+            (Before::Announcement, Role::Announcing) => self.steps.cancel(),
             _ => {}
         }
     }
 }
 
-/// The steps of a thread. Before each exchange of the top, and before each that announces, another thread acts.
+/// The steps of a thread. Before each exchange of the top, each announcement and each shut that was announced another thread acts.
 #[derive(Drop)]
-struct Overtaken<S: Steps, M: Meanwhile> {
-    steps: S,
-    other: M,
+pub(crate) struct Overtaken<S: Steps, M: Meanwhile> {
+    pub(crate) steps: S,
+    pub(crate) other: M,
 }
 
 impl<S: Steps, M: Meanwhile> Steps for Overtaken<S, M> {
@@ -132,7 +145,7 @@ impl<S: Steps, M: Meanwhile> Steps for Overtaken<S, M> {
     }
 
     fn announce(&mut self, looked: u16) -> Result<(), GateParts> {
-        self.other.act();
+        self.other.act(Before::Announcement);
         self.steps.announce(looked)
     }
 
@@ -141,6 +154,7 @@ impl<S: Steps, M: Meanwhile> Steps for Overtaken<S, M> {
     }
 
     fn bar_announced(&mut self) -> Result<(), u32> {
+        self.other.act(Before::Shut);
         self.steps.bar_announced()
     }
 
@@ -187,7 +201,7 @@ impl<S: Steps, M: Meanwhile> Steps for Overtaken<S, M> {
     }
 
     fn claim_top(&mut self, looked: u32, more: u32) -> Result<(), u32> {
-        self.other.act();
+        self.other.act(Before::Reservation);
         self.steps.claim_top(looked, more)
     }
 
@@ -287,7 +301,7 @@ fn steps_over_next<'a>(
 }
 
 /// The env over the next pass, which another thread overtakes.
-fn next_overtaken<'a, M: Meanwhile + Drop>(
+pub(crate) fn next_overtaken<'a, M: Meanwhile + Drop>(
     room: &'a Room<LAST>,
     passes: &mut Vec<Pass>,
     other: M,
