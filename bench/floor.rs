@@ -6,7 +6,10 @@ use std::hint::black_box;
 use std::sync::atomic::{AtomicU64, Ordering::SeqCst};
 use std::time::{Duration, Instant};
 
+// What the gate's word has where it is shut, and where it is announced that it will be.
 const SHUT: u64 = 1 << 16;
+const ANNOUNCED: u64 = 1 << 17;
+const CLOSED: u64 = SHUT | ANNOUNCED;
 const SLOTS: usize = 65_536;
 const OBJECTS: u64 = 65_535;
 const WORDS: u64 = 131_072;
@@ -159,7 +162,7 @@ impl Env<'_> {
     /// The entry, the work, and the exit.
     #[inline(always)]
     fn call(&mut self, work: impl FnOnce(&mut Self) -> u64) -> u64 {
-        if self.room.gate().fetch_add(1, SeqCst) & SHUT != 0 {
+        if self.room.gate().fetch_add(1, SeqCst) & CLOSED != 0 {
             self.room.gate().fetch_sub(1, SeqCst);
             return BARRED;
         }
@@ -386,7 +389,7 @@ impl Env<'_> {
     /// Enters the gate, and stays there with the array as the first level.
     #[inline(always)]
     fn open(&mut self, array: u64) -> Result<Levels, u64> {
-        if self.room.gate().fetch_add(1, SeqCst) & SHUT != 0 {
+        if self.room.gate().fetch_add(1, SeqCst) & CLOSED != 0 {
             self.room.gate().fetch_sub(1, SeqCst);
             return Err(BARRED);
         }
@@ -957,6 +960,9 @@ struct FullRoom {
 /// How many local places the thread of a full room has.
 const FEW_PLACES: usize = 16;
 
+/// How often an announced collection tries to shut the gate.
+const SHUT_TRIES: u32 = 100_000;
+
 impl FullRoom {
     /// A room of so many arrays, of which one in so many is not reached, and how many are. Its words are stored in the order in which calls store them, and the buffers are made behind them, so that the collection finds in the caches what the product's does.
     fn new(arrays: usize, every: usize) -> (FullRoom, usize) {
@@ -1075,10 +1081,31 @@ impl FullRoom {
         self.word(1).store(used as u64, SeqCst);
         used
     }
-    /// A collection: how many weak references it cleared, how many arrays it dropped, and how many words are used then.
+    /// Shuts the gate where nobody is inside.
+    fn is_shut(&self) -> bool {
+        self.word(0).compare_exchange(0, SHUT, SeqCst, SeqCst).is_ok()
+    }
+    /// Announces that the gate will be shut, and shuts it once nobody is inside.
+    fn is_shut_announced(&self) -> bool {
+        let looked = self.word(0).load(SeqCst);
+        if looked & CLOSED != 0 || self.word(0).compare_exchange(looked, looked | ANNOUNCED, SeqCst, SeqCst).is_err() {
+            return false;
+        }
+        for _ in 0..SHUT_TRIES {
+            if self.word(0).compare_exchange(ANNOUNCED, SHUT, SeqCst, SeqCst).is_ok() {
+                return true;
+            }
+        }
+        self.word(0).fetch_sub(ANNOUNCED, SeqCst);
+        false
+    }
+    /// A collection, announced or not: how many weak references it cleared, how many arrays it dropped, and how many words are used then.
     #[inline(never)]
-    fn collect(&mut self) -> Option<(u32, usize, usize)> {
-        self.word(0).compare_exchange(0, SHUT, SeqCst, SeqCst).ok()?;
+    fn collect(&mut self, is_announced: bool) -> Option<(u32, usize, usize)> {
+        let is_shut = if is_announced { self.is_shut_announced() } else { self.is_shut() };
+        if !is_shut {
+            return None;
+        }
         let count = self.mark();
         let (cleared, dropped) = (self.clear_weak(), self.drop_unreached());
         let used = self.compact(count);
@@ -1088,10 +1115,10 @@ impl FullRoom {
 }
 
 /// How long a collection took, in tenths of nanoseconds.
-fn time_of_collection(arrays: usize, every: usize) -> Option<u128> {
+fn time_of_collection(arrays: usize, every: usize, is_announced: bool) -> Option<u128> {
     let (mut room, reached) = FullRoom::new(arrays, every);
     let began = Instant::now();
-    let collected = room.collect()?;
+    let collected = room.collect(is_announced)?;
     let time = began.elapsed();
     if collected == (0, arrays - reached, reached * SHORT as usize) { Some((time * 10).as_nanos()) } else { None }
 }
@@ -1112,7 +1139,9 @@ fn main() {
     let words: Vec<u32> = std::env::args().skip(1 + usize::from(is_collection)).filter_map(|word| word.parse().ok()).collect();
     match words[..] {
         [arrays, every, rounds] if is_collection => {
-            print_times("collect", (0..rounds).filter_map(|_| time_of_collection(arrays as usize, every as usize)).collect());
+            for (name, is_announced) in [("collect", false), ("collect_announced", true)] {
+                print_times(name, (0..rounds).filter_map(|_| time_of_collection(arrays as usize, every as usize, is_announced)).collect());
+            }
         }
         [threads, standing, calls, rounds] if !is_collection => {
             let work = Work { threads, standing, calls };

@@ -1,7 +1,8 @@
 //! The fixed text: how often calls answer as they should.
 
+use crate::beside::{BESIDE, Task, Tries, is_right};
 use crate::case::{CASES, Case};
-use crate::collections::{Collections, time_of};
+use crate::collections::{Collections, WAYS, time_of};
 use crate::round::{Work, round};
 use std::alloc::Global;
 use std::io;
@@ -36,15 +37,40 @@ pub(crate) fn print<R: Threads + Clock + Print + Sync>(rt: &R, alloc: Global) ->
         let two = right(rt, alloc, case, 2);
         println!(rt; "{name}: {one} by one thread, {two} by two")?;
     }
+    print_collections(rt, alloc)?;
+    print_beside(rt, alloc)
+}
+
+/// Prints whether collections answered as they should.
+fn print_collections<R: Clock + Print>(rt: &R, alloc: Global) -> io::Result<()> {
     for (every, reached) in [(0, "all"), (2, "half"), (1, "none")] {
         let work = Collections {
             arrays: CALLS,
             every,
         };
-        let is_right = time_of(rt, alloc, work).is_some();
-        println!(rt;
-            "collect, with {reached} of {CALLS} arrays reached, answered as it should: {is_right}"
-        )?;
+        for (way, name) in WAYS {
+            let is_right = time_of(rt, alloc, work, way).is_some();
+            println!(rt;
+                "{name}, with {reached} of {CALLS} arrays reached, answered as it should: {is_right}"
+            )?;
+        }
+    }
+    Ok(())
+}
+
+/// Prints whether each collection beside a thread that calls was made, or refused as it may be.
+fn print_beside<R: Threads + Clock + Print + Sync>(rt: &R, alloc: Global) -> io::Result<()> {
+    let tries = Tries {
+        callers: 1,
+        count: CALLS,
+    };
+    for (beside, call) in BESIDE {
+        for (way, name) in WAYS {
+            let is_right = is_right(rt, alloc, Task { tries, way, beside });
+            println!(rt;
+                "{name}, tried {CALLS} times beside {call}, was made or refused each time: {is_right}"
+            )?;
+        }
     }
     Ok(())
 }

@@ -1,14 +1,15 @@
-//! How long a collection takes.
+//! How long a collection takes, announced or not.
 
 ghost use Rattle.std.specs.Prelude.{All};
 ghost use Rattle.jr_rule.specs.Passes.{IsOpened};
+ghost use Rattle.jr_env.specs.Collections.{FitsRoom};
 
 use crate::case::Env;
 use crate::measure::print_times;
 use jr_rule::{Pass, Room, RoomSteps};
 use jr_steps::Steps;
 use jr_weak::{Collected, Marker};
-use jr_word::Config;
+use jr_word::{Config, Fault};
 use std::alloc::Global;
 use std::io;
 use std::rt::Clock;
@@ -22,6 +23,40 @@ const LENGTH: u32 = 16;
 
 /// How many local places the one thread has.
 const LOCALS: u32 = 16;
+
+/// How often an announced collection tries to shut the gate.
+const TRIES: u32 = 100_000;
+
+/// How a collection is made.
+#[derive(Clone, Copy)]
+pub(crate) enum Way {
+    /// By one step that is refused where another thread is inside.
+    Direct,
+    /// By an announcement, behind which nobody goes in.
+    Announced,
+}
+
+/// Each way with its name.
+pub(crate) const WAYS: [(Way, &'static str); 2] = [
+    (Way::Direct, "collect"),
+    (Way::Announced, "collect_announced"),
+];
+
+impl Way {
+    /// Collects.
+    pub(crate) fn collect<S: Steps>(
+        self,
+        env: &mut Env<S>,
+        marker: &mut Marker,
+    ) -> Result<Collected, Fault>
+        requires { FitsRoom marker.old env.old }
+    {
+        match self {
+            Way::Direct => env.collect(marker),
+            Way::Announced => env.collect_announced(marker, TRIES),
+        }
+    }
+}
 
 /// What is collected: a room full of arrays of 16 elements, of which some are reached, each by a global reference of its own.
 #[derive(Clone, Copy)]
@@ -82,11 +117,12 @@ fn time_in<R: Clock, S: Steps>(
     alloc: Global,
     env: &mut Env<S>,
     work: Collections,
+    way: Way,
 ) -> Option<u128> {
     let wanted = work.answer(work.fill(env)?);
     let mut marker = Marker::new(alloc, env.held.steps.config()).ok()?;
     let began = Instant::now(rt).ok()?;
-    let collected = env.collect(&mut marker);
+    let collected = way.collect(env, &mut marker);
     let ended = Instant::now(rt).ok()?;
     if collected != Ok(wanted) {
         return None;
@@ -95,27 +131,47 @@ fn time_in<R: Clock, S: Steps>(
 }
 
 /// How long a collection took in a room of its own, in tenths of nanoseconds: none where it did not answer as it should.
-pub(crate) fn time_of<R: Clock>(rt: &R, alloc: Global, work: Collections) -> Option<u128> {
+pub(crate) fn time_of<R: Clock>(
+    rt: &R,
+    alloc: Global,
+    work: Collections,
+    way: Way,
+) -> Option<u128> {
     let Ok((room, mut passes)) = Room::<LAST>::open(alloc, work.config()) else {
         return None;
     };
     let mut env = env_of(&room, &mut passes)?;
-    time_in(rt, alloc, &mut env, work)
+    time_in(rt, alloc, &mut env, work, way)
 }
 
-/// Prints the line of a collection, as those of calls are.
+/// The times of a collection in so many rounds, in order, of which only those count that answered as they should.
+fn times_of<R: Clock>(
+    rt: &R,
+    alloc: Global,
+    work: Collections,
+    way: Way,
+    rounds: u32,
+) -> io::Result<Vec<u128>> {
+    let mut times = Vec::new(alloc);
+    for _ in 0..rounds {
+        if let Some(time) = time_of(rt, alloc, work, way) {
+            times.push(time)?;
+        }
+    }
+    times.sort()?;
+    Ok(times)
+}
+
+/// Prints a line for a collection and one for an announced one, as those of calls are.
 pub(crate) fn print<R: Clock + Print>(
     rt: &R,
     alloc: Global,
     work: Collections,
     rounds: u32,
 ) -> io::Result<()> {
-    let mut times = Vec::new(alloc);
-    for _ in 0..rounds {
-        if let Some(time) = time_of(rt, alloc, work) {
-            times.push(time)?;
-        }
+    for (way, name) in WAYS {
+        let times = times_of(rt, alloc, work, way, rounds)?;
+        print_times(rt, name, times.as_slice())?;
     }
-    times.sort()?;
-    print_times(rt, "collect", times.as_slice())
+    Ok(())
 }

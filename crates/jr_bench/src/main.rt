@@ -1,11 +1,13 @@
-//! How long the calls for references and arrays take in a room that threads share, and how often they answer as they should.
+//! How long the calls for references and arrays take in a room that threads share, how often they answer as they should, and how many collections come in beside them.
 //!
 //! With no word it makes each call a few hundred times, by one thread and by two, and prints how often each answered as it should: the same text on every machine.
-//! With the words THREADS STANDING CALLS ROUNDS it measures each call, and with the words collect ARRAYS EVERY ROUNDS a collection: `measure` tells what it prints.
+//! With the words THREADS STANDING CALLS ROUNDS it measures each call, and with the words collect ARRAYS EVERY ROUNDS a collection, announced or not: `measure` tells what it prints.
+//! With the words beside CALLERS TRIES ROUNDS it counts how many collections come in beside so many threads that call without a break: `beside` tells what it prints.
 #![tactic(auto)]
 
 mod answers;
 mod arrays;
+mod beside;
 mod case;
 mod collections;
 mod copies;
@@ -13,6 +15,7 @@ mod criticals;
 mod measure;
 mod round;
 
+use crate::beside::Tries;
 use crate::collections::Collections;
 use crate::round::Work;
 use std::rt::{Clock, Env};
@@ -30,6 +33,8 @@ enum Measured {
     Calls(Work),
     /// A collection.
     Collection(Collections),
+    /// How many collections come in beside threads that call.
+    Beside(Tries),
 }
 
 /// Does what the words of the command line ask for.
@@ -43,9 +48,10 @@ fn act<R: AllocGlobal + Env + Print + Eprint + Clock + Threads + Sync>(rt: &R) -
         Some((Measured::Collection(work), rounds)) => {
             collections::print(rt, rt.alloc(), work, rounds)
         }
+        Some((Measured::Beside(tries), rounds)) => beside::print(rt, rt.alloc(), tries, rounds),
         None => {
             eprintln!(rt;
-                "usage: jr_bench [THREADS STANDING CALLS ROUNDS | collect ARRAYS EVERY ROUNDS]"
+                "usage: jr_bench [THREADS STANDING CALLS ROUNDS | collect ARRAYS EVERY ROUNDS | beside CALLERS TRIES ROUNDS]"
             )?;
             Err(io::Error::from(io::ErrorKind::InvalidInput))
         }
@@ -57,17 +63,20 @@ fn asked(words: &[String]) -> Option<(Measured, u32)> {
     let [first, second, third, rounds] = words else {
         return None;
     };
-    let measured = if first.as_str() == "collect" {
-        Measured::Collection(Collections {
+    let measured = match first.as_str() {
+        "collect" => Measured::Collection(Collections {
             arrays: number(second)?,
             every: number(third)?,
-        })
-    } else {
-        Measured::Calls(Work {
+        }),
+        "beside" => Measured::Beside(Tries {
+            callers: number(second)?,
+            count: number(third)?,
+        }),
+        _ => Measured::Calls(Work {
             threads: number(first)?,
             standing: number(second)?,
             calls: number(third)?,
-        })
+        }),
     };
     Some((measured, number(rounds)?))
 }

@@ -71,7 +71,7 @@ fn stand<S: Steps>(env: &mut Env<S>, case: Case, work: Work) -> Option<()> {
 }
 
 /// Says that a thread has come, and waits a while for the others: whether all came.
-fn all_came(came: &AtomicU64, threads: u32) -> bool {
+pub(crate) fn all_came(came: &AtomicU64, threads: u32) -> bool {
     came.fetch_add(1, Ordering::SeqCst);
     for _ in 0..LOOKS {
         if came.load(Ordering::SeqCst) >= u64::from(threads) {
