@@ -1,4 +1,5 @@
 -- Lemmas of the program.
+pub mod InTurn
 pub mod OneHistory
 pub mod Passes
 pub mod Played

@@ -1,6 +1,6 @@
 -- The passes of the room: the two that are handed out, and those that come back.
 use Rattle.std.specs.Prelude.{Result, Ok, Err, MatchResult, IfOk}
-use Rattle.std.proofs.Common.{◌≡◌, ◌≤◌, ◌∙◌, ℕ, zero, suc, Bool, Some, List, [], ◌∷◌, ◌++◌, map, arith, ap, subst, sym, refl}
+use Rattle.std.proofs.Common.{◌≡◌, ◌≤◌, ◌∙◌, ℕ, zero, suc, Bool, List, [], ◌∷◌, ◌++◌, map, arith, ap, subst, sym, refl}
 use Rattle.std.specs.Prelude.{remove}
 use Rattle.std.specs.List.{All}
 use Rattle.jr_word.specs.declared.config.Config.{Config}

@@ -23,7 +23,7 @@ use Rattle.jr_critical.specs.Levels.{GivesUpAll, Opens, Reaches, level_object}
 use Rattle.jr_weak.specs.declared.collecting.Collected.{Collected}
 use Rattle.jr_env.specs.Collections.{collection}
 use Rattle.jr_env.specs.Deeds.{Deed, DoesDeed, DoesOutside, new_plain, new_array, new_object_array, new_reference, delete_reference, is_same_object, get_object_ref_type, push_local_frame, pop_local_frame, set_array_region, done, ◌>>=◌}
-use Rattle.first_room.specs.Calls.{clearing, collecting_twice, preparing, sharing, visiting, word_made}
+use Rattle.first_room.specs.Calls.{clearing, collecting_in_turn, collecting_twice, preparing, sharing, visiting, word_made}
 use Rattle.first_room.specs.Parts.{HasPlayed}
 
 -- a call of the steps' own thread is one of whoever knows the pass
@@ -106,7 +106,7 @@ module _ {S : Type 0} {facts : S → Facts} where
       }
 
   -- its two collections
-  collected_twice : (s0 s1 s2 : S) (f0 f1 f2 : Frames) (inside : ℕ) (c : Collected) → (facts s0).stands.role ≡ Outside → DoesOutside facts s0 s1 f0 f1 collection (Err (Busy inside)) → DoesOutside facts s1 s2 f1 f2 collection (Ok c) → DoesDeed facts s0 s2 f0 f2 collecting_twice (Ok inside)
+  collected_twice : (s0 s1 s2 : S) (f0 f1 f2 : Frames) (inside : ℕ) (c : Collected) → (facts s0).stands.role ≡ Outside → DoesOutside facts s0 s1 f0 f1 collection (Err (Busy inside)) → DoesOutside facts s1 s2 f1 f2 collecting_in_turn (Ok c) → DoesDeed facts s0 s2 f0 f2 collecting_twice (Ok inside)
   collected_twice s0 s1 s2 f0 f1 f2 inside c out d1 d2 =
       let a = d1.does out in
       let b = d2.does d1.outside in
@@ -138,7 +138,7 @@ module _ {S : Type 0} {facts : S → Facts} where
   pub shared : (s0 s1 s2 s3 s4 s5 s6 s7 s8 s9 s10 s11 s12 : S) (f0 f1 f2 f3 f4 f5 f6 f7 f8 f9 f10 f11 f12 : Frames) (lost array : Handle) (weak global popped : Option Handle) (inside : ℕ) (c : Collected) (cleared : Bool) (kind : ℕ)
       → (facts s0).stands.role ≡ Outside → DoesOutside facts s0 s1 f0 f1 (push_local_frame 4) (Ok tt) → DoesOutside facts s1 s2 f1 f2 (new_array Long 4) (Ok lost) → DoesOutside facts s2 s3 f2 f3 (new_reference Weak lost.0) (Ok weak)
       → DoesOutside facts s3 s4 f3 f4 (new_array Int 3) (Ok array) → DoesOutside facts s4 s5 f4 f5 (set_array_region Int array.0 0 (10 ∷ 20 ∷ 30 ∷ [])) (Ok tt) → DoesOutside facts s5 s6 f5 f6 (new_reference Global array.0) (Ok global)
-      → DoesOutside facts s6 s7 f6 f7 (pop_local_frame 0) (Ok popped) → DoesOutside facts s7 s8 f7 f8 collection (Err (Busy inside)) → DoesOutside facts s8 s9 f8 f9 collection (Ok c) → DoesOutside facts s9 s10 f9 f10 (is_same_object (word_made weak) 0) (Ok cleared)
+      → DoesOutside facts s6 s7 f6 f7 (pop_local_frame 0) (Ok popped) → DoesOutside facts s7 s8 f7 f8 collection (Err (Busy inside)) → DoesOutside facts s8 s9 f8 f9 collecting_in_turn (Ok c) → DoesOutside facts s9 s10 f9 f10 (is_same_object (word_made weak) 0) (Ok cleared)
       → DoesOutside facts s10 s11 f10 f11 (delete_reference Global (word_made global)) (Ok tt) → DoesOutside facts s11 s12 f11 f12 (get_object_ref_type (word_made global)) (Ok kind) → DoesDeed facts s0 s12 f0 f12 sharing (Ok (inside, cleared, kind))
   shared s0 s1 s2 s3 s4 s5 s6 s7 s8 s9 s10 s11 s12 f0 f1 f2 f3 f4 f5 f6 f7 f8 f9 f10 f11 f12 lost array weak global popped inside c cleared kind out d1 d2 d3 d4 d5 d6 d7 d8 d9 d10 d11 d12 =
       does_then {one = preparing} (λ words. collecting_twice >>= (λ n. clearing words.0 words.1 >>= (λ found. done (n, found.0, found.1)))) (prepared s0 s1 s2 s3 s4 s5 s6 s7 f0 f1 f2 f3 f4 f5 f6 f7 lost array weak global popped out d1 d2 d3 d4 d5 d6 d7)

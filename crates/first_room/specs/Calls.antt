@@ -1,6 +1,8 @@
 -- What each of the two threads does, call by call.
 use Rattle.std.specs.Prelude.{◌≡◌, ℕ, Bool, Option, Some, None, Ok, Err, [], ◌∷◌}
 use Rattle.jr_word.specs.declared.config.Config.{Config}
+use Rattle.first_room.specs.declared.TheConstants.{TRIES}
+use Rattle.jr_word.specs.declared.fault.Fault.{Fault}
 use Rattle.jr_word.specs.declared.fault.Fault.TheVariants.{Busy}
 use Rattle.jr_word.specs.declared.handle.Handle.{Handle}
 use Rattle.jr_word.specs.declared.handle.RefKind.TheVariants.{Global, Weak}
@@ -11,8 +13,9 @@ use Rattle.jr_model.specs.Calls.{Call}
 use Rattle.jr_model.specs.Checks.{Word}
 use Rattle.jr_model.specs.Objects.{get_array_critical, region_get, region_release}
 use Rattle.jr_frames.specs.Reading.{IsReadAs}
-use Rattle.jr_gate.specs.Performing.{IsMade}
-use Rattle.jr_env.specs.Collections.{collection}
+use Rattle.jr_gate.specs.Performing.{IsMade, Moment}
+use Rattle.jr_weak.specs.declared.collecting.Collected.{Collected}
+use Rattle.jr_env.specs.Collections.{announced_collection, collection}
 use Rattle.jr_env.specs.Deeds.{Deed, done, new_plain, new_array, new_object_array, new_reference, delete_reference, is_same_object, get_object_ref_type, push_local_frame, pop_local_frame, set_array_region, ◌>>=◌, ◌>>◌}
 
 -- the word of a reference that was made, 0 for NULL
@@ -23,6 +26,21 @@ word_made (Some h) = h.0
 -- a collection is refused, with so many threads inside
 abbrev pub is_kept_out : Deed ℕ
 is_kept_out old answer new = (n : ℕ) × (answer ≡ Ok n) × collection old (Err (Busy n)) new
+
+-- collections were announced, and got no turn, one after the other
+pub data GotNoTurn (old : Moment) : Moment → Type 0 where
+  none : GotNoTurn old old
+  again : {mid new : Moment} {e : Fault} → GotNoTurn old mid → announced_collection TRIES mid (Err e) new → GotNoTurn old new
+
+-- any number of them
+abbrev pub getting_no_turn : Deed (Unit {0})
+getting_no_turn old answer new = (answer ≡ Ok tt) × GotNoTurn old new
+
+-- a collection is announced, and again as long as it gets no turn, and is made
+abbrev pub collecting_in_turn : Deed Collected
+collecting_in_turn = do
+  getting_no_turn
+  announced_collection TRIES
 
 -- two arrays are made in a frame, and then a weak reference to the one and a global one to the other: the words of the two references
 abbrev pub preparing : Deed (ℕ × ℕ)
@@ -36,11 +54,11 @@ preparing = do
   pop_local_frame 0
   done (word_made weak, word_made global)
 
--- a collection is refused, and the next is made
+-- a collection is refused, and the next is made in its turn
 abbrev pub collecting_twice : Deed ℕ
 collecting_twice = do
   inside ← is_kept_out
-  collection
+  collecting_in_turn
   done inside
 
 -- whether the weak reference is to null; and the type of the global one, once it is deleted

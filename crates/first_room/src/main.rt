@@ -6,12 +6,15 @@
 ghost use Rattle.std.specs.Prelude.{◌≤◌, IfOk, OnOk};
 ghost use Rattle.jr_rule.specs.Passes.{IsOpened};
 ghost use Rattle.jr_rule.specs.Rooms.{IsOfRoom};
+ghost use Rattle.jr_env.specs.Collections.{FitsRoom};
+ghost use Rattle.jr_env.specs.Envs.{Does, IsOutside};
+ghost use Rattle.first_room.specs.Calls.{collecting_in_turn};
 ghost use Rattle.first_room.specs.Hour.{IsWritten};
 ghost use Rattle.first_room.specs.Parts.{HasShared, HasVisited};
 
 use jr_env::Env;
 use jr_rule::{Pass, Room, RoomSteps, Steps};
-use jr_weak::Marker;
+use jr_weak::{Collected, Marker};
 use jr_word::{Config, Fault, Handle};
 use std::alloc::Global;
 use std::io::Write;
@@ -22,6 +25,12 @@ use thiserror::Error;
 
 /// How often a slot gives a handle, one less.
 const LAST: u32 = 4_294_967_295;
+
+/// How often an announced collection tries to shut the gate.
+const TRIES: u32 = 1_000;
+
+/// How often a thread looks for the other's word, and how often it announces a collection.
+const TURNS: u32 = 1 << 26;
 
 /// The sizes of the room.
 const SIZES: Config = Config {
@@ -80,7 +89,7 @@ pub(crate) fn run<T: Threads, W: Write + Drop>(
     Ok(())
 }
 
-/// The first thread shares an array, and collects: while the other has a critical region, and once it has none.
+/// The first thread shares an array, and collects: in vain while the other has a critical region, and then in its turn, as soon as the other has none.
 fn share(
     alloc: Global,
     room: &Room<LAST>,
@@ -107,8 +116,7 @@ fn share(
         return Err(Fault::Turns);
     };
     baton.store(2, Ordering::SeqCst);
-    wait(baton, 2)?;
-    env.collect(&mut marker)?;
+    collect_in_turn(&mut env, &mut marker)?;
     let cleared = env.is_same_object(weak, Handle::NULL)?;
     env.delete_global_ref(global)?;
     let kind = env.get_object_ref_type(global)?;
@@ -133,14 +141,28 @@ fn visit(room: &Room<LAST>, pass: Pass, baton: &AtomicU64) -> Result<(Pass, i32)
     baton.store(1, Ordering::SeqCst);
     let refused = wait(baton, 1);
     env.close_all_critical(region);
-    baton.store(3, Ordering::SeqCst);
     refused?;
     Ok((env.into_pass().into_pass(), read?))
 }
 
+/// Announces a collection, so that nobody goes in any more, and collects once nobody is inside. Where it got no turn (E14, E23) it lets the others run, and announces it anew: E20 where it gets none.
+fn collect_in_turn<S: Steps>(env: &mut Env<S>, marker: &mut Marker) -> Result<Collected, Fault>
+    requires outside { IsOutside env.old }
+    requires room { FitsRoom marker.old env.old }
+    ensures { IfOk result (λ c. Does env.old env.new collecting_in_turn (Ok c)) }
+{
+    for _ in 0..TURNS {
+        match env.collect_announced(marker, TRIES) {
+            Ok(collected) => return Ok(collected),
+            Err(_) => thread::yield_now(),
+        }
+    }
+    Err(Fault::Turns)
+}
+
 /// Waits until another word than the own stands there, and gives it: E20 where none comes.
 fn wait(baton: &AtomicU64, own: u64) -> Result<u64, Fault> {
-    for _ in 0..1u32 << 26 {
+    for _ in 0..TURNS {
         match baton.load(Ordering::SeqCst) {
             word if word != own => return Ok(word),
             _ => thread::yield_now(),

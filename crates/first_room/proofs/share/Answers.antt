@@ -11,8 +11,8 @@ use Rattle.first_room.proofs.Played.{shared, refused_as, same_on, deleted_on, ty
 use Rattle.first_room.proofs.Passes.{same_then, same_before, same_spent, at_end, busy_some}
 use Rattle.first_room.proofs.share.Goals as goal
 
-pub collect-requires-2 : goal.collect-requires-2
-collect-requires-2 c =
+pub collect_in_turn-requires-clause-room : goal.collect_in_turn-requires-clause-room
+collect_in_turn-requires-clause-room c =
     let first : room_of c.in_ok-marker.marker ≡ (acting c.pop_local_frame.new.self.held.steps.cells.seat.me).config.objects = search rules in
     let same = ((c.in-Err-Busy.ensures.call).does (c.in_ok-pop_local_frame.ensures).outside).stands_is.config in
     c.collect.ensures.room ∙ (first ∙ sym (ap (λ (k : Config). k.objects) same))
@@ -27,7 +27,7 @@ returns c =
     let d6 = c.in_ok-new_global_ref.ensures in
     let d7 = c.in_ok-pop_local_frame.ensures in
     let d8 = c.in-Err-Busy.ensures.call in
-    let d9 = c.in_ok-collect.ensures.call in
+    let d9 = c.in_ok-collect_in_turn.ensures in
     let d10 = c.in_ok-cleared.ensures in
     let d11 = c.in_ok-delete_global_ref.ensures in
     let d12 = c.in_ok-kind.ensures in
@@ -46,7 +46,7 @@ returns c =
     (same_before (d12.does d11.outside).stands_is)))))))))))) in
     let weak = word_or_null c.in_ok-new_weak_global_ref.field-0 c.unwrap_or-weak.result c.unwrap_or-weak.ensures in
     let global = word_or_null c.in_ok-new_global_ref.field-0 c.unwrap_or-global.result c.unwrap_or-global.ensures in
-    let calls = shared _ _ _ _ _ _ _ _ _ _ _ _ _ _ _ _ _ _ _ _ _ _ _ _ _ _ c.in_ok-lost.lost c.in_ok-array.array c.in_ok-new_weak_global_ref.field-0 c.in_ok-new_global_ref.field-0 c.in_ok-pop_local_frame.field-0 c.in-Err-Busy.inside c.in_ok-collect.field-0 c.in_ok-cleared.cleared c.in_ok-kind.kind
+    let calls = shared _ _ _ _ _ _ _ _ _ _ _ _ _ _ _ _ _ _ _ _ _ _ _ _ _ _ c.in_ok-lost.lost c.in_ok-array.array c.in_ok-new_weak_global_ref.field-0 c.in_ok-new_global_ref.field-0 c.in_ok-pop_local_frame.field-0 c.in-Err-Busy.inside c.in_ok-collect_in_turn.field-0 c.in_ok-cleared.cleared c.in_ok-kind.kind
     c.in-Ok.ensures.outside d1 d2 d3 d4 d5 d6 d7 (refused_as c.in-Err-Busy.field-0-is d8) d9 (same_on _ _ 0 _ weak d10) (deleted_on _ _ _ global d11) (typed_on _ _ _ global d12) in
     let handed = c.into_pass-2.ensures.0 ∙ ap holder_over (c.into_pass.ensures.steps d12.outside) in (
       at_end c.args.room.now.row c.args.pass (holder_over c.new.result) _ c.into_pass-2.result c.requires.row c.new.ensures.1 same handed,
