@@ -145,7 +145,7 @@ fn visit(room: &Room<LAST>, pass: Pass, baton: &AtomicU64) -> Result<(Pass, i32)
     Ok((env.into_pass().into_pass(), read?))
 }
 
-/// Announces a collection, so that nobody goes in meanwhile, and collects once nobody is inside. It announces it anew where it got no turn: E20 where it gets none.
+/// Announces a collection, so that nobody goes in any more, and collects once nobody is inside. Where it got no turn (E14, E23) it lets the others run, and announces it anew: E20 where it gets none.
 fn collect_in_turn<S: Steps>(env: &mut Env<S>, marker: &mut Marker) -> Result<Collected, Fault>
     requires outside { IsOutside env.old }
     requires room { FitsRoom marker.old env.old }
