@@ -66,7 +66,7 @@ impl<S: Steps> Meanwhile for Planned<S> {
     }
 }
 
-/// Does what is planned.
+/// Does what a plan says.
 fn follow<S: Steps>(steps: &mut S, plan: Plan) {
     match plan {
         Plan::ComeOrGo => come_or_go(steps),
@@ -149,7 +149,9 @@ fn fill<S: Steps>(env: &mut Env<S>) -> Result<Handle, Fail>
 }
 
 /// Before a collection the array stands, and no word is free.
-fn is_as_filled<S: Steps>(rt: &impl Abort, env: &mut Env<S>, weak: Handle) {
+fn is_as_filled<S: Steps>(rt: &impl Abort, env: &mut Env<S>, weak: Handle)
+    ensures { IsOutside env.new }
+{
     assert_eq!(rt; env.get_array_length(weak), Ok(3));
     refuses(rt, env.new_array::<i32>(1), Fault::SpaceFull(3));
 }
