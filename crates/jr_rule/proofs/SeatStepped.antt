@@ -1,6 +1,8 @@
 -- One operation on a room's words: what it tells of the seat is what it makes of what the thread knows.
 use Rattle.std.proofs.Common.{◌≡◌, ◌<◌, ℕ, true, Some, None, List, [], ◌∷◌, refl, sym, ap, subst, ◌∙◌}
 use mathlib.Core.Logic.{∥∥₁_map}
+use Rattle.std.proofs.Math.Logic.{∥∥₁_elim}
+use Rattle.std.proofs.Props.{props}
 use Rattle.atomic_table.specs.Seated.{TableId}
 use Rattle.jr_word.specs.declared.config.Config.{Config}
 use Rattle.jr_word.specs.Config.{row_words}
@@ -9,7 +11,7 @@ use Rattle.jr_model.specs.declared.event.Role.TheVariants.{Outside}
 use Rattle.jr_steps.specs.declared.known.Known.{Known}
 use Rattle.jr_steps.specs.Holdings.{InSpace}
 use Rattle.jr_steps.specs.Knowing.{Goes}
-use Rattle.jr_rule.specs.Cells.{IsOwed, HasStepped}
+use Rattle.jr_rule.specs.Cells.{IsOwed, HasStepped, May, WentBy}
 use Rattle.jr_rule.specs.Sights.{sight_of_seat, IsSeatOf}
 use Rattle.jr_rule.specs.Rule.{Sat, IsSeated, IsAlone, IsSized, Owes, Tells, acting, others_of, view_of}
 
@@ -68,3 +70,10 @@ module _ {told : Known → ℕ → List Act → Known → Type 0} {m m' : Sat} {
           alone = λ none. absurd (in_a_room none);
         };
   }
+
+  -- and it went by the acts of which it tells
+  pub seat_went : {id : TableId} {met : Known → Type 0} → May (sight_of_seat id m) met → WentBy (λ acts. Goes (acting m) acts (acting m')) (sight_of_seat id m) met told n
+  seat_went {met = met} may acts its =
+      let here : told (acting m) n t.acts (acting m') = subst (λ z. told (acting m) n t.acts z) new_is t.says in
+      let is : t.acts ≡ acts = ∥∥₁_elim may (hlevel props) (λ k. its (acting m) (acting m') t.acts (record { is = refl; config = refl; last = refl; thread = refl }) (subst met (k.1).is k.2) here) in
+      subst (λ (z : List Act × Known). Goes (acting m) z.0 z.1) (λ i. (is i, new_is i)) t.goes

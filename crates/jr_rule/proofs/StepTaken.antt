@@ -19,7 +19,7 @@ use Rattle.jr_steps.specs.Knowing.{Took, TookWith, Goes, view, anything, fresh_f
 use Rattle.jr_steps.proofs.StepFacts.{goes_did}
 use Rattle.jr_rule.specs.declared.cells.Cells.{Ghosts}
 use Rattle.jr_rule.specs.declared.over.StepsOver.{StepsOver}
-use Rattle.jr_rule.specs.Cells.{Sight, IsAmong, AreSoundWords, May, IsOwed, HasStepped, InRole, IsStanding, stands_at}
+use Rattle.jr_rule.specs.Cells.{Sight, IsAmong, AreItsActs, AreSoundWords, May, IsOwed, HasStepped, InRole, IsStanding, stands_at}
 use Rattle.jr_rule.specs.CellLaws.{among_of}
 use Rattle.jr_rule.specs.Over.{facts_over as facts}
 use Rattle.std.specs.List.{AllByRecursion}
@@ -145,3 +145,7 @@ standing_spent s = record {
   unused = λ f. absurd cc;
   below = s.below;
 }
+
+-- the acts of which an operation tells are those that are read from it
+pub its_acts : {z : Sight} {r : Role} {met : Known → Type 0} {told : Known → ℕ → List Act → Known → Type 0} {n : ℕ} {acts : List Act} {shows : Known → Known → Type 0} → Reads z r met told n (λ k. acts) shows → AreItsActs z (InRole r met) told n acts
+its_acts reads k k' done h m t = (reads.read k k' done h m.0 m.1 t).0

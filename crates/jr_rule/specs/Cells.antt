@@ -55,6 +55,14 @@ pub record HasStepped (z z' : Sight) (met : Known → Type 0) (told : Known → 
   pub first : z'.first ≡ z.first
   pub makes : (k : Known) → IsAmong z k → met k → StepsTo z z' told n k
 
+-- these are the acts of which it tells, whatever may be known and meets the condition
+abbrev pub AreItsActs : Sight → (Known → Type 0) → (Known → ℕ → List Act → Known → Type 0) → ℕ → List Act → Type 0
+AreItsActs z met told n acts = (k k' : Known) (done : List Act) → IsAmong z k → met k → told k n done k' → done ≡ acts
+
+-- THE STEP WENT by the acts of which it tells
+abbrev pub WentBy : (List Act → Type 0) → Sight → (Known → Type 0) → (Known → ℕ → List Act → Known → Type 0) → ℕ → Type 0
+WentBy goes z met told n = (acts : List Act) → AreItsActs z met told n acts → goes acts
+
 -- the condition, of a thread in this role
 abbrev pub InRole : Role → (Known → Type 0) → Known → Type 0
 InRole r met k = (role_of (view k) ≡ r) × met k

@@ -1,7 +1,7 @@
 //! The five operations on a word, whoever keeps the words: a row that threads share, or a plain vector. Steps are written over them once.
 ghost use Rattle.std.specs.Prelude.{◌≡◌, ◌+◌, ◌-◌, ◌%◌, ◌^◌, ◌==◌, ◌≤◌, ◌<◌};
 ghost use prog.Atomic.{either};
-ghost use Rattle.jr_rule.specs.Cells.{IsOwed, HasStepped};
+ghost use Rattle.jr_rule.specs.Cells.{IsOwed, HasStepped, WentBy};
 ghost use Rattle.jr_rule.specs.Image.{header_at as place_of_header, element_at as place_of_element};
 
 use jr_word::Config;
@@ -27,10 +27,15 @@ impl StepKind for Brand {
 
 /// Who steps on the words of a row: each operation is one on one word, and one step. `P` is where the words are.
 pub trait Cells<P: Copy> {
+    ghost use Rattle.std.specs.Prelude.{List};
+    ghost use Rattle.jr_model.specs.declared.event.Act.{Act};
     ghost use Rattle.jr_rule.specs.Cells.{Sight, AreSoundWords};
 
     /// What is known of the words.
     ghost sight: { Self → Sight };
+
+    /// A step with these acts was taken: what it made of the one history that the thread knows, in a room. Over plain words, which may have several, this says nothing.
+    ghost goes: { Self → Self → List Act → Type 0 };
 
     /// They are there.
     ghost are_at: { Self → P → Type 0 };
@@ -68,35 +73,40 @@ pub trait Cells<P: Copy> {
         requires there { are_at self.old place }
         requires owed { IsOwed (sight self.old) T.met at (λ n. n) T.told }
         ensures there { are_at self.new place }
-        ensures step { HasStepped (sight self.old) (sight self.new) T.met T.told result };
+        ensures step { HasStepped (sight self.old) (sight self.new) T.met T.told result }
+        ensures seen { WentBy (goes self.old self.new) (sight self.old) T.met T.told result };
 
     /// Stores a word.
     fn store<T: StepKind>(&mut self, place: P, at: usize, new: u64)
         requires there { are_at self.old place }
         requires owed { IsOwed (sight self.old) T.met at (λ n. new) (λ k n. T.told k new) }
         ensures there { are_at self.new place }
-        ensures step { HasStepped (sight self.old) (sight self.new) T.met T.told new };
+        ensures step { HasStepped (sight self.old) (sight self.new) T.met T.told new }
+        ensures seen { WentBy (goes self.old self.new) (sight self.old) T.met T.told new };
 
     /// Adds to a word. The number that was found.
     fn add<T: StepKind>(&mut self, place: P, at: usize, more: u64) -> u64
         requires there { are_at self.old place }
         requires owed { IsOwed (sight self.old) T.met at (λ n. (n + more) % 2 ^ 64) T.told }
         ensures there { are_at self.new place }
-        ensures step { HasStepped (sight self.old) (sight self.new) T.met T.told result };
+        ensures step { HasStepped (sight self.old) (sight self.new) T.met T.told result }
+        ensures seen { WentBy (goes self.old self.new) (sight self.old) T.met T.told result };
 
     /// Takes away from a word. The number that was found.
     fn take<T: StepKind>(&mut self, place: P, at: usize, less: u64) -> u64
         requires there { are_at self.old place }
         requires owed { IsOwed (sight self.old) T.met at (λ n. (n + (2 ^ 64 - less)) % 2 ^ 64) T.told }
         ensures there { are_at self.new place }
-        ensures step { HasStepped (sight self.old) (sight self.new) T.met T.told result };
+        ensures step { HasStepped (sight self.old) (sight self.new) T.met T.told result }
+        ensures seen { WentBy (goes self.old self.new) (sight self.old) T.met T.told result };
 
     /// Exchanges a word for a new one where it is `old`. The number that was found.
     fn exchange<T: StepKind>(&mut self, place: P, at: usize, old: u64, new: u64) -> u64
         requires there { are_at self.old place }
         requires owed { IsOwed (sight self.old) T.met at (λ n. either (n == old) new n) T.told }
         ensures there { are_at self.new place }
-        ensures step { HasStepped (sight self.old) (sight self.new) T.met T.told result };
+        ensures step { HasStepped (sight self.old) (sight self.new) T.met T.told result }
+        ensures seen { WentBy (goes self.old self.new) (sight self.old) T.met T.told result };
 
     /// What always holds of the words.
     ghost sound: { (s : Self) (place : P) → are_at s place → AreSoundWords (sight s) };
@@ -114,6 +124,7 @@ pub(crate) fn load<C: Cells<P>, P: Copy, T: StepKind, A: Copy>(
     requires owed { IsOwed (C.sight cells.old) T.met at (λ n. n) T.told }
     ensures there { C.are_at cells.new place }
     ensures step { HasStepped (C.sight cells.old) (C.sight cells.new) T.met T.told result }
+    ensures seen { WentBy (C.goes cells.old cells.new) (C.sight cells.old) T.met T.told result }
 {
     cells.load::<T>(place, at)
 }
@@ -131,6 +142,7 @@ pub(crate) fn store<C: Cells<P>, P: Copy, T: StepKind, A: Copy>(
     requires owed { IsOwed (C.sight cells.old) T.met at (λ n. new) (λ k n. T.told k new) }
     ensures there { C.are_at cells.new place }
     ensures step { HasStepped (C.sight cells.old) (C.sight cells.new) T.met T.told new }
+    ensures seen { WentBy (C.goes cells.old cells.new) (C.sight cells.old) T.met T.told new }
 {
     cells.store::<T>(place, at, new);
 }
@@ -148,6 +160,7 @@ pub(crate) fn add<C: Cells<P>, P: Copy, T: StepKind, A: Copy>(
     requires owed { IsOwed (C.sight cells.old) T.met at (λ n. (n + more) % 2 ^ 64) T.told }
     ensures there { C.are_at cells.new place }
     ensures step { HasStepped (C.sight cells.old) (C.sight cells.new) T.met T.told result }
+    ensures seen { WentBy (C.goes cells.old cells.new) (C.sight cells.old) T.met T.told result }
 {
     cells.add::<T>(place, at, more)
 }
@@ -165,6 +178,7 @@ pub(crate) fn take<C: Cells<P>, P: Copy, T: StepKind, A: Copy>(
     requires owed { IsOwed (C.sight cells.old) T.met at (λ n. (n + (2 ^ 64 - less)) % 2 ^ 64) T.told }
     ensures there { C.are_at cells.new place }
     ensures step { HasStepped (C.sight cells.old) (C.sight cells.new) T.met T.told result }
+    ensures seen { WentBy (C.goes cells.old cells.new) (C.sight cells.old) T.met T.told result }
 {
     cells.take::<T>(place, at, less)
 }
@@ -183,6 +197,7 @@ pub(crate) fn exchange<C: Cells<P>, P: Copy, T: StepKind, A: Copy>(
     requires owed { IsOwed (C.sight cells.old) T.met at (λ n. either (n == old) new n) T.told }
     ensures there { C.are_at cells.new place }
     ensures step { HasStepped (C.sight cells.old) (C.sight cells.new) T.met T.told result }
+    ensures seen { WentBy (C.goes cells.old cells.new) (C.sight cells.old) T.met T.told result }
 {
     cells.exchange::<T>(place, at, old, new)
 }

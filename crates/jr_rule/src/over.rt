@@ -163,8 +163,17 @@ impl<C: Cells<P>, P: Copy> StepsOver<C, P> {
 }
 
 impl<C: Cells<P>, P: Copy> Steps for StepsOver<C, P> {
+    ghost use Rattle.std.specs.Prelude.{◌≢◌, ◌⊎◌, ◌<◌, [], ◌∷◌};
+    ghost use Rattle.jr_word.specs.declared.handle.RefKind.TheVariants.{Local, Weak};
+    ghost use Rattle.jr_model.specs.declared.event.Act.TheVariants.{Gate, Clear};
+    ghost use Rattle.jr_model.specs.declared.event.GateAct.TheVariants.{Cancel, Reopen};
+    ghost use Rattle.jr_model.specs.declared.event.Role.TheVariants.{Outside, Within, Knocking, Announcing, Collecting};
+    ghost use Rattle.jr_steps.specs.Acts.{act_of_entry, act_of_exit, act_of_bar, act_of_announcement, act_of_slot_load, SlotLoadFits, act_of_claim, act_of_free, found_of, handle_of};
+    ghost use Rattle.jr_steps.specs.Collecting.{CanWipe};
+    ghost use Rattle.jr_steps.specs.Knowing.{anything, HasObject, HasLooked, CanReopen, ShowsAnnounced, ShowsBarred, IsFreeSlot, ShowsSlot, LostClaim, MayKnow, Took, keeps, lets_go};
     ghost use Rattle.jr_rule.specs.Cells.{facts_at};
     ghost use Rattle.jr_rule.specs.CellLaws.{some_of, among_of};
+    ghost use Rattle.jr_rule.specs.Over.{facts_over};
 
     ghost facts = { λ s. facts_at (C.sight s.cells) s.role s.fresh s.hint };
 
@@ -200,7 +209,11 @@ impl<C: Cells<P>, P: Copy> Steps for StepsOver<C, P> {
         self.hint = index;
     }
 
-    fn go_in(&mut self) -> bool {
+    fn go_in(&mut self) -> bool
+        requires { self.old.role ≡ Outside }
+        ensures step { Took facts_over self.old self.new (act_of_entry result ∷ []) anything keeps }
+        ensures seen { C.goes self.old.cells self.new.cells (act_of_entry result ∷ []) }
+    {
         // (the role that it mostly is, stored before the addition: the exit's subtraction waits for every store
         // before it, and would wait for one that depends on what the entry found)
         self.role = Role::Within;
@@ -212,12 +225,20 @@ impl<C: Cells<P>, P: Copy> Steps for StepsOver<C, P> {
         true
     }
 
-    fn go_out(&mut self) {
+    fn go_out(&mut self)
+        requires { (self.old.role ≡ Within) ⊎ (self.old.role ≡ Knocking) }
+        ensures step { Took facts_over self.old self.new (act_of_exit self.old.role ∷ []) anything lets_go }
+        ensures seen { C.goes self.old.cells self.new.cells (act_of_exit self.old.role ∷ []) }
+    {
         take::<C, P, Brand, Role>(&mut self.cells, self.place, GATE, 1, self.role);
         self.role = Role::Outside;
     }
 
-    fn bar(&mut self) -> Result<(), u32> {
+    fn bar(&mut self) -> Result<(), u32>
+        requires { self.old.role ≡ Outside }
+        ensures step { Took facts_over self.old self.new (act_of_bar result ∷ []) anything (ShowsBarred result) }
+        ensures seen { C.goes self.old.cells self.new.cells (act_of_bar result ∷ []) }
+    {
         let (open, shut) = (0, GateWord::SHUT);
         let found = exchange::<C, P, Brand, ()>(&mut self.cells, self.place, GATE, open, shut, ());
         if found != 0 {
@@ -227,7 +248,11 @@ impl<C: Cells<P>, P: Copy> Steps for StepsOver<C, P> {
         Ok(())
     }
 
-    fn announce(&mut self, looked: u16) -> Result<(), GateParts> {
+    fn announce(&mut self, looked: u16) -> Result<(), GateParts>
+        requires { self.old.role ≡ Outside }
+        ensures step { Took facts_over self.old self.new (act_of_announcement result ∷ []) anything (ShowsAnnounced looked result) }
+        ensures seen { C.goes self.old.cells self.new.cells (act_of_announcement result ∷ []) }
+    {
         let open = GateWord::pack(GateParts {
             count: looked,
             state: GateState::Open,
@@ -251,12 +276,20 @@ impl<C: Cells<P>, P: Copy> Steps for StepsOver<C, P> {
         Ok(())
     }
 
-    fn cancel(&mut self) {
+    fn cancel(&mut self)
+        requires { self.old.role ≡ Announcing }
+        ensures step { Took facts_over self.old self.new (Gate Cancel ∷ []) anything lets_go }
+        ensures seen { C.goes self.old.cells self.new.cells (Gate Cancel ∷ []) }
+    {
         take::<C, P, Brand, ()>(&mut self.cells, self.place, GATE, GateWord::ANNOUNCED, ());
         self.role = Role::Outside;
     }
 
-    fn bar_announced(&mut self) -> Result<(), u32> {
+    fn bar_announced(&mut self) -> Result<(), u32>
+        requires { self.old.role ≡ Announcing }
+        ensures step { Took facts_over self.old self.new (act_of_bar result ∷ []) anything (ShowsBarred result) }
+        ensures seen { C.goes self.old.cells self.new.cells (act_of_bar result ∷ []) }
+    {
         let (announced, shut) = (GateWord::ANNOUNCED, GateWord::SHUT);
         let found = exchange::<C, P, Brand, ()>(
             &mut self.cells,
@@ -273,7 +306,12 @@ impl<C: Cells<P>, P: Copy> Steps for StepsOver<C, P> {
         Ok(())
     }
 
-    fn unbar(&mut self) {
+    fn unbar(&mut self)
+        requires role { self.old.role ≡ Collecting }
+        requires closed { MayKnow facts_over self.old CanReopen }
+        ensures step { Took facts_over self.old self.new (Gate Reopen ∷ []) CanReopen lets_go }
+        ensures seen { C.goes self.old.cells self.new.cells (Gate Reopen ∷ []) }
+    {
         take::<C, P, Brand, ()>(&mut self.cells, self.place, GATE, GateWord::SHUT, ());
         self.role = Role::Outside;
     }
@@ -283,7 +321,13 @@ impl<C: Cells<P>, P: Copy> Steps for StepsOver<C, P> {
     }
 
     #[inline(always)]
-    fn see_slot(&mut self, index: u16, name: SlotLoad) -> SlotParts {
+    fn see_slot(&mut self, index: u16, name: SlotLoad) -> SlotParts
+        requires role { self.old.role ≡ Within }
+        requires row { index < (C.sight self.old.cells).first.config.slots }
+        requires fits { SlotLoadFits index name }
+        ensures step { Took facts_over self.old self.new (act_of_slot_load index name result ∷ []) anything (λ j k. ShowsSlot index result k × keeps j k) }
+        ensures seen { C.goes self.old.cells self.new.cells (act_of_slot_load index name result ∷ []) }
+    {
         let at = slot_at(index);
         let about = (index, name);
         let found = load::<C, P, Brand, (u16, SlotLoad)>(&mut self.cells, self.place, at, about);
@@ -296,7 +340,14 @@ impl<C: Cells<P>, P: Copy> Steps for StepsOver<C, P> {
         serial: u32,
         kind: RefKind,
         object: u16,
-    ) -> Result<(), SlotParts> {
+    ) -> Result<(), SlotParts>
+        requires role { self.old.role ≡ Within }
+        requires row { index < (C.sight self.old.cells).first.config.slots }
+        requires kind { kind ≢ Local }
+        requires looked { MayKnow facts_over self.old (λ k. HasObject object k × IsFreeSlot index serial k) }
+        ensures step { Took facts_over self.old self.new (act_of_claim index serial kind object result ∷ []) (λ k. HasObject object k × IsFreeSlot index serial k) (λ j k. LostClaim index result j k × keeps j k) }
+        ensures seen { C.goes self.old.cells self.new.cells (act_of_claim index serial kind object result ∷ []) }
+    {
         let at = slot_at(index);
         let looked = SlotWord::pack(SlotParts::Free { serial });
         let made = SlotWord::pack(reference(kind, serial, Some(object)));
@@ -315,7 +366,13 @@ impl<C: Cells<P>, P: Copy> Steps for StepsOver<C, P> {
         Ok(())
     }
 
-    fn free(&mut self, handle: HandleParts, object: Option<u16>) -> bool {
+    fn free(&mut self, handle: HandleParts, object: Option<u16>) -> bool
+        requires role { self.old.role ≡ Within }
+        requires row { handle.index < (C.sight self.old.cells).first.config.slots }
+        requires looked { MayKnow facts_over self.old (HasLooked handle (found_of object)) }
+        ensures step { Took facts_over self.old self.new (act_of_free handle result ∷ []) (HasLooked handle (found_of object)) keeps }
+        ensures seen { C.goes self.old.cells self.new.cells (act_of_free handle result ∷ []) }
+    {
         let at = slot_at(handle.index);
         let looked = SlotWord::pack(reference(handle.kind, handle.serial, object));
         let freed = SlotWord::pack(freed_slot(handle.serial, self.cells.last(self.place)));
@@ -459,7 +516,13 @@ impl<C: Cells<P>, P: Copy> Steps for StepsOver<C, P> {
         load::<C, P, Brand, (u16, HeaderParts, u32)>(&mut self.cells, self.place, at, about)
     }
 
-    fn wipe(&mut self, index: u16, serial: u32, object: u16) {
+    fn wipe(&mut self, index: u16, serial: u32, object: u16)
+        requires role { self.old.role ≡ Collecting }
+        requires row { index < (C.sight self.old.cells).first.config.slots }
+        requires can { MayKnow facts_over self.old (CanWipe index serial object) }
+        ensures step { Took facts_over self.old self.new (Clear (handle_of Weak serial index) ∷ []) (CanWipe index serial object) keeps }
+        ensures seen { C.goes self.old.cells self.new.cells (Clear (handle_of Weak serial index) ∷ []) }
+    {
         let at = slot_at(index);
         let looked = SlotWord::pack(SlotParts::Weak {
             serial,

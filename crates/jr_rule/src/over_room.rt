@@ -11,7 +11,7 @@ impl<'a, const LAST: u32> StepsOver<RoomCells, &'a Room<LAST>> {
     ghost use Rattle.std.specs.Prelude.{◌≡◌, [], ◌∷◌};
     ghost use Rattle.jr_model.specs.declared.event.Act.TheVariants.{Meet};
     ghost use Rattle.jr_model.specs.History.{HasMet};
-    ghost use Rattle.jr_steps.specs.Knowing.{view, anything, Took, keeps};
+    ghost use Rattle.jr_steps.specs.Knowing.{view, anything, Goes, Took, keeps};
     ghost use Rattle.jr_rule.specs.Passes.{facts_of, holder_of, known_of, IsSame};
     ghost use Rattle.jr_rule.specs.Rule.{acting};
     ghost use Rattle.jr_rule.specs.Rooms.{IsOfRoom, holder_over};
@@ -72,6 +72,7 @@ impl<'a, const LAST: u32> StepsOver<RoomCells, &'a Room<LAST>> {
         requires { IsOfRoom self.old.place.now other }
         ensures room { self.new.place ≡ self.old.place }
         ensures step { Took facts_of (holder_over self.old) (holder_over self.new) (Meet ∷ []) anything keeps }
+        ensures seen { Goes (acting self.old.cells.seat.me) (Meet ∷ []) (acting self.new.cells.seat.me) }
         ensures met { HasMet (view (known_of other)) (view (acting self.new.cells.seat.me)) }
         ensures other { IsOfRoom self.old.place.now result × IsSame other result }
     {

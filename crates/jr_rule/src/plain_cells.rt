@@ -35,6 +35,8 @@ impl<const LAST: u32> Cells<()> for PlainCells<LAST> {
 
     ghost sight = { λ s. sight_of_words s.config LAST s.words.items };
 
+    ghost goes = { λ s t acts. Unit {0} };
+
     ghost are_at = { λ s place. Unit {0} };
 
     ghost one = { λ s place. unit_one };

@@ -240,10 +240,13 @@ impl RoomCells {
 
 impl<'a, const LAST: u32> Cells<&'a Room<LAST>> for RoomCells {
     ghost use Rattle.std.specs.Prelude.{◌≡◌};
+    ghost use Rattle.jr_steps.specs.Knowing.{Goes};
     ghost use Rattle.jr_rule.specs.Sights.{sight_of_seat};
     ghost use Rattle.jr_rule.specs.CellLaws.{seat_one, seat_sound};
 
     ghost sight = { λ s. sight_of_seat s.seat.table_id s.seat.me };
+
+    ghost goes = { λ s t acts. Goes (acting s.seat.me) acts (acting t.seat.me) };
 
     ghost are_at = { λ s room. IsSeatOf room.now.row.table.shared.table_id room.now.row.config room.now.row.last s.seat.table_id s.seat.me s.thread };
 

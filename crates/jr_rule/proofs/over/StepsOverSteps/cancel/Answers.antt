@@ -1,7 +1,7 @@
 use Rattle.std.proofs.Common.{rules, refl}
 use Rattle.jr_rule.proofs.GateOwed.{takes_back}
 use Rattle.jr_rule.proofs.Told.{cancelled}
-use Rattle.jr_rule.proofs.StepTaken.{may_any, owed, leaves, standing_next, took}
+use Rattle.jr_rule.proofs.StepTaken.{may_any, owed, leaves, standing_next, took, its_acts}
 use Rattle.jr_rule.proofs.over.StepsOverSteps.cancel.Goals as goal
 
 pub take-requires-clause-owed : goal.take-requires-clause-owed
@@ -12,5 +12,8 @@ invariant_of-self g c =
     let s = c.args.self.now in
     record { at = c.take.ensures.there; stands = standing_next c.take.ensures.step (leaves cancelled (λ k. refl) (λ k. refl)) c.requires (g.met.C.Cells.sound c.take.new.cells s.place c.take.ensures.there) s.stands (may_any (g.C.Cells.sight s.cells) c.requires s.stands) }
 
-pub returns : goal.returns
-returns g c = let s = c.args.self.now in took s _ c.take.ensures.step refl c.requires _ cancelled refl refl
+pub returns-clause-step : goal.returns-clause-step
+returns-clause-step g c = let s = c.args.self.now in took s _ c.take.ensures.step refl c.requires _ cancelled refl refl
+
+pub returns-clause-seen : goal.returns-clause-seen
+returns-clause-seen g c = let s = c.args.self.now in c.take.ensures.seen _ (its_acts {n = c.take.result} cancelled)

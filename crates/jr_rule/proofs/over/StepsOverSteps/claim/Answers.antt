@@ -4,7 +4,7 @@ use Rattle.std.proofs.Props.{props}
 use Rattle.jr_word.specs.declared.config.Config.{Config}
 use Rattle.jr_rule.proofs.FromMayKnow.{object_some}
 use Rattle.jr_rule.proofs.Readings.{one_slot, found_so}
-use Rattle.jr_rule.proofs.StepTaken.{exchange_at, may_in, owed, standing_next, took}
+use Rattle.jr_rule.proofs.StepTaken.{exchange_at, may_in, owed, standing_next, took, its_acts}
 use Rattle.jr_rule.proofs.SlotOwed.{claims_slot}
 use Rattle.jr_rule.proofs.Told.{claim_leaves, claim_won, claim_lost, Claimed}
 use Rattle.jr_rule.proofs.Slots.{free_fits, names_object}
@@ -36,12 +36,22 @@ of_word-requires g c =
     let s = c.args.self.now in
     one_slot (found_so c.exchange-found.ensures.step (may_in (g.C.Cells.sight s.cells) c.requires.role c.requires.looked) (λ k k' done t. let u = t.1 (λ e. c.if-found-looked.true (e ∙ sym c.pack-looked.ensures)) in (u.0, u.1, u.2)))
 
-pub returns-then-found-looked : goal.returns-then-found-looked
-returns-then-found-looked g c =
+pub returns-then-found-looked-clause-step : goal.returns-then-found-looked-clause-step
+returns-then-found-looked-clause-step g c =
     let s = c.args.self.now in
     took s _ c.exchange-found.ensures.step refl c.requires.role _ (claim_lost c.args.index c.args.serial c.args.kind c.args.object (λ e. c.if-found-looked.true (e ∙ sym c.pack-looked.ensures)) c.of_word.result c.of_word.ensures) refl refl
 
-pub returns : goal.returns
-returns g c =
+pub returns-then-found-looked-clause-seen : goal.returns-then-found-looked-clause-seen
+returns-then-found-looked-clause-seen g c =
+    let s = c.args.self.now in
+    c.exchange-found.ensures.seen _ (its_acts (claim_lost c.args.index c.args.serial c.args.kind c.args.object (λ e. c.if-found-looked.true (e ∙ sym c.pack-looked.ensures)) c.of_word.result c.of_word.ensures))
+
+pub returns-clause-step : goal.returns-clause-step
+returns-clause-step g c =
     let s = c.args.self.now in
     took s _ c.exchange-found.ensures.step refl c.requires.role _ (claim_won c.args.index c.args.serial c.args.kind c.args.object (c.if-found-looked.false ∙ c.pack-looked.ensures)) refl refl
+
+pub returns-clause-seen : goal.returns-clause-seen
+returns-clause-seen g c =
+    let s = c.args.self.now in
+    c.exchange-found.ensures.seen _ (its_acts (claim_won c.args.index c.args.serial c.args.kind c.args.object (c.if-found-looked.false ∙ c.pack-looked.ensures)))

@@ -3,7 +3,7 @@ use Rattle.jr_word.specs.Slot.{slot_word}
 use Rattle.jr_rule.specs.Slots.{parts_once_free}
 use Rattle.jr_rule.proofs.ActEffects.{freeing_role, freeing_fresh}
 use Rattle.jr_rule.proofs.FromMayKnow.{looked_can, looked_object}
-use Rattle.jr_rule.proofs.StepTaken.{exchange_at, may_in, owed, leaves, standing_next, took}
+use Rattle.jr_rule.proofs.StepTaken.{exchange_at, may_in, owed, leaves, standing_next, took, its_acts}
 use Rattle.jr_rule.proofs.SlotOwed.{frees_slot}
 use Rattle.jr_rule.proofs.Told.{freeing, Freed}
 use Rattle.jr_rule.proofs.Slots.{names_object}
@@ -33,10 +33,18 @@ invariant_of-self g c =
     let x = c.pack-looked.result.0 in
     record { at = c.exchange-found.ensures.there; stands = standing_next c.exchange-found.ensures.step (leaves (freeing h c.args.object x) (λ k. freeing_role h (n == x) s.role) (λ k. freeing_fresh h (n == x) s.fresh)) c.requires.role (g.met.C.Cells.sound c.exchange-found.new.cells s.place c.exchange-found.ensures.there) s.stands (may_in (g.C.Cells.sight s.cells) c.requires.role c.requires.looked) }
 
-pub returns : goal.returns
-returns g c =
+pub returns-clause-step : goal.returns-clause-step
+returns-clause-step g c =
     let s = c.args.self.now in
     let h = c.args.handle in
     let n = c.exchange-found.result in
     let x = c.pack-looked.result.0 in
     took s _ c.exchange-found.ensures.step refl c.requires.role _ (freeing h c.args.object x) (freeing_role h (n == x) s.role) (freeing_fresh h (n == x) s.fresh)
+
+pub returns-clause-seen : goal.returns-clause-seen
+returns-clause-seen g c =
+    let s = c.args.self.now in
+    let h = c.args.handle in
+    let n = c.exchange-found.result in
+    let x = c.pack-looked.result.0 in
+    c.exchange-found.ensures.seen _ (its_acts (freeing h c.args.object x))

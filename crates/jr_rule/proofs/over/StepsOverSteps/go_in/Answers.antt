@@ -4,7 +4,7 @@ use Rattle.jr_steps.specs.Acts.{act_of_entry}
 use Rattle.jr_rule.proofs.ActEffects.{entered_fresh}
 use Rattle.jr_rule.proofs.GateOwed.{enters}
 use Rattle.jr_rule.proofs.Told.{entry}
-use Rattle.jr_rule.proofs.StepTaken.{may_any, owed, leaves, standing_next, took}
+use Rattle.jr_rule.proofs.StepTaken.{may_any, owed, leaves, standing_next, took, its_acts}
 use Rattle.jr_rule.proofs.over.StepsOverSteps.go_in.Goals as goal
 
 pub add-found-requires-clause-owed : goal.add-found-requires-clause-owed
@@ -16,10 +16,15 @@ invariant_of-self g c =
     let left = leaves (entry _ true c.is_closed.ensures c.if-is_closed.true) (λ k. ap (λ r. role_after r (act_of_entry false)) (sym c.requires)) (λ k. entered_fresh false s.fresh) in
     record { at = c.add-found.ensures.there; stands = standing_next c.add-found.ensures.step left c.requires (g.met.C.Cells.sound c.add-found.new.cells s.place c.add-found.ensures.there) s.stands (may_any (g.C.Cells.sight s.cells) c.requires s.stands) }
 
-pub returns-then-is_closed : goal.returns-then-is_closed
-returns-then-is_closed g c =
+pub returns-then-is_closed-clause-step : goal.returns-then-is_closed-clause-step
+returns-then-is_closed-clause-step g c =
     let s = c.args.self.now in
     took s _ c.add-found.ensures.step refl c.requires _ (entry _ true c.is_closed.ensures c.if-is_closed.true) (ap (λ r. role_after r (act_of_entry false)) (sym c.requires)) (entered_fresh false s.fresh)
+
+pub returns-then-is_closed-clause-seen : goal.returns-then-is_closed-clause-seen
+returns-then-is_closed-clause-seen g c =
+    let s = c.args.self.now in
+    c.add-found.ensures.seen _ (its_acts (entry _ true c.is_closed.ensures c.if-is_closed.true))
 
 pub invariant_of-self-else-is_closed : goal.invariant_of-self-else-is_closed
 invariant_of-self-else-is_closed g c =
@@ -27,7 +32,12 @@ invariant_of-self-else-is_closed g c =
     let left = leaves (entry _ false c.is_closed.ensures c.if-is_closed.false) (λ k. ap (λ r. role_after r (act_of_entry true)) (sym c.requires)) (λ k. entered_fresh true s.fresh) in
     record { at = c.add-found.ensures.there; stands = standing_next c.add-found.ensures.step left c.requires (g.met.C.Cells.sound c.add-found.new.cells s.place c.add-found.ensures.there) s.stands (may_any (g.C.Cells.sight s.cells) c.requires s.stands) }
 
-pub returns : goal.returns
-returns g c =
+pub returns-clause-step : goal.returns-clause-step
+returns-clause-step g c =
     let s = c.args.self.now in
     took s _ c.add-found.ensures.step refl c.requires _ (entry _ false c.is_closed.ensures c.if-is_closed.false) (ap (λ r. role_after r (act_of_entry true)) (sym c.requires)) (entered_fresh true s.fresh)
+
+pub returns-clause-seen : goal.returns-clause-seen
+returns-clause-seen g c =
+    let s = c.args.self.now in
+    c.add-found.ensures.seen _ (its_acts (entry _ false c.is_closed.ensures c.if-is_closed.false))

@@ -4,7 +4,7 @@ use Rattle.jr_model.specs.declared.event.Role.{Role}
 use Rattle.jr_rule.proofs.ActEffects.{left_role, left_fresh}
 use Rattle.jr_rule.proofs.GateOwed.{leaves as leaving}
 use Rattle.jr_rule.proofs.Told.{exit}
-use Rattle.jr_rule.proofs.StepTaken.{may_any, owed, leaves, standing_next, took}
+use Rattle.jr_rule.proofs.StepTaken.{may_any, owed, leaves, standing_next, took, its_acts}
 use Rattle.jr_rule.proofs.over.StepsOverSteps.go_out.Goals as goal
 
 pub take-requires-clause-owed : goal.take-requires-clause-owed
@@ -18,5 +18,8 @@ invariant_of-self g c =
     let left = leaves (exit s.role) (λ k. left_role s.role c.requires) (λ k. left_fresh s.role s.fresh) in
     record { at = c.take.ensures.there; stands = standing_next c.take.ensures.step left refl (g.met.C.Cells.sound c.take.new.cells s.place c.take.ensures.there) s.stands (may_any (g.C.Cells.sight s.cells) refl s.stands) }
 
-pub returns : goal.returns
-returns g c = let s = c.args.self.now in took s _ c.take.ensures.step refl refl _ (exit s.role) (left_role s.role c.requires) (left_fresh s.role s.fresh)
+pub returns-clause-step : goal.returns-clause-step
+returns-clause-step g c = let s = c.args.self.now in took s _ c.take.ensures.step refl refl _ (exit s.role) (left_role s.role c.requires) (left_fresh s.role s.fresh)
+
+pub returns-clause-seen : goal.returns-clause-seen
+returns-clause-seen g c = let s = c.args.self.now in c.take.ensures.seen _ (its_acts {n = c.take.result} (exit s.role))

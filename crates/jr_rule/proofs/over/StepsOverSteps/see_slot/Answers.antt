@@ -2,7 +2,7 @@ use Rattle.std.proofs.Common.{rules, refl, sym, subst, ◌<◌}
 use Rattle.jr_word.specs.declared.config.Config.{Config}
 use Rattle.jr_rule.proofs.ActEffects.{slot_load_role, slot_load_fresh}
 use Rattle.jr_rule.proofs.Readings.{one_slot, found_so}
-use Rattle.jr_rule.proofs.StepTaken.{load_at, may_any, owed, standing_next, took}
+use Rattle.jr_rule.proofs.StepTaken.{load_at, may_any, owed, standing_next, took, its_acts}
 use Rattle.jr_rule.proofs.SlotOwed.{sees_slot}
 use Rattle.jr_rule.proofs.Told.{slot_load, slot_look_leaves, SawSlot}
 use Rattle.jr_rule.proofs.over.StepsOverSteps.see_slot.Goals as goal
@@ -22,10 +22,18 @@ invariant_of-self g c =
 pub of_word-requires : goal.of_word-requires
 of_word-requires g c = let s = c.args.self.now in one_slot (found_so c.load-found.ensures.step (may_any (g.C.Cells.sight s.cells) c.requires.role s.stands) (λ k k' done t. (t.0, t.1, t.2)))
 
-pub returns : goal.returns
-returns g c =
+pub returns-clause-step : goal.returns-clause-step
+returns-clause-step g c =
     let s = c.args.self.now in
     let i = c.args.index in
     let name = c.args.name in
     let q = c.of_word.result in
     took s _ c.load-found.ensures.step refl c.requires.role _ (slot_load i name q c.of_word.ensures) (slot_load_role i name q s.role) (slot_load_fresh i name q s.fresh)
+
+pub returns-clause-seen : goal.returns-clause-seen
+returns-clause-seen g c =
+    let s = c.args.self.now in
+    let i = c.args.index in
+    let name = c.args.name in
+    let q = c.of_word.result in
+    c.load-found.ensures.seen _ (its_acts (slot_load i name q c.of_word.ensures))

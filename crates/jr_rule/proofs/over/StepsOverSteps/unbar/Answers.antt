@@ -4,7 +4,7 @@ use Rattle.std.proofs.Math.Logic.{∥∥₁_elim}
 use Rattle.std.proofs.Props.{props}
 use Rattle.jr_rule.proofs.GateOwed.{reopens}
 use Rattle.jr_rule.proofs.Told.{reopening}
-use Rattle.jr_rule.proofs.StepTaken.{may_in, owed, leaves, standing_next, took}
+use Rattle.jr_rule.proofs.StepTaken.{may_in, owed, leaves, standing_next, took, its_acts}
 use Rattle.jr_rule.proofs.over.StepsOverSteps.unbar.Goals as goal
 
 pub take-requires-clause-owed : goal.take-requires-clause-owed
@@ -17,5 +17,8 @@ invariant_of-self g c =
     let s = c.args.self.now in
     record { at = c.take.ensures.there; stands = standing_next c.take.ensures.step (leaves reopening (λ k. refl) (λ k. refl)) c.requires.role (g.met.C.Cells.sound c.take.new.cells s.place c.take.ensures.there) s.stands (may_in (g.C.Cells.sight s.cells) c.requires.role c.requires.closed) }
 
-pub returns : goal.returns
-returns g c = let s = c.args.self.now in took s _ c.take.ensures.step refl c.requires.role _ reopening refl refl
+pub returns-clause-step : goal.returns-clause-step
+returns-clause-step g c = let s = c.args.self.now in took s _ c.take.ensures.step refl c.requires.role _ reopening refl refl
+
+pub returns-clause-seen : goal.returns-clause-seen
+returns-clause-seen g c = let s = c.args.self.now in c.take.ensures.seen _ (its_acts {n = c.take.result} reopening)

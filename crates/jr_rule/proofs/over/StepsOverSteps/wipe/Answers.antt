@@ -2,8 +2,9 @@ use Rattle.std.proofs.Common.{rules, refl, sym, subst, ◌<◌}
 use Rattle.jr_word.specs.declared.config.Config.{Config}
 use Rattle.jr_rule.proofs.CollectOwed.{wipes_slot}
 use Rattle.jr_rule.proofs.Told.{wiped_some, plainly, Wiped}
+use Rattle.jr_steps.specs.Knowing.{keeps}
 use Rattle.jr_rule.proofs.FromMayKnow.{wipe_is}
-use Rattle.jr_rule.proofs.StepTaken.{exchange_at, may_in, owed, leaves, standing_next, took}
+use Rattle.jr_rule.proofs.StepTaken.{exchange_at, may_in, owed, leaves, standing_next, took, its_acts}
 use Rattle.jr_rule.proofs.over.StepsOverSteps.wipe.Goals as goal
 
 pub pack-looked-requires : goal.pack-looked-requires
@@ -22,5 +23,8 @@ invariant_of-self g c =
     let s = c.args.self.now in
     record { at = c.exchange.ensures.there; stands = standing_next c.exchange.ensures.step (leaves (plainly (λ k k' done t. t)) (λ k. refl) (λ k. refl)) c.requires.role (g.met.C.Cells.sound c.exchange.new.cells s.place c.exchange.ensures.there) s.stands (may_in (g.C.Cells.sight s.cells) c.requires.role c.requires.can) }
 
-pub returns : goal.returns
-returns g c = let s = c.args.self.now in took s _ c.exchange.ensures.step refl c.requires.role _ (plainly (λ k k' done t. t)) refl refl
+pub returns-clause-step : goal.returns-clause-step
+returns-clause-step g c = let s = c.args.self.now in took s _ c.exchange.ensures.step refl c.requires.role _ (plainly (λ k k' done t. t)) refl refl
+
+pub returns-clause-seen : goal.returns-clause-seen
+returns-clause-seen g c = let s = c.args.self.now in c.exchange.ensures.seen _ (its_acts {told = Wiped c.args.index c.args.serial} {n = c.exchange.result} {shows = keeps} (plainly (λ k k' done t. t)))

@@ -1,7 +1,7 @@
 use Rattle.std.proofs.Common.{eqb}
 use prog.Atomic.{either}
 use Rattle.jr_rule.proofs.RuleKept.{plays}
-use Rattle.jr_rule.proofs.SeatStepped.{seated, place_here, owes_here, seat_next, seat_stepped}
+use Rattle.jr_rule.proofs.SeatStepped.{seated, place_here, owes_here, seat_next, seat_stepped, seat_went}
 use Rattle.jr_rule.proofs.row.RoomCellsCellsRefRoom.exchange.Goals as goal
 
 pub compare_exchange-requires : goal.compare_exchange-requires
@@ -15,3 +15,6 @@ returns-clause-there g c = seat_next c.compare_exchange.ensures.2 c.compare_exch
 
 pub returns-clause-step : goal.returns-clause-step
 returns-clause-step g c = seat_stepped c.compare_exchange.ensures.2 c.compare_exchange.ensures.0
+
+pub returns-clause-seen : goal.returns-clause-seen
+returns-clause-seen g c = seat_went c.compare_exchange.ensures.2 c.requires.owed.may

@@ -1,5 +1,5 @@
 use Rattle.jr_rule.proofs.RuleKept.{plays}
-use Rattle.jr_rule.proofs.SeatStepped.{seated, place_here, owes_here, seat_next, seat_stepped}
+use Rattle.jr_rule.proofs.SeatStepped.{seated, place_here, owes_here, seat_next, seat_stepped, seat_went}
 use Rattle.jr_rule.proofs.row.RoomCellsCellsRefRoom.load.Goals as goal
 
 pub load-requires : goal.load-requires
@@ -13,3 +13,6 @@ returns-clause-there g c = seat_next c.load.ensures.2 c.load.ensures.0 c.require
 
 pub returns-clause-step : goal.returns-clause-step
 returns-clause-step g c = seat_stepped c.load.ensures.2 c.load.ensures.0
+
+pub returns-clause-seen : goal.returns-clause-seen
+returns-clause-seen g c = seat_went c.load.ensures.2 c.requires.owed.may

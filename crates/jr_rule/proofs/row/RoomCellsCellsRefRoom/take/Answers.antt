@@ -1,6 +1,6 @@
 use Rattle.std.proofs.Common.{◌+◌, ◌-◌, ◌%◌, ◌^◌}
 use Rattle.jr_rule.proofs.RuleKept.{plays}
-use Rattle.jr_rule.proofs.SeatStepped.{seated, place_here, owes_here, seat_next, seat_stepped}
+use Rattle.jr_rule.proofs.SeatStepped.{seated, place_here, owes_here, seat_next, seat_stepped, seat_went}
 use Rattle.jr_rule.proofs.row.RoomCellsCellsRefRoom.take.Goals as goal
 
 pub fetch_sub-requires : goal.fetch_sub-requires
@@ -14,3 +14,6 @@ returns-clause-there g c = seat_next c.fetch_sub.ensures.2 c.fetch_sub.ensures.0
 
 pub returns-clause-step : goal.returns-clause-step
 returns-clause-step g c = seat_stepped c.fetch_sub.ensures.2 c.fetch_sub.ensures.0
+
+pub returns-clause-seen : goal.returns-clause-seen
+returns-clause-seen g c = seat_went c.fetch_sub.ensures.2 c.requires.owed.may
