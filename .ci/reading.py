@@ -23,6 +23,10 @@ NAMED_TYPE = re.compile(r"=\s*([^;]+)")
 NAMED = re.compile(r"^pub type (\w+)[^=;]*=\s*([^;]+);", re.M)
 HELD_TYPE = re.compile(r"[(:<] ?([A-Z]\w*)")
 CLAUSE = re.compile(r"\b(requires|ensures)\*?(?:\s+(\w+))?\s*\Z")
+BOUND = re.compile(r"\b([A-Z]\w*)\s*:\s*([A-Z]\w*)")
+MEMBER = re.compile(r"(?<![\w.])([A-Z]\w*)\.([A-Za-z]\w*)")
+# Traits whose members count for nothing beside the trait itself: what they are in a room is a claim of its own.
+TOLD_APART = ("Steps",)
 
 
 @dataclass
@@ -57,11 +61,12 @@ class Item:
 
 @dataclass
 class Clause:
-    """A clause of a function: `requires` or `ensures`, its own name, which may be empty, from where to where it stands in its file, and the words of it that mean something, in their order, each with the name that it means."""
+    """A clause of a function: `requires` or `ensures`, its own name, which may be empty, from where to where it stands in its file, the words of it that mean something, in their order, each with the name that it means, and the members of traits that it says through a type parameter (`E.word_of`), each as the trait and its name."""
     kind: str
     name: str
     place: tuple
     words: list
+    members: set
 
 
 def text_of(path):
@@ -103,11 +108,12 @@ def bound_words(text):
 
 
 class Scope:
-    """What words mean: by themselves, and behind the name of a module."""
+    """What words mean: by themselves, and behind the name of a module; and the traits of type parameters."""
 
     def __init__(self, text, above=None):
         self.words = dict(above.words) if above else {}
         self.modules = dict(above.modules) if above else {}
+        self.traits = dict(above.traits) if above else {}
         for path, words, module in IMPORT.findall(text):
             if module:
                 self.modules[module] = path
@@ -225,19 +231,23 @@ class Source:
                 plain = re.sub(r"<[^<>]*(?:<[^<>]*>[^<>]*)*>", "", text).partition("where")[0]
                 of = " ".join(re.sub(r"^impl(?:<[^<>]*>)?", "", text).split())
                 within = self.named.get(of, " ".join(plain.split()[1:])) if kind == "impl" else head["name"]
+                scope.traits = {**scope.traits, **dict(BOUND.findall(text))} if kind == "impl" else {"Self": head["name"]}
                 self.block(braces[-1][0] + 1, stop - 1, scope, within, kind == "trait")
+                scope.traits = {}
 
     def item(self, head, braces, stop, scope, inside, in_trait):
         """Returns a function, a type or a ghost member."""
         kind, first = head["kind"], braces[0][0] if braces else stop
         signature = self.code[head.start():first] if kind == "fn" else ""
         bound = set(re.findall(r"(\w+):", signature))
+        traits = {**scope.traits, **dict(BOUND.findall(signature))}
         clauses, before = [], head.start()
         for start, close, is_said in braces:
             if is_said and kind in ("fn", "ghost"):
                 text, word = self.code[start:close], CLAUSE.search(self.code, before, start)
                 words = scope.words_said(text, bound_words(text) | bound)
-                clauses.append(Clause(word[1] if word else "", word[2] or "" if word else "", (start, close), words))
+                members = {(traits[it], member) for it, member in MEMBER.findall(text) if it in traits}
+                clauses.append(Clause(word[1] if word else "", word[2] or "" if word else "", (start, close), words, members))
             before = close
         said = {name for it in clauses for _, name in it.words}
         held = {"struct": PUBLIC_FIELD, "enum": HELD_TYPE, "type": NAMED_TYPE}
@@ -337,6 +347,24 @@ class Repository:
             self.types.update({(crate, it.name): (f"{crate}.specs.declared.{it.module}", it.name) for it in items if it.kind in ("struct", "enum", "type")})
         self.said.update({name: it.says for name, it in self.definitions.items()})
         self.read_types()
+
+    def says(self, item, clause="", impls=()):
+        """Returns the names that an item says, or its clauses of this name alone with its signature. A member of a trait that it says through a type parameter counts as what the trait says of it and its impls do: those for these types, where the trait has some of them, else all."""
+        chosen = [it for it in item.clauses if not clause or it.name == clause]
+        own = {name for it in chosen for _, name in it.words}
+        others = {name for it in item.clauses for _, name in it.words}
+        found = item.says if not clause else own | (item.says - others)
+        for trait, member in set().union(*(it.members for it in chosen)):
+            if trait not in TOLD_APART:
+                found = found | self.member(trait, member, impls)
+        return found
+
+    def member(self, trait, member, impls):
+        """Returns the names that a member of a trait stands for."""
+        of = [it for it in self.items if it.kind == "ghost" and it.name == member]
+        in_impls = [it for it in of if it.inside.startswith(f"{trait} for ")]
+        chosen = [it for it in in_impls if it.inside in impls] or in_impls
+        return set().union(*(it.says for it in chosen), *(it.says for it in of if it.in_trait and it.inside == trait))
 
     def read_types(self):
         """Adds to what items say the types of their signatures and fields: of the crate that the source names, or of the lowest one, where that has them from below."""

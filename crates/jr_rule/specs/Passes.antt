@@ -124,6 +124,15 @@ pub record ClosesAll (k : Known) (ks : List Known) (s : Summary) : Type 0 where
   pub nobody : not_outside k.config (state_of met) ≡ 0
   pub ends : EndsAll met ks s
 
+-- ALL THESE PASSES SAW ONE HISTORY: the first looked at the gate, and there is a legal history that begins with all that each of them has seen and has no more of their events; and where each thread of the room has its pass among them, it has no others
+pub record SawOneHistory (k : Known) (ks : List Known) : Type 0 where
+  pub met : Known
+  pub goes : Goes k (Meet ∷ []) met
+  pub whole : History
+  pub legal : IsLegal met.config met.last whole
+  pub each : AllByRecursion (IsSeenIn whole) (met ∷ ks)
+  pub alone : HasEachPass met.config (met ∷ ks) → HasNoOthers whole (met ∷ ks)
+
 -- one of these passes is the thread's, and all that it has seen is seen
 abbrev pub IsSeenOf : Known → ℕ → List Known → Type 0
 IsSeenOf k t [] = ⊥

@@ -19,7 +19,7 @@ pub struct AllLeft<const LAST: u32> {
 }
 
 impl<const LAST: u32> Room<LAST> {
-    ghost use Rattle.jr_rule.specs.Passes.{known_of, ClosesAll, HasSeenAll};
+    ghost use Rattle.jr_rule.specs.Passes.{known_of, ClosesAll, SawOneHistory, HasSeenAll};
     ghost use Rattle.jr_rule.specs.Rooms.{IsOfRoom, AreLeft};
 
     /// Closes the room with several of its passes, and tells what stands in it. What is told is of a history that has no more events of any of them, and where the pass has seen all that each other thread did, it is of what the pass has seen. The passes have to be the room's.
@@ -37,6 +37,7 @@ impl<const LAST: u32> Room<LAST> {
         requires pass { IsOfRoom self pass }
         requires others { All (λ p. IsOfRoom self p) others.items }
         ensures ok { IfOk result (λ s. ClosesAll (known_of pass) (map known_of others.items) s) }
+        ensures seen { IfOk result (λ s. SawOneHistory (known_of pass) (map known_of others.items)) }
         ensures exact { IfOk result (λ s. HasSeenAll (known_of pass) (map known_of others.items) → s ≡ summary_of (known_of pass).config (known_of pass).last (state_of (known_of pass))) }
         ensures err { IfErr result (λ l. AreLeft self.entry pass others.items l) }
     {

@@ -19,7 +19,9 @@ impl<'a, const LAST: u32> StepsOver<RoomCells, &'a Room<LAST>> {
     /// The steps of a pass in its own room. That the pass is one of the room's is a condition: it has no bytes that name its room.
     pub fn new(room: &'a Room<LAST>, pass: Pass) -> Self
         requires { IsOfRoom room.now pass }
-        ensures { (result.place ≡ room.entry) × (holder_over result ≡ holder_of pass) }
+        ensures room { result.place ≡ room.entry }
+        ensures pass { holder_over result ≡ holder_of pass }
+        ensures seen { acting result.cells.seat.me ≡ known_of pass }
     {
         let Pass {
             seat,
@@ -44,7 +46,9 @@ impl<'a, const LAST: u32> StepsOver<RoomCells, &'a Room<LAST>> {
     ///
     /// None.
     pub fn into_pass(self) -> Pass
-        ensures { (holder_of result ≡ holder_over self.entry) × IsOfRoom self.entry.place.now result }
+        ensures pass { holder_of result ≡ holder_over self.entry }
+        ensures room { IsOfRoom self.entry.place.now result }
+        ensures seen { known_of result ≡ acting self.entry.cells.seat.me }
     {
         let StepsOver {
             cells,

@@ -48,9 +48,9 @@ returns c =
     let global = word_or_null c.in_ok-new_global_ref.field-0 c.unwrap_or-global.result c.unwrap_or-global.ensures in
     let calls = shared _ _ _ _ _ _ _ _ _ _ _ _ _ _ _ _ _ _ _ _ _ _ _ _ _ _ c.in_ok-lost.lost c.in_ok-array.array c.in_ok-new_weak_global_ref.field-0 c.in_ok-new_global_ref.field-0 c.in_ok-pop_local_frame.field-0 c.in-Err-Busy.inside c.in_ok-collect_in_turn.field-0 c.in_ok-cleared.cleared c.in_ok-kind.kind
     c.in-Ok.ensures.outside d1 d2 d3 d4 d5 d6 d7 (refused_as c.in-Err-Busy.field-0-is d8) d9 (same_on _ _ 0 _ weak d10) (deleted_on _ _ _ global d11) (typed_on _ _ _ global d12) in
-    let handed = c.into_pass-2.ensures.0 ∙ ap holder_over (c.into_pass.ensures.steps d12.outside) in (
-      at_end c.args.room.now.row c.args.pass (holder_over c.new.result) _ c.into_pass-2.result c.requires.row c.new.ensures.1 same handed,
+    let handed = c.into_pass-2.ensures.pass ∙ ap holder_over (c.into_pass.ensures.steps d12.outside) in (
+      at_end c.args.room.now.row c.args.pass (holder_over c.new.result) _ c.into_pass-2.result c.requires.row c.new.ensures.pass same handed,
       busy_some _ c.in-Err-Busy.inside c.in-Err-Busy.field-0-is c.in-Err-Busy.ensures.busy,
-      played holder_over sharing c.new.result _ _ c.args.pass c.into_pass-2.result _ _ (c.in-Err-Busy.inside, c.in_ok-cleared.cleared, c.in_ok-kind.kind) c.in-Ok.ensures.steps calls c.new.ensures.1 handed
-          (c.in-Ok.ensures.frames ∙ ap (λ (h : Holder). fresh_frames (facts_of h).stands.config.locals) c.new.ensures.1),
+      played holder_over sharing c.new.result _ _ c.args.pass c.into_pass-2.result _ _ (c.in-Err-Busy.inside, c.in_ok-cleared.cleared, c.in_ok-kind.kind) c.in-Ok.ensures.steps calls c.new.ensures.pass handed
+          (c.in-Ok.ensures.frames ∙ ap (λ (h : Holder). fresh_frames (facts_of h).stands.config.locals) c.new.ensures.pass),
     )

@@ -32,9 +32,9 @@ returns c =
     let calls = visited (λ s k h. h.1) _ _ _ _ _ _ _ _ _ _ _ _ _ c.in_ok-wait.field-0 c.in_ok-object.object c.in_ok-new_object_array.field-0 c.in_ok-pop_local_frame.field-0 c.in_ok-region.region (signed_word w32 c.in_ok-read.field-0)
     c.in-Ok.ensures.outside d1 d2 d3 d4 ((c.in_ok-region.ensures.entered).opens d4.outside) _ _ frames (ap (λ (t : Table). t.frames) c.get_critical-read.ensures.frames ∙ frames) c.in_ok-read.ensures.call ended.call in
     let own : to_z w32 (of_z w32 c.in_ok-read.field-0) ≡ c.in_ok-read.field-0 = search rules in
-    let handed = c.into_pass-2.ensures.0 ∙ ap holder_over (c.into_pass.ensures.steps ended.outside) in (
-      at_end c.args.room.now.row c.args.pass (holder_over c.new.result) _ c.into_pass-2.result c.requires.row c.new.ensures.1 same handed,
+    let handed = c.into_pass-2.ensures.pass ∙ ap holder_over (c.into_pass.ensures.steps ended.outside) in (
+      at_end c.args.room.now.row c.args.pass (holder_over c.new.result) _ c.into_pass-2.result c.requires.row c.new.ensures.pass same handed,
       subst (HasVisited c.args.pass c.into_pass-2.result) (sym own) (
-          played holder_over visiting c.new.result _ _ c.args.pass c.into_pass-2.result _ _ (signed_word w32 c.in_ok-read.field-0) c.in-Ok.ensures.steps calls c.new.ensures.1 handed
-          (c.in-Ok.ensures.frames ∙ ap (λ (h : Holder). fresh_frames (facts_of h).stands.config.locals) c.new.ensures.1)),
+          played holder_over visiting c.new.result _ _ c.args.pass c.into_pass-2.result _ _ (signed_word w32 c.in_ok-read.field-0) c.in-Ok.ensures.steps calls c.new.ensures.pass handed
+          (c.in-Ok.ensures.frames ∙ ap (λ (h : Holder). fresh_frames (facts_of h).stands.config.locals) c.new.ensures.pass)),
     )

@@ -9,8 +9,8 @@ pub returns : goal.returns
 returns g c =
     let x = c.run_to_end-answer.ensures.ended in
     ran_pass holder_over c.new.result _ _ c.args.pass c.into_pass.result _ _ c.args.turns c.args.first _ c.args.part.now.commands c.run_to_end-answer.result _ x.0 c.opened_env-env.ensures.steps c.run_to_end-answer.new.env.ready.spent x.2
-    c.new.ensures.1
-    (c.into_pass.ensures.0 ∙ ap holder_over (c.into_pass-steps.ensures.steps (x.2.stands_is.role ∙ c.opened_env-env.ensures.outside)))
-    (c.opened_env-env.ensures.frames ∙ ap (λ (h : Holder). fresh_frames (facts_of h).stands.config.locals) c.new.ensures.1)
+    c.new.ensures.pass
+    (c.into_pass.ensures.pass ∙ ap holder_over (c.into_pass-steps.ensures.steps (x.2.stands_is.role ∙ c.opened_env-env.ensures.outside)))
+    (c.opened_env-env.ensures.frames ∙ ap (λ (h : Holder). fresh_frames (facts_of h).stands.config.locals) c.new.ensures.pass)
     c.as_slice-commands.ensures
     (x.1 ∙ ap (λ l. l ++ x.0) c.new-text.ensures.items)

@@ -34,5 +34,10 @@ returns-clause-ok g c =
       ends = c.close_all.ensures;
     }
 
+pub returns-clause-seen : goal.returns-clause-seen
+returns-clause-seen g c =
+    let all = returns-clause-ok g c in
+    let ends = all.ends in record { met = all.met; goes = all.goes; whole = ends.whole; legal = ends.legal; each = (ends.first, ends.others); alone = ends.alone }
+
 pub returns-clause-exact : goal.returns-clause-exact
 returns-clause-exact g c all = exactly (known_of c.args.pass) (map known_of c.args.others.items) c.close_all.result (returns-clause-ok g c) all
