@@ -1,21 +1,26 @@
 -- The examples of calls.
-use Rattle.std.proofs.Common.{◌≡◌, ℕ, not, nat_le, Result, Ok, Some, None, [], ◌∷◌, ◌++◌, inl, inr, refl, ap, ◌∙◌}
+use Rattle.std.proofs.Common.{◌≡◌, ℕ, not, nat_le, List, Result, Ok, Err, Some, None, [], ◌∷◌, ◌++◌, inl, inr, refl, ap, ◌∙◌}
 use Rattle.jr_word.specs.declared.fault.Fault.{Fault}
 use Rattle.jr_word.specs.declared.fault.Fault.TheVariants as fault
-use Rattle.jr_word.specs.declared.kind.Kind.TheVariants.{Text}
+use Rattle.jr_word.specs.declared.kind.Kind.TheVariants.{Int, Text}
 use Rattle.jr_model.specs.declared.event.Found.TheVariants.{Cleared}
-use Rattle.jr_model.specs.declared.event.Act.TheVariants.{Gate, Look}
+use Rattle.jr_model.specs.declared.event.Act.{Act}
+use Rattle.jr_model.specs.declared.event.Act.TheVariants.{Gate, Look, ReserveFull}
 use Rattle.jr_model.specs.declared.event.GateAct.TheVariants.{Enter, Leave}
 use Rattle.jr_word.specs.declared.handle.RefKind.TheVariants.{Weak}
 use Rattle.jr_model.specs.Frames.{Frames}
 use Rattle.jr_model.specs.Checks.{Parts, is_array, is_primitive, is_text, type_found}
-use Rattle.jr_model.specs.References.{get_object_ref_type, resolved}
+use Rattle.jr_model.specs.References.{new_array, get_object_ref_type, resolved}
 use Rattle.jr_model.specs.Parts.{not_null}
 use Rattle.jr_model.specs.Calls.{Call, ◌>>=◌, ◌>>◌, done, refuse_if, for_object}
 use Rattle.jr_model.specs.declared.frames.TheConstants.{LEVELS}
 use Rattle.jr_model.specs.State.{Contents}
 use Rattle.jr_model.specs.Examples.{last_serial, w}
-use Rattle.jr_model.specs.CallExamples.{quiet_room, fresh, LengthOfNothing, TypeOfNothing, CallsOnCleared, CallsOnNull, named, never_given, with_text, SecondLevel, CopiedElements}
+use Rattle.jr_model.specs.Maps.{sum_below}
+use Rattle.jr_model.proofs.OwnActs.{IsAmong}
+use Rattle.jr_model.proofs.Shown.{entered_shows}
+use Rattle.jr_model.proofs.TrueRefusals.{made_alike}
+use Rattle.jr_model.specs.CallExamples.{quiet_room, fresh, LengthOfNothing, TypeOfNothing, CallsOnCleared, CallsOnNull, named, never_given, with_text, SecondLevel, CopiedElements, ArrayLacksSpace}
 
 pub length_of_nothing : LengthOfNothing
 length_of_nothing = record {
@@ -186,4 +191,30 @@ copied_elements = record {
   set = inl (tt, fresh, [], [], refl, (refl, refl, refl), (refl, refl, refl));
   set_past = inr (fault.Range, refl, (refl, refl, refl));
   long = (refl, refl, refl);
+}
+
+refused_for : (u : ℕ) (g : Frames) (acts : List Act) → new_array quiet_room last_serial 0 Int 20 fresh acts (Err (fault.SpaceFull u)) g → IsAmong (ReserveFull 20 u) acts
+refused_for u g acts r = ((entered_shows (made_alike quiet_room last_serial 0 Int 20 0)).acts fresh g acts (fault.SpaceFull u) r).0
+
+nil_behind : (front : List Act) (a : Act) (rest : List Act) → ◌≡◌ {A = List Act} [] (front ++ a ∷ rest) → ⊥
+nil_behind [] a rest is = cc
+nil_behind (x ∷ front) a rest is = cc
+
+found_among : (u : ℕ) (front rest : List Act) → Gate Enter ∷ ReserveFull 20 3 ∷ Gate Leave ∷ [] ≡ front ++ ReserveFull 20 u ∷ rest → u ≡ 3
+found_among u [] rest is = absurd cc
+found_among u (x ∷ []) rest is = cc
+found_among u (x ∷ y ∷ []) rest is = absurd cc
+found_among u (x ∷ y ∷ z ∷ front) rest is = absurd (nil_behind front (ReserveFull 20 u) rest cc)
+
+none_among : (u : ℕ) (front rest : List Act) → Gate Enter ∷ Gate Leave ∷ [] ≡ front ++ ReserveFull 20 u ∷ rest → ⊥
+none_among u [] rest is = cc
+none_among u (x ∷ []) rest is = cc
+none_among u (x ∷ y ∷ front) rest is = nil_behind front (ReserveFull 20 u) rest cc
+
+pub array_lacks_space : ArrayLacksSpace
+unfolding sum_below
+array_lacks_space = record {
+  refused = inr (ReserveFull 20 3 ∷ [], refl, inl (tt, fresh, [], ReserveFull 20 3 ∷ [], refl, (refl, refl, refl), inr (fault.SpaceFull 3, refl, inr (inl (inl (3, fresh, ReserveFull 20 3 ∷ [], [], refl, (3, refl, refl, refl), (refl, refl, refl)))))));
+  found_only = λ u g r. let a = refused_for u g _ r in found_among u a.0 a.1 a.2;
+  asks_first = λ u g r. let a = refused_for u g _ r in none_among u a.0 a.1 a.2;
 }

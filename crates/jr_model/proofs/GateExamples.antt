@@ -5,7 +5,7 @@ use Rattle.jr_word.specs.declared.kind.Kind.TheVariants.{Int}
 use Rattle.jr_model.specs.declared.event.Role.TheVariants.{Outside, Within, Collecting}
 use Rattle.jr_model.specs.Maps.{update, sum_below}
 use Rattle.jr_model.specs.State.{Contents, opening, is_barring}
-use Rattle.jr_model.specs.Examples.{two_threads, last_serial, GateIsLegal, WrongCountIsIllegal, ShuttingOverIsIllegal, EnteringBesideIsIllegal, SpaceIsLegal, ReadingAnotherIsIllegal, MakingBeyondIsIllegal}
+use Rattle.jr_model.specs.Examples.{two_threads, last_serial, GateIsLegal, WrongCountIsIllegal, ShuttingOverIsIllegal, EnteringBesideIsIllegal, KnockingAtOpenIsIllegal, SpaceIsLegal, RefusingWhatFitsIsIllegal, ReadingAnotherIsIllegal, MakingBeyondIsIllegal}
 use Rattle.jr_model.proofs.Updates.{at_number}
 use Rattle.jr_model.proofs.ReferenceExamples.{IsQuiet, none_stands, same_counts}
 
@@ -44,6 +44,9 @@ shutting_over_is_illegal l = let out = l.1.0.1.1 0 (λ e. cc) in cc
 
 pub entering_beside_is_illegal : EnteringBesideIsIllegal
 entering_beside_is_illegal l = let none = l.1.0.1.1 1 in cc
+
+pub knocking_at_open_is_illegal : KnockingAtOpenIsIllegal
+knocking_at_open_is_illegal t l = let closed = l.0.1.1.1 in absurd cc
 
 -- SPACE
 
@@ -101,3 +104,6 @@ reading_another_is_illegal t v ne l =
 pub making_beyond_is_illegal : MakingBeyondIsIllegal
 unfolding sum_below
 making_beyond_is_illegal t l = let room = l.1.1.0.1.5 in absurd (omega arith)
+
+pub refusing_what_fits_is_illegal : RefusingWhatFitsIsIllegal
+refusing_what_fits_is_illegal t n u few l = let used = l.1.1.0.1.1 in let full = l.1.1.0.1.2 in absurd (omega arith)

@@ -1,78 +1,30 @@
--- The refusals that speak of the shared room are true.
-use Rattle.std.proofs.Common.{◌≡◌, ◌≢◌, ◌⊎◌, ⊎_elim, inl, inr, ℕ, Bool, cond, if◌then◌else◌, zero, suc, ◌+◌, ◌<◌, ◌≤◌, List, [], ◌∷◌, ◌++◌, Some, None, Result, Ok, Err, ap, refl, sym, subst, ◌∙◌, append_assoc, arith}
+-- What a refused creation tells of the room is so, and calls are their stays.
+use Rattle.std.proofs.Common.{◌≡◌, ◌≢◌, ◌⊎◌, ⊎_elim, inl, inr, ℕ, Bool, ◌<◌, List, [], ◌∷◌, ◌++◌, Some, None, Result, Ok, Err, ap, refl, sym, subst, ◌∙◌}
 use mathlib.Core.List.{IsPrefix}
 use Rattle.std.proofs.lemmas.List.{append-nil}
 use Rattle.jr_word.specs.declared.config.Config.{Config}
 use Rattle.jr_word.specs.declared.handle.RefKind.{RefKind}
 use Rattle.jr_word.specs.declared.kind.Kind.{Kind}
 use Rattle.jr_word.specs.declared.fault.Fault.{Fault}
-use Rattle.jr_word.specs.declared.fault.Fault.TheVariants.{RowFull, SpaceFull, Barred, Busy}
-use Rattle.jr_model.specs.declared.event.Role.TheVariants.{Outside}
+use Rattle.jr_word.specs.declared.fault.Fault.TheVariants.{RowFull, Barred}
 use Rattle.jr_model.specs.declared.event.Act.{Act}
-use Rattle.jr_model.specs.declared.event.Act.TheVariants.{Gate, ShutBusy, Probe, ReserveFull}
+use Rattle.jr_model.specs.declared.event.Act.TheVariants.{Gate, Probe}
 use Rattle.jr_model.specs.declared.event.GateAct.TheVariants.{Enter, Knock, Leave, Withdraw}
 use Rattle.jr_model.specs.declared.frames.Mode.{Mode}
 use Rattle.jr_model.specs.declared.frames.Mode.TheVariants.{Copy, Commit, Abort}
-use Rattle.jr_model.specs.State.{State, SomebodyCloses, AreOthers, is_outside, not_outside, IsOccupied}
-use Rattle.jr_model.specs.History.{History, by, state, mine, PassView, Did}
+use Rattle.jr_model.specs.State.{IsOccupied}
+use Rattle.jr_model.specs.History.{History, by, state, PassView}
 use Rattle.jr_model.specs.Frames.{Frames}
 use Rattle.jr_model.specs.Windows.{IsBehind, IsLastSeen, Begins, Ends}
 use Rattle.jr_model.specs.Refusals.{RowWasFull}
 use Rattle.jr_model.specs.Calls.{Call, Ran, done, entered, ◌>>◌}
 use Rattle.jr_model.specs.Checks.{Word}
 use Rattle.jr_model.specs.Objects.{copying_back, release_array_elements}
-use Rattle.jr_model.specs.Parts.{enter, shut, reserve, create}
-use Rattle.jr_model.specs.Grounded.{TookWhere, BarredByCloser, BusyIsCounted, SpaceWasFull, FreeIndexIsFound, RefusedInItsStay, EachIsProbed, IsItsStay, CallsAreTheirStays}
-use Rattle.jr_model.proofs.Moments.{OneAct, first_done, prefix_trans}
+use Rattle.jr_model.specs.Parts.{create}
+use Rattle.jr_model.specs.Grounded.{FreeIndexIsFound, RefusedInItsStay, EachIsProbed, IsItsStay, CallsAreTheirStays}
+use Rattle.jr_model.proofs.Moments.{prefix_trans}
+use Rattle.jr_model.proofs.OwnActs.{seen_among}
 use Rattle.jr_model.proofs.Windows.{ends_last}
-use Rattle.jr_model.proofs.Updates.{eq_self}
-use Rattle.jr_model.proofs.Histories.{mine_append}
-use Rattle.jr_model.proofs.Stays.{append_cancel}
-
-taken : {P : State → Type 0} {old new : PassView} {a : Act} (o : OneAct old new a) → P (state o.before) → TookWhere P old new a
-taken o met = record { before = o.before; since = o.since; took = o.parts; from = o.from; met = met }
-
--- of a thread outside, those other than itself are all who are not
-all_others : (c : Config) (s : State) (t n : ℕ) → AreOthers c s t n → s.role t ≡ Outside → n ≡ not_outside c s
-all_others c s t n others out =
-    let none : ◌≡◌ {A = ℕ} (if is_outside (s.role t) then 0 else 1) 0 = ap (λ r. if is_outside r then 0 else 1) out in
-    omega (arith, others, none)
-
-module _ (old new : PassView) (f g : Frames) where
-  knocked : (acts : List Act) → Did old new acts → enter f acts (Err Barred) g → TookWhere SomebodyCloses old new (Gate Knock)
-  knocked acts d (inl r) = absurd (let bad = r.1 in cc)
-  knocked acts d (inr (inr r)) = absurd (let bad = r.2.1 in cc)
-  knocked acts d (inr (inl r)) =
-      let o = first_done (Gate Knock) r.3 (subst (Did old new) (r.4 ∙ ap (λ l. l ++ r.3) r.5.0) d) in
-      taken o o.needs.1.1
-
-  counted : (n : ℕ) (acts : List Act) → Did old new acts → shut f acts (Err (Busy n)) g → TookWhere (λ s. AreOthers old.config s old.thread n × (s.role old.thread ≡ Outside → n ≡ not_outside old.config s) × (1 ≤ n)) old new (ShutBusy n)
-  counted n acts d (inl r) = absurd (let bad = r.1 in cc)
-  counted n acts d (inr (inr r)) = absurd (let bad = r.2.2 in cc)
-  counted n acts d (inr (inl r)) =
-      let same : r.5.0 ≡ n = let a = r.5.2 in let b = r.6.1 in cc in
-      let o = first_done (ShutBusy r.5.0) r.3 (subst (Did old new) (r.4 ∙ ap (λ l. l ++ r.3) r.5.1) d) in
-      subst (λ m. TookWhere (λ s. AreOthers old.config s old.thread m × (s.role old.thread ≡ Outside → m ≡ not_outside old.config s) × (1 ≤ m)) old new (ShutBusy m)) same (taken o (o.needs.1.1, all_others old.config (state o.before) old.thread r.5.0 o.needs.1.1, o.needs.1.2))
-
-  filled : (words used : ℕ) (acts : List Act) → Did old new acts → reserve words f acts (Err (SpaceFull used)) g → TookWhere (λ s. (used ≡ s.used) × (old.config.words < used + words)) old new (ReserveFull words used)
-  filled zero used acts d r = absurd (let bad = r.1 in cc)
-  filled (suc n) used acts d (inl r) = absurd (let bad = r.1 in cc)
-  filled (suc n) used acts d (inr (inl (inr r))) = absurd (let bad = r.2.2 in cc)
-  filled (suc n) used acts d (inr (inr (inl r))) = absurd (let bad = r.6.1 in cc)
-  filled (suc n) used acts d (inr (inr (inr r))) = absurd (let bad = r.2.2 in cc)
-  filled (suc n) used acts d (inr (inl (inl r))) =
-      let same : r.5.0 ≡ used = let a = r.5.2 in let b = r.6.1 in cc in
-      let o = first_done (ReserveFull (suc n) r.5.0) r.3 (subst (Did old new) (r.4 ∙ ap (λ l. l ++ r.3) r.5.1) d) in
-      subst (λ (u : ℕ). TookWhere (λ s. (u ≡ s.used) × (old.config.words < u + suc n)) old new (ReserveFull (suc n) u)) same (taken o (o.needs.1.1, o.needs.1.2))
-
-pub barred_by_closer : BarredByCloser
-barred_by_closer old new f g r = knocked old new f g r.acts r.did r.is
-
-pub busy_is_counted : BusyIsCounted
-busy_is_counted old new f g n r = counted old new f g n r.acts r.did r.is
-
-pub space_was_full : SpaceWasFull
-space_was_full old new f g words used r = filled old new f g words used r.acts r.did r.is
 
 module _ (old new : PassView) (f g : Frames) where
   -- where an index was free since its probes, none of them was of a refused creation
@@ -122,16 +74,9 @@ module _ (old new : PassView) (f g : Frames) where
   probed_act : {A : Type 0} (call : Call A) (r : Ran old new f g call (Err RowFull)) (i : ℕ) → i < old.config.slots → (front rest : List Act) × (found : Bool) × (r.acts ≡ front ++ Probe i found ∷ rest)
   probed_act call r i l =
       let w = r.grounds i (subst (λ c. i < c.slots) (sym r.did.config) l) in
-      let t = old.thread in
-      let p = prefix_trans old.seen r.begun w.before r.window.from w.own in
-      let probe = by t (Probe i w.found) in
-      let seen : new.seen ≡ w.before ++ probe ∷ w.since = subst (λ u. new.seen ≡ w.before ++ by u (Probe i w.found) ∷ w.since) r.did.thread w.probed in
-      let cut : new.seen ≡ old.seen ++ (p.0 ++ probe ∷ w.since) = seen ∙ (ap (λ es. es ++ probe ∷ w.since) (sym p.1) ∙ append_assoc old.seen p.0 (probe ∷ w.since)) in
-      let here : mine (probe ∷ w.since) t ≡ Probe i w.found ∷ mine w.since t = ap (λ b. cond b (Probe i w.found ∷ mine w.since t) (mine w.since t)) (eq_self t) in
-      let rest : mine (p.0 ++ probe ∷ w.since) t ≡ mine p.0 t ++ Probe i w.found ∷ mine w.since t = mine_append p.0 (probe ∷ w.since) t ∙ ap (λ acts. mine p.0 t ++ acts) here in
-      let both : mine old.seen t ++ r.acts ≡ mine old.seen t ++ (mine p.0 t ++ Probe i w.found ∷ mine w.since t)
-      = sym r.did.own ∙ (ap (λ es. mine es t) cut ∙ (mine_append old.seen (p.0 ++ probe ∷ w.since) t ∙ ap (λ acts. mine old.seen t ++ acts) rest)) in
-      (mine p.0 t, mine w.since t, w.found, append_cancel (mine old.seen t) r.acts (mine p.0 t ++ Probe i w.found ∷ mine w.since t) both)
+      let among = seen_among (Probe i w.found) w.before w.since (prefix_trans old.seen r.begun w.before r.window.from w.own)
+      (subst (λ t. new.seen ≡ w.before ++ by t (Probe i w.found) ∷ w.since) r.did.thread w.probed) r.acts r.did in
+      (among.0, among.1, w.found, among.2)
 
 pub free_index_is_found : FreeIndexIsFound
 free_index_is_found old new f g k o i l free r = found_free old new f g k o i l free r

@@ -26,7 +26,7 @@ all_precede : (e : Fault) (acts : List Act) → AreHarmless acts → AllByRecurs
 all_precede e [] h = tt
 all_precede e (a ∷ acts) h = (precede e a h.0, all_precede e acts h.1)
 
-same_fault : {A : Type 0} (e e' : Fault) → ◌≡◌ {A = Result A Fault} (Err e) (Err e') → e' ≡ e
+pub same_fault : {A : Type 0} (e e' : Fault) → ◌≡◌ {A = Result A Fault} (Err e) (Err e') → e' ≡ e
 same_fault e e' is = cc
 
 -- where the call goes on, it changed nothing so far

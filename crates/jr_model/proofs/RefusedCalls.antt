@@ -3,13 +3,13 @@ use Rattle.std.proofs.Common.{◌≡◌, inl, inr, ℕ, zero, suc, ◌<◌, ◌+
 use Rattle.std.proofs.lemmas.Bool.Decides.{nat_tests}
 use Rattle.std.specs.List.{AllByRecursion}
 use Rattle.jr_word.specs.declared.fault.Fault.{Fault}
-use Rattle.jr_word.specs.declared.fault.Fault.TheVariants.{ObjectsFull, LocalsFull, NoFrame, NotArray, WrongElement, WrongKind, Range, Value, Memory, Size}
+use Rattle.jr_word.specs.declared.fault.Fault.TheVariants.{ObjectsFull, LocalsFull, NoFrame, NotArray, WrongElement, WrongKind, Range, Value, Size}
 use Rattle.jr_word.specs.declared.config.Config.{Config}
 use Rattle.jr_word.specs.declared.handle.RefKind.{RefKind}
 use Rattle.jr_word.specs.declared.kind.Kind.{Kind}
 use Rattle.jr_model.specs.declared.event.Act.{Act}
 use Rattle.jr_model.specs.declared.event.Act.TheVariants.{Gate, ShutBusy, Meet, Look, Probe, DeleteStale, ReserveFull, ReserveLost, Read, Write}
-use Rattle.jr_model.specs.declared.event.GateAct.TheVariants.{Enter, Knock, Leave, Withdraw, Announce, Cancel}
+use Rattle.jr_model.specs.declared.event.GateAct.TheVariants.{Knock, Withdraw, Announce, Cancel}
 use Rattle.jr_model.specs.declared.event.Found.{Found}
 use Rattle.jr_model.specs.declared.event.Found.TheVariants.{Object, Cleared, Stale}
 use Rattle.jr_model.specs.declared.frames.TheConstants.{FRAMES, LEVELS}
@@ -157,7 +157,7 @@ module _ (c : Config) (last thread : ℕ) where
   pub room_calm : (n : ℕ) → IsCalm (room_for c last thread n)
   room_calm n = framed_calm (λ old. refuse_if (nat_lt (free_places last old) n) LocalsFull) (λ f. refuse_if_calm (nat_lt (free_places last f) n) LocalsFull)
 
-  added_never : (o : ℕ) → NeverRefuses (added c last thread o)
+  pub added_never : (o : ℕ) → NeverRefuses (added c last thread o)
   added_never o = record { never = λ old new acts e r. let bad = r.2 in cc }
 
   new_local_safe : (o : Option ℕ) → ChangesNothing (new_local c last thread o)
@@ -262,10 +262,10 @@ released_safe (suc (suc n)) = (done_calm tt).safe
 -- CALLS
 
 module _ (c : Config) (last thread : ℕ) (s : State) where
-  read_never : (o start n : ℕ) → NeverRefuses (read o start n)
+  pub read_never : (o start n : ℕ) → NeverRefuses (read o start n)
   read_never o start n = record { never = λ old new acts e r. let bad = r.3 in cc }
 
-  write_never : (o start : ℕ) (vs : List ℕ) → NeverRefuses (write o start vs)
+  pub write_never : (o start : ℕ) (vs : List ℕ) → NeverRefuses (write o start vs)
   write_never o start vs = record { never = λ old new acts e r. let bad = r.1 in cc }
 
   part_calm : (k : Kind) (start n : ℕ) (a : Word) → IsCalm (part_of c last thread s k start n a)

@@ -3,15 +3,15 @@ use Rattle.std.specs.Prelude.{◌≡◌, ℕ, true, Ok, Err, Some, None, [], ◌
 use Rattle.jr_word.specs.declared.config.Config.{Config}
 use Rattle.jr_word.specs.declared.handle.RefKind.TheVariants.{Local, Global, Weak}
 use Rattle.jr_word.specs.declared.fault.Fault.TheVariants as fault
-use Rattle.jr_word.specs.declared.kind.Kind.TheVariants.{Text}
+use Rattle.jr_word.specs.declared.kind.Kind.TheVariants.{Int, Text}
 use Rattle.jr_model.specs.declared.event.Found.TheVariants.{Cleared}
-use Rattle.jr_model.specs.declared.event.Act.TheVariants.{Gate, Look}
+use Rattle.jr_model.specs.declared.event.Act.TheVariants.{Gate, Look, ReserveFull}
 use Rattle.jr_model.specs.declared.event.GateAct.TheVariants.{Enter, Knock, Leave, Withdraw}
 use Rattle.jr_model.specs.Maps.{update}
 use Rattle.jr_model.specs.State.{Handle, State, opening}
 use Rattle.jr_model.specs.Frames.{Frames, fresh_frames}
 use Rattle.jr_model.specs.Checks.{Nothing, Malformed, Parts}
-use Rattle.jr_model.specs.References.{new_reference, delete_reference, is_same_object, get_object_ref_type, pop_local_frame}
+use Rattle.jr_model.specs.References.{new_array, new_reference, delete_reference, is_same_object, get_object_ref_type, pop_local_frame}
 use Rattle.jr_model.specs.Objects.{get_array_length, nest_array, nest_string, region_kind, region_length, elements_get, elements_set, elements_length}
 use Rattle.jr_model.specs.Examples.{last_serial, w}
 
@@ -87,3 +87,9 @@ pub record CopiedElements : Type 0 where
   pub set : elements_set (7 ∷ 8 ∷ []) 0 9 fresh [] (Ok (9 ∷ 8 ∷ [])) fresh
   pub set_past : elements_set (7 ∷ 8 ∷ []) 2 9 fresh [] (Err fault.Range) fresh
   pub long : elements_length (7 ∷ 8 ∷ []) fresh [] (Ok 2) fresh
+
+-- an array of 20 words in a room of 16, of which three are used: it is E10 with the three that its reservation found, with no other number, and not without that act
+pub record ArrayLacksSpace : Type 0 where
+  pub refused : new_array quiet_room last_serial 0 Int 20 fresh (Gate Enter ∷ ReserveFull 20 3 ∷ Gate Leave ∷ []) (Err (fault.SpaceFull 3)) fresh
+  pub found_only : (u : ℕ) (g : Frames) → new_array quiet_room last_serial 0 Int 20 fresh (Gate Enter ∷ ReserveFull 20 3 ∷ Gate Leave ∷ []) (Err (fault.SpaceFull u)) g → u ≡ 3
+  pub asks_first : (u : ℕ) (g : Frames) → ¬ (new_array quiet_room last_serial 0 Int 20 fresh (Gate Enter ∷ Gate Leave ∷ []) (Err (fault.SpaceFull u)) g)

@@ -1,5 +1,5 @@
 -- Worked examples: histories that are legal, what they leave, and events that may not come after them.
-use Rattle.std.specs.Prelude.{◌≡◌, ◌≢◌, ℕ, true, false, [], ◌∷◌, ◌++◌}
+use Rattle.std.specs.Prelude.{◌≡◌, ◌≢◌, ◌≤◌, ℕ, true, false, [], ◌∷◌, ◌++◌}
 use Rattle.jr_word.specs.declared.config.Config.{Config}
 use Rattle.jr_word.specs.declared.handle.RefKind.TheVariants.{Global, Weak}
 use Rattle.jr_word.specs.declared.kind.Kind.TheVariants.{Plain, Int}
@@ -81,6 +81,10 @@ ShuttingOverIsIllegal = ¬ (IsLegal two_threads last_serial (by 0 (Gate Enter) �
 abbrev pub EnteringBesideIsIllegal : Type 0
 EnteringBesideIsIllegal = ¬ (IsLegal two_threads last_serial (by 1 (Gate Shut) ∷ by 0 (Gate Enter) ∷ []))
 
+-- a knock at a gate that nobody keeps closed is not legal
+abbrev pub KnockingAtOpenIsIllegal : Type 0
+KnockingAtOpenIsIllegal = (t : ℕ) → ¬ (IsLegal two_threads last_serial (by t (Gate Knock) ∷ []))
+
 -- AN ANNOUNCED CLOSING OF THE GATE
 
 abbrev pub three_threads : Config
@@ -155,6 +159,10 @@ SpaceIsLegal =
     let made = by 0 (Gate Enter) ∷ by 1 (Gate Enter) ∷ by 0 (Reserve 3) ∷ by 0 (New 1 Int (0 ∷ 0 ∷ 0 ∷ [])) ∷ by 0 (Write 1 2 7) ∷ by 0 (Read 1 2 7) ∷ [] in
     let es = made ++ by 0 (ReserveFull 6 3) ∷ by 0 (Reserve 2) ∷ by 1 (ReserveLost 1 3 5) ∷ by 0 (New 2 Plain []) ∷ by 0 (Gate Leave) ∷ by 1 (Gate Leave) ∷ [] in
     IsLegal two_threads last_serial es × (summary two_threads last_serial (state es) ≡ counts 0 0 2 5)
+
+-- to refuse words that fit beside the three is not legal
+abbrev pub RefusingWhatFitsIsIllegal : Type 0
+RefusingWhatFitsIsIllegal = (t n u : ℕ) → n ≤ 5 → ¬ (IsLegal two_threads last_serial (by 0 (Gate Enter) ∷ by 0 (Reserve 3) ∷ by t (ReserveFull n u) ∷ []))
 
 -- a read of another word than the written one is not legal
 abbrev pub ReadingAnotherIsIllegal : Type 0

@@ -1,50 +1,27 @@
--- What the refusals that speak of the shared room tell of it.
-use Rattle.std.specs.Prelude.{◌≡◌, ◌≢◌, ◌⊎◌, ◌+◌, ◌<◌, ◌≤◌, ℕ, Bool, Result, Err, List, [], ◌∷◌, ◌++◌}
+-- What a refused creation tells of the room, and which calls are stays of their own.
+use Rattle.std.specs.Prelude.{◌≡◌, ◌≢◌, ◌⊎◌, ◌<◌, ℕ, Bool, Result, Err, List, [], ◌∷◌, ◌++◌}
 use mathlib.Core.List.{IsPrefix}
 use Rattle.jr_word.specs.declared.config.Config.{Config}
 use Rattle.jr_word.specs.declared.handle.RefKind.{RefKind}
 use Rattle.jr_word.specs.declared.kind.Kind.{Kind}
 use Rattle.jr_word.specs.declared.fault.Fault.{Fault}
-use Rattle.jr_word.specs.declared.fault.Fault.TheVariants.{RowFull, SpaceFull, Barred, Busy}
-use Rattle.jr_model.specs.declared.event.Role.TheVariants.{Outside}
+use Rattle.jr_word.specs.declared.fault.Fault.TheVariants.{RowFull, Barred}
 use Rattle.jr_model.specs.declared.event.Act.{Act}
-use Rattle.jr_model.specs.declared.event.Act.TheVariants.{Gate, ShutBusy, Probe, ReserveFull}
+use Rattle.jr_model.specs.declared.event.Act.TheVariants.{Gate, Probe}
 use Rattle.jr_model.specs.declared.event.GateAct.TheVariants.{Enter, Knock, Leave, Withdraw}
 use Rattle.jr_model.specs.declared.frames.Mode.{Mode}
 use Rattle.jr_model.specs.declared.frames.Mode.TheVariants.{Abort}
-use Rattle.jr_model.specs.State.{State, SomebodyCloses, AreOthers, not_outside, IsOccupied}
+use Rattle.jr_model.specs.State.{IsOccupied}
 use Rattle.jr_model.specs.History.{History, by, state, PassView}
 use Rattle.jr_model.specs.Frames.{Frames}
 use Rattle.jr_model.specs.Windows.{IsBehind, IsLastSeen}
 use Rattle.jr_model.specs.Refusals.{RowWasFull}
 use Rattle.jr_model.specs.Calls.{Call, Ran}
 use Rattle.jr_model.specs.Checks.{Word}
-use Rattle.jr_model.specs.Parts.{enter, shut, create, reserve}
+use Rattle.jr_model.specs.Parts.{create}
 use Rattle.jr_model.specs.References.{new_reference}
 use Rattle.jr_model.specs.References as references
 use Rattle.jr_model.specs.Objects as objects
-
--- what was so in the state in which the thread took this act, after the first history
-pub record TookWhere (P : State → Type 0) (old new : PassView) (a : Act) : Type 0 where
-  pub before : History
-  pub since : History
-  pub took : new.seen ≡ before ++ by old.thread a ∷ since
-  pub from : IsPrefix old.seen before
-  pub met : P (state before)
-
--- an entry that was barred: somebody collected when it knocked, or had announced that it would
-abbrev pub BarredByCloser : Type 0
-BarredByCloser = (old new : PassView) (f g : Frames) → Ran old new f g enter (Err Barred) → TookWhere SomebodyCloses old new (Gate Knock)
-
--- a shut that was busy: so many other threads were not outside at that very act, and that is one at least; where its own thread was outside, that is all who were not
-abbrev pub BusyIsCounted : Type 0
-BusyIsCounted = (old new : PassView) (f g : Frames) (n : ℕ) → Ran old new f g shut (Err (Busy n))
-    → TookWhere (λ s. AreOthers old.config s old.thread n × (s.role old.thread ≡ Outside → n ≡ not_outside old.config s) × (1 ≤ n)) old new (ShutBusy n)
-
--- a reservation for which there was no space: so many words were used when it looked, and its own did not fit beside them
-abbrev pub SpaceWasFull : Type 0
-SpaceWasFull = (old new : PassView) (f g : Frames) (words used : ℕ) → Ran old new f g (reserve words) (Err (SpaceFull used))
-    → TookWhere (λ s. (used ≡ s.used) × (old.config.words < used + words)) old new (ReserveFull words used)
 
 -- a creation is not refused where an index was free all the time from each of its own probes on
 abbrev pub FreeIndexIsFound : Type 0

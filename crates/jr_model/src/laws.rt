@@ -4,7 +4,8 @@ ghost use Rattle.jr_model.specs.State.{State};
 ghost use Rattle.jr_model.specs.History.{PassView};
 ghost use Rattle.jr_model.specs.CriticalRegions.{NoCollectionInRegion, NoCollectionUpToRelease};
 ghost use Rattle.jr_model.specs.Announcements.{NobodyEnters, WithinOnlyLeave, AnnouncerCounts};
-ghost use Rattle.jr_model.specs.Grounded.{BarredByCloser, BusyIsCounted, SpaceWasFull, FreeIndexIsFound, RefusedInItsStay, EachIsProbed, CallsAreTheirStays};
+ghost use Rattle.jr_model.specs.Grounded.{FreeIndexIsFound, RefusedInItsStay, EachIsProbed, CallsAreTheirStays};
+ghost use Rattle.jr_model.specs.TrueRefusals.{CallsRefuseTruly};
 ghost use Rattle.jr_model.specs.Moves.{CallsMoveFrames};
 ghost use Rattle.jr_model.specs.RefusedCalls.{RefusalsChangeNothing, HarmlessChangesNothing};
 ghost use Rattle.jr_model.specs.Laws.{
@@ -135,11 +136,9 @@ pub fn refusals_change_nothing()
     ensures acts { HarmlessChangesNothing }
 {}
 
-/// What a refusal says of the shared room was so in the call: E13, E14 and E10 at the very act that they tell of, and E8 only where no index was free all the time since it was probed, within the stay alone.
+/// What a refusal of any call says of the shared room was so at a moment of that call: E10, E13 and E14 at the very act that they tell of, E11 at one moment, E12 and E23 at two, and E8 for each index at a moment of its own. So a creation is E8 only where no index was free all the time since it was probed, and a new reference for what was so within its own stay alone.
 pub fn refusals_are_true()
-    ensures barred { BarredByCloser }
-    ensures busy { BusyIsCounted }
-    ensures space { SpaceWasFull }
+    ensures calls { (c : Config) (last thread : ℕ) (s : State) → CallsRefuseTruly c last thread s }
     ensures row { FreeIndexIsFound }
     ensures stay { RefusedInItsStay }
     ensures probes { EachIsProbed }

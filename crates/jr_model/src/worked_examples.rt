@@ -1,5 +1,5 @@
 //! Worked examples of the machine: each function's contract says which histories are legal, what they leave, and what may not come after them.
-ghost use Rattle.jr_model.specs.CallExamples.{LengthOfNothing, TypeOfNothing, CallsOnCleared, CallsOnNull, SecondLevel, CopiedElements};
+ghost use Rattle.jr_model.specs.CallExamples.{LengthOfNothing, TypeOfNothing, CallsOnCleared, CallsOnNull, SecondLevel, CopiedElements, ArrayLacksSpace};
 ghost use Rattle.jr_model.specs.Examples.{
   DropIsLegal,
   FindingDroppedIsIllegal,
@@ -8,6 +8,7 @@ ghost use Rattle.jr_model.specs.Examples.{
   WrongCountIsIllegal,
   ShuttingOverIsIllegal,
   EnteringBesideIsIllegal,
+  KnockingAtOpenIsIllegal,
   AnnouncingIsLegal,
   EnteringAnnouncedIsIllegal,
   AnnouncingBesideIsIllegal,
@@ -16,6 +17,7 @@ ghost use Rattle.jr_model.specs.Examples.{
   ThriceIsLegal,
   FourthIsIllegal,
   SpaceIsLegal,
+  RefusingWhatFitsIsIllegal,
   ReadingAnotherIsIllegal,
   MakingBeyondIsIllegal,
   CollectionIsLegal,
@@ -29,12 +31,13 @@ pub fn a_dropped_reference_is_stale()
     ensures beside { CreatingBesideIsIllegal }
 {}
 
-/// The gate lets a thread in or shuts, never both, and counts the threads that are not outside.
+/// The gate lets a thread in or shuts, never both, counts the threads that are not outside, and bars nobody while it is open.
 pub fn the_gate_counts_threads()
     ensures legal { GateIsLegal }
     ensures count { WrongCountIsIllegal }
     ensures over { ShuttingOverIsIllegal }
     ensures beside { EnteringBesideIsIllegal }
+    ensures open { KnockingAtOpenIsIllegal }
 {}
 
 /// A gate that is announced to be shut lets nobody in and is shut once nobody is inside, and who announced it doesn't count itself.
@@ -52,9 +55,10 @@ pub fn a_slot_gives_each_serial_once()
     ensures fourth { FourthIsIllegal }
 {}
 
-/// Space is reserved, an array is made in it, and a read finds what was written.
+/// Space is reserved, and refused where it doesn't fit, an array is made in it, and a read finds what was written.
 pub fn space_is_reserved_and_read()
     ensures legal { SpaceIsLegal }
+    ensures full { RefusingWhatFitsIsIllegal }
     ensures another { ReadingAnotherIsIllegal }
     ensures beyond { MakingBeyondIsIllegal }
 {}
@@ -65,7 +69,7 @@ pub fn a_collection_takes_what_nothing_reaches()
     ensures reached { CollectingReachedIsIllegal }
 {}
 
-/// What calls answer where nothing was made, for a cleared weak reference, for NULL, for a further level of a region, and for copied elements.
+/// What calls answer where nothing was made, for a cleared weak reference, for NULL, for a further level of a region, for copied elements, and for an array that has no space.
 pub fn calls_answer_as_their_checks_say()
     ensures length { LengthOfNothing }
     ensures types { TypeOfNothing }
@@ -73,4 +77,5 @@ pub fn calls_answer_as_their_checks_say()
     ensures null { CallsOnNull }
     ensures level { SecondLevel }
     ensures copied { CopiedElements }
+    ensures space { ArrayLacksSpace }
 {}

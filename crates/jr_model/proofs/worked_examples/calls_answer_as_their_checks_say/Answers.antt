@@ -1,4 +1,4 @@
-use Rattle.jr_model.proofs.AnswerExamples.{length_of_nothing, type_of_nothing, calls_on_cleared, calls_on_null, second_level, copied_elements}
+use Rattle.jr_model.proofs.AnswerExamples.{length_of_nothing, type_of_nothing, calls_on_cleared, calls_on_null, second_level, copied_elements, array_lacks_space}
 use Rattle.jr_model.proofs.worked_examples.calls_answer_as_their_checks_say.Goals as goal
 
 pub returns-clause-length : goal.returns-clause-length
@@ -18,3 +18,6 @@ returns-clause-level c = second_level
 
 pub returns-clause-copied : goal.returns-clause-copied
 returns-clause-copied c = copied_elements
+
+pub returns-clause-space : goal.returns-clause-space
+returns-clause-space c = array_lacks_space
