@@ -11,6 +11,7 @@ pub mod Rows
 pub mod Posts
 pub mod Steps
 pub mod Reading
+pub mod WithoutFault
 pub mod SpelledIsRead
 pub mod Texts
 pub mod PrintLaws

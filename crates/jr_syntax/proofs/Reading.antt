@@ -60,7 +60,7 @@ pub record IsRead (text : List ℕ) (number : ℕ) (d : Draft) (lines : List Lin
   pub fault : first_fault text ≡ first_fault_behind (script_lines d.config (parts_of d)) lines
 
 -- a line with a fault
-fault_here : (text : List ℕ) (number : ℕ) (d : Draft) (l : Line) (ls : List Line) (r : Reason) → IsRead text number d (l ∷ ls) → first_fit (rows (number + 1) d l) ≡ Some r → first_fault text ≡ Some (number + 1, r)
+pub fault_here : (text : List ℕ) (number : ℕ) (d : Draft) (l : Line) (ls : List Line) (r : Reason) → IsRead text number d (l ∷ ls) → first_fit (rows (number + 1) d l) ≡ Some r → first_fault text ≡ Some (number + 1, r)
 fault_here text number d l ls r h e =
     let before = script_lines d.config (parts_of d) in
     let n : number + 1 ≡ length before + 1 = ap (λ k. k + 1) h.counted in
@@ -68,7 +68,7 @@ fault_here text number d l ls r h e =
     h.fault ∙ ap (λ (o : Option Reason). option_map_or (λ q. Some (length before + 1, q)) o (first_fault_behind (before ++ l.0 ∷ []) ls)) fits ∙ ap (λ k. Some (k, r)) (sym n)
 
 -- a line with none
-next_line : (text : List ℕ) (number : ℕ) (d new : Draft) (l : Line) (ls : List Line) → IsRead text number d (l ∷ ls) → first_fit (rows (number + 1) d l) ≡ None → Grown d l.0 new → IsRead text (number + 1) new ls
+pub next_line : (text : List ℕ) (number : ℕ) (d new : Draft) (l : Line) (ls : List Line) → IsRead text number d (l ∷ ls) → first_fit (rows (number + 1) d l) ≡ None → Grown d l.0 new → IsRead text (number + 1) new ls
 next_line text number d new l ls h none g =
     let before = script_lines d.config (parts_of d) in
     let n : number + 1 ≡ length before + 1 = ap (λ k. k + 1) h.counted in
@@ -92,7 +92,7 @@ next_line text number d new l ls h none g =
     }
 
 -- the end
-script_read : (text : List ℕ) (number : ℕ) (d : Draft) → IsRead text number d [] → length text ≤ 65536 → leb d.config.threads (length (parts_of d)) ≡ true → IsScript (record { config = d.config; threads = parts_of d }) × (text ≡ text_of (record { config = d.config; threads = parts_of d }))
+pub script_read : (text : List ℕ) (number : ℕ) (d : Draft) → IsRead text number d [] → length text ≤ 65536 → leb d.config.threads (length (parts_of d)) ≡ true → IsScript (record { config = d.config; threads = parts_of d }) × (text ≡ text_of (record { config = d.config; threads = parts_of d }))
 script_read text number d h short e =
     let before = script_lines d.config (parts_of d) in
     let f = h.follows in
@@ -128,7 +128,7 @@ first_rows_none true true false d h = absurd cc
 first_rows_none true true true false h = absurd cc
 first_rows_none true true true true h = (refl, refl, refl)
 
-first_read : (text : List ℕ) (l : Line) (ls : List Line) (d : Draft) → length text ≤ 65536 → lines_of text ≡ l ∷ ls → first_fit (first_rows l) ≡ None → d.config ≡ vm.value (words_of l.0) → parts_of d ≡ [] → is_none d.last ≡ true → IsRead text 1 d ls
+pub first_read : (text : List ℕ) (l : Line) (ls : List Line) (d : Draft) → length text ≤ 65536 → lines_of text ≡ l ∷ ls → first_fit (first_rows l) ≡ None → d.config ≡ vm.value (words_of l.0) → parts_of d ≡ [] → is_none d.last ≡ true → IsRead text 1 d ls
 first_read text l ls d short e none same parts last =
     let ws = words_of l.0 in
     let a = first_rows_none l.1 (list_all (is_between 32 126) l.0) (vm.has_form ws) (vm.in_range ws) none in

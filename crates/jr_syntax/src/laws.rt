@@ -1,6 +1,6 @@
 //! Laws of the grammar and its faults, and of reading what was printed.
 
-ghost use Rattle.std.specs.Prelude.{◌≡◌, None, IfOk, IfErr};
+ghost use Rattle.std.specs.Prelude.{◌≡◌, ℕ, List, None, IfOk, IfErr};
 ghost use Rattle.jr_syntax.specs.declared.script.Script.{Script};
 ghost use Rattle.jr_syntax.specs.Script.{IsScript, text_of};
 ghost use Rattle.jr_syntax.specs.Faults.{first_fault};
@@ -15,6 +15,11 @@ use std::alloc::Global;
 /// The text of a script has no fault.
 pub fn a_script_has_no_fault()
     ensures { (s : Script) → IsScript s → first_fault (text_of s) ≡ None }
+{}
+
+/// A text without a fault is the text of a script: what the table of faults lets pass has a form of the grammar.
+pub fn a_text_without_a_fault_is_a_script()
+    ensures { (text : List ℕ) → first_fault text ≡ None → (s : Script) × IsScript s × (text ≡ text_of s) }
 {}
 
 /// No text is that of two scripts.

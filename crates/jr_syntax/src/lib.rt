@@ -27,7 +27,7 @@ pub use command::Command;
 pub use fault::{Reason, ScriptFault};
 pub use laws::{
     a_script_has_no_fault, a_script_printed_is_read_again, a_text_has_one_script,
-    a_text_read_is_printed_again,
+    a_text_read_is_printed_again, a_text_without_a_fault_is_a_script,
 };
 pub use name::{Name, Reference, is_name};
 pub use reader::parse;
