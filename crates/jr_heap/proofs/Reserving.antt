@@ -40,9 +40,9 @@ lost : (n l u : ℕ) → n ≢ 0 → (f : Frames) → reserve n f (ReserveLost n
 lost zero l u some f = absurd (some refl)
 lost (suc n) l u some f = inr (inr (inl ((l, u), f, ReserveLost (suc n) l u ∷ [], [], refl, ((l, u), refl, refl, refl), (refl, refl, refl))))
 
-gains : (n place : ℕ) (j k : Known) → n ≢ 0 → (ws : List ℕ) → length ws ≡ n → k.holdings ≡ with_range j.holdings place ws → words_at place j.holdings.ranges ≡ [] → Gains n place j k
-gains zero place j k some ws long g none = absurd (some refl)
-gains (suc n) place j k some ws long g none = (ws, long, g, none)
+gains : (n place : ℕ) (j k : Known) → n ≢ 0 → (ws : List ℕ) → length ws ≡ n → k.holdings ≡ with_range j.holdings place ws → words_at place j.holdings.ranges ≡ [] → ShowsUsed (place + n) k → Gains n place j k
+gains zero place j k some ws long g none used = absurd (some refl)
+gains (suc n) place j k some ws long g none used = (ws, long, g, none, used)
 
 two_steps : (k j l : Known) → Takes 1 k j → Takes 1 j l → Takes 2 k l
 two_steps k j l a b = omega arith
@@ -98,7 +98,7 @@ module _ {S : Type 0} {facts : S → Facts} {a b : S} (fits : AreOf facts) (insi
         let g = t.goes j.0 j.1 (was_used k s) in
         let e : g.0.holdings ≡ with_range k.holdings u g.3.0 = g.3.2 ∙ ap (λ h. with_range h u g.3.0) j.4 in
         let d = did_then [] (Reserve n ∷ []) j.2 (goes_did g.2) in
-        (g.0, g.1, Reserve n ∷ [], record { did = d; is = reserved n some; window = window_act (Reserve n) d tt tt; grounds = tt; shows = (gains n u k g.0 some g.3.0 g.3.1 e (subst (λ (h : Holdings). words_at u h.ranges ≡ []) j.4 g.3.3), reserved_steps n k g.0 some (two_steps k j.0 g.0 j.5 g.2.taken)) }))
+        (g.0, g.1, Reserve n ∷ [], record { did = d; is = reserved n some; window = window_act (Reserve n) d tt tt; grounds = tt; shows = (gains n u k g.0 some g.3.0 g.3.1 e (subst (λ (h : Holdings). words_at u h.ranges ≡ []) j.4 g.3.3) g.3.4, reserved_steps n k g.0 some (two_steps k j.0 g.0 j.5 g.2.taken)) }))
 
     pub reserve_lost : {c : S} (found : ℕ) → ((k : Known) → (facts a).knows k → k.config.words ≡ words) → Took facts b c (ReserveLost n u found ∷ []) (WasUsed u) (ShowsRange u n (Err found)) → Called facts a c anything (λ j k. reserve n) (Err (Raced u found)) (by_steps 2 keeps)
     reserve_lost found same t = called_by (t.hint_is ∙ looked.hint_is) (λ k s m.

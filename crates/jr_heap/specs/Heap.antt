@@ -10,7 +10,7 @@ use Rattle.jr_model.specs.Frames.{Frames}
 use Rattle.jr_model.specs.Calls.{Call, Ran, done}
 use Rattle.jr_steps.specs.declared.known.Known.{Known}
 use Rattle.jr_steps.specs.Holdings.{words_at, header_in, with_range, with_header}
-use Rattle.jr_steps.specs.Knowing.{Facts, Leads, view, state_of, keeps, without_range_of, KnowsHeader, IsFilled, IsWordNow, ShowsObject, Takes}
+use Rattle.jr_steps.specs.Knowing.{Facts, Leads, view, state_of, keeps, without_range_of, KnowsHeader, IsFilled, IsWordNow, ShowsObject, ShowsUsed, Takes}
 
 module _ {S : Type 0} (facts : S → Facts) where
   -- A CALL WAS MADE in a stay, which leaves the hint as it was: for whatever was known and meets the condition, something is known from which the thread did what the call does, with this answer, and left the frames as they were; and it shows this. The call may name what was known and what is
@@ -55,10 +55,10 @@ IsOwn place n k = length (own_words place n k) ≡ n
 abbrev pub IsReady : Kind → ℕ → ℕ → Known → Type 0
 IsReady kind place n k = IsFilled (header_of kind place n) k
 
--- what a reservation of n words gives: so many words of the pass's own at the place, where it had none
+-- what a reservation of n words gives: so many words of the pass's own at the place, where it had none, and just those below their end are used then
 abbrev pub Gains : ℕ → ℕ → Known → Known → Type 0
 Gains zero place j k = keeps j k
-Gains (suc n) place j k = (ws : List ℕ) × (length ws ≡ suc n) × (k.holdings ≡ with_range j.holdings place ws) × (words_at place j.holdings.ranges ≡ [])
+Gains (suc n) place j k = (ws : List ℕ) × (length ws ≡ suc n) × (k.holdings ≡ with_range j.holdings place ws) × (words_at place j.holdings.ranges ≡ []) × ShowsUsed (place + suc n) k
 
 -- the refusal is none of a lost race
 abbrev pub IsNotRaced : Fault → Type 0

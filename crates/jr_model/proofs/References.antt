@@ -1,7 +1,8 @@
 -- The references that stand and those that were given.
-use Rattle.std.proofs.Common.{◌++◌, ◌∷◌, [], false, Bool, inr, inl, ◌⊎◌, ⊎_elim, ◌≡◌, ◌≢◌, ℕ, true, refl, sym, ap, subst, ◌∙◌}
+use Rattle.std.proofs.Common.{◌++◌, ◌∷◌, [], false, Bool, inr, inl, ⊎_elim, ◌≡◌, ◌≢◌, ℕ, true, refl, sym, ap, subst, ◌∙◌}
 use Rattle.std.specs.List.{AllByRecursion}
 use Rattle.jr_word.specs.declared.config.Config.{Config}
+use Rattle.jr_word.specs.declared.handle.RefKind.TheVariants.{Weak}
 use Rattle.jr_model.specs.declared.event.Found.TheVariants.{Object, Cleared, Stale}
 use Rattle.jr_model.specs.declared.event.Event.{Event}
 use Rattle.jr_model.specs.declared.event.Act.{Act}
@@ -10,7 +11,7 @@ use Rattle.jr_model.specs.Maps.{update}
 use Rattle.jr_model.specs.State.{IsOccupied, Handle, same_handle, State, opening}
 use Rattle.jr_model.specs.Steps.{IsInRow, Needs, ActNeeds, act_after, after}
 use Rattle.jr_model.specs.History.{History, by, state_from, state, IsLegalFrom, IsLegal}
-use Rattle.jr_model.specs.Laws.{CreatedIsFound, DeletedIsStale, DeletedIsNotCreated, CreatedOnce, OneAnIndex}
+use Rattle.jr_model.specs.Laws.{IsFoundAs, CreatedIsFound, DeletedIsStale, DeletedIsNotCreated, CreatedOnce, OneAnIndex}
 use Rattle.jr_model.proofs.Updates.{at_handle, at_handle_self}
 use Rattle.jr_model.proofs.Histories.{kept_from, IsCut, cut}
 
@@ -113,28 +114,23 @@ module _ (c : Config) (last : ℕ) where
   pub one_an_index : OneAnIndex c last
   one_an_index es g h l p q same = (kept_state es l).one g h p q same
 
-  -- h stands, with its object or cleared
-  abbrev IsStanding : Handle → ℕ → State → Type 0
-  IsStanding h o s = (s.refs h ≡ Object o) ⊎ (s.refs h ≡ Cleared)
-
-  standing_act : (h : Handle) (o : ℕ) (s : State) (t : ℕ) (a : Act) → IsStanding h o s → a ≢ Delete h → ActNeeds c last s t a → IsStanding h o (act_after s t a)
+  standing_act : (h : Handle) (o : ℕ) (s : State) (t : ℕ) (a : Act) → IsFoundAs h o (s.refs h) → a ≢ Delete h → ActNeeds c last s t a → IsFoundAs h o ((act_after s t a).refs h)
   standing_act h o s t (Create g p) i q n =
-      at_handle (λ x. (x ≡ Object o) ⊎ (x ≡ Cleared)) s.refs g h (Object p)
-      (λ e. let none = n.3 g refl in let same = ap s.refs e in absurd (⊎_elim (λ (r : s.refs h ≡ Object o). cc) (λ (r : s.refs h ≡ Cleared). cc) i))
+      at_handle (IsFoundAs h o) s.refs g h (Object p)
+      (λ e. let none = n.3 g refl in let same = ap s.refs e in absurd (⊎_elim (λ (r : s.refs h ≡ Object o). cc) (λ (r : (h.kind ≡ Weak) × (s.refs h ≡ Cleared)). let is = r.1 in cc) i))
       (λ ne. i)
-  standing_act h o s t (Delete g) i q n = at_handle (λ x. (x ≡ Object o) ⊎ (x ≡ Cleared)) s.refs g h Stale (λ e. absurd (q (ap (λ f. Delete f) e))) (λ ne. i)
-  standing_act h o s t (Clear g) i q n = at_handle (λ x. (x ≡ Object o) ⊎ (x ≡ Cleared)) s.refs g h Cleared (λ e. inr refl) (λ ne. i)
+  standing_act h o s t (Delete g) i q n = at_handle (IsFoundAs h o) s.refs g h Stale (λ e. absurd (q (ap (λ f. Delete f) e))) (λ ne. i)
+  standing_act h o s t (Clear g) i q n = at_handle (IsFoundAs h o) s.refs g h Cleared (λ e. inr (subst (λ (k : Handle). k.kind ≡ Weak) e n.1, refl)) (λ ne. i)
   standing_act h o s t _ i q n = i
 
-  standing_along : (h : Handle) (o : ℕ) (s : State) (es : History) → IsStanding h o s → AllByRecursion (λ e. e.act ≢ Delete h) es → IsLegalFrom c last s es → IsStanding h o (state_from s es)
+  standing_along : (h : Handle) (o : ℕ) (s : State) (es : History) → IsFoundAs h o (s.refs h) → AllByRecursion (λ e. e.act ≢ Delete h) es → IsLegalFrom c last s es → IsFoundAs h o ((state_from s es).refs h)
   standing_along h o s [] i q l = i
   standing_along h o s (e ∷ es) i q l = standing_along h o (after s e) es (standing_act h o s e.thread e.act i q.0 l.0.1) q.1 l.1
 
   pub created_is_found : CreatedIsFound c last
   created_is_found h t u o r before between rest l kept =
       let k = cut c last before (by t (Create h o)) between (by u (Look h r)) rest l in
-      let is : (state_from (after (state before) (by t (Create h o))) between).refs h ≡ r = k.second.1.1 in
-      ⊎_elim (λ e. inl (sym is ∙ e)) (λ e. inr (sym is ∙ e))
+      subst (IsFoundAs h o) k.second.1.1
       (standing_along h o (after (state before) (by t (Create h o))) between (inl (at_handle_self (state before).refs h (Object o))) kept k.legal_between)
 
   -- the act that gives a handle makes it stand

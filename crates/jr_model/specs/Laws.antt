@@ -3,6 +3,7 @@ use Rattle.std.specs.Prelude.{◌≡◌, ◌≢◌, ◌⊎◌, ◌≤◌, ℕ, t
 use Rattle.std.specs.List.{AllByRecursion}
 use Rattle.jr_word.specs.declared.config.Config.{Config}
 use Rattle.jr_word.specs.declared.kind.Kind.TheVariants.{Plain, Objects}
+use Rattle.jr_word.specs.declared.handle.RefKind.TheVariants.{Weak}
 use Rattle.jr_model.specs.declared.event.Found.TheVariants.{Object, Cleared, Stale}
 use Rattle.jr_model.specs.declared.event.Found.{Found}
 use Rattle.jr_model.specs.declared.event.Act.TheVariants.{Gate, Create, Look, Delete, Read}
@@ -84,11 +85,15 @@ LengthsFit c last = (es : History) → IsLegal c last es → (present_words c (s
 abbrev pub ReadsLastWord : Config → ℕ → Type 0
 ReadsLastWord c last = (before rest : History) (t o i v : ℕ) → IsLegal c last (before ++ by t (Read o i v) ∷ rest) → IsLastWord o i v before
 
--- a reference that was created is found until it is deleted
+-- as what a reference that was created for an object may be found while it stands: with the object, or, where it is weak, cleared
+abbrev pub IsFoundAs : Handle → ℕ → Found → Type 0
+IsFoundAs h o r = (r ≡ Object o) ⊎ ((h.kind ≡ Weak) × (r ≡ Cleared))
+
+-- a reference that was created is found so until it is deleted: a global one with its object, a weak one with it or cleared
 abbrev pub CreatedIsFound : Config → ℕ → Type 0
 CreatedIsFound c last = (h : Handle) (t u o : ℕ) (r : Found) (before between rest : History)
     → IsLegal c last (before ++ by t (Create h o) ∷ between ++ by u (Look h r) ∷ rest)
-    → AllByRecursion (λ e. e.act ≢ Delete h) between → (r ≡ Object o) ⊎ (r ≡ Cleared)
+    → AllByRecursion (λ e. e.act ≢ Delete h) between → IsFoundAs h o r
 
 -- no local handle is given twice
 abbrev pub GivenOnce : ℕ → ℕ → Type 0

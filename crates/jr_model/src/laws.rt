@@ -115,7 +115,7 @@ pub fn calls_move_frames()
     ensures { (c : Config) (last thread : ℕ) (s : State) → CallsMoveFrames c last thread s }
 {}
 
-/// A reference that was created is found until it is deleted.
+/// A reference that was created is found until it is deleted: a global one with its object, a weak one with it or cleared.
 pub fn created_references_are_found()
     ensures { (c : Config) (last : ℕ) → CreatedIsFound c last }
 {}

@@ -114,7 +114,7 @@ module _ (k : Known) (within : role_of (view k) ≡ Within) where
       (reserves k.config k.last log k.thread words f.legal held f.image f.fits.row inside k.holdings f.fits.holdings more new (omega arith) (omega arith)) in
       gaining k log (slice_set words top_at (either (eqb n old) new n)) held (ClaimedTop looked more k n) (Reserve more ∷ []) g
       (renamed k log words (hold held k.thread g) top_at new (either (eqb n old) new n) (won old new n won_it) turn)
-      (λ e. (refl, (ws, elements_length k.config words s.used more, refl, nothing)), λ ne. absurd (ne won_it)))
+      (λ e. (refl, (ws, elements_length k.config words s.used more, refl, nothing, ap (λ (z : State). z.used) (state_push log (by k.thread (Reserve more))) ∙ ap (λ u. u + more) same)), λ ne. absurd (ne won_it)))
       (λ other. quiet k log words held f (slice_set words top_at (either (eqb n old) new n)) (ClaimedTop looked more k n) (ReserveLost more looked s.used ∷ [])
       (renamed k log words held top_at n (either (eqb n old) new n) (lost old new n other)
       (unwritten k log words held top_at (one_legal k.config k.last log k.thread words held f.legal (ReserveLost more looked s.used) (f.fits.row, (inside, refl, λ e. other (is ∙ ap used_word e))) f.image)))

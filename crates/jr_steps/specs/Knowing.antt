@@ -186,9 +186,9 @@ ShowsHeader o (Some h) k k' = ShowsObject o h k' × (k'.holdings ≡ with_header
 abbrev pub ShowsUsed : ℕ → Known → Type 0
 ShowsUsed u k = (state_of k).used ≡ u
 
--- what a reservation shows: a range of the pass's own, of some words, where it had none before
+-- what a reservation shows: a range of the pass's own, of so many words, where it had none before; and right behind it that many more words are used than the number that the caller named, so that just before it that number was
 abbrev pub ShowsRange : ℕ → ℕ → Result (Unit {0}) ℕ → Known → Known → Type 0
-ShowsRange looked n (Ok _) k k' = (ws : List ℕ) × (length ws ≡ n) × (k'.holdings ≡ with_range k.holdings looked ws) × (words_at looked k.holdings.ranges ≡ [])
+ShowsRange looked n (Ok _) k k' = (ws : List ℕ) × (length ws ≡ n) × (k'.holdings ≡ with_range k.holdings looked ws) × (words_at looked k.holdings.ranges ≡ []) × ShowsUsed (looked + n) k'
 ShowsRange looked n (Err found) k k' = keeps k k'
 
 -- what a store in a range of the pass's own shows

@@ -152,7 +152,7 @@ pub trait Steps {
         requires { (facts self.old).stands.role ≡ Within }
         ensures { Took facts self.old self.new (acts_of_top_load (facts self.old).stands.config.words name result) anything (λ j k. ShowsUsed result k × keeps j k) };
 
-    /// Reserves words beside those that were looked at in this stay, or tells how many are reserved now.
+    /// Reserves words beside so many as were used at a moment of this stay, where just so many are used still, and then these and no others are used beside them; or tells how many are used now. A look at the top shows such a number.
     fn claim_top(&mut self, looked: u32, more: u32) -> Result<(), u32>
         requires role { (facts self.old).stands.role ≡ Within }
         requires room { looked + more ≤ (facts self.old).stands.config.words }
