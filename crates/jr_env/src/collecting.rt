@@ -6,7 +6,7 @@ use jr_weak::{Collected, Marker, collect, collect_announced};
 use jr_word::Fault;
 
 impl<S: Steps> Env<S> {
-    ghost use Rattle.std.specs.Prelude.{◌≡◌, ◌≤◌, ℕ, IsOk, IfErr};
+    ghost use Rattle.std.specs.Prelude.{◌≡◌, ◌≤◌, ℕ, IsOk, IfErr, OnErr};
     ghost use Rattle.jr_word.specs.declared.fault.Fault.TheVariants.{Busy};
     ghost use Rattle.jr_weak.specs.Markers.{room_of};
     ghost use Rattle.jr_env.specs.Collections.{FitsRoom, IsNoTurn, announced_collection, collection};
@@ -18,7 +18,7 @@ impl<S: Steps> Env<S> {
     ///
     /// E14 with how many threads were inside, knocking, announcing or collecting at its one step, at least 1.
     ///
-    /// Nothing has changed then, and the thread stands outside. Over one thread it is never refused.
+    /// Nothing has changed then, the marker is as it was, and the thread stands outside. Over one thread it is never refused.
     ///
     /// # Operations
     ///
@@ -28,6 +28,7 @@ impl<S: Steps> Env<S> {
         ensures call { Does self.old self.new collection result }
         ensures room { room_of marker.new ≡ room_of marker.old }
         ensures busy { IfErr result (λ e. (n : ℕ) × (e ≡ Busy n) × (1 ≤ n)) }
+        ensures kept { OnErr result (marker.new ≡ marker.old) }
         ensures alone { (S.facts self.old.held.steps).stands.config.threads ≡ 1 → IsOk result }
     {
         let held = &mut self.held;
@@ -41,7 +42,7 @@ impl<S: Steps> Env<S> {
     ///
     /// E14 with how many threads were inside, knocking, announcing or collecting, at least 1, where another thread kept the gate closed already; E23 with two counts of the open gate, where another thread went in or out between the look at it and the announcement; E14 with how many other threads were inside or knocking at the last try, at least 1.
     ///
-    /// Nothing has changed then, and the thread stands outside. Over one thread it is never refused.
+    /// Nothing has changed then, the marker is as it was, and the thread stands outside. Over one thread it is never refused.
     ///
     /// # Operations
     ///
@@ -52,6 +53,7 @@ impl<S: Steps> Env<S> {
         ensures call { Does self.old self.new (announced_collection tries) result }
         ensures room { room_of marker.new ≡ room_of marker.old }
         ensures refused { IfErr result IsNoTurn }
+        ensures kept { OnErr result (marker.new ≡ marker.old) }
         ensures alone { (S.facts self.old.held.steps).stands.config.threads ≡ 1 → IsOk result }
     {
         let held = &mut self.held;

@@ -1,5 +1,5 @@
 //! A whole collection.
-ghost use Rattle.std.specs.Prelude.{◌≡◌, ◌≤◌, ◌⊎◌, ℕ, [], ◌∷◌, IsOk, IfOk, IfErr};
+ghost use Rattle.std.specs.Prelude.{◌≡◌, ◌≤◌, ◌⊎◌, ℕ, [], ◌∷◌, IsOk, IfOk, IfErr, OnErr};
 ghost use Rattle.jr_word.specs.declared.fault.Fault.TheVariants.{Busy};
 ghost use Rattle.jr_model.specs.declared.event.Role.TheVariants.{Outside};
 ghost use Rattle.jr_model.specs.declared.event.Act.TheVariants.{ShutBusy};
@@ -32,7 +32,7 @@ pub struct Collected {
 ///
 /// E14 with how many threads were inside, knocking, announcing or collecting at the step that shuts the gate, at least 1.
 ///
-/// Nothing has changed then. Over one thread it is never refused.
+/// Nothing has changed then, and the marker is as it was. Over one thread it is never refused.
 ///
 /// # Operations
 ///
@@ -43,6 +43,7 @@ pub fn collect<S: Steps>(steps: &mut S, marker: &mut Marker) -> Result<Collected
     ensures room { room_of marker.new ≡ room_of marker.old }
     ensures ok { IfOk result (λ c. MakesCollection S.facts steps.old steps.new c.cleared c.dropped c.used) }
     ensures err { IfErr result (λ e. (n : ℕ) × (e ≡ Busy n) × (1 ≤ n) × Took S.facts steps.old steps.new (ShutBusy n ∷ []) anything keeps) }
+    ensures kept { OnErr result (marker.new ≡ marker.old) }
     ensures alone { (S.facts steps.old).stands.config.threads ≡ 1 → IsOk result }
 {
     let shut = shut_gate(steps)?;
@@ -55,7 +56,7 @@ pub fn collect<S: Steps>(steps: &mut S, marker: &mut Marker) -> Result<Collected
 ///
 /// E14 with how many threads were inside, knocking, announcing or collecting, at least 1, where another thread kept the gate closed already; E23 with two counts of the open gate, where another thread went in or out between the look at it and the announcement; E14 with how many other threads were inside or knocking at the last try, at least 1.
 ///
-/// Nothing has changed then, and the thread stands outside. Over one thread it is never refused.
+/// Nothing has changed then, the marker is as it was, and the thread stands outside. Over one thread it is never refused.
 ///
 /// # Operations
 ///
@@ -71,6 +72,7 @@ pub fn collect_announced<S: Steps>(
     ensures room { room_of marker.new ≡ room_of marker.old }
     ensures ok { IfOk result (λ c. MakesAnnouncedCollection S.facts steps.old steps.new tries c.cleared c.dropped c.used) }
     ensures err { IfErr result (λ e. WasNotAnnounced S.facts steps.old steps.new e ⊎ GivesUp S.facts steps.old steps.new tries e) }
+    ensures kept { OnErr result (marker.new ≡ marker.old) }
     ensures alone { (S.facts steps.old).stands.config.threads ≡ 1 → IsOk result }
 {
     let announced = announce(steps)?;
