@@ -16,3 +16,4 @@ pub mod WholeCopies
 pub mod ReleasedElements
 pub mod WholeCollections
 pub mod AnnouncedCollections
+pub mod StandingRegions

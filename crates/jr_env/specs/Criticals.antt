@@ -1,4 +1,4 @@
--- What a critical region of an env is, and what the calls that open and end it leave, as a value that borrows the env (`Region`) or as levels beside it (`HasEntered`). Whatever is known before its opening leads to a region that stands (`IsRegion`), by the opening (`WasOpened`) and each call since (`NestsOver`, `ReadsAt`, `WritesAt`, `GivesUpLastOver`), since each shows the headers of the levels that the next one asks for: so the law `regions_exclude_collections` speaks of it, up to its end (`HasEnded`).
+-- What a critical region of an env is, and what the calls that open and end it leave, as a value that borrows the env (`Region`) or as levels beside it (`HasEntered`). That its calls make one region of the machine, undisturbed up to its end, the clauses of each say by the words of `StandingRegions`.
 use Rattle.std.specs.Prelude.{◌≡◌, ℕ, Option, None, Result, Ok, Err, IfErr, length}
 use Rattle.std.specs.Borrow.{Fml, MutBor, RattleType, RestsIfErr, RestsIfNone}
 use Rattle.jr_word.specs.declared.config.Config.{Config}
@@ -16,6 +16,7 @@ use Rattle.jr_env.specs.declared.env.Env.{Env}
 use Rattle.jr_env.specs.contracts.env.Env as env
 use Rattle.jr_env.specs.declared.region.Region.{Region}
 use Rattle.jr_env.specs.Envs.{IsOutside}
+use Rattle.jr_env.specs.StandingRegions.{EndsUndisturbed}
 
 module _ {S : Type 0} {G : steps.Ghosts S} where
   -- the env that a region borrows
@@ -58,10 +59,11 @@ module _ {S : Type 0} {G : steps.Ghosts S} where
     pub frames : new.held.frames ≡ old.held.frames
     pub outside : IsOutside new
 
-  -- THE REGION ENDED with its only level: its thread left the gate and stands outside, with the frames as they were
+  -- THE REGION ENDED with its only level: its thread left the gate and stands outside, with the frames as they were, and no collection disturbed the region since its entry
   pub record HasEnded (r : Region S G) (new : Env S G) : Type 0 where
     pub call : GivesUpLastOver (held_of r) new.held (levels_of r) None
     pub last : LeavesBefore (levels_of r) None
+    pub undisturbed : EndsUndisturbed (held_of r) new.held (levels_of r)
     pub frames : new.held.frames ≡ frames_of r
     pub outside : IsOutside new
 

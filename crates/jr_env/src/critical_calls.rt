@@ -8,7 +8,9 @@ impl<S: Steps> Env<S> {
     ghost use Rattle.std.specs.Prelude.{◌≡◌, IfOk};
     ghost use Rattle.std.specs.Borrow.{sem};
     ghost use Rattle.jr_model.specs.Objects.{get_array_critical, get_string_critical};
-    ghost use Rattle.jr_env.specs.Criticals.{env_of, rests_in, WasOpened};
+    ghost use Rattle.jr_env.specs.Envs.{IsOutside};
+    ghost use Rattle.jr_env.specs.StandingRegions.{StandsSince};
+    ghost use Rattle.jr_env.specs.Criticals.{env_of, held_of, levels_of, rests_in, WasOpened};
 
     /// Opens a critical region, with the array at its first level. The thread is within until that level is released. (JNI Specification, chapter 4, "GetPrimitiveArrayCritical")
     ///
@@ -26,6 +28,7 @@ impl<S: Steps> Env<S> {
         ensures* rests { sem 𝓛 (rests_in S.row S.Steps array.0 get_array_critical self.entry result) }
         ensures same_reference { IfOk result (λ r. (env_of r).ghost_name ≡ self.entry.ghost_name) }
         ensures opened { IfOk result (λ r. WasOpened self.old r array.0 get_array_critical) }
+        ensures region { IfOk result (λ r. IsOutside self.old → StandsSince self.old.held (held_of r) (levels_of r)) }
     {
         let levels = self.open_array_critical(array)?;
         Ok(Region::over(self, levels))
@@ -47,6 +50,7 @@ impl<S: Steps> Env<S> {
         ensures* rests { sem 𝓛 (rests_in S.row S.Steps string.0 get_string_critical self.entry result) }
         ensures same_reference { IfOk result (λ r. (env_of r).ghost_name ≡ self.entry.ghost_name) }
         ensures opened { IfOk result (λ r. WasOpened self.old r string.0 get_string_critical) }
+        ensures region { IfOk result (λ r. IsOutside self.old → StandsSince self.old.held (held_of r) (levels_of r)) }
     {
         let levels = self.open_string_critical(string)?;
         Ok(Region::over(self, levels))

@@ -13,6 +13,7 @@ impl<S: Steps> Env<S> {
     ghost use Rattle.jr_model.specs.Objects.{get_array_critical, get_string_critical, nest_array, nest_string};
     ghost use Rattle.jr_critical.specs.Levels.{objects_of, in_words, GivesUpAllOver, GivesUpLastOver, LeavesBefore, NestsOver, ReadsAt, StandOver, WasAdded, WritesAt};
     ghost use Rattle.jr_env.specs.Envs.{IsOutside};
+    ghost use Rattle.jr_env.specs.StandingRegions.{EndsUndisturbed, StandsOn, StandsSince};
     ghost use Rattle.jr_env.specs.Criticals.{HasEntered, WasRefused};
 
     /// Opens a critical region, with the array at its first level. The thread is within until that level is given up. (JNI Specification, chapter 4, "GetPrimitiveArrayCritical")
@@ -29,6 +30,7 @@ impl<S: Steps> Env<S> {
     #[inline(always)]
     pub fn open_array_critical(&mut self, array: Handle) -> Result<Levels, Fault>
         ensures entered { IfOk result (λ v. HasEntered self.old self.new v array.0 get_array_critical) }
+        ensures region { IfOk result (λ v. IsOutside self.old → StandsSince self.old.held self.new.held v) }
         ensures refused { IfErr result (λ e. WasRefused self.old self.new array.0 get_array_critical e) }
     {
         outside(&mut self.held);
@@ -49,6 +51,7 @@ impl<S: Steps> Env<S> {
     #[inline(always)]
     pub fn open_string_critical(&mut self, string: Handle) -> Result<Levels, Fault>
         ensures entered { IfOk result (λ v. HasEntered self.old self.new v string.0 get_string_critical) }
+        ensures region { IfOk result (λ v. IsOutside self.old → StandsSince self.old.held self.new.held v) }
         ensures refused { IfErr result (λ e. WasRefused self.old self.new string.0 get_string_critical e) }
     {
         outside(&mut self.held);
@@ -73,6 +76,7 @@ impl<S: Steps> Env<S> {
     ) -> Result<usize, Fault>
         requires { StandOver levels.old self.old.held }
         ensures call { NestsOver self.old.held self.new.held array.0 nest_array levels.old levels.new result }
+        ensures region { StandsOn self.old.held self.new.held levels.old levels.new }
         ensures frames { self.new.held.frames ≡ self.old.held.frames }
         ensures stand { StandOver levels.new self.new.held }
         ensures added { IfOk result (λ n. WasAdded levels.old levels.new n) }
@@ -99,6 +103,7 @@ impl<S: Steps> Env<S> {
     ) -> Result<usize, Fault>
         requires { StandOver levels.old self.old.held }
         ensures call { NestsOver self.old.held self.new.held string.0 nest_string levels.old levels.new result }
+        ensures region { StandsOn self.old.held self.new.held levels.old levels.new }
         ensures frames { self.new.held.frames ≡ self.old.held.frames }
         ensures stand { StandOver levels.new self.new.held }
         ensures added { IfOk result (λ n. WasAdded levels.old levels.new n) }
@@ -127,6 +132,7 @@ impl<S: Steps> Env<S> {
         requires stand { StandOver levels.now self.old.held }
         requires level { level < length (objects_of levels.now) }
         ensures call { ReadsAt self.old.held self.new.held levels.now level E.KIND index (in_words E.word_of result) }
+        ensures region { StandsOn self.old.held self.new.held levels.now levels.now }
         ensures frames { self.new.held.frames ≡ self.old.held.frames }
         ensures stand { StandOver levels.now self.new.held }
     {
@@ -154,6 +160,7 @@ impl<S: Steps> Env<S> {
         requires stand { StandOver levels.now self.old.held }
         requires level { level < length (objects_of levels.now) }
         ensures call { WritesAt self.old.held self.new.held levels.now level E.KIND index (E.word_of value) result }
+        ensures region { StandsOn self.old.held self.new.held levels.now levels.now }
         ensures frames { self.new.held.frames ≡ self.old.held.frames }
         ensures stand { StandOver levels.now self.new.held }
     {
@@ -169,6 +176,8 @@ impl<S: Steps> Env<S> {
     pub fn close_critical(&mut self, levels: Levels, mode: Mode) -> Option<Levels>
         requires { StandOver levels self.old.held }
         ensures call { GivesUpLastOver self.old.held self.new.held levels result }
+        ensures region { IfSome result (λ v. StandsOn self.old.held self.new.held levels v) }
+        ensures undisturbed { IfNone result (EndsUndisturbed self.old.held self.new.held levels) }
         ensures levels { LeavesBefore levels result }
         ensures frames { self.new.held.frames ≡ self.old.held.frames }
         ensures stand { IfSome result (λ v. StandOver v self.new.held) }
@@ -185,6 +194,7 @@ impl<S: Steps> Env<S> {
     pub fn close_all_critical(&mut self, levels: Levels)
         requires { StandOver levels self.old.held }
         ensures call { GivesUpAllOver self.old.held self.new.held levels }
+        ensures undisturbed { EndsUndisturbed self.old.held self.new.held levels }
         ensures frames { self.new.held.frames ≡ self.old.held.frames }
         ensures outside { IsOutside self.new }
     {

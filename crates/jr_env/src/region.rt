@@ -19,6 +19,7 @@ impl<'e, S: Steps> Region<'e, S> {
     ghost use Rattle.std.specs.Borrow.{sem};
     ghost use Rattle.jr_model.specs.Objects.{nest_array, nest_string};
     ghost use Rattle.jr_critical.specs.Levels.{objects_of, in_words, GivesUpLastOver, LeavesBefore, NestsOver, ReadsAt, TellsKind, TellsLength, WasAdded, WritesAt};
+    ghost use Rattle.jr_env.specs.StandingRegions.{StandsOn};
     ghost use Rattle.jr_env.specs.Criticals.{env_of, levels_of, held_of, frames_of, rests_in_left};
 
     /// The region of an env whose levels stand.
@@ -46,6 +47,7 @@ impl<'e, S: Steps> Region<'e, S> {
     pub fn nest_array(&mut self, array: Handle) -> Result<usize, Fault>
         ensures same_reference { (env_of self.new).ghost_name ≡ (env_of self.old).ghost_name }
         ensures call { NestsOver (held_of self.old) (held_of self.new) array.0 nest_array (levels_of self.old) (levels_of self.new) result }
+        ensures region { StandsOn (held_of self.old) (held_of self.new) (levels_of self.old) (levels_of self.new) }
         ensures frames { frames_of self.new ≡ frames_of self.old }
         ensures added { IfOk result (λ n. WasAdded (levels_of self.old) (levels_of self.new) n) }
         ensures err { IfErr result (λ _. levels_of self.new ≡ levels_of self.old) }
@@ -67,6 +69,7 @@ impl<'e, S: Steps> Region<'e, S> {
     pub fn nest_string(&mut self, string: Handle) -> Result<usize, Fault>
         ensures same_reference { (env_of self.new).ghost_name ≡ (env_of self.old).ghost_name }
         ensures call { NestsOver (held_of self.old) (held_of self.new) string.0 nest_string (levels_of self.old) (levels_of self.new) result }
+        ensures region { StandsOn (held_of self.old) (held_of self.new) (levels_of self.old) (levels_of self.new) }
         ensures frames { frames_of self.new ≡ frames_of self.old }
         ensures added { IfOk result (λ n. WasAdded (levels_of self.old) (levels_of self.new) n) }
         ensures err { IfErr result (λ _. levels_of self.new ≡ levels_of self.old) }
@@ -89,6 +92,7 @@ impl<'e, S: Steps> Region<'e, S> {
         requires { level < length (objects_of (levels_of self.old)) }
         ensures same_reference { (env_of self.new).ghost_name ≡ (env_of self.old).ghost_name }
         ensures call { ReadsAt (held_of self.old) (held_of self.new) (levels_of self.old) level E.KIND index (in_words E.word_of result) }
+        ensures region { StandsOn (held_of self.old) (held_of self.new) (levels_of self.old) (levels_of self.new) }
         ensures frames { frames_of self.new ≡ frames_of self.old }
         ensures levels { levels_of self.new ≡ levels_of self.old }
     {
@@ -110,6 +114,7 @@ impl<'e, S: Steps> Region<'e, S> {
         requires { level < length (objects_of (levels_of self.old)) }
         ensures same_reference { (env_of self.new).ghost_name ≡ (env_of self.old).ghost_name }
         ensures call { WritesAt (held_of self.old) (held_of self.new) (levels_of self.old) level E.KIND index (E.word_of value) result }
+        ensures region { StandsOn (held_of self.old) (held_of self.new) (levels_of self.old) (levels_of self.new) }
         ensures frames { frames_of self.new ≡ frames_of self.old }
         ensures levels { levels_of self.new ≡ levels_of self.old }
     {
@@ -157,6 +162,7 @@ impl<'e, S: Steps> Region<'e, S> {
         ensures* rests { sem 𝓛 (rests_in_left S.row S.Steps self.entry result) }
         ensures same_reference { IfSome result (λ r. (env_of r).ghost_name ≡ (env_of self.entry).ghost_name) }
         ensures call { IfSome result (λ r. GivesUpLastOver (held_of self.entry) (held_of r) (levels_of self.entry) (Some (levels_of r))) }
+        ensures region { IfSome result (λ r. StandsOn (held_of self.entry) (held_of r) (levels_of self.entry) (levels_of r)) }
         ensures frames { IfSome result (λ r. frames_of r ≡ frames_of self.entry) }
         ensures levels { IfSome result (λ r. LeavesBefore (levels_of self.entry) (Some (levels_of r))) }
         ensures fewer { IfSome result (λ r. length (objects_of (levels_of self.entry)) ≡ length (objects_of (levels_of r)) + 1) }
