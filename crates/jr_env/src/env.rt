@@ -84,7 +84,7 @@ impl<S: Steps> Env<S> {
     ///
     /// # Operations
     ///
-    /// Just its events: the entry, a look at the slot of a global or weak handle, a look at each slot that is tried, the exchange of each that was free, and the exit.
+    /// Just its events: the entry, a look at the slot of a global or weak handle, a look at each slot that is tried and the exchange of each that was free, which are two for each slot of the room at the most, and the exit.
     pub fn new_global_ref(&mut self, handle: Handle) -> Result<Option<Handle>, Fault>
         ensures { Does self.old self.new (new_reference Global handle.0) result }
     {
@@ -101,7 +101,7 @@ impl<S: Steps> Env<S> {
     ///
     /// # Operations
     ///
-    /// Just its events: the entry, a look at the slot of a global or weak handle, a look at each slot that is tried, the exchange of each that was free, and the exit.
+    /// Just its events: the entry, a look at the slot of a global or weak handle, a look at each slot that is tried and the exchange of each that was free, which are two for each slot of the room at the most, and the exit.
     pub fn new_weak_global_ref(&mut self, handle: Handle) -> Result<Option<Handle>, Fault>
         ensures { Does self.old self.new (new_reference Weak handle.0) result }
     {

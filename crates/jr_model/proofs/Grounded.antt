@@ -28,11 +28,11 @@ use Rattle.jr_model.proofs.Windows.{ends_last}
 
 module _ (old new : PassView) (f g : Frames) where
   -- where an index was free since its probes, none of them was of a refused creation
-  found_free : (k : RefKind) (o i : ℕ) → i < old.config.slots
+  found_free : (slots : ℕ) (k : RefKind) (o i : ℕ) → i < old.config.slots
       → ((before since moment : History) (found : Bool) → IsPrefix old.seen before → new.seen ≡ before ++ by old.thread (Probe i found) ∷ since
       → IsPrefix (before ++ by old.thread (Probe i found) ∷ []) moment → IsPrefix moment new.seen → ¬ (IsOccupied old.last (state moment) i))
-      → ¬ (Ran old new f g (create k o) (Err RowFull))
-  found_free k o i l free r =
+      → ¬ (Ran old new f g (create slots k o) (Err RowFull))
+  found_free slots k o i l free r =
       let w = r.grounds i (subst (λ c. i < c.slots) (sym r.did.config) l) in
       let m = w.occupied in
       free w.before w.since m.moment w.found (prefix_trans old.seen r.begun w.before r.window.from w.own)
@@ -79,7 +79,7 @@ module _ (old new : PassView) (f g : Frames) where
       (among.0, among.1, w.found, among.2)
 
 pub free_index_is_found : FreeIndexIsFound
-free_index_is_found old new f g k o i l free r = found_free old new f g k o i l free r
+free_index_is_found old new f g slots k o i l free r = found_free old new f g slots k o i l free r
 
 pub refused_in_its_stay : RefusedInItsStay
 refused_in_its_stay old new f g k a r = refused_inside old new f g _ r

@@ -16,7 +16,7 @@ use Rattle.jr_model.specs.declared.frames.Mode.TheVariants.{Copy, Commit, Abort}
 use Rattle.jr_model.specs.declared.frames.TheConstants.{FRAMES, LEVELS}
 use Rattle.jr_model.specs.State.{Handle, State}
 use Rattle.jr_model.specs.Frames.{Frames, LeadsTo, stays, goes_on, pushes, adds, deletes, pops, frees, without_local, free_places, object_of, popped, pushed}
-use Rattle.jr_model.specs.Calls.{Call, ◌>>=◌, ◌>>◌, act, done, entered, opened, one_of, refuse, refuse_if, some_act, unless_memory_for, for_object}
+use Rattle.jr_model.specs.Calls.{Call, ◌>>=◌, ◌>>◌, act, at_most, done, entered, opened, one_of, refuse, refuse_if, some_act, unless_memory_for, for_object}
 use Rattle.jr_model.specs.Checks.{Word, Nothing, Malformed, Parts, is_array, is_foreign, is_local, is_malformed, is_of_kind, is_objects, is_out_of_bounds, is_primitive, is_text, same_element, type_local}
 use Rattle.jr_model.specs.Parts.{create, created, delete_at, delete_found, delete_local_at, drop_local, found_object, frame_left, frame_to_pop, local_object, look, looked, looked_at, new_frame, not_null, probes, publish, read, reserve, take_frame, type_at, write}
 use Rattle.jr_model.specs.References.{resolved, resolved_both, room_for, room_after, added, new_local, made, delete_local, local_removal, freeing, popping}
@@ -133,12 +133,15 @@ module _ (last thread : ℕ) where
   probes_moves : MovesFrames last thread probes
   probes_moves = record { leads = λ old new acts answer r. same_leads r.3 }
 
-  create_moves : (k : RefKind) (o : ℕ) → MovesFrames last thread (create k o)
-  create_moves k o = bind_moves probes_moves (λ x. one_moves (record { leads = λ old new acts answer r. same_leads r.4 }) (refuse_moves _))
+  at_most_moves : {A : Type 0} {work : Call A} (most : ℕ) → MovesFrames last thread work → MovesFrames last thread (at_most most work)
+  at_most_moves most p = record { leads = λ old new acts answer r. p.leads old new acts answer r.1 }
 
-  created_moves : (k : RefKind) (o : Option ℕ) → MovesFrames last thread (created k o)
-  created_moves k None = done_moves None
-  created_moves k (Some o) = bind_moves (create_moves k o) (λ h. done_moves (Some h))
+  create_moves : (slots : ℕ) (k : RefKind) (o : ℕ) → MovesFrames last thread (create slots k o)
+  create_moves slots k o = at_most_moves (slots + slots) (bind_moves probes_moves (λ x. one_moves (record { leads = λ old new acts answer r. same_leads r.4 }) (refuse_moves _)))
+
+  created_moves : (slots : ℕ) (k : RefKind) (o : Option ℕ) → MovesFrames last thread (created slots k o)
+  created_moves slots k None = done_moves None
+  created_moves slots k (Some o) = bind_moves (create_moves slots k o) (λ h. done_moves (Some h))
 
   delete_found_moves : (h : Handle) (r : Found) → MovesFrames last thread (delete_found h r)
   delete_found_moves h Stale = refuse_moves _
@@ -324,7 +327,7 @@ module _ (last thread : ℕ) where
       -- EACH CALL
       pub calls_move_frames : CallsMoveFrames c last thread s
       calls_move_frames = record {
-        new_reference = λ k a. entered_moves (bind_moves (resolved_moves a) (created_moves k));
+        new_reference = λ k a. entered_moves (bind_moves (resolved_moves a) (created_moves c.slots k));
         new_local_ref = λ a. entered_moves (bind_moves (resolved_moves a) new_local_moves);
         delete_reference = λ k a. entered_moves (bind_moves (check_moves _ _) (λ x. bind_moves (check_moves _ _) (λ y. bind_moves (check_moves _ _) (λ z. delete_at_moves a))));
         delete_local_ref = λ a. entered_moves (removal_moves a);

@@ -17,7 +17,7 @@ use Rattle.jr_model.specs.declared.frames.Mode.{Mode}
 use Rattle.jr_model.specs.declared.frames.Mode.TheVariants.{Copy, Commit, Abort}
 use Rattle.jr_model.specs.State.{Handle, State}
 use Rattle.jr_model.specs.Frames.{Frames, free_places, object_of, popped}
-use Rattle.jr_model.specs.Calls.{Call, ◌>>=◌, ◌>>◌, done, entered, refuse_if, for_object}
+use Rattle.jr_model.specs.Calls.{Call, ◌>>=◌, ◌>>◌, at_most, done, entered, refuse_if, for_object}
 use Rattle.jr_model.specs.Checks.{Word, Nothing, Malformed, Parts, is_array, is_local, is_objects, is_plain, is_primitive, is_read_as, is_text, is_value, same_element, type_local}
 use Rattle.jr_model.specs.Parts.{announce, collect, collect_announced, collected, create, created, delete, delete_at, delete_found, delete_local_at, found_closed, found_moved, found_object, frame_left, frame_to_pop, enter, local_object, look, looked, looked_at, not_null, probes, publish, read, refused_shuts, reserve, shut, take_frame, type_at, write}
 use Rattle.jr_model.specs.References.{resolved, resolved_both, room_for, room_after, added, new_local, made, delete_local, freeing, popping}
@@ -101,12 +101,15 @@ refused_calm many = record {
   safe = never_safe (record { never = λ old new acts e r. let bad = r.3 in cc });
 }
 
-create_safe : (k : RefKind) (o : ℕ) → ChangesNothing (create k o)
-create_safe k o = bind_safe probes_calm (λ x. one_of_safe (never_safe (record { never = λ old new acts e r. let bad = r.3 in cc })) (refuse_calm _).safe)
+at_most_safe : {A : Type 0} {work : Call A} (most : ℕ) → ChangesNothing work → ChangesNothing (at_most most work)
+at_most_safe most p = record { frames = λ old new acts e r. p.frames old new acts e r.1; acts = λ old new acts e r. p.acts old new acts e r.1 }
 
-created_safe : (k : RefKind) (o : Option ℕ) → ChangesNothing (created k o)
-created_safe k None = (done_calm None).safe
-created_safe k (Some o) = bind_never (create_safe k o) (λ h. done_never (Some h))
+create_safe : (slots : ℕ) (k : RefKind) (o : ℕ) → ChangesNothing (create slots k o)
+create_safe slots k o = at_most_safe (slots + slots) (bind_safe probes_calm (λ x. one_of_safe (never_safe (record { never = λ old new acts e r. let bad = r.3 in cc })) (refuse_calm _).safe))
+
+created_safe : (slots : ℕ) (k : RefKind) (o : Option ℕ) → ChangesNothing (created slots k o)
+created_safe slots k None = (done_calm None).safe
+created_safe slots k (Some o) = bind_never (create_safe slots k o) (λ h. done_never (Some h))
 
 delete_found_safe : (h : Handle) (r : Found) → ChangesNothing (delete_found h r)
 delete_found_safe h Stale = (refuse_calm _).safe
@@ -328,7 +331,7 @@ module _ (c : Config) (last thread : ℕ) (s : State) where
     delete_local = local_safe c last thread;
     pop_frame = λ o. bind_safe to_pop_calm (λ x. popping_safe c last thread o);
     freeing = freeing_safe;
-    new_reference = λ k a. entered_safe (bind_safe (resolved_calm c last thread a) (created_safe k));
+    new_reference = λ k a. entered_safe (bind_safe (resolved_calm c last thread a) (created_safe c.slots k));
     new_local_ref = λ a. entered_safe (bind_safe (resolved_calm c last thread a) (new_local_safe c last thread));
     delete_reference = λ k a. entered_safe (bind_safe (refuse_if_calm _ _) (λ x. bind_safe (refuse_if_calm _ _) (λ y. bind_safe (refuse_if_calm _ _) (λ z. delete_at_safe a))));
     delete_local_ref = λ a. entered_safe (bind_safe (refuse_if_calm _ _) (λ x. bind_safe (refuse_if_calm _ _) (λ y. local_safe c last thread a)));

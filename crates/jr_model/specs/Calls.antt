@@ -1,5 +1,5 @@
 -- What a call may do: its acts in order, its answer, and the frames that it leaves.
-use Rattle.std.specs.Prelude.{◌≡◌, ◌⊎◌, ℕ, zero, suc, Bool, true, false, Some, Result, Ok, Err, MatchResult, IfErr, List, [], ◌∷◌, ◌++◌, length}
+use Rattle.std.specs.Prelude.{◌≡◌, ◌⊎◌, ◌≤◌, ℕ, zero, suc, Bool, true, false, Some, Result, Ok, Err, MatchResult, IfErr, List, [], ◌∷◌, ◌++◌, length}
 use Rattle.jr_word.specs.declared.kind.Kind.{Kind}
 use Rattle.jr_word.specs.declared.fault.Fault.{Fault}
 use Rattle.jr_word.specs.declared.fault.Fault.TheVariants.{Barred, Memory}
@@ -51,6 +51,10 @@ abbrev pub ◌>>◌ : {A B : Type 0} → Call A → Call B → Call B
 -- one or the other
 abbrev pub one_of : {A : Type 0} → Call A → Call A → Call A
 one_of p q old acts answer new = p old acts answer new ⊎ q old acts answer new
+
+-- the work, by so many acts at the most
+abbrev pub at_most : {A : Type 0} → ℕ → Call A → Call A
+at_most most work old acts answer new = (length acts ≤ most) × work old acts answer new
 
 -- this refusal where the test holds, and else nothing
 abbrev pub refuse_if : Bool → Fault → Call (Unit {0})

@@ -25,10 +25,10 @@ use Rattle.jr_model.specs.Objects as objects
 
 -- a creation is not refused where an index was free all the time from each of its own probes on
 abbrev pub FreeIndexIsFound : Type 0
-FreeIndexIsFound = (old new : PassView) (f g : Frames) (k : RefKind) (o i : ℕ) → i < old.config.slots
+FreeIndexIsFound = (old new : PassView) (f g : Frames) (slots : ℕ) (k : RefKind) (o i : ℕ) → i < old.config.slots
     → ((before since moment : History) (found : Bool) → IsPrefix old.seen before → new.seen ≡ before ++ by old.thread (Probe i found) ∷ since
     → IsPrefix (before ++ by old.thread (Probe i found) ∷ []) moment → IsPrefix moment new.seen → ¬ (IsOccupied old.last (state moment) i))
-    → ¬ (Ran old new f g (create k o) (Err RowFull))
+    → ¬ (Ran old new f g (create slots k o) (Err RowFull))
 
 -- the call is its stay: it begins right behind its own Enter, or its own Knock where it is barred, and ends with its own Leave or Withdraw
 abbrev pub IsItsStay : {A : Type 0} → PassView → PassView → Call A → Type 0

@@ -14,7 +14,7 @@ use Rattle.jr_model.specs.declared.frames.TheConstants.{FRAMES}
 use Rattle.jr_model.specs.State.{Handle, State}
 use Rattle.jr_model.specs.Frames.{object_of, pushed, popped, without_local, last_frame, drop_all}
 use Rattle.jr_model.specs.CollectionCalls.{collection_acts}
-use Rattle.jr_model.specs.Calls.{Call, ◌>>=◌, ◌>>◌, act, decided, done, one_of, refuse, refuse_if, some_act, for_object}
+use Rattle.jr_model.specs.Calls.{Call, ◌>>=◌, ◌>>◌, act, at_most, decided, done, one_of, refuse, refuse_if, some_act, for_object}
 use Rattle.jr_model.specs.Checks.{Word, Parts, is_local, is_plain, is_text, is_value, type_found, type_local}
 
 -- THE GATE
@@ -46,7 +46,7 @@ reopen = act (Gate Reopen)
 abbrev pub look : Handle → Call Found
 look h = some_act (Look h)
 
--- any number of probes
+-- any number of probes; `create` bounds it
 abbrev pub probes : Call (Unit {0})
 probes old acts answer new = (looks : List (ℕ × Bool)) × (acts ≡ map (λ l. Probe l.0 l.1) looks) × (answer ≡ Ok tt) × (new ≡ old)
 
@@ -54,17 +54,17 @@ probes old acts answer new = (looks : List (ℕ × Bool)) × (acts ≡ map (λ l
 abbrev pub created_with : RefKind → ℕ → Call Handle
 created_with k o old acts answer new = (h : Handle) × (h.kind ≡ k) × (acts ≡ Create h o ∷ []) × (answer ≡ Ok h) × (new ≡ old)
 
--- probes and then the creation, or probes alone
-abbrev pub create : RefKind → ℕ → Call Handle
-create k o = do
+-- probes and then the creation, or probes alone, by two acts at the most for each of so many slots
+abbrev pub create : ℕ → RefKind → ℕ → Call Handle
+create slots k o = at_most (slots + slots) (do
   probes
-  one_of (created_with k o) (refuse RowFull)
+  one_of (created_with k o) (refuse RowFull))
 
--- a new reference to the object, NULL for none
-abbrev pub created : RefKind → Option ℕ → Call (Option Handle)
-created k None = done None
-created k (Some o) = do
-  h ← create k o
+-- a new reference to the object in one of so many slots, NULL for none
+abbrev pub created : ℕ → RefKind → Option ℕ → Call (Option Handle)
+created slots k None = done None
+created slots k (Some o) = do
+  h ← create slots k o
   done (Some h)
 
 -- the deletion of a reference that a look found, which another thread may be faster at

@@ -92,7 +92,7 @@ module _ (c : Config) (last thread : ℕ) where
 
   -- a reference of the kind to what is resolved
   abbrev pub creation : RefKind → Word → Call (Option Handle)
-  creation k a = resolved a >>= created k
+  creation k a = resolved a >>= created c.slots k
 
   -- a local reference to what is resolved
   abbrev pub local_creation : Word → Call (Option Handle)

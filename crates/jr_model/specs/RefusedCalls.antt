@@ -54,7 +54,7 @@ pub record RefusalsChangeNothing (c : Config) (last thread : ℕ) (s : State) : 
   pub leave : ChangesNothing parts.leave
   pub shut : ChangesNothing parts.shut
   pub reopen : ChangesNothing parts.reopen
-  pub create : (k : RefKind) (o : ℕ) → ChangesNothing (parts.create k o)
+  pub create : (slots : ℕ) (k : RefKind) (o : ℕ) → ChangesNothing (parts.create slots k o)
   pub look : (h : Handle) → ChangesNothing (parts.look h)
   pub delete : (h : Handle) → ChangesNothing (parts.delete h)
   pub reserve : (n : ℕ) → ChangesNothing (parts.reserve n)

@@ -19,7 +19,7 @@ use Rattle.jr_model.specs.State.{Handle, State}
 use Rattle.jr_model.specs.declared.frames.TheConstants.{FRAMES}
 use Rattle.jr_model.specs.declared.frames.LocalRef.{LocalRef}
 use Rattle.jr_model.specs.Frames.{Frames, all_refs, drop_all, free_places, last_frame, object_of, popped}
-use Rattle.jr_model.specs.Calls.{Call, ◌>>=◌, done, refuse, refuse_if, act, some_act, one_of}
+use Rattle.jr_model.specs.Calls.{Call, ◌>>=◌, at_most, done, refuse, refuse_if, act, some_act, one_of}
 use Rattle.jr_model.specs.Checks.{Word, Nothing, Malformed, Parts, is_local, type_local, is_out_of_bounds, is_of_kind, is_foreign, element_word}
 use Rattle.jr_model.specs.Parts.{created, create, created_with, delete_at, delete_found, delete_local_at, drop_local, found_object, frame_to_pop, local_object, look, looked, looked_at, new_frame, probes, publish, reserve, take_frame, type_at}
 use Rattle.jr_model.specs.References.{added, array_making, comparison, creation, ensure_local_capacity, freeing, local_creation, local_removal, made, making, new_local, popping, push_local_frame, removal, resolved, resolved_both, room_after, room_for, typing}
@@ -241,12 +241,15 @@ module _ {s : State} {last : ℕ} {command : Asked} where
   created_with_uncontended : (k : RefKind) (o : ℕ) → IsUncontended s last command (created_with k o)
   created_with_uncontended k o = record { acts = λ old new acts answer u r. one_act (Create r.0 o) refl r.2; fault = λ old new acts e r. let bad = r.3 in cc }
 
-  create_uncontended : (k : RefKind) (o : ℕ) → IsUncontended s last command (create k o)
-  create_uncontended k o = bind_uncontended probes_uncontended (λ x. one_of_uncontended (created_with_uncontended k o) (refuse_uncontended RowFull (λ acts f. tt)))
+  at_most_uncontended : {A : Type 0} {work : Call A} (most : ℕ) → IsUncontended s last command work → IsUncontended s last command (at_most most work)
+  at_most_uncontended most p = record { acts = λ old new acts answer u r. p.acts old new acts answer u r.1; fault = λ old new acts e r. p.fault old new acts e r.1 }
 
-  created_uncontended : (k : RefKind) (o : Option ℕ) → IsUncontended s last command (created k o)
-  created_uncontended k None = done_uncontended None
-  created_uncontended k (Some o) = bind_uncontended (create_uncontended k o) (λ h. done_uncontended (Some h))
+  create_uncontended : (slots : ℕ) (k : RefKind) (o : ℕ) → IsUncontended s last command (create slots k o)
+  create_uncontended slots k o = at_most_uncontended (slots + slots) (bind_uncontended probes_uncontended (λ x. one_of_uncontended (created_with_uncontended k o) (refuse_uncontended RowFull (λ acts f. tt))))
+
+  created_uncontended : (slots : ℕ) (k : RefKind) (o : Option ℕ) → IsUncontended s last command (created slots k o)
+  created_uncontended slots k None = done_uncontended None
+  created_uncontended slots k (Some o) = bind_uncontended (create_uncontended slots k o) (λ h. done_uncontended (Some h))
 
   delete_found_uncontended : (h : Handle) (r : Found) → IsUncontended s last command (delete_found h r)
   delete_found_uncontended h found.Stale = refuse_uncontended _ (λ acts f. tt)
@@ -373,7 +376,7 @@ module _ (s : State) (command : Asked) (c : Config) (last thread : ℕ) (one : c
   array_making_uncontended full n a lacks = bind_uncontended (resolved_uncontended a) (λ x. made_uncontended full Objects (replicate n (element_word x)) (subst (MayLack command) (sym (length-replicate n (element_word x))) lacks))
 
   pub creation_uncontended : (k : RefKind) (a : Word) → IsUncontended s last command (creation c last thread k a)
-  creation_uncontended k a = bind_uncontended (resolved_uncontended a) (created_uncontended k)
+  creation_uncontended k a = bind_uncontended (resolved_uncontended a) (created_uncontended c.slots k)
 
   pub local_creation_uncontended : ((f : Frames) → free_places last f ≡ 0 → LacksRoom last command.1 f) → (a : Word) → IsUncontended s last command (local_creation c last thread a)
   local_creation_uncontended full a = bind_uncontended (resolved_uncontended a) (new_local_uncontended full)
