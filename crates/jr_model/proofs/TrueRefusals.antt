@@ -22,7 +22,7 @@ use Rattle.jr_model.specs.State.{Handle, State, AreOthers, is_outside, not_outsi
 use Rattle.jr_model.specs.History.{History, by, state, PassView, Did}
 use Rattle.jr_model.specs.Frames.{Frames, free_places, last_frame, object_of, popped}
 use Rattle.jr_model.specs.Refusals.{Grounds, WasRaced}
-use Rattle.jr_model.specs.Calls.{Call, ◌>>◌, act, done, entered, refuse, refuse_if, for_object}
+use Rattle.jr_model.specs.Calls.{Call, ◌>>◌, act, at_most, done, entered, refuse, refuse_if, for_object}
 use Rattle.jr_model.specs.Checks.{Word, Nothing, Malformed, Parts, is_array, is_local, is_objects, is_plain, is_primitive, is_read_as, is_text, is_value, same_element, type_local}
 use Rattle.jr_model.specs.Parts.{announce, collect, collect_announced, collected, create, created, delete, delete_at, delete_found, delete_local_at, found_closed, found_moved, found_object, frame_left, frame_to_pop, enter, local_object, look, looked, looked_at, not_null, probes, publish, refused_shuts, reserve, shut, take_frame, type_at}
 use Rattle.jr_model.specs.References.{resolved, resolved_both, room_for, room_after, new_local, made, delete_local, freeing, popping}
@@ -144,12 +144,15 @@ module _ {asked : ℕ} where
     shows = never_shows (record { never = λ old new acts e r. let bad = r.3 in cc });
   }
 
-  create_shows : (k : RefKind) (o : ℕ) → Shows asked (create k o)
-  create_shows k o = bind_shows probes_tells (λ x. one_of_shows (never_shows (record { never = λ old new acts e r. let bad = r.3 in cc })) (refuse_tells _ refl).shows)
+  at_most_shows : (most : ℕ) {A : Type 0} {call : Call A} → Shows asked call → Shows asked (at_most most call)
+  at_most_shows most p = record { acts = λ old new acts e r. p.acts old new acts e r.1 }
 
-  created_shows : (k : RefKind) (o : Option ℕ) → Shows asked (created k o)
-  created_shows k None = (done_tells None).shows
-  created_shows k (Some o) = first_shows (create_shows k o) (λ h. done_never (Some h))
+  create_shows : (slots : ℕ) (k : RefKind) (o : ℕ) → Shows asked (create slots k o)
+  create_shows slots k o = at_most_shows (slots + slots) (bind_shows probes_tells (λ x. one_of_shows (never_shows (record { never = λ old new acts e r. let bad = r.3 in cc })) (refuse_tells _ refl).shows))
+
+  created_shows : (slots : ℕ) (k : RefKind) (o : Option ℕ) → Shows asked (created slots k o)
+  created_shows slots k None = (done_tells None).shows
+  created_shows slots k (Some o) = first_shows (create_shows slots k o) (λ h. done_never (Some h))
 
   delete_found_shows : (h : Handle) (r : Found) → Shows asked (delete_found h r)
   delete_found_shows h Stale = (refuse_tells _ refl).shows
@@ -302,7 +305,7 @@ module _ (c : Config) (last thread : ℕ) (s : State) where
     leave = truly (never_shows (act_never _));
     shut = truly shut_shows;
     reopen = truly (never_shows (act_never _));
-    create = λ k o. truly (create_shows k o);
+    create = λ slots k o. truly (create_shows slots k o);
     look = λ h. truly (look_tells h).shows;
     delete = λ h. truly (delete_shows h);
     reserve = λ n. truly (reserve_tells n).shows;
@@ -316,7 +319,7 @@ module _ (c : Config) (last thread : ℕ) (s : State) where
     delete_local = λ a. truly (local_shows c last thread a);
     pop_frame = λ o. truly (bind_shows to_pop_tells (λ x. popping_shows c last thread o));
     freeing = truly freeing_shows;
-    new_reference = λ k a. truly (entered_shows (bind_shows (resolved_tells c last thread a) (created_shows k)));
+    new_reference = λ k a. truly (entered_shows (bind_shows (resolved_tells c last thread a) (created_shows c.slots k)));
     new_local_ref = λ a. truly (entered_shows (bind_shows (resolved_tells c last thread a) (new_local_shows c last thread)));
     delete_reference = λ k a. truly (entered_shows (bind_shows (refuse_if_tells _ _ refl) (λ x. bind_shows (refuse_if_tells _ _ refl) (λ y. bind_shows (refuse_if_tells _ _ refl) (λ z. delete_at_shows a)))));
     delete_local_ref = λ a. truly (entered_shows (bind_shows (refuse_if_tells _ _ refl) (λ x. bind_shows (refuse_if_tells _ _ refl) (λ y. local_shows c last thread a))));

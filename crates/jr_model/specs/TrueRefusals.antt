@@ -65,7 +65,7 @@ pub record CallsRefuseTruly (c : Config) (last thread : ℕ) (s : State) : Type 
   pub leave : RefusesTruly 0 parts.leave
   pub shut : RefusesTruly 0 parts.shut
   pub reopen : RefusesTruly 0 parts.reopen
-  pub create : (k : RefKind) (o : ℕ) → RefusesTruly 0 (parts.create k o)
+  pub create : (slots : ℕ) (k : RefKind) (o : ℕ) → RefusesTruly 0 (parts.create slots k o)
   pub look : (h : Handle) → RefusesTruly 0 (parts.look h)
   pub delete : (h : Handle) → RefusesTruly 0 (parts.delete h)
   pub reserve : (n : ℕ) → RefusesTruly n (parts.reserve n)
