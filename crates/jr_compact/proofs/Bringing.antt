@@ -12,13 +12,14 @@ use Rattle.jr_model.specs.State.{Contents, HaveSameTables, length_of, present_wo
 use Rattle.jr_steps.specs.declared.known.Known.{Known}
 use Rattle.jr_steps.specs.Collecting.{placed, CanSettle}
 use Rattle.jr_steps.specs.Holdings.{InSpace}
-use Rattle.jr_steps.specs.Knowing.{AreOf, Facts, MayKnow, Sees, Saw, state_of, KnowsHeader}
+use Rattle.jr_steps.specs.Knowing.{AreOf, Facts, MayKnow, state_of, KnowsHeader}
 use Rattle.jr_steps.proofs.CollectorFacts.{tables_seen}
 use Rattle.jr_heap.proofs.Headers.{is_number}
 use Rattle.jr_compact.specs.declared.placed.PlacedObject.{PlacedObject}
+use Rattle.jr_compact.specs.Counting.{SawWithin, SeesWithin}
 use Rattle.jr_compact.specs.Noting.{noted_words, AreNoted, StandsAt}
 use Rattle.jr_compact.specs.Sliding.{CanSlide}
-use Rattle.jr_compact.proofs.Noted.{sees_nothing, sees_all}
+use Rattle.jr_compact.proofs.Counting.{within_none, within_then, within_most}
 use Rattle.jr_compact.proofs.Together.{number_of, length_at, place_at, noted_rise, ends_before, IsBrought, in_list, can_bring, one_more}
 
 -- what the present objects have is the same where they are
@@ -43,14 +44,14 @@ all_brought es i next k k' end is same config noted b = record {
 
 module _ {S : Type 0} (facts : S → Facts) (fits : AreOf facts) (space : (s : S) (k : Known) → (facts s).knows k → InSpace k.config k.holdings) (es : List PlacedObject) (sorted : IsNonDecreasingBy place_at es) (a : S) where
   -- no object is brought yet
-  pub brought_none : Saw facts a a (AreNoted es) (λ j k. IsBrought es 0 0 k)
+  pub brought_none : SawWithin facts (λ j. 0) a a (AreNoted es) (λ j k. IsBrought es 0 0 k)
   brought_none = record {
     stands_is = refl;
     hint_is = refl;
     leads = λ k s noted. (
       k,
       s,
-      sees_nothing (facts a) k (fits a k s),
+      within_none k (fits a k s).legal,
       record {
         settled = noted.settled;
         done = λ j d l. absurd (omega arith);
@@ -87,20 +88,20 @@ module _ {S : Type 0} (facts : S → Facts) (fits : AreOf facts) (space : (s : S
         let b = good.place in
         omega arith
 
-    module _ {b : S} (next : ℕ) (is : next ≡ noted_words (take i es)) (collects : (facts a).stands.role ≡ Collecting) (p : Saw facts a b (AreNoted es) (λ j k. IsBrought es i next k)) where
-      at_next : (k : Known) (s : (facts a).knows k) (noted : AreNoted es k) → (k' : Known) × (facts b).knows k' × Sees k k' × IsBrought es i (noted_words (take i es)) k' × CanSlide (number_of (get_or es i d)) (get_or es i d).header next k'
+    module _ {b : S} (next : ℕ) (is : next ≡ noted_words (take i es)) (collects : (facts a).stands.role ≡ Collecting) (p : SawWithin facts (λ j. next + next + next) a b (AreNoted es) (λ j k. IsBrought es i next k)) where
+      at_next : (k : Known) (s : (facts a).knows k) (noted : AreNoted es k) → (k' : Known) × (facts b).knows k' × SeesWithin (next + next + next) k k' × IsBrought es i (noted_words (take i es)) k' × CanSlide (number_of (get_or es i d)) (get_or es i d).header next k'
       at_next k s noted =
           let x = p.leads k s noted in
           let of = fits a k s in
           let brought = subst (λ n. IsBrought es i n x.0) is x.3 in
-          (x.0, x.1, x.2, brought, subst (λ n. CanSlide (number_of (get_or es i d)) (get_or es i d).header n x.0) (sym is) (can_bring es i d inside (noted_rise es k noted (space a k s) sorted) k x.0 noted of.legal (tables_seen x.2 (of.role ∙ collects)) brought))
+          (x.0, x.1, x.2, brought, subst (λ n. CanSlide (number_of (get_or es i d)) (get_or es i d).header n x.0) (sym is) (can_bring es i d inside (noted_rise es k noted (space a k s) sorted) k x.0 noted of.legal (tables_seen (x.2).sees (of.role ∙ collects)) brought))
 
       -- the next object may be brought down
       pub bringable : MayKnow facts b (CanSlide (number_of (get_or es i d)) (get_or es i d).header next)
       bringable = ∥∥₁_map may (λ k. let x = at_next k.0 k.1 k.2 in (x.0, x.1, x.4))
 
       -- and then it is
-      pub brought_more : {c : S} → Saw facts b c (CanSlide (number_of (get_or es i d)) (get_or es i d).header next) (StandsAt (number_of (get_or es i d)) (get_or es i d).header next) → Saw facts a c (AreNoted es) (λ j k. IsBrought es (i + 1) (next + length_at (get_or es i d)) k)
+      pub brought_more : {c : S} → SawWithin facts (λ j. length_at (get_or es i d) + length_at (get_or es i d) + 1) b c (CanSlide (number_of (get_or es i d)) (get_or es i d).header next) (StandsAt (number_of (get_or es i d)) (get_or es i d).header next) → SawWithin facts (λ j. next + length_at (get_or es i d) + (next + length_at (get_or es i d)) + (next + length_at (get_or es i d))) a c (AreNoted es) (λ j k. IsBrought es (i + 1) (next + length_at (get_or es i d)) k)
       brought_more t = record {
         stands_is = t.stands_is ∙ p.stands_is;
         hint_is = t.hint_is ∙ p.hint_is;
@@ -109,16 +110,17 @@ module _ {S : Type 0} (facts : S → Facts) (fits : AreOf facts) (space : (s : S
             let y = t.leads x.0 x.1 x.4 in
             let of = fits a k s in
             let stands = subst (λ n. StandsAt (number_of (get_or es i d)) (get_or es i d).header n x.0 y.0) is y.3 in
-            (y.0, y.1, sees_all x.2 y.2, subst (λ n. IsBrought es (i + 1) (n + length_at (get_or es i d)) y.0) (sym is) (one_more es i d inside (noted_rise es k noted (space a k s) sorted) k x.0 noted of.legal (tables_seen x.2 (of.role ∙ collects)) x.3 y.0 stands));
+            let some = some_words in
+            (y.0, y.1, within_most (next + length_at (get_or es i d) + (next + length_at (get_or es i d)) + (next + length_at (get_or es i d))) (omega arith) (within_then x.2 y.2), subst (λ n. IsBrought es (i + 1) (n + length_at (get_or es i d)) y.0) (sym is) (one_more es i d inside (noted_rise es k noted (space a k s) sorted) k x.0 noted of.legal (tables_seen (x.2).sees (of.role ∙ collects)) x.3 y.0 stands));
       }
 
   -- all are brought together
-  pub brought_all : {b : S} (i next : ℕ) → i ≡ length es → next ≡ noted_words (take i es) → (facts a).stands.role ≡ Collecting → Saw facts a b (AreNoted es) (λ j k. IsBrought es i next k) → Saw facts a b (AreNoted es) (λ j k. CanSettle next k)
+  pub brought_all : {b : S} (i next : ℕ) → i ≡ length es → next ≡ noted_words (take i es) → (facts a).stands.role ≡ Collecting → SawWithin facts (λ j. next + next + next) a b (AreNoted es) (λ j k. IsBrought es i next k) → SawWithin facts (λ j. next + next + next) a b (AreNoted es) (λ j k. CanSettle next k)
   brought_all i next end is collects p = record {
     stands_is = p.stands_is;
     hint_is = p.hint_is;
     leads = λ k s noted.
         let x = p.leads k s noted in
         let of = fits a k s in
-        (x.0, x.1, x.2, all_brought es i next k x.0 end is (tables_seen x.2 (of.role ∙ collects)) (x.2).config noted x.3);
+        (x.0, x.1, x.2, all_brought es i next k x.0 end is (tables_seen (x.2).sees (of.role ∙ collects)) ((x.2).sees).config noted x.3);
   }

@@ -1,5 +1,5 @@
 -- All arrays are moved together, and the top is set.
-use Rattle.std.proofs.Common.{◌≡◌, ℕ, ◌+◌, ◌≤◌, nat_eq, List, [], ◌∷◌, ◌++◌, IsPermutation, Option, sym, ap, ◌∙◌, arith, append-nil}
+use Rattle.std.proofs.Common.{◌≡◌, ℕ, ◌+◌, ◌≤◌, nat_eq, List, [], ◌∷◌, ◌++◌, length, IsPermutation, Option, sym, ap, ◌∙◌, arith, append-nil}
 use Rattle.std.proofs.lemmas.Bool.Decides.{nat_tests}
 use Rattle.std.proofs.Math.Logic.{∥∥₁_elim, ∥∥₁_map}
 use Rattle.std.proofs.Props.{props}
@@ -17,14 +17,15 @@ use Rattle.jr_model.proofs.Windows.{window_act}
 use Rattle.jr_steps.specs.declared.known.Known.{Known}
 use Rattle.jr_steps.specs.declared.known.Holdings.{Holdings}
 use Rattle.jr_steps.specs.Collecting.{CanSettle}
-use Rattle.jr_steps.specs.Knowing.{AreOf, Facts, MayKnow, Sees, Saw, Standing, Took, keeps, standing_after, state_of, view}
+use Rattle.jr_steps.specs.Knowing.{AreOf, Facts, MayKnow, Sees, Standing, Took, keeps, standing_after, state_of, view}
 use Rattle.jr_steps.proofs.CollectorFacts.{goes_act, tables_seen}
 use Rattle.jr_steps.proofs.StepFacts.{goes_did}
 use Rattle.jr_gate.specs.Acting.{ActedTo}
 use Rattle.jr_compact.specs.declared.placed.PlacedObject.{PlacedObject}
 use Rattle.jr_compact.specs.Compacting.{CanCompact, AreCompacted}
+use Rattle.jr_compact.specs.Counting.{SawWithin, SeesWithin, TakesWithin}
 use Rattle.jr_compact.specs.Noting.{numbers_of, IsNoted, AreNoted}
-use Rattle.jr_compact.proofs.Noted.{sees_all}
+use Rattle.jr_compact.proofs.Counting.{within_then}
 use Rattle.jr_compact.proofs.Together.{number_of, length_at}
 
 equal_flips : (x y : ℕ) → nat_eq x y ≡ nat_eq y x
@@ -62,17 +63,17 @@ settles used k k' k'' sees same after config can held =
       settled = ap (λ (g : Holdings). g.moving) held ∙ can.settled;
     }
 
-module _ {S : Type 0} (facts : S → Facts) (fits : AreOf facts) (present : List ℕ) (es fs : List PlacedObject) (moved : IsPermutation es fs) {a b : S} (noted : Saw facts a b (CanCompact present) (λ j k. AreNoted es k)) where
+module _ {S : Type 0} (facts : S → Facts) (fits : AreOf facts) (present : List ℕ) (es fs : List PlacedObject) (moved : IsPermutation es fs) {a b : S} (noted : SawWithin facts (λ j. length present) a b (CanCompact present) (λ j k. AreNoted es k)) where
   -- what was sorted is noted still
   pub sorted_noted : MayKnow facts a (CanCompact present) → MayKnow facts b (AreNoted fs)
   sorted_noted may = ∥∥₁_map may (λ k. let x = noted.leads k.0 k.1 k.2 in (x.0, x.1, noted_sorted es fs x.0 moved x.3))
 
-  module _ {c : S} {used : ℕ} (brought : Saw facts b c (AreNoted fs) (λ j k. CanSettle used k)) where
-    at_end : (k : Known) → (facts a).knows k → CanCompact present k → (k' : Known) × (facts c).knows k' × Sees k k' × CanSettle used k'
+  module _ {c : S} {used : ℕ} (brought : SawWithin facts (λ j. used + used + used) b c (AreNoted fs) (λ j k. CanSettle used k)) where
+    at_end : (k : Known) → (facts a).knows k → CanCompact present k → (k' : Known) × (facts c).knows k' × SeesWithin (length present + (used + used + used)) k k' × CanSettle used k'
     at_end k s can =
         let x = noted.leads k s can in
         let y = brought.leads x.0 x.1 (noted_sorted es fs x.0 moved x.3) in
-        (y.0, y.1, sees_all x.2 y.2, y.3)
+        (y.0, y.1, within_then x.2 y.2, y.3)
 
     -- the top may be set
     pub settleable : MayKnow facts a (CanCompact present) → MayKnow facts c (CanSettle used)
@@ -90,15 +91,17 @@ module _ {S : Type 0} (facts : S → Facts) (fits : AreOf facts) (present : List
         omega arith)
 
     -- and then all is done
-    pub compacted : {d : S} → (facts a).stands.role ≡ Collecting → Took facts c d (Settle used ∷ []) (CanSettle used) keeps → ActedTo facts a d (Settle used ∷ []) (CanCompact present) (AreCompacted used)
+    pub compacted : {d : S} → (facts a).stands.role ≡ Collecting → Took facts c d (Settle used ∷ []) (CanSettle used) keeps → ActedTo facts a d (Settle used ∷ []) (CanCompact present) (λ j k. AreCompacted used j k × TakesWithin (length present + (used + used + used) + 1) j k)
     compacted collects t = record {
       stands_is = t.stands_is ∙ ap (λ (s : Standing). standing_after s (Settle used ∷ [])) (brought.stands_is ∙ noted.stands_is);
       hint_is = t.hint_is ∙ (brought.hint_is ∙ noted.hint_is);
       leads = λ k s can.
           let x = at_end k s can in
           let y = t.goes x.0 x.1 x.3 in
-          let same = tables_seen x.2 ((fits a k s).role ∙ collects) in
+          let same = tables_seen (x.2).sees ((fits a k s).role ∙ collects) in
+          let some = (x.2).within in
+          let one = (y.2).taken in
           let standing = ap (λ (z : Standing). z.role) (brought.stands_is ∙ noted.stands_is) in
-          let did = did_then [] (Settle used ∷ []) (sees_did x.2) (goes_did y.2) in
-          (y.0, y.1, did, (settles used k x.0 y.0 x.2 same (goes_act y.2 ((fits _ x.0 x.1).role ∙ (standing ∙ collects))) (y.2).config x.3 y.3, (view k).seen, window_act (Settle used) did tt tt));
+          let did = did_then [] (Settle used ∷ []) (sees_did (x.2).sees) (goes_did y.2) in
+          (y.0, y.1, did, ((settles used k x.0 y.0 (x.2).sees same (goes_act y.2 ((fits _ x.0 x.1).role ∙ (standing ∙ collects))) (y.2).config x.3 y.3, omega arith), (view k).seen, window_act (Settle used) did tt tt));
     }

@@ -5,3 +5,4 @@ pub mod Noted
 pub mod Together
 pub mod Bringing
 pub mod Compacts
+pub mod Counting

@@ -1,8 +1,9 @@
 -- Lists of numbers, each of which stands there once.
-use Rattle.std.proofs.Common.{◌≡◌, ◌≢◌, ℕ, zero, suc, ◌+◌, ◌<◌, ◌==◌, ◌||◌, Bool, true, false, cond, nat_eq, List, [], ◌∷◌, map, length, get_or, filter, sum_by, All, Contains, refl, sym, ap, subst, ◌∙◌, arith}
+use Rattle.std.proofs.Common.{◌≡◌, ◌≢◌, ℕ, zero, suc, ◌+◌, ◌<◌, ◌≤◌, ◌==◌, ◌||◌, Bool, true, false, cond, nat_eq, List, [], ◌∷◌, map, length, get_or, filter, sum_by, All, Contains, refl, sym, ap, subst, ◌∙◌, arith}
 use Rattle.std.specs.List.{AllByRecursion, IsDistinct, list_any}
 use Rattle.std.proofs.lemmas.List.Elements.{All-from_recursion, recursion_from_All, All-filter, All-head, All-tail}
 use Rattle.std.proofs.lemmas.List.Sums.{sum_by-cons}
+use Rattle.std.proofs.Math.Numerals.{suc-eq-add-one}
 use Rattle.jr_model.specs.Maps.{update, sum_below}
 use Rattle.jr_model.proofs.Lengths.{sum_same, sum_zero}
 use Rattle.jr_model.proofs.Updates.{eq_true, eq_false, at_number}
@@ -28,6 +29,20 @@ sum_without (suc n) k f l = go (k == n) refl (λ m. sum_without n k f m)
         let before : sum_below n f ≡ f k + sum_below n (update nat_eq f k 0) = rest (omega arith) in
         let last : update nat_eq f k 0 n ≡ f n = left_out f k n apart in
         omega arith
+
+pub sum_more : (n : ℕ) (f : ℕ → ℕ) → sum_below (n + 1) f ≡ sum_below n f + f n
+unfolding sum_below
+sum_more n f = ap (λ m. sum_below m f) (sym (suc-eq-add-one n))
+
+-- a sum at numbers below a bound, each of which stands for one number alone, is no more than that over all numbers below the bound
+pub sum_once : (n m : ℕ) (g f : ℕ → ℕ) → ((i : ℕ) → i < n → g i < m) → ((i j : ℕ) → i < n → j < n → g i ≡ g j → i ≡ j) → sum_below n (λ i. f (g i)) ≤ sum_below m f
+unfolding sum_below
+sum_once zero m g f below once = omega arith
+sum_once (suc n) m g f below once =
+    let rest : sum_below n (λ i. update nat_eq f (g n) 0 (g i)) ≤ sum_below m (update nat_eq f (g n) 0) = sum_once n m g (update nat_eq f (g n) 0) (λ i l. below i (omega arith)) (λ i j l l' e. once i j (omega arith) (omega arith) e) in
+    let same : sum_below n (λ i. update nat_eq f (g n) 0 (g i)) ≡ sum_below n (λ i. f (g i)) = sum_same n (λ i. f (g i)) (λ i. update nat_eq f (g n) 0 (g i)) (λ i l. left_out f (g n) (g i) (λ e. let z = once n i (omega arith) (omega arith) e in absurd (omega arith))) in
+    let whole = sum_without m (g n) f (below n (omega arith)) in
+    omega arith
 
 sum_but : (xs : List ℕ) (x : ℕ) (f : ℕ → ℕ) → AllByRecursion (λ y. nat_eq x y ≡ false) xs → sum_by (update nat_eq f x 0) xs ≡ sum_by f xs
 sum_but [] x f apart = refl

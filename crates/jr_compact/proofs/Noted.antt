@@ -10,20 +10,21 @@ use Rattle.jr_word.specs.declared.config.Config.{Config}
 use Rattle.jr_word.specs.declared.header.HeaderParts.{HeaderParts}
 use Rattle.jr_model.specs.declared.event.Role.TheVariants.{Collecting}
 use Rattle.jr_model.specs.Maps.{sum_below}
-use Rattle.jr_model.specs.History.{IsLegal, mine}
-use Rattle.jr_model.proofs.Histories.{mine_append}
+use Rattle.jr_model.specs.History.{IsLegal}
 use Rattle.jr_model.specs.State.{Contents, State, HaveSameTables, length_of, present_words}
 use Rattle.jr_model.proofs.InRoom.{in_room}
 use Rattle.jr_steps.specs.declared.known.Known.{Known}
 use Rattle.jr_steps.specs.declared.known.Holdings.{Holdings}
 use Rattle.jr_steps.specs.Holdings.{header_in}
-use Rattle.jr_steps.specs.Knowing.{AreOf, Facts, IsOf, MayKnow, Sees, Saw, Took, anything, state_of, KnowsHeader, IsSettled, ShowsHeader}
-use Rattle.jr_steps.proofs.CollectorFacts.{tables_seen, sees_more}
+use Rattle.jr_steps.specs.Knowing.{AreOf, Facts, IsOf, MayKnow, Took, anything, state_of, KnowsHeader, IsSettled, ShowsHeader}
+use Rattle.jr_steps.proofs.CollectorFacts.{tables_seen}
 use Rattle.jr_heap.proofs.Headers.{is_number}
 use Rattle.jr_heap.proofs.KnownHeaders.{steps_keep_headers}
 use Rattle.jr_compact.specs.declared.placed.PlacedObject.{PlacedObject}
 use Rattle.jr_compact.specs.Compacting.{CanCompact}
+use Rattle.jr_compact.specs.Counting.{SawWithin}
 use Rattle.jr_compact.specs.Noting.{placed_of, numbers_of, noted_words, IsNoted, AreNoted}
+use Rattle.jr_compact.proofs.Counting.{within_none, within_more, within_most}
 use Rattle.jr_compact.proofs.Listed.{sum_listed, distinct_filter, sum_filter, sum_map, in_filter}
 use Rattle.jr_compact.proofs.OneArray.{knows_now}
 
@@ -82,20 +83,6 @@ one_entry k k' k'' o (Some h) x long = go (h.length == 0) refl
           long = omega arith;
         }) (All-nil (IsEntry k k''))
 
-pub sees_nothing : (s : Facts) (k : Known) → IsOf s.stands k → Sees k k
-sees_nothing s k of = record { config = refl; last = refl; thread = refl; between = []; seen = sym (append-nil k.seen); others = refl; legal = of.legal }
-
-pub sees_all : {k k' k'' : Known} → Sees k k' → Sees k' k'' → Sees k k''
-sees_all {k} {k'} {k''} a b = record {
-  config = b.config ∙ a.config;
-  last = b.last ∙ a.last;
-  thread = b.thread ∙ a.thread;
-  between = a.between ++ b.between;
-  seen = b.seen ∙ (ap (λ es. es ++ b.between) a.seen ∙ append_assoc k.seen a.between b.between);
-  others = mine_append a.between b.between k.thread ∙ (ap (λ l. l ++ mine b.between k.thread) a.others ∙ subst (λ t. mine b.between t ≡ []) a.thread b.others);
-  legal = subst (λ (z : Config × ℕ). IsLegal z.0 z.1 k''.seen) (λ i. (a.config i, a.last i)) b.legal;
-}
-
 present_long : (x : Option Contents) → 1 ≤ length_of x → IsSome x
 present_long None l = absurd (omega arith)
 present_long (Some x) l = refl
@@ -153,25 +140,25 @@ listed_number facts fits present a i d l may = is_number facts fits a (get_or pr
 
 module _ {S : Type 0} {facts : S → Facts} (fits : AreOf facts) (present : List ℕ) where
   -- nothing is noted
-  pub noted_none : (a : S) → Saw facts a a (CanCompact present) (IsNotedTo present 0 [])
+  pub noted_none : (a : S) → SawWithin facts (λ j. 0) a a (CanCompact present) (IsNotedTo present 0 [])
   noted_none a = record {
     stands_is = refl;
     hint_is = refl;
-    leads = λ k s can. (k, s, sees_nothing (facts a) k (fits a k s), record { numbers = refl; each = All-nil (IsEntry k k); settled = can.settled });
+    leads = λ k s can. (k, s, within_none k (fits a k s).legal, record { numbers = refl; each = All-nil (IsEntry k k); settled = can.settled });
   }
 
-  module _ {a b c : S} {i : ℕ} {entries : List PlacedObject} (p : Saw facts a b (CanCompact present) (IsNotedTo present i entries)) where
+  module _ {a b c : S} {i : ℕ} {entries : List PlacedObject} (p : SawWithin facts (λ j. i) a b (CanCompact present) (IsNotedTo present i entries)) where
     -- one object more was looked at
     pub noted_more : (d : ℕ) (h : Option HeaderParts) → i < length present → (facts a).stands.role ≡ Collecting → Took facts b c [] anything (ShowsHeader (get_or present i d) h)
-        → Saw facts a c (CanCompact present) (IsNotedTo present (i + 1) (entries ++ option_to_list (placed_of (get_or present i d) h)))
+        → SawWithin facts (λ j. i + 1) a c (CanCompact present) (IsNotedTo present (i + 1) (entries ++ option_to_list (placed_of (get_or present i d) h)))
     noted_more d h l collects t = record {
       stands_is = t.stands_is ∙ p.stands_is;
       hint_is = t.hint_is ∙ p.hint_is;
       leads = λ k s can.
           let x = p.leads k s can in
           let y = t.goes x.0 x.1 tt in
-          let sees = sees_more x.2 y.2 in
-          let same : HaveSameTables (state_of k) (state_of y.0) = tables_seen sees ((fits a k s).role ∙ collects) in
+          let sees = within_more x.2 y.2 in
+          let same : HaveSameTables (state_of k) (state_of y.0) = tables_seen sees.sees ((fits a k s).role ∙ collects) in
           let o = get_or present i d in
           let long : length_of ((state_of k).objects o) ≡ length_found h = ap (λ (m : ℕ → Option Contents). length_of (m o)) (sym same.objects) ∙ length_shown o h x.0 y.0 y.3 in (
             y.0,
@@ -191,11 +178,11 @@ module _ {S : Type 0} {facts : S → Facts} (fits : AreOf facts) (present : List
     }
 
   -- all are noted
-  pub noted_at_end : {a b : S} {i : ℕ} {entries : List PlacedObject} → i ≡ length present → (facts a).stands.role ≡ Collecting → Saw facts a b (CanCompact present) (IsNotedTo present i entries) → Saw facts a b (CanCompact present) (λ j k. AreNoted entries k)
+  pub noted_at_end : {a b : S} {i : ℕ} {entries : List PlacedObject} → i ≡ length present → (facts a).stands.role ≡ Collecting → SawWithin facts (λ j. i) a b (CanCompact present) (IsNotedTo present i entries) → SawWithin facts (λ j. length present) a b (CanCompact present) (λ j k. AreNoted entries k)
   noted_at_end {a} {b} {i} {entries} end collects p = record {
     stands_is = p.stands_is;
     hint_is = p.hint_is;
     leads = λ k s can.
         let x = p.leads k s can in
-        (x.0, x.1, x.2, noted_all present entries k x.0 (fits a k s).legal (tables_seen x.2 ((fits a k s).role ∙ collects)) (x.2).config can (subst (λ n. IsNotedTo present n entries k x.0) end x.3));
+        (x.0, x.1, within_most (length present) (omega arith) x.2, noted_all present entries k x.0 (fits a k s).legal (tables_seen (x.2).sees ((fits a k s).role ∙ collects)) ((x.2).sees).config can (subst (λ n. IsNotedTo present n entries k x.0) end x.3));
   }

@@ -22,6 +22,7 @@ use Rattle.jr_model.proofs.InRoom.{in_room}
 use Rattle.std.specs.List.{IsDistinct}
 use Rattle.jr_gate.specs.Acting.{ActedTo}
 use Rattle.jr_compact.specs.Compacting.{CanCompact, AreCompacted}
+use Rattle.jr_compact.specs.Counting.{TakesWithin}
 use Rattle.jr_compact.specs.Sliding.{CanSlide}
 
 -- the array is all that is present, its header is known, and no move is half done
@@ -169,9 +170,9 @@ module _ {S : Type 0} (facts : S → Facts) (fits : AreOf facts) where
   one_compactable a h some may = ∥∥₁_map may (λ k. (k.0, k.1, one_listed h k.0 k.2 some))
 
   -- and then the gate may be opened again
-  pub one_compacted : {a b : S} (h : HeaderParts) (used : ℕ) → 1 ≤ h.length → ActedTo facts a b (Settle used ∷ []) (CanCompact (1 ∷ [])) (AreCompacted used) → MayKnow facts a (IsOne h) → MayKnow facts b CanReopen
+  pub one_compacted : {a b : S} (h : HeaderParts) (used : ℕ) → 1 ≤ h.length → ActedTo facts a b (Settle used ∷ []) (CanCompact (1 ∷ [])) (λ j k. AreCompacted used j k × TakesWithin (1 + (used + used + used) + 1) j k) → MayKnow facts a (IsOne h) → MayKnow facts b CanReopen
   one_compacted h used some acted may = ∥∥₁_map may (λ k.
       let one = k.2 in
       let x = acted.leads k.0 k.1 (one_listed h k.0 one some) in
-      let done = x.3.0 in
+      let done = x.3.0.0 in
       (x.0, x.1, (subst (λ (m : ℕ → Option Contents). IsClosed (record (state_of x.0) { objects = m })) (sym done.tables.objects) one.closed, done.settled)))

@@ -9,25 +9,28 @@ use Rattle.jr_steps.specs.declared.known.Holdings.{Holdings}
 use Rattle.jr_steps.specs.declared.known.Move.{Move}
 use Rattle.jr_steps.specs.Holdings.{with_move, with_header, header_in, move_of, HasDone}
 use Rattle.jr_steps.specs.Collecting.{IsThere, ShowsElement, CanMove, ShowsMoved, placed, CanPlace, ShowsPlaced}
-use Rattle.jr_steps.specs.Knowing.{AreOf, Leads, Facts, MayKnow, Sees, Saw, Took, state_of, keeps, KnowsHeader}
-use Rattle.jr_steps.proofs.CollectorFacts.{tables_seen, sees_more, there_left}
+use Rattle.jr_steps.specs.Knowing.{AreOf, Leads, Facts, MayKnow, Sees, Took, state_of, keeps, KnowsHeader}
+use Rattle.jr_steps.proofs.CollectorFacts.{tables_seen, there_left}
+use Rattle.jr_compact.specs.Counting.{SawWithin, SeesWithin}
 use Rattle.jr_compact.specs.Sliding.{CanSlide}
+use Rattle.jr_compact.proofs.Counting.{within_more, within_most}
 
 -- so many elements are moved, and nothing else that the pass holds is other
 pub record IsSlidTo (o place i : ℕ) (k k' : Known) : Type 0 where
   pub done : HasDone k'.holdings.moving o place i
   pub others : with_move k'.holdings None ≡ with_move k.holdings None
 
-pub record SlidTo {S : Type 0} (facts : S → Facts) (o : ℕ) (h : HeaderParts) (place : ℕ) (old new : S) (i : ℕ) : Type 0 where
+-- the same of steps, no more than so many
+pub record SlidTo {S : Type 0} (facts : S → Facts) (o : ℕ) (h : HeaderParts) (place : ℕ) (old new : S) (most i : ℕ) : Type 0 where
   pub stands_is : (facts new).stands ≡ (facts old).stands
   pub hint_is : (facts new).hint ≡ (facts old).hint
-  pub did : Leads facts old new (CanSlide o h place) Sees (IsSlidTo o place i)
+  pub did : Leads facts old new (CanSlide o h place) (SeesWithin most) (IsSlidTo o place i)
 
 more_done : (m : Option Move) (o place i : ℕ) → m ≡ Some (move_of o place i) → HasDone m o place i
 more_done m o place i e = subst (λ z. HasDone z o place i) (sym e) refl
 
 module _ {S : Type 0} {facts : S → Facts} (fits : AreOf facts) (o : ℕ) (h : HeaderParts) (place : ℕ) where
-  module _ {a b : S} {i : ℕ} (p : SlidTo facts o h place a b i) where
+  module _ {a b : S} {most i : ℕ} (p : SlidTo facts o h place a b most i) where
     known_still : (k k' : Known) → CanSlide o h place k → IsSlidTo o place i k k' → KnowsHeader o h k'
     known_still k k' can s = ap (λ (g : Holdings). header_in o g.headers) s.others ∙ can.known
 
@@ -36,7 +39,7 @@ module _ {S : Type 0} {facts : S → Facts} (fits : AreOf facts) (o : ℕ) (h : 
     later_there j m l may = ∥∥₁_map may (λ k. let x = p.did k.0 k.1 k.2 in (x.0, x.1, there_left o j place i h x.0 (known_still k.0 x.0 k.2 x.3) l (x.3).done m))
 
     -- and a look at it changes nothing
-    pub slid_looked : {c : S} {v : ℕ} (j : ℕ) → i ≤ j → j < h.length → Took facts b c [] (IsThere o h j) (λ j' k. ShowsElement o j v k × keeps j' k) → SlidTo facts o h place a c i
+    pub slid_looked : {c : S} {v : ℕ} (j : ℕ) → i ≤ j → j < h.length → Took facts b c [] (IsThere o h j) (λ j' k. ShowsElement o j v k × keeps j' k) → SlidTo facts o h place a c (most + 1) i
     slid_looked j m l looked = record {
       stands_is = looked.stands_is ∙ p.stands_is;
       hint_is = looked.hint_is ∙ p.hint_is;
@@ -45,7 +48,7 @@ module _ {S : Type 0} {facts : S → Facts} (fits : AreOf facts) (o : ℕ) (h : 
           let y = looked.goes x.0 x.1 (there_left o j place i h x.0 (known_still k x.0 can x.3) l (x.3).done m) in (
             y.0,
             y.1,
-            sees_more x.2 y.2,
+            within_more x.2 y.2,
             record {
               done = subst (λ (g : Holdings). HasDone g.moving o place i) (sym y.3.1) (x.3).done;
               others = ap (λ g. with_move g None) y.3.1 ∙ (x.3).others;
@@ -53,19 +56,23 @@ module _ {S : Type 0} {facts : S → Facts} (fits : AreOf facts) (o : ℕ) (h : 
           );
     }
 
+    -- no more than a greater number of steps
+    pub slid_within : (n : ℕ) → most ≤ n → SlidTo facts o h place a b n i
+    slid_within n few = record { stands_is = p.stands_is; hint_is = p.hint_is; did = λ k s can. let x = p.did k s can in (x.0, x.1, within_most n few x.2, x.3) }
+
     -- the next element stands where its header says
     pub next_there : i < h.length → MayKnow facts a (CanSlide o h place) → MayKnow facts b (IsThere o h i)
     next_there l may = ∥∥₁_map may (λ k. let x = p.did k.0 k.1 k.2 in (x.0, x.1, there_left o i place i h x.0 (known_still k.0 x.0 k.2 x.3) l (x.3).done (omega arith)))
 
     -- and was looked at
     module _ {c : S} {v : ℕ} (collects : (facts a).stands.role ≡ Collecting) (l : i < h.length) (looked : Took facts b c [] (IsThere o h i) (λ j k. ShowsElement o i v k × keeps j k)) where
-      seen_next : (k : Known) → (facts a).knows k → CanSlide o h place k → (k' : Known) × (facts c).knows k' × Sees k k' × IsSlidTo o place i k k' × ShowsElement o i v k'
+      seen_next : (k : Known) → (facts a).knows k → CanSlide o h place k → (k' : Known) × (facts c).knows k' × SeesWithin (most + 1) k k' × IsSlidTo o place i k k' × ShowsElement o i v k'
       seen_next k s can =
           let x = p.did k s can in
           let y = looked.goes x.0 x.1 (there_left o i place i h x.0 (known_still k x.0 can x.3) l (x.3).done (omega arith)) in (
             y.0,
             y.1,
-            sees_more x.2 y.2,
+            within_more x.2 y.2,
             record {
               done = subst (λ (g : Holdings). HasDone g.moving o place i) (sym y.3.1) (x.3).done;
               others = ap (λ g. with_move g None) y.3.1 ∙ (x.3).others;
@@ -91,19 +98,19 @@ module _ {S : Type 0} {facts : S → Facts} (fits : AreOf facts) (o : ℕ) (h : 
 
       -- it may be moved
       pub next_movable : MayKnow facts a (CanSlide o h place) → MayKnow facts c (CanMove o h place i v)
-      next_movable may = ∥∥₁_map may (λ k. let x = seen_next k.0 k.1 k.2 in (x.0, x.1, can_move k.0 x.0 k.1 k.2 x.2 x.3 x.4))
+      next_movable may = ∥∥₁_map may (λ k. let x = seen_next k.0 k.1 k.2 in (x.0, x.1, can_move k.0 x.0 k.1 k.2 (x.2).sees x.3 x.4))
 
       -- one more element is moved
-      pub slid_more : {d : S} → Took facts c d [] (CanMove o h place i v) (ShowsMoved o place i) → SlidTo facts o h place a d (i + 1)
+      pub slid_more : {d : S} → Took facts c d [] (CanMove o h place i v) (ShowsMoved o place i) → SlidTo facts o h place a d (most + 1 + 1) (i + 1)
       slid_more t = record {
         stands_is = t.stands_is ∙ (looked.stands_is ∙ p.stands_is);
         hint_is = t.hint_is ∙ (looked.hint_is ∙ p.hint_is);
         did = λ k s can.
             let x = seen_next k s can in
-            let y = t.goes x.0 x.1 (can_move k x.0 s can x.2 x.3 x.4) in (
+            let y = t.goes x.0 x.1 (can_move k x.0 s can (x.2).sees x.3 x.4) in (
               y.0,
               y.1,
-              sees_more x.2 y.2,
+              within_more x.2 y.2,
               record {
                 done = more_done (y.0).holdings.moving o place (i + 1) (ap (λ (g : Holdings). g.moving) y.3);
                 others = ap (λ g. with_move g None) y.3 ∙ (x.3).others;
@@ -120,12 +127,12 @@ module _ {S : Type 0} {facts : S → Facts} (fits : AreOf facts) (o : ℕ) (h : 
       placeable may = ∥∥₁_map may (λ k. let x = p.did k.0 k.1 k.2 in (x.0, x.1, can_place k.0 x.0 k.2 x.3))
 
       -- and then the object is moved
-      pub slid_all : {c : S} → Took facts b c [] (CanPlace o h place) (ShowsPlaced o h place) → Saw facts a c (CanSlide o h place) (ShowsPlaced o h place)
+      pub slid_all : {c : S} → Took facts b c [] (CanPlace o h place) (ShowsPlaced o h place) → SawWithin facts (λ j. most + 1) a c (CanSlide o h place) (ShowsPlaced o h place)
       slid_all t = record {
         stands_is = t.stands_is ∙ p.stands_is;
         hint_is = t.hint_is ∙ p.hint_is;
         leads = λ k s can.
             let x = p.did k s can in
             let y = t.goes x.0 x.1 (can_place k x.0 can x.3) in
-            (y.0, y.1, sees_more x.2 y.2, y.3 ∙ ap (λ g. with_header g o (placed h place)) (x.3).others);
+            (y.0, y.1, within_more x.2 y.2, y.3 ∙ ap (λ g. with_header g o (placed h place)) (x.3).others);
       }

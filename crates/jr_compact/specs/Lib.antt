@@ -1,3 +1,4 @@
 pub mod Compacting
+pub mod Counting
 pub mod Noting
 pub mod Sliding

@@ -1,9 +1,10 @@
 //! Objects that move down to words that nobody uses any more.
-ghost use Rattle.std.specs.Prelude.{◌≡◌, ◌≤◌, []};
+ghost use Rattle.std.specs.Prelude.{◌≡◌, ◌≤◌, ◌+◌, []};
 ghost use Rattle.jr_word.specs.Header.{IsHeader};
 ghost use Rattle.jr_model.specs.declared.event.Role.TheVariants.{Collecting};
 ghost use Rattle.jr_steps.specs.Collecting.{placed, ShowsPlaced};
-ghost use Rattle.jr_steps.specs.Knowing.{MayKnow, Saw};
+ghost use Rattle.jr_steps.specs.Knowing.{MayKnow};
+ghost use Rattle.jr_compact.specs.Counting.{SawWithin};
 ghost use Rattle.jr_compact.specs.Sliding.{CanSlide};
 
 use jr_steps::Steps;
@@ -15,7 +16,7 @@ pub(crate) fn slide<S: Steps>(steps: &mut S, object: u16, header: HeaderParts, p
     requires number { (1 ≤ object) × (object ≤ (S.facts steps.old).stands.config.objects) }
     requires header { IsHeader (placed header place) }
     requires can { MayKnow S.facts steps.old (CanSlide object header place) }
-    ensures { Saw S.facts steps.old steps.new (CanSlide object header place) (ShowsPlaced object header place) }
+    ensures { SawWithin S.facts (λ j. header.length + header.length + 1) steps.old steps.new (CanSlide object header place) (ShowsPlaced object header place) }
 {
     for index in 0..header.length {
         let word = steps.scan_element(object, header, index);

@@ -1,7 +1,8 @@
 -- An announced collection of an env is the machine's, and leaves the thread ready, as does one that got no turn.
-use Rattle.std.proofs.Common.{◌≡◌, ◌⊎◌, inl, inr, ◌+◌, ℕ, true, Bool, List, [], ◌∷◌, ◌++◌, map, length, Result, Ok, Err, IfOk, IfErr, refl, sym, ap, subst, ◌∙◌, arith}
+use Rattle.std.proofs.Common.{◌≡◌, ◌⊎◌, inl, inr, ◌≤◌, ◌+◌, ℕ, true, Bool, List, [], ◌∷◌, ◌++◌, map, length, Result, Ok, Err, IfOk, IfErr, refl, sym, ap, subst, ◌∙◌, arith}
 use Rattle.std.proofs.lemmas.List.{length-append, length-map}
 use mathlib.Core.Logic.{∥∥₁_map}
+use Rattle.jr_word.specs.declared.config.Config.{Config}
 use Rattle.jr_word.specs.declared.fault.Fault.{Fault}
 use Rattle.jr_word.specs.declared.fault.Fault.TheVariants.{Busy}
 use Rattle.jr_model.specs.declared.event.Role.TheVariants.{Outside}
@@ -33,6 +34,7 @@ use Rattle.jr_frames.proofs.FramesAgree.{holds_did}
 use Rattle.jr_frames.proofs.StillReady.{own_stepped}
 use Rattle.jr_weak.specs.declared.collecting.Collected.{Collected}
 use Rattle.jr_weak.specs.Collecting.{GivesUp, MakesAnnouncedCollection}
+use Rattle.jr_weak.specs.Counting.{collection_steps}
 use Rattle.jr_env.specs.Collections.{IsNoTurn, announced_collection}
 use Rattle.jr_env.specs.Deeds.{DoesDeed, DoesOutside}
 use Rattle.jr_env.specs.Works.{EndsStay}
@@ -132,6 +134,7 @@ module _ {S : Type 0} {facts : S → Facts} where
               clears = m.clears;
               drops = m.drops;
               collects = y.2.collects;
+              finished = subst (λ (c : Config). (y.0).taken ≤ (y.2.shutting).taken + collection_steps c) y.2.announced.config y.2.finished;
               until = y.2.announcement;
               ran = record {
                 acts = acts;

@@ -101,6 +101,7 @@ module _ {S : Type 0} {facts : S → Facts} where
                 window = y.3.1.1;
                 grounds = tt;
               };
+              taken = y.3.2;
               fresh = ap (λ (s : Standing). s.fresh) m.went.stands_is;
               hint = m.went.hint_is;
               lets_go = y.3.0;

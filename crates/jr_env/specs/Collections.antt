@@ -14,12 +14,13 @@ use Rattle.jr_steps.specs.declared.steps.Steps.{Ghosts}
 use Rattle.jr_steps.specs.Holdings.{empty}
 use Rattle.jr_gate.specs.Performing.{Moment, IsMade}
 use Rattle.jr_weak.specs.declared.collecting.Collected.{Collected}
+use Rattle.jr_weak.specs.Counting.{collection_steps}
 use Rattle.jr_weak.specs.declared.marker.Marker.{Marker}
 use Rattle.jr_weak.specs.Markers.{room_of}
 use Rattle.jr_env.specs.declared.env.Env.{Env}
 use Rattle.jr_env.specs.Deeds.{Deed}
 
--- A COLLECTION WAS MADE: the machine's, which clears and drops so many, all that was to be in the state at its shut, and leaves so many words used. The frames and the hint stay as they are, and afterwards the thread holds nothing
+-- A COLLECTION WAS MADE: the machine's, which clears and drops so many, all that was to be in the state at its shut, and leaves so many words used. It takes no more operations than the sizes of the room say. The frames and the hint stay as they are, and afterwards the thread holds nothing
 pub record IsCollected (old new : Moment) (c : Collected) : Type 0 where
   pub cleared : List Handle
   pub dropped : List ℕ
@@ -27,6 +28,7 @@ pub record IsCollected (old new : Moment) (c : Collected) : Type 0 where
   pub drops : length dropped ≡ c.dropped
   pub collects : Collects old.pass new.pass cleared dropped c.used
   pub ran : Ran old.pass new.pass old.frames new.frames parts.collect (Ok (c.cleared, c.dropped, c.used))
+  pub taken : new.taken ≤ old.taken + collection_steps old.pass.config
   pub fresh : new.fresh ≡ old.fresh
   pub hint : new.hint ≡ old.hint
   pub lets_go : new.held ≡ empty
@@ -44,7 +46,7 @@ abbrev pub collection : Deed Collected
 collection old (Ok c) new = IsCollected old new c
 collection old (Err e) new = IsKeptOut old new e
 
--- AN ANNOUNCED COLLECTION WAS MADE: after fewer refused shuts than there were tries, by one operation for each act up to its shut, the machine's as above. From the announcement to the reopening nobody entered
+-- AN ANNOUNCED COLLECTION WAS MADE: after fewer refused shuts than there were tries, by one operation for each act up to its shut, and from then on the machine's as above, by no more than the sizes of the room say. From the announcement to the reopening nobody entered
 pub record IsCollectedAnnounced (tries : ℕ) (old new : Moment) (c : Collected) : Type 0 where
   pub refused : List ℕ
   pub few : length refused < tries
@@ -56,6 +58,7 @@ pub record IsCollectedAnnounced (tries : ℕ) (old new : Moment) (c : Collected)
   pub clears : length cleared ≡ c.cleared
   pub drops : length dropped ≡ c.dropped
   pub collects : Collects shutting.pass new.pass cleared dropped c.used
+  pub finished : new.taken ≤ shutting.taken + collection_steps old.pass.config
   pub until : AnnouncedUntil new.pass (map ShutBusy refused ++ Gate Shut ∷ sweeping_acts cleared dropped c.used) Reopen
   pub ran : Ran old.pass new.pass old.frames new.frames (parts.collect_announced tries) (Ok (c.cleared, c.dropped, c.used))
   pub fresh : new.fresh ≡ old.fresh

@@ -22,7 +22,7 @@ impl<S: Steps> Env<S> {
     ///
     /// # Operations
     ///
-    /// One where it is refused. Those of a collection that is made no clause counts; in the code they are two looks at each slot, one at each local place of every thread, one or two at each object number's header, a load for each element of an object array that is reached, a load and a store for each element that moves, one for each reference that is cleared, each object that is dropped and each array that moves, and three at the gate and the top.
+    /// One where it is refused. A collection that is made takes two looks at each slot, one at each local place of every thread, one or two at each object number's header, a load for each element of an object array that is reached, a load and a store for each element that moves, one for each reference that is cleared, each object that is dropped and each array that moves, and three at the gate and the top: at the most three for each slot, one for each local place of every thread, four for each object and each word of the room, and three.
     pub fn collect(&mut self, marker: &mut Marker) -> Result<Collected, Fault>
         requires { FitsRoom marker.old self.old }
         ensures call { Does self.old self.new collection result }
@@ -46,7 +46,7 @@ impl<S: Steps> Env<S> {
     ///
     /// # Operations
     ///
-    /// One or two where it is not announced; a look, the announcement and one for each try up to the shut of the gate, with none between two tries; and one more where the announcement is taken back. Those of the collection no clause counts: see `collect`.
+    /// One or two where it is not announced; a look, the announcement and one for each try up to the shut of the gate, with none between two tries; and one more where the announcement is taken back. From then on those of `collect`.
     pub fn collect_announced(&mut self, marker: &mut Marker, tries: u32) -> Result<Collected, Fault>
         requires room { FitsRoom marker.old self.old }
         requires tries { 1 ≤ tries }

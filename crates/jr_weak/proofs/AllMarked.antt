@@ -1,5 +1,5 @@
 -- Marked means reached, once roots and arrays are marked.
-use Rattle.std.proofs.Common.{◌≡◌, ℕ, Bool, Option, List, sym, ap, ◌∙◌, arith}
+use Rattle.std.proofs.Common.{◌≡◌, ◌≤◌, ◌+◌, ◌*◌, ℕ, Bool, Option, List, sym, ap, ◌∙◌, arith}
 use mathlib.Core.Logic.{∥∥₁_map}
 use Rattle.jr_word.specs.declared.config.Config.{Config}
 use Rattle.jr_model.specs.declared.event.Role.TheVariants.{Collecting}
@@ -7,7 +7,9 @@ use Rattle.jr_model.specs.declared.event.Found.{Found}
 use Rattle.jr_model.specs.State.{Handle, State, IsReached, from_global, from_local, from_element}
 use Rattle.jr_model.proofs.InRoom.{IsInRoom, in_room}
 use Rattle.jr_steps.specs.declared.known.Known.{Known}
-use Rattle.jr_steps.specs.Knowing.{Facts, AreOf, MayKnow, Saw, CanReopen, state_of}
+use Rattle.jr_steps.specs.Knowing.{Facts, AreOf, MayKnow, CanReopen, state_of}
+use Rattle.jr_compact.specs.Counting.{SawWithin}
+use Rattle.jr_weak.specs.Counting.{marking_steps}
 use Rattle.jr_weak.specs.Marks.{IsMarked, HasGlobals, HasLocals, HasElements}
 use Rattle.jr_weak.specs.Marking.{IsMarking, IsMarkedNow, MarkedTo, MarksAll}
 use Rattle.jr_weak.proofs.Leading.{marked_join}
@@ -30,13 +32,17 @@ HasAll marks k = HasRoots marks k × HasElements marks (state_of k)
 pub may_begin : {S : Type 0} (facts : S → Facts) (a : S) (marks : List Bool) → ((o : ℕ) → ¬ (IsMarked marks o)) → MayKnow facts a CanReopen → MayKnow facts a (IsMarking marks)
 may_begin facts a marks none may = ∥∥₁_map may (λ k. (k.0, k.1, record { sound = λ o m. absurd (none o m); closed = (k.2).0; settled = (k.2).1 }))
 
-module _ {S : Type 0} {facts : S → Facts} (fits : AreOf facts) {a b c : S} {m0 m1 m2 : List Bool} (collects : (facts a).stands.role ≡ Collecting) (globals : MarksAll facts m0 m1 a b HasGlobals) (locals : MarksAll facts m1 m2 b c HasLocals) where
-  pub roots_marked : MarkedTo facts m0 m2 a c HasRoots
-  roots_marked = marked_join fits collects globals locals (λ k k' s same g l. ((λ h o kind is. locals.more o (g h o kind (ap (λ (f : Handle → Found). f h) (sym same.refs) ∙ is))), l))
+-- as many by the sizes of the same room
+as_many : (f g : Config → ℕ) (k k' : Known) → k'.config ≡ k.config → f k.config + g k'.config ≤ f k.config + g k.config
+as_many f g k k' config = let same = ap g config in omega arith
 
-  pub all_marked : {d : S} {m3 : List Bool} → ((o : ℕ) → ¬ (IsMarked m0 o)) → MarksAll facts m2 m3 c d HasElements → Saw facts a d CanReopen (λ j k. IsMarkedNow m3 k)
+module _ {S : Type 0} {facts : S → Facts} (fits : AreOf facts) {a b c : S} {m0 m1 m2 : List Bool} (collects : (facts a).stands.role ≡ Collecting) (globals : MarksAll facts (λ j. j.config.slots) m0 m1 a b HasGlobals) (locals : MarksAll facts (λ j. j.config.threads * j.config.locals) m1 m2 b c HasLocals) where
+  pub roots_marked : MarkedTo facts (λ j. j.config.slots + j.config.threads * j.config.locals) m0 m2 a c HasRoots
+  roots_marked = marked_join fits (λ j. j.config.slots + j.config.threads * j.config.locals) collects globals locals (λ k k' same config. as_many (λ c. c.slots) (λ c. c.threads * c.locals) k k' config) (λ k k' s same g l. ((λ h o kind is. locals.more o (g h o kind (ap (λ (f : Handle → Found). f h) (sym same.refs) ∙ is))), l))
+
+  pub all_marked : {d : S} {m3 : List Bool} → ((o : ℕ) → ¬ (IsMarked m0 o)) → MarksAll facts (λ j. j.config.objects + j.config.words) m2 m3 c d HasElements → SawWithin facts (λ j. marking_steps j.config) a d CanReopen (λ j k. IsMarkedNow m3 k)
   all_marked {d} {m3} none elements =
-      let p : MarkedTo facts m0 m3 a d HasAll = marked_join fits collects roots_marked elements (λ k k' s same r e. (
+      let p : MarkedTo facts (λ j. marking_steps j.config) m0 m3 a d HasAll = marked_join fits (λ j. marking_steps j.config) collects roots_marked elements (λ k k' same config. as_many (λ c. c.slots + c.threads * c.locals) (λ c. c.objects + c.words) k k' config) (λ k k' s same r e. (
         (
           (λ h o kind is. elements.more o (r.0 h o kind (ap (λ (f : Handle → Found). f h) (sym same.refs) ∙ is))),
           (λ t q o is. elements.more o (r.1 t q o (ap (λ (f : ℕ → ℕ → Option ℕ). f t q) (sym same.locals) ∙ is))),

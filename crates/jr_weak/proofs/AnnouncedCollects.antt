@@ -23,7 +23,7 @@ use Rattle.jr_gate.specs.Acting.{ActedTo}
 use Rattle.jr_gate.specs.Announcing.{AnnouncesInTwo}
 use Rattle.jr_weak.specs.Collecting.{CollectsFrom, Finishes, GivesUp, MakesAnnouncedCollection}
 use Rattle.jr_weak.specs.Waiting.{CancelsAfter, ShutsAfter}
-use Rattle.jr_weak.proofs.Collects.{collects_since}
+use Rattle.jr_weak.proofs.Collects.{collects_since, within_since}
 use Rattle.jr_weak.proofs.Tries.{one_more}
 
 -- a call that begins with a look, and ends with an act that takes its thread outside
@@ -92,7 +92,7 @@ module _ {S : Type 0} (facts : S → Facts) {a b : S} (tries : ℕ) (outside : (
           let did = did_then (announcing_acts sh.refused) (collection_acts rest.cleared rest.dropped used) waiting since.collects.did in (
             kz.0,
             kz.1,
-            record { shutting = kc.0; announced = waiting; taken = announcing_takes sh.refused k kb.0 kc.0 kb.3.0.0.1 kc.3.1; collects = since.collects; announcement = announced_until (map ShutBusy sh.refused ++ Gate Shut ∷ acts) Reopen (shut_spares (Gate Cancel) (λ n e. cc) (λ e. cc) sh.refused acts (sweeping_spares (Gate Cancel) (λ h e. cc) (λ o e. cc) (λ n e. cc) rest.cleared rest.dropped used)) (shut_spares (Gate Reopen) (λ n e. cc) (λ e. cc) sh.refused acts (sweeping_spares (Gate Reopen) (λ h e. cc) (λ o e. cc) (λ n e. cc) rest.cleared rest.dropped used)) kb.3.0.1 swept (goes_stepped (kz.2).opened) },
+            record { shutting = kc.0; announced = waiting; taken = announcing_takes sh.refused k kb.0 kc.0 kb.3.0.0.1 kc.3.1; collects = since.collects; finished = within_since kz.0 kd.2 (kz.2).taken; announcement = announced_until (map ShutBusy sh.refused ++ Gate Shut ∷ acts) Reopen (shut_spares (Gate Cancel) (λ n e. cc) (λ e. cc) sh.refused acts (sweeping_spares (Gate Cancel) (λ h e. cc) (λ o e. cc) (λ n e. cc) rest.cleared rest.dropped used)) (shut_spares (Gate Reopen) (λ n e. cc) (λ e. cc) sh.refused acts (sweeping_spares (Gate Reopen) (λ h e. cc) (λ o e. cc) (λ n e. cc) rest.cleared rest.dropped used)) kb.3.0.1 swept (goes_stepped (kz.2).opened) },
             (kz.3, (k.seen, collection_window sh.refused rest.cleared rest.dropped used did (stepped_last (goes_stepped (kz.2).opened)))),
           );
     };

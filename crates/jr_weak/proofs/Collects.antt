@@ -1,14 +1,17 @@
 -- A collection, from the shut of the gate to its reopening, is the model's.
-use Rattle.std.proofs.Common.{◌≡◌, ℕ, Bool, Option, IsSome, List, [], ◌∷◌, ◌++◌, map, refl, sym, ap, subst, ◌∙◌, append_assoc}
+use Rattle.std.proofs.Common.{◌≡◌, ◌≤◌, ◌+◌, ℕ, Bool, Option, IsSome, List, [], ◌∷◌, ◌++◌, map, refl, sym, ap, subst, ◌∙◌, append_assoc, arith}
 use Rattle.std.proofs.lemmas.List.{append-nil}
 use mathlib.Core.Logic.{∥∥₁_map}
+use Rattle.jr_word.specs.declared.config.Config.{Config}
+use Rattle.jr_model.specs.declared.event.Act.{Act}
 use Rattle.jr_model.specs.declared.event.Event.{Event}
 use Rattle.jr_model.specs.declared.event.Role.TheVariants.{Outside, Collecting}
 use Rattle.jr_model.specs.declared.event.Found.{Found}
 use Rattle.jr_model.specs.declared.event.Act.TheVariants.{Gate, Clear, Drop, Settle}
 use Rattle.jr_model.specs.declared.event.GateAct.TheVariants.{Shut, Reopen}
 use Rattle.jr_model.specs.State.{Handle, Contents, State, HaveSameTables}
-use Rattle.jr_model.specs.History.{History, by, state, mine, Did}
+use Rattle.jr_model.specs.History.{History, by, state, mine, Did, IsLegal}
+use Rattle.jr_model.proofs.Lengths.{lengths_fit}
 use Rattle.jr_model.specs.CollectionCalls.{IsWhole, collection_acts, sweeping_acts, CollectionIn, Collects}
 use Rattle.jr_model.specs.Windows.{IsWindow}
 use Rattle.jr_model.proofs.Histories.{mine_append, state_push}
@@ -16,11 +19,13 @@ use Rattle.jr_model.proofs.Stays.{did_added, did_then, mine_did}
 use Rattle.jr_model.proofs.Windows.{window_stay, stepped_last}
 use Rattle.jr_steps.specs.declared.known.Known.{Known}
 use Rattle.jr_steps.specs.declared.known.Holdings.{Holdings}
-use Rattle.jr_steps.specs.Knowing.{AreOf, Facts, Goes, MayKnow, Saw, Sees, Standing, Took, CanReopen, IsClosedNow, anything, lets_go, standing_after, state_of, view}
+use Rattle.jr_steps.specs.Knowing.{AreOf, Facts, Goes, MayKnow, Sees, Standing, Took, CanReopen, IsClosedNow, anything, lets_go, standing_after, state_of, view}
 use Rattle.jr_steps.proofs.CollectorFacts.{tables_seen}
 use Rattle.jr_steps.proofs.StepFacts.{goes_stepped}
 use Rattle.jr_gate.specs.Acting.{ActedTo}
 use Rattle.jr_compact.specs.Compacting.{AreCompacted}
+use Rattle.jr_compact.specs.Counting.{SawWithin, TakesWithin}
+use Rattle.jr_weak.specs.Counting.{clearing_steps, collection_steps, dropping_steps, marking_steps, sweeping_steps}
 use Rattle.jr_weak.specs.Marking.{IsMarkedNow}
 use Rattle.jr_weak.specs.Sweeping.{AreCleared, AreDropped, ClearsUnreached, DropsUnreached, IsExactlyToClear, IsExactlyToDrop}
 use Rattle.jr_weak.specs.Collecting.{CollectsFrom, Finishes, MakesCollection}
@@ -72,6 +77,13 @@ shut_tables {k} g =
       used = ap (λ (s : State). s.used) is;
     }
 
+-- numbers of steps, added up
+within_two : (a b c n : ℕ) → b ≡ a + 1 → c ≤ b + (n + 1) → c ≤ a + (n + 2)
+within_two a b c n first rest = omega arith
+
+within_sum : (t1 t2 t3 t4 t5 t6 mark clear drop objects words used room : ℕ) → room ≡ objects → used ≤ words → t2 ≤ t1 + mark → t3 ≤ t2 + clear → t4 ≤ t3 + drop → t5 ≤ t4 + (room + (used + used + used) + 1) → t6 ≡ t5 + 1 → t6 ≤ t1 + (mark + clear + drop + (objects + (words + words + words) + 1) + 1)
+within_sum t1 t2 t3 t4 t5 t6 mark clear drop objects words used room fits less a b c d e = omega arith
+
 same_then : {r s t : State} → HaveSameTables r s → HaveSameTables s t → HaveSameTables r t
 same_then a b = record { refs = b.refs ∙ a.refs; given = b.given ∙ a.given; locals = b.locals ∙ a.locals; objects = b.objects ∙ a.objects; used = b.used ∙ a.used }
 
@@ -96,9 +108,23 @@ whole_before cleared dropped same w = record {
   drops = λ o z. w.drops o (subst (λ (f : ℕ → Option Contents). IsSome (f o)) (sym same.objects) z.0, λ r. z.1 (reached_on (same_back same) o r));
 }
 
+-- THE STEPS OF ALL, by the sizes of one room
+within_all : (k1 k2 k3 k4 k5 k6 : Known) (used room : ℕ) → room ≡ k1.config.objects → IsLegal k5.config k5.last k5.seen → AreCompacted used k4 k5 → k2.config ≡ k1.config → k3.config ≡ k2.config → k4.config ≡ k3.config → k5.config ≡ k4.config
+    → TakesWithin (marking_steps k1.config) k1 k2 → TakesWithin (clearing_steps k2.config) k2 k3 → TakesWithin (dropping_steps k3.config) k3 k4 → TakesWithin (room + (used + used + used) + 1) k4 k5 → k6.taken ≡ k5.taken + 1 → TakesWithin (sweeping_steps k1.config + 1) k1 k6
+within_all k1 k2 k3 k4 k5 k6 used room fits legal compacted c2 c3 c4 c5 marked cleared dropped moved opened =
+    let clear : k3.taken ≤ k2.taken + clearing_steps k1.config = subst (λ (c : Config). k3.taken ≤ k2.taken + clearing_steps c) c2 cleared in
+    let drop : k4.taken ≤ k3.taken + dropping_steps k1.config = subst (λ (c : Config). k4.taken ≤ k3.taken + dropping_steps c) (c3 ∙ c2) dropped in
+    let fit = lengths_fit k5.config k5.last k5.seen legal in
+    let low = fit.0 in
+    let high = fit.1 in
+    let sum = compacted.sum in
+    let words : k5.config.words ≡ k1.config.words = ap (λ (c : Config). c.words) (c5 ∙ (c4 ∙ (c3 ∙ c2))) in
+    let less : used ≤ k1.config.words = omega arith in
+    within_sum k1.taken k2.taken k3.taken k4.taken k5.taken k6.taken (marking_steps k1.config) (clearing_steps k1.config) (dropping_steps k1.config) k1.config.objects k1.config.words used room fits less marked clear drop moved opened
+
 -- what may be known while it goes on
 module _ {S : Type 0} (facts : S → Facts) (a b : S) (marks : List Bool) where
-  pub may_clear : MayKnow facts a CanReopen → Saw facts a b CanReopen (λ j k. IsMarkedNow marks k) → MayKnow facts b (IsMarkedNow marks)
+  pub may_clear : MayKnow facts a CanReopen → SawWithin facts (λ j. marking_steps j.config) a b CanReopen (λ j k. IsMarkedNow marks k) → MayKnow facts b (IsMarkedNow marks)
   may_clear may p = ∥∥₁_map may (λ k. let x = p.leads k.0 k.1 k.2 in (x.0, x.1, x.3))
 
   pub may_drop : {n : ℕ} → MayKnow facts a (IsMarkedNow marks) → ClearsUnreached facts marks a b n → MayKnow facts b (AreCleared marks)
@@ -107,12 +133,12 @@ module _ {S : Type 0} (facts : S → Facts) (a b : S) (marks : List Bool) where
   pub may_move : {n : ℕ} → MayKnow facts a (AreCleared marks) → DropsUnreached facts marks a b n → MayKnow facts b (AreDropped marks)
   may_move may p = ∥∥₁_map may (λ k. let x = p.went.leads k.0 k.1 k.2 in (x.0, x.1, x.3.1))
 
-  pub may_reopen : {used : ℕ} → MayKnow facts a (AreDropped marks) → ActedTo facts a b (Settle used ∷ []) (AreDropped marks) (AreCompacted used) → MayKnow facts b CanReopen
-  may_reopen {used} may p = ∥∥₁_map may (λ k. let x = p.leads k.0 k.1 k.2 in (x.0, x.1, can_reopen marks used k.0 x.0 k.2 x.3.0))
+  pub may_reopen : {used : ℕ} (room : ℕ) → MayKnow facts a (AreDropped marks) → ActedTo facts a b (Settle used ∷ []) (AreDropped marks) (λ j k. AreCompacted used j k × TakesWithin (room + (used + used + used) + 1) j k) → MayKnow facts b CanReopen
+  may_reopen {used} room may p = ∥∥₁_map may (λ k. let x = p.leads k.0 k.1 k.2 in (x.0, x.1, can_reopen marks used k.0 x.0 k.2 x.3.0.0))
 
-module _ {S : Type 0} (facts : S → Facts) (fits : AreOf facts) (marks : List Bool) {b c d e f z : S} {cleared_count dropped_count used : ℕ} (collecting : (facts b).stands.role ≡ Collecting)
-    (marked : Saw facts b c CanReopen (λ j k. IsMarkedNow marks k)) (clear : ClearsUnreached facts marks c d cleared_count) (drop : DropsUnreached facts marks d e dropped_count)
-    (moved : ActedTo facts e f (Settle used ∷ []) (AreDropped marks) (AreCompacted used)) (opened : Took facts f z (Gate Reopen ∷ []) CanReopen lets_go) where
+module _ {S : Type 0} (facts : S → Facts) (fits : AreOf facts) (marks : List Bool) {b c d e f z : S} {cleared_count dropped_count used room : ℕ} (collecting : (facts b).stands.role ≡ Collecting) (fitting : room ≡ (facts b).stands.config.objects)
+    (marked : SawWithin facts (λ j. marking_steps j.config) b c CanReopen (λ j k. IsMarkedNow marks k)) (clear : ClearsUnreached facts marks c d cleared_count) (drop : DropsUnreached facts marks d e dropped_count)
+    (moved : ActedTo facts e f (Settle used ∷ []) (AreDropped marks) (λ j k. AreCompacted used j k × TakesWithin (room + (used + used + used) + 1) j k)) (opened : Took facts f z (Gate Reopen ∷ []) CanReopen lets_go) where
   -- THE REST OF A COLLECTION WAS MADE
   pub finishes : Finishes facts b z cleared_count dropped_count used
   finishes = record {
@@ -128,21 +154,29 @@ module _ {S : Type 0} (facts : S → Facts) (fits : AreOf facts) (marks : List B
           let k3 = clear.went.leads k2.0 k2.1 k2.3 in
           let k4 = drop.went.leads k3.0 k3.1 k3.3.2 in
           let k5 = moved.leads k4.0 k4.1 k4.3.1 in
-          let k6 = opened.goes k5.0 k5.1 (can_reopen marks used k4.0 k5.0 k4.3.1 k5.3.0) in
-          let same = tables_seen k2.2 ((fits b k1 s).role ∙ collecting) in (
+          let k6 = opened.goes k5.0 k5.1 (can_reopen marks used k4.0 k5.0 k4.3.1 k5.3.0.0) in
+          let same = tables_seen (k2.2).sees ((fits b k1 s).role ∙ collecting) in (
             k6.0,
             k6.1,
             record {
               opening = k5.0;
-              swept = did_then [] (sweeping_acts clear.cleared drop.dropped used) (sees_did k2.2)
-                  (did_then (map Clear clear.cleared ++ map Drop drop.dropped) (Settle used ∷ []) (did_then (map Clear clear.cleared) (map Drop drop.dropped) k3.2 k4.2) k5.2);
+              swept = did_then [] (sweeping_acts clear.cleared drop.dropped used) (sees_did (k2.2).sees)
+                  (did_then (map Clear clear.cleared ++ map Drop drop.dropped) (Settle used ∷ []) (did_then (map Clear clear.cleared) (map Drop drop.dropped) k3.2.0 k4.2.0) k5.2);
               opened = k6.2;
               whole = whole_of marks (state_of k1) k2.0 k3.0 clear.cleared drop.dropped same k2.3 k3.3.2 k3.3.1 k3.3.0 k4.3.0;
+              taken = within_all k1 k2.0 k3.0 k4.0 k5.0 k6.0 used room (fitting ∙ ap (λ (c : Config). c.objects) (sym (fits b k1 s).config)) (fits f k5.0 k5.1).legal k5.3.0.0 ((k2.2).sees).config k3.2.0.config k4.2.0.config k5.2.config (k2.2).within k3.2.1 k4.2.1 k5.3.0.1 (k6.2).taken;
             },
             k6.3,
           );
     };
   }
+
+-- and the step that shut the gate
+pub within_since : {k k1 : Known} {acts : List Act} (k6 : Known) → Goes k acts k1 → TakesWithin (sweeping_steps k1.config + 1) k1 k6 → TakesWithin (collection_steps k.config) k k6
+within_since {k} {k1} k6 g rest =
+    let one = g.taken in
+    let some : k6.taken ≤ k1.taken + (sweeping_steps k.config + 1) = subst (λ (c : Config). k6.taken ≤ k1.taken + (sweeping_steps c + 1)) g.config rest in
+    within_two k.taken k1.taken k6.taken (sweeping_steps k.config) one some
 
 -- from the shut on
 pub record CollectsSince (k k' : Known) (cleared : List Handle) (dropped : List ℕ) (used : ℕ) : Type 0 where
@@ -179,6 +213,6 @@ module _ {S : Type 0} (facts : S → Facts) {a b z : S} {cleared_count dropped_c
           let k1 = shut.goes k s tt in
           let k6 = rest.went.leads k1.0 k1.1 (k1.3.0, ap (λ (g : Holdings). g.moving) k1.3.1) in
           let since = collects_since rest.cleared rest.dropped used k1.2 k6.2 in
-          (k6.0, k6.1, since.collects, (k6.3, (since.begun, since.window)));
+          (k6.0, k6.1, since.collects, (k6.3, (since.begun, since.window), within_since k6.0 k1.2 (k6.2).taken));
     };
   }

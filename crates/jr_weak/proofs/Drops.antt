@@ -22,6 +22,7 @@ use Rattle.jr_steps.specs.Collecting.{CanDrop, ShowsDropped}
 use Rattle.jr_steps.specs.Knowing.{Facts, Standing, AreOf, MayKnow, Went, Took, anything, view, state_of, ShowsHeader}
 use Rattle.jr_steps.proofs.CollectorFacts.{same_tables}
 use Rattle.jr_steps.proofs.StepFacts.{goes_did}
+use Rattle.jr_compact.specs.Counting.{TakesWithin}
 use Rattle.jr_weak.specs.Marks.{IsMarked}
 use Rattle.jr_weak.specs.Sweeping.{drop_acts, MayDrop, NumberIsSwept, SweepsNumber, AreCleared, AreDropped, DropsUnreached}
 use Rattle.jr_weak.proofs.Kept.{DroppedFrom, dropped_from, exactly_same, exactly_dropped}
@@ -57,7 +58,7 @@ module _ {S : Type 0} {facts : S → Facts} (fits : AreOf facts) (marks : List B
       leads = λ k s m. (
         k,
         s,
-        did_nothing (view k) (fits a k s).legal,
+        (did_nothing (view k) (fits a k s).legal, omega arith),
         record {
           may = m;
           others = λ r ne. refl;
@@ -83,7 +84,7 @@ module _ {S : Type 0} {facts : S → Facts} (fits : AreOf facts) (marks : List B
           let same = same_tables y.2 ((fits a k s).role ∙ collects) in (
             y.0,
             y.1,
-            goes_did y.2,
+            (goes_did y.2, let one = (y.2).taken in omega arith),
             record {
               may = may_on marks k y.0 same (shown_moving o None k y.0 y.3) m;
               others = λ r ne. ap (λ (f : ℕ → Option Contents). f r) same.objects;
@@ -121,7 +122,7 @@ module _ {S : Type 0} {facts : S → Facts} (fits : AreOf facts) (marks : List B
             let can = can_drop k y.0 m same y.3 in
             let z = u.goes y.0 y.1 can in
             let from = dropped_from o z.2 ((fits b y.0 y.1).role ∙ (ap (λ (z : Standing). z.role) t.stands_is ∙ collects)) in
-            (z.0, z.1, did_then [] (Drop o ∷ []) (goes_did y.2) (goes_did z.2), swept k y.0 z.0 same (may_on marks k y.0 same (shown_moving o (Some h) k y.0 y.3) m) can from (ap (λ (g : Holdings). g.moving) z.3));
+            (z.0, z.1, (did_then [] (Drop o ∷ []) (goes_did y.2) (goes_did z.2), let one = (y.2).taken in let two = (z.2).taken in omega arith), swept k y.0 z.0 same (may_on marks k y.0 same (shown_moving o (Some h) k y.0 y.3) m) can from (ap (λ (g : Holdings). g.moving) z.3));
       };
     }
       where
@@ -156,7 +157,7 @@ pub record DroppedTo (marks : List Bool) (n : ℕ) (dropped : List ℕ) (j k : K
 pub record DropsTo {S : Type 0} (facts : S → Facts) (marks : List Bool) (n : ℕ) (old new : S) (count : ℕ) : Type 0 where
   pub dropped : List ℕ
   pub counted : length dropped ≡ count
-  pub went : Went facts old new (facts old).stands (AreCleared marks) (λ j k. Did (view j) (view k) (map Drop dropped)) (DroppedTo marks n dropped)
+  pub went : Went facts old new (facts old).stands (AreCleared marks) (λ j k. Did (view j) (view k) (map Drop dropped) × TakesWithin (n + n) j k) (DroppedTo marks n dropped)
 
 to_may : (marks : List Bool) (k : Known) → AreCleared marks k → MayDrop marks k
 to_may marks k m = record { exactly = m.marked.0; named = m.named; settled = m.marked.1.1 }
@@ -183,7 +184,7 @@ module _ {S : Type 0} {facts : S → Facts} (fits : AreOf facts) (marks : List B
       leads = λ k s m. (
         k,
         s,
-        did_nothing (view k) (fits a k s).legal,
+        (did_nothing (view k) (fits a k s).legal, omega arith),
         record {
           may = to_may marks k m;
           ahead = λ r l. refl;
@@ -215,7 +216,7 @@ module _ {S : Type 0} {facts : S → Facts} (fits : AreOf facts) (marks : List B
           let z : NumberIsSwept marks (i + 1) q.dropped x.0 y.0 = y.3 in (
             y.0,
             y.1,
-            subst (λ l. Did (view k) (view y.0) l) (append-nil (map Drop p.dropped)) (did_then (map Drop p.dropped) [] x.2 (subst (λ (o : Option ℕ). Did (view x.0) (view y.0) (drop_acts o)) none y.2)),
+            (subst (λ l. Did (view k) (view y.0) l) (append-nil (map Drop p.dropped)) (did_then (map Drop p.dropped) [] x.2.0 (subst (λ (o : Option ℕ). Did (view x.0) (view y.0) (drop_acts o)) none y.2.0)), let some = x.2.1 in let two = y.2.1 in omega arith),
             record {
               may = z.may;
               ahead = λ r l. z.others r (λ e. absurd (omega arith)) ∙ was.ahead r (omega arith);
@@ -248,7 +249,7 @@ module _ {S : Type 0} {facts : S → Facts} (fits : AreOf facts) (marks : List B
           let at = only.1 in (
             y.0,
             y.1,
-            subst (λ l. Did (view k) (view y.0) l) (sym (map-append Drop p.dropped (g ∷ []))) (did_then (map Drop p.dropped) (Drop g ∷ []) x.2 (subst (λ (o : Option ℕ). Did (view x.0) (view y.0) (drop_acts o)) one y.2)),
+            (subst (λ l. Did (view k) (view y.0) l) (sym (map-append Drop p.dropped (g ∷ []))) (did_then (map Drop p.dropped) (Drop g ∷ []) x.2.0 (subst (λ (o : Option ℕ). Did (view x.0) (view y.0) (drop_acts o)) one y.2.0)), let some = x.2.1 in let two = y.2.1 in omega arith),
             record {
               may = z.may;
               ahead = λ r l. z.others r (λ e. absurd (omega arith)) ∙ was.ahead r (omega arith);
@@ -289,10 +290,12 @@ module _ {S : Type 0} {facts : S → Facts} (fits : AreOf facts) (marks : List B
       leads = λ k s m.
           let x = p.went.leads k s m in
           let z : DroppedTo marks i p.dropped k x.0 = x.3 in
-          let same = ap (λ (t : Standing). t.config.objects) p.went.stands_is in (
+          let same = ap (λ (t : Standing). t.config.objects) p.went.stands_is in
+          let size = ap (λ (c : Config). c.objects) (fits a k s).config in
+          let some = x.2.1 in (
             x.0,
             x.1,
-            x.2,
+            (x.2.0, omega arith),
             (
               record {
                 all = λ o d. let row = number a k s o d.0 in let high = row.1 in z.all o row.0 (omega arith) d;

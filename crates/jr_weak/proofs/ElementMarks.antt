@@ -5,21 +5,27 @@ use Rattle.std.proofs.Math.Logic.{∥∥₁_elim}
 use Rattle.std.proofs.Props.{props}
 use mathlib.Core.Logic.{dite}
 use native.Mathlib.Decide.{ℕ_discrete}
+use Rattle.jr_word.specs.declared.config.Config.{Config}
 use Rattle.jr_word.specs.declared.header.HeaderParts.{HeaderParts}
 use Rattle.jr_word.specs.declared.kind.Kind.{Kind}
 use Rattle.jr_word.specs.declared.kind.Kind.TheVariants.{Plain, Boolean, Byte, Char, Short, Int, Long, Objects, Text}
 use Rattle.jr_model.specs.Checks.{is_objects}
 use Rattle.jr_model.specs.declared.event.Role.TheVariants.{Collecting}
-use Rattle.jr_model.specs.State.{Contents, State, IsPresent, IsReached, from_element, HaveSameTables}
+use Rattle.jr_model.specs.Maps.{sum_below}
+use Rattle.jr_model.specs.State.{Contents, State, IsPresent, IsReached, from_element, HaveSameTables, length_of}
+use Rattle.jr_model.proofs.InRoom.{in_room}
+use Rattle.jr_model.proofs.Lengths.{lengths_fit, sum_same}
 use Rattle.jr_steps.specs.declared.known.Known.{Known}
 use Rattle.jr_steps.specs.declared.known.Holdings.{Holdings}
 use Rattle.jr_steps.specs.Collecting.{ShowsElement, IsThere}
 use Rattle.jr_steps.specs.Holdings.{header_in}
-use Rattle.jr_steps.specs.Knowing.{Facts, Standing, AreOf, MayKnow, Took, anything, state_of, keeps, KnowsHeader, ShowsObject, ShowsHeader}
-use Rattle.jr_steps.proofs.CollectorFacts.{same_tables, goes_sees, there_settled}
+use Rattle.jr_steps.specs.Knowing.{Facts, Standing, AreOf, MayKnow, Sees, Took, anything, state_of, keeps, KnowsHeader, ShowsObject, ShowsHeader}
+use Rattle.jr_steps.proofs.CollectorFacts.{same_tables, tables_seen, there_settled}
+use Rattle.jr_compact.proofs.Counting.{within_one, within_most}
+use Rattle.jr_compact.proofs.Listed.{sum_more, sum_once}
 use Rattle.jr_weak.specs.Marks.{IsMarked, IsQueue, IsBefore, HasElementsOf, HasElements, IsObjectWord, with_mark}
 use Rattle.jr_weak.specs.Marking.{IsMarking, MarkedTo, MarksAll}
-use Rattle.jr_weak.proofs.Leading.{marking_on, marked_turn, marked_join, marked_so, more_with, here_with, reached_few}
+use Rattle.jr_weak.proofs.Leading.{marking_on, marked_turn, marked_join, marked_most, marked_none, marked_so, more_with, here_with, reached_few, reached_present}
 
 -- the elements below n are marked, and the header of the array is known
 pub record ElementsBelow (a : ℕ) (h : HeaderParts) (n : ℕ) (marks : List Bool) (k : Known) : Type 0 where
@@ -30,6 +36,20 @@ pub record ElementsBelow (a : ℕ) (h : HeaderParts) (n : ℕ) (marks : List Boo
 -- the elements of the first n that were found are marked
 abbrev pub Followed : List ℕ → ℕ → List Bool → Known → Type 0
 Followed found n marks k = (i : ℕ) → i < n → HasElementsOf (get_or found i 0) marks (state_of k)
+
+-- a look at the header of each of the first n that were found, and at each of their elements
+abbrev pub looks_below : Known → List ℕ → ℕ → ℕ
+looks_below k found n = n + sum_below n (λ i. length_of ((state_of k).objects (get_or found i 0)))
+
+-- and of one more
+looks_more : (found found' : List ℕ) (n o : ℕ) {count count' : ℕ} (k k' : Known) → n < count → o ≡ get_or found n 0 → IsBefore count found count' found' → HaveSameTables (state_of k) (state_of k') → looks_below k found n + (length_of ((state_of k').objects o) + 1) ≤ looks_below k found' (n + 1)
+looks_more found found' n o k k' l is before same =
+    let lengths : ℕ → ℕ = λ r. length_of ((state_of k).objects r) in
+    let more : sum_below (n + 1) (λ i. lengths (get_or found' i 0)) ≡ sum_below n (λ i. lengths (get_or found' i 0)) + lengths (get_or found' n 0) = sum_more n (λ i. lengths (get_or found' i 0)) in
+    let old : sum_below n (λ i. lengths (get_or found' i 0)) ≡ sum_below n (λ i. lengths (get_or found i 0)) = sum_same n (λ i. lengths (get_or found i 0)) (λ i. lengths (get_or found' i 0)) (λ i m. ap lengths (before.same i (omega arith))) in
+    let here : lengths (get_or found' n 0) ≡ lengths o = ap lengths (before.same n l ∙ sym is) in
+    let there : length_of ((state_of k').objects o) ≡ lengths o = ap (λ (f : ℕ → Option Contents). length_of (f o)) same.objects in
+    omega arith
 
 -- a kind is that of object arrays, or isn't
 pub kind_objects : (k : Kind) → is_objects k ≡ true → k ≡ Objects
@@ -51,7 +71,7 @@ same_contents s a x y e f = let z = sym e ∙ f in cc
 
 module _ {S : Type 0} {facts : S → Facts} (fits : AreOf facts) (a : ℕ) where
   -- no object is there
-  pub elements_none : {b c : S} (marks : List Bool) → (facts b).stands.role ≡ Collecting → Took facts b c [] anything (ShowsHeader a None) → MarksAll facts marks marks b c (HasElementsOf a)
+  pub elements_none : {b c : S} (marks : List Bool) → (facts b).stands.role ≡ Collecting → Took facts b c [] anything (ShowsHeader a None) → MarksAll facts (λ j. length_of ((state_of j).objects a) + 1) marks marks b c (HasElementsOf a)
   elements_none {b} marks collects t = record {
     more = λ o m. m;
     saw = record {
@@ -60,12 +80,12 @@ module _ {S : Type 0} {facts : S → Facts} (fits : AreOf facts) (a : ℕ) where
       leads = λ k s m.
           let y = t.goes k s tt in
           let same = same_tables y.2 ((fits b k s).role ∙ collects) in
-          (y.0, y.1, goes_sees y.2, (marking_on marks k y.0 same (ap (λ (g : Holdings). g.moving) y.3.1) m, λ i o x is. absurd (let z = sym y.3.0 ∙ is in cc)));
+          (y.0, y.1, within_most (length_of ((state_of k).objects a) + 1) (omega arith) (within_one y.2), (marking_on marks k y.0 same (ap (λ (g : Holdings). g.moving) y.3.1) m, λ i o x is. absurd (let z = sym y.3.0 ∙ is in cc)));
     };
   }
 
   -- one is there, whose header is known now
-  pub elements_begin : {b c : S} (marks : List Bool) (h : HeaderParts) → (facts b).stands.role ≡ Collecting → Took facts b c [] anything (ShowsHeader a (Some h)) → MarkedTo facts marks marks b c (ElementsBelow a h 0)
+  pub elements_begin : {b c : S} (marks : List Bool) (h : HeaderParts) → (facts b).stands.role ≡ Collecting → Took facts b c [] anything (ShowsHeader a (Some h)) → MarkedTo facts (λ j. 0 + 1) marks marks b c (ElementsBelow a h 0)
   elements_begin {b} marks h collects t = record {
     more = λ o m. m;
     saw = record {
@@ -76,7 +96,7 @@ module _ {S : Type 0} {facts : S → Facts} (fits : AreOf facts) (a : ℕ) where
           let same = same_tables y.2 ((fits b k s).role ∙ collects) in (
             y.0,
             y.1,
-            goes_sees y.2,
+            within_one y.2,
             (
               marking_on marks k y.0 same (ap (λ (g : Holdings). g.moving) y.3.1) m,
               record {
@@ -90,25 +110,41 @@ module _ {S : Type 0} {facts : S → Facts} (fits : AreOf facts) (a : ℕ) where
   }
 
   -- one of another kind names nothing
-  pub elements_kind : {b c : S} (marks : List Bool) (h : HeaderParts) → (facts b).stands.role ≡ Collecting → Took facts b c [] anything (ShowsHeader a (Some h)) → h.kind ≢ Objects → MarksAll facts marks marks b c (HasElementsOf a)
-  elements_kind marks h collects t other = marked_so fits (elements_begin marks h collects t) (λ k s has i o y is kind.
+  pub elements_kind : {b c : S} (marks : List Bool) (h : HeaderParts) → (facts b).stands.role ≡ Collecting → Took facts b c [] anything (ShowsHeader a (Some h)) → h.kind ≢ Objects → MarksAll facts (λ j. length_of ((state_of j).objects a) + 1) marks marks b c (HasElementsOf a)
+  elements_kind marks h collects t other = marked_most fits (λ j. length_of ((state_of j).objects a) + 1) (λ k s. omega arith) (marked_so fits (elements_begin marks h collects t) (λ k s has i o y is kind.
       let x = has.shows in
       let q = same_contents (state_of k) a y x.contents is x.is in
       let says = (x.says).kind in
-      absurd (other (sym says ∙ (sym (ap (λ (z : Contents). z.kind) q) ∙ kind))))
+      absurd (other (sym says ∙ (sym (ap (λ (z : Contents). z.kind) q) ∙ kind)))))
 
-  module _ {b c : S} {marks marks' : List Bool} {h : HeaderParts} (n : ℕ) (array : h.kind ≡ Objects) (collects : (facts b).stands.role ≡ Collecting) (marked : IsMarked marks a) (p : MarkedTo facts marks marks' b c (ElementsBelow a h n)) where
+  module _ {b c : S} {marks marks' : List Bool} {h : HeaderParts} (n : ℕ) (array : h.kind ≡ Objects) (collects : (facts b).stands.role ≡ Collecting) (marked : IsMarked marks a) (p : MarkedTo facts (λ j. n + 1) marks marks' b c (ElementsBelow a h n)) where
     pub elements_may : n < h.length → MayKnow facts b (IsMarking marks) → MayKnow facts c (IsThere a h n)
     elements_may l may = ∥∥₁_elim may (hlevel props) (λ k. let x = p.saw.leads k.0 k.1 k.2 in let below : ElementsBelow a h n marks' x.0 = x.3.1 in let m : IsMarking marks' x.0 = x.3.0 in ∣ (x.0, x.1, there_settled a n h x.0 below.header l m.settled) ∣₁)
 
-    pub elements_all : n ≡ h.length → MarksAll facts marks marks' b c (HasElementsOf a)
-    elements_all end = marked_so fits p (λ k s has i o y is kind at some.
-        let x = has.shows in
-        let q = same_contents (state_of k) a y x.contents is x.is in
-        let says = (x.says).long in
-        let long = ap (λ (z : Contents). length z.words) q ∙ says in
-        let short = slice_get_within y.words i o at in
-        has.below i o y (omega arith) is kind at some)
+    pub elements_all : n ≡ h.length → MarksAll facts (λ j. length_of ((state_of j).objects a) + 1) marks marks' b c (HasElementsOf a)
+    elements_all end = record {
+      more = p.more;
+      saw = record {
+        stands_is = p.saw.stands_is;
+        hint_is = p.saw.hint_is;
+        leads = λ k s m.
+            let x = p.saw.leads k s m in
+            let has : ElementsBelow a h n marks' x.0 = x.3.1 in
+            let same = tables_seen (x.2).sees ((fits b k s).role ∙ collects) in
+            let long : length_of ((state_of x.0).objects a) ≡ h.length = ap length_of (has.shows).is ∙ ((has.shows).says).long in
+            let before : length_of ((state_of x.0).objects a) ≡ length_of ((state_of k).objects a) = ap (λ (f : ℕ → Option Contents). length_of (f a)) same.objects in
+            (x.0, x.1, within_most (length_of ((state_of k).objects a) + 1) (omega arith) x.2, (x.3.0, all_below x.0 has));
+      };
+    }
+      where
+        all_below : (k : Known) → ElementsBelow a h n marks' k → HasElementsOf a marks' (state_of k)
+        all_below k has i o y is kind at some =
+            let x = has.shows in
+            let q = same_contents (state_of k) a y x.contents is x.is in
+            let says = (x.says).long in
+            let long = ap (λ (z : Contents). length z.words) q ∙ says in
+            let short = slice_get_within y.words i o at in
+            has.below i o y (omega arith) is kind at some
 
     module _ {d : S} (v : ℕ) (l : n < h.length) (t : Took facts c d [] (IsThere a h n) (λ j k. ShowsElement a n v k × keeps j k)) where
       -- the word is an object that is reached, unless it is none
@@ -138,7 +174,7 @@ module _ {S : Type 0} {facts : S → Facts} (fits : AreOf facts) (a : ℕ) where
 
       -- one element more is marked
       pub elements_next : (o : Option ℕ) → IsObjectWord v o → (facts b).stands.config.objects ≤ 65535 → {after : List Bool} → after ≡ with_mark marks' o → ((r : ℕ) → o ≡ Some r → r < length marks')
-          → MarkedTo facts marks after b d (ElementsBelow a h (n + 1))
+          → MarkedTo facts (λ j. n + 1 + 1) marks after b d (ElementsBelow a h (n + 1))
       elements_next o word most is few = marked_turn fits collects p t o is few (λ k m has. there_settled a n h k has.header l m.settled) (λ k k' s same held m has e. record {
         reached = λ r q. let w = word.is r q in let low = w.1 in subst (IsReached (state_of k')) (sym w.0) (word_reached k k' s same m has e (λ z. let y = w.0 in absurd (omega arith)));
         had = record {
@@ -159,15 +195,43 @@ module _ {S : Type 0} {facts : S → Facts} (fits : AreOf facts) (a : ℕ) where
         };
       })
 
-module _ {S : Type 0} {facts : S → Facts} (fits : AreOf facts) {a b : S} {marks marks' : List Bool} {found : List ℕ} (n : ℕ) (p : MarkedTo facts marks marks' a b (Followed found n)) where
+-- nothing was followed
+pub followed_none : {S : Type 0} {facts : S → Facts} → AreOf facts → (marks : List Bool) (a : S) (found : List ℕ) → MarkedTo facts (λ j. looks_below j found 0) marks marks a a (Followed found 0)
+followed_none fits marks a found = marked_most fits (λ j. looks_below j found 0) (λ k s. omega arith) (marked_none fits marks a {has = Followed found 0} (λ k i l. absurd (omega arith)))
+
+module _ {S : Type 0} {facts : S → Facts} (fits : AreOf facts) {a b : S} {marks marks' : List Bool} {found : List ℕ} (n : ℕ) (p : MarkedTo facts (λ j. looks_below j found n) marks marks' a b (Followed found n)) where
   -- one array more was followed
-  pub followed_next : {c : S} {marks'' : List Bool} {found' : List ℕ} {count count' : ℕ} (o : ℕ) → (facts a).stands.role ≡ Collecting → n < count → o ≡ get_or found n 0 → IsBefore count found count' found' → MarksAll facts marks' marks'' b c (HasElementsOf o) → MarkedTo facts marks marks'' a c (Followed found' (n + 1))
-  followed_next {marks'' = marks''} {found' = found'} o collects l is before m = marked_join fits collects p m (λ k k' s same has had i g. dite (ℕ_discrete i n)
+  pub followed_next : {c : S} {marks'' : List Bool} {found' : List ℕ} {count count' : ℕ} (o : ℕ) → (facts a).stands.role ≡ Collecting → n < count → o ≡ get_or found n 0 → IsBefore count found count' found' → MarksAll facts (λ j. length_of ((state_of j).objects o) + 1) marks' marks'' b c (HasElementsOf o) → MarkedTo facts (λ j. looks_below j found' (n + 1)) marks marks'' a c (Followed found' (n + 1))
+  followed_next {marks'' = marks''} {found' = found'} o collects l is before m = marked_join fits (λ j. looks_below j found' (n + 1)) collects p m (λ k k' same config. looks_more found found' n o k k' l is before same) (λ k k' s same has had i g. dite (ℕ_discrete i n)
       (λ e. subst (λ r. HasElementsOf r marks'' (state_of k')) (is ∙ sym (ap (λ j. get_or found' j 0) e ∙ before.same n l)) had)
       (λ ne. subst (λ r. HasElementsOf r marks'' (state_of k')) (sym (before.same i (omega arith)))
       (λ j r z there kind at some. m.more r (has i (omega arith) j r z (ap (λ (f : ℕ → Option Contents). f (get_or found i 0)) (sym same.objects) ∙ there) kind at some))))
 
-  pub followed_all : {count : ℕ} → IsQueue marks' found count → count ≤ n → MarksAll facts marks marks' a b HasElements
-  followed_all q end = marked_so fits p (λ k s has r marked i o z there kind at some. ∥∥₁_elim (q.queued r marked) (hlevel props) (λ w.
+  -- what was found is present, each once, so that it has no more words than there are
+  few_looks : {count : ℕ} → (facts a).stands.role ≡ Collecting → IsQueue marks' found count → n ≤ count → n ≤ (facts a).stands.config.objects → (k : Known) → (facts a).knows k → (x : Known) → (facts b).knows x → Sees k x → IsMarking marks' x → looks_below k found n ≤ k.config.objects + k.config.words
+  few_looks collects q most short k s x y sees m =
+      let of = fits b x y in
+      let same = tables_seen sees ((fits a k s).role ∙ collects) in
+      let room = in_room x.config x.last x.seen of.legal in
+      let fit = lengths_fit x.config x.last x.seen of.legal in
+      let low = fit.0 in
+      let high = fit.1 in
+      let lengths : ℕ → ℕ = λ o. length_of ((state_of x).objects o) in
+      let there : (i : ℕ) → i < n → get_or found i 0 < x.config.objects + 1 = λ i l. let row = (room.objects (get_or found i 0) (reached_present (state_of x) (get_or found i 0) (m.sound (get_or found i 0) (q.listed i (omega arith))))).1 in omega arith in
+      let sum : sum_below n (λ i. lengths (get_or found i 0)) ≤ sum_below (x.config.objects + 1) lengths = sum_once n (x.config.objects + 1) (λ i. get_or found i 0) lengths there (λ i j l l' e. q.once i j (omega arith) (omega arith) e) in
+      let before : sum_below n (λ i. lengths (get_or found i 0)) ≡ sum_below n (λ i. length_of ((state_of k).objects (get_or found i 0))) = ap (λ (f : ℕ → Option Contents). sum_below n (λ i. length_of (f (get_or found i 0)))) same.objects in
+      let objects = ap (λ (c : Config). c.objects) (fits a k s).config in
+      let words = ap (λ (c : Config). c.words) sees.config in
+      omega arith
+
+  pub followed_all : {count : ℕ} → (facts a).stands.role ≡ Collecting → IsQueue marks' found count → count ≤ n → n ≤ count → n ≤ (facts a).stands.config.objects → MarksAll facts (λ j. j.config.objects + j.config.words) marks marks' a b HasElements
+  followed_all collects q end most short = let within : MarkedTo facts (λ j. j.config.objects + j.config.words) marks marks' a b (Followed found n) = record {
+    more = p.more;
+    saw = record {
+      stands_is = p.saw.stands_is;
+      hint_is = p.saw.hint_is;
+      leads = λ k s m. let x = p.saw.leads k s m in (x.0, x.1, within_most (k.config.objects + k.config.words) (few_looks collects q most short k s x.0 x.1 (x.2).sees x.3.0) x.2, x.3);
+    };
+  } in marked_so fits within (λ k s has r marked i o z there kind at some. ∥∥₁_elim (q.queued r marked) (hlevel props) (λ w.
       let l = w.1 in
       has w.0 (omega arith) i o z (ap (state_of k).objects w.2 ∙ there) kind at some))

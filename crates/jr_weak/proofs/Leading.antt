@@ -1,6 +1,5 @@
 -- Steps without an act, one after the other, while one collects.
-use Rattle.std.proofs.Common.{◌≡◌, ◌<◌, ◌≤◌, ℕ, Bool, true, Option, Some, None, List, [], ◌++◌, length, slice_set, refl, sym, ap, subst, ◌∙◌, append_assoc}
-use Rattle.std.proofs.lemmas.List.{append-nil}
+use Rattle.std.proofs.Common.{◌≡◌, ◌<◌, ◌≤◌, ◌+◌, ℕ, Bool, true, Option, Some, None, List, [], length, slice_set, refl, sym, ap, subst, ◌∙◌}
 use Rattle.std.proofs.Math.Logic.{∥∥₁_elim}
 use Rattle.std.proofs.Props.{props}
 use mathlib.Core.Logic.{dite, ∥∥₁_map}
@@ -8,31 +7,16 @@ use native.Mathlib.Decide.{ℕ_discrete}
 use Rattle.jr_word.specs.declared.config.Config.{Config}
 use Rattle.jr_model.specs.declared.event.Role.TheVariants.{Collecting}
 use Rattle.jr_model.specs.State.{Contents, State, IsPresent, IsReached, IsClosed, HaveSameTables, from_global, from_local, from_element}
-use Rattle.jr_model.specs.History.{IsLegal, mine}
 use Rattle.jr_model.proofs.Collections.{reached_mono}
-use Rattle.jr_model.proofs.Histories.{mine_append}
 use Rattle.jr_model.proofs.InRoom.{in_room}
 use Rattle.jr_steps.specs.declared.known.Known.{Known}
 use Rattle.jr_steps.specs.declared.known.Holdings.{Holdings}
-use Rattle.jr_steps.specs.Knowing.{Facts, Standing, AreOf, MayKnow, Sees, Saw, Took, state_of, keeps}
-use Rattle.jr_steps.proofs.CollectorFacts.{tables_seen, sees_more, same_tables}
+use Rattle.jr_steps.specs.Knowing.{Facts, Standing, AreOf, MayKnow, Took, state_of, keeps}
+use Rattle.jr_steps.proofs.CollectorFacts.{tables_seen, same_tables}
+use Rattle.jr_compact.proofs.Counting.{within_none, within_more, within_then, within_most}
 use Rattle.jr_weak.specs.Marks.{IsMarked, IsSound, with_mark}
 use Rattle.jr_weak.specs.Marking.{IsMarking, MarkedTo}
 use Rattle.jr_weak.proofs.Queues.{marked_here, marked_more, marked_less}
-
-pub sees_self : (k : Known) → IsLegal k.config k.last k.seen → Sees k k
-sees_self k l = record { config = refl; last = refl; thread = refl; between = []; seen = sym (append-nil k.seen); others = refl; legal = l }
-
-pub sees_then : {k k' k'' : Known} → Sees k k' → Sees k' k'' → Sees k k''
-sees_then {k} {k'} {k''} a b = record {
-  config = b.config ∙ a.config;
-  last = b.last ∙ a.last;
-  thread = b.thread ∙ a.thread;
-  between = a.between ++ b.between;
-  seen = b.seen ∙ (ap (λ es. es ++ b.between) a.seen ∙ append_assoc k.seen a.between b.between);
-  others = mine_append a.between b.between k.thread ∙ (ap (λ l. l ++ mine b.between k.thread) a.others ∙ subst (λ t. mine b.between t ≡ []) a.thread b.others);
-  legal = subst (λ (z : Config × ℕ). IsLegal z.0 z.1 k''.seen) (λ i. (a.config i, a.last i)) b.legal;
-}
 
 pub same_tables_self : (s : State) → HaveSameTables s s
 same_tables_self s = record { refs = refl; given = refl; locals = refl; objects = refl; used = refl }
@@ -73,10 +57,7 @@ here_with marks (Some q) few r e = let same : q ≡ r = cc in subst (IsMarked (s
 
 module _ {S : Type 0} {facts : S → Facts} where
   -- what may be known after such steps
-  pub may_saw : {a b : S} {P Q : Known → Type 0} → MayKnow facts a P → Saw facts a b P (λ j k. Q k) → MayKnow facts b Q
-  may_saw may p = ∥∥₁_map may (λ k. let x = p.leads k.0 k.1 k.2 in (x.0, x.1, x.3))
-
-  pub may_marked : {a b : S} {marks marks' : List Bool} {has : List Bool → Known → Type 0} → MayKnow facts a (IsMarking marks) → MarkedTo facts marks marks' a b has → MayKnow facts b (IsMarking marks')
+  pub may_marked : {a b : S} {most : Known → ℕ} {marks marks' : List Bool} {has : List Bool → Known → Type 0} → MayKnow facts a (IsMarking marks) → MarkedTo facts most marks marks' a b has → MayKnow facts b (IsMarking marks')
   may_marked may p = ∥∥₁_map may (λ k. let x = p.saw.leads k.0 k.1 k.2 in (x.0, x.1, x.3.0))
 
 -- what an object is of which a step tells, and what is had once it is marked
@@ -93,19 +74,19 @@ reached_few facts fits c k s o r =
 
 module _ {S : Type 0} {facts : S → Facts} (fits : AreOf facts) where
   -- nothing was done
-  pub marked_none : (marks : List Bool) (a : S) {has : List Bool → Known → Type 0} → ((k : Known) → has marks k) → MarkedTo facts marks marks a a has
+  pub marked_none : (marks : List Bool) (a : S) {has : List Bool → Known → Type 0} → ((k : Known) → has marks k) → MarkedTo facts (λ j. 0) marks marks a a has
   marked_none marks a has' = record {
     more = λ o m. m;
-    saw = record { stands_is = refl; hint_is = refl; leads = λ k s m. (k, s, sees_self k (fits a k s).legal, (m, has' k)) };
+    saw = record { stands_is = refl; hint_is = refl; leads = λ k s m. (k, s, within_none k (fits a k s).legal, (m, has' k)) };
   }
 
   -- ONE STEP MORE, and the object of which it tells is marked
-  pub marked_turn : {a b c : S} {marks marks' after : List Bool} {has had : List Bool → Known → Type 0} {met : Known → Type 0} {shows : Known → Type 0} → (facts a).stands.role ≡ Collecting → MarkedTo facts marks marks' a b has
+  pub marked_turn : {a b c : S} {most : Known → ℕ} {marks marks' after : List Bool} {has had : List Bool → Known → Type 0} {met : Known → Type 0} {shows : Known → Type 0} → (facts a).stands.role ≡ Collecting → MarkedTo facts most marks marks' a b has
       → Took facts b c [] met (λ j k. shows k × keeps j k) → (o : Option ℕ) → after ≡ with_mark marks' o → ((r : ℕ) → o ≡ Some r → r < length marks')
       → ((k : Known) → IsMarking marks' k → has marks' k → met k)
       → ((k k' : Known) → (facts c).knows k' → HaveSameTables (state_of k) (state_of k') → keeps k k' → IsMarking marks' k' → has marks' k → shows k' → Adds marks' o had k')
-      → MarkedTo facts marks after a c had
-  marked_turn {a} {b} {c} {marks} {marks'} {after} {has} {had} {met} {shows} collects p t o is few meets adds = subst (λ ms. MarkedTo facts marks ms a c had) (sym is) (record {
+      → MarkedTo facts (λ j. most j + 1) marks after a c had
+  marked_turn {a} {b} {c} {most} {marks} {marks'} {after} {has} {had} {met} {shows} collects p t o is few meets adds = subst (λ ms. MarkedTo facts (λ j. most j + 1) marks ms a c had) (sym is) (record {
     more = λ q m. more_with marks' o few q (p.more q m);
     saw = record {
       stands_is = t.stands_is ∙ p.saw.stands_is;
@@ -116,7 +97,7 @@ module _ {S : Type 0} {facts : S → Facts} (fits : AreOf facts) where
           let same = same_tables y.2 ((fits b x.0 x.1).role ∙ (ap (λ (z : Standing). z.role) p.saw.stands_is ∙ collects)) in
           let marking = marking_on marks' x.0 y.0 same (ap (λ (g : Holdings). g.moving) y.3.1) x.3.0 in
           let added = adds x.0 y.0 y.1 same y.3.1 marking x.3.1 y.3.0 in
-          (y.0, y.1, sees_more x.2 y.2, (record { sound = sound_with marks' o (state_of y.0) marking.sound added.reached; closed = marking.closed; settled = marking.settled }, added.had));
+          (y.0, y.1, within_more x.2 y.2, (record { sound = sound_with marks' o (state_of y.0) marking.sound added.reached; closed = marking.closed; settled = marking.settled }, added.had));
     };
   })
 
@@ -129,10 +110,11 @@ module _ {S : Type 0} {facts : S → Facts} (fits : AreOf facts) where
       here : ((k : Known) × (facts b).knows k × met k) → (1 ≤ o) × (o ≤ (facts c).stands.config.objects)
       here k = let y = t.goes k.0 k.1 k.2 in reached_few facts fits c y.0 y.1 o (reached k.0 y.0 k.1 y.1 k.2 (same_tables y.2 ((fits b k.0 k.1).role ∙ collects)) y.3.0)
 
-  -- more was marked after more
-  pub marked_join : {a b c : S} {marks marks' marks'' : List Bool} {has had all : List Bool → Known → Type 0} → (facts a).stands.role ≡ Collecting → MarkedTo facts marks marks' a b has → (q : MarkedTo facts marks' marks'' b c had)
-      → ((k k' : Known) → (facts c).knows k' → HaveSameTables (state_of k) (state_of k') → has marks' k → had marks'' k' → all marks'' k') → MarkedTo facts marks marks'' a c all
-  marked_join {b = b} collects p q both = record {
+  -- more was marked after more, by no more steps than both
+  pub marked_join : {a b c : S} {m n : Known → ℕ} (all_steps : Known → ℕ) {marks marks' marks'' : List Bool} {has had all : List Bool → Known → Type 0} → (facts a).stands.role ≡ Collecting → MarkedTo facts m marks marks' a b has → (q : MarkedTo facts n marks' marks'' b c had)
+      → ((k k' : Known) → HaveSameTables (state_of k) (state_of k') → k'.config ≡ k.config → m k + n k' ≤ all_steps k)
+      → ((k k' : Known) → (facts c).knows k' → HaveSameTables (state_of k) (state_of k') → has marks' k → had marks'' k' → all marks'' k') → MarkedTo facts all_steps marks marks'' a c all
+  marked_join {a = a} {b = b} all_steps collects p q few both = record {
     more = λ o m. q.more o (p.more o m);
     saw = record {
       stands_is = q.saw.stands_is ∙ p.saw.stands_is;
@@ -140,18 +122,30 @@ module _ {S : Type 0} {facts : S → Facts} (fits : AreOf facts) where
       leads = λ k s m.
           let x = p.saw.leads k s m in
           let y = q.saw.leads x.0 x.1 x.3.0 in
-          let same = tables_seen y.2 ((fits b x.0 x.1).role ∙ (ap (λ (z : Standing). z.role) p.saw.stands_is ∙ collects)) in
-          (y.0, y.1, sees_then x.2 y.2, (y.3.0, both x.0 y.0 y.1 same x.3.1 y.3.1));
+          let same = tables_seen (y.2).sees ((fits b x.0 x.1).role ∙ (ap (λ (z : Standing). z.role) p.saw.stands_is ∙ collects)) in
+          let before = tables_seen (x.2).sees ((fits a k s).role ∙ collects) in
+          (y.0, y.1, within_most (all_steps k) (few k x.0 before ((x.2).sees).config) (within_then x.2 y.2), (y.3.0, both x.0 y.0 y.1 same x.3.1 y.3.1));
     };
   }
 
   -- and it shows this too
-  pub marked_so : {a b : S} {marks marks' : List Bool} {has had : List Bool → Known → Type 0} → MarkedTo facts marks marks' a b has → ((k : Known) → (facts b).knows k → has marks' k → had marks' k) → MarkedTo facts marks marks' a b had
+  pub marked_so : {a b : S} {most : Known → ℕ} {marks marks' : List Bool} {has had : List Bool → Known → Type 0} → MarkedTo facts most marks marks' a b has → ((k : Known) → (facts b).knows k → has marks' k → had marks' k) → MarkedTo facts most marks marks' a b had
   marked_so p more = record {
     more = p.more;
     saw = record {
       stands_is = p.saw.stands_is;
       hint_is = p.saw.hint_is;
       leads = λ k s m. let x = p.saw.leads k s m in (x.0, x.1, x.2, (x.3.0, more x.0 x.1 x.3.1));
+    };
+  }
+
+  -- by no more steps than this, either
+  pub marked_most : {a b : S} {most : Known → ℕ} {marks marks' : List Bool} {has : List Bool → Known → Type 0} (n : Known → ℕ) → ((k : Known) → (facts a).knows k → most k ≤ n k) → MarkedTo facts most marks marks' a b has → MarkedTo facts n marks marks' a b has
+  marked_most n few p = record {
+    more = p.more;
+    saw = record {
+      stands_is = p.saw.stands_is;
+      hint_is = p.saw.hint_is;
+      leads = λ k s m. let x = p.saw.leads k s m in (x.0, x.1, within_most (n k) (few k s) x.2, x.3);
     };
   }

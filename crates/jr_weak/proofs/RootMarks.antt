@@ -1,5 +1,5 @@
 -- The objects of global and local references are marked.
-use Rattle.std.proofs.Common.{◌≡◌, ◌≢◌, ◌+◌, ◌<◌, ◌≤◌, ℕ, Bool, true, false, Option, Some, None, List, [], length, refl, sym, ap, subst, ◌∙◌, arith}
+use Rattle.std.proofs.Common.{◌≡◌, ◌≢◌, ◌+◌, ◌*◌, ◌<◌, ◌≤◌, ℕ, Bool, true, false, Option, Some, None, List, [], length, refl, sym, ap, subst, ◌∙◌, arith}
 use mathlib.Core.Logic.{dite}
 use native.Mathlib.Decide.{ℕ_discrete}
 use Rattle.jr_word.specs.declared.config.Config.{Config}
@@ -22,7 +22,8 @@ use Rattle.jr_steps.specs.Knowing.{Facts, Standing, AreOf, MayKnow, Took, anythi
 use Rattle.jr_steps.specs.Says.{StandsAlone, local_parts}
 use Rattle.jr_weak.specs.Marks.{IsMarked, HasGlobals, HasLocalsOf, HasLocals, with_mark, global_in, local_in}
 use Rattle.jr_weak.specs.Marking.{MarkedTo, MarksAll}
-use Rattle.jr_weak.proofs.Leading.{marked_turn, marked_join, marked_so, more_with, here_with, told_few}
+use Rattle.jr_compact.proofs.Counting.{within_most}
+use Rattle.jr_weak.proofs.Leading.{marked_turn, marked_join, marked_most, marked_none, marked_so, more_with, here_with, told_few}
 
 -- the handle of an index where one stands alone is that one
 pub alone_is : {refs : Handle → Found} {next : ℕ} {g : Handle} {r : Found} → StandsAlone refs next g r → (h : Handle) → h.index ≡ g.index → refs h ≢ Stale → h ≡ g
@@ -80,6 +81,16 @@ PlacesBelow t n marks k = (p o : ℕ) → p < n → (state_of k).locals t p ≡ 
 abbrev pub ThreadsBelow : ℕ → List Bool → Known → Type 0
 ThreadsBelow n marks k = (t : ℕ) → t < n → HasLocalsOf t marks (state_of k)
 
+-- the places of one thread more
+one_thread : (n : ℕ) (k k' : Known) → k'.config ≡ k.config → n * k.config.locals + k'.config.locals ≤ (n + 1) * k.config.locals
+one_thread n k k' config =
+    let same = ap (λ (c : Config). c.locals) config in
+    let more : (n + 1) * k.config.locals ≡ n * k.config.locals + k.config.locals = grind arith in
+    omega arith
+
+all_threads : (n : ℕ) (k : Known) → n ≡ k.config.threads → n * k.config.locals ≤ k.config.threads * k.config.locals
+all_threads n k end = subst (λ m. n * k.config.locals ≤ m * k.config.locals) end (omega arith)
+
 module _ {S : Type 0} (facts : S → Facts) (fits : AreOf facts) where
   named_in : (c : S) (k : Known) → (facts c).knows k → (h : Handle) (o : ℕ) → (state_of k).refs h ≡ Object o → IsPresent (state_of k) o
   named_in c k s = (named_is_present k.config k.last k.seen (fits c k s).legal).0
@@ -92,9 +103,9 @@ module _ {S : Type 0} {facts : S → Facts} (fits : AreOf facts) where
       → (o : ℕ) → global_in q ≡ Some o → (1 ≤ o) × (o ≤ (facts c).stands.config.objects)
   globals_few {b} {c} i q may collects t o e = told_few fits o may t (λ k k' s s' m same x. global_reached k.config k.last i q k' (named_in facts fits c k' s') x o e) collects
 
-  pub globals_next : {a b c : S} {marks marks' after : List Bool} (i : ℕ) (q : SlotParts) → (facts a).stands.role ≡ Collecting → MarkedTo facts marks marks' a b (GlobalsBelow i)
+  pub globals_next : {a b c : S} {marks marks' after : List Bool} (i : ℕ) (q : SlotParts) → (facts a).stands.role ≡ Collecting → MarkedTo facts (λ j. i) marks marks' a b (GlobalsBelow i)
       → Took facts b c [] anything (λ j k. ShowsSlot i q k × keeps j k) → after ≡ with_mark marks' (global_in q) → ((r : ℕ) → global_in q ≡ Some r → r < length marks')
-      → MarkedTo facts marks after a c (GlobalsBelow (i + 1))
+      → MarkedTo facts (λ j. i + 1) marks after a c (GlobalsBelow (i + 1))
   globals_next {c = c} {marks' = marks'} i q collects p t is few = marked_turn fits collects p t (global_in q) is few (λ k m h. tt) (λ k k' s same held m has x. record {
     reached = λ r e. global_reached k.config k.last i q k' (named_in facts fits c k' s) x r e;
     had = λ h o kind l at. dite (ℕ_discrete h.index i)
@@ -102,7 +113,7 @@ module _ {S : Type 0} {facts : S → Facts} (fits : AreOf facts) where
         (λ ne. more_with marks' (global_in q) few o (has h o kind (omega arith) (ap (λ (f : Handle → Found). f h) (sym same.refs) ∙ at)));
   })
 
-  pub globals_all : {a b : S} {marks marks' : List Bool} (i : ℕ) → i ≡ (facts a).stands.config.slots → MarkedTo facts marks marks' a b (GlobalsBelow i) → MarksAll facts marks marks' a b HasGlobals
+  pub globals_all : {a b : S} {marks marks' : List Bool} (i : ℕ) → i ≡ (facts a).stands.config.slots → MarkedTo facts (λ j. i) marks marks' a b (GlobalsBelow i) → MarksAll facts (λ j. j.config.slots) marks marks' a b HasGlobals
   globals_all {a} {b} i end p = record {
     more = p.more;
     saw = record {
@@ -110,10 +121,11 @@ module _ {S : Type 0} {facts : S → Facts} (fits : AreOf facts) where
       hint_is = p.saw.hint_is;
       leads = λ k s m.
           let x = p.saw.leads k s m in
-          let of = fits b x.0 x.1 in (
+          let of = fits b x.0 x.1 in
+          let size = ap (λ (c : Config). c.slots) (fits a k s).config in (
             x.0,
             x.1,
-            x.2,
+            within_most k.config.slots (omega arith) x.2,
             (
               x.3.0,
               λ h o kind is.
@@ -130,9 +142,9 @@ module _ {S : Type 0} {facts : S → Facts} (fits : AreOf facts) where
       → (o : ℕ) → local_in q ≡ Some o → (1 ≤ o) × (o ≤ (facts c).stands.config.objects)
   places_few {b} {c} t p q may collects took o e = told_few fits o may took (λ k k' s s' m same x. local_reached t p q k' (local_in_room facts fits c k' s') x o e) collects
 
-  pub places_next : {a b c : S} {marks marks' after : List Bool} (t p : ℕ) (q : LocalParts) → (facts a).stands.role ≡ Collecting → MarkedTo facts marks marks' a b (PlacesBelow t p)
+  pub places_next : {a b c : S} {marks marks' after : List Bool} (t p : ℕ) (q : LocalParts) → (facts a).stands.role ≡ Collecting → MarkedTo facts (λ j. p) marks marks' a b (PlacesBelow t p)
       → Took facts b c [] anything (λ j k. ShowsLocal t p q k × keeps j k) → after ≡ with_mark marks' (local_in q) → ((r : ℕ) → local_in q ≡ Some r → r < length marks')
-      → MarkedTo facts marks after a c (PlacesBelow t (p + 1))
+      → MarkedTo facts (λ j. p + 1) marks after a c (PlacesBelow t (p + 1))
   places_next {c = c} {marks' = marks'} t p q collects m took is few = marked_turn fits collects m took (local_in q) is few (λ k m h. tt) (λ k k' s same held m has x. record {
     reached = λ r e. local_reached t p q k' (local_in_room facts fits c k' s) x r e;
     had = λ r o l at. dite (ℕ_discrete r p)
@@ -140,7 +152,7 @@ module _ {S : Type 0} {facts : S → Facts} (fits : AreOf facts) where
         (λ ne. more_with marks' (local_in q) few o (has r o (omega arith) (ap (λ (f : ℕ → ℕ → Option ℕ). f t r) (sym same.locals) ∙ at)));
   })
 
-  pub places_all : {a b : S} {marks marks' : List Bool} (t p : ℕ) → p ≡ (facts a).stands.config.locals → MarkedTo facts marks marks' a b (PlacesBelow t p) → MarksAll facts marks marks' a b (HasLocalsOf t)
+  pub places_all : {a b : S} {marks marks' : List Bool} (t p : ℕ) → p ≡ (facts a).stands.config.locals → MarkedTo facts (λ j. p) marks marks' a b (PlacesBelow t p) → MarksAll facts (λ j. j.config.locals) marks marks' a b (HasLocalsOf t)
   places_all {a} {b} t n end p = record {
     more = p.more;
     saw = record {
@@ -148,10 +160,11 @@ module _ {S : Type 0} {facts : S → Facts} (fits : AreOf facts) where
       hint_is = p.saw.hint_is;
       leads = λ k s m.
           let x = p.saw.leads k s m in
-          let of = fits b x.0 x.1 in (
+          let of = fits b x.0 x.1 in
+          let size = ap (λ (c : Config). c.locals) (fits a k s).config in (
             x.0,
             x.1,
-            x.2,
+            within_most k.config.locals (omega arith) x.2,
             (
               x.3.0,
               λ r o is.
@@ -163,14 +176,17 @@ module _ {S : Type 0} {facts : S → Facts} (fits : AreOf facts) where
     };
   }
 
-  pub threads_next : {a b c : S} {marks marks' marks'' : List Bool} (n : ℕ) → (facts a).stands.role ≡ Collecting → MarkedTo facts marks marks' a b (ThreadsBelow n) → MarksAll facts marks' marks'' b c (HasLocalsOf n) → MarkedTo facts marks marks'' a c (ThreadsBelow (n + 1))
-  threads_next {marks'' = marks''} n collects p q = marked_join fits collects p q (λ k k' s same has had t l. dite (ℕ_discrete t n)
+  pub threads_none : (marks : List Bool) (a : S) → MarkedTo facts (λ j. 0 * j.config.locals) marks marks a a (ThreadsBelow 0)
+  threads_none marks a = marked_most fits (λ j. 0 * j.config.locals) (λ k s. omega arith) (marked_none fits marks a {has = ThreadsBelow 0} (λ k t l. absurd (omega arith)))
+
+  pub threads_next : {a b c : S} {marks marks' marks'' : List Bool} (n : ℕ) → (facts a).stands.role ≡ Collecting → MarkedTo facts (λ j. n * j.config.locals) marks marks' a b (ThreadsBelow n) → MarksAll facts (λ j. j.config.locals) marks' marks'' b c (HasLocalsOf n) → MarkedTo facts (λ j. (n + 1) * j.config.locals) marks marks'' a c (ThreadsBelow (n + 1))
+  threads_next {marks'' = marks''} n collects p q = marked_join fits (λ j. (n + 1) * j.config.locals) collects p q (λ k k' same config. one_thread n k k' config) (λ k k' s same has had t l. dite (ℕ_discrete t n)
       (λ e. subst (λ r. HasLocalsOf r marks'' (state_of k')) (sym e) had)
       (λ ne r o is. q.more o (has t (omega arith) r o (ap (λ (f : ℕ → ℕ → Option ℕ). f t r) (sym same.locals) ∙ is))))
 
-  pub threads_all : {a b : S} {marks marks' : List Bool} (n : ℕ) → n ≡ (facts a).stands.config.threads → MarkedTo facts marks marks' a b (ThreadsBelow n) → MarksAll facts marks marks' a b HasLocals
-  threads_all {a} {b} n end p = marked_so fits p (λ k s has t r o is.
+  pub threads_all : {a b : S} {marks marks' : List Bool} (n : ℕ) → n ≡ (facts a).stands.config.threads → MarkedTo facts (λ j. n * j.config.locals) marks marks' a b (ThreadsBelow n) → MarksAll facts (λ j. j.config.threads * j.config.locals) marks marks' a b HasLocals
+  threads_all {a} {b} n end p = marked_most fits (λ j. j.config.threads * j.config.locals) (λ k s. all_threads n k (end ∙ sym (ap (λ (c : Config). c.threads) (fits a k s).config))) (marked_so fits p (λ k s has t r o is.
       let of = fits b k s in
       let row = ((in_room k.config k.last k.seen of.legal).locals t r o is).0 in
       let same = ap (λ (c : Config). c.threads) of.config ∙ ap (λ (z : Standing). z.config.threads) p.saw.stands_is in
-      has t (omega arith) r o is)
+      has t (omega arith) r o is))

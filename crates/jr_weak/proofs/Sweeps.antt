@@ -26,6 +26,7 @@ use Rattle.jr_steps.specs.Collecting.{CanWipe}
 use Rattle.jr_steps.specs.Knowing.{Facts, Standing, AreOf, MayKnow, Went, Took, anything, view, state_of, keeps, ShowsSlot}
 use Rattle.jr_steps.proofs.CollectorFacts.{same_tables}
 use Rattle.jr_steps.proofs.StepFacts.{goes_did}
+use Rattle.jr_compact.specs.Counting.{TakesWithin}
 use Rattle.jr_weak.specs.Marks.{IsMarked, weak_in}
 use Rattle.jr_weak.specs.Marking.{IsMarkedNow}
 use Rattle.jr_weak.specs.Sweeping.{clear_acts, SlotIsSwept, SweepsSlot, ClearsUnreached}
@@ -91,7 +92,7 @@ module _ {S : Type 0} {facts : S → Facts} (fits : AreOf facts) (marks : List B
           let names : (h : Handle) (o : ℕ) → h.kind ≡ Weak → h.index ≡ i → (state_of y.0).refs h ≡ Object o → IsMarked marks o = λ h o kind at is. let w = weak_of i q y.0 y.3.0 h o kind at is in left w.0 o w.1 in (
             y.0,
             y.1,
-            goes_did y.2,
+            (goes_did y.2, let one = (y.2).taken in omega arith),
             record {
               marked = marked_on marks k y.0 same y.3.1 m;
               objects = same.objects;
@@ -126,7 +127,7 @@ module _ {S : Type 0} {facts : S → Facts} (fits : AreOf facts) (marks : List B
             let z = u.goes y.0 y.1 can in
             let from = cleared_from (handle_of Weak n i) z.2 ((fits b y.0 y.1).role ∙ (ap (λ (z : Standing). z.role) t.stands_is ∙ collects)) in
             let mid = marked_on marks k y.0 same y.3.1 m in
-            (z.0, z.1, did_then [] (Clear (handle_of Weak n i) ∷ []) (goes_did y.2) (goes_did z.2), swept k y.0 z.0 m same y.3.0 mid z.3 from can.1);
+            (z.0, z.1, (did_then [] (Clear (handle_of Weak n i) ∷ []) (goes_did y.2) (goes_did z.2), let one = (y.2).taken in let two = (z.2).taken in omega arith), swept k y.0 z.0 m same y.3.0 mid z.3 from can.1);
       };
     }
       where
@@ -157,7 +158,7 @@ pub record ClearedTo (marks : List Bool) (i : ℕ) (cleared : List Handle) (j k 
 pub record ClearsTo {S : Type 0} (facts : S → Facts) (marks : List Bool) (i : ℕ) (old new : S) (count : ℕ) : Type 0 where
   pub cleared : List Handle
   pub counted : length cleared ≡ count
-  pub went : Went facts old new (facts old).stands (IsMarkedNow marks) (λ j k. Did (view j) (view k) (map Clear cleared)) (ClearedTo marks i cleared)
+  pub went : Went facts old new (facts old).stands (IsMarkedNow marks) (λ j k. Did (view j) (view k) (map Clear cleared) × TakesWithin (i + i) j k) (ClearedTo marks i cleared)
 
 pub all_more : {X : Type 0} (P : X → Type 0) (xs : List X) (x : X) → AllByRecursion P xs → P x → AllByRecursion P (xs ++ x ∷ [])
 all_more P [] x a p = (p, tt)
@@ -197,7 +198,7 @@ module _ {S : Type 0} {facts : S → Facts} (fits : AreOf facts) (marks : List B
       leads = λ k s m. (
         k,
         s,
-        did_nothing (view k) (fits a k s).legal,
+        (did_nothing (view k) (fits a k s).legal, omega arith),
         record {
           marked = m;
           objects = refl;
@@ -230,7 +231,7 @@ module _ {S : Type 0} {facts : S → Facts} (fits : AreOf facts) (marks : List B
           let z : SlotIsSwept marks i q.cleared x.0 y.0 = y.3 in (
             y.0,
             y.1,
-            subst (λ l. Did (view k) (view y.0) l) (append-nil (map Clear p.cleared)) (did_then (map Clear p.cleared) [] x.2 (subst (λ (o : Option Handle). Did (view x.0) (view y.0) (clear_acts o)) none y.2)),
+            (subst (λ l. Did (view k) (view y.0) l) (append-nil (map Clear p.cleared)) (did_then (map Clear p.cleared) [] x.2.0 (subst (λ (o : Option Handle). Did (view x.0) (view y.0) (clear_acts o)) none y.2.0)), let some = x.2.1 in let two = y.2.1 in omega arith),
             record {
               marked = z.marked;
               objects = z.objects ∙ was.objects;
@@ -264,7 +265,7 @@ module _ {S : Type 0} {facts : S → Facts} (fits : AreOf facts) (marks : List B
           let at = only.1 in (
             y.0,
             y.1,
-            subst (λ l. Did (view k) (view y.0) l) (sym (map-append Clear p.cleared (g ∷ []))) (did_then (map Clear p.cleared) (Clear g ∷ []) x.2 (subst (λ (o : Option Handle). Did (view x.0) (view y.0) (clear_acts o)) one y.2)),
+            (subst (λ l. Did (view k) (view y.0) l) (sym (map-append Clear p.cleared (g ∷ []))) (did_then (map Clear p.cleared) (Clear g ∷ []) x.2.0 (subst (λ (o : Option Handle). Did (view x.0) (view y.0) (clear_acts o)) one y.2.0)), let some = x.2.1 in let two = y.2.1 in omega arith),
             record {
               marked = z.marked;
               objects = z.objects ∙ was.objects;
@@ -307,10 +308,12 @@ module _ {S : Type 0} {facts : S → Facts} (fits : AreOf facts) (marks : List B
       hint_is = p.went.hint_is;
       leads = λ k s m.
           let x = p.went.leads k s m in
-          let z : ClearedTo marks i p.cleared k x.0 = x.3 in (
+          let z : ClearedTo marks i p.cleared k x.0 = x.3 in
+          let size = ap (λ (c : Config). c.slots) (fits a k s).config in
+          let some = x.2.1 in (
             x.0,
             x.1,
-            x.2,
+            (x.2.0, omega arith),
             (
               record {
                 all = λ h c. let l = in_row a k s h (λ e. let w = sym e ∙ c.2 in cc) in z.all h (omega arith) c;

@@ -1,9 +1,13 @@
 -- All arrays are moved together, once only marked objects are present.
-use Rattle.std.proofs.Common.{◌≡◌, ℕ, Bool, List, take}
+use Rattle.std.proofs.Common.{◌≡◌, ◌≤◌, ◌+◌, ℕ, Bool, List, [], ◌∷◌, length, take, arith}
+use Rattle.std.proofs.lemmas.List.{length-take}
 use mathlib.Core.Logic.{∥∥₁_map}
+use Rattle.jr_model.specs.declared.event.Act.TheVariants.{Settle}
 use Rattle.jr_steps.specs.declared.known.Known.{Known}
-use Rattle.jr_steps.specs.Knowing.{Facts, Standing, MayKnow, Went}
-use Rattle.jr_compact.specs.Compacting.{CanCompact}
+use Rattle.jr_steps.specs.Knowing.{Facts, MayKnow}
+use Rattle.jr_gate.specs.Acting.{ActedTo}
+use Rattle.jr_compact.specs.Compacting.{CanCompact, AreCompacted}
+use Rattle.jr_compact.specs.Counting.{TakesWithin}
 use Rattle.jr_weak.specs.Marks.{IsQueue}
 use Rattle.jr_weak.specs.Sweeping.{AreDropped}
 use Rattle.jr_weak.proofs.Queues.{listed_each, listed_once}
@@ -22,5 +26,15 @@ module _ (ms : List Bool) (found : List ℕ) (count : ℕ) (q : IsQueue ms found
     pub may_compact : MayKnow facts a (AreDropped ms) → MayKnow facts a (CanCompact (take count now))
     may_compact may = ∥∥₁_map may (λ k. (k.0, k.1, can_compact k.0 k.2))
 
-    pub went_compact : (b : S) {stood : Standing} {made shows : Known → Known → Type 0} → Went facts a b stood (CanCompact (take count now)) made shows → Went facts a b stood (AreDropped ms) made shows
-    went_compact b p = record { stands_is = p.stands_is; hint_is = p.hint_is; leads = λ k s d. p.leads k s (can_compact k d) }
+    -- and they are moved together, of no more objects than the list has room for
+    pub acted_compact : (b : S) (used room : ℕ) → length now ≤ room → ActedTo facts a b (Settle used ∷ []) (CanCompact (take count now)) (λ j k. AreCompacted used j k × TakesWithin (length (take count now) + (used + used + used) + 1) j k)
+        → ActedTo facts a b (Settle used ∷ []) (AreDropped ms) (λ j k. AreCompacted used j k × TakesWithin (room + (used + used + used) + 1) j k)
+    acted_compact b used room short p = record {
+      stands_is = p.stands_is;
+      hint_is = p.hint_is;
+      leads = λ k s d.
+          let x = p.leads k s (can_compact k d) in
+          let part = length-take count now in
+          let few = x.3.0.1 in
+          (x.0, x.1, x.2, ((x.3.0.0, omega arith), x.3.1, x.3.2));
+    }

@@ -3,4 +3,5 @@ pub mod Marking
 pub mod Markers
 pub mod Sweeping
 pub mod Collecting
+pub mod Counting
 pub mod Waiting

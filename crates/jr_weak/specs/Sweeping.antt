@@ -10,6 +10,8 @@ use Rattle.jr_model.specs.CollectionCalls.{IsToClear, IsToDrop}
 use Rattle.jr_model.specs.History.{Did}
 use Rattle.jr_steps.specs.declared.known.Known.{Known}
 use Rattle.jr_steps.specs.Knowing.{Facts, Went, state_of, view, CanReopen, IsSettled}
+use Rattle.jr_compact.specs.Counting.{TakesWithin}
+use Rattle.jr_weak.specs.Counting.{clearing_steps, dropping_steps}
 use Rattle.jr_weak.specs.Marks.{IsMarked, IsExactly}
 use Rattle.jr_weak.specs.Marking.{IsMarkedNow}
 
@@ -70,26 +72,26 @@ pub record NumberIsSwept (marks : List Bool) (o : ℕ) (dropped : Option ℕ) (j
   pub only : (r : ℕ) → dropped ≡ Some r → IsToDrop (state_of j) r × (r ≡ o)
 
 module _ {S : Type 0} (facts : S → Facts) where
-  -- a slot was swept, and something was cleared or not
+  -- a slot was swept, by two steps at the most, and something was cleared or not
   pub record SweepsSlot (marks : List Bool) (i : ℕ) (old new : S) (did : Bool) : Type 0 where
     pub cleared : Option Handle
     pub counted : is_some cleared ≡ did
-    pub went : Went facts old new (facts old).stands (IsMarkedNow marks) (λ j k. Did (view j) (view k) (clear_acts cleared)) (SlotIsSwept marks i cleared)
+    pub went : Went facts old new (facts old).stands (IsMarkedNow marks) (λ j k. Did (view j) (view k) (clear_acts cleared) × TakesWithin 2 j k) (SlotIsSwept marks i cleared)
 
-  -- a number was swept, and something was dropped or not
+  -- a number was swept, by two steps at the most, and something was dropped or not
   pub record SweepsNumber (marks : List Bool) (o : ℕ) (old new : S) (did : Bool) : Type 0 where
     pub dropped : Option ℕ
     pub counted : is_some dropped ≡ did
-    pub went : Went facts old new (facts old).stands (MayDrop marks) (λ j k. Did (view j) (view k) (drop_acts dropped)) (NumberIsSwept marks o dropped)
+    pub went : Went facts old new (facts old).stands (MayDrop marks) (λ j k. Did (view j) (view k) (drop_acts dropped) × TakesWithin 2 j k) (NumberIsSwept marks o dropped)
 
   -- SO MANY WEAK REFERENCES WERE CLEARED, exactly those that were to be
   pub record ClearsUnreached (marks : List Bool) (old new : S) (count : ℕ) : Type 0 where
     pub cleared : List Handle
     pub counted : length cleared ≡ count
-    pub went : Went facts old new (facts old).stands (IsMarkedNow marks) (λ j k. Did (view j) (view k) (map Clear cleared)) (λ j k. IsExactlyToClear (state_of j) cleared × ((state_of k).objects ≡ (state_of j).objects) × AreCleared marks k)
+    pub went : Went facts old new (facts old).stands (IsMarkedNow marks) (λ j k. Did (view j) (view k) (map Clear cleared) × TakesWithin (clearing_steps j.config) j k) (λ j k. IsExactlyToClear (state_of j) cleared × ((state_of k).objects ≡ (state_of j).objects) × AreCleared marks k)
 
   -- SO MANY OBJECTS WERE DROPPED, exactly those that were to be
   pub record DropsUnreached (marks : List Bool) (old new : S) (count : ℕ) : Type 0 where
     pub dropped : List ℕ
     pub counted : length dropped ≡ count
-    pub went : Went facts old new (facts old).stands (AreCleared marks) (λ j k. Did (view j) (view k) (map Drop dropped)) (λ j k. IsExactlyToDrop (state_of j) dropped × AreDropped marks k)
+    pub went : Went facts old new (facts old).stands (AreCleared marks) (λ j k. Did (view j) (view k) (map Drop dropped) × TakesWithin (dropping_steps j.config) j k) (λ j k. IsExactlyToDrop (state_of j) dropped × AreDropped marks k)

@@ -47,7 +47,7 @@ impl Marker {
     ///
     /// # Operations
     ///
-    /// No clause counts them. In the code they are a look at each slot, and an exchange for each reference that it clears.
+    /// A look at each slot, and an exchange for each reference that it clears: at the most two for each slot.
     pub fn clear_weak<S: Steps>(&self, steps: &mut S) -> u32
         requires role { (S.facts steps.old).stands.role ≡ Collecting }
         requires marked { MayKnow S.facts steps.old (IsMarkedNow (marks_of self.now)) }

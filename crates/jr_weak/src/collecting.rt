@@ -36,7 +36,7 @@ pub struct Collected {
 ///
 /// # Operations
 ///
-/// One where it is refused. Those of a collection that is made no clause counts; in the code they are those of `mark`, `clear_weak`, `drop_unreached` and `compact`, and two at the gate.
+/// One where it is refused. A collection that is made takes those of `mark`, `clear_weak`, `drop_unreached` and `compact`, and two at the gate: at the most three for each slot, one for each local place of every thread, four for each object and each word of the room, and three.
 pub fn collect<S: Steps>(steps: &mut S, marker: &mut Marker) -> Result<Collected, Fault>
     requires outside { (S.facts steps.old).stands.role ≡ Outside }
     requires room { room_of marker.old ≡ (S.facts steps.old).stands.config.objects }
@@ -60,7 +60,7 @@ pub fn collect<S: Steps>(steps: &mut S, marker: &mut Marker) -> Result<Collected
 ///
 /// # Operations
 ///
-/// Up to the shut of the gate those of `announce` and one for each try, with none between two tries; and one more where the announcement is taken back. Those of the collection no clause counts: see `collect`.
+/// Up to the shut of the gate those of `announce` and one for each try, with none between two tries; and one more where the announcement is taken back. From then on those of `collect`.
 pub fn collect_announced<S: Steps>(
     steps: &mut S,
     marker: &mut Marker,

@@ -1,10 +1,11 @@
 //! Moving what is marked together.
-ghost use Rattle.std.specs.Prelude.{◌≡◌, [], ◌∷◌};
+ghost use Rattle.std.specs.Prelude.{◌≡◌, ◌+◌, [], ◌∷◌};
 ghost use Rattle.jr_model.specs.declared.event.Act.TheVariants.{Settle};
 ghost use Rattle.jr_model.specs.declared.event.Role.TheVariants.{Collecting};
 ghost use Rattle.jr_steps.specs.Knowing.{MayKnow};
 ghost use Rattle.jr_gate.specs.Acting.{ActedTo};
 ghost use Rattle.jr_compact.specs.Compacting.{AreCompacted};
+ghost use Rattle.jr_compact.specs.Counting.{TakesWithin};
 ghost use Rattle.jr_weak.specs.Markers.{room_of, marks_of};
 ghost use Rattle.jr_weak.specs.Sweeping.{AreDropped};
 
@@ -17,12 +18,12 @@ impl Marker {
     ///
     /// # Operations
     ///
-    /// No clause counts them. In the code they are a look at the header of each marked object, a load and a store for each element that moves, a store for the header of each array that moves, and one at the top.
+    /// A look at the header of each marked object, a load and a store for each element that moves, a store for the header of each array that moves, and one at the top: at the most one for each object for which the marker has room, three for each word that is used then, and the last.
     pub fn compact<S: Steps>(&mut self, steps: &mut S) -> u32
         requires role { (S.facts steps.old).stands.role ≡ Collecting }
         requires dropped { MayKnow S.facts steps.old (AreDropped (marks_of self.old)) }
         ensures room { room_of self.new ≡ room_of self.old }
-        ensures acts { ActedTo S.facts steps.old steps.new (Settle result ∷ []) (AreDropped (marks_of self.old)) (AreCompacted result) }
+        ensures acts { ActedTo S.facts steps.old steps.new (Settle result ∷ []) (AreDropped (marks_of self.old)) (λ j k. AreCompacted result j k × TakesWithin (room_of self.old + (result + result + result) + 1) j k) }
     {
         compact(steps, &self.found[..self.count], &mut self.noted)
     }

@@ -30,7 +30,7 @@ impl Marker {
     ///
     /// # Operations
     ///
-    /// No clause counts them. In the code they are a look at the header of each object number that is not marked, and a store for each object that it drops.
+    /// A look at the header of each object number that is not marked, and a store for each object that it drops: at the most two for each number.
     pub fn drop_unreached<S: Steps>(&self, steps: &mut S) -> u32
         requires role { (S.facts steps.old).stands.role ≡ Collecting }
         requires cleared { MayKnow S.facts steps.old (AreCleared (marks_of self.now)) }

@@ -1,7 +1,8 @@
 //! What is reached through arrays of objects: a work list is followed to its end.
-ghost use Rattle.std.specs.Prelude.{◌≡◌, ◌≤◌, vec_len};
+ghost use Rattle.std.specs.Prelude.{◌≡◌, ◌≤◌, ◌+◌, vec_len};
 ghost use Rattle.jr_model.specs.declared.event.Role.TheVariants.{Collecting};
-ghost use Rattle.jr_steps.specs.Knowing.{MayKnow};
+ghost use Rattle.jr_model.specs.State.{length_of};
+ghost use Rattle.jr_steps.specs.Knowing.{MayKnow, state_of};
 ghost use Rattle.jr_weak.specs.Marks.{IsMarked, IsBefore, IsObjectWord, HasElementsOf, HasElements};
 ghost use Rattle.jr_weak.specs.Marking.{IsMarking, MarksAll};
 
@@ -29,7 +30,7 @@ impl Marker {
         requires marking { MayKnow S.facts steps.old (IsMarking self.old.marked.items) }
         ensures room { vec_len self.new.found ≡ vec_len self.old.found }
         ensures before { IsBefore self.old.count self.old.found.items self.new.count self.new.found.items }
-        ensures marks { MarksAll S.facts self.old.marked.items self.new.marked.items steps.old steps.new (HasElementsOf object) }
+        ensures marks { MarksAll S.facts (λ j. length_of ((state_of j).objects object) + 1) self.old.marked.items self.new.marked.items steps.old steps.new (HasElementsOf object) }
     {
         let Some(header) = steps.scan_header(object) else {
             return;
@@ -49,7 +50,7 @@ impl Marker {
         requires room { vec_len self.old.found ≡ (S.facts steps.old).stands.config.objects }
         requires marking { MayKnow S.facts steps.old (IsMarking self.old.marked.items) }
         ensures room { vec_len self.new.found ≡ vec_len self.old.found }
-        ensures marks { MarksAll S.facts self.old.marked.items self.new.marked.items steps.old steps.new HasElements }
+        ensures marks { MarksAll S.facts (λ j. j.config.objects + j.config.words) self.old.marked.items self.new.marked.items steps.old steps.new HasElements }
     {
         let objects = self.found.len();
         for next in 0..objects {

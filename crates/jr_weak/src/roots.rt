@@ -1,5 +1,5 @@
 //! The roots of what is reached: the objects of global references, and of local ones of all threads.
-ghost use Rattle.std.specs.Prelude.{◌≡◌, ◌<◌, vec_len};
+ghost use Rattle.std.specs.Prelude.{◌≡◌, ◌<◌, ◌*◌, vec_len};
 ghost use Rattle.jr_model.specs.declared.event.Role.TheVariants.{Collecting};
 ghost use Rattle.jr_weak.specs.Marks.{global_in, local_in, HasGlobals, HasLocalsOf, HasLocals};
 ghost use Rattle.jr_weak.specs.Marking.{MarksAll};
@@ -34,7 +34,7 @@ impl Marker {
         requires role { (S.facts steps.old).stands.role ≡ Collecting }
         requires room { vec_len self.old.found ≡ (S.facts steps.old).stands.config.objects }
         ensures room { vec_len self.new.found ≡ vec_len self.old.found }
-        ensures marks { MarksAll S.facts self.old.marked.items self.new.marked.items steps.old steps.new HasGlobals }
+        ensures marks { MarksAll S.facts (λ j. j.config.slots) self.old.marked.items self.new.marked.items steps.old steps.new HasGlobals }
     {
         let slots = steps.config().slots;
         for index in 0..slots {
@@ -49,7 +49,7 @@ impl Marker {
         requires room { vec_len self.old.found ≡ (S.facts steps.old).stands.config.objects }
         requires thread { thread < (S.facts steps.old).stands.config.threads }
         ensures room { vec_len self.new.found ≡ vec_len self.old.found }
-        ensures marks { MarksAll S.facts self.old.marked.items self.new.marked.items steps.old steps.new (HasLocalsOf thread) }
+        ensures marks { MarksAll S.facts (λ j. j.config.locals) self.old.marked.items self.new.marked.items steps.old steps.new (HasLocalsOf thread) }
     {
         let places = steps.config().locals;
         for place in 0..places {
@@ -63,7 +63,7 @@ impl Marker {
         requires role { (S.facts steps.old).stands.role ≡ Collecting }
         requires room { vec_len self.old.found ≡ (S.facts steps.old).stands.config.objects }
         ensures room { vec_len self.new.found ≡ vec_len self.old.found }
-        ensures marks { MarksAll S.facts self.old.marked.items self.new.marked.items steps.old steps.new HasLocals }
+        ensures marks { MarksAll S.facts (λ j. j.config.threads * j.config.locals) self.old.marked.items self.new.marked.items steps.old steps.new HasLocals }
     {
         let threads = steps.config().threads;
         for thread in 0..threads {

@@ -1,7 +1,8 @@
 use Rattle.std.proofs.Common.{◌≤◌, ◌<◌, ◌+◌, ◌++◌, ◌∙◌, ap, sym, subst, subst₂, take, length, arith, rules, append-nil, option_to_list}
 use Rattle.std.proofs.lemmas.List.{take_more_set}
-use Rattle.jr_steps.specs.Knowing.{Standing, Saw}
+use Rattle.jr_steps.specs.Knowing.{Standing}
 use Rattle.jr_compact.specs.Compacting.{CanCompact}
+use Rattle.jr_compact.specs.Counting.{SawWithin}
 use Rattle.jr_compact.proofs.Noted.{IsNotedTo, listed_number, noted_none, noted_more, noted_at_end}
 use Rattle.jr_compact.proofs.compacting.note.Goals.{in-Some, in_default}
 use Rattle.jr_compact.proofs.compacting.note.Goals as goal
@@ -56,15 +57,15 @@ loop-object-preserved g c =
           let count = w.count-is in
           let entry = sym c.of.ensures ∙ w.in-Some.is in (
             (omega arith),
-            subst₂ (λ n es. Saw g.S.Steps.facts c.args.steps.now c.scan_header-header.new.self (CanCompact c.args.present.now) (IsNotedTo c.args.present.now (c.loop-object.object-index + 1) (take n es))) (sym w.count-is) (sym w.noted-is)
-                (subst (λ es. Saw g.S.Steps.facts c.args.steps.now c.scan_header-header.new.self (CanCompact c.args.present.now) (IsNotedTo c.args.present.now (c.loop-object.object-index + 1) es))
+            subst₂ (λ n es. SawWithin g.S.Steps.facts (λ j. c.loop-object.object-index + 1) c.args.steps.now c.scan_header-header.new.self (CanCompact c.args.present.now) (IsNotedTo c.args.present.now (c.loop-object.object-index + 1) (take n es))) (sym w.count-is) (sym w.noted-is)
+                (subst (λ es. SawWithin g.S.Steps.facts (λ j. c.loop-object.object-index + 1) c.args.steps.now c.scan_header-header.new.self (CanCompact c.args.present.now) (IsNotedTo c.args.present.now (c.loop-object.object-index + 1) es))
                 (ap (λ r. take c.loop-object.count c.loop-object.noted ++ option_to_list r) entry ∙ sym (take_more_set c.loop-object.noted c.loop-object.count w.in-Some.entry (omega arith))) more),
           )
       | in_default w ↦
           let count = w.count-is in (
             (omega arith),
-            subst₂ (λ n es. Saw g.S.Steps.facts c.args.steps.now c.scan_header-header.new.self (CanCompact c.args.present.now) (IsNotedTo c.args.present.now (c.loop-object.object-index + 1) (take n es))) (sym w.count-is) (sym w.noted-is)
-                (subst (λ es. Saw g.S.Steps.facts c.args.steps.now c.scan_header-header.new.self (CanCompact c.args.present.now) (IsNotedTo c.args.present.now (c.loop-object.object-index + 1) es))
+            subst₂ (λ n es. SawWithin g.S.Steps.facts (λ j. c.loop-object.object-index + 1) c.args.steps.now c.scan_header-header.new.self (CanCompact c.args.present.now) (IsNotedTo c.args.present.now (c.loop-object.object-index + 1) (take n es))) (sym w.count-is) (sym w.noted-is)
+                (subst (λ es. SawWithin g.S.Steps.facts (λ j. c.loop-object.object-index + 1) c.args.steps.now c.scan_header-header.new.self (CanCompact c.args.present.now) (IsNotedTo c.args.present.now (c.loop-object.object-index + 1) es))
                 (ap (λ r. take c.loop-object.count c.loop-object.noted ++ option_to_list r) (sym c.of.ensures ∙ w.in_default.is) ∙ append-nil (take c.loop-object.count c.loop-object.noted)) more),
           )
     ]

@@ -1,16 +1,22 @@
 use Rattle.std.proofs.Common.{◌<◌, refl, sym, ap, subst, ◌∙◌, arith}
 use Rattle.jr_steps.specs.Knowing.{Standing}
 use Rattle.jr_weak.specs.Marks.{IsMarked}
-use Rattle.jr_weak.proofs.Leading.{marked_none, may_marked}
+use Rattle.jr_weak.proofs.Leading.{may_marked}
 use Rattle.jr_weak.proofs.Queues.{same_default, queue_few, queue_number}
-use Rattle.jr_weak.proofs.ElementMarks.{Followed, followed_next, followed_all}
+use Rattle.jr_weak.proofs.ElementMarks.{followed_none, followed_next, followed_all}
 use Rattle.jr_weak.proofs.marker.Marker.follow.Goals as goal
 
 pub loop-next-init : goal.loop-next-init
-loop-next-init g c = (marked_none g.met.S.Steps.fits c.args.self.now.marked.items c.args.steps.now {has = Followed c.args.self.now.found.items 0} (λ k i l. absurd (omega arith)), refl)
+loop-next-init g c = (followed_none g.met.S.Steps.fits c.args.self.now.marked.items c.args.steps.now c.args.self.now.found.items, refl, omega arith)
 
 pub returns-then-next-self-clause-marks : goal.returns-then-next-self-clause-marks
-returns-then-next-self-clause-marks g c = followed_all g.met.S.Steps.fits c.loop-next.next c.loop-next.invariant.0 c.loop-next.self.queue c.if-next-self.true
+returns-then-next-self-clause-marks g c =
+    let s = c.loop-next.self in
+    let few = queue_few s.marked.items s.found.items s.count s.queue in
+    let n = c.requires.room in
+    let f = c.loop-next.invariant.1 in
+    let most = c.loop-next.invariant.2 in
+    followed_all g.met.S.Steps.fits c.loop-next.next c.loop-next.invariant.0 c.requires.role s.queue c.if-next-self.true most (omega arith)
 
 pub mark_elements-requires-clause-number : goal.mark_elements-requires-clause-number
 mark_elements-requires-clause-number g c =
@@ -48,6 +54,7 @@ loop-next-preserved g c =
     let m = c.mark_elements.ensures in (
       followed_next g.met.S.Steps.fits c.loop-next.next c.loop-next.invariant.0 c.index-object.result.now c.requires.role l is m.before m.marks,
       m.room ∙ c.loop-next.invariant.1,
+      (let more = (m.before).more in omega arith),
     )
 
 pub returns-clause-marks : goal.returns-clause-marks
@@ -58,4 +65,6 @@ returns-clause-marks g c =
     let b = c.loop-next-test.false in
     let n = c.len-objects.ensures in
     let f = c.loop-next.invariant.1 in
-    followed_all g.met.S.Steps.fits c.loop-next.next c.loop-next.invariant.0 s.queue (omega arith)
+    let most = c.loop-next.invariant.2 in
+    let r = c.requires.room in
+    followed_all g.met.S.Steps.fits c.loop-next.next c.loop-next.invariant.0 c.requires.role s.queue (omega arith) most (omega arith)
