@@ -32,6 +32,7 @@ module _ {S : Type 0} {facts : S → Facts} where
       let l : Took facts a b (Gate Leave ∷ []) anything lets_go = subst (λ (r : Role). Took facts a b (act_of_exit r ∷ []) anything lets_go) within e in
       record {
         same = λ out. absurd (let no_more = sym within ∙ out in cc);
+        left = λ inside. l;
         frames = refl;
         ready = record { role_is = ap (λ (s : Standing). s.role) l.stands_is; spent = ap (λ (s : Standing). s.fresh) l.stands_is ∙ can.spent; own = own_stepped (Gate Leave) refl own l };
         thread = ap (λ (s : Standing). s.thread) l.stands_is;

@@ -1,9 +1,11 @@
 -- For the crate's own functions: what calls and their works did, over any steps and frames, for whatever was known.
-use Rattle.std.specs.Prelude.{◌≡◌, ℕ, Result, Ok, Err, Option, Some, None, List, length}
+use Rattle.std.specs.Prelude.{◌≡◌, ◌≢◌, ℕ, Result, Ok, Err, Option, Some, None, List, [], ◌∷◌, length}
 use Rattle.jr_word.specs.declared.config.Config.{Config}
 use Rattle.jr_word.specs.declared.fault.Fault.{Fault}
 use Rattle.jr_word.specs.declared.kind.Kind.{Kind}
 use Rattle.jr_word.specs.declared.kind.Kind.TheVariants.{Plain}
+use Rattle.jr_model.specs.declared.event.Act.TheVariants.{Gate}
+use Rattle.jr_model.specs.declared.event.GateAct.TheVariants.{Leave}
 use Rattle.jr_model.specs.declared.event.Role.TheVariants.{Outside}
 use Rattle.jr_model.specs.State.{Handle, State}
 use Rattle.jr_model.specs.Frames.{Frames, object_at}
@@ -14,7 +16,7 @@ use Rattle.jr_model.specs.References.{added, made, popping, resolved}
 use Rattle.jr_steps.specs.declared.known.Known.{Known}
 use Rattle.jr_steps.specs.declared.steps.Steps.{Ghosts}
 use Rattle.jr_steps.specs.Holdings.{with_header}
-use Rattle.jr_steps.specs.Knowing.{Facts, keeps, without_range_of, Holds}
+use Rattle.jr_steps.specs.Knowing.{Facts, anything, keeps, lets_go, without_range_of, Holds, Took}
 use Rattle.jr_gate.specs.Performing.{Performed}
 use Rattle.jr_heap.specs.Heap.{header_of, own_words, IsReady}
 use Rattle.jr_frames.specs.declared.held.Held.{Held}
@@ -53,9 +55,10 @@ module _ {S : Type 0} (facts : S → Facts) where
   abbrev pub MakesArray : S → S → Frames → Frames → Kind → List ℕ → (Known → Type 0) → Result Handle Fault → Type 0
   MakesArray old new f g kind words met answer = Performed facts old new f g (making_steps (length words) (facts old).stands.config) (λ k. Holds f k × met k) (λ s. made (facts old).stands.config (facts old).stands.last (facts old).stands.thread kind words) answer (λ j k. Unit {0} × Holds g k)
 
-  -- a stay that was left was ended: where the thread stood outside nothing changed; and it stands ready outside, with the same frames
+  -- a stay that was left was ended: where the thread stood outside nothing changed, and else it went out, by one step; and it stands ready outside, with the same frames
   pub record EndsStay (old new : S) (before after : Table) : Type 0 where
     pub same : (facts old).stands.role ≡ Outside → new ≡ old
+    pub left : (facts old).stands.role ≢ Outside → Took facts old new (Gate Leave ∷ []) anything lets_go
     pub frames : after ≡ before
     pub ready : StandsReady facts Outside new after
     pub thread : (facts new).stands.thread ≡ (facts old).stands.thread

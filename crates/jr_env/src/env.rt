@@ -19,12 +19,14 @@ pub struct Env<S: Steps> {
 }
 
 impl<S: Steps> Env<S> {
-    ghost use Rattle.std.specs.Prelude.{◌≡◌, ◌≢◌, true, false, IfOk, IfErr};
+    ghost use Rattle.std.specs.Prelude.{◌≡◌, ◌≢◌, [], ◌∷◌, true, false, IfOk, IfErr};
     ghost use Rattle.jr_word.specs.declared.fault.Fault.TheVariants.{NotFresh};
     ghost use Rattle.jr_word.specs.declared.handle.RefKind.TheVariants.{Local, Global, Weak};
+    ghost use Rattle.jr_model.specs.declared.event.Act.TheVariants.{Gate};
+    ghost use Rattle.jr_model.specs.declared.event.GateAct.TheVariants.{Leave};
     ghost use Rattle.jr_model.specs.declared.event.Role.TheVariants.{Outside};
     ghost use Rattle.jr_model.specs.Frames.{fresh_frames};
-    ghost use Rattle.jr_steps.specs.Knowing.{Spent};
+    ghost use Rattle.jr_steps.specs.Knowing.{Spent, Took, anything, lets_go};
     ghost use Rattle.jr_env.specs.Envs.{Does, IsOutside};
     ghost use Rattle.jr_env.specs.Deeds.{new_reference, new_local_ref, delete_reference, delete_local_ref, is_same_object, get_object_ref_type};
 
@@ -62,9 +64,10 @@ impl<S: Steps> Env<S> {
     ///
     /// # Operations
     ///
-    /// None where the thread stands outside. A stay that a region left is ended first.
+    /// None where the thread stands outside. A stay that a region left is ended first, by one, the exit.
     pub fn into_pass(self) -> S
         ensures steps { IsOutside self → result ≡ self.held.steps }
+        ensures left { (S.facts self.held.steps).stands.role ≢ Outside → Took S.facts self.held.steps result (Gate Leave ∷ []) anything lets_go }
         ensures outside { (S.facts result).stands.role ≡ Outside }
         ensures spent { (S.facts result).stands.fresh ≡ false }
     {
