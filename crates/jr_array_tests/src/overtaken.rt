@@ -272,6 +272,8 @@ impl<S: Steps, M: Meanwhile> Steps for Overtaken<S, M> {
 
     ghost fits = { λ s k h. S.fits s.steps k h };
 
+    ghost lone = { λ s k none h. S.lone s.steps k none h };
+
     ghost some_known = { λ s. S.some_known s.steps };
 
     ghost unused = { λ s k f h. S.unused s.steps k f h };

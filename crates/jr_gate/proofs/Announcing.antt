@@ -22,12 +22,12 @@ use Rattle.jr_model.proofs.Windows.{stepped_last, window_some}
 use Rattle.jr_steps.specs.declared.known.Known.{Known}
 use Rattle.jr_steps.specs.declared.loads.GateLoad.TheVariants as gate
 use Rattle.jr_steps.specs.Acts.{act_of_gate_load, act_of_announcement, all_counted, is_closed}
-use Rattle.jr_steps.specs.Knowing.{AreOf, Facts, Goes, MayKnow, ShowsAnnounced, ShowsGate, Standing, Took, anything, keeps, lets_go, standing_after, view}
+use Rattle.jr_steps.specs.Knowing.{AreLone, AreOf, Facts, Goes, IsLone, MayKnow, ShowsAnnounced, ShowsGate, Standing, Took, anything, keeps, lets_go, standing_after, view}
 use Rattle.jr_steps.proofs.GateFacts.{nobody_closes}
 use Rattle.jr_steps.proofs.StepFacts.{goes_did, goes_stepped, took_less}
 use Rattle.jr_gate.specs.Acting.{ActedTo, KeepsInTwo}
 use Rattle.jr_gate.specs.Announcing.{AnnouncesInTwo, WasNotAnnounced}
-use Rattle.jr_gate.proofs.Alone.{all_outside, never_busy}
+use Rattle.jr_gate.proofs.Alone.{all_outside, others_outside, never_busy}
 use Rattle.jr_gate.proofs.Closing.{busy_counts}
 use Rattle.jr_gate.proofs.Withdrawing.{two}
 
@@ -107,28 +107,24 @@ module _ {S : Type 0} {facts : S → Facts} where
         let u = look_open q m is (lost_look n q t) in
         inr (inr (n, m, refl, other, acted Meet Meet (λ v w d. window_some Meet (Meet ∷ []) d (refl, (refl, tt))) (λ j k l g h f s. (has_moved other g h f.0 s.0, (s.1 ∙ f.1, two g h))) (look_open p n wide look) u))
 
-  -- OVER ONE THREAD
-  module _ (fits : AreOf facts) (some : (s : S) → MayKnow facts s anything) (row : (s : S) → (facts s).stands.thread < (facts s).stands.config.threads) where
+  -- OVER A LONE THREAD
+  module _ (fits : AreOf facts) (own : AreLone facts) (some : (s : S) → MayKnow facts s anything) (row : (s : S) → (facts s).stands.thread < (facts s).stands.config.threads) where
     -- an open gate counts nobody
-    counts_none : {a b : S} (n : ℕ) → (facts b).stands.config.threads ≡ 1 → (facts b).stands.role ≡ Outside → Took facts a b (Meet ∷ []) anything (λ j k. ShowsGate (open_with n) k × keeps j k) → (k : Known) → (facts a).knows k → n ≡ 0
-    counts_none {a} {b} n one out t k s =
+    counts_none : {a b : S} (n : ℕ) → IsLone (facts b).stands → (facts b).stands.role ≡ Outside → Took facts a b (Meet ∷ []) anything (λ j k. ShowsGate (open_with n) k × keeps j k) → (k : Known) → (facts a).knows k → n ≡ 0
+    counts_none {a} {b} n lone out t k s =
         let g = t.goes k s tt in
-        let of = fits b g.0 g.1 in
-        let here = row b in
-        let thread = of.thread in
-        let threads = ap (λ (c : Config). c.threads) of.config in
-        let outside = all_outside (g.0).config (g.0).last (g.0).seen (g.0).thread (threads ∙ one) of.legal (omega arith) (of.role ∙ out) in
+        let outside = all_outside (g.0).seen (g.0).thread (others_outside facts fits own b lone (row b) g.0 g.1) ((fits b g.0 g.1).role ∙ out) in
         (g.3.0).count ∙ count_all_false (g.0).config.threads (λ u. is_inside ((state (g.0).seen).role u)) (λ u l. ap is_inside (outside u))
 
-    pub never_closed : {a b : S} → (facts a).stands.config.threads ≡ 1 → (p : GateParts) → is_closed p.state ≡ true → Took facts a b (act_of_gate_load gate.Busy p ∷ []) anything (λ j k. ShowsGate p k × keeps j k) → ⊥
-    never_closed {a} one p closed t = never_busy (fits a) (some a) one (all_counted p) (look_closed p closed t)
+    pub never_closed : {a b : S} → IsLone (facts a).stands → (p : GateParts) → is_closed p.state ≡ true → Took facts a b (act_of_gate_load gate.Busy p ∷ []) anything (λ j k. ShowsGate p k × keeps j k) → ⊥
+    never_closed {a} lone p closed t = never_busy fits own (some a) lone (all_counted p) (look_closed p closed t)
 
-    module _ {a b c : S} (one : (facts a).stands.config.threads ≡ 1) (out : (facts a).stands.role ≡ Outside) where
+    module _ {a b c : S} (lone : IsLone (facts a).stands) (out : (facts a).stands.role ≡ Outside) where
       pub never_closed_between : (p q : GateParts) (n : ℕ) → p ≡ open_with n → is_closed q.state ≡ true → Took facts a b (act_of_gate_load gate.Busy p ∷ []) anything (λ j k. ShowsGate p k × keeps j k)
           → Took facts b c (act_of_announcement (Err q) ∷ []) anything (ShowsAnnounced n (Err q)) → ⊥
       never_closed_between p q n wide closed look t =
           let stands = (look_open p n wide look).stands_is in
-          never_busy (fits b) (some b) (ap (λ (s : Standing). s.config.threads) stands ∙ one) (all_counted q) (look_closed q closed (lost_look n q t))
+          never_busy fits own (some b) (subst IsLone (sym stands) lone) (all_counted q) (look_closed q closed (lost_look n q t))
 
       pub never_moved : (p q : GateParts) (n m : ℕ) → p ≡ open_with n → q ≡ open_with m → Took facts a b (act_of_gate_load gate.Busy p ∷ []) anything (λ j k. ShowsGate p k × keeps j k)
           → Took facts b c (act_of_announcement (Err q) ∷ []) anything (ShowsAnnounced n (Err q)) → ⊥
@@ -140,5 +136,5 @@ module _ {S : Type 0} {facts : S → Facts} where
           ∥∥₁_elim (some a) (λ x y. absurd x) (λ k.
           let g = first.goes k.0 k.1 tt in
           lost_other n m q (some b) is t
-          (counts_none n (ap (λ (s : Standing). s.config.threads) stands ∙ one) (ap (λ (s : Standing). s.role) stands ∙ out) first k.0 k.1
-          ∙ sym (counts_none m (ap (λ (s : Standing). s.config.threads) stood ∙ one) (ap (λ (s : Standing). s.role) stood ∙ out) last g.0 g.1)))
+          (counts_none n (subst IsLone (sym stands) lone) (ap (λ (s : Standing). s.role) stands ∙ out) first k.0 k.1
+          ∙ sym (counts_none m (subst IsLone (sym stood) lone) (ap (λ (s : Standing). s.role) stood ∙ out) last g.0 g.1)))

@@ -6,7 +6,7 @@ ghost use Rattle.jr_model.specs.declared.event.Role.TheVariants.{Outside};
 ghost use Rattle.jr_model.specs.declared.event.Act.TheVariants.{Gate, Meet, ShutBusy};
 ghost use Rattle.jr_model.specs.declared.event.GateAct.TheVariants.{Announce, Cancel, Shut as Shuts};
 ghost use Rattle.jr_steps.specs.Acts.{all_counted, is_closed};
-ghost use Rattle.jr_steps.specs.Knowing.{anything, keeps, lets_go, CanReopen, IsClosedNow, MayKnow, Took};
+ghost use Rattle.jr_steps.specs.Knowing.{anything, keeps, lets_go, CanReopen, IsClosedNow, IsLone, MayKnow, Took};
 ghost use Rattle.jr_gate.specs.Acting.{ActedTo};
 ghost use Rattle.jr_gate.specs.Announcing.{AnnouncesInTwo, WasNotAnnounced};
 ghost use Rattle.jr_gate.specs.Stays.{IsOwnAnnouncement, IsOwnCollection};
@@ -21,7 +21,7 @@ pub struct Announced {
 }
 
 impl Announced {
-    /// Shuts the gate, by the steps' own announcement. Own is by the number of the thread and the role of the steps: the announcement has their thread's number, and they are announcing. Where the gate is shut, no present object array names an absent object, and the pass holds nothing. Over one thread it is never refused.
+    /// Shuts the gate, by the steps' own announcement. Own is by the number of the thread and the role of the steps: the announcement has their thread's number, and they are announcing. Where the gate is shut, no present object array names an absent object, and the pass holds nothing. Over one thread, and over plain words, it is never refused.
     ///
     /// # Errors
     ///
@@ -37,7 +37,7 @@ impl Announced {
         ensures ok { IfOk result (λ s. IsOwnCollection s (S.facts steps.new).stands × Took S.facts steps.old steps.new (Gate Shuts ∷ []) anything (λ j k. IsClosedNow k × lets_go j k)) }
         ensures closed { IfOk result (λ _. MayKnow S.facts steps.new CanReopen) }
         ensures err { IfErr result (λ r. IsOwnAnnouncement r.0 (S.facts steps.new).stands × ((n : ℕ) × (r.1 ≡ Busy n) × (1 ≤ n) × Took S.facts steps.old steps.new (ShutBusy n ∷ []) anything keeps)) }
-        ensures alone { (S.facts steps.old).stands.config.threads ≡ 1 → IsOk result }
+        ensures alone { IsLone (S.facts steps.old).stands → IsOk result }
     {
         match steps.bar_announced() {
             Ok(()) => {
@@ -62,7 +62,7 @@ impl Announced {
     }
 }
 
-/// Announces that the gate will be shut for a collection. The thread has to stand outside. From then on nobody is let in, and who is inside may go on, nest levels of its critical region, and leave. The announcement is the steps' own, by the number of the thread and the role of the steps. Over one thread it is never refused.
+/// Announces that the gate will be shut for a collection. The thread has to stand outside. From then on nobody is let in, and who is inside may go on, nest levels of its critical region, and leave. The announcement is the steps' own, by the number of the thread and the role of the steps. Over one thread, and over plain words, it is never refused.
 ///
 /// # Errors
 ///
@@ -77,7 +77,7 @@ pub fn announce<S: Steps>(steps: &mut S) -> Result<Announced, Fault>
     requires { (S.facts steps.old).stands.role ≡ Outside }
     ensures ok { IfOk result (λ a. IsOwnAnnouncement a (S.facts steps.new).stands × ActedTo S.facts steps.old steps.new (Meet ∷ Gate Announce ∷ []) anything AnnouncesInTwo) }
     ensures err { IfErr result (λ e. WasNotAnnounced S.facts steps.old steps.new e) }
-    ensures alone { (S.facts steps.old).stands.config.threads ≡ 1 → IsOk result }
+    ensures alone { IsLone (S.facts steps.old).stands → IsOk result }
 {
     let looked = open_count(steps.see_gate(GateLoad::Busy))?;
     if let Err(found) = steps.announce(looked) {

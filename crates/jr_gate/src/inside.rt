@@ -4,7 +4,7 @@ ghost use Rattle.jr_word.specs.declared.fault.Fault.TheVariants.{Barred};
 ghost use Rattle.jr_model.specs.declared.event.Role.TheVariants.{Outside};
 ghost use Rattle.jr_model.specs.declared.event.Act.TheVariants.{Gate};
 ghost use Rattle.jr_model.specs.declared.event.GateAct.TheVariants.{Enter, Knock, Leave, Withdraw};
-ghost use Rattle.jr_steps.specs.Knowing.{anything, keeps, lets_go, Took};
+ghost use Rattle.jr_steps.specs.Knowing.{anything, keeps, lets_go, IsLone, Took};
 ghost use Rattle.jr_gate.specs.Acting.{ActedTo, LetsGoInTwo};
 ghost use Rattle.jr_gate.specs.Stays.{IsOwnStay};
 
@@ -31,7 +31,7 @@ impl Inside {
     }
 }
 
-/// Enters the gate. The thread has to stand outside. The stay is the steps' own, by the number of the thread and the role of the steps. Over one thread it is never refused.
+/// Enters the gate. The thread has to stand outside. The stay is the steps' own, by the number of the thread and the role of the steps. Over one thread, and over plain words, it is never refused.
 ///
 /// # Errors
 ///
@@ -46,7 +46,7 @@ pub fn enter<S: Steps>(steps: &mut S) -> Result<Inside, Fault>
     requires { (S.facts steps.old).stands.role ≡ Outside }
     ensures ok { IfOk result (λ i. IsOwnStay i (S.facts steps.new).stands × Took S.facts steps.old steps.new (Gate Enter ∷ []) anything keeps) }
     ensures err { IfErr result (λ e. (e ≡ Barred) × ActedTo S.facts steps.old steps.new (Gate Knock ∷ Gate Withdraw ∷ []) anything LetsGoInTwo) }
-    ensures alone { (S.facts steps.old).stands.config.threads ≡ 1 → IsOk result }
+    ensures alone { IsLone (S.facts steps.old).stands → IsOk result }
 {
     if steps.go_in() {
         return Ok(Inside {

@@ -4,7 +4,7 @@ ghost use Rattle.jr_word.specs.declared.fault.Fault.TheVariants.{Busy};
 ghost use Rattle.jr_model.specs.declared.event.Role.TheVariants.{Outside};
 ghost use Rattle.jr_model.specs.declared.event.Act.TheVariants.{Gate, ShutBusy};
 ghost use Rattle.jr_model.specs.declared.event.GateAct.TheVariants.{Shut as Shuts, Reopen};
-ghost use Rattle.jr_steps.specs.Knowing.{anything, keeps, lets_go, IsClosedNow, CanReopen, MayKnow, Took};
+ghost use Rattle.jr_steps.specs.Knowing.{anything, keeps, lets_go, IsClosedNow, IsLone, CanReopen, MayKnow, Took};
 ghost use Rattle.jr_gate.specs.Stays.{IsOwnCollection};
 
 use jr_steps::Steps;
@@ -31,7 +31,7 @@ impl Shut {
     }
 }
 
-/// Shuts the gate for a collection. The thread has to stand outside. Where the gate is shut, no present object array names an absent object, and the pass holds nothing. The collection is the steps' own, by the number of the thread and the role of the steps. Over one thread it is never refused.
+/// Shuts the gate for a collection. The thread has to stand outside. Where the gate is shut, no present object array names an absent object, and the pass holds nothing. The collection is the steps' own, by the number of the thread and the role of the steps. Over one thread, and over plain words, it is never refused.
 ///
 /// # Errors
 ///
@@ -47,7 +47,7 @@ pub fn shut_gate<S: Steps>(steps: &mut S) -> Result<Shut, Fault>
     ensures ok { IfOk result (λ s. IsOwnCollection s (S.facts steps.new).stands × Took S.facts steps.old steps.new (Gate Shuts ∷ []) anything (λ j k. IsClosedNow k × lets_go j k)) }
     ensures closed { IfOk result (λ _. MayKnow S.facts steps.new CanReopen) }
     ensures err { IfErr result (λ e. (n : ℕ) × (e ≡ Busy n) × (1 ≤ n) × Took S.facts steps.old steps.new (ShutBusy n ∷ []) anything keeps) }
-    ensures alone { (S.facts steps.old).stands.config.threads ≡ 1 → IsOk result }
+    ensures alone { IsLone (S.facts steps.old).stands → IsOk result }
 {
     match steps.bar() {
         Ok(()) => Ok(Shut {

@@ -1,5 +1,5 @@
 -- What a thread may rely on while it is within, and while it collects.
-use Rattle.std.proofs.Common.{◌≡◌, ◌≢◌, ℕ, ◌≤◌, ◌==◌, Bool, true, false, cond, Some, List, [], ◌∷◌, ◌++◌, map, length, slice_set, refl, sym, ap, subst, ◌∙◌, arith, append_assoc}
+use Rattle.std.proofs.Common.{◌≡◌, ◌≢◌, ℕ, ◌≤◌, ◌==◌, Bool, true, false, cond, Some, List, [], ◌∷◌, ◌++◌, map, length, slice_set, refl, sym, ap, subst, ◌∙◌, arith, append_assoc, eq-eqb}
 use Rattle.std.proofs.lemmas.List.{length-set, append-nil}
 use Rattle.std.specs.List.{AllByRecursion}
 use Rattle.jr_word.specs.declared.config.Config.{Config}
@@ -12,6 +12,7 @@ use Rattle.jr_model.specs.declared.event.GateAct.TheVariants.{Leave, Reopen}
 use Rattle.jr_model.specs.State.{Contents, State, opening, HaveSameTables}
 use Rattle.jr_model.specs.Steps.{ActNeeds, act_after, after, written}
 use Rattle.jr_model.specs.History.{History, by, state_from, state, IsLegalFrom, IsLegal, mine, PassView, role_of, role_after, role_from, Did}
+use Rattle.jr_model.specs.Laws.{SeesItsOwnActs}
 use Rattle.jr_model.proofs.Updates.{at_number, eq_false}
 use Rattle.jr_model.proofs.Histories.{legal_append, state_append, mine_append, mine_all}
 use Rattle.jr_model.proofs.Gates.{IsApart, apart_after, apart_state, stay_act, collection_act}
@@ -160,6 +161,19 @@ role_did {old} {new} acts d =
 pub mine_did : {old new : PassView} (acts : List Act) (d : Did old new acts) → mine d.begins.0 old.thread ≡ acts
 mine_did {old} {new} acts d =
     append_cancel (mine old.seen old.thread) (mine d.begins.0 old.thread) acts (sym (mine_append old.seen d.begins.0 old.thread) ∙ (ap (λ l. mine l old.thread) d.begins.1 ∙ d.own))
+
+-- events of one thread behind others are its acts
+own_behind : (t : ℕ) (xs ys : History) → AllByRecursion (λ e. e.thread ≡ t) (xs ++ ys) → ys ≡ map (by t) (mine ys t)
+own_behind t [] [] all = refl
+own_behind t [] (e ∷ ys) all = (λ i. by (all.0 i) e.act ∷ own_behind t [] ys all.1 i) ∙ sym (ap (λ b. map (by t) (cond b (e.act ∷ mine ys t) (mine ys t))) (eq-eqb e.thread t all.0))
+own_behind t (x ∷ xs) ys all = own_behind t xs ys all.1
+
+pub sees_its_own_acts : SeesItsOwnActs
+sees_its_own_acts old new acts d all =
+    let more : History = d.begins.0 in
+    let t = new.thread in
+    let own : mine more t ≡ acts = ap (mine more) d.thread ∙ mine_did acts d in
+    sym d.begins.1 ∙ ap (λ l. old.seen ++ l) (own_behind t old.seen more (subst (AllByRecursion (λ e. e.thread ≡ t)) (sym d.begins.1) all) ∙ ap (map (by t)) own)
 
 -- from within, what is present stays until the thread leaves
 pub still_did : {old new : PassView} (acts : List Act) → Did old new acts → role_of old ≡ Within → AllByRecursion (λ a. a ≢ Gate Leave) acts → IsStill (state old.seen) (state new.seen)

@@ -24,6 +24,11 @@ abbrev pub LegalGoesByStep : Config → ℕ → Type 0
 LegalGoesByStep c last = IsLegal c last []
     × ((es : History) (e : Event) → IsLegal c last (es ++ e ∷ []) ↔ IsLegal c last es × Step c last (state es) e (state (es ++ e ∷ [])))
 
+-- a thread that did all that it has seen has seen since an earlier moment just the acts that it did since
+abbrev pub SeesItsOwnActs : Type 0
+SeesItsOwnActs = (old new : PassView) (acts : List Act) → Did old new acts
+    → AllByRecursion (λ e. e.thread ≡ new.thread) new.seen → new.seen ≡ old.seen ++ map (by new.thread) acts
+
 -- after a delete of h each look at it is stale
 abbrev pub DeletedIsStale : Config → ℕ → Type 0
 DeletedIsStale c last = (h : Handle) (t u : ℕ) (r : Found) (before between rest : History)

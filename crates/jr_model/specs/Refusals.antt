@@ -6,7 +6,7 @@ use Rattle.jr_word.specs.declared.fault.Fault.{Fault}
 use Rattle.jr_word.specs.declared.fault.Fault.TheVariants.{RowFull, ObjectsFull, Raced, Moved}
 use Rattle.jr_model.specs.declared.event.Act.TheVariants.{Probe, ReserveLost}
 use Rattle.jr_model.specs.Maps.{count_below}
-use Rattle.jr_model.specs.State.{State, IsPresent, IsOccupied, NobodyCloses, is_inside}
+use Rattle.jr_model.specs.State.{State, EachPresent, IsOccupied, NobodyCloses, is_inside}
 use Rattle.jr_model.specs.History.{History, by, state, PassView}
 
 -- at some moment between two histories, of which the first begins the second, the state met P
@@ -31,7 +31,7 @@ RowWasFull begun new = (i : ℕ) → i < new.config.slots → WasOccupied begun 
 
 -- at one moment of the call each object number was present
 abbrev pub ObjectsWereFull : History → PassView → Type 0
-ObjectsWereFull begun new = Sometime (λ s. (o : ℕ) → 1 ≤ o → o ≤ new.config.objects → IsPresent s o) begun new.seen
+ObjectsWereFull begun new = Sometime (EachPresent new.config) begun new.seen
 
 -- the call lost a reservation, for which there was room beside what it had looked at; and so many words were used at an earlier moment of the call
 pub record WasRaced (begun : History) (new : PassView) (looked found : ℕ) : Type 0 where

@@ -29,6 +29,7 @@ ghost use Rattle.jr_model.specs.Laws.{
   FreshAreSound,
   CollectionIsExact,
   LegalGoesByStep,
+  SeesItsOwnActs,
   ReleaseLeaves,
   FramesStaySound,
   FramesStayAgreed,
@@ -38,6 +39,11 @@ ghost use Rattle.jr_model.specs.Laws.{
 /// A history is legal where its events are steps, one after the other, from the opening state.
 pub fn legal_histories_go_by_steps()
     ensures { (c : Config) (last : ℕ) → LegalGoesByStep c last }
+{}
+
+/// Where a thread did all that it has seen, as over plain words, it has seen since an earlier moment just the acts that it did since: nothing else happened in between.
+pub fn lone_threads_see_their_own_acts()
+    ensures { SeesItsOwnActs }
 {}
 
 /// No deleted handle resolves again, and none is given again.

@@ -1,9 +1,10 @@
 -- Plain words: what thread 0 holds there, one operation on them, how they are opened, and the histories that they show.
-use Rattle.std.proofs.Common.{◌≡◌, ℕ, List, sym, ap, ◌∙◌, ◌<◌, [], ◌++◌, map, slice_index, slice_set, refl, subst, ◌^◌, true, arith}
+use Rattle.std.proofs.Common.{◌≡◌, ℕ, List, sym, ap, ◌∙◌, ◌<◌, [], ◌∷◌, ◌++◌, map, slice_index, slice_set, refl, subst, ◌^◌, true, arith}
 use mathlib.Core.Logic.{dite, ∥∥₁_map}
 use native.Mathlib.Decide.{ℕ_discrete}
+use Rattle.std.specs.List.{AllByRecursion}
 use Rattle.jr_model.specs.declared.event.Act.{Act}
-use Rattle.jr_model.specs.History.{state, by, IsLegal}
+use Rattle.jr_model.specs.History.{History, state, by, IsLegal}
 use Rattle.jr_steps.specs.declared.known.Known.{Known}
 use Rattle.jr_steps.specs.declared.known.Holdings.{Holdings}
 use Rattle.jr_steps.specs.Holdings.{empty, hold}
@@ -39,6 +40,12 @@ turn_alone k acts words' g t first r = record {
   image = image_same k.config k.last words' (state (then k.seen k.thread acts)) (hold (alone k.holdings) t g) r.image (alone g) (alone_then k.holdings g t first);
 }
 
+-- who did all has done so with acts of its own more
+did_then : (t : ℕ) (es : History) (acts : List Act) → AllByRecursion (λ e. e.thread ≡ t) es → AllByRecursion (λ e. e.thread ≡ t) (es ++ map (by t) acts)
+did_then t [] [] all = tt
+did_then t [] (a ∷ acts) all = (refl, did_then t [] acts tt)
+did_then t (e ∷ es) acts all = (all.0, did_then t es acts all.1)
+
 -- plain words are a row that is found
 found : {c : Config} {last : ℕ} {words : List ℕ} → IsSized c last → (k : Known) → IsAmong (sight_of_words c last words) k → IsFound k k.seen words (alone k.holdings)
 found sized k h = record {
@@ -68,6 +75,7 @@ module _ {c : Config} {last : ℕ} {words words' : List ℕ} {met : Known → Ty
         is = record {
           is = record {
             legal = made.legal;
+            did_all = did_then k.thread k.seen made.acts h.is.did_all;
             image = t.image;
             space = holdings_in_space k.config k.last after.seen words' (alone made.holdings) made.legal t.image 0 made.holdings (hold_here (λ u. empty) 0 made.holdings);
           };

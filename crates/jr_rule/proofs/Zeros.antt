@@ -67,6 +67,7 @@ module _ (config : Config) (last : ℕ) (words : List ℕ) (none : (j : ℕ) →
   pub depicts_unseen : length words ≡ row_words config → Depicts words (unseen config last)
   depicts_unseen wide = record {
     legal = tt;
+    did_all = tt;
     image = image_same config last words opening (λ t. empty) (opening_image wide) (alone empty) (hold_same (λ t. empty) 0 empty refl);
     space = holdings_in_space config last [] words (λ t. empty) tt (opening_image wide) 0 empty refl;
   }

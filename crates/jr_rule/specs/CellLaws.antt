@@ -39,6 +39,7 @@ seat_sound s = record {
   row = s.below;
   space = λ k h. subst (λ (z : Known). InSpace z.config z.holdings) (sym h.is) s.space;
   locals = λ k k' h h' none. subst HasNoLocals (h.is ∙ sym h'.is) none;
+  lone = λ none k h. absurd cc;
 }
 
 -- plain words have one thing to say of the thread's locals
@@ -66,4 +67,5 @@ words_sound c last words limits limited few = record {
   row = limited.threads.0;
   space = λ k h. h.is.space;
   locals = one_locals c last words;
+  lone = λ none k h. h.is.did_all;
 }

@@ -6,7 +6,7 @@ use Rattle.jr_model.specs.declared.event.Role.{Role}
 use Rattle.jr_model.specs.History.{role_of}
 use Rattle.jr_steps.specs.declared.known.Known.{Known}
 use Rattle.jr_steps.specs.Holdings.{InSpace}
-use Rattle.jr_steps.specs.Knowing.{Facts, Standing, IsOf, Goes, HasNoLocals, view}
+use Rattle.jr_steps.specs.Knowing.{Facts, Standing, IsOf, DidAll, Goes, HasNoLocals, view}
 use Rattle.jr_rule.specs.Rule.{IsSized, Owes}
 
 -- WHAT IS KNOWN OF THE WORDS: how the thread that steps on them stood at first, outside and fresh, in their room (none where no other thread steps on them); and what it may know
@@ -21,12 +21,13 @@ pub record IsAmong (z : Sight) (k : Known) : Type 0 where
   pub last : k.last ≡ z.first.last
   pub thread : k.thread ≡ z.first.thread
 
--- what always holds of the words: their sizes fit, the thread is one of the room's, what it holds lies in the space, and whatever it may know agrees on whether it has a local reference
+-- what always holds of the words: their sizes fit, the thread is one of the room's, what it holds lies in the space, whatever it may know agrees on whether it has a local reference, and where the words are of no room it did all of that itself
 pub record AreSoundWords (z : Sight) : Type 0 where
   pub sized : IsSized z.first.config z.first.last
   pub row : z.first.thread < z.first.config.threads
   pub space : (k : Known) → IsAmong z k → InSpace k.config k.holdings
   pub locals : (k k' : Known) → IsAmong z k → IsAmong z k' → HasNoLocals k → HasNoLocals k'
+  pub lone : z.first.room ≡ None → (k : Known) → IsAmong z k → DidAll k
 
 -- something that may be known meets the condition
 abbrev pub May : Sight → (Known → Type 0) → Type 0

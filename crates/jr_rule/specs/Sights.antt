@@ -8,7 +8,7 @@ use Rattle.jr_model.specs.History.{IsLegal}
 use Rattle.jr_steps.specs.declared.known.Known.{Known}
 use Rattle.jr_steps.specs.declared.known.Holdings.{Holdings}
 use Rattle.jr_steps.specs.Holdings.{InSpace, empty, hold}
-use Rattle.jr_steps.specs.Knowing.{state_of}
+use Rattle.jr_steps.specs.Knowing.{DidAll, state_of}
 use Rattle.jr_rule.specs.Cells.{Sight}
 use Rattle.jr_rule.specs.Image.{IsImage}
 use Rattle.jr_rule.specs.Rule.{Sat, IsAlone, IsSized, acting}
@@ -36,9 +36,10 @@ unseen config last = record { config = config; last = last; thread = 0; seen = [
 abbrev pub alone : Holdings → ℕ → Holdings
 alone g = hold (λ t. empty) 0 g
 
--- PLAIN WORDS show any legal history whose image they are
+-- PLAIN WORDS show any legal history of what their one thread did whose image they are
 pub record Depicts (words : List ℕ) (k : Known) : Type 0 where
   pub legal : IsLegal k.config k.last k.seen
+  pub did_all : DidAll k
   pub image : IsImage k.config k.last words (state_of k) (alone k.holdings)
   pub space : InSpace k.config k.holdings
 

@@ -587,6 +587,8 @@ impl<C: Cells<P>, P: Copy> Steps for StepsOver<C, P> {
 
     ghost fits = { λ s k h. h.1 };
 
+    ghost lone = { λ s k none h. (C.sound s.cells s.place s.at).lone none k (among_of (C.sight s.cells) s.role s.fresh k h) };
+
     ghost some_known = { λ s. some_of (C.sight s.cells) s.role s.fresh s.hint s.stands };
 
     ghost unused = { λ s k f h. s.stands.unused f k (among_of (C.sight s.cells) s.role s.fresh k h) };

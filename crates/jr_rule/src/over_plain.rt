@@ -19,7 +19,7 @@ impl<const LAST: u32> StepsOver<PlainCells<LAST>, ()> {
     ghost use Rattle.jr_rule.specs.Cells.{IsAmong};
     ghost use Rattle.jr_rule.specs.Sights.{sight_of_words, IsOpenedAlone};
 
-    /// The steps of thread 0 over a row of zeros, outside the gate and fresh.
+    /// The steps of thread 0 over a row of zeros, outside the gate and fresh. Where the sizes name more threads, the others never do anything.
     ///
     /// # Errors
     ///

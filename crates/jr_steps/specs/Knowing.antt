@@ -1,5 +1,5 @@
 -- What a caller of the steps knows of them.
-use Rattle.std.specs.Prelude.{◌≡◌, ◌≢◌, ◌↔◌, ◌<◌, ◌+◌, ℕ, Bool, true, false, Result, Ok, Err, Option, Some, None, List, [], ◌∷◌, ◌++◌, ◌==◌, cond, map, length, slice_set}
+use Rattle.std.specs.Prelude.{◌≡◌, ◌≢◌, ◌⊎◌, ◌↔◌, ◌<◌, ◌+◌, ℕ, Bool, true, false, Result, Ok, Err, Option, Some, None, List, [], ◌∷◌, ◌++◌, ◌==◌, cond, map, length, slice_set}
 use Rattle.std.specs.List.{AllByRecursion}
 use Rattle.atomic_table.specs.Seated.{TableId}
 use Rattle.jr_word.specs.declared.config.Config.{Config}
@@ -234,6 +234,18 @@ HasNoLocals k = (p : ℕ) → (state_of k).locals k.thread p ≡ None
 -- the frames are those of the thread's locals
 abbrev pub Holds : Frames → Known → Type 0
 Holds f k = Agree k.thread f (state_of k)
+
+-- the thread itself did all that was seen
+abbrev pub DidAll : Known → Type 0
+DidAll k = AllByRecursion (λ e. e.thread ≡ k.thread) k.seen
+
+-- no other thread ever steps: there is no room, or it has one thread
+abbrev pub IsLone : Standing → Type 0
+IsLone s = (s.room ≡ None) ⊎ (s.config.threads ≡ 1)
+
+-- whatever may be known where there is no room, the thread itself did all of it: a law of the steps
+abbrev pub AreLone : {S : Type 0} → (S → Facts) → Type 0
+AreLone {S = S} facts = (s : S) (k : Known) → (facts s).stands.room ≡ None → (facts s).knows k → DidAll k
 
 -- whatever may be known is of its pass: a law of the steps
 abbrev pub AreOf : {S : Type 0} → (S → Facts) → Type 0

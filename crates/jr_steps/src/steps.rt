@@ -1,5 +1,5 @@
 //! The kinds of atomic step, over any row of words.
-ghost use Rattle.std.specs.Prelude.{◌≡◌, ◌≢◌, ◌⊎◌, ◌<◌, ◌≤◌, ◌+◌, [], ◌∷◌, true, length};
+ghost use Rattle.std.specs.Prelude.{◌≡◌, ◌≢◌, ◌⊎◌, ◌<◌, ◌≤◌, ◌+◌, [], ◌∷◌, true, None, length};
 ghost use Rattle.jr_word.specs.Config.{in_limits};
 ghost use Rattle.jr_word.specs.declared.handle.RefKind.TheVariants.{Local, Weak};
 ghost use Rattle.jr_word.specs.declared.kind.Kind.TheVariants.{Text};
@@ -9,7 +9,7 @@ ghost use Rattle.jr_model.specs.declared.event.GateAct.TheVariants.{Cancel, Reop
 ghost use Rattle.jr_steps.specs.Collecting.{ShowsLocal, ShowsElement, IsThere, CanWipe, CanDrop, ShowsDropped, CanMove, ShowsMoved, placed, CanPlace, ShowsPlaced, CanSettle};
 ghost use Rattle.jr_model.specs.declared.event.Role.TheVariants.{Outside, Within, Knocking, Announcing, Collecting};
 ghost use Rattle.jr_steps.specs.Acts.{act_of_entry, act_of_exit, act_of_bar, act_of_announcement, act_of_gate_load, GateLoadFits, act_of_slot_load, SlotLoadFits, act_of_claim, act_of_free, act_of_put, acts_of_publication, acts_of_top_load, act_of_reservation, found_of, handle_of};
-ghost use Rattle.jr_steps.specs.Knowing.{anything, KnowsHeader, HasWord, IsWordNow, IsFilled, words_for, ShowsHeader, ShowsPublished, ShowsUsed, WasUsed, ShowsRange, ShowsWord, TookWith, HasObject, HasOptional, HasLooked, HasNoLocals, CanReopen, ShowsAnnounced, ShowsBarred, IsFreeSlot, ShowsGate, ShowsSlot, LostClaim, MayKnow, SawPart, Took, Spent, Hinted, keeps, lets_go};
+ghost use Rattle.jr_steps.specs.Knowing.{anything, DidAll, KnowsHeader, HasWord, IsWordNow, IsFilled, words_for, ShowsHeader, ShowsPublished, ShowsUsed, WasUsed, ShowsRange, ShowsWord, TookWith, HasObject, HasOptional, HasLooked, HasNoLocals, CanReopen, ShowsAnnounced, ShowsBarred, IsFreeSlot, ShowsGate, ShowsSlot, LostClaim, MayKnow, SawPart, Took, Spent, Hinted, keeps, lets_go};
 
 use crate::loads::{GateLoad, SlotLoad, TopLoad};
 use jr_model::Role;
@@ -152,7 +152,7 @@ pub trait Steps {
         requires { (facts self.old).stands.role ≡ Within }
         ensures { Took facts self.old self.new (acts_of_top_load (facts self.old).stands.config.words name result) anything (λ j k. ShowsUsed result k × keeps j k) };
 
-    /// Reserves words beside so many as were used at a moment of this stay, where just so many are used still, and then these and no others are used beside them; or tells how many are used now. A look at the top shows such a number.
+    /// Reserves words beside a number of words that was used at a moment of this stay, as a look at the top shows one, where that number is used still: right behind it the two together are. Or tells how many are used.
     fn claim_top(&mut self, looked: u32, more: u32) -> Result<(), u32>
         requires role { (facts self.old).stands.role ≡ Within }
         requires room { looked + more ≤ (facts self.old).stands.config.words }
@@ -258,6 +258,9 @@ pub trait Steps {
 
     /// What is known is legal, and of this thread.
     ghost fits: { (s : Self) (k : Known) → (facts s).knows k → IsOf (facts s).stands k };
+
+    /// Over plain words the thread itself did all that it has seen: nobody else does anything there, whatever steps and calls it makes.
+    ghost lone: { (s : Self) (k : Known) → (facts s).stands.room ≡ None → (facts s).knows k → DidAll k };
 
     ghost some_known: { (s : Self) → MayKnow facts s anything };
 

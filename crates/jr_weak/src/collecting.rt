@@ -3,7 +3,7 @@ ghost use Rattle.std.specs.Prelude.{◌≡◌, ◌≤◌, ◌⊎◌, ℕ, [], �
 ghost use Rattle.jr_word.specs.declared.fault.Fault.TheVariants.{Busy};
 ghost use Rattle.jr_model.specs.declared.event.Role.TheVariants.{Outside};
 ghost use Rattle.jr_model.specs.declared.event.Act.TheVariants.{ShutBusy};
-ghost use Rattle.jr_steps.specs.Knowing.{anything, keeps, CanReopen, MayKnow, Took};
+ghost use Rattle.jr_steps.specs.Knowing.{anything, keeps, CanReopen, IsLone, MayKnow, Took};
 ghost use Rattle.jr_gate.specs.Announcing.{WasNotAnnounced};
 ghost use Rattle.jr_gate.specs.Stays.{IsOwnCollection};
 ghost use Rattle.jr_weak.specs.Markers.{room_of};
@@ -32,7 +32,7 @@ pub struct Collected {
 ///
 /// E14 with how many threads were inside, knocking, announcing or collecting at the step that shuts the gate, at least 1.
 ///
-/// Nothing has changed then, and the marker is as it was. Over one thread it is never refused.
+/// Nothing has changed then, and the marker is as it was. Over one thread, and over plain words, it is never refused.
 ///
 /// # Operations
 ///
@@ -44,7 +44,7 @@ pub fn collect<S: Steps>(steps: &mut S, marker: &mut Marker) -> Result<Collected
     ensures ok { IfOk result (λ c. MakesCollection S.facts steps.old steps.new c.cleared c.dropped c.used) }
     ensures err { IfErr result (λ e. (n : ℕ) × (e ≡ Busy n) × (1 ≤ n) × Took S.facts steps.old steps.new (ShutBusy n ∷ []) anything keeps) }
     ensures kept { OnErr result (marker.new ≡ marker.old) }
-    ensures alone { (S.facts steps.old).stands.config.threads ≡ 1 → IsOk result }
+    ensures alone { IsLone (S.facts steps.old).stands → IsOk result }
 {
     let shut = shut_gate(steps)?;
     Ok(finish(steps, shut, marker))
@@ -56,7 +56,7 @@ pub fn collect<S: Steps>(steps: &mut S, marker: &mut Marker) -> Result<Collected
 ///
 /// E14 with how many threads were inside, knocking, announcing or collecting, at least 1, where another thread kept the gate closed already; E23 with two counts of the open gate, where another thread went in or out between the look at it and the announcement; E14 with how many other threads were inside or knocking at the last try, at least 1.
 ///
-/// Nothing has changed then, the marker is as it was, and the thread stands outside. Over one thread it is never refused.
+/// Nothing has changed then, the marker is as it was, and the thread stands outside. Over one thread, and over plain words, it is never refused.
 ///
 /// # Operations
 ///
@@ -73,7 +73,7 @@ pub fn collect_announced<S: Steps>(
     ensures ok { IfOk result (λ c. MakesAnnouncedCollection S.facts steps.old steps.new tries c.cleared c.dropped c.used) }
     ensures err { IfErr result (λ e. WasNotAnnounced S.facts steps.old steps.new e ⊎ GivesUp S.facts steps.old steps.new tries e) }
     ensures kept { OnErr result (marker.new ≡ marker.old) }
-    ensures alone { (S.facts steps.old).stands.config.threads ≡ 1 → IsOk result }
+    ensures alone { IsLone (S.facts steps.old).stands → IsOk result }
 {
     let announced = announce(steps)?;
     let shut = shut_within(steps, announced, tries)?;

@@ -1,6 +1,6 @@
 //! The tries to shut a gate that was announced to be shut.
 ghost use Rattle.std.specs.Prelude.{◌≡◌, ◌≤◌, IsOk, IfOk, IfErr};
-ghost use Rattle.jr_steps.specs.Knowing.{CanReopen, MayKnow};
+ghost use Rattle.jr_steps.specs.Knowing.{CanReopen, IsLone, MayKnow};
 ghost use Rattle.jr_gate.specs.Stays.{IsOwnAnnouncement, IsOwnCollection};
 ghost use Rattle.jr_weak.specs.Waiting.{CancelsAfter, ShutsAfter};
 
@@ -24,7 +24,7 @@ pub(crate) fn shut_within<S: Steps>(
     ensures ok { IfOk result (λ _. ShutsAfter S.facts steps.old steps.new tries) }
     ensures closed { IfOk result (λ _. MayKnow S.facts steps.new CanReopen) }
     ensures err { IfErr result (λ e. CancelsAfter S.facts steps.old steps.new tries e) }
-    ensures alone { (S.facts steps.old).stands.config.threads ≡ 1 → IsOk result }
+    ensures alone { IsLone (S.facts steps.old).stands → IsOk result }
 {
     let mut announced = announced;
     for _try in 1..tries {

@@ -12,7 +12,7 @@ returns-in_err-looked-clause-err g c =
     handed_err c.from_residual.result c.from_residual.ensures.1 (λ e is. was_closed T.some_known c.see_gate.result e c.in_err-looked.ensures.err.0 (is ∙ c.in_err-looked.ensures.err.1) c.see_gate.ensures)
 
 pub returns-in_err-looked-clause-alone : goal.returns-in_err-looked-clause-alone
-returns-in_err-looked-clause-alone g c one = let T = g.met.S.Steps in absurd (never_closed T.fits T.some_known T.row one c.see_gate.result c.in_err-looked.ensures.err.0 c.see_gate.ensures)
+returns-in_err-looked-clause-alone g c one = let T = g.met.S.Steps in absurd (never_closed T.fits T.lone T.some_known T.row one c.see_gate.result c.in_err-looked.ensures.err.0 c.see_gate.ensures)
 
 pub returns-in_err-found-clause-err : goal.returns-in_err-found-clause-err
 returns-in_err-found-clause-err g c =
@@ -23,7 +23,7 @@ returns-in_err-found-clause-err g c =
 pub returns-in_err-found-clause-alone : goal.returns-in_err-found-clause-alone
 returns-in_err-found-clause-alone g c one =
     let T = g.met.S.Steps in
-    absurd (never_closed_between T.fits T.some_known T.row one c.requires c.see_gate.result c.in-Err.found c.in_ok-looked.looked c.in_ok-looked.ensures.ok c.in_err-found.ensures.err.0 c.see_gate.ensures c.in-Err.ensures)
+    absurd (never_closed_between T.fits T.lone T.some_known T.row one c.requires c.see_gate.result c.in-Err.found c.in_ok-looked.looked c.in_ok-looked.ensures.ok c.in_err-found.ensures.err.0 c.see_gate.ensures c.in-Err.ensures)
 
 pub returns-in-Err-clause-err : goal.returns-in-Err-clause-err
 returns-in-Err-clause-err g c =
@@ -36,7 +36,7 @@ returns-in-Err-clause-err g c =
 pub returns-in-Err-clause-alone : goal.returns-in-Err-clause-alone
 returns-in-Err-clause-alone g c one =
     let T = g.met.S.Steps in
-    absurd (never_moved T.fits T.some_known T.row one c.requires c.see_gate.result c.in-Err.found c.in_ok-looked.looked c.in_ok-found.found c.in_ok-looked.ensures.ok c.in_ok-found.ensures.ok c.see_gate.ensures c.in-Err.ensures)
+    absurd (never_moved T.fits T.lone T.some_known T.row one c.requires c.see_gate.result c.in-Err.found c.in_ok-looked.looked c.in_ok-found.found c.in_ok-looked.ensures.ok c.in_ok-found.ensures.ok c.see_gate.ensures c.in-Err.ensures)
 
 pub returns-clause-ok : goal.returns-clause-ok
 returns-clause-ok g c =

@@ -14,4 +14,4 @@ pub returns-in-Err-clause-err : goal.returns-in-Err-clause-err
 returns-in-Err-clause-err g c = let t = c.in-Err.ensures in (c.in-Err.count, refl, busy_counts (g.met.S.Steps.some_known c.args.steps.now) c.in-Err.count t, t)
 
 pub returns-in-Err-clause-alone : goal.returns-in-Err-clause-alone
-returns-in-Err-clause-alone g c one = let T = g.met.S.Steps in absurd (never_busy (T.fits c.args.steps.now) (T.some_known c.args.steps.now) one c.in-Err.count c.in-Err.ensures)
+returns-in-Err-clause-alone g c one = let T = g.met.S.Steps in absurd (never_busy T.fits T.lone (T.some_known c.args.steps.now) one c.in-Err.count c.in-Err.ensures)

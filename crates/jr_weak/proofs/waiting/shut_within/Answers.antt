@@ -1,6 +1,6 @@
 use Rattle.std.proofs.Common.{◌≡◌, ◌+◌, ◌<◌, ℕ, List, [], ◌∷◌, ◌++◌, length, refl, sym, ap, subst, ◌∙◌, arith}
 use Rattle.std.proofs.lemmas.List.{length-append}
-use Rattle.jr_steps.specs.Knowing.{Standing}
+use Rattle.jr_steps.specs.Knowing.{IsLone}
 use Rattle.jr_weak.specs.Waiting.{CancelsAfter}
 use Rattle.jr_weak.proofs.Tries.{cancels_after, none_refused, refused_more, shuts_after}
 use Rattle.jr_weak.proofs.waiting.shut_within.Goals as goal
@@ -47,4 +47,4 @@ returns-in-Err-shut-clause-err g c =
     (cancels_after c.args.tries refused busy.0 busy.2 (omega arith) c.loop-try.invariant.1.2 busy.3 c.cancel.ensures)
 
 pub returns-in-Err-shut-clause-alone : goal.returns-in-Err-shut-clause-alone
-returns-in-Err-shut-clause-alone g c one = c.in-Err-shut.ensures.alone (ap (λ (s : Standing). s.config.threads) c.loop-try.invariant.1.2.went.stands_is ∙ one)
+returns-in-Err-shut-clause-alone g c lone = c.in-Err-shut.ensures.alone (subst IsLone (sym c.loop-try.invariant.1.2.went.stands_is) lone)

@@ -1,3 +1,5 @@
+use Rattle.std.proofs.Common.{inr, ap, ◌∙◌}
+use Rattle.jr_word.specs.declared.config.Config.{Config}
 use Rattle.jr_env.proofs.AnnouncedCollections.{announces_or, does_announced, no_turn, ready_announced}
 use Rattle.jr_env.proofs.EndedStays.{can_call}
 use Rattle.jr_env.proofs.env.Env.collect_announced.Goals as goal
@@ -21,3 +23,6 @@ pub returns-clause-refused : goal.returns-clause-refused
 returns-clause-refused g c =
     let x = c.collect_announced in
     no_turn g.S.Steps.facts c.outside.new.held.steps x.new.steps c.args.tries x.result (announces_or g.S.Steps.facts c.outside.new.held.steps x.new.steps c.args.tries x.result x.ensures.ok x.ensures.err)
+
+pub returns-clause-alone : goal.returns-clause-alone
+returns-clause-alone g c one = c.collect_announced.ensures.alone (inr (ap (λ (z : Config). z.threads) c.outside.ensures.config ∙ one))

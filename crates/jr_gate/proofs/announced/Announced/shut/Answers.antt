@@ -18,4 +18,4 @@ returns-in-Err-clause-err g c =
     ((c.requires.0 ∙ sym (ap (λ (s : Standing). s.thread) t.stands_is), ap (λ (s : Standing). s.role) t.stands_is ∙ c.requires.1), (c.in-Err.count, refl, busy_counts (g.met.S.Steps.some_known c.args.steps.now) c.in-Err.count t, t))
 
 pub returns-in-Err-clause-alone : goal.returns-in-Err-clause-alone
-returns-in-Err-clause-alone g c one = let T = g.met.S.Steps in absurd (never_busy (T.fits c.args.steps.now) (T.some_known c.args.steps.now) one c.in-Err.count c.in-Err.ensures)
+returns-in-Err-clause-alone g c one = let T = g.met.S.Steps in absurd (never_busy T.fits T.lone (T.some_known c.args.steps.now) one c.in-Err.count c.in-Err.ensures)
