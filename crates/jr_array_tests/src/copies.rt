@@ -340,3 +340,74 @@ fn a_copy_is_apart_from_what_another_thread_writes(rt: HostRuntime) -> Result<()
     let mut other = next_env(&room, &mut passes)?;
     is_apart(&rt, rt.alloc(), &mut holder, &mut other)
 }
+
+/// Units of which no two beside each other are alike, and none comes again within some thousands.
+fn long_units(alloc: Global, count: u32) -> Result<Vec<u16>, Fail> {
+    let mut units = Vec::with_capacity(alloc, count as usize)?;
+    let mut next = 1u16;
+    for _ in 0..count {
+        units.push(next)?;
+        next = next.wrapping_mul(3).wrapping_add(1);
+    }
+    Ok(units)
+}
+
+/// A room with so many words.
+fn with_words(words: u32) -> Config {
+    Config { words, ..TWO }
+}
+
+/// All units of a string of so many are copied.
+fn copies_units<S: Steps>(
+    rt: &impl Abort,
+    alloc: Global,
+    env: &mut Env<S>,
+    count: u32,
+) -> Result<(), Fail> {
+    let units = long_units(alloc, count)?;
+    let string = env.new_string(units.as_slice())?;
+    let copied = env.get_string_chars(alloc, string)?;
+    assert!(rt; copied.as_slice() == units.as_slice());
+    Ok(())
+}
+
+/// All elements of an array of so many are copied.
+fn copies_elements<S: Steps>(
+    rt: &impl Abort,
+    alloc: Global,
+    env: &mut Env<S>,
+    count: u32,
+) -> Result<(), Fail> {
+    let units = long_units(alloc, count)?;
+    let array = env.new_array::<u16>(count)?;
+    env.set_array_region(array, 0, units.as_slice())?;
+    let copied = env.get_array_elements::<u16>(alloc, array)?;
+    are(rt, &copied, units.as_slice());
+    Ok(())
+}
+
+// With ample memory a copy is made, however long it is: of a thousand, and of all words of the room.
+#[test]
+fn long_copies(rt: HostRuntime) -> Result<(), Fail> {
+    let alloc = rt.alloc();
+    let most = Config::MOST_WORDS;
+    for (words, count) in [(4_096, 1_000), (4_096, 4_096), (most, most)] {
+        let mut env = lone_env(alloc, with_words(words))?;
+        copies_units(&rt, alloc, &mut env, count)?;
+        let mut env = lone_env(alloc, with_words(words))?;
+        copies_elements(&rt, alloc, &mut env, count)?;
+    }
+    Ok(())
+}
+
+#[test]
+fn long_copies_in_a_room(rt: HostRuntime) -> Result<(), Fail> {
+    let alloc = rt.alloc();
+    let (room, mut passes) = Room::<LAST>::open(alloc, with_words(5_096))?;
+    let mut env = next_env(&room, &mut passes)?;
+    copies_units(&rt, alloc, &mut env, 1_000)?;
+    copies_elements(&rt, alloc, &mut env, 4_096)?;
+    let (room, mut passes) = Room::<LAST>::open(alloc, with_words(4_096))?;
+    let mut env = next_env(&room, &mut passes)?;
+    copies_units(&rt, alloc, &mut env, 4_096)
+}
