@@ -7,13 +7,30 @@ ghost use Rattle.jrefs.specs.declared.trouble.Trouble.TheVariants.{Memory, Input
 
 use crate::trouble::Trouble;
 use std::alloc::Global;
-use std::io::Read;
+use std::io::{ErrorKind, Read};
 
 /// How many bytes of the input are read at most: one more than a script may have.
 const MOST_INPUT: usize = 65_537;
 
 /// How many bytes are asked for at a time.
 const PIECE: usize = 4_096;
+
+/// Reads into a buffer, and gives how many bytes that took. A read that was interrupted is made again.
+fn read_into<R: Read + Drop>(reader: &mut R, buffer: &mut [u8]) -> Result<usize, Trouble>
+    ensures ok { IfOk result (λ n. (n ≤ length buffer.new) × Consumes (R.remaining reader.old) (R.remaining reader.new) (take n buffer.new)) }
+    ensures end { IfOk result (λ n. n ≡ 0 → 0 < length buffer.new → IsAtEnd (R.remaining reader.new)) }
+    ensures err { IfErr result (λ t. t ≡ Input) }
+    ensures failed { OnErr result (Keeps (R.remaining reader.old) (R.remaining reader.new)) }
+{
+    for _ in 0..u64::MAX {
+        match reader.read(buffer) {
+            Ok(count) => return Ok(count),
+            Err(error) if error.kind() == ErrorKind::Interrupted => {}
+            Err(_) => return Err(Trouble::Input),
+        }
+    }
+    Err(Trouble::Input)
+}
 
 /// Reads once, appends what was read, and gives how many bytes that was: 0 at the end of the input.
 fn read_piece<R: Read + Drop>(reader: &mut R, input: &mut Vec<u8>) -> Result<usize, Trouble>
@@ -29,9 +46,7 @@ fn read_piece<R: Read + Drop>(reader: &mut R, input: &mut Vec<u8>) -> Result<usi
 {
     let mut piece = [0u8; PIECE];
     let room = (MOST_INPUT - input.len()).min(PIECE);
-    let Ok(count) = reader.read(&mut piece[..room]) else {
-        return Err(Trouble::Input);
-    };
+    let count = read_into(reader, &mut piece[..room])?;
     if input.extend_from_slice(&piece[..count]).is_err() {
         return Err(Trouble::Memory);
     }

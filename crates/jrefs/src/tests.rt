@@ -442,6 +442,53 @@ fn each_write_may_fail(rt: HostRuntime) -> Result<(), Fail> {
     Ok(())
 }
 
+// An interrupted read is made again: each of the 11 that give the script, and the one that finds its end.
+#[test]
+fn each_read_may_be_interrupted(rt: HostRuntime) -> Result<(), Fail> {
+    for at in 1..=12 {
+        let source = Source::new(FIRST, 9, at).interrupted();
+        reads(&rt, rt.alloc(), &["run"], source, answered(FIRST_PRINTS))?;
+    }
+    let source = Source::new(FIRST, 9, 12).interrupted();
+    let line = answered(b"ok threads 1 commands 5\n");
+    reads(&rt, rt.alloc(), &["check"], source, line)?;
+    Ok(())
+}
+
+// And so is each of the 6 writes that take the output. The flush behind them is no write: an interrupted one is a fault.
+#[test]
+fn each_write_may_be_interrupted(rt: HostRuntime) -> Result<(), Fail> {
+    for at in 1..=7 {
+        let mut output = sink(rt.alloc(), 10, at)?.interrupted();
+        let mut faults = sink(rt.alloc(), ALL, NEVER)?;
+        let source = Source::new(FIRST, ALL, NEVER);
+        let status = run(&rt, rt.alloc(), &["run"], source, &mut output, &mut faults)?;
+        assert_eq!(rt; output.taken(), FIRST_PRINTS);
+        if at <= 6 {
+            assert_eq!(rt; faults.taken(), b"".as_slice());
+            assert_eq!(rt; status, 0);
+        } else {
+            assert_eq!(rt; faults.taken(), b"output fault\n".as_slice());
+            assert_eq!(rt; status, 4);
+        }
+    }
+    Ok(())
+}
+
+// A fault is told whole, whichever of its writes is interrupted.
+#[test]
+fn each_write_of_a_fault_may_be_interrupted(rt: HostRuntime) -> Result<(), Fail> {
+    for at in 1..=USAGE.len() {
+        let mut output = sink(rt.alloc(), ALL, NEVER)?;
+        let mut faults = sink(rt.alloc(), 1, at)?.interrupted();
+        let source = Source::new(FIRST, ALL, NEVER);
+        let status = run(&rt, rt.alloc(), &["walk"], source, &mut output, &mut faults)?;
+        assert_eq!(rt; faults.taken(), USAGE);
+        assert_eq!(rt; status, 2);
+    }
+    Ok(())
+}
+
 // A fault that can't be told has its status all the same.
 #[test]
 fn each_write_of_a_fault_may_fail(rt: HostRuntime) -> Result<(), Fail> {

@@ -1,4 +1,4 @@
-//! Readers and writers over memory that fail at one call.
+//! Readers and writers over memory that fail, or are interrupted, at one call.
 
 use std::alloc::{AllocError, Global};
 use std::io;
@@ -7,23 +7,28 @@ use std::io::{ErrorKind, Read, Write};
 /// The call of a device that never fails.
 pub const NEVER: usize = 0;
 
-/// Which calls of a device fail.
+/// Which call of a device fails, and how.
 #[derive(Clone, Copy)]
 struct Calls {
     made: usize,
     failing: usize,
+    error: ErrorKind,
 }
 
 impl Calls {
     fn failing_at(failing: usize) -> Self {
-        Calls { made: 0, failing }
+        Calls {
+            made: 0,
+            failing,
+            error: ErrorKind::Other,
+        }
     }
 
     /// Counts a call, and fails if it is the one that is to fail.
     fn make(&mut self) -> io::Result<()> {
         self.made = self.made.saturating_add(1);
         if self.made == self.failing {
-            return Err(ErrorKind::Other.into());
+            return Err(self.error.into());
         }
         Ok(())
     }
@@ -45,6 +50,12 @@ impl<'a> Source<'a> {
             most,
             calls: Calls::failing_at(failing),
         }
+    }
+
+    /// The same, whose call that would fail is interrupted.
+    pub(crate) fn interrupted(mut self) -> Self {
+        self.calls.error = ErrorKind::Interrupted;
+        self
     }
 }
 
@@ -77,6 +88,12 @@ impl Sink {
             most,
             calls: Calls::failing_at(failing),
         })
+    }
+
+    /// The same, whose call that would fail is interrupted.
+    pub(crate) fn interrupted(mut self) -> Self {
+        self.calls.error = ErrorKind::Interrupted;
+        self
     }
 
     /// What it took.
