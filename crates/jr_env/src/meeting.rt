@@ -1,11 +1,11 @@
-//! The meeting of an env with another pass of its room.
+//! The meeting of an env with another pass of its room, or with another env.
 ghost use Rattle.std.specs.Prelude.{◌≡◌, [], ◌∷◌};
 ghost use Rattle.jr_model.specs.declared.event.Act.TheVariants.{Meet};
 ghost use Rattle.jr_model.specs.History.{HasMet};
 ghost use Rattle.jr_steps.specs.Knowing.{view, anything, Took, keeps};
 ghost use Rattle.jr_rule.specs.Passes.{facts_of, known_of, IsSame};
 ghost use Rattle.jr_rule.specs.Rule.{acting};
-ghost use Rattle.jr_rule.specs.Rooms.{IsOfRoom, holder_over};
+ghost use Rattle.jr_rule.specs.Rooms.{AreAsBefore, AreInOneRoom, IsOfRoom, holder_over};
 
 use crate::env::Env;
 use jr_rule::{Pass, RoomSteps};
@@ -26,5 +26,23 @@ impl<const LAST: u32> Env<RoomSteps<'_, LAST>> {
     {
         let held = &mut self.held;
         held.steps.meet(pass)
+    }
+
+    /// Learns all that the thread of another env of the room has seen. That env stays as it was, and so do the local references of both. An env in a room alone has this call.
+    ///
+    /// # Operations
+    ///
+    /// One, a load of the gate. The other's pass leaves its seat for it, the passes join, and they part again, each by a load of the gate that no clause counts.
+    pub fn meet_env(&mut self, other: &mut Env<RoomSteps<'_, LAST>>)
+        requires { AreInOneRoom self.old.held.steps other.old.held.steps }
+        ensures room { self.new.held.steps.place ≡ self.old.held.steps.place }
+        ensures step { Took facts_of (holder_over self.old.held.steps) (holder_over self.new.held.steps) (Meet ∷ []) anything keeps }
+        ensures met { HasMet (view (acting other.old.held.steps.cells.seat.me)) (view (acting self.new.held.steps.cells.seat.me)) }
+        ensures other { AreAsBefore other.old.held.steps other.new.held.steps × (other.new.held.frames ≡ other.old.held.frames) × (other.new.numbers ≡ other.old.numbers) }
+        ensures frames { self.new.held.frames ≡ self.old.held.frames }
+    {
+        let held = &mut self.held;
+        let theirs = &mut other.held;
+        held.steps.meet_steps(&mut theirs.steps);
     }
 }

@@ -1,6 +1,7 @@
 //! Words that are no reference of the thread, through the calls that take them, over plain words and over a room.
 
-ghost use Rattle.std.specs.Prelude.{IfOk};
+ghost use Rattle.std.specs.Prelude.{◌≡◌, IfOk};
+ghost use Rattle.jr_model.specs.declared.event.Role.TheVariants.{Outside};
 ghost use Rattle.jr_rule.specs.Passes.{IsAt, IsOpened};
 
 use crate::envs::{has_type, is_refused, made, opened_env, plain_env};
@@ -300,6 +301,41 @@ fn who_meets_another_finds_its_reference(rt: HostRuntime) -> Result<(), Fail> {
     assert_eq!(rt; steps.thread(), 1);
     assert!(rt; !steps.fresh());
     Ok(())
+}
+
+/// A global reference that the thread of an env makes.
+fn shared_in<S: Steps>(env: &mut Env<S>) -> Result<Handle, Fail>
+    requires { (S.facts env.old.held.steps).stands.role ≡ Outside }
+    ensures { IfOk result (λ h. (S.facts env.new.held.steps).stands.room ≡ (S.facts env.old.held.steps).stands.room) }
+{
+    let object = env.new_plain()?;
+    made(env.new_global_ref(object))
+}
+
+/// Both threads find what the reference names, each by a local reference of its own.
+fn finds<S: Steps, U: Steps>(
+    rt: &impl Abort,
+    first: &mut Env<S>,
+    second: &mut Env<U>,
+    shared: Handle,
+) -> Result<(), Fail> {
+    let own = made(first.new_local_ref(shared))?;
+    assert_eq!(rt; own, OWN);
+    assert!(rt; first.is_same_object(own, shared)?);
+    assert!(rt; second.is_same_object(FOREIGN, shared)?);
+    Ok(())
+}
+
+/// Two envs in one thread: once the first has met the second, it finds a reference that this one made, by its handle. The second is as it was: its local reference stands, and its next global one follows.
+#[test]
+fn who_meets_another_env_finds_its_reference(rt: HostRuntime) -> Result<(), Fail> {
+    let (room, first, second) = opened(rt.alloc())?;
+    let mut first = opened_env(RoomSteps::new(&room, first));
+    let mut second = opened_env(RoomSteps::new(&room, second));
+    let shared = shared_in(&mut second)?;
+    first.meet_env(&mut second);
+    finds(&rt, &mut first, &mut second, shared)?;
+    is_next(&rt, &mut second, FOREIGN, Handle(6))
 }
 
 /// Makes a global reference, which has the word.

@@ -14,6 +14,7 @@ use Rattle.jr_rule.specs.declared.cells.Cells.{Ghosts}
 use Rattle.jr_rule.specs.declared.over.StepsOver.{StepsOver}
 use Rattle.jr_rule.specs.declared.row.RoomCells.{RoomCells}
 use Rattle.jr_rule.specs.Passes.{Holder, facts_of, holder_of, known_of, IsAt, AreOpened}
+use Rattle.jr_rule.specs.Rule.{acting}
 
 -- THE PASS IS ONE OF THE ROOM'S OWN
 abbrev pub IsOfRoom : {LAST : ℕ} → Room LAST → Pass → Type 0
@@ -22,6 +23,20 @@ IsOfRoom r p = IsAt r.row p
 -- the steps of a pass are made of what it is made of
 abbrev pub holder_over : {P : Type 0} {G : Ghosts RoomCells P} → StepsOver RoomCells P G → Holder
 holder_over s = record { seat = s.cells.seat; thread = s.cells.thread; role = s.role; fresh = s.fresh; hint = s.hint }
+
+-- BOTH STEP IN ONE ROOM, by their standing
+abbrev pub AreInOneRoom : {P Q : Type 0} {G : Ghosts RoomCells P} {H : Ghosts RoomCells Q} → StepsOver RoomCells P G → StepsOver RoomCells Q H → Type 0
+AreInOneRoom s t = (facts_of (holder_over s)).stands.room ≡ (facts_of (holder_over t)).stands.room
+
+-- THE STEPS ARE AS THEY WERE: in the same room, of the same thread, which stands as it did, knows what it knew, and begins its next search where it would have
+pub record AreAsBefore {P : Type 0} {G : Ghosts RoomCells P} (old new : StepsOver RoomCells P G) : Type 0 where
+  pub place : new.place ≡ old.place
+  pub room : new.cells.seat.table_id ≡ old.cells.seat.table_id
+  pub knows : acting new.cells.seat.me ≡ acting old.cells.seat.me
+  pub thread : new.cells.thread ≡ old.cells.thread
+  pub role : new.role ≡ old.role
+  pub fresh : new.fresh ≡ old.fresh
+  pub hint : new.hint ≡ old.hint
 
 -- a room as it was opened, with its passes
 abbrev pub IsOpening : (LAST : ℕ) → Config → Room LAST → List Pass → Type 0

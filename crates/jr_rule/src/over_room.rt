@@ -14,7 +14,7 @@ impl<'a, const LAST: u32> StepsOver<RoomCells, &'a Room<LAST>> {
     ghost use Rattle.jr_steps.specs.Knowing.{view, anything, Goes, Took, keeps};
     ghost use Rattle.jr_rule.specs.Passes.{facts_of, holder_of, known_of, IsSame};
     ghost use Rattle.jr_rule.specs.Rule.{acting};
-    ghost use Rattle.jr_rule.specs.Rooms.{IsOfRoom, holder_over};
+    ghost use Rattle.jr_rule.specs.Rooms.{AreAsBefore, AreInOneRoom, IsOfRoom, holder_over};
 
     /// The steps of a pass in its own room. That the pass is one of the room's is a condition: it has no bytes that name its room.
     pub fn new(room: &'a Room<LAST>, pass: Pass) -> Self
@@ -95,5 +95,20 @@ impl<'a, const LAST: u32> StepsOver<RoomCells, &'a Room<LAST>> {
             fresh,
             hint,
         }
+    }
+
+    /// Learns all that the thread of other steps in the room has seen. These stay as they were.
+    ///
+    /// # Operations
+    ///
+    /// One, a load of the gate. The other's pass leaves its seat for it, the passes join, and they part again, each by a load of the gate that no clause counts.
+    pub fn meet_steps(&mut self, other: &mut RoomSteps<'_, LAST>)
+        requires { AreInOneRoom self.old other.old }
+        ensures room { self.new.place ≡ self.old.place }
+        ensures step { Took facts_of (holder_over self.old) (holder_over self.new) (Meet ∷ []) anything keeps }
+        ensures met { HasMet (view (acting other.old.cells.seat.me)) (view (acting self.new.cells.seat.me)) }
+        ensures other { AreAsBefore other.old other.new }
+    {
+        self.cells.meet_cells(self.place, &mut other.cells);
     }
 }

@@ -236,6 +236,22 @@ impl RoomCells {
         shared.load::<Meeting>(&mut self.seat, GATE);
         shared.split_seat::<Part>(&mut self.seat)
     }
+
+    /// The same with the seat of other cells of the room, which have it again then. What leaves them meanwhile is their pass, and the seat that it left is spent.
+    pub(crate) fn meet_cells<const LAST: u32>(&mut self, room: &Room<LAST>, other: &mut RoomCells)
+        requires there { IsSeatOf room.now.row.table.shared.table_id room.now.row.config room.now.row.last self.old.seat.table_id self.old.seat.me self.old.thread }
+        requires row { other.old.seat.table_id ≡ self.old.seat.table_id }
+        requires alone { IsAlone other.old.seat.me }
+        ensures there { IsSeatOf room.now.row.table.shared.table_id room.now.row.config room.now.row.last self.new.seat.table_id self.new.seat.me self.new.thread }
+        ensures same { (self.new.thread ≡ self.old.thread) × (self.new.seat.table_id ≡ self.old.seat.table_id) }
+        ensures looked { LooksWith self.old.seat.me self.new.seat.me }
+        ensures met { HasMet (view (acting other.old.seat.me)) (view (acting self.new.seat.me)) }
+        ensures other { (other.new.thread ≡ other.old.thread) × (other.new.seat.table_id ≡ other.old.seat.table_id) × (other.new.seat.me ≡ other.old.seat.me) }
+    {
+        let shared = &room.row.table.shared;
+        let pass = shared.split_seat::<Deal>(&mut other.seat);
+        other.seat = self.meet(room, pass);
+    }
 }
 
 impl<'a, const LAST: u32> Cells<&'a Room<LAST>> for RoomCells {

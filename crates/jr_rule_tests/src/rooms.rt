@@ -190,6 +190,24 @@ fn passes_that_meet_stay_as_they_are(rt: HostRuntime) -> Result<(), Fail> {
     Ok(())
 }
 
+/// Steps that others meet go on with their thread, role and freshness.
+#[test]
+fn steps_that_meet_stay_as_they_are(rt: HostRuntime) -> Result<(), Fail> {
+    let (room, first, second, third) = opened(rt.alloc())?;
+    let mut first = RoomSteps::new(&room, first);
+    let mut second = RoomSteps::new(&room, second);
+    assert!(rt; first.go_in());
+    second.meet_steps(&mut first);
+    assert_eq!(rt; standing(&first), (0, Role::Within, true));
+    assert_eq!(rt; standing(&second), (1, Role::Outside, true));
+    first.meet_steps(&mut second);
+    assert_eq!(rt; standing(&second), (1, Role::Outside, true));
+    first.go_out();
+    let (_first, _second) = (first.into_pass(), second.into_pass());
+    assert_eq!(rt; room.close(third).ok(), Some(NOTHING));
+    Ok(())
+}
+
 /// The pass, whose thread came in.
 pub(crate) fn come_in(room: &Room<2>, pass: Pass) -> Result<Pass, Fail>
     requires { IsAt room.now.row pass }
