@@ -40,7 +40,7 @@ pub enum Fault {
     /// Ask for the length, which an object keeps while it is present.
     #[error("E7")]
     Range,
-    /// No slot was free when the search came to it.
+    /// Each slot was occupied when the search came to it, or a moment later.
     ///
     /// Delete global or weak references that are not needed, and make the call again. Slots that gave their last handle never come back: a room that lasts needs more of them.
     #[error("E8")]
