@@ -52,6 +52,8 @@ pub(crate) fn act<'a, T: Threads + Wait, R: Read + Drop, W: Write + Drop, F: Wri
     // A word is described, or widened, without reading.
     ensures unread { (w : ℕ) → asked_for (map (λ w. w.now) words.entry.now) ≡ Some (Word w) → R.remaining reader.new ≡ R.remaining reader.old }
     ensures unread_narrow { (w : ℕ) → asked_for (map (λ w. w.now) words.entry.now) ≡ Some (Widen w) → R.remaining reader.new ≡ R.remaining reader.old }
+    // Nor is anything read where the words ask for nothing.
+    ensures unasked { AskNothing (map (λ w. w.now) words.entry.now) → R.remaining reader.new ≡ R.remaining reader.old }
 {
     match carried_out(rt, alloc, words, reader, writer) {
         Ok(()) => 0,
@@ -74,6 +76,7 @@ fn carried_out<'a, T: Threads + Wait, R: Read + Drop, W: Write + Drop>(
     ensures reads { ReadsAtMost 65537 (R.remaining reader.old) (R.remaining reader.new) }
     ensures unread { (w : ℕ) → asked_for (map (λ w. w.now) words.entry.now) ≡ Some (Word w) → R.remaining reader.new ≡ R.remaining reader.old }
     ensures unread_narrow { (w : ℕ) → asked_for (map (λ w. w.now) words.entry.now) ≡ Some (Widen w) → R.remaining reader.new ≡ R.remaining reader.old }
+    ensures unasked { AskNothing (map (λ w. w.now) words.entry.now) → R.remaining reader.new ≡ R.remaining reader.old }
 {
     let output = output_of(rt, alloc, words, reader)?;
     write_out(writer, &output)
@@ -93,6 +96,7 @@ fn output_of<'a, T: Threads + Wait, R: Read + Drop>(
     ensures reads { ReadsAtMost 65537 (R.remaining reader.old) (R.remaining reader.new) }
     ensures unread { (w : ℕ) → asked_for (map (λ w. w.now) words.entry.now) ≡ Some (Word w) → R.remaining reader.new ≡ R.remaining reader.old }
     ensures unread_narrow { (w : ℕ) → asked_for (map (λ w. w.now) words.entry.now) ≡ Some (Widen w) → R.remaining reader.new ≡ R.remaining reader.old }
+    ensures unasked { AskNothing (map (λ w. w.now) words.entry.now) → R.remaining reader.new ≡ R.remaining reader.old }
 {
     let request = request_of(alloc, words)?;
     reply_to(rt, alloc, request, reader)
