@@ -33,3 +33,4 @@ pub mod JobLists
 pub mod Lines
 pub mod ReadScripts
 pub mod LoneRun
+pub mod GivenUpLevels
