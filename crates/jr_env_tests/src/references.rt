@@ -335,7 +335,7 @@ fn who_meets_another_env_finds_its_reference(rt: HostRuntime) -> Result<(), Fail
     let shared = shared_in(&mut second)?;
     first.meet_env(&mut second);
     finds(&rt, &mut first, &mut second, shared)?;
-    is_next(&rt, &mut second, FOREIGN, Handle(6))
+    is_next(&rt, &mut second, FOREIGN, Handle(0x4_0000_0002))
 }
 
 /// Makes a global reference, which has the word.
