@@ -1,7 +1,19 @@
-use Rattle.std.proofs.Common.{◌≡◌, arith}
-use Rattle.jr_compact.proofs.Counting.{saw_any}
+use Rattle.std.proofs.Common.{◌≡◌, Option, refl, sym, subst, arith}
+use Rattle.jr_steps.specs.declared.known.Move.{Move}
+use Rattle.jr_steps.specs.Holdings.{HasDone}
+use Rattle.jr_compact.proofs.Counting.{saw_any, within_none}
 use Rattle.jr_compact.proofs.Slides.{next_there, later_there, slid_looked, next_movable, slid_more, placeable, slid_all}
 use Rattle.jr_heap_tests.proofs.compact.slide_and_look.Goals as goal
+
+pub loop-index-init : goal.loop-index-init
+loop-index-init g c = (
+  0,
+  record {
+    stands_is = refl;
+    hint_is = refl;
+    did = λ k s can. (k, s, within_none k (g.met.S.Steps.fits c.args.steps.now k s).legal, record { done = subst (λ (m : Option Move). HasDone m c.args.object c.args.place 0) (sym can.settled) refl; others = refl });
+  },
+)
 
 pub scan_element-word-requires-clause-there : goal.scan_element-word-requires-clause-there
 scan_element-word-requires-clause-there g c = next_there g.met.S.Steps.fits c.args.object c.args.header c.args.place c.loop-index.invariant.1 c.loop-index-test.true c.requires.can
