@@ -15,3 +15,5 @@ mod refused;
 mod strings;
 #[cfg(test)]
 mod threads;
+#[cfg(test)]
+mod undisturbed;
