@@ -5,6 +5,6 @@ pub mod Rooms
 pub mod Cells
 pub mod CellLaws
 pub mod Sights
+pub mod Over
 pub mod Slots
 pub mod Shown
-pub mod Over

@@ -1,4 +1,4 @@
--- For the crate's own functions: what steps over words are and know, what a look at the gate makes of it, and what they read of a part of an object.
+-- What steps over words are and know; and, for the crate's own functions, what a look at the gate makes of it, and what they read of a part of an object.
 use Rattle.std.specs.Prelude.{◌≡◌, ℕ, List, [], ◌∷◌, take}
 use Rattle.jr_word.specs.declared.gate.GateParts.{GateParts}
 use Rattle.jr_word.specs.declared.header.HeaderParts.{HeaderParts}
@@ -12,6 +12,7 @@ use Rattle.jr_rule.specs.declared.cells.Cells.{Ghosts}
 use Rattle.jr_rule.specs.declared.over.StepsOver.{StepsOver}
 use Rattle.jr_rule.specs.Cells.{Sight, IsAmong, facts_at}
 
+-- WHAT STEPS OVER WORDS ARE, and what may be known of them
 abbrev pub facts_over : {C P : Type 0} {G : Ghosts C P} → StepsOver C P G → Facts
 facts_over {G = G} s = facts_at (G.sight s.cells) s.role s.fresh s.hint
 

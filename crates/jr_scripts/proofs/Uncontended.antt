@@ -1,5 +1,5 @@
 -- The acts and refusals of the calls of references are uncontended, but for the gate: no lost reservation, and no refusal that another thread causes.
-use Rattle.std.proofs.Common.{◌≡◌, ◌⊎◌, ◌++◌, ◌==◌, ◌&&◌, ◌∙◌, ◌<◌, ◌≤◌, inl, inr, ℕ, zero, suc, Bool, true, false, cond, nat_lt, nat_le, length, replicate, Option, Some, None, List, [], ◌∷◌, map, Result, Ok, Err, refl, sym, ap, subst, arith, not}
+use Rattle.std.proofs.Common.{◌+◌, ◌≡◌, ◌⊎◌, ◌++◌, ◌==◌, ◌&&◌, ◌∙◌, ◌<◌, ◌≤◌, inl, inr, ℕ, zero, suc, Bool, true, false, cond, nat_lt, nat_le, length, replicate, Option, Some, None, List, [], ◌∷◌, map, Result, Ok, Err, refl, sym, ap, subst, arith, not}
 use Rattle.std.proofs.lemmas.Bool.{eqb-true, leb-true}
 use Rattle.std.proofs.lemmas.List.{length-replicate}
 use Rattle.std.proofs.lemmas.Bool.Decides.{nat_tests}
