@@ -27,10 +27,10 @@ claim_header-requires-clause-filled g c = ∥∥₁_map (some_of _ _ _ _ c.go_in
 pub claim-requires-clause-looked : goal.claim-requires-clause-looked
 claim-requires-clause-looked g c =
     let within : c.claim_header.new.self.role ≡ Within = search rules in
-    may_then c.see_slot.ensures (λ k s m. tt) (may_then c.claim_header.ensures (λ k s m. filled_none plain k refl) (some_of _ _ _ _ c.go_in.new.self.stands) (λ k k' s m d shown. shown_published 1 plain c.claim_header.result k k' shown))
+    may_then c.see_slot.ensures.step (λ k s m. tt) (may_then c.claim_header.ensures (λ k s m. filled_none plain k refl) (some_of _ _ _ _ c.go_in.new.self.stands) (λ k k' s m d shown. shown_published 1 plain c.claim_header.result k k' shown))
     (λ k k' s m d shown. (present_stays k k' _ 1 (goes_did d) (s.1.role ∙ within) (λ e. cc, tt) m, (subst (λ p. ShowsSlot 0 p k') (c.in-Free-eq0.is ∙ ap Free c.in-Free-eq0.serial-test) shown.0)))
 
 pub free-requires-clause-looked : goal.free-requires-clause-looked
 free-requires-clause-looked g c =
     let stands : c.see_slot-2.result ≡ slot.Global 0 1 = search rules in
-    may_then c.see_slot-2.ensures (λ k s m. tt) (some_of _ _ _ _ c.claim.new.self.stands) (λ k k' s m d shown. looked_now (handle_of Global 0 0) _ (subst (λ p. Goes k (act_of_slot_load 0 (Look (handle_of Global 0 0)) p ∷ []) k') stands d))
+    may_then c.see_slot-2.ensures.step (λ k s m. tt) (some_of _ _ _ _ c.claim.new.self.stands) (λ k k' s m d shown. looked_now (handle_of Global 0 0) _ (subst (λ p. Goes k (act_of_slot_load 0 (Look (handle_of Global 0 0)) p ∷ []) k') stands d))
