@@ -24,6 +24,15 @@ impl Calls {
         }
     }
 
+    /// The same calls, of which the one that would fail is interrupted.
+    fn interrupted(self) -> Self {
+        Calls {
+            made: self.made,
+            failing: self.failing,
+            error: ErrorKind::Interrupted,
+        }
+    }
+
     /// Counts a call, and fails if it is the one that is to fail.
     fn make(&mut self) -> io::Result<()> {
         self.made = self.made.saturating_add(1);
@@ -53,9 +62,10 @@ impl<'a> Source<'a> {
     }
 
     /// The same, whose call that would fail is interrupted.
-    pub(crate) fn interrupted(mut self) -> Self {
-        self.calls.error = ErrorKind::Interrupted;
-        self
+    pub(crate) fn interrupted(self) -> Self {
+        let Source { rest, most, calls } = self;
+        let calls = calls.interrupted();
+        Source { rest, most, calls }
     }
 }
 
@@ -91,9 +101,10 @@ impl Sink {
     }
 
     /// The same, whose call that would fail is interrupted.
-    pub(crate) fn interrupted(mut self) -> Self {
-        self.calls.error = ErrorKind::Interrupted;
-        self
+    pub(crate) fn interrupted(self) -> Self {
+        let Sink { taken, most, calls } = self;
+        let calls = calls.interrupted();
+        Sink { taken, most, calls }
     }
 
     /// What it took.
