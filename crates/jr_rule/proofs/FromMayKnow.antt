@@ -1,5 +1,5 @@
 -- What has to be known for a step, without a choice.
-use Rattle.std.proofs.Common.{◌≡◌, ◌+◌, ◌<◌, ◌≤◌, ◌^◌, ℕ, Option, Some, sym, subst, arith}
+use Rattle.std.proofs.Common.{◌≡◌, ◌+◌, ◌<◌, ◌≤◌, ◌^◌, ℕ, Option, Some, [], ◌∷◌, sym, ap, subst, ◌∙◌, arith}
 use Rattle.std.proofs.Math.Logic.{∥∥₁_elim}
 use Rattle.std.proofs.Props.{props}
 use Rattle.jr_word.specs.declared.config.Config.{Config}
@@ -8,9 +8,13 @@ use Rattle.jr_word.specs.declared.header.HeaderParts.{HeaderParts}
 use Rattle.jr_model.specs.State.{Handle}
 use Rattle.jr_model.proofs.Lengths.{lengths_fit}
 use Rattle.jr_steps.specs.Collecting.{CanMove, IsThere, CanWipe, CanDrop, CanPlace}
+use Rattle.jr_model.specs.declared.event.Act.TheVariants.{Read}
+use Rattle.jr_steps.specs.declared.known.Holdings.{Holdings}
 use Rattle.jr_steps.specs.declared.known.Known.{Known}
 use Rattle.jr_steps.specs.Acts.{found_of}
-use Rattle.jr_steps.specs.Knowing.{Facts, AreOf, MayKnow, HasObject, HasOptional, HasLooked, KnowsHeader, HasWord}
+use Rattle.jr_steps.specs.Holdings.{header_in}
+use Rattle.jr_steps.specs.Knowing.{Facts, AreOf, MayKnow, HasObject, HasOptional, HasLooked, KnowsHeader, HasWord, Took, keeps}
+use Rattle.jr_steps.proofs.StepFacts.{may_then}
 use Rattle.jr_rule.specs.Slots.{CanStand}
 use Rattle.jr_model.proofs.InRoom.{in_room}
 use Rattle.jr_rule.proofs.Looked.{looked_at}
@@ -20,6 +24,10 @@ use mathlib.Core.Logic.{∥∥₁_map}
 use Rattle.jr_model.specs.declared.event.Role.{Role}
 use Rattle.jr_rule.specs.Cells.{Sight, AreSoundWords, May, InRole}
 use Rattle.jr_rule.proofs.CollectOwed.{done_is, element_is, free_is}
+
+-- a header that was known is known still behind a read of its object
+pub still_known : {S : Type 0} {facts : S → Facts} {a b : S} {o at v : ℕ} {h : HeaderParts} → Took facts a b (Read o at v ∷ []) (KnowsHeader o h) keeps → MayKnow facts a (KnowsHeader o h) → MayKnow facts b (KnowsHeader o h)
+still_known {o = o} t known = may_then t (λ k s m. m) known (λ k k' s m d x. ap (λ (y : Holdings). header_in o y.headers) x ∙ m)
 
 -- WHOEVER STEPS, over a room or plain words, may only know what legal histories of its room show
 module _ {S : Type 0} (facts : S → Facts) (fits : AreOf facts) (s : S) where

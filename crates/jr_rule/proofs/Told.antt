@@ -20,7 +20,7 @@ use Rattle.jr_steps.specs.declared.known.Known.{Known}
 use Rattle.jr_steps.specs.declared.loads.GateLoad.{GateLoad}
 use Rattle.jr_steps.specs.declared.loads.GateLoad.TheVariants as gate
 use Rattle.jr_steps.specs.declared.loads.SlotLoad.{SlotLoad}
-use Rattle.jr_steps.specs.Acts.{act_of_entry, act_of_exit, act_of_announcement, all_counted, others_counted, is_closed, act_of_gate_load, act_of_slot_load, act_of_claim, act_of_free, act_of_put, acts_of_publication, acts_of_top_load, act_of_reservation, handle_of, found_of}
+use Rattle.jr_steps.specs.Acts.{act_of_entry, act_of_exit, act_of_announcement, others_counted, is_closed, act_of_gate_load, act_of_slot_load, act_of_claim, act_of_free, act_of_put, acts_of_publication, acts_of_top_load, act_of_reservation, handle_of, found_of}
 use Rattle.jr_steps.specs.Holdings.{header_in, with_header}
 use Rattle.jr_steps.specs.Knowing.{view, keeps, lets_go, words_for, without_range_of, ShowsHeader, ShowsUsed, ShowsRange, ShowsWord, HasObject, IsFreeSlot, ShowsGate, ShowsAnnounced, ShowsSlot, LostClaim, fresh_from, ShowsPublished, anything, CanReopen, Goes, HasOptional, HasLooked, IsFilled, WasUsed, IsOf, Standing}
 use Rattle.jr_word.specs.declared.handle.RefKind.TheVariants.{Weak}

@@ -100,10 +100,16 @@ impl<C: Cells<P>, P: Copy> StepsOver<C, P> {
         ensures there { there ≡ self.new.place }
         ensures step { ReadsTo object header start E.element_of index (index + 4) self.old self.new elements.old elements.new }
     {
-        self.see_into(there, object, header, start, at, elements, index);
-        self.see_into(there, object, header, start, at + 1, elements, index + 1);
-        self.see_into(there, object, header, start, at + 2, elements, index + 2);
-        self.see_into(there, object, header, start, at + 3, elements, index + 3);
+        // (all four before the first is stored, so that over plain words one load of two words may do for two)
+        let part = start + index as u32;
+        let first = self.see_element_at(there, object, header, part, at);
+        let second = self.see_element_at(there, object, header, part + 1, at + 1);
+        let third = self.see_element_at(there, object, header, part + 2, at + 2);
+        let fourth = self.see_element_at(there, object, header, part + 3, at + 3);
+        elements[index] = E::of_word(first);
+        elements[index + 1] = E::of_word(second);
+        elements[index + 2] = E::of_word(third);
+        elements[index + 3] = E::of_word(fourth);
     }
 
     /// Loads one element of a part into its place in the slice.

@@ -1,13 +1,11 @@
 use Rattle.std.proofs.Common.{◌+◌, refl, ap, ◌∙◌}
-use Rattle.jr_steps.specs.declared.known.Holdings.{Holdings}
-use Rattle.jr_steps.specs.Holdings.{header_in}
 use Rattle.jr_steps.specs.Knowing.{Standing}
-use Rattle.jr_steps.proofs.StepFacts.{may_then}
 use Rattle.jr_steps.proofs.PartFacts.{saw_more}
+use Rattle.jr_rule.proofs.FromMayKnow.{still_known}
 use Rattle.jr_rule.proofs.over.StepsOver.see_into.Goals as goal
 
 pub returns-clause-known : goal.returns-clause-known
-returns-clause-known g c = may_then c.see_element_at-word.ensures.step (λ k s m. m) c.requires.known (λ k k' s m d x. ap (λ (y : Holdings). header_in c.args.object y.headers) x ∙ m)
+returns-clause-known g c = still_known c.see_element_at-word.ensures.step c.requires.known
 
 pub returns-clause-config : goal.returns-clause-config
 returns-clause-config g c = ap (λ (s : Standing). s.config) c.see_element_at-word.ensures.step.stands_is
