@@ -1,6 +1,7 @@
 //! What threads post to each other.
 
-use crate::scripts::{BEFORE, name_of, prints};
+use crate::printing::{BEFORE, prints};
+use crate::scripts::name_of;
 use crate::threads::HANDED_OVER;
 use jr_scripts::{Board, NoHold, Posts, run_all};
 use jr_syntax::{Command, OnName, parse};
@@ -71,32 +72,12 @@ fn a_name_without_a_cell_is_not_posted(rt: HostRuntime) -> Result<(), Fail> {
 }
 
 #[test]
-fn a_name_that_nobody_posts(rt: HostRuntime) -> Result<(), Fail> {
-    prints(
-        &rt,
-        rt.alloc(),
-        b"vm threads 1 slots 4 objects 8 words 16 locals 16\nthread a\nwait never\ntype never\n",
-        b"[a]\n3 ! E20\ntype never 0\n[end]\nglobals 0 weaks 0 live 0 used 0\n",
-    )
-}
-
-#[test]
 fn a_wait_that_runs_out_of_turns_sets_no_name(rt: HostRuntime) -> Result<(), Fail> {
     prints(
         &rt,
         rt.alloc(),
-        b"vm threads 1 slots 4 objects 8 words 16 locals 16\nthread a\nplain p\nwait p\ntype p\n",
-        b"[a]\n4 ! E20\ntype p 1\n[end]\nglobals 0 weaks 0 live 1 used 0\n",
-    )
-}
-
-#[test]
-fn a_name_that_stands_for_nothing_is_posted_as_null(rt: HostRuntime) -> Result<(), Fail> {
-    prints(
-        &rt,
-        rt.alloc(),
-        b"vm threads 1 slots 4 objects 8 words 16 locals 16\nthread a\npost n\nwait n\nsame n null\nplain p\npost p\ndrop p\nplain p\nwait p\ntype p\n",
-        b"[a]\nsame n null true\ntype p 0\n[end]\nglobals 0 weaks 0 live 2 used 0\n",
+        b"vm threads 1 slots 4 objects 8 words 16 locals 16\nthread a\nwait never\ntype never\nint a 1\nwait a\ntype a\ncrit r a\nwait never\ncget r 0\nendcrit copy\ntype never\n",
+        b"[a]\n3 ! E20\ntype never 0\n6 ! E20\ntype a 1\n9 ! E20\ncget r 0 0\ntype never 0\n[end]\nglobals 0 weaks 0 live 1 used 1\n",
     )
 }
 

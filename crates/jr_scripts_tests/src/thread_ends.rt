@@ -2,7 +2,8 @@
 ghost use Rattle.std.specs.Prelude.{IfOk};
 ghost use Rattle.jr_env.specs.Envs.{IsOutside};
 
-use crate::scripts::{BEFORE, SIZES};
+use crate::printing::BEFORE;
+use crate::scripts::SIZES;
 use jr_env::Env;
 use jr_model::Summary;
 use jr_rule::PlainSteps;
