@@ -28,6 +28,7 @@ use Rattle.jr_scripts.specs.declared.part.Job.{Job}
 use Rattle.jr_scripts.specs.declared.part.ThreadRun.{ThreadRun}
 use Rattle.jr_gate.specs.Performing.{Moment, moment, moment_with}
 use Rattle.jr_env.specs.Deeds.{DoesDeed}
+use Rattle.jr_scripts.specs.Posting.{quiet}
 use Rattle.jr_scripts.specs.Explains.{Explained}
 use Rattle.jr_scripts.specs.Text.{heading, ending}
 use Rattle.jr_scripts.specs.Runs.{IsFreed, running_to_end}
@@ -44,7 +45,7 @@ record Played (turns last : ℕ) (c : Config) (t first : ℕ) (commands : List C
   pub same_last : k.last ≡ last
   pub is_of : k.thread ≡ t
   pub told : Moment
-  pub explained : Explained turns first (opening_of c last t) commands lines told
+  pub explained : Explained quiet turns first (opening_of c last t) commands lines told
   pub left : Moment
   pub freed : IsFreed turns told left
   pub saw : left.pass ≡ seeing_as c last t k.seen
@@ -52,7 +53,7 @@ record Played (turns last : ℕ) (c : Config) (t first : ℕ) (commands : List C
 view_is : (c : Config) (last t : ℕ) (k : Known) → k.config ≡ c → k.last ≡ last → k.thread ≡ t → view k ≡ seeing_as c last t k.seen
 view_is c last t k a b d = λ i. record { config = a i; last = b i; thread = d i; seen = k.seen }
 
-played : (turns last : ℕ) (c : Config) (r : Row) (p q : Pass) (first : ℕ) (commands : List Command) (answer : Result (Unit {0}) Fault) (lines : List ℕ) → r.config ≡ c → r.last ≡ last → IsOpened r p → RanPass turns first commands p q answer lines → answer ≡ Ok tt
+played : (turns last : ℕ) (c : Config) (r : Row) (p q : Pass) (first : ℕ) (commands : List Command) (answer : Result (Unit {0}) Fault) (lines : List ℕ) → r.config ≡ c → r.last ≡ last → IsOpened r p → RanPass quiet turns first commands p q answer lines → answer ≡ Ok tt
     → Played turns last c p.thread first commands lines (known_of q)
 played turns last c r p q first commands answer lines config_is last_is o x done =
     let t = p.thread in
@@ -60,9 +61,9 @@ played turns last c r p q first commands answer lines config_is last_is o x done
     let knows0 : known_of p ≡ k0 = o.knows ∙ (λ i. known (config_is i) (last_is i) t [] empty 0) in
     let fresh : fresh_frames (standing_of p).config.locals ≡ fresh_frames c.locals = ap (λ (k : Known). fresh_frames k.config.locals) knows0 in
     let spent : (facts_of x.spent).stands ≡ record (standing_of p) { fresh = false } = (x.spends).stands_is in
-    let ran : DoesDeed facts_of x.spent (holder_of q) (fresh_frames c.locals) x.frames (running_to_end turns first commands lines) (Ok tt)
-    = subst (λ a. DoesDeed facts_of x.spent (holder_of q) (fresh_frames c.locals) x.frames (running_to_end turns first commands lines) a) done
-    (subst (λ f. DoesDeed facts_of x.spent (holder_of q) f x.frames (running_to_end turns first commands lines) answer) fresh x.ran) in
+    let ran : DoesDeed facts_of x.spent (holder_of q) (fresh_frames c.locals) x.frames (running_to_end quiet turns first commands lines) (Ok tt)
+    = subst (λ a. DoesDeed facts_of x.spent (holder_of q) (fresh_frames c.locals) x.frames (running_to_end quiet turns first commands lines) a) done
+    (subst (λ f. DoesDeed facts_of x.spent (holder_of q) f x.frames (running_to_end quiet turns first commands lines) answer) fresh x.ran) in
     let holds0 : Holds (fresh_frames c.locals) k0 = λ place. refl in
     let y = ran.did (known_of p) (((x.spends).same (known_of p)).0 (opened_knows r p o)) (subst (Holds (fresh_frames c.locals)) (sym knows0) holds0) in
     let is : y.0 ≡ known_of q = (y.1).0 in
@@ -73,10 +74,10 @@ played turns last c r p q first commands answer lines config_is last_is o x done
     let first_hint : (x.spent).hint ≡ 0 = (x.spends).hint_is ∙ o.hint in
     let end : Known → Moment = λ k. moment (facts_of (holder_of q)) k x.frames in
     let told = y.3.0 in
-    let from : Explained turns first (opening_of c last t) commands lines told
-    = subst (λ i. Explained turns first (moment_with false i k0 (fresh_frames c.locals)) commands lines told) first_hint
-    (subst (λ b. Explained turns first (moment_with b (x.spent).hint k0 (fresh_frames c.locals)) commands lines told) (ap (λ (z : Standing). z.fresh) spent)
-    (subst (λ (k : Known). Explained turns first (moment (facts_of x.spent) k (fresh_frames c.locals)) commands lines told) knows0 y.3.1)) in
+    let from : Explained quiet turns first (opening_of c last t) commands lines told
+    = subst (λ i. Explained quiet turns first (moment_with false i k0 (fresh_frames c.locals)) commands lines told) first_hint
+    (subst (λ b. Explained quiet turns first (moment_with b (x.spent).hint k0 (fresh_frames c.locals)) commands lines told) (ap (λ (z : Standing). z.fresh) spent)
+    (subst (λ (k : Known). Explained quiet turns first (moment (facts_of x.spent) k (fresh_frames c.locals)) commands lines told) knows0 y.3.1)) in
     record {
       same_config = same_config;
       same_last = same_last;
@@ -92,11 +93,11 @@ played turns last c r p q first commands answer lines config_is last_is o x done
 job_played : (turns last : ℕ) (c : Config) (r : Row) (line : ℕ) (p p' : Pass) (q : ThreadPart) (j : Job) (x : ThreadRun) → r.config ≡ c → r.last ≡ last → IsOpened r p → IsJobOf turns line p q j → HasRun j x → IsDone x → x.pass ≡ p'
     → Played turns last c p.thread (line + 1) q.commands x.text.items (known_of p')
 job_played turns last c r line p p' q j x config_is last_is o i ran done is =
-    let one : RanPass j.turns j.first j.part.now.commands p x.pass x.answer x.text.items = subst (λ z. RanPass j.turns j.first j.part.now.commands z x.pass x.answer x.text.items) i.pass ran in
-    let two : RanPass j.turns j.first q.commands p x.pass x.answer x.text.items = subst (λ (z : ThreadPart). RanPass j.turns j.first z.commands p x.pass x.answer x.text.items) i.part one in
-    let three : RanPass j.turns (line + 1) q.commands p x.pass x.answer x.text.items = subst (λ n. RanPass j.turns n q.commands p x.pass x.answer x.text.items) i.line_is two in
-    let four : RanPass turns (line + 1) q.commands p x.pass x.answer x.text.items = subst (λ n. RanPass n (line + 1) q.commands p x.pass x.answer x.text.items) i.same_turns three in
-    let five : RanPass turns (line + 1) q.commands p p' x.answer x.text.items = subst (λ z. RanPass turns (line + 1) q.commands p z x.answer x.text.items) is four in
+    let one : RanPass quiet j.turns j.first j.part.now.commands p x.pass x.answer x.text.items = subst (λ z. RanPass quiet j.turns j.first j.part.now.commands z x.pass x.answer x.text.items) i.pass ran in
+    let two : RanPass quiet j.turns j.first q.commands p x.pass x.answer x.text.items = subst (λ (z : ThreadPart). RanPass quiet j.turns j.first z.commands p x.pass x.answer x.text.items) i.part one in
+    let three : RanPass quiet j.turns (line + 1) q.commands p x.pass x.answer x.text.items = subst (λ n. RanPass quiet j.turns n q.commands p x.pass x.answer x.text.items) i.line_is two in
+    let four : RanPass quiet turns (line + 1) q.commands p x.pass x.answer x.text.items = subst (λ n. RanPass quiet n (line + 1) q.commands p x.pass x.answer x.text.items) i.same_turns three in
+    let five : RanPass quiet turns (line + 1) q.commands p p' x.answer x.text.items = subst (λ z. RanPass quiet turns (line + 1) q.commands p z x.answer x.text.items) is four in
     played turns last c r p p' (line + 1) q.commands x.answer x.text.items config_is last_is o five done
 
 -- the part of a thread that is not the first

@@ -1,5 +1,5 @@
 -- An announced collection of a thread that is alone.
-use Rattle.std.proofs.Common.{◌≡◌, ◌≢◌, ◌<◌, ◌+◌, inl, inr, ℕ, zero, suc, Bool, true, List, [], ◌∷◌, ◌++◌, map, Result, Ok, Err, IfErr, refl, sym, subst, ◌∙◌, ap}
+use Rattle.std.proofs.Common.{◌≡◌, ◌≢◌, ◌<◌, ◌+◌, inl, inr, ℕ, zero, suc, true, List, [], ◌∷◌, ◌++◌, map, Result, Ok, Err, IfErr, refl, sym, subst, ◌∙◌, ap}
 use Rattle.std.specs.List.{AllByRecursion}
 use mathlib.Core.List.{IsPrefix}
 use Rattle.jr_word.specs.declared.config.Config.{Config}
@@ -11,7 +11,7 @@ use Rattle.jr_model.specs.declared.event.Act.TheVariants.{Gate, ShutBusy, Meet}
 use Rattle.jr_model.specs.declared.event.GateAct.TheVariants.{Announce, Cancel}
 use Rattle.jr_model.specs.State.{State}
 use Rattle.jr_model.specs.Steps.{act_after, after}
-use Rattle.jr_model.specs.History.{History, PassView, IsLegal, state}
+use Rattle.jr_model.specs.History.{History, PassView, IsLegal}
 use Rattle.jr_model.specs.Frames.{Frames}
 use Rattle.jr_model.specs.Calls.{Call, Ran, ◌>>=◌, ◌>>◌, act, one_of, refuse, some_act}
 use Rattle.jr_model.specs.Parts.{announce, collect_announced, collected, found_closed, found_moved, refused_shuts}
@@ -25,7 +25,7 @@ use Rattle.jr_gate.specs.Performing.{Moment}
 use Rattle.jr_weak.specs.declared.collecting.Collected.{Collected}
 use Rattle.jr_env.specs.Collections.{announced_collection}
 use Rattle.jr_scripts.specs.declared.reply.Reply.{Reply}
-use Rattle.jr_scripts.specs.Tries.{Tried, answered, again, gave_up, is_tried_again}
+use Rattle.jr_scripts.specs.Tries.{Tried, answered, again, gave_up}
 use Rattle.jr_scripts.specs.Names.{Names}
 use Rattle.jr_scripts.specs.Commands.{collecting_announced, told}
 use Rattle.jr_scripts.specs.AloneAnswers.{IsCommandFault}

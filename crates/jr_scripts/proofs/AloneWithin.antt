@@ -23,7 +23,7 @@ use Rattle.jr_model.specs.Objects.{nest_array, nest_string, region_get, region_k
 use Rattle.jr_model.proofs.Exactly.{append_all}
 use Rattle.jr_model.proofs.Moments.{prefix_self, prefix_trans}
 use Rattle.jr_gate.specs.Performing.{Moment}
-use Rattle.jr_env.specs.Deeds.{Deed, decided, done, ◌>>=◌, ◌>>◌}
+use Rattle.jr_env.specs.Deeds.{Deed, decided, done, ◌>>=◌}
 use Rattle.jr_syntax.specs.declared.name.Reference.{Reference}
 use Rattle.jr_syntax.specs.declared.command.Command.{Command}
 use Rattle.jr_syntax.specs.declared.command.Command.TheVariants as commands

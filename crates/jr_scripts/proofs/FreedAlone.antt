@@ -11,6 +11,7 @@ use Rattle.jr_gate.specs.Performing.{Moment}
 use Rattle.jr_env.specs.Deeds.{free_locals}
 use Rattle.jr_scripts.specs.Tries.{Tried, answered, again, gave_up, is_tried_again}
 use Rattle.jr_scripts.specs.Names.{no_names}
+use Rattle.jr_scripts.specs.Posting.{Talk}
 use Rattle.jr_scripts.specs.Explains.{Explained}
 use Rattle.jr_scripts.specs.AloneAnswers.{AnswersAlone}
 use Rattle.jr_scripts.specs.Runs.{IsFreed}
@@ -43,12 +44,12 @@ freed_all (suc n) old new answer alone (again {mid = mid} {once = once} d more r
 freed_all zero old new answer alone gave_up some = absurd (some refl)
 
 -- A LONE THREAD's commands, and its end
-pub record EndedAlone {turns first : ℕ} {opening told left : Moment} {commands : List Command} {text : List ℕ} (e : Explained turns first opening commands text told) (f : IsFreed turns told left) : Type 0 where
+pub record EndedAlone {talk : Talk} {turns first : ℕ} {opening told left : Moment} {commands : List Command} {text : List ℕ} (e : Explained talk turns first opening commands text told) (f : IsFreed turns told left) : Type 0 where
   pub answers : AnswersAlone e.explains
   pub all : turns ≢ 0 → f.answer ≡ Ok tt
   pub uncontended : AllUncontended opening.pass.seen → AllUncontended left.pass.seen
 
-pub ended_alone : (turns first : ℕ) (opening told left : Moment) (commands : List Command) (text : List ℕ) (e : Explained turns first opening commands text told) (f : IsFreed turns told left) → IsAlone left.pass → EndedAlone e f
+pub ended_alone : {talk : Talk} (turns first : ℕ) (opening told left : Moment) (commands : List Command) (text : List ℕ) (e : Explained talk turns first opening commands text told) (f : IsFreed turns told left) → IsAlone left.pass → EndedAlone e f
 ended_alone turns first opening told left commands text e f alone =
     let y = tries_alone plainly free_alone turns told left f.answer alone f.tries in
     let here = was_alone y alone in

@@ -8,6 +8,7 @@ use Rattle.std.specs.declared.thread.Promise as Promise
 use Rattle.jr_scripts.specs.declared.part.Job.{Job}
 use Rattle.jr_scripts.specs.declared.part.ThreadRun.{ThreadRun}
 use Rattle.jr_scripts.specs.declared.starting.Doing.{Doing}
+use Rattle.jr_scripts.specs.Posting.{quiet}
 use Rattle.jr_scripts.specs.AllRuns.{RanPass}
 use Rattle.jr_scripts.specs.Jobs.{HasRun}
 
@@ -20,7 +21,7 @@ given_to h = record { first = h.promise.first; turns = h.promise.turns; part = h
 
 -- what a thread promised
 abbrev DidIt : Doing → ThreadRun → Type 0
-DidIt d r = RanPass d.turns d.first d.part.now.commands d.pass.value r.pass r.answer r.text.items
+DidIt d r = RanPass quiet d.turns d.first d.part.now.commands d.pass.value r.pass r.answer r.text.items
 
 kept_each : (kept : Doing → ThreadRun → Type 0) → ((p : Doing) (r : ThreadRun) → kept p r → DidIt p r) → (hs : List Thread) (rs : List ThreadRun) → length rs ≡ length hs
     → ((i : ℕ) (d : ThreadRun) → i < length hs → (h : Thread) × (h ≡ slice_index_or hs i h) × kept h.promise (slice_index_or rs i d)) → AllZip HasRun (map given_to hs) rs

@@ -4,6 +4,7 @@ pub mod CommandDeeds
 pub mod CopyDeeds
 pub mod UnitLines
 pub mod Retries
+pub mod Speaking
 pub mod CommandLoop
 pub mod NameMaps
 pub mod Alone

@@ -1,5 +1,5 @@
 -- The levels of a region by their names, and all but the last of them.
-use Rattle.std.proofs.Common.{◌≡◌, ◌∙◌, ◌+◌, ◌-◌, ◌<◌, ◌++◌, Ok, Err, Result, ◌∷◌, [], ℕ, zero, suc, Bool, true, false, Option, Some, None, List, length, map, take, get_or, ap, sym, subst, refl, arith}
+use Rattle.std.proofs.Common.{◌≡◌, ◌∙◌, ◌+◌, ◌-◌, ◌<◌, ◌++◌, Ok, ◌∷◌, [], ℕ, zero, suc, Bool, true, false, Option, Some, None, List, length, map, take, get_or, ap, sym, subst, refl, arith}
 use Rattle.std.specs.Prelude.{slice_index_or}
 use Rattle.std.specs.Str.{bytes_eq}
 use Rattle.std.proofs.lemmas.List.{length-take-le}
@@ -7,7 +7,6 @@ use Rattle.std.proofs.Math.Seq.{take-suc}
 use Rattle.jr_critical.specs.declared.level.Level.{Level}
 use Rattle.jr_critical.specs.declared.levels.Levels.{Levels}
 use Rattle.jr_critical.specs.Levels.{level_object, objects_of}
-use Rattle.jr_word.specs.declared.fault.Fault.{Fault}
 use Rattle.jr_scripts.specs.Places.{all_but_last, level_wanted, newest, nth_object, or_newer}
 
 -- the last level is meant where it has the name, and else one before it

@@ -1,5 +1,5 @@
 -- What the calls of a critical region do that adds a level or reads and writes one: their acts are no lost reservation, and how they are refused.
-use Rattle.std.proofs.Common.{◌≡◌, ◌⊎◌, ◌++◌, ◌≤◌, inl, inr, ℕ, Bool, true, false, cond, not, nat_le, Option, Some, None, List, [], ◌∷◌, length, Result, Ok, Err, refl, sym, ap, subst, ◌∙◌}
+use Rattle.std.proofs.Common.{◌≡◌, ◌⊎◌, ◌++◌, ◌≤◌, inl, inr, ℕ, Bool, true, false, cond, not, nat_le, Option, Some, None, List, [], length, Result, Ok, Err, refl, sym, ap, subst, ◌∙◌}
 use Rattle.std.proofs.lemmas.Bool.{leb-true}
 use Rattle.jr_word.specs.declared.config.Config.{Config}
 use Rattle.jr_word.specs.declared.kind.Kind.{Kind}

@@ -1,5 +1,5 @@
 -- What was done where a thread stands in a region, and how it came there, for whatever was known.
-use Rattle.std.proofs.Common.{◌≡◌, ◌+◌, ◌-◌, ◌<◌, ◌≤◌, ◌++◌, ◌∷◌, [], ◌∙◌, ℕ, ℤ, zero, suc, true, false, Option, Some, None, List, Result, Ok, Err, length, inl, inr, subst, sym, ap, refl, arith}
+use Rattle.std.proofs.Common.{◌≡◌, ◌+◌, ◌-◌, ◌<◌, ◌≤◌, ◌∷◌, [], ◌∙◌, ℕ, ℤ, suc, true, false, List, Result, Ok, Err, length, inl, inr, subst, sym, ap, refl, arith}
 use Rattle.std.specs.Prelude.{IfErr, IfOk}
 use Rattle.std.specs.Result.{IsErrAnd}
 use Rattle.std.proofs.lemmas.Result.{err_from_is_err_and}
@@ -17,18 +17,17 @@ use Rattle.jr_model.proofs.Stays.{did_nothing}
 use Rattle.jr_model.proofs.Windows.{window_nothing}
 use Rattle.jr_steps.specs.declared.known.Known.{Known}
 use Rattle.jr_steps.specs.Holdings.{empty}
-use Rattle.jr_steps.specs.Knowing.{AreOf, Facts, Holds, Leads, Standing, keeps, lets_go, state_of, view}
-use Rattle.jr_frames.specs.Reading.{IsReadAs}
+use Rattle.jr_steps.specs.Knowing.{AreOf, Facts, Holds, Standing, state_of, view}
 use Rattle.jr_frames.specs.Table.{Table}
 use Rattle.jr_gate.specs.Performing.{IsAsBefore, IsMade, Moment, Performed, moment}
 use Rattle.jr_gate.proofs.Spending.{made_of, spend_none}
 use Rattle.jr_critical.specs.declared.levels.Levels.{Levels}
-use Rattle.jr_critical.specs.Levels.{AreKnown, GivesUpAll, GivesUpLast, HasOpened, KnowsLevels, LearnsFirst, Nests, Opens, Reaches, Stand, TellsKind, level_nested, level_object, object_opened, objects_of, role_left, role_opened}
+use Rattle.jr_critical.specs.Levels.{GivesUpAll, KnowsLevels, LearnsFirst, Nests, Opens, Reaches, Stand, TellsKind, level_nested, level_object, object_opened, objects_of, role_opened}
 use Rattle.jr_steps.specs.declared.steps.Steps.{Ghosts}
 use Rattle.jr_env.specs.declared.env.Env.{Env}
 use Rattle.jr_env.specs.Envs.{IsOutside}
 use Rattle.jr_env.specs.Criticals.{HasEntered, WasRefused}
-use Rattle.jr_env.specs.Deeds.{Deed, DoesDeed, answered_by, decided, done, ◌>>=◌, ◌>>◌}
+use Rattle.jr_env.specs.Deeds.{Deed, DoesDeed, decided, done, ◌>>=◌, ◌>>◌}
 use Rattle.jr_syntax.specs.declared.verb.OpenLevel.{OpenLevel}
 use Rattle.jr_scripts.specs.declared.number.NumberKind.{NumberKind}
 use Rattle.jr_scripts.specs.declared.reply.Reply.{Reply}

@@ -20,16 +20,17 @@ use Rattle.jr_steps.specs.Holdings.{empty}
 use Rattle.jr_steps.specs.Knowing.{Spent}
 use Rattle.jr_env.specs.Deeds.{DoesDeed}
 use Rattle.jr_scripts.specs.Text.{heading, ending}
+use Rattle.jr_scripts.specs.Posting.{Talk, quiet}
 use Rattle.jr_scripts.specs.Explains.{Explained}
 use Rattle.jr_scripts.specs.Runs.{IsFreed, RunsSingle, running_to_end}
 
 -- a thread ran these commands with its pass, which was spent first, freed its local references, and handed the pass back, not fresh
-pub record RanPass (turns first : ℕ) (commands : List Command) (old new : Pass) (answer : Result (Unit {0}) Fault) (text : List ℕ) : Type 0 where
+pub record RanPass (talk : Talk) (turns first : ℕ) (commands : List Command) (old new : Pass) (answer : Result (Unit {0}) Fault) (text : List ℕ) : Type 0 where
   pub spent : Holder
   pub spends : Spent facts_of (holder_of old) spent
   pub used_up : new.fresh ≡ false
   pub frames : Frames
-  pub ran : DoesDeed facts_of spent (holder_of new) (fresh_frames (standing_of old).config.locals) frames (running_to_end turns first commands text) answer
+  pub ran : DoesDeed facts_of spent (holder_of new) (fresh_frames (standing_of old).config.locals) frames (running_to_end talk turns first commands text) answer
 
 -- a pass of the thread that has seen this
 abbrev pub seeing_as : Config → ℕ → ℕ → History → PassView
@@ -47,7 +48,7 @@ closing_acts (suc t) = []
 -- A THREAD'S PART in the one history: up to a moment it explains the thread's lines, up to a later one the thread's local references were freed, and from there on it has no more of the thread's events
 pub record IsPartOf (turns last : ℕ) (c : Config) (whole : History) (t first : ℕ) (part : ThreadPart) (lines : List ℕ) : Type 0 where
   pub told : Moment
-  pub explained : Explained turns first (opening_of c last t) part.commands lines told
+  pub explained : Explained quiet turns first (opening_of c last t) part.commands lines told
   pub left : Moment
   pub freed : IsFreed turns told left
   pub seen : History

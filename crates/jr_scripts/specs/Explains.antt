@@ -6,15 +6,16 @@ use Rattle.jr_syntax.specs.declared.command.Command.{Command}
 use Rattle.jr_scripts.specs.declared.reply.Reply.{Reply}
 use Rattle.jr_gate.specs.Performing.{Moment}
 use Rattle.jr_scripts.specs.Places.{Place, nowhere, place_after}
+use Rattle.jr_scripts.specs.Posting.{Speaks, Talk}
 use Rattle.jr_scripts.specs.RegionCommands.{deed_at, giving_up_all}
 use Rattle.jr_scripts.specs.Text.{printed}
 
-module _ (turns first : ℕ) (old : Moment) where
-  -- From the old moment to the new one the commands were done, each once and in order, the first on the line `first`, and printed the text; then the thread stands there
+module _ (talk : Talk) (turns first : ℕ) (old : Moment) where
+  -- From the old moment to the new one the commands were done, each once and in order, the first on the line `first`, and printed the text; what they posted and waited for is told so; then the thread stands there
   pub data Explains : List Command → List ℕ → Moment → Place → Type 0 where
     nothing : Explains [] [] old nowhere
     then : {before : List Command} {text : List ℕ} {mid new : Moment} {place : Place} (c : Command) (answer : Result Reply Fault)
-        → Explains before text mid place → deed_at turns place c mid answer new
+        → Explains before text mid place → deed_at turns place c mid answer new → Speaks talk place.names c answer
         → Explains (before ++ c ∷ []) (text ++ printed (first + length before) c answer) new (place_after c answer place)
 
   -- THE TEXT IS EXPLAINED: it is that of all commands, and a region that stood then was given up
@@ -28,7 +29,7 @@ module _ (turns first : ℕ) (old : Moment) where
   pub data IsCutOff (commands : List Command) (text : List ℕ) (new : Moment) : Type 0 where
     written : (before rest : List Command) (place : Place) (done : Moment) → commands ≡ before ++ rest → Explains before text done place → giving_up_all place.objects done (Ok tt) new → IsCutOff commands text new
     unwritten : (before : List Command) (last : Command) (rest : List Command) (mid done : Moment) (place : Place) (answer : Result Reply Fault)
-        → commands ≡ before ++ last ∷ rest → Explains before text mid place → deed_at turns place last mid answer done → giving_up_all (place_after last answer place).objects done (Ok tt) new → IsCutOff commands text new
+        → commands ≡ before ++ last ∷ rest → Explains before text mid place → deed_at turns place last mid answer done → Speaks talk place.names last answer → giving_up_all (place_after last answer place).objects done (Ok tt) new → IsCutOff commands text new
 
   -- WHAT A RUN of the commands leaves, where it added the text: all of it explained, or memory was refused
   abbrev pub LeavesText : List Command → Result (Unit {0}) Fault → List ℕ → Moment → Type 0

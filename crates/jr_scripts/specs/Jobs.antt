@@ -7,11 +7,12 @@ use Rattle.jr_rule.specs.Passes.{IsOpened}
 use Rattle.jr_scripts.specs.declared.part.Job.{Job}
 use Rattle.jr_scripts.specs.declared.part.ThreadRun.{ThreadRun}
 use Rattle.jr_scripts.specs.Text.{heading}
+use Rattle.jr_scripts.specs.Posting.{quiet}
 use Rattle.jr_scripts.specs.AllRuns.{RanPass}
 
 -- the thread did its job
 abbrev pub HasRun : Job → ThreadRun → Type 0
-HasRun j r = RanPass j.turns j.first j.part.now.commands j.pass r.pass r.answer r.text.items
+HasRun j r = RanPass quiet j.turns j.first j.part.now.commands j.pass r.pass r.answer r.text.items
 
 -- the part can be run in the room with this pass
 pub record IsForPart (r : Row) (first : ℕ) (part : ThreadPart) (p : Pass) : Type 0 where

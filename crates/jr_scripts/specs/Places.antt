@@ -5,6 +5,7 @@ use Rattle.jr_word.specs.declared.fault.Fault.{Fault}
 use Rattle.jr_word.specs.declared.fault.Fault.TheVariants as fault
 use Rattle.jr_syntax.specs.declared.command.Command.{Command}
 use Rattle.jr_syntax.specs.declared.command.Command.TheVariants as commands
+use Rattle.jr_syntax.specs.declared.verb.Make.TheVariants as make
 use Rattle.jr_scripts.specs.declared.reply.Reply.{Reply}
 use Rattle.jr_scripts.specs.declared.reply.Reply.TheVariants as replies
 use Rattle.jr_scripts.specs.Names.{Names, no_names}
@@ -76,3 +77,9 @@ is_opening _ = false
 abbrev pub is_closing : Command → Bool
 is_closing (commands.CloseLevel v mode) = true
 is_closing _ = false
+
+-- whether threads hand each other something by it
+abbrev pub is_speaking : Command → Bool
+is_speaking (commands.OnName v n) = true
+is_speaking (commands.Make make.Wait n) = true
+is_speaking _ = false

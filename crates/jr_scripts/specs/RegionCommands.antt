@@ -1,5 +1,5 @@
 -- What commands do in a critical region, and the commands that open one.
-use Rattle.std.specs.Prelude.{◌≡◌, ℕ, ℤ, suc, zero, List, [], ◌∷◌, length, Result, Ok, Err, IfErr}
+use Rattle.std.specs.Prelude.{◌≡◌, ℕ, ℤ, suc, zero, List, [], ◌∷◌, length, Err}
 use Rattle.jr_word.specs.declared.config.Config.{Config}
 use Rattle.jr_word.specs.declared.kind.Kind.{Kind}
 use Rattle.jr_word.specs.declared.kind.Kind.TheVariants.{Char, Text}
@@ -8,11 +8,11 @@ use Rattle.jr_model.specs.State.{State}
 use Rattle.jr_model.specs.History.{state}
 use Rattle.jr_model.specs.Calls.{Call}
 use Rattle.jr_model.specs.Checks.{Word}
-use Rattle.jr_model.specs.Objects.{get_array_critical, get_string_critical, nest_array, nest_string, region_get, region_kind, region_release, region_set}
+use Rattle.jr_model.specs.Objects.{nest_array, nest_string, region_get, region_kind, region_release, region_set}
 use Rattle.jr_steps.specs.Holdings.{empty}
 use Rattle.jr_frames.specs.Reading.{IsReadAs}
 use Rattle.jr_gate.specs.Performing.{IsMade, Moment}
-use Rattle.jr_env.specs.Deeds.{Deed, answered_by, decided, done, ◌>>=◌, ◌>>◌}
+use Rattle.jr_env.specs.Deeds.{Deed, decided, done, ◌>>=◌, ◌>>◌}
 use Rattle.jr_syntax.specs.declared.command.Command.{Command}
 use Rattle.jr_syntax.specs.declared.command.Command.TheVariants as commands
 use Rattle.jr_syntax.specs.declared.verb.Make.{Make}
@@ -26,7 +26,6 @@ use Rattle.jr_syntax.specs.declared.verb.OpenLevel.{OpenLevel}
 use Rattle.jr_syntax.specs.declared.verb.OpenLevel.TheVariants as at
 use Rattle.jr_scripts.specs.declared.reply.Reply.{Reply}
 use Rattle.jr_scripts.specs.declared.reply.Reply.TheVariants as replies
-use Rattle.jr_scripts.specs.Names.{referent, wanted}
 use Rattle.jr_scripts.specs.Numbers.{has_numbers, number_of_word, word_of_number}
 use Rattle.jr_scripts.specs.Places.{Place, by_region, level_wanted, newest, nth_object}
 use Rattle.jr_scripts.specs.Commands.{awaited, deed, the_reference}

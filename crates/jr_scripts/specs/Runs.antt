@@ -22,14 +22,15 @@ use Rattle.jr_env.specs.Deeds.{Deed, free_locals}
 use Rattle.jr_env.specs.Envs.{WasDone}
 use Rattle.jr_scripts.specs.declared.reply.Reply.{Reply}
 use Rattle.jr_scripts.specs.Names.{Names}
+use Rattle.jr_scripts.specs.Posting.{Talk, quiet}
 use Rattle.jr_scripts.specs.Commands.{tried}
 use Rattle.jr_scripts.specs.Text.{printed, names_set, heading, ending}
 use Rattle.jr_scripts.specs.Explains.{Explained, LeavesText}
 use Rattle.jr_scripts.specs.AloneAnswers.{AnswersAlone}
 
 -- THE COMMANDS RUN, and add the text: from one moment to the other all of it is explained, or memory was refused
-abbrev pub running : ℕ → ℕ → List Command → List ℕ → Deed (Unit {0})
-running turns first commands text begun answer told = LeavesText turns first begun commands answer text told
+abbrev pub running : Talk → ℕ → ℕ → List Command → List ℕ → Deed (Unit {0})
+running talk turns first commands text begun answer told = LeavesText talk turns first begun commands answer text told
 
 -- A THREAD'S END: from one moment to the other its local references were freed, by a call that was made again where it was barred, up to so many in all, with this answer
 pub record IsFreed (turns : ℕ) (told left : Moment) : Type 0 where
@@ -37,17 +38,17 @@ pub record IsFreed (turns : ℕ) (told left : Moment) : Type 0 where
   pub tries : tried turns free_locals told answer left
 
 -- the commands run, and then the local references are freed: the text is explained up to a moment in between
-abbrev pub running_to_end : ℕ → ℕ → List Command → List ℕ → Deed (Unit {0})
-running_to_end turns first commands text begun answer left = (told : Moment) × LeavesText turns first begun commands answer text told × IsFreed turns told left
+abbrev pub running_to_end : Talk → ℕ → ℕ → List Command → List ℕ → Deed (Unit {0})
+running_to_end talk turns first commands text begun answer left = (told : Moment) × LeavesText talk turns first begun commands answer text told × IsFreed turns told left
 
 module _ {S : Type 0} {G : Ghosts S} where
   -- the commands were run
-  abbrev pub RanThread : Env S G → Env S G → ℕ → ℕ → List Command → Result (Unit {0}) Fault → List ℕ → Type 0
-  RanThread old new turns first commands answer text = WasDone old new (running turns first commands text) answer
+  abbrev pub RanThread : Env S G → Env S G → Talk → ℕ → ℕ → List Command → Result (Unit {0}) Fault → List ℕ → Type 0
+  RanThread old new talk turns first commands answer text = WasDone old new (running talk turns first commands text) answer
 
   -- the commands were run, and then the local references were freed
-  abbrev pub RanToEnd : Env S G → Env S G → ℕ → ℕ → List Command → Result (Unit {0}) Fault → List ℕ → Type 0
-  RanToEnd old new turns first commands answer text = WasDone old new (running_to_end turns first commands text) answer
+  abbrev pub RanToEnd : Env S G → Env S G → Talk → ℕ → ℕ → List Command → Result (Unit {0}) Fault → List ℕ → Type 0
+  RanToEnd old new talk turns first commands answer text = WasDone old new (running_to_end talk turns first commands text) answer
 
 -- what is kept of a command that was done: its line is written and its name set, or memory was refused and nothing is written
 abbrev pub WritesDown : ℕ → Command → Result Reply Fault → Names → Names → Result (Unit {0}) AllocError → List ℕ → List ℕ → Type 0
@@ -76,7 +77,7 @@ pub record IsRun (turns last : ℕ) (c : Config) (part : ThreadPart) (text : Lis
   pub legal : IsLegal c last seen
   pub alone : AllByRecursion IsUnbarred seen
   pub told : Moment
-  pub explained : Explained turns 3 (opening_moment c last) part.commands lines told
+  pub explained : Explained quiet turns 3 (opening_moment c last) part.commands lines told
   pub answers : AnswersAlone explained.explains
   pub left : Moment
   pub freed : IsFreed turns told left

@@ -4,26 +4,26 @@ ghost use Rattle.std.specs.Prelude.{◌≡◌, IfErr, IfOk, None, Some, [], fals
 ghost use Rattle.jr_critical.specs.Levels.{objects_of, StandOver};
 ghost use Rattle.jr_env.specs.Collections.{FitsRoom};
 ghost use Rattle.jr_env.specs.Envs.{IsOutside};
-ghost use Rattle.jr_gate.specs.Performing.{Moment};
 ghost use Rattle.jr_weak.specs.Markers.{room_of};
 ghost use Rattle.jr_syntax.specs.declared.command.Command.TheVariants as commands;
 ghost use Rattle.jr_scripts.specs.Advancing.{level_names, objects_in, place_with, DidOpen, DidWith, StandsIn, StandsWith};
 ghost use Rattle.jr_scripts.specs.Commands.{deed, opening_levels};
-ghost use Rattle.jr_scripts.specs.Places.{is_closing, levels_after, objects_after};
-ghost use Rattle.jr_scripts.specs.RegionCommands.{deed_at, deed_within, waiting_by};
+ghost use Rattle.jr_scripts.specs.Places.{is_closing, is_speaking, levels_after, objects_after};
+ghost use Rattle.jr_scripts.specs.Posting.{talk_of, Speaks, StillTells};
+ghost use Rattle.jr_scripts.specs.RegionCommands.{deed_at, deed_within};
 ghost use Rattle.jr_scripts.specs.Text.{buffers_after};
 
 use crate::board::Board;
 use crate::names::Names;
 use crate::perform::perform;
-use crate::posting::{post, wait};
+use crate::posting::spoken;
 use crate::region::{Region, first};
 use crate::region_commands::{close, nest, open, read_by, write_by};
 use crate::reply::Reply;
 use jr_critical::Levels;
 use jr_env::Env;
 use jr_steps::Steps;
-use jr_syntax::{Command, Make, Name, OpenLevel, Reference as Target};
+use jr_syntax::{Command, Name, OpenLevel, Reference as Target};
 use jr_weak::Marker;
 use jr_word::Fault;
 use std::alloc::Global;
@@ -85,16 +85,16 @@ fn open_region<S: Steps>(
 }
 
 /// What a command does where no region stands.
-fn advance_outside<S: Steps, B: Board>(
+fn call_outside<S: Steps>(
     alloc: Global,
     env: &mut Env<S>,
     names: &mut Names,
     marker: &mut Marker,
-    board: &B,
     turns: u64,
     command: &Command,
 ) -> Left
     requires outside { IsOutside env.old }
+    requires silent { is_speaking command.now ≡ false }
     requires room { FitsRoom marker.old env.old }
     ensures does { DidWith env.old env.new None result.region (deed turns names.old command.now) result.answer }
     ensures stand { StandsWith result.region env.new }
@@ -108,7 +108,7 @@ fn advance_outside<S: Steps, B: Board>(
             open_region(env, names, turns, *verb, name, target)
         }
         _ => {
-            let answer = perform(alloc, env, names, marker, board, turns, command);
+            let answer = perform(alloc, env, names, marker, turns, command);
             Left {
                 region: None,
                 answer,
@@ -117,26 +117,15 @@ fn advance_outside<S: Steps, B: Board>(
     }
 }
 
-/// Waits in a region, where nothing is made.
-fn wait_within<B: Board>(board: &B, turns: u64, verb: Make, name: &Name) -> Result<Reply, Fault>
-    ensures { (m : Moment) → waiting_by verb m result m }
-{
-    match verb {
-        Make::Wait => wait(board, name, turns),
-        Make::Plain => Err(Fault::InCritical),
-    }
-}
-
 /// What a command does in a region that stands afterwards too, as it does but after `endcrit`.
-fn stay<S: Steps, B: Board>(
+fn stay<S: Steps>(
     env: &mut Env<S>,
     names: &Names,
     region: &mut Region,
-    board: &B,
-    turns: u64,
     command: &Command,
 ) -> Result<Reply, Fault>
     requires stand { StandsIn region.old env.old }
+    requires silent { is_speaking command.now ≡ false }
     requires stays { is_closing command.now ≡ false }
     ensures does { DidWith env.old env.new (Some region.old) (Some region.new) (deed_within (place_with names.now (Some region.old)) command.now) result }
     ensures stand { StandsIn region.new env.new }
@@ -153,22 +142,14 @@ fn stay<S: Steps, B: Board>(
             index,
             value,
         } => write_by(env, region, *verb, name, *index, *value),
-        Command::OnName { name, .. } => Ok(post(board, names, name)),
-        Command::Make { verb, name } => wait_within(board, turns, *verb, name),
         _ => Err(Fault::InCritical),
     }
 }
 
 /// What a command does in a region.
-fn advance_within<S: Steps, B: Board>(
-    env: &mut Env<S>,
-    names: &Names,
-    region: Region,
-    board: &B,
-    turns: u64,
-    command: &Command,
-) -> Left
-    requires { StandsIn region env.old }
+fn call_within<S: Steps>(env: &mut Env<S>, names: &Names, region: Region, command: &Command) -> Left
+    requires stand { StandsIn region env.old }
+    requires silent { is_speaking command.now ≡ false }
     ensures does { DidWith env.old env.new (Some region) result.region (deed_within (place_with names.now (Some region)) command.now) result.answer }
     ensures stand { StandsWith result.region env.new }
     ensures levels { level_names result.region ≡ levels_after command.now result.answer (level_names (Some region)) }
@@ -182,12 +163,38 @@ fn advance_within<S: Steps, B: Board>(
         },
         _ => {
             let mut region = region;
-            let answer = stay(env, names, &mut region, board, turns, command);
+            let answer = stay(env, names, &mut region, command);
             Left {
                 region: Some(region),
                 answer,
             }
         }
+    }
+}
+
+/// What a command does where the thread stands, one that hands other threads nothing.
+fn call<S: Steps>(
+    alloc: Global,
+    env: &mut Env<S>,
+    names: &mut Names,
+    marker: &mut Marker,
+    region: Option<Region>,
+    turns: u64,
+    command: &Command,
+) -> Left
+    requires stand { StandsWith region env.old }
+    requires silent { is_speaking command.now ≡ false }
+    requires room { FitsRoom marker.old env.old }
+    ensures does { DidWith env.old env.new region result.region (deed_at turns (place_with names.old region) command.now) result.answer }
+    ensures stand { StandsWith result.region env.new }
+    ensures levels { level_names result.region ≡ levels_after command.now result.answer (level_names region) }
+    ensures objects { objects_in result.region ≡ objects_after command.now result.answer (objects_in region) }
+    ensures names { names.new ≡ buffers_after command.now result.answer names.old }
+    ensures room { room_of marker.new ≡ room_of marker.old }
+{
+    match region {
+        None => call_outside(alloc, env, names, marker, turns, command),
+        Some(region) => call_within(env, names, region, command),
     }
 }
 
@@ -198,7 +205,7 @@ pub(crate) fn advance<S: Steps, B: Board>(
     names: &mut Names,
     marker: &mut Marker,
     region: Option<Region>,
-    board: &B,
+    board: &mut B,
     turns: u64,
     command: &Command,
 ) -> Left
@@ -209,10 +216,12 @@ pub(crate) fn advance<S: Steps, B: Board>(
     ensures levels { level_names result.region ≡ levels_after command.now result.answer (level_names region) }
     ensures objects { objects_in result.region ≡ objects_after command.now result.answer (objects_in region) }
     ensures names { names.new ≡ buffers_after command.now result.answer names.old }
+    ensures speaks { Speaks (talk_of B.tells B.looked turns board.new) names.old command.now result.answer }
+    ensures kept { StillTells B.tells board.old board.new }
     ensures room { room_of marker.new ≡ room_of marker.old }
 {
-    match region {
-        None => advance_outside(alloc, env, names, marker, board, turns, command),
-        Some(region) => advance_within(env, names, region, board, turns, command),
+    match spoken(board, names, turns, command) {
+        Some(answer) => Left { region, answer },
+        None => call(alloc, env, names, marker, region, turns, command),
     }
 }

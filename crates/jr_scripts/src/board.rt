@@ -5,13 +5,27 @@ use std::alloc::{AllocError, Global};
 use std::collections::BTreeMap;
 use std::sync::OnceLock;
 
-/// Where threads post words under names. Nothing is assumed of what a look gives.
+/// Where a thread posts words under names, and looks for those that were posted. What a board tells, once it does, it tells from then on.
 pub trait Board {
+    ghost use Rattle.std.specs.Prelude.{ℕ, List, Option, IfSome};
+    ghost use Rattle.jr_scripts.specs.Posting.{StillTells};
+
+    /// This word was posted under this name.
+    ghost tells: { Self → List ℕ → ℕ → Type 0 };
+
+    /// A look for this name found this, and left the board so.
+    ghost looked: { Self → List ℕ → Option ℕ → Self → Type 0 };
+
     /// Posts a word under a name.
-    fn post(&self, name: &Name, word: u64);
+    fn post(&mut self, name: &Name, word: u64)
+        ensures posted { tells self.new name.now word }
+        ensures kept { StillTells tells self.old self.new };
 
     /// The word that was posted under a name, if one is seen.
-    fn look(&self, name: &Name) -> Option<u64>;
+    fn look(&mut self, name: &Name) -> Option<u64>
+        ensures found { IfSome result (λ w. tells self.new name.now w) }
+        ensures once { looked self.old name.now result self.new }
+        ensures kept { StillTells tells self.old self.new };
 }
 
 /// A board with a cell for each name that may be posted, which is written once: the first word that is posted under a name stays. To post or to look takes neither memory nor a lock, and no thread waits for another there.
@@ -47,14 +61,31 @@ impl Posts {
     }
 }
 
-impl Board for Posts {
-    fn post(&self, name: &Name, word: u64) {
-        if let Some(cell) = self.cells.get(name) {
+/// What one thread posts and sees on a board that it shares.
+#[derive(Drop)]
+pub struct Notes<'a> {
+    posts: &'a Posts,
+}
+
+impl<'a> Notes<'a> {
+    /// The notes of a thread that has posted and seen nothing.
+    pub fn new(posts: &'a Posts) -> Notes<'a> {
+        Notes { posts }
+    }
+}
+
+impl Board for Notes<'_> {
+    ghost tells = { λ board n w. Unit {0} };
+
+    ghost looked = { λ first n found last. Unit {0} };
+
+    fn post(&mut self, name: &Name, word: u64) {
+        if let Some(cell) = self.posts.cells.get(name) {
             let _ = cell.try_set(word);
         }
     }
 
-    fn look(&self, name: &Name) -> Option<u64> {
-        self.cells.get(name)?.get().copied()
+    fn look(&mut self, name: &Name) -> Option<u64> {
+        self.posts.cells.get(name)?.get().copied()
     }
 }

@@ -34,7 +34,7 @@ mod starting;
 mod to_end;
 
 pub use all::run_all;
-pub use board::{Board, Posts};
+pub use board::{Board, Notes, Posts};
 pub use hold::{Hold, NoHold};
 pub use jr_syntax::{Reason, Script, ScriptFault, parse, print};
 pub use laws::a_script_that_was_read_can_be_run;

@@ -1,9 +1,10 @@
 //! What one thread of a script does in the room that it shares.
 
 ghost use Rattle.jr_scripts.specs.AllRuns.{RanPass};
+ghost use Rattle.jr_scripts.specs.Posting.{quiet};
 ghost use Rattle.jr_scripts.specs.Jobs.{IsForPart};
 
-use crate::board::Posts;
+use crate::board::{Notes, Posts};
 use crate::hold::Hold;
 use crate::opening::opened_env;
 use crate::to_end::run_to_end;
@@ -41,13 +42,14 @@ pub(crate) fn run_job<H: Hold, const LAST: u32>(
     pass: Pass,
 ) -> ThreadRun
     requires { IsForPart room.now.row first part.now pass }
-    ensures { RanPass turns first part.now.commands pass result.pass result.answer result.text.items }
+    ensures { RanPass quiet turns first part.now.commands pass result.pass result.answer result.text.items }
 {
     let mut text = Vec::new(alloc);
     let mut env = opened_env(RoomSteps::new(room, pass));
+    let mut notes = Notes::new(board);
     let commands = part.commands.as_slice();
     let answer = run_to_end(
-        alloc, &mut env, first, commands, board, hold, turns, &mut text,
+        alloc, &mut env, first, commands, &mut notes, hold, turns, &mut text,
     );
     let steps = env.into_pass();
     ThreadRun {

@@ -9,12 +9,11 @@ ghost use Rattle.jr_env.specs.Collections.{FitsRoom};
 ghost use Rattle.jr_env.specs.Envs.{WasDone, IsOutside};
 ghost use Rattle.std.specs.Prelude.{◌≡◌, false};
 ghost use Rattle.jr_weak.specs.Markers.{room_of};
-ghost use Rattle.jr_scripts.specs.Places.{is_opening};
+ghost use Rattle.jr_scripts.specs.Places.{is_opening, is_speaking};
 ghost use Rattle.jr_scripts.specs.Text.{buffers_after};
-ghost use Rattle.jr_scripts.specs.Commands.{deletion, type_of as type_deed, made_of, making_or_waiting, making_room, filling, referring_to, deed};
+ghost use Rattle.jr_scripts.specs.Commands.{deletion, type_of as type_deed, made_of, making_room, filling, referring_to, deed};
 
 use crate::ask::ask;
-use crate::board::Board;
 use crate::collection::collect;
 use crate::copy_call::GetStringChars;
 use crate::copy_commands::{copy, get_by, put_by, release};
@@ -29,12 +28,11 @@ use crate::object_call::{
     GetArrayLength, GetObjectArrayElement, GetStringLength, NewArray, NewObjectArray, NewString,
     SetObjectArrayElement,
 };
-use crate::posting::{post, wait};
 use crate::reply::Reply;
 use jr_env::Env;
 use jr_frames::Reference;
 use jr_steps::Steps;
-use jr_syntax::{Command, Make, MakeFrom, Name, On, Reference as Target, WithCount};
+use jr_syntax::{Command, MakeFrom, On, Reference as Target, WithCount};
 use jr_weak::Marker;
 use jr_word::{Fault, Handle, RefKind};
 use std::alloc::Global;
@@ -63,23 +61,6 @@ fn type_of<S: Steps>(env: &mut Env<S>, turns: u64, referent: Option<Handle>) -> 
     match referent {
         Some(handle) => ask(env, turns, &GetObjectRefType(handle)),
         None => Ok(Reply::Type(0)),
-    }
-}
-
-/// Makes something of nothing else, or waits for what is posted.
-fn make<S: Steps, B: Board>(
-    env: &mut Env<S>,
-    board: &B,
-    turns: u64,
-    verb: Make,
-    name: &Name,
-) -> Result<Reply, Fault>
-    requires { IsOutside env.old }
-    ensures { WasDone env.old env.new (making_or_waiting turns verb) result }
-{
-    match verb {
-        Make::Plain => ask(env, turns, &NewPlain),
-        Make::Wait => wait(board, name, turns),
     }
 }
 
@@ -205,29 +186,28 @@ fn same<S: Steps>(
     ask(env, turns, &IsSameObject(left, right))
 }
 
-/// Makes the calls of a command that opens no region, where none stands, and changes or frees the buffer that it is about; `post`, `wait`, `eget` and `eput` make none.
-pub fn perform<S: Steps, B: Board>(
+/// Makes the calls of a command that opens no region and is neither `post` nor `wait`, where no region stands, and changes or frees the buffer that it is about; `eget` and `eput` make none.
+pub fn perform<S: Steps>(
     alloc: Global,
     env: &mut Env<S>,
     names: &mut Names,
     marker: &mut Marker,
-    board: &B,
     turns: u64,
     command: &Command,
 ) -> Result<Reply, Fault>
     requires outside { IsOutside env.old }
     requires opens { is_opening command.now ≡ false }
+    requires silent { is_speaking command.now ≡ false }
     requires room { FitsRoom marker.old env.old }
     ensures does { WasDone env.old env.new (deed turns names.old command.now) result }
     ensures names { names.new ≡ buffers_after command.now result names.old }
     ensures room { room_of marker.new ≡ room_of marker.old }
 {
     match command {
-        Command::Make { verb, name } => make(env, board, turns, *verb, name),
+        Command::Make { .. } => ask(env, turns, &NewPlain),
         Command::MakeFrom { verb, target, .. } => make_of(alloc, env, names, turns, *verb, target),
         Command::On { verb, target } => on(alloc, env, names, turns, *verb, target),
         Command::OnBoth { left, right, .. } => same(env, names, turns, left, right),
-        Command::OnName { name, .. } => Ok(post(board, names, name)),
         Command::WithCount { verb, count } => with_count(env, turns, *verb, *count),
         Command::MakeSized { verb, length, .. } => ask(env, turns, &NewArray(*verb, *length)),
         Command::MakeText { units, .. } => ask(env, turns, &NewString(units)),
@@ -260,6 +240,6 @@ pub fn perform<S: Steps, B: Board>(
             ..
         } => release(env, names, turns, name, target, *mode),
         Command::OfRoom { .. } | Command::WithTries { .. } => collect(env, marker, turns, command),
-        Command::OpenLevel { .. } | Command::CloseLevel { .. } => Err(Fault::InCritical),
+        _ => Err(Fault::InCritical),
     }
 }

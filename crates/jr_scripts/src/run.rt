@@ -6,6 +6,7 @@ ghost use Rattle.jr_weak.specs.Markers.{room_of};
 ghost use Rattle.jr_env.specs.Collections.{FitsRoom};
 ghost use Rattle.jr_env.specs.Envs.{IsOutside};
 ghost use Rattle.jr_scripts.specs.Text.{sets, names_set, standing_made as made_to_stand};
+ghost use Rattle.jr_scripts.specs.Posting.{talk_of, StillTells};
 ghost use Rattle.jr_scripts.specs.Runs.{RanThread, WritesDown};
 
 use crate::advance::{Left, advance};
@@ -99,7 +100,7 @@ pub fn run_thread<S: Steps, B: Board, H: Hold>(
     marker: &mut Marker,
     first: usize,
     commands: &[Command],
-    board: &B,
+    board: &mut B,
     hold: &H,
     turns: u64,
     out: &mut Vec<u8>,
@@ -107,7 +108,8 @@ pub fn run_thread<S: Steps, B: Board, H: Hold>(
     requires lines { first + length commands.now < 2 ^ 64 }
     requires outside { IsOutside env.old }
     requires room { FitsRoom marker.old env.old }
-    ensures explained { (text : List ℕ) × (out.new.items ≡ out.old.items ++ text) × RanThread env.old env.new turns first commands.now result text }
+    ensures explained { (text : List ℕ) × (out.new.items ≡ out.old.items ++ text) × RanThread env.old env.new (talk_of B.tells B.looked turns board.new) turns first commands.now result text }
+    ensures kept { StillTells B.tells board.old board.new }
     ensures outside { IsOutside env.new }
     ensures memory { IfErr result (λ e. e ≡ Memory) }
     ensures room { room_of marker.new ≡ room_of marker.old }

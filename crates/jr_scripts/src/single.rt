@@ -5,7 +5,7 @@ ghost use Rattle.jr_word.specs.declared.fault.Fault.TheVariants.{Memory, Size};
 ghost use Rattle.jr_word.specs.Config.{in_limits};
 ghost use Rattle.jr_scripts.specs.Runs.{IsRun, IsSingle, RunsSingle};
 
-use crate::board::Posts;
+use crate::board::{Notes, Posts};
 use crate::hold::NoHold;
 use crate::opening::opened_env;
 use crate::printed::{ending, heading};
@@ -46,7 +46,7 @@ fn run_part(alloc: Global, config: Config, part: &ThreadPart, turns: u64) -> Res
         &mut env,
         FIRST_COMMAND,
         commands,
-        &board,
+        &mut Notes::new(&board),
         &NoHold,
         turns,
         &mut text,

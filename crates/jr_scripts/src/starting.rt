@@ -6,6 +6,7 @@ ghost use Rattle.jr_word.specs.declared.fault.Fault.TheVariants.{Memory};
 ghost use Rattle.jr_scripts.specs.Jobs.{HasRun, IsFor, IsForPart};
 ghost use Rattle.jr_scripts.specs.AllRuns.{RanPass};
 ghost use Rattle.jr_scripts.specs.Given.{IsGiven};
+ghost use Rattle.jr_scripts.specs.Posting.{quiet};
 
 use crate::board::Posts;
 use crate::hold::Hold;
@@ -29,7 +30,7 @@ pub(crate) struct Doing<'a> {
 }
 
 impl<'a> Promise<ThreadRun> for Doing<'a> {
-    ghost kept_by = { λ p r. RanPass p.turns p.first p.part.now.commands p.pass.value r.pass r.answer r.text.items };
+    ghost kept_by = { λ p r. RanPass quiet p.turns p.first p.part.now.commands p.pass.value r.pass r.answer r.text.items };
 }
 
 /// Does a job in a thread of its own, where one can be started.
@@ -58,7 +59,7 @@ fn start<'s, E, H: Hold + Sync, const LAST: u32>(
     };
     let there = move || -> ThreadRun
         requires { IsForPart room.now.row first part.now pass }
-        ensures { RanPass turns first part.entry.now.commands pass result.pass result.answer result.text.items }
+        ensures { RanPass quiet turns first part.entry.now.commands pass result.pass result.answer result.text.items }
     { run_job(alloc, room, board, hold, first, turns, part, pass) };
     scope.spawn_with(promise, there).ok()
 }

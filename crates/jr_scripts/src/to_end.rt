@@ -3,6 +3,7 @@
 ghost use Rattle.std.specs.Prelude.{◌≡◌, ◌++◌, ◌+◌, ◌<◌, ◌^◌, List, ℕ, IfErr, length};
 ghost use Rattle.jr_word.specs.declared.fault.Fault.TheVariants.{Memory};
 ghost use Rattle.jr_env.specs.Envs.{IsOutside};
+ghost use Rattle.jr_scripts.specs.Posting.{talk_of, StillTells};
 ghost use Rattle.jr_scripts.specs.Runs.{RanThread, RanToEnd};
 
 use crate::board::Board;
@@ -23,14 +24,15 @@ fn run_with_marker<S: Steps, B: Board, H: Hold>(
     env: &mut Env<S>,
     first: usize,
     commands: &[Command],
-    board: &B,
+    board: &mut B,
     hold: &H,
     turns: u64,
     out: &mut Vec<u8>,
 ) -> Result<(), Fault>
     requires lines { first + length commands.now < 2 ^ 64 }
     requires outside { IsOutside env.old }
-    ensures explained { (text : List ℕ) × (out.new.items ≡ out.old.items ++ text) × RanThread env.old env.new turns first commands.now result text }
+    ensures explained { (text : List ℕ) × (out.new.items ≡ out.old.items ++ text) × RanThread env.old env.new (talk_of B.tells B.looked turns board.new) turns first commands.now result text }
+    ensures kept { StillTells B.tells board.old board.new }
     ensures outside { IsOutside env.new }
     ensures memory { IfErr result (λ e. e ≡ Memory) }
 {
@@ -62,14 +64,15 @@ pub fn run_to_end<S: Steps, B: Board, H: Hold>(
     env: &mut Env<S>,
     first: usize,
     commands: &[Command],
-    board: &B,
+    board: &mut B,
     hold: &H,
     turns: u64,
     out: &mut Vec<u8>,
 ) -> Result<(), Fault>
     requires lines { first + length commands.now < 2 ^ 64 }
     requires outside { IsOutside env.old }
-    ensures ended { (text : List ℕ) × (out.new.items ≡ out.old.items ++ text) × RanToEnd env.old env.new turns first commands.now result text }
+    ensures ended { (text : List ℕ) × (out.new.items ≡ out.old.items ++ text) × RanToEnd env.old env.new (talk_of B.tells B.looked turns board.new) turns first commands.now result text }
+    ensures kept { StillTells B.tells board.old board.new }
     ensures outside { IsOutside env.new }
     ensures memory { IfErr result (λ e. e ≡ Memory) }
 {

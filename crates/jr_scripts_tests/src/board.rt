@@ -3,7 +3,7 @@
 use crate::printing::{BEFORE, prints};
 use crate::scripts::name_of;
 use crate::threads::HANDED_OVER;
-use jr_scripts::{Board, NoHold, Posts, run_all};
+use jr_scripts::{Board, NoHold, Notes, Posts, run_all};
 use jr_syntax::{Command, OnName, parse};
 use jr_word::Fault;
 use std::test::Fail;
@@ -35,39 +35,44 @@ fn each_name_has_a_word_of_its_own(rt: HostRuntime) -> Result<(), Fail> {
         name_of(b"abcdefghijklmnop")?,
         name_of(b"b")?,
     ];
-    let mut board = Posts::new(alloc);
-    board.add(&commands)?;
+    let mut posts = Posts::new(alloc);
+    posts.add(&commands)?;
+    let mut notes = Notes::new(&posts);
     for name in &names {
-        assert_eq!(rt; board.look(name), None);
+        assert_eq!(rt; notes.look(name), None);
     }
     for (i, name) in names.iter().enumerate() {
-        board.post(name, i as u64);
+        notes.post(name, i as u64);
     }
+    let mut others = Notes::new(&posts);
     for (i, name) in names.iter().enumerate() {
-        assert_eq!(rt; board.look(name), Some(i as u64));
+        assert_eq!(rt; notes.look(name), Some(i as u64));
+        assert_eq!(rt; others.look(name), Some(i as u64));
     }
     Ok(())
 }
 
 #[test]
 fn the_first_word_of_a_name_stays(rt: HostRuntime) -> Result<(), Fail> {
-    let mut board = Posts::new(rt.alloc());
+    let mut posts = Posts::new(rt.alloc());
     let name = name_of(b"g")?;
-    board.add(&[posting(b"g")?])?;
-    board.post(&name, 0);
-    board.post(&name, 6);
-    assert_eq!(rt; board.look(&name), Some(0));
+    posts.add(&[posting(b"g")?])?;
+    let mut notes = Notes::new(&posts);
+    notes.post(&name, 0);
+    notes.post(&name, 6);
+    assert_eq!(rt; notes.look(&name), Some(0));
     Ok(())
 }
 
 #[test]
 fn a_name_without_a_cell_is_not_posted(rt: HostRuntime) -> Result<(), Fail> {
-    let mut board = Posts::new(rt.alloc());
-    board.add(&[posting(b"g")?])?;
+    let mut posts = Posts::new(rt.alloc());
+    posts.add(&[posting(b"g")?])?;
+    let mut notes = Notes::new(&posts);
     let other = name_of(b"ga")?;
-    board.post(&other, 6);
-    assert_eq!(rt; board.look(&other), None);
-    assert_eq!(rt; board.look(&name_of(b"g")?), None);
+    notes.post(&other, 6);
+    assert_eq!(rt; notes.look(&other), None);
+    assert_eq!(rt; notes.look(&name_of(b"g")?), None);
     Ok(())
 }
 

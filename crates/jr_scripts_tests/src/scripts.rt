@@ -5,7 +5,7 @@ ghost use Rattle.jr_env.specs.Envs.{IsOutside};
 use crate::printing::{BEFORE, TURNS, leaves};
 use crate::thread_ends::plain_env;
 use jr_env::Env;
-use jr_scripts::{Hold, NoHold, Posts, run_all, run_one, run_thread};
+use jr_scripts::{Hold, NoHold, Notes, Posts, run_all, run_one, run_thread};
 use jr_steps::Steps;
 use jr_syntax::{
     Command, Make, MakeFrom, Name, On, Reference, Script, Sequence, ThreadPart, is_name,
@@ -91,7 +91,7 @@ fn run_from_line_10<S: Steps>(
         &mut marker,
         10,
         commands,
-        &board,
+        &mut Notes::new(&board),
         &NoHold,
         turns,
         out,

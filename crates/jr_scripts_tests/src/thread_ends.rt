@@ -7,7 +7,7 @@ use crate::scripts::SIZES;
 use jr_env::Env;
 use jr_model::Summary;
 use jr_rule::PlainSteps;
-use jr_scripts::{NoHold, Posts, run_to_end};
+use jr_scripts::{NoHold, Notes, Posts, run_to_end};
 use jr_word::Fault;
 use std::alloc::Global;
 use std::test::Fail;
@@ -27,9 +27,10 @@ fn a_thread_without_turns_keeps_its_locals(rt: HostRuntime) -> Result<(), Fail> 
     let alloc = rt.alloc();
     let mut env = plain_env(alloc)?;
     let local = env.new_plain()?;
-    let board = Posts::new(alloc);
+    let posts = Posts::new(alloc);
+    let mut notes = Notes::new(&posts);
     let mut out = Vec::from_slice(alloc, BEFORE)?;
-    run_to_end(alloc, &mut env, 3, &[], &board, &NoHold, 0, &mut out)?;
+    run_to_end(alloc, &mut env, 3, &[], &mut notes, &NoHold, 0, &mut out)?;
     assert_eq!(rt; env.get_object_ref_type(local)?, 1);
     let summary = Summary {
         globals: 0,
@@ -38,7 +39,7 @@ fn a_thread_without_turns_keeps_its_locals(rt: HostRuntime) -> Result<(), Fail> 
         used: 0,
     };
     assert_eq!(rt; env.held.steps.summary(), summary);
-    run_to_end(alloc, &mut env, 3, &[], &board, &NoHold, 1, &mut out)?;
+    run_to_end(alloc, &mut env, 3, &[], &mut notes, &NoHold, 1, &mut out)?;
     assert_eq!(rt; env.get_object_ref_type(local)?, 0);
     assert_eq!(rt; env.new_local_ref(local).err(), Some(Fault::Stale));
     assert_eq!(rt; out.as_slice(), BEFORE);

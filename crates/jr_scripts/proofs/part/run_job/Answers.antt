@@ -2,13 +2,15 @@ use Rattle.std.proofs.Common.{◌++◌, ap, ◌∙◌}
 use Rattle.jr_model.specs.Frames.{fresh_frames}
 use Rattle.jr_rule.specs.Passes.{Holder, facts_of}
 use Rattle.jr_rule.specs.Rooms.{holder_over}
+use Rattle.jr_scripts.specs.Posting.{quiet}
 use Rattle.jr_scripts.proofs.OneOfAll.{ran_pass}
+use Rattle.jr_scripts.proofs.ToEnd.{ran_still}
 use Rattle.jr_scripts.proofs.part.run_job.Goals as goal
 
 pub returns : goal.returns
 returns g c =
     let x = c.run_to_end-answer.ensures.ended in
-    ran_pass holder_over c.new.result _ _ c.args.pass c.into_pass.result _ _ c.args.turns c.args.first _ c.args.part.now.commands c.run_to_end-answer.result _ x.0 c.opened_env-env.ensures.steps c.run_to_end-answer.new.env.ready.spent x.2
+    ran_pass holder_over c.new.result _ _ c.args.pass c.into_pass.result _ _ quiet c.args.turns c.args.first _ c.args.part.now.commands c.run_to_end-answer.result _ x.0 c.opened_env-env.ensures.steps c.run_to_end-answer.new.env.ready.spent (ran_still (record { tells = λ n w t. tt; in_vain = λ n v. tt }) x.2)
     c.new.ensures.pass
     (c.into_pass.ensures.pass ∙ ap holder_over (c.into_pass-steps.ensures.steps (x.2.stands_is.role ∙ c.opened_env-env.ensures.outside)))
     (c.opened_env-env.ensures.frames ∙ ap (λ (h : Holder). fresh_frames (facts_of h).stands.config.locals) c.new.ensures.pass)

@@ -1,13 +1,16 @@
 use Rattle.std.proofs.Common.{◌≡◌, ap, rules, sym, ◌∙◌, to_z, of_z, w64}
-use Rattle.jr_syntax.specs.declared.command.Command.TheVariants.{OnBoth, OnNameAt, PutAt, Release}
+use Rattle.jr_syntax.specs.declared.command.Command.TheVariants.{Make, OnBoth, PutAt, Release}
+use Rattle.jr_syntax.specs.declared.verb.Make.TheVariants as make
 use Rattle.jr_syntax.specs.declared.verb.Release.TheVariants as releases
 use Rattle.jr_syntax.specs.declared.verb.OnBoth.TheVariants.{Same}
 use Rattle.jr_scripts.specs.Commands.{loading, storing}
 use Rattle.jr_scripts.proofs.CommandDeeds.{only_release, only_same, does_command, does_decided, does_stored_as}
 use Rattle.jr_elements.specs.Copies.{answer_in}
 use Rattle.jr_scripts.specs.declared.reply.Reply.TheVariants as replies
-use Rattle.jr_scripts.specs.Names.{getting, names_put, putting, standing}
+use Rattle.jr_scripts.specs.Names.{putting, standing}
 use Rattle.jr_scripts.specs.Text.{buffers_after}
+use Rattle.jr_scripts.specs.Places.{is_speaking}
+use Rattle.jr_scripts.proofs.Speaking.{only_plain}
 use Rattle.jr_scripts.proofs.CopyDeeds.{does_get, does_put}
 use Rattle.jr_scripts.specs.Advancing.{put_by}
 use Rattle.jr_scripts.proofs.perform.perform.Goals as goal
@@ -16,13 +19,15 @@ pub returns-in-OnBoth-clause-does : goal.returns-in-OnBoth-clause-does
 returns-in-OnBoth-clause-does g c = let only : c.in-OnBoth.verb ≡ Same = only_same c.in-OnBoth.verb in does_command c.args.turns c.args.names.now c.args.command.now _ (c.in-OnBoth.is ∙ ap (λ v. OnBoth v c.in-OnBoth.left c.in-OnBoth.right) only) c.same.ensures
 
 pub returns-in-MakeSized-clause-does : goal.returns-in-MakeSized-clause-does
-returns-in-MakeSized-clause-does g c = does_command c.args.turns c.args.names.now c.args.command.now _ c.in-MakeSized.is c.ask.ensures
+returns-in-MakeSized-clause-does g c = does_command c.args.turns c.args.names.now c.args.command.now _ c.in-MakeSized.is c.ask-in-MakeSized.ensures
 
 pub returns-in-MakeText-clause-does : goal.returns-in-MakeText-clause-does
 returns-in-MakeText-clause-does g c = does_command c.args.turns c.args.names.now c.args.command.now _ c.in-MakeText.is c.ask-in-MakeText.ensures
 
 pub returns-in-Make-clause-does : goal.returns-in-Make-clause-does
-returns-in-Make-clause-does g c = does_command c.args.turns c.args.names.now c.args.command.now _ c.in-Make.is c.make.ensures
+returns-in-Make-clause-does g c =
+    let only : c.in-Make.verb ≡ make.Plain = only_plain c.in-Make.verb c.in-Make.name (sym (ap is_speaking c.in-Make.is) ∙ c.requires.silent) in
+    does_command c.args.turns c.args.names.now c.args.command.now _ (c.in-Make.is ∙ ap (λ v. Make v c.in-Make.name) only) c.ask.ensures
 
 pub returns-in-WithCount-clause-does : goal.returns-in-WithCount-clause-does
 returns-in-WithCount-clause-does g c = does_command c.args.turns c.args.names.now c.args.command.now _ c.in-WithCount.is c.with_count.ensures

@@ -1,4 +1,4 @@
-use Rattle.std.proofs.Common.{arith, rules, ◌∙◌, sym, ◌≡◌, get_or, true, false}
+use Rattle.std.proofs.Common.{rules, ◌∙◌, ◌≡◌, get_or, true, false}
 use Rattle.std.specs.Str.{bytes_eq}
 use Rattle.jr_scripts.proofs.NewestLevels.{newest_found, newest_kept}
 use Rattle.jr_scripts.proofs.region.newest_level.Goals.{then-eq, else-eq}

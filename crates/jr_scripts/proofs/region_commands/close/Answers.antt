@@ -1,4 +1,4 @@
-use Rattle.std.proofs.Common.{◌≡◌, None, Ok, Some, ap, length, rules, ◌∙◌}
+use Rattle.std.proofs.Common.{None, Ok, Some, ap, length, rules, ◌∙◌}
 use Rattle.jr_frames.specs.Table.{Table}
 use Rattle.jr_critical.specs.Levels.{objects_of}
 use Rattle.jr_scripts.specs.Advancing.{DidWith}

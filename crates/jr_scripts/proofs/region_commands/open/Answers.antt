@@ -1,4 +1,4 @@
-use Rattle.std.proofs.Common.{Err, Ok, arith, rules, ◌∙◌}
+use Rattle.std.proofs.Common.{Err, Ok, arith, rules}
 use Rattle.jr_scripts.proofs.Within.{did_from_first, did_answered, did_again, did_give_up}
 use Rattle.jr_word.specs.declared.fault.Fault.TheVariants as fault
 use Rattle.jr_scripts.proofs.region_commands.open.Goals as goal

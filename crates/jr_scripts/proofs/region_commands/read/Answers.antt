@@ -1,7 +1,6 @@
-use Rattle.std.proofs.Common.{sym, subst, ap, w64}
-use Rattle.std.proofs.lemmas.Int.{to_z-of_z}
+use Rattle.std.proofs.Common.{sym, subst}
 use Rattle.jr_model.specs.declared.event.Role.TheVariants.{Within}
-use Rattle.jr_critical.specs.Levels.{KnowsLevels, level_object, objects_of}
+use Rattle.jr_critical.specs.Levels.{KnowsLevels, objects_of}
 use Rattle.jr_scripts.specs.Advancing.{CarriedOut}
 use Rattle.jr_scripts.specs.Places.{nth_object}
 use Rattle.jr_scripts.specs.RegionCommands.{level_reading}

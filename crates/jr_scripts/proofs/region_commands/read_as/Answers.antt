@@ -1,4 +1,4 @@
-use Rattle.std.proofs.Common.{◌≡◌, Ok, ap, rules}
+use Rattle.std.proofs.Common.{Ok, ap, rules}
 use Rattle.jr_frames.specs.Table.{Table}
 use Rattle.jr_critical.specs.Levels.{level_object}
 use Rattle.jr_scripts.specs.declared.reply.Reply.TheVariants as replies

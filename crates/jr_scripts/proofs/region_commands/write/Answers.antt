@@ -1,4 +1,4 @@
-use Rattle.std.proofs.Common.{sym, subst, ap, w64}
+use Rattle.std.proofs.Common.{sym, subst, w64}
 use Rattle.std.proofs.lemmas.Int.{to_z-of_z}
 use Rattle.jr_model.specs.declared.event.Role.TheVariants.{Within}
 use Rattle.jr_critical.specs.Levels.{KnowsLevels, level_object, objects_of}
