@@ -3,7 +3,7 @@ ghost use Rattle.std.specs.Prelude.{IfOk};
 ghost use Rattle.jr_env.specs.Envs.{IsOutside};
 ghost use Rattle.jr_env.specs.StandingRegions.{WasUndisturbed};
 
-use crate::envs::lone_env;
+use crate::envs::{TWO, lone_env};
 use jr_env::Env;
 use jr_steps::Steps;
 use jr_word::{Fault, Handle};
@@ -25,7 +25,7 @@ fn nests_and_reads<S: Steps>(env: &mut Env<S>, array: Handle) -> Result<i32, Fau
 
 #[test]
 fn a_region_is_not_disturbed(rt: HostRuntime) -> Result<(), Fail> {
-    let mut env = lone_env(rt.alloc())?;
+    let mut env = lone_env(rt.alloc(), TWO)?;
     let array = env.new_array::<i32>(2)?;
     assert!(rt; nests_and_reads(&mut env, array) == Ok(7));
     Ok(())

@@ -1,5 +1,5 @@
-use Rattle.jr_critical_tests.proofs.Answered.{whatever}
-use Rattle.jr_critical_tests.proofs.undisturbed.nests_and_reads.Goals as goal
+use Rattle.jr_array_tests.proofs.Answered.{whatever}
+use Rattle.jr_array_tests.proofs.undisturbed.nests_and_reads.Goals as goal
 
 pub returns : goal.returns
 returns g c = λ out.

@@ -1,25 +1,20 @@
-//! Regions of threads of one room, and collections beside them, announced or not.
-ghost use Rattle.std.specs.Prelude.{All};
+//! Regions beside the collections of another thread of the room: what a shut gate bars, what goes on while one is announced, and 10,000 of each side by side.
 ghost use Rattle.jr_gate.specs.Stays.{IsOwnAnnouncement};
-ghost use Rattle.jr_rule.specs.Passes.{IsOpened};
 
-use crate::at_a_level::{give_up, has, nests_array, nests_string, put};
-use crate::envs::{LAST, ONES, OWN, TWO, global, has_elements, is_outside, next_env};
-use crate::refused::{opens_array, opens_string};
-use jr_env::{Env, Region};
+use crate::at_a_level::{give_up, has, nests_array, put};
+use crate::envs::{LAST, ONES, OWN, TWO, has_elements, next_env, next_steps};
+use crate::not_opened::{opens_array, opens_string};
+use jr_env::Env;
 use jr_gate::{Announced, announce, shut_gate};
 use jr_model::Mode;
-use jr_rule::{Pass, Room, RoomSteps};
+use jr_rule::Room;
 use jr_steps::{Role, Steps};
-use jr_word::{Config, Fault, Handle};
+use jr_word::{Fault, Handle};
 use std::process::Abort;
 use std::sync::Wait;
 use std::test::Fail;
 use std::thread;
 use std::thread::Threads;
-
-/// A room of three threads.
-const THREE: Config = Config { threads: 3, ..TWO };
 
 /// How often a thread opens a region.
 const REGIONS: u32 = 10_000;
@@ -29,63 +24,6 @@ const COLLECTIONS: u32 = 10_000;
 
 /// How often a thread tries at most.
 const TRIES: u32 = 5_000_000;
-
-/// The steps over the last of the passes.
-fn next_steps<'a>(room: &'a Room<LAST>, passes: &mut Vec<Pass>) -> Result<RoomSteps<'a, LAST>, Fail>
-    requires { All (λ p. IsOpened room.now.row p) passes.old.items }
-    ensures { All (λ p. IsOpened room.now.row p) passes.new.items }
-{
-    match passes.pop() {
-        Some(pass) => Ok(RoomSteps::new(room, pass)),
-        None => Err("a thread has no pass")?,
-    }
-}
-
-/// Why a collection of a thread that is outside is refused, if it is. It is ended at once.
-fn shut_refused<S: Steps>(rt: &impl Abort, steps: &mut S) -> Option<Fault> {
-    let Role::Outside = steps.role() else {
-        panic!(rt; "the thread is inside")
-    };
-    match shut_gate(steps) {
-        Ok(collection) => {
-            collection.reopen(steps);
-            None
-        }
-        Err(fault) => Some(fault),
-    }
-}
-
-/// Checks with what a collection is refused, if it is.
-fn shuts<S: Steps>(rt: &impl Abort, steps: &mut S, wanted: Option<Fault>) {
-    assert!(rt; shut_refused(rt, steps) == wanted);
-}
-
-/// From its opening to the release of its first level a region bars another thread's collections, whatever levels are added and given up in it. One that is not opened bars none.
-fn bars_collections<S: Steps, T: Steps>(
-    rt: &impl Abort,
-    env: &mut Env<S>,
-    other: &mut T,
-) -> Result<(), Fail> {
-    let array = env.new_array::<i32>(2)?;
-    opens_array(rt, env, ONES, Some(Fault::Stale));
-    shuts(rt, other, None);
-    let mut region = env.get_array_critical(array)?;
-    shuts(rt, other, Some(Fault::Busy(1)));
-    nests_array(rt, &mut region, array, Ok(1));
-    nests_string(rt, &mut region, array, Err(Fault::WrongKind));
-    put(rt, &mut region, 1, 1, -20);
-    shuts(rt, other, Some(Fault::Busy(1)));
-    let mut region = give_up(rt, region, Mode::Abort);
-    has(rt, &mut region, 0, 1, -20);
-    shuts(rt, other, Some(Fault::Busy(1)));
-    match region.release(Mode::Copy) {
-        None => {}
-        Some(_) => panic!(rt; "a level is left"),
-    }
-    shuts(rt, other, None);
-    is_outside(rt, env);
-    Ok(())
-}
 
 /// While another thread collects no region is opened, over an array or a string, and none over what is neither: the gate comes before all. Afterwards they are.
 fn is_barred<S: Steps, T: Steps>(
@@ -112,11 +50,10 @@ fn is_barred<S: Steps, T: Steps>(
 }
 
 #[test]
-fn a_region_and_a_collection_exclude_each_other(rt: HostRuntime) -> Result<(), Fail> {
+fn a_collection_bars_regions(rt: HostRuntime) -> Result<(), Fail> {
     let (room, mut passes) = Room::<LAST>::open(rt.alloc(), TWO)?;
     let mut other = next_steps(&room, &mut passes)?;
     let mut env = next_env(&room, &mut passes)?;
-    bars_collections(&rt, &mut env, &mut other)?;
     is_barred(&rt, &mut env, &mut other)
 }
 
@@ -168,8 +105,8 @@ fn goes_on_while_announced<S: Steps, T: Steps>(
         Ok(collection) => collection.reopen(other),
         Err(_) => panic!(rt; "nobody is inside"),
     }
-    has_elements(rt, env, array, &mut [7; 2], &[0, -20])?;
-    has_elements(rt, env, nested, &mut [7i64], &[i64::MIN])
+    has_elements(rt, env, array, 0, &mut [7; 2], &[0, -20])?;
+    has_elements(rt, env, nested, 0, &mut [7i64], &[i64::MIN])
 }
 
 #[test]
@@ -178,58 +115,6 @@ fn a_region_goes_on_while_a_collection_is_announced(rt: HostRuntime) -> Result<(
     let mut other = next_steps(&room, &mut passes)?;
     let mut env = next_env(&room, &mut passes)?;
     goes_on_while_announced(&rt, &mut env, &mut other)
-}
-
-/// A second thread's region over the array of a region that stands: each reads what was written in the other, and a third thread that would collect finds two threads inside.
-fn stands_beside<S: Steps, T: Steps, U: Steps>(
-    rt: &impl Abort,
-    first: &mut Region<'_, S>,
-    second: &mut Env<T>,
-    shared: Handle,
-    third: &mut U,
-) -> Result<(), Fail> {
-    shuts(rt, third, Some(Fault::Busy(1)));
-    let mut region = second.get_array_critical(shared)?;
-    shuts(rt, third, Some(Fault::Busy(2)));
-    put(rt, first, 0, 0, 65_535u16);
-    has(rt, &mut region, 0, 0, 65_535u16);
-    put(rt, &mut region, 0, 1, 1u16);
-    has(rt, first, 0, 1, 1u16);
-    match region.release(Mode::Copy) {
-        None => {}
-        Some(_) => panic!(rt; "a level is left"),
-    }
-    shuts(rt, third, Some(Fault::Busy(1)));
-    Ok(())
-}
-
-/// Two threads' regions stand over one array at once, of which the one has a local reference, and the other needs a global one.
-fn stand_at_once<S: Steps, T: Steps, U: Steps>(
-    rt: &impl Abort,
-    first: &mut Env<S>,
-    second: &mut Env<T>,
-    third: &mut U,
-) -> Result<(), Fail> {
-    let array = first.new_array::<u16>(2)?;
-    let shared = global(first, array)?;
-    opens_array(rt, second, array, Some(Fault::Foreign));
-    let mut region = first.get_array_critical(array)?;
-    let answer = stands_beside(rt, &mut region, second, shared, third);
-    match region.release(Mode::Copy) {
-        None => {}
-        Some(_) => panic!(rt; "a level is left"),
-    }
-    shuts(rt, third, None);
-    answer
-}
-
-#[test]
-fn regions_of_two_threads_stand_at_once(rt: HostRuntime) -> Result<(), Fail> {
-    let (room, mut passes) = Room::<LAST>::open(rt.alloc(), THREE)?;
-    let mut third = next_steps(&room, &mut passes)?;
-    let mut second = next_env(&room, &mut passes)?;
-    let mut first = next_env(&room, &mut passes)?;
-    stand_at_once(&rt, &mut first, &mut second, &mut third)
 }
 
 /// Opens a region over the first array so often, or until it has tried so often, and writes there how many it opened before. How often that was read.
@@ -284,7 +169,7 @@ fn own_array<S: Steps>(rt: &impl Abort, env: &mut Env<S>) -> Result<Handle, Fail
 
 /// The array has what was written last.
 fn has_last_number<S: Steps>(rt: &impl Abort, env: &mut Env<S>, array: Handle) -> Result<(), Fail> {
-    has_elements(rt, env, array, &mut [7i64; 2], &[0, 9_999])
+    has_elements(rt, env, array, 0, &mut [7i64; 2], &[0, 9_999])
 }
 
 #[test]
