@@ -5,9 +5,8 @@ ghost use Rattle.jr_env.specs.Collections.{FitsRoom};
 ghost use Rattle.jr_env.specs.Envs.{IsOutside};
 ghost use Rattle.jr_rule.specs.Passes.{IsOpened};
 
-use crate::envs::{LAST, refuses};
+use crate::envs::{LAST, closed, next_steps, refuses};
 use crate::overtaken::{Before, Meanwhile, Overtaken, next_overtaken};
-use crate::sharing::closed;
 use jr_env::Env;
 use jr_model::Summary;
 use jr_rule::{Pass, Room, RoomSteps};
@@ -123,10 +122,7 @@ fn with_plans<'a>(
     requires { All (λ p. IsOpened room.now.row p) passes.old.items }
     ensures { All (λ p. IsOpened room.now.row p) passes.new.items }
 {
-    let Some(pass) = passes.pop() else {
-        return Err("a thread has no pass")?;
-    };
-    let mut steps = RoomSteps::new(room, pass);
+    let mut steps = next_steps(room, passes)?;
     if is_inside {
         steps.go_in();
     }

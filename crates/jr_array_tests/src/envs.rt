@@ -1,17 +1,39 @@
-//! The envs that arrays are made and read in, and what their calls refuse.
-ghost use Rattle.std.specs.Prelude.{◌≡◌};
+//! The envs that arrays are made and read in, what their calls refuse, and words that are no reference.
+ghost use Rattle.std.specs.Prelude.{◌≡◌, All, IfOk};
 ghost use Rattle.jr_model.specs.declared.event.Role.TheVariants.{Outside};
+ghost use Rattle.jr_rule.specs.Passes.{IsOpened};
 
 use jr_env::Env;
-use jr_rule::PlainSteps;
-use jr_steps::Steps;
-use jr_word::{Config, Fault};
+use jr_model::Summary;
+use jr_rule::{Pass, PlainSteps, Room, RoomSteps};
+use jr_steps::{Role, Steps};
+use jr_word::{Config, Elem, Fault, Handle};
 use std::alloc::Global;
 use std::process::Abort;
 use std::test::Fail;
 
 /// The last serial of a slot or a local place.
 pub(crate) const LAST: u32 = 4_294_967_295;
+
+/// Two threads with four slots and 16 local places each, eight objects, and 32 words for their elements.
+pub(crate) const TWO: Config = Config {
+    threads: 2,
+    slots: 4,
+    objects: 8,
+    words: 32,
+    locals: 16,
+};
+
+/// Malformed: all ones.
+pub(crate) const ONES: Handle = Handle(u64::MAX);
+
+/// Local, of thread 0 and of thread 1, with serial 0 at the first place.
+pub(crate) const OWN: Handle = Handle(1);
+
+pub(crate) const FOREIGN: Handle = Handle(0x4_0000_0000_0001);
+
+/// Global, with a fifth slot.
+pub(crate) const NO_SLOT: Handle = Handle(0x10_0000_0002);
 
 /// The env of a thread whose pass was not used.
 pub(crate) fn env_of<S: Steps + Drop>(steps: S) -> Result<Env<S>, Fail>
@@ -28,7 +50,65 @@ pub(crate) fn lone_env(alloc: Global, config: Config) -> Result<Env<PlainSteps<L
     env_of(PlainSteps::new(alloc, config)?)
 }
 
+/// The steps over the last of the passes.
+pub(crate) fn next_steps<'a>(
+    room: &'a Room<LAST>,
+    passes: &mut Vec<Pass>,
+) -> Result<RoomSteps<'a, LAST>, Fail>
+    requires { All (λ p. IsOpened room.now.row p) passes.old.items }
+    ensures others { All (λ p. IsOpened room.now.row p) passes.new.items }
+    ensures outside { IfOk result (λ s. s.role ≡ Outside) }
+{
+    match passes.pop() {
+        Some(pass) => Ok(RoomSteps::new(room, pass)),
+        None => Err("a thread has no pass")?,
+    }
+}
+
+/// The env over the last of the passes.
+pub(crate) fn next_env<'a>(
+    room: &'a Room<LAST>,
+    passes: &mut Vec<Pass>,
+) -> Result<Env<RoomSteps<'a, LAST>>, Fail>
+    requires { All (λ p. IsOpened room.now.row p) passes.old.items }
+    ensures { All (λ p. IsOpened room.now.row p) passes.new.items }
+{
+    let steps = next_steps(room, passes)?;
+    env_of(steps)
+}
+
+/// What stands in a room that is closed with the last of the passes.
+pub(crate) fn closed(room: Room<LAST>, passes: Vec<Pass>) -> Option<Summary>
+    requires { All (λ p. IsOpened room.row p) passes.items }
+{
+    let mut passes = passes;
+    match passes.pop() {
+        Some(pass) => room.close(pass).ok(),
+        None => None,
+    }
+}
+
 /// Checks that a call was refused so.
 pub(crate) fn refuses<A: Drop>(rt: &impl Abort, answer: Result<A, Fault>, fault: Fault) {
     assert_eq!(rt; answer.err(), Some(fault));
+}
+
+/// Checks that the thread is outside the gate, and that its calls are made.
+pub(crate) fn is_outside<S: Steps>(rt: &impl Abort, env: &mut Env<S>) {
+    assert!(rt; env.held.steps.role() == Role::Outside);
+    assert!(rt; env.get_object_ref_type(Handle::NULL) == Ok(0));
+}
+
+/// The array has these elements from an index on.
+pub(crate) fn has_elements<S: Steps, E: Elem + PartialEq>(
+    rt: &impl Abort,
+    env: &mut Env<S>,
+    array: Handle,
+    start: u32,
+    found: &mut [E],
+    wanted: &[E],
+) -> Result<(), Fail> {
+    env.get_array_region(array, start, found)?;
+    assert!(rt; &*found == wanted);
+    Ok(())
 }

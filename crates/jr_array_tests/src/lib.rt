@@ -1,16 +1,22 @@
-//! Tests of an env's calls at arrays, strings and object arrays, over rooms and over plain words.
+//! Tests of an env's calls at arrays, strings, copies and critical regions, over rooms and over plain words: of what scripts can't show.
 #![tactic(auto)]
 
 #[cfg(test)]
 mod announced;
 #[cfg(test)]
+mod at_a_level;
+#[cfg(test)]
 mod copies;
+#[cfg(test)]
+mod element_types;
 #[cfg(test)]
 mod elements;
 #[cfg(test)]
 mod envs;
 #[cfg(test)]
-mod making;
+mod levels;
+#[cfg(test)]
+mod not_opened;
 #[cfg(test)]
 mod objects;
 #[cfg(test)]
@@ -18,6 +24,8 @@ mod overtaken;
 #[cfg(test)]
 mod racing;
 #[cfg(test)]
+mod region_threads;
+#[cfg(test)]
 mod regions;
 #[cfg(test)]
-mod sharing;
+mod undisturbed;

@@ -1,18 +1,15 @@
 //! A thread that another overtakes each time, between its look at a word and its exchange: at the top, where the other reserves words, and at the gate, where it goes in or out, or announces.
-ghost use Rattle.std.specs.Prelude.{◌≡◌, All, IfOk};
-ghost use Rattle.jr_model.specs.declared.event.Role.TheVariants.{Outside};
+ghost use Rattle.std.specs.Prelude.{All};
 ghost use Rattle.jr_rule.specs.Passes.{IsOpened};
 
-use crate::envs::{LAST, env_of, refuses};
-use crate::sharing::{closed, next_env};
+use crate::envs::{LAST, closed, env_of, next_env, next_steps, refuses};
 use jr_env::Env;
-use jr_gate::announce;
 use jr_model::Summary;
 use jr_rule::{Pass, Room, RoomSteps};
 use jr_steps::{GateLoad, Role, SlotLoad, Steps, TopLoad};
 use jr_word::{
-    Config, Elem, Fault, GateParts, GateState, Handle, HandleParts, HeaderParts, LocalParts,
-    RefKind, SlotParts,
+    Config, Elem, Fault, GateParts, Handle, HandleParts, HeaderParts, LocalParts, RefKind,
+    SlotParts,
 };
 use std::process::Abort;
 use std::test::Fail;
@@ -50,42 +47,6 @@ impl<U: Steps> Meanwhile for Env<U> {
     fn act(&mut self, before: Before) {
         if before == Before::Reservation {
             let _ = self.new_array::<i32>(1);
-        }
-    }
-}
-
-/// A thread that goes in and out by turns.
-#[derive(Drop)]
-struct Visitor<S: Steps> {
-    steps: S,
-}
-
-impl<U: Steps> Meanwhile for Visitor<U> {
-    fn act(&mut self, before: Before) {
-        match (before, self.steps.role()) {
-            (Before::Announcement, Role::Outside) => {
-                self.steps.go_in();
-            }
-            (Before::Announcement, Role::Within) => self.steps.go_out(),
-            _ => {}
-        }
-    }
-}
-
-/// A thread that announces that it will shut the gate, which nobody may be in, and takes that back, by turns.
-#[derive(Drop)]
-struct Rival<S: Steps> {
-    steps: S,
-}
-
-impl<U: Steps> Meanwhile for Rival<U> {
-    fn act(&mut self, before: Before) {
-        match (before, self.steps.role()) {
-            (Before::Announcement, Role::Outside) => {
-                let _ = self.steps.announce(0);
-            }
-            (Before::Announcement, Role::Announcing) => self.steps.cancel(),
-            _ => {}
         }
     }
 }
@@ -287,21 +248,6 @@ impl<S: Steps, M: Meanwhile> Steps for Overtaken<S, M> {
     ghost below = { λ s. S.below s.steps };
 }
 
-/// The steps over the next pass.
-fn steps_over_next<'a>(
-    room: &'a Room<LAST>,
-    passes: &mut Vec<Pass>,
-) -> Result<RoomSteps<'a, LAST>, Fail>
-    requires { All (λ p. IsOpened room.now.row p) passes.old.items }
-    ensures others { All (λ p. IsOpened room.now.row p) passes.new.items }
-    ensures outside { IfOk result (λ s. s.role ≡ Outside) }
-{
-    match passes.pop() {
-        Some(pass) => Ok(RoomSteps::new(room, pass)),
-        None => Err("a thread has no pass")?,
-    }
-}
-
 /// The env over the next pass, which another thread overtakes.
 pub(crate) fn next_overtaken<'a, M: Meanwhile + Drop>(
     room: &'a Room<LAST>,
@@ -311,7 +257,7 @@ pub(crate) fn next_overtaken<'a, M: Meanwhile + Drop>(
     requires { All (λ p. IsOpened room.now.row p) passes.old.items }
     ensures { All (λ p. IsOpened room.now.row p) passes.new.items }
 {
-    let steps = steps_over_next(room, passes)?;
+    let steps = next_steps(room, passes)?;
     env_of(Overtaken { steps, other })
 }
 
@@ -346,69 +292,5 @@ fn another_thread_is_always_faster(rt: HostRuntime) -> Result<(), Fail> {
         used: 3,
     };
     assert_eq!(rt; closed(room, passes), Some(summary));
-    Ok(())
-}
-
-/// Why an announcement is refused, if it is. It is taken back at once.
-fn is_not_announced<S: Steps>(steps: &mut S) -> Option<Fault>
-    requires { (S.facts steps.old).stands.role ≡ Outside }
-    ensures { (S.facts steps.new).stands ≡ (S.facts steps.old).stands }
-{
-    match announce(steps) {
-        Ok(announced) => {
-            announced.cancel(steps);
-            None
-        }
-        Err(fault) => Some(fault),
-    }
-}
-
-/// An announcement is refused with E23 where another thread came in between, and where it left, and nothing changes: the thread stands outside, and the gate is open.
-fn is_moved<S: Steps>(rt: &impl Abort, steps: &mut S)
-    requires { (S.facts steps.old).stands.role ≡ Outside }
-{
-    assert_eq!(rt; is_not_announced(steps), Some(Fault::Moved(0, 1)));
-    assert_eq!(rt; is_not_announced(steps), Some(Fault::Moved(1, 0)));
-    assert_eq!(rt; is_not_announced(steps), Some(Fault::Moved(0, 1)));
-    assert_eq!(rt; steps.role(), Role::Outside);
-    let found = GateParts {
-        count: 1,
-        state: GateState::Open,
-    };
-    assert_eq!(rt; steps.see_gate(GateLoad::Meet), found);
-}
-
-#[test]
-fn another_thread_goes_in_or_out_first(rt: HostRuntime) -> Result<(), Fail> {
-    let (room, mut passes) = Room::<LAST>::open(rt.alloc(), SMALL)?;
-    let steps = steps_over_next(&room, &mut passes)?;
-    let other = Visitor {
-        steps: steps_over_next(&room, &mut passes)?,
-    };
-    let mut overtaken = Overtaken { steps, other };
-    is_moved(&rt, &mut overtaken);
-    Ok(())
-}
-
-/// An announcement is refused with E14 where another thread announced in between, and so is the next, which looks alone: the other would take its own back before the exchange.
-fn comes_too_late<S: Steps>(rt: &impl Abort, steps: &mut S)
-    requires { (S.facts steps.old).stands.role ≡ Outside }
-    ensures { (S.facts steps.new).stands ≡ (S.facts steps.old).stands }
-{
-    assert_eq!(rt; is_not_announced(steps), Some(Fault::Busy(1)));
-    assert_eq!(rt; is_not_announced(steps), Some(Fault::Busy(1)));
-    assert_eq!(rt; steps.role(), Role::Outside);
-}
-
-#[test]
-fn another_thread_announces_first(rt: HostRuntime) -> Result<(), Fail> {
-    let (room, mut passes) = Room::<LAST>::open(rt.alloc(), SMALL)?;
-    let steps = steps_over_next(&room, &mut passes)?;
-    let other = Rival {
-        steps: steps_over_next(&room, &mut passes)?,
-    };
-    let mut overtaken = Overtaken { steps, other };
-    comes_too_late(&rt, &mut overtaken);
-    assert_eq!(rt; overtaken.other.steps.role(), Role::Announcing);
     Ok(())
 }

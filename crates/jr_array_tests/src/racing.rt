@@ -1,7 +1,6 @@
 //! A thread whose words another reserves while it looks for them.
 
-use crate::envs::LAST;
-use crate::sharing::{closed, next_env};
+use crate::envs::{LAST, closed, next_env};
 use jr_env::Env;
 use jr_model::Summary;
 use jr_rule::Room;

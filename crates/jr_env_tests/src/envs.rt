@@ -1,15 +1,20 @@
-//! Envs for tests, and what their calls answer.
-ghost use Rattle.std.specs.Prelude.{◌≡◌, true};
+//! Rooms and envs for tests, and what their calls answer.
+ghost use Rattle.std.specs.Prelude.{◌≡◌, true, All, IfOk};
 ghost use Rattle.jr_model.specs.declared.event.Role.TheVariants.{Outside};
+ghost use Rattle.jr_rule.specs.Passes.{IsOpened};
 ghost use Rattle.jr_steps.specs.Knowing.{Spent};
 
 use jr_env::Env;
-use jr_rule::PlainSteps;
+use jr_rule::{Pass, PlainSteps, Room, RoomSteps};
 use jr_steps::Steps;
+use jr_weak::Marker;
 use jr_word::{Config, Fault, Handle};
 use std::alloc::Global;
 use std::process::Abort;
 use std::test::Fail;
+
+/// The last serial of a slot or a local place.
+pub(crate) const LAST: u32 = 4_294_967_295;
 
 /// The env over a fresh pass, which is spent.
 pub(crate) fn opened_env<S: Steps + Drop>(steps: S) -> Env<S>
@@ -24,12 +29,46 @@ pub(crate) fn opened_env<S: Steps + Drop>(steps: S) -> Env<S>
 }
 
 /// The env over plain words in which nothing stands.
-pub(crate) fn plain_env(
-    alloc: Global,
-    config: Config,
-) -> Result<Env<PlainSteps<4_294_967_295>>, Fault> {
+pub(crate) fn plain_env(alloc: Global, config: Config) -> Result<Env<PlainSteps<LAST>>, Fault> {
     let steps = PlainSteps::new(alloc, config)?;
     Ok(opened_env(steps))
+}
+
+/// The last of the passes.
+pub(crate) fn next_pass(_room: &Room<LAST>, passes: &mut Vec<Pass>) -> Result<Pass, Fail>
+    requires { All (λ p. IsOpened _room.now.row p) passes.old.items }
+    ensures others { All (λ p. IsOpened _room.now.row p) passes.new.items }
+    ensures pass { IfOk result (λ p. IsOpened _room.now.row p) }
+{
+    let Some(pass) = passes.pop() else {
+        return Err("there is no pass for each thread")?;
+    };
+    Ok(pass)
+}
+
+/// The steps over the last of the passes.
+pub(crate) fn next_steps<'a>(
+    room: &'a Room<LAST>,
+    passes: &mut Vec<Pass>,
+) -> Result<RoomSteps<'a, LAST>, Fail>
+    requires { All (λ p. IsOpened room.now.row p) passes.old.items }
+    ensures others { All (λ p. IsOpened room.now.row p) passes.new.items }
+    ensures outside { IfOk result (λ s. s.role ≡ Outside) }
+{
+    let pass = next_pass(room, passes)?;
+    Ok(RoomSteps::new(room, pass))
+}
+
+/// The env over the last of the passes.
+pub(crate) fn next_env<'a>(
+    room: &'a Room<LAST>,
+    passes: &mut Vec<Pass>,
+) -> Result<Env<RoomSteps<'a, LAST>>, Fail>
+    requires { All (λ p. IsOpened room.now.row p) passes.old.items }
+    ensures { All (λ p. IsOpened room.now.row p) passes.new.items }
+{
+    let pass = next_pass(room, passes)?;
+    Ok(opened_env(RoomSteps::new(room, pass)))
 }
 
 /// The reference that a call made to an object.
@@ -59,4 +98,11 @@ pub(crate) fn has_type<S: Steps>(
 ) -> Result<(), Fail> {
     assert_eq!(rt; env.get_object_ref_type(word)?, wanted);
     Ok(())
+}
+
+/// How many weak references a collection cleared, how many objects it dropped, and how many words are used then. The marker is made for it.
+pub(crate) fn collected<S: Steps>(alloc: Global, env: &mut Env<S>) -> Result<[u32; 3], Fault> {
+    let mut marker = Marker::new(alloc, env.held.steps.config())?;
+    let collected = env.collect(&mut marker)?;
+    Ok([collected.cleared, collected.dropped, collected.used])
 }

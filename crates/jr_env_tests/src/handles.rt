@@ -128,7 +128,7 @@ fn retires_a_slot_after_its_last_serial(rt: HostRuntime) -> Result<(), Fail> {
 
 #[test]
 fn sums_up_what_stands(rt: HostRuntime) -> Result<(), Fail> {
-    let mut env = opened_env(PlainSteps::<2>::new(rt.alloc(), Config::LEAST)?);
+    let mut env = plain_env(rt.alloc(), Config::LEAST)?;
     let local = env.new_plain()?;
     env.new_global_ref(local)?;
     let summary = Summary {

@@ -1,4 +1,4 @@
-//! Tests of the calls of an env for references and frames, and of its collections, over rooms and over plain words.
+//! Tests of the calls of an env for references and frames, and of its collections, over rooms and over plain words: of what scripts can't show.
 #![tactic(auto)]
 
 #[cfg(test)]
@@ -13,5 +13,3 @@ mod handles;
 mod held;
 #[cfg(test)]
 mod references;
-#[cfg(test)]
-mod rooms;

@@ -4,8 +4,7 @@ ghost use Rattle.std.specs.Prelude.{◌≡◌, IfOk};
 ghost use Rattle.jr_model.specs.declared.event.Role.TheVariants.{Outside};
 ghost use Rattle.jr_rule.specs.Passes.{IsAt, IsOpened};
 
-use crate::envs::{has_type, is_refused, made, opened_env, plain_env};
-use crate::rooms::{last_env, last_of};
+use crate::envs::{LAST, has_type, is_refused, made, next_pass, opened_env, plain_env};
 use jr_env::Env;
 use jr_rule::{Pass, PlainSteps, Room, RoomSteps};
 use jr_steps::Steps;
@@ -65,9 +64,8 @@ fn is_no_reference<S: Steps>(
     has_type(rt, env, word, 0)
 }
 
-#[test]
-fn words_that_are_no_reference(rt: HostRuntime) -> Result<(), Fail> {
-    let mut env = plain_env(rt.alloc(), TWO)?;
+/// Words that are no reference of the thread, each with its refusal.
+fn are_no_references<S: Steps>(rt: &impl Abort, env: &mut Env<S>) -> Result<(), Fail> {
     let rows = [
         (ONES, Fault::Stale),
         (Handle(4), Fault::Stale),
@@ -81,15 +79,19 @@ fn words_that_are_no_reference(rt: HostRuntime) -> Result<(), Fail> {
         (OWN, Fault::Stale),
     ];
     for (word, fault) in rows {
-        is_no_reference(&rt, &mut env, word, fault)?;
+        is_no_reference(rt, env, word, fault)?;
     }
-    has_type(&rt, &mut env, Handle::NULL, 0)
+    has_type(rt, env, Handle::NULL, 0)
 }
 
-// Each kind of check is made of the first reference and then of the second, before the next kind.
 #[test]
-fn checks_of_two_references(rt: HostRuntime) -> Result<(), Fail> {
+fn words_that_are_no_reference(rt: HostRuntime) -> Result<(), Fail> {
     let mut env = plain_env(rt.alloc(), TWO)?;
+    are_no_references(&rt, &mut env)
+}
+
+/// Each kind of check is made of the first reference and then of the second, before the next kind.
+fn are_checked_in_turn<S: Steps>(rt: &impl Abort, env: &mut Env<S>) {
     let rows = [
         (FOREIGN, ONES, Fault::Stale),
         (FOREIGN, NO_SLOT, Fault::Stale),
@@ -97,8 +99,14 @@ fn checks_of_two_references(rt: HostRuntime) -> Result<(), Fail> {
         (FOREIGN, OWN, Fault::Foreign),
     ];
     for (left, right, fault) in rows {
-        is_refused(&rt, env.is_same_object(left, right), Some(fault));
+        is_refused(rt, env.is_same_object(left, right), Some(fault));
     }
+}
+
+#[test]
+fn checks_of_two_references(rt: HostRuntime) -> Result<(), Fail> {
+    let mut env = plain_env(rt.alloc(), TWO)?;
+    are_checked_in_turn(&rt, &mut env);
     Ok(())
 }
 
@@ -151,14 +159,9 @@ fn have_types<S: Steps>(
     has_type(rt, env, of.weak, wanted[2])
 }
 
-#[test]
-fn references_of_another_kind(rt: HostRuntime) -> Result<(), Fail> {
-    let mut env = plain_env(rt.alloc(), TWO)?;
-    let of = of_each(&mut env)?;
-    refused_as_local(&rt, &mut env, &of);
-    // What was refused stands.
-    have_types(&rt, &mut env, &of, [1, 2, 3])?;
-    let kinds = [
+/// What deleting a word as a global and as a weak global reference is refused with, where it is; of the two references of these kinds each is deleted.
+fn refused_as_global<S: Steps>(rt: &impl Abort, env: &mut Env<S>, of: &OfEach) {
+    let rows = [
         (of.local, Some(Fault::WrongKind), Some(Fault::WrongKind)),
         (of.weak, Some(Fault::WrongKind), None),
         (FOREIGN, Some(Fault::WrongKind), Some(Fault::WrongKind)),
@@ -167,11 +170,25 @@ fn references_of_another_kind(rt: HostRuntime) -> Result<(), Fail> {
         (ONES, Some(Fault::Stale), Some(Fault::Stale)),
         (of.global, None, Some(Fault::WrongKind)),
     ];
-    for (word, of_global, of_weak) in kinds {
-        is_refused(&rt, env.delete_global_ref(word), of_global);
-        is_refused(&rt, env.delete_weak_global_ref(word), of_weak);
+    for (word, of_global, of_weak) in rows {
+        is_refused(rt, env.delete_global_ref(word), of_global);
+        is_refused(rt, env.delete_weak_global_ref(word), of_weak);
     }
-    have_types(&rt, &mut env, &of, [1, 0, 0])
+}
+
+/// A reference of each kind is deleted by the call for its kind alone, and what was refused stands.
+fn are_deleted_by_kind<S: Steps>(rt: &impl Abort, env: &mut Env<S>) -> Result<(), Fail> {
+    let of = of_each(env)?;
+    refused_as_local(rt, env, &of);
+    have_types(rt, env, &of, [1, 2, 3])?;
+    refused_as_global(rt, env, &of);
+    have_types(rt, env, &of, [1, 0, 0])
+}
+
+#[test]
+fn references_of_another_kind(rt: HostRuntime) -> Result<(), Fail> {
+    let mut env = plain_env(rt.alloc(), TWO)?;
+    are_deleted_by_kind(&rt, &mut env)
 }
 
 /// The steps, handed back by a refusal of an env.
@@ -188,13 +205,13 @@ fn refused<S: Steps + Drop>(rt: &impl Abort, env: Result<Env<S>, (S, Fault)>) ->
 
 #[test]
 fn an_env_is_made_of_a_fresh_pass_alone(rt: HostRuntime) -> Result<(), Fail> {
-    let mut steps = PlainSteps::<2>::new(rt.alloc(), Config::LEAST)?;
+    let mut steps = PlainSteps::<LAST>::new(rt.alloc(), Config::LEAST)?;
     assert!(rt; steps.fresh());
     steps.spend();
     let steps = refused(&rt, Env::new(steps))?;
     assert_eq!(rt; steps.cells.words.as_slice(), [0; 20].as_slice());
 
-    let Ok(mut env) = Env::new(PlainSteps::<2>::new(rt.alloc(), Config::LEAST)?) else {
+    let Ok(mut env) = Env::new(PlainSteps::<LAST>::new(rt.alloc(), Config::LEAST)?) else {
         return Err("the pass is fresh")?;
     };
     assert!(rt; !env.held.steps.fresh());
@@ -209,59 +226,17 @@ fn an_env_is_made_of_a_fresh_pass_alone(rt: HostRuntime) -> Result<(), Fail> {
 }
 
 /// A room, and the passes of its two threads.
-fn opened(alloc: Global) -> Result<(Room<2>, Pass, Pass), Fail>
+fn opened(alloc: Global) -> Result<(Room<LAST>, Pass, Pass), Fail>
     ensures { IfOk result (λ r. IsOpened r.0.row r.1 × IsOpened r.0.row r.2) }
 {
-    let (room, mut passes) = Room::<2>::open(alloc, TWO)?;
-    let second = last_of(&room, &mut passes)?;
-    let first = last_of(&room, &mut passes)?;
+    let (room, mut passes) = Room::<LAST>::open(alloc, TWO)?;
+    let second = next_pass(&room, &mut passes)?;
+    let first = next_pass(&room, &mut passes)?;
     Ok((room, first, second))
 }
 
-/// A reference of one env's thread that the other finds by a global reference, and each local one is its own thread's alone.
-fn shares<S: Steps, U: Steps>(
-    rt: &impl Abort,
-    first: &mut Env<S>,
-    second: &mut Env<U>,
-) -> Result<(), Fail> {
-    let object = first.new_plain()?;
-    let shared = made(first.new_global_ref(object))?;
-    let own = made(second.new_local_ref(shared))?;
-    assert_eq!(rt; [object, shared, own], [OWN, Handle(2), FOREIGN]);
-    has_type(rt, second, shared, 2)?;
-    assert!(rt; second.is_same_object(own, shared)?);
-    is_refused(rt, second.new_global_ref(object), Some(Fault::Foreign));
-    is_refused(
-        rt,
-        second.is_same_object(shared, object),
-        Some(Fault::Foreign),
-    );
-    is_refused(rt, first.delete_local_ref(own), Some(Fault::Foreign));
-    has_type(rt, first, own, 0)?;
-    second.delete_global_ref(shared)?;
-    Ok(())
-}
-
-/// What was deleted by another thread is no reference any more.
-fn is_gone<S: Steps>(rt: &impl Abort, env: &mut Env<S>, shared: Handle) -> Result<(), Fail> {
-    has_type(rt, env, shared, 0)?;
-    is_refused(rt, env.new_local_ref(shared), Some(Fault::Stale));
-    is_refused(rt, env.delete_global_ref(shared), Some(Fault::Stale));
-    Ok(())
-}
-
-#[test]
-fn two_passes_share_a_global_reference(rt: HostRuntime) -> Result<(), Fail> {
-    let (room, mut passes) = Room::<2>::open(rt.alloc(), TWO)?;
-    let mut second = last_env(&room, &mut passes)?;
-    let mut first = last_env(&room, &mut passes)?;
-    shares(&rt, &mut first, &mut second)?;
-    is_gone(&rt, &mut first, Handle(2))?;
-    has_type(&rt, &mut second, FOREIGN, 1)
-}
-
 /// A global reference that the thread of a pass makes, and the pass.
-fn shared_by(room: &Room<2>, pass: Pass) -> Result<(Handle, Pass), Fail>
+fn shared_by(room: &Room<LAST>, pass: Pass) -> Result<(Handle, Pass), Fail>
     requires { IsOpened room.now.row pass }
     ensures { IfOk result (λ r. IsAt room.now.row r.1) }
 {
@@ -274,7 +249,7 @@ fn shared_by(room: &Room<2>, pass: Pass) -> Result<(Handle, Pass), Fail>
 /// The pass of another thread, once an env over a pass has met it.
 fn met_by(
     rt: &impl Abort,
-    room: &Room<2>,
+    room: &Room<LAST>,
     pass: Pass,
     shared: Handle,
     other: Pass,
@@ -363,14 +338,7 @@ fn goes_round<S: Steps>(rt: &impl Abort, env: &mut Env<S>) -> Result<(), Fail> {
 }
 
 #[test]
-fn searches_go_round_over_plain_words(rt: HostRuntime) -> Result<(), Fail> {
+fn searches_go_round(rt: HostRuntime) -> Result<(), Fail> {
     let mut env = plain_env(rt.alloc(), THREE_SLOTS)?;
-    goes_round(&rt, &mut env)
-}
-
-#[test]
-fn searches_go_round_in_a_room(rt: HostRuntime) -> Result<(), Fail> {
-    let (room, mut passes) = Room::<2>::open(rt.alloc(), THREE_SLOTS)?;
-    let mut env = last_env(&room, &mut passes)?;
     goes_round(&rt, &mut env)
 }

@@ -1,17 +1,13 @@
-//! Collections that are announced: what they do, what keeps them out, and what they keep out.
-ghost use Rattle.std.specs.Prelude.{◌≡◌, ◌≤◌, All, IfOk, IfSome};
+//! Collections while a thread announces one: what it keeps out, and that a pass which is dropped then keeps it out for good.
+ghost use Rattle.std.specs.Prelude.{◌≡◌, ◌≤◌, IfOk, IfSome};
 ghost use Rattle.jr_model.specs.declared.event.Role.TheVariants.{Outside};
 ghost use Rattle.jr_env.specs.Collections.{FitsRoom};
 ghost use Rattle.jr_env.specs.Envs.{IsOutside};
-ghost use Rattle.jr_rule.specs.Passes.{IsOpened};
 
-use super::envs::{LAST, global, has_elements, lone_env, next_env, sized, weak};
-use super::reached::is_cleared;
-use crate::envs::is_refused;
+use crate::envs::{LAST, is_refused, made, next_env, next_pass, next_steps};
 use jr_env::Env;
 use jr_gate::{announce, enter};
-use jr_model::Mode;
-use jr_rule::{Left, Pass, Room, RoomSteps};
+use jr_rule::{Left, Room};
 use jr_steps::Steps;
 use jr_weak::{Collected, Marker};
 use jr_word::{Config, Fault, Handle};
@@ -35,20 +31,11 @@ const OF_FILLED: Collected = Collected {
     used: 2,
 };
 
-/// What the next collection does.
-const OF_NOTHING: Collected = Collected {
-    cleared: 0,
-    dropped: 0,
-    used: 2,
-};
-
 /// What a thread has made for a collection.
 #[derive(Clone, Copy, Drop)]
 struct Filled {
     /// A global reference to an array of two elements, which stand behind three words of an array that no reference but a weak one names.
     kept: Handle,
-    /// A weak reference to the one.
-    kept_weak: Handle,
     /// A weak reference to the other.
     gone_weak: Handle,
 }
@@ -58,18 +45,12 @@ fn fill<S: Steps>(env: &mut Env<S>) -> Result<Filled, Fail>
     ensures { IfOk result (λ _. IsOutside env.new) }
 {
     let gone = env.new_array::<i32>(3)?;
-    let gone_weak = weak(env, gone)?;
+    let gone_weak = made(env.new_weak_global_ref(gone))?;
     let array = env.new_array::<i32>(2)?;
-    env.set_array_region(array, 0, &[5, -6])?;
-    let kept = global(env, array)?;
-    let kept_weak = weak(env, array)?;
+    let kept = made(env.new_global_ref(array))?;
     env.delete_local_ref(array)?;
     env.delete_local_ref(gone)?;
-    Ok(Filled {
-        kept,
-        kept_weak,
-        gone_weak,
-    })
+    Ok(Filled { kept, gone_weak })
 }
 
 /// A collection: announced, with so many tries, or else not announced.
@@ -117,174 +98,6 @@ fn is_as_filled<S: Steps>(rt: &impl Abort, env: &mut Env<S>, filled: Filled)
     );
     assert_eq!(rt; env.get_array_length(filled.gone_weak), Ok(3));
     assert_eq!(rt; env.new_array::<i32>(6), Err(Fault::SpaceFull(5)));
-}
-
-/// Behind a collection the array that is reached has its elements, the weak reference to the other is to null, and all words but two are free.
-fn is_as_collected<S: Steps>(
-    rt: &impl Abort,
-    env: &mut Env<S>,
-    filled: Filled,
-) -> Result<(), Fail> {
-    has_elements(rt, env, filled.kept, &mut [7i32; 2], &[5, -6])?;
-    assert!(rt; env.is_same_object(filled.kept, filled.kept_weak)?);
-    is_cleared(rt, env, filled.gone_weak)?;
-    let all = env.new_array::<i32>(6)?;
-    has_elements(rt, env, all, &mut [7i32; 6], &[0; 6])?;
-    has_elements(rt, env, filled.kept, &mut [7i32; 2], &[5, -6])?;
-    assert_eq!(rt; env.new_array::<i32>(1), Err(Fault::SpaceFull(8)));
-    Ok(())
-}
-
-/// Collects twice, with one marker.
-fn clears_drops_and_moves<S: Steps>(
-    rt: &impl Abort,
-    alloc: Global,
-    env: &mut Env<S>,
-    tries: Option<u32>,
-) -> Result<(), Fail>
-    requires { IfSome tries (λ n. 1 ≤ n) }
-{
-    let filled = fill(env)?;
-    is_as_filled(rt, env, filled);
-    let mut marker = Marker::new(alloc, env.held.steps.config())?;
-    collects(rt, env, &mut marker, tries, Ok(OF_FILLED));
-    collects(rt, env, &mut marker, tries, Ok(OF_NOTHING));
-    is_as_collected(rt, env, filled)
-}
-
-/// Over plain words an announced collection of one try does what a collection does.
-#[test]
-fn plain_words_are_collected_as_unannounced(rt: HostRuntime) -> Result<(), Fail> {
-    let mut env = lone_env(rt.alloc(), sized(4, 8))?;
-    clears_drops_and_moves(&rt, rt.alloc(), &mut env, None)?;
-    let mut env = lone_env(rt.alloc(), sized(4, 8))?;
-    clears_drops_and_moves(&rt, rt.alloc(), &mut env, Some(1))
-}
-
-/// So it does in a room of which one thread makes calls.
-#[test]
-fn a_room_is_collected_as_unannounced(rt: HostRuntime) -> Result<(), Fail> {
-    let (room, mut passes) = Room::<LAST>::open(rt.alloc(), FOUR)?;
-    let mut env = next_env(&room, &mut passes)?;
-    clears_drops_and_moves(&rt, rt.alloc(), &mut env, None)?;
-    let (room, mut passes) = Room::<LAST>::open(rt.alloc(), FOUR)?;
-    let mut env = next_env(&room, &mut passes)?;
-    clears_drops_and_moves(&rt, rt.alloc(), &mut env, Some(1))
-}
-
-/// An announced collection gets no turn, in however many tries, since so many threads are inside. After each refusal another thread's calls go in, and find all as it was.
-fn gets_no_turn<S: Steps, T: Steps>(
-    rt: &impl Abort,
-    env: &mut Env<S>,
-    marker: &mut Marker,
-    inside: u32,
-    other: &mut Env<T>,
-    filled: Filled,
-)
-    requires room { FitsRoom marker.old env.old }
-    requires outside { IsOutside env.old }
-    ensures room { FitsRoom marker.new env.new }
-    ensures outside { IsOutside env.new }
-{
-    collects(rt, env, marker, Some(1), Err(Fault::Busy(inside)));
-    is_as_filled(rt, other, filled);
-    collects(rt, env, marker, Some(2), Err(Fault::Busy(inside)));
-    is_as_filled(rt, other, filled);
-    collects(rt, env, marker, Some(1000), Err(Fault::Busy(inside)));
-    is_as_filled(rt, other, filled);
-}
-
-/// While a thread's region stands, no other thread's announced collection gets its turn. Once it is released one does, with the marker that was refused.
-fn waits_for_a_region<S: Steps, T: Steps, U: Steps>(
-    rt: &impl Abort,
-    alloc: Global,
-    inside: &mut Env<S>,
-    env: &mut Env<T>,
-    other: &mut Env<U>,
-) -> Result<(), Fail> {
-    let filled = fill(env)?;
-    let mut marker = Marker::new(alloc, env.held.steps.config())?;
-    let mut region = inside.get_array_critical(filled.kept)?;
-    gets_no_turn(rt, env, &mut marker, 1, other, filled);
-    let read = region.get::<i32>(0, 1);
-    match region.release(Mode::Copy) {
-        None => {}
-        Some(_) => panic!(rt; "a level is left"),
-    }
-    assert_eq!(rt; read, Ok(-6));
-    collects(rt, env, &mut marker, Some(1000), Ok(OF_FILLED));
-    is_as_collected(rt, env, filled)
-}
-
-/// A region keeps announced collections out.
-#[test]
-fn a_region_bars_an_announced_collection(rt: HostRuntime) -> Result<(), Fail> {
-    let (room, mut passes) = Room::<LAST>::open(rt.alloc(), FOUR)?;
-    let mut inside = next_env(&room, &mut passes)?;
-    let mut other = next_env(&room, &mut passes)?;
-    let mut env = next_env(&room, &mut passes)?;
-    waits_for_a_region(&rt, rt.alloc(), &mut inside, &mut env, &mut other)
-}
-
-/// The steps over the last of the passes.
-fn next_steps<'a>(room: &'a Room<LAST>, passes: &mut Vec<Pass>) -> Result<RoomSteps<'a, LAST>, Fail>
-    requires { All (λ p. IsOpened room.now.row p) passes.old.items }
-    ensures others { All (λ p. IsOpened room.now.row p) passes.new.items }
-    ensures outside { IfOk result (λ s. s.role ≡ Outside) }
-{
-    match passes.pop() {
-        Some(pass) => Ok(RoomSteps::new(room, pass)),
-        None => Err("a thread has no pass")?,
-    }
-}
-
-/// While two threads are inside, each in a stay of its own, an announced collection finds both, and once one has left, the other. Once both have left it is made.
-fn waits_for_stays<S: Steps, T: Steps, U: Steps, V: Steps>(
-    rt: &impl Abort,
-    alloc: Global,
-    first: &mut S,
-    second: &mut T,
-    env: &mut Env<U>,
-    other: &mut Env<V>,
-) -> Result<(), Fail>
-    requires first { (S.facts first.old).stands.role ≡ Outside }
-    requires second { (T.facts second.old).stands.role ≡ Outside }
-{
-    let filled = fill(env)?;
-    let mut marker = Marker::new(alloc, env.held.steps.config())?;
-    let Ok(stay) = enter(first) else {
-        return Err("nobody keeps the gate closed")?;
-    };
-    gets_no_turn(rt, env, &mut marker, 1, other, filled);
-    match enter(second) {
-        Ok(stay) => {
-            gets_no_turn(rt, env, &mut marker, 2, other, filled);
-            stay.leave(second);
-        }
-        Err(_) => panic!(rt; "the announcement stands"),
-    }
-    gets_no_turn(rt, env, &mut marker, 1, other, filled);
-    stay.leave(first);
-    collects(rt, env, &mut marker, Some(1), Ok(OF_FILLED));
-    is_as_collected(rt, env, filled)
-}
-
-/// So do stays, by their number.
-#[test]
-fn stays_bar_an_announced_collection(rt: HostRuntime) -> Result<(), Fail> {
-    let (room, mut passes) = Room::<LAST>::open(rt.alloc(), FOUR)?;
-    let mut first = next_steps(&room, &mut passes)?;
-    let mut second = next_steps(&room, &mut passes)?;
-    let mut other = next_env(&room, &mut passes)?;
-    let mut env = next_env(&room, &mut passes)?;
-    waits_for_stays(
-        &rt,
-        rt.alloc(),
-        &mut first,
-        &mut second,
-        &mut env,
-        &mut other,
-    )
 }
 
 /// No collection is made, announced or not: so many threads are inside, knocking, announcing or collecting.
@@ -340,7 +153,7 @@ fn bars_objects<S: Steps>(rt: &impl Abort, alloc: Global, env: &mut Env<S>, word
     }
 }
 
-/// While a thread announces, first beside one that is inside, and then alone, no other collects, and no call goes in. Once it has taken the announcement back, calls go in and find all as it was, and the other collects.
+/// While a thread announces, first beside one that is inside, and then alone, no other collects, and no call goes in. Once it has taken the announcement back, calls go in and find all as it was, and the other collects, with the marker that was refused.
 fn is_barred_by_who_announces<S: Steps, T: Steps, U: Steps, V: Steps>(
     rt: &impl Abort,
     alloc: Global,
@@ -370,7 +183,7 @@ fn is_barred_by_who_announces<S: Steps, T: Steps, U: Steps, V: Steps>(
     }
     is_as_filled(rt, other, filled);
     collects(rt, env, &mut marker, Some(1), Ok(OF_FILLED));
-    is_as_collected(rt, env, filled)
+    Ok(())
 }
 
 /// One thread announces at a time, and from then on no other goes in.
@@ -429,9 +242,7 @@ fn a_pass_dropped_while_announcing_bars_all_calls(rt: HostRuntime) -> Result<(),
     drop_while_announcing(dropped)?;
     is_barred_for_good(&rt, rt.alloc(), &mut env, filled.kept)?;
     let _pass = env.into_pass().into_pass();
-    let Some(pass) = passes.pop() else {
-        return Err("a thread has no pass")?;
-    };
+    let pass = next_pass(&room, &mut passes)?;
     let Err(left) = room.close(pass) else {
         return Err("a thread announces")?;
     };

@@ -1,14 +1,23 @@
 //! Chains of as many arrays as there may be, each of which names the one before, followed without recursion.
 
-use super::envs::{collected, global, lone_env, sized, weak};
+use crate::envs::{collected, has_type, made, plain_env};
 use jr_env::Env;
 use jr_steps::Steps;
-use jr_word::Handle;
+use jr_word::{Config, Handle};
 use std::process::Abort;
 use std::test::Fail;
 
 /// How many arrays a chain has.
 const LINKS: u32 = 60_000;
+
+/// A room for one chain.
+const LONG: Config = Config {
+    threads: 1,
+    slots: 4,
+    objects: LINKS,
+    words: LINKS,
+    locals: 16,
+};
 
 /// The last of a chain of arrays of one element, each of which names the one before, from the first one on.
 fn chain<S: Steps>(env: &mut Env<S>, first: Handle, links: u32) -> Result<Handle, Fail> {
@@ -38,7 +47,7 @@ fn close<S: Steps>(
 
 #[test]
 fn a_chain_is_reached_from_its_last(rt: HostRuntime) -> Result<(), Fail> {
-    let mut env = lone_env(rt.alloc(), sized(LINKS, LINKS))?;
+    let mut env = plain_env(rt.alloc(), LONG)?;
     let first = env.new_object_array(1, Handle::NULL)?;
     let last = chain(&mut env, first, LINKS)?;
     assert_eq!(rt; collected(rt.alloc(), &mut env)?, [0, 0, 60_000]);
@@ -49,15 +58,14 @@ fn a_chain_is_reached_from_its_last(rt: HostRuntime) -> Result<(), Fail> {
 
 #[test]
 fn a_cycle_is_reached_from_any_and_else_dropped(rt: HostRuntime) -> Result<(), Fail> {
-    let mut env = lone_env(rt.alloc(), sized(LINKS, LINKS))?;
+    let mut env = plain_env(rt.alloc(), LONG)?;
     let first = env.new_object_array(1, Handle::NULL)?;
-    let kept = global(&mut env, first)?;
-    let word = weak(&mut env, first)?;
+    let kept = made(env.new_global_ref(first))?;
+    let word = made(env.new_weak_global_ref(first))?;
     let last = chain(&mut env, first, LINKS)?;
     close(&rt, &mut env, kept, last)?;
     assert_eq!(rt; collected(rt.alloc(), &mut env)?, [0, 0, 60_000]);
     env.delete_global_ref(kept)?;
     assert_eq!(rt; collected(rt.alloc(), &mut env)?, [1, 60_000, 0]);
-    assert_eq!(rt; env.get_object_ref_type(word)?, 3);
-    Ok(())
+    has_type(&rt, &mut env, word, 3)
 }

@@ -1,10 +1,10 @@
-//! Threads of one room, of which some collect, announced or not, while others are inside, or make, write and drop arrays, or come in and go without a break.
+//! Threads of one room, of which some collect, announced or not, while others make, write and drop arrays, or come in and go without a break.
 ghost use Rattle.std.specs.Prelude.{All};
 ghost use Rattle.jr_rule.specs.Passes.{IsOpened};
 
-use super::envs::{LAST, collected, global, next_env};
+use crate::envs::{LAST, collected, next_env};
 use jr_env::Env;
-use jr_model::{Mode, Summary};
+use jr_model::Summary;
 use jr_rule::{Pass, Room};
 use jr_steps::Steps;
 use jr_weak::{Collected, Marker};
@@ -16,17 +16,14 @@ use std::test::Fail;
 use std::thread;
 use std::thread::Threads;
 
-/// A room of five threads, with few words.
-const FIVE: Config = Config {
-    threads: 5,
+/// A room of seven threads, with few words: five, one that collects once they have ended, and one that takes no step.
+const SEVEN: Config = Config {
+    threads: 7,
     slots: 4,
     objects: 16,
     words: 32,
     locals: 16,
 };
-
-/// The same room, with two threads more: one that collects once the others have ended, and one that takes no step.
-const SEVEN: Config = Config { threads: 7, ..FIVE };
 
 /// How often a thread makes a new array and drops the one before.
 const ROUNDS: u32 = 10_000;
@@ -42,40 +39,6 @@ const KNOCKS: u32 = 200_000;
 
 /// How often a call is tried at most.
 const TRIES: u32 = 5_000_000;
-
-/// While a thread is inside, another's collection is refused, and nothing has changed. Once it has left, the other collects.
-fn bars_and_lets<S: Steps, T: Steps>(
-    rt: &impl Abort,
-    alloc: Global,
-    inside: &mut Env<S>,
-    other: &mut Env<T>,
-) -> Result<(), Fail> {
-    let gone = other.new_array::<i32>(3)?;
-    let array = other.new_array::<i32>(2)?;
-    let shared = global(other, array)?;
-    other.delete_local_ref(gone)?;
-    let mut region = inside.get_array_critical(shared)?;
-    let written = region.set(0, 1, 7i32);
-    let barred = collected(alloc, other);
-    let read = region.get::<i32>(0, 1);
-    match region.release(Mode::Copy) {
-        None => {}
-        Some(_) => panic!(rt; "a level is left"),
-    }
-    assert_eq!(rt; written, Ok(()));
-    assert_eq!(rt; barred, Err(Fault::Busy(1)));
-    assert_eq!(rt; read, Ok(7));
-    assert_eq!(rt; collected(alloc, other)?, [0, 1, 2]);
-    Ok(())
-}
-
-#[test]
-fn a_region_bars_a_collection(rt: HostRuntime) -> Result<(), Fail> {
-    let (room, mut passes) = Room::<LAST>::open(rt.alloc(), FIVE)?;
-    let mut second = next_env(&room, &mut passes)?;
-    let mut first = next_env(&room, &mut passes)?;
-    bars_and_lets(&rt, rt.alloc(), &mut first, &mut second)
-}
 
 /// Writes a number in an array, as soon as nobody collects.
 fn write<S: Steps>(env: &mut Env<S>, array: Handle, number: i64) -> Result<(), Fault> {

@@ -1,0 +1,11 @@
+use Rattle.jr_array_tests.proofs.Answered.{whatever}
+use Rattle.jr_array_tests.proofs.undisturbed.nests_and_reads.Goals as goal
+
+pub returns : goal.returns
+returns g c = λ out.
+    let begun = c.args.env.now.held in
+    let opened = c.in_ok-levels.ensures.region out in
+    let nested = c.nest_array_critical-nested.ensures.region begun opened in
+    let written = c.set_critical-written.ensures.region begun nested in
+    let read = c.get_critical-read.ensures.region begun written in
+    whatever c.get_critical-read.result (c.close_all_critical.ensures.undisturbed begun read)

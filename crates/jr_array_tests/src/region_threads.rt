@@ -1,0 +1,192 @@
+//! Regions beside the collections of another thread of the room: what a shut gate bars, what goes on while one is announced, and 10,000 of each side by side.
+ghost use Rattle.jr_gate.specs.Stays.{IsOwnAnnouncement};
+
+use crate::at_a_level::{give_up, has, nests_array, put};
+use crate::envs::{LAST, ONES, OWN, TWO, has_elements, next_env, next_steps};
+use crate::not_opened::{opens_array, opens_string};
+use jr_env::Env;
+use jr_gate::{Announced, announce, shut_gate};
+use jr_model::Mode;
+use jr_rule::Room;
+use jr_steps::{Role, Steps};
+use jr_word::{Fault, Handle};
+use std::process::Abort;
+use std::sync::Wait;
+use std::test::Fail;
+use std::thread;
+use std::thread::Threads;
+
+/// How often a thread opens a region.
+const REGIONS: u32 = 10_000;
+
+/// How often a thread collects.
+const COLLECTIONS: u32 = 10_000;
+
+/// How often a thread tries at most.
+const TRIES: u32 = 5_000_000;
+
+/// While another thread collects no region is opened, over an array or a string, and none over what is neither: the gate comes before all. Afterwards they are.
+fn is_barred<S: Steps, T: Steps>(
+    rt: &impl Abort,
+    env: &mut Env<S>,
+    other: &mut T,
+) -> Result<(), Fail> {
+    let array = env.new_array::<i32>(2)?;
+    let string = env.new_string(&[104])?;
+    let Role::Outside = other.role() else {
+        panic!(rt; "the thread is inside")
+    };
+    let Ok(collection) = shut_gate(other) else {
+        return Err("a thread is inside")?;
+    };
+    opens_array(rt, env, array, Some(Fault::Barred));
+    opens_string(rt, env, string, Some(Fault::Barred));
+    opens_array(rt, env, ONES, Some(Fault::Barred));
+    assert!(rt; env.held.steps.role() == Role::Outside);
+    collection.reopen(other);
+    opens_array(rt, env, array, None);
+    opens_string(rt, env, string, None);
+    Ok(())
+}
+
+#[test]
+fn a_collection_bars_regions(rt: HostRuntime) -> Result<(), Fail> {
+    let (room, mut passes) = Room::<LAST>::open(rt.alloc(), TWO)?;
+    let mut other = next_steps(&room, &mut passes)?;
+    let mut env = next_env(&room, &mut passes)?;
+    is_barred(&rt, &mut env, &mut other)
+}
+
+/// The gate is not shut, as announced, since one other thread is inside. The announcement is handed back.
+fn is_kept_waiting<S: Steps>(rt: &impl Abort, steps: &mut S, announced: Announced) -> Announced
+    requires { IsOwnAnnouncement announced (S.facts steps.old).stands }
+    ensures { IsOwnAnnouncement result (S.facts steps.new).stands }
+{
+    match announced.shut(steps) {
+        Ok(_) => panic!(rt; "a region stands"),
+        Err((announced, fault)) => {
+            assert!(rt; fault == Fault::Busy(1));
+            announced
+        }
+    }
+}
+
+/// A region that stands goes on once another thread has announced that it will shut the gate: a level is added, and elements are read and written at both. The gate is not shut before the region has ended, and no other region is opened before it is open again.
+fn goes_on_while_announced<S: Steps, T: Steps>(
+    rt: &impl Abort,
+    env: &mut Env<S>,
+    other: &mut T,
+) -> Result<(), Fail> {
+    let array = env.new_array::<i32>(2)?;
+    let nested = env.new_array::<i64>(1)?;
+    let Role::Outside = other.role() else {
+        panic!(rt; "the thread is inside")
+    };
+    let mut region = env.get_array_critical(array)?;
+    let announced = match announce(other) {
+        Ok(announced) => announced,
+        Err(_) => panic!(rt; "nobody keeps the gate closed"),
+    };
+    let announced = is_kept_waiting(rt, other, announced);
+    nests_array(rt, &mut region, nested, Ok(1));
+    put(rt, &mut region, 0, 1, -20);
+    put(rt, &mut region, 1, 0, i64::MIN);
+    has(rt, &mut region, 0, 1, -20);
+    has(rt, &mut region, 1, 0, i64::MIN);
+    let announced = is_kept_waiting(rt, other, announced);
+    let region = give_up(rt, region, Mode::Copy);
+    let announced = is_kept_waiting(rt, other, announced);
+    match region.release(Mode::Copy) {
+        None => {}
+        Some(_) => panic!(rt; "a level is left"),
+    }
+    opens_array(rt, env, array, Some(Fault::Barred));
+    match announced.shut(other) {
+        Ok(collection) => collection.reopen(other),
+        Err(_) => panic!(rt; "nobody is inside"),
+    }
+    has_elements(rt, env, array, 0, &mut [7; 2], &[0, -20])?;
+    has_elements(rt, env, nested, 0, &mut [7i64], &[i64::MIN])
+}
+
+#[test]
+fn a_region_goes_on_while_a_collection_is_announced(rt: HostRuntime) -> Result<(), Fail> {
+    let (room, mut passes) = Room::<LAST>::open(rt.alloc(), TWO)?;
+    let mut other = next_steps(&room, &mut passes)?;
+    let mut env = next_env(&room, &mut passes)?;
+    goes_on_while_announced(&rt, &mut env, &mut other)
+}
+
+/// Opens a region over the first array so often, or until it has tried so often, and writes there how many it opened before. How often that was read.
+fn write_often<S: Steps>(env: &mut Env<S>, regions: u32, tries: u32) -> u32 {
+    let mut done = 0;
+    for _ in 0..tries {
+        if done >= regions {
+            break;
+        }
+        let Ok(mut region) = env.get_array_critical(OWN) else {
+            thread::yield_now();
+            continue;
+        };
+        let number = i64::from(done);
+        let written = region.set(0, 1, number);
+        let read = region.get::<i64>(0, 1);
+        match region.release(Mode::Copy) {
+            None => {}
+            Some(_) => unreachable!(),
+        }
+        if written == Ok(()) && read == Ok(number) {
+            done += 1;
+        }
+    }
+    done
+}
+
+/// Shuts the gate and opens it again so often, or until it has tried so often. How often it was shut.
+fn collect_often<S: Steps>(steps: &mut S, collections: u32, tries: u32) -> u32 {
+    let mut done = 0;
+    for _ in 0..tries {
+        if done >= collections || steps.role() != Role::Outside {
+            break;
+        }
+        match shut_gate(steps) {
+            Ok(collection) => {
+                collection.reopen(steps);
+                done += 1;
+            }
+            Err(_) => thread::yield_now(),
+        }
+    }
+    done
+}
+
+/// The first array of a thread's env.
+fn own_array<S: Steps>(rt: &impl Abort, env: &mut Env<S>) -> Result<Handle, Fail> {
+    let array = env.new_array::<i64>(2)?;
+    assert!(rt; array == OWN);
+    Ok(array)
+}
+
+/// The array has what was written last.
+fn has_last_number<S: Steps>(rt: &impl Abort, env: &mut Env<S>, array: Handle) -> Result<(), Fail> {
+    has_elements(rt, env, array, 0, &mut [7i64; 2], &[0, 9_999])
+}
+
+#[test]
+fn regions_and_collections_of_two_threads_end(rt: HostRuntime) -> Result<(), Fail> {
+    let (room, mut passes) = Room::<LAST>::open(rt.alloc(), TWO)?;
+    let mut other = next_steps(&room, &mut passes)?;
+    let mut env = next_env(&room, &mut passes)?;
+    let array = own_array(&rt, &mut env)?;
+    let (regions, collections) = thread::scope(thread::scope_env(), &rt, |scope| {
+        let one = scope.spawn(|| write_often(&mut env, REGIONS, TRIES));
+        let two = scope.spawn(|| collect_often(&mut other, COLLECTIONS, TRIES));
+        (
+            one.map(|one| one.join(&rt)).ok(),
+            two.map(|two| two.join(&rt)).ok(),
+        )
+    });
+    assert!(rt; regions == Some(REGIONS));
+    assert!(rt; collections == Some(COLLECTIONS));
+    has_last_number(&rt, &mut env, array)
+}

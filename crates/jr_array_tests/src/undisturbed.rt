@@ -1,0 +1,32 @@
+//! That no collection comes in a region, as who opens one learns from the clauses of its calls alone.
+ghost use Rattle.std.specs.Prelude.{IfOk};
+ghost use Rattle.jr_env.specs.Envs.{IsOutside};
+ghost use Rattle.jr_env.specs.StandingRegions.{WasUndisturbed};
+
+use crate::envs::{TWO, lone_env};
+use jr_env::Env;
+use jr_steps::Steps;
+use jr_word::{Fault, Handle};
+use std::test::Fail;
+
+/// Writes an element in a region of two levels, and reads it. From the entry to the exit no event of any thread is a step of a collection.
+fn nests_and_reads<S: Steps>(env: &mut Env<S>, array: Handle) -> Result<i32, Fault>
+    ensures { IsOutside env.old → IfOk result (λ _. WasUndisturbed env.old.held env.new.held) }
+{
+    let mut levels = env.open_array_critical(array)?;
+    let nested = env.nest_array_critical(&mut levels, array);
+    let written = env.set_critical(&levels, 0, 1, 7i32);
+    let read = env.get_critical::<i32>(&levels, 0, 1);
+    env.close_all_critical(levels);
+    nested?;
+    written?;
+    read
+}
+
+#[test]
+fn a_region_is_not_disturbed(rt: HostRuntime) -> Result<(), Fail> {
+    let mut env = lone_env(rt.alloc(), TWO)?;
+    let array = env.new_array::<i32>(2)?;
+    assert!(rt; nests_and_reads(&mut env, array) == Ok(7));
+    Ok(())
+}

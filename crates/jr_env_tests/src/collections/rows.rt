@@ -1,0 +1,53 @@
+//! The words that a collection leaves.
+
+use crate::envs::{collected, made, plain_env};
+use jr_env::Env;
+use jr_steps::Steps;
+use jr_word::Config;
+use std::test::Fail;
+
+/// A room with two slots, two objects and eight words. Its row has 30 words: the gate, the top, the slots from 2 on, the local places from 4 on, the headers from 20 on, and the elements from 22 on.
+const PAIR: Config = Config {
+    threads: 1,
+    slots: 2,
+    objects: 2,
+    words: 8,
+    locals: 16,
+};
+
+/// Makes two arrays, of which no reference but a weak one names the first.
+fn fill<S: Steps>(env: &mut Env<S>) -> Result<(), Fail> {
+    let gone = env.new_array::<i32>(1)?;
+    env.set_array_region(gone, 0, &[9])?;
+    made(env.new_weak_global_ref(gone))?;
+    let kept = env.new_array::<i64>(2)?;
+    env.set_array_region(kept, 0, &[5i64, -6])?;
+    env.delete_local_ref(gone)?;
+    Ok(())
+}
+
+/// The weak reference is cleared and its array dropped, and the other array has moved by one place, over its own elements. What stood behind them is left, and is no array's.
+#[test]
+fn a_collection_leaves_these_words(rt: HostRuntime) -> Result<(), Fail> {
+    let mut env = plain_env(rt.alloc(), PAIR)?;
+    fill(&mut env)?;
+    let mut row = [0; 30];
+    row[1] = 3;
+    row[2] = 0x4_0000_0003;
+    row[5] = 2;
+    row[20] = 0x16;
+    row[21] = 0x1000_0027;
+    row[22] = 9;
+    row[23] = 5;
+    row[24] = 0xFFFF_FFFF_FFFF_FFFA;
+    assert_eq!(rt; env.held.steps.cells.words.as_slice(), row.as_slice());
+    assert_eq!(rt; collected(rt.alloc(), &mut env)?, [1, 1, 2]);
+    row[1] = 2;
+    row[2] = 3;
+    row[20] = 0;
+    row[21] = 0x27;
+    row[22] = 5;
+    row[23] = 0xFFFF_FFFF_FFFF_FFFA;
+    assert_eq!(rt; env.held.steps.cells.words.as_slice(), row.as_slice());
+    Ok(())
+}
