@@ -1,2 +1,3 @@
-mod Makers
 mod Beside
+mod Claimable
+mod Makers

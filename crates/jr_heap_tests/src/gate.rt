@@ -1,25 +1,21 @@
 //! The gate, over plain words and over a room that several passes share.
-ghost use Rattle.std.specs.Prelude.{◌≡◌, All, IfOk};
+ghost use Rattle.std.specs.Prelude.{◌≡◌};
 ghost use Rattle.jr_model.specs.declared.event.Role.TheVariants.{Outside};
-ghost use Rattle.jr_rule.specs.Passes.{IsOpened, standing_of};
+ghost use Rattle.jr_rule.specs.Passes.{standing_of};
 ghost use Rattle.jr_rule.specs.Rooms.{IsOfRoom};
 
 use crate::rooms::last_of;
 use jr_gate::{enter, shut_gate};
-use jr_model::{Role, Summary};
+use jr_model::Summary;
 use jr_rule::{Left, Pass, PlainSteps, Room, RoomSteps};
 use jr_steps::{GateLoad, Steps};
 use jr_word::{Config, Fault, GateWord};
-use std::alloc::Global;
 use std::process::Abort;
-use std::sync::Wait;
 use std::test::Fail;
-use std::thread;
-use std::thread::Threads;
 
-/// A room of four threads with one slot and one object.
+/// A room of two threads with one slot and one object.
 const SMALL: Config = Config {
-    threads: 4,
+    threads: 2,
     ..Config::LEAST
 };
 
@@ -30,27 +26,6 @@ pub(crate) const NOTHING: Summary = Summary {
     live: 0,
     used: 0,
 };
-
-/// How often a thread enters and leaves.
-pub(crate) const STAYS: u32 = 10_000;
-
-/// How often a thread tries at most.
-pub(crate) const TRIES: u32 = 5_000_000;
-
-/// How often a thread collects.
-const COLLECTIONS: u32 = 10_000;
-
-/// A room, and the passes of threads 0 to 3.
-fn opened(alloc: Global) -> Result<(Room<2>, Pass, Pass, Pass, Pass), Fail>
-    ensures passes { IfOk result (λ r. IsOpened r.0.row r.1 × IsOpened r.0.row r.2 × IsOpened r.0.row r.3 × IsOpened r.0.row r.4) }
-{
-    let (room, mut passes) = Room::<2>::open(alloc, SMALL)?;
-    let last = last_of(&room, &mut passes)?;
-    let third = last_of(&room, &mut passes)?;
-    let second = last_of(&room, &mut passes)?;
-    let first = last_of(&room, &mut passes)?;
-    Ok((room, first, second, third, last))
-}
 
 /// The word of the gate.
 pub(crate) fn gate_word<S: Steps>(steps: &mut S) -> u64
@@ -140,7 +115,9 @@ fn stays_open(rt: &impl Abort, room: Room<2>, pass: Pass) -> (Room<2>, Pass)
 /// Thread 0 stays and thread 1 collects, in turn.
 #[test]
 fn a_stay_and_a_collection_exclude_each_other(rt: HostRuntime) -> Result<(), Fail> {
-    let (room, first, second, _third, _last) = opened(rt.alloc())?;
+    let (room, mut passes) = Room::<2>::open(rt.alloc(), SMALL)?;
+    let second = last_of(&room, &mut passes)?;
+    let first = last_of(&room, &mut passes)?;
     let mut first = RoomSteps::new(&room, first);
     let mut second = RoomSteps::new(&room, second);
     a_stay_bars_collections(&rt, &mut first, &mut second)?;
@@ -158,84 +135,6 @@ fn a_stay_and_a_collection_exclude_each_other(rt: HostRuntime) -> Result<(), Fai
     assert_eq!(rt; entry_refused(&mut first), None);
     let (first, _second) = (first.into_pass(), second.into_pass());
     assert_eq!(rt; room.close(first).ok(), Some(NOTHING));
-    Ok(())
-}
-
-/// Enters and leaves so often, or until it has tried so often. How often it was inside.
-pub(crate) fn stay_often<S: Steps>(steps: &mut S, stays: u32, tries: u32) -> u32 {
-    let mut done = 0;
-    for _ in 0..tries {
-        if done >= stays || steps.role() != Role::Outside {
-            break;
-        }
-        match enter(steps) {
-            Ok(stay) => {
-                stay.leave(steps);
-                done += 1;
-            }
-            Err(_) => thread::yield_now(),
-        }
-    }
-    done
-}
-
-/// Shuts the gate and opens it again so often, or until it has tried so often. How often it was shut.
-fn collect_often<S: Steps>(steps: &mut S, collections: u32, tries: u32) -> u32 {
-    let mut done = 0;
-    for _ in 0..tries {
-        if done >= collections || steps.role() != Role::Outside {
-            break;
-        }
-        match shut_gate(steps) {
-            Ok(collection) => {
-                collection.reopen(steps);
-                done += 1;
-            }
-            Err(_) => thread::yield_now(),
-        }
-    }
-    done
-}
-
-#[test]
-fn stays_of_two_threads_end(rt: HostRuntime) -> Result<(), Fail> {
-    let (room, first, second, _third, last) = opened(rt.alloc())?;
-    let mut first = RoomSteps::new(&room, first);
-    let mut second = RoomSteps::new(&room, second);
-    let both = thread::scope(thread::scope_env(), &rt, |scope| {
-        let one = scope.spawn(|| stay_often(&mut first, STAYS, STAYS));
-        let two = scope.spawn(|| stay_often(&mut second, STAYS, STAYS));
-        (
-            one.map(|one| one.join(&rt)).ok(),
-            two.map(|two| two.join(&rt)).ok(),
-        )
-    });
-    assert_eq!(rt; both, (Some(STAYS), Some(STAYS)));
-    let (_first, _second) = (first.into_pass(), second.into_pass());
-    assert_eq!(rt; room.close(last).ok(), Some(NOTHING));
-    Ok(())
-}
-
-#[test]
-fn stays_and_collections_of_three_threads_end(rt: HostRuntime) -> Result<(), Fail> {
-    let (room, first, second, third, last) = opened(rt.alloc())?;
-    let mut first = RoomSteps::new(&room, first);
-    let mut second = RoomSteps::new(&room, second);
-    let mut third = RoomSteps::new(&room, third);
-    let counts = thread::scope(thread::scope_env(), &rt, |scope| {
-        let one = scope.spawn(|| stay_often(&mut first, STAYS, TRIES));
-        let two = scope.spawn(|| stay_often(&mut second, STAYS, TRIES));
-        let three = scope.spawn(|| collect_often(&mut third, COLLECTIONS, TRIES));
-        (
-            one.map(|one| one.join(&rt)).ok(),
-            two.map(|two| two.join(&rt)).ok(),
-            three.map(|three| three.join(&rt)).ok(),
-        )
-    });
-    assert_eq!(rt; counts, (Some(STAYS), Some(STAYS), Some(COLLECTIONS)));
-    assert_eq!(rt; gate_word(&mut first), 0);
-    let (_first, _second, _third) = (first.into_pass(), second.into_pass(), third.into_pass());
-    assert_eq!(rt; room.close(last).ok(), Some(NOTHING));
     Ok(())
 }
 

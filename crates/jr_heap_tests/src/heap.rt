@@ -1,4 +1,4 @@
-//! The heap of a room that several passes share.
+//! The heap at its limits, words that are none of a kind, and ranges and headers that serve later.
 ghost use Rattle.std.specs.Prelude.{◌≡◌, ◌≢◌, IfOk};
 ghost use Rattle.jr_word.specs.declared.kind.Kind.TheVariants.{Int, Plain};
 ghost use Rattle.jr_model.specs.declared.event.Role.TheVariants.{Within};
@@ -9,27 +9,14 @@ ghost use Rattle.jr_heap.specs.Heap.{HasKind, IsReady, MayBeNamed};
 ghost use Rattle.jr_heap.specs.Ranges.{place_of, size_of, AreReady};
 
 use crate::rooms::last_of;
-use jr_gate::enter;
 use jr_heap::{Numbers, Range, fill, header, publish, read, read_element, reserve, write};
-use jr_model::{Role, Summary};
+use jr_model::Summary;
 use jr_rule::{Pass, PlainSteps, Room, RoomSteps};
-use jr_steps::{Steps, TopLoad};
+use jr_steps::Steps;
 use jr_word::{Config, Fault, Kind};
 use std::alloc::Global;
 use std::process::Abort;
-use std::sync::Wait;
 use std::test::Fail;
-use std::thread;
-use std::thread::Threads;
-
-/// A room of two threads with 4 slots, 2 objects and 8 words.
-const SMALL: Config = Config {
-    threads: 2,
-    slots: 4,
-    objects: 2,
-    words: 8,
-    locals: 16,
-};
 
 /// A room of one thread for arrays of every kind.
 const WIDE: Config = Config {
@@ -47,20 +34,14 @@ const LARGE: Config = Config {
     ..Config::LEAST
 };
 
-/// A room for the arrays of two threads, with a third that takes no step.
+/// A room of two threads for ten objects and 20 words.
 const SHARED: Config = Config {
-    threads: 3,
+    threads: 2,
     slots: 1,
-    objects: 20_000,
-    words: 20_000,
+    objects: 10,
+    words: 20,
     locals: 16,
 };
-
-/// How often a thread writes and reads.
-const ROUNDS: u32 = 10_000;
-
-/// How often a thread tries at most to reserve its words.
-const TRIES: u32 = 5_000_000;
 
 /// A room, and the passes of threads 0 and 1.
 fn opened(alloc: Global, config: Config) -> Result<(Room<2>, Pass, Pass), Fail>
@@ -154,66 +135,6 @@ fn write_answers<S: Steps>(
     assert_eq!(rt; put(steps, object, _kind, index, word), wanted);
 }
 
-/// An array of three numbers is made, written and read.
-fn make_and_write<S: Steps>(
-    rt: &impl Abort,
-    steps: &mut S,
-    numbers: &mut Numbers,
-) -> Result<u16, Fail>
-    requires { (S.facts steps.old).stands.role ≡ Within }
-    ensures { (S.facts steps.new).stands ≡ (S.facts steps.old).stands }
-{
-    let object = made(steps, numbers, Kind::Int, 3, 0)?;
-    writes_the_last(rt, steps, object);
-    refuses_outside(rt, steps, object);
-    assert_eq!(rt; parts_of(steps, object, Kind::Int), (Kind::Int, 3, 0));
-    assert_eq!(rt; reserve(steps, 6).err(), Some(Fault::SpaceFull(3)));
-    Ok(object)
-}
-
-/// The last of three numbers is written, and the one before stays as it was.
-fn writes_the_last<S: Steps>(rt: &impl Abort, steps: &mut S, object: u16)
-    requires role { (S.facts steps.old).stands.role ≡ Within }
-    requires object { MayKnow S.facts steps.old (HasKind object Int) }
-    ensures stands { (S.facts steps.new).stands ≡ (S.facts steps.old).stands }
-    ensures object { MayKnow S.facts steps.new (HasKind object Int) }
-{
-    write_answers(rt, steps, object, Kind::Int, 2, 7, Ok(()));
-    read_answers(rt, steps, object, Kind::Int, 2, Ok(7));
-    read_answers(rt, steps, object, Kind::Int, 1, Ok(0));
-}
-
-/// An index past three numbers is refused, and a word past the kind, which changes nothing.
-fn refuses_outside<S: Steps>(rt: &impl Abort, steps: &mut S, object: u16)
-    requires role { (S.facts steps.old).stands.role ≡ Within }
-    requires object { MayKnow S.facts steps.old (HasKind object Int) }
-    ensures stands { (S.facts steps.new).stands ≡ (S.facts steps.old).stands }
-    ensures object { MayKnow S.facts steps.new (HasKind object Int) }
-{
-    read_answers(rt, steps, object, Kind::Int, 3, Err(Fault::Range));
-    write_answers(rt, steps, object, Kind::Int, 3, 1, Err(Fault::Range));
-    write_answers(
-        rt,
-        steps,
-        object,
-        Kind::Int,
-        0,
-        4_294_967_296,
-        Err(Fault::Value),
-    );
-    read_answers(rt, steps, object, Kind::Int, 0, Ok(0));
-}
-
-/// The kind, length and place of an object of the kind.
-fn parts_of<S: Steps>(steps: &mut S, object: u16, _kind: Kind) -> (Kind, u32, u32)
-    requires role { (S.facts steps.old).stands.role ≡ Within }
-    requires object { MayKnow S.facts steps.old (HasKind object _kind) }
-    ensures { (S.facts steps.new).stands ≡ (S.facts steps.old).stands }
-{
-    let parts = header(steps, object);
-    (parts.kind, parts.length, parts.place)
-}
-
 /// A new plain object.
 fn made_plain<S: Steps>(steps: &mut S, numbers: &mut Numbers) -> Result<u16, Fault>
     requires { (S.facts steps.old).stands.role ≡ Within }
@@ -222,112 +143,6 @@ fn made_plain<S: Steps>(steps: &mut S, numbers: &mut Numbers) -> Result<u16, Fau
 {
     let empty = reserve(steps, 0)?;
     publish(steps, numbers, Kind::Plain, empty)
-}
-
-/// A plain object is made, and no further one in a room of two objects.
-fn make_plain<S: Steps>(rt: &impl Abort, steps: &mut S, numbers: &mut Numbers) -> Result<u16, Fail>
-    requires { (S.facts steps.old).stands.role ≡ Within }
-    ensures { (S.facts steps.new).stands ≡ (S.facts steps.old).stands }
-{
-    let plain = made_plain(steps, numbers)?;
-    read_answers(rt, steps, plain, Kind::Plain, 0, Err(Fault::NotArray));
-    write_answers(rt, steps, plain, Kind::Plain, 0, 0, Err(Fault::NotArray));
-    let further = made_plain(steps, numbers);
-    assert_eq!(rt; further, Err(Fault::ObjectsFull));
-    Ok(plain)
-}
-
-/// Two elements are the least word, and then the second one is the greatest.
-fn keeps_ends<S: Steps>(
-    rt: &impl Abort,
-    steps: &mut S,
-    numbers: &mut Numbers,
-    kind: Kind,
-    greatest: u64,
-) -> Result<(), Fail>
-    requires role { (S.facts steps.old).stands.role ≡ Within }
-    requires kind { kind ≢ Plain }
-    requires least { (k : Known) → IsWordNow kind 0 k }
-    requires greatest { (k : Known) → MayBeNamed kind greatest k }
-    ensures { (S.facts steps.new).stands ≡ (S.facts steps.old).stands }
-{
-    let object = made(steps, numbers, kind, 2, 0)?;
-    has_both(rt, steps, object, kind, 0);
-    write_answers(rt, steps, object, kind, 1, greatest, Ok(()));
-    has_both(rt, steps, object, kind, greatest);
-    let (found, length, _) = parts_of(steps, object, kind);
-    assert_eq!(rt; (found, length), (kind, 2));
-    Ok(())
-}
-
-/// The first of two elements is 0, and the second one the word.
-fn has_both<S: Steps>(rt: &impl Abort, steps: &mut S, object: u16, _kind: Kind, second: u64)
-    requires role { (S.facts steps.old).stands.role ≡ Within }
-    requires object { MayKnow S.facts steps.old (HasKind object _kind) }
-    ensures stands { (S.facts steps.new).stands ≡ (S.facts steps.old).stands }
-    ensures object { MayKnow S.facts steps.new (HasKind object _kind) }
-{
-    read_answers(rt, steps, object, _kind, 0, Ok(0));
-    read_answers(rt, steps, object, _kind, 1, Ok(second));
-}
-
-/// The same for each kind of numbers.
-fn each_keeps_ends<S: Steps>(
-    rt: &impl Abort,
-    steps: &mut S,
-    numbers: &mut Numbers,
-) -> Result<(), Fail>
-    requires { (S.facts steps.old).stands.role ≡ Within }
-    ensures { (S.facts steps.new).stands ≡ (S.facts steps.old).stands }
-{
-    keeps_ends(rt, steps, numbers, Kind::Boolean, 1)?;
-    keeps_ends(rt, steps, numbers, Kind::Byte, 0xff)?;
-    keeps_ends(rt, steps, numbers, Kind::Char, 0xffff)?;
-    keeps_ends(rt, steps, numbers, Kind::Short, 0xffff)?;
-    keeps_ends(rt, steps, numbers, Kind::Int, 0xffff_ffff)?;
-    keeps_ends(rt, steps, numbers, Kind::Long, u64::MAX)?;
-    Ok(())
-}
-
-/// A string keeps its greatest word and cannot be written, and no word is left behind it.
-fn text_takes_the_rest<S: Steps>(
-    rt: &impl Abort,
-    steps: &mut S,
-    numbers: &mut Numbers,
-) -> Result<(), Fail>
-    requires { (S.facts steps.old).stands.role ≡ Within }
-{
-    let text = made(steps, numbers, Kind::Text, 2, 0xffff)?;
-    read_answers(rt, steps, text, Kind::Text, 1, Ok(0xffff));
-    write_answers(rt, steps, text, Kind::Text, 1, 0, Err(Fault::NotArray));
-    read_answers(rt, steps, text, Kind::Text, 1, Ok(0xffff));
-    assert_eq!(rt; reserve(steps, 1).err(), Some(Fault::SpaceFull(16)));
-    Ok(())
-}
-
-/// Makes an array of its own so often, writes it and reads it, or until it has tried so often. How often it read what it had written.
-fn write_and_read<S: Steps>(steps: &mut S, rounds: u32, tries: u32) -> u32
-    requires { (S.facts steps.old).stands.role ≡ Within }
-    ensures { (S.facts steps.new).stands ≡ (S.facts steps.old).stands }
-{
-    let mut numbers = Numbers::new();
-    let mut right = 0;
-    for _ in 0..tries {
-        if right >= rounds {
-            break;
-        }
-        match made(steps, &mut numbers, Kind::Int, 1, 0) {
-            Ok(object) => {
-                let word = u64::from(right) + 1;
-                let wrote = put(steps, object, Kind::Int, 0, word);
-                if wrote.is_ok() && got(steps, object, Kind::Int, 0) == Ok(word) {
-                    right += 1;
-                }
-            }
-            Err(_) => thread::yield_now(),
-        }
-    }
-    right
 }
 
 /// A word that is one too large is refused, and an index past the length before it.
@@ -489,90 +304,6 @@ fn serve_later<S: Steps, T: Steps>(
     Ok(())
 }
 
-/// One pass makes an array, and both look at the space that is left. The array's number.
-fn share_space<S: Steps, T: Steps>(
-    rt: &impl Abort,
-    steps: &mut S,
-    other: &mut T,
-    numbers: &mut Numbers,
-) -> Result<u16, Fail>
-    requires role { (S.facts steps.old).stands.role ≡ Within }
-    requires beside { (T.facts other.old).stands.role ≡ Within }
-    ensures stands { (S.facts steps.new).stands ≡ (S.facts steps.old).stands }
-    ensures beside { (T.facts other.new).stands ≡ (T.facts other.old).stands }
-{
-    let object = make_and_write(rt, steps, numbers)?;
-    let looked = other.see_top(TopLoad::Look);
-    assert_eq!(rt; looked, 3);
-    assert!(rt; reserve(steps, 2).is_ok());
-    assert!(rt; looked < other.config().words);
-    assert_eq!(rt; other.claim_top(looked, 1), Err(5));
-    assert_eq!(rt; reserve(other, 4).err(), Some(Fault::SpaceFull(5)));
-    Ok(object)
-}
-
-/// One pass makes an array and an object without elements, while both look at the space that is left.
-fn share<S: Steps, T: Steps>(
-    rt: &impl Abort,
-    steps: &mut S,
-    other: &mut T,
-    numbers: &mut Numbers,
-) -> Result<(), Fail>
-    requires role { (S.facts steps.old).stands.role ≡ Within }
-    requires beside { (T.facts other.old).stands.role ≡ Within }
-    ensures stands { (S.facts steps.new).stands ≡ (S.facts steps.old).stands }
-    ensures beside { (T.facts other.new).stands ≡ (T.facts other.old).stands }
-{
-    let object = share_space(rt, steps, other, numbers)?;
-    let plain = make_plain(rt, steps, numbers)?;
-    assert!(rt; plain != object);
-    Ok(())
-}
-
-/// Two passes of one room share its space and its object numbers.
-#[test]
-fn two_passes_share_space_and_numbers(rt: HostRuntime) -> Result<(), Fail> {
-    let (room, first, second) = opened(rt.alloc(), SMALL)?;
-    let mut first = RoomSteps::new(&room, first);
-    let mut second = RoomSteps::new(&room, second);
-    assert!(rt; first.go_in());
-    assert!(rt; second.go_in());
-
-    share(&rt, &mut first, &mut second, &mut Numbers::new())?;
-
-    first.go_out();
-    second.go_out();
-    let (first, _second) = (first.into_pass(), second.into_pass());
-    let summary = Summary {
-        globals: 0,
-        weaks: 0,
-        live: 2,
-        used: 5,
-    };
-    assert_eq!(rt; room.close(first).ok(), Some(summary));
-    Ok(())
-}
-
-/// Each kind with its least word, 0, and its greatest.
-#[test]
-fn each_kind_keeps_its_least_and_greatest_word(rt: HostRuntime) -> Result<(), Fail> {
-    let mut steps = PlainSteps::<2>::new(rt.alloc(), WIDE)?;
-    if !steps.go_in() {
-        return Err("nobody collects")?;
-    }
-    let mut numbers = Numbers::new();
-    each_keeps_ends(&rt, &mut steps, &mut numbers)?;
-    keeps_ends(&rt, &mut steps, &mut numbers, Kind::Objects, 0)?;
-    let summary = Summary {
-        globals: 0,
-        weaks: 0,
-        live: 7,
-        used: 14,
-    };
-    assert_eq!(rt; steps.summary(), summary);
-    text_takes_the_rest(&rt, &mut steps, &mut numbers)
-}
-
 /// A word that is one too large is refused, and an index past the length before it.
 #[test]
 fn a_word_past_the_kind_is_refused(rt: HostRuntime) -> Result<(), Fail> {
@@ -640,48 +371,6 @@ fn each_number_is_given_once(rt: HostRuntime) -> Result<(), Fail> {
     let mut others = Numbers::new();
     let further = made(&mut steps, &mut others, Kind::Int, 0, 0);
     assert_eq!(rt; further, Err(Fault::ObjectsFull));
-    Ok(())
-}
-
-/// The same in a stay of its own.
-fn write_and_read_inside<S: Steps>(steps: &mut S) -> u32 {
-    if steps.role() != Role::Outside {
-        return 0;
-    }
-    let Ok(stay) = enter(steps) else {
-        return 0;
-    };
-    let right = write_and_read(steps, ROUNDS, TRIES);
-    stay.leave(steps);
-    right
-}
-
-/// Two threads make, write and read arrays of their own at once.
-#[test]
-fn each_thread_reads_its_own_last_write(rt: HostRuntime) -> Result<(), Fail> {
-    let (room, mut passes) = Room::<2>::open(rt.alloc(), SHARED)?;
-    let last = last_of(&room, &mut passes)?;
-    let second = last_of(&room, &mut passes)?;
-    let first = last_of(&room, &mut passes)?;
-    let mut first = RoomSteps::new(&room, first);
-    let mut second = RoomSteps::new(&room, second);
-    let both = thread::scope(thread::scope_env(), &rt, |scope| {
-        let one = scope.spawn(|| write_and_read_inside(&mut first));
-        let two = scope.spawn(|| write_and_read_inside(&mut second));
-        (
-            one.map(|one| one.join(&rt)).ok(),
-            two.map(|two| two.join(&rt)).ok(),
-        )
-    });
-    assert_eq!(rt; both, (Some(ROUNDS), Some(ROUNDS)));
-    let (_first, _second) = (first.into_pass(), second.into_pass());
-    let summary = Summary {
-        globals: 0,
-        weaks: 0,
-        live: 2 * ROUNDS,
-        used: 2 * ROUNDS,
-    };
-    assert_eq!(rt; room.close(last).ok(), Some(summary));
     Ok(())
 }
 

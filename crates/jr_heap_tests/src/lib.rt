@@ -1,17 +1,15 @@
-//! Tests of the gate, of the heap and of the sliding of arrays, over rooms and over plain words.
+//! Tests of rooms and their passes, of the gate and of the heap, over rooms and over plain words: of what calls and scripts can't show.
 #![tactic(auto)]
 
 #[cfg(test)]
 mod announced;
 #[cfg(test)]
-mod compact;
+mod closing;
 #[cfg(test)]
 mod gate;
 #[cfg(test)]
 mod heap;
 #[cfg(test)]
-mod part;
+mod passes;
 #[cfg(test)]
 mod rooms;
-#[cfg(test)]
-mod together;

@@ -1,13 +1,13 @@
-//! Rooms whose passes are held by one thread.
+//! Rooms, plain words, and the passes of a room that one thread holds.
 ghost use Rattle.std.specs.Prelude.{◌≡◌, All, IfOk};
 ghost use Rattle.jr_rule.specs.Passes.{IsAt, IsOpened};
 
+use crate::gate::NOTHING;
+use crate::rooms::last_of;
 use jr_model::{Role, Summary};
-use jr_rule::{AllLeft, Left, Pass, Room, RoomSteps};
-use jr_steps::{GateLoad, SlotLoad, Steps};
-use jr_word::{
-    Config, Fault, GateParts, GateState, HandleParts, HeaderParts, Kind, RefKind, SlotParts,
-};
+use jr_rule::{Left, Pass, PlainSteps, Room, RoomSteps};
+use jr_steps::{SlotLoad, Steps};
+use jr_word::{Config, Fault, HandleParts, HeaderParts, Kind, RefKind, SlotParts};
 use std::alloc::Global;
 use std::process::Abort;
 use std::test::Fail;
@@ -22,7 +22,7 @@ const SMALL: Config = Config {
 };
 
 /// The header of a plain object.
-pub(crate) const PLAIN: HeaderParts = HeaderParts {
+const PLAIN: HeaderParts = HeaderParts {
     kind: Kind::Plain,
     length: 0,
     place: 0,
@@ -48,34 +48,6 @@ const CLAIMED: SlotParts = SlotParts::Global {
 /// A slot whose first reference was deleted.
 const FREED: SlotParts = SlotParts::Free { serial: 1 };
 
-/// What a room has in which nothing stands.
-pub(crate) const NOTHING: Summary = Summary {
-    globals: 0,
-    weaks: 0,
-    live: 0,
-    used: 0,
-};
-
-/// The gate with so many threads inside.
-pub(crate) fn open_gate(count: u16) -> GateParts {
-    GateParts {
-        count,
-        state: GateState::Open,
-    }
-}
-
-/// The last of the passes.
-pub(crate) fn last_of(_room: &Room<2>, passes: &mut Vec<Pass>) -> Result<Pass, Fail>
-    requires { All (λ p. IsOpened _room.now.row p) passes.old.items }
-    ensures others { All (λ p. IsOpened _room.now.row p) passes.new.items }
-    ensures pass { IfOk result (λ p. IsOpened _room.now.row p) }
-{
-    let Some(pass) = passes.pop() else {
-        return Err("there is no pass for each thread")?;
-    };
-    Ok(pass)
-}
-
 /// A room, and the passes of threads 0, 1 and 2.
 pub(crate) fn opened(alloc: Global) -> Result<(Room<2>, Pass, Pass, Pass), Fail>
     ensures passes { IfOk result (λ r. IsOpened r.0.row r.1 × IsOpened r.0.row r.2 × IsOpened r.0.row r.3) }
@@ -89,13 +61,17 @@ pub(crate) fn opened(alloc: Global) -> Result<(Room<2>, Pass, Pass, Pass), Fail>
 }
 
 #[test]
-fn a_room_has_at_most_64_threads(rt: HostRuntime) {
+fn a_room_and_plain_words_have_at_most_64_threads(rt: HostRuntime) {
     let config = Config {
         threads: 65,
         ..SMALL
     };
     assert_eq!(rt;
         Room::<2>::open(rt.alloc(), config).err(),
+        Some(Fault::Size)
+    );
+    assert_eq!(rt;
+        PlainSteps::<2>::new(rt.alloc(), config).err(),
         Some(Fault::Size)
     );
 }
@@ -126,85 +102,6 @@ fn a_room_opens_with_one_pass_a_thread(rt: HostRuntime) -> Result<(), Fail> {
         assert_eq!(rt; passes.len(), threads as usize);
         are_fresh(&rt, &room, passes)?;
     }
-    Ok(())
-}
-
-#[test]
-fn a_room_is_refused_where_memory_is(rt: HostRuntime) {
-    if let Err(fault) = Room::<2>::open(rt.alloc(), SMALL) {
-        assert_eq!(rt; fault, Fault::Memory);
-    }
-}
-
-#[test]
-fn passes_share_one_gate(rt: HostRuntime) -> Result<(), Fail> {
-    let (room, first, second, third) = opened(rt.alloc())?;
-    let mut first = RoomSteps::new(&room, first);
-    let mut second = RoomSteps::new(&room, second);
-    assert_eq!(rt; (first.thread(), second.thread()), (0, 1));
-    assert_eq!(rt; (first.last(), first.config()), (2, SMALL));
-    assert!(rt; first.go_in());
-    assert_eq!(rt;
-        (first.role(), second.role()),
-        (Role::Within, Role::Outside)
-    );
-    assert_eq!(rt; second.see_gate(GateLoad::Meet), open_gate(1));
-    assert!(rt; second.go_in());
-    assert_eq!(rt; first.see_gate(GateLoad::Meet), open_gate(2));
-    assert!(rt; first.fresh() && second.fresh());
-    first.put_local(15, None);
-    assert!(rt; !first.fresh() && second.fresh());
-    second.go_out();
-    first.go_out();
-    assert_eq!(rt; second.see_gate(GateLoad::Meet), open_gate(0));
-    second.spend();
-    assert!(rt; !second.fresh());
-    let (_first, _second) = (first.into_pass(), second.into_pass());
-    assert_eq!(rt; room.close(third).ok(), Some(NOTHING));
-    Ok(())
-}
-
-/// A pass that others meet is handed back with its thread, role and freshness.
-#[test]
-fn passes_that_meet_stay_as_they_are(rt: HostRuntime) -> Result<(), Fail> {
-    let (room, first, second, third) = opened(rt.alloc())?;
-    let mut steps = RoomSteps::new(&room, first);
-    assert!(rt; steps.go_in());
-    let first = steps.into_pass();
-    let mut steps = RoomSteps::new(&room, second);
-    steps.spend();
-    let second = steps.into_pass();
-    let mut steps = RoomSteps::new(&room, third);
-    let first = steps.meet(first);
-    let second = steps.meet(second);
-    assert_eq!(rt; standing(&steps), (2, Role::Outside, true));
-    let _third = steps.into_pass();
-    let mut steps = RoomSteps::new(&room, first);
-    assert_eq!(rt; standing(&steps), (0, Role::Within, true));
-    steps.go_out();
-    let _first = steps.into_pass();
-    let steps = RoomSteps::new(&room, second);
-    assert_eq!(rt; standing(&steps), (1, Role::Outside, false));
-    let second = steps.into_pass();
-    assert_eq!(rt; room.close(second).ok(), Some(NOTHING));
-    Ok(())
-}
-
-/// Steps that others meet go on with their thread, role and freshness.
-#[test]
-fn steps_that_meet_stay_as_they_are(rt: HostRuntime) -> Result<(), Fail> {
-    let (room, first, second, third) = opened(rt.alloc())?;
-    let mut first = RoomSteps::new(&room, first);
-    let mut second = RoomSteps::new(&room, second);
-    assert!(rt; first.go_in());
-    second.meet_steps(&mut first);
-    assert_eq!(rt; standing(&first), (0, Role::Within, true));
-    assert_eq!(rt; standing(&second), (1, Role::Outside, true));
-    first.meet_steps(&mut second);
-    assert_eq!(rt; standing(&second), (1, Role::Outside, true));
-    first.go_out();
-    let (_first, _second) = (first.into_pass(), second.into_pass());
-    assert_eq!(rt; room.close(third).ok(), Some(NOTHING));
     Ok(())
 }
 
@@ -266,24 +163,6 @@ fn a_room_is_handed_back_while_a_thread_is_inside(rt: HostRuntime) -> Result<(),
     Ok(())
 }
 
-/// A room closes with the passes of all its threads, and hands them back while a thread is inside.
-#[test]
-fn a_room_closes_with_all_its_passes(rt: HostRuntime) -> Result<(), Fail> {
-    let (room, first, second, third) = opened(rt.alloc())?;
-    let first = come_in(&room, first)?;
-    let others = vec![in rt.alloc(); second, third]?;
-    let Err(refused) = room.close_all(first, others) else {
-        return Err("thread 0 is inside")?;
-    };
-    let AllLeft { left, others } = refused;
-    let Left { room, pass, fault } = left;
-    assert_eq!(rt; fault, Fault::LeftInside(1));
-    assert_eq!(rt; others.len(), 2);
-    let first = go_out(&room, pass)?;
-    assert_eq!(rt; room.close_all(first, others).ok(), Some(NOTHING));
-    Ok(())
-}
-
 /// Both threads see slot 0 free: one claims it, and the other finds what stands there. Both look the handle up, and only one of them frees it.
 #[test]
 fn a_slot_is_claimed_by_one_and_freed_by_one(rt: HostRuntime) -> Result<(), Fail> {
@@ -325,44 +204,6 @@ fn a_slot_is_claimed_by_one_and_freed_by_one(rt: HostRuntime) -> Result<(), Fail
     second.go_out();
     let (_first, _second) = (first.into_pass(), second.into_pass());
     let summary = Summary { live: 1, ..NOTHING };
-    assert_eq!(rt; room.close(third).ok(), Some(summary));
-    Ok(())
-}
-
-/// In one stay makes object 1, where it is not present yet, and claims a slot for the slot's first reference to it.
-pub(crate) fn refer<S: Steps>(steps: &mut S, index: u16, kind: RefKind) -> Result<(), Fail> {
-    let config = steps.config();
-    if u32::from(index) >= config.slots || config.objects == 0 || kind == RefKind::Local {
-        return Err("there is no such slot")?;
-    }
-    if steps.role() != Role::Outside || !steps.go_in() {
-        return Err("the thread does not come in")?;
-    }
-    steps.claim_header(1, PLAIN);
-    let SlotParts::Free { serial: 0 } = steps.see_slot(index, SlotLoad::Probe) else {
-        return Err("the slot is not free")?;
-    };
-    let Ok(()) = steps.claim(index, 0, kind, 1) else {
-        return Err("the slot was taken")?;
-    };
-    steps.go_out();
-    Ok(())
-}
-
-#[test]
-fn a_room_that_closes_counts_what_stands(rt: HostRuntime) -> Result<(), Fail> {
-    let (room, first, second, third) = opened(rt.alloc())?;
-    let mut first = RoomSteps::new(&room, first);
-    refer(&mut first, 0, RefKind::Global)?;
-    let mut second = RoomSteps::new(&room, second);
-    refer(&mut second, 1, RefKind::Weak)?;
-    let (_first, _second) = (first.into_pass(), second.into_pass());
-    let summary = Summary {
-        globals: 1,
-        weaks: 1,
-        live: 1,
-        used: 0,
-    };
     assert_eq!(rt; room.close(third).ok(), Some(summary));
     Ok(())
 }

@@ -7,9 +7,9 @@ use Rattle.jr_steps.specs.Acts.{act_of_slot_load, handle_of}
 use Rattle.jr_steps.specs.declared.loads.SlotLoad.TheVariants.{Look}
 use Rattle.jr_steps.specs.Knowing.{Goes}
 use Rattle.jr_rule.specs.CellLaws.{some_of}
-use Rattle.jr_rule_tests.proofs.Claimable.{claimable}
+use Rattle.jr_heap_tests.proofs.Claimable.{claimable}
 use Rattle.jr_steps.proofs.StepFacts.{looked_now, may_then}
-use Rattle.jr_rule_tests.proofs.rooms.a_slot_is_claimed_by_one_and_freed_by_one.Goals as goal
+use Rattle.jr_heap_tests.proofs.passes.a_slot_is_claimed_by_one_and_freed_by_one.Goals as goal
 
 pub claim-requires-clause-looked : goal.claim-requires-clause-looked
 claim-requires-clause-looked g c =

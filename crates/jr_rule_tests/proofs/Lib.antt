@@ -1,3 +1,0 @@
-mod Claimable
-mod Emptying
-mod Reopening
