@@ -64,9 +64,9 @@ def listed():
     found = []
     for top in FOLDERS:
         for line in read(f"{top}/README.md").decode().split("\n"):
-            row = re.match(r"\| \[`\w+`\]\(([\w/]+)\.(?:script|lines)\) \| \S", line)
-            if row:
-                found.append(f"{top}/{row[1]}")
+            row = re.match(r"\| \[`(\w+)`\]\(((?:\w+/)*\1)\.(script|lines)\) \| \S", line)
+            if row and os.path.isfile(f"{top}/{row[2]}.{row[3]}"):
+                found.append(f"{top}/{row[2]}")
     return found
 
 
