@@ -1,6 +1,6 @@
 //! Levels of a region: the newest is given up first, and a new one has its number.
 
-use crate::at_a_level::{give_up, has, is_told, nests_array, nests_string, put};
+use crate::at_a_level::{give_up, has, is_deep, is_told, nests_array, nests_string, put};
 use crate::envs::{TWO, has_elements, is_outside, lone_env};
 use jr_env::Env;
 use jr_model::Mode;
@@ -16,6 +16,7 @@ fn stands_anew<S: Steps>(rt: &impl Abort, env: &mut Env<S>) -> Result<(), Fail> 
     let text = env.new_string(&[1, 2, 3])?;
     let mut region = env.get_array_critical(first)?;
     nests_array(rt, &mut region, second, Ok(1));
+    is_deep(rt, &region, 2);
     put(rt, &mut region, 0, 0, -9i16);
     put(rt, &mut region, 1, 1, true);
     let mut region = give_up(rt, region, Mode::Copy);

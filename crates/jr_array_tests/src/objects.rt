@@ -1,9 +1,9 @@
-//! Words that are no reference, at the calls that look at an object.
+//! The calls that look at an object: the kind of each, and words that are no reference.
 
 use crate::envs::{FOREIGN, NO_SLOT, ONES, OWN, TWO, lone_env, refuses};
 use jr_env::Env;
 use jr_steps::Steps;
-use jr_word::{Fault, Handle};
+use jr_word::{Fault, Handle, Kind};
 use std::process::Abort;
 use std::test::Fail;
 
@@ -67,4 +67,28 @@ fn checks_of_an_array_and_a_value(rt: HostRuntime) -> Result<(), Fail> {
     let plain = env.new_plain()?;
     are_checked_in_turn(&rt, &mut env, plain);
     Ok(())
+}
+
+/// The kind of an object without elements, of a string, of an array of numbers and of one of objects.
+fn have_kinds<S: Steps>(rt: &impl Abort, env: &mut Env<S>) -> Result<(), Fail> {
+    let plain = env.new_plain()?;
+    let text = env.new_string(&[1])?;
+    let ints = env.new_array::<i32>(1)?;
+    let objects = env.new_object_array(1, plain)?;
+    let rows = [
+        (plain, Kind::Plain),
+        (text, Kind::Text),
+        (ints, Kind::Int),
+        (objects, Kind::Objects),
+    ];
+    for (word, kind) in rows {
+        assert!(rt; env.kind_of(word) == Ok(kind));
+    }
+    Ok(())
+}
+
+#[test]
+fn kinds_of_objects(rt: HostRuntime) -> Result<(), Fail> {
+    let mut env = lone_env(rt.alloc(), TWO)?;
+    have_kinds(&rt, &mut env)
 }

@@ -34,6 +34,7 @@ fn ends_at_its_length<S: Steps>(rt: &impl Abort, env: &mut Env<S>, array: Handle
 /// Regions of none, of one and of all elements are read and written, and none past the end.
 fn has_regions<S: Steps>(rt: &impl Abort, env: &mut Env<S>) -> Result<(), Fail> {
     let array = env.new_array::<i32>(3)?;
+    refuses(rt, env.new_array::<i16>(u32::MAX), Fault::SpaceFull(3));
     env.set_array_region(array, 0, &[10, 20, 30])?;
     has_elements(rt, env, array, 0, &mut [7; 3], &[10, 20, 30])?;
     has_elements(rt, env, array, 1, &mut [7], &[20])?;
