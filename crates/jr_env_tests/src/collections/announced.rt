@@ -2,12 +2,13 @@
 ghost use Rattle.std.specs.Prelude.{◌≡◌, ◌≤◌, IfOk, IfSome};
 ghost use Rattle.jr_model.specs.declared.event.Role.TheVariants.{Outside};
 ghost use Rattle.jr_env.specs.Collections.{FitsRoom};
+ghost use Rattle.jr_rule.specs.Rooms.{IsOfRoom};
 ghost use Rattle.jr_env.specs.Envs.{IsOutside};
 
-use crate::envs::{LAST, is_refused, made, next_env, next_pass, next_steps};
+use crate::envs::{LAST, NoPass, is_refused, made, next_env, next_pass, next_steps};
 use jr_env::Env;
 use jr_gate::{announce, enter};
-use jr_rule::{Left, Room};
+use jr_rule::{Left, Pass, Room};
 use jr_steps::Steps;
 use jr_weak::{Collected, Marker};
 use jr_word::{Config, Fault, Handle};
@@ -88,16 +89,23 @@ fn collects<S: Steps>(
     assert_eq!(rt; collection(env, marker, tries), wanted);
 }
 
+/// A word names an array of so many elements.
+fn has_length<S: Steps>(
+    rt: &impl Abort,
+    env: &mut Env<S>,
+    word: Handle,
+    wanted: u32,
+) -> Result<(), Fail> {
+    assert_eq!(rt; env.get_array_length(word)?, wanted);
+    Ok(())
+}
+
 /// Before a collection all stands, and five words are used.
-fn is_as_filled<S: Steps>(rt: &impl Abort, env: &mut Env<S>, filled: Filled)
-    ensures { IsOutside env.new }
-{
-    assert_eq!(rt;
-        env.is_same_object(filled.gone_weak, Handle::NULL),
-        Ok(false)
-    );
-    assert_eq!(rt; env.get_array_length(filled.gone_weak), Ok(3));
-    assert_eq!(rt; env.new_array::<i32>(6), Err(Fault::SpaceFull(5)));
+fn is_as_filled<S: Steps>(rt: &impl Abort, env: &mut Env<S>, filled: Filled) -> Result<(), Fail> {
+    assert!(rt; !env.is_same_object(filled.gone_weak, Handle::NULL)?);
+    has_length(rt, env, filled.gone_weak, 3)?;
+    is_refused(rt, env.new_array::<i32>(6), Some(Fault::SpaceFull(5)));
+    Ok(())
 }
 
 /// No collection is made, announced or not: so many threads are inside, knocking, announcing or collecting.
@@ -181,27 +189,39 @@ fn is_barred_by_who_announces<S: Steps, T: Steps, U: Steps, V: Steps>(
         }
         Err(_) => panic!(rt; "nobody keeps the gate closed"),
     }
-    is_as_filled(rt, other, filled);
+    is_as_filled(rt, other, filled)?;
     collects(rt, env, &mut marker, Some(1), Ok(OF_FILLED));
     Ok(())
+}
+
+/// The same, where there is a pass for each thread. A test has none of the four itself, since each that it would drop is dear to prove.
+fn bars<S: Steps + Drop, T: Steps + Drop, U: Steps + Drop, V: Steps + Drop>(
+    rt: &impl Abort,
+    alloc: Global,
+    first: Result<S, NoPass>,
+    second: Result<T, NoPass>,
+    env: Result<Env<U>, NoPass>,
+    other: Result<Env<V>, NoPass>,
+) -> Result<(), Fail>
+    requires first { IfOk first (λ s. (S.facts s).stands.role ≡ Outside) }
+    requires second { IfOk second (λ s. (T.facts s).stands.role ≡ Outside) }
+{
+    let mut first = first?;
+    let mut second = second?;
+    let mut env = env?;
+    let mut other = other?;
+    is_barred_by_who_announces(rt, alloc, &mut first, &mut second, &mut env, &mut other)
 }
 
 /// One thread announces at a time, and from then on no other goes in.
 #[test]
 fn an_announcement_bars_calls_and_collections(rt: HostRuntime) -> Result<(), Fail> {
     let (room, mut passes) = Room::<LAST>::open(rt.alloc(), FOUR)?;
-    let mut first = next_steps(&room, &mut passes)?;
-    let mut second = next_steps(&room, &mut passes)?;
-    let mut other = next_env(&room, &mut passes)?;
-    let mut env = next_env(&room, &mut passes)?;
-    is_barred_by_who_announces(
-        &rt,
-        rt.alloc(),
-        &mut first,
-        &mut second,
-        &mut env,
-        &mut other,
-    )
+    let first = next_steps(&room, &mut passes);
+    let second = next_steps(&room, &mut passes);
+    let other = next_env(&room, &mut passes);
+    let env = next_env(&room, &mut passes);
+    bars(&rt, rt.alloc(), first, second, env, other)
 }
 
 /// The steps of a thread are dropped while it announces.
@@ -232,25 +252,45 @@ fn is_barred_for_good<S: Steps>(
     Ok(())
 }
 
-/// Where a thread's pass is dropped while it announces, entries are barred for good, and the room is not closed any more: who announced is counted.
-#[test]
-fn a_pass_dropped_while_announcing_bars_all_calls(rt: HostRuntime) -> Result<(), Fail> {
-    let (room, mut passes) = Room::<LAST>::open(rt.alloc(), FOUR)?;
-    let dropped = next_steps(&room, &mut passes)?;
-    let mut env = next_env(&room, &mut passes)?;
+/// The steps of a thread are dropped while it announces: the env of another is barred for good.
+fn bars_once_dropped<S: Steps + Drop, T: Steps + Drop>(
+    rt: &impl Abort,
+    alloc: Global,
+    dropped: Result<S, NoPass>,
+    env: Result<Env<T>, NoPass>,
+) -> Result<(), Fail>
+    requires { IfOk dropped (λ s. (S.facts s).stands.role ≡ Outside) }
+{
+    let mut env = env?;
     let filled = fill(&mut env)?;
-    drop_while_announcing(dropped)?;
-    is_barred_for_good(&rt, rt.alloc(), &mut env, filled.kept)?;
-    let _pass = env.into_pass().into_pass();
-    let pass = next_pass(&room, &mut passes)?;
+    drop_while_announcing(dropped?)?;
+    is_barred_for_good(rt, alloc, &mut env, filled.kept)?;
+    let _steps = env.into_pass();
+    Ok(())
+}
+
+/// A room is not closed, since a thread announces: the room and the pass, as they are handed back.
+fn is_left(rt: &impl Abort, room: Room<LAST>, pass: Pass) -> Result<(Room<LAST>, Pass), Fail>
+    requires { IsOfRoom room pass }
+    ensures { IfOk result (λ r. IsOfRoom r.0 r.1) }
+{
     let Err(left) = room.close(pass) else {
         return Err("a thread announces")?;
     };
     let Left { room, pass, fault } = left;
     assert_eq!(rt; fault, Fault::LeftInside(1));
-    let Err(left) = room.close(pass) else {
-        return Err("a thread announces")?;
-    };
-    assert_eq!(rt; left.fault, Fault::LeftInside(1));
+    Ok((room, pass))
+}
+
+/// Where a thread's pass is dropped while it announces, entries are barred for good, and the room is not closed any more: who announced is counted.
+#[test]
+fn a_pass_dropped_while_announcing_bars_all_calls(rt: HostRuntime) -> Result<(), Fail> {
+    let (room, mut passes) = Room::<LAST>::open(rt.alloc(), FOUR)?;
+    let dropped = next_steps(&room, &mut passes);
+    let env = next_env(&room, &mut passes);
+    bars_once_dropped(&rt, rt.alloc(), dropped, env)?;
+    let pass = next_pass(&room, &mut passes)?;
+    let (room, pass) = is_left(&rt, room, pass)?;
+    is_left(&rt, room, pass)?;
     Ok(())
 }
