@@ -194,27 +194,43 @@ fn refused<S: Steps + Drop>(rt: &impl Abort, env: Result<Env<S>, (S, Fault)>) ->
     match env {
         Ok(_) => Err("the pass is not fresh")?,
         Err((steps, fault)) => {
-            assert_eq!(rt; fault, Fault::NotFresh);
+            is_refused(rt, Err::<(), Fault>(fault), Some(Fault::NotFresh));
             assert!(rt; !steps.fresh());
             Ok(steps)
         }
     }
 }
 
-#[test]
-fn an_env_is_made_of_a_fresh_pass_alone(rt: HostRuntime) -> Result<(), Fail> {
-    let mut steps = PlainSteps::<LAST>::new(rt.alloc(), Config::LEAST)?;
+/// Of steps whose pass was spent no env is made. They are handed back.
+fn refused_once_spent<S: Steps + Drop>(rt: &impl Abort, steps: S) -> Result<S, Fail>
+    requires { (S.facts steps).stands.role ≡ Outside }
+{
+    let mut steps = steps;
     assert!(rt; steps.fresh());
     steps.spend();
-    let steps = refused(&rt, Env::new(steps))?;
-    has_words(&rt, &steps.cells.words, &[0; 20]);
+    refused(rt, Env::new(steps))
+}
 
-    let Ok(mut env) = Env::new(PlainSteps::<LAST>::new(rt.alloc(), Config::LEAST)?) else {
+/// Of steps that an env made a local reference with no other env is made. They are handed back.
+fn refused_after_an_env<S: Steps + Drop>(rt: &impl Abort, steps: S) -> Result<S, Fail>
+    requires { (S.facts steps).stands.role ≡ Outside }
+{
+    let Ok(mut env) = Env::new(steps) else {
         return Err("the pass is fresh")?;
     };
     assert!(rt; !env.held.steps.fresh());
     assert_eq!(rt; env.new_plain()?, OWN);
-    let steps = refused(&rt, Env::new(env.into_pass()))?;
+    refused(rt, Env::new(env.into_pass()))
+}
+
+#[test]
+fn an_env_is_made_of_a_fresh_pass_alone(rt: HostRuntime) -> Result<(), Fail> {
+    let steps = PlainSteps::<LAST>::new(rt.alloc(), Config::LEAST)?;
+    let steps = refused_once_spent(&rt, steps)?;
+    has_words(&rt, &steps.cells.words, &[0; 20]);
+
+    let steps = PlainSteps::<LAST>::new(rt.alloc(), Config::LEAST)?;
+    let steps = refused_after_an_env(&rt, steps)?;
     // Its local reference still stands.
     let mut row = [0; 20];
     row[3] = 1;
