@@ -1,7 +1,7 @@
 //! An env's collections, over plain words and over a room that several threads share.
 
 mod announced;
-mod chains;
+pub(crate) mod chains;
 mod markers;
 mod rows;
 mod threads;

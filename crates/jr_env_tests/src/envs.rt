@@ -34,14 +34,17 @@ pub(crate) fn plain_env(alloc: Global, config: Config) -> Result<Env<PlainSteps<
     Ok(opened_env(steps))
 }
 
+/// What is missing where the passes are at their end.
+pub(crate) type NoPass = &'static str;
+
 /// The last of the passes.
-pub(crate) fn next_pass(_room: &Room<LAST>, passes: &mut Vec<Pass>) -> Result<Pass, Fail>
+pub(crate) fn next_pass(_room: &Room<LAST>, passes: &mut Vec<Pass>) -> Result<Pass, NoPass>
     requires { All (λ p. IsOpened _room.now.row p) passes.old.items }
     ensures others { All (λ p. IsOpened _room.now.row p) passes.new.items }
     ensures pass { IfOk result (λ p. IsOpened _room.now.row p) }
 {
     let Some(pass) = passes.pop() else {
-        return Err("there is no pass for each thread")?;
+        return Err("there is no pass for each thread");
     };
     Ok(pass)
 }
@@ -50,7 +53,7 @@ pub(crate) fn next_pass(_room: &Room<LAST>, passes: &mut Vec<Pass>) -> Result<Pa
 pub(crate) fn next_steps<'a>(
     room: &'a Room<LAST>,
     passes: &mut Vec<Pass>,
-) -> Result<RoomSteps<'a, LAST>, Fail>
+) -> Result<RoomSteps<'a, LAST>, NoPass>
     requires { All (λ p. IsOpened room.now.row p) passes.old.items }
     ensures others { All (λ p. IsOpened room.now.row p) passes.new.items }
     ensures outside { IfOk result (λ s. s.role ≡ Outside) }
@@ -63,7 +66,7 @@ pub(crate) fn next_steps<'a>(
 pub(crate) fn next_env<'a>(
     room: &'a Room<LAST>,
     passes: &mut Vec<Pass>,
-) -> Result<Env<RoomSteps<'a, LAST>>, Fail>
+) -> Result<Env<RoomSteps<'a, LAST>>, NoPass>
     requires { All (λ p. IsOpened room.now.row p) passes.old.items }
     ensures { All (λ p. IsOpened room.now.row p) passes.new.items }
 {
@@ -105,4 +108,20 @@ pub(crate) fn collected<S: Steps>(alloc: Global, env: &mut Env<S>) -> Result<[u3
     let mut marker = Marker::new(alloc, env.held.steps.config())?;
     let collected = env.collect(&mut marker)?;
     Ok([collected.cleared, collected.dropped, collected.used])
+}
+
+/// Checks these three numbers of a collection.
+pub(crate) fn collects<S: Steps>(
+    rt: &impl Abort,
+    alloc: Global,
+    env: &mut Env<S>,
+    wanted: [u32; 3],
+) -> Result<(), Fail> {
+    assert_eq!(rt; collected(alloc, env)?, wanted);
+    Ok(())
+}
+
+/// Checks the words of a row.
+pub(crate) fn has_words(rt: &impl Abort, words: &[u64], wanted: &[u64]) {
+    assert_eq!(rt; words, wanted);
 }

@@ -1,6 +1,7 @@
 //! What scripts can't show of frames: places that are retired, a capacity of 32 bits, and local references that are freed while their env goes on.
 
-use crate::envs::{has_type, is_refused, made, opened_env, plain_env};
+use crate::envs::{has_type, is_refused, made, opened_env};
+use crate::plain::{Case, try_plain};
 use jr_env::Env;
 use jr_rule::PlainSteps;
 use jr_steps::Steps;
@@ -46,7 +47,7 @@ fn is_freed<S: Steps>(rt: &impl Abort, env: &mut Env<S>, local: Handle) -> Resul
 }
 
 /// References of three frames are freed, all places are free again and the base frame alone is open, and those that are not local stand.
-fn frees_all<S: Steps>(rt: &impl Abort, env: &mut Env<S>) -> Result<(), Fail> {
+pub(crate) fn frees_all<S: Steps>(rt: &impl Abort, env: &mut Env<S>) -> Result<(), Fail> {
     let locals = in_three_frames(env)?;
     let global = made(env.new_global_ref(locals[0]))?;
     env.free_locals()?;
@@ -64,6 +65,5 @@ fn frees_all<S: Steps>(rt: &impl Abort, env: &mut Env<S>) -> Result<(), Fail> {
 
 #[test]
 fn locals_are_freed(rt: HostRuntime) -> Result<(), Fail> {
-    let mut env = plain_env(rt.alloc(), Config::LEAST)?;
-    frees_all(&rt, &mut env)
+    try_plain(&rt, rt.alloc(), Config::LEAST, Case::Frees)
 }

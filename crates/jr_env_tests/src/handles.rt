@@ -1,6 +1,7 @@
 //! How many handles a slot and a local place give, and what their row says then.
 
-use crate::envs::{has_type, is_refused, made, opened_env, plain_env};
+use crate::envs::{has_type, has_words, is_refused, made, opened_env, plain_env};
+use crate::plain::{Case, try_plain};
 use jr_env::Env;
 use jr_model::Summary;
 use jr_rule::PlainSteps;
@@ -70,21 +71,24 @@ fn gives_more<S: Steps>(
     has_type(rt, env, given.first[1], 0)
 }
 
-#[test]
-fn a_slot_gives_more_than_65_536_handles(rt: HostRuntime) -> Result<(), Fail> {
-    let mut env = plain_env(rt.alloc(), Config::LEAST)?;
+/// The one slot gives more than 65,536 handles.
+pub(crate) fn slot_gives_more<S: Steps>(rt: &impl Abort, env: &mut Env<S>) -> Result<(), Fail> {
     let local = env.new_plain()?;
     let given = Given {
         first: [Handle(2), Handle(6)],
         later: [Handle(0x4_0002), Handle(0x4_0006)],
         ref_type: 2,
     };
-    gives_more(&rt, &mut env, Renewed::Global, local, &given)
+    gives_more(rt, env, Renewed::Global, local, &given)
 }
 
 #[test]
-fn a_local_place_gives_more_than_65_536_handles(rt: HostRuntime) -> Result<(), Fail> {
-    let mut env = plain_env(rt.alloc(), Config::LEAST)?;
+fn a_slot_gives_more_than_65_536_handles(rt: HostRuntime) -> Result<(), Fail> {
+    try_plain(&rt, rt.alloc(), Config::LEAST, Case::Slot)
+}
+
+/// A local place gives more than 65,536 handles.
+pub(crate) fn place_gives_more<S: Steps>(rt: &impl Abort, env: &mut Env<S>) -> Result<(), Fail> {
     let local = env.new_plain()?;
     // One of the sixteen places is left free.
     for _ in 0..14 {
@@ -95,7 +99,12 @@ fn a_local_place_gives_more_than_65_536_handles(rt: HostRuntime) -> Result<(), F
         later: [Handle(0x3C_0004_0001), Handle(0x3C_0004_0005)],
         ref_type: 1,
     };
-    gives_more(&rt, &mut env, Renewed::Local, local, &given)
+    gives_more(rt, env, Renewed::Local, local, &given)
+}
+
+#[test]
+fn a_local_place_gives_more_than_65_536_handles(rt: HostRuntime) -> Result<(), Fail> {
+    try_plain(&rt, rt.alloc(), Config::LEAST, Case::Place)
 }
 
 /// The one slot gives three handles, and is retired with the last of them.
@@ -122,7 +131,7 @@ fn retires_a_slot_after_its_last_serial(rt: HostRuntime) -> Result<(), Fail> {
     row[2] = 9;
     row[3] = 1;
     row[19] = 1;
-    assert_eq!(rt; env.held.steps.cells.words.as_slice(), row.as_slice());
+    has_words(&rt, &env.held.steps.cells.words, &row);
     Ok(())
 }
 

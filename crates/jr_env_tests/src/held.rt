@@ -6,6 +6,7 @@ use jr_env::Env;
 use jr_gate::enter;
 use jr_steps::Steps;
 use jr_word::{Config, Fault, Handle};
+use std::process::Abort;
 use std::test::Fail;
 
 /// What two handles and NULL resolve to in one stay, by what an env held.
@@ -32,15 +33,32 @@ fn resolved<S: Steps + Drop>(
     Ok((one, other, null?))
 }
 
-#[test]
-fn what_an_env_holds_resolves_references(rt: HostRuntime) -> Result<(), Fail> {
-    let mut env = plain_env(rt.alloc(), Config::LEAST)?;
+/// Checks what a word resolves to.
+fn resolves(
+    rt: &impl Abort,
+    answer: Result<Option<u16>, Fault>,
+    wanted: Result<Option<u16>, Fault>,
+) {
+    assert_eq!(rt; answer, wanted);
+}
+
+/// A reference that stands resolves to its object, one that was deleted to none, and NULL to nothing.
+fn resolves_references<S: Steps + Drop>(
+    rt: &impl Abort,
+    env: Result<Env<S>, Fault>,
+) -> Result<(), Fail> {
+    let mut env = env?;
     let local = env.new_plain()?;
     let global = made(env.new_global_ref(local))?;
     env.delete_local_ref(local)?;
     let (one, other, null) = resolved(env, global, local)?;
-    assert_eq!(rt; one, Ok(Some(1)));
-    assert_eq!(rt; other, Err(Fault::Stale));
-    assert_eq!(rt; null, None);
+    resolves(rt, one, Ok(Some(1)));
+    resolves(rt, other, Err(Fault::Stale));
+    resolves(rt, Ok(null), Ok(None));
     Ok(())
+}
+
+#[test]
+fn what_an_env_holds_resolves_references(rt: HostRuntime) -> Result<(), Fail> {
+    resolves_references(&rt, plain_env(rt.alloc(), Config::LEAST))
 }

@@ -12,4 +12,6 @@ mod handles;
 #[cfg(test)]
 mod held;
 #[cfg(test)]
+mod plain;
+#[cfg(test)]
 mod references;

@@ -4,7 +4,8 @@ ghost use Rattle.std.specs.Prelude.{◌≡◌, IfOk};
 ghost use Rattle.jr_model.specs.declared.event.Role.TheVariants.{Outside};
 ghost use Rattle.jr_rule.specs.Passes.{IsAt, IsOpened};
 
-use crate::envs::{LAST, has_type, is_refused, made, next_pass, opened_env, plain_env};
+use crate::envs::{LAST, has_type, has_words, is_refused, made, next_pass, opened_env};
+use crate::plain::{Case, try_plain};
 use jr_env::Env;
 use jr_rule::{Pass, PlainSteps, Room, RoomSteps};
 use jr_steps::Steps;
@@ -65,7 +66,7 @@ fn is_no_reference<S: Steps>(
 }
 
 /// Words that are no reference of the thread, each with its refusal.
-fn are_no_references<S: Steps>(rt: &impl Abort, env: &mut Env<S>) -> Result<(), Fail> {
+pub(crate) fn are_no_references<S: Steps>(rt: &impl Abort, env: &mut Env<S>) -> Result<(), Fail> {
     let rows = [
         (ONES, Fault::Stale),
         (Handle(4), Fault::Stale),
@@ -86,12 +87,11 @@ fn are_no_references<S: Steps>(rt: &impl Abort, env: &mut Env<S>) -> Result<(), 
 
 #[test]
 fn words_that_are_no_reference(rt: HostRuntime) -> Result<(), Fail> {
-    let mut env = plain_env(rt.alloc(), TWO)?;
-    are_no_references(&rt, &mut env)
+    try_plain(&rt, rt.alloc(), TWO, Case::NoReferences)
 }
 
 /// Each kind of check is made of the first reference and then of the second, before the next kind.
-fn are_checked_in_turn<S: Steps>(rt: &impl Abort, env: &mut Env<S>) {
+pub(crate) fn are_checked_in_turn<S: Steps>(rt: &impl Abort, env: &mut Env<S>) -> Result<(), Fail> {
     let rows = [
         (FOREIGN, ONES, Fault::Stale),
         (FOREIGN, NO_SLOT, Fault::Stale),
@@ -101,13 +101,12 @@ fn are_checked_in_turn<S: Steps>(rt: &impl Abort, env: &mut Env<S>) {
     for (left, right, fault) in rows {
         is_refused(rt, env.is_same_object(left, right), Some(fault));
     }
+    Ok(())
 }
 
 #[test]
 fn checks_of_two_references(rt: HostRuntime) -> Result<(), Fail> {
-    let mut env = plain_env(rt.alloc(), TWO)?;
-    are_checked_in_turn(&rt, &mut env);
-    Ok(())
+    try_plain(&rt, rt.alloc(), TWO, Case::InTurn)
 }
 
 /// The words of a local, a global and a weak global reference to one object.
@@ -177,7 +176,7 @@ fn refused_as_global<S: Steps>(rt: &impl Abort, env: &mut Env<S>, of: &OfEach) {
 }
 
 /// A reference of each kind is deleted by the call for its kind alone, and what was refused stands.
-fn are_deleted_by_kind<S: Steps>(rt: &impl Abort, env: &mut Env<S>) -> Result<(), Fail> {
+pub(crate) fn are_deleted_by_kind<S: Steps>(rt: &impl Abort, env: &mut Env<S>) -> Result<(), Fail> {
     let of = of_each(env)?;
     refused_as_local(rt, env, &of);
     have_types(rt, env, &of, [1, 2, 3])?;
@@ -187,8 +186,7 @@ fn are_deleted_by_kind<S: Steps>(rt: &impl Abort, env: &mut Env<S>) -> Result<()
 
 #[test]
 fn references_of_another_kind(rt: HostRuntime) -> Result<(), Fail> {
-    let mut env = plain_env(rt.alloc(), TWO)?;
-    are_deleted_by_kind(&rt, &mut env)
+    try_plain(&rt, rt.alloc(), TWO, Case::ByKind)
 }
 
 /// The steps, handed back by a refusal of an env.
@@ -196,32 +194,48 @@ fn refused<S: Steps + Drop>(rt: &impl Abort, env: Result<Env<S>, (S, Fault)>) ->
     match env {
         Ok(_) => Err("the pass is not fresh")?,
         Err((steps, fault)) => {
-            assert_eq!(rt; fault, Fault::NotFresh);
+            is_refused(rt, Err::<(), Fault>(fault), Some(Fault::NotFresh));
             assert!(rt; !steps.fresh());
             Ok(steps)
         }
     }
 }
 
-#[test]
-fn an_env_is_made_of_a_fresh_pass_alone(rt: HostRuntime) -> Result<(), Fail> {
-    let mut steps = PlainSteps::<LAST>::new(rt.alloc(), Config::LEAST)?;
+/// Of steps whose pass was spent no env is made. They are handed back.
+fn refused_once_spent<S: Steps + Drop>(rt: &impl Abort, steps: S) -> Result<S, Fail>
+    requires { (S.facts steps).stands.role ≡ Outside }
+{
+    let mut steps = steps;
     assert!(rt; steps.fresh());
     steps.spend();
-    let steps = refused(&rt, Env::new(steps))?;
-    assert_eq!(rt; steps.cells.words.as_slice(), [0; 20].as_slice());
+    refused(rt, Env::new(steps))
+}
 
-    let Ok(mut env) = Env::new(PlainSteps::<LAST>::new(rt.alloc(), Config::LEAST)?) else {
+/// Of steps that an env made a local reference with no other env is made. They are handed back.
+fn refused_after_an_env<S: Steps + Drop>(rt: &impl Abort, steps: S) -> Result<S, Fail>
+    requires { (S.facts steps).stands.role ≡ Outside }
+{
+    let Ok(mut env) = Env::new(steps) else {
         return Err("the pass is fresh")?;
     };
     assert!(rt; !env.held.steps.fresh());
     assert_eq!(rt; env.new_plain()?, OWN);
-    let steps = refused(&rt, Env::new(env.into_pass()))?;
+    refused(rt, Env::new(env.into_pass()))
+}
+
+#[test]
+fn an_env_is_made_of_a_fresh_pass_alone(rt: HostRuntime) -> Result<(), Fail> {
+    let steps = PlainSteps::<LAST>::new(rt.alloc(), Config::LEAST)?;
+    let steps = refused_once_spent(&rt, steps)?;
+    has_words(&rt, &steps.cells.words, &[0; 20]);
+
+    let steps = PlainSteps::<LAST>::new(rt.alloc(), Config::LEAST)?;
+    let steps = refused_after_an_env(&rt, steps)?;
     // Its local reference still stands.
     let mut row = [0; 20];
     row[3] = 1;
     row[19] = 1;
-    assert_eq!(rt; steps.cells.words.as_slice(), row.as_slice());
+    has_words(&rt, &steps.cells.words, &row);
     Ok(())
 }
 
@@ -326,7 +340,7 @@ fn is_next<S: Steps>(
 }
 
 /// Each search for a free slot begins behind the newest reference of the pass, and goes on at slot 0 behind the last one.
-fn goes_round<S: Steps>(rt: &impl Abort, env: &mut Env<S>) -> Result<(), Fail> {
+pub(crate) fn goes_round<S: Steps>(rt: &impl Abort, env: &mut Env<S>) -> Result<(), Fail> {
     let local = env.new_plain()?;
     is_next(rt, env, local, Handle(2))?;
     is_next(rt, env, local, Handle(0x4_0000_0002))?;
@@ -339,6 +353,5 @@ fn goes_round<S: Steps>(rt: &impl Abort, env: &mut Env<S>) -> Result<(), Fail> {
 
 #[test]
 fn searches_go_round(rt: HostRuntime) -> Result<(), Fail> {
-    let mut env = plain_env(rt.alloc(), THREE_SLOTS)?;
-    goes_round(&rt, &mut env)
+    try_plain(&rt, rt.alloc(), THREE_SLOTS, Case::Round)
 }

@@ -1,9 +1,11 @@
 //! Chains of as many arrays as there may be, each of which names the one before, followed without recursion.
 
-use crate::envs::{collected, has_type, made, plain_env};
+use crate::envs::{collects, has_type, made};
+use crate::plain::{Case, try_plain};
 use jr_env::Env;
 use jr_steps::Steps;
 use jr_word::{Config, Handle};
+use std::alloc::Global;
 use std::process::Abort;
 use std::test::Fail;
 
@@ -45,27 +47,42 @@ fn close<S: Steps>(
     Ok(())
 }
 
+/// A chain stands while its last is named, and is dropped then.
+pub(crate) fn reaches_a_chain<S: Steps>(
+    rt: &impl Abort,
+    alloc: Global,
+    env: &mut Env<S>,
+) -> Result<(), Fail> {
+    let first = env.new_object_array(1, Handle::NULL)?;
+    let last = chain(env, first, LINKS)?;
+    collects(rt, alloc, env, [0, 0, 60_000])?;
+    env.delete_local_ref(last)?;
+    collects(rt, alloc, env, [0, 60_000, 0])
+}
+
 #[test]
 fn a_chain_is_reached_from_its_last(rt: HostRuntime) -> Result<(), Fail> {
-    let mut env = plain_env(rt.alloc(), LONG)?;
+    try_plain(&rt, rt.alloc(), LONG, Case::Chain)
+}
+
+/// A cycle stands while one of it is named, and is dropped then.
+pub(crate) fn reaches_a_cycle<S: Steps>(
+    rt: &impl Abort,
+    alloc: Global,
+    env: &mut Env<S>,
+) -> Result<(), Fail> {
     let first = env.new_object_array(1, Handle::NULL)?;
-    let last = chain(&mut env, first, LINKS)?;
-    assert_eq!(rt; collected(rt.alloc(), &mut env)?, [0, 0, 60_000]);
-    env.delete_local_ref(last)?;
-    assert_eq!(rt; collected(rt.alloc(), &mut env)?, [0, 60_000, 0]);
-    Ok(())
+    let kept = made(env.new_global_ref(first))?;
+    let word = made(env.new_weak_global_ref(first))?;
+    let last = chain(env, first, LINKS)?;
+    close(rt, env, kept, last)?;
+    collects(rt, alloc, env, [0, 0, 60_000])?;
+    env.delete_global_ref(kept)?;
+    collects(rt, alloc, env, [1, 60_000, 0])?;
+    has_type(rt, env, word, 3)
 }
 
 #[test]
 fn a_cycle_is_reached_from_any_and_else_dropped(rt: HostRuntime) -> Result<(), Fail> {
-    let mut env = plain_env(rt.alloc(), LONG)?;
-    let first = env.new_object_array(1, Handle::NULL)?;
-    let kept = made(env.new_global_ref(first))?;
-    let word = made(env.new_weak_global_ref(first))?;
-    let last = chain(&mut env, first, LINKS)?;
-    close(&rt, &mut env, kept, last)?;
-    assert_eq!(rt; collected(rt.alloc(), &mut env)?, [0, 0, 60_000]);
-    env.delete_global_ref(kept)?;
-    assert_eq!(rt; collected(rt.alloc(), &mut env)?, [1, 60_000, 0]);
-    has_type(&rt, &mut env, word, 3)
+    try_plain(&rt, rt.alloc(), LONG, Case::Cycle)
 }

@@ -1,6 +1,6 @@
 //! The words that a collection leaves.
 
-use crate::envs::{collected, made, plain_env};
+use crate::envs::{collects, has_words, made, plain_env};
 use jr_env::Env;
 use jr_steps::Steps;
 use jr_word::Config;
@@ -40,14 +40,14 @@ fn a_collection_leaves_these_words(rt: HostRuntime) -> Result<(), Fail> {
     row[22] = 9;
     row[23] = 5;
     row[24] = 0xFFFF_FFFF_FFFF_FFFA;
-    assert_eq!(rt; env.held.steps.cells.words.as_slice(), row.as_slice());
-    assert_eq!(rt; collected(rt.alloc(), &mut env)?, [1, 1, 2]);
+    has_words(&rt, &env.held.steps.cells.words, &row);
+    collects(&rt, rt.alloc(), &mut env, [1, 1, 2])?;
     row[1] = 2;
     row[2] = 3;
     row[20] = 0;
     row[21] = 0x27;
     row[22] = 5;
     row[23] = 0xFFFF_FFFF_FFFF_FFFA;
-    assert_eq!(rt; env.held.steps.cells.words.as_slice(), row.as_slice());
+    has_words(&rt, &env.held.steps.cells.words, &row);
     Ok(())
 }

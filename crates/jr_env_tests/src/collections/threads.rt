@@ -14,7 +14,7 @@ use std::process::Abort;
 use std::sync::Wait;
 use std::test::Fail;
 use std::thread;
-use std::thread::Threads;
+use std::thread::{JoinHandle, Scope, Threads};
 
 /// A room of seven threads, with few words: five, one that collects once they have ended, and one that takes no step.
 const SEVEN: Config = Config {
@@ -219,8 +219,26 @@ fn has_arrays(
         live: arrays,
         used,
     };
-    assert_eq!(rt; room.close(pass).ok(), Some(summary));
+    match room.close(pass) {
+        Ok(found) => assert_eq!(rt; found, summary),
+        Err(_) => panic!(rt; "a thread is in the room"),
+    }
     Ok(())
+}
+
+/// Does a job in a thread of its own, where one can be started.
+fn start<'s, E, S: Steps + Drop + Send + 's>(
+    alloc: Global,
+    scope: &Scope<'s, E>,
+    job: Job,
+    env: Env<S>,
+) -> Option<JoinHandle<u32>> {
+    scope.spawn(move || job.work(alloc, env)).ok()
+}
+
+/// What a thread has done, once it has ended.
+fn ended<R: Threads>(rt: &R, thread: Option<JoinHandle<u32>>) -> Option<u32> {
+    thread.map(|it| it.join(rt))
 }
 
 /// Five threads do their jobs side by side, each as often as it is to. Then so many arrays stand.
@@ -238,17 +256,17 @@ fn all_do<R: Threads + Wait + Abort>(
     let fifth = next_env(&room, &mut passes)?;
     let [one, two, three, four, five] = jobs;
     let done = thread::scope(thread::scope_env(), rt, |scope| {
-        let first = scope.spawn(move || one.work(alloc, first));
-        let second = scope.spawn(move || two.work(alloc, second));
-        let third = scope.spawn(move || three.work(alloc, third));
-        let fourth = scope.spawn(move || four.work(alloc, fourth));
-        let fifth = scope.spawn(move || five.work(alloc, fifth));
+        let first = start(alloc, scope, one, first);
+        let second = start(alloc, scope, two, second);
+        let third = start(alloc, scope, three, third);
+        let fourth = start(alloc, scope, four, fourth);
+        let fifth = start(alloc, scope, five, fifth);
         [
-            first.map(|it| it.join(rt)).ok(),
-            second.map(|it| it.join(rt)).ok(),
-            third.map(|it| it.join(rt)).ok(),
-            fourth.map(|it| it.join(rt)).ok(),
-            fifth.map(|it| it.join(rt)).ok(),
+            ended(rt, first),
+            ended(rt, second),
+            ended(rt, third),
+            ended(rt, fourth),
+            ended(rt, fifth),
         ]
     });
     let wanted = [one, two, three, four, five].map(|job| Some(job.times()));

@@ -1,0 +1,67 @@
+//! What is tried of an env over plain words, in one function that makes the env: one that a test makes itself is dear to prove.
+
+use crate::collections::chains::{reaches_a_chain, reaches_a_cycle};
+use crate::envs::plain_env;
+use crate::frames::frees_all;
+use crate::handles::{place_gives_more, slot_gives_more};
+use crate::references::{are_checked_in_turn, are_deleted_by_kind, are_no_references, goes_round};
+use jr_env::Env;
+use jr_steps::Steps;
+use jr_word::Config;
+use std::alloc::Global;
+use std::process::Abort;
+use std::test::Fail;
+
+/// What is tried.
+#[derive(Clone, Copy)]
+pub(crate) enum Case {
+    /// Words that are no reference.
+    NoReferences,
+    /// Checks of two references.
+    InTurn,
+    /// References of another kind than is deleted.
+    ByKind,
+    /// Searches for a free slot.
+    Round,
+    /// Local references that are freed.
+    Frees,
+    /// The handles of one slot.
+    Slot,
+    /// The handles of one local place.
+    Place,
+    /// A chain of arrays.
+    Chain,
+    /// A cycle of arrays.
+    Cycle,
+}
+
+/// Tries it in an env in which nothing stands.
+fn try_case<S: Steps>(
+    rt: &impl Abort,
+    alloc: Global,
+    env: &mut Env<S>,
+    case: Case,
+) -> Result<(), Fail> {
+    match case {
+        Case::NoReferences => are_no_references(rt, env),
+        Case::InTurn => are_checked_in_turn(rt, env),
+        Case::ByKind => are_deleted_by_kind(rt, env),
+        Case::Round => goes_round(rt, env),
+        Case::Frees => frees_all(rt, env),
+        Case::Slot => slot_gives_more(rt, env),
+        Case::Place => place_gives_more(rt, env),
+        Case::Chain => reaches_a_chain(rt, alloc, env),
+        Case::Cycle => reaches_a_cycle(rt, alloc, env),
+    }
+}
+
+/// Tries it in a room of plain words, which is made for it.
+pub(crate) fn try_plain(
+    rt: &impl Abort,
+    alloc: Global,
+    config: Config,
+    case: Case,
+) -> Result<(), Fail> {
+    let mut env = plain_env(alloc, config)?;
+    try_case(rt, alloc, &mut env, case)
+}
