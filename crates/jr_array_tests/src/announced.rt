@@ -189,35 +189,56 @@ const WEAK: Summary = Summary {
     used: 0,
 };
 
-/// Another thread announces first, between this one's look at the gate and its announcement: the exchange finds it, and the next look does. Nothing has changed, but that no call goes in, until the other takes its announcement back.
-fn is_closed_between<S: Steps, U: Steps>(
+/// Another thread announces first, between this one's look at the gate and its announcement: the exchange finds it, and the next look does. No call goes in.
+fn finds_it_closed<S: Steps>(
     rt: &impl Abort,
     alloc: Global,
-    env: &mut Env<Overtaken<S, Planned<U>>>,
-) -> Result<(), Fail> {
+    env: &mut Env<S>,
+) -> Result<Handle, Fail> {
     let weak = fill(env)?;
     let mut marker = Marker::new(alloc, env.held.steps.config())?;
     collects(rt, env, &mut marker, 1000, Err(Fault::Busy(1)));
     collects(rt, env, &mut marker, 1000, Err(Fault::Busy(1)));
     refuses(rt, env.get_array_length(weak), Fault::Barred);
-    let held = &mut env.held;
-    announce_or_cancel(&mut held.steps.other.steps);
+    Ok(weak)
+}
+
+/// Nothing has changed once the other took its announcement back, and the collection is made.
+fn finds_it_open<S: Steps>(
+    rt: &impl Abort,
+    alloc: Global,
+    env: &mut Env<S>,
+    weak: Handle,
+) -> Result<(), Fail> {
     is_as_filled(rt, env, weak);
     let mut marker = Marker::new(alloc, env.held.steps.config())?;
     collects(rt, env, &mut marker, 1, Ok(ALL));
     Ok(())
 }
 
-/// Shows what becomes of announcements where another thread does this before the first.
-fn is_preceded<S: Steps, U: Steps>(
+/// Another thread closes the gate between the look at it and the announcement, and opens it later.
+fn is_closed_between<S: Steps, U: Steps>(
     rt: &impl Abort,
     alloc: Global,
     env: &mut Env<Overtaken<S, Planned<U>>>,
+) -> Result<(), Fail> {
+    let weak = finds_it_closed(rt, alloc, env)?;
+    let held = &mut env.held;
+    announce_or_cancel(&mut held.steps.other.steps);
+    finds_it_open(rt, alloc, env, weak)
+}
+
+/// Shows what becomes of announcements where another thread does this before the first.
+fn is_preceded<S: Steps + Drop, U: Steps + Drop>(
+    rt: &impl Abort,
+    alloc: Global,
+    env: Env<Overtaken<S, Planned<U>>>,
     first: Plan,
 ) -> Result<(), Fail> {
+    let mut env = env;
     match first {
-        Plan::Announce => is_closed_between(rt, alloc, env),
-        Plan::ComeOrGo => is_moved(rt, alloc, env),
+        Plan::Announce => is_closed_between(rt, alloc, &mut env),
+        Plan::ComeOrGo => is_moved(rt, alloc, &mut env),
         Plan::Rest => Err("nobody is faster")?,
     }
 }
@@ -226,10 +247,8 @@ fn is_preceded<S: Steps, U: Steps>(
 fn precedes(rt: &impl Abort, alloc: Global, plans: [Plan; PLANS]) -> Result<(), Fail> {
     let (room, mut passes) = Room::<LAST>::open(alloc, FOUR)?;
     let other = with_plans(&room, &mut passes, false, Before::Announcement, plans)?;
-    let mut env = next_overtaken(&room, &mut passes, other)?;
-    is_preceded(rt, alloc, &mut env, plans[0])?;
-    let Overtaken { steps, other } = env.into_pass();
-    let (_steps, _other) = (steps.into_pass(), other.steps.into_pass());
+    let env = next_overtaken(&room, &mut passes, other)?;
+    is_preceded(rt, alloc, env, plans[0])?;
     leaves(rt, room, passes, WEAK);
     Ok(())
 }
