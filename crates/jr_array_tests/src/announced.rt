@@ -4,7 +4,7 @@ ghost use Rattle.jr_env.specs.Collections.{FitsRoom};
 ghost use Rattle.jr_env.specs.Envs.{IsOutside};
 ghost use Rattle.jr_rule.specs.Passes.{IsOpened};
 
-use crate::envs::{LAST, closed, next_steps, refuses};
+use crate::envs::{LAST, leaves, next_steps, refuses};
 use crate::overtaken::{Before, Meanwhile, Overtaken, next_overtaken};
 use jr_env::Env;
 use jr_model::Summary;
@@ -189,51 +189,82 @@ const WEAK: Summary = Summary {
     used: 0,
 };
 
-/// Another thread moves the count of the gate between the look at it and the announcement.
-#[test]
-fn another_thread_comes_in_before_the_announcement(rt: HostRuntime) -> Result<(), Fail> {
-    let (room, mut passes) = Room::<LAST>::open(rt.alloc(), FOUR)?;
-    let plans = [Plan::ComeOrGo, Plan::ComeOrGo, Plan::Rest, Plan::Rest];
-    let other = with_plans(&room, &mut passes, false, Before::Announcement, plans)?;
-    let mut env = next_overtaken(&room, &mut passes, other)?;
-    is_moved(&rt, rt.alloc(), &mut env)?;
-    let Overtaken { steps, other } = env.into_pass();
-    let (_steps, _other) = (steps.into_pass(), other.steps.into_pass());
-    assert_eq!(rt; closed(room, passes), Some(WEAK));
-    Ok(())
-}
-
-/// Another thread announces first, between this one's look at the gate and its announcement: the exchange finds it, and the next look does. Nothing has changed, but that no call goes in, until the other takes its announcement back.
-fn is_closed_between<S: Steps, U: Steps>(
+/// Another thread announces first, between this one's look at the gate and its announcement: the exchange finds it, and the next look does. No call goes in.
+fn finds_it_closed<S: Steps>(
     rt: &impl Abort,
     alloc: Global,
-    env: &mut Env<Overtaken<S, Planned<U>>>,
-) -> Result<(), Fail> {
+    env: &mut Env<S>,
+) -> Result<Handle, Fail> {
     let weak = fill(env)?;
     let mut marker = Marker::new(alloc, env.held.steps.config())?;
     collects(rt, env, &mut marker, 1000, Err(Fault::Busy(1)));
     collects(rt, env, &mut marker, 1000, Err(Fault::Busy(1)));
     refuses(rt, env.get_array_length(weak), Fault::Barred);
-    let held = &mut env.held;
-    announce_or_cancel(&mut held.steps.other.steps);
+    Ok(weak)
+}
+
+/// Nothing has changed once the other took its announcement back, and the collection is made.
+fn finds_it_open<S: Steps>(
+    rt: &impl Abort,
+    alloc: Global,
+    env: &mut Env<S>,
+    weak: Handle,
+) -> Result<(), Fail> {
     is_as_filled(rt, env, weak);
     let mut marker = Marker::new(alloc, env.held.steps.config())?;
     collects(rt, env, &mut marker, 1, Ok(ALL));
     Ok(())
 }
 
+/// Another thread closes the gate between the look at it and the announcement, and opens it later.
+fn is_closed_between<S: Steps, U: Steps>(
+    rt: &impl Abort,
+    alloc: Global,
+    env: &mut Env<Overtaken<S, Planned<U>>>,
+) -> Result<(), Fail> {
+    let weak = finds_it_closed(rt, alloc, env)?;
+    let held = &mut env.held;
+    announce_or_cancel(&mut held.steps.other.steps);
+    finds_it_open(rt, alloc, env, weak)
+}
+
+/// Shows what becomes of announcements where another thread does this before the first.
+fn is_preceded<S: Steps + Drop, U: Steps + Drop>(
+    rt: &impl Abort,
+    alloc: Global,
+    env: Env<Overtaken<S, Planned<U>>>,
+    first: Plan,
+) -> Result<(), Fail> {
+    let mut env = env;
+    match first {
+        Plan::Announce => is_closed_between(rt, alloc, &mut env),
+        Plan::ComeOrGo => is_moved(rt, alloc, &mut env),
+        Plan::Rest => Err("nobody is faster")?,
+    }
+}
+
+/// Another thread has these plans before announcements. The array is collected at last, and the weak reference is left.
+fn precedes(rt: &impl Abort, alloc: Global, plans: [Plan; PLANS]) -> Result<(), Fail> {
+    let (room, mut passes) = Room::<LAST>::open(alloc, FOUR)?;
+    let other = with_plans(&room, &mut passes, false, Before::Announcement, plans)?;
+    let env = next_overtaken(&room, &mut passes, other)?;
+    is_preceded(rt, alloc, env, plans[0])?;
+    leaves(rt, room, passes, WEAK);
+    Ok(())
+}
+
+/// Another thread moves the count of the gate between the look at it and the announcement.
+#[test]
+fn another_thread_comes_in_before_the_announcement(rt: HostRuntime) -> Result<(), Fail> {
+    let plans = [Plan::ComeOrGo, Plan::ComeOrGo, Plan::Rest, Plan::Rest];
+    precedes(&rt, rt.alloc(), plans)
+}
+
 /// Another thread closes the gate between the look at it and the announcement.
 #[test]
 fn another_thread_announces_first(rt: HostRuntime) -> Result<(), Fail> {
-    let (room, mut passes) = Room::<LAST>::open(rt.alloc(), FOUR)?;
     let plans = [Plan::Announce, Plan::Rest, Plan::Rest, Plan::Rest];
-    let other = with_plans(&room, &mut passes, false, Before::Announcement, plans)?;
-    let mut env = next_overtaken(&room, &mut passes, other)?;
-    is_closed_between(&rt, rt.alloc(), &mut env)?;
-    let Overtaken { steps, other } = env.into_pass();
-    let (_steps, _other) = (steps.into_pass(), other.steps.into_pass());
-    assert_eq!(rt; closed(room, passes), Some(WEAK));
-    Ok(())
+    precedes(&rt, rt.alloc(), plans)
 }
 
 /// Checks what an announced collection of so many tries answers. Where it is refused nothing has changed.

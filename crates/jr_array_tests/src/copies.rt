@@ -1,11 +1,11 @@
 //! Copies of elements and of units: words that are no array, and long ones, over plain words and over a room.
 
-use crate::envs::{FOREIGN, LAST, ONES, TWO, has_elements, lone_env, next_env, refuses};
+use crate::cases::{Case, alone, in_a_room};
+use crate::envs::{FOREIGN, ONES, TWO, has_elements, refuses};
 use crate::regions::no_arrays_of_chars;
 use jr_elements::{Elements, elements_of};
 use jr_env::Env;
 use jr_model::Mode;
-use jr_rule::Room;
 use jr_steps::Steps;
 use jr_word::{Config, Elem, Fault, Handle};
 use std::alloc::Global;
@@ -13,7 +13,7 @@ use std::process::Abort;
 use std::test::Fail;
 
 /// Checks that copied elements are these.
-fn are<E: Elem + PartialEq>(rt: &impl Abort, elements: &Elements<E>, wanted: &[E]) {
+pub(crate) fn are<E: Elem + PartialEq>(rt: &impl Abort, elements: &Elements<E>, wanted: &[E]) {
     assert!(rt; elements.as_slice() == wanted);
 }
 
@@ -58,7 +58,7 @@ fn is_no_such_array<S: Steps>(
 }
 
 /// None of these words names such an array.
-fn are_no_such_arrays<S: Steps>(
+pub(crate) fn have_no_copies<S: Steps>(
     rt: &impl Abort,
     env: &mut Env<S>,
     alloc: Global,
@@ -72,12 +72,15 @@ fn are_no_such_arrays<S: Steps>(
 
 #[test]
 fn what_is_no_array_of_the_kind(rt: HostRuntime) -> Result<(), Fail> {
-    let mut env = lone_env(rt.alloc(), TWO)?;
-    are_no_such_arrays(&rt, &mut env, rt.alloc())
+    alone(&rt, rt.alloc(), TWO, Case::HaveNoCopies)
 }
 
 /// The elements of one array are written to another, by a commit and then by a copy, which keeps none.
-fn goes_to_another<S: Steps>(rt: &impl Abort, env: &mut Env<S>, alloc: Global) -> Result<(), Fail> {
+pub(crate) fn goes_to_another<S: Steps>(
+    rt: &impl Abort,
+    env: &mut Env<S>,
+    alloc: Global,
+) -> Result<(), Fail> {
     let array = env.new_array::<i64>(2)?;
     env.set_array_region(array, 0, &[10i64, -20])?;
     let other = env.new_array::<i64>(2)?;
@@ -95,23 +98,25 @@ fn goes_to_another<S: Steps>(rt: &impl Abort, env: &mut Env<S>, alloc: Global) -
 
 #[test]
 fn elements_of_one_array_for_another(rt: HostRuntime) -> Result<(), Fail> {
-    let mut env = lone_env(rt.alloc(), TWO)?;
-    goes_to_another(&rt, &mut env, rt.alloc())
+    alone(&rt, rt.alloc(), TWO, Case::GoesToAnother)
 }
 
 /// No units are copied of a word that names no string.
-fn have_no_units<S: Steps>(rt: &impl Abort, env: &mut Env<S>, alloc: Global) {
+pub(crate) fn have_no_units<S: Steps>(
+    rt: &impl Abort,
+    env: &mut Env<S>,
+    alloc: Global,
+) -> Result<(), Fail> {
     let rows = [(ONES, Fault::Stale), (FOREIGN, Fault::Foreign)];
     for (word, fault) in rows {
         refuses(rt, env.get_string_chars(alloc, word), fault);
     }
+    Ok(())
 }
 
 #[test]
 fn units_of_no_string(rt: HostRuntime) -> Result<(), Fail> {
-    let mut env = lone_env(rt.alloc(), TWO)?;
-    have_no_units(&rt, &mut env, rt.alloc());
-    Ok(())
+    alone(&rt, rt.alloc(), TWO, Case::HaveNoUnits)
 }
 
 /// Units of which no two beside each other are alike, and none comes again within some thousands.
@@ -131,7 +136,7 @@ fn with_words(words: u32) -> Config {
 }
 
 /// All units of a string of so many are copied.
-fn copies_units<S: Steps>(
+pub(crate) fn copies_units<S: Steps>(
     rt: &impl Abort,
     alloc: Global,
     env: &mut Env<S>,
@@ -145,7 +150,7 @@ fn copies_units<S: Steps>(
 }
 
 /// All elements of an array of so many are copied.
-fn copies_elements<S: Steps>(
+pub(crate) fn copies_elements<S: Steps>(
     rt: &impl Abort,
     alloc: Global,
     env: &mut Env<S>,
@@ -159,16 +164,26 @@ fn copies_elements<S: Steps>(
     Ok(())
 }
 
+/// All units of a string of so many are copied, and then all elements of an array of so many beside it.
+pub(crate) fn copies_both<S: Steps>(
+    rt: &impl Abort,
+    alloc: Global,
+    env: &mut Env<S>,
+    units: u32,
+    elements: u32,
+) -> Result<(), Fail> {
+    copies_units(rt, alloc, env, units)?;
+    copies_elements(rt, alloc, env, elements)
+}
+
 // With ample memory a copy is made, however long it is: of a thousand, and of all words of the room.
 #[test]
 fn long_copies(rt: HostRuntime) -> Result<(), Fail> {
     let alloc = rt.alloc();
     let most = Config::MOST_WORDS;
     for (words, count) in [(4_096, 1_000), (4_096, 4_096), (most, most)] {
-        let mut env = lone_env(alloc, with_words(words))?;
-        copies_units(&rt, alloc, &mut env, count)?;
-        let mut env = lone_env(alloc, with_words(words))?;
-        copies_elements(&rt, alloc, &mut env, count)?;
+        alone(&rt, alloc, with_words(words), Case::Units(count))?;
+        alone(&rt, alloc, with_words(words), Case::Elements(count))?;
     }
     Ok(())
 }
@@ -176,11 +191,7 @@ fn long_copies(rt: HostRuntime) -> Result<(), Fail> {
 #[test]
 fn long_copies_in_a_room(rt: HostRuntime) -> Result<(), Fail> {
     let alloc = rt.alloc();
-    let (room, mut passes) = Room::<LAST>::open(alloc, with_words(5_096))?;
-    let mut env = next_env(&room, &mut passes)?;
-    copies_units(&rt, alloc, &mut env, 1_000)?;
-    copies_elements(&rt, alloc, &mut env, 4_096)?;
-    let (room, mut passes) = Room::<LAST>::open(alloc, with_words(4_096))?;
-    let mut env = next_env(&room, &mut passes)?;
-    copies_units(&rt, alloc, &mut env, 4_096)
+    let both = Case::UnitsAndElements(1_000, 4_096);
+    in_a_room(&rt, alloc, with_words(5_096), both)?;
+    in_a_room(&rt, alloc, with_words(4_096), Case::Units(4_096))
 }

@@ -1,7 +1,8 @@
 //! Elements of arrays in a region as those of one type alone, and units of strings as chars.
 
 use crate::at_a_level::{has, is_deep, is_not_put, is_not_read, is_told, read, write};
-use crate::envs::{TWO, lone_env};
+use crate::cases::{Case, alone};
+use crate::envs::TWO;
 use jr_env::{Env, Region};
 use jr_model::Mode;
 use jr_steps::Steps;
@@ -90,15 +91,19 @@ fn long_ones_are_of_one_type<S: Steps>(rt: &impl Abort, env: &mut Env<S>) -> Res
     has_one_type::<_, i64>(rt, env, 0, within, past)
 }
 
+/// The elements of no array are of two types.
+pub(crate) fn are_of_one_type<S: Steps>(rt: &impl Abort, env: &mut Env<S>) -> Result<(), Fail> {
+    short_ones_are_of_one_type(rt, env)?;
+    long_ones_are_of_one_type(rt, env)
+}
+
 #[test]
 fn elements_of_another_type_and_past_the_length(rt: HostRuntime) -> Result<(), Fail> {
-    let mut env = lone_env(rt.alloc(), TWO)?;
-    short_ones_are_of_one_type(&rt, &mut env)?;
-    long_ones_are_of_one_type(&rt, &mut env)
+    alone(&rt, rt.alloc(), TWO, Case::AreOfOneType)
 }
 
 /// The units of a string are read as chars alone, and the type is looked at before the index; none is written, of whatever type.
-fn has_units<S: Steps>(rt: &impl Abort, env: &mut Env<S>) -> Result<(), Fail> {
+pub(crate) fn has_units<S: Steps>(rt: &impl Abort, env: &mut Env<S>) -> Result<(), Fail> {
     let string = env.new_string(&[104, 65_535])?;
     let mut region = env.get_string_critical(string)?;
     is_deep(rt, &region, 1);
@@ -118,6 +123,5 @@ fn has_units<S: Steps>(rt: &impl Abort, env: &mut Env<S>) -> Result<(), Fail> {
 
 #[test]
 fn units_of_another_type(rt: HostRuntime) -> Result<(), Fail> {
-    let mut env = lone_env(rt.alloc(), TWO)?;
-    has_units(&rt, &mut env)
+    alone(&rt, rt.alloc(), TWO, Case::HasUnits)
 }

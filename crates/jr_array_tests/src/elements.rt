@@ -1,3 +1,4 @@
+use crate::copies::are;
 use jr_elements::{Elements, elements_of};
 use jr_model::Mode;
 use jr_word::{Elem, Fault};
@@ -14,21 +15,32 @@ fn ends_at<E: Elem + PartialEq>(
 ) {
     assert_eq!(rt; elements.get(index).err(), Some(Fault::Range));
     assert_eq!(rt; elements.set(index, value).err(), Some(Fault::Range));
-    assert!(rt; elements.as_slice() == wanted);
+    are(rt, elements, wanted);
+}
+
+/// Checks how many elements were copied.
+fn are_copies<E: Elem>(rt: &impl Abort, elements: &Elements<E>, length: u32) {
+    assert_eq!(rt; elements.length(), length);
+    assert!(rt; elements.is_copy());
+}
+
+/// Checks what an element is.
+fn has(rt: &impl Abort, elements: &Elements<i32>, index: u32, wanted: i32) -> Result<(), Fail> {
+    assert_eq!(rt; elements.get(index)?, wanted);
+    Ok(())
 }
 
 #[test]
 fn elements_within_and_past_the_end(rt: HostRuntime) -> Result<(), Fail> {
     let items = Vec::from_slice(rt.alloc(), &[10i32, -20, 30])?;
     let mut elements = elements_of(items);
-    assert_eq!(rt; elements.length(), 3);
-    assert!(rt; elements.is_copy());
-    assert_eq!(rt; elements.get(0)?, 10);
-    assert_eq!(rt; elements.get(2)?, 30);
+    are_copies(&rt, &elements, 3);
+    has(&rt, &elements, 0, 10)?;
+    has(&rt, &elements, 2, 30)?;
     elements.set(0, i32::MIN)?;
     elements.set(2, i32::MAX)?;
     let wanted = [i32::MIN, -20, i32::MAX];
-    assert!(rt; elements.as_slice() == wanted.as_slice());
+    are(&rt, &elements, &wanted);
     ends_at(&rt, &mut elements, 3, 7, &wanted);
     ends_at(&rt, &mut elements, u32::MAX, 7, &wanted);
     Ok(())
@@ -37,11 +49,15 @@ fn elements_within_and_past_the_end(rt: HostRuntime) -> Result<(), Fail> {
 #[test]
 fn no_elements(rt: HostRuntime) -> Result<(), Fail> {
     let mut elements = elements_of(Vec::<bool>::new(rt.alloc()));
-    assert_eq!(rt; elements.length(), 0);
-    assert!(rt; elements.is_copy());
+    are_copies(&rt, &elements, 0);
     ends_at(&rt, &mut elements, 0, true, &[]);
     ends_at(&rt, &mut elements, u32::MAX, true, &[]);
     Ok(())
+}
+
+/// Checks that a release in this mode keeps no elements.
+fn are_given_up<E: Elem>(rt: &impl Abort, elements: Elements<E>, mode: Mode) {
+    assert!(rt; elements.kept(mode).is_none());
 }
 
 #[test]
@@ -50,9 +66,9 @@ fn a_commit_alone_keeps_the_elements(rt: HostRuntime) -> Result<(), Fail> {
     let Some(elements) = elements.kept(Mode::Commit) else {
         return Err("a commit gave the elements up")?;
     };
-    assert!(rt; elements.as_slice() == [7u16, 65_535].as_slice());
-    assert!(rt; elements.kept(Mode::Copy).is_none());
+    are(&rt, &elements, &[7u16, 65_535]);
+    are_given_up(&rt, elements, Mode::Copy);
     let elements = elements_of(Vec::from_slice(rt.alloc(), &[7u16])?);
-    assert!(rt; elements.kept(Mode::Abort).is_none());
+    are_given_up(&rt, elements, Mode::Abort);
     Ok(())
 }

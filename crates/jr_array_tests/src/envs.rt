@@ -78,7 +78,7 @@ pub(crate) fn next_env<'a>(
 }
 
 /// What stands in a room that is closed with the last of the passes.
-pub(crate) fn closed(room: Room<LAST>, passes: Vec<Pass>) -> Option<Summary>
+fn closed(room: Room<LAST>, passes: Vec<Pass>) -> Option<Summary>
     requires { All (λ p. IsOpened room.row p) passes.items }
 {
     let mut passes = passes;
@@ -86,6 +86,13 @@ pub(crate) fn closed(room: Room<LAST>, passes: Vec<Pass>) -> Option<Summary>
         Some(pass) => room.close(pass).ok(),
         None => None,
     }
+}
+
+/// Checks what stands in a room that is closed with the last of the passes.
+pub(crate) fn leaves(rt: &impl Abort, room: Room<LAST>, passes: Vec<Pass>, wanted: Summary)
+    requires { All (λ p. IsOpened room.row p) passes.items }
+{
+    assert_eq!(rt; closed(room, passes), Some(wanted));
 }
 
 /// Checks that a call was refused so.
@@ -99,6 +106,11 @@ pub(crate) fn is_outside<S: Steps>(rt: &impl Abort, env: &mut Env<S>) {
     assert!(rt; env.get_object_ref_type(Handle::NULL) == Ok(0));
 }
 
+/// Checks that elements are the same.
+fn are_alike<E: Elem + PartialEq>(rt: &impl Abort, found: &[E], wanted: &[E]) {
+    assert!(rt; found == wanted);
+}
+
 /// The array has these elements from an index on.
 pub(crate) fn has_elements<S: Steps, E: Elem + PartialEq>(
     rt: &impl Abort,
@@ -109,6 +121,6 @@ pub(crate) fn has_elements<S: Steps, E: Elem + PartialEq>(
     wanted: &[E],
 ) -> Result<(), Fail> {
     env.get_array_region(array, start, found)?;
-    assert!(rt; &*found == wanted);
+    are_alike(rt, &*found, wanted);
     Ok(())
 }

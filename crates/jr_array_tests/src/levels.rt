@@ -1,7 +1,8 @@
 //! Levels of a region: the newest is given up first, and a new one has its number.
 
 use crate::at_a_level::{give_up, has, is_deep, is_told, nests_array, nests_string, put};
-use crate::envs::{TWO, has_elements, is_outside, lone_env};
+use crate::cases::{Case, alone};
+use crate::envs::{TWO, has_elements, is_outside};
 use jr_env::Env;
 use jr_model::Mode;
 use jr_steps::Steps;
@@ -10,7 +11,7 @@ use std::process::Abort;
 use std::test::Fail;
 
 /// The last level is given up, and a new one has its number.
-fn stands_anew<S: Steps>(rt: &impl Abort, env: &mut Env<S>) -> Result<(), Fail> {
+pub(crate) fn stands_anew<S: Steps>(rt: &impl Abort, env: &mut Env<S>) -> Result<(), Fail> {
     let first = env.new_array::<i16>(1)?;
     let second = env.new_array::<bool>(2)?;
     let text = env.new_string(&[1, 2, 3])?;
@@ -36,6 +37,5 @@ fn stands_anew<S: Steps>(rt: &impl Abort, env: &mut Env<S>) -> Result<(), Fail> 
 
 #[test]
 fn the_last_level_is_given_up_first(rt: HostRuntime) -> Result<(), Fail> {
-    let mut env = lone_env(rt.alloc(), TWO)?;
-    stands_anew(&rt, &mut env)
+    alone(&rt, rt.alloc(), TWO, Case::StandsAnew)
 }

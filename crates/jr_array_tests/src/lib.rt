@@ -6,6 +6,8 @@ mod announced;
 #[cfg(test)]
 mod at_a_level;
 #[cfg(test)]
+mod cases;
+#[cfg(test)]
 mod copies;
 #[cfg(test)]
 mod element_types;

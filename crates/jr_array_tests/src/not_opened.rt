@@ -1,7 +1,8 @@
 //! Regions that are not opened, and levels that are not added, over words that are no reference of the thread.
 
 use crate::at_a_level::{has, is_deep, nests_array, nests_string, put};
-use crate::envs::{FOREIGN, NO_SLOT, ONES, OWN, TWO, is_outside, lone_env};
+use crate::cases::{Case, alone};
+use crate::envs::{FOREIGN, NO_SLOT, ONES, OWN, TWO, is_outside};
 use jr_env::{Env, Region};
 use jr_model::Mode;
 use jr_steps::Steps;
@@ -58,7 +59,7 @@ pub(crate) fn opens_string<S: Steps>(
 }
 
 /// No region is opened over a word that names no object, and each time the thread is outside.
-fn opens_none<S: Steps>(rt: &impl Abort, env: &mut Env<S>) {
+pub(crate) fn opens_none<S: Steps>(rt: &impl Abort, env: &mut Env<S>) -> Result<(), Fail> {
     let rows = [
         (Handle::NULL, Fault::Null),
         (OWN, Fault::Stale),
@@ -72,13 +73,12 @@ fn opens_none<S: Steps>(rt: &impl Abort, env: &mut Env<S>) {
         opens_string(rt, env, word, Some(fault));
         is_outside(rt, env);
     }
+    Ok(())
 }
 
 #[test]
 fn words_that_name_no_object(rt: HostRuntime) -> Result<(), Fail> {
-    let mut env = lone_env(rt.alloc(), TWO)?;
-    opens_none(&rt, &mut env);
-    Ok(())
+    alone(&rt, rt.alloc(), TWO, Case::OpensNone)
 }
 
 /// No level is added over a word that names no object, and the region stands as it did.
@@ -97,7 +97,7 @@ fn adds_none<S: Steps>(rt: &impl Abort, region: &mut Region<'_, S>) {
 }
 
 /// A region over an array, to which no level is added.
-fn adds_no_level<S: Steps>(rt: &impl Abort, env: &mut Env<S>) -> Result<(), Fail> {
+pub(crate) fn adds_no_level<S: Steps>(rt: &impl Abort, env: &mut Env<S>) -> Result<(), Fail> {
     let array = env.new_array::<i32>(2)?;
     let mut region = env.get_array_critical(array)?;
     put(rt, &mut region, 0, 1, i32::MAX);
@@ -113,6 +113,5 @@ fn adds_no_level<S: Steps>(rt: &impl Abort, env: &mut Env<S>) -> Result<(), Fail
 
 #[test]
 fn levels_that_are_not_added(rt: HostRuntime) -> Result<(), Fail> {
-    let mut env = lone_env(rt.alloc(), TWO)?;
-    adds_no_level(&rt, &mut env)
+    alone(&rt, rt.alloc(), TWO, Case::AddsNoLevel)
 }

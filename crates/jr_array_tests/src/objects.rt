@@ -1,6 +1,7 @@
 //! The calls that look at an object: the kind of each, and words that are no reference.
 
-use crate::envs::{FOREIGN, NO_SLOT, ONES, OWN, TWO, lone_env, refuses};
+use crate::cases::{Case, alone};
+use crate::envs::{FOREIGN, NO_SLOT, ONES, OWN, TWO, refuses};
 use jr_env::Env;
 use jr_steps::Steps;
 use jr_word::{Fault, Handle, Kind};
@@ -20,7 +21,7 @@ fn refusals<S: Steps>(env: &mut Env<S>, word: Handle, index: u32) -> [Option<Fau
 }
 
 /// Words that name no object, each with its refusal.
-fn name_no_object<S: Steps>(rt: &impl Abort, env: &mut Env<S>) {
+pub(crate) fn name_no_object<S: Steps>(rt: &impl Abort, env: &mut Env<S>) -> Result<(), Fail> {
     let rows = [
         (Handle::NULL, Fault::Null),
         (OWN, Fault::Stale),
@@ -31,17 +32,17 @@ fn name_no_object<S: Steps>(rt: &impl Abort, env: &mut Env<S>) {
     for (word, fault) in rows {
         assert_eq!(rt; refusals(env, word, 0), [Some(fault); 5]);
     }
+    Ok(())
 }
 
 #[test]
 fn words_that_name_no_object(rt: HostRuntime) -> Result<(), Fail> {
-    let mut env = lone_env(rt.alloc(), TWO)?;
-    name_no_object(&rt, &mut env);
-    Ok(())
+    alone(&rt, rt.alloc(), TWO, Case::NameNoObject)
 }
 
 /// Each kind of check is made of the array and then of the value, before the next kind, and all before E1 and E5.
-fn are_checked_in_turn<S: Steps>(rt: &impl Abort, env: &mut Env<S>, plain: Handle) {
+pub(crate) fn are_checked_in_turn<S: Steps>(rt: &impl Abort, env: &mut Env<S>) -> Result<(), Fail> {
+    let plain = env.new_plain()?;
     let rows = [
         (FOREIGN, ONES, Fault::Stale),
         (FOREIGN, NO_SLOT, Fault::Stale),
@@ -59,18 +60,16 @@ fn are_checked_in_turn<S: Steps>(rt: &impl Abort, env: &mut Env<S>, plain: Handl
     for (array, value, fault) in rows {
         refuses(rt, env.set_object_array_element(array, 0, value), fault);
     }
+    Ok(())
 }
 
 #[test]
 fn checks_of_an_array_and_a_value(rt: HostRuntime) -> Result<(), Fail> {
-    let mut env = lone_env(rt.alloc(), TWO)?;
-    let plain = env.new_plain()?;
-    are_checked_in_turn(&rt, &mut env, plain);
-    Ok(())
+    alone(&rt, rt.alloc(), TWO, Case::CheckedInTurn)
 }
 
 /// The kind of an object without elements, of a string, of an array of numbers and of one of objects.
-fn have_kinds<S: Steps>(rt: &impl Abort, env: &mut Env<S>) -> Result<(), Fail> {
+pub(crate) fn have_kinds<S: Steps>(rt: &impl Abort, env: &mut Env<S>) -> Result<(), Fail> {
     let plain = env.new_plain()?;
     let text = env.new_string(&[1])?;
     let ints = env.new_array::<i32>(1)?;
@@ -89,6 +88,5 @@ fn have_kinds<S: Steps>(rt: &impl Abort, env: &mut Env<S>) -> Result<(), Fail> {
 
 #[test]
 fn kinds_of_objects(rt: HostRuntime) -> Result<(), Fail> {
-    let mut env = lone_env(rt.alloc(), TWO)?;
-    have_kinds(&rt, &mut env)
+    alone(&rt, rt.alloc(), TWO, Case::HaveKinds)
 }

@@ -2,7 +2,7 @@
 ghost use Rattle.std.specs.Prelude.{All};
 ghost use Rattle.jr_rule.specs.Passes.{IsOpened};
 
-use crate::envs::{LAST, closed, env_of, next_env, next_steps, refuses};
+use crate::envs::{LAST, env_of, leaves, next_env, next_steps, refuses};
 use jr_env::Env;
 use jr_model::Summary;
 use jr_rule::{Pass, Room, RoomSteps};
@@ -262,7 +262,8 @@ pub(crate) fn next_overtaken<'a, M: Meanwhile + Drop>(
 }
 
 /// Each call that reserves words is refused with E12, as another thread reserved one more each time. It has left no local reference.
-fn is_overtaken<S: Steps>(rt: &impl Abort, env: &mut Env<S>) -> Result<(), Fail> {
+fn is_overtaken<S: Steps + Drop>(rt: &impl Abort, env: Env<S>) -> Result<(), Fail> {
+    let mut env = env;
     refuses(rt, env.new_array::<i32>(3), Fault::Raced(0, 1));
     refuses(rt, env.new_string(&[1, 2]), Fault::Raced(1, 2));
     refuses(
@@ -280,10 +281,8 @@ fn is_overtaken<S: Steps>(rt: &impl Abort, env: &mut Env<S>) -> Result<(), Fail>
 fn another_thread_is_always_faster(rt: HostRuntime) -> Result<(), Fail> {
     let (room, mut passes) = Room::<LAST>::open(rt.alloc(), SMALL)?;
     let other = next_env(&room, &mut passes)?;
-    let mut env = next_overtaken(&room, &mut passes, other)?;
-    is_overtaken(&rt, &mut env)?;
-    let Overtaken { steps, other } = env.into_pass();
-    let (_steps, _other) = (steps.into_pass(), other.into_pass().into_pass());
+    let env = next_overtaken(&room, &mut passes, other)?;
+    is_overtaken(&rt, env)?;
     // Three arrays of the other thread, with an element each.
     let summary = Summary {
         globals: 0,
@@ -291,6 +290,6 @@ fn another_thread_is_always_faster(rt: HostRuntime) -> Result<(), Fail> {
         live: 3,
         used: 3,
     };
-    assert_eq!(rt; closed(room, passes), Some(summary));
+    leaves(&rt, room, passes, summary);
     Ok(())
 }

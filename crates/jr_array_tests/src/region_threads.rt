@@ -10,6 +10,7 @@ use jr_model::Mode;
 use jr_rule::Room;
 use jr_steps::{Role, Steps};
 use jr_word::{Fault, Handle};
+use std::alloc::Global;
 use std::process::Abort;
 use std::sync::Wait;
 use std::test::Fail;
@@ -51,10 +52,7 @@ fn is_barred<S: Steps, T: Steps>(
 
 #[test]
 fn a_collection_bars_regions(rt: HostRuntime) -> Result<(), Fail> {
-    let (room, mut passes) = Room::<LAST>::open(rt.alloc(), TWO)?;
-    let mut other = next_steps(&room, &mut passes)?;
-    let mut env = next_env(&room, &mut passes)?;
-    is_barred(&rt, &mut env, &mut other)
+    beside_another(&rt, rt.alloc(), Beside::Collecting)
 }
 
 /// The gate is not shut, as announced, since one other thread is inside. The announcement is handed back.
@@ -109,12 +107,29 @@ fn goes_on_while_announced<S: Steps, T: Steps>(
     has_elements(rt, env, nested, 0, &mut [7i64], &[i64::MIN])
 }
 
-#[test]
-fn a_region_goes_on_while_a_collection_is_announced(rt: HostRuntime) -> Result<(), Fail> {
-    let (room, mut passes) = Room::<LAST>::open(rt.alloc(), TWO)?;
+/// What another thread does beside regions.
+#[derive(Clone, Copy)]
+enum Beside {
+    /// It shuts the gate, and opens it.
+    Collecting,
+    /// It announces first that it will.
+    Announcing,
+}
+
+/// Shows what regions are beside another thread of the room.
+fn beside_another(rt: &impl Abort, alloc: Global, what: Beside) -> Result<(), Fail> {
+    let (room, mut passes) = Room::<LAST>::open(alloc, TWO)?;
     let mut other = next_steps(&room, &mut passes)?;
     let mut env = next_env(&room, &mut passes)?;
-    goes_on_while_announced(&rt, &mut env, &mut other)
+    match what {
+        Beside::Collecting => is_barred(rt, &mut env, &mut other),
+        Beside::Announcing => goes_on_while_announced(rt, &mut env, &mut other),
+    }
+}
+
+#[test]
+fn a_region_goes_on_while_a_collection_is_announced(rt: HostRuntime) -> Result<(), Fail> {
+    beside_another(&rt, rt.alloc(), Beside::Announcing)
 }
 
 /// Opens a region over the first array so often, or until it has tried so often, and writes there how many it opened before. How often that was read.
@@ -167,6 +182,11 @@ fn own_array<S: Steps>(rt: &impl Abort, env: &mut Env<S>) -> Result<Handle, Fail
     Ok(array)
 }
 
+/// Checks that a thread did all that it was to do.
+fn are_all(rt: &impl Abort, done: Option<u32>, wanted: u32) {
+    assert!(rt; done == Some(wanted));
+}
+
 /// The array has what was written last.
 fn has_last_number<S: Steps>(rt: &impl Abort, env: &mut Env<S>, array: Handle) -> Result<(), Fail> {
     has_elements(rt, env, array, 0, &mut [7i64; 2], &[0, 9_999])
@@ -186,7 +206,7 @@ fn regions_and_collections_of_two_threads_end(rt: HostRuntime) -> Result<(), Fai
             two.map(|two| two.join(&rt)).ok(),
         )
     });
-    assert!(rt; regions == Some(REGIONS));
-    assert!(rt; collections == Some(COLLECTIONS));
+    are_all(&rt, regions, REGIONS);
+    are_all(&rt, collections, COLLECTIONS);
     has_last_number(&rt, &mut env, array)
 }

@@ -1,9 +1,9 @@
 //! Regions of several elements and of none, through the calls that copy them out and in, over plain words, and long ones over a room too.
 ghost use Rattle.std.specs.Prelude.{◌≤◌};
 
-use crate::envs::{FOREIGN, LAST, ONES, TWO, has_elements, lone_env, next_env, refuses};
+use crate::cases::{Case, alone, in_a_room};
+use crate::envs::{FOREIGN, ONES, TWO, has_elements, refuses};
 use jr_env::Env;
-use jr_rule::Room;
 use jr_steps::Steps;
 use jr_word::{Config, Fault, Handle};
 use std::process::Abort;
@@ -32,7 +32,7 @@ fn ends_at_its_length<S: Steps>(rt: &impl Abort, env: &mut Env<S>, array: Handle
 }
 
 /// Regions of none, of one and of all elements are read and written, and none past the end.
-fn has_regions<S: Steps>(rt: &impl Abort, env: &mut Env<S>) -> Result<(), Fail> {
+pub(crate) fn has_regions<S: Steps>(rt: &impl Abort, env: &mut Env<S>) -> Result<(), Fail> {
     let array = env.new_array::<i32>(3)?;
     refuses(rt, env.new_array::<i16>(u32::MAX), Fault::SpaceFull(3));
     env.set_array_region(array, 0, &[10, 20, 30])?;
@@ -47,8 +47,7 @@ fn has_regions<S: Steps>(rt: &impl Abort, env: &mut Env<S>) -> Result<(), Fail> 
 
 #[test]
 fn regions_of_none_of_one_of_all_and_past_the_end(rt: HostRuntime) -> Result<(), Fail> {
-    let mut env = lone_env(rt.alloc(), TWO)?;
-    has_regions(&rt, &mut env)
+    alone(&rt, rt.alloc(), TWO, Case::HasRegions)
 }
 
 /// Two threads, and words for an array of 4,096 elements.
@@ -58,7 +57,7 @@ const LONG: Config = Config {
 };
 
 /// The elements of a long array are read as they were written: all, all but the first, and thirteen from the sixth on.
-fn a_long_part<S: Steps>(rt: &impl Abort, env: &mut Env<S>) -> Result<(), Fail> {
+pub(crate) fn a_long_part<S: Steps>(rt: &impl Abort, env: &mut Env<S>) -> Result<(), Fail> {
     let array = env.new_array::<i64>(4_096)?;
     let mut written = [0i64; 4_096];
     let mut next = i64::MIN;
@@ -74,15 +73,12 @@ fn a_long_part<S: Steps>(rt: &impl Abort, env: &mut Env<S>) -> Result<(), Fail> 
 
 #[test]
 fn four_thousand_and_ninety_six_elements(rt: HostRuntime) -> Result<(), Fail> {
-    let mut env = lone_env(rt.alloc(), LONG)?;
-    a_long_part(&rt, &mut env)
+    alone(&rt, rt.alloc(), LONG, Case::LongPart)
 }
 
 #[test]
 fn four_thousand_and_ninety_six_elements_in_a_room(rt: HostRuntime) -> Result<(), Fail> {
-    let (room, mut passes) = Room::<LAST>::open(rt.alloc(), LONG)?;
-    let mut env = next_env(&room, &mut passes)?;
-    a_long_part(&rt, &mut env)
+    in_a_room(&rt, rt.alloc(), LONG, Case::LongPart)
 }
 
 /// Words that name no array of chars, each with its refusal: a string is none, whose units are chars, and neither is an array of shorts.
@@ -122,7 +118,7 @@ fn is_no_such_array<S: Steps>(
 }
 
 /// None of these words names such an array. The kind is looked at before the length.
-fn are_no_such_arrays<S: Steps>(rt: &impl Abort, env: &mut Env<S>) -> Result<(), Fail> {
+pub(crate) fn have_no_regions<S: Steps>(rt: &impl Abort, env: &mut Env<S>) -> Result<(), Fail> {
     let rows = no_arrays_of_chars(env)?;
     for (word, fault) in rows {
         is_no_such_array(rt, env, word, 0, fault);
@@ -133,6 +129,5 @@ fn are_no_such_arrays<S: Steps>(rt: &impl Abort, env: &mut Env<S>) -> Result<(),
 
 #[test]
 fn what_is_no_array_of_the_kind(rt: HostRuntime) -> Result<(), Fail> {
-    let mut env = lone_env(rt.alloc(), TWO)?;
-    are_no_such_arrays(&rt, &mut env)
+    alone(&rt, rt.alloc(), TWO, Case::HaveNoRegions)
 }

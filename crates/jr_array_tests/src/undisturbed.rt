@@ -3,10 +3,12 @@ ghost use Rattle.std.specs.Prelude.{IfOk};
 ghost use Rattle.jr_env.specs.Envs.{IsOutside};
 ghost use Rattle.jr_env.specs.StandingRegions.{WasUndisturbed};
 
-use crate::envs::{TWO, lone_env};
+use crate::cases::{Case, alone};
+use crate::envs::TWO;
 use jr_env::Env;
 use jr_steps::Steps;
 use jr_word::{Fault, Handle};
+use std::process::Abort;
 use std::test::Fail;
 
 /// Writes an element in a region of two levels, and reads it. From the entry to the exit no event of any thread is a step of a collection.
@@ -23,10 +25,14 @@ fn nests_and_reads<S: Steps>(env: &mut Env<S>, array: Handle) -> Result<i32, Fau
     read
 }
 
+/// In such a region it reads what it wrote.
+pub(crate) fn is_undisturbed<S: Steps>(rt: &impl Abort, env: &mut Env<S>) -> Result<(), Fail> {
+    let array = env.new_array::<i32>(2)?;
+    assert!(rt; nests_and_reads(env, array) == Ok(7));
+    Ok(())
+}
+
 #[test]
 fn a_region_is_not_disturbed(rt: HostRuntime) -> Result<(), Fail> {
-    let mut env = lone_env(rt.alloc(), TWO)?;
-    let array = env.new_array::<i32>(2)?;
-    assert!(rt; nests_and_reads(&mut env, array) == Ok(7));
-    Ok(())
+    alone(&rt, rt.alloc(), TWO, Case::IsUndisturbed)
 }
