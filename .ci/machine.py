@@ -50,6 +50,8 @@ class Room:
 
     def __init__(self, sizes):
         self.sizes, self.used, self.posted = sizes, 0, {}
+        # How many objects were made, and how many words they took, whatever became of them.
+        self.made = self.words = 0
         self.objects, self.slots, self.locals = [], [], []
 
     def make(self, kind, elements=()):
@@ -57,8 +59,10 @@ class Room:
         if self.used + len(elements) > self.sizes["words"]:
             raise Refused(10, self.used)
         self.used += len(elements)
+        self.words += len(elements)
         if len(self.objects) == self.sizes["objects"]:
             raise Refused(11)
+        self.made += 1
         self.objects.append(Object(kind, elements))
         return self.objects[-1]
 
@@ -410,8 +414,8 @@ class Thread:
             self.end_locals(frame)
 
 
-def printed(text):
-    """Returns what `jrefs run` prints of a script."""
+def run_of(text):
+    """Returns what `jrefs run` prints of a script, and the room at its end."""
     room = Room(sizes_of(text))
     room.threads = [Thread(room, it) for it in parts_of(text)]
     while any([it.go_on() for it in room.threads]):
@@ -420,4 +424,9 @@ def printed(text):
         if it.left:
             raise ValueError("a thread waits for what nobody posts")
     lines = [line for it in room.threads for line in (f"[{it.name}]", *it.printed)]
-    return "".join(f"{line}\n" for line in [*lines, "[end]", room.summary()]).encode()
+    return "".join(f"{line}\n" for line in [*lines, "[end]", room.summary()]).encode(), room
+
+
+def printed(text):
+    """Returns what `jrefs run` prints of a script."""
+    return run_of(text)[0]
