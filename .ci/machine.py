@@ -405,10 +405,6 @@ class Thread:
             self.ends()
         return len(self.left) < before
 
-    def gives_up(self):
-        """Ends a wait for what nobody posts."""
-        self.printed.append(f"{self.left.pop(0).line} ! E20")
-
     def ends(self):
         self.levels = []
         for frame in self.frames:
