@@ -2,7 +2,17 @@
 
 import os
 import shutil
+import struct
 import subprocess
+from typing import NamedTuple
+
+
+class Ended(NamedTuple):
+    """How a command ended, what the library told, and the numbers that it kept."""
+
+    came: tuple
+    told: bytes
+    kept: tuple
 
 
 def compiled(folder, name, source):
@@ -17,11 +27,16 @@ def compiled(folder, name, source):
 
 
 def ended(words, given, library=None, number=0):
-    """Runs a command, with a library that refuses the thing of that number. Returns how it ended, and what the library told."""
+    """Runs a command, with a library that refuses the thing of that number. It tells by bytes to the stream TOLD, and may keep three numbers
+    in the file KEPT, which are there however the command ends."""
     taken, told = os.pipe()
-    refusing = {"LD_PRELOAD": library, "REFUSED": str(number), "TOLD": str(told)} if library else {}
-    how = {"env": {**os.environ, **refusing}, "pass_fds": [told], "timeout": 60}
+    kept = os.memfd_create("kept")
+    os.ftruncate(kept, 24)
+    refusing = {"LD_PRELOAD": library, "REFUSED": str(number), "TOLD": str(told), "KEPT": str(kept)} if library else {}
+    how = {"env": {**os.environ, **refusing}, "pass_fds": [told, kept], "timeout": 60}
     ran = subprocess.run(words, input=given, stdout=subprocess.PIPE, stderr=subprocess.PIPE, **how)
+    numbers = struct.unpack("3q", os.pread(kept, 24, 0))
     os.close(told)
+    os.close(kept)
     with open(taken, "rb") as file:
-        return (ran.returncode, ran.stdout, ran.stderr), file.read()
+        return Ended((ran.returncode, ran.stdout, ran.stderr), file.read(), numbers)
