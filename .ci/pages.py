@@ -1,0 +1,48 @@
+"""What the scripts that write pages have in common: links to headings, tables, parts that are folded, and the check that a page is what its script makes."""
+
+import os
+import re
+
+from reading import text_of
+
+
+def anchor(heading):
+    """Returns the name by which a heading is linked to."""
+    return re.sub(r"[^\w\- ]", "", heading.lower()).replace(" ", "-")
+
+
+def link(text, heading):
+    return f"[{text}](#{anchor(heading)})"
+
+
+def counted(number, word):
+    return f"{number:,} {word if number == 1 else word + 's'}"
+
+
+def head_of(*columns):
+    """Returns the first two lines of a table."""
+    return [f"| {' | '.join(columns)} |", "|---" * len(columns) + "|"]
+
+
+def row(*cells):
+    return f"| {' | '.join(f'{it:,}' if isinstance(it, int) else it for it in cells)} |"
+
+
+def folded(summary, lines):
+    """Returns the lines of a part that a reader opens: in a browser by a click, and in a terminal they stand there."""
+    return ["", f"<details><summary>{summary}</summary>", "", *lines, "", "</details>"]
+
+
+def is_kept(path, text):
+    return os.path.exists(path) and text_of(path) == text
+
+
+def write(path, text):
+    with open(path, "w", encoding="utf-8") as file:
+        file.write(text)
+
+
+def loose_links(text):
+    """Returns the links of a page that lead to no heading and no mark of it."""
+    known = {anchor(it) for it in re.findall(r"^#+ (.*)$", text, re.M)} | set(re.findall(r'<a id="([\w-]+)">', text))
+    return sorted(set(re.findall(r"\]\(#([^)]+)\)", text)) - known)
