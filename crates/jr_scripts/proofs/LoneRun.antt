@@ -1,5 +1,5 @@
 -- A script of one thread that is run as one of several: its run is that of the thread alone.
-use Rattle.std.proofs.Common.{◌≡◌, ℕ, List, [], ◌∷◌, ◌++◌, length, refl, sym, ap, subst, ◌∙◌, arith}
+use Rattle.std.proofs.Common.{◌≡◌, ℕ, Option, List, [], ◌∷◌, ◌++◌, length, refl, sym, ap, subst, ◌∙◌, arith}
 use Rattle.std.proofs.lemmas.List.{append-nil}
 use Rattle.std.specs.List.{AllByRecursion}
 use Rattle.jr_word.specs.declared.config.Config.{Config}
@@ -34,8 +34,8 @@ meets_change_nothing : (s : State) (es : History) → AllByRecursion (λ e. e.ac
 meets_change_nothing s [] all = refl
 meets_change_nothing s (e ∷ es) all = ap (λ x. state_from x es) (meet_changes_nothing s e all.0) ∙ meets_change_nothing s es all.1
 
-module _ (turns last : ℕ) (c : Config) (one : c.threads ≡ 1) (whole : History) (legal : IsLegal c last whole) where
-  module _ (part : ThreadPart) (lines : List ℕ) (p : IsPartOf turns last c whole 0 3 part lines) where
+module _ (board : List ℕ → Option ℕ) (turns last : ℕ) (c : Config) (one : c.threads ≡ 1) (whole : History) (legal : IsLegal c last whole) where
+  module _ (part : ThreadPart) (lines : List ℕ) (p : IsPartOf board turns last c whole 0 3 part lines) where
     -- behind what the thread has seen stands its look at the gate alone
     same_state : state whole ≡ state p.seen
     same_state =
@@ -55,6 +55,7 @@ module _ (turns last : ℕ) (c : Config) (one : c.threads ≡ 1) (whole : Histor
         record {
           seen = p.seen;
           lines = lines;
+          board = board;
           legal = legal_seen;
           alone = unbarred p.seen all (ap-seen ended.uncontended);
           told = p.told;
@@ -70,7 +71,7 @@ module _ (turns last : ℕ) (c : Config) (one : c.threads ≡ 1) (whole : Histor
         ap-seen : (AllUncontended [] → AllUncontended (p.left).pass.seen) → AllUncontended p.seen
         ap-seen f = subst (λ v. AllUncontended v.seen) p.saw (f tt)
 
-  parts_alone : (part : ThreadPart) (lines : List (List ℕ)) → ArePartsOf turns last c whole 0 2 (part ∷ []) lines → (text : List ℕ) → text ≡ text_of_parts (part ∷ []) lines ++ ending (summary c last (state whole)) → IsRun turns last c part text
+  parts_alone : (part : ThreadPart) (lines : List (List ℕ)) → ArePartsOf board turns last c whole 0 2 (part ∷ []) lines → (text : List ℕ) → text ≡ text_of_parts (part ∷ []) lines ++ ending (summary c last (state whole)) → IsRun turns last c part text
   parts_alone part [] parts text is = absurd parts
   parts_alone part (l ∷ []) parts text is = part_alone part l parts.0 text (is ∙ ap (λ t. t ++ ending (summary c last (state whole))) (append-nil (heading part.name ++ l)))
   parts_alone part (l ∷ m ∷ ls) parts text is = absurd parts.1
@@ -84,6 +85,6 @@ lone_run turns last s old new text grew r one =
       has = record { part_is = q.1; one = one; limits = r.limits };
       text = text;
       grew = grew;
-      run = parts_alone turns last s.config one r.whole r.legal q.0 r.lines (subst (λ ps. ArePartsOf turns last s.config r.whole 0 2 ps r.lines) q.1 r.parts) text
+      run = parts_alone r.board turns last s.config one r.whole r.legal q.0 r.lines (subst (λ ps. ArePartsOf r.board turns last s.config r.whole 0 2 ps r.lines) q.1 r.parts) text
           (r.text_is ∙ ap (λ ps. text_of_parts ps r.lines ++ ending (summary s.config last (state r.whole))) q.1);
     }

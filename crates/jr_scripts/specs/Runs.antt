@@ -1,5 +1,5 @@
 -- Runs of whole threads and scripts, for whatever was known.
-use Rattle.std.specs.Prelude.{◌≡◌, ◌≢◌, ℕ, true, false, List, [], ◌∷◌, ◌++◌, Result, Ok, Err}
+use Rattle.std.specs.Prelude.{◌≡◌, ◌≢◌, ℕ, Option, true, false, List, [], ◌∷◌, ◌++◌, Result, Ok, Err}
 use Rattle.std.specs.List.{AllByRecursion}
 use Rattle.std.specs.declared.alloc.AllocError.{AllocError}
 use Rattle.jr_word.specs.declared.config.Config.{Config}
@@ -22,7 +22,7 @@ use Rattle.jr_env.specs.Deeds.{Deed, free_locals}
 use Rattle.jr_env.specs.Envs.{WasDone}
 use Rattle.jr_scripts.specs.declared.reply.Reply.{Reply}
 use Rattle.jr_scripts.specs.Names.{Names}
-use Rattle.jr_scripts.specs.Posting.{Talk, quiet}
+use Rattle.jr_scripts.specs.Posting.{Talk, said}
 use Rattle.jr_scripts.specs.Commands.{tried}
 use Rattle.jr_scripts.specs.Text.{printed, names_set, heading, ending}
 use Rattle.jr_scripts.specs.Explains.{Explained, LeavesText}
@@ -74,10 +74,11 @@ pub record IsUnbarred (e : Event) : Type 0 where
 pub record IsRun (turns last : ℕ) (c : Config) (part : ThreadPart) (text : List ℕ) : Type 0 where
   pub seen : History
   pub lines : List ℕ
+  pub board : List ℕ → Option ℕ
   pub legal : IsLegal c last seen
   pub alone : AllByRecursion IsUnbarred seen
   pub told : Moment
-  pub explained : Explained quiet turns 3 (opening_moment c last) part.commands lines told
+  pub explained : Explained (said board) turns 3 (opening_moment c last) part.commands lines told
   pub answers : AnswersAlone explained.explains
   pub left : Moment
   pub freed : IsFreed turns told left

@@ -1,0 +1,10 @@
+use Rattle.std.proofs.Common.{sym, subst, refl}
+use Rattle.jr_scripts.specs.Noting.{IsBlank}
+use Rattle.jr_scripts.proofs.Noted.{blank_more, blank_none}
+use Rattle.jr_scripts.proofs.notes.blank.Goals as goal
+
+pub loop-init : goal.loop-init
+loop-init c = subst IsBlank (sym c.new-notes.ensures.items) blank_none
+
+pub loop-preserved : goal.loop-preserved
+loop-preserved c = subst IsBlank (sym c.push.ensures.ok) (blank_more c.loop.notes.items c.loop.invariant)
