@@ -116,7 +116,7 @@ impl<'a> Notes<'a> {
     fn keep(&mut self, number: usize, note: Note<'a>)
         requires { note.token.of ≡ cell_at self.old.posts.now.cells.items number }
         ensures same { self.new.posts.now ≡ self.old.posts.now }
-        ensures noted { (self.new.is_lost ≡ true) ⊎ (word_in (get_or self.new.notes.items number None) ≡ Some note.word) }
+        ensures noted { (self.new.is_lost ≡ true) ⊎ (word_in (get_or self.new.notes.items number None) ≡ Some note.entry.word) }
         ensures kept { IsKept self.old.notes.items self.new.notes.items }
         ensures lost { self.old.is_lost ≡ true → self.new.is_lost ≡ true }
     {

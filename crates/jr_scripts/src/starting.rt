@@ -30,19 +30,19 @@ pub(crate) struct Doing<'a> {
     board: &'a Posts,
 }
 
-impl<'a> Promise<ThreadRun<'a>> for Doing<'a> {
+impl<'a, 'b> Promise<ThreadRun<'b>> for Doing<'a> {
     ghost kept_by = { λ p r. RanPass (talk_noted r.notes.is_lost r.notes.posts.now.numbers.entries r.notes.notes.items) p.turns p.first p.part.now.commands p.pass.value r.pass r.answer r.text.items × (layout_of r.notes.posts.now ≡ layout_of p.board.now) };
 }
 
 /// Does a job in a thread of its own, where one can be started.
-fn start<'s, E, H: Hold + Sync, const LAST: u32>(
+fn start<'s, 'b: 's, E, H: Hold + Sync, const LAST: u32>(
     alloc: Global,
     scope: &Scope<'s, E>,
     room: &'s Room<LAST>,
-    board: &'s Posts,
+    board: &'b Posts,
     hold: &'s H,
     job: Job<'s>,
-) -> Option<PromisedHandle<ThreadRun<'s>, Doing<'s>>>
+) -> Option<PromisedHandle<ThreadRun<'b>, Doing<'s>>>
     requires { IsFor room.now.row job }
     ensures given { IfSome result (λ h. IsGiven h.promise job.entry) }
     ensures over { IfSome result (λ h. h.promise.board.now ≡ board.now) }
@@ -60,7 +60,7 @@ fn start<'s, E, H: Hold + Sync, const LAST: u32>(
         pass: Snapshot::of(&pass),
         board,
     };
-    let there = move || -> ThreadRun<'s>
+    let there = move || -> ThreadRun
         requires { IsForPart room.now.row first part.now pass }
         ensures { RanPass (talk_noted result.notes.is_lost result.notes.posts.now.numbers.entries result.notes.notes.items) turns first part.entry.now.commands pass result.pass result.answer result.text.items × (layout_of result.notes.posts.now ≡ layout_of board.entry.now) }
     { run_job(alloc, room, board, hold, first, turns, part, pass) };
@@ -68,10 +68,10 @@ fn start<'s, E, H: Hold + Sync, const LAST: u32>(
 }
 
 /// Joins the threads, and gives up.
-fn given_up<'s, R: Threads>(
+fn given_up<'s, 'b, R: Threads>(
     rt: &R,
-    handles: Vec<PromisedHandle<ThreadRun<'s>, Doing<'s>>>,
-) -> Result<Vec<ThreadRun<'s>>, Fault>
+    handles: Vec<PromisedHandle<ThreadRun<'b>, Doing<'s>>>,
+) -> Result<Vec<ThreadRun<'b>>, Fault>
     ensures { result ≡ Err Memory }
 {
     for handle in handles {
@@ -81,15 +81,15 @@ fn given_up<'s, R: Threads>(
 }
 
 /// Does jobs, each in a thread of its own.
-fn run_jobs<'s, E, H: Hold + Sync, const LAST: u32, R: Threads>(
+fn run_jobs<'s, 'b: 's, E, H: Hold + Sync, const LAST: u32, R: Threads>(
     rt: &R,
     alloc: Global,
     scope: &Scope<'s, E>,
     room: &'s Room<LAST>,
-    board: &'s Posts,
+    board: &'b Posts,
     hold: &'s H,
     mut jobs: Vec<Job<'s>>,
-) -> Result<Vec<ThreadRun<'s>>, Fault>
+) -> Result<Vec<ThreadRun<'b>>, Fault>
     requires { All (λ j. IsFor room.now.row j) jobs.items }
     ensures { MatchResult result (λ runs. HaveRun (layout_of board.now) jobs.entry.items runs.items) (λ e. e ≡ Memory) }
 {
@@ -125,7 +125,7 @@ pub(crate) fn run_threads<'a, H: Hold + Sync, const LAST: u32, R: Threads + Wait
     thread::scope(
         thread::scope_env(),
         rt,
-        move |scope| -> Result<Vec<ThreadRun<'a>>, Fault>
+        move |scope| -> Result<Vec<ThreadRun>, Fault>
             requires { All (λ j. IsFor room.now.row j) jobs.items }
             ensures { MatchResult result (λ runs. HaveRun (layout_of board.entry.now) jobs.entry.items runs.items) (λ e. e ≡ Memory) }
         { run_jobs(rt, alloc, scope, room, board, hold, jobs) },
