@@ -1,6 +1,6 @@
 -- What threads promised, and what they gave back.
-use Rattle.std.proofs.Common.{◌≡◌, ◌<◌, ◌++◌, ℕ, suc, List, [], ◌∷◌, map, length, slice_index_or, refl, sym, ap, subst, ◌∙◌, arith}
-use Rattle.std.proofs.lemmas.List.{append-nil}
+use Rattle.std.proofs.Common.{◌≡◌, ◌<◌, ◌++◌, ℕ, suc, List, [], ◌∷◌, map, length, slice_index_or, refl, sym, ap, subst, ◌∙◌, arith, append_assoc}
+use Rattle.std.proofs.lemmas.List.{append-nil, map-append}
 use Rattle.std.specs.List.{All, AllZip, remove}
 use Rattle.std.specs.PromisedHandle.{KeepsEach}
 use Rattle.std.specs.declared.thread.PromisedHandle.{PromisedHandle}
@@ -11,6 +11,7 @@ use Rattle.jr_scripts.specs.declared.starting.Doing.{Doing}
 use Rattle.jr_scripts.specs.declared.board.Posts.{Posts}
 use Rattle.jr_scripts.specs.Layouts.{layout_of}
 use Rattle.jr_scripts.specs.AllRuns.{RanPass}
+use Rattle.jr_scripts.specs.Given.{IsGiven}
 use Rattle.jr_scripts.specs.Jobs.{HasRun, IsOver, talk_in}
 
 abbrev pub Thread : Type 0
@@ -19,6 +20,13 @@ Thread = PromisedHandle ThreadRun Doing
 -- the job that a thread was given
 abbrev pub given_to : Thread → Job
 given_to h = record { first = h.promise.first; turns = h.promise.turns; part = h.promise.part; pass = h.promise.pass.value }
+
+-- one more thread was started
+pub given_more : (hs hs' : List Thread) (h : Thread) (js js' all : List Job) (j : Job) → hs' ≡ hs ++ h ∷ [] → js ≡ j ∷ js' → IsGiven h.promise j → map given_to hs ++ js ≡ all → map given_to hs' ++ js' ≡ all
+given_more hs hs' h js js' all j more is given so =
+    let one : given_to h ≡ j = λ i. record { first = given.first i; turns = given.turns i; part = given.part i; pass = given.pass i } in
+    ap (λ z. map given_to z ++ js') more ∙ (ap (λ z. z ++ js') (map-append given_to hs (h ∷ []))
+    ∙ (append_assoc (map given_to hs) (given_to h ∷ []) js' ∙ (ap (λ z. map given_to hs ++ z ∷ js') one ∙ (ap (λ z. map given_to hs ++ z) (sym is) ∙ so))))
 
 -- what a thread promised
 abbrev DidIt : Doing → ThreadRun → Type 0
