@@ -28,6 +28,7 @@ use Rattle.jr_scripts.specs.declared.part.Job.{Job}
 use Rattle.jr_scripts.specs.declared.part.ThreadRun.{ThreadRun}
 use Rattle.jr_gate.specs.Performing.{Moment, moment, moment_with}
 use Rattle.jr_env.specs.Deeds.{DoesDeed}
+use Rattle.jr_scripts.specs.Posted.{IsOfPosts, commands_of}
 use Rattle.jr_scripts.specs.Posting.{said}
 use Rattle.jr_scripts.specs.Explains.{Explained}
 use Rattle.jr_scripts.specs.Text.{heading, ending}
@@ -257,9 +258,9 @@ all_said board (j ∷ js) (x ∷ xs) ran told = (pass_still {t = talk_in x} {u =
 
 -- ALL TOGETHER
 pub together : (board : List ℕ → Option ℕ) (turns last : ℕ) (script : Script) (r : Row) (ps : List Pass) (js : List Job) (xs : List ThreadRun) (passes : List Pass) (e : Pass) (ends : List Pass) (text whole : List ℕ) (s : Summary)
-    → in_limits script.config ≡ true → length script.threads ≡ script.config.threads → AreOpened script.config last r ps → AreJobsOf turns 2 ps script.threads js → AllZip (HasSaid board) js xs → AreTold script.threads xs passes text → passes ≡ e ∷ ends
+    → in_limits script.config ≡ true → length script.threads ≡ script.config.threads → AreOpened script.config last r ps → AreJobsOf turns 2 ps script.threads js → AllZip (HasSaid board) js xs → IsOfPosts (commands_of script.threads) board → AreTold script.threads xs passes text → passes ≡ e ∷ ends
     → ClosesAll (known_of e) (map known_of ends) s → whole ≡ text ++ ending s → IsRunOfAll turns last script whole
-together board turns last script r ps js xs passes e ends text whole s limits long o jobs ran told is closes whole_is =
+together board turns last script r ps js xs passes e ends text whole s limits long o jobs ran posted told is closes whole_is =
     let c = script.config in
     let told' : AreTold script.threads xs (e ∷ ends) text = subst (λ z. AreTold script.threads xs z text) is told in
     let x = all_parts board turns last c r o.same_config o.same_last c.threads ps script.threads js xs e ends text s (o.threads ∙ numbers_counted c.threads) (recursion_from_All (IsOpened r) ps o.each) jobs ran told' closes in
@@ -268,6 +269,7 @@ together board turns last script r ps js xs passes e ends text whole s limits lo
       legal = x.1;
       lines = lines_of xs;
       board = board;
+      posted = posted;
       limits = limits;
       one_each = long;
       parts = x.2;

@@ -19,6 +19,7 @@ use Rattle.jr_rule.specs.Sights.{IsOpenedAlone, sight_of_words, unseen}
 use Rattle.jr_gate.specs.Performing.{moment, moment_with}
 use Rattle.jr_env.specs.Deeds.{DoesDeed}
 use Rattle.jr_scripts.specs.Text.{heading, ending}
+use Rattle.jr_scripts.specs.Posted.{IsOfPosts}
 use Rattle.jr_scripts.specs.Posting.{said}
 use Rattle.jr_scripts.specs.Explains.{Explained}
 use Rattle.jr_scripts.specs.Runs.{IsRun, running_to_end, seeing, opening_moment}
@@ -44,8 +45,9 @@ module _ {S : Type 0} {facts : S → Facts} (fits : AreOf facts) where
       → DoesDeed facts old new f g (running_to_end (said board) turns 3 part.commands lines) (Ok tt)
       → ((k : Known) → (facts new).knows k → v ≡ summary k.config k.last (state k.seen))
       → whole ≡ heading part.name ++ lines ++ ending v
+      → IsOfPosts part.commands board
       → IsRun turns last c part whole
-  is_run {old} {new} {f} {g} board turns last c part lines whole v one config_is last_is thread_is spent hint known fresh ran tells whole_is =
+  is_run {old} {new} {f} {g} board turns last c part lines whole v one config_is last_is thread_is spent hint known fresh ran tells whole_is posted =
       let k0 = unseen c last in
       let x = ran.did k0 known (subst (λ h. Holds h k0) (sym fresh) (opening_holds c last)) in
       let k = x.0 in
@@ -66,6 +68,7 @@ module _ {S : Type 0} {facts : S → Facts} (fits : AreOf facts) where
         seen = k.seen;
         lines = lines;
         board = board;
+        posted = posted;
         legal = legal;
         alone = unbarred k.seen all (ended.uncontended tt);
         told = told;
@@ -90,11 +93,12 @@ pub plain_run : {P : Type 0} {G : Ghosts (PlainCells 4294967295) P} {old new : S
     → DoesDeed plain_facts old new f g (running_to_end (said board) turns 3 commands lines) answer
     → ((k : Known) → IsAmong (sight_of_words new.cells.config 4294967295 new.cells.words.items) k → v ≡ summary k.config k.last (state k.seen))
     → whole ≡ heading part.name ++ lines ++ ending v
+    → IsOfPosts part.commands board
     → IsRun turns 4294967295 c part whole
-plain_run {P} {G} {old} {new} {f} {g} {commands} turns c part lines whole v made one opened spent fresh these good ran tells whole_is =
+plain_run {P} {G} {old} {new} {f} {g} {commands} board turns c part lines whole v made one opened spent fresh these good ran tells whole_is posted =
     let known : (plain_facts made).knows (unseen c 4294967295)
     = (opened.nothing, record { config = sym opened.sizes; last = refl; thread = refl; role = sym opened.role_is; legal = tt }) in
     let stands = spent.stands_is in
     let Leads : List Command → Result (Unit {0}) Fault → Type 0
     = λ cs r. DoesDeed plain_facts old new f g (running_to_end (said board) turns 3 cs lines) r in
-    is_run (λ s k h. h.1) turns 4294967295 c part lines whole v one (ap (λ (s : Standing). s.config) stands ∙ opened.sizes) refl refl (ap (λ (s : Standing). s.fresh) stands) (spent.hint_is ∙ opened.hint_is) ((spent.same (unseen c 4294967295)).0 known) (fresh ∙ ap (λ d. fresh_frames d.locals) opened.sizes) (subst (λ cs. Leads cs (Ok tt)) these (subst (Leads commands) good ran)) (λ k h. tells k (among_of (sight_of_words new.cells.config 4294967295 new.cells.words.items) new.role new.fresh k h)) whole_is
+    is_run (λ s k h. h.1) board turns 4294967295 c part lines whole v one (ap (λ (s : Standing). s.config) stands ∙ opened.sizes) refl refl (ap (λ (s : Standing). s.fresh) stands) (spent.hint_is ∙ opened.hint_is) ((spent.same (unseen c 4294967295)).0 known) (fresh ∙ ap (λ d. fresh_frames d.locals) opened.sizes) (subst (λ cs. Leads cs (Ok tt)) these (subst (Leads commands) good ran)) (λ k h. tells k (among_of (sight_of_words new.cells.config 4294967295 new.cells.words.items) new.role new.fresh k h)) whole_is posted

@@ -20,6 +20,7 @@ use Rattle.jr_steps.specs.Holdings.{empty}
 use Rattle.jr_steps.specs.Knowing.{Spent}
 use Rattle.jr_env.specs.Deeds.{DoesDeed}
 use Rattle.jr_scripts.specs.Text.{heading, ending}
+use Rattle.jr_scripts.specs.Posted.{IsOfPosts, commands_of}
 use Rattle.jr_scripts.specs.Posting.{Talk, said}
 use Rattle.jr_scripts.specs.Explains.{Explained}
 use Rattle.jr_scripts.specs.Runs.{IsFreed, RunsSingle, running_to_end}
@@ -88,6 +89,7 @@ pub record IsRunOfAll (turns last : ℕ) (s : Script) (text : List ℕ) : Type 0
   pub legal : IsLegal s.config last whole
   pub lines : List (List ℕ)
   pub board : List ℕ → Option ℕ
+  pub posted : IsOfPosts (commands_of s.threads) board
   pub limits : in_limits s.config ≡ true
   pub one_each : length s.threads ≡ s.config.threads
   pub parts : ArePartsOf board turns last s.config whole 0 2 s.threads lines

@@ -1,6 +1,6 @@
 -- For the crate's own functions: what the threads of a script are given, and what they give back.
 use Rattle.std.specs.List.{All, AllByRecursion, AllZip}
-use Rattle.std.specs.Prelude.{◌≡◌, ◌+◌, ◌<◌, ◌^◌, ℕ, Option, Some, List, [], ◌∷◌, ◌++◌, length, Ok}
+use Rattle.std.specs.Prelude.{◌≡◌, ◌+◌, ◌<◌, ◌^◌, ℕ, Option, Some, List, [], ◌∷◌, ◌++◌, length, Ok, IsSome}
 use Rattle.jr_syntax.specs.declared.thread.ThreadPart.{ThreadPart}
 use Rattle.jr_rule.specs.declared.pass.Pass.{Pass}
 use Rattle.jr_rule.specs.declared.row.Row.{Row}
@@ -8,7 +8,7 @@ use Rattle.jr_rule.specs.Passes.{IsOpened}
 use Rattle.jr_scripts.specs.declared.part.Job.{Job}
 use Rattle.jr_scripts.specs.declared.part.ThreadRun.{ThreadRun}
 use Rattle.jr_scripts.specs.Text.{heading}
-use Rattle.jr_scripts.specs.Layouts.{Layout, layout_of}
+use Rattle.jr_scripts.specs.Layouts.{Layout, cell_number, layout_of}
 use Rattle.jr_scripts.specs.Posting.{Talk, said}
 use Rattle.jr_scripts.specs.Noting.{talk_noted}
 use Rattle.jr_scripts.specs.AllRuns.{RanPass}
@@ -71,8 +71,9 @@ AreTold [] rs [] text = text ≡ []
 AreTold (q ∷ qs) (r ∷ rs) (p ∷ ps) text = IsDone r × (r.pass ≡ p) × (rest : List ℕ) × (text ≡ heading q.name ++ r.text.items ++ rest) × AreTold qs rs ps rest
 AreTold _ _ _ text = ⊥
 
--- the same, and what each thread's notes tell is what one board has
-pub record AreToldAlike (qs : List ThreadPart) (rs : List ThreadRun) (ps : List Pass) (text : List ℕ) : Type 0 where
+-- the same, and what each thread's notes tell is what one board has, in which only these names stand
+pub record AreToldAlike (numbers : List (List ℕ × ℕ)) (qs : List ThreadPart) (rs : List ThreadRun) (ps : List Pass) (text : List ℕ) : Type 0 where
   pub board : List ℕ → Option ℕ
   pub told : AreTold qs rs ps text
   pub noted : AllByRecursion (IsToldBy board) rs
+  pub named : (n : List ℕ) (w : ℕ) → board n ≡ Some w → IsSome (cell_number numbers n)

@@ -7,8 +7,8 @@ use Rattle.jr_scripts.specs.declared.board.Posts.{Posts}
 use Rattle.jr_scripts.specs.Names.{name_order}
 
 -- the number of a name, where it has one
-abbrev pub number_in : List (List ℕ × ℕ) → List ℕ → Option ℕ
-number_in numbers n = lookup (is_at (name_order n)) numbers
+abbrev pub cell_number : List (List ℕ × ℕ) → List ℕ → Option ℕ
+cell_number numbers n = lookup (is_at (name_order n)) numbers
 
 -- HOW A BOARD IS LAID OUT, which no thread changes: the numbers of its names, and the cells at these numbers
 pub record Layout : Type 0 where

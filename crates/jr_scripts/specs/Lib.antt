@@ -1,6 +1,7 @@
 pub mod Buffers
 pub mod Names
 pub mod Layouts
+pub mod Posted
 pub mod Posting
 pub mod Noting
 pub mod Tries

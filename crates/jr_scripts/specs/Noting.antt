@@ -2,7 +2,7 @@
 use Rattle.std.specs.Prelude.{◌≡◌, ◌⊎◌, ℕ, Bool, true, false, List, Option, Some, None, get_or}
 use Rattle.std.specs.Sync.OnceLock.{Named}
 use Rattle.jr_scripts.specs.declared.note.Note.{Note}
-use Rattle.jr_scripts.specs.Layouts.{number_in}
+use Rattle.jr_scripts.specs.Layouts.{cell_number}
 use Rattle.jr_scripts.specs.Posting.{Talk}
 
 -- the cell at a number
@@ -29,7 +29,7 @@ word_at notes None = None
 
 -- THE WORD THAT IS NOTED under a name, by notes of a board whose names have these numbers
 abbrev pub word_noted : List (List ℕ × ℕ) → List (Option Note) → List ℕ → Option ℕ
-word_noted numbers notes n = word_at notes (number_in numbers n)
+word_noted numbers notes n = word_at notes (cell_number numbers n)
 
 -- what was noted is noted still
 abbrev pub IsKept : List (Option Note) → List (Option Note) → Type 0

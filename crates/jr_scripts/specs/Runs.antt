@@ -22,6 +22,7 @@ use Rattle.jr_env.specs.Deeds.{Deed, free_locals}
 use Rattle.jr_env.specs.Envs.{WasDone}
 use Rattle.jr_scripts.specs.declared.reply.Reply.{Reply}
 use Rattle.jr_scripts.specs.Names.{Names}
+use Rattle.jr_scripts.specs.Posted.{IsOfPosts}
 use Rattle.jr_scripts.specs.Posting.{Talk, said}
 use Rattle.jr_scripts.specs.Commands.{tried}
 use Rattle.jr_scripts.specs.Text.{printed, names_set, heading, ending}
@@ -75,6 +76,7 @@ pub record IsRun (turns last : ℕ) (c : Config) (part : ThreadPart) (text : Lis
   pub seen : History
   pub lines : List ℕ
   pub board : List ℕ → Option ℕ
+  pub posted : IsOfPosts part.commands board
   pub legal : IsLegal c last seen
   pub alone : AllByRecursion IsUnbarred seen
   pub told : Moment

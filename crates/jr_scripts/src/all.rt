@@ -1,12 +1,13 @@
 //! Runs scripts of several threads, each in a thread of its own, in one room.
 
-ghost use Rattle.std.specs.Prelude.{◌≡◌, ◌⊎◌, ◌↔◌, ◌+◌, ◌<◌, ◌^◌, All, Err, length, map, IfOk, IfErr, OnOk, OnErr};
+ghost use Rattle.std.specs.Prelude.{◌≡◌, ◌⊎◌, ◌↔◌, ◌+◌, ◌<◌, ◌^◌, [], All, Err, length, map, IfOk, IfErr, OnOk, OnErr};
 ghost use Rattle.jr_rule.specs.Passes.{known_of, ClosesAll};
 ghost use Rattle.jr_rule.specs.Rooms.{IsOfRoom};
 ghost use Rattle.jr_word.specs.declared.fault.Fault.TheVariants.{Memory, Size};
 ghost use Rattle.jr_scripts.specs.AllRuns.{CanBeRun, lines_of_parts, IsLeftInside, IsRunOfAll, RunsAll};
 ghost use Rattle.jr_scripts.specs.Jobs.{AreJobsOf, AreTold, AreToldAlike, IsOver, IsToldBy};
 ghost use Rattle.jr_scripts.specs.Layouts.{layout_of};
+ghost use Rattle.jr_scripts.specs.Posted.{AddsPosted, commands_of};
 ghost use Rattle.jr_scripts.specs.Noting.{word_noted};
 ghost use Rattle.std.specs.List.{AllByRecursion};
 
@@ -86,8 +87,8 @@ fn told_by<'a>(
 ) -> Result<(Vec<Pass>, Vec<u8>), Fault>
     requires long { length runs.items ≡ length parts.now }
     requires over { All (IsOver (layout_of all.now.posts.now)) runs.items }
-    ensures ok { IfOk result (λ r. AreTold parts.now runs.items r.0.items r.1.items) }
-    ensures noted { IfOk result (λ r. AllByRecursion (IsToldBy (word_noted all.now.posts.now.numbers.entries all.now.notes.items)) runs.items) }
+    ensures ok { IfOk result (λ r. AreTold parts.now runs.entry.items r.0.items r.1.items) }
+    ensures noted { IfOk result (λ r. AllByRecursion (IsToldBy (word_noted all.now.posts.now.numbers.entries all.now.notes.items)) runs.entry.items) }
     ensures err { IfErr result (λ e. e ≡ Memory) }
 {
     let mut passes = Vec::new(alloc);
@@ -121,7 +122,7 @@ fn told<'a>(
 ) -> Result<(Vec<Pass>, Vec<u8>), Fault>
     requires long { length runs.items ≡ length parts.now }
     requires over { All (IsOver (layout_of board.now)) runs.items }
-    ensures ok { IfOk result (λ r. AreToldAlike parts.now runs.items r.0.items r.1.items) }
+    ensures ok { IfOk result (λ r. AreToldAlike board.now.numbers.entries parts.now runs.entry.items r.0.items r.1.items) }
     ensures err { IfErr result (λ e. e ≡ Memory) }
 {
     let all = Notes::of_all(alloc, board);
@@ -130,11 +131,14 @@ fn told<'a>(
 
 /// A board for the names that the parts post.
 fn board_of(alloc: Global, parts: &[ThreadPart]) -> Result<Posts, Fault>
-    ensures { IfErr result (λ e. e ≡ Memory) }
+    ensures ok { IfOk result (λ board. AddsPosted (commands_of parts.now) [] board.numbers.entries) }
+    ensures err { IfErr result (λ e. e ≡ Memory) }
 {
     let mut board = Posts::new(alloc);
     for part in parts {
-        board.add(part.commands.as_slice()).map_err(out_of_memory)?;
+        let Ok(()) = board.add(part.commands.as_slice()) else {
+            return Err(Fault::Memory);
+        };
     }
     Ok(board)
 }

@@ -40,11 +40,14 @@ pub struct Posts {
 }
 
 impl Posts {
-    ghost use Rattle.std.specs.Prelude.{◌≡◌, ◌<◌, Some, IfSome, length};
-    ghost use Rattle.jr_scripts.specs.Layouts.{number_in};
+    ghost use Rattle.std.specs.Prelude.{◌≡◌, ◌<◌, ◌∷◌, [], Some, IfSome, OnOk, length};
+    ghost use Rattle.jr_scripts.specs.Layouts.{cell_number};
+    ghost use Rattle.jr_scripts.specs.Posted.{AddsPosted};
 
     /// A board without names; takes no memory.
-    pub fn new(alloc: Global) -> Posts {
+    pub fn new(alloc: Global) -> Posts
+        ensures { result.numbers.entries ≡ [] }
+    {
         Posts {
             numbers: BTreeMap::new(alloc),
             cells: Vec::new(alloc),
@@ -56,24 +59,34 @@ impl Posts {
     /// # Errors
     ///
     /// Memory was refused.
-    pub fn add(&mut self, commands: &[Command]) -> Result<(), AllocError> {
+    pub fn add(&mut self, commands: &[Command]) -> Result<(), AllocError>
+        ensures { OnOk result (AddsPosted commands.now self.old.numbers.entries self.new.numbers.entries) }
+    {
         for command in commands {
-            if let Command::OnName {
-                verb: OnName::Post,
-                name,
-            } = command
-            {
-                let number = self.cells.len();
-                self.cells.push(OnceLock::new())?;
-                self.numbers.insert(name.copy(), number)?;
-            }
+            self.add_command(command)?;
+        }
+        Ok(())
+    }
+
+    /// The same, of one command.
+    fn add_command(&mut self, command: &Command) -> Result<(), AllocError>
+        ensures { OnOk result (AddsPosted (command.now ∷ []) self.old.numbers.entries self.new.numbers.entries) }
+    {
+        if let Command::OnName {
+            verb: OnName::Post,
+            name,
+        } = command
+        {
+            let number = self.cells.len();
+            self.cells.push(OnceLock::new())?;
+            self.numbers.insert(name.copy(), number)?;
         }
         Ok(())
     }
 
     /// The number of the cell of a name, if it has one.
     pub(crate) fn number(&self, name: &Name) -> Option<usize>
-        ensures { IfSome result (λ i. (number_in self.now.numbers.entries name.now ≡ Some i) × (i < length self.now.cells.items)) }
+        ensures { IfSome result (λ i. (cell_number self.now.numbers.entries name.now ≡ Some i) × (i < length self.now.cells.items)) }
     {
         let number = *self.numbers.get(name)?;
         if number < self.cells.len() {

@@ -41,7 +41,9 @@ fn run_part(alloc: Global, config: Config, part: &ThreadPart, turns: u64) -> Res
     let mut env = opened_env(steps);
     let commands = part.commands.as_slice();
     let mut posts = Posts::new(alloc);
-    posts.add(commands).map_err(out_of_memory)?;
+    let Ok(()) = posts.add(commands) else {
+        return Err(Fault::Memory);
+    };
     let mut notes = Notes::new(alloc, &posts);
     run_to_end(
         alloc,

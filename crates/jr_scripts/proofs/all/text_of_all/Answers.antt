@@ -1,8 +1,10 @@
 use Rattle.std.proofs.Common.{◌≡◌, ◌<◌, ◌++◌, List, length, rules, sym, ap, subst, ◌∙◌}
 use Rattle.jr_syntax.specs.declared.thread.ThreadPart.{ThreadPart}
+use Rattle.jr_scripts.specs.Posted.{IsOfPosts, commands_of}
 use Rattle.jr_scripts.specs.Text.{ending}
 use Rattle.jr_scripts.specs.Jobs.{AreJobsOf, AreTold}
 use Rattle.jr_scripts.proofs.JobHandles.{taken}
+use Rattle.jr_scripts.proofs.NamedCells.{of_posts}
 use Rattle.jr_scripts.proofs.Lines.{passes_long, runs_long, some_ends}
 use Rattle.jr_scripts.proofs.AllTogether.{all_for, all_said, first_at, others_at, together}
 use Rattle.jr_scripts.proofs.all.text_of_all.Goals as goal
@@ -42,5 +44,6 @@ returns-clause-ok g c =
     c.requires.limits c.requires.one_each c.in_ok-room.ensures.opened
     (subst (λ qs. AreJobsOf c.args.turns 2 c.in_ok-room.passes.items qs c.in_ok-jobs.jobs.items) parts c.in_ok-jobs.ensures.ok)
     (all_said board c.in_ok-jobs.jobs.items c.in_ok-runs.runs.items c.in_ok-runs.ensures.each c.in_ok-passes.ensures.ok.noted)
+    (subst (λ qs. IsOfPosts (commands_of qs) board) parts (of_posts _ c.in_ok-board.board.numbers.entries board c.in_ok-board.ensures.ok c.in_ok-passes.ensures.ok.named))
     (subst (λ qs. AreTold qs c.in_ok-runs.runs.items c.in_ok-passes.passes.items c.in_ok-passes.text.items) parts c.in_ok-passes.ensures.ok.told)
     is c.in_ok-summary.ensures.ok (last ∙ ap (λ e. c.in_ok-passes.text.items ++ e) end)
