@@ -1,7 +1,6 @@
 -- The names of a board, as commands are gone through.
-use Rattle.std.proofs.Common.{◌≡◌, ◌⊎◌, ◌<◌, ◌≤◌, ◌+◌, ◌++◌, ℕ, zero, suc, Bool, true, false, cond, List, [], ◌∷◌, Option, Some, None, take, get_or, length, inl, inr, refl, sym, ap, subst, ◌∙◌, arith, append_assoc}
+use Rattle.std.proofs.Common.{◌≡◌, ◌⊎◌, ◌<◌, ◌+◌, ◌++◌, ℕ, zero, suc, Bool, true, false, cond, List, [], ◌∷◌, Option, Some, None, take, get_or, length, inl, inr, refl, sym, ap, subst, ◌∙◌, arith, append_assoc}
 use Rattle.std.specs.Prelude.{IsSome}
-use Rattle.std.specs.List.{Contains}
 use Rattle.std.specs.FinMap.{slice_cmp-IsAntisymmetric, nat_cmp-IsAntisymmetric}
 use Rattle.std.specs.declared.cmp.Ordering.{Ordering}
 use Rattle.std.specs.declared.cmp.Ordering.TheVariants.{Less, Equal, Greater}
@@ -16,7 +15,7 @@ use Rattle.jr_syntax.specs.declared.thread.ThreadPart.{ThreadPart}
 use Rattle.jr_scripts.specs.Names.{name_order}
 use Rattle.jr_scripts.specs.declared.note.Note.{Note}
 use Rattle.jr_scripts.specs.Layouts.{cell_number}
-use Rattle.jr_scripts.specs.Noting.{word_at, word_noted}
+use Rattle.jr_scripts.specs.Noting.{word_by_number, word_noted}
 use Rattle.jr_scripts.specs.Posted.{AddsPosted, IsOfPosts, IsPosted, commands_of}
 
 same_at : (n m : List ℕ) (o : Ordering) → name_order n m ≡ o → is_eq o ≡ true → n ≡ m
@@ -63,15 +62,17 @@ adds_more cs i c old mid new some is first second =
 all_commands : (ps : List ThreadPart) (i : ℕ) (p : ThreadPart) → i < length ps → p ≡ get_or ps i p → commands_of (take (i + 1) ps) ≡ commands_of (take i ps) ++ p.commands
 all_commands [] i p some is = absurd (omega arith)
 all_commands (q ∷ qs) zero p some is = append-nil q.commands ∙ ap (λ (z : ThreadPart). z.commands) (sym is)
-all_commands (q ∷ qs) (suc i) p some is = ap (λ l. q.commands ++ l) (all_commands qs i p (omega arith) is) ∙ sym (append_assoc q.commands (commands_of (take i qs)) p.commands)
+all_commands (q ∷ qs) (suc i) p some is =
+    let next : suc i + 1 ≡ suc (i + 1) = omega arith in
+    ap (λ n. commands_of (take n (q ∷ qs))) next ∙ (ap (λ l. q.commands ++ l) (all_commands qs i p (omega arith) is) ∙ sym (append_assoc q.commands (commands_of (take i qs)) p.commands))
 
 pub adds_part : (ps : List ThreadPart) (i : ℕ) (p : ThreadPart) (old mid new : List (List ℕ × ℕ)) → i < length ps → p ≡ get_or ps i p → AddsPosted (commands_of (take i ps)) old mid → AddsPosted p.commands mid new → AddsPosted (commands_of (take (i + 1) ps)) old new
 adds_part ps i p old mid new some is first second = subst (λ l. AddsPosted l old new) (sym (all_commands ps i p some is)) (adds_then (commands_of (take i ps)) p.commands old mid new first second)
 
 -- a name under which a word is noted has a number
-numbered : (notes : List (Option Note)) (number : Option ℕ) (w : ℕ) → word_at notes number ≡ Some w → IsSome number
+numbered : (notes : List (Option Note)) (number : Option ℕ) (w : ℕ) → word_by_number notes number ≡ Some w → IsSome number
 numbered notes None w is = absurd cc
-numbered notes (Some i) w is = tt
+numbered notes (Some i) w is = refl
 
 pub noted_numbered : (numbers numbers' : List (List ℕ × ℕ)) (notes : List (Option Note)) → numbers ≡ numbers' → (n : List ℕ) (w : ℕ) → word_noted numbers notes n ≡ Some w → IsSome (cell_number numbers' n)
 noted_numbered numbers numbers' notes same n w is = subst (λ z. IsSome (cell_number z n)) same (numbered notes (cell_number numbers n) w is)
@@ -81,5 +82,5 @@ pub of_posts : (cs : List Command) (numbers : List (List ℕ × ℕ)) (board : L
 of_posts cs numbers board adds named n w is = new (adds n (named n w is))
   where
     new : IsSome (cell_number [] n) ⊎ IsPosted cs n → IsPosted cs n
-    new (inl x) = absurd x
+    new (inl x) = absurd cc
     new (inr x) = x

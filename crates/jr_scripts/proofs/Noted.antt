@@ -1,11 +1,9 @@
 -- What is noted, once one note more is kept.
 use Rattle.std.proofs.lemmas.Bool.Decides.{nat_tests}
-use Rattle.std.proofs.Common.{◌≡◌, ◌⊎◌, ◌∙◌, ◌<◌, ◌≤◌, ◌+◌, ◌++◌, ℕ, zero, suc, Bool, true, false, List, [], ◌∷◌, Option, Some, None, inl, inr, set, get_or, length, nat_lt, refl, sym, ap, subst, arith}
-use Rattle.std.specs.Sync.OnceLock.{Named}
+use Rattle.std.proofs.Common.{◌≡◌, ◌⊎◌, ◌<◌, ◌≤◌, ◌++◌, ℕ, zero, suc, Bool, true, false, List, [], ◌∷◌, Option, Some, None, inl, inr, get_or, length, nat_lt, refl, ap, arith}
 use Rattle.jr_scripts.specs.declared.note.Note.{Note}
 use Rattle.jr_scripts.specs.Layouts.{cell_number}
-use Rattle.jr_scripts.specs.Posting.{Talk}
-use Rattle.jr_scripts.specs.Noting.{AreOf, HasAllOf, IsBlank, IsKept, cell_at, talk_noted, word_at, word_in, word_noted}
+use Rattle.jr_scripts.specs.Noting.{HasAllOf, IsBlank, StaysNoted, talk_noted, word_by_number, word_in, word_noted}
 
 -- nothing is noted at first
 pub blank_none : IsBlank []
@@ -18,11 +16,11 @@ blank_more (x ∷ xs) blank zero = blank zero
 blank_more (x ∷ xs) blank (suc i) = blank_more xs (λ k. blank (suc k)) i
 
 -- what is noted under a name
-kept_at : (old new : List (Option Note)) → IsKept old new → (number : Option ℕ) (w : ℕ) → word_at old number ≡ Some w → word_at new number ≡ Some w
+kept_at : (old new : List (Option Note)) → StaysNoted old new → (number : Option ℕ) (w : ℕ) → word_by_number old number ≡ Some w → word_by_number new number ≡ Some w
 kept_at old new kept None w is = is
 kept_at old new kept (Some i) w is = kept i w is
 
-pub kept_under : (numbers : List (List ℕ × ℕ)) (old new : List (Option Note)) → IsKept old new → (n : List ℕ) (w : ℕ) → word_noted numbers old n ≡ Some w → word_noted numbers new n ≡ Some w
+pub kept_under : (numbers : List (List ℕ × ℕ)) (old new : List (Option Note)) → StaysNoted old new → (n : List ℕ) (w : ℕ) → word_noted numbers old n ≡ Some w → word_noted numbers new n ≡ Some w
 kept_under numbers old new kept n w is = kept_at old new kept (cell_number numbers n) w is
 
 -- ALL THAT ANOTHER NOTED
@@ -32,7 +30,7 @@ nothing_past [] i past = refl
 nothing_past (x ∷ xs) zero past = absurd (omega arith)
 nothing_past (x ∷ xs) (suc i) past = nothing_past xs i (omega arith)
 
-pub has_all : (ours theirs : List (Option Note)) (k : ℕ) → length theirs ≤ k → ((i w : ℕ) → i < k → word_in (get_or theirs i None) ≡ Some w → word_in (get_or ours i None) ≡ Some w) → IsKept theirs ours
+pub has_all : (ours theirs : List (Option Note)) (k : ℕ) → length theirs ≤ k → ((i w : ℕ) → i < k → word_in (get_or theirs i None) ≡ Some w → word_in (get_or ours i None) ≡ Some w) → StaysNoted theirs ours
 has_all ours theirs k all so i w is = go (nat_lt i k) refl
   where
     go : (b : Bool) → nat_lt i k ≡ b → word_in (get_or ours i None) ≡ Some w

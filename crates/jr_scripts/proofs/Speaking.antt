@@ -1,5 +1,5 @@
 -- What commands say and hear of a board, and what else may be told in its place.
-use Rattle.std.proofs.Common.{◌≡◌, ℕ, suc, false, Option, Some, None, List, Result, Ok, Err, inl, inr, refl, subst, arith, ◌+◌, ◌∷◌, []}
+use Rattle.std.proofs.Common.{◌≡◌, ◌∙◌, ℕ, suc, false, Option, Some, None, List, Result, Ok, Err, inl, inr, refl, subst, arith, ◌+◌, ◌∷◌, []}
 use Rattle.std.specs.Prelude.{MatchOption}
 use Rattle.jr_word.specs.declared.fault.Fault.{Fault}
 use Rattle.jr_steps.specs.declared.steps.Steps.{Ghosts}

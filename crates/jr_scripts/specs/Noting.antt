@@ -10,8 +10,8 @@ abbrev pub cell_at : List Named → ℕ → ℕ
 cell_at cells i = (get_or cells i (record { id = 0 })).id
 
 -- each note is of the cell at its number
-abbrev pub AreOf : List Named → List (Option Note) → Type 0
-AreOf cells notes = (i : ℕ) (note : Note) → get_or notes i None ≡ Some note → note.token.of ≡ cell_at cells i
+abbrev pub AreOfCells : List Named → List (Option Note) → Type 0
+AreOfCells cells notes = (i : ℕ) (note : Note) → get_or notes i None ≡ Some note → note.token.of ≡ cell_at cells i
 
 -- nothing was noted
 abbrev pub IsBlank : List (Option Note) → Type 0
@@ -23,22 +23,22 @@ word_in (Some note) = Some note.word
 word_in None = None
 
 -- the word that is noted at a number, if there is a number
-abbrev pub word_at : List (Option Note) → Option ℕ → Option ℕ
-word_at notes (Some i) = word_in (get_or notes i None)
-word_at notes None = None
+abbrev pub word_by_number : List (Option Note) → Option ℕ → Option ℕ
+word_by_number notes (Some i) = word_in (get_or notes i None)
+word_by_number notes None = None
 
 -- THE WORD THAT IS NOTED under a name, by notes of a board whose names have these numbers
 abbrev pub word_noted : List (List ℕ × ℕ) → List (Option Note) → List ℕ → Option ℕ
-word_noted numbers notes n = word_at notes (cell_number numbers n)
+word_noted numbers notes n = word_by_number notes (cell_number numbers n)
 
 -- what was noted is noted still
-abbrev pub IsKept : List (Option Note) → List (Option Note) → Type 0
-IsKept old new = (i w : ℕ) → word_in (get_or old i None) ≡ Some w → word_in (get_or new i None) ≡ Some w
+abbrev pub StaysNoted : List (Option Note) → List (Option Note) → Type 0
+StaysNoted old new = (i w : ℕ) → word_in (get_or old i None) ≡ Some w → word_in (get_or new i None) ≡ Some w
 
 -- the other's notes were not lost, and what they have these have too
 pub record HasAllOf (ours : List (Option Note)) (lost : Bool) (theirs : List (Option Note)) : Type 0 where
   pub safe : lost ≡ false
-  pub kept : IsKept theirs ours
+  pub kept : StaysNoted theirs ours
 
 -- what a thread's notes tell: anything where they were lost
 abbrev pub talk_noted : Bool → List (List ℕ × ℕ) → List (Option Note) → Talk

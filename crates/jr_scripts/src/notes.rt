@@ -1,7 +1,7 @@
 //! What one thread posts and sees on a board that it shares.
 
 ghost use Rattle.std.specs.Prelude.{◌≡◌, ◌⊎◌, ◌<◌, ℕ, true, Some, None, get_or, length, IfOk, IfSome};
-ghost use Rattle.jr_scripts.specs.Noting.{cell_at, word_in, AreOf, HasAllOf, IsBlank, IsKept};
+ghost use Rattle.jr_scripts.specs.Noting.{cell_at, word_in, AreOfCells, HasAllOf, IsBlank, StaysNoted};
 ghost use Rattle.jr_scripts.specs.Layouts.{layout_of};
 ghost use Rattle.jr_scripts.specs.Noting.{word_noted};
 
@@ -16,7 +16,7 @@ pub struct Notes<'a> {
     pub(crate) posts: &'a Posts,
     pub(crate) notes: Vec<Option<Note<'a>>>,
     pub(crate) is_lost: bool,
-    ghost of: { AreOf posts.now.cells.items notes.items },
+    ghost of: { AreOfCells posts.now.cells.items notes.items },
 }
 
 /// A place for each of so many notes.
@@ -117,7 +117,7 @@ impl<'a> Notes<'a> {
         requires { note.token.of ≡ cell_at self.old.posts.now.cells.items number }
         ensures same { self.new.posts.now ≡ self.old.posts.now }
         ensures noted { (self.new.is_lost ≡ true) ⊎ (word_in (get_or self.new.notes.items number None) ≡ Some note.entry.word) }
-        ensures kept { IsKept self.old.notes.items self.new.notes.items }
+        ensures kept { StaysNoted self.old.notes.items self.new.notes.items }
         ensures lost { self.old.is_lost ≡ true → self.new.is_lost ≡ true }
     {
         if number >= self.notes.len() {

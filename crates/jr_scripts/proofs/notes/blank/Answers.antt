@@ -1,4 +1,4 @@
-use Rattle.std.proofs.Common.{◌≡◌, ◌++◌, [], ◌∷◌, None, rules, sym, subst, refl}
+use Rattle.std.proofs.Common.{◌≡◌, ◌++◌, [], ◌∷◌, None, rules, sym, subst}
 use Rattle.jr_scripts.specs.Noting.{IsBlank}
 use Rattle.jr_scripts.proofs.Noted.{blank_more, blank_none}
 use Rattle.jr_scripts.proofs.notes.blank.Goals as goal

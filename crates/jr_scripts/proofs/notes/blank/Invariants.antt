@@ -1,4 +1,3 @@
-use Rattle.std.proofs.Common.{◌≡◌}
 use Rattle.jr_scripts.specs.Noting.{IsBlank}
 use Rattle.jr_scripts.proofs.notes.blank.Given as goal
 

@@ -1,5 +1,4 @@
-use Rattle.std.proofs.Common.{◌≡◌, rules, ap, ◌∙◌}
-use Rattle.jr_syntax.specs.declared.command.Command.TheVariants as commands
+use Rattle.std.proofs.Common.{rules}
 use Rattle.jr_scripts.proofs.NamedCells.{adds_one}
 use Rattle.jr_scripts.proofs.board.Posts.add_command.Goals as goal
 

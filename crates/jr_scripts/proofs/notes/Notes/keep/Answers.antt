@@ -1,4 +1,4 @@
-use Rattle.std.proofs.Common.{◌≡◌, ◌<◌, None, length, rules, inr, sym, ap, ◌∙◌}
+use Rattle.std.proofs.Common.{◌<◌, None, length, rules, sym, ◌∙◌}
 use Rattle.std.proofs.lemmas.List.{get_or_read}
 use Rattle.jr_scripts.proofs.notes.Notes.keep.Goals as goal
 
