@@ -83,7 +83,7 @@ abbrev pub text_of_parts : List ThreadPart → List (List ℕ) → List ℕ
 text_of_parts (p ∷ ps) (lines ∷ rest) = heading p.name ++ lines ++ text_of_parts ps rest
 text_of_parts _ _ = []
 
--- A RUN OF ALL: there is one legal history, with the events of the threads' calls and of their ends and no others, but for the look as the room closes, that explains each thread's part of the text, and the last lines tell of its last state
+-- A RUN OF ALL: there is one legal history, with the events of the threads' calls and of their ends and no others, but for the look as the room closes, that explains each thread's part of the text; there is one board, with words only under names that a line posts, of which each post and each wait of whichever thread has the word; and the last lines tell of the last state
 pub record IsRunOfAll (turns last : ℕ) (s : Script) (text : List ℕ) : Type 0 where
   pub whole : History
   pub legal : IsLegal s.config last whole

@@ -71,7 +71,7 @@ pub record IsUnbarred (e : Event) : Type 0 where
   pub shuts : (n : ℕ) → e.act ≢ ShutBusy n
   pub reserves : (n looked found : ℕ) → e.act ≢ ReserveLost n looked found
 
--- A RUN of a script of one thread: there is a legal history of the sequential machine, with the events of its commands' calls and then of freeing its local references, and no others, that explains the text; no call was barred, refused a shut or raced, each answer that is a refusal is a lone thread's, and where there are turns the references were freed; and the last lines tell of the last state
+-- A RUN of a script of one thread: there is a legal history of the sequential machine, with the events of its commands' calls and then of freeing its local references, and no others, that explains the text; no call was barred, refused a shut or raced, each answer that is a refusal is a lone thread's, and where there are turns the references were freed; there is a board, with words only under names that a command posts, of which each post and each wait has the word; and the last lines tell of the last state
 pub record IsRun (turns last : ℕ) (c : Config) (part : ThreadPart) (text : List ℕ) : Type 0 where
   pub seen : History
   pub lines : List ℕ

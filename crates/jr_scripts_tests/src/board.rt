@@ -87,8 +87,14 @@ fn a_second_post_of_a_name_gives_the_run_up(rt: HostRuntime) -> Result<(), Fail>
     let alloc = rt.alloc();
     let script = posting_twice(alloc)?;
     let mut out = Vec::from_slice(alloc, BEFORE)?;
-    assert_eq!(rt; run_all(&rt, alloc, &script, &NoHold, TURNS, &mut out), Err(Fault::Memory));
-    assert_eq!(rt; run_one(alloc, &script, TURNS, &mut out), Err(Fault::Memory));
+    assert_eq!(rt;
+        run_all(&rt, alloc, &script, &NoHold, TURNS, &mut out),
+        Err(Fault::Memory)
+    );
+    assert_eq!(rt;
+        run_one(alloc, &script, TURNS, &mut out),
+        Err(Fault::Memory)
+    );
     assert_eq!(rt; out.as_slice(), BEFORE);
     Ok(())
 }
