@@ -68,7 +68,7 @@ fn run_part(alloc: Global, config: Config, part: &ThreadPart, turns: u64) -> Res
 ///
 /// # Errors
 ///
-/// E17 exactly where the script has not one thread, or sizes outside the limits; E16 where memory was refused.
+/// E17 exactly where the script has not one thread, or sizes outside the limits; E16 where memory was refused, or a name was posted twice, which no script does that was read.
 ///
 /// The output is as it was.
 pub fn run_one(alloc: Global, script: &Script, turns: u64, out: &mut Vec<u8>) -> Result<(), Fault>
