@@ -1,16 +1,18 @@
 -- What threads promised, and what they gave back.
-use Rattle.std.proofs.Common.{◌≡◌, ◌<◌, ◌++◌, ℕ, suc, List, [], ◌∷◌, map, length, slice_index_or, refl, sym, ap, subst, ◌∙◌, arith}
-use Rattle.std.proofs.lemmas.List.{append-nil}
-use Rattle.std.specs.List.{AllZip, remove}
+use Rattle.std.proofs.Common.{◌≡◌, ◌<◌, ◌++◌, ℕ, suc, List, [], ◌∷◌, map, length, slice_index_or, refl, sym, ap, subst, ◌∙◌, arith, append_assoc}
+use Rattle.std.proofs.lemmas.List.{append-nil, map-append}
+use Rattle.std.specs.List.{All, AllZip, remove}
 use Rattle.std.specs.PromisedHandle.{KeepsEach}
 use Rattle.std.specs.declared.thread.PromisedHandle.{PromisedHandle}
 use Rattle.std.specs.declared.thread.Promise as Promise
 use Rattle.jr_scripts.specs.declared.part.Job.{Job}
 use Rattle.jr_scripts.specs.declared.part.ThreadRun.{ThreadRun}
 use Rattle.jr_scripts.specs.declared.starting.Doing.{Doing}
-use Rattle.jr_scripts.specs.Posting.{quiet}
+use Rattle.jr_scripts.specs.declared.board.Posts.{Posts}
+use Rattle.jr_scripts.specs.Layouts.{layout_of}
 use Rattle.jr_scripts.specs.AllRuns.{RanPass}
-use Rattle.jr_scripts.specs.Jobs.{HasRun}
+use Rattle.jr_scripts.specs.Given.{IsGiven}
+use Rattle.jr_scripts.specs.Jobs.{HasRun, IsOver, talk_in}
 
 abbrev pub Thread : Type 0
 Thread = PromisedHandle ThreadRun Doing
@@ -19,9 +21,16 @@ Thread = PromisedHandle ThreadRun Doing
 abbrev pub given_to : Thread → Job
 given_to h = record { first = h.promise.first; turns = h.promise.turns; part = h.promise.part; pass = h.promise.pass.value }
 
+-- one more thread was started
+pub given_more : (hs hs' : List Thread) (h : Thread) (js js' all : List Job) (j : Job) → hs' ≡ hs ++ h ∷ [] → js ≡ j ∷ js' → IsGiven h.promise j → map given_to hs ++ js ≡ all → map given_to hs' ++ js' ≡ all
+given_more hs hs' h js js' all j more is given so =
+    let one : given_to h ≡ j = λ i. record { first = given.first i; turns = given.turns i; part = given.part i; pass = given.pass i } in
+    ap (λ z. map given_to z ++ js') more ∙ (ap (λ z. z ++ js') (map-append given_to hs (h ∷ []))
+    ∙ (append_assoc (map given_to hs) (given_to h ∷ []) js' ∙ (ap (λ z. map given_to hs ++ z ∷ js') one ∙ (ap (λ z. map given_to hs ++ z) (sym is) ∙ so))))
+
 -- what a thread promised
 abbrev DidIt : Doing → ThreadRun → Type 0
-DidIt d r = RanPass quiet d.turns d.first d.part.now.commands d.pass.value r.pass r.answer r.text.items
+DidIt d r = RanPass (talk_in r) d.turns d.first d.part.now.commands d.pass.value r.pass r.answer r.text.items
 
 kept_each : (kept : Doing → ThreadRun → Type 0) → ((p : Doing) (r : ThreadRun) → kept p r → DidIt p r) → (hs : List Thread) (rs : List ThreadRun) → length rs ≡ length hs
     → ((i : ℕ) (d : ThreadRun) → i < length hs → (h : Thread) × (h ≡ slice_index_or hs i h) × kept h.promise (slice_index_or rs i d)) → AllZip HasRun (map given_to hs) rs
@@ -50,3 +59,12 @@ pub all_done : (g : Promise.Ghosts Doing ThreadRun) → ((p : Doing) (r : Thread
 all_done g same hs rs xs js n count long each none so =
     subst (λ z. AllZip HasRun z rs) (sym (append-nil (map given_to hs)) ∙ (ap (λ z. map given_to hs ++ z) (sym (none_left xs none)) ∙ so))
     (all_kept g same hs rs long (subst (λ m. KeepsEach g m hs rs) count each))
+
+-- each thread's notes are of the board that it was given
+pub all_over : (g : Promise.Ghosts Doing ThreadRun) → ((p : Doing) (r : ThreadRun) → g.kept_by p r → IsOver (layout_of p.board.now) r) → (b : Posts) (hs : List Thread) (rs : List ThreadRun) (n : ℕ) → n ≡ length hs → length rs ≡ length hs → KeepsEach g n hs rs
+    → All (λ (h : Thread). h.promise.board.now ≡ b) hs → All (IsOver (layout_of b)) rs
+all_over g same b hs rs n count long each all i d l =
+    let here : i < n = omega arith in
+    let x = (each i d here).1 in
+    let one : x.handle.promise.board.now ≡ b = subst (λ (h : Thread). h.promise.board.now ≡ b) (sym x.handle_is) (all i x.handle (omega arith)) in
+    same x.handle.promise (slice_index_or rs i d) x.kept ∙ ap layout_of one

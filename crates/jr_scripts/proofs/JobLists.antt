@@ -1,5 +1,7 @@
 -- The lists of jobs and of what threads gave back, as they grow.
-use Rattle.std.proofs.Common.{◌≡◌, ◌+◌, ◌<◌, ◌≤◌, ◌++◌, ℕ, zero, suc, List, [], ◌∷◌, length, drop, get_or, refl, sym, ap, subst, ◌∙◌, arith, append_assoc}
+use Rattle.std.specs.Prelude.{IfOk}
+use Rattle.jr_word.specs.declared.fault.Fault.{Fault}
+use Rattle.std.proofs.Common.{Result, Ok, Err, ◌≡◌, ◌+◌, ◌<◌, ◌≤◌, ◌++◌, ℕ, zero, suc, List, [], ◌∷◌, length, drop, get_or, refl, sym, ap, subst, ◌∙◌, arith, append_assoc}
 use Rattle.std.proofs.lemmas.List.{append-nil}
 use Rattle.jr_syntax.specs.declared.thread.ThreadPart.{ThreadPart}
 use Rattle.jr_rule.specs.declared.pass.Pass.{Pass}
@@ -48,3 +50,8 @@ pub told_end : (i : ℕ) (parts : List ThreadPart) (runs first : List ThreadRun)
 told_end i parts runs first passes text all more =
     let here : AreTold (drop i parts) runs [] [] = subst (λ qs. AreTold qs runs [] []) (sym (nothing_left i parts all)) refl in
     subst (λ l. AreTold parts first passes l) (append-nil text) (subst (λ l. AreTold parts first l (text ++ [])) (append-nil passes) (more [] [] here))
+
+-- what follows from two facts of what was answered
+pub if_ok_both : {A : Type 0} (P Q R : A → Type 0) → ((x : A) → P x → Q x → R x) → (r : Result A Fault) → IfOk r P → IfOk r Q → IfOk r R
+if_ok_both P Q R f (Ok x) p q = f x p q
+if_ok_both P Q R f (Err e) p q = tt

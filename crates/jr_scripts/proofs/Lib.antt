@@ -5,6 +5,8 @@ pub mod CopyDeeds
 pub mod UnitLines
 pub mod Retries
 pub mod Speaking
+pub mod Noted
+pub mod NamedCells
 pub mod CommandLoop
 pub mod NameMaps
 pub mod Alone

@@ -1,5 +1,5 @@
 -- A script of one thread that is run as one of several: its run is that of the thread alone.
-use Rattle.std.proofs.Common.{◌≡◌, ℕ, List, [], ◌∷◌, ◌++◌, length, refl, sym, ap, subst, ◌∙◌, arith}
+use Rattle.std.proofs.Common.{◌≡◌, ℕ, Option, List, [], ◌∷◌, ◌++◌, length, refl, sym, ap, subst, ◌∙◌, arith}
 use Rattle.std.proofs.lemmas.List.{append-nil}
 use Rattle.std.specs.List.{AllByRecursion}
 use Rattle.jr_word.specs.declared.config.Config.{Config}
@@ -12,6 +12,7 @@ use Rattle.jr_model.proofs.Histories.{legal_append, state_append}
 use Rattle.jr_model.proofs.Stays.{mine_did}
 use Rattle.jr_syntax.specs.declared.thread.ThreadPart.{ThreadPart}
 use Rattle.jr_syntax.specs.declared.script.Script.{Script}
+use Rattle.jr_scripts.specs.Posted.{IsOfPosts, commands_of}
 use Rattle.jr_scripts.specs.Text.{heading, ending}
 use Rattle.jr_scripts.specs.Runs.{IsRun, RunsSingle, seeing, opening_moment}
 use Rattle.jr_scripts.specs.AllRuns.{IsPartOf, ArePartsOf, text_of_parts, IsRunOfAll}
@@ -34,8 +35,8 @@ meets_change_nothing : (s : State) (es : History) → AllByRecursion (λ e. e.ac
 meets_change_nothing s [] all = refl
 meets_change_nothing s (e ∷ es) all = ap (λ x. state_from x es) (meet_changes_nothing s e all.0) ∙ meets_change_nothing s es all.1
 
-module _ (turns last : ℕ) (c : Config) (one : c.threads ≡ 1) (whole : History) (legal : IsLegal c last whole) where
-  module _ (part : ThreadPart) (lines : List ℕ) (p : IsPartOf turns last c whole 0 3 part lines) where
+module _ (board : List ℕ → Option ℕ) (turns last : ℕ) (c : Config) (one : c.threads ≡ 1) (whole : History) (legal : IsLegal c last whole) where
+  module _ (part : ThreadPart) (lines : List ℕ) (p : IsPartOf board turns last c whole 0 3 part lines) where
     -- behind what the thread has seen stands its look at the gate alone
     same_state : state whole ≡ state p.seen
     same_state =
@@ -46,8 +47,8 @@ module _ (turns last : ℕ) (c : Config) (one : c.threads ≡ 1) (whole : Histor
         let meets = own_events (λ a. a ≡ Meet) 0 rest own (subst (AllByRecursion (λ a. a ≡ Meet)) (sym (mine_did (Meet ∷ []) d)) (refl, tt)) in
         ap state (sym p.begins.1) ∙ (state_append p.seen rest ∙ meets_change_nothing (state p.seen) rest meets)
 
-    part_alone : (text : List ℕ) → text ≡ heading part.name ++ lines ++ ending (summary c last (state whole)) → IsRun turns last c part text
-    part_alone text is =
+    part_alone : (text : List ℕ) → IsOfPosts part.commands board → text ≡ heading part.name ++ lines ++ ending (summary c last (state whole)) → IsRun turns last c part text
+    part_alone text posted is =
         let legal_seen : IsLegal c last p.seen = ((legal_append c last p.seen p.begins.0).0 (subst (IsLegal c last) (sym p.begins.1) legal)).0 in
         let all = undisturbed c last one p.seen legal_seen in
         let lone : IsAlone (p.left).pass = subst IsAlone (sym p.saw) (lone_pass (seeing c last p.seen) one refl all) in
@@ -55,6 +56,8 @@ module _ (turns last : ℕ) (c : Config) (one : c.threads ≡ 1) (whole : Histor
         record {
           seen = p.seen;
           lines = lines;
+          board = board;
+          posted = posted;
           legal = legal_seen;
           alone = unbarred p.seen all (ap-seen ended.uncontended);
           told = p.told;
@@ -70,10 +73,10 @@ module _ (turns last : ℕ) (c : Config) (one : c.threads ≡ 1) (whole : Histor
         ap-seen : (AllUncontended [] → AllUncontended (p.left).pass.seen) → AllUncontended p.seen
         ap-seen f = subst (λ v. AllUncontended v.seen) p.saw (f tt)
 
-  parts_alone : (part : ThreadPart) (lines : List (List ℕ)) → ArePartsOf turns last c whole 0 2 (part ∷ []) lines → (text : List ℕ) → text ≡ text_of_parts (part ∷ []) lines ++ ending (summary c last (state whole)) → IsRun turns last c part text
-  parts_alone part [] parts text is = absurd parts
-  parts_alone part (l ∷ []) parts text is = part_alone part l parts.0 text (is ∙ ap (λ t. t ++ ending (summary c last (state whole))) (append-nil (heading part.name ++ l)))
-  parts_alone part (l ∷ m ∷ ls) parts text is = absurd parts.1
+  parts_alone : (part : ThreadPart) (lines : List (List ℕ)) → ArePartsOf board turns last c whole 0 2 (part ∷ []) lines → (text : List ℕ) → IsOfPosts part.commands board → text ≡ text_of_parts (part ∷ []) lines ++ ending (summary c last (state whole)) → IsRun turns last c part text
+  parts_alone part [] parts text posted is = absurd parts
+  parts_alone part (l ∷ []) parts text posted is = part_alone part l parts.0 text posted (is ∙ ap (λ t. t ++ ending (summary c last (state whole))) (append-nil (heading part.name ++ l)))
+  parts_alone part (l ∷ m ∷ ls) parts text posted is = absurd parts.1
 
 -- a script of one thread, run by whoever runs all threads of a script
 pub lone_run : (turns last : ℕ) (s : Script) (old new text : List ℕ) → new ≡ old ++ text → IsRunOfAll turns last s text → s.config.threads ≡ 1 → RunsSingle turns last s old new
@@ -84,6 +87,6 @@ lone_run turns last s old new text grew r one =
       has = record { part_is = q.1; one = one; limits = r.limits };
       text = text;
       grew = grew;
-      run = parts_alone turns last s.config one r.whole r.legal q.0 r.lines (subst (λ ps. ArePartsOf turns last s.config r.whole 0 2 ps r.lines) q.1 r.parts) text
+      run = parts_alone r.board turns last s.config one r.whole r.legal q.0 r.lines (subst (λ ps. ArePartsOf r.board turns last s.config r.whole 0 2 ps r.lines) q.1 r.parts) text (subst (λ cs. IsOfPosts cs r.board) (ap commands_of q.1 ∙ append-nil (q.0).commands) r.posted)
           (r.text_is ∙ ap (λ ps. text_of_parts ps r.lines ++ ending (summary s.config last (state r.whole))) q.1);
     }

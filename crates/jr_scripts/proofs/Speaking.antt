@@ -1,5 +1,5 @@
 -- What commands say and hear of a board, and what else may be told in its place.
-use Rattle.std.proofs.Common.{◌≡◌, ℕ, suc, false, Option, Some, None, List, Result, Ok, Err, inl, inr, refl, subst, arith, ◌+◌, ◌∷◌, []}
+use Rattle.std.proofs.Common.{◌≡◌, ◌∙◌, ℕ, suc, false, Option, Some, None, List, Result, Ok, Err, inl, inr, refl, subst, arith, ◌+◌, ◌∷◌, []}
 use Rattle.std.specs.Prelude.{MatchOption}
 use Rattle.jr_word.specs.declared.fault.Fault.{Fault}
 use Rattle.jr_steps.specs.declared.steps.Steps.{Ghosts}
@@ -12,19 +12,23 @@ use Rattle.jr_syntax.specs.declared.verb.Make.TheVariants as make
 use Rattle.jr_syntax.specs.declared.verb.OnName.TheVariants as on_name
 use Rattle.jr_scripts.specs.declared.region.Region.{Region}
 use Rattle.jr_scripts.specs.declared.reply.Reply.{Reply}
+use Rattle.jr_scripts.specs.Layouts.{Layout}
 use Rattle.jr_scripts.specs.Names.{Names, word_posted}
 use Rattle.jr_scripts.specs.Commands.{deed}
 use Rattle.jr_scripts.specs.RegionCommands.{deed_at, deed_within}
 use Rattle.jr_scripts.specs.Places.{Place, by_region, is_speaking, levels_after, objects_after}
 use Rattle.jr_scripts.specs.Text.{buffers_after}
-use Rattle.jr_scripts.specs.Posting.{IsAwaited, IsHeard, LooksInVain, Speaks, StillTells, Talk, one_more, reply_to_wait, talk_of}
+use Rattle.jr_scripts.specs.Posting.{IsAwaited, IsHeard, LooksInVain, Keeps, Speaks, Talk, one_more, reply_to_wait, talk_of}
 use Rattle.jr_scripts.specs.Explains.{Explains, IsCutOff, LeavesText, nothing, then, unwritten, written}
 use Rattle.jr_scripts.specs.Advancing.{CarriedOut, IsSaid, KnowsWith, StandsWith, place_with, role_with}
 use Rattle.jr_scripts.proofs.Within.{did_nowhere}
 
 -- two boards, and then another that tells more
-pub still_more : {B : Type 0} (tells : B → List ℕ → ℕ → Type 0) {old mid new : B} → StillTells tells old mid → StillTells tells mid new → StillTells tells old new
-still_more tells a b = λ n w t. b n w (a n w t)
+pub still_more : {B : Type 0} (layout : B → Layout) (tells : B → List ℕ → ℕ → Type 0) {old mid new : B} → Keeps layout tells old mid → Keeps layout tells mid new → Keeps layout tells old new
+still_more layout tells a b = record { same = b.same ∙ a.same; still = λ n w t. b.still n w (a.still n w t) }
+
+pub keeps_all : {B : Type 0} {layout : B → Layout} {tells : B → List ℕ → ℕ → Type 0} {old : B} → Keeps layout tells old old
+keeps_all = record { same = refl; still = λ n w t. t }
 
 -- whatever the one says, the other says too
 pub record Carries (t u : Talk) : Type 0 where
@@ -32,8 +36,8 @@ pub record Carries (t u : Talk) : Type 0 where
   pub in_vain : (n : List ℕ) → t.in_vain n → u.in_vain n
 
 -- a board that tells more
-pub carries_on : {B : Type 0} (tells : B → List ℕ → ℕ → Type 0) (looked : B → List ℕ → Option ℕ → B → Type 0) (turns : ℕ) (old new : B) → StillTells tells old new → Carries (talk_of tells looked turns old) (talk_of tells looked turns new)
-carries_on tells looked turns old new still = record { tells = still; in_vain = λ n v. v }
+pub carries_on : {B : Type 0} (layout : B → Layout) (tells : B → List ℕ → ℕ → Type 0) (looked : B → List ℕ → Option ℕ → B → Type 0) (turns : ℕ) (old new : B) → Keeps layout tells old new → Carries (talk_of tells looked turns old) (talk_of tells looked turns new)
+carries_on layout tells looked turns old new keeps = record { tells = keeps.still; in_vain = λ n v. v }
 
 heard_still : (t u : Talk) → Carries t u → (n : List ℕ) (answer : Result Reply Fault) → IsHeard t n answer → IsHeard u n answer
 heard_still t u s n answer (inl x) = inl (x.0, x.1, s.tells n (x.0).0 x.2)

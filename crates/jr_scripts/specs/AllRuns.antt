@@ -1,5 +1,5 @@
 -- Runs of scripts of several threads, in one room and one history.
-use Rattle.std.specs.Prelude.{◌≡◌, ◌+◌, ◌<◌, ◌≤◌, ◌^◌, ℕ, zero, suc, true, false, List, [], ◌∷◌, ◌++◌, length, Result}
+use Rattle.std.specs.Prelude.{◌≡◌, Option, ◌+◌, ◌<◌, ◌≤◌, ◌^◌, ℕ, zero, suc, true, false, List, [], ◌∷◌, ◌++◌, length, Result}
 use mathlib.Core.List.{IsPrefix}
 use Rattle.jr_word.specs.declared.config.Config.{Config}
 use Rattle.jr_word.specs.declared.fault.Fault.{Fault}
@@ -20,7 +20,8 @@ use Rattle.jr_steps.specs.Holdings.{empty}
 use Rattle.jr_steps.specs.Knowing.{Spent}
 use Rattle.jr_env.specs.Deeds.{DoesDeed}
 use Rattle.jr_scripts.specs.Text.{heading, ending}
-use Rattle.jr_scripts.specs.Posting.{Talk, quiet}
+use Rattle.jr_scripts.specs.Posted.{IsOfPosts, commands_of}
+use Rattle.jr_scripts.specs.Posting.{Talk, said}
 use Rattle.jr_scripts.specs.Explains.{Explained}
 use Rattle.jr_scripts.specs.Runs.{IsFreed, RunsSingle, running_to_end}
 
@@ -46,9 +47,9 @@ closing_acts zero = Meet ∷ []
 closing_acts (suc t) = []
 
 -- A THREAD'S PART in the one history: up to a moment it explains the thread's lines, up to a later one the thread's local references were freed, and from there on it has no more of the thread's events
-pub record IsPartOf (turns last : ℕ) (c : Config) (whole : History) (t first : ℕ) (part : ThreadPart) (lines : List ℕ) : Type 0 where
+pub record IsPartOf (board : List ℕ → Option ℕ) (turns last : ℕ) (c : Config) (whole : History) (t first : ℕ) (part : ThreadPart) (lines : List ℕ) : Type 0 where
   pub told : Moment
-  pub explained : Explained quiet turns first (opening_of c last t) part.commands lines told
+  pub explained : Explained (said board) turns first (opening_of c last t) part.commands lines told
   pub left : Moment
   pub freed : IsFreed turns told left
   pub seen : History
@@ -57,10 +58,10 @@ pub record IsPartOf (turns last : ℕ) (c : Config) (whole : History) (t first :
   pub own : mine whole t ≡ mine seen t ++ closing_acts t
 
 -- the parts of the threads from t on, of which the first stands on this line
-abbrev pub ArePartsOf : ℕ → ℕ → Config → History → ℕ → ℕ → List ThreadPart → List (List ℕ) → Type 0
-ArePartsOf turns last c whole t line [] [] = Unit {0}
-ArePartsOf turns last c whole t line (p ∷ ps) (lines ∷ rest) = IsPartOf turns last c whole t (line + 1) p lines × ArePartsOf turns last c whole (suc t) (line + 1 + length p.commands) ps rest
-ArePartsOf turns last c whole t line _ _ = ⊥
+abbrev pub ArePartsOf : (List ℕ → Option ℕ) → ℕ → ℕ → Config → History → ℕ → ℕ → List ThreadPart → List (List ℕ) → Type 0
+ArePartsOf board turns last c whole t line [] [] = Unit {0}
+ArePartsOf board turns last c whole t line (p ∷ ps) (lines ∷ rest) = IsPartOf board turns last c whole t (line + 1) p lines × ArePartsOf board turns last c whole (suc t) (line + 1 + length p.commands) ps rest
+ArePartsOf board turns last c whole t line _ _ = ⊥
 
 -- how many lines these parts are: each thread's own, and one for each command
 abbrev pub lines_of_parts : List ThreadPart → ℕ
@@ -82,14 +83,16 @@ abbrev pub text_of_parts : List ThreadPart → List (List ℕ) → List ℕ
 text_of_parts (p ∷ ps) (lines ∷ rest) = heading p.name ++ lines ++ text_of_parts ps rest
 text_of_parts _ _ = []
 
--- A RUN OF ALL: there is one legal history, with the events of the threads' calls and of their ends and no others, but for the look as the room closes, that explains each thread's part of the text, and the last lines tell of its last state
+-- A RUN OF ALL: there is one legal history, with the events of the threads' calls and of their ends and no others, but for the look as the room closes, that explains each thread's part of the text; there is one board, with words only under names that a line posts, of which each post and each wait of whichever thread has the word; and the last lines tell of the last state
 pub record IsRunOfAll (turns last : ℕ) (s : Script) (text : List ℕ) : Type 0 where
   pub whole : History
   pub legal : IsLegal s.config last whole
   pub lines : List (List ℕ)
+  pub board : List ℕ → Option ℕ
+  pub posted : IsOfPosts (commands_of s.threads) board
   pub limits : in_limits s.config ≡ true
   pub one_each : length s.threads ≡ s.config.threads
-  pub parts : ArePartsOf turns last s.config whole 0 2 s.threads lines
+  pub parts : ArePartsOf board turns last s.config whole 0 2 s.threads lines
   pub text_is : text ≡ text_of_parts s.threads lines ++ ending (summary s.config last (state whole))
 
 -- the script was run, and the output grew by its text; that of a script of one thread is the text of a run of that thread alone

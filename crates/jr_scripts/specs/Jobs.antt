@@ -1,5 +1,6 @@
 -- For the crate's own functions: what the threads of a script are given, and what they give back.
-use Rattle.std.specs.Prelude.{◌≡◌, ◌+◌, ◌<◌, ◌^◌, ℕ, List, [], ◌∷◌, ◌++◌, length, Ok}
+use Rattle.std.specs.List.{All, AllByRecursion, AllZip}
+use Rattle.std.specs.Prelude.{◌≡◌, ◌+◌, ◌<◌, ◌^◌, ℕ, Option, Some, List, [], ◌∷◌, ◌++◌, length, Ok, IsSome}
 use Rattle.jr_syntax.specs.declared.thread.ThreadPart.{ThreadPart}
 use Rattle.jr_rule.specs.declared.pass.Pass.{Pass}
 use Rattle.jr_rule.specs.declared.row.Row.{Row}
@@ -7,12 +8,35 @@ use Rattle.jr_rule.specs.Passes.{IsOpened}
 use Rattle.jr_scripts.specs.declared.part.Job.{Job}
 use Rattle.jr_scripts.specs.declared.part.ThreadRun.{ThreadRun}
 use Rattle.jr_scripts.specs.Text.{heading}
-use Rattle.jr_scripts.specs.Posting.{quiet}
+use Rattle.jr_scripts.specs.Layouts.{Layout, cell_number, layout_of}
+use Rattle.jr_scripts.specs.Posting.{Talk, said}
+use Rattle.jr_scripts.specs.Noting.{talk_noted}
 use Rattle.jr_scripts.specs.AllRuns.{RanPass}
 
--- the thread did its job
+-- what a thread's notes tell
+abbrev pub talk_in : ThreadRun → Talk
+talk_in r = talk_noted r.notes.is_lost r.notes.posts.now.numbers.entries r.notes.notes.items
+
+-- the thread did its job, with what its notes tell
 abbrev pub HasRun : Job → ThreadRun → Type 0
-HasRun j r = RanPass quiet j.turns j.first j.part.now.commands j.pass r.pass r.answer r.text.items
+HasRun j r = RanPass (talk_in r) j.turns j.first j.part.now.commands j.pass r.pass r.answer r.text.items
+
+-- the thread did its job, with what the board has
+abbrev pub HasSaid : (List ℕ → Option ℕ) → Job → ThreadRun → Type 0
+HasSaid board j r = RanPass (said board) j.turns j.first j.part.now.commands j.pass r.pass r.answer r.text.items
+
+-- what the thread's notes tell is what the board has
+abbrev pub IsToldBy : (List ℕ → Option ℕ) → ThreadRun → Type 0
+IsToldBy board r = (n : List ℕ) (w : ℕ) → (talk_in r).tells n w → board n ≡ Some w
+
+-- the thread's notes are of this board
+abbrev pub IsOver : Layout → ThreadRun → Type 0
+IsOver layout r = layout_of r.notes.posts.now ≡ layout
+
+-- the threads did their jobs, each with notes of the board
+pub record HaveRun (layout : Layout) (js : List Job) (rs : List ThreadRun) : Type 0 where
+  pub each : AllZip HasRun js rs
+  pub over : All (IsOver layout) rs
 
 -- the part can be run in the room with this pass
 pub record IsForPart (r : Row) (first : ℕ) (part : ThreadPart) (p : Pass) : Type 0 where
@@ -46,3 +70,10 @@ abbrev pub AreTold : List ThreadPart → List ThreadRun → List Pass → List �
 AreTold [] rs [] text = text ≡ []
 AreTold (q ∷ qs) (r ∷ rs) (p ∷ ps) text = IsDone r × (r.pass ≡ p) × (rest : List ℕ) × (text ≡ heading q.name ++ r.text.items ++ rest) × AreTold qs rs ps rest
 AreTold _ _ _ text = ⊥
+
+-- the same, and what each thread's notes tell is what one board has, in which only these names stand
+pub record AreToldAlike (numbers : List (List ℕ × ℕ)) (qs : List ThreadPart) (rs : List ThreadRun) (ps : List Pass) (text : List ℕ) : Type 0 where
+  pub board : List ℕ → Option ℕ
+  pub told : AreTold qs rs ps text
+  pub noted : AllByRecursion (IsToldBy board) rs
+  pub named : (n : List ℕ) (w : ℕ) → board n ≡ Some w → IsSome (cell_number numbers n)

@@ -1,6 +1,9 @@
 pub mod Buffers
 pub mod Names
+pub mod Layouts
+pub mod Posted
 pub mod Posting
+pub mod Noting
 pub mod Tries
 pub mod Numbers
 pub mod Commands

@@ -8,6 +8,7 @@ use Rattle.jr_syntax.specs.declared.command.Command.TheVariants as commands
 use Rattle.jr_syntax.specs.declared.verb.Make.TheVariants as make
 use Rattle.jr_scripts.specs.declared.reply.Reply.{Reply}
 use Rattle.jr_scripts.specs.declared.reply.Reply.TheVariants as replies
+use Rattle.jr_scripts.specs.Layouts.{Layout}
 use Rattle.jr_scripts.specs.Names.{Names, word_posted}
 
 -- the reply to a wait that found this word, or none in all its turns
@@ -33,9 +34,10 @@ pub data LooksInVain {B : Type 0} (looked : B → List ℕ → Option ℕ → B 
 abbrev pub talk_of : {B : Type 0} → (B → List ℕ → ℕ → Type 0) → (B → List ℕ → Option ℕ → B → Type 0) → ℕ → B → Talk
 talk_of {B} tells looked turns board = record { tells = tells board; in_vain = λ n. (first : B) × (last : B) × LooksInVain looked n first turns last }
 
--- what a board told before it tells afterwards too
-abbrev pub StillTells : {B : Type 0} → (B → List ℕ → ℕ → Type 0) → B → B → Type 0
-StillTells tells old new = (n : List ℕ) (w : ℕ) → tells old n w → tells new n w
+-- WHAT STAYS of a board, whatever a thread posts or looks for: how it is laid out, and what it told
+pub record Keeps {B : Type 0} (layout : B → Layout) (tells : B → List ℕ → ℕ → Type 0) (old new : B) : Type 0 where
+  pub same : layout new ≡ layout old
+  pub still : (n : List ℕ) (w : ℕ) → tells old n w → tells new n w
 
 -- the answer to a wait for a name: a word that was posted under it; or E20, where it was looked for in vain
 abbrev pub IsHeard : Talk → List ℕ → Result Reply Fault → Type 0
@@ -47,6 +49,6 @@ Speaks talk names (commands.OnName v n) answer = talk.tells n (word_posted names
 Speaks talk names (commands.Make make.Wait n) answer = IsHeard talk n answer
 Speaks talk names _ answer = Unit {0}
 
--- nothing is said of what is posted
-abbrev pub quiet : Talk
-quiet = record { tells = λ n w. Unit {0}; in_vain = λ n. Unit {0} }
+-- of a board it is said which words were posted under which names
+abbrev pub said : (List ℕ → Option ℕ) → Talk
+said board = record { tells = λ n w. board n ≡ Some w; in_vain = λ n. Unit {0} }

@@ -1,5 +1,5 @@
 -- Runs of whole threads and scripts, for whatever was known.
-use Rattle.std.specs.Prelude.{◌≡◌, ◌≢◌, ℕ, true, false, List, [], ◌∷◌, ◌++◌, Result, Ok, Err}
+use Rattle.std.specs.Prelude.{◌≡◌, ◌≢◌, ℕ, Option, true, false, List, [], ◌∷◌, ◌++◌, Result, Ok, Err}
 use Rattle.std.specs.List.{AllByRecursion}
 use Rattle.std.specs.declared.alloc.AllocError.{AllocError}
 use Rattle.jr_word.specs.declared.config.Config.{Config}
@@ -22,7 +22,8 @@ use Rattle.jr_env.specs.Deeds.{Deed, free_locals}
 use Rattle.jr_env.specs.Envs.{WasDone}
 use Rattle.jr_scripts.specs.declared.reply.Reply.{Reply}
 use Rattle.jr_scripts.specs.Names.{Names}
-use Rattle.jr_scripts.specs.Posting.{Talk, quiet}
+use Rattle.jr_scripts.specs.Posted.{IsOfPosts}
+use Rattle.jr_scripts.specs.Posting.{Talk, said}
 use Rattle.jr_scripts.specs.Commands.{tried}
 use Rattle.jr_scripts.specs.Text.{printed, names_set, heading, ending}
 use Rattle.jr_scripts.specs.Explains.{Explained, LeavesText}
@@ -70,14 +71,16 @@ pub record IsUnbarred (e : Event) : Type 0 where
   pub shuts : (n : ℕ) → e.act ≢ ShutBusy n
   pub reserves : (n looked found : ℕ) → e.act ≢ ReserveLost n looked found
 
--- A RUN of a script of one thread: there is a legal history of the sequential machine, with the events of its commands' calls and then of freeing its local references, and no others, that explains the text; no call was barred, refused a shut or raced, each answer that is a refusal is a lone thread's, and where there are turns the references were freed; and the last lines tell of the last state
+-- A RUN of a script of one thread: there is a legal history of the sequential machine, with the events of its commands' calls and then of freeing its local references, and no others, that explains the text; no call was barred, refused a shut or raced, each answer that is a refusal is a lone thread's, and where there are turns the references were freed; there is a board, with words only under names that a command posts, of which each post and each wait has the word; and the last lines tell of the last state
 pub record IsRun (turns last : ℕ) (c : Config) (part : ThreadPart) (text : List ℕ) : Type 0 where
   pub seen : History
   pub lines : List ℕ
+  pub board : List ℕ → Option ℕ
+  pub posted : IsOfPosts part.commands board
   pub legal : IsLegal c last seen
   pub alone : AllByRecursion IsUnbarred seen
   pub told : Moment
-  pub explained : Explained quiet turns 3 (opening_moment c last) part.commands lines told
+  pub explained : Explained (said board) turns 3 (opening_moment c last) part.commands lines told
   pub answers : AnswersAlone explained.explains
   pub left : Moment
   pub freed : IsFreed turns told left

@@ -9,7 +9,7 @@ ghost use Rattle.jr_syntax.specs.declared.command.Command.TheVariants as command
 ghost use Rattle.jr_scripts.specs.Advancing.{level_names, objects_in, place_with, DidOpen, DidWith, StandsIn, StandsWith};
 ghost use Rattle.jr_scripts.specs.Commands.{deed, opening_levels};
 ghost use Rattle.jr_scripts.specs.Places.{is_closing, is_speaking, levels_after, objects_after};
-ghost use Rattle.jr_scripts.specs.Posting.{talk_of, Speaks, StillTells};
+ghost use Rattle.jr_scripts.specs.Posting.{talk_of, Speaks, Keeps};
 ghost use Rattle.jr_scripts.specs.RegionCommands.{deed_at, deed_within};
 ghost use Rattle.jr_scripts.specs.Text.{buffers_after};
 
@@ -217,7 +217,7 @@ pub(crate) fn advance<S: Steps, B: Board>(
     ensures objects { objects_in result.region ≡ objects_after command.now result.answer (objects_in region) }
     ensures names { names.new ≡ buffers_after command.now result.answer names.old }
     ensures speaks { Speaks (talk_of B.tells B.looked turns board.new) names.old command.now result.answer }
-    ensures kept { StillTells B.tells board.old board.new }
+    ensures kept { Keeps B.layout B.tells board.old board.new }
     ensures room { room_of marker.new ≡ room_of marker.old }
 {
     match spoken(board, names, turns, command) {

@@ -1,14 +1,19 @@
 //! Runs scripts of several threads, each in a thread of its own, in one room.
 
-ghost use Rattle.std.specs.Prelude.{◌≡◌, ◌⊎◌, ◌↔◌, ◌+◌, ◌<◌, ◌^◌, All, Err, length, map, IfOk, IfErr, OnOk, OnErr};
+ghost use Rattle.std.specs.Prelude.{◌≡◌, ◌⊎◌, ◌↔◌, ◌+◌, ◌<◌, ◌^◌, [], All, Err, length, map, IfOk, IfErr, OnOk, OnErr};
 ghost use Rattle.jr_rule.specs.Passes.{known_of, ClosesAll};
 ghost use Rattle.jr_rule.specs.Rooms.{IsOfRoom};
 ghost use Rattle.jr_word.specs.declared.fault.Fault.TheVariants.{Memory, Size};
 ghost use Rattle.jr_scripts.specs.AllRuns.{CanBeRun, lines_of_parts, IsLeftInside, IsRunOfAll, RunsAll};
-ghost use Rattle.jr_scripts.specs.Jobs.{AreJobsOf, AreTold};
+ghost use Rattle.jr_scripts.specs.Jobs.{AreJobsOf, AreTold, AreToldAlike, IsOver, IsToldBy};
+ghost use Rattle.jr_scripts.specs.Layouts.{layout_of};
+ghost use Rattle.jr_scripts.specs.Posted.{AddsPosted, commands_of};
+ghost use Rattle.jr_scripts.specs.Noting.{word_noted};
+ghost use Rattle.std.specs.List.{AllByRecursion};
 
 use crate::board::Posts;
 use crate::hold::Hold;
+use crate::notes::Notes;
 use crate::part::{Job, ThreadRun};
 use crate::printed::{ending, heading};
 use crate::runnable::{FIRST_PART, can_be_run};
@@ -73,14 +78,17 @@ fn jobs_of(
     Ok(jobs)
 }
 
-/// The passes of threads that were not refused memory, and what the threads print.
-fn told(
+/// The passes of threads that were not refused memory, and what the threads print. What each of them posted and saw is among all that was.
+fn told_by<'a>(
     alloc: Global,
     parts: &[ThreadPart],
-    mut runs: Vec<ThreadRun>,
+    mut runs: Vec<ThreadRun<'a>>,
+    all: &Notes<'a>,
 ) -> Result<(Vec<Pass>, Vec<u8>), Fault>
-    requires { length runs.items ≡ length parts.now }
-    ensures ok { IfOk result (λ r. AreTold parts.now runs.items r.0.items r.1.items) }
+    requires long { length runs.items ≡ length parts.now }
+    requires over { All (IsOver (layout_of all.now.posts.now)) runs.items }
+    ensures ok { IfOk result (λ r. AreTold parts.now runs.entry.items r.0.items r.1.items) }
+    ensures noted { IfOk result (λ r. AllByRecursion (IsToldBy (word_noted all.now.posts.now.numbers.entries all.now.notes.items)) runs.entry.items) }
     ensures err { IfErr result (λ e. e ≡ Memory) }
 {
     let mut passes = Vec::new(alloc);
@@ -93,6 +101,9 @@ fn told(
         let Ok(()) = run.answer else {
             return Err(Fault::Memory);
         };
+        if !all.has_all_of(&run.notes) {
+            return Err(Fault::Memory);
+        }
         let head = heading(alloc, &part.name).map_err(out_of_memory)?;
         text.extend_from_slice(&head).map_err(out_of_memory)?;
         text.extend_from_slice(&run.text).map_err(out_of_memory)?;
@@ -102,13 +113,32 @@ fn told(
     Ok((passes, text))
 }
 
+/// The same, of threads that shared this board.
+fn told<'a>(
+    alloc: Global,
+    parts: &[ThreadPart],
+    board: &'a Posts,
+    runs: Vec<ThreadRun<'a>>,
+) -> Result<(Vec<Pass>, Vec<u8>), Fault>
+    requires long { length runs.items ≡ length parts.now }
+    requires over { All (IsOver (layout_of board.now)) runs.items }
+    ensures ok { IfOk result (λ r. AreToldAlike board.now.numbers.entries parts.now runs.entry.items r.0.items r.1.items) }
+    ensures err { IfErr result (λ e. e ≡ Memory) }
+{
+    let all = Notes::of_all(alloc, board);
+    told_by(alloc, parts, runs, &all)
+}
+
 /// A board for the names that the parts post.
 fn board_of(alloc: Global, parts: &[ThreadPart]) -> Result<Posts, Fault>
-    ensures { IfErr result (λ e. e ≡ Memory) }
+    ensures ok { IfOk result (λ board. AddsPosted (commands_of parts.now) [] board.numbers.entries) }
+    ensures err { IfErr result (λ e. e ≡ Memory) }
 {
     let mut board = Posts::new(alloc);
     for part in parts {
-        board.add(part.commands.as_slice()).map_err(out_of_memory)?;
+        let Ok(()) = board.add(part.commands.as_slice()) else {
+            return Err(Fault::Memory);
+        };
     }
     Ok(board)
 }
@@ -130,7 +160,7 @@ fn text_of_all<R: Threads + Wait, H: Hold + Sync>(
     let jobs = jobs_of(alloc, parts, passes, turns)?;
     let board = board_of(alloc, parts)?;
     let runs = run_threads(rt, alloc, &room, &board, hold, jobs)?;
-    let (mut passes, mut text) = told(alloc, parts, runs)?;
+    let (mut passes, mut text) = told(alloc, parts, &board, runs)?;
     let first = passes.remove(0);
     let summary = closed(room, first, passes)?;
     let end = ending(alloc, summary).map_err(out_of_memory)?;
@@ -142,7 +172,7 @@ fn text_of_all<R: Threads + Wait, H: Hold + Sync>(
 ///
 /// # Errors
 ///
-/// E17 exactly where the script has not one part a thread, sizes outside the limits, or lines without a number of 64 bits; E16 where memory was refused or a thread could not be started; E22 with how many threads are left inside, at least 1.
+/// E17 exactly where the script has not one part a thread, sizes outside the limits, or lines without a number of 64 bits; E16 where memory was refused, a thread could not be started, or a name was posted twice, which no script does that was read; E22 with how many threads are left inside, at least 1.
 ///
 /// The output is as it was.
 pub fn run_all<R: Threads + Wait, H: Hold + Sync>(

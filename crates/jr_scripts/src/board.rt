@@ -8,7 +8,11 @@ use std::sync::OnceLock;
 /// Where a thread posts words under names, and looks for those that were posted. What a board tells, once it does, it tells from then on.
 pub trait Board {
     ghost use Rattle.std.specs.Prelude.{ℕ, List, Option, IfSome};
-    ghost use Rattle.jr_scripts.specs.Posting.{StillTells};
+    ghost use Rattle.jr_scripts.specs.Layouts.{Layout};
+    ghost use Rattle.jr_scripts.specs.Posting.{Keeps};
+
+    /// How the board is laid out, which nothing changes.
+    ghost layout: { Self → Layout };
 
     /// This word was posted under this name.
     ghost tells: { Self → List ℕ → ℕ → Type 0 };
@@ -19,26 +23,34 @@ pub trait Board {
     /// Posts a word under a name.
     fn post(&mut self, name: &Name, word: u64)
         ensures posted { tells self.new name.now word }
-        ensures kept { StillTells tells self.old self.new };
+        ensures kept { Keeps layout tells self.old self.new };
 
     /// The word that was posted under a name, if one is seen.
     fn look(&mut self, name: &Name) -> Option<u64>
         ensures found { IfSome result (λ w. tells self.new name.now w) }
         ensures once { looked self.old name.now result self.new }
-        ensures kept { StillTells tells self.old self.new };
+        ensures kept { Keeps layout tells self.old self.new };
 }
 
-/// A board with a cell for each name that may be posted, which is written once: the first word that is posted under a name stays. To post or to look takes neither memory nor a lock, and no thread waits for another there.
+/// A board with a cell for each name that may be posted, which is written once: the first word that is posted under a name stays. No thread waits for another there.
 #[derive(Drop)]
 pub struct Posts {
-    cells: BTreeMap<Name, OnceLock<u64>>,
+    pub(crate) numbers: BTreeMap<Name, usize>,
+    pub(crate) cells: Vec<OnceLock<u64>>,
 }
 
 impl Posts {
+    ghost use Rattle.std.specs.Prelude.{◌≡◌, ◌<◌, ◌∷◌, [], Some, IfSome, OnOk, length};
+    ghost use Rattle.jr_scripts.specs.Layouts.{cell_number};
+    ghost use Rattle.jr_scripts.specs.Posted.{AddsPosted};
+
     /// A board without names; takes no memory.
-    pub fn new(alloc: Global) -> Posts {
+    pub fn new(alloc: Global) -> Posts
+        ensures { result.numbers.entries ≡ [] }
+    {
         Posts {
-            cells: BTreeMap::new(alloc),
+            numbers: BTreeMap::new(alloc),
+            cells: Vec::new(alloc),
         }
     }
 
@@ -47,45 +59,40 @@ impl Posts {
     /// # Errors
     ///
     /// Memory was refused.
-    pub fn add(&mut self, commands: &[Command]) -> Result<(), AllocError> {
+    pub fn add(&mut self, commands: &[Command]) -> Result<(), AllocError>
+        ensures { OnOk result (AddsPosted commands.now self.old.numbers.entries self.new.numbers.entries) }
+    {
         for command in commands {
-            if let Command::OnName {
-                verb: OnName::Post,
-                name,
-            } = command
-            {
-                self.cells.insert(name.copy(), OnceLock::new())?;
-            }
+            self.add_command(command)?;
         }
         Ok(())
     }
-}
 
-/// What one thread posts and sees on a board that it shares.
-#[derive(Drop)]
-pub struct Notes<'a> {
-    posts: &'a Posts,
-}
-
-impl<'a> Notes<'a> {
-    /// The notes of a thread that has posted and seen nothing.
-    pub fn new(posts: &'a Posts) -> Notes<'a> {
-        Notes { posts }
-    }
-}
-
-impl Board for Notes<'_> {
-    ghost tells = { λ board n w. Unit {0} };
-
-    ghost looked = { λ first n found last. Unit {0} };
-
-    fn post(&mut self, name: &Name, word: u64) {
-        if let Some(cell) = self.posts.cells.get(name) {
-            let _ = cell.try_set(word);
+    /// The same, of one command.
+    fn add_command(&mut self, command: &Command) -> Result<(), AllocError>
+        ensures { OnOk result (AddsPosted (command.now ∷ []) self.old.numbers.entries self.new.numbers.entries) }
+    {
+        if let Command::OnName {
+            verb: OnName::Post,
+            name,
+        } = command
+        {
+            let number = self.cells.len();
+            self.cells.push(OnceLock::new())?;
+            self.numbers.insert(name.copy(), number)?;
         }
+        Ok(())
     }
 
-    fn look(&mut self, name: &Name) -> Option<u64> {
-        self.posts.cells.get(name)?.get().copied()
+    /// The number of the cell of a name, if it has one.
+    pub(crate) fn number(&self, name: &Name) -> Option<usize>
+        ensures { IfSome result (λ i. (cell_number self.now.numbers.entries name.now ≡ Some i) × (i < length self.now.cells.items)) }
+    {
+        let number = *self.numbers.get(name)?;
+        if number < self.cells.len() {
+            Some(number)
+        } else {
+            None
+        }
     }
 }

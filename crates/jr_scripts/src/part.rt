@@ -1,11 +1,14 @@
 //! What one thread of a script does in the room that it shares.
 
 ghost use Rattle.jr_scripts.specs.AllRuns.{RanPass};
-ghost use Rattle.jr_scripts.specs.Posting.{quiet};
+ghost use Rattle.jr_scripts.specs.Layouts.{layout_of};
+ghost use Rattle.jr_scripts.specs.Noting.{talk_noted};
+ghost use Rattle.std.specs.Prelude.{◌≡◌};
 ghost use Rattle.jr_scripts.specs.Jobs.{IsForPart};
 
-use crate::board::{Notes, Posts};
+use crate::board::Posts;
 use crate::hold::Hold;
+use crate::notes::Notes;
 use crate::opening::opened_env;
 use crate::to_end::run_to_end;
 use jr_rule::{Pass, Room, RoomSteps};
@@ -22,31 +25,33 @@ pub(crate) struct Job<'a> {
     pub(crate) pass: Pass,
 }
 
-/// What a thread gives back: its pass, its lines, and whether memory was refused.
+/// What a thread gives back: its pass, its lines, whether memory was refused, and its notes of the board.
 #[derive(Drop)]
-pub(crate) struct ThreadRun {
+pub(crate) struct ThreadRun<'a> {
     pub(crate) pass: Pass,
     pub(crate) text: Vec<u8>,
     pub(crate) answer: Result<(), Fault>,
+    pub(crate) notes: Notes<'a>,
 }
 
 /// Does a job, and frees the thread's local references at its end.
-pub(crate) fn run_job<H: Hold, const LAST: u32>(
+pub(crate) fn run_job<'a, H: Hold, const LAST: u32>(
     alloc: Global,
     room: &Room<LAST>,
-    board: &Posts,
+    board: &'a Posts,
     hold: &H,
     first: usize,
     turns: u64,
     part: &ThreadPart,
     pass: Pass,
-) -> ThreadRun
+) -> ThreadRun<'a>
     requires { IsForPart room.now.row first part.now pass }
-    ensures { RanPass quiet turns first part.now.commands pass result.pass result.answer result.text.items }
+    ensures ran { RanPass (talk_noted result.notes.is_lost result.notes.posts.now.numbers.entries result.notes.notes.items) turns first part.now.commands pass result.pass result.answer result.text.items }
+    ensures over { layout_of result.notes.posts.now ≡ layout_of board.now }
 {
     let mut text = Vec::new(alloc);
     let mut env = opened_env(RoomSteps::new(room, pass));
-    let mut notes = Notes::new(board);
+    let mut notes = Notes::new(alloc, board);
     let commands = part.commands.as_slice();
     let answer = run_to_end(
         alloc, &mut env, first, commands, &mut notes, hold, turns, &mut text,
@@ -56,5 +61,6 @@ pub(crate) fn run_job<H: Hold, const LAST: u32>(
         pass: steps.into_pass(),
         text,
         answer,
+        notes,
     }
 }

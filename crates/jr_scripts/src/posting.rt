@@ -5,7 +5,7 @@ ghost use Rattle.jr_scripts.specs.declared.reply.Reply.TheVariants.{Done};
 ghost use Rattle.jr_scripts.specs.Advancing.{IsSaid};
 ghost use Rattle.jr_scripts.specs.Names.{word_posted};
 ghost use Rattle.jr_scripts.specs.Places.{is_speaking};
-ghost use Rattle.jr_scripts.specs.Posting.{reply_to_wait, talk_of, IsAwaited, IsHeard, Speaks, StillTells};
+ghost use Rattle.jr_scripts.specs.Posting.{reply_to_wait, talk_of, IsAwaited, IsHeard, Speaks, Keeps};
 ghost use Rattle.jr_syntax.specs.declared.command.Command.TheVariants as commands;
 
 use crate::board::Board;
@@ -19,7 +19,7 @@ use std::thread;
 fn post<B: Board>(board: &mut B, names: &Names, name: &Name) -> Reply
     ensures done { result ≡ Done }
     ensures posted { B.tells board.new name.now (word_posted names.now name.now) }
-    ensures kept { StillTells B.tells board.old board.new }
+    ensures kept { Keeps B.layout B.tells board.old board.new }
 {
     board.post(name, names.word(name));
     Reply::Done
@@ -28,7 +28,7 @@ fn post<B: Board>(board: &mut B, names: &Names, name: &Name) -> Reply
 /// Looks for a posted word, up to `turns` times, and lets other threads run between two looks.
 fn word_awaited<B: Board>(board: &mut B, name: &Name, turns: u64) -> Option<u64>
     ensures found { MatchOption result ((talk_of B.tells B.looked turns board.new).in_vain name.now) (λ w. B.tells board.new name.now w) }
-    ensures kept { StillTells B.tells board.old board.new }
+    ensures kept { Keeps B.layout B.tells board.old board.new }
 {
     for _ in 0..turns {
         match board.look(name) {
@@ -57,7 +57,7 @@ fn reply_of(found: Option<u64>) -> Result<Reply, Fault>
 fn wait<B: Board>(board: &mut B, name: &Name, turns: u64) -> Result<Reply, Fault>
     ensures heard { IsHeard (talk_of B.tells B.looked turns board.new) name.now result }
     ensures awaited { IsAwaited result }
-    ensures kept { StillTells B.tells board.old board.new }
+    ensures kept { Keeps B.layout B.tells board.old board.new }
 {
     reply_of(word_awaited(board, name, turns))
 }
@@ -71,7 +71,7 @@ fn awaited<B: Board>(
 ) -> Option<Result<Reply, Fault>>
     ensures said { MatchOption result (is_speaking (commands.Make verb name.now) ≡ false) (λ answer. IsSaid (commands.Make verb name.now) answer) }
     ensures heard { IfSome result (λ answer. IsHeard (talk_of B.tells B.looked turns board.new) name.now answer) }
-    ensures kept { StillTells B.tells board.old board.new }
+    ensures kept { Keeps B.layout B.tells board.old board.new }
 {
     match verb {
         Make::Wait => Some(wait(board, name, turns)),
@@ -88,7 +88,7 @@ pub(crate) fn spoken<B: Board>(
 ) -> Option<Result<Reply, Fault>>
     ensures said { MatchOption result (is_speaking command.now ≡ false) (λ answer. IsSaid command.now answer) }
     ensures speaks { IfSome result (λ answer. Speaks (talk_of B.tells B.looked turns board.new) names.now command.now answer) }
-    ensures kept { StillTells B.tells board.old board.new }
+    ensures kept { Keeps B.layout B.tells board.old board.new }
 {
     match command {
         Command::OnName { name, .. } => Some(Ok(post(board, names, name))),

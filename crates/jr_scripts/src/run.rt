@@ -6,7 +6,7 @@ ghost use Rattle.jr_weak.specs.Markers.{room_of};
 ghost use Rattle.jr_env.specs.Collections.{FitsRoom};
 ghost use Rattle.jr_env.specs.Envs.{IsOutside};
 ghost use Rattle.jr_scripts.specs.Text.{sets, names_set, standing_made as made_to_stand};
-ghost use Rattle.jr_scripts.specs.Posting.{talk_of, StillTells};
+ghost use Rattle.jr_scripts.specs.Posting.{talk_of, Keeps};
 ghost use Rattle.jr_scripts.specs.Runs.{RanThread, WritesDown};
 
 use crate::advance::{Left, advance};
@@ -109,7 +109,7 @@ pub fn run_thread<S: Steps, B: Board, H: Hold>(
     requires outside { IsOutside env.old }
     requires room { FitsRoom marker.old env.old }
     ensures explained { (text : List ℕ) × (out.new.items ≡ out.old.items ++ text) × RanThread env.old env.new (talk_of B.tells B.looked turns board.new) turns first commands.now result text }
-    ensures kept { StillTells B.tells board.old board.new }
+    ensures kept { Keeps B.layout B.tells board.old board.new }
     ensures outside { IsOutside env.new }
     ensures memory { IfErr result (λ e. e ≡ Memory) }
     ensures room { room_of marker.new ≡ room_of marker.old }

@@ -5,8 +5,9 @@ ghost use Rattle.jr_word.specs.declared.fault.Fault.TheVariants.{Memory, Size};
 ghost use Rattle.jr_word.specs.Config.{in_limits};
 ghost use Rattle.jr_scripts.specs.Runs.{IsRun, IsSingle, RunsSingle};
 
-use crate::board::{Notes, Posts};
+use crate::board::Posts;
 use crate::hold::NoHold;
+use crate::notes::Notes;
 use crate::opening::opened_env;
 use crate::printed::{ending, heading};
 use crate::to_end::run_to_end;
@@ -39,18 +40,24 @@ fn run_part(alloc: Global, config: Config, part: &ThreadPart, turns: u64) -> Res
     let steps = PlainSteps::<LAST>::new(alloc, config)?;
     let mut env = opened_env(steps);
     let commands = part.commands.as_slice();
-    let mut board = Posts::new(alloc);
-    board.add(commands).map_err(out_of_memory)?;
+    let mut posts = Posts::new(alloc);
+    let Ok(()) = posts.add(commands) else {
+        return Err(Fault::Memory);
+    };
+    let mut notes = Notes::new(alloc, &posts);
     run_to_end(
         alloc,
         &mut env,
         FIRST_COMMAND,
         commands,
-        &mut Notes::new(&board),
+        &mut notes,
         &NoHold,
         turns,
         &mut text,
     )?;
+    if notes.is_lost {
+        return Err(Fault::Memory);
+    }
     let summary = env.held.steps.summary();
     let end = ending(alloc, summary).map_err(out_of_memory)?;
     text.extend_from_slice(&end).map_err(out_of_memory)?;
@@ -61,7 +68,7 @@ fn run_part(alloc: Global, config: Config, part: &ThreadPart, turns: u64) -> Res
 ///
 /// # Errors
 ///
-/// E17 exactly where the script has not one thread, or sizes outside the limits; E16 where memory was refused.
+/// E17 exactly where the script has not one thread, or sizes outside the limits; E16 where memory was refused, or a name was posted twice, which no script does that was read.
 ///
 /// The output is as it was.
 pub fn run_one(alloc: Global, script: &Script, turns: u64, out: &mut Vec<u8>) -> Result<(), Fault>

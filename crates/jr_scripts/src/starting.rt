@@ -1,12 +1,12 @@
 //! Starts the threads of a script, and joins them.
 
 ghost use Rattle.std.specs.Prelude.{◌≡◌, Err, IfSome, MatchResult, All};
-ghost use Rattle.std.specs.List.{AllZip};
 ghost use Rattle.jr_word.specs.declared.fault.Fault.TheVariants.{Memory};
-ghost use Rattle.jr_scripts.specs.Jobs.{HasRun, IsFor, IsForPart};
+ghost use Rattle.jr_scripts.specs.Jobs.{HaveRun, IsFor, IsForPart};
 ghost use Rattle.jr_scripts.specs.AllRuns.{RanPass};
 ghost use Rattle.jr_scripts.specs.Given.{IsGiven};
-ghost use Rattle.jr_scripts.specs.Posting.{quiet};
+ghost use Rattle.jr_scripts.specs.Layouts.{layout_of};
+ghost use Rattle.jr_scripts.specs.Noting.{talk_noted};
 
 use crate::board::Posts;
 use crate::hold::Hold;
@@ -27,23 +27,25 @@ pub(crate) struct Doing<'a> {
     turns: u64,
     part: &'a ThreadPart,
     pass: Snapshot<Pass>,
+    board: &'a Posts,
 }
 
-impl<'a> Promise<ThreadRun> for Doing<'a> {
-    ghost kept_by = { λ p r. RanPass quiet p.turns p.first p.part.now.commands p.pass.value r.pass r.answer r.text.items };
+impl<'a, 'b> Promise<ThreadRun<'b>> for Doing<'a> {
+    ghost kept_by = { λ p r. RanPass (talk_noted r.notes.is_lost r.notes.posts.now.numbers.entries r.notes.notes.items) p.turns p.first p.part.now.commands p.pass.value r.pass r.answer r.text.items × (layout_of r.notes.posts.now ≡ layout_of p.board.now) };
 }
 
 /// Does a job in a thread of its own, where one can be started.
-fn start<'s, E, H: Hold + Sync, const LAST: u32>(
+fn start<'s, 'b: 's, E, H: Hold + Sync, const LAST: u32>(
     alloc: Global,
     scope: &Scope<'s, E>,
     room: &'s Room<LAST>,
-    board: &'s Posts,
+    board: &'b Posts,
     hold: &'s H,
     job: Job<'s>,
-) -> Option<PromisedHandle<ThreadRun, Doing<'s>>>
+) -> Option<PromisedHandle<ThreadRun<'b>, Doing<'s>>>
     requires { IsFor room.now.row job }
-    ensures { IfSome result (λ h. IsGiven h.promise job.entry) }
+    ensures given { IfSome result (λ h. IsGiven h.promise job.entry) }
+    ensures over { IfSome result (λ h. h.promise.board.now ≡ board.now) }
 {
     let Job {
         first,
@@ -56,19 +58,20 @@ fn start<'s, E, H: Hold + Sync, const LAST: u32>(
         turns,
         part,
         pass: Snapshot::of(&pass),
+        board,
     };
     let there = move || -> ThreadRun
         requires { IsForPart room.now.row first part.now pass }
-        ensures { RanPass quiet turns first part.entry.now.commands pass result.pass result.answer result.text.items }
+        ensures { RanPass (talk_noted result.notes.is_lost result.notes.posts.now.numbers.entries result.notes.notes.items) turns first part.entry.now.commands pass result.pass result.answer result.text.items × (layout_of result.notes.posts.now ≡ layout_of board.entry.now) }
     { run_job(alloc, room, board, hold, first, turns, part, pass) };
     scope.spawn_with(promise, there).ok()
 }
 
 /// Joins the threads, and gives up.
-fn given_up<'s, R: Threads>(
+fn given_up<'s, 'b, R: Threads>(
     rt: &R,
-    handles: Vec<PromisedHandle<ThreadRun, Doing<'s>>>,
-) -> Result<Vec<ThreadRun>, Fault>
+    handles: Vec<PromisedHandle<ThreadRun<'b>, Doing<'s>>>,
+) -> Result<Vec<ThreadRun<'b>>, Fault>
     ensures { result ≡ Err Memory }
 {
     for handle in handles {
@@ -78,17 +81,17 @@ fn given_up<'s, R: Threads>(
 }
 
 /// Does jobs, each in a thread of its own.
-fn run_jobs<'s, E, H: Hold + Sync, const LAST: u32, R: Threads>(
+fn run_jobs<'s, 'b: 's, E, H: Hold + Sync, const LAST: u32, R: Threads>(
     rt: &R,
     alloc: Global,
     scope: &Scope<'s, E>,
     room: &'s Room<LAST>,
-    board: &'s Posts,
+    board: &'b Posts,
     hold: &'s H,
     mut jobs: Vec<Job<'s>>,
-) -> Result<Vec<ThreadRun>, Fault>
+) -> Result<Vec<ThreadRun<'b>>, Fault>
     requires { All (λ j. IsFor room.now.row j) jobs.items }
-    ensures { MatchResult result (λ runs. AllZip HasRun jobs.entry.items runs.items) (λ e. e ≡ Memory) }
+    ensures { MatchResult result (λ runs. HaveRun (layout_of board.now) jobs.entry.items runs.items) (λ e. e ≡ Memory) }
 {
     let mut handles = Vec::new(alloc);
     while !jobs.is_empty() {
@@ -115,16 +118,16 @@ pub(crate) fn run_threads<'a, H: Hold + Sync, const LAST: u32, R: Threads + Wait
     board: &'a Posts,
     hold: &'a H,
     jobs: Vec<Job<'a>>,
-) -> Result<Vec<ThreadRun>, Fault>
+) -> Result<Vec<ThreadRun<'a>>, Fault>
     requires { All (λ j. IsFor room.now.row j) jobs.items }
-    ensures { MatchResult result (λ runs. AllZip HasRun jobs.entry.items runs.items) (λ e. e ≡ Memory) }
+    ensures { MatchResult result (λ runs. HaveRun (layout_of board.now) jobs.entry.items runs.items) (λ e. e ≡ Memory) }
 {
     thread::scope(
         thread::scope_env(),
         rt,
         move |scope| -> Result<Vec<ThreadRun>, Fault>
             requires { All (λ j. IsFor room.now.row j) jobs.items }
-            ensures { MatchResult result (λ runs. AllZip HasRun jobs.entry.items runs.items) (λ e. e ≡ Memory) }
+            ensures { MatchResult result (λ runs. HaveRun (layout_of board.entry.now) jobs.entry.items runs.items) (λ e. e ≡ Memory) }
         { run_jobs(rt, alloc, scope, room, board, hold, jobs) },
     )
 }

@@ -3,7 +3,7 @@
 ghost use Rattle.std.specs.Prelude.{◌≡◌, ◌++◌, ◌+◌, ◌<◌, ◌^◌, List, ℕ, IfErr, length};
 ghost use Rattle.jr_word.specs.declared.fault.Fault.TheVariants.{Memory};
 ghost use Rattle.jr_env.specs.Envs.{IsOutside};
-ghost use Rattle.jr_scripts.specs.Posting.{talk_of, StillTells};
+ghost use Rattle.jr_scripts.specs.Posting.{talk_of, Keeps};
 ghost use Rattle.jr_scripts.specs.Runs.{RanThread, RanToEnd};
 
 use crate::board::Board;
@@ -32,7 +32,7 @@ fn run_with_marker<S: Steps, B: Board, H: Hold>(
     requires lines { first + length commands.now < 2 ^ 64 }
     requires outside { IsOutside env.old }
     ensures explained { (text : List ℕ) × (out.new.items ≡ out.old.items ++ text) × RanThread env.old env.new (talk_of B.tells B.looked turns board.new) turns first commands.now result text }
-    ensures kept { StillTells B.tells board.old board.new }
+    ensures kept { Keeps B.layout B.tells board.old board.new }
     ensures outside { IsOutside env.new }
     ensures memory { IfErr result (λ e. e ≡ Memory) }
 {
@@ -72,7 +72,7 @@ pub fn run_to_end<S: Steps, B: Board, H: Hold>(
     requires lines { first + length commands.now < 2 ^ 64 }
     requires outside { IsOutside env.old }
     ensures ended { (text : List ℕ) × (out.new.items ≡ out.old.items ++ text) × RanToEnd env.old env.new (talk_of B.tells B.looked turns board.new) turns first commands.now result text }
-    ensures kept { StillTells B.tells board.old board.new }
+    ensures kept { Keeps B.layout B.tells board.old board.new }
     ensures outside { IsOutside env.new }
     ensures memory { IfErr result (λ e. e ≡ Memory) }
 {

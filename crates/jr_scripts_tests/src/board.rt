@@ -1,11 +1,12 @@
 //! What threads post to each other.
 
-use crate::printing::{BEFORE, prints};
-use crate::scripts::name_of;
+use crate::printing::{BEFORE, TURNS, prints};
+use crate::scripts::{SIZES, name_of};
 use crate::threads::HANDED_OVER;
-use jr_scripts::{Board, NoHold, Notes, Posts, run_all};
-use jr_syntax::{Command, OnName, parse};
+use jr_scripts::{Board, NoHold, Notes, Posts, run_all, run_one};
+use jr_syntax::{Command, OnName, Script, Sequence, ThreadPart, parse};
 use jr_word::Fault;
+use std::alloc::Global;
 use std::test::Fail;
 
 /// A command that posts a name.
@@ -37,14 +38,14 @@ fn each_name_has_a_word_of_its_own(rt: HostRuntime) -> Result<(), Fail> {
     ];
     let mut posts = Posts::new(alloc);
     posts.add(&commands)?;
-    let mut notes = Notes::new(&posts);
+    let mut notes = Notes::new(alloc, &posts);
     for name in &names {
         assert_eq!(rt; notes.look(name), None);
     }
     for (i, name) in names.iter().enumerate() {
         notes.post(name, i as u64);
     }
-    let mut others = Notes::new(&posts);
+    let mut others = Notes::new(alloc, &posts);
     for (i, name) in names.iter().enumerate() {
         assert_eq!(rt; notes.look(name), Some(i as u64));
         assert_eq!(rt; others.look(name), Some(i as u64));
@@ -54,21 +55,56 @@ fn each_name_has_a_word_of_its_own(rt: HostRuntime) -> Result<(), Fail> {
 
 #[test]
 fn the_first_word_of_a_name_stays(rt: HostRuntime) -> Result<(), Fail> {
-    let mut posts = Posts::new(rt.alloc());
+    let alloc = rt.alloc();
+    let mut posts = Posts::new(alloc);
     let name = name_of(b"g")?;
     posts.add(&[posting(b"g")?])?;
-    let mut notes = Notes::new(&posts);
+    let mut notes = Notes::new(alloc, &posts);
     notes.post(&name, 0);
     notes.post(&name, 6);
     assert_eq!(rt; notes.look(&name), Some(0));
     Ok(())
 }
 
+/// A script of one thread that posts a name twice; none that is read does.
+fn posting_twice(alloc: Global) -> Result<Script, Fail> {
+    let mut commands = Sequence::new(alloc);
+    commands.push(posting(b"g")?)?;
+    commands.push(posting(b"g")?)?;
+    let mut threads = Sequence::new(alloc);
+    threads.push(ThreadPart {
+        name: name_of(b"a")?,
+        commands,
+    })?;
+    Ok(Script {
+        config: SIZES,
+        threads,
+    })
+}
+
+#[test]
+fn a_second_post_of_a_name_gives_the_run_up(rt: HostRuntime) -> Result<(), Fail> {
+    let alloc = rt.alloc();
+    let script = posting_twice(alloc)?;
+    let mut out = Vec::from_slice(alloc, BEFORE)?;
+    assert_eq!(rt;
+        run_all(&rt, alloc, &script, &NoHold, TURNS, &mut out),
+        Err(Fault::Memory)
+    );
+    assert_eq!(rt;
+        run_one(alloc, &script, TURNS, &mut out),
+        Err(Fault::Memory)
+    );
+    assert_eq!(rt; out.as_slice(), BEFORE);
+    Ok(())
+}
+
 #[test]
 fn a_name_without_a_cell_is_not_posted(rt: HostRuntime) -> Result<(), Fail> {
-    let mut posts = Posts::new(rt.alloc());
+    let alloc = rt.alloc();
+    let mut posts = Posts::new(alloc);
     posts.add(&[posting(b"g")?])?;
-    let mut notes = Notes::new(&posts);
+    let mut notes = Notes::new(alloc, &posts);
     let other = name_of(b"ga")?;
     notes.post(&other, 6);
     assert_eq!(rt; notes.look(&other), None);

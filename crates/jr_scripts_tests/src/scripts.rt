@@ -91,7 +91,7 @@ fn run_from_line_10<S: Steps>(
         &mut marker,
         10,
         commands,
-        &mut Notes::new(&board),
+        &mut Notes::new(alloc, &board),
         &NoHold,
         turns,
         out,

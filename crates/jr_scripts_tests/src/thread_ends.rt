@@ -28,7 +28,7 @@ fn a_thread_without_turns_keeps_its_locals(rt: HostRuntime) -> Result<(), Fail> 
     let mut env = plain_env(alloc)?;
     let local = env.new_plain()?;
     let posts = Posts::new(alloc);
-    let mut notes = Notes::new(&posts);
+    let mut notes = Notes::new(alloc, &posts);
     let mut out = Vec::from_slice(alloc, BEFORE)?;
     run_to_end(alloc, &mut env, 3, &[], &mut notes, &NoHold, 0, &mut out)?;
     assert_eq!(rt; env.get_object_ref_type(local)?, 1);

@@ -1,7 +1,7 @@
 use Rattle.std.proofs.Common.{◌≡◌, take}
 use Rattle.jr_weak.specs.Markers.{room_of}
 use Rattle.jr_scripts.specs.Advancing.{StandsWith}
-use Rattle.jr_scripts.specs.Posting.{StillTells, talk_of}
+use Rattle.jr_scripts.specs.Posting.{Keeps, talk_of}
 use Rattle.jr_scripts.proofs.CommandLoop.{Going}
 use Rattle.jr_scripts.proofs.run.run_thread.Given as goal
 
@@ -10,4 +10,4 @@ invariant-loop-i g l =
     Going g.S.Steps.facts l.fn.env.held.steps l.env.held.steps l.fn.env.held.frames.frames l.env.held.frames.frames (talk_of g.B.Board.tells g.B.Board.looked l.turns l.board) l.turns l.first (take l.i l.commands) l.fn.out.items l.out.items l.names l.region
     × StandsWith l.region l.env
     × (room_of l.marker ≡ room_of l.fn.marker)
-    × StillTells g.B.Board.tells l.fn.board l.board
+    × Keeps g.B.Board.layout g.B.Board.tells l.fn.board l.board
