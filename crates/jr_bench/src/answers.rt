@@ -3,7 +3,7 @@
 use crate::beside::{BESIDE, Task, Tries, is_right};
 use crate::case::{CASES, Case};
 use crate::collections::{Collections, WAYS, time_of};
-use crate::round::{Work, round};
+use crate::round::{Done, Job, Work, round};
 use std::alloc::Global;
 use std::io;
 use std::rt::Clock;
@@ -23,8 +23,10 @@ fn right<R: Threads + Clock + Sync>(rt: &R, alloc: Global, case: Case, threads: 
         calls: CALLS,
     };
     let mut right = 0usize;
-    for done in round(rt, alloc, case, work).iter().flatten().flatten() {
-        right = right.saturating_add(done.right);
+    for done in round(rt, alloc, Job::Calls(case, work)).iter().flatten() {
+        if let Some(Done::Called(called)) = *done {
+            right = right.saturating_add(called.right);
+        }
     }
     right
 }
@@ -42,7 +44,7 @@ pub(crate) fn print<R: Threads + Clock + Print + Sync>(rt: &R, alloc: Global) ->
 }
 
 /// Prints whether collections answered as they should.
-fn print_collections<R: Clock + Print>(rt: &R, alloc: Global) -> io::Result<()> {
+fn print_collections<R: Threads + Clock + Print + Sync>(rt: &R, alloc: Global) -> io::Result<()> {
     for (every, reached) in [(0, "all"), (2, "half"), (1, "none")] {
         let work = Collections {
             arrays: CALLS,

@@ -1,6 +1,7 @@
 //! The calls at arrays.
 
-use crate::case::{Env, make_each};
+use crate::calls::{Call, make_each};
+use crate::case::Env;
 use jr_steps::Steps;
 use jr_word::{Fault, Handle};
 
@@ -36,19 +37,53 @@ impl ArrayCase {
     /// Makes the call with each of the handles: how often it answered as it should.
     pub(crate) fn make_all<S: Steps>(self, env: &mut Env<S>, handed: &[Handle]) -> usize {
         match self {
-            ArrayCase::Length => make_each(env, handed, |env, _, at| {
-                matches!(env.get_array_length(at), Ok(LONG))
-            }),
+            ArrayCase::Length => make_each(env, handed, Length),
             ArrayCase::CopyOut(length) => copy_out_each(env, handed, length),
             ArrayCase::CopyIn(length) => copy_in_each(env, handed, length),
-            ArrayCase::New => make_each(env, handed, |env, _, _| is_made(env)),
-            ArrayCase::GetElement => make_each(env, handed, |env, _, at| {
-                matches!(env.get_object_array_element(at, 0), Ok(Some(_)))
-            }),
-            ArrayCase::SetElement => make_each(env, handed, |env, _, at| {
-                env.set_object_array_element(at, 0, at).is_ok()
-            }),
+            ArrayCase::New => make_each(env, handed, New),
+            ArrayCase::GetElement => make_each(env, handed, GetElement),
+            ArrayCase::SetElement => make_each(env, handed, SetElement),
         }
+    }
+}
+
+/// The length of an array.
+#[derive(Clone, Copy)]
+struct Length;
+
+impl Call for Length {
+    fn is_right<S: Steps>(&self, env: &mut Env<S>, _first: Handle, at: Handle) -> bool {
+        matches!(env.get_array_length(at), Ok(LONG))
+    }
+}
+
+/// A new array.
+#[derive(Clone, Copy)]
+struct New;
+
+impl Call for New {
+    fn is_right<S: Steps>(&self, env: &mut Env<S>, _first: Handle, _at: Handle) -> bool {
+        is_made(env)
+    }
+}
+
+/// An element of an array of references.
+#[derive(Clone, Copy)]
+struct GetElement;
+
+impl Call for GetElement {
+    fn is_right<S: Steps>(&self, env: &mut Env<S>, _first: Handle, at: Handle) -> bool {
+        matches!(env.get_object_array_element(at, 0), Ok(Some(_)))
+    }
+}
+
+/// An element of an array of references is set.
+#[derive(Clone, Copy)]
+struct SetElement;
+
+impl Call for SetElement {
+    fn is_right<S: Steps>(&self, env: &mut Env<S>, _first: Handle, at: Handle) -> bool {
+        env.set_object_array_element(at, 0, at).is_ok()
     }
 }
 

@@ -1,25 +1,19 @@
 //! How many collections come in beside threads that call without a break.
 
-ghost use Rattle.jr_rule.specs.Passes.{IsOpened};
-
 use crate::arrays::ArrayCase;
 use crate::case::{Case, Env};
 use crate::collections::{WAYS, Way};
-use crate::round::all_came;
-use jr_rule::{Pass, Room, RoomSteps};
+use crate::round::{Done, Job, Signs, all_came, round};
 use jr_steps::Steps;
 use jr_weak::Marker;
 use jr_word::{Config, Fault, Handle};
 use std::alloc::Global;
 use std::hint::spin_loop;
+use std::io;
 use std::rt::Clock;
-use std::sync::atomic::{AtomicBool, AtomicU64, Ordering};
+use std::sync::atomic::{AtomicBool, Ordering};
 use std::thread::Threads;
 use std::time::{Duration, Instant};
-use std::{io, thread};
-
-/// The last serial of a slot and of a local place.
-const LAST: u32 = 4_294_967_295;
 
 /// How many slots and objects the room has, and how many local places each thread.
 const FEW: u32 = 256;
@@ -103,9 +97,9 @@ impl Tally {
     };
 }
 
-/// What a thread did in a round.
+/// What a thread did, which tried collections or called meanwhile.
 #[derive(Clone, Copy)]
-struct Done {
+pub(crate) struct Tried {
     /// What its tries came to.
     tally: Tally,
     /// How long it ran.
@@ -118,7 +112,7 @@ impl Tries {
     }
 
     /// The sizes of the room.
-    fn config(self) -> Config {
+    pub(crate) fn config(self) -> Config {
         Config {
             threads: self.threads(),
             slots: FEW,
@@ -149,7 +143,7 @@ fn try_each<R: Clock, S: Steps>(
     alloc: Global,
     env: &mut Env<S>,
     task: Task,
-) -> Option<Done> {
+) -> Option<Tried> {
     let began = Instant::now(rt).ok()?;
     let (mut came_in, mut busy, mut moved) = (0u32, 0u32, 0u32);
     for _ in 0..task.tries.count {
@@ -167,7 +161,7 @@ fn try_each<R: Clock, S: Steps>(
         moved,
     };
     let ran = began.elapsed(rt).ok()?;
-    Some(Done { tally, ran })
+    Some(Tried { tally, ran })
 }
 
 /// Calls without a break until the tries have ended: how long it ran.
@@ -194,53 +188,45 @@ fn call_on<R: Clock, S: Steps>(
     Some(ran)
 }
 
-/// What one thread of a round does: the first tries collections, and the others call until it has ended.
-fn work_one<R: Clock>(
-    rt: &R,
-    alloc: Global,
-    room: &Room<LAST>,
-    pass: Pass,
-    task: Task,
-    came: &AtomicU64,
-    ended: &AtomicBool,
-) -> Option<Done>
-    requires { IsOpened room.now.row pass }
-{
-    let mut env = Env::new(RoomSteps::new(room, pass)).ok()?;
-    let Beside { case, calls } = task.beside;
-    let handed = case.handed(&mut env, alloc, calls);
-    let have_come = all_came(came, task.tries.threads());
-    if env.held.steps.thread() == 0 {
-        let done = try_each(rt, alloc, &mut env, task);
-        ended.store(true, Ordering::SeqCst);
-        return if have_come { done } else { None };
+impl Task {
+    /// What one thread of a round does: the first tries collections, and the others call until it has ended.
+    pub(crate) fn act<R: Clock, S: Steps>(
+        self,
+        rt: &R,
+        alloc: Global,
+        env: &mut Env<S>,
+        signs: &Signs,
+    ) -> Option<Tried> {
+        let Beside { case, calls } = self.beside;
+        let handed = case.handed(env, alloc, calls);
+        let have_come = all_came(signs, self.tries.threads());
+        if env.held.steps.thread() == 0 {
+            let tried = try_each(rt, alloc, env, self);
+            signs.ended.store(true, Ordering::SeqCst);
+            return if have_come { tried } else { None };
+        }
+        let ran = call_on(rt, alloc, env, case, &handed?, &signs.ended)?;
+        Some(Tried {
+            tally: Tally::NONE,
+            ran,
+        })
     }
-    let ran = call_on(rt, alloc, &mut env, case, &handed?, ended)?;
-    Some(Done {
-        tally: Tally::NONE,
-        ran,
-    })
 }
 
-/// A round in a room of its own: what each thread did.
-fn round<R: Threads + Clock + Sync>(
-    rt: &R,
-    alloc: Global,
-    task: Task,
-) -> Option<Vec<Option<Done>>> {
-    let (room, passes) = Room::<LAST>::open(alloc, task.tries.config()).ok()?;
-    let (came, ended) = (AtomicU64::new(0), AtomicBool::new(false));
-    let (room, came, ended) = (&room, &came, &ended);
-    let work_each = |pass| work_one(rt, alloc, room, pass, task, came, ended);
-    thread::map_vec(rt, passes, &work_each).ok()
+/// What a thread did, unless it gave up.
+fn tried_of(done: &Option<Done>) -> Option<Tried> {
+    match *done {
+        Some(Done::Tried(tried)) => Some(tried),
+        _ => None,
+    }
 }
 
 /// What the tries of a round came to, and whether all threads ran for three quarters of its time.
 fn tally_of(done: &[Option<Done>]) -> Option<(Tally, bool)> {
-    let first = (*done.first()?)?;
+    let first = tried_of(done.first()?)?;
     let mut have_run = true;
     for one in done {
-        let ran = (*one)?.ran;
+        let ran = tried_of(one)?.ran;
         have_run = have_run && ran.saturating_mul(4) >= first.ran.saturating_mul(3);
     }
     Some((first.tally, have_run))
@@ -248,7 +234,7 @@ fn tally_of(done: &[Option<Done>]) -> Option<(Tally, bool)> {
 
 /// Whether each try of a round was a collection, or was refused as it may be.
 pub(crate) fn is_right<R: Threads + Clock + Sync>(rt: &R, alloc: Global, task: Task) -> bool {
-    round(rt, alloc, task).is_some_and(|done| tally_of(&done).is_some())
+    round(rt, alloc, Job::Beside(task)).is_some_and(|done| tally_of(&done).is_some())
 }
 
 /// Prints a line for each call and each way: of the rounds that count, in which all threads ran, what the tries came to in the one with the median of the collections that came in, and how many rounds these are.
@@ -276,7 +262,7 @@ fn tallies_of<R: Threads + Clock + Sync>(
 ) -> io::Result<Vec<Tally>> {
     let mut tallies = Vec::new(alloc);
     for _ in 0..rounds {
-        let Some(done) = round(rt, alloc, task) else {
+        let Some(done) = round(rt, alloc, Job::Beside(task)) else {
             continue;
         };
         if let Some((tally, true)) = tally_of(&done) {

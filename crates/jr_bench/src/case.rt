@@ -1,6 +1,10 @@
-//! The calls that are made, and what each is to answer.
+//! The cases: which call is made, and what it is handed.
 
 use crate::arrays::ArrayCase;
+use crate::calls::{
+    DeleteGlobal, DeleteLocal, DeleteWeak, NewGlobal, NewLocal, NewPlain, NewWeak, Same,
+    TypeOfGlobal, TypeOfNull, make_each,
+};
 use crate::copies::CopyCase;
 use crate::criticals::CriticalCase;
 pub(crate) use jr_env::Env;
@@ -34,9 +38,6 @@ pub(crate) enum FrameCase {
     OfFour,
     FreeOne,
 }
-
-/// How many local references a frame is asked to have room for.
-const CAPACITY: u32 = 16;
 
 /// Each case with its name. The first does nothing between the entry and the exit.
 pub(crate) const CASES: [(Case, &'static str); 31] = [
@@ -154,87 +155,20 @@ impl Case {
         handed: &[Handle],
     ) -> usize {
         match self {
-            Case::TypeOfNull => make_each(env, handed, |env, _, at| {
-                matches!(env.get_object_ref_type(at), Ok(0))
-            }),
-            Case::NewPlain => make_each(env, handed, |env, _, _| env.new_plain().is_ok()),
-            Case::NewGlobal => make_each(env, handed, |env, _, at| {
-                matches!(env.new_global_ref(at), Ok(Some(_)))
-            }),
-            Case::DeleteGlobal => make_each(env, handed, |env, _, at| {
-                env.delete_global_ref(at).is_ok()
-            }),
-            Case::NewWeak => make_each(env, handed, |env, _, at| {
-                matches!(env.new_weak_global_ref(at), Ok(Some(_)))
-            }),
-            Case::DeleteWeak => make_each(env, handed, |env, _, at| {
-                env.delete_weak_global_ref(at).is_ok()
-            }),
-            Case::NewLocal => make_each(env, handed, |env, _, at| {
-                matches!(env.new_local_ref(at), Ok(Some(_)))
-            }),
-            Case::DeleteLocal => make_each(env, handed, |env, _, at| {
-                env.delete_local_ref(at).is_ok()
-            }),
-            Case::Same => make_each(env, handed, |env, first, at| {
-                matches!(env.is_same_object(first, at), Ok(true))
-            }),
-            Case::TypeOfGlobal => make_each(env, handed, |env, _, at| {
-                matches!(env.get_object_ref_type(at), Ok(2))
-            }),
+            Case::TypeOfNull => make_each(env, handed, TypeOfNull),
+            Case::NewPlain => make_each(env, handed, NewPlain),
+            Case::NewGlobal => make_each(env, handed, NewGlobal),
+            Case::DeleteGlobal => make_each(env, handed, DeleteGlobal),
+            Case::NewWeak => make_each(env, handed, NewWeak),
+            Case::DeleteWeak => make_each(env, handed, DeleteWeak),
+            Case::NewLocal => make_each(env, handed, NewLocal),
+            Case::DeleteLocal => make_each(env, handed, DeleteLocal),
+            Case::Same => make_each(env, handed, Same),
+            Case::TypeOfGlobal => make_each(env, handed, TypeOfGlobal),
             Case::Frames(case) => case.make_all(env, handed),
             Case::Arrays(case) => case.make_all(env, handed),
             Case::Copies(case) => case.make_all(env, alloc, handed),
             Case::Criticals(case) => case.make_all(env, handed),
         }
     }
-}
-
-impl FrameCase {
-    /// Makes the calls with each of the handles: how often they answered as they should.
-    fn make_all<S: Steps>(self, env: &mut Env<S>, handed: &[Handle]) -> usize {
-        match self {
-            FrameCase::Empty => make_each(env, handed, |env, _, at| {
-                env.ensure_local_capacity(CAPACITY).is_ok()
-                    && env.push_local_frame(CAPACITY).is_ok()
-                    && matches!(env.pop_local_frame(at), Ok(None))
-            }),
-            FrameCase::OfFour => make_each(env, handed, |env, _, at| {
-                frame_of_four(env, at).is_some()
-            }),
-            FrameCase::FreeOne => make_each(env, handed, |env, _, at| {
-                matches!(env.new_local_ref(at), Ok(Some(_))) && env.free_locals().is_ok()
-            }),
-        }
-    }
-}
-
-/// A frame with four local references to what a reference names, whose result is one more and is deleted.
-fn frame_of_four<S: Steps>(env: &mut Env<S>, handle: Handle) -> Option<()> {
-    env.push_local_frame(CAPACITY).ok()?;
-    for _ in 0..4 {
-        env.new_local_ref(handle).ok()??;
-    }
-    let kept = env.pop_local_frame(handle).ok()??;
-    env.delete_local_ref(kept).ok()
-}
-
-/// Makes a call with the first handle and each of them: how often it answered as it should.
-pub(crate) fn make_each<E, F: Fn(&mut E, Handle, Handle) -> bool>(
-    env: &mut E,
-    handed: &[Handle],
-    call: F,
-) -> usize
-    requires { F.IsAlwaysCallable call }
-{
-    let Some(first) = handed.first() else {
-        return 0;
-    };
-    let mut right = 0;
-    for handle in handed {
-        if call(env, *first, *handle) {
-            right += 1;
-        }
-    }
-    right
 }

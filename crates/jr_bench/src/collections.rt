@@ -1,22 +1,18 @@
 //! How long a collection takes, announced or not.
 
-ghost use Rattle.std.specs.Prelude.{All};
-ghost use Rattle.jr_rule.specs.Passes.{IsOpened};
 ghost use Rattle.jr_env.specs.Collections.{FitsRoom};
 
 use crate::case::Env;
 use crate::measure::print_times;
-use jr_rule::{Pass, Room, RoomSteps};
+use crate::round::{Done, Job, round};
 use jr_steps::Steps;
 use jr_weak::{Collected, Marker};
 use jr_word::{Config, Fault};
 use std::alloc::Global;
 use std::io;
 use std::rt::Clock;
+use std::thread::Threads;
 use std::time::Instant;
-
-/// The last serial of a slot and of a local place.
-const LAST: u32 = 4_294_967_295;
 
 /// How many elements each array has.
 const LENGTH: u32 = 16;
@@ -69,7 +65,7 @@ pub(crate) struct Collections {
 
 impl Collections {
     /// The sizes of a room that just these arrays fill.
-    fn config(self) -> Config {
+    pub(crate) fn config(self) -> Config {
         Config {
             threads: 1,
             slots: self.arrays,
@@ -101,51 +97,41 @@ impl Collections {
             used: reached.saturating_mul(LENGTH),
         }
     }
-}
-
-/// The env over the last of the passes.
-fn env_of<'a>(room: &'a Room<LAST>, passes: &mut Vec<Pass>) -> Option<Env<RoomSteps<'a, LAST>>>
-    requires { All (λ p. IsOpened room.now.row p) passes.old.items }
-{
-    let pass = passes.pop()?;
-    Env::new(RoomSteps::new(room, pass)).ok()
-}
-
-/// How long a collection by the env took, in tenths of nanoseconds: none where it did not answer as it should.
-fn time_in<R: Clock, S: Steps>(
-    rt: &R,
-    alloc: Global,
-    env: &mut Env<S>,
-    work: Collections,
-    way: Way,
-) -> Option<u128> {
-    let wanted = work.answer(work.fill(env)?);
-    let mut marker = Marker::new(alloc, env.held.steps.config()).ok()?;
-    let began = Instant::now(rt).ok()?;
-    let collected = way.collect(env, &mut marker);
-    let ended = Instant::now(rt).ok()?;
-    if collected != Ok(wanted) {
-        return None;
+    /// How long a collection by the env takes, in tenths of nanoseconds: none where it does not answer as it should.
+    pub(crate) fn time_in<R: Clock, S: Steps>(
+        self,
+        rt: &R,
+        alloc: Global,
+        env: &mut Env<S>,
+        way: Way,
+    ) -> Option<u128> {
+        let wanted = self.answer(self.fill(env)?);
+        let mut marker = Marker::new(alloc, env.held.steps.config()).ok()?;
+        let began = Instant::now(rt).ok()?;
+        let collected = way.collect(env, &mut marker);
+        let ended = Instant::now(rt).ok()?;
+        if collected != Ok(wanted) {
+            return None;
+        }
+        Some(ended.duration_since(began).saturating_mul(10).as_nanos())
     }
-    Some(ended.duration_since(began).saturating_mul(10).as_nanos())
 }
 
 /// How long a collection took in a room of its own, in tenths of nanoseconds: none where it did not answer as it should.
-pub(crate) fn time_of<R: Clock>(
+pub(crate) fn time_of<R: Threads + Clock + Sync>(
     rt: &R,
     alloc: Global,
     work: Collections,
     way: Way,
 ) -> Option<u128> {
-    let Ok((room, mut passes)) = Room::<LAST>::open(alloc, work.config()) else {
-        return None;
-    };
-    let mut env = env_of(&room, &mut passes)?;
-    time_in(rt, alloc, &mut env, work, way)
+    match *round(rt, alloc, Job::Collects(work, way))?.first()? {
+        Some(Done::Took(time)) => Some(time),
+        _ => None,
+    }
 }
 
 /// The times of a collection in so many rounds, in order, of which only those count that answered as they should.
-fn times_of<R: Clock>(
+fn times_of<R: Threads + Clock + Sync>(
     rt: &R,
     alloc: Global,
     work: Collections,
@@ -163,7 +149,7 @@ fn times_of<R: Clock>(
 }
 
 /// Prints a line for a collection and one for an announced one, as those of calls are.
-pub(crate) fn print<R: Clock + Print>(
+pub(crate) fn print<R: Threads + Clock + Print + Sync>(
     rt: &R,
     alloc: Global,
     work: Collections,

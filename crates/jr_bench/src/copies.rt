@@ -1,6 +1,7 @@
 //! The calls that copy elements out and back.
 
-use crate::case::{Env, make_each};
+use crate::calls::{Call, make_each};
+use crate::case::Env;
 use jr_model::Mode;
 use jr_steps::Steps;
 use jr_word::Handle;
@@ -39,16 +40,40 @@ impl CopyCase {
         handed: &[Handle],
     ) -> usize {
         match self {
-            CopyCase::Back(_) => make_each(env, handed, |env, _, at| {
-                copy_back(env, alloc, at).is_some()
-            }),
-            CopyCase::Committed(_) => make_each(env, handed, |env, _, at| {
-                commit(env, alloc, at).is_some()
-            }),
-            CopyCase::Text => make_each(env, handed, |env, _, at| {
-                env.get_string_chars(alloc, at).is_ok()
-            }),
+            CopyCase::Back(_) => make_each(env, handed, Back(alloc)),
+            CopyCase::Committed(_) => make_each(env, handed, Committed(alloc)),
+            CopyCase::Text => make_each(env, handed, Text(alloc)),
         }
+    }
+}
+
+/// All elements are copied out, and back.
+#[derive(Clone, Copy)]
+struct Back(Global);
+
+impl Call for Back {
+    fn is_right<S: Steps>(&self, env: &mut Env<S>, _first: Handle, at: Handle) -> bool {
+        copy_back(env, self.0, at).is_some()
+    }
+}
+
+/// All elements are copied out, committed and given up.
+#[derive(Clone, Copy)]
+struct Committed(Global);
+
+impl Call for Committed {
+    fn is_right<S: Steps>(&self, env: &mut Env<S>, _first: Handle, at: Handle) -> bool {
+        commit(env, self.0, at).is_some()
+    }
+}
+
+/// All units of a string are copied out.
+#[derive(Clone, Copy)]
+struct Text(Global);
+
+impl Call for Text {
+    fn is_right<S: Steps>(&self, env: &mut Env<S>, _first: Handle, at: Handle) -> bool {
+        env.get_string_chars(self.0, at).is_ok()
     }
 }
 

@@ -1,6 +1,7 @@
 //! The calls of critical regions.
 
-use crate::case::{Env, make_each};
+use crate::calls::{Call, make_each};
+use crate::case::Env;
 use jr_env::Region;
 use jr_model::Mode;
 use jr_steps::Steps;
@@ -32,10 +33,20 @@ impl CriticalCase {
     /// Does it with each of the handles: how often it was answered as it should be.
     pub(crate) fn make_all<S: Steps>(self, env: &mut Env<S>, handed: &[Handle]) -> usize {
         match self {
-            CriticalCase::Open => make_each(env, handed, |env, _, at| is_opened(env, at)),
+            CriticalCase::Open => make_each(env, handed, Open),
             CriticalCase::Get => read_each(env, handed),
             CriticalCase::Set => write_each(env, handed),
         }
+    }
+}
+
+/// A region is opened, and ended.
+#[derive(Clone, Copy)]
+struct Open;
+
+impl Call for Open {
+    fn is_right<S: Steps>(&self, env: &mut Env<S>, _first: Handle, at: Handle) -> bool {
+        is_opened(env, at)
     }
 }
 

@@ -8,6 +8,7 @@
 mod answers;
 mod arrays;
 mod beside;
+mod calls;
 mod case;
 mod collections;
 mod copies;

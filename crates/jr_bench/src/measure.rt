@@ -1,21 +1,29 @@
 //! The measuring.
 
 use crate::case::{CASES, Case};
-use crate::round::{Done, Work, round};
+use crate::round::{Called, Done, Job, Work, round};
 use std::alloc::Global;
 use std::io;
 use std::rt::Clock;
 use std::thread::Threads;
 use std::time::Duration;
 
+/// What a thread did, unless it gave up.
+fn called_of(done: &Option<Done>) -> Option<Called> {
+    match *done {
+        Some(Done::Called(called)) => Some(called),
+        _ => None,
+    }
+}
+
 /// How long a call took, in tenths of nanoseconds, as the mean of the threads: none where one was refused, or where for more than a quarter of the time not all threads ran.
 fn time_of_call(calls: u32, done: &[Option<Done>]) -> Option<u128> {
-    let first = (*done.first()?)?;
+    let first = called_of(done.first()?)?;
     let (mut began, mut all_began) = (first.began, first.began);
     let (mut ended, mut one_ended) = (first.ended, first.ended);
     let mut sum = Duration::ZERO;
     for one in done {
-        let one = (*one)?;
+        let one = called_of(one)?;
         if one.right != calls as usize {
             return None;
         }
@@ -44,7 +52,7 @@ fn times_of_call<R: Threads + Clock + Sync>(
 ) -> io::Result<Vec<u128>> {
     let mut times = Vec::new(alloc);
     for _ in 0..rounds {
-        let Some(done) = round(rt, alloc, case, work) else {
+        let Some(done) = round(rt, alloc, Job::Calls(case, work)) else {
             continue;
         };
         if let Some(time) = time_of_call(work.calls, &done) {

@@ -1,15 +1,17 @@
-//! A round: threads of a room that start together and make the same call.
+//! A round: threads of a room that start together, and each do their part of a job.
 
 ghost use Rattle.jr_rule.specs.Passes.{IsOpened};
 
+use crate::beside::{Task, Tried};
 use crate::case::{Case, Env, FrameCase};
+use crate::collections::{Collections, Way};
 use jr_rule::{Pass, Room, RoomSteps};
 use jr_steps::Steps;
 use jr_word::Config;
 use std::alloc::Global;
 use std::hint::spin_loop;
 use std::rt::Clock;
-use std::sync::atomic::{AtomicU64, Ordering};
+use std::sync::atomic::{AtomicBool, AtomicU64, Ordering};
 use std::thread;
 use std::thread::Threads;
 use std::time::Instant;
@@ -26,7 +28,7 @@ const LOOKS: u32 = 1 << 30;
 /// The most local references that stand for each thread, and the most objects in all.
 const MOST_BESIDE: u32 = 2_000;
 
-/// What the threads of a round do.
+/// How often which call is made.
 #[derive(Clone, Copy)]
 pub(crate) struct Work {
     /// How many threads.
@@ -37,15 +39,46 @@ pub(crate) struct Work {
     pub(crate) calls: u32,
 }
 
-/// What a thread did in a round.
+/// What the threads of a round do.
 #[derive(Clone, Copy)]
-pub(crate) struct Done {
+pub(crate) enum Job {
+    /// Each makes the same call.
+    Calls(Case, Work),
+    /// One tries collections, and the others call without a break.
+    Beside(Task),
+    /// The one thread fills the room, and collects.
+    Collects(Collections, Way),
+}
+
+/// When a thread began its calls and ended them, and how they were answered.
+#[derive(Clone, Copy)]
+pub(crate) struct Called {
     /// When it began its first call.
     pub(crate) began: Instant,
     /// When it ended its last one.
     pub(crate) ended: Instant,
     /// How often the call answered as it should.
     pub(crate) right: usize,
+}
+
+/// What a thread did in a round.
+#[derive(Clone, Copy)]
+pub(crate) enum Done {
+    /// It called so.
+    Called(Called),
+    /// It tried collections, or called meanwhile.
+    Tried(Tried),
+    /// It collected in so many tenths of nanoseconds.
+    Took(u128),
+}
+
+/// What the threads of a round tell each other.
+#[derive(Drop)]
+pub(crate) struct Signs {
+    /// How many have come.
+    pub(crate) came: AtomicU64,
+    /// Whether the tries have ended.
+    pub(crate) ended: AtomicBool,
 }
 
 /// Makes what stands beside the calls: this thread's part of the global references, local references unless all of them are to be freed, and before new objects its part of objects.
@@ -71,10 +104,10 @@ fn stand<S: Steps>(env: &mut Env<S>, case: Case, work: Work) -> Option<()> {
 }
 
 /// Says that a thread has come, and waits a while for the others: whether all came.
-pub(crate) fn all_came(came: &AtomicU64, threads: u32) -> bool {
-    came.fetch_add(1, Ordering::SeqCst);
+pub(crate) fn all_came(signs: &Signs, threads: u32) -> bool {
+    signs.came.fetch_add(1, Ordering::SeqCst);
     for _ in 0..LOOKS {
-        if came.load(Ordering::SeqCst) >= u64::from(threads) {
+        if signs.came.load(Ordering::SeqCst) >= u64::from(threads) {
             return true;
         }
         spin_loop();
@@ -82,54 +115,95 @@ pub(crate) fn all_came(came: &AtomicU64, threads: u32) -> bool {
     false
 }
 
-/// What one thread does: it makes ready what it needs, waits for the others, and makes the calls.
-fn work_one<R: Clock>(
+/// A thread makes ready what it needs, waits for the others, and makes the calls.
+fn call_all<R: Clock, S: Steps>(
     rt: &R,
     alloc: Global,
-    room: &Room<LAST>,
-    pass: Pass,
+    env: &mut Env<S>,
     case: Case,
     work: Work,
-    came: &AtomicU64,
-) -> Option<Done>
-    requires { IsOpened room.now.row pass }
-{
-    let mut env = Env::new(RoomSteps::new(room, pass)).ok()?;
-    let stands = stand(&mut env, case, work);
-    let handed = case.handed(&mut env, alloc, work.calls);
-    if !all_came(came, work.threads) {
+    signs: &Signs,
+) -> Option<Called> {
+    let stands = stand(env, case, work);
+    let handed = case.handed(env, alloc, work.calls);
+    if !all_came(signs, work.threads) {
         return None;
     }
     let (Some(()), Some(handed)) = (stands, handed) else {
         return None;
     };
     let began = Instant::now(rt).ok()?;
-    let right = case.make_all(&mut env, alloc, &handed);
+    let right = case.make_all(env, alloc, &handed);
     let ended = Instant::now(rt).ok()?;
-    Some(Done {
+    Some(Called {
         began,
         ended,
         right,
     })
 }
 
+impl Job {
+    /// The sizes of its room.
+    fn config(self) -> Config {
+        match self {
+            Job::Calls(_, work) => Config {
+                threads: work.threads,
+                slots: Config::MOST_SLOTS,
+                objects: Config::MOST_OBJECTS,
+                words: WORDS,
+                locals: Config::MOST_LOCALS,
+            },
+            Job::Beside(task) => task.tries.config(),
+            Job::Collects(work, _) => work.config(),
+        }
+    }
+
+    /// A thread does its part.
+    fn act<R: Clock, S: Steps>(
+        self,
+        rt: &R,
+        alloc: Global,
+        env: &mut Env<S>,
+        signs: &Signs,
+    ) -> Option<Done> {
+        match self {
+            Job::Calls(case, work) => {
+                let called = call_all(rt, alloc, env, case, work, signs)?;
+                Some(Done::Called(called))
+            }
+            Job::Beside(task) => Some(Done::Tried(task.act(rt, alloc, env, signs)?)),
+            Job::Collects(work, way) => Some(Done::Took(work.time_in(rt, alloc, env, way)?)),
+        }
+    }
+}
+
+/// What one thread does: its part, in an env of its own.
+fn work_one<R: Clock>(
+    rt: &R,
+    alloc: Global,
+    room: &Room<LAST>,
+    pass: Pass,
+    job: Job,
+    signs: &Signs,
+) -> Option<Done>
+    requires { IsOpened room.now.row pass }
+{
+    let mut env = Env::new(RoomSteps::new(room, pass)).ok()?;
+    job.act(rt, alloc, &mut env, signs)
+}
+
 /// A round in a room of its own: what each thread did.
 pub(crate) fn round<R: Threads + Clock + Sync>(
     rt: &R,
     alloc: Global,
-    case: Case,
-    work: Work,
+    job: Job,
 ) -> Option<Vec<Option<Done>>> {
-    let config = Config {
-        threads: work.threads,
-        slots: Config::MOST_SLOTS,
-        objects: Config::MOST_OBJECTS,
-        words: WORDS,
-        locals: Config::MOST_LOCALS,
+    let (room, passes) = Room::<LAST>::open(alloc, job.config()).ok()?;
+    let signs = Signs {
+        came: AtomicU64::new(0),
+        ended: AtomicBool::new(false),
     };
-    let (room, passes) = Room::<LAST>::open(alloc, config).ok()?;
-    let came = AtomicU64::new(0);
-    let (room, came) = (&room, &came);
-    let work_each = |pass| work_one(rt, alloc, room, pass, case, work, came);
+    let (room, signs) = (&room, &signs);
+    let work_each = |pass| work_one(rt, alloc, room, pass, job, signs);
     thread::map_vec(rt, passes, &work_each).ok()
 }

@@ -1,13 +1,13 @@
 //! The gate, over plain words and over a room that several passes share.
-ghost use Rattle.std.specs.Prelude.{◌≡◌};
+ghost use Rattle.std.specs.Prelude.{◌≡◌, IfOk};
 ghost use Rattle.jr_model.specs.declared.event.Role.TheVariants.{Outside};
-ghost use Rattle.jr_rule.specs.Passes.{standing_of};
-ghost use Rattle.jr_rule.specs.Rooms.{IsOfRoom};
+ghost use Rattle.jr_gate.specs.Stays.{IsOwnCollection};
+ghost use Rattle.jr_steps.specs.Knowing.{CanReopen, MayKnow};
 
-use crate::rooms::last_of;
-use jr_gate::{enter, shut_gate};
-use jr_model::Summary;
-use jr_rule::{Left, Pass, PlainSteps, Room, RoomSteps};
+use crate::plain::{Case, FirstWord, alone, first_word_is};
+use crate::rooms::{NOTHING, last_of, leaves, stays_open};
+use jr_gate::{Shut, enter, shut_gate};
+use jr_rule::{Room, RoomSteps};
 use jr_steps::{GateLoad, Steps};
 use jr_word::{Config, Fault, GateWord};
 use std::process::Abort;
@@ -19,23 +19,15 @@ const SMALL: Config = Config {
     ..Config::LEAST
 };
 
-/// What a room has in which nothing stands.
-pub(crate) const NOTHING: Summary = Summary {
-    globals: 0,
-    weaks: 0,
-    live: 0,
-    used: 0,
-};
-
-/// The word of the gate.
-pub(crate) fn gate_word<S: Steps>(steps: &mut S) -> u64
+/// Checks the word of the gate.
+pub(crate) fn gate_is<S: Steps>(rt: &impl Abort, steps: &mut S, wanted: u64)
     ensures { (S.facts steps.new).stands ≡ (S.facts steps.old).stands }
 {
-    GateWord::pack(steps.see_gate(GateLoad::Meet)).0
+    assert_eq!(rt; GateWord::pack(steps.see_gate(GateLoad::Meet)).0, wanted);
 }
 
 /// Why an entry is refused, if it is. It is ended at once.
-pub(crate) fn entry_refused<S: Steps>(steps: &mut S) -> Option<Fault>
+fn entry_refused<S: Steps>(steps: &mut S) -> Option<Fault>
     requires { (S.facts steps.old).stands.role ≡ Outside }
     ensures { (S.facts steps.new).stands ≡ (S.facts steps.old).stands }
 {
@@ -49,7 +41,7 @@ pub(crate) fn entry_refused<S: Steps>(steps: &mut S) -> Option<Fault>
 }
 
 /// Why a collection is refused, if it is. It is ended at once.
-pub(crate) fn shut_refused<S: Steps>(steps: &mut S) -> Option<Fault>
+fn shut_refused<S: Steps>(steps: &mut S) -> Option<Fault>
     requires { (S.facts steps.old).stands.role ≡ Outside }
     ensures { (S.facts steps.new).stands ≡ (S.facts steps.old).stands }
 {
@@ -62,26 +54,53 @@ pub(crate) fn shut_refused<S: Steps>(steps: &mut S) -> Option<Fault>
     }
 }
 
+/// Checks why an entry is refused, or that it is not.
+pub(crate) fn enters<S: Steps>(rt: &impl Abort, steps: &mut S, refused: Option<Fault>)
+    requires { (S.facts steps.old).stands.role ≡ Outside }
+    ensures { (S.facts steps.new).stands ≡ (S.facts steps.old).stands }
+{
+    assert_eq!(rt; entry_refused(steps), refused);
+}
+
+/// Checks that a collection is refused, since so many threads are not outside.
+pub(crate) fn is_busy<S: Steps>(rt: &impl Abort, steps: &mut S, count: u32)
+    requires { (S.facts steps.old).stands.role ≡ Outside }
+    ensures { (S.facts steps.new).stands ≡ (S.facts steps.old).stands }
+{
+    assert_eq!(rt; shut_refused(steps), Some(Fault::Busy(count)));
+}
+
+/// A thread knocks in vain: what the word of the gate is between knock and withdrawal, and what it is afterwards.
+pub(crate) fn knocks<S: Steps>(rt: &impl Abort, steps: &mut S, between: u64, after: u64)
+    requires { (S.facts steps.old).stands.role ≡ Outside }
+    ensures { (S.facts steps.new).stands ≡ (S.facts steps.old).stands }
+{
+    assert!(rt; !steps.go_in());
+    gate_is(rt, steps, between);
+    steps.go_out();
+    gate_is(rt, steps, after);
+}
+
 /// While a thread stays, another counts it and cannot collect.
-fn a_stay_bars_collections<S: Steps, T: Steps>(
+fn a_stay_bars_collections<S: Steps>(
     rt: &impl Abort,
     stays: &mut S,
-    looks: &mut T,
+    looks: &mut S,
 ) -> Result<(), Fail>
     requires stays { (S.facts stays.old).stands.role ≡ Outside }
-    requires looks { (T.facts looks.old).stands.role ≡ Outside }
+    requires looks { (S.facts looks.old).stands.role ≡ Outside }
     ensures stays { (S.facts stays.new).stands ≡ (S.facts stays.old).stands }
-    ensures looks { (T.facts looks.new).stands ≡ (T.facts looks.old).stands }
+    ensures looks { (S.facts looks.new).stands ≡ (S.facts looks.old).stands }
 {
-    assert_eq!(rt; gate_word(looks), 0);
+    gate_is(rt, looks, 0);
     let Ok(stay) = enter(stays) else {
         return Err("nobody collects")?;
     };
-    assert_eq!(rt; gate_word(looks), 1);
-    assert_eq!(rt; shut_refused(looks), Some(Fault::Busy(1)));
-    assert_eq!(rt; gate_word(looks), 1);
+    gate_is(rt, looks, 1);
+    is_busy(rt, looks, 1);
+    gate_is(rt, looks, 1);
     stay.leave(stays);
-    assert_eq!(rt; gate_word(looks), 0);
+    gate_is(rt, looks, 0);
     Ok(())
 }
 
@@ -90,74 +109,101 @@ fn is_barred<S: Steps>(rt: &impl Abort, steps: &mut S)
     requires { (S.facts steps.old).stands.role ≡ Outside }
     ensures { (S.facts steps.new).stands ≡ (S.facts steps.old).stands }
 {
-    assert_eq!(rt; gate_word(steps), 65_536);
-    assert_eq!(rt; entry_refused(steps), Some(Fault::Barred));
-    assert_eq!(rt; gate_word(steps), 65_536);
-    assert!(rt; !steps.go_in());
-    assert_eq!(rt; gate_word(steps), 65_537);
-    steps.go_out();
-    assert_eq!(rt; gate_word(steps), 65_536);
-    assert_eq!(rt; shut_refused(steps), Some(Fault::Busy(1)));
-    assert_eq!(rt; gate_word(steps), 65_536);
+    gate_is(rt, steps, 65_536);
+    enters(rt, steps, Some(Fault::Barred));
+    gate_is(rt, steps, 65_536);
+    knocks(rt, steps, 65_537, 65_536);
+    is_busy(rt, steps, 1);
+    gate_is(rt, steps, 65_536);
 }
 
-/// A room is not closed while another thread collects.
-fn stays_open(rt: &impl Abort, room: Room<2>, pass: Pass) -> (Room<2>, Pass)
-    requires { IsOfRoom room pass }
-    ensures room { result.0 ≡ room }
-    ensures pass { IsOfRoom room result.1 × ((standing_of result.1).role ≡ (standing_of pass).role) }
+/// Thread 0 stays, and then thread 1 collects, which goes on.
+fn exclude_each_other<S: Steps>(
+    rt: &impl Abort,
+    first: &mut S,
+    second: &mut S,
+) -> Result<Shut, Fail>
+    requires first { (S.facts first.old).stands.role ≡ Outside }
+    requires second { (S.facts second.old).stands.role ≡ Outside }
+    ensures first { (S.facts first.new).stands ≡ (S.facts first.old).stands }
+    ensures second { IfOk result (λ s. IsOwnCollection s (S.facts second.new).stands) }
+    ensures room { IfOk result (λ _. (S.facts second.new).stands.room ≡ (S.facts second.old).stands.room) }
+    ensures config { IfOk result (λ _. (S.facts second.new).stands.config ≡ (S.facts second.old).stands.config) }
+    ensures last { IfOk result (λ _. (S.facts second.new).stands.last ≡ (S.facts second.old).stands.last) }
+    ensures closed { IfOk result (λ _. MayKnow S.facts second.new CanReopen) }
 {
-    let Left { room, pass, fault } = room.close(pass).err().expect(rt, "thread 1 collects");
-    assert_eq!(rt; fault, Fault::LeftInside(1));
-    (room, pass)
+    a_stay_bars_collections(rt, first, second)?;
+    let Ok(collection) = shut_gate(second) else {
+        return Err("nobody is inside")?;
+    };
+    is_barred(rt, first);
+    Ok(collection)
 }
 
-/// Thread 0 stays and thread 1 collects, in turn.
+/// The collection of the second thread ends, and the first one is let in.
+fn opens_again<S: Steps>(rt: &impl Abort, first: &mut S, second: &mut S, collection: Shut)
+    requires first { (S.facts first.old).stands.role ≡ Outside }
+    requires second { IsOwnCollection collection (S.facts second.old).stands }
+    requires closed { MayKnow S.facts second.old CanReopen }
+    ensures { (S.facts first.new).stands ≡ (S.facts first.old).stands }
+{
+    gate_is(rt, first, 65_536);
+    collection.reopen(second);
+    gate_is(rt, first, 0);
+    enters(rt, first, None);
+}
+
+/// Thread 0 stays and thread 1 collects, in turn. Meanwhile the room is not closed.
 #[test]
 fn a_stay_and_a_collection_exclude_each_other(rt: HostRuntime) -> Result<(), Fail> {
     let (room, mut passes) = Room::<2>::open(rt.alloc(), SMALL)?;
     let second = last_of(&room, &mut passes)?;
     let first = last_of(&room, &mut passes)?;
+    let mut second = RoomSteps::new(&room, second);
+    let mut first = RoomSteps::new(&room, first);
+    let collection = exclude_each_other(&rt, &mut first, &mut second)?;
+    let (first, second) = (first.into_pass(), second.into_pass());
+    let (room, first) = stays_open(&rt, room, first, 1);
     let mut first = RoomSteps::new(&room, first);
     let mut second = RoomSteps::new(&room, second);
-    a_stay_bars_collections(&rt, &mut first, &mut second)?;
-    let Ok(collection) = shut_gate(&mut second) else {
+    opens_again(&rt, &mut first, &mut second, collection);
+    let (first, _second) = (first.into_pass(), second.into_pass());
+    leaves(&rt, room, first, NOTHING);
+    Ok(())
+}
+
+/// A stay is one in the word, until it ends.
+pub(crate) fn is_counted<S: Steps + FirstWord>(rt: &impl Abort, steps: &mut S) -> Result<(), Fail>
+    requires { (S.facts steps.old).stands.role ≡ Outside }
+{
+    let Ok(stay) = enter(steps) else {
+        return Err("nobody collects")?;
+    };
+    first_word_is(rt, steps, 1);
+    stay.leave(steps);
+    first_word_is(rt, steps, 0);
+    Ok(())
+}
+
+/// A collection is a bit of the word, until it ends.
+pub(crate) fn is_shut<S: Steps + FirstWord>(rt: &impl Abort, steps: &mut S) -> Result<(), Fail>
+    requires { (S.facts steps.old).stands.role ≡ Outside }
+{
+    let Ok(collection) = shut_gate(steps) else {
         return Err("nobody is inside")?;
     };
-    is_barred(&rt, &mut first);
-    let (first, second) = (first.into_pass(), second.into_pass());
-    let (room, first) = stays_open(&rt, room, first);
-    let mut first = RoomSteps::new(&room, first);
-    let mut second = RoomSteps::new(&room, second);
-    assert_eq!(rt; gate_word(&mut first), 65_536);
-    collection.reopen(&mut second);
-    assert_eq!(rt; gate_word(&mut first), 0);
-    assert_eq!(rt; entry_refused(&mut first), None);
-    let (first, _second) = (first.into_pass(), second.into_pass());
-    assert_eq!(rt; room.close(first).ok(), Some(NOTHING));
+    first_word_is(rt, steps, 0x1_0000);
+    collection.reopen(steps);
+    first_word_is(rt, steps, 0);
     Ok(())
 }
 
 #[test]
 fn a_stay_is_counted_until_it_ends(rt: HostRuntime) -> Result<(), Fail> {
-    let mut steps = PlainSteps::<2>::new(rt.alloc(), Config::LEAST)?;
-    let Ok(stay) = enter(&mut steps) else {
-        return Err("nobody collects")?;
-    };
-    assert_eq!(rt; steps.cells.words[0], 1);
-    stay.leave(&mut steps);
-    assert_eq!(rt; steps.cells.words[0], 0);
-    Ok(())
+    alone(&rt, rt.alloc(), Config::LEAST, Case::IsCounted)
 }
 
 #[test]
 fn a_collection_keeps_the_gate_shut_until_it_ends(rt: HostRuntime) -> Result<(), Fail> {
-    let mut steps = PlainSteps::<2>::new(rt.alloc(), Config::LEAST)?;
-    let Ok(collection) = shut_gate(&mut steps) else {
-        return Err("nobody is inside")?;
-    };
-    assert_eq!(rt; steps.cells.words[0], 0x1_0000);
-    collection.reopen(&mut steps);
-    assert_eq!(rt; steps.cells.words[0], 0);
-    Ok(())
+    alone(&rt, rt.alloc(), Config::LEAST, Case::IsShut)
 }

@@ -1,20 +1,18 @@
 //! The heap at its limits, words that are none of a kind, and ranges and headers that serve later.
 ghost use Rattle.std.specs.Prelude.{◌≡◌, ◌≢◌, IfOk};
 ghost use Rattle.jr_word.specs.declared.kind.Kind.TheVariants.{Int, Plain};
-ghost use Rattle.jr_model.specs.declared.event.Role.TheVariants.{Within};
+ghost use Rattle.jr_model.specs.declared.event.Role.TheVariants.{Outside, Within};
 ghost use Rattle.jr_steps.specs.declared.known.Known.{Known};
 ghost use Rattle.jr_steps.specs.Knowing.{HasObject, IsWordNow, MayKnow};
-ghost use Rattle.jr_rule.specs.Passes.{IsOpened};
 ghost use Rattle.jr_heap.specs.Heap.{HasKind, IsReady, MayBeNamed};
 ghost use Rattle.jr_heap.specs.Ranges.{place_of, size_of, AreReady};
 
-use crate::rooms::last_of;
+use crate::plain::{self, alone};
+use crate::shared::{self, in_a_room};
 use jr_heap::{Numbers, Range, fill, header, publish, read, read_element, reserve, write};
 use jr_model::Summary;
-use jr_rule::{Pass, PlainSteps, Room, RoomSteps};
 use jr_steps::Steps;
 use jr_word::{Config, Fault, Kind};
-use std::alloc::Global;
 use std::process::Abort;
 use std::test::Fail;
 
@@ -34,23 +32,24 @@ const LARGE: Config = Config {
     ..Config::LEAST
 };
 
-/// A room of two threads for ten objects and 20 words.
+/// A room of three threads for ten objects and 20 words.
 const SHARED: Config = Config {
-    threads: 2,
+    threads: 3,
     slots: 1,
     objects: 10,
     words: 20,
     locals: 16,
 };
 
-/// A room, and the passes of threads 0 and 1.
-fn opened(alloc: Global, config: Config) -> Result<(Room<2>, Pass, Pass), Fail>
-    ensures passes { IfOk result (λ r. IsOpened r.0.row r.1 × IsOpened r.0.row r.2) }
+/// Comes in, and looks for free numbers from the first one on.
+fn comes_in<S: Steps>(steps: &mut S) -> Result<Numbers, Fail>
+    requires { (S.facts steps.old).stands.role ≡ Outside }
+    ensures { IfOk result (λ _. (S.facts steps.new).stands.role ≡ Within) }
 {
-    let (room, mut passes) = Room::<2>::open(alloc, config)?;
-    let second = last_of(&room, &mut passes)?;
-    let first = last_of(&room, &mut passes)?;
-    Ok((room, first, second))
+    if !steps.go_in() {
+        return Err("nobody collects")?;
+    }
+    Ok(Numbers::new())
 }
 
 /// A new object with so many elements, each of which is the word.
@@ -167,13 +166,10 @@ fn refuses_past<S: Steps>(
 }
 
 /// The same for each kind of numbers of fewer bits than a word.
-fn each_refuses_past<S: Steps>(
-    rt: &impl Abort,
-    steps: &mut S,
-    numbers: &mut Numbers,
-) -> Result<(), Fail>
-    requires { (S.facts steps.old).stands.role ≡ Within }
+pub(crate) fn each_refuses_past<S: Steps>(rt: &impl Abort, steps: &mut S) -> Result<(), Fail>
+    requires { (S.facts steps.old).stands.role ≡ Outside }
 {
+    let numbers = &mut comes_in(steps)?;
     refuses_past(rt, steps, numbers, Kind::Boolean, 2)?;
     refuses_past(rt, steps, numbers, Kind::Byte, 0x100)?;
     refuses_past(rt, steps, numbers, Kind::Char, 0x1_0000)?;
@@ -208,17 +204,17 @@ fn made_beside<S: Steps>(steps: &mut S, numbers: &mut Numbers) -> Result<u16, Fa
 }
 
 /// The first element of an object, read by a header that was looked up before another pass published and the object was looked up again.
-fn read_again<S: Steps, T: Steps>(
+fn read_again<S: Steps>(
     steps: &mut S,
-    other: &mut T,
+    other: &mut S,
     numbers: &mut Numbers,
     object: u16,
 ) -> Result<u64, Fault>
     requires role { (S.facts steps.old).stands.role ≡ Within }
-    requires beside { (T.facts other.old).stands.role ≡ Within }
+    requires beside { (S.facts other.old).stands.role ≡ Within }
     requires object { MayKnow S.facts steps.old (HasObject object) }
     ensures stands { (S.facts steps.new).stands ≡ (S.facts steps.old).stands }
-    ensures beside { (T.facts other.new).stands ≡ (T.facts other.old).stands }
+    ensures beside { (S.facts other.new).stands ≡ (S.facts other.old).stands }
 {
     let found = header(steps, object);
     made_plain(other, numbers)?;
@@ -256,16 +252,16 @@ fn published_beside<S: Steps>(
 }
 
 /// Two ranges are reserved and filled, one after the other, and published in either order while another pass publishes. The first elements of their objects.
-fn both_published<S: Steps, T: Steps>(
+fn both_published<S: Steps>(
     steps: &mut S,
-    other: &mut T,
+    other: &mut S,
     numbers: &mut Numbers,
     later_first: bool,
 ) -> Result<(u64, u64), Fault>
     requires role { (S.facts steps.old).stands.role ≡ Within }
-    requires beside { (T.facts other.old).stands.role ≡ Within }
+    requires beside { (S.facts other.old).stands.role ≡ Within }
     ensures stands { (S.facts steps.new).stands ≡ (S.facts steps.old).stands }
-    ensures beside { (T.facts other.new).stands ≡ (T.facts other.old).stands }
+    ensures beside { (S.facts other.new).stands ≡ (S.facts other.old).stands }
 {
     let first = reserve(steps, 3)?;
     fill(steps, &first, 7);
@@ -282,118 +278,117 @@ fn both_published<S: Steps, T: Steps>(
     Ok((one, two))
 }
 
+/// Checks the elements that were read by two headers.
+fn reads(rt: &impl Abort, found: Result<(u64, u64), Fault>, wanted: (u64, u64)) {
+    assert_eq!(rt; found, Ok(wanted));
+}
+
 /// A range stays filled while another is reserved, and a header serves after another pass published and after other reads of the object.
-fn serve_later<S: Steps, T: Steps>(
+fn serve_later<S: Steps>(
     rt: &impl Abort,
     steps: &mut S,
-    other: &mut T,
+    other: &mut S,
     numbers: &mut Numbers,
 ) -> Result<(), Fail>
     requires role { (S.facts steps.old).stands.role ≡ Within }
-    requires beside { (T.facts other.old).stands.role ≡ Within }
+    requires beside { (S.facts other.old).stands.role ≡ Within }
     ensures stands { (S.facts steps.new).stands ≡ (S.facts steps.old).stands }
-    ensures beside { (T.facts other.new).stands ≡ (T.facts other.old).stands }
+    ensures beside { (S.facts other.new).stands ≡ (S.facts other.old).stands }
 {
     let object = made_beside(steps, numbers)?;
-    let again = read_again(steps, other, numbers, object);
-    assert_eq!(rt; again, Ok(7));
-    let in_order = both_published(steps, other, numbers, false);
-    assert_eq!(rt; in_order, Ok((7, 8)));
-    let turned = both_published(steps, other, numbers, true);
-    assert_eq!(rt; turned, Ok((7, 8)));
+    assert!(rt; read_again(steps, other, numbers, object)? == 7);
+    reads(rt, both_published(steps, other, numbers, false), (7, 8));
+    reads(rt, both_published(steps, other, numbers, true), (7, 8));
+    Ok(())
+}
+
+/// The same, in a stay of each.
+pub(crate) fn serve_in_stays<S: Steps>(
+    rt: &impl Abort,
+    first: &mut S,
+    second: &mut S,
+) -> Result<(), Fail>
+    requires first { (S.facts first.old).stands.role ≡ Outside }
+    requires second { (S.facts second.old).stands.role ≡ Outside }
+{
+    let mut numbers = comes_in(first)?;
+    assert!(rt; second.go_in());
+    serve_later(rt, first, second, &mut numbers)?;
+    first.go_out();
+    second.go_out();
+    Ok(())
+}
+
+/// Checks that no further word is reserved, since so many are used.
+fn is_full(rt: &impl Abort, answer: Result<Range, Fault>, used: u32) {
+    assert_eq!(rt; answer.err(), Some(Fault::SpaceFull(used)));
+}
+
+/// More words than the room has are refused, and none is reserved. Then one array takes the whole space of the largest room.
+pub(crate) fn one_takes_all<S: Steps>(rt: &impl Abort, steps: &mut S) -> Result<(), Fail>
+    requires { (S.facts steps.old).stands.role ≡ Outside }
+{
+    let numbers = &mut comes_in(steps)?;
+    is_full(rt, reserve(steps, 1_048_577), 0);
+    is_full(rt, reserve(steps, 4_294_967_297), 0);
+    is_full(rt, reserve(steps, u64::MAX), 0);
+    let array = made(steps, numbers, Kind::Long, 1_048_576, u64::MAX)?;
+    read_answers(rt, steps, array, Kind::Long, 0, Ok(u64::MAX));
+    read_answers(rt, steps, array, Kind::Long, 1_048_575, Ok(u64::MAX));
+    read_answers(rt, steps, array, Kind::Long, 1_048_576, Err(Fault::Range));
+    is_full(rt, reserve(steps, 1), 1_048_576);
+    Ok(())
+}
+
+/// Checks that no object is left.
+fn are_given<S: Steps>(rt: &impl Abort, steps: &mut S, numbers: &mut Numbers)
+    requires { (S.facts steps.old).stands.role ≡ Within }
+    ensures { (S.facts steps.new).stands ≡ (S.facts steps.old).stands }
+{
+    assert_eq!(rt;
+        made(steps, numbers, Kind::Int, 0, 0),
+        Err(Fault::ObjectsFull)
+    );
+}
+
+/// Each number is given once, and then none, wherever a look begins.
+pub(crate) fn each_is_given_once<S: Steps>(rt: &impl Abort, steps: &mut S) -> Result<(), Fail>
+    requires { (S.facts steps.old).stands.role ≡ Outside }
+{
+    let mut numbers = comes_in(steps)?;
+    let sum = make_many(steps, &mut numbers, 65_535)?;
+    assert_eq!(rt; sum, 65_535 * 65_536 / 2);
+    are_given(rt, steps, &mut numbers);
+    are_given(rt, steps, &mut Numbers::new());
     Ok(())
 }
 
 /// A word that is one too large is refused, and an index past the length before it.
 #[test]
 fn a_word_past_the_kind_is_refused(rt: HostRuntime) -> Result<(), Fail> {
-    let mut steps = PlainSteps::<2>::new(rt.alloc(), WIDE)?;
-    if !steps.go_in() {
-        return Err("nobody collects")?;
-    }
-    let mut numbers = Numbers::new();
-    each_refuses_past(&rt, &mut steps, &mut numbers)
-}
-
-/// More words than the room has are refused, and none is reserved.
-fn refuses_too_many<S: Steps>(rt: &impl Abort, steps: &mut S)
-    requires { (S.facts steps.old).stands.role ≡ Within }
-    ensures { (S.facts steps.new).stands ≡ (S.facts steps.old).stands }
-{
-    let past = reserve(steps, 1_048_577);
-    assert_eq!(rt; past.err(), Some(Fault::SpaceFull(0)));
-    let one_in_32_bits = reserve(steps, 4_294_967_297);
-    assert_eq!(rt; one_in_32_bits.err(), Some(Fault::SpaceFull(0)));
-    let far_past = reserve(steps, u64::MAX);
-    assert_eq!(rt; far_past.err(), Some(Fault::SpaceFull(0)));
-}
-
-/// One array takes the whole space of the largest room.
-fn one_takes_all<S: Steps>(
-    rt: &impl Abort,
-    steps: &mut S,
-    numbers: &mut Numbers,
-) -> Result<(), Fail>
-    requires { (S.facts steps.old).stands.role ≡ Within }
-{
-    let array = made(steps, numbers, Kind::Long, 1_048_576, u64::MAX)?;
-    read_answers(rt, steps, array, Kind::Long, 0, Ok(u64::MAX));
-    read_answers(rt, steps, array, Kind::Long, 1_048_575, Ok(u64::MAX));
-    read_answers(rt, steps, array, Kind::Long, 1_048_576, Err(Fault::Range));
-    let full = reserve(steps, 1);
-    assert_eq!(rt; full.err(), Some(Fault::SpaceFull(1_048_576)));
-    Ok(())
+    alone(&rt, rt.alloc(), WIDE, plain::Case::EachRefusesPast)
 }
 
 /// The whole space in one array, and then no word more.
 #[test]
 fn one_array_takes_the_whole_space(rt: HostRuntime) -> Result<(), Fail> {
-    let mut steps = PlainSteps::<2>::new(rt.alloc(), LARGE)?;
-    if !steps.go_in() {
-        return Err("nobody collects")?;
-    }
-    refuses_too_many(&rt, &mut steps);
-    one_takes_all(&rt, &mut steps, &mut Numbers::new())
+    alone(&rt, rt.alloc(), LARGE, plain::Case::OneTakesAll)
 }
 
-/// Each number is given once, and then none, wherever a look begins.
 #[test]
 fn each_number_is_given_once(rt: HostRuntime) -> Result<(), Fail> {
-    let mut steps = PlainSteps::<2>::new(rt.alloc(), LARGE)?;
-    if !steps.go_in() {
-        return Err("nobody collects")?;
-    }
-    let mut numbers = Numbers::new();
-    let sum = make_many(&mut steps, &mut numbers, 65_535)?;
-    assert_eq!(rt; sum, 65_535 * 65_536 / 2);
-    let further = made(&mut steps, &mut numbers, Kind::Int, 0, 0);
-    assert_eq!(rt; further, Err(Fault::ObjectsFull));
-    let mut others = Numbers::new();
-    let further = made(&mut steps, &mut others, Kind::Int, 0, 0);
-    assert_eq!(rt; further, Err(Fault::ObjectsFull));
-    Ok(())
+    alone(&rt, rt.alloc(), LARGE, plain::Case::EachGivenOnce)
 }
 
 /// A range stays filled while another is reserved, and a header serves after another pass published and after other reads of the object.
 #[test]
 fn ranges_and_headers_serve_later(rt: HostRuntime) -> Result<(), Fail> {
-    let (room, first, second) = opened(rt.alloc(), SHARED)?;
-    let mut first = RoomSteps::new(&room, first);
-    let mut second = RoomSteps::new(&room, second);
-    assert!(rt; first.go_in());
-    assert!(rt; second.go_in());
-
-    serve_later(&rt, &mut first, &mut second, &mut Numbers::new())?;
-
-    first.go_out();
-    second.go_out();
-    let (first, _second) = (first.into_pass(), second.into_pass());
-    let summary = Summary {
+    let left = Summary {
         globals: 0,
         weaks: 0,
         live: 8,
         used: 15,
     };
-    assert_eq!(rt; room.close(first).ok(), Some(summary));
-    Ok(())
+    let case = shared::Case::ServeInStays;
+    in_a_room(&rt, rt.alloc(), SHARED, case, left)
 }

@@ -4,6 +4,8 @@
 #[cfg(test)]
 mod announced;
 #[cfg(test)]
+mod claims;
+#[cfg(test)]
 mod closing;
 #[cfg(test)]
 mod gate;
@@ -12,4 +14,8 @@ mod heap;
 #[cfg(test)]
 mod passes;
 #[cfg(test)]
+mod plain;
+#[cfg(test)]
 mod rooms;
+#[cfg(test)]
+mod shared;

@@ -15,10 +15,6 @@ is_beyond : (m n : ℕ) → m ≤ n → nat_lt n m ≡ false
 is_beyond m n l = grind (arith, nat_tests)
 
 module _ {V : Type 0} (k : Kind) (word_of : V → ℕ) (values new : List V) (i : ℕ) (number : ℤ) where
-  -- a number that is refused
-  pub refuses_number : (e : Fault) → word_of_number k number ≡ Err e → with_number (copied_as k word_of values) i number ≡ Err e
-  refuses_number e is = ap (with_word_if (copied_as k word_of values) i) is
-
   module _ (x : V) (word : word_of_number k number ≡ Ok (word_of x)) where
     puts : (long : length (map word_of values) ≡ length values) → i < length values → with_number (copied_as k word_of values) i number ≡ Ok (copied_as k word_of (slice_set values i x))
     puts long l =

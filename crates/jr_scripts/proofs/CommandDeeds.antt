@@ -105,10 +105,6 @@ module _ {S : Type 0} {facts : S → Facts} where
       does_of_kind turns w k (kind_numbered n) (loading_as turns w i) is (numbered_has n) first
       (does_tried_form turns (λ words. first_number (kind_numbered n) words) (λ x. replies.Value x) (get_array_region (kind_numbered n) w i 1) more)
 
-  -- a kind whose elements are no numbers
-  pub does_refuse_kind : {a b : S} {f g : Frames} (turns w : ℕ) (k : Kind) (e : Fault) (next : Kind → Deed Reply) → has_numbers k ≡ Err e → DoesDeed facts a b f g (tried turns (kind_of w)) (Ok k) → DoesDeed facts a b f g (tried turns (kind_of w) >>= (λ k. decided (has_numbers k) >>= (λ _. next k))) (Err e)
-  does_refuse_kind turns w k e next is first = does_then (λ k. decided (has_numbers k) >>= (λ _. next k)) first (does_decline (λ _. next k) is)
-
   -- a number is stored, by the call of its kind
   pub does_store : {a b c : S} {f g h : Frames} {answer : Result Reply Fault} (turns w i : ℕ) (v : ℤ) (k : Kind) (n : NumberKind) (x : Element) → k ≡ kind_numbered n → kind_of_element x ≡ kind_numbered n → word_of_number (kind_numbered n) v ≡ Ok (word_of_element x)
       → DoesDeed facts a b f g (tried turns (kind_of w)) (Ok k) → DoesDeed facts b c g h (tried turns (set_array_region (kind_of_element x) w i (word_of_element x ∷ [])) >> done replies.Done) answer → DoesDeed facts a c f h (storing turns w i v) answer

@@ -95,10 +95,6 @@ module _ {S : Type 0} {facts : S → Facts} where
       → (facts a).stands.role ≡ role → ((k : Known) → met k → shown k) → r ≡ Err e → CarriedOut facts a a f f role met shown (decided r >>= next) (Err e)
   did_decline {e = e} next role on is = did_nowhere role on (λ p. inr (e, refl, (sym is, refl)))
 
-  -- a deed that was done outside
-  pub did_outside : {A : Type 0} {a b : S} {f g : Frames} {deed : Deed A} {answer : Result A Fault} → (facts a).stands.role ≡ Outside → DoesDeed facts a b f g deed answer → CarriedOut facts a b f g Outside (Holds f) (Holds g) deed answer
-  did_outside is d = record { stands_is = in_role Outside d.stands_is is; did = d.did }
-
   -- a refusal at the exit of a `?`
   pub did_residual : {A : Type 0} {a b : S} {f g : Frames} {role : Role} {met shown : Known → Type 0} {deed : Deed A} (e : Fault) (answer : Result A Fault) → IsErrAnd answer (λ y. y ≡ e) → CarriedOut facts a b f g role met shown deed (Err e) → CarriedOut facts a b f g role met shown deed answer
   did_residual {a = a} {b = b} {f = f} {g = g} {role = role} {met = met} {shown = shown} {deed = deed} e answer given d =
@@ -197,13 +193,6 @@ module _ {S : Type 0} (facts : S → Facts) (fits : AreOf facts) where
       gone (Ok v) j k x = tt
       gone (Err e) j k x = x.0
 
-  -- all levels were given up
-  pub did_end : {a b : S} {f g : Frames} {v : Levels} → g ≡ f → GivesUpAll facts a b f v → CarriedOut facts a b f g Outside (KnowsLevels v f) (Holds g) (giving_up 1) (Ok tt)
-  did_end {a = a} {b = b} {f = f} {v = v} same u = subst (λ h. CarriedOut facts a b f h Outside (KnowsLevels v f) (Holds h) (giving_up 1) (Ok tt)) (sym same) (record {
-    stands_is = u.stands_is;
-    did = λ k s m. let x = u.ran k s m in (x.0, x.1, x.3.1, (x.2, x.3.0));
-  })
-
   -- the number at an index of a level
   module _ {a : S} {t : Table} {f : Frames} {v : Levels} (i index : ℕ) (k : Kind) (stand : Stand facts v a t) (tells : TellsKind v i k) where
     pub did_read : {b : S} {g : Frames} {answer : Result Reply Fault} (n u : NumberKind) → read_kind k ≡ kind_numbered n → n ≡ u → CarriedOut facts a b f g Within (KnowsLevels v f) (KnowsLevels v g) (reading_as (level_object v i) index (kind_numbered u)) answer
@@ -248,10 +237,6 @@ did_enter {S} {G} fits old new verb u word r which outside entered refused =
 pub buffers_kept : (names : Names) (v : PutAt) (n : List ℕ) (i : ℕ) (x : ℤ) (r : Result Reply Fault) → (v ≡ put_at.Put → r ≡ Err fault.InCritical) → names ≡ buffers_after (commands.PutAt v n i x) r names
 buffers_kept names put_at.Put n i x r other = ap (λ a. buffers_after (commands.PutAt put_at.Put n i x) a names) (sym (other refl))
 buffers_kept names put_at.PutInLevel n i x r other = refl
-
--- the deed of a command that is known
-pub did_command : {S : Type 0} {facts : S → Facts} {a b : S} {f g : Frames} {role : Role} {met shown : Known → Type 0} {answer : Result Reply Fault} (p : Place) (c d : Command) → c ≡ d → CarriedOut facts a b f g role met shown (deed_within p d) answer → CarriedOut facts a b f g role met shown (deed_within p c) answer
-did_command {facts = facts} {a = a} {b = b} {f = f} {g = g} {role = role} {met = met} {shown = shown} {answer = answer} p c d is = subst (λ x. CarriedOut facts a b f g role met shown (deed_within p x) answer) (sym is)
 
 -- what is done in a region that has a level
 pub did_at : {S : Type 0} {facts : S → Facts} {a b : S} {f g : Frames} {role : Role} {met shown : Known → Type 0} {answer : Result Reply Fault} (turns : ℕ) (names : Names) (levels : List (List ℕ)) (objects : List ℕ) (c : Command) → 1 ≤ length objects

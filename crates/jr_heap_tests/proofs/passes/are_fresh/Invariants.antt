@@ -3,4 +3,4 @@ use Rattle.jr_rule.specs.Passes.{IsOpened}
 use Rattle.jr_heap_tests.proofs.passes.are_fresh.Given as goal
 
 abbrev pub invariant-loop-thread : goal.invariant-loop-thread
-invariant-loop-thread g l = All (λ p. IsOpened l.room.row p) l.passes.items
+invariant-loop-thread l = All (λ p. IsOpened l.room.row p) l.passes.items
