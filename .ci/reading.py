@@ -156,7 +156,7 @@ class Specs:
         self.scope, self.definitions = Scope(self.text), []
 
     def read(self):
-        """Finds the definitions: each begins at the margin, of the file or of a block `module _`, and ends before the next one or a comment there."""
+        """Finds the definitions: each begins at the margin, of the file or of a block `module _`, and ends before the next one or a comment there, but goes on where an equation of it follows that."""
         current, margin, around = None, 0, ""
         for number, line in enumerate(self.code.split("\n"), 1):
             code, indent = COMMENT.sub("", line).rstrip(), len(line) - len(line.lstrip())
@@ -172,6 +172,9 @@ class Specs:
                 current = Definition((self.module, begun[1]), self.path, number, begun.re is PROVED, around)
                 self.definitions.append(current)
                 self.scope.define(begun[1], current.name)
+            elif not current and indent == margin and self.definitions and code[margin:].startswith(self.definitions[-1].name[1] + " "):
+                # (an equation behind a comment of its own)
+                current = self.definitions[-1]
             if current:
                 current.lines.append(code[margin:])
         for it in self.definitions:
