@@ -117,7 +117,7 @@ fn a_wait_that_runs_out_of_turns_sets_no_name(rt: HostRuntime) -> Result<(), Fai
     prints(
         &rt,
         rt.alloc(),
-        b"vm threads 1 slots 4 objects 8 words 16 locals 16\nthread a\nwait never\ntype never\nint a 1\nwait a\ntype a\ncrit r a\nwait never\ncget r 0\nendcrit copy\ntype never\n",
+        b"vm threads 1 slots 4 objects 8 words 16 locals 16\nthread a\nwait never\ntype never\nint a 1\nwait a\ntype a\ncrit r a\nwait never\ncget r 0\nendcrit copy\ntype never\npost a\n",
         b"[a]\n3 ! E20\ntype never 0\n6 ! E20\ntype a 1\n9 ! E20\ncget r 0 0\ntype never 0\n[end]\nglobals 0 weaks 0 live 1 used 1\n",
     )
 }
