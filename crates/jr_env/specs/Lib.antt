@@ -4,7 +4,7 @@ pub mod StandingRegions
 pub mod Criticals
 pub mod Collections
 pub mod Elements
-pub mod Standing
+pub mod Calling
 pub mod Works
-pub mod Regions
+pub mod ArrayParts
 pub mod Copies
