@@ -1,132 +1,32 @@
-//! Values worked out by hand from the layouts.
-
+//! Words, elements, refusals and sizes, with values worked out by hand from the layouts. Those of handles `.ci/run-program` has, by `jrefs word` and `jrefs widen`.
 ghost use Rattle.std.specs.Prelude.{◌≡◌, Some};
 
-use crate::*;
+use jr_word::{
+    Config, Elem, Fault, GateParts, GateState, GateWord, Header, HeaderParts, Kind, LocalParts,
+    LocalWord, SlotParts, SlotWord, TopParts, TopWord,
+};
+use std::fmt::Debug;
 use std::process::Abort;
 use std::test::Fail;
 
-fn handle(kind: RefKind, serial: u32, index: u16, owner: u8) -> Option<HandleParts> {
-    Some(HandleParts {
-        kind,
-        serial,
-        index,
-        owner,
-    })
+/// Asserts what a word is read as.
+fn reads<P: Copy + PartialEq + Debug>(
+    rt: &impl Abort,
+    word: u64,
+    found: Option<P>,
+    wanted: Option<P>,
+) {
+    assert_eq!(rt; found, wanted, "at {word:x}");
+}
+
+/// Asserts which word is written.
+fn writes(rt: &impl Abort, written: u64, wanted: u64) {
+    assert_eq!(rt; written, wanted);
 }
 
 /// Asserts what a word is read as.
-fn reads_handle(rt: &impl Abort, word: u64, parts: Option<HandleParts>) {
-    assert_eq!(rt; Handle::parts(word), parts, "at {word:x}");
-}
-
-#[test]
-fn handles(rt: HostRuntime) {
-    assert_eq!(rt; Handle::NULL.0, 0);
-    let rows = [
-        (0xc_0000_0016, handle(RefKind::Global, 5, 3, 0)),
-        (0xc0016, handle(RefKind::Global, 196_613, 0, 0)),
-        (0x4_0000_0002, handle(RefKind::Global, 0, 1, 0)),
-        (0x10_0000_0002, handle(RefKind::Global, 0, 4, 0)),
-        (10, handle(RefKind::Global, 2, 0, 0)),
-        (0x4_0002, handle(RefKind::Global, 65_536, 0, 0)),
-        (1, handle(RefKind::Local, 0, 0, 0)),
-        (0x4_0000_0000_0001, handle(RefKind::Local, 0, 0, 1)),
-        (
-            0x3_ffff_ffff_ffff,
-            handle(RefKind::Weak, u32::MAX, 65_535, 0),
-        ),
-        (
-            0xff_ffff_ffff_fffd,
-            handle(RefKind::Local, u32::MAX, 65_535, 63),
-        ),
-        (0, None),
-        (4, None),
-        (0x4_0000_0000_0002, None),
-        (0x4_0000_0000_0003, None),
-        (0x100_0000_0000_0001, None),
-        (u64::MAX, None),
-    ];
-    for (word, parts) in rows {
-        reads_handle(&rt, word, parts);
-    }
-    let last = HandleParts {
-        kind: RefKind::Local,
-        serial: u32::MAX,
-        index: 65_535,
-        owner: 63,
-    };
-    assert_eq!(rt; Handle::pack(last), Handle(0xff_ffff_ffff_fffd));
-}
-
-#[test]
-fn handles_of_one_bit(rt: HostRuntime) {
-    for k in 0..64_u32 {
-        let alone = match k {
-            0 => handle(RefKind::Local, 0, 0, 0),
-            1 => handle(RefKind::Global, 0, 0, 0),
-            _ => None,
-        };
-        reads_handle(&rt, 1 << k, alone);
-        let local = match k {
-            0 => alone,
-            1 => handle(RefKind::Weak, 0, 0, 0),
-            2..=33 => handle(RefKind::Local, 1 << (k - 2), 0, 0),
-            34..=49 => handle(RefKind::Local, 0, 1 << (k - 34), 0),
-            50..=55 => handle(RefKind::Local, 0, 0, 1 << (k - 50)),
-            _ => None,
-        };
-        reads_handle(&rt, 1 | 1 << k, local);
-    }
-}
-
-/// Asserts what a handle of the old form is widened to.
-fn widens(rt: &impl Abort, word: u64, wide: Option<u64>) {
-    assert_eq!(rt; Handle::widen(word), wide, "at {word:x}");
-}
-
-#[test]
-fn widened_handles(rt: HostRuntime) {
-    let rows = [
-        (0xc0016, Some(0xc_0000_0016)),
-        (0x4_0000_0001, Some(0x4_0000_0000_0001)),
-        (0, Some(0)),
-        (1, Some(1)),
-        (0x3_fffe, Some(0x3_fffe)),
-        (0x4_0002, Some(0x4_0000_0002)),
-        (0x3_ffff_ffff, Some(0x3_fffc_0003_ffff)),
-        (0xff_ffff_fffd, Some(0xff_fffc_0003_fffd)),
-        (4, None),
-        (0x4_0000_0002, None),
-        (0x4_0000_0003, None),
-        (0x100_0000_0001, None),
-        (u64::MAX, None),
-    ];
-    for (word, wide) in rows {
-        widens(&rt, word, wide);
-    }
-}
-
-#[test]
-fn widened_handles_of_one_bit(rt: HostRuntime) {
-    for k in 0..64_u32 {
-        let alone = match k {
-            0 | 1 => Some(1 << k),
-            _ => None,
-        };
-        widens(&rt, 1 << k, alone);
-        let local = match k {
-            0..=17 => Some(1 | 1 << k),
-            18..=39 => Some(1 | 1 << (k + 16)),
-            _ => None,
-        };
-        widens(&rt, 1 | 1 << k, local);
-    }
-}
-
-/// Asserts what a word is read as.
-fn reads_slot(rt: &impl Abort, word: u64, parts: Option<SlotParts>) {
-    assert_eq!(rt; SlotWord::parts(word), parts, "at {word:x}");
+fn reads_slot(rt: &impl Abort, word: u64, wanted: Option<SlotParts>) {
+    reads(rt, word, SlotWord::parts(word), wanted);
 }
 
 #[test]
@@ -135,17 +35,17 @@ fn slots(rt: HostRuntime) {
         serial: 5,
         object: 3,
     };
-    assert_eq!(rt; SlotWord::pack(global), SlotWord(0xc_0000_0016));
+    writes(&rt, SlotWord::pack(global).0, 0xc_0000_0016);
     reads_slot(&rt, 0xc_0000_0016, Some(global));
     reads_slot(&rt, 0, Some(SlotParts::Free { serial: 0 }));
     let retired = SlotParts::Retired { serial: 2 };
-    assert_eq!(rt; SlotWord::pack(retired), SlotWord(9));
+    writes(&rt, SlotWord::pack(retired).0, 9);
     reads_slot(&rt, 9, Some(retired));
     let cleared = SlotParts::Weak {
         serial: u32::MAX,
         object: None,
     };
-    assert_eq!(rt; SlotWord::pack(cleared), SlotWord(0x3_ffff_ffff));
+    writes(&rt, SlotWord::pack(cleared).0, 0x3_ffff_ffff);
     reads_slot(&rt, 0x3_ffff_ffff, Some(cleared));
     reads_slot(&rt, u64::MAX, None);
 }
@@ -176,8 +76,8 @@ fn slots_of_one_bit(rt: HostRuntime) {
 }
 
 /// Asserts what a word is read as.
-fn reads_gate(rt: &impl Abort, word: u64, parts: Option<GateParts>) {
-    assert_eq!(rt; GateWord::parts(word), parts, "at {word:x}");
+fn reads_gate(rt: &impl Abort, word: u64, wanted: Option<GateParts>) {
+    reads(rt, word, GateWord::parts(word), wanted);
 }
 
 fn gate(count: u16, state: GateState) -> Option<GateParts> {
@@ -190,12 +90,12 @@ fn gates(rt: HostRuntime) {
         count: 1,
         state: GateState::Shut,
     };
-    assert_eq!(rt; GateWord::pack(barred), GateWord(65_537));
+    writes(&rt, GateWord::pack(barred).0, 65_537);
     let announced = GateParts {
         count: 2,
         state: GateState::Announced,
     };
-    assert_eq!(rt; GateWord::pack(announced), GateWord(131_074));
+    writes(&rt, GateWord::pack(announced).0, 131_074);
     assert_eq!(rt; GateWord::SHUT, 65_536);
     assert_eq!(rt; GateWord::ANNOUNCED, 131_072);
     reads_gate(&rt, 0, gate(0, GateState::Open));
@@ -217,14 +117,14 @@ fn gates(rt: HostRuntime) {
 }
 
 /// Asserts what a word is read as.
-fn reads_top(rt: &impl Abort, word: u64, parts: Option<TopParts>) {
-    assert_eq!(rt; TopWord::parts(word), parts, "at {word:x}");
+fn reads_top(rt: &impl Abort, word: u64, wanted: Option<TopParts>) {
+    reads(rt, word, TopWord::parts(word), wanted);
 }
 
 #[test]
 fn tops(rt: HostRuntime) {
     let full = TopParts { used: 0xff_ffff };
-    assert_eq!(rt; TopWord::pack(full), TopWord(0xff_ffff));
+    writes(&rt, TopWord::pack(full).0, 0xff_ffff);
     reads_top(&rt, 0, Some(TopParts { used: 0 }));
     reads_top(&rt, 0xff_ffff, Some(full));
     for k in 0..64_u32 {
@@ -237,8 +137,8 @@ fn tops(rt: HostRuntime) {
 }
 
 /// Asserts what a word is read as.
-fn reads_header(rt: &impl Abort, word: u64, parts: Option<HeaderParts>) {
-    assert_eq!(rt; Header::parts(word), parts, "at {word:x}");
+fn reads_header(rt: &impl Abort, word: u64, wanted: Option<HeaderParts>) {
+    reads(rt, word, Header::parts(word), wanted);
 }
 
 fn header(kind: Kind, length: u32, place: u32) -> Option<HeaderParts> {
@@ -256,7 +156,7 @@ fn headers(rt: HostRuntime) {
         length: 4,
         place: 5,
     };
-    assert_eq!(rt; Header::pack(ints), Header(1_342_177_350));
+    writes(&rt, Header::pack(ints).0, 1_342_177_350);
     reads_header(&rt, 1_342_177_350, Some(ints));
     let most = header(Kind::Text, 0xff_ffff, 0xff_ffff);
     reads_header(&rt, 0xf_ffff_ffff_fff9, most);
@@ -301,17 +201,14 @@ fn headers_of_one_bit(rt: HostRuntime) {
 }
 
 /// Asserts what a word is read as.
-fn reads_local(rt: &impl Abort, word: u64, parts: Option<LocalParts>) {
-    assert_eq!(rt; LocalWord::parts(word), parts, "at {word:x}");
+fn reads_local(rt: &impl Abort, word: u64, wanted: Option<LocalParts>) {
+    reads(rt, word, LocalWord::parts(word), wanted);
 }
 
 #[test]
 fn local_places(rt: HostRuntime) {
-    assert_eq!(rt; LocalWord::pack(LocalParts::Free), LocalWord(0));
-    assert_eq!(rt;
-        LocalWord::pack(LocalParts::Object(65_535)),
-        LocalWord(65_535)
-    );
+    writes(&rt, LocalWord::pack(LocalParts::Free).0, 0);
+    writes(&rt, LocalWord::pack(LocalParts::Object(65_535)).0, 65_535);
     reads_local(&rt, 0, Some(LocalParts::Free));
     for k in 0..64_u32 {
         let alone = match k {
