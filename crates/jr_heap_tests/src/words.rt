@@ -2,8 +2,8 @@
 ghost use Rattle.std.specs.Prelude.{◌≡◌, Some};
 
 use jr_word::{
-    Config, Elem, Fault, GateParts, GateState, GateWord, Header, HeaderParts, Kind, LocalParts,
-    LocalWord, SlotParts, SlotWord, TopParts, TopWord,
+    Config, Elem, Fault, GateParts, GateState, GateWord, Handle, Header, HeaderParts, Kind,
+    LocalParts, LocalWord, SlotParts, SlotWord, TopParts, TopWord,
 };
 use std::fmt::Debug;
 use std::process::Abort;
@@ -275,37 +275,95 @@ fn words_past_the_range(rt: HostRuntime) {
 }
 
 #[test]
-fn faults(rt: HostRuntime) -> Result<(), Fail> {
-    let all = [
+fn answers_as_handles(rt: HostRuntime) {
+    assert_eq!(rt; Handle::or_null(None), Handle::NULL);
+    assert_eq!(rt; Handle::or_null(Some(Handle(10))), Handle(10));
+}
+
+/// Each refusal, in the order of the numbers, and what it prints.
+const REFUSALS: [(Fault, &str); 23] = [
+    (
         Fault::Null,
-        Fault::Stale,
-        Fault::Foreign,
+        "E1: NULL or a cleared weak reference, where an object is needed",
+    ),
+    (Fault::Stale, "E2: no reference of this word stands"),
+    (Fault::Foreign, "E3: a local reference of another thread"),
+    (
         Fault::WrongKind,
+        "E4: a reference of another kind, or an object that is no string",
+    ),
+    (
         Fault::NotArray,
+        "E5: no array, where an array is needed, or a write to a string",
+    ),
+    (
         Fault::WrongElement,
+        "E6: an array of another element kind, or of objects in a critical call",
+    ),
+    (
         Fault::Range,
+        "E7: an index or a part outside of the array, string or copy",
+    ),
+    (
         Fault::RowFull,
+        "E8: each slot was occupied when the search came to it, or a moment later",
+    ),
+    (
         Fault::LocalsFull,
+        "E9: no local place is left, or fewer than asked for, or 256 frames are open",
+    ),
+    (
         Fault::SpaceFull(7),
-        Fault::ObjectsFull,
+        "E10: the request doesn't fit beside the words in use: 7",
+    ),
+    (Fault::ObjectsFull, "E11: every object number is present"),
+    (
         Fault::Raced(7, 8),
+        "E12: another thread reserved words meanwhile: 7 were in use, and then 8",
+    ),
+    (
         Fault::Barred,
+        "E13: a thread collects, or has announced that it will",
+    ),
+    (
         Fault::Busy(7),
-        Fault::NoFrame,
+        "E14: so many threads are inside, knocking, announcing or collecting: 7",
+    ),
+    (Fault::NoFrame, "E15: the base frame can't be popped"),
+    (
         Fault::Memory,
+        "E16: memory was refused, or a thread could not be started",
+    ),
+    (
         Fault::Size,
+        "E17: sizes outside of the limits, or a seventeenth level",
+    ),
+    (
         Fault::Value,
+        "E18: a word that is none of the array's element kind",
+    ),
+    (
         Fault::InCritical,
-        Fault::Turns,
-        Fault::NotFresh,
+        "E19: a command that a critical region forbids, or that needs one",
+    ),
+    (Fault::Turns, "E20: the turns ran out"),
+    (Fault::NotFresh, "E21: the pass had an env already"),
+    (
         Fault::LeftInside(7),
+        "E22: so many threads were inside, knocking, announcing or collecting at the close: 7",
+    ),
+    (
         Fault::Moved(7, 8),
-    ];
-    for (i, fault) in all.iter().enumerate() {
+        "E23: a thread went in or out before the announcement: 7 were inside or knocking, and then 8",
+    ),
+];
+
+#[test]
+fn faults(rt: HostRuntime) -> Result<(), Fail> {
+    for (i, (fault, text)) in REFUSALS.iter().enumerate() {
         let number = i + 1;
         let shown = format!(in rt.alloc(); "{fault}")?;
-        let label = format!(in rt.alloc(); "E{number}")?;
-        assert_eq!(rt; shown.as_str(), label.as_str());
+        assert_eq!(rt; shown.as_str(), *text);
         assert_eq!(rt; usize::from(fault.number()), number);
         let status = if number == 9 || number == 16 {
             Some(-4)
