@@ -9,8 +9,8 @@ use std::thread::Threads;
 use std::time::Duration;
 
 /// What a thread did, unless it gave up.
-fn called_of(done: &Option<Done>) -> Option<Called> {
-    match *done {
+fn called_of(done: &Option<Done>) -> Option<&Called> {
+    match done {
         Some(Done::Called(called)) => Some(called),
         _ => None,
     }
