@@ -18,7 +18,10 @@ mod objects;
 mod region;
 mod region_calls;
 mod regions;
+mod scope;
+mod upgrades;
 mod work;
 
 pub use env::Env;
 pub use region::Region;
+pub use scope::{LocalFrames, Scoped, with_local_frame};
