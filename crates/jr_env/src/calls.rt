@@ -10,3 +10,4 @@ mod making;
 mod meeting;
 mod objects;
 mod references;
+mod upgrades;

@@ -18,8 +18,9 @@ impl<'e, S: Steps> Region<'e, S> {
     ghost use Rattle.std.specs.Prelude.{◌≡◌, ◌<◌, ◌+◌, IfErr, IfOk, IfSome, Some, false, length};
     ghost use Rattle.std.specs.Borrow.{sem};
     ghost use Rattle.jr_model.specs.Objects.{nest_array, nest_string};
-    ghost use Rattle.jr_critical.specs.Levels.{objects_of, in_words, GivesUpLastOver, LeavesBefore, NestsOver, ReadsAt, TellsKind, TellsLength, WasAdded, WritesAt};
-    ghost use Rattle.jr_env.specs.StandingRegions.{StandsOn};
+    ghost use Rattle.jr_critical.specs.Levels.{objects_of, in_words, GivesUpAllOver, GivesUpLastOver, LeavesBefore, NestsOver, ReadsAt, TellsKind, TellsLength, WasAdded, WritesAt};
+    ghost use Rattle.jr_env.specs.Envs.{IsOutside};
+    ghost use Rattle.jr_env.specs.StandingRegions.{EndsUndisturbed, StandsOn};
     ghost use Rattle.jr_env.specs.Criticals.{env_of, levels_of, held_of, frames_of, rests_in_left};
 
     /// The region of an env whose levels stand.
@@ -173,5 +174,22 @@ impl<'e, S: Steps> Region<'e, S> {
             Some(levels) => Some(Region { env, levels }),
             None => None,
         }
+    }
+
+    /// Gives up all levels at once, whatever they are, and hands the env back: the thread has left the gate. It needs no mode, since a region is no copy.
+    ///
+    /// # Operations
+    ///
+    /// One, the exit.
+    pub fn release_all(self) -> &'e mut Env<S>
+        ensures same_reference { result.ghost_name ≡ (env_of self.entry).ghost_name }
+        ensures call { GivesUpAllOver (held_of self.entry) result.now.held (levels_of self.entry) }
+        ensures undisturbed { EndsUndisturbed (held_of self.entry) result.now.held (levels_of self.entry) }
+        ensures frames { result.now.held.frames ≡ frames_of self.entry }
+        ensures outside { IsOutside result.now }
+    {
+        let Region { env, levels } = self;
+        env.close_all_critical(levels);
+        env
     }
 }

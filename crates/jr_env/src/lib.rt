@@ -4,8 +4,10 @@
 mod calls;
 mod critical_region;
 mod env;
+mod scope;
 mod work;
 mod works;
 
 pub use critical_region::Region;
 pub use env::Env;
+pub use scope::{LocalFrames, Scoped, with_local_frame};

@@ -15,3 +15,5 @@ mod held;
 mod plain;
 #[cfg(test)]
 mod references;
+#[cfg(test)]
+mod ten_lines;
