@@ -1,4 +1,4 @@
-//! The calls of an env: those of the Java Native Interface, and those that it doesn't have.
+//! The calls of an env: those of the Java Native Interface, and those that it doesn't have; and each of most as a value, which can be made again.
 
 mod array_parts;
 mod collecting;
@@ -11,3 +11,14 @@ mod meeting;
 mod objects;
 mod references;
 mod upgrades;
+
+pub use array_parts::SetArrayRegion;
+pub use frames::{EnsureLocalCapacity, FreeLocals, PopLocalFrame, PushLocalFrame};
+pub use making::{NewArray, NewObjectArray, NewPlain, NewString};
+pub use objects::{
+    GetArrayLength, GetObjectArrayElement, GetStringLength, KindOf, SetObjectArrayElement,
+};
+pub use references::{
+    DeleteGlobalRef, DeleteLocalRef, DeleteWeakGlobalRef, GetObjectRefType, IsSameObject,
+    NewGlobalRef, NewLocalRef, NewWeakGlobalRef,
+};

@@ -1,13 +1,17 @@
 //! The calls of the Java Native Interface, as one thread makes them, over any steps.
 #![tactic(auto)]
 
-mod calls;
+pub mod calls;
 mod critical_region;
 mod env;
+mod env_call;
+mod retrying;
 mod scope;
 mod work;
 mod works;
 
 pub use critical_region::Region;
 pub use env::Env;
+pub use env_call::EnvCall;
+pub use retrying::{is_made_again, is_short_of_room};
 pub use scope::{LocalFrames, Scoped, with_local_frame};

@@ -1,5 +1,6 @@
 //! The calls of the Java Native Interface for parts of arrays, over any steps.
 use crate::env::Env;
+use crate::env_call::EnvCall;
 use crate::work::make;
 use crate::works::array_parts::{Part, PartWriting, copy_out};
 use jr_frames::Reference;
@@ -58,5 +59,21 @@ impl<S: Steps> Env<S> {
         let array = Reference::of(array);
         let part = Part { array, start };
         make(&mut self.held, PartWriting { part, elements })
+    }
+}
+
+/// Copies elements into a part of an array, from an index on.
+pub struct SetArrayRegion<'a, E>(pub Handle, pub u32, pub &'a [E]);
+
+impl<S: Steps, E: Elem> EnvCall<S> for SetArrayRegion<'_, E> {
+    ghost use Rattle.std.specs.Prelude.{map};
+    ghost use Rattle.jr_env.specs.Deeds.{set_array_region};
+
+    type Answer = ();
+
+    ghost deed = { λ c. set_array_region E.KIND c.0.0 c.1 (map E.word_of c.2.now) };
+
+    fn make(&self, env: &mut Env<S>) -> Result<(), Fault> {
+        env.set_array_region(self.0, self.1, self.2)
     }
 }

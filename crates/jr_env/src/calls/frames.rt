@@ -1,5 +1,6 @@
 //! The calls of the Java Native Interface for the frames of one thread, over any steps.
 use crate::env::Env;
+use crate::env_call::EnvCall;
 use crate::work::{make, outside};
 use crate::works::frames::{FramePop, LocalsFreeing};
 use jr_frames::Reference;
@@ -92,5 +93,69 @@ impl<S: Steps> Env<S> {
         ensures { Does self.old self.new free_locals result }
     {
         make(&mut self.held, LocalsFreeing)
+    }
+}
+
+/// Whether so many more local references can be made.
+#[derive(Clone, Copy)]
+pub struct EnsureLocalCapacity(pub u32);
+
+impl<S: Steps> EnvCall<S> for EnsureLocalCapacity {
+    ghost use Rattle.jr_env.specs.Deeds.{ensure_local_capacity};
+
+    type Answer = ();
+
+    ghost deed = { λ c. ensure_local_capacity c.0 };
+
+    fn make(&self, env: &mut Env<S>) -> Result<(), Fault> {
+        env.ensure_local_capacity(self.0)
+    }
+}
+
+/// A frame in which so many local references can be made.
+#[derive(Clone, Copy)]
+pub struct PushLocalFrame(pub u32);
+
+impl<S: Steps> EnvCall<S> for PushLocalFrame {
+    ghost use Rattle.jr_env.specs.Deeds.{push_local_frame};
+
+    type Answer = ();
+
+    ghost deed = { λ c. push_local_frame c.0 };
+
+    fn make(&self, env: &mut Env<S>) -> Result<(), Fault> {
+        env.push_local_frame(self.0)
+    }
+}
+
+/// The newest frame is taken away, and a local reference to what a handle names, none for NULL, goes to the frame below.
+#[derive(Clone, Copy)]
+pub struct PopLocalFrame(pub Handle);
+
+impl<S: Steps> EnvCall<S> for PopLocalFrame {
+    ghost use Rattle.jr_env.specs.Deeds.{pop_local_frame};
+
+    type Answer = Option<Handle>;
+
+    ghost deed = { λ c. pop_local_frame c.0.0 };
+
+    fn make(&self, env: &mut Env<S>) -> Result<Option<Handle>, Fault> {
+        env.pop_local_frame(self.0)
+    }
+}
+
+/// All local references of the thread are freed, and one frame is left.
+#[derive(Clone, Copy)]
+pub struct FreeLocals;
+
+impl<S: Steps> EnvCall<S> for FreeLocals {
+    ghost use Rattle.jr_env.specs.Deeds.{free_locals};
+
+    type Answer = ();
+
+    ghost deed = { λ _. free_locals };
+
+    fn make(&self, env: &mut Env<S>) -> Result<(), Fault> {
+        env.free_locals()
     }
 }

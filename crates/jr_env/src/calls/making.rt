@@ -1,10 +1,12 @@
 //! The calls of the Java Native Interface that make objects, over any steps.
 use crate::env::Env;
+use crate::env_call::EnvCall;
 use crate::work::make;
 use crate::works::making::{ArrayMaking, Making, ObjectArrayMaking, StringMaking};
 use jr_frames::Reference;
 use jr_steps::Steps;
 use jr_word::{Elem, Fault, Handle};
+use std::marker::PhantomData;
 
 impl<S: Steps> Env<S> {
     ghost use Rattle.jr_env.specs.Envs.{Does};
@@ -99,5 +101,83 @@ impl<S: Steps> Env<S> {
         let numbers = &mut self.numbers;
         let made = make(&mut self.held, StringMaking { numbers, units })?;
         Ok(Handle::pack(made))
+    }
+}
+
+/// A plain object and a local reference to it.
+#[derive(Clone, Copy)]
+pub struct NewPlain;
+
+impl<S: Steps> EnvCall<S> for NewPlain {
+    ghost use Rattle.jr_env.specs.Deeds.{new_plain};
+
+    type Answer = Handle;
+
+    ghost deed = { λ _. new_plain };
+
+    fn make(&self, env: &mut Env<S>) -> Result<Handle, Fault> {
+        env.new_plain()
+    }
+}
+
+/// An array of so many object references, each to what a handle names, and a local reference to it.
+#[derive(Clone, Copy)]
+pub struct NewObjectArray(pub u32, pub Handle);
+
+impl<S: Steps> EnvCall<S> for NewObjectArray {
+    ghost use Rattle.jr_env.specs.Deeds.{new_object_array};
+
+    type Answer = Handle;
+
+    ghost deed = { λ c. new_object_array c.0 c.1.0 };
+
+    fn make(&self, env: &mut Env<S>) -> Result<Handle, Fault> {
+        env.new_object_array(self.0, self.1)
+    }
+}
+
+/// A string of these units, and a local reference to it.
+#[derive(Clone, Copy)]
+pub struct NewString<'a>(pub &'a [u16]);
+
+impl<S: Steps> EnvCall<S> for NewString<'_> {
+    ghost use Rattle.jr_env.specs.Deeds.{new_string};
+
+    type Answer = Handle;
+
+    ghost deed = { λ c. new_string c.0.now };
+
+    fn make(&self, env: &mut Env<S>) -> Result<Handle, Fault> {
+        env.new_string(self.0)
+    }
+}
+
+/// An array of the elements of a type, so many, each zero, and a local reference to it.
+pub struct NewArray<E> {
+    length: u32,
+    element: PhantomData<E>,
+}
+
+impl<E: Elem> NewArray<E> {
+    ghost use Rattle.std.specs.Prelude.{◌≡◌};
+
+    /// The call that makes an array of so many elements.
+    pub fn of(length: u32) -> NewArray<E>
+        ensures { result.length ≡ length }
+    {
+        let element = PhantomData;
+        NewArray { length, element }
+    }
+}
+
+impl<S: Steps, E: Elem> EnvCall<S> for NewArray<E> {
+    ghost use Rattle.jr_env.specs.Deeds.{new_array};
+
+    type Answer = Handle;
+
+    ghost deed = { λ c. new_array E.KIND c.length };
+
+    fn make(&self, env: &mut Env<S>) -> Result<Handle, Fault> {
+        env.new_array::<E>(self.length)
     }
 }

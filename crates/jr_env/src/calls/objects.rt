@@ -1,5 +1,6 @@
 //! The calls of the Java Native Interface that look at objects, over any steps.
 use crate::env::Env;
+use crate::env_call::EnvCall;
 use crate::work::make;
 use crate::works::objects::{ArrayLength, ElementReading, ElementWriting, KindReading, TextLength};
 use jr_frames::Reference;
@@ -114,5 +115,85 @@ impl<S: Steps> Env<S> {
             value: named,
         };
         make(&mut self.held, work)
+    }
+}
+
+/// The kind of what a handle names.
+#[derive(Clone, Copy)]
+pub struct KindOf(pub Handle);
+
+impl<S: Steps> EnvCall<S> for KindOf {
+    ghost use Rattle.jr_env.specs.Deeds.{kind_of};
+
+    type Answer = Kind;
+
+    ghost deed = { λ c. kind_of c.0.0 };
+
+    fn make(&self, env: &mut Env<S>) -> Result<Kind, Fault> {
+        env.kind_of(self.0)
+    }
+}
+
+/// How many elements an array has.
+#[derive(Clone, Copy)]
+pub struct GetArrayLength(pub Handle);
+
+impl<S: Steps> EnvCall<S> for GetArrayLength {
+    ghost use Rattle.jr_env.specs.Deeds.{get_array_length};
+
+    type Answer = u32;
+
+    ghost deed = { λ c. get_array_length c.0.0 };
+
+    fn make(&self, env: &mut Env<S>) -> Result<u32, Fault> {
+        env.get_array_length(self.0)
+    }
+}
+
+/// How many units a string has.
+#[derive(Clone, Copy)]
+pub struct GetStringLength(pub Handle);
+
+impl<S: Steps> EnvCall<S> for GetStringLength {
+    ghost use Rattle.jr_env.specs.Deeds.{get_string_length};
+
+    type Answer = u32;
+
+    ghost deed = { λ c. get_string_length c.0.0 };
+
+    fn make(&self, env: &mut Env<S>) -> Result<u32, Fault> {
+        env.get_string_length(self.0)
+    }
+}
+
+/// A local reference to the element of an array of objects at an index, none where it is NULL.
+#[derive(Clone, Copy)]
+pub struct GetObjectArrayElement(pub Handle, pub u32);
+
+impl<S: Steps> EnvCall<S> for GetObjectArrayElement {
+    ghost use Rattle.jr_env.specs.Deeds.{get_object_array_element};
+
+    type Answer = Option<Handle>;
+
+    ghost deed = { λ c. get_object_array_element c.0.0 c.1 };
+
+    fn make(&self, env: &mut Env<S>) -> Result<Option<Handle>, Fault> {
+        env.get_object_array_element(self.0, self.1)
+    }
+}
+
+/// Makes what the second handle names the element of an array of objects at an index.
+#[derive(Clone, Copy)]
+pub struct SetObjectArrayElement(pub Handle, pub u32, pub Handle);
+
+impl<S: Steps> EnvCall<S> for SetObjectArrayElement {
+    ghost use Rattle.jr_env.specs.Deeds.{set_object_array_element};
+
+    type Answer = ();
+
+    ghost deed = { λ c. set_object_array_element c.0.0 c.1 c.2.0 };
+
+    fn make(&self, env: &mut Env<S>) -> Result<(), Fault> {
+        env.set_object_array_element(self.0, self.1, self.2)
     }
 }

@@ -3,6 +3,7 @@ ghost use Rattle.std.specs.Prelude.{◌≢◌};
 ghost use Rattle.jr_word.specs.declared.handle.RefKind.TheVariants.{Local, Global, Weak};
 
 use crate::env::Env;
+use crate::env_call::EnvCall;
 use crate::work::make;
 use crate::works::references::{
     Comparison, Creation, LocalCreation, LocalRemoval, Removal, Typing,
@@ -171,5 +172,137 @@ impl<S: Steps> Env<S> {
         let target = Reference::of(handle);
         let made = make(&mut self.held, Creation { kind, target })?;
         Ok(made.map(Handle::pack))
+    }
+}
+
+/// A global reference to what a handle names, none for NULL.
+#[derive(Clone, Copy)]
+pub struct NewGlobalRef(pub Handle);
+
+impl<S: Steps> EnvCall<S> for NewGlobalRef {
+    ghost use Rattle.jr_word.specs.declared.handle.RefKind.TheVariants.{Global};
+    ghost use Rattle.jr_env.specs.Deeds.{new_reference};
+
+    type Answer = Option<Handle>;
+
+    ghost deed = { λ c. new_reference Global c.0.0 };
+
+    fn make(&self, env: &mut Env<S>) -> Result<Option<Handle>, Fault> {
+        env.new_global_ref(self.0)
+    }
+}
+
+/// A weak global reference to what a handle names, none for NULL.
+#[derive(Clone, Copy)]
+pub struct NewWeakGlobalRef(pub Handle);
+
+impl<S: Steps> EnvCall<S> for NewWeakGlobalRef {
+    ghost use Rattle.jr_word.specs.declared.handle.RefKind.TheVariants.{Weak};
+    ghost use Rattle.jr_env.specs.Deeds.{new_reference};
+
+    type Answer = Option<Handle>;
+
+    ghost deed = { λ c. new_reference Weak c.0.0 };
+
+    fn make(&self, env: &mut Env<S>) -> Result<Option<Handle>, Fault> {
+        env.new_weak_global_ref(self.0)
+    }
+}
+
+/// A local reference to what a handle names, none for NULL.
+#[derive(Clone, Copy)]
+pub struct NewLocalRef(pub Handle);
+
+impl<S: Steps> EnvCall<S> for NewLocalRef {
+    ghost use Rattle.jr_env.specs.Deeds.{new_local_ref};
+
+    type Answer = Option<Handle>;
+
+    ghost deed = { λ c. new_local_ref c.0.0 };
+
+    fn make(&self, env: &mut Env<S>) -> Result<Option<Handle>, Fault> {
+        env.new_local_ref(self.0)
+    }
+}
+
+/// Deletes a global reference.
+#[derive(Clone, Copy)]
+pub struct DeleteGlobalRef(pub Handle);
+
+impl<S: Steps> EnvCall<S> for DeleteGlobalRef {
+    ghost use Rattle.jr_word.specs.declared.handle.RefKind.TheVariants.{Global};
+    ghost use Rattle.jr_env.specs.Deeds.{delete_reference};
+
+    type Answer = ();
+
+    ghost deed = { λ c. delete_reference Global c.0.0 };
+
+    fn make(&self, env: &mut Env<S>) -> Result<(), Fault> {
+        env.delete_global_ref(self.0)
+    }
+}
+
+/// Deletes a weak global reference.
+#[derive(Clone, Copy)]
+pub struct DeleteWeakGlobalRef(pub Handle);
+
+impl<S: Steps> EnvCall<S> for DeleteWeakGlobalRef {
+    ghost use Rattle.jr_word.specs.declared.handle.RefKind.TheVariants.{Weak};
+    ghost use Rattle.jr_env.specs.Deeds.{delete_reference};
+
+    type Answer = ();
+
+    ghost deed = { λ c. delete_reference Weak c.0.0 };
+
+    fn make(&self, env: &mut Env<S>) -> Result<(), Fault> {
+        env.delete_weak_global_ref(self.0)
+    }
+}
+
+/// Deletes a local reference.
+#[derive(Clone, Copy)]
+pub struct DeleteLocalRef(pub Handle);
+
+impl<S: Steps> EnvCall<S> for DeleteLocalRef {
+    ghost use Rattle.jr_env.specs.Deeds.{delete_local_ref};
+
+    type Answer = ();
+
+    ghost deed = { λ c. delete_local_ref c.0.0 };
+
+    fn make(&self, env: &mut Env<S>) -> Result<(), Fault> {
+        env.delete_local_ref(self.0)
+    }
+}
+
+/// Whether two handles name one object, or both none.
+#[derive(Clone, Copy)]
+pub struct IsSameObject(pub Handle, pub Handle);
+
+impl<S: Steps> EnvCall<S> for IsSameObject {
+    ghost use Rattle.jr_env.specs.Deeds.{is_same_object};
+
+    type Answer = bool;
+
+    ghost deed = { λ c. is_same_object c.0.0 c.1.0 };
+
+    fn make(&self, env: &mut Env<S>) -> Result<bool, Fault> {
+        env.is_same_object(self.0, self.1)
+    }
+}
+
+/// The type of a reference.
+#[derive(Clone, Copy)]
+pub struct GetObjectRefType(pub Handle);
+
+impl<S: Steps> EnvCall<S> for GetObjectRefType {
+    ghost use Rattle.jr_env.specs.Deeds.{get_object_ref_type};
+
+    type Answer = u8;
+
+    ghost deed = { λ c. get_object_ref_type c.0.0 };
+
+    fn make(&self, env: &mut Env<S>) -> Result<u8, Fault> {
+        env.get_object_ref_type(self.0)
     }
 }
