@@ -230,10 +230,6 @@ module _ (last thread : ℕ) (f g : Frames) (r : LocalRef) (a : IsAdded last thr
 
 -- A DELETED LOCAL REFERENCE
 
--- the reference has the handle
-abbrev pub has : Handle → LocalRef → Bool
-has h r = same_handle r.handle h
-
 abbrev pub other_than : Handle → LocalRef → Bool
 other_than h r = not (same_handle r.handle h)
 

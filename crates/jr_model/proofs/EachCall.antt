@@ -267,7 +267,7 @@ module _ (c : Config) (last thread : ℕ) (s : State) where
   lawful (CallOf.nest_array levels a) = before (level_array_prelude c last thread s (length levels) a) (λ o. prelude (done_prelude _))
   lawful (CallOf.nest_string levels a) = before (level_string_prelude c last thread s (length levels) a) (λ o. prelude (done_prelude _))
 
-  -- EACH CALL BELOW AN ENV
+  -- EACH OTHER CALL
   part_lawful : {a : AnswerKind} (x : PartOf a) → IsLawful (words_asked_by_part x) last thread (part_means c last thread s x)
   part_lawful PartOf.enter = enter_lawful
   part_lawful PartOf.leave = one_act _

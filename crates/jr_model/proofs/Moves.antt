@@ -18,7 +18,8 @@ use Rattle.jr_model.specs.Parts.{drop_local, frame_left, frame_to_pop, new_frame
 use Rattle.jr_model.specs.References.{resolved, room_for, added, new_local, freeing, popping}
 use Rattle.jr_model.specs.Moves.{MovesFrames}
 use Rattle.jr_model.proofs.Refused.{IsCalm, refuse_calm}
-use Rattle.jr_model.proofs.Agreement.{has, other_than}
+use Rattle.jr_model.proofs.Agreement.{other_than}
+use Rattle.jr_model.proofs.Gone.{has}
 use Rattle.jr_model.proofs.Preludes.{after_prelude, left_prelude, resolved_prelude, room_prelude, to_pop_prelude}
 
 leads_then : {last thread : ℕ} {f g h : Frames} → LeadsTo last thread f g → LeadsTo last thread g h → LeadsTo last thread f h

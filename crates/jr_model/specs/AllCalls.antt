@@ -71,7 +71,7 @@ pub data CallOf : AnswerKind → Type 0 where
   nest_array : List ℕ → Word → CallOf (both number (several number))
   nest_string : List ℕ → Word → CallOf (both number (several number))
 
--- A CALL BELOW AN ENV, with what it is handed: those of the gate, of slots, heap and frames within a stay, of the levels of a region, of copied elements, and of a collection
+-- ANY OTHER CALL, with what it is handed: those of the gate, of slots, heap and frames within a stay, of a level of a region, of copied elements, and of the room as a whole
 pub data PartOf : AnswerKind → Type 0 where
   enter : PartOf nothing
   leave : PartOf nothing
@@ -136,7 +136,7 @@ module _ (c : Config) (last thread : ℕ) (s : State) where
   means (nest_array levels a) = objects.nest_array c last thread s levels a
   means (nest_string levels a) = objects.nest_string c last thread s levels a
 
-  -- WHAT A CALL BELOW AN ENV MEANS
+  -- WHAT ANY OTHER CALL MEANS
   abbrev pub part_means : {a : AnswerKind} → PartOf a → Call (AnswerOf a)
   part_means enter = parts.enter
   part_means leave = parts.leave
@@ -187,7 +187,7 @@ words_asked (new_object_array n a) = n
 words_asked (new_string units) = length units
 words_asked _ = 0
 
--- how many a call below an env asks for: a reservation its own, and every other none
+-- how many any other call asks for: a reservation its own, and the rest none
 abbrev pub words_asked_by_part : {a : AnswerKind} → PartOf a → ℕ
 words_asked_by_part (reserve n) = n
 words_asked_by_part _ = 0

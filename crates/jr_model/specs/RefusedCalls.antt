@@ -46,6 +46,6 @@ pub record ChangesNothing {A : Type 0} (call : Call A) : Type 0 where
 abbrev pub RefusalsChangeNothing : Config → ℕ → ℕ → State → Type 0
 RefusalsChangeNothing c last thread s = (a : AnswerKind) (x : CallOf a) → ChangesNothing (means c last thread s x)
 
--- each call below an env
+-- each other call
 abbrev pub RefusedPartsChangeNothing : Config → ℕ → ℕ → State → Type 0
 RefusedPartsChangeNothing c last thread s = (a : AnswerKind) (x : PartOf a) → ChangesNothing (part_means c last thread s x)

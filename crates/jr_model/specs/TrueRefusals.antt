@@ -57,6 +57,6 @@ RefusesTruly asked call = (old new : PassView) (f g : Frames) (e : Fault) (r : R
 abbrev pub CallsRefuseTruly : Config → ℕ → ℕ → State → Type 0
 CallsRefuseTruly c last thread s = (a : AnswerKind) (x : CallOf a) → RefusesTruly (words_asked x) (means c last thread s x)
 
--- each call below an env
+-- each other call
 abbrev pub PartsRefuseTruly : Config → ℕ → ℕ → State → Type 0
 PartsRefuseTruly c last thread s = (a : AnswerKind) (x : PartOf a) → RefusesTruly (words_asked_by_part x) (part_means c last thread s x)
