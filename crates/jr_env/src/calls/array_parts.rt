@@ -63,6 +63,7 @@ impl<S: Steps> Env<S> {
 }
 
 /// Copies elements into a part of an array, from an index on.
+#[derive(Clone, Copy)]
 pub struct SetArrayRegion<'a, E>(pub Handle, pub u32, pub &'a [E]);
 
 impl<S: Steps, E: Elem> EnvCall<S> for SetArrayRegion<'_, E> {

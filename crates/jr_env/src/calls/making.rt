@@ -153,6 +153,7 @@ impl<S: Steps> EnvCall<S> for NewString<'_> {
 }
 
 /// An array of the elements of a type, so many, each zero, and a local reference to it.
+#[derive(Clone, Copy)]
 pub struct NewArray<E> {
     length: u32,
     element: PhantomData<E>,
