@@ -1,11 +1,13 @@
 //! What is tried of an env over plain words, in one function that makes the env: one that a test makes itself is dear to prove.
 
 use crate::collections::chains::{reaches_a_chain, reaches_a_cycle};
-use crate::envs::plain_env;
+use crate::collections::rows::{fills, fills_and_collects};
+use crate::envs::{LAST, has_words, plain_env};
 use crate::frames::frees_all;
 use crate::handles::{place_gives_more, slot_gives_more};
 use crate::references::{are_checked_in_turn, are_deleted_by_kind, are_no_references, goes_round};
 use jr_env::Env;
+use jr_rule::PlainSteps;
 use jr_steps::Steps;
 use jr_word::Config;
 use std::alloc::Global;
@@ -33,6 +35,10 @@ pub(crate) enum Case {
     Chain,
     /// A cycle of arrays.
     Cycle,
+    /// Two arrays, of which one is reached.
+    Filled,
+    /// The same, and a collection.
+    Collected,
 }
 
 /// Tries it in an env in which nothing stands.
@@ -52,16 +58,43 @@ fn try_case<S: Steps>(
         Case::Place => place_gives_more(rt, env),
         Case::Chain => reaches_a_chain(rt, alloc, env),
         Case::Cycle => reaches_a_cycle(rt, alloc, env),
+        Case::Filled => fills(env),
+        Case::Collected => fills_and_collects(rt, alloc, env),
     }
 }
 
-/// Tries it in a room of plain words, which is made for it.
+/// Tries it in a room of plain words, which is made for it. The env then.
+fn tried(
+    rt: &impl Abort,
+    alloc: Global,
+    config: Config,
+    case: Case,
+) -> Result<Env<PlainSteps<LAST>>, Fail> {
+    let mut env = plain_env(alloc, config)?;
+    try_case(rt, alloc, &mut env, case)?;
+    Ok(env)
+}
+
+/// Tries it in a room of plain words.
 pub(crate) fn try_plain(
     rt: &impl Abort,
     alloc: Global,
     config: Config,
     case: Case,
 ) -> Result<(), Fail> {
-    let mut env = plain_env(alloc, config)?;
-    try_case(rt, alloc, &mut env, case)
+    tried(rt, alloc, config, case)?;
+    Ok(())
+}
+
+/// The same, and checks the words of the row then.
+pub(crate) fn leaves_words(
+    rt: &impl Abort,
+    alloc: Global,
+    config: Config,
+    case: Case,
+    row: &[u64],
+) -> Result<(), Fail> {
+    let env = tried(rt, alloc, config, case)?;
+    has_words(rt, &env.held.steps.cells.words, row);
+    Ok(())
 }
