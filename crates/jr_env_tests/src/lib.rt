@@ -18,4 +18,6 @@ mod plain;
 #[cfg(test)]
 mod references;
 #[cfg(test)]
+mod scopes;
+#[cfg(test)]
 mod ten_lines;

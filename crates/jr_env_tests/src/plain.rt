@@ -6,6 +6,7 @@ use crate::envs::{LAST, has_words, plain_env};
 use crate::frames::frees_all;
 use crate::handles::{place_gives_more, slot_gives_more};
 use crate::references::{are_checked_in_turn, are_deleted_by_kind, are_no_references, goes_round};
+use crate::scopes::are_made;
 use jr_env::Env;
 use jr_rule::PlainSteps;
 use jr_steps::Steps;
@@ -39,6 +40,8 @@ pub(crate) enum Case {
     Filled,
     /// The same, and a collection.
     Collected,
+    /// Calls that are made of others.
+    OfOthers,
 }
 
 /// Tries it in an env in which nothing stands.
@@ -60,6 +63,7 @@ fn try_case<S: Steps>(
         Case::Cycle => reaches_a_cycle(rt, alloc, env),
         Case::Filled => fills(env),
         Case::Collected => fills_and_collects(rt, alloc, env),
+        Case::OfOthers => are_made(rt, env),
     }
 }
 
