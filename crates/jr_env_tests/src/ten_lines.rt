@@ -21,7 +21,7 @@ fn the_ten_lines_of_the_first_page(rt: HostRuntime) -> Result<(), Fail> {
     let mut marker = Marker::new(alloc, env.held.steps.config())?;
     let array = env.new_array::<i32>(2)?;
     env.set_array_region(array, 0, &[3, 4])?;
-    let weak = env.new_weak_global_ref(array)?.unwrap_or(Handle::NULL);
+    let weak = Handle::or_null(env.new_weak_global_ref(array)?);
     env.delete_local_ref(array)?;
     let collected = env.collect(&mut marker)?;
     let cleared = env.is_same_object(weak, Handle::NULL)?;
