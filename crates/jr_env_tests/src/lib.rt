@@ -15,3 +15,7 @@ mod held;
 mod plain;
 #[cfg(test)]
 mod references;
+#[cfg(test)]
+mod slot_threads;
+#[cfg(test)]
+mod words;
