@@ -20,4 +20,8 @@ mod references;
 #[cfg(test)]
 mod scopes;
 #[cfg(test)]
+mod slot_threads;
+#[cfg(test)]
 mod ten_lines;
+#[cfg(test)]
+mod words;

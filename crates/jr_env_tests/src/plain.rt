@@ -5,7 +5,7 @@ use crate::collections::rows::{fills, fills_and_collects};
 use crate::envs::{LAST, has_words, plain_env};
 use crate::frames::frees_all;
 use crate::handles::{place_gives_more, slot_gives_more};
-use crate::references::{are_checked_in_turn, are_deleted_by_kind, are_no_references, goes_round};
+use crate::references::{are_deleted_by_kind, goes_round};
 use crate::scopes::are_made;
 use jr_env::Env;
 use jr_rule::PlainSteps;
@@ -18,10 +18,6 @@ use std::test::Fail;
 /// What is tried.
 #[derive(Clone, Copy)]
 pub(crate) enum Case {
-    /// Words that are no reference.
-    NoReferences,
-    /// Checks of two references.
-    InTurn,
     /// References of another kind than is deleted.
     ByKind,
     /// Searches for a free slot.
@@ -52,8 +48,6 @@ fn try_case<S: Steps>(
     case: Case,
 ) -> Result<(), Fail> {
     match case {
-        Case::NoReferences => are_no_references(rt, env),
-        Case::InTurn => are_checked_in_turn(rt, env),
         Case::ByKind => are_deleted_by_kind(rt, env),
         Case::Round => goes_round(rt, env),
         Case::Frees => frees_all(rt, env),
