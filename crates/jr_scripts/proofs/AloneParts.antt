@@ -20,12 +20,13 @@ use Rattle.jr_syntax.specs.declared.verb.Make.TheVariants as make
 use Rattle.jr_frames.specs.Reading.{IsReadAs}
 use Rattle.jr_gate.specs.Performing.{Moment}
 use Rattle.jr_env.specs.Deeds.{Deed, call_on_by, call_on_both_by, decided, done, answered_by, ◌>>=◌}
-use Rattle.jr_scripts.specs.Tries.{Tried, answered, again, gave_up, is_tried_again}
-use Rattle.jr_scripts.specs.declared.standing.Standing.{Standing}
-use Rattle.jr_scripts.specs.declared.standing.Standing.TheVariants as stands
+use Rattle.jr_env.specs.Tries.{is_tried_again}
+use Rattle.jr_scripts.specs.Tries.{Tried, answered, again, gave_up}
+use Rattle.jr_scripts.specs.declared.binding.Binding.{Binding}
+use Rattle.jr_scripts.specs.declared.binding.Binding.TheVariants as bound
 use Rattle.jr_scripts.specs.Names.{Names, reference_in, referent, wanted}
 use Rattle.jr_scripts.specs.Commands.{the_reference, tried}
-use Rattle.jr_scripts.specs.AloneAnswers.{IsCommandFault, IsStandingBuffer, LacksTurns, MixesUp}
+use Rattle.jr_scripts.specs.AloneAnswers.{IsCommandFault, IsBoundToBuffer, LacksTurns, MixesUp}
 use Rattle.jr_scripts.proofs.AloneHistories.{all_prefix}
 use Rattle.jr_scripts.proofs.AloneCalls.{IsAlone, LedAlone, LeadsAlone, call_alone}
 use Rattle.jr_scripts.proofs.Uncontended.{Asked, IsUncontended}
@@ -114,22 +115,22 @@ module _ (turns : ℕ) (command : Asked) where
 -- WHAT NAMES STAND FOR
 
 module _ (turns : ℕ) (command : Asked) where
-  wanted_alone : (s : Standing) → (IsStandingBuffer s → MixesUp command.0 command.1) → (p : PassView) (f : Frames) → IfErr (wanted s) (IsCommandFault turns command.0 command.1 p f)
-  wanted_alone stands.Nothing mixed p f = tt
-  wanted_alone (stands.Reference h) mixed p f = tt
-  wanted_alone (stands.Buffer b) mixed p f = inr (mixed (b, refl))
+  wanted_alone : (s : Binding) → (IsBoundToBuffer s → MixesUp command.0 command.1) → (p : PassView) (f : Frames) → IfErr (wanted s) (IsCommandFault turns command.0 command.1 p f)
+  wanted_alone bound.Nothing mixed p f = tt
+  wanted_alone (bound.Reference h) mixed p f = tt
+  wanted_alone (bound.Buffer b) mixed p f = inr (mixed (b, refl))
 
-  referred_alone : (s : Standing) → (IsStandingBuffer s → MixesUp command.0 command.1) → (p : PassView) (f : Frames) → IfErr (reference_in s) (IsCommandFault turns command.0 command.1 p f)
-  referred_alone stands.Nothing mixed p f = tt
-  referred_alone (stands.Reference h) mixed p f = tt
-  referred_alone (stands.Buffer b) mixed p f = inr (mixed (b, refl))
+  referred_alone : (s : Binding) → (IsBoundToBuffer s → MixesUp command.0 command.1) → (p : PassView) (f : Frames) → IfErr (reference_in s) (IsCommandFault turns command.0 command.1 p f)
+  referred_alone bound.Nothing mixed p f = tt
+  referred_alone (bound.Reference h) mixed p f = tt
+  referred_alone (bound.Buffer b) mixed p f = inr (mixed (b, refl))
 
   -- what may be a reference or nothing
-  pub reference_in_alone : (names : Names) (r : Reference) → (IsStandingBuffer (referent names r) → MixesUp command.0 command.1) → LeadsAlone turns command (decided (reference_in (referent names r)))
+  pub reference_in_alone : (names : Names) (r : Reference) → (IsBoundToBuffer (referent names r) → MixesUp command.0 command.1) → LeadsAlone turns command (decided (reference_in (referent names r)))
   reference_in_alone names r mixed = decided_alone turns command _ (referred_alone (referent names r) mixed)
 
   -- a reference that the command wants, for which a buffer mixes it up
-  pub the_reference_alone : (names : Names) (r : Reference) → (IsStandingBuffer (referent names r) → MixesUp command.0 command.1) → LeadsAlone turns command (the_reference names r)
+  pub the_reference_alone : (names : Names) (r : Reference) → (IsBoundToBuffer (referent names r) → MixesUp command.0 command.1) → LeadsAlone turns command (the_reference names r)
   the_reference_alone names r mixed = decided_alone turns command _ (wanted_alone (referent names r) mixed)
 
 -- DEEDS FROM A MOMENT THAT IS SO

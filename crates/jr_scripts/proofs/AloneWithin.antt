@@ -35,8 +35,8 @@ use Rattle.jr_syntax.specs.declared.verb.OpenLevel.{OpenLevel}
 use Rattle.jr_syntax.specs.declared.verb.OpenLevel.TheVariants as at
 use Rattle.jr_scripts.specs.declared.reply.Reply.{Reply}
 use Rattle.jr_scripts.specs.declared.reply.Reply.TheVariants as replies
-use Rattle.jr_scripts.specs.declared.standing.Standing.{Standing}
-use Rattle.jr_scripts.specs.declared.standing.Standing.TheVariants as stands
+use Rattle.jr_scripts.specs.declared.binding.Binding.{Binding}
+use Rattle.jr_scripts.specs.declared.binding.Binding.TheVariants as bound
 use Rattle.jr_scripts.specs.Names.{referent, wanted}
 use Rattle.jr_scripts.specs.Numbers.{has_numbers, is_number_of, word_of_number}
 use Rattle.jr_scripts.specs.Places.{Place, level_wanted, newest, nth_object}
@@ -294,10 +294,10 @@ writing_at_by p n i v = choose_by (level_wanted (newest p.levels n)) (λ m so. n
 -- THE COMMANDS
 
 module _ (p : Place) (n : List ℕ) (r : Reference) where
-  wanted_by : (v : OpenLevel) (x : Standing) → referent p.names r ≡ x → (m : Moment) → IfErr (wanted x) (IsNestingFault p (commands.OpenLevel v n r) (state m.pass.seen))
-  wanted_by v stands.Nothing is m = tt
-  wanted_by v (stands.Reference h) is m = tt
-  wanted_by v (stands.Buffer b) is m = inr (inl (inl (b, is)))
+  wanted_by : (v : OpenLevel) (x : Binding) → referent p.names r ≡ x → (m : Moment) → IfErr (wanted x) (IsNestingFault p (commands.OpenLevel v n r) (state m.pass.seen))
+  wanted_by v bound.Nothing is m = tt
+  wanted_by v (bound.Reference h) is m = tt
+  wanted_by v (bound.Buffer b) is m = inr (inl (inl (b, is)))
 
   nesting_by : (v : OpenLevel) (w : ℕ) → LeadsBy Always (IsNestingFault p (commands.OpenLevel v n r)) (nesting v p.objects w)
   nesting_by at.Array w = record {

@@ -20,14 +20,15 @@ use Rattle.jr_syntax.specs.declared.verb.PutAt.TheVariants as put_at
 use Rattle.jr_scripts.specs.declared.number.NumberKind.{NumberKind}
 use Rattle.jr_scripts.specs.declared.reply.Reply.{Reply}
 use Rattle.jr_scripts.specs.declared.reply.Reply.TheVariants as replies
-use Rattle.jr_scripts.specs.declared.standing.Standing.{Standing}
-use Rattle.jr_scripts.specs.declared.standing.Standing.TheVariants.{Nothing, Buffer}
+use Rattle.jr_scripts.specs.declared.binding.Binding.{Binding}
+use Rattle.jr_scripts.specs.declared.binding.Binding.TheVariants.{Nothing, Buffer}
 use Rattle.jr_scripts.specs.declared.buffer.CopiedElements.{CopiedElements}
 use Rattle.jr_scripts.specs.Buffers.{Copied, copied_as, copied_in, copy_of}
-use Rattle.jr_scripts.specs.Names.{Names, getting, names_put, putting, standing, standing_left}
+use Rattle.jr_scripts.specs.Names.{Names, getting, names_put, putting, binding, binding_left}
 use Rattle.jr_scripts.specs.Numbers.{kind_numbered}
 use Rattle.jr_scripts.specs.Commands.{copying, copying_as, deed, releasing, tried}
-use Rattle.jr_scripts.specs.Tries.{Tried, is_tried_again}
+use Rattle.jr_env.specs.Tries.{is_tried_again}
+use Rattle.jr_scripts.specs.Tries.{Tried}
 use Rattle.jr_scripts.specs.Text.{buffers_after, elements_left, left_by}
 use Rattle.jr_scripts.specs.Advancing.{got_by, put_by}
 use Rattle.jr_gate.specs.Performing.{Moment}
@@ -61,21 +62,21 @@ some_left k word_of Abort (Ok r) values left b is kept = absurd cc
 some_left k word_of mode (Err e) values left b is kept = let same : left ≡ values = cc in ap (λ xs. Buffer (copied_as k word_of xs)) same ∙ ap (λ (x : Copied). Buffer x) is
 
 -- and none
-pub none_left : {A : Type 0} (mode : Mode) (answer : Result Reply Fault) (values : A) (s : Standing) → ◌≡◌ {A = Option A} None (elements_left mode answer values) → Nothing ≡ left_by mode answer s
+pub none_left : {A : Type 0} (mode : Mode) (answer : Result Reply Fault) (values : A) (s : Binding) → ◌≡◌ {A = Option A} None (elements_left mode answer values) → Nothing ≡ left_by mode answer s
 none_left Copy (Ok r) values s gone = refl
 none_left Commit (Ok r) values s gone = absurd cc
 none_left Abort (Ok r) values s gone = refl
 none_left mode (Err e) values s gone = absurd cc
 
 -- a call that is made again leaves what stood there
-pub left_again : (mode : Mode) (answer : Result Reply Fault) (s : Standing) → is_tried_again answer ≡ true → left_by mode answer s ≡ s
+pub left_again : (mode : Mode) (answer : Result Reply Fault) (s : Binding) → is_tried_again answer ≡ true → left_by mode answer s ≡ s
 left_again mode (Ok r) s more = absurd cc
 left_again mode (Err e) s more = refl
 
 module _ {S : Type 0} {facts : S → Facts} where
   -- the same is released
-  pub does_release_same : {a b : S} {f g : Frames} {answer : Result Reply Fault} (turns w : ℕ) (mode : Mode) (s t : Standing) → s ≡ t → DoesDeed facts a b f g (tried turns (releasing w mode s)) answer → DoesDeed facts a b f g (tried turns (releasing w mode t)) answer
-  does_release_same {a} {b} {f} {g} {answer} turns w mode s t is = subst (λ (x : Standing). DoesDeed facts a b f g (tried turns (releasing w mode x)) answer) is
+  pub does_release_same : {a b : S} {f g : Frames} {answer : Result Reply Fault} (turns w : ℕ) (mode : Mode) (s t : Binding) → s ≡ t → DoesDeed facts a b f g (tried turns (releasing w mode s)) answer → DoesDeed facts a b f g (tried turns (releasing w mode t)) answer
+  does_release_same {a} {b} {f} {g} {answer} turns w mode s t is = subst (λ (x : Binding). DoesDeed facts a b f g (tried turns (releasing w mode x)) answer) is
 
   -- the same elements are released, and the answer is handed on
   pub does_release_of : {a b : S} {f g : Frames} (w : ℕ) (mode : Mode) (x y : Copied) (answer handed : Result Reply Fault) → x ≡ y → handed ≡ answer → DoesDeed facts a b f g (answered_by (λ _. replies.Done) (release_array_elements x.kind w x.words mode)) answer → DoesDeed facts a b f g (answered_by (λ _. replies.Done) (release_array_elements y.kind w y.words mode)) handed
@@ -123,11 +124,11 @@ all_left Abort x y e is = ap (λ z. Some z) is
 
 -- what is left of elements of a type, as what a name stands for
 pub left_mapped : {V : Type 0} (k : Kind) (word_of : V → ℕ) (wrap : List V → CopiedElements) → ((vs : List V) → copied_in (wrap vs) ≡ copied_as k word_of vs) → (mode : Mode) (answer : Result Reply Fault) (values : List V) (left : Option (List V)) (mapped : Option CopiedElements) (b : Copied)
-    → copied_as k word_of values ≡ b → left ≡ elements_left mode answer values → MatchOption left (mapped ≡ None) (λ x. IsSomeAnd mapped (λ y. y ≡ wrap x)) → standing_left mapped ≡ left_by mode answer (Buffer b)
+    → copied_as k word_of values ≡ b → left ≡ elements_left mode answer values → MatchOption left (mapped ≡ None) (λ x. IsSomeAnd mapped (λ y. y ≡ wrap x)) → binding_left mapped ≡ left_by mode answer (Buffer b)
 left_mapped k word_of wrap same mode answer values (Some x) (Some y) b is left cases =
     ap (λ (z : CopiedElements). Buffer (copied_in z)) cases ∙ (ap (λ (z : Copied). Buffer z) (same x) ∙ some_left k word_of mode answer values x b is left)
 left_mapped k word_of wrap same mode answer values (Some x) None b is left cases = absurd cases
-left_mapped k word_of wrap same mode answer values None mapped b is left cases = ap standing_left cases ∙ none_left mode answer values (Buffer b) left
+left_mapped k word_of wrap same mode answer values None mapped b is left cases = ap binding_left cases ∙ none_left mode answer values (Buffer b) left
 
 -- what was put was answered so
 pub done_of : {A : Type 0} (r : Result A Fault) → ◌≡◌ {A = Result (Unit {0}) Fault} (Ok tt) (answer_in (λ _. tt) r) → ◌≡◌ {A = Result Reply Fault} (Ok replies.Done) (answer_in (λ _. replies.Done) r)
@@ -140,15 +141,15 @@ refused_of (Err d) e answer is given = let why = err_from_is_err_and answer give
 
 -- a number at an index, where the verb is known to ask for a buffer's or for a level's
 module _ {S : Type 0} {facts : S → Facts} {a : S} {f : Frames} (turns : ℕ) (names : Names) where
-  pub does_get : (v : OnNameAt) (n : List ℕ) (i : ℕ) (answer : Result Reply Fault) → answer ≡ got_by v (answer_in (λ x. replies.Value x) (getting i (standing names n))) → DoesDeed facts a a f f (deed turns names (commands.OnNameAt v n i)) answer
-  does_get on_name_at.Get n i answer is = does_decide (getting i (standing names n)) (λ x. replies.Value x) answer is
+  pub does_get : (v : OnNameAt) (n : List ℕ) (i : ℕ) (answer : Result Reply Fault) → answer ≡ got_by v (answer_in (λ x. replies.Value x) (getting i (binding names n))) → DoesDeed facts a a f f (deed turns names (commands.OnNameAt v n i)) answer
+  does_get on_name_at.Get n i answer is = does_decide (getting i (binding names n)) (λ x. replies.Value x) answer is
   does_get on_name_at.GetInLevel n i answer is = does_nothing (λ p. (is, refl))
 
-  pub does_put : (v : PutAt) (n : List ℕ) (i : ℕ) (x : ℤ) (answer : Result Reply Fault) → answer ≡ put_by v (answer_in (λ _. replies.Done) (putting i x (standing names n))) → DoesDeed facts a a f f (deed turns names (commands.PutAt v n i x)) answer
-  does_put put_at.Put n i x answer is = does_decide (putting i x (standing names n)) (λ _. replies.Done) answer is
+  pub does_put : (v : PutAt) (n : List ℕ) (i : ℕ) (x : ℤ) (answer : Result Reply Fault) → answer ≡ put_by v (answer_in (λ _. replies.Done) (putting i x (binding names n))) → DoesDeed facts a a f f (deed turns names (commands.PutAt v n i x)) answer
+  does_put put_at.Put n i x answer is = does_decide (putting i x (binding names n)) (λ _. replies.Done) answer is
   does_put put_at.PutInLevel n i x answer is = does_nothing (λ p. (is, refl))
 
 -- the names once a buffer was changed, or that was refused
-pub buffers_put : (names : Names) (n : List ℕ) (i : ℕ) (x : ℤ) (r : Result Standing Fault) (answer : Result Reply Fault) → answer ≡ answer_in (λ _. replies.Done) r → r ≡ putting i x (standing names n) → names_put names n r ≡ buffers_after (commands.PutAt put_at.Put n i x) answer names
+pub buffers_put : (names : Names) (n : List ℕ) (i : ℕ) (x : ℤ) (r : Result Binding Fault) (answer : Result Reply Fault) → answer ≡ answer_in (λ _. replies.Done) r → r ≡ putting i x (binding names n) → names_put names n r ≡ buffers_after (commands.PutAt put_at.Put n i x) answer names
 buffers_put names n i x (Ok s) answer is same = ap (names_put names n) same ∙ ap (λ a. buffers_after (commands.PutAt put_at.Put n i x) a names) (sym is)
 buffers_put names n i x (Err e) answer is same = ap (λ a. buffers_after (commands.PutAt put_at.Put n i x) a names) (sym is)

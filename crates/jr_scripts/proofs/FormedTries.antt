@@ -4,7 +4,8 @@ use Rattle.jr_word.specs.declared.fault.Fault.{Fault}
 use Rattle.jr_word.specs.declared.fault.Fault.TheVariants as fault
 use Rattle.jr_gate.specs.Performing.{Moment}
 use Rattle.jr_env.specs.Deeds.{Deed, done, answered_by}
-use Rattle.jr_scripts.specs.Tries.{Tried, answered, again, gave_up, is_tried_again}
+use Rattle.jr_env.specs.Tries.{is_tried_again}
+use Rattle.jr_scripts.specs.Tries.{Tried, answered, again, gave_up}
 
 -- an answer in another form
 abbrev pub formed : {A B : Type 0} → (A → B) → Result A Fault → Result B Fault

@@ -10,7 +10,8 @@ use Rattle.jr_syntax.specs.declared.command.Command.TheVariants as commands
 use Rattle.jr_syntax.specs.declared.verb.Make.TheVariants as make
 use Rattle.jr_gate.specs.Performing.{Moment}
 use Rattle.jr_env.specs.Deeds.{free_locals}
-use Rattle.jr_scripts.specs.Tries.{Tried, answered, again, gave_up, is_tried_again}
+use Rattle.jr_env.specs.Tries.{is_tried_again}
+use Rattle.jr_scripts.specs.Tries.{Tried, answered, again, gave_up}
 use Rattle.jr_scripts.specs.Names.{no_names}
 use Rattle.jr_scripts.specs.Posting.{Talk}
 use Rattle.jr_scripts.specs.Explains.{Explained}

@@ -22,12 +22,12 @@ use Rattle.jr_frames.specs.Table.{Table}
 use Rattle.jr_gate.specs.Performing.{IsAsBefore, IsMade, Moment, Performed, moment}
 use Rattle.jr_gate.proofs.Spending.{made_of, spend_none}
 use Rattle.jr_critical.specs.declared.levels.Levels.{Levels}
-use Rattle.jr_critical.specs.Levels.{GivesUpAll, KnowsLevels, LearnsFirst, Nests, Opens, Reaches, Stand, TellsKind, level_nested, level_object, object_opened, objects_of, role_opened}
+use Rattle.jr_critical.specs.Levels.{KnowsLevels, LearnsFirst, Nests, Opens, Reaches, Stand, TellsKind, level_nested, level_object, object_opened, objects_of, role_opened}
 use Rattle.jr_steps.specs.declared.steps.Steps.{Ghosts}
 use Rattle.jr_env.specs.declared.env.Env.{Env}
 use Rattle.jr_env.specs.Envs.{IsOutside}
 use Rattle.jr_env.specs.Criticals.{HasEntered, WasRefused}
-use Rattle.jr_env.specs.Deeds.{Deed, DoesDeed, decided, done, ◌>>=◌, ◌>>◌}
+use Rattle.jr_env.specs.Deeds.{Deed, decided, done, ◌>>=◌, ◌>>◌}
 use Rattle.jr_syntax.specs.declared.verb.OpenLevel.{OpenLevel}
 use Rattle.jr_scripts.specs.declared.number.NumberKind.{NumberKind}
 use Rattle.jr_scripts.specs.declared.reply.Reply.{Reply}
@@ -35,7 +35,6 @@ use Rattle.jr_scripts.specs.declared.reply.Reply.TheVariants as replies
 use Rattle.jr_scripts.specs.Advancing.{CarriedOut, DidOpen, KnowsOpened}
 use Rattle.jr_scripts.specs.Numbers.{has_numbers, kind_numbered, word_of_number}
 use Rattle.jr_scripts.specs.Names.{Names}
-use Rattle.jr_scripts.specs.Places.{Place}
 use Rattle.jr_scripts.specs.Text.{buffers_after}
 use Rattle.jr_syntax.specs.declared.command.Command.{Command}
 use Rattle.jr_syntax.specs.declared.command.Command.TheVariants as commands
@@ -43,8 +42,9 @@ use Rattle.jr_syntax.specs.declared.verb.PutAt.{PutAt}
 use Rattle.jr_syntax.specs.declared.verb.PutAt.TheVariants as put_at
 use Rattle.jr_scripts.proofs.CommandDeeds.{numbered_has}
 use Rattle.jr_scripts.specs.Commands.{opening_by, opens, tried}
-use Rattle.jr_scripts.specs.Tries.{answered, again, gave_up, is_tried_again}
-use Rattle.jr_scripts.specs.RegionCommands.{deed_at, deed_within, giving_up, in_stay, kind_of_level, nesting, nests, read_kind, level_reading, reading_as, level_writing, writing_as}
+use Rattle.jr_env.specs.Tries.{is_tried_again}
+use Rattle.jr_scripts.specs.Tries.{answered, again, gave_up}
+use Rattle.jr_scripts.specs.RegionCommands.{deed_at, deed_within, in_stay, kind_of_level, nesting, nests, read_kind, level_reading, reading_as, level_writing, writing_as}
 
 -- the same room and thread, and this role
 pub in_role : {s t : Standing} (r : Role) → IsAsBefore s t → s.role ≡ r → IsAsBefore (record s { role = r }) t

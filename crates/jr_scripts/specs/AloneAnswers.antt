@@ -22,10 +22,10 @@ use Rattle.jr_syntax.specs.declared.verb.OnNameAt.TheVariants as on_name_at
 use Rattle.jr_syntax.specs.declared.verb.PutAt.TheVariants as put_at
 use Rattle.jr_syntax.specs.declared.verb.Release.TheVariants as release
 use Rattle.jr_syntax.specs.declared.verb.OpenLevel.TheVariants as at
-use Rattle.jr_scripts.specs.declared.standing.Standing.{Standing}
-use Rattle.jr_scripts.specs.declared.standing.Standing.TheVariants as stands
+use Rattle.jr_scripts.specs.declared.binding.Binding.{Binding}
+use Rattle.jr_scripts.specs.declared.binding.Binding.TheVariants as bound
 use Rattle.jr_scripts.specs.Buffers.{Copied}
-use Rattle.jr_scripts.specs.Names.{Names, referent, standing}
+use Rattle.jr_scripts.specs.Names.{Names, referent, binding}
 use Rattle.jr_gate.specs.Performing.{Moment}
 use Rattle.jr_scripts.specs.Posting.{Talk}
 use Rattle.jr_scripts.specs.Explains.{Explains, nothing, then}
@@ -85,7 +85,7 @@ SomeObject s P = (o : ℕ) × (x : Contents) × (s.objects o ≡ Some x) × P x.
 
 -- the name stands for a buffer that is so, by its kind and its length
 abbrev pub SomeBuffer : Names → List ℕ → (Kind → ℕ → Type 0) → Type 0
-SomeBuffer names n P = (b : Copied) × (standing names n ≡ stands.Buffer b) × P b.kind (length b.words)
+SomeBuffer names n P = (b : Copied) × (binding names n ≡ bound.Buffer b) × P b.kind (length b.words)
 
 -- `slen`, `chars` and `critstr`, where some object is no string; no other command wants a string
 abbrev pub LacksText : State → Command → Type 0
@@ -166,23 +166,23 @@ references_of (commands.OpenLevel v n r) = r ∷ []
 references_of _ = []
 
 -- what stands there is a buffer
-abbrev pub IsStandingBuffer : Standing → Type 0
-IsStandingBuffer s = (b : Copied) × (s ≡ stands.Buffer b)
+abbrev pub IsBoundToBuffer : Binding → Type 0
+IsBoundToBuffer s = (b : Copied) × (s ≡ bound.Buffer b)
 
 -- one of the references stands for a buffer
 abbrev pub HasBuffer : Names → List Reference → Type 0
 HasBuffer names [] = ⊥
-HasBuffer names (r ∷ rs) = IsStandingBuffer (referent names r) ⊎ HasBuffer names rs
+HasBuffer names (r ∷ rs) = IsBoundToBuffer (referent names r) ⊎ HasBuffer names rs
 
 -- what stands there is a reference
-abbrev pub IsStandingReference : Standing → Type 0
-IsStandingReference s = (h : Handle) × (s ≡ stands.Reference h)
+abbrev pub IsBoundToReference : Binding → Type 0
+IsBoundToReference s = (h : Handle) × (s ≡ bound.Reference h)
 
 -- `eget`, `eput` and `release` want a buffer, and their name stands for a reference; no other command wants one
 abbrev pub LacksBuffer : Names → Command → Type 0
-LacksBuffer names (commands.OnNameAt on_name_at.Get n i) = IsStandingReference (standing names n)
-LacksBuffer names (commands.PutAt put_at.Put n i x) = IsStandingReference (standing names n)
-LacksBuffer names (commands.Release release.Elements n r mode) = IsStandingReference (standing names n)
+LacksBuffer names (commands.OnNameAt on_name_at.Get n i) = IsBoundToReference (binding names n)
+LacksBuffer names (commands.PutAt put_at.Put n i x) = IsBoundToReference (binding names n)
+LacksBuffer names (commands.Release release.Elements n r mode) = IsBoundToReference (binding names n)
 LacksBuffer names _ = ⊥
 
 -- a name of the command stands for a buffer where a reference is wanted, or for a reference where a buffer is wanted

@@ -38,10 +38,10 @@ use Rattle.jr_syntax.specs.declared.verb.OpenLevel.TheVariants as at
 use Rattle.jr_scripts.specs.declared.reply.Reply.{Reply}
 use Rattle.jr_scripts.specs.declared.reply.Reply.TheVariants as replies
 use Rattle.jr_frames.specs.Reading.{IsReadAs}
-use Rattle.jr_scripts.specs.declared.standing.Standing.{Standing}
-use Rattle.jr_scripts.specs.declared.standing.Standing.TheVariants as stands
+use Rattle.jr_scripts.specs.declared.binding.Binding.{Binding}
+use Rattle.jr_scripts.specs.declared.binding.Binding.TheVariants as bound
 use Rattle.jr_scripts.specs.Buffers.{copy_of}
-use Rattle.jr_scripts.specs.Names.{Names, buffer_in, getting, putting, reference_in, referent, standing, wanted}
+use Rattle.jr_scripts.specs.Names.{Names, buffer_in, getting, putting, reference_in, referent, binding, wanted}
 use Rattle.jr_weak.specs.declared.collecting.Collected.{Collected}
 use Rattle.jr_env.specs.Collections.{announced_collection, collection}
 use Rattle.jr_env.specs.Deeds.{Deed, decided, done, new_plain, new_array, new_object_array, new_string, new_reference, new_local_ref, delete_reference, delete_local_ref, is_same_object, get_object_ref_type, push_local_frame, ensure_local_capacity, pop_local_frame, kind_of, get_array_length, get_string_length, get_object_array_element, set_object_array_element, get_array_region, set_array_region, get_array_elements, release_array_elements, get_string_chars, answered_by, ◌>>=◌, ◌>>◌}
@@ -143,10 +143,10 @@ module _ (turns : ℕ) where
     storing_as w i v k
 
 -- the buffer that stands there is released to the array that a word names, by one call: E2 where nothing stands there, E4 where a reference does
-abbrev pub releasing : ℕ → Mode → Standing → Deed Reply
-releasing w mode stands.Nothing = decided (Err fault.Stale)
-releasing w mode (stands.Reference h) = decided (Err fault.WrongKind)
-releasing w mode (stands.Buffer b) = answered_by (λ _. replies.Done) (release_array_elements b.kind w b.words mode)
+abbrev pub releasing : ℕ → Mode → Binding → Deed Reply
+releasing w mode bound.Nothing = decided (Err fault.Stale)
+releasing w mode (bound.Reference h) = decided (Err fault.WrongKind)
+releasing w mode (bound.Buffer b) = answered_by (λ _. replies.Done) (release_array_elements b.kind w b.words mode)
 
 -- the call that opens a region
 abbrev pub opens : OpenLevel → Config → ℕ → ℕ → State → Word → Call ℕ
@@ -282,13 +282,13 @@ module _ (turns : ℕ) (names : Names) where
   deed (commands.OnNameAt on_name_at.GetInLevel n i) = decided (Err fault.InCritical)
   deed (commands.PutAt put_at.PutInLevel n i x) = decided (Err fault.InCritical)
   deed (commands.OnNameAt on_name_at.Get n i) = do
-    x ← decided (getting i (standing names n))
+    x ← decided (getting i (binding names n))
     done (replies.Value x)
   deed (commands.PutAt put_at.Put n i x) = do
-    decided (putting i x (standing names n))
+    decided (putting i x (binding names n))
     done replies.Done
   deed (commands.Release release.Elements n r mode) = do
-    b ← decided (buffer_in (standing names n))
+    b ← decided (buffer_in (binding names n))
     w ← the_reference names r
     tried turns (release_array_elements b.kind w.0 b.words mode)
     done replies.Done

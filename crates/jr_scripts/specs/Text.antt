@@ -19,9 +19,9 @@ use Rattle.jr_syntax.specs.declared.command.Command.{Command}
 use Rattle.jr_syntax.specs.declared.command.Command.TheVariants as commands
 use Rattle.jr_scripts.specs.declared.reply.Reply.{Reply}
 use Rattle.jr_scripts.specs.declared.reply.Reply.TheVariants as replies
-use Rattle.jr_scripts.specs.declared.standing.Standing.{Standing}
-use Rattle.jr_scripts.specs.declared.standing.Standing.TheVariants as stands
-use Rattle.jr_scripts.specs.Names.{Names, names_put, null, putting, standing, with_name}
+use Rattle.jr_scripts.specs.declared.binding.Binding.{Binding}
+use Rattle.jr_scripts.specs.declared.binding.Binding.TheVariants as bound
+use Rattle.jr_scripts.specs.Names.{Names, names_put, null, putting, binding, with_name}
 
 -- a line of words with its line feed
 abbrev pub text_line : List (List ℕ) → List ℕ
@@ -82,18 +82,18 @@ reference_made None = null
 reference_made (Some h) = h
 
 -- what a command that made something makes its name stand for
-abbrev pub standing_made : Reply → Option Standing
-standing_made (replies.Made h) = Some (stands.Reference (reference_made h))
-standing_made (replies.Copied b) = Some (stands.Buffer b)
-standing_made _ = None
+abbrev pub binding_made : Reply → Option Binding
+binding_made (replies.Made h) = Some (bound.Reference (reference_made h))
+binding_made (replies.Copied b) = Some (bound.Buffer b)
+binding_made _ = None
 
-abbrev pub names_with : Option Standing → Option (List ℕ) → Names → Names
+abbrev pub names_with : Option Binding → Option (List ℕ) → Names → Names
 names_with (Some s) (Some n) names = with_name names n s
 names_with _ _ names = names
 
 -- the names once a command's own is set: a command that makes something sets its name, and a refused one sets nothing
 abbrev pub names_set : Command → Result Reply Fault → Names → Names
-names_set c (Ok reply) names = names_with (standing_made reply) (sets c) names
+names_set c (Ok reply) names = names_with (binding_made reply) (sets c) names
 names_set c (Err e) names = names
 
 -- what a release leaves of the elements: themselves where it was to commit or was refused, and else nothing
@@ -103,15 +103,15 @@ elements_left Commit (Ok _) x = Some x
 elements_left mode (Ok _) x = None
 
 -- what stands there after a release: the buffer where it was to commit or was refused, and else nothing
-abbrev pub left_by : Mode → Result Reply Fault → Standing → Standing
+abbrev pub left_by : Mode → Result Reply Fault → Binding → Binding
 left_by mode (Err e) s = s
 left_by Commit (Ok _) s = s
-left_by mode (Ok _) s = stands.Nothing
+left_by mode (Ok _) s = bound.Nothing
 
 -- the names once a command changed or freed the buffer of its name, which no other command does, and no refused one
 abbrev pub buffers_after : Command → Result Reply Fault → Names → Names
-buffers_after (commands.PutAt put_at.Put n i x) (Ok reply) names = names_put names n (putting i x (standing names n))
-buffers_after (commands.Release release.Elements n r mode) (Ok reply) names = with_name names n (left_by mode (Ok reply) (standing names n))
+buffers_after (commands.PutAt put_at.Put n i x) (Ok reply) names = names_put names n (putting i x (binding names n))
+buffers_after (commands.Release release.Elements n r mode) (Ok reply) names = with_name names n (left_by mode (Ok reply) (binding names n))
 buffers_after _ _ names = names
 
 -- THE NAMES after a command

@@ -1,14 +1,8 @@
--- Calls that are made again.
-use Rattle.std.specs.Prelude.{◌≡◌, ℕ, suc, Bool, true, false, Result, Err}
+-- Calls of scripts that are made again.
+use Rattle.std.specs.Prelude.{◌≡◌, ℕ, suc, true, false, Result, Err}
 use Rattle.jr_word.specs.declared.fault.Fault.{Fault}
 use Rattle.jr_word.specs.declared.fault.Fault.TheVariants as fault
-
--- a call with this answer is made again: it was raced or barred, or another thread went in or out while it announced
-abbrev pub is_tried_again : {A : Type 0} → Result A Fault → Bool
-is_tried_again (Err (fault.Raced l f)) = true
-is_tried_again (Err fault.Barred) = true
-is_tried_again (Err (fault.Moved l f)) = true
-is_tried_again _ = false
+use Rattle.jr_env.specs.Tries.{is_tried_again}
 
 -- up to so many tries, until one is answered otherwise; and else the turns ran out
 pub data Tried {M A : Type 0} (one : M → Result A Fault → M → Type 0) : ℕ → M → Result A Fault → M → Type 0 where

@@ -4,10 +4,9 @@ ghost use Rattle.jr_env.specs.Deeds.{answered_by};
 ghost use Rattle.jr_env.specs.Envs.{WasDone, IsOutside};
 ghost use Rattle.jr_scripts.specs.Commands.{tried};
 
-use crate::env_call::EnvCall;
 use crate::reply::{IntoReply, Reply};
 use crate::retry::retry;
-use jr_env::Env;
+use jr_env::{Env, EnvCall};
 use jr_steps::Steps;
 use jr_word::Fault;
 

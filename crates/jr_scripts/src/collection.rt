@@ -7,8 +7,7 @@ ghost use Rattle.jr_env.specs.Envs.{IsOutside, WasDone};
 ghost use Rattle.jr_scripts.specs.Commands.{collecting, collecting_announced, collecting_by, tried};
 
 use crate::reply::Reply;
-use crate::retry::is_made_again;
-use jr_env::Env;
+use jr_env::{Env, is_made_again};
 use jr_steps::Steps;
 use jr_syntax::{Command, Tries};
 use jr_weak::{Collected, Marker};

@@ -2,9 +2,8 @@
 
 use crate::buffer::{Buffer, CopiedElements, buffer_of};
 use crate::copied_units::CopiedUnits;
-use crate::env_call::EnvCall;
 use crate::number::NumberKind;
-use jr_env::Env;
+use jr_env::{Env, EnvCall};
 use jr_steps::Steps;
 use jr_word::{Fault, Handle};
 use std::alloc::Global;

@@ -7,23 +7,23 @@ ghost use Rattle.jr_env.specs.Envs.{WasDone, IsOutside};
 ghost use Rattle.jr_syntax.specs.declared.command.Command.TheVariants as commands;
 ghost use Rattle.jr_syntax.specs.declared.verb.Release.TheVariants as release_verbs;
 ghost use Rattle.jr_scripts.specs.declared.reply.Reply.TheVariants as replies;
-ghost use Rattle.jr_scripts.specs.declared.standing.Standing.TheVariants.{Buffer as Holds};
-ghost use Rattle.jr_scripts.specs.Names.{getting, names_put, putting, standing as standing_at, standing_left};
+ghost use Rattle.jr_scripts.specs.declared.binding.Binding.TheVariants.{Buffer as Holds};
+ghost use Rattle.jr_scripts.specs.Names.{getting, names_put, putting, binding as binding_at, binding_left};
 ghost use Rattle.jr_scripts.specs.Commands.{copying, deed, releasing, tried};
 ghost use Rattle.jr_scripts.specs.Text.{buffers_after, elements_left, left_by};
 ghost use Rattle.jr_scripts.specs.Advancing.{got_by, put_by as put_by_verb};
 
 use crate::ask::ask;
+use crate::binding::Binding;
 use crate::buffer::{Buffer, CopiedElements};
 use crate::copy_call::GetElements;
 use crate::names::Names;
 use crate::number::NumberKind;
-use crate::object_call::KindOf;
 use crate::reply::Reply;
-use crate::retry::{is_made_again, retry};
-use crate::standing::Standing;
+use crate::retry::retry;
 use jr_elements::Elements;
-use jr_env::Env;
+use jr_env::calls::KindOf;
+use jr_env::{Env, is_made_again};
 use jr_model::Mode;
 use jr_steps::Steps;
 use jr_syntax::{Name, OnNameAt, PutAt, Reference as Target};
@@ -47,14 +47,14 @@ pub(crate) fn copy<S: Steps>(
 
 /// The number at an index of the buffer that a name stands for.
 fn get(names: &Names, name: &Name, index: u32) -> Result<Reply, Fault>
-    ensures { result ≡ answer_in (λ x. replies.Value x) (getting index (standing_at names.now name.now)) }
+    ensures { result ≡ answer_in (λ x. replies.Value x) (getting index (binding_at names.now name.now)) }
 {
     Ok(Reply::Value(names.get(name, index)?))
 }
 
 /// The number at an index of the buffer that a name stands for, where that is what the verb asks for: E19 where it asks for a level's.
 pub(crate) fn get_by(names: &Names, verb: OnNameAt, name: &Name, index: u32) -> Result<Reply, Fault>
-    ensures { result ≡ got_by verb (answer_in (λ x. replies.Value x) (getting index (standing_at names.now name.now))) }
+    ensures { result ≡ got_by verb (answer_in (λ x. replies.Value x) (getting index (binding_at names.now name.now))) }
 {
     match verb {
         OnNameAt::Get => get(names, name, index),
@@ -64,8 +64,8 @@ pub(crate) fn get_by(names: &Names, verb: OnNameAt, name: &Name, index: u32) -> 
 
 /// Makes a number the element at an index of the buffer that a name stands for.
 fn put(names: &mut Names, name: &Name, index: u32, number: i64) -> Result<Reply, Fault>
-    ensures answer { result ≡ answer_in (λ _. replies.Done) (putting index number (standing_at names.old name.now)) }
-    ensures names { names.new ≡ names_put names.old name.now (putting index number (standing_at names.old name.now)) }
+    ensures answer { result ≡ answer_in (λ _. replies.Done) (putting index number (binding_at names.old name.now)) }
+    ensures names { names.new ≡ names_put names.old name.now (putting index number (binding_at names.old name.now)) }
 {
     names.put(name, index, number)?;
     Ok(Reply::Done)
@@ -79,7 +79,7 @@ pub(crate) fn put_by(
     index: u32,
     number: i64,
 ) -> Result<Reply, Fault>
-    ensures answer { result ≡ put_by_verb verb (answer_in (λ _. replies.Done) (putting index number (standing_at names.old name.now))) }
+    ensures answer { result ≡ put_by_verb verb (answer_in (λ _. replies.Done) (putting index number (binding_at names.old name.now))) }
     ensures names { names.new ≡ buffers_after (commands.PutAt verb name.now index number) result names.old }
 {
     match verb {
@@ -92,7 +92,7 @@ pub(crate) fn put_by(
 #[derive(Drop)]
 struct Released {
     /// What the name stands for afterwards.
-    left: Standing,
+    left: Binding,
     /// The reply, or the refusal.
     answer: Result<Reply, Fault>,
 }
@@ -117,11 +117,11 @@ fn release_elements<S: Steps, E: Elem>(
 /// A reply, and the copied elements that are left, if they are.
 fn with_left(left: Option<CopiedElements>, answer: Result<Reply, Fault>) -> Released
     ensures answer { result.answer ≡ answer }
-    ensures left { result.left ≡ standing_left left }
+    ensures left { result.left ≡ binding_left left }
 {
     let left = match left {
-        Some(elements) => Standing::Buffer(Buffer { elements }),
-        None => Standing::Nothing,
+        Some(elements) => Binding::Buffer(Buffer { elements }),
+        None => Binding::Nothing,
     };
     Released { left, answer }
 }
@@ -162,24 +162,19 @@ fn release_buffer<S: Steps>(env: &mut Env<S>, array: Handle, buffer: Buffer, mod
 }
 
 /// Releases the buffer that stands there, by one call: E2 where nothing stands there, E4 where a reference does.
-fn release_once<S: Steps>(
-    env: &mut Env<S>,
-    array: Handle,
-    standing: Standing,
-    mode: Mode,
-) -> Released
+fn release_once<S: Steps>(env: &mut Env<S>, array: Handle, binding: Binding, mode: Mode) -> Released
     requires { IsOutside env.old }
-    ensures call { WasDone env.old env.new (releasing array.0 mode standing) result.answer }
-    ensures left { result.left ≡ left_by mode result.answer standing }
+    ensures call { WasDone env.old env.new (releasing array.0 mode binding) result.answer }
+    ensures left { result.left ≡ left_by mode result.answer binding }
 {
-    match standing {
-        Standing::Buffer(buffer) => release_buffer(env, array, buffer, mode),
-        Standing::Nothing => Released {
-            left: Standing::Nothing,
+    match binding {
+        Binding::Buffer(buffer) => release_buffer(env, array, buffer, mode),
+        Binding::Nothing => Released {
+            left: Binding::Nothing,
             answer: Err(Fault::Stale),
         },
-        Standing::Reference(handle) => Released {
-            left: Standing::Reference(handle),
+        Binding::Reference(handle) => Released {
+            left: Binding::Reference(handle),
             answer: Err(Fault::WrongKind),
         },
     }
@@ -190,14 +185,14 @@ fn release_again<S: Steps>(
     env: &mut Env<S>,
     turns: u64,
     array: Handle,
-    standing: Standing,
+    binding: Binding,
     mode: Mode,
 ) -> Released
     requires { IsOutside env.old }
-    ensures call { WasDone env.old env.new (tried turns (releasing array.0 mode standing)) result.answer }
-    ensures left { result.left ≡ left_by mode result.answer standing }
+    ensures call { WasDone env.old env.new (tried turns (releasing array.0 mode binding)) result.answer }
+    ensures left { result.left ≡ left_by mode result.answer binding }
 {
-    let mut left = standing;
+    let mut left = binding;
     for _ in 0..turns {
         let released = release_once(env, array, left, mode);
         if !is_made_again(&released.answer) {
@@ -226,8 +221,8 @@ pub(crate) fn release<S: Steps>(
 {
     names.buffer(name)?;
     let array = names.wanted(target)?;
-    let standing = names.take(name);
-    let released = release_again(env, turns, array, standing, mode);
+    let binding = names.take(name);
+    let released = release_again(env, turns, array, binding, mode);
     let _ = names.set(name, released.left);
     released.answer
 }

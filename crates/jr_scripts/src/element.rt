@@ -5,10 +5,11 @@ ghost use Rattle.jr_scripts.specs.Commands.{loading, storing};
 
 use crate::ask::ask;
 use crate::number::{Element, NumberKind};
-use crate::object_call::{GetNumber, KindOf, SetElement};
+use crate::object_call::{GetNumber, SetElement};
 use crate::reply::Reply;
 use crate::retry::retry;
 use jr_env::Env;
+use jr_env::calls::KindOf;
 use jr_steps::Steps;
 use jr_word::{Fault, Handle};
 

@@ -4,6 +4,7 @@
 mod advance;
 mod all;
 mod ask;
+mod binding;
 mod board;
 mod buffer;
 mod collection;
@@ -11,7 +12,6 @@ mod copied_units;
 mod copy_call;
 mod copy_commands;
 mod element;
-mod env_call;
 mod hold;
 mod laws;
 mod names;
@@ -31,7 +31,6 @@ mod retry;
 mod run;
 mod runnable;
 mod single;
-mod standing;
 mod starting;
 mod to_end;
 

@@ -1,7 +1,7 @@
 //! What the names of a thread stand for.
 
+use crate::binding::Binding;
 use crate::buffer::Buffer;
-use crate::standing::Standing;
 use jr_syntax::{Name, Reference};
 use jr_word::{Fault, Handle};
 use std::alloc::{AllocError, Global};
@@ -13,33 +13,33 @@ use std::mem;
 #[derive(Drop)]
 pub struct Names {
     /// What each name was set to last.
-    standings: BTreeMap<Name, Standing>,
+    bindings: BTreeMap<Name, Binding>,
 }
 
 impl Model for Names {
     ghost use Rattle.std.specs.Coded.{coded_ℕ, coded_list};
     ghost use Rattle.std.specs.FinMap as map;
-    ghost use Rattle.jr_scripts.specs.Names.{Names as NamesView, coded_standing};
+    ghost use Rattle.jr_scripts.specs.Names.{Names as NamesView, coded_binding};
 
     ghost Value = { NamesView };
 
-    ghost coded = { map.code (coded_list coded_ℕ) coded_standing };
+    ghost coded = { map.code (coded_list coded_ℕ) coded_binding };
 
-    ghost view = { λ n. map.from_entries n.standings.entries };
+    ghost view = { λ n. map.from_entries n.bindings.entries };
 }
 
 impl Names {
     ghost use Rattle.std.specs.Prelude.{◌≡◌, Ok, Err, OnOk, OnErr, MatchResult};
     ghost use Rattle.jr_elements.specs.Copies.{answer_in};
-    ghost use Rattle.jr_scripts.specs.declared.standing.Standing.TheVariants.{Nothing};
-    ghost use Rattle.jr_scripts.specs.Names.{IsSet, buffer_in, getting, names_put, no_names, putting, reference_in, referent, standing, wanted, with_name, word_posted};
+    ghost use Rattle.jr_scripts.specs.declared.binding.Binding.TheVariants.{Nothing};
+    ghost use Rattle.jr_scripts.specs.Names.{IsSet, buffer_in, getting, names_put, no_names, putting, reference_in, referent, binding, wanted, with_name, word_posted};
 
     /// No name stands for anything; takes no memory.
     pub fn new(alloc: Global) -> Names
         ensures { result ≡ no_names }
     {
         Names {
-            standings: BTreeMap::new(alloc),
+            bindings: BTreeMap::new(alloc),
         }
     }
 
@@ -49,10 +49,10 @@ impl Names {
     ///
     /// E4 where it stands for a buffer.
     pub fn reference(&self, name: &Name) -> Result<Option<Handle>, Fault>
-        ensures { result ≡ reference_in (standing self.now name.now) }
+        ensures { result ≡ reference_in (binding self.now name.now) }
     {
-        match self.standings.get(name) {
-            Some(standing) => standing.reference(),
+        match self.bindings.get(name) {
+            Some(binding) => binding.reference(),
             None => Ok(None),
         }
     }
@@ -63,10 +63,10 @@ impl Names {
     ///
     /// E2 where it stands for nothing, E4 where it stands for a buffer.
     pub fn handle(&self, name: &Name) -> Result<Handle, Fault>
-        ensures { result ≡ wanted (standing self.now name.now) }
+        ensures { result ≡ wanted (binding self.now name.now) }
     {
-        match self.standings.get(name) {
-            Some(standing) => standing.wanted(),
+        match self.bindings.get(name) {
+            Some(binding) => binding.wanted(),
             None => Err(Fault::Stale),
         }
     }
@@ -75,8 +75,8 @@ impl Names {
     pub fn word(&self, name: &Name) -> u64
         ensures { result ≡ word_posted self.now name.now }
     {
-        match self.standings.get(name) {
-            Some(standing) => standing.word(),
+        match self.bindings.get(name) {
+            Some(binding) => binding.word(),
             None => 0,
         }
     }
@@ -87,10 +87,10 @@ impl Names {
     ///
     /// E2 where it stands for nothing, E4 where it stands for a reference.
     pub fn buffer(&self, name: &Name) -> Result<&Buffer, Fault>
-        ensures { MatchResult result (λ buffer. buffer_in (standing self.now name.now) ≡ Ok buffer.now) (λ e. buffer_in (standing self.now name.now) ≡ Err e) }
+        ensures { MatchResult result (λ buffer. buffer_in (binding self.now name.now) ≡ Ok buffer.now) (λ e. buffer_in (binding self.now name.now) ≡ Err e) }
     {
-        match self.standings.get(name) {
-            Some(standing) => standing.buffer(),
+        match self.bindings.get(name) {
+            Some(binding) => binding.buffer(),
             None => Err(Fault::Stale),
         }
     }
@@ -101,10 +101,10 @@ impl Names {
     ///
     /// E2 where it stands for nothing, E4 where it stands for a reference, and E7 past the buffer's end.
     pub fn get(&self, name: &Name, index: u32) -> Result<i64, Fault>
-        ensures { result ≡ getting index (standing self.now name.now) }
+        ensures { result ≡ getting index (binding self.now name.now) }
     {
-        match self.standings.get(name) {
-            Some(standing) => standing.get(index),
+        match self.bindings.get(name) {
+            Some(binding) => binding.get(index),
             None => Err(Fault::Stale),
         }
     }
@@ -115,24 +115,24 @@ impl Names {
     ///
     /// E2 where it stands for nothing, E4 where it stands for a reference, E18 and E7 as the buffer's: the names are as they were.
     pub fn put(&mut self, name: &Name, index: u32, number: i64) -> Result<(), Fault>
-        ensures answer { result ≡ answer_in (λ _. tt) (putting index number (standing self.old name.now)) }
-        ensures names { self.new ≡ names_put self.old name.now (putting index number (standing self.old name.now)) }
+        ensures answer { result ≡ answer_in (λ _. tt) (putting index number (binding self.old name.now)) }
+        ensures names { self.new ≡ names_put self.old name.now (putting index number (binding self.old name.now)) }
     {
-        match self.standings.get_mut(name) {
-            Some(standing) => standing.put(index, number),
+        match self.bindings.get_mut(name) {
+            Some(binding) => binding.put(index, number),
             None => Err(Fault::Stale),
         }
     }
 
     /// What a name stands for is handed out, and the name, if it was set, stands for nothing.
-    pub fn take(&mut self, name: &Name) -> Standing
-        ensures old { result ≡ standing self.old name.now }
+    pub fn take(&mut self, name: &Name) -> Binding
+        ensures old { result ≡ binding self.old name.now }
         ensures new { IsSet self.old name.now → self.new ≡ with_name self.old name.now Nothing }
         ensures unset { (IsSet self.old name.now → ⊥) → self.new ≡ self.old }
     {
-        match self.standings.get_mut(name) {
-            Some(standing) => mem::replace(standing, Standing::Nothing),
-            None => Standing::Nothing,
+        match self.bindings.get_mut(name) {
+            Some(binding) => mem::replace(binding, Binding::Nothing),
+            None => Binding::Nothing,
         }
     }
 
@@ -141,12 +141,12 @@ impl Names {
     /// # Errors
     ///
     /// Memory was refused, as it may be for a name that was never set: the names are as they were.
-    pub fn set(&mut self, name: &Name, standing: Standing) -> Result<(), AllocError>
-        ensures ok { OnOk result (self.new ≡ with_name self.old name.now standing) }
+    pub fn set(&mut self, name: &Name, binding: Binding) -> Result<(), AllocError>
+        ensures ok { OnOk result (self.new ≡ with_name self.old name.now binding) }
         ensures err { OnErr result (self.new ≡ self.old) }
         ensures absent { OnErr result (IsSet self.old name.now → ⊥) }
     {
-        self.standings.insert(name.copy(), standing)?;
+        self.bindings.insert(name.copy(), binding)?;
         Ok(())
     }
 

@@ -1,16 +1,15 @@
-//! The calls of an env that make, read and write objects, as values.
+//! The calls of an env at arrays of a kind that only the script says, as values.
 
 ghost use Rattle.std.specs.Prelude.{◌≡◌, length};
 ghost use Rattle.jr_env.specs.Deeds.{answered_by, get_array_region};
-ghost use Rattle.jr_env.specs.Envs.{WasDone, IsOutside};
+ghost use Rattle.jr_env.specs.Envs.{Does};
 ghost use Rattle.jr_scripts.specs.Numbers.{first_number};
 
-use crate::env_call::EnvCall;
 use crate::number::{Element, Number, NumberKind};
-use jr_env::Env;
+use jr_env::{Env, EnvCall};
 use jr_steps::Steps;
-use jr_syntax::{MakeSized, Units};
-use jr_word::{Fault, Handle, Kind};
+use jr_syntax::MakeSized;
+use jr_word::{Fault, Handle};
 
 /// An array of the kind that a verb makes with so many elements, each zero, and a local reference to it.
 #[derive(Clone, Copy)]
@@ -36,118 +35,6 @@ impl<S: Steps> EnvCall<S> for NewArray {
     }
 }
 
-/// An array of so many object references, each to what a handle names, and a local reference to it.
-#[derive(Clone, Copy)]
-pub struct NewObjectArray(pub u32, pub Handle);
-
-impl<S: Steps> EnvCall<S> for NewObjectArray {
-    ghost use Rattle.jr_env.specs.Deeds.{new_object_array};
-
-    type Answer = Handle;
-
-    ghost deed = { λ c. new_object_array c.0 c.1.0 };
-
-    fn make(&self, env: &mut Env<S>) -> Result<Handle, Fault> {
-        env.new_object_array(self.0, self.1)
-    }
-}
-
-/// A string of these units, and a local reference to it.
-#[derive(Clone, Copy)]
-pub struct NewString<'a>(pub &'a Units);
-
-impl<S: Steps> EnvCall<S> for NewString<'_> {
-    ghost use Rattle.jr_env.specs.Deeds.{new_string};
-
-    type Answer = Handle;
-
-    ghost deed = { λ c. new_string c.0.now };
-
-    fn make(&self, env: &mut Env<S>) -> Result<Handle, Fault> {
-        env.new_string(self.0.as_slice())
-    }
-}
-
-/// The kind of what a handle names.
-#[derive(Clone, Copy)]
-pub struct KindOf(pub Handle);
-
-impl<S: Steps> EnvCall<S> for KindOf {
-    ghost use Rattle.jr_env.specs.Deeds.{kind_of};
-
-    type Answer = Kind;
-
-    ghost deed = { λ c. kind_of c.0.0 };
-
-    fn make(&self, env: &mut Env<S>) -> Result<Kind, Fault> {
-        env.kind_of(self.0)
-    }
-}
-
-/// How many elements an array has.
-#[derive(Clone, Copy)]
-pub struct GetArrayLength(pub Handle);
-
-impl<S: Steps> EnvCall<S> for GetArrayLength {
-    ghost use Rattle.jr_env.specs.Deeds.{get_array_length};
-
-    type Answer = u32;
-
-    ghost deed = { λ c. get_array_length c.0.0 };
-
-    fn make(&self, env: &mut Env<S>) -> Result<u32, Fault> {
-        env.get_array_length(self.0)
-    }
-}
-
-/// How many units a string has.
-#[derive(Clone, Copy)]
-pub struct GetStringLength(pub Handle);
-
-impl<S: Steps> EnvCall<S> for GetStringLength {
-    ghost use Rattle.jr_env.specs.Deeds.{get_string_length};
-
-    type Answer = u32;
-
-    ghost deed = { λ c. get_string_length c.0.0 };
-
-    fn make(&self, env: &mut Env<S>) -> Result<u32, Fault> {
-        env.get_string_length(self.0)
-    }
-}
-
-/// A local reference to the element of an array of objects at an index, none where it is NULL.
-#[derive(Clone, Copy)]
-pub struct GetObjectArrayElement(pub Handle, pub u32);
-
-impl<S: Steps> EnvCall<S> for GetObjectArrayElement {
-    ghost use Rattle.jr_env.specs.Deeds.{get_object_array_element};
-
-    type Answer = Option<Handle>;
-
-    ghost deed = { λ c. get_object_array_element c.0.0 c.1 };
-
-    fn make(&self, env: &mut Env<S>) -> Result<Option<Handle>, Fault> {
-        env.get_object_array_element(self.0, self.1)
-    }
-}
-
-/// Makes what the second handle names the element of an array of objects at an index.
-#[derive(Clone, Copy)]
-pub struct SetObjectArrayElement(pub Handle, pub u32, pub Handle);
-
-impl<S: Steps> EnvCall<S> for SetObjectArrayElement {
-    ghost use Rattle.jr_env.specs.Deeds.{set_object_array_element};
-
-    type Answer = ();
-
-    ghost deed = { λ c. set_object_array_element c.0.0 c.1 c.2.0 };
-
-    fn make(&self, env: &mut Env<S>) -> Result<(), Fault> {
-        env.set_object_array_element(self.0, self.1, self.2)
-    }
-}
-
 /// The number of the element at an index of an array of this type, by a buffer of one element.
 fn read_number<S: Steps, E: Number>(
     env: &mut Env<S>,
@@ -155,9 +42,8 @@ fn read_number<S: Steps, E: Number>(
     index: u32,
     elements: &mut [E],
 ) -> Result<i64, Fault>
-    requires one { length elements.old ≡ 1 }
-    requires outside { IsOutside env.old }
-    ensures { WasDone env.old env.new (answered_by (λ words. first_number E.KIND words) (get_array_region E.KIND array.0 index 1)) result }
+    requires { length elements.old ≡ 1 }
+    ensures { Does env.old env.new (answered_by (λ words. first_number E.KIND words) (get_array_region E.KIND array.0 index 1)) result }
 {
     env.get_array_region(array, index, &mut *elements)?;
     Ok(elements[0].to_number())

@@ -18,18 +18,16 @@ use crate::collection::collect;
 use crate::copy_call::GetStringChars;
 use crate::copy_commands::{copy, get_by, put_by, release};
 use crate::element::{load, store};
-use crate::env_call::{
-    DeleteGlobalRef, DeleteLocalRef, DeleteWeakGlobalRef, EnsureLocalCapacity, GetObjectRefType,
-    IsSameObject, NewGlobalRef, NewLocalRef, NewPlain, NewWeakGlobalRef, PopLocalFrame,
-    PushLocalFrame,
-};
 use crate::names::Names;
-use crate::object_call::{
-    GetArrayLength, GetObjectArrayElement, GetStringLength, NewArray, NewObjectArray, NewString,
-    SetObjectArrayElement,
-};
+use crate::object_call::NewArray;
 use crate::reply::Reply;
 use jr_env::Env;
+use jr_env::calls::{
+    DeleteGlobalRef, DeleteLocalRef, DeleteWeakGlobalRef, EnsureLocalCapacity, GetArrayLength,
+    GetObjectArrayElement, GetObjectRefType, GetStringLength, IsSameObject, NewGlobalRef,
+    NewLocalRef, NewObjectArray, NewPlain, NewString, NewWeakGlobalRef, PopLocalFrame,
+    PushLocalFrame, SetObjectArrayElement,
+};
 use jr_frames::Reference;
 use jr_steps::Steps;
 use jr_syntax::{Command, MakeFrom, On, Reference as Target, WithCount};
@@ -210,7 +208,7 @@ pub fn perform<S: Steps>(
         Command::OnBoth { left, right, .. } => same(env, names, turns, left, right),
         Command::WithCount { verb, count } => with_count(env, turns, *verb, *count),
         Command::MakeSized { verb, length, .. } => ask(env, turns, &NewArray(*verb, *length)),
-        Command::MakeText { units, .. } => ask(env, turns, &NewString(units)),
+        Command::MakeText { units, .. } => ask(env, turns, &NewString(units.as_slice())),
         Command::MakeFilled { length, target, .. } => fill(env, names, turns, *length, target),
         Command::MakeAt { target, index, .. } => get_at(env, names, turns, target, *index),
         Command::OnAt { target, index, .. } => load(env, turns, names.wanted(target)?, *index),

@@ -5,18 +5,18 @@ ghost use Rattle.jr_word.specs.declared.fault.Fault.TheVariants.{Memory};
 ghost use Rattle.jr_weak.specs.Markers.{room_of};
 ghost use Rattle.jr_env.specs.Collections.{FitsRoom};
 ghost use Rattle.jr_env.specs.Envs.{IsOutside};
-ghost use Rattle.jr_scripts.specs.Text.{sets, names_set, standing_made as made_to_stand};
+ghost use Rattle.jr_scripts.specs.Text.{sets, names_set, binding_made as made_to_stand};
 ghost use Rattle.jr_scripts.specs.Posting.{talk_of, Keeps};
 ghost use Rattle.jr_scripts.specs.Runs.{RanThread, WritesDown};
 
 use crate::advance::{Left, advance};
+use crate::binding::Binding;
 use crate::board::Board;
 use crate::hold::Hold;
 use crate::names::Names;
 use crate::printed::printed;
 use crate::region_commands::end;
 use crate::reply::Reply;
-use crate::standing::Standing;
 use jr_env::Env;
 use jr_steps::Steps;
 use jr_syntax::{Command, Name};
@@ -40,12 +40,12 @@ fn set_by(command: &Command) -> Option<&Name>
 }
 
 /// What a command that made something makes its name stand for.
-fn standing_made(reply: Reply) -> Option<Standing>
+fn binding_made(reply: Reply) -> Option<Binding>
     ensures { result ≡ made_to_stand reply }
 {
     match reply {
-        Reply::Made(handle) => Some(Standing::Reference(handle.unwrap_or(Handle::NULL))),
-        Reply::Copied(buffer) => Some(Standing::Buffer(buffer)),
+        Reply::Made(handle) => Some(Binding::Reference(handle.unwrap_or(Handle::NULL))),
+        Reply::Copied(buffer) => Some(Binding::Buffer(buffer)),
         _ => None,
     }
 }
@@ -61,13 +61,13 @@ fn settle(
     let Ok(reply) = answer else {
         return Ok(());
     };
-    let Some(standing) = standing_made(reply) else {
+    let Some(binding) = binding_made(reply) else {
         return Ok(());
     };
     let Some(name) = set_by(command) else {
         return Ok(());
     };
-    names.set(name, standing)
+    names.set(name, binding)
 }
 
 /// Writes the line of a command, and sets its name.

@@ -7,11 +7,11 @@ ghost use Rattle.jr_scripts.specs.Posting.{talk_of, Keeps};
 ghost use Rattle.jr_scripts.specs.Runs.{RanThread, RanToEnd};
 
 use crate::board::Board;
-use crate::env_call::FreeLocals;
 use crate::hold::Hold;
 use crate::retry::retry;
 use crate::run::run_thread;
 use jr_env::Env;
+use jr_env::calls::FreeLocals;
 use jr_steps::Steps;
 use jr_syntax::Command;
 use jr_weak::Marker;

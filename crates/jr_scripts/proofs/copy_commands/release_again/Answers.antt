@@ -1,5 +1,5 @@
 use Rattle.std.proofs.Common.{◌≡◌, ◌∙◌, ◌-◌, ◌+◌, true, ap, rules, arith, refl}
-use Rattle.jr_scripts.specs.Tries.{is_tried_again}
+use Rattle.jr_env.specs.Tries.{is_tried_again}
 use Rattle.jr_scripts.specs.Text.{left_by}
 use Rattle.jr_scripts.proofs.Retries.{does_from_first, does_answered, does_again, does_gave_up}
 use Rattle.jr_scripts.proofs.CopyDeeds.{does_release_same, left_again}

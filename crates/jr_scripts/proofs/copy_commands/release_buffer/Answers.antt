@@ -2,7 +2,7 @@ use Rattle.std.proofs.Common.{◌≡◌, ◌∙◌, ap, sym, refl, w8, w16, w32,
 use Rattle.jr_word.specs.Elem.{bool_word, signed_word}
 use Rattle.jr_word.specs.declared.kind.Kind.TheVariants as kinds
 use Rattle.jr_scripts.specs.declared.buffer.CopiedElements.TheVariants as elements
-use Rattle.jr_scripts.specs.declared.standing.Standing.TheVariants.{Buffer}
+use Rattle.jr_scripts.specs.declared.binding.Binding.TheVariants.{Buffer}
 use Rattle.jr_scripts.specs.Buffers.{copied_as, copied_in}
 use Rattle.jr_scripts.specs.Text.{left_by}
 use Rattle.jr_scripts.proofs.CopyDeeds.{does_release_of, left_mapped}

@@ -1,5 +1,5 @@
 use Rattle.std.proofs.Common.{◌≡◌, ap, rules, sym, ◌∙◌, to_z, of_z, w64}
-use Rattle.jr_syntax.specs.declared.command.Command.TheVariants.{Make, OnBoth, PutAt, Release}
+use Rattle.jr_syntax.specs.declared.command.Command.TheVariants.{Make, MakeText, OnBoth, PutAt, Release}
 use Rattle.jr_syntax.specs.declared.verb.Make.TheVariants as make
 use Rattle.jr_syntax.specs.declared.verb.Release.TheVariants as releases
 use Rattle.jr_syntax.specs.declared.verb.OnBoth.TheVariants.{Same}
@@ -7,7 +7,7 @@ use Rattle.jr_scripts.specs.Commands.{loading, storing}
 use Rattle.jr_scripts.proofs.CommandDeeds.{only_release, only_same, does_command, does_decided, does_stored_as}
 use Rattle.jr_elements.specs.Copies.{answer_in}
 use Rattle.jr_scripts.specs.declared.reply.Reply.TheVariants as replies
-use Rattle.jr_scripts.specs.Names.{putting, standing}
+use Rattle.jr_scripts.specs.Names.{putting, binding}
 use Rattle.jr_scripts.specs.Text.{buffers_after}
 use Rattle.jr_scripts.specs.Places.{is_speaking}
 use Rattle.jr_scripts.proofs.Speaking.{only_plain}
@@ -22,7 +22,7 @@ pub returns-in-MakeSized-clause-does : goal.returns-in-MakeSized-clause-does
 returns-in-MakeSized-clause-does g c = does_command c.args.turns c.args.names.now c.args.command.now _ c.in-MakeSized.is c.ask-in-MakeSized.ensures
 
 pub returns-in-MakeText-clause-does : goal.returns-in-MakeText-clause-does
-returns-in-MakeText-clause-does g c = does_command c.args.turns c.args.names.now c.args.command.now _ c.in-MakeText.is c.ask-in-MakeText.ensures
+returns-in-MakeText-clause-does g c = does_command c.args.turns c.args.names.now c.args.command.now _ (c.in-MakeText.is ∙ ap (λ units. MakeText c.in-MakeText.verb c.in-MakeText.name units) (sym c.as_slice.ensures.units)) c.ask-in-MakeText.ensures
 
 pub returns-in-Make-clause-does : goal.returns-in-Make-clause-does
 returns-in-Make-clause-does g c =
@@ -57,7 +57,7 @@ returns-in-PutAt-clause-does g c =
     let back : to_z w64 (of_z w64 c.in-PutAt.value) ≡ c.in-PutAt.value = search rules in
     does_command c.args.turns c.args.names.now c.args.command.now _ c.in-PutAt.is
     (does_put c.args.turns c.args.names.now c.in-PutAt.verb c.in-PutAt.name c.in-PutAt.index c.in-PutAt.value c.put_by.result
-    (c.put_by.ensures.answer ∙ ap (λ z. put_by c.in-PutAt.verb (answer_in (λ _. replies.Done) (putting c.in-PutAt.index z (standing c.args.names.now c.in-PutAt.name)))) back))
+    (c.put_by.ensures.answer ∙ ap (λ z. put_by c.in-PutAt.verb (answer_in (λ _. replies.Done) (putting c.in-PutAt.index z (binding c.args.names.now c.in-PutAt.name)))) back))
 
 pub returns-in-PutAt-clause-names : goal.returns-in-PutAt-clause-names
 returns-in-PutAt-clause-names g c =

@@ -1,15 +1,12 @@
-use Rattle.std.proofs.Common.{rules, arith, ◌∙◌}
-use Rattle.jr_scripts.proofs.Retries.{does_from_first, does_answered, does_again, does_gave_up}
+use Rattle.std.proofs.Common.{rules, arith}
+use Rattle.jr_scripts.proofs.Retries.{does_no_turns, does_run_out, does_settle}
 use Rattle.jr_scripts.proofs.retry.retry.Goals as goal
 
-pub loop-init : goal.loop-init
-loop-init g c = (c.requires, λ answer last frames d. does_from_first c.args.turns d)
+pub returns-then-turns-eq0 : goal.returns-then-turns-eq0
+returns-then-turns-eq0 g c = does_no_turns c.args.turns (omega arith)
 
-pub returns-then-not-is_made_again : goal.returns-then-not-is_made_again
-returns-then-not-is_made_again g c = c.loop.invariant.1 _ _ _ (does_answered c.args.turns c.loop.counter (omega arith) c.make-answer.ensures (search rules))
-
-pub loop-preserved : goal.loop-preserved
-loop-preserved g c = (c.make-answer.ensures.stands_is.role ∙ c.loop.invariant.0, λ answer last frames d. c.loop.invariant.1 _ _ _ (does_again c.args.turns c.loop.counter (omega arith) c.make-answer.ensures (search rules) d))
+pub returns-then-is_made_again : goal.returns-then-is_made_again
+returns-then-is_made_again g c = does_run_out c.args.turns (omega arith) (c.retry-answer.ensures.does c.requires) (search rules)
 
 pub returns : goal.returns
-returns g c = c.loop.invariant.1 _ _ _ (does_gave_up c.args.turns c.loop.counter (omega arith))
+returns g c = does_settle c.args.turns (omega arith) (c.retry-answer.ensures.does c.requires) (search rules)

@@ -8,7 +8,7 @@ use jr_word::{Fault, Handle};
 
 /// What a name stands for.
 #[derive(Drop)]
-pub enum Standing {
+pub enum Binding {
     /// For nothing, as once its buffer was freed.
     Nothing,
     /// For a reference.
@@ -17,7 +17,7 @@ pub enum Standing {
     Buffer(Buffer),
 }
 
-impl Standing {
+impl Binding {
     /// The reference that stands there, none where nothing stands.
     ///
     /// # Errors
@@ -27,9 +27,9 @@ impl Standing {
         ensures { result ≡ reference_in self.now }
     {
         match self {
-            Standing::Nothing => Ok(None),
-            Standing::Reference(handle) => Ok(Some(*handle)),
-            Standing::Buffer(_) => Err(Fault::WrongKind),
+            Binding::Nothing => Ok(None),
+            Binding::Reference(handle) => Ok(Some(*handle)),
+            Binding::Buffer(_) => Err(Fault::WrongKind),
         }
     }
 
@@ -42,9 +42,9 @@ impl Standing {
         ensures { result ≡ wanted self.now }
     {
         match self {
-            Standing::Nothing => Err(Fault::Stale),
-            Standing::Reference(handle) => Ok(*handle),
-            Standing::Buffer(_) => Err(Fault::WrongKind),
+            Binding::Nothing => Err(Fault::Stale),
+            Binding::Reference(handle) => Ok(*handle),
+            Binding::Buffer(_) => Err(Fault::WrongKind),
         }
     }
 
@@ -53,7 +53,7 @@ impl Standing {
         ensures { result ≡ word_of_reference self.now }
     {
         match self {
-            Standing::Reference(handle) => handle.0,
+            Binding::Reference(handle) => handle.0,
             _ => 0,
         }
     }
@@ -67,9 +67,9 @@ impl Standing {
         ensures { MatchResult result (λ buffer. buffer_in self.now ≡ Ok buffer.now) (λ e. buffer_in self.now ≡ Err e) }
     {
         match self {
-            Standing::Nothing => Err(Fault::Stale),
-            Standing::Reference(_) => Err(Fault::WrongKind),
-            Standing::Buffer(buffer) => Ok(buffer),
+            Binding::Nothing => Err(Fault::Stale),
+            Binding::Reference(_) => Err(Fault::WrongKind),
+            Binding::Buffer(buffer) => Ok(buffer),
         }
     }
 
@@ -82,9 +82,9 @@ impl Standing {
         ensures { result ≡ getting index self.now }
     {
         match self {
-            Standing::Nothing => Err(Fault::Stale),
-            Standing::Reference(_) => Err(Fault::WrongKind),
-            Standing::Buffer(buffer) => buffer.get(index),
+            Binding::Nothing => Err(Fault::Stale),
+            Binding::Reference(_) => Err(Fault::WrongKind),
+            Binding::Buffer(buffer) => buffer.get(index),
         }
     }
 
@@ -98,9 +98,9 @@ impl Standing {
         ensures err { IfErr result (λ e. (putting index number self.old ≡ Err e) × (self.new ≡ self.old)) }
     {
         match self {
-            Standing::Nothing => Err(Fault::Stale),
-            Standing::Reference(_) => Err(Fault::WrongKind),
-            Standing::Buffer(buffer) => buffer.put(index, number),
+            Binding::Nothing => Err(Fault::Stale),
+            Binding::Reference(_) => Err(Fault::WrongKind),
+            Binding::Buffer(buffer) => buffer.put(index, number),
         }
     }
 }
