@@ -1,7 +1,8 @@
 """The language of scripts as docs/SCRIPTS.md has it, for the scripts beside this file: which line of a text has a fault, and what the
-commands of a script are. It is written from that page, and knows nothing of the program."""
+commands of a script are. It is written from that page, reads its table of commands, and knows nothing of the program."""
 
 import re
+from pathlib import Path
 from typing import NamedTuple
 
 MOST_BYTES, MOST_LINES = 65_536, 4_096
@@ -17,16 +18,22 @@ KINDS = {
     "value": (rb"(?:0|-?[1-9][0-9]*)", (-(2**63), 2**63 - 1)),
     "mode": (rb"copy|commit|abort", None),
 }
-# The commands with the kinds of their words. A string has up to 64 units behind its name.
-COMMANDS = {
-    "plain": "name", "boolean": "name count", "byte": "name count", "char": "name count", "short": "name count", "int": "name count",
-    "long": "name count", "objs": "name count reference", "string": "name unit ..", "len": "reference", "slen": "reference", "chars": "reference",
-    "get": "name reference count", "set": "reference count reference", "load": "reference count", "store": "reference count value",
-    "elems": "name reference", "eget": "name count", "eput": "name count value", "release": "name reference mode", "crit": "name reference",
-    "critstr": "name reference", "cget": "name count", "cset": "name count value", "endcrit": "mode", "global": "name reference",
-    "weak": "name reference", "local": "name reference", "pop": "name reference", "push": "count", "ensure": "count", "drop": "reference",
-    "type": "reference", "same": "reference reference", "gc": "", "gcann": "tries", "post": "name", "wait": "name",
+# The words by which the page's table of commands names them.
+WORDS = {
+    "N": "name", "REF": "reference", "K": "count", "LEN": "count", "I": "count", "TRIES": "tries", "UNIT": "unit", "VALUE": "value", "MODE": "mode", "..": "..",
 }  # fmt: skip
+PAGE = Path(__file__).resolve().parent.parent / "docs" / "SCRIPTS.md"
+
+
+def commands_of(page):
+    """Returns the commands of the page's table with the kinds of their words: each row begins with one form, or with several."""
+    table = page.split("| Command | JNI function | Prints |\n|---|---|---|\n")[1].split("\n\n")[0]
+    forms = [form.split() for row in table.splitlines() for form in re.findall("`([^`]+)`", row.split(" | ")[0])]
+    return {verb: " ".join(WORDS[word] for word in words) for verb, *words in forms}
+
+
+# A string has up to 64 units behind its name.
+COMMANDS = commands_of(PAGE.read_text())
 MOST_UNITS = 64
 SIZES = {"threads": (1, 64), "slots": (1, 65_536), "objects": (1, 65_535), "words": (0, 1_048_576), "locals": (16, 4_096)}
 VM = re.compile(b"vm " + b" ".join(b"%s (%s)" % (name.encode(), NUMBER) for name in SIZES))

@@ -319,7 +319,8 @@ class Shown:
         self.words = {(module, it) for module, words in re.findall(r"^pub use (\w+)::\{?([^;}]*)\}?;", text, re.M) for it in re.findall(r"\w+", words)}
 
     def has(self, item):
-        return item.is_public and (item.module in self.modules or (item.module, item.name) in self.words)
+        # (a module within a module that is shown hands its public items on to that)
+        return item.is_public and (item.module.partition(".")[0] in self.modules or (item.module, item.name) in self.words)
 
 
 def public_items(crate, items):

@@ -1,15 +1,15 @@
 //! A thread that others overtake as it announces a collection: between its look at the gate and its announcement, and between two of its tries to shut the gate.
-ghost use Rattle.std.specs.Prelude.{◌≤◌, All, IfOk};
+ghost use Rattle.std.specs.Prelude.{◌≤◌, IfOk};
 ghost use Rattle.jr_env.specs.Collections.{FitsRoom};
 ghost use Rattle.jr_env.specs.Envs.{IsOutside};
-ghost use Rattle.jr_rule.specs.Passes.{IsOpened};
 
-use crate::envs::{LAST, leaves, next_steps, refuses};
-use crate::overtaken::{Before, Meanwhile, Overtaken, next_overtaken};
+use crate::courses::{By, Shown, overtakes};
+use crate::envs::refuses;
+use crate::overtaken::{Before, Overtaken};
+use crate::plans::{Neighbour, PLANS, Plan};
 use jr_env::Env;
 use jr_model::Summary;
-use jr_rule::{Pass, Room, RoomSteps};
-use jr_steps::{Role, Steps};
+use jr_steps::Steps;
 use jr_weak::{Collected, Marker};
 use jr_word::{Config, Fault, Handle};
 use std::alloc::Global;
@@ -31,107 +31,6 @@ const ALL: Collected = Collected {
     dropped: 1,
     used: 0,
 };
-
-/// Before how many steps of its kind a thread has plans.
-const PLANS: usize = 4;
-
-/// What a thread does before some steps of another.
-#[derive(Clone, Copy, PartialEq, Eq)]
-enum Plan {
-    /// It comes in, or knocks, where it stands outside, and else it goes out.
-    ComeOrGo,
-    /// It announces that the gate will be shut, where it stands outside, and else takes the announcement back.
-    Announce,
-    /// Nothing.
-    Rest,
-}
-
-/// A thread that has a plan before each of the first steps of one kind, and rests before all others.
-#[derive(Drop)]
-struct Planned<S: Steps> {
-    steps: S,
-    kind: Before,
-    plans: [Plan; PLANS],
-    done: usize,
-}
-
-impl<S: Steps> Meanwhile for Planned<S> {
-    fn act(&mut self, before: Before) {
-        if before == self.kind && self.done < PLANS {
-            follow(&mut self.steps, self.plans[self.done]);
-            self.done += 1;
-        }
-    }
-}
-
-/// Does what a plan says.
-fn follow<S: Steps>(steps: &mut S, plan: Plan) {
-    match plan {
-        Plan::ComeOrGo => come_or_go(steps),
-        Plan::Announce => announce_or_cancel(steps),
-        Plan::Rest => {}
-    }
-}
-
-/// Comes in, or knocks, where the thread stands outside, and else goes out.
-fn come_or_go<S: Steps>(steps: &mut S) {
-    if let Role::Outside = steps.role() {
-        steps.go_in();
-        return;
-    }
-    if let Role::Within = steps.role() {
-        steps.go_out();
-        return;
-    }
-    if let Role::Knocking = steps.role() {
-        steps.go_out();
-    }
-}
-
-/// Announces, where the thread stands outside, and else takes the announcement back.
-fn announce_or_cancel<S: Steps>(steps: &mut S) {
-    if let Role::Outside = steps.role() {
-        let _ = steps.announce(0);
-        return;
-    }
-    if let Role::Announcing = steps.role() {
-        steps.cancel();
-    }
-}
-
-/// Two threads, each with its plans.
-#[derive(Drop)]
-struct Both<M: Meanwhile, N: Meanwhile>(M, N);
-
-impl<M: Meanwhile, N: Meanwhile> Meanwhile for Both<M, N> {
-    fn act(&mut self, before: Before) {
-        self.0.act(before);
-        self.1.act(before);
-    }
-}
-
-/// A thread that stands outside, or is inside, and has these plans.
-fn with_plans<'a>(
-    room: &'a Room<LAST>,
-    passes: &mut Vec<Pass>,
-    is_inside: bool,
-    kind: Before,
-    plans: [Plan; PLANS],
-) -> Result<Planned<RoomSteps<'a, LAST>>, Fail>
-    requires { All (λ p. IsOpened room.now.row p) passes.old.items }
-    ensures { All (λ p. IsOpened room.now.row p) passes.new.items }
-{
-    let mut steps = next_steps(room, passes)?;
-    if is_inside {
-        steps.go_in();
-    }
-    Ok(Planned {
-        steps,
-        kind,
-        plans,
-        done: 0,
-    })
-}
 
 /// Makes an array of all words, which no reference names but a weak one.
 fn fill<S: Steps>(env: &mut Env<S>) -> Result<Handle, Fail>
@@ -169,7 +68,11 @@ fn collects<S: Steps>(
 }
 
 /// Another thread came in, and then went out, between a look at the gate and an announcement: each time it is refused with what was looked at and what was found then, in however many tries, and nothing has changed. Once nobody comes in between the collection is made.
-fn is_moved<S: Steps>(rt: &impl Abort, alloc: Global, env: &mut Env<S>) -> Result<(), Fail> {
+pub(crate) fn is_moved<S: Steps>(
+    rt: &impl Abort,
+    alloc: Global,
+    env: &mut Env<S>,
+) -> Result<(), Fail> {
     let weak = fill(env)?;
     let mut marker = Marker::new(alloc, env.held.steps.config())?;
     collects(rt, env, &mut marker, 1, Err(Fault::Moved(0, 1)));
@@ -217,66 +120,57 @@ fn finds_it_open<S: Steps>(
 }
 
 /// Another thread closes the gate between the look at it and the announcement, and opens it later.
-fn is_closed_between<S: Steps, U: Steps>(
+pub(crate) fn is_closed_between<S: Steps, U: Steps>(
     rt: &impl Abort,
     alloc: Global,
-    env: &mut Env<Overtaken<S, Planned<U>>>,
+    env: &mut Env<Overtaken<S, U>>,
 ) -> Result<(), Fail> {
     let weak = finds_it_closed(rt, alloc, env)?;
     let held = &mut env.held;
-    announce_or_cancel(&mut held.steps.other.steps);
+    held.steps.others.give_way();
     finds_it_open(rt, alloc, env, weak)
 }
 
-/// Shows what becomes of announcements where another thread does this before the first.
-fn is_preceded<S: Steps + Drop, U: Steps + Drop>(
+/// Another thread has these plans before announcements. The array is collected at last, and the weak reference is left.
+fn precedes(
     rt: &impl Abort,
     alloc: Global,
-    env: Env<Overtaken<S, Planned<U>>>,
-    first: Plan,
+    plans: [Plan; PLANS],
+    shown: Shown,
 ) -> Result<(), Fail> {
-    let mut env = env;
-    match first {
-        Plan::Announce => is_closed_between(rt, alloc, &mut env),
-        Plan::ComeOrGo => is_moved(rt, alloc, &mut env),
-        Plan::Rest => Err("nobody is faster")?,
-    }
-}
-
-/// Another thread has these plans before announcements. The array is collected at last, and the weak reference is left.
-fn precedes(rt: &impl Abort, alloc: Global, plans: [Plan; PLANS]) -> Result<(), Fail> {
-    let (room, mut passes) = Room::<LAST>::open(alloc, FOUR)?;
-    let other = with_plans(&room, &mut passes, false, Before::Announcement, plans)?;
-    let env = next_overtaken(&room, &mut passes, other)?;
-    is_preceded(rt, alloc, env, plans[0])?;
-    leaves(rt, room, passes, WEAK);
-    Ok(())
+    let first = Neighbour {
+        is_inside: false,
+        plans,
+    };
+    let by = By::Both(Before::Announcement, first, ABSENT);
+    overtakes(rt, alloc, FOUR, by, shown, Some(WEAK))
 }
 
 /// Another thread moves the count of the gate between the look at it and the announcement.
 #[test]
 fn another_thread_comes_in_before_the_announcement(rt: HostRuntime) -> Result<(), Fail> {
     let plans = [Plan::ComeOrGo, Plan::ComeOrGo, Plan::Rest, Plan::Rest];
-    precedes(&rt, rt.alloc(), plans)
+    precedes(&rt, rt.alloc(), plans, Shown::IsMoved)
 }
 
 /// Another thread closes the gate between the look at it and the announcement.
 #[test]
 fn another_thread_announces_first(rt: HostRuntime) -> Result<(), Fail> {
     let plans = [Plan::Announce, Plan::Rest, Plan::Rest, Plan::Rest];
-    precedes(&rt, rt.alloc(), plans)
+    precedes(&rt, rt.alloc(), plans, Shown::IsClosedBetween)
 }
 
 /// Checks what an announced collection of so many tries answers. Where it is refused nothing has changed.
-fn answers<S: Steps>(
+pub(crate) fn answers<S: Steps>(
     rt: &impl Abort,
     alloc: Global,
     env: &mut Env<S>,
     tries: u32,
     wanted: Result<Collected, Fault>,
-) -> Result<(), Fail>
-    requires { 1 ≤ tries }
-{
+) -> Result<(), Fail> {
+    if tries == 0 {
+        return Err("a collection has one try at least")?;
+    }
     let weak = fill(env)?;
     let mut marker = Marker::new(alloc, env.held.steps.config())?;
     collects(rt, env, &mut marker, tries, wanted);
@@ -286,32 +180,41 @@ fn answers<S: Steps>(
     Ok(())
 }
 
-/// A thread that is inside or not, and what it does before the first tries of another.
-type Neighbour = (bool, [Plan; PLANS]);
-
 /// Is not there.
-const ABSENT: Neighbour = (false, [Plan::Rest; PLANS]);
+const ABSENT: Neighbour = Neighbour {
+    is_inside: false,
+    plans: [Plan::Rest; PLANS],
+};
 
 /// Is inside, and stays.
-const STAYS: Neighbour = (true, [Plan::Rest; PLANS]);
+const STAYS: Neighbour = Neighbour {
+    is_inside: true,
+    plans: [Plan::Rest; PLANS],
+};
 
 /// Is inside, and leaves before the second try.
-const LEAVES_SECOND: Neighbour = (true, [Plan::Rest, Plan::ComeOrGo, Plan::Rest, Plan::Rest]);
+const LEAVES_SECOND: Neighbour = Neighbour {
+    is_inside: true,
+    plans: [Plan::Rest, Plan::ComeOrGo, Plan::Rest, Plan::Rest],
+};
 
 /// Is inside, and leaves before the third try.
-const LEAVES_THIRD: Neighbour = (true, [Plan::Rest, Plan::Rest, Plan::ComeOrGo, Plan::Rest]);
+const LEAVES_THIRD: Neighbour = Neighbour {
+    is_inside: true,
+    plans: [Plan::Rest, Plan::Rest, Plan::ComeOrGo, Plan::Rest],
+};
 
 /// Knocks before the first try, and withdraws before the second.
-const KNOCKS_FIRST: Neighbour = (
-    false,
-    [Plan::ComeOrGo, Plan::ComeOrGo, Plan::Rest, Plan::Rest],
-);
+const KNOCKS_FIRST: Neighbour = Neighbour {
+    is_inside: false,
+    plans: [Plan::ComeOrGo, Plan::ComeOrGo, Plan::Rest, Plan::Rest],
+};
 
 /// Knocks before the second try, and withdraws before the third.
-const KNOCKS_SECOND: Neighbour = (
-    false,
-    [Plan::Rest, Plan::ComeOrGo, Plan::ComeOrGo, Plan::Rest],
-);
+const KNOCKS_SECOND: Neighbour = Neighbour {
+    is_inside: false,
+    plans: [Plan::Rest, Plan::ComeOrGo, Plan::ComeOrGo, Plan::Rest],
+};
 
 /// Checks what an announced collection of so many tries answers beside two threads.
 fn answers_beside(
@@ -321,14 +224,10 @@ fn answers_beside(
     second: Neighbour,
     tries: u32,
     wanted: Result<Collected, Fault>,
-) -> Result<(), Fail>
-    requires { 1 ≤ tries }
-{
-    let (room, mut passes) = Room::<LAST>::open(alloc, FOUR)?;
-    let first = with_plans(&room, &mut passes, first.0, Before::Shut, first.1)?;
-    let second = with_plans(&room, &mut passes, second.0, Before::Shut, second.1)?;
-    let mut env = next_overtaken(&room, &mut passes, Both(first, second))?;
-    answers(rt, alloc, &mut env, tries, wanted)
+) -> Result<(), Fail> {
+    let shown = Shown::Answers(tries, wanted);
+    let by = By::Both(Before::Shut, first, second);
+    overtakes(rt, alloc, FOUR, by, shown, None)
 }
 
 /// It waits for who is inside in just as many tries as it is given.

@@ -10,6 +10,8 @@ mod cases;
 #[cfg(test)]
 mod copies;
 #[cfg(test)]
+mod courses;
+#[cfg(test)]
 mod element_types;
 #[cfg(test)]
 mod elements;
@@ -24,10 +26,12 @@ mod objects;
 #[cfg(test)]
 mod overtaken;
 #[cfg(test)]
-mod racing;
+mod plans;
 #[cfg(test)]
 mod region_threads;
 #[cfg(test)]
 mod regions;
+#[cfg(test)]
+mod side_by_side;
 #[cfg(test)]
 mod undisturbed;

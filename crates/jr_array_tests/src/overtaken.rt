@@ -1,11 +1,10 @@
-//! A thread that another overtakes each time, between its look at a word and its exchange: at the top, where the other reserves words, and at the gate, where it goes in or out, or announces.
-ghost use Rattle.std.specs.Prelude.{All};
-ghost use Rattle.jr_rule.specs.Passes.{IsOpened};
+//! A thread that others overtake each time, between its look at a word and its exchange: at the top, where another reserves words, and at the gate, where they go in or out, or announce.
 
-use crate::envs::{LAST, env_of, leaves, next_env, next_steps, refuses};
+use crate::courses::{By, Shown, overtakes};
+use crate::envs::refuses;
+use crate::plans::Planned;
 use jr_env::Env;
 use jr_model::Summary;
-use jr_rule::{Pass, Room, RoomSteps};
 use jr_steps::{GateLoad, Role, SlotLoad, Steps, TopLoad};
 use jr_word::{
     Config, Elem, Fault, GateParts, Handle, HandleParts, HeaderParts, LocalParts, RefKind,
@@ -24,7 +23,7 @@ const SMALL: Config = Config {
 };
 
 /// Local, of thread 1, with serial 0 at the first place.
-const FIRST: Handle = Handle(0x4_0000_0000_0001);
+pub(crate) const FIRST: Handle = Handle(0x4_0000_0000_0001);
 
 /// The step before which another thread acts.
 #[derive(Clone, Copy, PartialEq, Eq)]
@@ -37,28 +36,49 @@ pub(crate) enum Before {
     Shut,
 }
 
-/// What another thread does before a step of a thread.
-pub(crate) trait Meanwhile {
-    fn act(&mut self, before: Before);
+/// Who else is in the room, and what they do before a step of a thread.
+#[derive(Drop)]
+pub(crate) enum Others<U: Steps> {
+    /// A thread makes an array of one element before each reservation.
+    Maker(Env<U>),
+    /// Each of two threads does what it plans.
+    Planners(Planned<U>, Planned<U>),
 }
 
-/// It makes an array of one element.
-impl<U: Steps> Meanwhile for Env<U> {
+impl<U: Steps> Others<U> {
     fn act(&mut self, before: Before) {
-        if before == Before::Reservation {
-            let _ = self.new_array::<i32>(1);
+        match self {
+            Others::Maker(env) => make_before(env, before),
+            Others::Planners(first, second) => {
+                first.act(before);
+                second.act(before);
+            }
+        }
+    }
+
+    /// The first that plans takes its announcement back.
+    pub(crate) fn give_way(&mut self) {
+        if let Others::Planners(first, _) = self {
+            first.give_way();
         }
     }
 }
 
-/// The steps of a thread. Before each exchange of the top, each announcement and each shut that was announced another thread acts.
-#[derive(Drop)]
-pub(crate) struct Overtaken<S: Steps, M: Meanwhile> {
-    pub(crate) steps: S,
-    pub(crate) other: M,
+/// Makes an array of one element before a reservation.
+fn make_before<U: Steps>(env: &mut Env<U>, before: Before) {
+    if before == Before::Reservation {
+        let _ = env.new_array::<i32>(1);
+    }
 }
 
-impl<S: Steps, M: Meanwhile> Steps for Overtaken<S, M> {
+/// The steps of a thread. Before each exchange of the top, each announcement and each shut that was announced others act.
+#[derive(Drop)]
+pub(crate) struct Overtaken<S: Steps, U: Steps> {
+    pub(crate) steps: S,
+    pub(crate) others: Others<U>,
+}
+
+impl<S: Steps, U: Steps> Steps for Overtaken<S, U> {
     ghost facts = { λ s. S.facts s.steps };
 
     fn config(&self) -> Config {
@@ -106,7 +126,7 @@ impl<S: Steps, M: Meanwhile> Steps for Overtaken<S, M> {
     }
 
     fn announce(&mut self, looked: u16) -> Result<(), GateParts> {
-        self.other.act(Before::Announcement);
+        self.others.act(Before::Announcement);
         self.steps.announce(looked)
     }
 
@@ -115,7 +135,7 @@ impl<S: Steps, M: Meanwhile> Steps for Overtaken<S, M> {
     }
 
     fn bar_announced(&mut self) -> Result<(), u32> {
-        self.other.act(Before::Shut);
+        self.others.act(Before::Shut);
         self.steps.bar_announced()
     }
 
@@ -162,7 +182,7 @@ impl<S: Steps, M: Meanwhile> Steps for Overtaken<S, M> {
     }
 
     fn claim_top(&mut self, looked: u32, more: u32) -> Result<(), u32> {
-        self.other.act(Before::Reservation);
+        self.others.act(Before::Reservation);
         self.steps.claim_top(looked, more)
     }
 
@@ -248,22 +268,8 @@ impl<S: Steps, M: Meanwhile> Steps for Overtaken<S, M> {
     ghost below = { λ s. S.below s.steps };
 }
 
-/// The env over the next pass, which another thread overtakes.
-pub(crate) fn next_overtaken<'a, M: Meanwhile + Drop>(
-    room: &'a Room<LAST>,
-    passes: &mut Vec<Pass>,
-    other: M,
-) -> Result<Env<Overtaken<RoomSteps<'a, LAST>, M>>, Fail>
-    requires { All (λ p. IsOpened room.now.row p) passes.old.items }
-    ensures { All (λ p. IsOpened room.now.row p) passes.new.items }
-{
-    let steps = next_steps(room, passes)?;
-    env_of(Overtaken { steps, other })
-}
-
 /// Each call that reserves words is refused with E12, as another thread reserved one more each time. It has left no local reference.
-fn is_overtaken<S: Steps + Drop>(rt: &impl Abort, env: Env<S>) -> Result<(), Fail> {
-    let mut env = env;
+pub(crate) fn is_overtaken<S: Steps>(rt: &impl Abort, env: &mut Env<S>) -> Result<(), Fail> {
     refuses(rt, env.new_array::<i32>(3), Fault::Raced(0, 1));
     refuses(rt, env.new_string(&[1, 2]), Fault::Raced(1, 2));
     refuses(
@@ -279,10 +285,6 @@ fn is_overtaken<S: Steps + Drop>(rt: &impl Abort, env: Env<S>) -> Result<(), Fai
 // A call that E12 refused has left no local reference, no object and no word.
 #[test]
 fn another_thread_is_always_faster(rt: HostRuntime) -> Result<(), Fail> {
-    let (room, mut passes) = Room::<LAST>::open(rt.alloc(), SMALL)?;
-    let other = next_env(&room, &mut passes)?;
-    let env = next_overtaken(&room, &mut passes, other)?;
-    is_overtaken(&rt, env)?;
     // Three arrays of the other thread, with an element each.
     let summary = Summary {
         globals: 0,
@@ -290,6 +292,6 @@ fn another_thread_is_always_faster(rt: HostRuntime) -> Result<(), Fail> {
         live: 3,
         used: 3,
     };
-    leaves(&rt, room, passes, summary);
-    Ok(())
+    let left = Some(summary);
+    overtakes(&rt, rt.alloc(), SMALL, By::Maker, Shown::IsOvertaken, left)
 }

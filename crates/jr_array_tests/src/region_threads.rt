@@ -1,30 +1,18 @@
-//! Regions beside the collections of another thread of the room: what a shut gate bars, what goes on while one is announced, and 10,000 of each side by side.
+//! Regions beside the collections of another thread of the room: what a shut gate bars, and what goes on while one is announced.
 ghost use Rattle.jr_gate.specs.Stays.{IsOwnAnnouncement};
 
 use crate::at_a_level::{give_up, has, nests_array, put};
-use crate::envs::{LAST, ONES, OWN, TWO, has_elements, next_env, next_steps};
+use crate::envs::{LAST, ONES, TWO, has_elements, next_env, next_steps};
 use crate::not_opened::{opens_array, opens_string};
 use jr_env::Env;
 use jr_gate::{Announced, announce, shut_gate};
 use jr_model::Mode;
 use jr_rule::Room;
 use jr_steps::{Role, Steps};
-use jr_word::{Fault, Handle};
+use jr_word::Fault;
 use std::alloc::Global;
 use std::process::Abort;
-use std::sync::Wait;
 use std::test::Fail;
-use std::thread;
-use std::thread::Threads;
-
-/// How often a thread opens a region.
-const REGIONS: u32 = 10_000;
-
-/// How often a thread collects.
-const COLLECTIONS: u32 = 10_000;
-
-/// How often a thread tries at most.
-const TRIES: u32 = 5_000_000;
 
 /// While another thread collects no region is opened, over an array or a string, and none over what is neither: the gate comes before all. Afterwards they are.
 fn is_barred<S: Steps, T: Steps>(
@@ -130,83 +118,4 @@ fn beside_another(rt: &impl Abort, alloc: Global, what: Beside) -> Result<(), Fa
 #[test]
 fn a_region_goes_on_while_a_collection_is_announced(rt: HostRuntime) -> Result<(), Fail> {
     beside_another(&rt, rt.alloc(), Beside::Announcing)
-}
-
-/// Opens a region over the first array so often, or until it has tried so often, and writes there how many it opened before. How often that was read.
-fn write_often<S: Steps>(env: &mut Env<S>, regions: u32, tries: u32) -> u32 {
-    let mut done = 0;
-    for _ in 0..tries {
-        if done >= regions {
-            break;
-        }
-        let Ok(mut region) = env.get_array_critical(OWN) else {
-            thread::yield_now();
-            continue;
-        };
-        let number = i64::from(done);
-        let written = region.set(0, 1, number);
-        let read = region.get::<i64>(0, 1);
-        match region.release(Mode::Copy) {
-            None => {}
-            Some(_) => unreachable!(),
-        }
-        if written == Ok(()) && read == Ok(number) {
-            done += 1;
-        }
-    }
-    done
-}
-
-/// Shuts the gate and opens it again so often, or until it has tried so often. How often it was shut.
-fn collect_often<S: Steps>(steps: &mut S, collections: u32, tries: u32) -> u32 {
-    let mut done = 0;
-    for _ in 0..tries {
-        if done >= collections || steps.role() != Role::Outside {
-            break;
-        }
-        match shut_gate(steps) {
-            Ok(collection) => {
-                collection.reopen(steps);
-                done += 1;
-            }
-            Err(_) => thread::yield_now(),
-        }
-    }
-    done
-}
-
-/// The first array of a thread's env.
-fn own_array<S: Steps>(rt: &impl Abort, env: &mut Env<S>) -> Result<Handle, Fail> {
-    let array = env.new_array::<i64>(2)?;
-    assert!(rt; array == OWN);
-    Ok(array)
-}
-
-/// Checks that a thread did all that it was to do.
-fn are_all(rt: &impl Abort, done: Option<u32>, wanted: u32) {
-    assert!(rt; done == Some(wanted));
-}
-
-/// The array has what was written last.
-fn has_last_number<S: Steps>(rt: &impl Abort, env: &mut Env<S>, array: Handle) -> Result<(), Fail> {
-    has_elements(rt, env, array, 0, &mut [7i64; 2], &[0, 9_999])
-}
-
-#[test]
-fn regions_and_collections_of_two_threads_end(rt: HostRuntime) -> Result<(), Fail> {
-    let (room, mut passes) = Room::<LAST>::open(rt.alloc(), TWO)?;
-    let mut other = next_steps(&room, &mut passes)?;
-    let mut env = next_env(&room, &mut passes)?;
-    let array = own_array(&rt, &mut env)?;
-    let (regions, collections) = thread::scope(thread::scope_env(), &rt, |scope| {
-        let one = scope.spawn(|| write_often(&mut env, REGIONS, TRIES));
-        let two = scope.spawn(|| collect_often(&mut other, COLLECTIONS, TRIES));
-        (
-            one.map(|one| one.join(&rt)).ok(),
-            two.map(|two| two.join(&rt)).ok(),
-        )
-    });
-    are_all(&rt, regions, REGIONS);
-    are_all(&rt, collections, COLLECTIONS);
-    has_last_number(&rt, &mut env, array)
 }

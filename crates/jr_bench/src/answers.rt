@@ -34,9 +34,9 @@ fn right<R: Threads + Clock + Sync>(rt: &R, alloc: Global, case: Case, threads: 
 /// Prints the text.
 pub(crate) fn print<R: Threads + Clock + Print + Sync>(rt: &R, alloc: Global) -> io::Result<()> {
     println!(rt; "each call, {CALLS} times by each thread: how often it answered as it should")?;
-    for (case, name) in CASES {
-        let one = right(rt, alloc, case, 1);
-        let two = right(rt, alloc, case, 2);
+    for case in CASES {
+        let (one, two) = (right(rt, alloc, case, 1), right(rt, alloc, case, 2));
+        let name = case.name();
         println!(rt; "{name}: {one} by one thread, {two} by two")?;
     }
     print_collections(rt, alloc)?;

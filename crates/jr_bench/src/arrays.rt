@@ -26,6 +26,22 @@ const SHORT: u32 = 16;
 const TRIES: u32 = 1_000;
 
 impl ArrayCase {
+    /// Its name.
+    pub(crate) fn name(self) -> &'static str {
+        match self {
+            ArrayCase::Length => "get_array_length",
+            ArrayCase::CopyOut(1) => "get_array_region(1)",
+            ArrayCase::CopyOut(64) => "get_array_region(64)",
+            ArrayCase::CopyOut(_) => "get_array_region(4096)",
+            ArrayCase::CopyIn(1) => "set_array_region(1)",
+            ArrayCase::CopyIn(64) => "set_array_region(64)",
+            ArrayCase::CopyIn(_) => "set_array_region(4096)",
+            ArrayCase::New => "new_array(16)",
+            ArrayCase::GetElement => "get_object_array_element",
+            ArrayCase::SetElement => "set_object_array_element",
+        }
+    }
+
     /// The array at which the call is made, whose elements are integers, or the one object.
     pub(crate) fn array<S: Steps>(self, env: &mut Env<S>, object: Handle) -> Option<Handle> {
         match self {

@@ -214,8 +214,8 @@ impl Task {
 }
 
 /// What a thread did, unless it gave up.
-fn tried_of(done: &Option<Done>) -> Option<Tried> {
-    match *done {
+fn tried_of(done: &Option<Done>) -> Option<&Tried> {
+    match done {
         Some(Done::Tried(tried)) => Some(tried),
         _ => None,
     }

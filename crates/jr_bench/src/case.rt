@@ -39,78 +39,75 @@ pub(crate) enum FrameCase {
     FreeOne,
 }
 
-/// Each case with its name. The first does nothing between the entry and the exit.
-pub(crate) const CASES: [(Case, &'static str); 31] = [
-    (Case::TypeOfNull, "get_object_ref_type(NULL)"),
-    (Case::NewPlain, "new_plain"),
-    (Case::NewGlobal, "new_global_ref(local)"),
-    (Case::DeleteGlobal, "delete_global_ref"),
-    (Case::NewWeak, "new_weak_global_ref(local)"),
-    (Case::DeleteWeak, "delete_weak_global_ref"),
-    (Case::NewLocal, "new_local_ref(global)"),
-    (Case::DeleteLocal, "delete_local_ref"),
-    (Case::Same, "is_same_object(global,global)"),
-    (Case::TypeOfGlobal, "get_object_ref_type(global)"),
-    (
-        Case::Frames(FrameCase::Empty),
-        "ensure_local_capacity,push_local_frame,pop_local_frame(NULL)",
-    ),
-    (
-        Case::Frames(FrameCase::OfFour),
-        "push_local_frame,4*new_local_ref,pop_local_frame(global),delete_local_ref",
-    ),
-    (
-        Case::Frames(FrameCase::FreeOne),
-        "new_local_ref,free_locals",
-    ),
-    (Case::Arrays(ArrayCase::Length), "get_array_length"),
-    (Case::Arrays(ArrayCase::CopyOut(1)), "get_array_region(1)"),
-    (Case::Arrays(ArrayCase::CopyOut(64)), "get_array_region(64)"),
-    (
-        Case::Arrays(ArrayCase::CopyOut(4_096)),
-        "get_array_region(4096)",
-    ),
-    (Case::Arrays(ArrayCase::CopyIn(1)), "set_array_region(1)"),
-    (Case::Arrays(ArrayCase::CopyIn(64)), "set_array_region(64)"),
-    (
-        Case::Arrays(ArrayCase::CopyIn(4_096)),
-        "set_array_region(4096)",
-    ),
-    (Case::Arrays(ArrayCase::New), "new_array(16)"),
-    (
-        Case::Arrays(ArrayCase::GetElement),
-        "get_object_array_element",
-    ),
-    (
-        Case::Arrays(ArrayCase::SetElement),
-        "set_object_array_element",
-    ),
-    (
-        Case::Copies(CopyCase::Back(64)),
-        "get_array_elements(64),release_array_elements(copy)",
-    ),
-    (
-        Case::Copies(CopyCase::Back(4_096)),
-        "get_array_elements(4096),release_array_elements(copy)",
-    ),
-    (
-        Case::Copies(CopyCase::Committed(64)),
-        "get_array_elements(64),release_array_elements(commit),release_array_elements(abort)",
-    ),
-    (
-        Case::Copies(CopyCase::Committed(4_096)),
-        "get_array_elements(4096),release_array_elements(commit),release_array_elements(abort)",
-    ),
-    (Case::Copies(CopyCase::Text), "get_string_chars(64)"),
-    (
-        Case::Criticals(CriticalCase::Open),
-        "get_array_critical,release",
-    ),
-    (Case::Criticals(CriticalCase::Get), "get_of_region"),
-    (Case::Criticals(CriticalCase::Set), "set_of_region"),
+/// Each case. The first does nothing between the entry and the exit.
+pub(crate) const CASES: [Case; 31] = [
+    Case::TypeOfNull,
+    Case::NewPlain,
+    Case::NewGlobal,
+    Case::DeleteGlobal,
+    Case::NewWeak,
+    Case::DeleteWeak,
+    Case::NewLocal,
+    Case::DeleteLocal,
+    Case::Same,
+    Case::TypeOfGlobal,
+    Case::Frames(FrameCase::Empty),
+    Case::Frames(FrameCase::OfFour),
+    Case::Frames(FrameCase::FreeOne),
+    Case::Arrays(ArrayCase::Length),
+    Case::Arrays(ArrayCase::CopyOut(1)),
+    Case::Arrays(ArrayCase::CopyOut(64)),
+    Case::Arrays(ArrayCase::CopyOut(4_096)),
+    Case::Arrays(ArrayCase::CopyIn(1)),
+    Case::Arrays(ArrayCase::CopyIn(64)),
+    Case::Arrays(ArrayCase::CopyIn(4_096)),
+    Case::Arrays(ArrayCase::New),
+    Case::Arrays(ArrayCase::GetElement),
+    Case::Arrays(ArrayCase::SetElement),
+    Case::Copies(CopyCase::Back(64)),
+    Case::Copies(CopyCase::Back(4_096)),
+    Case::Copies(CopyCase::Committed(64)),
+    Case::Copies(CopyCase::Committed(4_096)),
+    Case::Copies(CopyCase::Text),
+    Case::Criticals(CriticalCase::Open),
+    Case::Criticals(CriticalCase::Get),
+    Case::Criticals(CriticalCase::Set),
 ];
 
+impl FrameCase {
+    /// Its name.
+    fn name(self) -> &'static str {
+        match self {
+            FrameCase::Empty => "ensure_local_capacity,push_local_frame,pop_local_frame(NULL)",
+            FrameCase::OfFour => {
+                "push_local_frame,4*new_local_ref,pop_local_frame(global),delete_local_ref"
+            }
+            FrameCase::FreeOne => "new_local_ref,free_locals",
+        }
+    }
+}
+
 impl Case {
+    /// Its name.
+    pub(crate) fn name(self) -> &'static str {
+        match self {
+            Case::TypeOfNull => "get_object_ref_type(NULL)",
+            Case::NewPlain => "new_plain",
+            Case::NewGlobal => "new_global_ref(local)",
+            Case::DeleteGlobal => "delete_global_ref",
+            Case::NewWeak => "new_weak_global_ref(local)",
+            Case::DeleteWeak => "delete_weak_global_ref",
+            Case::NewLocal => "new_local_ref(global)",
+            Case::DeleteLocal => "delete_local_ref",
+            Case::Same => "is_same_object(global,global)",
+            Case::TypeOfGlobal => "get_object_ref_type(global)",
+            Case::Frames(case) => case.name(),
+            Case::Arrays(case) => case.name(),
+            Case::Copies(case) => case.name(),
+            Case::Criticals(case) => case.name(),
+        }
+    }
+
     /// What each of so many calls is handed, in order. All references are to one object, or to one array, and are made here.
     pub(crate) fn handed<S: Steps>(
         self,

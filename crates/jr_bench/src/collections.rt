@@ -80,7 +80,7 @@ impl Collections {
         let mut reached = 0u32;
         for number in 0..self.arrays {
             let array = env.new_array::<i32>(LENGTH).ok()?;
-            if number.checked_rem(self.every) != Some(0) {
+            if self.every == 0 || number % self.every != 0 {
                 env.new_global_ref(array).ok()??;
                 reached = reached.saturating_add(1);
             }
@@ -124,8 +124,9 @@ pub(crate) fn time_of<R: Threads + Clock + Sync>(
     work: Collections,
     way: Way,
 ) -> Option<u128> {
-    match *round(rt, alloc, Job::Collects(work, way))?.first()? {
-        Some(Done::Took(time)) => Some(time),
+    let done = round(rt, alloc, Job::Collects(work, way))?;
+    match done.first()? {
+        Some(Done::Took(time)) => Some(*time),
         _ => None,
     }
 }

@@ -22,6 +22,21 @@ pub(crate) enum CopyCase {
 const UNITS: usize = 64;
 
 impl CopyCase {
+    /// Its name.
+    pub(crate) fn name(self) -> &'static str {
+        match self {
+            CopyCase::Back(64) => "get_array_elements(64),release_array_elements(copy)",
+            CopyCase::Back(_) => "get_array_elements(4096),release_array_elements(copy)",
+            CopyCase::Committed(64) => {
+                "get_array_elements(64),release_array_elements(commit),release_array_elements(abort)"
+            }
+            CopyCase::Committed(_) => {
+                "get_array_elements(4096),release_array_elements(commit),release_array_elements(abort)"
+            }
+            CopyCase::Text => "get_string_chars(64)",
+        }
+    }
+
     /// The array or string at which the calls are made.
     pub(crate) fn array<S: Steps>(self, env: &mut Env<S>) -> Option<Handle> {
         match self {

@@ -25,6 +25,15 @@ const LENGTH: u32 = 4_096;
 const LAST_INDEX: u64 = 63;
 
 impl CriticalCase {
+    /// Its name.
+    pub(crate) fn name(self) -> &'static str {
+        match self {
+            CriticalCase::Open => "get_array_critical,release",
+            CriticalCase::Get => "get_of_region",
+            CriticalCase::Set => "set_of_region",
+        }
+    }
+
     /// The array of the regions.
     pub(crate) fn array<S: Steps>(self, env: &mut Env<S>) -> Option<Handle> {
         env.new_array::<i32>(LENGTH).ok()

@@ -9,8 +9,8 @@ use std::thread::Threads;
 use std::time::Duration;
 
 /// What a thread did, unless it gave up.
-fn called_of(done: &Option<Done>) -> Option<Called> {
-    match *done {
+fn called_of(done: &Option<Done>) -> Option<&Called> {
+    match done {
         Some(Done::Called(called)) => Some(called),
         _ => None,
     }
@@ -70,9 +70,9 @@ pub(crate) fn print<R: Threads + Clock + Print + Sync>(
     work: Work,
     rounds: u32,
 ) -> io::Result<()> {
-    for (case, name) in CASES {
+    for case in CASES {
         let times = times_of_call(rt, alloc, case, work, rounds)?;
-        print_times(rt, name, times.as_slice())?;
+        print_times(rt, case.name(), times.as_slice())?;
     }
     Ok(())
 }

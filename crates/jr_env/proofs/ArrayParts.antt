@@ -32,7 +32,7 @@ use Rattle.jr_frames.proofs.Reading.{ran_at, ran_passed, ran_refused}
 use Rattle.jr_frames.specs.Finding.{Finds}
 use Rattle.jr_frames.specs.Steady.{IsSteady}
 use Rattle.jr_env.specs.Deeds.{read_answer}
-use Rattle.jr_env.specs.Regions.{FindsPart, ReadsPart}
+use Rattle.jr_env.specs.ArrayParts.{FindsPart, ReadsPart}
 use Rattle.jr_frames.proofs.FoundObject.{at_named, finds_next, finds_refused, finds_then, grouped, ran_for}
 use Rattle.jr_frames.proofs.Steady.{steady_at, steady_for, steady_same, steady_then}
 

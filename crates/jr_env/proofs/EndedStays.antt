@@ -9,7 +9,7 @@ use Rattle.jr_steps.specs.Knowing.{Facts, Standing, standing_after, anything, le
 use Rattle.jr_frames.specs.Table.{Table}
 use Rattle.jr_frames.specs.Ready.{AreOwn, StandsReady}
 use Rattle.jr_frames.proofs.StillReady.{own_stepped}
-use Rattle.jr_env.specs.Standing.{CanCall}
+use Rattle.jr_env.specs.Calling.{CanCall}
 use Rattle.jr_env.specs.Works.{EndsStay}
 
 -- what a thread learns leaves it able to make a call

@@ -6,6 +6,7 @@ pub mod NewObject
 pub mod NewArray
 pub mod Removing
 pub mod EnvCalls
+pub mod MadeAgain
 pub mod FrameCalls
 pub mod ObjectLooks
 pub mod ElementChecks

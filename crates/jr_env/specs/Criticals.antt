@@ -14,7 +14,7 @@ use Rattle.jr_critical.specs.declared.levels.Levels.{Levels}
 use Rattle.jr_critical.specs.Levels.{objects_of, GivesUpLastOver, LeavesBefore, OpensOver, StandOver}
 use Rattle.jr_env.specs.declared.env.Env.{Env}
 use Rattle.jr_env.specs.contracts.env.Env as env
-use Rattle.jr_env.specs.declared.region.Region.{Region}
+use Rattle.jr_env.specs.declared.critical_region.Region.{Region}
 use Rattle.jr_env.specs.Envs.{IsOutside}
 use Rattle.jr_env.specs.StandingRegions.{EndsUndisturbed}
 

@@ -3,8 +3,9 @@ pub mod Envs
 pub mod StandingRegions
 pub mod Criticals
 pub mod Collections
+pub mod Tries
 pub mod Elements
-pub mod Standing
+pub mod Calling
 pub mod Works
-pub mod Regions
+pub mod ArrayParts
 pub mod Copies

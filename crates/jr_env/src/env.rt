@@ -1,12 +1,11 @@
-//! The calls of the Java Native Interface for the references of one thread, over any steps.
-ghost use Rattle.jr_env.specs.Standing.{CanCall};
+//! A thread's env: how it is made over a fresh pass, and how the pass comes back.
+ghost use Rattle.jr_env.specs.Calling.{CanCall};
 
-use crate::calls::{Comparison, Creation, LocalCreation, LocalRemoval, Removal, Typing};
-use crate::work::{make, outside};
-use jr_frames::{Frames, Held, Reference};
+use crate::work::outside;
+use jr_frames::{Frames, Held};
 use jr_heap::Numbers;
 use jr_steps::Steps;
-use jr_word::{Fault, Handle, RefKind};
+use jr_word::Fault;
 
 /// A thread's steps and its local references. The thread is outside the gate, or within where a region stands, and its pass is not fresh.
 #[derive(Drop)]
@@ -21,14 +20,12 @@ pub struct Env<S: Steps> {
 impl<S: Steps> Env<S> {
     ghost use Rattle.std.specs.Prelude.{◌≡◌, ◌≢◌, [], ◌∷◌, true, false, IfOk, IfErr};
     ghost use Rattle.jr_word.specs.declared.fault.Fault.TheVariants.{NotFresh};
-    ghost use Rattle.jr_word.specs.declared.handle.RefKind.TheVariants.{Local, Global, Weak};
     ghost use Rattle.jr_model.specs.declared.event.Act.TheVariants.{Gate};
     ghost use Rattle.jr_model.specs.declared.event.GateAct.TheVariants.{Leave};
     ghost use Rattle.jr_model.specs.declared.event.Role.TheVariants.{Outside};
     ghost use Rattle.jr_model.specs.Frames.{fresh_frames};
     ghost use Rattle.jr_steps.specs.Knowing.{Spent, Took, anything, lets_go};
-    ghost use Rattle.jr_env.specs.Envs.{Does, IsOutside};
-    ghost use Rattle.jr_env.specs.Deeds.{new_reference, new_local_ref, delete_reference, delete_local_ref, is_same_object, get_object_ref_type};
+    ghost use Rattle.jr_env.specs.Envs.{IsOutside};
 
     /// The env of a thread, with one base frame, over a pass that is fresh, which is spent. The thread has to stand outside.
     ///
@@ -75,161 +72,5 @@ impl<S: Steps> Env<S> {
         outside(&mut held);
         let Held { steps, frames: _ } = held;
         steps
-    }
-
-    /// Makes a global reference to what the handle names, none for NULL and for a weak one that is cleared. (JNI Specification, chapter 4, "NewGlobalRef")
-    ///
-    /// # Errors
-    ///
-    /// E13 where a thread is collecting at the entry, or has announced that it will; E2 where the handle is malformed or lies outside the room; E3 where it is a local one of another thread; E2 where its reference does not stand; E8 where each slot was occupied when it was tried, or later in the call.
-    ///
-    /// Nothing has changed then, and the thread stands outside.
-    ///
-    /// # Operations
-    ///
-    /// Just its events: the entry, a look at the slot of a global or weak handle, a look at each slot that is tried and the exchange of each that was free, which are two for each slot of the room at the most, and the exit.
-    pub fn new_global_ref(&mut self, handle: Handle) -> Result<Option<Handle>, Fault>
-        ensures { Does self.old self.new (new_reference Global handle.0) result }
-    {
-        self.new_reference(RefKind::Global, handle)
-    }
-
-    /// Makes a weak global reference to what the handle names, none for NULL and for a weak one that is cleared. (JNI Specification, chapter 4, "NewWeakGlobalRef")
-    ///
-    /// # Errors
-    ///
-    /// E13 where a thread is collecting at the entry, or has announced that it will; E2 where the handle is malformed or lies outside the room; E3 where it is a local one of another thread; E2 where its reference does not stand; E8 where each slot was occupied when it was tried, or later in the call.
-    ///
-    /// Nothing has changed then, and the thread stands outside.
-    ///
-    /// # Operations
-    ///
-    /// Just its events: the entry, a look at the slot of a global or weak handle, a look at each slot that is tried and the exchange of each that was free, which are two for each slot of the room at the most, and the exit.
-    pub fn new_weak_global_ref(&mut self, handle: Handle) -> Result<Option<Handle>, Fault>
-        ensures { Does self.old self.new (new_reference Weak handle.0) result }
-    {
-        self.new_reference(RefKind::Weak, handle)
-    }
-
-    /// Makes a local reference to what the handle names, none for NULL and for a weak one that is cleared, which needs no place. (JNI Specification, chapter 4, "NewLocalRef")
-    ///
-    /// # Errors
-    ///
-    /// E13 where a thread is collecting at the entry, or has announced that it will; E2 where the handle is malformed or lies outside the room; E3 where it is a local one of another thread; E2 where its reference does not stand; E9 where no local place is free.
-    ///
-    /// Nothing has changed then, and the thread stands outside.
-    ///
-    /// # Operations
-    ///
-    /// Just its events, 2 to 4: the entry, a look at the slot of a global or weak handle, the store of the local word, and the exit.
-    pub fn new_local_ref(&mut self, handle: Handle) -> Result<Option<Handle>, Fault>
-        ensures { Does self.old self.new (new_local_ref handle.0) result }
-    {
-        let target = Reference::of(handle);
-        let made = make(&mut self.held, LocalCreation(target))?;
-        Ok(made.map(Handle::pack))
-    }
-
-    /// Deletes a global reference. For NULL it deletes nothing, and is not refused. (JNI Specification, chapter 4, "DeleteGlobalRef")
-    ///
-    /// # Errors
-    ///
-    /// E13 where a thread is collecting at the entry, or has announced that it will; E2 where the handle is malformed; E4 where it is of another kind; E2 where it lies outside the room, its reference does not stand, or another thread deletes it first.
-    ///
-    /// Nothing has changed then, and the thread stands outside.
-    ///
-    /// # Operations
-    ///
-    /// Just its events, 2 to 4: the entry, a look at the slot, the exchange of a word that stands there, and the exit.
-    pub fn delete_global_ref(&mut self, handle: Handle) -> Result<(), Fault>
-        ensures { Does self.old self.new (delete_reference Global handle.0) result }
-    {
-        let target = Reference::of(handle);
-        let kind = RefKind::Global;
-        make(&mut self.held, Removal { kind, target })
-    }
-
-    /// Deletes a weak global reference, cleared or not. For NULL it deletes nothing, and is not refused. (JNI Specification, chapter 4, "DeleteWeakGlobalRef")
-    ///
-    /// # Errors
-    ///
-    /// E13 where a thread is collecting at the entry, or has announced that it will; E2 where the handle is malformed; E4 where it is of another kind; E2 where it lies outside the room, its reference does not stand, or another thread deletes it first.
-    ///
-    /// Nothing has changed then, and the thread stands outside.
-    ///
-    /// # Operations
-    ///
-    /// Just its events, 2 to 4: the entry, a look at the slot, the exchange of a word that stands there, and the exit.
-    pub fn delete_weak_global_ref(&mut self, handle: Handle) -> Result<(), Fault>
-        ensures { Does self.old self.new (delete_reference Weak handle.0) result }
-    {
-        let target = Reference::of(handle);
-        let kind = RefKind::Weak;
-        make(&mut self.held, Removal { kind, target })
-    }
-
-    /// Deletes a local reference of the thread, whichever frame has it. For NULL it deletes nothing, and is not refused. (JNI Specification, chapter 4, "DeleteLocalRef")
-    ///
-    /// # Errors
-    ///
-    /// E13 where a thread is collecting at the entry, or has announced that it will; E2 where the handle is malformed; E4 where it is of another kind; E2 where it lies outside the room; E3 where it is one of another thread; E2 where its reference does not stand.
-    ///
-    /// Nothing has changed then, and the thread stands outside.
-    ///
-    /// # Operations
-    ///
-    /// Just its events, 2 or 3: the entry, the store of the local word, and the exit.
-    pub fn delete_local_ref(&mut self, handle: Handle) -> Result<(), Fault>
-        ensures { Does self.old self.new (delete_local_ref handle.0) result }
-    {
-        let target = Reference::of(handle);
-        make(&mut self.held, LocalRemoval(target))
-    }
-
-    /// Whether two references are to one object, or both to null. The look at the first and the look at the second are two moments. Each check is made of the first handle and then of the second, before the next check. (JNI Specification, chapter 4, "IsSameObject")
-    ///
-    /// # Errors
-    ///
-    /// E13 where a thread is collecting at the entry, or has announced that it will; E2 where a handle is malformed or lies outside the room; E3 where one is a local one of another thread; E2 where the reference of one does not stand.
-    ///
-    /// Nothing has changed then, and the thread stands outside.
-    ///
-    /// # Operations
-    ///
-    /// Just its events, 2 to 4: the entry, a look at the slot of each handle that is global or weak, and the exit.
-    pub fn is_same_object(&mut self, left: Handle, right: Handle) -> Result<bool, Fault>
-        ensures { Does self.old self.new (is_same_object left.0 right.0) result }
-    {
-        let left = Reference::of(left);
-        let right = Reference::of(right);
-        make(&mut self.held, Comparison(left, right))
-    }
-
-    /// The type of a reference: 1 local, 2 global, 3 weak global, be it cleared, and 0 for NULL, a malformed handle, one that lies outside the room, a local one of another thread, and one whose reference does not stand. (JNI Specification, chapter 4, "GetObjectRefType")
-    ///
-    /// # Errors
-    ///
-    /// E13 where a thread is collecting at the entry, or has announced that it will.
-    ///
-    /// Nothing has changed then, and the thread stands outside.
-    ///
-    /// # Operations
-    ///
-    /// Just its events, 2 or 3: the entry, a look at the slot of a global or weak handle, and the exit.
-    pub fn get_object_ref_type(&mut self, handle: Handle) -> Result<u8, Fault>
-        ensures { Does self.old self.new (get_object_ref_type handle.0) result }
-    {
-        let target = Reference::of(handle);
-        make(&mut self.held, Typing(target))
-    }
-
-    /// A global or weak global reference to what the handle names, or none for null.
-    fn new_reference(&mut self, kind: RefKind, handle: Handle) -> Result<Option<Handle>, Fault>
-        requires { kind ≢ Local }
-        ensures { Does self.old self.new (new_reference kind handle.0) result }
-    {
-        let target = Reference::of(handle);
-        let made = make(&mut self.held, Creation { kind, target })?;
-        Ok(made.map(Handle::pack))
     }
 }

@@ -1,24 +1,17 @@
-//! The calls of the Java Native Interface for the references of one thread, over any steps.
+//! The calls of the Java Native Interface, as one thread makes them, over any steps.
 #![tactic(auto)]
 
-mod calls;
-mod collecting;
-mod copies;
-mod copy_calls;
-mod critical_calls;
+pub mod calls;
+mod critical_region;
 mod env;
-mod frame_calls;
-mod frame_works;
-mod level_calls;
-mod making;
-mod making_calls;
-mod meeting;
-mod object_calls;
-mod objects;
-mod region;
-mod region_calls;
-mod regions;
+mod env_call;
+mod retrying;
+mod scope;
 mod work;
+mod works;
 
+pub use critical_region::Region;
 pub use env::Env;
-pub use region::Region;
+pub use env_call::EnvCall;
+pub use retrying::{is_made_again, is_short_of_room};
+pub use scope::{LocalFrames, Scoped, with_local_frame};

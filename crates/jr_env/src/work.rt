@@ -1,7 +1,7 @@
 //! What a call does within a stay, and the call round it.
 
 ghost use Rattle.std.specs.Prelude.{IfOk};
-ghost use Rattle.jr_env.specs.Standing.{CanCall};
+ghost use Rattle.jr_env.specs.Calling.{CanCall};
 ghost use Rattle.jr_env.specs.Works.{CompletesOver, EndsStayOver};
 
 use jr_frames::{Frames, Held};

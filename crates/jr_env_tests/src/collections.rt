@@ -3,5 +3,5 @@
 mod announced;
 pub(crate) mod chains;
 mod markers;
-mod rows;
+pub(crate) mod rows;
 mod threads;

@@ -1,31 +1,25 @@
-//! What scripts can't show of frames: places that are retired, a capacity of 32 bits, and local references that are freed while their env goes on.
+//! What scripts can't show of frames: a capacity of 32 bits, and local references that are freed while their env goes on.
 
-use crate::envs::{has_type, is_refused, made, opened_env};
+use crate::envs::{has_type, is_refused, made};
 use crate::plain::{Case, try_plain};
 use jr_env::Env;
-use jr_rule::PlainSteps;
 use jr_steps::Steps;
 use jr_word::{Config, Fault, Handle};
 use std::process::Abort;
 use std::test::Fail;
 
 /// That many places are free and no more: a capacity is ensured, and refused where one is missing.
-fn are_free<S: Steps>(rt: &impl Abort, env: &mut Env<S>, places: u8) -> Result<(), Fail> {
+pub(crate) fn are_free<S: Steps>(
+    rt: &impl Abort,
+    env: &mut Env<S>,
+    places: u8,
+) -> Result<(), Fail> {
     env.ensure_local_capacity(u32::from(places))?;
     for more in [u32::from(places) + 1, u32::MAX] {
         is_refused(rt, env.ensure_local_capacity(more), Some(Fault::LocalsFull));
         is_refused(rt, env.push_local_frame(more), Some(Fault::LocalsFull));
     }
     Ok(())
-}
-
-// Each place gives one handle here, and is retired with it.
-#[test]
-fn retired_places_are_no_room(rt: HostRuntime) -> Result<(), Fail> {
-    let mut env = opened_env(PlainSteps::<0>::new(rt.alloc(), Config::LEAST)?);
-    let object = env.new_plain()?;
-    env.delete_local_ref(object)?;
-    are_free(&rt, &mut env, 15)
 }
 
 /// A local reference of the base frame, one that was deleted, and one of the third frame.

@@ -1,9 +1,9 @@
 //! How many handles a slot and a local place give, and what their row says then.
 
-use crate::envs::{has_type, has_words, is_refused, made, opened_env, plain_env};
+use crate::envs::{has_type, has_words, is_refused, made, opened_env};
+use crate::frames::are_free;
 use crate::plain::{Case, try_plain};
 use jr_env::Env;
-use jr_model::Summary;
 use jr_rule::PlainSteps;
 use jr_steps::Steps;
 use jr_word::{Config, Fault, Handle};
@@ -107,8 +107,8 @@ fn a_local_place_gives_more_than_65_536_handles(rt: HostRuntime) -> Result<(), F
     try_plain(&rt, rt.alloc(), Config::LEAST, Case::Place)
 }
 
-/// The one slot gives three handles, and is retired with the last of them.
-fn retires<S: Steps>(rt: &impl Abort, env: &mut Env<S>) -> Result<(), Fail> {
+/// The one slot gives three handles, and is retired with the last of them. The reference to the object.
+fn retires_a_slot<S: Steps>(rt: &impl Abort, env: &mut Env<S>) -> Result<Handle, Fail> {
     let local = env.new_plain()?;
     let words = [Handle(2), Handle(6), Handle(10)];
     for word in words {
@@ -120,11 +120,26 @@ fn retires<S: Steps>(rt: &impl Abort, env: &mut Env<S>) -> Result<(), Fail> {
     for word in words {
         has_type(rt, env, word, 0)?;
     }
-    Ok(())
+    Ok(local)
+}
+
+/// A local place gives three handles, and is retired too: fourteen are free of sixteen, since one has the reference to the object.
+fn retires_a_place<S: Steps>(rt: &impl Abort, env: &mut Env<S>, local: Handle) -> Result<(), Fail> {
+    for _ in 0..3 {
+        let other = made(env.new_local_ref(local))?;
+        env.delete_local_ref(other)?;
+    }
+    are_free(rt, env, 14)
+}
+
+/// A slot and a local place are retired, and no room for a reference then.
+fn retires<S: Steps>(rt: &impl Abort, env: &mut Env<S>) -> Result<(), Fail> {
+    let local = retires_a_slot(rt, env)?;
+    retires_a_place(rt, env, local)
 }
 
 #[test]
-fn retires_a_slot_after_its_last_serial(rt: HostRuntime) -> Result<(), Fail> {
+fn retires_a_slot_and_a_place_after_their_last_serials(rt: HostRuntime) -> Result<(), Fail> {
     let mut env = opened_env(PlainSteps::<2>::new(rt.alloc(), Config::LEAST)?);
     retires(&rt, &mut env)?;
     let mut row = [0; 20];
@@ -132,20 +147,5 @@ fn retires_a_slot_after_its_last_serial(rt: HostRuntime) -> Result<(), Fail> {
     row[3] = 1;
     row[19] = 1;
     has_words(&rt, &env.held.steps.cells.words, &row);
-    Ok(())
-}
-
-#[test]
-fn sums_up_what_stands(rt: HostRuntime) -> Result<(), Fail> {
-    let mut env = plain_env(rt.alloc(), Config::LEAST)?;
-    let local = env.new_plain()?;
-    env.new_global_ref(local)?;
-    let summary = Summary {
-        globals: 1,
-        weaks: 0,
-        live: 1,
-        used: 0,
-    };
-    assert_eq!(rt; env.held.steps.summary(), summary);
     Ok(())
 }

@@ -2,6 +2,8 @@
 #![tactic(auto)]
 
 #[cfg(test)]
+mod again;
+#[cfg(test)]
 mod collections;
 #[cfg(test)]
 mod envs;
@@ -15,3 +17,11 @@ mod held;
 mod plain;
 #[cfg(test)]
 mod references;
+#[cfg(test)]
+mod scopes;
+#[cfg(test)]
+mod slot_threads;
+#[cfg(test)]
+mod ten_lines;
+#[cfg(test)]
+mod words;

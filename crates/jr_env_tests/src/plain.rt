@@ -1,11 +1,14 @@
 //! What is tried of an env over plain words, in one function that makes the env: one that a test makes itself is dear to prove.
 
 use crate::collections::chains::{reaches_a_chain, reaches_a_cycle};
-use crate::envs::plain_env;
+use crate::collections::rows::{fills, fills_and_collects};
+use crate::envs::{LAST, has_words, plain_env};
 use crate::frames::frees_all;
 use crate::handles::{place_gives_more, slot_gives_more};
-use crate::references::{are_checked_in_turn, are_deleted_by_kind, are_no_references, goes_round};
+use crate::references::{are_deleted_by_kind, goes_round};
+use crate::scopes::are_made;
 use jr_env::Env;
+use jr_rule::PlainSteps;
 use jr_steps::Steps;
 use jr_word::Config;
 use std::alloc::Global;
@@ -15,10 +18,6 @@ use std::test::Fail;
 /// What is tried.
 #[derive(Clone, Copy)]
 pub(crate) enum Case {
-    /// Words that are no reference.
-    NoReferences,
-    /// Checks of two references.
-    InTurn,
     /// References of another kind than is deleted.
     ByKind,
     /// Searches for a free slot.
@@ -33,6 +32,12 @@ pub(crate) enum Case {
     Chain,
     /// A cycle of arrays.
     Cycle,
+    /// Two arrays, of which one is reached.
+    Filled,
+    /// The same, and a collection.
+    Collected,
+    /// Calls that are made of others.
+    OfOthers,
 }
 
 /// Tries it in an env in which nothing stands.
@@ -43,8 +48,6 @@ fn try_case<S: Steps>(
     case: Case,
 ) -> Result<(), Fail> {
     match case {
-        Case::NoReferences => are_no_references(rt, env),
-        Case::InTurn => are_checked_in_turn(rt, env),
         Case::ByKind => are_deleted_by_kind(rt, env),
         Case::Round => goes_round(rt, env),
         Case::Frees => frees_all(rt, env),
@@ -52,16 +55,44 @@ fn try_case<S: Steps>(
         Case::Place => place_gives_more(rt, env),
         Case::Chain => reaches_a_chain(rt, alloc, env),
         Case::Cycle => reaches_a_cycle(rt, alloc, env),
+        Case::Filled => fills(env),
+        Case::Collected => fills_and_collects(rt, alloc, env),
+        Case::OfOthers => are_made(rt, env),
     }
 }
 
-/// Tries it in a room of plain words, which is made for it.
+/// Tries it in a room of plain words, which is made for it. The env then.
+fn tried(
+    rt: &impl Abort,
+    alloc: Global,
+    config: Config,
+    case: Case,
+) -> Result<Env<PlainSteps<LAST>>, Fail> {
+    let mut env = plain_env(alloc, config)?;
+    try_case(rt, alloc, &mut env, case)?;
+    Ok(env)
+}
+
+/// Tries it in a room of plain words.
 pub(crate) fn try_plain(
     rt: &impl Abort,
     alloc: Global,
     config: Config,
     case: Case,
 ) -> Result<(), Fail> {
-    let mut env = plain_env(alloc, config)?;
-    try_case(rt, alloc, &mut env, case)
+    tried(rt, alloc, config, case)?;
+    Ok(())
+}
+
+/// The same, and checks the words of the row then.
+pub(crate) fn leaves_words(
+    rt: &impl Abort,
+    alloc: Global,
+    config: Config,
+    case: Case,
+    row: &[u64],
+) -> Result<(), Fail> {
+    let env = tried(rt, alloc, config, case)?;
+    has_words(rt, &env.held.steps.cells.words, row);
+    Ok(())
 }

@@ -1,4 +1,4 @@
-//! Words that are no reference of the thread, through the calls that take them, over plain words and over a room.
+//! References of another kind than is deleted, envs of passes that are not fresh, threads that meet, and searches that go round, over plain words and over a room.
 
 ghost use Rattle.std.specs.Prelude.{◌≡◌, IfOk};
 ghost use Rattle.jr_model.specs.declared.event.Role.TheVariants.{Outside};
@@ -40,74 +40,13 @@ const FOREIGN: Handle = Handle(0x4_0000_0000_0001);
 /// Local, of a third thread.
 const NO_THREAD: Handle = Handle(0x8_0000_0000_0001);
 
-/// Local, at a seventeenth place of thread 0 and of thread 1.
+/// Local, at a seventeenth place of thread 0.
 const NO_PLACE: Handle = Handle(0x40_0000_0001);
-
-const NO_FOREIGN_PLACE: Handle = Handle(0x4_0040_0000_0001);
 
 /// Global, and weak, with a fifth slot.
 const NO_SLOT: Handle = Handle(0x10_0000_0002);
 
 const NO_WEAK_SLOT: Handle = Handle(0x10_0000_0003);
-
-/// Each call that takes a reference refuses the word, but for the one that tells its type.
-fn is_no_reference<S: Steps>(
-    rt: &impl Abort,
-    env: &mut Env<S>,
-    word: Handle,
-    fault: Fault,
-) -> Result<(), Fail> {
-    is_refused(rt, env.new_global_ref(word), Some(fault));
-    is_refused(rt, env.new_weak_global_ref(word), Some(fault));
-    is_refused(rt, env.new_local_ref(word), Some(fault));
-    is_refused(rt, env.is_same_object(word, Handle::NULL), Some(fault));
-    is_refused(rt, env.is_same_object(Handle::NULL, word), Some(fault));
-    has_type(rt, env, word, 0)
-}
-
-/// Words that are no reference of the thread, each with its refusal.
-pub(crate) fn are_no_references<S: Steps>(rt: &impl Abort, env: &mut Env<S>) -> Result<(), Fail> {
-    let rows = [
-        (ONES, Fault::Stale),
-        (Handle(4), Fault::Stale),
-        (Handle(0x4_0000_0000_0002), Fault::Stale),
-        (NO_SLOT, Fault::Stale),
-        (NO_WEAK_SLOT, Fault::Stale),
-        (NO_THREAD, Fault::Stale),
-        (NO_PLACE, Fault::Stale),
-        (NO_FOREIGN_PLACE, Fault::Stale),
-        (FOREIGN, Fault::Foreign),
-        (OWN, Fault::Stale),
-    ];
-    for (word, fault) in rows {
-        is_no_reference(rt, env, word, fault)?;
-    }
-    has_type(rt, env, Handle::NULL, 0)
-}
-
-#[test]
-fn words_that_are_no_reference(rt: HostRuntime) -> Result<(), Fail> {
-    try_plain(&rt, rt.alloc(), TWO, Case::NoReferences)
-}
-
-/// Each kind of check is made of the first reference and then of the second, before the next kind.
-pub(crate) fn are_checked_in_turn<S: Steps>(rt: &impl Abort, env: &mut Env<S>) -> Result<(), Fail> {
-    let rows = [
-        (FOREIGN, ONES, Fault::Stale),
-        (FOREIGN, NO_SLOT, Fault::Stale),
-        (OWN, FOREIGN, Fault::Foreign),
-        (FOREIGN, OWN, Fault::Foreign),
-    ];
-    for (left, right, fault) in rows {
-        is_refused(rt, env.is_same_object(left, right), Some(fault));
-    }
-    Ok(())
-}
-
-#[test]
-fn checks_of_two_references(rt: HostRuntime) -> Result<(), Fail> {
-    try_plain(&rt, rt.alloc(), TWO, Case::InTurn)
-}
 
 /// The words of a local, a global and a weak global reference to one object.
 #[derive(Drop)]

@@ -44,6 +44,14 @@ pub neither : (b d : Bool) → b ≡ false → d ≡ false → (b || d) ≡ fals
 neither false d e e' = e'
 neither true d e e' = absurd cc
 
+pub not_first : (b d : Bool) → (b || d) ≡ false → b ≡ false
+not_first false d e = refl
+not_first true d e = absurd cc
+
+pub not_second : (b d : Bool) → (b || d) ≡ false → d ≡ false
+not_second false d e = e
+not_second true d e = absurd cc
+
 -- two tests with one refusal
 pub ran_either : {B : Type 0} (p : PassView) (f : Frames) (b d : Bool) (e : Fault) (next : Unit {0} → Call B) → (b || d) ≡ true → Grounds p.seen p e → IsLegal p.config p.last p.seen → Ran p p f f (refuse_if b e >>= (λ u. refuse_if d e >>= next)) (Err e)
 ran_either p f true d e next is g l = ran_refused p f true e _ refl g l

@@ -23,7 +23,7 @@ use Rattle.jr_steps.specs.Knowing.{AreOf, Facts, view, HasOptional}
 use Rattle.jr_steps.proofs.StepFacts.{present_stays}
 use Rattle.jr_frames.specs.OverSteps.{Resolves, ResolvesBoth, Calls}
 use Rattle.jr_gate.proofs.SameRoom.{nothing_changed, still_before}
-use Rattle.jr_frames.proofs.Reading.{neither, ran_either, ran_neither}
+use Rattle.jr_frames.proofs.Reading.{ran_either, ran_neither}
 use Rattle.jr_frames.proofs.NewLocal.{found_optional}
 use Rattle.jr_gate.proofs.Spending.{made_of, spending, spend_first, spend_none}
 use Rattle.jr_gate.proofs.HandedOn.{handed_on}
@@ -54,11 +54,12 @@ module _ (c : Config) (last t : ℕ) (v w : Word) where
     pub inside : (is_out_of_bounds c v || is_out_of_bounds c w) ≡ false
     pub own : (is_foreign t v || is_foreign t w) ≡ false
 
-  pub passes : is_malformed v ≡ false → is_malformed w ≡ false → is_out_of_bounds c v ≡ false → is_out_of_bounds c w ≡ false → is_foreign t v ≡ false → is_foreign t w ≡ false → Passes
-  passes a b d e f g = record {
-    formed = neither (is_malformed v) (is_malformed w) a b;
-    inside = neither (is_out_of_bounds c v) (is_out_of_bounds c w) d e;
-    own = neither (is_foreign t v) (is_foreign t w) f g;
+  -- asked with the same sizes, and of the same thread
+  pub passes : {k : Config} {u : ℕ} → k ≡ c → u ≡ t → (is_malformed v || is_malformed w) ≡ false → (is_out_of_bounds k v || is_out_of_bounds k w) ≡ false → (is_foreign u v || is_foreign u w) ≡ false → Passes
+  passes sizes thread a b d = record {
+    formed = a;
+    inside = ap (λ (k : Config). is_out_of_bounds k v || is_out_of_bounds k w) (sym sizes) ∙ b;
+    own = ap (λ (u : ℕ). is_foreign u v || is_foreign u w) (sym thread) ∙ d;
   }
 
   passed_ran : {p q : PassView} {f g : Frames} {answer : Result (Option ℕ × Option ℕ) Fault} → Passes → Ran p q f g (looked_both v w) answer → Ran p q f g (resolved_both c last t v w) answer

@@ -13,8 +13,6 @@ mod reference;
 mod resolving;
 mod ring_walk;
 mod rings;
-#[cfg(test)]
-mod tests;
 
 pub use finding::find;
 pub use frames::Frames;

@@ -1,8 +1,8 @@
 //! How a call resolves the references that it is handed, over any steps.
-ghost use Rattle.std.specs.Prelude.{◌≡◌, ◌≢◌, Some, None, Ok, false};
+ghost use Rattle.std.specs.Prelude.{◌≡◌, ◌≢◌, ◌||◌, Some, None, Ok, false};
 ghost use Rattle.jr_word.specs.declared.handle.RefKind.TheVariants.{Local};
 ghost use Rattle.jr_gate.specs.Stays.{IsOwnStay};
-ghost use Rattle.jr_model.specs.Checks.{Parts, is_out_of_bounds, type_found, type_local};
+ghost use Rattle.jr_model.specs.Checks.{Parts, is_foreign, is_malformed, is_out_of_bounds, type_found, type_local};
 ghost use Rattle.jr_model.specs.Parts.{local_answer, looked, looked_at};
 ghost use Rattle.jr_model.specs.References.{resolved, resolved_both, typing};
 ghost use Rattle.jr_frames.specs.Reading.{word_of, OwnerFits};
@@ -14,7 +14,7 @@ use jr_gate::Inside;
 use jr_model::Found;
 use jr_row::{look, object_found};
 use jr_steps::Steps;
-use jr_word::{Fault, HandleParts, RefKind};
+use jr_word::{Config, Fault, HandleParts, RefKind};
 
 /// The object of a local reference: E2 where it does not stand.
 #[inline(always)]
@@ -97,6 +97,30 @@ pub fn resolve<S: Steps>(
     look_up(steps, inside, frames, reference)
 }
 
+/// Whether one of two references is malformed.
+#[inline(always)]
+fn is_one_malformed(left: Reference, right: Reference) -> bool
+    ensures { result ≡ (is_malformed (word_of left) || is_malformed (word_of right)) }
+{
+    left.is_malformed() || right.is_malformed()
+}
+
+/// Whether one of two references lies outside the room.
+#[inline(always)]
+fn lies_one_outside(config: Config, left: Reference, right: Reference) -> bool
+    ensures { result ≡ (is_out_of_bounds config (word_of left) || is_out_of_bounds config (word_of right)) }
+{
+    left.lies_outside(config) || right.lies_outside(config)
+}
+
+/// Whether one of two references is a local of another thread.
+#[inline(always)]
+fn belongs_one_elsewhere(thread: u8, left: Reference, right: Reference) -> bool
+    ensures { result ≡ (is_foreign thread (word_of left) || is_foreign thread (word_of right)) }
+{
+    left.belongs_elsewhere(thread) || right.belongs_elsewhere(thread)
+}
+
 /// The objects of two references, none for NULL and a cleared one. Each check is made of the first and then of the second, before the next check.
 ///
 /// # Errors
@@ -123,13 +147,13 @@ pub fn resolve_both<S: Steps>(
 {
     let config = steps.config();
     let thread = steps.thread();
-    if left.is_malformed() || right.is_malformed() {
+    if is_one_malformed(left, right) {
         return Err(Fault::Stale);
     }
-    if left.lies_outside(config) || right.lies_outside(config) {
+    if lies_one_outside(config, left, right) {
         return Err(Fault::Stale);
     }
-    if left.belongs_elsewhere(thread) || right.belongs_elsewhere(thread) {
+    if belongs_one_elsewhere(thread, left, right) {
         return Err(Fault::Foreign);
     }
     let first = look_up(steps, inside, frames, left)?;

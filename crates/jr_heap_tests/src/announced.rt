@@ -3,7 +3,7 @@ ghost use Rattle.std.specs.Prelude.{◌≡◌, IfOk};
 ghost use Rattle.jr_model.specs.declared.event.Role.TheVariants.{Outside};
 ghost use Rattle.jr_gate.specs.Stays.{IsOwnAnnouncement};
 
-use crate::gate::{enters, gate_is, is_busy, knocks};
+use crate::gate::{THREE, enters, gate_is, is_busy, knocks};
 use crate::plain::{self, FirstWord, alone, first_word_is};
 use crate::rooms::NOTHING;
 use crate::shared::{self, in_a_room};
@@ -12,12 +12,6 @@ use jr_steps::Steps;
 use jr_word::{Config, Fault};
 use std::process::Abort;
 use std::test::Fail;
-
-/// A room of three threads with one slot and one object.
-const THREE: Config = Config {
-    threads: 3,
-    ..Config::LEAST
-};
 
 /// Announces that the gate will be shut, which nobody keeps it from.
 fn announces<S: Steps>(rt: &impl Abort, steps: &mut S) -> Announced

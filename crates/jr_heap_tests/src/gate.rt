@@ -4,8 +4,9 @@ ghost use Rattle.jr_model.specs.declared.event.Role.TheVariants.{Outside};
 ghost use Rattle.jr_gate.specs.Stays.{IsOwnCollection};
 ghost use Rattle.jr_steps.specs.Knowing.{CanReopen, MayKnow};
 
-use crate::plain::{Case, FirstWord, alone, first_word_is};
+use crate::plain::{self, FirstWord, alone, first_word_is};
 use crate::rooms::{NOTHING, last_of, leaves, stays_open};
+use crate::shared::{Case, in_a_room};
 use jr_gate::{Shut, enter, shut_gate};
 use jr_rule::{Room, RoomSteps};
 use jr_steps::{GateLoad, Steps};
@@ -16,6 +17,12 @@ use std::test::Fail;
 /// A room of two threads with one slot and one object.
 const SMALL: Config = Config {
     threads: 2,
+    ..Config::LEAST
+};
+
+/// A room of three threads with one slot and one object.
+pub(crate) const THREE: Config = Config {
+    threads: 3,
     ..Config::LEAST
 };
 
@@ -172,6 +179,36 @@ fn a_stay_and_a_collection_exclude_each_other(rt: HostRuntime) -> Result<(), Fai
     Ok(())
 }
 
+/// A thread that knocked while another collected is still counted once the gate is open: until it withdraws, nobody collects.
+pub(crate) fn is_counted_once_open<S: Steps>(
+    rt: &impl Abort,
+    barred: &mut S,
+    collects: &mut S,
+) -> Result<(), Fail>
+    requires barred { (S.facts barred.old).stands.role ≡ Outside }
+    requires collects { (S.facts collects.old).stands.role ≡ Outside }
+{
+    let Ok(collection) = shut_gate(collects) else {
+        return Err("nobody is inside")?;
+    };
+    gate_is(rt, barred, 65_536);
+    assert!(rt; !barred.go_in());
+    gate_is(rt, barred, 65_537);
+    collection.reopen(collects);
+    gate_is(rt, collects, 1);
+    is_busy(rt, collects, 1);
+    gate_is(rt, collects, 1);
+    barred.go_out();
+    gate_is(rt, collects, 0);
+    assert_eq!(rt; shut_refused(collects), None);
+    Ok(())
+}
+
+#[test]
+fn an_entry_that_is_barred_is_counted_until_it_withdraws(rt: HostRuntime) -> Result<(), Fail> {
+    in_a_room(&rt, rt.alloc(), THREE, Case::CountedOnceOpen, NOTHING)
+}
+
 /// A stay is one in the word, until it ends.
 pub(crate) fn is_counted<S: Steps + FirstWord>(rt: &impl Abort, steps: &mut S) -> Result<(), Fail>
     requires { (S.facts steps.old).stands.role ≡ Outside }
@@ -200,10 +237,10 @@ pub(crate) fn is_shut<S: Steps + FirstWord>(rt: &impl Abort, steps: &mut S) -> R
 
 #[test]
 fn a_stay_is_counted_until_it_ends(rt: HostRuntime) -> Result<(), Fail> {
-    alone(&rt, rt.alloc(), Config::LEAST, Case::IsCounted)
+    alone(&rt, rt.alloc(), Config::LEAST, plain::Case::IsCounted)
 }
 
 #[test]
 fn a_collection_keeps_the_gate_shut_until_it_ends(rt: HostRuntime) -> Result<(), Fail> {
-    alone(&rt, rt.alloc(), Config::LEAST, Case::IsShut)
+    alone(&rt, rt.alloc(), Config::LEAST, plain::Case::IsShut)
 }

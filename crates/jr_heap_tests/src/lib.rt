@@ -1,4 +1,4 @@
-//! Tests of rooms and their passes, of the gate and of the heap, over rooms and over plain words: of what calls and scripts can't show.
+//! Tests of all that stands below an env's calls: of words, of rooms and their passes, of the gate, of the heap and of the table of local references, of what calls and scripts can't show.
 #![tactic(auto)]
 
 #[cfg(test)]
@@ -19,3 +19,7 @@ mod plain;
 mod rooms;
 #[cfg(test)]
 mod shared;
+#[cfg(test)]
+mod table;
+#[cfg(test)]
+mod words;

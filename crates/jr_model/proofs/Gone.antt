@@ -11,7 +11,7 @@ use Rattle.jr_model.proofs.Locals.{IsPast, past_later, past_not_new}
 use Rattle.jr_model.proofs.Agreement.{cut_last, joined_before, joined_filter, joined_last, joined_push, not_both, object_last, other_than, standing_held}
 
 -- the reference has the handle
-abbrev has : Handle → LocalRef → Bool
+abbrev pub has : Handle → LocalRef → Bool
 has h r = same_handle r.handle h
 
 -- WHAT NO REFERENCE OF A LIST HAS

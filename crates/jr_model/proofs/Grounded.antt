@@ -1,16 +1,14 @@
 -- What a refused creation tells of the room is so, and calls are their stays.
-use Rattle.std.proofs.Common.{◌≡◌, ◌≢◌, ◌⊎◌, ⊎_elim, inl, inr, ℕ, Bool, ◌<◌, List, [], ◌∷◌, ◌++◌, Some, None, Result, Ok, Err, ap, refl, sym, subst, ◌∙◌}
+use Rattle.std.proofs.Common.{◌≡◌, ◌⊎◌, ⊎_elim, inl, inr, ℕ, Bool, ◌<◌, List, [], ◌∷◌, ◌++◌, Some, None, Result, Ok, Err, ap, refl, sym, subst, ◌∙◌}
 use mathlib.Core.List.{IsPrefix}
 use Rattle.std.proofs.lemmas.List.{append-nil}
 use Rattle.jr_word.specs.declared.config.Config.{Config}
 use Rattle.jr_word.specs.declared.handle.RefKind.{RefKind}
-use Rattle.jr_word.specs.declared.kind.Kind.{Kind}
 use Rattle.jr_word.specs.declared.fault.Fault.{Fault}
 use Rattle.jr_word.specs.declared.fault.Fault.TheVariants.{RowFull, Barred}
 use Rattle.jr_model.specs.declared.event.Act.{Act}
 use Rattle.jr_model.specs.declared.event.Act.TheVariants.{Gate, Probe}
 use Rattle.jr_model.specs.declared.event.GateAct.TheVariants.{Enter, Knock, Leave, Withdraw}
-use Rattle.jr_model.specs.declared.frames.Mode.{Mode}
 use Rattle.jr_model.specs.declared.frames.Mode.TheVariants.{Copy, Commit, Abort}
 use Rattle.jr_model.specs.State.{IsOccupied}
 use Rattle.jr_model.specs.History.{History, by, state, PassView}
@@ -18,9 +16,9 @@ use Rattle.jr_model.specs.Frames.{Frames}
 use Rattle.jr_model.specs.Windows.{IsBehind, IsLastSeen, Begins, Ends}
 use Rattle.jr_model.specs.Refusals.{RowWasFull}
 use Rattle.jr_model.specs.Calls.{Call, Ran, done, entered, ◌>>◌}
-use Rattle.jr_model.specs.Checks.{Word}
-use Rattle.jr_model.specs.Objects.{copying_back, release_array_elements}
+use Rattle.jr_model.specs.Objects.{copying_back}
 use Rattle.jr_model.specs.Parts.{create}
+use Rattle.jr_model.specs.AllCalls.{CallOf}
 use Rattle.jr_model.specs.Grounded.{FreeIndexIsFound, RefusedInItsStay, EachIsProbed, IsItsStay, CallsAreTheirStays}
 use Rattle.jr_model.proofs.Moments.{prefix_trans}
 use Rattle.jr_model.proofs.OwnActs.{seen_among}
@@ -90,34 +88,20 @@ each_is_probed old new f g k a r i l = probed_act old new f g _ r i l
 its_stay : {A : Type 0} (old new : PassView) (work : Call A) → IsItsStay old new (entered work)
 its_stay old new work f g answer r = stay_of old new f g work answer r
 
--- a release that copies back
-release_stay : (c : Config) (last thread : ℕ) (old new : PassView) (k : Kind) (a : Word) (buffer : List ℕ) (mode : Mode) → mode ≢ Abort → IsItsStay old new (release_array_elements c last thread (state new.seen) k a buffer mode)
-release_stay c last thread old new k a buffer Copy ne f g answer r = stay_then old new f g (copying_back c last thread (state new.seen) k a buffer) None answer r
-release_stay c last thread old new k a buffer Commit ne f g answer r = stay_then old new f g (copying_back c last thread (state new.seen) k a buffer) (Some buffer) answer r
-release_stay c last thread old new k a buffer Abort ne f g answer r = absurd (ne refl)
+-- a call that goes on with no act
+its_stay_then : {A B : Type 0} (old new : PassView) (work : Call A) (b : B) → IsItsStay old new (do entered work; done b)
+its_stay_then old new work b f g answer r = stay_then old new f g work b answer r
 
-pub calls_are_their_stays : (c : Config) (last thread : ℕ) (old new : PassView) → CallsAreTheirStays c last thread old new
-calls_are_their_stays c last thread old new = record {
-  new_reference = λ k a. its_stay old new _;
-  new_local_ref = λ a. its_stay old new _;
-  delete_reference = λ k a. its_stay old new _;
-  delete_local_ref = λ a. its_stay old new _;
-  is_same_object = λ a b. its_stay old new _;
-  get_object_ref_type = λ a. its_stay old new _;
-  pop_local_frame = λ a. its_stay old new _;
-  free_locals = its_stay old new _;
-  new_plain = its_stay old new _;
-  new_array = λ k n. its_stay old new _;
-  new_object_array = λ n a. its_stay old new _;
-  new_string = λ units. its_stay old new _;
-  kind_of = λ a. its_stay old new _;
-  get_array_length = λ a. its_stay old new _;
-  get_string_length = λ a. its_stay old new _;
-  get_object_array_element = λ a i. its_stay old new _;
-  set_object_array_element = λ a i b. its_stay old new _;
-  get_array_region = λ k a start n. its_stay old new _;
-  set_array_region = λ k a start vs. its_stay old new _;
-  get_array_elements = λ k a. its_stay old new _;
-  get_string_chars = λ a. its_stay old new _;
-  release_array_elements = release_stay c last thread old new;
-}
+module _ (c : Config) (last thread : ℕ) (old new : PassView) where
+  pub calls_are_their_stays : CallsAreTheirStays c last thread old new
+  calls_are_their_stays _ (CallOf.ensure_local_capacity n) own = absurd (let bad = own in cc)
+  calls_are_their_stays _ (CallOf.push_local_frame n) own = absurd (let bad = own in cc)
+  calls_are_their_stays _ CallOf.into_pass own = absurd (let bad = own in cc)
+  calls_are_their_stays _ (CallOf.release_array_elements k a buffer Copy) own = its_stay_then old new (copying_back c last thread (state new.seen) k a buffer) None
+  calls_are_their_stays _ (CallOf.release_array_elements k a buffer Commit) own = its_stay_then old new (copying_back c last thread (state new.seen) k a buffer) (Some buffer)
+  calls_are_their_stays _ (CallOf.release_array_elements k a buffer Abort) own = absurd (let bad = own in cc)
+  calls_are_their_stays _ (CallOf.get_array_critical a) own = absurd (let bad = own in cc)
+  calls_are_their_stays _ (CallOf.get_string_critical a) own = absurd (let bad = own in cc)
+  calls_are_their_stays _ (CallOf.nest_array levels a) own = absurd (let bad = own in cc)
+  calls_are_their_stays _ (CallOf.nest_string levels a) own = absurd (let bad = own in cc)
+  calls_are_their_stays _ _ own = its_stay old new _

@@ -1,25 +1,19 @@
 -- What the refusals of each call say of the room that all threads share, and at which moment of the call it was so.
-use Rattle.std.specs.Prelude.{◌≡◌, ◌≢◌, ◌+◌, ◌<◌, ◌≤◌, ℕ, Option, Err, List, ◌∷◌, ◌++◌, length}
+use Rattle.std.specs.Prelude.{◌≡◌, ◌≢◌, ◌+◌, ◌<◌, ◌≤◌, ℕ, Err, ◌∷◌, ◌++◌}
 use mathlib.Core.List.{IsPrefix}
 use Rattle.jr_word.specs.declared.config.Config.{Config}
-use Rattle.jr_word.specs.declared.handle.RefKind.{RefKind}
-use Rattle.jr_word.specs.declared.kind.Kind.{Kind}
 use Rattle.jr_word.specs.declared.fault.Fault.{Fault}
 use Rattle.jr_word.specs.declared.fault.Fault.TheVariants.{RowFull, SpaceFull, ObjectsFull, Raced, Barred, Busy, Moved}
 use Rattle.jr_model.specs.declared.event.Role.TheVariants.{Outside}
 use Rattle.jr_model.specs.declared.event.Act.{Act}
 use Rattle.jr_model.specs.declared.event.Act.TheVariants.{Gate, ShutBusy, ReserveFull, ReserveLost}
 use Rattle.jr_model.specs.declared.event.GateAct.TheVariants.{Knock}
-use Rattle.jr_model.specs.declared.frames.Mode.{Mode}
-use Rattle.jr_model.specs.State.{Handle, State, SomebodyCloses, AreOthers, not_outside}
+use Rattle.jr_model.specs.State.{State, SomebodyCloses, AreOthers, not_outside}
 use Rattle.jr_model.specs.History.{History, by, state, PassView}
 use Rattle.jr_model.specs.Frames.{Frames}
 use Rattle.jr_model.specs.Refusals.{Sometime, RowWasFull, ObjectsWereFull, GateHasMoved}
 use Rattle.jr_model.specs.Calls.{Call, Ran}
-use Rattle.jr_model.specs.Checks.{Word}
-use Rattle.jr_model.specs.Parts as parts
-use Rattle.jr_model.specs.References as references
-use Rattle.jr_model.specs.Objects as objects
+use Rattle.jr_model.specs.AllCalls.{AnswerKind, CallOf, PartOf, words_asked, words_asked_by_part, means, part_means}
 
 -- what was so in the state in which the thread took this act, after the first history
 pub record TookWhere (P : State → Type 0) (old new : PassView) (a : Act) : Type 0 where
@@ -59,63 +53,10 @@ WasSo asked begun old new _ = Unit {0}
 abbrev pub RefusesTruly : {A : Type 0} → ℕ → Call A → Type 0
 RefusesTruly asked call = (old new : PassView) (f g : Frames) (e : Fault) (r : Ran old new f g call (Err e)) → WasSo asked r.begun old new e
 
--- each call: those of the gate, of slots, heap and frames in a stay, and those of an env. What makes an array or a string asks for as many words as that has elements or units, and every other call for none
-pub record CallsRefuseTruly (c : Config) (last thread : ℕ) (s : State) : Type 0 where
-  pub enter : RefusesTruly 0 parts.enter
-  pub leave : RefusesTruly 0 parts.leave
-  pub shut : RefusesTruly 0 parts.shut
-  pub reopen : RefusesTruly 0 parts.reopen
-  pub create : (slots : ℕ) (k : RefKind) (o : ℕ) → RefusesTruly 0 (parts.create slots k o)
-  pub look : (h : Handle) → RefusesTruly 0 (parts.look h)
-  pub delete : (h : Handle) → RefusesTruly 0 (parts.delete h)
-  pub reserve : (n : ℕ) → RefusesTruly n (parts.reserve n)
-  pub publish : (k : Kind) (ws : List ℕ) → RefusesTruly 0 (parts.publish k ws)
-  pub header : (o : ℕ) → RefusesTruly 0 (parts.header s o)
-  pub read_element : (o i : ℕ) → RefusesTruly 0 (parts.read_element s o i)
-  pub write_element : (o i v : ℕ) → RefusesTruly 0 (parts.write_element s o i v)
-  pub resolved : (a : Word) → RefusesTruly 0 (references.resolved c last thread a)
-  pub new_local : (o : Option ℕ) → RefusesTruly 0 (references.new_local c last thread o)
-  pub delete_local : (a : Word) → RefusesTruly 0 (references.delete_local c thread a)
-  pub pop_frame : (o : Option ℕ) → RefusesTruly 0 (references.pop_frame c last thread o)
-  pub freeing : RefusesTruly 0 references.freeing
-  pub new_reference : (k : RefKind) (a : Word) → RefusesTruly 0 (references.new_reference c last thread k a)
-  pub new_local_ref : (a : Word) → RefusesTruly 0 (references.new_local_ref c last thread a)
-  pub delete_reference : (k : RefKind) (a : Word) → RefusesTruly 0 (references.delete_reference c last thread k a)
-  pub delete_local_ref : (a : Word) → RefusesTruly 0 (references.delete_local_ref c last thread a)
-  pub is_same_object : (a b : Word) → RefusesTruly 0 (references.is_same_object c last thread a b)
-  pub get_object_ref_type : (a : Word) → RefusesTruly 0 (references.get_object_ref_type c last thread a)
-  pub ensure_local_capacity : (n : ℕ) → RefusesTruly 0 (references.ensure_local_capacity c last thread n)
-  pub push_local_frame : (n : ℕ) → RefusesTruly 0 (references.push_local_frame c last thread n)
-  pub pop_local_frame : (a : Word) → RefusesTruly 0 (references.pop_local_frame c last thread a)
-  pub new_plain : RefusesTruly 0 (references.new_plain c last thread)
-  pub new_array : (k : Kind) (n : ℕ) → RefusesTruly n (references.new_array c last thread k n)
-  pub new_object_array : (n : ℕ) (a : Word) → RefusesTruly n (references.new_object_array c last thread n a)
-  pub new_string : (units : List ℕ) → RefusesTruly (length units) (references.new_string c last thread units)
-  pub free_locals : RefusesTruly 0 references.free_locals
-  pub into_pass : RefusesTruly 0 references.into_pass
-  pub kind_of : (a : Word) → RefusesTruly 0 (objects.kind_of c last thread s a)
-  pub get_array_length : (a : Word) → RefusesTruly 0 (objects.get_array_length c last thread s a)
-  pub get_string_length : (a : Word) → RefusesTruly 0 (objects.get_string_length c last thread s a)
-  pub get_object_array_element : (a : Word) (i : ℕ) → RefusesTruly 0 (objects.get_object_array_element c last thread s a i)
-  pub set_object_array_element : (a : Word) (i : ℕ) (b : Word) → RefusesTruly 0 (objects.set_object_array_element c last thread s a i b)
-  pub get_array_region : (k : Kind) (a : Word) (start n : ℕ) → RefusesTruly 0 (objects.get_array_region c last thread s k a start n)
-  pub set_array_region : (k : Kind) (a : Word) (start : ℕ) (vs : List ℕ) → RefusesTruly 0 (objects.set_array_region c last thread s k a start vs)
-  pub get_array_elements : (k : Kind) (a : Word) → RefusesTruly 0 (objects.get_array_elements c last thread s k a)
-  pub get_string_chars : (a : Word) → RefusesTruly 0 (objects.get_string_chars c last thread s a)
-  pub release_array_elements : (k : Kind) (a : Word) (buffer : List ℕ) (mode : Mode) → RefusesTruly 0 (objects.release_array_elements c last thread s k a buffer mode)
-  pub get_array_critical : (a : Word) → RefusesTruly 0 (objects.get_array_critical c last thread s a)
-  pub get_string_critical : (a : Word) → RefusesTruly 0 (objects.get_string_critical c last thread s a)
-  pub nest_array : (levels : List ℕ) (a : Word) → RefusesTruly 0 (objects.nest_array c last thread s levels a)
-  pub nest_string : (levels : List ℕ) (a : Word) → RefusesTruly 0 (objects.nest_string c last thread s levels a)
-  pub region_kind : (o : ℕ) → RefusesTruly 0 (objects.region_kind c last thread s o)
-  pub region_length : (o : ℕ) → RefusesTruly 0 (objects.region_length c last thread s o)
-  pub region_get : (k : Kind) (o i : ℕ) → RefusesTruly 0 (objects.region_get c last thread s k o i)
-  pub region_set : (k : Kind) (o i v : ℕ) → RefusesTruly 0 (objects.region_set c last thread s k o i v)
-  pub region_release : (levels : ℕ) → RefusesTruly 0 (objects.region_release levels)
-  pub elements_get : (buffer : List ℕ) (i : ℕ) → RefusesTruly 0 (objects.elements_get buffer i)
-  pub elements_set : (buffer : List ℕ) (i v : ℕ) → RefusesTruly 0 (objects.elements_set buffer i v)
-  pub elements_length : (buffer : List ℕ) → RefusesTruly 0 (objects.elements_length buffer)
-  pub collect : RefusesTruly 0 parts.collect
-  pub announce : RefusesTruly 0 parts.announce
-  pub collect_announced : (tries : ℕ) → RefusesTruly 0 (parts.collect_announced tries)
-  pub meet : RefusesTruly 0 parts.meet
+-- each call of an env
+abbrev pub CallsRefuseTruly : Config → ℕ → ℕ → State → Type 0
+CallsRefuseTruly c last thread s = (a : AnswerKind) (x : CallOf a) → RefusesTruly (words_asked x) (means c last thread s x)
+
+-- each other call
+abbrev pub PartsRefuseTruly : Config → ℕ → ℕ → State → Type 0
+PartsRefuseTruly c last thread s = (a : AnswerKind) (x : PartOf a) → RefusesTruly (words_asked_by_part x) (part_means c last thread s x)

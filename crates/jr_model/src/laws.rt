@@ -5,9 +5,9 @@ ghost use Rattle.jr_model.specs.History.{PassView};
 ghost use Rattle.jr_model.specs.CriticalRegions.{NoCollectionInRegion, NoCollectionUpToRelease};
 ghost use Rattle.jr_model.specs.Announcements.{NobodyEnters, WithinOnlyLeave, AnnouncerCounts};
 ghost use Rattle.jr_model.specs.Grounded.{FreeIndexIsFound, RefusedInItsStay, EachIsProbed, CallsAreTheirStays};
-ghost use Rattle.jr_model.specs.TrueRefusals.{CallsRefuseTruly};
+ghost use Rattle.jr_model.specs.TrueRefusals.{CallsRefuseTruly, PartsRefuseTruly};
 ghost use Rattle.jr_model.specs.Moves.{CallsMoveFrames};
-ghost use Rattle.jr_model.specs.RefusedCalls.{RefusalsChangeNothing, HarmlessChangesNothing};
+ghost use Rattle.jr_model.specs.RefusedCalls.{RefusalsChangeNothing, RefusedPartsChangeNothing, HarmlessChangesNothing};
 ghost use Rattle.jr_model.specs.Laws.{
   CreatedIsFound,
   DeletedIsStale,
@@ -139,12 +139,14 @@ pub fn releases_leave_the_array()
 /// A call that is refused leaves its frames and the machine as they were: its acts are harmless, but that space which was reserved before E11 stays reserved.
 pub fn refusals_change_nothing()
     ensures calls { (c : Config) (last thread : ℕ) (s : State) → RefusalsChangeNothing c last thread s }
+    ensures parts { (c : Config) (last thread : ℕ) (s : State) → RefusedPartsChangeNothing c last thread s }
     ensures acts { HarmlessChangesNothing }
 {}
 
 /// What a refusal of any call says of the shared room was so at a moment of that call: E10, E13 and E14 at the very act that they tell of, E11 at one moment, E12 and E23 at two, and E8 for each index at a moment of its own. So a creation is E8 only where no index was free all the time since it was probed, and a new reference for what was so within its own stay alone.
 pub fn refusals_are_true()
     ensures calls { (c : Config) (last thread : ℕ) (s : State) → CallsRefuseTruly c last thread s }
+    ensures parts { (c : Config) (last thread : ℕ) (s : State) → PartsRefuseTruly c last thread s }
     ensures row { FreeIndexIsFound }
     ensures stay { RefusedInItsStay }
     ensures probes { EachIsProbed }

@@ -55,28 +55,13 @@ outside_alone turns names (commands.OnNameAt on_name_at.GetInLevel n i) old new 
 outside_alone turns names (commands.PutAt put_at.PutInLevel n i x) old new answer alone d = (decided_by {P = λ s e. e ≡ InCritical} {Q = λ m. Unit {0}} (Err InCritical) (λ m so. refl)).led old new answer tt alone d
 outside_alone turns names (commands.CloseLevel v mode) old new answer alone d = (decided_by {P = λ s e. e ≡ InCritical} {Q = λ m. Unit {0}} (Err InCritical) (λ m so. refl)).led old new answer tt alone d
 outside_alone turns names (commands.OnName on_name.Post n) old new answer alone d = (done_by {P = λ s e. ⊥} {Q = λ m. Unit {0}} _).led old new answer tt alone d
-outside_alone turns names (commands.OnNameAt on_name_at.Get n i) old new answer alone d = made_outside turns names (commands.OnNameAt on_name_at.Get n i) tt (λ v m e h. h) old new answer alone d
-outside_alone turns names (commands.PutAt put_at.Put n i x) old new answer alone d = made_outside turns names (commands.PutAt put_at.Put n i x) tt (λ v m e h. h) old new answer alone d
-outside_alone turns names (commands.Make v n) old new answer alone d = made_outside turns names (commands.Make v n) tt (λ v m e h. h) old new answer alone d
-outside_alone turns names (commands.MakeFrom v n r) old new answer alone d = made_outside turns names (commands.MakeFrom v n r) tt (λ v m e h. h) old new answer alone d
-outside_alone turns names (commands.On v r) old new answer alone d = made_outside turns names (commands.On v r) tt (λ v m e h. h) old new answer alone d
-outside_alone turns names (commands.OnBoth v q r) old new answer alone d = made_outside turns names (commands.OnBoth v q r) tt (λ v m e h. h) old new answer alone d
-outside_alone turns names (commands.WithCount v n) old new answer alone d = made_outside turns names (commands.WithCount v n) tt (λ v m e h. h) old new answer alone d
-outside_alone turns names (commands.MakeSized v n len) old new answer alone d = made_outside turns names (commands.MakeSized v n len) tt (λ v m e h. h) old new answer alone d
-outside_alone turns names (commands.MakeFilled v n len r) old new answer alone d = made_outside turns names (commands.MakeFilled v n len r) tt (λ v m e h. h) old new answer alone d
-outside_alone turns names (commands.MakeText v n units) old new answer alone d = made_outside turns names (commands.MakeText v n units) tt (λ v m e h. h) old new answer alone d
-outside_alone turns names (commands.MakeAt v n r i) old new answer alone d = made_outside turns names (commands.MakeAt v n r i) tt (λ v m e h. h) old new answer alone d
-outside_alone turns names (commands.OnAt v r i) old new answer alone d = made_outside turns names (commands.OnAt v r i) tt (λ v m e h. h) old new answer alone d
-outside_alone turns names (commands.SetAt v r i q) old new answer alone d = made_outside turns names (commands.SetAt v r i q) tt (λ v m e h. h) old new answer alone d
-outside_alone turns names (commands.StoreAt v r i x) old new answer alone d = made_outside turns names (commands.StoreAt v r i x) tt (λ v m e h. h) old new answer alone d
-outside_alone turns names (commands.Release v n r mode) old new answer alone d = made_outside turns names (commands.Release v n r mode) tt (λ v m e h. h) old new answer alone d
 outside_alone turns names (commands.OfRoom of_room.Collect) old new answer alone d =
     let y = (deed_alone turns names (commands.OfRoom of_room.Collect) tt).led old new answer alone d in
     record { config = y.config; thread = y.thread; begins = y.begins; uncontended = y.uncontended; fault = never_refused old new answer d }
 outside_alone turns names (commands.WithTries with_tries.CollectAnnounced tries) old new answer alone d =
     let y = (deed_alone turns names (commands.WithTries with_tries.CollectAnnounced tries) tt).led old new answer alone d in
     record { config = y.config; thread = y.thread; begins = y.begins; uncontended = y.uncontended; fault = only_turns turns tries names old new answer alone d }
-outside_alone turns names (commands.OpenLevel v n r) old new answer alone d = made_outside turns names (commands.OpenLevel v n r) tt (λ v m e h. h) old new answer alone d
+outside_alone turns names c old new answer alone d = made_outside turns names c tt (λ v m e h. h) old new answer alone d
 
 -- a command where the thread stands
 place_alone : (turns : ℕ) (p : Place) (c : Command) (old new : Moment) (answer : Result Reply Fault) → IsAlone new.pass → deed_at turns p c old answer new → Led (IsAloneFault turns p c new.pass new.frames) old.pass new.pass answer

@@ -16,7 +16,8 @@ use Rattle.jr_model.specs.Calls.{done as answers}
 use Rattle.jr_model.specs.Objects as objects
 use Rattle.jr_model.specs.Checks.{Word, is_array, is_text, same_element}
 use Rattle.jr_model.specs.RefusedCalls.{ChangesNothing}
-use Rattle.jr_model.proofs.RefusedCalls.{refusals_change_nothing}
+use Rattle.jr_model.specs.AllCalls.{CallOf}
+use Rattle.jr_model.proofs.EachCall.{refusals_change_nothing}
 use Rattle.jr_env.specs.Deeds.{call_on_by, get_array_elements, get_string_chars, release_array_elements}
 use Rattle.jr_scripts.specs.AloneAnswers.{IsCommandFault, LacksArray, LacksElements, LacksIndex, LacksText, SomeObject, TakesMemory, WantsObject}
 use Rattle.jr_scripts.proofs.AloneCalls.{LedAlone, LeadsAlone, ran_alone, ran_of}
@@ -67,19 +68,19 @@ written_alone turns command silent w x work uncontended changes = record {
 module _ (turns : ℕ) (command : Asked) where
   module _ (object : WantsObject command.1) where
     pub units_alone : TakesMemory command.1 → ((s : State) → SomeObject s (λ k n. is_text k ≡ false) → LacksText s command.1) → (w : ℕ) → LeadsAlone turns command (get_string_chars w)
-    units_alone takes text w = on_alone turns command (λ c. 1) w (λ c last t s a. objects.units_copying c last t s a) (λ c last t s a reads one first. units_copying_uncontended s command c last t one first object takes (text s) a) (λ c last t s a. (refusals_change_nothing c last t s).get_string_chars a)
+    units_alone takes text w = on_alone turns command (λ c. 1) w (λ c last t s a. objects.units_copying c last t s a) (λ c last t s a reads one first. units_copying_uncontended s command c last t one first object takes (text s) a) (λ c last t s a. refusals_change_nothing c last t s _ (CallOf.get_string_chars a))
 
     module _ (array : (s : State) → SomeObject s (λ k n. is_array k ≡ false) → LacksArray s command.1) (k : Kind) (element : (s : State) → SomeObject s (λ l n. (is_array l ≡ true) × (same_element k l ≡ false)) → LacksElements s command.0 command.1) where
       pub elements_alone : TakesMemory command.1 → (w : ℕ) → LeadsAlone turns command (get_array_elements k w)
-      elements_alone takes w = on_alone turns command (λ c. 1) w (λ c last t s a. objects.elements_copying c last t s k a) (λ c last t s a reads one first. elements_copying_uncontended s command c last t one first object (array s) k (element s) takes a) (λ c last t s a. (refusals_change_nothing c last t s).get_array_elements k a)
+      elements_alone takes w = on_alone turns command (λ c. 1) w (λ c last t s a. objects.elements_copying c last t s k a) (λ c last t s a reads one first. elements_copying_uncontended s command c last t one first object (array s) k (element s) takes a) (λ c last t s a. refusals_change_nothing c last t s _ (CallOf.get_array_elements k a))
 
       -- releases that write the elements back
       module _ (buffer : List ℕ) (index : (s : State) → SomeObject s (λ l n. (is_array l ≡ true) × (n ≢ length buffer)) → LacksIndex s command.0 command.1) where
         pub copied_back_alone : (w : ℕ) → LeadsAlone turns command (release_array_elements k w buffer Copy)
-        copied_back_alone w = written_alone turns command (λ c. 1) w None (λ c last t s a. objects.copying_back c last t s k a buffer) (λ c last t s a one first. copying_back_uncontended s command c last t one first object (array s) k (element s) buffer (index s) a) (λ c last t s a. (refusals_change_nothing c last t s).release_array_elements k a buffer Copy)
+        copied_back_alone w = written_alone turns command (λ c. 1) w None (λ c last t s a. objects.copying_back c last t s k a buffer) (λ c last t s a one first. copying_back_uncontended s command c last t one first object (array s) k (element s) buffer (index s) a) (λ c last t s a. refusals_change_nothing c last t s _ (CallOf.release_array_elements k a buffer Copy))
 
         pub committed_alone : (w : ℕ) → LeadsAlone turns command (release_array_elements k w buffer Commit)
-        committed_alone w = written_alone turns command (λ c. 1) w (Some buffer) (λ c last t s a. objects.copying_back c last t s k a buffer) (λ c last t s a one first. copying_back_uncontended s command c last t one first object (array s) k (element s) buffer (index s) a) (λ c last t s a. (refusals_change_nothing c last t s).release_array_elements k a buffer Commit)
+        committed_alone w = written_alone turns command (λ c. 1) w (Some buffer) (λ c last t s a. objects.copying_back c last t s k a buffer) (λ c last t s a one first. copying_back_uncontended s command c last t one first object (array s) k (element s) buffer (index s) a) (λ c last t s a. refusals_change_nothing c last t s _ (CallOf.release_array_elements k a buffer Commit))
 
   -- and one that doesn't, which is never refused
   pub aborted_alone : (k : Kind) (w : ℕ) (buffer : List ℕ) → LeadsAlone turns command (release_array_elements k w buffer Abort)

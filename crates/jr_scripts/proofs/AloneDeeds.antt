@@ -24,7 +24,8 @@ use Rattle.jr_model.specs.References as references
 use Rattle.jr_model.specs.Objects as objects
 use Rattle.jr_model.specs.Checks.{Word, Nothing, Malformed, Parts, is_array, is_of_kind, is_primitive, is_text}
 use Rattle.jr_model.proofs.Updates.{kind_self}
-use Rattle.jr_model.proofs.RefusedCalls.{refusals_change_nothing}
+use Rattle.jr_model.specs.AllCalls.{CallOf}
+use Rattle.jr_model.proofs.EachCall.{refusals_change_nothing}
 use Rattle.jr_syntax.specs.declared.name.Reference.{Reference}
 use Rattle.jr_syntax.specs.declared.command.Command.{Command}
 use Rattle.jr_syntax.specs.declared.command.Command.TheVariants as commands
@@ -83,60 +84,60 @@ kind_fits w h (Parts g) is reads = subst (λ (x : HandleParts). same_kind h.kind
 
 module _ (turns : ℕ) (command : Asked) where
   plain_alone : ((last : ℕ) (f : Frames) → free_places last f ≡ 0 → LacksRoom last command.1 f) → LeadsAlone turns command new_plain
-  plain_alone full = answered_alone turns command _ (call_alone turns command (λ c. c.objects) (λ c last t s. references.making c last t) (λ c last t s one first. making_uncontended s command c last t one first (full last)) (λ c last t s. (refusals_change_nothing c last t s).new_plain))
+  plain_alone full = answered_alone turns command _ (call_alone turns command (λ c. c.objects) (λ c last t s. references.making c last t) (λ c last t s one first. making_uncontended s command c last t one first (full last)) (λ c last t s. refusals_change_nothing c last t s _ CallOf.new_plain))
 
   reference_alone : (k : RefKind) (w : ℕ) → LeadsAlone turns command (new_reference k w)
-  reference_alone k w = answered_alone turns command _ (on_alone turns command (λ c. 0) w (λ c last t s a. references.creation c last t k a) (λ c last t s a reads one first. creation_uncontended s command c last t one first k a) (λ c last t s a. (refusals_change_nothing c last t s).new_reference k a))
+  reference_alone k w = answered_alone turns command _ (on_alone turns command (λ c. 0) w (λ c last t s a. references.creation c last t k a) (λ c last t s a reads one first. creation_uncontended s command c last t one first k a) (λ c last t s a. refusals_change_nothing c last t s _ (CallOf.new_reference k a)))
 
   local_ref_alone : ((last : ℕ) (f : Frames) → free_places last f ≡ 0 → LacksRoom last command.1 f) → (w : ℕ) → LeadsAlone turns command (new_local_ref w)
-  local_ref_alone full w = answered_alone turns command _ (on_alone turns command (λ c. 0) w (λ c last t s a. references.local_creation c last t a) (λ c last t s a reads one first. local_creation_uncontended s command c last t one first (full last) a) (λ c last t s a. (refusals_change_nothing c last t s).new_local_ref a))
+  local_ref_alone full w = answered_alone turns command _ (on_alone turns command (λ c. 0) w (λ c last t s a. references.local_creation c last t a) (λ c last t s a reads one first. local_creation_uncontended s command c last t one first (full last) a) (λ c last t s a. refusals_change_nothing c last t s _ (CallOf.new_local_ref a)))
 
   delete_alone : (k : RefKind) (w : ℕ) → ((a : Word) → IsReadAs w a → is_of_kind k a ≡ true) → LeadsAlone turns command (delete_reference k w)
-  delete_alone k w is = on_alone turns command (λ c. 0) w (λ c last t s a. references.removal c k a) (λ c last t s a reads one first. removal_uncontended s command c last t one first k a (is a reads)) (λ c last t s a. (refusals_change_nothing c last t s).delete_reference k a)
+  delete_alone k w is = on_alone turns command (λ c. 0) w (λ c last t s a. references.removal c k a) (λ c last t s a reads one first. removal_uncontended s command c last t one first k a (is a reads)) (λ c last t s a. refusals_change_nothing c last t s _ (CallOf.delete_reference k a))
 
   delete_local_alone : (w : ℕ) → ((a : Word) → IsReadAs w a → is_of_kind Local a ≡ true) → LeadsAlone turns command (delete_local_ref w)
-  delete_local_alone w is = on_alone turns command (λ c. 0) w (λ c last t s a. references.local_removal c t a) (λ c last t s a reads one first. local_removal_uncontended s command c last t one first a (is a reads)) (λ c last t s a. (refusals_change_nothing c last t s).delete_local_ref a)
+  delete_local_alone w is = on_alone turns command (λ c. 0) w (λ c last t s a. references.local_removal c t a) (λ c last t s a reads one first. local_removal_uncontended s command c last t one first a (is a reads)) (λ c last t s a. refusals_change_nothing c last t s _ (CallOf.delete_local_ref a))
 
   same_alone : (v w : ℕ) → LeadsAlone turns command (is_same_object v w)
-  same_alone v w = on_both_alone turns command (λ c. 0) v w (λ c last t s a b. references.comparison c last t a b) (λ c last t s a b one first. comparison_uncontended s command c last t one first a b) (λ c last t s a b. (refusals_change_nothing c last t s).is_same_object a b)
+  same_alone v w = on_both_alone turns command (λ c. 0) v w (λ c last t s a b. references.comparison c last t a b) (λ c last t s a b one first. comparison_uncontended s command c last t one first a b) (λ c last t s a b. refusals_change_nothing c last t s _ (CallOf.is_same_object a b))
 
   type_alone : (w : ℕ) → LeadsAlone turns command (get_object_ref_type w)
-  type_alone w = on_alone turns command (λ c. 0) w (λ c last t s a. references.typing c t a) (λ c last t s a reads one first. typing_uncontended s command c last t one first a) (λ c last t s a. (refusals_change_nothing c last t s).get_object_ref_type a)
+  type_alone w = on_alone turns command (λ c. 0) w (λ c last t s a. references.typing c t a) (λ c last t s a reads one first. typing_uncontended s command c last t one first a) (λ c last t s a. refusals_change_nothing c last t s _ (CallOf.get_object_ref_type a))
 
   -- THE CALLS THAT MAKE ARRAYS AND STRINGS
   module _ (full : (last : ℕ) (f : Frames) → free_places last f ≡ 0 → LacksRoom last command.1 f) where
     array_alone : (k : Kind) (n : ℕ) → MayLack command n → LeadsAlone turns command (new_array k n)
-    array_alone k n lacks = answered_alone turns command _ (call_alone turns command (making_steps n) (λ c last t s. references.made c last t k (replicate n 0)) (λ c last t s one first. made_uncontended s command c last t one first (full last) k (replicate n 0) (subst (MayLack command) (sym (length-replicate n 0)) lacks)) (λ c last t s. (refusals_change_nothing c last t s).new_array k n))
+    array_alone k n lacks = answered_alone turns command _ (call_alone turns command (making_steps n) (λ c last t s. references.made c last t k (replicate n 0)) (λ c last t s one first. made_uncontended s command c last t one first (full last) k (replicate n 0) (subst (MayLack command) (sym (length-replicate n 0)) lacks)) (λ c last t s. refusals_change_nothing c last t s _ (CallOf.new_array k n)))
 
     filled_alone : (n w : ℕ) → MayLack command n → LeadsAlone turns command (new_object_array n w)
-    filled_alone n w lacks = answered_alone turns command _ (on_alone turns command (making_steps n) w (λ c last t s a. references.array_making c last t n a) (λ c last t s a reads one first. array_making_uncontended s command c last t one first (full last) n a lacks) (λ c last t s a. (refusals_change_nothing c last t s).new_object_array n a))
+    filled_alone n w lacks = answered_alone turns command _ (on_alone turns command (making_steps n) w (λ c last t s a. references.array_making c last t n a) (λ c last t s a reads one first. array_making_uncontended s command c last t one first (full last) n a lacks) (λ c last t s a. refusals_change_nothing c last t s _ (CallOf.new_object_array n a)))
 
     text_alone : (units : List ℕ) → MayLack command (length units) → LeadsAlone turns command (new_string units)
-    text_alone units lacks = answered_alone turns command _ (call_alone turns command (making_steps (length units)) (λ c last t s. references.made c last t Text units) (λ c last t s one first. made_uncontended s command c last t one first (full last) Text units lacks) (λ c last t s. (refusals_change_nothing c last t s).new_string units))
+    text_alone units lacks = answered_alone turns command _ (call_alone turns command (making_steps (length units)) (λ c last t s. references.made c last t Text units) (λ c last t s one first. made_uncontended s command c last t one first (full last) Text units lacks) (λ c last t s. refusals_change_nothing c last t s _ (CallOf.new_string units)))
 
   -- THE CALLS AT OBJECTS, of a command that is about one
   module _ (object : WantsObject command.1) where
     kind_alone : (w : ℕ) → LeadsAlone turns command (kind_of w)
-    kind_alone w = on_alone turns command (λ c. 1) w (λ c last t s a. objects.kind_reading c last t s a) (λ c last t s a reads one first. kind_uncontended s command c last t one first object a) (λ c last t s a. (refusals_change_nothing c last t s).kind_of a)
+    kind_alone w = on_alone turns command (λ c. 1) w (λ c last t s a. objects.kind_reading c last t s a) (λ c last t s a reads one first. kind_uncontended s command c last t one first object a) (λ c last t s a. refusals_change_nothing c last t s _ (CallOf.kind_of a))
 
     array_length_alone : ((s : State) → SomeObject s (λ k n. is_array k ≡ false) → LacksArray s command.1) → (w : ℕ) → LeadsAlone turns command (get_array_length w)
-    array_length_alone array w = on_alone turns command (λ c. 1) w (λ c last t s a. objects.length_reading c last t s is_array NotArray a) (λ c last t s a reads one first. length_uncontended s command c last t one first object is_array NotArray (λ some acts f. array s some) a) (λ c last t s a. (refusals_change_nothing c last t s).get_array_length a)
+    array_length_alone array w = on_alone turns command (λ c. 1) w (λ c last t s a. objects.length_reading c last t s is_array NotArray a) (λ c last t s a reads one first. length_uncontended s command c last t one first object is_array NotArray (λ some acts f. array s some) a) (λ c last t s a. refusals_change_nothing c last t s _ (CallOf.get_array_length a))
 
     text_length_alone : ((s : State) → SomeObject s (λ k n. is_text k ≡ false) → LacksText s command.1) → (w : ℕ) → LeadsAlone turns command (get_string_length w)
-    text_length_alone text w = on_alone turns command (λ c. 1) w (λ c last t s a. objects.length_reading c last t s is_text WrongKind a) (λ c last t s a reads one first. length_uncontended s command c last t one first object is_text WrongKind (λ some acts f. text s some) a) (λ c last t s a. (refusals_change_nothing c last t s).get_string_length a)
+    text_length_alone text w = on_alone turns command (λ c. 1) w (λ c last t s a. objects.length_reading c last t s is_text WrongKind a) (λ c last t s a reads one first. length_uncontended s command c last t one first object is_text WrongKind (λ some acts f. text s some) a) (λ c last t s a. refusals_change_nothing c last t s _ (CallOf.get_string_length a))
 
     module _ (i : ℕ) (array : (s : State) → SomeObject s (λ k n. is_array k ≡ false) → LacksArray s command.1) (index : (s : State) → SomeObject s (λ k n. (is_array k ≡ true) × (n ≤ i)) → LacksIndex s command.0 command.1) where
       get_alone : ((s : State) → SomeObject s (λ k n. is_primitive k ≡ true) → LacksElements s command.0 command.1) → ((last : ℕ) (f : Frames) → free_places last f ≡ 0 → LacksRoom last command.1 f) → (w : ℕ) → LeadsAlone turns command (get_object_array_element w i)
-      get_alone element full w = answered_alone turns command _ (on_alone turns command (λ c. 1) w (λ c last t s a. objects.element_reading c last t s a i) (λ c last t s a reads one first. element_reading_uncontended s command c last t one first object (array s) i (element s) (index s) (full last) a) (λ c last t s a. (refusals_change_nothing c last t s).get_object_array_element a i))
+      get_alone element full w = answered_alone turns command _ (on_alone turns command (λ c. 1) w (λ c last t s a. objects.element_reading c last t s a i) (λ c last t s a reads one first. element_reading_uncontended s command c last t one first object (array s) i (element s) (index s) (full last) a) (λ c last t s a. refusals_change_nothing c last t s _ (CallOf.get_object_array_element a i)))
 
       set_alone : ((s : State) → SomeObject s (λ k n. is_primitive k ≡ true) → LacksElements s command.0 command.1) → (v w : ℕ) → LeadsAlone turns command (set_object_array_element v i w)
-      set_alone element v w = on_both_alone turns command (λ c. 1) v w (λ c last t s a b. objects.element_writing c last t s a i b) (λ c last t s a b one first. element_writing_uncontended s command c last t one first object (array s) i (element s) (index s) a b) (λ c last t s a b. (refusals_change_nothing c last t s).set_object_array_element a i b)
+      set_alone element v w = on_both_alone turns command (λ c. 1) v w (λ c last t s a b. objects.element_writing c last t s a i b) (λ c last t s a b one first. element_writing_uncontended s command c last t one first object (array s) i (element s) (index s) a b) (λ c last t s a b. refusals_change_nothing c last t s _ (CallOf.set_object_array_element a i b))
 
       read_alone : ((s : State) → SomeObject s (λ k n. is_array k ≡ true) → LacksElements s command.0 command.1) → (k : Kind) (w : ℕ) → LeadsAlone turns command (get_array_region k w i 1)
-      read_alone element k w = on_alone turns command (λ c. 1) w (λ c last t s a. objects.part_reading c last t s k a i 1) (λ c last t s a reads one first. part_reading_uncontended s command c last t one first object (array s) i (element s) (index s) k a) (λ c last t s a. (refusals_change_nothing c last t s).get_array_region k a i 1)
+      read_alone element k w = on_alone turns command (λ c. 1) w (λ c last t s a. objects.part_reading c last t s k a i 1) (λ c last t s a reads one first. part_reading_uncontended s command c last t one first object (array s) i (element s) (index s) k a) (λ c last t s a. refusals_change_nothing c last t s _ (CallOf.get_array_region k a i 1))
 
       write_alone : ((s : State) → SomeObject s (λ k n. is_array k ≡ true) → LacksElements s command.0 command.1) → (k : Kind) (w v : ℕ) → LeadsAlone turns command (set_array_region k w i (v ∷ []))
-      write_alone element k w v = on_alone turns command (λ c. 1) w (λ c last t s a. objects.part_writing c last t s k a i (v ∷ [])) (λ c last t s a reads one first. part_writing_uncontended s command c last t one first object (array s) i (element s) (index s) k a v) (λ c last t s a. (refusals_change_nothing c last t s).set_array_region k a i (v ∷ []))
+      write_alone element k w v = on_alone turns command (λ c. 1) w (λ c last t s a. objects.part_writing c last t s k a i (v ∷ [])) (λ c last t s a reads one first. part_writing_uncontended s command c last t one first object (array s) i (element s) (index s) k a v) (λ c last t s a. refusals_change_nothing c last t s _ (CallOf.set_array_region k a i (v ∷ [])))
 
   -- THE CALLS THAT OPEN A REGION, of a command that is about an object
   module _ (object : WantsObject command.1) where
@@ -147,7 +148,7 @@ module _ (turns : ℕ) (command : Asked) where
           let c = old.pass.config in
           let r = d.2.ran in
           opened_ran now command old.pass.last (objects.level_array c old.pass.last old.pass.thread now 0 d.0) (first_array_uncontended now command c old.pass.last old.pass.thread (ap (λ (c : Config). c.threads) (sym r.did.config) ∙ alone.one) (sym r.did.thread ∙ alone.first) object (array now) (element now) d.0) turns
-          ((refusals_change_nothing c old.pass.last old.pass.thread now).get_array_critical d.0) old.pass new.pass old.frames new.frames refl refl alone answer r;
+          (refusals_change_nothing c old.pass.last old.pass.thread now _ (CallOf.get_array_critical d.0)) old.pass new.pass old.frames new.frames refl refl alone answer r;
     }
 
     text_opening_alone : ((s : State) → SomeObject s (λ k n. is_text k ≡ false) → LacksText s command.1) → (w : ℕ) → LeadsAlone turns command (opening_by at.Text w)
@@ -157,7 +158,7 @@ module _ (turns : ℕ) (command : Asked) where
           let c = old.pass.config in
           let r = d.2.ran in
           opened_ran now command old.pass.last (objects.level_string c old.pass.last old.pass.thread now 0 d.0) (first_string_uncontended now command c old.pass.last old.pass.thread (ap (λ (c : Config). c.threads) (sym r.did.config) ∙ alone.one) (sym r.did.thread ∙ alone.first) object (text now) d.0) turns
-          ((refusals_change_nothing c old.pass.last old.pass.thread now).get_string_critical d.0) old.pass new.pass old.frames new.frames refl refl alone answer r;
+          (refusals_change_nothing c old.pass.last old.pass.thread now _ (CallOf.get_string_critical d.0)) old.pass new.pass old.frames new.frames refl refl alone answer r;
     }
 
   -- a call that enters no gate, and is refused for the room in the frames alone
@@ -180,7 +181,7 @@ module _ (turns : ℕ) (names : Names) where
   ensure_alone n = apart_alone turns _ (λ c last t. references.ensure_local_capacity c last t n) (λ c last t. ensure_refused c last t n)
 
   pop_alone : (n : List ℕ) (r : Reference) (w : ℕ) → LeadsAlone turns (names, commands.MakeFrom make_from.Pop n r) (pop_local_frame w)
-  pop_alone n r w = answered_alone turns _ _ (on_alone turns _ (λ c. 0) w (λ c last t s a. popped_to c last t a) (λ c last t s a reads one first. pop_uncontended names n r s c last t one first a) (λ c last t s a. (refusals_change_nothing c last t s).pop_local_frame a))
+  pop_alone n r w = answered_alone turns _ _ (on_alone turns _ (λ c. 0) w (λ c last t s a. popped_to c last t a) (λ c last t s a reads one first. pop_uncontended names n r s c last t one first a) (λ c last t s a. refusals_change_nothing c last t s _ (CallOf.pop_local_frame a)))
 
   awaited_alone : (n : List ℕ) → LeadsAlone turns (names, commands.Make make.Wait n) awaited
   awaited_alone n = record { led = λ old new answer alone d. led old new answer d }

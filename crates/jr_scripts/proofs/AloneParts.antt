@@ -74,26 +74,7 @@ module _ (turns : ℕ) (command : Asked) where
 -- a command runs out of no turns
 no_turns : (command : Command) → LacksTurns 0 command
 no_turns (commands.Make make.Wait n) = tt
-no_turns (commands.Make make.Plain n) = refl
-no_turns (commands.MakeFrom v n r) = refl
-no_turns (commands.On v r) = refl
-no_turns (commands.OnBoth v q r) = refl
-no_turns (commands.OnName v n) = refl
-no_turns (commands.WithCount v n) = refl
-no_turns (commands.MakeSized v n len) = refl
-no_turns (commands.MakeFilled v n len r) = refl
-no_turns (commands.MakeText v n units) = refl
-no_turns (commands.MakeAt v n r i) = refl
-no_turns (commands.OnAt v r i) = refl
-no_turns (commands.SetAt v r i q) = refl
-no_turns (commands.StoreAt v r i x) = refl
-no_turns (commands.OnNameAt v n i) = refl
-no_turns (commands.PutAt v n i x) = refl
-no_turns (commands.Release v n r mode) = refl
-no_turns (commands.OpenLevel v n r) = refl
-no_turns (commands.CloseLevel v mode) = refl
-no_turns (commands.OfRoom v) = refl
-no_turns (commands.WithTries v tries) = refl
+no_turns _ = refl
 
 -- no call of a lone thread is made again
 pub once_alone : {A : Type 0} (command : Asked) (p : PassView) (f : Frames) (r : Result A Fault) → is_tried_again r ≡ true → IfErr r (IsCommandFault 0 command.0 command.1 p f) → ⊥

@@ -3,7 +3,8 @@ use Rattle.std.proofs.Common.{◌≡◌, ◌≢◌, ◌⊎◌, ⊎_elim, inl, in
 use Rattle.jr_word.specs.declared.fault.Fault.{Fault}
 use Rattle.jr_word.specs.declared.fault.Fault.TheVariants.{Barred}
 use Rattle.jr_model.specs.References as references
-use Rattle.jr_model.proofs.RefusedCalls.{refusals_change_nothing}
+use Rattle.jr_model.specs.AllCalls.{CallOf}
+use Rattle.jr_model.proofs.EachCall.{refusals_change_nothing}
 use Rattle.jr_syntax.specs.declared.command.Command.{Command}
 use Rattle.jr_syntax.specs.declared.command.Command.TheVariants as commands
 use Rattle.jr_syntax.specs.declared.verb.Make.TheVariants as make
@@ -26,7 +27,7 @@ plainly : Asked
 plainly = (no_names, commands.Make make.Plain [])
 
 free_alone : (turns : ℕ) → LeadsAlone turns plainly free_locals
-free_alone turns = call_alone turns plainly (λ c. 0) (λ c last t s. references.freeing) (λ c last t s one first. freeing_uncontended s plainly c last t one first) (λ c last t s. (refusals_change_nothing c last t s).free_locals)
+free_alone turns = call_alone turns plainly (λ c. 0) (λ c last t s. references.freeing) (λ c last t s one first. freeing_uncontended s plainly c last t one first) (λ c last t s. refusals_change_nothing c last t s _ CallOf.free_locals)
 
 free_answers : (old new : Moment) (answer : Result (Unit {0}) Fault) → free_locals old answer new → (answer ≡ Ok tt) ⊎ (answer ≡ Err Barred)
 free_answers old new answer d = ⊎_elim (λ x. inr x.1) (λ x. inl x.2.1) d.0.ran.is

@@ -1,6 +1,6 @@
-//! Threads of one script that are held, or of which there are several outcomes: they wait for each other with many turns. Where memory is refused to one of them, the others wait in vain, so that `.ci/refuse-allocations` leaves these tests out.
+//! Threads of one script that are held: they wait for each other with many turns. Where memory is refused to one of them, the others wait in vain, so that `.ci/refuse-allocations` leaves these tests out.
 
-use jr_scripts::{Hold, NoHold, run_all};
+use jr_scripts::{Hold, run_all};
 use jr_syntax::parse;
 use std::alloc::Global;
 use std::process::Abort;
@@ -110,29 +110,5 @@ fn threads_of_a_script_run_side_by_side(rt: HostRuntime) -> Result<(), Fail> {
     assert_eq!(rt; hold.begun[1].load(Ordering::SeqCst), 6);
     assert_eq!(rt; hold.answered[0].load(Ordering::SeqCst), 5);
     assert_eq!(rt; hold.answered[1].load(Ordering::SeqCst), 6);
-    Ok(())
-}
-
-/// What two threads print that contend for one slot: both had it in turn, or one found it occupied.
-fn is_an_outcome(text: &[u8]) -> bool {
-    text == b"[a]\ntype g 0\n[b]\ntype h 0\n[end]\nglobals 0 weaks 0 live 2 used 0\n".as_slice()
-        || text
-            == b"[a]\n4 ! E8\n5 ! E2\ntype g 0\n[b]\ntype h 0\n[end]\nglobals 0 weaks 0 live 2 used 0\n".as_slice()
-        || text
-            == b"[a]\ntype g 0\n[b]\n9 ! E8\n10 ! E2\ntype h 0\n[end]\nglobals 0 weaks 0 live 2 used 0\n".as_slice()
-}
-
-#[test]
-fn two_threads_contend_for_one_slot(rt: HostRuntime) -> Result<(), Fail> {
-    let alloc = rt.alloc();
-    for _ in 0..50 {
-        let text = text_of(
-            &rt,
-            alloc,
-            b"vm threads 2 slots 1 objects 2 words 0 locals 16\nthread a\nplain p\nglobal g p\ndrop g\ntype g\nthread b\nplain p\nglobal h p\ndrop h\ntype h\n",
-            &NoHold,
-        )?;
-        assert!(rt; is_an_outcome(&text));
-    }
     Ok(())
 }

@@ -9,6 +9,7 @@ use Rattle.std.proofs.lemmas.List.{length-map}
 use Rattle.std.proofs.lemmas.Slice.Eq.{bytes_eq-Decides}
 use Rattle.jr_syntax.specs.declared.verb.Verb.{Verb}
 use Rattle.jr_syntax.specs.declared.verb.Verb.TheVariants.{Make, MakeFrom, On, OnBoth, OnName, WithCount, MakeSized, MakeFilled, MakeText, MakeAt, OnAt, SetAt, StoreAt, OnNameAt, PutAt, Release, OpenLevel, CloseLevel, OfRoom, WithTries}
+use Rattle.jr_syntax.specs.declared.verb.TheConstants.{VERBS}
 use Rattle.jr_syntax.specs.declared.command.Command.{Command}
 use Rattle.jr_syntax.specs.declared.name.Reference.TheVariants.{Null, Named}
 use Rattle.jr_syntax.specs.Name.{is_name}
@@ -23,7 +24,7 @@ use Rattle.jr_model.specs.declared.frames.Mode.TheVariants.{Copy, Commit, Abort}
 use Rattle.jr_syntax.specs.Modes.{mode, word_of_mode}
 use Rattle.jr_syntax.proofs.DecimalLaws.{few_bits, decimal_number}
 use Rattle.jr_syntax.proofs.ValueLaws.{value_back}
-use Rattle.jr_syntax.specs.Command.{verb_word, verb_of, all_verbs, behind_verb, spelling_of, words_of_command, is_command, line_has_form, line_in_range, line_command}
+use Rattle.jr_syntax.specs.Command.{verb_word, verb_of, behind_verb, spelling_of, words_of_command, is_command, line_has_form, line_in_range, line_command}
 
 -- reading and then spelling
 pub record Takes {W X : Type 0} (k : Kind W X) : Type 0 where
@@ -232,7 +233,7 @@ found p (y ∷ ys) x e = found_at p y x (find p ys) (p y) refl (found p ys x) e
 -- the verb that was found has the word
 verb_found : (w : List ℕ) (v : Verb) → verb_of w ≡ Some v → verb_word v ≡ w
 unfolding verb_of
-verb_found w v e = (bytes_eq-Decides (verb_word v) w).0 (found (λ u. bytes_eq (verb_word u) w) all_verbs v e)
+verb_found w v e = (bytes_eq-Decides (verb_word v) w).0 (found (λ u. bytes_eq (verb_word u) w) VERBS v e)
 
 line_takes_at : (w : List ℕ) (ws : List (List ℕ)) (c : Command) (o : Option Verb) → verb_of w ≡ o → option_map_or (λ v. (behind_verb v).has_form ws) o false ≡ true → option_map_or (λ v. (behind_verb v).in_range ws) o false ≡ true → option_map (λ v. (behind_verb v).value ws) o ≡ Some c → (words_of_command c ≡ w ∷ ws) × (is_command c ≡ true)
 line_takes_at w ws c None e f r k = absurd (false≢true f)

@@ -10,12 +10,12 @@ use Rattle.std.proofs.lemmas.List.{length-map}
 use Rattle.jr_word.specs.Config.{is_between}
 use Rattle.jr_syntax.specs.declared.verb.Verb.{Verb}
 use Rattle.jr_syntax.specs.declared.verb.Verb.TheVariants.{Make, MakeFrom, On, OnBoth, OnName, WithCount, MakeSized, MakeFilled, MakeText, MakeAt, OnAt, SetAt, StoreAt, OnNameAt, PutAt, Release, OpenLevel, CloseLevel, OfRoom, WithTries}
-use Rattle.jr_syntax.specs.declared.verb.Make.TheVariants.{Plain, Wait}
-use Rattle.jr_syntax.specs.declared.verb.MakeFrom.TheVariants.{Global, Weak, Local, Pop, Elements}
+use Rattle.jr_syntax.specs.declared.verb.Make.TheVariants.{Plain}
+use Rattle.jr_syntax.specs.declared.verb.MakeFrom.TheVariants.{Global}
 use Rattle.jr_syntax.specs.declared.verb.On.TheVariants as on
 use Rattle.jr_syntax.specs.declared.verb.OnBoth.TheVariants.{Same}
 use Rattle.jr_syntax.specs.declared.verb.OnName.TheVariants.{Post}
-use Rattle.jr_syntax.specs.declared.verb.WithCount.TheVariants.{Push, Ensure}
+use Rattle.jr_syntax.specs.declared.verb.WithCount.TheVariants.{Push}
 use Rattle.jr_syntax.specs.declared.verb.MakeSized.TheVariants as sized
 use Rattle.jr_syntax.specs.declared.verb.MakeFilled.TheVariants.{Objects}
 use Rattle.jr_syntax.specs.declared.verb.MakeText.TheVariants as text
@@ -24,12 +24,13 @@ use Rattle.jr_syntax.specs.declared.verb.OnAt.TheVariants.{Load}
 use Rattle.jr_syntax.specs.declared.verb.SetAt.TheVariants as set_at
 use Rattle.jr_syntax.specs.declared.verb.StoreAt.TheVariants.{Store}
 use Rattle.jr_syntax.specs.declared.verb.OnNameAt.TheVariants as named_at
-use Rattle.jr_syntax.specs.declared.verb.PutAt.TheVariants.{Put, PutInLevel}
+use Rattle.jr_syntax.specs.declared.verb.PutAt.TheVariants.{Put}
 use Rattle.jr_syntax.specs.declared.verb.Release.TheVariants as releases
 use Rattle.jr_syntax.specs.declared.verb.OpenLevel.TheVariants as opens
 use Rattle.jr_syntax.specs.declared.verb.CloseLevel.TheVariants.{Newest}
 use Rattle.jr_syntax.specs.declared.verb.OfRoom.TheVariants.{Collect}
 use Rattle.jr_syntax.specs.declared.verb.WithTries.TheVariants.{CollectAnnounced}
+use Rattle.jr_syntax.specs.declared.verb.TheConstants.{VERBS}
 use Rattle.jr_syntax.specs.declared.command.Command.{Command}
 use Rattle.jr_syntax.specs.declared.command.Command.TheVariants as commands
 use Rattle.jr_syntax.specs.declared.name.Reference.{Reference}
@@ -45,7 +46,7 @@ use Rattle.jr_syntax.specs.Value.{is_long, value}
 use Rattle.jr_model.specs.declared.frames.Mode.{Mode}
 use Rattle.jr_model.specs.declared.frames.Mode.TheVariants.{Copy, Commit, Abort}
 use Rattle.jr_syntax.specs.Modes.{mode, is_mode_word, mode_of, word_of_mode}
-use Rattle.jr_syntax.specs.Command.{verb_word, verb_of, all_verbs, behind_verb, spelling_of, words_of_command, is_command, line_has_form, line_in_range, line_command}
+use Rattle.jr_syntax.specs.Command.{verb_word, verb_of, behind_verb, spelling_of, words_of_command, is_command, line_has_form, line_in_range, line_command}
 use Rattle.jr_syntax.specs.Script.{thread}
 use Rattle.jr_syntax.proofs.DecimalLaws.{few_bits, decimal_digits, decimal_form, number_decimal}
 use Rattle.jr_syntax.proofs.ValueLaws.{or_right, long_above, long_below, value_form, value_again}
@@ -261,31 +262,21 @@ line_printable (w ∷ v ∷ ws) h =
 
 -- ---- commands
 
--- every verb is found by its word, a line for each: so each is in the list, and no two have one word
+-- every verb is found by its word, two lines for each shape: so each is in the list, and no two have one word
 verb_again : (v : Verb) → verb_of (verb_word v) ≡ Some v
 unfolding verb_of
 verb_again (Make Plain) = refl
-verb_again (Make Wait) = refl
+verb_again (Make _) = refl
 verb_again (MakeFrom Global) = refl
-verb_again (MakeFrom Weak) = refl
-verb_again (MakeFrom Local) = refl
-verb_again (MakeFrom Pop) = refl
-verb_again (MakeFrom Elements) = refl
+verb_again (MakeFrom _) = refl
 verb_again (On on.Drop) = refl
-verb_again (On on.Type) = refl
-verb_again (On on.Len) = refl
-verb_again (On on.TextLength) = refl
-verb_again (On on.Chars) = refl
+verb_again (On _) = refl
 verb_again (OnBoth Same) = refl
 verb_again (OnName Post) = refl
 verb_again (WithCount Push) = refl
-verb_again (WithCount Ensure) = refl
+verb_again (WithCount _) = refl
 verb_again (MakeSized sized.Boolean) = refl
-verb_again (MakeSized sized.Byte) = refl
-verb_again (MakeSized sized.Char) = refl
-verb_again (MakeSized sized.Short) = refl
-verb_again (MakeSized sized.Int) = refl
-verb_again (MakeSized sized.Long) = refl
+verb_again (MakeSized _) = refl
 verb_again (MakeFilled Objects) = refl
 verb_again (MakeText text.String) = refl
 verb_again (MakeAt Get) = refl
@@ -293,12 +284,12 @@ verb_again (OnAt Load) = refl
 verb_again (SetAt set_at.Set) = refl
 verb_again (StoreAt Store) = refl
 verb_again (OnNameAt named_at.Get) = refl
-verb_again (OnNameAt named_at.GetInLevel) = refl
+verb_again (OnNameAt _) = refl
 verb_again (PutAt Put) = refl
-verb_again (PutAt PutInLevel) = refl
+verb_again (PutAt _) = refl
 verb_again (Release releases.Elements) = refl
 verb_again (OpenLevel opens.Array) = refl
-verb_again (OpenLevel opens.Text) = refl
+verb_again (OpenLevel _) = refl
 verb_again (CloseLevel Newest) = refl
 verb_again (OfRoom Collect) = refl
 verb_again (WithTries CollectAnnounced) = refl
@@ -318,7 +309,7 @@ found_so p q (u ∷ vs) v h e = let a = and_parts _ _ h in begins_at p q u v (fi
 
 verb_begins : (v : Verb) → can_begin v ≡ true
 unfolding verb_of
-verb_begins v = found_so (λ u. bytes_eq (verb_word u) (verb_word v)) can_begin all_verbs v refl (verb_again v)
+verb_begins v = found_so (λ u. bytes_eq (verb_word u) (verb_word v)) can_begin VERBS v refl (verb_again v)
 
 -- what the line of a command is read as
 pub record IsLineOf (ws : List (List ℕ)) (c : Command) : Type 0 where

@@ -76,25 +76,7 @@ apart_more (y ∷ ys) x h n =
 -- what a command posts, where none of it was posted before
 apart_posted : (xs : List (List ℕ)) (c : Command) → all_apart xs ≡ true → share (posted c) xs ≡ false → all_apart (xs ++ posted c) ≡ true
 apart_posted xs (commands.OnName Post n) h new = apart_more xs n h (or_false (list_any (bytes_eq n) xs) false new).0
-apart_posted xs (commands.Make v n) h new = ap all_apart (append-nil xs) ∙ h
-apart_posted xs (commands.MakeFrom v n r) h new = ap all_apart (append-nil xs) ∙ h
-apart_posted xs (commands.On v r) h new = ap all_apart (append-nil xs) ∙ h
-apart_posted xs (commands.OnBoth v q r) h new = ap all_apart (append-nil xs) ∙ h
-apart_posted xs (commands.WithCount v n) h new = ap all_apart (append-nil xs) ∙ h
-apart_posted xs (commands.MakeSized v n l) h new = ap all_apart (append-nil xs) ∙ h
-apart_posted xs (commands.MakeFilled v n l r) h new = ap all_apart (append-nil xs) ∙ h
-apart_posted xs (commands.MakeText v n us) h new = ap all_apart (append-nil xs) ∙ h
-apart_posted xs (commands.MakeAt v n r i) h new = ap all_apart (append-nil xs) ∙ h
-apart_posted xs (commands.OnAt v r i) h new = ap all_apart (append-nil xs) ∙ h
-apart_posted xs (commands.SetAt v r i q) h new = ap all_apart (append-nil xs) ∙ h
-apart_posted xs (commands.StoreAt v r i x) h new = ap all_apart (append-nil xs) ∙ h
-apart_posted xs (commands.OnNameAt v n i) h new = ap all_apart (append-nil xs) ∙ h
-apart_posted xs (commands.PutAt v n i x) h new = ap all_apart (append-nil xs) ∙ h
-apart_posted xs (commands.Release v n r m) h new = ap all_apart (append-nil xs) ∙ h
-apart_posted xs (commands.OpenLevel v n r) h new = ap all_apart (append-nil xs) ∙ h
-apart_posted xs (commands.CloseLevel v m) h new = ap all_apart (append-nil xs) ∙ h
-apart_posted xs (commands.OfRoom v) h new = ap all_apart (append-nil xs) ∙ h
-apart_posted xs (commands.WithTries v n) h new = ap all_apart (append-nil xs) ∙ h
+apart_posted xs _ h new = ap all_apart (append-nil xs) ∙ h
 
 -- ---- one more part
 

@@ -189,25 +189,7 @@ apart_new (x ∷ xs) y ys h =
 -- a command posts nothing that was posted before it
 fresh_post : (xs : List (List ℕ)) (c : Command) (ys : List (List ℕ)) → all_apart (xs ++ (posted c ++ ys)) ≡ true → share (posted c) xs ≡ false
 fresh_post xs (commands.OnName Post n) ys h = or_from _ _ (apart_new xs n ys h) refl
-fresh_post xs (commands.Make v n) ys h = refl
-fresh_post xs (commands.MakeFrom v n r) ys h = refl
-fresh_post xs (commands.On v r) ys h = refl
-fresh_post xs (commands.OnBoth v q r) ys h = refl
-fresh_post xs (commands.WithCount v n) ys h = refl
-fresh_post xs (commands.MakeSized v n l) ys h = refl
-fresh_post xs (commands.MakeFilled v n l r) ys h = refl
-fresh_post xs (commands.MakeText v n us) ys h = refl
-fresh_post xs (commands.MakeAt v n r i) ys h = refl
-fresh_post xs (commands.OnAt v r i) ys h = refl
-fresh_post xs (commands.SetAt v r i q) ys h = refl
-fresh_post xs (commands.StoreAt v r i x) ys h = refl
-fresh_post xs (commands.OnNameAt v n i) ys h = refl
-fresh_post xs (commands.PutAt v n i x) ys h = refl
-fresh_post xs (commands.Release v n r m) ys h = refl
-fresh_post xs (commands.OpenLevel v n r) ys h = refl
-fresh_post xs (commands.CloseLevel v m) ys h = refl
-fresh_post xs (commands.OfRoom v) ys h = refl
-fresh_post xs (commands.WithTries v n) ys h = refl
+fresh_post xs _ ys h = refl
 
 -- what the lines so far say
 record SoFar (before : List (List ℕ)) (threads : ℕ) (names posts : List (List ℕ)) : Type 0 where

@@ -27,6 +27,7 @@ use Rattle.jr_syntax.specs.declared.verb.OpenLevel.TheVariants as opens
 use Rattle.jr_syntax.specs.declared.verb.CloseLevel.TheVariants.{Newest}
 use Rattle.jr_syntax.specs.declared.verb.OfRoom.TheVariants.{Collect}
 use Rattle.jr_syntax.specs.declared.verb.WithTries.TheVariants.{CollectAnnounced}
+use Rattle.jr_syntax.specs.declared.verb.TheConstants.{VERBS}
 use Rattle.jr_syntax.specs.declared.command.Command.{Command}
 use Rattle.jr_syntax.specs.declared.command.Command.TheVariants as commands
 use Rattle.jr_syntax.specs.Kind.{Arguments, Reading, nothing, one, two, three, before, name}
@@ -36,7 +37,7 @@ use Rattle.jr_syntax.specs.Units.{units}
 use Rattle.jr_syntax.specs.Value.{value}
 use Rattle.jr_syntax.specs.Modes.{mode}
 
--- ---- the verbs, two rows for each
+-- ---- the verbs, a row for each
 
 -- the word of a verb
 abbrev pub verb_word : Verb → List ℕ
@@ -78,15 +79,6 @@ verb_word (OpenLevel opens.Text) = codes "critstr"
 verb_word (CloseLevel Newest) = codes "endcrit"
 verb_word (OfRoom Collect) = codes "gc"
 verb_word (WithTries CollectAnnounced) = codes "gcann"
-
--- every verb
-abbrev pub all_verbs : List Verb
-all_verbs =
-    Make Plain ∷ Make Wait ∷ MakeFrom Global ∷ MakeFrom Weak ∷ MakeFrom Local ∷ MakeFrom Pop ∷ MakeFrom Elements ∷ On on.Drop ∷ On on.Type ∷ On on.Len ∷ On on.TextLength ∷ On on.Chars ∷ OnBoth Same ∷ OnName Post ∷ WithCount Push ∷ WithCount Ensure
-    ∷ MakeSized sized.Boolean ∷ MakeSized sized.Byte ∷ MakeSized sized.Char ∷ MakeSized sized.Short ∷ MakeSized sized.Int ∷ MakeSized sized.Long
-    ∷ MakeFilled Objects ∷ MakeText text.String ∷ MakeAt Get ∷ OnAt Load ∷ SetAt set_at.Set ∷ StoreAt Store
-    ∷ OnNameAt named_at.Get ∷ OnNameAt named_at.GetInLevel ∷ PutAt Put ∷ PutAt PutInLevel ∷ Release releases.Elements
-    ∷ OpenLevel opens.Array ∷ OpenLevel opens.Text ∷ CloseLevel Newest ∷ OfRoom Collect ∷ WithTries CollectAnnounced ∷ []
 
 -- ---- the shapes of commands: the arguments behind a verb
 
@@ -157,9 +149,9 @@ words_of_command c = (spelling_of c).words
 abbrev pub is_command : Command → Bool
 is_command c = (spelling_of c).is_good
 
--- the verb with a word
+-- the verb with a word, as it is found among the code's verbs: no verb is missing there
 unfoldable pub verb_of : List ℕ → Option Verb
-verb_of word = find (λ v. bytes_eq (verb_word v) word) all_verbs
+verb_of word = find (λ v. bytes_eq (verb_word v) word) VERBS
 
 -- whether a line of words has the form of a command, sizes of numbers aside
 unfoldable pub line_has_form : List (List ℕ) → Bool

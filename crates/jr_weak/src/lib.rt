@@ -1,7 +1,6 @@
 //! What a collection reaches, and a collection as a whole, over any steps: marking, clearing, dropping and moving together.
 #![tactic(auto)]
 
-mod buffers;
 mod clearing;
 mod collecting;
 mod compacting;

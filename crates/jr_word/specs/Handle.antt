@@ -1,8 +1,9 @@
 -- A reference as a word.
-use Rattle.std.specs.Prelude.{ℕ, ◌+◌, ◌*◌, ◌^◌, ◌<◌}
+use Rattle.std.specs.Prelude.{ℕ, ◌+◌, ◌*◌, ◌^◌, ◌<◌, Option, Some, None}
 use Rattle.jr_word.specs.declared.handle.RefKind.{RefKind}
 use Rattle.jr_word.specs.declared.handle.RefKind.TheVariants.{Local, Global, Weak}
 use Rattle.jr_word.specs.declared.handle.HandleParts.{HandleParts}
+use Rattle.jr_word.specs.declared.handle.Handle.{Handle}
 
 -- the number of a kind of reference
 abbrev pub reference_code : RefKind → ℕ
@@ -25,3 +26,8 @@ pub record IsHandle (p : HandleParts) : Type 0 where
 -- THE WORD of a handle: bits 0 to 1 its kind, 2 to 33 its serial, 34 to 49 its index, 50 to 55 its owner
 abbrev pub handle_word : HandleParts → ℕ
 handle_word p = reference_code p.kind + 4 * p.serial + 2 ^ 34 * p.index + 2 ^ 50 * p.owner
+
+-- an answer as an argument: the handle that it is, and the word 0 for none
+abbrev pub or_null : Option Handle → Handle
+or_null None = record { 0 = 0 }
+or_null (Some h) = h

@@ -74,10 +74,21 @@ impl RefKind {
 
 impl Handle {
     ghost use Rattle.std.specs.Prelude.{◌≡◌, ◌<◌, IfSome};
-    ghost use Rattle.jr_word.specs.Handle.{owner_limit, handle_word, IsHandle};
+    ghost use Rattle.jr_word.specs.Handle.{owner_limit, handle_word, or_null, IsHandle};
 
     /// The reference to null.
     pub const NULL: Self = Handle(0);
+
+    /// What a call answered, as what another is handed: the handle, and NULL for none.
+    #[inline]
+    pub fn or_null(answer: Option<Self>) -> Self
+        ensures { result ≡ or_null answer }
+    {
+        match answer {
+            Some(handle) => handle,
+            None => Handle::NULL,
+        }
+    }
 
     /// The handle with these parts. Only a local one has an owner other than 0, of the 64 that there may be.
     #[inline]

@@ -24,6 +24,3 @@ pub use kind::Kind;
 pub use local::{LocalParts, LocalWord};
 pub use slot::{SlotParts, SlotWord};
 pub use top::{TopParts, TopWord};
-
-#[cfg(test)]
-mod tests;

@@ -9,8 +9,6 @@ mod input;
 mod output;
 mod request;
 mod script;
-#[cfg(test)]
-mod tests;
 mod trouble;
 
 use crate::output::tell;

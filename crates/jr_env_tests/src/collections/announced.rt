@@ -16,9 +16,9 @@ use std::alloc::Global;
 use std::process::Abort;
 use std::test::Fail;
 
-/// A room of four threads, with few words.
-const FOUR: Config = Config {
-    threads: 4,
+/// A room of five threads, with few words.
+const FIVE: Config = Config {
+    threads: 5,
     slots: 4,
     objects: 4,
     words: 8,
@@ -194,36 +194,6 @@ fn is_barred_by_who_announces<S: Steps>(
     Ok(())
 }
 
-/// The same, where there is a pass for each thread. What may be missing is found here, over any steps, since a test that does it itself is dear to prove.
-fn bars<S: Steps + Drop>(
-    rt: &impl Abort,
-    alloc: Global,
-    first: Result<S, NoPass>,
-    second: Result<S, NoPass>,
-    env: Result<Env<S>, NoPass>,
-    other: Result<Env<S>, NoPass>,
-) -> Result<(), Fail>
-    requires first { IfOk first (λ s. (S.facts s).stands.role ≡ Outside) }
-    requires second { IfOk second (λ s. (S.facts s).stands.role ≡ Outside) }
-{
-    let mut first = first?;
-    let mut second = second?;
-    let mut env = env?;
-    let mut other = other?;
-    is_barred_by_who_announces(rt, alloc, &mut first, &mut second, &mut env, &mut other)
-}
-
-/// One thread announces at a time, and from then on no other goes in.
-#[test]
-fn an_announcement_bars_calls_and_collections(rt: HostRuntime) -> Result<(), Fail> {
-    let (room, mut passes) = Room::<LAST>::open(rt.alloc(), FOUR)?;
-    let first = next_steps(&room, &mut passes);
-    let second = next_steps(&room, &mut passes);
-    let other = next_env(&room, &mut passes);
-    let env = next_env(&room, &mut passes);
-    bars(&rt, rt.alloc(), first, second, env, other)
-}
-
 /// The steps of a thread are dropped while it announces.
 fn drop_while_announcing<S: Steps + Drop>(steps: S) -> Result<(), Fail>
     requires { (S.facts steps).stands.role ≡ Outside }
@@ -252,21 +222,42 @@ fn is_barred_for_good<S: Steps>(
     Ok(())
 }
 
-/// The steps of a thread are dropped while it announces: the env of another is barred for good.
-fn bars_once_dropped<S: Steps + Drop>(
+/// What becomes of a thread that announces.
+#[derive(Clone, Copy, PartialEq, Eq)]
+enum Announcer {
+    /// It takes its announcement back.
+    Cancels,
+    /// Its pass is dropped.
+    IsDropped,
+}
+
+/// Shows what other threads of the room meet, where there is a pass for each. What may be missing is found here, over any steps, since a test that does it itself is dear to prove.
+fn bars<S: Steps + Drop>(
     rt: &impl Abort,
     alloc: Global,
-    dropped: Result<S, NoPass>,
+    announcer: Announcer,
+    first: Result<S, NoPass>,
+    second: Result<S, NoPass>,
     env: Result<Env<S>, NoPass>,
+    other: Result<Env<S>, NoPass>,
 ) -> Result<(), Fail>
-    requires { IfOk dropped (λ s. (S.facts s).stands.role ≡ Outside) }
+    requires first { IfOk first (λ s. (S.facts s).stands.role ≡ Outside) }
+    requires second { IfOk second (λ s. (S.facts s).stands.role ≡ Outside) }
 {
+    let mut first = first?;
+    let mut second = second?;
     let mut env = env?;
-    let filled = fill(&mut env)?;
-    drop_while_announcing(dropped?)?;
-    is_barred_for_good(rt, alloc, &mut env, filled.kept)?;
-    let _steps = env.into_pass();
-    Ok(())
+    let mut other = other?;
+    match announcer {
+        Announcer::Cancels => {
+            is_barred_by_who_announces(rt, alloc, &mut first, &mut second, &mut env, &mut other)
+        }
+        Announcer::IsDropped => {
+            let filled = fill(&mut env)?;
+            drop_while_announcing(second)?;
+            is_barred_for_good(rt, alloc, &mut env, filled.kept)
+        }
+    }
 }
 
 /// A room is not closed, since a thread announces: the room and the pass, as they are handed back.
@@ -282,15 +273,30 @@ fn is_left(rt: &impl Abort, room: Room<LAST>, pass: Pass) -> Result<(Room<LAST>,
     Ok((room, pass))
 }
 
+/// Shows it in a room. Where the thread announces still, the room is not closed.
+fn announces(rt: &impl Abort, alloc: Global, announcer: Announcer) -> Result<(), Fail> {
+    let (room, mut passes) = Room::<LAST>::open(alloc, FIVE)?;
+    let first = next_steps(&room, &mut passes);
+    let second = next_steps(&room, &mut passes);
+    let other = next_env(&room, &mut passes);
+    let env = next_env(&room, &mut passes);
+    bars(rt, alloc, announcer, first, second, env, other)?;
+    if announcer == Announcer::IsDropped {
+        let pass = next_pass(&room, &mut passes)?;
+        let (room, pass) = is_left(rt, room, pass)?;
+        is_left(rt, room, pass)?;
+    }
+    Ok(())
+}
+
+/// One thread announces at a time, and from then on no other goes in.
+#[test]
+fn an_announcement_bars_calls_and_collections(rt: HostRuntime) -> Result<(), Fail> {
+    announces(&rt, rt.alloc(), Announcer::Cancels)
+}
+
 /// Where a thread's pass is dropped while it announces, entries are barred for good, and the room is not closed any more: who announced is counted.
 #[test]
 fn a_pass_dropped_while_announcing_bars_all_calls(rt: HostRuntime) -> Result<(), Fail> {
-    let (room, mut passes) = Room::<LAST>::open(rt.alloc(), FOUR)?;
-    let dropped = next_steps(&room, &mut passes);
-    let env = next_env(&room, &mut passes);
-    bars_once_dropped(&rt, rt.alloc(), dropped, env)?;
-    let pass = next_pass(&room, &mut passes)?;
-    let (room, pass) = is_left(&rt, room, pass)?;
-    is_left(&rt, room, pass)?;
-    Ok(())
+    announces(&rt, rt.alloc(), Announcer::IsDropped)
 }

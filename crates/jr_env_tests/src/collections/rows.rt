@@ -1,9 +1,12 @@
 //! The words that a collection leaves.
 
-use crate::envs::{collects, has_words, made, plain_env};
+use crate::envs::{collects, made};
+use crate::plain::{Case, leaves_words};
 use jr_env::Env;
 use jr_steps::Steps;
 use jr_word::Config;
+use std::alloc::Global;
+use std::process::Abort;
 use std::test::Fail;
 
 /// A room with two slots, two objects and eight words. Its row has 30 words: the gate, the top, the slots from 2 on, the local places from 4 on, the headers from 20 on, and the elements from 22 on.
@@ -16,7 +19,7 @@ const PAIR: Config = Config {
 };
 
 /// Makes two arrays, of which no reference but a weak one names the first.
-fn fill<S: Steps>(env: &mut Env<S>) -> Result<(), Fail> {
+pub(crate) fn fills<S: Steps>(env: &mut Env<S>) -> Result<(), Fail> {
     let gone = env.new_array::<i32>(1)?;
     env.set_array_region(gone, 0, &[9])?;
     made(env.new_weak_global_ref(gone))?;
@@ -26,11 +29,19 @@ fn fill<S: Steps>(env: &mut Env<S>) -> Result<(), Fail> {
     Ok(())
 }
 
+/// Makes them, and collects.
+pub(crate) fn fills_and_collects<S: Steps>(
+    rt: &impl Abort,
+    alloc: Global,
+    env: &mut Env<S>,
+) -> Result<(), Fail> {
+    fills(env)?;
+    collects(rt, alloc, env, [1, 1, 2])
+}
+
 /// The weak reference is cleared and its array dropped, and the other array has moved by one place, over its own elements. What stood behind them is left, and is no array's.
 #[test]
 fn a_collection_leaves_these_words(rt: HostRuntime) -> Result<(), Fail> {
-    let mut env = plain_env(rt.alloc(), PAIR)?;
-    fill(&mut env)?;
     let mut row = [0; 30];
     row[1] = 3;
     row[2] = 0x4_0000_0003;
@@ -40,14 +51,12 @@ fn a_collection_leaves_these_words(rt: HostRuntime) -> Result<(), Fail> {
     row[22] = 9;
     row[23] = 5;
     row[24] = 0xFFFF_FFFF_FFFF_FFFA;
-    has_words(&rt, &env.held.steps.cells.words, &row);
-    collects(&rt, rt.alloc(), &mut env, [1, 1, 2])?;
+    leaves_words(&rt, rt.alloc(), PAIR, Case::Filled, &row)?;
     row[1] = 2;
     row[2] = 3;
     row[20] = 0;
     row[21] = 0x27;
     row[22] = 5;
     row[23] = 0xFFFF_FFFF_FFFF_FFFA;
-    has_words(&rt, &env.held.steps.cells.words, &row);
-    Ok(())
+    leaves_words(&rt, rt.alloc(), PAIR, Case::Collected, &row)
 }

@@ -1,4 +1,4 @@
-//! Threads of one room, of which some collect, announced or not, while others make, write and drop arrays, or come in and go without a break.
+//! Threads of one room, of which some collect, announced or not, while others make, write and drop arrays, make, find and delete global references, or come in and go without a break.
 ghost use Rattle.std.specs.Prelude.{All};
 ghost use Rattle.jr_rule.specs.Passes.{IsOpened};
 
@@ -166,11 +166,72 @@ fn knock_often<S: Steps>(env: &mut Env<S>, knocks: u32) -> u32 {
     knocks
 }
 
+/// A new global reference, as soon as nobody collects and a slot is free.
+fn make_global<S: Steps>(env: &mut Env<S>, array: Handle) -> Result<Handle, Fault> {
+    for _ in 0..TRIES {
+        match env.new_global_ref(array) {
+            Ok(global) => return global.ok_or(Fault::Null),
+            Err(Fault::Barred | Fault::RowFull) => thread::yield_now(),
+            Err(fault) => return Err(fault),
+        }
+    }
+    Err(Fault::Turns)
+}
+
+/// The type of a reference, as soon as nobody collects.
+fn type_of<S: Steps>(env: &mut Env<S>, word: Handle) -> Result<u8, Fault> {
+    for _ in 0..TRIES {
+        match env.get_object_ref_type(word) {
+            Err(Fault::Barred) => thread::yield_now(),
+            answer => return answer,
+        }
+    }
+    Err(Fault::Turns)
+}
+
+/// Deletes a global reference, as soon as nobody collects.
+fn delete_global<S: Steps>(env: &mut Env<S>, word: Handle) -> Result<(), Fault> {
+    for _ in 0..TRIES {
+        match env.delete_global_ref(word) {
+            Err(Fault::Barred) => thread::yield_now(),
+            answer => return answer,
+        }
+    }
+    Err(Fault::Turns)
+}
+
+/// Makes a global reference, which is found until it is deleted, and never after.
+fn renew<S: Steps>(env: &mut Env<S>, array: Handle) -> Result<(), Fault> {
+    let global = make_global(env, array)?;
+    let before = type_of(env, global)?;
+    delete_global(env, global)?;
+    let after = type_of(env, global)?;
+    if before != 2 || after != 0 {
+        return Err(Fault::Stale);
+    }
+    Ok(())
+}
+
+/// Does so with references to an array of its own. How often it did.
+fn renew_often<S: Steps>(alloc: Global, env: &mut Env<S>, how: How, rounds: u32) -> u32 {
+    let Ok(array) = make(alloc, env, how) else {
+        return 0;
+    };
+    for done in 0..rounds {
+        let Ok(()) = renew(env, array) else {
+            return done;
+        };
+    }
+    rounds
+}
+
 /// What a thread does, and how often.
 #[derive(Clone, Copy)]
 enum Job {
     /// Makes, writes, reads and drops arrays, and collects so where there is no room.
     Replace(How, u32),
+    /// Makes, finds and deletes global references to an array, for which it collects so where there is no room.
+    Renew(How, u32),
     /// Collects so.
     Collect(How, u32),
     /// Comes in and goes, or knocks, without a break.
@@ -181,7 +242,8 @@ impl Job {
     /// How often it is to be done.
     fn times(self) -> u32 {
         match self {
-            Job::Replace(_, times) | Job::Collect(_, times) | Job::Knock(times) => times,
+            Job::Replace(_, times) | Job::Renew(_, times) => times,
+            Job::Collect(_, times) | Job::Knock(times) => times,
         }
     }
 
@@ -189,6 +251,7 @@ impl Job {
     fn work<S: Steps + Drop>(self, alloc: Global, mut env: Env<S>) -> u32 {
         match self {
             Job::Replace(how, times) => replace_often(alloc, &mut env, how, times),
+            Job::Renew(how, times) => renew_often(alloc, &mut env, how, times),
             Job::Collect(how, times) => collect_often(alloc, &mut env, how, times),
             Job::Knock(times) => knock_often(&mut env, times),
         }
@@ -290,6 +353,22 @@ fn four_threads_and_one_that_announces(rt: HostRuntime) -> Result<(), Fail> {
     let collect = Job::Collect(How::Many, ANNOUNCED);
     let jobs = [replace, replace, replace, replace, collect];
     all_do(&rt, rt.alloc(), jobs, 4)
+}
+
+/// Four threads make, find and delete global references, one at a time each, beside one that collects.
+#[test]
+fn global_references_beside_one_that_collects(rt: HostRuntime) -> Result<(), Fail> {
+    let renew = Job::Renew(How::Plain, ROUNDS);
+    let collect = Job::Collect(How::Plain, COLLECTIONS);
+    all_do(&rt, rt.alloc(), [renew, renew, renew, renew, collect], 4)
+}
+
+/// The same, where each collection is announced.
+#[test]
+fn global_references_beside_one_that_announces(rt: HostRuntime) -> Result<(), Fail> {
+    let renew = Job::Renew(How::Few, ROUNDS);
+    let collect = Job::Collect(How::Many, ANNOUNCED);
+    all_do(&rt, rt.alloc(), [renew, renew, renew, renew, collect], 4)
 }
 
 /// One thread announces its collections and one doesn't, beside threads that make arrays.

@@ -1,5 +1,5 @@
-use Rattle.jr_model.proofs.Moves.{calls_move_frames}
+use Rattle.jr_model.proofs.EachCall.{calls_move_frames}
 use Rattle.jr_model.proofs.laws.calls_move_frames.Goals as goal
 
 pub returns : goal.returns
-returns c config last thread = calls_move_frames last thread config
+returns c = calls_move_frames

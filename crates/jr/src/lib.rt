@@ -1,0 +1,11 @@
+//! What an embedder names, from one crate: the room, its passes and steps, the env with its calls, and what these answer.
+#![tactic(auto)]
+
+pub use jr_critical::Levels;
+pub use jr_elements::Elements;
+pub use jr_env::{Env, EnvCall, LocalFrames, Region, Scoped, calls, with_local_frame};
+pub use jr_model::{Mode, Summary};
+pub use jr_rule::{AllLeft, Left, Pass, PlainSteps, Room, RoomSteps};
+pub use jr_steps::Steps;
+pub use jr_weak::{Collected, Marker};
+pub use jr_word::{Config, Elem, Fault, Handle, HandleParts, Kind, RefKind};

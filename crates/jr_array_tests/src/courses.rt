@@ -1,0 +1,91 @@
+//! What is shown of a thread that others overtake in a room, in one function that makes the room and all in it: steps over a room are dear to prove.
+ghost use Rattle.std.specs.Prelude.{All};
+ghost use Rattle.jr_rule.specs.Passes.{IsOpened};
+
+use crate::announced::{answers, is_closed_between, is_moved};
+use crate::envs::{LAST, env_of, leaves, next_env, next_steps};
+use crate::overtaken::{Before, Others, Overtaken, is_overtaken};
+use crate::plans::{Neighbour, with_plans};
+use jr_env::Env;
+use jr_model::Summary;
+use jr_rule::{Pass, Room, RoomSteps};
+use jr_steps::Steps;
+use jr_weak::Collected;
+use jr_word::{Config, Fault};
+use std::alloc::Global;
+use std::process::Abort;
+use std::test::Fail;
+
+/// Who overtakes the thread.
+#[derive(Clone, Copy)]
+pub(crate) enum By {
+    /// One who makes arrays.
+    Maker,
+    /// Two who come and go, or announce, before its steps of this kind.
+    Both(Before, Neighbour, Neighbour),
+}
+
+/// What is shown: the function of like name says it.
+#[derive(Clone, Copy)]
+pub(crate) enum Shown {
+    IsOvertaken,
+    IsMoved,
+    IsClosedBetween,
+    /// What an announced collection of so many tries answers.
+    Answers(u32, Result<Collected, Fault>),
+}
+
+/// Who else is in the room.
+fn others<'a>(
+    room: &'a Room<LAST>,
+    passes: &mut Vec<Pass>,
+    by: By,
+) -> Result<Others<RoomSteps<'a, LAST>>, Fail>
+    requires { All (λ p. IsOpened room.now.row p) passes.old.items }
+    ensures { All (λ p. IsOpened room.now.row p) passes.new.items }
+{
+    match by {
+        By::Maker => Ok(Others::Maker(next_env(room, passes)?)),
+        By::Both(kind, first, second) => {
+            let first = with_plans(room, passes, kind, first)?;
+            let second = with_plans(room, passes, kind, second)?;
+            Ok(Others::Planners(first, second))
+        }
+    }
+}
+
+/// Shows it over an env in which nothing was done.
+fn shows<S: Steps, U: Steps>(
+    rt: &impl Abort,
+    alloc: Global,
+    env: &mut Env<Overtaken<S, U>>,
+    shown: Shown,
+) -> Result<(), Fail> {
+    match shown {
+        Shown::IsOvertaken => is_overtaken(rt, env),
+        Shown::IsMoved => is_moved(rt, alloc, env),
+        Shown::IsClosedBetween => is_closed_between(rt, alloc, env),
+        Shown::Answers(tries, wanted) => answers(rt, alloc, env, tries, wanted),
+    }
+}
+
+/// Shows it over a room of these sizes, and then, where nobody is left inside, what stands in the room.
+pub(crate) fn overtakes(
+    rt: &impl Abort,
+    alloc: Global,
+    config: Config,
+    by: By,
+    shown: Shown,
+    left: Option<Summary>,
+) -> Result<(), Fail> {
+    let (room, mut passes) = Room::<LAST>::open(alloc, config)?;
+    let others = others(&room, &mut passes, by)?;
+    let steps = next_steps(&room, &mut passes)?;
+    let mut env = env_of(Overtaken { steps, others })?;
+    shows(rt, alloc, &mut env, shown)?;
+    drop(env);
+    if let Some(summary) = left {
+        leaves(rt, room, passes, summary);
+    }
+    Ok(())
+}

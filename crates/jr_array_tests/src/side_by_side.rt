@@ -1,0 +1,217 @@
+//! Two threads of a room that run side by side: whose words each reserves while the other looks for them, and regions beside collections.
+use crate::envs::{LAST, leaves, next_env};
+use crate::overtaken::FIRST;
+use jr_env::Env;
+use jr_gate::shut_gate;
+use jr_model::{Mode, Summary};
+use jr_rule::Room;
+use jr_steps::{Role, Steps};
+use jr_word::{Config, Fault};
+use std::alloc::Global;
+use std::process::Abort;
+use std::sync::Wait;
+use std::test::Fail;
+use std::thread;
+use std::thread::{JoinHandle, Scope, Threads};
+
+/// How often each thread makes an array of one element.
+const ROUNDS: u32 = 20_000;
+
+/// A room for the arrays of two threads, with a third that takes no step.
+const RACED: Config = Config {
+    threads: 3,
+    slots: 1,
+    objects: 2 * ROUNDS,
+    words: 2 * ROUNDS,
+    locals: 16,
+};
+
+/// Whether an answer says that so many words were used at the look, and then more, as another thread made an array of one element or several.
+fn is_raced<A>(answer: &Result<A, Fault>) -> bool {
+    match answer {
+        Err(Fault::Raced(looked, found)) => looked < found && *found <= RACED.words,
+        _ => false,
+    }
+}
+
+/// Makes arrays of one element: how many were made, where each other answer was E12.
+fn make_often<S: Steps>(env: &mut Env<S>) -> Result<u32, Fault> {
+    let mut made = 0u32;
+    for _ in 0..ROUNDS {
+        let answer = env.new_array::<i32>(1);
+        if !is_raced(&answer) {
+            env.delete_local_ref(answer?)?;
+            made = made.saturating_add(1);
+        }
+    }
+    Ok(made)
+}
+
+/// How often a thread opens a region.
+const REGIONS: u32 = 10_000;
+
+/// How often a thread collects.
+const COLLECTIONS: u32 = 10_000;
+
+/// How often a thread tries at most.
+const TRIES: u32 = 5_000_000;
+
+/// A room for two threads that each make an array, with a third that takes no step.
+const THREE: Config = Config {
+    threads: 3,
+    slots: 1,
+    objects: 1,
+    words: 2,
+    locals: 16,
+};
+
+/// Writes a number in a region over the first array of thread 1, and reads there what was written last. None where no region is opened, since another thread collects.
+fn writes_in_region<S: Steps>(env: &mut Env<S>, last: i64, number: i64) -> Option<bool> {
+    let Ok(mut region) = env.get_array_critical(FIRST) else {
+        return None;
+    };
+    let found = region.get::<i64>(0, 1);
+    let written = region.set(0, 1, number);
+    let read = region.get::<i64>(0, 1);
+    match region.release(Mode::Copy) {
+        None => {}
+        Some(_) => unreachable!(),
+    }
+    Some(found == Ok(last) && written == Ok(()) && read == Ok(number))
+}
+
+/// Opens a region over a new array so often, or until it has tried so often, and writes there how many it opened. How often that was read, at once and in the next region.
+fn write_often<S: Steps>(env: &mut Env<S>, regions: u32, tries: u32) -> Result<u32, Fault> {
+    let mut done = 0;
+    for _ in 0..tries {
+        if done >= regions {
+            break;
+        }
+        match writes_in_region(env, i64::from(done), i64::from(done) + 1) {
+            Some(true) => done += 1,
+            Some(false) => return Err(Fault::Value),
+            None => thread::yield_now(),
+        }
+    }
+    Ok(done)
+}
+
+/// Shuts the gate and opens it again so often, or until it has tried so often. How often it was shut.
+fn collect_often<S: Steps>(steps: &mut S, collections: u32, tries: u32) -> u32 {
+    let mut done = 0;
+    for _ in 0..tries {
+        if done >= collections || steps.role() != Role::Outside {
+            break;
+        }
+        match shut_gate(steps) {
+            Ok(collection) => {
+                collection.reopen(steps);
+                done += 1;
+            }
+            Err(_) => thread::yield_now(),
+        }
+    }
+    done
+}
+
+/// What a thread does.
+#[derive(Clone, Copy)]
+enum Job {
+    /// Makes arrays of one element.
+    Make,
+    /// Opens regions over an array of two elements, and writes there.
+    Write,
+    /// Collects.
+    Collect,
+}
+
+impl Job {
+    /// Makes, before any thread is started, the array that it is done with.
+    fn prepare<S: Steps>(self, rt: &impl Abort, env: &mut Env<S>) -> Result<(), Fail> {
+        if let Job::Write = self {
+            let array = env.new_array::<i64>(2)?;
+            assert!(rt; array == FIRST);
+        }
+        Ok(())
+    }
+
+    /// Does it. How often it was done.
+    fn work<S: Steps + Drop>(self, mut env: Env<S>) -> Result<u32, Fault> {
+        match self {
+            Job::Make => make_often(&mut env),
+            Job::Write => write_often(&mut env, REGIONS, TRIES),
+            Job::Collect => {
+                let mut steps = env.into_pass();
+                Ok(collect_often(&mut steps, COLLECTIONS, TRIES))
+            }
+        }
+    }
+
+    /// How many arrays it has made, and how many elements they have, where it was done as often as it is to.
+    fn made(self, done: u32) -> Result<(u32, u32), Fail> {
+        match self {
+            Job::Make => Ok((done, done)),
+            Job::Write if done == REGIONS => Ok((1, 2)),
+            Job::Collect if done == COLLECTIONS => Ok((0, 0)),
+            _ => Err("a thread has done less than it is to")?,
+        }
+    }
+}
+
+/// Does a job in a thread of its own, where one can be started.
+fn start<'s, E, S: Steps + Drop + Send + 's>(
+    scope: &Scope<'s, E>,
+    job: Job,
+    env: Env<S>,
+) -> Option<JoinHandle<Result<u32, Fault>>> {
+    scope.spawn(move || job.work(env)).ok()
+}
+
+/// What a thread has done, once it has ended.
+fn ended<R: Threads>(rt: &R, thread: Option<JoinHandle<Result<u32, Fault>>>) -> Result<u32, Fault> {
+    match thread {
+        Some(thread) => thread.join(rt),
+        None => Err(Fault::Memory),
+    }
+}
+
+/// Two threads do their jobs side by side, each as often as it is to. Then what they made stands, and no more.
+fn both_do<R: Threads + Wait + Abort>(
+    rt: &R,
+    alloc: Global,
+    config: Config,
+    one: Job,
+    two: Job,
+) -> Result<(), Fail> {
+    let (room, mut passes) = Room::<LAST>::open(alloc, config)?;
+    let mut second = next_env(&room, &mut passes)?;
+    let mut first = next_env(&room, &mut passes)?;
+    one.prepare(rt, &mut first)?;
+    two.prepare(rt, &mut second)?;
+    let (first, second) = thread::scope(thread::scope_env(), rt, |scope| {
+        let first = start(scope, one, first);
+        let second = start(scope, two, second);
+        (ended(rt, first), ended(rt, second))
+    });
+    let (live, used) = one.made(first?)?;
+    let (more_live, more_used) = two.made(second?)?;
+    let summary = Summary {
+        globals: 0,
+        weaks: 0,
+        live: live.saturating_add(more_live),
+        used: used.saturating_add(more_used),
+    };
+    leaves(rt, room, passes, summary);
+    Ok(())
+}
+
+// E12 comes hundreds of times where each thread has a processor, and perhaps never where they share one; the test passes then too. A call that it refused has changed nothing.
+#[test]
+fn another_thread_is_faster(rt: HostRuntime) -> Result<(), Fail> {
+    both_do(&rt, rt.alloc(), RACED, Job::Make, Job::Make)
+}
+
+#[test]
+fn regions_and_collections_of_two_threads_end(rt: HostRuntime) -> Result<(), Fail> {
+    both_do(&rt, rt.alloc(), THREE, Job::Write, Job::Collect)
+}

@@ -1,0 +1,16 @@
+use Rattle.std.proofs.Common.{rules, sym, ap, ◌∙◌}
+use Rattle.jr_word.specs.declared.config.Config.{Config}
+use Rattle.jr_env.proofs.MadeAgain.{was_served, was_collected, was_kept_out}
+use Rattle.jr_env.proofs.env.Env.retry_collecting.Goals as goal
+
+pub returns-then-not-is_short_of_room-clause-call : goal.returns-then-not-is_short_of_room-clause-call
+returns-then-not-is_short_of_room-clause-call g c = was_served c.args.more c.retry-answer.ensures (search rules)
+
+pub collect-requires : goal.collect-requires
+collect-requires g c = c.requires.room ∙ sym (ap (λ (z : Config). z.objects) (c.retry-answer.ensures.does c.requires.outside).stands_is.config)
+
+pub returns-in-Ok-clause-call : goal.returns-in-Ok-clause-call
+returns-in-Ok-clause-call g c = was_collected c.args.more _ c.retry-answer.ensures (search rules) c.in-Ok.ensures.call c.retry.ensures
+
+pub returns-clause-call : goal.returns-clause-call
+returns-clause-call g c = was_kept_out c.args.more _ c.retry-answer.ensures (search rules) c.in-Err.ensures.call

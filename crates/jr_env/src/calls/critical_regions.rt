@@ -1,0 +1,58 @@
+//! The calls of the Java Native Interface that open a critical region, over any steps.
+use crate::critical_region::Region;
+use crate::env::Env;
+use jr_steps::Steps;
+use jr_word::{Fault, Handle};
+
+impl<S: Steps> Env<S> {
+    ghost use Rattle.std.specs.Prelude.{◌≡◌, IfOk};
+    ghost use Rattle.std.specs.Borrow.{sem};
+    ghost use Rattle.jr_model.specs.Objects.{get_array_critical, get_string_critical};
+    ghost use Rattle.jr_env.specs.Envs.{IsOutside};
+    ghost use Rattle.jr_env.specs.StandingRegions.{StandsSince};
+    ghost use Rattle.jr_env.specs.Criticals.{env_of, held_of, levels_of, rests_in, WasOpened};
+
+    /// Opens a critical region, with the array at its first level. The thread is within until that level is released. (JNI Specification, chapter 4, "GetPrimitiveArrayCritical")
+    ///
+    /// # Errors
+    ///
+    /// E13 where a thread is collecting at the entry, or has announced that it will; E2 where the handle is malformed or lies outside the room; E3 where it is a local one of another thread; E2 where its reference does not stand; E1 where it is to null; E5 where it is to a plain object or a string; E6 where it is to an array of objects.
+    ///
+    /// Nothing has changed then, and the thread stands outside.
+    ///
+    /// # Operations
+    ///
+    /// At most 3: the entry, a look at the slot of a global or weak handle, and one at the array's header. Where it is refused, the exit too.
+    #[inline(always)]
+    pub fn get_array_critical(&mut self, array: Handle) -> Result<Region<'_, S>, Fault>
+        ensures* rests { sem 𝓛 (rests_in S.row S.Steps array.0 get_array_critical self.entry result) }
+        ensures same_reference { IfOk result (λ r. (env_of r).ghost_name ≡ self.entry.ghost_name) }
+        ensures opened { IfOk result (λ r. WasOpened self.old r array.0 get_array_critical) }
+        ensures region { IfOk result (λ r. IsOutside self.old → StandsSince self.old.held (held_of r) (levels_of r)) }
+    {
+        let levels = self.open_array_critical(array)?;
+        Ok(Region::over(self, levels))
+    }
+
+    /// Opens a critical region, with the string at its first level. The thread is within until that level is released. (JNI Specification, chapter 4, "GetStringCritical")
+    ///
+    /// # Errors
+    ///
+    /// E13 where a thread is collecting at the entry, or has announced that it will; E2 where the handle is malformed or lies outside the room; E3 where it is a local one of another thread; E2 where its reference does not stand; E1 where it is to null; E4 where it is to no string.
+    ///
+    /// Nothing has changed then, and the thread stands outside.
+    ///
+    /// # Operations
+    ///
+    /// At most 3: the entry, a look at the slot of a global or weak handle, and one at the string's header. Where it is refused, the exit too.
+    #[inline(always)]
+    pub fn get_string_critical(&mut self, string: Handle) -> Result<Region<'_, S>, Fault>
+        ensures* rests { sem 𝓛 (rests_in S.row S.Steps string.0 get_string_critical self.entry result) }
+        ensures same_reference { IfOk result (λ r. (env_of r).ghost_name ≡ self.entry.ghost_name) }
+        ensures opened { IfOk result (λ r. WasOpened self.old r string.0 get_string_critical) }
+        ensures region { IfOk result (λ r. IsOutside self.old → StandsSince self.old.held (held_of r) (levels_of r)) }
+    {
+        let levels = self.open_string_critical(string)?;
+        Ok(Region::over(self, levels))
+    }
+}

@@ -1,0 +1,161 @@
+//! The calls of the Java Native Interface for the frames of one thread, over any steps.
+use crate::env::Env;
+use crate::env_call::EnvCall;
+use crate::work::{make, outside};
+use crate::works::frames::{FramePop, LocalsFreeing};
+use jr_frames::Reference;
+use jr_model::FRAMES;
+use jr_steps::Steps;
+use jr_word::{Fault, Handle};
+
+impl<S: Steps> Env<S> {
+    ghost use Rattle.jr_env.specs.Envs.{Does};
+    ghost use Rattle.jr_env.specs.Deeds.{ensure_local_capacity, push_local_frame, pop_local_frame, free_locals};
+
+    /// Tells whether so many more local references can be made. It enters no gate. A negative capacity can't be handed in. (JNI Specification, chapter 4, "EnsureLocalCapacity")
+    ///
+    /// # Errors
+    ///
+    /// E9 where fewer places are free.
+    ///
+    /// Nothing has changed then, and the thread stands outside.
+    ///
+    /// # Operations
+    ///
+    /// None.
+    pub fn ensure_local_capacity(&mut self, capacity: u32) -> Result<(), Fault>
+        ensures { Does self.old self.new (ensure_local_capacity capacity) result }
+    {
+        outside(&mut self.held);
+        if self.held.frames.has_room(capacity) {
+            Ok(())
+        } else {
+            Err(Fault::LocalsFull)
+        }
+    }
+
+    /// Opens a frame, in which so many local references can be made. It enters no gate. A negative capacity can't be handed in. (JNI Specification, chapter 4, "PushLocalFrame")
+    ///
+    /// # Errors
+    ///
+    /// E9 where 256 frames are open, or fewer places are free.
+    ///
+    /// Nothing has changed then, and the thread stands outside.
+    ///
+    /// # Operations
+    ///
+    /// None.
+    pub fn push_local_frame(&mut self, capacity: u32) -> Result<(), Fault>
+        ensures { Does self.old self.new (push_local_frame capacity) result }
+    {
+        outside(&mut self.held);
+        if self.held.frames.depth() >= FRAMES {
+            return Err(Fault::LocalsFull);
+        }
+        if !self.held.frames.has_room(capacity) {
+            return Err(Fault::LocalsFull);
+        }
+        self.held.frames.push();
+        Ok(())
+    }
+
+    /// Takes the newest frame away with its local references, and makes one in the frame below to what the handle names, none for NULL and for a weak one that is cleared, which needs no place. (JNI Specification, chapter 4, "PopLocalFrame")
+    ///
+    /// # Errors
+    ///
+    /// E13 where a thread is collecting at the entry, or has announced that it will; E15 where no frame was pushed; E2 where the handle is malformed or lies outside the room; E3 where it is a local one of another thread; E2 where its reference does not stand; E9 where no place would be free for the result, once those of the frame are.
+    ///
+    /// Nothing is taken away then, and the thread stands outside.
+    ///
+    /// # Operations
+    ///
+    /// Just its events: the entry, a look at the slot of a global or weak handle, a store for each local reference of the frame, one for the result, and the exit.
+    pub fn pop_local_frame(&mut self, kept: Handle) -> Result<Option<Handle>, Fault>
+        ensures { Does self.old self.new (pop_local_frame kept.0) result }
+    {
+        let target = Reference::of(kept);
+        let made = make(&mut self.held, FramePop(target))?;
+        Ok(made.map(Handle::pack))
+    }
+
+    /// Frees all local references of the thread, as at the end of a native method. One empty frame is left. (JNI Specification, chapter 2, "Global and Local References")
+    ///
+    /// # Errors
+    ///
+    /// E13 where a thread is collecting at the entry, or has announced that it will.
+    ///
+    /// Nothing has changed then, and the thread stands outside.
+    ///
+    /// # Operations
+    ///
+    /// Just its events: the entry, a store for each local reference, and the exit.
+    pub fn free_locals(&mut self) -> Result<(), Fault>
+        ensures { Does self.old self.new free_locals result }
+    {
+        make(&mut self.held, LocalsFreeing)
+    }
+}
+
+/// Whether so many more local references can be made.
+#[derive(Clone, Copy)]
+pub struct EnsureLocalCapacity(pub u32);
+
+impl<S: Steps> EnvCall<S> for EnsureLocalCapacity {
+    ghost use Rattle.jr_env.specs.Deeds.{ensure_local_capacity};
+
+    type Answer = ();
+
+    ghost deed = { λ c. ensure_local_capacity c.0 };
+
+    fn make(&self, env: &mut Env<S>) -> Result<(), Fault> {
+        env.ensure_local_capacity(self.0)
+    }
+}
+
+/// A frame in which so many local references can be made.
+#[derive(Clone, Copy)]
+pub struct PushLocalFrame(pub u32);
+
+impl<S: Steps> EnvCall<S> for PushLocalFrame {
+    ghost use Rattle.jr_env.specs.Deeds.{push_local_frame};
+
+    type Answer = ();
+
+    ghost deed = { λ c. push_local_frame c.0 };
+
+    fn make(&self, env: &mut Env<S>) -> Result<(), Fault> {
+        env.push_local_frame(self.0)
+    }
+}
+
+/// The newest frame is taken away, and a local reference to what a handle names, none for NULL, goes to the frame below.
+#[derive(Clone, Copy)]
+pub struct PopLocalFrame(pub Handle);
+
+impl<S: Steps> EnvCall<S> for PopLocalFrame {
+    ghost use Rattle.jr_env.specs.Deeds.{pop_local_frame};
+
+    type Answer = Option<Handle>;
+
+    ghost deed = { λ c. pop_local_frame c.0.0 };
+
+    fn make(&self, env: &mut Env<S>) -> Result<Option<Handle>, Fault> {
+        env.pop_local_frame(self.0)
+    }
+}
+
+/// All local references of the thread are freed, and one frame is left.
+#[derive(Clone, Copy)]
+pub struct FreeLocals;
+
+impl<S: Steps> EnvCall<S> for FreeLocals {
+    ghost use Rattle.jr_env.specs.Deeds.{free_locals};
+
+    type Answer = ();
+
+    ghost deed = { λ _. free_locals };
+
+    fn make(&self, env: &mut Env<S>) -> Result<(), Fault> {
+        env.free_locals()
+    }
+}

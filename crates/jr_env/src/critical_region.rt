@@ -1,0 +1,195 @@
+//! A critical region of an env, as a value that borrows the env.
+ghost use Rattle.jr_critical.specs.Levels.{StandOver};
+
+use crate::env::Env;
+use jr_critical::Levels;
+use jr_model::Mode;
+use jr_steps::Steps;
+use jr_word::{Elem, Fault, Handle, Kind};
+
+/// A critical region: the elements of the arrays and strings at its levels are read and written in place, and no collection comes before its first level is given up. While it stands no other call on its env compiles, and it has to be released. (JNI Specification, chapter 4, "GetPrimitiveArrayCritical")
+pub struct Region<'e, S: Steps> {
+    env: &'e mut Env<S>,
+    levels: Levels,
+    ghost stand: { StandOver levels env.now.held },
+}
+
+impl<'e, S: Steps> Region<'e, S> {
+    ghost use Rattle.std.specs.Prelude.{◌≡◌, ◌<◌, ◌+◌, IfErr, IfOk, IfSome, Some, false, length};
+    ghost use Rattle.std.specs.Borrow.{sem};
+    ghost use Rattle.jr_model.specs.Objects.{nest_array, nest_string};
+    ghost use Rattle.jr_critical.specs.Levels.{objects_of, in_words, GivesUpAllOver, GivesUpLastOver, LeavesBefore, NestsOver, ReadsAt, TellsKind, TellsLength, WasAdded, WritesAt};
+    ghost use Rattle.jr_env.specs.Envs.{IsOutside};
+    ghost use Rattle.jr_env.specs.StandingRegions.{EndsUndisturbed, StandsOn};
+    ghost use Rattle.jr_env.specs.Criticals.{env_of, levels_of, held_of, frames_of, rests_in_left};
+
+    /// The region of an env whose levels stand.
+    #[inline(always)]
+    pub(crate) fn over(env: &'e mut Env<S>, levels: Levels) -> Self
+        requires { StandOver levels env.old.held }
+        ensures same_reference { (env_of result).ghost_name ≡ env.entry.ghost_name }
+        ensures env { (env_of result).now ≡ env.old }
+        ensures levels { levels_of result ≡ levels }
+    {
+        Region { env, levels }
+    }
+
+    /// Adds a level over an array whose elements are no objects, and answers its number. An array may stand at several levels. (JNI Specification, chapter 4, "GetPrimitiveArrayCritical")
+    ///
+    /// # Errors
+    ///
+    /// E2 where the handle is malformed or lies outside the room; E3 where it is a local one of another thread; E2 where its reference does not stand; E1 where it is to null; E5 where it is to a plain object or a string; E6 where it is to an array of objects; E17 where sixteen levels stand.
+    ///
+    /// The levels are as they were, and stand.
+    ///
+    /// # Operations
+    ///
+    /// At most 2: a look at the slot of a global or weak handle, and one at the array's header. It takes none at the gate.
+    pub fn nest_array(&mut self, array: Handle) -> Result<usize, Fault>
+        ensures same_reference { (env_of self.new).ghost_name ≡ (env_of self.old).ghost_name }
+        ensures call { NestsOver (held_of self.old) (held_of self.new) array.0 nest_array (levels_of self.old) (levels_of self.new) result }
+        ensures region { StandsOn (held_of self.old) (held_of self.new) (levels_of self.old) (levels_of self.new) }
+        ensures frames { frames_of self.new ≡ frames_of self.old }
+        ensures added { IfOk result (λ n. WasAdded (levels_of self.old) (levels_of self.new) n) }
+        ensures err { IfErr result (λ _. levels_of self.new ≡ levels_of self.old) }
+    {
+        self.env.nest_array_critical(&mut self.levels, array)
+    }
+
+    /// Adds a level over a string, and answers its number. A string may stand at several levels. (JNI Specification, chapter 4, "GetStringCritical")
+    ///
+    /// # Errors
+    ///
+    /// E2 where the handle is malformed or lies outside the room; E3 where it is a local one of another thread; E2 where its reference does not stand; E1 where it is to null; E4 where it is to no string; E17 where sixteen levels stand.
+    ///
+    /// The levels are as they were, and stand.
+    ///
+    /// # Operations
+    ///
+    /// At most 2: a look at the slot of a global or weak handle, and one at the string's header. It takes none at the gate.
+    pub fn nest_string(&mut self, string: Handle) -> Result<usize, Fault>
+        ensures same_reference { (env_of self.new).ghost_name ≡ (env_of self.old).ghost_name }
+        ensures call { NestsOver (held_of self.old) (held_of self.new) string.0 nest_string (levels_of self.old) (levels_of self.new) result }
+        ensures region { StandsOn (held_of self.old) (held_of self.new) (levels_of self.old) (levels_of self.new) }
+        ensures frames { frames_of self.new ≡ frames_of self.old }
+        ensures added { IfOk result (λ n. WasAdded (levels_of self.old) (levels_of self.new) n) }
+        ensures err { IfErr result (λ _. levels_of self.new ≡ levels_of self.old) }
+    {
+        self.env.nest_string_critical(&mut self.levels, string)
+    }
+
+    /// An element of a level's array, or a unit of its string as a char. The level has to be one that stands.
+    ///
+    /// # Errors
+    ///
+    /// E6 where its elements are of another kind; E7 where the index is not below the length.
+    ///
+    /// Nothing is read then, and the levels stand.
+    ///
+    /// # Operations
+    ///
+    /// One load, and none where it is refused.
+    pub fn get<E: Elem>(&mut self, level: usize, index: u32) -> Result<E, Fault>
+        requires { level < length (objects_of (levels_of self.old)) }
+        ensures same_reference { (env_of self.new).ghost_name ≡ (env_of self.old).ghost_name }
+        ensures call { ReadsAt (held_of self.old) (held_of self.new) (levels_of self.old) level E.KIND index (in_words E.word_of result) }
+        ensures region { StandsOn (held_of self.old) (held_of self.new) (levels_of self.old) (levels_of self.new) }
+        ensures frames { frames_of self.new ≡ frames_of self.old }
+        ensures levels { levels_of self.new ≡ levels_of self.old }
+    {
+        self.env.get_critical(&self.levels, level, index)
+    }
+
+    /// Writes an element of a level's array. The level has to be one that stands.
+    ///
+    /// # Errors
+    ///
+    /// E5 at a string; E6 where its elements are of another kind; E7 where the index is not below the length.
+    ///
+    /// Nothing is written then, and the levels stand.
+    ///
+    /// # Operations
+    ///
+    /// One store, and none where it is refused.
+    pub fn set<E: Elem>(&mut self, level: usize, index: u32, value: E) -> Result<(), Fault>
+        requires { level < length (objects_of (levels_of self.old)) }
+        ensures same_reference { (env_of self.new).ghost_name ≡ (env_of self.old).ghost_name }
+        ensures call { WritesAt (held_of self.old) (held_of self.new) (levels_of self.old) level E.KIND index (E.word_of value) result }
+        ensures region { StandsOn (held_of self.old) (held_of self.new) (levels_of self.old) (levels_of self.new) }
+        ensures frames { frames_of self.new ≡ frames_of self.old }
+        ensures levels { levels_of self.new ≡ levels_of self.old }
+    {
+        self.env.set_critical(&self.levels, level, index, value)
+    }
+
+    /// How many elements or units a level's array or string has. The level has to be one that stands.
+    pub fn length(&self, level: usize) -> u32
+        requires { level < length (objects_of (levels_of self.now)) }
+        ensures { TellsLength (levels_of self.now) level result }
+    {
+        self.levels.length(level)
+    }
+
+    /// The kind of a level's array or string. The level has to be one that stands.
+    pub fn kind(&self, level: usize) -> Kind
+        requires { level < length (objects_of (levels_of self.now)) }
+        ensures { TellsKind (levels_of self.now) level result }
+    {
+        self.levels.kind(level)
+    }
+
+    /// How many levels stand, at least one.
+    pub fn depth(&self) -> usize
+        ensures count { result ≡ length (objects_of (levels_of self.now)) }
+        ensures some { 0 < result }
+    {
+        self.levels.depth()
+    }
+
+    /// Whether the elements are a copy: never, in a region.
+    pub fn is_copy(&self) -> bool
+        ensures { result ≡ false }
+    {
+        false
+    }
+
+    /// Gives up the last level. With the first one the thread leaves the gate, and the env can be called again: none is left. Every mode does the same, since a region is no copy: none undoes a write, and none keeps the elements. (JNI Specification, chapter 4, "ReleasePrimitiveArrayCritical", "ReleaseStringCritical")
+    ///
+    /// # Operations
+    ///
+    /// One with the first level, the exit, and else none.
+    #[inline(always)]
+    pub fn release(self, mode: Mode) -> Option<Region<'e, S>>
+        ensures* rests { sem 𝓛 (rests_in_left S.row S.Steps self.entry result) }
+        ensures same_reference { IfSome result (λ r. (env_of r).ghost_name ≡ (env_of self.entry).ghost_name) }
+        ensures call { IfSome result (λ r. GivesUpLastOver (held_of self.entry) (held_of r) (levels_of self.entry) (Some (levels_of r))) }
+        ensures region { IfSome result (λ r. StandsOn (held_of self.entry) (held_of r) (levels_of self.entry) (levels_of r)) }
+        ensures frames { IfSome result (λ r. frames_of r ≡ frames_of self.entry) }
+        ensures levels { IfSome result (λ r. LeavesBefore (levels_of self.entry) (Some (levels_of r))) }
+        ensures fewer { IfSome result (λ r. length (objects_of (levels_of self.entry)) ≡ length (objects_of (levels_of r)) + 1) }
+        ensures some { IfSome result (λ r. 0 < length (objects_of (levels_of r))) }
+    {
+        let Region { env, levels } = self;
+        match env.close_critical(levels, mode) {
+            Some(levels) => Some(Region { env, levels }),
+            None => None,
+        }
+    }
+
+    /// Gives up all levels at once, whatever they are, and hands the env back: the thread has left the gate. It needs no mode, since a region is no copy.
+    ///
+    /// # Operations
+    ///
+    /// One, the exit.
+    pub fn release_all(self) -> &'e mut Env<S>
+        ensures same_reference { result.ghost_name ≡ (env_of self.entry).ghost_name }
+        ensures call { GivesUpAllOver (held_of self.entry) result.now.held (levels_of self.entry) }
+        ensures undisturbed { EndsUndisturbed (held_of self.entry) result.now.held (levels_of self.entry) }
+        ensures frames { result.now.held.frames ≡ frames_of self.entry }
+        ensures outside { IsOutside result.now }
+    {
+        let Region { env, levels } = self;
+        env.close_all_critical(levels);
+        env
+    }
+}

@@ -1,0 +1,90 @@
+//! Calls that are made again, and those that are made again behind a collection.
+
+ghost use Rattle.std.specs.Prelude.{◌≡◌, Result};
+ghost use Rattle.jr_env.specs.Tries.{is_tried_again, lacks_room};
+
+use crate::env::Env;
+use crate::env_call::EnvCall;
+use jr_steps::Steps;
+use jr_weak::Marker;
+use jr_word::Fault;
+
+/// Whether a call with this answer is worth making again at once: E12, E13 and E23.
+pub fn is_made_again<A>(answer: &Result<A, Fault>) -> bool
+    ensures { result ≡ is_tried_again answer.now }
+{
+    matches!(
+        answer,
+        Err(Fault::Raced(..) | Fault::Barred | Fault::Moved(..))
+    )
+}
+
+/// Whether a call with this answer is worth making again behind a collection: E10 and E11.
+pub fn is_short_of_room<A>(answer: &Result<A, Fault>) -> bool
+    ensures { result ≡ lacks_room answer.now }
+{
+    matches!(answer, Err(Fault::SpaceFull(_) | Fault::ObjectsFull))
+}
+
+impl<S: Steps> Env<S> {
+    ghost use Rattle.std.specs.Prelude.{◌≡◌};
+    ghost use Rattle.jr_weak.specs.Markers.{room_of};
+    ghost use Rattle.jr_env.specs.Collections.{FitsRoom};
+    ghost use Rattle.jr_env.specs.Envs.{Does, IsOutside};
+    ghost use Rattle.jr_env.specs.Tries.{made_again, made_collecting};
+
+    /// Makes a call, and again as long as it is refused by E12, E13 or E23, but no more than so many times more. The last answer is the answer. Between two tries it does nothing, and it never waits.
+    ///
+    /// # Errors
+    ///
+    /// Those of the call at its last try.
+    ///
+    /// What stands then is what the call leaves, and the thread stands outside.
+    ///
+    /// # Operations
+    ///
+    /// Those of each try.
+    pub fn retry<C: EnvCall<S>>(&mut self, call: &C, more: u64) -> Result<C::Answer, Fault>
+        ensures { Does self.old self.new (made_again more (C.deed call.now)) result }
+    {
+        for _ in 0..more {
+            let answer = call.make(self);
+            if !is_made_again(&answer) {
+                return answer;
+            }
+        }
+        call.make(self)
+    }
+
+    /// Makes a call as `retry` does, and where it is refused for want of words or of object numbers (E10, E11), collects once, and makes it as `retry` does once more.
+    ///
+    /// # Errors
+    ///
+    /// That of `collect` where the collection was kept out; else those of the call at its last try.
+    ///
+    /// What stands then is what the last of these leaves, and the thread stands outside.
+    ///
+    /// # Operations
+    ///
+    /// Those of each try, and of the collection.
+    pub fn retry_collecting<C: EnvCall<S>>(
+        &mut self,
+        marker: &mut Marker,
+        call: &C,
+        more: u64,
+    ) -> Result<C::Answer, Fault>
+        requires outside { IsOutside self.old }
+        requires room { FitsRoom marker.old self.old }
+        ensures call { Does self.old self.new (made_collecting more (C.deed call.now)) result }
+        ensures room { room_of marker.new ≡ room_of marker.old }
+    {
+        let answer = self.retry(call, more);
+        if !is_short_of_room(&answer) {
+            return answer;
+        }
+        match Env::collect(self, marker) {
+            Ok(_) => self.retry(call, more),
+            Err(fault) => Err(fault),
+        }
+    }
+}

@@ -1,0 +1,52 @@
+//! Calls that are made of others: a frame round a closure, strong references made of weak ones, and a region that ends with all its levels.
+
+use crate::envs::{has_type, made};
+use crate::plain::{Case, try_plain};
+use jr_env::{Env, Scoped, with_local_frame};
+use jr_steps::Steps;
+use jr_word::{Config, Handle};
+use std::process::Abort;
+use std::test::Fail;
+
+/// The sizes of the room.
+const SIZES: Config = Config {
+    threads: 1,
+    slots: 4,
+    objects: 4,
+    words: 16,
+    locals: 16,
+};
+
+/// What was made in a frame has no reference behind it.
+fn leaves_its_frame<S: Steps>(rt: &impl Abort, env: &mut Env<S>) -> Result<(), Fail> {
+    let Scoped { answer, popped } = with_local_frame(env, 4, |env| env.new_array::<i32>(2))?;
+    assert_eq!(rt; popped, Ok(None));
+    has_type(rt, env, answer?, 0)
+}
+
+/// A weak reference becomes a local and a global one, and a region over the array ends with both its levels.
+fn becomes_strong<S: Steps>(rt: &impl Abort, env: &mut Env<S>, array: Handle) -> Result<(), Fail> {
+    let weak = made(env.new_weak_global_ref(array))?;
+    let local = made(env.upgrade_local(weak))?;
+    let global = made(env.upgrade_global(weak))?;
+    has_type(rt, env, local, 1)?;
+    has_type(rt, env, global, 2)?;
+    let mut region = env.get_array_critical(local)?;
+    let nested = region.nest_array(global);
+    region.release_all();
+    assert_eq!(rt; nested, Ok(1));
+    assert_eq!(rt; env.get_array_length(local), Ok(2));
+    Ok(())
+}
+
+/// Tries these calls.
+pub(crate) fn are_made<S: Steps>(rt: &impl Abort, env: &mut Env<S>) -> Result<(), Fail> {
+    leaves_its_frame(rt, env)?;
+    let array = env.new_array::<i32>(2)?;
+    becomes_strong(rt, env, array)
+}
+
+#[test]
+fn calls_are_made_of_others(rt: HostRuntime) -> Result<(), Fail> {
+    try_plain(&rt, rt.alloc(), SIZES, Case::OfOthers)
+}

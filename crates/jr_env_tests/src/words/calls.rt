@@ -1,0 +1,345 @@
+//! Each call that takes a reference, and with what it is refused.
+
+use jr_elements::Elements;
+use jr_env::Env;
+use jr_model::Mode;
+use jr_steps::Steps;
+use jr_word::{Fault, Handle, RefKind};
+use std::alloc::Global;
+use std::process::Abort;
+
+/// A call that takes a reference.
+#[derive(Clone, Copy)]
+pub(crate) enum Call {
+    Delete(RefKind),
+    Of(OfReference),
+    Object(OfObject),
+    Copy(OfCopy),
+    Critical(OfRegion),
+}
+
+/// The calls that ask no more of a reference than that it stands, or is NULL.
+#[derive(Clone, Copy)]
+pub(crate) enum OfReference {
+    NewGlobal,
+    NewWeakGlobal,
+    NewLocal,
+    /// It takes the other word too.
+    IsSame,
+    PopFrame,
+    /// An array without elements.
+    NewArray,
+}
+
+/// The calls that look at an object.
+#[derive(Clone, Copy)]
+pub(crate) enum OfObject {
+    Kind,
+    ArrayLength,
+    StringLength,
+    /// The element at index 0.
+    GetElement,
+    /// The element at index 1, which is to be what the other word names.
+    SetElement,
+    /// Of two ints.
+    GetInts,
+    /// Of two ints.
+    SetInts,
+}
+
+/// The calls that copy all elements of an object, out or in.
+#[derive(Clone, Copy)]
+pub(crate) enum OfCopy {
+    Ints,
+    Chars,
+    /// Of two ints that were copied in another room.
+    Release(Mode),
+}
+
+/// The calls that open a region, or add a level to one.
+#[derive(Clone, Copy)]
+pub(crate) enum OfRegion {
+    Array,
+    String,
+    ArrayByLevels,
+    StringByLevels,
+    NestArray,
+    NestString,
+    NestArrayByLevels,
+    NestStringByLevels,
+}
+
+/// All that delete.
+pub(crate) const DELETIONS: [Call; 3] = [
+    Call::Delete(RefKind::Global),
+    Call::Delete(RefKind::Weak),
+    Call::Delete(RefKind::Local),
+];
+
+/// All that open no region in a region, and delete nothing. Of those the last one alone makes something of NULL.
+pub(crate) const CALLS: [Call; 20] = [
+    Call::Object(OfObject::Kind),
+    Call::Object(OfObject::ArrayLength),
+    Call::Object(OfObject::StringLength),
+    Call::Object(OfObject::GetElement),
+    Call::Object(OfObject::SetElement),
+    Call::Object(OfObject::GetInts),
+    Call::Object(OfObject::SetInts),
+    Call::Copy(OfCopy::Ints),
+    Call::Copy(OfCopy::Chars),
+    Call::Copy(OfCopy::Release(Mode::Commit)),
+    Call::Copy(OfCopy::Release(Mode::Copy)),
+    Call::Critical(OfRegion::Array),
+    Call::Critical(OfRegion::String),
+    Call::Critical(OfRegion::ArrayByLevels),
+    Call::Critical(OfRegion::StringByLevels),
+    Call::Of(OfReference::NewGlobal),
+    Call::Of(OfReference::NewWeakGlobal),
+    Call::Of(OfReference::NewLocal),
+    Call::Of(OfReference::PopFrame),
+    Call::Of(OfReference::NewArray),
+];
+
+/// Those that add a level to a region.
+pub(crate) const NESTING: [Call; 4] = [
+    Call::Critical(OfRegion::NestArray),
+    Call::Critical(OfRegion::NestString),
+    Call::Critical(OfRegion::NestArrayByLevels),
+    Call::Critical(OfRegion::NestStringByLevels),
+];
+
+/// Those that take a second reference.
+pub(crate) const OF_TWO: [Call; 2] = [
+    Call::Of(OfReference::IsSame),
+    Call::Object(OfObject::SetElement),
+];
+
+/// What calls are made with beside their words.
+#[derive(Drop)]
+pub(crate) struct Given<U: Steps> {
+    /// An array, by which a region is opened.
+    pub(crate) base: Handle,
+    /// The env of another room, with an array of two ints.
+    pub(crate) other: Env<U>,
+    pub(crate) array: Handle,
+    /// Its two ints, copied there.
+    pub(crate) ints: Option<Elements<i32>>,
+}
+
+/// With what a call of these words is refused, if it is. What it makes or opens is ended at once, but for an array that it makes.
+pub(crate) fn refused_by<S: Steps, U: Steps + Drop>(
+    rt: &impl Abort,
+    alloc: Global,
+    env: &mut Env<S>,
+    given: &mut Given<U>,
+    call: Call,
+    words: [Handle; 2],
+) -> Option<Fault> {
+    let [word, other] = words;
+    match call {
+        Call::Delete(kind) => deletion_refused(env, kind, word),
+        Call::Of(call) => reference_refused(env, call, word, other),
+        Call::Object(call) => object_refused(env, call, word, other),
+        Call::Copy(OfCopy::Ints) => env.get_array_elements::<i32>(alloc, word).err(),
+        Call::Copy(OfCopy::Chars) => env.get_string_chars(alloc, word).err(),
+        Call::Copy(OfCopy::Release(mode)) => release_refused(alloc, env, given, word, mode),
+        Call::Critical(call) => region_refused(rt, env, call, given.base, word),
+    }
+}
+
+fn deletion_refused<S: Steps>(env: &mut Env<S>, kind: RefKind, word: Handle) -> Option<Fault> {
+    let answer = match kind {
+        RefKind::Global => env.delete_global_ref(word),
+        RefKind::Weak => env.delete_weak_global_ref(word),
+        RefKind::Local => env.delete_local_ref(word),
+    };
+    answer.err()
+}
+
+fn reference_refused<S: Steps>(
+    env: &mut Env<S>,
+    call: OfReference,
+    word: Handle,
+    other: Handle,
+) -> Option<Fault> {
+    match call {
+        OfReference::NewGlobal => env.new_global_ref(word).err(),
+        OfReference::NewWeakGlobal => env.new_weak_global_ref(word).err(),
+        OfReference::NewLocal => env.new_local_ref(word).err(),
+        OfReference::IsSame => env.is_same_object(word, other).err(),
+        OfReference::PopFrame => pop_refused(env, word),
+        OfReference::NewArray => env.new_object_array(0, word).err(),
+    }
+}
+
+/// A frame that was popped is pushed again.
+fn pop_refused<S: Steps>(env: &mut Env<S>, word: Handle) -> Option<Fault> {
+    match env.pop_local_frame(word) {
+        Ok(_) => env.push_local_frame(0).err(),
+        Err(fault) => Some(fault),
+    }
+}
+
+fn object_refused<S: Steps>(
+    env: &mut Env<S>,
+    call: OfObject,
+    word: Handle,
+    other: Handle,
+) -> Option<Fault> {
+    match call {
+        OfObject::Kind => env.kind_of(word).err(),
+        OfObject::ArrayLength => env.get_array_length(word).err(),
+        OfObject::StringLength => env.get_string_length(word).err(),
+        OfObject::GetElement => env.get_object_array_element(word, 0).err(),
+        OfObject::SetElement => env.set_object_array_element(word, 1, other).err(),
+        OfObject::GetInts => env.get_array_region(word, 0, &mut [0i32; 2]).err(),
+        OfObject::SetInts => env.set_array_region(word, 0, &[7i32; 2]).err(),
+    }
+}
+
+/// What a release leaves of the elements is kept. Where nothing is left they are copied anew.
+fn release_refused<S: Steps, U: Steps + Drop>(
+    alloc: Global,
+    env: &mut Env<S>,
+    given: &mut Given<U>,
+    word: Handle,
+    mode: Mode,
+) -> Option<Fault> {
+    if given.ints.is_none() {
+        given.ints = given.other.get_array_elements(alloc, given.array).ok();
+    }
+    let Some(ints) = given.ints.take() else {
+        return Some(Fault::Memory);
+    };
+    match env.release_array_elements(word, ints, mode) {
+        Ok(left) => {
+            given.ints = left;
+            None
+        }
+        Err((left, fault)) => {
+            given.ints = Some(left);
+            Some(fault)
+        }
+    }
+}
+
+fn region_refused<S: Steps>(
+    rt: &impl Abort,
+    env: &mut Env<S>,
+    call: OfRegion,
+    base: Handle,
+    word: Handle,
+) -> Option<Fault> {
+    match call {
+        OfRegion::Array => array_refused(rt, env, word),
+        OfRegion::String => string_refused(rt, env, word),
+        OfRegion::NestArray | OfRegion::NestString => nesting_refused(rt, env, call, base, word),
+        _ => levels_refused(env, call, base, word),
+    }
+}
+
+/// With what a region over an array is refused; one that is opened is ended.
+fn array_refused<S: Steps>(rt: &impl Abort, env: &mut Env<S>, word: Handle) -> Option<Fault> {
+    match env.get_array_critical(word) {
+        Ok(region) => {
+            match region.release(Mode::Copy) {
+                None => {}
+                Some(_) => panic!(rt; "a level is left"),
+            }
+            None
+        }
+        Err(fault) => Some(fault),
+    }
+}
+
+/// The same of a region over a string.
+fn string_refused<S: Steps>(rt: &impl Abort, env: &mut Env<S>, word: Handle) -> Option<Fault> {
+    match env.get_string_critical(word) {
+        Ok(region) => {
+            match region.release(Mode::Copy) {
+                None => {}
+                Some(_) => panic!(rt; "a level is left"),
+            }
+            None
+        }
+        Err(fault) => Some(fault),
+    }
+}
+
+/// With what a second level is refused, or else the region that it is added to. The region is ended.
+fn nesting_refused<S: Steps>(
+    rt: &impl Abort,
+    env: &mut Env<S>,
+    call: OfRegion,
+    base: Handle,
+    word: Handle,
+) -> Option<Fault> {
+    match env.get_array_critical(base) {
+        Ok(mut region) => {
+            let refused = if let OfRegion::NestArray = call {
+                region.nest_array(word).err()
+            } else {
+                region.nest_string(word).err()
+            };
+            if let Some(left) = region.release(Mode::Copy) {
+                match left.release(Mode::Copy) {
+                    None => {}
+                    Some(_) => panic!(rt; "a level is left"),
+                }
+            }
+            refused
+        }
+        Err(fault) => Some(fault),
+    }
+}
+
+/// The same of a region by its levels: of the first level, or of a second one over an array.
+fn levels_refused<S: Steps>(
+    env: &mut Env<S>,
+    call: OfRegion,
+    base: Handle,
+    word: Handle,
+) -> Option<Fault> {
+    match call {
+        OfRegion::ArrayByLevels => match env.open_array_critical(word) {
+            Ok(levels) => {
+                env.close_all_critical(levels);
+                None
+            }
+            Err(fault) => Some(fault),
+        },
+        OfRegion::StringByLevels => match env.open_string_critical(word) {
+            Ok(levels) => {
+                env.close_all_critical(levels);
+                None
+            }
+            Err(fault) => Some(fault),
+        },
+        OfRegion::NestArrayByLevels => array_level_refused(env, base, word),
+        _ => string_level_refused(env, base, word),
+    }
+}
+
+/// With what a level over an array is refused, or else the region over an array that it is added to. The region is ended.
+fn array_level_refused<S: Steps>(env: &mut Env<S>, base: Handle, word: Handle) -> Option<Fault> {
+    match env.open_array_critical(base) {
+        Ok(mut levels) => {
+            let answer = env.nest_array_critical(&mut levels, word);
+            env.close_all_critical(levels);
+            answer.err()
+        }
+        Err(fault) => Some(fault),
+    }
+}
+
+/// The same of a level over a string.
+fn string_level_refused<S: Steps>(env: &mut Env<S>, base: Handle, word: Handle) -> Option<Fault> {
+    match env.open_array_critical(base) {
+        Ok(mut levels) => {
+            let answer = env.nest_string_critical(&mut levels, word);
+            env.close_all_critical(levels);
+            answer.err()
+        }
+        Err(fault) => Some(fault),
+    }
+}

@@ -1,0 +1,417 @@
+//! Words, elements, refusals and sizes, with values worked out by hand from the layouts. Those of handles `.ci/run-program` has, by `jrefs word` and `jrefs widen`.
+ghost use Rattle.std.specs.Prelude.{◌≡◌, Some};
+
+use jr_word::{
+    Config, Elem, Fault, GateParts, GateState, GateWord, Handle, Header, HeaderParts, Kind,
+    LocalParts, LocalWord, SlotParts, SlotWord, TopParts, TopWord,
+};
+use std::fmt::Debug;
+use std::process::Abort;
+use std::test::Fail;
+
+/// Asserts what a word is read as.
+fn reads<P: Copy + PartialEq + Debug>(
+    rt: &impl Abort,
+    word: u64,
+    found: Option<P>,
+    wanted: Option<P>,
+) {
+    assert_eq!(rt; found, wanted, "at {word:x}");
+}
+
+/// Asserts which word is written.
+fn writes(rt: &impl Abort, written: u64, wanted: u64) {
+    assert_eq!(rt; written, wanted);
+}
+
+/// Asserts what a word is read as.
+fn reads_slot(rt: &impl Abort, word: u64, wanted: Option<SlotParts>) {
+    reads(rt, word, SlotWord::parts(word), wanted);
+}
+
+#[test]
+fn slots(rt: HostRuntime) {
+    let global = SlotParts::Global {
+        serial: 5,
+        object: 3,
+    };
+    writes(&rt, SlotWord::pack(global).0, 0xc_0000_0016);
+    reads_slot(&rt, 0xc_0000_0016, Some(global));
+    reads_slot(&rt, 0, Some(SlotParts::Free { serial: 0 }));
+    let retired = SlotParts::Retired { serial: 2 };
+    writes(&rt, SlotWord::pack(retired).0, 9);
+    reads_slot(&rt, 9, Some(retired));
+    let cleared = SlotParts::Weak {
+        serial: u32::MAX,
+        object: None,
+    };
+    writes(&rt, SlotWord::pack(cleared).0, 0x3_ffff_ffff);
+    reads_slot(&rt, 0x3_ffff_ffff, Some(cleared));
+    reads_slot(&rt, u64::MAX, None);
+}
+
+#[test]
+fn slots_of_one_bit(rt: HostRuntime) {
+    for k in 0..64_u32 {
+        let alone = match k {
+            0 => Some(SlotParts::Retired { serial: 0 }),
+            2..=33 => Some(SlotParts::Free {
+                serial: 1 << (k - 2),
+            }),
+            _ => None,
+        };
+        reads_slot(&rt, 1 << k, alone);
+    }
+    for k in 34..50_u32 {
+        let object = 1 << (k - 34);
+        let global = SlotParts::Global { serial: 0, object };
+        let weak = SlotParts::Weak {
+            serial: 0,
+            object: Some(object),
+        };
+        reads_slot(&rt, 1 | 1 << k, None);
+        reads_slot(&rt, 2 | 1 << k, Some(global));
+        reads_slot(&rt, 3 | 1 << k, Some(weak));
+    }
+}
+
+/// Asserts what a word is read as.
+fn reads_gate(rt: &impl Abort, word: u64, wanted: Option<GateParts>) {
+    reads(rt, word, GateWord::parts(word), wanted);
+}
+
+fn gate(count: u16, state: GateState) -> Option<GateParts> {
+    Some(GateParts { count, state })
+}
+
+#[test]
+fn gates(rt: HostRuntime) {
+    let barred = GateParts {
+        count: 1,
+        state: GateState::Shut,
+    };
+    writes(&rt, GateWord::pack(barred).0, 65_537);
+    let announced = GateParts {
+        count: 2,
+        state: GateState::Announced,
+    };
+    writes(&rt, GateWord::pack(announced).0, 131_074);
+    assert_eq!(rt; GateWord::SHUT, 65_536);
+    assert_eq!(rt; GateWord::ANNOUNCED, 131_072);
+    reads_gate(&rt, 0, gate(0, GateState::Open));
+    reads_gate(&rt, 65_537, gate(1, GateState::Shut));
+    reads_gate(&rt, 0x1_ffff, gate(65_535, GateState::Shut));
+    reads_gate(&rt, 131_073, gate(1, GateState::Announced));
+    reads_gate(&rt, 0x2_ffff, gate(65_535, GateState::Announced));
+    reads_gate(&rt, 196_608, None);
+    reads_gate(&rt, 196_609, None);
+    for k in 0..64_u32 {
+        let alone = match k {
+            0..=15 => gate(1 << k, GateState::Open),
+            16 => gate(0, GateState::Shut),
+            17 => gate(0, GateState::Announced),
+            _ => None,
+        };
+        reads_gate(&rt, 1 << k, alone);
+    }
+}
+
+/// Asserts what a word is read as.
+fn reads_top(rt: &impl Abort, word: u64, wanted: Option<TopParts>) {
+    reads(rt, word, TopWord::parts(word), wanted);
+}
+
+#[test]
+fn tops(rt: HostRuntime) {
+    let full = TopParts { used: 0xff_ffff };
+    writes(&rt, TopWord::pack(full).0, 0xff_ffff);
+    reads_top(&rt, 0, Some(TopParts { used: 0 }));
+    reads_top(&rt, 0xff_ffff, Some(full));
+    for k in 0..64_u32 {
+        let alone = match k {
+            0..=23 => Some(TopParts { used: 1 << k }),
+            _ => None,
+        };
+        reads_top(&rt, 1 << k, alone);
+    }
+}
+
+/// Asserts what a word is read as.
+fn reads_header(rt: &impl Abort, word: u64, wanted: Option<HeaderParts>) {
+    reads(rt, word, Header::parts(word), wanted);
+}
+
+fn header(kind: Kind, length: u32, place: u32) -> Option<HeaderParts> {
+    Some(HeaderParts {
+        kind,
+        length,
+        place,
+    })
+}
+
+#[test]
+fn headers(rt: HostRuntime) {
+    let ints = HeaderParts {
+        kind: Kind::Int,
+        length: 4,
+        place: 5,
+    };
+    writes(&rt, Header::pack(ints).0, 1_342_177_350);
+    reads_header(&rt, 1_342_177_350, Some(ints));
+    let most = header(Kind::Text, 0xff_ffff, 0xff_ffff);
+    reads_header(&rt, 0xf_ffff_ffff_fff9, most);
+    for word in [0, 10, 15, 17, 0x1000_0001, 0x1000_0002, u64::MAX] {
+        reads_header(&rt, word, None);
+    }
+    let kinds = [
+        Kind::Plain,
+        Kind::Boolean,
+        Kind::Byte,
+        Kind::Char,
+        Kind::Short,
+        Kind::Int,
+        Kind::Long,
+        Kind::Objects,
+        Kind::Text,
+    ];
+    for (i, kind) in kinds.iter().enumerate() {
+        reads_header(&rt, i as u64 + 1, header(*kind, 0, 0));
+    }
+}
+
+#[test]
+fn headers_of_one_bit(rt: HostRuntime) {
+    for k in 0..64_u32 {
+        let alone = match k {
+            0 => header(Kind::Plain, 0, 0),
+            1 => header(Kind::Boolean, 0, 0),
+            2 => header(Kind::Char, 0, 0),
+            3 => header(Kind::Objects, 0, 0),
+            _ => None,
+        };
+        reads_header(&rt, 1 << k, alone);
+        let text = match k {
+            0 | 3 | 4 => header(Kind::Text, 1, 0),
+            5..=27 => header(Kind::Text, 1 | 1 << (k - 4), 0),
+            28..=51 => header(Kind::Text, 1, 1 << (k - 28)),
+            _ => None,
+        };
+        reads_header(&rt, 0x19 | 1 << k, text);
+    }
+}
+
+/// Asserts what a word is read as.
+fn reads_local(rt: &impl Abort, word: u64, wanted: Option<LocalParts>) {
+    reads(rt, word, LocalWord::parts(word), wanted);
+}
+
+#[test]
+fn local_places(rt: HostRuntime) {
+    writes(&rt, LocalWord::pack(LocalParts::Free).0, 0);
+    writes(&rt, LocalWord::pack(LocalParts::Object(65_535)).0, 65_535);
+    reads_local(&rt, 0, Some(LocalParts::Free));
+    for k in 0..64_u32 {
+        let alone = match k {
+            0..=15 => Some(LocalParts::Object(1 << k)),
+            _ => None,
+        };
+        reads_local(&rt, 1 << k, alone);
+    }
+}
+
+/// The word of an element, and what it is read as.
+fn word_and_back<E: Elem>(value: E) -> (u64, Option<E>)
+    ensures { result.1 ≡ Some value }
+{
+    let word = value.to_word();
+    (word, E::from_word(word))
+}
+
+/// Asserts the word of an element. That it is read as the element again is proved.
+fn is_written<E: Elem>(rt: &impl Abort, value: E, word: u64) {
+    let (written, back) = word_and_back(value);
+    assert_eq!(rt; written, word);
+    assert!(rt; back.is_some());
+}
+
+#[test]
+fn elements(rt: HostRuntime) {
+    is_written(&rt, false, 0);
+    is_written(&rt, true, 1);
+    is_written(&rt, -128_i8, 128);
+    is_written(&rt, -1_i8, 255);
+    is_written(&rt, 127_i8, 127);
+    is_written(&rt, 0_u16, 0);
+    is_written(&rt, 65_535_u16, 65_535);
+    is_written(&rt, i16::MIN, 32_768);
+    is_written(&rt, i16::MAX, 32_767);
+    is_written(&rt, i32::MIN, 2_147_483_648);
+    is_written(&rt, i32::MAX, 2_147_483_647);
+    is_written(&rt, i64::MIN, 0x8000_0000_0000_0000);
+    is_written(&rt, i64::MAX, 0x7fff_ffff_ffff_ffff);
+    is_written(&rt, -1_i64, u64::MAX);
+}
+
+fn is_kind(rt: &impl Abort, kind: Kind, wanted: Kind) {
+    assert_eq!(rt; kind, wanted);
+}
+
+#[test]
+fn words_past_the_range(rt: HostRuntime) {
+    for past in [0, 1 << 32, u64::MAX - 0xffff_ffff] {
+        assert!(rt; bool::from_word(past | 2).is_none());
+        assert!(rt; i8::from_word(past | 0x100).is_none());
+        assert!(rt; u16::from_word(past | 0x1_0000).is_none());
+        assert!(rt; i16::from_word(past | 0x1_0000).is_none());
+    }
+    assert!(rt; i32::from_word(1 << 32).is_none());
+    assert!(rt; i32::from_word(u64::MAX).is_none());
+    is_kind(&rt, bool::KIND, Kind::Boolean);
+    is_kind(&rt, i8::KIND, Kind::Byte);
+    is_kind(&rt, u16::KIND, Kind::Char);
+    is_kind(&rt, i16::KIND, Kind::Short);
+    is_kind(&rt, i32::KIND, Kind::Int);
+    is_kind(&rt, i64::KIND, Kind::Long);
+}
+
+#[test]
+fn answers_as_handles(rt: HostRuntime) {
+    assert_eq!(rt; Handle::or_null(None), Handle::NULL);
+    assert_eq!(rt; Handle::or_null(Some(Handle(10))), Handle(10));
+}
+
+/// Each refusal, in the order of the numbers, and what it prints.
+const REFUSALS: [(Fault, &str); 23] = [
+    (
+        Fault::Null,
+        "E1: NULL or a cleared weak reference, where an object is needed",
+    ),
+    (Fault::Stale, "E2: no reference of this word stands"),
+    (Fault::Foreign, "E3: a local reference of another thread"),
+    (
+        Fault::WrongKind,
+        "E4: a reference of another kind, or an object that is no string",
+    ),
+    (
+        Fault::NotArray,
+        "E5: no array, where an array is needed, or a write to a string",
+    ),
+    (
+        Fault::WrongElement,
+        "E6: an array of another element kind, or of objects in a critical call",
+    ),
+    (
+        Fault::Range,
+        "E7: an index or a part outside of the array, string or copy",
+    ),
+    (
+        Fault::RowFull,
+        "E8: each slot was occupied when the search came to it, or a moment later",
+    ),
+    (
+        Fault::LocalsFull,
+        "E9: no local place is left, or fewer than asked for, or 256 frames are open",
+    ),
+    (
+        Fault::SpaceFull(7),
+        "E10: the request doesn't fit beside the words in use: 7",
+    ),
+    (Fault::ObjectsFull, "E11: every object number is present"),
+    (
+        Fault::Raced(7, 8),
+        "E12: another thread reserved words meanwhile: 7 were in use, and then 8",
+    ),
+    (
+        Fault::Barred,
+        "E13: a thread collects, or has announced that it will",
+    ),
+    (
+        Fault::Busy(7),
+        "E14: so many threads are inside, knocking, announcing or collecting: 7",
+    ),
+    (Fault::NoFrame, "E15: the base frame can't be popped"),
+    (
+        Fault::Memory,
+        "E16: memory was refused, or a thread could not be started",
+    ),
+    (
+        Fault::Size,
+        "E17: sizes outside of the limits, or a seventeenth level",
+    ),
+    (
+        Fault::Value,
+        "E18: a word that is none of the array's element kind",
+    ),
+    (
+        Fault::InCritical,
+        "E19: a command that a critical region forbids, or that needs one",
+    ),
+    (Fault::Turns, "E20: the turns ran out"),
+    (Fault::NotFresh, "E21: the pass had an env already"),
+    (
+        Fault::LeftInside(7),
+        "E22: so many threads were inside, knocking, announcing or collecting at the close: 7",
+    ),
+    (
+        Fault::Moved(7, 8),
+        "E23: a thread went in or out before the announcement: 7 were inside or knocking, and then 8",
+    ),
+];
+
+#[test]
+fn faults(rt: HostRuntime) -> Result<(), Fail> {
+    for (i, (fault, text)) in REFUSALS.iter().enumerate() {
+        let number = i + 1;
+        let shown = format!(in rt.alloc(); "{fault}")?;
+        assert_eq!(rt; shown.as_str(), *text);
+        assert_eq!(rt; usize::from(fault.number()), number);
+        let status = if number == 9 || number == 16 {
+            Some(-4)
+        } else {
+            None
+        };
+        assert_eq!(rt; fault.jni_code(), status, "at {shown}");
+    }
+    Ok(())
+}
+
+fn config(sizes: [u32; 5]) -> Config {
+    let [threads, slots, objects, words, locals] = sizes;
+    Config {
+        threads,
+        slots,
+        objects,
+        words,
+        locals,
+    }
+}
+
+#[test]
+fn limits(rt: HostRuntime) {
+    let least = [1, 1, 1, 0, 16];
+    let greatest = [64, 65_536, 65_535, 1_048_576, 4_096];
+    assert!(rt; config(least).in_limits());
+    assert!(rt; config(greatest).in_limits());
+    for i in 0..5 {
+        let mut above = greatest;
+        above[i] += 1;
+        assert!(rt; !config(above).in_limits(), "above at {i}");
+        let mut below = least;
+        below[i] = below[i].saturating_sub(1);
+        assert_eq!(rt; config(below).in_limits(), i == 3, "below at {i}");
+    }
+}
+
+#[test]
+fn sizes_of_rows(rt: HostRuntime) {
+    let rows = [
+        ([1, 4, 8, 9, 16], 39),
+        ([1, 1, 1, 0, 16], 20),
+        ([64, 65_536, 65_535, 1_048_576, 4_096], 1_441_793),
+    ];
+    for (sizes, words) in rows {
+        let config = config(sizes);
+        assert!(rt; config.in_limits());
+        assert_eq!(rt; config.row_words(), words);
+    }
+}
