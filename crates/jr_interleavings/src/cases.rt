@@ -1,0 +1,220 @@
+//! The cases. Each slot and each local place gives two handles.
+
+use crate::case::Name::{Own, Ready};
+use crate::case::{Call, Case};
+
+/// A global reference to an object of the first thread: the references made ready are 0, the local one, and 1.
+const SHARED: &[Call] = &[Call::NewPlain, Call::NewGlobal(Ready(0))];
+
+/// A weak reference to an object that nothing reaches: 1.
+const LOST: &[Call] = &[
+    Call::NewPlain,
+    Call::NewWeak(Ready(0)),
+    Call::DeleteLocal(Ready(0)),
+];
+
+/// A global reference to an array whose one element is 7, behind an array that nothing reaches: 2.
+const BEHIND: &[Call] = &[
+    Call::NewArray(1),
+    Call::NewArray(1),
+    Call::NewGlobal(Ready(1)),
+    Call::Write(Ready(1), 7),
+    Call::DeleteLocal(Ready(0)),
+    Call::DeleteLocal(Ready(1)),
+];
+
+/// Of one reference.
+const LOOKS: &[Call] = &[Call::TypeOf(Ready(1)), Call::TypeOf(Ready(1))];
+
+/// All of them.
+pub(crate) const CASES: [Case; 19] = [
+    Case {
+        name: "two create in a row of one slot",
+        slots: 1,
+        objects: 2,
+        ready: &[&[Call::NewPlain], &[Call::NewPlain]],
+        calls: &[&[Call::NewGlobal(Ready(0))], &[Call::NewGlobal(Ready(1))]],
+    },
+    Case {
+        name: "two create in the one slot, and one deletes what stands there",
+        slots: 1,
+        objects: 1,
+        ready: &[SHARED, &[], &[]],
+        calls: &[
+            &[Call::NewGlobal(Ready(0))],
+            &[Call::NewGlobal(Ready(1))],
+            &[Call::DeleteGlobal(Ready(1))],
+        ],
+    },
+    Case {
+        name: "two create and delete in a row of one slot, which gives two handles",
+        slots: 1,
+        objects: 2,
+        ready: &[&[Call::NewPlain], &[Call::NewPlain]],
+        calls: &[
+            &[
+                Call::NewGlobal(Ready(0)),
+                Call::DeleteGlobal(Own),
+                Call::NewGlobal(Ready(0)),
+            ],
+            &[Call::NewGlobal(Ready(1)), Call::DeleteGlobal(Own)],
+        ],
+    },
+    Case {
+        name: "two delete one reference, and look at it",
+        slots: 1,
+        objects: 1,
+        ready: &[SHARED, &[]],
+        calls: &[
+            &[Call::DeleteGlobal(Ready(1)), Call::TypeOf(Ready(1))],
+            &[Call::DeleteGlobal(Ready(1)), Call::TypeOf(Ready(1))],
+        ],
+    },
+    Case {
+        name: "three delete one reference",
+        slots: 1,
+        objects: 1,
+        ready: &[SHARED, &[], &[]],
+        calls: &[
+            &[Call::DeleteGlobal(Ready(1))],
+            &[Call::DeleteGlobal(Ready(1))],
+            &[Call::DeleteGlobal(Ready(1))],
+        ],
+    },
+    Case {
+        name: "looks at a reference whose slot is given again",
+        slots: 1,
+        objects: 1,
+        ready: &[SHARED, &[]],
+        calls: &[
+            &[
+                Call::DeleteGlobal(Ready(1)),
+                Call::NewGlobal(Ready(0)),
+                Call::DeleteGlobal(Own),
+            ],
+            LOOKS,
+        ],
+    },
+    Case {
+        name: "a weak reference is looked at while its object is collected",
+        slots: 2,
+        objects: 1,
+        ready: &[LOST, &[]],
+        calls: &[
+            &[Call::Collect],
+            &[Call::IsNull(Ready(1)), Call::NewGlobal(Ready(1))],
+        ],
+    },
+    Case {
+        name: "a weak reference is deleted while its object is collected",
+        slots: 2,
+        objects: 1,
+        ready: &[LOST, &[]],
+        calls: &[
+            &[Call::CollectAnnounced(2)],
+            &[Call::NewGlobal(Ready(1)), Call::DeleteWeak(Ready(1))],
+        ],
+    },
+    Case {
+        name: "entries beside two collections",
+        slots: 1,
+        objects: 1,
+        ready: &[SHARED, &[]],
+        calls: &[&[Call::Collect, Call::Collect], LOOKS],
+    },
+    Case {
+        name: "entries beside announced collections",
+        slots: 1,
+        objects: 1,
+        ready: &[SHARED, &[]],
+        calls: &[
+            &[Call::CollectAnnounced(2), Call::CollectAnnounced(1)],
+            LOOKS,
+        ],
+    },
+    Case {
+        name: "two announce, and one enters",
+        slots: 1,
+        objects: 1,
+        ready: &[SHARED, &[], &[]],
+        calls: &[
+            &[Call::CollectAnnounced(1)],
+            &[Call::CollectAnnounced(1)],
+            &[Call::TypeOf(Ready(1))],
+        ],
+    },
+    Case {
+        name: "two reserve words",
+        slots: 1,
+        objects: 2,
+        ready: &[&[], &[]],
+        calls: &[&[Call::NewArray(1)], &[Call::NewArray(3)]],
+    },
+    Case {
+        name: "two reserve words for which there is no room together",
+        slots: 1,
+        objects: 2,
+        ready: &[&[], &[]],
+        calls: &[&[Call::NewArray(2)], &[Call::NewArray(3)]],
+    },
+    Case {
+        name: "two publish under the same numbers",
+        slots: 1,
+        objects: 3,
+        ready: &[&[], &[]],
+        calls: &[&[Call::NewPlain, Call::NewPlain], &[Call::NewPlain]],
+    },
+    Case {
+        name: "a critical region beside a collection",
+        slots: 1,
+        objects: 2,
+        ready: &[BEHIND, &[]],
+        calls: &[
+            &[Call::Collect],
+            &[Call::ReadCritical(Ready(2)), Call::ReadCritical(Ready(2))],
+        ],
+    },
+    Case {
+        name: "a critical region beside an announced collection",
+        slots: 1,
+        objects: 2,
+        ready: &[BEHIND, &[]],
+        calls: &[
+            &[Call::CollectAnnounced(2)],
+            &[Call::ReadCritical(Ready(2)), Call::ReadCritical(Ready(2))],
+        ],
+    },
+    Case {
+        name: "one creates, one deletes, one collects",
+        slots: 2,
+        objects: 1,
+        ready: &[SHARED, &[], &[]],
+        calls: &[
+            &[Call::NewGlobal(Ready(0))],
+            &[Call::DeleteGlobal(Ready(1))],
+            &[Call::Collect],
+        ],
+    },
+    Case {
+        name: "one creates, one deletes, one announces and collects",
+        slots: 2,
+        objects: 1,
+        ready: &[SHARED, &[], &[]],
+        calls: &[
+            &[Call::NewGlobal(Ready(0))],
+            &[Call::DeleteGlobal(Ready(1))],
+            &[Call::CollectAnnounced(1)],
+        ],
+    },
+    Case {
+        name: "one creates, one deletes, one looks",
+        slots: 1,
+        objects: 1,
+        ready: &[SHARED, &[], &[]],
+        calls: &[
+            &[Call::NewGlobal(Ready(0))],
+            &[Call::DeleteGlobal(Ready(1))],
+            &[Call::TypeOf(Ready(1))],
+        ],
+    },
+];

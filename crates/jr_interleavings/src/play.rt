@@ -1,0 +1,124 @@
+//! What one thread of a run does: it makes ready what it needs, and makes its calls.
+
+use crate::case::{Call, Name};
+use crate::run::Baton;
+use crate::scheduled::Scheduled;
+use crate::seen::Answer;
+use jr_env::Env;
+use jr_steps::Steps;
+use jr_weak::{Collected, Marker};
+use jr_word::{Fault, Handle};
+use std::alloc::Global;
+use std::sync::Wait;
+
+/// The env of a thread of a run.
+pub(crate) type Scheduling<'r, 'a, R, S> = Env<Scheduled<'r, 'a, R, S>>;
+
+/// Reads the first integer of an array in a critical region.
+fn read_critical<S: Steps>(env: &mut Env<S>, array: Handle) -> Result<i32, Fault> {
+    let levels = env.open_array_critical(array)?;
+    let read = env.get_critical::<i32>(&levels, 0, 0);
+    env.close_all_critical(levels);
+    read
+}
+
+/// Collects, announced where there are tries.
+fn collect<S: Steps>(env: &mut Env<S>, alloc: Global, tries: u32) -> Result<Collected, Fault> {
+    let mut marker = Marker::new(alloc, env.held.steps.config())?;
+    if tries == 0 {
+        env.collect(&mut marker)
+    } else {
+        env.collect_announced(&mut marker, tries)
+    }
+}
+
+/// A new reference, to null where there is none.
+fn made(handle: Option<Handle>) -> Answer {
+    Answer::Made(handle.unwrap_or(Handle::NULL))
+}
+
+/// What a call at a reference answers.
+fn call_at<S: Steps>(env: &mut Env<S>, call: Call, handle: Handle) -> Result<Answer, Fault> {
+    Ok(match call {
+        Call::NewGlobal(_) => made(env.new_global_ref(handle)?),
+        Call::NewWeak(_) => made(env.new_weak_global_ref(handle)?),
+        Call::DeleteGlobal(_) => {
+            env.delete_global_ref(handle)?;
+            Answer::Done
+        }
+        Call::DeleteWeak(_) => {
+            env.delete_weak_global_ref(handle)?;
+            Answer::Done
+        }
+        Call::DeleteLocal(_) => {
+            env.delete_local_ref(handle)?;
+            Answer::Done
+        }
+        Call::Write(_, value) => {
+            env.set_array_region(handle, 0, &[value])?;
+            Answer::Done
+        }
+        Call::IsNull(_) => Answer::IsNull(env.is_same_object(handle, Handle::NULL)?),
+        Call::ReadCritical(_) => Answer::Read(read_critical(env, handle)?),
+        _ => Answer::Type(env.get_object_ref_type(handle)?),
+    })
+}
+
+/// What a call answers.
+fn call_of<S: Steps>(
+    env: &mut Env<S>,
+    alloc: Global,
+    call: Call,
+    handle: Handle,
+) -> Result<Answer, Fault> {
+    match call {
+        Call::NewPlain => Ok(Answer::Made(env.new_plain()?)),
+        Call::NewArray(length) => Ok(Answer::Made(env.new_array::<i32>(length)?)),
+        Call::Collect => Ok(Answer::Collected(collect(env, alloc, 0)?)),
+        Call::CollectAnnounced(tries) => Ok(Answer::Collected(collect(env, alloc, tries)?)),
+        _ => call_at(env, call, handle),
+    }
+}
+
+/// The handle that a call is about: none where its name means none.
+fn about<R: Wait>(baton: &Baton<'_, '_, R>, call: Call) -> Option<Handle> {
+    match call {
+        Call::NewGlobal(name)
+        | Call::NewWeak(name)
+        | Call::DeleteGlobal(name)
+        | Call::DeleteWeak(name)
+        | Call::DeleteLocal(name)
+        | Call::Write(name, _)
+        | Call::TypeOf(name)
+        | Call::IsNull(name)
+        | Call::ReadCritical(name) => baton.handle(name),
+        _ => Some(Handle::NULL),
+    }
+}
+
+/// Makes calls, and notes what each answers.
+fn make_all<R: Wait, S: Steps>(env: &mut Scheduling<'_, '_, R, S>, alloc: Global, calls: &[Call]) {
+    for call in calls {
+        let Some(handle) = about(&env.held.steps.baton, *call) else {
+            continue;
+        };
+        let answer = match call_of(env, alloc, *call, handle) {
+            Ok(answer) => answer,
+            Err(fault) => Answer::Refused(fault),
+        };
+        env.held.steps.baton.answered(*call, answer);
+    }
+}
+
+/// Makes ready what the thread needs, and then its calls, each step in its turn.
+pub(crate) fn play<R: Wait, S: Steps>(
+    env: &mut Scheduling<'_, '_, R, S>,
+    alloc: Global,
+    ready: &[Call],
+    calls: &[Call],
+) {
+    make_all(env, alloc, ready);
+    env.held.steps.baton.be_ready();
+    make_all(env, alloc, calls);
+    env.held.steps.baton.be_done();
+}

@@ -1,0 +1,256 @@
+//! One run of a case: its threads, of which one goes at a time, and the machine beside them.
+
+use crate::case::{Call, Name};
+use crate::machine::{Machine, Verdict, add};
+use crate::schedule::{Schedule, bit};
+use crate::seen::Answer;
+use crate::step::Step;
+use jr_word::Handle;
+use std::hint::spin_loop;
+use std::sync::atomic::{AtomicU64, Ordering};
+use std::sync::{Mutex, Wait};
+
+/// How often a thread looks for its turn before it sleeps.
+const LOOKS: u32 = 100;
+
+/// How often it sleeps at most.
+const SLEEPS: u32 = 1_000_000;
+
+/// Where a thread is.
+#[derive(Clone, Copy, PartialEq, Eq)]
+pub(crate) enum Stage {
+    /// It makes ready what it needs.
+    Ready,
+    /// It was handed the turn, and has not taken its step.
+    Handed,
+    /// It has taken its step.
+    Stepped,
+}
+
+/// A thread of a run.
+#[derive(Clone, Copy)]
+pub(crate) struct Player {
+    /// Where it is.
+    pub(crate) stage: Stage,
+    /// The last reference that it made by its calls.
+    pub(crate) own: Option<Handle>,
+}
+
+/// What the threads of a run share. Who has the turn changes it, and nobody else.
+#[derive(Drop)]
+pub(crate) struct State {
+    /// The order of steps.
+    pub(crate) schedule: Schedule,
+    /// The sequential machine.
+    pub(crate) machine: Machine,
+    /// The threads that are to call.
+    pub(crate) players: Vec<Player>,
+    /// The references that were made ready.
+    pub(crate) ready: Vec<Handle>,
+    /// The threads that have steps left, a bit each.
+    pub(crate) could: u8,
+    /// What is wrong, if anything is.
+    pub(crate) wrong: Option<&'static str>,
+}
+
+/// A run of a case.
+#[derive(Drop)]
+pub(crate) struct Run {
+    pub(crate) state: Mutex<State>,
+    /// A word for each thread: 1 where it is handed the turn.
+    pub(crate) turns: Vec<AtomicU64>,
+}
+
+impl State {
+    /// Notes what is wrong first.
+    fn note(&mut self, verdict: Verdict) {
+        if let (Err(wrong), None) = (verdict, self.wrong) {
+            self.wrong = Some(wrong);
+        }
+    }
+
+    /// Who goes next.
+    fn pick(&mut self) -> Option<u8> {
+        let could = self.could;
+        match self.schedule.pick(could) {
+            Ok(next) => next,
+            Err(wrong) => {
+                self.note(Err(wrong));
+                None
+            }
+        }
+    }
+
+    /// The stage of a thread, which is at another one from now on.
+    fn go_to(&mut self, thread: u8, stage: Stage) -> Stage {
+        match self.players.get_mut(usize::from(thread)) {
+            Some(player) => {
+                let before = player.stage;
+                player.stage = stage;
+                before
+            }
+            None => Stage::Ready,
+        }
+    }
+
+    /// A thread has made ready what it needs: who goes next.
+    fn is_ready(&mut self, thread: u8) -> Option<u8> {
+        self.go_to(thread, Stage::Handed);
+        self.could |= bit(thread);
+        let next = thread.saturating_add(1);
+        if usize::from(next) < self.players.len() {
+            return Some(next);
+        }
+        self.pick()
+    }
+
+    /// A thread has made all its calls: who goes next.
+    fn is_done(&mut self, thread: u8) -> Option<u8> {
+        self.could &= !bit(thread);
+        self.pick()
+    }
+
+    /// A thread is about to take a step: who goes next.
+    fn steps(&mut self, thread: u8) -> Option<u8> {
+        match self.go_to(thread, Stage::Stepped) {
+            Stage::Ready => {
+                self.go_to(thread, Stage::Ready);
+                Some(thread)
+            }
+            Stage::Handed => Some(thread),
+            Stage::Stepped => self.pick(),
+        }
+    }
+
+    /// A thread takes a step, with its reply.
+    fn take(&mut self, thread: u8, step: Step) {
+        if self.wrong.is_none() {
+            let verdict = self.machine.take(thread, step);
+            self.note(verdict);
+        }
+    }
+
+    /// A call of a thread has answered.
+    fn answer(&mut self, thread: u8, call: Call, answer: Answer) {
+        if self.wrong.is_none() {
+            let verdict = self.machine.answers(thread, call, answer);
+            self.note(verdict);
+        }
+        if let Answer::Made(handle) = answer {
+            self.keep(thread, handle);
+        }
+    }
+
+    /// Keeps a reference that a thread made.
+    fn keep(&mut self, thread: u8, handle: Handle) {
+        let Some(player) = self.players.get_mut(usize::from(thread)) else {
+            return;
+        };
+        if player.stage == Stage::Ready {
+            let verdict = add(&mut self.ready, handle);
+            self.note(verdict);
+        } else {
+            player.own = Some(handle);
+        }
+    }
+
+    /// The handle that a name means for a thread.
+    fn handle(&self, thread: u8, name: Name) -> Option<Handle> {
+        match name {
+            Name::Own => self.players.get(usize::from(thread))?.own,
+            Name::Ready(number) => self.ready.get(number).copied(),
+        }
+    }
+}
+
+/// A thread's side of a run.
+#[derive(Drop)]
+pub(crate) struct Baton<'r, 'a, R: Wait> {
+    rt: &'r R,
+    run: &'a Run,
+    thread: u8,
+}
+
+impl<'r, 'a, R: Wait> Baton<'r, 'a, R> {
+    /// The side of a thread, which waits for its turn to make ready what it needs.
+    pub(crate) fn new(rt: &'r R, run: &'a Run, thread: u8) -> Self {
+        let baton = Baton { rt, run, thread };
+        if thread != 0 {
+            baton.wait();
+        }
+        baton
+    }
+
+    /// Waits until the thread is handed the turn.
+    fn wait(&self) {
+        let Some(turn) = self.run.turns.get(usize::from(self.thread)) else {
+            return;
+        };
+        for _ in 0..LOOKS {
+            if turn.swap(0, Ordering::SeqCst) != 0 {
+                return;
+            }
+            spin_loop();
+        }
+        for _ in 0..SLEEPS {
+            if turn.swap(0, Ordering::SeqCst) != 0 {
+                return;
+            }
+            turn.park(self.rt, 0);
+        }
+    }
+
+    /// Hands the turn to a thread.
+    fn hand(&self, next: Option<u8>) {
+        if let Some(next) = next {
+            if let Some(turn) = self.run.turns.get(usize::from(next)) {
+                turn.store(1, Ordering::SeqCst);
+                turn.wake_one();
+            }
+        }
+    }
+
+    /// Hands the turn to a thread, and waits for it to come back; goes on where it is this thread.
+    fn hand_on(&self, next: Option<u8>) {
+        if next != Some(self.thread) && next.is_some() {
+            self.hand(next);
+            self.wait();
+        }
+    }
+
+    /// All is ready: from now on each step waits for its turn.
+    pub(crate) fn be_ready(&self) {
+        let next = self.run.state.lock(self.rt).is_ready(self.thread);
+        self.hand_on(next);
+    }
+
+    /// The thread has made all its calls.
+    pub(crate) fn be_done(&self) {
+        let next = self.run.state.lock(self.rt).is_done(self.thread);
+        self.hand(next);
+    }
+
+    /// Before a step: waits until it is the turn of this thread.
+    pub(crate) fn before(&self) {
+        let next = self.run.state.lock(self.rt).steps(self.thread);
+        self.hand_on(next);
+    }
+
+    /// After a step: the machine takes it too.
+    pub(crate) fn after(&self, step: Step) {
+        self.run.state.lock(self.rt).take(self.thread, step);
+    }
+
+    /// The handle that a name means.
+    pub(crate) fn handle(&self, name: Name) -> Option<Handle> {
+        self.run.state.lock(self.rt).handle(self.thread, name)
+    }
+
+    /// A call has answered.
+    pub(crate) fn answered(&self, call: Call, answer: Answer) {
+        self.run
+            .state
+            .lock(self.rt)
+            .answer(self.thread, call, answer);
+    }
+}

@@ -1,0 +1,202 @@
+//! What a call has seen of the machine, and the answer that it makes.
+
+use crate::case::Call;
+use crate::machine::{Machine, Verdict, add, must};
+use jr_model::Found;
+use jr_weak::Collected;
+use jr_word::{Elem, Fault, Handle, HandleParts, RefKind};
+
+/// What a call of a thread has seen, from its entry on.
+#[derive(Clone, Copy, Drop)]
+pub(crate) struct Seen {
+    /// The kind of the handle that it looked at.
+    pub(crate) kind: Option<RefKind>,
+    /// What its look at a handle found.
+    pub(crate) found: Option<Found>,
+    /// The reference that it made.
+    pub(crate) made: Option<HandleParts>,
+    /// Whether its exchange deleted the reference.
+    pub(crate) deleted: Option<bool>,
+    /// The number that it gave an object.
+    pub(crate) published: Option<u16>,
+    /// The local place that it stored an object in.
+    pub(crate) placed: Option<u16>,
+    /// The element that it read.
+    pub(crate) read: Option<u64>,
+    /// The element that it wrote.
+    pub(crate) written: Option<u64>,
+    /// Why it is refused.
+    pub(crate) refused: Option<Fault>,
+    /// How many weak references it cleared.
+    pub(crate) cleared: u32,
+    /// How many objects it dropped.
+    pub(crate) dropped: u32,
+    /// How many words it left used.
+    pub(crate) settled: Option<u32>,
+    /// The slots that had nothing free at a moment of the call, a bit each.
+    pub(crate) taken_slots: u64,
+    /// The numbers that an object had at a moment of the call, a bit each.
+    pub(crate) taken_numbers: u64,
+}
+
+/// What a call answered.
+#[derive(Clone, Copy, PartialEq, Eq)]
+pub(crate) enum Answer {
+    /// A new reference, or one to null.
+    Made(Handle),
+    /// Nothing.
+    Done,
+    /// The type of a reference.
+    Type(u8),
+    /// Whether a reference is to null.
+    IsNull(bool),
+    /// An element.
+    Read(i32),
+    /// What a collection did.
+    Collected(Collected),
+    /// It was refused.
+    Refused(Fault),
+}
+
+impl Seen {
+    /// What a call has seen that begins.
+    pub(crate) fn new() -> Self {
+        Seen {
+            kind: None,
+            found: None,
+            made: None,
+            deleted: None,
+            published: None,
+            placed: None,
+            read: None,
+            written: None,
+            refused: None,
+            cleared: 0,
+            dropped: 0,
+            settled: None,
+            taken_slots: 0,
+            taken_numbers: 0,
+        }
+    }
+
+    /// The answer that a look makes in any call that needs the reference to stand.
+    fn stale(&self) -> Option<Answer> {
+        match self.found {
+            Some(Found::Stale) => Some(Answer::Refused(Fault::Stale)),
+            _ => None,
+        }
+    }
+
+    /// The type of what a look found: 2 a global reference, 3 a weak one.
+    fn type_of(&self) -> u8 {
+        match (self.kind, self.found) {
+            (_, None | Some(Found::Stale)) => 0,
+            (Some(RefKind::Weak), _) => 3,
+            (_, _) => 2,
+        }
+    }
+
+    /// The answer of a call that deletes.
+    fn deleted(&self) -> Answer {
+        match self.deleted {
+            Some(true) => Answer::Done,
+            _ => Answer::Refused(Fault::Stale),
+        }
+    }
+
+    /// The answer of a call that makes a global or weak reference: E8 only where each slot had nothing free at a moment of the call.
+    fn made(&self, slots: u32) -> Option<Answer> {
+        match (self.found, self.made) {
+            (Some(Found::Cleared), _) => Some(Answer::Made(Handle::NULL)),
+            (_, Some(_)) => None,
+            (_, None) if self.taken_slots.count_ones() == slots => {
+                Some(Answer::Refused(Fault::RowFull))
+            }
+            _ => None,
+        }
+    }
+
+    /// The answer of a collection.
+    fn collected(&self) -> Option<Answer> {
+        Some(Answer::Collected(Collected {
+            cleared: self.cleared,
+            dropped: self.dropped,
+            used: self.settled?,
+        }))
+    }
+
+    /// The answer of a call that writes an element.
+    fn written(&self, value: i32) -> Option<Answer> {
+        match (self.found, self.written) {
+            (Some(Found::Cleared), _) => Some(Answer::Refused(Fault::Null)),
+            (_, Some(word)) if word == value.to_word() => Some(Answer::Done),
+            _ => None,
+        }
+    }
+
+    /// The answer of a critical region.
+    fn read(&self) -> Option<Answer> {
+        match self.found {
+            Some(Found::Cleared) => Some(Answer::Refused(Fault::Null)),
+            _ => Some(Answer::Read(i32::from_word(self.read?)?)),
+        }
+    }
+}
+
+impl Machine {
+    /// The answer that a call makes of what it saw; none where no answer is right, or the one of a new object.
+    fn answer(&self, seen: &Seen, call: Call) -> Option<Answer> {
+        if let Some(fault) = seen.refused {
+            return Some(Answer::Refused(fault));
+        }
+        match call {
+            Call::TypeOf(_) => Some(Answer::Type(seen.type_of())),
+            Call::IsNull(_) => seen
+                .stale()
+                .or(Some(Answer::IsNull(seen.found == Some(Found::Cleared)))),
+            Call::NewGlobal(_) | Call::NewWeak(_) => seen.stale().or(seen.made(self.config.slots)),
+            Call::DeleteGlobal(_) | Call::DeleteWeak(_) => Some(seen.deleted()),
+            Call::DeleteLocal(_) => Some(Answer::Done),
+            Call::Write(_, value) => seen.stale().or(seen.written(value)),
+            Call::ReadCritical(_) => seen.stale().or(seen.read()),
+            Call::Collect | Call::CollectAnnounced(_) => seen.collected(),
+            Call::NewPlain | Call::NewArray(_) => match seen.published {
+                None if seen.taken_numbers.count_ones() == self.config.objects => {
+                    Some(Answer::Refused(Fault::ObjectsFull))
+                }
+                _ => None,
+            },
+        }
+    }
+
+    /// Whether a handle is a new local one of the thread, at the place where the call put the object that it published.
+    fn is_local(&self, thread: u8, seen: &Seen, handle: Handle) -> bool {
+        let (Some(parts), Some(place)) = (Handle::parts(handle.0), seen.placed) else {
+            return false;
+        };
+        let new = (parts.kind, parts.owner, parts.index) == (RefKind::Local, thread, place);
+        new && seen.published.is_some() && self.local(thread, place) == seen.published
+    }
+
+    /// The call of a thread answers what its own steps make.
+    pub(crate) fn answers(&mut self, thread: u8, call: Call, answer: Answer) -> Verdict {
+        let Some(it) = self.threads.get(usize::from(thread)) else {
+            return Err("no such thread");
+        };
+        let seen = it.seen;
+        let right = match (self.answer(&seen, call), answer) {
+            (Some(wanted), _) => answer == wanted,
+            (None, Answer::Made(handle)) if seen.made.is_some() => {
+                add(&mut self.handles, handle)?;
+                Handle::parts(handle.0) == seen.made
+            }
+            (None, Answer::Made(handle)) => self.is_local(thread, &seen, handle),
+            (None, _) => false,
+        };
+        must(right, "a call answered otherwise than its steps")?;
+        if let Some(it) = self.seen(thread) {
+            *it = Seen::new();
+        }
+        Ok(())
+    }
+}
