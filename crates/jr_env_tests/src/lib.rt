@@ -14,6 +14,8 @@ mod handles;
 #[cfg(test)]
 mod held;
 #[cfg(test)]
+mod left_inside;
+#[cfg(test)]
 mod plain;
 #[cfg(test)]
 mod references;
