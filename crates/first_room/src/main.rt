@@ -15,7 +15,7 @@ ghost use Rattle.first_room.specs.Parts.{HasShared, HasVisited};
 use jr_env::Env;
 use jr_rule::{Pass, Room, RoomSteps, Steps};
 use jr_weak::{Collected, Marker};
-use jr_word::{Config, Fault, Handle};
+use jr_word::{Config, Fault, Handle, LAST_SERIAL};
 use std::alloc::Global;
 use std::io::Write;
 use std::sync::atomic::{AtomicU64, Ordering};
@@ -24,7 +24,7 @@ use std::{io, thread};
 use thiserror::Error;
 
 /// How often a slot gives a handle, one less.
-const LAST: u32 = 4_294_967_295;
+const LAST: u32 = LAST_SERIAL;
 
 /// How often an announced collection tries to shut the gate.
 const TRIES: u32 = 1_000;

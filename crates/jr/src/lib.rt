@@ -8,4 +8,4 @@ pub use jr_model::{Mode, Summary};
 pub use jr_rule::{AllLeft, Left, Pass, PlainSteps, Room, RoomSteps};
 pub use jr_steps::Steps;
 pub use jr_weak::{Collected, Marker};
-pub use jr_word::{Config, Elem, Fault, Handle, HandleParts, Kind, RefKind};
+pub use jr_word::{Config, Elem, Fault, Handle, HandleParts, Kind, LAST_SERIAL, RefKind};

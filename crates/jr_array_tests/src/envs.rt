@@ -7,13 +7,13 @@ use jr_env::Env;
 use jr_model::Summary;
 use jr_rule::{Pass, PlainSteps, Room, RoomSteps};
 use jr_steps::{Role, Steps};
-use jr_word::{Config, Elem, Fault, Handle};
+use jr_word::{Config, Elem, Fault, Handle, LAST_SERIAL};
 use std::alloc::Global;
 use std::process::Abort;
 use std::test::Fail;
 
 /// The last serial of a slot or a local place.
-pub(crate) const LAST: u32 = 4_294_967_295;
+pub(crate) const LAST: u32 = LAST_SERIAL;
 
 /// Two threads with four slots and 16 local places each, eight objects, and 32 words for their elements.
 pub(crate) const TWO: Config = Config {

@@ -7,7 +7,7 @@ use crate::case::{Case, Env, FrameCase};
 use crate::collections::{Collections, Way};
 use jr_rule::{Pass, Room, RoomSteps};
 use jr_steps::Steps;
-use jr_word::Config;
+use jr_word::{Config, LAST_SERIAL};
 use std::alloc::Global;
 use std::hint::spin_loop;
 use std::rt::Clock;
@@ -15,9 +15,6 @@ use std::sync::atomic::{AtomicBool, AtomicU64, Ordering};
 use std::thread;
 use std::thread::Threads;
 use std::time::Instant;
-
-/// The last serial of a slot and of a local place.
-const LAST: u32 = 4_294_967_295;
 
 /// How many words the arrays have.
 const WORDS: u32 = 131_072;
@@ -181,7 +178,7 @@ impl Job {
 fn work_one<R: Clock>(
     rt: &R,
     alloc: Global,
-    room: &Room<LAST>,
+    room: &Room<LAST_SERIAL>,
     pass: Pass,
     job: Job,
     signs: &Signs,
@@ -198,7 +195,7 @@ pub(crate) fn round<R: Threads + Clock + Sync>(
     alloc: Global,
     job: Job,
 ) -> Option<Vec<Option<Done>>> {
-    let (room, passes) = Room::<LAST>::open(alloc, job.config()).ok()?;
+    let (room, passes) = Room::<LAST_SERIAL>::open(alloc, job.config()).ok()?;
     let signs = Signs {
         came: AtomicU64::new(0),
         ended: AtomicBool::new(false),

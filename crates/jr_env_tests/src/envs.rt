@@ -8,13 +8,13 @@ use jr_env::Env;
 use jr_rule::{Pass, PlainSteps, Room, RoomSteps};
 use jr_steps::Steps;
 use jr_weak::Marker;
-use jr_word::{Config, Fault, Handle};
+use jr_word::{Config, Fault, Handle, LAST_SERIAL};
 use std::alloc::Global;
 use std::process::Abort;
 use std::test::Fail;
 
 /// The last serial of a slot or a local place.
-pub(crate) const LAST: u32 = 4_294_967_295;
+pub(crate) const LAST: u32 = LAST_SERIAL;
 
 /// The env over a fresh pass, which is spent.
 pub(crate) fn opened_env<S: Steps + Drop>(steps: S) -> Env<S>

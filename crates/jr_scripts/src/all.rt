@@ -20,13 +20,10 @@ use crate::runnable::{FIRST_PART, can_be_run};
 use crate::starting::run_threads;
 use jr_rule::{Pass, Room, Summary};
 use jr_syntax::{Script, ThreadPart};
-use jr_word::Fault;
+use jr_word::{Fault, LAST_SERIAL};
 use std::alloc::{AllocError, Global};
 use std::sync::Wait;
 use std::thread::Threads;
-
-/// The last serial of a slot and of a local place.
-const LAST: u32 = 4_294_967_295;
 
 /// A growth was refused.
 fn out_of_memory(_: AllocError) -> Fault
@@ -36,7 +33,7 @@ fn out_of_memory(_: AllocError) -> Fault
 }
 
 /// Closes the room with the passes of all its threads.
-fn closed(room: Room<LAST>, first: Pass, others: Vec<Pass>) -> Result<Summary, Fault>
+fn closed(room: Room<LAST_SERIAL>, first: Pass, others: Vec<Pass>) -> Result<Summary, Fault>
     requires first { IsOfRoom room first }
     requires others { All (λ p. IsOfRoom room p) others.items }
     ensures ok { IfOk result (λ s. ClosesAll (known_of first) (map known_of others.items) s) }
@@ -156,7 +153,7 @@ fn text_of_all<R: Threads + Wait, H: Hold + Sync>(
     ensures err { IfErr result (λ e. (e ≡ Memory) ⊎ IsLeftInside e) }
 {
     let parts = script.threads.as_slice();
-    let (room, passes) = Room::<LAST>::open(alloc, script.config)?;
+    let (room, passes) = Room::<LAST_SERIAL>::open(alloc, script.config)?;
     let jobs = jobs_of(alloc, parts, passes, turns)?;
     let board = board_of(alloc, parts)?;
     let runs = run_threads(rt, alloc, &room, &board, hold, jobs)?;

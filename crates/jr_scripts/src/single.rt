@@ -13,11 +13,8 @@ use crate::printed::{ending, heading};
 use crate::to_end::run_to_end;
 use jr_rule::PlainSteps;
 use jr_syntax::{Script, ThreadPart};
-use jr_word::{Config, Fault};
+use jr_word::{Config, Fault, LAST_SERIAL};
 use std::alloc::{AllocError, Global};
-
-/// The last serial of a slot and of a local place.
-const LAST: u32 = 4_294_967_295;
 
 /// The line of a script on which the first command of its first thread stands.
 const FIRST_COMMAND: usize = 3;
@@ -37,7 +34,7 @@ fn run_part(alloc: Global, config: Config, part: &ThreadPart, turns: u64) -> Res
     ensures err { IfErr result (λ e. e ≡ Memory) }
 {
     let mut text = heading(alloc, &part.name).map_err(out_of_memory)?;
-    let steps = PlainSteps::<LAST>::new(alloc, config)?;
+    let steps = PlainSteps::<LAST_SERIAL>::new(alloc, config)?;
     let mut env = opened_env(steps);
     let commands = part.commands.as_slice();
     let mut posts = Posts::new(alloc);

@@ -2,6 +2,9 @@
 
 use crate::bits::{u16_at, u32_at};
 
+/// The greatest serial. A room whose last serial it is has each slot and each local place give 4,294,967,296 handles.
+pub const LAST_SERIAL: u32 = 4_294_967_295;
+
 /// The kind of a reference.
 #[derive(Clone, Copy, Debug, PartialEq, Eq)]
 pub enum RefKind {

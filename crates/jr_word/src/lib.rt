@@ -18,7 +18,7 @@ pub use config::Config;
 pub use elem::Elem;
 pub use fault::Fault;
 pub use gate::{GateParts, GateState, GateWord};
-pub use handle::{Handle, HandleParts, RefKind};
+pub use handle::{Handle, HandleParts, LAST_SERIAL, RefKind};
 pub use header::{Header, HeaderParts};
 pub use kind::Kind;
 pub use local::{LocalParts, LocalWord};
