@@ -43,7 +43,7 @@ abbrev pub thread_state_with : Bool → ℕ → Known → Frames → ThreadState
 thread_state_with fresh hint k f = record { pass = view k; frames = f; held = k.holdings; fresh = fresh; hint = hint; taken = k.taken }
 
 -- its state where so much is known of such a pass
-abbrev pub moment : Facts → Known → Frames → ThreadState
+abbrev pub thread_state : Facts → Known → Frames → ThreadState
 thread_state s = thread_state_with s.stands.fresh s.hint
 
 -- what acts take from a pass: one operation each, and at most so many more, of which nobody else could tell; it is as fresh as they leave it, and its next search begins where they leave it
