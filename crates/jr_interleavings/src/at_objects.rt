@@ -2,6 +2,7 @@
 
 use crate::at_slots::handle_of;
 use crate::machine::{Local, Machine, Object, Verdict, add, must};
+use crate::seen::Did;
 use crate::step::Step;
 use jr_model::Found;
 use jr_word::{Fault, HeaderParts, Kind, LocalParts, RefKind};
@@ -18,7 +19,7 @@ impl Machine {
             Step::SeeElement(number, index, word) => {
                 self.is_element(number, index, word)?;
                 if let Some(seen) = self.seen(thread) {
-                    seen.read = Some(word);
+                    seen.did = Some(Did::Read(word));
                 }
                 Ok(())
             }
@@ -27,7 +28,7 @@ impl Machine {
                 put(&mut object, index, word)?;
                 self.set_object(number, Some(object));
                 if let Some(seen) = self.seen(thread) {
-                    seen.written = Some(word);
+                    seen.did = Some(Did::Wrote(word));
                 }
                 Ok(())
             }
@@ -67,7 +68,11 @@ impl Machine {
 
     /// An object has this header, or is absent.
     fn is_header(&self, number: u16, header: Option<HeaderParts>) -> Verdict {
-        let right = self.object(number).map(|it| it.header) == header;
+        let right = match (self.object(number), header) {
+            (Some(object), Some(header)) => object.header == header,
+            (None, None) => true,
+            (_, _) => false,
+        };
         must(right, "a header said what was not so")
     }
 
@@ -82,7 +87,7 @@ impl Machine {
     pub(crate) fn local(&self, thread: u8, place: u16) -> Option<u16> {
         for local in self.locals.iter() {
             if local.thread == thread && local.place == place {
-                return Some(local.object);
+                return local.object;
             }
         }
         None
@@ -90,17 +95,17 @@ impl Machine {
 
     /// A local place refers to this from now on.
     fn put_local(&mut self, thread: u8, place: u16, object: Option<u16>) -> Verdict {
-        self.locals
-            .retain(|it| it.thread != thread || it.place != place);
-        let Some(object) = object else {
+        if let Some(number) = object {
+            must(
+                self.object(number).is_some(),
+                "a local reference to an absent object",
+            )?;
+            if let Some(seen) = self.seen(thread) {
+                seen.placed = Some(place);
+            }
+        }
+        if self.set_local(thread, place, object) {
             return Ok(());
-        };
-        must(
-            self.object(object).is_some(),
-            "a local reference to an absent object",
-        )?;
-        if let Some(seen) = self.seen(thread) {
-            seen.placed = Some(place);
         }
         let local = Local {
             thread,
@@ -108,6 +113,17 @@ impl Machine {
             object,
         };
         add(&mut self.locals, local)
+    }
+
+    /// A local place refers to this from now on, if it was written before.
+    fn set_local(&mut self, thread: u8, place: u16, object: Option<u16>) -> bool {
+        for local in self.locals.iter_mut() {
+            if local.thread == thread && local.place == place {
+                local.object = object;
+                return true;
+            }
+        }
+        false
     }
 
     /// An object is published under a number that is free, with the words that its thread reserved.
@@ -126,7 +142,7 @@ impl Machine {
             "more words are present than are reserved",
         )?;
         if let Some(seen) = self.seen(thread) {
-            seen.published = Some(number);
+            seen.did = Some(Did::Published(number));
         }
         Ok(())
     }
@@ -150,7 +166,10 @@ impl Machine {
 
     /// What a thread has reserved.
     fn reserved(&self, thread: u8) -> Option<Object> {
-        self.threads.get(usize::from(thread))?.reserved
+        match self.threads.get(usize::from(thread)) {
+            Some(it) => it.reserved,
+            None => None,
+        }
     }
 
     /// A thread has reserved this.
@@ -244,12 +263,8 @@ impl Machine {
             !self.is_reached(number),
             "an object that is reached was dropped",
         )?;
-        let named = self
-            .references
-            .iter()
-            .any(|it| it.found == Found::Object(number));
         must(
-            !named,
+            !self.is_named(number, false),
             "an object was dropped before a weak reference to it was cleared",
         )?;
         self.set_object(number, None);
@@ -267,7 +282,7 @@ impl Machine {
         )?;
         self.used = used;
         if let Some(seen) = self.seen(thread) {
-            seen.settled = Some(used);
+            seen.did = Some(Did::Settled(used));
         }
         Ok(())
     }

@@ -1,6 +1,7 @@
 //! The machine's steps at references.
 
 use crate::machine::{Machine, Reference, Verdict, add, must};
+use crate::seen::Did;
 use crate::step::Step;
 use jr_model::Found;
 use jr_steps::SlotLoad;
@@ -40,7 +41,10 @@ impl Machine {
             }
             SlotParts::Weak { serial, object } => {
                 let handle = handle_of(RefKind::Weak, serial, index);
-                let found = object.map_or(Found::Cleared, Found::Object);
+                let found = match object {
+                    Some(object) => Found::Object(object),
+                    None => Found::Cleared,
+                };
                 self.standing(index) == Some(handle) && self.find(handle) == found
             }
         };
@@ -81,7 +85,7 @@ impl Machine {
             "a reference to an absent object was made",
         )?;
         if let Some(seen) = self.seen(thread) {
-            seen.made = Some(handle);
+            seen.did = Some(Did::Made(handle));
         }
         let found = Found::Object(object);
         add(&mut self.references, Reference { handle, found })
@@ -93,7 +97,7 @@ impl Machine {
         must(stands || !won, "a reference was deleted that did not stand")?;
         must(!stands || won, "a reference that stood was not deleted")?;
         if let Some(seen) = self.seen(thread) {
-            seen.deleted = Some(won);
+            seen.did = Some(Did::Deleted(won));
         }
         self.set(handle, Found::Stale);
         Ok(())

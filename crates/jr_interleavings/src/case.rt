@@ -66,7 +66,10 @@ const AFTERWARDS: u32 = 2;
 impl Case {
     /// How many threads call.
     pub(crate) fn threads(&self) -> u32 {
-        self.calls.len().min(8) as u32
+        match self.calls.len() {
+            len @ 0..=8 => len as u32,
+            _ => 8,
+        }
     }
 
     /// The sizes of the room.

@@ -1,8 +1,9 @@
 //! Every order of the steps of a case, one run each.
-ghost use Rattle.std.specs.Prelude.{All, IfSome};
+ghost use Rattle.std.specs.Prelude.{◌≡◌, All, IfSome};
+ghost use Rattle.jr_model.specs.declared.event.Role.TheVariants.{Outside};
 ghost use Rattle.jr_rule.specs.Passes.{IsOpened};
 
-use crate::case::Case;
+use crate::case::{Call, Case};
 use crate::machine::{Machine, NO_MEMORY, add, must};
 use crate::play::play;
 use crate::run::{Baton, Player, Run, Stage, State};
@@ -31,20 +32,33 @@ pub(crate) struct Wrong {
     pub(crate) order: Vec<Choice>,
 }
 
-/// One thread of a run, in an env of its own.
-fn play_one<R: Wait>(rt: &R, alloc: Global, room: &Room<LAST>, pass: Pass, case: &Case, run: &Run)
-    requires { IsOpened room.now.row pass }
+/// One thread of a run, by its steps in the room, in an env of its own.
+fn play_by<R: Wait, S: Steps + Drop>(rt: &R, alloc: Global, steps: S, case: &Case, run: &Run)
+    requires { (S.facts steps).stands.role ≡ Outside }
 {
-    let steps = RoomSteps::new(room, pass);
     let thread = steps.thread();
     let baton = Baton::new(rt, run, thread);
     let at = usize::from(thread);
-    let (Some(ready), Some(calls)) = (case.ready.get(at), case.calls.get(at)) else {
-        return;
-    };
+    let ready = calls_at(case.ready, at);
+    let calls = calls_at(case.calls, at);
     if let Ok(mut env) = Env::new(Scheduled { steps, baton }) {
-        play(&mut env, alloc, *ready, *calls);
+        play(&mut env, alloc, ready, calls);
     }
+}
+
+/// The calls of a thread.
+fn calls_at(calls: &'static [&'static [Call]], thread: usize) -> &'static [Call] {
+    match calls.get(thread) {
+        Some(calls) => *calls,
+        None => &[],
+    }
+}
+
+/// One thread of a run.
+fn play_one<R: Wait>(rt: &R, alloc: Global, room: &Room<LAST>, pass: Pass, case: &Case, run: &Run)
+    requires { IsOpened room.now.row pass }
+{
+    play_by(rt, alloc, RoomSteps::new(room, pass), case, run);
 }
 
 /// Afterwards each reference that stands has its type, and each that was deleted has none.
@@ -67,6 +81,16 @@ fn look_at_all<S: Steps>(env: &mut Env<S>, machine: &Machine) -> Result<(), &'st
     Ok(())
 }
 
+/// By these steps a thread looks at all references.
+fn look_by<S: Steps + Drop>(steps: S, machine: &Machine) -> Result<(), &'static str>
+    requires { (S.facts steps).stands.role ≡ Outside }
+{
+    match Env::new(steps) {
+        Ok(mut env) => look_at_all(&mut env, machine),
+        Err(_) => Err("a fresh pass gave no env"),
+    }
+}
+
 /// The last of the passes looks at all references.
 fn look_afterwards(
     room: &Room<LAST>,
@@ -75,13 +99,10 @@ fn look_afterwards(
 ) -> Result<(), &'static str>
     requires { IfSome pass (λ p. IsOpened room.now.row p) }
 {
-    let Some(pass) = pass else {
-        return Err("no pass is left to look with");
-    };
-    let Ok(mut env) = Env::new(RoomSteps::new(room, pass)) else {
-        return Err("a fresh pass gave no env");
-    };
-    look_at_all(&mut env, machine)
+    match pass {
+        Some(pass) => look_by(RoomSteps::new(room, pass), machine),
+        None => Err("no pass is left to look with"),
+    }
 }
 
 /// The last of the passes of a room, none of which has stepped.

@@ -25,15 +25,15 @@ pub(crate) struct Reference {
     pub(crate) found: Found,
 }
 
-/// A local reference that stands.
-#[derive(Clone, Copy, PartialEq, Eq)]
+/// A local place that was written.
+#[derive(Clone, Copy)]
 pub(crate) struct Local {
     /// Whose it is.
     pub(crate) thread: u8,
     /// Where.
     pub(crate) place: u16,
-    /// To which object.
-    pub(crate) object: u16,
+    /// The object that its reference is to, if one stands there.
+    pub(crate) object: Option<u16>,
 }
 
 /// An object that is present.
@@ -67,6 +67,7 @@ pub(crate) struct Machine {
     /// The handles of references that calls answered.
     pub(crate) handles: Vec<Handle>,
     pub(crate) locals: Vec<Local>,
+    /// The objects that are present, by their numbers; none has number 0.
     pub(crate) objects: Vec<Option<Object>>,
     pub(crate) used: u32,
 }
@@ -94,7 +95,7 @@ impl Machine {
             add(&mut threads, thread)?;
         }
         let mut objects = Vec::new(alloc);
-        for _ in 0..config.objects {
+        for _ in 0..=config.objects {
             add(&mut objects, None)?;
         }
         Ok(Machine {
@@ -163,23 +164,37 @@ impl Machine {
 
     /// Shows each thread that is within which slots and which numbers have nothing free now.
     fn show(&mut self) {
-        let (mut slots, mut numbers) = (0u64, 0u64);
-        for index in 0..self.config.slots.min(64) {
-            if self.next_serial(index as u16).is_none() {
-                slots |= 1 << index;
-            }
-        }
-        for (at, object) in self.objects.iter().enumerate().take(64) {
-            if object.is_some() {
-                numbers |= 1 << at;
-            }
-        }
+        let (slots, numbers) = (self.taken_slots(), self.taken_numbers());
         for thread in self.threads.iter_mut() {
             if thread.role == Role::Within {
                 thread.seen.taken_slots |= slots;
                 thread.seen.taken_numbers |= numbers;
             }
         }
+    }
+
+    /// The slots that have nothing free, a bit each. No case has as many as 64.
+    fn taken_slots(&self) -> u64 {
+        let (mut slots, mut slot) = (0u64, 1u64);
+        for index in 0..64u16 {
+            if u32::from(index) < self.config.slots && self.next_serial(index).is_none() {
+                slots |= slot;
+            }
+            slot = slot.wrapping_mul(2);
+        }
+        slots
+    }
+
+    /// The numbers of present objects, a bit each.
+    fn taken_numbers(&self) -> u64 {
+        let (mut numbers, mut number) = (0u64, 1u64);
+        for object in self.objects.iter() {
+            if object.is_some() {
+                numbers |= number;
+            }
+            number = number.wrapping_mul(2);
+        }
+        numbers
     }
 
     /// The serial of the next reference of a slot: none where a reference stands, or the last was given.
@@ -221,32 +236,50 @@ impl Machine {
 
     /// The object with a number, if it is present.
     pub(crate) fn object(&self, number: u16) -> Option<Object> {
-        let at = usize::from(number).checked_sub(1)?;
-        *self.objects.get(at)?
+        match self.objects.get(usize::from(number)) {
+            Some(object) => *object,
+            None => None,
+        }
     }
 
     /// The object with a number is this from now on.
     pub(crate) fn set_object(&mut self, number: u16, object: Option<Object>) {
-        if let Some(at) = usize::from(number).checked_sub(1) {
-            if let Some(place) = self.objects.get_mut(at) {
-                *place = object;
-            }
+        if number == 0 {
+            return;
+        }
+        if let Some(place) = self.objects.get_mut(usize::from(number)) {
+            *place = object;
         }
     }
 
     /// Whether a global or a local reference is to the object. No case has an array of objects.
     pub(crate) fn is_reached(&self, number: u16) -> bool {
-        let global = self.references.iter().any(|it| {
-            it.handle.kind == RefKind::Global && it.found == Found::Object(number)
-        });
-        global || self.locals.iter().any(|it| it.object == number)
+        for local in self.locals.iter() {
+            if local.object == Some(number) {
+                return true;
+            }
+        }
+        self.is_named(number, true)
+    }
+
+    /// Whether a global reference is to the object, or one of either kind where that is asked for.
+    pub(crate) fn is_named(&self, number: u16, by_global: bool) -> bool {
+        for reference in self.references.iter() {
+            let is_asked = !by_global || reference.handle.kind == RefKind::Global;
+            if is_asked && reference.found == Found::Object(number) {
+                return true;
+            }
+        }
+        false
     }
 
     /// How many words the objects have that are present.
     pub(crate) fn present_words(&self) -> u32 {
         let mut words = 0u32;
-        for object in self.objects.iter().flatten() {
-            words = words.saturating_add(object.header.length);
+        for object in self.objects.iter() {
+            if let Some(object) = object {
+                words = words.saturating_add(object.header.length);
+            }
         }
         words
     }
@@ -266,8 +299,10 @@ impl Machine {
                 (_, _) => summary.globals = summary.globals.saturating_add(1),
             }
         }
-        for _ in self.objects.iter().flatten() {
-            summary.live = summary.live.saturating_add(1);
+        for object in self.objects.iter() {
+            if object.is_some() {
+                summary.live = summary.live.saturating_add(1);
+            }
         }
         summary
     }
@@ -281,6 +316,9 @@ impl Machine {
 
     /// What the call of a thread has seen so far, to be written on.
     pub(crate) fn seen(&mut self, thread: u8) -> Option<&mut Seen> {
-        Some(&mut self.threads.get_mut(usize::from(thread))?.seen)
+        match self.threads.get_mut(usize::from(thread)) {
+            Some(it) => Some(&mut it.seen),
+            None => None,
+        }
     }
 }

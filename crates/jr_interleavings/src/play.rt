@@ -34,7 +34,10 @@ fn collect<S: Steps>(env: &mut Env<S>, alloc: Global, tries: u32) -> Result<Coll
 
 /// A new reference, to null where there is none.
 fn made(handle: Option<Handle>) -> Answer {
-    Answer::Made(handle.unwrap_or(Handle::NULL))
+    match handle {
+        Some(handle) => Answer::Made(handle),
+        None => Answer::Made(Handle::NULL),
+    }
 }
 
 /// What a call at a reference answers.

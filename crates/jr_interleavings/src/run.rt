@@ -13,11 +13,11 @@ use std::sync::{Mutex, Wait};
 /// How often a thread looks for its turn before it sleeps.
 const LOOKS: u32 = 100;
 
-/// How often it sleeps at most.
-const SLEEPS: u32 = 1_000_000;
+/// How often it looks at most, with a sleep behind each further look.
+const TURNS: u32 = 1_000_100;
 
 /// Where a thread is.
-#[derive(Clone, Copy, PartialEq, Eq)]
+#[derive(Clone, Copy)]
 pub(crate) enum Stage {
     /// It makes ready what it needs.
     Ready,
@@ -146,19 +146,26 @@ impl State {
         let Some(player) = self.players.get_mut(usize::from(thread)) else {
             return;
         };
-        if player.stage == Stage::Ready {
-            let verdict = add(&mut self.ready, handle);
-            self.note(verdict);
-        } else {
-            player.own = Some(handle);
+        match player.stage {
+            Stage::Ready => {
+                let verdict = add(&mut self.ready, handle);
+                self.note(verdict);
+            }
+            _ => player.own = Some(handle),
         }
     }
 
     /// The handle that a name means for a thread.
     fn handle(&self, thread: u8, name: Name) -> Option<Handle> {
         match name {
-            Name::Own => self.players.get(usize::from(thread))?.own,
-            Name::Ready(number) => self.ready.get(number).copied(),
+            Name::Own => match self.players.get(usize::from(thread)) {
+                Some(player) => player.own,
+                None => None,
+            },
+            Name::Ready(number) => match self.ready.get(number) {
+                Some(handle) => Some(*handle),
+                None => None,
+            },
         }
     }
 }
@@ -186,17 +193,15 @@ impl<'r, 'a, R: Wait> Baton<'r, 'a, R> {
         let Some(turn) = self.run.turns.get(usize::from(self.thread)) else {
             return;
         };
-        for _ in 0..LOOKS {
+        for look in 0..TURNS {
             if turn.swap(0, Ordering::SeqCst) != 0 {
                 return;
             }
-            spin_loop();
-        }
-        for _ in 0..SLEEPS {
-            if turn.swap(0, Ordering::SeqCst) != 0 {
-                return;
+            if look < LOOKS {
+                spin_loop();
+            } else {
+                turn.park(self.rt, 0);
             }
-            turn.park(self.rt, 0);
         }
     }
 

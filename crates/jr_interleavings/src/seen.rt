@@ -6,6 +6,23 @@ use jr_model::Found;
 use jr_weak::Collected;
 use jr_word::{Elem, Fault, Handle, HandleParts, RefKind};
 
+/// What the last step of a call did that its answer tells.
+#[derive(Clone, Copy)]
+pub(crate) enum Did {
+    /// It made this reference.
+    Made(HandleParts),
+    /// Whether its exchange deleted the reference.
+    Deleted(bool),
+    /// It gave an object this number.
+    Published(u16),
+    /// It read this element.
+    Read(u64),
+    /// It wrote this element.
+    Wrote(u64),
+    /// It left so many words used.
+    Settled(u32),
+}
+
 /// What a call of a thread has seen, from its entry on.
 #[derive(Clone, Copy, Drop)]
 pub(crate) struct Seen {
@@ -13,26 +30,16 @@ pub(crate) struct Seen {
     pub(crate) kind: Option<RefKind>,
     /// What its look at a handle found.
     pub(crate) found: Option<Found>,
-    /// The reference that it made.
-    pub(crate) made: Option<HandleParts>,
-    /// Whether its exchange deleted the reference.
-    pub(crate) deleted: Option<bool>,
-    /// The number that it gave an object.
-    pub(crate) published: Option<u16>,
+    /// What it did.
+    pub(crate) did: Option<Did>,
     /// The local place that it stored an object in.
     pub(crate) placed: Option<u16>,
-    /// The element that it read.
-    pub(crate) read: Option<u64>,
-    /// The element that it wrote.
-    pub(crate) written: Option<u64>,
     /// Why it is refused.
     pub(crate) refused: Option<Fault>,
     /// How many weak references it cleared.
     pub(crate) cleared: u32,
     /// How many objects it dropped.
     pub(crate) dropped: u32,
-    /// How many words it left used.
-    pub(crate) settled: Option<u32>,
     /// The slots that had nothing free at a moment of the call, a bit each.
     pub(crate) taken_slots: u64,
     /// The numbers that an object had at a moment of the call, a bit each.
@@ -64,16 +71,11 @@ impl Seen {
         Seen {
             kind: None,
             found: None,
-            made: None,
-            deleted: None,
-            published: None,
+            did: None,
             placed: None,
-            read: None,
-            written: None,
             refused: None,
             cleared: 0,
             dropped: 0,
-            settled: None,
             taken_slots: 0,
             taken_numbers: 0,
         }
@@ -89,26 +91,28 @@ impl Seen {
 
     /// The type of what a look found: 2 a global reference, 3 a weak one.
     fn type_of(&self) -> u8 {
-        match (self.kind, self.found) {
-            (_, None | Some(Found::Stale)) => 0,
-            (Some(RefKind::Weak), _) => 3,
-            (_, _) => 2,
+        match self.found {
+            None => 0,
+            Some(Found::Stale) => 0,
+            Some(_) => match self.kind {
+                Some(RefKind::Weak) => 3,
+                _ => 2,
+            },
         }
     }
 
     /// The answer of a call that deletes.
     fn deleted(&self) -> Answer {
-        match self.deleted {
-            Some(true) => Answer::Done,
+        match self.did {
+            Some(Did::Deleted(true)) => Answer::Done,
             _ => Answer::Refused(Fault::Stale),
         }
     }
 
     /// The answer of a call that makes a global or weak reference: E8 only where each slot had nothing free at a moment of the call.
     fn made(&self, slots: u32) -> Option<Answer> {
-        match (self.found, self.made) {
+        match (self.found, self.did) {
             (Some(Found::Cleared), _) => Some(Answer::Made(Handle::NULL)),
-            (_, Some(_)) => None,
             (_, None) if self.taken_slots.count_ones() == slots => {
                 Some(Answer::Refused(Fault::RowFull))
             }
@@ -118,27 +122,31 @@ impl Seen {
 
     /// The answer of a collection.
     fn collected(&self) -> Option<Answer> {
-        Some(Answer::Collected(Collected {
-            cleared: self.cleared,
-            dropped: self.dropped,
-            used: self.settled?,
-        }))
+        match self.did {
+            Some(Did::Settled(used)) => Some(Answer::Collected(Collected {
+                cleared: self.cleared,
+                dropped: self.dropped,
+                used,
+            })),
+            _ => None,
+        }
     }
 
     /// The answer of a call that writes an element.
     fn written(&self, value: i32) -> Option<Answer> {
-        match (self.found, self.written) {
+        match (self.found, self.did) {
             (Some(Found::Cleared), _) => Some(Answer::Refused(Fault::Null)),
-            (_, Some(word)) if word == value.to_word() => Some(Answer::Done),
+            (_, Some(Did::Wrote(word))) if word == value.to_word() => Some(Answer::Done),
             _ => None,
         }
     }
 
     /// The answer of a critical region.
     fn read(&self) -> Option<Answer> {
-        match self.found {
-            Some(Found::Cleared) => Some(Answer::Refused(Fault::Null)),
-            _ => Some(Answer::Read(i32::from_word(self.read?)?)),
+        match (self.found, self.did) {
+            (Some(Found::Cleared), _) => Some(Answer::Refused(Fault::Null)),
+            (_, Some(Did::Read(word))) => Some(Answer::Read(i32::from_word(word)?)),
+            _ => None,
         }
     }
 }
@@ -160,7 +168,7 @@ impl Machine {
             Call::Write(_, value) => seen.stale().or(seen.written(value)),
             Call::ReadCritical(_) => seen.stale().or(seen.read()),
             Call::Collect | Call::CollectAnnounced(_) => seen.collected(),
-            Call::NewPlain | Call::NewArray(_) => match seen.published {
+            Call::NewPlain | Call::NewArray(_) => match seen.did {
                 None if seen.taken_numbers.count_ones() == self.config.objects => {
                     Some(Answer::Refused(Fault::ObjectsFull))
                 }
@@ -175,7 +183,10 @@ impl Machine {
             return false;
         };
         let new = (parts.kind, parts.owner, parts.index) == (RefKind::Local, thread, place);
-        new && seen.published.is_some() && self.local(thread, place) == seen.published
+        match seen.did {
+            Some(Did::Published(number)) => new && self.local(thread, place) == Some(number),
+            _ => false,
+        }
     }
 
     /// The call of a thread answers what its own steps make.
@@ -186,11 +197,13 @@ impl Machine {
         let seen = it.seen;
         let right = match (self.answer(&seen, call), answer) {
             (Some(wanted), _) => answer == wanted,
-            (None, Answer::Made(handle)) if seen.made.is_some() => {
-                add(&mut self.handles, handle)?;
-                Handle::parts(handle.0) == seen.made
-            }
-            (None, Answer::Made(handle)) => self.is_local(thread, &seen, handle),
+            (None, Answer::Made(handle)) => match seen.did {
+                Some(Did::Made(parts)) => {
+                    add(&mut self.handles, handle)?;
+                    Handle::parts(handle.0) == Some(parts)
+                }
+                _ => self.is_local(thread, &seen, handle),
+            },
             (None, _) => false,
         };
         must(right, "a call answered otherwise than its steps")?;
