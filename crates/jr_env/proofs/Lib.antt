@@ -18,3 +18,4 @@ pub mod ReleasedElements
 pub mod WholeCollections
 pub mod AnnouncedCollections
 pub mod StandingRegions
+pub mod OpenStays

@@ -40,6 +40,7 @@ impl<S: Steps, E: Elem> Work<S> for PartWriting<'_, E> {
     ghost use Rattle.std.specs.Prelude.{map};
     ghost use Rattle.jr_model.specs.Objects.{part_writing};
     ghost use Rattle.jr_frames.specs.Reading.{word_of, OwnerFits};
+    ghost use Rattle.jr_env.specs.InStays.{part_writing_in_stay};
 
     type Answer = ();
 
@@ -52,6 +53,8 @@ impl<S: Steps, E: Elem> Work<S> for PartWriting<'_, E> {
     ghost learns = { λ _ _ j k. Unit {0} };
 
     ghost gives = { λ _ _. Unit {0} };
+
+    ghost in_stay = { λ w. part_writing_in_stay E.KIND (word_of w.part.array) w.part.start (map E.word_of w.elements.now) };
 
     fn work(self, steps: &mut S, inside: &Inside, frames: &mut Frames) -> Result<(), Fault> {
         let PartWriting { part, elements } = self;
