@@ -19,3 +19,4 @@ pub mod WholeCollections
 pub mod AnnouncedCollections
 pub mod StandingRegions
 pub mod OpenStays
+pub mod WithinStays

@@ -60,24 +60,24 @@ abbrev pub typing : ℕ → Deed ℕ
 typing w = within_on w (λ c last t s a. references.typing c t a)
 
 -- PopLocalFrame in a stay
-abbrev pub frame_popping : ℕ → Deed (Option HandleWord)
-frame_popping w = answered_by packed_if (within_on w (λ c last t s a. works.frame_popping c last t a))
+abbrev pub popping_frame : ℕ → Deed (Option HandleWord)
+popping_frame w = answered_by packed_if (within_on w (λ c last t s a. works.frame_popping c last t a))
 
 -- all local references are freed in a stay
 abbrev pub freeing : Deed (Unit {0})
 freeing = within_by (λ c. 0) (λ c last t s. references.freeing)
 
 -- a plain object and a local reference to it are made in a stay, with at most one operation for each object number beside its events
-abbrev pub making : Deed HandleWord
-making = answered_by packed (within_by (λ c. c.objects) (λ c last t s. references.making c last t))
+abbrev pub plain_making : Deed HandleWord
+plain_making = answered_by packed (within_by (λ c. c.objects) (λ c last t s. references.making c last t))
 
 -- NewBooleanArray and its like in a stay: n zeros
 abbrev pub zeros_making : Kind → ℕ → Deed HandleWord
 zeros_making kind n = answered_by packed (within_by (making_steps n) (λ c last t s. references.made c last t kind (replicate n 0)))
 
 -- NewObjectArray in a stay: n times what the word names
-abbrev pub array_making : ℕ → ℕ → Deed HandleWord
-array_making n w = answered_by packed (within_on_by (making_steps n) w (λ c last t s a. references.array_making c last t n a))
+abbrev pub objects_making : ℕ → ℕ → Deed HandleWord
+objects_making n w = answered_by packed (within_on_by (making_steps n) w (λ c last t s a. references.array_making c last t n a))
 
 -- NewString in a stay
 abbrev pub string_making : List ℕ → Deed HandleWord
@@ -104,12 +104,12 @@ abbrev pub element_writing : ℕ → ℕ → ℕ → Deed (Unit {0})
 element_writing v i w = within_on_both_by (λ c. 1) v w (λ c last t s a b. objects.element_writing c last t s a i b)
 
 -- GetBooleanArrayRegion and its like in a stay: the words of n elements from start on
-abbrev pub part_reading : Kind → ℕ → ℕ → ℕ → Deed (List ℕ)
-part_reading kind w start n = within_on_by (λ c. 1) w (λ c last t s a. objects.part_reading c last t s kind a start n)
+abbrev pub region_reading : Kind → ℕ → ℕ → ℕ → Deed (List ℕ)
+region_reading kind w start n = within_on_by (λ c. 1) w (λ c last t s a. objects.part_reading c last t s kind a start n)
 
 -- SetBooleanArrayRegion and its like in a stay
-abbrev pub part_writing : Kind → ℕ → ℕ → List ℕ → Deed (Unit {0})
-part_writing kind w start vs = within_on_by (λ c. 1) w (λ c last t s a. objects.part_writing c last t s kind a start vs)
+abbrev pub region_writing : Kind → ℕ → ℕ → List ℕ → Deed (Unit {0})
+region_writing kind w start vs = within_on_by (λ c. 1) w (λ c last t s a. objects.part_writing c last t s kind a start vs)
 
 -- GetBooleanArrayElements and its like in a stay: the words of all elements
 abbrev pub elements_copying : Kind → ℕ → Deed (List ℕ)

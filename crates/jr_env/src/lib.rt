@@ -8,6 +8,7 @@ mod env_call;
 mod retrying;
 mod scope;
 mod stay;
+mod stays;
 mod work;
 mod works;
 

@@ -15,7 +15,7 @@ pub struct Stay<'e, S: Steps> {
 }
 
 impl<S: Steps> Env<S> {
-    ghost use Rattle.std.specs.Prelude.{◌≡◌};
+    ghost use Rattle.std.specs.Prelude.{◌≡◌, IfOk};
     ghost use Rattle.jr_env.specs.Envs.{IsOutside};
     ghost use Rattle.jr_env.specs.OpenStays.{EndsAsOneStay, LeavesOver, PerformsOver, StaysOn};
 
@@ -35,6 +35,7 @@ impl<S: Steps> Env<S> {
         ensures call { PerformsOver self.old.held self.new.held (W.silent work) (W.asked work) result }
         ensures on { StaysOn self.old.held self.new.held }
         ensures own { IsOwnStay inside.now (S.facts self.new.held.steps).stands }
+        ensures given { IfOk result (λ answer. W.gives (S.facts self.old.held.steps).stands.thread answer) }
     {
         perform(&mut self.held, inside, work)
     }

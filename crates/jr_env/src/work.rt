@@ -134,6 +134,7 @@ pub fn perform<S: Steps, W: Work<S> + Drop>(
     ensures on { StaysOn held.old held.new }
     ensures own { IsOwnStay inside.now (S.facts held.new.steps).stands }
     ensures next { CanCall (S.facts held.new.steps).stands }
+    ensures given { IfOk result (λ answer. W.gives (S.facts held.old.steps).stands.thread answer) }
 {
     work.work(&mut held.steps, inside, &mut held.frames)
 }
