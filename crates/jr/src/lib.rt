@@ -3,7 +3,7 @@
 
 pub use jr_critical::Levels;
 pub use jr_elements::Elements;
-pub use jr_env::{Env, EnvCall, LocalFrames, Region, Scoped, calls, with_local_frame};
+pub use jr_env::{Env, EnvCall, LocalFrames, Region, Scoped, Stay, calls, with_local_frame};
 pub use jr_model::{Mode, Summary};
 pub use jr_rule::{AllLeft, Left, Pass, PlainSteps, Room, RoomSteps};
 pub use jr_steps::Steps;

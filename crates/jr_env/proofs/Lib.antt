@@ -18,3 +18,5 @@ pub mod ReleasedElements
 pub mod WholeCollections
 pub mod AnnouncedCollections
 pub mod StandingRegions
+pub mod OpenStays
+pub mod WithinStays

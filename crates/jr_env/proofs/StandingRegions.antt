@@ -42,11 +42,11 @@ of_one (goes_on s acts region did call) =
     record { config = did.config ∙ before.config; last = did.last ∙ before.last; thread = did.thread ∙ before.thread }
 
 -- what is said of one configuration, last serial and thread is said of those that are the same
-at_same : (P : Config → ℕ → ℕ → Type 0) {c d : Config} {l m t u : ℕ} → c ≡ d → l ≡ m → t ≡ u → P c l t → P d m u
+pub at_same : (P : Config → ℕ → ℕ → Type 0) {c d : Config} {l m t u : ℕ} → c ≡ d → l ≡ m → t ≡ u → P c l t → P d m u
 at_same P {c} {d} {l} {m} {t} {u} e n o x = subst (λ y. P y m u) e (subst (λ y. P c y u) n (subst (λ y. P c l y) o x))
 
 -- and so what is said of a pass's standing is of what it knows
-at_known : {s : Standing} {k : Known} (P : Config → ℕ → ℕ → Type 0) → IsOf s k → P s.config s.last s.thread → P k.config k.last k.thread
+pub at_known : {s : Standing} {k : Known} (P : Config → ℕ → ℕ → Type 0) → IsOf s k → P s.config s.last s.thread → P k.config k.last k.thread
 at_known P is x = at_same P (sym is.config) (sym is.last) (sym is.thread) x
 
 -- a call of a region was made between what was known and what is

@@ -6,6 +6,10 @@ pub mod Collections
 pub mod Tries
 pub mod Elements
 pub mod Calling
+pub mod OpenStays
 pub mod Works
+pub mod StayDeeds
+pub mod LentStays
 pub mod ArrayParts
 pub mod Copies
+pub mod InStays

@@ -10,6 +10,7 @@ mod making;
 mod meeting;
 mod objects;
 mod references;
+mod staying;
 mod upgrades;
 
 pub use array_parts::SetArrayRegion;

@@ -7,6 +7,8 @@ mod env;
 mod env_call;
 mod retrying;
 mod scope;
+mod stay;
+mod stays;
 mod work;
 mod works;
 
@@ -15,3 +17,4 @@ pub use env::Env;
 pub use env_call::EnvCall;
 pub use retrying::{is_made_again, is_short_of_room};
 pub use scope::{LocalFrames, Scoped, with_local_frame};
+pub use stay::Stay;

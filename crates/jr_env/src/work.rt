@@ -1,7 +1,12 @@
 //! What a call does within a stay, and the call round it.
 
-ghost use Rattle.std.specs.Prelude.{IfOk};
+ghost use Rattle.std.specs.Prelude.{◌≡◌, IfOk, IfErr};
+ghost use Rattle.jr_word.specs.declared.fault.Fault.TheVariants.{Barred};
+ghost use Rattle.jr_model.specs.declared.event.Role.TheVariants.{Outside};
+ghost use Rattle.jr_gate.specs.Stays.{IsOwnStay};
+ghost use Rattle.jr_elements.specs.Copies.{answer_in};
 ghost use Rattle.jr_env.specs.Calling.{CanCall};
+ghost use Rattle.jr_env.specs.OpenStays.{EndsAsOneStay, EntersOver, LeavesOver, PerformsOver, StaysOn, StaysSince};
 ghost use Rattle.jr_env.specs.Works.{CompletesOver, EndsStayOver};
 
 use jr_frames::{Frames, Held};
@@ -24,6 +29,7 @@ pub trait Work<S: Steps> {
     ghost use Rattle.jr_gate.specs.Performing.{Performed};
     ghost use Rattle.jr_frames.specs.Ready.{StandsReady, KeepsOwner};
     ghost use Rattle.jr_frames.specs.Steady.{IsSteady};
+    ghost use Rattle.jr_env.specs.OpenStays.{IsInStay};
 
     /// What it answers.
     type Answer;
@@ -37,6 +43,8 @@ pub trait Work<S: Steps> {
     ghost learns: { Frames → Result Self.Answer Fault → Known → Known → Type 0 };
 
     ghost gives: { ℕ → Self.Answer → Type 0 };
+
+    ghost in_stay: { (w : Self) → IsInStay (asked w) };
 
     /// Does it.
     ///
@@ -87,4 +95,60 @@ pub fn make<S: Steps, W: Work<S> + Drop>(held: &mut Held<S>, work: W) -> Result<
     let answer = work.work(&mut held.steps, &inside, &mut held.frames);
     inside.leave(&mut held.steps);
     answer
+}
+
+/// Enters the gate for a stay that goes on from call to call. A stay that a region left is ended first.
+///
+/// # Errors
+///
+/// E13.
+#[inline(always)]
+pub fn go_inside<S: Steps>(held: &mut Held<S>) -> Result<Inside, Fault>
+    requires { CanCall (S.facts held.old.steps).stands }
+    ensures call { (S.facts held.old.steps).stands.role ≡ Outside → EntersOver held.old held.new (answer_in (λ i. tt) result) }
+    ensures frames { held.new.frames ≡ held.old.frames }
+    ensures own { IfOk result (λ i. IsOwnStay i (S.facts held.new.steps).stands) }
+    ensures since { IfOk result (λ i. (S.facts held.old.steps).stands.role ≡ Outside → StaysSince held.old held.new) }
+    ensures refused { IfErr result (λ e. (e ≡ Barred) × ((S.facts held.new.steps).stands.role ≡ Outside)) }
+    ensures next { CanCall (S.facts held.new.steps).stands }
+{
+    outside(held);
+    enter(&mut held.steps)
+}
+
+/// Does a work in a stay of the thread, which goes on.
+///
+/// # Errors
+///
+/// Those of the work.
+#[inline(always)]
+pub fn perform<S: Steps, W: Work<S> + Drop>(
+    held: &mut Held<S>,
+    inside: &Inside,
+    work: W,
+) -> Result<W::Answer, Fault>
+    requires stay { IsOwnStay inside.now (S.facts held.old.steps).stands }
+    requires ready { CanCall (S.facts held.old.steps).stands }
+    requires can { W.can_work work }
+    ensures call { PerformsOver held.old held.new (W.silent work) (W.asked work) result }
+    ensures on { StaysOn held.old held.new }
+    ensures own { IsOwnStay inside.now (S.facts held.new.steps).stands }
+    ensures next { CanCall (S.facts held.new.steps).stands }
+    ensures given { IfOk result (λ answer. W.gives (S.facts held.old.steps).stands.thread answer) }
+{
+    work.work(&mut held.steps, inside, &mut held.frames)
+}
+
+/// Ends a stay that went on from call to call.
+#[inline(always)]
+pub fn go_outside<S: Steps>(held: &mut Held<S>, inside: Inside)
+    requires stay { IsOwnStay inside (S.facts held.old.steps).stands }
+    requires ready { CanCall (S.facts held.old.steps).stands }
+    ensures call { LeavesOver held.old held.new }
+    ensures frames { held.new.frames ≡ held.old.frames }
+    ensures one { EndsAsOneStay held.old held.new }
+    ensures outside { (S.facts held.new.steps).stands.role ≡ Outside }
+    ensures next { CanCall (S.facts held.new.steps).stands }
+{
+    inside.leave(&mut held.steps);
 }

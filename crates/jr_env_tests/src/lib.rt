@@ -24,6 +24,8 @@ mod scopes;
 #[cfg(test)]
 mod slot_threads;
 #[cfg(test)]
+mod stays;
+#[cfg(test)]
 mod ten_lines;
 #[cfg(test)]
 mod words;

@@ -21,7 +21,7 @@ use Rattle.jr_model.specs.Checks.{Word, Nothing, Malformed, Parts, is_array, is_
 use Rattle.jr_model.specs.Parts.{found_object, local_object, look, looked, looked_at, not_null}
 use Rattle.jr_model.specs.References.{resolved}
 use Rattle.jr_model.specs.Objects.{level_array, level_string}
-use Rattle.jr_model.specs.CriticalRegions.{IsRegion, IsRegionCall, opened_at_array, opened_at_string, goes_on, nests_array, nests_string, gets, sets, tells_kind, tells_length, gives_up_level, NoCollectionInRegion, NoCollectionUpToRelease}
+use Rattle.jr_model.specs.CriticalRegions.{IsOneStay, IsRegion, IsRegionCall, opened_at_array, opened_at_string, goes_on, nests_array, nests_string, gets, sets, tells_kind, tells_length, gives_up_level, NoCollectionInRegion, NoCollectionUpToRelease}
 use Rattle.jr_model.proofs.Exactly.{append_all}
 use Rattle.jr_model.proofs.Gates.{no_collection_inside}
 use Rattle.jr_model.proofs.Histories.{mine_append, mine_push}
@@ -37,27 +37,27 @@ NoLeave acts = AllByRecursion (λ a. a ≢ Gate Leave) acts
 abbrev pub Stays : {A : Type 0} → Call A → Type 0
 Stays {A} call = (f g : Frames) (acts : List Act) (answer : Result A Fault) → call f acts answer g → NoLeave acts
 
-decided_stays : {A : Type 0} (r : Result A Fault) → Stays (decided r)
+pub decided_stays : {A : Type 0} (r : Result A Fault) → Stays (decided r)
 decided_stays r f g acts answer is = subst NoLeave (sym is.0) tt
 
-act_stays : (a : Act) → a ≢ Gate Leave → Stays (act a)
+pub act_stays : (a : Act) → a ≢ Gate Leave → Stays (act a)
 act_stays a ne f g acts answer is = subst NoLeave (sym is.0) (ne, tt)
 
-some_act_stays : {X : Type 0} (a : X → Act) → ((x : X) → a x ≢ Gate Leave) → Stays (some_act a)
+pub some_act_stays : {X : Type 0} (a : X → Act) → ((x : X) → a x ≢ Gate Leave) → Stays (some_act a)
 some_act_stays a ne f g acts answer is = subst NoLeave (sym is.1) (ne is.0, tt)
 
-refuse_if_stays : (b : Bool) (e : Fault) → Stays (refuse_if b e)
+pub refuse_if_stays : (b : Bool) (e : Fault) → Stays (refuse_if b e)
 refuse_if_stays true e = decided_stays (Err e)
 refuse_if_stays false e = decided_stays (Ok tt)
 
-bind_stays : {A B : Type 0} (first : Call A) (next : A → Call B) → Stays first → ((x : A) → Stays (next x)) → Stays (first >>= next)
+pub bind_stays : {A B : Type 0} (first : Call A) (next : A → Call B) → Stays first → ((x : A) → Stays (next x)) → Stays (first >>= next)
 bind_stays first next p q f g acts answer (inl r) = subst NoLeave (sym r.4) (append_all (λ a. a ≢ Gate Leave) r.2 r.3 (p f r.1 r.2 (Ok r.0) r.5) (q r.0 r.1 g r.3 answer r.6))
 bind_stays first next p q f g acts answer (inr r) = p f g acts (Err r.0) r.2
 
-for_stays : {A : Type 0} (s : State) (o : ℕ) (next : Kind → ℕ → Call A) → ((k : Kind) (n : ℕ) → Stays (next k n)) → Stays (for_object s o next)
+pub for_stays : {A : Type 0} (s : State) (o : ℕ) (next : Kind → ℕ → Call A) → ((k : Kind) (n : ℕ) → Stays (next k n)) → Stays (for_object s o next)
 for_stays s o next p f g acts answer is = p is.0.kind (length is.0.words) f g acts answer is.2
 
-cond_stays : {A : Type 0} (b : Bool) (p q : Call A) → Stays p → Stays q → Stays (cond b p q)
+pub cond_stays : {A : Type 0} (b : Bool) (p q : Call A) → Stays p → Stays q → Stays (cond b p q)
 cond_stays true p q l r = l
 cond_stays false p q l r = r
 
@@ -70,22 +70,22 @@ found_stays (Object o) = decided_stays (Ok (Some o))
 found_stays Cleared = decided_stays (Ok None)
 found_stays Stale = decided_stays _
 
-looked_at_stays : (h : Handle) → Stays (looked_at h)
+pub looked_at_stays : (h : Handle) → Stays (looked_at h)
 looked_at_stays h = cond_stays (is_local h) (λ old. local_object (object_of old h) old) (look h >>= found_object)
     (λ f g acts answer is. local_stays (object_of f h) f g acts answer is)
     (bind_stays (look h) found_object (some_act_stays (Look h) (λ r e. cc)) found_stays)
 
-looked_stays : (a : Word) → Stays (looked a)
+pub looked_stays : (a : Word) → Stays (looked a)
 looked_stays Nothing = decided_stays (Ok None)
 looked_stays Malformed = decided_stays (Ok None)
 looked_stays (Parts h) = looked_at_stays h
 
-not_null_stays : (o : Option ℕ) → Stays (not_null o)
+pub not_null_stays : (o : Option ℕ) → Stays (not_null o)
 not_null_stays (Some o) = decided_stays (Ok o)
 not_null_stays None = decided_stays _
 
 module _ (c : Config) (last thread : ℕ) where
-  resolved_stays : (a : Word) → Stays (resolved c last thread a)
+  pub resolved_stays : (a : Word) → Stays (resolved c last thread a)
   resolved_stays a =
       bind_stays (refuse_if (is_malformed a) fault.Stale) _ (refuse_if_stays (is_malformed a) fault.Stale) (λ _.
       bind_stays (refuse_if (is_out_of_bounds c a) fault.Stale) _ (refuse_if_stays (is_out_of_bounds c a) fault.Stale) (λ _.
@@ -127,10 +127,10 @@ module _ (c : Config) (last thread : ℕ) where
 -- WHAT A REGION DID
 
 -- its thread entered, and did not leave since
-record Stands (old mid : PassView) : Type 0 where
-  acts : List Act
-  did : Did old mid (Gate Enter ∷ acts)
-  stays : NoLeave acts
+pub record Stands (old mid : PassView) : Type 0 where
+  pub acts : List Act
+  pub did : Did old mid (Gate Enter ∷ acts)
+  pub stays : NoLeave acts
 
 opened_stands : {old mid : PassView} {f g : Frames} {o : ℕ} (work : Call ℕ) → Stays work → Ran old mid f g (opened work) (Ok o) → Stands old mid
 opened_stands {old} {mid} {f} {g} {o} work stays r = go r.is
@@ -163,9 +163,9 @@ module _ {old mid : PassView} (p : Stands old mid) where
   inside_stays : AllByRecursion (λ e. e ≢ by old.thread (Gate Leave)) (since p).since
   inside_stays = never (Gate Leave) (since p).since old.thread (subst NoLeave (sym (since p).rest) p.stays)
 
-pub no_collection_in_region : NoCollectionInRegion
-no_collection_in_region old mid f g r =
-    let p = stands r in
+-- all that was seen since is one stay
+pub one_stay : {old mid : PassView} → Stands old mid → IsOneStay old mid []
+one_stay {old} {mid} p =
     let stay : IsStay old.thread mid.seen (front p) (since p).since [] = record { parts = parts p ∙ sym (append-nil (front p ++ by old.thread (Gate Enter) ∷ (since p).since)); stays = inside_stays p; ends = tt } in
     record {
       before = front p;
@@ -175,6 +175,9 @@ no_collection_in_region old mid f g r =
       own = front_own p;
       clear = no_collection_inside old.config old.last old.thread mid.seen (front p) (since p).since [] p.did.legal stay;
     }
+
+pub no_collection_in_region : NoCollectionInRegion
+no_collection_in_region old mid f g r = one_stay (stands r)
 
 -- THE RELEASE
 
@@ -219,11 +222,9 @@ left_last t before (e ∷ es) ends own is =
     nothing_before (x ∷ []) a e = absurd cc
     nothing_before (x ∷ y ∷ xs) a e = absurd cc
 
-pub no_collection_up_to_release : NoCollectionUpToRelease
-no_collection_up_to_release old mid new f g h r release =
-    let p = stands r in
-    let d : Did mid new (Gate Leave ∷ []) = subst (Did mid new) release.is.0 release.did in
-    let seen : IsLastSeen new (Gate Leave) = subst (Ends mid new) release.is.0 release.window.last refl in
+-- up to the exit all that was seen is one stay
+pub one_stay_left : {old mid new : PassView} → Stands old mid → Did mid new (Gate Leave ∷ []) → IsLastSeen new (Gate Leave) → IsOneStay old new (by old.thread (Gate Leave) ∷ [])
+one_stay_left {old} {mid} {new} p d seen =
     let thread : new.thread ≡ old.thread = d.thread ∙ p.did.thread in
     let own : mine d.begins.0 old.thread ≡ Gate Leave ∷ [] = subst (λ t. mine d.begins.0 t ≡ Gate Leave ∷ []) p.did.thread (mine_did (Gate Leave ∷ []) d) in
     let left : LeftLast old.thread d.begins.0 = left_last old.thread mid.seen d.begins.0 seen.before own (d.begins.1 ∙ subst (λ t. new.seen ≡ seen.before ++ by t (Gate Leave) ∷ []) thread seen.is) in
@@ -245,3 +246,6 @@ no_collection_up_to_release old mid new f g h r release =
       own = front_own p;
       clear = no_collection_inside old.config old.last old.thread new.seen (front p) inside (by old.thread (Gate Leave) ∷ []) legal stay;
     }
+
+pub no_collection_up_to_release : NoCollectionUpToRelease
+no_collection_up_to_release old mid new f g h r release = one_stay_left (stands r) (subst (Did mid new) release.is.0 release.did) (subst (Ends mid new) release.is.0 release.window.last refl)

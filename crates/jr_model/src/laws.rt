@@ -2,6 +2,7 @@ ghost use Rattle.std.specs.Prelude.{ℕ};
 ghost use Rattle.jr_word.specs.declared.config.Config.{Config};
 ghost use Rattle.jr_model.specs.State.{State};
 ghost use Rattle.jr_model.specs.History.{PassView};
+ghost use Rattle.jr_model.specs.StayCalls.{NoCollectionInOpenStay, NoCollectionUpToExit};
 ghost use Rattle.jr_model.specs.CriticalRegions.{NoCollectionInRegion, NoCollectionUpToRelease};
 ghost use Rattle.jr_model.specs.Announcements.{NobodyEnters, WithinOnlyLeave, AnnouncerCounts};
 ghost use Rattle.jr_model.specs.Grounded.{FreeIndexIsFound, RefusedInItsStay, EachIsProbed, CallsAreTheirStays};
@@ -68,6 +69,12 @@ pub fn stays_exclude_collections()
 pub fn regions_exclude_collections()
     ensures stands { NoCollectionInRegion }
     ensures released { NoCollectionUpToRelease }
+{}
+
+/// From the entry of a stay that goes on from call to call to its exit, no step of a collection comes, of whatever thread; and all between is one stay of the thread.
+pub fn open_stays_exclude_collections()
+    ensures stands { NoCollectionInOpenStay }
+    ensures left { NoCollectionUpToExit }
 {}
 
 /// The object of each reference that is not cleared, and of each local, is present. Outside collections each element of a present object array is null or present.

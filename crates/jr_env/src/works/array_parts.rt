@@ -3,12 +3,14 @@ ghost use Rattle.std.specs.Prelude.{◌≡◌, ◌+◌, nat_lt, IfOk, IfErr, map
 ghost use Rattle.jr_gate.specs.Stays.{IsOwnStay};
 ghost use Rattle.jr_model.specs.declared.event.Role.TheVariants.{Within};
 ghost use Rattle.jr_model.specs.Checks.{same_element as same_element_of};
+ghost use Rattle.jr_model.specs.Objects.{part_reading};
 ghost use Rattle.jr_steps.specs.Knowing.{MayKnow};
 ghost use Rattle.jr_heap.specs.Heap.{HoldsHeader};
 ghost use Rattle.jr_frames.specs.Ready.{StandsReady};
 ghost use Rattle.jr_frames.specs.Reading.{word_of, OwnerFits};
 ghost use Rattle.jr_env.specs.Deeds.{read_answer};
 ghost use Rattle.jr_env.specs.Calling.{CanCall};
+ghost use Rattle.jr_env.specs.OpenStays.{PerformsOver, StaysOn};
 ghost use Rattle.jr_env.specs.ArrayParts.{CopiesOut, FindsPart, ReadsPart};
 
 use crate::work::{Work, outside};
@@ -40,6 +42,7 @@ impl<S: Steps, E: Elem> Work<S> for PartWriting<'_, E> {
     ghost use Rattle.std.specs.Prelude.{map};
     ghost use Rattle.jr_model.specs.Objects.{part_writing};
     ghost use Rattle.jr_frames.specs.Reading.{word_of, OwnerFits};
+    ghost use Rattle.jr_env.specs.InStays.{part_writing_in_stay};
 
     type Answer = ();
 
@@ -52,6 +55,8 @@ impl<S: Steps, E: Elem> Work<S> for PartWriting<'_, E> {
     ghost learns = { λ _ _ j k. Unit {0} };
 
     ghost gives = { λ _ _. Unit {0} };
+
+    ghost in_stay = { λ w. part_writing_in_stay E.KIND (word_of w.part.array) w.part.start (map E.word_of w.elements.now) };
 
     fn work(self, steps: &mut S, inside: &Inside, frames: &mut Frames) -> Result<(), Fault> {
         let PartWriting { part, elements } = self;
@@ -80,6 +85,27 @@ pub fn copy_out<S: Steps, E: Elem>(
     let answer = read_into(&mut held.steps, &inside, &held.frames, part, elements);
     inside.leave(&mut held.steps);
     answer
+}
+
+/// Reads a part of an array in a stay of the thread, which goes on: E1, E2, E3, E5, E6, E7.
+#[inline(always)]
+pub fn copy_inside<S: Steps, E: Elem>(
+    held: &mut Held<S>,
+    inside: &Inside,
+    part: Part,
+    elements: &mut [E],
+) -> Result<(), Fault>
+    requires stay { IsOwnStay inside.now (S.facts held.old.steps).stands }
+    requires ready { CanCall (S.facts held.old.steps).stands }
+    requires fits { OwnerFits part.array }
+    ensures size { length elements.new ≡ length elements.old }
+    ensures call { PerformsOver held.old held.new (λ c. 1) (λ c last t s. part_reading c last t s E.KIND (word_of part.array) part.start (length elements.old)) (read_answer result (map E.word_of elements.new)) }
+    ensures on { StaysOn held.old held.new }
+    ensures own { IsOwnStay inside.now (S.facts held.new.steps).stands }
+    ensures next { CanCall (S.facts held.new.steps).stands }
+    ensures err { IfErr result (λ _. elements.new ≡ elements.old) }
+{
+    read_into(&mut held.steps, inside, &held.frames, part, elements)
 }
 
 /// Reads a part of an array: E1, E2, E3, E5, E6, E7.

@@ -27,6 +27,7 @@ impl<S: Steps, E: Elem> Work<S> for ElementsCopying<E> {
     ghost use Rattle.jr_model.specs.Objects.{elements_copying};
     ghost use Rattle.jr_frames.specs.Reading.{word_of, OwnerFits};
     ghost use Rattle.jr_env.specs.Copies.{in_form};
+    ghost use Rattle.jr_env.specs.InStays.{elements_copying_in_stay};
 
     type Answer = Elements<E>;
 
@@ -39,6 +40,8 @@ impl<S: Steps, E: Elem> Work<S> for ElementsCopying<E> {
     ghost learns = { λ _ _ j k. Unit {0} };
 
     ghost gives = { λ _ _. Unit {0} };
+
+    ghost in_stay = { λ w. elements_copying_in_stay (map E.word_of) E.KIND (word_of w.array) };
 
     fn work(
         self,
@@ -71,6 +74,7 @@ impl<S: Steps> Work<S> for UnitsCopying {
     ghost use Rattle.jr_model.specs.Objects.{units_copying};
     ghost use Rattle.jr_frames.specs.Reading.{word_of, OwnerFits};
     ghost use Rattle.jr_env.specs.Copies.{in_form};
+    ghost use Rattle.jr_env.specs.InStays.{units_copying_in_stay};
 
     type Answer = Vec<u16>;
 
@@ -83,6 +87,8 @@ impl<S: Steps> Work<S> for UnitsCopying {
     ghost learns = { λ _ _ j k. Unit {0} };
 
     ghost gives = { λ _ _. Unit {0} };
+
+    ghost in_stay = { λ w. units_copying_in_stay (λ units. units.items) (word_of w.string) };
 
     fn work(self, steps: &mut S, inside: &Inside, frames: &mut Frames) -> Result<Vec<u16>, Fault> {
         let (object, header) = find(steps, inside, frames, self.string)?;
@@ -106,6 +112,7 @@ impl<S: Steps, E: Elem> Work<S> for CopyingBack<'_, E> {
     ghost use Rattle.std.specs.Prelude.{map};
     ghost use Rattle.jr_model.specs.Objects.{copying_back};
     ghost use Rattle.jr_frames.specs.Reading.{word_of, OwnerFits};
+    ghost use Rattle.jr_env.specs.InStays.{copying_back_in_stay};
 
     type Answer = ();
 
@@ -118,6 +125,8 @@ impl<S: Steps, E: Elem> Work<S> for CopyingBack<'_, E> {
     ghost learns = { λ _ _ j k. Unit {0} };
 
     ghost gives = { λ _ _. Unit {0} };
+
+    ghost in_stay = { λ w. copying_back_in_stay E.KIND (word_of w.array) (map E.word_of w.elements.now) };
 
     fn work(self, steps: &mut S, inside: &Inside, frames: &mut Frames) -> Result<(), Fault> {
         let CopyingBack { array, elements } = self;

@@ -12,6 +12,7 @@ pub struct LocalsFreeing;
 impl<S: Steps> Work<S> for LocalsFreeing {
     ghost use Rattle.jr_steps.specs.Knowing.{keeps};
     ghost use Rattle.jr_model.specs.References.{freeing};
+    ghost use Rattle.jr_env.specs.InStays.{freeing_in_stay};
 
     type Answer = ();
 
@@ -24,6 +25,8 @@ impl<S: Steps> Work<S> for LocalsFreeing {
     ghost learns = { λ _ _ j k. keeps j k };
 
     ghost gives = { λ _ _. Unit {0} };
+
+    ghost in_stay = { λ _. freeing_in_stay };
 
     fn work(self, steps: &mut S, inside: &Inside, frames: &mut Frames) -> Result<(), Fault> {
         free_all(steps, inside, frames);
@@ -41,6 +44,7 @@ impl<S: Steps> Work<S> for FramePop {
     ghost use Rattle.jr_steps.specs.Knowing.{keeps};
     ghost use Rattle.jr_env.specs.Works.{frame_popping};
     ghost use Rattle.jr_frames.specs.Reading.{word_of, OwnerFits};
+    ghost use Rattle.jr_env.specs.InStays.{popping_in_stay};
 
     type Answer = Option<HandleParts>;
 
@@ -53,6 +57,8 @@ impl<S: Steps> Work<S> for FramePop {
     ghost learns = { λ _ _ j k. keeps j k };
 
     ghost gives = { λ t made. IfSome made (λ h. (h.kind ≡ Local) × (h.owner ≡ t)) };
+
+    ghost in_stay = { λ w. popping_in_stay (word_of w.0) };
 
     fn work(
         self,

@@ -27,6 +27,7 @@ impl<S: Steps> Work<S> for Making<'_> {
     ghost use Rattle.jr_word.specs.declared.handle.RefKind.TheVariants.{Local};
     ghost use Rattle.jr_model.specs.References.{making};
     ghost use Rattle.jr_env.specs.Works.{LearnsNew, object_made};
+    ghost use Rattle.jr_env.specs.InStays.{making_in_stay};
 
     type Answer = HandleParts;
 
@@ -39,6 +40,8 @@ impl<S: Steps> Work<S> for Making<'_> {
     ghost learns = { λ f answer j k. LearnsNew (object_made f answer) j k };
 
     ghost gives = { λ t h. (h.kind ≡ Local) × (h.owner ≡ t) };
+
+    ghost in_stay = { λ _. making_in_stay };
 
     fn work(
         self,
@@ -70,6 +73,7 @@ impl<S: Steps> Work<S> for ArrayMaking<'_> {
     ghost use Rattle.jr_word.specs.declared.kind.Kind.TheVariants.{Plain};
     ghost use Rattle.jr_model.specs.References.{made};
     ghost use Rattle.jr_env.specs.Deeds.{making_steps};
+    ghost use Rattle.jr_env.specs.InStays.{zeros_in_stay};
 
     type Answer = HandleParts;
 
@@ -82,6 +86,8 @@ impl<S: Steps> Work<S> for ArrayMaking<'_> {
     ghost learns = { λ _ _ j k. Unit {0} };
 
     ghost gives = { λ t h. (h.kind ≡ Local) × (h.owner ≡ t) };
+
+    ghost in_stay = { λ w. zeros_in_stay w.kind w.length };
 
     fn work(
         self,
@@ -115,6 +121,7 @@ impl<S: Steps> Work<S> for ObjectArrayMaking<'_> {
     ghost use Rattle.jr_model.specs.References.{array_making};
     ghost use Rattle.jr_frames.specs.Reading.{word_of, OwnerFits};
     ghost use Rattle.jr_env.specs.Deeds.{making_steps};
+    ghost use Rattle.jr_env.specs.InStays.{array_making_in_stay};
 
     type Answer = HandleParts;
 
@@ -127,6 +134,8 @@ impl<S: Steps> Work<S> for ObjectArrayMaking<'_> {
     ghost learns = { λ _ _ j k. Unit {0} };
 
     ghost gives = { λ t h. (h.kind ≡ Local) × (h.owner ≡ t) };
+
+    ghost in_stay = { λ w. array_making_in_stay w.length (word_of w.initial) };
 
     fn work(
         self,
@@ -160,6 +169,7 @@ impl<S: Steps> Work<S> for StringMaking<'_> {
     ghost use Rattle.jr_word.specs.declared.kind.Kind.TheVariants.{Text};
     ghost use Rattle.jr_model.specs.References.{made};
     ghost use Rattle.jr_env.specs.Deeds.{making_steps};
+    ghost use Rattle.jr_env.specs.InStays.{string_in_stay};
 
     type Answer = HandleParts;
 
@@ -172,6 +182,8 @@ impl<S: Steps> Work<S> for StringMaking<'_> {
     ghost learns = { λ _ _ j k. Unit {0} };
 
     ghost gives = { λ t h. (h.kind ≡ Local) × (h.owner ≡ t) };
+
+    ghost in_stay = { λ w. string_in_stay w.units.now };
 
     fn work(
         self,

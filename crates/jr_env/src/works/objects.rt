@@ -18,6 +18,7 @@ pub struct KindReading(pub Reference);
 impl<S: Steps> Work<S> for KindReading {
     ghost use Rattle.jr_model.specs.Objects.{kind_reading};
     ghost use Rattle.jr_frames.specs.Reading.{word_of, OwnerFits};
+    ghost use Rattle.jr_env.specs.InStays.{kind_reading_in_stay};
 
     type Answer = Kind;
 
@@ -30,6 +31,8 @@ impl<S: Steps> Work<S> for KindReading {
     ghost learns = { λ _ _ j k. Unit {0} };
 
     ghost gives = { λ _ _. Unit {0} };
+
+    ghost in_stay = { λ w. kind_reading_in_stay (word_of w.0) };
 
     fn work(self, steps: &mut S, inside: &Inside, frames: &mut Frames) -> Result<Kind, Fault> {
         let (_, header) = find(steps, inside, frames, self.0)?;
@@ -46,6 +49,7 @@ impl<S: Steps> Work<S> for ArrayLength {
     ghost use Rattle.jr_model.specs.Checks.{is_array};
     ghost use Rattle.jr_model.specs.Objects.{length_reading};
     ghost use Rattle.jr_frames.specs.Reading.{word_of, OwnerFits};
+    ghost use Rattle.jr_env.specs.InStays.{array_length_in_stay};
 
     type Answer = u32;
 
@@ -58,6 +62,8 @@ impl<S: Steps> Work<S> for ArrayLength {
     ghost learns = { λ _ _ j k. Unit {0} };
 
     ghost gives = { λ _ _. Unit {0} };
+
+    ghost in_stay = { λ w. array_length_in_stay (word_of w.0) };
 
     fn work(self, steps: &mut S, inside: &Inside, frames: &mut Frames) -> Result<u32, Fault> {
         let (_, header) = find(steps, inside, frames, self.0)?;
@@ -77,6 +83,7 @@ impl<S: Steps> Work<S> for TextLength {
     ghost use Rattle.jr_model.specs.Checks.{is_text};
     ghost use Rattle.jr_model.specs.Objects.{length_reading};
     ghost use Rattle.jr_frames.specs.Reading.{word_of, OwnerFits};
+    ghost use Rattle.jr_env.specs.InStays.{text_length_in_stay};
 
     type Answer = u32;
 
@@ -89,6 +96,8 @@ impl<S: Steps> Work<S> for TextLength {
     ghost learns = { λ _ _ j k. Unit {0} };
 
     ghost gives = { λ _ _. Unit {0} };
+
+    ghost in_stay = { λ w. text_length_in_stay (word_of w.0) };
 
     fn work(self, steps: &mut S, inside: &Inside, frames: &mut Frames) -> Result<u32, Fault> {
         let (_, header) = find(steps, inside, frames, self.0)?;
@@ -113,6 +122,7 @@ impl<S: Steps> Work<S> for ElementReading {
     ghost use Rattle.jr_word.specs.declared.handle.RefKind.TheVariants.{Local};
     ghost use Rattle.jr_model.specs.Objects.{element_reading};
     ghost use Rattle.jr_frames.specs.Reading.{word_of, OwnerFits};
+    ghost use Rattle.jr_env.specs.InStays.{element_reading_in_stay};
 
     type Answer = Option<HandleParts>;
 
@@ -125,6 +135,8 @@ impl<S: Steps> Work<S> for ElementReading {
     ghost learns = { λ _ _ j k. Unit {0} };
 
     ghost gives = { λ t made. IfSome made (λ h. (h.kind ≡ Local) × (h.owner ≡ t)) };
+
+    ghost in_stay = { λ w. element_reading_in_stay (word_of w.target) w.index };
 
     fn work(
         self,
@@ -154,6 +166,7 @@ pub struct ElementWriting {
 impl<S: Steps> Work<S> for ElementWriting {
     ghost use Rattle.jr_model.specs.Objects.{element_writing};
     ghost use Rattle.jr_frames.specs.Reading.{word_of, OwnerFits};
+    ghost use Rattle.jr_env.specs.InStays.{element_writing_in_stay};
 
     type Answer = ();
 
@@ -166,6 +179,8 @@ impl<S: Steps> Work<S> for ElementWriting {
     ghost learns = { λ _ _ j k. Unit {0} };
 
     ghost gives = { λ _ _. Unit {0} };
+
+    ghost in_stay = { λ w. element_writing_in_stay (word_of w.target) w.index (word_of w.value) };
 
     fn work(self, steps: &mut S, inside: &Inside, frames: &mut Frames) -> Result<(), Fault> {
         let (array, object) = resolve_both(steps, inside, frames, self.target, self.value)?;

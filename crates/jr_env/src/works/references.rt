@@ -32,6 +32,7 @@ impl<S: Steps> Work<S> for Creation {
     ghost use Rattle.jr_steps.specs.Knowing.{keeps};
     ghost use Rattle.jr_model.specs.References.{creation};
     ghost use Rattle.jr_frames.specs.Reading.{word_of, OwnerFits};
+    ghost use Rattle.jr_env.specs.InStays.{creation_in_stay};
 
     type Answer = Option<HandleParts>;
 
@@ -44,6 +45,8 @@ impl<S: Steps> Work<S> for Creation {
     ghost learns = { λ _ _ j k. keeps j k };
 
     ghost gives = { λ t made. IfSome made (λ h. h.owner ≡ 0) };
+
+    ghost in_stay = { λ w. creation_in_stay w.kind (word_of w.target) };
 
     fn work(
         self,
@@ -69,6 +72,7 @@ impl<S: Steps> Work<S> for LocalCreation {
     ghost use Rattle.jr_steps.specs.Knowing.{keeps};
     ghost use Rattle.jr_model.specs.References.{local_creation};
     ghost use Rattle.jr_frames.specs.Reading.{word_of, OwnerFits};
+    ghost use Rattle.jr_env.specs.InStays.{local_creation_in_stay};
 
     type Answer = Option<HandleParts>;
 
@@ -81,6 +85,8 @@ impl<S: Steps> Work<S> for LocalCreation {
     ghost learns = { λ _ _ j k. keeps j k };
 
     ghost gives = { λ t made. IfSome made (λ h. (h.kind ≡ Local) × (h.owner ≡ t)) };
+
+    ghost in_stay = { λ w. local_creation_in_stay (word_of w.0) };
 
     fn work(
         self,
@@ -108,6 +114,7 @@ impl<S: Steps> Work<S> for Removal {
     ghost use Rattle.jr_steps.specs.Knowing.{keeps};
     ghost use Rattle.jr_model.specs.References.{removal};
     ghost use Rattle.jr_frames.specs.Reading.{word_of, OwnerFits};
+    ghost use Rattle.jr_env.specs.InStays.{removal_in_stay};
 
     type Answer = ();
 
@@ -120,6 +127,8 @@ impl<S: Steps> Work<S> for Removal {
     ghost learns = { λ _ _ j k. keeps j k };
 
     ghost gives = { λ _ _. Unit {0} };
+
+    ghost in_stay = { λ w. removal_in_stay w.kind (word_of w.target) };
 
     #[inline(always)]
     fn work(self, steps: &mut S, inside: &Inside, frames: &mut Frames) -> Result<(), Fault> {
@@ -139,6 +148,7 @@ impl<S: Steps> Work<S> for LocalRemoval {
     ghost use Rattle.jr_steps.specs.Knowing.{keeps};
     ghost use Rattle.jr_model.specs.References.{local_removal};
     ghost use Rattle.jr_frames.specs.Reading.{word_of};
+    ghost use Rattle.jr_env.specs.InStays.{local_removal_in_stay};
 
     type Answer = ();
 
@@ -151,6 +161,8 @@ impl<S: Steps> Work<S> for LocalRemoval {
     ghost learns = { λ _ _ j k. keeps j k };
 
     ghost gives = { λ _ _. Unit {0} };
+
+    ghost in_stay = { λ w. local_removal_in_stay (word_of w.0) };
 
     fn work(self, steps: &mut S, inside: &Inside, frames: &mut Frames) -> Result<(), Fault> {
         match self.0 {
@@ -169,6 +181,7 @@ impl<S: Steps> Work<S> for Comparison {
     ghost use Rattle.jr_steps.specs.Knowing.{keeps};
     ghost use Rattle.jr_model.specs.References.{comparison};
     ghost use Rattle.jr_frames.specs.Reading.{word_of, OwnerFits};
+    ghost use Rattle.jr_env.specs.InStays.{comparison_in_stay};
 
     type Answer = bool;
 
@@ -181,6 +194,8 @@ impl<S: Steps> Work<S> for Comparison {
     ghost learns = { λ _ _ j k. keeps j k };
 
     ghost gives = { λ _ _. Unit {0} };
+
+    ghost in_stay = { λ w. comparison_in_stay (word_of w.0) (word_of w.1) };
 
     fn work(self, steps: &mut S, inside: &Inside, frames: &mut Frames) -> Result<bool, Fault> {
         let (first, second) = resolve_both(steps, inside, frames, self.0, self.1)?;
@@ -196,6 +211,7 @@ impl<S: Steps> Work<S> for Typing {
     ghost use Rattle.jr_steps.specs.Knowing.{keeps};
     ghost use Rattle.jr_model.specs.References.{typing};
     ghost use Rattle.jr_frames.specs.Reading.{word_of, OwnerFits};
+    ghost use Rattle.jr_env.specs.InStays.{typing_in_stay};
 
     type Answer = u8;
 
@@ -208,6 +224,8 @@ impl<S: Steps> Work<S> for Typing {
     ghost learns = { λ _ _ j k. keeps j k };
 
     ghost gives = { λ _ _. Unit {0} };
+
+    ghost in_stay = { λ w. typing_in_stay (word_of w.0) };
 
     fn work(self, steps: &mut S, inside: &Inside, frames: &mut Frames) -> Result<u8, Fault> {
         Ok(type_of(steps, inside, frames, self.0))

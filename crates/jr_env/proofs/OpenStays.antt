@@ -1,0 +1,208 @@
+-- A stay that goes on from call to call, for whatever was known: it is an open stay of the machine, which no collection disturbs.
+use Rattle.std.proofs.Common.{◌≡◌, ℕ, [], ◌∷◌, Result, Ok, Err, IfOk, IfErr, inl, inr, refl, sym, ap, subst, ◌∙◌}
+use Rattle.jr_word.specs.declared.config.Config.{Config}
+use Rattle.jr_word.specs.declared.fault.Fault.{Fault}
+use Rattle.jr_word.specs.declared.fault.Fault.TheVariants.{Barred}
+use Rattle.jr_model.specs.declared.event.Act.{Act}
+use Rattle.jr_model.specs.declared.event.Act.TheVariants.{Gate}
+use Rattle.jr_model.specs.declared.event.GateAct.TheVariants.{Enter, Knock, Leave, Withdraw}
+use Rattle.jr_model.specs.declared.event.Role.TheVariants.{Outside, Within}
+use Rattle.jr_model.specs.State.{State}
+use Rattle.jr_model.specs.Frames.{Frames}
+use Rattle.jr_model.specs.History.{History, Did, PassView}
+use Rattle.jr_model.specs.Windows.{IsWindow, Stepped}
+use Rattle.jr_model.specs.Calls.{Call, Ran, done}
+use Rattle.jr_model.specs.Parts.{enter, leave}
+use Rattle.jr_model.specs.StayCalls.{IsOpenStay, IsStayCall, was_entered, has_called}
+use Rattle.jr_model.proofs.Moments.{prefix_self}
+use Rattle.jr_model.proofs.Runs.{ran_act}
+use Rattle.jr_model.proofs.StayCalls.{no_collection_in_open_stay, no_collection_up_to_exit}
+use Rattle.jr_model.proofs.Windows.{stepped_last}
+use Rattle.jr_steps.specs.declared.known.Known.{Known}
+use Rattle.jr_steps.specs.declared.steps.Steps.{Ghosts}
+use Rattle.jr_steps.specs.Knowing.{AreOf, Facts, Standing, anything, keeps, lets_go, state_of, view, Holds, Took}
+use Rattle.jr_steps.proofs.StepFacts.{goes_did, goes_stepped}
+use Rattle.jr_gate.specs.declared.inside.Inside.{Inside}
+use Rattle.jr_gate.specs.Acting.{ActedTo, LetsGoInTwo}
+use Rattle.jr_gate.specs.Performing.{Performed}
+use Rattle.jr_gate.specs.Stays.{IsOwnStay}
+use Rattle.jr_gate.proofs.Spending.{made_of, spend_barred, spend_step}
+use Rattle.jr_frames.specs.declared.held.Held.{Held}
+use Rattle.jr_frames.specs.Table.{Table}
+use Rattle.jr_frames.specs.Ready.{AreOwn, StandsReady, KeepsOwner}
+use Rattle.jr_frames.proofs.FramesAgree.{holds_did}
+use Rattle.jr_frames.proofs.StillReady.{own_stepped, ready_after, ready_entered}
+use Rattle.jr_elements.specs.Copies.{answer_in}
+use Rattle.jr_env.specs.Calling.{CanCall}
+use Rattle.jr_env.specs.OpenStays.{EndsAsOneStay, Enters, EntersOver, IsInStay, Leaves, LeavesOver, PerformsOver, StaysOn, StaysSince}
+use Rattle.jr_env.specs.Works.{EndsStay, EndsStayOver}
+use Rattle.jr_env.proofs.EndedStays.{can_call}
+use Rattle.jr_env.proofs.InsideGate.{completes_barred}
+use Rattle.jr_env.proofs.StandingRegions.{at_known, at_same}
+
+-- THE ENTRY AND THE EXIT, as calls of the machine
+
+ran_in : {p q : PassView} (f : Frames) → Stepped p q (Gate Enter) → Ran p q f f enter (Ok tt)
+ran_in {q = q} f a = record {
+  acts = Gate Enter ∷ [];
+  did = a.did;
+  is = inl (refl, refl, refl);
+  begun = q.seen;
+  window = record { from = a.did.begins; to = prefix_self q.seen; first = λ out. a.behind; last = λ out. absurd cc };
+  grounds = tt;
+}
+
+ran_shut : {p r : PassView} {begun : History} (f : Frames) → Did p r (Gate Knock ∷ Gate Withdraw ∷ []) → IsWindow p r (Gate Knock ∷ Gate Withdraw ∷ []) begun → Ran p r f f enter (Err Barred)
+ran_shut {begun = begun} f d w = record {
+  acts = Gate Knock ∷ Gate Withdraw ∷ [];
+  did = d;
+  is = inr (inl (tt, f, Gate Knock ∷ [], Gate Withdraw ∷ [], refl, (refl, refl, refl), inl (tt, f, Gate Withdraw ∷ [], [], refl, (refl, refl, refl), (refl, refl, refl))));
+  begun = begun;
+  window = w;
+  grounds = tt;
+}
+
+-- the same room and thread
+record IsOfOne (p q : PassView) : Type 0 where
+  config : q.config ≡ p.config
+  last : q.last ≡ p.last
+  thread : q.thread ≡ p.thread
+
+-- a stay is in one room, of one thread
+of_one : {p : PassView} {g : Frames} {q : PassView} {f : Frames} → IsOpenStay p g q f → IsOfOne p q
+of_one (was_entered r) = record { config = r.did.config; last = r.did.last; thread = r.did.thread }
+of_one (has_called acts before did call) = let b = of_one before in record { config = did.config ∙ b.config; last = did.last ∙ b.last; thread = did.thread ∙ b.thread }
+
+module _ {S : Type 0} {facts : S → Facts} where
+  -- a thread that stands ready within can make a call
+  pub can_within : {a : S} {t : Table} → StandsReady facts Within a t → CanCall (facts a).stands
+  can_within r = record { spent = r.spent; not_knocking = λ e. let within = r.role_is in cc; not_announcing = λ e. let within = r.role_is in cc; not_collecting = λ e. let within = r.role_is in cc }
+
+-- what the entry ensures, where it went in and where it was refused
+abbrev pub WentIn : {S : Type 0} → (S → Facts) → S → S → Result Inside Fault → Type 0
+WentIn facts a b answer = IfOk answer (λ i. IsOwnStay i (facts b).stands × Took facts a b (Gate Enter ∷ []) anything keeps)
+
+abbrev pub WasShut : {S : Type 0} → (S → Facts) → S → S → Result Inside Fault → Type 0
+WasShut facts a b answer = IfErr answer (λ e. (e ≡ Barred) × ActedTo facts a b (Gate Knock ∷ Gate Withdraw ∷ []) anything LetsGoInTwo)
+
+module _ {S : Type 0} (facts : S → Facts) (a b : S) (t : Table) where
+  -- THE ENTRY
+
+  enters : Took facts a b (Gate Enter ∷ []) anything keeps → Enters facts a b t.frames (Ok tt)
+  enters took = record {
+    stands_is = record {
+      room = ap (λ (s : Standing). s.room) took.stands_is;
+      config = ap (λ (s : Standing). s.config) took.stands_is;
+      last = ap (λ (s : Standing). s.last) took.stands_is;
+      thread = ap (λ (s : Standing). s.thread) took.stands_is;
+      role = ap (λ (s : Standing). s.role) took.stands_is;
+    };
+    ran = λ k s m.
+        let y = took.goes k s tt in
+        (y.0, y.1, made_of (spend_step took (λ n i. refl) k s tt t.frames t.frames) (ran_in t.frames (goes_stepped y.2)), (y.3, holds_did k y.0 t.frames (Gate Enter ∷ []) (goes_did y.2) (refl, tt) m));
+  }
+
+  enters_barred : ActedTo facts a b (Gate Knock ∷ Gate Withdraw ∷ []) anything LetsGoInTwo → Enters facts a b t.frames (Err Barred)
+  enters_barred took = record {
+    stands_is = record {
+      room = ap (λ (s : Standing). s.room) took.stands_is;
+      config = ap (λ (s : Standing). s.config) took.stands_is;
+      last = ap (λ (s : Standing). s.last) took.stands_is;
+      thread = ap (λ (s : Standing). s.thread) took.stands_is;
+      role = ap (λ (s : Standing). s.role) took.stands_is;
+    };
+    ran = λ k s m.
+        let y = took.leads k s tt in
+        (y.0, y.1, made_of (spend_barred took k s t.frames t.frames) (ran_shut t.frames y.2 y.3.2), (y.3.0.0, holds_did k y.0 t.frames (Gate Knock ∷ Gate Withdraw ∷ []) y.2 (refl, (refl, tt)) m));
+  }
+
+  enters_so : (answer : Result Inside Fault) → WentIn facts a b answer → WasShut facts a b answer → Enters facts a b t.frames (answer_in (λ (i : Inside). tt) answer)
+  enters_so (Ok i) went shut = enters went.1
+  enters_so (Err e) went shut = subst (λ (x : Fault). Enters facts a b t.frames (Err x)) (sym shut.0) (enters_barred shut.1)
+
+  module _ (r : StandsReady facts Outside a t) where
+    shut_ready : ActedTo facts a b (Gate Knock ∷ Gate Withdraw ∷ []) anything LetsGoInTwo → StandsReady facts Outside b t
+    shut_ready took = (completes_barred {A = Unit {0}} (λ c last thread s. done tt) r (Err Barred) refl (refl, took)).ready
+
+    pub own_entered : (answer : Result Inside Fault) → WentIn facts a b answer → WasShut facts a b answer → AreOwn facts b t
+    own_entered (Ok i) went shut = (ready_entered r went.1).own
+    own_entered (Err e) went shut = (shut_ready shut.1).own
+
+    pub can_entered : (answer : Result Inside Fault) → WentIn facts a b answer → WasShut facts a b answer → CanCall (facts b).stands
+    can_entered (Ok i) went shut = can_within (ready_entered r went.1)
+    can_entered (Err e) went shut = can_call (shut_ready shut.1)
+
+    pub refused_entered : (answer : Result Inside Fault) → WasShut facts a b answer → IfErr answer (λ e. (e ≡ Barred) × ((facts b).stands.role ≡ Outside))
+    refused_entered (Ok i) shut = tt
+    refused_entered (Err e) shut = (shut.0, (shut_ready shut.1).role_is)
+
+  -- THE EXIT
+
+  pub leaves : Took facts a b (Gate Leave ∷ []) anything lets_go → Leaves facts a b t.frames
+  leaves took = record {
+    stands_is = record {
+      room = ap (λ (s : Standing). s.room) took.stands_is;
+      config = ap (λ (s : Standing). s.config) took.stands_is;
+      last = ap (λ (s : Standing). s.last) took.stands_is;
+      thread = ap (λ (s : Standing). s.thread) took.stands_is;
+      role = ap (λ (s : Standing). s.role) took.stands_is;
+    };
+    ran = λ k s m.
+        let y = took.goes k s tt in
+        let d = goes_did y.2 in
+        let left = ran_act t.frames (Gate Leave) (λ out. absurd cc) (λ out. stepped_last (goes_stepped y.2)) d in
+        (y.0, y.1, made_of (spend_step took (λ n i. refl) k s tt t.frames t.frames) left, (y.3, holds_did k y.0 t.frames (Gate Leave ∷ []) d (refl, tt) m));
+  }
+
+  pub ready_left : StandsReady facts Within a t → Took facts a b (Gate Leave ∷ []) anything lets_go → StandsReady facts Outside b t
+  ready_left r took = record {
+    role_is = ap (λ (s : Standing). s.role) took.stands_is;
+    spent = ap (λ (s : Standing). s.fresh) took.stands_is ∙ r.spent;
+    own = own_stepped (Gate Leave) refl r.own took;
+  }
+
+-- OVER WHAT A THREAD HOLDS
+
+module _ {S : Type 0} {G : Ghosts S} where
+  -- what was entered stands
+  since_entry : (old new : Held S G) → new.frames ≡ old.frames → EntersOver old new (Ok tt) → StaysSince old new
+  since_entry old new same e j s m =
+      let x = e.ran j s m in
+      let f = old.frames.frames in
+      let stay : IsOpenStay (view j) f (view x.0) new.frames.frames = subst (λ (t : Table). IsOpenStay (view j) f (view x.0) t.frames) (sym same) (was_entered x.2.ran) in
+      (x.0, x.1, stay, (no_collection_in_open_stay (view j) (view x.0) f new.frames.frames stay, subst (λ (t : Table). Holds t.frames x.0) (sym same) x.3.1))
+
+  -- the entry, once a stay that was left has been ended
+  module _ (old mid new : Held S G) (ended : EndsStayOver old mid) (same : new.frames ≡ mid.frames) where
+    pub goes_in : (answer : Result Inside Fault) → WentIn G.facts mid.steps new.steps answer → WasShut G.facts mid.steps new.steps answer → (G.facts old.steps).stands.role ≡ Outside → EntersOver old new (answer_in (λ (i : Inside). tt) answer)
+    goes_in answer went shut out =
+        subst (λ (a : S). Enters G.facts a new.steps old.frames.frames (answer_in (λ (i : Inside). tt) answer)) (ended.same out)
+        (subst (λ (t : Table). Enters G.facts mid.steps new.steps t.frames (answer_in (λ (i : Inside). tt) answer)) ended.frames (enters_so G.facts mid.steps new.steps mid.frames answer went shut))
+
+    pub stays_since : (answer : Result Inside Fault) → WentIn G.facts mid.steps new.steps answer → WasShut G.facts mid.steps new.steps answer → IfOk answer (λ i. (G.facts old.steps).stands.role ≡ Outside → StaysSince old new)
+    stays_since (Ok i) went shut = λ out. since_entry old new (same ∙ ended.frames) (goes_in (Ok i) went shut out)
+    stays_since (Err e) went shut = tt
+
+  pub ends_as_one : (old new : Held S G) → new.frames ≡ old.frames → Took G.facts old.steps new.steps (Gate Leave ∷ []) anything lets_go → EndsAsOneStay old new
+  ends_as_one old new same took begun since i s m =
+      let x = since i s m in
+      let y = (leaves G.facts old.steps new.steps old.frames took).ran x.0 x.1 x.3.1 in
+      (y.0, y.1, no_collection_up_to_exit (view i) (view x.0) (view y.0) begun.frames.frames old.frames.frames old.frames.frames x.2 y.2.ran, subst (λ (t : Table). Holds t.frames y.0) (sym same) y.3.1)
+
+  module _ (fits : AreOf G.facts) (old new : Held S G) where
+    -- a work in a stay, with which it goes on
+    pub performs_on : {A : Type 0} (silent : ℕ) (so : Known → Known → Type 0) (asked : Config → ℕ → ℕ → State → Call A) {answer : Result A Fault} → IsInStay asked
+        → Performed G.facts old.steps new.steps old.frames.frames new.frames.frames silent (Holds old.frames.frames) (asked (G.facts old.steps).stands.config (G.facts old.steps).stands.last (G.facts old.steps).stands.thread) answer (λ j k. so j k × Holds new.frames.frames k)
+        → StaysOn old new
+    performs_on silent so asked {answer} law p begun since i s m =
+        let x = since i s m in
+        let y = p.ran x.0 x.1 x.3.1 in
+        let r = y.2.ran in
+        let f = old.frames.frames in
+        let g = new.frames.frames in
+        let at = (G.facts old.steps).stands in
+        let here = at_known (λ c l t. IsStayCall c l t (state_of y.0) f r.acts g) (fits old.steps x.0 x.1) (law at.config at.last at.thread (state_of y.0) f g r.acts answer r.is) in
+        let one = of_one x.2 in
+        let call = at_same (λ c l t. IsStayCall c l t (state_of y.0) f r.acts g) one.config one.last one.thread here in
+        let stay : IsOpenStay (view i) begun.frames.frames (view y.0) g = has_called r.acts x.2 r.did call in
+        (y.0, y.1, stay, (no_collection_in_open_stay (view i) (view y.0) begun.frames.frames g stay, y.3.1))

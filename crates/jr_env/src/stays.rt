@@ -1,0 +1,8 @@
+//! The calls of a stay: those of an env that enter the gate, without an entry and an exit of their own.
+
+mod array_parts;
+mod copies;
+mod frames;
+mod making;
+mod objects;
+mod references;
