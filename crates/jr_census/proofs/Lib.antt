@@ -1,0 +1,4 @@
+pub mod Turns
+pub mod SlotsCounted
+pub mod HeadersCounted
+pub mod Takes
