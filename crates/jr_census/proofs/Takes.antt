@@ -1,12 +1,11 @@
 -- A census, from the shut of the gate to its reopening.
-use Rattle.std.proofs.Common.{◌≡◌, ◌≤◌, ◌+◌, ℕ, Option, List, [], ◌∷◌, ◌++◌, refl, sym, ap, subst, ◌∙◌, append_assoc, arith}
+use Rattle.std.proofs.Common.{◌≡◌, ◌≤◌, ◌+◌, ◌*◌, ℕ, Bool, Option, List, [], ◌∷◌, ◌++◌, refl, sym, ap, subst, ◌∙◌, append_assoc, arith}
 use Rattle.jr_word.specs.declared.config.Config.{Config}
 use Rattle.jr_model.specs.declared.event.Role.TheVariants.{Outside, Collecting}
 use Rattle.jr_model.specs.declared.event.Act.{Act}
 use Rattle.jr_model.specs.declared.event.Act.TheVariants.{Gate}
 use Rattle.jr_model.specs.declared.event.GateAct.TheVariants.{Shut, Reopen}
-use Rattle.jr_model.specs.declared.event.Found.{Found}
-use Rattle.jr_model.specs.State.{Handle, Contents, State, HaveSameTables}
+use Rattle.jr_model.specs.State.{Contents, State, HaveSameTables}
 use Rattle.jr_model.specs.History.{History, by, state, Did}
 use Rattle.jr_model.specs.Windows.{IsWindow}
 use Rattle.jr_model.proofs.Stays.{did_then}
@@ -16,21 +15,32 @@ use Rattle.jr_steps.specs.declared.known.Holdings.{Holdings}
 use Rattle.jr_steps.specs.Knowing.{AreOf, Facts, Goes, Took, CanReopen, IsClosedNow, anything, lets_go, standing_after, state_of, view}
 use Rattle.jr_steps.proofs.CollectorFacts.{tables_seen}
 use Rattle.jr_steps.proofs.StepFacts.{goes_stepped}
-use Rattle.jr_compact.specs.Counting.{TakesWithin}
-use Rattle.jr_weak.proofs.Collects.{sees_did, shut_tables}
+use Rattle.jr_compact.specs.Counting.{SawWithin, TakesWithin}
+use Rattle.jr_weak.specs.Counting.{marking_steps}
+use Rattle.jr_weak.specs.Marking.{IsMarkedNow}
+use Rattle.jr_weak.specs.Marks.{IsExactly}
+use Rattle.jr_weak.proofs.Collects.{same_back, sees_did, shut_tables}
+use Rattle.jr_weak.proofs.Leading.{reached_on}
 use Rattle.jr_census.specs.declared.taking.Census.{Census}
-use Rattle.jr_census.specs.declared.references.References.{References}
+use Rattle.jr_census.specs.declared.slots.Slots.{Slots}
 use Rattle.jr_census.specs.declared.objects.Objects.{Objects as ObjectCounts}
-use Rattle.jr_census.specs.Counts.{AreReferences, AreObjects}
-use Rattle.jr_census.specs.Taking.{Counts, CountsFrom, IsCensusOf, IsTaken, ShutIn, TakesCensus, census_steps}
+use Rattle.jr_census.specs.Counts.{AreLocals, AreObjects, AreSlots, unmarked}
+use Rattle.jr_census.specs.Taking.{Counts, CountsFrom, IsCensusOf, IsTaken, ShutIn, TakesCensus, census_steps, counting_steps}
 use Rattle.jr_census.specs.Telling.{Tells}
+use Rattle.jr_census.proofs.SlotsCounted.{slots_on}
 use Rattle.jr_census.proofs.Turns.{told_then}
+
+-- marked means reached in the same tables, too
+exactly_on : (marks : List Bool) {s t : State} → HaveSameTables s t → IsExactly marks s → IsExactly marks t
+exactly_on marks same e o = ((λ m. reached_on same o ((e o).0 m)), (λ r. (e o).1 (reached_on (same_back same) o r)))
 
 -- the same is told of the same tables
 census_on : (c : Config) (last : ℕ) (x : Census) {s t : State} → HaveSameTables s t → IsCensusOf c last t x → IsCensusOf c last s x
 census_on c last x {s} {t} same told = record {
-  references = subst (λ (f : Handle → Found). AreReferences c.slots last f x.references) same.refs told.references;
+  slots = slots_on c.slots last x.slots (same_back same) told.slots;
+  locals = subst (λ (f : ℕ → ℕ → Option ℕ). AreLocals c.locals f x.locals) same.locals told.locals;
   objects = subst (λ (f : ℕ → Option Contents). AreObjects c.objects f x.objects) same.objects told.objects;
+  unreached = let u = told.unreached in (u.0, exactly_on u.0 (same_back same) u.1, subst (λ (f : ℕ → Option Contents). AreObjects c.objects (unmarked u.0 f) x.unreached) same.objects u.2);
 }
 
 -- where the gate was shut
@@ -49,8 +59,8 @@ pub record CensusSince (k k' : Known) (x : Census) : Type 0 where
   pub window : IsWindow (view k) (view k') (Gate Shut ∷ Gate Reopen ∷ []) begun
   pub within : TakesWithin (census_steps k.config) k k'
 
-within_all : (a b d e slots objects : ℕ) → b ≡ a + 1 → d ≤ b + (slots + objects) → e ≡ d + 1 → e ≤ a + (slots + objects + 2)
-within_all a b d e slots objects first rest last = omega arith
+within_all : (a b d e marking counting : ℕ) → b ≡ a + 1 → d ≤ b + (marking + counting) → e ≡ d + 1 → e ≤ a + (marking + counting + 2)
+within_all a b d e marking counting first rest last = omega arith
 
 pub census_since : {k k1 k6 : Known} (x : Census) → Goes k (Gate Shut ∷ []) k1 → CountsFrom k1 k6 x → CensusSince k k6 x
 unfolding shut_in
@@ -60,7 +70,7 @@ census_since {k} {k1} {k6} x g rest =
     let swept = sees_did rest.seen.sees in
     let after' : Did (view k1) (view k6) (Gate Reopen ∷ []) = did_then [] (Gate Reopen ∷ []) swept last.did in
     let did : Did (view k) (view k6) (Gate Shut ∷ Gate Reopen ∷ []) = did_then (Gate Shut ∷ []) (Gate Reopen ∷ []) first.did after' in
-    let some : (rest.opening).taken ≤ k1.taken + (k.config.slots + k.config.objects) = subst (λ (c : Config). (rest.opening).taken ≤ k1.taken + (c.slots + c.objects)) g.config rest.seen.within in
+    let some : (rest.opening).taken ≤ k1.taken + (marking_steps k.config + counting_steps k.config) = subst (λ (c : Config). (rest.opening).taken ≤ k1.taken + (marking_steps c + counting_steps c)) g.config rest.seen.within in
     record {
       taken = record {
         did = did;
@@ -69,37 +79,69 @@ census_since {k} {k1} {k6} x g rest =
       };
       begun = k1.seen;
       window = window_stay (Gate Shut) [] (Gate Reopen) first (λ out. first.behind) swept last (λ out. stepped_last last);
-      within = within_all k.taken k1.taken (rest.opening).taken k6.taken k.config.slots k.config.objects g.taken some (rest.opened).taken;
+      within = within_all k.taken k1.taken (rest.opening).taken k6.taken (marking_steps k.config) (counting_steps k.config) g.taken some (rest.opened).taken;
     }
 
-module _ {S : Type 0} {facts : S → Facts} (fits : AreOf facts) {b c d : S} (r : References) (o : ObjectCounts) (collecting : (facts b).stands.role ≡ Collecting)
-    (references : Tells facts (λ j. j.config.slots) b c (λ k. AreReferences k.config.slots k.last (state_of k).refs r)) (objects : Tells facts (λ j. j.config.objects) c d (λ k. AreObjects k.config.objects (state_of k).objects o)) where
-  -- both counts are of one state
-  both_told : Tells facts (λ j. j.config.slots + j.config.objects) b d (λ k. IsCensusOf k.config k.last (state_of k) (record { references = r; objects = o }))
-  both_told = told_then fits (λ j. j.config.slots + j.config.objects) collecting references objects (λ k k' config. let same = ap (λ (z : Config). z.objects) config in omega arith) (λ k k' s same config last was is. record {
-    references = subst (λ (z : ℕ × ℕ × (Handle → Found)). AreReferences z.0 z.1 z.2 r) (λ j. ((sym config j).slots, sym last j, sym same.refs j)) was;
-    objects = is;
+-- what is so once the objects are marked, once the slots are counted, too, and once the objects are
+abbrev pub Marked : List Bool → Known → Type 0
+Marked marks k = IsExactly marks (state_of k)
+
+abbrev pub WithSlots : List Bool → Slots → Known → Type 0
+WithSlots marks slots k = Marked marks k × AreSlots k.config.slots k.last (state_of k) slots
+
+abbrev pub WithObjects : List Bool → Slots → ObjectCounts → ObjectCounts → Known → Type 0
+WithObjects marks slots x y k = WithSlots marks slots k × AreObjects k.config.objects (state_of k).objects x × AreObjects k.config.objects (unmarked marks (state_of k).objects) y
+
+pub marks_told : {S : Type 0} {facts : S → Facts} {b c : S} (marks : List Bool) → SawWithin facts (λ j. marking_steps j.config) b c CanReopen (λ j k. IsMarkedNow marks k) → Tells facts (λ j. marking_steps j.config) b c (Marked marks)
+marks_told marks marked = record { stands_is = marked.stands_is; hint_is = marked.hint_is; leads = λ k s can. let z = marked.leads k s can in (z.0, z.1, z.2, (z.3.1, z.3.0)) }
+
+-- more loads, by the sizes of one room
+more_loads : (f g : Config → ℕ) (k k' : Known) → k'.config ≡ k.config → f k.config + g k'.config ≤ f k.config + g k.config
+more_loads f g k k' config = let same = ap g config in omega arith
+
+module _ {S : Type 0} {facts : S → Facts} (fits : AreOf facts) (marks : List Bool) (slots : Slots) (x y : ObjectCounts) (locals : List ℕ) {b c d e f : S} (collecting : (facts b).stands.role ≡ Collecting)
+    (marked : SawWithin facts (λ j. marking_steps j.config) b c CanReopen (λ j k. IsMarkedNow marks k)) (slots_told : Tells facts (λ j. j.config.slots) c d (λ k. AreSlots k.config.slots k.last (state_of k) slots))
+    (objects_told : Tells facts (λ j. j.config.objects) d e (λ k. AreObjects k.config.objects (state_of k).objects x × AreObjects k.config.objects (unmarked marks (state_of k).objects) y))
+    (locals_told : Tells facts (λ j. j.config.threads * j.config.locals) e f (λ k. AreLocals k.config.locals (state_of k).locals locals)) where
+  with_slots : Tells facts (λ j. marking_steps j.config + j.config.slots) b d (WithSlots marks slots)
+  with_slots = told_then fits (λ j. marking_steps j.config + j.config.slots) collecting (marks_told marks marked) slots_told (λ k k' config. more_loads marking_steps (λ c. c.slots) k k' config) (λ k k' s same config last was is. (exactly_on marks same was, is))
+
+  with_objects : Tells facts (λ j. marking_steps j.config + j.config.slots + j.config.objects) b e (WithObjects marks slots x y)
+  with_objects = told_then fits (λ j. marking_steps j.config + j.config.slots + j.config.objects) collecting with_slots objects_told (λ k k' config. more_loads (λ c. marking_steps c + c.slots) (λ c. c.objects) k k' config) (λ k k' s same config last was is. (
+    (exactly_on marks same was.0, subst (λ (z : Config × ℕ). AreSlots (z.0).slots z.1 (state_of k') slots) (λ j. (sym config j, sym last j)) (slots_on k.config.slots k.last slots same was.1)),
+    is.0,
+    is.1,
+  ))
+
+  -- all counts are of one state
+  pub all_told : Tells facts (λ j. marking_steps j.config + counting_steps j.config) b f (λ k. IsCensusOf k.config k.last (state_of k) (record { slots = slots; locals = locals; objects = x; unreached = y }))
+  all_told = told_then fits (λ j. marking_steps j.config + counting_steps j.config) collecting with_objects locals_told (λ k k' config. let z = more_loads (λ c. marking_steps c + c.slots + c.objects) (λ c. c.threads * c.locals) k k' config in omega (arith, z)) (λ k k' s same config last was is. record {
+    slots = subst (λ (z : Config × ℕ). AreSlots (z.0).slots z.1 (state_of k') slots) (λ j. (sym config j, sym last j)) (slots_on k.config.slots k.last slots same was.0.1);
+    locals = is;
+    objects = subst (λ (z : Config × (ℕ → Option Contents)). AreObjects (z.0).objects z.1 x) (λ j. (sym config j, sym same.objects j)) was.1;
+    unreached = (marks, exactly_on marks same was.0.0, subst (λ (z : Config × (ℕ → Option Contents)). AreObjects (z.0).objects (unmarked marks z.1) y) (λ j. (sym config j, sym same.objects j)) was.2);
   })
 
   -- THE STATE WAS COUNTED, and the gate opened
-  pub counts : {z : S} → Took facts d z (Gate Reopen ∷ []) CanReopen lets_go → Counts facts b z (record { references = r; objects = o })
+  pub counts : {z : S} → Took facts f z (Gate Reopen ∷ []) CanReopen lets_go → Counts facts b z (record { slots = slots; locals = locals; objects = x; unreached = y })
   counts {z} opened = record {
-    stands_is = opened.stands_is ∙ ap (λ s. standing_after s (Gate Reopen ∷ [])) both_told.stands_is;
-    hint_is = opened.hint_is ∙ both_told.hint_is;
+    stands_is = opened.stands_is ∙ ap (λ s. standing_after s (Gate Reopen ∷ [])) all_told.stands_is;
+    hint_is = opened.hint_is ∙ all_told.hint_is;
     leads = λ k s can.
-        let x = both_told.leads k s can in
-        let y = opened.goes x.0 x.1 x.3.0 in
-        let sees = (x.2).sees in
-        let same = tables_seen sees ((fits b k s).role ∙ collecting) in (
-          y.0,
-          y.1,
+        let z = all_told.leads k s can in
+        let o = opened.goes z.0 z.1 z.3.0 in
+        let sees = (z.2).sees in
+        let same = tables_seen sees ((fits b k s).role ∙ collecting) in
+        let census : Census = record { slots = slots; locals = locals; objects = x; unreached = y } in (
+          o.0,
+          o.1,
           record {
-            opening = x.0;
-            seen = x.2;
-            told = subst (λ (z : Config × ℕ). IsCensusOf z.0 z.1 (state_of k) (record { references = r; objects = o })) (λ j. (sees.config j, sees.last j)) (census_on (x.0).config (x.0).last (record { references = r; objects = o }) same x.3.1);
-            opened = y.2;
+            opening = z.0;
+            seen = z.2;
+            told = subst (λ (w : Config × ℕ). IsCensusOf w.0 w.1 (state_of k) census) (λ j. (sees.config j, sees.last j)) (census_on (z.0).config (z.0).last census same z.3.1);
+            opened = o.2;
           },
-          y.3,
+          o.3,
         );
   }
 

@@ -1,11 +1,13 @@
 //! How many objects are present, by kind, and how many words they have.
-ghost use Rattle.std.specs.Prelude.{◌≡◌};
+ghost use Rattle.std.specs.Prelude.{◌≡◌, false, slice_index_or};
 ghost use Rattle.jr_model.specs.declared.event.Role.TheVariants.{Collecting};
 ghost use Rattle.jr_steps.specs.Knowing.{state_of, CanReopen, MayKnow};
-ghost use Rattle.jr_census.specs.Counts.{AreObjects};
+ghost use Rattle.jr_weak.specs.Markers.{marks_of};
+ghost use Rattle.jr_census.specs.Counts.{AreObjects, unless, unmarked};
 ghost use Rattle.jr_census.specs.Telling.{Tells};
 
 use jr_steps::Steps;
+use jr_weak::Marker;
 use jr_word::{HeaderParts, Kind};
 
 /// How many objects there are of each kind.
@@ -87,7 +89,7 @@ impl KindCounts {
     }
 }
 
-/// The objects that are present.
+/// How many objects there are.
 #[derive(Clone, Copy, Debug, PartialEq, Eq)]
 pub struct Objects {
     /// How many there are of each kind.
@@ -125,17 +127,31 @@ impl Objects {
     }
 }
 
-/// Counts the objects that are present.
-pub(crate) fn count_objects<S: Steps>(steps: &mut S) -> Objects
+/// What the header of an object says, if the object is not marked.
+fn unless_marked(marker: &Marker, object: u16, header: Option<HeaderParts>) -> Option<HeaderParts>
+    ensures { result ≡ unless (slice_index_or (marks_of marker.now) object false) header }
+{
+    if marker.is_marked(object) {
+        None
+    } else {
+        header
+    }
+}
+
+/// Counts the objects that are present, and those of them that are not marked.
+pub(crate) fn count_objects<S: Steps>(steps: &mut S, marker: &Marker) -> (Objects, Objects)
     requires role { (S.facts steps.old).stands.role ≡ Collecting }
     requires can { MayKnow S.facts steps.old CanReopen }
-    ensures { Tells S.facts (λ j. j.config.objects) steps.old steps.new (λ k. AreObjects k.config.objects (state_of k).objects result) }
+    ensures { Tells S.facts (λ j. j.config.objects) steps.old steps.new (λ k. AreObjects k.config.objects (state_of k).objects result.0 × AreObjects k.config.objects (unmarked (marks_of marker.now) (state_of k).objects) result.1) }
 {
     let objects = steps.config().objects;
-    let mut counted = Objects::NONE;
+    let mut present = Objects::NONE;
+    let mut unreached = Objects::NONE;
     for index in 0..objects {
-        let header = steps.scan_header((index + 1) as u16);
-        counted = counted.with(header);
+        let object = (index + 1) as u16;
+        let header = steps.scan_header(object);
+        present = present.with(header);
+        unreached = unreached.with(unless_marked(marker, object, header));
     }
-    counted
+    (present, unreached)
 }

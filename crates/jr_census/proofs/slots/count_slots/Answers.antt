@@ -3,10 +3,10 @@ use Rattle.jr_word.specs.declared.config.Config.{Config}
 use Rattle.jr_word.proofs.Limits.{limited}
 use Rattle.jr_census.specs.Counts.{AreFew, with_slot}
 use Rattle.jr_census.proofs.SlotsCounted.{few_most, few_next, slots_none, slots_next, slots_all}
-use Rattle.jr_census.proofs.references.count_references.Goals as goal
+use Rattle.jr_census.proofs.slots.count_slots.Goals as goal
 
 pub loop-index-init : goal.loop-index-init
-loop-index-init g c = (slots_none g.met.S.Steps.fits c.args.steps.now _ refl refl refl, record { globals = omega arith; weaks = omega arith; cleared = omega arith })
+loop-index-init g c = (slots_none g.met.S.Steps.fits c.args.steps.now _ refl refl refl refl, record { globals = omega arith; weaks = omega arith; cleared = omega arith; retired = omega arith })
 
 pub with-counted-requires : goal.with-counted-requires
 with-counted-requires g c =
