@@ -16,5 +16,6 @@ pub mod ElementWriting
 pub mod WholeCopies
 pub mod ReleasedElements
 pub mod WholeCollections
+pub mod WholeCensuses
 pub mod AnnouncedCollections
 pub mod StandingRegions

@@ -51,7 +51,7 @@ with-unreached-requires g c =
     let l = c.loop-index-test.true in
     let fit = words_few T.fits marks (c.loop-index.index + 1) x y c.requires.can told (omega arith) in
     let less = words_unless marked h c.loop-index.unreached c.loop-index.present (p.1).words in
-    subst (λ z. IsRoomFor z c.loop-index.unreached) {x = unless marked h} (sym c.unless_marked.ensures)
+    subst (λ z. IsRoomFor z c.loop-index.unreached) {x = unless marked h} (sym {b = unless marked h} c.unless_marked.ensures)
     (room_for c.loop-index.index (g.S.Steps.facts c.scan_header-header.new.self).stands.config.words c.loop-index.unreached (unless marked h) (omega (arith, few, s, l)) (omega (arith, space, words)) (p.1).unreached (omega (arith, fit, less)))
 
 pub loop-index-preserved : goal.loop-index-preserved
