@@ -5,14 +5,14 @@ use Rattle.jr_model.specs.declared.event.GateAct.TheVariants.{Shut, Reopen}
 use Rattle.jr_model.specs.History.{History}
 use Rattle.jr_model.specs.Windows.{IsWindow}
 use Rattle.jr_steps.specs.Holdings.{empty}
-use Rattle.jr_gate.specs.Performing.{Moment}
+use Rattle.jr_gate.specs.Performing.{ThreadState}
 use Rattle.jr_census.specs.declared.taking.Census.{Census}
 use Rattle.jr_census.specs.Taking.{IsTaken, census_steps}
 use Rattle.jr_env.specs.Collections.{IsKeptOut}
 use Rattle.jr_env.specs.Deeds.{Deed}
 
 -- A CENSUS WAS TAKEN: what it tells is the state's at its shut. The thread shut the gate and opened it again, in its own window, and did nothing else. It takes no more operations than the sizes of the room say. The frames and the hint stay as they are, and afterwards the thread holds nothing
-pub record IsCounted (old new : Moment) (x : Census) : Type 0 where
+pub record IsCounted (old new : ThreadState) (x : Census) : Type 0 where
   pub told : IsTaken old.pass new.pass x
   pub begun : History
   pub window : IsWindow old.pass new.pass (Gate Shut ∷ Gate Reopen ∷ []) begun
