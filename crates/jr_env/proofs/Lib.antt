@@ -16,6 +16,7 @@ pub mod ElementWriting
 pub mod WholeCopies
 pub mod ReleasedElements
 pub mod WholeCollections
+pub mod WholeCensuses
 pub mod AnnouncedCollections
 pub mod StandingRegions
 pub mod OpenStays

@@ -109,7 +109,7 @@ module _ {S : Type 0} {facts : S → Facts} where
           );
     }
 
-    kept_out : (e : Fault) (n : ℕ) → e ≡ Busy n → 1 ≤ n → Took facts a b (ShutBusy n ∷ []) anything keeps → DoesDeed facts a b t.frames t.frames collection (Err e)
+    pub kept_out : (e : Fault) (n : ℕ) → e ≡ Busy n → 1 ≤ n → Took facts a b (ShutBusy n ∷ []) anything keeps → DoesDeed facts a b t.frames t.frames collection (Err e)
     kept_out e n is some z = record {
       stands_is = as_before (facts a).stands {f = (facts a).stands.fresh} z.stands_is;
       did = λ k s h.

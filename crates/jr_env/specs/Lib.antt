@@ -3,6 +3,7 @@ pub mod Envs
 pub mod StandingRegions
 pub mod Criticals
 pub mod Collections
+pub mod Censuses
 pub mod Tries
 pub mod Elements
 pub mod Calling

@@ -3,6 +3,7 @@
 mod array_parts;
 mod collecting;
 mod copies;
+mod counting;
 mod critical_regions;
 mod frames;
 mod levels;

@@ -31,7 +31,7 @@ use Rattle.jr_weak.specs.Sweeping.{AreCleared, AreDropped, ClearsUnreached, Drop
 use Rattle.jr_weak.specs.Collecting.{CollectsFrom, Finishes, MakesCollection}
 use Rattle.jr_weak.proofs.Leading.{closed_on, reached_on}
 
-sees_did : {k k' : Known} → Sees k k' → Did (view k) (view k') []
+pub sees_did : {k k' : Known} → Sees k k' → Did (view k) (view k') []
 sees_did {k} {k'} s = did_added s.between [] s.config s.last s.thread (s.seen ∙ sym (append-nil (k.seen ++ s.between))) s.others s.legal
 
 -- the gate may be opened, once all arrays stand together
@@ -66,7 +66,7 @@ place_of {k} {k1} {k5} {k6} cleared dropped used g d h =
     }
 
 -- the step that shuts the gate leaves the tables
-shut_tables : {k k1 : Known} (g : Goes k (Gate Shut ∷ []) k1) → HaveSameTables (state (k.seen ++ g.between)) (state_of k1)
+pub shut_tables : {k k1 : Known} (g : Goes k (Gate Shut ∷ []) k1) → HaveSameTables (state (k.seen ++ g.between)) (state_of k1)
 shut_tables {k} g =
     let is = ap state g.seen ∙ state_push (k.seen ++ g.between) (by k.thread (Gate Shut)) in
     record {
@@ -87,7 +87,7 @@ within_sum t1 t2 t3 t4 t5 t6 mark clear drop objects words used room fits less a
 same_then : {r s t : State} → HaveSameTables r s → HaveSameTables s t → HaveSameTables r t
 same_then a b = record { refs = b.refs ∙ a.refs; given = b.given ∙ a.given; locals = b.locals ∙ a.locals; objects = b.objects ∙ a.objects; used = b.used ∙ a.used }
 
-same_back : {s t : State} → HaveSameTables s t → HaveSameTables t s
+pub same_back : {s t : State} → HaveSameTables s t → HaveSameTables t s
 same_back a = record { refs = sym a.refs; given = sym a.given; locals = sym a.locals; objects = sym a.objects; used = sym a.used }
 
 -- nothing that was to be cleared or dropped at the shut is left out

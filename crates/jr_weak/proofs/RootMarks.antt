@@ -82,13 +82,13 @@ abbrev pub ThreadsBelow : ℕ → List Bool → Known → Type 0
 ThreadsBelow n marks k = (t : ℕ) → t < n → HasLocalsOf t marks (state_of k)
 
 -- the places of one thread more
-one_thread : (n : ℕ) (k k' : Known) → k'.config ≡ k.config → n * k.config.locals + k'.config.locals ≤ (n + 1) * k.config.locals
+pub one_thread : (n : ℕ) (k k' : Known) → k'.config ≡ k.config → n * k.config.locals + k'.config.locals ≤ (n + 1) * k.config.locals
 one_thread n k k' config =
     let same = ap (λ (c : Config). c.locals) config in
     let more : (n + 1) * k.config.locals ≡ n * k.config.locals + k.config.locals = grind arith in
     omega arith
 
-all_threads : (n : ℕ) (k : Known) → n ≡ k.config.threads → n * k.config.locals ≤ k.config.threads * k.config.locals
+pub all_threads : (n : ℕ) (k : Known) → n ≡ k.config.threads → n * k.config.locals ≤ k.config.threads * k.config.locals
 all_threads n k end = subst (λ m. n * k.config.locals ≤ m * k.config.locals) end (omega arith)
 
 module _ {S : Type 0} (facts : S → Facts) (fits : AreOf facts) where

@@ -1,0 +1,5 @@
+pub mod Turns
+pub mod SlotsCounted
+pub mod HeadersCounted
+pub mod LocalsCounted
+pub mod Takes

@@ -1,0 +1,9 @@
+-- For the crate's own functions: what loads tell of the state, one after the other, while the thread collects.
+use Rattle.std.specs.Prelude.{ℕ}
+use Rattle.jr_steps.specs.declared.known.Known.{Known}
+use Rattle.jr_steps.specs.Knowing.{Facts, CanReopen}
+use Rattle.jr_compact.specs.Counting.{SawWithin}
+
+-- loads were made and nothing else, no more than this says of what was known: this is so afterwards, and the gate may still be opened
+abbrev pub Tells : {S : Type 0} → (S → Facts) → (Known → ℕ) → S → S → (Known → Type 0) → Type 0
+Tells facts most old new tells = SawWithin facts most old new CanReopen (λ j k. CanReopen k × tells k)

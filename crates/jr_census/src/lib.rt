@@ -1,0 +1,11 @@
+//! A census: what stands in a room at one step, told while the gate is shut for it, over any steps.
+#![tactic(auto)]
+
+mod locals;
+mod objects;
+mod slots;
+mod taking;
+
+pub use objects::{KindCounts, Objects};
+pub use slots::Slots;
+pub use taking::{Census, take_census};

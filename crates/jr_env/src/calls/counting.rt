@@ -1,0 +1,40 @@
+//! A census as a call of an env.
+use crate::env::Env;
+use crate::work::outside;
+use jr_census::{Census, take_census};
+use jr_steps::Steps;
+use jr_weak::Marker;
+use jr_word::Fault;
+
+impl<S: Steps> Env<S> {
+    ghost use Rattle.std.specs.Prelude.{◌≡◌, ◌≤◌, ℕ, IsOk, IfErr, OnErr};
+    ghost use Rattle.jr_word.specs.declared.fault.Fault.TheVariants.{Busy};
+    ghost use Rattle.jr_weak.specs.Markers.{room_of};
+    ghost use Rattle.jr_env.specs.Collections.{FitsRoom};
+    ghost use Rattle.jr_env.specs.Censuses.{census};
+    ghost use Rattle.jr_env.specs.Envs.{Does};
+
+    /// Tells what stands in the room: references by kind and local ones by thread, cleared weak ones, slots that are used no more, objects by kind with their words, and those of them that nothing reaches, which a collection would drop. All of it is so at one step, which shuts the gate; no thread comes in until it is opened again. It changes nothing, takes no memory and never waits. The marker has to be made for a room of so many objects, and serves again.
+    ///
+    /// # Errors
+    ///
+    /// E14 with how many threads were inside, knocking, announcing or collecting at its one step, at least 1.
+    ///
+    /// Nothing has changed then, the marker is as it was, and the thread stands outside. Over one thread it is never refused.
+    ///
+    /// # Operations
+    ///
+    /// One where it is refused. A census that is taken takes two looks at each slot and at each local place of every thread, one or two at each object number's header, a load for each element of an object array that is reached, and two at the gate.
+    pub fn census(&mut self, marker: &mut Marker) -> Result<Census, Fault>
+        requires { FitsRoom marker.old self.old }
+        ensures call { Does self.old self.new census result }
+        ensures room { room_of marker.new ≡ room_of marker.old }
+        ensures busy { IfErr result (λ e. (n : ℕ) × (e ≡ Busy n) × (1 ≤ n)) }
+        ensures kept { OnErr result (marker.new ≡ marker.old) }
+        ensures alone { (S.facts self.old.held.steps).stands.config.threads ≡ 1 → IsOk result }
+    {
+        let held = &mut self.held;
+        outside(held);
+        take_census(&mut held.steps, marker)
+    }
+}
