@@ -5,7 +5,6 @@ mod collecting;
 mod copies;
 mod critical_regions;
 mod frames;
-mod levels;
 mod making;
 mod meeting;
 mod objects;
