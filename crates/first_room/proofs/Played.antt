@@ -1,5 +1,6 @@
 -- What the calls of each thread come to, over any steps, for whatever was known.
-use Rattle.std.proofs.Common.{◌≡◌, ◌∙◌, ℕ, Bool, Option, Some, None, [], ◌∷◌, Result, Ok, Err, inl, refl, sym, ap, subst}
+use Rattle.std.proofs.Common.{◌≡◌, ◌<◌, ◌∙◌, ℕ, ℤ, Bool, Option, Some, None, [], ◌∷◌, Result, Ok, Err, IfOk, length, inl, refl, sym, ap, subst, arith}
+use Rattle.std.specs.Int.{w32}
 use Rattle.std.specs.Prelude.{unwrap_or}
 use Rattle.jr_word.specs.declared.config.Config.{Config}
 use Rattle.jr_word.specs.declared.fault.Fault.{Fault}
@@ -7,6 +8,7 @@ use Rattle.jr_word.specs.declared.fault.Fault.TheVariants.{Busy}
 use Rattle.jr_word.specs.declared.handle.Handle.{Handle}
 use Rattle.jr_word.specs.declared.handle.RefKind.TheVariants.{Global, Weak}
 use Rattle.jr_word.specs.declared.kind.Kind.TheVariants.{Int, Long}
+use Rattle.jr_word.specs.Elem.{signed_word}
 use Rattle.jr_model.specs.declared.event.Role.TheVariants.{Outside}
 use Rattle.jr_model.specs.State.{State}
 use Rattle.jr_model.specs.Calls.{Call}
@@ -18,8 +20,9 @@ use Rattle.jr_gate.specs.Performing.{Moment, IsMade, moment}
 use Rattle.jr_gate.proofs.SameRoom.{still_before}
 use Rattle.jr_rule.specs.declared.pass.Pass.{Pass}
 use Rattle.jr_rule.specs.Passes.{Holder, facts_of, holder_of, standing_of}
+use Rattle.jr_frames.specs.Table.{Table}
 use Rattle.jr_critical.specs.declared.levels.Levels.{Levels}
-use Rattle.jr_critical.specs.Levels.{GivesUpAll, Opens, Reaches, level_object}
+use Rattle.jr_critical.specs.Levels.{GivesUpAll, Opens, Reaches, in_words, level_object, objects_of}
 use Rattle.jr_weak.specs.declared.collecting.Collected.{Collected}
 use Rattle.jr_env.specs.Collections.{collection}
 use Rattle.jr_env.specs.Deeds.{Deed, DoesDeed, DoesOutside, new_plain, new_array, new_object_array, new_reference, delete_reference, is_same_object, get_object_ref_type, push_local_frame, pop_local_frame, set_array_region, done, ◌>>=◌}
@@ -178,6 +181,18 @@ module _ {S : Type 0} {facts : S → Facts} where
               ),
             );
       })
+
+  -- so that it did, whatever it was answered
+  pub reads_within : AreOf facts → (a b c d : S) (f f1 f2 g : Table) (word : ℕ) (v w : Levels) (r : Result ℤ Fault)
+      → (facts a).stands.role ≡ Outside → Opens facts a b f.frames word get_array_critical (Ok v) → length (objects_of v) ≡ 1 → f1 ≡ f → f2 ≡ f1 → g ≡ f2 → w ≡ v
+      → (0 < length (objects_of v) → Reaches facts b c f1.frames v (λ c last t s. region_get c last t s Int (level_object v 0) 1) (in_words (signed_word w32) r))
+      → GivesUpAll facts c d f2.frames w → (facts d).stands.role ≡ Outside → IfOk r (λ x. DoesOutside facts a d f.frames g.frames (reading word) (Ok (signed_word w32 x)))
+  reads_within fits a b c d f f1 f2 g word v w (Ok x) out opened one same1 same2 same left reached ended done = record {
+    does = λ o. region_read fits a b c d f.frames f1.frames f2.frames g.frames word v (signed_word w32 x) out opened (ap (λ (t : Table). t.frames) same1) (ap (λ (t : Table). t.frames) (same2 ∙ same1)) (ap (λ (t : Table). t.frames) (same ∙ (same2 ∙ same1)))
+        (reached (omega arith)) (subst (λ u. GivesUpAll facts c d f2.frames u) left ended);
+    outside = done;
+  }
+  reads_within fits a b c d f f1 f2 g word v w (Err e) out opened one same1 same2 same left reached ended done = tt
 
   -- the second thread's calls
   pub visited : (s0 s1 s2 s3 s4 s5 : S) (f0 f1 f2 f3 f4 f5 : Frames) (word : ℕ) (object array : Handle) (popped : Option Handle) (x : ℕ)
