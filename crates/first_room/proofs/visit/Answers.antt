@@ -1,11 +1,12 @@
 -- The thread did its calls, one after the other, and is in its room still.
-use Rattle.std.proofs.Common.{◌≡◌, ap, ◌∙◌}
+use Rattle.std.proofs.Common.{◌≡◌, subst, sym, rules, to_z, of_z, ap, ◌∙◌}
 use Rattle.std.specs.Int.{w32}
 use Rattle.jr_word.specs.Elem.{signed_word}
 use Rattle.jr_model.specs.Frames.{fresh_frames}
 use Rattle.jr_rule.specs.Passes.{Holder, facts_of}
 use Rattle.jr_rule.specs.Rooms.{holder_over}
 use Rattle.first_room.specs.Calls.{visiting}
+use Rattle.first_room.specs.Parts.{HasVisited}
 use Rattle.first_room.proofs.Played.{visited, played}
 use Rattle.first_room.proofs.Passes.{same_then, same_before, same_spent, at_end}
 use Rattle.first_room.proofs.visit.Goals as goal
@@ -25,8 +26,10 @@ returns c =
     (same_before (d5.does d4.outside).stands_is))))) in
     let calls = visited _ _ _ _ _ _ _ _ _ _ _ _ c.in_ok-wait.field-0 c.in_ok-object.object c.in_ok-new_object_array.field-0 c.in_ok-pop_local_frame.field-0 (signed_word w32 c.in_ok-read.read)
     c.in-Ok.ensures.outside d1 d2 d3 d4 d5 in
+    let own : to_z w32 (of_z w32 c.in_ok-read.read) ≡ c.in_ok-read.read = search rules in
     let handed = c.into_pass-2.ensures.pass ∙ ap holder_over (c.into_pass.ensures.steps d5.outside) in (
       at_end c.args.room.now.row c.args.pass (holder_over c.new.result) _ c.into_pass-2.result c.requires.row c.new.ensures.pass same handed,
-      played holder_over visiting c.new.result _ _ c.args.pass c.into_pass-2.result _ _ (signed_word w32 c.in_ok-read.read) c.in-Ok.ensures.steps calls c.new.ensures.pass handed
-          (c.in-Ok.ensures.frames ∙ ap (λ (h : Holder). fresh_frames (facts_of h).stands.config.locals) c.new.ensures.pass),
+      subst (HasVisited c.args.pass c.into_pass-2.result) (sym own) (
+          played holder_over visiting c.new.result _ _ c.args.pass c.into_pass-2.result _ _ (signed_word w32 c.in_ok-read.read) c.in-Ok.ensures.steps calls c.new.ensures.pass handed
+          (c.in-Ok.ensures.frames ∙ ap (λ (h : Holder). fresh_frames (facts_of h).stands.config.locals) c.new.ensures.pass)),
     )

@@ -1,5 +1,4 @@
-use Rattle.jr_scripts.specs.Posting.{talk_of}
-use Rattle.jr_scripts.proofs.Speaking.{did_say, said_buffers, said_levels, said_objects, silent}
+use Rattle.jr_scripts.proofs.Speaking.{did_say, said_buffers, said_levels, said_objects}
 use Rattle.jr_scripts.specs.Advancing.{level_names, objects_in}
 use Rattle.jr_scripts.proofs.advance.advance.Goals as goal
 
