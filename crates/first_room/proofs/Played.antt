@@ -26,7 +26,7 @@ use Rattle.jr_critical.specs.Levels.{GivesUpAll, Opens, Reaches, in_words, level
 use Rattle.jr_weak.specs.declared.collecting.Collected.{Collected}
 use Rattle.jr_env.specs.Collections.{collection}
 use Rattle.jr_env.specs.Deeds.{Deed, DoesDeed, DoesOutside, new_plain, new_array, new_object_array, new_reference, delete_reference, is_same_object, get_object_ref_type, push_local_frame, pop_local_frame, set_array_region, done, ◌>>=◌}
-use Rattle.first_room.specs.Calls.{clearing, collecting_in_turn, collecting_twice, preparing, reading, sharing, visiting, word_made}
+use Rattle.first_room.specs.Calls.{clearing, collecting_in_turn, collecting_twice, preparing, reading_within, sharing, visiting, word_made}
 use Rattle.first_room.specs.Parts.{HasPlayed}
 
 -- a call of the steps' own thread is one of whoever knows the pass
@@ -151,14 +151,14 @@ module _ {S : Type 0} {facts : S → Facts} where
   -- the second thread's reading in a region, from its entry to its exit
   pub region_read : AreOf facts → (a b c d : S) (f f1 f2 g : Frames) (word : ℕ) (v : Levels) (x : ℕ)
       → (facts a).stands.role ≡ Outside → Opens facts a b f word get_array_critical (Ok v) → f1 ≡ f → f2 ≡ f → g ≡ f
-      → Reaches facts b c f1 v (λ c last t s. region_get c last t s Int (level_object v 0) 1) (Ok x) → GivesUpAll facts c d f2 v → DoesDeed facts a d f g (reading word) (Ok x)
+      → Reaches facts b c f1 v (λ c last t s. region_get c last t s Int (level_object v 0) 1) (Ok x) → GivesUpAll facts c d f2 v → DoesDeed facts a d f g (reading_within word) (Ok x)
   region_read fits a b c d f f1 f2 g word v x out opened same same' same'' was_reached was_ended =
       let reached = subst (λ h. Reaches facts b c h v (λ c last t s. region_get c last t s Int (level_object v 0) 1) (Ok x)) same was_reached in
       let ended = subst (λ h. GivesUpAll facts c d h v) same' was_ended in
       let o = opened.2.stands_is in
       let r = reached.stands_is in
       let e = ended.stands_is in
-      subst (λ h. DoesDeed facts a d f h (reading word) (Ok x)) (sym same'')
+      subst (λ h. DoesDeed facts a d f h (reading_within word) (Ok x)) (sym same'')
       (record {
         stands_is = record { room = e.room ∙ (r.room ∙ o.room); config = e.config ∙ (r.config ∙ o.config); last = e.last ∙ (r.last ∙ o.last); thread = e.thread ∙ (r.thread ∙ o.thread); role = e.role ∙ sym out };
         did = λ k s n.
@@ -186,7 +186,7 @@ module _ {S : Type 0} {facts : S → Facts} where
   pub reads_within : AreOf facts → (a b c d : S) (f f1 f2 g : Table) (word : ℕ) (v w : Levels) (r : Result ℤ Fault)
       → (facts a).stands.role ≡ Outside → Opens facts a b f.frames word get_array_critical (Ok v) → length (objects_of v) ≡ 1 → f1 ≡ f → f2 ≡ f1 → g ≡ f2 → w ≡ v
       → (0 < length (objects_of v) → Reaches facts b c f1.frames v (λ c last t s. region_get c last t s Int (level_object v 0) 1) (in_words (signed_word w32) r))
-      → GivesUpAll facts c d f2.frames w → (facts d).stands.role ≡ Outside → IfOk r (λ x. DoesOutside facts a d f.frames g.frames (reading word) (Ok (signed_word w32 x)))
+      → GivesUpAll facts c d f2.frames w → (facts d).stands.role ≡ Outside → IfOk r (λ x. DoesOutside facts a d f.frames g.frames (reading_within word) (Ok (signed_word w32 x)))
   reads_within fits a b c d f f1 f2 g word v w (Ok x) out opened one same1 same2 same left reached ended done = record {
     does = λ o. region_read fits a b c d f.frames f1.frames f2.frames g.frames word v (signed_word w32 x) out opened (ap (λ (t : Table). t.frames) same1) (ap (λ (t : Table). t.frames) (same2 ∙ same1)) (ap (λ (t : Table). t.frames) (same ∙ (same2 ∙ same1)))
         (reached (omega arith)) (subst (λ u. GivesUpAll facts c d f2.frames u) left ended);
@@ -197,7 +197,7 @@ module _ {S : Type 0} {facts : S → Facts} where
   -- the second thread's calls
   pub visited : (s0 s1 s2 s3 s4 s5 : S) (f0 f1 f2 f3 f4 f5 : Frames) (word : ℕ) (object array : Handle) (popped : Option Handle) (x : ℕ)
       → (facts s0).stands.role ≡ Outside → DoesOutside facts s0 s1 f0 f1 (push_local_frame 4) (Ok tt) → DoesOutside facts s1 s2 f1 f2 new_plain (Ok object) → DoesOutside facts s2 s3 f2 f3 (new_object_array 2 object.0) (Ok array)
-      → DoesOutside facts s3 s4 f3 f4 (pop_local_frame 0) (Ok popped) → DoesOutside facts s4 s5 f4 f5 (reading word) (Ok x) → DoesDeed facts s0 s5 f0 f5 visiting (Ok x)
+      → DoesOutside facts s3 s4 f3 f4 (pop_local_frame 0) (Ok popped) → DoesOutside facts s4 s5 f4 f5 (reading_within word) (Ok x) → DoesDeed facts s0 s5 f0 f5 visiting (Ok x)
   visited s0 s1 s2 s3 s4 s5 f0 f1 f2 f3 f4 f5 word object array popped x out d1 d2 d3 d4 d5 =
       let a = d1.does out in
       let b = d2.does d1.outside in

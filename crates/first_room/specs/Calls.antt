@@ -90,8 +90,8 @@ abbrev pub within_region : {A : Type 0} → (Config → ℕ → ℕ → State �
 within_region asked old answer new = IsMade 0 old new (asked old.pass.config old.pass.last old.pass.thread (state new.pass.seen)) answer
 
 -- an element of the array that a word names is read in a critical region: the element's word
-abbrev pub reading : ℕ → Deed ℕ
-reading global = do
+abbrev pub reading_within : ℕ → Deed ℕ
+reading_within global = do
   o ← opens_region global
   word ← within_region (λ c last t s. region_get c last t s Int o 1)
   within_region (λ c last t s. region_release 1)
@@ -105,4 +105,4 @@ visiting = do
   object ← new_plain
   new_object_array 2 object.0
   pop_local_frame 0
-  reading global
+  reading_within global

@@ -10,7 +10,7 @@ ghost use Rattle.jr_rule.specs.Passes.{IsOpened};
 ghost use Rattle.jr_rule.specs.Rooms.{IsOfRoom};
 ghost use Rattle.jr_env.specs.Collections.{FitsRoom};
 ghost use Rattle.jr_env.specs.Envs.{Does, IsOutside};
-ghost use Rattle.first_room.specs.Calls.{collecting_in_turn, reading};
+ghost use Rattle.first_room.specs.Calls.{collecting_in_turn, reading_within};
 ghost use Rattle.first_room.specs.Hour.{IsWritten};
 ghost use Rattle.first_room.specs.Parts.{HasShared, HasVisited};
 
@@ -143,13 +143,9 @@ fn visit(room: &Room<LAST>, pass: Pass, baton: &AtomicU64) -> Result<(Pass, i32)
 }
 
 /// Reads an element of an array in a critical region, and tells the other thread, which collects in vain as long as the region stands.
-fn read_within<S: Steps>(
-    env: &mut Env<S>,
-    array: Handle,
-    baton: &AtomicU64,
-) -> Result<i32, Fault>
+fn read_within<S: Steps>(env: &mut Env<S>, array: Handle, baton: &AtomicU64) -> Result<i32, Fault>
     requires { IsOutside env.old }
-    ensures { IfOk result (λ x. Does env.old env.new (reading array.0) (Ok (signed_word w32 x))) }
+    ensures { IfOk result (λ x. Does env.old env.new (reading_within array.0) (Ok (signed_word w32 x))) }
 {
     let mut region = env.get_array_critical(array)?;
     let read = region.get::<i32>(0, 1);

@@ -1,6 +1,8 @@
 //! Levels of a region: the newest is given up first, and a new one has its number.
 
-use crate::at_a_level::{give_up, has, is_deep, is_missing, is_told, nests_array, nests_string, put};
+use crate::at_a_level::{
+    give_up, has, is_deep, is_missing, is_told, nests_array, nests_string, put,
+};
 use crate::cases::{Case, alone};
 use crate::envs::{TWO, has_elements, is_outside};
 use jr_env::Env;
