@@ -1,5 +1,6 @@
 -- What the calls of each thread come to, over any steps, for whatever was known.
-use Rattle.std.proofs.Common.{◌≡◌, ◌∙◌, ℕ, Bool, Option, Some, None, [], ◌∷◌, Result, Ok, Err, inl, refl, sym, ap, subst}
+use Rattle.std.proofs.Common.{◌≡◌, ◌<◌, ◌∙◌, ℕ, ℤ, Bool, Option, Some, None, [], ◌∷◌, Result, Ok, Err, IfOk, length, inl, refl, sym, ap, subst, arith}
+use Rattle.std.specs.Int.{w32}
 use Rattle.std.specs.Prelude.{unwrap_or}
 use Rattle.jr_word.specs.declared.config.Config.{Config}
 use Rattle.jr_word.specs.declared.fault.Fault.{Fault}
@@ -7,6 +8,7 @@ use Rattle.jr_word.specs.declared.fault.Fault.TheVariants.{Busy}
 use Rattle.jr_word.specs.declared.handle.Handle.{Handle}
 use Rattle.jr_word.specs.declared.handle.RefKind.TheVariants.{Global, Weak}
 use Rattle.jr_word.specs.declared.kind.Kind.TheVariants.{Int, Long}
+use Rattle.jr_word.specs.Elem.{signed_word}
 use Rattle.jr_model.specs.declared.event.Role.TheVariants.{Outside}
 use Rattle.jr_model.specs.State.{State}
 use Rattle.jr_model.specs.Calls.{Call}
@@ -18,12 +20,13 @@ use Rattle.jr_gate.specs.Performing.{ThreadState, IsMade, thread_state}
 use Rattle.jr_gate.proofs.SameRoom.{still_before}
 use Rattle.jr_rule.specs.declared.pass.Pass.{Pass}
 use Rattle.jr_rule.specs.Passes.{Holder, facts_of, holder_of, standing_of}
+use Rattle.jr_frames.specs.Table.{Table}
 use Rattle.jr_critical.specs.declared.levels.Levels.{Levels}
-use Rattle.jr_critical.specs.Levels.{GivesUpAll, Opens, Reaches, level_object}
+use Rattle.jr_critical.specs.Levels.{GivesUpAll, Opens, Reaches, in_words, level_object, objects_of}
 use Rattle.jr_weak.specs.declared.collecting.Collected.{Collected}
 use Rattle.jr_env.specs.Collections.{collection}
 use Rattle.jr_env.specs.Deeds.{Deed, DoesDeed, DoesOutside, new_plain, new_array, new_object_array, new_reference, delete_reference, is_same_object, get_object_ref_type, push_local_frame, pop_local_frame, set_array_region, done, ◌>>=◌}
-use Rattle.first_room.specs.Calls.{clearing, collecting_in_turn, collecting_twice, preparing, sharing, visiting, word_made}
+use Rattle.first_room.specs.Calls.{clearing, collecting_in_turn, collecting_twice, preparing, reading_within, sharing, visiting, word_made}
 use Rattle.first_room.specs.Parts.{HasPlayed}
 
 -- a call of the steps' own thread is one of whoever knows the pass
@@ -145,38 +148,73 @@ module _ {S : Type 0} {facts : S → Facts} where
       (does_then {one = collecting_twice} (λ n. clearing (word_made weak) (word_made global) >>= (λ found. done (n, found.0, found.1))) (collected_twice s7 s8 s9 f7 f8 f9 inside c d7.outside d8 d9)
       (does_all {one = clearing (word_made weak) (word_made global)} (λ found. (inside, found.0, found.1)) (cleared_then s9 s10 s11 s12 f9 f10 f11 f12 (word_made weak) (word_made global) cleared kind d9.outside d10 d11 d12)))
 
+  -- the second thread's reading in a region, from its entry to its exit
+  pub region_read : AreOf facts → (a b c d : S) (f f1 f2 g : Frames) (word : ℕ) (v : Levels) (x : ℕ)
+      → (facts a).stands.role ≡ Outside → Opens facts a b f word get_array_critical (Ok v) → f1 ≡ f → f2 ≡ f → g ≡ f
+      → Reaches facts b c f1 v (λ c last t s. region_get c last t s Int (level_object v 0) 1) (Ok x) → GivesUpAll facts c d f2 v → DoesDeed facts a d f g (reading_within word) (Ok x)
+  region_read fits a b c d f f1 f2 g word v x out opened same same' same'' was_reached was_ended =
+      let reached = subst (λ h. Reaches facts b c h v (λ c last t s. region_get c last t s Int (level_object v 0) 1) (Ok x)) same was_reached in
+      let ended = subst (λ h. GivesUpAll facts c d h v) same' was_ended in
+      let o = opened.2.stands_is in
+      let r = reached.stands_is in
+      let e = ended.stands_is in
+      subst (λ h. DoesDeed facts a d f h (reading_within word) (Ok x)) (sym same'')
+      (record {
+        stands_is = record { room = e.room ∙ (r.room ∙ o.room); config = e.config ∙ (r.config ∙ o.config); last = e.last ∙ (r.last ∙ o.last); thread = e.thread ∙ (r.thread ∙ o.thread); role = e.role ∙ sym out };
+        did = λ k s n.
+            let x1 = opened.2.ran k s n in
+            let x2 = reached.ran x1.0 x1.1 (x1.3.0.0, x1.3.1) in
+            let x3 = ended.ran x2.0 x2.1 x2.3.1 in (
+              x3.0,
+              x3.1,
+              x3.3.1,
+              inl (
+                level_object v 0,
+                thread_state (facts b) x1.0 f,
+                (opened.0, opened.1, own_call (λ c last t s. get_array_critical c last t s opened.0) (facts a).stands k (state_of x1.0) (fits a k s) x1.2),
+                inl (
+                  x,
+                  thread_state (facts c) x2.0 f,
+                  own_call (λ c last t s. region_get c last t s Int (level_object v 0) 1) (facts b).stands x1.0 (state_of x2.0) (fits b x1.0 x1.1) x2.2,
+                  inl (tt, thread_state (facts d) x3.0 f, x3.2, (refl, refl)),
+                ),
+              ),
+            );
+      })
+
+  -- so that it did, whatever it was answered
+  pub reads_within : AreOf facts → (a b c d : S) (f f1 f2 g : Table) (word : ℕ) (v w : Levels) (r : Result ℤ Fault)
+      → (facts a).stands.role ≡ Outside → Opens facts a b f.frames word get_array_critical (Ok v) → length (objects_of v) ≡ 1 → f1 ≡ f → f2 ≡ f1 → g ≡ f2 → w ≡ v
+      → (0 < length (objects_of v) → Reaches facts b c f1.frames v (λ c last t s. region_get c last t s Int (level_object v 0) 1) (in_words (signed_word w32) r))
+      → GivesUpAll facts c d f2.frames w → (facts d).stands.role ≡ Outside → IfOk r (λ x. DoesOutside facts a d f.frames g.frames (reading_within word) (Ok (signed_word w32 x)))
+  reads_within fits a b c d f f1 f2 g word v w (Ok x) out opened one same1 same2 same left reached ended done = record {
+    does = λ o. region_read fits a b c d f.frames f1.frames f2.frames g.frames word v (signed_word w32 x) out opened (ap (λ (t : Table). t.frames) same1) (ap (λ (t : Table). t.frames) (same2 ∙ same1)) (ap (λ (t : Table). t.frames) (same ∙ (same2 ∙ same1)))
+        (reached (omega arith)) (subst (λ u. GivesUpAll facts c d f2.frames u) left ended);
+    outside = done;
+  }
+  reads_within fits a b c d f f1 f2 g word v w (Err e) out opened one same1 same2 same left reached ended done = tt
+
   -- the second thread's calls
-  pub visited : AreOf facts → (s0 s1 s2 s3 s4 s5 s6 s7 : S) (f0 f1 f2 f3 f4 : Frames) (word : ℕ) (object array : Handle) (popped : Option Handle) (v : Levels) (x : ℕ)
+  pub visited : (s0 s1 s2 s3 s4 s5 : S) (f0 f1 f2 f3 f4 f5 : Frames) (word : ℕ) (object array : Handle) (popped : Option Handle) (x : ℕ)
       → (facts s0).stands.role ≡ Outside → DoesOutside facts s0 s1 f0 f1 (push_local_frame 4) (Ok tt) → DoesOutside facts s1 s2 f1 f2 new_plain (Ok object) → DoesOutside facts s2 s3 f2 f3 (new_object_array 2 object.0) (Ok array)
-      → DoesOutside facts s3 s4 f3 f4 (pop_local_frame 0) (Ok popped) → Opens facts s4 s5 f4 word get_array_critical (Ok v) → (f5 f6 : Frames) → f5 ≡ f4 → f6 ≡ f4
-      → Reaches facts s5 s6 f5 v (λ c last t s. region_get c last t s Int (level_object v 0) 1) (Ok x) → GivesUpAll facts s6 s7 f6 v → DoesDeed facts s0 s7 f0 f4 visiting (Ok x)
-  visited fits s0 s1 s2 s3 s4 s5 s6 s7 f0 f1 f2 f3 f4 word object array popped v x out d1 d2 d3 d4 opened f5 f6 same same' was_reached was_ended =
-      let reached = subst (λ h. Reaches facts s5 s6 h v (λ c last t s. region_get c last t s Int (level_object v 0) 1) (Ok x)) same was_reached in
-      let ended = subst (λ h. GivesUpAll facts s6 s7 h v) same' was_ended in
+      → DoesOutside facts s3 s4 f3 f4 (pop_local_frame 0) (Ok popped) → DoesOutside facts s4 s5 f4 f5 (reading_within word) (Ok x) → DoesDeed facts s0 s5 f0 f5 visiting (Ok x)
+  visited s0 s1 s2 s3 s4 s5 f0 f1 f2 f3 f4 f5 word object array popped x out d1 d2 d3 d4 d5 =
       let a = d1.does out in
       let b = d2.does d1.outside in
       let c = d3.does d2.outside in
       let d = d4.does d3.outside in
-      let o = opened.2.stands_is in
-      let r = reached.stands_is in
-      let e = ended.stands_is in
+      let e = d5.does d4.outside in
       record {
-        stands_is = still_before a.stands_is
-            (still_before b.stands_is
-            (still_before c.stands_is
-            (still_before d.stands_is
-            (record { room = e.room ∙ (r.room ∙ o.room); config = e.config ∙ (r.config ∙ o.config); last = e.last ∙ (r.last ∙ o.last); thread = e.thread ∙ (r.thread ∙ o.thread); role = e.role ∙ sym d4.outside }))));
+        stands_is = still_before a.stands_is (still_before b.stands_is (still_before c.stands_is (still_before d.stands_is e.stands_is)));
         did = λ k s n.
             let x1 = a.did k s n in
             let x2 = b.did x1.0 x1.1 x1.2 in
             let x3 = c.did x2.0 x2.1 x2.2 in
             let x4 = d.did x3.0 x3.1 x3.2 in
-            let x5 = opened.2.ran x4.0 x4.1 x4.2 in
-            let x6 = reached.ran x5.0 x5.1 (x5.3.0.0, x5.3.1) in
-            let x7 = ended.ran x6.0 x6.1 x6.3.1 in (
-              x7.0,
-              x7.1,
-              x7.3.1,
+            let x5 = e.did x4.0 x4.1 x4.2 in (
+              x5.0,
+              x5.1,
+              x5.2,
               inl (
                 word,
                 thread_state (facts s0) k f0,
@@ -189,27 +227,7 @@ module _ {S : Type 0} {facts : S → Facts} where
                     object,
                     thread_state (facts s2) x2.0 f2,
                     x2.3,
-                    inl (
-                      array,
-                      thread_state (facts s3) x3.0 f3,
-                      x3.3,
-                      inl (
-                        popped,
-                        thread_state (facts s4) x4.0 f4,
-                        x4.3,
-                        inl (
-                          level_object v 0,
-                          thread_state (facts s5) x5.0 f4,
-                          (opened.0, opened.1, own_call (λ c last t s. get_array_critical c last t s opened.0) (facts s4).stands x4.0 (state_of x5.0) (fits s4 x4.0 x4.1) x5.2),
-                          inl (
-                            x,
-                            thread_state (facts s6) x6.0 f4,
-                            own_call (λ c last t s. region_get c last t s Int (level_object v 0) 1) (facts s5).stands x5.0 (state_of x6.0) (fits s5 x5.0 x5.1) x6.2,
-                            inl (tt, thread_state (facts s7) x7.0 f4, x7.2, (refl, refl)),
-                          ),
-                        ),
-                      ),
-                    ),
+                    inl (array, thread_state (facts s3) x3.0 f3, x3.3, inl (popped, thread_state (facts s4) x4.0 f4, x4.3, x5.3)),
                   ),
                 ),
               ),

@@ -89,7 +89,15 @@ opens_region w old answer new = (a : Word) × IsReadAs w a × IsMade 1 old new (
 abbrev pub within_region : {A : Type 0} → (Config → ℕ → ℕ → State → Call A) → Deed A
 within_region asked old answer new = IsMade 0 old new (asked old.pass.config old.pass.last old.pass.thread (state new.pass.seen)) answer
 
--- THE SECOND THREAD is handed a word, and makes two objects in a frame; and it reads an element of the array that the word names, in a critical region: the element's word
+-- an element of the array that a word names is read in a critical region: the element's word
+abbrev pub reading_within : ℕ → Deed ℕ
+reading_within global = do
+  o ← opens_region global
+  word ← within_region (λ c last t s. region_get c last t s Int o 1)
+  within_region (λ c last t s. region_release 1)
+  done word
+
+-- THE SECOND THREAD is handed a word, and makes two objects in a frame; and it reads an element of the array that the word names: the element's word
 abbrev pub visiting : Deed ℕ
 visiting = do
   global ← is_handed
@@ -97,7 +105,4 @@ visiting = do
   object ← new_plain
   new_object_array 2 object.0
   pop_local_frame 0
-  o ← opens_region global
-  word ← within_region (λ c last t s. region_get c last t s Int o 1)
-  within_region (λ c last t s. region_release 1)
-  done word
+  reading_within global

@@ -3,12 +3,14 @@
 //! What stands behind `ghost`, `requires` and `ensures` is proved, and takes no time as the program runs. Skip it at first.
 #![tactic(auto)]
 
-ghost use Rattle.std.specs.Prelude.{◌≤◌, IfOk, OnOk};
+ghost use Rattle.std.specs.Prelude.{◌≤◌, IfOk, OnOk, Ok};
+ghost use Rattle.std.specs.Int.{w32};
+ghost use Rattle.jr_word.specs.Elem.{signed_word};
 ghost use Rattle.jr_rule.specs.Passes.{IsOpened};
 ghost use Rattle.jr_rule.specs.Rooms.{IsOfRoom};
 ghost use Rattle.jr_env.specs.Collections.{FitsRoom};
 ghost use Rattle.jr_env.specs.Envs.{Does, IsOutside};
-ghost use Rattle.first_room.specs.Calls.{collecting_in_turn};
+ghost use Rattle.first_room.specs.Calls.{collecting_in_turn, reading_within};
 ghost use Rattle.first_room.specs.Hour.{IsWritten};
 ghost use Rattle.first_room.specs.Parts.{HasShared, HasVisited};
 
@@ -136,13 +138,22 @@ fn visit(room: &Room<LAST>, pass: Pass, baton: &AtomicU64) -> Result<(Pass, i32)
     let object = env.new_plain()?;
     env.new_object_array(2, object)?;
     env.pop_local_frame(Handle::NULL)?;
-    let region = env.open_array_critical(global)?;
-    let read = env.get_critical::<i32>(&region, 0, 1);
+    let read = read_within(&mut env, global, baton)?;
+    Ok((env.into_pass().into_pass(), read))
+}
+
+/// Reads an element of an array in a critical region, and tells the other thread, which collects in vain as long as the region stands.
+fn read_within<S: Steps>(env: &mut Env<S>, array: Handle, baton: &AtomicU64) -> Result<i32, Fault>
+    requires { IsOutside env.old }
+    ensures { IfOk result (λ x. Does env.old env.new (reading_within array.0) (Ok (signed_word w32 x))) }
+{
+    let mut region = env.get_array_critical(array)?;
+    let read = region.get::<i32>(0, 1);
     baton.store(1, Ordering::SeqCst);
     let refused = wait(baton, 1);
-    env.close_all_critical(region);
+    region.release_all();
     refused?;
-    Ok((env.into_pass().into_pass(), read?))
+    read
 }
 
 /// Announces a collection, so that nobody goes in any more, and collects once nobody is inside. Where it got no turn (E14, E23) it lets the others run, and announces it anew: E20 where it gets none.

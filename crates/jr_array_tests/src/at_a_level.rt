@@ -6,31 +6,6 @@ use jr_steps::Steps;
 use jr_word::{Elem, Fault, Handle, Kind};
 use std::process::Abort;
 
-/// An element at a level that stands.
-pub(crate) fn read<S: Steps, E: Elem>(
-    rt: &impl Abort,
-    region: &mut Region<'_, S>,
-    level: usize,
-    index: u32,
-) -> Result<E, Fault> {
-    let depth = region.depth();
-    assert!(rt; level < depth);
-    region.get(level, index)
-}
-
-/// Writes an element at a level that stands.
-pub(crate) fn write<S: Steps, E: Elem>(
-    rt: &impl Abort,
-    region: &mut Region<'_, S>,
-    level: usize,
-    index: u32,
-    value: E,
-) -> Result<(), Fault> {
-    let depth = region.depth();
-    assert!(rt; level < depth);
-    region.set(level, index, value)
-}
-
 /// Checks what an element is.
 pub(crate) fn has<S: Steps, E: Elem + PartialEq>(
     rt: &impl Abort,
@@ -39,7 +14,7 @@ pub(crate) fn has<S: Steps, E: Elem + PartialEq>(
     index: u32,
     wanted: E,
 ) {
-    assert!(rt; read(rt, region, level, index) == Ok(wanted));
+    assert!(rt; region.get(level, index) == Ok(wanted));
 }
 
 /// Writes an element, which is not refused.
@@ -50,7 +25,7 @@ pub(crate) fn put<S: Steps, E: Elem>(
     index: u32,
     value: E,
 ) {
-    assert!(rt; write(rt, region, level, index, value) == Ok(()));
+    assert!(rt; region.set(level, index, value) == Ok(()));
 }
 
 /// Checks with what an element, which is read as one of this type, is refused.
@@ -61,7 +36,7 @@ pub(crate) fn is_not_read<S: Steps, E: Elem + PartialEq>(
     index: u32,
     wanted: Fault,
 ) {
-    assert!(rt; read::<_, E>(rt, region, level, index) == Err(wanted));
+    assert!(rt; region.get::<E>(level, index) == Err(wanted));
 }
 
 /// Checks with what a write of an element is refused.
@@ -73,7 +48,7 @@ pub(crate) fn is_not_put<S: Steps, E: Elem>(
     value: E,
     wanted: Fault,
 ) {
-    assert!(rt; write(rt, region, level, index, value) == Err(wanted));
+    assert!(rt; region.set(level, index, value) == Err(wanted));
 }
 
 /// Checks the kind and the length of what stands at a level. It is never a copy.
@@ -84,11 +59,17 @@ pub(crate) fn is_told<S: Steps>(
     kind: Kind,
     length: u32,
 ) {
-    let depth = region.depth();
-    assert!(rt; level < depth);
-    assert!(rt; region.kind(level) == kind);
-    assert!(rt; region.length(level) == length);
+    assert!(rt; region.kind(level) == Ok(kind));
+    assert!(rt; region.length(level) == Ok(length));
     assert!(rt; !region.is_copy());
+}
+
+/// Checks that no level of a number stands, before whatever else a call at it is refused with.
+pub(crate) fn is_missing<S: Steps>(rt: &impl Abort, region: &mut Region<'_, S>, level: usize) {
+    is_not_read::<_, i64>(rt, region, level, u32::MAX, Fault::Stale);
+    is_not_put(rt, region, level, u32::MAX, 0i64, Fault::Stale);
+    assert!(rt; region.kind(level) == Err(Fault::Stale));
+    assert!(rt; region.length(level) == Err(Fault::Stale));
 }
 
 /// Checks how many levels stand.

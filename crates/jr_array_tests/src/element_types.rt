@@ -1,6 +1,6 @@
 //! Elements of arrays in a region as those of one type alone, and units of strings as chars.
 
-use crate::at_a_level::{has, is_deep, is_not_put, is_not_read, is_told, read, write};
+use crate::at_a_level::{has, is_deep, is_not_put, is_not_read, is_told};
 use crate::cases::{Case, alone};
 use crate::envs::TWO;
 use jr_env::{Env, Region};
@@ -18,8 +18,8 @@ fn answers<S: Steps, E: Elem + PartialEq>(
     value: E,
     wanted: Option<Fault>,
 ) {
-    assert!(rt; read::<_, E>(rt, region, 0, index).err() == wanted);
-    assert!(rt; write(rt, region, 0, index, value).err() == wanted);
+    assert!(rt; region.get::<E>(0, index).err() == wanted);
+    assert!(rt; region.set(0, index, value).err() == wanted);
 }
 
 /// The same as a boolean, a byte, a char, a short, an int and a long.

@@ -1,6 +1,8 @@
 //! Levels of a region: the newest is given up first, and a new one has its number.
 
-use crate::at_a_level::{give_up, has, is_deep, is_told, nests_array, nests_string, put};
+use crate::at_a_level::{
+    give_up, has, is_deep, is_missing, is_told, nests_array, nests_string, put,
+};
 use crate::cases::{Case, alone};
 use crate::envs::{TWO, has_elements, is_outside};
 use jr_env::Env;
@@ -16,11 +18,14 @@ pub(crate) fn stands_anew<S: Steps>(rt: &impl Abort, env: &mut Env<S>) -> Result
     let second = env.new_array::<bool>(2)?;
     let text = env.new_string(&[1, 2, 3])?;
     let mut region = env.get_array_critical(first)?;
+    is_missing(rt, &mut region, 1);
     nests_array(rt, &mut region, second, Ok(1));
     is_deep(rt, &region, 2);
     put(rt, &mut region, 0, 0, -9i16);
     put(rt, &mut region, 1, 1, true);
     let mut region = give_up(rt, region, Mode::Copy);
+    is_missing(rt, &mut region, 1);
+    is_missing(rt, &mut region, usize::MAX);
     is_told(rt, &region, 0, Kind::Short, 1);
     has(rt, &mut region, 0, 0, -9i16);
     nests_string(rt, &mut region, text, Ok(1));

@@ -15,11 +15,11 @@ use std::test::Fail;
 fn nests_and_reads<S: Steps>(env: &mut Env<S>, array: Handle) -> Result<i32, Fault>
     ensures { IsOutside env.old → IfOk result (λ _. WasUndisturbed env.old.held env.new.held) }
 {
-    let mut levels = env.open_array_critical(array)?;
-    let nested = env.nest_array_critical(&mut levels, array);
-    let written = env.set_critical(&levels, 0, 1, 7i32);
-    let read = env.get_critical::<i32>(&levels, 0, 1);
-    env.close_all_critical(levels);
+    let mut region = env.get_array_critical(array)?;
+    let nested = region.nest_array(array);
+    let written = region.set(0, 1, 7i32);
+    let read = region.get::<i32>(0, 1);
+    region.release_all();
     nested?;
     written?;
     read

@@ -1,8 +1,9 @@
 -- What a critical region of an env is, and what the calls that open and end it leave, as a value that borrows the env (`Region`) or as levels beside it (`HasEntered`). That its calls make one region of the machine, undisturbed up to its end, the clauses of each say by the words of `StandingRegions`.
-use Rattle.std.specs.Prelude.{◌≡◌, ℕ, Option, None, Result, Ok, Err, IfErr, length}
+use Rattle.std.specs.Prelude.{◌≡◌, ◌<◌, ◌≤◌, ℕ, Option, None, Result, Ok, Err, IfErr, length}
 use Rattle.std.specs.Borrow.{Fml, MutBor, RattleType, RestsIfErr, RestsIfNone}
 use Rattle.jr_word.specs.declared.config.Config.{Config}
 use Rattle.jr_word.specs.declared.fault.Fault.{Fault}
+use Rattle.jr_word.specs.declared.fault.Fault.TheVariants.{Stale}
 use Rattle.jr_model.specs.declared.event.Role.TheVariants.{Within}
 use Rattle.jr_model.specs.State.{State}
 use Rattle.jr_model.specs.Calls.{Call}
@@ -58,6 +59,11 @@ module _ {S : Type 0} {G : steps.Ghosts S} where
     pub refuses : IsOutside old → OpensOver old.held new.held w call (Err e)
     pub frames : new.held.frames ≡ old.held.frames
     pub outside : IsOutside new
+
+  -- A CALL AT THE LEVEL OF THIS NUMBER did this, if the level stands; and if it does not, the call was refused with E2, and the env is as it was
+  pub record AtLevel {A : Type 0} (old new : Region S G) (level : ℕ) (answer : Result A Fault) (call : Type 0) : Type 0 where
+    pub missing : length (objects_of (levels_of old)) ≤ level → (answer ≡ Err Stale) × ((env_of new).now ≡ (env_of old).now)
+    pub did : level < length (objects_of (levels_of old)) → call
 
   -- THE REGION ENDED with its only level: its thread left the gate and stands outside, with the frames as they were, and no collection disturbed the region since its entry
   pub record HasEnded (r : Region S G) (new : Env S G) : Type 0 where

@@ -6,7 +6,6 @@ mod copies;
 mod counting;
 mod critical_regions;
 mod frames;
-mod levels;
 mod making;
 mod meeting;
 mod objects;

@@ -2,6 +2,7 @@
 ghost use Rattle.jr_critical.specs.Levels.{StandOver};
 
 use crate::env::Env;
+use crate::levels_beside;
 use jr_critical::Levels;
 use jr_model::Mode;
 use jr_steps::Steps;
@@ -15,13 +16,14 @@ pub struct Region<'e, S: Steps> {
 }
 
 impl<'e, S: Steps> Region<'e, S> {
-    ghost use Rattle.std.specs.Prelude.{◌≡◌, ◌<◌, ◌+◌, IfErr, IfOk, IfSome, Some, false, length};
+    ghost use Rattle.std.specs.Prelude.{◌≡◌, ◌<◌, ◌≤◌, ◌+◌, IfErr, IfOk, IfSome, Some, false, length};
     ghost use Rattle.std.specs.Borrow.{sem};
+    ghost use Rattle.jr_word.specs.declared.fault.Fault.TheVariants.{Stale};
     ghost use Rattle.jr_model.specs.Objects.{nest_array, nest_string};
     ghost use Rattle.jr_critical.specs.Levels.{objects_of, in_words, GivesUpAllOver, GivesUpLastOver, LeavesBefore, NestsOver, ReadsAt, TellsKind, TellsLength, WasAdded, WritesAt};
     ghost use Rattle.jr_env.specs.Envs.{IsOutside};
     ghost use Rattle.jr_env.specs.StandingRegions.{EndsUndisturbed, StandsOn};
-    ghost use Rattle.jr_env.specs.Criticals.{env_of, levels_of, held_of, frames_of, rests_in_left};
+    ghost use Rattle.jr_env.specs.Criticals.{env_of, levels_of, held_of, frames_of, rests_in_left, AtLevel};
 
     /// The region of an env whose levels stand.
     #[inline(always)]
@@ -53,7 +55,7 @@ impl<'e, S: Steps> Region<'e, S> {
         ensures added { IfOk result (λ n. WasAdded (levels_of self.old) (levels_of self.new) n) }
         ensures err { IfErr result (λ _. levels_of self.new ≡ levels_of self.old) }
     {
-        self.env.nest_array_critical(&mut self.levels, array)
+        levels_beside::nest_array(self.env, &mut self.levels, array)
     }
 
     /// Adds a level over a string, and answers its number. A string may stand at several levels. (JNI Specification, chapter 4, "GetStringCritical")
@@ -75,14 +77,14 @@ impl<'e, S: Steps> Region<'e, S> {
         ensures added { IfOk result (λ n. WasAdded (levels_of self.old) (levels_of self.new) n) }
         ensures err { IfErr result (λ _. levels_of self.new ≡ levels_of self.old) }
     {
-        self.env.nest_string_critical(&mut self.levels, string)
+        levels_beside::nest_string(self.env, &mut self.levels, string)
     }
 
-    /// An element of a level's array, or a unit of its string as a char. The level has to be one that stands.
+    /// An element of a level's array, or a unit of its string as a char.
     ///
     /// # Errors
     ///
-    /// E6 where its elements are of another kind; E7 where the index is not below the length.
+    /// E2 where no level of the number stands; E6 where its elements are of another kind; E7 where the index is not below the length.
     ///
     /// Nothing is read then, and the levels stand.
     ///
@@ -90,21 +92,23 @@ impl<'e, S: Steps> Region<'e, S> {
     ///
     /// One load, and none where it is refused.
     pub fn get<E: Elem>(&mut self, level: usize, index: u32) -> Result<E, Fault>
-        requires { level < length (objects_of (levels_of self.old)) }
         ensures same_reference { (env_of self.new).ghost_name ≡ (env_of self.old).ghost_name }
-        ensures call { ReadsAt (held_of self.old) (held_of self.new) (levels_of self.old) level E.KIND index (in_words E.word_of result) }
+        ensures call { AtLevel self.old self.new level result (ReadsAt (held_of self.old) (held_of self.new) (levels_of self.old) level E.KIND index (in_words E.word_of result)) }
         ensures region { StandsOn (held_of self.old) (held_of self.new) (levels_of self.old) (levels_of self.new) }
         ensures frames { frames_of self.new ≡ frames_of self.old }
         ensures levels { levels_of self.new ≡ levels_of self.old }
     {
-        self.env.get_critical(&self.levels, level, index)
+        if self.levels.depth() <= level {
+            return Err(Fault::Stale);
+        }
+        levels_beside::get(self.env, &self.levels, level, index)
     }
 
-    /// Writes an element of a level's array. The level has to be one that stands.
+    /// Writes an element of a level's array.
     ///
     /// # Errors
     ///
-    /// E5 at a string; E6 where its elements are of another kind; E7 where the index is not below the length.
+    /// E2 where no level of the number stands; E5 at a string; E6 where its elements are of another kind; E7 where the index is not below the length.
     ///
     /// Nothing is written then, and the levels stand.
     ///
@@ -112,30 +116,46 @@ impl<'e, S: Steps> Region<'e, S> {
     ///
     /// One store, and none where it is refused.
     pub fn set<E: Elem>(&mut self, level: usize, index: u32, value: E) -> Result<(), Fault>
-        requires { level < length (objects_of (levels_of self.old)) }
         ensures same_reference { (env_of self.new).ghost_name ≡ (env_of self.old).ghost_name }
-        ensures call { WritesAt (held_of self.old) (held_of self.new) (levels_of self.old) level E.KIND index (E.word_of value) result }
+        ensures call { AtLevel self.old self.new level result (WritesAt (held_of self.old) (held_of self.new) (levels_of self.old) level E.KIND index (E.word_of value) result) }
         ensures region { StandsOn (held_of self.old) (held_of self.new) (levels_of self.old) (levels_of self.new) }
         ensures frames { frames_of self.new ≡ frames_of self.old }
         ensures levels { levels_of self.new ≡ levels_of self.old }
     {
-        self.env.set_critical(&self.levels, level, index, value)
+        if self.levels.depth() <= level {
+            return Err(Fault::Stale);
+        }
+        levels_beside::set(self.env, &self.levels, level, index, value)
     }
 
-    /// How many elements or units a level's array or string has. The level has to be one that stands.
-    pub fn length(&self, level: usize) -> u32
-        requires { level < length (objects_of (levels_of self.now)) }
-        ensures { TellsLength (levels_of self.now) level result }
+    /// How many elements or units a level's array or string has.
+    ///
+    /// # Errors
+    ///
+    /// E2 where no level of the number stands.
+    pub fn length(&self, level: usize) -> Result<u32, Fault>
+        ensures tells { IfOk result (λ n. level < length (objects_of (levels_of self.now)) × TellsLength (levels_of self.now) level n) }
+        ensures missing { IfErr result (λ e. (length (objects_of (levels_of self.now)) ≤ level) × (e ≡ Stale)) }
     {
-        self.levels.length(level)
+        if self.levels.depth() <= level {
+            return Err(Fault::Stale);
+        }
+        Ok(self.levels.length(level))
     }
 
-    /// The kind of a level's array or string. The level has to be one that stands.
-    pub fn kind(&self, level: usize) -> Kind
-        requires { level < length (objects_of (levels_of self.now)) }
-        ensures { TellsKind (levels_of self.now) level result }
+    /// The kind of a level's array or string.
+    ///
+    /// # Errors
+    ///
+    /// E2 where no level of the number stands.
+    pub fn kind(&self, level: usize) -> Result<Kind, Fault>
+        ensures tells { IfOk result (λ kind. level < length (objects_of (levels_of self.now)) × TellsKind (levels_of self.now) level kind) }
+        ensures missing { IfErr result (λ e. (length (objects_of (levels_of self.now)) ≤ level) × (e ≡ Stale)) }
     {
-        self.levels.kind(level)
+        if self.levels.depth() <= level {
+            return Err(Fault::Stale);
+        }
+        Ok(self.levels.kind(level))
     }
 
     /// How many levels stand, at least one.
@@ -170,7 +190,7 @@ impl<'e, S: Steps> Region<'e, S> {
         ensures some { IfSome result (λ r. 0 < length (objects_of (levels_of r))) }
     {
         let Region { env, levels } = self;
-        match env.close_critical(levels, mode) {
+        match levels_beside::close(env, levels, mode) {
             Some(levels) => Some(Region { env, levels }),
             None => None,
         }
@@ -189,7 +209,7 @@ impl<'e, S: Steps> Region<'e, S> {
         ensures outside { IsOutside result.now }
     {
         let Region { env, levels } = self;
-        env.close_all_critical(levels);
+        levels_beside::close_all(env, levels);
         env
     }
 }

@@ -5,6 +5,7 @@ pub mod calls;
 mod critical_region;
 mod env;
 mod env_call;
+pub mod levels_beside;
 mod retrying;
 mod scope;
 mod stay;

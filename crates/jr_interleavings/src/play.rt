@@ -16,9 +16,9 @@ pub(crate) type Scheduling<'r, 'a, R, S> = Env<Scheduled<'r, 'a, R, S>>;
 
 /// Reads the first integer of an array in a critical region.
 fn read_critical<S: Steps>(env: &mut Env<S>, array: Handle) -> Result<i32, Fault> {
-    let levels = env.open_array_critical(array)?;
-    let read = env.get_critical::<i32>(&levels, 0, 0);
-    env.close_all_critical(levels);
+    let mut region = env.get_array_critical(array)?;
+    let read = region.get::<i32>(0, 0);
+    region.release_all();
     read
 }
 

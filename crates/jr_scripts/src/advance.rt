@@ -84,39 +84,6 @@ fn open_region<S: Steps>(
     }
 }
 
-/// What a command does where no region stands.
-fn call_outside<S: Steps>(
-    alloc: Global,
-    env: &mut Env<S>,
-    names: &mut Names,
-    marker: &mut Marker,
-    turns: u64,
-    command: &Command,
-) -> Left
-    requires outside { IsOutside env.old }
-    requires silent { is_speaking command.now ≡ false }
-    requires room { FitsRoom marker.old env.old }
-    ensures does { DidWith env.old env.new None result.region (deed turns names.old command.now) result.answer }
-    ensures stand { StandsWith result.region env.new }
-    ensures levels { level_names result.region ≡ levels_after command.now result.answer [] }
-    ensures objects { objects_in result.region ≡ objects_after command.now result.answer [] }
-    ensures names { names.new ≡ buffers_after command.now result.answer names.old }
-    ensures room { room_of marker.new ≡ room_of marker.old }
-{
-    match command {
-        Command::OpenLevel { verb, name, target } => {
-            open_region(env, names, turns, *verb, name, target)
-        }
-        _ => {
-            let answer = perform(alloc, env, names, marker, turns, command);
-            Left {
-                region: None,
-                answer,
-            }
-        }
-    }
-}
-
 /// What a command does in a region that stands afterwards too, as it does but after `endcrit`.
 fn stay<S: Steps>(
     env: &mut Env<S>,
@@ -172,32 +139,6 @@ fn call_within<S: Steps>(env: &mut Env<S>, names: &Names, region: Region, comman
     }
 }
 
-/// What a command does where the thread stands, one that hands other threads nothing.
-fn call<S: Steps>(
-    alloc: Global,
-    env: &mut Env<S>,
-    names: &mut Names,
-    marker: &mut Marker,
-    region: Option<Region>,
-    turns: u64,
-    command: &Command,
-) -> Left
-    requires stand { StandsWith region env.old }
-    requires silent { is_speaking command.now ≡ false }
-    requires room { FitsRoom marker.old env.old }
-    ensures does { DidWith env.old env.new region result.region (deed_at turns (place_with names.old region) command.now) result.answer }
-    ensures stand { StandsWith result.region env.new }
-    ensures levels { level_names result.region ≡ levels_after command.now result.answer (level_names region) }
-    ensures objects { objects_in result.region ≡ objects_after command.now result.answer (objects_in region) }
-    ensures names { names.new ≡ buffers_after command.now result.answer names.old }
-    ensures room { room_of marker.new ≡ room_of marker.old }
-{
-    match region {
-        None => call_outside(alloc, env, names, marker, turns, command),
-        Some(region) => call_within(env, names, region, command),
-    }
-}
-
 /// What a command does where the thread stands.
 pub(crate) fn advance<S: Steps, B: Board>(
     alloc: Global,
@@ -220,8 +161,22 @@ pub(crate) fn advance<S: Steps, B: Board>(
     ensures kept { Keeps B.layout B.tells board.old board.new }
     ensures room { room_of marker.new ≡ room_of marker.old }
 {
-    match spoken(board, names, turns, command) {
-        Some(answer) => Left { region, answer },
-        None => call(alloc, env, names, marker, region, turns, command),
+    if let Some(answer) = spoken(board, names, turns, command) {
+        return Left { region, answer };
+    }
+    if let Some(region) = region {
+        return call_within(env, names, region, command);
+    }
+    match command {
+        Command::OpenLevel { verb, name, target } => {
+            open_region(env, names, turns, *verb, name, target)
+        }
+        _ => {
+            let answer = perform(alloc, env, names, marker, turns, command);
+            Left {
+                region: None,
+                answer,
+            }
+        }
     }
 }

@@ -16,7 +16,7 @@ use crate::number::{Number, NumberKind};
 use crate::region::Region;
 use crate::reply::Reply;
 use jr_critical::Levels;
-use jr_env::{Env, is_made_again};
+use jr_env::{Env, is_made_again, levels_beside};
 use jr_model::Mode;
 use jr_steps::Steps;
 use jr_syntax::{Name, OnNameAt, OpenLevel, PutAt, Reference as Target};
@@ -31,8 +31,8 @@ fn open_once<S: Steps>(env: &mut Env<S>, verb: OpenLevel, handle: Handle) -> Res
     ensures outside { IfErr result (λ _. IsOutside env.new) }
 {
     match verb {
-        OpenLevel::Array => env.open_array_critical(handle),
-        OpenLevel::Text => env.open_string_critical(handle),
+        OpenLevel::Array => levels_beside::open_array(env, handle),
+        OpenLevel::Text => levels_beside::open_string(env, handle),
     }
 }
 
@@ -76,8 +76,8 @@ fn add<S: Steps>(
     ensures err { IfErr result (λ _. levels.new ≡ levels.old) }
 {
     match verb {
-        OpenLevel::Array => env.nest_array_critical(levels, handle),
-        OpenLevel::Text => env.nest_string_critical(levels, handle),
+        OpenLevel::Array => levels_beside::nest_array(env, levels, handle),
+        OpenLevel::Text => levels_beside::nest_string(env, levels, handle),
     }
 }
 
@@ -114,7 +114,7 @@ fn read_as<S: Steps, E: Number>(
     ensures does { DidWithin env.old env.new levels.now levels.now (reading_as (level_object levels.now level) index E.KIND) result }
     ensures stand { StandOver levels.now env.new.held }
 {
-    let element = env.get_critical::<E>(levels, level, index)?;
+    let element = levels_beside::get::<S, E>(env, levels, level, index)?;
     Ok(Reply::Value(element.to_number()))
 }
 
@@ -197,7 +197,7 @@ fn write_as<S: Steps, E: Number>(
     ensures stand { StandOver levels.now env.new.held }
 {
     let element = E::from_number(number)?;
-    env.set_critical(levels, level, index, element)?;
+    levels_beside::set(env, levels, level, index, element)?;
     Ok(Reply::Done)
 }
 
@@ -270,7 +270,7 @@ pub(crate) fn close<S: Steps>(env: &mut Env<S>, region: Region, mode: Mode) -> O
 {
     let Region { levels, mut names } = region;
     names.pop();
-    let levels = env.close_critical(levels, mode)?;
+    let levels = levels_beside::close(env, levels, mode)?;
     Some(Region { levels, names })
 }
 
@@ -281,6 +281,6 @@ pub(crate) fn end<S: Steps>(env: &mut Env<S>, region: Option<Region>)
     ensures outside { IsOutside env.new }
 {
     if let Some(Region { levels, names: _ }) = region {
-        env.close_all_critical(levels);
+        levels_beside::close_all(env, levels);
     }
 }

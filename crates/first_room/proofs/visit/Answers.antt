@@ -5,7 +5,6 @@ use Rattle.jr_word.specs.Elem.{signed_word}
 use Rattle.jr_model.specs.Frames.{fresh_frames}
 use Rattle.jr_rule.specs.Passes.{Holder, facts_of}
 use Rattle.jr_rule.specs.Rooms.{holder_over}
-use Rattle.jr_frames.specs.Table.{Table}
 use Rattle.first_room.specs.Calls.{visiting}
 use Rattle.first_room.specs.Parts.{HasVisited}
 use Rattle.first_room.proofs.Played.{visited, played}
@@ -18,23 +17,19 @@ returns c =
     let d2 = c.in_ok-object.ensures in
     let d3 = c.in_ok-new_object_array.ensures in
     let d4 = c.in_ok-pop_local_frame.ensures in
-    let opened = ((c.in_ok-region.ensures.entered).opens d4.outside).2.stands_is in
-    let ended = c.close_all_critical.ensures in
+    let d5 = c.in_ok-read.ensures in
     let same = same_then (same_spent _ (c.in-Ok.ensures.steps).stands_is)
     (same_then (same_before (d1.does c.in-Ok.ensures.outside).stands_is)
     (same_then (same_before (d2.does d1.outside).stands_is)
     (same_then (same_before (d3.does d2.outside).stands_is)
     (same_then (same_before (d4.does d3.outside).stands_is)
-    (same_then (record { room = opened.room; config = opened.config; last = opened.last })
-    (same_then (same_before (c.get_critical-read.ensures.call).stands_is)
-    (record { room = (ended.call).stands_is.room; config = (ended.call).stands_is.config; last = (ended.call).stands_is.last }))))))) in
-    let frames = ap (λ (t : Table). t.frames) (c.in_ok-region.ensures.entered).frames in
-    let calls = visited (λ s k h. h.1) _ _ _ _ _ _ _ _ _ _ _ _ _ c.in_ok-wait.field-0 c.in_ok-object.object c.in_ok-new_object_array.field-0 c.in_ok-pop_local_frame.field-0 c.in_ok-region.region (signed_word w32 c.in_ok-read.field-0)
-    c.in-Ok.ensures.outside d1 d2 d3 d4 ((c.in_ok-region.ensures.entered).opens d4.outside) _ _ frames (ap (λ (t : Table). t.frames) c.get_critical-read.ensures.frames ∙ frames) c.in_ok-read.ensures.call ended.call in
-    let own : to_z w32 (of_z w32 c.in_ok-read.field-0) ≡ c.in_ok-read.field-0 = search rules in
-    let handed = c.into_pass-2.ensures.pass ∙ ap holder_over (c.into_pass.ensures.steps ended.outside) in (
+    (same_before (d5.does d4.outside).stands_is))))) in
+    let calls = visited _ _ _ _ _ _ _ _ _ _ _ _ c.in_ok-wait.field-0 c.in_ok-object.object c.in_ok-new_object_array.field-0 c.in_ok-pop_local_frame.field-0 (signed_word w32 c.in_ok-read.read)
+    c.in-Ok.ensures.outside d1 d2 d3 d4 d5 in
+    let own : to_z w32 (of_z w32 c.in_ok-read.read) ≡ c.in_ok-read.read = search rules in
+    let handed = c.into_pass-2.ensures.pass ∙ ap holder_over (c.into_pass.ensures.steps d5.outside) in (
       at_end c.args.room.now.row c.args.pass (holder_over c.new.result) _ c.into_pass-2.result c.requires.row c.new.ensures.pass same handed,
       subst (HasVisited c.args.pass c.into_pass-2.result) (sym own) (
-          played holder_over visiting c.new.result _ _ c.args.pass c.into_pass-2.result _ _ (signed_word w32 c.in_ok-read.field-0) c.in-Ok.ensures.steps calls c.new.ensures.pass handed
+          played holder_over visiting c.new.result _ _ c.args.pass c.into_pass-2.result _ _ (signed_word w32 c.in_ok-read.read) c.in-Ok.ensures.steps calls c.new.ensures.pass handed
           (c.in-Ok.ensures.frames ∙ ap (λ (h : Holder). fresh_frames (facts_of h).stands.config.locals) c.new.ensures.pass)),
     )

@@ -1,6 +1,7 @@
 //! The calls of the Java Native Interface that open a critical region, over any steps.
 use crate::critical_region::Region;
 use crate::env::Env;
+use crate::levels_beside;
 use jr_steps::Steps;
 use jr_word::{Fault, Handle};
 
@@ -30,7 +31,7 @@ impl<S: Steps> Env<S> {
         ensures opened { IfOk result (λ r. WasOpened self.old r array.0 get_array_critical) }
         ensures region { IfOk result (λ r. IsOutside self.old → StandsSince self.old.held (held_of r) (levels_of r)) }
     {
-        let levels = self.open_array_critical(array)?;
+        let levels = levels_beside::open_array(self, array)?;
         Ok(Region::over(self, levels))
     }
 
@@ -52,7 +53,7 @@ impl<S: Steps> Env<S> {
         ensures opened { IfOk result (λ r. WasOpened self.old r string.0 get_string_critical) }
         ensures region { IfOk result (λ r. IsOutside self.old → StandsSince self.old.held (held_of r) (levels_of r)) }
     {
-        let levels = self.open_string_critical(string)?;
+        let levels = levels_beside::open_string(self, string)?;
         Ok(Region::over(self, levels))
     }
 }

@@ -1,6 +1,4 @@
 //! The calls of the Java Native Interface for references, over any steps.
-ghost use Rattle.std.specs.Prelude.{◌≢◌};
-ghost use Rattle.jr_word.specs.declared.handle.RefKind.TheVariants.{Local, Global, Weak};
 
 use crate::env::Env;
 use crate::env_call::EnvCall;
@@ -13,8 +11,7 @@ use jr_steps::Steps;
 use jr_word::{Fault, Handle, RefKind};
 
 impl<S: Steps> Env<S> {
-    ghost use Rattle.std.specs.Prelude.{◌≢◌};
-    ghost use Rattle.jr_word.specs.declared.handle.RefKind.TheVariants.{Local, Global, Weak};
+    ghost use Rattle.jr_word.specs.declared.handle.RefKind.TheVariants.{Global, Weak};
     ghost use Rattle.jr_env.specs.Envs.{Does};
     ghost use Rattle.jr_env.specs.Deeds.{new_reference, new_local_ref, delete_reference, delete_local_ref, is_same_object, get_object_ref_type};
 
@@ -32,7 +29,13 @@ impl<S: Steps> Env<S> {
     pub fn new_global_ref(&mut self, handle: Handle) -> Result<Option<Handle>, Fault>
         ensures { Does self.old self.new (new_reference Global handle.0) result }
     {
-        self.new_reference(RefKind::Global, handle)
+        let target = Reference::of(handle);
+        let work = Creation {
+            kind: RefKind::Global,
+            target,
+        };
+        let made = make(&mut self.held, work)?;
+        Ok(made.map(Handle::pack))
     }
 
     /// Makes a weak global reference to what the handle names, none for NULL and for a weak one that is cleared. (JNI Specification, chapter 4, "NewWeakGlobalRef")
@@ -49,7 +52,13 @@ impl<S: Steps> Env<S> {
     pub fn new_weak_global_ref(&mut self, handle: Handle) -> Result<Option<Handle>, Fault>
         ensures { Does self.old self.new (new_reference Weak handle.0) result }
     {
-        self.new_reference(RefKind::Weak, handle)
+        let target = Reference::of(handle);
+        let work = Creation {
+            kind: RefKind::Weak,
+            target,
+        };
+        let made = make(&mut self.held, work)?;
+        Ok(made.map(Handle::pack))
     }
 
     /// Makes a local reference to what the handle names, none for NULL and for a weak one that is cleared, which needs no place. (JNI Specification, chapter 4, "NewLocalRef")
@@ -162,16 +171,6 @@ impl<S: Steps> Env<S> {
     {
         let target = Reference::of(handle);
         make(&mut self.held, Typing(target))
-    }
-
-    /// A global or weak global reference to what the handle names, or none for null.
-    fn new_reference(&mut self, kind: RefKind, handle: Handle) -> Result<Option<Handle>, Fault>
-        requires { kind ≢ Local }
-        ensures { Does self.old self.new (new_reference kind handle.0) result }
-    {
-        let target = Reference::of(handle);
-        let made = make(&mut self.held, Creation { kind, target })?;
-        Ok(made.map(Handle::pack))
     }
 }
 

@@ -1,7 +1,7 @@
 //! Each call that takes a reference, and with what it is refused.
 
 use jr_elements::Elements;
-use jr_env::Env;
+use jr_env::{Env, levels_beside};
 use jr_model::Mode;
 use jr_steps::Steps;
 use jr_word::{Fault, Handle, RefKind};
@@ -301,16 +301,16 @@ fn levels_refused<S: Steps>(
     word: Handle,
 ) -> Option<Fault> {
     match call {
-        OfRegion::ArrayByLevels => match env.open_array_critical(word) {
+        OfRegion::ArrayByLevels => match levels_beside::open_array(env, word) {
             Ok(levels) => {
-                env.close_all_critical(levels);
+                levels_beside::close_all(env, levels);
                 None
             }
             Err(fault) => Some(fault),
         },
-        OfRegion::StringByLevels => match env.open_string_critical(word) {
+        OfRegion::StringByLevels => match levels_beside::open_string(env, word) {
             Ok(levels) => {
-                env.close_all_critical(levels);
+                levels_beside::close_all(env, levels);
                 None
             }
             Err(fault) => Some(fault),
@@ -322,10 +322,10 @@ fn levels_refused<S: Steps>(
 
 /// With what a level over an array is refused, or else the region over an array that it is added to. The region is ended.
 fn array_level_refused<S: Steps>(env: &mut Env<S>, base: Handle, word: Handle) -> Option<Fault> {
-    match env.open_array_critical(base) {
+    match levels_beside::open_array(env, base) {
         Ok(mut levels) => {
-            let answer = env.nest_array_critical(&mut levels, word);
-            env.close_all_critical(levels);
+            let answer = levels_beside::nest_array(env, &mut levels, word);
+            levels_beside::close_all(env, levels);
             answer.err()
         }
         Err(fault) => Some(fault),
@@ -334,10 +334,10 @@ fn array_level_refused<S: Steps>(env: &mut Env<S>, base: Handle, word: Handle) -
 
 /// The same of a level over a string.
 fn string_level_refused<S: Steps>(env: &mut Env<S>, base: Handle, word: Handle) -> Option<Fault> {
-    match env.open_array_critical(base) {
+    match levels_beside::open_array(env, base) {
         Ok(mut levels) => {
-            let answer = env.nest_string_critical(&mut levels, word);
-            env.close_all_critical(levels);
+            let answer = levels_beside::nest_string(env, &mut levels, word);
+            levels_beside::close_all(env, levels);
             answer.err()
         }
         Err(fault) => Some(fault),

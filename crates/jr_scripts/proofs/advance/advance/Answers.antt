@@ -1,5 +1,4 @@
-use Rattle.jr_scripts.specs.Posting.{talk_of}
-use Rattle.jr_scripts.proofs.Speaking.{did_say, said_buffers, said_levels, said_objects, silent}
+use Rattle.jr_scripts.proofs.Speaking.{did_say, said_buffers, said_levels, said_objects}
 use Rattle.jr_scripts.specs.Advancing.{level_names, objects_in}
 use Rattle.jr_scripts.proofs.advance.advance.Goals as goal
 
@@ -14,6 +13,3 @@ returns-in-Some-clause-objects g c = said_objects c.args.command.now c.in-Some.a
 
 pub returns-in-Some-clause-names : goal.returns-in-Some-clause-names
 returns-in-Some-clause-names g c = said_buffers c.args.command.now c.in-Some.answer c.args.names.now c.in-Some.ensures.said
-
-pub returns-in-None-clause-speaks : goal.returns-in-None-clause-speaks
-returns-in-None-clause-speaks g c = silent (talk_of g.B.Board.tells g.B.Board.looked c.args.turns c.spoken.new.board) c.args.names.now c.args.command.now c.call.result.answer c.in-None.ensures.said

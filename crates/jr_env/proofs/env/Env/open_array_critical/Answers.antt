@@ -1,5 +1,0 @@
-use Rattle.jr_env.proofs.StandingRegions.{stands_at_array}
-use Rattle.jr_env.proofs.env.Env.open_array_critical.Goals as goal
-
-pub returns-clause-region : goal.returns-clause-region
-returns-clause-region g c = stands_at_array g.met.S.Steps.fits c.args.self.now.held c.outside.new.held c.open_array.new.held c.outside.ensures c.open_array.ensures.frames c.args.array.0 c.open_array.result c.open_array.ensures.call

@@ -1,0 +1,201 @@
+//! The calls of a critical region by its levels, which stand beside their env and don't borrow it. They are for who keeps levels and env from one command to the next, as an interpreter of commands does, and can't hold a borrow of the env meanwhile; [`Region`](crate::Region) is the way for everybody else, and asks for nothing.
+//!
+//! The levels have to be closed on the env that opened them, the last first. Each other call of the env ends the stay that they stand in.
+ghost use Rattle.std.specs.Prelude.{◌≡◌, ◌<◌, IfErr, IfOk, length, IfNone, IfSome};
+ghost use Rattle.jr_model.specs.Objects.{get_array_critical, get_string_critical, nest_array, nest_string};
+ghost use Rattle.jr_critical.specs.Levels.{objects_of, in_words, GivesUpAllOver, GivesUpLastOver, LeavesBefore, NestsOver, ReadsAt, StandOver, WasAdded, WritesAt};
+ghost use Rattle.jr_env.specs.Envs.{IsOutside};
+ghost use Rattle.jr_env.specs.StandingRegions.{EndsUndisturbed, StandsOn, StandsSince};
+ghost use Rattle.jr_env.specs.Criticals.{HasEntered, WasRefused};
+
+use crate::env::Env;
+use crate::work::outside;
+use jr_critical::Levels;
+use jr_model::Mode;
+use jr_steps::Steps;
+use jr_word::{Elem, Fault, Handle};
+
+/// Opens a critical region, with the array at its first level. The thread is within until that level is given up. (JNI Specification, chapter 4, "GetPrimitiveArrayCritical")
+///
+/// # Errors
+///
+/// E13 where a thread is collecting at the entry, or has announced that it will; E2 where the handle is malformed or lies outside the room; E3 where it is a local one of another thread; E2 where its reference does not stand; E1 where it is to null; E5 where it is to a plain object or a string; E6 where it is to an array of objects.
+///
+/// Nothing has changed then, and the thread stands outside.
+///
+/// # Operations
+///
+/// At most 3: the entry, a look at the slot of a global or weak handle, and one at the array's header. Where it is refused, the exit too.
+#[inline(always)]
+pub fn open_array<S: Steps>(env: &mut Env<S>, array: Handle) -> Result<Levels, Fault>
+    ensures entered { IfOk result (λ v. HasEntered env.old env.new v array.0 get_array_critical) }
+    ensures region { IfOk result (λ v. IsOutside env.old → StandsSince env.old.held env.new.held v) }
+    ensures refused { IfErr result (λ e. WasRefused env.old env.new array.0 get_array_critical e) }
+{
+    outside(&mut env.held);
+    Levels::open_array(&mut env.held, array)
+}
+
+/// Opens a critical region, with the string at its first level. The thread is within until that level is given up. (JNI Specification, chapter 4, "GetStringCritical")
+///
+/// # Errors
+///
+/// E13 where a thread is collecting at the entry, or has announced that it will; E2 where the handle is malformed or lies outside the room; E3 where it is a local one of another thread; E2 where its reference does not stand; E1 where it is to null; E4 where it is to no string.
+///
+/// Nothing has changed then, and the thread stands outside.
+///
+/// # Operations
+///
+/// At most 3: the entry, a look at the slot of a global or weak handle, and one at the string's header. Where it is refused, the exit too.
+#[inline(always)]
+pub fn open_string<S: Steps>(env: &mut Env<S>, string: Handle) -> Result<Levels, Fault>
+    ensures entered { IfOk result (λ v. HasEntered env.old env.new v string.0 get_string_critical) }
+    ensures region { IfOk result (λ v. IsOutside env.old → StandsSince env.old.held env.new.held v) }
+    ensures refused { IfErr result (λ e. WasRefused env.old env.new string.0 get_string_critical e) }
+{
+    outside(&mut env.held);
+    Levels::open_string(&mut env.held, string)
+}
+
+/// Adds a level over an array whose elements are no objects, and answers its number. An array may stand at several levels. The levels have to stand over the env. (JNI Specification, chapter 4, "GetPrimitiveArrayCritical")
+///
+/// # Errors
+///
+/// E2 where the handle is malformed or lies outside the room; E3 where it is a local one of another thread; E2 where its reference does not stand; E1 where it is to null; E5 where it is to a plain object or a string; E6 where it is to an array of objects; E17 where sixteen levels stand.
+///
+/// The levels are as they were, and stand.
+///
+/// # Operations
+///
+/// At most 2: a look at the slot of a global or weak handle, and one at the array's header. It takes none at the gate.
+pub fn nest_array<S: Steps>(
+    env: &mut Env<S>,
+    levels: &mut Levels,
+    array: Handle,
+) -> Result<usize, Fault>
+    requires { StandOver levels.old env.old.held }
+    ensures call { NestsOver env.old.held env.new.held array.0 nest_array levels.old levels.new result }
+    ensures region { StandsOn env.old.held env.new.held levels.old levels.new }
+    ensures frames { env.new.held.frames ≡ env.old.held.frames }
+    ensures stand { StandOver levels.new env.new.held }
+    ensures added { IfOk result (λ n. WasAdded levels.old levels.new n) }
+    ensures err { IfErr result (λ _. levels.new ≡ levels.old) }
+{
+    levels.nest_array(&mut env.held, array)
+}
+
+/// Adds a level over a string, and answers its number. A string may stand at several levels. The levels have to stand over the env. (JNI Specification, chapter 4, "GetStringCritical")
+///
+/// # Errors
+///
+/// E2 where the handle is malformed or lies outside the room; E3 where it is a local one of another thread; E2 where its reference does not stand; E1 where it is to null; E4 where it is to no string; E17 where sixteen levels stand.
+///
+/// The levels are as they were, and stand.
+///
+/// # Operations
+///
+/// At most 2: a look at the slot of a global or weak handle, and one at the string's header. It takes none at the gate.
+pub fn nest_string<S: Steps>(
+    env: &mut Env<S>,
+    levels: &mut Levels,
+    string: Handle,
+) -> Result<usize, Fault>
+    requires { StandOver levels.old env.old.held }
+    ensures call { NestsOver env.old.held env.new.held string.0 nest_string levels.old levels.new result }
+    ensures region { StandsOn env.old.held env.new.held levels.old levels.new }
+    ensures frames { env.new.held.frames ≡ env.old.held.frames }
+    ensures stand { StandOver levels.new env.new.held }
+    ensures added { IfOk result (λ n. WasAdded levels.old levels.new n) }
+    ensures err { IfErr result (λ _. levels.new ≡ levels.old) }
+{
+    levels.nest_string(&mut env.held, string)
+}
+
+/// An element of a level's array, or a unit of its string as a char. The levels have to stand over the env, and the level has to be one of them.
+///
+/// # Errors
+///
+/// E6 where its elements are of another kind; E7 where the index is not below the length.
+///
+/// Nothing is read then, and the levels stand.
+///
+/// # Operations
+///
+/// One load, and none where it is refused.
+pub fn get<S: Steps, E: Elem>(
+    env: &mut Env<S>,
+    levels: &Levels,
+    level: usize,
+    index: u32,
+) -> Result<E, Fault>
+    requires stand { StandOver levels.now env.old.held }
+    requires level { level < length (objects_of levels.now) }
+    ensures call { ReadsAt env.old.held env.new.held levels.now level E.KIND index (in_words E.word_of result) }
+    ensures region { StandsOn env.old.held env.new.held levels.now levels.now }
+    ensures frames { env.new.held.frames ≡ env.old.held.frames }
+    ensures stand { StandOver levels.now env.new.held }
+{
+    levels.get(&mut env.held, level, index)
+}
+
+/// Writes an element of a level's array. The levels have to stand over the env, and the level has to be one of them.
+///
+/// # Errors
+///
+/// E5 at a string; E6 where its elements are of another kind; E7 where the index is not below the length.
+///
+/// Nothing is written then, and the levels stand.
+///
+/// # Operations
+///
+/// One store, and none where it is refused.
+pub fn set<S: Steps, E: Elem>(
+    env: &mut Env<S>,
+    levels: &Levels,
+    level: usize,
+    index: u32,
+    value: E,
+) -> Result<(), Fault>
+    requires stand { StandOver levels.now env.old.held }
+    requires level { level < length (objects_of levels.now) }
+    ensures call { WritesAt env.old.held env.new.held levels.now level E.KIND index (E.word_of value) result }
+    ensures region { StandsOn env.old.held env.new.held levels.now levels.now }
+    ensures frames { env.new.held.frames ≡ env.old.held.frames }
+    ensures stand { StandOver levels.now env.new.held }
+{
+    levels.set(&mut env.held, level, index, value)
+}
+
+/// Gives up the last level, and answers those before it. With the first one the thread leaves the gate, and none is left. Every mode does the same, since a region is no copy. The levels have to stand over the env. (JNI Specification, chapter 4, "ReleasePrimitiveArrayCritical", "ReleaseStringCritical")
+///
+/// # Operations
+///
+/// One with the first level, the exit, and else none.
+#[inline(always)]
+pub fn close<S: Steps>(env: &mut Env<S>, levels: Levels, mode: Mode) -> Option<Levels>
+    requires { StandOver levels env.old.held }
+    ensures call { GivesUpLastOver env.old.held env.new.held levels result }
+    ensures region { IfSome result (λ v. StandsOn env.old.held env.new.held levels v) }
+    ensures undisturbed { IfNone result (EndsUndisturbed env.old.held env.new.held levels) }
+    ensures levels { LeavesBefore levels result }
+    ensures frames { env.new.held.frames ≡ env.old.held.frames }
+    ensures stand { IfSome result (λ v. StandOver v env.new.held) }
+    ensures outside { IfNone result (IsOutside env.new) }
+{
+    levels.close(&mut env.held, mode)
+}
+
+/// Gives up all levels at once, as where a native method ends within its region: the thread leaves the gate. The levels have to stand over the env.
+///
+/// # Operations
+///
+/// One, the exit.
+pub fn close_all<S: Steps>(env: &mut Env<S>, levels: Levels)
+    requires { StandOver levels env.old.held }
+    ensures call { GivesUpAllOver env.old.held env.new.held levels }
+    ensures undisturbed { EndsUndisturbed env.old.held env.new.held levels }
+    ensures frames { env.new.held.frames ≡ env.old.held.frames }
+    ensures outside { IsOutside env.new }
+{
+    levels.close_all(&mut env.held);
+}
