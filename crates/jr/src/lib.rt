@@ -6,5 +6,6 @@ pub use jr_env::{Env, EnvCall, LocalFrames, Region, Scoped, Stay, calls, with_lo
 pub use jr_model::{Mode, Summary};
 pub use jr_rule::{AllLeft, Left, Pass, PlainSteps, Room, RoomSteps};
 pub use jr_steps::Steps;
+pub use jr_threads::{NativeCode, Ran, run_native};
 pub use jr_weak::{Collected, Marker};
 pub use jr_word::{Config, Elem, Fault, Handle, HandleParts, Kind, LAST_SERIAL, RefKind};

@@ -1,6 +1,8 @@
 -- Calls that are made again, counted from the first, and a collection between, for whatever was known.
-use Rattle.std.proofs.Common.{◌≡◌, ◌<◌, ◌≤◌, ◌-◌, ◌+◌, ℕ, suc, true, false, Result, Ok, Err, subst, arith}
+use Rattle.std.proofs.Common.{◌≡◌, ◌<◌, ◌≤◌, ◌-◌, ◌+◌, ◌⊎◌, ◌↔◌, inl, inr, ℕ, suc, true, false, Result, Ok, Err, sym, subst, arith}
 use Rattle.jr_word.specs.declared.fault.Fault.{Fault}
+use Rattle.jr_word.specs.declared.fault.Fault.TheVariants.{Size}
+use Rattle.jr_model.specs.declared.event.Role.TheVariants.{Outside}
 use Rattle.jr_model.specs.Frames.{Frames}
 use Rattle.jr_steps.specs.Knowing.{Facts}
 use Rattle.jr_gate.specs.Performing.{ThreadState}
@@ -57,3 +59,13 @@ module _ {S : Type 0} {facts : S → Facts} where
 
     pub was_kept_out : {a b c : S} {f g h : Frames} {once : Result A Fault} (n : ℕ) (e : Fault) → DoesOutside facts a b f g (made_again n deed) once → lacks_room once ≡ true → DoesOutside facts b c g h collection (Err e) → DoesOutside facts a c f h (made_collecting n deed) (Err e)
     was_kept_out n e first is between = does_both (λ p m q t c. kept_out t is c) first between
+
+    -- a collection that was refused was kept out, or its marker didn't fit: but then the thread hadn't stood outside, and nothing has changed
+    pub was_refused : {F : Type 0} {a b c : S} {f g h : Frames} {once : Result A Fault} (n : ℕ) (e : Fault) → F ⊎ (F → ⊥) → DoesOutside facts a b f g (made_again n deed) once → lacks_room once ≡ true → (F → DoesOutside facts b c g h collection (Err e)) → ((facts a).stands.role ≡ Outside → F) → ((F → ⊥) → c ≡ b) → DoesOutside facts a c f h (made_collecting n deed) (Err e)
+    was_refused n e (inl fits) first is between there same = was_kept_out n e first is (between fits)
+    was_refused n e (inr unfit) first is between there same = record { does = λ out. absurd (unfit (there out)); outside = subst (λ (s : S). (facts s).stands.role ≡ Outside) (sym (same unfit)) first.outside }
+
+-- a collection that was made had a marker that fits
+pub fits_if_ok : {F : Type 0} {C : Type 0} (x : C) → F ⊎ (F → ⊥) → (◌≡◌ {A = Result C Fault} (Ok x) (Err Size)) ↔ (F → ⊥) → F
+fits_if_ok x (inl fits) only = fits
+fits_if_ok x (inr unfit) only = absurd (let e = only.1 unfit in cc)

@@ -27,10 +27,11 @@ pub fn is_short_of_room<A>(answer: &Result<A, Fault>) -> bool
 }
 
 impl<S: Steps> Env<S> {
-    ghost use Rattle.std.specs.Prelude.{◌≡◌};
+    ghost use Rattle.std.specs.Prelude.{◌≡◌, Err};
+    ghost use Rattle.jr_word.specs.declared.fault.Fault.TheVariants.{Size};
     ghost use Rattle.jr_weak.specs.Markers.{room_of};
     ghost use Rattle.jr_env.specs.Collections.{FitsRoom};
-    ghost use Rattle.jr_env.specs.Envs.{Does, IsOutside};
+    ghost use Rattle.jr_env.specs.Envs.{Does};
     ghost use Rattle.jr_env.specs.Tries.{made_again, made_collecting};
 
     /// Makes a call, and again as long as it is refused by E12, E13 or E23, but no more than so many times more. The last answer is the answer. Between two tries it does nothing, and it never waits.
@@ -60,7 +61,7 @@ impl<S: Steps> Env<S> {
     ///
     /// # Errors
     ///
-    /// That of `collect` where the collection was kept out; else those of the call at its last try.
+    /// E17 where the marker was made for another number of objects than the room has: then no try is made, and nothing has changed. E14 where the collection was kept out; else those of the call at its last try.
     ///
     /// What stands then is what the last of these leaves, and the thread stands outside.
     ///
@@ -73,8 +74,28 @@ impl<S: Steps> Env<S> {
         call: &C,
         more: u64,
     ) -> Result<C::Answer, Fault>
-        requires outside { IsOutside self.old }
-        requires room { FitsRoom marker.old self.old }
+        ensures call { FitsRoom marker.old self.old → Does self.old self.new (made_collecting more (C.deed call.now)) result }
+        ensures size { ¬ (FitsRoom marker.old self.old) → (result ≡ Err Size) × (self.new ≡ self.old) × (marker.new ≡ marker.old) }
+        ensures room { room_of marker.new ≡ room_of marker.old }
+    {
+        if !self.has_marker(marker) {
+            return Err(Fault::Size);
+        }
+        self.retry_collecting_by(marker, call, more)
+    }
+
+    /// Makes a call as `retry_collecting` does, by a marker that fits.
+    ///
+    /// # Errors
+    ///
+    /// E14, and those of the call.
+    fn retry_collecting_by<C: EnvCall<S>>(
+        &mut self,
+        marker: &mut Marker,
+        call: &C,
+        more: u64,
+    ) -> Result<C::Answer, Fault>
+        requires { FitsRoom marker.old self.old }
         ensures call { Does self.old self.new (made_collecting more (C.deed call.now)) result }
         ensures room { room_of marker.new ≡ room_of marker.old }
     {

@@ -62,6 +62,13 @@ impl Marker {
         })
     }
 
+    /// Whether it was made for a room of so many objects.
+    pub fn fits(&self, objects: u32) -> bool
+        ensures { IsTrue result ↔ room_of self.now ≡ objects }
+    {
+        self.found.len() == objects as usize
+    }
+
     /// Whether an object is marked.
     pub fn is_marked(&self, object: u16) -> bool
         ensures { IsTrue result ↔ IsMarked (marks_of self.now) object }

@@ -2,7 +2,7 @@ use Rattle.std.proofs.Common.{inr, ap, ◌∙◌}
 use Rattle.jr_word.specs.declared.config.Config.{Config}
 use Rattle.jr_env.proofs.AnnouncedCollections.{announces_or, does_announced, no_turn, ready_announced}
 use Rattle.jr_env.proofs.EndedStays.{can_call}
-use Rattle.jr_env.proofs.env.Env.collect_announced.Goals as goal
+use Rattle.jr_env.proofs.env.Env.collect_announced_by.Goals as goal
 
 pub invariant_of-held : goal.invariant_of-held
 invariant_of-held g c =

@@ -2,7 +2,7 @@ use Rattle.std.proofs.Common.{inr, ap, ◌∙◌}
 use Rattle.jr_word.specs.declared.config.Config.{Config}
 use Rattle.jr_env.proofs.EndedStays.{can_call}
 use Rattle.jr_env.proofs.WholeCollections.{collects_or, ready_collected, does_collection}
-use Rattle.jr_env.proofs.env.Env.collect.Goals as goal
+use Rattle.jr_env.proofs.env.Env.collect_by.Goals as goal
 
 pub invariant_of-held : goal.invariant_of-held
 invariant_of-held g c = record { own = (ready_collected c.collect.result c.outside.ensures.ready (collects_or g.S.Steps.facts c.outside.new.held.steps c.collect.new.steps c.collect.result c.collect.ensures.ok c.collect.ensures.err)).own }

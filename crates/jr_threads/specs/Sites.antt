@@ -1,0 +1,52 @@
+-- Which room passes and steps are of, by their type.
+use Rattle.std.specs.Prelude.{◌≡◌, ◌≤◌, ℕ, Option, Some, List}
+use Rattle.atomic_table.specs.Seated.{TableId}
+use Rattle.jr_word.specs.declared.config.Config.{Config}
+use Rattle.jr_word.specs.declared.fault.Fault.{Fault}
+use Rattle.jr_word.specs.declared.fault.Fault.TheVariants.{LeftInside}
+use Rattle.jr_model.specs.declared.summary.Summary.{Summary}
+use Rattle.jr_steps.specs.declared.known.Known.{Known}
+use Rattle.jr_rule.specs.declared.pass.Pass.{Pass}
+use Rattle.jr_rule.specs.declared.row.RoomCells.{RoomCells}
+use Rattle.jr_rule.specs.declared.room.Room.{Room}
+use Rattle.jr_rule.specs.Passes.{known_of, ClosesAll}
+use Rattle.jr_rule.specs.Rule.{stepping_pass}
+use Rattle.jr_rule.specs.Sights.{IsSeatOf}
+
+-- no sizes
+abbrev pub no_sizes : Config
+no_sizes = record { threads = 0; slots = 0; objects = 0; words = 0; locals = 0 }
+
+-- the cells' seat is one of the room's own
+abbrev pub IsThere : {LAST : ℕ} → RoomCells → Room LAST → Type 0
+IsThere s room = IsSeatOf room.row.table.shared.table_id room.row.config room.row.last s.seat.table_id s.seat.me s.thread
+
+-- AND THE ROOM IS THE SITE'S
+pub record IsAtSite {LAST : ℕ} (table : Option TableId) (config : Config) (s : RoomCells) (room : Room LAST) : Type 0 where
+  pub there : IsThere s room
+  pub site : Some s.seat.table_id ≡ table
+  pub sizes : (stepping_pass s.seat.me).config ≡ config
+
+-- the room is the site's own
+pub record IsSiteOf {LAST : ℕ} (table : Option TableId) (config : Config) (room : Room LAST) : Type 0 where
+  pub site : Some room.row.table.shared.table_id ≡ table
+  pub sizes : room.row.config ≡ config
+
+-- the pass is one of the site's room, whose last serial is the greatest
+pub record IsPassOf (table : Option TableId) (config : Config) (p : Pass) : Type 0 where
+  pub site : Some p.seat.table_id ≡ table
+  pub sizes : (known_of p).config ≡ config
+  pub last : (known_of p).last ≡ 4294967295
+
+-- A ROOM WAS CLOSED with passes of it, of these sizes and this last serial: what is told is what stands at the end of one legal history, which begins with all that each of them has seen and has no more of their events
+pub record IsClosed (c : Config) (last : ℕ) (s : Summary) : Type 0 where
+  pub first : Known
+  pub others : List Known
+  pub sizes : first.config ≡ c
+  pub serials : first.last ≡ last
+  pub closes : ClosesAll first others s
+
+-- so many threads were left inside, at least one
+abbrev pub IsLeftInside : Fault → Type 0
+IsLeftInside (LeftInside n) = 1 ≤ n
+IsLeftInside _ = ⊥

@@ -1,0 +1,11 @@
+//! The threads of a room: native code that each runs over an env of its own, from the room's opening to its close.
+#![tactic(auto)]
+
+mod closing;
+mod native;
+mod place;
+mod running;
+
+pub use native::NativeCode;
+pub use place::{InRoom, Site};
+pub use running::{Ran, run_native};
