@@ -7,25 +7,45 @@ use jr_weak::Marker;
 use jr_word::Fault;
 
 impl<S: Steps> Env<S> {
-    ghost use Rattle.std.specs.Prelude.{◌≡◌, ◌≤◌, ℕ, IsOk, IfErr, OnErr};
-    ghost use Rattle.jr_word.specs.declared.fault.Fault.TheVariants.{Busy};
+    ghost use Rattle.std.specs.Prelude.{◌≡◌, ◌↔◌, ◌≤◌, ℕ, Err, IsOk, IfErr, OnErr};
+    ghost use Rattle.jr_word.specs.declared.fault.Fault.TheVariants.{Busy, Size};
     ghost use Rattle.jr_weak.specs.Markers.{room_of};
     ghost use Rattle.jr_env.specs.Collections.{FitsRoom};
     ghost use Rattle.jr_env.specs.Censuses.{census};
     ghost use Rattle.jr_env.specs.Envs.{Does};
 
-    /// Tells what stands in the room: references by kind and local ones by thread, cleared weak ones, slots that are used no more, objects by kind with their words, and those of them that nothing reaches, which a collection would drop. All of it is so at one step, which shuts the gate; no thread comes in until it is opened again. It changes nothing, takes no memory and never waits. The marker has to be made for a room of so many objects, and serves again.
+    /// Tells what stands in the room: references by kind and local ones by thread, cleared weak ones, slots that are used no more, objects by kind with their words, and those of them that nothing reaches, which a collection would drop. All of it is so at one step, which shuts the gate; no thread comes in until it is opened again. It changes nothing, takes no memory and never waits. The marker is one that was made for a room of so many objects, as `marker` makes it, and serves again.
     ///
     /// # Errors
     ///
-    /// E14 with how many threads were inside, knocking, announcing or collecting at its one step, at least 1.
+    /// E17 exactly where the marker was made for another number of objects; E14 with how many threads were inside, knocking, announcing or collecting at its one step, at least 1.
     ///
-    /// Nothing has changed then, the marker is as it was, and the thread stands outside. Over one thread it is never refused.
+    /// Nothing has changed then, and the marker is as it was. At E14 the thread stands outside, and at E17 it has taken no step. Over one thread a marker that fits is never refused.
     ///
     /// # Operations
     ///
-    /// One where it is refused. A census that is taken takes two looks at each slot and at each local place of every thread, one or two at each object number's header, a load for each element of an object array that is reached, and two at the gate.
+    /// None at E17, and one at E14. A census that is taken takes two looks at each slot and at each local place of every thread, one or two at each object number's header, a load for each element of an object array that is reached, and two at the gate.
     pub fn census(&mut self, marker: &mut Marker) -> Result<Census, Fault>
+        ensures call { FitsRoom marker.old self.old → Does self.old self.new census result }
+        ensures size { (result ≡ Err Size) ↔ ¬ (FitsRoom marker.old self.old) }
+        ensures same { ¬ (FitsRoom marker.old self.old) → self.new ≡ self.old }
+        ensures room { room_of marker.new ≡ room_of marker.old }
+        ensures busy { FitsRoom marker.old self.old → IfErr result (λ e. (n : ℕ) × (e ≡ Busy n) × (1 ≤ n)) }
+        ensures kept { OnErr result (marker.new ≡ marker.old) }
+        ensures alone { FitsRoom marker.old self.old → (S.facts self.old.held.steps).stands.config.threads ≡ 1 → IsOk result }
+    {
+        if !self.has_marker(marker) {
+            return Err(Fault::Size);
+        }
+        self.census_by(marker)
+    }
+
+    /// Tells what stands, by a marker that fits.
+    ///
+    /// # Errors
+    ///
+    /// E14.
+    fn census_by(&mut self, marker: &mut Marker) -> Result<Census, Fault>
         requires { FitsRoom marker.old self.old }
         ensures call { Does self.old self.new census result }
         ensures room { room_of marker.new ≡ room_of marker.old }

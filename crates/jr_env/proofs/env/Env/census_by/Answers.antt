@@ -2,7 +2,7 @@ use Rattle.std.proofs.Common.{inr, ap, ◌∙◌}
 use Rattle.jr_word.specs.declared.config.Config.{Config}
 use Rattle.jr_env.proofs.EndedStays.{can_call}
 use Rattle.jr_env.proofs.WholeCensuses.{counts_or, ready_counted, does_census}
-use Rattle.jr_env.proofs.env.Env.census.Goals as goal
+use Rattle.jr_env.proofs.env.Env.census_by.Goals as goal
 
 pub invariant_of-held : goal.invariant_of-held
 invariant_of-held g c = record { own = (ready_counted c.take_census.result c.outside.ensures.ready (counts_or g.S.Steps.facts c.outside.new.held.steps c.take_census.new.steps c.take_census.result c.take_census.ensures.ok c.take_census.ensures.err)).own }
