@@ -1,13 +1,10 @@
 //! What is shown of an env that has one thread: each case has an env of its own, over plain words or over a room, and both are made here alone.
 
-use crate::copies::{
-    copies_both, copies_elements, copies_units, goes_to_another, have_no_copies, have_no_units,
-};
+use crate::copies::{copies_both, copies_elements, copies_units, goes_to_another, have_no_copies};
 use crate::element_types::{are_of_one_type, has_units};
 use crate::envs::{LAST, lone_env, next_env};
 use crate::levels::stands_anew;
-use crate::not_opened::{adds_no_level, opens_none};
-use crate::objects::{are_checked_in_turn, have_kinds, name_no_object};
+use crate::objects::have_kinds;
 use crate::regions::{a_long_part, has_regions, have_no_regions};
 use crate::undisturbed::is_undisturbed;
 use jr_env::Env;
@@ -25,17 +22,12 @@ pub(crate) enum Case {
     HasRegions,
     LongPart,
     HaveNoRegions,
-    NameNoObject,
-    CheckedInTurn,
     HaveKinds,
     IsUndisturbed,
-    OpensNone,
-    AddsNoLevel,
     AreOfOneType,
     HasUnits,
     HaveNoCopies,
     GoesToAnother,
-    HaveNoUnits,
     Units(u32),
     Elements(u32),
     UnitsAndElements(u32, u32),
@@ -53,17 +45,12 @@ fn shows<S: Steps>(
         Case::HasRegions => has_regions(rt, env),
         Case::LongPart => a_long_part(rt, env),
         Case::HaveNoRegions => have_no_regions(rt, env),
-        Case::NameNoObject => name_no_object(rt, env),
-        Case::CheckedInTurn => are_checked_in_turn(rt, env),
         Case::HaveKinds => have_kinds(rt, env),
         Case::IsUndisturbed => is_undisturbed(rt, env),
-        Case::OpensNone => opens_none(rt, env),
-        Case::AddsNoLevel => adds_no_level(rt, env),
         Case::AreOfOneType => are_of_one_type(rt, env),
         Case::HasUnits => has_units(rt, env),
         Case::HaveNoCopies => have_no_copies(rt, env, alloc),
         Case::GoesToAnother => goes_to_another(rt, env, alloc),
-        Case::HaveNoUnits => have_no_units(rt, env, alloc),
         Case::Units(count) => copies_units(rt, alloc, env, count),
         Case::Elements(count) => copies_elements(rt, alloc, env, count),
         Case::UnitsAndElements(units, elements) => copies_both(rt, alloc, env, units, elements),

@@ -1,7 +1,7 @@
 //! Copies of elements and of units: words that are no array, and long ones, over plain words and over a room.
 
 use crate::cases::{Case, alone, in_a_room};
-use crate::envs::{FOREIGN, ONES, TWO, has_elements, refuses};
+use crate::envs::{TWO, has_elements, refuses};
 use crate::regions::no_arrays_of_chars;
 use jr_elements::{Elements, elements_of};
 use jr_env::Env;
@@ -17,27 +17,7 @@ pub(crate) fn are<E: Elem + PartialEq>(rt: &impl Abort, elements: &Elements<E>, 
     assert!(rt; elements.as_slice() == wanted);
 }
 
-/// A release is refused, and hands the elements back as they were.
-fn hands_back<S: Steps, E: Elem + PartialEq>(
-    rt: &impl Abort,
-    env: &mut Env<S>,
-    array: Handle,
-    elements: Elements<E>,
-    mode: Mode,
-    wanted: &[E],
-    fault: Fault,
-) -> Result<Elements<E>, Fail> {
-    match env.release_array_elements(array, elements, mode) {
-        Err((elements, found)) => {
-            assert_eq!(rt; found, fault);
-            are(rt, &elements, wanted);
-            Ok(elements)
-        }
-        Ok(_) => Err("nothing was refused")?,
-    }
-}
-
-/// What the word names is no array of chars: no elements of it are copied, and none are written to it, unless to abort, which looks at nothing.
+/// What the word names is no array of chars: no elements of it are copied, and an abort, which looks at nothing, is not refused.
 fn is_no_such_array<S: Steps>(
     rt: &impl Abort,
     env: &mut Env<S>,
@@ -47,9 +27,6 @@ fn is_no_such_array<S: Steps>(
 ) -> Result<(), Fail> {
     refuses(rt, env.get_array_elements::<u16>(alloc, word), fault);
     let elements = elements_of(Vec::from_slice(alloc, &[65_535u16, 7])?);
-    let wanted = &[65_535, 7];
-    let elements = hands_back(rt, env, word, elements, Mode::Copy, wanted, fault)?;
-    let elements = hands_back(rt, env, word, elements, Mode::Commit, wanted, fault)?;
     match env.release_array_elements(word, elements, Mode::Abort) {
         Ok(None) => Ok(()),
         Ok(Some(_)) => Err("an abort keeps nothing")?,
@@ -99,24 +76,6 @@ pub(crate) fn goes_to_another<S: Steps>(
 #[test]
 fn elements_of_one_array_for_another(rt: HostRuntime) -> Result<(), Fail> {
     alone(&rt, rt.alloc(), TWO, Case::GoesToAnother)
-}
-
-/// No units are copied of a word that names no string.
-pub(crate) fn have_no_units<S: Steps>(
-    rt: &impl Abort,
-    env: &mut Env<S>,
-    alloc: Global,
-) -> Result<(), Fail> {
-    let rows = [(ONES, Fault::Stale), (FOREIGN, Fault::Foreign)];
-    for (word, fault) in rows {
-        refuses(rt, env.get_string_chars(alloc, word), fault);
-    }
-    Ok(())
-}
-
-#[test]
-fn units_of_no_string(rt: HostRuntime) -> Result<(), Fail> {
-    alone(&rt, rt.alloc(), TWO, Case::HaveNoUnits)
 }
 
 /// Units of which no two beside each other are alike, and none comes again within some thousands.

@@ -27,13 +27,8 @@ pub(crate) const TWO: Config = Config {
 /// Malformed: all ones.
 pub(crate) const ONES: Handle = Handle(u64::MAX);
 
-/// Local, of thread 0 and of thread 1, with serial 0 at the first place.
-pub(crate) const OWN: Handle = Handle(1);
-
+/// Local, of thread 1, with serial 0 at the first place.
 pub(crate) const FOREIGN: Handle = Handle(0x4_0000_0000_0001);
-
-/// Global, with a fifth slot.
-pub(crate) const NO_SLOT: Handle = Handle(0x10_0000_0002);
 
 /// The env of a thread whose pass was not used.
 pub(crate) fn env_of<S: Steps + Drop>(steps: S) -> Result<Env<S>, Fail>

@@ -126,6 +126,9 @@ pub(crate) struct Given<U: Steps> {
     pub(crate) ints: Option<Elements<i32>>,
 }
 
+/// What they are.
+pub(crate) const INTS: [i32; 2] = [i32::MIN, 7];
+
 /// With what a call of these words is refused, if it is. What it makes or opens is ended at once, but for an array that it makes.
 pub(crate) fn refused_by<S: Steps, U: Steps + Drop>(
     rt: &impl Abort,
@@ -142,7 +145,7 @@ pub(crate) fn refused_by<S: Steps, U: Steps + Drop>(
         Call::Object(call) => object_refused(env, call, word, other),
         Call::Copy(OfCopy::Ints) => env.get_array_elements::<i32>(alloc, word).err(),
         Call::Copy(OfCopy::Chars) => env.get_string_chars(alloc, word).err(),
-        Call::Copy(OfCopy::Release(mode)) => release_refused(alloc, env, given, word, mode),
+        Call::Copy(OfCopy::Release(mode)) => release_refused(rt, alloc, env, given, word, mode),
         Call::Critical(call) => region_refused(rt, env, call, given.base, word),
     }
 }
@@ -197,8 +200,14 @@ fn object_refused<S: Steps>(
     }
 }
 
+/// Where a release is refused, or keeps the elements, they are as they were.
+fn are_kept(rt: &impl Abort, ints: &Elements<i32>) {
+    assert!(rt; ints.as_slice() == INTS.as_slice());
+}
+
 /// What a release leaves of the elements is kept. Where nothing is left they are copied anew.
 fn release_refused<S: Steps, U: Steps + Drop>(
+    rt: &impl Abort,
     alloc: Global,
     env: &mut Env<S>,
     given: &mut Given<U>,
@@ -217,6 +226,7 @@ fn release_refused<S: Steps, U: Steps + Drop>(
             None
         }
         Err((left, fault)) => {
+            are_kept(rt, &left);
             given.ints = Some(left);
             Some(fault)
         }
@@ -266,7 +276,7 @@ fn string_refused<S: Steps>(rt: &impl Abort, env: &mut Env<S>, word: Handle) -> 
     }
 }
 
-/// With what a second level is refused, or else the region that it is added to. The region is ended.
+/// With what a second level is refused, or else the region that it is added to. A region that one is refused to has its one level, and is ended.
 fn nesting_refused<S: Steps>(
     rt: &impl Abort,
     env: &mut Env<S>,
@@ -282,6 +292,7 @@ fn nesting_refused<S: Steps>(
                 region.nest_string(word).err()
             };
             if let Some(left) = region.release(Mode::Copy) {
+                assert!(rt; refused.is_none());
                 match left.release(Mode::Copy) {
                     None => {}
                     Some(_) => panic!(rt; "a level is left"),

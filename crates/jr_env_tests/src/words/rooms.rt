@@ -2,7 +2,7 @@
 ghost use Rattle.jr_rule.specs.Rooms.{IsOfRoom};
 
 use crate::envs::{LAST, collects, has_type, made, next_env, next_pass, plain_env};
-use crate::words::calls::{CALLS, Call, DELETIONS, Given, NESTING, OF_TWO, refused_by};
+use crate::words::calls::{CALLS, Call, DELETIONS, Given, INTS, NESTING, OF_TWO, refused_by};
 use crate::words::known::Known;
 use jr_env::Env;
 use jr_model::Summary;
@@ -72,6 +72,7 @@ fn given_by<U: Steps + Drop>(
     words: &mut Vec<Handle>,
 ) -> Result<Given<U>, Fail> {
     let array = other.new_array::<i32>(2)?;
+    other.set_array_region(array, 0, &INTS)?;
     for _ in 0..4 {
         let global = made(other.new_global_ref(array))?;
         words.push(global)?;
