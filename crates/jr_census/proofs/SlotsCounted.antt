@@ -25,7 +25,7 @@ use Rattle.jr_steps.specs.Says.{NoneStands, StandsAlone, StandsAs, SaysOfSlot}
 use Rattle.jr_compact.proofs.Listed.{sum_more}
 use Rattle.jr_census.specs.declared.slots.Slots.{Slots}
 use Rattle.jr_census.specs.Counts.{AreFew, AreSlots, at_index, is_cleared, is_retired, last_of, with_slot}
-use Rattle.jr_census.specs.Telling.{Tells}
+use Rattle.jr_census.specs.Telling.{LoadsTell}
 use Rattle.jr_census.proofs.Turns.{told_none, told_so, told_turn}
 
 pub sum_zero_below : (f : ℕ → ℕ) → sum_below 0 f ≡ 0
@@ -213,13 +213,13 @@ abbrev pub SlotsBelow : ℕ → Slots → Known → Type 0
 SlotsBelow i x k = AreSlots i k.last (state_of k) x
 
 module _ {S : Type 0} {facts : S → Facts} (fits : AreOf facts) where
-  pub slots_none : (a : S) (x : Slots) → x.globals ≡ 0 → x.weaks ≡ 0 → x.cleared ≡ 0 → x.retired ≡ 0 → Tells facts (λ j. 0) a a (SlotsBelow 0 x)
+  pub slots_none : (a : S) (x : Slots) → x.globals ≡ 0 → x.weaks ≡ 0 → x.cleared ≡ 0 → x.retired ≡ 0 → LoadsTell facts (λ j. 0) a a (SlotsBelow 0 x)
   slots_none a x g w d e = told_none fits a (λ k s. record { globals = g ∙ sym (sum_zero_below _); weaks = w ∙ sym (sum_zero_below _); cleared = d ∙ sym (sum_zero_below _); retired = e ∙ sym (sum_zero_below _) })
 
-  pub slots_next : {a b c : S} (i : ℕ) (x x' : Slots) (p : SlotParts) → (facts a).stands.role ≡ Collecting → Tells facts (λ j. i) a b (SlotsBelow i x) → Took facts b c [] anything (λ j k. ShowsSlot i p k × keeps j k) → x' ≡ with_slot x p → Tells facts (λ j. i + 1) a c (SlotsBelow (i + 1) x')
-  slots_next {a} {b} {c} i x x' p collects told t is = subst (λ z. Tells facts (λ j. i + 1) a c (SlotsBelow (i + 1) z)) (sym is) (told_turn fits collects told t (λ k k' shown. ap (λ (g : Holdings). g.moving) shown.1) (λ k k' s same last was shown.
+  pub slots_next : {a b c : S} (i : ℕ) (x x' : Slots) (p : SlotParts) → (facts a).stands.role ≡ Collecting → LoadsTell facts (λ j. i) a b (SlotsBelow i x) → Took facts b c [] anything (λ j k. ShowsSlot i p k × keeps j k) → x' ≡ with_slot x p → LoadsTell facts (λ j. i + 1) a c (SlotsBelow (i + 1) x')
+  slots_next {a} {b} {c} i x x' p collects told t is = subst (λ z. LoadsTell facts (λ j. i + 1) a c (SlotsBelow (i + 1) z)) (sym is) (told_turn fits collects told t (λ k can h. tt) (λ k k' shown. ap (λ (g : Holdings). g.moving) shown.1) (λ k k' s same last was shown.
       counted_next k'.config k'.last k'.seen (fits c k' s).legal i x (subst (λ n. AreSlots i n (state_of k') x) (sym last) (slots_on i k.last x same was)) p shown.0))
 
-  pub slots_all : {a b : S} (i : ℕ) (x : Slots) → i ≡ (facts a).stands.config.slots → Tells facts (λ j. i) a b (SlotsBelow i x) → Tells facts (λ j. j.config.slots) a b (λ k. AreSlots k.config.slots k.last (state_of k) x)
+  pub slots_all : {a b : S} (i : ℕ) (x : Slots) → i ≡ (facts a).stands.config.slots → LoadsTell facts (λ j. i) a b (SlotsBelow i x) → LoadsTell facts (λ j. j.config.slots) a b (λ k. AreSlots k.config.slots k.last (state_of k) x)
   slots_all {a} {b} i x end p = told_so fits (λ j. j.config.slots) (λ k s. let e = end ∙ sym (ap (λ (z : Config). z.slots) (fits a k s).config) in omega arith)
       (λ k s was. subst (λ n. AreSlots n k.last (state_of k) x) (end ∙ (sym (ap (λ (z : Standing). z.config.slots) p.stands_is) ∙ sym (ap (λ (z : Config). z.slots) (fits b k s).config))) was) p

@@ -63,13 +63,13 @@ count_of x Objects = x.objects
 count_of x Text = x.strings
 
 -- an object of the kind is present
-abbrev pub is_of : Kind → Option Contents → Bool
-is_of kind None = false
-is_of kind (Some x) = kind_code x.kind == kind_code kind
+abbrev pub is_present_as : Kind → Option Contents → Bool
+is_present_as kind None = false
+is_present_as kind (Some x) = kind_code x.kind == kind_code kind
 
 -- SO MANY OBJECTS ARE PRESENT with the numbers up to n, of each kind and together, and so many words they have
 pub record AreObjects (n : ℕ) (objects : ℕ → Option Contents) (x : ObjectCounts) : Type 0 where
-  pub kinds : (kind : Kind) → count_of x.kinds kind ≡ count_below (n + 1) (λ o. is_of kind (objects o))
+  pub kinds : (kind : Kind) → count_of x.kinds kind ≡ count_below (n + 1) (λ o. is_present_as kind (objects o))
   pub live : x.live ≡ count_below (n + 1) (λ o. is_some (objects o))
   pub words : x.words ≡ sum_below (n + 1) (λ o. length_of (objects o))
 
@@ -115,17 +115,17 @@ with_kind x Objects = record x { objects = x.objects + 1 }
 with_kind x Text = record x { strings = x.strings + 1 }
 
 -- For the crate's own functions: the counts with what the header of a number says
-abbrev pub with_header : ObjectCounts → Option HeaderParts → ObjectCounts
-with_header x None = x
-with_header x (Some h) = record { kinds = with_kind x.kinds h.kind; live = x.live + 1; words = x.words + h.length }
+abbrev pub with_object : ObjectCounts → Option HeaderParts → ObjectCounts
+with_object x None = x
+with_object x (Some h) = record { kinds = with_kind x.kinds h.kind; live = x.live + 1; words = x.words + h.length }
 
 -- For the crate's own functions: the words of a header, none where there is no header
-abbrev pub words_of : Option HeaderParts → ℕ
-words_of None = 0
-words_of (Some h) = h.length
+abbrev pub header_words : Option HeaderParts → ℕ
+header_words None = 0
+header_words (Some h) = h.length
 
 -- For the crate's own functions: they can be counted
 pub record IsRoomFor (h : Option HeaderParts) (x : ObjectCounts) : Type 0 where
   pub kinds : (kind : Kind) → count_of x.kinds kind ≤ 65535
   pub live : x.live ≤ 65535
-  pub words : x.words + words_of h < 2 ^ 32
+  pub words : x.words + header_words h < 2 ^ 32

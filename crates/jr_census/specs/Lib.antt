@@ -1,3 +1,4 @@
 pub mod Counts
+pub mod Dumps
 pub mod Telling
 pub mod Taking

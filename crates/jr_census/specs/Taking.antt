@@ -1,7 +1,9 @@
--- A census as a call, over any steps.
-use Rattle.std.specs.Prelude.{◌≡◌, ◌+◌, ◌*◌, ℕ, Bool, List, [], ◌∷◌, ◌++◌}
+-- A census and a dump as calls, over any steps.
+use Rattle.std.specs.Prelude.{◌≡◌, ◌+◌, ◌*◌, ℕ, Bool, Option, List, [], ◌∷◌, ◌++◌}
 use mathlib.Core.List.{IsPrefix}
 use Rattle.jr_word.specs.declared.config.Config.{Config}
+use Rattle.jr_word.specs.declared.header.HeaderParts.{HeaderParts}
+use Rattle.jr_word.specs.declared.slot.SlotParts.{SlotParts}
 use Rattle.jr_model.specs.declared.event.Act.TheVariants.{Gate}
 use Rattle.jr_model.specs.declared.event.GateAct.TheVariants.{Shut, Reopen}
 use Rattle.jr_model.specs.State.{State}
@@ -13,6 +15,7 @@ use Rattle.jr_compact.specs.Counting.{SeesWithin, TakesWithin}
 use Rattle.jr_weak.specs.Counting.{marking_steps}
 use Rattle.jr_weak.specs.Marks.{IsExactly}
 use Rattle.jr_census.specs.declared.taking.Census.{Census}
+use Rattle.jr_census.specs.Dumps.{HasObjects, HasSlots}
 use Rattle.jr_census.specs.declared.objects.Objects.{Objects}
 use Rattle.jr_census.specs.Counts.{AreSlots, AreLocals, AreObjects, unmarked}
 
@@ -27,6 +30,11 @@ pub record IsCensusOf (c : Config) (last : ℕ) (s : State) (x : Census) : Type 
   pub objects : AreObjects c.objects s.objects x.objects
   pub unreached : AreUnreached c.objects s x.unreached
 
+-- THE DUMP IS THE STATE'S: each slot and each object number is kept as it stands there
+pub record IsDumpOf (c : Config) (last : ℕ) (s : State) (noted : List SlotParts) (headers : List (Option HeaderParts)) (words : List ℕ) : Type 0 where
+  pub slots : HasSlots c.slots last s noted
+  pub objects : HasObjects c.objects s headers words
+
 -- where the step lies that shut the gate, in what a pass has seen since a moment
 pub record ShutIn (old new : PassView) : Type 0 where
   pub before : History
@@ -34,33 +42,50 @@ pub record ShutIn (old new : PassView) : Type 0 where
   pub from : IsPrefix old.seen before
   pub parts : new.seen ≡ before ++ by old.thread (Gate Shut) ∷ rest
 
--- A CENSUS WAS TAKEN between two moments: the thread shut the gate and opened it, and did nothing else, and what is told is the state's at that shut
-pub record IsTaken (old new : PassView) (x : Census) : Type 0 where
+-- IT WAS TOLD between two moments: the thread shut the gate and opened it, and did nothing else, and what is told is so of the state at that shut
+pub record IsTold (old new : PassView) (tells : Config → ℕ → State → Type 0) : Type 0 where
   pub did : Did old new (Gate Shut ∷ Gate Reopen ∷ [])
   pub shut : ShutIn old new
-  pub told : IsCensusOf old.config old.last (state shut.before) x
+  pub told : tells old.config old.last (state shut.before)
 
--- a look at each slot, at each header, and at each local place of each thread
+-- the operations of a census, but two at the gate: those of marking, a look at each slot, at each header, and at each local place of each thread
 abbrev pub counting_steps : Config → ℕ
-counting_steps c = c.slots + c.objects + c.threads * c.locals
+counting_steps c = marking_steps c + (c.slots + c.objects + c.threads * c.locals)
 
--- how many operations it takes at the most: those of marking, of counting, and two at the gate
-abbrev pub census_steps : Config → ℕ
-census_steps c = marking_steps c + counting_steps c + 2
+-- those of a dump: a look at each slot, at each header, and at each word of the space
+abbrev pub noting_steps : Config → ℕ
+noting_steps c = c.slots + (c.objects + c.words)
 
--- For the crate's own functions: what comes after the shut: the counts are the state's then, and the gate is opened at last
-pub record CountsFrom (j k : Known) (x : Census) : Type 0 where
+-- For the crate's own functions: what comes after the shut: what is told is so of the state then, and the gate is opened at last
+pub record ToldFrom (most : Config → ℕ) (tells : Config → ℕ → State → Type 0) (j k : Known) : Type 0 where
   pub opening : Known
-  pub seen : SeesWithin (marking_steps j.config + counting_steps j.config) j opening
-  pub told : IsCensusOf j.config j.last (state_of j) x
+  pub seen : SeesWithin (most j.config) j opening
+  pub told : tells j.config j.last (state_of j)
   pub opened : Goes opening (Gate Reopen ∷ []) k
 
-module _ {S : Type 0} (facts : S → Facts) where
-  -- For the crate's own functions: it was counted, once the gate was shut
-  abbrev pub Counts : S → S → Census → Type 0
-  Counts old new x = Went facts old new (standing_after (facts old).stands (Gate Reopen ∷ [])) CanReopen (λ j k. CountsFrom j k x) lets_go
+module _ {S : Type 0} (facts : S → Facts) (most : Config → ℕ) (tells : Config → ℕ → State → Type 0) where
+  -- For the crate's own functions: it was told, once the gate was shut
+  abbrev pub TellsOnce : S → S → Type 0
+  TellsOnce old new = Went facts old new (standing_after (facts old).stands (Gate Reopen ∷ [])) CanReopen (λ j k. ToldFrom most tells j k) lets_go
 
-  -- A CENSUS WAS TAKEN, in its own window, by no more operations than the room's sizes say; and nothing is held then
-  abbrev pub TakesCensus : S → S → Census → Type 0
-  TakesCensus old new x = Went facts old new (facts old).stands anything (λ j k. IsTaken (view j) (view k) x)
-      (λ j k. lets_go j k × ((begun : History) × IsWindow (view j) (view k) (Gate Shut ∷ Gate Reopen ∷ []) begun) × TakesWithin (census_steps j.config) j k)
+  -- IT WAS TOLD BY A CALL, in its own window, by no more operations than the room's sizes say, and two; and nothing is held then
+  abbrev pub TakesTold : S → S → Type 0
+  TakesTold old new = Went facts old new (facts old).stands anything (λ j k. IsTold (view j) (view k) tells)
+      (λ j k. lets_go j k × ((begun : History) × IsWindow (view j) (view k) (Gate Shut ∷ Gate Reopen ∷ []) begun) × TakesWithin (most j.config + 2) j k)
+
+module _ {S : Type 0} (facts : S → Facts) (old new : S) where
+  -- For the crate's own functions: it was counted, once the gate was shut
+  abbrev pub Counts : Census → Type 0
+  Counts x = TellsOnce facts counting_steps (λ c last s. IsCensusOf c last s x) old new
+
+  -- A CENSUS WAS TAKEN
+  abbrev pub TakesCensus : Census → Type 0
+  TakesCensus x = TakesTold facts counting_steps (λ c last s. IsCensusOf c last s x) old new
+
+  -- For the crate's own functions: it was noted, once the gate was shut
+  abbrev pub Notes : List SlotParts → List (Option HeaderParts) → List ℕ → Type 0
+  Notes noted headers words = TellsOnce facts noting_steps (λ c last s. IsDumpOf c last s noted headers words) old new
+
+  -- A DUMP WAS TAKEN
+  abbrev pub TakesDump : List SlotParts → List (Option HeaderParts) → List ℕ → Type 0
+  TakesDump noted headers words = TakesTold facts noting_steps (λ c last s. IsDumpOf c last s noted headers words) old new

@@ -5,5 +5,5 @@ use Rattle.jr_steps.specs.Knowing.{Facts, CanReopen}
 use Rattle.jr_compact.specs.Counting.{SawWithin}
 
 -- loads were made and nothing else, no more than this says of what was known: this is so afterwards, and the gate may still be opened
-abbrev pub Tells : {S : Type 0} → (S → Facts) → (Known → ℕ) → S → S → (Known → Type 0) → Type 0
-Tells facts most old new tells = SawWithin facts most old new CanReopen (λ j k. CanReopen k × tells k)
+abbrev pub LoadsTell : {S : Type 0} → (S → Facts) → (Known → ℕ) → S → S → (Known → Type 0) → Type 0
+LoadsTell facts most old new tells = SawWithin facts most old new CanReopen (λ j k. CanReopen k × tells k)

@@ -1,11 +1,14 @@
 //! A census: what stands in a room at one step, told while the gate is shut for it, over any steps.
 #![tactic(auto)]
 
+mod dump;
+mod dumping;
 mod locals;
 mod objects;
 mod slots;
 mod taking;
 
+pub use dumping::take_dump;
 pub use objects::{KindCounts, Objects};
 pub use slots::Slots;
 pub use taking::{Census, take_census};

@@ -3,7 +3,7 @@ ghost use Rattle.std.specs.Prelude.{◌≡◌, ◌<◌, ◌≤◌, ◌*◌};
 ghost use Rattle.jr_model.specs.declared.event.Role.TheVariants.{Collecting};
 ghost use Rattle.jr_steps.specs.Knowing.{state_of};
 ghost use Rattle.jr_census.specs.Counts.{AreLocals, at_places, local_bit};
-ghost use Rattle.jr_census.specs.Telling.{Tells};
+ghost use Rattle.jr_census.specs.Telling.{LoadsTell};
 
 use jr_steps::Steps;
 use jr_word::LocalParts;
@@ -22,7 +22,7 @@ fn at_place(parts: LocalParts) -> u32
 fn count_locals_of<S: Steps>(steps: &mut S, thread: u8) -> u32
     requires role { (S.facts steps.old).stands.role ≡ Collecting }
     requires thread { thread < (S.facts steps.old).stands.config.threads }
-    ensures { Tells S.facts (λ j. j.config.locals) steps.old steps.new (λ k. result ≡ at_places k.config.locals ((state_of k).locals thread)) }
+    ensures { LoadsTell S.facts (λ j. j.config.locals) steps.old steps.new (λ k. result ≡ at_places k.config.locals ((state_of k).locals thread)) }
 {
     let places = steps.config().locals;
     let mut count = 0;
@@ -35,7 +35,7 @@ fn count_locals_of<S: Steps>(steps: &mut S, thread: u8) -> u32
 /// Counts the local references of each thread.
 pub(crate) fn count_locals<S: Steps>(steps: &mut S) -> [u32; 64]
     requires role { (S.facts steps.old).stands.role ≡ Collecting }
-    ensures { Tells S.facts (λ j. j.config.threads * j.config.locals) steps.old steps.new (λ k. AreLocals k.config.locals (state_of k).locals result) }
+    ensures { LoadsTell S.facts (λ j. j.config.threads * j.config.locals) steps.old steps.new (λ k. AreLocals k.config.locals (state_of k).locals result) }
 {
     let threads = steps.config().threads;
     let mut counts = [0; 64];

@@ -4,7 +4,7 @@ ghost use Rattle.jr_model.specs.declared.event.Role.TheVariants.{Collecting};
 ghost use Rattle.jr_steps.specs.Knowing.{state_of, CanReopen, MayKnow};
 ghost use Rattle.jr_weak.specs.Markers.{marks_of};
 ghost use Rattle.jr_census.specs.Counts.{AreObjects, unless, unmarked};
-ghost use Rattle.jr_census.specs.Telling.{Tells};
+ghost use Rattle.jr_census.specs.Telling.{LoadsTell};
 
 use jr_steps::Steps;
 use jr_weak::Marker;
@@ -102,7 +102,7 @@ pub struct Objects {
 
 impl Objects {
     ghost use Rattle.std.specs.Prelude.{◌≡◌};
-    ghost use Rattle.jr_census.specs.Counts.{IsRoomFor, with_header};
+    ghost use Rattle.jr_census.specs.Counts.{IsRoomFor, with_object};
 
     /// None.
     const NONE: Objects = Objects {
@@ -114,7 +114,7 @@ impl Objects {
     /// These and what the header of a number says.
     fn with(self, header: Option<HeaderParts>) -> Self
         requires { IsRoomFor header self }
-        ensures { result ≡ with_header self header }
+        ensures { result ≡ with_object self header }
     {
         match header {
             None => self,
@@ -142,7 +142,7 @@ fn unless_marked(marker: &Marker, object: u16, header: Option<HeaderParts>) -> O
 pub(crate) fn count_objects<S: Steps>(steps: &mut S, marker: &Marker) -> (Objects, Objects)
     requires role { (S.facts steps.old).stands.role ≡ Collecting }
     requires can { MayKnow S.facts steps.old CanReopen }
-    ensures { Tells S.facts (λ j. j.config.objects) steps.old steps.new (λ k. AreObjects k.config.objects (state_of k).objects result.0 × AreObjects k.config.objects (unmarked (marks_of marker.now) (state_of k).objects) result.1) }
+    ensures { LoadsTell S.facts (λ j. j.config.objects) steps.old steps.new (λ k. AreObjects k.config.objects (state_of k).objects result.0 × AreObjects k.config.objects (unmarked (marks_of marker.now) (state_of k).objects) result.1) }
 {
     let objects = steps.config().objects;
     let mut present = Objects::NONE;

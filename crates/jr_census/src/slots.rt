@@ -3,7 +3,7 @@ ghost use Rattle.std.specs.Prelude.{◌≡◌};
 ghost use Rattle.jr_model.specs.declared.event.Role.TheVariants.{Collecting};
 ghost use Rattle.jr_steps.specs.Knowing.{state_of};
 ghost use Rattle.jr_census.specs.Counts.{AreSlots};
-ghost use Rattle.jr_census.specs.Telling.{Tells};
+ghost use Rattle.jr_census.specs.Telling.{LoadsTell};
 
 use jr_steps::Steps;
 use jr_word::SlotParts;
@@ -70,7 +70,7 @@ impl Slots {
 /// Counts what the slots have.
 pub(crate) fn count_slots<S: Steps>(steps: &mut S) -> Slots
     requires role { (S.facts steps.old).stands.role ≡ Collecting }
-    ensures { Tells S.facts (λ j. j.config.slots) steps.old steps.new (λ k. AreSlots k.config.slots k.last (state_of k) result) }
+    ensures { LoadsTell S.facts (λ j. j.config.slots) steps.old steps.new (λ k. AreSlots k.config.slots k.last (state_of k) result) }
 {
     let slots = steps.config().slots;
     let mut counted = Slots::NONE;

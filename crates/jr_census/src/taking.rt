@@ -17,7 +17,7 @@ use jr_weak::Marker;
 use jr_word::Fault;
 
 /// What stands in a room at one step.
-#[derive(Debug)]
+#[derive(Debug, Drop)]
 pub struct Census {
     /// What the slots have: global and weak global references.
     pub slots: Slots,
@@ -29,7 +29,7 @@ pub struct Census {
     pub unreached: Objects,
 }
 
-/// Tells what stands in the room at the step that shuts the gate for it, and opens the gate again. It changes nothing, takes no memory, and never waits. The marker, made for a room of so many objects, is for what nothing reaches, and serves again. The thread has to stand outside.
+/// LoadsTell what stands in the room at the step that shuts the gate for it, and opens the gate again. It changes nothing, takes no memory, and never waits. The marker, made for a room of so many objects, is for what nothing reaches, and serves again. The thread has to stand outside.
 ///
 /// # Errors
 ///

@@ -1,38 +1,39 @@
--- A census of an env is told of one step, and leaves the thread ready.
+-- A census or a dump of an env is told of one step, and leaves the thread ready.
 use Rattle.std.proofs.Common.{◌≡◌, ◌≤◌, ℕ, [], ◌∷◌, Result, Ok, Err, IfOk, IfErr, refl, sym, ap, ◌∙◌}
 use mathlib.Core.Logic.{∥∥₁_map}
+use Rattle.jr_word.specs.declared.config.Config.{Config}
 use Rattle.jr_word.specs.declared.fault.Fault.{Fault}
 use Rattle.jr_word.specs.declared.fault.Fault.TheVariants.{Busy}
 use Rattle.jr_model.specs.declared.event.Role.TheVariants.{Outside}
 use Rattle.jr_model.specs.declared.event.Act.TheVariants.{Gate, ShutBusy}
 use Rattle.jr_model.specs.declared.event.GateAct.TheVariants.{Shut, Reopen}
+use Rattle.jr_model.specs.State.{State}
 use Rattle.jr_steps.specs.Knowing.{Facts, Standing, Took, anything, keeps}
 use Rattle.jr_gate.proofs.SameRoom.{as_before}
 use Rattle.jr_frames.specs.Table.{Table}
 use Rattle.jr_frames.specs.Ready.{AreOwn, StandsReady}
 use Rattle.jr_frames.proofs.FramesAgree.{holds_did}
 use Rattle.jr_frames.proofs.StillReady.{own_stepped}
-use Rattle.jr_census.specs.declared.taking.Census.{Census}
-use Rattle.jr_census.specs.Taking.{TakesCensus}
-use Rattle.jr_env.specs.Censuses.{census}
+use Rattle.jr_census.specs.Taking.{TakesTold}
+use Rattle.jr_env.specs.Censuses.{telling}
 use Rattle.jr_env.specs.Deeds.{DoesDeed, DoesOutside}
 use Rattle.jr_env.specs.Works.{EndsStay}
 use Rattle.jr_env.proofs.FrameCalls.{does_from}
 use Rattle.jr_env.proofs.WholeCollections.{kept_out}
 
--- one of the two that a census over steps answers
-abbrev pub CountsOr : {S : Type 0} → (S → Facts) → S → S → Result Census Fault → Type 0
-CountsOr facts a b (Ok x) = TakesCensus facts a b x
-CountsOr facts a b (Err e) = (n : ℕ) × (e ≡ Busy n) × (1 ≤ n) × Took facts a b (ShutBusy n ∷ []) anything keeps
+module _ {S A : Type 0} (facts : S → Facts) (most : Config → ℕ) (tells : A → Config → ℕ → State → Type 0) where
+  -- one of the two that a call over steps answers
+  abbrev pub TellsOr : S → S → Result A Fault → Type 0
+  TellsOr a b (Ok x) = TakesTold facts most (tells x) a b
+  TellsOr a b (Err e) = (n : ℕ) × (e ≡ Busy n) × (1 ≤ n) × Took facts a b (ShutBusy n ∷ []) anything keeps
 
-pub counts_or : {S : Type 0} (facts : S → Facts) (a b : S) (answer : Result Census Fault) → IfOk answer (λ x. TakesCensus facts a b x) → IfErr answer (λ e. (n : ℕ) × (e ≡ Busy n) × (1 ≤ n) × Took facts a b (ShutBusy n ∷ []) anything keeps) → CountsOr facts a b answer
-counts_or facts a b (Ok x) ok err = ok
-counts_or facts a b (Err e) ok err = err
+  pub tells_or : (a b : S) (answer : Result A Fault) → IfOk answer (λ x. TakesTold facts most (tells x) a b) → IfErr answer (λ e. (n : ℕ) × (e ≡ Busy n) × (1 ≤ n) × Took facts a b (ShutBusy n ∷ []) anything keeps) → TellsOr a b answer
+  tells_or a b (Ok x) ok err = ok
+  tells_or a b (Err e) ok err = err
 
-module _ {S : Type 0} {facts : S → Facts} where
   -- the frames are the thread's own still
-  own_counted : {a b : S} {t : Table} {x : Census} → AreOwn facts a t → TakesCensus facts a b x → AreOwn facts b t
-  own_counted {t = t} r m = record {
+  own_told : {a b : S} {t : Table} (x : A) → AreOwn facts a t → TakesTold facts most (tells x) a b → AreOwn facts b t
+  own_told {t = t} x r m = record {
     owner = r.owner ∙ sym (ap (λ (s : Standing). s.thread) m.stands_is);
     last = r.last ∙ sym (ap (λ (s : Standing). s.last) m.stands_is);
     places = r.places ∙ sym (ap (λ (s : Standing). s.config.locals) m.stands_is);
@@ -40,21 +41,21 @@ module _ {S : Type 0} {facts : S → Facts} where
   }
 
   -- THE THREAD STANDS READY OUTSIDE, as before
-  pub ready_counted : {a b : S} {t : Table} (answer : Result Census Fault) → StandsReady facts Outside a t → CountsOr facts a b answer → StandsReady facts Outside b t
-  ready_counted (Ok x) r m = record {
+  pub ready_told : {a b : S} {t : Table} (answer : Result A Fault) → StandsReady facts Outside a t → TellsOr a b answer → StandsReady facts Outside b t
+  ready_told (Ok x) r m = record {
     role_is = ap (λ (s : Standing). s.role) m.stands_is ∙ r.role_is;
     spent = ap (λ (s : Standing). s.fresh) m.stands_is ∙ r.spent;
-    own = own_counted r.own m;
+    own = own_told x r.own m;
   }
-  ready_counted (Err e) r m = record {
+  ready_told (Err e) r m = record {
     role_is = ap (λ (s : Standing). s.role) (m.3).stands_is ∙ r.role_is;
     spent = ap (λ (s : Standing). s.fresh) (m.3).stands_is ∙ r.spent;
     own = own_stepped (ShutBusy m.0) refl r.own m.3;
   }
 
   module _ {a b : S} (t : Table) where
-    counted_deed : (x : Census) → TakesCensus facts a b x → DoesDeed facts a b t.frames t.frames census (Ok x)
-    counted_deed x m = record {
+    told_deed : (x : A) → TakesTold facts most (tells x) a b → DoesDeed facts a b t.frames t.frames (telling most tells) (Ok x)
+    told_deed x m = record {
       stands_is = as_before (facts a).stands {f = (facts a).stands.fresh} m.stands_is;
       did = λ k s h.
           let y = m.leads k s tt in (
@@ -74,10 +75,10 @@ module _ {S : Type 0} {facts : S → Facts} where
           );
     }
 
-    counts_deed : (answer : Result Census Fault) → CountsOr facts a b answer → DoesDeed facts a b t.frames t.frames census answer
-    counts_deed (Ok x) m = counted_deed x m
-    counts_deed (Err e) m = let d = kept_out t e m.0 m.1 m.2 m.3 in record { stands_is = d.stands_is; did = d.did }
+    tells_deed : (answer : Result A Fault) → TellsOr a b answer → DoesDeed facts a b t.frames t.frames (telling most tells) answer
+    tells_deed (Ok x) m = told_deed x m
+    tells_deed (Err e) m = let d = kept_out t e m.0 m.1 m.2 m.3 in record { stands_is = d.stands_is; did = d.did }
 
   -- THE DEED WAS DONE, once a stay that was left has been ended
-  pub does_census : {o a b : S} {r t : Table} (answer : Result Census Fault) → EndsStay facts o a r t → CountsOr facts a b answer → DoesOutside facts o b r.frames t.frames census answer
-  does_census {t = t} answer e m = does_from e (counts_deed t answer m)
+  pub does_tell : {o a b : S} {r t : Table} (answer : Result A Fault) → EndsStay facts o a r t → TellsOr a b answer → DoesOutside facts o b r.frames t.frames (telling most tells) answer
+  does_tell {t = t} answer e m = does_from e (tells_deed t answer m)

@@ -4,7 +4,7 @@ use Rattle.jr_word.proofs.Limits.{limited}
 use Rattle.jr_steps.specs.Knowing.{Standing}
 use Rattle.jr_weak.specs.Markers.{marks_of}
 use Rattle.jr_census.specs.declared.objects.Objects.{Objects}
-use Rattle.jr_census.specs.Counts.{IsRoomFor, unless, with_header}
+use Rattle.jr_census.specs.Counts.{IsRoomFor, unless, with_object}
 use Rattle.jr_census.proofs.HeadersCounted.{FewHeaders, FewObjects, no_counts, headers_few, headers_none, headers_next, headers_all, no_kinds, room_for, words_few, words_unless}
 use Rattle.jr_census.proofs.objects.count_objects.Goals as goal
 
@@ -19,8 +19,8 @@ with-present-requires g c =
     let marks = marks_of c.args.marker.now in
     let p = c.loop-index.invariant in
     let h = c.scan_header-header.result in
-    let x = with_header c.loop-index.present h in
-    let y = with_header c.loop-index.unreached (unless (slice_index_or marks (c.loop-index.index + 1) false) h) in
+    let x = with_object c.loop-index.present h in
+    let y = with_object c.loop-index.unreached (unless (slice_index_or marks (c.loop-index.index + 1) false) h) in
     let limits = limited (g.S.Steps.facts c.args.steps.now).stands.config (T.limits c.args.steps.now) in
     let few = limits.objects.1 in
     let space = limits.words in
@@ -39,8 +39,8 @@ with-unreached-requires g c =
     let marked = slice_index_or marks (c.loop-index.index + 1) false in
     let p = c.loop-index.invariant in
     let h = c.scan_header-header.result in
-    let x = with_header c.loop-index.present h in
-    let y = with_header c.loop-index.unreached (unless marked h) in
+    let x = with_object c.loop-index.present h in
+    let y = with_object c.loop-index.unreached (unless marked h) in
     let limits = limited (g.S.Steps.facts c.args.steps.now).stands.config (T.limits c.args.steps.now) in
     let few = limits.objects.1 in
     let space = limits.words in
@@ -60,9 +60,9 @@ loop-index-preserved g c =
     let marks = marks_of c.args.marker.now in
     let marked = slice_index_or marks (c.loop-index.index + 1) false in
     let h = c.scan_header-header.result in
-    let is = c.with-unreached.ensures ∙ ap (λ h. with_header c.loop-index.unreached h) c.unless_marked.ensures in (
+    let is = c.with-unreached.ensures ∙ ap (λ h. with_object c.loop-index.unreached h) c.unless_marked.ensures in (
       headers_next g.met.S.Steps.fits marks c.loop-index.index c.loop-index.present c.with-present.result c.loop-index.unreached c.with-unreached.result h c.requires.role p.0 c.scan_header-header.ensures c.with-present.ensures is,
-      subst (λ (z : Objects × Objects). FewHeaders (c.loop-index.index + 1) z.0 z.1) {x = (with_header c.loop-index.present h, with_header c.loop-index.unreached (unless marked h))} (λ j. (sym c.with-present.ensures j, sym is j)) (headers_few c.loop-index.index marked h c.loop-index.present c.loop-index.unreached p.1),
+      subst (λ (z : Objects × Objects). FewHeaders (c.loop-index.index + 1) z.0 z.1) {x = (with_object c.loop-index.present h, with_object c.loop-index.unreached (unless marked h))} (λ j. (sym c.with-present.ensures j, sym is j)) (headers_few c.loop-index.index marked h c.loop-index.present c.loop-index.unreached p.1),
     )
 
 pub returns : goal.returns

@@ -1,0 +1,70 @@
+//! A census of a room that two threads share: what it tells, that it is refused while another is inside, and that it leaves all as it is.
+ghost use Rattle.jr_env.specs.Collections.{FitsRoom};
+
+use crate::envs::{LAST, is_refused, made, next_env};
+use jr_env::Env;
+use jr_rule::Room;
+use jr_steps::Steps;
+use jr_weak::Marker;
+use jr_word::{Config, Fault};
+use std::process::Abort;
+use std::test::Fail;
+
+/// The sizes of the room.
+const SIZES: Config = Config {
+    threads: 2,
+    slots: 4,
+    objects: 8,
+    words: 32,
+    locals: 16,
+};
+
+/// Makes an array that two local references name and a global one, and a string and a plain object that nothing reaches, of which a cleared weak reference is left.
+fn fill<S: Steps>(env: &mut Env<S>, marker: &mut Marker) -> Result<(), Fail>
+    requires { FitsRoom marker.old env.old }
+{
+    let plain = env.new_plain()?;
+    made(env.new_weak_global_ref(plain))?;
+    env.delete_local_ref(plain)?;
+    env.collect(marker)?;
+    let ints = env.new_array::<i32>(3)?;
+    let pair = env.new_object_array(2, ints)?;
+    made(env.new_global_ref(pair))?;
+    let text = env.new_string(&[7u16; 5])?;
+    env.delete_local_ref(text)?;
+    Ok(())
+}
+
+/// The numbers of slots, of the thread's local references, and of objects, present and unreached.
+fn numbers<S: Steps>(env: &mut Env<S>, marker: &mut Marker) -> Result<[u32; 12], Fault>
+    requires { FitsRoom marker.old env.old }
+{
+    let census = env.census(marker)?;
+    let (slots, all, left) = (census.slots, census.objects, census.unreached);
+    Ok([
+        slots.globals,
+        slots.weaks,
+        slots.cleared,
+        slots.retired,
+        census.locals[0],
+        census.locals[1],
+        all.live,
+        all.words,
+        all.kinds.strings,
+        left.live,
+        left.words,
+        left.kinds.objects,
+    ])
+}
+
+#[test]
+fn a_census_tells_what_stands(rt: HostRuntime) -> Result<(), Fail> {
+    let (room, mut passes) = Room::<LAST>::open(rt.alloc(), SIZES)?;
+    let mut env = next_env(&room, &mut passes)?;
+    let mut marker = Marker::new(rt.alloc(), env.held.steps.config())?;
+    fill(&mut env, &mut marker)?;
+    let wanted = [1, 1, 1, 0, 0, 2, 3, 10, 1, 1, 5, 0];
+    assert_eq!(rt; numbers(&mut env, &mut marker)?, wanted);
+    assert_eq!(rt; numbers(&mut env, &mut marker)?, wanted);
+    Ok(())
+}
