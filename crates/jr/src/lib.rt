@@ -1,6 +1,7 @@
 //! What an embedder names, from one crate: the room, its passes and steps, the env with its calls, and what these answer.
 #![tactic(auto)]
 
+pub use jr_census::{Census, KindCounts, Objects, Slots};
 pub use jr_elements::Elements;
 pub use jr_env::{Env, EnvCall, LocalFrames, Region, Scoped, Stay, calls, with_local_frame};
 pub use jr_model::{Mode, Summary};
@@ -8,4 +9,6 @@ pub use jr_rule::{AllLeft, Left, Pass, PlainSteps, Room, RoomSteps};
 pub use jr_steps::Steps;
 pub use jr_threads::{NativeCode, Ran, run_native};
 pub use jr_weak::{Collected, Marker};
-pub use jr_word::{Config, Elem, Fault, Handle, HandleParts, Kind, LAST_SERIAL, RefKind};
+pub use jr_word::{
+    Config, Elem, Fault, Handle, HandleParts, HeaderParts, Kind, LAST_SERIAL, RefKind, SlotParts,
+};

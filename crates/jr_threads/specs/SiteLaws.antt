@@ -10,7 +10,7 @@ use Rattle.jr_rule.specs.declared.room.Room.{Room}
 use Rattle.jr_rule.specs.Cells.{AreSoundWords}
 use Rattle.jr_rule.specs.CellLaws.{seat_sound}
 use Rattle.jr_rule.specs.Sights.{sight_of_seat}
-use Rattle.jr_threads.specs.Sites.{IsAtSite, IsThere}
+use Rattle.jr_threads.specs.Sites.{IsAtSite, IsSeatedIn}
 
 module _ {LAST : ℕ} {table : Option TableId} {config : Config} where
   pub site_one : {s : RoomCells} {room : Room LAST} → IsProp (IsAtSite table config s room)
@@ -19,7 +19,7 @@ module _ {LAST : ℕ} {table : Option TableId} {config : Config} where
   pub site_sound : {s : RoomCells} {room : Room LAST} → IsAtSite table config s room → AreSoundWords (sight_of_seat s.seat.table_id s.seat.me)
   site_sound at = seat_sound at.there
 
-  pub site_next : {s t : RoomCells} {room : Room LAST} → IsAtSite table config s room → IsThere t room → (sight_of_seat t.seat.table_id t.seat.me).first ≡ (sight_of_seat s.seat.table_id s.seat.me).first → IsAtSite table config t room
+  pub site_next : {s t : RoomCells} {room : Room LAST} → IsAtSite table config s room → IsSeatedIn t room → (sight_of_seat t.seat.table_id t.seat.me).first ≡ (sight_of_seat s.seat.table_id s.seat.me).first → IsAtSite table config t room
   site_next at there same = record {
     there = there;
     site = ap (λ (z : Standing). z.room) same ∙ at.site;

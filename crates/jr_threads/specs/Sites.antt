@@ -18,12 +18,12 @@ abbrev pub no_sizes : Config
 no_sizes = record { threads = 0; slots = 0; objects = 0; words = 0; locals = 0 }
 
 -- the cells' seat is one of the room's own
-abbrev pub IsThere : {LAST : ℕ} → RoomCells → Room LAST → Type 0
-IsThere s room = IsSeatOf room.row.table.shared.table_id room.row.config room.row.last s.seat.table_id s.seat.me s.thread
+abbrev pub IsSeatedIn : {LAST : ℕ} → RoomCells → Room LAST → Type 0
+IsSeatedIn s room = IsSeatOf room.row.table.shared.table_id room.row.config room.row.last s.seat.table_id s.seat.me s.thread
 
 -- AND THE ROOM IS THE SITE'S
 pub record IsAtSite {LAST : ℕ} (table : Option TableId) (config : Config) (s : RoomCells) (room : Room LAST) : Type 0 where
-  pub there : IsThere s room
+  pub there : IsSeatedIn s room
   pub site : Some s.seat.table_id ≡ table
   pub sizes : (stepping_pass s.seat.me).config ≡ config
 
@@ -39,7 +39,7 @@ pub record IsPassOf (table : Option TableId) (config : Config) (p : Pass) : Type
   pub last : (known_of p).last ≡ 4294967295
 
 -- A ROOM WAS CLOSED with passes of it, of these sizes and this last serial: what is told is what stands at the end of one legal history, which begins with all that each of them has seen and has no more of their events
-pub record IsClosed (c : Config) (last : ℕ) (s : Summary) : Type 0 where
+pub record IsClosedBehind (c : Config) (last : ℕ) (s : Summary) : Type 0 where
   pub first : Known
   pub others : List Known
   pub sizes : first.config ≡ c
@@ -47,6 +47,6 @@ pub record IsClosed (c : Config) (last : ℕ) (s : Summary) : Type 0 where
   pub closes : ClosesAll first others s
 
 -- so many threads were left inside, at least one
-abbrev pub IsLeftInside : Fault → Type 0
-IsLeftInside (LeftInside n) = 1 ≤ n
-IsLeftInside _ = ⊥
+abbrev pub LeavesSome : Fault → Type 0
+LeavesSome (LeftInside n) = 1 ≤ n
+LeavesSome _ = ⊥

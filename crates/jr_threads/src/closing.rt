@@ -1,7 +1,7 @@
 //! A room is closed behind its threads.
 ghost use Rattle.std.specs.Prelude.{◌≡◌, ◌≤◌, All, length, IfOk, MatchResult};
 ghost use Rattle.jr_rule.specs.Rooms.{IsOfRoom};
-ghost use Rattle.jr_threads.specs.Sites.{IsClosed, IsLeftInside, IsSiteOf};
+ghost use Rattle.jr_threads.specs.Sites.{IsClosedBehind, LeavesSome, IsSiteOf};
 
 use crate::native::Ended;
 use crate::place::{LAST, Site};
@@ -38,7 +38,7 @@ pub(crate) fn parted<A: Drop, Q: Site>(
 pub(crate) fn close(room: Room<LAST>, mut passes: Vec<Pass>) -> Result<Summary, Fault>
     requires passes { All (λ p. IsOfRoom room p) passes.items }
     requires some { 1 ≤ length passes.items }
-    ensures { MatchResult result (λ s. IsClosed room.row.config room.row.last s) IsLeftInside }
+    ensures { MatchResult result (λ s. IsClosedBehind room.row.config room.row.last s) LeavesSome }
 {
     let first = passes.remove(0);
     room.close_all(first, passes)

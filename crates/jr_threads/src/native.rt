@@ -29,10 +29,7 @@ pub(crate) struct Ended<A: Drop, Q: Site> {
 }
 
 /// The steps of a pass in the site's room.
-fn placed<'r, Q: Site>(
-    room: &'r Room<LAST>,
-    pass: Pass,
-) -> StepsOver<RoomCells, InRoom<'r, Q>>
+fn placed<'r, Q: Site>(room: &'r Room<LAST>, pass: Pass) -> StepsOver<RoomCells, InRoom<'r, Q>>
     requires pass { IsOpened room.now.row pass }
     requires site { IsSiteOf Q.room Q.sizes room.now }
     ensures { (result.role ≡ Outside) × (result.fresh ≡ true) }

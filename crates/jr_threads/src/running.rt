@@ -3,7 +3,7 @@ ghost use Rattle.std.specs.Prelude.{◌≡◌, ◌⊎◌, ◌↔◌, ◌≤◌, 
 ghost use Rattle.jr_word.specs.declared.fault.Fault.TheVariants.{Memory, Size};
 ghost use Rattle.jr_word.specs.Config.{in_limits};
 ghost use Rattle.jr_rule.specs.Passes.{IsOpened};
-ghost use Rattle.jr_threads.specs.Sites.{IsClosed, IsLeftInside, IsSiteOf};
+ghost use Rattle.jr_threads.specs.Sites.{IsClosedBehind, LeavesSome, IsSiteOf};
 
 use crate::closing::{close, parted};
 use crate::native::{Ended, NativeCode, run_thread};
@@ -56,7 +56,7 @@ fn run_in<Q: Site, R: Threads + Sync, N: NativeCode + Sync>(
     requires site { IsSiteOf Q.room Q.sizes room }
     ensures memory { IfErr result (λ e. e ≡ Memory) }
     ensures answers { IfOk result (λ r. length r.answers.items ≡ length passes.items) }
-    ensures summary { IfOk result (λ r. MatchResult r.summary (λ s. IsClosed room.row.config room.row.last s) IsLeftInside) }
+    ensures summary { IfOk result (λ r. MatchResult r.summary (λ s. IsClosedBehind room.row.config room.row.last s) LeavesSome) }
 {
     let ended = run_threads::<Q, R, N>(rt, &room, passes, native)?;
     let Ok((answers, passes)) = parted(alloc, &room, ended) else {
@@ -82,7 +82,7 @@ pub fn run_native<R: Threads + Sync, N: NativeCode + Sync>(
     ensures size { (result ≡ Err Size) ↔ (in_limits config ≡ false) }
     ensures memory { IfErr result (λ e. (e ≡ Size) ⊎ (e ≡ Memory)) }
     ensures answers { IfOk result (λ r. length r.answers.items ≡ config.threads) }
-    ensures summary { IfOk result (λ r. MatchResult r.summary (λ s. IsClosed config 4294967295 s) IsLeftInside) }
+    ensures summary { IfOk result (λ r. MatchResult r.summary (λ s. IsClosedBehind config 4294967295 s) LeavesSome) }
 {
     let (room, passes) = Room::<LAST>::open(alloc, config)?;
     run_in::<Brand, R, N>(rt, alloc, room, passes, native)

@@ -19,11 +19,7 @@ pub(crate) struct Rest {
 }
 
 /// Collects until the others have left, and once more, and looks at the cache.
-pub(crate) fn run<S: Steps>(
-    alloc: Global,
-    env: &mut Env<S>,
-    board: &Board,
-) -> Result<Rest, Fault> {
+pub(crate) fn run<S: Steps>(alloc: Global, env: &mut Env<S>, board: &Board) -> Result<Rest, Fault> {
     let mut marker = env.marker(alloc)?;
     for _ in 0..TRIES {
         let is_last = board.have_left(2);

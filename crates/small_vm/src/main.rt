@@ -28,6 +28,7 @@ const SIZES: Config = Config {
 };
 
 /// What the threads share.
+#[derive(Drop)]
 struct Machine {
     alloc: Global,
     board: Board,
@@ -85,7 +86,10 @@ fn main(rt: HostRuntime) -> Result<(), Trouble> {
                 println!(rt; "the sum of its numbers is {}", found.sum)?;
             }
             Done::Collected(rest) => {
-                println!(rt; "weak references of the cache that are cleared: {}", rest.cleared)?;
+                println!(rt;
+                    "weak references of the cache that are cleared: {}",
+                    rest.cleared
+                )?;
             }
         }
     }

@@ -7,7 +7,7 @@ loop-init g c = (c.requires.outside, c.requires.room, no_turn_yet _ _)
 
 pub loop-preserved : goal.loop-preserved
 loop-preserved g c =
-    let call = c.in-Err.ensures.call in
     let so = c.loop.invariant in
+    let call = c.in-Err.ensures.call so.1 in
     let did = call.does so.0 in
     (call.outside, fits_still _ _ c.in-Err.ensures.room so.1 did.stands_is, no_turn_again so.2 did)

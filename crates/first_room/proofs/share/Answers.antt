@@ -14,11 +14,12 @@ use Rattle.first_room.proofs.share.Goals as goal
 pub collect_in_turn-requires-clause-room : goal.collect_in_turn-requires-clause-room
 collect_in_turn-requires-clause-room c =
     let first : room_of c.in_ok-marker.marker ≡ (stepping_pass c.pop_local_frame.new.self.held.steps.cells.seat.me).config.objects = search rules in
-    let same = ((c.in-Err-Busy.ensures.call).does (c.in_ok-pop_local_frame.ensures).outside).stands_is.config in
+    let same = ((c.in-Err-Busy.ensures.call first).does (c.in_ok-pop_local_frame.ensures).outside).stands_is.config in
     c.collect.ensures.room ∙ (first ∙ sym (ap (λ (k : Config). k.objects) same))
 
 pub returns : goal.returns
 returns c =
+    let fits : room_of c.in_ok-marker.marker ≡ (stepping_pass c.pop_local_frame.new.self.held.steps.cells.seat.me).config.objects = search rules in
     let d1 = c.in_ok-push_local_frame.ensures in
     let d2 = c.in_ok-lost.ensures in
     let d3 = c.in_ok-new_weak_global_ref.ensures in
@@ -26,7 +27,7 @@ returns c =
     let d5 = c.in_ok-set_array_region.ensures in
     let d6 = c.in_ok-new_global_ref.ensures in
     let d7 = c.in_ok-pop_local_frame.ensures in
-    let d8 = c.in-Err-Busy.ensures.call in
+    let d8 = c.in-Err-Busy.ensures.call fits in
     let d9 = c.in_ok-collect_in_turn.ensures in
     let d10 = c.in_ok-cleared.ensures in
     let d11 = c.in_ok-delete_global_ref.ensures in
@@ -50,7 +51,7 @@ returns c =
     c.in-Ok.ensures.outside d1 d2 d3 d4 d5 d6 d7 (refused_as c.in-Err-Busy.field-0-is d8) d9 (same_on _ _ 0 _ weak d10) (deleted_on _ _ _ global d11) (typed_on _ _ _ global d12) in
     let handed = c.into_pass-2.ensures.pass ∙ ap holder_over (c.into_pass.ensures.steps d12.outside) in (
       at_end c.args.room.now.row c.args.pass (holder_over c.new.result) _ c.into_pass-2.result c.requires.row c.new.ensures.pass same handed,
-      busy_some _ c.in-Err-Busy.inside c.in-Err-Busy.field-0-is c.in-Err-Busy.ensures.busy,
+      busy_some _ c.in-Err-Busy.inside c.in-Err-Busy.field-0-is (c.in-Err-Busy.ensures.busy fits),
       played holder_over sharing c.new.result _ _ c.args.pass c.into_pass-2.result _ _ (c.in-Err-Busy.inside, c.in_ok-cleared.cleared, c.in_ok-kind.kind) c.in-Ok.ensures.steps calls c.new.ensures.pass handed
           (c.in-Ok.ensures.frames ∙ ap (λ (h : Holder). fresh_frames (facts_of h).stands.config.locals) c.new.ensures.pass),
     )

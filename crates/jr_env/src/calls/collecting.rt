@@ -110,11 +110,7 @@ impl<S: Steps> Env<S> {
     /// # Errors
     ///
     /// E14, E23.
-    fn collect_announced_by(
-        &mut self,
-        marker: &mut Marker,
-        tries: u32,
-    ) -> Result<Collected, Fault>
+    fn collect_announced_by(&mut self, marker: &mut Marker, tries: u32) -> Result<Collected, Fault>
         requires room { FitsRoom marker.old self.old }
         requires tries { 1 ≤ tries }
         ensures call { Does self.old self.new (announced_collection tries) result }

@@ -1,5 +1,10 @@
+use crate::envs::{is_refused, plain_env};
+use jr_env::Env;
+use jr_env::calls::NewPlain;
+use jr_steps::Steps;
 use jr_weak::Marker;
 use jr_word::{Config, Fault};
+use std::process::Abort;
 use std::test::Fail;
 
 /// A room of so many objects.
@@ -37,5 +42,34 @@ fn rooms_beyond_the_limits(rt: HostRuntime) -> Result<(), Fail> {
         };
         assert_eq!(rt; fault, Fault::Size);
     }
+    Ok(())
+}
+
+/// Checks that each collection by this marker is refused, with nothing changed.
+fn fits_no_collection<S: Steps>(rt: &impl Abort, env: &mut Env<S>, marker: &mut Marker) {
+    is_refused(rt, env.collect(marker), Some(Fault::Size));
+    is_refused(rt, env.collect_announced(marker, 3), Some(Fault::Size));
+    is_refused(
+        rt,
+        env.retry_collecting(marker, &NewPlain, 3),
+        Some(Fault::Size),
+    );
+}
+
+#[test]
+fn a_marker_for_another_number_of_objects(rt: HostRuntime) -> Result<(), Fail> {
+    let mut small = plain_env(rt.alloc(), room_of(2))?;
+    let mut large = plain_env(rt.alloc(), room_of(3))?;
+    let mut for_small = small.marker(rt.alloc())?;
+    let mut for_large = large.marker(rt.alloc())?;
+    let object = small.new_plain()?;
+    fits_no_collection(&rt, &mut small, &mut for_large);
+    fits_no_collection(&rt, &mut large, &mut for_small);
+    small.delete_local_ref(object)?;
+    let collected = small.collect(&mut for_small)?;
+    assert_eq!(rt; collected.dropped, 1);
+    large.new_plain()?;
+    let collected = large.collect_announced(&mut for_large, 3)?;
+    assert_eq!(rt; collected.dropped, 0);
     Ok(())
 }
