@@ -5,12 +5,12 @@ ghost use Rattle.jr_word.specs.declared.config.Config.{Config as Sizes};
 ghost use Rattle.jr_threads.specs.Sites.{no_sizes};
 
 use jr_rule::{Cells, Room, RoomCells, StepKind};
-use jr_word::Config;
+use jr_word::{Config, LAST_SERIAL};
 use std::alloc::AllocError;
 use std::marker::{Brand, PhantomData};
 
 /// The last serial: a slot or a local place gives as many handles, and one more.
-pub(crate) const LAST: u32 = 4_294_967_295;
+pub(crate) const LAST: u32 = LAST_SERIAL;
 
 /// One room: a type stands for it, which its opening picks.
 pub trait Site: Send + Sync {
