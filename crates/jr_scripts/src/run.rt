@@ -15,7 +15,7 @@ use crate::board::Board;
 use crate::hold::Hold;
 use crate::names::Names;
 use crate::printed::printed;
-use crate::region_commands::end;
+use crate::commands::regions::end;
 use crate::reply::Reply;
 use jr_env::Env;
 use jr_steps::Steps;

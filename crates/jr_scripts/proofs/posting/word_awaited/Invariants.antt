@@ -1,5 +1,0 @@
-use Rattle.jr_scripts.specs.Posting.{LooksInVain, Keeps}
-use Rattle.jr_scripts.proofs.posting.word_awaited.Given as goal
-
-abbrev pub invariant-loop : goal.invariant-loop
-invariant-loop g l = LooksInVain g.B.Board.looked l.name l.fn.board l.counter l.board × Keeps g.B.Board.layout g.B.Board.tells l.fn.board l.board

@@ -1,0 +1,228 @@
+//! Commands about copied elements.
+
+ghost use Rattle.std.specs.Prelude.{◌≡◌, map};
+ghost use Rattle.jr_elements.specs.Copies.{answer_in};
+ghost use Rattle.jr_env.specs.Deeds.{answered_by, release_array_elements};
+ghost use Rattle.jr_env.specs.Envs.{WasDone, IsOutside};
+ghost use Rattle.jr_syntax.specs.declared.command.Command.TheVariants as commands;
+ghost use Rattle.jr_syntax.specs.declared.verb.Release.TheVariants as release_verbs;
+ghost use Rattle.jr_scripts.specs.declared.reply.Reply.TheVariants as replies;
+ghost use Rattle.jr_scripts.specs.declared.binding.Binding.TheVariants.{Buffer as Holds};
+ghost use Rattle.jr_scripts.specs.Names.{getting, names_put, putting, binding as binding_at, binding_left};
+ghost use Rattle.jr_scripts.specs.Commands.{copying, deed, releasing, tried};
+ghost use Rattle.jr_scripts.specs.Text.{buffers_after, elements_left, left_by};
+ghost use Rattle.jr_scripts.specs.Advancing.{got_by, put_by as put_by_verb};
+
+use crate::ask::ask;
+use crate::binding::Binding;
+use crate::buffer::{Buffer, CopiedElements};
+use crate::calls::copies::GetElements;
+use crate::names::Names;
+use crate::number::NumberKind;
+use crate::reply::Reply;
+use crate::retry::retry;
+use jr_elements::Elements;
+use jr_env::calls::KindOf;
+use jr_env::{Env, is_made_again};
+use jr_model::Mode;
+use jr_steps::Steps;
+use jr_syntax::{Name, OnNameAt, PutAt, Reference as Target};
+use jr_word::{Elem, Fault, Handle};
+use std::alloc::Global;
+
+/// Copies the elements of an array: E5 and E6 where they are no numbers.
+pub(crate) fn copy<S: Steps>(
+    alloc: Global,
+    env: &mut Env<S>,
+    turns: u64,
+    array: Handle,
+) -> Result<Reply, Fault>
+    requires { IsOutside env.old }
+    ensures { WasDone env.old env.new (copying turns array.0) result }
+{
+    let kind = retry(env, turns, &KindOf(array))?;
+    let numbered = NumberKind::of(kind)?;
+    ask(env, turns, &GetElements(alloc, numbered, array))
+}
+
+/// The number at an index of the buffer that a name stands for.
+fn get(names: &Names, name: &Name, index: u32) -> Result<Reply, Fault>
+    ensures { result ≡ answer_in (λ x. replies.Value x) (getting index (binding_at names.now name.now)) }
+{
+    Ok(Reply::Value(names.get(name, index)?))
+}
+
+/// The number at an index of the buffer that a name stands for, where that is what the verb asks for: E19 where it asks for a level's.
+pub(crate) fn get_by(names: &Names, verb: OnNameAt, name: &Name, index: u32) -> Result<Reply, Fault>
+    ensures { result ≡ got_by verb (answer_in (λ x. replies.Value x) (getting index (binding_at names.now name.now))) }
+{
+    match verb {
+        OnNameAt::Get => get(names, name, index),
+        OnNameAt::GetInLevel => Err(Fault::InCritical),
+    }
+}
+
+/// Makes a number the element at an index of the buffer that a name stands for.
+fn put(names: &mut Names, name: &Name, index: u32, number: i64) -> Result<Reply, Fault>
+    ensures answer { result ≡ answer_in (λ _. replies.Done) (putting index number (binding_at names.old name.now)) }
+    ensures names { names.new ≡ names_put names.old name.now (putting index number (binding_at names.old name.now)) }
+{
+    names.put(name, index, number)?;
+    Ok(Reply::Done)
+}
+
+/// Makes a number the element at an index of the buffer that a name stands for, where that is what the verb asks for: E19 where it asks for a level's.
+pub(crate) fn put_by(
+    names: &mut Names,
+    verb: PutAt,
+    name: &Name,
+    index: u32,
+    number: i64,
+) -> Result<Reply, Fault>
+    ensures answer { result ≡ put_by_verb verb (answer_in (λ _. replies.Done) (putting index number (binding_at names.old name.now))) }
+    ensures names { names.new ≡ buffers_after (commands.PutAt verb name.now index number) result names.old }
+{
+    match verb {
+        PutAt::Put => put(names, name, index, number),
+        PutAt::PutInLevel => Err(Fault::InCritical),
+    }
+}
+
+/// What a release leaves, and its reply.
+#[derive(Drop)]
+struct Released {
+    /// What the name stands for afterwards.
+    left: Binding,
+    /// The reply, or the refusal.
+    answer: Result<Reply, Fault>,
+}
+
+/// Releases copied elements of one type; those that are left come first.
+fn release_elements<S: Steps, E: Elem>(
+    env: &mut Env<S>,
+    array: Handle,
+    elements: Elements<E>,
+    mode: Mode,
+) -> (Option<Elements<E>>, Result<Reply, Fault>)
+    requires { IsOutside env.old }
+    ensures call { WasDone env.old env.new (answered_by (λ _. replies.Done) (release_array_elements E.KIND array.0 (map E.word_of elements) mode)) result.1 }
+    ensures left { result.0 ≡ elements_left mode result.1 elements }
+{
+    match env.release_array_elements(array, elements, mode) {
+        Ok(left) => (left, Ok(Reply::Done)),
+        Err((elements, fault)) => (Some(elements), Err(fault)),
+    }
+}
+
+/// A reply, and the copied elements that are left, if they are.
+fn with_left(left: Option<CopiedElements>, answer: Result<Reply, Fault>) -> Released
+    ensures answer { result.answer ≡ answer }
+    ensures left { result.left ≡ binding_left left }
+{
+    let left = match left {
+        Some(elements) => Binding::Buffer(Buffer { elements }),
+        None => Binding::Nothing,
+    };
+    Released { left, answer }
+}
+
+/// Releases a buffer, by the call of its kind.
+fn release_buffer<S: Steps>(env: &mut Env<S>, array: Handle, buffer: Buffer, mode: Mode) -> Released
+    requires { IsOutside env.old }
+    ensures call { WasDone env.old env.new (answered_by (λ _. replies.Done) (release_array_elements buffer.kind array.0 buffer.words mode)) result.answer }
+    ensures left { result.left ≡ left_by mode result.answer (Holds buffer) }
+{
+    let Buffer { elements } = buffer;
+    match elements {
+        CopiedElements::Boolean(elements) => {
+            let (left, answer) = release_elements(env, array, elements, mode);
+            with_left(left.map(CopiedElements::Boolean), answer)
+        }
+        CopiedElements::Byte(elements) => {
+            let (left, answer) = release_elements(env, array, elements, mode);
+            with_left(left.map(CopiedElements::Byte), answer)
+        }
+        CopiedElements::Char(elements) => {
+            let (left, answer) = release_elements(env, array, elements, mode);
+            with_left(left.map(CopiedElements::Char), answer)
+        }
+        CopiedElements::Short(elements) => {
+            let (left, answer) = release_elements(env, array, elements, mode);
+            with_left(left.map(CopiedElements::Short), answer)
+        }
+        CopiedElements::Int(elements) => {
+            let (left, answer) = release_elements(env, array, elements, mode);
+            with_left(left.map(CopiedElements::Int), answer)
+        }
+        CopiedElements::Long(elements) => {
+            let (left, answer) = release_elements(env, array, elements, mode);
+            with_left(left.map(CopiedElements::Long), answer)
+        }
+    }
+}
+
+/// Releases the buffer that stands there, by one call: E2 where nothing stands there, E4 where a reference does.
+fn release_once<S: Steps>(env: &mut Env<S>, array: Handle, binding: Binding, mode: Mode) -> Released
+    requires { IsOutside env.old }
+    ensures call { WasDone env.old env.new (releasing array.0 mode binding) result.answer }
+    ensures left { result.left ≡ left_by mode result.answer binding }
+{
+    match binding {
+        Binding::Buffer(buffer) => release_buffer(env, array, buffer, mode),
+        Binding::Nothing => Released {
+            left: Binding::Nothing,
+            answer: Err(Fault::Stale),
+        },
+        Binding::Reference(handle) => Released {
+            left: Binding::Reference(handle),
+            answer: Err(Fault::WrongKind),
+        },
+    }
+}
+
+/// Releases the buffer that stands there, and again as long as the call is raced or barred: E20 once it was made so many times.
+fn release_again<S: Steps>(
+    env: &mut Env<S>,
+    turns: u64,
+    array: Handle,
+    binding: Binding,
+    mode: Mode,
+) -> Released
+    requires { IsOutside env.old }
+    ensures call { WasDone env.old env.new (tried turns (releasing array.0 mode binding)) result.answer }
+    ensures left { result.left ≡ left_by mode result.answer binding }
+{
+    let mut left = binding;
+    for _ in 0..turns {
+        let released = release_once(env, array, left, mode);
+        if !is_made_again(&released.answer) {
+            return released;
+        }
+        left = released.left;
+    }
+    Released {
+        left,
+        answer: Err(Fault::Turns),
+    }
+}
+
+/// Releases the buffer that a name stands for. What is left of it is put back where it was taken out, which takes no memory.
+pub(crate) fn release<S: Steps>(
+    env: &mut Env<S>,
+    names: &mut Names,
+    turns: u64,
+    name: &Name,
+    target: &Target,
+    mode: Mode,
+) -> Result<Reply, Fault>
+    requires { IsOutside env.old }
+    ensures does { WasDone env.old env.new (deed turns names.old (commands.Release release_verbs.Elements name.now target.now mode)) result }
+    ensures names { names.new ≡ buffers_after (commands.Release release_verbs.Elements name.now target.now mode) result names.old }
+{
+    names.buffer(name)?;
+    let array = names.wanted(target)?;
+    let binding = names.take(name);
+    let released = release_again(env, turns, array, binding, mode);
+    let _ = names.set(name, released.left);
+    released.answer
+}
