@@ -1,4 +1,4 @@
 pub mod Counts
 pub mod Dumps
-pub mod Telling
 pub mod Taking
+pub mod Telling

@@ -5,12 +5,12 @@ pub mod Criticals
 pub mod Collections
 pub mod Censuses
 pub mod Tries
-pub mod Elements
-pub mod Calling
 pub mod OpenStays
 pub mod Works
 pub mod StayDeeds
 pub mod LentStays
+pub mod Elements
+pub mod Calling
 pub mod ArrayParts
 pub mod Copies
 pub mod InStays

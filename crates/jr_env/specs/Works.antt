@@ -1,4 +1,4 @@
--- For the crate's own functions: what calls and their works did, over any steps and frames, for whatever was known.
+-- What calls and their works did, over any steps and frames, for whatever was known.
 use Rattle.std.specs.Prelude.{◌≡◌, ◌≢◌, ℕ, Result, Ok, Err, Option, Some, None, List, [], ◌∷◌, length}
 use Rattle.jr_word.specs.declared.config.Config.{Config}
 use Rattle.jr_word.specs.declared.fault.Fault.{Fault}
