@@ -9,8 +9,8 @@ pub mod OpenStays
 pub mod Works
 pub mod StayDeeds
 pub mod LentStays
+pub mod InStays
 pub mod Elements
 pub mod Calling
 pub mod ArrayParts
 pub mod Copies
-pub mod InStays
