@@ -15,7 +15,6 @@ mod copies;
 mod criticals;
 mod measure;
 mod round;
-mod stays;
 
 use crate::beside::Tries;
 use crate::collections::Collections;

@@ -7,7 +7,6 @@ use crate::frames::frees_all;
 use crate::handles::{place_gives_more, slot_gives_more};
 use crate::references::{are_deleted_by_kind, goes_round};
 use crate::scopes::are_made;
-use crate::stays::goes_on;
 use jr_env::Env;
 use jr_rule::PlainSteps;
 use jr_steps::Steps;
@@ -39,8 +38,6 @@ pub(crate) enum Case {
     Collected,
     /// Calls that are made of others.
     OfOthers,
-    /// Calls in a stay.
-    InAStay,
 }
 
 /// Tries it in an env in which nothing stands.
@@ -61,7 +58,6 @@ fn try_case<S: Steps>(
         Case::Filled => fills(env),
         Case::Collected => fills_and_collects(rt, alloc, env),
         Case::OfOthers => are_made(rt, env),
-        Case::InAStay => goes_on(rt, alloc, env),
     }
 }
 
