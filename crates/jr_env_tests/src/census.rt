@@ -1,13 +1,12 @@
-//! A census of a room that two threads share: what it tells, that it is refused while another is inside, and that it leaves all as it is.
+//! A census and a dump of a room: what they tell, and that they leave all as it is.
 ghost use Rattle.jr_env.specs.Collections.{FitsRoom};
 
-use crate::envs::{LAST, is_refused, made, next_env};
+use crate::envs::{LAST, made, next_env};
 use jr_env::Env;
 use jr_rule::Room;
 use jr_steps::Steps;
 use jr_weak::Marker;
-use jr_word::{Config, Fault};
-use std::process::Abort;
+use jr_word::{Config, Fault, SlotParts};
 use std::test::Fail;
 
 /// The sizes of the room.
@@ -66,5 +65,26 @@ fn a_census_tells_what_stands(rt: HostRuntime) -> Result<(), Fail> {
     let wanted = [1, 1, 1, 0, 0, 2, 3, 10, 1, 1, 5, 0];
     assert_eq!(rt; numbers(&mut env, &mut marker)?, wanted);
     assert_eq!(rt; numbers(&mut env, &mut marker)?, wanted);
+    Ok(())
+}
+
+#[test]
+fn a_dump_has_each_reference_and_object(rt: HostRuntime) -> Result<(), Fail> {
+    let (room, mut passes) = Room::<LAST>::open(rt.alloc(), SIZES)?;
+    let mut env = next_env(&room, &mut passes)?;
+    let mut marker = Marker::new(rt.alloc(), env.held.steps.config())?;
+    fill(&mut env, &mut marker)?;
+    let config = env.held.steps.config();
+    let mut slots = vec![in rt.alloc(); SlotParts::Free { serial: 0 }; config.slots as usize]?;
+    let mut headers = vec![in rt.alloc(); None; config.objects as usize]?;
+    let mut words = vec![in rt.alloc(); 0u64; config.words as usize]?;
+    env.dump(&mut slots, &mut headers, &mut words)?;
+    let weak = SlotParts::Weak {
+        serial: 0,
+        object: None,
+    };
+    assert_eq!(rt; slots[0], weak);
+    assert!(rt; matches!(slots[1], SlotParts::Global { .. }));
+    assert_eq!(rt; headers.iter().flatten().count(), 3);
     Ok(())
 }
