@@ -10,7 +10,7 @@ use Rattle.jr_rule.specs.declared.pass.Pass.{Pass}
 use Rattle.jr_rule.specs.declared.row.RoomCells.{RoomCells}
 use Rattle.jr_rule.specs.declared.room.Room.{Room}
 use Rattle.jr_rule.specs.Passes.{known_of, ClosesAll}
-use Rattle.jr_rule.specs.Rule.{acting}
+use Rattle.jr_rule.specs.Rule.{stepping_pass}
 use Rattle.jr_rule.specs.Sights.{IsSeatOf}
 
 -- no sizes
@@ -25,7 +25,7 @@ IsSeatedIn s room = IsSeatOf room.row.table.shared.table_id room.row.config room
 pub record IsAtSite {LAST : ℕ} (table : Option TableId) (config : Config) (s : RoomCells) (room : Room LAST) : Type 0 where
   pub there : IsSeatedIn s room
   pub site : Some s.seat.table_id ≡ table
-  pub sizes : (acting s.seat.me).config ≡ config
+  pub sizes : (stepping_pass s.seat.me).config ≡ config
 
 -- the room is the site's own
 pub record IsSiteOf {LAST : ℕ} (table : Option TableId) (config : Config) (room : Room LAST) : Type 0 where

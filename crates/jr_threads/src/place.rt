@@ -48,14 +48,14 @@ impl<'r, Q: Site> Copy for InRoom<'r, Q> {}
 
 impl<'r, Q: Site> Cells<InRoom<'r, Q>> for RoomCells {
     ghost use Rattle.jr_steps.specs.Knowing.{Goes};
-    ghost use Rattle.jr_rule.specs.Rule.{acting};
+    ghost use Rattle.jr_rule.specs.Rule.{stepping_pass};
     ghost use Rattle.jr_rule.specs.Sights.{sight_of_seat};
     ghost use Rattle.jr_threads.specs.Sites.{IsAtSite};
     ghost use Rattle.jr_threads.specs.SiteLaws.{site_one, site_sound};
 
     ghost sight = { λ s. sight_of_seat s.seat.table_id s.seat.me };
 
-    ghost goes = { λ s t acts. Goes (acting s.seat.me) acts (acting t.seat.me) };
+    ghost goes = { λ s t acts. Goes (stepping_pass s.seat.me) acts (stepping_pass t.seat.me) };
 
     ghost are_at = { λ s place. IsAtSite Q.room Q.sizes s place.room.now };
 
