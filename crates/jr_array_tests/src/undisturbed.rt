@@ -5,7 +5,7 @@ ghost use Rattle.jr_env.specs.StandingRegions.{WasUndisturbed};
 
 use crate::cases::{Case, alone};
 use crate::envs::TWO;
-use jr_env::Env;
+use jr_env::{Env, levels_beside};
 use jr_steps::Steps;
 use jr_word::{Fault, Handle};
 use std::process::Abort;
@@ -15,11 +15,11 @@ use std::test::Fail;
 fn nests_and_reads<S: Steps>(env: &mut Env<S>, array: Handle) -> Result<i32, Fault>
     ensures { IsOutside env.old → IfOk result (λ _. WasUndisturbed env.old.held env.new.held) }
 {
-    let mut region = env.get_array_critical(array)?;
-    let nested = region.nest_array(array);
-    let written = region.set(0, 1, 7i32);
-    let read = region.get::<i32>(0, 1);
-    region.release_all();
+    let mut levels = levels_beside::open_array(env, array)?;
+    let nested = levels_beside::nest_array(env, &mut levels, array);
+    let written = levels_beside::set(env, &levels, 0, 1, 7i32);
+    let read = levels_beside::get::<S, i32>(env, &levels, 0, 1);
+    levels_beside::close_all(env, levels);
     nested?;
     written?;
     read

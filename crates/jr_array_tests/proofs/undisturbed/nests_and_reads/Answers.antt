@@ -1,14 +1,11 @@
-use Rattle.std.proofs.Common.{IfOk, rules}
-use Rattle.jr_env.specs.StandingRegions.{WasUndisturbed}
 use Rattle.jr_array_tests.proofs.Answered.{whatever}
 use Rattle.jr_array_tests.proofs.undisturbed.nests_and_reads.Goals as goal
 
 pub returns : goal.returns
 returns g c = λ out.
     let begun = c.args.env.now.held in
-    let opened = c.in_ok-region.ensures.region out in
+    let opened = c.in_ok-levels.ensures.region out in
     let nested = c.nest_array-nested.ensures.region begun opened in
     let written = c.set-written.ensures.region begun nested in
     let read = c.get-read.ensures.region begun written in
-    let ended : IfOk c.get-read.result (λ _. WasUndisturbed begun c.release_all.result.now.held) = whatever c.get-read.result (c.release_all.ensures.undisturbed begun read) in
-    search rules
+    whatever c.get-read.result (c.close_all.ensures.undisturbed begun read)
