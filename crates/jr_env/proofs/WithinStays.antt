@@ -15,7 +15,7 @@ use Rattle.jr_model.specs.Objects as objects
 use Rattle.jr_steps.specs.declared.known.Known.{Known}
 use Rattle.jr_steps.specs.declared.steps.Steps.{Ghosts}
 use Rattle.jr_steps.specs.Knowing.{AreOf, Facts, state_of, Holds}
-use Rattle.jr_gate.specs.Performing.{moment, IsMade, Performed}
+use Rattle.jr_gate.specs.Performing.{thread_state, IsMade, Performed}
 use Rattle.jr_gate.proofs.SameRoom.{nothing_changed}
 use Rattle.jr_gate.proofs.Spending.{made_of, spending}
 use Rattle.jr_frames.specs.Reading.{IsReadAs}
@@ -38,8 +38,8 @@ module _ {S : Type 0} (facts : S → Facts) (fits : AreOf facts) (a b : S) (f g 
     did = λ k s m.
         let x = p.ran k s m in
         let i = fits a k s in
-        let old = moment (facts a) k f in
-        let new = moment (facts b) x.0 g in
+        let old = thread_state (facts a) k f in
+        let new = thread_state (facts b) x.0 g in
         let s' = state_of x.0 in (
           x.0,
           x.1,

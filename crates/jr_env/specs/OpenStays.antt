@@ -14,7 +14,7 @@ use Rattle.jr_model.specs.StayCalls.{IsOpenStay, IsStayCall}
 use Rattle.jr_steps.specs.declared.steps.Steps.{Ghosts}
 use Rattle.jr_steps.specs.declared.known.Known.{Known}
 use Rattle.jr_steps.specs.Knowing.{Facts, view, keeps, lets_go, Holds, Leads}
-use Rattle.jr_gate.specs.Performing.{IsAsBefore, IsMade, Performed, moment}
+use Rattle.jr_gate.specs.Performing.{IsAsBefore, IsMade, Performed, thread_state}
 use Rattle.jr_frames.specs.declared.held.Held.{Held}
 use Rattle.jr_env.specs.StandingRegions.{WasUndisturbed}
 
@@ -36,12 +36,12 @@ module _ {S : Type 0} (facts : S → Facts) where
   -- THE GATE WAS ENTERED, or the entry was refused: for whatever was known something is known from which the thread did just that, by no operation beside its acts
   pub record Enters (old new : S) (f : Frames) (answer : Result (Unit {0}) Fault) : Type 0 where
     pub stands_is : IsAsBefore (record ((facts old).stands) { role = role_entered answer }) (facts new).stands
-    pub ran : Leads facts old new (Holds f) (λ k k'. IsMade 0 (moment (facts old) k f) (moment (facts new) k' f) enter answer) (λ j k. HoldsEntered answer j k × Holds f k)
+    pub ran : Leads facts old new (Holds f) (λ k k'. IsMade 0 (thread_state (facts old) k f) (thread_state (facts new) k' f) enter answer) (λ j k. HoldsEntered answer j k × Holds f k)
 
   -- THE GATE WAS LEFT, by one operation: the pass holds nothing any more
   pub record Leaves (old new : S) (f : Frames) : Type 0 where
     pub stands_is : IsAsBefore (record ((facts old).stands) { role = Outside }) (facts new).stands
-    pub ran : Leads facts old new (Holds f) (λ k k'. IsMade 0 (moment (facts old) k f) (moment (facts new) k' f) leave (Ok tt)) (λ j k. lets_go j k × Holds f k)
+    pub ran : Leads facts old new (Holds f) (λ k k'. IsMade 0 (thread_state (facts old) k f) (thread_state (facts new) k' f) leave (Ok tt)) (λ j k. lets_go j k × Holds f k)
 
 module _ {S : Type 0} {G : Ghosts S} where
   -- the gate was entered, or the entry was refused
