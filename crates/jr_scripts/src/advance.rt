@@ -14,11 +14,11 @@ ghost use Rattle.jr_scripts.specs.RegionCommands.{deed_at, deed_within};
 ghost use Rattle.jr_scripts.specs.Text.{buffers_after};
 
 use crate::board::Board;
+use crate::commands::posting::spoken;
+use crate::commands::regions::{close, nest, open, read_by, write_by};
 use crate::names::Names;
 use crate::perform::perform;
-use crate::commands::posting::spoken;
 use crate::region::{Region, first};
-use crate::commands::regions::{close, nest, open, read_by, write_by};
 use crate::reply::Reply;
 use jr_critical::Levels;
 use jr_env::Env;

@@ -14,12 +14,12 @@ ghost use Rattle.jr_scripts.specs.Text.{buffers_after};
 ghost use Rattle.jr_scripts.specs.Commands.{deletion, type_of as type_deed, made_of, making_room, filling, referring_to, deed};
 
 use crate::ask::ask;
-use crate::commands::collections::collect;
 use crate::calls::copies::GetStringChars;
+use crate::calls::objects::NewArray;
+use crate::commands::collections::collect;
 use crate::commands::copies::{copy, get_by, put_by, release};
 use crate::commands::elements::{load, store};
 use crate::names::Names;
-use crate::calls::objects::NewArray;
 use crate::reply::Reply;
 use jr_env::Env;
 use jr_env::calls::{

@@ -4,8 +4,8 @@ ghost use Rattle.jr_env.specs.Envs.{WasDone, IsOutside};
 ghost use Rattle.jr_scripts.specs.Commands.{loading, storing};
 
 use crate::ask::ask;
-use crate::number::{Element, NumberKind};
 use crate::calls::objects::{GetNumber, SetElement};
+use crate::number::{Element, NumberKind};
 use crate::reply::Reply;
 use crate::retry::retry;
 use jr_env::Env;
