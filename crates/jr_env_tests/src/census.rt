@@ -1,12 +1,11 @@
 //! A census and a dump of a room: what they tell, and that they leave all as it is.
-ghost use Rattle.jr_env.specs.Collections.{FitsRoom};
-
-use crate::envs::{LAST, made, next_env};
+use crate::envs::{LAST, collected, made, next_env};
 use jr_env::Env;
 use jr_rule::Room;
 use jr_steps::Steps;
 use jr_weak::Marker;
 use jr_word::{Config, Fault, SlotParts};
+use std::alloc::Global;
 use std::test::Fail;
 
 /// The sizes of the room.
@@ -19,13 +18,11 @@ const SIZES: Config = Config {
 };
 
 /// Makes an array that two local references name and a global one, and a string and a plain object that nothing reaches, of which a cleared weak reference is left.
-fn fill<S: Steps>(env: &mut Env<S>, marker: &mut Marker) -> Result<(), Fail>
-    requires { FitsRoom marker.old env.old }
-{
+fn fill<S: Steps>(alloc: Global, env: &mut Env<S>) -> Result<(), Fail> {
     let plain = env.new_plain()?;
     made(env.new_weak_global_ref(plain))?;
     env.delete_local_ref(plain)?;
-    env.collect(marker)?;
+    collected(alloc, env)?;
     let ints = env.new_array::<i32>(3)?;
     let pair = env.new_object_array(2, ints)?;
     made(env.new_global_ref(pair))?;
@@ -35,10 +32,9 @@ fn fill<S: Steps>(env: &mut Env<S>, marker: &mut Marker) -> Result<(), Fail>
 }
 
 /// The numbers of slots, of the thread's local references, and of objects, present and unreached.
-fn numbers<S: Steps>(env: &mut Env<S>, marker: &mut Marker) -> Result<[u32; 12], Fault>
-    requires { FitsRoom marker.old env.old }
-{
-    let census = env.census(marker)?;
+fn numbers<S: Steps>(alloc: Global, env: &mut Env<S>) -> Result<[u32; 12], Fault> {
+    let mut marker = Marker::new(alloc, env.held.steps.config())?;
+    let census = env.census(&mut marker)?;
     let (slots, all, left) = (census.slots, census.objects, census.unreached);
     Ok([
         slots.globals,
@@ -60,11 +56,10 @@ fn numbers<S: Steps>(env: &mut Env<S>, marker: &mut Marker) -> Result<[u32; 12],
 fn a_census_tells_what_stands(rt: HostRuntime) -> Result<(), Fail> {
     let (room, mut passes) = Room::<LAST>::open(rt.alloc(), SIZES)?;
     let mut env = next_env(&room, &mut passes)?;
-    let mut marker = Marker::new(rt.alloc(), env.held.steps.config())?;
-    fill(&mut env, &mut marker)?;
+    fill(rt.alloc(), &mut env)?;
     let wanted = [1, 1, 1, 0, 0, 2, 3, 10, 1, 1, 5, 0];
-    assert_eq!(rt; numbers(&mut env, &mut marker)?, wanted);
-    assert_eq!(rt; numbers(&mut env, &mut marker)?, wanted);
+    assert_eq!(rt; numbers(rt.alloc(), &mut env)?, wanted);
+    assert_eq!(rt; numbers(rt.alloc(), &mut env)?, wanted);
     Ok(())
 }
 
@@ -72,8 +67,7 @@ fn a_census_tells_what_stands(rt: HostRuntime) -> Result<(), Fail> {
 fn a_dump_has_each_reference_and_object(rt: HostRuntime) -> Result<(), Fail> {
     let (room, mut passes) = Room::<LAST>::open(rt.alloc(), SIZES)?;
     let mut env = next_env(&room, &mut passes)?;
-    let mut marker = Marker::new(rt.alloc(), env.held.steps.config())?;
-    fill(&mut env, &mut marker)?;
+    fill(rt.alloc(), &mut env)?;
     let config = env.held.steps.config();
     let mut slots = vec![in rt.alloc(); SlotParts::Free { serial: 0 }; config.slots as usize]?;
     let mut headers = vec![in rt.alloc(); None; config.objects as usize]?;
