@@ -18,7 +18,7 @@ use Rattle.jr_steps.specs.declared.known.Known.{Known}
 use Rattle.jr_steps.specs.Holdings.{empty}
 use Rattle.jr_steps.specs.Knowing.{Standing, Holds, view}
 use Rattle.jr_steps.proofs.StepFacts.{goes_did}
-use Rattle.jr_gate.specs.Performing.{Moment, moment, moment_with}
+use Rattle.jr_gate.specs.Performing.{ThreadState, thread_state, thread_state_with}
 use Rattle.jr_rule.specs.declared.pass.Pass.{Pass}
 use Rattle.jr_rule.specs.declared.row.Row.{Row}
 use Rattle.jr_rule.specs.Rule.{known}
@@ -37,7 +37,7 @@ record Since {A : Type 0} (story : Deed A) (t : ℕ) (x : A) (k : Known) : Type 
   pub same_config : k.config ≡ SIZES
   pub same_last : k.last ≡ LAST
   pub is_of : k.thread ≡ t
-  pub left : Moment
+  pub left : ThreadState
   pub plays : story (first_moment t) (Ok x) left
   pub saw : left.pass ≡ seen_by t k.seen
 
@@ -57,11 +57,11 @@ since story r p q x config_is last_is o h =
     let same_last : (known_of q).last ≡ LAST = s.last ∙ (ap (λ (z : Standing). z.last) spent ∙ ap (λ (k : Known). k.last) knows0) in
     let is_of : (known_of q).thread ≡ t = s.thread ∙ (ap (λ (z : Standing). z.thread) spent ∙ p.held.thread_is) in
     let first_hint : (h.spent).hint ≡ 0 = (h.spends).hint_is ∙ o.hint in
-    let end : Known → Moment = λ k. moment (facts_of (holder_of q)) k h.frames in
+    let end : Known → ThreadState = λ k. thread_state (facts_of (holder_of q)) k h.frames in
     let from : story (first_moment t) (Ok x) (end y.0)
-    = subst (λ i. story (moment_with false i k0 (fresh_frames SIZES.locals)) (Ok x) (end y.0)) first_hint
-    (subst (λ b. story (moment_with b (h.spent).hint k0 (fresh_frames SIZES.locals)) (Ok x) (end y.0)) (ap (λ (z : Standing). z.fresh) spent)
-    (subst (λ (k : Known). story (moment (facts_of h.spent) k (fresh_frames SIZES.locals)) (Ok x) (end y.0)) knows0 y.3)) in
+    = subst (λ i. story (thread_state_with false i k0 (fresh_frames SIZES.locals)) (Ok x) (end y.0)) first_hint
+    (subst (λ b. story (thread_state_with b (h.spent).hint k0 (fresh_frames SIZES.locals)) (Ok x) (end y.0)) (ap (λ (z : Standing). z.fresh) spent)
+    (subst (λ (k : Known). story (thread_state (facts_of h.spent) k (fresh_frames SIZES.locals)) (Ok x) (end y.0)) knows0 y.3)) in
     record {
       same_config = same_config;
       same_last = same_last;

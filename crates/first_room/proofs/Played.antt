@@ -14,7 +14,7 @@ use Rattle.jr_model.specs.Frames.{Frames, fresh_frames}
 use Rattle.jr_model.specs.Objects.{get_array_critical, region_get}
 use Rattle.jr_steps.specs.declared.known.Known.{Known}
 use Rattle.jr_steps.specs.Knowing.{AreOf, Facts, IsOf, Spent, Standing, state_of}
-use Rattle.jr_gate.specs.Performing.{Moment, IsMade, moment}
+use Rattle.jr_gate.specs.Performing.{ThreadState, IsMade, thread_state}
 use Rattle.jr_gate.proofs.SameRoom.{still_before}
 use Rattle.jr_rule.specs.declared.pass.Pass.{Pass}
 use Rattle.jr_rule.specs.Passes.{Holder, facts_of, holder_of, standing_of}
@@ -27,7 +27,7 @@ use Rattle.first_room.specs.Calls.{clearing, collecting_in_turn, collecting_twic
 use Rattle.first_room.specs.Parts.{HasPlayed}
 
 -- a call of the steps' own thread is one of whoever knows the pass
-own_call : {A : Type 0} {n : ℕ} {p q : Moment} (call : Config → ℕ → ℕ → State → Call A) {answer : Result A Fault} (st : Standing) (k : Known) (s : State) → IsOf st k → IsMade n p q (call st.config st.last st.thread s) answer → IsMade n p q (call k.config k.last k.thread s) answer
+own_call : {A : Type 0} {n : ℕ} {p q : ThreadState} (call : Config → ℕ → ℕ → State → Call A) {answer : Result A Fault} (st : Standing) (k : Known) (s : State) → IsOf st k → IsMade n p q (call st.config st.last st.thread s) answer → IsMade n p q (call k.config k.last k.thread s) answer
 own_call {n = n} {p = p} {q = q} call {answer = answer} st k s of m =
     subst (λ c. IsMade n p q (call c k.last k.thread s) answer) (sym of.config)
     (subst (λ l. IsMade n p q (call st.config l k.thread s) answer) (sym of.last)
@@ -43,7 +43,7 @@ module _ {S : Type 0} {facts : S → Facts} where
 
   -- and the answers were put together
   does_all : {A B : Type 0} {a b : S} {f g : Frames} {one : Deed A} {x : A} (form : A → B) → DoesDeed facts a b f g one (Ok x) → DoesDeed facts a b f g (one >>= (λ y. done (form y))) (Ok (form x))
-  does_all {a = a} {b = b} {f = f} {g = g} {x = x} form d = record { stands_is = d.stands_is; did = λ k s m. let y = d.did k s m in (y.0, y.1, y.2, inl (x, moment (facts b) y.0 g, y.3, (refl, refl))) }
+  does_all {a = a} {b = b} {f = f} {g = g} {x = x} form d = record { stands_is = d.stands_is; did = λ k s m. let y = d.did k s m in (y.0, y.1, y.2, inl (x, thread_state (facts b) y.0 g, y.3, (refl, refl))) }
 
   -- the first thread's calls before it collects
   prepared : (s0 s1 s2 s3 s4 s5 s6 s7 : S) (f0 f1 f2 f3 f4 f5 f6 f7 : Frames) (lost array : Handle) (weak global popped : Option Handle)
@@ -73,29 +73,29 @@ module _ {S : Type 0} {facts : S → Facts} where
               x7.2,
               inl (
                 tt,
-                moment (facts s1) x1.0 f1,
+                thread_state (facts s1) x1.0 f1,
                 x1.3,
                 inl (
                   lost,
-                  moment (facts s2) x2.0 f2,
+                  thread_state (facts s2) x2.0 f2,
                   x2.3,
                   inl (
                     weak,
-                    moment (facts s3) x3.0 f3,
+                    thread_state (facts s3) x3.0 f3,
                     x3.3,
                     inl (
                       array,
-                      moment (facts s4) x4.0 f4,
+                      thread_state (facts s4) x4.0 f4,
                       x4.3,
                       inl (
                         tt,
-                        moment (facts s5) x5.0 f5,
+                        thread_state (facts s5) x5.0 f5,
                         x5.3,
                         inl (
                           global,
-                          moment (facts s6) x6.0 f6,
+                          thread_state (facts s6) x6.0 f6,
                           x6.3,
-                          inl (popped, moment (facts s7) x7.0 f7, x7.3, (refl, refl)),
+                          inl (popped, thread_state (facts s7) x7.0 f7, x7.3, (refl, refl)),
                         ),
                       ),
                     ),
@@ -115,7 +115,7 @@ module _ {S : Type 0} {facts : S → Facts} where
         did = λ k s n.
             let x1 = a.did k s n in
             let x2 = b.did x1.0 x1.1 x1.2 in
-            (x2.0, x2.1, x2.2, inl (inside, moment (facts s1) x1.0 f1, (inside, refl, x1.3), inl (c, moment (facts s2) x2.0 f2, x2.3, (refl, refl))));
+            (x2.0, x2.1, x2.2, inl (inside, thread_state (facts s1) x1.0 f1, (inside, refl, x1.3), inl (c, thread_state (facts s2) x2.0 f2, x2.3, (refl, refl))));
       }
 
   -- and those at its end
@@ -131,7 +131,7 @@ module _ {S : Type 0} {facts : S → Facts} where
             let x1 = a.did k s n in
             let x2 = b.did x1.0 x1.1 x1.2 in
             let x3 = c.did x2.0 x2.1 x2.2 in
-            (x3.0, x3.1, x3.2, inl (cleared, moment (facts s1) x1.0 f1, x1.3, inl (tt, moment (facts s2) x2.0 f2, x2.3, inl (kind, moment (facts s3) x3.0 f3, x3.3, (refl, refl)))));
+            (x3.0, x3.1, x3.2, inl (cleared, thread_state (facts s1) x1.0 f1, x1.3, inl (tt, thread_state (facts s2) x2.0 f2, x2.3, inl (kind, thread_state (facts s3) x3.0 f3, x3.3, (refl, refl)))));
       }
 
   -- THE FIRST THREAD'S CALLS
@@ -179,33 +179,33 @@ module _ {S : Type 0} {facts : S → Facts} where
               x7.3.1,
               inl (
                 word,
-                moment (facts s0) k f0,
+                thread_state (facts s0) k f0,
                 (word, refl, refl),
                 inl (
                   tt,
-                  moment (facts s1) x1.0 f1,
+                  thread_state (facts s1) x1.0 f1,
                   x1.3,
                   inl (
                     object,
-                    moment (facts s2) x2.0 f2,
+                    thread_state (facts s2) x2.0 f2,
                     x2.3,
                     inl (
                       array,
-                      moment (facts s3) x3.0 f3,
+                      thread_state (facts s3) x3.0 f3,
                       x3.3,
                       inl (
                         popped,
-                        moment (facts s4) x4.0 f4,
+                        thread_state (facts s4) x4.0 f4,
                         x4.3,
                         inl (
                           level_object v 0,
-                          moment (facts s5) x5.0 f4,
+                          thread_state (facts s5) x5.0 f4,
                           (opened.0, opened.1, own_call (λ c last t s. get_array_critical c last t s opened.0) (facts s4).stands x4.0 (state_of x5.0) (fits s4 x4.0 x4.1) x5.2),
                           inl (
                             x,
-                            moment (facts s6) x6.0 f4,
+                            thread_state (facts s6) x6.0 f4,
                             own_call (λ c last t s. region_get c last t s Int (level_object v 0) 1) (facts s5).stands x5.0 (state_of x6.0) (fits s5 x5.0 x5.1) x6.2,
-                            inl (tt, moment (facts s7) x7.0 f4, x7.2, (refl, refl)),
+                            inl (tt, thread_state (facts s7) x7.0 f4, x7.2, (refl, refl)),
                           ),
                         ),
                       ),

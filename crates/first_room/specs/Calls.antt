@@ -13,7 +13,7 @@ use Rattle.jr_model.specs.Calls.{Call}
 use Rattle.jr_model.specs.Checks.{Word}
 use Rattle.jr_model.specs.Objects.{get_array_critical, region_get, region_release}
 use Rattle.jr_frames.specs.Reading.{IsReadAs}
-use Rattle.jr_gate.specs.Performing.{IsMade, Moment}
+use Rattle.jr_gate.specs.Performing.{IsMade, ThreadState}
 use Rattle.jr_weak.specs.declared.collecting.Collected.{Collected}
 use Rattle.jr_env.specs.Collections.{announced_collection, collection}
 use Rattle.jr_env.specs.Deeds.{Deed, done, new_plain, new_array, new_object_array, new_reference, delete_reference, is_same_object, get_object_ref_type, push_local_frame, pop_local_frame, set_array_region, ◌>>=◌, ◌>>◌}
@@ -28,9 +28,9 @@ abbrev pub is_kept_out : Deed ℕ
 is_kept_out old answer new = (n : ℕ) × (answer ≡ Ok n) × collection old (Err (Busy n)) new
 
 -- collections were announced, and got no turn, one after the other
-pub data GotNoTurn (old : Moment) : Moment → Type 0 where
+pub data GotNoTurn (old : ThreadState) : ThreadState → Type 0 where
   none : GotNoTurn old old
-  again : {mid new : Moment} {e : Fault} → GotNoTurn old mid → announced_collection TRIES mid (Err e) new → GotNoTurn old new
+  again : {mid new : ThreadState} {e : Fault} → GotNoTurn old mid → announced_collection TRIES mid (Err e) new → GotNoTurn old new
 
 -- any number of them
 abbrev pub getting_no_turn : Deed (Unit {0})

@@ -9,7 +9,7 @@ use Rattle.jr_model.specs.Frames.{Frames, fresh_frames}
 use Rattle.jr_model.specs.History.{History, PassView, mine}
 use Rattle.jr_steps.specs.Holdings.{empty}
 use Rattle.jr_steps.specs.Knowing.{Spent}
-use Rattle.jr_gate.specs.Performing.{Moment}
+use Rattle.jr_gate.specs.Performing.{ThreadState}
 use Rattle.jr_rule.specs.declared.pass.Pass.{Pass}
 use Rattle.jr_rule.specs.Passes.{Holder, facts_of, holder_of, standing_of}
 use Rattle.jr_env.specs.Deeds.{Deed, DoesDeed}
@@ -35,13 +35,13 @@ abbrev pub seen_by : ℕ → History → PassView
 seen_by t seen = record { config = SIZES; last = LAST; thread = t; seen = seen }
 
 -- before the thread's first call: it has seen nothing, no local reference stands, its pass is spent, and its first search for a free slot begins at slot 0
-abbrev pub first_moment : ℕ → Moment
+abbrev pub first_moment : ℕ → ThreadState
 first_moment t = record { pass = seen_by t []; frames = fresh_frames SIZES.locals; held = empty; fresh = false; hint = 0; taken = 0 }
 
 -- A THREAD'S PART in the history: from its first moment on it did this, with this answer; and of its events the history has those, the ones at the close, and no others
 pub record PlaysPart {A : Type 0} (whole : History) (t : ℕ) (story : Deed A) (x : A) (closing : List Act) : Type 0 where
   pub seen : History
-  pub left : Moment
+  pub left : ThreadState
   pub plays : story (first_moment t) (Ok x) left
   pub saw : left.pass ≡ seen_by t seen
   pub begins : IsPrefix seen whole

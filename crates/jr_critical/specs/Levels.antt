@@ -16,7 +16,7 @@ use Rattle.jr_model.specs.Objects.{region_get, region_kind, region_length, regio
 use Rattle.jr_steps.specs.declared.known.Known.{Known}
 use Rattle.jr_steps.specs.declared.steps.Steps.{Ghosts}
 use Rattle.jr_steps.specs.Knowing.{Facts, Leads, MayKnow, state_of, keeps, lets_go, Holds}
-use Rattle.jr_gate.specs.Performing.{IsAsBefore, IsMade, Performed, moment}
+use Rattle.jr_gate.specs.Performing.{IsAsBefore, IsMade, Performed, thread_state}
 use Rattle.jr_gate.specs.Stays.{IsOwnStay}
 use Rattle.jr_heap.specs.Heap.{HoldsHeader, Learns}
 use Rattle.jr_frames.specs.declared.held.Held.{Held}
@@ -111,7 +111,7 @@ module _ {S : Type 0} (facts : S → Facts) where
   -- A REGION WAS OPENED, or refused: for whatever was known something is known from which the thread did what the call does, with this answer, by at most one operation beside its acts. The stay goes on where it was opened, and has ended where it was refused
   pub record HasOpened (old new : S) (f : Frames) (call : State → Call ℕ) (answer : Result Levels Fault) : Type 0 where
     pub stands_is : IsAsBefore (record ((facts old).stands) { role = role_opened answer }) (facts new).stands
-    pub ran : Leads facts old new (Holds f) (λ k k'. IsMade 1 (moment (facts old) k f) (moment (facts new) k' f) (call (state_of k')) (object_opened answer)) (λ j k. LearnsFirst answer j k × Holds f k)
+    pub ran : Leads facts old new (Holds f) (λ k k'. IsMade 1 (thread_state (facts old) k f) (thread_state (facts new) k' f) (call (state_of k')) (object_opened answer)) (λ j k. LearnsFirst answer j k × Holds f k)
 
   -- the same, by a reference word that was read
   abbrev pub Opens : S → S → Frames → ℕ → (Config → ℕ → ℕ → State → Word → Call ℕ) → Result Levels Fault → Type 0
@@ -128,12 +128,12 @@ module _ {S : Type 0} (facts : S → Facts) where
   -- THE LAST LEVEL WAS GIVEN UP: with the first one the stay has ended, by one operation, and else no step was taken
   pub record GivesUpLast (old new : S) (f : Frames) (v : Levels) (left : Option Levels) : Type 0 where
     pub stands_is : IsAsBefore (record ((facts old).stands) { role = role_left left }) (facts new).stands
-    pub ran : Leads facts old new (KnowsLevels v f) (λ k k'. IsMade 0 (moment (facts old) k f) (moment (facts new) k' f) (region_release (length (objects_of v))) (Ok tt)) (λ j k. HoldsLeft left j k × Holds f k)
+    pub ran : Leads facts old new (KnowsLevels v f) (λ k k'. IsMade 0 (thread_state (facts old) k f) (thread_state (facts new) k' f) (region_release (length (objects_of v))) (Ok tt)) (λ j k. HoldsLeft left j k × Holds f k)
 
   -- ALL LEVELS WERE GIVEN UP at once: the stay has ended, by one operation, as where the first alone is given up
   pub record GivesUpAll (old new : S) (f : Frames) (v : Levels) : Type 0 where
     pub stands_is : IsAsBefore (record ((facts old).stands) { role = Outside }) (facts new).stands
-    pub ran : Leads facts old new (KnowsLevels v f) (λ k k'. IsMade 0 (moment (facts old) k f) (moment (facts new) k' f) (region_release 1) (Ok tt)) (λ j k. lets_go j k × Holds f k)
+    pub ran : Leads facts old new (KnowsLevels v f) (λ k k'. IsMade 0 (thread_state (facts old) k f) (thread_state (facts new) k' f) (region_release 1) (Ok tt)) (λ j k. lets_go j k × Holds f k)
 
 -- the same of the steps and frames that a thread holds together, as contracts say it
 module _ {S : Type 0} {G : Ghosts S} where

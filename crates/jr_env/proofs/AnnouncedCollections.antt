@@ -25,7 +25,7 @@ use Rattle.jr_steps.specs.Knowing.{Facts, Standing, Took, Went, Takes, anything,
 use Rattle.jr_steps.proofs.StepFacts.{goes_did}
 use Rattle.jr_gate.specs.Acting.{ActedTo, KeepsInTwo}
 use Rattle.jr_gate.specs.Announcing.{WasNotAnnounced}
-use Rattle.jr_gate.specs.Performing.{hint_from, moment, IsMade}
+use Rattle.jr_gate.specs.Performing.{hint_from, thread_state, IsMade}
 use Rattle.jr_gate.proofs.SameRoom.{as_before}
 use Rattle.jr_gate.proofs.Spending.{made_of, spend_acts, spend_step, Spending}
 use Rattle.jr_frames.specs.Table.{Table}
@@ -126,7 +126,7 @@ module _ {S : Type 0} {facts : S → Facts} where
             record {
               refused = m.refused;
               few = m.few;
-              shutting = moment (facts a) y.2.shutting t.frames;
+              shutting = thread_state (facts a) y.2.shutting t.frames;
               announced = y.2.announced;
               taken = y.2.taken;
               cleared = m.cleared;

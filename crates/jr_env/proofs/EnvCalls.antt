@@ -12,7 +12,7 @@ use Rattle.jr_model.specs.Frames.{Frames}
 use Rattle.jr_model.specs.Calls.{Call}
 use Rattle.jr_model.specs.Checks.{Word}
 use Rattle.jr_steps.specs.Knowing.{AreOf, Facts, state_of}
-use Rattle.jr_gate.specs.Performing.{moment, IsMade}
+use Rattle.jr_gate.specs.Performing.{thread_state, IsMade}
 use Rattle.jr_frames.specs.Table.{Table}
 use Rattle.jr_frames.specs.OverSteps.{CallsWhole}
 use Rattle.jr_env.specs.Works.{Completes}
@@ -36,8 +36,8 @@ module _ {S : Type 0} {facts : S → Facts} {a b : S} {A : Type 0} where
       did = λ k s m.
           let x = p.ran k s m in
           let i = fits a k s in
-          let old = moment (facts a) k f in
-          let new = moment (facts b) x.0 g in
+          let old = thread_state (facts a) k f in
+          let new = thread_state (facts b) x.0 g in
           let s' = state_of x.0 in (
             x.0,
             x.1,

@@ -3,7 +3,7 @@ use Rattle.std.proofs.Common.{◌≡◌, ◌<◌, ◌≤◌, ◌-◌, ◌+◌, �
 use Rattle.jr_word.specs.declared.fault.Fault.{Fault}
 use Rattle.jr_model.specs.Frames.{Frames}
 use Rattle.jr_steps.specs.Knowing.{Facts}
-use Rattle.jr_gate.specs.Performing.{Moment}
+use Rattle.jr_gate.specs.Performing.{ThreadState}
 use Rattle.jr_gate.proofs.SameRoom.{still_before}
 use Rattle.jr_weak.specs.declared.collecting.Collected.{Collected}
 use Rattle.jr_env.specs.Collections.{collection}
@@ -15,11 +15,11 @@ module _ {S : Type 0} {facts : S → Facts} where
   pub outside_by : {A B : Type 0} {a b : S} {f g : Frames} {one : Deed A} {two : Deed B} {once : Result A Fault} {answer : Result B Fault} → (DoesDeed facts a b f g one once → DoesDeed facts a b f g two answer) → DoesOutside facts a b f g one once → DoesOutside facts a b f g two answer
   outside_by step p = record { does = λ out. step (p.does out); outside = p.outside }
 
-  does_as : {A B : Type 0} {a b : S} {f g : Frames} {one : Deed A} {two : Deed B} {once : Result A Fault} {answer : Result B Fault} → ((p q : Moment) → one p once q → two p answer q) → DoesOutside facts a b f g one once → DoesOutside facts a b f g two answer
+  does_as : {A B : Type 0} {a b : S} {f g : Frames} {one : Deed A} {two : Deed B} {once : Result A Fault} {answer : Result B Fault} → ((p q : ThreadState) → one p once q → two p answer q) → DoesOutside facts a b f g one once → DoesOutside facts a b f g two answer
   does_as w = outside_by (λ d. record { stands_is = d.stands_is; did = λ k s h. let x = d.did k s h in (x.0, x.1, x.2, w _ _ x.3) })
 
   -- two deeds, one after the other
-  does_both : {A B C : Type 0} {a b c : S} {f g h : Frames} {one : Deed A} {two : Deed B} {all : Deed C} {once : Result A Fault} {next : Result B Fault} {answer : Result C Fault} → ((p m q : Moment) → one p once m → two m next q → all p answer q) → DoesOutside facts a b f g one once → DoesOutside facts b c g h two next → DoesOutside facts a c f h all answer
+  does_both : {A B C : Type 0} {a b c : S} {f g h : Frames} {one : Deed A} {two : Deed B} {all : Deed C} {once : Result A Fault} {next : Result B Fault} {answer : Result C Fault} → ((p m q : ThreadState) → one p once m → two m next q → all p answer q) → DoesOutside facts a b f g one once → DoesOutside facts b c g h two next → DoesOutside facts a c f h all answer
   does_both w p q = record {
     does = λ out.
         let d = p.does out in
@@ -53,7 +53,7 @@ module _ {S : Type 0} {facts : S → Facts} where
     pub was_collected : {a b c d : S} {f g h i : Frames} {once answer : Result A Fault} (n : ℕ) (x : Collected) → DoesOutside facts a b f g (made_again n deed) once → lacks_room once ≡ true → DoesOutside facts b c g h collection (Ok x) → DoesOutside facts c d h i (made_again n deed) answer → DoesOutside facts a d f i (made_collecting n deed) answer
     was_collected {once = once} {answer = answer} n x first is between second =
         does_both (λ p m q t rest. collected t is rest.1 rest.2) first
-        (does_both {all = λ p r q. (m : Moment) × collection p (Ok x) m × made_again n deed m r q} (λ p m q c t. (m, c, t)) between second)
+        (does_both {all = λ p r q. (m : ThreadState) × collection p (Ok x) m × made_again n deed m r q} (λ p m q c t. (m, c, t)) between second)
 
     pub was_kept_out : {a b c : S} {f g h : Frames} {once : Result A Fault} (n : ℕ) (e : Fault) → DoesOutside facts a b f g (made_again n deed) once → lacks_room once ≡ true → DoesOutside facts b c g h collection (Err e) → DoesOutside facts a c f h (made_collecting n deed) (Err e)
     was_kept_out n e first is between = does_both (λ p m q t c. kept_out t is c) first between

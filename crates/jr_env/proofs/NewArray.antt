@@ -30,7 +30,7 @@ use Rattle.jr_frames.specs.Table.{Table, IsNext}
 use Rattle.jr_frames.specs.Ready.{StandsReady}
 use Rattle.jr_frames.specs.OverSteps.{Calls, FoundPresent, Resolves}
 use Rattle.jr_frames.proofs.RoomFor.{room_at}
-use Rattle.jr_gate.specs.Performing.{Moment, Performed, hint_from, moment}
+use Rattle.jr_gate.specs.Performing.{ThreadState, Performed, hint_from, thread_state}
 use Rattle.jr_gate.proofs.HandedOn.{handed_on}
 use Rattle.jr_gate.proofs.SameRoom.{as_before, but_fresh, still_before}
 use Rattle.jr_gate.proofs.Spending.{Spending, made_of, spending, spend_acts, spend_last, spend_more, spend_then}
@@ -111,7 +111,7 @@ pub all_words : (kind : Kind) (n v : ℕ) (k : Known) → IsWordNow kind v k →
 all_words kind n v k w i u there = subst (λ z. IsWordNow kind z k) (sym (among n v i u there)) w
 
 -- so much is taken at the most, and so no more than this
-spend_up : {p q : Moment} (m n : ℕ) → m ≤ n → Spending m p q → Spending n p q
+spend_up : {p q : ThreadState} (m n : ℕ) → m ≤ n → Spending m p q → Spending n p q
 spend_up m n l s =
     let few = s.spent.most in
     record { acts = s.acts; did = s.did; spent = record { without = s.spent.without; most = omega arith; taken = s.spent.taken; fresh = s.spent.fresh; hint = s.spent.hint } }
@@ -125,7 +125,7 @@ record IsReadied {S : Type 0} (facts : S → Facts) (a c : S) (kind : Kind) (pla
   pub quiet : Did (view mid) (view now) []
   pub begun : History
   pub window : IsWindow (view mid) (view now) [] begun
-  pub spends : Spending (1 + length ws) (moment (facts a) k f) (moment (facts c) now f)
+  pub spends : Spending (1 + length ws) (thread_state (facts a) k f) (thread_state (facts c) now f)
   pub holds : Holds f k → Holds f now
   pub ready : AreWords (state_of k) kind ws → IsReady kind place (length ws) now
   pub has : own_words place (length ws) now ≡ ws
@@ -155,8 +155,8 @@ module _ {S : Type 0} {facts : S → Facts} {a b c : S} {place : ℕ} {ws : List
         quiet = quiet;
         begun = q.begun;
         window = subst (λ xs. IsWindow (view x.0) (view y.0) xs q.begun) q.is.0 q.window;
-        spends = let t1 : Spending (reserve_steps (length ws) - length r.acts) (moment (facts a) k f) (moment (facts b) x.0 f) = spend_acts f f (reserve_steps (length ws) - length r.acts) r.acts (reserve_steps (length ws) - length r.acts) (omega arith) r.did (omega arith) (ap (λ (z : Standing). z.fresh) sb ∙ sym (acts.fresh (facts a).stands.fresh)) (won.hint_is ∙ sym (acts.hint k.config.slots (facts a).hint)) in
-            let t2 : Spending (length ws) (moment (facts b) x.0 f) (moment (facts c) y.0 f) = spend_acts f f (length ws) [] (length ws) (omega arith) quiet (omega arith) (ap (λ (z : Standing). z.fresh) sc) filled.hint_is in
+        spends = let t1 : Spending (reserve_steps (length ws) - length r.acts) (thread_state (facts a) k f) (thread_state (facts b) x.0 f) = spend_acts f f (reserve_steps (length ws) - length r.acts) r.acts (reserve_steps (length ws) - length r.acts) (omega arith) r.did (omega arith) (ap (λ (z : Standing). z.fresh) sb ∙ sym (acts.fresh (facts a).stands.fresh)) (won.hint_is ∙ sym (acts.hint k.config.slots (facts a).hint)) in
+            let t2 : Spending (length ws) (thread_state (facts b) x.0 f) (thread_state (facts c) y.0 f) = spend_acts f f (length ws) [] (length ws) (omega arith) quiet (omega arith) (ap (λ (z : Standing). z.fresh) sc) filled.hint_is in
             spend_up ((reserve_steps (length ws) - length r.acts) + length ws) (1 + length ws) (omega arith) (spend_then t1 t2);
         holds = λ m. holds_did x.0 y.0 f [] quiet tt (holds_did k x.0 f r.acts r.did acts.spares m);
         ready = λ m. record { long = long; words = subst (AreWords (state_of y.0) kind) (sym y.3.0.words) (λ i v there. word_later x.0 y.0 [] quiet ((fits b x.0 x.1).role ∙ (ap (λ (z : Standing). z.role) sb ∙ within)) tt kind v (word_later k x.0 r.acts r.did role acts.stays kind v (m i v there))) };

@@ -25,7 +25,7 @@ use Rattle.jr_steps.specs.declared.known.Known.{Known}
 use Rattle.jr_steps.specs.Knowing.{AreOf, Facts, Standing, view, anything, keeps, HasObject, HasOptional, Holds, MayKnow, Took, fresh_from}
 use Rattle.jr_steps.proofs.StepFacts.{goes_did}
 use Rattle.jr_frames.specs.Table.{Table, IsNext, IsOnly}
-use Rattle.jr_gate.specs.Performing.{Performed, hint_from, moment}
+use Rattle.jr_gate.specs.Performing.{Performed, hint_from, thread_state}
 use Rattle.jr_heap.specs.Heap.{Called, IsReady, Publishes, own_words, by_between, publish_steps}
 use Rattle.jr_frames.specs.OverSteps.{Calls}
 use Rattle.jr_env.specs.Works.{LearnsMade, LearnsNew, Refers, object_made}
@@ -82,7 +82,7 @@ module _ {S : Type 0} (facts : S → Facts) where
 
 module _ {S : Type 0} {facts : S → Facts} {a b : S} (same : (facts b).stands ≡ (facts a).stands) (kind : Kind) (place n : ℕ) where
   -- what a publication takes
-  spent_publishing : {answer : Result ℕ Fault} (p : Publishing facts a b kind place n answer) (k : Known) (s : (facts a).knows k) (m : IsReady kind place n k) (f : Frames) → Spending (facts a).stands.config.objects (moment (facts a) k f) (moment (facts b) (p.ran k s m).0 f)
+  spent_publishing : {answer : Result ℕ Fault} (p : Publishing facts a b kind place n answer) (k : Known) (s : (facts a).knows k) (m : IsReady kind place n k) (f : Frames) → Spending (facts a).stands.config.objects (thread_state (facts a) k f) (thread_state (facts b) (p.ran k s m).0 f)
   spent_publishing {answer} p k s m f =
       let x = p.ran k s m in
       let r = x.2 f in

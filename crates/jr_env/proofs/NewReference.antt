@@ -17,7 +17,7 @@ use Rattle.jr_model.proofs.Agreement.{spares_places}
 use Rattle.jr_model.proofs.Runs.{ran_done, ran_then, ran_err, ran_give, did_legal, ran_created, ran_row_full}
 use Rattle.jr_steps.specs.declared.known.Known.{Known}
 use Rattle.jr_steps.specs.Knowing.{AreOf, Facts, Standing, view, fresh_from, HasObject, Holds, MayKnow}
-use Rattle.jr_gate.specs.Performing.{IsAsBefore, Moment, hint_from, moment, IsMade}
+use Rattle.jr_gate.specs.Performing.{IsAsBefore, ThreadState, hint_from, thread_state, IsMade}
 use Rattle.jr_row.specs.Searching.{Searched, TwoEach, search_acts}
 use Rattle.jr_frames.specs.OverSteps.{Resolves, Calls}
 use Rattle.jr_gate.proofs.SameRoom.{as_before, still_before}
@@ -50,8 +50,8 @@ search_hint slots hint o (l ∷ ls) None = search_hint slots hint o ls None
 search_hint slots hint o (l ∷ ls) (Some h) = search_hint slots hint o ls (Some h)
 
 -- a call, and then a search
-spent : {S : Type 0} {facts : S → Facts} {A : Type 0} {b c : S} {p : Moment} {k : Known} {call : Call A} {answer : Result A Fault} {kind : RefKind} {o from to : ℕ} {order : List (ℕ × Bool) → Option Handle → Type 0} {made : Option Handle} (f : Frames)
-    → k.config ≡ (facts b).stands.config → (facts c).hint ≡ hint_then (facts b).stands.config.slots (facts b).hint made → IsMade 0 p (moment (facts b) k f) call answer → (q : Searched facts b c kind o order from to made) (s : (facts b).knows k) (m : HasObject o k) → Spending 0 p (moment (facts c) (q.did k s m).0 f)
+spent : {S : Type 0} {facts : S → Facts} {A : Type 0} {b c : S} {p : ThreadState} {k : Known} {call : Call A} {answer : Result A Fault} {kind : RefKind} {o from to : ℕ} {order : List (ℕ × Bool) → Option Handle → Type 0} {made : Option Handle} (f : Frames)
+    → k.config ≡ (facts b).stands.config → (facts c).hint ≡ hint_then (facts b).stands.config.slots (facts b).hint made → IsMade 0 p (thread_state (facts b) k f) call answer → (q : Searched facts b c kind o order from to made) (s : (facts b).knows k) (m : HasObject o k) → Spending 0 p (thread_state (facts c) (q.did k s m).0 f)
 spent {facts = facts} {b = b} {c = c} {k = k} {o = o} {made = made} f same next x q s m =
     let y = q.did k s m in
     let count = y.6 in

@@ -9,14 +9,14 @@ use Rattle.jr_model.specs.State.{State}
 use Rattle.jr_model.specs.History.{History}
 use Rattle.jr_model.specs.Windows.{IsWindow}
 use Rattle.jr_steps.specs.Holdings.{empty}
-use Rattle.jr_gate.specs.Performing.{Moment}
+use Rattle.jr_gate.specs.Performing.{ThreadState}
 use Rattle.jr_census.specs.declared.taking.Census.{Census}
 use Rattle.jr_census.specs.Taking.{IsCensusOf, IsDumpOf, IsTold, counting_steps, noting_steps}
 use Rattle.jr_env.specs.Collections.{IsKeptOut}
 use Rattle.jr_env.specs.Deeds.{Deed}
 
 -- IT WAS TOLD: what is told is so of the state at the step that shut the gate. The thread shut it and opened it again, in its own window, and did nothing else. It takes no more operations than the sizes of the room say. The frames and the hint stay as they are, and afterwards the thread holds nothing
-pub record WasTold (most : Config → ℕ) (tells : Config → ℕ → State → Type 0) (old new : Moment) : Type 0 where
+pub record WasTold (most : Config → ℕ) (tells : Config → ℕ → State → Type 0) (old new : ThreadState) : Type 0 where
   pub told : IsTold old.pass new.pass tells
   pub begun : History
   pub window : IsWindow old.pass new.pass (Gate Shut ∷ Gate Reopen ∷ []) begun

@@ -12,7 +12,7 @@ use Rattle.jr_model.specs.History.{Did}
 use Rattle.jr_model.specs.Parts as parts
 use Rattle.jr_steps.specs.declared.steps.Steps.{Ghosts}
 use Rattle.jr_steps.specs.Holdings.{empty}
-use Rattle.jr_gate.specs.Performing.{Moment, IsMade}
+use Rattle.jr_gate.specs.Performing.{ThreadState, IsMade}
 use Rattle.jr_weak.specs.declared.collecting.Collected.{Collected}
 use Rattle.jr_weak.specs.Counting.{collection_steps}
 use Rattle.jr_weak.specs.declared.marker.Marker.{Marker}
@@ -21,7 +21,7 @@ use Rattle.jr_env.specs.declared.env.Env.{Env}
 use Rattle.jr_env.specs.Deeds.{Deed}
 
 -- A COLLECTION WAS MADE: the machine's, which clears and drops so many, all that was to be in the state at its shut, and leaves so many words used. It takes no more operations than the sizes of the room say. The frames and the hint stay as they are, and afterwards the thread holds nothing
-pub record IsCollected (old new : Moment) (c : Collected) : Type 0 where
+pub record IsCollected (old new : ThreadState) (c : Collected) : Type 0 where
   pub cleared : List Handle
   pub dropped : List ℕ
   pub clears : length cleared ≡ c.cleared
@@ -34,7 +34,7 @@ pub record IsCollected (old new : Moment) (c : Collected) : Type 0 where
   pub lets_go : new.held ≡ empty
 
 -- IT WAS REFUSED: at its one operation so many threads were not outside, at least one; and nothing has changed
-pub record IsKeptOut (old new : Moment) (e : Fault) : Type 0 where
+pub record IsKeptOut (old new : ThreadState) (e : Fault) : Type 0 where
   pub count : ℕ
   pub busy : e ≡ Busy count
   pub some : 1 ≤ count
@@ -47,10 +47,10 @@ collection old (Ok c) new = IsCollected old new c
 collection old (Err e) new = IsKeptOut old new e
 
 -- AN ANNOUNCED COLLECTION WAS MADE: after fewer refused shuts than there were tries, by one operation for each act up to its shut, and from then on the machine's as above, by no more than the sizes of the room say. From the announcement to the reopening nobody entered
-pub record IsCollectedAnnounced (tries : ℕ) (old new : Moment) (c : Collected) : Type 0 where
+pub record IsCollectedAnnounced (tries : ℕ) (old new : ThreadState) (c : Collected) : Type 0 where
   pub refused : List ℕ
   pub few : length refused < tries
-  pub shutting : Moment
+  pub shutting : ThreadState
   pub announced : Did old.pass shutting.pass (announcing_acts refused)
   pub taken : shutting.taken ≡ old.taken + length (announcing_acts refused)
   pub cleared : List Handle
@@ -66,7 +66,7 @@ pub record IsCollectedAnnounced (tries : ℕ) (old new : Moment) (c : Collected)
   pub lets_go : new.held ≡ empty
 
 -- IT WAS TAKEN BACK: each try was refused, the last with this count. From the announcement to its end nobody entered, and afterwards the thread holds nothing
-pub record IsTakenBack (tries : ℕ) (new : Moment) : Type 0 where
+pub record IsTakenBack (tries : ℕ) (new : ThreadState) : Type 0 where
   pub refused : List ℕ
   pub count : ℕ
   pub all : length refused + 1 ≡ tries
@@ -74,7 +74,7 @@ pub record IsTakenBack (tries : ℕ) (new : Moment) : Type 0 where
   pub lets_go : new.held ≡ empty
 
 -- IT GOT NO TURN: it was taken back, or it was not announced, since another thread kept the gate closed or moved its count, and then the thread holds what it held
-pub record IsGivenUp (tries : ℕ) (old new : Moment) (e : Fault) : Type 0 where
+pub record IsGivenUp (tries : ℕ) (old new : ThreadState) (e : Fault) : Type 0 where
   pub made : IsMade 0 old new (parts.collect_announced tries) (Err e)
   pub ended : (new.held ≡ old.held) ⊎ IsTakenBack tries new
 

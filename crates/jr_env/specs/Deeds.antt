@@ -19,11 +19,11 @@ use Rattle.jr_model.specs.Checks.{Word}
 use Rattle.jr_steps.specs.Holdings.{empty}
 use Rattle.jr_steps.specs.Knowing.{Facts, Leads, Holds}
 use Rattle.jr_frames.specs.Reading.{IsReadAs}
-use Rattle.jr_gate.specs.Performing.{IsAsBefore, Moment, moment, IsMade}
+use Rattle.jr_gate.specs.Performing.{IsAsBefore, ThreadState, thread_state, IsMade}
 
 -- from an old moment this answer and the new moment may come
 abbrev pub Deed : Type 0 → Type 1
-Deed A = Moment → Result A Fault → Moment → Type 0
+Deed A = ThreadState → Result A Fault → ThreadState → Type 0
 
 -- a call of the env: its events, and the answer that it may have; it takes one operation for each event, and at most so many more; and afterwards the thread holds nothing
 abbrev pub call_by : {A : Type 0} → (Config → ℕ) → (Config → ℕ → ℕ → State → Call A) → Deed A
@@ -66,7 +66,7 @@ infixl 1 ◌>>◌
 -- one and then the other; a refusal ends the deed
 abbrev pub ◌>>=◌ : {A B : Type 0} → Deed A → (A → Deed B) → Deed B
 ◌>>=◌ {A} first next old answer new =
-    ((x : A) × (mid : Moment) × first old (Ok x) mid × next x mid answer new)
+    ((x : A) × (mid : ThreadState) × first old (Ok x) mid × next x mid answer new)
     ⊎ ((e : Fault) × (answer ≡ Err e) × first old (Err e) new)
 
 abbrev pub ◌>>◌ : {A B : Type 0} → Deed A → Deed B → Deed B
@@ -203,7 +203,7 @@ module _ {S : Type 0} (facts : S → Facts) where
   -- the deed was done: for whatever was known, something is known that it may lead to
   pub record DoesDeed {A : Type 0} (old new : S) (before after : Frames) (deed : Deed A) (answer : Result A Fault) : Type 0 where
     pub stands_is : IsAsBefore (facts old).stands (facts new).stands
-    pub did : Leads facts old new (Holds before) (λ k k'. Holds after k') (λ k k'. deed (moment (facts old) k before) answer (moment (facts new) k' after))
+    pub did : Leads facts old new (Holds before) (λ k k'. Holds after k') (λ k k'. deed (thread_state (facts old) k before) answer (thread_state (facts new) k' after))
 
   -- the deed was done by a call, where the thread stood outside; and afterwards it stands outside in any case
   pub record DoesOutside {A : Type 0} (old new : S) (before after : Frames) (deed : Deed A) (answer : Result A Fault) : Type 0 where

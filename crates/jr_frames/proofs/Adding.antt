@@ -11,11 +11,11 @@ use Rattle.jr_model.specs.Frames.{IsAdded, with_last}
 use Rattle.jr_frames.specs.declared.place.Place.{Place}
 use Rattle.jr_frames.specs.declared.rings.Link.{Link}
 use Rattle.jr_frames.specs.declared.rings.Rings.{Rings}
-use Rattle.jr_frames.specs.declared.frames.Frames.TheInside.{Inside}
+use Rattle.jr_frames.specs.declared.frames.Frames.TheInside.{Inside as Fields}
 use Rattle.jr_frames.specs.Table.{IsNext}
 use Rattle.jr_frames.specs.Rings.{newer_at, older_at, IsJoined, IsPutLast, AreRings}
 use Rattle.jr_frames.specs.Places.{given_of, unused, place_at, is_taken, ref_at}
-use Rattle.jr_frames.specs.Shown.{times, flat, table_of, IsArranged}
+use Rattle.jr_frames.specs.Arrangements.{times, flat, table_of, IsArranged}
 use Rattle.jr_frames.proofs.Times.{times_append, times_here, times_there, without, times_without_other, times_without_self, length_without}
 use Rattle.jr_frames.proofs.LastRing.{with_end, length_with_end, times_with_end, map_with_end, map_without_none, last_before, rings_last}
 use Rattle.jr_frames.proofs.Showing.{times_below}
@@ -35,7 +35,7 @@ idle_there : (p n : ℕ) (b : Bool) → p < n → b ≡ true → (nat_le (p + 1)
 idle_there p n true l e = grind (arith, nat_tests)
 idle_there p n false l e = absurd cc
 
-module _ (a : Inside) (free : List ℕ) (order : List (List ℕ)) (is : IsArranged a free order) (h : Handle) (next : IsNext (table_of a order) h) where
+module _ (a : Fields) (free : List ℕ) (order : List (List ℕ)) (is : IsArranged a free order) (h : Handle) (next : IsNext (table_of a order) h) where
   pub next_index : h.index < length a.places.items
   next_index = let l = next.place in rw length-map at l
 
@@ -59,7 +59,7 @@ pub record HasGiven (old : Place) (o : ℕ) (new : Place) : Type 0 where
   pub given : given_of new ≡ given_of old + 1
   pub object : new.object ≡ o
 
-module _ (a : Inside) (free : List ℕ) (order : List (List ℕ)) (is : IsArranged a free order) (h : Handle) (next : IsNext (table_of a order) h) (mid : List Link) (joined : IsJoined a.rings.links.items (older_at a.rings.links.items h.index) (newer_at a.rings.links.items h.index) mid) where
+module _ (a : Fields) (free : List ℕ) (order : List (List ℕ)) (is : IsArranged a free order) (h : Handle) (next : IsNext (table_of a order) h) (mid : List Link) (joined : IsJoined a.rings.links.items (older_at a.rings.links.items h.index) (newer_at a.rings.links.items h.index) mid) where
   others_out : AreRings mid (length a.places.items) (without h.index free ∷ order)
   others_out = subst (λ o. AreRings mid (length a.places.items) (without h.index free ∷ o)) (map_without_none h.index order (not_standing a free order is h next))
       (rings_out a free order is h.index (in_rings a free order is h next) mid joined)

@@ -10,15 +10,15 @@ use Rattle.jr_model.specs.Frames.{Frames, object_at}
 use Rattle.jr_model.proofs.Updates.{eq_true, eq_false, eq_self, eq_other}
 use Rattle.jr_frames.specs.declared.place.Place.{Place}
 use Rattle.jr_frames.specs.declared.rings.Rings.{Rings}
-use Rattle.jr_frames.specs.declared.frames.Frames.TheInside.{Inside}
+use Rattle.jr_frames.specs.declared.frames.Frames.TheInside.{Inside as Fields}
 use Rattle.jr_frames.specs.Table.{IsOnly}
 use Rattle.jr_frames.specs.Places.{given_of, unused, place_at, ref_at}
-use Rattle.jr_frames.specs.Shown.{times, flat, table_of, IsArranged}
+use Rattle.jr_frames.specs.Arrangements.{times, flat, table_of, IsArranged}
 use Rattle.jr_frames.proofs.Times.{not_first, none_left, none_right}
 use Rattle.jr_frames.proofs.Places.{object_in, object_at_place}
 
 -- the parts with others in place of those that change
-abbrev pub changed : Inside → ℕ → ArrayVec Place → Rings → Inside
+abbrev pub changed : Fields → ℕ → ArrayVec Place → Rings → Fields
 changed a free places rings = record { thread = a.thread; last = a.last; free = free; places = places; rings = rings }
 
 -- what holds of the new place, and of the others, holds of each place after the change
@@ -66,7 +66,7 @@ with_place_is places seen i j change same is =
     items-with_items places (slice_set seen i (change (place_at seen i))) (length-set seen i _ ∙ ap length same)
     ∙ (ap (λ ps. slice_set ps i (change (place_at ps i))) same ∙ ap (λ k. slice_set places.items k (change (place_at places.items k))) is)
 
-module _ (a : Inside) (free : List ℕ) (order : List (List ℕ)) (is : IsArranged a free order) (p : ℕ) (l : p < length a.places.items) (x : Place) (places : ArrayVec Place) (set : places.items ≡ slice_set a.places.items p x) where
+module _ (a : Fields) (free : List ℕ) (order : List (List ℕ)) (is : IsArranged a free order) (p : ℕ) (l : p < length a.places.items) (x : Place) (places : ArrayVec Place) (set : places.items ≡ slice_set a.places.items p x) where
   pub changed_only : (free_now : List ℕ) (order_now : List (List ℕ)) (n : ℕ) (rings : Rings) → IsArranged (changed a n places rings) free_now order_now → IsOnly (table_of a order).frames p (object_in x) (table_of (changed a n places rings) order_now).frames
   changed_only free_now order_now n rings now q =
       object_at_place (changed a n places rings) free_now order_now now q

@@ -11,10 +11,10 @@ use Rattle.jr_model.proofs.Updates.{eq_true, handle_self}
 use Rattle.jr_frames.specs.declared.place.Place.{Place}
 use Rattle.jr_frames.specs.declared.rings.Link.{Link}
 use Rattle.jr_frames.specs.declared.rings.Rings.{Rings}
-use Rattle.jr_frames.specs.declared.frames.Frames.TheInside.{Inside}
+use Rattle.jr_frames.specs.declared.frames.Frames.TheInside.{Inside as Fields}
 use Rattle.jr_frames.specs.Rings.{newer_at, older_at, IsJoined, IsPutFirst, AreRings}
 use Rattle.jr_frames.specs.Places.{given_of, unused, place_at, is_taken, ref_at}
-use Rattle.jr_frames.specs.Shown.{times, flat, table_of, IsArranged}
+use Rattle.jr_frames.specs.Arrangements.{times, flat, table_of, IsArranged}
 use Rattle.jr_frames.proofs.Times.{times_append, times_here, times_there, without, without_none, times_without_other, times_without_self, flat_without}
 use Rattle.jr_frames.proofs.Following.{next_back}
 use Rattle.jr_frames.proofs.Putting.{first_keeps, follow_first, rings_other}
@@ -43,10 +43,10 @@ filter_frames show keep passes alike [] = refl
 filter_frames show keep passes alike (xs ∷ rest) = frame_same _ _ _ _ (filter_refs show keep passes alike xs) (filter_frames show keep passes alike rest)
 
 -- the place of a handle without its reference
-abbrev pub emptied : Inside → ℕ → Place
+abbrev pub emptied : Fields → ℕ → Place
 emptied a p = record { low = (place_at a.places.items p).low; high = (place_at a.places.items p).high; object = 0 }
 
-module _ (a : Inside) (free : List ℕ) (order : List (List ℕ)) (is : IsArranged a free order) (h : Handle) (some : IsSome (object_of (table_of a order).frames h)) where
+module _ (a : Fields) (free : List ℕ) (order : List (List ℕ)) (is : IsArranged a free order) (h : Handle) (some : IsSome (object_of (table_of a order).frames h)) where
   pub standing_taken : is_taken a.places.items h.index ≡ true
   standing_taken = (stands a free order is h some).0
 

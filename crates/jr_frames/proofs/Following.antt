@@ -4,7 +4,7 @@ use Rattle.std.specs.List.{AllByRecursion}
 use Rattle.jr_model.proofs.Updates.{eq_true, eq_self, eq_other}
 use Rattle.jr_frames.specs.declared.rings.Link.{Link}
 use Rattle.jr_frames.specs.Rings.{newer_at, older_at, Follow, until}
-use Rattle.jr_frames.specs.Shown.{times}
+use Rattle.jr_frames.specs.Arrangements.{times}
 
 pub pick_self : (q : ℕ) (x y : ℕ) → cond (q == q) x y ≡ x
 pick_self q x y = ap (λ b. cond b x y) (eq_self q)

@@ -23,7 +23,7 @@ use Rattle.jr_steps.specs.declared.known.Known.{Known}
 use Rattle.jr_steps.specs.declared.known.Holdings.{Holdings}
 use Rattle.jr_steps.specs.Holdings.{header_in, with_header}
 use Rattle.jr_steps.specs.Knowing.{Facts, Standing, keeps, view, state_of, HasObject, Holds, MayKnow, ShowsObject}
-use Rattle.jr_gate.specs.Performing.{Performed, moment}
+use Rattle.jr_gate.specs.Performing.{Performed, thread_state}
 use Rattle.jr_gate.proofs.HandedOn.{handed_on}
 use Rattle.jr_gate.proofs.SameRoom.{as_before, still_before}
 use Rattle.jr_gate.proofs.Spending.{Spending, made_of, spending, spend_acts, spend_last, spend_more, spend_then}
@@ -121,7 +121,7 @@ ran_header s o h a = record { acts = a.acts; did = a.did; is = (a.is.0, a.is.1, 
 module _ {S : Type 0} {facts : S → Facts} {b c : S} {h : HeaderParts} {o : ℕ} where
   -- the look at a header takes one step, without an act
   pub spend_look : (f : Frames) → (facts c).stands ≡ (facts b).stands → (q : Called facts b c (HasObject o) (λ j k. header (state_of k) o) (Ok (h.kind, h.length)) (by_steps 1 (Learns o h))) (k : Known) (s : (facts b).knows k) (m : HasObject o k)
-      → Spending 1 (moment (facts b) k f) (moment (facts c) (q.ran k s m).0 f)
+      → Spending 1 (thread_state (facts b) k f) (thread_state (facts c) (q.ran k s m).0 f)
   spend_look f same q k s m =
       let y = q.ran k s m in
       let r = y.2 f in

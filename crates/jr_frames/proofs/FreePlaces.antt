@@ -9,11 +9,11 @@ use Rattle.jr_model.specs.Maps.{sum_below}
 use Rattle.jr_model.specs.Frames.{is_free, free_places}
 use Rattle.jr_model.proofs.Lengths.{sum_same}
 use Rattle.jr_frames.specs.declared.place.Place.{Place}
-use Rattle.jr_frames.specs.declared.frames.Frames.TheInside.{Inside}
+use Rattle.jr_frames.specs.declared.frames.Frames.TheInside.{Inside as Fields}
 use Rattle.jr_frames.specs.Table.{IsNext}
 use Rattle.jr_frames.specs.Rings.{newer_at}
 use Rattle.jr_frames.specs.Places.{given_of, unused, place_at, is_idle}
-use Rattle.jr_frames.specs.Shown.{times, flat, table_of, IsArranged}
+use Rattle.jr_frames.specs.Arrangements.{times, flat, table_of, IsArranged}
 use Rattle.jr_frames.proofs.Times.{sum_times, few_numbers, times_append, times_here, none_left}
 use Rattle.jr_frames.proofs.Showing.{times_below, times_one}
 use Rattle.jr_frames.proofs.Places.{is_free_place}
@@ -41,7 +41,7 @@ bit_true : (b : Bool) (n : ℕ) → 1 + n ≡ (if b then 1 else 0) → b ≡ tru
 bit_true true n e = refl
 bit_true false n e = absurd (omega arith)
 
-module _ (a : Inside) (free : List ℕ) (order : List (List ℕ)) (is : IsArranged a free order) where
+module _ (a : Fields) (free : List ℕ) (order : List (List ℕ)) (is : IsArranged a free order) where
   -- as many places are free as are in the ring of the free ones
   pub free_counted : free_places a.last (table_of a order).frames ≡ a.free
   free_counted =

@@ -10,11 +10,11 @@ use Rattle.jr_model.proofs.Updates.{eq_other}
 use Rattle.jr_frames.specs.declared.place.Place.{Place}
 use Rattle.jr_frames.specs.declared.rings.Link.{Link}
 use Rattle.jr_frames.specs.declared.rings.Rings.{Rings}
-use Rattle.jr_frames.specs.declared.frames.Frames.TheInside.{Inside}
+use Rattle.jr_frames.specs.declared.frames.Frames.TheInside.{Inside as Fields}
 use Rattle.jr_frames.specs.Table.{Table}
 use Rattle.jr_frames.specs.Rings.{newer_at, older_at, Follow, AreFresh}
 use Rattle.jr_frames.specs.Places.{given_of, unused, place_at, is_taken, is_idle}
-use Rattle.jr_frames.specs.Shown.{times, table_of, IsArranged}
+use Rattle.jr_frames.specs.Arrangements.{times, table_of, IsArranged}
 use Rattle.jr_frames.proofs.Times.{times_here, times_there}
 use Rattle.jr_frames.proofs.Showing.{not_idle}
 
@@ -81,7 +81,7 @@ given_none zero = refl
 given_none (suc n) = ap (λ l. 0 ∷ l) (given_none n)
 
 module _ (thread last n : ℕ) (places : ArrayVec Place) (rings : Rings) (are : places.items ≡ replicate n unused) (fresh : AreFresh n rings.links.items) where
-  abbrev pub fresh_inside : Inside
+  abbrev pub fresh_inside : Fields
   fresh_inside = record { thread = thread; last = last; free = n; places = places; rings = rings }
 
   at_place : (q : ℕ) → place_at places.items q ≡ unused

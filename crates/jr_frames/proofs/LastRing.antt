@@ -5,7 +5,7 @@ use Rattle.jr_model.specs.declared.frames.LocalRef.{LocalRef}
 use Rattle.jr_model.specs.Frames.{with_last, last_frame, frames_before}
 use Rattle.jr_frames.specs.declared.rings.Link.{Link}
 use Rattle.jr_frames.specs.Rings.{newer_at, older_at, IsPutLast, Follow, AreRings}
-use Rattle.jr_frames.specs.Shown.{times, flat}
+use Rattle.jr_frames.specs.Arrangements.{times, flat}
 use Rattle.jr_frames.proofs.Times.{times_append, none_left, none_right, all_below, without, without_none}
 use Rattle.jr_frames.proofs.Following.{before_end}
 use Rattle.jr_frames.proofs.Putting.{IsNeither, all_neither, follow_other, last_keeps, follow_put}

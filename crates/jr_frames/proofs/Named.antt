@@ -8,9 +8,9 @@ use Rattle.jr_model.specs.State.{Handle, same_handle}
 use Rattle.jr_model.specs.Frames.{object_of}
 use Rattle.jr_model.proofs.Updates.{and_left, and_right, same_parts, handle_true, handle_self}
 use Rattle.jr_frames.specs.declared.place.Place.{Place}
-use Rattle.jr_frames.specs.declared.frames.Frames.TheInside.{Inside}
+use Rattle.jr_frames.specs.declared.frames.Frames.TheInside.{Inside as Fields}
 use Rattle.jr_frames.specs.Places.{given_of, unused, place_at, is_taken, ref_at}
-use Rattle.jr_frames.specs.Shown.{table_of, IsArranged}
+use Rattle.jr_frames.specs.Arrangements.{table_of, IsArranged}
 use Rattle.jr_frames.proofs.Places.{object_of_handle}
 
 pub not_zero : (n : ℕ) → n ≢ 0 → (n == 0) ≡ false
@@ -26,7 +26,7 @@ taken_index places p e = ⊎_elim (λ (l : p < length places). l)
     (λ (g : length places ≤ p). let none = get_or_past places p unused g in let no : false ≡ true = subst (λ (x : Place). not (x.object == 0) ≡ true) none e in absurd cc)
     (cases_lt p (length places))
 
-module _ (a : Inside) (free : List ℕ) (order : List (List ℕ)) (is : IsArranged a free order) (h : Handle) where
+module _ (a : Fields) (free : List ℕ) (order : List (List ℕ)) (is : IsArranged a free order) (h : Handle) where
   -- the handle stands, and it is the one that its place shows
   pub stands : IsSome (object_of (table_of a order).frames h) → (is_taken a.places.items h.index ≡ true) × ((ref_at a.thread a.places.items h.index).handle ≡ h)
   stands some =

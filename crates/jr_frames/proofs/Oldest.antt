@@ -6,11 +6,11 @@ use Rattle.jr_word.specs.declared.handle.RefKind.TheVariants.{Local}
 use Rattle.jr_model.specs.State.{Handle}
 use Rattle.jr_model.specs.Frames.{object_of}
 use Rattle.jr_frames.specs.declared.rings.Link.{Link}
-use Rattle.jr_frames.specs.declared.frames.Frames.TheInside.{Inside}
+use Rattle.jr_frames.specs.declared.frames.Frames.TheInside.{Inside as Fields}
 use Rattle.jr_frames.specs.Table.{TakesOldestOf, frame_at, oldest_handle, without_oldest}
 use Rattle.jr_frames.specs.Rings.{newer_at, Follow, AreRings}
 use Rattle.jr_frames.specs.Places.{given_of, place_at, is_taken, ref_at}
-use Rattle.jr_frames.specs.Shown.{times, flat, table_of, IsArranged}
+use Rattle.jr_frames.specs.Arrangements.{times, flat, table_of, IsArranged}
 use Rattle.jr_frames.proofs.Times.{times_append, times_here, without, without_here, without_none}
 use Rattle.jr_frames.proofs.LastRing.{map_without_none}
 use Rattle.jr_frames.proofs.Named.{named_object, taken_index}
@@ -57,7 +57,7 @@ set_without p (suc k) rest (x ∷ xs) e one =
     both _ _ _ _ (without_none p x (omega arith)) (set_without p k rest xs e (omega arith))
 
 -- the place of the oldest reference of a frame, and what follows it there
-pub record IsOldest (a : Inside) (order : List (List ℕ)) (k p : ℕ) (rest : List ℕ) : Type 0 where
+pub record IsOldest (a : Fields) (order : List (List ℕ)) (k p : ℕ) (rest : List ℕ) : Type 0 where
   pub at : list_at order k ≡ p ∷ rest
   pub taken : is_taken a.places.items p ≡ true
 
@@ -65,7 +65,7 @@ abbrev pub tail_of : List ℕ → List ℕ
 tail_of [] = []
 tail_of (x ∷ xs) = xs
 
-module _ (a : Inside) (free : List ℕ) (order : List (List ℕ)) (is : IsArranged a free order) (k : ℕ) (low : k < length order) (end : ℕ) (at_end : end ≡ length a.places.items + 1 + k) where
+module _ (a : Fields) (free : List ℕ) (order : List (List ℕ)) (is : IsArranged a free order) (k : ℕ) (low : k < length order) (end : ℕ) (at_end : end ≡ length a.places.items + 1 + k) where
   follows : Follow a.rings.links.items end (list_at order k ++ end ∷ [])
   follows = ring_at a.rings.links.items (suc (length a.places.items)) k end order low (omega arith) is.rings.1
 
@@ -97,7 +97,7 @@ module _ (a : Inside) (free : List ℕ) (order : List (List ℕ)) (is : IsArrang
           subst (λ q. IsOldest a order k q (tail_of (list_at order k))) (sym ahead)
           (subst (IsOldest a order k p) (sym (ap tail_of e)) (oldest_of p rest e))
 
-module _ (a : Inside) (free : List ℕ) (order : List (List ℕ)) (is : IsArranged a free order) (k : ℕ) where
+module _ (a : Fields) (free : List ℕ) (order : List (List ℕ)) (is : IsArranged a free order) (k : ℕ) where
   frame_is : frame_at (table_of a order).frames.frames k ≡ map (ref_at a.thread a.places.items) (list_at order k)
   frame_is = get_or-map (map (ref_at a.thread a.places.items)) order k []
 

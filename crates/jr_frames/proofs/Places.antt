@@ -7,9 +7,9 @@ use Rattle.jr_model.specs.State.{Handle, same_handle}
 use Rattle.jr_model.specs.Frames.{object_where, object_at, object_of, is_free}
 use Rattle.jr_model.proofs.Updates.{eq_true, eq_self}
 use Rattle.jr_frames.specs.declared.place.Place.{Place}
-use Rattle.jr_frames.specs.declared.frames.Frames.TheInside.{Inside}
+use Rattle.jr_frames.specs.declared.frames.Frames.TheInside.{Inside as Fields}
 use Rattle.jr_frames.specs.Places.{given_of, unused, place_at, is_taken, ref_at}
-use Rattle.jr_frames.specs.Shown.{times, flat, table_of, IsArranged}
+use Rattle.jr_frames.specs.Arrangements.{times, flat, table_of, IsArranged}
 use Rattle.jr_frames.proofs.Showing.{joined_map}
 
 -- the object at a place, none where no reference stands
@@ -54,7 +54,7 @@ object_step : (free here : Bool) (o : Option ℕ) → here ≡ true → cond (no
 object_step true here o e = refl
 object_step false here o e = ap (λ b. cond b o None) e
 
-module _ (a : Inside) (free : List ℕ) (order : List (List ℕ)) (is : IsArranged a free order) where
+module _ (a : Fields) (free : List ℕ) (order : List (List ℕ)) (is : IsArranged a free order) where
   listed_taken : (p : ℕ) → list_any (λ q. q == p) (flat order) ≡ is_taken a.places.items p
   listed_taken p = listed p (flat order) (is_taken a.places.items p) (is.once p)
 

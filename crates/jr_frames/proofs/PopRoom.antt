@@ -9,10 +9,10 @@ use Rattle.jr_model.specs.Maps.{count_below}
 use Rattle.jr_model.specs.Frames.{is_free, free_places, joined, popped}
 use Rattle.jr_model.proofs.Counts.{count_none, count_all_false}
 use Rattle.jr_model.proofs.Updates.{eq_true}
-use Rattle.jr_frames.specs.declared.frames.Frames.TheInside.{Inside}
+use Rattle.jr_frames.specs.declared.frames.Frames.TheInside.{Inside as Fields}
 use Rattle.jr_frames.specs.Rings.{newer_at, Follow, ring_of}
 use Rattle.jr_frames.specs.Places.{given_of, unused, place_at, is_taken, is_idle}
-use Rattle.jr_frames.specs.Shown.{times, flat, table_of, IsArranged}
+use Rattle.jr_frames.specs.Arrangements.{times, flat, table_of, IsArranged}
 use Rattle.jr_frames.specs.Places.{ref_at}
 use Rattle.jr_frames.proofs.FreePlaces.{first_idle}
 use Rattle.jr_frames.proofs.LastRing.{last_list, lists_before, last_ring, map_before, times_parts}
@@ -78,7 +78,7 @@ must_hold : (p n given last : ℕ) (taken : Bool) → p < n → given ≤ last �
 must_hold p n given last true l g e = refl
 must_hold p n given last false l g e = absurd (let yes_first : nat_le (p + 1) n ≡ true = grind (arith, nat_tests) in let yes_then : nat_le given last ≡ true = grind (arith, nat_tests) in cc)
 
-module _ (a : Inside) (free : List ℕ) (order : List (List ℕ)) (is : IsArranged a free order) where
+module _ (a : Fields) (free : List ℕ) (order : List (List ℕ)) (is : IsArranged a free order) where
   -- what is free once the newest frame is gone
   free_then : (p : ℕ) → is_free a.last (popped (table_of a order).frames) p ≡ (not (list_any (λ q. q == p) (flat (lists_before order))) && nat_le (given_of (place_at a.places.items p)) a.last)
   free_then p =

@@ -3,7 +3,7 @@ use Rattle.std.proofs.Common.{◌≡◌, ◌≢◌, ◌==◌, ◌<◌, ℕ, suc,
 use Rattle.std.specs.List.{AllByRecursion}
 use Rattle.jr_frames.specs.declared.rings.Link.{Link}
 use Rattle.jr_frames.specs.Rings.{newer_at, older_at, IsPutLast, IsPutFirst, Follow, AreRings}
-use Rattle.jr_frames.specs.Shown.{times, flat}
+use Rattle.jr_frames.specs.Arrangements.{times, flat}
 use Rattle.jr_frames.proofs.Times.{not_first, none_left, none_right}
 use Rattle.jr_frames.proofs.Following.{pick_self, pick_other, follow_pairs}
 

@@ -4,7 +4,7 @@ use Rattle.std.proofs.lemmas.Bool.{cases_lt}
 use Rattle.std.specs.List.{AllByRecursion}
 use Rattle.jr_frames.specs.declared.rings.Link.{Link}
 use Rattle.jr_frames.specs.Rings.{newer_at, older_at, AreRings, ring_of, rings_from}
-use Rattle.jr_frames.specs.Shown.{times, flat}
+use Rattle.jr_frames.specs.Arrangements.{times, flat}
 use Rattle.jr_frames.proofs.Times.{times_append, all_below, all_other, none_left, none_right, few_numbers}
 use Rattle.jr_frames.proofs.Following.{IsBetween, between, until_end, follow_pairs, all_end}
 

@@ -5,10 +5,10 @@ use Rattle.std.proofs.lemmas.Bool.Decides.{nat_tests}
 use Rattle.jr_model.specs.declared.frames.LocalRef.{LocalRef}
 use Rattle.jr_model.specs.Frames.{joined}
 use Rattle.jr_frames.specs.declared.place.Place.{Place}
-use Rattle.jr_frames.specs.declared.frames.Frames.TheInside.{Inside}
+use Rattle.jr_frames.specs.declared.frames.Frames.TheInside.{Inside as Fields}
 use Rattle.jr_frames.specs.Rings.{rings_from}
 use Rattle.jr_frames.specs.Places.{given_of, unused, place_at, is_taken, is_idle}
-use Rattle.jr_frames.specs.Shown.{times, flat, free_of, order_of, table_of, table, IsArranged, IsTable}
+use Rattle.jr_frames.specs.Arrangements.{times, flat, free_of, order_of, table_of, table, IsArranged, IsTable}
 use Rattle.jr_frames.proofs.Times.{times_append}
 use Rattle.jr_frames.proofs.RingLists.{rings_are}
 
@@ -37,7 +37,7 @@ abbrev tail_of : List (List ℕ) → List (List ℕ)
 tail_of [] = []
 tail_of (xs ∷ rest) = rest
 
-module _ {a : Inside} {free : List ℕ} {order : List (List ℕ)} (is : IsArranged a free order) where
+module _ {a : Fields} {free : List ℕ} {order : List (List ℕ)} (is : IsArranged a free order) where
   pub times_all : (q : ℕ) → times q (flat (free ∷ order)) ≡ (if is_idle a.last a.places.items q then 1 else 0) + (if is_taken a.places.items q then 1 else 0)
   times_all q = let e = times_append q free (flat order) in let i = is.idle q in let o = is.once q in omega arith
 

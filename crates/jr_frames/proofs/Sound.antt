@@ -4,9 +4,9 @@ use Rattle.std.proofs.lemmas.List.{length-map}
 use Rattle.std.proofs.Math.ListN.{get_or-map}
 use Rattle.std.specs.List.{AllByRecursion}
 use Rattle.jr_model.specs.Frames.{AreSound, HaveOwnPlaces, IsNewest, all_refs}
-use Rattle.jr_frames.specs.declared.frames.Frames.TheInside.{Inside}
+use Rattle.jr_frames.specs.declared.frames.Frames.TheInside.{Inside as Fields}
 use Rattle.jr_frames.specs.Places.{given_of, unused, place_at, is_taken, ref_at}
-use Rattle.jr_frames.specs.Shown.{times, flat, table_of, IsArranged}
+use Rattle.jr_frames.specs.Arrangements.{times, flat, table_of, IsArranged}
 use Rattle.jr_frames.proofs.Times.{times_here}
 use Rattle.jr_frames.proofs.Places.{listed, any_ref}
 use Rattle.jr_frames.proofs.Showing.{joined_map}
@@ -18,7 +18,7 @@ bit_one false n l = absurd (omega arith)
 less_one : (b : Bool) (n m : ℕ) → (if b then 1 else 0) + n ≤ m → n ≤ m
 less_one b n m l = omega arith
 
-module _ (a : Inside) (free : List ℕ) (order : List (List ℕ)) (is : IsArranged a free order) where
+module _ (a : Fields) (free : List ℕ) (order : List (List ℕ)) (is : IsArranged a free order) where
   -- the list has taken places alone, each once
   abbrev AreTakenOnce : List ℕ → Type 0
   AreTakenOnce xs = (q : ℕ) → times q xs ≤ (if is_taken a.places.items q then 1 else 0)

@@ -7,11 +7,11 @@ use Rattle.jr_model.specs.declared.frames.TheConstants.{FRAMES}
 use Rattle.jr_model.specs.Frames.{pushed, popped, last_frame}
 use Rattle.jr_frames.specs.declared.rings.Link.{Link}
 use Rattle.jr_frames.specs.declared.rings.Rings.{Rings}
-use Rattle.jr_frames.specs.declared.frames.Frames.TheInside.{Inside}
+use Rattle.jr_frames.specs.declared.frames.Frames.TheInside.{Inside as Fields}
 use Rattle.jr_frames.specs.Table.{Table, with_frames}
 use Rattle.jr_frames.specs.Rings.{newer_at, older_at, no_link, AreRings}
 use Rattle.jr_frames.specs.Places.{ref_at}
-use Rattle.jr_frames.specs.Shown.{times, flat, table_of, IsArranged}
+use Rattle.jr_frames.specs.Arrangements.{times, flat, table_of, IsArranged}
 use Rattle.jr_frames.proofs.Times.{times_append}
 use Rattle.jr_frames.proofs.RingLists.{rings_below, rings_push}
 use Rattle.jr_frames.proofs.LastRing.{last_list, lists_before, map_last, map_before, times_parts, length_before, rings_before}
@@ -26,7 +26,7 @@ flat_push (x ∷ xs) = ap (λ l. x ++ l) (flat_push xs)
 abbrev pub closed_link : ℕ → Link
 closed_link end = record { older = end; newer = end }
 
-module _ (a : Inside) (free : List ℕ) (order : List (List ℕ)) (is : IsArranged a free order) (rings : Rings) where
+module _ (a : Fields) (free : List ℕ) (order : List (List ℕ)) (is : IsArranged a free order) (rings : Rings) where
   module _ (more : rings.links.items ≡ a.rings.links.items ++ closed_link (length a.rings.links.items) ∷ []) where
     low_same : (q : ℕ) → q < length a.rings.links.items → (newer_at rings.links.items q ≡ newer_at a.rings.links.items q) × (older_at rings.links.items q ≡ older_at a.rings.links.items q)
     low_same q l = (
@@ -115,5 +115,5 @@ map_empty show [] e = refl
 map_empty show (x ∷ xs) e = absurd cc
 
 -- the newest frame is empty where its list is
-pub empty_last : (a : Inside) (order : List (List ℕ)) → last_frame (table_of a order).frames.frames ≡ [] → last_list order ≡ []
+pub empty_last : (a : Fields) (order : List (List ℕ)) → last_frame (table_of a order).frames.frames ≡ [] → last_list order ≡ []
 empty_last a order e = map_empty (ref_at a.thread a.places.items) (last_list order) (sym (map_last (ref_at a.thread a.places.items) order) ∙ e)

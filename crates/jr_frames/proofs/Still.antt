@@ -6,10 +6,10 @@ use Rattle.arrayvec.specs.ArrayVec.{ArrayVec}
 use Rattle.jr_frames.specs.declared.place.Place.{Place}
 use Rattle.jr_frames.specs.declared.rings.Link.{Link}
 use Rattle.jr_frames.specs.declared.rings.Rings.{Rings}
-use Rattle.jr_frames.specs.declared.frames.Frames.TheInside.{Inside}
+use Rattle.jr_frames.specs.declared.frames.Frames.TheInside.{Inside as Fields}
 use Rattle.jr_frames.specs.Places.{given_of, place_at}
 use Rattle.jr_frames.specs.Rings.{newer_at, older_at, IsJoined, AreRings}
-use Rattle.jr_frames.specs.Shown.{times, flat, IsArranged}
+use Rattle.jr_frames.specs.Arrangements.{times, flat, IsArranged}
 use Rattle.jr_frames.proofs.Times.{without}
 use Rattle.jr_frames.proofs.Following.{IsBetween}
 use Rattle.jr_frames.proofs.Taking.{rings_without}
@@ -21,7 +21,7 @@ use Rattle.jr_frames.proofs.Changing.{changed, after_set}
 abbrev pub is_idle_as : ℕ → ℕ → ℕ → Place → Bool
 is_idle_as last places q y = nat_le (q + 1) places && (not (not (y.object == 0)) && nat_le (given_of y) last)
 
-module _ (a : Inside) (free : List ℕ) (order : List (List ℕ)) (is : IsArranged a free order) (p : ℕ) (l : p < length a.places.items) (x : Place) (places : ArrayVec Place) (set : places.items ≡ slice_set a.places.items p x) where
+module _ (a : Fields) (free : List ℕ) (order : List (List ℕ)) (is : IsArranged a free order) (p : ℕ) (l : p < length a.places.items) (x : Place) (places : ArrayVec Place) (set : places.items ≡ slice_set a.places.items p x) where
   same_length : length a.places.items ≡ length places.items
   same_length = sym (ap length set ∙ length-set a.places.items p x)
 
@@ -48,7 +48,7 @@ module _ (a : Inside) (free : List ℕ) (order : List (List ℕ)) (is : IsArrang
   }
 
 -- a place that is taken out of its ring
-module _ (a : Inside) (free : List ℕ) (order : List (List ℕ)) (is : IsArranged a free order) (p : ℕ) (here : 1 ≤ times p (flat (free ∷ order))) where
+module _ (a : Fields) (free : List ℕ) (order : List (List ℕ)) (is : IsArranged a free order) (p : ℕ) (here : 1 ≤ times p (flat (free ∷ order))) where
   pub place_low : p < length a.places.items
   place_low = ⊎_elim (λ (l : p < length a.places.items). l) (λ (g : length a.places.items ≤ p). absurd (let none = times_below is p g in omega arith)) (cases_lt p (length a.places.items))
 

@@ -6,7 +6,7 @@ use Rattle.jr_model.specs.Maps.{sum_below}
 use Rattle.jr_model.proofs.Lengths.{sum_none}
 use Rattle.jr_model.proofs.Counts.{sum_at}
 use Rattle.jr_model.proofs.Updates.{eq_true, eq_false, eq_self, eq_other}
-use Rattle.jr_frames.specs.Shown.{times, flat}
+use Rattle.jr_frames.specs.Arrangements.{times, flat}
 
 pub times_append : (p : ℕ) (xs ys : List ℕ) → times p (xs ++ ys) ≡ times p xs + times p ys
 times_append p [] ys = omega arith

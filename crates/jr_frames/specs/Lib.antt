@@ -1,7 +1,7 @@
 pub mod Table
 pub mod Places
 pub mod Rings
-pub mod Shown
+pub mod Arrangements
 pub mod Popping
 pub mod Freeing
 pub mod Reading

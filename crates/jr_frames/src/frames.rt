@@ -25,7 +25,7 @@ impl Model for Frames {
 
     ghost Value = { Table };
 
-    ghost use Rattle.jr_frames.specs.Shown.{table, IsTable};
+    ghost use Rattle.jr_frames.specs.Arrangements.{table, IsTable};
 
     ghost view = { table };
 

@@ -18,7 +18,7 @@ use Rattle.jr_model.specs.State.{Contents}
 use Rattle.jr_model.specs.Examples.{last_serial, w}
 use Rattle.jr_model.specs.Maps.{sum_below}
 use Rattle.jr_model.proofs.OwnActs.{IsAmong}
-use Rattle.jr_model.proofs.Shown.{entered_shows}
+use Rattle.jr_model.proofs.ShownRefusals.{entered_shows}
 use Rattle.jr_model.proofs.TrueRefusals.{made_alike}
 use Rattle.jr_model.specs.CallExamples.{quiet_room, fresh, LengthOfNothing, TypeOfNothing, CallsOnCleared, CallsOnNull, named, never_given, with_text, SecondLevel, CopiedElements, ArrayLacksSpace}
 

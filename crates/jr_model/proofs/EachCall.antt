@@ -27,7 +27,7 @@ use Rattle.jr_model.specs.Moves.{MovesFrames, CallsMoveFrames}
 use Rattle.jr_model.specs.RefusedCalls.{ChangesNothing, RefusalsChangeNothing, RefusedPartsChangeNothing}
 use Rattle.jr_model.specs.TrueRefusals.{CallsRefuseTruly, PartsRefuseTruly}
 use Rattle.jr_model.proofs.Refused.{IsCalm, NeverRefuses, never_safe, done_never, act_never, some_act_never, bind_safe, bind_never, one_of_safe, memory_safe, header_safe, entered_safe, opened_safe, refuse_calm, act_calm, some_act_calm, bind_calm}
-use Rattle.jr_model.proofs.Shown.{Shows, never_shows, bind_shows, first_shows, one_of_shows, memory_shows, header_shows, entered_shows, opened_shows, then_shows, knock_shows, refused_at}
+use Rattle.jr_model.proofs.ShownRefusals.{Shows, never_shows, bind_shows, first_shows, one_of_shows, memory_shows, header_shows, entered_shows, opened_shows, then_shows, knock_shows, refused_at}
 use Rattle.jr_model.proofs.Preludes.{IsPrelude, act_prelude, announce_prelude, bind_prelude, both_prelude, check, closed_prelude, cond_prelude, done_prelude, element_prelude, left_prelude, level_array_prelude, level_string_prelude, look_prelude, looked_at_prelude, not_null_prelude, part_prelude, probes_prelude, refuse_prelude, resolved_prelude, room_prelude, shuts_prelude, some_act_prelude, to_pop_prelude, type_prelude}
 use Rattle.jr_model.proofs.RefusedCalls.{added_never, made_safe, popping_safe, reserve_safe}
 use Rattle.jr_model.proofs.TrueRefusals.{cancelled_shown, made_shows, popping_shows, reserve_tells, truly}

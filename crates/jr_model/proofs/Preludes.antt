@@ -21,7 +21,7 @@ use Rattle.jr_model.specs.Objects.{part_of, level_array, level_string}
 use Rattle.jr_model.specs.RefusedCalls.{is_harmless, may_precede}
 use Rattle.jr_model.proofs.Exactly.{all_map}
 use Rattle.jr_model.proofs.Refused.{AreHarmless, IsCalm, never_safe, done_calm, refuse_calm, refuse_if_calm, act_calm, some_act_calm, bind_calm, one_of_calm, header_calm, same_fault}
-use Rattle.jr_model.proofs.Shown.{refused_at, LosesOnly, LoseOnly, IsShown, Tells, never_shows, done_tells, refuse_tells, refuse_if_tells, act_tells, some_act_tells, bind_tells, one_of_tells, cond_tells, framed_tells, header_tells, refused_tells}
+use Rattle.jr_model.proofs.ShownRefusals.{refused_at, LosesOnly, LoseOnly, IsShown, Tells, never_shows, done_tells, refuse_tells, refuse_if_tells, act_tells, some_act_tells, bind_tells, one_of_tells, cond_tells, framed_tells, header_tells, refused_tells}
 
 -- the part changes nothing, whether the call goes on or not, and shows each of its refusals
 pub record IsPrelude (asked : ℕ) {A : Type 0} (call : Call A) : Type 0 where

@@ -24,7 +24,7 @@ use Rattle.jr_model.proofs.Moments.{OneAct, prefix_trans}
 use Rattle.jr_model.proofs.OwnActs.{act_among, needed_there, seen_among}
 use Rattle.jr_model.proofs.Refused.{some_act_never}
 use Rattle.jr_model.proofs.RefusedCalls.{added_never}
-use Rattle.jr_model.proofs.Shown.{one_of_shows, refuse_tells, LosesOnly, LoseOnly, IsShown, Shows, Tells, never_shows, done_tells, act_tells, bind_shows, first_shows, one_of_tells, refused_tells}
+use Rattle.jr_model.proofs.ShownRefusals.{one_of_shows, refuse_tells, LosesOnly, LoseOnly, IsShown, Shows, Tells, never_shows, done_tells, act_tells, bind_shows, first_shows, one_of_tells, refused_tells}
 use Rattle.jr_model.proofs.Preludes.{after_prelude, room_prelude}
 
 -- WHAT A CALL SHOWS WAS SO

@@ -18,7 +18,7 @@ use Rattle.jr_steps.specs.declared.known.Known.{Known}
 use Rattle.jr_steps.specs.Acts.{found_of}
 use Rattle.jr_steps.specs.Knowing.{Facts, view, anything, keeps, HasLooked, MayKnow, Took, Goes}
 use Rattle.jr_steps.proofs.StepFacts.{goes_did, looked_now}
-use Rattle.jr_gate.specs.Performing.{Performed, moment}
+use Rattle.jr_gate.specs.Performing.{Performed, thread_state}
 use Rattle.jr_gate.proofs.SameRoom.{as_before, still_before}
 use Rattle.jr_gate.proofs.Spending.{KeepsHint, Spending, made_of, spend_first, spend_step}
 use Rattle.jr_gate.proofs.HandedOn.{handed_on}
@@ -70,7 +70,7 @@ module _ {S : Type 0} {facts : S → Facts} {a b : S} (h : Handle) (r : Found) (
 
     -- a look and an exchange
     spent_both : {c : S} {x : Act} (u : Took facts b c (x ∷ []) (HasLooked h (found_of z)) keeps) → KeepsHint x → (k : Known) (s : (facts a).knows k) (m : anything k) (f : Frames)
-        → let g = t.goes k s m in Spending 0 (moment (facts a) k f) (moment (facts c) (u.goes g.0 g.1 (looked k g.0 g.2)).0 f)
+        → let g = t.goes k s m in Spending 0 (thread_state (facts a) k f) (thread_state (facts c) (u.goes g.0 g.1 (looked k g.0 g.2)).0 f)
     spent_both u keeps k s m f = let g = t.goes k s m in spend_first (spend_step t (λ n i. refl) k s m f f) (spend_step u keeps g.0 g.1 (looked k g.0 g.2) f f)
 
     pub deleted_won : {c : S} → Took facts b c (Delete h ∷ []) (HasLooked h (found_of z)) keeps → (f : Frames) → Performed facts a c f f 0 anything (λ s. delete h) (Ok tt) keeps

@@ -1,4 +1,4 @@
--- What a collector's steps owe, over any words and any history.
+-- Legal steps of a collector, over any words and any history.
 use Rattle.std.proofs.Common.{◌≡◌, ◌≢◌, ◌+◌, ◌<◌, ◌≤◌, ℕ, cond, Option, Some, None, List, [], ◌∷◌, length, get_or, slice_set, nat_eq, nat_lt, eq-eqb, ne_eqb, refl, sym, ap, subst, ◌∙◌, arith, get_or-set_same, get_or-set_other}
 use Rattle.std.proofs.lemmas.Bool.{lt-ltb}
 use Rattle.std.proofs.lemmas.Bool.Decides.{nat_tests}
@@ -40,11 +40,11 @@ module _ (c : Config) (last : ℕ) (log : History) (t : ℕ) (words : List ℕ) 
 
   -- the unfinished move is its own, and it holds no range
   pub own : MayHold image.moving Collecting g
-  own = subst (MayHold image.moving Collecting) is (subst (λ r. MayHold image.moving r (held t)) collects (image.hands.each t))
+  own = subst (MayHold image.moving Collecting) is (subst (λ r. MayHold image.moving r (held t)) collects (image.held_by_role.each t))
 
   -- nobody else holds anything
   pub others : (u : ℕ) → u ≢ t → held u ≡ empty
-  others u ne = go (now.role u) refl (image.hands.each u)
+  others u ne = go (now.role u) refl (image.held_by_role.each u)
     where
       apart : IsApart now.role
       apart = apart_state c last log legal
@@ -67,8 +67,8 @@ module _ (c : Config) (last : ℕ) (log : History) (t : ℕ) (words : List ℕ) 
         (λ e. subst (λ (z : ℕ × Holdings). P z.0 z.1) (λ i. (sym e i, sym (ap (hold held t g') e ∙ hold_here held t g') i)) here)
         (λ ne. subst (P u) (sym (hold_else held t u g' ne ∙ others u ne)) (else u ne))
 
-    hands : AreHeld now.role moving (hold held t g')
-    hands = record {
+    held_by_role : AreHeld now.role moving (hold held t g')
+    held_by_role = record {
       each = held_at (λ u z. MayHold moving (now.role u) z) (subst (λ r. MayHold moving r g') (sym collects) (for.moves, for.ranges)) (λ u ne. go u ne (now.role u) refl);
       still = λ nobody. absurd (nobody t collects);
     }
@@ -133,7 +133,7 @@ module _ (c : Config) (last : ℕ) (log : History) (t : ℕ) (words : List ℕ) 
       let long : length x.words ≡ h.length = ap (λ (y : Contents). length y.words) q ∙ z.long in
       let words' : List ℕ = slice_set words (element_at c (place + j)) v in
       none_legal c last log t words' (hold held t g') legal
-      (element_set c last words now held image v (place + j) now.objects (Some (move_of o place (j + 1))) (hold held t g') (hands g' (Some (move_of o place (j + 1))) for) (omega (arith, room, most)) (λ r w q. q)
+      (element_set c last words now held image v (place + j) now.objects (Some (move_of o place (j + 1))) (hold held t g') (held_by_role g' (Some (move_of o place (j + 1))) for) (omega (arith, room, most)) (λ r w q. q)
       (space_moved c words now.objects (IsIn now.used) image.moving held image.space image.wide (λ x l. omega (arith, l, most)) (hold held t g') (no_range g' (Some (move_of o place (j + 1))) for) o place j v x h known.number.0 known.number.1 at known.fits known.word
       (subst (λ m. HasDone m o place j) own.0 done) short room (λ i l m. later i l (omega arith)) value
       (λ r y k ne some few is' good word i l.
@@ -169,7 +169,7 @@ module _ (c : Config) (last : ℕ) (log : History) (t : ℕ) (words : List ℕ) 
       let here : get_or words' (header_at c o) 0 ≡ header_word new = get_or-set_same words (header_at c o) (header_word new) 0 (let a = known.number.0 in let b = known.number.1 in omega arith) in
       none_legal c last log t words' (hold held t g') legal
       (same_objects o x at words' (hold held t g')
-      (header_set c last words now held image (header_word new) o (Some x) None (hold held t g') (hands g' None for) known.number.0 known.number.1 (record { parts = new; fits = fits; word = refl; says = record { kind = kind; long = long } })
+      (header_set c last words now held image (header_word new) o (Some x) None (hold held t g') (held_by_role g' None for) known.number.0 known.number.1 (record { parts = new; fits = fits; word = refl; says = record { kind = kind; long = long } })
       (same_space o x at words' (hold held t g')
       (space_set c words now.objects (IsIn now.used) image.moving held image.space image.wide (λ x l. omega (arith, l, most)) (hold held t g') (no_range g' None for) o place x h new known.number.0 known.number.1 at known.fits known.word
       (subst (λ (n : ℕ). HasDone image.moving o place n) (sym long) (subst (λ m. HasDone m o place h.length) own.0 done)) fits refl
@@ -199,7 +199,7 @@ module _ (c : Config) (last : ℕ) (log : History) (t : ℕ) (words : List ℕ) 
       let for : IsFor g' image.moving = record { moves = own.0; ranges = own.1 } in
       let words' : List ℕ = slice_set words (header_at c o) 0 in
       one_legal c last log t words' (hold held t g') legal (Drop o) (row, (collects, present, unreached, unnamed))
-      (header_set c last words now held image 0 o None image.moving (hold held t g') (hands g' image.moving for) low high refl
+      (header_set c last words now held image 0 o None image.moving (hold held t g') (held_by_role g' image.moving for) low high refl
       (space_dropped c words now.objects (IsIn now.used) image.moving held image.space image.wide (λ x l. omega (arith, l, most)) (hold held t g') (no_range g' image.moving for) o low high
       (only_own g' image.moving for words' (λ r k e. dite (ℕ_discrete o r)
       (λ s. absurd (let w = sym (ap (λ b. cond b None (header_in r g.headers)) (eq-eqb o r s)) ∙ e in cc))
@@ -213,7 +213,7 @@ module _ (c : Config) (last : ℕ) (log : History) (t : ℕ) (words : List ℕ) 
       let for : IsFor g image.moving = record { moves = own.0; ranges = own.1 } in
       let words' : List ℕ = slice_set words top_at w in
       one_legal c last log t words' (hold held t g) legal (Settle used) (row, (collects, sum))
-      (top_set c last words now held image w used image.moving (hold held t g) (hands g image.moving for) top
+      (top_set c last words now held image w used image.moving (hold held t g) (held_by_role g image.moving for) top
       (space_settled c words now.objects (IsIn now.used) image.moving held image.space image.wide (λ x l. omega (arith, l, most)) (hold held t g) (no_range g image.moving for) w (IsIn used) (λ y. nat_lt y used) (λ y l. lt-ltb y used l) (λ y e. grind (arith, nat_tests)) (sym own.0 ∙ settled)
       (λ r y k some few is' good word i l.
       let f = below r y is' (omega arith) in

@@ -15,7 +15,7 @@ use Rattle.jr_steps.specs.declared.known.Known.{Known}
 use Rattle.jr_steps.specs.declared.known.Holdings.{Holdings}
 use Rattle.jr_rule.specs.Passes.{SumsUp, EndsAll, IsSeenIn, HasEachPass, HasNoOthers}
 use Rattle.jr_rule.specs.Rule.{view_of, sizes, EachFits, Row, Kept}
-use Rattle.jr_rule.specs.Shown.{IsHistoryOf, HasHistory}
+use Rattle.jr_rule.specs.RowHistories.{IsHistoryOf, HasHistory}
 
 pub read_at : (xs : List ℕ) (i x : ℕ) → get_elem? xs i ≡ some x → get_or xs i 0 ≡ x
 read_at [] i x e = absurd (some-ne-none x (sym e))

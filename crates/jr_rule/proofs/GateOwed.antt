@@ -38,7 +38,7 @@ may_let_go k log words held f counts = ⊎_elim
 
 -- who is outside holds nothing
 nothing_outside : (k : Known) (log : History) (words : List ℕ) (held : ℕ → Holdings) (f : IsFound k log words held) → role_of (view k) ≡ Outside → held k.thread ≡ empty
-nothing_outside k log words held f out = subst (λ r. MayHold f.image.moving r (held k.thread)) (role_at k log words held f ∙ out) (f.image.hands.each k.thread)
+nothing_outside k log words held f out = subst (λ r. MayHold f.image.moving r (held k.thread)) (role_at k log words held f ∙ out) (f.image.held_by_role.each k.thread)
 
 module _ (k : Known) where
   pub enters : role_of (view k) ≡ Outside → Owes k 0 (λ n. (n + 1) % 2 ^ 64) (Entered k)

@@ -1,4 +1,4 @@
--- What the steps of the gate owe.
+-- Legal steps at the gate, over any words and any history.
 use Rattle.std.proofs.Common.{◌≡◌, ◌≢◌, ◌⊎◌, inl, inr, ⊎_elim, ◌↔◌, ◌+◌, ◌^◌, ◌<◌, ◌≤◌, ℕ, zero, suc, Bool, true, false, not, if◌then◌else◌, Option, None, List, [], ◌∷◌, get_or, slice_set, refl, sym, ap, subst, ◌∙◌, arith, nat_eq}
 use Rattle.std.proofs.lemmas.Bool.{cases_lt}
 use mathlib.Core.Logic.{dite}
@@ -149,8 +149,8 @@ closing_gate c role t old new w n row was none word g = record {
     it x closing u = at_number (λ r. r ≡ x → new ≡ x) role t u new (λ e p. p) (λ ne p. absurd (let quiet = none u (λ z. ne (sym z)) in let loud = ap is_barring p ∙ closing in cc))
 
 -- what the threads hold, once one that did not collect takes another role in which it may hold what it does
-hands_quiet : (role : ℕ → Role) (moving : Option Move) (held : ℕ → Holdings) (t : ℕ) (new : Role) → role t ≢ Collecting → MayHold moving new (held t) → AreHeld role moving held → AreHeld (update nat_eq role t new) moving held
-hands_quiet role moving held t new quiet may a = record {
+held_by_role_quiet : (role : ℕ → Role) (moving : Option Move) (held : ℕ → Holdings) (t : ℕ) (new : Role) → role t ≢ Collecting → MayHold moving new (held t) → AreHeld role moving held → AreHeld (update nat_eq role t new) moving held
+held_by_role_quiet role moving held t new quiet may a = record {
   each = λ u. at_number (λ r. MayHold moving r (held u)) role t u new (λ e. subst (λ v. MayHold moving new (held v)) e may) (λ ne. a.each u);
   still = λ nobody. a.still (λ u q. nobody u (at_number (λ r. r ≡ Collecting) role t u new (λ e. absurd (quiet (ap role e ∙ q))) (λ ne. q)));
 }
@@ -211,32 +211,32 @@ CanShutFrom from = (from ≡ Open) ⊎ (from ≡ Announced)
 module _ (c : Config) (last : ℕ) (log : History) (t : ℕ) (words : List ℕ) (legal : IsLegal c last log) (held : ℕ → Holdings) (image : IsImage c last words (state log) held) (row : t < c.threads) where
   -- who is outside holds nothing
   nothing : (state log).role t ≡ Outside → held t ≡ empty
-  nothing out = subst (λ r. MayHold image.moving r (held t)) out (image.hands.each t)
+  nothing out = subst (λ r. MayHold image.moving r (held t)) out (image.held_by_role.each t)
 
   -- who announces holds nothing
   nothing_yet : (state log).role t ≡ Announcing → held t ≡ empty
-  nothing_yet yet = subst (λ r. MayHold image.moving r (held t)) yet (image.hands.each t)
+  nothing_yet yet = subst (λ r. MayHold image.moving r (held t)) yet (image.held_by_role.each t)
 
   -- an entry adds 1, and goes in where the gate is open
   pub goes_in : (found : ℕ) (closed : Bool) → found ≡ get_or words 0 0 → closed ≡ is_closed image.gate.parts.state → (state log).role t ≡ Outside
       → LegalStep c last log t (act_of_entry (not closed) ∷ []) (slice_set words 0 (found + 1)) held
   goes_in found true is same out = one_legal c last log t (slice_set words 0 (found + 1)) held legal (Gate Knock)
       (row, (out, somebody_closes image.gate.says (sym same)))
-      (gate_set c last words (state log) held image (found + 1) (update nat_eq (state log).role t Knocking) (hands_quiet (state log).role image.moving held t Knocking (λ e. let z = sym out ∙ e in cc) (nothing out) image.hands)
+      (gate_set c last words (state log) held image (found + 1) (update nat_eq (state log).role t Knocking) (held_by_role_quiet (state log).role image.moving held t Knocking (λ e. let z = sym out ∙ e in cc) (nothing out) image.held_by_role)
       (moved_gate c (state log).role t Outside Knocking (get_or words 0 0) (found + 1) row out refl refl (omega arith) image.gate))
   goes_in found false is same out = one_legal c last log t (slice_set words 0 (found + 1)) held legal (Gate Enter)
       (row, (out, nobody_closes image.gate.says (sym same)))
-      (gate_set c last words (state log) held image (found + 1) (update nat_eq (state log).role t Within) (hands_quiet (state log).role image.moving held t Within (λ e. let z = sym out ∙ e in cc) (ap (λ (g : Holdings). g.moving) (nothing out)) image.hands)
+      (gate_set c last words (state log) held image (found + 1) (update nat_eq (state log).role t Within) (held_by_role_quiet (state log).role image.moving held t Within (λ e. let z = sym out ∙ e in cc) (ap (λ (g : Holdings). g.moving) (nothing out)) image.held_by_role)
       (moved_gate c (state log).role t Outside Within (get_or words 0 0) (found + 1) row out refl refl (omega arith) image.gate))
 
   -- an exit takes 1 away, of a thread that holds nothing any more
   pub goes_out : (role : Role) (n : ℕ) → held t ≡ empty → n + 1 ≡ get_or words 0 0 → (role ≡ Within) ⊎ (role ≡ Knocking) → (state log).role t ≡ role
       → LegalStep c last log t (act_of_exit role ∷ []) (slice_set words 0 n) held
   goes_out Within n none is counts at = one_legal c last log t (slice_set words 0 n) held legal (Gate Leave) (row, (at, tt))
-      (gate_set c last words (state log) held image n (update nat_eq (state log).role t Outside) (hands_quiet (state log).role image.moving held t Outside (λ e. let z = sym at ∙ e in cc) none image.hands)
+      (gate_set c last words (state log) held image n (update nat_eq (state log).role t Outside) (held_by_role_quiet (state log).role image.moving held t Outside (λ e. let z = sym at ∙ e in cc) none image.held_by_role)
       (moved_gate c (state log).role t Within Outside (get_or words 0 0) n row at refl refl (omega arith) image.gate))
   goes_out Knocking n none is counts at = one_legal c last log t (slice_set words 0 n) held legal (Gate Withdraw) (row, (at, tt))
-      (gate_set c last words (state log) held image n (update nat_eq (state log).role t Outside) (hands_quiet (state log).role image.moving held t Outside (λ e. let z = sym at ∙ e in cc) none image.hands)
+      (gate_set c last words (state log) held image n (update nat_eq (state log).role t Outside) (held_by_role_quiet (state log).role image.moving held t Outside (λ e. let z = sym at ∙ e in cc) none image.held_by_role)
       (moved_gate c (state log).role t Knocking Outside (get_or words 0 0) n row at refl refl (omega arith) image.gate))
   goes_out Outside n none is counts at = absurd (⊎_elim (λ e. cc) (λ e. cc) counts)
   goes_out Announcing n none is counts at = absurd (⊎_elim (λ e. cc) (λ e. cc) counts)
@@ -308,7 +308,7 @@ module _ (c : Config) (last : ℕ) (log : History) (t : ℕ) (words : List ℕ) 
         record {
           each = λ u. at_number (λ r. MayHold image.moving r (held u)) (state log).role t u Collecting
               (λ e. subst (λ v. MayHold image.moving Collecting (held v)) e (ap (λ (g : Holdings). g.moving) holds_nothing ∙ sym still, ap (λ (g : Holdings). g.ranges) holds_nothing))
-              (λ ne. image.hands.each u);
+              (λ ne. image.held_by_role.each u);
           still = λ nobody'. absurd (nobody' t (at_number_self (state log).role t Collecting));
         }
         (closing_gate c (state log).role t (shutter from) Collecting (get_or words 0 0) 65536 row at others (go from can none) image.gate))
@@ -334,7 +334,7 @@ module _ (c : Config) (last : ℕ) (log : History) (t : ℕ) (words : List ℕ) 
             (λ ne. let o = outside u ne in cc)
 
         still : image.moving ≡ None
-        still = image.hands.still quiet
+        still = image.held_by_role.still quiet
 
         go : (st : GateState) → CanShutFrom st → get_or words 0 0 ≡ state_bits st → 65536 + bit (is_inside (shutter st)) + state_bits (left_by (shutter st)) ≡ get_or words 0 0 + bit (is_inside Collecting) + state_bits (left_by Collecting)
         go Open z is = omega (arith, is)
@@ -366,7 +366,7 @@ module _ (c : Config) (last : ℕ) (log : History) (t : ℕ) (words : List ℕ) 
   pub announces : (few : c.threads ≤ 64) (looked : ℕ) → looked < 2 ^ 16 → get_or words 0 0 ≡ looked → (state log).role t ≡ Outside → LegalStep c last log t (Gate Announce ∷ []) (slice_set words 0 (looked + 131072)) held
   announces few looked fits is out = one_legal c last log t (slice_set words 0 (looked + 131072)) held legal (Gate Announce)
       (row, (out, none))
-      (gate_set c last words (state log) held image (looked + 131072) (update nat_eq (state log).role t Announcing) (hands_quiet (state log).role image.moving held t Announcing (λ e. let z = sym out ∙ e in cc) (nothing out) image.hands)
+      (gate_set c last words (state log) held image (looked + 131072) (update nat_eq (state log).role t Announcing) (held_by_role_quiet (state log).role image.moving held t Announcing (λ e. let z = sym out ∙ e in cc) (nothing out) image.held_by_role)
       (closing_gate c (state log).role t Outside Announcing (get_or words 0 0) (looked + 131072) row out (λ u ne. none u) (omega (arith, is)) image.gate))
     where
       none : (u : ℕ) → is_barring ((state log).role u) ≡ false
@@ -376,7 +376,7 @@ module _ (c : Config) (last : ℕ) (log : History) (t : ℕ) (words : List ℕ) 
   pub cancels : (n : ℕ) → n + 131072 ≡ get_or words 0 0 → (state log).role t ≡ Announcing → LegalStep c last log t (Gate Cancel ∷ []) (slice_set words 0 n) held
   cancels n is at = one_legal c last log t (slice_set words 0 n) held legal (Gate Cancel)
       (row, (at, tt))
-      (gate_set c last words (state log) held image n (update nat_eq (state log).role t Outside) (hands_quiet (state log).role image.moving held t Outside (λ e. let z = sym at ∙ e in cc) (nothing_yet at) image.hands)
+      (gate_set c last words (state log) held image n (update nat_eq (state log).role t Outside) (held_by_role_quiet (state log).role image.moving held t Outside (λ e. let z = sym at ∙ e in cc) (nothing_yet at) image.held_by_role)
       (closing_gate c (state log).role t Announcing Outside (get_or words 0 0) n row at (no_other t (apart_state c last log legal) (ap is_barring at)) (omega (arith, is)) image.gate))
 
   -- a shut gate is opened by a thread that holds nothing any more
@@ -385,10 +385,10 @@ module _ (c : Config) (last : ℕ) (log : History) (t : ℕ) (words : List ℕ) 
       (row, (at, closed))
       (gate_set c last words (state log) held image n (update nat_eq (state log).role t Outside)
       record {
-        each = λ u. at_number (λ r. MayHold image.moving r (held u)) (state log).role t u Outside (λ e. subst (λ v. held v ≡ empty) e none) (λ ne. image.hands.each u);
+        each = λ u. at_number (λ r. MayHold image.moving r (held u)) (state log).role t u Outside (λ e. subst (λ v. held v ≡ empty) e none) (λ ne. image.held_by_role.each u);
         still = λ nobody'. sym own.0 ∙ ap (λ (g : Holdings). g.moving) none;
       }
       (closing_gate c (state log).role t Collecting Outside (get_or words 0 0) n row at (no_other t (apart_state c last log legal) (ap is_barring at)) (omega (arith, is)) image.gate))
     where
       own : MayHold image.moving Collecting (held t)
-      own = subst (λ r. MayHold image.moving r (held t)) at (image.hands.each t)
+      own = subst (λ r. MayHold image.moving r (held t)) at (image.held_by_role.each t)

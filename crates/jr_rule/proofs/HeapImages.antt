@@ -9,7 +9,7 @@ use Rattle.jr_model.specs.State.{Contents, State, length_of, present_words}
 use Rattle.jr_steps.specs.declared.known.Holdings.{Holdings}
 use Rattle.jr_steps.specs.declared.known.Move.{Move}
 use Rattle.jr_steps.specs.Holdings.{words_at, header_in, with_range, with_header, hold}
-use Rattle.jr_steps.specs.Says.{spot}
+use Rattle.jr_steps.specs.Says.{element_spot}
 use Rattle.jr_rule.specs.Image.{header_at, of_object, Stands, IsIn, IsHeaderOf, IsKnown, IsSpace, IsImage}
 use Rattle.jr_steps.specs.Knowing.{without_range_of}
 use Rattle.jr_rule.proofs.Counting.{lists_fit}
@@ -24,7 +24,7 @@ pub record IsThere (c : Config) (words : List ℕ) (s : State) (held : ℕ → H
   pub is : s.objects o ≡ Some contents
   pub kind : contents.kind ≡ h.kind
   pub long : length contents.words ≡ h.length
-  pub stands : Stands c space.owner words (of_object o) (spot moving o h.place) contents.words
+  pub stands : Stands c space.owner words (of_object o) (element_spot moving o h.place) contents.words
   pub low : (j : ℕ) → j < h.length → IsIn s.used (h.place + j)
 
 -- the words of an object that is published with the header: none, or those of a range that is held at its place
@@ -73,7 +73,7 @@ module _ (c : Config) (last : ℕ) (words : List ℕ) (s : State) (held : ℕ �
           let number = room.objects o (subst (λ y. IsSome y) (sym e) refl) in
           let w = subst (λ (y : Option Contents). IsHeaderOf y (get_or words (header_at c o) 0)) e (image.header o number.0 number.1) in
           let stands = image.space.object o x w.parts number.0 number.1 e w.fits w.word in
-          (w.parts.place, λ j l. let own = subst (λ m. image.space.owner (spot m o w.parts.place j) ≡ of_object o j) still (stands.owns j l) in (object_below c words s.objects (IsIn s.used) image.moving held image.space (w.parts.place + j) o j own, own))
+          (w.parts.place, λ j l. let own = subst (λ m. image.space.owner (element_spot m o w.parts.place j) ≡ of_object o j) still (stands.owns j l) in (object_below c words s.objects (IsIn s.used) image.moving held image.space (w.parts.place + j) o j own, own))
 
   -- the present objects and a range that is held lie below the top together
   range_fits : image.moving ≡ None → IsInRoom c s → (t p : ℕ) → present_words c s + length (words_at p (held t).ranges) ≤ s.used

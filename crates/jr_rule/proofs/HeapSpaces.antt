@@ -14,7 +14,7 @@ use Rattle.jr_model.proofs.Updates.{at_number_self}
 use Rattle.jr_steps.specs.declared.known.Holdings.{Holdings}
 use Rattle.jr_steps.specs.declared.known.Move.{Move}
 use Rattle.jr_steps.specs.Holdings.{words_at, header_in, with_range, with_header, hold}
-use Rattle.jr_steps.specs.Says.{spot}
+use Rattle.jr_steps.specs.Says.{element_spot}
 use Rattle.jr_rule.specs.Image.{top_at, header_at, element_at, Owner, unowned, of_object, of_range, Stands, IsKnown, IsSpace}
 use Rattle.jr_word.proofs.OneWord.{header_word-injective}
 use Rattle.jr_rule.proofs.Headers.{header_positive}
@@ -129,8 +129,8 @@ module _ (c : Config) (words : List ℕ) (objects : ℕ → Option Contents) (ar
       inside = reserved_in;
       object = λ o x h some few is fits word.
           let old = s.object o x h some few is fits (sym (header_stays c words top_at w (omega arith) o some) ∙ word) in record {
-            owns = λ j l. let e = old.owns j l in reserved_old (spot moving o h.place j) (object_below (spot moving o h.place j) o j e) ∙ e;
-            reads = λ j l. top_element (spot moving o h.place j) ∙ old.reads j l;
+            owns = λ j l. let e = old.owns j l in reserved_old (element_spot moving o h.place j) (object_below (element_spot moving o h.place j) o j e) ∙ e;
+            reads = λ j l. top_element (element_spot moving o h.place j) ∙ old.reads j l;
           };
       low = λ o x h some few is fits word j l. wider (h.place + j) (s.low o x h some few is fits (sym (header_stays c words top_at w (omega arith) o some) ∙ word) j l);
       range = range_cases held t base (elements_from c words base n) (λ u q ws. Stands c reserved (slice_set words top_at w) (of_range u q) (λ j. q + j) ws)
@@ -188,7 +188,7 @@ module _ (c : Config) (words : List ℕ) (objects : ℕ → Option Contents) (ar
       let below = range_below (p + i) t p i own in record {
         owner = s.owner;
         inside = s.inside;
-        object = λ o x h some few is good word. untouched wide fits (p + i) v (of_object o) (spot moving o h.place) x.words (λ j e. object_or_range (s.owner (p + i)) o j t p i e own) (s.object o x h some few is good (sym (no_header wide fits (p + i) v o some few) ∙ word));
+        object = λ o x h some few is good word. untouched wide fits (p + i) v (of_object o) (element_spot moving o h.place) x.words (λ j e. object_or_range (s.owner (p + i)) o j t p i e own) (s.object o x h some few is good (sym (no_header wide fits (p + i) v o some few) ∙ word));
         low = λ o x h some few is good word. s.low o x h some few is good (sym (no_header wide fits (p + i) v o some few) ∙ word);
         range = range_cases held t p (slice_set (words_at p (held t).ranges) i v) (λ u q ws. Stands c s.owner (slice_set words (element_at c (p + i)) v) (of_range u q) (λ j. q + j) ws)
             (touched wide fits (p + i) v (of_range t p) (λ j. p + j) i (words_at p (held t).ranges) (λ j k e. one_of_range t p j k e) refl l below (s.range t p))
@@ -198,9 +198,9 @@ module _ (c : Config) (words : List ℕ) (objects : ℕ → Option Contents) (ar
 
   -- an element of a present object is written
   pub space_written : (wide : length words ≡ row_words c) (fits : (x : ℕ) → area x → x < c.words) (o i v : ℕ) (x : Contents) (h : HeaderParts) → 1 ≤ o → o ≤ c.objects → objects o ≡ Some x → IsHeader h → get_or words (header_at c o) 0 ≡ header_word h → i < length x.words
-      → IsSpace c (slice_set words (element_at c (spot moving o h.place i)) v) (update nat_eq objects o (Some (record { kind = x.kind; words = slice_set x.words i v }))) area moving held
+      → IsSpace c (slice_set words (element_at c (element_spot moving o h.place i)) v) (update nat_eq objects o (Some (record { kind = x.kind; words = slice_set x.words i v }))) area moving held
   space_written wide fits o i v x h some few is good word l =
-      let at : ℕ = spot moving o h.place i in
+      let at : ℕ = element_spot moving o h.place i in
       let list = s.object o x h some few is good word in
       let own = list.owns i l in
       let below = object_below at o i own in
@@ -221,9 +221,9 @@ module _ (c : Config) (words : List ℕ) (objects : ℕ → Option Contents) (ar
             (λ e.
             let y_is : new ≡ y = let z = sym (at_number_self objects o (Some new)) ∙ (ap (update nat_eq objects o (Some new)) e ∙ is') in cc in
             let k_is : h ≡ k = header_word-injective h k good good' (sym word ∙ (ap (λ z. get_or words (header_at c z) 0) e ∙ kept)) in
-            subst (λ (z : ℕ × Contents × HeaderParts). Stands c s.owner (slice_set words (element_at c at) v) (of_object z.0) (spot moving z.0 (z.2).place) (z.1).words) (λ j. (e j, y_is j, k_is j))
-            (touched wide fits at v (of_object o) (spot moving o h.place) i x.words (λ j k e. one_of_object o j k e) refl l below list))
-            (λ ne. untouched wide fits at v (of_object r) (spot moving r k.place) y.words (λ j e. ne (one_object (s.owner at) o i r j own e))
+            subst (λ (z : ℕ × Contents × HeaderParts). Stands c s.owner (slice_set words (element_at c at) v) (of_object z.0) (element_spot moving z.0 (z.2).place) (z.1).words) (λ j. (e j, y_is j, k_is j))
+            (touched wide fits at v (of_object o) (element_spot moving o h.place) i x.words (λ j k e. one_of_object o j k e) refl l below list))
+            (λ ne. untouched wide fits at v (of_object r) (element_spot moving r k.place) y.words (λ j e. ne (one_object (s.owner at) o i r j own e))
             (s.object r y k some' few' (sym (ap (λ b. cond b (Some new) (objects r)) (ne_eqb o r ne)) ∙ is') good' kept));
         range = λ u q. untouched wide fits at v (of_range u q) (λ j. q + j) (words_at q (held u).ranges) (λ j e. object_or_range (s.owner at) o i u q j own e) (s.range u q);
         header = λ u r k e. known_stays wide fits at v u r k e;
@@ -270,8 +270,8 @@ module _ (c : Config) (words : List ℕ) (objects : ℕ → Option Contents) (ar
     space_empty = record {
       owner = s.owner;
       inside = s.inside;
-      object = published_object (λ r y k. Stands c s.owner headed (of_object r) (spot moving r k.place) y.words) [] (record { owns = λ j l. absurd (omega arith); reads = λ j l. absurd (omega arith) })
-          (λ r y k a b is g w. stays s.owner (of_object r) (spot moving r k.place) y.words (λ x j e. e) (s.object r y k a b is g w));
+      object = published_object (λ r y k. Stands c s.owner headed (of_object r) (element_spot moving r k.place) y.words) [] (record { owns = λ j l. absurd (omega arith); reads = λ j l. absurd (omega arith) })
+          (λ r y k a b is g w. stays s.owner (of_object r) (element_spot moving r k.place) y.words (λ x j e. e) (s.object r y k a b is g w));
       low = published_object (λ r y k. (j : ℕ) → j < length y.words → area (k.place + j)) [] (λ j l. absurd (omega arith)) s.low;
       range = λ u q. stays s.owner (of_range u q) (λ j. q + j) (words_at q (held u).ranges) (λ x j e. e) (s.range u q);
       header = λ u r k e. known_apart r k (s.header u r k e);
@@ -303,10 +303,10 @@ module _ (c : Config) (words : List ℕ) (objects : ℕ → Option Contents) (ar
       space_published still = record {
         owner = owner_then;
         inside = λ x some. s.inside x (λ none. some (ap renamed none));
-        object = published_object (λ r y k. Stands c owner_then headed (of_object r) (spot moving r k.place) y.words) (words_at h.place (held t).ranges)
-            (subst (λ m. Stands c owner_then headed (of_object o) (spot m o h.place) (words_at h.place (held t).ranges)) (sym still)
+        object = published_object (λ r y k. Stands c owner_then headed (of_object r) (element_spot moving r k.place) y.words) (words_at h.place (held t).ranges)
+            (subst (λ m. Stands c owner_then headed (of_object o) (element_spot m o h.place) (words_at h.place (held t).ranges)) (sym still)
             (let z = s.range t h.place in record { owns = λ j l. renamed_here (h.place + j) j (z.owns j l); reads = λ j l. same_element (h.place + j) ∙ z.reads j l }))
-            (λ r y k a b is g w. stays owner_then (of_object r) (spot moving r k.place) y.words (λ x j e. renamed_object x r j e) (s.object r y k a b is g w));
+            (λ r y k a b is g w. stays owner_then (of_object r) (element_spot moving r k.place) y.words (λ x j e. renamed_object x r j e) (s.object r y k a b is g w));
         low = published_object (λ r y k. (j : ℕ) → j < length y.words → area (k.place + j)) (words_at h.place (held t).ranges) (λ j l. range_below (h.place + j) t h.place j ((s.range t h.place).owns j l)) s.low;
         range = range_cases held t h.place [] (λ u q ws. Stands c owner_then headed (of_range u q) (λ j. q + j) ws)
             (record { owns = λ j l. absurd (omega arith); reads = λ j l. absurd (omega arith) })

@@ -1,4 +1,4 @@
--- What the steps of the heap owe, over any words and any history.
+-- Legal steps at the top, at headers and at elements, over any words and any history.
 use Rattle.std.proofs.Common.{◌≡◌, ◌≢◌, ◌+◌, ◌<◌, ◌≤◌, ℕ, ◌==◌, Bool, true, false, cond, Option, Some, None, List, [], ◌∷◌, length, get_or, slice_set, nat_eq, refl, sym, ap, subst, ◌∙◌, arith, length-set}
 use Rattle.std.proofs.lemmas.Option.{slice_get-get_or}
 use Rattle.jr_word.specs.declared.config.Config.{Config}
@@ -17,12 +17,12 @@ use Rattle.jr_model.proofs.Lengths.{lengths_fit}
 use Rattle.jr_model.proofs.Updates.{at_number}
 use Rattle.jr_steps.specs.declared.known.Holdings.{Holdings}
 use Rattle.jr_steps.specs.Holdings.{words_at, header_in, with_range, with_header, hold}
-use Rattle.jr_steps.specs.Says.{spot}
+use Rattle.jr_steps.specs.Says.{element_spot}
 use Rattle.jr_rule.specs.Image.{top_at, header_at, element_at, MayHold, AreHeld, IsIn, IsTopOf, IsHeaderOf, IsSpace, IsImage}
 use Rattle.jr_steps.specs.Knowing.{without_range_of}
 use Rattle.jr_rule.proofs.HeapImages.{given_words, there, known_is, own_element, known_element, given_fit, space_headed}
 use Rattle.jr_rule.proofs.HeapSpaces.{elements_from, space_reserved, space_put, space_written}
-use Rattle.jr_rule.proofs.Images.{hands_held, top_set, element_set}
+use Rattle.jr_rule.proofs.Images.{held_by_role_held, top_set, element_set}
 use Rattle.jr_model.proofs.InRoom.{in_room}
 use Rattle.jr_rule.proofs.LocalSteps.{publishes}
 use Rattle.jr_rule.proofs.LegalSteps.{LegalStep, one_legal, none_legal}
@@ -41,19 +41,19 @@ module _ (c : Config) (last : ℕ) (log : History) (t : ℕ) (words : List ℕ) 
 
   -- no move is unfinished while a thread is within
   pub unmoved : image.moving ≡ None
-  unmoved = image.hands.still (λ u collects. (apart_state c last log legal).apart u t collects within)
+  unmoved = image.held_by_role.still (λ u collects. (apart_state c last log legal).apart u t collects within)
 
   -- what a thread within may hold
   holds : (z : Holdings) → z.moving ≡ (held t).moving → AreHeld now.role image.moving (hold held t z)
-  holds z same = hands_held now.role image.moving held t z
-      (subst (λ r. MayHold image.moving r z) (sym within) (same ∙ subst (λ r. MayHold image.moving r (held t)) within (image.hands.each t))) image.hands
+  holds z same = held_by_role_held now.role image.moving held t z
+      (subst (λ r. MayHold image.moving r z) (sym within) (same ∙ subst (λ r. MayHold image.moving r (held t)) within (image.held_by_role.each t))) image.held_by_role
 
   -- so the elements stand where the headers say
   at_header : IsSpace c words now.objects (IsIn now.used) None held
   at_header = subst (λ m. IsSpace c words now.objects (IsIn now.used) m held) unmoved image.space
 
   held_still : AreHeld now.role None held
-  held_still = subst (λ m. AreHeld now.role m held) unmoved image.hands
+  held_still = subst (λ m. AreHeld now.role m held) unmoved image.held_by_role
 
   -- the top goes up, and the words between are the thread's own
   pub reserves : (n w : ℕ) → now.used + n ≤ c.words → IsTopOf (now.used + n) w → LegalStep c last log t (Reserve n ∷ []) (slice_set words top_at w) (hold held t (with_range g now.used (elements_from c words now.used n)))
@@ -89,7 +89,7 @@ module _ (c : Config) (last : ℕ) (log : History) (t : ℕ) (words : List ℕ) 
       let long = x.long in
       let short : i < length x.contents.words = omega arith in
       one_legal c last log t words held legal (Read o i (get_or words (element_at c (h.place + i)) 0))
-      (row, (within, x.contents, x.is, slice_get-get_or x.contents.words i 0 short ∙ ap (λ v. Some v) (sym (subst (λ m. get_or words (element_at c (spot m o h.place i)) 0 ≡ get_or x.contents.words i 0) unmoved (x.stands.reads i short))))) image
+      (row, (within, x.contents, x.is, slice_get-get_or x.contents.words i 0 short ∙ ap (λ v. Some v) (sym (subst (λ m. get_or words (element_at c (element_spot m o h.place i)) 0 ≡ get_or x.contents.words i 0) unmoved (x.stands.reads i short))))) image
 
   -- a store to an element
   pub writes : (o : ℕ) (h : HeaderParts) (i v : ℕ) → header_in o g.headers ≡ Some h → i < h.length → h.kind ≢ Text → IsWord now h.kind v → LegalStep c last log t (Write o i v ∷ []) (slice_set words (element_at c (h.place + i)) v) held

@@ -11,7 +11,7 @@ use Rattle.jr_model.proofs.Gates.{apart_state}
 use Rattle.jr_model.proofs.Lengths.{lengths_fit}
 use Rattle.jr_steps.specs.declared.known.Holdings.{Holdings}
 use Rattle.jr_steps.specs.Holdings.{InSpace, ShareNoWord, empty, header_in}
-use Rattle.jr_steps.specs.Says.{spot}
+use Rattle.jr_steps.specs.Says.{element_spot}
 use Rattle.jr_rule.specs.Image.{element_at, of_object, MayHold, IsImage}
 use Rattle.jr_rule.proofs.Readings.{none_some}
 use Rattle.jr_rule.proofs.HeapImages.{there, own_element, known_element}
@@ -21,7 +21,7 @@ holdings_in_space c last log words held legal image t g is = subst (InSpace c) i
   own = λ p i l. let below = own_element c last words s held image t p i l in omega (arith, fit);
   good = λ o h e. (image.space.header t o h e).fits;
   elements = λ o h e i l. let below = known_element c last words s held image o h i (image.space.header t o h e) l in omega (arith, fit);
-  apart = λ none. apart (at_headers (s.role t) refl (image.hands.each t) none);
+  apart = λ none. apart (at_headers (s.role t) refl (image.held_by_role.each t) none);
 })
   where
     s : State
@@ -29,7 +29,7 @@ holdings_in_space c last log words held legal image t g is = subst (InSpace c) i
 
     -- the objects stand at their headers, or nothing is held
     at_headers : (r : Role) → s.role t ≡ r → MayHold image.moving r (held t) → (held t).moving ≡ None → (image.moving ≡ None) ⊎ (held t ≡ empty)
-    at_headers Within e h none = inl (image.hands.still (λ u collects. (apart_state c last log legal).apart u t collects e))
+    at_headers Within e h none = inl (image.held_by_role.still (λ u collects. (apart_state c last log legal).apart u t collects e))
     at_headers Collecting e h none = inl (sym h.0 ∙ none)
     at_headers Outside e h none = inr h
     at_headers Knocking e h none = inr h
@@ -42,7 +42,7 @@ holdings_in_space c last log words held legal image t g is = subst (InSpace c) i
     owned o h i none e l =
         let x = there c last words s held image o h (image.space.header t o h e) in
         let long = x.long in
-        subst (λ m. image.space.owner (spot m o h.place i) ≡ of_object o i) none (x.stands.owns i (omega arith))
+        subst (λ m. image.space.owner (element_spot m o h.place i) ≡ of_object o i) none (x.stands.owns i (omega arith))
 
     apart : (image.moving ≡ None) ⊎ (held t ≡ empty) → ShareNoWord (held t)
     apart which o r h k i j ne e f l m same = ⊎_elim

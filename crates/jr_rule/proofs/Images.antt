@@ -61,11 +61,11 @@ same_slot last i w refs refs' given given' same x = record {
     says (slot.Weak n o) y = alone (handle_of Weak n i) (found_of o) refl y
 
 -- who holds the same, or one something else that it may
-pub hands_same : (role : ℕ → Role) (moving : Option Move) (held held' : ℕ → Holdings) → ((u : ℕ) → held' u ≡ held u) → AreHeld role moving held → AreHeld role moving held'
-hands_same role moving held held' same a = record { each = λ u. subst (MayHold moving (role u)) (sym (same u)) (a.each u); still = a.still }
+pub held_by_role_same : (role : ℕ → Role) (moving : Option Move) (held held' : ℕ → Holdings) → ((u : ℕ) → held' u ≡ held u) → AreHeld role moving held → AreHeld role moving held'
+held_by_role_same role moving held held' same a = record { each = λ u. subst (MayHold moving (role u)) (sym (same u)) (a.each u); still = a.still }
 
-pub hands_held : (role : ℕ → Role) (moving : Option Move) (held : ℕ → Holdings) (t : ℕ) (g : Holdings) → MayHold moving (role t) g → AreHeld role moving held → AreHeld role moving (hold held t g)
-hands_held role moving held t g may a = record {
+pub held_by_role_held : (role : ℕ → Role) (moving : Option Move) (held : ℕ → Holdings) (t : ℕ) (g : Holdings) → MayHold moving (role t) g → AreHeld role moving held → AreHeld role moving (hold held t g)
+held_by_role_held role moving held t g may a = record {
   each = λ u. dite (ℕ_discrete u t)
       (λ e. subst (λ (z : ℕ × Holdings). MayHold moving (role z.0) z.1) (λ i. (sym e i, sym (ap (hold held t g) e ∙ hold_here held t g) i)) may)
       (λ ne. subst (MayHold moving (role u)) (sym (hold_else held t u g ne)) (a.each u));
@@ -82,7 +82,7 @@ module _ (c : Config) (last : ℕ) (words : List ℕ) (s : State) (held : ℕ �
   here i P l p = subst P (sym (get_or-set_same words i n 0 l)) p
 
   pub gate_set : (role : ℕ → Role) → AreHeld role image.moving held → IsGateOf c role n → IsImage c last (slice_set words gate_at n) (record s { role = role }) held
-  gate_set role hands g = let wide = image.wide in record {
+  gate_set role held_by_role g = let wide = image.wide in record {
     wide = length-set words gate_at n ∙ image.wide;
     gate = here 0 (IsGateOf c role) (omega arith) g;
     top = other 0 1 (IsTopOf s.used) (λ e. absurd (omega arith)) image.top;
@@ -90,7 +90,7 @@ module _ (c : Config) (last : ℕ) (words : List ℕ) (s : State) (held : ℕ �
     local = λ t p l m. other 0 (local_at c t p) (IsLocalOf (s.locals t p)) (λ e. absurd (omega arith)) (image.local t p l m);
     header = λ o l m. other 0 (header_at c o) (IsHeaderOf (s.objects o)) (λ e. absurd (omega arith)) (image.header o l m);
     moving = image.moving;
-    hands = hands;
+    held_by_role = held_by_role;
     space = space_low c words gate_at n (omega arith) s.objects (IsIn s.used) image.moving held image.space;
   }
 
@@ -104,7 +104,7 @@ module _ (c : Config) (last : ℕ) (words : List ℕ) (s : State) (held : ℕ �
     local = λ t p l m. other (slot_at i) (local_at c t p) (IsLocalOf (s.locals t p)) (λ e. absurd (omega arith)) (image.local t p l m);
     header = λ o l m. other (slot_at i) (header_at c o) (IsHeaderOf (s.objects o)) (λ e. absurd (omega arith)) (image.header o l m);
     moving = image.moving;
-    hands = record { each = image.hands.each; still = image.hands.still };
+    held_by_role = record { each = image.held_by_role.each; still = image.held_by_role.still };
     space = space_low c words (slot_at i) n (omega arith) s.objects (IsIn s.used) image.moving held image.space;
   }
     where
@@ -132,13 +132,13 @@ module _ (c : Config) (last : ℕ) (words : List ℕ) (s : State) (held : ℕ �
         (λ ne. other (local_at c t p) (local_at c u q) (IsLocalOf (s.locals u q)) (λ z. ne (sym (local_apart c u q t p m place z).0)) (image.local u q l m));
     header = λ r l m. other (local_at c t p) (header_at c r) (IsHeaderOf (s.objects r)) (λ e. absurd (omega arith)) (image.header r l m);
     moving = image.moving;
-    hands = record { each = image.hands.each; still = image.hands.still };
+    held_by_role = record { each = image.held_by_role.each; still = image.held_by_role.still };
     space = space_low c words (local_at c t p) n (omega arith) s.objects (IsIn s.used) image.moving held image.space;
   }
 
   -- where the word of several parts changes, the space is the caller's to show
   pub top_set : (used : ℕ) (moving : Option Move) (held' : ℕ → Holdings) → AreHeld s.role moving held' → IsTopOf used n → IsSpace c (slice_set words top_at n) s.objects (IsIn used) moving held' → IsImage c last (slice_set words top_at n) (record s { used = used }) held'
-  top_set used moving held' hands x space = let wide = image.wide in record {
+  top_set used moving held' held_by_role x space = let wide = image.wide in record {
     wide = length-set words top_at n ∙ image.wide;
     gate = other 1 0 (IsGateOf c s.role) (λ e. absurd (omega arith)) image.gate;
     top = here 1 (IsTopOf used) (omega arith) x;
@@ -146,13 +146,13 @@ module _ (c : Config) (last : ℕ) (words : List ℕ) (s : State) (held : ℕ �
     local = λ t p l m. other 1 (local_at c t p) (IsLocalOf (s.locals t p)) (λ e. absurd (omega arith)) (image.local t p l m);
     header = λ o l m. other 1 (header_at c o) (IsHeaderOf (s.objects o)) (λ e. absurd (omega arith)) (image.header o l m);
     moving = moving;
-    hands = record { each = hands.each; still = hands.still };
+    held_by_role = record { each = held_by_role.each; still = held_by_role.still };
     space = space;
   }
 
   pub header_set : (o : ℕ) (x : Option Contents) (moving : Option Move) (held' : ℕ → Holdings) → AreHeld s.role moving held' → 1 ≤ o → o ≤ c.objects → IsHeaderOf x n → IsSpace c (slice_set words (header_at c o) n) (update nat_eq s.objects o x) (IsIn s.used) moving held'
       → IsImage c last (slice_set words (header_at c o) n) (record s { objects = update nat_eq s.objects o x }) held'
-  header_set o x moving held' hands low high h space = let wide = image.wide in record {
+  header_set o x moving held' held_by_role low high h space = let wide = image.wide in record {
     wide = length-set words (header_at c o) n ∙ image.wide;
     gate = other (header_at c o) 0 (IsGateOf c s.role) (λ e. absurd (omega arith)) image.gate;
     top = other (header_at c o) 1 (IsTopOf s.used) (λ e. absurd (omega arith)) image.top;
@@ -162,14 +162,14 @@ module _ (c : Config) (last : ℕ) (words : List ℕ) (s : State) (held : ℕ �
         (λ e. subst (λ k. IsHeaderOf x (get_or (slice_set words (header_at c o) n) (header_at c k) 0)) e (here (header_at c o) (IsHeaderOf x) (omega arith) h))
         (λ ne. other (header_at c o) (header_at c r) (IsHeaderOf (s.objects r)) (λ z. ne (omega arith)) (image.header r l m));
     moving = moving;
-    hands = record { each = hands.each; still = hands.still };
+    held_by_role = record { each = held_by_role.each; still = held_by_role.still };
     space = space;
   }
 
   -- a word of array space, where the objects keep their headers
   pub element_set : (x : ℕ) (objects : ℕ → Option Contents) (moving : Option Move) (held' : ℕ → Holdings) → AreHeld s.role moving held' → x < c.words → ((o w : ℕ) → IsHeaderOf (s.objects o) w → IsHeaderOf (objects o) w) → IsSpace c (slice_set words (element_at c x) n) objects (IsIn s.used) moving held'
       → IsImage c last (slice_set words (element_at c x) n) (record s { objects = objects }) held'
-  element_set x objects moving held' hands row same space = let wide = image.wide in record {
+  element_set x objects moving held' held_by_role row same space = let wide = image.wide in record {
     wide = length-set words (element_at c x) n ∙ image.wide;
     gate = other (element_at c x) 0 (IsGateOf c s.role) (λ e. absurd (omega arith)) image.gate;
     top = other (element_at c x) 1 (IsTopOf s.used) (λ e. absurd (omega arith)) image.top;
@@ -177,18 +177,18 @@ module _ (c : Config) (last : ℕ) (words : List ℕ) (s : State) (held : ℕ �
     local = λ t p l m. other (element_at c x) (local_at c t p) (IsLocalOf (s.locals t p)) (λ e. let below = local_below c t p l m in absurd (omega arith)) (image.local t p l m);
     header = λ o l m. other (element_at c x) (header_at c o) (IsHeaderOf (objects o)) (λ e. absurd (omega arith)) (same o (get_or words (header_at c o) 0) (image.header o l m));
     moving = moving;
-    hands = record { each = hands.each; still = hands.still };
+    held_by_role = record { each = held_by_role.each; still = held_by_role.still };
     space = space;
   }
 
 module _ (c : Config) (last : ℕ) (words : List ℕ) (s : State) (held : ℕ → Holdings) (image : IsImage c last words s held) where
   pub with_space : (moving : Option Move) (held' : ℕ → Holdings) → AreHeld s.role moving held' → IsSpace c words s.objects (IsIn s.used) moving held' → IsImage c last words s held'
-  with_space moving held' hands space = record { wide = image.wide; gate = image.gate; top = image.top; slot = image.slot; local = image.local; header = image.header; moving = moving; hands = hands; space = space }
+  with_space moving held' held_by_role space = record { wide = image.wide; gate = image.gate; top = image.top; slot = image.slot; local = image.local; header = image.header; moving = moving; held_by_role = held_by_role; space = space }
 
   -- who holds the same
   pub image_same : (held' : ℕ → Holdings) → ((u : ℕ) → held' u ≡ held u) → IsImage c last words s held'
-  image_same held' same = with_space image.moving held' (hands_same s.role image.moving held held' same image.hands) (space_same c words s.objects (IsIn s.used) image.moving held image.space held' same)
+  image_same held' same = with_space image.moving held' (held_by_role_same s.role image.moving held held' same image.held_by_role) (space_same c words s.objects (IsIn s.used) image.moving held image.space held' same)
 
   -- a thread holds nothing any more, where no move of its own is unfinished
   pub image_let_go : (t : ℕ) → MayHold image.moving (s.role t) empty → IsImage c last words s (hold held t empty)
-  image_let_go t may = with_space image.moving (hold held t empty) (hands_held s.role image.moving held t empty may image.hands) (space_let_go c words s.objects (IsIn s.used) image.moving held image.space t)
+  image_let_go t may = with_space image.moving (hold held t empty) (held_by_role_held s.role image.moving held t empty may image.held_by_role) (space_let_go c words s.objects (IsIn s.used) image.moving held image.space t)

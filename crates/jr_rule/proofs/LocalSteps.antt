@@ -1,4 +1,4 @@
--- What the steps of local words and headers owe.
+-- Legal steps at local words and headers, over any words and any history.
 use Rattle.std.proofs.Common.{◌≡◌, ◌⊎◌, ⊎_elim, ◌+◌, ◌<◌, ◌≤◌, ℕ, Option, Some, None, List, [], ◌∷◌, length, get_or, slice_set, nat_eq, refl, sym, subst, ◌^◌}
 use Rattle.jr_word.specs.Local.{IsLocalPlace, local_word}
 use Rattle.jr_word.specs.declared.config.Config.{Config}
@@ -19,7 +19,7 @@ use Rattle.jr_rule.specs.Image.{local_at, header_at, MayHold, AreHeld, IsIn, IsK
 use Rattle.jr_rule.proofs.Headers.{header_none}
 use Rattle.jr_rule.proofs.HeapSpaces.{space_known}
 use Rattle.jr_rule.proofs.LegalSteps.{LegalStep, one_legal, none_legal}
-use Rattle.jr_rule.proofs.Images.{hands_held, local_set, header_set, with_space}
+use Rattle.jr_rule.proofs.Images.{held_by_role_held, local_set, header_set, with_space}
 
 -- the parts of an object's local word are those that a place can have
 pub place_fits : (o : Option ℕ) → ((x : ℕ) → o ≡ Some x → (0 < x) × (x < 2 ^ 16)) → IsLocalPlace (local_parts o)
@@ -42,7 +42,7 @@ knows_header c last log t words legal held image inside g is o h known =
     subst (λ (z : Holdings). LegalStep c last log t [] words (hold held t (with_header z o h))) is
     (none_legal c last log t words (hold held t (with_header (held t) o h)) legal
     (with_space c last words s held image image.moving (hold held t (with_header (held t) o h))
-    (hands_held s.role image.moving held t (with_header (held t) o h) (may_know image.moving (s.role t) (held t) o h inside (image.hands.each t)) image.hands)
+    (held_by_role_held s.role image.moving held t (with_header (held t) o h) (may_know image.moving (s.role t) (held t) o h inside (image.held_by_role.each t)) image.held_by_role)
     (space_known c words s.objects (IsIn s.used) image.moving held image.space t o h known)))
 
 module _ (c : Config) (last : ℕ) (log : History) (t : ℕ) (words : List ℕ) (legal : IsLegal c last log) (held : ℕ → Holdings) (image : IsImage c last words (state log) held) (row : t < c.threads) (within : (state log).role t ≡ Within) where
@@ -57,10 +57,10 @@ module _ (c : Config) (last : ℕ) (log : History) (t : ℕ) (words : List ℕ) 
   pub publishes : (o : ℕ) (parts : HeaderParts) (ws : List ℕ) (moving : Option Move) (held' : ℕ → Holdings) → AreHeld (state log).role moving held' → 1 ≤ o → o ≤ c.objects → IsHeader parts → parts.length ≡ length ws → AreWords (state log) parts.kind ws → present_words c (state log) + length ws ≤ (state log).used → get_or words (header_at c o) 0 ≡ 0
       → IsSpace c (slice_set words (header_at c o) (header_word parts)) (update nat_eq (state log).objects o (Some (record { kind = parts.kind; words = ws }))) (IsIn (state log).used) moving held'
       → LegalStep c last log t (New o parts.kind ws ∷ []) (slice_set words (header_at c o) (header_word parts)) held'
-  publishes o parts ws moving held' hands low high fits long good room found space =
+  publishes o parts ws moving held' held_by_role low high fits long good room found space =
       let s : State = state log in
       let none = header_none (s.objects o) (get_or words (header_at c o) 0) (image.header o low high) found in
       one_legal c last log t (slice_set words (header_at c o) (header_word parts)) held' legal (New o parts.kind ws)
       (row, (within, low, high, none, good, room))
-      (header_set c last words s held image (header_word parts) o (Some (record { kind = parts.kind; words = ws })) moving held' hands low high
+      (header_set c last words s held image (header_word parts) o (Some (record { kind = parts.kind; words = ws })) moving held' held_by_role low high
       (record { parts = parts; fits = fits; word = refl; says = record { kind = refl; long = sym long } }) space)

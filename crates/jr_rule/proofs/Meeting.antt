@@ -4,37 +4,37 @@ use Rattle.jr_model.specs.declared.event.Act.{Act}
 use Rattle.jr_steps.specs.declared.known.Known.{Known}
 use Rattle.jr_steps.specs.Holdings.{InSpace}
 use Rattle.jr_steps.specs.Knowing.{view}
-use Rattle.jr_rule.specs.Rule.{view_of as seats, EachFits, Sat, acting, others_of, Tells, IsAlone, IsSeated, together, first_alone}
+use Rattle.jr_rule.specs.Rule.{view_of as seats, EachFits, SeatState, stepping_pass, others_of, Tells, IsAlone, IsSeated, together, first_alone}
 use Rattle.jr_rule.proofs.Seats.{joined_is}
 
-module _ (a b m : Sat) (alone : IsAlone a) (other : IsAlone b) (joined : m ≡ (together a.0 b.0, a.1)) where
+module _ (a b m : SeatState) (alone : IsAlone a) (other : IsAlone b) (joined : m ≡ (together a.0 b.0, a.1)) where
   -- the seat that was joined has both passes
-  pub both : m ≡ (seats (acting a ∷ acting b ∷ []), [])
-  both = joined_is m a b (acting a) (acting b) alone other joined
+  pub both : m ≡ (seats (stepping_pass a ∷ stepping_pass b ∷ []), [])
+  both = joined_is m a b (stepping_pass a) (stepping_pass b) alone other joined
 
-  pub acting_both : acting m ≡ acting a
-  acting_both = ap acting both
+  pub acting_both : stepping_pass m ≡ stepping_pass a
+  acting_both = ap stepping_pass both
 
-  pub others_both : others_of m.0.passes ≡ acting b ∷ []
-  others_both = ap (λ (z : Sat). others_of z.0.passes) both
+  pub others_both : others_of m.0.passes ≡ stepping_pass b ∷ []
+  others_both = ap (λ (z : SeatState). others_of z.0.passes) both
 
   pub seated_both : IsSeated m
   seated_both = both ∙ (λ i. (seats (sym acting_both i ∷ sym others_both i), []))
 
-  module _ {told : Known → ℕ → List Act → Known → Type 0} (n : ℕ) (m' : Sat) (s : Tells told m n m') (first : Sat) (parted : first ≡ (first_alone m'.0, m'.1)) where
+  module _ {told : Known → ℕ → List Act → Known → Type 0} (n : ℕ) (m' : SeatState) (s : Tells told m n m') (first : SeatState) (parted : first ≡ (first_alone m'.0, m'.1)) where
     -- after the look the first pass sits alone again, and was told what the look told
     pub first_is : first ≡ (seats (s.new ∷ []), [])
-    first_is = parted ∙ (ap (λ (z : Sat). (first_alone z.0, z.1)) s.is ∙ ap (λ (z : Sat). (seats (s.new ∷ []), z.1)) both)
+    first_is = parted ∙ (ap (λ (z : SeatState). (first_alone z.0, z.1)) s.is ∙ ap (λ (z : SeatState). (seats (s.new ∷ []), z.1)) both)
 
     -- as if it had looked alone
     pub told_alone : Tells told a n first
     told_alone = record {
       acts = s.acts;
       new = s.new;
-      is = first_is ∙ (λ i. (seats (s.new ∷ ap (λ (z : Sat). others_of z.0.passes) (sym alone) i), ap (λ (z : Sat). z.1) (sym alone) i));
+      is = first_is ∙ (λ i. (seats (s.new ∷ ap (λ (z : SeatState). others_of z.0.passes) (sym alone) i), ap (λ (z : SeatState). z.1) (sym alone) i));
       goes = subst (λ k. Rattle.jr_steps.specs.Knowing.Goes k s.acts s.new) acting_both s.goes;
       says = subst (λ k. told k n s.acts s.new) acting_both s.says;
       space = subst (λ (k : Known). InSpace k.config (s.new).holdings) acting_both s.space;
       held = s.held;
-      others = subst (λ ks. EachFits (acting a).config (acting a).last (s.new).seen s.held ks) (sym (ap (λ (z : Sat). others_of z.0.passes) alone)) tt;
+      others = subst (λ ks. EachFits (stepping_pass a).config (stepping_pass a).last (s.new).seen s.held ks) (sym (ap (λ (z : SeatState). others_of z.0.passes) alone)) tt;
     }

@@ -12,7 +12,7 @@ use Rattle.jr_model.proofs.Updates.{at_number}
 use Rattle.jr_steps.specs.declared.known.Holdings.{Holdings}
 use Rattle.jr_steps.specs.declared.known.Move.{Move}
 use Rattle.jr_steps.specs.Holdings.{words_at, header_in, move_of, HasDone}
-use Rattle.jr_steps.specs.Says.{spot}
+use Rattle.jr_steps.specs.Says.{element_spot}
 use Rattle.jr_steps.proofs.Spots.{spot_else, spot_done, spot_left, at_else, at_done, at_left}
 use Rattle.jr_rule.specs.Image.{top_at, header_at, element_at, Owner, unowned, of_object, of_range, Stands, IsKnown, IsSpace}
 use Rattle.jr_word.proofs.OneWord.{header_word-injective}
@@ -49,7 +49,7 @@ module _ (c : Config) (words : List ℕ) (objects : ℕ → Option Contents) (ar
     below : area at
     below = room
 
-    old : Stands c s.owner words (of_object o) (spot moving o h.place) x.words
+    old : Stands c s.owner words (of_object o) (element_spot moving o h.place) x.words
     old = s.object o x h some few is good word
 
     -- a word that stays: where it stands, whose it is, what it is
@@ -61,23 +61,23 @@ module _ (c : Config) (words : List ℕ) (objects : ℕ → Option Contents) (ar
     stays r i w a ne own read = record { owns = owner_else a ne ∙ own; reads = elsewhere c words objects area moving held s wide fits at v a ne ∙ read }
 
     -- each element of the object stands
-    mine : (i : ℕ) → i < length x.words → IsAt o i (get_or x.words i 0) (spot move o h.place i)
+    mine : (i : ℕ) → i < length x.words → IsAt o i (get_or x.words i 0) (element_spot move o h.place i)
     mine i l = dite (dec_lt i j)
         (λ before. subst (IsAt o i (get_or x.words i 0)) (at_done moving o place j done h.place i before ∙ sym (spot_done o place (j + 1) h.place i (omega arith)))
-        (stays o i (get_or x.words i 0) (spot moving o h.place i) (λ e. let q = at_done moving o place j done h.place i before in absurd (omega arith)) (old.owns i l) (old.reads i l)))
+        (stays o i (get_or x.words i 0) (element_spot moving o h.place i) (λ e. let q = at_done moving o place j done h.place i before in absurd (omega arith)) (old.owns i l) (old.reads i l)))
         (λ not. dite (ℕ_discrete i j)
         (λ here. subst (IsAt o i (get_or x.words i 0)) (sym (spot_done o place (j + 1) h.place i (omega arith)))
         (subst (λ z. IsAt o z (get_or x.words z 0) (place + z)) (sym here) record { owns = owner_here; reads = there c words objects area moving held s wide fits at v below ∙ sym value }))
         (λ after. subst (IsAt o i (get_or x.words i 0)) (at_left moving o place j done h.place i (omega arith) ∙ sym (spot_left o place (j + 1) h.place i (omega arith)))
-        (stays o i (get_or x.words i 0) (spot moving o h.place i) (λ e. later i (omega arith) l (sym (at_left moving o place j done h.place i (omega arith)) ∙ e)) (old.owns i l) (old.reads i l))))
+        (stays o i (get_or x.words i 0) (element_spot moving o h.place i) (λ e. later i (omega arith) l (sym (at_left moving o place j done h.place i (omega arith)) ∙ e)) (old.owns i l) (old.reads i l))))
 
     -- and each of another's
-    theirs : (r : ℕ) (y : Contents) (k : HeaderParts) → o ≢ r → 1 ≤ r → r ≤ c.objects → objects r ≡ Some y → IsHeader k → get_or words (header_at c r) 0 ≡ header_word k → (i : ℕ) → i < length y.words → IsAt r i (get_or y.words i 0) (spot move r k.place i)
+    theirs : (r : ℕ) (y : Contents) (k : HeaderParts) → o ≢ r → 1 ≤ r → r ≤ c.objects → objects r ≡ Some y → IsHeader k → get_or words (header_at c r) 0 ≡ header_word k → (i : ℕ) → i < length y.words → IsAt r i (get_or y.words i 0) (element_spot move r k.place i)
     theirs r y k ne some' few' is' good' word' i l =
         let z = s.object r y k some' few' is' good' word' in
         let before = at_else moving o place j done r k.place i ne in
         subst (IsAt r i (get_or y.words i 0)) (before ∙ sym (spot_else o place (j + 1) r k.place i ne))
-        (stays r i (get_or y.words i 0) (spot moving r k.place i) (λ e. free r y k ne some' few' is' good' word' i l (sym before ∙ e)) (z.owns i l) (z.reads i l))
+        (stays r i (get_or y.words i 0) (element_spot moving r k.place i) (λ e. free r y k ne some' few' is' good' word' i l (sym before ∙ e)) (z.owns i l) (z.reads i l))
 
     pub space_moved : IsSpace c then' objects area move held'
     space_moved = record {
@@ -89,7 +89,7 @@ module _ (c : Config) (words : List ℕ) (objects : ℕ → Option Contents) (ar
           (λ e.
           let y_is : x ≡ y = let z = sym is ∙ (ap objects e ∙ is') in cc in
           let k_is : h ≡ k = header_word-injective h k good good' (sym word ∙ (ap (λ z. get_or words (header_at c z) 0) e ∙ kept)) in
-          subst (λ (z : ℕ × Contents × HeaderParts). Stands c owner' then' (of_object z.0) (spot move z.0 (z.2).place) (z.1).words) (λ q. (e q, y_is q, k_is q))
+          subst (λ (z : ℕ × Contents × HeaderParts). Stands c owner' then' (of_object z.0) (element_spot move z.0 (z.2).place) (z.1).words) (λ q. (e q, y_is q, k_is q))
           record { owns = λ i l. (mine i l).owns; reads = λ i l. (mine i l).reads })
           (λ ne. record { owns = λ i l. (theirs r y k ne some' few' is' good' kept i l).owns; reads = λ i l. (theirs r y k ne some' few' is' good' kept i l).reads });
       low = λ r y k some' few' is' good' word'. s.low r y k some' few' is' good' (sym (no_header c words objects area moving held s wide fits at v r some' few') ∙ word');
@@ -119,10 +119,10 @@ module _ (c : Config) (words : List ℕ) (objects : ℕ → Option Contents) (ar
       reads = λ i l. subst (λ a. get_or headed (element_at c a) 0 ≡ get_or items i 0) (same i l) (same_element (old i) ∙ z.reads i l);
     }
 
-    old_list : Stands c s.owner words (of_object o) (spot moving o h.place) x.words
+    old_list : Stands c s.owner words (of_object o) (element_spot moving o h.place) x.words
     old_list = s.object o x h some few is good word
 
-    arrived : (i : ℕ) → i < length x.words → spot moving o h.place i ≡ new.place + i
+    arrived : (i : ℕ) → i < length x.words → element_spot moving o h.place i ≡ new.place + i
     arrived i l = at_done moving o place (length x.words) done h.place i l ∙ ap (λ z. z + i) (sym to)
 
     pub space_set : IsSpace c headed objects area None held'
@@ -133,11 +133,11 @@ module _ (c : Config) (words : List ℕ) (objects : ℕ → Option Contents) (ar
           (λ e.
           let y_is : x ≡ y = let z = sym is ∙ (ap objects e ∙ is') in cc in
           let k_is : new ≡ k = header_word-injective new k fits' good' (sym at_header ∙ (ap (λ z. get_or headed (header_at c z) 0) e ∙ word')) in
-          subst (λ (z : ℕ × Contents × HeaderParts). Stands c s.owner headed (of_object z.0) (spot None z.0 (z.2).place) (z.1).words) (λ q. (e q, y_is q, k_is q))
-          (stands o x.words (spot moving o h.place) (spot None o new.place) arrived old_list))
+          subst (λ (z : ℕ × Contents × HeaderParts). Stands c s.owner headed (of_object z.0) (element_spot None z.0 (z.2).place) (z.1).words) (λ q. (e q, y_is q, k_is q))
+          (stands o x.words (element_spot moving o h.place) (element_spot None o new.place) arrived old_list))
           (λ ne.
           let kept = sym (other_header r some' ne) ∙ word' in
-          stands r y.words (spot moving r k.place) (spot None r k.place) (λ i l. at_else moving o place (length x.words) done r k.place i ne) (s.object r y k some' few' is' good' kept));
+          stands r y.words (element_spot moving r k.place) (element_spot None r k.place) (λ i l. at_else moving o place (length x.words) done r k.place i ne) (s.object r y k some' few' is' good' kept));
       low = λ r y k some' few' is' good' word'. dite (ℕ_discrete o r)
           (λ e.
           let y_is : x ≡ y = let z = sym is ∙ (ap objects e ∙ is') in cc in
@@ -169,8 +169,8 @@ module _ (c : Config) (words : List ℕ) (objects : ℕ → Option Contents) (ar
     space_dropped = record {
       owner = s.owner;
       inside = s.inside;
-      object = left (λ r y k. Stands c s.owner headless (of_object r) (spot moving r k.place) y.words)
-          (λ r y k a b e g w. let z = s.object r y k a b e g w in record { owns = z.owns; reads = λ i l. each_element (spot moving r k.place i) ∙ z.reads i l });
+      object = left (λ r y k. Stands c s.owner headless (of_object r) (element_spot moving r k.place) y.words)
+          (λ r y k a b e g w. let z = s.object r y k a b e g w in record { owns = z.owns; reads = λ i l. each_element (element_spot moving r k.place i) ∙ z.reads i l });
       low = left (λ r y k. (i : ℕ) → i < length y.words → area (k.place + i)) s.low;
       range = λ u p. none_own c s.owner headless (of_range u p) (of_range u p) (λ i. p + i) (words_at p (held' u).ranges) (none u p);
       header = known;
@@ -205,8 +205,8 @@ module _ (c : Config) (words : List ℕ) (objects : ℕ → Option Contents) (ar
       inside = left_in;
       object = λ r y k a b e g z.
           let q = s.object r y k a b e g (here r y k a b e g z) in record {
-            owns = λ i l. left_below (spot moving r k.place i) (subst (λ m. area' (spot m r k.place i)) (sym still) (below r y k a b e g (here r y k a b e g z) i l)) ∙ q.owns i l;
-            reads = λ i l. element_stays c words top_at w (omega arith) (spot moving r k.place i) ∙ q.reads i l;
+            owns = λ i l. left_below (element_spot moving r k.place i) (subst (λ m. area' (element_spot m r k.place i)) (sym still) (below r y k a b e g (here r y k a b e g z) i l)) ∙ q.owns i l;
+            reads = λ i l. element_stays c words top_at w (omega arith) (element_spot moving r k.place i) ∙ q.reads i l;
           };
       low = λ r y k a b e g z i l. below r y k a b e g (here r y k a b e g z) i l;
       range = λ u p. none_own c left_owner settled (of_range u p) (of_range u p) (λ i. p + i) (words_at p (held' u).ranges) (none u p);

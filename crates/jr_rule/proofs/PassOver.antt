@@ -15,18 +15,18 @@ use Rattle.jr_rule.specs.Sights.{sight_of_seat, IsSeatOf}
 use Rattle.jr_rule.specs.declared.pass.Pass.{Pass}
 use Rattle.jr_rule.specs.declared.row.Row.{Row}
 use Rattle.jr_rule.specs.Passes.{Holder, facts_of, holder_of, standing_of, IsAt}
-use Rattle.jr_rule.specs.Rule.{Sat, IsHeld, acting}
+use Rattle.jr_rule.specs.Rule.{SeatState, IsHeld, stepping_pass}
 
-pub standing_of_held : {id : TableId} {m : Sat} {thread : ℕ} {role : Role} {fresh : Bool} {hint : ℕ} → IsHeld m thread role fresh hint → IsStanding (sight_of_seat id m) role fresh hint
+pub standing_of_held : {id : TableId} {m : SeatState} {thread : ℕ} {role : Role} {fresh : Bool} {hint : ℕ} → IsHeld m thread role fresh hint → IsStanding (sight_of_seat id m) role fresh hint
 standing_of_held {m = m} h = record {
-  some = ∥∥₁_map h.legal (λ l. (acting m, (refl, record { config = refl; last = refl; thread = refl; role = h.role_is; legal = l })));
+  some = ∥∥₁_map h.legal (λ l. (stepping_pass m, (refl, record { config = refl; last = refl; thread = refl; role = h.role_is; legal = l })));
   unused = λ f k s. subst HasNoLocals (sym s.is) (h.unused f);
   below = h.below;
 }
 
-pub held_of_standing : {row id : TableId} {c : Config} {last : ℕ} {m : Sat} {thread : ℕ} {role : Role} {fresh : Bool} {hint : ℕ} → IsSeatOf row c last id m thread → IsStanding (sight_of_seat id m) role fresh hint → IsHeld m thread role fresh hint
+pub held_of_standing : {row id : TableId} {c : Config} {last : ℕ} {m : SeatState} {thread : ℕ} {role : Role} {fresh : Bool} {hint : ℕ} → IsSeatOf row c last id m thread → IsStanding (sight_of_seat id m) role fresh hint → IsHeld m thread role fresh hint
 held_of_standing {m = m} {thread} {role} {fresh} {hint} a s =
-    let below : thread < (acting m).config.threads = subst (λ t. t < (acting m).config.threads) a.thread_is a.below in
+    let below : thread < (stepping_pass m).config.threads = subst (λ t. t < (stepping_pass m).config.threads) a.thread_is a.below in
     let most = a.sized.limited.threads.1 in record {
       alone = a.alone;
       thread_is = a.thread_is;
@@ -35,7 +35,7 @@ held_of_standing {m = m} {thread} {role} {fresh} {hint} a s =
       sized = a.sized;
       row = below;
       few = omega arith;
-      unused = λ f p. ∥∥₁_elim s.some (hlevel props) (λ k. s.unused f (acting m)
+      unused = λ f p. ∥∥₁_elim s.some (hlevel props) (λ k. s.unused f (stepping_pass m)
           (record { is = refl; config = refl; last = refl; thread = refl }) p);
       space = a.space;
       below = s.below;

@@ -22,7 +22,7 @@ use Rattle.jr_rule.proofs.HoldingsInSpace.{holdings_in_space}
 use Rattle.jr_model.specs.declared.event.Role.TheVariants.{Outside}
 use Rattle.jr_steps.specs.Knowing.{state_of, IsOf}
 use Rattle.jr_rule.specs.CellLaws.{among_of}
-use Rattle.jr_rule.specs.Shown.{IsHistoryOf, HasHistory}
+use Rattle.jr_rule.specs.RowHistories.{IsHistoryOf, HasHistory}
 
 -- what thread 0 holds
 pub alone_here : (g : Holdings) (t : ℕ) → t ≡ 0 → alone g t ≡ g

@@ -19,7 +19,7 @@ use Rattle.jr_rule.specs.Image.{IsImage}
 use Rattle.jr_rule.proofs.HoldingsInSpace.{holdings_in_space}
 use Rattle.jr_rule.proofs.Spaces.{hold_here, hold_else}
 use Rattle.jr_steps.specs.Knowing.{Goes}
-use Rattle.jr_rule.specs.Rule.{view_of, Fits, EachFits, total, is_of, passes_of, Row, Kept, Sat, acting, Tells, known_at, Owes}
+use Rattle.jr_rule.specs.Rule.{view_of, Fits, EachFits, total, is_of, passes_of, Row, Kept, SeatState, stepping_pass, Tells, known_at, Owes}
 
 -- COUNTS OF A LIST
 
@@ -164,8 +164,8 @@ module _ (c : Config) (last slots id : ℕ) (k : Known) (ks : List Known) (i : �
       (p.0, p.1, p.2, subst (λ (z : Config × ℕ). Kept z.1 z.0 (stepped r i (f (get_or r.words i 0)) id [] p.0 p.1)) (λ j. (fit.same_config j, fit.same_last j)) p.3, p.4)
 
 -- the same of a seat that is known by an equation. It is told of g of the number found
-pub plays : (c : Config) (last slots id : ℕ) (m : Sat) (k : Known) (ks : List Known) → m ≡ (view_of (k ∷ ks), []) → (i : ℕ) (f g : ℕ → ℕ) (told : Known → ℕ → List Act → Known → Type 0)
-    → Owes (acting m) i f (λ n. told (acting m) (g n)) → Allows (Kept last c) slots id m i f (λ n m'. Tells told m (g n) m')
+pub plays : (c : Config) (last slots id : ℕ) (m : SeatState) (k : Known) (ks : List Known) → m ≡ (view_of (k ∷ ks), []) → (i : ℕ) (f g : ℕ → ℕ) (told : Known → ℕ → List Act → Known → Type 0)
+    → Owes (stepping_pass m) i f (λ n. told (stepping_pass m) (g n)) → Allows (Kept last c) slots id m i f (λ n m'. Tells told m (g n) m')
 plays c last slots id m k ks is i f g told =
-    subst (λ (z : Sat). Owes (acting z) i f (λ n. told (acting z) (g n)) → Allows (Kept last c) slots id z i f (λ n m'. Tells told z (g n) m')) (sym is)
+    subst (λ (z : SeatState). Owes (stepping_pass z) i f (λ n. told (stepping_pass z) (g n)) → Allows (Kept last c) slots id z i f (λ n m'. Tells told z (g n) m')) (sym is)
     (λ owes. plays_first c last slots id k ks i f g told owes)

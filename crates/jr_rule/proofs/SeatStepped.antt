@@ -13,31 +13,31 @@ use Rattle.jr_steps.specs.Holdings.{InSpace}
 use Rattle.jr_steps.specs.Knowing.{Goes}
 use Rattle.jr_rule.specs.Cells.{IsOwed, HasStepped, May, WentBy}
 use Rattle.jr_rule.specs.Sights.{sight_of_seat, IsSeatOf}
-use Rattle.jr_rule.specs.Rule.{Sat, IsSeated, IsAlone, IsSized, Owes, Tells, acting, others_of, view_of}
+use Rattle.jr_rule.specs.Rule.{SeatState, IsSeated, IsAlone, IsSized, Owes, Tells, stepping_pass, others_of, view_of}
 
 -- who sits alone is seated
-pub seated : (m : Sat) → IsAlone m → IsSeated m
-seated m alone = alone ∙ (λ i. (view_of (acting m ∷ others_of (sym (ap (λ (z : Sat). z.0) alone) i).passes), []))
+pub seated : (m : SeatState) → IsAlone m → IsSeated m
+seated m alone = alone ∙ (λ i. (view_of (stepping_pass m ∷ others_of (sym (ap (λ (z : SeatState). z.0) alone) i).passes), []))
 
 -- a place of the words is one of the row's
-pub place_here : {row id : TableId} {c : Config} {last thread : ℕ} {m : Sat} → IsSeatOf row c last id m thread → row.words ≡ row_words c → {met : Known → Type 0} {i : ℕ} {f : ℕ → ℕ} {told : Known → ℕ → List Act → Known → Type 0} → IsOwed (sight_of_seat id m) met i f told → i < row.words
+pub place_here : {row id : TableId} {c : Config} {last thread : ℕ} {m : SeatState} → IsSeatOf row c last id m thread → row.words ≡ row_words c → {met : Known → Type 0} {i : ℕ} {f : ℕ → ℕ} {told : Known → ℕ → List Act → Known → Type 0} → IsOwed (sight_of_seat id m) met i f told → i < row.words
 place_here s words {i = i} o = subst (λ n. i < n) (ap row_words s.config ∙ sym words) o.place
 
 -- what the pass owes
-pub owes_here : (m : Sat) {id : TableId} {met : Known → Type 0} {i : ℕ} {f : ℕ → ℕ} {told : Known → ℕ → List Act → Known → Type 0} → IsOwed (sight_of_seat id m) met i f told → Owes (acting m) i f (told (acting m))
-owes_here m {met = met} o = o.owes (acting m) (record { is = refl; config = refl; last = refl; thread = refl }) (∥∥₁_map o.may (λ k. subst met (k.1).is k.2))
+pub owes_here : (m : SeatState) {id : TableId} {met : Known → Type 0} {i : ℕ} {f : ℕ → ℕ} {told : Known → ℕ → List Act → Known → Type 0} → IsOwed (sight_of_seat id m) met i f told → Owes (stepping_pass m) i f (told (stepping_pass m))
+owes_here m {met = met} o = o.owes (stepping_pass m) (record { is = refl; config = refl; last = refl; thread = refl }) (∥∥₁_map o.may (λ k. subst met (k.1).is k.2))
 
-module _ {told : Known → ℕ → List Act → Known → Type 0} {m m' : Sat} {n : ℕ} (t : Tells told m n m') where
-  new_is : t.new ≡ acting m'
-  new_is = sym (ap acting t.is)
+module _ {told : Known → ℕ → List Act → Known → Type 0} {m m' : SeatState} {n : ℕ} (t : Tells told m n m') where
+  new_is : t.new ≡ stepping_pass m'
+  new_is = sym (ap stepping_pass t.is)
 
-  same_config : (acting m').config ≡ (acting m).config
+  same_config : (stepping_pass m').config ≡ (stepping_pass m).config
   same_config = ap (λ (k : Known). k.config) (sym new_is) ∙ t.goes.config
 
-  same_last : (acting m').last ≡ (acting m).last
+  same_last : (stepping_pass m').last ≡ (stepping_pass m).last
   same_last = ap (λ (k : Known). k.last) (sym new_is) ∙ t.goes.last
 
-  same_thread : (acting m').thread ≡ (acting m).thread
+  same_thread : (stepping_pass m').thread ≡ (stepping_pass m).thread
   same_thread = ap (λ (k : Known). k.thread) (sym new_is) ∙ t.goes.thread
 
   -- the seat is one of the row's own still
@@ -46,7 +46,7 @@ module _ {told : Known → ℕ → List Act → Known → Type 0} {m m' : Sat} {
     table = e ∙ s.table;
     config = same_config ∙ s.config;
     last = same_last ∙ s.last;
-    alone = t.is ∙ (λ i. (view_of (new_is i ∷ ap (λ (z : Sat). others_of z.0.passes) s.alone i), ap (λ (z : Sat). z.1) s.alone i));
+    alone = t.is ∙ (λ i. (view_of (new_is i ∷ ap (λ (z : SeatState). others_of z.0.passes) s.alone i), ap (λ (z : SeatState). z.1) s.alone i));
     thread_is = same_thread ∙ s.thread_is;
     sized = subst (λ (z : Config × ℕ). IsSized z.0 z.1) (λ i. (sym same_config i, sym same_last i)) s.sized;
     below = subst (λ (z : Config × ℕ). z.1 < (z.0).threads) (λ i. (sym same_config i, sym same_thread i)) s.below;
@@ -72,8 +72,8 @@ module _ {told : Known → ℕ → List Act → Known → Type 0} {m m' : Sat} {
   }
 
   -- and it went by the acts of which it tells
-  pub seat_went : {id : TableId} {met : Known → Type 0} → May (sight_of_seat id m) met → WentBy (λ acts. Goes (acting m) acts (acting m')) (sight_of_seat id m) met told n
+  pub seat_went : {id : TableId} {met : Known → Type 0} → May (sight_of_seat id m) met → WentBy (λ acts. Goes (stepping_pass m) acts (stepping_pass m')) (sight_of_seat id m) met told n
   seat_went {met = met} may acts its =
-      let here : told (acting m) n t.acts (acting m') = subst (λ z. told (acting m) n t.acts z) new_is t.says in
-      let is : t.acts ≡ acts = ∥∥₁_elim may (hlevel props) (λ k. its (acting m) (acting m') t.acts (record { is = refl; config = refl; last = refl; thread = refl }) (subst met (k.1).is k.2) here) in
-      subst (λ (z : List Act × Known). Goes (acting m) z.0 z.1) (λ i. (is i, new_is i)) t.goes
+      let here : told (stepping_pass m) n t.acts (stepping_pass m') = subst (λ z. told (stepping_pass m) n t.acts z) new_is t.says in
+      let is : t.acts ≡ acts = ∥∥₁_elim may (hlevel props) (λ k. its (stepping_pass m) (stepping_pass m') t.acts (record { is = refl; config = refl; last = refl; thread = refl }) (subst met (k.1).is k.2) here) in
+      subst (λ (z : List Act × Known). Goes (stepping_pass m) z.0 z.1) (λ i. (is i, new_is i)) t.goes

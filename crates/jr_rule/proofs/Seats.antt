@@ -14,7 +14,7 @@ use Rattle.jr_rule.specs.declared.rule.View.{View}
 use Rattle.jr_steps.specs.declared.known.Holdings.{Holdings}
 use Rattle.jr_steps.specs.Holdings.{empty}
 use Rattle.jr_rule.specs.Image.{IsImage}
-use Rattle.jr_rule.specs.Rule.{known, view_of, IsSized, EachFits, total, is_of, passes_of, Kept, newcomers, Sat, first_alone, without_first, together, spent}
+use Rattle.jr_rule.specs.Rule.{known, view_of, IsSized, EachFits, total, is_of, passes_of, Kept, newcomers, SeatState, first_alone, without_first, together, spent}
 use Rattle.jr_rule.proofs.RuleKept.{total_append, total_at}
 
 each_append : (c : Config) (last : ℕ) (log : History) (held : ℕ → Holdings) (ks ls : List Known) → EachFits c last log held ks → EachFits c last log held ls → EachFits c last log held (ks ++ ls)
@@ -112,7 +112,7 @@ module _ (c : Config) (last : ℕ) where
       alone v (suc j) there = absurd (some-ne-none v (sym there))
 
   -- the next of the newcomers
-  pub next_newcomer : (m : Sat) (t : ℕ) → t < c.threads → m ≡ (view_of (newcomers c last (c.threads - t) t), []) → m ≡ (view_of (known c last t [] empty 0 ∷ newcomers c last (c.threads - (t + 1)) (t + 1)), [])
+  pub next_newcomer : (m : SeatState) (t : ℕ) → t < c.threads → m ≡ (view_of (newcomers c last (c.threads - t) t), []) → m ≡ (view_of (known c last t [] empty 0 ∷ newcomers c last (c.threads - (t + 1)) (t + 1)), [])
   next_newcomer m t h e =
       let n : ℕ = c.threads - (t + 1) in
       let more : c.threads - t ≡ suc n = omega arith in
@@ -120,5 +120,5 @@ module _ (c : Config) (last : ℕ) where
       e ∙ (ap (λ (k : ℕ). (view_of (newcomers c last k t), [])) more ∙ ap (λ (k : ℕ). (view_of (known c last t [] empty 0 ∷ newcomers c last n k), [])) next)
 
 -- the seat of two passes that were joined
-pub joined_is : (m v w : Sat) (k l : Known) → v ≡ (view_of (k ∷ []), []) → w ≡ (view_of (l ∷ []), []) → m ≡ (together v.0 w.0, v.1) → m ≡ (view_of (k ∷ l ∷ []), [])
-joined_is m v w k l a b e = e ∙ ap (λ (z : Sat × Sat). (together z.0.0 z.1.0, z.0.1)) (λ i. (a i, b i))
+pub joined_is : (m v w : SeatState) (k l : Known) → v ≡ (view_of (k ∷ []), []) → w ≡ (view_of (l ∷ []), []) → m ≡ (together v.0 w.0, v.1) → m ≡ (view_of (k ∷ l ∷ []), [])
+joined_is m v w k l a b e = e ∙ ap (λ (z : SeatState × SeatState). (together z.0.0 z.1.0, z.0.1)) (λ i. (a i, b i))

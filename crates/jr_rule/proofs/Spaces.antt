@@ -7,7 +7,7 @@ use Rattle.jr_model.specs.State.{Contents}
 use Rattle.jr_steps.specs.declared.known.Holdings.{Holdings}
 use Rattle.jr_steps.specs.declared.known.Move.{Move}
 use Rattle.jr_steps.specs.Holdings.{empty, words_at, header_in, hold}
-use Rattle.jr_steps.specs.Says.{spot}
+use Rattle.jr_steps.specs.Says.{element_spot}
 use Rattle.jr_rule.specs.Image.{header_at, element_at, Owner, of_object, of_range, Stands, IsSpace}
 
 -- the words before the headers
@@ -30,7 +30,7 @@ module _ (c : Config) (words : List ℕ) (i n : ℕ) (low : i < before_headers c
   space_low objects area moving held s = record {
     owner = s.owner;
     inside = s.inside;
-    object = λ o x h some few is fits word. stands_low s.owner (of_object o) (spot moving o h.place) x.words (s.object o x h some few is fits (sym (header_stays o some) ∙ word));
+    object = λ o x h some few is fits word. stands_low s.owner (of_object o) (element_spot moving o h.place) x.words (s.object o x h some few is fits (sym (header_stays o some) ∙ word));
     low = λ o x h some few is fits word. s.low o x h some few is fits (sym (header_stays o some) ∙ word);
     range = λ t p. stands_low s.owner (of_range t p) (λ j. p + j) _ (s.range t p);
     header = λ t o h e. let k = s.header t o h e in record { number = k.number; fits = k.fits; word = header_stays o k.number.0 ∙ k.word };

@@ -55,7 +55,7 @@ module _ (k : Known) (log : History) (words : List ℕ) (held : ℕ → Holdings
   -- the move that is unfinished while a thread collects is its own
   pub moves_as_known : role_of (view k) ≡ Collecting → f.image.moving ≡ k.holdings.moving
   moves_as_known collects =
-      let mine' = subst (λ r. MayHold f.image.moving r (held t)) (role_at ∙ collects) (f.image.hands.each t) in
+      let mine' = subst (λ r. MayHold f.image.moving r (held t)) (role_at ∙ collects) (f.image.held_by_role.each t) in
       sym mine'.0 ∙ ap (λ (g : Holdings). g.moving) f.fits.holdings
 
   -- a look in this stay is one

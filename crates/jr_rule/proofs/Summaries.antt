@@ -23,7 +23,7 @@ use Rattle.jr_model.proofs.References.{kept_state}
 use Rattle.jr_steps.specs.Acts.{found_of, handle_of}
 use Rattle.jr_steps.specs.Says.{StandsAlone, StandsAs}
 use Rattle.jr_rule.specs.Image.{slot_at, header_at, IsSlotOf, IsHeaderOf}
-use Rattle.jr_rule.specs.Shown.{IsHistoryOf, HasHistory}
+use Rattle.jr_rule.specs.RowHistories.{IsHistoryOf, HasHistory}
 use Rattle.jr_rule.specs.Slots.{has_kind}
 use Rattle.jr_model.proofs.InRoom.{in_room}
 use Rattle.jr_rule.proofs.Readings.{is_read}

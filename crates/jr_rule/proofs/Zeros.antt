@@ -53,7 +53,7 @@ module _ (config : Config) (last : ℕ) (words : List ℕ) (none : (j : ℕ) →
     local = λ t p l m. none (local_at config t p);
     header = λ o l m. none _;
     moving = None;
-    hands = record { each = λ t. refl; still = λ nobody. refl };
+    held_by_role = record { each = λ t. refl; still = λ nobody. refl };
     space = record {
       owner = λ x. unowned;
       inside = λ x some. absurd (some refl);

@@ -17,7 +17,7 @@ use Rattle.jr_steps.specs.Holdings.{InSpace}
 use Rattle.jr_steps.specs.Says.{local_parts}
 use Rattle.jr_rule.specs.Sights.{sight_of_seat, IsSeatOf, sight_of_words}
 use Rattle.jr_rule.specs.Image.{local_at}
-use Rattle.jr_rule.specs.Rule.{Sat}
+use Rattle.jr_rule.specs.Rule.{SeatState}
 
 module _ (z : Sight) (role : Role) (fresh : Bool) where
   pub among_of : (k : Known) → z.knows k × IsOf (stands_at z role fresh) k → IsAmong z k
@@ -27,13 +27,13 @@ module _ (z : Sight) (role : Role) (fresh : Bool) where
   some_of hint s = ∥∥₁_map s.some (λ k. (k.0, k.1, tt))
 
 -- where words are is one fact
-pub seat_one : {row id : TableId} {c : Config} {last : ℕ} {m : Sat} {thread : ℕ} → IsProp (IsSeatOf row c last id m thread)
+pub seat_one : {row id : TableId} {c : Config} {last : ℕ} {m : SeatState} {thread : ℕ} → IsProp (IsSeatOf row c last id m thread)
 seat_one = hlevel props
 
 pub unit_one : IsProp (Unit {0})
 unit_one = hlevel props
 
-pub seat_sound : {row id : TableId} {c : Config} {last : ℕ} {m : Sat} {thread : ℕ} → IsSeatOf row c last id m thread → AreSoundWords (sight_of_seat id m)
+pub seat_sound : {row id : TableId} {c : Config} {last : ℕ} {m : SeatState} {thread : ℕ} → IsSeatOf row c last id m thread → AreSoundWords (sight_of_seat id m)
 seat_sound s = record {
   sized = s.sized;
   row = s.below;

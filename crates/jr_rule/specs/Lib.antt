@@ -7,4 +7,4 @@ pub mod CellLaws
 pub mod Sights
 pub mod Over
 pub mod Slots
-pub mod Shown
+pub mod RowHistories

@@ -18,11 +18,11 @@ use Rattle.jr_steps.specs.Holdings.{empty}
 use Rattle.jr_rule.specs.declared.rule.View.{View}
 use Rattle.jr_rule.specs.Cells.{facts_at}
 use Rattle.jr_rule.specs.Sights.{sight_of_seat}
-use Rattle.jr_rule.specs.Rule.{known, acting}
+use Rattle.jr_rule.specs.Rule.{known, stepping_pass}
 
 -- what a pass knows: its room and thread, and what it has seen
 abbrev pub known_of : Pass → Known
-known_of p = acting p.seat.me
+known_of p = stepping_pass p.seat.me
 
 -- WHAT A PASS IS MADE OF: a seat, the thread, and how it stands
 pub record Holder : Type 0 where

@@ -14,7 +14,7 @@ use Rattle.jr_rule.specs.declared.cells.Cells.{Ghosts}
 use Rattle.jr_rule.specs.declared.over.StepsOver.{StepsOver}
 use Rattle.jr_rule.specs.declared.row.RoomCells.{RoomCells}
 use Rattle.jr_rule.specs.Passes.{Holder, facts_of, holder_of, known_of, IsAt, AreOpened}
-use Rattle.jr_rule.specs.Rule.{acting}
+use Rattle.jr_rule.specs.Rule.{stepping_pass}
 
 -- THE PASS IS ONE OF THE ROOM'S OWN
 abbrev pub IsOfRoom : {LAST : ℕ} → Room LAST → Pass → Type 0
@@ -32,7 +32,7 @@ AreInOneRoom s t = (facts_of (holder_over s)).stands.room ≡ (facts_of (holder_
 pub record AreAsBefore {P : Type 0} {G : Ghosts RoomCells P} (old new : StepsOver RoomCells P G) : Type 0 where
   pub place : new.place ≡ old.place
   pub room : new.cells.seat.table_id ≡ old.cells.seat.table_id
-  pub knows : acting new.cells.seat.me ≡ acting old.cells.seat.me
+  pub knows : stepping_pass new.cells.seat.me ≡ stepping_pass old.cells.seat.me
   pub thread : new.cells.thread ≡ old.cells.thread
   pub role : new.role ≡ old.role
   pub fresh : new.fresh ≡ old.fresh

@@ -76,8 +76,8 @@ newcomers c last zero t = []
 newcomers c last (suc n) t = known c last t [] empty 0 ∷ newcomers c last n (suc t)
 
 -- a seat, without slots of its own
-abbrev pub Sat : Type 0
-Sat = Me (Unit {0}) View
+abbrev pub SeatState : Type 0
+SeatState = Me (Unit {0}) View
 
 abbrev pub nobody : Known
 nobody = known (record { threads = 0; slots = 0; objects = 0; words = 0; locals = 0 }) 0 0 [] empty 0
@@ -91,48 +91,48 @@ others_of [] = []
 others_of (k ∷ ks) = ks
 
 -- the first of a seat's passes is the one that steps
-abbrev pub acting : Sat → Known
-acting m = first_of m.0.passes
+abbrev pub stepping_pass : SeatState → Known
+stepping_pass m = first_of m.0.passes
 
 -- ---- for the crate's own functions
 
 -- a seat of one pass
-abbrev pub IsAlone : Sat → Type 0
-IsAlone m = m ≡ (view_of (acting m ∷ []), [])
+abbrev pub IsAlone : SeatState → Type 0
+IsAlone m = m ≡ (view_of (stepping_pass m ∷ []), [])
 
 -- the seat has a pass to step, and no slots
-abbrev pub IsSeated : Sat → Type 0
-IsSeated m = m ≡ (view_of (acting m ∷ others_of m.0.passes), [])
+abbrev pub IsSeated : SeatState → Type 0
+IsSeated m = m ≡ (view_of (stepping_pass m ∷ others_of m.0.passes), [])
 
 -- WHAT A PASS HOLDS beside its seat: it sits alone, its thread, role and freshness are those of what it knows, and its hint is one of its room's slots
-pub record IsHeld (m : Sat) (thread : ℕ) (role : Role) (fresh : Bool) (hint : ℕ) : Type 0 where
+pub record IsHeld (m : SeatState) (thread : ℕ) (role : Role) (fresh : Bool) (hint : ℕ) : Type 0 where
   pub alone : IsAlone m
-  pub thread_is : (acting m).thread ≡ thread
-  pub role_is : role_of (view (acting m)) ≡ role
-  pub legal : ∥ IsLegal (acting m).config (acting m).last (acting m).seen ∥₁
-  pub sized : IsSized (acting m).config (acting m).last
-  pub row : thread < (acting m).config.threads
+  pub thread_is : (stepping_pass m).thread ≡ thread
+  pub role_is : role_of (view (stepping_pass m)) ≡ role
+  pub legal : ∥ IsLegal (stepping_pass m).config (stepping_pass m).last (stepping_pass m).seen ∥₁
+  pub sized : IsSized (stepping_pass m).config (stepping_pass m).last
+  pub row : thread < (stepping_pass m).config.threads
   pub few : thread < 64
-  pub unused : fresh ≡ true → HasNoLocals (acting m)
-  pub space : InSpace (acting m).config (acting m).holdings
-  pub below : hint < (acting m).config.slots
+  pub unused : fresh ≡ true → HasNoLocals (stepping_pass m)
+  pub space : InSpace (stepping_pass m).config (stepping_pass m).holdings
+  pub below : hint < (stepping_pass m).config.slots
 
 -- WHAT A STEP TELLS: its pass has then seen what it had, what others did since, and last the step's acts, none or one; and this holds of the number that it found
-pub record Tells (told : Known → ℕ → List Act → Known → Type 0) (m : Sat) (n : ℕ) (m' : Sat) : Type 0 where
+pub record Tells (told : Known → ℕ → List Act → Known → Type 0) (m : SeatState) (n : ℕ) (m' : SeatState) : Type 0 where
   pub acts : List Act
   pub new : Known
   pub is : m' ≡ (view_of (new ∷ others_of m.0.passes), m.1)
-  pub goes : Goes (acting m) acts new
-  pub says : told (acting m) n acts new
-  pub space : InSpace (acting m).config new.holdings
+  pub goes : Goes (stepping_pass m) acts new
+  pub says : told (stepping_pass m) n acts new
+  pub space : InSpace (stepping_pass m).config new.holdings
   pub held : ℕ → Holdings
-  pub others : EachFits (acting m).config (acting m).last new.seen held (others_of m.0.passes)
+  pub others : EachFits (stepping_pass m).config (stepping_pass m).last new.seen held (others_of m.0.passes)
 
 -- a pass has looked at the gate, beside others that meet it
 abbrev pub Met : Known → ℕ → List Act → Known → Type 0
 Met k n acts k' = (acts ≡ Meet ∷ []) × keeps k k'
 
-abbrev pub LooksWith : Sat → Sat → Type 0
+abbrev pub LooksWith : SeatState → SeatState → Type 0
 LooksWith m m' = (n : ℕ) × Tells Met m n m'
 
 -- HOW A SEAT IS CUT: the first pass alone, and the others

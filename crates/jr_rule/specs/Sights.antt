@@ -11,22 +11,22 @@ use Rattle.jr_steps.specs.Holdings.{InSpace, empty, hold}
 use Rattle.jr_steps.specs.Knowing.{DidAll, state_of}
 use Rattle.jr_rule.specs.Cells.{Sight}
 use Rattle.jr_rule.specs.Image.{IsImage}
-use Rattle.jr_rule.specs.Rule.{Sat, IsAlone, IsSized, acting}
+use Rattle.jr_rule.specs.Rule.{SeatState, IsAlone, IsSized, stepping_pass}
 
 -- A SEAT knows one history: its own
-abbrev pub sight_of_seat : TableId → Sat → Sight
-sight_of_seat id m = record { first = record { room = Some id; config = (acting m).config; last = (acting m).last; thread = (acting m).thread; role = Outside; fresh = true }; knows = λ k. k ≡ acting m }
+abbrev pub sight_of_seat : TableId → SeatState → Sight
+sight_of_seat id m = record { first = record { room = Some id; config = (stepping_pass m).config; last = (stepping_pass m).last; thread = (stepping_pass m).thread; role = Outside; fresh = true }; knows = λ k. k ≡ stepping_pass m }
 
 -- it is one of the row's own, of these sizes and this last serial, and sits alone
-pub record IsSeatOf (row : TableId) (c : Config) (serial : ℕ) (id : TableId) (m : Sat) (thread : ℕ) : Type 0 where
+pub record IsSeatOf (row : TableId) (c : Config) (serial : ℕ) (id : TableId) (m : SeatState) (thread : ℕ) : Type 0 where
   pub table : id ≡ row
-  pub config : (acting m).config ≡ c
-  pub last : (acting m).last ≡ serial
+  pub config : (stepping_pass m).config ≡ c
+  pub last : (stepping_pass m).last ≡ serial
   pub alone : IsAlone m
-  pub thread_is : (acting m).thread ≡ thread
-  pub sized : IsSized (acting m).config (acting m).last
-  pub below : (acting m).thread < (acting m).config.threads
-  pub space : InSpace (acting m).config (acting m).holdings
+  pub thread_is : (stepping_pass m).thread ≡ thread
+  pub sized : IsSized (stepping_pass m).config (stepping_pass m).last
+  pub below : (stepping_pass m).thread < (stepping_pass m).config.threads
+  pub space : InSpace (stepping_pass m).config (stepping_pass m).holdings
 
 -- what is known where nothing has happened yet
 abbrev pub unseen : Config → ℕ → Known

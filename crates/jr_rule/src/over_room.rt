@@ -13,7 +13,7 @@ impl<'a, const LAST: u32> StepsOver<RoomCells, &'a Room<LAST>> {
     ghost use Rattle.jr_model.specs.History.{HasMet};
     ghost use Rattle.jr_steps.specs.Knowing.{view, anything, Goes, Took, keeps};
     ghost use Rattle.jr_rule.specs.Passes.{facts_of, holder_of, known_of, IsSame};
-    ghost use Rattle.jr_rule.specs.Rule.{acting};
+    ghost use Rattle.jr_rule.specs.Rule.{stepping_pass};
     ghost use Rattle.jr_rule.specs.Rooms.{AreAsBefore, AreInOneRoom, IsOfRoom, holder_over};
 
     /// The steps of a pass in its own room. That the pass is one of the room's is a condition: it has no bytes that name its room.
@@ -21,7 +21,7 @@ impl<'a, const LAST: u32> StepsOver<RoomCells, &'a Room<LAST>> {
         requires { IsOfRoom room.now pass }
         ensures room { result.place ≡ room.entry }
         ensures pass { holder_over result ≡ holder_of pass }
-        ensures seen { acting result.cells.seat.me ≡ known_of pass }
+        ensures seen { stepping_pass result.cells.seat.me ≡ known_of pass }
     {
         let Pass {
             seat,
@@ -48,7 +48,7 @@ impl<'a, const LAST: u32> StepsOver<RoomCells, &'a Room<LAST>> {
     pub fn into_pass(self) -> Pass
         ensures pass { holder_of result ≡ holder_over self.entry }
         ensures room { IsOfRoom self.entry.place.now result }
-        ensures seen { known_of result ≡ acting self.entry.cells.seat.me }
+        ensures seen { known_of result ≡ stepping_pass self.entry.cells.seat.me }
     {
         let StepsOver {
             cells,
@@ -76,8 +76,8 @@ impl<'a, const LAST: u32> StepsOver<RoomCells, &'a Room<LAST>> {
         requires { IsOfRoom self.old.place.now other }
         ensures room { self.new.place ≡ self.old.place }
         ensures step { Took facts_of (holder_over self.old) (holder_over self.new) (Meet ∷ []) anything keeps }
-        ensures seen { Goes (acting self.old.cells.seat.me) (Meet ∷ []) (acting self.new.cells.seat.me) }
-        ensures met { HasMet (view (known_of other)) (view (acting self.new.cells.seat.me)) }
+        ensures seen { Goes (stepping_pass self.old.cells.seat.me) (Meet ∷ []) (stepping_pass self.new.cells.seat.me) }
+        ensures met { HasMet (view (known_of other)) (view (stepping_pass self.new.cells.seat.me)) }
         ensures other { IsOfRoom self.old.place.now result × IsSame other result }
     {
         let Pass {
@@ -106,7 +106,7 @@ impl<'a, const LAST: u32> StepsOver<RoomCells, &'a Room<LAST>> {
         requires { AreInOneRoom self.old other.old }
         ensures room { self.new.place ≡ self.old.place }
         ensures step { Took facts_of (holder_over self.old) (holder_over self.new) (Meet ∷ []) anything keeps }
-        ensures met { HasMet (view (acting other.old.cells.seat.me)) (view (acting self.new.cells.seat.me)) }
+        ensures met { HasMet (view (stepping_pass other.old.cells.seat.me)) (view (stepping_pass self.new.cells.seat.me)) }
         ensures other { AreAsBefore other.old other.new }
     {
         self.cells.meet_cells(self.place, &mut other.cells);

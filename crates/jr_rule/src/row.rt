@@ -36,7 +36,7 @@ ghost use Rattle.jr_model.specs.declared.event.Role.TheVariants.{Outside};
 ghost use Rattle.jr_steps.specs.Holdings.{empty};
 ghost use Rattle.jr_rule.specs.Image.{header_at as place_of_header, element_at as place_of_element};
 ghost use Rattle.jr_rule.specs.Sights.{IsSeatOf};
-ghost use Rattle.jr_rule.specs.Rule.{IsSeated, IsSized, acting, sizes, known, view_of, newcomers, others_of};
+ghost use Rattle.jr_rule.specs.Rule.{IsSeated, IsSized, stepping_pass, sizes, known, view_of, newcomers, others_of};
 
 use crate::cells::{Cells, StepKind};
 use crate::closing::ClosedWords;
@@ -131,8 +131,8 @@ impl Row {
     fn end(self, seat: Seat<(), View>) -> Summary
         requires room { seat.table_id ≡ self.table.shared.table_id }
         requires seated { IsSeated seat.me }
-        requires first { ((acting seat.me).config ≡ self.config) × ((acting seat.me).last ≡ self.last) }
-        ensures { EndsAll (acting seat.me) (others_of seat.me.0.passes) result }
+        requires first { ((stepping_pass seat.me).config ≡ self.config) × ((stepping_pass seat.me).last ≡ self.last) }
+        ensures { EndsAll (stepping_pass seat.me) (others_of seat.me.0.passes) result }
     {
         let Row {
             table,
@@ -214,7 +214,7 @@ impl RoomCells {
     ghost use Rattle.std.specs.Prelude.{◌≡◌, ℕ};
     ghost use Rattle.jr_model.specs.History.{HasMet};
     ghost use Rattle.jr_steps.specs.Knowing.{view};
-    ghost use Rattle.jr_rule.specs.Rule.{IsAlone, LooksWith, acting};
+    ghost use Rattle.jr_rule.specs.Rule.{IsAlone, LooksWith, stepping_pass};
 
     /// The seat and another one of the room are joined, look at the gate together, and part.
     pub(crate) fn meet<const LAST: u32>(
@@ -228,7 +228,7 @@ impl RoomCells {
         ensures there { IsSeatOf room.now.row.table.shared.table_id room.now.row.config room.now.row.last self.new.seat.table_id self.new.seat.me self.new.thread }
         ensures same { (self.new.thread ≡ self.old.thread) × (self.new.seat.table_id ≡ self.old.seat.table_id) }
         ensures looked { LooksWith self.old.seat.me self.new.seat.me }
-        ensures met { HasMet (view (acting other.me)) (view (acting self.new.seat.me)) }
+        ensures met { HasMet (view (stepping_pass other.me)) (view (stepping_pass self.new.seat.me)) }
         ensures other { (result.table_id ≡ other.table_id) × (result.me ≡ other.me) }
     {
         let shared = &room.row.table.shared;
@@ -245,7 +245,7 @@ impl RoomCells {
         ensures there { IsSeatOf room.now.row.table.shared.table_id room.now.row.config room.now.row.last self.new.seat.table_id self.new.seat.me self.new.thread }
         ensures same { (self.new.thread ≡ self.old.thread) × (self.new.seat.table_id ≡ self.old.seat.table_id) }
         ensures looked { LooksWith self.old.seat.me self.new.seat.me }
-        ensures met { HasMet (view (acting other.old.seat.me)) (view (acting self.new.seat.me)) }
+        ensures met { HasMet (view (stepping_pass other.old.seat.me)) (view (stepping_pass self.new.seat.me)) }
         ensures other { (other.new.thread ≡ other.old.thread) × (other.new.seat.table_id ≡ other.old.seat.table_id) × (other.new.seat.me ≡ other.old.seat.me) }
     {
         let shared = &room.row.table.shared;
@@ -262,7 +262,7 @@ impl<'a, const LAST: u32> Cells<&'a Room<LAST>> for RoomCells {
 
     ghost sight = { λ s. sight_of_seat s.seat.table_id s.seat.me };
 
-    ghost goes = { λ s t acts. Goes (acting s.seat.me) acts (acting t.seat.me) };
+    ghost goes = { λ s t acts. Goes (stepping_pass s.seat.me) acts (stepping_pass t.seat.me) };
 
     ghost are_at = { λ s room. IsSeatOf room.now.row.table.shared.table_id room.now.row.config room.now.row.last s.seat.table_id s.seat.me s.thread };
 

@@ -3,7 +3,7 @@ ghost use Rattle.std.specs.Prelude.{◌≡◌, ◌<◌, ℕ, List, length, slice
 ghost use Rattle.jr_word.specs.Config.{IsLimited};
 ghost use Rattle.jr_model.specs.State.{references, summary as summary_of};
 ghost use Rattle.jr_model.specs.History.{History, state};
-ghost use Rattle.jr_rule.specs.Shown.{IsHistoryOf, HasHistory};
+ghost use Rattle.jr_rule.specs.RowHistories.{IsHistoryOf, HasHistory};
 
 use crate::words::{TOP, header_at, is_reference, slot_at};
 use jr_model::Summary;

@@ -26,7 +26,7 @@ use Rattle.jr_rule.specs.Passes.{facts_of, holder_of, known_of, standing_of, IsA
 use Rattle.jr_steps.proofs.StepFacts.{goes_did}
 use Rattle.jr_scripts.specs.declared.part.Job.{Job}
 use Rattle.jr_scripts.specs.declared.part.ThreadRun.{ThreadRun}
-use Rattle.jr_gate.specs.Performing.{Moment, moment, moment_with}
+use Rattle.jr_gate.specs.Performing.{ThreadState, thread_state, thread_state_with}
 use Rattle.jr_env.specs.Deeds.{DoesDeed}
 use Rattle.jr_scripts.specs.Posted.{IsOfPosts, commands_of}
 use Rattle.jr_scripts.specs.Posting.{said}
@@ -46,9 +46,9 @@ record Played (board : List ℕ → Option ℕ) (turns last : ℕ) (c : Config) 
   pub same_config : k.config ≡ c
   pub same_last : k.last ≡ last
   pub is_of : k.thread ≡ t
-  pub told : Moment
+  pub told : ThreadState
   pub explained : Explained (said board) turns first (opening_of c last t) commands lines told
-  pub left : Moment
+  pub left : ThreadState
   pub freed : IsFreed turns told left
   pub saw : left.pass ≡ seeing_as c last t k.seen
 
@@ -74,12 +74,12 @@ played board turns last c r p q first commands answer lines config_is last_is o 
     let same_last : (known_of q).last ≡ last = s.last ∙ (ap (λ (z : Standing). z.last) spent ∙ ap (λ (k : Known). k.last) knows0) in
     let is_of : (known_of q).thread ≡ t = s.thread ∙ (ap (λ (z : Standing). z.thread) spent ∙ p.held.thread_is) in
     let first_hint : (x.spent).hint ≡ 0 = (x.spends).hint_is ∙ o.hint in
-    let end : Known → Moment = λ k. moment (facts_of (holder_of q)) k x.frames in
+    let end : Known → ThreadState = λ k. thread_state (facts_of (holder_of q)) k x.frames in
     let told = y.3.0 in
     let from : Explained (said board) turns first (opening_of c last t) commands lines told
-    = subst (λ i. Explained (said board) turns first (moment_with false i k0 (fresh_frames c.locals)) commands lines told) first_hint
-    (subst (λ b. Explained (said board) turns first (moment_with b (x.spent).hint k0 (fresh_frames c.locals)) commands lines told) (ap (λ (z : Standing). z.fresh) spent)
-    (subst (λ (k : Known). Explained (said board) turns first (moment (facts_of x.spent) k (fresh_frames c.locals)) commands lines told) knows0 y.3.1)) in
+    = subst (λ i. Explained (said board) turns first (thread_state_with false i k0 (fresh_frames c.locals)) commands lines told) first_hint
+    (subst (λ b. Explained (said board) turns first (thread_state_with b (x.spent).hint k0 (fresh_frames c.locals)) commands lines told) (ap (λ (z : Standing). z.fresh) spent)
+    (subst (λ (k : Known). Explained (said board) turns first (thread_state (facts_of x.spent) k (fresh_frames c.locals)) commands lines told) knows0 y.3.1)) in
     record {
       same_config = same_config;
       same_last = same_last;

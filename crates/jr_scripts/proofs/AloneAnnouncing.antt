@@ -21,7 +21,7 @@ use Rattle.jr_model.proofs.Moments.{prefix_self, prefix_trans, sometime_wider}
 use Rattle.jr_model.proofs.Stays.{mine_did}
 use Rattle.jr_syntax.specs.declared.command.Command.TheVariants as commands
 use Rattle.jr_syntax.specs.declared.verb.WithTries.TheVariants as with_tries
-use Rattle.jr_gate.specs.Performing.{Moment}
+use Rattle.jr_gate.specs.Performing.{ThreadState}
 use Rattle.jr_weak.specs.declared.collecting.Collected.{Collected}
 use Rattle.jr_env.specs.Collections.{announced_collection}
 use Rattle.jr_scripts.specs.declared.reply.Reply.{Reply}
@@ -171,7 +171,7 @@ module _ (turns tries : ℕ) (names : Names) where
   once_led : (n : ℕ) → LeadsAlone n (names, commands.WithTries with_tries.CollectAnnounced tries) (announced_collection tries)
   once_led n = record { led = led }
     where
-      led : (old new : Moment) (answer : Result Collected Fault) → IsAlone new.pass → announced_collection tries old answer new → LedAlone n (names, commands.WithTries with_tries.CollectAnnounced tries) old.pass new.pass new.frames answer
+      led : (old new : ThreadState) (answer : Result Collected Fault) → IsAlone new.pass → announced_collection tries old answer new → LedAlone n (names, commands.WithTries with_tries.CollectAnnounced tries) old.pass new.pass new.frames answer
       led old new (Ok c) alone d = leaves_alone tries old.pass new.pass old.frames new.frames alone n (names, commands.WithTries with_tries.CollectAnnounced tries) (Ok c) (Ok (c.cleared, c.dropped, c.used)) tt d.ran
       led old new (Err e) alone d = absurd (never_refused tries old.pass new.pass old.frames new.frames alone e d.made.ran)
 
@@ -188,7 +188,7 @@ module _ (turns tries : ℕ) (names : Names) where
         };
   }
 
-  only_turns_once : (n : ℕ) (old new : Moment) (once : Result Collected Fault) → IsAlone new.pass → Tried (announced_collection tries) n old once new → IfErr once (λ e. (e ≡ Turns) × (n ≡ 0))
+  only_turns_once : (n : ℕ) (old new : ThreadState) (once : Result Collected Fault) → IsAlone new.pass → Tried (announced_collection tries) n old once new → IfErr once (λ e. (e ≡ Turns) × (n ≡ 0))
   only_turns_once (suc n) old new (Ok c) alone (answered d final) = tt
   only_turns_once (suc n) old new (Err e) alone (answered d final) = absurd (never_refused tries old.pass new.pass old.frames new.frames alone e d.made.ran)
   only_turns_once (suc n) old new once alone (again {mid = mid} {once = Ok c} d more rest) = absurd cc
@@ -197,5 +197,5 @@ module _ (turns tries : ℕ) (names : Names) where
   only_turns_once zero old new once alone gave_up = (refl, refl)
 
   -- A LONE THREAD is refused only where no turns were given
-  pub only_turns : (old new : Moment) (answer : Result Reply Fault) → IsAlone new.pass → collecting_announced turns tries old answer new → IfErr answer (λ e. (e ≡ Turns) × (turns ≡ 0))
+  pub only_turns : (old new : ThreadState) (answer : Result Reply Fault) → IsAlone new.pass → collecting_announced turns tries old answer new → IfErr answer (λ e. (e ≡ Turns) × (turns ≡ 0))
   only_turns old new answer alone d = subst (λ a. IfErr a (λ e. (e ≡ Turns) × (turns ≡ 0))) (sym d.1) (told_alone (λ e. (e ≡ Turns) × (turns ≡ 0)) d.0 (only_turns_once turns old new d.0 alone d.2))

@@ -18,7 +18,7 @@ use Rattle.jr_model.specs.RefusedCalls.{is_harmless, may_precede, ChangesNothing
 use Rattle.jr_model.proofs.Exactly.{append_all}
 use Rattle.jr_model.proofs.Moments.{prefix_trans}
 use Rattle.jr_model.proofs.Stays.{mine_did}
-use Rattle.jr_gate.specs.Performing.{Moment}
+use Rattle.jr_gate.specs.Performing.{ThreadState}
 use Rattle.jr_env.specs.Deeds.{Deed, call_by}
 use Rattle.jr_scripts.specs.AloneAnswers.{IsCommandFault, IsShort, LacksSpace}
 use Rattle.jr_scripts.proofs.AloneHistories.{all_back, own_acts, own_events, still_so, stays_occupied, stays_present}
@@ -46,10 +46,10 @@ pub record LedAlone (turns : ℕ) (command : Asked) {A : Type 0} (old new : Pass
 
 -- what the deed leads to, where all that happened is the thread's own
 pub record LeadsAlone (turns : ℕ) (command : Asked) {A : Type 0} (deed : Deed A) : Type 0 where
-  pub led : (old new : Moment) (answer : Result A Fault) → IsAlone new.pass → deed old answer new → LedAlone turns command old.pass new.pass new.frames answer
+  pub led : (old new : ThreadState) (answer : Result A Fault) → IsAlone new.pass → deed old answer new → LedAlone turns command old.pass new.pass new.frames answer
 
 -- the events that are seen were the call's
-pub ran_of : {A : Type 0} (silent : Config → ℕ) (asked : Config → ℕ → ℕ → State → Call A) (old new : Moment) (answer : Result A Fault) → call_by silent asked old answer new
+pub ran_of : {A : Type 0} (silent : Config → ℕ) (asked : Config → ℕ → ℕ → State → Call A) (old new : ThreadState) (answer : Result A Fault) → call_by silent asked old answer new
     → Ran old.pass new.pass old.frames new.frames (asked old.pass.config old.pass.last old.pass.thread (state new.pass.seen)) answer
 ran_of silent asked old new answer r = r.0.ran
 

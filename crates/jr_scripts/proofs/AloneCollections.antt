@@ -13,7 +13,7 @@ use Rattle.jr_model.specs.Parts as parts
 use Rattle.jr_model.proofs.Exactly.{append_all}
 use Rattle.jr_syntax.specs.declared.command.Command.TheVariants as commands
 use Rattle.jr_syntax.specs.declared.verb.OfRoom.TheVariants as of_room
-use Rattle.jr_gate.specs.Performing.{Moment}
+use Rattle.jr_gate.specs.Performing.{ThreadState}
 use Rattle.jr_scripts.specs.declared.reply.Reply.{Reply}
 use Rattle.jr_scripts.specs.declared.reply.Reply.TheVariants as replies
 use Rattle.jr_scripts.specs.Names.{Names}
@@ -44,7 +44,7 @@ collect_uncontended old new acts answer (inr (inl (n, mid, front, rest, is, firs
 collect_uncontended old new acts answer (inr (inr r)) = let bad = r.2.2 in absurd cc
 
 module _ (turns : ℕ) (names : Names) where
-  ran_collecting : (old new : Moment) (answer : Result Reply Fault) (found : Result (ℕ × ℕ × ℕ) Fault) → IsAlone new.pass → IfErr answer (IsCommandFault turns names (commands.OfRoom of_room.Collect) new.pass new.frames) → Ran old.pass new.pass old.frames new.frames parts.collect found → LedAlone turns (names, commands.OfRoom of_room.Collect) old.pass new.pass new.frames answer
+  ran_collecting : (old new : ThreadState) (answer : Result Reply Fault) (found : Result (ℕ × ℕ × ℕ) Fault) → IsAlone new.pass → IfErr answer (IsCommandFault turns names (commands.OfRoom of_room.Collect) new.pass new.frames) → Ran old.pass new.pass old.frames new.frames parts.collect found → LedAlone turns (names, commands.OfRoom of_room.Collect) old.pass new.pass new.frames answer
   ran_collecting old new answer found alone fault r = record {
     config = r.did.config;
     thread = r.did.thread;
@@ -56,7 +56,7 @@ module _ (turns : ℕ) (names : Names) where
   pub collecting_alone : LeadsAlone turns (names, commands.OfRoom of_room.Collect) collecting
   collecting_alone = record { led = λ old new answer alone d. led old new answer alone d }
     where
-      led : (old new : Moment) (answer : Result Reply Fault) → IsAlone new.pass → collecting old answer new → LedAlone turns (names, commands.OfRoom of_room.Collect) old.pass new.pass new.frames answer
+      led : (old new : ThreadState) (answer : Result Reply Fault) → IsAlone new.pass → collecting old answer new → LedAlone turns (names, commands.OfRoom of_room.Collect) old.pass new.pass new.frames answer
       led old new (Ok (replies.Collected c)) alone d = ran_collecting old new (Ok (replies.Collected c)) (Ok (c.cleared, c.dropped, c.used)) alone tt d.ran
       led old new (Ok (replies.Busy n)) alone d = ran_collecting old new (Ok (replies.Busy n)) (Err (Busy n)) alone tt d.made.ran
       led old new _ alone d = absurd d

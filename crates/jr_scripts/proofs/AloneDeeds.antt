@@ -51,7 +51,7 @@ use Rattle.jr_scripts.specs.declared.reply.Reply.{Reply}
 use Rattle.jr_scripts.specs.declared.reply.Reply.TheVariants as replies
 use Rattle.jr_frames.specs.Reading.{IsReadAs}
 use Rattle.jr_scripts.specs.Names.{Names}
-use Rattle.jr_gate.specs.Performing.{Moment}
+use Rattle.jr_gate.specs.Performing.{ThreadState}
 use Rattle.jr_env.specs.Deeds.{Deed, call_apart, decided, done, making_steps, new_array, new_object_array, new_string, kind_of, get_array_length, get_string_length, get_object_array_element, set_object_array_element, get_array_region, set_array_region, push_local_frame, ensure_local_capacity, pop_local_frame, new_plain, new_reference, new_local_ref, delete_reference, delete_local_ref, is_same_object, get_object_ref_type, ◌>>=◌, ◌>>◌}
 use Rattle.jr_scripts.specs.Tries.{Tried, answered, again, gave_up}
 use Rattle.jr_scripts.specs.Numbers.{has_numbers, is_number_of, word_of_number}
@@ -165,12 +165,12 @@ module _ (turns : ℕ) (command : Asked) where
   apart_alone : {A : Type 0} (asked : Config → ℕ → ℕ → Call A) → ((c : Config) (last t : ℕ) (old new : Frames) (acts : List Act) (e : Fault) → asked c last t old acts (Err e) new → (e ≡ LocalsFull) × LacksRoom last command.1 new) → LeadsAlone turns command (call_apart asked)
   apart_alone {A} asked lacks = record { led = λ old new answer alone d. led old new answer d }
     where
-      fault_of : (old new : Moment) (answer : Result A Fault) (acts : List Act) → asked old.pass.config old.pass.last old.pass.thread old.frames acts answer new.frames → IfErr answer (IsCommandFault turns command.0 command.1 old.pass new.frames)
+      fault_of : (old new : ThreadState) (answer : Result A Fault) (acts : List Act) → asked old.pass.config old.pass.last old.pass.thread old.frames acts answer new.frames → IfErr answer (IsCommandFault turns command.0 command.1 old.pass new.frames)
       fault_of old new (Ok x) acts r = tt
       fault_of old new (Err e) acts r = let l = lacks old.pass.config old.pass.last old.pass.thread old.frames new.frames acts e r in subst (IsCommandFault turns command.0 command.1 old.pass new.frames) (sym l.0) l.1
 
-      led : (old new : Moment) (answer : Result A Fault) → call_apart asked old answer new → LedAlone turns command old.pass new.pass new.frames answer
-      led old new answer d = subst (λ (p : PassView). LedAlone turns command old.pass p new.frames answer) (ap (λ (m : Moment). m.pass) (sym d.1))
+      led : (old new : ThreadState) (answer : Result A Fault) → call_apart asked old answer new → LedAlone turns command old.pass new.pass new.frames answer
+      led old new answer d = subst (λ (p : PassView). LedAlone turns command old.pass p new.frames answer) (ap (λ (m : ThreadState). m.pass) (sym d.1))
           (stayed turns command old.pass new.frames answer (fault_of old new answer d.0.ran.acts d.0.ran.is))
 
 module _ (turns : ℕ) (names : Names) where
@@ -186,9 +186,9 @@ module _ (turns : ℕ) (names : Names) where
   awaited_alone : (n : List ℕ) → LeadsAlone turns (names, commands.Make make.Wait n) awaited
   awaited_alone n = record { led = λ old new answer alone d. led old new answer d }
     where
-      led : (old new : Moment) (answer : Result Reply Fault) → awaited old answer new → LedAlone turns (names, commands.Make make.Wait n) old.pass new.pass new.frames answer
-      led old new answer (inl x, same) = subst (λ (m : Moment). LedAlone turns (names, commands.Make make.Wait n) old.pass m.pass m.frames answer) (sym same) (subst (LedAlone turns (names, commands.Make make.Wait n) old.pass old.pass old.frames) (sym x.1) (stayed turns _ old.pass old.frames (Ok (replies.Made (Some x.0))) tt))
-      led old new answer (inr x, same) = subst (λ (m : Moment). LedAlone turns (names, commands.Make make.Wait n) old.pass m.pass m.frames answer) (sym same) (subst (LedAlone turns (names, commands.Make make.Wait n) old.pass old.pass old.frames) (sym x) (stayed turns _ old.pass old.frames (Err Turns) tt))
+      led : (old new : ThreadState) (answer : Result Reply Fault) → awaited old answer new → LedAlone turns (names, commands.Make make.Wait n) old.pass new.pass new.frames answer
+      led old new answer (inl x, same) = subst (λ (m : ThreadState). LedAlone turns (names, commands.Make make.Wait n) old.pass m.pass m.frames answer) (sym same) (subst (LedAlone turns (names, commands.Make make.Wait n) old.pass old.pass old.frames) (sym x.1) (stayed turns _ old.pass old.frames (Ok (replies.Made (Some x.0))) tt))
+      led old new answer (inr x, same) = subst (λ (m : ThreadState). LedAlone turns (names, commands.Make make.Wait n) old.pass m.pass m.frames answer) (sym same) (subst (LedAlone turns (names, commands.Make make.Wait n) old.pass old.pass old.frames) (sym x) (stayed turns _ old.pass old.frames (Err Turns) tt))
 
 -- THE COMMANDS
 
@@ -220,7 +220,7 @@ module _ (turns : ℕ) (command : Asked) where
 -- THE COMMANDS OF TWO CALLS
 
 -- an object of this kind is present
-abbrev HasKind : Kind → Moment → Type 0
+abbrev HasKind : Kind → ThreadState → Type 0
 HasKind k m = SomeObject (state m.pass.seen) (λ l n. l ≡ k)
 
 kind_answered : (s : State) (c : Config) (last t : ℕ) (a : Word) (k : Kind) (old new : Frames) (acts : List Act) → entered (objects.kind_reading c last t s a) old acts (Ok k) new → SomeObject s (λ l n. l ≡ k)
@@ -232,7 +232,7 @@ kind_answered s c last t a k old new acts (inr r) = go r.2
     go (inl (x, mid, front, rest, is, did, inr r)) = let bad = r.1 in absurd cc
     go (inr r) = let bad = r.1 in absurd cc
 
-kind_found : (w k_turns : ℕ) (k : Kind) (old new : Moment) (answer : Result Kind Fault) → answer ≡ Ok k → Tried (kind_of w) k_turns old answer new → HasKind k new
+kind_found : (w k_turns : ℕ) (k : Kind) (old new : ThreadState) (answer : Result Kind Fault) → answer ≡ Ok k → Tried (kind_of w) k_turns old answer new → HasKind k new
 kind_found w (suc n) k old new answer is (answered d final) = kind_answered (state new.pass.seen) old.pass.config old.pass.last old.pass.thread d.0 k old.frames new.frames d.2.0.ran.acts (subst (λ r. entered (objects.kind_reading old.pass.config old.pass.last old.pass.thread (state new.pass.seen) d.0) old.frames d.2.0.ran.acts r new.frames) is d.2.0.ran.is)
 kind_found w (suc n) k old new answer is (again {mid = mid} d more rest) = kind_found w n k mid new answer is rest
 kind_found w zero k old new answer is gave_up = absurd cc
@@ -250,7 +250,7 @@ are_numbers Long is = refl
 
 module _ (turns : ℕ) (command : Asked) where
   module _ (object : WantsObject command.1) (array : (s : State) → SomeObject s (λ k n. is_array k ≡ false) → LacksArray s command.1) (element : (s : State) → SomeObject s (λ k n. is_array k ≡ true) → LacksElements s command.0 command.1) where
-    numbers_alone : (k : Kind) (m : Moment) → HasKind k m → IfErr (has_numbers k) (IsCommandFault turns command.0 command.1 m.pass m.frames)
+    numbers_alone : (k : Kind) (m : ThreadState) → HasKind k m → IfErr (has_numbers k) (IsCommandFault turns command.0 command.1 m.pass m.frames)
     numbers_alone Plain m h = array (state m.pass.seen) (h.0, h.1, h.2, ap is_array h.3)
     numbers_alone Text m h = array (state m.pass.seen) (h.0, h.1, h.2, ap is_array h.3)
     numbers_alone Objects m h = element (state m.pass.seen) (h.0, h.1, h.2, ap is_array h.3)
@@ -277,7 +277,7 @@ module _ (turns : ℕ) (command : Asked) where
           done_alone turns command _))))
 
       module _ (v : ℤ) (word : (s : State) → SomeObject s (λ k n. (is_primitive k ≡ true) × (is_number_of k v ≡ false)) → LacksWord s command.0 command.1) where
-        word_alone : (k : Kind) → is_primitive k ≡ true → (m : Moment) → HasKind k m → IfErr (word_of_number k v) (IsCommandFault turns command.0 command.1 m.pass m.frames)
+        word_alone : (k : Kind) → is_primitive k ≡ true → (m : ThreadState) → HasKind k m → IfErr (word_of_number k v) (IsCommandFault turns command.0 command.1 m.pass m.frames)
         word_alone k numbers m h = go (is_number_of k v) refl
           where
             go : (b : Bool) → is_number_of k v ≡ b → IfErr (if b then Ok (unsigned_abs (int_rem_euclid v (pos (word_limit k)))) else Err Value) (IsCommandFault turns command.0 command.1 m.pass m.frames)

@@ -18,7 +18,7 @@ use Rattle.jr_syntax.specs.declared.command.Command.{Command}
 use Rattle.jr_syntax.specs.declared.command.Command.TheVariants as commands
 use Rattle.jr_syntax.specs.declared.verb.Make.TheVariants as make
 use Rattle.jr_frames.specs.Reading.{IsReadAs}
-use Rattle.jr_gate.specs.Performing.{Moment}
+use Rattle.jr_gate.specs.Performing.{ThreadState}
 use Rattle.jr_env.specs.Deeds.{Deed, call_on_by, call_on_both_by, decided, done, answered_by, ◌>>=◌}
 use Rattle.jr_env.specs.Tries.{is_tried_again}
 use Rattle.jr_scripts.specs.Tries.{Tried, answered, again, gave_up}
@@ -48,19 +48,19 @@ module _ (turns : ℕ) (command : Asked) where
   pub decided_alone : {A : Type 0} (r : Result A Fault) → ((p : PassView) (f : Frames) → IfErr r (IsCommandFault turns command.0 command.1 p f)) → LeadsAlone turns command (decided r)
   decided_alone r fault = record {
     led = λ old new answer alone d.
-        subst (λ (m : Moment). LedAlone turns command old.pass m.pass m.frames answer) (sym d.1) (subst (LedAlone turns command old.pass old.pass old.frames) (sym d.0) (stayed old.pass old.frames r (fault old.pass old.frames)));
+        subst (λ (m : ThreadState). LedAlone turns command old.pass m.pass m.frames answer) (sym d.1) (subst (LedAlone turns command old.pass old.pass old.frames) (sym d.0) (stayed old.pass old.frames r (fault old.pass old.frames)));
   }
 
   pub done_alone : {A : Type 0} (x : A) → LeadsAlone turns command (done x)
   done_alone x = record {
     led = λ old new answer alone d.
-        subst (λ (m : Moment). LedAlone turns command old.pass m.pass m.frames answer) (sym d.1) (subst (LedAlone turns command old.pass old.pass old.frames) (sym d.0) (stayed old.pass old.frames (Ok x) tt));
+        subst (λ (m : ThreadState). LedAlone turns command old.pass m.pass m.frames answer) (sym d.1) (subst (LedAlone turns command old.pass old.pass old.frames) (sym d.0) (stayed old.pass old.frames (Ok x) tt));
   }
 
   pub bind_alone : {A B : Type 0} {first : Deed A} {next : A → Deed B} → LeadsAlone turns command first → ((x : A) → LeadsAlone turns command (next x)) → LeadsAlone turns command (first >>= next)
   bind_alone {A} {B} {first} {next} p q = record { led = led }
     where
-      led : (old new : Moment) (answer : Result B Fault) → IsAlone new.pass → (first >>= next) old answer new → LedAlone turns command old.pass new.pass new.frames answer
+      led : (old new : ThreadState) (answer : Result B Fault) → IsAlone new.pass → (first >>= next) old answer new → LedAlone turns command old.pass new.pass new.frames answer
       led old new answer alone (inl r) =
           let y = (q r.0).led r.1 new answer alone r.3 in
           let x = p.led old r.1 (Ok r.0) (was_alone y alone) r.2 in
@@ -84,7 +84,7 @@ once_alone command p f (Err Barred) m h = h
 once_alone command p f (Err (Moved looked found)) m h = h
 once_alone command p f _ m h = cc
 
-pub tries_alone : {A : Type 0} {one : Deed A} (command : Asked) → ((turns : ℕ) → LeadsAlone turns command one) → (n : ℕ) (old new : Moment) (answer : Result A Fault) → IsAlone new.pass → Tried one n old answer new → LedAlone n command old.pass new.pass new.frames answer
+pub tries_alone : {A : Type 0} {one : Deed A} (command : Asked) → ((turns : ℕ) → LeadsAlone turns command one) → (n : ℕ) (old new : ThreadState) (answer : Result A Fault) → IsAlone new.pass → Tried one n old answer new → LedAlone n command old.pass new.pass new.frames answer
 tries_alone command p (suc n) old new answer alone (answered d final) = (p (suc n)).led old new answer alone d
 tries_alone command p (suc n) old new answer alone (again {mid = mid} {once = once} d more rest) =
     let y = tries_alone command p n mid new answer alone rest in
@@ -137,17 +137,17 @@ module _ (turns : ℕ) (command : Asked) where
 
 module _ (turns : ℕ) (command : Asked) where
   -- what the deed leads to from a moment that is so, where all that happened is the thread's own
-  pub record LeadsFrom (P : Moment → Type 0) {A : Type 0} (deed : Deed A) : Type 0 where
-    pub led : (old new : Moment) (answer : Result A Fault) → P old → IsAlone new.pass → deed old answer new → LedAlone turns command old.pass new.pass new.frames answer
+  pub record LeadsFrom (P : ThreadState → Type 0) {A : Type 0} (deed : Deed A) : Type 0 where
+    pub led : (old new : ThreadState) (answer : Result A Fault) → P old → IsAlone new.pass → deed old answer new → LedAlone turns command old.pass new.pass new.frames answer
 
-  pub from_any : {P : Moment → Type 0} {A : Type 0} {deed : Deed A} → LeadsAlone turns command deed → LeadsFrom P deed
+  pub from_any : {P : ThreadState → Type 0} {A : Type 0} {deed : Deed A} → LeadsAlone turns command deed → LeadsFrom P deed
   from_any d = record { led = λ old new answer p alone r. d.led old new answer alone r }
 
   -- a deed whose answer says what is so behind it, and another from there
-  pub bind_found : {A B : Type 0} {first : Deed A} {next : A → Deed B} (P : A → Moment → Type 0) → LeadsAlone turns command first → ((old mid : Moment) (x : A) → first old (Ok x) mid → P x mid) → ((x : A) → LeadsFrom (P x) (next x)) → LeadsAlone turns command (first >>= next)
+  pub bind_found : {A B : Type 0} {first : Deed A} {next : A → Deed B} (P : A → ThreadState → Type 0) → LeadsAlone turns command first → ((old mid : ThreadState) (x : A) → first old (Ok x) mid → P x mid) → ((x : A) → LeadsFrom (P x) (next x)) → LeadsAlone turns command (first >>= next)
   bind_found {A} {B} {first} {next} P p found q = record { led = led }
     where
-      led : (old new : Moment) (answer : Result B Fault) → IsAlone new.pass → (first >>= next) old answer new → LedAlone turns command old.pass new.pass new.frames answer
+      led : (old new : ThreadState) (answer : Result B Fault) → IsAlone new.pass → (first >>= next) old answer new → LedAlone turns command old.pass new.pass new.frames answer
       led old new answer alone (inl r) =
           let y = (q r.0).led r.1 new answer (found old r.1 r.0 r.2) alone r.3 in
           let x = p.led old r.1 (Ok r.0) (was_alone y alone) r.2 in
@@ -157,13 +157,13 @@ module _ (turns : ℕ) (command : Asked) where
           record { config = x.config; thread = x.thread; begins = x.begins; uncontended = x.uncontended; fault = subst (λ (z : Result B Fault). IfErr z (IsCommandFault turns command.0 command.1 new.pass new.frames)) (sym r.1) x.fault }
 
   -- a decision at such a moment, and what follows from there
-  pub decided_from : {A B : Type 0} (P : Moment → Type 0) (r : Result A Fault) {next : A → Deed B} → ((m : Moment) → P m → IfErr r (IsCommandFault turns command.0 command.1 m.pass m.frames)) → ((x : A) → r ≡ Ok x → LeadsFrom P (next x)) → LeadsFrom P (decided r >>= next)
+  pub decided_from : {A B : Type 0} (P : ThreadState → Type 0) (r : Result A Fault) {next : A → Deed B} → ((m : ThreadState) → P m → IfErr r (IsCommandFault turns command.0 command.1 m.pass m.frames)) → ((x : A) → r ≡ Ok x → LeadsFrom P (next x)) → LeadsFrom P (decided r >>= next)
   decided_from {A} {B} P r {next} fault q = record { led = led }
     where
-      led : (old new : Moment) (answer : Result B Fault) → P old → IsAlone new.pass → (decided r >>= next) old answer new → LedAlone turns command old.pass new.pass new.frames answer
-      led old new answer p alone (inl d) = subst (λ (m : Moment). LedAlone turns command m.pass new.pass new.frames answer) d.2.1 ((q d.0 (sym d.2.0)).led d.1 new answer (subst P (sym d.2.1) p) alone d.3)
+      led : (old new : ThreadState) (answer : Result B Fault) → P old → IsAlone new.pass → (decided r >>= next) old answer new → LedAlone turns command old.pass new.pass new.frames answer
+      led old new answer p alone (inl d) = subst (λ (m : ThreadState). LedAlone turns command m.pass new.pass new.frames answer) d.2.1 ((q d.0 (sym d.2.0)).led d.1 new answer (subst P (sym d.2.1) p) alone d.3)
       led old new answer p alone (inr d) =
-          subst (λ (m : Moment). LedAlone turns command old.pass m.pass m.frames answer) (sym d.2.1)
+          subst (λ (m : ThreadState). LedAlone turns command old.pass m.pass m.frames answer) (sym d.2.1)
           (subst (LedAlone turns command old.pass old.pass old.frames) (sym d.1) (stayed turns command old.pass old.frames (Err d.0) (subst (λ (z : Result A Fault). IfErr z (IsCommandFault turns command.0 command.1 old.pass old.frames)) (sym d.2.0) (fault old p))))
 
   -- a decision, and what follows it

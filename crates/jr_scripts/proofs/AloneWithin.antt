@@ -22,7 +22,7 @@ use Rattle.jr_model.specs.Checks.{is_array, is_primitive, is_read_as, is_text}
 use Rattle.jr_model.specs.Objects.{nest_array, nest_string, region_get, region_kind, region_release, region_set}
 use Rattle.jr_model.proofs.Exactly.{append_all}
 use Rattle.jr_model.proofs.Moments.{prefix_self, prefix_trans}
-use Rattle.jr_gate.specs.Performing.{Moment}
+use Rattle.jr_gate.specs.Performing.{ThreadState}
 use Rattle.jr_env.specs.Deeds.{Deed, decided, done, ◌>>=◌}
 use Rattle.jr_syntax.specs.declared.name.Reference.{Reference}
 use Rattle.jr_syntax.specs.declared.command.Command.{Command}
@@ -67,28 +67,28 @@ led_alone {old = old} {new = new} led a = record {
 }
 
 -- what the deed leads to from a moment that is so, where all that happened is the thread's own, and a refusal is such a one of the state afterwards
-pub record LeadsBy (Q : Moment → Type 0) (P : State → Fault → Type 0) {A : Type 0} (deed : Deed A) : Type 0 where
-  pub led : (old new : Moment) (answer : Result A Fault) → Q old → IsAlone new.pass → deed old answer new → Led (P (state new.pass.seen)) old.pass new.pass answer
+pub record LeadsBy (Q : ThreadState → Type 0) (P : State → Fault → Type 0) {A : Type 0} (deed : Deed A) : Type 0 where
+  pub led : (old new : ThreadState) (answer : Result A Fault) → Q old → IsAlone new.pass → deed old answer new → Led (P (state new.pass.seen)) old.pass new.pass answer
 
 -- where nothing happened
-pub here : {P : Fault → Type 0} {A : Type 0} (m : Moment) (answer : Result A Fault) → IfErr answer P → Led P m.pass m.pass answer
+pub here : {P : Fault → Type 0} {A : Type 0} (m : ThreadState) (answer : Result A Fault) → IfErr answer P → Led P m.pass m.pass answer
 here m answer fault = record { config = refl; thread = refl; begins = prefix_self m.pass.seen; uncontended = λ h. h; fault = fault }
 
 module _ {P : State → Fault → Type 0} where
-  pub decided_by : {A : Type 0} {Q : Moment → Type 0} (r : Result A Fault) → ((m : Moment) → Q m → IfErr r (P (state m.pass.seen))) → LeadsBy Q P (decided r)
+  pub decided_by : {A : Type 0} {Q : ThreadState → Type 0} (r : Result A Fault) → ((m : ThreadState) → Q m → IfErr r (P (state m.pass.seen))) → LeadsBy Q P (decided r)
   decided_by {A} r fault = record {
     led = λ old new answer q alone d.
-        subst (λ (m : Moment). Led (P (state m.pass.seen)) old.pass m.pass answer) (sym d.1) (subst (λ (a : Result A Fault). Led (P (state old.pass.seen)) old.pass old.pass a) (sym d.0) (here old r (fault old q)));
+        subst (λ (m : ThreadState). Led (P (state m.pass.seen)) old.pass m.pass answer) (sym d.1) (subst (λ (a : Result A Fault). Led (P (state old.pass.seen)) old.pass old.pass a) (sym d.0) (here old r (fault old q)));
   }
 
-  pub done_by : {A : Type 0} {Q : Moment → Type 0} (x : A) → LeadsBy Q P (done x)
+  pub done_by : {A : Type 0} {Q : ThreadState → Type 0} (x : A) → LeadsBy Q P (done x)
   done_by x = decided_by (Ok x) (λ m q. tt)
 
   -- one deed, whose answer says what is so behind it, and another from there
-  pub bind_by : {A B : Type 0} {Q : Moment → Type 0} {first : Deed A} {next : A → Deed B} (R : A → Moment → Type 0) → LeadsBy Q P first → ((old mid : Moment) (x : A) → Q old → first old (Ok x) mid → R x mid) → ((x : A) → LeadsBy (R x) P (next x)) → LeadsBy Q P (first >>= next)
+  pub bind_by : {A B : Type 0} {Q : ThreadState → Type 0} {first : Deed A} {next : A → Deed B} (R : A → ThreadState → Type 0) → LeadsBy Q P first → ((old mid : ThreadState) (x : A) → Q old → first old (Ok x) mid → R x mid) → ((x : A) → LeadsBy (R x) P (next x)) → LeadsBy Q P (first >>= next)
   bind_by {A} {B} {Q} {first} {next} R p found q = record { led = led }
     where
-      led : (old new : Moment) (answer : Result B Fault) → Q old → IsAlone new.pass → (first >>= next) old answer new → Led (P (state new.pass.seen)) old.pass new.pass answer
+      led : (old new : ThreadState) (answer : Result B Fault) → Q old → IsAlone new.pass → (first >>= next) old answer new → Led (P (state new.pass.seen)) old.pass new.pass answer
       led old new answer so alone (inl r) =
           let y = (q r.0).led r.1 new answer (found old r.1 r.0 so r.2) alone r.3 in
           let x = p.led old r.1 (Ok r.0) so (led_alone y alone) r.2 in
@@ -98,20 +98,20 @@ module _ {P : State → Fault → Type 0} where
           record { config = x.config; thread = x.thread; begins = x.begins; uncontended = x.uncontended; fault = subst (λ (z : Result B Fault). IfErr z (P (state new.pass.seen))) (sym r.1) x.fault }
 
   -- one deed and another
-  pub then_by : {A B : Type 0} {Q : Moment → Type 0} {first : Deed A} {next : A → Deed B} → LeadsBy Q P first → ((x : A) → LeadsBy (λ m. Unit {0}) P (next x)) → LeadsBy Q P (first >>= next)
+  pub then_by : {A B : Type 0} {Q : ThreadState → Type 0} {first : Deed A} {next : A → Deed B} → LeadsBy Q P first → ((x : A) → LeadsBy (λ m. Unit {0}) P (next x)) → LeadsBy Q P (first >>= next)
   then_by p q = bind_by (λ x m. Unit {0}) p (λ old mid x so d. tt) q
 
   -- a decision, and what follows it
-  pub choose_by : {A B : Type 0} {Q : Moment → Type 0} (r : Result A Fault) {next : A → Deed B} → ((m : Moment) → Q m → IfErr r (P (state m.pass.seen))) → ((x : A) → r ≡ Ok x → LeadsBy Q P (next x)) → LeadsBy Q P (decided r >>= next)
+  pub choose_by : {A B : Type 0} {Q : ThreadState → Type 0} (r : Result A Fault) {next : A → Deed B} → ((m : ThreadState) → Q m → IfErr r (P (state m.pass.seen))) → ((x : A) → r ≡ Ok x → LeadsBy Q P (next x)) → LeadsBy Q P (decided r >>= next)
   choose_by {A} {B} {Q} r {next} fault q = record { led = led }
     where
-      led : (old new : Moment) (answer : Result B Fault) → Q old → IsAlone new.pass → (decided r >>= next) old answer new → Led (P (state new.pass.seen)) old.pass new.pass answer
-      led old new answer so alone (inl d) = subst (λ (m : Moment). Led (P (state new.pass.seen)) m.pass new.pass answer) d.2.1 ((q d.0 (sym d.2.0)).led d.1 new answer (subst Q (sym d.2.1) so) alone d.3)
+      led : (old new : ThreadState) (answer : Result B Fault) → Q old → IsAlone new.pass → (decided r >>= next) old answer new → Led (P (state new.pass.seen)) old.pass new.pass answer
+      led old new answer so alone (inl d) = subst (λ (m : ThreadState). Led (P (state new.pass.seen)) m.pass new.pass answer) d.2.1 ((q d.0 (sym d.2.0)).led d.1 new answer (subst Q (sym d.2.1) so) alone d.3)
       led old new answer so alone (inr d) =
-          subst (λ (m : Moment). Led (P (state m.pass.seen)) old.pass m.pass answer) (sym d.2.1)
+          subst (λ (m : ThreadState). Led (P (state m.pass.seen)) old.pass m.pass answer) (sym d.2.1)
           (subst (λ (a : Result B Fault). Led (P (state old.pass.seen)) old.pass old.pass a) (sym d.1) (here old (Err d.0) (subst (λ (z : Result A Fault). IfErr z (P (state old.pass.seen))) (sym d.2.0) (fault old so))))
 
-  pub from_any : {A : Type 0} {Q : Moment → Type 0} {deed : Deed A} → LeadsBy (λ m. Unit {0}) P deed → LeadsBy Q P deed
+  pub from_any : {A : Type 0} {Q : ThreadState → Type 0} {deed : Deed A} → LeadsBy (λ m. Unit {0}) P deed → LeadsBy Q P deed
   from_any p = record { led = λ old new answer so alone d. p.led old new answer tt alone d }
 
 -- a call of a lone thread's stay
@@ -135,13 +135,13 @@ same_state old new f g work answer alone r none =
     ap (λ es. state es) (sym r.did.begins.1 ∙ (ap (λ es. old.seen ++ es) empty ∙ append-nil old.seen))
 
 -- the fault of a call in a stay, where it was refused
-stay_by : {A : Type 0} {Q : Moment → Type 0} {P : State → Fault → Type 0} (silent : ℕ) (asked : Config → ℕ → ℕ → State → Call A)
+stay_by : {A : Type 0} {Q : ThreadState → Type 0} {P : State → Fault → Type 0} (silent : ℕ) (asked : Config → ℕ → ℕ → State → Call A)
     → ((c : Config) (last t : ℕ) (s : State) (f g : Frames) (acts : List Act) (answer : Result A Fault) → c.threads ≡ 1 → t ≡ 0 → asked c last t s f acts answer g → AreUncontended acts)
-    → ((old new : Moment) (e : Fault) → Q old → IsAlone new.pass → old.pass.config.threads ≡ 1 → old.pass.thread ≡ 0 → Ran old.pass new.pass old.frames new.frames (asked old.pass.config old.pass.last old.pass.thread (state new.pass.seen)) (Err e) → P (state new.pass.seen) e)
+    → ((old new : ThreadState) (e : Fault) → Q old → IsAlone new.pass → old.pass.config.threads ≡ 1 → old.pass.thread ≡ 0 → Ran old.pass new.pass old.frames new.frames (asked old.pass.config old.pass.last old.pass.thread (state new.pass.seen)) (Err e) → P (state new.pass.seen) e)
     → LeadsBy Q P (in_stay silent asked)
 stay_by {A} {Q} {P} silent asked acts fault = record { led = λ old new answer so alone d. led old new answer so alone d.ran }
   where
-    led : (old new : Moment) (answer : Result A Fault) → Q old → IsAlone new.pass → Ran old.pass new.pass old.frames new.frames (asked old.pass.config old.pass.last old.pass.thread (state new.pass.seen)) answer → Led (P (state new.pass.seen)) old.pass new.pass answer
+    led : (old new : ThreadState) (answer : Result A Fault) → Q old → IsAlone new.pass → Ran old.pass new.pass old.frames new.frames (asked old.pass.config old.pass.last old.pass.thread (state new.pass.seen)) answer → Led (P (state new.pass.seen)) old.pass new.pass answer
     led old new answer so alone r = stay_led old.pass new.pass old.frames new.frames (asked old.pass.config old.pass.last old.pass.thread (state new.pass.seen)) answer alone r (acts old.pass.config old.pass.last old.pass.thread (state new.pass.seen) old.frames new.frames r.acts answer one first r.is) (why answer r)
       where
         one : old.pass.config.threads ≡ 1
@@ -155,13 +155,13 @@ stay_by {A} {Q} {P} silent asked acts fault = record { led = λ old new answer s
         why (Err e) r = fault old new e so alone one first r
 
 -- what is so of any moment
-abbrev Always : Moment → Type 0
+abbrev Always : ThreadState → Type 0
 Always m = Unit {0}
 
 -- THE LEVELS
 
 -- an object of this kind stands there
-abbrev HasKindAt : ℕ → Kind → Moment → Type 0
+abbrev HasKindAt : ℕ → Kind → ThreadState → Type 0
 HasKindAt o k m = (x : Contents) × ((state m.pass.seen).objects o ≡ Some x) × (x.kind ≡ k)
 
 level_found : (m : Option ℕ) (l : ℕ) → level_wanted m ≡ Ok l → m ≡ Some l
@@ -195,19 +195,19 @@ same_contents s t o x y same here there =
     let both : Some x ≡ Some y = sym here ∙ (ap (λ (z : State). z.objects o) same ∙ there) in
     cc
 
-kind_by : {Q : Moment → Type 0} {P : State → Fault → Type 0} (o : ℕ) → LeadsBy Q P (kind_of_level o)
+kind_by : {Q : ThreadState → Type 0} {P : State → Fault → Type 0} (o : ℕ) → LeadsBy Q P (kind_of_level o)
 kind_by {Q} {P} o = stay_by 0 (λ c last t s. region_kind c last t s o)
     (λ c last t s f g acts answer one first is. (object_quiet {Q = λ e. Unit {0}} s o (λ k n. answers k) (λ y there. done_quiet y.kind)).acts f g acts answer is)
     (λ old new e so alone one first r. let bad = r.is.2.1 in absurd cc)
 
-kind_at : (o : ℕ) (old mid : Moment) (k : Kind) → kind_of_level o old (Ok k) mid → HasKindAt o k mid
+kind_at : (o : ℕ) (old mid : ThreadState) (k : Kind) → kind_of_level o old (Ok k) mid → HasKindAt o k mid
 kind_at o old mid k d = let is = d.ran.is in let e = is.2.1 in let same : k ≡ is.0.kind = cc in (is.0, is.1, sym same)
 
 module _ (p : Place) (n : List ℕ) (i l : ℕ) (level : newest p.levels n ≡ Some l) where
   abbrev at_level : ℕ
   at_level = nth_object p.objects l
 
-  has_read_by : (k : Kind) (m : Moment) → HasKindAt at_level k m → IfErr (has_numbers (read_kind k)) (IsReadingFault p n i (state m.pass.seen))
+  has_read_by : (k : Kind) (m : ThreadState) → HasKindAt at_level k m → IfErr (has_numbers (read_kind k)) (IsReadingFault p n i (state m.pass.seen))
   has_read_by Plain m h = (l, h.0, level, h.1, (ap is_array h.2, ap is_text h.2))
   has_read_by Objects m h = (l, h.0, level, h.1, (ap is_array h.2, ap is_primitive h.2))
   has_read_by Text m h = tt
@@ -238,7 +238,7 @@ module _ (p : Place) (n : List ℕ) (i l : ℕ) (level : newest p.levels n ≡ S
       (λ word. done_by _)))
 
   module _ (v : ℤ) where
-    has_written_by : (k : Kind) (m : Moment) → HasKindAt at_level k m → IfErr (has_numbers k) (IsWritingFault p n i v (state m.pass.seen))
+    has_written_by : (k : Kind) (m : ThreadState) → HasKindAt at_level k m → IfErr (has_numbers k) (IsWritingFault p n i v (state m.pass.seen))
     has_written_by Plain m h = (l, h.0, level, h.1, ap is_array h.2)
     has_written_by Text m h = (l, h.0, level, h.1, ap is_array h.2)
     has_written_by Objects m h = (l, h.0, level, h.1, (ap is_array h.2, ap is_primitive h.2))
@@ -249,14 +249,14 @@ module _ (p : Place) (n : List ℕ) (i l : ℕ) (level : newest p.levels n ≡ S
     has_written_by Int m h = tt
     has_written_by Long m h = tt
 
-    word_by : (k : Kind) → is_primitive k ≡ true → (m : Moment) → HasKindAt at_level k m → IfErr (word_of_number k v) (IsWritingFault p n i v (state m.pass.seen))
+    word_by : (k : Kind) → is_primitive k ≡ true → (m : ThreadState) → HasKindAt at_level k m → IfErr (word_of_number k v) (IsWritingFault p n i v (state m.pass.seen))
     word_by k numbers m h = go (is_number_of k v) refl
       where
         go : (b : Bool) → is_number_of k v ≡ b → IfErr (if b then Ok (unsigned_abs (int_rem_euclid v (pos (word_limit k)))) else Err Value) (IsWritingFault p n i v (state m.pass.seen))
         go true is = tt
         go false is = (l, h.0, level, h.1, (ap is_primitive h.2 ∙ numbers, ap (λ j. is_number_of j v) h.2 ∙ is))
 
-    write_refused : (k : Kind) (u : Unit {0}) → has_numbers k ≡ Ok u → (w : ℕ) (old new : Moment) (e : Fault) → HasKindAt at_level k old → IsAlone new.pass → Ran old.pass new.pass old.frames new.frames (region_set old.pass.config old.pass.last old.pass.thread (state new.pass.seen) k at_level i w) (Err e) → IsWritingFault p n i v (state new.pass.seen) e
+    write_refused : (k : Kind) (u : Unit {0}) → has_numbers k ≡ Ok u → (w : ℕ) (old new : ThreadState) (e : Fault) → HasKindAt at_level k old → IsAlone new.pass → Ran old.pass new.pass old.frames new.frames (region_set old.pass.config old.pass.last old.pass.thread (state new.pass.seen) k at_level i w) (Err e) → IsWritingFault p n i v (state new.pass.seen) e
     write_refused k u is w old new e so alone r = ⊎_elim
         (λ f.
         let same = same_state old.pass new.pass old.frames new.frames work (Err e) alone r f.2 in
@@ -294,7 +294,7 @@ writing_at_by p n i v = choose_by (level_wanted (newest p.levels n)) (λ m so. n
 -- THE COMMANDS
 
 module _ (p : Place) (n : List ℕ) (r : Reference) where
-  wanted_by : (v : OpenLevel) (x : Binding) → referent p.names r ≡ x → (m : Moment) → IfErr (wanted x) (IsNestingFault p (commands.OpenLevel v n r) (state m.pass.seen))
+  wanted_by : (v : OpenLevel) (x : Binding) → referent p.names r ≡ x → (m : ThreadState) → IfErr (wanted x) (IsNestingFault p (commands.OpenLevel v n r) (state m.pass.seen))
   wanted_by v bound.Nothing is m = tt
   wanted_by v (bound.Reference h) is m = tt
   wanted_by v (bound.Buffer b) is m = inr (inl (inl (b, is)))
@@ -323,9 +323,9 @@ giving_up_by {P} n = record { led = λ old new answer so alone d. (released n).l
 awaited_by : (p : Place) (n : List ℕ) → LeadsBy Always (IsFaultWithin p (commands.Make make.Wait n)) awaited
 awaited_by p n = record { led = λ old new answer so alone d. led old new answer d }
   where
-    led : (old new : Moment) (answer : Result Reply Fault) → awaited old answer new → Led (IsFaultWithin p (commands.Make make.Wait n) (state new.pass.seen)) old.pass new.pass answer
-    led old new answer (inl x, same) = subst (λ (m : Moment). Led (λ e. e ≡ Turns) old.pass m.pass answer) (sym same) (subst (λ (a : Result Reply Fault). Led (λ e. e ≡ Turns) old.pass old.pass a) (sym x.1) (here {P = λ e. e ≡ Turns} old (Ok (replies.Made (Some x.0))) tt))
-    led old new answer (inr x, same) = subst (λ (m : Moment). Led (λ e. e ≡ Turns) old.pass m.pass answer) (sym same) (subst (λ (a : Result Reply Fault). Led (λ e. e ≡ Turns) old.pass old.pass a) (sym x) (here {P = λ e. e ≡ Turns} old (Err Turns) refl))
+    led : (old new : ThreadState) (answer : Result Reply Fault) → awaited old answer new → Led (IsFaultWithin p (commands.Make make.Wait n) (state new.pass.seen)) old.pass new.pass answer
+    led old new answer (inl x, same) = subst (λ (m : ThreadState). Led (λ e. e ≡ Turns) old.pass m.pass answer) (sym same) (subst (λ (a : Result Reply Fault). Led (λ e. e ≡ Turns) old.pass old.pass a) (sym x.1) (here {P = λ e. e ≡ Turns} old (Ok (replies.Made (Some x.0))) tt))
+    led old new answer (inr x, same) = subst (λ (m : ThreadState). Led (λ e. e ≡ Turns) old.pass m.pass answer) (sym same) (subst (λ (a : Result Reply Fault). Led (λ e. e ≡ Turns) old.pass old.pass a) (sym x) (here {P = λ e. e ≡ Turns} old (Err Turns) refl))
 
 abbrev Barred : State → Fault → Type 0
 Barred s e = e ≡ InCritical

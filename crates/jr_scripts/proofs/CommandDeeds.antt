@@ -17,7 +17,7 @@ use Rattle.jr_steps.specs.Knowing.{Facts}
 use Rattle.jr_scripts.specs.declared.reply.Reply.{Reply}
 use Rattle.jr_scripts.specs.declared.reply.Reply.TheVariants as replies
 use Rattle.jr_frames.specs.Reading.{IsReadAs}
-use Rattle.jr_gate.specs.Performing.{Moment}
+use Rattle.jr_gate.specs.Performing.{ThreadState}
 use Rattle.jr_env.specs.Deeds.{Deed, DoesDeed, decided, done, answered_by, kind_of, get_array_region, set_array_region, ◌>>=◌, ◌>>◌}
 use Rattle.jr_scripts.specs.declared.number.NumberKind.{NumberKind}
 use Rattle.jr_scripts.specs.declared.number.NumberKind.TheVariants as number
@@ -53,7 +53,7 @@ only_same Same = refl
 
 module _ {S : Type 0} {facts : S → Facts} where
   -- a deed that leads on to another
-  pub does_more : {A B : Type 0} {old new : S} {f g : Frames} {one : Deed A} {two : Deed B} {once : Result A Fault} {answer : Result B Fault} → ((p q : Moment) → one p once q → two p answer q) → DoesDeed facts old new f g one once → DoesDeed facts old new f g two answer
+  pub does_more : {A B : Type 0} {old new : S} {f g : Frames} {one : Deed A} {two : Deed B} {once : Result A Fault} {answer : Result B Fault} → ((p q : ThreadState) → one p once q → two p answer q) → DoesDeed facts old new f g one once → DoesDeed facts old new f g two answer
   does_more w d = record { stands_is = d.stands_is; did = λ k s h. let x = d.did k s h in (x.0, x.1, x.2, w _ _ x.3) }
 
   -- no deed leads nowhere

@@ -22,7 +22,7 @@ use Rattle.jr_scripts.specs.Explains.{Explains, nothing, then, unwritten}
 use Rattle.jr_scripts.specs.Posting.{Speaks, Talk}
 use Rattle.jr_scripts.specs.Runs.{WritesDown, running}
 use Rattle.jr_scripts.proofs.Speaking.{Carries, explains_still}
-use Rattle.jr_gate.specs.Performing.{IsAsBefore, moment}
+use Rattle.jr_gate.specs.Performing.{IsAsBefore, thread_state}
 use Rattle.jr_scripts.proofs.Within.{role_kept, role_then}
 use Rattle.jr_steps.specs.Knowing.{Standing}
 
@@ -32,7 +32,7 @@ module _ {S : Type 0} (facts : S → Facts) where
     pub text : List ℕ
     pub grew : out' ≡ out ++ text
     pub stands_is : IsAsBefore (record ((facts old).stands) { role = role_with region }) (facts now).stands
-    pub explained : (k : Known) → (facts old).knows k → Holds before k → (k' : Known) × (facts now).knows k' × KnowsWith region after k' × Explains talk turns first (moment (facts old) k before) done text (moment (facts now) k' after) (place_with names region)
+    pub explained : (k : Known) → (facts old).knows k → Holds before k → (k' : Known) × (facts now).knows k' × KnowsWith region after k' × Explains talk turns first (thread_state (facts old) k before) done text (thread_state (facts now) k' after) (place_with names region)
 
 done_so_far : (commands : List Command) (i : ℕ) (c : Command) → i < length commands → get_or commands i c ≡ c → take (suc i) commands ≡ take i commands ++ c ∷ []
 done_so_far commands i c small is = take-suc commands i c small ∙ ap (λ x. take i commands ++ x ∷ []) is
@@ -58,7 +58,7 @@ module _ {S : Type 0} {facts : S → Facts} where
     text = [];
     grew = sym (append-nil out);
     stands_is = role_kept Outside outside;
-    explained = λ k s h. (k, s, h, subst (λ n. Explains talk turns first (moment (facts old) k f) [] [] (moment (facts old) k f) (place_with n None)) (sym e) nothing);
+    explained = λ k s h. (k, s, h, subst (λ n. Explains talk turns first (thread_state (facts old) k f) [] [] (thread_state (facts old) k f) (place_with n None)) (sym e) nothing);
   }
 
   -- all commands were done, and a region that stood was given up
@@ -78,8 +78,8 @@ module _ {S : Type 0} {facts : S → Facts} where
             y.2,
             record {
               place = place_with names region;
-              done = moment (facts now) x.0 g;
-              explains = subst (λ cs. Explains talk turns first (moment (facts old) k f) cs d.text (moment (facts now) x.0 g) (place_with names region)) (take_all i commands all) x.3;
+              done = thread_state (facts now) x.0 g;
+              explains = subst (λ cs. Explains talk turns first (thread_state (facts old) k f) cs d.text (thread_state (facts now) x.0 g) (place_with names region)) (take_all i commands all) x.3;
               ended = y.3;
             },
           );
@@ -106,9 +106,9 @@ module _ {S : Type 0} {facts : S → Facts} where
                 y.0,
                 y.1,
                 y.2,
-                subst (λ cs. Explains talk turns first (moment (facts old) k f) cs (d.text ++ printed (first + i) c answer) (moment (facts new) y.0 h) (place_with names' left)) (sym (done_so_far commands i c small is) ∙ ap (λ n. take n commands) next)
-                    (subst (λ p. Explains talk turns first (moment (facts old) k f) (take i commands ++ c ∷ []) (d.text ++ printed (first + i) c answer) (moment (facts new) y.0 h) p) at
-                    (subst (λ m. Explains talk turns first (moment (facts old) k f) (take i commands ++ c ∷ []) (d.text ++ printed (first + m) c answer) (moment (facts new) y.0 h) (place_after c answer (place_with names region))) count (then c answer (explains_still carries x.3) y.3 said))),
+                subst (λ cs. Explains talk turns first (thread_state (facts old) k f) cs (d.text ++ printed (first + i) c answer) (thread_state (facts new) y.0 h) (place_with names' left)) (sym (done_so_far commands i c small is) ∙ ap (λ n. take n commands) next)
+                    (subst (λ p. Explains talk turns first (thread_state (facts old) k f) (take i commands ++ c ∷ []) (d.text ++ printed (first + i) c answer) (thread_state (facts new) y.0 h) p) at
+                    (subst (λ m. Explains talk turns first (thread_state (facts old) k f) (take i commands ++ c ∷ []) (d.text ++ printed (first + m) c answer) (thread_state (facts new) y.0 h) (place_after c answer (place_with names region))) count (then c answer (explains_still carries x.3) y.3 said))),
               );
         }
 
@@ -132,9 +132,9 @@ module _ {S : Type 0} {facts : S → Facts} where
                   z.2,
                   (
                     refl,
-                    unwritten (take i commands) c (drop (suc i) commands) (moment (facts mid) x.0 g) (moment (facts new) y.0 h) (place_with names region) answer
+                    unwritten (take i commands) c (drop (suc i) commands) (thread_state (facts mid) x.0 g) (thread_state (facts new) y.0 h) (place_with names region) answer
                         (sym (take-append-drop (suc i) commands) ∙ (ap (λ cs. cs ++ drop (suc i) commands) (done_so_far commands i c small is) ∙ append_assoc (take i commands) (c ∷ []) (drop (suc i) commands))) (explains_still carries x.3) y.3 said
-                        (subst (λ os. giving_up_all os (moment (facts new) y.0 h) (Ok tt) (moment (facts last) z.0 j)) objects z.3),
+                        (subst (λ os. giving_up_all os (thread_state (facts new) y.0 h) (Ok tt) (thread_state (facts last) z.0 j)) objects z.3),
                   ),
                 );
           },

@@ -31,7 +31,7 @@ use Rattle.jr_env.specs.Tries.{is_tried_again}
 use Rattle.jr_scripts.specs.Tries.{Tried}
 use Rattle.jr_scripts.specs.Text.{buffers_after, elements_left, left_by}
 use Rattle.jr_scripts.specs.Advancing.{got_by, put_by}
-use Rattle.jr_gate.specs.Performing.{Moment}
+use Rattle.jr_gate.specs.Performing.{ThreadState}
 use Rattle.jr_scripts.proofs.FormedTries.{formed, tried_formed}
 use Rattle.jr_scripts.proofs.CommandDeeds.{does_more, does_nothing, does_of_kind, does_tried_form, numbered_has}
 
@@ -88,7 +88,7 @@ module _ {S : Type 0} {facts : S → Facts} where
   pub does_released : {A : Type 0} {a b : S} {f g : Frames} {answer : Result Reply Fault} (turns : ℕ) (one : Deed A) → DoesDeed facts a b f g (tried turns (answered_by (λ _. replies.Done) one)) answer → DoesDeed facts a b f g (tried turns one >> done replies.Done) answer
   does_released {A} {answer = answer} turns one = does_more (λ p q d. let y = tried_formed (λ _. replies.Done) one turns p q answer d in go p q y.0 y.1 y.2)
     where
-      go : (p q : Moment) (r : Result A Fault) → answer ≡ formed (λ _. replies.Done) r → Tried one turns p r q → (tried turns one >> done replies.Done) p answer q
+      go : (p q : ThreadState) (r : Result A Fault) → answer ≡ formed (λ _. replies.Done) r → Tried one turns p r q → (tried turns one >> done replies.Done) p answer q
       go p q (Ok x) is t = inl (x, q, t, (is, refl))
       go p q (Err e) is t = inr (e, is, t)
 

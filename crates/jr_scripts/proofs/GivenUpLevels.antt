@@ -8,7 +8,7 @@ use Rattle.jr_model.specs.Frames.{Frames}
 use Rattle.jr_model.specs.Objects.{region_get}
 use Rattle.jr_steps.specs.Holdings.{empty}
 use Rattle.jr_steps.specs.Knowing.{AreOf, Facts, Holds}
-use Rattle.jr_gate.specs.Performing.{Moment}
+use Rattle.jr_gate.specs.Performing.{ThreadState}
 use Rattle.jr_frames.specs.Table.{Table}
 use Rattle.jr_critical.specs.declared.level.Level.{Level}
 use Rattle.jr_critical.specs.declared.levels.Levels.{Levels}
@@ -20,12 +20,12 @@ use Rattle.jr_scripts.specs.Numbers.{number_of_word}
 use Rattle.jr_scripts.specs.RegionCommands.{HoldsAfter, giving_up, reading_as}
 use Rattle.jr_scripts.proofs.Within.{did_reach, did_refused, did_reply}
 
-held_after : (n : ℕ) (m : Moment) → m.held ≡ empty → HoldsAfter n m
+held_after : (n : ℕ) (m : ThreadState) → m.held ≡ empty → HoldsAfter n m
 held_after zero m e = tt
 held_after (suc zero) m e = e
 held_after (suc (suc n)) m e = tt
 
-held_more : (n : ℕ) (m : Moment) → 2 ≤ n → HoldsAfter n m
+held_more : (n : ℕ) (m : ThreadState) → 2 ≤ n → HoldsAfter n m
 held_more zero m few = absurd (omega arith)
 held_more (suc zero) m few = absurd (omega arith)
 held_more (suc (suc n)) m few = tt

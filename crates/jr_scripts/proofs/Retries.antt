@@ -6,7 +6,7 @@ use Rattle.jr_model.specs.Frames.{Frames}
 use Rattle.jr_steps.specs.Knowing.{Facts}
 use Rattle.jr_env.specs.Deeds.{Deed, DoesDeed}
 use Rattle.jr_env.specs.Tries.{is_tried_again}
-use Rattle.jr_gate.specs.Performing.{Moment}
+use Rattle.jr_gate.specs.Performing.{ThreadState}
 use Rattle.jr_scripts.specs.Tries.{Tried, answered, again, gave_up}
 use Rattle.jr_scripts.specs.Commands.{tried}
 use Rattle.jr_env.specs.Tries.{MadeAgain, settled, once_more, the_last, made_again}
@@ -35,13 +35,13 @@ module _ {S : Type 0} {facts : S → Facts} {A : Type 0} {deed : Deed A} where
   does_gave_up {a} {f} n k l = let e : 0 ≡ n - k = omega arith in subst (λ m. DoesDeed facts a a f f (tried m deed) (Err fault.Turns)) e (does_nothing (λ p. gave_up))
 
 -- a call that was made again up to so many times is one that was tried once more often, where its last answer settles it
-pub tried_settled : {A : Type 0} {one : Deed A} {n : ℕ} {p q : Moment} {answer : Result A Fault} → MadeAgain one n p answer q → is_tried_again answer ≡ false → Tried one (suc n) p answer q
+pub tried_settled : {A : Type 0} {one : Deed A} {n : ℕ} {p q : ThreadState} {answer : Result A Fault} → MadeAgain one n p answer q → is_tried_again answer ≡ false → Tried one (suc n) p answer q
 tried_settled (settled o s) is = answered o s
 tried_settled (once_more o s t) is = again o s (tried_settled t is)
 tried_settled (the_last o) is = answered o is
 
 -- and where it doesn't the turns ran out
-pub tried_out : {A : Type 0} {one : Deed A} {n : ℕ} {p q : Moment} {answer : Result A Fault} → MadeAgain one n p answer q → is_tried_again answer ≡ true → Tried one (suc n) p (Err fault.Turns) q
+pub tried_out : {A : Type 0} {one : Deed A} {n : ℕ} {p q : ThreadState} {answer : Result A Fault} → MadeAgain one n p answer q → is_tried_again answer ≡ true → Tried one (suc n) p (Err fault.Turns) q
 tried_out (settled o s) is = absurd (let no = sym s ∙ is in cc)
 tried_out (once_more o s t) is = again o s (tried_out t is)
 tried_out (the_last o) is = again o is gave_up

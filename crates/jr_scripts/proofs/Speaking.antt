@@ -3,7 +3,7 @@ use Rattle.std.proofs.Common.{◌≡◌, ◌∙◌, ℕ, suc, false, Option, Som
 use Rattle.std.specs.Prelude.{MatchOption}
 use Rattle.jr_word.specs.declared.fault.Fault.{Fault}
 use Rattle.jr_steps.specs.declared.steps.Steps.{Ghosts}
-use Rattle.jr_gate.specs.Performing.{Moment}
+use Rattle.jr_gate.specs.Performing.{ThreadState}
 use Rattle.jr_env.specs.declared.env.Env.{Env}
 use Rattle.jr_syntax.specs.declared.command.Command.{Command}
 use Rattle.jr_syntax.specs.declared.command.Command.TheVariants as commands
@@ -79,7 +79,7 @@ module _ {B : Type 0} {looked : B → List ℕ → Option ℕ → B → Type 0} 
 
 -- WHAT THEY LEAVE AS IT IS
 
-pub said_at : (turns : ℕ) (p : Place) (c : Command) (answer : Result Reply Fault) (m : Moment) → IsSaid c answer → deed_at turns p c m answer m
+pub said_at : (turns : ℕ) (p : Place) (c : Command) (answer : Result Reply Fault) (m : ThreadState) → IsSaid c answer → deed_at turns p c m answer m
 said_at turns p c answer m said = go p.objects c said
   where
     go : (os : List ℕ) (c : Command) → IsSaid c answer → by_region os (deed turns p.names c) (deed_within p c) m answer m
@@ -117,15 +117,15 @@ module _ {S : Type 0} {G : Ghosts S} where
 
 -- WHAT ELSE MAY BE TOLD
 
-module _ {t u : Talk} (s : Carries t u) {turns first : ℕ} {old : Moment} where
-  pub explains_still : {commands : List Command} {text : List ℕ} {new : Moment} {place : Place} → Explains t turns first old commands text new place → Explains u turns first old commands text new place
+module _ {t u : Talk} (s : Carries t u) {turns first : ℕ} {old : ThreadState} where
+  pub explains_still : {commands : List Command} {text : List ℕ} {new : ThreadState} {place : Place} → Explains t turns first old commands text new place → Explains u turns first old commands text new place
   explains_still nothing = nothing
   explains_still (then {place = place} c answer before did said) = then c answer (explains_still before) did (speaks_still t u s place.names c answer said)
 
-  cut_off_still : {commands : List Command} {text : List ℕ} {new : Moment} → IsCutOff t turns first old commands text new → IsCutOff u turns first old commands text new
+  cut_off_still : {commands : List Command} {text : List ℕ} {new : ThreadState} → IsCutOff t turns first old commands text new → IsCutOff u turns first old commands text new
   cut_off_still (written before rest place done are e ended) = written before rest place done are (explains_still e) ended
   cut_off_still (unwritten before last rest mid done place answer are e did said ended) = unwritten before last rest mid done place answer are (explains_still e) did (speaks_still t u s place.names last answer said) ended
 
-pub leaves_still : {t u : Talk} (s : Carries t u) (turns first : ℕ) (old : Moment) (commands : List Command) (text : List ℕ) (new : Moment) (answer : Result (Unit {0}) Fault) → LeavesText t turns first old commands answer text new → LeavesText u turns first old commands answer text new
+pub leaves_still : {t u : Talk} (s : Carries t u) (turns first : ℕ) (old : ThreadState) (commands : List Command) (text : List ℕ) (new : ThreadState) (answer : Result (Unit {0}) Fault) → LeavesText t turns first old commands answer text new → LeavesText u turns first old commands answer text new
 leaves_still s turns first old commands text new (Ok x) e = record { place = e.place; done = e.done; explains = explains_still s e.explains; ended = e.ended }
 leaves_still s turns first old commands text new (Err f) e = (e.0, cut_off_still s e.1)

@@ -16,7 +16,7 @@ use Rattle.jr_rule.specs.declared.plain_cells.PlainCells.{PlainCells}
 use Rattle.jr_rule.specs.Cells.{IsAmong, facts_at}
 use Rattle.jr_rule.specs.CellLaws.{among_of}
 use Rattle.jr_rule.specs.Sights.{IsOpenedAlone, sight_of_words, unseen}
-use Rattle.jr_gate.specs.Performing.{moment, moment_with}
+use Rattle.jr_gate.specs.Performing.{thread_state, thread_state_with}
 use Rattle.jr_env.specs.Deeds.{DoesDeed}
 use Rattle.jr_scripts.specs.Text.{heading, ending}
 use Rattle.jr_scripts.specs.Posted.{IsOfPosts}
@@ -57,11 +57,11 @@ module _ {S : Type 0} {facts : S → Facts} (fits : AreOf facts) where
       let thread_of : k.thread ≡ 0 = of.thread ∙ (ran.stands_is.thread ∙ thread_is) in
       let legal : IsLegal c last k.seen = subst (λ d. IsLegal d last k.seen) config_of (subst (λ l. IsLegal k.config l k.seen) last_of of.legal) in
       let sum : v ≡ summary c last (state k.seen) = tells k x.1 ∙ (ap (λ d. summary d k.last (state k.seen)) config_of ∙ ap (λ l. summary c l (state k.seen)) last_of) in
-      let end = moment (facts new) k g in
+      let end = thread_state (facts new) k g in
       let told = x.3.0 in
       let from : Explained (said board) turns 3 (opening_moment c last) part.commands lines told
-      = subst (λ i. Explained (said board) turns 3 (moment_with false i k0 (fresh_frames c.locals)) part.commands lines told) hint
-      (subst (λ b. Explained (said board) turns 3 (moment_with b (facts old).hint k0 (fresh_frames c.locals)) part.commands lines told) spent (subst (λ h. Explained (said board) turns 3 (moment (facts old) k0 h) part.commands lines told) fresh x.3.1)) in
+      = subst (λ i. Explained (said board) turns 3 (thread_state_with false i k0 (fresh_frames c.locals)) part.commands lines told) hint
+      (subst (λ b. Explained (said board) turns 3 (thread_state_with b (facts old).hint k0 (fresh_frames c.locals)) part.commands lines told) spent (subst (λ h. Explained (said board) turns 3 (thread_state (facts old) k0 h) part.commands lines told) fresh x.3.1)) in
       let all = undisturbed c last one k.seen legal in
       let ended = ended_alone turns 3 (opening_moment c last) told end part.commands lines from x.3.2 (lone_pass (view k) (ap (λ d. d.threads) config_of ∙ one) thread_of all) in
       record {

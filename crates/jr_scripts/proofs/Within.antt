@@ -19,7 +19,7 @@ use Rattle.jr_steps.specs.declared.known.Known.{Known}
 use Rattle.jr_steps.specs.Holdings.{empty}
 use Rattle.jr_steps.specs.Knowing.{AreOf, Facts, Holds, Standing, state_of, view}
 use Rattle.jr_frames.specs.Table.{Table}
-use Rattle.jr_gate.specs.Performing.{IsAsBefore, IsMade, Moment, Performed, moment}
+use Rattle.jr_gate.specs.Performing.{IsAsBefore, IsMade, ThreadState, Performed, thread_state}
 use Rattle.jr_gate.proofs.Spending.{made_of, spend_none}
 use Rattle.jr_critical.specs.declared.levels.Levels.{Levels}
 use Rattle.jr_critical.specs.Levels.{KnowsLevels, LearnsFirst, Nests, Opens, Reaches, Stand, TellsKind, level_nested, level_object, object_opened, objects_of, role_opened}
@@ -61,12 +61,12 @@ role_kept r is = record { room = refl; config = refl; last = refl; thread = refl
 module _ {S : Type 0} {facts : S → Facts} where
   -- a deed that leads on to another
   pub did_more : {A B : Type 0} {a b : S} {f g : Frames} {r : Role} {met shown : Known → Type 0} {one : Deed A} {two : Deed B} {once : Result A Fault} {answer : Result B Fault}
-      → ((p q : Moment) → one p once q → two p answer q) → CarriedOut facts a b f g r met shown one once → CarriedOut facts a b f g r met shown two answer
+      → ((p q : ThreadState) → one p once q → two p answer q) → CarriedOut facts a b f g r met shown one once → CarriedOut facts a b f g r met shown two answer
   did_more w d = record { stands_is = d.stands_is; did = λ k s m. let x = d.did k s m in (x.0, x.1, x.2, w _ _ x.3) }
 
   -- no deed leads nowhere
   pub did_nowhere : {A : Type 0} {a : S} {f : Frames} {r : Role} {met shown : Known → Type 0} {deed : Deed A} {answer : Result A Fault}
-      → (facts a).stands.role ≡ r → ((k : Known) → met k → shown k) → ((p : Moment) → deed p answer p) → CarriedOut facts a a f f r met shown deed answer
+      → (facts a).stands.role ≡ r → ((k : Known) → met k → shown k) → ((p : ThreadState) → deed p answer p) → CarriedOut facts a a f f r met shown deed answer
   did_nowhere {r = r} is on w = record { stands_is = role_kept r is; did = λ k s m. (k, s, on k m, w _) }
 
   -- one deed was answered, and the next was done
@@ -134,12 +134,12 @@ module _ {S : Type 0} {facts : S → Facts} where
 module _ {S : Type 0} (facts : S → Facts) (fits : AreOf facts) where
   -- a call of the steps' own thread is one of whoever knows the pass
   own_call : {A : Type 0} {a b : S} {f g : Frames} {n : ℕ} (call : Config → ℕ → ℕ → State → Call A) {answer : Result A Fault} (k k' : Known) → (facts a).knows k
-      → IsMade n (moment (facts a) k f) (moment (facts b) k' g) (call (facts a).stands.config (facts a).stands.last (facts a).stands.thread (state_of k')) answer
-      → IsMade n (moment (facts a) k f) (moment (facts b) k' g) (call k.config k.last k.thread (state_of k')) answer
+      → IsMade n (thread_state (facts a) k f) (thread_state (facts b) k' g) (call (facts a).stands.config (facts a).stands.last (facts a).stands.thread (state_of k')) answer
+      → IsMade n (thread_state (facts a) k f) (thread_state (facts b) k' g) (call k.config k.last k.thread (state_of k')) answer
   own_call {a = a} {b = b} {f = f} {g = g} {n = n} call {answer = answer} k k' s m =
       let of = fits a k s in
-      let p = moment (facts a) k f in
-      let q = moment (facts b) k' g in
+      let p = thread_state (facts a) k f in
+      let q = thread_state (facts b) k' g in
       subst (λ c. IsMade n p q (call c k.last k.thread (state_of k')) answer) (sym of.config)
       (subst (λ l. IsMade n p q (call (facts a).stands.config l k.thread (state_of k')) answer) (sym of.last)
       (subst (λ t. IsMade n p q (call (facts a).stands.config (facts a).stands.last t (state_of k')) answer) (sym of.thread) m))

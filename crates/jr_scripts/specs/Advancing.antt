@@ -8,7 +8,7 @@ use Rattle.jr_model.specs.Frames.{Frames}
 use Rattle.jr_steps.specs.declared.known.Known.{Known}
 use Rattle.jr_steps.specs.declared.steps.Steps.{Ghosts}
 use Rattle.jr_steps.specs.Knowing.{Facts, Leads, Holds}
-use Rattle.jr_gate.specs.Performing.{IsAsBefore, moment}
+use Rattle.jr_gate.specs.Performing.{IsAsBefore, thread_state}
 use Rattle.jr_critical.specs.declared.levels.Levels.{Levels}
 use Rattle.jr_critical.specs.Levels.{KnowsLevels, StandOver, object_opened, objects_of, role_opened}
 use Rattle.jr_env.specs.declared.env.Env.{Env}
@@ -88,7 +88,7 @@ module _ {S : Type 0} (facts : S → Facts) where
   -- THE DEED WAS DONE, with this answer: for whatever was known and met the condition, something is known that it led to and that shows the other; and afterwards the thread has the role
   pub record CarriedOut {A : Type 0} (old new : S) (f g : Frames) (role : Role) (met shown : Known → Type 0) (deed : Deed A) (answer : Result A Fault) : Type 0 where
     pub stands_is : IsAsBefore (record ((facts old).stands) { role = role }) (facts new).stands
-    pub did : Leads facts old new met (λ k k'. shown k') (λ k k'. deed (moment (facts old) k f) answer (moment (facts new) k' g))
+    pub did : Leads facts old new met (λ k k'. shown k') (λ k k'. deed (thread_state (facts old) k f) answer (thread_state (facts new) k' g))
 
 module _ {S A : Type 0} {G : Ghosts S} where
   -- the deed was done, from one region to another

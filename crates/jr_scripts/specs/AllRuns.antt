@@ -15,7 +15,7 @@ use Rattle.jr_syntax.specs.declared.thread.ThreadPart.{ThreadPart}
 use Rattle.jr_syntax.specs.declared.script.Script.{Script}
 use Rattle.jr_rule.specs.declared.pass.Pass.{Pass}
 use Rattle.jr_rule.specs.Passes.{Holder, facts_of, holder_of, standing_of}
-use Rattle.jr_gate.specs.Performing.{Moment}
+use Rattle.jr_gate.specs.Performing.{ThreadState}
 use Rattle.jr_steps.specs.Holdings.{empty}
 use Rattle.jr_steps.specs.Knowing.{Spent}
 use Rattle.jr_env.specs.Deeds.{DoesDeed}
@@ -38,7 +38,7 @@ abbrev pub seeing_as : Config → ℕ → ℕ → History → PassView
 seeing_as c last t seen = record { config = c; last = last; thread = t; seen = seen }
 
 -- before the thread's first command: it has seen nothing, no local reference stands, its pass is spent, and its first search for a free slot begins at slot 0
-abbrev pub opening_of : Config → ℕ → ℕ → Moment
+abbrev pub opening_of : Config → ℕ → ℕ → ThreadState
 opening_of c last t = record { pass = seeing_as c last t []; frames = fresh_frames c.locals; held = empty; fresh = false; hint = 0; taken = 0 }
 
 -- what closing the room adds: the first thread looks at the gate
@@ -48,9 +48,9 @@ closing_acts (suc t) = []
 
 -- A THREAD'S PART in the one history: up to a moment it explains the thread's lines, up to a later one the thread's local references were freed, and from there on it has no more of the thread's events
 pub record IsPartOf (board : List ℕ → Option ℕ) (turns last : ℕ) (c : Config) (whole : History) (t first : ℕ) (part : ThreadPart) (lines : List ℕ) : Type 0 where
-  pub told : Moment
+  pub told : ThreadState
   pub explained : Explained (said board) turns first (opening_of c last t) part.commands lines told
-  pub left : Moment
+  pub left : ThreadState
   pub freed : IsFreed turns told left
   pub seen : History
   pub saw : left.pass ≡ seeing_as c last t seen

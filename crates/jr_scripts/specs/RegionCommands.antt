@@ -11,7 +11,7 @@ use Rattle.jr_model.specs.Checks.{Word}
 use Rattle.jr_model.specs.Objects.{nest_array, nest_string, region_get, region_kind, region_release, region_set}
 use Rattle.jr_steps.specs.Holdings.{empty}
 use Rattle.jr_frames.specs.Reading.{IsReadAs}
-use Rattle.jr_gate.specs.Performing.{IsMade, Moment}
+use Rattle.jr_gate.specs.Performing.{IsMade, ThreadState}
 use Rattle.jr_env.specs.Deeds.{Deed, decided, done, ◌>>=◌, ◌>>◌}
 use Rattle.jr_syntax.specs.declared.command.Command.{Command}
 use Rattle.jr_syntax.specs.declared.command.Command.TheVariants as commands
@@ -107,7 +107,7 @@ waiting_by make.Wait = awaited
 waiting_by make.Plain = decided (Err fault.InCritical)
 
 -- with the first level the stay ends, and the thread holds nothing afterwards
-abbrev pub HoldsAfter : ℕ → Moment → Type 0
+abbrev pub HoldsAfter : ℕ → ThreadState → Type 0
 HoldsAfter (suc zero) new = new.held ≡ empty
 HoldsAfter _ new = Unit {0}
 

@@ -16,7 +16,7 @@ use Rattle.jr_syntax.specs.declared.thread.ThreadPart.{ThreadPart}
 use Rattle.jr_syntax.specs.declared.script.Script.{Script}
 use Rattle.jr_steps.specs.declared.steps.Steps.{Ghosts}
 use Rattle.jr_steps.specs.Holdings.{empty}
-use Rattle.jr_gate.specs.Performing.{Moment}
+use Rattle.jr_gate.specs.Performing.{ThreadState}
 use Rattle.jr_env.specs.declared.env.Env.{Env}
 use Rattle.jr_env.specs.Deeds.{Deed, free_locals}
 use Rattle.jr_env.specs.Envs.{WasDone}
@@ -34,13 +34,13 @@ abbrev pub running : Talk → ℕ → ℕ → List Command → List ℕ → Deed
 running talk turns first commands text begun answer told = LeavesText talk turns first begun commands answer text told
 
 -- A THREAD'S END: from one moment to the other its local references were freed, by a call that was made again where it was barred, up to so many in all, with this answer
-pub record IsFreed (turns : ℕ) (told left : Moment) : Type 0 where
+pub record IsFreed (turns : ℕ) (told left : ThreadState) : Type 0 where
   pub answer : Result (Unit {0}) Fault
   pub tries : tried turns free_locals told answer left
 
 -- the commands run, and then the local references are freed: the text is explained up to a moment in between
 abbrev pub running_to_end : Talk → ℕ → ℕ → List Command → List ℕ → Deed (Unit {0})
-running_to_end talk turns first commands text begun answer left = (told : Moment) × LeavesText talk turns first begun commands answer text told × IsFreed turns told left
+running_to_end talk turns first commands text begun answer left = (told : ThreadState) × LeavesText talk turns first begun commands answer text told × IsFreed turns told left
 
 module _ {S : Type 0} {G : Ghosts S} where
   -- the commands were run
@@ -61,7 +61,7 @@ abbrev pub seeing : Config → ℕ → History → PassView
 seeing c last seen = record { config = c; last = last; thread = 0; seen = seen }
 
 -- before the first command: nothing has happened, no local reference stands, the pass is spent, and the first search for a free slot begins at slot 0
-abbrev pub opening_moment : Config → ℕ → Moment
+abbrev pub opening_moment : Config → ℕ → ThreadState
 opening_moment c last = record { pass = seeing c last []; frames = fresh_frames c.locals; held = empty; fresh = false; hint = 0; taken = 0 }
 
 -- thread 0 did it, and it is no knock at a shut gate, no shut that others were in the way of, and no reservation that another was faster at
@@ -79,10 +79,10 @@ pub record IsRun (turns last : ℕ) (c : Config) (part : ThreadPart) (text : Lis
   pub posted : IsOfPosts part.commands board
   pub legal : IsLegal c last seen
   pub alone : AllByRecursion IsUnbarred seen
-  pub told : Moment
+  pub told : ThreadState
   pub explained : Explained (said board) turns 3 (opening_moment c last) part.commands lines told
   pub answers : AnswersAlone explained.explains
-  pub left : Moment
+  pub left : ThreadState
   pub freed : IsFreed turns told left
   pub freed_all : turns ≢ 0 → freed.answer ≡ Ok tt
   pub saw : left.pass ≡ seeing c last seen

@@ -14,7 +14,7 @@ use Rattle.jr_steps.specs.declared.known.Known.{Known}
 use Rattle.jr_word.specs.declared.header.HeaderParts.{HeaderParts}
 use Rattle.jr_steps.specs.Collecting.{IsThere}
 use Rattle.jr_steps.specs.Holdings.{HasDone}
-use Rattle.jr_steps.specs.Says.{spot}
+use Rattle.jr_steps.specs.Says.{element_spot}
 use Rattle.jr_steps.specs.Knowing.{view, state_of, KnowsHeader, IsSettled, Goes, Sees}
 use Rattle.jr_steps.proofs.Spots.{at_left}
 use Rattle.jr_steps.proofs.StepFacts.{none_mine}
@@ -56,7 +56,7 @@ goes_act {k} {k'} {a} g collects =
 
 -- where no move is unfinished each element stands at its header's place
 pub there_settled : (o i : ℕ) (h : HeaderParts) (k : Known) → KnowsHeader o h k → i < h.length → IsSettled k → IsThere o h i k
-there_settled o i h k known l settled = (known, l, ap (λ m. spot m o h.place i) settled)
+there_settled o i h k known l settled = (known, l, ap (λ m. element_spot m o h.place i) settled)
 
 -- and while one is moved, those that are not yet done
 pub there_left : (o i place n : ℕ) (h : HeaderParts) (k : Known) → KnowsHeader o h k → i < h.length → HasDone k.holdings.moving o place n → n ≤ i → IsThere o h i k

@@ -8,7 +8,7 @@ use Rattle.jr_model.specs.State.{Handle, Contents, IsPresent, IsReached, present
 use Rattle.jr_steps.specs.declared.known.Known.{Known}
 use Rattle.jr_steps.specs.Acts.{handle_of}
 use Rattle.jr_steps.specs.Holdings.{without_header, with_header, with_move, move_of, HasDone}
-use Rattle.jr_steps.specs.Says.{local_parts, spot}
+use Rattle.jr_steps.specs.Says.{local_parts, element_spot}
 use Rattle.jr_steps.specs.Knowing.{state_of, KnowsHeader, IsSettled}
 
 -- A LOAD OF A LOCAL WORD shows what stands at the place
@@ -21,7 +21,7 @@ ShowsElement o i v k = (x : Contents) × ((state_of k).objects o ≡ Some x) × 
 
 -- the element stands where the header that is known says: an unfinished move has not done it
 abbrev pub IsThere : ℕ → HeaderParts → ℕ → Known → Type 0
-IsThere o h i k = KnowsHeader o h k × (i < h.length) × (spot k.holdings.moving o h.place i ≡ h.place + i)
+IsThere o h i k = KnowsHeader o h k × (i < h.length) × (element_spot k.holdings.moving o h.place i ≡ h.place + i)
 
 -- A WEAK REFERENCE MAY BE CLEARED: it is to an object that is not reached
 abbrev pub CanWipe : ℕ → ℕ → ℕ → Known → Type 0

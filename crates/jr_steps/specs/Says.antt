@@ -63,6 +63,6 @@ pub record SaysOfHeader (x : Contents) (parts : HeaderParts) : Type 0 where
   pub long : length x.words ≡ parts.length
 
 -- where element j of an object stands whose header says the place p: those that an unfinished move has done stand at its new place
-abbrev pub spot : Option Move → ℕ → ℕ → ℕ → ℕ
-spot None o p j = p + j
-spot (Some m) o p j = cond ((m.object == o) && nat_lt j m.done) (m.place + j) (p + j)
+abbrev pub element_spot : Option Move → ℕ → ℕ → ℕ → ℕ
+element_spot None o p j = p + j
+element_spot (Some m) o p j = cond ((m.object == o) && nat_lt j m.done) (m.place + j) (p + j)

@@ -4,7 +4,7 @@ use Rattle.jr_word.specs.declared.config.Config.{Config}
 use Rattle.jr_weak.specs.Markers.{room_of}
 use Rattle.jr_rule.specs.Passes.{Holder, facts_of}
 use Rattle.jr_rule.specs.Rooms.{holder_over}
-use Rattle.jr_rule.specs.Rule.{acting}
+use Rattle.jr_rule.specs.Rule.{stepping_pass}
 use Rattle.jr_model.specs.Frames.{fresh_frames}
 use Rattle.first_room.specs.Calls.{sharing}
 use Rattle.first_room.proofs.Played.{shared, refused_as, same_on, deleted_on, typed_on, played, word_or_null}
@@ -13,7 +13,7 @@ use Rattle.first_room.proofs.share.Goals as goal
 
 pub collect_in_turn-requires-clause-room : goal.collect_in_turn-requires-clause-room
 collect_in_turn-requires-clause-room c =
-    let first : room_of c.in_ok-marker.marker ≡ (acting c.pop_local_frame.new.self.held.steps.cells.seat.me).config.objects = search rules in
+    let first : room_of c.in_ok-marker.marker ≡ (stepping_pass c.pop_local_frame.new.self.held.steps.cells.seat.me).config.objects = search rules in
     let same = ((c.in-Err-Busy.ensures.call).does (c.in_ok-pop_local_frame.ensures).outside).stands_is.config in
     c.collect.ensures.room ∙ (first ∙ sym (ap (λ (k : Config). k.objects) same))
 

@@ -4,7 +4,7 @@ ghost use Rattle.jr_model.specs.declared.event.Act.TheVariants.{Meet};
 ghost use Rattle.jr_model.specs.History.{HasMet};
 ghost use Rattle.jr_steps.specs.Knowing.{view, anything, Took, keeps};
 ghost use Rattle.jr_rule.specs.Passes.{facts_of, known_of, IsSame};
-ghost use Rattle.jr_rule.specs.Rule.{acting};
+ghost use Rattle.jr_rule.specs.Rule.{stepping_pass};
 ghost use Rattle.jr_rule.specs.Rooms.{AreAsBefore, AreInOneRoom, IsOfRoom, holder_over};
 
 use crate::env::Env;
@@ -20,7 +20,7 @@ impl<const LAST: u32> Env<RoomSteps<'_, LAST>> {
         requires { IsOfRoom self.old.held.steps.place.now pass }
         ensures room { self.new.held.steps.place ≡ self.old.held.steps.place }
         ensures step { Took facts_of (holder_over self.old.held.steps) (holder_over self.new.held.steps) (Meet ∷ []) anything keeps }
-        ensures met { HasMet (view (known_of pass)) (view (acting self.new.held.steps.cells.seat.me)) }
+        ensures met { HasMet (view (known_of pass)) (view (stepping_pass self.new.held.steps.cells.seat.me)) }
         ensures other { IsOfRoom self.old.held.steps.place.now result × IsSame pass result }
         ensures frames { self.new.held.frames ≡ self.old.held.frames }
     {
@@ -37,7 +37,7 @@ impl<const LAST: u32> Env<RoomSteps<'_, LAST>> {
         requires { AreInOneRoom self.old.held.steps other.old.held.steps }
         ensures room { self.new.held.steps.place ≡ self.old.held.steps.place }
         ensures step { Took facts_of (holder_over self.old.held.steps) (holder_over self.new.held.steps) (Meet ∷ []) anything keeps }
-        ensures met { HasMet (view (acting other.old.held.steps.cells.seat.me)) (view (acting self.new.held.steps.cells.seat.me)) }
+        ensures met { HasMet (view (stepping_pass other.old.held.steps.cells.seat.me)) (view (stepping_pass self.new.held.steps.cells.seat.me)) }
         ensures other { AreAsBefore other.old.held.steps other.new.held.steps × (other.new.held.frames ≡ other.old.held.frames) × (other.new.numbers ≡ other.old.numbers) }
         ensures frames { self.new.held.frames ≡ self.old.held.frames }
     {

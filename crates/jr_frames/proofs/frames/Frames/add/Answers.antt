@@ -4,10 +4,10 @@ use Rattle.jr_model.specs.declared.frames.LocalRef.{LocalRef}
 use Rattle.jr_model.specs.State.{Handle}
 use Rattle.jr_model.specs.Frames.{Frames, IsAdded, object_at}
 use Rattle.jr_frames.specs.declared.place.Place.{Place}
-use Rattle.jr_frames.specs.declared.frames.Frames.TheInside.{Inside}
+use Rattle.jr_frames.specs.declared.frames.Frames.TheInside.{Inside as Fields}
 use Rattle.jr_frames.specs.Table.{Table, IsNext, IsOnly}
 use Rattle.jr_frames.specs.Places.{given_of, place_at}
-use Rattle.jr_frames.specs.Shown.{table, free_of, order_of, IsArranged, IsTable}
+use Rattle.jr_frames.specs.Arrangements.{table, free_of, order_of, IsArranged, IsTable}
 use Rattle.jr_frames.proofs.Times.{without, length_without}
 use Rattle.jr_frames.proofs.LastRing.{with_end}
 use Rattle.jr_frames.proofs.Showing.{is_table, table_is}
@@ -17,7 +17,7 @@ use Rattle.jr_frames.proofs.Still.{beside}
 use Rattle.jr_frames.proofs.Named.{not_zero}
 use Rattle.jr_frames.proofs.frames.Frames.add.Goals as goal
 
-at_inside : (t : Table) (a : Inside) (h : Handle) → table a ≡ t → IsNext t h → IsNext (table a) h
+at_inside : (t : Table) (a : Fields) (h : Handle) → table a ≡ t → IsNext t h → IsNext (table a) h
 at_inside t a h e n = subst (λ u. IsNext u h) (sym e) n
 
 pub take_out-requires-clause-older : goal.take_out-requires-clause-older
@@ -31,7 +31,7 @@ take_out-requires-clause-newer c =
     (in_rings c.self.inside (free_of c.self.inside) (order_of c.self.inside) c.self.invariant c.args.handle (at_inside _ c.self.inside c.args.handle c.self.view_is c.requires.next))).newer_low
 
 -- the end of the newest frame
-at_end : (a : Inside) (len : ℕ) → IsTable a → len ≡ length a.rings.links.items → suc (len - 1) ≡ length a.rings.links.items
+at_end : (a : Fields) (len : ℕ) → IsTable a → len ≡ length a.rings.links.items → suc (len - 1) ≡ length a.rings.links.items
 at_end a len is e = let size = is.size in omega arith
 
 pub put_last-requires-clause-older : goal.put_last-requires-clause-older
@@ -42,7 +42,7 @@ put_last-requires-clause-older c =
 pub overflow_sub-self : goal.overflow_sub-self
 overflow_sub-self c = free_one c.self.inside c.self.invariant c.args.handle (at_inside _ c.self.inside c.args.handle c.self.view_is c.requires.next)
   where
-    free_one : (a : Inside) (is : IsTable a) (h : Handle) → IsNext (table a) h → 1 ≤ a.free
+    free_one : (a : Fields) (is : IsTable a) (h : Handle) → IsNext (table a) h → 1 ≤ a.free
     free_one a is h next =
         let once = once_free a (free_of a) (order_of a) is h next in
         let shorter = length_without h.index (free_of a) once in
@@ -71,7 +71,7 @@ one_less c =
     let was = c.self.invariant.count in
     less c.self.inside.free (omega arith)
 
-abbrev inside_now : goal.After-self-2-1 → Inside
+abbrev inside_now : goal.After-self-2-1 → Fields
 inside_now c = changed c.self.inside (c.self.inside.free - 1) (places c) c.put_last.new.self
 
 shows : (c : goal.After-self-2-1) → IsArranged (inside_now c) (without c.args.handle.index (free_of c.self.inside)) (with_end (order_of c.self.inside) c.args.handle.index)

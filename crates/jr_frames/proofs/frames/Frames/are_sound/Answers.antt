@@ -1,7 +1,7 @@
 use Rattle.std.proofs.Common.{subst}
 use Rattle.jr_model.specs.Frames.{AreSound}
 use Rattle.jr_frames.specs.Table.{Table}
-use Rattle.jr_frames.specs.Shown.{free_of, order_of}
+use Rattle.jr_frames.specs.Arrangements.{free_of, order_of}
 use Rattle.jr_frames.proofs.Sound.{sound}
 use Rattle.jr_frames.proofs.frames.Frames.are_sound.Goals as goal
 

@@ -4,11 +4,11 @@ use Rattle.arrayvec.specs.ArrayVec.{ArrayVec}
 use Rattle.jr_model.specs.State.{Handle}
 use Rattle.jr_model.specs.Frames.{object_at, object_of, without_local}
 use Rattle.jr_frames.specs.declared.place.Place.{Place}
-use Rattle.jr_frames.specs.declared.frames.Frames.TheInside.{Inside}
+use Rattle.jr_frames.specs.declared.frames.Frames.TheInside.{Inside as Fields}
 use Rattle.jr_frames.specs.Table.{Table, IsOnly}
 use Rattle.jr_frames.specs.Rings.{IsPutFirst}
 use Rattle.jr_frames.specs.Places.{given_of, unused, place_at}
-use Rattle.jr_frames.specs.Shown.{table, free_of, order_of, IsArranged, IsTable}
+use Rattle.jr_frames.specs.Arrangements.{table, free_of, order_of, IsArranged, IsTable}
 use Rattle.jr_frames.proofs.Times.{without}
 use Rattle.jr_frames.proofs.Showing.{is_table, table_is}
 use Rattle.jr_frames.proofs.FreePlaces.{free_few}
@@ -18,7 +18,7 @@ use Rattle.jr_frames.proofs.Deleting.{standing_index, in_rings, around_end, empt
 use Rattle.jr_frames.proofs.frames.Frames.delete.Goals as goal
 
 -- the reference stands in the table inside
-stands_inside : (t : Table) (a : Inside) (h : Handle) → table a ≡ t → IsSome (object_of t.frames h) → IsSome (object_of (table a).frames h)
+stands_inside : (t : Table) (a : Fields) (h : Handle) → table a ≡ t → IsSome (object_of t.frames h) → IsSome (object_of (table a).frames h)
 stands_inside t a h e s = subst (λ (u : Table). IsSome (object_of u.frames h)) (sym e) s
 
 pub bounds-deref_mut-from : goal.bounds-deref_mut-from
@@ -36,18 +36,18 @@ take_out-requires-clause-newer c =
     (in_rings c.self.inside (free_of c.self.inside) (order_of c.self.inside) c.self.invariant c.args.handle (stands_inside _ c.self.inside c.args.handle c.self.view_is c.requires))).newer_low
 
 -- the places once one was emptied, through the slice of them
-abbrev places_of : Inside → List Place → ℕ → ArrayVec Place
+abbrev places_of : Fields → List Place → ℕ → ArrayVec Place
 places_of a seen i = with_place a.places seen i (λ place. record { low = place.low; high = place.high; object = 0 })
 
-places_are : (a : Inside) (seen : List Place) (i j : ℕ) → seen ≡ a.places.items → i ≡ j → (places_of a seen i).items ≡ slice_set a.places.items j (emptied a j)
+places_are : (a : Fields) (seen : List Place) (i j : ℕ) → seen ≡ a.places.items → i ≡ j → (places_of a seen i).items ≡ slice_set a.places.items j (emptied a j)
 places_are a seen i j e f = with_place_is a.places seen i j (λ place. record { low = place.low; high = place.high; object = 0 }) e f
 
 -- as many places as before
-end_is : (a : Inside) (seen : List Place) (i j n : ℕ) → seen ≡ a.places.items → i ≡ j → n ≡ length (places_of a seen i).items → n ≡ length a.places.items
+end_is : (a : Fields) (seen : List Place) (i j n : ℕ) → seen ≡ a.places.items → i ≡ j → n ≡ length (places_of a seen i).items → n ≡ length a.places.items
 end_is a seen i j n e f m = m ∙ (ap length (places_are a seen i j e f) ∙ length-set a.places.items j (emptied a j))
 
 -- the emptied place has given as many handles
-given_same : (a : Inside) (seen read : List Place) (i j k n : ℕ) → seen ≡ a.places.items → i ≡ j → j < length a.places.items → read ≡ (places_of a seen i).items → k ≡ j → n ≡ given_of (place_at read k) → n ≡ given_of (place_at a.places.items j)
+given_same : (a : Fields) (seen read : List Place) (i j k n : ℕ) → seen ≡ a.places.items → i ≡ j → j < length a.places.items → read ≡ (places_of a seen i).items → k ≡ j → n ≡ given_of (place_at read k) → n ≡ given_of (place_at a.places.items j)
 given_same a seen read i j k n e f l now same is =
     is ∙ (ap (λ ps. given_of (place_at ps k)) (now ∙ places_are a seen i j e f)
     ∙ (ap (λ q. given_of (place_at (slice_set a.places.items j (emptied a j)) q)) same
@@ -82,7 +82,7 @@ given_low c =
     let last = c.from-3.ensures in
     omega arith
 
-abbrev inside_free : goal.After-self-then-given-from-1 → Inside
+abbrev inside_free : goal.After-self-then-given-from-1 → Fields
 inside_free c = changed c.self.inside (c.self.inside.free + 1) (places_of c.self.inside c.deref_mut.result.now c.from.result) c.put_first.new.self
 
 shows_free : (c : goal.After-self-then-given-from-1) → IsArranged (inside_free c) (c.args.handle.index ∷ free_of c.self.inside) (map (without c.args.handle.index) (order_of c.self.inside))
@@ -102,12 +102,12 @@ returns-then-given-from-clause-deleted c =
     ∙ ap (λ (t : Table). without_local t.frames c.args.handle) c.self.view_is)
 
 -- where one place is emptied, another object stands there alone
-only_emptied : (a : Inside) (is : IsTable a) (t : Table) → table a ≡ t → (h : Handle) → h.index < length a.places.items → (seen : List Place) (i : ℕ) → seen ≡ a.places.items → i ≡ h.index
-    → (now : Inside) → now ≡ changed a now.free (places_of a seen i) now.rings → IsTable now → IsOnly t.frames h.index None (table now).frames
+only_emptied : (a : Fields) (is : IsTable a) (t : Table) → table a ≡ t → (h : Handle) → h.index < length a.places.items → (seen : List Place) (i : ℕ) → seen ≡ a.places.items → i ≡ h.index
+    → (now : Fields) → now ≡ changed a now.free (places_of a seen i) now.rings → IsTable now → IsOnly t.frames h.index None (table now).frames
 only_emptied a is t e h l seen i same at now parts shows =
     let only : IsOnly (table a).frames h.index None (table (changed a now.free (places_of a seen i) now.rings)).frames =
     changed_only a (free_of a) (order_of a) is h.index l (emptied a h.index) (places_of a seen i) (places_are a seen i h.index same at) _ _ now.free now.rings (subst IsTable parts shows) in
-    λ p. ap (λ (b : Inside). object_at (table b).frames p) parts ∙ (only p ∙ ap (λ (u : Table). cond (h.index == p) None (object_at u.frames p)) e)
+    λ p. ap (λ (b : Fields). object_at (table b).frames p) parts ∙ (only p ∙ ap (λ (u : Table). cond (h.index == p) None (object_at u.frames p)) e)
 
 pub returns-then-given-from-clause-only : goal.returns-then-given-from-clause-only
 returns-then-given-from-clause-only c =
@@ -127,7 +127,7 @@ given_high c =
     let last = c.from-3.ensures in
     omega arith
 
-abbrev inside_retired : goal.Else-given-from → Inside
+abbrev inside_retired : goal.Else-given-from → Fields
 inside_retired c = changed c.self.inside c.self.inside.free (places_of c.self.inside c.deref_mut.result.now c.from.result) c.take_out.new.self
 
 shows_retired : (c : goal.Else-given-from) → IsArranged (inside_retired c) (free_of c.self.inside) (map (without c.args.handle.index) (order_of c.self.inside))

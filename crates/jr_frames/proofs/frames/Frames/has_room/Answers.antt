@@ -1,7 +1,7 @@
 use Rattle.std.proofs.Common.{rules, ◌≡◌, ap, ◌∙◌, sym}
 use Rattle.jr_model.specs.Frames.{free_places}
 use Rattle.jr_frames.specs.Table.{Table}
-use Rattle.jr_frames.specs.Shown.{free_of, order_of}
+use Rattle.jr_frames.specs.Arrangements.{free_of, order_of}
 use Rattle.jr_frames.proofs.FreePlaces.{free_counted}
 use Rattle.jr_frames.proofs.frames.Frames.has_room.Goals as goal
 

@@ -1,18 +1,18 @@
 use Rattle.std.proofs.Common.{◌≡◌, ◌≤◌, ◌-◌, ℕ, Bool, true, false, suc, length, IsTrue, ◌↔◌, refl, sym, subst, ◌∙◌, arith}
 use Rattle.jr_model.specs.Frames.{free_places, popped}
-use Rattle.jr_frames.specs.declared.frames.Frames.TheInside.{Inside}
+use Rattle.jr_frames.specs.declared.frames.Frames.TheInside.{Inside as Fields}
 use Rattle.jr_frames.specs.Table.{Table}
-use Rattle.jr_frames.specs.Shown.{table, free_of, order_of, IsTable}
+use Rattle.jr_frames.specs.Arrangements.{table, free_of, order_of, IsTable}
 use Rattle.jr_frames.proofs.PopRoom.{room_already, newest_ring, room_then, room_never}
 use Rattle.jr_frames.proofs.frames.Frames.has_room_after_pop.Goals as goal
 
-at_end : (a : Inside) (len : ℕ) → IsTable a → len ≡ length a.rings.links.items → suc (len - 1) ≡ length a.rings.links.items
+at_end : (a : Fields) (len : ℕ) → IsTable a → len ≡ length a.rings.links.items → suc (len - 1) ≡ length a.rings.links.items
 at_end a len is e = let size = is.size in omega arith
 
-shown : (t : Table) (a : Inside) → table a ≡ t → 1 ≤ free_places a.last (popped (table a).frames) → 1 ≤ free_places t.last (popped t.frames)
+shown : (t : Table) (a : Fields) → table a ≡ t → 1 ≤ free_places a.last (popped (table a).frames) → 1 ≤ free_places t.last (popped t.frames)
 shown t a e l = subst (λ (u : Table). 1 ≤ free_places u.last (popped u.frames)) e l
 
-shown_none : (t : Table) (a : Inside) → table a ≡ t → free_places a.last (popped (table a).frames) ≡ 0 → free_places t.last (popped t.frames) ≡ 0
+shown_none : (t : Table) (a : Fields) → table a ≡ t → free_places a.last (popped (table a).frames) ≡ 0 → free_places t.last (popped t.frames) ≡ 0
 shown_none t a e l = subst (λ (u : Table). free_places u.last (popped u.frames) ≡ 0) e l
 
 -- a test that says whether there are any

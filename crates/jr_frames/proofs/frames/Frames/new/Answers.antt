@@ -1,6 +1,6 @@
 use Rattle.std.proofs.Common.{rules, ◌≡◌, ◌<◌, ◌^◌, ◌∷◌, [], arith, ap, ◌∙◌, replicate}
 use Rattle.jr_frames.specs.Places.{unused}
-use Rattle.jr_frames.specs.Shown.{IsArranged}
+use Rattle.jr_frames.specs.Arrangements.{IsArranged}
 use Rattle.jr_frames.proofs.Showing.{is_table, table_is}
 use Rattle.jr_frames.proofs.FreshTable.{count_up, fresh_inside, fresh_shows, is_fresh}
 use Rattle.jr_frames.proofs.frames.Frames.new.Goals as goal

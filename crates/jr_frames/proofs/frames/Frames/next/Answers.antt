@@ -5,7 +5,7 @@ use Rattle.jr_model.specs.Frames.{free_places}
 use Rattle.jr_frames.specs.Table.{Table, IsNext}
 use Rattle.jr_frames.specs.Rings.{newer_at}
 use Rattle.jr_frames.specs.Places.{given_of, place_at}
-use Rattle.jr_frames.specs.Shown.{table, free_of, order_of}
+use Rattle.jr_frames.specs.Arrangements.{table, free_of, order_of}
 use Rattle.jr_frames.proofs.FreePlaces.{free_counted, first_idle, free_next, IsIdle}
 use Rattle.jr_frames.proofs.frames.Frames.next.Goals as goal
 

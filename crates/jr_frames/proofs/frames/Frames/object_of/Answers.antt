@@ -4,7 +4,7 @@ use Rattle.jr_model.specs.Frames.{object_at, object_of}
 use Rattle.jr_frames.specs.declared.place.Place.{Place}
 use Rattle.jr_frames.specs.Table.{Table}
 use Rattle.jr_frames.specs.Places.{given_of, unused, place_at}
-use Rattle.jr_frames.specs.Shown.{table, free_of, order_of}
+use Rattle.jr_frames.specs.Arrangements.{table, free_of, order_of}
 use Rattle.jr_frames.proofs.Places.{object_in, object_at_place}
 use Rattle.jr_frames.proofs.Named.{not_zero, named_object, empty_object, unnamed_object}
 use Rattle.jr_frames.proofs.frames.Frames.object_of.Goals as goal

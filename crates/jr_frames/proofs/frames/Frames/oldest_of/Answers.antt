@@ -3,26 +3,26 @@ use Rattle.std.proofs.lemmas.List.{length-map}
 use Rattle.jr_word.specs.declared.handle.RefKind.TheVariants.{Local}
 use Rattle.jr_model.specs.State.{Handle}
 use Rattle.jr_model.specs.Frames.{object_of}
-use Rattle.jr_frames.specs.declared.frames.Frames.TheInside.{Inside}
+use Rattle.jr_frames.specs.declared.frames.Frames.TheInside.{Inside as Fields}
 use Rattle.jr_frames.specs.Table.{Table, TakesOldestOf, frame_at, oldest_handle}
 use Rattle.jr_frames.specs.Rings.{newer_at}
 use Rattle.jr_frames.specs.Places.{given_of, place_at}
-use Rattle.jr_frames.specs.Shown.{table, free_of, order_of, IsTable}
+use Rattle.jr_frames.specs.Arrangements.{table, free_of, order_of, IsTable}
 use Rattle.jr_frames.proofs.Oldest.{IsOldest, list_at, closed_empty, open_oldest, none_left_at, tail_of, oldest_low, oldest_given, is_oldest, oldest_stands, takes_oldest}
 use Rattle.jr_frames.proofs.frames.Frames.oldest_of.Goals as goal
 
 -- there is a frame of the number
-frame_low : (t : Table) (a : Inside) (k : ℕ) → table a ≡ t → k < length t.frames.frames → k < length (order_of a)
+frame_low : (t : Table) (a : Fields) (k : ℕ) → table a ≡ t → k < length t.frames.frames → k < length (order_of a)
 frame_low t a k e l =
     let shown : k < length (table a).frames.frames = subst (λ (u : Table). k < length u.frames.frames) (sym e) l in
     rw length-map at shown
 
 -- what follows the end, where that is the end itself, and where it is not
-closed_at : (t : Table) (a : Inside) (is : IsTable a) (len k p : ℕ) → table a ≡ t → k < length t.frames.frames → len ≡ length a.places.items → p ≡ newer_at a.rings.links.items (len + 1 + k) → p ≡ len + 1 + k → list_at (order_of a) k ≡ []
+closed_at : (t : Table) (a : Fields) (is : IsTable a) (len k p : ℕ) → table a ≡ t → k < length t.frames.frames → len ≡ length a.places.items → p ≡ newer_at a.rings.links.items (len + 1 + k) → p ≡ len + 1 + k → list_at (order_of a) k ≡ []
 closed_at t a is len k p e l size at same =
     closed_empty a (free_of a) (order_of a) is k (frame_low t a k e l) (len + 1 + k) (ap (λ n. n + 1 + k) size) (sym at ∙ same)
 
-oldest_at : (t : Table) (a : Inside) (is : IsTable a) (len k p : ℕ) → table a ≡ t → k < length t.frames.frames → len ≡ length a.places.items → p ≡ newer_at a.rings.links.items (len + 1 + k) → p ≢ len + 1 + k → IsOldest a (order_of a) k p (tail_of (list_at (order_of a) k))
+oldest_at : (t : Table) (a : Fields) (is : IsTable a) (len k p : ℕ) → table a ≡ t → k < length t.frames.frames → len ≡ length a.places.items → p ≡ newer_at a.rings.links.items (len + 1 + k) → p ≢ len + 1 + k → IsOldest a (order_of a) k p (tail_of (list_at (order_of a) k))
 oldest_at t a is len k p e l size at other =
     subst (λ q. IsOldest a (order_of a) k q (tail_of (list_at (order_of a) k))) (sym at)
     (open_oldest a (free_of a) (order_of a) is k (frame_low t a k e l) (len + 1 + k) (ap (λ n. n + 1 + k) size) (λ same. other (at ∙ same)))

@@ -2,20 +2,20 @@ use Rattle.std.proofs.Common.{◌≡◌, ◌≤◌, ◌+◌, ◌-◌, ap, subst,
 use Rattle.std.proofs.lemmas.List.{length-map, length-take-le}
 use Rattle.jr_model.specs.Frames.{popped, last_frame}
 use Rattle.jr_frames.specs.declared.rings.Rings.{Rings}
-use Rattle.jr_frames.specs.declared.frames.Frames.TheInside.{Inside}
+use Rattle.jr_frames.specs.declared.frames.Frames.TheInside.{Inside as Fields}
 use Rattle.jr_frames.specs.Table.{Table, with_frames}
 use Rattle.jr_frames.specs.Places.{ref_at}
-use Rattle.jr_frames.specs.Shown.{table, free_of, order_of, IsArranged, IsTable}
+use Rattle.jr_frames.specs.Arrangements.{table, free_of, order_of, IsArranged, IsTable}
 use Rattle.jr_frames.proofs.LastRing.{lists_before}
 use Rattle.jr_frames.proofs.Showing.{is_table, table_is}
 use Rattle.jr_frames.proofs.Changing.{changed}
 use Rattle.jr_frames.proofs.Stacking.{popped_shows, is_popped, empty_last}
 use Rattle.jr_frames.proofs.frames.Frames.pop_empty.Goals as goal
 
-two : (a : Inside) (t : Table) → table a ≡ t → 2 ≤ length t.frames.frames → 2 ≤ length (order_of a)
+two : (a : Fields) (t : Table) → table a ≡ t → 2 ≤ length t.frames.frames → 2 ≤ length (order_of a)
 two a t e l = let same : length (table a).frames.frames ≡ length (order_of a) = length-map (order_of a) (map (ref_at a.thread a.places.items)) in subst (λ n. 2 ≤ n) same (subst (λ (u : Table). 2 ≤ length u.frames.frames) (sym e) l)
 
-one_less : (a : Inside) (rings : Rings) → IsTable a → rings.links.items ≡ take (length a.rings.links.items - 1) a.rings.links.items → length rings.links.items + 1 ≡ length a.rings.links.items
+one_less : (a : Fields) (rings : Rings) → IsTable a → rings.links.items ≡ take (length a.rings.links.items - 1) a.rings.links.items → length rings.links.items + 1 ≡ length a.rings.links.items
 one_less a rings is less =
     let size = is.size in
     let taken : length rings.links.items ≡ length (take (length a.rings.links.items - 1) a.rings.links.items) = ap length less in

@@ -3,7 +3,7 @@ use Rattle.jr_steps.proofs.StepFacts.{took_less}
 use Rattle.jr_steps.specs.declared.known.Known.{Known}
 use Rattle.jr_rule.specs.Passes.{Holder, known_of}
 use Rattle.jr_rule.specs.Rooms.{holder_over, CountsInside}
-use Rattle.jr_rule.specs.Rule.{acting}
+use Rattle.jr_rule.specs.Rule.{stepping_pass}
 use Rattle.jr_rule.proofs.GateSteps.{counted_after}
 use Rattle.jr_rule.proofs.PassOver.{stays_of, took_there}
 use Rattle.jr_rule.proofs.room.Room.look.Goals as goal
@@ -16,8 +16,8 @@ returns-clause-room g c = stays_of c.args.self.now.row c.args.pass c.into_pass.r
 
 pub returns-clause-seen : goal.returns-clause-seen
 returns-clause-seen g c =
-    let first = ap (λ (h : Holder). acting h.seat.me) c.new-steps.ensures.pass in
+    let first = ap (λ (h : Holder). stepping_pass h.seat.me) c.new-steps.ensures.pass in
     let role = ap (λ (h : Holder). h.role) c.new-steps.ensures.pass in
     let s = c.look.ensures.seen (known_of c.args.pass) (record { is = sym first; config = ap (λ (k : Known). k.config) (sym first); last = ap (λ (k : Known). k.last) (sym first); thread = ap (λ (k : Known). k.thread) (sym first) }) (c.args.pass.held.role_is ∙ sym role) in
-    let last : s.0 ≡ known_of c.into_pass.result = s.1.is ∙ ap (λ (h : Holder). acting h.seat.me) (sym c.into_pass.ensures.pass) in
+    let last : s.0 ≡ known_of c.into_pass.result = s.1.is ∙ ap (λ (h : Holder). stepping_pass h.seat.me) (sym c.into_pass.ensures.pass) in
     subst (λ k. CountsInside (known_of c.args.pass) k c.all_counted-inside.result) last (record { goes = s.2; is = c.all_counted-inside.ensures ∙ counted_after _ s.2 s.3 })

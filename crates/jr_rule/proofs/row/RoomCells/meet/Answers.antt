@@ -1,5 +1,5 @@
 use Rattle.std.proofs.Common.{rules, ap}
-use Rattle.jr_rule.specs.Rule.{Met, Sat, others_of}
+use Rattle.jr_rule.specs.Rule.{Met, SeatState, others_of}
 use Rattle.jr_rule.proofs.GateOwed.{meets}
 use Rattle.jr_rule.proofs.Meeting.{seated_both}
 use Rattle.jr_rule.proofs.RuleKept.{plays}
@@ -7,7 +7,7 @@ use Rattle.jr_rule.proofs.Seats.{gathers, parts}
 use Rattle.jr_rule.proofs.row.RoomCells.meet.Goals as goal
 
 pub join_seat-requires : goal.join_seat-requires
-join_seat-requires g c = (search rules, search rules, ap (λ (m : Sat). m.1) c.requires.alone, search rules, gathers _ _ _ _ _ _)
+join_seat-requires g c = (search rules, search rules, ap (λ (m : SeatState). m.1) c.requires.alone, search rules, gathers _ _ _ _ _ _)
 
 pub load-requires : goal.load-requires
 load-requires g c =
@@ -19,4 +19,4 @@ load-requires g c =
 pub split_seat-requires : goal.split_seat-requires
 split_seat-requires g c =
     let t = c.load.ensures.2 in
-    (search rules, search rules, parts _ _ _ _ t.new (others_of c.join_seat.new.seat.me.0.passes) (ap (λ (m : Sat). m.0) t.is))
+    (search rules, search rules, parts _ _ _ _ t.new (others_of c.join_seat.new.seat.me.0.passes) (ap (λ (m : SeatState). m.0) t.is))

@@ -1,19 +1,19 @@
 use Rattle.std.proofs.Common.{◌≡◌, ◌++◌, [], ◌∷◌, List, map, sym, ap, subst, ◌∙◌}
 use Rattle.jr_steps.specs.declared.known.Known.{Known}
-use Rattle.jr_rule.specs.Rule.{Sat, acting, others_of, view_of}
+use Rattle.jr_rule.specs.Rule.{SeatState, stepping_pass, others_of, view_of}
 use Rattle.jr_rule.specs.Passes.{known_of, EndsAll}
 use Rattle.jr_rule.proofs.row.Row.close_all.Goals as goal
 
 -- one pass of a seat, and others that joined it
-pub joined : (m m' : Sat) (ks : List Known) → m ≡ (view_of (acting m ∷ []), []) → m' ≡ (view_of (m.0.passes ++ ks), []) → m' ≡ (view_of (acting m ∷ ks), [])
-joined m m' ks alone e = e ∙ ap (λ (z : Sat). (view_of (z.0.passes ++ ks), [])) alone
+pub joined : (m m' : SeatState) (ks : List Known) → m ≡ (view_of (stepping_pass m ∷ []), []) → m' ≡ (view_of (m.0.passes ++ ks), []) → m' ≡ (view_of (stepping_pass m ∷ ks), [])
+joined m m' ks alone e = e ∙ ap (λ (z : SeatState). (view_of (z.0.passes ++ ks), [])) alone
 
-module _ (m m' : Sat) (ks : List Known) (e : m' ≡ (view_of (acting m ∷ ks), [])) where
-  pub first_is : acting m' ≡ acting m
-  first_is = ap acting e
+module _ (m m' : SeatState) (ks : List Known) (e : m' ≡ (view_of (stepping_pass m ∷ ks), [])) where
+  pub first_is : stepping_pass m' ≡ stepping_pass m
+  first_is = ap stepping_pass e
 
   pub others_are : others_of m'.0.passes ≡ ks
-  others_are = ap (λ (z : Sat). others_of z.0.passes) e
+  others_are = ap (λ (z : SeatState). others_of z.0.passes) e
 
 pub end-requires : goal.end-requires
 end-requires c =

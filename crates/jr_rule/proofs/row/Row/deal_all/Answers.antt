@@ -6,7 +6,7 @@ use Rattle.std.proofs.Math.Numerals.{add-one}
 use Rattle.jr_steps.specs.declared.known.Known.{Known}
 use Rattle.jr_rule.specs.declared.pass.Pass.{Pass}
 use Rattle.jr_steps.specs.Holdings.{empty}
-use Rattle.jr_rule.specs.Rule.{known, view_of, others_of, Sat}
+use Rattle.jr_rule.specs.Rule.{known, view_of, others_of, SeatState}
 use Rattle.jr_rule.specs.Passes.{IsOpened, numbers_below}
 use Rattle.jr_rule.proofs.Seats.{next_newcomer}
 use Rattle.jr_rule.proofs.row.Row.deal_all.Goals as goal
@@ -23,7 +23,7 @@ all_more P items p old new = All-append P items (p ∷ []) old (λ k d h. let fi
 pub deal-requires : goal.deal-requires
 deal-requires c =
     let e = next_newcomer c.args.self.now.config c.args.self.now.last c.loop-thread.seat.me c.loop-thread.thread c.loop-thread-test.true c.loop-thread.invariant.left in
-    let first = e ∙ ap (λ (ks : List Known). (view_of (known c.args.self.now.config c.args.self.now.last c.loop-thread.thread [] empty 0 ∷ ks), [])) (sym (ap (λ (z : Sat). others_of z.0.passes) e)) in
+    let first = e ∙ ap (λ (ks : List Known). (view_of (known c.args.self.now.config c.args.self.now.last c.loop-thread.thread [] empty 0 ∷ ks), [])) (sym (ap (λ (z : SeatState). others_of z.0.passes) e)) in
     record { room = search rules; thread = search rules; first = first }
 
 pub loop-thread-preserved : goal.loop-thread-preserved
@@ -32,7 +32,7 @@ loop-thread-preserved c =
     let e = next_newcomer c.args.self.now.config c.args.self.now.last c.loop-thread.seat.me t c.loop-thread-test.true c.loop-thread.invariant.left in
     let d = c.deal.ensures in record {
       seat = search rules;
-      left = d.seat.1 ∙ ap (λ (z : Sat). (view_of (others_of z.0.passes), [])) e;
+      left = d.seat.1 ∙ ap (λ (z : SeatState). (view_of (others_of z.0.passes), [])) e;
       threads = ap (map (λ (q : Pass). q.thread)) c.in_ok-push.ensures.items ∙ more_numbers c.loop-thread.passes.items c.deal.result t c.loop-thread.invariant.threads d.pass.1;
       each = subst (All (λ p. IsOpened c.args.self.now p)) (sym c.in_ok-push.ensures.items)
           (all_more (λ p. IsOpened c.args.self.now p) c.loop-thread.passes.items c.deal.result c.loop-thread.invariant.each d.pass.0);

@@ -5,7 +5,7 @@ use Rattle.std.proofs.lemmas.List.Elements.{All-head, All-tail}
 use Rattle.jr_steps.specs.declared.known.Known.{Known}
 use Rattle.jr_rule.specs.declared.pass.Pass.{Pass}
 use Rattle.jr_rule.specs.declared.row.Row.{Row}
-use Rattle.jr_rule.specs.Rule.{Sat, view_of, together}
+use Rattle.jr_rule.specs.Rule.{SeatState, view_of, together}
 use Rattle.jr_rule.specs.Passes.{known_of, IsAt}
 use Rattle.jr_rule.proofs.Seats.{gathers}
 use Rattle.jr_rule.proofs.row.Row.gather.Goals as goal
@@ -26,16 +26,16 @@ at_rest : (r : Row) (xs ys : List Pass) (x : Pass) → xs ≡ x ∷ ys → All (
 at_rest r xs ys x e all = All-tail (λ p. IsAt r p) x ys (subst (All (λ p. IsAt r p)) e all)
 
 -- one more pass sits at the seat
-joined : (m m' : Sat) (p : Pass) (xs ys : List Pass) (ks : List Known) → m' ≡ (together m.0 p.seat.me.0, m.1) → xs ≡ p ∷ ys → m.0.passes ++ map known_of xs ≡ ks → m'.0.passes ++ map known_of ys ≡ ks
+joined : (m m' : SeatState) (p : Pass) (xs ys : List Pass) (ks : List Known) → m' ≡ (together m.0 p.seat.me.0, m.1) → xs ≡ p ∷ ys → m.0.passes ++ map known_of xs ≡ ks → m'.0.passes ++ map known_of ys ≡ ks
 joined m m' p xs ys ks e first so =
-    let one : p.seat.me.0.passes ≡ known_of p ∷ [] = ap (λ (z : Sat). z.0.passes) p.held.alone in
-    ap (λ (z : Sat). z.0.passes ++ map known_of ys) e
+    let one : p.seat.me.0.passes ≡ known_of p ∷ [] = ap (λ (z : SeatState). z.0.passes) p.held.alone in
+    ap (λ (z : SeatState). z.0.passes ++ map known_of ys) e
     ∙ (ap (λ ls. (m.0.passes ++ ls) ++ map known_of ys) one
     ∙ (append_assoc m.0.passes (known_of p ∷ []) (map known_of ys)
     ∙ (ap (λ zs. m.0.passes ++ map known_of zs) (sym first) ∙ so)))
 
 -- all sit there
-all_joined : (m : Sat) (xs : List Pass) (ks : List Known) → m.1 ≡ [] → xs ≡ [] → m.0.passes ++ map known_of xs ≡ ks → m ≡ (view_of ks, [])
+all_joined : (m : SeatState) (xs : List Pass) (ks : List Known) → m.1 ≡ [] → xs ≡ [] → m.0.passes ++ map known_of xs ≡ ks → m ≡ (view_of ks, [])
 all_joined m xs ks none left so =
     let here : m.0.passes ≡ ks = sym (append-nil m.0.passes) ∙ (ap (λ ys. m.0.passes ++ map known_of ys) (sym left) ∙ so) in
     λ i. (view_of (here i), none i)
@@ -45,14 +45,14 @@ join_seat-requires c =
     let inv = c.loop-others.invariant in
     let first = taken c.loop-others.others.items c.remove-other.new.self.items c.remove-other.result (search rules) c.remove-other.ensures.value c.remove-other.ensures.items in
     let at = at_first c.args.self.now c.loop-others.others.items c.remove-other.new.self.items c.remove-other.result first inv.at in
-    (inv.room, at.row, ap (λ (m : Sat). m.1) c.remove-other.result.held.alone, search rules, gathers _ _ _ _ _ _)
+    (inv.room, at.row, ap (λ (m : SeatState). m.1) c.remove-other.result.held.alone, search rules, gathers _ _ _ _ _ _)
 
 pub loop-others-preserved : goal.loop-others-preserved
 loop-others-preserved c =
     let inv = c.loop-others.invariant in
     let first = taken c.loop-others.others.items c.remove-other.new.self.items c.remove-other.result (search rules) c.remove-other.ensures.value c.remove-other.ensures.items in record {
       room = c.join_seat.ensures.0 ∙ inv.room;
-      slots = ap (λ (m : Sat). m.1) c.join_seat.ensures.2 ∙ inv.slots;
+      slots = ap (λ (m : SeatState). m.1) c.join_seat.ensures.2 ∙ inv.slots;
       all = joined c.loop-others.seat.me c.join_seat.new.seat.me c.remove-other.result c.loop-others.others.items c.remove-other.new.self.items _ c.join_seat.ensures.2 first inv.all;
       at = at_rest c.args.self.now c.loop-others.others.items c.remove-other.new.self.items c.remove-other.result first inv.at;
     }
