@@ -4,8 +4,6 @@
 #[cfg(test)]
 mod again;
 #[cfg(test)]
-mod census;
-#[cfg(test)]
 mod collections;
 #[cfg(test)]
 mod envs;
