@@ -4,6 +4,8 @@
 #[cfg(test)]
 mod again;
 #[cfg(test)]
+mod census;
+#[cfg(test)]
 mod collections;
 #[cfg(test)]
 mod envs;
