@@ -122,6 +122,8 @@ struct Env<'a> {
     /// The ends of the ring of the free places and of that of the first frame.
     free_end: u16,
     base: u16,
+    /// Whether a stay stands that goes on from call to call.
+    stays: bool,
     places: Vec<Place>,
     links: Vec<Link>,
 }
@@ -138,7 +140,7 @@ impl Env<'_> {
             links[at as usize] = Link { older: at.checked_sub(1).unwrap_or(free_end), newer: if at == free_end { 0 } else { at + 1 } };
         }
         links[base as usize] = Link { older: base, newer: base };
-        Env { room, thread, hint: 0, next_object: 1, free: room.places as u32, frame: base, free_end, base, places, links }
+        Env { room, thread, hint: 0, next_object: 1, free: room.places as u32, frame: base, free_end, base, stays: false, places, links }
     }
     #[inline(always)]
     fn link(&mut self, at: u16) -> &mut Link {
@@ -159,9 +161,12 @@ impl Env<'_> {
         self.link(end).older = at;
     }
 
-    /// The entry, the work, and the exit.
+    /// The entry, the work, and the exit; and the work alone in a stay that goes on.
     #[inline(always)]
     fn call(&mut self, work: impl FnOnce(&mut Self) -> u64) -> u64 {
+        if self.stays {
+            return work(self);
+        }
         if self.room.gate().fetch_add(1, SeqCst) & CLOSED != 0 {
             self.room.gate().fetch_sub(1, SeqCst);
             return BARRED;
@@ -650,7 +655,7 @@ impl Env<'_> {
 }
 
 /// The calls, as `jr_bench` names them.
-const CASES: [&str; 31] = [
+const CASES: [&str; 39] = [
     "get_object_ref_type(NULL)",
     "new_plain",
     "new_global_ref(local)",
@@ -682,6 +687,14 @@ const CASES: [&str; 31] = [
     "get_array_critical,release",
     "get_of_region",
     "set_of_region",
+    "in_a_stay:get_object_ref_type(NULL)",
+    "in_a_stay:new_global_ref(local)",
+    "in_a_stay:delete_global_ref",
+    "in_a_stay:new_local_ref(global)",
+    "in_a_stay:delete_local_ref",
+    "in_a_stay:is_same_object(global,global)",
+    "in_a_stay:get_object_ref_type(global)",
+    "in_a_stay:get_array_length",
 ];
 const EMPTY_FRAME: usize = 10;
 const FREE_ONE: usize = 12;
@@ -697,6 +710,11 @@ const COMMIT_LONG: usize = 26;
 const CHARS: usize = 27;
 const CRITICAL: usize = 28;
 const GET_OF_REGION: usize = 29;
+/// The first of the cases in stays, and for each the case whose call is made in them.
+const STAYS: usize = 31;
+const OF_STAYS: [usize; 8] = [0, 2, 3, 6, 7, 8, 9, LENGTH];
+/// How many calls are made in a stay.
+const CALLS_OF_STAY: usize = 16;
 
 /// How many elements the longest part has, and the array.
 const LONG: usize = 4_096;
@@ -813,9 +831,39 @@ fn make_each(env: &mut Env, handed: &[u64], call: impl Fn(&mut Env, u64, u64) ->
     handed.iter().filter(|handle| call(env, handed[0], **handle)).count()
 }
 
+/// Makes a call with each of the handles, in stays: how often it answered as it should.
+#[inline(always)]
+fn make_in_stays(env: &mut Env, handed: &[u64], call: impl Fn(&mut Env, u64, u64) -> bool) -> usize {
+    let mut right = 0;
+    for part in handed.chunks(CALLS_OF_STAY) {
+        if env.room.gate().fetch_add(1, SeqCst) & CLOSED == 0 {
+            env.stays = true;
+            right += part.iter().filter(|handle| call(env, handed[0], **handle)).count();
+            env.stays = false;
+        }
+        env.room.gate().fetch_sub(1, SeqCst);
+    }
+    right
+}
+
+/// The same by the number of the case in stays.
+fn make_all_in_stays(of_stays: usize, env: &mut Env, handed: &[u64]) -> usize {
+    match OF_STAYS[of_stays] {
+        0 => make_in_stays(env, handed, type_of_null),
+        2 => make_in_stays(env, handed, new_global),
+        3 => make_in_stays(env, handed, delete_global),
+        6 => make_in_stays(env, handed, new_local),
+        7 => make_in_stays(env, handed, delete_local),
+        8 => make_in_stays(env, handed, is_same),
+        9 => make_in_stays(env, handed, type_of_global),
+        _ => make_in_stays(env, handed, array_length),
+    }
+}
+
 /// Makes the call with each of the handles: how often it answered as it should.
 fn make_all(case: usize, env: &mut Env, handed: &[u64]) -> usize {
     match case {
+        STAYS.. => make_all_in_stays(case - STAYS, env, handed),
         0 => make_each(env, handed, type_of_null),
         1 => make_each(env, handed, new_plain),
         2 => make_each(env, handed, new_global),
@@ -849,6 +897,7 @@ fn make_all(case: usize, env: &mut Env, handed: &[u64]) -> usize {
 
 /// What each of so many calls is handed, in order.
 fn handed(case: usize, env: &mut Env, calls: u32) -> Vec<u64> {
+    let case = if case < STAYS { case } else { OF_STAYS[case - STAYS] };
     let local = env.new_plain();
     let array = match case {
         LENGTH..=19 | COPY_BACK_LONG | COMMIT_LONG | CRITICAL.. => env.new_array(LONG as u64),

@@ -7,6 +7,7 @@ use crate::calls::{
 };
 use crate::copies::CopyCase;
 use crate::criticals::CriticalCase;
+use crate::stays::StayCase;
 pub(crate) use jr_env::Env;
 use jr_steps::Steps;
 use jr_word::Handle;
@@ -29,6 +30,7 @@ pub(crate) enum Case {
     Arrays(ArrayCase),
     Copies(CopyCase),
     Criticals(CriticalCase),
+    Stays(StayCase),
 }
 
 /// Which calls for frames are made.
@@ -40,7 +42,7 @@ pub(crate) enum FrameCase {
 }
 
 /// Each case. The first does nothing between the entry and the exit.
-pub(crate) const CASES: [Case; 31] = [
+pub(crate) const CASES: [Case; 39] = [
     Case::TypeOfNull,
     Case::NewPlain,
     Case::NewGlobal,
@@ -72,6 +74,14 @@ pub(crate) const CASES: [Case; 31] = [
     Case::Criticals(CriticalCase::Open),
     Case::Criticals(CriticalCase::Get),
     Case::Criticals(CriticalCase::Set),
+    Case::Stays(StayCase::TypeOfNull),
+    Case::Stays(StayCase::NewGlobal),
+    Case::Stays(StayCase::DeleteGlobal),
+    Case::Stays(StayCase::NewLocal),
+    Case::Stays(StayCase::DeleteLocal),
+    Case::Stays(StayCase::Same),
+    Case::Stays(StayCase::TypeOfGlobal),
+    Case::Stays(StayCase::Length),
 ];
 
 impl FrameCase {
@@ -105,6 +115,7 @@ impl Case {
             Case::Arrays(case) => case.name(),
             Case::Copies(case) => case.name(),
             Case::Criticals(case) => case.name(),
+            Case::Stays(case) => case.name(),
         }
     }
 
@@ -120,6 +131,7 @@ impl Case {
             Case::Arrays(case) => case.array(env, local)?,
             Case::Copies(case) => case.array(env)?,
             Case::Criticals(case) => case.array(env)?,
+            Case::Stays(case) => case.named(env, local)?,
             _ => local,
         };
         let global = env.new_global_ref(named).ok()??;
@@ -138,6 +150,7 @@ impl Case {
                 Case::DeleteGlobal => env.new_global_ref(local).ok()??,
                 Case::DeleteWeak => env.new_weak_global_ref(local).ok()??,
                 Case::DeleteLocal => env.new_local_ref(global).ok()??,
+                Case::Stays(case) => case.handle(env, local, global)?,
             };
             handed.push(handle).ok()?;
         }
@@ -166,6 +179,7 @@ impl Case {
             Case::Arrays(case) => case.make_all(env, handed),
             Case::Copies(case) => case.make_all(env, alloc, handed),
             Case::Criticals(case) => case.make_all(env, handed),
+            Case::Stays(case) => case.make_all(env, handed),
         }
     }
 }

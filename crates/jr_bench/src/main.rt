@@ -15,6 +15,7 @@ mod copies;
 mod criticals;
 mod measure;
 mod round;
+mod stays;
 
 use crate::beside::Tries;
 use crate::collections::Collections;
