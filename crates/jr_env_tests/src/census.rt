@@ -73,12 +73,10 @@ fn a_dump_has_each_reference_and_object(rt: HostRuntime) -> Result<(), Fail> {
     let mut headers = vec![in rt.alloc(); None; config.objects as usize]?;
     let mut words = vec![in rt.alloc(); 0u64; config.words as usize]?;
     env.dump(&mut slots, &mut headers, &mut words)?;
-    let weak = SlotParts::Weak {
-        serial: 0,
-        object: None,
-    };
-    assert_eq!(rt; slots[0], weak);
-    assert!(rt; matches!(slots[1], SlotParts::Global { .. }));
+    let is_cleared = matches!(slots.get(0), Some(SlotParts::Weak { object: None, .. }));
+    let is_global = matches!(slots.get(1), Some(SlotParts::Global { .. }));
+    assert!(rt; is_cleared);
+    assert!(rt; is_global);
     assert_eq!(rt; headers.iter().flatten().count(), 3);
     Ok(())
 }
