@@ -185,6 +185,9 @@ fn keeps_a_collection_out<S: Steps>(
         Err(fault) => Err(fault),
     };
     stay.end();
+    if matches!(kept_out, Err(Fault::Memory)) {
+        return Err(Fault::Memory)?;
+    }
     assert_eq!(rt; kept_out, Err(Fault::Busy(1)));
     let global = made(global)?;
     assert_eq!(rt; env.get_array_length(global)?, 2);
