@@ -5,17 +5,18 @@
 
 ghost use Rattle.std.specs.Prelude.{◌≤◌, IfOk, OnOk, Ok};
 ghost use Rattle.std.specs.Int.{w32};
+ghost use Rattle.std.specs.Io.KnownBytes.{Appends};
 ghost use Rattle.jr_word.specs.Elem.{signed_word};
 ghost use Rattle.jr_rule.specs.Passes.{IsOpened};
 ghost use Rattle.jr_rule.specs.Rooms.{IsOfRoom};
 ghost use Rattle.jr_env.specs.Collections.{FitsRoom};
 ghost use Rattle.jr_env.specs.Envs.{Does, IsOutside};
 ghost use Rattle.first_room.specs.Calls.{collecting_in_turn, reading_within};
-ghost use Rattle.first_room.specs.Hour.{IsWritten};
+ghost use Rattle.first_room.specs.Hour.{IsWritten, report_lines, report_text};
 ghost use Rattle.first_room.specs.Parts.{HasShared, HasVisited};
 
 use jr_env::Env;
-use jr_rule::{Pass, Room, RoomSteps, Steps};
+use jr_rule::{Pass, Room, RoomSteps, Steps, Summary};
 use jr_weak::{Collected, Marker};
 use jr_word::{Config, Fault, Handle, LAST_SERIAL};
 use std::alloc::Global;
@@ -80,6 +81,21 @@ pub(crate) fn run<T: Threads, W: Write + Drop>(
     let left = room
         .close_all(first, passes)
         .map_err(|refused| refused.left.fault)?;
+    write_report(out, read, inside, cleared, kind, left)?;
+    Ok(())
+}
+
+/// Writes what the threads found, and what stood as the room was closed.
+fn write_report<W: Write + Drop>(
+    out: &mut W,
+    read: i32,
+    inside: u32,
+    cleared: bool,
+    kind: u8,
+    left: Summary,
+) -> io::Result<()>
+    ensures { IfOk result (λ u. Appends (W.contents out.old) (W.contents out.new) (report_text (report_lines (record { read = read; inside = inside; cleared = cleared; kind = kind; left = left })))) }
+{
     writeln!(out, "a collection is refused: E14, inside: {inside}")?;
     writeln!(out, "the second thread reads {read}")?;
     writeln!(out, "the weak reference is to null: {cleared}")?;

@@ -2,8 +2,9 @@
 
 use crate::beside::{BESIDE, Task, Tries, is_right};
 use crate::case::{CASES, Case};
-use crate::collections::{Collections, WAYS, time_of};
-use crate::round::{Done, Job, Work, round};
+use crate::collections::{Collections, WAYS};
+use crate::measure::time_of;
+use crate::round::{Job, Work, done_at, round};
 use std::alloc::Global;
 use std::io;
 use std::rt::Clock;
@@ -22,10 +23,13 @@ fn right<R: Threads + Clock + Sync>(rt: &R, alloc: Global, case: Case, threads: 
         standing: STANDING,
         calls: CALLS,
     };
+    let Some(done) = round(rt, alloc, Job::Calls(case, work)) else {
+        return 0;
+    };
     let mut right = 0usize;
-    for done in round(rt, alloc, Job::Calls(case, work)).iter().flatten() {
-        if let Some(Done::Called(called)) = *done {
-            right = right.saturating_add(called.right);
+    for thread in 0..done.len() {
+        if let Some(done) = done_at(&done, thread) {
+            right = right.saturating_add(done.right);
         }
     }
     right
@@ -51,7 +55,7 @@ fn print_collections<R: Threads + Clock + Print + Sync>(rt: &R, alloc: Global) -
             every,
         };
         for (way, name) in WAYS {
-            let is_right = time_of(rt, alloc, work, way).is_some();
+            let is_right = time_of(rt, alloc, Job::Collects(work, way)).is_some();
             println!(rt;
                 "{name}, with {reached} of {CALLS} arrays reached, answered as it should: {is_right}"
             )?;

@@ -3,7 +3,8 @@
 use crate::arrays::ArrayCase;
 use crate::case::{Case, Env};
 use crate::collections::{WAYS, Way};
-use crate::round::{Done, Job, Signs, all_came, round};
+use crate::measure::times_of;
+use crate::round::{Done, Job, Signs, all_came, done_at, round};
 use jr_steps::Steps;
 use jr_weak::Marker;
 use jr_word::{Config, Fault, Handle};
@@ -11,9 +12,8 @@ use std::alloc::Global;
 use std::hint::spin_loop;
 use std::io;
 use std::rt::Clock;
-use std::sync::atomic::{AtomicBool, Ordering};
+use std::sync::atomic::Ordering;
 use std::thread::Threads;
-use std::time::{Duration, Instant};
 
 /// How many slots and objects the room has, and how many local places each thread.
 const FEW: u32 = 256;
@@ -24,8 +24,8 @@ const WORDS: u32 = 262_144;
 /// How often a thread looks at most whether the tries have ended.
 const LOOKS: u32 = 1 << 30;
 
-/// How many milliseconds the calls between two looks take at most, unless the thread was stopped meanwhile.
-const MOST_MILLIS: u64 = 2;
+/// How many nanoseconds the calls between two looks take at most, unless the thread was stopped meanwhile.
+const MOST_NANOS: u128 = 2_000_000;
 
 /// How long the others go on between two tries, in turns of a loop that does nothing.
 const PAUSES: u32 = 200;
@@ -77,34 +77,14 @@ pub(crate) struct Task {
     pub(crate) beside: Beside,
 }
 
-/// What the tries of a round came to, those with the fewest collections first.
-#[derive(Clone, Copy, PartialEq, Eq, PartialOrd, Ord)]
-struct Tally {
-    /// How many collections came in.
-    came_in: u32,
-    /// How many were refused by E14, since threads were inside or knocking.
-    busy: u32,
-    /// How many were refused by E23, since another thread went in or out just then.
-    moved: u32,
-}
+/// What each try adds to the number of what the tries came to, of which each part is below 2^32: so the numbers of rounds are in the order of the collections that came in.
+const CAME_IN: u128 = 1 << 64;
 
-impl Tally {
-    /// That of a thread that tries none.
-    const NONE: Tally = Tally {
-        came_in: 0,
-        busy: 0,
-        moved: 0,
-    };
-}
+/// The same of a try that was refused by E14, since threads were inside or knocking.
+const BUSY: u128 = 1 << 32;
 
-/// What a thread did, which tried collections or called meanwhile.
-#[derive(Clone, Copy)]
-pub(crate) struct Tried {
-    /// What its tries came to.
-    tally: Tally,
-    /// How long it ran.
-    ran: Duration,
-}
+/// The same of a try that was refused by E23, since another thread went in or out just then.
+const MOVED: u128 = 1;
 
 impl Tries {
     fn threads(self) -> u32 {
@@ -138,30 +118,19 @@ fn try_one<S: Steps>(alloc: Global, env: &mut Env<S>, way: Way) -> Result<(), Fa
 }
 
 /// Tries collections, one after the other: what they came to.
-fn try_each<R: Clock, S: Steps>(
-    rt: &R,
-    alloc: Global,
-    env: &mut Env<S>,
-    task: Task,
-) -> Option<Tried> {
-    let began = Instant::now(rt).ok()?;
-    let (mut came_in, mut busy, mut moved) = (0u32, 0u32, 0u32);
+fn try_each<S: Steps>(alloc: Global, env: &mut Env<S>, task: Task) -> Option<u128> {
+    let mut tries = 0u128;
     for _ in 0..task.tries.count {
-        match try_one(alloc, env, task.way) {
-            Ok(()) => came_in = came_in.saturating_add(1),
-            Err(Fault::Busy(_)) => busy = busy.saturating_add(1),
-            Err(Fault::Moved(..)) => moved = moved.saturating_add(1),
+        let came_to = match try_one(alloc, env, task.way) {
+            Ok(()) => CAME_IN,
+            Err(Fault::Busy(_)) => BUSY,
+            Err(Fault::Moved(..)) => MOVED,
             Err(_) => return None,
-        }
+        };
+        tries = tries.saturating_add(came_to);
         pause();
     }
-    let tally = Tally {
-        came_in,
-        busy,
-        moved,
-    };
-    let ran = began.elapsed(rt).ok()?;
-    Some(Tried { tally, ran })
+    Some(tries)
 }
 
 /// Calls without a break until the tries have ended: how long it ran.
@@ -171,17 +140,17 @@ fn call_on<R: Clock, S: Steps>(
     env: &mut Env<S>,
     case: Case,
     handed: &[Handle],
-    ended: &AtomicBool,
-) -> Option<Duration> {
-    let mut ran = Duration::ZERO;
+    signs: &Signs,
+) -> Option<u128> {
+    let mut ran = 0u128;
     for _ in 0..LOOKS {
-        if ended.load(Ordering::SeqCst) {
+        if signs.ended.load(Ordering::SeqCst) {
             break;
         }
-        let began = Instant::now(rt).ok()?;
+        let began = signs.now(rt)?;
         case.make_all(env, alloc, handed);
-        let took = began.elapsed(rt).ok()?;
-        if took < Duration::from_millis(MOST_MILLIS) {
+        let took = signs.now(rt)?.saturating_sub(began);
+        if took < MOST_NANOS {
             ran = ran.saturating_add(took);
         }
     }
@@ -196,45 +165,38 @@ impl Task {
         alloc: Global,
         env: &mut Env<S>,
         signs: &Signs,
-    ) -> Option<Tried> {
+    ) -> Option<Done> {
         let Beside { case, calls } = self.beside;
         let handed = case.handed(env, alloc, calls);
         let have_come = all_came(signs, self.tries.threads());
         if env.held.steps.thread() == 0 {
-            let tried = try_each(rt, alloc, env, self);
+            let began = signs.now(rt);
+            let tries = try_each(alloc, env, self);
+            let ended = signs.now(rt);
             signs.ended.store(true, Ordering::SeqCst);
-            return if have_come { tried } else { None };
+            let mut done = Done::from_to(began?, ended?);
+            done.tries = tries?;
+            return if have_come { Some(done) } else { None };
         }
-        let ran = call_on(rt, alloc, env, case, &handed?, &signs.ended)?;
-        Some(Tried {
-            tally: Tally::NONE,
-            ran,
-        })
-    }
-}
-
-/// What a thread did, unless it gave up.
-fn tried_of(done: &Option<Done>) -> Option<&Tried> {
-    match done {
-        Some(Done::Tried(tried)) => Some(tried),
-        _ => None,
+        let ran = call_on(rt, alloc, env, case, &handed?, signs)?;
+        Some(Done::from_to(0, ran))
     }
 }
 
 /// What the tries of a round came to, and whether all threads ran for three quarters of its time.
-fn tally_of(done: &[Option<Done>]) -> Option<(Tally, bool)> {
-    let first = tried_of(done.first()?)?;
+pub(crate) fn tries_of(done: &[Option<Done>]) -> Option<(u128, bool)> {
+    let first = done_at(done, 0)?;
     let mut have_run = true;
-    for one in done {
-        let ran = tried_of(one)?.ran;
+    for thread in 0..done.len() {
+        let ran = done_at(done, thread)?.ran;
         have_run = have_run && ran.saturating_mul(4) >= first.ran.saturating_mul(3);
     }
-    Some((first.tally, have_run))
+    Some((first.tries, have_run))
 }
 
 /// Whether each try of a round was a collection, or was refused as it may be.
 pub(crate) fn is_right<R: Threads + Clock + Sync>(rt: &R, alloc: Global, task: Task) -> bool {
-    round(rt, alloc, Job::Beside(task)).is_some_and(|done| tally_of(&done).is_some())
+    round(rt, alloc, Job::Beside(task)).is_some_and(|done| tries_of(&done).is_some())
 }
 
 /// Prints a line for each call and each way: of the rounds that count, in which all threads ran, what the tries came to in the one with the median of the collections that came in, and how many rounds these are.
@@ -246,39 +208,21 @@ pub(crate) fn print<R: Threads + Clock + Print + Sync>(
 ) -> io::Result<()> {
     for (beside, call) in BESIDE {
         for (way, name) in WAYS {
-            let tallies = tallies_of(rt, alloc, Task { tries, way, beside }, rounds)?;
-            print_median(rt, name, call, tallies.as_slice())?;
+            let job = Job::Beside(Task { tries, way, beside });
+            let rounds = times_of(rt, alloc, job, rounds)?;
+            print_median(rt, name, call, rounds.as_slice())?;
         }
     }
     Ok(())
 }
 
-/// What the tries came to in so many rounds, in order, of which only those count in which all threads ran.
-fn tallies_of<R: Threads + Clock + Sync>(
-    rt: &R,
-    alloc: Global,
-    task: Task,
-    rounds: u32,
-) -> io::Result<Vec<Tally>> {
-    let mut tallies = Vec::new(alloc);
-    for _ in 0..rounds {
-        let Some(done) = round(rt, alloc, Job::Beside(task)) else {
-            continue;
-        };
-        if let Some((tally, true)) = tally_of(&done) {
-            tallies.push(tally)?;
-        }
-    }
-    tallies.sort()?;
-    Ok(tallies)
-}
-
 /// Prints the line of a call and a way.
-fn print_median<R: Print>(rt: &R, name: &str, call: &str, tallies: &[Tally]) -> io::Result<()> {
-    let counted = tallies.len();
-    let Some(tally) = tallies.get(counted / 2) else {
+fn print_median<R: Print>(rt: &R, name: &str, call: &str, rounds: &[u128]) -> io::Result<()> {
+    let counted = rounds.len();
+    let Some(tries) = rounds.get(counted / 2) else {
         return println!(rt; "{name}:{call} - - - 0");
     };
-    let (came_in, busy, moved) = (tally.came_in, tally.busy, tally.moved);
+    let (came_in, refused) = (*tries / CAME_IN, *tries % CAME_IN);
+    let (busy, moved) = (refused / BUSY, refused % BUSY);
     println!(rt; "{name}:{call} {came_in} {busy} {moved} {counted}")
 }

@@ -3,8 +3,8 @@
 ghost use Rattle.jr_env.specs.Collections.{FitsRoom};
 
 use crate::case::Env;
-use crate::measure::print_times;
-use crate::round::{Done, Job, round};
+use crate::measure::{print_times, times_of};
+use crate::round::{Done, Job, Signs};
 use jr_steps::Steps;
 use jr_weak::{Collected, Marker};
 use jr_word::{Config, Fault};
@@ -12,7 +12,6 @@ use std::alloc::Global;
 use std::io;
 use std::rt::Clock;
 use std::thread::Threads;
-use std::time::Instant;
 
 /// How many elements each array has.
 const LENGTH: u32 = 16;
@@ -97,56 +96,26 @@ impl Collections {
             used: reached.saturating_mul(LENGTH),
         }
     }
-    /// How long a collection by the env takes, in tenths of nanoseconds: none where it does not answer as it should.
+
+    /// Collects by the env, which takes as long as the thread ran then: none where it does not answer as it should.
     pub(crate) fn time_in<R: Clock, S: Steps>(
         self,
         rt: &R,
         alloc: Global,
         env: &mut Env<S>,
         way: Way,
-    ) -> Option<u128> {
+        signs: &Signs,
+    ) -> Option<Done> {
         let wanted = self.answer(self.fill(env)?);
         let mut marker = Marker::new(alloc, env.held.steps.config()).ok()?;
-        let began = Instant::now(rt).ok()?;
+        let began = signs.now(rt)?;
         let collected = way.collect(env, &mut marker);
-        let ended = Instant::now(rt).ok()?;
+        let ended = signs.now(rt)?;
         if collected != Ok(wanted) {
             return None;
         }
-        Some(ended.duration_since(began).saturating_mul(10).as_nanos())
+        Some(Done::from_to(began, ended))
     }
-}
-
-/// How long a collection took in a room of its own, in tenths of nanoseconds: none where it did not answer as it should.
-pub(crate) fn time_of<R: Threads + Clock + Sync>(
-    rt: &R,
-    alloc: Global,
-    work: Collections,
-    way: Way,
-) -> Option<u128> {
-    let done = round(rt, alloc, Job::Collects(work, way))?;
-    match done.first()? {
-        Some(Done::Took(time)) => Some(*time),
-        _ => None,
-    }
-}
-
-/// The times of a collection in so many rounds, in order, of which only those count that answered as they should.
-fn times_of<R: Threads + Clock + Sync>(
-    rt: &R,
-    alloc: Global,
-    work: Collections,
-    way: Way,
-    rounds: u32,
-) -> io::Result<Vec<u128>> {
-    let mut times = Vec::new(alloc);
-    for _ in 0..rounds {
-        if let Some(time) = time_of(rt, alloc, work, way) {
-            times.push(time)?;
-        }
-    }
-    times.sort()?;
-    Ok(times)
 }
 
 /// Prints a line for a collection and one for an announced one, as those of calls are.
@@ -157,7 +126,7 @@ pub(crate) fn print<R: Threads + Clock + Print + Sync>(
     rounds: u32,
 ) -> io::Result<()> {
     for (way, name) in WAYS {
-        let times = times_of(rt, alloc, work, way, rounds)?;
+        let times = times_of(rt, alloc, Job::Collects(work, way), rounds)?;
         print_times(rt, name, times.as_slice())?;
     }
     Ok(())

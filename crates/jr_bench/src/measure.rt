@@ -1,29 +1,21 @@
 //! The measuring.
 
-use crate::case::{CASES, Case};
-use crate::round::{Called, Done, Job, Work, round};
+use crate::beside::tries_of;
+use crate::case::CASES;
+use crate::round::{Done, Job, Work, done_at, round};
 use std::alloc::Global;
 use std::io;
 use std::rt::Clock;
 use std::thread::Threads;
-use std::time::Duration;
-
-/// What a thread did, unless it gave up.
-fn called_of(done: &Option<Done>) -> Option<&Called> {
-    match done {
-        Some(Done::Called(called)) => Some(called),
-        _ => None,
-    }
-}
 
 /// How long a call took, in tenths of nanoseconds, as the mean of the threads: none where one was refused, or where for more than a quarter of the time not all threads ran.
 fn time_of_call(calls: u32, done: &[Option<Done>]) -> Option<u128> {
-    let first = called_of(done.first()?)?;
+    let first = done_at(done, 0)?;
     let (mut began, mut all_began) = (first.began, first.began);
     let (mut ended, mut one_ended) = (first.ended, first.ended);
-    let mut sum = Duration::ZERO;
-    for one in done {
-        let one = called_of(one)?;
+    let mut sum = 0u128;
+    for thread in 0..done.len() {
+        let one = done_at(done, thread)?;
         if one.right != calls as usize {
             return None;
         }
@@ -31,31 +23,40 @@ fn time_of_call(calls: u32, done: &[Option<Done>]) -> Option<u128> {
         all_began = all_began.max(one.began);
         one_ended = one_ended.min(one.ended);
         ended = ended.max(one.ended);
-        sum = sum.saturating_add(one.ended.duration_since(one.began));
+        sum = sum.saturating_add(one.ran);
     }
-    let together = one_ended.duration_since(all_began);
-    let whole = ended.duration_since(began);
+    let together = one_ended.saturating_sub(all_began);
+    let whole = ended.saturating_sub(began);
     if together.saturating_mul(4) < whole.saturating_mul(3) {
         return None;
     }
     let made = done.len() as u128 * u128::from(calls);
-    sum.saturating_mul(10).as_nanos().checked_div(made)
+    sum.saturating_mul(10).checked_div(made)
 }
 
-/// The times of a call in so many rounds, in order, of which only those count in which all threads ran.
-fn times_of_call<R: Threads + Clock + Sync>(
+/// What a round came to: of calls and collections how long one took, in tenths of nanoseconds, and of tries what these came to. None where it doesn't count.
+pub(crate) fn time_of<R: Threads + Clock + Sync>(rt: &R, alloc: Global, job: Job) -> Option<u128> {
+    let done = round(rt, alloc, job)?;
+    match job {
+        Job::Calls(_, work) => time_of_call(work.calls, &done),
+        Job::Collects(..) => Some(done_at(&done, 0)?.ran.saturating_mul(10)),
+        Job::Beside(_) => match tries_of(&done)? {
+            (tries, true) => Some(tries),
+            (_, false) => None,
+        },
+    }
+}
+
+/// What so many rounds came to, in order, of which only those are told that count.
+pub(crate) fn times_of<R: Threads + Clock + Sync>(
     rt: &R,
     alloc: Global,
-    case: Case,
-    work: Work,
+    job: Job,
     rounds: u32,
 ) -> io::Result<Vec<u128>> {
     let mut times = Vec::new(alloc);
     for _ in 0..rounds {
-        let Some(done) = round(rt, alloc, Job::Calls(case, work)) else {
-            continue;
-        };
-        if let Some(time) = time_of_call(work.calls, &done) {
+        if let Some(time) = time_of(rt, alloc, job) {
             times.push(time)?;
         }
     }
@@ -71,7 +72,7 @@ pub(crate) fn print<R: Threads + Clock + Print + Sync>(
     rounds: u32,
 ) -> io::Result<()> {
     for case in CASES {
-        let times = times_of_call(rt, alloc, case, work, rounds)?;
+        let times = times_of(rt, alloc, Job::Calls(case, work), rounds)?;
         print_times(rt, case.name(), times.as_slice())?;
     }
     Ok(())

@@ -2,7 +2,7 @@
 
 ghost use Rattle.jr_rule.specs.Passes.{IsOpened};
 
-use crate::beside::{Task, Tried};
+use crate::beside::Task;
 use crate::case::{Case, Env, FrameCase};
 use crate::collections::{Collections, Way};
 use jr_rule::{Pass, Room, RoomSteps};
@@ -47,35 +47,59 @@ pub(crate) enum Job {
     Collects(Collections, Way),
 }
 
-/// When a thread began its calls and ended them, and how they were answered.
+/// What a thread did in a round. Times are in nanoseconds, from before the round on.
 #[derive(Clone, Copy)]
-pub(crate) struct Called {
-    /// When it began its first call.
-    pub(crate) began: Instant,
-    /// When it ended its last one.
-    pub(crate) ended: Instant,
-    /// How often the call answered as it should.
+pub(crate) struct Done {
+    /// When it began.
+    pub(crate) began: u128,
+    /// When it ended.
+    pub(crate) ended: u128,
+    /// How long it ran.
+    pub(crate) ran: u128,
+    /// How often its calls answered as they should.
     pub(crate) right: usize,
+    /// What its tries of collections came to.
+    pub(crate) tries: u128,
 }
 
-/// What a thread did in a round.
-#[derive(Clone, Copy)]
-pub(crate) enum Done {
-    /// It called so.
-    Called(Called),
-    /// It tried collections, or called meanwhile.
-    Tried(Tried),
-    /// It collected in so many tenths of nanoseconds.
-    Took(u128),
+impl Done {
+    /// What a thread did that ran from the one time to the other.
+    pub(crate) fn from_to(began: u128, ended: u128) -> Done {
+        Done {
+            began,
+            ended,
+            ran: ended.saturating_sub(began),
+            right: 0,
+            tries: 0,
+        }
+    }
+}
+
+/// What a thread of a round did, unless it gave up.
+pub(crate) fn done_at(done: &[Option<Done>], thread: usize) -> Option<Done> {
+    match done.get(thread) {
+        Some(done) => *done,
+        None => None,
+    }
 }
 
 /// What the threads of a round tell each other.
 #[derive(Drop)]
 pub(crate) struct Signs {
+    /// When the round began.
+    began: Instant,
     /// How many have come.
     pub(crate) came: AtomicU64,
     /// Whether the tries have ended.
     pub(crate) ended: AtomicBool,
+}
+
+impl Signs {
+    /// How many nanoseconds it is since the round began.
+    pub(crate) fn now<R: Clock>(&self, rt: &R) -> Option<u128> {
+        let now = Instant::now(rt).ok()?;
+        Some(now.duration_since(self.began).as_nanos())
+    }
 }
 
 /// Makes what stands beside the calls: this thread's part of the global references, local references unless all of them are to be freed, and before new objects its part of objects.
@@ -120,7 +144,7 @@ fn call_all<R: Clock, S: Steps>(
     case: Case,
     work: Work,
     signs: &Signs,
-) -> Option<Called> {
+) -> Option<Done> {
     let stands = stand(env, case, work);
     let handed = case.handed(env, alloc, work.calls);
     if !all_came(signs, work.threads) {
@@ -129,14 +153,11 @@ fn call_all<R: Clock, S: Steps>(
     let (Some(()), Some(handed)) = (stands, handed) else {
         return None;
     };
-    let began = Instant::now(rt).ok()?;
+    let began = signs.now(rt)?;
     let right = case.make_all(env, alloc, &handed);
-    let ended = Instant::now(rt).ok()?;
-    Some(Called {
-        began,
-        ended,
-        right,
-    })
+    let mut done = Done::from_to(began, signs.now(rt)?);
+    done.right = right;
+    Some(done)
 }
 
 impl Job {
@@ -164,12 +185,9 @@ impl Job {
         signs: &Signs,
     ) -> Option<Done> {
         match self {
-            Job::Calls(case, work) => {
-                let called = call_all(rt, alloc, env, case, work, signs)?;
-                Some(Done::Called(called))
-            }
-            Job::Beside(task) => Some(Done::Tried(task.act(rt, alloc, env, signs)?)),
-            Job::Collects(work, way) => Some(Done::Took(work.time_in(rt, alloc, env, way)?)),
+            Job::Calls(case, work) => call_all(rt, alloc, env, case, work, signs),
+            Job::Beside(task) => task.act(rt, alloc, env, signs),
+            Job::Collects(work, way) => work.time_in(rt, alloc, env, way, signs),
         }
     }
 }
@@ -197,6 +215,7 @@ pub(crate) fn round<R: Threads + Clock + Sync>(
 ) -> Option<Vec<Option<Done>>> {
     let (room, passes) = Room::<LAST_SERIAL>::open(alloc, job.config()).ok()?;
     let signs = Signs {
+        began: Instant::now(rt).ok()?,
         came: AtomicU64::new(0),
         ended: AtomicBool::new(false),
     };

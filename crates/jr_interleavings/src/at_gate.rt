@@ -1,17 +1,17 @@
 //! The machine's steps at the gate.
 
-use crate::machine::{Machine, Verdict, must};
+use crate::machine::{Machine, Verdict, must, put_at};
 use crate::seen::Seen;
 use crate::step::Step;
 use jr_model::Role;
 use jr_word::{Fault, GateParts, GateState};
 
 impl Machine {
-    /// Whether a thread other than this one is not outside, and how many are.
+    /// How many threads other than this one are not outside.
     fn others(&self, thread: u8) -> u32 {
         let mut others = 0u32;
-        for (at, it) in self.threads.iter().enumerate() {
-            if at != usize::from(thread) && it.role != Role::Outside {
+        for it in 0..self.roles.len() {
+            if it != usize::from(thread) && self.role_at(it) != Role::Outside {
                 others = others.saturating_add(1);
             }
         }
@@ -24,8 +24,8 @@ impl Machine {
             count: 0,
             state: GateState::Open,
         };
-        for thread in self.threads.iter() {
-            match thread.role {
+        for it in 0..self.roles.len() {
+            match self.role_at(it) {
                 Role::Outside => {}
                 Role::Within | Role::Knocking => parts.count = parts.count.saturating_add(1),
                 Role::Announcing => parts.state = GateState::Announced,
@@ -37,16 +37,16 @@ impl Machine {
 
     /// The thread goes from one role to another.
     fn go(&mut self, thread: u8, from: Role, to: Role) -> Verdict {
-        match self.threads.get_mut(usize::from(thread)) {
-            Some(it) if it.role == from => {
-                it.role = to;
-                if to == Role::Outside {
-                    it.reserved = None;
-                }
-                Ok(())
-            }
-            _ => Err("a step at the gate in a role that has no such step"),
+        let is_known = usize::from(thread) < self.roles.len();
+        must(
+            is_known && self.role(thread) == from,
+            "a step at the gate in a role that has no such step",
+        )?;
+        put_at(&mut self.roles, usize::from(thread), to);
+        if to == Role::Outside {
+            self.set_reserved(thread, None);
         }
+        Ok(())
     }
 
     /// A step at the gate.
@@ -78,9 +78,7 @@ impl Machine {
             let_in || !open,
             "an entry was not let in while no thread kept the gate closed",
         )?;
-        if let Some(seen) = self.seen(thread) {
-            *seen = Seen::new();
-        }
+        self.set_seen(thread, Seen::new());
         if let_in {
             return self.go(thread, Role::Outside, Role::Within);
         }
@@ -97,9 +95,7 @@ impl Machine {
                     others == 0,
                     "the gate was shut while another thread was not outside",
                 )?;
-                if let Some(seen) = self.seen(thread) {
-                    *seen = Seen::new();
-                }
+                self.set_seen(thread, Seen::new());
                 self.go(thread, from, Role::Collecting)
             }
             Err(count) => {

@@ -1,7 +1,7 @@
 //! The machine's steps at objects and local places, of threads that are within and of one that collects.
 
 use crate::at_slots::handle_of;
-use crate::machine::{Local, Machine, Object, Verdict, add, must};
+use crate::machine::{LONGEST, Machine, Verdict, at, must, put_at};
 use crate::seen::Did;
 use crate::step::Step;
 use jr_model::Found;
@@ -18,18 +18,13 @@ impl Machine {
             Step::ClaimTop(looked, more, reply) => self.reserve(thread, looked, more, reply),
             Step::SeeElement(number, index, word) => {
                 self.is_element(number, index, word)?;
-                if let Some(seen) = self.seen(thread) {
-                    seen.did = Some(Did::Read(word));
-                }
+                self.did(thread, Did::Read(word));
                 Ok(())
             }
             Step::PutElement(number, index, word) => {
-                let mut object = self.object(number).ok_or("a write to an absent object")?;
-                put(&mut object, index, word)?;
-                self.set_object(number, Some(object));
-                if let Some(seen) = self.seen(thread) {
-                    seen.did = Some(Did::Wrote(word));
-                }
+                let place = place_in(self.header(number), usize::from(number), index)?;
+                put_at(&mut self.elements, place, word);
+                self.did(thread, Did::Wrote(word));
                 Ok(())
             }
             Step::PutReserved(place, index, word) => self.put_reserved(thread, place, index, word),
@@ -56,9 +51,9 @@ impl Machine {
             Step::DropHeader(number) => self.drop_object(thread, number),
             Step::SetHeader(number, header, place) => {
                 self.is_header(number, Some(header))?;
-                let mut object = self.object(number).ok_or("an absent object was moved")?;
-                object.header.place = place;
-                self.set_object(number, Some(object));
+                let mut moved = header;
+                moved.place = place;
+                self.set_header(number, Some(moved));
                 Ok(())
             }
             Step::SetTop(used) => self.settle(thread, used),
@@ -68,8 +63,8 @@ impl Machine {
 
     /// An object has this header, or is absent.
     fn is_header(&self, number: u16, header: Option<HeaderParts>) -> Verdict {
-        let right = match (self.object(number), header) {
-            (Some(object), Some(header)) => object.header == header,
+        let right = match (self.header(number), header) {
+            (Some(header), Some(said)) => header == said,
             (None, None) => true,
             (_, _) => false,
         };
@@ -78,105 +73,115 @@ impl Machine {
 
     /// An element of a present object is this word.
     fn is_element(&self, number: u16, index: u32, word: u64) -> Verdict {
-        let object = self.object(number).ok_or("an element of an absent object")?;
-        let right = index < object.header.length && object.words.get(index as usize) == Some(&word);
+        let place = place_in(self.header(number), usize::from(number), index)?;
+        let right = match at(&self.elements, place) {
+            Some(element) => element == word,
+            None => false,
+        };
         must(right, "an element was read that was not written")
     }
 
     /// The object that a local place refers to.
     pub(crate) fn local(&self, thread: u8, place: u16) -> Option<u16> {
-        for local in self.locals.iter() {
-            if local.thread == thread && local.place == place {
-                return local.object;
-            }
+        match at(&self.locals, self.place_of(thread, place)) {
+            None | Some(0) => None,
+            Some(object) => Some(object),
         }
-        None
+    }
+
+    /// Where a local place is in the list of all.
+    fn place_of(&self, thread: u8, place: u16) -> usize {
+        let before = usize::from(thread).saturating_mul(self.config.locals as usize);
+        before.saturating_add(usize::from(place))
     }
 
     /// A local place refers to this from now on.
     fn put_local(&mut self, thread: u8, place: u16, object: Option<u16>) -> Verdict {
-        if let Some(number) = object {
-            must(
-                self.object(number).is_some(),
-                "a local reference to an absent object",
-            )?;
-            if let Some(seen) = self.seen(thread) {
-                seen.placed = Some(place);
-            }
-        }
-        if self.set_local(thread, place, object) {
+        must(
+            u32::from(place) < self.config.locals,
+            "a local place that no thread has",
+        )?;
+        let at = self.place_of(thread, place);
+        let Some(number) = object else {
+            put_at(&mut self.locals, at, 0);
             return Ok(());
-        }
-        let local = Local {
-            thread,
-            place,
-            object,
         };
-        add(&mut self.locals, local)
-    }
-
-    /// A local place refers to this from now on, if it was written before.
-    fn set_local(&mut self, thread: u8, place: u16, object: Option<u16>) -> bool {
-        for local in self.locals.iter_mut() {
-            if local.thread == thread && local.place == place {
-                local.object = object;
-                return true;
-            }
-        }
-        false
+        must(
+            self.header(number).is_some(),
+            "a local reference to an absent object",
+        )?;
+        let mut seen = self.seen(thread);
+        seen.placed = Some(place);
+        self.set_seen(thread, seen);
+        put_at(&mut self.locals, at, number);
+        Ok(())
     }
 
     /// An object is published under a number that is free, with the words that its thread reserved.
     fn publish(&mut self, thread: u8, number: u16, header: HeaderParts, new: bool) -> Verdict {
-        let free = self.object(number).is_none();
+        let free = self.header(number).is_none();
         must(free || !new, "an object took the number of another")?;
         must(!free || new, "a free number was not given")?;
         if !new {
             return Ok(());
         }
-        let object = self.filled(thread, header)?;
+        self.is_filled(thread, header)?;
+        self.copy_filled(thread, number);
         self.set_reserved(thread, None);
-        self.set_object(number, Some(object));
+        self.set_header(number, Some(header));
         must(
             self.present_words() <= self.used,
             "more words are present than are reserved",
         )?;
-        if let Some(seen) = self.seen(thread) {
-            seen.did = Some(Did::Published(number));
-        }
+        self.did(thread, Did::Published(number));
         Ok(())
     }
 
-    /// The object with this header, whose elements are those that the thread wrote to what it reserved.
-    fn filled(&self, thread: u8, header: HeaderParts) -> Result<Object, &'static str> {
+    /// A thread has reserved the words of an array with this header.
+    fn is_filled(&self, thread: u8, header: HeaderParts) -> Verdict {
         if header.length == 0 {
-            let words = [0; 4];
-            return Ok(Object { header, words });
+            return Ok(());
         }
         let Some(reserved) = self.reserved(thread) else {
             return Err("an array of words that were not reserved");
         };
         must(
-            reserved.header.length == header.length && reserved.header.place == header.place,
+            reserved.length == header.length && reserved.place == header.place,
             "an array of other words than were reserved",
-        )?;
-        let words = reserved.words;
-        Ok(Object { header, words })
+        )
+    }
+
+    /// The elements of an object are those that the thread wrote to what it reserved.
+    fn copy_filled(&mut self, thread: u8, number: u16) {
+        for index in 0..LONGEST as u32 {
+            if let Some(word) = at(&self.filled, place_at(usize::from(thread), index)) {
+                put_at(
+                    &mut self.elements,
+                    place_at(usize::from(number), index),
+                    word,
+                );
+            }
+        }
+    }
+
+    /// No element is written yet of what the thread reserved.
+    fn clear_filled(&mut self, thread: u8) {
+        for index in 0..LONGEST as u32 {
+            put_at(&mut self.filled, place_at(usize::from(thread), index), 0);
+        }
     }
 
     /// What a thread has reserved.
-    fn reserved(&self, thread: u8) -> Option<Object> {
-        match self.threads.get(usize::from(thread)) {
-            Some(it) => it.reserved,
+    fn reserved(&self, thread: u8) -> Option<HeaderParts> {
+        match at(&self.reserved, usize::from(thread)) {
+            Some(reserved) => reserved,
             None => None,
         }
     }
 
     /// A thread has reserved this.
-    fn set_reserved(&mut self, thread: u8, reserved: Option<Object>) {
-        if let Some(it) = self.threads.get_mut(usize::from(thread)) {
-            it.reserved = reserved;
-        }
+    pub(crate) fn set_reserved(&mut self, thread: u8, reserved: Option<HeaderParts>) {
+        put_at(&mut self.reserved, usize::from(thread), reserved);
     }
 
     /// A look at the top, which refuses words that don't fit.
@@ -208,8 +213,8 @@ impl Machine {
                     length: more,
                     place: looked,
                 };
-                let words = [0; 4];
-                self.set_reserved(thread, Some(Object { header, words }));
+                self.clear_filled(thread);
+                self.set_reserved(thread, Some(header));
                 Ok(())
             }
             Err(found) => {
@@ -223,15 +228,14 @@ impl Machine {
 
     /// A word of what a thread has reserved is written.
     fn put_reserved(&mut self, thread: u8, place: u32, index: u32, word: u64) -> Verdict {
-        let mut reserved = self
-            .reserved(thread)
-            .ok_or("a write to words that were not reserved")?;
-        must(
-            reserved.header.place == place,
-            "a write to words that were not reserved",
-        )?;
-        put(&mut reserved, index, word)?;
-        self.set_reserved(thread, Some(reserved));
+        let reserved = self.reserved(thread);
+        let right = match reserved {
+            Some(header) => header.place == place,
+            None => false,
+        };
+        must(right, "a write to words that were not reserved")?;
+        let at = place_in(reserved, usize::from(thread), index)?;
+        put_at(&mut self.filled, at, word);
         Ok(())
     }
 
@@ -247,16 +251,16 @@ impl Machine {
             "a weak reference to an object that is reached was cleared",
         )?;
         self.set(handle, Found::Cleared);
-        if let Some(seen) = self.seen(thread) {
-            seen.cleared = seen.cleared.saturating_add(1);
-        }
+        let mut seen = self.seen(thread);
+        seen.cleared = seen.cleared.saturating_add(1);
+        self.set_seen(thread, seen);
         Ok(())
     }
 
     /// An object is dropped that nothing names.
     fn drop_object(&mut self, thread: u8, number: u16) -> Verdict {
         must(
-            self.object(number).is_some(),
+            self.header(number).is_some(),
             "an absent object was dropped",
         )?;
         must(
@@ -267,10 +271,10 @@ impl Machine {
             !self.is_named(number, false),
             "an object was dropped before a weak reference to it was cleared",
         )?;
-        self.set_object(number, None);
-        if let Some(seen) = self.seen(thread) {
-            seen.dropped = seen.dropped.saturating_add(1);
-        }
+        self.set_header(number, None);
+        let mut seen = self.seen(thread);
+        seen.dropped = seen.dropped.saturating_add(1);
+        self.set_seen(thread, seen);
         Ok(())
     }
 
@@ -281,21 +285,23 @@ impl Machine {
             "other words are used than those of the present objects",
         )?;
         self.used = used;
-        if let Some(seen) = self.seen(thread) {
-            seen.did = Some(Did::Settled(used));
-        }
+        self.did(thread, Did::Settled(used));
         Ok(())
     }
 }
 
-/// An element of an object is written.
-fn put(object: &mut Object, index: u32, word: u64) -> Verdict {
-    let within = index < object.header.length;
-    match object.words.get_mut(index as usize) {
-        Some(element) if within => {
-            *element = word;
-            Ok(())
-        }
-        _ => Err("an element behind the last was written"),
+/// Where an element is in a list that has so many places for each: wrong where it is none of an array with this header.
+fn place_in(header: Option<HeaderParts>, number: usize, index: u32) -> Result<usize, &'static str> {
+    match header {
+        None => Err("an element of an absent object"),
+        Some(header) if index < header.length => Ok(place_at(number, index)),
+        Some(_) => Err("an element behind the last"),
     }
+}
+
+/// Where the element with an index is in a list that has so many places for each.
+fn place_at(number: usize, index: u32) -> usize {
+    number
+        .saturating_mul(LONGEST)
+        .saturating_add(index as usize)
 }

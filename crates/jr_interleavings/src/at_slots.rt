@@ -1,6 +1,6 @@
 //! The machine's steps at references.
 
-use crate::machine::{Machine, Reference, Verdict, add, must};
+use crate::machine::{Machine, Verdict, add, must};
 use crate::seen::Did;
 use crate::step::Step;
 use jr_model::Found;
@@ -36,40 +36,36 @@ impl Machine {
                 self.next_serial(index).is_none() && self.standing(index).is_none()
             }
             SlotParts::Global { serial, object } => {
-                let handle = handle_of(RefKind::Global, serial, index);
-                self.standing(index) == Some(handle) && self.find(handle) == Found::Object(object)
+                self.is_standing(RefKind::Global, serial, index, Found::Object(object))
             }
             SlotParts::Weak { serial, object } => {
-                let handle = handle_of(RefKind::Weak, serial, index);
                 let found = match object {
                     Some(object) => Found::Object(object),
                     None => Found::Cleared,
                 };
-                self.standing(index) == Some(handle) && self.find(handle) == found
+                self.is_standing(RefKind::Weak, serial, index, found)
             }
         };
         must(right, "a slot said what was not so")
     }
 
-    /// The reference that stands in a slot.
-    fn standing(&self, index: u16) -> Option<HandleParts> {
-        for reference in self.references.iter() {
-            if reference.handle.index == index && reference.found != Found::Stale {
-                return Some(reference.handle);
-            }
+    /// Whether this reference stands in a slot, and for this.
+    fn is_standing(&self, kind: RefKind, serial: u32, index: u16, found: Found) -> bool {
+        let handle = handle_of(kind, serial, index);
+        match self.standing(index) {
+            Some(it) => it == handle && self.find(handle) == found,
+            None => false,
         }
-        None
     }
 
     /// What a look at a handle finds, its call has seen.
     fn look(&mut self, thread: u8, index: u16, name: SlotLoad) -> Verdict {
         if let SlotLoad::Look(handle) = name {
             must(handle.index == index, "a look at a handle in another slot")?;
-            let found = self.find(handle);
-            if let Some(seen) = self.seen(thread) {
-                seen.kind = Some(handle.kind);
-                seen.found = Some(found);
-            }
+            let mut seen = self.seen(thread);
+            seen.kind = Some(handle.kind);
+            seen.found = Some(self.find(handle));
+            self.set_seen(thread, seen);
         }
         Ok(())
     }
@@ -81,14 +77,12 @@ impl Machine {
             "a slot was given that was not free, or a serial again",
         )?;
         must(
-            self.object(object).is_some(),
+            self.header(object).is_some(),
             "a reference to an absent object was made",
         )?;
-        if let Some(seen) = self.seen(thread) {
-            seen.did = Some(Did::Made(handle));
-        }
-        let found = Found::Object(object);
-        add(&mut self.references, Reference { handle, found })
+        self.did(thread, Did::Made(handle));
+        add(&mut self.made, handle)?;
+        add(&mut self.found, Found::Object(object))
     }
 
     /// A reference is deleted where it still stands.
@@ -96,9 +90,7 @@ impl Machine {
         let stands = self.find(handle) != Found::Stale;
         must(stands || !won, "a reference was deleted that did not stand")?;
         must(!stands || won, "a reference that stood was not deleted")?;
-        if let Some(seen) = self.seen(thread) {
-            seen.did = Some(Did::Deleted(won));
-        }
+        self.did(thread, Did::Deleted(won));
         self.set(handle, Found::Stale);
         Ok(())
     }

@@ -60,8 +60,8 @@ pub(crate) struct Case {
 /// How many words of array space each room has.
 const WORDS: u32 = 4;
 
-/// Threads beside those that call: one looks afterwards, and one closes the room.
-const AFTERWARDS: u32 = 2;
+/// Threads beside those that call: one closes the room.
+const AFTERWARDS: u32 = 1;
 
 impl Case {
     /// How many threads call.

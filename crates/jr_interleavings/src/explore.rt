@@ -6,14 +6,13 @@ ghost use Rattle.jr_rule.specs.Passes.{IsOpened};
 use crate::case::{Call, Case};
 use crate::machine::{Machine, NO_MEMORY, add, must};
 use crate::play::play;
-use crate::run::{Baton, Player, Run, Stage, State};
+use crate::run::{Baton, Run, Stage, State};
 use crate::schedule::{Choice, Schedule};
 use crate::scheduled::Scheduled;
 use jr_env::Env;
-use jr_model::{Found, Summary};
+use jr_model::Summary;
 use jr_rule::{Pass, Room, RoomSteps};
 use jr_steps::Steps;
-use jr_word::{Handle, RefKind};
 use std::alloc::Global;
 use std::sync::atomic::AtomicU64;
 use std::sync::{Mutex, Wait};
@@ -61,50 +60,6 @@ fn play_one<R: Wait>(rt: &R, alloc: Global, room: &Room<LAST>, pass: Pass, case:
     play_by(rt, alloc, RoomSteps::new(room, pass), case, run);
 }
 
-/// Afterwards each reference that stands has its type, and each that was deleted has none.
-fn look_at_all<S: Steps>(env: &mut Env<S>, machine: &Machine) -> Result<(), &'static str> {
-    for handle in machine.handles.iter() {
-        let Some(parts) = Handle::parts(handle.0) else {
-            return Err("a reference that was made is malformed");
-        };
-        let wanted = match (machine.find(parts), parts.kind) {
-            (Found::Stale, _) => 0,
-            (_, RefKind::Weak) => 3,
-            (_, _) => 2,
-        };
-        let found = env.get_object_ref_type(*handle);
-        must(
-            found == Ok(wanted),
-            "a reference had another type after the run",
-        )?;
-    }
-    Ok(())
-}
-
-/// By these steps a thread looks at all references.
-fn look_by<S: Steps + Drop>(steps: S, machine: &Machine) -> Result<(), &'static str>
-    requires { (S.facts steps).stands.role ≡ Outside }
-{
-    match Env::new(steps) {
-        Ok(mut env) => look_at_all(&mut env, machine),
-        Err(_) => Err("a fresh pass gave no env"),
-    }
-}
-
-/// The last of the passes looks at all references.
-fn look_afterwards(
-    room: &Room<LAST>,
-    pass: Option<Pass>,
-    machine: &Machine,
-) -> Result<(), &'static str>
-    requires { IfSome pass (λ p. IsOpened room.now.row p) }
-{
-    match pass {
-        Some(pass) => look_by(RoomSteps::new(room, pass), machine),
-        None => Err("no pass is left to look with"),
-    }
-}
-
 /// The last of the passes of a room, none of which has stepped.
 fn take_last(room: &Room<LAST>, passes: &mut Vec<Pass>) -> Option<Pass>
     requires { All (λ p. IsOpened room.now.row p) passes.old.items }
@@ -124,16 +79,18 @@ fn closed(room: Room<LAST>, pass: Option<Pass>) -> Option<Summary>
 /// What the threads of a run share, before the first step.
 fn start(alloc: Global, case: &Case, schedule: Schedule) -> Result<Run, &'static str> {
     let mut turns = Vec::new(alloc);
-    let mut players = Vec::new(alloc);
+    let mut stages = Vec::new(alloc);
+    let mut own = Vec::new(alloc);
     for _ in 0..case.threads() {
-        let (stage, own) = (Stage::Ready, None);
         add(&mut turns, AtomicU64::new(0))?;
-        add(&mut players, Player { stage, own })?;
+        add(&mut stages, Stage::Ready)?;
+        add(&mut own, None)?;
     }
     let state = State {
         schedule,
         machine: Machine::new(alloc, case.config(), LAST)?,
-        players,
+        stages,
+        own,
         ready: Vec::new(alloc),
         could: 0,
         wrong: None,
@@ -161,7 +118,6 @@ fn run_once<R: Threads + Wait + Sync>(
     };
     let (shared, run_of) = (&room, &run);
     let closing = take_last(shared, &mut passes);
-    let looking = take_last(shared, &mut passes);
     let play_each = |pass| play_one(rt, alloc, shared, pass, case, run_of);
     let played = thread::map_vec(rt, passes, &play_each).is_ok();
     let Run { state, turns: _ } = run;
@@ -171,11 +127,10 @@ fn run_once<R: Threads + Wait + Sync>(
         wrong,
         ..
     } = state.into_inner();
-    let looked = look_afterwards(&room, looking, &machine);
     let summary = closed(room, closing);
     let verdict = match wrong {
         Some(wrong) => Err(wrong),
-        None => must(played, NO_MEMORY).and(looked).and(must(
+        None => must(played, NO_MEMORY).and(must(
             summary == Some(machine.summary()),
             "the room closed with other things than stood",
         )),

@@ -1,7 +1,7 @@
 //! The sequential machine, once more: what each step needs, what it answers and what it changes, as docs/DEFINITIONS.md has it.
 //! It knows nothing of words: its references are handles with what each stands for.
 
-use crate::seen::Seen;
+use crate::seen::{Did, Seen};
 use crate::step::Step;
 use jr_model::{Found, Role, Summary};
 use jr_word::{Config, Fault, Handle, HandleParts, HeaderParts, RefKind};
@@ -14,47 +14,7 @@ pub(crate) type Verdict = Result<(), &'static str>;
 pub(crate) const NO_MEMORY: &str = "memory was refused";
 
 /// The most elements of an array.
-const LONGEST: usize = 4;
-
-/// A reference that was made, deleted ones too.
-#[derive(Clone, Copy)]
-pub(crate) struct Reference {
-    /// Its handle.
-    pub(crate) handle: HandleParts,
-    /// What it stands for.
-    pub(crate) found: Found,
-}
-
-/// A local place that was written.
-#[derive(Clone, Copy)]
-pub(crate) struct Local {
-    /// Whose it is.
-    pub(crate) thread: u8,
-    /// Where.
-    pub(crate) place: u16,
-    /// The object that its reference is to, if one stands there.
-    pub(crate) object: Option<u16>,
-}
-
-/// An object that is present.
-#[derive(Clone, Copy)]
-pub(crate) struct Object {
-    /// Its kind, length and place.
-    pub(crate) header: HeaderParts,
-    /// Its elements, and zeros behind them.
-    pub(crate) words: [u64; LONGEST],
-}
-
-/// A thread of the room.
-#[derive(Drop)]
-pub(crate) struct Thread {
-    /// Where it stands towards the gate.
-    pub(crate) role: Role,
-    /// What it has reserved in this stay, and not yet published: an array without a kind.
-    pub(crate) reserved: Option<Object>,
-    /// What its call has seen.
-    pub(crate) seen: Seen,
-}
+pub(crate) const LONGEST: usize = 4;
 
 /// The state of the machine.
 #[derive(Drop)]
@@ -62,19 +22,56 @@ pub(crate) struct Machine {
     pub(crate) config: Config,
     /// The last serial of a slot.
     pub(crate) last: u32,
-    pub(crate) threads: Vec<Thread>,
-    pub(crate) references: Vec<Reference>,
+    /// Where each thread stands towards the gate.
+    pub(crate) roles: Vec<Role>,
+    /// What the call of each thread has seen.
+    pub(crate) seen: Vec<Seen>,
+    /// The references that were made, deleted ones too.
+    pub(crate) made: Vec<HandleParts>,
+    /// What each of them stands for.
+    pub(crate) found: Vec<Found>,
     /// The handles of references that calls answered.
     pub(crate) handles: Vec<Handle>,
-    pub(crate) locals: Vec<Local>,
-    /// The objects that are present, by their numbers; none has number 0.
-    pub(crate) objects: Vec<Option<Object>>,
+    /// The objects that the local places refer to, those of one thread behind those of the other: 0 where none stands.
+    pub(crate) locals: Vec<u16>,
+    /// The headers of the objects that are present, by their numbers; none has number 0.
+    pub(crate) headers: Vec<Option<HeaderParts>>,
+    /// Their elements, so many places for each.
+    pub(crate) elements: Vec<u64>,
+    /// What each thread has reserved in this stay, and not yet published: an array without a kind.
+    pub(crate) reserved: Vec<Option<HeaderParts>>,
+    /// Its elements, so many places for each.
+    pub(crate) filled: Vec<u64>,
     pub(crate) used: u32,
 }
 
 /// The verdict that something holds, or is wrong so.
 pub(crate) fn must(holds: bool, wrong: &'static str) -> Verdict {
     if holds { Ok(()) } else { Err(wrong) }
+}
+
+/// What a list has at a place.
+pub(crate) fn at<T: Copy>(list: &Vec<T>, place: usize) -> Option<T> {
+    match list.get(place) {
+        Some(value) => Some(*value),
+        None => None,
+    }
+}
+
+/// A list has this at a place from now on, if it is as long.
+pub(crate) fn put_at<T: Copy>(list: &mut Vec<T>, place: usize, value: T) {
+    if let Some(old) = list.get_mut(place) {
+        *old = value;
+    }
+}
+
+/// A list of so many that are the same.
+pub(crate) fn all<T: Copy>(alloc: Global, count: usize, value: T) -> Result<Vec<T>, &'static str> {
+    let mut list = Vec::new(alloc);
+    for _ in 0..count {
+        add(&mut list, value)?;
+    }
+    Ok(list)
 }
 
 /// Adds to a list.
@@ -85,27 +82,22 @@ pub(crate) fn add<T: Drop>(list: &mut Vec<T>, value: T) -> Verdict {
 impl Machine {
     /// A room in which nothing stands.
     pub(crate) fn new(alloc: Global, config: Config, last: u32) -> Result<Self, &'static str> {
-        let mut threads = Vec::new(alloc);
-        for _ in 0..config.threads {
-            let thread = Thread {
-                role: Role::Outside,
-                reserved: None,
-                seen: Seen::new(),
-            };
-            add(&mut threads, thread)?;
-        }
-        let mut objects = Vec::new(alloc);
-        for _ in 0..=config.objects {
-            add(&mut objects, None)?;
-        }
+        let threads = config.threads as usize;
+        let numbers = (config.objects as usize).saturating_add(1);
+        let locals = threads.saturating_mul(config.locals as usize);
         Ok(Machine {
             config,
             last,
-            threads,
-            references: Vec::new(alloc),
+            roles: all(alloc, threads, Role::Outside)?,
+            seen: all(alloc, threads, Seen::new())?,
+            made: Vec::new(alloc),
+            found: Vec::new(alloc),
             handles: Vec::new(alloc),
-            locals: Vec::new(alloc),
-            objects,
+            locals: all(alloc, locals, 0)?,
+            headers: all(alloc, numbers, None)?,
+            elements: all(alloc, numbers.saturating_mul(LONGEST), 0)?,
+            reserved: all(alloc, threads, None)?,
+            filled: all(alloc, threads.saturating_mul(LONGEST), 0)?,
             used: 0,
         })
     }
@@ -156,8 +148,13 @@ impl Machine {
 
     /// The role of a thread.
     pub(crate) fn role(&self, thread: u8) -> Role {
-        match self.threads.get(usize::from(thread)) {
-            Some(it) => it.role,
+        self.role_at(usize::from(thread))
+    }
+
+    /// The role of the thread at a place.
+    pub(crate) fn role_at(&self, place: usize) -> Role {
+        match at(&self.roles, place) {
+            Some(role) => role,
             None => Role::Outside,
         }
     }
@@ -165,12 +162,19 @@ impl Machine {
     /// Shows each thread that is within which slots and which numbers have nothing free now.
     fn show(&mut self) {
         let (slots, numbers) = (self.taken_slots(), self.taken_numbers());
-        for thread in self.threads.iter_mut() {
-            if thread.role == Role::Within {
-                thread.seen.taken_slots |= slots;
-                thread.seen.taken_numbers |= numbers;
+        for place in 0..self.roles.len() {
+            if self.role_at(place) == Role::Within {
+                self.show_at(place, slots, numbers);
             }
         }
+    }
+
+    /// Shows the thread at a place which slots and which numbers have nothing free now.
+    fn show_at(&mut self, place: usize, slots: u64, numbers: u64) {
+        let mut seen = self.seen_at(place);
+        seen.taken_slots |= slots;
+        seen.taken_numbers |= numbers;
+        put_at(&mut self.seen, place, seen);
     }
 
     /// The slots that have nothing free, a bit each. No case has as many as 64.
@@ -187,27 +191,22 @@ impl Machine {
 
     /// The numbers of present objects, a bit each.
     fn taken_numbers(&self) -> u64 {
-        let (mut numbers, mut number) = (0u64, 1u64);
-        for object in self.objects.iter() {
-            if object.is_some() {
-                numbers |= number;
+        let (mut numbers, mut bit) = (0u64, 1u64);
+        for number in 0..self.headers.len() {
+            if let Some(Some(_)) = at(&self.headers, number) {
+                numbers |= bit;
             }
-            number = number.wrapping_mul(2);
+            bit = bit.wrapping_mul(2);
         }
         numbers
     }
 
     /// The serial of the next reference of a slot: none where a reference stands, or the last was given.
     pub(crate) fn next_serial(&self, index: u16) -> Option<u32> {
-        let mut given = 0u32;
-        for reference in self.references.iter() {
-            if reference.handle.index == index {
-                if reference.found != Found::Stale {
-                    return None;
-                }
-                given = given.saturating_add(1);
-            }
+        if self.standing(index).is_some() {
+            return None;
         }
+        let given = self.given(index);
         if given <= self.last {
             Some(given)
         } else {
@@ -215,48 +214,96 @@ impl Machine {
         }
     }
 
-    /// What a handle finds.
-    pub(crate) fn find(&self, handle: HandleParts) -> Found {
-        for reference in self.references.iter() {
-            if reference.handle == handle {
-                return reference.found;
+    /// How many references a slot has given.
+    fn given(&self, index: u16) -> u32 {
+        let mut given = 0u32;
+        for number in 0..self.made.len() {
+            if let Some(handle) = at(&self.made, number) {
+                if handle.index == index {
+                    given = given.saturating_add(1);
+                }
             }
         }
-        Found::Stale
+        given
+    }
+
+    /// The reference that stands in a slot.
+    pub(crate) fn standing(&self, index: u16) -> Option<HandleParts> {
+        for number in 0..self.made.len() {
+            if let Some(handle) = at(&self.made, number) {
+                if handle.index == index && self.found_at(number) != Found::Stale {
+                    return Some(handle);
+                }
+            }
+        }
+        None
+    }
+
+    /// What a handle finds.
+    pub(crate) fn find(&self, handle: HandleParts) -> Found {
+        self.found_at(self.number_of(handle))
+    }
+
+    /// The type of a handle: 0 where its reference doesn't stand, 2 of a global one, 3 of a weak one.
+    pub(crate) fn type_of(&self, handle: Handle) -> u8 {
+        let Some(parts) = Handle::parts(handle.0) else {
+            return 0;
+        };
+        match (self.find(parts), parts.kind) {
+            (Found::Stale, _) => 0,
+            (_, RefKind::Weak) => 3,
+            (_, _) => 2,
+        }
+    }
+
+    /// What the reference with a number stands for.
+    fn found_at(&self, number: usize) -> Found {
+        match at(&self.found, number) {
+            Some(found) => found,
+            None => Found::Stale,
+        }
     }
 
     /// The reference of a handle stands for this from now on.
     pub(crate) fn set(&mut self, handle: HandleParts, found: Found) {
-        for reference in self.references.iter_mut() {
-            if reference.handle == handle {
-                reference.found = found;
-            }
-        }
+        let number = self.number_of(handle);
+        put_at(&mut self.found, number, found);
     }
 
-    /// The object with a number, if it is present.
-    pub(crate) fn object(&self, number: u16) -> Option<Object> {
-        match self.objects.get(usize::from(number)) {
-            Some(object) => *object,
+    /// The number of a handle's reference, among those that were made: none has it where it was not made.
+    fn number_of(&self, handle: HandleParts) -> usize {
+        for number in 0..self.made.len() {
+            if let Some(made) = at(&self.made, number) {
+                if made == handle {
+                    return number;
+                }
+            }
+        }
+        self.made.len()
+    }
+
+    /// The header of the object with a number, if it is present.
+    pub(crate) fn header(&self, number: u16) -> Option<HeaderParts> {
+        match at(&self.headers, usize::from(number)) {
+            Some(header) => header,
             None => None,
         }
     }
 
-    /// The object with a number is this from now on.
-    pub(crate) fn set_object(&mut self, number: u16, object: Option<Object>) {
-        if number == 0 {
-            return;
-        }
-        if let Some(place) = self.objects.get_mut(usize::from(number)) {
-            *place = object;
+    /// The object with a number has this header from now on, or is absent.
+    pub(crate) fn set_header(&mut self, number: u16, header: Option<HeaderParts>) {
+        if number != 0 {
+            put_at(&mut self.headers, usize::from(number), header);
         }
     }
 
     /// Whether a global or a local reference is to the object. No case has an array of objects.
     pub(crate) fn is_reached(&self, number: u16) -> bool {
-        for local in self.locals.iter() {
-            if local.object == Some(number) {
-                return true;
+        for place in 0..self.locals.len() {
+            if let Some(object) = at(&self.locals, place) {
+                if object == number {
+                    return true;
+                }
             }
         }
         self.is_named(number, true)
@@ -264,10 +311,12 @@ impl Machine {
 
     /// Whether a global reference is to the object, or one of either kind where that is asked for.
     pub(crate) fn is_named(&self, number: u16, by_global: bool) -> bool {
-        for reference in self.references.iter() {
-            let is_asked = !by_global || reference.handle.kind == RefKind::Global;
-            if is_asked && reference.found == Found::Object(number) {
-                return true;
+        for made in 0..self.made.len() {
+            if let Some(handle) = at(&self.made, made) {
+                let is_asked = !by_global || handle.kind == RefKind::Global;
+                if is_asked && self.found_at(made) == Found::Object(number) {
+                    return true;
+                }
             }
         }
         false
@@ -276,9 +325,9 @@ impl Machine {
     /// How many words the objects have that are present.
     pub(crate) fn present_words(&self) -> u32 {
         let mut words = 0u32;
-        for object in self.objects.iter() {
-            if let Some(object) = object {
-                words = words.saturating_add(object.header.length);
+        for number in 0..self.headers.len() {
+            if let Some(Some(header)) = at(&self.headers, number) {
+                words = words.saturating_add(header.length);
             }
         }
         words
@@ -289,19 +338,16 @@ impl Machine {
         let mut summary = Summary {
             globals: 0,
             weaks: 0,
-            live: 0,
+            live: self.taken_numbers().count_ones(),
             used: self.used,
         };
-        for reference in self.references.iter() {
-            match (reference.handle.kind, reference.found) {
-                (_, Found::Stale) => {}
-                (RefKind::Weak, _) => summary.weaks = summary.weaks.saturating_add(1),
-                (_, _) => summary.globals = summary.globals.saturating_add(1),
-            }
-        }
-        for object in self.objects.iter() {
-            if object.is_some() {
-                summary.live = summary.live.saturating_add(1);
+        for number in 0..self.made.len() {
+            if let Some(handle) = at(&self.made, number) {
+                match (handle.kind, self.found_at(number)) {
+                    (_, Found::Stale) => {}
+                    (RefKind::Weak, _) => summary.weaks = summary.weaks.saturating_add(1),
+                    (_, _) => summary.globals = summary.globals.saturating_add(1),
+                }
             }
         }
         summary
@@ -309,16 +355,33 @@ impl Machine {
 
     /// A call of the thread is refused so, by what its step saw; `None` where what was seen before counts no more.
     pub(crate) fn refuse(&mut self, thread: u8, fault: Option<Fault>) {
-        if let Some(it) = self.threads.get_mut(usize::from(thread)) {
-            it.seen.refused = fault;
+        let mut seen = self.seen(thread);
+        seen.refused = fault;
+        self.set_seen(thread, seen);
+    }
+
+    /// A call of the thread did this last.
+    pub(crate) fn did(&mut self, thread: u8, did: Did) {
+        let mut seen = self.seen(thread);
+        seen.did = Some(did);
+        self.set_seen(thread, seen);
+    }
+
+    /// What the call of a thread has seen so far.
+    pub(crate) fn seen(&self, thread: u8) -> Seen {
+        self.seen_at(usize::from(thread))
+    }
+
+    /// What the call of the thread at a place has seen so far.
+    fn seen_at(&self, place: usize) -> Seen {
+        match at(&self.seen, place) {
+            Some(seen) => seen,
+            None => Seen::new(),
         }
     }
 
-    /// What the call of a thread has seen so far, to be written on.
-    pub(crate) fn seen(&mut self, thread: u8) -> Option<&mut Seen> {
-        match self.threads.get_mut(usize::from(thread)) {
-            Some(it) => Some(&mut it.seen),
-            None => None,
-        }
+    /// What the call of a thread has seen from now on.
+    pub(crate) fn set_seen(&mut self, thread: u8, seen: Seen) {
+        put_at(&mut self.seen, usize::from(thread), seen);
     }
 }

@@ -113,7 +113,18 @@ fn make_all<R: Wait, S: Steps>(env: &mut Scheduling<'_, '_, R, S>, alloc: Global
     }
 }
 
-/// Makes ready what the thread needs, and then its calls, each step in its turn.
+/// Each reference that stands has its type, and each that was deleted has none.
+fn look_at_all<R: Wait, S: Steps>(env: &mut Scheduling<'_, '_, R, S>) {
+    for number in 0..env.held.steps.baton.answers() {
+        let Some((handle, wanted)) = env.held.steps.baton.answer(number) else {
+            return;
+        };
+        let found = env.get_object_ref_type(handle);
+        env.held.steps.baton.looked(found == Ok(wanted));
+    }
+}
+
+/// Makes ready what the thread needs, and then its calls, each step in its turn; the last thread looks at all references then.
 pub(crate) fn play<R: Wait, S: Steps>(
     env: &mut Scheduling<'_, '_, R, S>,
     alloc: Global,
@@ -123,5 +134,7 @@ pub(crate) fn play<R: Wait, S: Steps>(
     make_all(env, alloc, ready);
     env.held.steps.baton.be_ready();
     make_all(env, alloc, calls);
-    env.held.steps.baton.be_done();
+    if env.held.steps.baton.be_done() {
+        look_at_all(env);
+    }
 }

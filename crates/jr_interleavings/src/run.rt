@@ -1,7 +1,7 @@
 //! One run of a case: its threads, of which one goes at a time, and the machine beside them.
 
 use crate::case::{Call, Name};
-use crate::machine::{Machine, Verdict, add};
+use crate::machine::{Machine, Verdict, add, at, must, put_at};
 use crate::schedule::{Schedule, bit};
 use crate::seen::Answer;
 use crate::step::Step;
@@ -10,7 +10,7 @@ use std::hint::spin_loop;
 use std::sync::atomic::{AtomicU64, Ordering};
 use std::sync::{Mutex, Wait};
 
-/// How often a thread looks for its turn before it sleeps.
+/// How often a thread looks for its turn before it sleeps. Yields between the looks would be worse: beside other work each gives a whole slice of time away.
 const LOOKS: u32 = 100;
 
 /// How often it looks at most, with a sleep behind each further look.
@@ -27,15 +27,6 @@ pub(crate) enum Stage {
     Stepped,
 }
 
-/// A thread of a run.
-#[derive(Clone, Copy)]
-pub(crate) struct Player {
-    /// Where it is.
-    pub(crate) stage: Stage,
-    /// The last reference that it made by its calls.
-    pub(crate) own: Option<Handle>,
-}
-
 /// What the threads of a run share. Who has the turn changes it, and nobody else.
 #[derive(Drop)]
 pub(crate) struct State {
@@ -43,8 +34,10 @@ pub(crate) struct State {
     pub(crate) schedule: Schedule,
     /// The sequential machine.
     pub(crate) machine: Machine,
-    /// The threads that are to call.
-    pub(crate) players: Vec<Player>,
+    /// Where each thread is that is to call.
+    pub(crate) stages: Vec<Stage>,
+    /// The last reference that each made by its calls.
+    pub(crate) own: Vec<Option<Handle>>,
     /// The references that were made ready.
     pub(crate) ready: Vec<Handle>,
     /// The threads that have steps left, a bit each.
@@ -59,6 +52,13 @@ pub(crate) struct Run {
     pub(crate) state: Mutex<State>,
     /// A word for each thread: 1 where it is handed the turn.
     pub(crate) turns: Vec<AtomicU64>,
+}
+
+impl Run {
+    /// The word of a thread.
+    fn turn(&self, thread: u8) -> Option<&AtomicU64> {
+        self.turns.get(usize::from(thread))
+    }
 }
 
 impl State {
@@ -83,12 +83,15 @@ impl State {
 
     /// The stage of a thread, which is at another one from now on.
     fn go_to(&mut self, thread: u8, stage: Stage) -> Stage {
-        match self.players.get_mut(usize::from(thread)) {
-            Some(player) => {
-                let before = player.stage;
-                player.stage = stage;
-                before
-            }
+        let before = self.stage(thread);
+        put_at(&mut self.stages, usize::from(thread), stage);
+        before
+    }
+
+    /// The stage of a thread.
+    fn stage(&self, thread: u8) -> Stage {
+        match at(&self.stages, usize::from(thread)) {
+            Some(stage) => stage,
             None => Stage::Ready,
         }
     }
@@ -98,7 +101,7 @@ impl State {
         self.go_to(thread, Stage::Handed);
         self.could |= bit(thread);
         let next = thread.saturating_add(1);
-        if usize::from(next) < self.players.len() {
+        if usize::from(next) < self.stages.len() {
             return Some(next);
         }
         self.pick()
@@ -143,29 +146,20 @@ impl State {
 
     /// Keeps a reference that a thread made.
     fn keep(&mut self, thread: u8, handle: Handle) {
-        let Some(player) = self.players.get_mut(usize::from(thread)) else {
-            return;
-        };
-        match player.stage {
+        match self.stage(thread) {
             Stage::Ready => {
                 let verdict = add(&mut self.ready, handle);
                 self.note(verdict);
             }
-            _ => player.own = Some(handle),
+            _ => put_at(&mut self.own, usize::from(thread), Some(handle)),
         }
     }
 
     /// The handle that a name means for a thread.
     fn handle(&self, thread: u8, name: Name) -> Option<Handle> {
         match name {
-            Name::Own => match self.players.get(usize::from(thread)) {
-                Some(player) => player.own,
-                None => None,
-            },
-            Name::Ready(number) => match self.ready.get(number) {
-                Some(handle) => Some(*handle),
-                None => None,
-            },
+            Name::Own => at(&self.own, usize::from(thread))?,
+            Name::Ready(number) => at(&self.ready, number),
         }
     }
 }
@@ -190,7 +184,7 @@ impl<'r, 'a, R: Wait> Baton<'r, 'a, R> {
 
     /// Waits until the thread is handed the turn.
     fn wait(&self) {
-        let Some(turn) = self.run.turns.get(usize::from(self.thread)) else {
+        let Some(turn) = self.run.turn(self.thread) else {
             return;
         };
         for look in 0..TURNS {
@@ -208,7 +202,7 @@ impl<'r, 'a, R: Wait> Baton<'r, 'a, R> {
     /// Hands the turn to a thread.
     fn hand(&self, next: Option<u8>) {
         if let Some(next) = next {
-            if let Some(turn) = self.run.turns.get(usize::from(next)) {
+            if let Some(turn) = self.run.turn(next) {
                 turn.store(1, Ordering::SeqCst);
                 turn.wake_one();
             }
@@ -229,10 +223,29 @@ impl<'r, 'a, R: Wait> Baton<'r, 'a, R> {
         self.hand_on(next);
     }
 
-    /// The thread has made all its calls.
-    pub(crate) fn be_done(&self) {
+    /// The thread has made all its calls: whether all others have, too.
+    pub(crate) fn be_done(&self) -> bool {
         let next = self.run.state.lock(self.rt).is_done(self.thread);
         self.hand(next);
+        next.is_none()
+    }
+
+    /// How many references calls answered.
+    pub(crate) fn answers(&self) -> usize {
+        self.run.state.lock(self.rt).machine.handles.len()
+    }
+
+    /// One of the references that calls answered, with the type that it has.
+    pub(crate) fn answer(&self, number: usize) -> Option<(Handle, u8)> {
+        let state = self.run.state.lock(self.rt);
+        let handle = at(&state.machine.handles, number)?;
+        Some((handle, state.machine.type_of(handle)))
+    }
+
+    /// Whether a look after all calls found what it was to find.
+    pub(crate) fn looked(&self, is_right: bool) {
+        let verdict = must(is_right, "a reference had another type after the run");
+        self.run.state.lock(self.rt).note(verdict);
     }
 
     /// Before a step: waits until it is the turn of this thread.

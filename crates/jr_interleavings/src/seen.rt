@@ -24,7 +24,7 @@ pub(crate) enum Did {
 }
 
 /// What a call of a thread has seen, from its entry on.
-#[derive(Clone, Copy, Drop)]
+#[derive(Clone, Copy)]
 pub(crate) struct Seen {
     /// The kind of the handle that it looked at.
     pub(crate) kind: Option<RefKind>,
@@ -191,10 +191,7 @@ impl Machine {
 
     /// The call of a thread answers what its own steps make.
     pub(crate) fn answers(&mut self, thread: u8, call: Call, answer: Answer) -> Verdict {
-        let Some(it) = self.threads.get(usize::from(thread)) else {
-            return Err("no such thread");
-        };
-        let seen = it.seen;
+        let seen = self.seen(thread);
         let right = match (self.answer(&seen, call), answer) {
             (Some(wanted), _) => answer == wanted,
             (None, Answer::Made(handle)) => match seen.did {
@@ -207,9 +204,7 @@ impl Machine {
             (None, _) => false,
         };
         must(right, "a call answered otherwise than its steps")?;
-        if let Some(it) = self.seen(thread) {
-            *it = Seen::new();
-        }
+        self.set_seen(thread, Seen::new());
         Ok(())
     }
 }

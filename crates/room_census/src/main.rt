@@ -1,6 +1,8 @@
 //! A room that leaks, and what a census and a dump tell of it: as text, and as a drawing that Graphviz's `dot` makes.
 #![tactic(auto)]
 
+ghost use Rattle.std.specs.Prelude.{◌≡◌, IfOk, vec_len};
+
 use jr_census::{Census, Objects};
 use jr_env::Env;
 use jr_rule::{Room, RoomSteps, Steps};
@@ -23,6 +25,9 @@ const SIZES: Config = Config {
     locals: 16,
 };
 
+/// How what stands for a weak reference is drawn.
+const DASHED: &str = " [style=dashed]";
+
 /// Why the program fails.
 #[derive(Debug, Drop, Error)]
 pub enum Trouble {
@@ -43,18 +48,33 @@ fn tell<W: Write + Drop>(alloc: Global, out: &mut W) -> Result<(), Trouble> {
     let (room, mut passes) = Room::<LAST>::open(alloc, SIZES)?;
     let pass = passes.remove(0);
     let mut env = Env::new(RoomSteps::new(&room, pass)).map_err(|refused| refused.1)?;
-    leak(&mut env)?;
+    tell_by(alloc, &mut env, out)
+}
+
+/// Leaks by an env, and tells what stands in its room.
+fn tell_by<S: Steps, W: Write>(
+    alloc: Global,
+    env: &mut Env<S>,
+    out: &mut W,
+) -> Result<(), Trouble> {
+    leak(env)?;
     let mut marker = Marker::new(alloc, env.held.steps.config())?;
     let census = env.census(&mut marker)?;
     write_census(out, &census)?;
     let config = env.held.steps.config();
-    let mut slots = vec![in alloc; SlotParts::Free { serial: 0 }; config.slots as usize].map_err(
-        |_| Fault::Memory,
-    )?;
-    let mut headers = vec![in alloc; None; config.objects as usize].map_err(|_| Fault::Memory)?;
-    let mut words = vec![in alloc; 0u64; config.words as usize].map_err(|_| Fault::Memory)?;
+    let mut slots = notes(alloc, SlotParts::Free { serial: 0 }, config.slots)?;
+    let mut headers = notes(alloc, None, config.objects)?;
+    let mut words = notes(alloc, 0u64, config.words)?;
     env.dump(&mut slots, &mut headers, &mut words)?;
-    draw(out, &slots, &headers, &words)
+    draw(out, &slots, &headers, &words)?;
+    Ok(())
+}
+
+/// Room for so many notes of a dump.
+fn notes<T: Copy>(alloc: Global, blank: T, count: u32) -> Result<Vec<T>, Fault>
+    ensures { IfOk result (λ v. vec_len v ≡ count) }
+{
+    vec![in alloc; blank; count as usize].map_err(|_| Fault::Memory)
 }
 
 /// Makes arrays that global references keep, and a cache of two of them; a string that nothing reaches; and a weak reference.
@@ -76,30 +96,30 @@ fn leak<S: Steps>(env: &mut Env<S>) -> Result<(), Fault> {
 }
 
 /// Writes the numbers of a census.
-fn write_census<W: Write>(out: &mut W, census: &Census) -> Result<(), Trouble> {
+fn write_census<W: Write>(out: &mut W, census: &Census) -> io::Result<()> {
     let slots = census.slots;
-    writeln!(out, "global references: {}", slots.globals)?;
-    writeln!(out, "weak references: {}", slots.weaks)?;
-    writeln!(out, "cleared among them: {}", slots.cleared)?;
-    writeln!(out, "retired slots: {}", slots.retired)?;
-    writeln!(out, "local references of thread 0: {}", census.locals[0])?;
-    write_objects(out, "present", &census.objects)?;
-    write_objects(out, "unreached", &census.unreached)
+    write_count(out, "global references", slots.globals)?;
+    write_count(out, "weak references", slots.weaks)?;
+    write_count(out, "cleared among them", slots.cleared)?;
+    write_count(out, "retired slots", slots.retired)?;
+    write_count(out, "local references of thread 0", census.locals[0])?;
+    write_objects(out, "objects present", &census.objects)?;
+    write_objects(out, "objects unreached", &census.unreached)
 }
 
 /// Writes how many objects there are, and how many words they have.
-fn write_objects<W: Write>(out: &mut W, which: &str, objects: &Objects) -> Result<(), Trouble> {
-    writeln!(out, "objects {which}: {}", objects.live)?;
-    writeln!(out, "arrays of int: {}", objects.kinds.of(Kind::Int))?;
-    writeln!(out, "arrays of long: {}", objects.kinds.of(Kind::Long))?;
-    writeln!(
-        out,
-        "arrays of objects: {}",
-        objects.kinds.of(Kind::Objects)
-    )?;
-    writeln!(out, "strings: {}", objects.kinds.of(Kind::Text))?;
-    writeln!(out, "words: {}", objects.words)?;
-    Ok(())
+fn write_objects<W: Write>(out: &mut W, which: &str, objects: &Objects) -> io::Result<()> {
+    write_count(out, which, objects.live)?;
+    write_count(out, "arrays of int", objects.kinds.of(Kind::Int))?;
+    write_count(out, "arrays of long", objects.kinds.of(Kind::Long))?;
+    write_count(out, "arrays of objects", objects.kinds.of(Kind::Objects))?;
+    write_count(out, "strings", objects.kinds.of(Kind::Text))?;
+    write_count(out, "words", objects.words)
+}
+
+/// Writes a line: what is counted, and how many of it there are.
+fn write_count<W: Write>(out: &mut W, what: &str, count: u32) -> io::Result<()> {
+    writeln!(out, "{what}: {count}")
 }
 
 /// Writes the drawing of a dump.
@@ -108,9 +128,8 @@ fn draw<W: Write>(
     slots: &[SlotParts],
     headers: &[Option<HeaderParts>],
     words: &[u64],
-) -> Result<(), Trouble> {
-    writeln!(out, "digraph room {{")?;
-    writeln!(out, "  rankdir=LR;")?;
+) -> io::Result<()> {
+    writeln!(out, "digraph room {{\n  rankdir=LR;")?;
     for (index, slot) in slots.iter().enumerate() {
         draw_slot(out, index, *slot)?;
     }
@@ -119,34 +138,36 @@ fn draw<W: Write>(
             draw_object(out, index + 1, *header, words)?;
         }
     }
-    writeln!(out, "}}")?;
-    Ok(())
+    writeln!(out, "}}")
 }
 
 /// Draws the reference of a slot.
-fn draw_slot<W: Write>(out: &mut W, index: usize, slot: SlotParts) -> Result<(), Trouble> {
+fn draw_slot<W: Write>(out: &mut W, index: usize, slot: SlotParts) -> io::Result<()> {
     match slot {
         SlotParts::Global { serial: _, object } => {
-            writeln!(out, "  \"global {index}\" -> \"object {object}\";")?;
+            draw_arrow(out, "global", index, u64::from(object), "")
         }
         SlotParts::Weak {
             serial: _,
             object: Some(object),
-        } => {
-            writeln!(
-                out,
-                "  \"weak {index}\" -> \"object {object}\" [style=dashed];"
-            )?;
-        }
+        } => draw_arrow(out, "weak", index, u64::from(object), DASHED),
         SlotParts::Weak {
             serial: _,
             object: None,
-        } => {
-            writeln!(out, "  \"weak {index}\" [style=dashed];")?;
-        }
-        SlotParts::Free { .. } | SlotParts::Retired { .. } => {}
+        } => writeln!(out, "  \"weak {index}\"{DASHED};"),
+        SlotParts::Free { .. } | SlotParts::Retired { .. } => Ok(()),
     }
-    Ok(())
+}
+
+/// Draws an arrow to an object.
+fn draw_arrow<W: Write>(
+    out: &mut W,
+    from: &str,
+    number: usize,
+    object: u64,
+    style: &str,
+) -> io::Result<()> {
+    writeln!(out, "  \"{from} {number}\" -> \"object {object}\"{style};")
 }
 
 /// Draws an object, with an arrow to each that it names.
@@ -155,24 +176,19 @@ fn draw_object<W: Write>(
     number: usize,
     header: HeaderParts,
     words: &[u64],
-) -> Result<(), Trouble> {
-    let HeaderParts {
-        kind,
-        length,
-        place,
-    } = header;
+) -> io::Result<()> {
+    let (kind, length) = (name_of(header.kind), header.length);
     writeln!(
         out,
-        "  \"object {number}\" [shape=box, label=\"{number}: {}, {length}\"];",
-        name_of(kind)
+        "  \"object {number}\" [shape=box, label=\"{number}: {kind}, {length}\"];"
     )?;
-    if let Kind::Objects = kind {
-        for index in 0..length as usize {
-            if let Some(named) = words.get(place as usize + index) {
-                if *named != 0 {
-                    writeln!(out, "  \"object {number}\" -> \"object {named}\";")?;
-                }
-            }
+    if header.kind != Kind::Objects {
+        return Ok(());
+    }
+    for index in 0..length as usize {
+        match words.get(header.place as usize + index) {
+            None | Some(0) => {}
+            Some(named) => draw_arrow(out, "object", number, *named, "")?,
         }
     }
     Ok(())

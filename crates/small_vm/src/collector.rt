@@ -11,34 +11,27 @@ use std::thread;
 /// How often an announced collection tries to shut the gate.
 const SHUTS: u32 = 1_000;
 
-/// What is left in the end.
-#[derive(Clone, Copy)]
-pub(crate) struct Rest {
-    /// How many weak references of the cache are cleared.
-    pub(crate) cleared: u32,
-}
-
-/// Collects until the others have left, and once more, and looks at the cache.
-pub(crate) fn run<S: Steps>(alloc: Global, env: &mut Env<S>, board: &Board) -> Result<Rest, Fault> {
+/// Collects until the others have left, and once more, and tells how many weak references of the cache are cleared then.
+pub(crate) fn run<S: Steps>(alloc: Global, env: &mut Env<S>, board: &Board) -> Result<u32, Fault> {
     let mut marker = env.marker(alloc)?;
     for _ in 0..TRIES {
         let is_last = board.have_left(2);
         let collected = env.collect_announced(&mut marker, SHUTS);
         if is_last && collected.is_ok() {
-            return look(env, board);
+            return cleared(env, board);
         }
         thread::yield_now();
     }
     Err(Fault::Turns)
 }
 
-/// Looks at the cache.
-fn look<S: Steps>(env: &mut Env<S>, board: &Board) -> Result<Rest, Fault> {
+/// How many weak references of the cache are cleared.
+fn cleared<S: Steps>(env: &mut Env<S>, board: &Board) -> Result<u32, Fault> {
     let mut cleared = 0u32;
     for symbol in 0..SYMBOLS {
         if again(env, &IsSameObject(board.kept(symbol), Handle::NULL))? {
             cleared = cleared.wrapping_add(1);
         }
     }
-    Ok(Rest { cleared })
+    Ok(cleared)
 }

@@ -8,8 +8,7 @@ mod trying;
 mod worker;
 
 use board::Board;
-use collector::Rest;
-use jr::{Config, Env, Fault, NativeCode, Steps, run_native};
+use jr::{Config, Env, Fault, NativeCode, Steps, Summary, run_native};
 use std::alloc::{AllocError, Global};
 use std::io;
 use thiserror::Error;
@@ -41,8 +40,8 @@ enum Done {
     Loaded(u32),
     /// The worker found this.
     Worked(Found),
-    /// The collector left this.
-    Collected(Rest),
+    /// The collector left so many weak references of the cache cleared.
+    Collected(u32),
 }
 
 impl NativeCode for Machine {
@@ -77,26 +76,37 @@ fn main(rt: HostRuntime) -> Result<(), Trouble> {
     let machine = Machine { alloc, board };
     let ran = run_native(&rt, alloc, SIZES, &machine)?;
     for answer in ran.answers {
-        match answer? {
-            Done::Loaded(units) => {
-                println!(rt; "the loader named {SYMBOLS} symbols, by {units} units")?;
-            }
-            Done::Worked(found) => {
-                println!(rt; "the worker read {} units", found.units)?;
-                println!(rt; "the sum of its numbers is {}", found.sum)?;
-            }
-            Done::Collected(rest) => {
-                println!(rt;
-                    "weak references of the cache that are cleared: {}",
-                    rest.cleared
-                )?;
-            }
+        print_done(&rt, answer?)?;
+    }
+    print_left(&rt, ran.summary?)?;
+    Ok(())
+}
+
+/// Prints what a thread did.
+fn print_done<R: Print>(rt: &R, done: Done) -> io::Result<()> {
+    match done {
+        Done::Loaded(units) => {
+            println!(rt; "the loader named {SYMBOLS} symbols, by {units} units")
+        }
+        Done::Worked(found) => {
+            let (units, sum) = (found.units, found.sum);
+            println!(rt; "the worker read {units} units\nthe sum of its numbers is {sum}")
+        }
+        Done::Collected(cleared) => {
+            print_count(rt, "weak references of the cache that are cleared", cleared)
         }
     }
-    let left = ran.summary?;
-    println!(rt; "global references left: {}", left.globals)?;
-    println!(rt; "weak references left: {}", left.weaks)?;
-    println!(rt; "objects left: {}", left.live)?;
-    println!(rt; "words left: {}", left.used)?;
-    Ok(())
+}
+
+/// Prints what stood as the room was closed.
+fn print_left<R: Print>(rt: &R, left: Summary) -> io::Result<()> {
+    print_count(rt, "global references left", left.globals)?;
+    print_count(rt, "weak references left", left.weaks)?;
+    print_count(rt, "objects left", left.live)?;
+    print_count(rt, "words left", left.used)
+}
+
+/// Prints a line: what is counted, and how many of it there are.
+fn print_count<R: Print>(rt: &R, what: &str, count: u32) -> io::Result<()> {
+    println!(rt; "{what}: {count}")
 }
