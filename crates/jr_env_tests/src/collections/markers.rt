@@ -4,6 +4,7 @@ use jr_env::calls::NewPlain;
 use jr_steps::Steps;
 use jr_weak::Marker;
 use jr_word::{Config, Fault};
+use std::alloc::Global;
 use std::process::Abort;
 use std::test::Fail;
 
@@ -56,15 +57,18 @@ fn fits_no_collection<S: Steps>(rt: &impl Abort, env: &mut Env<S>, marker: &mut 
     );
 }
 
-#[test]
-fn a_marker_for_another_number_of_objects(rt: HostRuntime) -> Result<(), Fail> {
-    let mut small = plain_env(rt.alloc(), room_of(2))?;
-    let mut large = plain_env(rt.alloc(), room_of(3))?;
-    let mut for_small = small.marker(rt.alloc())?;
-    let mut for_large = large.marker(rt.alloc())?;
+/// Each of two envs collects by its own marker, announced or not, and not by the other's.
+fn collect_by_their_own<S: Steps>(
+    rt: &impl Abort,
+    alloc: Global,
+    small: &mut Env<S>,
+    large: &mut Env<S>,
+) -> Result<(), Fail> {
+    let mut for_small = small.marker(alloc)?;
+    let mut for_large = large.marker(alloc)?;
     let object = small.new_plain()?;
-    fits_no_collection(&rt, &mut small, &mut for_large);
-    fits_no_collection(&rt, &mut large, &mut for_small);
+    fits_no_collection(rt, small, &mut for_large);
+    fits_no_collection(rt, large, &mut for_small);
     small.delete_local_ref(object)?;
     let collected = small.collect(&mut for_small)?;
     assert_eq!(rt; collected.dropped, 1);
@@ -72,4 +76,11 @@ fn a_marker_for_another_number_of_objects(rt: HostRuntime) -> Result<(), Fail> {
     let collected = large.collect_announced(&mut for_large, 3)?;
     assert_eq!(rt; collected.dropped, 0);
     Ok(())
+}
+
+#[test]
+fn a_marker_for_another_number_of_objects(rt: HostRuntime) -> Result<(), Fail> {
+    let mut small = plain_env(rt.alloc(), room_of(2))?;
+    let mut large = plain_env(rt.alloc(), room_of(3))?;
+    collect_by_their_own(&rt, rt.alloc(), &mut small, &mut large)
 }

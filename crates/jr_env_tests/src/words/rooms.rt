@@ -65,26 +65,30 @@ fn add_bits(words: &mut Vec<Handle>) -> Result<(), AllocError> {
     Ok(())
 }
 
-/// The env of another room, with an array of two ints that were copied there. The words of references that were made there are added: the serials of two of them no slot here comes to.
-fn given_by<U: Steps + Drop>(
+/// The two ints of an array of another room, copied there. The words of references that were made there are added: the serials of two of them no slot here comes to.
+fn copied_in<S: Steps>(
     alloc: Global,
-    mut other: Env<U>,
+    env: &mut Env<S>,
     words: &mut Vec<Handle>,
-) -> Result<Given<U>, Fail> {
-    let array = other.new_array::<i32>(2)?;
-    other.set_array_region(array, 0, &INTS)?;
+) -> Result<Given, Fail> {
+    let array = env.new_array::<i32>(2)?;
+    env.set_array_region(array, 0, &INTS)?;
     for _ in 0..4 {
-        let global = made(other.new_global_ref(array))?;
+        let global = made(env.new_global_ref(array))?;
         words.push(global)?;
-        other.delete_global_ref(global)?;
+        env.delete_global_ref(global)?;
     }
-    let ints = other.get_array_elements(alloc, array)?;
+    let ints = env.get_array_elements(alloc, array)?;
     Ok(Given {
         base: Handle::NULL,
-        other,
-        array,
         ints: Some(ints),
     })
+}
+
+/// The same, by the env of a room that is made for it.
+fn given_by_another(alloc: Global, words: &mut Vec<Handle>) -> Result<Given, Fail> {
+    let mut other = plain_env(alloc, OTHER)?;
+    copied_in(alloc, &mut other, words)
 }
 
 /// A reference stands, and is one of the words.
@@ -164,11 +168,11 @@ fn fill<S: Steps>(
 }
 
 /// A call of these words is refused as it is to be, or not at all.
-fn is_answered<S: Steps, U: Steps + Drop>(
+fn is_answered<S: Steps>(
     rt: &impl Abort,
     alloc: Global,
     env: &mut Env<S>,
-    given: &mut Given<U>,
+    given: &mut Given,
     known: &Known,
     call: Call,
     words: [Handle; 2],
@@ -182,11 +186,11 @@ fn is_answered<S: Steps, U: Steps + Drop>(
 }
 
 /// Each of these calls of a word is.
-fn is_answered_by<S: Steps, U: Steps + Drop>(
+fn is_answered_by<S: Steps>(
     rt: &impl Abort,
     alloc: Global,
     env: &mut Env<S>,
-    given: &mut Given<U>,
+    given: &mut Given,
     known: &Known,
     calls: &[Call],
     word: Handle,
@@ -199,11 +203,11 @@ fn is_answered_by<S: Steps, U: Steps + Drop>(
 }
 
 /// Each of these calls of each word is.
-fn are_answered_by<S: Steps, U: Steps + Drop>(
+fn are_answered_by<S: Steps>(
     rt: &impl Abort,
     alloc: Global,
     env: &mut Env<S>,
-    given: &mut Given<U>,
+    given: &mut Given,
     known: &Known,
     calls: &[Call],
     words: &[Handle],
@@ -215,11 +219,11 @@ fn are_answered_by<S: Steps, U: Steps + Drop>(
 }
 
 /// Each call of two references is, where the word is the first and where it is the second.
-fn is_answered_beside<S: Steps, U: Steps + Drop>(
+fn is_answered_beside<S: Steps>(
     rt: &impl Abort,
     alloc: Global,
     env: &mut Env<S>,
-    given: &mut Given<U>,
+    given: &mut Given,
     known: &Known,
     word: Handle,
     others: &[Handle],
@@ -235,11 +239,11 @@ fn is_answered_beside<S: Steps, U: Steps + Drop>(
 }
 
 /// Each call of two references is, of each word beside each of the others.
-fn are_answered_beside<S: Steps, U: Steps + Drop>(
+fn are_answered_beside<S: Steps>(
     rt: &impl Abort,
     alloc: Global,
     env: &mut Env<S>,
-    given: &mut Given<U>,
+    given: &mut Given,
     known: &Known,
     words: &[Handle],
     others: &[Handle],
@@ -251,11 +255,11 @@ fn are_answered_beside<S: Steps, U: Steps + Drop>(
 }
 
 /// Each word is deleted as a global, a weak global and a local reference: what stands by the call for its kind alone.
-fn are_deleted<S: Steps, U: Steps + Drop>(
+fn are_deleted<S: Steps>(
     rt: &impl Abort,
     alloc: Global,
     env: &mut Env<S>,
-    given: &mut Given<U>,
+    given: &mut Given,
     known: &mut Known,
     words: &[Handle],
 ) -> Result<(), Fail> {
@@ -268,61 +272,51 @@ fn are_deleted<S: Steps, U: Steps + Drop>(
 }
 
 /// Each call of each word, in a room where nothing was made. The last call of all makes an array.
-fn in_an_empty_room<S: Steps, U: Steps + Drop>(
+fn in_an_empty_room<S: Steps>(
     rt: &impl Abort,
     alloc: Global,
     env: &mut Env<S>,
-    other: Env<U>,
+    given: &mut Given,
+    words: &mut Vec<Handle>,
 ) -> Result<(), Fail> {
-    let mut words = Vec::new(alloc);
-    let mut given = given_by(alloc, other, &mut words)?;
     words.extend_from_slice(&WORDS)?;
     let mut known = Known::of_nothing(alloc, SIZES);
     let others = words.clone()?;
-    add_bits(&mut words)?;
-    are_answered_beside(rt, alloc, env, &mut given, &known, &words, &others)?;
-    are_deleted(rt, alloc, env, &mut given, &mut known, &words)?;
-    are_answered_by(rt, alloc, env, &mut given, &known, &CALLS, &words)?;
-    are_answered_by(
-        rt,
-        alloc,
-        env,
-        &mut given,
-        &known,
-        &DELETIONS,
-        &[Handle::NULL],
-    )?;
-    is_answered_beside(rt, alloc, env, &mut given, &known, Handle::NULL, &words)?;
-    are_answered_by(rt, alloc, env, &mut given, &known, &CALLS, &[Handle::NULL])
+    add_bits(words)?;
+    are_answered_beside(rt, alloc, env, given, &known, words, &others)?;
+    are_deleted(rt, alloc, env, given, &mut known, words)?;
+    are_answered_by(rt, alloc, env, given, &known, &CALLS, words)?;
+    are_answered_by(rt, alloc, env, given, &known, &DELETIONS, &[Handle::NULL])?;
+    is_answered_beside(rt, alloc, env, given, &known, Handle::NULL, words)?;
+    are_answered_by(rt, alloc, env, given, &known, &CALLS, &[Handle::NULL])
 }
 
 /// Each call of each word, in a room that is full of every kind of object, and once all references of this thread in it are deleted.
-fn in_a_full_room<S: Steps, U: Steps + Drop>(
+fn in_a_full_room<S: Steps>(
     rt: &impl Abort,
     alloc: Global,
     env: &mut Env<S>,
-    other: Env<U>,
+    given: &mut Given,
+    words: &mut Vec<Handle>,
 ) -> Result<(), Fail> {
-    let mut words = Vec::new(alloc);
-    let mut given = given_by(alloc, other, &mut words)?;
     words.extend_from_slice(&WORDS)?;
     words.push(Handle::NULL)?;
     let mut known = Known::of_nothing(alloc, SIZES);
-    given.base = fill(rt, alloc, env, &mut known, &mut words)?;
+    given.base = fill(rt, alloc, env, &mut known, words)?;
     known.is_full = true;
     known.has_frame = true;
     known.array_refused = Some(Fault::LocalsFull);
     env.push_local_frame(0)?;
     let others = words.clone()?;
-    add_bits(&mut words)?;
-    are_answered_by(rt, alloc, env, &mut given, &known, &CALLS, &words)?;
-    are_answered_by(rt, alloc, env, &mut given, &known, &NESTING, &words)?;
-    are_answered_beside(rt, alloc, env, &mut given, &known, &words, &others)?;
-    are_deleted(rt, alloc, env, &mut given, &mut known, &words)?;
+    add_bits(words)?;
+    are_answered_by(rt, alloc, env, given, &known, &CALLS, words)?;
+    are_answered_by(rt, alloc, env, given, &known, &NESTING, words)?;
+    are_answered_beside(rt, alloc, env, given, &known, words, &others)?;
+    are_deleted(rt, alloc, env, given, &mut known, words)?;
     known.is_full = false;
     known.array_refused = Some(Fault::ObjectsFull);
-    are_answered_beside(rt, alloc, env, &mut given, &known, &words, &others)?;
-    are_answered_by(rt, alloc, env, &mut given, &known, &CALLS, &words)
+    are_answered_beside(rt, alloc, env, given, &known, words, &others)?;
+    are_answered_by(rt, alloc, env, given, &known, &CALLS, words)
 }
 
 /// A room is closed with the pass of a thread that took no step.
@@ -336,19 +330,20 @@ fn leaves(rt: &impl Abort, room: Room<LAST>, pass: Pass, wanted: Summary)
 }
 
 /// Thread 1 makes an object, with a local reference to it, where the room is to be full. Then thread 0 tries the words.
-fn tries<S: Steps, U: Steps + Drop>(
+fn tries<S: Steps>(
     rt: &impl Abort,
     alloc: Global,
     env: &mut Env<S>,
     foreign: &mut Env<S>,
-    other: Env<U>,
+    given: &mut Given,
+    words: &mut Vec<Handle>,
     is_full: bool,
 ) -> Result<(), Fail> {
     if !is_full {
-        return in_an_empty_room(rt, alloc, env, other);
+        return in_an_empty_room(rt, alloc, env, given, words);
     }
     assert_eq!(rt; foreign.new_plain()?, FOREIGN);
-    in_a_full_room(rt, alloc, env, other)?;
+    in_a_full_room(rt, alloc, env, given, words)?;
     has_type(rt, foreign, FOREIGN, 1)
 }
 
@@ -358,8 +353,17 @@ fn in_a_room(rt: &impl Abort, alloc: Global, is_full: bool, left: Summary) -> Re
     let closing = next_pass(&room, &mut passes)?;
     let mut foreign = next_env(&room, &mut passes)?;
     let mut env = next_env(&room, &mut passes)?;
-    let other = plain_env(alloc, OTHER)?;
-    tries(rt, alloc, &mut env, &mut foreign, other, is_full)?;
+    let mut words = Vec::new(alloc);
+    let mut given = given_by_another(alloc, &mut words)?;
+    tries(
+        rt,
+        alloc,
+        &mut env,
+        &mut foreign,
+        &mut given,
+        &mut words,
+        is_full,
+    )?;
     let _env = env.into_pass().into_pass();
     let _foreign = foreign.into_pass().into_pass();
     leaves(rt, room, closing, left);
