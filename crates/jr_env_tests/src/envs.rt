@@ -37,8 +37,11 @@ pub(crate) fn plain_env(alloc: Global, config: Config) -> Result<Env<PlainSteps<
 /// What is missing where the passes are at their end.
 pub(crate) type NoPass = &'static str;
 
-/// The last of the passes.
-pub(crate) fn next_pass(_room: &Room<LAST>, passes: &mut Vec<Pass>) -> Result<Pass, NoPass>
+/// The last of the passes of a room, whatever its last serial.
+pub(crate) fn next_pass<const SERIAL: u32>(
+    _room: &Room<SERIAL>,
+    passes: &mut Vec<Pass>,
+) -> Result<Pass, NoPass>
     requires { All (λ p. IsOpened _room.now.row p) passes.old.items }
     ensures others { All (λ p. IsOpened _room.now.row p) passes.new.items }
     ensures pass { IfOk result (λ p. IsOpened _room.now.row p) }
@@ -63,10 +66,10 @@ pub(crate) fn next_steps<'a>(
 }
 
 /// The env over the last of the passes.
-pub(crate) fn next_env<'a>(
-    room: &'a Room<LAST>,
+pub(crate) fn next_env<'a, const SERIAL: u32>(
+    room: &'a Room<SERIAL>,
     passes: &mut Vec<Pass>,
-) -> Result<Env<RoomSteps<'a, LAST>>, NoPass>
+) -> Result<Env<RoomSteps<'a, SERIAL>>, NoPass>
     requires { All (λ p. IsOpened room.now.row p) passes.old.items }
     ensures { All (λ p. IsOpened room.now.row p) passes.new.items }
 {

@@ -1,10 +1,8 @@
 //! Threads that fight for the last serials of two slots.
-ghost use Rattle.std.specs.Prelude.{All, IfOk};
-ghost use Rattle.jr_rule.specs.Passes.{IsOpened};
 
-use crate::envs::{has_type, opened_env};
+use crate::envs::{has_type, next_env};
 use jr_env::Env;
-use jr_rule::{Pass, Room, RoomSteps};
+use jr_rule::Room;
 use jr_steps::{Role, SlotLoad, Steps};
 use jr_word::{Config, Fault, Handle, SlotParts, SlotWord};
 use std::alloc::Global;
@@ -123,27 +121,6 @@ fn is_at_its_end<S: Steps + Drop>(
     }
     let mut steps = env.into_pass();
     are_retired(rt, &mut steps)
-}
-
-/// The last of the passes.
-fn next_pass(_room: &Room<2>, passes: &mut Vec<Pass>) -> Result<Pass, Fail>
-    requires { All (λ p. IsOpened _room.now.row p) passes.old.items }
-    ensures others { All (λ p. IsOpened _room.now.row p) passes.new.items }
-    ensures pass { IfOk result (λ p. IsOpened _room.now.row p) }
-{
-    let Some(pass) = passes.pop() else {
-        return Err("there is no pass for each thread")?;
-    };
-    Ok(pass)
-}
-
-/// The env over the last of the passes.
-fn next_env<'a>(room: &'a Room<2>, passes: &mut Vec<Pass>) -> Result<Env<RoomSteps<'a, 2>>, Fail>
-    requires { All (λ p. IsOpened room.now.row p) passes.old.items }
-    ensures { All (λ p. IsOpened room.now.row p) passes.new.items }
-{
-    let pass = next_pass(room, passes)?;
-    Ok(opened_env(RoomSteps::new(room, pass)))
 }
 
 /// Two threads make and delete references side by side until each has found no slot free.
