@@ -91,15 +91,27 @@ fn given_by_another(alloc: Global, words: &mut Vec<Handle>) -> Result<Given, Fai
     copied_in(alloc, &mut other, words)
 }
 
-/// A reference stands, and is one of the words.
+/// The reference that a call made stands, and is one of the words.
 fn stands(
     known: &mut Known,
     words: &mut Vec<Handle>,
-    word: Handle,
+    answer: Result<Handle, Fault>,
     kind: Option<Kind>,
-) -> Result<(), Fail> {
+) -> Result<Handle, Fail> {
+    let word = answer?;
     words.push(word)?;
-    known.note(word, kind)
+    known.note(word, kind)?;
+    Ok(word)
+}
+
+/// The same of a reference that a call made to an object that was there.
+fn names(
+    known: &mut Known,
+    words: &mut Vec<Handle>,
+    answer: Result<Option<Handle>, Fault>,
+    kind: Kind,
+) -> Result<Handle, Fail> {
+    stands(known, words, Ok(made(answer)?), Some(kind))
 }
 
 /// Makes an object of each kind, with a local reference each.
@@ -108,13 +120,13 @@ fn make_objects<S: Steps>(
     known: &mut Known,
     words: &mut Vec<Handle>,
 ) -> Result<(), Fail> {
-    stands(known, words, env.new_plain()?, Some(Kind::Plain))?;
-    stands(known, words, env.new_array::<bool>(2)?, Some(Kind::Boolean))?;
-    stands(known, words, env.new_array::<i8>(2)?, Some(Kind::Byte))?;
-    stands(known, words, env.new_array::<u16>(2)?, Some(Kind::Char))?;
-    stands(known, words, env.new_array::<i16>(2)?, Some(Kind::Short))?;
-    stands(known, words, env.new_array::<i64>(2)?, Some(Kind::Long))?;
-    stands(known, words, env.new_string(&[7, 8])?, Some(Kind::Text))?;
+    stands(known, words, env.new_plain(), Some(Kind::Plain))?;
+    stands(known, words, env.new_array::<bool>(2), Some(Kind::Boolean))?;
+    stands(known, words, env.new_array::<i8>(2), Some(Kind::Byte))?;
+    stands(known, words, env.new_array::<u16>(2), Some(Kind::Char))?;
+    stands(known, words, env.new_array::<i16>(2), Some(Kind::Short))?;
+    stands(known, words, env.new_array::<i64>(2), Some(Kind::Long))?;
+    stands(known, words, env.new_string(&[7, 8]), Some(Kind::Text))?;
     Ok(())
 }
 
@@ -134,8 +146,32 @@ fn leave_behind<S: Steps>(
     env.delete_local_ref(gone)?;
     words.push(deleted)?;
     words.push(gone)?;
-    stands(known, words, cleared, None)?;
+    stands(known, words, Ok(cleared), None)?;
     collects(rt, alloc, env, [1, 1, 16])
+}
+
+/// Makes references to an array of ints and to one of objects, until no slot and no local place is free.
+fn name_again<S: Steps>(
+    rt: &impl Abort,
+    env: &mut Env<S>,
+    known: &mut Known,
+    words: &mut Vec<Handle>,
+    ints: Handle,
+    objects: Handle,
+) -> Result<(), Fail> {
+    names(known, words, env.new_global_ref(ints), Kind::Int)?;
+    names(
+        known,
+        words,
+        env.new_weak_global_ref(objects),
+        Kind::Objects,
+    )?;
+    let again = names(known, words, env.new_global_ref(objects), Kind::Objects)?;
+    assert!(rt; again == SECOND_GLOBAL);
+    for _ in 0..6 {
+        names(known, words, env.new_local_ref(ints), Kind::Int)?;
+    }
+    Ok(())
 }
 
 /// Makes objects of each kind and references of each, until no slot, no local place, no number and no word is free. The first slot, and the place of a deleted local reference, are given again. An array by which a region can be opened.
@@ -147,23 +183,12 @@ fn fill<S: Steps>(
     words: &mut Vec<Handle>,
 ) -> Result<Handle, Fail> {
     make_objects(env, known, words)?;
-    let ints = env.new_array::<i32>(2)?;
-    stands(known, words, ints, Some(Kind::Int))?;
-    let objects = env.new_object_array(2, Handle::NULL)?;
-    stands(known, words, objects, Some(Kind::Objects))?;
+    let ints = stands(known, words, env.new_array::<i32>(2), Some(Kind::Int))?;
+    let objects = env.new_object_array(2, Handle::NULL);
+    let objects = stands(known, words, objects, Some(Kind::Objects))?;
     leave_behind(rt, alloc, env, known, words)?;
-    stands(known, words, env.new_plain()?, Some(Kind::Plain))?;
-    let global = made(env.new_global_ref(ints))?;
-    stands(known, words, global, Some(Kind::Int))?;
-    let weak = made(env.new_weak_global_ref(objects))?;
-    stands(known, words, weak, Some(Kind::Objects))?;
-    let again = made(env.new_global_ref(objects))?;
-    assert!(rt; again == SECOND_GLOBAL);
-    stands(known, words, again, Some(Kind::Objects))?;
-    for _ in 0..6 {
-        let local = made(env.new_local_ref(ints))?;
-        stands(known, words, local, Some(Kind::Int))?;
-    }
+    stands(known, words, env.new_plain(), Some(Kind::Plain))?;
+    name_again(rt, env, known, words, ints, objects)?;
     Ok(ints)
 }
 
