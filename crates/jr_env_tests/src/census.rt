@@ -11,18 +11,29 @@ use std::alloc::Global;
 use std::process::Abort;
 use std::test::Fail;
 
-/// Makes an array that two local references name and a global one, and a string and a plain object that nothing reaches, of which a cleared weak reference is left.
-fn fill<S: Steps>(alloc: Global, env: &mut Env<S>) -> Result<(), Fail> {
+/// Makes a plain object that a collection drops, of which a cleared weak reference is left.
+fn leave_cleared<S: Steps>(alloc: Global, env: &mut Env<S>) -> Result<(), Fail> {
     let plain = env.new_plain()?;
     made(env.new_weak_global_ref(plain))?;
     env.delete_local_ref(plain)?;
     collected(alloc, env)?;
-    let ints = env.new_array::<i32>(3)?;
-    let pair = env.new_object_array(2, ints)?;
-    made(env.new_global_ref(pair))?;
+    Ok(())
+}
+
+/// Makes a string that nothing reaches.
+fn leave_text<S: Steps>(env: &mut Env<S>) -> Result<(), Fail> {
     let text = env.new_string(&[7; 3])?;
     env.delete_local_ref(text)?;
     Ok(())
+}
+
+/// Makes two arrays, which two local references name and a global one. A string that nothing reaches is left too, and a cleared weak reference.
+fn fill<S: Steps>(alloc: Global, env: &mut Env<S>) -> Result<(), Fail> {
+    leave_cleared(alloc, env)?;
+    let ints = env.new_array::<i32>(3)?;
+    let pair = env.new_object_array(2, ints)?;
+    made(env.new_global_ref(pair))?;
+    leave_text(env)
 }
 
 /// The numbers of slots, of the local references of two threads, and of objects, present and unreached.

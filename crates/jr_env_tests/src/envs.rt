@@ -2,9 +2,11 @@
 ghost use Rattle.std.specs.Prelude.{◌≡◌, true, All, IfOk};
 ghost use Rattle.jr_model.specs.declared.event.Role.TheVariants.{Outside};
 ghost use Rattle.jr_rule.specs.Passes.{IsOpened};
+ghost use Rattle.jr_rule.specs.Rooms.{IsOfRoom};
 ghost use Rattle.jr_steps.specs.Knowing.{Spent};
 
 use jr_env::Env;
+use jr_model::Summary;
 use jr_rule::{Pass, PlainSteps, Room, RoomSteps};
 use jr_steps::Steps;
 use jr_weak::Marker;
@@ -75,6 +77,16 @@ pub(crate) fn next_env<'a, const SERIAL: u32>(
 {
     let pass = next_pass(room, passes)?;
     Ok(opened_env(RoomSteps::new(room, pass)))
+}
+
+/// A room is closed with the pass of a thread that took no step.
+pub(crate) fn leaves(rt: &impl Abort, room: Room<LAST>, pass: Pass, wanted: Summary)
+    requires { IsOfRoom room pass }
+{
+    match room.close(pass) {
+        Ok(found) => assert_eq!(rt; found, wanted),
+        Err(_) => panic!(rt; "a thread is in the room"),
+    }
 }
 
 /// The reference that a call made to an object.

@@ -14,7 +14,7 @@ use std::process::Abort;
 use std::test::Fail;
 
 /// A thread goes in, and its steps are dropped.
-pub(crate) fn drop_inside<S: Steps + Drop>(rt: &impl Abort, mut steps: S)
+fn drop_inside<S: Steps + Drop>(rt: &impl Abort, mut steps: S)
     requires { (S.facts steps).stands.role ≡ Outside }
 {
     assert!(rt; steps.go_in());
@@ -22,7 +22,7 @@ pub(crate) fn drop_inside<S: Steps + Drop>(rt: &impl Abort, mut steps: S)
 }
 
 /// Another thread shuts no gate, and the collection of a third is refused. Its other calls go in.
-pub(crate) fn is_kept_out<S: Steps>(
+fn is_kept_out<S: Steps>(
     rt: &impl Abort,
     alloc: Global,
     other: &mut S,
@@ -37,6 +37,21 @@ pub(crate) fn is_kept_out<S: Steps>(
     let mut marker = Marker::new(alloc, env.held.steps.config())?;
     is_refused(rt, env.collect(&mut marker), Some(Fault::Busy(1)));
     has_type(rt, env, Handle::NULL, 0)
+}
+
+/// A thread whose steps are dropped while it is inside keeps the collections of others out for good.
+pub(crate) fn keeps_out_for_good<S: Steps + Drop>(
+    rt: &impl Abort,
+    alloc: Global,
+    dropped: S,
+    other: &mut S,
+    env: &mut Env<S>,
+) -> Result<(), Fail>
+    requires dropped { (S.facts dropped).stands.role ≡ Outside }
+    requires other { (S.facts other.old).stands.role ≡ Outside }
+{
+    drop_inside(rt, dropped);
+    is_kept_out(rt, alloc, other, env)
 }
 
 #[test]

@@ -4,12 +4,10 @@ ghost use Rattle.jr_model.specs.declared.event.Role.TheVariants.{Outside};
 ghost use Rattle.jr_rule.specs.Rooms.{IsOfRoom};
 
 use crate::census::{has_what_stands, tells_what_stands};
-use crate::collections::announced::{
-    drop_while_announcing, fill, is_barred_by_who_announces, is_barred_for_good,
-};
+use crate::collections::announced::{bars_for_good, is_barred_by_who_announces};
 use crate::envs::{LAST, NoPass, next_env, next_pass, next_steps};
-use crate::left_inside::{drop_inside, is_kept_out};
-use crate::stays::{goes_on_beside_who_announces, keeps_a_collection_out};
+use crate::left_inside::keeps_out_for_good;
+use crate::stays::excludes_collections;
 use jr_env::Env;
 use jr_rule::{Left, Pass, Room};
 use jr_steps::Steps;
@@ -65,19 +63,9 @@ fn shows<S: Steps + Drop>(
         Case::Cancels => {
             is_barred_by_who_announces(rt, alloc, &mut first, &mut second, &mut env, &mut other)
         }
-        Case::DroppedAnnouncing => {
-            let filled = fill(&mut env)?;
-            drop_while_announcing(second)?;
-            is_barred_for_good(rt, alloc, &mut env, filled.kept)
-        }
-        Case::DroppedInside => {
-            drop_inside(rt, second);
-            is_kept_out(rt, alloc, &mut first, &mut env)
-        }
-        Case::Stays => {
-            keeps_a_collection_out(rt, alloc, &mut env, &mut other)?;
-            goes_on_beside_who_announces(rt, &mut first, &mut env, &mut other)
-        }
+        Case::DroppedAnnouncing => bars_for_good(rt, alloc, second, &mut env),
+        Case::DroppedInside => keeps_out_for_good(rt, alloc, second, &mut first, &mut env),
+        Case::Stays => excludes_collections(rt, alloc, &mut first, &mut env, &mut other),
         Case::Census => tells_what_stands(rt, alloc, &mut env),
         Case::Dump => has_what_stands(rt, alloc, &mut env),
     }

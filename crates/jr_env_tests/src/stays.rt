@@ -203,7 +203,7 @@ fn each_call_is_made_in_a_stay(rt: HostRuntime) -> Result<(), Fail> {
 }
 
 /// While a stay stands no other thread collects. What was made in it stands behind it, and then the other collects.
-pub(crate) fn keeps_a_collection_out<S: Steps>(
+fn keeps_a_collection_out<S: Steps>(
     rt: &impl Abort,
     alloc: Global,
     env: &mut Env<S>,
@@ -238,7 +238,7 @@ fn refused_stay<S: Steps>(env: &mut Env<S>) -> Option<Fault> {
 }
 
 /// While a thread announces that it will collect, a stay that stands goes on, and no other is entered; once the announcement is taken back, one is.
-pub(crate) fn goes_on_beside_who_announces<S: Steps>(
+fn goes_on_beside_who_announces<S: Steps>(
     rt: &impl Abort,
     announcer: &mut S,
     env: &mut Env<S>,
@@ -260,6 +260,20 @@ pub(crate) fn goes_on_beside_who_announces<S: Steps>(
         }
         Err(_) => panic!(rt; "nobody keeps the gate closed"),
     }
+}
+
+/// A stay of one thread and the collection of another exclude each other, and so do an announcement and a new stay.
+pub(crate) fn excludes_collections<S: Steps>(
+    rt: &impl Abort,
+    alloc: Global,
+    announcer: &mut S,
+    env: &mut Env<S>,
+    other: &mut Env<S>,
+) -> Result<(), Fail>
+    requires { (S.facts announcer.old).stands.role ≡ Outside }
+{
+    keeps_a_collection_out(rt, alloc, env, other)?;
+    goes_on_beside_who_announces(rt, announcer, env, other)
 }
 
 /// A stay keeps collections out, and an announcement keeps new stays out.

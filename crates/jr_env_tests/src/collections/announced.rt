@@ -24,15 +24,15 @@ const OF_FILLED: Collected = Collected {
 
 /// What a thread has made for a collection.
 #[derive(Clone, Copy, Drop)]
-pub(crate) struct Filled {
+struct Filled {
     /// A global reference to an array of two elements, which stand behind three words of an array that no reference but a weak one names.
-    pub(crate) kept: Handle,
+    kept: Handle,
     /// A weak reference to the other.
     gone_weak: Handle,
 }
 
 /// Makes two arrays, of which no reference but a weak one names the first.
-pub(crate) fn fill<S: Steps>(env: &mut Env<S>) -> Result<Filled, Fail>
+fn fill<S: Steps>(env: &mut Env<S>) -> Result<Filled, Fail>
     ensures { IfOk result (λ _. IsOutside env.new) }
 {
     let gone = env.new_array::<i32>(3)?;
@@ -185,7 +185,7 @@ pub(crate) fn is_barred_by_who_announces<S: Steps>(
 }
 
 /// The steps of a thread are dropped while it announces.
-pub(crate) fn drop_while_announcing<S: Steps + Drop>(steps: S) -> Result<(), Fail>
+fn drop_while_announcing<S: Steps + Drop>(steps: S) -> Result<(), Fail>
     requires { (S.facts steps).stands.role ≡ Outside }
 {
     let mut steps = steps;
@@ -197,7 +197,7 @@ pub(crate) fn drop_while_announcing<S: Steps + Drop>(steps: S) -> Result<(), Fai
 }
 
 /// No call goes in any more, and no collection is made.
-pub(crate) fn is_barred_for_good<S: Steps>(
+fn is_barred_for_good<S: Steps>(
     rt: &impl Abort,
     alloc: Global,
     env: &mut Env<S>,
@@ -210,6 +210,20 @@ pub(crate) fn is_barred_for_good<S: Steps>(
     bars_references(rt, env, word);
     bars_objects(rt, alloc, env, word);
     Ok(())
+}
+
+/// A thread whose steps are dropped while it announces bars the others for good.
+pub(crate) fn bars_for_good<S: Steps + Drop>(
+    rt: &impl Abort,
+    alloc: Global,
+    announcer: S,
+    env: &mut Env<S>,
+) -> Result<(), Fail>
+    requires { (S.facts announcer).stands.role ≡ Outside }
+{
+    let filled = fill(env)?;
+    drop_while_announcing(announcer)?;
+    is_barred_for_good(rt, alloc, env, filled.kept)
 }
 
 /// One thread announces at a time, and from then on no other goes in.

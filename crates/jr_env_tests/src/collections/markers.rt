@@ -3,7 +3,7 @@ use jr_env::Env;
 use jr_env::calls::NewPlain;
 use jr_steps::Steps;
 use jr_weak::Marker;
-use jr_word::{Config, Fault};
+use jr_word::{Config, Fault, Handle};
 use std::alloc::Global;
 use std::process::Abort;
 use std::test::Fail;
@@ -57,6 +57,31 @@ fn fits_no_collection<S: Steps>(rt: &impl Abort, env: &mut Env<S>, marker: &mut 
     );
 }
 
+/// Deletes the reference to an object, which the next collection drops.
+fn drops_one<S: Steps>(
+    rt: &impl Abort,
+    env: &mut Env<S>,
+    marker: &mut Marker,
+    object: Handle,
+) -> Result<(), Fail> {
+    env.delete_local_ref(object)?;
+    let collected = env.collect(marker)?;
+    assert_eq!(rt; collected.dropped, 1);
+    Ok(())
+}
+
+/// Makes an object, which a collection that is announced leaves.
+fn drops_none<S: Steps>(
+    rt: &impl Abort,
+    env: &mut Env<S>,
+    marker: &mut Marker,
+) -> Result<(), Fail> {
+    env.new_plain()?;
+    let collected = env.collect_announced(marker, 3)?;
+    assert_eq!(rt; collected.dropped, 0);
+    Ok(())
+}
+
 /// Each of two envs collects by its own marker, announced or not, and not by the other's.
 fn collect_by_their_own<S: Steps>(
     rt: &impl Abort,
@@ -69,13 +94,8 @@ fn collect_by_their_own<S: Steps>(
     let object = small.new_plain()?;
     fits_no_collection(rt, small, &mut for_large);
     fits_no_collection(rt, large, &mut for_small);
-    small.delete_local_ref(object)?;
-    let collected = small.collect(&mut for_small)?;
-    assert_eq!(rt; collected.dropped, 1);
-    large.new_plain()?;
-    let collected = large.collect_announced(&mut for_large, 3)?;
-    assert_eq!(rt; collected.dropped, 0);
-    Ok(())
+    drops_one(rt, small, &mut for_small, object)?;
+    drops_none(rt, large, &mut for_large)
 }
 
 #[test]

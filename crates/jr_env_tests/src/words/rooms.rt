@@ -1,12 +1,11 @@
 //! The rooms in which each call is made with each word.
-ghost use Rattle.jr_rule.specs.Rooms.{IsOfRoom};
 
-use crate::envs::{LAST, collects, has_type, made, next_env, next_pass, plain_env};
+use crate::envs::{LAST, NoPass, collects, has_type, leaves, made, next_env, next_pass, plain_env};
 use crate::words::calls::{CALLS, Call, DELETIONS, Given, INTS, NESTING, OF_TWO, refused_by};
 use crate::words::known::Known;
 use jr_env::Env;
 use jr_model::Summary;
-use jr_rule::{Pass, Room};
+use jr_rule::Room;
 use jr_steps::Steps;
 use jr_word::{Config, Fault, Handle, Kind};
 use std::alloc::{AllocError, Global};
@@ -296,6 +295,25 @@ fn are_deleted<S: Steps>(
     Ok(())
 }
 
+/// Each call of each word, where nothing was made.
+fn are_answered_by_nothing<S: Steps>(
+    rt: &impl Abort,
+    alloc: Global,
+    env: &mut Env<S>,
+    given: &mut Given,
+    known: &mut Known,
+    words: &[Handle],
+    others: &[Handle],
+) -> Result<(), Fail> {
+    let null = [Handle::NULL];
+    are_answered_beside(rt, alloc, env, given, known, words, others)?;
+    are_deleted(rt, alloc, env, given, known, words)?;
+    are_answered_by(rt, alloc, env, given, known, &CALLS, words)?;
+    are_answered_by(rt, alloc, env, given, known, &DELETIONS, &null)?;
+    is_answered_beside(rt, alloc, env, given, known, Handle::NULL, words)?;
+    are_answered_by(rt, alloc, env, given, known, &CALLS, &null)
+}
+
 /// Each call of each word, in a room where nothing was made. The last call of all makes an array.
 fn in_an_empty_room<S: Steps>(
     rt: &impl Abort,
@@ -308,12 +326,43 @@ fn in_an_empty_room<S: Steps>(
     let mut known = Known::of_nothing(alloc, SIZES);
     let others = words.clone()?;
     add_bits(words)?;
-    are_answered_beside(rt, alloc, env, given, &known, words, &others)?;
-    are_deleted(rt, alloc, env, given, &mut known, words)?;
-    are_answered_by(rt, alloc, env, given, &known, &CALLS, words)?;
-    are_answered_by(rt, alloc, env, given, &known, &DELETIONS, &[Handle::NULL])?;
-    is_answered_beside(rt, alloc, env, given, &known, Handle::NULL, words)?;
-    are_answered_by(rt, alloc, env, given, &known, &CALLS, &[Handle::NULL])
+    are_answered_by_nothing(rt, alloc, env, given, &mut known, words, &others)
+}
+
+/// Each call of each word, where nothing is free and a frame was pushed; then all are deleted.
+fn are_answered_by_all<S: Steps>(
+    rt: &impl Abort,
+    alloc: Global,
+    env: &mut Env<S>,
+    given: &mut Given,
+    known: &mut Known,
+    words: &[Handle],
+    others: &[Handle],
+) -> Result<(), Fail> {
+    env.push_local_frame(0)?;
+    known.is_full = true;
+    known.has_frame = true;
+    known.array_refused = Some(Fault::LocalsFull);
+    are_answered_by(rt, alloc, env, given, known, &CALLS, words)?;
+    are_answered_by(rt, alloc, env, given, known, &NESTING, words)?;
+    are_answered_beside(rt, alloc, env, given, known, words, others)?;
+    are_deleted(rt, alloc, env, given, known, words)
+}
+
+/// Each call of each word, once all are deleted and all objects still stand.
+fn are_answered_later<S: Steps>(
+    rt: &impl Abort,
+    alloc: Global,
+    env: &mut Env<S>,
+    given: &mut Given,
+    known: &mut Known,
+    words: &[Handle],
+    others: &[Handle],
+) -> Result<(), Fail> {
+    known.is_full = false;
+    known.array_refused = Some(Fault::ObjectsFull);
+    are_answered_beside(rt, alloc, env, given, known, words, others)?;
+    are_answered_by(rt, alloc, env, given, known, &CALLS, words)
 }
 
 /// Each call of each word, in a room that is full of every kind of object, and once all references of this thread in it are deleted.
@@ -328,30 +377,10 @@ fn in_a_full_room<S: Steps>(
     words.push(Handle::NULL)?;
     let mut known = Known::of_nothing(alloc, SIZES);
     given.base = fill(rt, alloc, env, &mut known, words)?;
-    known.is_full = true;
-    known.has_frame = true;
-    known.array_refused = Some(Fault::LocalsFull);
-    env.push_local_frame(0)?;
     let others = words.clone()?;
     add_bits(words)?;
-    are_answered_by(rt, alloc, env, given, &known, &CALLS, words)?;
-    are_answered_by(rt, alloc, env, given, &known, &NESTING, words)?;
-    are_answered_beside(rt, alloc, env, given, &known, words, &others)?;
-    are_deleted(rt, alloc, env, given, &mut known, words)?;
-    known.is_full = false;
-    known.array_refused = Some(Fault::ObjectsFull);
-    are_answered_beside(rt, alloc, env, given, &known, words, &others)?;
-    are_answered_by(rt, alloc, env, given, &known, &CALLS, words)
-}
-
-/// A room is closed with the pass of a thread that took no step.
-fn leaves(rt: &impl Abort, room: Room<LAST>, pass: Pass, wanted: Summary)
-    requires { IsOfRoom room pass }
-{
-    match room.close(pass) {
-        Ok(found) => assert_eq!(rt; found, wanted),
-        Err(_) => panic!(rt; "a thread is in the room"),
-    }
+    are_answered_by_all(rt, alloc, env, given, &mut known, words, &others)?;
+    are_answered_later(rt, alloc, env, given, &mut known, words, &others)
 }
 
 /// Thread 1 makes an object, with a local reference to it, where the room is to be full. Then thread 0 tries the words.
@@ -372,25 +401,29 @@ fn tries<S: Steps>(
     has_type(rt, foreign, FOREIGN, 1)
 }
 
+/// The same, where there is a pass for each of the two threads, with words and elements of another room.
+fn tries_all<S: Steps + Drop>(
+    rt: &impl Abort,
+    alloc: Global,
+    env: Result<Env<S>, NoPass>,
+    foreign: Result<Env<S>, NoPass>,
+    is_full: bool,
+) -> Result<(), Fail> {
+    let mut env = env?;
+    let mut foreign = foreign?;
+    let mut words = Vec::new(alloc);
+    let mut given = given_by_another(alloc, &mut words)?;
+    let (env, foreign) = (&mut env, &mut foreign);
+    tries(rt, alloc, env, foreign, &mut given, &mut words, is_full)
+}
+
 /// Tries the words in a room, and checks what is left in it.
 fn in_a_room(rt: &impl Abort, alloc: Global, is_full: bool, left: Summary) -> Result<(), Fail> {
     let (room, mut passes) = Room::<LAST>::open(alloc, SIZES)?;
     let closing = next_pass(&room, &mut passes)?;
-    let mut foreign = next_env(&room, &mut passes)?;
-    let mut env = next_env(&room, &mut passes)?;
-    let mut words = Vec::new(alloc);
-    let mut given = given_by_another(alloc, &mut words)?;
-    tries(
-        rt,
-        alloc,
-        &mut env,
-        &mut foreign,
-        &mut given,
-        &mut words,
-        is_full,
-    )?;
-    let _env = env.into_pass().into_pass();
-    let _foreign = foreign.into_pass().into_pass();
+    let foreign = next_env(&room, &mut passes);
+    let env = next_env(&room, &mut passes);
+    tries_all(rt, alloc, env, foreign, is_full)?;
     leaves(rt, room, closing, left);
     Ok(())
 }
