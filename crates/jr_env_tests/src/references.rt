@@ -201,22 +201,14 @@ fn opened(alloc: Global) -> Result<(Room<LAST>, Pass, Pass), Fail>
     Ok((room, first, second))
 }
 
-/// A global reference that the thread of an env makes.
-fn shared_in<S: Steps>(env: &mut Env<S>) -> Result<Handle, Fail>
-    requires { (S.facts env.old.held.steps).stands.role ≡ Outside }
-    ensures { IfOk result (λ h. (S.facts env.new.held.steps).stands.room ≡ (S.facts env.old.held.steps).stands.room) }
-{
-    let object = env.new_plain()?;
-    made(env.new_global_ref(object))
-}
-
 /// A global reference that the thread of a pass makes, and the pass.
 fn shared_by(room: &Room<LAST>, pass: Pass) -> Result<(Handle, Pass), Fail>
     requires { IsOpened room.now.row pass }
     ensures { IfOk result (λ r. IsAt room.now.row r.1) }
 {
     let mut env = opened_env(RoomSteps::new(room, pass));
-    let shared = shared_in(&mut env)?;
+    let object = env.new_plain()?;
+    let shared = env.new_global_ref(object)?.ok_or("an object")?;
     Ok((shared, env.into_pass().into_pass()))
 }
 
@@ -256,6 +248,15 @@ fn who_meets_another_finds_its_reference(rt: HostRuntime) -> Result<(), Fail> {
     assert_eq!(rt; steps.thread(), 1);
     assert!(rt; !steps.fresh());
     Ok(())
+}
+
+/// A global reference that the thread of an env makes.
+fn shared_in<S: Steps>(env: &mut Env<S>) -> Result<Handle, Fail>
+    requires { (S.facts env.old.held.steps).stands.role ≡ Outside }
+    ensures { IfOk result (λ h. (S.facts env.new.held.steps).stands.room ≡ (S.facts env.old.held.steps).stands.room) }
+{
+    let object = env.new_plain()?;
+    made(env.new_global_ref(object))
 }
 
 /// Both threads find what the reference names, each by a local reference of its own; then the second makes its next global one.
