@@ -1,46 +1,78 @@
 //! Calls that are made again, and one behind a collection, over plain words.
 
-use crate::envs::{is_refused, plain_env};
+use crate::envs::is_refused;
+use crate::plain::{Case, try_plain};
 use jr_env::Env;
 use jr_env::calls::{DeleteLocalRef, NewArray, SetArrayRegion};
 use jr_steps::Steps;
 use jr_weak::Marker;
 use jr_word::{Config, Fault, Handle};
 use std::alloc::Global;
+use std::process::Abort;
 use std::test::Fail;
 
-/// An array of so many numbers, behind a collection where no room is left: what that answers. A reference is deleted before, and a marker is made.
+/// Checks the two numbers of an array.
+fn has_ints<S: Steps>(
+    rt: &impl Abort,
+    env: &mut Env<S>,
+    array: Handle,
+    wanted: [i32; 2],
+) -> Result<(), Fail> {
+    let mut numbers = [5, 5];
+    env.get_array_region(array, 0, &mut numbers)?;
+    assert_eq!(rt; numbers, wanted);
+    Ok(())
+}
+
+/// What a new array of so many numbers answers, behind a collection where no room is left. The marker is made for it.
 fn array_behind<S: Steps>(
     alloc: Global,
     env: &mut Env<S>,
-    dropped: Handle,
     length: u32,
 ) -> Result<Result<Handle, Fault>, Fault> {
-    env.retry(&DeleteLocalRef(dropped), 3)?;
     let mut marker = Marker::new(alloc, env.held.steps.config())?;
     Ok(env.retry_collecting(&mut marker, &NewArray::<i32>::of(length), 3))
 }
 
+/// A room of two objects and four words.
+const FEW: Config = Config {
+    objects: 2,
+    words: 4,
+    ..Config::LEAST
+};
+
+/// An array that leaves too few words for another. The reference to it is deleted.
+fn fill<S: Steps>(rt: &impl Abort, env: &mut Env<S>) -> Result<(), Fail> {
+    let first = env.retry(&NewArray::<i32>::of(3), 0)?;
+    let full = env.retry(&NewArray::<i32>::of(2), 3);
+    is_refused(rt, full, Some(Fault::SpaceFull(3)));
+    env.retry(&DeleteLocalRef(first), 3)?;
+    Ok(())
+}
+
+/// An array is written, and the reference to it deleted.
+fn write<S: Steps>(rt: &impl Abort, env: &mut Env<S>, array: Handle) -> Result<(), Fail> {
+    env.retry(&SetArrayRegion(array, 1, &[7]), 0)?;
+    has_ints(rt, env, array, [0, 7])?;
+    env.retry(&DeleteLocalRef(array), 3)?;
+    Ok(())
+}
+
+/// An array is made where there is room, and behind a collection where there is none, or not at all.
+pub(crate) fn is_made_behind<S: Steps>(
+    rt: &impl Abort,
+    alloc: Global,
+    env: &mut Env<S>,
+) -> Result<(), Fail> {
+    fill(rt, env)?;
+    let second = array_behind(alloc, env, 2)??;
+    write(rt, env, second)?;
+    let third = array_behind(alloc, env, 5)?;
+    is_refused(rt, third, Some(Fault::SpaceFull(0)));
+    Ok(())
+}
+
 #[test]
 fn an_array_is_made_behind_a_collection(rt: HostRuntime) -> Result<(), Fail> {
-    let config = Config {
-        objects: 2,
-        words: 4,
-        ..Config::LEAST
-    };
-    let mut env = plain_env(rt.alloc(), config)?;
-    let first = env.retry(&NewArray::<i32>::of(3), 0)?;
-    is_refused(
-        &rt,
-        env.retry(&NewArray::<i32>::of(2), 3),
-        Some(Fault::SpaceFull(3)),
-    );
-    let second = array_behind(rt.alloc(), &mut env, first, 2)??;
-    env.retry(&SetArrayRegion(second, 1, &[7]), 0)?;
-    let mut numbers = [5, 5];
-    env.get_array_region(second, 0, &mut numbers)?;
-    assert_eq!(rt; numbers, [0, 7]);
-    let third = array_behind(rt.alloc(), &mut env, second, 5)?;
-    is_refused(&rt, third, Some(Fault::SpaceFull(0)));
-    Ok(())
+    try_plain(&rt, rt.alloc(), FEW, Case::Again)
 }

@@ -1,42 +1,45 @@
 //! A census and a dump of a room: what they tell, and that they leave all as it is.
-use crate::envs::{LAST, collected, made, next_env};
+
+use crate::envs::{collected, made};
+use crate::shared::{Case, in_a_room};
+use jr::Census;
 use jr_env::Env;
-use jr_rule::Room;
 use jr_steps::Steps;
 use jr_weak::Marker;
-use jr_word::{Config, Fault, SlotParts};
+use jr_word::{HeaderParts, SlotParts};
 use std::alloc::Global;
+use std::process::Abort;
 use std::test::Fail;
 
-/// The sizes of the room.
-const SIZES: Config = Config {
-    threads: 2,
-    slots: 4,
-    objects: 8,
-    words: 32,
-    locals: 16,
-};
-
-/// Makes an array that two local references name and a global one, and a string and a plain object that nothing reaches, of which a cleared weak reference is left.
-fn fill<S: Steps>(alloc: Global, env: &mut Env<S>) -> Result<(), Fail> {
+/// Makes a plain object that a collection drops, of which a cleared weak reference is left.
+fn leave_cleared<S: Steps>(alloc: Global, env: &mut Env<S>) -> Result<(), Fail> {
     let plain = env.new_plain()?;
     made(env.new_weak_global_ref(plain))?;
     env.delete_local_ref(plain)?;
     collected(alloc, env)?;
-    let ints = env.new_array::<i32>(3)?;
-    let pair = env.new_object_array(2, ints)?;
-    made(env.new_global_ref(pair))?;
-    let text = env.new_string(&[7u16; 5])?;
+    Ok(())
+}
+
+/// Makes a string that nothing reaches.
+fn leave_text<S: Steps>(env: &mut Env<S>) -> Result<(), Fail> {
+    let text = env.new_string(&[7; 3])?;
     env.delete_local_ref(text)?;
     Ok(())
 }
 
-/// The numbers of slots, of the thread's local references, and of objects, present and unreached.
-fn numbers<S: Steps>(alloc: Global, env: &mut Env<S>) -> Result<[u32; 12], Fault> {
-    let mut marker = Marker::new(alloc, env.held.steps.config())?;
-    let census = env.census(&mut marker)?;
-    let (slots, all, left) = (census.slots, census.objects, census.unreached);
-    Ok([
+/// Makes two arrays, which two local references name and a global one. A string that nothing reaches is left too, and a cleared weak reference.
+fn fill<S: Steps>(alloc: Global, env: &mut Env<S>) -> Result<(), Fail> {
+    leave_cleared(alloc, env)?;
+    let ints = env.new_array::<i32>(3)?;
+    let pair = env.new_object_array(2, ints)?;
+    made(env.new_global_ref(pair))?;
+    leave_text(env)
+}
+
+/// The numbers of slots, of the local references of two threads, and of objects, present and unreached.
+fn numbers(census: &Census) -> [u32; 12] {
+    let (slots, all, left) = (&census.slots, &census.objects, &census.unreached);
+    [
         slots.globals,
         slots.weaks,
         slots.cleared,
@@ -49,34 +52,79 @@ fn numbers<S: Steps>(alloc: Global, env: &mut Env<S>) -> Result<[u32; 12], Fault
         left.live,
         left.words,
         left.kinds.objects,
-    ])
+    ]
+}
+
+/// Checks the numbers of a census.
+fn is_counted<S: Steps>(
+    rt: &impl Abort,
+    env: &mut Env<S>,
+    marker: &mut Marker,
+    wanted: [u32; 12],
+) -> Result<(), Fail> {
+    let census = env.census(marker)?;
+    assert_eq!(rt; numbers(&census), wanted);
+    Ok(())
+}
+
+/// A census by thread 1, which has made all that stands, and another by the same marker.
+pub(crate) fn tells_what_stands<S: Steps>(
+    rt: &impl Abort,
+    alloc: Global,
+    env: &mut Env<S>,
+) -> Result<(), Fail> {
+    fill(alloc, env)?;
+    let mut marker = Marker::new(alloc, env.held.steps.config())?;
+    let wanted = [1, 1, 1, 0, 0, 2, 3, 8, 1, 1, 3, 0];
+    is_counted(rt, env, &mut marker, wanted)?;
+    is_counted(rt, env, &mut marker, wanted)
 }
 
 #[test]
 fn a_census_tells_what_stands(rt: HostRuntime) -> Result<(), Fail> {
-    let (room, mut passes) = Room::<LAST>::open(rt.alloc(), SIZES)?;
-    let mut env = next_env(&room, &mut passes)?;
-    fill(rt.alloc(), &mut env)?;
-    let wanted = [1, 1, 1, 0, 0, 2, 3, 10, 1, 1, 5, 0];
-    assert_eq!(rt; numbers(rt.alloc(), &mut env)?, wanted);
-    assert_eq!(rt; numbers(rt.alloc(), &mut env)?, wanted);
+    in_a_room(&rt, rt.alloc(), Case::Census)
+}
+
+/// Of two slots the first has a cleared weak reference, and the second a global one.
+fn have_references(rt: &impl Abort, slots: &[SlotParts; 4]) {
+    let is_cleared = matches!(slots[0], SlotParts::Weak { object: None, .. });
+    let is_global = matches!(slots[1], SlotParts::Global { .. });
+    assert!(rt; is_cleared);
+    assert!(rt; is_global);
+}
+
+/// Three of four numbers are those of objects.
+fn has_three(rt: &impl Abort, headers: &[Option<HeaderParts>; 4]) {
+    let mut count = 0u32;
+    for header in headers {
+        if header.is_some() {
+            count = count.saturating_add(1);
+        }
+    }
+    assert_eq!(rt; count, 3);
+}
+
+/// A dump of a room of four slots, four objects and eight words.
+pub(crate) fn has_what_stands<S: Steps>(
+    rt: &impl Abort,
+    alloc: Global,
+    env: &mut Env<S>,
+) -> Result<(), Fail> {
+    fill(alloc, env)?;
+    let config = env.held.steps.config();
+    if config.slots != 4 || config.objects != 4 || config.words != 8 {
+        return Err("the room has other sizes")?;
+    }
+    let mut slots = [SlotParts::Free { serial: 0 }; 4];
+    let mut headers = [None; 4];
+    let mut words = [0u64; 8];
+    env.dump(&mut slots, &mut headers, &mut words)?;
+    have_references(rt, &slots);
+    has_three(rt, &headers);
     Ok(())
 }
 
 #[test]
 fn a_dump_has_each_reference_and_object(rt: HostRuntime) -> Result<(), Fail> {
-    let (room, mut passes) = Room::<LAST>::open(rt.alloc(), SIZES)?;
-    let mut env = next_env(&room, &mut passes)?;
-    fill(rt.alloc(), &mut env)?;
-    let config = env.held.steps.config();
-    let mut slots = vec![in rt.alloc(); SlotParts::Free { serial: 0 }; config.slots as usize]?;
-    let mut headers = vec![in rt.alloc(); None; config.objects as usize]?;
-    let mut words = vec![in rt.alloc(); 0u64; config.words as usize]?;
-    env.dump(&mut slots, &mut headers, &mut words)?;
-    let is_cleared = matches!(slots.get(0), Some(SlotParts::Weak { object: None, .. }));
-    let is_global = matches!(slots.get(1), Some(SlotParts::Global { .. }));
-    assert!(rt; is_cleared);
-    assert!(rt; is_global);
-    assert_eq!(rt; headers.iter().flatten().count(), 3);
-    Ok(())
+    in_a_room(&rt, rt.alloc(), Case::Dump)
 }

@@ -2,9 +2,11 @@
 ghost use Rattle.std.specs.Prelude.{◌≡◌, true, All, IfOk};
 ghost use Rattle.jr_model.specs.declared.event.Role.TheVariants.{Outside};
 ghost use Rattle.jr_rule.specs.Passes.{IsOpened};
+ghost use Rattle.jr_rule.specs.Rooms.{IsOfRoom};
 ghost use Rattle.jr_steps.specs.Knowing.{Spent};
 
 use jr_env::Env;
+use jr_model::Summary;
 use jr_rule::{Pass, PlainSteps, Room, RoomSteps};
 use jr_steps::Steps;
 use jr_weak::Marker;
@@ -37,8 +39,11 @@ pub(crate) fn plain_env(alloc: Global, config: Config) -> Result<Env<PlainSteps<
 /// What is missing where the passes are at their end.
 pub(crate) type NoPass = &'static str;
 
-/// The last of the passes.
-pub(crate) fn next_pass(_room: &Room<LAST>, passes: &mut Vec<Pass>) -> Result<Pass, NoPass>
+/// The last of the passes of a room, whatever its last serial.
+pub(crate) fn next_pass<const SERIAL: u32>(
+    _room: &Room<SERIAL>,
+    passes: &mut Vec<Pass>,
+) -> Result<Pass, NoPass>
     requires { All (λ p. IsOpened _room.now.row p) passes.old.items }
     ensures others { All (λ p. IsOpened _room.now.row p) passes.new.items }
     ensures pass { IfOk result (λ p. IsOpened _room.now.row p) }
@@ -63,15 +68,25 @@ pub(crate) fn next_steps<'a>(
 }
 
 /// The env over the last of the passes.
-pub(crate) fn next_env<'a>(
-    room: &'a Room<LAST>,
+pub(crate) fn next_env<'a, const SERIAL: u32>(
+    room: &'a Room<SERIAL>,
     passes: &mut Vec<Pass>,
-) -> Result<Env<RoomSteps<'a, LAST>>, NoPass>
+) -> Result<Env<RoomSteps<'a, SERIAL>>, NoPass>
     requires { All (λ p. IsOpened room.now.row p) passes.old.items }
     ensures { All (λ p. IsOpened room.now.row p) passes.new.items }
 {
     let pass = next_pass(room, passes)?;
     Ok(opened_env(RoomSteps::new(room, pass)))
+}
+
+/// A room is closed with the pass of a thread that took no step.
+pub(crate) fn leaves(rt: &impl Abort, room: Room<LAST>, pass: Pass, wanted: Summary)
+    requires { IsOfRoom room pass }
+{
+    match room.close(pass) {
+        Ok(found) => assert_eq!(rt; found, wanted),
+        Err(_) => panic!(rt; "a thread is in the room"),
+    }
 }
 
 /// The reference that a call made to an object.

@@ -24,6 +24,8 @@ mod references;
 #[cfg(test)]
 mod scopes;
 #[cfg(test)]
+mod shared;
+#[cfg(test)]
 mod slot_threads;
 #[cfg(test)]
 mod stays;

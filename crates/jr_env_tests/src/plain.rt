@@ -1,5 +1,6 @@
 //! What is tried of an env over plain words, in one function that makes the env: one that a test makes itself is dear to prove.
 
+use crate::again::is_made_behind;
 use crate::collections::chains::{reaches_a_chain, reaches_a_cycle};
 use crate::collections::rows::{fills, fills_and_collects};
 use crate::envs::{LAST, has_words, plain_env};
@@ -7,6 +8,7 @@ use crate::frames::frees_all;
 use crate::handles::{place_gives_more, slot_gives_more};
 use crate::references::{are_deleted_by_kind, goes_round};
 use crate::scopes::are_made;
+use crate::stays::goes_on;
 use jr_env::Env;
 use jr_rule::PlainSteps;
 use jr_steps::Steps;
@@ -38,6 +40,10 @@ pub(crate) enum Case {
     Collected,
     /// Calls that are made of others.
     OfOthers,
+    /// Each call in a stay.
+    Stays,
+    /// Calls that are made again.
+    Again,
 }
 
 /// Tries it in an env in which nothing stands.
@@ -58,6 +64,8 @@ fn try_case<S: Steps>(
         Case::Filled => fills(env),
         Case::Collected => fills_and_collects(rt, alloc, env),
         Case::OfOthers => are_made(rt, env),
+        Case::Stays => goes_on(rt, alloc, env),
+        Case::Again => is_made_behind(rt, alloc, env),
     }
 }
 

@@ -162,20 +162,33 @@ fn refused_after_an_env<S: Steps + Drop>(rt: &impl Abort, steps: S) -> Result<S,
     refused(rt, Env::new(env.into_pass()))
 }
 
+/// The one or the other.
+fn refused_later<S: Steps + Drop>(rt: &impl Abort, steps: S, has_env: bool) -> Result<S, Fail>
+    requires { (S.facts steps).stands.role ≡ Outside }
+{
+    if has_env {
+        refused_after_an_env(rt, steps)
+    } else {
+        refused_once_spent(rt, steps)
+    }
+}
+
+/// Checks the words of a row over whose steps no env is made, since they were spent, or had an env before.
+fn leaves(rt: &impl Abort, alloc: Global, has_env: bool, row: &[u64]) -> Result<(), Fail> {
+    let steps = PlainSteps::<LAST>::new(alloc, Config::LEAST)?;
+    let steps = refused_later(rt, steps, has_env)?;
+    has_words(rt, &steps.cells.words, row);
+    Ok(())
+}
+
 #[test]
 fn an_env_is_made_of_a_fresh_pass_alone(rt: HostRuntime) -> Result<(), Fail> {
-    let steps = PlainSteps::<LAST>::new(rt.alloc(), Config::LEAST)?;
-    let steps = refused_once_spent(&rt, steps)?;
-    has_words(&rt, &steps.cells.words, &[0; 20]);
-
-    let steps = PlainSteps::<LAST>::new(rt.alloc(), Config::LEAST)?;
-    let steps = refused_after_an_env(&rt, steps)?;
-    // Its local reference still stands.
     let mut row = [0; 20];
+    leaves(&rt, rt.alloc(), false, &row)?;
+    // Its local reference still stands.
     row[3] = 1;
     row[19] = 1;
-    has_words(&rt, &steps.cells.words, &row);
-    Ok(())
+    leaves(&rt, rt.alloc(), true, &row)
 }
 
 /// A room, and the passes of its two threads.
@@ -199,6 +212,13 @@ fn shared_by(room: &Room<LAST>, pass: Pass) -> Result<(Handle, Pass), Fail>
     Ok((shared, env.into_pass().into_pass()))
 }
 
+/// A thread finds what a reference names: its first local reference is to it.
+fn finds_as_own<S: Steps>(rt: &impl Abort, env: &mut Env<S>, shared: Handle) -> Result<(), Fail> {
+    let own = made(env.new_local_ref(shared))?;
+    assert_eq!(rt; own, OWN);
+    Ok(())
+}
+
 /// The pass of another thread, once an env over a pass has met it.
 fn met_by(
     rt: &impl Abort,
@@ -214,8 +234,7 @@ fn met_by(
     let mut env = opened_env(RoomSteps::new(room, pass));
     let other = env.meet(other);
     assert!(rt; !env.held.steps.fresh());
-    let own = env.new_local_ref(shared)?.ok_or("an object")?;
-    assert_eq!(rt; own, OWN);
+    finds_as_own(rt, &mut env, shared)?;
     Ok(other)
 }
 
@@ -240,18 +259,17 @@ fn shared_in<S: Steps>(env: &mut Env<S>) -> Result<Handle, Fail>
     made(env.new_global_ref(object))
 }
 
-/// Both threads find what the reference names, each by a local reference of its own.
-fn finds<S: Steps, U: Steps>(
+/// Both threads find what the reference names, each by a local reference of its own; then the second makes its next global one.
+fn find<S: Steps, U: Steps>(
     rt: &impl Abort,
     first: &mut Env<S>,
     second: &mut Env<U>,
     shared: Handle,
 ) -> Result<(), Fail> {
-    let own = made(first.new_local_ref(shared))?;
-    assert_eq!(rt; own, OWN);
-    assert!(rt; first.is_same_object(own, shared)?);
+    finds_as_own(rt, first, shared)?;
+    assert!(rt; first.is_same_object(OWN, shared)?);
     assert!(rt; second.is_same_object(FOREIGN, shared)?);
-    Ok(())
+    is_next(rt, second, FOREIGN, Handle(0x4_0000_0002))
 }
 
 /// Two envs in one thread: once the first has met the second, it finds a reference that this one made, by its handle. The second is as it was: its local reference stands, and its next global one follows.
@@ -262,8 +280,7 @@ fn who_meets_another_env_finds_its_reference(rt: HostRuntime) -> Result<(), Fail
     let mut second = opened_env(RoomSteps::new(&room, second));
     let shared = shared_in(&mut second)?;
     first.meet_env(&mut second);
-    finds(&rt, &mut first, &mut second, shared)?;
-    is_next(&rt, &mut second, FOREIGN, Handle(0x4_0000_0002))
+    find(&rt, &mut first, &mut second, shared)
 }
 
 /// Makes a global reference, which has the word.

@@ -24,6 +24,21 @@ fn leaves_its_frame<S: Steps>(rt: &impl Abort, env: &mut Env<S>) -> Result<(), F
     has_type(rt, env, answer?, 0)
 }
 
+/// A region over an array of two elements ends with both its levels.
+fn ends_with_both<S: Steps>(
+    rt: &impl Abort,
+    env: &mut Env<S>,
+    first: Handle,
+    second: Handle,
+) -> Result<(), Fail> {
+    let mut region = env.get_array_critical(first)?;
+    let nested = region.nest_array(second);
+    region.release_all();
+    assert_eq!(rt; nested, Ok(1));
+    assert_eq!(rt; env.get_array_length(first), Ok(2));
+    Ok(())
+}
+
 /// A weak reference becomes a local and a global one, and a region over the array ends with both its levels.
 fn becomes_strong<S: Steps>(rt: &impl Abort, env: &mut Env<S>, array: Handle) -> Result<(), Fail> {
     let weak = made(env.new_weak_global_ref(array))?;
@@ -31,12 +46,7 @@ fn becomes_strong<S: Steps>(rt: &impl Abort, env: &mut Env<S>, array: Handle) ->
     let global = made(env.upgrade_global(weak))?;
     has_type(rt, env, local, 1)?;
     has_type(rt, env, global, 2)?;
-    let mut region = env.get_array_critical(local)?;
-    let nested = region.nest_array(global);
-    region.release_all();
-    assert_eq!(rt; nested, Ok(1));
-    assert_eq!(rt; env.get_array_length(local), Ok(2));
-    Ok(())
+    ends_with_both(rt, env, local, global)
 }
 
 /// Tries these calls.

@@ -1,10 +1,8 @@
 //! Threads that fight for the last serials of two slots.
-ghost use Rattle.std.specs.Prelude.{All, IfOk};
-ghost use Rattle.jr_rule.specs.Passes.{IsOpened};
 
-use crate::envs::{has_type, opened_env};
+use crate::envs::{NoPass, has_type, next_env};
 use jr_env::Env;
-use jr_rule::{Pass, Room, RoomSteps};
+use jr_rule::Room;
 use jr_steps::{Role, SlotLoad, Steps};
 use jr_word::{Config, Fault, Handle, SlotParts, SlotWord};
 use std::alloc::Global;
@@ -57,19 +55,20 @@ fn until_none_is_free<S: Steps>(env: &mut Env<S>) -> Option<[u8; 6]> {
     None
 }
 
-/// Does so in a thread of its own, where one can be started.
+/// Does so in a thread of its own, where there is a pass for it and one can be started.
 fn start<'s, E, S: Steps + Drop + Send + 's>(
     scope: &Scope<'s, E>,
-    mut env: Env<S>,
+    env: Result<Env<S>, NoPass>,
 ) -> Option<JoinHandle<Option<[u8; 6]>>> {
+    let mut env = env.ok()?;
     scope.spawn(move || until_none_is_free(&mut env)).ok()
 }
 
 /// What two threads were given that ran side by side.
 fn both_given<R: Threads + Wait, S: Steps + Drop + Send>(
     rt: &R,
-    first: Env<S>,
-    second: Env<S>,
+    first: Result<Env<S>, NoPass>,
+    second: Result<Env<S>, NoPass>,
 ) -> [Option<Option<[u8; 6]>>; 2] {
     thread::scope(thread::scope_env(), rt, |scope| {
         let first = start(scope, first);
@@ -108,9 +107,10 @@ fn are_retired<S: Steps>(rt: &impl Abort, steps: &mut S) -> Result<(), Fail> {
 /// Once both have found no slot free, a third makes what is left. Then six references were made in all, each handle is of none, and both slots are retired.
 fn is_at_its_end<S: Steps + Drop>(
     rt: &impl Abort,
-    mut env: Env<S>,
+    env: Result<Env<S>, NoPass>,
     given: [Option<Option<[u8; 6]>>; 2],
 ) -> Result<(), Fail> {
+    let mut env = env?;
     let [Some(Some(first)), Some(Some(second))] = given else {
         return Err("a thread was not started, or a call answered otherwise")?;
     };
@@ -125,33 +125,12 @@ fn is_at_its_end<S: Steps + Drop>(
     are_retired(rt, &mut steps)
 }
 
-/// The last of the passes.
-fn next_pass(_room: &Room<2>, passes: &mut Vec<Pass>) -> Result<Pass, Fail>
-    requires { All (λ p. IsOpened _room.now.row p) passes.old.items }
-    ensures others { All (λ p. IsOpened _room.now.row p) passes.new.items }
-    ensures pass { IfOk result (λ p. IsOpened _room.now.row p) }
-{
-    let Some(pass) = passes.pop() else {
-        return Err("there is no pass for each thread")?;
-    };
-    Ok(pass)
-}
-
-/// The env over the last of the passes.
-fn next_env<'a>(room: &'a Room<2>, passes: &mut Vec<Pass>) -> Result<Env<RoomSteps<'a, 2>>, Fail>
-    requires { All (λ p. IsOpened room.now.row p) passes.old.items }
-    ensures { All (λ p. IsOpened room.now.row p) passes.new.items }
-{
-    let pass = next_pass(room, passes)?;
-    Ok(opened_env(RoomSteps::new(room, pass)))
-}
-
 /// Two threads make and delete references side by side until each has found no slot free.
 fn fight<R: Threads + Wait + Abort>(rt: &R, alloc: Global) -> Result<(), Fail> {
     let (room, mut passes) = Room::<2>::open(alloc, SIZES)?;
-    let first = next_env(&room, &mut passes)?;
-    let second = next_env(&room, &mut passes)?;
-    let third = next_env(&room, &mut passes)?;
+    let first = next_env(&room, &mut passes);
+    let second = next_env(&room, &mut passes);
+    let third = next_env(&room, &mut passes);
     let given = both_given(rt, first, second);
     is_at_its_end(rt, third, given)
 }

@@ -1,14 +1,14 @@
 //! Stays that go on from call to call: each call once in one, what a refusal leaves, and what a stay keeps out and is kept out by.
-ghost use Rattle.std.specs.Prelude.{◌≡◌, IfOk};
+ghost use Rattle.std.specs.Prelude.{◌≡◌};
 ghost use Rattle.jr_model.specs.declared.event.Role.TheVariants.{Outside};
 
-use crate::envs::{
-    LAST, NoPass, collected, collects, has_type, is_refused, made, next_env, next_steps,
-};
+use crate::envs::{collected, collects, has_type, is_refused, made};
+use crate::plain::try_plain;
+use crate::shared::in_a_room;
+use crate::{plain, shared};
 use jr_env::{Env, Stay};
 use jr_gate::announce;
 use jr_model::Mode;
-use jr_rule::Room;
 use jr_steps::Steps;
 use jr_word::{Config, Fault, Handle};
 use std::alloc::Global;
@@ -24,79 +24,126 @@ const SIZES: Config = Config {
     locals: 16,
 };
 
+/// The reference that a call made to an object.
+fn one(rt: &impl Abort, answer: Result<Option<Handle>, Fault>) -> Handle {
+    match answer {
+        Ok(Some(handle)) => handle,
+        _ => panic!(rt; "no reference is made"),
+    }
+}
+
+/// The reference to an object that a call made.
+fn new(rt: &impl Abort, answer: Result<Handle, Fault>) -> Handle {
+    one(rt, answer.map(Some))
+}
+
+/// A call is done.
+fn done(rt: &impl Abort, answer: Result<(), Fault>) {
+    assert_eq!(rt; answer, Ok(()));
+}
+
+/// Checks the types of words in a stay, as `has_type` does in an env.
+fn have_types<S: Steps>(rt: &impl Abort, stay: &mut Stay<'_, S>, rows: &[(Handle, u8)]) {
+    for (word, wanted) in rows {
+        assert_eq!(rt; stay.get_object_ref_type(*word), Ok(*wanted));
+    }
+}
+
+/// Two words name one object.
+fn are_same<S: Steps>(rt: &impl Abort, stay: &mut Stay<'_, S>, first: Handle, second: Handle) {
+    assert_eq!(rt; stay.is_same_object(first, second), Ok(true));
+}
+
+/// Checks the length of an array.
+fn has_length<S: Steps>(rt: &impl Abort, stay: &mut Stay<'_, S>, array: Handle, wanted: u32) {
+    assert_eq!(rt; stay.get_array_length(array), Ok(wanted));
+}
+
 /// Makes, compares and deletes references in a stay.
-fn calls_on_references<S: Steps>(
+fn calls_on_references<S: Steps>(rt: &impl Abort, stay: &mut Stay<'_, S>, array: Handle) {
+    let global = one(rt, stay.new_global_ref(array));
+    let weak = one(rt, stay.new_weak_global_ref(global));
+    let local = one(rt, stay.new_local_ref(weak));
+    let strong = one(rt, stay.upgrade_global(weak));
+    let near = one(rt, stay.upgrade_local(weak));
+    have_types(rt, stay, &[(local, 1), (global, 2), (weak, 3)]);
+    are_same(rt, stay, strong, near);
+    done(rt, stay.delete_local_ref(local));
+    done(rt, stay.delete_local_ref(near));
+    done(rt, stay.delete_weak_global_ref(weak));
+    done(rt, stay.delete_global_ref(strong));
+    have_types(rt, stay, &[(strong, 0)]);
+    are_same(rt, stay, array, global);
+}
+
+/// Checks that a string has so many units, and is of another kind than an array.
+fn is_text<S: Steps>(
     rt: &impl Abort,
     stay: &mut Stay<'_, S>,
+    text: Handle,
+    length: u32,
     array: Handle,
-) -> Result<(), Fail> {
-    let global = made(stay.new_global_ref(array))?;
-    let weak = made(stay.new_weak_global_ref(global))?;
-    let local = made(stay.new_local_ref(weak))?;
-    let strong = made(stay.upgrade_global(weak))?;
-    let near = made(stay.upgrade_local(weak))?;
-    assert_eq!(rt; stay.get_object_ref_type(local)?, 1);
-    assert_eq!(rt; stay.get_object_ref_type(global)?, 2);
-    assert_eq!(rt; stay.get_object_ref_type(weak)?, 3);
-    assert!(rt; stay.is_same_object(strong, near)?);
-    stay.delete_local_ref(local)?;
-    stay.delete_local_ref(near)?;
-    stay.delete_weak_global_ref(weak)?;
-    stay.delete_global_ref(strong)?;
-    assert_eq!(rt; stay.get_object_ref_type(strong)?, 0);
-    assert!(rt; stay.is_same_object(array, global)?);
-    Ok(())
+) {
+    assert_eq!(rt; stay.get_string_length(text), Ok(length));
+    let kind = stay.kind_of(text);
+    assert!(rt; kind.is_ok());
+    assert!(rt; kind != stay.kind_of(array));
 }
 
 /// Makes objects in a stay, and looks at them.
-fn calls_on_objects<S: Steps>(rt: &impl Abort, stay: &mut Stay<'_, S>) -> Result<(), Fail> {
-    let plain = stay.new_plain()?;
-    let row = stay.new_object_array(2, plain)?;
-    let text = stay.new_string(&[104, 105, 33])?;
-    assert_eq!(rt; stay.get_array_length(row)?, 2);
-    assert_eq!(rt; stay.get_string_length(text)?, 3);
-    let kind = stay.kind_of(text)?;
-    assert!(rt; kind != stay.kind_of(row)?);
-    stay.set_object_array_element(row, 1, text)?;
-    let second = made(stay.get_object_array_element(row, 1))?;
-    assert!(rt; stay.is_same_object(second, text)?);
-    Ok(())
+fn calls_on_objects<S: Steps>(rt: &impl Abort, stay: &mut Stay<'_, S>) {
+    let plain = new(rt, stay.new_plain());
+    let row = new(rt, stay.new_object_array(2, plain));
+    let text = new(rt, stay.new_string(&[104, 105, 33]));
+    has_length(rt, stay, row, 2);
+    is_text(rt, stay, text, 3, row);
+    done(rt, stay.set_object_array_element(row, 1, text));
+    let second = one(rt, stay.get_object_array_element(row, 1));
+    are_same(rt, stay, second, text);
 }
 
-/// Reads and writes an array of three elements in a stay, and copies it.
-fn calls_on_elements<S: Steps>(
+/// Writes an array of three elements in a stay, and reads two of them.
+fn calls_on_parts<S: Steps>(rt: &impl Abort, stay: &mut Stay<'_, S>, array: Handle) {
+    done(rt, stay.set_array_region(array, 0, &[3, 4, 5]));
+    let mut read = [0, 0];
+    done(rt, stay.get_array_region(array, 1, &mut read));
+    assert_eq!(rt; read, [4, 5]);
+}
+
+/// Copies an array of three elements in a stay, and gives them back.
+fn copies_elements<S: Steps>(
     rt: &impl Abort,
     alloc: Global,
     stay: &mut Stay<'_, S>,
     array: Handle,
 ) -> Result<(), Fail> {
-    stay.set_array_region(array, 0, &[3, 4, 5])?;
-    let mut read = [0, 0];
-    stay.get_array_region(array, 1, &mut read)?;
-    assert_eq!(rt; read, [4, 5]);
     let elements = stay.get_array_elements::<i32>(alloc, array)?;
     assert_eq!(rt; elements.length(), 3);
     let released = stay.release_array_elements(array, elements, Mode::Copy);
     assert!(rt; released.is_ok());
-    let text = stay.new_string(&[104, 105])?;
+    Ok(())
+}
+
+/// Copies the units of a string in a stay.
+fn copies_units<S: Steps>(
+    rt: &impl Abort,
+    alloc: Global,
+    stay: &mut Stay<'_, S>,
+) -> Result<(), Fail> {
+    let text = new(rt, stay.new_string(&[104, 105]));
     let units = stay.get_string_chars(alloc, text)?;
     assert_eq!(rt; units.len(), 2);
     Ok(())
 }
 
-/// Opens a frame before a stay, and pops it in the stay; then all local references are freed there.
-fn calls_on_frames<S: Steps>(
-    rt: &impl Abort,
-    stay: &mut Stay<'_, S>,
-    array: Handle,
-) -> Result<(), Fail> {
-    let kept = made(stay.pop_local_frame(array))?;
-    assert_eq!(rt; stay.get_object_ref_type(array)?, 0);
-    assert_eq!(rt; stay.get_array_length(kept)?, 3);
-    assert_eq!(rt; stay.pop_local_frame(kept), Err(Fault::NoFrame));
-    stay.free_locals()?;
-    assert_eq!(rt; stay.get_object_ref_type(kept)?, 0);
-    Ok(())
+/// Pops a frame in a stay that was opened before it; then all local references are freed there.
+fn calls_on_frames<S: Steps>(rt: &impl Abort, stay: &mut Stay<'_, S>, array: Handle) {
+    let kept = one(rt, stay.pop_local_frame(array));
+    have_types(rt, stay, &[(array, 0)]);
+    has_length(rt, stay, kept, 3);
+    is_refused(rt, stay.pop_local_frame(kept), Some(Fault::NoFrame));
+    done(rt, stay.free_locals());
+    have_types(rt, stay, &[(kept, 0)]);
 }
 
 /// Makes each call once in a stay, the last of which frees all local references.
@@ -106,10 +153,13 @@ fn makes_each_call<S: Steps>(
     stay: &mut Stay<'_, S>,
     array: Handle,
 ) -> Result<(), Fail> {
-    calls_on_references(rt, stay, array)?;
-    calls_on_objects(rt, stay)?;
-    calls_on_elements(rt, alloc, stay, array)?;
-    calls_on_frames(rt, stay, array)
+    calls_on_references(rt, stay, array);
+    calls_on_objects(rt, stay);
+    calls_on_parts(rt, stay, array);
+    copies_elements(rt, alloc, stay, array)?;
+    copies_units(rt, alloc, stay)?;
+    calls_on_frames(rt, stay, array);
+    Ok(())
 }
 
 /// What is refused in a stay, which stands then.
@@ -124,11 +174,15 @@ fn is_refused_in<S: Steps>(rt: &impl Abort, stay: &mut Stay<'_, S>, array: Handl
         Some(Fault::Range),
     );
     is_refused(rt, stay.pop_local_frame(array), Some(Fault::NoFrame));
-    assert_eq!(rt; stay.get_array_length(array), Ok(3));
+    has_length(rt, stay, array, 3);
 }
 
 /// Each call is made once in a stay, in which nothing was refused for good, and behind which the env goes on.
-fn goes_on<S: Steps>(rt: &impl Abort, alloc: Global, env: &mut Env<S>) -> Result<(), Fail> {
+pub(crate) fn goes_on<S: Steps>(
+    rt: &impl Abort,
+    alloc: Global,
+    env: &mut Env<S>,
+) -> Result<(), Fail> {
     let array = env.new_array::<i32>(3)?;
     let mut stay = env.stay()?;
     is_refused_in(rt, &mut stay, array);
@@ -142,33 +196,11 @@ fn goes_on<S: Steps>(rt: &impl Abort, alloc: Global, env: &mut Env<S>) -> Result
     has_type(rt, env, array, 0)
 }
 
-/// The same, where there is a pass.
-fn has_a_pass<S: Steps + Drop>(
-    rt: &impl Abort,
-    alloc: Global,
-    env: Result<Env<S>, NoPass>,
-) -> Result<(), Fail> {
-    let mut env = env?;
-    goes_on(rt, alloc, &mut env)
-}
-
-/// Each call is made in a stay, in a room of one thread.
+/// Each call is made in a stay, by a thread that is alone.
 #[test]
 fn each_call_is_made_in_a_stay(rt: HostRuntime) -> Result<(), Fail> {
-    let alloc = rt.alloc();
-    let (room, mut passes) = Room::<LAST>::open(alloc, SIZES)?;
-    let env = next_env(&room, &mut passes);
-    has_a_pass(&rt, alloc, env)
+    try_plain(&rt, rt.alloc(), SIZES, plain::Case::Stays)
 }
-
-/// A room of three threads.
-const THREE: Config = Config {
-    threads: 3,
-    slots: 4,
-    objects: 4,
-    words: 8,
-    locals: 16,
-};
 
 /// While a stay stands no other thread collects. What was made in it stands behind it, and then the other collects.
 fn keeps_a_collection_out<S: Steps>(
@@ -230,30 +262,22 @@ fn goes_on_beside_who_announces<S: Steps>(
     }
 }
 
-/// Shows both, where there is a pass for each thread.
-fn shares_a_room<S: Steps + Drop>(
+/// A stay of one thread and the collection of another exclude each other, and so do an announcement and a new stay.
+pub(crate) fn excludes_collections<S: Steps>(
     rt: &impl Abort,
     alloc: Global,
-    announcer: Result<S, NoPass>,
-    env: Result<Env<S>, NoPass>,
-    other: Result<Env<S>, NoPass>,
+    announcer: &mut S,
+    env: &mut Env<S>,
+    other: &mut Env<S>,
 ) -> Result<(), Fail>
-    requires { IfOk announcer (λ s. (S.facts s).stands.role ≡ Outside) }
+    requires { (S.facts announcer.old).stands.role ≡ Outside }
 {
-    let mut announcer = announcer?;
-    let mut env = env?;
-    let mut other = other?;
-    keeps_a_collection_out(rt, alloc, &mut env, &mut other)?;
-    goes_on_beside_who_announces(rt, &mut announcer, &mut env, &mut other)
+    keeps_a_collection_out(rt, alloc, env, other)?;
+    goes_on_beside_who_announces(rt, announcer, env, other)
 }
 
 /// A stay keeps collections out, and an announcement keeps new stays out.
 #[test]
 fn stays_and_collections_exclude_each_other(rt: HostRuntime) -> Result<(), Fail> {
-    let alloc = rt.alloc();
-    let (room, mut passes) = Room::<LAST>::open(alloc, THREE)?;
-    let announcer = next_steps(&room, &mut passes);
-    let env = next_env(&room, &mut passes);
-    let other = next_env(&room, &mut passes);
-    shares_a_room(&rt, alloc, announcer, env, other)
+    in_a_room(&rt, rt.alloc(), shared::Case::Stays)
 }

@@ -1,6 +1,9 @@
 //! The ten lines of README.md, by one thread in a room of its own.
-use crate::envs::LAST;
-use jr::{Config, Env, Fault, Handle, Marker, Room, RoomSteps, Steps};
+ghost use Rattle.jr_rule.specs.Passes.{IsOpened};
+
+use crate::envs::{LAST, next_pass};
+use jr::{Collected, Config, Env, Fault, Handle, Marker, Pass, Room, RoomSteps, Steps};
+use std::alloc::Global;
 use std::test::Fail;
 
 /// The sizes of the room.
@@ -12,11 +15,13 @@ const SIZES: Config = Config {
     locals: 16,
 };
 
-#[test]
-fn the_ten_lines_of_the_first_page(rt: HostRuntime) -> Result<(), Fail> {
-    let alloc = rt.alloc();
-    let (room, mut passes) = Room::<LAST>::open(alloc, SIZES)?;
-    let pass = passes.remove(0);
+/// What a collection did, whether the weak reference was cleared by it, and what a deleted one is refused with.
+type Seen = (Collected, bool, Result<u32, Fault>);
+
+/// The lines.
+fn ten_lines(alloc: Global, room: &Room<LAST>, pass: Pass) -> Result<Seen, Fail>
+    requires { IsOpened room.now.row pass }
+{
     let mut env = Env::new(RoomSteps::new(&room, pass)).map_err(|refused| refused.1)?;
     let mut marker = Marker::new(alloc, env.held.steps.config())?;
     let array = env.new_array::<i32>(2)?;
@@ -27,6 +32,14 @@ fn the_ten_lines_of_the_first_page(rt: HostRuntime) -> Result<(), Fail> {
     let cleared = env.is_same_object(weak, Handle::NULL)?;
     env.delete_weak_global_ref(weak)?;
     let stale = env.get_array_length(weak);
+    Ok((collected, cleared, stale))
+}
+
+#[test]
+fn the_ten_lines_of_the_first_page(rt: HostRuntime) -> Result<(), Fail> {
+    let (room, mut passes) = Room::<LAST>::open(rt.alloc(), SIZES)?;
+    let pass = next_pass(&room, &mut passes)?;
+    let (collected, cleared, stale) = ten_lines(rt.alloc(), &room, pass)?;
     assert_eq!(rt; (collected.cleared, collected.dropped), (1, 1));
     assert_eq!(rt; collected.used, 0);
     assert!(rt; cleared);

@@ -2,28 +2,18 @@
 ghost use Rattle.std.specs.Prelude.{◌≡◌, ◌≤◌, IfOk, IfSome};
 ghost use Rattle.jr_model.specs.declared.event.Role.TheVariants.{Outside};
 ghost use Rattle.jr_env.specs.Collections.{FitsRoom};
-ghost use Rattle.jr_rule.specs.Rooms.{IsOfRoom};
 ghost use Rattle.jr_env.specs.Envs.{IsOutside};
 
-use crate::envs::{LAST, NoPass, is_refused, made, next_env, next_pass, next_steps};
+use crate::envs::{is_refused, made};
+use crate::shared::{Case, in_a_room};
 use jr_env::Env;
 use jr_gate::{announce, enter};
-use jr_rule::{Left, Pass, Room};
 use jr_steps::Steps;
 use jr_weak::{Collected, Marker};
-use jr_word::{Config, Fault, Handle};
+use jr_word::{Fault, Handle};
 use std::alloc::Global;
 use std::process::Abort;
 use std::test::Fail;
-
-/// A room of five threads, with few words.
-const FIVE: Config = Config {
-    threads: 5,
-    slots: 4,
-    objects: 4,
-    words: 8,
-    locals: 16,
-};
 
 /// What a collection does with what `fill` makes.
 const OF_FILLED: Collected = Collected {
@@ -162,7 +152,7 @@ fn bars_objects<S: Steps>(rt: &impl Abort, alloc: Global, env: &mut Env<S>, word
 }
 
 /// While a thread announces, first beside one that is inside, and then alone, no other collects, and no call goes in. Once it has taken the announcement back, calls go in and find all as it was, and the other collects, with the marker that was refused.
-fn is_barred_by_who_announces<S: Steps>(
+pub(crate) fn is_barred_by_who_announces<S: Steps>(
     rt: &impl Abort,
     alloc: Global,
     first: &mut S,
@@ -222,81 +212,28 @@ fn is_barred_for_good<S: Steps>(
     Ok(())
 }
 
-/// What becomes of a thread that announces.
-#[derive(Clone, Copy, PartialEq, Eq)]
-enum Announcer {
-    /// It takes its announcement back.
-    Cancels,
-    /// Its pass is dropped.
-    IsDropped,
-}
-
-/// Shows what other threads of the room meet, where there is a pass for each. What may be missing is found here, over any steps, since a test that does it itself is dear to prove.
-fn bars<S: Steps + Drop>(
+/// A thread whose steps are dropped while it announces bars the others for good.
+pub(crate) fn bars_for_good<S: Steps + Drop>(
     rt: &impl Abort,
     alloc: Global,
-    announcer: Announcer,
-    first: Result<S, NoPass>,
-    second: Result<S, NoPass>,
-    env: Result<Env<S>, NoPass>,
-    other: Result<Env<S>, NoPass>,
+    announcer: S,
+    env: &mut Env<S>,
 ) -> Result<(), Fail>
-    requires first { IfOk first (λ s. (S.facts s).stands.role ≡ Outside) }
-    requires second { IfOk second (λ s. (S.facts s).stands.role ≡ Outside) }
+    requires { (S.facts announcer).stands.role ≡ Outside }
 {
-    let mut first = first?;
-    let mut second = second?;
-    let mut env = env?;
-    let mut other = other?;
-    match announcer {
-        Announcer::Cancels => {
-            is_barred_by_who_announces(rt, alloc, &mut first, &mut second, &mut env, &mut other)
-        }
-        Announcer::IsDropped => {
-            let filled = fill(&mut env)?;
-            drop_while_announcing(second)?;
-            is_barred_for_good(rt, alloc, &mut env, filled.kept)
-        }
-    }
-}
-
-/// A room is not closed, since a thread announces: the room and the pass, as they are handed back.
-fn is_left(rt: &impl Abort, room: Room<LAST>, pass: Pass) -> Result<(Room<LAST>, Pass), Fail>
-    requires { IsOfRoom room pass }
-    ensures { IfOk result (λ r. IsOfRoom r.0 r.1) }
-{
-    let Err(left) = room.close(pass) else {
-        return Err("a thread announces")?;
-    };
-    let Left { room, pass, fault } = left;
-    assert_eq!(rt; fault, Fault::LeftInside(1));
-    Ok((room, pass))
-}
-
-/// Shows it in a room. Where the thread announces still, the room is not closed.
-fn announces(rt: &impl Abort, alloc: Global, announcer: Announcer) -> Result<(), Fail> {
-    let (room, mut passes) = Room::<LAST>::open(alloc, FIVE)?;
-    let first = next_steps(&room, &mut passes);
-    let second = next_steps(&room, &mut passes);
-    let other = next_env(&room, &mut passes);
-    let env = next_env(&room, &mut passes);
-    bars(rt, alloc, announcer, first, second, env, other)?;
-    if announcer == Announcer::IsDropped {
-        let pass = next_pass(&room, &mut passes)?;
-        let (room, pass) = is_left(rt, room, pass)?;
-        is_left(rt, room, pass)?;
-    }
-    Ok(())
+    let filled = fill(env)?;
+    drop_while_announcing(announcer)?;
+    is_barred_for_good(rt, alloc, env, filled.kept)
 }
 
 /// One thread announces at a time, and from then on no other goes in.
 #[test]
 fn an_announcement_bars_calls_and_collections(rt: HostRuntime) -> Result<(), Fail> {
-    announces(&rt, rt.alloc(), Announcer::Cancels)
+    in_a_room(&rt, rt.alloc(), Case::Cancels)
 }
 
 /// Where a thread's pass is dropped while it announces, entries are barred for good, and the room is not closed any more: who announced is counted.
 #[test]
 fn a_pass_dropped_while_announcing_bars_all_calls(rt: HostRuntime) -> Result<(), Fail> {
-    announces(&rt, rt.alloc(), Announcer::IsDropped)
+    in_a_room(&rt, rt.alloc(), Case::DroppedAnnouncing)
 }

@@ -3,7 +3,8 @@ use jr_env::Env;
 use jr_env::calls::NewPlain;
 use jr_steps::Steps;
 use jr_weak::Marker;
-use jr_word::{Config, Fault};
+use jr_word::{Config, Fault, Handle};
+use std::alloc::Global;
 use std::process::Abort;
 use std::test::Fail;
 
@@ -56,20 +57,50 @@ fn fits_no_collection<S: Steps>(rt: &impl Abort, env: &mut Env<S>, marker: &mut 
     );
 }
 
+/// Deletes the reference to an object, which the next collection drops.
+fn drops_one<S: Steps>(
+    rt: &impl Abort,
+    env: &mut Env<S>,
+    marker: &mut Marker,
+    object: Handle,
+) -> Result<(), Fail> {
+    env.delete_local_ref(object)?;
+    let collected = env.collect(marker)?;
+    assert_eq!(rt; collected.dropped, 1);
+    Ok(())
+}
+
+/// Makes an object, which a collection that is announced leaves.
+fn drops_none<S: Steps>(
+    rt: &impl Abort,
+    env: &mut Env<S>,
+    marker: &mut Marker,
+) -> Result<(), Fail> {
+    env.new_plain()?;
+    let collected = env.collect_announced(marker, 3)?;
+    assert_eq!(rt; collected.dropped, 0);
+    Ok(())
+}
+
+/// Each of two envs collects by its own marker, announced or not, and not by the other's.
+fn collect_by_their_own<S: Steps>(
+    rt: &impl Abort,
+    alloc: Global,
+    small: &mut Env<S>,
+    large: &mut Env<S>,
+) -> Result<(), Fail> {
+    let mut for_small = small.marker(alloc)?;
+    let mut for_large = large.marker(alloc)?;
+    let object = small.new_plain()?;
+    fits_no_collection(rt, small, &mut for_large);
+    fits_no_collection(rt, large, &mut for_small);
+    drops_one(rt, small, &mut for_small, object)?;
+    drops_none(rt, large, &mut for_large)
+}
+
 #[test]
 fn a_marker_for_another_number_of_objects(rt: HostRuntime) -> Result<(), Fail> {
     let mut small = plain_env(rt.alloc(), room_of(2))?;
     let mut large = plain_env(rt.alloc(), room_of(3))?;
-    let mut for_small = small.marker(rt.alloc())?;
-    let mut for_large = large.marker(rt.alloc())?;
-    let object = small.new_plain()?;
-    fits_no_collection(&rt, &mut small, &mut for_large);
-    fits_no_collection(&rt, &mut large, &mut for_small);
-    small.delete_local_ref(object)?;
-    let collected = small.collect(&mut for_small)?;
-    assert_eq!(rt; collected.dropped, 1);
-    large.new_plain()?;
-    let collected = large.collect_announced(&mut for_large, 3)?;
-    assert_eq!(rt; collected.dropped, 0);
-    Ok(())
+    collect_by_their_own(&rt, rt.alloc(), &mut small, &mut large)
 }

@@ -2,7 +2,7 @@
 ghost use Rattle.std.specs.Prelude.{All};
 ghost use Rattle.jr_rule.specs.Passes.{IsOpened};
 
-use crate::envs::{LAST, collected, next_env};
+use crate::envs::{LAST, NoPass, collected, leaves, next_env, next_pass};
 use jr_env::Env;
 use jr_model::Summary;
 use jr_rule::{Pass, Room};
@@ -258,6 +258,35 @@ impl Job {
     }
 }
 
+/// Checks what a collection leaves: so many arrays of two elements, and each weak reference. How many words are used then.
+fn leaves_arrays<S: Steps>(
+    rt: &impl Abort,
+    alloc: Global,
+    env: &mut Env<S>,
+    arrays: u32,
+) -> Result<u32, Fail> {
+    let [cleared, _, used] = collected(alloc, env)?;
+    assert_eq!(rt; (cleared, used / 2), (0, arrays));
+    Ok(used)
+}
+
+/// The same of a collection by the thread of the last of the passes.
+fn collects_last(
+    rt: &impl Abort,
+    alloc: Global,
+    room: &Room<LAST>,
+    passes: &mut Vec<Pass>,
+    arrays: u32,
+) -> Result<u32, Fail>
+    requires { All (λ p. IsOpened room.now.row p) passes.old.items }
+    ensures { All (λ p. IsOpened room.now.row p) passes.new.items }
+{
+    let mut env = next_env(room, passes)?;
+    let used = leaves_arrays(rt, alloc, &mut env, arrays);
+    let _pass = env.into_pass().into_pass();
+    used
+}
+
 /// Once all have ended, another thread collects, and the room is closed with the last of the passes: so many arrays of two elements stand, and no more.
 fn has_arrays(
     rt: &impl Abort,
@@ -269,33 +298,26 @@ fn has_arrays(
     requires { All (λ p. IsOpened room.row p) passes.items }
 {
     let mut passes = passes;
-    let mut env = next_env(&room, &mut passes)?;
-    let [cleared, _, used] = collected(alloc, &mut env)?;
-    let _pass = env.into_pass().into_pass();
-    assert_eq!(rt; (cleared, used / 2), (0, arrays));
-    let Some(pass) = passes.pop() else {
-        return Err("a thread has no pass")?;
-    };
+    let used = collects_last(rt, alloc, &room, &mut passes, arrays)?;
+    let pass = next_pass(&room, &mut passes)?;
     let summary = Summary {
         globals: 0,
         weaks: 0,
         live: arrays,
         used,
     };
-    match room.close(pass) {
-        Ok(found) => assert_eq!(rt; found, summary),
-        Err(_) => panic!(rt; "a thread is in the room"),
-    }
+    leaves(rt, room, pass, summary);
     Ok(())
 }
 
-/// Does a job in a thread of its own, where one can be started.
+/// Does a job in a thread of its own, where there is a pass for it and one can be started.
 fn start<'s, E, S: Steps + Drop + Send + 's>(
     alloc: Global,
     scope: &Scope<'s, E>,
     job: Job,
-    env: Env<S>,
+    env: Result<Env<S>, NoPass>,
 ) -> Option<JoinHandle<u32>> {
+    let env = env.ok()?;
     scope.spawn(move || job.work(alloc, env)).ok()
 }
 
@@ -304,21 +326,19 @@ fn ended<R: Threads>(rt: &R, thread: Option<JoinHandle<u32>>) -> Option<u32> {
     thread.map(|it| it.join(rt))
 }
 
-/// Five threads do their jobs side by side, each as often as it is to. Then so many arrays stand.
-fn all_do<R: Threads + Wait + Abort>(
+/// How often each of five threads did its job, side by side.
+fn done_by<R: Threads + Wait, S: Steps + Drop + Send>(
     rt: &R,
     alloc: Global,
     jobs: [Job; 5],
-    arrays: u32,
-) -> Result<(), Fail> {
-    let (room, mut passes) = Room::<LAST>::open(alloc, SEVEN)?;
-    let first = next_env(&room, &mut passes)?;
-    let second = next_env(&room, &mut passes)?;
-    let third = next_env(&room, &mut passes)?;
-    let fourth = next_env(&room, &mut passes)?;
-    let fifth = next_env(&room, &mut passes)?;
+    first: Result<Env<S>, NoPass>,
+    second: Result<Env<S>, NoPass>,
+    third: Result<Env<S>, NoPass>,
+    fourth: Result<Env<S>, NoPass>,
+    fifth: Result<Env<S>, NoPass>,
+) -> [Option<u32>; 5] {
     let [one, two, three, four, five] = jobs;
-    let done = thread::scope(thread::scope_env(), rt, |scope| {
+    thread::scope(thread::scope_env(), rt, |scope| {
         let first = start(alloc, scope, one, first);
         let second = start(alloc, scope, two, second);
         let third = start(alloc, scope, three, third);
@@ -331,9 +351,31 @@ fn all_do<R: Threads + Wait + Abort>(
             ended(rt, fourth),
             ended(rt, fifth),
         ]
-    });
-    let wanted = [one, two, three, four, five].map(|job| Some(job.times()));
-    assert_eq!(rt; done, wanted);
+    })
+}
+
+/// Each job was done as often as it was to be.
+fn is_each_done(rt: &impl Abort, jobs: [Job; 5], done: [Option<u32>; 5]) {
+    for at in 0..5 {
+        assert_eq!(rt; done[at], Some(jobs[at].times()));
+    }
+}
+
+/// Five threads do their jobs side by side, each as often as it is to. Then so many arrays stand.
+fn all_do<R: Threads + Wait + Abort>(
+    rt: &R,
+    alloc: Global,
+    jobs: [Job; 5],
+    arrays: u32,
+) -> Result<(), Fail> {
+    let (room, mut passes) = Room::<LAST>::open(alloc, SEVEN)?;
+    let first = next_env(&room, &mut passes);
+    let second = next_env(&room, &mut passes);
+    let third = next_env(&room, &mut passes);
+    let fourth = next_env(&room, &mut passes);
+    let fifth = next_env(&room, &mut passes);
+    let done = done_by(rt, alloc, jobs, first, second, third, fourth, fifth);
+    is_each_done(rt, jobs, done);
     has_arrays(rt, alloc, room, passes, arrays)
 }
 

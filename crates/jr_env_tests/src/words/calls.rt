@@ -1,11 +1,11 @@
 //! Each call that takes a reference, and with what it is refused.
 
-use jr_elements::Elements;
+use jr_elements::{Elements, elements_of};
 use jr_env::{Env, levels_beside};
 use jr_model::Mode;
 use jr_steps::Steps;
 use jr_word::{Fault, Handle, RefKind};
-use std::alloc::Global;
+use std::alloc::{AllocError, Global};
 use std::process::Abort;
 
 /// A call that takes a reference.
@@ -116,25 +116,30 @@ pub(crate) const OF_TWO: [Call; 2] = [
 
 /// What calls are made with beside their words.
 #[derive(Drop)]
-pub(crate) struct Given<U: Steps> {
+pub(crate) struct Given {
     /// An array, by which a region is opened.
     pub(crate) base: Handle,
-    /// The env of another room, with an array of two ints.
-    pub(crate) other: Env<U>,
-    pub(crate) array: Handle,
-    /// Its two ints, copied there.
+    /// Two ints, which were copied in another room.
     pub(crate) ints: Option<Elements<i32>>,
 }
 
 /// What they are.
 pub(crate) const INTS: [i32; 2] = [i32::MIN, 7];
 
+/// The two ints as they were copied, or else such as a copy has them, made of a list.
+fn ints_of(alloc: Global, kept: Option<Elements<i32>>) -> Result<Elements<i32>, AllocError> {
+    match kept {
+        Some(ints) => Ok(ints),
+        None => Ok(elements_of(Vec::from_slice(alloc, &INTS)?)),
+    }
+}
+
 /// With what a call of these words is refused, if it is. What it makes or opens is ended at once, but for an array that it makes.
-pub(crate) fn refused_by<S: Steps, U: Steps + Drop>(
+pub(crate) fn refused_by<S: Steps>(
     rt: &impl Abort,
     alloc: Global,
     env: &mut Env<S>,
-    given: &mut Given<U>,
+    given: &mut Given,
     call: Call,
     words: [Handle; 2],
 ) -> Option<Fault> {
@@ -205,19 +210,16 @@ fn are_kept(rt: &impl Abort, ints: &Elements<i32>) {
     assert!(rt; ints.as_slice() == INTS.as_slice());
 }
 
-/// What a release leaves of the elements is kept. Where nothing is left they are copied anew.
-fn release_refused<S: Steps, U: Steps + Drop>(
+/// What a release leaves of the elements is kept. Where nothing is left, others like them are given in next.
+fn release_refused<S: Steps>(
     rt: &impl Abort,
     alloc: Global,
     env: &mut Env<S>,
-    given: &mut Given<U>,
+    given: &mut Given,
     word: Handle,
     mode: Mode,
 ) -> Option<Fault> {
-    if given.ints.is_none() {
-        given.ints = given.other.get_array_elements(alloc, given.array).ok();
-    }
-    let Some(ints) = given.ints.take() else {
+    let Ok(ints) = ints_of(alloc, given.ints.take()) else {
         return Some(Fault::Memory);
     };
     match env.release_array_elements(word, ints, mode) {

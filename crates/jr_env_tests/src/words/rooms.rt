@@ -1,12 +1,11 @@
 //! The rooms in which each call is made with each word.
-ghost use Rattle.jr_rule.specs.Rooms.{IsOfRoom};
 
-use crate::envs::{LAST, collects, has_type, made, next_env, next_pass, plain_env};
+use crate::envs::{LAST, NoPass, collects, has_type, leaves, made, next_env, next_pass, plain_env};
 use crate::words::calls::{CALLS, Call, DELETIONS, Given, INTS, NESTING, OF_TWO, refused_by};
 use crate::words::known::Known;
 use jr_env::Env;
 use jr_model::Summary;
-use jr_rule::{Pass, Room};
+use jr_rule::Room;
 use jr_steps::Steps;
 use jr_word::{Config, Fault, Handle, Kind};
 use std::alloc::{AllocError, Global};
@@ -65,37 +64,53 @@ fn add_bits(words: &mut Vec<Handle>) -> Result<(), AllocError> {
     Ok(())
 }
 
-/// The env of another room, with an array of two ints that were copied there. The words of references that were made there are added: the serials of two of them no slot here comes to.
-fn given_by<U: Steps + Drop>(
+/// The two ints of an array of another room, copied there. The words of references that were made there are added: the serials of two of them no slot here comes to.
+fn copied_in<S: Steps>(
     alloc: Global,
-    mut other: Env<U>,
+    env: &mut Env<S>,
     words: &mut Vec<Handle>,
-) -> Result<Given<U>, Fail> {
-    let array = other.new_array::<i32>(2)?;
-    other.set_array_region(array, 0, &INTS)?;
+) -> Result<Given, Fail> {
+    let array = env.new_array::<i32>(2)?;
+    env.set_array_region(array, 0, &INTS)?;
     for _ in 0..4 {
-        let global = made(other.new_global_ref(array))?;
+        let global = made(env.new_global_ref(array))?;
         words.push(global)?;
-        other.delete_global_ref(global)?;
+        env.delete_global_ref(global)?;
     }
-    let ints = other.get_array_elements(alloc, array)?;
+    let ints = env.get_array_elements(alloc, array)?;
     Ok(Given {
         base: Handle::NULL,
-        other,
-        array,
         ints: Some(ints),
     })
 }
 
-/// A reference stands, and is one of the words.
+/// The same, by the env of a room that is made for it.
+fn given_by_another(alloc: Global, words: &mut Vec<Handle>) -> Result<Given, Fail> {
+    let mut other = plain_env(alloc, OTHER)?;
+    copied_in(alloc, &mut other, words)
+}
+
+/// The reference that a call made stands, and is one of the words.
 fn stands(
     known: &mut Known,
     words: &mut Vec<Handle>,
-    word: Handle,
+    answer: Result<Handle, Fault>,
     kind: Option<Kind>,
-) -> Result<(), Fail> {
+) -> Result<Handle, Fail> {
+    let word = answer?;
     words.push(word)?;
-    known.note(word, kind)
+    known.note(word, kind)?;
+    Ok(word)
+}
+
+/// The same of a reference that a call made to an object that was there.
+fn names(
+    known: &mut Known,
+    words: &mut Vec<Handle>,
+    answer: Result<Option<Handle>, Fault>,
+    kind: Kind,
+) -> Result<Handle, Fail> {
+    stands(known, words, Ok(made(answer)?), Some(kind))
 }
 
 /// Makes an object of each kind, with a local reference each.
@@ -104,13 +119,13 @@ fn make_objects<S: Steps>(
     known: &mut Known,
     words: &mut Vec<Handle>,
 ) -> Result<(), Fail> {
-    stands(known, words, env.new_plain()?, Some(Kind::Plain))?;
-    stands(known, words, env.new_array::<bool>(2)?, Some(Kind::Boolean))?;
-    stands(known, words, env.new_array::<i8>(2)?, Some(Kind::Byte))?;
-    stands(known, words, env.new_array::<u16>(2)?, Some(Kind::Char))?;
-    stands(known, words, env.new_array::<i16>(2)?, Some(Kind::Short))?;
-    stands(known, words, env.new_array::<i64>(2)?, Some(Kind::Long))?;
-    stands(known, words, env.new_string(&[7, 8])?, Some(Kind::Text))?;
+    stands(known, words, env.new_plain(), Some(Kind::Plain))?;
+    stands(known, words, env.new_array::<bool>(2), Some(Kind::Boolean))?;
+    stands(known, words, env.new_array::<i8>(2), Some(Kind::Byte))?;
+    stands(known, words, env.new_array::<u16>(2), Some(Kind::Char))?;
+    stands(known, words, env.new_array::<i16>(2), Some(Kind::Short))?;
+    stands(known, words, env.new_array::<i64>(2), Some(Kind::Long))?;
+    stands(known, words, env.new_string(&[7, 8]), Some(Kind::Text))?;
     Ok(())
 }
 
@@ -130,8 +145,32 @@ fn leave_behind<S: Steps>(
     env.delete_local_ref(gone)?;
     words.push(deleted)?;
     words.push(gone)?;
-    stands(known, words, cleared, None)?;
+    stands(known, words, Ok(cleared), None)?;
     collects(rt, alloc, env, [1, 1, 16])
+}
+
+/// Makes references to an array of ints and to one of objects, until no slot and no local place is free.
+fn name_again<S: Steps>(
+    rt: &impl Abort,
+    env: &mut Env<S>,
+    known: &mut Known,
+    words: &mut Vec<Handle>,
+    ints: Handle,
+    objects: Handle,
+) -> Result<(), Fail> {
+    names(known, words, env.new_global_ref(ints), Kind::Int)?;
+    names(
+        known,
+        words,
+        env.new_weak_global_ref(objects),
+        Kind::Objects,
+    )?;
+    let again = names(known, words, env.new_global_ref(objects), Kind::Objects)?;
+    assert!(rt; again == SECOND_GLOBAL);
+    for _ in 0..6 {
+        names(known, words, env.new_local_ref(ints), Kind::Int)?;
+    }
+    Ok(())
 }
 
 /// Makes objects of each kind and references of each, until no slot, no local place, no number and no word is free. The first slot, and the place of a deleted local reference, are given again. An array by which a region can be opened.
@@ -143,32 +182,21 @@ fn fill<S: Steps>(
     words: &mut Vec<Handle>,
 ) -> Result<Handle, Fail> {
     make_objects(env, known, words)?;
-    let ints = env.new_array::<i32>(2)?;
-    stands(known, words, ints, Some(Kind::Int))?;
-    let objects = env.new_object_array(2, Handle::NULL)?;
-    stands(known, words, objects, Some(Kind::Objects))?;
+    let ints = stands(known, words, env.new_array::<i32>(2), Some(Kind::Int))?;
+    let objects = env.new_object_array(2, Handle::NULL);
+    let objects = stands(known, words, objects, Some(Kind::Objects))?;
     leave_behind(rt, alloc, env, known, words)?;
-    stands(known, words, env.new_plain()?, Some(Kind::Plain))?;
-    let global = made(env.new_global_ref(ints))?;
-    stands(known, words, global, Some(Kind::Int))?;
-    let weak = made(env.new_weak_global_ref(objects))?;
-    stands(known, words, weak, Some(Kind::Objects))?;
-    let again = made(env.new_global_ref(objects))?;
-    assert!(rt; again == SECOND_GLOBAL);
-    stands(known, words, again, Some(Kind::Objects))?;
-    for _ in 0..6 {
-        let local = made(env.new_local_ref(ints))?;
-        stands(known, words, local, Some(Kind::Int))?;
-    }
+    stands(known, words, env.new_plain(), Some(Kind::Plain))?;
+    name_again(rt, env, known, words, ints, objects)?;
     Ok(ints)
 }
 
 /// A call of these words is refused as it is to be, or not at all.
-fn is_answered<S: Steps, U: Steps + Drop>(
+fn is_answered<S: Steps>(
     rt: &impl Abort,
     alloc: Global,
     env: &mut Env<S>,
-    given: &mut Given<U>,
+    given: &mut Given,
     known: &Known,
     call: Call,
     words: [Handle; 2],
@@ -182,11 +210,11 @@ fn is_answered<S: Steps, U: Steps + Drop>(
 }
 
 /// Each of these calls of a word is.
-fn is_answered_by<S: Steps, U: Steps + Drop>(
+fn is_answered_by<S: Steps>(
     rt: &impl Abort,
     alloc: Global,
     env: &mut Env<S>,
-    given: &mut Given<U>,
+    given: &mut Given,
     known: &Known,
     calls: &[Call],
     word: Handle,
@@ -199,11 +227,11 @@ fn is_answered_by<S: Steps, U: Steps + Drop>(
 }
 
 /// Each of these calls of each word is.
-fn are_answered_by<S: Steps, U: Steps + Drop>(
+fn are_answered_by<S: Steps>(
     rt: &impl Abort,
     alloc: Global,
     env: &mut Env<S>,
-    given: &mut Given<U>,
+    given: &mut Given,
     known: &Known,
     calls: &[Call],
     words: &[Handle],
@@ -215,11 +243,11 @@ fn are_answered_by<S: Steps, U: Steps + Drop>(
 }
 
 /// Each call of two references is, where the word is the first and where it is the second.
-fn is_answered_beside<S: Steps, U: Steps + Drop>(
+fn is_answered_beside<S: Steps>(
     rt: &impl Abort,
     alloc: Global,
     env: &mut Env<S>,
-    given: &mut Given<U>,
+    given: &mut Given,
     known: &Known,
     word: Handle,
     others: &[Handle],
@@ -235,11 +263,11 @@ fn is_answered_beside<S: Steps, U: Steps + Drop>(
 }
 
 /// Each call of two references is, of each word beside each of the others.
-fn are_answered_beside<S: Steps, U: Steps + Drop>(
+fn are_answered_beside<S: Steps>(
     rt: &impl Abort,
     alloc: Global,
     env: &mut Env<S>,
-    given: &mut Given<U>,
+    given: &mut Given,
     known: &Known,
     words: &[Handle],
     others: &[Handle],
@@ -251,11 +279,11 @@ fn are_answered_beside<S: Steps, U: Steps + Drop>(
 }
 
 /// Each word is deleted as a global, a weak global and a local reference: what stands by the call for its kind alone.
-fn are_deleted<S: Steps, U: Steps + Drop>(
+fn are_deleted<S: Steps>(
     rt: &impl Abort,
     alloc: Global,
     env: &mut Env<S>,
-    given: &mut Given<U>,
+    given: &mut Given,
     known: &mut Known,
     words: &[Handle],
 ) -> Result<(), Fail> {
@@ -267,101 +295,135 @@ fn are_deleted<S: Steps, U: Steps + Drop>(
     Ok(())
 }
 
-/// Each call of each word, in a room where nothing was made. The last call of all makes an array.
-fn in_an_empty_room<S: Steps, U: Steps + Drop>(
+/// Each call of each word, where nothing was made.
+fn are_answered_by_nothing<S: Steps>(
     rt: &impl Abort,
     alloc: Global,
     env: &mut Env<S>,
-    other: Env<U>,
+    given: &mut Given,
+    known: &mut Known,
+    words: &[Handle],
+    others: &[Handle],
 ) -> Result<(), Fail> {
-    let mut words = Vec::new(alloc);
-    let mut given = given_by(alloc, other, &mut words)?;
+    let null = [Handle::NULL];
+    are_answered_beside(rt, alloc, env, given, known, words, others)?;
+    are_deleted(rt, alloc, env, given, known, words)?;
+    are_answered_by(rt, alloc, env, given, known, &CALLS, words)?;
+    are_answered_by(rt, alloc, env, given, known, &DELETIONS, &null)?;
+    is_answered_beside(rt, alloc, env, given, known, Handle::NULL, words)?;
+    are_answered_by(rt, alloc, env, given, known, &CALLS, &null)
+}
+
+/// Each call of each word, in a room where nothing was made. The last call of all makes an array.
+fn in_an_empty_room<S: Steps>(
+    rt: &impl Abort,
+    alloc: Global,
+    env: &mut Env<S>,
+    given: &mut Given,
+    words: &mut Vec<Handle>,
+) -> Result<(), Fail> {
     words.extend_from_slice(&WORDS)?;
     let mut known = Known::of_nothing(alloc, SIZES);
     let others = words.clone()?;
-    add_bits(&mut words)?;
-    are_answered_beside(rt, alloc, env, &mut given, &known, &words, &others)?;
-    are_deleted(rt, alloc, env, &mut given, &mut known, &words)?;
-    are_answered_by(rt, alloc, env, &mut given, &known, &CALLS, &words)?;
-    are_answered_by(
-        rt,
-        alloc,
-        env,
-        &mut given,
-        &known,
-        &DELETIONS,
-        &[Handle::NULL],
-    )?;
-    is_answered_beside(rt, alloc, env, &mut given, &known, Handle::NULL, &words)?;
-    are_answered_by(rt, alloc, env, &mut given, &known, &CALLS, &[Handle::NULL])
+    add_bits(words)?;
+    are_answered_by_nothing(rt, alloc, env, given, &mut known, words, &others)
 }
 
-/// Each call of each word, in a room that is full of every kind of object, and once all references of this thread in it are deleted.
-fn in_a_full_room<S: Steps, U: Steps + Drop>(
+/// Each call of each word, where nothing is free and a frame was pushed; then all are deleted.
+fn are_answered_by_all<S: Steps>(
     rt: &impl Abort,
     alloc: Global,
     env: &mut Env<S>,
-    other: Env<U>,
+    given: &mut Given,
+    known: &mut Known,
+    words: &[Handle],
+    others: &[Handle],
 ) -> Result<(), Fail> {
-    let mut words = Vec::new(alloc);
-    let mut given = given_by(alloc, other, &mut words)?;
-    words.extend_from_slice(&WORDS)?;
-    words.push(Handle::NULL)?;
-    let mut known = Known::of_nothing(alloc, SIZES);
-    given.base = fill(rt, alloc, env, &mut known, &mut words)?;
+    env.push_local_frame(0)?;
     known.is_full = true;
     known.has_frame = true;
     known.array_refused = Some(Fault::LocalsFull);
-    env.push_local_frame(0)?;
-    let others = words.clone()?;
-    add_bits(&mut words)?;
-    are_answered_by(rt, alloc, env, &mut given, &known, &CALLS, &words)?;
-    are_answered_by(rt, alloc, env, &mut given, &known, &NESTING, &words)?;
-    are_answered_beside(rt, alloc, env, &mut given, &known, &words, &others)?;
-    are_deleted(rt, alloc, env, &mut given, &mut known, &words)?;
-    known.is_full = false;
-    known.array_refused = Some(Fault::ObjectsFull);
-    are_answered_beside(rt, alloc, env, &mut given, &known, &words, &others)?;
-    are_answered_by(rt, alloc, env, &mut given, &known, &CALLS, &words)
+    are_answered_by(rt, alloc, env, given, known, &CALLS, words)?;
+    are_answered_by(rt, alloc, env, given, known, &NESTING, words)?;
+    are_answered_beside(rt, alloc, env, given, known, words, others)?;
+    are_deleted(rt, alloc, env, given, known, words)
 }
 
-/// A room is closed with the pass of a thread that took no step.
-fn leaves(rt: &impl Abort, room: Room<LAST>, pass: Pass, wanted: Summary)
-    requires { IsOfRoom room pass }
-{
-    match room.close(pass) {
-        Ok(found) => assert_eq!(rt; found, wanted),
-        Err(_) => panic!(rt; "a thread is in the room"),
-    }
+/// Each call of each word, once all are deleted and all objects still stand.
+fn are_answered_later<S: Steps>(
+    rt: &impl Abort,
+    alloc: Global,
+    env: &mut Env<S>,
+    given: &mut Given,
+    known: &mut Known,
+    words: &[Handle],
+    others: &[Handle],
+) -> Result<(), Fail> {
+    known.is_full = false;
+    known.array_refused = Some(Fault::ObjectsFull);
+    are_answered_beside(rt, alloc, env, given, known, words, others)?;
+    are_answered_by(rt, alloc, env, given, known, &CALLS, words)
+}
+
+/// Each call of each word, in a room that is full of every kind of object, and once all references of this thread in it are deleted.
+fn in_a_full_room<S: Steps>(
+    rt: &impl Abort,
+    alloc: Global,
+    env: &mut Env<S>,
+    given: &mut Given,
+    words: &mut Vec<Handle>,
+) -> Result<(), Fail> {
+    words.extend_from_slice(&WORDS)?;
+    words.push(Handle::NULL)?;
+    let mut known = Known::of_nothing(alloc, SIZES);
+    given.base = fill(rt, alloc, env, &mut known, words)?;
+    let others = words.clone()?;
+    add_bits(words)?;
+    are_answered_by_all(rt, alloc, env, given, &mut known, words, &others)?;
+    are_answered_later(rt, alloc, env, given, &mut known, words, &others)
 }
 
 /// Thread 1 makes an object, with a local reference to it, where the room is to be full. Then thread 0 tries the words.
-fn tries<S: Steps, U: Steps + Drop>(
+fn tries<S: Steps>(
     rt: &impl Abort,
     alloc: Global,
     env: &mut Env<S>,
     foreign: &mut Env<S>,
-    other: Env<U>,
+    given: &mut Given,
+    words: &mut Vec<Handle>,
     is_full: bool,
 ) -> Result<(), Fail> {
     if !is_full {
-        return in_an_empty_room(rt, alloc, env, other);
+        return in_an_empty_room(rt, alloc, env, given, words);
     }
     assert_eq!(rt; foreign.new_plain()?, FOREIGN);
-    in_a_full_room(rt, alloc, env, other)?;
+    in_a_full_room(rt, alloc, env, given, words)?;
     has_type(rt, foreign, FOREIGN, 1)
+}
+
+/// The same, where there is a pass for each of the two threads, with words and elements of another room.
+fn tries_all<S: Steps + Drop>(
+    rt: &impl Abort,
+    alloc: Global,
+    env: Result<Env<S>, NoPass>,
+    foreign: Result<Env<S>, NoPass>,
+    is_full: bool,
+) -> Result<(), Fail> {
+    let mut env = env?;
+    let mut foreign = foreign?;
+    let mut words = Vec::new(alloc);
+    let mut given = given_by_another(alloc, &mut words)?;
+    let (env, foreign) = (&mut env, &mut foreign);
+    tries(rt, alloc, env, foreign, &mut given, &mut words, is_full)
 }
 
 /// Tries the words in a room, and checks what is left in it.
 fn in_a_room(rt: &impl Abort, alloc: Global, is_full: bool, left: Summary) -> Result<(), Fail> {
     let (room, mut passes) = Room::<LAST>::open(alloc, SIZES)?;
     let closing = next_pass(&room, &mut passes)?;
-    let mut foreign = next_env(&room, &mut passes)?;
-    let mut env = next_env(&room, &mut passes)?;
-    let other = plain_env(alloc, OTHER)?;
-    tries(rt, alloc, &mut env, &mut foreign, other, is_full)?;
-    let _env = env.into_pass().into_pass();
-    let _foreign = foreign.into_pass().into_pass();
+    let foreign = next_env(&room, &mut passes);
+    let env = next_env(&room, &mut passes);
+    tries_all(rt, alloc, env, foreign, is_full)?;
     leaves(rt, room, closing, left);
     Ok(())
 }
