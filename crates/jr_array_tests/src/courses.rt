@@ -4,11 +4,11 @@ ghost use Rattle.jr_rule.specs.Passes.{IsOpened};
 
 use crate::announced::{answers, is_closed_between, is_moved};
 use crate::envs::{LAST, env_of, leaves, next_env, next_steps};
-use crate::overtaken::{Before, Others, Overtaken, is_overtaken};
+use crate::overtaken::{Before, Others, Overtaken, is_overtaken, with_others};
 use crate::plans::{Neighbour, with_plans};
 use jr_env::Env;
 use jr_model::Summary;
-use jr_rule::{Pass, Room, RoomSteps};
+use jr_rule::{Cells, Pass, Room, RoomSteps, StepsOver};
 use jr_steps::Steps;
 use jr_weak::Collected;
 use jr_word::{Config, Fault};
@@ -55,10 +55,10 @@ fn others<'a>(
 }
 
 /// Shows it over an env in which nothing was done.
-fn shows<S: Steps, U: Steps>(
+fn shows<C: Cells<P>, P: Copy, U: Steps>(
     rt: &impl Abort,
     alloc: Global,
-    env: &mut Env<Overtaken<S, U>>,
+    env: &mut Env<StepsOver<Overtaken<C, U>, P>>,
     shown: Shown,
 ) -> Result<(), Fail> {
     match shown {
@@ -81,7 +81,7 @@ pub(crate) fn overtakes(
     let (room, mut passes) = Room::<LAST>::open(alloc, config)?;
     let others = others(&room, &mut passes, by)?;
     let steps = next_steps(&room, &mut passes)?;
-    let mut env = env_of(Overtaken { steps, others })?;
+    let mut env = env_of(with_others(steps, others))?;
     shows(rt, alloc, &mut env, shown)?;
     drop(env);
     if let Some(summary) = left {

@@ -87,12 +87,12 @@ fn closed(room: Room<LAST>, passes: Vec<Pass>) -> Option<Summary>
 pub(crate) fn leaves(rt: &impl Abort, room: Room<LAST>, passes: Vec<Pass>, wanted: Summary)
     requires { All (λ p. IsOpened room.row p) passes.items }
 {
-    assert_eq!(rt; closed(room, passes), Some(wanted));
+    assert!(rt; closed(room, passes) == Some(wanted));
 }
 
 /// Checks that a call was refused so.
 pub(crate) fn refuses<A: Drop>(rt: &impl Abort, answer: Result<A, Fault>, fault: Fault) {
-    assert_eq!(rt; answer.err(), Some(fault));
+    assert!(rt; answer.err() == Some(fault));
 }
 
 /// Checks that the thread is outside the gate, and that its calls are made.

@@ -15,11 +15,7 @@ use std::process::Abort;
 use std::test::Fail;
 
 /// While another thread collects no region is opened, over an array or a string, and none over what is neither: the gate comes before all. Afterwards they are.
-fn is_barred<S: Steps, T: Steps>(
-    rt: &impl Abort,
-    env: &mut Env<S>,
-    other: &mut T,
-) -> Result<(), Fail> {
+fn is_barred<S: Steps>(rt: &impl Abort, env: &mut Env<S>, other: &mut S) -> Result<(), Fail> {
     let array = env.new_array::<i32>(2)?;
     let string = env.new_string(&[104])?;
     let Role::Outside = other.role() else {
@@ -58,10 +54,10 @@ fn is_kept_waiting<S: Steps>(rt: &impl Abort, steps: &mut S, announced: Announce
 }
 
 /// A region that stands goes on once another thread has announced that it will shut the gate: a level is added, and elements are read and written at both. The gate is not shut before the region has ended, and no other region is opened before it is open again.
-fn goes_on_while_announced<S: Steps, T: Steps>(
+fn goes_on_while_announced<S: Steps>(
     rt: &impl Abort,
     env: &mut Env<S>,
-    other: &mut T,
+    other: &mut S,
 ) -> Result<(), Fail> {
     let array = env.new_array::<i32>(2)?;
     let nested = env.new_array::<i64>(1)?;

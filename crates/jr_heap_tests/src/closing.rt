@@ -37,8 +37,8 @@ fn both_are_back(
         return Err("thread 1 is inside")?;
     };
     let Left { room, pass, fault } = left;
-    assert_eq!(rt; fault, Fault::LeftInside(1));
-    assert_eq!(rt; others.len(), 1);
+    assert!(rt; fault == Fault::LeftInside(1));
+    assert!(rt; others.len() == 1);
     let Some(second) = others.pop() else {
         return Err("the other pass is gone")?;
     };
@@ -57,7 +57,7 @@ fn a_room_of_two_hands_both_passes_back(rt: HostRuntime) -> Result<(), Fail> {
     let second = did(&room, second, Deed::Stand(1, Role::Within))?;
     let second = did(&room, second, Deed::GoOut)?;
     let others = vec![in rt.alloc(); first]?;
-    assert_eq!(rt; room.close_all(second, others).ok(), Some(NOTHING));
+    assert!(rt; room.close_all(second, others).ok() == Some(NOTHING));
     Ok(())
 }
 
@@ -75,5 +75,17 @@ fn a_room_is_handed_back_while_a_thread_announces(rt: HostRuntime) -> Result<(),
     let second = did(&room, second, Deed::Stand(1, Role::Announcing))?;
     let second = did(&room, second, Deed::TakeBack)?;
     leaves(&rt, room, second, NOTHING);
+    Ok(())
+}
+
+/// A thread that collects is counted, also where its own pass is to close the room.
+#[test]
+fn a_room_is_handed_back_while_a_thread_collects(rt: HostRuntime) -> Result<(), Fail> {
+    let (room, first, second, _third) = opened(rt.alloc())?;
+    let second = did(&room, second, Deed::Shut)?;
+    let (room, first) = stays_open(&rt, room, first, 1);
+    let _first = did(&room, first, Deed::Stand(0, Role::Outside))?;
+    let (room, second) = stays_open(&rt, room, second, 1);
+    let _second = did(&room, second, Deed::Stand(1, Role::Collecting))?;
     Ok(())
 }
