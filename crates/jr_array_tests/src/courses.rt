@@ -1,5 +1,6 @@
 //! What is shown of a thread that others overtake in a room, in one function that makes the room and all in it: steps over a room are dear to prove.
-ghost use Rattle.std.specs.Prelude.{All};
+ghost use Rattle.std.specs.Prelude.{◌≡◌, All};
+ghost use Rattle.jr_model.specs.declared.event.Role.TheVariants.{Outside};
 ghost use Rattle.jr_rule.specs.Passes.{IsOpened};
 
 use crate::announced::{answers, is_closed_between, is_moved};
@@ -69,6 +70,20 @@ fn shows<C: Cells<P>, P: Copy, U: Steps>(
     }
 }
 
+/// Shows it over an env of a thread that the others overtake.
+fn shows_overtaken<C: Cells<P> + Drop, P: Copy, U: Steps + Drop>(
+    rt: &impl Abort,
+    alloc: Global,
+    steps: StepsOver<C, P>,
+    others: Others<U>,
+    shown: Shown,
+) -> Result<(), Fail>
+    requires { steps.role ≡ Outside }
+{
+    let mut env = env_of(with_others(steps, others))?;
+    shows(rt, alloc, &mut env, shown)
+}
+
 /// Shows it over a room of these sizes, and then, where nobody is left inside, what stands in the room.
 pub(crate) fn overtakes(
     rt: &impl Abort,
@@ -81,9 +96,7 @@ pub(crate) fn overtakes(
     let (room, mut passes) = Room::<LAST>::open(alloc, config)?;
     let others = others(&room, &mut passes, by)?;
     let steps = next_steps(&room, &mut passes)?;
-    let mut env = env_of(with_others(steps, others))?;
-    shows(rt, alloc, &mut env, shown)?;
-    drop(env);
+    shows_overtaken(rt, alloc, steps, others, shown)?;
     if let Some(summary) = left {
         leaves(rt, room, passes, summary);
     }

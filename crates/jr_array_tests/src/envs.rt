@@ -5,10 +5,9 @@ ghost use Rattle.jr_rule.specs.Passes.{IsOpened};
 
 use jr_env::Env;
 use jr_model::Summary;
-use jr_rule::{Pass, PlainSteps, Room, RoomSteps};
+use jr_rule::{Pass, Room, RoomSteps};
 use jr_steps::{Role, Steps};
 use jr_word::{Config, Elem, Fault, Handle, LAST_SERIAL};
-use std::alloc::Global;
 use std::process::Abort;
 use std::test::Fail;
 
@@ -38,11 +37,6 @@ pub(crate) fn env_of<S: Steps + Drop>(steps: S) -> Result<Env<S>, Fail>
         Ok(env) => Ok(env),
         Err((_, fault)) => Err(fault)?,
     }
-}
-
-/// The env of a thread that is alone.
-pub(crate) fn lone_env(alloc: Global, config: Config) -> Result<Env<PlainSteps<LAST>>, Fail> {
-    env_of(PlainSteps::new(alloc, config)?)
 }
 
 /// The steps over the last of the passes.
