@@ -1,11 +1,16 @@
 //! Rooms that are not closed, since a thread is inside or announces, and then are.
 ghost use Rattle.std.specs.Prelude.{◌≡◌, length, IfOk};
+ghost use Rattle.jr_model.specs.declared.event.Role.TheVariants.{Outside};
+ghost use Rattle.jr_steps.specs.Knowing.{CanReopen, MayKnow};
+ghost use Rattle.jr_gate.specs.Stays.{IsOwnCollection};
 ghost use Rattle.jr_rule.specs.Rooms.{IsOfRoom};
 
 use crate::passes::{Deed, did, opened};
 use crate::rooms::{NOTHING, last_of, leaves, stays_open};
+use jr_gate::{Shut, shut_gate};
 use jr_model::Role;
-use jr_rule::{AllLeft, Left, Pass, Room};
+use jr_rule::{AllLeft, Left, Pass, Room, RoomSteps};
+use jr_steps::Steps;
 use jr_word::{Config, Fault};
 use std::alloc::Global;
 use std::process::Abort;
@@ -78,14 +83,32 @@ fn a_room_is_handed_back_while_a_thread_announces(rt: HostRuntime) -> Result<(),
     Ok(())
 }
 
-/// A thread that collects is counted, also where its own pass is to close the room.
+/// Shuts the gate, which nobody keeps this thread from.
+fn shuts<S: Steps>(steps: &mut S) -> Result<Shut, Fail>
+    requires { (S.facts steps.old).stands.role ≡ Outside }
+    ensures own { IfOk result (λ s. IsOwnCollection s (S.facts steps.new).stands) }
+    ensures room { IfOk result (λ _. (S.facts steps.new).stands.room ≡ (S.facts steps.old).stands.room) }
+    ensures config { IfOk result (λ _. (S.facts steps.new).stands.config ≡ (S.facts steps.old).stands.config) }
+    ensures last { IfOk result (λ _. (S.facts steps.new).stands.last ≡ (S.facts steps.old).stands.last) }
+    ensures closed { IfOk result (λ _. MayKnow S.facts steps.new CanReopen) }
+{
+    let Ok(collection) = shut_gate(steps) else {
+        return Err("nobody is inside")?;
+    };
+    Ok(collection)
+}
+
+/// A thread that collects is counted. Its collection goes on, and ends.
 #[test]
 fn a_room_is_handed_back_while_a_thread_collects(rt: HostRuntime) -> Result<(), Fail> {
     let (room, first, second, _third) = opened(rt.alloc())?;
-    let second = did(&room, second, Deed::Shut)?;
+    let mut second = RoomSteps::new(&room, second);
+    let collection = shuts(&mut second)?;
+    let second = second.into_pass();
     let (room, first) = stays_open(&rt, room, first, 1);
-    let _first = did(&room, first, Deed::Stand(0, Role::Outside))?;
-    let (room, second) = stays_open(&rt, room, second, 1);
-    let _second = did(&room, second, Deed::Stand(1, Role::Collecting))?;
+    let mut second = RoomSteps::new(&room, second);
+    collection.reopen(&mut second);
+    let _second = second.into_pass();
+    leaves(&rt, room, first, NOTHING);
     Ok(())
 }

@@ -52,8 +52,6 @@ pub(crate) enum Deed {
     Announce(u16),
     /// It takes its announcement back.
     TakeBack,
-    /// It shuts the gate.
-    Shut,
     /// It does nothing, and is this thread, which stands so towards the gate, and is fresh.
     Stand(usize, Role),
 }
@@ -75,7 +73,6 @@ fn does<S: Steps>(steps: &mut S, deed: Deed) -> bool
             steps.cancel();
             true
         }
-        (Deed::Shut, Role::Outside) => steps.bar().is_ok(),
         (Deed::Stand(thread, stands), role) => {
             usize::from(steps.thread()) == thread && role == stands && steps.fresh()
         }
