@@ -4,7 +4,7 @@ use crate::printing::{BEFORE, TURNS, prints};
 use crate::scripts::{SIZES, name_of};
 use crate::threads::HANDED_OVER;
 use jr_scripts::{Board, NoHold, Notes, Posts, run_all, run_one};
-use jr_syntax::{Command, Name, OnName, Script, Sequence, ThreadPart, parse};
+use jr_syntax::{Command, OnName, Script, Sequence, ThreadPart, parse};
 use jr_word::Fault;
 use std::alloc::Global;
 use std::process::Abort;
@@ -22,23 +22,23 @@ fn posting(word: &[u8]) -> Result<Command, Fail> {
 const SIX_POSTS: &[u8] =
     b"vm threads 1 slots 1 objects 1 words 0 locals 16\nthread a\npost m\npost ab\npost z\npost a\npost abcdefghijklmnop\npost b\n";
 
-/// The names that the commands post.
-fn posted_names(alloc: Global, commands: &[Command]) -> Result<Vec<Name>, Fail> {
-    let mut names = Vec::new(alloc);
-    for command in commands {
+/// Checks that each of these commands posts a name, which has its own number, if any has.
+fn have_numbers(rt: &impl Abort, notes: &mut Notes<'_>, commands: &[Command], any: bool) {
+    for (i, command) in commands.iter().enumerate() {
         let Command::OnName { verb: _, name } = command else {
-            return Err("a command posts no name")?;
+            panic!(rt; "a command posts no name")
         };
-        names.push(name.copy())?;
-    }
-    Ok(names)
-}
-
-/// Checks that each name has its own number, if any has.
-fn have_numbers(rt: &impl Abort, notes: &mut Notes<'_>, names: &[Name], any: bool) {
-    for (i, name) in names.iter().enumerate() {
         let wanted = if any { Some(i as u64) } else { None };
         assert!(rt; notes.look(name) == wanted);
+    }
+}
+
+/// Posts the number of each command under the name that it posts.
+fn post_numbers(notes: &mut Notes<'_>, commands: &[Command]) {
+    for (i, command) in commands.iter().enumerate() {
+        if let Command::OnName { verb: _, name } = command {
+            notes.post(name, i as u64);
+        }
     }
 }
 
@@ -50,18 +50,15 @@ fn each_name_has_a_word_of_its_own(rt: HostRuntime) -> Result<(), Fail> {
         return Err("the script has one thread")?;
     };
     let commands = part.commands.as_slice();
-    let names = posted_names(alloc, commands)?;
-    assert!(rt; names.len() == 6);
+    assert!(rt; commands.len() == 6);
     let mut posts = Posts::new(alloc);
     posts.add(commands)?;
     let mut notes = Notes::new(alloc, &posts);
-    have_numbers(&rt, &mut notes, &names, false);
-    for (i, name) in names.iter().enumerate() {
-        notes.post(name, i as u64);
-    }
-    have_numbers(&rt, &mut notes, &names, true);
+    have_numbers(&rt, &mut notes, commands, false);
+    post_numbers(&mut notes, commands);
+    have_numbers(&rt, &mut notes, commands, true);
     let mut others = Notes::new(alloc, &posts);
-    have_numbers(&rt, &mut others, &names, true);
+    have_numbers(&rt, &mut others, commands, true);
     Ok(())
 }
 
