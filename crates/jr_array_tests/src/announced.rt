@@ -9,6 +9,7 @@ use crate::overtaken::{Before, Overtaken};
 use crate::plans::{Neighbour, PLANS, Plan};
 use jr_env::Env;
 use jr_model::Summary;
+use jr_rule::{Cells, StepsOver};
 use jr_steps::Steps;
 use jr_weak::{Collected, Marker};
 use jr_word::{Config, Fault, Handle};
@@ -46,7 +47,7 @@ fn fill<S: Steps>(env: &mut Env<S>) -> Result<Handle, Fail>
 fn is_as_filled<S: Steps>(rt: &impl Abort, env: &mut Env<S>, weak: Handle)
     ensures { IsOutside env.new }
 {
-    assert_eq!(rt; env.get_array_length(weak), Ok(3));
+    assert!(rt; env.get_array_length(weak) == Ok(3));
     refuses(rt, env.new_array::<i32>(1), Fault::SpaceFull(3));
 }
 
@@ -64,7 +65,7 @@ fn collects<S: Steps>(
     ensures room { FitsRoom marker.new env.new }
     ensures outside { IsOutside env.new }
 {
-    assert_eq!(rt; env.collect_announced(marker, tries), wanted);
+    assert!(rt; env.collect_announced(marker, tries) == wanted);
 }
 
 /// Another thread came in, and then went out, between a look at the gate and an announcement: each time it is refused with what was looked at and what was found then, in however many tries, and nothing has changed. Once nobody comes in between the collection is made.
@@ -80,7 +81,7 @@ pub(crate) fn is_moved<S: Steps>(
     let mut marker = Marker::new(alloc, env.held.steps.config())?;
     collects(rt, env, &mut marker, 1000, Err(Fault::Moved(1, 0)));
     collects(rt, env, &mut marker, 1, Ok(ALL));
-    assert_eq!(rt; env.is_same_object(weak, Handle::NULL), Ok(true));
+    assert!(rt; env.is_same_object(weak, Handle::NULL) == Ok(true));
     Ok(())
 }
 
@@ -120,14 +121,14 @@ fn finds_it_open<S: Steps>(
 }
 
 /// Another thread closes the gate between the look at it and the announcement, and opens it later.
-pub(crate) fn is_closed_between<S: Steps, U: Steps>(
+pub(crate) fn is_closed_between<C: Cells<P>, P: Copy, U: Steps>(
     rt: &impl Abort,
     alloc: Global,
-    env: &mut Env<Overtaken<S, U>>,
+    env: &mut Env<StepsOver<Overtaken<C, U>, P>>,
 ) -> Result<(), Fail> {
     let weak = finds_it_closed(rt, alloc, env)?;
     let held = &mut env.held;
-    held.steps.others.give_way();
+    held.steps.cells.others.give_way();
     finds_it_open(rt, alloc, env, weak)
 }
 

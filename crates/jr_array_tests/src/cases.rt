@@ -1,14 +1,16 @@
 //! What is shown of an env that has one thread: each case has an env of its own, over plain words or over a room, and both are made here alone.
+ghost use Rattle.std.specs.Prelude.{◌≡◌};
+ghost use Rattle.jr_model.specs.declared.event.Role.TheVariants.{Outside};
 
 use crate::copies::{copies_both, copies_elements, copies_units, goes_to_another, have_no_copies};
 use crate::element_types::{are_of_one_type, has_units};
-use crate::envs::{LAST, lone_env, next_env};
+use crate::envs::{LAST, env_of, next_steps};
 use crate::levels::stands_anew;
 use crate::objects::have_kinds;
 use crate::regions::{a_long_part, has_regions, have_no_regions};
 use crate::undisturbed::is_undisturbed;
 use jr_env::Env;
-use jr_rule::Room;
+use jr_rule::{PlainSteps, Room};
 use jr_steps::Steps;
 use jr_word::Config;
 use std::alloc::Global;
@@ -57,6 +59,19 @@ fn shows<S: Steps>(
     }
 }
 
+/// Shows it over an env of these steps, of a thread whose pass was not used.
+fn shows_over<S: Steps + Drop>(
+    rt: &impl Abort,
+    alloc: Global,
+    steps: S,
+    case: Case,
+) -> Result<(), Fail>
+    requires { (S.facts steps).stands.role ≡ Outside }
+{
+    let mut env = env_of(steps)?;
+    shows(rt, alloc, &mut env, case)
+}
+
 /// Shows a case over plain words.
 pub(crate) fn alone(
     rt: &impl Abort,
@@ -64,8 +79,8 @@ pub(crate) fn alone(
     config: Config,
     case: Case,
 ) -> Result<(), Fail> {
-    let mut env = lone_env(alloc, config)?;
-    shows(rt, alloc, &mut env, case)
+    let steps = PlainSteps::<LAST>::new(alloc, config)?;
+    shows_over(rt, alloc, steps, case)
 }
 
 /// Shows a case over a room.
@@ -76,6 +91,6 @@ pub(crate) fn in_a_room(
     case: Case,
 ) -> Result<(), Fail> {
     let (room, mut passes) = Room::<LAST>::open(alloc, config)?;
-    let mut env = next_env(&room, &mut passes)?;
-    shows(rt, alloc, &mut env, case)
+    let steps = next_steps(&room, &mut passes)?;
+    shows_over(rt, alloc, steps, case)
 }

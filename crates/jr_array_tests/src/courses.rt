@@ -1,14 +1,15 @@
 //! What is shown of a thread that others overtake in a room, in one function that makes the room and all in it: steps over a room are dear to prove.
-ghost use Rattle.std.specs.Prelude.{All};
+ghost use Rattle.std.specs.Prelude.{◌≡◌, All};
+ghost use Rattle.jr_model.specs.declared.event.Role.TheVariants.{Outside};
 ghost use Rattle.jr_rule.specs.Passes.{IsOpened};
 
 use crate::announced::{answers, is_closed_between, is_moved};
 use crate::envs::{LAST, env_of, leaves, next_env, next_steps};
-use crate::overtaken::{Before, Others, Overtaken, is_overtaken};
+use crate::overtaken::{Before, Others, Overtaken, is_overtaken, with_others};
 use crate::plans::{Neighbour, with_plans};
 use jr_env::Env;
 use jr_model::Summary;
-use jr_rule::{Pass, Room, RoomSteps};
+use jr_rule::{Cells, Pass, Room, RoomSteps, StepsOver};
 use jr_steps::Steps;
 use jr_weak::Collected;
 use jr_word::{Config, Fault};
@@ -55,10 +56,10 @@ fn others<'a>(
 }
 
 /// Shows it over an env in which nothing was done.
-fn shows<S: Steps, U: Steps>(
+fn shows<C: Cells<P>, P: Copy, U: Steps>(
     rt: &impl Abort,
     alloc: Global,
-    env: &mut Env<Overtaken<S, U>>,
+    env: &mut Env<StepsOver<Overtaken<C, U>, P>>,
     shown: Shown,
 ) -> Result<(), Fail> {
     match shown {
@@ -67,6 +68,20 @@ fn shows<S: Steps, U: Steps>(
         Shown::IsClosedBetween => is_closed_between(rt, alloc, env),
         Shown::Answers(tries, wanted) => answers(rt, alloc, env, tries, wanted),
     }
+}
+
+/// Shows it over an env of a thread that the others overtake.
+fn shows_overtaken<C: Cells<P> + Drop, P: Copy, U: Steps + Drop>(
+    rt: &impl Abort,
+    alloc: Global,
+    steps: StepsOver<C, P>,
+    others: Others<U>,
+    shown: Shown,
+) -> Result<(), Fail>
+    requires { steps.role ≡ Outside }
+{
+    let mut env = env_of(with_others(steps, others))?;
+    shows(rt, alloc, &mut env, shown)
 }
 
 /// Shows it over a room of these sizes, and then, where nobody is left inside, what stands in the room.
@@ -81,9 +96,7 @@ pub(crate) fn overtakes(
     let (room, mut passes) = Room::<LAST>::open(alloc, config)?;
     let others = others(&room, &mut passes, by)?;
     let steps = next_steps(&room, &mut passes)?;
-    let mut env = env_of(Overtaken { steps, others })?;
-    shows(rt, alloc, &mut env, shown)?;
-    drop(env);
+    shows_overtaken(rt, alloc, steps, others, shown)?;
     if let Some(summary) = left {
         leaves(rt, room, passes, summary);
     }

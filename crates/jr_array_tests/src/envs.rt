@@ -5,10 +5,9 @@ ghost use Rattle.jr_rule.specs.Passes.{IsOpened};
 
 use jr_env::Env;
 use jr_model::Summary;
-use jr_rule::{Pass, PlainSteps, Room, RoomSteps};
+use jr_rule::{Pass, Room, RoomSteps};
 use jr_steps::{Role, Steps};
 use jr_word::{Config, Elem, Fault, Handle, LAST_SERIAL};
-use std::alloc::Global;
 use std::process::Abort;
 use std::test::Fail;
 
@@ -38,11 +37,6 @@ pub(crate) fn env_of<S: Steps + Drop>(steps: S) -> Result<Env<S>, Fail>
         Ok(env) => Ok(env),
         Err((_, fault)) => Err(fault)?,
     }
-}
-
-/// The env of a thread that is alone.
-pub(crate) fn lone_env(alloc: Global, config: Config) -> Result<Env<PlainSteps<LAST>>, Fail> {
-    env_of(PlainSteps::new(alloc, config)?)
 }
 
 /// The steps over the last of the passes.
@@ -87,12 +81,12 @@ fn closed(room: Room<LAST>, passes: Vec<Pass>) -> Option<Summary>
 pub(crate) fn leaves(rt: &impl Abort, room: Room<LAST>, passes: Vec<Pass>, wanted: Summary)
     requires { All (λ p. IsOpened room.row p) passes.items }
 {
-    assert_eq!(rt; closed(room, passes), Some(wanted));
+    assert!(rt; closed(room, passes) == Some(wanted));
 }
 
 /// Checks that a call was refused so.
 pub(crate) fn refuses<A: Drop>(rt: &impl Abort, answer: Result<A, Fault>, fault: Fault) {
-    assert_eq!(rt; answer.err(), Some(fault));
+    assert!(rt; answer.err() == Some(fault));
 }
 
 /// Checks that the thread is outside the gate, and that its calls are made.

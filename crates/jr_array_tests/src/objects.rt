@@ -4,25 +4,31 @@ use crate::cases::{Case, alone};
 use crate::envs::TWO;
 use jr_env::Env;
 use jr_steps::Steps;
-use jr_word::Kind;
+use jr_word::{Handle, Kind};
 use std::process::Abort;
 use std::test::Fail;
 
-/// The kind of an object without elements, of a string, of an array of numbers and of one of objects.
-pub(crate) fn have_kinds<S: Steps>(rt: &impl Abort, env: &mut Env<S>) -> Result<(), Fail> {
+/// An object without elements, a string, an array of numbers and one of objects, the last three of three elements.
+pub(crate) fn one_of_each<S: Steps>(env: &mut Env<S>) -> Result<[Handle; 4], Fail> {
     let plain = env.new_plain()?;
-    let text = env.new_string(&[1])?;
-    let ints = env.new_array::<i32>(1)?;
-    let objects = env.new_object_array(1, plain)?;
-    let rows = [
-        (plain, Kind::Plain),
-        (text, Kind::Text),
-        (ints, Kind::Int),
-        (objects, Kind::Objects),
-    ];
-    for (word, kind) in rows {
-        assert!(rt; env.kind_of(word) == Ok(kind));
-    }
+    let string = env.new_string(&[1, 2, 3])?;
+    let shorts = env.new_array::<i16>(3)?;
+    let objects = env.new_object_array(3, plain)?;
+    Ok([plain, string, shorts, objects])
+}
+
+/// Checks the kind of an object.
+fn has_kind<S: Steps>(rt: &impl Abort, env: &mut Env<S>, word: Handle, kind: Kind) {
+    assert!(rt; env.kind_of(word) == Ok(kind));
+}
+
+/// The kind of each of these.
+pub(crate) fn have_kinds<S: Steps>(rt: &impl Abort, env: &mut Env<S>) -> Result<(), Fail> {
+    let [plain, string, shorts, objects] = one_of_each(env)?;
+    has_kind(rt, env, plain, Kind::Plain);
+    has_kind(rt, env, string, Kind::Text);
+    has_kind(rt, env, shorts, Kind::Short);
+    has_kind(rt, env, objects, Kind::Objects);
     Ok(())
 }
 

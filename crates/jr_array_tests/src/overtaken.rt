@@ -1,15 +1,14 @@
 //! A thread that others overtake each time, between its look at a word and its exchange: at the top, where another reserves words, and at the gate, where they go in or out, or announce.
+ghost use Rattle.std.specs.Prelude.{◌≡◌};
 
 use crate::courses::{By, Shown, overtakes};
 use crate::envs::refuses;
 use crate::plans::Planned;
 use jr_env::Env;
 use jr_model::Summary;
-use jr_steps::{GateLoad, Role, SlotLoad, Steps, TopLoad};
-use jr_word::{
-    Config, Elem, Fault, GateParts, Handle, HandleParts, HeaderParts, LocalParts, RefKind,
-    SlotParts,
-};
+use jr_rule::{Cells, StepKind, StepsOver};
+use jr_steps::Steps;
+use jr_word::{Config, Fault, GateWord, Handle};
 use std::process::Abort;
 use std::test::Fail;
 
@@ -25,15 +24,37 @@ const SMALL: Config = Config {
 /// Local, of thread 1, with serial 0 at the first place.
 pub(crate) const FIRST: Handle = Handle(0x4_0000_0000_0001);
 
-/// The step before which another thread acts.
+/// The gate is the first word of the row, and the top of the array space the second.
+const GATE: usize = 0;
+
+const TOP: usize = 1;
+
+/// The exchange of a word before which another thread acts.
 #[derive(Clone, Copy, PartialEq, Eq)]
 pub(crate) enum Before {
-    /// The exchange of the top.
+    /// Of the top.
     Reservation,
-    /// The exchange that announces that the gate will be shut.
+    /// Of the gate, which announces that it will be shut.
     Announcement,
-    /// The exchange that shuts it, as announced.
+    /// Of the gate, which shuts it, as announced.
     Shut,
+}
+
+/// Which of them an exchange of one word for another is, if it is one.
+fn kind_of(at: usize, old: u64, new: u64) -> Option<Before> {
+    if at == TOP {
+        return Some(Before::Reservation);
+    }
+    if at != GATE {
+        return None;
+    }
+    if old == GateWord::ANNOUNCED {
+        return Some(Before::Shut);
+    }
+    if new & GateWord::ANNOUNCED != 0 {
+        return Some(Before::Announcement);
+    }
+    None
 }
 
 /// Who else is in the room, and what they do before a step of a thread.
@@ -46,7 +67,15 @@ pub(crate) enum Others<U: Steps> {
 }
 
 impl<U: Steps> Others<U> {
-    fn act(&mut self, before: Before) {
+    /// They do what they do before an exchange of this kind, if it is of one.
+    fn act(&mut self, before: Option<Before>) {
+        match before {
+            Some(before) => self.act_before(before),
+            None => {}
+        }
+    }
+
+    fn act_before(&mut self, before: Before) {
         match self {
             Others::Maker(env) => make_before(env, before),
             Others::Planners(first, second) => {
@@ -71,201 +100,87 @@ fn make_before<U: Steps>(env: &mut Env<U>, before: Before) {
     }
 }
 
-/// The steps of a thread. Before each exchange of the top, each announcement and each shut that was announced others act.
+/// Who steps on the words of a row. Before each exchange of the top, each announcement and each shut that was announced others act.
 #[derive(Drop)]
-pub(crate) struct Overtaken<S: Steps, U: Steps> {
-    pub(crate) steps: S,
+pub(crate) struct Overtaken<C, U: Steps> {
+    pub(crate) cells: C,
     pub(crate) others: Others<U>,
 }
 
-impl<S: Steps, U: Steps> Steps for Overtaken<S, U> {
-    ghost facts = { λ s. S.facts s.steps };
+impl<P: Copy, C: Cells<P>, U: Steps> Cells<P> for Overtaken<C, U> {
+    ghost sight = { λ s. C.sight s.cells };
 
-    fn config(&self) -> Config {
-        self.steps.config()
+    ghost goes = { λ s t acts. C.goes s.cells t.cells acts };
+
+    ghost are_at = { λ s place. C.are_at s.cells place };
+
+    ghost one = { λ s place. C.one s.cells place };
+
+    fn config(&self, place: P) -> Config {
+        self.cells.config(place)
     }
 
-    fn thread(&self) -> u8 {
-        self.steps.thread()
+    fn last(&self, place: P) -> u32 {
+        self.cells.last(place)
     }
 
-    fn last(&self) -> u32 {
-        self.steps.last()
+    fn thread(&self, place: P) -> u8 {
+        self.cells.thread(place)
     }
 
-    fn role(&self) -> Role {
-        self.steps.role()
+    fn headers(&self, place: P) -> usize {
+        self.cells.headers(place)
     }
 
-    fn fresh(&self) -> bool {
-        self.steps.fresh()
+    fn elements(&self, place: P) -> usize {
+        self.cells.elements(place)
     }
 
-    fn spend(&mut self) {
-        self.steps.spend();
+    fn load<T: StepKind>(&mut self, place: P, at: usize) -> u64 {
+        self.cells.load::<T>(place, at)
     }
 
-    fn hint(&self) -> u16 {
-        self.steps.hint()
+    fn store<T: StepKind>(&mut self, place: P, at: usize, new: u64) {
+        self.cells.store::<T>(place, at, new);
     }
 
-    fn keep_hint(&mut self, index: u16) {
-        self.steps.keep_hint(index);
+    fn add<T: StepKind>(&mut self, place: P, at: usize, more: u64) -> u64 {
+        self.cells.add::<T>(place, at, more)
     }
 
-    fn go_in(&mut self) -> bool {
-        self.steps.go_in()
+    fn take<T: StepKind>(&mut self, place: P, at: usize, less: u64) -> u64 {
+        self.cells.take::<T>(place, at, less)
     }
 
-    fn go_out(&mut self) {
-        self.steps.go_out();
+    fn exchange<T: StepKind>(&mut self, place: P, at: usize, old: u64, new: u64) -> u64 {
+        self.others.act(kind_of(at, old, new));
+        self.cells.exchange::<T>(place, at, old, new)
     }
 
-    fn bar(&mut self) -> Result<(), u32> {
-        self.steps.bar()
+    ghost sound = { λ s place at. C.sound s.cells place at };
+}
+
+/// The steps of a thread, with others that overtake it.
+pub(crate) fn with_others<C: Cells<P>, P: Copy, U: Steps>(
+    steps: StepsOver<C, P>,
+    others: Others<U>,
+) -> StepsOver<Overtaken<C, U>, P>
+    ensures { result.role ≡ steps.role }
+{
+    let StepsOver {
+        cells,
+        role,
+        fresh,
+        hint,
+        place,
+    } = steps;
+    StepsOver {
+        cells: Overtaken { cells, others },
+        role,
+        fresh,
+        hint,
+        place,
     }
-
-    fn announce(&mut self, looked: u16) -> Result<(), GateParts> {
-        self.others.act(Before::Announcement);
-        self.steps.announce(looked)
-    }
-
-    fn cancel(&mut self) {
-        self.steps.cancel();
-    }
-
-    fn bar_announced(&mut self) -> Result<(), u32> {
-        self.others.act(Before::Shut);
-        self.steps.bar_announced()
-    }
-
-    fn unbar(&mut self) {
-        self.steps.unbar();
-    }
-
-    fn see_gate(&mut self, name: GateLoad) -> GateParts {
-        self.steps.see_gate(name)
-    }
-
-    fn see_slot(&mut self, index: u16, name: SlotLoad) -> SlotParts {
-        self.steps.see_slot(index, name)
-    }
-
-    fn claim(
-        &mut self,
-        index: u16,
-        serial: u32,
-        kind: RefKind,
-        object: u16,
-    ) -> Result<(), SlotParts> {
-        self.steps.claim(index, serial, kind, object)
-    }
-
-    fn free(&mut self, handle: HandleParts, object: Option<u16>) -> bool {
-        self.steps.free(handle, object)
-    }
-
-    fn put_local(&mut self, place: u16, object: Option<u16>) {
-        self.steps.put_local(place, object);
-    }
-
-    fn see_header(&mut self, object: u16) -> Option<HeaderParts> {
-        self.steps.see_header(object)
-    }
-
-    fn claim_header(&mut self, object: u16, header: HeaderParts) -> bool {
-        self.steps.claim_header(object, header)
-    }
-
-    fn see_top(&mut self, name: TopLoad) -> u32 {
-        self.steps.see_top(name)
-    }
-
-    fn claim_top(&mut self, looked: u32, more: u32) -> Result<(), u32> {
-        self.others.act(Before::Reservation);
-        self.steps.claim_top(looked, more)
-    }
-
-    fn see_element(&mut self, object: u16, header: HeaderParts, index: u32) -> u64 {
-        self.steps.see_element(object, header, index)
-    }
-
-    fn see_part<E: Elem>(
-        &mut self,
-        object: u16,
-        header: HeaderParts,
-        start: u32,
-        elements: &mut [E],
-    ) {
-        self.steps.see_part(object, header, start, elements);
-    }
-
-    fn put_element(&mut self, object: u16, header: HeaderParts, index: u32, word: u64) {
-        self.steps.put_element(object, header, index, word);
-    }
-
-    fn put_reserved(&mut self, place: u32, index: u32, word: u64) {
-        self.steps.put_reserved(place, index, word);
-    }
-
-    fn scan_slot(&mut self, index: u16) -> SlotParts {
-        self.steps.scan_slot(index)
-    }
-
-    fn scan_local(&mut self, thread: u8, place: u16) -> LocalParts {
-        self.steps.scan_local(thread, place)
-    }
-
-    fn scan_header(&mut self, object: u16) -> Option<HeaderParts> {
-        self.steps.scan_header(object)
-    }
-
-    fn scan_element(&mut self, object: u16, header: HeaderParts, index: u32) -> u64 {
-        self.steps.scan_element(object, header, index)
-    }
-
-    fn wipe(&mut self, index: u16, serial: u32, object: u16) {
-        self.steps.wipe(index, serial, object);
-    }
-
-    fn drop_header(&mut self, object: u16) {
-        self.steps.drop_header(object);
-    }
-
-    fn move_element(
-        &mut self,
-        object: u16,
-        header: HeaderParts,
-        place: u32,
-        index: u32,
-        word: u64,
-    ) {
-        self.steps.move_element(object, header, place, index, word);
-    }
-
-    fn set_header(&mut self, object: u16, header: HeaderParts, place: u32) {
-        self.steps.set_header(object, header, place);
-    }
-
-    fn set_top(&mut self, used: u32) {
-        self.steps.set_top(used);
-    }
-
-    ghost fits = { λ s k h. S.fits s.steps k h };
-
-    ghost lone = { λ s k none h. S.lone s.steps k none h };
-
-    ghost some_known = { λ s. S.some_known s.steps };
-
-    ghost unused = { λ s k f h. S.unused s.steps k f h };
-
-    ghost in_space = { λ s k h. S.in_space s.steps k h };
-
-    ghost limits = { λ s. S.limits s.steps };
-
-    ghost row = { λ s. S.Steps.row s.steps };
-
-    ghost below = { λ s. S.below s.steps };
 }
 
 /// Each call that reserves words is refused with E12, as another thread reserved one more each time. It has left no local reference.
@@ -277,8 +192,8 @@ pub(crate) fn is_overtaken<S: Steps>(rt: &impl Abort, env: &mut Env<S>) -> Resul
         env.new_object_array(3, Handle::NULL),
         Fault::Raced(2, 3),
     );
-    assert_eq!(rt; env.held.steps.thread(), 1);
-    assert_eq!(rt; env.get_object_ref_type(FIRST)?, 0);
+    assert!(rt; env.held.steps.thread() == 1);
+    assert!(rt; env.get_object_ref_type(FIRST) == Ok(0));
     Ok(())
 }
 

@@ -1,8 +1,10 @@
 //! Regions beside the collections of another thread of the room: what a shut gate bars, and what goes on while one is announced.
+ghost use Rattle.std.specs.Prelude.{◌≡◌};
+ghost use Rattle.jr_model.specs.declared.event.Role.TheVariants.{Outside};
 ghost use Rattle.jr_gate.specs.Stays.{IsOwnAnnouncement};
 
 use crate::at_a_level::{give_up, has, nests_array, put};
-use crate::envs::{LAST, ONES, TWO, has_elements, next_env, next_steps};
+use crate::envs::{LAST, ONES, TWO, env_of, has_elements, next_steps};
 use crate::not_opened::{opens_array, opens_string};
 use jr_env::Env;
 use jr_gate::{Announced, announce, shut_gate};
@@ -15,11 +17,7 @@ use std::process::Abort;
 use std::test::Fail;
 
 /// While another thread collects no region is opened, over an array or a string, and none over what is neither: the gate comes before all. Afterwards they are.
-fn is_barred<S: Steps, T: Steps>(
-    rt: &impl Abort,
-    env: &mut Env<S>,
-    other: &mut T,
-) -> Result<(), Fail> {
+fn is_barred<S: Steps>(rt: &impl Abort, env: &mut Env<S>, other: &mut S) -> Result<(), Fail> {
     let array = env.new_array::<i32>(2)?;
     let string = env.new_string(&[104])?;
     let Role::Outside = other.role() else {
@@ -58,10 +56,10 @@ fn is_kept_waiting<S: Steps>(rt: &impl Abort, steps: &mut S, announced: Announce
 }
 
 /// A region that stands goes on once another thread has announced that it will shut the gate: a level is added, and elements are read and written at both. The gate is not shut before the region has ended, and no other region is opened before it is open again.
-fn goes_on_while_announced<S: Steps, T: Steps>(
+fn goes_on_while_announced<S: Steps>(
     rt: &impl Abort,
     env: &mut Env<S>,
-    other: &mut T,
+    other: &mut S,
 ) -> Result<(), Fail> {
     let array = env.new_array::<i32>(2)?;
     let nested = env.new_array::<i64>(1)?;
@@ -104,15 +102,28 @@ enum Beside {
     Announcing,
 }
 
+/// Shows it over an env of these steps, of a thread whose pass was not used.
+fn shows<S: Steps + Drop>(
+    rt: &impl Abort,
+    steps: S,
+    other: &mut S,
+    what: Beside,
+) -> Result<(), Fail>
+    requires { (S.facts steps).stands.role ≡ Outside }
+{
+    let mut env = env_of(steps)?;
+    match what {
+        Beside::Collecting => is_barred(rt, &mut env, other),
+        Beside::Announcing => goes_on_while_announced(rt, &mut env, other),
+    }
+}
+
 /// Shows what regions are beside another thread of the room.
 fn beside_another(rt: &impl Abort, alloc: Global, what: Beside) -> Result<(), Fail> {
     let (room, mut passes) = Room::<LAST>::open(alloc, TWO)?;
     let mut other = next_steps(&room, &mut passes)?;
-    let mut env = next_env(&room, &mut passes)?;
-    match what {
-        Beside::Collecting => is_barred(rt, &mut env, &mut other),
-        Beside::Announcing => goes_on_while_announced(rt, &mut env, &mut other),
-    }
+    let steps = next_steps(&room, &mut passes)?;
+    shows(rt, steps, &mut other, what)
 }
 
 #[test]

@@ -1,34 +1,50 @@
 //! Regions of several elements and of none, through the calls that copy them out and in, over plain words, and long ones over a room too.
-ghost use Rattle.std.specs.Prelude.{◌≤◌};
 
 use crate::cases::{Case, alone, in_a_room};
 use crate::envs::{FOREIGN, ONES, TWO, has_elements, refuses};
+use crate::objects::one_of_each;
 use jr_env::Env;
 use jr_steps::Steps;
 use jr_word::{Config, Fault, Handle};
 use std::process::Abort;
 use std::test::Fail;
 
-/// So many elements from an index on don't all lie in the array: they are neither read nor written, and the slice stays as it was.
-fn lies_past<S: Steps>(rt: &impl Abort, env: &mut Env<S>, array: Handle, start: u32, count: usize)
-    requires { count ≤ 4 }
-{
-    let mut elements = [7; 4];
-    let answer = env.get_array_region(array, start, &mut elements[..count]);
-    refuses(rt, answer, Fault::Range);
-    assert!(rt; elements == [7; 4]);
-    let answer = env.set_array_region(array, start, &elements[..count]);
-    refuses(rt, answer, Fault::Range);
+/// Checks that each element is the one that stood there before.
+fn are_untouched(rt: &impl Abort, elements: &[i32]) {
+    for element in elements {
+        assert!(rt; *element == 7);
+    }
+}
+
+/// As many elements as these sevens don't all lie in the array from an index on: they are neither read nor written.
+fn lies_past<S: Steps>(
+    rt: &impl Abort,
+    env: &mut Env<S>,
+    array: Handle,
+    start: u32,
+    elements: &mut [i32],
+) {
+    refuses(
+        rt,
+        env.get_array_region(array, start, elements),
+        Fault::Range,
+    );
+    are_untouched(rt, elements);
+    refuses(
+        rt,
+        env.set_array_region(array, start, elements),
+        Fault::Range,
+    );
 }
 
 /// Regions that don't lie in an array of three elements are refused, and what lies in it stays as it was.
 fn ends_at_its_length<S: Steps>(rt: &impl Abort, env: &mut Env<S>, array: Handle) {
-    lies_past(rt, env, array, 0, 4);
-    lies_past(rt, env, array, 1, 3);
-    lies_past(rt, env, array, 3, 1);
-    lies_past(rt, env, array, 4, 0);
-    lies_past(rt, env, array, u32::MAX, 0);
-    lies_past(rt, env, array, u32::MAX, 2);
+    lies_past(rt, env, array, 0, &mut [7; 4]);
+    lies_past(rt, env, array, 1, &mut [7; 3]);
+    lies_past(rt, env, array, 3, &mut [7]);
+    lies_past(rt, env, array, 4, &mut []);
+    lies_past(rt, env, array, u32::MAX, &mut []);
+    lies_past(rt, env, array, u32::MAX, &mut [7; 2]);
 }
 
 /// Regions of none, of one and of all elements are read and written, and none past the end.
@@ -83,10 +99,7 @@ fn four_thousand_and_ninety_six_elements_in_a_room(rt: HostRuntime) -> Result<()
 
 /// Words that name no array of chars, each with its refusal: a string is none, whose units are chars, and neither is an array of shorts.
 pub(crate) fn no_arrays_of_chars<S: Steps>(env: &mut Env<S>) -> Result<[(Handle, Fault); 8], Fail> {
-    let plain = env.new_plain()?;
-    let string = env.new_string(&[1, 2, 3])?;
-    let objects = env.new_object_array(3, plain)?;
-    let shorts = env.new_array::<i16>(3)?;
+    let [plain, string, shorts, objects] = one_of_each(env)?;
     let deleted = env.new_array::<u16>(3)?;
     env.delete_local_ref(deleted)?;
     Ok([

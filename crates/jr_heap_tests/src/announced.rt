@@ -43,7 +43,7 @@ fn finds_another<S: Steps>(rt: &impl Abort, steps: &mut S)
     requires { (S.facts steps.old).stands.role ≡ Outside }
     ensures { (S.facts steps.new).stands ≡ (S.facts steps.old).stands }
 {
-    assert_eq!(rt; announcement_refused(steps), Some(Fault::Busy(1)));
+    assert!(rt; announcement_refused(steps) == Some(Fault::Busy(1)));
 }
 
 /// The gate is not shut, as announced, since so many threads are inside or knocking. The announcement is handed back.
@@ -54,7 +54,7 @@ fn waits<S: Steps>(rt: &impl Abort, steps: &mut S, announced: Announced, count: 
     match announced.shut(steps) {
         Ok(_) => panic!(rt; "a thread is inside or knocking"),
         Err((announced, fault)) => {
-            assert_eq!(rt; fault, Fault::Busy(count));
+            assert!(rt; fault == Fault::Busy(count));
             announced
         }
     }
@@ -70,7 +70,7 @@ fn is_kept_out<S: Steps>(rt: &impl Abort, steps: &mut S, between: u64, after: u6
     gate_is(rt, steps, after);
 }
 
-/// Thread 1 announces while thread 0 is inside. From then on thread 2 is not let in, and finds both where it would shut the gate; thread 1 finds thread 0 alone, and waits. Thread 0 leaves, and thread 2, which would announce too, finds thread 1.
+/// Thread 0 is inside, so that thread 2 can't collect. Thread 1 announces. From then on thread 2 is not let in, and finds both where it would shut the gate; thread 1 finds thread 0 alone, and waits. Thread 0 leaves, and thread 2, which would announce too, finds thread 1.
 fn announces_beside_a_stay<S: Steps>(
     rt: &impl Abort,
     first: &mut S,
@@ -88,6 +88,8 @@ fn announces_beside_a_stay<S: Steps>(
         return Err("nobody keeps the gate closed")?;
     };
     gate_is(rt, third, 1);
+    is_busy(rt, third, 1);
+    gate_is(rt, third, 1);
     let announced = announces(rt, second);
     gate_is(rt, third, 131_073);
     is_kept_out(rt, third, 131_074, 131_073);
@@ -101,7 +103,7 @@ fn announces_beside_a_stay<S: Steps>(
     Ok(announced)
 }
 
-/// Once nobody is inside, thread 1 shuts the gate, as it announced. Thread 0 knocks in vain until it is open again.
+/// Once nobody is inside, thread 1 shuts the gate, as it announced. Thread 0 knocks in vain, and can neither collect nor announce, until it is open again; then it is let in.
 fn shuts_as_announced<S: Steps>(
     rt: &impl Abort,
     first: &mut S,
@@ -117,7 +119,9 @@ fn shuts_as_announced<S: Steps>(
         Ok(collection) => {
             gate_is(rt, first, 65_536);
             is_kept_out(rt, first, 65_537, 65_536);
+            is_busy(rt, first, 1);
             finds_another(rt, first);
+            gate_is(rt, first, 65_536);
             collection.reopen(second);
         }
         Err(_) => panic!(rt; "nobody is inside"),

@@ -112,7 +112,7 @@ fn read_answers<S: Steps>(
     ensures stands { (S.facts steps.new).stands ≡ (S.facts steps.old).stands }
     ensures object { MayKnow S.facts steps.new (HasKind object _kind) }
 {
-    assert_eq!(rt; got(steps, object, _kind, index), wanted);
+    assert!(rt; got(steps, object, _kind, index) == wanted);
 }
 
 /// Writing the element at an index of an object of the kind answers what is wanted.
@@ -131,7 +131,7 @@ fn write_answers<S: Steps>(
     ensures stands { (S.facts steps.new).stands ≡ (S.facts steps.old).stands }
     ensures object { MayKnow S.facts steps.new (HasKind object _kind) }
 {
-    assert_eq!(rt; put(steps, object, _kind, index, word), wanted);
+    assert!(rt; put(steps, object, _kind, index, word) == wanted);
 }
 
 /// A new plain object.
@@ -280,7 +280,7 @@ fn both_published<S: Steps>(
 
 /// Checks the elements that were read by two headers.
 fn reads(rt: &impl Abort, found: Result<(u64, u64), Fault>, wanted: (u64, u64)) {
-    assert_eq!(rt; found, Ok(wanted));
+    assert!(rt; found == Ok(wanted));
 }
 
 /// A range stays filled while another is reserved, and a header serves after another pass published and after other reads of the object.
@@ -321,7 +321,7 @@ pub(crate) fn serve_in_stays<S: Steps>(
 
 /// Checks that no further word is reserved, since so many are used.
 fn is_full(rt: &impl Abort, answer: Result<Range, Fault>, used: u32) {
-    assert_eq!(rt; answer.err(), Some(Fault::SpaceFull(used)));
+    assert!(rt; answer.err() == Some(Fault::SpaceFull(used)));
 }
 
 /// More words than the room has are refused, and none is reserved. Then one array takes the whole space of the largest room.
@@ -345,10 +345,7 @@ fn are_given<S: Steps>(rt: &impl Abort, steps: &mut S, numbers: &mut Numbers)
     requires { (S.facts steps.old).stands.role ≡ Within }
     ensures { (S.facts steps.new).stands ≡ (S.facts steps.old).stands }
 {
-    assert_eq!(rt;
-        made(steps, numbers, Kind::Int, 0, 0),
-        Err(Fault::ObjectsFull)
-    );
+    assert!(rt; made(steps, numbers, Kind::Int, 0, 0) == Err(Fault::ObjectsFull));
 }
 
 /// Each number is given once, and then none, wherever a look begins.
@@ -357,7 +354,7 @@ pub(crate) fn each_is_given_once<S: Steps>(rt: &impl Abort, steps: &mut S) -> Re
 {
     let mut numbers = comes_in(steps)?;
     let sum = make_many(steps, &mut numbers, 65_535)?;
-    assert_eq!(rt; sum, 65_535 * 65_536 / 2);
+    assert!(rt; sum == 65_535 * 65_536 / 2);
     are_given(rt, steps, &mut numbers);
     are_given(rt, steps, &mut Numbers::new());
     Ok(())

@@ -4,8 +4,6 @@
 #[cfg(test)]
 mod announced;
 #[cfg(test)]
-mod claims;
-#[cfg(test)]
 mod closing;
 #[cfg(test)]
 mod gate;

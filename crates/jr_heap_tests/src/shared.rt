@@ -3,8 +3,6 @@ ghost use Rattle.std.specs.Prelude.{◌≡◌};
 ghost use Rattle.jr_model.specs.declared.event.Role.TheVariants.{Outside};
 
 use crate::announced::is_closed_before_it_is_empty;
-use crate::claims::is_claimed_and_freed_once;
-use crate::gate::is_counted_once_open;
 use crate::heap::serve_in_stays;
 use crate::rooms::{last_of, leaves, steps_of_last};
 use jr_model::Summary;
@@ -19,8 +17,6 @@ use std::test::Fail;
 #[derive(Clone, Copy)]
 pub(crate) enum Case {
     ClosedBeforeEmpty,
-    CountedOnceOpen,
-    ClaimedAndFreedOnce,
     ServeInStays,
 }
 
@@ -39,8 +35,6 @@ fn shows<S: Steps>(
 {
     match case {
         Case::ClosedBeforeEmpty => is_closed_before_it_is_empty(rt, first, second, third),
-        Case::CountedOnceOpen => is_counted_once_open(rt, first, second),
-        Case::ClaimedAndFreedOnce => is_claimed_and_freed_once(rt, first, second),
         Case::ServeInStays => serve_in_stays(rt, first, second),
     }
 }

@@ -61,7 +61,7 @@ impl Table {
 
     fn add(&mut self, rt: &impl Abort, object: u16, index: u16, serial: u32) -> Result<(), Fail> {
         let handle = self.frames.next().ok_or("no place is free")?;
-        assert_eq!(rt; (handle.index, handle.serial), (index, serial));
+        assert!(rt; handle.index == index && handle.serial == serial);
         assert!(rt; !self.given.contains(&handle));
         if object == 0 {
             return Err("no object")?;
@@ -108,26 +108,40 @@ impl Table {
 
     /// Checks which handle the oldest reference of the newest frame has, if there is one.
     fn has_oldest(&self, rt: &impl Abort, wanted: Option<HandleParts>) {
-        assert_eq!(rt; self.frames.oldest_of_newest(), wanted);
+        assert!(rt; self.frames.oldest_of_newest() == wanted);
+    }
+
+    /// Checks that it is the handle of this number.
+    fn has_as_oldest(&self, rt: &impl Abort, number: usize) -> Result<(), Fail> {
+        let handle = self.handle(number)?;
+        self.has_oldest(rt, Some(handle));
+        Ok(())
+    }
+
+    /// Checks what the handle of this number names.
+    fn names(&self, rt: &impl Abort, number: usize, object: Option<u16>) -> Result<(), Fail> {
+        let handle = self.handle(number)?;
+        assert!(rt; self.frames.object_of(handle) == object);
+        Ok(())
+    }
+
+    /// Checks how many frames there are.
+    fn is_deep(&self, rt: &impl Abort, depth: usize) {
+        assert!(rt; self.frames.depth() == depth);
+        assert!(rt; self.frames.is_base() == (depth == 1));
     }
 
     /// Does one deed, and checks what comes of it.
     fn does(&mut self, rt: &impl Abort, deed: Deed) -> Result<(), Fail> {
         match deed {
-            Deed::Add(object, index, serial) => self.add(rt, object, index, serial)?,
-            Deed::Delete(number) => self.delete(number)?,
-            Deed::Push => self.push()?,
-            Deed::Pop => self.pop()?,
-            Deed::Names(number, object) => {
-                let handle = self.handle(number)?;
-                assert_eq!(rt; self.frames.object_of(handle), object);
-            }
-            Deed::Oldest(number) => self.has_oldest(rt, Some(self.handle(number)?)),
+            Deed::Add(object, index, serial) => return self.add(rt, object, index, serial),
+            Deed::Delete(number) => return self.delete(number),
+            Deed::Push => return self.push(),
+            Deed::Pop => return self.pop(),
+            Deed::Names(number, object) => return self.names(rt, number, object),
+            Deed::Oldest(number) => return self.has_as_oldest(rt, number),
             Deed::Empty => self.has_oldest(rt, None),
-            Deed::Deep(depth) => {
-                assert_eq!(rt; self.frames.depth(), depth);
-                assert!(rt; self.frames.is_base() == (depth == 1));
-            }
+            Deed::Deep(depth) => self.is_deep(rt, depth),
             Deed::Free(wanted) => self.has_free(rt, wanted),
             Deed::FreeAfterPop(wanted) => assert!(rt; self.frames.has_room_after_pop() == wanted),
         }

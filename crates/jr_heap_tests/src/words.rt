@@ -5,23 +5,18 @@ use jr_word::{
     Config, Elem, Fault, GateParts, GateState, GateWord, Handle, Header, HeaderParts, Kind,
     LocalParts, LocalWord, SlotParts, SlotWord, TopParts, TopWord,
 };
-use std::fmt::Debug;
+use std::alloc::Global;
 use std::process::Abort;
 use std::test::Fail;
 
 /// Asserts what a word is read as.
-fn reads<P: Copy + PartialEq + Debug>(
-    rt: &impl Abort,
-    word: u64,
-    found: Option<P>,
-    wanted: Option<P>,
-) {
-    assert_eq!(rt; found, wanted, "at {word:x}");
+fn reads<P: Copy + PartialEq>(rt: &impl Abort, word: u64, found: Option<P>, wanted: Option<P>) {
+    assert!(rt; found == wanted, "at {word:x}");
 }
 
 /// Asserts which word is written.
 fn writes(rt: &impl Abort, written: u64, wanted: u64) {
-    assert_eq!(rt; written, wanted);
+    assert!(rt; written == wanted);
 }
 
 /// Asserts what a word is read as.
@@ -96,8 +91,8 @@ fn gates(rt: HostRuntime) {
         state: GateState::Announced,
     };
     writes(&rt, GateWord::pack(announced).0, 131_074);
-    assert_eq!(rt; GateWord::SHUT, 65_536);
-    assert_eq!(rt; GateWord::ANNOUNCED, 131_072);
+    writes(&rt, GateWord::SHUT, 65_536);
+    writes(&rt, GateWord::ANNOUNCED, 131_072);
     reads_gate(&rt, 0, gate(0, GateState::Open));
     reads_gate(&rt, 65_537, gate(1, GateState::Shut));
     reads_gate(&rt, 0x1_ffff, gate(65_535, GateState::Shut));
@@ -230,8 +225,7 @@ fn word_and_back<E: Elem>(value: E) -> (u64, Option<E>)
 /// Asserts the word of an element. That it is read as the element again is proved.
 fn is_written<E: Elem>(rt: &impl Abort, value: E, word: u64) {
     let (written, back) = word_and_back(value);
-    assert_eq!(rt; written, word);
-    assert!(rt; back.is_some());
+    assert!(rt; written == word && back.is_some());
 }
 
 #[test]
@@ -253,19 +247,24 @@ fn elements(rt: HostRuntime) {
 }
 
 fn is_kind(rt: &impl Abort, kind: Kind, wanted: Kind) {
-    assert_eq!(rt; kind, wanted);
+    assert!(rt; kind == wanted);
+}
+
+/// Asserts that a word is that of no element of this type.
+fn is_none<E: Elem>(rt: &impl Abort, word: u64) {
+    assert!(rt; E::from_word(word).is_none());
 }
 
 #[test]
 fn words_past_the_range(rt: HostRuntime) {
     for past in [0, 1 << 32, u64::MAX - 0xffff_ffff] {
-        assert!(rt; bool::from_word(past | 2).is_none());
-        assert!(rt; i8::from_word(past | 0x100).is_none());
-        assert!(rt; u16::from_word(past | 0x1_0000).is_none());
-        assert!(rt; i16::from_word(past | 0x1_0000).is_none());
+        is_none::<bool>(&rt, past | 2);
+        is_none::<i8>(&rt, past | 0x100);
+        is_none::<u16>(&rt, past | 0x1_0000);
+        is_none::<i16>(&rt, past | 0x1_0000);
     }
-    assert!(rt; i32::from_word(1 << 32).is_none());
-    assert!(rt; i32::from_word(u64::MAX).is_none());
+    is_none::<i32>(&rt, 1 << 32);
+    is_none::<i32>(&rt, u64::MAX);
     is_kind(&rt, bool::KIND, Kind::Boolean);
     is_kind(&rt, i8::KIND, Kind::Byte);
     is_kind(&rt, u16::KIND, Kind::Char);
@@ -276,8 +275,8 @@ fn words_past_the_range(rt: HostRuntime) {
 
 #[test]
 fn answers_as_handles(rt: HostRuntime) {
-    assert_eq!(rt; Handle::or_null(None), Handle::NULL);
-    assert_eq!(rt; Handle::or_null(Some(Handle(10))), Handle(10));
+    assert!(rt; Handle::or_null(None) == Handle::NULL);
+    assert!(rt; Handle::or_null(Some(Handle(10))) == Handle(10));
 }
 
 /// Each refusal, in the order of the numbers, and what it prints.
@@ -358,19 +357,31 @@ const REFUSALS: [(Fault, &str); 23] = [
     ),
 ];
 
+/// What a refusal prints.
+fn shown(alloc: Global, fault: Fault) -> Result<String, Fail> {
+    Ok(format!(in alloc; "{fault}")?)
+}
+
+/// The answer of JNI for a refusal by its number: those two that are for want of memory have one.
+fn jni_code(number: usize) -> Option<i32> {
+    if number == 9 || number == 16 {
+        Some(-4)
+    } else {
+        None
+    }
+}
+
+/// Asserts a refusal's number, and its answer of JNI.
+fn has_number(rt: &impl Abort, fault: Fault, number: usize) {
+    assert!(rt; usize::from(fault.number()) == number, "{number}");
+    assert!(rt; fault.jni_code() == jni_code(number), "{number}");
+}
+
 #[test]
 fn faults(rt: HostRuntime) -> Result<(), Fail> {
     for (i, (fault, text)) in REFUSALS.iter().enumerate() {
-        let number = i + 1;
-        let shown = format!(in rt.alloc(); "{fault}")?;
-        assert_eq!(rt; shown.as_str(), *text);
-        assert_eq!(rt; usize::from(fault.number()), number);
-        let status = if number == 9 || number == 16 {
-            Some(-4)
-        } else {
-            None
-        };
-        assert_eq!(rt; fault.jni_code(), status, "at {shown}");
+        assert_eq!(rt; shown(rt.alloc(), *fault)?.as_str(), *text);
+        has_number(&rt, *fault, i + 1);
     }
     Ok(())
 }
@@ -395,10 +406,10 @@ fn limits(rt: HostRuntime) {
     for i in 0..5 {
         let mut above = greatest;
         above[i] += 1;
-        assert!(rt; !config(above).in_limits(), "above at {i}");
+        assert!(rt; !config(above).in_limits());
         let mut below = least;
         below[i] = below[i].saturating_sub(1);
-        assert_eq!(rt; config(below).in_limits(), i == 3, "below at {i}");
+        assert!(rt; config(below).in_limits() == (i == 3));
     }
 }
 
@@ -412,6 +423,6 @@ fn sizes_of_rows(rt: HostRuntime) {
     for (sizes, words) in rows {
         let config = config(sizes);
         assert!(rt; config.in_limits());
-        assert_eq!(rt; config.row_words(), words);
+        assert!(rt; config.row_words() == words);
     }
 }

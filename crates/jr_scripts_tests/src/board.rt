@@ -7,6 +7,7 @@ use jr_scripts::{Board, NoHold, Notes, Posts, run_all, run_one};
 use jr_syntax::{Command, OnName, Script, Sequence, ThreadPart, parse};
 use jr_word::Fault;
 use std::alloc::Global;
+use std::process::Abort;
 use std::test::Fail;
 
 /// A command that posts a name.
@@ -17,39 +18,47 @@ fn posting(word: &[u8]) -> Result<Command, Fail> {
     })
 }
 
+/// A script of one thread that posts six names.
+const SIX_POSTS: &[u8] =
+    b"vm threads 1 slots 1 objects 1 words 0 locals 16\nthread a\npost m\npost ab\npost z\npost a\npost abcdefghijklmnop\npost b\n";
+
+/// Checks that each of these commands posts a name, which has its own number, if any has.
+fn have_numbers(rt: &impl Abort, notes: &mut Notes<'_>, commands: &[Command], any: bool) {
+    for (i, command) in commands.iter().enumerate() {
+        let Command::OnName { verb: _, name } = command else {
+            panic!(rt; "a command posts no name")
+        };
+        let wanted = if any { Some(i as u64) } else { None };
+        assert!(rt; notes.look(name) == wanted);
+    }
+}
+
+/// Posts the number of each command under the name that it posts.
+fn post_numbers(notes: &mut Notes<'_>, commands: &[Command]) {
+    for (i, command) in commands.iter().enumerate() {
+        if let Command::OnName { verb: _, name } = command {
+            notes.post(name, i as u64);
+        }
+    }
+}
+
 #[test]
 fn each_name_has_a_word_of_its_own(rt: HostRuntime) -> Result<(), Fail> {
     let alloc = rt.alloc();
-    let commands = [
-        posting(b"m")?,
-        posting(b"ab")?,
-        posting(b"z")?,
-        posting(b"a")?,
-        posting(b"abcdefghijklmnop")?,
-        posting(b"b")?,
-    ];
-    let names = [
-        name_of(b"m")?,
-        name_of(b"ab")?,
-        name_of(b"z")?,
-        name_of(b"a")?,
-        name_of(b"abcdefghijklmnop")?,
-        name_of(b"b")?,
-    ];
+    let script = parse(alloc, SIX_POSTS)?;
+    let [part] = script.threads.as_slice() else {
+        return Err("the script has one thread")?;
+    };
+    let commands = part.commands.as_slice();
+    assert!(rt; commands.len() == 6);
     let mut posts = Posts::new(alloc);
-    posts.add(&commands)?;
+    posts.add(commands)?;
     let mut notes = Notes::new(alloc, &posts);
-    for name in &names {
-        assert_eq!(rt; notes.look(name), None);
-    }
-    for (i, name) in names.iter().enumerate() {
-        notes.post(name, i as u64);
-    }
+    have_numbers(&rt, &mut notes, commands, false);
+    post_numbers(&mut notes, commands);
+    have_numbers(&rt, &mut notes, commands, true);
     let mut others = Notes::new(alloc, &posts);
-    for (i, name) in names.iter().enumerate() {
-        assert_eq!(rt; notes.look(name), Some(i as u64));
-        assert_eq!(rt; others.look(name), Some(i as u64));
-    }
+    have_numbers(&rt, &mut others, commands, true);
     Ok(())
 }
 
@@ -62,7 +71,7 @@ fn the_first_word_of_a_name_stays(rt: HostRuntime) -> Result<(), Fail> {
     let mut notes = Notes::new(alloc, &posts);
     notes.post(&name, 0);
     notes.post(&name, 6);
-    assert_eq!(rt; notes.look(&name), Some(0));
+    assert!(rt; notes.look(&name) == Some(0));
     Ok(())
 }
 
@@ -87,15 +96,10 @@ fn a_second_post_of_a_name_gives_the_run_up(rt: HostRuntime) -> Result<(), Fail>
     let alloc = rt.alloc();
     let script = posting_twice(alloc)?;
     let mut out = Vec::from_slice(alloc, BEFORE)?;
-    assert_eq!(rt;
-        run_all(&rt, alloc, &script, &NoHold, TURNS, &mut out),
-        Err(Fault::Memory)
-    );
-    assert_eq!(rt;
-        run_one(alloc, &script, TURNS, &mut out),
-        Err(Fault::Memory)
-    );
-    assert_eq!(rt; out.as_slice(), BEFORE);
+    let answer = run_all(&rt, alloc, &script, &NoHold, TURNS, &mut out);
+    assert!(rt; answer == Err(Fault::Memory));
+    assert!(rt; run_one(alloc, &script, TURNS, &mut out) == Err(Fault::Memory));
+    assert!(rt; out.as_slice() == BEFORE);
     Ok(())
 }
 
@@ -107,8 +111,8 @@ fn a_name_without_a_cell_is_not_posted(rt: HostRuntime) -> Result<(), Fail> {
     let mut notes = Notes::new(alloc, &posts);
     let other = name_of(b"ga")?;
     notes.post(&other, 6);
-    assert_eq!(rt; notes.look(&other), None);
-    assert_eq!(rt; notes.look(&name_of(b"g")?), None);
+    assert!(rt; notes.look(&other).is_none());
+    assert!(rt; notes.look(&name_of(b"g")?).is_none());
     Ok(())
 }
 
@@ -128,8 +132,8 @@ fn a_thread_waits_for_one_without_memory_and_ends(rt: HostRuntime) -> Result<(),
     let script = parse(alloc, HANDED_OVER)?;
     let mut out = Vec::from_slice(alloc, BEFORE)?;
     if let Err(fault) = run_all(&rt, alloc, &script, &NoHold, 1_000, &mut out) {
-        assert_eq!(rt; fault, Fault::Memory);
-        assert_eq!(rt; out.as_slice(), BEFORE);
+        assert!(rt; fault == Fault::Memory);
+        assert!(rt; out.as_slice() == BEFORE);
         return Err(fault)?;
     }
     assert!(rt; out.starts_with(BEFORE));

@@ -1,4 +1,4 @@
-//! Scripts made by hand, in place of ones that were read: what can't be run, runs without turns, and what is called around commands.
+//! What is no script that can be run, as none is that was read; runs without turns, and what is called around commands.
 
 ghost use Rattle.jr_env.specs.Envs.{IsOutside};
 
@@ -7,12 +7,10 @@ use crate::thread_ends::plain_env;
 use jr_env::Env;
 use jr_scripts::{Hold, NoHold, Notes, Posts, run_all, run_one, run_thread};
 use jr_steps::Steps;
-use jr_syntax::{
-    Command, Make, MakeFrom, Name, On, Reference, Script, Sequence, ThreadPart, is_name,
-};
+use jr_syntax::{Command, Name, Script, Sequence, ThreadPart, is_name, parse};
 use jr_weak::Marker;
 use jr_word::{Config, Fault};
-use std::alloc::{AllocError, Global};
+use std::alloc::Global;
 use std::process::Abort;
 use std::sync::atomic::{AtomicU64, Ordering};
 use std::test::Fail;
@@ -23,60 +21,52 @@ pub(crate) const SIZES: Config = Config {
     ..Config::LEAST
 };
 
-/// The name that a word is.
-fn name(rt: &impl Abort, word: &[u8]) -> Name {
-    assert!(rt; is_name(word));
-    Name::new(word)
+/// The name of these bytes.
+pub(crate) fn name_of(word: &[u8]) -> Result<Name, Fail> {
+    if !is_name(word) {
+        return Err("the word is no name")?;
+    }
+    Ok(Name::new(word))
 }
 
-/// Adds a part without commands.
-fn add_part(script: &mut Script, alloc: Global, name: Name) -> Result<(), AllocError> {
-    script.threads.push(ThreadPart {
-        name,
-        commands: Sequence::new(alloc),
-    })
+/// A script of these sizes, with a part without commands for each name, which is one letter.
+fn without_commands(alloc: Global, config: Config, names: &[u8]) -> Result<Script, Fail> {
+    let mut threads = Sequence::new(alloc);
+    for letter in names {
+        let name = name_of(&[*letter])?;
+        let commands = Sequence::new(alloc);
+        threads.push(ThreadPart { name, commands })?;
+    }
+    Ok(Script { config, threads })
 }
 
-#[test]
-fn a_script_that_has_not_one_thread(rt: HostRuntime) -> Result<(), Fail> {
-    let alloc = rt.alloc();
-    let mut script = Script {
-        config: SIZES,
-        threads: Sequence::new(alloc),
-    };
+/// Checks that such a script is not run alone, and that nothing is printed.
+fn is_not_run(rt: &impl Abort, alloc: Global, config: Config, names: &[u8]) -> Result<(), Fail> {
+    let script = without_commands(alloc, config, names)?;
     let mut out = Vec::from_slice(alloc, BEFORE)?;
-    assert_eq!(rt; run_one(alloc, &script, TURNS, &mut out), Err(Fault::Size));
-    add_part(&mut script, alloc, name(&rt, b"a"))?;
-    add_part(&mut script, alloc, name(&rt, b"b"))?;
-    assert_eq!(rt; run_one(alloc, &script, TURNS, &mut out), Err(Fault::Size));
-    assert_eq!(rt; out.as_slice(), BEFORE);
+    assert!(rt; run_one(alloc, &script, TURNS, &mut out) == Err(Fault::Size));
+    assert!(rt; out.as_slice() == BEFORE);
     Ok(())
 }
 
 #[test]
-fn a_script_whose_sizes_do_not_fit(rt: HostRuntime) -> Result<(), Fail> {
+fn scripts_that_are_not_run_alone(rt: HostRuntime) -> Result<(), Fail> {
     let alloc = rt.alloc();
-    let mut script = Script {
-        config: Config {
-            threads: 2,
-            ..SIZES
-        },
-        threads: Sequence::new(alloc),
+    let two = Config {
+        threads: 2,
+        ..SIZES
     };
-    let mut out = Vec::from_slice(alloc, BEFORE)?;
-    add_part(&mut script, alloc, name(&rt, b"a"))?;
-    assert_eq!(rt; run_one(alloc, &script, TURNS, &mut out), Err(Fault::Size));
-    script.config = Config { slots: 0, ..SIZES };
-    assert_eq!(rt; run_one(alloc, &script, TURNS, &mut out), Err(Fault::Size));
-    assert_eq!(rt; out.as_slice(), BEFORE);
-    Ok(())
+    is_not_run(&rt, alloc, SIZES, b"")?;
+    is_not_run(&rt, alloc, SIZES, b"ab")?;
+    is_not_run(&rt, alloc, two, b"a")?;
+    is_not_run(&rt, alloc, Config { slots: 0, ..SIZES }, b"a")
 }
 
 /// Runs commands, of which the first stands on line 10, with a marker that is made for it.
 fn run_from_line_10<S: Steps>(
     alloc: Global,
     env: &mut Env<S>,
-    commands: &[Command; 2],
+    commands: &[Command],
     turns: u64,
     out: &mut Vec<u8>,
 ) -> Result<(), Fault>
@@ -98,78 +88,34 @@ fn run_from_line_10<S: Steps>(
     )
 }
 
+/// A script of one thread.
+const TWO_COMMANDS: &[u8] =
+    b"vm threads 1 slots 1 objects 2 words 0 locals 16\nthread a\nplain p\ntype p\n";
+
 #[test]
 fn a_thread_without_turns(rt: HostRuntime) -> Result<(), Fail> {
     let alloc = rt.alloc();
-    let commands = [
-        Command::Make {
-            verb: Make::Plain,
-            name: name(&rt, b"p"),
-        },
-        Command::On {
-            verb: On::Type,
-            target: Reference::Named(name(&rt, b"p")),
-        },
-    ];
+    let script = parse(alloc, TWO_COMMANDS)?;
+    let [part] = script.threads.as_slice() else {
+        return Err("the script has one thread")?;
+    };
+    let commands = part.commands.as_slice();
     let mut env = plain_env(alloc)?;
-    let mut out = Vec::from_slice(alloc, BEFORE)?;
-    run_from_line_10(alloc, &mut env, &commands, 0, &mut out)?;
-    assert_eq!(rt; out.as_slice(), b"before\n10 ! E20\ntype p 0\n".as_slice());
-    run_from_line_10(alloc, &mut env, &commands, 1, &mut out)?;
-    assert_eq!(rt;
-        out.as_slice(),
-        b"before\n10 ! E20\ntype p 0\ntype p 1\n".as_slice()
-    );
+    let mut out = Vec::new(alloc);
+    run_from_line_10(alloc, &mut env, commands, 0, &mut out)?;
+    assert!(rt; out.as_slice() == b"10 ! E20\ntype p 0\n".as_slice());
+    run_from_line_10(alloc, &mut env, commands, 1, &mut out)?;
+    assert!(rt; out.as_slice() == b"10 ! E20\ntype p 0\ntype p 1\n".as_slice());
     Ok(())
 }
 
-/// The name of these bytes.
-pub(crate) fn name_of(word: &[u8]) -> Result<Name, Fail> {
-    if !is_name(word) {
-        return Err("the word is no name")?;
-    }
-    Ok(Name::new(word))
-}
+/// Three threads, of which each makes an object and two references to it, and deletes one.
+const BUSY: &[u8] =
+    b"vm threads 3 slots 6 objects 3 words 0 locals 16\nthread a\nplain p\nglobal g p\nweak w g\ntype g\ndrop g\ntype g\nglobal z g\nthread b\nplain p\nglobal g p\nweak w g\ntype g\ndrop g\ntype g\nglobal z g\nthread c\nplain p\nglobal g p\nweak w g\ntype g\ndrop g\ntype g\nglobal z g\n";
 
-/// A thread that makes an object and two references to it, of which it deletes one.
-fn busy_part(alloc: Global, name: &[u8]) -> Result<ThreadPart, Fail> {
-    let mut commands = Sequence::new(alloc);
-    commands.push(Command::Make {
-        verb: Make::Plain,
-        name: name_of(b"p")?,
-    })?;
-    commands.push(Command::MakeFrom {
-        verb: MakeFrom::Global,
-        name: name_of(b"g")?,
-        target: Reference::Named(name_of(b"p")?),
-    })?;
-    commands.push(Command::MakeFrom {
-        verb: MakeFrom::Weak,
-        name: name_of(b"w")?,
-        target: Reference::Named(name_of(b"g")?),
-    })?;
-    commands.push(Command::On {
-        verb: On::Type,
-        target: Reference::Named(name_of(b"g")?),
-    })?;
-    commands.push(Command::On {
-        verb: On::Drop,
-        target: Reference::Named(name_of(b"g")?),
-    })?;
-    commands.push(Command::On {
-        verb: On::Type,
-        target: Reference::Named(name_of(b"g")?),
-    })?;
-    commands.push(Command::MakeFrom {
-        verb: MakeFrom::Global,
-        name: name_of(b"z")?,
-        target: Reference::Named(name_of(b"g")?),
-    })?;
-    Ok(ThreadPart {
-        name: name_of(name)?,
-        commands,
-    })
-}
+/// What they print.
+const BUSY_OUTPUT: &[u8] =
+    b"before\n[a]\ntype g 2\ntype g 0\n9 ! E2\n[b]\ntype g 2\ntype g 0\n17 ! E2\n[c]\ntype g 2\ntype g 0\n25 ! E2\n[end]\nglobals 0 weaks 3 live 3 used 0\n";
 
 /// Counts the commands that have begun, and those that were answered.
 #[derive(Drop)]
@@ -191,18 +137,7 @@ impl Hold for Counts {
 #[test]
 fn three_threads_of_one_script_run_in_one_room(rt: HostRuntime) -> Result<(), Fail> {
     let alloc = rt.alloc();
-    let mut threads = Sequence::new(alloc);
-    threads.push(busy_part(alloc, b"a")?)?;
-    threads.push(busy_part(alloc, b"b")?)?;
-    threads.push(busy_part(alloc, b"c")?)?;
-    let config = Config {
-        threads: 3,
-        slots: 6,
-        objects: 3,
-        words: 0,
-        locals: 16,
-    };
-    let script = Script { config, threads };
+    let script = parse(alloc, BUSY)?;
     let mut out = Vec::from_slice(alloc, BEFORE)?;
     let hold = Counts {
         begun: AtomicU64::new(0),
@@ -211,28 +146,19 @@ fn three_threads_of_one_script_run_in_one_room(rt: HostRuntime) -> Result<(), Fa
     let answer = run_all(&rt, alloc, &script, &hold, 1_000_000, &mut out);
     // Each thread was joined, also where memory was refused: no command is under way.
     let begun = hold.begun.load(Ordering::SeqCst);
-    assert_eq!(rt; hold.answered.load(Ordering::SeqCst), begun);
+    assert!(rt; hold.answered.load(Ordering::SeqCst) == begun);
     assert!(rt; begun == 21 || answer.is_err());
-    let wanted =
-        b"before\n[a]\ntype g 2\ntype g 0\n9 ! E2\n[b]\ntype g 2\ntype g 0\n17 ! E2\n[c]\ntype g 2\ntype g 0\n25 ! E2\n[end]\nglobals 0 weaks 3 live 3 used 0\n";
-    leaves(&rt, answer, &out, wanted)
+    leaves(&rt, answer, &out, BUSY_OUTPUT)
 }
 
 #[test]
 fn a_script_with_a_part_too_few_is_refused(rt: HostRuntime) -> Result<(), Fail> {
     let alloc = rt.alloc();
-    let mut threads = Sequence::new(alloc);
-    threads.push(busy_part(alloc, b"a")?)?;
-    let config = Config {
-        threads: 2,
-        ..SIZES
-    };
-    let script = Script { config, threads };
+    let mut script = parse(alloc, BUSY)?;
+    script.config.threads = 4;
     let mut out = Vec::from_slice(alloc, BEFORE)?;
-    assert_eq!(rt;
-        run_all(&rt, alloc, &script, &NoHold, TURNS, &mut out),
-        Err(Fault::Size)
-    );
-    assert_eq!(rt; out.as_slice(), BEFORE);
+    let answer = run_all(&rt, alloc, &script, &NoHold, TURNS, &mut out);
+    assert!(rt; answer == Err(Fault::Size));
+    assert!(rt; out.as_slice() == BEFORE);
     Ok(())
 }

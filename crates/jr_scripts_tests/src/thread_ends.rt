@@ -8,8 +8,10 @@ use jr_env::Env;
 use jr_model::Summary;
 use jr_rule::PlainSteps;
 use jr_scripts::{NoHold, Notes, Posts, run_to_end};
-use jr_word::Fault;
+use jr_steps::Steps;
+use jr_word::{Fault, Handle};
 use std::alloc::Global;
+use std::process::Abort;
 use std::test::Fail;
 
 /// An env over plain words.
@@ -22,26 +24,55 @@ pub(crate) fn plain_env(alloc: Global) -> Result<Env<PlainSteps<2>>, Fail>
     Ok(env)
 }
 
+/// The thread comes to its end without commands, and prints nothing.
+fn ends<S: Steps>(rt: &impl Abort, alloc: Global, env: &mut Env<S>, turns: u64) -> Result<(), Fail>
+    requires { IsOutside env.old }
+    ensures { IsOutside env.new }
+{
+    let posts = Posts::new(alloc);
+    let mut notes = Notes::new(alloc, &posts);
+    let mut out = Vec::from_slice(alloc, BEFORE)?;
+    run_to_end(alloc, env, 3, &[], &mut notes, &NoHold, turns, &mut out)?;
+    assert!(rt; out.as_slice() == BEFORE);
+    Ok(())
+}
+
+/// Where it has no turns, a local reference stays.
+fn keeps_a_local<S: Steps>(rt: &impl Abort, alloc: Global, env: &mut Env<S>) -> Result<Handle, Fail>
+    ensures { IfOk result (λ _. IsOutside env.new) }
+{
+    let local = env.new_plain()?;
+    ends(rt, alloc, env, 0)?;
+    assert!(rt; env.get_object_ref_type(local) == Ok(1));
+    Ok(local)
+}
+
+/// Where it has one, it is freed.
+fn frees_a_local<S: Steps>(
+    rt: &impl Abort,
+    alloc: Global,
+    env: &mut Env<S>,
+    local: Handle,
+) -> Result<(), Fail>
+    requires { IsOutside env.old }
+{
+    ends(rt, alloc, env, 1)?;
+    assert!(rt; env.get_object_ref_type(local) == Ok(0));
+    assert!(rt; env.new_local_ref(local) == Err(Fault::Stale));
+    Ok(())
+}
+
 #[test]
 fn a_thread_without_turns_keeps_its_locals(rt: HostRuntime) -> Result<(), Fail> {
     let alloc = rt.alloc();
     let mut env = plain_env(alloc)?;
-    let local = env.new_plain()?;
-    let posts = Posts::new(alloc);
-    let mut notes = Notes::new(alloc, &posts);
-    let mut out = Vec::from_slice(alloc, BEFORE)?;
-    run_to_end(alloc, &mut env, 3, &[], &mut notes, &NoHold, 0, &mut out)?;
-    assert_eq!(rt; env.get_object_ref_type(local)?, 1);
+    let local = keeps_a_local(&rt, alloc, &mut env)?;
     let summary = Summary {
         globals: 0,
         weaks: 0,
         live: 1,
         used: 0,
     };
-    assert_eq!(rt; env.held.steps.summary(), summary);
-    run_to_end(alloc, &mut env, 3, &[], &mut notes, &NoHold, 1, &mut out)?;
-    assert_eq!(rt; env.get_object_ref_type(local)?, 0);
-    assert_eq!(rt; env.new_local_ref(local).err(), Some(Fault::Stale));
-    assert_eq!(rt; out.as_slice(), BEFORE);
-    Ok(())
+    assert!(rt; env.held.steps.summary() == summary);
+    frees_a_local(&rt, alloc, &mut env, local)
 }

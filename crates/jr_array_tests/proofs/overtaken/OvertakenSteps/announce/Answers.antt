@@ -1,5 +1,0 @@
-use Rattle.jr_array_tests.proofs.Forwarded.{forwarded}
-use Rattle.jr_array_tests.proofs.overtaken.OvertakenSteps.announce.Goals as goal
-
-pub returns : goal.returns
-returns g c = forwarded c.announce.ensures
