@@ -26,7 +26,7 @@ use Rattle.jr_env.specs.Deeds.{Deed, DoesDeed, answered_by, done}
 use Rattle.jr_env.specs.OpenStays.{PerformsOver, StaysOn}
 use Rattle.jr_env.specs.StayDeeds.{copying_back, within_by, within_on_by, within_on_both_by}
 use Rattle.jr_env.specs.LentStays.{DoesInside}
-use Rattle.jr_env.proofs.EnvCalls.{did_answer, did_refuse}
+use Rattle.jr_env.proofs.Carrying.{did_answer, did_more, did_refuse, does_nothing}
 
 module _ {S : Type 0} (facts : S → Facts) (fits : AreOf facts) (a b : S) (f g : Frames) where
   -- what a work did, as a deed
@@ -66,15 +66,13 @@ module _ {S : Type 0} {G : Ghosts S} (fits : AreOf G.facts) (old new : Env S G) 
   pub inside_on : {A : Type 0} {answer : Result A Fault} (silent : Config → ℕ) (work : Config → ℕ → ℕ → State → Word → Call A) (w : ℕ) (r : Word) → IsReadAs w r
       → PerformsOver old.held new.held silent (λ c last t s. work c last t s r) answer → StaysOn old.held new.held → DoesInside old new (within_on_by silent w work) answer
   inside_on silent work w r reads p on =
-      let d = deed_of silent (λ c last t s. work c last t s r) p in
-      record { did = record { stands_is = d.stands_is; did = λ k s m. let x = d.did k s m in (x.0, x.1, x.2, (r, reads, x.3)) }; on = on }
+      record { did = did_more (λ k m x. (r, reads, x)) (deed_of silent (λ c last t s. work c last t s r) p); on = on }
 
   -- a call that is handed two reference words
   pub inside_on_both : {A : Type 0} {answer : Result A Fault} (silent : Config → ℕ) (work : Config → ℕ → ℕ → State → Word → Word → Call A) (v w : ℕ) (q r : Word) → IsReadAs v q → IsReadAs w r
       → PerformsOver old.held new.held silent (λ c last t s. work c last t s q r) answer → StaysOn old.held new.held → DoesInside old new (within_on_both_by silent v w work) answer
   inside_on_both silent work v w q r reads reads' p on =
-      let d = deed_of silent (λ c last t s. work c last t s q r) p in
-      record { did = record { stands_is = d.stands_is; did = λ k s m. let x = d.did k s m in (x.0, x.1, x.2, (q, r, reads, reads', x.3)) }; on = on }
+      record { did = did_more (λ k m x. (q, r, reads, reads', x)) (deed_of silent (λ c last t s. work c last t s q r) p); on = on }
 
 module _ {S : Type 0} {G : Ghosts S} (old new : Env S G) where
   -- the answer in another form
@@ -98,5 +96,5 @@ module _ {S : Type 0} {G : Ghosts S} (old new : Env S G) where
   gives_back kind w buffer Abort ne answer d = absurd (ne refl)
 
 -- what does nothing
-pub does_nothing : {S : Type 0} {G : Ghosts S} (env : Env S G) {A : Type 0} (x : A) → DoesInside env env (done x) (Ok x)
-does_nothing env x = record { did = record { stands_is = nothing_changed; did = λ k s m. (k, s, m, (refl, refl)) }; on = λ begun since. since }
+pub nothing_inside : {S : Type 0} {G : Ghosts S} (env : Env S G) {A : Type 0} (x : A) → DoesInside env env (done x) (Ok x)
+nothing_inside env x = record { did = does_nothing (λ p. (refl, refl)); on = λ begun since. since }

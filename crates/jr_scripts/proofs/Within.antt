@@ -1,8 +1,6 @@
 -- What was done where a thread stands in a region, and how it came there, for whatever was known.
 use Rattle.std.proofs.Common.{◌≡◌, ◌+◌, ◌-◌, ◌<◌, ◌≤◌, ◌∷◌, [], ◌∙◌, ℕ, ℤ, suc, true, false, List, Result, Ok, Err, length, inl, inr, subst, sym, ap, refl, arith}
 use Rattle.std.specs.Prelude.{IfErr, IfOk}
-use Rattle.std.specs.Result.{IsErrAnd}
-use Rattle.std.proofs.lemmas.Result.{err_from_is_err_and}
 use Rattle.jr_word.specs.declared.config.Config.{Config}
 use Rattle.jr_word.specs.declared.fault.Fault.{Fault}
 use Rattle.jr_word.specs.declared.fault.Fault.TheVariants as fault
@@ -27,12 +25,13 @@ use Rattle.jr_steps.specs.declared.steps.Steps.{Ghosts}
 use Rattle.jr_env.specs.declared.env.Env.{Env}
 use Rattle.jr_env.specs.Envs.{IsOutside}
 use Rattle.jr_env.specs.Criticals.{HasEntered, WasRefused}
-use Rattle.jr_env.specs.Deeds.{Deed, decided, done, ◌>>=◌, ◌>>◌}
+use Rattle.jr_env.specs.Deeds.{CarriedOut, Deed, decided, done, ◌>>=◌, ◌>>◌}
+use Rattle.jr_env.proofs.Carrying.{did_decided, did_decline, did_more, did_refused, did_reply, did_then, in_role, role_kept}
 use Rattle.jr_syntax.specs.declared.verb.OpenLevel.{OpenLevel}
 use Rattle.jr_scripts.specs.declared.number.NumberKind.{NumberKind}
 use Rattle.jr_scripts.specs.declared.reply.Reply.{Reply}
 use Rattle.jr_scripts.specs.declared.reply.Reply.TheVariants as replies
-use Rattle.jr_scripts.specs.Advancing.{CarriedOut, DidOpen, KnowsOpened}
+use Rattle.jr_scripts.specs.Advancing.{DidOpen, KnowsOpened}
 use Rattle.jr_scripts.specs.Numbers.{has_numbers, kind_numbered, word_of_number}
 use Rattle.jr_scripts.specs.Names.{Names}
 use Rattle.jr_scripts.specs.Text.{buffers_after}
@@ -46,61 +45,7 @@ use Rattle.jr_env.specs.Tries.{is_tried_again}
 use Rattle.jr_scripts.specs.Tries.{answered, again, gave_up}
 use Rattle.jr_scripts.specs.RegionCommands.{deed_at, deed_within, in_stay, kind_of_level, nesting, nests, read_kind, level_reading, reading_as, level_writing, writing_as}
 
--- the same room and thread, and this role
-pub in_role : {s t : Standing} (r : Role) → IsAsBefore s t → s.role ≡ r → IsAsBefore (record s { role = r }) t
-in_role r b is = record { room = b.room; config = b.config; last = b.last; thread = b.thread; role = b.role ∙ is }
-
--- one and then the other
-pub role_then : (s t u : Standing) (q r : Role) → IsAsBefore (record s { role = q }) t → IsAsBefore (record t { role = r }) u → IsAsBefore (record s { role = r }) u
-role_then s t u q r a b = record { room = b.room ∙ a.room; config = b.config ∙ a.config; last = b.last ∙ a.last; thread = b.thread ∙ a.thread; role = b.role }
-
--- nothing changed
-pub role_kept : {s : Standing} (r : Role) → s.role ≡ r → IsAsBefore (record s { role = r }) s
-role_kept r is = record { room = refl; config = refl; last = refl; thread = refl; role = is }
-
 module _ {S : Type 0} {facts : S → Facts} where
-  -- a deed that leads on to another
-  pub did_more : {A B : Type 0} {a b : S} {f g : Frames} {r : Role} {met shown : Known → Type 0} {one : Deed A} {two : Deed B} {once : Result A Fault} {answer : Result B Fault}
-      → ((p q : ThreadState) → one p once q → two p answer q) → CarriedOut facts a b f g r met shown one once → CarriedOut facts a b f g r met shown two answer
-  did_more w d = record { stands_is = d.stands_is; did = λ k s m. let x = d.did k s m in (x.0, x.1, x.2, w _ _ x.3) }
-
-  -- no deed leads nowhere
-  pub did_nowhere : {A : Type 0} {a : S} {f : Frames} {r : Role} {met shown : Known → Type 0} {deed : Deed A} {answer : Result A Fault}
-      → (facts a).stands.role ≡ r → ((k : Known) → met k → shown k) → ((p : ThreadState) → deed p answer p) → CarriedOut facts a a f f r met shown deed answer
-  did_nowhere {r = r} is on w = record { stands_is = role_kept r is; did = λ k s m. (k, s, on k m, w _) }
-
-  -- one deed was answered, and the next was done
-  pub did_then : {A B : Type 0} {a b c : S} {f g h : Frames} {q r : Role} {met mid shown : Known → Type 0} {one : Deed A} {x : A} (next : A → Deed B) {answer : Result B Fault}
-      → CarriedOut facts a b f g q met mid one (Ok x) → CarriedOut facts b c g h r mid shown (next x) answer → CarriedOut facts a c f h r met shown (one >>= next) answer
-  did_then {a = a} {b = b} {c = c} {q = q} {r = r} next first more = record {
-    stands_is = role_then (facts a).stands (facts b).stands (facts c).stands q r first.stands_is more.stands_is;
-    did = λ k s m. let x = first.did k s m in let y = more.did x.0 x.1 x.2 in (y.0, y.1, y.2, inl (_, _, x.3, y.3));
-  }
-
-  -- a deed was refused, and the next was not done
-  pub did_refused : {A B : Type 0} {a b : S} {f g : Frames} {r : Role} {met shown : Known → Type 0} {one : Deed A} (next : A → Deed B) (e : Fault) → CarriedOut facts a b f g r met shown one (Err e) → CarriedOut facts a b f g r met shown (one >>= next) (Err e)
-  did_refused next e = did_more (λ p q d. inr (e, refl, d))
-
-  -- a deed was answered, and nothing more is done
-  pub did_reply : {A B : Type 0} {a b : S} {f g : Frames} {r : Role} {met shown : Known → Type 0} {one : Deed A} (reply : A → B) (x : A) → CarriedOut facts a b f g r met shown one (Ok x) → CarriedOut facts a b f g r met shown (one >>= (λ x. done (reply x))) (Ok (reply x))
-  did_reply reply x = did_more (λ p q d. inl (x, q, d, (refl, refl)))
-
-  -- what was decided before a deed
-  pub did_decided : {A B : Type 0} {a b : S} {f g : Frames} {role : Role} {met shown : Known → Type 0} {r : Result A Fault} {x : A} (next : A → Deed B) {answer : Result B Fault}
-      → r ≡ Ok x → CarriedOut facts a b f g role met shown (next x) answer → CarriedOut facts a b f g role met shown (decided r >>= next) answer
-  did_decided {x = x} next is = did_more (λ p q d. inl (x, p, (sym is, refl), d))
-
-  -- a refusal that was decided before a deed
-  pub did_decline : {A B : Type 0} {a : S} {f : Frames} {role : Role} {met shown : Known → Type 0} {r : Result A Fault} {e : Fault} (next : A → Deed B)
-      → (facts a).stands.role ≡ role → ((k : Known) → met k → shown k) → r ≡ Err e → CarriedOut facts a a f f role met shown (decided r >>= next) (Err e)
-  did_decline {e = e} next role on is = did_nowhere role on (λ p. inr (e, refl, (sym is, refl)))
-
-  -- a refusal at the exit of a `?`
-  pub did_residual : {A : Type 0} {a b : S} {f g : Frames} {role : Role} {met shown : Known → Type 0} {deed : Deed A} (e : Fault) (answer : Result A Fault) → IsErrAnd answer (λ y. y ≡ e) → CarriedOut facts a b f g role met shown deed (Err e) → CarriedOut facts a b f g role met shown deed answer
-  did_residual {a = a} {b = b} {f = f} {g = g} {role = role} {met = met} {shown = shown} {deed = deed} e answer given d =
-      let why = err_from_is_err_and answer given in
-      subst (λ r. CarriedOut facts a b f g role met shown deed r) (sym (why.1 ∙ ap (λ (v : Fault). Err v) why.2)) d
-
   -- a number was stored at a level
   module _ {a b : S} {f g : Frames} {met shown : Known → Type 0} (o i : ℕ) (x z : ℤ) (k : Kind) (word : ℕ) (is : word_of_number k z ≡ Ok word) (same : z ≡ x) where
     pub did_store : CarriedOut facts a b f g Within met shown (in_stay 0 (λ c last t s. region_set c last t s k o i word)) (Ok tt) → CarriedOut facts a b f g Within met shown (writing_as o i x k) (Ok replies.Done)
@@ -108,28 +53,6 @@ module _ {S : Type 0} {facts : S → Facts} where
 
     pub did_store_not : (e : Fault) → CarriedOut facts a b f g Within met shown (in_stay 0 (λ c last t s. region_set c last t s k o i word)) (Err e) → CarriedOut facts a b f g Within met shown (writing_as o i x k) (Err e)
     did_store_not e d = did_decided (λ word. in_stay 0 (λ c last t s. region_set c last t s k o i word) >> done replies.Done) (ap (word_of_number k) (sym same) ∙ is) (did_refused (λ _. done replies.Done) e d)
-
-  -- a deed is done again where it was raced or barred, counted from the first
-  module _ {A : Type 0} {deed : Deed A} {role : Role} {shown : Known → Type 0} where
-    pub did_from_first : {a b : S} {f g : Frames} {answer : Result A Fault} (n : ℕ) → CarriedOut facts a b f g role (Holds f) shown (tried (n - 0) deed) answer → CarriedOut facts a b f g role (Holds f) shown (tried n deed) answer
-    did_from_first {a} {b} {f} {g} {answer} n d = let e : n - 0 ≡ n = omega arith in subst (λ m. CarriedOut facts a b f g role (Holds f) shown (tried m deed) answer) e d
-
-    pub did_answered : {a b : S} {f g : Frames} {answer : Result A Fault} (n k : ℕ) → k < n → CarriedOut facts a b f g role (Holds f) shown deed answer → is_tried_again answer ≡ false → CarriedOut facts a b f g role (Holds f) shown (tried (n - k) deed) answer
-    did_answered {a} {b} {f} {g} {answer} n k l d settled =
-        let e : suc (n - (k + 1)) ≡ n - k = omega arith in
-        subst (λ m. CarriedOut facts a b f g role (Holds f) shown (tried m deed) answer) e (did_more (λ p q o. answered o settled) d)
-
-    pub did_again : {a b c : S} {f g h : Frames} {once answer : Result A Fault} (n k : ℕ) → k < n → CarriedOut facts a b f g Outside (Holds f) (Holds g) deed once → is_tried_again once ≡ true → CarriedOut facts b c g h role (Holds g) shown (tried (n - (k + 1)) deed) answer → CarriedOut facts a c f h role (Holds f) shown (tried (n - k) deed) answer
-    did_again {a} {b} {c} {f} {g} {h} {once} {answer} n k l d unsettled more =
-        let e : suc (n - (k + 1)) ≡ n - k = omega arith in
-        let all : CarriedOut facts a c f h role (Holds f) shown (tried (suc (n - (k + 1))) deed) answer = record {
-          stands_is = role_then (facts a).stands (facts b).stands (facts c).stands Outside role d.stands_is more.stands_is;
-          did = λ s w m. let x = d.did s w m in let y = more.did x.0 x.1 x.2 in (y.0, y.1, y.2, again x.3 unsettled y.3);
-        } in
-        subst (λ m. CarriedOut facts a c f h role (Holds f) shown (tried m deed) answer) e all
-
-  pub did_give_up : {A : Type 0} {deed : Deed A} {a : S} {f : Frames} (n k : ℕ) → n ≤ k → (facts a).stands.role ≡ Outside → CarriedOut facts a a f f Outside (Holds f) (Holds f) (tried (n - k) deed) (Err fault.Turns)
-  did_give_up {A} {deed} {a} {f} n k l outside = let e : 0 ≡ n - k = omega arith in subst (λ m. CarriedOut facts a a f f Outside (Holds f) (Holds f) (tried m deed) (Err fault.Turns)) e (did_nowhere outside (λ k m. m) (λ p. gave_up))
 
 module _ {S : Type 0} (facts : S → Facts) (fits : AreOf facts) where
   -- a call of the steps' own thread is one of whoever knows the pass
