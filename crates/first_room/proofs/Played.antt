@@ -2,7 +2,6 @@
 use Rattle.std.proofs.Common.{◌≡◌, ◌<◌, ◌∙◌, ℕ, ℤ, Bool, Option, Some, None, [], ◌∷◌, Result, Ok, Err, IfOk, length, inl, refl, sym, ap, subst, arith}
 use Rattle.std.specs.Int.{w32}
 use Rattle.std.specs.Prelude.{unwrap_or}
-use Rattle.jr_word.specs.declared.config.Config.{Config}
 use Rattle.jr_word.specs.declared.fault.Fault.{Fault}
 use Rattle.jr_word.specs.declared.fault.Fault.TheVariants.{Busy}
 use Rattle.jr_word.specs.declared.handle.Handle.{Handle}
@@ -10,14 +9,11 @@ use Rattle.jr_word.specs.declared.handle.RefKind.TheVariants.{Global, Weak}
 use Rattle.jr_word.specs.declared.kind.Kind.TheVariants.{Int, Long}
 use Rattle.jr_word.specs.Elem.{signed_word}
 use Rattle.jr_model.specs.declared.event.Role.TheVariants.{Outside}
-use Rattle.jr_model.specs.State.{State}
-use Rattle.jr_model.specs.Calls.{Call}
 use Rattle.jr_model.specs.Frames.{Frames, fresh_frames}
 use Rattle.jr_model.specs.Objects.{get_array_critical, region_get}
-use Rattle.jr_steps.specs.declared.known.Known.{Known}
-use Rattle.jr_steps.specs.Knowing.{AreOf, Facts, IsOf, Spent, Standing, state_of}
-use Rattle.jr_gate.specs.Performing.{ThreadState, IsMade, thread_state}
-use Rattle.jr_env.proofs.Carrying.{did_more, did_reply, does_nothing, does_then}
+use Rattle.jr_steps.specs.Knowing.{AreOf, Facts, Spent}
+use Rattle.jr_gate.specs.Performing.{thread_state}
+use Rattle.jr_env.proofs.Carrying.{did_more, did_reply, does_nothing, does_then, own_call}
 use Rattle.jr_rule.specs.declared.pass.Pass.{Pass}
 use Rattle.jr_rule.specs.Passes.{Holder, facts_of, holder_of, standing_of}
 use Rattle.jr_frames.specs.Table.{Table}
@@ -28,13 +24,6 @@ use Rattle.jr_env.specs.Collections.{collection}
 use Rattle.jr_env.specs.Deeds.{Deed, DoesDeed, DoesOutside, new_plain, new_array, new_object_array, new_reference, delete_reference, is_same_object, get_object_ref_type, push_local_frame, pop_local_frame, set_array_region, done, ◌>>=◌}
 use Rattle.first_room.specs.Calls.{clearing, collecting_in_turn, collecting_twice, is_handed, is_kept_out, preparing, reading_within, sharing, visiting, word_made}
 use Rattle.first_room.specs.Parts.{HasPlayed}
-
--- a call of the steps' own thread is one of whoever knows the pass
-own_call : {A : Type 0} {n : ℕ} {p q : ThreadState} (call : Config → ℕ → ℕ → State → Call A) {answer : Result A Fault} (st : Standing) (k : Known) (s : State) → IsOf st k → IsMade n p q (call st.config st.last st.thread s) answer → IsMade n p q (call k.config k.last k.thread s) answer
-own_call {n = n} {p = p} {q = q} call {answer = answer} st k s of m =
-    subst (λ c. IsMade n p q (call c k.last k.thread s) answer) (sym of.config)
-    (subst (λ l. IsMade n p q (call st.config l k.thread s) answer) (sym of.last)
-    (subst (λ t. IsMade n p q (call st.config st.last t s) answer) (sym of.thread) m))
 
 module _ {S : Type 0} {facts : S → Facts} where
   -- the first thread's calls before it collects
@@ -98,11 +87,11 @@ module _ {S : Type 0} {facts : S → Facts} where
               inl (
                 level_object v 0,
                 thread_state (facts b) x1.0 f,
-                (opened.0, opened.1, own_call (λ c last t s. get_array_critical c last t s opened.0) (facts a).stands k (state_of x1.0) (fits a k s) x1.2),
+                (opened.0, opened.1, own_call facts fits (λ c. 1) (λ c last t s. get_array_critical c last t s opened.0) k x1.0 s x1.2),
                 inl (
                   x,
                   thread_state (facts c) x2.0 f,
-                  own_call (λ c last t s. region_get c last t s Int (level_object v 0) 1) (facts b).stands x1.0 (state_of x2.0) (fits b x1.0 x1.1) x2.2,
+                  own_call facts fits (λ c. 0) (λ c last t s. region_get c last t s Int (level_object v 0) 1) x1.0 x2.0 x1.1 x2.2,
                   inl (tt, thread_state (facts d) x3.0 f, x3.2, (refl, refl)),
                 ),
               ),

@@ -1,14 +1,17 @@
 -- Deeds that are done, put in sequence and in other forms, for whatever was known.
-use Rattle.std.proofs.Common.{◌≡◌, Option, Result, Ok, Err, inl, inr, refl, sym, ap, subst, ◌∙◌}
+use Rattle.std.proofs.Common.{◌≡◌, ℕ, Result, Ok, Err, inl, inr, refl, sym, ap, subst, ◌∙◌}
 use Rattle.std.specs.Result.{IsErrAnd}
 use Rattle.std.proofs.lemmas.Result.{err_from_is_err_and}
+use Rattle.jr_word.specs.declared.config.Config.{Config}
 use Rattle.jr_word.specs.declared.fault.Fault.{Fault}
 use Rattle.jr_model.specs.declared.event.Role.{Role}
+use Rattle.jr_model.specs.State.{State}
 use Rattle.jr_model.specs.Frames.{Frames}
+use Rattle.jr_model.specs.Calls.{Call}
 use Rattle.jr_steps.specs.declared.known.Known.{Known}
-use Rattle.jr_steps.specs.Knowing.{Facts, Standing}
-use Rattle.jr_gate.specs.Performing.{IsAsBefore, ThreadState}
-use Rattle.jr_env.specs.Deeds.{CarriedOut, Deed, DoesDeed, answered_by, decided, done, ◌>>=◌}
+use Rattle.jr_steps.specs.Knowing.{AreOf, Facts, Standing, state_of}
+use Rattle.jr_gate.specs.Performing.{IsAsBefore, IsMade, Performed, ThreadState, thread_state}
+use Rattle.jr_env.specs.Deeds.{CarriedOut, Deed, DoesDeed, answered_by, decided, done, within_by, ◌>>=◌}
 
 -- the same room and thread, and this role
 pub in_role : {s t : Standing} (r : Role) → IsAsBefore s t → s.role ≡ r → IsAsBefore (record s { role = r }) t
@@ -92,3 +95,20 @@ module _ {S : Type 0} {facts : S → Facts} where
   did_residual {a = a} {b = b} {f = f} {g = g} {role = role} {met = met} {shown = shown} {deed = deed} e answer given d =
       let why = err_from_is_err_and answer given in
       subst (λ r. CarriedOut facts a b f g role met shown deed r) (sym (why.1 ∙ ap (λ (v : Fault). Err v) why.2)) d
+
+module _ {S : Type 0} (facts : S → Facts) (fits : AreOf facts) {A : Type 0} {a b : S} {f g : Frames} {answer : Result A Fault} (silent : Config → ℕ) (call : Config → ℕ → ℕ → State → Call A) where
+  -- a call by the sizes and the thread of the steps is one by those of whatever is known
+  pub own_call : (k k' : Known) → (facts a).knows k → IsMade (silent (facts a).stands.config) (thread_state (facts a) k f) (thread_state (facts b) k' g) (call (facts a).stands.config (facts a).stands.last (facts a).stands.thread (state_of k')) answer
+      → within_by silent call (thread_state (facts a) k f) answer (thread_state (facts b) k' g)
+  own_call k k' s m =
+      let of = fits a k s in
+      let p = thread_state (facts a) k f in
+      let q = thread_state (facts b) k' g in
+      subst (λ c. IsMade (silent c) p q (call c k.last k.thread (state_of k')) answer) (sym of.config)
+      (subst (λ l. IsMade (silent (facts a).stands.config) p q (call (facts a).stands.config l k.thread (state_of k')) answer) (sym of.last)
+      (subst (λ t. IsMade (silent (facts a).stands.config) p q (call (facts a).stands.config (facts a).stands.last t (state_of k')) answer) (sym of.thread) m))
+
+  -- what a call over steps did, as a deed
+  pub did_call : {met shown : Known → Type 0} {shows : Known → Known → Type 0} → ((j k : Known) → shows j k → shown k)
+      → Performed facts a b f g (silent (facts a).stands.config) met (call (facts a).stands.config (facts a).stands.last (facts a).stands.thread) answer shows → CarriedOut facts a b f g (facts a).stands.role met shown (within_by silent call) answer
+  did_call on p = record { stands_is = p.stands_is; did = λ k s m. let x = p.ran k s m in (x.0, x.1, on k x.0 x.3, own_call k x.0 s x.2) }

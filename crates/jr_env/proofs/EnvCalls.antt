@@ -10,14 +10,13 @@ use Rattle.jr_model.specs.State.{Handle, State}
 use Rattle.jr_model.specs.Frames.{Frames}
 use Rattle.jr_model.specs.Calls.{Call}
 use Rattle.jr_model.specs.Checks.{Word}
-use Rattle.jr_steps.specs.Knowing.{AreOf, Facts, state_of}
-use Rattle.jr_gate.specs.Performing.{thread_state, IsMade}
+use Rattle.jr_steps.specs.Knowing.{AreOf, Facts}
 use Rattle.jr_frames.specs.Table.{Table}
 use Rattle.jr_frames.specs.OverSteps.{CallsWhole}
 use Rattle.jr_env.specs.Works.{Completes}
 use Rattle.jr_frames.specs.Reading.{IsReadAs}
 use Rattle.jr_env.specs.Deeds.{Deed, DoesDeed, DoesOutside, answered_by, call_by, call_on_by, call_on_both_by, packed, packed_if}
-use Rattle.jr_env.proofs.Carrying.{did_answer, did_more, did_refuse}
+use Rattle.jr_env.proofs.Carrying.{did_answer, did_more, did_refuse, own_call}
 
 -- the word of a handle that was packed
 pub packed_is : (w : HandleWord) (h : Handle) → w.0 ≡ handle_word h → w ≡ packed h
@@ -31,25 +30,7 @@ packed_if_is None (Some h) e = absurd e
 module _ {S : Type 0} {facts : S → Facts} {a b : S} {A : Type 0} where
   module _ (fits : AreOf facts) where
     whole_by : {f g : Frames} {answer : Result A Fault} (silent : Config → ℕ) (work : Config → ℕ → ℕ → State → Call A) → CallsWhole facts a b f g (silent (facts a).stands.config) (work (facts a).stands.config (facts a).stands.last (facts a).stands.thread) answer → DoesDeed facts a b f g (call_by silent work) answer
-    whole_by {f} {g} {answer} silent work p = record {
-      stands_is = p.stands_is;
-      did = λ k s m.
-          let x = p.ran k s m in
-          let i = fits a k s in
-          let old = thread_state (facts a) k f in
-          let new = thread_state (facts b) x.0 g in
-          let s' = state_of x.0 in (
-            x.0,
-            x.1,
-            x.3.1,
-            (
-              subst (λ c. IsMade (silent c) old new (work c k.last k.thread s') answer) (sym i.config)
-                  (subst (λ l. IsMade (silent (facts a).stands.config) old new (work (facts a).stands.config l k.thread s') answer) (sym i.last)
-                  (subst (λ t. IsMade (silent (facts a).stands.config) old new (work (facts a).stands.config (facts a).stands.last t s') answer) (sym i.thread) x.2)),
-              x.3.0,
-            ),
-          );
-    }
+    whole_by silent work p = record { stands_is = p.stands_is; did = λ k s m. let x = p.ran k s m in (x.0, x.1, x.3.1, (own_call facts fits silent work k x.0 s x.2, x.3.0)) }
 
     pub does_call_by : {t u : Table} {answer : Result A Fault} (silent : Config → ℕ) (work : Config → ℕ → ℕ → State → Call A) → Completes facts a b t u (silent (facts a).stands.config) (work (facts a).stands.config (facts a).stands.last (facts a).stands.thread) answer → DoesOutside facts a b t.frames u.frames (call_by silent work) answer
     does_call_by silent work p = record { does = λ out. whole_by silent work (p.call out); outside = p.ready.role_is }

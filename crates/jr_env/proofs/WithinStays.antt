@@ -22,33 +22,11 @@ use Rattle.jr_frames.specs.Reading.{IsReadAs}
 use Rattle.jr_elements.specs.Copies.{answer_in, kept}
 use Rattle.jr_env.specs.declared.env.Env.{Env}
 use Rattle.jr_env.specs.Copies.{in_form}
-use Rattle.jr_env.specs.Deeds.{Deed, DoesDeed, answered_by, done}
+use Rattle.jr_env.specs.Deeds.{Deed, DoesDeed, answered_by, done, within_by}
 use Rattle.jr_env.specs.OpenStays.{PerformsOver, StaysOn}
-use Rattle.jr_env.specs.StayDeeds.{copying_back, within_by, within_on_by, within_on_both_by}
+use Rattle.jr_env.specs.StayDeeds.{copying_back, within_on_by, within_on_both_by}
 use Rattle.jr_env.specs.LentStays.{DoesInside}
-use Rattle.jr_env.proofs.Carrying.{did_answer, did_more, did_refuse, does_nothing}
-
-module _ {S : Type 0} (facts : S → Facts) (fits : AreOf facts) (a b : S) (f g : Frames) where
-  -- what a work did, as a deed
-  deed_by : {A : Type 0} {answer : Result A Fault} (silent : Config → ℕ) (work : Config → ℕ → ℕ → State → Call A)
-      → Performed facts a b f g (silent (facts a).stands.config) (Holds f) (work (facts a).stands.config (facts a).stands.last (facts a).stands.thread) answer (λ j k. Unit {0} × Holds g k)
-      → DoesDeed facts a b f g (within_by silent work) answer
-  deed_by {answer = answer} silent work p = record {
-    stands_is = p.stands_is;
-    did = λ k s m.
-        let x = p.ran k s m in
-        let i = fits a k s in
-        let old = thread_state (facts a) k f in
-        let new = thread_state (facts b) x.0 g in
-        let s' = state_of x.0 in (
-          x.0,
-          x.1,
-          x.3.1,
-          subst (λ c. IsMade (silent c) old new (work c k.last k.thread s') answer) (sym i.config)
-              (subst (λ l. IsMade (silent (facts a).stands.config) old new (work (facts a).stands.config l k.thread s') answer) (sym i.last)
-              (subst (λ t. IsMade (silent (facts a).stands.config) old new (work (facts a).stands.config (facts a).stands.last t s') answer) (sym i.thread) x.2)),
-        );
-  }
+use Rattle.jr_env.proofs.Carrying.{did_answer, did_call, did_more, did_refuse, does_nothing}
 
 ran_unformed : {A B : Type 0} (form : A → B) {p q : PassView} {f g : Frames} {call : Call B} (answer : Result A Fault) → Ran p q f g (in_form form call) answer → Ran p q f g call (answer_in form answer)
 ran_unformed form (Ok x) r = record { acts = r.acts; did = r.did; is = r.is; begun = r.begun; window = r.window; grounds = tt }
@@ -57,7 +35,7 @@ ran_unformed form (Err e) r = record { acts = r.acts; did = r.did; is = r.is; be
 module _ {S : Type 0} {G : Ghosts S} (fits : AreOf G.facts) (old new : Env S G) where
   abbrev deed_of : {A : Type 0} {answer : Result A Fault} (silent : Config → ℕ) (work : Config → ℕ → ℕ → State → Call A) → PerformsOver old.held new.held silent work answer
       → DoesDeed G.facts old.held.steps new.held.steps old.held.frames.frames new.held.frames.frames (within_by silent work) answer
-  deed_of silent work p = deed_by G.facts fits old.held.steps new.held.steps old.held.frames.frames new.held.frames.frames silent work p
+  deed_of silent work p = did_call G.facts fits silent work (λ j k x. x.1) p
 
   pub inside_by : {A : Type 0} {answer : Result A Fault} (silent : Config → ℕ) (work : Config → ℕ → ℕ → State → Call A) → PerformsOver old.held new.held silent work answer → StaysOn old.held new.held → DoesInside old new (within_by silent work) answer
   inside_by silent work p on = record { did = deed_of silent work p; on = on }

@@ -27,9 +27,13 @@ use Rattle.jr_gate.specs.Performing.{IsAsBefore, ThreadState, thread_state, IsMa
 abbrev pub Deed : Type 0 → Type 1
 Deed A = ThreadState → Result A Fault → ThreadState → Type 0
 
--- a call of the env: its events, and the answer that it may have; it takes one operation for each event, and at most so many more; and afterwards the thread holds nothing
+-- a call in a stay: its events, and the answer that it may have; it takes one operation for each event, and at most so many more
+abbrev pub within_by : {A : Type 0} → (Config → ℕ) → (Config → ℕ → ℕ → State → Call A) → Deed A
+within_by silent asked old answer new = IsMade (silent old.pass.config) old new (asked old.pass.config old.pass.last old.pass.thread (state new.pass.seen)) answer
+
+-- a call of the env, from its entry to its exit: the same, and afterwards the thread holds nothing
 abbrev pub call_by : {A : Type 0} → (Config → ℕ) → (Config → ℕ → ℕ → State → Call A) → Deed A
-call_by silent asked old answer new = IsMade (silent old.pass.config) old new (asked old.pass.config old.pass.last old.pass.thread (state new.pass.seen)) answer × (new.held ≡ empty)
+call_by silent asked old answer new = within_by silent asked old answer new × (new.held ≡ empty)
 
 -- a call that takes no operation but its events
 abbrev pub call : {A : Type 0} → (Config → ℕ → ℕ → State → Call A) → Deed A

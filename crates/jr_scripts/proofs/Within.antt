@@ -26,7 +26,7 @@ use Rattle.jr_env.specs.declared.env.Env.{Env}
 use Rattle.jr_env.specs.Envs.{IsOutside}
 use Rattle.jr_env.specs.Criticals.{HasEntered, WasRefused}
 use Rattle.jr_env.specs.Deeds.{CarriedOut, Deed, decided, done, ◌>>=◌, ◌>>◌}
-use Rattle.jr_env.proofs.Carrying.{did_decided, did_decline, did_more, did_refused, did_reply, did_then, in_role, role_kept}
+use Rattle.jr_env.proofs.Carrying.{did_call, did_decided, did_decline, did_in_role, did_more, did_refused, did_reply, did_then, own_call, role_kept}
 use Rattle.jr_syntax.specs.declared.verb.OpenLevel.{OpenLevel}
 use Rattle.jr_scripts.specs.declared.number.NumberKind.{NumberKind}
 use Rattle.jr_scripts.specs.declared.reply.Reply.{Reply}
@@ -55,36 +55,21 @@ module _ {S : Type 0} {facts : S → Facts} where
     did_store_not e d = did_decided (λ word. in_stay 0 (λ c last t s. region_set c last t s k o i word) >> done replies.Done) (ap (word_of_number k) (sym same) ∙ is) (did_refused (λ _. done replies.Done) e d)
 
 module _ {S : Type 0} (facts : S → Facts) (fits : AreOf facts) where
-  -- a call of the steps' own thread is one of whoever knows the pass
-  own_call : {A : Type 0} {a b : S} {f g : Frames} {n : ℕ} (call : Config → ℕ → ℕ → State → Call A) {answer : Result A Fault} (k k' : Known) → (facts a).knows k
-      → IsMade n (thread_state (facts a) k f) (thread_state (facts b) k' g) (call (facts a).stands.config (facts a).stands.last (facts a).stands.thread (state_of k')) answer
-      → IsMade n (thread_state (facts a) k f) (thread_state (facts b) k' g) (call k.config k.last k.thread (state_of k')) answer
-  own_call {a = a} {b = b} {f = f} {g = g} {n = n} call {answer = answer} k k' s m =
-      let of = fits a k s in
-      let p = thread_state (facts a) k f in
-      let q = thread_state (facts b) k' g in
-      subst (λ c. IsMade n p q (call c k.last k.thread (state_of k')) answer) (sym of.config)
-      (subst (λ l. IsMade n p q (call (facts a).stands.config l k.thread (state_of k')) answer) (sym of.last)
-      (subst (λ t. IsMade n p q (call (facts a).stands.config (facts a).stands.last t (state_of k')) answer) (sym of.thread) m))
-
   -- a call in the stay
-  pub did_call : {A : Type 0} {a b : S} {f g : Frames} {n : ℕ} {met shown : Known → Type 0} {shows : Known → Known → Type 0} (call : Config → ℕ → ℕ → State → Call A) {answer : Result A Fault}
+  did_inside : {A : Type 0} {a b : S} {f g : Frames} {n : ℕ} {met shown : Known → Type 0} {shows : Known → Known → Type 0} (call : Config → ℕ → ℕ → State → Call A) {answer : Result A Fault}
       → (facts a).stands.role ≡ Within → ((j k : Known) → shows j k → shown k)
       → Performed facts a b f g n met (λ s. call (facts a).stands.config (facts a).stands.last (facts a).stands.thread s) answer shows → CarriedOut facts a b f g Within met shown (in_stay n call) answer
-  did_call call within on p = record {
-    stands_is = in_role Within p.stands_is within;
-    did = λ k s m. let x = p.ran k s m in (x.0, x.1, on k x.0 x.3, own_call call k x.0 s x.2);
-  }
+  did_inside {n = n} call within on p = did_in_role within (did_call facts fits (λ c. n) call on p)
 
   -- a call at a level's object
   pub did_reach : {A : Type 0} {a b : S} {t : Table} {f g : Frames} {v : Levels} (call : Config → ℕ → ℕ → State → Call A) {answer : Result A Fault} → Stand facts v a t → g ≡ f → Reaches facts a b f v call answer → CarriedOut facts a b f g Within (KnowsLevels v f) (KnowsLevels v g) (in_stay 0 call) answer
-  did_reach {a = a} {b = b} {f = f} {v = v} call {answer = answer} stand same r = subst (λ h. CarriedOut facts a b f h Within (KnowsLevels v f) (KnowsLevels v h) (in_stay 0 call) answer) (sym same) (did_call call stand.ready.role_is (λ j k x. x.1) r)
+  did_reach {a = a} {b = b} {f = f} {v = v} call {answer = answer} stand same r = subst (λ h. CarriedOut facts a b f h Within (KnowsLevels v f) (KnowsLevels v h) (in_stay 0 call) answer) (sym same) (did_inside call stand.ready.role_is (λ j k x. x.1) r)
 
   -- a level was added, or refused
   pub did_nest : {a b : S} {t : Table} {f g : Frames} {v : Levels} (w : Levels) (verb u : OpenLevel) (word : ℕ) (answer : Result ℕ Fault) → verb ≡ u → Stand facts v a t → g ≡ f → Nests facts a b f word (nests u) v w answer → CarriedOut facts a b f g Within (KnowsLevels v f) (KnowsLevels w g) (nesting verb (objects_of v) word) (level_nested answer w)
   did_nest {a = a} {b = b} {f = f} {v = v} w verb u word answer which stand same made =
       let r : Nests facts a b f word (nests verb) v w answer = subst (λ x. Nests facts a b f word (nests x) v w answer) (sym which) made in
-      let d = did_call {met = KnowsLevels v f} {shown = KnowsLevels w f} (λ c last t s. nests verb c last t s (objects_of v) r.0) stand.ready.role_is (λ j k x. x) r.2 in
+      let d = did_inside {met = KnowsLevels v f} {shown = KnowsLevels w f} (λ c last t s. nests verb c last t s (objects_of v) r.0) stand.ready.role_is (λ j k x. x) r.2 in
       subst (λ h. CarriedOut facts a b f h Within (KnowsLevels v f) (KnowsLevels w h) (nesting verb (objects_of v) word) (level_nested answer w)) (sym same) (did_more (λ p q x. (r.0, r.1, x)) d)
 
   -- the kind of a level's object is known
@@ -105,7 +90,7 @@ module _ {S : Type 0} (facts : S → Facts) (fits : AreOf facts) where
         stands_is = o.2.stands_is;
         did = λ k s m.
             let x = o.2.ran k s m in
-            (x.0, x.1, held answer k x.0 x.3, (o.0, o.1, own_call (λ c last t s. opens verb c last t s o.0) k x.0 s x.2, gone answer k x.0 x.3));
+            (x.0, x.1, held answer k x.0 x.3, (o.0, o.1, own_call facts fits (λ c. 1) (λ c last t s. opens verb c last t s o.0) k x.0 s x.2, gone answer k x.0 x.3));
       })
     where
       held : (r : Result Levels Fault) (j k : Known) → LearnsFirst r j k × Holds f k → KnowsOpened r f k

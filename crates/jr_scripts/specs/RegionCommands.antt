@@ -5,14 +5,13 @@ use Rattle.jr_word.specs.declared.kind.Kind.{Kind}
 use Rattle.jr_word.specs.declared.kind.Kind.TheVariants.{Char, Text}
 use Rattle.jr_word.specs.declared.fault.Fault.TheVariants as fault
 use Rattle.jr_model.specs.State.{State}
-use Rattle.jr_model.specs.History.{state}
 use Rattle.jr_model.specs.Calls.{Call}
 use Rattle.jr_model.specs.Checks.{Word}
 use Rattle.jr_model.specs.Objects.{nest_array, nest_string, region_get, region_kind, region_release, region_set}
 use Rattle.jr_steps.specs.Holdings.{empty}
 use Rattle.jr_frames.specs.Reading.{IsReadAs}
-use Rattle.jr_gate.specs.Performing.{IsMade, ThreadState}
-use Rattle.jr_env.specs.Deeds.{Deed, decided, done, ◌>>=◌, ◌>>◌}
+use Rattle.jr_gate.specs.Performing.{ThreadState}
+use Rattle.jr_env.specs.Deeds.{Deed, decided, done, within_by, ◌>>=◌, ◌>>◌}
 use Rattle.jr_syntax.specs.declared.command.Command.{Command}
 use Rattle.jr_syntax.specs.declared.command.Command.TheVariants as commands
 use Rattle.jr_syntax.specs.declared.verb.Make.{Make}
@@ -30,9 +29,9 @@ use Rattle.jr_scripts.specs.Numbers.{has_numbers, number_of_word, word_of_number
 use Rattle.jr_scripts.specs.Places.{Place, by_region, level_wanted, newest, nth_object}
 use Rattle.jr_scripts.specs.Commands.{awaited, deed, the_reference}
 
--- a call of the region: its events, and the answer that it may have; it takes one operation for each event, and at most so many more; and the stay goes on
+-- a call of the region, in its stay, which takes at most so many operations beside its events
 abbrev pub in_stay : {A : Type 0} → ℕ → (Config → ℕ → ℕ → State → Call A) → Deed A
-in_stay silent asked old answer new = IsMade silent old new (asked old.pass.config old.pass.last old.pass.thread (state new.pass.seen)) answer
+in_stay silent asked = within_by (λ c. silent) asked
 
 -- the call that adds a level to a region whose levels have these objects
 abbrev pub nests : OpenLevel → Config → ℕ → ℕ → State → List ℕ → Word → Call (ℕ × List ℕ)
