@@ -1,5 +1,5 @@
 -- A call of an env, for whatever was known.
-use Rattle.std.proofs.Common.{◌≡◌, ℕ, Option, Some, None, MatchOption, Result, Ok, Err, inl, inr, refl, sym, ap, subst, ◌∙◌}
+use Rattle.std.proofs.Common.{◌≡◌, ℕ, Option, Some, None, MatchOption, Result, Ok, Err, ap}
 use Rattle.std.specs.Result.{IsErrAnd}
 use Rattle.std.specs.Option.{IsSomeAnd}
 use Rattle.jr_word.specs.declared.config.Config.{Config}

@@ -1,5 +1,5 @@
 -- A call of a stay, for whatever was known.
-use Rattle.std.proofs.Common.{◌≡◌, ◌≢◌, ◌≤◌, ◌<◌, ℕ, [], List, Option, Some, None, Result, Ok, Err, IfErr, nat_lt, nat_le, inl, inr, length, refl, sym, subst, ◌∙◌}
+use Rattle.std.proofs.Common.{◌≡◌, ◌≢◌, ℕ, List, Some, None, Result, Ok, Err, refl}
 use Rattle.std.specs.Result.{IsErrAnd}
 use Rattle.jr_word.specs.declared.config.Config.{Config}
 use Rattle.jr_word.specs.declared.fault.Fault.{Fault}
@@ -12,11 +12,8 @@ use Rattle.jr_model.specs.History.{PassView}
 use Rattle.jr_model.specs.Calls.{Call, Ran}
 use Rattle.jr_model.specs.Checks.{Word}
 use Rattle.jr_model.specs.Objects as objects
-use Rattle.jr_steps.specs.declared.known.Known.{Known}
 use Rattle.jr_steps.specs.declared.steps.Steps.{Ghosts}
-use Rattle.jr_steps.specs.Knowing.{AreOf, Facts, state_of, Holds}
-use Rattle.jr_gate.specs.Performing.{thread_state, IsMade, Performed}
-use Rattle.jr_gate.proofs.SameRoom.{nothing_changed}
+use Rattle.jr_steps.specs.Knowing.{AreOf}
 use Rattle.jr_gate.proofs.Spending.{made_of, spending}
 use Rattle.jr_frames.specs.Reading.{IsReadAs}
 use Rattle.jr_elements.specs.Copies.{answer_in, kept}
