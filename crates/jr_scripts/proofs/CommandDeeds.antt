@@ -1,5 +1,5 @@
 -- What calls make up a command, for whatever was known.
-use Rattle.std.proofs.Common.{◌≡◌, ℕ, ℤ, List, [], ◌∷◌, length, map, get_or, ap, ◌∙◌, Result, Ok, Err, refl, subst, sym, inl, inr}
+use Rattle.std.proofs.Common.{◌≡◌, ℕ, ℤ, List, [], ◌∷◌, length, map, get_or, ap, Result, Ok, Err, refl, subst, sym, inl, inr}
 use Rattle.jr_word.specs.declared.fault.Fault.{Fault}
 use Rattle.jr_word.specs.declared.handle.RefKind.{RefKind}
 use Rattle.jr_word.specs.declared.kind.Kind.{Kind}
@@ -15,7 +15,6 @@ use Rattle.jr_steps.specs.Knowing.{Facts}
 use Rattle.jr_scripts.specs.declared.reply.Reply.{Reply}
 use Rattle.jr_scripts.specs.declared.reply.Reply.TheVariants as replies
 use Rattle.jr_frames.specs.Reading.{IsReadAs}
-use Rattle.jr_gate.specs.Performing.{ThreadState}
 use Rattle.jr_env.specs.Deeds.{Deed, DoesDeed, decided, done, answered_by, kind_of, get_array_region, set_array_region, ◌>>=◌, ◌>>◌}
 use Rattle.jr_scripts.specs.declared.number.NumberKind.{NumberKind}
 use Rattle.jr_scripts.specs.declared.number.NumberKind.TheVariants as number

@@ -19,9 +19,9 @@ module _ {S : Type 0} {facts : S → Facts} {A : Type 0} {deed : Deed A} {met sh
   did_from_first {a} {b} {f} {g} {answer} n d = let e : n - 0 ≡ n = omega arith in subst (λ m. CarriedOut facts a b f g r met shown (tried m deed) answer) e d
 
   pub did_answered : {a b : S} {f g : Frames} {answer : Result A Fault} (n k : ℕ) → k < n → CarriedOut facts a b f g r met shown deed answer → is_tried_again answer ≡ false → CarriedOut facts a b f g r met shown (tried (n - k) deed) answer
-  did_answered {a} {b} {f} {g} {answer} n k l d settled =
+  did_answered {a} {b} {f} {g} {answer} n k l d known =
       let e : suc (n - (k + 1)) ≡ n - k = omega arith in
-      subst (λ m. CarriedOut facts a b f g r met shown (tried m deed) answer) e (did_more (λ p q o. answered o settled) d)
+      subst (λ m. CarriedOut facts a b f g r met shown (tried m deed) answer) e (did_more (λ p q o. answered o known) d)
 
   pub did_again : {a b c : S} {f g h : Frames} {q : Role} {mid : Known → Type 0} {once answer : Result A Fault} (n k : ℕ) → k < n → CarriedOut facts a b f g q met mid deed once → is_tried_again once ≡ true → CarriedOut facts b c g h r mid shown (tried (n - (k + 1)) deed) answer
       → CarriedOut facts a c f h r met shown (tried (n - k) deed) answer

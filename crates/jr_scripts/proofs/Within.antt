@@ -1,12 +1,12 @@
 -- What was done where a thread stands in a region, and how it came there, for whatever was known.
-use Rattle.std.proofs.Common.{◌≡◌, ◌+◌, ◌-◌, ◌<◌, ◌≤◌, ◌∷◌, [], ◌∙◌, ℕ, ℤ, suc, true, false, List, Result, Ok, Err, length, inl, inr, subst, sym, ap, refl, arith}
+use Rattle.std.proofs.Common.{◌≡◌, ◌≤◌, ◌∷◌, [], ◌∙◌, ℕ, ℤ, List, Result, Ok, Err, length, subst, sym, ap, refl, arith}
 use Rattle.std.specs.Prelude.{IfErr, IfOk}
 use Rattle.jr_word.specs.declared.config.Config.{Config}
 use Rattle.jr_word.specs.declared.fault.Fault.{Fault}
 use Rattle.jr_word.specs.declared.fault.Fault.TheVariants as fault
 use Rattle.jr_word.specs.declared.kind.Kind.{Kind}
 use Rattle.jr_model.specs.declared.event.Role.{Role}
-use Rattle.jr_model.specs.declared.event.Role.TheVariants.{Outside, Within}
+use Rattle.jr_model.specs.declared.event.Role.TheVariants.{Within}
 use Rattle.jr_model.specs.State.{State}
 use Rattle.jr_model.specs.Frames.{Frames}
 use Rattle.jr_model.specs.Calls.{Call, Ran}
@@ -15,9 +15,9 @@ use Rattle.jr_model.proofs.Stays.{did_nothing}
 use Rattle.jr_model.proofs.Windows.{window_nothing}
 use Rattle.jr_steps.specs.declared.known.Known.{Known}
 use Rattle.jr_steps.specs.Holdings.{empty}
-use Rattle.jr_steps.specs.Knowing.{AreOf, Facts, Holds, Standing, state_of, view}
+use Rattle.jr_steps.specs.Knowing.{AreOf, Facts, Holds, state_of, view}
 use Rattle.jr_frames.specs.Table.{Table}
-use Rattle.jr_gate.specs.Performing.{IsAsBefore, IsMade, ThreadState, Performed, thread_state}
+use Rattle.jr_gate.specs.Performing.{Performed}
 use Rattle.jr_gate.proofs.Spending.{made_of, spend_none}
 use Rattle.jr_critical.specs.declared.levels.Levels.{Levels}
 use Rattle.jr_critical.specs.Levels.{KnowsLevels, LearnsFirst, Nests, Opens, Reaches, Stand, TellsKind, level_nested, level_object, object_opened, objects_of, role_opened}
@@ -40,9 +40,7 @@ use Rattle.jr_syntax.specs.declared.command.Command.TheVariants as commands
 use Rattle.jr_syntax.specs.declared.verb.PutAt.{PutAt}
 use Rattle.jr_syntax.specs.declared.verb.PutAt.TheVariants as put_at
 use Rattle.jr_scripts.proofs.CommandDeeds.{numbered_has}
-use Rattle.jr_scripts.specs.Commands.{opening_by, opens, tried}
-use Rattle.jr_env.specs.Tries.{is_tried_again}
-use Rattle.jr_scripts.specs.Tries.{answered, again, gave_up}
+use Rattle.jr_scripts.specs.Commands.{opening_by, opens}
 use Rattle.jr_scripts.specs.RegionCommands.{deed_at, deed_within, in_stay, kind_of_level, nesting, nests, read_kind, level_reading, reading_as, level_writing, writing_as}
 
 module _ {S : Type 0} {facts : S → Facts} where
