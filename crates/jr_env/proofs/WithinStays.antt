@@ -19,9 +19,9 @@ use Rattle.jr_frames.specs.Reading.{IsReadAs}
 use Rattle.jr_elements.specs.Copies.{answer_in, kept}
 use Rattle.jr_env.specs.declared.env.Env.{Env}
 use Rattle.jr_env.specs.Copies.{in_form}
-use Rattle.jr_env.specs.Deeds.{Deed, DoesDeed, answered_by, done, within_by}
+use Rattle.jr_env.specs.Deeds.{Deed, DoesDeed, answered_by, done}
 use Rattle.jr_env.specs.OpenStays.{PerformsOver, StaysOn}
-use Rattle.jr_env.specs.StayDeeds.{copying_back, within_on_by, within_on_both_by}
+use Rattle.jr_env.specs.StayDeeds.{copying_back, within_by, within_on_both_by, within_on_by}
 use Rattle.jr_env.specs.LentStays.{DoesInside}
 use Rattle.jr_env.proofs.Carrying.{did_answer, did_call, did_more, did_refuse, does_nothing}
 

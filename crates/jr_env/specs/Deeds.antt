@@ -27,13 +27,9 @@ use Rattle.jr_gate.specs.Performing.{IsAsBefore, ThreadState, thread_state, IsMa
 abbrev pub Deed : Type 0 → Type 1
 Deed A = ThreadState → Result A Fault → ThreadState → Type 0
 
--- a call in a stay: its events, and the answer that it may have; it takes one operation for each event, and at most so many more
-abbrev pub within_by : {A : Type 0} → (Config → ℕ) → (Config → ℕ → ℕ → State → Call A) → Deed A
-within_by silent asked old answer new = IsMade (silent old.pass.config) old new (asked old.pass.config old.pass.last old.pass.thread (state new.pass.seen)) answer
-
--- a call of the env, from its entry to its exit: the same, and afterwards the thread holds nothing
+-- a call of the env: its events, and the answer that it may have; it takes one operation for each event, and at most so many more; and afterwards the thread holds nothing
 abbrev pub call_by : {A : Type 0} → (Config → ℕ) → (Config → ℕ → ℕ → State → Call A) → Deed A
-call_by silent asked old answer new = within_by silent asked old answer new × (new.held ≡ empty)
+call_by silent asked old answer new = IsMade (silent old.pass.config) old new (asked old.pass.config old.pass.last old.pass.thread (state new.pass.seen)) answer × (new.held ≡ empty)
 
 -- a call that takes no operation but its events
 abbrev pub call : {A : Type 0} → (Config → ℕ → ℕ → State → Call A) → Deed A
@@ -215,7 +211,7 @@ module _ {S : Type 0} (facts : S → Facts) where
   abbrev pub DoesDeed : {A : Type 0} → S → S → Frames → Frames → Deed A → Result A Fault → Type 0
   DoesDeed old new before after deed answer = CarriedOut old new before after (facts old).stands.role (Holds before) (Holds after) deed answer
 
-  -- the same of a call, where the thread stood outside; and afterwards it stands outside in any case
+  -- so was a call's, where the thread stood outside; and afterwards it stands outside in any case
   pub record DoesOutside {A : Type 0} (old new : S) (before after : Frames) (deed : Deed A) (answer : Result A Fault) : Type 0 where
-    pub does : (facts old).stands.role ≡ Outside → DoesDeed old new before after deed answer
+    pub does : (facts old).stands.role ≡ Outside → CarriedOut old new before after (facts old).stands.role (Holds before) (Holds after) deed answer
     pub outside : (facts new).stands.role ≡ Outside

@@ -9,13 +9,19 @@ use Rattle.jr_word.specs.declared.kind.Kind.TheVariants.{Text}
 use Rattle.jr_model.specs.declared.frames.Mode.{Mode}
 use Rattle.jr_model.specs.declared.frames.Mode.TheVariants.{Copy, Commit, Abort}
 use Rattle.jr_model.specs.State.{State}
+use Rattle.jr_model.specs.History.{state}
 use Rattle.jr_model.specs.Calls.{Call}
 use Rattle.jr_model.specs.Checks.{Word, is_array, is_text}
 use Rattle.jr_model.specs.References as references
 use Rattle.jr_model.specs.Objects as objects
+use Rattle.jr_gate.specs.Performing.{IsMade}
 use Rattle.jr_frames.specs.Reading.{IsReadAs}
-use Rattle.jr_env.specs.Deeds.{Deed, answered_by, done, making_steps, packed, packed_if, within_by}
+use Rattle.jr_env.specs.Deeds.{Deed, answered_by, done, making_steps, packed, packed_if}
 use Rattle.jr_env.specs.Works as works
+
+-- a call in a stay: its events, and the answer that it may have; it takes one operation for each event, and at most so many more
+abbrev pub within_by : {A : Type 0} → (Config → ℕ) → (Config → ℕ → ℕ → State → Call A) → Deed A
+within_by silent asked old answer new = IsMade (silent old.pass.config) old new (asked old.pass.config old.pass.last old.pass.thread (state new.pass.seen)) answer
 
 -- a call in a stay that is handed a reference word, and takes at most so many operations beside its events
 abbrev pub within_on_by : {A : Type 0} → (Config → ℕ) → ℕ → (Config → ℕ → ℕ → State → Word → Call A) → Deed A

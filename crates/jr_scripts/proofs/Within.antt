@@ -41,27 +41,28 @@ use Rattle.jr_syntax.specs.declared.verb.PutAt.{PutAt}
 use Rattle.jr_syntax.specs.declared.verb.PutAt.TheVariants as put_at
 use Rattle.jr_scripts.proofs.CommandDeeds.{numbered_has}
 use Rattle.jr_scripts.specs.Commands.{opening_by, opens}
-use Rattle.jr_scripts.specs.RegionCommands.{deed_at, deed_within, in_stay, kind_of_level, nesting, nests, read_kind, level_reading, reading_as, level_writing, writing_as}
+use Rattle.jr_env.specs.StayDeeds.{within_by}
+use Rattle.jr_scripts.specs.RegionCommands.{deed_at, deed_within, kind_of_level, nesting, nests, read_kind, level_reading, reading_as, level_writing, writing_as}
 
 module _ {S : Type 0} {facts : S → Facts} where
   -- a number was stored at a level
   module _ {a b : S} {f g : Frames} {met shown : Known → Type 0} (o i : ℕ) (x z : ℤ) (k : Kind) (word : ℕ) (is : word_of_number k z ≡ Ok word) (same : z ≡ x) where
-    pub did_store : CarriedOut facts a b f g Within met shown (in_stay 0 (λ c last t s. region_set c last t s k o i word)) (Ok tt) → CarriedOut facts a b f g Within met shown (writing_as o i x k) (Ok replies.Done)
-    did_store d = did_decided (λ word. in_stay 0 (λ c last t s. region_set c last t s k o i word) >> done replies.Done) (ap (word_of_number k) (sym same) ∙ is) (did_reply (λ _. replies.Done) tt d)
+    pub did_store : CarriedOut facts a b f g Within met shown (within_by (λ c. 0) (λ c last t s. region_set c last t s k o i word)) (Ok tt) → CarriedOut facts a b f g Within met shown (writing_as o i x k) (Ok replies.Done)
+    did_store d = did_decided (λ word. within_by (λ c. 0) (λ c last t s. region_set c last t s k o i word) >> done replies.Done) (ap (word_of_number k) (sym same) ∙ is) (did_reply (λ _. replies.Done) tt d)
 
-    pub did_store_not : (e : Fault) → CarriedOut facts a b f g Within met shown (in_stay 0 (λ c last t s. region_set c last t s k o i word)) (Err e) → CarriedOut facts a b f g Within met shown (writing_as o i x k) (Err e)
-    did_store_not e d = did_decided (λ word. in_stay 0 (λ c last t s. region_set c last t s k o i word) >> done replies.Done) (ap (word_of_number k) (sym same) ∙ is) (did_refused (λ _. done replies.Done) e d)
+    pub did_store_not : (e : Fault) → CarriedOut facts a b f g Within met shown (within_by (λ c. 0) (λ c last t s. region_set c last t s k o i word)) (Err e) → CarriedOut facts a b f g Within met shown (writing_as o i x k) (Err e)
+    did_store_not e d = did_decided (λ word. within_by (λ c. 0) (λ c last t s. region_set c last t s k o i word) >> done replies.Done) (ap (word_of_number k) (sym same) ∙ is) (did_refused (λ _. done replies.Done) e d)
 
 module _ {S : Type 0} (facts : S → Facts) (fits : AreOf facts) where
   -- a call in the stay
   did_inside : {A : Type 0} {a b : S} {f g : Frames} {n : ℕ} {met shown : Known → Type 0} {shows : Known → Known → Type 0} (call : Config → ℕ → ℕ → State → Call A) {answer : Result A Fault}
       → (facts a).stands.role ≡ Within → ((j k : Known) → shows j k → shown k)
-      → Performed facts a b f g n met (λ s. call (facts a).stands.config (facts a).stands.last (facts a).stands.thread s) answer shows → CarriedOut facts a b f g Within met shown (in_stay n call) answer
+      → Performed facts a b f g n met (λ s. call (facts a).stands.config (facts a).stands.last (facts a).stands.thread s) answer shows → CarriedOut facts a b f g Within met shown (within_by (λ c. n) call) answer
   did_inside {n = n} call within on p = did_in_role within (did_call facts fits (λ c. n) call on p)
 
   -- a call at a level's object
-  pub did_reach : {A : Type 0} {a b : S} {t : Table} {f g : Frames} {v : Levels} (call : Config → ℕ → ℕ → State → Call A) {answer : Result A Fault} → Stand facts v a t → g ≡ f → Reaches facts a b f v call answer → CarriedOut facts a b f g Within (KnowsLevels v f) (KnowsLevels v g) (in_stay 0 call) answer
-  did_reach {a = a} {b = b} {f = f} {v = v} call {answer = answer} stand same r = subst (λ h. CarriedOut facts a b f h Within (KnowsLevels v f) (KnowsLevels v h) (in_stay 0 call) answer) (sym same) (did_inside call stand.ready.role_is (λ j k x. x.1) r)
+  pub did_reach : {A : Type 0} {a b : S} {t : Table} {f g : Frames} {v : Levels} (call : Config → ℕ → ℕ → State → Call A) {answer : Result A Fault} → Stand facts v a t → g ≡ f → Reaches facts a b f v call answer → CarriedOut facts a b f g Within (KnowsLevels v f) (KnowsLevels v g) (within_by (λ c. 0) call) answer
+  did_reach {a = a} {b = b} {f = f} {v = v} call {answer = answer} stand same r = subst (λ h. CarriedOut facts a b f h Within (KnowsLevels v f) (KnowsLevels v h) (within_by (λ c. 0) call) answer) (sym same) (did_inside call stand.ready.role_is (λ j k x. x.1) r)
 
   -- a level was added, or refused
   pub did_nest : {a b : S} {t : Table} {f g : Frames} {v : Levels} (w : Levels) (verb u : OpenLevel) (word : ℕ) (answer : Result ℕ Fault) → verb ≡ u → Stand facts v a t → g ≡ f → Nests facts a b f word (nests u) v w answer → CarriedOut facts a b f g Within (KnowsLevels v f) (KnowsLevels w g) (nesting verb (objects_of v) word) (level_nested answer w)

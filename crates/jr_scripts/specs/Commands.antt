@@ -42,7 +42,8 @@ use Rattle.jr_scripts.specs.Buffers.{copy_of}
 use Rattle.jr_scripts.specs.Names.{Names, buffer_in, getting, putting, reference_in, referent, binding, wanted}
 use Rattle.jr_weak.specs.declared.collecting.Collected.{Collected}
 use Rattle.jr_env.specs.Collections.{announced_collection, collection}
-use Rattle.jr_env.specs.Deeds.{Deed, decided, done, new_plain, new_array, new_object_array, new_string, new_reference, new_local_ref, delete_reference, delete_local_ref, is_same_object, get_object_ref_type, push_local_frame, ensure_local_capacity, pop_local_frame, kind_of, get_array_length, get_string_length, get_object_array_element, set_object_array_element, get_array_region, set_array_region, get_array_elements, release_array_elements, get_string_chars, answered_by, ◌>>=◌, ◌>>◌, within_by}
+use Rattle.jr_env.specs.Deeds.{Deed, decided, done, new_plain, new_array, new_object_array, new_string, new_reference, new_local_ref, delete_reference, delete_local_ref, is_same_object, get_object_ref_type, push_local_frame, ensure_local_capacity, pop_local_frame, kind_of, get_array_length, get_string_length, get_object_array_element, set_object_array_element, get_array_region, set_array_region, get_array_elements, release_array_elements, get_string_chars, answered_by, ◌>>=◌, ◌>>◌}
+use Rattle.jr_env.specs.StayDeeds.{within_by}
 use Rattle.jr_scripts.specs.Posting.{IsAwaited}
 use Rattle.jr_scripts.specs.Tries.{Tried}
 use Rattle.jr_scripts.specs.Numbers.{has_numbers, word_of_number, first_number}
