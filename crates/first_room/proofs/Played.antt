@@ -2,7 +2,6 @@
 use Rattle.std.proofs.Common.{◌≡◌, ◌<◌, ◌∙◌, ℕ, ℤ, Bool, Option, Some, None, [], ◌∷◌, Result, Ok, Err, IfOk, length, inl, refl, sym, ap, subst, arith}
 use Rattle.std.specs.Int.{w32}
 use Rattle.std.specs.Prelude.{unwrap_or}
-use Rattle.jr_word.specs.declared.config.Config.{Config}
 use Rattle.jr_word.specs.declared.fault.Fault.{Fault}
 use Rattle.jr_word.specs.declared.fault.Fault.TheVariants.{Busy}
 use Rattle.jr_word.specs.declared.handle.Handle.{Handle}
@@ -10,14 +9,11 @@ use Rattle.jr_word.specs.declared.handle.RefKind.TheVariants.{Global, Weak}
 use Rattle.jr_word.specs.declared.kind.Kind.TheVariants.{Int, Long}
 use Rattle.jr_word.specs.Elem.{signed_word}
 use Rattle.jr_model.specs.declared.event.Role.TheVariants.{Outside}
-use Rattle.jr_model.specs.State.{State}
-use Rattle.jr_model.specs.Calls.{Call}
 use Rattle.jr_model.specs.Frames.{Frames, fresh_frames}
 use Rattle.jr_model.specs.Objects.{get_array_critical, region_get}
-use Rattle.jr_steps.specs.declared.known.Known.{Known}
-use Rattle.jr_steps.specs.Knowing.{AreOf, Facts, IsOf, Spent, Standing, state_of}
-use Rattle.jr_gate.specs.Performing.{ThreadState, IsMade, thread_state}
-use Rattle.jr_gate.proofs.SameRoom.{still_before}
+use Rattle.jr_steps.specs.Knowing.{AreOf, Facts, Spent}
+use Rattle.jr_gate.specs.Performing.{thread_state}
+use Rattle.jr_env.proofs.Carrying.{did_more, did_reply, does_nothing, does_then, own_call}
 use Rattle.jr_rule.specs.declared.pass.Pass.{Pass}
 use Rattle.jr_rule.specs.Passes.{Holder, facts_of, holder_of, standing_of}
 use Rattle.jr_frames.specs.Table.{Table}
@@ -26,28 +22,10 @@ use Rattle.jr_critical.specs.Levels.{GivesUpAll, Opens, Reaches, in_words, level
 use Rattle.jr_weak.specs.declared.collecting.Collected.{Collected}
 use Rattle.jr_env.specs.Collections.{collection}
 use Rattle.jr_env.specs.Deeds.{Deed, DoesDeed, DoesOutside, new_plain, new_array, new_object_array, new_reference, delete_reference, is_same_object, get_object_ref_type, push_local_frame, pop_local_frame, set_array_region, done, ◌>>=◌}
-use Rattle.first_room.specs.Calls.{clearing, collecting_in_turn, collecting_twice, preparing, reading_within, sharing, visiting, word_made}
+use Rattle.first_room.specs.Calls.{clearing, collecting_in_turn, collecting_twice, is_handed, is_kept_out, preparing, reading_within, sharing, visiting, word_made}
 use Rattle.first_room.specs.Parts.{HasPlayed}
 
--- a call of the steps' own thread is one of whoever knows the pass
-own_call : {A : Type 0} {n : ℕ} {p q : ThreadState} (call : Config → ℕ → ℕ → State → Call A) {answer : Result A Fault} (st : Standing) (k : Known) (s : State) → IsOf st k → IsMade n p q (call st.config st.last st.thread s) answer → IsMade n p q (call k.config k.last k.thread s) answer
-own_call {n = n} {p = p} {q = q} call {answer = answer} st k s of m =
-    subst (λ c. IsMade n p q (call c k.last k.thread s) answer) (sym of.config)
-    (subst (λ l. IsMade n p q (call st.config l k.thread s) answer) (sym of.last)
-    (subst (λ t. IsMade n p q (call st.config st.last t s) answer) (sym of.thread) m))
-
 module _ {S : Type 0} {facts : S → Facts} where
-  -- one deed was answered, and the next was done
-  does_then : {A B : Type 0} {a b c : S} {f g h : Frames} {one : Deed A} {x : A} (next : A → Deed B) {answer : Result B Fault} → DoesDeed facts a b f g one (Ok x) → DoesDeed facts b c g h (next x) answer → DoesDeed facts a c f h (one >>= next) answer
-  does_then next first more = record {
-    stands_is = still_before first.stands_is more.stands_is;
-    did = λ k s m. let x = first.did k s m in let y = more.did x.0 x.1 x.2 in (y.0, y.1, y.2, inl (_, _, x.3, y.3));
-  }
-
-  -- and the answers were put together
-  does_all : {A B : Type 0} {a b : S} {f g : Frames} {one : Deed A} {x : A} (form : A → B) → DoesDeed facts a b f g one (Ok x) → DoesDeed facts a b f g (one >>= (λ y. done (form y))) (Ok (form x))
-  does_all {a = a} {b = b} {f = f} {g = g} {x = x} form d = record { stands_is = d.stands_is; did = λ k s m. let y = d.did k s m in (y.0, y.1, y.2, inl (x, thread_state (facts b) y.0 g, y.3, (refl, refl))) }
-
   -- the first thread's calls before it collects
   prepared : (s0 s1 s2 s3 s4 s5 s6 s7 : S) (f0 f1 f2 f3 f4 f5 f6 f7 : Frames) (lost array : Handle) (weak global popped : Option Handle)
       → (facts s0).stands.role ≡ Outside → DoesOutside facts s0 s1 f0 f1 (push_local_frame 4) (Ok tt) → DoesOutside facts s1 s2 f1 f2 (new_array Long 4) (Ok lost) → DoesOutside facts s2 s3 f2 f3 (new_reference Weak lost.0) (Ok weak)
@@ -61,81 +39,19 @@ module _ {S : Type 0} {facts : S → Facts} where
       let e = d5.does d4.outside in
       let f = d6.does d5.outside in
       let g = d7.does d6.outside in
-      record {
-        stands_is = still_before a.stands_is (still_before b.stands_is (still_before c.stands_is (still_before d.stands_is (still_before e.stands_is (still_before f.stands_is g.stands_is)))));
-        did = λ k s n.
-            let x1 = a.did k s n in
-            let x2 = b.did x1.0 x1.1 x1.2 in
-            let x3 = c.did x2.0 x2.1 x2.2 in
-            let x4 = d.did x3.0 x3.1 x3.2 in
-            let x5 = e.did x4.0 x4.1 x4.2 in
-            let x6 = f.did x5.0 x5.1 x5.2 in
-            let x7 = g.did x6.0 x6.1 x6.2 in (
-              x7.0,
-              x7.1,
-              x7.2,
-              inl (
-                tt,
-                thread_state (facts s1) x1.0 f1,
-                x1.3,
-                inl (
-                  lost,
-                  thread_state (facts s2) x2.0 f2,
-                  x2.3,
-                  inl (
-                    weak,
-                    thread_state (facts s3) x3.0 f3,
-                    x3.3,
-                    inl (
-                      array,
-                      thread_state (facts s4) x4.0 f4,
-                      x4.3,
-                      inl (
-                        tt,
-                        thread_state (facts s5) x5.0 f5,
-                        x5.3,
-                        inl (
-                          global,
-                          thread_state (facts s6) x6.0 f6,
-                          x6.3,
-                          inl (popped, thread_state (facts s7) x7.0 f7, x7.3, (refl, refl)),
-                        ),
-                      ),
-                    ),
-                  ),
-                ),
-              ),
-            );
-      }
+      does_then _ a (does_then _ b (does_then _ c (does_then _ d (does_then _ e (does_then _ f (did_reply (λ _. (word_made weak, word_made global)) popped g))))))
 
   -- its two collections
   collected_twice : (s0 s1 s2 : S) (f0 f1 f2 : Frames) (inside : ℕ) (c : Collected) → (facts s0).stands.role ≡ Outside → DoesOutside facts s0 s1 f0 f1 collection (Err (Busy inside)) → DoesOutside facts s1 s2 f1 f2 collecting_in_turn (Ok c) → DoesDeed facts s0 s2 f0 f2 collecting_twice (Ok inside)
   collected_twice s0 s1 s2 f0 f1 f2 inside c out d1 d2 =
-      let a = d1.does out in
-      let b = d2.does d1.outside in
-      record {
-        stands_is = still_before a.stands_is b.stands_is;
-        did = λ k s n.
-            let x1 = a.did k s n in
-            let x2 = b.did x1.0 x1.1 x1.2 in
-            (x2.0, x2.1, x2.2, inl (inside, thread_state (facts s1) x1.0 f1, (inside, refl, x1.3), inl (c, thread_state (facts s2) x2.0 f2, x2.3, (refl, refl))));
-      }
+      let kept_out : DoesDeed facts s0 s1 f0 f1 is_kept_out (Ok inside) = did_more (λ p q d. (inside, refl, d)) (d1.does out) in
+      does_then _ kept_out (did_reply (λ _. inside) c (d2.does d1.outside))
 
   -- and those at its end
   cleared_then : (s0 s1 s2 s3 : S) (f0 f1 f2 f3 : Frames) (weak global : ℕ) (cleared : Bool) (kind : ℕ) → (facts s0).stands.role ≡ Outside → DoesOutside facts s0 s1 f0 f1 (is_same_object weak 0) (Ok cleared)
       → DoesOutside facts s1 s2 f1 f2 (delete_reference Global global) (Ok tt) → DoesOutside facts s2 s3 f2 f3 (get_object_ref_type global) (Ok kind) → DoesDeed facts s0 s3 f0 f3 (clearing weak global) (Ok (cleared, kind))
   cleared_then s0 s1 s2 s3 f0 f1 f2 f3 weak global cleared kind out d1 d2 d3 =
-      let a = d1.does out in
-      let b = d2.does d1.outside in
-      let c = d3.does d2.outside in
-      record {
-        stands_is = still_before a.stands_is (still_before b.stands_is c.stands_is);
-        did = λ k s n.
-            let x1 = a.did k s n in
-            let x2 = b.did x1.0 x1.1 x1.2 in
-            let x3 = c.did x2.0 x2.1 x2.2 in
-            (x3.0, x3.1, x3.2, inl (cleared, thread_state (facts s1) x1.0 f1, x1.3, inl (tt, thread_state (facts s2) x2.0 f2, x2.3, inl (kind, thread_state (facts s3) x3.0 f3, x3.3, (refl, refl)))));
-      }
+      does_then _ (d1.does out) (does_then _ (d2.does d1.outside) (did_reply (λ k. (cleared, k)) kind (d3.does d2.outside)))
 
   -- THE FIRST THREAD'S CALLS
   pub shared : (s0 s1 s2 s3 s4 s5 s6 s7 s8 s9 s10 s11 s12 : S) (f0 f1 f2 f3 f4 f5 f6 f7 f8 f9 f10 f11 f12 : Frames) (lost array : Handle) (weak global popped : Option Handle) (inside : ℕ) (c : Collected) (cleared : Bool) (kind : ℕ)
@@ -146,7 +62,7 @@ module _ {S : Type 0} {facts : S → Facts} where
   shared s0 s1 s2 s3 s4 s5 s6 s7 s8 s9 s10 s11 s12 f0 f1 f2 f3 f4 f5 f6 f7 f8 f9 f10 f11 f12 lost array weak global popped inside c cleared kind out d1 d2 d3 d4 d5 d6 d7 d8 d9 d10 d11 d12 =
       does_then {one = preparing} (λ words. collecting_twice >>= (λ n. clearing words.0 words.1 >>= (λ found. done (n, found.0, found.1)))) (prepared s0 s1 s2 s3 s4 s5 s6 s7 f0 f1 f2 f3 f4 f5 f6 f7 lost array weak global popped out d1 d2 d3 d4 d5 d6 d7)
       (does_then {one = collecting_twice} (λ n. clearing (word_made weak) (word_made global) >>= (λ found. done (n, found.0, found.1))) (collected_twice s7 s8 s9 f7 f8 f9 inside c d7.outside d8 d9)
-      (does_all {one = clearing (word_made weak) (word_made global)} (λ found. (inside, found.0, found.1)) (cleared_then s9 s10 s11 s12 f9 f10 f11 f12 (word_made weak) (word_made global) cleared kind d9.outside d10 d11 d12)))
+      (did_reply {one = clearing (word_made weak) (word_made global)} (λ found. (inside, found.0, found.1)) (cleared, kind) (cleared_then s9 s10 s11 s12 f9 f10 f11 f12 (word_made weak) (word_made global) cleared kind d9.outside d10 d11 d12)))
 
   -- the second thread's reading in a region, from its entry to its exit
   pub region_read : AreOf facts → (a b c d : S) (f f1 f2 g : Frames) (word : ℕ) (v : Levels) (x : ℕ)
@@ -171,11 +87,11 @@ module _ {S : Type 0} {facts : S → Facts} where
               inl (
                 level_object v 0,
                 thread_state (facts b) x1.0 f,
-                (opened.0, opened.1, own_call (λ c last t s. get_array_critical c last t s opened.0) (facts a).stands k (state_of x1.0) (fits a k s) x1.2),
+                (opened.0, opened.1, own_call facts fits (λ c. 1) (λ c last t s. get_array_critical c last t s opened.0) k x1.0 s x1.2),
                 inl (
                   x,
                   thread_state (facts c) x2.0 f,
-                  own_call (λ c last t s. region_get c last t s Int (level_object v 0) 1) (facts b).stands x1.0 (state_of x2.0) (fits b x1.0 x1.1) x2.2,
+                  own_call facts fits (λ c. 0) (λ c last t s. region_get c last t s Int (level_object v 0) 1) x1.0 x2.0 x1.1 x2.2,
                   inl (tt, thread_state (facts d) x3.0 f, x3.2, (refl, refl)),
                 ),
               ),
@@ -199,40 +115,9 @@ module _ {S : Type 0} {facts : S → Facts} where
       → (facts s0).stands.role ≡ Outside → DoesOutside facts s0 s1 f0 f1 (push_local_frame 4) (Ok tt) → DoesOutside facts s1 s2 f1 f2 new_plain (Ok object) → DoesOutside facts s2 s3 f2 f3 (new_object_array 2 object.0) (Ok array)
       → DoesOutside facts s3 s4 f3 f4 (pop_local_frame 0) (Ok popped) → DoesOutside facts s4 s5 f4 f5 (reading_within word) (Ok x) → DoesDeed facts s0 s5 f0 f5 visiting (Ok x)
   visited s0 s1 s2 s3 s4 s5 f0 f1 f2 f3 f4 f5 word object array popped x out d1 d2 d3 d4 d5 =
-      let a = d1.does out in
-      let b = d2.does d1.outside in
-      let c = d3.does d2.outside in
-      let d = d4.does d3.outside in
-      let e = d5.does d4.outside in
-      record {
-        stands_is = still_before a.stands_is (still_before b.stands_is (still_before c.stands_is (still_before d.stands_is e.stands_is)));
-        did = λ k s n.
-            let x1 = a.did k s n in
-            let x2 = b.did x1.0 x1.1 x1.2 in
-            let x3 = c.did x2.0 x2.1 x2.2 in
-            let x4 = d.did x3.0 x3.1 x3.2 in
-            let x5 = e.did x4.0 x4.1 x4.2 in (
-              x5.0,
-              x5.1,
-              x5.2,
-              inl (
-                word,
-                thread_state (facts s0) k f0,
-                (word, refl, refl),
-                inl (
-                  tt,
-                  thread_state (facts s1) x1.0 f1,
-                  x1.3,
-                  inl (
-                    object,
-                    thread_state (facts s2) x2.0 f2,
-                    x2.3,
-                    inl (array, thread_state (facts s3) x3.0 f3, x3.3, inl (popped, thread_state (facts s4) x4.0 f4, x4.3, x5.3)),
-                  ),
-                ),
-              ),
-            );
-      }
+      let handed : DoesDeed facts s0 s0 f0 f0 is_handed (Ok word) = does_nothing (λ p. (word, refl, refl)) in
+      let read = d5.does d4.outside in
+      does_then _ handed (does_then _ (d1.does out) (does_then _ (d2.does d1.outside) (does_then _ (d3.does d2.outside) (does_then _ (d4.does d3.outside) read))))
 
   module _ {a b : S} {f g : Frames} where
     -- a refusal by its name

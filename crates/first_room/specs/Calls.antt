@@ -1,22 +1,19 @@
 -- What each of the two threads does, call by call.
 use Rattle.std.specs.Prelude.{◌≡◌, ℕ, Bool, Option, Some, None, Ok, Err, [], ◌∷◌}
-use Rattle.jr_word.specs.declared.config.Config.{Config}
 use Rattle.first_room.specs.declared.TheConstants.{TRIES}
 use Rattle.jr_word.specs.declared.fault.Fault.{Fault}
 use Rattle.jr_word.specs.declared.fault.Fault.TheVariants.{Busy}
 use Rattle.jr_word.specs.declared.handle.Handle.{Handle}
 use Rattle.jr_word.specs.declared.handle.RefKind.TheVariants.{Global, Weak}
 use Rattle.jr_word.specs.declared.kind.Kind.TheVariants.{Int, Long}
-use Rattle.jr_model.specs.State.{State}
-use Rattle.jr_model.specs.History.{state}
-use Rattle.jr_model.specs.Calls.{Call}
 use Rattle.jr_model.specs.Checks.{Word}
 use Rattle.jr_model.specs.Objects.{get_array_critical, region_get, region_release}
 use Rattle.jr_frames.specs.Reading.{IsReadAs}
-use Rattle.jr_gate.specs.Performing.{IsMade, ThreadState}
+use Rattle.jr_gate.specs.Performing.{ThreadState}
 use Rattle.jr_weak.specs.declared.collecting.Collected.{Collected}
 use Rattle.jr_env.specs.Collections.{announced_collection, collection}
 use Rattle.jr_env.specs.Deeds.{Deed, done, new_plain, new_array, new_object_array, new_reference, delete_reference, is_same_object, get_object_ref_type, push_local_frame, pop_local_frame, set_array_region, ◌>>=◌, ◌>>◌}
+use Rattle.jr_env.specs.StayDeeds.{within_by}
 
 -- the word of a reference that was made, 0 for NULL
 abbrev pub word_made : Option Handle → ℕ
@@ -83,18 +80,14 @@ is_handed old answer new = (w : ℕ) × (answer ≡ Ok w) × (new ≡ old)
 
 -- a critical region is opened over the array that a word names: its object
 abbrev pub opens_region : ℕ → Deed ℕ
-opens_region w old answer new = (a : Word) × IsReadAs w a × IsMade 1 old new (get_array_critical old.pass.config old.pass.last old.pass.thread (state new.pass.seen) a) answer
-
--- a call in the region, by one operation for each of its events
-abbrev pub within_region : {A : Type 0} → (Config → ℕ → ℕ → State → Call A) → Deed A
-within_region asked old answer new = IsMade 0 old new (asked old.pass.config old.pass.last old.pass.thread (state new.pass.seen)) answer
+opens_region w old answer new = (a : Word) × IsReadAs w a × within_by (λ c. 1) (λ c last t s. get_array_critical c last t s a) old answer new
 
 -- an element of the array that a word names is read in a critical region: the element's word
 abbrev pub reading_within : ℕ → Deed ℕ
 reading_within global = do
   o ← opens_region global
-  word ← within_region (λ c last t s. region_get c last t s Int o 1)
-  within_region (λ c last t s. region_release 1)
+  word ← within_by (λ c. 0) (λ c last t s. region_get c last t s Int o 1)
+  within_by (λ c. 0) (λ c last t s. region_release 1)
   done word
 
 -- THE SECOND THREAD is handed a word, and makes two objects in a frame; and it reads an element of the array that the word names: the element's word

@@ -9,25 +9,22 @@ use Rattle.jr_model.specs.declared.event.Role.TheVariants.{Outside}
 use Rattle.jr_model.specs.declared.event.Act.{Act}
 use Rattle.jr_model.specs.declared.event.Act.TheVariants.{Gate, ShutBusy, Meet}
 use Rattle.jr_model.specs.declared.event.GateAct.TheVariants.{Announce, Cancel}
-use Rattle.jr_model.specs.Calls.{Call}
 use Rattle.jr_model.specs.CollectionCalls.{announcing_acts, collection_acts}
 use Rattle.jr_model.specs.Frames.{Frames}
-use Rattle.jr_model.specs.History.{History, Did}
-use Rattle.jr_model.specs.Parts.{announce, collect_announced, found_closed}
+use Rattle.jr_model.specs.History.{Did}
+use Rattle.jr_model.specs.Parts.{announce, found_closed}
 use Rattle.jr_model.specs.Refusals.{Grounds}
-use Rattle.jr_model.specs.Windows.{IsWindow}
 use Rattle.jr_model.proofs.Agreement.{spares_places}
-use Rattle.jr_model.proofs.Exactly.{append_all}
 use Rattle.jr_model.proofs.Stays.{did_then}
 use Rattle.jr_model.proofs.Windows.{is_within, window_act, window_some}
 use Rattle.jr_steps.specs.declared.known.Known.{Known}
-use Rattle.jr_steps.specs.Knowing.{Facts, Standing, Took, Went, Takes, anything, fresh_from, keeps, view}
+use Rattle.jr_steps.specs.Knowing.{Facts, Standing, Took, Went, anything, fresh_from, keeps, view}
 use Rattle.jr_steps.proofs.StepFacts.{goes_did}
 use Rattle.jr_gate.specs.Acting.{ActedTo, KeepsInTwo}
 use Rattle.jr_gate.specs.Announcing.{WasNotAnnounced}
-use Rattle.jr_gate.specs.Performing.{hint_from, thread_state, IsMade}
+use Rattle.jr_gate.specs.Performing.{hint_from, thread_state}
 use Rattle.jr_gate.proofs.SameRoom.{as_before}
-use Rattle.jr_gate.proofs.Spending.{made_of, spend_acts, spend_step, Spending}
+use Rattle.jr_gate.proofs.Spending.{made_of, spend_acts, spend_step}
 use Rattle.jr_frames.specs.Table.{Table}
 use Rattle.jr_frames.specs.Ready.{AreOwn, StandsReady}
 use Rattle.jr_frames.proofs.FramesAgree.{holds_did}

@@ -1,8 +1,7 @@
 -- A call of an env, for whatever was known.
-use Rattle.std.proofs.Common.{◌≡◌, ℕ, Option, Some, None, MatchOption, Result, Ok, Err, inl, inr, refl, sym, ap, subst, ◌∙◌}
+use Rattle.std.proofs.Common.{◌≡◌, ℕ, Option, Some, None, MatchOption, Result, Ok, Err, ap}
 use Rattle.std.specs.Result.{IsErrAnd}
 use Rattle.std.specs.Option.{IsSomeAnd}
-use Rattle.std.proofs.lemmas.Result.{err_from_is_err_and}
 use Rattle.jr_word.specs.declared.config.Config.{Config}
 use Rattle.jr_word.specs.declared.fault.Fault.{Fault}
 use Rattle.jr_word.specs.declared.handle.Handle.{Handle as HandleWord}
@@ -11,13 +10,13 @@ use Rattle.jr_model.specs.State.{Handle, State}
 use Rattle.jr_model.specs.Frames.{Frames}
 use Rattle.jr_model.specs.Calls.{Call}
 use Rattle.jr_model.specs.Checks.{Word}
-use Rattle.jr_steps.specs.Knowing.{AreOf, Facts, state_of}
-use Rattle.jr_gate.specs.Performing.{thread_state, IsMade}
+use Rattle.jr_steps.specs.Knowing.{AreOf, Facts}
 use Rattle.jr_frames.specs.Table.{Table}
 use Rattle.jr_frames.specs.OverSteps.{CallsWhole}
 use Rattle.jr_env.specs.Works.{Completes}
 use Rattle.jr_frames.specs.Reading.{IsReadAs}
 use Rattle.jr_env.specs.Deeds.{Deed, DoesDeed, DoesOutside, answered_by, call_by, call_on_by, call_on_both_by, packed, packed_if}
+use Rattle.jr_env.proofs.Carrying.{did_answer, did_more, did_refuse, own_call}
 
 -- the word of a handle that was packed
 pub packed_is : (w : HandleWord) (h : Handle) → w.0 ≡ handle_word h → w ≡ packed h
@@ -31,25 +30,7 @@ packed_if_is None (Some h) e = absurd e
 module _ {S : Type 0} {facts : S → Facts} {a b : S} {A : Type 0} where
   module _ (fits : AreOf facts) where
     whole_by : {f g : Frames} {answer : Result A Fault} (silent : Config → ℕ) (work : Config → ℕ → ℕ → State → Call A) → CallsWhole facts a b f g (silent (facts a).stands.config) (work (facts a).stands.config (facts a).stands.last (facts a).stands.thread) answer → DoesDeed facts a b f g (call_by silent work) answer
-    whole_by {f} {g} {answer} silent work p = record {
-      stands_is = p.stands_is;
-      did = λ k s m.
-          let x = p.ran k s m in
-          let i = fits a k s in
-          let old = thread_state (facts a) k f in
-          let new = thread_state (facts b) x.0 g in
-          let s' = state_of x.0 in (
-            x.0,
-            x.1,
-            x.3.1,
-            (
-              subst (λ c. IsMade (silent c) old new (work c k.last k.thread s') answer) (sym i.config)
-                  (subst (λ l. IsMade (silent (facts a).stands.config) old new (work (facts a).stands.config l k.thread s') answer) (sym i.last)
-                  (subst (λ t. IsMade (silent (facts a).stands.config) old new (work (facts a).stands.config (facts a).stands.last t s') answer) (sym i.thread) x.2)),
-              x.3.0,
-            ),
-          );
-    }
+    whole_by silent work p = record { stands_is = p.stands_is; did = λ k s m. let x = p.ran k s m in (x.0, x.1, x.3.1, (own_call facts fits silent work k x.0 s x.2, x.3.0)) }
 
     pub does_call_by : {t u : Table} {answer : Result A Fault} (silent : Config → ℕ) (work : Config → ℕ → ℕ → State → Call A) → Completes facts a b t u (silent (facts a).stands.config) (work (facts a).stands.config (facts a).stands.last (facts a).stands.thread) answer → DoesOutside facts a b t.frames u.frames (call_by silent work) answer
     does_call_by silent work p = record { does = λ out. whole_by silent work (p.call out); outside = p.ready.role_is }
@@ -58,7 +39,7 @@ module _ {S : Type 0} {facts : S → Facts} {a b : S} {A : Type 0} where
     pub does_call_on : {t u : Table} {answer : Result A Fault} (silent : Config → ℕ) (work : Config → ℕ → ℕ → State → Word → Call A) (w : ℕ) (r : Word) → IsReadAs w r
         → Completes facts a b t u (silent (facts a).stands.config) (λ s. work (facts a).stands.config (facts a).stands.last (facts a).stands.thread s r) answer → DoesOutside facts a b t.frames u.frames (call_on_by silent w work) answer
     does_call_on silent work w r reads p = record {
-      does = λ out. let d = whole_by silent (λ c last t s. work c last t s r) (p.call out) in record { stands_is = d.stands_is; did = λ k s m. let x = d.did k s m in (x.0, x.1, x.2, (r, reads, x.3)) };
+      does = λ out. did_more (λ k m x. (r, reads, x)) (whole_by silent (λ c last t s. work c last t s r) (p.call out));
       outside = p.ready.role_is;
     }
 
@@ -66,28 +47,12 @@ module _ {S : Type 0} {facts : S → Facts} {a b : S} {A : Type 0} where
     pub does_call_on_both : {t u : Table} {answer : Result A Fault} (silent : Config → ℕ) (work : Config → ℕ → ℕ → State → Word → Word → Call A) (v w : ℕ) (q r : Word) → IsReadAs v q → IsReadAs w r
         → Completes facts a b t u (silent (facts a).stands.config) (λ s. work (facts a).stands.config (facts a).stands.last (facts a).stands.thread s q r) answer → DoesOutside facts a b t.frames u.frames (call_on_both_by silent v w work) answer
     does_call_on_both silent work v w q r reads reads' p = record {
-      does = λ out.
-          let d = whole_by silent (λ c last t s. work c last t s q r) (p.call out) in
-          record { stands_is = d.stands_is; did = λ k s m. let x = d.did k s m in (x.0, x.1, x.2, (q, r, reads, reads', x.3)) };
+      does = λ out. did_more (λ k m x. (q, r, reads, reads', x)) (whole_by silent (λ c last t s. work c last t s q r) (p.call out));
       outside = p.ready.role_is;
     }
 
   module _ {f g : Frames} where
     -- the answer in another form
-    pub did_answer : {B : Type 0} {deed : Deed A} {x : A} {y : B} (form : A → B) → y ≡ form x → DoesDeed facts a b f g deed (Ok x) → DoesDeed facts a b f g (answered_by form deed) (Ok y)
-    did_answer {x = x} form is d = record {
-      stands_is = d.stands_is;
-      did = λ k s m. let z = d.did k s m in (z.0, z.1, z.2, inl (x, _, z.3, (ap (λ v. Ok v) is, refl)));
-    }
-
-    pub did_refuse : {B : Type 0} {deed : Deed A} {e : Fault} (form : A → B) (answer : Result B Fault) → IsErrAnd answer (λ y. y ≡ e) → DoesDeed facts a b f g deed (Err e) → DoesDeed facts a b f g (answered_by form deed) answer
-    did_refuse {e = e} form answer given d =
-        let why = err_from_is_err_and answer given in
-        record {
-          stands_is = d.stands_is;
-          did = λ k s m. let z = d.did k s m in (z.0, z.1, z.2, inr (e, why.1 ∙ ap (λ (v : Fault). Err v) why.2, z.3));
-        }
-
     pub does_answer : {B : Type 0} {deed : Deed A} {x : A} {y : B} (form : A → B) → y ≡ form x → DoesOutside facts a b f g deed (Ok x) → DoesOutside facts a b f g (answered_by form deed) (Ok y)
     does_answer form is p = record { does = λ out. did_answer form is (p.does out); outside = p.outside }
 

@@ -5,6 +5,7 @@ pub mod NewReference
 pub mod NewObject
 pub mod NewArray
 pub mod Removing
+pub mod Carrying
 pub mod EnvCalls
 pub mod MadeAgain
 pub mod FrameCalls

@@ -6,10 +6,10 @@ use Rattle.jr_model.specs.declared.event.Role.TheVariants.{Outside}
 use Rattle.jr_model.specs.Frames.{Frames}
 use Rattle.jr_steps.specs.Knowing.{Facts}
 use Rattle.jr_gate.specs.Performing.{ThreadState}
-use Rattle.jr_gate.proofs.SameRoom.{still_before}
 use Rattle.jr_weak.specs.declared.collecting.Collected.{Collected}
 use Rattle.jr_env.specs.Collections.{collection}
 use Rattle.jr_env.specs.Deeds.{Deed, DoesDeed, DoesOutside}
+use Rattle.jr_env.proofs.Carrying.{did_more, does_both}
 use Rattle.jr_env.specs.Tries.{settled, once_more, the_last, served, collected, kept_out, is_tried_again, lacks_room, made_again, made_collecting}
 
 module _ {S : Type 0} {facts : S → Facts} where
@@ -18,20 +18,11 @@ module _ {S : Type 0} {facts : S → Facts} where
   outside_by step p = record { does = λ out. step (p.does out); outside = p.outside }
 
   does_as : {A B : Type 0} {a b : S} {f g : Frames} {one : Deed A} {two : Deed B} {once : Result A Fault} {answer : Result B Fault} → ((p q : ThreadState) → one p once q → two p answer q) → DoesOutside facts a b f g one once → DoesOutside facts a b f g two answer
-  does_as w = outside_by (λ d. record { stands_is = d.stands_is; did = λ k s h. let x = d.did k s h in (x.0, x.1, x.2, w _ _ x.3) })
+  does_as w = outside_by (did_more w)
 
   -- two deeds, one after the other
-  does_both : {A B C : Type 0} {a b c : S} {f g h : Frames} {one : Deed A} {two : Deed B} {all : Deed C} {once : Result A Fault} {next : Result B Fault} {answer : Result C Fault} → ((p m q : ThreadState) → one p once m → two m next q → all p answer q) → DoesOutside facts a b f g one once → DoesOutside facts b c g h two next → DoesOutside facts a c f h all answer
-  does_both w p q = record {
-    does = λ out.
-        let d = p.does out in
-        let e = q.does p.outside in
-        record {
-          stands_is = still_before d.stands_is e.stands_is;
-          did = λ k s m. let x = d.did k s m in let y = e.did x.0 x.1 x.2 in (y.0, y.1, y.2, w _ _ _ x.3 y.3);
-        };
-    outside = q.outside;
-  }
+  next_outside : {A B C : Type 0} {a b c : S} {f g h : Frames} {one : Deed A} {two : Deed B} {all : Deed C} {once : Result A Fault} {next : Result B Fault} {answer : Result C Fault} → ((p m q : ThreadState) → one p once m → two m next q → all p answer q) → DoesOutside facts a b f g one once → DoesOutside facts b c g h two next → DoesOutside facts a c f h all answer
+  next_outside w p q = record { does = λ out. does_both w (p.does out) (q.does p.outside); outside = q.outside }
 
   module _ {A : Type 0} {deed : Deed A} where
     pub again_from_first : {a b : S} {f g : Frames} {answer : Result A Fault} (n : ℕ) → DoesOutside facts a b f g (made_again (n - 0) deed) answer → DoesOutside facts a b f g (made_again n deed) answer
@@ -43,7 +34,7 @@ module _ {S : Type 0} {facts : S → Facts} where
     pub again_once_more : {a b c : S} {f g h : Frames} {once answer : Result A Fault} (n k : ℕ) → k < n → DoesOutside facts a b f g deed once → is_tried_again once ≡ true → DoesOutside facts b c g h (made_again (n - (k + 1)) deed) answer → DoesOutside facts a c f h (made_again (n - k) deed) answer
     again_once_more {a} {b} {c} {f} {g} {h} {once} {answer} n k l d is more =
         let e : suc (n - (k + 1)) ≡ n - k = omega arith in
-        let all : DoesOutside facts a c f h (made_again (suc (n - (k + 1))) deed) answer = does_both (λ p m q o t. once_more o is t) d more in
+        let all : DoesOutside facts a c f h (made_again (suc (n - (k + 1))) deed) answer = next_outside (λ p m q o t. once_more o is t) d more in
         subst (λ m. DoesOutside facts a c f h (made_again m deed) answer) e all
 
     pub again_the_last : {a b : S} {f g : Frames} {answer : Result A Fault} (n k : ℕ) → n ≤ k → DoesOutside facts a b f g deed answer → DoesOutside facts a b f g (made_again (n - k) deed) answer
@@ -54,11 +45,11 @@ module _ {S : Type 0} {facts : S → Facts} where
 
     pub was_collected : {a b c d : S} {f g h i : Frames} {once answer : Result A Fault} (n : ℕ) (x : Collected) → DoesOutside facts a b f g (made_again n deed) once → lacks_room once ≡ true → DoesOutside facts b c g h collection (Ok x) → DoesOutside facts c d h i (made_again n deed) answer → DoesOutside facts a d f i (made_collecting n deed) answer
     was_collected {once = once} {answer = answer} n x first is between second =
-        does_both (λ p m q t rest. collected t is rest.1 rest.2) first
-        (does_both {all = λ p r q. (m : ThreadState) × collection p (Ok x) m × made_again n deed m r q} (λ p m q c t. (m, c, t)) between second)
+        next_outside (λ p m q t rest. collected t is rest.1 rest.2) first
+        (next_outside {all = λ p r q. (m : ThreadState) × collection p (Ok x) m × made_again n deed m r q} (λ p m q c t. (m, c, t)) between second)
 
     pub was_kept_out : {a b c : S} {f g h : Frames} {once : Result A Fault} (n : ℕ) (e : Fault) → DoesOutside facts a b f g (made_again n deed) once → lacks_room once ≡ true → DoesOutside facts b c g h collection (Err e) → DoesOutside facts a c f h (made_collecting n deed) (Err e)
-    was_kept_out n e first is between = does_both (λ p m q t c. kept_out t is c) first between
+    was_kept_out n e first is between = next_outside (λ p m q t c. kept_out t is c) first between
 
     -- a collection that was refused was kept out, or its marker didn't fit: but then the thread hadn't stood outside, and nothing has changed
     pub was_refused : {F : Type 0} {a b c : S} {f g h : Frames} {once : Result A Fault} (n : ℕ) (e : Fault) → F ⊎ (F → ⊥) → DoesOutside facts a b f g (made_again n deed) once → lacks_room once ≡ true → (F → DoesOutside facts b c g h collection (Err e)) → ((facts a).stands.role ≡ Outside → F) → ((F → ⊥) → c ≡ b) → DoesOutside facts a c f h (made_collecting n deed) (Err e)

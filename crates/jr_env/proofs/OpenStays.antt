@@ -3,7 +3,6 @@ use Rattle.std.proofs.Common.{◌≡◌, ℕ, [], ◌∷◌, Result, Ok, Err, If
 use Rattle.jr_word.specs.declared.config.Config.{Config}
 use Rattle.jr_word.specs.declared.fault.Fault.{Fault}
 use Rattle.jr_word.specs.declared.fault.Fault.TheVariants.{Barred}
-use Rattle.jr_model.specs.declared.event.Act.{Act}
 use Rattle.jr_model.specs.declared.event.Act.TheVariants.{Gate}
 use Rattle.jr_model.specs.declared.event.GateAct.TheVariants.{Enter, Knock, Leave, Withdraw}
 use Rattle.jr_model.specs.declared.event.Role.TheVariants.{Outside, Within}
@@ -12,7 +11,7 @@ use Rattle.jr_model.specs.Frames.{Frames}
 use Rattle.jr_model.specs.History.{History, Did, PassView}
 use Rattle.jr_model.specs.Windows.{IsWindow, Stepped}
 use Rattle.jr_model.specs.Calls.{Call, Ran, done}
-use Rattle.jr_model.specs.Parts.{enter, leave}
+use Rattle.jr_model.specs.Parts.{enter}
 use Rattle.jr_model.specs.StayCalls.{IsOpenStay, IsStayCall, was_entered, has_called}
 use Rattle.jr_model.proofs.Moments.{prefix_self}
 use Rattle.jr_model.proofs.Runs.{ran_act}
@@ -29,13 +28,13 @@ use Rattle.jr_gate.specs.Stays.{IsOwnStay}
 use Rattle.jr_gate.proofs.Spending.{made_of, spend_barred, spend_step}
 use Rattle.jr_frames.specs.declared.held.Held.{Held}
 use Rattle.jr_frames.specs.Table.{Table}
-use Rattle.jr_frames.specs.Ready.{AreOwn, StandsReady, KeepsOwner}
+use Rattle.jr_frames.specs.Ready.{AreOwn, StandsReady}
 use Rattle.jr_frames.proofs.FramesAgree.{holds_did}
-use Rattle.jr_frames.proofs.StillReady.{own_stepped, ready_after, ready_entered}
+use Rattle.jr_frames.proofs.StillReady.{own_stepped, ready_entered}
 use Rattle.jr_elements.specs.Copies.{answer_in}
 use Rattle.jr_env.specs.Calling.{CanCall}
-use Rattle.jr_env.specs.OpenStays.{EndsAsOneStay, Enters, EntersOver, IsInStay, Leaves, LeavesOver, PerformsOver, StaysOn, StaysSince}
-use Rattle.jr_env.specs.Works.{EndsStay, EndsStayOver}
+use Rattle.jr_env.specs.OpenStays.{EndsAsOneStay, Enters, EntersOver, IsInStay, Leaves, StaysOn, StaysSince}
+use Rattle.jr_env.specs.Works.{EndsStayOver}
 use Rattle.jr_env.proofs.EndedStays.{can_call}
 use Rattle.jr_env.proofs.InsideGate.{completes_barred}
 use Rattle.jr_env.proofs.StandingRegions.{at_known, at_same}

@@ -1,5 +1,5 @@
 -- A call of a stay, for whatever was known.
-use Rattle.std.proofs.Common.{◌≡◌, ◌≢◌, ◌≤◌, ◌<◌, ℕ, [], List, Option, Some, None, Result, Ok, Err, IfErr, nat_lt, nat_le, inl, inr, length, refl, sym, subst, ◌∙◌}
+use Rattle.std.proofs.Common.{◌≡◌, ◌≢◌, ℕ, List, Some, None, Result, Ok, Err, refl}
 use Rattle.std.specs.Result.{IsErrAnd}
 use Rattle.jr_word.specs.declared.config.Config.{Config}
 use Rattle.jr_word.specs.declared.fault.Fault.{Fault}
@@ -12,11 +12,8 @@ use Rattle.jr_model.specs.History.{PassView}
 use Rattle.jr_model.specs.Calls.{Call, Ran}
 use Rattle.jr_model.specs.Checks.{Word}
 use Rattle.jr_model.specs.Objects as objects
-use Rattle.jr_steps.specs.declared.known.Known.{Known}
 use Rattle.jr_steps.specs.declared.steps.Steps.{Ghosts}
-use Rattle.jr_steps.specs.Knowing.{AreOf, Facts, state_of, Holds}
-use Rattle.jr_gate.specs.Performing.{thread_state, IsMade, Performed}
-use Rattle.jr_gate.proofs.SameRoom.{nothing_changed}
+use Rattle.jr_steps.specs.Knowing.{AreOf}
 use Rattle.jr_gate.proofs.Spending.{made_of, spending}
 use Rattle.jr_frames.specs.Reading.{IsReadAs}
 use Rattle.jr_elements.specs.Copies.{answer_in, kept}
@@ -24,31 +21,9 @@ use Rattle.jr_env.specs.declared.env.Env.{Env}
 use Rattle.jr_env.specs.Copies.{in_form}
 use Rattle.jr_env.specs.Deeds.{Deed, DoesDeed, answered_by, done}
 use Rattle.jr_env.specs.OpenStays.{PerformsOver, StaysOn}
-use Rattle.jr_env.specs.StayDeeds.{copying_back, within_by, within_on_by, within_on_both_by}
+use Rattle.jr_env.specs.StayDeeds.{copying_back, within_by, within_on_both_by, within_on_by}
 use Rattle.jr_env.specs.LentStays.{DoesInside}
-use Rattle.jr_env.proofs.EnvCalls.{did_answer, did_refuse}
-
-module _ {S : Type 0} (facts : S → Facts) (fits : AreOf facts) (a b : S) (f g : Frames) where
-  -- what a work did, as a deed
-  deed_by : {A : Type 0} {answer : Result A Fault} (silent : Config → ℕ) (work : Config → ℕ → ℕ → State → Call A)
-      → Performed facts a b f g (silent (facts a).stands.config) (Holds f) (work (facts a).stands.config (facts a).stands.last (facts a).stands.thread) answer (λ j k. Unit {0} × Holds g k)
-      → DoesDeed facts a b f g (within_by silent work) answer
-  deed_by {answer = answer} silent work p = record {
-    stands_is = p.stands_is;
-    did = λ k s m.
-        let x = p.ran k s m in
-        let i = fits a k s in
-        let old = thread_state (facts a) k f in
-        let new = thread_state (facts b) x.0 g in
-        let s' = state_of x.0 in (
-          x.0,
-          x.1,
-          x.3.1,
-          subst (λ c. IsMade (silent c) old new (work c k.last k.thread s') answer) (sym i.config)
-              (subst (λ l. IsMade (silent (facts a).stands.config) old new (work (facts a).stands.config l k.thread s') answer) (sym i.last)
-              (subst (λ t. IsMade (silent (facts a).stands.config) old new (work (facts a).stands.config (facts a).stands.last t s') answer) (sym i.thread) x.2)),
-        );
-  }
+use Rattle.jr_env.proofs.Carrying.{did_answer, did_call, did_more, did_refuse, does_nothing}
 
 ran_unformed : {A B : Type 0} (form : A → B) {p q : PassView} {f g : Frames} {call : Call B} (answer : Result A Fault) → Ran p q f g (in_form form call) answer → Ran p q f g call (answer_in form answer)
 ran_unformed form (Ok x) r = record { acts = r.acts; did = r.did; is = r.is; begun = r.begun; window = r.window; grounds = tt }
@@ -57,7 +32,7 @@ ran_unformed form (Err e) r = record { acts = r.acts; did = r.did; is = r.is; be
 module _ {S : Type 0} {G : Ghosts S} (fits : AreOf G.facts) (old new : Env S G) where
   abbrev deed_of : {A : Type 0} {answer : Result A Fault} (silent : Config → ℕ) (work : Config → ℕ → ℕ → State → Call A) → PerformsOver old.held new.held silent work answer
       → DoesDeed G.facts old.held.steps new.held.steps old.held.frames.frames new.held.frames.frames (within_by silent work) answer
-  deed_of silent work p = deed_by G.facts fits old.held.steps new.held.steps old.held.frames.frames new.held.frames.frames silent work p
+  deed_of silent work p = did_call G.facts fits silent work (λ j k x. x.1) p
 
   pub inside_by : {A : Type 0} {answer : Result A Fault} (silent : Config → ℕ) (work : Config → ℕ → ℕ → State → Call A) → PerformsOver old.held new.held silent work answer → StaysOn old.held new.held → DoesInside old new (within_by silent work) answer
   inside_by silent work p on = record { did = deed_of silent work p; on = on }
@@ -66,15 +41,13 @@ module _ {S : Type 0} {G : Ghosts S} (fits : AreOf G.facts) (old new : Env S G) 
   pub inside_on : {A : Type 0} {answer : Result A Fault} (silent : Config → ℕ) (work : Config → ℕ → ℕ → State → Word → Call A) (w : ℕ) (r : Word) → IsReadAs w r
       → PerformsOver old.held new.held silent (λ c last t s. work c last t s r) answer → StaysOn old.held new.held → DoesInside old new (within_on_by silent w work) answer
   inside_on silent work w r reads p on =
-      let d = deed_of silent (λ c last t s. work c last t s r) p in
-      record { did = record { stands_is = d.stands_is; did = λ k s m. let x = d.did k s m in (x.0, x.1, x.2, (r, reads, x.3)) }; on = on }
+      record { did = did_more (λ k m x. (r, reads, x)) (deed_of silent (λ c last t s. work c last t s r) p); on = on }
 
   -- a call that is handed two reference words
   pub inside_on_both : {A : Type 0} {answer : Result A Fault} (silent : Config → ℕ) (work : Config → ℕ → ℕ → State → Word → Word → Call A) (v w : ℕ) (q r : Word) → IsReadAs v q → IsReadAs w r
       → PerformsOver old.held new.held silent (λ c last t s. work c last t s q r) answer → StaysOn old.held new.held → DoesInside old new (within_on_both_by silent v w work) answer
   inside_on_both silent work v w q r reads reads' p on =
-      let d = deed_of silent (λ c last t s. work c last t s q r) p in
-      record { did = record { stands_is = d.stands_is; did = λ k s m. let x = d.did k s m in (x.0, x.1, x.2, (q, r, reads, reads', x.3)) }; on = on }
+      record { did = did_more (λ k m x. (q, r, reads, reads', x)) (deed_of silent (λ c last t s. work c last t s q r) p); on = on }
 
 module _ {S : Type 0} {G : Ghosts S} (old new : Env S G) where
   -- the answer in another form
@@ -98,5 +71,5 @@ module _ {S : Type 0} {G : Ghosts S} (old new : Env S G) where
   gives_back kind w buffer Abort ne answer d = absurd (ne refl)
 
 -- what does nothing
-pub does_nothing : {S : Type 0} {G : Ghosts S} (env : Env S G) {A : Type 0} (x : A) → DoesInside env env (done x) (Ok x)
-does_nothing env x = record { did = record { stands_is = nothing_changed; did = λ k s m. (k, s, m, (refl, refl)) }; on = λ begun since. since }
+pub nothing_inside : {S : Type 0} {G : Ghosts S} (env : Env S G) {A : Type 0} (x : A) → DoesInside env env (done x) (Ok x)
+nothing_inside env x = record { did = does_nothing (λ p. (refl, refl)); on = λ begun since. since }

@@ -6,6 +6,7 @@ use Rattle.jr_word.specs.declared.handle.Handle.{Handle as HandleWord}
 use Rattle.jr_word.specs.Handle.{handle_word}
 use Rattle.jr_word.specs.declared.config.Config.{Config}
 use Rattle.jr_word.specs.declared.fault.Fault.{Fault}
+use Rattle.jr_model.specs.declared.event.Role.{Role}
 use Rattle.jr_model.specs.declared.event.Role.TheVariants.{Outside}
 use Rattle.jr_model.specs.declared.frames.Mode.{Mode}
 use Rattle.jr_model.specs.declared.frames.Mode.TheVariants.{Copy, Commit, Abort}
@@ -16,6 +17,7 @@ use Rattle.jr_model.specs.History.{state}
 use Rattle.jr_model.specs.Frames.{Frames}
 use Rattle.jr_model.specs.Calls.{Call}
 use Rattle.jr_model.specs.Checks.{Word}
+use Rattle.jr_steps.specs.declared.known.Known.{Known}
 use Rattle.jr_steps.specs.Holdings.{empty}
 use Rattle.jr_steps.specs.Knowing.{Facts, Leads, Holds}
 use Rattle.jr_frames.specs.Reading.{IsReadAs}
@@ -200,12 +202,16 @@ abbrev pub free_locals : Deed (Unit {0})
 free_locals = call (λ c last t s. references.free_locals)
 
 module _ {S : Type 0} (facts : S → Facts) where
-  -- the deed was done: for whatever was known, something is known that it may lead to
-  pub record DoesDeed {A : Type 0} (old new : S) (before after : Frames) (deed : Deed A) (answer : Result A Fault) : Type 0 where
-    pub stands_is : IsAsBefore (facts old).stands (facts new).stands
-    pub did : Leads facts old new (Holds before) (λ k k'. Holds after k') (λ k k'. deed (thread_state (facts old) k before) answer (thread_state (facts new) k' after))
+  -- THE DEED WAS DONE, with this answer: for whatever was known and met the condition, something is known that it led to and that shows the other; and afterwards the thread has the role. A call, one in a stay, a region's opening, a collection, a script's command: each is this, of its own deed
+  pub record CarriedOut {A : Type 0} (old new : S) (before after : Frames) (role : Role) (met shown : Known → Type 0) (deed : Deed A) (answer : Result A Fault) : Type 0 where
+    pub stands_is : IsAsBefore (record ((facts old).stands) { role = role }) (facts new).stands
+    pub did : Leads facts old new met (λ k k'. shown k') (λ k k'. deed (thread_state (facts old) k before) answer (thread_state (facts new) k' after))
 
-  -- the deed was done by a call, where the thread stood outside; and afterwards it stands outside in any case
+  -- the same, where the thread keeps its role and nothing but its frames is told of
+  abbrev pub DoesDeed : {A : Type 0} → S → S → Frames → Frames → Deed A → Result A Fault → Type 0
+  DoesDeed old new before after deed answer = CarriedOut old new before after (facts old).stands.role (Holds before) (Holds after) deed answer
+
+  -- so was a call's, where the thread stood outside; and afterwards it stands outside in any case
   pub record DoesOutside {A : Type 0} (old new : S) (before after : Frames) (deed : Deed A) (answer : Result A Fault) : Type 0 where
-    pub does : (facts old).stands.role ≡ Outside → DoesDeed old new before after deed answer
+    pub does : (facts old).stands.role ≡ Outside → CarriedOut old new before after (facts old).stands.role (Holds before) (Holds after) deed answer
     pub outside : (facts new).stands.role ≡ Outside

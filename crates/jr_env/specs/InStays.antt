@@ -1,5 +1,5 @@
 -- For the crate's own functions: what each work asks is a call in a stay.
-use Rattle.std.specs.Prelude.{◌≡◌, ℕ, Bool, true, Result, Ok, Err, None, List, [], ◌∷◌, ◌++◌, replicate}
+use Rattle.std.specs.Prelude.{ℕ, Ok, Err, None, List, [], ◌∷◌, ◌++◌, replicate}
 use Rattle.std.proofs.Common.{refl, inl, inr, sym}
 use Rattle.std.proofs.lemmas.List.{append-nil}
 use Rattle.jr_word.specs.declared.handle.RefKind.{RefKind}

@@ -1,5 +1,5 @@
 -- What the calls of a stay do, from one moment of its pass and frames to another: each is the call of an env without an entry and an exit, which `References` and `Objects` of the machine name beside the call.
-use Rattle.std.specs.Prelude.{ℕ, Bool, Option, Some, None, Result, List, length, replicate}
+use Rattle.std.specs.Prelude.{ℕ, Bool, Option, Some, None, List, length, replicate}
 use Rattle.jr_word.specs.declared.config.Config.{Config}
 use Rattle.jr_word.specs.declared.fault.Fault.TheVariants.{NotArray, WrongKind}
 use Rattle.jr_word.specs.declared.handle.Handle.{Handle as HandleWord}

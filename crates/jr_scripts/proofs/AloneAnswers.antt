@@ -28,7 +28,7 @@ use Rattle.jr_scripts.proofs.Uncontended.{is_uncontended_act}
 use Rattle.jr_scripts.proofs.AloneCalls.{IsAlone, AllUncontended}
 use Rattle.jr_scripts.proofs.AloneAnnouncing.{only_turns}
 use Rattle.jr_scripts.proofs.AloneDeeds.{IsMadeOutside, deed_alone}
-use Rattle.jr_scripts.proofs.AloneWithin.{Led, decided_by, done_by, giving_up_by, led_alone, within_by}
+use Rattle.jr_scripts.proofs.AloneWithin.{Led, decided_by, done_by, giving_up_by, led_alone, in_region_by}
 
 pub all_map : {P Q : Event → Type 0} → ((e : Event) → P e → Q e) → (es : History) → AllByRecursion P es → AllByRecursion Q es
 all_map f [] h = tt
@@ -69,7 +69,7 @@ place_alone turns p c old new answer alone d = go p.objects d
   where
     go : (os : List ℕ) → by_region os (deed turns p.names c) (deed_within p c) old answer new → Led (λ e. by_region os (IsFaultOutside turns p.names c new.pass new.frames e) (IsFaultWithin p c (state new.pass.seen) e)) old.pass new.pass answer
     go [] d = outside_alone turns p.names c old new answer alone d
-    go (o ∷ os) d = (within_by p c).led old new answer tt alone d
+    go (o ∷ os) d = (in_region_by p c).led old new answer tt alone d
 
 -- a region that stands at the end is given up
 pub given_up_alone : (os : List ℕ) (old new : ThreadState) (answer : Result (Unit {0}) Fault) → IsAlone new.pass → giving_up_all os old answer new → Led (λ e. ⊥) old.pass new.pass answer

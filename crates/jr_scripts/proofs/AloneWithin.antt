@@ -41,7 +41,8 @@ use Rattle.jr_scripts.specs.Names.{referent, wanted}
 use Rattle.jr_scripts.specs.Numbers.{has_numbers, is_number_of, word_of_number}
 use Rattle.jr_scripts.specs.Places.{Place, level_wanted, newest, nth_object}
 use Rattle.jr_scripts.specs.Commands.{awaited}
-use Rattle.jr_scripts.specs.RegionCommands.{deed_within, giving_up, in_stay, kind_of_level, nesting, read_kind, level_reading, reading_at, level_writing, writing_at}
+use Rattle.jr_env.specs.StayDeeds.{within_by}
+use Rattle.jr_scripts.specs.RegionCommands.{deed_within, giving_up, kind_of_level, nesting, read_kind, level_reading, reading_at, level_writing, writing_at}
 use Rattle.jr_scripts.specs.AloneAnswers.{IsFaultWithin, IsNestingFault, IsReadingFault, IsWritingFault, LevelObject}
 use Rattle.jr_scripts.proofs.AloneHistories.{all_prefix}
 use Rattle.jr_scripts.proofs.AloneCalls.{AllUncontended, IsAlone, since}
@@ -138,7 +139,7 @@ same_state old new f g work answer alone r none =
 stay_by : {A : Type 0} {Q : ThreadState → Type 0} {P : State → Fault → Type 0} (silent : ℕ) (asked : Config → ℕ → ℕ → State → Call A)
     → ((c : Config) (last t : ℕ) (s : State) (f g : Frames) (acts : List Act) (answer : Result A Fault) → c.threads ≡ 1 → t ≡ 0 → asked c last t s f acts answer g → AreUncontended acts)
     → ((old new : ThreadState) (e : Fault) → Q old → IsAlone new.pass → old.pass.config.threads ≡ 1 → old.pass.thread ≡ 0 → Ran old.pass new.pass old.frames new.frames (asked old.pass.config old.pass.last old.pass.thread (state new.pass.seen)) (Err e) → P (state new.pass.seen) e)
-    → LeadsBy Q P (in_stay silent asked)
+    → LeadsBy Q P (within_by (λ c. silent) asked)
 stay_by {A} {Q} {P} silent asked acts fault = record { led = λ old new answer so alone d. led old new answer so alone d.ran }
   where
     led : (old new : ThreadState) (answer : Result A Fault) → Q old → IsAlone new.pass → Ran old.pass new.pass old.frames new.frames (asked old.pass.config old.pass.last old.pass.thread (state new.pass.seen)) answer → Led (P (state new.pass.seen)) old.pass new.pass answer
@@ -315,7 +316,7 @@ module _ (p : Place) (n : List ℕ) (r : Reference) where
 pub giving_up_by : {P : State → Fault → Type 0} (n : ℕ) → LeadsBy Always P (giving_up n)
 giving_up_by {P} n = record { led = λ old new answer so alone d. (released n).led old new answer so alone d.0 }
   where
-    released : (n : ℕ) → LeadsBy Always P (in_stay 0 (λ c last t s. region_release n))
+    released : (n : ℕ) → LeadsBy Always P (within_by (λ c. 0) (λ c last t s. region_release n))
     released zero = stay_by 0 (λ c last t s. region_release 0) (λ c last t s f g acts answer one first is. subst AreUncontended (sym is.0) tt) (λ old new e so alone one first r. let bad = r.is.1 in absurd cc)
     released (suc zero) = stay_by 0 (λ c last t s. region_release 1) (λ c last t s f g acts answer one first is. subst AreUncontended (sym is.0) (refl, tt)) (λ old new e so alone one first r. let bad = r.is.1 in absurd cc)
     released (suc (suc n)) = stay_by 0 (λ c last t s. region_release (suc (suc n))) (λ c last t s f g acts answer one first is. subst AreUncontended (sym is.0) tt) (λ old new e so alone one first r. let bad = r.is.1 in absurd cc)
@@ -333,11 +334,11 @@ Barred s e = e ≡ InCritical
 barred_by : LeadsBy Always Barred (decided {A = Reply} (Err InCritical))
 barred_by = decided_by (Err InCritical) (λ m so. refl)
 
-pub within_by : (p : Place) (c : Command) → LeadsBy Always (IsFaultWithin p c) (deed_within p c)
-within_by p (commands.OpenLevel v n r) = choose_by (wanted (referent p.names r)) (λ m so. wanted_by p n r v (referent p.names r) refl m) (λ w is. then_by (nesting_by p n r v w.0) (λ level. done_by _))
-within_by p (commands.OnNameAt on_name_at.GetInLevel n i) = reading_at_by p n i
-within_by p (commands.PutAt put_at.PutInLevel n i x) = writing_at_by p n i x
-within_by p (commands.CloseLevel v mode) = then_by (giving_up_by (length p.objects)) (λ x. done_by _)
-within_by p (commands.OnName on_name.Post n) = done_by replies.Done
-within_by p (commands.Make make.Wait n) = awaited_by p n
-within_by p _ = barred_by
+pub in_region_by : (p : Place) (c : Command) → LeadsBy Always (IsFaultWithin p c) (deed_within p c)
+in_region_by p (commands.OpenLevel v n r) = choose_by (wanted (referent p.names r)) (λ m so. wanted_by p n r v (referent p.names r) refl m) (λ w is. then_by (nesting_by p n r v w.0) (λ level. done_by _))
+in_region_by p (commands.OnNameAt on_name_at.GetInLevel n i) = reading_at_by p n i
+in_region_by p (commands.PutAt put_at.PutInLevel n i x) = writing_at_by p n i x
+in_region_by p (commands.CloseLevel v mode) = then_by (giving_up_by (length p.objects)) (λ x. done_by _)
+in_region_by p (commands.OnName on_name.Post n) = done_by replies.Done
+in_region_by p (commands.Make make.Wait n) = awaited_by p n
+in_region_by p _ = barred_by

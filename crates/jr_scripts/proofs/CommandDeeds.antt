@@ -1,7 +1,5 @@
 -- What calls make up a command, for whatever was known.
-use Rattle.std.proofs.Common.{◌≡◌, ℕ, ℤ, List, [], ◌∷◌, length, map, get_or, ap, ◌∙◌, Result, Ok, Err, refl, subst, sym, inl, inr}
-use Rattle.std.specs.Result.{IsErrAnd}
-use Rattle.std.proofs.lemmas.Result.{err_from_is_err_and}
+use Rattle.std.proofs.Common.{◌≡◌, ℕ, ℤ, List, [], ◌∷◌, length, map, get_or, ap, Result, Ok, Err, refl, subst, sym, inl, inr}
 use Rattle.jr_word.specs.declared.fault.Fault.{Fault}
 use Rattle.jr_word.specs.declared.handle.RefKind.{RefKind}
 use Rattle.jr_word.specs.declared.kind.Kind.{Kind}
@@ -17,7 +15,6 @@ use Rattle.jr_steps.specs.Knowing.{Facts}
 use Rattle.jr_scripts.specs.declared.reply.Reply.{Reply}
 use Rattle.jr_scripts.specs.declared.reply.Reply.TheVariants as replies
 use Rattle.jr_frames.specs.Reading.{IsReadAs}
-use Rattle.jr_gate.specs.Performing.{ThreadState}
 use Rattle.jr_env.specs.Deeds.{Deed, DoesDeed, decided, done, answered_by, kind_of, get_array_region, set_array_region, ◌>>=◌, ◌>>◌}
 use Rattle.jr_scripts.specs.declared.number.NumberKind.{NumberKind}
 use Rattle.jr_scripts.specs.declared.number.NumberKind.TheVariants as number
@@ -27,7 +24,7 @@ use Rattle.jr_scripts.specs.Commands.{deed, tried, deleted_of, deletion, loading
 use Rattle.jr_scripts.specs.Tries.{Tried}
 use Rattle.jr_scripts.specs.Names.{Names}
 use Rattle.jr_scripts.proofs.FormedTries.{tried_formed, formed_ok, formed_err}
-use Rattle.jr_gate.proofs.SameRoom.{nothing_changed, still_before}
+use Rattle.jr_env.proofs.Carrying.{did_decided, did_decline, did_more, does_then}
 
 -- arrays of such a kind have numbers
 pub numbered_has : (n : NumberKind) → has_numbers (kind_numbered n) ≡ Ok tt
@@ -52,47 +49,24 @@ pub only_same : (v : OnBoth) → v ≡ Same
 only_same Same = refl
 
 module _ {S : Type 0} {facts : S → Facts} where
-  -- a deed that leads on to another
-  pub does_more : {A B : Type 0} {old new : S} {f g : Frames} {one : Deed A} {two : Deed B} {once : Result A Fault} {answer : Result B Fault} → ((p q : ThreadState) → one p once q → two p answer q) → DoesDeed facts old new f g one once → DoesDeed facts old new f g two answer
-  does_more w d = record { stands_is = d.stands_is; did = λ k s h. let x = d.did k s h in (x.0, x.1, x.2, w _ _ x.3) }
-
-  -- no deed leads nowhere
-  pub does_nothing : {A : Type 0} {old : S} {f : Frames} {deed : Deed A} {answer : Result A Fault} → ((p : _) → deed p answer p) → DoesDeed facts old old f f deed answer
-  does_nothing w = record { stands_is = nothing_changed; did = λ k s h. (k, s, h, w _) }
-
   -- the delete call of the kind of a handle
   pub does_delete : {old new : S} {f g : Frames} {answer : Result Reply Fault} (turns w : ℕ) (h : Handle) (kind : RefKind) → IsReadAs w (Parts h) → h.kind ≡ kind → DoesDeed facts old new f g (deleted_of turns kind w >> done replies.Done) answer → DoesDeed facts old new f g (deletion turns w >> done replies.Done) answer
-  does_delete turns w h kind reads is = does_more (λ p q d.
+  does_delete turns w h kind reads is = did_more (λ p q d.
       elim d [
         | inl x ↦ inl (x.0, x.1, (Parts h, reads, subst (λ k. deleted_of turns k w p (Ok x.0) x.1) (sym is) x.2), x.3)
         | inr y ↦ inr (y.0, y.1, (Parts h, reads, subst (λ k. deleted_of turns k w p (Err y.0) q) (sym is) y.2))
       ])
-
-  -- one deed was answered, and the next was done
-  pub does_then : {A B : Type 0} {a b c : S} {f g h : Frames} {one : Deed A} {x : A} (next : A → Deed B) {answer : Result B Fault} → DoesDeed facts a b f g one (Ok x) → DoesDeed facts b c g h (next x) answer → DoesDeed facts a c f h (one >>= next) answer
-  does_then next first more = record {
-    stands_is = still_before first.stands_is more.stands_is;
-    did = λ k s m. let x = first.did k s m in let y = more.did x.0 x.1 x.2 in (y.0, y.1, y.2, inl (_, _, x.3, y.3));
-  }
-
-  -- what was decided before a deed
-  pub does_decided : {A B : Type 0} {a b : S} {f g : Frames} {r : Result A Fault} {x : A} (next : A → Deed B) {answer : Result B Fault} → r ≡ Ok x → DoesDeed facts a b f g (next x) answer → DoesDeed facts a b f g (decided r >>= next) answer
-  does_decided {x = x} next is = does_more (λ p q d. inl (x, p, (sym is, refl), d))
-
-  -- a refusal that was decided before a deed
-  pub does_decline : {A B : Type 0} {a : S} {f : Frames} {r : Result A Fault} {e : Fault} (next : A → Deed B) → r ≡ Err e → DoesDeed facts a a f f (decided r >>= next) (Err e)
-  does_decline {e = e} next is = does_nothing (λ p. inr (e, refl, (sym is, refl)))
 
   -- the kind of an array, and then a deed for it
   pub does_of_kind : {a b c : S} {f g h : Frames} {answer : Result Reply Fault} (turns w : ℕ) (k kind : Kind) (next : Kind → Deed Reply) → k ≡ kind → has_numbers kind ≡ Ok tt → DoesDeed facts a b f g (tried turns (kind_of w)) (Ok k) → DoesDeed facts b c g h (next kind) answer
       → DoesDeed facts a c f h (tried turns (kind_of w) >>= (λ k. decided (has_numbers k) >>= (λ _. next k))) answer
   does_of_kind {b = b} {c = c} {g = g} {h = h} {answer = answer} turns w k kind next is numbers first more =
       does_then (λ k. decided (has_numbers k) >>= (λ _. next k)) first
-      (subst (λ x. DoesDeed facts b c g h (decided (has_numbers x) >>= (λ _. next x)) answer) (sym is) (does_decided (λ _. next kind) numbers more))
+      (subst (λ x. DoesDeed facts b c g h (decided (has_numbers x) >>= (λ _. next x)) answer) (sym is) (did_decided (λ _. next kind) numbers more))
 
   -- a call whose answer has another form, made again where it was raced or barred
   pub does_tried_form : {A B C : Type 0} {a b : S} {f g : Frames} {answer : Result C Fault} (turns : ℕ) (form : A → B) (after : B → C) (one : Deed A) → DoesDeed facts a b f g (answered_by after (tried turns (answered_by form one))) answer → DoesDeed facts a b f g (answered_by (λ x. after (form x)) (tried turns one)) answer
-  does_tried_form turns form after one = does_more (λ p q d.
+  does_tried_form turns form after one = did_more (λ p q d.
       elim d [
         | inl x ↦ (let y = tried_formed form one turns p x.1 (Ok x.0) x.2 in formed_ok form after one turns p q x.1 x.0 y.0 y.1 y.2 x.3)
         | inr y ↦ (let z = tried_formed form one turns p q (Err y.0) y.2 in inr (y.0, y.1, subst (λ r. Tried one turns p r q) (formed_err form z.0 y.0 z.1) z.2))
@@ -110,14 +84,14 @@ module _ {S : Type 0} {facts : S → Facts} where
       → DoesDeed facts a b f g (tried turns (kind_of w)) (Ok k) → DoesDeed facts b c g h (tried turns (set_array_region (kind_of_element x) w i (word_of_element x ∷ [])) >> done replies.Done) answer → DoesDeed facts a c f h (storing turns w i v) answer
   does_store {b = b} {c = c} {g = g} {h = h} {answer = answer} turns w i v k n x is kind word first more =
       does_of_kind turns w k (kind_numbered n) (storing_as turns w i v) is (numbered_has n) first
-      (does_decided (λ word. tried turns (set_array_region (kind_numbered n) w i (word ∷ [])) >> done replies.Done) word
+      (did_decided (λ word. tried turns (set_array_region (kind_numbered n) w i (word ∷ [])) >> done replies.Done) word
       (subst (λ l. DoesDeed facts b c g h (tried turns (set_array_region l w i (word_of_element x ∷ [])) >> done replies.Done) answer) kind more))
 
   -- no element of the kind is the number
   pub does_refuse_number : {a b : S} {f g : Frames} (turns w i : ℕ) (v : ℤ) (k : Kind) (n : NumberKind) (e : Fault) → k ≡ kind_numbered n → word_of_number (kind_numbered n) v ≡ Err e → DoesDeed facts a b f g (tried turns (kind_of w)) (Ok k) → DoesDeed facts a b f g (storing turns w i v) (Err e)
   does_refuse_number turns w i v k n e is word first =
       does_of_kind turns w k (kind_numbered n) (storing_as turns w i v) is (numbered_has n) first
-      (does_decline (λ word. tried turns (set_array_region (kind_numbered n) w i (word ∷ [])) >> done replies.Done) word)
+      (did_decline (λ word. tried turns (set_array_region (kind_numbered n) w i (word ∷ [])) >> done replies.Done) refl (λ k m. m) word)
 
   -- the deed of a command that is known
   pub does_command : {a b : S} {f g : Frames} {answer : Result Reply Fault} (turns : ℕ) (names : Names) (c d : Command) → c ≡ d → DoesDeed facts a b f g (deed turns names d) answer → DoesDeed facts a b f g (deed turns names c) answer
@@ -135,7 +109,3 @@ module _ {S : Type 0} {facts : S → Facts} where
   -- the same number is stored
   pub does_stored_as : {a b : S} {f g : Frames} {answer : Result Reply Fault} (turns w i : ℕ) (v x : ℤ) → DoesDeed facts a b f g (storing turns w i v) answer → v ≡ x → DoesDeed facts a b f g (storing turns w i x) answer
   does_stored_as {a} {b} {f} {g} {answer} turns w i v x d is = subst (λ n. DoesDeed facts a b f g (storing turns w i n) answer) is d
-
-  -- a command that was refused without a call, at the exit of a `?`
-  pub does_refused_as : {A : Type 0} {a b : S} {f g : Frames} {deed : Deed A} (e : Fault) (answer : Result A Fault) → IsErrAnd answer (λ y. y ≡ e) → DoesDeed facts a b f g deed (Err e) → DoesDeed facts a b f g deed answer
-  does_refused_as {a = a} {b = b} {f = f} {g = g} {deed = deed} e answer given d = let why = err_from_is_err_and answer given in subst (λ r. DoesDeed facts a b f g deed r) (sym (why.1 ∙ ap (λ (v : Fault). Err v) why.2)) d

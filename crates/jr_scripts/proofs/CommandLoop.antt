@@ -9,21 +9,21 @@ use Rattle.jr_model.specs.Frames.{Frames}
 use Rattle.jr_syntax.specs.declared.command.Command.{Command}
 use Rattle.jr_steps.specs.declared.known.Known.{Known}
 use Rattle.jr_steps.specs.Knowing.{Facts, Holds}
-use Rattle.jr_env.specs.Deeds.{DoesDeed}
+use Rattle.jr_env.specs.Deeds.{CarriedOut, DoesDeed}
 use Rattle.jr_scripts.specs.declared.reply.Reply.{Reply}
 use Rattle.jr_model.specs.declared.event.Role.TheVariants.{Outside}
 use Rattle.jr_scripts.specs.declared.region.Region.{Region}
 use Rattle.jr_scripts.specs.Names.{Names, no_names}
 use Rattle.jr_scripts.specs.Places.{Place, levels_after, objects_after, place_after}
 use Rattle.jr_scripts.specs.RegionCommands.{deed_at, giving_up_all}
-use Rattle.jr_scripts.specs.Advancing.{CarriedOut, KnowsWith, level_names, objects_in, place_with, role_with}
+use Rattle.jr_scripts.specs.Advancing.{KnowsWith, level_names, objects_in, place_with, role_with}
 use Rattle.jr_scripts.specs.Text.{buffers_after, printed, names_set}
 use Rattle.jr_scripts.specs.Explains.{Explains, nothing, then, unwritten}
 use Rattle.jr_scripts.specs.Posting.{Speaks, Talk}
 use Rattle.jr_scripts.specs.Runs.{WritesDown, running}
 use Rattle.jr_scripts.proofs.Speaking.{Carries, explains_still}
 use Rattle.jr_gate.specs.Performing.{IsAsBefore, thread_state}
-use Rattle.jr_scripts.proofs.Within.{role_kept, role_then}
+use Rattle.jr_env.proofs.Carrying.{role_kept, role_then}
 use Rattle.jr_steps.specs.Knowing.{Standing}
 
 module _ {S : Type 0} (facts : S → Facts) where

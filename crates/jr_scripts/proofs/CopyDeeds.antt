@@ -11,7 +11,7 @@ use Rattle.jr_model.specs.Frames.{Frames}
 use Rattle.jr_steps.specs.Knowing.{Facts}
 use Rattle.jr_elements.specs.Copies.{answer_in, kept}
 use Rattle.jr_env.specs.Deeds.{Deed, DoesDeed, answered_by, decided, done, release_answer, release_array_elements, get_array_elements, kind_of, ◌>>◌, ◌>>=◌}
-use Rattle.jr_env.proofs.EnvCalls.{did_answer, did_refuse}
+use Rattle.jr_env.proofs.Carrying.{did_answer, did_more, did_refuse, does_nothing}
 use Rattle.jr_syntax.specs.declared.command.Command.TheVariants as commands
 use Rattle.jr_syntax.specs.declared.verb.OnNameAt.{OnNameAt}
 use Rattle.jr_syntax.specs.declared.verb.OnNameAt.TheVariants as on_name_at
@@ -33,7 +33,7 @@ use Rattle.jr_scripts.specs.Text.{buffers_after, elements_left, left_by}
 use Rattle.jr_scripts.specs.Advancing.{got_by, put_by}
 use Rattle.jr_gate.specs.Performing.{ThreadState}
 use Rattle.jr_scripts.proofs.FormedTries.{formed, tried_formed}
-use Rattle.jr_scripts.proofs.CommandDeeds.{does_more, does_nothing, does_of_kind, does_tried_form, numbered_has}
+use Rattle.jr_scripts.proofs.CommandDeeds.{does_of_kind, does_tried_form, numbered_has}
 
 module _ {S : Type 0} {facts : S → Facts} where
   -- a copy of elements, by the call of their kind
@@ -86,7 +86,7 @@ module _ {S : Type 0} {facts : S → Facts} where
 
   -- a release whose reply is that it was done
   pub does_released : {A : Type 0} {a b : S} {f g : Frames} {answer : Result Reply Fault} (turns : ℕ) (one : Deed A) → DoesDeed facts a b f g (tried turns (answered_by (λ _. replies.Done) one)) answer → DoesDeed facts a b f g (tried turns one >> done replies.Done) answer
-  does_released {A} {answer = answer} turns one = does_more (λ p q d. let y = tried_formed (λ _. replies.Done) one turns p q answer d in go p q y.0 y.1 y.2)
+  does_released {A} {answer = answer} turns one = did_more (λ p q d. let y = tried_formed (λ _. replies.Done) one turns p q answer d in go p q y.0 y.1 y.2)
     where
       go : (p q : ThreadState) (r : Result A Fault) → answer ≡ formed (λ _. replies.Done) r → Tried one turns p r q → (tried turns one >> done replies.Done) p answer q
       go p q (Ok x) is t = inl (x, q, t, (is, refl))

@@ -13,12 +13,12 @@ use Rattle.jr_frames.specs.Table.{Table}
 use Rattle.jr_critical.specs.declared.level.Level.{Level}
 use Rattle.jr_critical.specs.declared.levels.Levels.{Levels}
 use Rattle.jr_critical.specs.Levels.{GivesUpLast, KnowsLevels, LeavesBefore, Reaches, Stand, objects_of}
-use Rattle.jr_env.specs.Deeds.{done}
+use Rattle.jr_env.specs.Deeds.{CarriedOut, done}
+use Rattle.jr_env.proofs.Carrying.{did_refused, did_reply}
 use Rattle.jr_scripts.specs.declared.reply.Reply.TheVariants as replies
-use Rattle.jr_scripts.specs.Advancing.{CarriedOut}
 use Rattle.jr_scripts.specs.Numbers.{number_of_word}
 use Rattle.jr_scripts.specs.RegionCommands.{HoldsAfter, giving_up, reading_as}
-use Rattle.jr_scripts.proofs.Within.{did_reach, did_refused, did_reply}
+use Rattle.jr_scripts.proofs.Within.{did_reach}
 
 held_after : (n : ℕ) (m : ThreadState) → m.held ≡ empty → HoldsAfter n m
 held_after zero m e = tt

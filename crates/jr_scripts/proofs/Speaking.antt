@@ -20,8 +20,9 @@ use Rattle.jr_scripts.specs.Places.{Place, by_region, is_speaking, levels_after,
 use Rattle.jr_scripts.specs.Text.{buffers_after}
 use Rattle.jr_scripts.specs.Posting.{IsAwaited, IsHeard, LooksInVain, Keeps, Speaks, Talk, one_more, reply_to_wait, talk_of}
 use Rattle.jr_scripts.specs.Explains.{Explains, IsCutOff, LeavesText, nothing, then, unwritten, written}
-use Rattle.jr_scripts.specs.Advancing.{CarriedOut, IsSaid, KnowsWith, StandsWith, place_with, role_with}
-use Rattle.jr_scripts.proofs.Within.{did_nowhere}
+use Rattle.jr_scripts.specs.Advancing.{IsSaid, KnowsWith, StandsWith, place_with, role_with}
+use Rattle.jr_env.specs.Deeds.{CarriedOut}
+use Rattle.jr_env.proofs.Carrying.{did_nowhere}
 
 -- two boards, and then another that tells more
 pub still_more : {B : Type 0} (layout : B → Layout) (tells : B → List ℕ → ℕ → Type 0) {old mid new : B} → Keeps layout tells old mid → Keeps layout tells mid new → Keeps layout tells old new

@@ -1,14 +1,12 @@
 -- What was done where a thread stands in a region, and how it came there, for whatever was known.
-use Rattle.std.proofs.Common.{◌≡◌, ◌+◌, ◌-◌, ◌<◌, ◌≤◌, ◌∷◌, [], ◌∙◌, ℕ, ℤ, suc, true, false, List, Result, Ok, Err, length, inl, inr, subst, sym, ap, refl, arith}
+use Rattle.std.proofs.Common.{◌≡◌, ◌≤◌, ◌∷◌, [], ◌∙◌, ℕ, ℤ, List, Result, Ok, Err, length, subst, sym, ap, refl, arith}
 use Rattle.std.specs.Prelude.{IfErr, IfOk}
-use Rattle.std.specs.Result.{IsErrAnd}
-use Rattle.std.proofs.lemmas.Result.{err_from_is_err_and}
 use Rattle.jr_word.specs.declared.config.Config.{Config}
 use Rattle.jr_word.specs.declared.fault.Fault.{Fault}
 use Rattle.jr_word.specs.declared.fault.Fault.TheVariants as fault
 use Rattle.jr_word.specs.declared.kind.Kind.{Kind}
 use Rattle.jr_model.specs.declared.event.Role.{Role}
-use Rattle.jr_model.specs.declared.event.Role.TheVariants.{Outside, Within}
+use Rattle.jr_model.specs.declared.event.Role.TheVariants.{Within}
 use Rattle.jr_model.specs.State.{State}
 use Rattle.jr_model.specs.Frames.{Frames}
 use Rattle.jr_model.specs.Calls.{Call, Ran}
@@ -17,9 +15,9 @@ use Rattle.jr_model.proofs.Stays.{did_nothing}
 use Rattle.jr_model.proofs.Windows.{window_nothing}
 use Rattle.jr_steps.specs.declared.known.Known.{Known}
 use Rattle.jr_steps.specs.Holdings.{empty}
-use Rattle.jr_steps.specs.Knowing.{AreOf, Facts, Holds, Standing, state_of, view}
+use Rattle.jr_steps.specs.Knowing.{AreOf, Facts, Holds, state_of, view}
 use Rattle.jr_frames.specs.Table.{Table}
-use Rattle.jr_gate.specs.Performing.{IsAsBefore, IsMade, ThreadState, Performed, thread_state}
+use Rattle.jr_gate.specs.Performing.{Performed}
 use Rattle.jr_gate.proofs.Spending.{made_of, spend_none}
 use Rattle.jr_critical.specs.declared.levels.Levels.{Levels}
 use Rattle.jr_critical.specs.Levels.{KnowsLevels, LearnsFirst, Nests, Opens, Reaches, Stand, TellsKind, level_nested, level_object, object_opened, objects_of, role_opened}
@@ -27,12 +25,13 @@ use Rattle.jr_steps.specs.declared.steps.Steps.{Ghosts}
 use Rattle.jr_env.specs.declared.env.Env.{Env}
 use Rattle.jr_env.specs.Envs.{IsOutside}
 use Rattle.jr_env.specs.Criticals.{HasEntered, WasRefused}
-use Rattle.jr_env.specs.Deeds.{Deed, decided, done, ◌>>=◌, ◌>>◌}
+use Rattle.jr_env.specs.Deeds.{CarriedOut, Deed, decided, done, ◌>>=◌, ◌>>◌}
+use Rattle.jr_env.proofs.Carrying.{did_call, did_decided, did_decline, did_in_role, did_more, did_refused, did_reply, did_then, own_call, role_kept}
 use Rattle.jr_syntax.specs.declared.verb.OpenLevel.{OpenLevel}
 use Rattle.jr_scripts.specs.declared.number.NumberKind.{NumberKind}
 use Rattle.jr_scripts.specs.declared.reply.Reply.{Reply}
 use Rattle.jr_scripts.specs.declared.reply.Reply.TheVariants as replies
-use Rattle.jr_scripts.specs.Advancing.{CarriedOut, DidOpen, KnowsOpened}
+use Rattle.jr_scripts.specs.Advancing.{DidOpen, KnowsOpened}
 use Rattle.jr_scripts.specs.Numbers.{has_numbers, kind_numbered, word_of_number}
 use Rattle.jr_scripts.specs.Names.{Names}
 use Rattle.jr_scripts.specs.Text.{buffers_after}
@@ -41,127 +40,35 @@ use Rattle.jr_syntax.specs.declared.command.Command.TheVariants as commands
 use Rattle.jr_syntax.specs.declared.verb.PutAt.{PutAt}
 use Rattle.jr_syntax.specs.declared.verb.PutAt.TheVariants as put_at
 use Rattle.jr_scripts.proofs.CommandDeeds.{numbered_has}
-use Rattle.jr_scripts.specs.Commands.{opening_by, opens, tried}
-use Rattle.jr_env.specs.Tries.{is_tried_again}
-use Rattle.jr_scripts.specs.Tries.{answered, again, gave_up}
-use Rattle.jr_scripts.specs.RegionCommands.{deed_at, deed_within, in_stay, kind_of_level, nesting, nests, read_kind, level_reading, reading_as, level_writing, writing_as}
-
--- the same room and thread, and this role
-pub in_role : {s t : Standing} (r : Role) → IsAsBefore s t → s.role ≡ r → IsAsBefore (record s { role = r }) t
-in_role r b is = record { room = b.room; config = b.config; last = b.last; thread = b.thread; role = b.role ∙ is }
-
--- one and then the other
-pub role_then : (s t u : Standing) (q r : Role) → IsAsBefore (record s { role = q }) t → IsAsBefore (record t { role = r }) u → IsAsBefore (record s { role = r }) u
-role_then s t u q r a b = record { room = b.room ∙ a.room; config = b.config ∙ a.config; last = b.last ∙ a.last; thread = b.thread ∙ a.thread; role = b.role }
-
--- nothing changed
-pub role_kept : {s : Standing} (r : Role) → s.role ≡ r → IsAsBefore (record s { role = r }) s
-role_kept r is = record { room = refl; config = refl; last = refl; thread = refl; role = is }
+use Rattle.jr_scripts.specs.Commands.{opening_by, opens}
+use Rattle.jr_env.specs.StayDeeds.{within_by}
+use Rattle.jr_scripts.specs.RegionCommands.{deed_at, deed_within, kind_of_level, nesting, nests, read_kind, level_reading, reading_as, level_writing, writing_as}
 
 module _ {S : Type 0} {facts : S → Facts} where
-  -- a deed that leads on to another
-  pub did_more : {A B : Type 0} {a b : S} {f g : Frames} {r : Role} {met shown : Known → Type 0} {one : Deed A} {two : Deed B} {once : Result A Fault} {answer : Result B Fault}
-      → ((p q : ThreadState) → one p once q → two p answer q) → CarriedOut facts a b f g r met shown one once → CarriedOut facts a b f g r met shown two answer
-  did_more w d = record { stands_is = d.stands_is; did = λ k s m. let x = d.did k s m in (x.0, x.1, x.2, w _ _ x.3) }
-
-  -- no deed leads nowhere
-  pub did_nowhere : {A : Type 0} {a : S} {f : Frames} {r : Role} {met shown : Known → Type 0} {deed : Deed A} {answer : Result A Fault}
-      → (facts a).stands.role ≡ r → ((k : Known) → met k → shown k) → ((p : ThreadState) → deed p answer p) → CarriedOut facts a a f f r met shown deed answer
-  did_nowhere {r = r} is on w = record { stands_is = role_kept r is; did = λ k s m. (k, s, on k m, w _) }
-
-  -- one deed was answered, and the next was done
-  pub did_then : {A B : Type 0} {a b c : S} {f g h : Frames} {q r : Role} {met mid shown : Known → Type 0} {one : Deed A} {x : A} (next : A → Deed B) {answer : Result B Fault}
-      → CarriedOut facts a b f g q met mid one (Ok x) → CarriedOut facts b c g h r mid shown (next x) answer → CarriedOut facts a c f h r met shown (one >>= next) answer
-  did_then {a = a} {b = b} {c = c} {q = q} {r = r} next first more = record {
-    stands_is = role_then (facts a).stands (facts b).stands (facts c).stands q r first.stands_is more.stands_is;
-    did = λ k s m. let x = first.did k s m in let y = more.did x.0 x.1 x.2 in (y.0, y.1, y.2, inl (_, _, x.3, y.3));
-  }
-
-  -- a deed was refused, and the next was not done
-  pub did_refused : {A B : Type 0} {a b : S} {f g : Frames} {r : Role} {met shown : Known → Type 0} {one : Deed A} (next : A → Deed B) (e : Fault) → CarriedOut facts a b f g r met shown one (Err e) → CarriedOut facts a b f g r met shown (one >>= next) (Err e)
-  did_refused next e = did_more (λ p q d. inr (e, refl, d))
-
-  -- a deed was answered, and nothing more is done
-  pub did_reply : {A B : Type 0} {a b : S} {f g : Frames} {r : Role} {met shown : Known → Type 0} {one : Deed A} (reply : A → B) (x : A) → CarriedOut facts a b f g r met shown one (Ok x) → CarriedOut facts a b f g r met shown (one >>= (λ x. done (reply x))) (Ok (reply x))
-  did_reply reply x = did_more (λ p q d. inl (x, q, d, (refl, refl)))
-
-  -- what was decided before a deed
-  pub did_decided : {A B : Type 0} {a b : S} {f g : Frames} {role : Role} {met shown : Known → Type 0} {r : Result A Fault} {x : A} (next : A → Deed B) {answer : Result B Fault}
-      → r ≡ Ok x → CarriedOut facts a b f g role met shown (next x) answer → CarriedOut facts a b f g role met shown (decided r >>= next) answer
-  did_decided {x = x} next is = did_more (λ p q d. inl (x, p, (sym is, refl), d))
-
-  -- a refusal that was decided before a deed
-  pub did_decline : {A B : Type 0} {a : S} {f : Frames} {role : Role} {met shown : Known → Type 0} {r : Result A Fault} {e : Fault} (next : A → Deed B)
-      → (facts a).stands.role ≡ role → ((k : Known) → met k → shown k) → r ≡ Err e → CarriedOut facts a a f f role met shown (decided r >>= next) (Err e)
-  did_decline {e = e} next role on is = did_nowhere role on (λ p. inr (e, refl, (sym is, refl)))
-
-  -- a refusal at the exit of a `?`
-  pub did_residual : {A : Type 0} {a b : S} {f g : Frames} {role : Role} {met shown : Known → Type 0} {deed : Deed A} (e : Fault) (answer : Result A Fault) → IsErrAnd answer (λ y. y ≡ e) → CarriedOut facts a b f g role met shown deed (Err e) → CarriedOut facts a b f g role met shown deed answer
-  did_residual {a = a} {b = b} {f = f} {g = g} {role = role} {met = met} {shown = shown} {deed = deed} e answer given d =
-      let why = err_from_is_err_and answer given in
-      subst (λ r. CarriedOut facts a b f g role met shown deed r) (sym (why.1 ∙ ap (λ (v : Fault). Err v) why.2)) d
-
   -- a number was stored at a level
   module _ {a b : S} {f g : Frames} {met shown : Known → Type 0} (o i : ℕ) (x z : ℤ) (k : Kind) (word : ℕ) (is : word_of_number k z ≡ Ok word) (same : z ≡ x) where
-    pub did_store : CarriedOut facts a b f g Within met shown (in_stay 0 (λ c last t s. region_set c last t s k o i word)) (Ok tt) → CarriedOut facts a b f g Within met shown (writing_as o i x k) (Ok replies.Done)
-    did_store d = did_decided (λ word. in_stay 0 (λ c last t s. region_set c last t s k o i word) >> done replies.Done) (ap (word_of_number k) (sym same) ∙ is) (did_reply (λ _. replies.Done) tt d)
+    pub did_store : CarriedOut facts a b f g Within met shown (within_by (λ c. 0) (λ c last t s. region_set c last t s k o i word)) (Ok tt) → CarriedOut facts a b f g Within met shown (writing_as o i x k) (Ok replies.Done)
+    did_store d = did_decided (λ word. within_by (λ c. 0) (λ c last t s. region_set c last t s k o i word) >> done replies.Done) (ap (word_of_number k) (sym same) ∙ is) (did_reply (λ _. replies.Done) tt d)
 
-    pub did_store_not : (e : Fault) → CarriedOut facts a b f g Within met shown (in_stay 0 (λ c last t s. region_set c last t s k o i word)) (Err e) → CarriedOut facts a b f g Within met shown (writing_as o i x k) (Err e)
-    did_store_not e d = did_decided (λ word. in_stay 0 (λ c last t s. region_set c last t s k o i word) >> done replies.Done) (ap (word_of_number k) (sym same) ∙ is) (did_refused (λ _. done replies.Done) e d)
-
-  -- a deed is done again where it was raced or barred, counted from the first
-  module _ {A : Type 0} {deed : Deed A} {role : Role} {shown : Known → Type 0} where
-    pub did_from_first : {a b : S} {f g : Frames} {answer : Result A Fault} (n : ℕ) → CarriedOut facts a b f g role (Holds f) shown (tried (n - 0) deed) answer → CarriedOut facts a b f g role (Holds f) shown (tried n deed) answer
-    did_from_first {a} {b} {f} {g} {answer} n d = let e : n - 0 ≡ n = omega arith in subst (λ m. CarriedOut facts a b f g role (Holds f) shown (tried m deed) answer) e d
-
-    pub did_answered : {a b : S} {f g : Frames} {answer : Result A Fault} (n k : ℕ) → k < n → CarriedOut facts a b f g role (Holds f) shown deed answer → is_tried_again answer ≡ false → CarriedOut facts a b f g role (Holds f) shown (tried (n - k) deed) answer
-    did_answered {a} {b} {f} {g} {answer} n k l d settled =
-        let e : suc (n - (k + 1)) ≡ n - k = omega arith in
-        subst (λ m. CarriedOut facts a b f g role (Holds f) shown (tried m deed) answer) e (did_more (λ p q o. answered o settled) d)
-
-    pub did_again : {a b c : S} {f g h : Frames} {once answer : Result A Fault} (n k : ℕ) → k < n → CarriedOut facts a b f g Outside (Holds f) (Holds g) deed once → is_tried_again once ≡ true → CarriedOut facts b c g h role (Holds g) shown (tried (n - (k + 1)) deed) answer → CarriedOut facts a c f h role (Holds f) shown (tried (n - k) deed) answer
-    did_again {a} {b} {c} {f} {g} {h} {once} {answer} n k l d unsettled more =
-        let e : suc (n - (k + 1)) ≡ n - k = omega arith in
-        let all : CarriedOut facts a c f h role (Holds f) shown (tried (suc (n - (k + 1))) deed) answer = record {
-          stands_is = role_then (facts a).stands (facts b).stands (facts c).stands Outside role d.stands_is more.stands_is;
-          did = λ s w m. let x = d.did s w m in let y = more.did x.0 x.1 x.2 in (y.0, y.1, y.2, again x.3 unsettled y.3);
-        } in
-        subst (λ m. CarriedOut facts a c f h role (Holds f) shown (tried m deed) answer) e all
-
-  pub did_give_up : {A : Type 0} {deed : Deed A} {a : S} {f : Frames} (n k : ℕ) → n ≤ k → (facts a).stands.role ≡ Outside → CarriedOut facts a a f f Outside (Holds f) (Holds f) (tried (n - k) deed) (Err fault.Turns)
-  did_give_up {A} {deed} {a} {f} n k l outside = let e : 0 ≡ n - k = omega arith in subst (λ m. CarriedOut facts a a f f Outside (Holds f) (Holds f) (tried m deed) (Err fault.Turns)) e (did_nowhere outside (λ k m. m) (λ p. gave_up))
+    pub did_store_not : (e : Fault) → CarriedOut facts a b f g Within met shown (within_by (λ c. 0) (λ c last t s. region_set c last t s k o i word)) (Err e) → CarriedOut facts a b f g Within met shown (writing_as o i x k) (Err e)
+    did_store_not e d = did_decided (λ word. within_by (λ c. 0) (λ c last t s. region_set c last t s k o i word) >> done replies.Done) (ap (word_of_number k) (sym same) ∙ is) (did_refused (λ _. done replies.Done) e d)
 
 module _ {S : Type 0} (facts : S → Facts) (fits : AreOf facts) where
-  -- a call of the steps' own thread is one of whoever knows the pass
-  own_call : {A : Type 0} {a b : S} {f g : Frames} {n : ℕ} (call : Config → ℕ → ℕ → State → Call A) {answer : Result A Fault} (k k' : Known) → (facts a).knows k
-      → IsMade n (thread_state (facts a) k f) (thread_state (facts b) k' g) (call (facts a).stands.config (facts a).stands.last (facts a).stands.thread (state_of k')) answer
-      → IsMade n (thread_state (facts a) k f) (thread_state (facts b) k' g) (call k.config k.last k.thread (state_of k')) answer
-  own_call {a = a} {b = b} {f = f} {g = g} {n = n} call {answer = answer} k k' s m =
-      let of = fits a k s in
-      let p = thread_state (facts a) k f in
-      let q = thread_state (facts b) k' g in
-      subst (λ c. IsMade n p q (call c k.last k.thread (state_of k')) answer) (sym of.config)
-      (subst (λ l. IsMade n p q (call (facts a).stands.config l k.thread (state_of k')) answer) (sym of.last)
-      (subst (λ t. IsMade n p q (call (facts a).stands.config (facts a).stands.last t (state_of k')) answer) (sym of.thread) m))
-
   -- a call in the stay
-  pub did_call : {A : Type 0} {a b : S} {f g : Frames} {n : ℕ} {met shown : Known → Type 0} {shows : Known → Known → Type 0} (call : Config → ℕ → ℕ → State → Call A) {answer : Result A Fault}
+  did_inside : {A : Type 0} {a b : S} {f g : Frames} {n : ℕ} {met shown : Known → Type 0} {shows : Known → Known → Type 0} (call : Config → ℕ → ℕ → State → Call A) {answer : Result A Fault}
       → (facts a).stands.role ≡ Within → ((j k : Known) → shows j k → shown k)
-      → Performed facts a b f g n met (λ s. call (facts a).stands.config (facts a).stands.last (facts a).stands.thread s) answer shows → CarriedOut facts a b f g Within met shown (in_stay n call) answer
-  did_call call within on p = record {
-    stands_is = in_role Within p.stands_is within;
-    did = λ k s m. let x = p.ran k s m in (x.0, x.1, on k x.0 x.3, own_call call k x.0 s x.2);
-  }
+      → Performed facts a b f g n met (λ s. call (facts a).stands.config (facts a).stands.last (facts a).stands.thread s) answer shows → CarriedOut facts a b f g Within met shown (within_by (λ c. n) call) answer
+  did_inside {n = n} call within on p = did_in_role within (did_call facts fits (λ c. n) call on p)
 
   -- a call at a level's object
-  pub did_reach : {A : Type 0} {a b : S} {t : Table} {f g : Frames} {v : Levels} (call : Config → ℕ → ℕ → State → Call A) {answer : Result A Fault} → Stand facts v a t → g ≡ f → Reaches facts a b f v call answer → CarriedOut facts a b f g Within (KnowsLevels v f) (KnowsLevels v g) (in_stay 0 call) answer
-  did_reach {a = a} {b = b} {f = f} {v = v} call {answer = answer} stand same r = subst (λ h. CarriedOut facts a b f h Within (KnowsLevels v f) (KnowsLevels v h) (in_stay 0 call) answer) (sym same) (did_call call stand.ready.role_is (λ j k x. x.1) r)
+  pub did_reach : {A : Type 0} {a b : S} {t : Table} {f g : Frames} {v : Levels} (call : Config → ℕ → ℕ → State → Call A) {answer : Result A Fault} → Stand facts v a t → g ≡ f → Reaches facts a b f v call answer → CarriedOut facts a b f g Within (KnowsLevels v f) (KnowsLevels v g) (within_by (λ c. 0) call) answer
+  did_reach {a = a} {b = b} {f = f} {v = v} call {answer = answer} stand same r = subst (λ h. CarriedOut facts a b f h Within (KnowsLevels v f) (KnowsLevels v h) (within_by (λ c. 0) call) answer) (sym same) (did_inside call stand.ready.role_is (λ j k x. x.1) r)
 
   -- a level was added, or refused
   pub did_nest : {a b : S} {t : Table} {f g : Frames} {v : Levels} (w : Levels) (verb u : OpenLevel) (word : ℕ) (answer : Result ℕ Fault) → verb ≡ u → Stand facts v a t → g ≡ f → Nests facts a b f word (nests u) v w answer → CarriedOut facts a b f g Within (KnowsLevels v f) (KnowsLevels w g) (nesting verb (objects_of v) word) (level_nested answer w)
   did_nest {a = a} {b = b} {f = f} {v = v} w verb u word answer which stand same made =
       let r : Nests facts a b f word (nests verb) v w answer = subst (λ x. Nests facts a b f word (nests x) v w answer) (sym which) made in
-      let d = did_call {met = KnowsLevels v f} {shown = KnowsLevels w f} (λ c last t s. nests verb c last t s (objects_of v) r.0) stand.ready.role_is (λ j k x. x) r.2 in
+      let d = did_inside {met = KnowsLevels v f} {shown = KnowsLevels w f} (λ c last t s. nests verb c last t s (objects_of v) r.0) stand.ready.role_is (λ j k x. x) r.2 in
       subst (λ h. CarriedOut facts a b f h Within (KnowsLevels v f) (KnowsLevels w h) (nesting verb (objects_of v) word) (level_nested answer w)) (sym same) (did_more (λ p q x. (r.0, r.1, x)) d)
 
   -- the kind of a level's object is known
@@ -182,7 +89,7 @@ module _ {S : Type 0} (facts : S → Facts) (fits : AreOf facts) where
         stands_is = o.2.stands_is;
         did = λ k s m.
             let x = o.2.ran k s m in
-            (x.0, x.1, held answer k x.0 x.3, (o.0, o.1, own_call (λ c last t s. opens verb c last t s o.0) k x.0 s x.2, gone answer k x.0 x.3));
+            (x.0, x.1, held answer k x.0 x.3, (o.0, o.1, own_call facts fits (λ c. 1) (λ c last t s. opens verb c last t s o.0) k x.0 s x.2, gone answer k x.0 x.3));
       })
     where
       held : (r : Result Levels Fault) (j k : Known) → LearnsFirst r j k × Holds f k → KnowsOpened r f k

@@ -1,4 +1,4 @@
--- For the crate's own functions: where a thread stands with its region, and what it did there, for whatever was known.
+-- For the crate's own functions: where a thread stands with its region, and what it did there.
 use Rattle.std.specs.Prelude.{◌≡◌, ℕ, List, [], length, Option, Some, None, Result, Ok, Err}
 use Rattle.jr_word.specs.declared.fault.Fault.{Fault}
 use Rattle.jr_word.specs.declared.fault.Fault.TheVariants as fault
@@ -7,13 +7,12 @@ use Rattle.jr_model.specs.declared.event.Role.TheVariants.{Outside, Within}
 use Rattle.jr_model.specs.Frames.{Frames}
 use Rattle.jr_steps.specs.declared.known.Known.{Known}
 use Rattle.jr_steps.specs.declared.steps.Steps.{Ghosts}
-use Rattle.jr_steps.specs.Knowing.{Facts, Leads, Holds}
-use Rattle.jr_gate.specs.Performing.{IsAsBefore, thread_state}
+use Rattle.jr_steps.specs.Knowing.{Holds}
 use Rattle.jr_critical.specs.declared.levels.Levels.{Levels}
 use Rattle.jr_critical.specs.Levels.{KnowsLevels, StandOver, object_opened, objects_of, role_opened}
 use Rattle.jr_env.specs.declared.env.Env.{Env}
 use Rattle.jr_env.specs.Deeds.{Deed}
-use Rattle.jr_env.specs.Envs.{IsOutside}
+use Rattle.jr_env.specs.Envs.{IsOutside, WasDoneFrom}
 use Rattle.jr_syntax.specs.declared.command.Command.{Command}
 use Rattle.jr_syntax.specs.declared.command.Command.TheVariants as commands
 use Rattle.jr_syntax.specs.declared.verb.Make.TheVariants as make
@@ -84,24 +83,16 @@ module _ {S : Type 0} {G : Ghosts S} where
   StandsWith None env = IsOutside env
   StandsWith (Some r) env = StandsIn r env
 
-module _ {S : Type 0} (facts : S → Facts) where
-  -- THE DEED WAS DONE, with this answer: for whatever was known and met the condition, something is known that it led to and that shows the other; and afterwards the thread has the role
-  pub record CarriedOut {A : Type 0} (old new : S) (f g : Frames) (role : Role) (met shown : Known → Type 0) (deed : Deed A) (answer : Result A Fault) : Type 0 where
-    pub stands_is : IsAsBefore (record ((facts old).stands) { role = role }) (facts new).stands
-    pub did : Leads facts old new met (λ k k'. shown k') (λ k k'. deed (thread_state (facts old) k f) answer (thread_state (facts new) k' g))
-
 module _ {S A : Type 0} {G : Ghosts S} where
   -- the deed was done, from one region to another
   abbrev pub DidWith : Env S G → Env S G → Option Region → Option Region → Deed A → Result A Fault → Type 0
-  DidWith old new region left deed answer =
-      CarriedOut G.facts old.held.steps new.held.steps old.held.frames.frames new.held.frames.frames (role_with left) (KnowsWith region old.held.frames.frames) (KnowsWith left new.held.frames.frames) deed answer
+  DidWith old new region left deed answer = WasDoneFrom old new (KnowsWith region) (KnowsWith left) (role_with left) deed answer
 
   -- the deed was done in the stay of a region, from its levels to these
   abbrev pub DidWithin : Env S G → Env S G → Levels → Levels → Deed A → Result A Fault → Type 0
-  DidWithin old new v w deed answer = CarriedOut G.facts old.held.steps new.held.steps old.held.frames.frames new.held.frames.frames Within (KnowsLevels v old.held.frames.frames) (KnowsLevels w new.held.frames.frames) deed answer
+  DidWithin old new v w deed answer = WasDoneFrom old new (KnowsLevels v) (KnowsLevels w) Within deed answer
 
 module _ {S : Type 0} {G : Ghosts S} where
   -- a region was opened, or refused
   abbrev pub DidOpen : Env S G → Env S G → Deed ℕ → Result Levels Fault → Type 0
-  DidOpen old new deed answer =
-      CarriedOut G.facts old.held.steps new.held.steps old.held.frames.frames new.held.frames.frames (role_opened answer) (Holds old.held.frames.frames) (KnowsOpened answer new.held.frames.frames) deed (object_opened answer)
+  DidOpen old new deed answer = WasDoneFrom old new Holds (KnowsOpened answer) (role_opened answer) deed (object_opened answer)

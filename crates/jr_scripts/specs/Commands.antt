@@ -10,12 +10,10 @@ use Rattle.jr_word.specs.declared.fault.Fault.{Fault}
 use Rattle.jr_word.specs.declared.fault.Fault.TheVariants as fault
 use Rattle.jr_model.specs.declared.frames.Mode.{Mode}
 use Rattle.jr_model.specs.State.{State}
-use Rattle.jr_model.specs.History.{state}
 use Rattle.jr_model.specs.Calls.{Call}
 use Rattle.jr_model.specs.Checks.{Word, Nothing, Malformed, Parts}
 use Rattle.jr_model.specs.Objects.{get_array_critical, get_string_critical}
 use Rattle.jr_steps.specs.Holdings.{empty}
-use Rattle.jr_gate.specs.Performing.{IsMade}
 use Rattle.jr_syntax.specs.declared.name.Reference.{Reference}
 use Rattle.jr_syntax.specs.declared.command.Command.{Command}
 use Rattle.jr_syntax.specs.declared.command.Command.TheVariants as commands
@@ -45,6 +43,7 @@ use Rattle.jr_scripts.specs.Names.{Names, buffer_in, getting, putting, reference
 use Rattle.jr_weak.specs.declared.collecting.Collected.{Collected}
 use Rattle.jr_env.specs.Collections.{announced_collection, collection}
 use Rattle.jr_env.specs.Deeds.{Deed, decided, done, new_plain, new_array, new_object_array, new_string, new_reference, new_local_ref, delete_reference, delete_local_ref, is_same_object, get_object_ref_type, push_local_frame, ensure_local_capacity, pop_local_frame, kind_of, get_array_length, get_string_length, get_object_array_element, set_object_array_element, get_array_region, set_array_region, get_array_elements, release_array_elements, get_string_chars, answered_by, ◌>>=◌, ◌>>◌}
+use Rattle.jr_env.specs.StayDeeds.{within_by}
 use Rattle.jr_scripts.specs.Posting.{IsAwaited}
 use Rattle.jr_scripts.specs.Tries.{Tried}
 use Rattle.jr_scripts.specs.Numbers.{has_numbers, word_of_number, first_number}
@@ -156,7 +155,7 @@ opens at.Text = get_string_critical
 -- a region is opened over what a word names: the object of its first level; where it is refused the thread holds nothing afterwards
 abbrev pub opening_by : OpenLevel → ℕ → Deed ℕ
 opening_by v w old answer new =
-    (a : Word) × IsReadAs w a × IsMade 1 old new (opens v old.pass.config old.pass.last old.pass.thread (state new.pass.seen) a) answer × IfErr answer (λ e. new.held ≡ empty)
+    (a : Word) × IsReadAs w a × within_by (λ c. 1) (λ c last t s. opens v c last t s a) old answer new × IfErr answer (λ e. new.held ≡ empty)
 
 -- a collection, or so many threads were not outside. It is tried once, and never refused
 abbrev pub collecting : Deed Reply

@@ -5,14 +5,14 @@ use Rattle.jr_word.specs.declared.kind.Kind.{Kind}
 use Rattle.jr_word.specs.declared.kind.Kind.TheVariants.{Char, Text}
 use Rattle.jr_word.specs.declared.fault.Fault.TheVariants as fault
 use Rattle.jr_model.specs.State.{State}
-use Rattle.jr_model.specs.History.{state}
 use Rattle.jr_model.specs.Calls.{Call}
 use Rattle.jr_model.specs.Checks.{Word}
 use Rattle.jr_model.specs.Objects.{nest_array, nest_string, region_get, region_kind, region_release, region_set}
 use Rattle.jr_steps.specs.Holdings.{empty}
 use Rattle.jr_frames.specs.Reading.{IsReadAs}
-use Rattle.jr_gate.specs.Performing.{IsMade, ThreadState}
+use Rattle.jr_gate.specs.Performing.{ThreadState}
 use Rattle.jr_env.specs.Deeds.{Deed, decided, done, ◌>>=◌, ◌>>◌}
+use Rattle.jr_env.specs.StayDeeds.{within_by}
 use Rattle.jr_syntax.specs.declared.command.Command.{Command}
 use Rattle.jr_syntax.specs.declared.command.Command.TheVariants as commands
 use Rattle.jr_syntax.specs.declared.verb.Make.{Make}
@@ -30,10 +30,6 @@ use Rattle.jr_scripts.specs.Numbers.{has_numbers, number_of_word, word_of_number
 use Rattle.jr_scripts.specs.Places.{Place, by_region, level_wanted, newest, nth_object}
 use Rattle.jr_scripts.specs.Commands.{awaited, deed, the_reference}
 
--- a call of the region: its events, and the answer that it may have; it takes one operation for each event, and at most so many more; and the stay goes on
-abbrev pub in_stay : {A : Type 0} → ℕ → (Config → ℕ → ℕ → State → Call A) → Deed A
-in_stay silent asked old answer new = IsMade silent old new (asked old.pass.config old.pass.last old.pass.thread (state new.pass.seen)) answer
-
 -- the call that adds a level to a region whose levels have these objects
 abbrev pub nests : OpenLevel → Config → ℕ → ℕ → State → List ℕ → Word → Call (ℕ × List ℕ)
 nests at.Array = nest_array
@@ -41,7 +37,7 @@ nests at.Text = nest_string
 
 -- a level is added over what a word names: its number, and the objects then
 abbrev pub nesting : OpenLevel → List ℕ → ℕ → Deed (ℕ × List ℕ)
-nesting v objects w old answer new = (a : Word) × IsReadAs w a × in_stay 1 (λ c last t s. nests v c last t s objects a) old answer new
+nesting v objects w old answer new = (a : Word) × IsReadAs w a × within_by (λ c. 1) (λ c last t s. nests v c last t s objects a) old answer new
 
 -- the kind of which elements are read: the units of a string are chars
 abbrev pub read_kind : Kind → Kind
@@ -50,12 +46,12 @@ read_kind k = k
 
 -- the kind of a level's object, which takes no operation
 abbrev pub kind_of_level : ℕ → Deed Kind
-kind_of_level o = in_stay 0 (λ c last t s. region_kind c last t s o)
+kind_of_level o = within_by (λ c. 0) (λ c last t s. region_kind c last t s o)
 
 -- the number at an index of a level's object that is read as of a kind
 abbrev pub reading_as : ℕ → ℕ → Kind → Deed Reply
 reading_as o i k = do
-  word ← in_stay 0 (λ c last t s. region_get c last t s k o i)
+  word ← within_by (λ c. 0) (λ c last t s. region_get c last t s k o i)
   done (replies.Value (number_of_word k word))
 
 -- the number at an index of a level's object
@@ -69,7 +65,7 @@ level_reading o i = do
 abbrev pub writing_as : ℕ → ℕ → ℤ → Kind → Deed Reply
 writing_as o i x k = do
   word ← decided (word_of_number k x)
-  in_stay 0 (λ c last t s. region_set c last t s k o i word)
+  within_by (λ c. 0) (λ c last t s. region_set c last t s k o i word)
   done replies.Done
 
 -- a number is stored at an index of a level's array: E5 at a string, then E18 where no element is that number, and then E7
@@ -113,7 +109,7 @@ HoldsAfter _ new = Unit {0}
 
 -- the last of so many levels is given up
 abbrev pub giving_up : ℕ → Deed (Unit {0})
-giving_up n old answer new = in_stay 0 (λ c last t s. region_release n) old answer new × HoldsAfter n new
+giving_up n old answer new = within_by (λ c. 0) (λ c last t s. region_release n) old answer new × HoldsAfter n new
 
 -- all levels are given up, as at the thread's end: where there are some, the thread leaves the gate
 abbrev pub giving_up_all : List ℕ → Deed (Unit {0})

@@ -2,7 +2,7 @@ use Rattle.std.proofs.Common.{ap, length, sym, subst, ◌∙◌}
 use Rattle.jr_critical.specs.Levels.{StandOver, objects_of}
 use Rattle.jr_scripts.specs.declared.reply.Reply.TheVariants as replies
 use Rattle.jr_env.specs.Deeds.{done}
-use Rattle.jr_scripts.proofs.Within.{did_refused}
+use Rattle.jr_env.proofs.Carrying.{did_refused}
 use Rattle.jr_scripts.proofs.advance.open_region.Goals as goal
 
 pub returns-in-Ok-clause-stand : goal.returns-in-Ok-clause-stand

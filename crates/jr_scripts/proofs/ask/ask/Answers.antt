@@ -1,4 +1,4 @@
-use Rattle.jr_env.proofs.EnvCalls.{did_answer, did_refuse}
+use Rattle.jr_env.proofs.Carrying.{did_answer, did_refuse}
 use Rattle.jr_scripts.proofs.ask.ask.Goals as goal
 
 pub returns-in_err-answer : goal.returns-in_err-answer

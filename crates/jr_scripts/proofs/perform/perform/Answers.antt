@@ -4,7 +4,8 @@ use Rattle.jr_syntax.specs.declared.verb.Make.TheVariants as make
 use Rattle.jr_syntax.specs.declared.verb.Release.TheVariants as releases
 use Rattle.jr_syntax.specs.declared.verb.OnBoth.TheVariants.{Same}
 use Rattle.jr_scripts.specs.Commands.{loading, storing}
-use Rattle.jr_scripts.proofs.CommandDeeds.{only_release, only_same, does_command, does_decided, does_stored_as}
+use Rattle.jr_env.proofs.Carrying.{did_decided}
+use Rattle.jr_scripts.proofs.CommandDeeds.{only_release, only_same, does_command, does_stored_as}
 use Rattle.jr_elements.specs.Copies.{answer_in}
 use Rattle.jr_scripts.specs.declared.reply.Reply.TheVariants as replies
 use Rattle.jr_scripts.specs.Names.{putting, binding}
@@ -39,14 +40,14 @@ pub returns-in-MakeAt-clause-does : goal.returns-in-MakeAt-clause-does
 returns-in-MakeAt-clause-does g c = does_command c.args.turns c.args.names.now c.args.command.now _ c.in-MakeAt.is c.get_at.ensures
 
 pub returns-in_ok-wanted-in-OnAt-clause-does : goal.returns-in_ok-wanted-in-OnAt-clause-does
-returns-in_ok-wanted-in-OnAt-clause-does g c = does_command c.args.turns c.args.names.now c.args.command.now _ c.in-OnAt.is (does_decided (λ w. loading c.args.turns w.0 c.in-OnAt.index) (sym c.in_ok-wanted-in-OnAt.ensures) c.load.ensures)
+returns-in_ok-wanted-in-OnAt-clause-does g c = does_command c.args.turns c.args.names.now c.args.command.now _ c.in-OnAt.is (did_decided (λ w. loading c.args.turns w.0 c.in-OnAt.index) (sym c.in_ok-wanted-in-OnAt.ensures) c.load.ensures)
 
 pub returns-in-SetAt-clause-does : goal.returns-in-SetAt-clause-does
 returns-in-SetAt-clause-does g c = does_command c.args.turns c.args.names.now c.args.command.now _ c.in-SetAt.is c.set_at.ensures
 
 pub returns-in_ok-wanted-in-StoreAt-clause-does : goal.returns-in_ok-wanted-in-StoreAt-clause-does
 returns-in_ok-wanted-in-StoreAt-clause-does g c =
-    does_command c.args.turns c.args.names.now c.args.command.now _ c.in-StoreAt.is (does_decided (λ w. storing c.args.turns w.0 c.in-StoreAt.index c.in-StoreAt.value) (sym c.in_ok-wanted-in-StoreAt.ensures)
+    does_command c.args.turns c.args.names.now c.args.command.now _ c.in-StoreAt.is (did_decided (λ w. storing c.args.turns w.0 c.in-StoreAt.index c.in-StoreAt.value) (sym c.in_ok-wanted-in-StoreAt.ensures)
     (does_stored_as c.args.turns c.in_ok-wanted-in-StoreAt.field-0.0 c.in-StoreAt.index _ c.in-StoreAt.value c.store.ensures (search rules)))
 
 pub returns-in-OnNameAt-clause-does : goal.returns-in-OnNameAt-clause-does

@@ -1,4 +1,4 @@
-use Rattle.std.proofs.Common.{◌≡◌, Result, ◌-◌}
+use Rattle.std.proofs.Common.{Result, ◌-◌}
 use Rattle.jr_word.specs.declared.fault.Fault.{Fault}
 use Rattle.jr_model.specs.Frames.{Frames}
 use Rattle.jr_env.specs.Deeds.{DoesOutside}

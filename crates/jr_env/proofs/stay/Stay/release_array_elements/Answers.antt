@@ -6,13 +6,13 @@ use Rattle.jr_env.specs.Deeds.{release_answer}
 use Rattle.jr_env.specs.LentStays.{DoesInside}
 use Rattle.jr_env.specs.StayDeeds.{copying_back}
 use Rattle.jr_env.proofs.ReleasedElements.{kept_words}
-use Rattle.jr_env.proofs.WithinStays.{does_nothing, gives_back, inside_on}
+use Rattle.jr_env.proofs.WithinStays.{nothing_inside, gives_back, inside_on}
 use Rattle.jr_env.proofs.stay.Stay.release_array_elements.Goals as goal
 
 pub returns-then-not-copies_back-clause-call : goal.returns-then-not-copies_back-clause-call
 returns-then-not-copies_back-clause-call g c =
     let aborts : c.args.mode ≡ Abort = search rules in
-    subst (λ m. DoesInside c.args.self.now.env.now c.args.self.now.env.now (copying_back g.E.Elem.KIND c.args.array.0 (map g.E.Elem.word_of c.args.elements) m) (Ok None)) (sym aborts) (does_nothing c.args.self.now.env.now None)
+    subst (λ m. DoesInside c.args.self.now.env.now c.args.self.now.env.now (copying_back g.E.Elem.KIND c.args.array.0 (map g.E.Elem.word_of c.args.elements) m) (Ok None)) (sym aborts) (nothing_inside c.args.self.now.env.now None)
 
 pub returns-in-Ok-clause-call : goal.returns-in-Ok-clause-call
 returns-in-Ok-clause-call g c =

@@ -1,13 +1,12 @@
 use Rattle.std.proofs.Common.{Ok, subst, sym, ◌∙◌}
 use Rattle.jr_model.specs.declared.event.Role.TheVariants.{Within}
 use Rattle.jr_critical.specs.Levels.{KnowsLevels, objects_of}
-use Rattle.jr_env.specs.Deeds.{done, ◌>>=◌}
+use Rattle.jr_env.specs.Deeds.{CarriedOut, done, ◌>>=◌}
 use Rattle.jr_scripts.specs.declared.reply.Reply.TheVariants as replies
-use Rattle.jr_scripts.specs.Advancing.{CarriedOut}
 use Rattle.jr_scripts.specs.Places.{nth_object}
 use Rattle.jr_scripts.specs.RegionCommands.{nesting}
 use Rattle.jr_scripts.proofs.NewestLevels.{object_of_level}
-use Rattle.jr_scripts.proofs.Within.{did_decided, did_refused, did_reply, did_residual}
+use Rattle.jr_env.proofs.Carrying.{did_decided, did_refused, did_reply, did_residual}
 use Rattle.jr_scripts.proofs.commands.regions.nest.Goals as goal
 
 pub returns-in_err-number-clause-does : goal.returns-in_err-number-clause-does

@@ -1,5 +1,5 @@
 use Rattle.std.proofs.Common.{Err, Ok, arith, rules}
-use Rattle.jr_scripts.proofs.Within.{did_from_first, did_answered, did_again, did_give_up}
+use Rattle.jr_scripts.proofs.Retries.{did_from_first, did_answered, did_again, did_give_up}
 use Rattle.jr_word.specs.declared.fault.Fault.TheVariants as fault
 use Rattle.jr_scripts.proofs.commands.regions.open.Goals as goal
 
@@ -16,4 +16,4 @@ pub loop-preserved : goal.loop-preserved
 loop-preserved g c = (c.in-Err.ensures.outside, λ answer last frames d. c.loop.invariant.1 answer _ _ (did_again c.args.turns c.loop.counter (omega arith) c.in-Err.ensures.does (search rules) d))
 
 pub returns-clause-does : goal.returns-clause-does
-returns-clause-does g c = c.loop.invariant.1 (Err fault.Turns) _ _ (did_give_up c.args.turns c.loop.counter (omega arith) c.loop.invariant.0)
+returns-clause-does g c = c.loop.invariant.1 (Err fault.Turns) _ _ (did_give_up c.args.turns c.loop.counter (omega arith) c.loop.invariant.0 (λ k m. m))

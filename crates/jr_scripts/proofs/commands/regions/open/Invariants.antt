@@ -5,7 +5,8 @@ use Rattle.jr_model.specs.Frames.{Frames}
 use Rattle.jr_steps.specs.Knowing.{Holds}
 use Rattle.jr_critical.specs.declared.levels.Levels.{Levels}
 use Rattle.jr_critical.specs.Levels.{object_opened, role_opened}
-use Rattle.jr_scripts.specs.Advancing.{CarriedOut, KnowsOpened}
+use Rattle.jr_scripts.specs.Advancing.{KnowsOpened}
+use Rattle.jr_env.specs.Deeds.{CarriedOut}
 use Rattle.jr_scripts.specs.Commands.{opening_by, tried}
 use Rattle.jr_scripts.proofs.commands.regions.open.Given as goal
 

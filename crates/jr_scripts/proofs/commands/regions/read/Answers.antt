@@ -1,11 +1,11 @@
+use Rattle.jr_env.specs.Deeds.{CarriedOut}
 use Rattle.std.proofs.Common.{sym, subst}
 use Rattle.jr_model.specs.declared.event.Role.TheVariants.{Within}
 use Rattle.jr_critical.specs.Levels.{KnowsLevels, objects_of}
-use Rattle.jr_scripts.specs.Advancing.{CarriedOut}
 use Rattle.jr_scripts.specs.Places.{nth_object}
 use Rattle.jr_scripts.specs.RegionCommands.{level_reading}
 use Rattle.jr_scripts.proofs.NewestLevels.{level_fits, object_of_level}
-use Rattle.jr_scripts.proofs.Within.{did_decided}
+use Rattle.jr_env.proofs.Carrying.{did_decided}
 use Rattle.jr_scripts.proofs.commands.regions.read.Goals as goal
 
 pub read_at-requires-clause-level : goal.read_at-requires-clause-level

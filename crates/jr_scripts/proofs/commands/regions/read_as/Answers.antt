@@ -4,7 +4,7 @@ use Rattle.jr_critical.specs.Levels.{level_object}
 use Rattle.jr_scripts.specs.declared.reply.Reply.TheVariants as replies
 use Rattle.jr_scripts.specs.Advancing.{DidWithin}
 use Rattle.jr_scripts.specs.RegionCommands.{reading_as}
-use Rattle.jr_scripts.proofs.Within.{did_residual}
+use Rattle.jr_env.proofs.Carrying.{did_residual}
 use Rattle.jr_scripts.proofs.GivenUpLevels.{did_load, did_load_not}
 use Rattle.jr_scripts.proofs.commands.regions.read_as.Goals as goal
 

@@ -1,7 +1,8 @@
 use Rattle.std.proofs.Common.{sym, ap, ◌∙◌}
 use Rattle.jr_scripts.specs.declared.number.NumberKind.TheVariants as number
 use Rattle.jr_scripts.specs.Numbers.{has_numbers}
-use Rattle.jr_scripts.proofs.Within.{did_read, did_read_not, did_residual}
+use Rattle.jr_env.proofs.Carrying.{did_residual}
+use Rattle.jr_scripts.proofs.Within.{did_read, did_read_not}
 use Rattle.jr_scripts.proofs.commands.regions.read_at.Goals as goal
 
 pub returns-in_err-of-clause-does : goal.returns-in_err-of-clause-does

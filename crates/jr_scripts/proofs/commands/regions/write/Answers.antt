@@ -1,12 +1,12 @@
+use Rattle.jr_env.specs.Deeds.{CarriedOut}
 use Rattle.std.proofs.Common.{sym, subst, w64}
 use Rattle.std.proofs.lemmas.Int.{to_z-of_z}
 use Rattle.jr_model.specs.declared.event.Role.TheVariants.{Within}
 use Rattle.jr_critical.specs.Levels.{KnowsLevels, level_object, objects_of}
-use Rattle.jr_scripts.specs.Advancing.{CarriedOut}
 use Rattle.jr_scripts.specs.Places.{nth_object}
 use Rattle.jr_scripts.specs.RegionCommands.{level_writing}
 use Rattle.jr_scripts.proofs.NewestLevels.{level_fits, object_of_level}
-use Rattle.jr_scripts.proofs.Within.{did_decided}
+use Rattle.jr_env.proofs.Carrying.{did_decided}
 use Rattle.jr_scripts.proofs.commands.regions.write.Goals as goal
 
 pub write_at-requires-clause-level : goal.write_at-requires-clause-level

@@ -3,7 +3,8 @@ use Rattle.std.proofs.lemmas.Int.{to_z-of_z}
 use Rattle.jr_model.specs.Objects.{region_set}
 use Rattle.jr_frames.specs.Table.{Table}
 use Rattle.jr_critical.specs.Levels.{level_object}
-use Rattle.jr_scripts.proofs.Within.{did_reach, did_residual, did_store, did_store_not}
+use Rattle.jr_env.proofs.Carrying.{did_residual}
+use Rattle.jr_scripts.proofs.Within.{did_reach, did_store, did_store_not}
 use Rattle.jr_scripts.proofs.commands.regions.write_as.Goals as goal
 
 pub returns-in_err-set-clause-does : goal.returns-in_err-set-clause-does

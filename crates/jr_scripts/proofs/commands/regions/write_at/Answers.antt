@@ -1,7 +1,8 @@
 use Rattle.std.proofs.Common.{w64}
 use Rattle.std.proofs.lemmas.Int.{to_z-of_z}
 use Rattle.jr_scripts.specs.declared.number.NumberKind.TheVariants as number
-use Rattle.jr_scripts.proofs.Within.{did_residual, did_write, did_write_not}
+use Rattle.jr_env.proofs.Carrying.{did_residual}
+use Rattle.jr_scripts.proofs.Within.{did_write, did_write_not}
 use Rattle.jr_scripts.proofs.commands.regions.write_at.Goals as goal
 
 pub returns-in_err-of-clause-does : goal.returns-in_err-of-clause-does
