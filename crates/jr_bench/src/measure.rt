@@ -1,6 +1,6 @@
 //! The measuring.
 
-use crate::case::{CASES, Case};
+use crate::case::Case;
 use crate::round::{Called, Done, Job, Work, round};
 use std::alloc::Global;
 use std::io;
@@ -63,15 +63,16 @@ fn times_of_call<R: Threads + Clock + Sync>(
     Ok(times)
 }
 
-/// Prints a line for each call: its name, the median and the least of its times in nanoseconds, and how many rounds counted.
+/// Prints a line for each case: its name, the median and the least of its times in nanoseconds, and how many rounds counted.
 pub(crate) fn print<R: Threads + Clock + Print + Sync>(
     rt: &R,
     alloc: Global,
+    cases: &[Case],
     work: Work,
     rounds: u32,
 ) -> io::Result<()> {
-    for case in CASES {
-        let times = times_of_call(rt, alloc, case, work, rounds)?;
+    for case in cases {
+        let times = times_of_call(rt, alloc, *case, work, rounds)?;
         print_times(rt, case.name(), times.as_slice())?;
     }
     Ok(())

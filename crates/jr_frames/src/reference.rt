@@ -21,6 +21,7 @@ impl Reference {
     ghost use Rattle.jr_frames.specs.Reading.{IsReadAs, word_of, OwnerFits};
 
     /// Reads a handle.
+    #[inline(always)]
     pub fn of(handle: Handle) -> Reference
         ensures reads { IsReadAs handle.0 (word_of result) }
         ensures owner { OwnerFits result }

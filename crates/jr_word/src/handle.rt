@@ -55,8 +55,14 @@ impl RefKind {
         ensures sound { IfSome result (λ kind. code ≡ reference_code kind) }
         ensures complete { (kind : _) → code ≡ reference_code kind → result ≡ Some kind }
     {
+        // (by halves, of which no jump table is made)
+        if code < 2 {
+            return match code {
+                1 => Some(RefKind::Local),
+                _ => None,
+            };
+        }
         match code {
-            1 => Some(RefKind::Local),
             2 => Some(RefKind::Global),
             3 => Some(RefKind::Weak),
             _ => None,
