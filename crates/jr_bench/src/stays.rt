@@ -183,10 +183,10 @@ fn make_some<C: StayCall + Copy, S: Steps>(
     let Ok(mut stay) = env.stay() else {
         return 0;
     };
-    let mut right = 0usize;
+    let mut right = 0;
     for handle in handed {
         if call.is_right(&mut stay, first, *handle) {
-            right = right.saturating_add(1);
+            right += 1;
         }
     }
     stay.end();

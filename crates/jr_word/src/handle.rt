@@ -34,7 +34,7 @@ pub struct HandleParts {
 pub struct Handle(pub u64);
 
 impl RefKind {
-    ghost use Rattle.std.specs.Prelude.{◌≡◌, IfSome};
+    ghost use Rattle.std.specs.Prelude.{◌≡◌, ◌≤◌, IfSome};
     ghost use Rattle.jr_word.specs.Handle.{reference_code, owner_limit};
 
     /// The number of the kind: 1 local, 2 global, 3 weak.
@@ -55,18 +55,24 @@ impl RefKind {
         ensures sound { IfSome result (λ kind. code ≡ reference_code kind) }
         ensures complete { (kind : _) → code ≡ reference_code kind → result ≡ Some kind }
     {
-        // (by halves, of which no jump table is made)
-        if code < 2 {
-            return match code {
-                1 => Some(RefKind::Local),
-                _ => None,
-            };
-        }
         match code {
+            1 => Some(RefKind::Local),
             2 => Some(RefKind::Global),
             3 => Some(RefKind::Weak),
             _ => None,
         }
+    }
+
+    /// The kind with a number, a weak one for a number that no kind has.
+    #[inline]
+    fn of_code(code: u64) -> Self
+        ensures known { (kind : _) → code ≡ reference_code kind → result ≡ kind }
+        ensures has { 1 ≤ code → code ≤ 3 → code ≡ reference_code result }
+    {
+        if code == 1 {
+            return RefKind::Local;
+        }
+        if code == 2 { RefKind::Global } else { RefKind::Weak }
     }
 
     /// How many threads can own a reference of the kind: all 64, or thread 0 alone.
@@ -117,15 +123,22 @@ impl Handle {
         ensures sound { IfSome result (λ parts. IsHandle parts × (word ≡ handle_word parts)) }
         ensures complete { (parts : _) → IsHandle parts → word ≡ handle_word parts → result ≡ Some parts }
     {
-        let kind = RefKind::from_code(word & 3)?;
+        // (all parts before any test, so that the code has few branches, and no jump table)
+        let code = word & 3;
+        let kind = RefKind::of_code(code);
+        let serial = u32_at(word, 2);
+        let index = u16_at(word, 34);
         let owner = word >> 50;
+        if code == 0 {
+            return None;
+        }
         if owner >= kind.owner_limit() {
             return None;
         }
         Some(HandleParts {
             kind,
-            serial: u32_at(word, 2),
-            index: u16_at(word, 34),
+            serial,
+            index,
             owner: owner as u8,
         })
     }
