@@ -42,6 +42,14 @@ impl Reference {
         matches!(self, Reference::Malformed)
     }
 
+    /// Whether it is a handle of a global or weak reference.
+    pub(crate) fn is_shared(self) -> bool {
+        match self {
+            Reference::Parts(handle) => !names_local(handle),
+            _ => false,
+        }
+    }
+
     /// Whether it is a handle that lies outside the room.
     pub fn lies_outside(self, config: Config) -> bool
         ensures { result ≡ is_out_of_bounds config (word_of self) }

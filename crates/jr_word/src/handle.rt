@@ -34,7 +34,7 @@ pub struct HandleParts {
 pub struct Handle(pub u64);
 
 impl RefKind {
-    ghost use Rattle.std.specs.Prelude.{◌≡◌, ◌≤◌, IfSome};
+    ghost use Rattle.std.specs.Prelude.{◌≡◌, IfSome};
     ghost use Rattle.jr_word.specs.Handle.{reference_code, owner_limit};
 
     /// The number of the kind: 1 local, 2 global, 3 weak.
@@ -61,18 +61,6 @@ impl RefKind {
             3 => Some(RefKind::Weak),
             _ => None,
         }
-    }
-
-    /// The kind with a number, a weak one for a number that no kind has.
-    #[inline]
-    fn of_code(code: u64) -> Self
-        ensures known { (kind : _) → code ≡ reference_code kind → result ≡ kind }
-        ensures has { 1 ≤ code → code ≤ 3 → code ≡ reference_code result }
-    {
-        if code == 1 {
-            return RefKind::Local;
-        }
-        if code == 2 { RefKind::Global } else { RefKind::Weak }
     }
 
     /// How many threads can own a reference of the kind: all 64, or thread 0 alone.
@@ -123,23 +111,31 @@ impl Handle {
         ensures sound { IfSome result (λ parts. IsHandle parts × (word ≡ handle_word parts)) }
         ensures complete { (parts : _) → IsHandle parts → word ≡ handle_word parts → result ≡ Some parts }
     {
-        // (all parts before any test, so that the code has few branches, and no jump table)
-        let code = word & 3;
-        let kind = RefKind::of_code(code);
+        // (by whether it is local first, and no match on the kind, so that the code has no jump table)
+        let owner = word >> 50;
         let serial = u32_at(word, 2);
         let index = u16_at(word, 34);
-        let owner = word >> 50;
-        if code == 0 {
+        let code = word & 3;
+        if code == 1 {
+            if owner >= 64 {
+                return None;
+            }
+            return Some(HandleParts {
+                kind: RefKind::Local,
+                serial,
+                index,
+                owner: owner as u8,
+            });
+        }
+        if code == 0 || owner != 0 {
             return None;
         }
-        if owner >= kind.owner_limit() {
-            return None;
-        }
+        let kind = if code == 2 { RefKind::Global } else { RefKind::Weak };
         Some(HandleParts {
             kind,
             serial,
             index,
-            owner: owner as u8,
+            owner: 0,
         })
     }
 }
