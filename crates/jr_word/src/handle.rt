@@ -130,7 +130,11 @@ impl Handle {
         if code == 0 || owner != 0 {
             return None;
         }
-        let kind = if code == 2 { RefKind::Global } else { RefKind::Weak };
+        let kind = if code == 2 {
+            RefKind::Global
+        } else {
+            RefKind::Weak
+        };
         Some(HandleParts {
             kind,
             serial,
