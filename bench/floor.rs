@@ -122,8 +122,6 @@ struct Env<'a> {
     /// The ends of the ring of the free places and of that of the first frame.
     free_end: u16,
     base: u16,
-    /// Whether a stay stands that goes on from call to call.
-    stays: bool,
     places: Vec<Place>,
     links: Vec<Link>,
 }
@@ -140,7 +138,7 @@ impl Env<'_> {
             links[at as usize] = Link { older: at.checked_sub(1).unwrap_or(free_end), newer: if at == free_end { 0 } else { at + 1 } };
         }
         links[base as usize] = Link { older: base, newer: base };
-        Env { room, thread, hint: 0, next_object: 1, free: room.places as u32, frame: base, free_end, base, stays: false, places, links }
+        Env { room, thread, hint: 0, next_object: 1, free: room.places as u32, frame: base, free_end, base, places, links }
     }
     #[inline(always)]
     fn link(&mut self, at: u16) -> &mut Link {
@@ -161,12 +159,9 @@ impl Env<'_> {
         self.link(end).older = at;
     }
 
-    /// The entry, the work, and the exit; and the work alone in a stay that goes on.
+    /// The entry, the work, and the exit. What is made in a stay too has its work in a function of its own, `.._within`.
     #[inline(always)]
     fn call(&mut self, work: impl FnOnce(&mut Self) -> u64) -> u64 {
-        if self.stays {
-            return work(self);
-        }
         if self.room.gate().fetch_add(1, SeqCst) & CLOSED != 0 {
             self.room.gate().fetch_sub(1, SeqCst);
             return BARRED;
@@ -182,31 +177,54 @@ impl Env<'_> {
     /// The object of a reference, 0 of NULL and a cleared one: one load for a global or weak one, none for a local one.
     #[inline(always)]
     fn resolve(&mut self, handle: u64) -> u64 {
+        match self.refusal(handle) {
+            0 => self.look_up(handle),
+            refused => refused,
+        }
+    }
+    /// The objects of two references: each check of the first and then of the second before the next one, and all before the looks.
+    #[inline(always)]
+    fn resolve_both(&mut self, left: u64, right: u64) -> Result<(u64, u64), u64> {
+        let (one, other) = (self.refusal(left), self.refusal(right));
+        if one | other != 0 {
+            return Err(if one == STALE || other == STALE { STALE } else { FOREIGN });
+        }
+        let first = self.look_up(left);
+        if first & ERROR != 0 {
+            return Err(first);
+        }
+        let second = self.look_up(right);
+        if second & ERROR != 0 { Err(second) } else { Ok((first, second)) }
+    }
+    /// What a reference is refused by before any look at it: 0 where it is NULL or lies in the room, and is no local one of another thread.
+    #[inline(always)]
+    fn refusal(&self, handle: u64) -> u64 {
         if handle == 0 {
             return 0;
         }
-        if handle & 3 == LOCAL { self.resolve_local(handle) } else { self.look(handle) }
-    }
-    #[inline(always)]
-    fn resolve_local(&mut self, handle: u64) -> u64 {
-        let owner = handle >> 50;
-        let index = Self::index_of(handle);
+        let (kind, index, owner) = (handle & 3, Self::index_of(handle), handle >> 50);
+        if kind != LOCAL {
+            return if kind == 0 || owner != 0 || index >= self.room.slots { STALE } else { 0 };
+        }
         if owner >= self.room.threads || index >= self.room.places {
             return STALE;
         }
-        if owner != self.thread {
-            return FOREIGN;
-        }
-        let Place { given, object } = *self.place(index);
-        if object == 0 || u64::from(given) != (handle >> 2 & LAST) + 1 { STALE } else { u64::from(object) }
+        if owner != self.thread { FOREIGN } else { 0 }
     }
+    /// The object of a reference that isn't refused before.
     #[inline(always)]
-    fn look(&mut self, handle: u64) -> u64 {
-        if handle & 3 == 0 || handle >> 50 != 0 || Self::index_of(handle) >= self.room.slots {
-            return STALE;
+    fn look_up(&mut self, handle: u64) -> u64 {
+        match handle & 3 {
+            0 => 0,
+            LOCAL => {
+                let Place { given, object } = *self.place(Self::index_of(handle));
+                if object == 0 || u64::from(given) != (handle >> 2 & LAST) + 1 { STALE } else { u64::from(object) }
+            }
+            _ => {
+                let word = self.room.slot(Self::index_of(handle)).load(SeqCst);
+                if (word ^ handle) & 0x3_ffff_ffff != 0 { STALE } else { word >> 34 }
+            }
         }
-        let word = self.room.slot(Self::index_of(handle)).load(SeqCst);
-        if (word ^ handle) & 0x3_ffff_ffff != 0 { STALE } else { word >> 34 }
     }
     /// Loads slots from the hint on, and exchanges the first free one.
     #[inline(always)]
@@ -319,14 +337,18 @@ impl Env<'_> {
     }
     #[inline(always)]
     fn array_length(&mut self, array: u64) -> u64 {
-        self.call(|env| match env.resolve(array) {
+        self.call(|env| env.array_length_within(array))
+    }
+    #[inline(always)]
+    fn array_length_within(&mut self, array: u64) -> u64 {
+        match self.resolve(array) {
             0 => NULL,
             refused if refused & ERROR != 0 => refused,
             object => {
-                let header = env.room.header(object).load(SeqCst);
+                let header = self.room.header(object).load(SeqCst);
                 if (2..=8).contains(&(header & 15)) { header >> 4 & 0xff_ffff } else { NOT_ARRAY }
             }
-        })
+        }
     }
     /// A string of so many units, each 0.
     fn new_string(&mut self, length: u64) -> u64 {
@@ -496,10 +518,10 @@ impl Env<'_> {
     #[inline(always)]
     fn set_element(&mut self, array: u64, index: u64, value: u64) -> u64 {
         self.call(|env| {
-            let (object, value) = (env.resolve(array), env.resolve(value));
-            if object & ERROR == 0 && value & ERROR != 0 {
-                return value;
-            }
+            let (object, value) = match env.resolve_both(array, value) {
+                Ok(found) => found,
+                Err(refused) => return refused,
+            };
             let header = env.array(object, OBJECT_ARRAY);
             if header & ERROR != 0 {
                 return header;
@@ -513,58 +535,70 @@ impl Env<'_> {
     }
     #[inline(always)]
     fn new_slot(&mut self, kind: u64, to: u64) -> u64 {
-        self.call(|env| match env.resolve(to) {
+        self.call(|env| env.new_slot_within(kind, to))
+    }
+    #[inline(always)]
+    fn new_slot_within(&mut self, kind: u64, to: u64) -> u64 {
+        match self.resolve(to) {
             0 => 0,
             refused if refused & ERROR != 0 => refused,
-            object => env.create(kind, object),
-        })
+            object => self.create(kind, object),
+        }
     }
     #[inline(always)]
     fn delete_slot(&mut self, kind: u64, handle: u64) -> u64 {
-        self.call(|env| {
-            if handle == 0 {
-                return 0;
-            }
-            if handle & 3 != kind {
-                return if handle & 3 == 0 { STALE } else { WRONG_KIND };
-            }
-            if handle >> 50 != 0 || Self::index_of(handle) >= env.room.slots {
-                return STALE;
-            }
-            let slot = env.room.slot(Self::index_of(handle));
-            let word = slot.load(SeqCst);
-            if (word ^ handle) & 0x3_ffff_ffff != 0 {
-                return STALE;
-            }
-            let serial = word >> 2 & LAST;
-            let freed = if serial < LAST { serial + 1 << 2 } else { 1 | LAST << 2 };
-            if slot.compare_exchange(word, freed, SeqCst, SeqCst).is_ok() { 0 } else { STALE }
-        })
+        self.call(|env| env.delete_slot_within(kind, handle))
+    }
+    #[inline(always)]
+    fn delete_slot_within(&mut self, kind: u64, handle: u64) -> u64 {
+        if handle == 0 {
+            return 0;
+        }
+        if handle & 3 != kind {
+            return if handle & 3 == 0 { STALE } else { WRONG_KIND };
+        }
+        if handle >> 50 != 0 || Self::index_of(handle) >= self.room.slots {
+            return STALE;
+        }
+        let slot = self.room.slot(Self::index_of(handle));
+        let word = slot.load(SeqCst);
+        if (word ^ handle) & 0x3_ffff_ffff != 0 {
+            return STALE;
+        }
+        let serial = word >> 2 & LAST;
+        let freed = if serial < LAST { serial + 1 << 2 } else { 1 | LAST << 2 };
+        if slot.compare_exchange(word, freed, SeqCst, SeqCst).is_ok() { 0 } else { STALE }
     }
     #[inline(always)]
     fn new_local(&mut self, to: u64) -> u64 {
-        self.call(|env| match env.resolve(to) {
+        self.call(|env| env.new_local_within(to))
+    }
+    #[inline(always)]
+    fn new_local_within(&mut self, to: u64) -> u64 {
+        match self.resolve(to) {
             0 => 0,
             refused if refused & ERROR != 0 => refused,
-            object => env.add_local(object),
-        })
+            object => self.add_local(object),
+        }
     }
     #[inline(always)]
     fn delete_local(&mut self, handle: u64) -> u64 {
-        self.call(|env| {
-            if handle == 0 {
-                return 0;
-            }
-            if handle & 3 != LOCAL {
-                return if handle & 3 == 0 { STALE } else { WRONG_KIND };
-            }
-            let object = env.resolve_local(handle);
-            if object & ERROR != 0 {
-                return object;
-            }
-            env.drop_local(Self::index_of(handle));
-            0
-        })
+        self.call(|env| env.delete_local_within(handle))
+    }
+    #[inline(always)]
+    fn delete_local_within(&mut self, handle: u64) -> u64 {
+        if handle == 0 {
+            return 0;
+        }
+        if handle & 3 != LOCAL {
+            return if handle & 3 == 0 { STALE } else { WRONG_KIND };
+        }
+        let object = self.resolve(handle);
+        if object & ERROR != 0 {
+            return object;
+        }
+        self.drop_local(Self::index_of(handle));
+        0
     }
     #[inline(always)]
     fn drop_local(&mut self, at: usize) {
@@ -640,17 +674,22 @@ impl Env<'_> {
     }
     #[inline(always)]
     fn is_same(&mut self, left: u64, right: u64) -> u64 {
-        self.call(|env| {
-            let (left, right) = (env.resolve(left), env.resolve(right));
-            if left & ERROR != 0 {
-                return left;
-            }
-            if right & ERROR != 0 { right } else { u64::from(left == right) }
-        })
+        self.call(|env| env.is_same_within(left, right))
+    }
+    #[inline(always)]
+    fn is_same_within(&mut self, left: u64, right: u64) -> u64 {
+        match self.resolve_both(left, right) {
+            Ok((left, right)) => u64::from(left == right),
+            Err(refused) => refused,
+        }
     }
     #[inline(always)]
     fn ref_type(&mut self, handle: u64) -> u64 {
-        self.call(|env| if handle == 0 || env.resolve(handle) & ERROR != 0 { 0 } else { handle & 3 })
+        self.call(|env| env.ref_type_within(handle))
+    }
+    #[inline(always)]
+    fn ref_type_within(&mut self, handle: u64) -> u64 {
+        if handle == 0 || self.resolve(handle) & ERROR != 0 { 0 } else { handle & 3 }
     }
 }
 
@@ -779,6 +818,14 @@ calls! {
     commit: |env, first, handle| is_committed(env, handle);
     chars: |env, first, handle| env.get_chars(handle).is_ok_and(|units| units.len() == SMALL as usize);
     critical: |env, first, handle| is_opened(env, handle);
+    type_of_null_within: |env, first, handle| env.ref_type_within(handle) == 0;
+    new_global_within: |env, first, handle| is_made(env.new_slot_within(GLOBAL, handle));
+    delete_global_within: |env, first, handle| env.delete_slot_within(GLOBAL, handle) == 0;
+    new_local_within: |env, first, handle| is_made(env.new_local_within(handle));
+    delete_local_within: |env, first, handle| env.delete_local_within(handle) == 0;
+    is_same_within: |env, first, handle| env.is_same_within(first, handle) == 1;
+    type_of_global_within: |env, first, handle| env.ref_type_within(handle) == GLOBAL;
+    array_length_within: |env, first, handle| env.array_length_within(handle) == LONG as u64;
 }
 
 #[inline(never)]
@@ -837,9 +884,7 @@ fn make_in_stays(env: &mut Env, handed: &[u64], call: impl Fn(&mut Env, u64, u64
     let mut right = 0;
     for part in handed.chunks(CALLS_OF_STAY) {
         if env.room.gate().fetch_add(1, SeqCst) & CLOSED == 0 {
-            env.stays = true;
             right += part.iter().filter(|handle| call(env, handed[0], **handle)).count();
-            env.stays = false;
         }
         env.room.gate().fetch_sub(1, SeqCst);
     }
@@ -849,18 +894,19 @@ fn make_in_stays(env: &mut Env, handed: &[u64], call: impl Fn(&mut Env, u64, u64
 /// The same by the number of the case in stays.
 fn make_all_in_stays(of_stays: usize, env: &mut Env, handed: &[u64]) -> usize {
     match OF_STAYS[of_stays] {
-        0 => make_in_stays(env, handed, type_of_null),
-        2 => make_in_stays(env, handed, new_global),
-        3 => make_in_stays(env, handed, delete_global),
-        6 => make_in_stays(env, handed, new_local),
-        7 => make_in_stays(env, handed, delete_local),
-        8 => make_in_stays(env, handed, is_same),
-        9 => make_in_stays(env, handed, type_of_global),
-        _ => make_in_stays(env, handed, array_length),
+        0 => make_in_stays(env, handed, type_of_null_within),
+        2 => make_in_stays(env, handed, new_global_within),
+        3 => make_in_stays(env, handed, delete_global_within),
+        6 => make_in_stays(env, handed, new_local_within),
+        7 => make_in_stays(env, handed, delete_local_within),
+        8 => make_in_stays(env, handed, is_same_within),
+        9 => make_in_stays(env, handed, type_of_global_within),
+        _ => make_in_stays(env, handed, array_length_within),
     }
 }
 
-/// Makes the call with each of the handles: how often it answered as it should.
+/// Makes the call with each of the handles: how often it answered as it should. (no part of its caller, so that its instructions can be counted)
+#[inline(never)]
 fn make_all(case: usize, env: &mut Env, handed: &[u64]) -> usize {
     match case {
         STAYS.. => make_all_in_stays(case - STAYS, env, handed),
@@ -1184,22 +1230,23 @@ fn print_times(name: &str, mut times: Vec<u128>) {
 }
 
 fn main() {
-    let is_collection = std::env::args().nth(1).is_some_and(|word| word == "collect");
-    let words: Vec<u32> = std::env::args().skip(1 + usize::from(is_collection)).filter_map(|word| word.parse().ok()).collect();
-    match words[..] {
-        [arrays, every, rounds] if is_collection => {
+    let kind = std::env::args().nth(1).filter(|word| word == "collect" || word == "stays");
+    let words: Vec<u32> = std::env::args().skip(1 + usize::from(kind.is_some())).filter_map(|word| word.parse().ok()).collect();
+    match (kind.as_deref(), &words[..]) {
+        (Some("collect"), &[arrays, every, rounds]) => {
             for (name, is_announced) in [("collect", false), ("collect_announced", true)] {
                 print_times(name, (0..rounds).filter_map(|_| time_of_collection(arrays as usize, every as usize, is_announced)).collect());
             }
         }
-        [threads, standing, calls, rounds] if !is_collection => {
+        (None | Some("stays"), &[threads, standing, calls, rounds]) => {
             let work = Work { threads, standing, calls };
-            for (case, name) in CASES.iter().enumerate() {
-                print_times(name, (0..rounds).filter_map(|_| time_of_call(work, &round(case, work)?)).collect());
+            let is_asked = |case: &usize| kind.is_none() || *case >= STAYS || OF_STAYS.contains(case);
+            for case in (0..CASES.len()).filter(is_asked) {
+                print_times(CASES[case], (0..rounds).filter_map(|_| time_of_call(work, &round(case, work)?)).collect());
             }
         }
         _ => {
-            eprintln!("usage: floor THREADS STANDING CALLS ROUNDS | floor collect ARRAYS EVERY ROUNDS");
+            eprintln!("usage: floor [stays] THREADS STANDING CALLS ROUNDS | floor collect ARRAYS EVERY ROUNDS");
             std::process::exit(1);
         }
     }

@@ -84,6 +84,26 @@ pub(crate) const CASES: [Case; 39] = [
     Case::Stays(StayCase::Length),
 ];
 
+/// Each case of a stay, behind the same call with an entry and an exit of its own.
+pub(crate) const WITH_STAYS: [Case; 16] = [
+    Case::TypeOfNull,
+    Case::Stays(StayCase::TypeOfNull),
+    Case::NewGlobal,
+    Case::Stays(StayCase::NewGlobal),
+    Case::DeleteGlobal,
+    Case::Stays(StayCase::DeleteGlobal),
+    Case::NewLocal,
+    Case::Stays(StayCase::NewLocal),
+    Case::DeleteLocal,
+    Case::Stays(StayCase::DeleteLocal),
+    Case::Same,
+    Case::Stays(StayCase::Same),
+    Case::TypeOfGlobal,
+    Case::Stays(StayCase::TypeOfGlobal),
+    Case::Arrays(ArrayCase::Length),
+    Case::Stays(StayCase::Length),
+];
+
 impl FrameCase {
     /// Its name.
     fn name(self) -> &'static str {
@@ -158,6 +178,7 @@ impl Case {
     }
 
     /// Makes the call with each of the handles: how often it answered as it should.
+    #[inline(never)]
     pub(crate) fn make_all<S: Steps>(
         self,
         env: &mut Env<S>,

@@ -1,7 +1,7 @@
 //! How long the calls for references and arrays take in a room that threads share, how often they answer as they should, and how many collections come in beside them.
 //!
 //! With no word it makes each call a few hundred times, by one thread and by two, and prints how often each answered as it should: the same text on every machine.
-//! With the words THREADS STANDING CALLS ROUNDS it measures each call, and with the words collect ARRAYS EVERY ROUNDS a collection, announced or not: `measure` tells what it prints.
+//! With the words THREADS STANDING CALLS ROUNDS it measures each call, with stays before them just those that are made in stays too, and with the words collect ARRAYS EVERY ROUNDS a collection, announced or not: `measure` tells what it prints.
 //! With the words beside CALLERS TRIES ROUNDS it counts how many collections come in beside so many threads that call without a break: `beside` tells what it prints.
 #![tactic(auto)]
 
@@ -18,6 +18,7 @@ mod round;
 mod stays;
 
 use crate::beside::Tries;
+use crate::case::{CASES, WITH_STAYS};
 use crate::collections::Collections;
 use crate::round::Work;
 use std::rt::{Clock, Env};
@@ -33,6 +34,8 @@ fn main(rt: HostRuntime) -> io::Result<()> {
 enum Measured {
     /// Each call.
     Calls(Work),
+    /// Each call that is made in stays too.
+    Stays(Work),
     /// A collection.
     Collection(Collections),
     /// How many collections come in beside threads that call.
@@ -46,14 +49,19 @@ fn act<R: AllocGlobal + Env + Print + Eprint + Clock + Threads + Sync>(rt: &R) -
         return answers::print(rt, rt.alloc());
     }
     match asked(words.as_slice()) {
-        Some((Measured::Calls(work), rounds)) => measure::print(rt, rt.alloc(), work, rounds),
+        Some((Measured::Calls(work), rounds)) => {
+            measure::print(rt, rt.alloc(), &CASES, work, rounds)
+        }
+        Some((Measured::Stays(work), rounds)) => {
+            measure::print(rt, rt.alloc(), &WITH_STAYS, work, rounds)
+        }
         Some((Measured::Collection(work), rounds)) => {
             collections::print(rt, rt.alloc(), work, rounds)
         }
         Some((Measured::Beside(tries), rounds)) => beside::print(rt, rt.alloc(), tries, rounds),
         None => {
             eprintln!(rt;
-                "usage: jr_bench [THREADS STANDING CALLS ROUNDS | collect ARRAYS EVERY ROUNDS | beside CALLERS TRIES ROUNDS]"
+                "usage: jr_bench [[stays] THREADS STANDING CALLS ROUNDS | collect ARRAYS EVERY ROUNDS | beside CALLERS TRIES ROUNDS]"
             )?;
             Err(io::Error::from(io::ErrorKind::InvalidInput))
         }
@@ -62,6 +70,10 @@ fn act<R: AllocGlobal + Env + Print + Eprint + Clock + Threads + Sync>(rt: &R) -
 
 /// What the words ask to be measured, and in how many rounds.
 fn asked(words: &[String]) -> Option<(Measured, u32)> {
+    if let [kind, threads, standing, calls, rounds] = words {
+        let work = work_in_stays(kind, threads, standing, calls)?;
+        return Some((Measured::Stays(work), number(rounds)?));
+    }
     let [first, second, third, rounds] = words else {
         return None;
     };
@@ -74,13 +86,31 @@ fn asked(words: &[String]) -> Option<(Measured, u32)> {
             callers: number(second)?,
             count: number(third)?,
         }),
-        _ => Measured::Calls(Work {
-            threads: number(first)?,
-            standing: number(second)?,
-            calls: number(third)?,
-        }),
+        _ => Measured::Calls(work(first, second, third)?),
     };
     Some((measured, number(rounds)?))
+}
+
+/// How often each call is made that is made in stays too, where the first word asks for it.
+fn work_in_stays(
+    kind: &String,
+    threads: &String,
+    standing: &String,
+    calls: &String,
+) -> Option<Work> {
+    match kind.as_str() {
+        "stays" => work(threads, standing, calls),
+        _ => None,
+    }
+}
+
+/// How often each call is made, as the words say.
+fn work(threads: &String, standing: &String, calls: &String) -> Option<Work> {
+    Some(Work {
+        threads: number(threads)?,
+        standing: number(standing)?,
+        calls: number(calls)?,
+    })
 }
 
 /// The number that a word says.

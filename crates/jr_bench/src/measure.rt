@@ -1,7 +1,7 @@
 //! The measuring.
 
 use crate::beside::tries_of;
-use crate::case::CASES;
+use crate::case::Case;
 use crate::round::{Done, Job, Work, done_at, round};
 use std::alloc::Global;
 use std::io;
@@ -64,15 +64,16 @@ pub(crate) fn times_of<R: Threads + Clock + Sync>(
     Ok(times)
 }
 
-/// Prints a line for each call: its name, the median and the least of its times in nanoseconds, and how many rounds counted.
+/// Prints a line for each case: its name, the median and the least of its times in nanoseconds, and how many rounds counted.
 pub(crate) fn print<R: Threads + Clock + Print + Sync>(
     rt: &R,
     alloc: Global,
+    cases: &[Case],
     work: Work,
     rounds: u32,
 ) -> io::Result<()> {
-    for case in CASES {
-        let times = times_of(rt, alloc, Job::Calls(case, work), rounds)?;
+    for case in cases {
+        let times = times_of(rt, alloc, Job::Calls(*case, work), rounds)?;
         print_times(rt, case.name(), times.as_slice())?;
     }
     Ok(())

@@ -1,4 +1,4 @@
-//! The calls in stays of sixteen.
+//! The calls in stays of sixteen, of which each is a type: so the loop that makes it is a loop of its own.
 
 use crate::case::Env;
 use jr_env::Stay;
@@ -63,48 +63,152 @@ impl StayCase {
         }
     }
 
-    /// Whether the call, in a stay, answered as it should.
-    fn is_right<S: Steps>(self, stay: &mut Stay<'_, S>, first: Handle, at: Handle) -> bool {
-        match self {
-            StayCase::TypeOfNull => matches!(stay.get_object_ref_type(at), Ok(0)),
-            StayCase::NewGlobal => matches!(stay.new_global_ref(at), Ok(Some(_))),
-            StayCase::DeleteGlobal => stay.delete_global_ref(at).is_ok(),
-            StayCase::NewLocal => matches!(stay.new_local_ref(at), Ok(Some(_))),
-            StayCase::DeleteLocal => stay.delete_local_ref(at).is_ok(),
-            StayCase::Same => matches!(stay.is_same_object(first, at), Ok(true)),
-            StayCase::TypeOfGlobal => matches!(stay.get_object_ref_type(at), Ok(2)),
-            StayCase::Length => matches!(stay.get_array_length(at), Ok(LONG)),
-        }
-    }
-
-    /// Makes the call with each of the handles of one stay: how often it answered as it should.
-    fn make_some<S: Steps>(self, env: &mut Env<S>, first: Handle, handed: &[Handle]) -> usize {
-        let Ok(mut stay) = env.stay() else {
-            return 0;
-        };
-        let mut right = 0usize;
-        for handle in handed {
-            if self.is_right(&mut stay, first, *handle) {
-                right = right.saturating_add(1);
-            }
-        }
-        stay.end();
-        right
-    }
-
     /// Makes the call with each of the handles, in stays of sixteen: how often it answered as it should.
     pub(crate) fn make_all<S: Steps>(self, env: &mut Env<S>, handed: &[Handle]) -> usize {
-        let Some(first) = handed.first() else {
-            return 0;
-        };
-        let mut right = 0usize;
-        for stay in 0..handed.len().div_ceil(CALLS) {
-            let from = stay.saturating_mul(CALLS);
-            let to = from.saturating_add(CALLS).min(handed.len());
-            if let Some(some) = handed.get(from..to) {
-                right = right.saturating_add(self.make_some(env, *first, some));
-            }
+        match self {
+            StayCase::TypeOfNull => make_in_stays(env, handed, TypeOfNull),
+            StayCase::NewGlobal => make_in_stays(env, handed, NewGlobal),
+            StayCase::DeleteGlobal => make_in_stays(env, handed, DeleteGlobal),
+            StayCase::NewLocal => make_in_stays(env, handed, NewLocal),
+            StayCase::DeleteLocal => make_in_stays(env, handed, DeleteLocal),
+            StayCase::Same => make_in_stays(env, handed, Same),
+            StayCase::TypeOfGlobal => make_in_stays(env, handed, TypeOfGlobal),
+            StayCase::Length => make_in_stays(env, handed, Length),
         }
-        right
     }
+}
+
+/// A call that is made in a stay. Each is a function of its own and no part of the loop that makes it, as none is of native code.
+trait StayCall {
+    /// Makes it, with the first handle and another one: whether it answered as it should.
+    fn is_right<S: Steps>(&self, stay: &mut Stay<'_, S>, first: Handle, at: Handle) -> bool;
+}
+
+/// What NULL is.
+#[derive(Clone, Copy)]
+struct TypeOfNull;
+
+impl StayCall for TypeOfNull {
+    #[inline(never)]
+    fn is_right<S: Steps>(&self, stay: &mut Stay<'_, S>, _first: Handle, at: Handle) -> bool {
+        matches!(stay.get_object_ref_type(at), Ok(0))
+    }
+}
+
+/// A global reference.
+#[derive(Clone, Copy)]
+struct NewGlobal;
+
+impl StayCall for NewGlobal {
+    #[inline(never)]
+    fn is_right<S: Steps>(&self, stay: &mut Stay<'_, S>, _first: Handle, at: Handle) -> bool {
+        matches!(stay.new_global_ref(at), Ok(Some(_)))
+    }
+}
+
+/// A global reference is deleted.
+#[derive(Clone, Copy)]
+struct DeleteGlobal;
+
+impl StayCall for DeleteGlobal {
+    #[inline(never)]
+    fn is_right<S: Steps>(&self, stay: &mut Stay<'_, S>, _first: Handle, at: Handle) -> bool {
+        stay.delete_global_ref(at).is_ok()
+    }
+}
+
+/// A local reference.
+#[derive(Clone, Copy)]
+struct NewLocal;
+
+impl StayCall for NewLocal {
+    #[inline(never)]
+    fn is_right<S: Steps>(&self, stay: &mut Stay<'_, S>, _first: Handle, at: Handle) -> bool {
+        matches!(stay.new_local_ref(at), Ok(Some(_)))
+    }
+}
+
+/// A local reference is deleted.
+#[derive(Clone, Copy)]
+struct DeleteLocal;
+
+impl StayCall for DeleteLocal {
+    #[inline(never)]
+    fn is_right<S: Steps>(&self, stay: &mut Stay<'_, S>, _first: Handle, at: Handle) -> bool {
+        stay.delete_local_ref(at).is_ok()
+    }
+}
+
+/// Whether two references name one object.
+#[derive(Clone, Copy)]
+struct Same;
+
+impl StayCall for Same {
+    #[inline(never)]
+    fn is_right<S: Steps>(&self, stay: &mut Stay<'_, S>, first: Handle, at: Handle) -> bool {
+        matches!(stay.is_same_object(first, at), Ok(true))
+    }
+}
+
+/// What a global reference is.
+#[derive(Clone, Copy)]
+struct TypeOfGlobal;
+
+impl StayCall for TypeOfGlobal {
+    #[inline(never)]
+    fn is_right<S: Steps>(&self, stay: &mut Stay<'_, S>, _first: Handle, at: Handle) -> bool {
+        matches!(stay.get_object_ref_type(at), Ok(2))
+    }
+}
+
+/// How many elements an array has.
+#[derive(Clone, Copy)]
+struct Length;
+
+impl StayCall for Length {
+    #[inline(never)]
+    fn is_right<S: Steps>(&self, stay: &mut Stay<'_, S>, _first: Handle, at: Handle) -> bool {
+        matches!(stay.get_array_length(at), Ok(LONG))
+    }
+}
+
+/// Makes a call with each of the handles of one stay: how often it answered as it should.
+#[inline(always)]
+fn make_some<C: StayCall + Copy, S: Steps>(
+    env: &mut Env<S>,
+    first: Handle,
+    handed: &[Handle],
+    call: C,
+) -> usize {
+    let Ok(mut stay) = env.stay() else {
+        return 0;
+    };
+    let mut right = 0;
+    for handle in handed {
+        if call.is_right(&mut stay, first, *handle) {
+            right += 1;
+        }
+    }
+    stay.end();
+    right
+}
+
+/// Makes a call with each of the handles, in stays of sixteen: how often it answered as it should.
+fn make_in_stays<C: StayCall + Copy, S: Steps>(
+    env: &mut Env<S>,
+    handed: &[Handle],
+    call: C,
+) -> usize {
+    let Some(first) = handed.first() else {
+        return 0;
+    };
+    let mut right = 0usize;
+    for stay in 0..handed.len().div_ceil(CALLS) {
+        let from = stay.saturating_mul(CALLS);
+        let to = from.saturating_add(CALLS).min(handed.len());
+        if let Some(some) = handed.get(from..to) {
+            right = right.saturating_add(make_some(env, *first, some, call));
+        }
+    }
+    right
 }

@@ -58,6 +58,7 @@ impl Frames {
     }
 
     /// The handle that the next reference is to get, none where no place is free. Which of the free places it has no clause says.
+    #[inline(always)]
     pub fn next(&self) -> Option<HandleParts>
         ensures none { IfNone result (free_places self.now.last self.now.frames ≡ 0) }
         ensures some { IfSome result (IsNext self.now) }
@@ -82,6 +83,7 @@ impl Frames {
     }
 
     /// Adds a reference to an object, in the newest frame, at a free place's handle.
+    #[inline(always)]
     pub fn add(&mut self, handle: HandleParts, object: u16)
         requires next { IsNext self.old handle }
         requires object { object ≢ 0 }
@@ -111,6 +113,7 @@ impl Frames {
     }
 
     /// Removes the reference of a handle that stands, whichever frame has it. In the code its place is given next, unless it is retired.
+    #[inline(always)]
     pub fn delete(&mut self, handle: HandleParts)
         requires { IsSome (object_of self.old.frames handle) }
         ensures deleted { self.new.frames ≡ without_local self.old.frames handle }

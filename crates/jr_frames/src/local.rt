@@ -26,6 +26,7 @@ use jr_word::{Fault, HandleParts};
 /// # Operations
 ///
 /// One store where it makes one, and else none.
+#[inline(always)]
 pub fn new_local<S: Steps>(
     steps: &mut S,
     inside: &Inside,
@@ -61,6 +62,7 @@ pub fn new_local<S: Steps>(
 /// # Operations
 ///
 /// One store, and none where it is refused.
+#[inline(always)]
 pub fn delete_local<S: Steps>(
     steps: &mut S,
     inside: &Inside,

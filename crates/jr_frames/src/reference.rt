@@ -21,6 +21,7 @@ impl Reference {
     ghost use Rattle.jr_frames.specs.Reading.{IsReadAs, word_of, OwnerFits};
 
     /// Reads a handle.
+    #[inline(always)]
     pub fn of(handle: Handle) -> Reference
         ensures reads { IsReadAs handle.0 (word_of result) }
         ensures owner { OwnerFits result }
@@ -39,6 +40,14 @@ impl Reference {
         ensures { result ≡ is_malformed (word_of self) }
     {
         matches!(self, Reference::Malformed)
+    }
+
+    /// Whether it is a handle of a global or weak reference.
+    pub(crate) fn is_shared(self) -> bool {
+        match self {
+            Reference::Parts(handle) => !names_local(handle),
+            _ => false,
+        }
     }
 
     /// Whether it is a handle that lies outside the room.

@@ -145,6 +145,27 @@ pub fn resolve_both<S: Steps>(
     requires right { OwnerFits right }
     ensures { ResolvesBoth S.facts steps.old steps.new frames.now.frames (resolved_both (S.facts steps.old).stands.config (S.facts steps.old).stands.last (S.facts steps.old).stands.thread (word_of left) (word_of right)) result }
 {
+    if left.is_shared() && right.is_shared() {
+        // (the same, in a place of its own: there the compiler knows how most of the tests end)
+        return resolve_each(steps, inside, frames, left, right);
+    }
+    resolve_each(steps, inside, frames, left, right)
+}
+
+/// The same, whatever they are.
+#[inline(always)]
+fn resolve_each<S: Steps>(
+    steps: &mut S,
+    inside: &Inside,
+    frames: &Frames,
+    left: Reference,
+    right: Reference,
+) -> Result<(Option<u16>, Option<u16>), Fault>
+    requires stay { IsOwnStay inside.now (S.facts steps.old).stands }
+    requires left { OwnerFits left }
+    requires right { OwnerFits right }
+    ensures { ResolvesBoth S.facts steps.old steps.new frames.now.frames (resolved_both (S.facts steps.old).stands.config (S.facts steps.old).stands.last (S.facts steps.old).stands.thread (word_of left) (word_of right)) result }
+{
     let config = steps.config();
     let thread = steps.thread();
     if is_one_malformed(left, right) {

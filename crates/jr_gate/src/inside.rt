@@ -22,6 +22,7 @@ impl Inside {
     /// # Operations
     ///
     /// One.
+    #[inline(always)]
     pub fn leave<S: Steps>(self, steps: &mut S)
         requires { IsOwnStay self (S.facts steps.old).stands }
         ensures { Took S.facts steps.old steps.new (Gate Leave ∷ []) anything lets_go }
@@ -42,6 +43,7 @@ impl Inside {
 /// # Operations
 ///
 /// One, the entry. Where it is refused, two: the knock and its withdrawal.
+#[inline(always)]
 pub fn enter<S: Steps>(steps: &mut S) -> Result<Inside, Fault>
     requires { (S.facts steps.old).stands.role ≡ Outside }
     ensures ok { IfOk result (λ i. IsOwnStay i (S.facts steps.new).stands × Took S.facts steps.old steps.new (Gate Enter ∷ []) anything keeps) }

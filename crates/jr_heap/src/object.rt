@@ -91,6 +91,7 @@ pub fn publish<S: Steps>(
 /// # Operations
 ///
 /// One load.
+#[inline(always)]
 pub fn header<S: Steps>(steps: &mut S, object: u16) -> HeaderParts
     requires role { (S.facts steps.old).stands.role ≡ Within }
     requires object { MayKnow S.facts steps.old (HasObject object) }

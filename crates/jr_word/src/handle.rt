@@ -111,16 +111,35 @@ impl Handle {
         ensures sound { IfSome result (λ parts. IsHandle parts × (word ≡ handle_word parts)) }
         ensures complete { (parts : _) → IsHandle parts → word ≡ handle_word parts → result ≡ Some parts }
     {
-        let kind = RefKind::from_code(word & 3)?;
+        // (by whether it is local first, and no match on the kind, so that the code has no jump table)
         let owner = word >> 50;
-        if owner >= kind.owner_limit() {
+        let serial = u32_at(word, 2);
+        let index = u16_at(word, 34);
+        let code = word & 3;
+        if code == 1 {
+            if owner >= 64 {
+                return None;
+            }
+            return Some(HandleParts {
+                kind: RefKind::Local,
+                serial,
+                index,
+                owner: owner as u8,
+            });
+        }
+        if code == 0 || owner != 0 {
             return None;
         }
+        let kind = if code == 2 {
+            RefKind::Global
+        } else {
+            RefKind::Weak
+        };
         Some(HandleParts {
             kind,
-            serial: u32_at(word, 2),
-            index: u16_at(word, 34),
-            owner: owner as u8,
+            serial,
+            index,
+            owner: 0,
         })
     }
 }

@@ -21,6 +21,7 @@ impl<S: Steps> Stay<'_, S> {
     /// # Operations
     ///
     /// At most 2: a look at the slot of a global or weak handle, and one at the object's header.
+    #[inline(always)]
     pub fn kind_of(&mut self, handle: Handle) -> Result<Kind, Fault>
         ensures same_reference { (env_in self.new).ghost_name ≡ (env_in self.old).ghost_name }
         ensures call { DoesWithin self.old self.new (kind_reading handle.0) result }
@@ -40,6 +41,7 @@ impl<S: Steps> Stay<'_, S> {
     /// # Operations
     ///
     /// At most 2: a look at the slot of a global or weak handle, and one at the array's header.
+    #[inline(always)]
     pub fn get_array_length(&mut self, array: Handle) -> Result<u32, Fault>
         ensures same_reference { (env_in self.new).ghost_name ≡ (env_in self.old).ghost_name }
         ensures call { DoesWithin self.old self.new (array_length array.0) result }
@@ -59,6 +61,7 @@ impl<S: Steps> Stay<'_, S> {
     /// # Operations
     ///
     /// At most 2: a look at the slot of a global or weak handle, and one at the string's header.
+    #[inline(always)]
     pub fn get_string_length(&mut self, string: Handle) -> Result<u32, Fault>
         ensures same_reference { (env_in self.new).ghost_name ≡ (env_in self.old).ghost_name }
         ensures call { DoesWithin self.old self.new (string_length string.0) result }
@@ -78,6 +81,7 @@ impl<S: Steps> Stay<'_, S> {
     /// # Operations
     ///
     /// At most 4: a look at the slot of a global or weak handle, one at the array's header, the load of the element, and the store of the local word.
+    #[inline(always)]
     pub fn get_object_array_element(
         &mut self,
         array: Handle,
@@ -103,6 +107,7 @@ impl<S: Steps> Stay<'_, S> {
     /// # Operations
     ///
     /// At most 4: a look at the slot of each handle that is global or weak, one at the array's header, and the store of the element.
+    #[inline(always)]
     pub fn set_object_array_element(
         &mut self,
         array: Handle,

@@ -24,6 +24,7 @@ impl<S: Steps> Stay<'_, S> {
     /// # Operations
     ///
     /// Just its events: a look at the slot of a global or weak handle, a look at each slot that is tried and the exchange of each that was free, which are two for each slot of the room at the most.
+    #[inline(always)]
     pub fn new_global_ref(&mut self, handle: Handle) -> Result<Option<Handle>, Fault>
         ensures same_reference { (env_in self.new).ghost_name ≡ (env_in self.old).ghost_name }
         ensures call { DoesWithin self.old self.new (creation Global handle.0) result }
@@ -42,6 +43,7 @@ impl<S: Steps> Stay<'_, S> {
     /// # Operations
     ///
     /// Just its events: a look at the slot of a global or weak handle, a look at each slot that is tried and the exchange of each that was free, which are two for each slot of the room at the most.
+    #[inline(always)]
     pub fn new_weak_global_ref(&mut self, handle: Handle) -> Result<Option<Handle>, Fault>
         ensures same_reference { (env_in self.new).ghost_name ≡ (env_in self.old).ghost_name }
         ensures call { DoesWithin self.old self.new (creation Weak handle.0) result }
@@ -60,6 +62,7 @@ impl<S: Steps> Stay<'_, S> {
     /// # Operations
     ///
     /// Just its events, at most 2: a look at the slot of a global or weak handle, and the store of the local word.
+    #[inline(always)]
     pub fn new_local_ref(&mut self, handle: Handle) -> Result<Option<Handle>, Fault>
         ensures same_reference { (env_in self.new).ghost_name ≡ (env_in self.old).ghost_name }
         ensures call { DoesWithin self.old self.new (local_creation handle.0) result }
@@ -80,6 +83,7 @@ impl<S: Steps> Stay<'_, S> {
     /// # Operations
     ///
     /// Just its events, at most 2: a look at the slot of a global or weak handle, and the store of the local word.
+    #[inline(always)]
     pub fn upgrade_local(&mut self, weak: Handle) -> Result<Option<Handle>, Fault>
         ensures same_reference { (env_in self.new).ghost_name ≡ (env_in self.old).ghost_name }
         ensures call { DoesWithin self.old self.new (local_creation weak.0) result }
@@ -98,6 +102,7 @@ impl<S: Steps> Stay<'_, S> {
     /// # Operations
     ///
     /// Just its events: a look at the slot of a global or weak handle, a look at each slot that is tried and the exchange of each that was free, which are two for each slot of the room at the most.
+    #[inline(always)]
     pub fn upgrade_global(&mut self, weak: Handle) -> Result<Option<Handle>, Fault>
         ensures same_reference { (env_in self.new).ghost_name ≡ (env_in self.old).ghost_name }
         ensures call { DoesWithin self.old self.new (creation Global weak.0) result }
@@ -116,6 +121,7 @@ impl<S: Steps> Stay<'_, S> {
     /// # Operations
     ///
     /// Just its events, at most 2: a look at the slot, and the exchange of a word that stands there.
+    #[inline(always)]
     pub fn delete_global_ref(&mut self, handle: Handle) -> Result<(), Fault>
         ensures same_reference { (env_in self.new).ghost_name ≡ (env_in self.old).ghost_name }
         ensures call { DoesWithin self.old self.new (removal Global handle.0) result }
@@ -136,6 +142,7 @@ impl<S: Steps> Stay<'_, S> {
     /// # Operations
     ///
     /// Just its events, at most 2: a look at the slot, and the exchange of a word that stands there.
+    #[inline(always)]
     pub fn delete_weak_global_ref(&mut self, handle: Handle) -> Result<(), Fault>
         ensures same_reference { (env_in self.new).ghost_name ≡ (env_in self.old).ghost_name }
         ensures call { DoesWithin self.old self.new (removal Weak handle.0) result }
@@ -156,6 +163,7 @@ impl<S: Steps> Stay<'_, S> {
     /// # Operations
     ///
     /// Just its event, at most one: the store of the local word.
+    #[inline(always)]
     pub fn delete_local_ref(&mut self, handle: Handle) -> Result<(), Fault>
         ensures same_reference { (env_in self.new).ghost_name ≡ (env_in self.old).ghost_name }
         ensures call { DoesWithin self.old self.new (local_removal handle.0) result }
@@ -175,6 +183,7 @@ impl<S: Steps> Stay<'_, S> {
     /// # Operations
     ///
     /// Just its events, at most 2: a look at the slot of each handle that is global or weak.
+    #[inline(always)]
     pub fn is_same_object(&mut self, left: Handle, right: Handle) -> Result<bool, Fault>
         ensures same_reference { (env_in self.new).ghost_name ≡ (env_in self.old).ghost_name }
         ensures call { DoesWithin self.old self.new (comparison left.0 right.0) result }
@@ -193,6 +202,7 @@ impl<S: Steps> Stay<'_, S> {
     /// # Operations
     ///
     /// Just its event, at most one: a look at the slot of a global or weak handle.
+    #[inline(always)]
     pub fn get_object_ref_type(&mut self, handle: Handle) -> Result<u8, Fault>
         ensures same_reference { (env_in self.new).ghost_name ≡ (env_in self.old).ghost_name }
         ensures call { DoesWithin self.old self.new (typing handle.0) result }
@@ -202,6 +212,7 @@ impl<S: Steps> Stay<'_, S> {
     }
 
     /// A global or weak global reference to what the handle names, or none for null.
+    #[inline(always)]
     fn new_reference(&mut self, kind: RefKind, handle: Handle) -> Result<Option<Handle>, Fault>
         requires { kind ≢ Local }
         ensures same_reference { (env_in self.new).ghost_name ≡ (env_in self.old).ghost_name }

@@ -58,6 +58,7 @@ impl<S: Steps, E: Elem> Work<S> for PartWriting<'_, E> {
 
     ghost in_stay = { λ w. part_writing_in_stay E.KIND (word_of w.part.array) w.part.start (map E.word_of w.elements.now) };
 
+    #[inline(always)]
     fn work(self, steps: &mut S, inside: &Inside, frames: &mut Frames) -> Result<(), Fault> {
         let PartWriting { part, elements } = self;
         let (object, header) = find_part(steps, inside, frames, part, E::KIND, elements.len())?;

@@ -43,6 +43,7 @@ impl<S: Steps, E: Elem> Work<S> for ElementsCopying<E> {
 
     ghost in_stay = { λ w. elements_copying_in_stay (map E.word_of) E.KIND (word_of w.array) };
 
+    #[inline(always)]
     fn work(
         self,
         steps: &mut S,
@@ -90,6 +91,7 @@ impl<S: Steps> Work<S> for UnitsCopying {
 
     ghost in_stay = { λ w. units_copying_in_stay (λ units. units.items) (word_of w.string) };
 
+    #[inline(always)]
     fn work(self, steps: &mut S, inside: &Inside, frames: &mut Frames) -> Result<Vec<u16>, Fault> {
         let (object, header) = find(steps, inside, frames, self.string)?;
         if !is_text(header.kind) {
@@ -128,6 +130,7 @@ impl<S: Steps, E: Elem> Work<S> for CopyingBack<'_, E> {
 
     ghost in_stay = { λ w. copying_back_in_stay E.KIND (word_of w.array) (map E.word_of w.elements.now) };
 
+    #[inline(always)]
     fn work(self, steps: &mut S, inside: &Inside, frames: &mut Frames) -> Result<(), Fault> {
         let CopyingBack { array, elements } = self;
         let (object, header) = find(steps, inside, frames, array)?;

@@ -28,6 +28,7 @@ impl<S: Steps> Work<S> for LocalsFreeing {
 
     ghost in_stay = { λ _. freeing_in_stay };
 
+    #[inline(always)]
     fn work(self, steps: &mut S, inside: &Inside, frames: &mut Frames) -> Result<(), Fault> {
         free_all(steps, inside, frames);
         Ok(())
@@ -60,6 +61,7 @@ impl<S: Steps> Work<S> for FramePop {
 
     ghost in_stay = { λ w. popping_in_stay (word_of w.0) };
 
+    #[inline(always)]
     fn work(
         self,
         steps: &mut S,

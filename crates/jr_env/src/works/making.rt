@@ -43,6 +43,7 @@ impl<S: Steps> Work<S> for Making<'_> {
 
     ghost in_stay = { λ _. making_in_stay };
 
+    #[inline(always)]
     fn work(
         self,
         steps: &mut S,
@@ -89,6 +90,7 @@ impl<S: Steps> Work<S> for ArrayMaking<'_> {
 
     ghost in_stay = { λ w. zeros_in_stay w.kind w.length };
 
+    #[inline(always)]
     fn work(
         self,
         steps: &mut S,
@@ -137,6 +139,7 @@ impl<S: Steps> Work<S> for ObjectArrayMaking<'_> {
 
     ghost in_stay = { λ w. array_making_in_stay w.length (word_of w.initial) };
 
+    #[inline(always)]
     fn work(
         self,
         steps: &mut S,
@@ -185,6 +188,7 @@ impl<S: Steps> Work<S> for StringMaking<'_> {
 
     ghost in_stay = { λ w. string_in_stay w.units.now };
 
+    #[inline(always)]
     fn work(
         self,
         steps: &mut S,

@@ -34,6 +34,7 @@ impl<S: Steps> Work<S> for KindReading {
 
     ghost in_stay = { λ w. kind_reading_in_stay (word_of w.0) };
 
+    #[inline(always)]
     fn work(self, steps: &mut S, inside: &Inside, frames: &mut Frames) -> Result<Kind, Fault> {
         let (_, header) = find(steps, inside, frames, self.0)?;
         Ok(header.kind)
@@ -65,6 +66,7 @@ impl<S: Steps> Work<S> for ArrayLength {
 
     ghost in_stay = { λ w. array_length_in_stay (word_of w.0) };
 
+    #[inline(always)]
     fn work(self, steps: &mut S, inside: &Inside, frames: &mut Frames) -> Result<u32, Fault> {
         let (_, header) = find(steps, inside, frames, self.0)?;
         if !is_array(header.kind) {
@@ -99,6 +101,7 @@ impl<S: Steps> Work<S> for TextLength {
 
     ghost in_stay = { λ w. text_length_in_stay (word_of w.0) };
 
+    #[inline(always)]
     fn work(self, steps: &mut S, inside: &Inside, frames: &mut Frames) -> Result<u32, Fault> {
         let (_, header) = find(steps, inside, frames, self.0)?;
         if !is_text(header.kind) {
@@ -138,6 +141,7 @@ impl<S: Steps> Work<S> for ElementReading {
 
     ghost in_stay = { λ w. element_reading_in_stay (word_of w.target) w.index };
 
+    #[inline(always)]
     fn work(
         self,
         steps: &mut S,
@@ -182,6 +186,7 @@ impl<S: Steps> Work<S> for ElementWriting {
 
     ghost in_stay = { λ w. element_writing_in_stay (word_of w.target) w.index (word_of w.value) };
 
+    #[inline(always)]
     fn work(self, steps: &mut S, inside: &Inside, frames: &mut Frames) -> Result<(), Fault> {
         let (array, object) = resolve_both(steps, inside, frames, self.target, self.value)?;
         let Some(array) = array else {

@@ -48,6 +48,7 @@ impl<S: Steps> Work<S> for Creation {
 
     ghost in_stay = { λ w. creation_in_stay w.kind (word_of w.target) };
 
+    #[inline(always)]
     fn work(
         self,
         steps: &mut S,
@@ -88,6 +89,7 @@ impl<S: Steps> Work<S> for LocalCreation {
 
     ghost in_stay = { λ w. local_creation_in_stay (word_of w.0) };
 
+    #[inline(always)]
     fn work(
         self,
         steps: &mut S,
@@ -164,6 +166,7 @@ impl<S: Steps> Work<S> for LocalRemoval {
 
     ghost in_stay = { λ w. local_removal_in_stay (word_of w.0) };
 
+    #[inline(always)]
     fn work(self, steps: &mut S, inside: &Inside, frames: &mut Frames) -> Result<(), Fault> {
         match self.0 {
             Reference::Null => Ok(()),
@@ -197,6 +200,7 @@ impl<S: Steps> Work<S> for Comparison {
 
     ghost in_stay = { λ w. comparison_in_stay (word_of w.0) (word_of w.1) };
 
+    #[inline(always)]
     fn work(self, steps: &mut S, inside: &Inside, frames: &mut Frames) -> Result<bool, Fault> {
         let (first, second) = resolve_both(steps, inside, frames, self.0, self.1)?;
         Ok(first == second)
@@ -227,6 +231,7 @@ impl<S: Steps> Work<S> for Typing {
 
     ghost in_stay = { λ w. typing_in_stay (word_of w.0) };
 
+    #[inline(always)]
     fn work(self, steps: &mut S, inside: &Inside, frames: &mut Frames) -> Result<u8, Fault> {
         Ok(type_of(steps, inside, frames, self.0))
     }

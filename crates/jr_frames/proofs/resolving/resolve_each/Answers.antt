@@ -4,7 +4,7 @@ use Rattle.jr_model.specs.Checks.{is_foreign, is_out_of_bounds}
 use Rattle.jr_frames.specs.Reading.{word_of}
 use Rattle.jr_frames.proofs.Reading.{not_first, not_second}
 use Rattle.jr_frames.proofs.ResolutionOfBoth.{passes, both_malformed, both_outside, both_foreign, both_err_left, both_err_right, both_looked}
-use Rattle.jr_frames.proofs.resolving.resolve_both.Goals as goal
+use Rattle.jr_frames.proofs.resolving.resolve_each.Goals as goal
 
 pub returns-then-is_one_malformed : goal.returns-then-is_one_malformed
 returns-then-is_one_malformed g c = let s = (g.S.Steps.facts c.args.steps.now).stands in let v = word_of c.args.left in let w = word_of c.args.right in
