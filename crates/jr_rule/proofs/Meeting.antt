@@ -1,10 +1,11 @@
 -- Two passes at one seat, while they meet.
 use Rattle.std.proofs.Common.{◌≡◌, ℕ, List, [], ◌∷◌, sym, ap, subst, ◌∙◌}
+use mathlib.Core.List.{IsPrefix}
 use Rattle.jr_model.specs.declared.event.Act.{Act}
 use Rattle.jr_steps.specs.declared.known.Known.{Known}
 use Rattle.jr_steps.specs.Holdings.{InSpace}
 use Rattle.jr_steps.specs.Knowing.{view}
-use Rattle.jr_rule.specs.Rule.{view_of as seats, EachFits, SeatState, stepping_pass, others_of, Tells, IsAlone, IsSeated, together, first_alone}
+use Rattle.jr_rule.specs.Rule.{view_of as seats, view_with, AreNoted, EachFits, SeatState, stepping_pass, noted_pass, others_of, Tells, IsAlone, IsNote, IsSeated, together, first_alone}
 use Rattle.jr_rule.proofs.Seats.{joined_is}
 
 module _ (a b m : SeatState) (alone : IsAlone a) (other : IsAlone b) (joined : m ≡ (together a.0 b.0, a.1)) where
@@ -37,4 +38,33 @@ module _ (a b m : SeatState) (alone : IsAlone a) (other : IsAlone b) (joined : m
       space = subst (λ (k : Known). InSpace k.config (s.new).holdings) acting_both s.space;
       held = s.held;
       others = subst (λ ks. EachFits (stepping_pass a).config (stepping_pass a).last (s.new).seen s.held ks) (sym (ap (λ (z : SeatState). others_of z.0.passes) alone)) tt;
+      noted = subst (λ ns. AreNoted (s.new).seen ns) (sym (ap (λ (z : SeatState). z.0.notes) alone)) tt;
     }
+
+-- A pass that learns what a note says, while it has it
+module _ (a b m : SeatState) (alone : IsAlone a) (note : IsNote b) (joined : m ≡ (together a.0 b.0, a.1)) where
+  -- the seat that was joined has the pass and the note
+  pub with_note : m ≡ (view_with (stepping_pass a ∷ []) (noted_pass b ∷ []), [])
+  with_note = joined ∙ ap (λ (z : SeatState × SeatState). (together z.0.0 z.1.0, z.0.1)) (λ i. (alone i, note i))
+
+  acting_noted : stepping_pass m ≡ stepping_pass a
+  acting_noted = ap stepping_pass with_note
+
+  module _ {told : Known → ℕ → List Act → Known → Type 0} (n : ℕ) (m' : SeatState) (s : Tells told m n m') where
+    -- it was told what the look told, as if it had looked with nothing beside it
+    pub told_noted : Tells told a n m'
+    told_noted = record {
+      acts = s.acts;
+      new = s.new;
+      is = s.is ∙ (ap (λ (z : SeatState). (seats (s.new ∷ others_of z.0.passes), z.1)) with_note ∙ sym (ap (λ (z : SeatState). (seats (s.new ∷ others_of z.0.passes), z.1)) alone));
+      goes = subst (λ k. Rattle.jr_steps.specs.Knowing.Goes k s.acts s.new) acting_noted s.goes;
+      says = subst (λ k. told k n s.acts s.new) acting_noted s.says;
+      space = subst (λ (k : Known). InSpace k.config (s.new).holdings) acting_noted s.space;
+      held = s.held;
+      others = subst (λ ks. EachFits (stepping_pass a).config (stepping_pass a).last (s.new).seen s.held ks) (sym (ap (λ (z : SeatState). others_of z.0.passes) alone)) tt;
+      noted = subst (λ ns. AreNoted (s.new).seen ns) (sym (ap (λ (z : SeatState). z.0.notes) alone)) tt;
+    }
+
+    -- and it has seen all that the note says
+    pub learned : IsPrefix (noted_pass b).seen (stepping_pass m').seen
+    learned = subst (λ (k : Known). IsPrefix (noted_pass b).seen k.seen) (sym (ap stepping_pass s.is)) (subst (λ ns. AreNoted (s.new).seen ns) (ap (λ (z : SeatState). z.0.notes) with_note) s.noted).0

@@ -1,11 +1,14 @@
 -- What a room gives, and what it tells when it closes.
 use Rattle.std.specs.Prelude.{◌≡◌, ◌≤◌, ℕ, List, [], ◌∷◌}
+use mathlib.Core.List.{IsPrefix}
 use Rattle.jr_word.specs.declared.config.Config.{Config}
 use Rattle.jr_word.specs.declared.fault.Fault.TheVariants.{LeftInside}
 use Rattle.jr_model.specs.declared.event.Act.TheVariants.{Meet}
 use Rattle.jr_model.specs.State.{not_outside}
+use Rattle.jr_model.specs.History.{History}
 use Rattle.jr_rule.specs.declared.closing.Left.{Left}
 use Rattle.jr_rule.specs.declared.closing_all.AllLeft.{AllLeft}
+use Rattle.jr_rule.specs.declared.note.Note.{Note}
 use Rattle.jr_rule.specs.declared.pass.Pass.{Pass}
 use Rattle.jr_rule.specs.declared.room.Room.{Room}
 use Rattle.jr_steps.specs.declared.known.Known.{Known}
@@ -14,7 +17,7 @@ use Rattle.jr_rule.specs.declared.cells.Cells.{Ghosts}
 use Rattle.jr_rule.specs.declared.over.StepsOver.{StepsOver}
 use Rattle.jr_rule.specs.declared.row.RoomCells.{RoomCells}
 use Rattle.jr_rule.specs.Passes.{Holder, facts_of, holder_of, known_of, IsAt, AreOpened}
-use Rattle.jr_rule.specs.Rule.{stepping_pass}
+use Rattle.jr_rule.specs.Rule.{noted_pass, stepping_pass}
 
 -- THE PASS IS ONE OF THE ROOM'S OWN
 abbrev pub IsOfRoom : {LAST : ℕ} → Room LAST → Pass → Type 0
@@ -37,6 +40,22 @@ pub record AreAsBefore {P : Type 0} {G : Ghosts RoomCells P} (old new : StepsOve
   pub role : new.role ≡ old.role
   pub fresh : new.fresh ≡ old.fresh
   pub hint : new.hint ≡ old.hint
+
+-- THE NOTE IS ONE OF THE ROOM'S OWN
+abbrev pub IsNoteIn : {LAST : ℕ} → Room LAST → Note → Type 0
+IsNoteIn r n = n.seat.table_id ≡ r.row.table.shared.table_id
+
+-- what the note says was seen
+abbrev pub seen_by_note : Note → History
+seen_by_note n = (noted_pass n.seat.me).seen
+
+-- A NOTE WAS MADE: it says all that the thread has seen
+abbrev pub WasNoted : {P : Type 0} {G : Ghosts RoomCells P} → StepsOver RoomCells P G → Note → Type 0
+WasNoted s n = seen_by_note n ≡ (stepping_pass s.cells.seat.me).seen
+
+-- ALL THAT THE NOTE SAYS WAS SEEN
+abbrev pub Learned : {P : Type 0} {G : Ghosts RoomCells P} → Note → StepsOver RoomCells P G → Type 0
+Learned n s = IsPrefix (seen_by_note n) (stepping_pass s.cells.seat.me).seen
 
 -- a room as it was opened, with its passes
 abbrev pub IsOpening : (LAST : ℕ) → Config → Room LAST → List Pass → Type 0

@@ -24,8 +24,13 @@ sizes c last = record { config = c; last = last }
 abbrev pub known : Config → ℕ → ℕ → History → Holdings → ℕ → Known
 known c last t seen holdings taken = record { config = c; last = last; thread = t; seen = seen; holdings = holdings; taken = taken }
 
+-- what a seat stands for that has these passes, and these notes
+abbrev pub view_with : List Known → List Known → View
+view_with ks ns = record { passes = ks; notes = ns }
+
+-- that has no note
 abbrev pub view_of : List Known → View
-view_of ks = record { passes = ks }
+view_of ks = view_with ks []
 
 -- the sizes of a room, and its last serial
 pub record IsSized (c : Config) (last : ℕ) : Type 0 where
@@ -45,6 +50,11 @@ pub record Fits (c : Config) (last : ℕ) (log : History) (held : ℕ → Holdin
 abbrev pub EachFits : Config → ℕ → History → (ℕ → Holdings) → List Known → Type 0
 EachFits c last log held [] = Unit {0}
 EachFits c last log held (k ∷ ks) = Fits c last log held k × EachFits c last log held ks
+
+-- A NOTE says what a pass had seen: a beginning of the history
+abbrev pub AreNoted : History → List Known → Type 0
+AreNoted log [] = Unit {0}
+AreNoted log (n ∷ ns) = IsPrefix n.seen log × AreNoted log ns
 
 abbrev pub total : {A : Type 0} → (A → ℕ) → List A → ℕ
 total f [] = 0
@@ -68,6 +78,7 @@ pub record Kept (last : ℕ) (c : Config) (r : Row) : Type 0 where
   pub sized : IsSized c last
   pub image : IsImage c last r.words (state log) held
   pub each : (j : ℕ) (v : View) → get_elem? r.views j ≡ some v → EachFits c last log held v.passes
+  pub noted : (j : ℕ) (v : View) → get_elem? r.views j ≡ some v → AreNoted log v.notes
   pub once : (t : ℕ) → t < c.threads → total (passes_of t) r.views ≡ 1
 
 -- AT THE OPENING the one seat stands for all passes, of so many threads from t on, which have seen nothing
@@ -127,6 +138,7 @@ pub record Tells (told : Known → ℕ → List Act → Known → Type 0) (m : S
   pub space : InSpace (stepping_pass m).config new.holdings
   pub held : ℕ → Holdings
   pub others : EachFits (stepping_pass m).config (stepping_pass m).last new.seen held (others_of m.0.passes)
+  pub noted : AreNoted new.seen m.0.notes
 
 -- a pass has looked at the gate, beside others that meet it
 abbrev pub Met : Known → ℕ → List Act → Known → Type 0
@@ -142,9 +154,21 @@ first_alone v = view_of (first_of v.passes ∷ [])
 abbrev pub without_first : View → View
 without_first v = view_of (others_of v.passes)
 
--- HOW TWO SEATS ARE JOINED: one stands for the passes of both, and the other for none
+-- a seat of no pass, with a note of what the first pass has seen
+abbrev pub note_of : View → View
+note_of v = view_with [] (first_of v.passes ∷ [])
+
+-- what the pass knew of which a seat has a note
+abbrev pub noted_pass : SeatState → Known
+noted_pass m = first_of m.0.notes
+
+-- THE SEAT IS A NOTE'S: of one pass, with nothing beside
+abbrev pub IsNote : SeatState → Type 0
+IsNote m = m ≡ (view_with [] (noted_pass m ∷ []), [])
+
+-- HOW TWO SEATS ARE JOINED: one stands for the passes of both, with the notes of both, and the other for none
 abbrev pub together : View → View → View
-together v w = view_of (v.passes ++ w.passes)
+together v w = view_with (v.passes ++ w.passes) (v.notes ++ w.notes)
 
 abbrev pub spent : View
 spent = view_of []

@@ -4,6 +4,7 @@
 mod cells;
 mod closing;
 mod closing_all;
+mod note;
 mod over;
 mod over_plain;
 mod over_room;
@@ -22,6 +23,7 @@ pub use jr_model::{Role, Summary};
 pub use jr_steps::{
     GateLoad, Holdings, Known, KnownHeader, Move, OwnRange, SlotLoad, Steps, TopLoad,
 };
+pub use note::Note;
 pub use over::StepsOver;
 pub use over_plain::PlainSteps;
 pub use over_room::RoomSteps;

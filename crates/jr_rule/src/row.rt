@@ -42,7 +42,7 @@ use crate::cells::{Cells, StepKind};
 use crate::closing::ClosedWords;
 use crate::pass::Pass;
 use crate::room::Room;
-use crate::rule::{Deal, Gather, Meeting, Part, Rule, Sizes, Tell, View};
+use crate::rule::{Deal, Gather, Jot, Meeting, Part, Rule, Sizes, Tell, View};
 use crate::summing::summary;
 use crate::words::{GATE, first_element, first_header};
 use atomic_table::{Seat, Table};
@@ -214,7 +214,8 @@ impl RoomCells {
     ghost use Rattle.std.specs.Prelude.{◌≡◌, ℕ};
     ghost use Rattle.jr_model.specs.History.{HasMet};
     ghost use Rattle.jr_steps.specs.Knowing.{view};
-    ghost use Rattle.jr_rule.specs.Rule.{IsAlone, LooksWith, stepping_pass};
+    ghost use mathlib.Core.List.{IsPrefix};
+    ghost use Rattle.jr_rule.specs.Rule.{IsAlone, IsNote, LooksWith, note_of, noted_pass, stepping_pass};
 
     /// The seat and another one of the room are joined, look at the gate together, and part.
     pub(crate) fn meet<const LAST: u32>(
@@ -235,6 +236,31 @@ impl RoomCells {
         shared.join_seat::<Gather>(&mut self.seat, other);
         shared.load::<Meeting>(&mut self.seat, GATE);
         shared.split_seat::<Part>(&mut self.seat)
+    }
+
+    /// A note of what the seat's pass has seen, in a seat of its own.
+    pub(crate) fn note<const LAST: u32>(&mut self, room: &Room<LAST>) -> Seat<(), View>
+        requires there { IsSeatOf room.now.row.table.shared.table_id room.now.row.config room.now.row.last self.old.seat.table_id self.old.seat.me self.old.thread }
+        ensures same { (self.new.thread ≡ self.old.thread) × (self.new.seat.table_id ≡ self.old.seat.table_id) × (self.new.seat.me ≡ self.old.seat.me) }
+        ensures note { (result.table_id ≡ self.old.seat.table_id) × (result.me ≡ (note_of self.old.seat.me.0, [])) }
+    {
+        let shared = &room.row.table.shared;
+        shared.split_seat::<Jot>(&mut self.seat)
+    }
+
+    /// The seat and a note's are joined, and look at the gate together; then nothing is left of the note.
+    pub(crate) fn learn<const LAST: u32>(&mut self, room: &Room<LAST>, note: Seat<(), View>)
+        requires there { IsSeatOf room.now.row.table.shared.table_id room.now.row.config room.now.row.last self.old.seat.table_id self.old.seat.me self.old.thread }
+        requires row { note.table_id ≡ self.old.seat.table_id }
+        requires note { IsNote note.me }
+        ensures there { IsSeatOf room.now.row.table.shared.table_id room.now.row.config room.now.row.last self.new.seat.table_id self.new.seat.me self.new.thread }
+        ensures same { (self.new.thread ≡ self.old.thread) × (self.new.seat.table_id ≡ self.old.seat.table_id) }
+        ensures looked { LooksWith self.old.seat.me self.new.seat.me }
+        ensures learned { IsPrefix (noted_pass note.me).seen (stepping_pass self.new.seat.me).seen }
+    {
+        let shared = &room.row.table.shared;
+        shared.join_seat::<Gather>(&mut self.seat, note);
+        shared.load::<Meeting>(&mut self.seat, GATE);
     }
 
     /// The same with the seat of other cells of the room, which have it again then. What leaves them meanwhile is their pass, and the seat that it left is spent.

@@ -15,10 +15,12 @@ pub struct Sizes {
     pub last: u32,
 }
 
-/// What a seat at the row stands for: one pass mostly, two while they meet, none once it is spent.
+/// What a seat at the row stands for: one pass mostly, two while they meet, none once it is spent; or a note of what a pass had seen.
 pub struct View {
     /// What each of its passes knows. The first one steps.
     pub passes: LinkedList<Known>,
+    /// What each of the passes knew of which it has a note.
+    pub notes: LinkedList<Known>,
 }
 
 /// The rule of a row.
@@ -74,7 +76,18 @@ impl Split<View> for Part {
     ghost right = { without_first };
 }
 
-/// The passes of both seats.
+/// A note of what the first pass has seen leaves the seat.
+pub struct Jot;
+
+impl Split<View> for Jot {
+    ghost use Rattle.jr_rule.specs.Rule.{note_of};
+
+    ghost left = { λ v. v };
+
+    ghost right = { note_of };
+}
+
+/// The passes of both seats, and their notes.
 pub struct Gather;
 
 impl Join<View> for Gather {
