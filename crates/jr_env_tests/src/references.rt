@@ -283,6 +283,21 @@ fn who_meets_another_env_finds_its_reference(rt: HostRuntime) -> Result<(), Fail
     find(&rt, &mut first, &mut second, shared)
 }
 
+/// The same by a note, which the second makes once it has made the reference, and the first learns. One that nobody learns, and one that says less, change nothing.
+#[test]
+fn who_learns_a_note_finds_its_reference(rt: HostRuntime) -> Result<(), Fail> {
+    let (room, first, second) = opened(rt.alloc())?;
+    let mut first = opened_env(RoomSteps::new(&room, first));
+    let mut second = opened_env(RoomSteps::new(&room, second));
+    let early = second.note();
+    let shared = shared_in(&mut second)?;
+    let _ = second.note();
+    let note = second.note();
+    first.learn(note);
+    first.learn(early);
+    find(&rt, &mut first, &mut second, shared)
+}
+
 /// Makes a global reference, which has the word.
 fn is_next<S: Steps>(
     rt: &impl Abort,

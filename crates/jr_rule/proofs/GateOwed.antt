@@ -3,7 +3,6 @@ use Rattle.std.proofs.Common.{◌≡◌, ◌⊎◌, inr, ⊎_elim, ◌<◌, ◌+
 use mathlib.Core.Logic.{dite}
 use native.Mathlib.Decide.{ℕ_discrete}
 use prog.Atomic.{either}
-use Rattle.jr_model.specs.declared.event.Role.{Role}
 use Rattle.jr_model.specs.declared.event.Role.TheVariants.{Outside, Within, Knocking, Announcing, Collecting}
 use Rattle.jr_model.specs.declared.event.Act.{Act}
 use Rattle.jr_model.specs.declared.event.Act.TheVariants.{Gate, ShutBusy, Meet}
@@ -15,7 +14,7 @@ use Rattle.jr_steps.specs.declared.loads.GateLoad.TheVariants as gate
 use Rattle.jr_word.specs.declared.gate.GateState.{GateState}
 use Rattle.jr_word.specs.declared.gate.GateState.TheVariants as gates
 use Rattle.jr_word.specs.Gate.{state_bits}
-use Rattle.jr_steps.specs.Acts.{act_of_entry, act_of_exit, act_of_announcement, all_counted, others_counted, is_closed, act_of_gate_load, GateLoadFits}
+use Rattle.jr_steps.specs.Acts.{act_of_entry, act_of_exit, act_of_announcement, others_counted, is_closed, act_of_gate_load, GateLoadFits}
 use Rattle.jr_steps.specs.Knowing.{view, IsClosedNow, IsSettled}
 use Rattle.jr_steps.specs.declared.known.Holdings.{Holdings}
 use Rattle.jr_steps.specs.Holdings.{empty, hold}

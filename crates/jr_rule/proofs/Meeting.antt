@@ -5,7 +5,7 @@ use Rattle.jr_model.specs.declared.event.Act.{Act}
 use Rattle.jr_steps.specs.declared.known.Known.{Known}
 use Rattle.jr_steps.specs.Holdings.{InSpace}
 use Rattle.jr_steps.specs.Knowing.{view}
-use Rattle.jr_rule.specs.Rule.{view_of as seats, view_with, AreNoted, EachFits, SeatState, stepping_pass, noted_pass, others_of, Tells, IsAlone, IsNote, IsSeated, together, first_alone}
+use Rattle.jr_rule.specs.Rule.{view_of as seats, view_with, AreBeginnings, EachFits, SeatState, stepping_pass, noted_pass, others_of, Tells, IsAlone, IsNote, IsSeated, together, first_alone}
 use Rattle.jr_rule.proofs.Seats.{joined_is}
 
 module _ (a b m : SeatState) (alone : IsAlone a) (other : IsAlone b) (joined : m ≡ (together a.0 b.0, a.1)) where
@@ -38,7 +38,7 @@ module _ (a b m : SeatState) (alone : IsAlone a) (other : IsAlone b) (joined : m
       space = subst (λ (k : Known). InSpace k.config (s.new).holdings) acting_both s.space;
       held = s.held;
       others = subst (λ ks. EachFits (stepping_pass a).config (stepping_pass a).last (s.new).seen s.held ks) (sym (ap (λ (z : SeatState). others_of z.0.passes) alone)) tt;
-      noted = subst (λ ns. AreNoted (s.new).seen ns) (sym (ap (λ (z : SeatState). z.0.notes) alone)) tt;
+      noted = subst (λ ns. AreBeginnings (s.new).seen ns) (sym (ap (λ (z : SeatState). z.0.notes) alone)) tt;
     }
 
 -- A pass that learns what a note says, while it has it
@@ -62,9 +62,9 @@ module _ (a b m : SeatState) (alone : IsAlone a) (note : IsNote b) (joined : m �
       space = subst (λ (k : Known). InSpace k.config (s.new).holdings) acting_noted s.space;
       held = s.held;
       others = subst (λ ks. EachFits (stepping_pass a).config (stepping_pass a).last (s.new).seen s.held ks) (sym (ap (λ (z : SeatState). others_of z.0.passes) alone)) tt;
-      noted = subst (λ ns. AreNoted (s.new).seen ns) (sym (ap (λ (z : SeatState). z.0.notes) alone)) tt;
+      noted = subst (λ ns. AreBeginnings (s.new).seen ns) (sym (ap (λ (z : SeatState). z.0.notes) alone)) tt;
     }
 
     -- and it has seen all that the note says
     pub learned : IsPrefix (noted_pass b).seen (stepping_pass m').seen
-    learned = subst (λ (k : Known). IsPrefix (noted_pass b).seen k.seen) (sym (ap stepping_pass s.is)) (subst (λ ns. AreNoted (s.new).seen ns) (ap (λ (z : SeatState). z.0.notes) with_note) s.noted).0
+    learned = subst (λ (k : Known). IsPrefix (noted_pass b).seen k.seen) (sym (ap stepping_pass s.is)) (subst (λ ns. AreBeginnings (s.new).seen ns) (ap (λ (z : SeatState). z.0.notes) with_note) s.noted).0

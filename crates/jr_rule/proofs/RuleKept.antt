@@ -19,7 +19,7 @@ use Rattle.jr_rule.specs.Image.{IsImage}
 use Rattle.jr_rule.proofs.HoldingsInSpace.{holdings_in_space}
 use Rattle.jr_rule.proofs.Spaces.{hold_here, hold_else}
 use Rattle.jr_steps.specs.Knowing.{Goes}
-use Rattle.jr_rule.specs.Rule.{view_of, view_with, AreNoted, Fits, EachFits, total, is_of, passes_of, Row, Kept, SeatState, stepping_pass, Tells, known_at, Owes}
+use Rattle.jr_rule.specs.Rule.{view_of, view_with, AreBeginnings, Fits, EachFits, total, is_of, passes_of, Row, Kept, SeatState, stepping_pass, Tells, known_at, Owes}
 
 -- COUNTS OF A LIST
 
@@ -96,7 +96,7 @@ goes_at k log held acts g f legal =
     }
 
 -- what notes say is a beginning of a longer history too
-noted_on : (log more : History) (ns : List Known) → AreNoted log ns → AreNoted (log ++ more) ns
+noted_on : (log more : History) (ns : List Known) → AreBeginnings log ns → AreBeginnings (log ++ more) ns
 noted_on log more [] noted = tt
 noted_on log more (n ∷ ns) noted = (prefix_trans n.seen log (log ++ more) noted.0 (more, refl), noted_on log more ns noted.1)
 
@@ -135,7 +135,7 @@ module _ (c : Config) (last : ℕ) where
             (λ (q : (j ≢ id) × (get_elem? r.views j ≡ some v)). others_fit c last kept.log kept.held t acts g v.passes (far.1 j v q.0 q.1) (kept.each j v q.1))
             (at_set r.views id j w v there);
         noted = λ j v there. ⊎_elim
-            (λ (q : (j ≡ id) × (w ≡ v)). subst (λ (z : View). AreNoted (kept.log ++ map (by t) acts) z.notes) q.1 tt)
+            (λ (q : (j ≡ id) × (w ≡ v)). subst (λ (z : View). AreBeginnings (kept.log ++ map (by t) acts) z.notes) q.1 tt)
             (λ (q : (j ≢ id) × (get_elem? r.views j ≡ some v)). noted_on kept.log (map (by t) acts) v.notes (kept.noted j v q.1))
             (at_set r.views id j w v there);
         once = λ u h. let same = total_at (passes_of u) r.views id (view_with (k ∷ ks) ns) w at in let most = kept.once u h in omega arith;

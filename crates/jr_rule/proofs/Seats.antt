@@ -14,21 +14,21 @@ use Rattle.jr_rule.specs.declared.rule.View.{View}
 use Rattle.jr_steps.specs.declared.known.Holdings.{Holdings}
 use Rattle.jr_steps.specs.Holdings.{empty}
 use Rattle.jr_rule.specs.Image.{IsImage}
-use Rattle.jr_rule.specs.Rule.{known, note_of, view_of, AreNoted, IsSized, EachFits, total, is_of, passes_of, Kept, newcomers, SeatState, first_alone, without_first, together, spent}
+use Rattle.jr_rule.specs.Rule.{known, note_of, view_of, AreBeginnings, IsSized, EachFits, total, is_of, passes_of, Kept, newcomers, SeatState, first_alone, without_first, together, spent}
 use Rattle.jr_rule.proofs.RuleKept.{total_append, total_at}
 
 each_append : (c : Config) (last : ℕ) (log : History) (held : ℕ → Holdings) (ks ls : List Known) → EachFits c last log held ks → EachFits c last log held ls → EachFits c last log held (ks ++ ls)
 each_append c last log held [] ls a b = b
 each_append c last log held (k ∷ ks) ls a b = (a.0, each_append c last log held ks ls a.1 b)
 
-noted_append : (log : History) (ns os : List Known) → AreNoted log ns → AreNoted log os → AreNoted log (ns ++ os)
+noted_append : (log : History) (ns os : List Known) → AreBeginnings log ns → AreBeginnings log os → AreBeginnings log (ns ++ os)
 noted_append log [] os a b = b
 noted_append log (n ∷ ns) os a b = (a.0, noted_append log ns os a.1 b)
 
 module _ (c : Config) (last : ℕ) where
   -- a seat's passes are cut in two, and its notes
   cuts : (id : ℕ) (v left right : View) → ((log : History) (held : ℕ → Holdings) → EachFits c last log held v.passes → EachFits c last log held left.passes × EachFits c last log held right.passes)
-      → ((log : History) (held : ℕ → Holdings) → EachFits c last log held v.passes → AreNoted log v.notes → AreNoted log left.notes × AreNoted log right.notes)
+      → ((log : History) (held : ℕ → Holdings) → EachFits c last log held v.passes → AreBeginnings log v.notes → AreBeginnings log left.notes × AreBeginnings log right.notes)
       → ((t : ℕ) → passes_of t left + passes_of t right ≡ passes_of t v) → Splits (Kept last c) id v left right
   cuts id v left right parts notes counts r kept at = record {
     log = kept.log;
@@ -47,10 +47,10 @@ module _ (c : Config) (last : ℕ) where
         let cut = notes kept.log kept.held (kept.each id v at) (kept.noted id v at) in
         ⊎_elim
         (λ (in_front : get_elem? (slice_set r.views id left) j ≡ some w). ⊎_elim
-        (λ (t : (j ≡ id) × (left ≡ w)). subst (λ (z : View). AreNoted kept.log z.notes) t.1 cut.0)
+        (λ (t : (j ≡ id) × (left ≡ w)). subst (λ (z : View). AreBeginnings kept.log z.notes) t.1 cut.0)
         (λ (t : (j ≢ id) × (get_elem? r.views j ≡ some w)). kept.noted j w t.1)
         (at_set r.views id j left w in_front))
-        (λ (new : right ≡ w). subst (λ (z : View). AreNoted kept.log z.notes) new cut.1)
+        (λ (new : right ≡ w). subst (λ (z : View). AreBeginnings kept.log z.notes) new cut.1)
         (at_snoc (slice_set r.views id left) right w j there);
     once = λ t h.
         let f : View → ℕ = passes_of t in
@@ -90,9 +90,9 @@ module _ (c : Config) (last : ℕ) where
             (at_set r.views id j (together v w) u t.1))
             (at_set (slice_set r.views id (together v w)) other j spent u there');
         noted = λ j u there'. ⊎_elim
-            (λ (t : (j ≡ other) × (spent ≡ u)). subst (λ (z : View). AreNoted kept.log z.notes) t.1 tt)
+            (λ (t : (j ≡ other) × (spent ≡ u)). subst (λ (z : View). AreBeginnings kept.log z.notes) t.1 tt)
             (λ (t : (j ≢ other) × (get_elem? (slice_set r.views id (together v w)) j ≡ some u)). ⊎_elim
-            (λ (q : (j ≡ id) × (together v w ≡ u)). subst (λ (z : View). AreNoted kept.log z.notes) q.1 (noted_append kept.log v.notes w.notes (kept.noted id v at) (kept.noted other w was)))
+            (λ (q : (j ≡ id) × (together v w ≡ u)). subst (λ (z : View). AreBeginnings kept.log z.notes) q.1 (noted_append kept.log v.notes w.notes (kept.noted id v at) (kept.noted other w was)))
             (λ (q : (j ≢ id) × (get_elem? r.views j ≡ some u)). kept.noted j u q.1)
             (at_set r.views id j (together v w) u t.1))
             (at_set (slice_set r.views id (together v w)) other j spent u there');
@@ -138,8 +138,8 @@ module _ (c : Config) (last : ℕ) where
       alone v zero there = subst (λ (z : View). EachFits c last [] (λ t. empty) z.passes) (some-injective _ v there) (newcomers_fit c.threads 0 (omega arith))
       alone v (suc j) there = absurd (some-ne-none v (sym there))
 
-      unnoted : (v : View) (j : ℕ) → get_elem? (view_of (newcomers c last c.threads 0) ∷ []) j ≡ some v → AreNoted [] v.notes
-      unnoted v zero there = subst (λ (z : View). AreNoted [] z.notes) (some-injective _ v there) tt
+      unnoted : (v : View) (j : ℕ) → get_elem? (view_of (newcomers c last c.threads 0) ∷ []) j ≡ some v → AreBeginnings [] v.notes
+      unnoted v zero there = subst (λ (z : View). AreBeginnings [] z.notes) (some-injective _ v there) tt
       unnoted v (suc j) there = absurd (some-ne-none v (sym there))
 
   -- the next of the newcomers

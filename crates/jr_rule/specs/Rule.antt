@@ -52,9 +52,9 @@ EachFits c last log held [] = Unit {0}
 EachFits c last log held (k ∷ ks) = Fits c last log held k × EachFits c last log held ks
 
 -- A NOTE says what a pass had seen: a beginning of the history
-abbrev pub AreNoted : History → List Known → Type 0
-AreNoted log [] = Unit {0}
-AreNoted log (n ∷ ns) = IsPrefix n.seen log × AreNoted log ns
+abbrev pub AreBeginnings : History → List Known → Type 0
+AreBeginnings log [] = Unit {0}
+AreBeginnings log (n ∷ ns) = IsPrefix n.seen log × AreBeginnings log ns
 
 abbrev pub total : {A : Type 0} → (A → ℕ) → List A → ℕ
 total f [] = 0
@@ -78,7 +78,7 @@ pub record Kept (last : ℕ) (c : Config) (r : Row) : Type 0 where
   pub sized : IsSized c last
   pub image : IsImage c last r.words (state log) held
   pub each : (j : ℕ) (v : View) → get_elem? r.views j ≡ some v → EachFits c last log held v.passes
-  pub noted : (j : ℕ) (v : View) → get_elem? r.views j ≡ some v → AreNoted log v.notes
+  pub noted : (j : ℕ) (v : View) → get_elem? r.views j ≡ some v → AreBeginnings log v.notes
   pub once : (t : ℕ) → t < c.threads → total (passes_of t) r.views ≡ 1
 
 -- AT THE OPENING the one seat stands for all passes, of so many threads from t on, which have seen nothing
@@ -138,7 +138,7 @@ pub record Tells (told : Known → ℕ → List Act → Known → Type 0) (m : S
   pub space : InSpace (stepping_pass m).config new.holdings
   pub held : ℕ → Holdings
   pub others : EachFits (stepping_pass m).config (stepping_pass m).last new.seen held (others_of m.0.passes)
-  pub noted : AreNoted new.seen m.0.notes
+  pub noted : AreBeginnings new.seen m.0.notes
 
 -- a pass has looked at the gate, beside others that meet it
 abbrev pub Met : Known → ℕ → List Act → Known → Type 0

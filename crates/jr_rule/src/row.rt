@@ -169,6 +169,7 @@ impl Row {
     fn gather(&self, seat: &mut Seat<(), View>, mut others: Vec<Pass>)
         requires room { seat.old.table_id ≡ self.now.table.shared.table_id }
         requires slots { seat.old.me.1 ≡ [] }
+        requires notes { seat.old.me.0.notes ≡ [] }
         requires others { All (λ p. IsAt self.now p) others.items }
         ensures room { seat.new.table_id ≡ seat.old.table_id }
         ensures all { seat.new.me ≡ (view_of (seat.old.me.0.passes ++ map known_of others.items), []) }

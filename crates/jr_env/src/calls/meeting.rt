@@ -1,14 +1,14 @@
-//! The meeting of an env with another pass of its room, or with another env.
+//! The meeting of an env with another pass of its room, or with another env; and what an env had seen, noted and learned.
 ghost use Rattle.std.specs.Prelude.{◌≡◌, [], ◌∷◌};
 ghost use Rattle.jr_model.specs.declared.event.Act.TheVariants.{Meet};
 ghost use Rattle.jr_model.specs.History.{HasMet};
 ghost use Rattle.jr_steps.specs.Knowing.{view, anything, Took, keeps};
 ghost use Rattle.jr_rule.specs.Passes.{facts_of, known_of, IsSame};
 ghost use Rattle.jr_rule.specs.Rule.{stepping_pass};
-ghost use Rattle.jr_rule.specs.Rooms.{AreAsBefore, AreInOneRoom, IsOfRoom, holder_over};
+ghost use Rattle.jr_rule.specs.Rooms.{AreAsBefore, AreInOneRoom, IsNoteIn, IsOfRoom, Learned, WasNoted, holder_over};
 
 use crate::env::Env;
-use jr_rule::{Pass, RoomSteps};
+use jr_rule::{Note, Pass, RoomSteps};
 
 impl<const LAST: u32> Env<RoomSteps<'_, LAST>> {
     /// Learns all that the holder of another pass of the room has seen, which gets its pass back as it was. The local references stay as they are. An env in a room alone has this call.
@@ -44,5 +44,35 @@ impl<const LAST: u32> Env<RoomSteps<'_, LAST>> {
         let held = &mut self.held;
         let theirs = &mut other.held;
         held.steps.meet_steps(&mut theirs.steps);
+    }
+
+    /// A note of all that the env's thread has seen until now, to be handed to another thread of the room by whatever way: a channel, a lock, a join. It is no pass: no collection and no close waits for it, and it may be let go. The env stays as it was. An env in a room alone has this call.
+    ///
+    /// # Operations
+    ///
+    /// None that a clause counts: the note leaves the thread's seat by a load of the gate.
+    pub fn note(&mut self) -> Note
+        ensures same { AreAsBefore self.old.held.steps self.new.held.steps × (self.new.held.frames ≡ self.old.held.frames) × (self.new.numbers ≡ self.old.numbers) }
+        ensures room { IsNoteIn self.old.held.steps.place.now result }
+        ensures note { WasNoted self.old.held.steps result }
+    {
+        let held = &mut self.held;
+        held.steps.note()
+    }
+
+    /// Learns all that a note of the room says: what its thread had seen, this one has seen then. So a reference that was made before the note was is found here, unless somebody has deleted it since. The local references stay as they are. An env in a room alone has this call.
+    ///
+    /// # Operations
+    ///
+    /// One, a load of the gate. The note joins the thread's seat for it, by a load of the gate that no clause counts.
+    pub fn learn(&mut self, note: Note)
+        requires { IsNoteIn self.old.held.steps.place.now note }
+        ensures room { self.new.held.steps.place ≡ self.old.held.steps.place }
+        ensures step { Took facts_of (holder_over self.old.held.steps) (holder_over self.new.held.steps) (Meet ∷ []) anything keeps }
+        ensures learned { Learned note self.new.held.steps }
+        ensures frames { self.new.held.frames ≡ self.old.held.frames }
+    {
+        let held = &mut self.held;
+        held.steps.learn(note);
     }
 }

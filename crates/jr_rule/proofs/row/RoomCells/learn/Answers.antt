@@ -1,9 +1,8 @@
 use Rattle.std.proofs.Common.{rules, ap}
 use Rattle.jr_rule.specs.Rule.{Met, SeatState}
 use Rattle.jr_rule.proofs.GateOwed.{meets}
-use Rattle.jr_rule.proofs.Meeting.{learned, told_noted, with_note}
+use Rattle.jr_rule.proofs.Meeting.{with_note}
 use Rattle.jr_rule.proofs.RuleKept.{plays}
-use Rattle.jr_rule.proofs.SeatStepped.{seat_next}
 use Rattle.jr_rule.proofs.Seats.{gathers}
 use Rattle.jr_rule.proofs.row.RoomCells.learn.Goals as goal
 

@@ -5,7 +5,7 @@ use Rattle.std.proofs.lemmas.List.Elements.{All-head, All-tail}
 use Rattle.jr_steps.specs.declared.known.Known.{Known}
 use Rattle.jr_rule.specs.declared.pass.Pass.{Pass}
 use Rattle.jr_rule.specs.declared.row.Row.{Row}
-use Rattle.jr_rule.specs.Rule.{SeatState, view_of, together}
+use Rattle.jr_rule.specs.Rule.{SeatState, view_of, view_with, together}
 use Rattle.jr_rule.specs.Passes.{known_of, IsAt}
 use Rattle.jr_rule.proofs.Seats.{gathers}
 use Rattle.jr_rule.proofs.row.Row.gather.Goals as goal
@@ -35,10 +35,10 @@ joined m m' p xs ys ks e first so =
     ∙ (ap (λ zs. m.0.passes ++ map known_of zs) (sym first) ∙ so)))
 
 -- all sit there
-all_joined : (m : SeatState) (xs : List Pass) (ks : List Known) → m.1 ≡ [] → xs ≡ [] → m.0.passes ++ map known_of xs ≡ ks → m ≡ (view_of ks, [])
-all_joined m xs ks none left so =
+all_joined : (m : SeatState) (xs : List Pass) (ks : List Known) → m.1 ≡ [] → m.0.notes ≡ [] → xs ≡ [] → m.0.passes ++ map known_of xs ≡ ks → m ≡ (view_of ks, [])
+all_joined m xs ks none unnoted left so =
     let here : m.0.passes ≡ ks = sym (append-nil m.0.passes) ∙ (ap (λ ys. m.0.passes ++ map known_of ys) (sym left) ∙ so) in
-    λ i. (view_of (here i), none i)
+    λ i. (view_with (here i) (unnoted i), none i)
 
 pub join_seat-requires : goal.join_seat-requires
 join_seat-requires c =
@@ -53,6 +53,7 @@ loop-others-preserved c =
     let first = taken c.loop-others.others.items c.remove-other.new.self.items c.remove-other.result (search rules) c.remove-other.ensures.value c.remove-other.ensures.items in record {
       room = c.join_seat.ensures.0 ∙ inv.room;
       slots = ap (λ (m : SeatState). m.1) c.join_seat.ensures.2 ∙ inv.slots;
+      notes = ap (λ (m : SeatState). m.0.notes) c.join_seat.ensures.2 ∙ ap (λ (z : List Known × List Known). z.0 ++ z.1) (λ i. (inv.notes i, ap (λ (m : SeatState). m.0.notes) c.remove-other.result.held.alone i));
       all = joined c.loop-others.seat.me c.join_seat.new.seat.me c.remove-other.result c.loop-others.others.items c.remove-other.new.self.items _ c.join_seat.ensures.2 first inv.all;
       at = at_rest c.args.self.now c.loop-others.others.items c.remove-other.new.self.items c.remove-other.result first inv.at;
     }
@@ -61,5 +62,5 @@ pub returns : goal.returns
 returns c =
     let inv = c.loop-others.invariant in record {
       room = search rules;
-      all = all_joined c.loop-others.seat.me c.loop-others.others.items _ inv.slots (none_left c.loop-others.others.items (search rules)) inv.all;
+      all = all_joined c.loop-others.seat.me c.loop-others.others.items _ inv.slots inv.notes (none_left c.loop-others.others.items (search rules)) inv.all;
     }

@@ -7,6 +7,7 @@ abbrev pub invariant-loop-others : goal.invariant-loop-others
 invariant-loop-others l = record {
   room : l.seat.table_id ≡ l.self.table.shared.table_id;
   slots : l.seat.me.1 ≡ [];
+  notes : l.seat.me.0.notes ≡ [];
   all : l.seat.me.0.passes ++ map known_of l.others.items ≡ l.fn.seat.me.0.passes ++ map known_of l.fn.others.items;
   at : All (λ p. IsAt l.self p) l.others.items;
 }
