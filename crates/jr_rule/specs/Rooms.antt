@@ -1,5 +1,5 @@
 -- What a room gives, and what it tells when it closes.
-use Rattle.std.specs.Prelude.{◌≡◌, ◌≤◌, ℕ, List, [], ◌∷◌}
+use Rattle.std.specs.Prelude.{◌≡◌, ◌≤◌, ℕ, List, [], ◌∷◌, Some}
 use mathlib.Core.List.{IsPrefix}
 use Rattle.jr_word.specs.declared.config.Config.{Config}
 use Rattle.jr_word.specs.declared.fault.Fault.TheVariants.{LeftInside}
@@ -41,9 +41,9 @@ pub record AreAsBefore {P : Type 0} {G : Ghosts RoomCells P} (old new : StepsOve
   pub fresh : new.fresh ≡ old.fresh
   pub hint : new.hint ≡ old.hint
 
--- THE NOTE IS ONE OF THE ROOM'S OWN
-abbrev pub IsNoteIn : {LAST : ℕ} → Room LAST → Note → Type 0
-IsNoteIn r n = n.seat.table_id ≡ r.row.table.shared.table_id
+-- THE NOTE IS OF THE ROOM in which one steps, by the standing
+abbrev pub IsNoteThere : {P : Type 0} {G : Ghosts RoomCells P} → StepsOver RoomCells P G → Note → Type 0
+IsNoteThere s n = (facts_of (holder_over s)).stands.room ≡ Some n.seat.table_id
 
 -- what the note says was seen
 abbrev pub seen_by_note : Note → History

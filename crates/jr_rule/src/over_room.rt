@@ -15,7 +15,7 @@ impl<'a, const LAST: u32> StepsOver<RoomCells, &'a Room<LAST>> {
     ghost use Rattle.jr_steps.specs.Knowing.{view, anything, Goes, Took, keeps};
     ghost use Rattle.jr_rule.specs.Passes.{facts_of, holder_of, known_of, IsSame};
     ghost use Rattle.jr_rule.specs.Rule.{stepping_pass};
-    ghost use Rattle.jr_rule.specs.Rooms.{AreAsBefore, AreInOneRoom, IsNoteIn, IsOfRoom, Learned, WasNoted, holder_over};
+    ghost use Rattle.jr_rule.specs.Rooms.{AreAsBefore, AreInOneRoom, IsNoteThere, IsOfRoom, Learned, WasNoted, holder_over};
 
     /// The steps of a pass in its own room. That the pass is one of the room's is a condition: it has no bytes that name its room.
     pub fn new(room: &'a Room<LAST>, pass: Pass) -> Self
@@ -105,7 +105,7 @@ impl<'a, const LAST: u32> StepsOver<RoomCells, &'a Room<LAST>> {
     /// None that a clause counts: the note leaves the thread's seat by a load of the gate.
     pub fn note(&mut self) -> Note
         ensures same { AreAsBefore self.old self.new }
-        ensures room { IsNoteIn self.old.place.now result }
+        ensures room { IsNoteThere self.new result }
         ensures note { WasNoted self.old result }
     {
         let seat = self.cells.note(self.place);
@@ -118,7 +118,7 @@ impl<'a, const LAST: u32> StepsOver<RoomCells, &'a Room<LAST>> {
     ///
     /// One, a load of the gate. The note joins the thread's seat for it, by a load of the gate that no clause counts.
     pub fn learn(&mut self, note: Note)
-        requires { IsNoteIn self.old.place.now note }
+        requires { IsNoteThere self.old note }
         ensures room { self.new.place ≡ self.old.place }
         ensures step { Took facts_of (holder_over self.old) (holder_over self.new) (Meet ∷ []) anything keeps }
         ensures learned { Learned note self.new }

@@ -5,7 +5,7 @@ ghost use Rattle.jr_model.specs.History.{HasMet};
 ghost use Rattle.jr_steps.specs.Knowing.{view, anything, Took, keeps};
 ghost use Rattle.jr_rule.specs.Passes.{facts_of, known_of, IsSame};
 ghost use Rattle.jr_rule.specs.Rule.{stepping_pass};
-ghost use Rattle.jr_rule.specs.Rooms.{AreAsBefore, AreInOneRoom, IsNoteIn, IsOfRoom, Learned, WasNoted, holder_over};
+ghost use Rattle.jr_rule.specs.Rooms.{AreAsBefore, AreInOneRoom, IsNoteThere, IsOfRoom, Learned, WasNoted, holder_over};
 
 use crate::env::Env;
 use jr_rule::{Note, Pass, RoomSteps};
@@ -53,7 +53,7 @@ impl<const LAST: u32> Env<RoomSteps<'_, LAST>> {
     /// None that a clause counts: the note leaves the thread's seat by a load of the gate.
     pub fn note(&mut self) -> Note
         ensures same { AreAsBefore self.old.held.steps self.new.held.steps × (self.new.held.frames ≡ self.old.held.frames) × (self.new.numbers ≡ self.old.numbers) }
-        ensures room { IsNoteIn self.old.held.steps.place.now result }
+        ensures room { IsNoteThere self.new.held.steps result }
         ensures note { WasNoted self.old.held.steps result }
     {
         let held = &mut self.held;
@@ -66,7 +66,7 @@ impl<const LAST: u32> Env<RoomSteps<'_, LAST>> {
     ///
     /// One, a load of the gate. The note joins the thread's seat for it, by a load of the gate that no clause counts.
     pub fn learn(&mut self, note: Note)
-        requires { IsNoteIn self.old.held.steps.place.now note }
+        requires { IsNoteThere self.old.held.steps note }
         ensures room { self.new.held.steps.place ≡ self.old.held.steps.place }
         ensures step { Took facts_of (holder_over self.old.held.steps) (holder_over self.new.held.steps) (Meet ∷ []) anything keeps }
         ensures learned { Learned note self.new.held.steps }
