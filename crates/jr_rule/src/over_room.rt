@@ -114,6 +114,8 @@ impl<'a, const LAST: u32> StepsOver<RoomCells, &'a Room<LAST>> {
 
     /// Learns all that a note of the room says: whatever its thread had seen, this one has seen then. That is no event of the machine.
     ///
+    /// So a reference that stood where the note was made stands here, unless somebody has deleted it since: a global one with its object, a weak one with it, or cleared (the law `references_stand_until_deleted` of `jr_model`, of the history up to the note and of that up to here).
+    ///
     /// # Operations
     ///
     /// One, a load of the gate. The note joins the thread's seat for it, by a load of the gate that no clause counts.

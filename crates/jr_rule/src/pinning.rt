@@ -41,7 +41,7 @@ impl<'a, const LAST: u32> StepsOver<RoomCells, &'a Room<LAST>> {
         self.note().pin()
     }
 
-    /// Learns all that a pinned note of the room says, as `learn` does, and leaves it pinned; or answers false, where another thread was just taking its copy. Nobody waits, and there is no lock: these steps are then as they were, and the call may be made again. It is no event of the machine.
+    /// Learns all that a pinned note of the room says, as `learn` does, and leaves it pinned; or answers false, where another thread was just taking its copy. Nobody waits, and there is no lock: these steps are then as they were, and the call may be made again. Each call learns, also where this thread has learned the note before.
     ///
     /// # Operations
     ///

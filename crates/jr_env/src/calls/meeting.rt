@@ -60,7 +60,9 @@ impl<const LAST: u32> Env<RoomSteps<'_, LAST>> {
         held.steps.note()
     }
 
-    /// Learns all that a note of the room says: what its thread had seen, this one has seen then. So a reference that was made before the note was is found here, unless somebody has deleted it since. It is no event of the machine. The local references stay as they are. An env in a room alone has this call.
+    /// Learns all that a note of the room says: what its thread had seen, this one has seen then. That is no event of the machine. The local references stay as they are. An env in a room alone has this call.
+    ///
+    /// So a reference that stood where the note was made stands here, unless somebody has deleted it since: a global one with its object, a weak one with it, or cleared (the law `references_stand_until_deleted`).
     ///
     /// # Operations
     ///
