@@ -1,7 +1,7 @@
 //! What an embedder names, from one crate: the room, its passes and steps, the env with its calls, and what these answer.
 #![tactic(auto)]
 
-pub use jr_census::{Census, KindCounts, Objects, Slots};
+pub use jr_census::{Census, KindCounts, Objects, Slots, Words};
 pub use jr_elements::Elements;
 pub use jr_env::{Env, EnvCall, LocalFrames, Region, Scoped, Stay, calls, with_local_frame};
 pub use jr_model::{Mode, Summary};

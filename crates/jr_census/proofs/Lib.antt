@@ -2,5 +2,6 @@ pub mod Turns
 pub mod SlotsCounted
 pub mod HeadersCounted
 pub mod LocalsCounted
+pub mod WordsCounted
 pub mod Dumped
 pub mod Takes

@@ -17,7 +17,7 @@ use Rattle.jr_model.proofs.Windows.{window_stay, stepped_last}
 use Rattle.jr_steps.specs.Says.{SaysOfSlot}
 use Rattle.jr_steps.specs.declared.known.Known.{Known}
 use Rattle.jr_steps.specs.declared.known.Holdings.{Holdings}
-use Rattle.jr_steps.specs.Knowing.{AreOf, Facts, Goes, Took, CanReopen, IsClosedNow, anything, lets_go, standing_after, state_of, view}
+use Rattle.jr_steps.specs.Knowing.{AreOf, Facts, Goes, Took, CanReopen, IsClosedNow, ShowsUsed, anything, lets_go, standing_after, state_of, view}
 use Rattle.jr_steps.proofs.CollectorFacts.{tables_seen}
 use Rattle.jr_steps.proofs.StepFacts.{goes_stepped}
 use Rattle.jr_compact.specs.Counting.{SawWithin, TakesWithin}
@@ -25,20 +25,17 @@ use Rattle.jr_weak.specs.Counting.{marking_steps}
 use Rattle.jr_weak.specs.Marking.{IsMarkedNow}
 use Rattle.jr_weak.specs.Marks.{IsExactly}
 use Rattle.jr_weak.proofs.Collects.{same_back, sees_did, shut_tables}
-use Rattle.jr_weak.proofs.Leading.{reached_on}
 use Rattle.jr_census.specs.Dumps.{HasObjects, HasSlots, KeepsNumber}
 use Rattle.jr_census.specs.declared.taking.Census.{Census}
 use Rattle.jr_census.specs.declared.slots.Slots.{Slots}
 use Rattle.jr_census.specs.declared.objects.Objects.{Objects as ObjectCounts}
-use Rattle.jr_census.specs.Counts.{AreLocals, AreObjects, AreSlots, unmarked}
+use Rattle.jr_census.specs.declared.words.Words.{Words}
+use Rattle.jr_census.specs.Counts.{AreLocals, AreObjects, AreSlots, HaveWords, unmarked}
 use Rattle.jr_census.specs.Taking.{Counts, IsCensusOf, IsDumpOf, IsTold, Notes, ShutIn, TakesTold, TellsOnce, ToldFrom, counting_steps, noting_steps}
 use Rattle.jr_census.specs.Telling.{LoadsTell}
 use Rattle.jr_census.proofs.SlotsCounted.{slots_on}
 use Rattle.jr_census.proofs.Turns.{told_then}
-
--- marked means reached in the same tables, too
-exactly_on : (marks : List Bool) {s t : State} → HaveSameTables s t → IsExactly marks s → IsExactly marks t
-exactly_on marks same e o = ((λ m. reached_on same o ((e o).0 m)), (λ r. (e o).1 (reached_on (same_back same) o r)))
+use Rattle.jr_census.proofs.WordsCounted.{exactly_on, words_from, words_on}
 
 -- the same is told of the same tables
 pub census_on : (c : Config) (last : ℕ) (x : Census) {s t : State} → HaveSameTables s t → IsCensusOf c last t x → IsCensusOf c last s x
@@ -47,6 +44,7 @@ census_on c last x {s} {t} same told = record {
   locals = subst (λ (f : ℕ → ℕ → Option ℕ). AreLocals c.locals f x.locals) same.locals told.locals;
   objects = subst (λ (f : ℕ → Option Contents). AreObjects c.objects f x.objects) same.objects told.objects;
   unreached = let u = told.unreached in (u.0, exactly_on u.0 (same_back same) u.1, subst (λ (f : ℕ → Option Contents). AreObjects c.objects (unmarked u.0 f) x.unreached) same.objects u.2);
+  words = words_on c x.words (same_back same) told.words;
 }
 
 -- where the gate was shut
@@ -114,7 +112,7 @@ tells_once {facts = facts} fits {b} most tells on collecting told opened = recor
       );
 }
 
--- what is so once the objects are marked, once the slots are counted, too, and once the objects are
+-- what is so once the objects are marked, once the slots are counted, too, once the objects are, and once the local references are
 abbrev pub Marked : List Bool → Known → Type 0
 Marked marks k = IsExactly marks (state_of k)
 
@@ -123,6 +121,9 @@ WithSlots marks slots k = Marked marks k × AreSlots k.config.slots k.last (stat
 
 abbrev pub WithObjects : List Bool → Slots → ObjectCounts → ObjectCounts → Known → Type 0
 WithObjects marks slots x y k = WithSlots marks slots k × AreObjects k.config.objects (state_of k).objects x × AreObjects k.config.objects (unmarked marks (state_of k).objects) y
+
+abbrev pub WithLocals : List Bool → Slots → ObjectCounts → ObjectCounts → List ℕ → Known → Type 0
+WithLocals marks slots x y locals k = WithObjects marks slots x y k × AreLocals k.config.locals (state_of k).locals locals
 
 pub marks_told : {S : Type 0} {facts : S → Facts} {b c : S} (marks : List Bool) → SawWithin facts (λ j. marking_steps j.config) b c CanReopen (λ j k. IsMarkedNow marks k) → LoadsTell facts (λ j. marking_steps j.config) b c (Marked marks)
 marks_told marks marked = record { stands_is = marked.stands_is; hint_is = marked.hint_is; leads = λ k s can. let z = marked.leads k s can in (z.0, z.1, z.2, (z.3.1, z.3.0)) }
@@ -145,18 +146,33 @@ module _ {S : Type 0} {facts : S → Facts} (fits : AreOf facts) (marks : List B
     is.1,
   ))
 
+  pub with_locals : LoadsTell facts (λ j. marking_steps j.config + (j.config.slots + j.config.objects + j.config.threads * j.config.locals)) b f (WithLocals marks slots x y locals)
+  with_locals = told_then fits (λ j. marking_steps j.config + (j.config.slots + j.config.objects + j.config.threads * j.config.locals)) collecting with_objects locals_told (λ k k' same config. let z = more_loads (λ c. marking_steps c + c.slots + c.objects) (λ c. c.threads * c.locals) k k' config in omega (arith, z)) (λ k k' s same config last was is. (
+    (
+      (exactly_on marks same was.0.0, subst (λ (z : Config × ℕ). AreSlots (z.0).slots z.1 (state_of k') slots) (λ j. (sym config j, sym last j)) (slots_on k.config.slots k.last slots same was.0.1)),
+      subst (λ (z : Config × (ℕ → Option Contents)). AreObjects (z.0).objects z.1 x) (λ j. (sym config j, sym same.objects j)) was.1,
+      subst (λ (z : Config × (ℕ → Option Contents)). AreObjects (z.0).objects (unmarked marks z.1) y) (λ j. (sym config j, sym same.objects j)) was.2,
+    ),
+    is,
+  ))
+
   -- all counts are of one state
-  pub all_told : LoadsTell facts (λ j. counting_steps j.config) b f (λ k. IsCensusOf k.config k.last (state_of k) (record { slots = slots; locals = locals; objects = x; unreached = y }))
-  all_told = told_then fits (λ j. counting_steps j.config) collecting with_objects locals_told (λ k k' same config. let z = more_loads (λ c. marking_steps c + c.slots + c.objects) (λ c. c.threads * c.locals) k k' config in omega (arith, z)) (λ k k' s same config last was is. record {
-    slots = subst (λ (z : Config × ℕ). AreSlots (z.0).slots z.1 (state_of k') slots) (λ j. (sym config j, sym last j)) (slots_on k.config.slots k.last slots same was.0.1);
-    locals = is;
-    objects = subst (λ (z : Config × (ℕ → Option Contents)). AreObjects (z.0).objects z.1 x) (λ j. (sym config j, sym same.objects j)) was.1;
-    unreached = (marks, exactly_on marks same was.0.0, subst (λ (z : Config × (ℕ → Option Contents)). AreObjects (z.0).objects (unmarked marks z.1) y) (λ j. (sym config j, sym same.objects j)) was.2);
-  })
+  pub all_told : {v : S} (words : Words) → LoadsTell facts (λ j. 1) f v (λ k. HaveWords x.words y.words words × ShowsUsed words.used k) → LoadsTell facts (λ j. counting_steps j.config) b v (λ k. IsCensusOf k.config k.last (state_of k) (record { slots = slots; locals = locals; objects = x; unreached = y; words = words }))
+  all_told words top_told = told_then fits (λ j. counting_steps j.config) collecting with_locals top_told (λ k k' same config. omega arith) (λ k k' s same config last was is.
+      let exactly = exactly_on marks same was.0.0.0 in
+      let present = subst (λ (z : Config × (ℕ → Option Contents)). AreObjects (z.0).objects z.1 x) (λ j. (sym config j, sym same.objects j)) was.0.1 in
+      let unreached = subst (λ (z : Config × (ℕ → Option Contents)). AreObjects (z.0).objects (unmarked marks z.1) y) (λ j. (sym config j, sym same.objects j)) was.0.2 in
+      record {
+        slots = subst (λ (z : Config × ℕ). AreSlots (z.0).slots z.1 (state_of k') slots) (λ j. (sym config j, sym last j)) (slots_on k.config.slots k.last slots same was.0.0.1);
+        locals = subst (λ (z : Config × (ℕ → ℕ → Option ℕ)). AreLocals (z.0).locals z.1 locals) (λ j. (sym config j, sym same.locals j)) was.1;
+        objects = present;
+        unreached = (marks, exactly, unreached);
+        words = words_from k'.config (state_of k') marks x y words exactly present unreached is.0 (sym is.1);
+      })
 
   -- THE STATE WAS COUNTED, and the gate opened
-  pub counts : {z : S} → Took facts f z (Gate Reopen ∷ []) CanReopen lets_go → Counts facts b z (record { slots = slots; locals = locals; objects = x; unreached = y })
-  counts {z} opened = let census : Census = record { slots = slots; locals = locals; objects = x; unreached = y } in tells_once fits counting_steps (λ c last s. IsCensusOf c last s census) (λ c last s t same told. census_on c last census same told) collecting all_told opened
+  pub counts : {v z : S} (words : Words) → LoadsTell facts (λ j. 1) f v (λ k. HaveWords x.words y.words words × ShowsUsed words.used k) → Took facts v z (Gate Reopen ∷ []) CanReopen lets_go → Counts facts b z (record { slots = slots; locals = locals; objects = x; unreached = y; words = words })
+  counts words top_told opened = let census : Census = record { slots = slots; locals = locals; objects = x; unreached = y; words = words } in tells_once fits counting_steps (λ c last s. IsCensusOf c last s census) (λ c last s t same told. census_on c last census same told) collecting (all_told words top_told) opened
 
 module _ {S : Type 0} (facts : S → Facts) {a b z : S} (most : Config → ℕ) (tells : Config → ℕ → State → Type 0) (on : IsOfTables tells) (outside : (facts a).stands.role ≡ Outside)
     (shut : Took facts a b (Gate Shut ∷ []) anything (λ j k. IsClosedNow k × lets_go j k)) (rest : TellsOnce facts most tells b z) where

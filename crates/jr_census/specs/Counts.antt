@@ -1,5 +1,6 @@
 -- What a census tells, as counts over the state of the machine.
 use Rattle.std.specs.Prelude.{◌≡◌, ◌+◌, ◌<◌, ◌≤◌, ◌==◌, ◌&&◌, ◌||◌, ◌^◌, ℕ, Bool, true, false, not, Option, Some, None, is_some, List, slice_index_or}
+use Rattle.jr_word.specs.declared.config.Config.{Config}
 use Rattle.jr_word.specs.declared.handle.RefKind.{RefKind}
 use Rattle.jr_word.specs.declared.handle.RefKind.TheVariants.{Global, Weak}
 use Rattle.jr_word.specs.declared.header.HeaderParts.{HeaderParts}
@@ -13,10 +14,12 @@ use Rattle.jr_word.specs.Kind.{kind_code}
 use Rattle.jr_model.specs.declared.event.Found.{Found}
 use Rattle.jr_model.specs.declared.event.Found.TheVariants.{Cleared}
 use Rattle.jr_model.specs.Maps.{sum_below, count_below}
-use Rattle.jr_model.specs.State.{Handle, Contents, State, is_there, length_of}
+use Rattle.jr_model.specs.State.{Handle, Contents, State, is_there, length_of, present_words}
+use Rattle.jr_weak.specs.Marks.{IsExactly}
 use Rattle.jr_census.specs.declared.slots.Slots.{Slots}
 use Rattle.jr_census.specs.declared.objects.KindCounts.{KindCounts}
 use Rattle.jr_census.specs.declared.objects.Objects.{Objects as ObjectCounts}
+use Rattle.jr_census.specs.declared.words.Words.{Words}
 
 -- a reference stands that is cleared
 abbrev pub is_cleared : Found → Bool
@@ -82,6 +85,21 @@ unless false x = x
 abbrev pub unmarked : List Bool → (ℕ → Option Contents) → ℕ → Option Contents
 unmarked marks objects o = unless (slice_index_or marks o false) (objects o)
 
+-- the objects that are marked
+abbrev pub marked : List Bool → (ℕ → Option Contents) → ℕ → Option Contents
+marked marks objects o = unless (not (slice_index_or marks o false)) (objects o)
+
+-- SO MANY WORDS THE OBJECTS HAVE THAT ARE REACHED: those that are marked, where marked means reached; they are the words that are used once all others are dropped and the top is set
+abbrev pub AreReached : Config → State → ℕ → Type 0
+AreReached c s n = (marks : List Bool) × IsExactly marks s × (n ≡ present_words c (record s { objects = marked marks s.objects }))
+
+-- SO MANY WORDS ARE USED, so many of them no present object has, so many have the objects that are reached, and so many are the others, which a collection frees
+pub record AreUsedWords (c : Config) (s : State) (x : Words) : Type 0 where
+  pub used : x.used ≡ s.used
+  pub lost : x.lost + present_words c s ≡ s.used
+  pub reached : AreReached c s x.reached
+  pub freed : x.freed + x.reached ≡ s.used
+
 -- For the crate's own functions: none of the counts is more than this
 pub record AreFew (n : ℕ) (x : Slots) : Type 0 where
   pub globals : x.globals ≤ n
@@ -129,3 +147,9 @@ pub record IsRoomFor (h : Option HeaderParts) (x : ObjectCounts) : Type 0 where
   pub kinds : (kind : Kind) → count_of x.kinds kind ≤ 65535
   pub live : x.live ≤ 65535
   pub words : x.words + header_words h < 2 ^ 32
+
+-- For the crate's own functions: the words that are used, of which the present objects have so many, and those that nothing reaches so many
+pub record HaveWords (present unreached : ℕ) (x : Words) : Type 0 where
+  pub lost : x.lost + present ≡ x.used
+  pub reached : x.reached + unreached ≡ present
+  pub freed : x.freed + x.reached ≡ x.used

@@ -17,7 +17,7 @@ use Rattle.jr_weak.specs.Marks.{IsExactly}
 use Rattle.jr_census.specs.declared.taking.Census.{Census}
 use Rattle.jr_census.specs.Dumps.{HasObjects, HasSlots}
 use Rattle.jr_census.specs.declared.objects.Objects.{Objects}
-use Rattle.jr_census.specs.Counts.{AreSlots, AreLocals, AreObjects, unmarked}
+use Rattle.jr_census.specs.Counts.{AreSlots, AreLocals, AreObjects, AreUsedWords, unmarked}
 
 -- SO MANY OBJECTS ARE PRESENT THAT NOTHING REACHES, with the numbers up to n: those but the ones that are marked, where marked means reached
 abbrev pub AreUnreached : ℕ → State → Objects → Type 0
@@ -29,6 +29,7 @@ pub record IsCensusOf (c : Config) (last : ℕ) (s : State) (x : Census) : Type 
   pub locals : AreLocals c.locals s.locals x.locals
   pub objects : AreObjects c.objects s.objects x.objects
   pub unreached : AreUnreached c.objects s x.unreached
+  pub words : AreUsedWords c s x.words
 
 -- THE DUMP IS THE STATE'S: each slot and each object number is kept as it stands there
 pub record IsDumpOf (c : Config) (last : ℕ) (s : State) (noted : List SlotParts) (headers : List (Option HeaderParts)) (words : List ℕ) : Type 0 where
@@ -48,9 +49,9 @@ pub record IsTold (old new : PassView) (tells : Config → ℕ → State → Typ
   pub shut : ShutIn old new
   pub told : tells old.config old.last (state shut.before)
 
--- the operations of a census, but two at the gate: those of marking, a look at each slot, at each header, and at each local place of each thread
+-- the operations of a census, but two at the gate: those of marking, a look at each slot, at each header, and at each local place of each thread, and one at the top
 abbrev pub counting_steps : Config → ℕ
-counting_steps c = marking_steps c + (c.slots + c.objects + c.threads * c.locals)
+counting_steps c = marking_steps c + (c.slots + c.objects + c.threads * c.locals) + 1
 
 -- those of a dump: a look at each slot, at each header, and at each word of the space
 abbrev pub noting_steps : Config → ℕ

@@ -7,8 +7,10 @@ mod locals;
 mod objects;
 mod slots;
 mod taking;
+mod words;
 
 pub use dumping::take_dump;
 pub use objects::{KindCounts, Objects};
 pub use slots::Slots;
 pub use taking::{Census, take_census};
+pub use words::Words;

@@ -11,6 +11,7 @@ ghost use Rattle.jr_census.specs.Taking.{Counts, TakesCensus};
 use crate::locals::count_locals;
 use crate::objects::{Objects, count_objects};
 use crate::slots::{Slots, count_slots};
+use crate::words::{Words, count_words};
 use jr_gate::{Shut, shut_gate};
 use jr_steps::Steps;
 use jr_weak::Marker;
@@ -27,9 +28,11 @@ pub struct Census {
     pub objects: Objects,
     /// Those of them that nothing reaches: what a collection would drop.
     pub unreached: Objects,
+    /// The words of array space that are used, and what for.
+    pub words: Words,
 }
 
-/// LoadsTell what stands in the room at the step that shuts the gate for it, and opens the gate again. It changes nothing, takes no memory, and never waits. The marker, made for a room of so many objects, is for what nothing reaches, and serves again. The thread has to stand outside.
+/// Tells what stands in the room at the step that shuts the gate for it, and opens the gate again. It changes nothing, takes no memory, and never waits. The marker, made for a room of so many objects, is for what nothing reaches, and serves again. The thread has to stand outside.
 ///
 /// # Errors
 ///
@@ -39,7 +42,7 @@ pub struct Census {
 ///
 /// # Operations
 ///
-/// One where it is refused. Else those of `mark`, a look at each slot, at each local place of every thread and at the header of each object number, and two at the gate: at the most two for each slot, local place and object, one for each word of the room, and two.
+/// One where it is refused. Else those of `mark`, a look at each slot, at each local place of every thread, at the header of each object number and at the top, and two at the gate: at the most two for each slot, local place and object, one for each word of the room, and three.
 pub fn take_census<S: Steps>(steps: &mut S, marker: &mut Marker) -> Result<Census, Fault>
     requires outside { (S.facts steps.old).stands.role ≡ Outside }
     requires room { room_of marker.old ≡ (S.facts steps.old).stands.config.objects }
@@ -65,11 +68,13 @@ fn count<S: Steps>(steps: &mut S, shut: Shut, marker: &mut Marker) -> Census
     let slots = count_slots(steps);
     let (objects, unreached) = count_objects(steps, marker);
     let locals = count_locals(steps);
+    let words = count_words(steps, objects.words, unreached.words);
     shut.reopen(steps);
     Census {
         slots,
         locals,
         objects,
         unreached,
+        words,
     }
 }

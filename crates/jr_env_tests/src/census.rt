@@ -6,7 +6,7 @@ use jr::Census;
 use jr_env::Env;
 use jr_steps::Steps;
 use jr_weak::Marker;
-use jr_word::{HeaderParts, SlotParts};
+use jr_word::{Fault, HeaderParts, SlotParts};
 use std::alloc::Global;
 use std::process::Abort;
 use std::test::Fail;
@@ -36,9 +36,10 @@ fn fill<S: Steps>(alloc: Global, env: &mut Env<S>) -> Result<(), Fail> {
     leave_text(env)
 }
 
-/// The numbers of slots, of the local references of two threads, and of objects, present and unreached.
-fn numbers(census: &Census) -> [u32; 12] {
+/// The numbers of slots, of the local references of two threads, of objects, present and unreached, and of words.
+fn numbers(census: &Census) -> [u32; 16] {
     let (slots, all, left) = (&census.slots, &census.objects, &census.unreached);
+    let words = &census.words;
     [
         slots.globals,
         slots.weaks,
@@ -52,6 +53,10 @@ fn numbers(census: &Census) -> [u32; 12] {
         left.live,
         left.words,
         left.kinds.objects,
+        words.used,
+        words.lost,
+        words.reached,
+        words.freed,
     ]
 }
 
@@ -60,7 +65,7 @@ fn is_counted<S: Steps>(
     rt: &impl Abort,
     env: &mut Env<S>,
     marker: &mut Marker,
-    wanted: [u32; 12],
+    wanted: [u32; 16],
 ) -> Result<(), Fail> {
     let census = env.census(marker)?;
     assert_eq!(rt; numbers(&census), wanted);
@@ -75,7 +80,7 @@ pub(crate) fn tells_what_stands<S: Steps>(
 ) -> Result<(), Fail> {
     fill(alloc, env)?;
     let mut marker = Marker::new(alloc, env.held.steps.config())?;
-    let wanted = [1, 1, 1, 0, 0, 2, 3, 8, 1, 1, 3, 0];
+    let wanted = [1, 1, 1, 0, 0, 2, 3, 8, 1, 1, 3, 0, 8, 0, 5, 3];
     is_counted(rt, env, &mut marker, wanted)?;
     is_counted(rt, env, &mut marker, wanted)
 }
@@ -83,6 +88,45 @@ pub(crate) fn tells_what_stands<S: Steps>(
 #[test]
 fn a_census_tells_what_stands(rt: HostRuntime) -> Result<(), Fail> {
     in_a_room(&rt, rt.alloc(), Case::Census)
+}
+
+/// Makes an array, and plain objects up to the last number, behind which an array is refused whose words are reserved already.
+fn lose_words<S: Steps>(rt: &impl Abort, env: &mut Env<S>) -> Result<(), Fail> {
+    env.new_array::<i32>(3)?;
+    for _ in 0..3 {
+        env.new_plain()?;
+    }
+    let refused = env.new_array::<i32>(2);
+    assert_eq!(rt; refused, Err(Fault::ObjectsFull));
+    Ok(())
+}
+
+/// A census tells words that no object has, which the collection behind it frees.
+pub(crate) fn tells_lost_words<S: Steps>(
+    rt: &impl Abort,
+    alloc: Global,
+    env: &mut Env<S>,
+) -> Result<(), Fail> {
+    lose_words(rt, env)?;
+    let mut marker = Marker::new(alloc, env.held.steps.config())?;
+    let words = env.census(&mut marker)?.words;
+    assert_eq!(rt;
+        [words.used, words.lost, words.reached, words.freed],
+        [5, 2, 3, 2]
+    );
+    let used = env.collect(&mut marker)?.used;
+    assert_eq!(rt; used, words.reached);
+    let words = env.census(&mut marker)?.words;
+    assert_eq!(rt;
+        [words.used, words.lost, words.reached, words.freed],
+        [3, 0, 3, 0]
+    );
+    Ok(())
+}
+
+#[test]
+fn a_census_tells_words_of_no_object(rt: HostRuntime) -> Result<(), Fail> {
+    in_a_room(&rt, rt.alloc(), Case::LostWords)
 }
 
 /// Of two slots the first has a cleared weak reference, and the second a global one.

@@ -3,7 +3,7 @@ ghost use Rattle.std.specs.Prelude.{◌≡◌, IfOk};
 ghost use Rattle.jr_model.specs.declared.event.Role.TheVariants.{Outside};
 ghost use Rattle.jr_rule.specs.Rooms.{IsOfRoom};
 
-use crate::census::{has_what_stands, tells_what_stands};
+use crate::census::{has_what_stands, tells_lost_words, tells_what_stands};
 use crate::collections::announced::{bars_for_good, is_barred_by_who_announces};
 use crate::envs::{LAST, NoPass, next_env, next_pass, next_steps};
 use crate::left_inside::keeps_out_for_good;
@@ -38,6 +38,8 @@ pub(crate) enum Case {
     Stays,
     /// A census is taken.
     Census,
+    /// A census is taken where words are lost.
+    LostWords,
     /// A dump is taken.
     Dump,
 }
@@ -67,6 +69,7 @@ fn shows<S: Steps + Drop>(
         Case::DroppedInside => keeps_out_for_good(rt, alloc, second, &mut first, &mut env),
         Case::Stays => excludes_collections(rt, alloc, &mut first, &mut env, &mut other),
         Case::Census => tells_what_stands(rt, alloc, &mut env),
+        Case::LostWords => tells_lost_words(rt, alloc, &mut env),
         Case::Dump => has_what_stands(rt, alloc, &mut env),
     }
 }

@@ -47,6 +47,7 @@ impl Machine {
             Step::ScanElement(number, index, word) | Step::MoveElement(number, index, word) => {
                 self.is_element(number, index, word)
             }
+            Step::ScanTop(used) => must(used == self.used, "the top said what was not so"),
             Step::Wipe(index, serial, object) => self.clear(thread, index, serial, object),
             Step::DropHeader(number) => self.drop_object(thread, number),
             Step::SetHeader(number, header, place) => {

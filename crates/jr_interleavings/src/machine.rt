@@ -121,6 +121,7 @@ impl Machine {
             | Step::ScanLocal(..)
             | Step::ScanHeader(..)
             | Step::ScanElement(..)
+            | Step::ScanTop(_)
             | Step::Wipe(..)
             | Step::DropHeader(_)
             | Step::MoveElement(..)

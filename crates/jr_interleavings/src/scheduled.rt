@@ -227,6 +227,12 @@ impl<'r, 'a, R: Wait, S: Steps> Steps for Scheduled<'r, 'a, R, S> {
         reply
     }
 
+    fn scan_top(&mut self) -> u32 {
+        let reply = self.steps.scan_top();
+        self.baton.after(Step::ScanTop(reply));
+        reply
+    }
+
     fn wipe(&mut self, index: u16, serial: u32, object: u16) {
         self.baton.before();
         self.steps.wipe(index, serial, object);

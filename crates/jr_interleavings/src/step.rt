@@ -52,6 +52,8 @@ pub(crate) enum Step {
     ScanHeader(u16, Option<HeaderParts>),
     /// A look at an element during a collection.
     ScanElement(u16, u32, u64),
+    /// A look at the top during a collection.
+    ScanTop(u32),
     /// A weak reference, by its index and serial, is cleared of its object.
     Wipe(u16, u32, u16),
     /// An object is dropped.

@@ -134,6 +134,9 @@ ScannedLocal t p k n acts k' = (l : LocalParts) × IsLocalPlace l × (n ≡ loca
 abbrev pub ScannedElement : ℕ → ℕ → Told
 ScannedElement o i k n acts k' = (acts ≡ []) × ShowsElement o i n k' × keeps k k'
 
+abbrev pub ScannedTop : Told
+ScannedTop k n acts k' = (u : ℕ) × (u < 2 ^ 24) × (n ≡ used_word u) × (acts ≡ []) × ShowsUsed u k' × keeps k k'
+
 abbrev pub Wiped : ℕ → ℕ → Told
 Wiped i serial k n acts k' = (acts ≡ Clear (handle_of Weak serial i) ∷ []) × keeps k k'
 
@@ -317,6 +320,9 @@ module _ {n : ℕ} (q : Option TopParts) (complete : (p : TopParts) → IsTop p 
         (s.3 ∙ (λ i. acts_of_top_load (among.config i).words name (sym read i)), (subst (λ u. ShowsUsed u k') (sym read) s.4, s.5));
   }
 
+  pub top_scan : {z : Sight} → Reads z Collecting anything ScannedTop n (λ k. []) (λ j k. ShowsUsed p.used k × keeps j k)
+  top_scan = record { read = λ k k' done among e m s. (s.3, (subst (λ u. ShowsUsed u k') (sym (top_is n q s.0 p s.1 s.2 complete is)) s.4, s.5)) }
+
   pub reserve_lost : {z : Sight} (looked more : ℕ) → n ≢ used_word looked → Reads z Within (WasUsed looked) (ClaimedTop looked more) n (λ k. act_of_reservation looked more (Err p.used) ∷ []) (ShowsRange looked more (Err p.used))
   reserve_lost looked more lost = record {
     read = λ k k' done among e m s.
@@ -372,3 +378,6 @@ wiped_some i serial o may = ∥∥₁_elim may (hlevel props) (λ k.
 
 pub element_scan : {z : Sight} {n : ℕ} {met : Known → Type 0} (o i : ℕ) → Reads z Collecting met (ScannedElement o i) n (λ k. []) (λ j k. ShowsElement o i n k × keeps j k)
 element_scan o i = record { read = λ k k' done among e m s. (s.0, (s.1, s.2)) }
+
+pub top_scan_leaves : {z : Sight} {n : ℕ} {met : Known → Type 0} {role : Role} {fresh : Bool} → Leaves z Collecting met ScannedTop n role role fresh fresh
+top_scan_leaves {role = role} {fresh = fresh} = record { left = λ k k' done among e m s. (ap (role_from role) (sym s.3), ap (fresh_from fresh) (sym s.3)) }

@@ -522,6 +522,11 @@ impl<C: Cells<P>, P: Copy> Steps for StepsOver<C, P> {
         load::<C, P, Brand, (u16, HeaderParts, u32)>(&mut self.cells, self.place, at, about)
     }
 
+    fn scan_top(&mut self) -> u32 {
+        let found = load::<C, P, Brand, ()>(&mut self.cells, self.place, TOP, ());
+        TopWord::parts(found).unwrap().used
+    }
+
     fn wipe(&mut self, index: u16, serial: u32, object: u16)
         requires role { self.old.role ≡ Collecting }
         requires row { index < (C.sight self.old.cells).first.config.slots }

@@ -220,6 +220,11 @@ pub trait Steps {
         requires there { MayKnow facts self.old (IsThere object header index) }
         ensures { Took facts self.old self.new [] (IsThere object header index) (λ j k. ShowsElement object index result k × keeps j k) };
 
+    /// Loads the top during a collection: how many words are reserved.
+    fn scan_top(&mut self) -> u32
+        requires { (facts self.old).stands.role ≡ Collecting }
+        ensures { Took facts self.old self.new [] anything (λ j k. ShowsUsed result k × keeps j k) };
+
     /// Takes its object from a weak reference, which stays.
     fn wipe(&mut self, index: u16, serial: u32, object: u16)
         requires role { (facts self.old).stands.role ≡ Collecting }

@@ -3,7 +3,7 @@
 
 ghost use Rattle.std.specs.Prelude.{◌≡◌, IfOk, vec_len};
 
-use jr_census::{Census, Objects};
+use jr_census::{Census, Objects, Words};
 use jr_env::Env;
 use jr_rule::{Room, RoomSteps, Steps};
 use jr_weak::Marker;
@@ -20,7 +20,7 @@ const LAST: u32 = 4_294_967_295;
 const SIZES: Config = Config {
     threads: 1,
     slots: 8,
-    objects: 16,
+    objects: 5,
     words: 64,
     locals: 16,
 };
@@ -77,7 +77,7 @@ fn notes<T: Copy>(alloc: Global, blank: T, count: u32) -> Result<Vec<T>, Fault>
     vec![in alloc; blank; count as usize].map_err(|_| Fault::Memory)
 }
 
-/// Makes arrays that global references keep, and a cache of two of them; a string that nothing reaches; and a weak reference.
+/// Makes arrays that global references keep, and a cache of two of them; a string that nothing reaches; and a weak reference. Then the room has no number for an object more, and the words of one that is refused for that are lost.
 fn leak<S: Steps>(env: &mut Env<S>) -> Result<(), Fault> {
     let cache = env.new_object_array(2, Handle::NULL)?;
     for index in 0..2 {
@@ -92,6 +92,7 @@ fn leak<S: Steps>(env: &mut Env<S>) -> Result<(), Fault> {
     env.new_weak_global_ref(text)?;
     env.delete_local_ref(text)?;
     env.new_array::<i64>(3)?;
+    let _refused = env.new_array::<i64>(2);
     Ok(())
 }
 
@@ -104,7 +105,8 @@ fn write_census<W: Write>(out: &mut W, census: &Census) -> io::Result<()> {
     write_count(out, "retired slots", slots.retired)?;
     write_count(out, "local references of thread 0", census.locals[0])?;
     write_objects(out, "objects present", &census.objects)?;
-    write_objects(out, "objects unreached", &census.unreached)
+    write_objects(out, "objects unreached", &census.unreached)?;
+    write_words(out, census.words)
 }
 
 /// Writes how many objects there are, and how many words they have.
@@ -115,6 +117,14 @@ fn write_objects<W: Write>(out: &mut W, which: &str, objects: &Objects) -> io::R
     write_count(out, "arrays of objects", objects.kinds.of(Kind::Objects))?;
     write_count(out, "strings", objects.kinds.of(Kind::Text))?;
     write_count(out, "words", objects.words)
+}
+
+/// Writes how many words of array space are used, and what for.
+fn write_words<W: Write>(out: &mut W, words: Words) -> io::Result<()> {
+    write_count(out, "words used", words.used)?;
+    write_count(out, "no object's", words.lost)?;
+    write_count(out, "of objects reached", words.reached)?;
+    write_count(out, "freed by a collection", words.freed)
 }
 
 /// Writes a line: what is counted, and how many of it there are.

@@ -14,7 +14,7 @@ impl<S: Steps> Env<S> {
     ghost use Rattle.jr_env.specs.Censuses.{census, dump};
     ghost use Rattle.jr_env.specs.Envs.{Does};
 
-    /// Tells what stands in the room: references by kind and local ones by thread, cleared weak ones, slots that are used no more, objects by kind with their words, and those of them that nothing reaches, which a collection would drop. All of it is so at one step, which shuts the gate; no thread comes in until it is opened again. It changes nothing, takes no memory and never waits. The marker is one that was made for a room of so many objects, as `marker` makes it, and serves again.
+    /// Tells what stands in the room: references by kind and local ones by thread, cleared weak ones, slots that are used no more, objects by kind with their words, those of them that nothing reaches, which a collection would drop, and the words that are used, of which it would free so many. All of it is so at one step, which shuts the gate; no thread comes in until it is opened again. It changes nothing, takes no memory and never waits. The marker is one that was made for a room of so many objects, as `marker` makes it, and serves again.
     ///
     /// # Errors
     ///
@@ -24,7 +24,7 @@ impl<S: Steps> Env<S> {
     ///
     /// # Operations
     ///
-    /// None at E17, and one at E14. A census that is taken takes two looks at each slot and at each local place of every thread, one or two at each object number's header, a load for each element of an object array that is reached, and two at the gate.
+    /// None at E17, and one at E14. A census that is taken takes two looks at each slot and at each local place of every thread, one or two at each object number's header, a load for each element of an object array that is reached, one of the top, and two at the gate.
     pub fn census(&mut self, marker: &mut Marker) -> Result<Census, Fault>
         ensures call { FitsRoom marker.old self.old → Does self.old self.new census result }
         ensures size { (result ≡ Err Size) ↔ ¬ (FitsRoom marker.old self.old) }
