@@ -18,8 +18,8 @@ use Rattle.jr_model.specs.State.{Contents}
 use Rattle.jr_model.specs.Examples.{last_serial, w}
 use Rattle.jr_model.specs.Maps.{sum_below}
 use Rattle.jr_model.proofs.OwnActs.{IsAmong}
-use Rattle.jr_model.proofs.ShownRefusals.{entered_shows}
-use Rattle.jr_model.proofs.TrueRefusals.{made_alike}
+use Rattle.jr_model.proofs.Lawful.{in_stay}
+use Rattle.jr_model.proofs.EachCall.{alike_work}
 use Rattle.jr_model.specs.CallExamples.{quiet_room, fresh, LengthOfNothing, TypeOfNothing, CallsOnCleared, CallsOnNull, named, never_given, with_text, SecondLevel, CopiedElements, ArrayLacksSpace}
 
 pub length_of_nothing : LengthOfNothing
@@ -194,7 +194,7 @@ copied_elements = record {
 }
 
 refused_for : (u : ℕ) (g : Frames) (acts : List Act) → new_array quiet_room last_serial 0 Int 20 fresh acts (Err (fault.SpaceFull u)) g → IsAmong (ReserveFull 20 u) acts
-refused_for u g acts r = ((entered_shows (made_alike quiet_room last_serial 0 Int 20 0)).acts fresh g acts (fault.SpaceFull u) r).0
+refused_for u g acts r = ((in_stay (alike_work quiet_room last_serial 0 Int 20 0)).fails fresh g acts (fault.SpaceFull u) r).shown.0
 
 nil_behind : (front : List Act) (a : Act) (rest : List Act) → ◌≡◌ {A = List Act} [] (front ++ a ∷ rest) → ⊥
 nil_behind [] a rest is = cc

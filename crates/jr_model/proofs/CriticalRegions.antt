@@ -1,27 +1,24 @@
 -- A critical region is one stay.
-use Rattle.std.proofs.Common.{◌≡◌, ◌≢◌, inl, inr, ℕ, Bool, true, false, not, cond, nat_le, Option, Some, None, List, [], ◌∷◌, ◌++◌, length, Result, Ok, Err, refl, sym, ap, subst, ◌∙◌, append_assoc}
+use Rattle.std.proofs.Common.{◌≡◌, ◌≢◌, inl, inr, ℕ, List, [], ◌∷◌, ◌++◌, length, Result, Ok, refl, sym, ap, subst, ◌∙◌, append_assoc}
 use Rattle.std.proofs.lemmas.List.{append-nil}
 use Rattle.std.specs.List.{AllByRecursion}
 use Rattle.jr_word.specs.declared.config.Config.{Config}
 use Rattle.jr_word.specs.declared.fault.Fault.{Fault}
-use Rattle.jr_word.specs.declared.fault.Fault.TheVariants as fault
-use Rattle.jr_word.specs.declared.kind.Kind.{Kind}
 use Rattle.jr_model.specs.declared.event.Act.{Act}
-use Rattle.jr_model.specs.declared.event.Act.TheVariants.{Gate, Look, Read, Write}
+use Rattle.jr_model.specs.declared.event.Act.TheVariants.{Gate}
 use Rattle.jr_model.specs.declared.event.GateAct.TheVariants.{Enter, Leave}
-use Rattle.jr_model.specs.declared.event.Found.{Found}
-use Rattle.jr_model.specs.declared.event.Found.TheVariants.{Object, Cleared, Stale}
-use Rattle.jr_model.specs.declared.frames.TheConstants.{LEVELS}
-use Rattle.jr_model.specs.State.{Handle, State}
-use Rattle.jr_model.specs.Frames.{Frames, object_of}
+use Rattle.jr_model.specs.State.{State}
+use Rattle.jr_model.specs.Frames.{Frames}
 use Rattle.jr_model.specs.History.{History, by, mine, IsLegal, IsStay, PassView, Did}
 use Rattle.jr_model.specs.Windows.{IsLastSeen, Ends}
-use Rattle.jr_model.specs.Calls.{Call, Ran, act, decided, for_object, opened, refuse_if, some_act, ◌>>=◌}
-use Rattle.jr_model.specs.Checks.{Word, Nothing, Malformed, Parts, is_array, is_foreign, is_local, is_malformed, is_out_of_bounds, is_primitive, is_read_as, is_text}
-use Rattle.jr_model.specs.Parts.{found_object, local_object, look, looked, looked_at, not_null}
-use Rattle.jr_model.specs.References.{resolved}
+use Rattle.jr_model.specs.Calls.{Call, Ran, opened}
+use Rattle.jr_model.specs.Checks.{Word}
 use Rattle.jr_model.specs.Objects.{level_array, level_string}
 use Rattle.jr_model.specs.CriticalRegions.{IsOneStay, IsRegion, IsRegionCall, opened_at_array, opened_at_string, goes_on, nests_array, nests_string, gets, sets, tells_kind, tells_length, gives_up_level, NoCollectionInRegion, NoCollectionUpToRelease}
+use Rattle.jr_model.proofs.Composed.{object_gives}
+use Rattle.jr_model.proofs.Lawful.{NoLeave, answered, prelude, work_stays}
+use Rattle.jr_model.proofs.EachCall.{get_work, set_work}
+use Rattle.jr_model.proofs.Preludes.{done_prelude, level_array_prelude, level_string_prelude}
 use Rattle.jr_model.proofs.Exactly.{append_all}
 use Rattle.jr_model.proofs.Gates.{no_collection_inside}
 use Rattle.jr_model.proofs.Histories.{mine_append, mine_push}
@@ -30,99 +27,26 @@ use Rattle.jr_model.proofs.Stays.{did_then, mine_did, never}
 
 -- NO LEAVE
 
-abbrev pub NoLeave : List Act → Type 0
-NoLeave acts = AllByRecursion (λ a. a ≢ Gate Leave) acts
-
 -- a call that never leaves the gate
 abbrev pub Stays : {A : Type 0} → Call A → Type 0
 Stays {A} call = (f g : Frames) (acts : List Act) (answer : Result A Fault) → call f acts answer g → NoLeave acts
 
-pub decided_stays : {A : Type 0} (r : Result A Fault) → Stays (decided r)
-decided_stays r f g acts answer is = subst NoLeave (sym is.0) tt
+module _ (c : Config) (last thread : ℕ) (s : State) where
+  pub level_array_stays : (levels : ℕ) (a : Word) → Stays (level_array c last thread s levels a)
+  level_array_stays levels a = work_stays (prelude {asked = 0} {last = last} {thread = thread} (level_array_prelude c last thread s levels a))
 
-pub act_stays : (a : Act) → a ≢ Gate Leave → Stays (act a)
-act_stays a ne f g acts answer is = subst NoLeave (sym is.0) (ne, tt)
+  pub level_string_stays : (levels : ℕ) (a : Word) → Stays (level_string c last thread s levels a)
+  level_string_stays levels a = work_stays (prelude {asked = 0} {last = last} {thread = thread} (level_string_prelude c last thread s levels a))
 
-pub some_act_stays : {X : Type 0} (a : X → Act) → ((x : X) → a x ≢ Gate Leave) → Stays (some_act a)
-some_act_stays a ne f g acts answer is = subst NoLeave (sym is.1) (ne is.0, tt)
-
-pub refuse_if_stays : (b : Bool) (e : Fault) → Stays (refuse_if b e)
-refuse_if_stays true e = decided_stays (Err e)
-refuse_if_stays false e = decided_stays (Ok tt)
-
-pub bind_stays : {A B : Type 0} (first : Call A) (next : A → Call B) → Stays first → ((x : A) → Stays (next x)) → Stays (first >>= next)
-bind_stays first next p q f g acts answer (inl r) = subst NoLeave (sym r.4) (append_all (λ a. a ≢ Gate Leave) r.2 r.3 (p f r.1 r.2 (Ok r.0) r.5) (q r.0 r.1 g r.3 answer r.6))
-bind_stays first next p q f g acts answer (inr r) = p f g acts (Err r.0) r.2
-
-pub for_stays : {A : Type 0} (s : State) (o : ℕ) (next : Kind → ℕ → Call A) → ((k : Kind) (n : ℕ) → Stays (next k n)) → Stays (for_object s o next)
-for_stays s o next p f g acts answer is = p is.0.kind (length is.0.words) f g acts answer is.2
-
-pub cond_stays : {A : Type 0} (b : Bool) (p q : Call A) → Stays p → Stays q → Stays (cond b p q)
-cond_stays true p q l r = l
-cond_stays false p q l r = r
-
-local_stays : (o : Option ℕ) → Stays (local_object o)
-local_stays (Some o) = decided_stays (Ok (Some o))
-local_stays None = decided_stays _
-
-found_stays : (r : Found) → Stays (found_object r)
-found_stays (Object o) = decided_stays (Ok (Some o))
-found_stays Cleared = decided_stays (Ok None)
-found_stays Stale = decided_stays _
-
-pub looked_at_stays : (h : Handle) → Stays (looked_at h)
-looked_at_stays h = cond_stays (is_local h) (λ old. local_object (object_of old h) old) (look h >>= found_object)
-    (λ f g acts answer is. local_stays (object_of f h) f g acts answer is)
-    (bind_stays (look h) found_object (some_act_stays (Look h) (λ r e. cc)) found_stays)
-
-pub looked_stays : (a : Word) → Stays (looked a)
-looked_stays Nothing = decided_stays (Ok None)
-looked_stays Malformed = decided_stays (Ok None)
-looked_stays (Parts h) = looked_at_stays h
-
-pub not_null_stays : (o : Option ℕ) → Stays (not_null o)
-not_null_stays (Some o) = decided_stays (Ok o)
-not_null_stays None = decided_stays _
-
-module _ (c : Config) (last thread : ℕ) where
-  pub resolved_stays : (a : Word) → Stays (resolved c last thread a)
-  resolved_stays a =
-      bind_stays (refuse_if (is_malformed a) fault.Stale) _ (refuse_if_stays (is_malformed a) fault.Stale) (λ _.
-      bind_stays (refuse_if (is_out_of_bounds c a) fault.Stale) _ (refuse_if_stays (is_out_of_bounds c a) fault.Stale) (λ _.
-      bind_stays (refuse_if (is_foreign thread a) fault.Foreign) _ (refuse_if_stays (is_foreign thread a) fault.Foreign) (λ _. looked_stays a)))
-
-  module _ (s : State) where
-    pub level_array_stays : (levels : ℕ) (a : Word) → Stays (level_array c last thread s levels a)
-    level_array_stays levels a =
-        bind_stays (resolved c last thread a) _ (resolved_stays a) (λ x.
-        bind_stays (not_null x) _ (not_null_stays x) (λ o.
-        for_stays s o _ (λ k n.
-        bind_stays (refuse_if (not (is_array k)) fault.NotArray) _ (refuse_if_stays (not (is_array k)) fault.NotArray) (λ _.
-        bind_stays (refuse_if (not (is_primitive k)) fault.WrongElement) _ (refuse_if_stays (not (is_primitive k)) fault.WrongElement) (λ _.
-        bind_stays (refuse_if (nat_le LEVELS levels) fault.Size) _ (refuse_if_stays (nat_le LEVELS levels) fault.Size) (λ _. decided_stays (Ok o)))))))
-
-    pub level_string_stays : (levels : ℕ) (a : Word) → Stays (level_string c last thread s levels a)
-    level_string_stays levels a =
-        bind_stays (resolved c last thread a) _ (resolved_stays a) (λ x.
-        bind_stays (not_null x) _ (not_null_stays x) (λ o.
-        for_stays s o _ (λ k n.
-        bind_stays (refuse_if (not (is_text k)) fault.WrongKind) _ (refuse_if_stays (not (is_text k)) fault.WrongKind) (λ _.
-        bind_stays (refuse_if (nat_le LEVELS levels) fault.Size) _ (refuse_if_stays (nat_le LEVELS levels) fault.Size) (λ _. decided_stays (Ok o))))))
-
-    -- no call of a region that goes on leaves the gate
-    call_stays : (f g : Frames) (acts : List Act) → IsRegionCall c last thread s f acts g → NoLeave acts
-    call_stays f g acts (nests_array levels a answer is) = bind_stays (level_array c last thread s (length levels) a) _ (level_array_stays (length levels) a) (λ o. decided_stays _) f g acts answer is
-    call_stays f g acts (nests_string levels a answer is) = bind_stays (level_string c last thread s (length levels) a) _ (level_string_stays (length levels) a) (λ o. decided_stays _) f g acts answer is
-    call_stays f g acts (gets k o i answer is) = for_stays s o _ (λ l n.
-        bind_stays (refuse_if (not (is_read_as k l)) fault.WrongElement) _ (refuse_if_stays (not (is_read_as k l)) fault.WrongElement) (λ _.
-        bind_stays (refuse_if (nat_le n i) fault.Range) _ (refuse_if_stays (nat_le n i) fault.Range) (λ _. some_act_stays (Read o i) (λ v e. cc)))) f g acts answer is
-    call_stays f g acts (sets k o i v answer is) = for_stays s o _ (λ l n.
-        bind_stays (refuse_if (is_text l) fault.NotArray) _ (refuse_if_stays (is_text l) fault.NotArray) (λ _.
-        bind_stays (refuse_if (not (is_read_as k l)) fault.WrongElement) _ (refuse_if_stays (not (is_read_as k l)) fault.WrongElement) (λ _.
-        bind_stays (refuse_if (nat_le n i) fault.Range) _ (refuse_if_stays (nat_le n i) fault.Range) (λ _. act_stays (Write o i v) (λ e. cc))))) f g acts answer is
-    call_stays f g acts (tells_kind o answer is) = for_stays s o _ (λ k n. decided_stays (Ok k)) f g acts answer is
-    call_stays f g acts (tells_length o answer is) = for_stays s o _ (λ k n. decided_stays (Ok n)) f g acts answer is
-    call_stays f g acts (gives_up_level n answer is) = subst NoLeave (sym is.0) tt
+  -- no call of a region that goes on leaves the gate
+  call_stays : (f g : Frames) (acts : List Act) → IsRegionCall c last thread s f acts g → NoLeave acts
+  call_stays f g acts (nests_array levels a answer is) = work_stays (answered (prelude {asked = 0} {last = last} {thread = thread} (level_array_prelude c last thread s (length levels) a)) _) f g acts answer is
+  call_stays f g acts (nests_string levels a answer is) = work_stays (answered (prelude {asked = 0} {last = last} {thread = thread} (level_string_prelude c last thread s (length levels) a)) _) f g acts answer is
+  call_stays f g acts (gets k o i answer is) = work_stays (get_work {asked = 0} c last thread s k o i) f g acts answer is
+  call_stays f g acts (sets k o i v answer is) = work_stays (set_work {asked = 0} c last thread s k o i v) f g acts answer is
+  call_stays f g acts (tells_kind o answer is) = work_stays {asked = 0} {last = last} {thread = thread} (object_gives s o (λ k n. prelude (done_prelude k))) f g acts answer is
+  call_stays f g acts (tells_length o answer is) = work_stays {asked = 0} {last = last} {thread = thread} (object_gives s o (λ k n. prelude (done_prelude n))) f g acts answer is
+  call_stays f g acts (gives_up_level n answer is) = subst NoLeave (sym is.0) tt
 
 -- WHAT A REGION DID
 
