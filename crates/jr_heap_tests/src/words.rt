@@ -277,6 +277,10 @@ fn words_past_the_range(rt: HostRuntime) {
 fn answers_as_handles(rt: HostRuntime) {
     assert!(rt; Handle::or_null(None) == Handle::NULL);
     assert!(rt; Handle::or_null(Some(Handle(10))) == Handle(10));
+    assert!(rt; Handle(2).is_shared() && Handle(3).is_shared());
+    assert!(rt;
+        !Handle::NULL.is_shared() && !Handle(1).is_shared() && !Handle(2 + (1 << 50)).is_shared()
+    );
 }
 
 /// Each refusal, in the order of the numbers, and what it prints.

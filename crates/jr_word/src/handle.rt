@@ -76,7 +76,9 @@ impl RefKind {
 }
 
 impl Handle {
-    ghost use Rattle.std.specs.Prelude.{◌≡◌, ◌<◌, IfSome};
+    ghost use Rattle.std.specs.Prelude.{◌≡◌, ◌≢◌, ◌↔◌, ◌<◌, IfSome, true};
+    ghost use Rattle.jr_word.specs.declared.handle.RefKind.TheVariants.{Local};
+    ghost use Rattle.jr_word.specs.declared.handle.HandleParts.{HandleParts};
     ghost use Rattle.jr_word.specs.Handle.{owner_limit, handle_word, or_null, IsHandle};
 
     /// The reference to null.
@@ -103,6 +105,17 @@ impl Handle {
         let index = u64::from(parts.index) << 34;
         let owner = u64::from(parts.owner) << 50;
         Handle(parts.kind.code() + serial + index + owner)
+    }
+
+    /// Whether it is a handle of a global or weak reference, of whatever slot.
+    #[inline(always)]
+    pub fn is_shared(self) -> bool
+        ensures { (result ≡ true) ↔ ((parts : HandleParts) × IsHandle parts × (self.0 ≡ handle_word parts) × (parts.kind ≢ Local)) }
+    {
+        match Self::parts(self.0) {
+            Some(parts) => parts.kind != RefKind::Local,
+            None => false,
+        }
     }
 
     /// What a word says as a handle, if it is well formed. NULL is none.

@@ -188,6 +188,19 @@ impl<S: Steps> Stay<'_, S> {
         ensures same_reference { (env_in self.new).ghost_name ≡ (env_in self.old).ghost_name }
         ensures call { DoesWithin self.old self.new (comparison left.0 right.0) result }
     {
+        if left.is_shared() && right.is_shared() {
+            // (the same, in a place of its own: there the compiler knows how most of the tests end)
+            return self.compare(left, right);
+        }
+        self.compare(left, right)
+    }
+
+    /// The same, whatever they are.
+    #[inline(always)]
+    fn compare(&mut self, left: Handle, right: Handle) -> Result<bool, Fault>
+        ensures same_reference { (env_in self.new).ghost_name ≡ (env_in self.old).ghost_name }
+        ensures call { DoesWithin self.old self.new (comparison left.0 right.0) result }
+    {
         let left = Reference::of(left);
         let right = Reference::of(right);
         self.env.within(&self.inside, Comparison(left, right))

@@ -1,7 +1,7 @@
 use Rattle.jr_model.specs.References as references
 use Rattle.jr_frames.specs.Reading.{word_of}
 use Rattle.jr_env.proofs.WithinStays.{inside_on_both}
-use Rattle.jr_env.proofs.stay.Stay.is_same_object.Goals as goal
+use Rattle.jr_env.proofs.stay.Stay.compare.Goals as goal
 
 pub returns-clause-call : goal.returns-clause-call
 returns-clause-call g c =
