@@ -4,4 +4,5 @@ pub mod HeadersCounted
 pub mod LocalsCounted
 pub mod WordsCounted
 pub mod Dumped
+pub mod LocalsDumped
 pub mod Takes

@@ -2,6 +2,7 @@
 use Rattle.std.proofs.Common.{◌≡◌, ◌≤◌, ◌+◌, ◌*◌, ℕ, Bool, Option, List, [], ◌∷◌, ◌++◌, refl, sym, ap, subst, ◌∙◌, append_assoc, arith, ◌<◌, Some, None, slice_index_or}
 use Rattle.jr_word.specs.declared.config.Config.{Config}
 use Rattle.jr_word.specs.declared.header.HeaderParts.{HeaderParts}
+use Rattle.jr_word.specs.declared.local.LocalParts.{LocalParts}
 use Rattle.jr_word.specs.declared.slot.SlotParts.TheVariants as slot
 use Rattle.jr_word.specs.declared.slot.SlotParts.{SlotParts}
 use Rattle.jr_model.specs.declared.event.Found.{Found}
@@ -25,7 +26,7 @@ use Rattle.jr_weak.specs.Counting.{marking_steps}
 use Rattle.jr_weak.specs.Marking.{IsMarkedNow}
 use Rattle.jr_weak.specs.Marks.{IsExactly}
 use Rattle.jr_weak.proofs.Collects.{same_back, sees_did, shut_tables}
-use Rattle.jr_census.specs.Dumps.{HasObjects, HasSlots, KeepsNumber}
+use Rattle.jr_census.specs.Dumps.{HasObjects, HasPlaces, HasPlacesOf, HasSlots, KeepsNumber}
 use Rattle.jr_census.specs.declared.taking.Census.{Census}
 use Rattle.jr_census.specs.declared.slots.Slots.{Slots}
 use Rattle.jr_census.specs.declared.objects.Objects.{Objects as ObjectCounts}
@@ -189,9 +190,10 @@ module _ {S : Type 0} (facts : S → Facts) {a b z : S} (most : Config → ℕ) 
   }
 
 -- what is kept of tables is kept of the same ones
-pub dump_on : (noted : List SlotParts) (headers : List (Option HeaderParts)) (words : List ℕ) → IsOfTables (λ c last s. IsDumpOf c last s noted headers words)
-dump_on noted headers words c last s t same told = record {
+pub dump_on : (noted : List SlotParts) (locals : List LocalParts) (headers : List (Option HeaderParts)) (words : List ℕ) → IsOfTables (λ c last s. IsDumpOf c last s noted locals headers words)
+dump_on noted locals headers words c last s t same told = record {
   slots = λ i l. subst (λ (z : (Handle → Found) × (Handle → Bool)). SaysOfSlot last z.0 z.1 i (slice_index_or noted i (slot.Free 0))) (λ j. (same.refs j, same.given j)) (told.slots i l);
+  locals = λ t l. subst (λ (f : ℕ → ℕ → Option ℕ). HasPlacesOf (t * c.locals) c.locals (f t) locals) same.locals (told.locals t l);
   objects = λ j l. number_on (j + 1) (slice_index_or headers j None) (told.objects j l);
 }
   where
@@ -199,12 +201,28 @@ dump_on noted headers words c last s t same told = record {
     number_on o None k = ap (λ (f : ℕ → Option Contents). f o) (sym same.objects) ∙ k
     number_on o (Some h) k = (k.0, ap (λ (f : ℕ → Option Contents). f o) (sym same.objects) ∙ k.1, k.2)
 
+-- what is so once the slots are kept, and once the local places are, too
+abbrev pub SlotsNoted : List SlotParts → Known → Type 0
+SlotsNoted noted k = HasSlots k.config.slots k.last (state_of k) noted
+
+abbrev pub PlacesNoted : List LocalParts → Known → Type 0
+PlacesNoted locals k = HasPlaces k.config.threads k.config.locals (state_of k) locals
+
+-- the slots are kept still
+slots_noted : (noted : List SlotParts) (k k' : Known) → HaveSameTables (state_of k) (state_of k') → k'.config ≡ k.config → k'.last ≡ k.last → SlotsNoted noted k → SlotsNoted noted k'
+slots_noted noted k k' same config last was = subst (λ (z : Config × ℕ × (Handle → Found) × (Handle → Bool)). (i : ℕ) → i < (z.0).slots → SaysOfSlot z.1 z.2 z.3 i (slice_index_or noted i (slot.Free 0))) (λ j. (sym config j, sym last j, sym same.refs j, sym same.given j)) was
+
+-- and so are the local places
+places_noted : (locals : List LocalParts) (k k' : Known) → HaveSameTables (state_of k) (state_of k') → k'.config ≡ k.config → PlacesNoted locals k → PlacesNoted locals k'
+places_noted locals k k' same config was = subst (λ (z : Config × (ℕ → ℕ → Option ℕ)). (t : ℕ) → t < (z.0).threads → HasPlacesOf (t * (z.0).locals) (z.0).locals (z.1 t) locals) (λ j. (sym config j, sym same.locals j)) was
+
 module _ {S : Type 0} {facts : S → Facts} (fits : AreOf facts) where
   -- THE STATE WAS NOTED, and the gate opened
-  pub notes : {b c d z : S} (noted : List SlotParts) (headers : List (Option HeaderParts)) (words : List ℕ) → (facts b).stands.role ≡ Collecting → LoadsTell facts (λ j. j.config.slots) b c (λ k. HasSlots k.config.slots k.last (state_of k) noted)
-      → LoadsTell facts (λ j. j.config.objects + j.config.words) c d (λ k. HasObjects k.config.objects (state_of k) headers words) → Took facts d z (Gate Reopen ∷ []) CanReopen lets_go → Notes facts b z noted headers words
-  notes noted headers words collecting slots objects opened = tells_once fits noting_steps (λ c last s. IsDumpOf c last s noted headers words) (dump_on noted headers words) collecting
-      (told_then fits (λ j. noting_steps j.config) collecting slots objects (λ k k' same config. more_loads (λ c. c.slots) (λ c. c.objects + c.words) k k' config) (λ k k' s same config last was is. record {
-        slots = subst (λ (z : Config × ℕ × (Handle → Found) × (Handle → Bool)). (i : ℕ) → i < (z.0).slots → SaysOfSlot z.1 z.2 z.3 i (slice_index_or noted i (slot.Free 0))) (λ j. (sym config j, sym last j, sym same.refs j, sym same.given j)) was;
-        objects = is;
-      })) opened
+  pub notes : {b c d e z : S} (noted : List SlotParts) (locals : List LocalParts) (headers : List (Option HeaderParts)) (words : List ℕ) → (facts b).stands.role ≡ Collecting → LoadsTell facts (λ j. j.config.slots) b c (SlotsNoted noted) → LoadsTell facts (λ j. j.config.threads * j.config.locals) c d (PlacesNoted locals)
+      → LoadsTell facts (λ j. j.config.objects + j.config.words) d e (λ k. HasObjects k.config.objects (state_of k) headers words) → Took facts e z (Gate Reopen ∷ []) CanReopen lets_go → Notes facts b z noted locals headers words
+  notes {b} {d = d} noted locals headers words collecting slots places objects opened = tells_once fits noting_steps (λ c last s. IsDumpOf c last s noted locals headers words) (dump_on noted locals headers words) collecting
+      (told_then fits (λ j. noting_steps j.config) collecting references objects (λ k k' same config. more_loads (λ c. c.slots + c.threads * c.locals) (λ c. c.objects + c.words) k k' config)
+      (λ k k' s same config last was is. record { slots = slots_noted noted k k' same config last was.0; locals = places_noted locals k k' same config was.1; objects = is })) opened
+    where
+      references : LoadsTell facts (λ j. j.config.slots + j.config.threads * j.config.locals) b d (λ k. SlotsNoted noted k × PlacesNoted locals k)
+      references = told_then fits (λ j. j.config.slots + j.config.threads * j.config.locals) collecting slots places (λ k k' same config. more_loads (λ c. c.slots) (λ c. c.threads * c.locals) k k' config) (λ k k' s same config last was is. (slots_noted noted k k' same config last was, is))

@@ -1,16 +1,26 @@
 -- What a dump keeps of the state of the machine.
-use Rattle.std.specs.Prelude.{◌≡◌, ◌+◌, ◌<◌, ◌≤◌, ℕ, Option, Some, None, List, length, slice_get, slice_index_or}
+use Rattle.std.specs.Prelude.{◌≡◌, ◌+◌, ◌*◌, ◌<◌, ◌≤◌, ℕ, Option, Some, None, List, length, slice_get, slice_index_or}
 use Rattle.jr_word.specs.declared.header.HeaderParts.{HeaderParts}
+use Rattle.jr_word.specs.declared.local.LocalParts.{LocalParts}
+use Rattle.jr_word.specs.declared.local.LocalParts.TheVariants as local
 use Rattle.jr_word.specs.declared.slot.SlotParts.{SlotParts}
 use Rattle.jr_word.specs.declared.slot.SlotParts.TheVariants as slot
 use Rattle.jr_model.specs.State.{Contents, State, length_of}
 use Rattle.jr_steps.specs.declared.known.Known.{Known}
 use Rattle.jr_steps.specs.Knowing.{CanReopen, state_of}
-use Rattle.jr_steps.specs.Says.{SaysOfSlot}
+use Rattle.jr_steps.specs.Says.{SaysOfSlot, local_parts}
 
 -- EACH SLOT below n is kept, with what its parts say of the state
 abbrev pub HasSlots : ℕ → ℕ → State → List SlotParts → Type 0
 HasSlots n last s slots = (i : ℕ) → i < n → SaysOfSlot last s.refs s.given i (slice_index_or slots i (slot.Free 0))
+
+-- the first n local places of a thread are kept, from a place of the notes on
+abbrev pub HasPlacesOf : ℕ → ℕ → (ℕ → Option ℕ) → List LocalParts → Type 0
+HasPlacesOf start n places notes = (p : ℕ) → p < n → local_parts (places p) ≡ slice_index_or notes (start + p) local.Free
+
+-- EACH LOCAL PLACE below n of the first threads is kept, with the object that its reference names: those of one thread behind those of the threads before it
+abbrev pub HasPlaces : ℕ → ℕ → State → List LocalParts → Type 0
+HasPlaces threads n s notes = (t : ℕ) → t < threads → HasPlacesOf (t * n) n (s.locals t) notes
 
 -- an object is kept with its kind, its length, and its elements from a place of the dump's words on
 pub record KeepsContents (x : Contents) (h : HeaderParts) (words : List ℕ) : Type 0 where

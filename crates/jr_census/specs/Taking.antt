@@ -3,6 +3,7 @@ use Rattle.std.specs.Prelude.{◌≡◌, ◌+◌, ◌*◌, ℕ, Bool, Option, Li
 use mathlib.Core.List.{IsPrefix}
 use Rattle.jr_word.specs.declared.config.Config.{Config}
 use Rattle.jr_word.specs.declared.header.HeaderParts.{HeaderParts}
+use Rattle.jr_word.specs.declared.local.LocalParts.{LocalParts}
 use Rattle.jr_word.specs.declared.slot.SlotParts.{SlotParts}
 use Rattle.jr_model.specs.declared.event.Act.TheVariants.{Gate}
 use Rattle.jr_model.specs.declared.event.GateAct.TheVariants.{Shut, Reopen}
@@ -15,7 +16,7 @@ use Rattle.jr_compact.specs.Counting.{SeesWithin, TakesWithin}
 use Rattle.jr_weak.specs.Counting.{marking_steps}
 use Rattle.jr_weak.specs.Marks.{IsExactly}
 use Rattle.jr_census.specs.declared.taking.Census.{Census}
-use Rattle.jr_census.specs.Dumps.{HasObjects, HasSlots}
+use Rattle.jr_census.specs.Dumps.{HasObjects, HasPlaces, HasSlots}
 use Rattle.jr_census.specs.declared.objects.Objects.{Objects}
 use Rattle.jr_census.specs.Counts.{AreSlots, AreLocals, AreObjects, AreUsedWords, unmarked}
 
@@ -31,9 +32,10 @@ pub record IsCensusOf (c : Config) (last : ℕ) (s : State) (x : Census) : Type 
   pub unreached : AreUnreached c.objects s x.unreached
   pub words : AreUsedWords c s x.words
 
--- THE DUMP IS THE STATE'S: each slot and each object number is kept as it stands there
-pub record IsDumpOf (c : Config) (last : ℕ) (s : State) (noted : List SlotParts) (headers : List (Option HeaderParts)) (words : List ℕ) : Type 0 where
+-- THE DUMP IS THE STATE'S: each slot, each local place of each thread, and each object number is kept as it stands there
+pub record IsDumpOf (c : Config) (last : ℕ) (s : State) (noted : List SlotParts) (places : List LocalParts) (headers : List (Option HeaderParts)) (words : List ℕ) : Type 0 where
   pub slots : HasSlots c.slots last s noted
+  pub locals : HasPlaces c.threads c.locals s places
   pub objects : HasObjects c.objects s headers words
 
 -- where the step lies that shut the gate, in what a pass has seen since a moment
@@ -53,9 +55,9 @@ pub record IsTold (old new : PassView) (tells : Config → ℕ → State → Typ
 abbrev pub counting_steps : Config → ℕ
 counting_steps c = marking_steps c + (c.slots + c.objects + c.threads * c.locals) + 1
 
--- those of a dump: a look at each slot, at each header, and at each word of the space
+-- those of a dump: a look at each slot, at each local place of each thread, at each header, and at each word of the space
 abbrev pub noting_steps : Config → ℕ
-noting_steps c = c.slots + (c.objects + c.words)
+noting_steps c = c.slots + c.threads * c.locals + (c.objects + c.words)
 
 -- For the crate's own functions: what comes after the shut: what is told is so of the state then, and the gate is opened at last
 pub record ToldFrom (most : Config → ℕ) (tells : Config → ℕ → State → Type 0) (j k : Known) : Type 0 where
@@ -84,9 +86,9 @@ module _ {S : Type 0} (facts : S → Facts) (old new : S) where
   TakesCensus x = TakesTold facts counting_steps (λ c last s. IsCensusOf c last s x) old new
 
   -- For the crate's own functions: it was noted, once the gate was shut
-  abbrev pub Notes : List SlotParts → List (Option HeaderParts) → List ℕ → Type 0
-  Notes noted headers words = TellsOnce facts noting_steps (λ c last s. IsDumpOf c last s noted headers words) old new
+  abbrev pub Notes : List SlotParts → List LocalParts → List (Option HeaderParts) → List ℕ → Type 0
+  Notes noted locals headers words = TellsOnce facts noting_steps (λ c last s. IsDumpOf c last s noted locals headers words) old new
 
   -- A DUMP WAS TAKEN
-  abbrev pub TakesDump : List SlotParts → List (Option HeaderParts) → List ℕ → Type 0
-  TakesDump noted headers words = TakesTold facts noting_steps (λ c last s. IsDumpOf c last s noted headers words) old new
+  abbrev pub TakesDump : List SlotParts → List LocalParts → List (Option HeaderParts) → List ℕ → Type 0
+  TakesDump noted locals headers words = TakesTold facts noting_steps (λ c last s. IsDumpOf c last s noted locals headers words) old new

@@ -1,13 +1,14 @@
-//! Notes of what each slot and each object has, while the gate is shut.
-ghost use Rattle.std.specs.Prelude.{◌≡◌, ◌≤◌, ◌<◌, ◌+◌, ℕ, None, length, slice_index_or};
+//! Notes of what each slot, each local place and each object has, while the gate is shut.
+ghost use Rattle.std.specs.Prelude.{◌≡◌, ◌≤◌, ◌<◌, ◌+◌, ◌*◌, ℕ, None, length, slice_index_or};
+ghost use Rattle.jr_word.specs.declared.local.LocalParts.TheVariants.{Free};
 ghost use Rattle.jr_model.specs.declared.event.Role.TheVariants.{Collecting};
 ghost use Rattle.jr_model.specs.State.{length_of};
 ghost use Rattle.jr_steps.specs.Knowing.{state_of, CanReopen, MayKnow};
-ghost use Rattle.jr_census.specs.Dumps.{HasObjects, HasRoom, HasSlots, BeginsAt, KeepsNumber, noted_length};
+ghost use Rattle.jr_census.specs.Dumps.{HasObjects, HasPlaces, HasPlacesOf, HasRoom, HasSlots, BeginsAt, KeepsNumber, noted_length};
 ghost use Rattle.jr_census.specs.Telling.{LoadsTell};
 
 use jr_steps::Steps;
-use jr_word::{HeaderParts, SlotParts};
+use jr_word::{HeaderParts, LocalParts, SlotParts};
 
 /// Notes what each slot has.
 pub(crate) fn note_slots<S: Steps>(steps: &mut S, slots: &mut [SlotParts])
@@ -19,6 +20,35 @@ pub(crate) fn note_slots<S: Steps>(steps: &mut S, slots: &mut [SlotParts])
     let count = steps.config().slots;
     for index in 0..count {
         slots[index as usize] = steps.scan_slot(index as u16);
+    }
+}
+
+/// Notes what each local place of a thread has, from a place of the notes on.
+fn note_locals_of<S: Steps>(steps: &mut S, thread: u8, start: u32, locals: &mut [LocalParts])
+    requires role { (S.facts steps.old).stands.role ≡ Collecting }
+    requires thread { thread < (S.facts steps.old).stands.config.threads }
+    requires few { length locals.old ≤ 262144 }
+    requires room { start + (S.facts steps.old).stands.config.locals ≤ length locals.old }
+    ensures size { length locals.new ≡ length locals.old }
+    ensures before { (at : ℕ) → at < start → slice_index_or locals.new at Free ≡ slice_index_or locals.old at Free }
+    ensures told { LoadsTell S.facts (λ j. j.config.locals) steps.old steps.new (λ k. HasPlacesOf start k.config.locals ((state_of k).locals thread) locals.new) }
+{
+    let places = steps.config().locals;
+    for place in 0..places {
+        locals[(start + place) as usize] = steps.scan_local(thread, place as u16);
+    }
+}
+
+/// Notes what each local place of each thread has.
+pub(crate) fn note_locals<S: Steps>(steps: &mut S, locals: &mut [LocalParts])
+    requires role { (S.facts steps.old).stands.role ≡ Collecting }
+    requires room { length locals.old ≡ (S.facts steps.old).stands.config.threads * (S.facts steps.old).stands.config.locals }
+    ensures room { length locals.new ≡ length locals.old }
+    ensures told { LoadsTell S.facts (λ j. j.config.threads * j.config.locals) steps.old steps.new (λ k. HasPlaces k.config.threads k.config.locals (state_of k) locals.new) }
+{
+    let config = steps.config();
+    for thread in 0..config.threads {
+        note_locals_of(steps, thread as u8, thread * config.locals, locals);
     }
 }
 

@@ -2,6 +2,7 @@
 use Rattle.std.specs.Prelude.{◌≡◌, ◌≤◌, ◌+◌, ℕ, Option, Ok, Err, List, [], ◌∷◌}
 use Rattle.jr_word.specs.declared.config.Config.{Config}
 use Rattle.jr_word.specs.declared.header.HeaderParts.{HeaderParts}
+use Rattle.jr_word.specs.declared.local.LocalParts.{LocalParts}
 use Rattle.jr_word.specs.declared.slot.SlotParts.{SlotParts}
 use Rattle.jr_model.specs.declared.event.Act.TheVariants.{Gate}
 use Rattle.jr_model.specs.declared.event.GateAct.TheVariants.{Shut, Reopen}
@@ -36,5 +37,5 @@ abbrev pub census : Deed Census
 census = telling counting_steps (λ x c last s. IsCensusOf c last s x)
 
 -- a dump, with these notes
-abbrev pub dump : List SlotParts → List (Option HeaderParts) → List ℕ → Deed (Unit {0})
-dump noted headers words = telling noting_steps (λ u c last s. IsDumpOf c last s noted headers words)
+abbrev pub dump : List SlotParts → List LocalParts → List (Option HeaderParts) → List ℕ → Deed (Unit {0})
+dump noted locals headers words = telling noting_steps (λ u c last s. IsDumpOf c last s noted locals headers words)

@@ -6,7 +6,7 @@ use jr::Census;
 use jr_env::Env;
 use jr_steps::Steps;
 use jr_weak::Marker;
-use jr_word::{Fault, HeaderParts, SlotParts};
+use jr_word::{Fault, HeaderParts, LocalParts, SlotParts};
 use std::alloc::Global;
 use std::process::Abort;
 use std::test::Fail;
@@ -148,7 +148,23 @@ fn has_three(rt: &impl Abort, headers: &[Option<HeaderParts>; 4]) {
     assert_eq!(rt; count, 3);
 }
 
-/// A dump of a room of four slots, four objects and eight words.
+/// Of five threads with 16 local places each, thread 1 has two references, and no other thread has one.
+fn have_locals(rt: &impl Abort, locals: &[LocalParts; 80]) {
+    let mut own = 0u32;
+    let mut all = 0u32;
+    for (at, local) in locals.iter().enumerate() {
+        if let LocalParts::Object(_) = local {
+            all = all.saturating_add(1);
+            if at / 16 == 1 {
+                own = own.saturating_add(1);
+            }
+        }
+    }
+    assert_eq!(rt; own, 2);
+    assert_eq!(rt; all, 2);
+}
+
+/// A dump of a room of four slots, four objects and eight words, for five threads with 16 local places each.
 pub(crate) fn has_what_stands<S: Steps>(
     rt: &impl Abort,
     alloc: Global,
@@ -159,11 +175,16 @@ pub(crate) fn has_what_stands<S: Steps>(
     if config.slots != 4 || config.objects != 4 || config.words != 8 {
         return Err("the room has other sizes")?;
     }
+    if config.threads != 5 || config.locals != 16 {
+        return Err("the room has other threads or places")?;
+    }
     let mut slots = [SlotParts::Free { serial: 0 }; 4];
+    let mut locals = [LocalParts::Free; 80];
     let mut headers = [None; 4];
     let mut words = [0u64; 8];
-    env.dump(&mut slots, &mut headers, &mut words)?;
+    env.dump(&mut slots, &mut locals, &mut headers, &mut words)?;
     have_references(rt, &slots);
+    have_locals(rt, &locals);
     has_three(rt, &headers);
     Ok(())
 }

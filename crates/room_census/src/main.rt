@@ -7,7 +7,7 @@ use jr_census::{Census, Objects, Words};
 use jr_env::Env;
 use jr_rule::{Room, RoomSteps, Steps};
 use jr_weak::Marker;
-use jr_word::{Config, Fault, Handle, HeaderParts, Kind, SlotParts};
+use jr_word::{Config, Fault, Handle, HeaderParts, Kind, LocalParts, SlotParts};
 use std::alloc::Global;
 use std::io;
 use std::io::Write;
@@ -22,8 +22,11 @@ const SIZES: Config = Config {
     slots: 8,
     objects: 5,
     words: 64,
-    locals: 16,
+    locals: PLACES as u32,
 };
+
+/// How many local places each thread has.
+const PLACES: usize = 16;
 
 /// How what stands for a weak reference is drawn.
 const DASHED: &str = " [style=dashed]";
@@ -63,10 +66,14 @@ fn tell_by<S: Steps, W: Write>(
     write_census(out, &census)?;
     let config = env.held.steps.config();
     let mut slots = notes(alloc, SlotParts::Free { serial: 0 }, config.slots)?;
+    let Some(places) = config.threads.checked_mul(config.locals) else {
+        return Err(Fault::Size)?;
+    };
+    let mut locals = notes(alloc, LocalParts::Free, places)?;
     let mut headers = notes(alloc, None, config.objects)?;
     let mut words = notes(alloc, 0u64, config.words)?;
-    env.dump(&mut slots, &mut headers, &mut words)?;
-    draw(out, &slots, &headers, &words)?;
+    env.dump(&mut slots, &mut locals, &mut headers, &mut words)?;
+    draw(out, &slots, &locals, &headers, &words)?;
     Ok(())
 }
 
@@ -136,12 +143,16 @@ fn write_count<W: Write>(out: &mut W, what: &str, count: u32) -> io::Result<()> 
 fn draw<W: Write>(
     out: &mut W,
     slots: &[SlotParts],
+    locals: &[LocalParts],
     headers: &[Option<HeaderParts>],
     words: &[u64],
 ) -> io::Result<()> {
     writeln!(out, "digraph room {{\n  rankdir=LR;")?;
     for (index, slot) in slots.iter().enumerate() {
         draw_slot(out, index, *slot)?;
+    }
+    for (index, local) in locals.iter().enumerate() {
+        draw_local(out, index, *local)?;
     }
     for (index, header) in headers.iter().enumerate() {
         if let Some(header) = header {
@@ -167,6 +178,18 @@ fn draw_slot<W: Write>(out: &mut W, index: usize, slot: SlotParts) -> io::Result
         } => writeln!(out, "  \"weak {index}\"{DASHED};"),
         SlotParts::Free { .. } | SlotParts::Retired { .. } => Ok(()),
     }
+}
+
+/// Draws the local reference of a place.
+fn draw_local<W: Write>(out: &mut W, index: usize, local: LocalParts) -> io::Result<()> {
+    let LocalParts::Object(object) = local else {
+        return Ok(());
+    };
+    let (thread, place) = (index / PLACES, index % PLACES);
+    writeln!(
+        out,
+        "  \"local {place} of thread {thread}\" -> \"object {object}\";"
+    )
 }
 
 /// Draws an arrow to an object.

@@ -4,10 +4,10 @@ use crate::work::outside;
 use jr_census::{Census, take_census, take_dump};
 use jr_steps::Steps;
 use jr_weak::Marker;
-use jr_word::{Fault, HeaderParts, SlotParts};
+use jr_word::{Fault, HeaderParts, LocalParts, SlotParts};
 
 impl<S: Steps> Env<S> {
-    ghost use Rattle.std.specs.Prelude.{◌≡◌, ◌↔◌, ◌≤◌, ℕ, length, Err, IsOk, IfErr, OnErr};
+    ghost use Rattle.std.specs.Prelude.{◌≡◌, ◌↔◌, ◌≤◌, ◌*◌, ℕ, length, Err, IsOk, IfErr, OnErr};
     ghost use Rattle.jr_word.specs.declared.fault.Fault.TheVariants.{Busy, Size};
     ghost use Rattle.jr_weak.specs.Markers.{room_of};
     ghost use Rattle.jr_env.specs.Collections.{FitsRoom};
@@ -58,7 +58,7 @@ impl<S: Steps> Env<S> {
         take_census(&mut held.steps, marker)
     }
 
-    /// Notes what each slot and each object has: references with their objects, and objects with their kind, length and elements. All of it is so at one step, which shuts the gate; no thread comes in until it is opened again. It is handed room for it: a place for each slot of the room, one for each object number, and one for each word of array space. A slot's is the one of its index, and an object's header that of its number less one, none where no object has it; the place that the header says is that of the first element among the words. It changes nothing in the room, takes no memory and never waits.
+    /// Notes what each slot, each local place and each object has: references with their objects, and objects with their kind, length and elements. All of it is so at one step, which shuts the gate; no thread comes in until it is opened again. It is handed room for it: a place for each slot of the room, one for each local place of each thread, one for each object number, and one for each word of array space. A slot's is the one of its index, those of a thread's local places stand in their order behind those of the threads before it, and an object's header that of its number less one, none where no object has it; the place that the header says is that of the first element among the words. It changes nothing in the room, takes no memory and never waits.
     ///
     /// # Errors
     ///
@@ -68,28 +68,32 @@ impl<S: Steps> Env<S> {
     ///
     /// # Operations
     ///
-    /// One where it is refused. Else a look at each slot and at each object number's header, a load for each element, and two at the gate.
+    /// One where it is refused. Else a look at each slot, at each local place of every thread and at each object number's header, a load for each element, and two at the gate.
     pub fn dump(
         &mut self,
         slots: &mut [SlotParts],
+        locals: &mut [LocalParts],
         headers: &mut [Option<HeaderParts>],
         words: &mut [u64],
     ) -> Result<(), Fault>
         requires slots { length slots.old ≡ (S.facts self.old.held.steps).stands.config.slots }
+        requires locals { length locals.old ≡ (S.facts self.old.held.steps).stands.config.threads * (S.facts self.old.held.steps).stands.config.locals }
         requires headers { length headers.old ≡ (S.facts self.old.held.steps).stands.config.objects }
         requires words { length words.old ≡ (S.facts self.old.held.steps).stands.config.words }
-        ensures call { Does self.old self.new (dump slots.new headers.new words.new) result }
+        ensures call { Does self.old self.new (dump slots.new locals.new headers.new words.new) result }
         ensures slots { length slots.new ≡ length slots.old }
+        ensures locals { length locals.new ≡ length locals.old }
         ensures headers { length headers.new ≡ length headers.old }
         ensures words { length words.new ≡ length words.old }
         ensures busy { IfErr result (λ e. (n : ℕ) × (e ≡ Busy n) × (1 ≤ n)) }
         ensures kept_slots { OnErr result (slots.new ≡ slots.old) }
+        ensures kept_locals { OnErr result (locals.new ≡ locals.old) }
         ensures kept_headers { OnErr result (headers.new ≡ headers.old) }
         ensures kept_words { OnErr result (words.new ≡ words.old) }
         ensures alone { (S.facts self.old.held.steps).stands.config.threads ≡ 1 → IsOk result }
     {
         let held = &mut self.held;
         outside(held);
-        take_dump(&mut held.steps, slots, headers, words)
+        take_dump(&mut held.steps, slots, locals, headers, words)
     }
 }
