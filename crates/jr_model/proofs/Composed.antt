@@ -1,12 +1,12 @@
 -- How calls are composed: what holds of the parts of a call holds of the call, whatever it is that holds.
-use Rattle.std.proofs.Common.{◌≡◌, inl, inr, ℕ, zero, suc, Bool, true, false, cond, List, [], ◌∷◌, ◌++◌, Result, Ok, Err, refl, sym, ap, subst, ◌∙◌}
+use Rattle.std.proofs.Common.{◌≡◌, inl, inr, ℕ, zero, suc, Bool, true, false, cond, Some, List, [], ◌∷◌, ◌++◌, length, Result, Ok, Err, refl, sym, ap, subst, ◌∙◌}
 use Rattle.jr_word.specs.declared.kind.Kind.{Kind}
 use Rattle.jr_word.specs.declared.fault.Fault.{Fault}
 use Rattle.jr_word.specs.declared.fault.Fault.TheVariants.{Barred, Memory}
 use Rattle.jr_model.specs.declared.event.Act.{Act}
 use Rattle.jr_model.specs.declared.event.Act.TheVariants.{Gate}
 use Rattle.jr_model.specs.declared.event.GateAct.TheVariants.{Enter, Knock, Leave, Withdraw}
-use Rattle.jr_model.specs.State.{State}
+use Rattle.jr_model.specs.State.{Contents, State}
 use Rattle.jr_model.specs.Frames.{Frames}
 use Rattle.jr_model.specs.Calls.{Call, ◌>>=◌, ◌>>◌, act, at_most, done, entered, for_object, one_of, opened, refuse, refuse_if, some_act, unless_memory_for}
 
@@ -79,8 +79,12 @@ module _ {Good : Going} {Bad : Refusing} where
   pub framed_gives : {A : Type 0} (call : Frames → Call A) → ((f : Frames) → Gives Good Bad (call f)) → Gives Good Bad (λ old. call old old)
   framed_gives call q = record { goes = λ old new acts x r. (q old).goes old new acts x r; fails = λ old new acts e r. (q old).fails old new acts e r }
 
+  -- work at an object, of which it is known that it is there
+  pub object_so : {A : Type 0} (s : State) (o : ℕ) (next : Kind → ℕ → Call A) → ((x : Contents) → s.objects o ≡ Some x → Gives Good Bad (next x.kind (length x.words))) → Gives Good Bad (for_object s o next)
+  object_so s o next q = record { goes = λ old new acts x r. (q r.0 r.1).goes old new acts x r.2; fails = λ old new acts e r. (q r.0 r.1).fails old new acts e r.2 }
+
   pub object_gives : {A : Type 0} (s : State) (o : ℕ) {next : Kind → ℕ → Call A} → ((k : Kind) (n : ℕ) → Gives Good Bad (next k n)) → Gives Good Bad (for_object s o next)
-  object_gives s o q = record { goes = λ old new acts x r. (q _ _).goes old new acts x r.2; fails = λ old new acts e r. (q _ _).fails old new acts e r.2 }
+  object_gives s o {next} q = object_so s o next (λ x is. q x.kind (length x.words))
 
   pub memory_gives : {A : Type 0} {work : Call A} (n : ℕ) → ((f : Frames) → Bad f [] Memory f) → Gives Good Bad work → Gives Good Bad (unless_memory_for n work)
   memory_gives zero bad p = p

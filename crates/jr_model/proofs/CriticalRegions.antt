@@ -1,5 +1,5 @@
 -- A critical region is one stay.
-use Rattle.std.proofs.Common.{◌≡◌, ◌≢◌, inl, inr, ℕ, List, [], ◌∷◌, ◌++◌, length, Result, Ok, refl, sym, ap, subst, ◌∙◌, append_assoc}
+use Rattle.std.proofs.Common.{◌≡◌, ◌≢◌, inl, inr, ℕ, List, [], ◌∷◌, ◌++◌, Result, Ok, refl, sym, ap, subst, ◌∙◌, append_assoc}
 use Rattle.std.proofs.lemmas.List.{append-nil}
 use Rattle.std.specs.List.{AllByRecursion}
 use Rattle.jr_word.specs.declared.config.Config.{Config}
@@ -16,8 +16,8 @@ use Rattle.jr_model.specs.Checks.{Word}
 use Rattle.jr_model.specs.Objects.{level_array, level_string}
 use Rattle.jr_model.specs.CriticalRegions.{IsOneStay, IsRegion, IsRegionCall, opened_at_array, opened_at_string, goes_on, nests_array, nests_string, gets, sets, tells_kind, tells_length, gives_up_level, NoCollectionInRegion, NoCollectionUpToRelease}
 use Rattle.jr_model.proofs.Composed.{object_gives}
-use Rattle.jr_model.proofs.Lawful.{NoLeave, answered, prelude, work_stays}
-use Rattle.jr_model.proofs.EachCall.{get_work, set_work}
+use Rattle.jr_model.proofs.Lawful.{NoLeave, prelude, work_stays}
+use Rattle.jr_model.proofs.EachCall.{get_work, nest_array_work, nest_string_work, set_work}
 use Rattle.jr_model.proofs.Preludes.{done_prelude, level_array_prelude, level_string_prelude}
 use Rattle.jr_model.proofs.Exactly.{append_all}
 use Rattle.jr_model.proofs.Gates.{no_collection_inside}
@@ -40,8 +40,8 @@ module _ (c : Config) (last thread : ℕ) (s : State) where
 
   -- no call of a region that goes on leaves the gate
   call_stays : (f g : Frames) (acts : List Act) → IsRegionCall c last thread s f acts g → NoLeave acts
-  call_stays f g acts (nests_array levels a answer is) = work_stays (answered (prelude {asked = 0} {last = last} {thread = thread} (level_array_prelude c last thread s (length levels) a)) _) f g acts answer is
-  call_stays f g acts (nests_string levels a answer is) = work_stays (answered (prelude {asked = 0} {last = last} {thread = thread} (level_string_prelude c last thread s (length levels) a)) _) f g acts answer is
+  call_stays f g acts (nests_array levels a answer is) = work_stays (nest_array_work {asked = 0} c last thread s levels a) f g acts answer is
+  call_stays f g acts (nests_string levels a answer is) = work_stays (nest_string_work {asked = 0} c last thread s levels a) f g acts answer is
   call_stays f g acts (gets k o i answer is) = work_stays (get_work {asked = 0} c last thread s k o i) f g acts answer is
   call_stays f g acts (sets k o i v answer is) = work_stays (set_work {asked = 0} c last thread s k o i v) f g acts answer is
   call_stays f g acts (tells_kind o answer is) = work_stays {asked = 0} {last = last} {thread = thread} (object_gives s o (λ k n. prelude (done_prelude k))) f g acts answer is

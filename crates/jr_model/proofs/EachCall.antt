@@ -20,9 +20,9 @@ use Rattle.jr_model.specs.State.{Handle, State}
 use Rattle.jr_model.specs.Frames.{Frames, stays}
 use Rattle.jr_model.specs.Calls.{◌>>=◌, ◌>>◌, act, one_of, refuse, some_act}
 use Rattle.jr_model.specs.Checks.{Word, Nothing, Malformed, Parts, is_array, is_plain, is_read_as, is_text, is_value, same_element}
-use Rattle.jr_model.specs.Parts.{collect_announced, collected, create, created, delete, delete_at, delete_found, delete_local_at, enter, publish, read, read_acts, reserve, write, write_acts}
+use Rattle.jr_model.specs.Parts.{collect, collect_announced, collected, create, created, delete, delete_at, delete_found, delete_local_at, enter, publish, read, read_acts, reserve, write, write_acts}
 use Rattle.jr_model.specs.References.{delete_local, freeing, made, new_local, resolved}
-use Rattle.jr_model.specs.Objects.{copying_back, length_reading, region_get, region_release, region_set, release_array_elements}
+use Rattle.jr_model.specs.Objects.{copying_back, length_reading, nest_array, nest_string, region_get, region_release, region_set, release_array_elements}
 use Rattle.jr_model.specs.CollectionCalls.{collection_acts}
 use Rattle.jr_model.specs.AllCalls.{AnswerKind, AnswerOf, CallOf, PartOf, means, part_means, words_asked, words_asked_by_part}
 use Rattle.jr_model.specs.Moves.{CallsMoveFrames}
@@ -103,7 +103,10 @@ module _ {asked last thread : ℕ} where
   collected_work : IsWork asked last thread collected
   collected_work = record { goes = λ old new acts x r. moved (sweeps_inside asked r.0 r.1 r.2) r.3 (same_leads r.5); fails = λ old new acts e r. absurd (let bad = r.4 in cc) }
 
-  collect_announced_work : (tries : ℕ) → IsWork asked last thread (collect_announced tries)
+  pub collect_work : IsWork asked last thread collect
+  collect_work = either_gives collected_work (prelude closed_prelude)
+
+  pub collect_announced_work : (tries : ℕ) → IsWork asked last thread (collect_announced tries)
   collect_announced_work tries = before announce_prelude (λ x. either_gives (before (shuts_prelude (λ n. n < tries)) (λ y. collected_work)) (before (shuts_prelude (λ n. n + 1 ≡ tries)) (λ y. prelude cancelled_prelude)))
 
   enter_work : IsWork asked last thread enter
@@ -188,6 +191,13 @@ module _ {asked : ℕ} (c : Config) (last thread : ℕ) (s : State) where
   release_lawful k a buffer Commit = answered (in_stay (back_work k a buffer)) (λ x. Some buffer)
   release_lawful k a buffer Abort = outside (prelude (done_prelude None))
 
+  -- a level is added to others
+  pub nest_array_work : (levels : List ℕ) (a : Word) → IsWork asked last thread (nest_array c last thread s levels a)
+  nest_array_work levels a = prelude (bind_prelude (level_array_prelude c last thread s (length levels) a) (λ o. done_prelude _))
+
+  pub nest_string_work : (levels : List ℕ) (a : Word) → IsWork asked last thread (nest_string c last thread s levels a)
+  nest_string_work levels a = prelude (bind_prelude (level_string_prelude c last thread s (length levels) a) (λ o. done_prelude _))
+
   -- an element of a level is read, and written
   pub get_work : (k : Kind) (o i : ℕ) → IsWork asked last thread (region_get c last thread s k o i)
   get_work k o i = object_gives s o (λ l n. before (check (not (is_read_as k l)) WrongElement refl) (λ y. before (check (nat_le n i) Range refl) (λ z. some_act_of (Read o i) (λ v. tt))))
@@ -228,8 +238,8 @@ module _ (c : Config) (last thread : ℕ) (s : State) where
   lawful (CallOf.release_array_elements k a buffer mode) = release_lawful c last thread s k a buffer mode
   lawful (CallOf.get_array_critical a) = in_region (prelude (level_array_prelude c last thread s 0 a))
   lawful (CallOf.get_string_critical a) = in_region (prelude (level_string_prelude c last thread s 0 a))
-  lawful (CallOf.nest_array levels a) = outside (before (level_array_prelude c last thread s (length levels) a) (λ o. prelude (done_prelude _)))
-  lawful (CallOf.nest_string levels a) = outside (before (level_string_prelude c last thread s (length levels) a) (λ o. prelude (done_prelude _)))
+  lawful (CallOf.nest_array levels a) = outside (nest_array_work c last thread s levels a)
+  lawful (CallOf.nest_string levels a) = outside (nest_string_work c last thread s levels a)
 
   -- EACH OTHER CALL
   part_lawful : {a : AnswerKind} (x : PartOf a) → IsLawful (words_asked_by_part x) last thread (part_means c last thread s x)
@@ -258,7 +268,7 @@ module _ (c : Config) (last thread : ℕ) (s : State) where
   part_lawful (PartOf.elements_get buffer i) = outside (before (check (nat_le (length buffer) i) Range refl) (λ x. prelude (done_prelude _)))
   part_lawful (PartOf.elements_set buffer i v) = outside (before (check (nat_le (length buffer) i) Range refl) (λ x. prelude (done_prelude _)))
   part_lawful (PartOf.elements_length buffer) = outside (prelude (done_prelude _))
-  part_lawful PartOf.collect = outside (either_gives collected_work (prelude closed_prelude))
+  part_lawful PartOf.collect = outside collect_work
   part_lawful PartOf.announce = outside (prelude announce_prelude)
   part_lawful (PartOf.collect_announced tries) = outside (collect_announced_work tries)
   part_lawful PartOf.meet = outside (one_act _ tt)

@@ -242,3 +242,8 @@ module _ {asked last thread : ℕ} where
   pub work_stays : {A : Type 0} {call : Call A} → IsWork asked last thread call → (old new : Frames) (acts : List Act) (answer : Result A Fault) → call old acts answer new → NoLeave acts
   work_stays p old new acts (Ok x) r = (p.goes old new acts x r).are
   work_stays p old new acts (Err e) r = (p.fails old new acts e r).are
+
+  -- it loses no reservation but such
+  pub loses : {A : Type 0} {Are : List Act → Type 0} {call : Call A} → Gives (Moved Are asked last thread) (Refused Are asked) call → (old new : Frames) (acts : List Act) (answer : Result A Fault) → call old acts answer new → LoseOnly asked acts
+  loses p old new acts (Ok x) r = (p.goes old new acts x r).lose
+  loses p old new acts (Err e) r = (p.fails old new acts e r).shown.1

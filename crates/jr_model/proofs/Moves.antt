@@ -103,7 +103,7 @@ abbrev HasTwo : Frames → Type 0
 HasTwo f = 2 ≤ length f.frames
 
 -- a place is left for the result
-abbrev HasRoom : ℕ → Option ℕ → Frames → Type 0
+abbrev pub HasRoom : ℕ → Option ℕ → Frames → Type 0
 HasRoom last None f = Unit {0}
 HasRoom last (Some o) f = (free_places last f == 0) ≡ false
 
@@ -133,7 +133,7 @@ module _ {asked : ℕ} (c : Config) (last thread : ℕ) where
       (record { goes = (room_prelude c last thread 1).goes; fails = λ old new acts e r room. room_refused (nat_lt (free_places last old) 1) LocalsFull old new acts e (some_room (free_places last old) room) r })
       (λ x. answered (added_sure c o) Some)
 
-  taking_work : (o : Option ℕ) → Gives (λ f xs g. HasTwo f → Moved NoLeave asked last thread f xs g) (λ f xs e g. HasRoom last o (popped f) → ⊥) (take_frame >> new_local c last thread o)
+  pub taking_work : (o : Option ℕ) → Gives (λ f xs g. HasTwo f → Moved NoLeave asked last thread f xs g) (λ f xs e g. HasRoom last o (popped f) → ⊥) (take_frame >> new_local c last thread o)
   taking_work o = bind_gives {First = λ f xs g. (xs ≡ drop_all (last_frame f.frames)) × (g ≡ popped f)} {first = take_frame}
       (record {
         joins = λ f g h xs ys taken work two. both_moved f g h xs ys (moved (drops_inside asked (last_frame f.frames)) taken.0 (subst (LeadsTo last thread f) (sym taken.1) (goes_on stays (pops two)))) work;
@@ -142,7 +142,7 @@ module _ {asked : ℕ} (c : Config) (last thread : ℕ) where
       (record { goes = λ old new acts x r. (r.0, r.2); fails = λ old new acts e r. absurd (let bad = r.1 in cc) })
       (λ x. result_work o)
 
-  after_room : (o : Option ℕ) → Gives (λ f xs g. Quiet asked f xs g × HasRoom last o (popped g)) (Refused NoLeave asked) (room_after c last thread o)
+  pub after_room : (o : Option ℕ) → Gives (λ f xs g. Quiet asked f xs g × HasRoom last o (popped g)) (Refused NoLeave asked) (room_after c last thread o)
   after_room None = framed_gives (λ old. done tt) (λ f. weaker_gives (λ f g xs quiet. (quiet, tt)) (λ f g xs e refused. refused) (done_prelude tt))
   after_room (Some o) = tested {P = λ f. HasRoom last (Some o) (popped f)} (λ f. free_places last (popped f) == 0) LocalsFull refl (λ f is. is)
 

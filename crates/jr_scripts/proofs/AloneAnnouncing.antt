@@ -1,5 +1,5 @@
 -- An announced collection of a thread that is alone.
-use Rattle.std.proofs.Common.{◌≡◌, ◌≢◌, ◌<◌, ◌+◌, inl, inr, ℕ, zero, suc, true, List, [], ◌∷◌, ◌++◌, map, Result, Ok, Err, IfErr, refl, sym, subst, ◌∙◌, ap}
+use Rattle.std.proofs.Common.{◌≡◌, ◌≢◌, ◌+◌, inl, inr, ℕ, zero, suc, true, List, [], ◌∷◌, ◌++◌, Result, Ok, Err, IfErr, refl, sym, subst, ◌∙◌, ap}
 use Rattle.std.specs.List.{AllByRecursion}
 use mathlib.Core.List.{IsPrefix}
 use Rattle.jr_word.specs.declared.config.Config.{Config}
@@ -8,15 +8,16 @@ use Rattle.jr_word.specs.declared.fault.Fault.TheVariants.{Busy, Moved, Turns}
 use Rattle.jr_model.specs.declared.event.Event.{Event}
 use Rattle.jr_model.specs.declared.event.Act.{Act}
 use Rattle.jr_model.specs.declared.event.Act.TheVariants.{Gate, ShutBusy, Meet}
-use Rattle.jr_model.specs.declared.event.GateAct.TheVariants.{Announce, Cancel}
+use Rattle.jr_model.specs.declared.event.GateAct.TheVariants.{Cancel}
 use Rattle.jr_model.specs.State.{State}
 use Rattle.jr_model.specs.Steps.{act_after, after}
 use Rattle.jr_model.specs.History.{History, PassView, IsLegal}
 use Rattle.jr_model.specs.Frames.{Frames}
-use Rattle.jr_model.specs.Calls.{Call, Ran, ◌>>=◌, ◌>>◌, act, one_of, refuse, some_act}
-use Rattle.jr_model.specs.Parts.{announce, collect_announced, collected, found_closed, found_moved, refused_shuts}
+use Rattle.jr_model.specs.Calls.{Call, Ran, ◌>>=◌, ◌>>◌, act, refuse, some_act}
+use Rattle.jr_model.specs.Parts.{announce, collect_announced}
 use Rattle.jr_model.specs.Refusals.{IsOpenWith, Sometime, GateHasMoved, Grounds}
 use Rattle.jr_model.proofs.Exactly.{append_all}
+use Rattle.jr_model.proofs.EachCall.{collect_announced_work}
 use Rattle.jr_model.proofs.Moments.{prefix_self, prefix_trans, sometime_wider}
 use Rattle.jr_model.proofs.Stays.{mine_did}
 use Rattle.jr_syntax.specs.declared.command.Command.TheVariants as commands
@@ -31,60 +32,9 @@ use Rattle.jr_scripts.specs.Commands.{collecting_announced, told}
 use Rattle.jr_scripts.specs.AloneAnswers.{IsCommandFault}
 use Rattle.jr_scripts.proofs.Alone.{IsUndisturbed, undisturbed}
 use Rattle.jr_scripts.proofs.AloneCalls.{AllUncontended, IsAlone, LedAlone, LeadsAlone, since}
-use Rattle.jr_scripts.proofs.AloneCollections.{collected_uncontended}
 use Rattle.jr_scripts.proofs.AloneHistories.{all_back, own_acts, still_so}
 use Rattle.jr_scripts.proofs.AloneParts.{tried_alone, tries_alone, was_alone}
-use Rattle.jr_scripts.proofs.Uncontended.{Asked, AreUncontended, is_uncontended_act, same_fault}
-
--- THE ACTS of an announced collection are none that another thread causes
-record IsQuiet {A : Type 0} (call : Call A) : Type 0 where
-  acts : (old new : Frames) (acts : List Act) (answer : Result A Fault) → call old acts answer new → AreUncontended acts
-
-bind_quiet : {A B : Type 0} {first : Call A} {next : A → Call B} → IsQuiet first → ((x : A) → IsQuiet (next x)) → IsQuiet (first >>= next)
-bind_quiet {A} {B} {first} {next} p q = record { acts = go }
-  where
-    go : (old new : Frames) (acts : List Act) (answer : Result B Fault) → (first >>= next) old acts answer new → AreUncontended acts
-    go old new acts answer (inl r) = subst AreUncontended (sym r.4) (append_all (λ a. is_uncontended_act a ≡ true) r.2 r.3 (p.acts old r.1 r.2 (Ok r.0) r.5) ((q r.0).acts r.1 new r.3 answer r.6))
-    go old new acts answer (inr r) = p.acts old new acts (Err r.0) r.2
-
-either_quiet : {A : Type 0} {p q : Call A} → IsQuiet p → IsQuiet q → IsQuiet (one_of p q)
-either_quiet {A} {p} {q} x y = record { acts = go }
-  where
-    go : (old new : Frames) (acts : List Act) (answer : Result A Fault) → one_of p q old acts answer new → AreUncontended acts
-    go old new acts answer (inl r) = x.acts old new acts answer r
-    go old new acts answer (inr r) = y.acts old new acts answer r
-
-act_quiet : (a : Act) → is_uncontended_act a ≡ true → IsQuiet (act a)
-act_quiet a is = record { acts = λ old new acts answer r. subst AreUncontended (sym r.0) (is, tt) }
-
-busy_quiet : IsQuiet (some_act ShutBusy)
-busy_quiet = record { acts = λ old new acts answer r. subst AreUncontended (sym r.1) (refl, tt) }
-
-refuse_quiet : {A : Type 0} (e : Fault) → IsQuiet (refuse {A = A} e)
-refuse_quiet e = record { acts = λ old new acts answer r. subst AreUncontended (sym r.0) tt }
-
-moved_quiet : IsQuiet found_moved
-moved_quiet = record { acts = λ old new acts answer r. subst AreUncontended (sym r.2.0) tt }
-
-closed_quiet : {A : Type 0} → IsQuiet (found_closed {A = A})
-closed_quiet = bind_quiet busy_quiet (λ n. refuse_quiet (Busy n))
-
-all_busy : (counts : List ℕ) → AreUncontended (map ShutBusy counts)
-all_busy [] = tt
-all_busy (n ∷ counts) = (refl, all_busy counts)
-
-refused_quiet : (many : ℕ → Type 0) → IsQuiet (refused_shuts many)
-refused_quiet many = record { acts = λ old new acts answer r. subst AreUncontended (sym r.2) (all_busy r.0) }
-
-collected_quiet : IsQuiet collected
-collected_quiet = record { acts = λ old new acts answer r. subst AreUncontended (sym r.3) (collected_uncontended r.0 r.1 r.2) }
-
-announce_quiet : IsQuiet announce
-announce_quiet = either_quiet closed_quiet (bind_quiet (act_quiet Meet refl) (λ x. either_quiet (act_quiet (Gate Announce) refl) (either_quiet closed_quiet (bind_quiet (act_quiet Meet refl) (λ y. moved_quiet)))))
-
-announced_quiet : (tries : ℕ) → IsQuiet (collect_announced tries)
-announced_quiet tries = bind_quiet announce_quiet (λ x. either_quiet (bind_quiet (refused_quiet (λ n. n < tries)) (λ y. collected_quiet))
-    (bind_quiet (refused_quiet (λ n. n + 1 ≡ tries)) (λ y. bind_quiet busy_quiet (λ n. bind_quiet (act_quiet (Gate Cancel) refl) (λ z. refuse_quiet (Busy n))))))
+use Rattle.jr_scripts.proofs.Uncontended.{Asked, is_uncontended_act, loses_none, same_fault}
 
 -- ITS REFUSALS, where no shut was refused: two looks found the gate open, with other counts
 abbrev NoneBusy : List Act → Type 0
@@ -157,7 +107,7 @@ module _ (tries : ℕ) (old new : PassView) (f g : Frames) (alone : IsAlone new)
     thread = r.did.thread;
     begins = r.did.begins;
     uncontended = λ before. subst AllUncontended r.did.begins.1
-        (append_all (λ e. is_uncontended_act e.act ≡ true) old.seen r.did.begins.0 before (since old new f g (collect_announced tries) alone (λ a. is_uncontended_act a ≡ true) found r ((announced_quiet tries).acts f g r.acts found r.is)));
+        (append_all (λ e. is_uncontended_act e.act ≡ true) old.seen r.did.begins.0 before (since old new f g (collect_announced tries) alone (λ a. is_uncontended_act a ≡ true) found r (loses_none {last = 0} {thread = 0} (λ asked. collect_announced_work tries) f g r.acts found r.is)));
     fault = fault;
   }
 

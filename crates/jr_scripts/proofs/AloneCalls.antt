@@ -23,7 +23,7 @@ use Rattle.jr_env.specs.Deeds.{Deed, call_by}
 use Rattle.jr_scripts.specs.AloneAnswers.{IsCommandFault, IsShort, LacksSpace}
 use Rattle.jr_scripts.proofs.AloneHistories.{all_back, own_acts, own_events, still_so, stays_occupied, stays_present}
 use Rattle.jr_scripts.proofs.SpaceAlone.{found_short, never_lost}
-use Rattle.jr_scripts.proofs.Uncontended.{Asked, FoundFull, FoundShort, IsUncontendedFault, is_uncontended_act, AreUncontended, IsUncontended, IsUnraced, found_earlier, more_fault}
+use Rattle.jr_scripts.proofs.Uncontended.{Asked, FoundFull, FoundShort, IsUncontendedFault, is_uncontended_act, AreUncontended, IsUncontended, IsUnraced, found_earlier, more_fault, uncontended_acts}
 
 -- the room has one thread; all events that its pass has seen are its own, and none is a knock
 pub record IsAlone (p : PassView) : Type 0 where
@@ -110,13 +110,13 @@ module _ {A : Type 0} (old new : PassView) (f g : Frames) (work : Call A) (alone
 module _ {A : Type 0} (s : State) (command : Asked) (last : ℕ) (work : Call A) (uncontended : IsUncontended s last command work) where
   acts_uncontended : (old new : Frames) (acts : List Act) (answer : Result A Fault) → IsUnraced answer → entered work old acts answer new → AreUncontended acts
   acts_uncontended old new acts answer u (inl r) = subst AreUncontended (sym r.0) (refl, (refl, tt))
-  acts_uncontended old new acts answer u (inr r) = subst AreUncontended (sym r.1) (refl, append_all (λ a. is_uncontended_act a ≡ true) r.0 (Gate Leave ∷ []) (uncontended.acts old new r.0 answer u r.2) (refl, tt))
+  acts_uncontended old new acts answer u (inr r) = subst AreUncontended (sym r.1) (refl, append_all (λ a. is_uncontended_act a ≡ true) r.0 (Gate Leave ∷ []) (uncontended_acts uncontended old new r.0 answer u r.2) (refl, tt))
 
   -- a call that was not barred is refused for what its work is
   fault_uncontended : (old new : Frames) (acts : List Act) (e : Fault) → AllByRecursion (λ a. a ≢ Gate Knock) acts → entered work old acts (Err e) new → IsUncontendedFault s last command acts new e
   fault_uncontended old new acts e enters (inl r) = absurd ((subst (AllByRecursion (λ a. a ≢ Gate Knock)) r.0 enters).0 refl)
   fault_uncontended old new acts e enters (inr r) =
-      subst (λ (all : List Act). IsUncontendedFault s last command all new e) (sym r.1) (more_fault s last command r.0 (Gate Enter ∷ r.0 ++ Gate Leave ∷ []) (λ n used h. inr (found_earlier n used r.0 (Gate Leave ∷ []) h)) new e (uncontended.fault old new r.0 e r.2))
+      subst (λ (all : List Act). IsUncontendedFault s last command all new e) (sym r.1) (more_fault s last command r.0 (Gate Enter ∷ r.0 ++ Gate Leave ∷ []) (λ n used h. inr (found_earlier n used r.0 (Gate Leave ∷ []) h)) new e (uncontended.fails old new r.0 e r.2).fault)
 
   unraced : (turns : ℕ) (p : PassView) (f : Frames) (answer : Result A Fault) → IfErr answer (IsCommandFault turns command.0 command.1 p f) → IsUnraced answer
   unraced turns p f (Ok x) h = tt
@@ -144,13 +144,13 @@ module _ {A : Type 0} (s : State) (command : Asked) (last : ℕ) (work : Call A)
 module _ {A : Type 0} (s : State) (command : Asked) (last : ℕ) (work : Call A) (uncontended : IsUncontended s last command work) where
   opened_acts : (old new : Frames) (acts : List Act) (answer : Result A Fault) → IsUnraced answer → opened work old acts answer new → AreUncontended acts
   opened_acts old new acts answer u (inl r) = subst AreUncontended (sym r.0) (refl, (refl, tt))
-  opened_acts old new acts (Ok x) u (inr r) = subst AreUncontended (sym r.1.0) (refl, uncontended.acts old new r.0 (Ok x) u r.1.1)
-  opened_acts old new acts (Err e) u (inr r) = subst AreUncontended (sym r.1.0) (refl, append_all (λ a. is_uncontended_act a ≡ true) r.0 (Gate Leave ∷ []) (uncontended.acts old new r.0 (Err e) u r.1.1) (refl, tt))
+  opened_acts old new acts (Ok x) u (inr r) = subst AreUncontended (sym r.1.0) (refl, uncontended_acts uncontended old new r.0 (Ok x) u r.1.1)
+  opened_acts old new acts (Err e) u (inr r) = subst AreUncontended (sym r.1.0) (refl, append_all (λ a. is_uncontended_act a ≡ true) r.0 (Gate Leave ∷ []) (uncontended_acts uncontended old new r.0 (Err e) u r.1.1) (refl, tt))
 
   opened_fault : (old new : Frames) (acts : List Act) (e : Fault) → AllByRecursion (λ a. a ≢ Gate Knock) acts → opened work old acts (Err e) new → IsUncontendedFault s last command acts new e
   opened_fault old new acts e enters (inl r) = absurd ((subst (AllByRecursion (λ a. a ≢ Gate Knock)) r.0 enters).0 refl)
   opened_fault old new acts e enters (inr r) =
-      subst (λ (all : List Act). IsUncontendedFault s last command all new e) (sym r.1.0) (more_fault s last command r.0 (Gate Enter ∷ r.0 ++ Gate Leave ∷ []) (λ n used h. inr (found_earlier n used r.0 (Gate Leave ∷ []) h)) new e (uncontended.fault old new r.0 e r.1.1))
+      subst (λ (all : List Act). IsUncontendedFault s last command all new e) (sym r.1.0) (more_fault s last command r.0 (Gate Enter ∷ r.0 ++ Gate Leave ∷ []) (λ n used h. inr (found_earlier n used r.0 (Gate Leave ∷ []) h)) new e (uncontended.fails old new r.0 e r.1.1).fault)
 
   module _ (turns : ℕ) (changes : ChangesNothing (opened work)) (old new : PassView) (f g : Frames) (same : old.last ≡ last) (now : s ≡ state new.seen) (alone : IsAlone new) where
     opened_refused : (answer : Result A Fault) → Ran old new f g (opened work) answer → IfErr answer (IsCommandFault turns command.0 command.1 new g)

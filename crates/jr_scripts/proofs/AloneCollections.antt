@@ -1,15 +1,12 @@
 -- A collection of a thread that is alone.
-use Rattle.std.proofs.Common.{◌≡◌, inl, inr, ℕ, true, List, [], ◌∷◌, ◌++◌, map, Result, Ok, Err, IfErr, refl, sym, subst, ◌∙◌, ap}
+use Rattle.std.proofs.Common.{◌≡◌, ℕ, true, List, Result, Ok, Err, IfErr, subst}
 use Rattle.jr_word.specs.declared.fault.Fault.{Fault}
 use Rattle.jr_word.specs.declared.fault.Fault.TheVariants.{Busy}
 use Rattle.jr_model.specs.declared.event.Act.{Act}
-use Rattle.jr_model.specs.declared.event.Act.TheVariants.{Gate, ShutBusy, Clear, Drop, Settle}
-use Rattle.jr_model.specs.declared.event.GateAct.TheVariants.{Reopen}
-use Rattle.jr_model.specs.State.{Handle}
 use Rattle.jr_model.specs.Frames.{Frames}
 use Rattle.jr_model.specs.Calls.{Ran}
-use Rattle.jr_model.specs.CollectionCalls.{collection_acts, sweeping_acts}
 use Rattle.jr_model.specs.Parts as parts
+use Rattle.jr_model.proofs.EachCall.{collect_work}
 use Rattle.jr_model.proofs.Exactly.{append_all}
 use Rattle.jr_syntax.specs.declared.command.Command.TheVariants as commands
 use Rattle.jr_syntax.specs.declared.verb.OfRoom.TheVariants as of_room
@@ -20,28 +17,11 @@ use Rattle.jr_scripts.specs.Names.{Names}
 use Rattle.jr_scripts.specs.Commands.{collecting}
 use Rattle.jr_scripts.specs.AloneAnswers.{IsCommandFault}
 use Rattle.jr_scripts.proofs.AloneCalls.{AllUncontended, IsAlone, LedAlone, LeadsAlone, since}
-use Rattle.jr_scripts.proofs.Uncontended.{AreUncontended, is_uncontended_act}
+use Rattle.jr_scripts.proofs.Uncontended.{AreUncontended, is_uncontended_act, loses_none}
 
 -- no act of a collection is one that another thread causes
-clears_uncontended : (hs : List Handle) → AreUncontended (map Clear hs)
-clears_uncontended [] = tt
-clears_uncontended (h ∷ hs) = (refl, clears_uncontended hs)
-
-drops_uncontended : (os : List ℕ) → AreUncontended (map Drop os)
-drops_uncontended [] = tt
-drops_uncontended (o ∷ os) = (refl, drops_uncontended os)
-
-pub collected_uncontended : (hs : List Handle) (os : List ℕ) (used : ℕ) → AreUncontended (collection_acts hs os used)
-collected_uncontended hs os used = (
-  refl,
-  append_all (λ a. is_uncontended_act a ≡ true) (sweeping_acts hs os used) (Gate Reopen ∷ [])
-      (append_all (λ a. is_uncontended_act a ≡ true) (map Clear hs ++ map Drop os) (Settle used ∷ []) (append_all (λ a. is_uncontended_act a ≡ true) (map Clear hs) (map Drop os) (clears_uncontended hs) (drops_uncontended os)) (refl, tt)) (refl, tt),
-)
-
 collect_uncontended : (old new : Frames) (acts : List Act) (answer : Result (ℕ × ℕ × ℕ) Fault) → parts.collect old acts answer new → AreUncontended acts
-collect_uncontended old new acts answer (inl (hs, os, used, is, counts, same)) = subst AreUncontended (sym is) (collected_uncontended hs os used)
-collect_uncontended old new acts answer (inr (inl (n, mid, front, rest, is, first, next))) = subst AreUncontended (sym (is ∙ (ap (λ l. l ++ rest) first.1 ∙ ap (λ l. ShutBusy first.0 ∷ l) next.0))) (refl, tt)
-collect_uncontended old new acts answer (inr (inr r)) = let bad = r.2.2 in absurd cc
+collect_uncontended = loses_none {last = 0} {thread = 0} (λ asked. collect_work)
 
 module _ (turns : ℕ) (names : Names) where
   ran_collecting : (old new : ThreadState) (answer : Result Reply Fault) (found : Result (ℕ × ℕ × ℕ) Fault) → IsAlone new.pass → IfErr answer (IsCommandFault turns names (commands.OfRoom of_room.Collect) new.pass new.frames) → Ran old.pass new.pass old.frames new.frames parts.collect found → LedAlone turns (names, commands.OfRoom of_room.Collect) old.pass new.pass new.frames answer

@@ -52,22 +52,30 @@ module _ (turns : ℕ) (command : Asked) where
   }
 
   pub done_alone : {A : Type 0} (x : A) → LeadsAlone turns command (done x)
-  done_alone x = record {
-    led = λ old new answer alone d.
-        subst (λ (m : ThreadState). LedAlone turns command old.pass m.pass m.frames answer) (sym d.1) (subst (LedAlone turns command old.pass old.pass old.frames) (sym d.0) (stayed old.pass old.frames (Ok x) tt));
-  }
+  done_alone x = decided_alone (Ok x) (λ p f. tt)
 
-  pub bind_alone : {A B : Type 0} {first : Deed A} {next : A → Deed B} → LeadsAlone turns command first → ((x : A) → LeadsAlone turns command (next x)) → LeadsAlone turns command (first >>= next)
-  bind_alone {A} {B} {first} {next} p q = record { led = led }
+  -- what the deed leads to from a moment that is so, where all that happened is the thread's own
+  pub record LeadsFrom (P : ThreadState → Type 0) {A : Type 0} (deed : Deed A) : Type 0 where
+    pub led : (old new : ThreadState) (answer : Result A Fault) → P old → IsAlone new.pass → deed old answer new → LedAlone turns command old.pass new.pass new.frames answer
+
+  pub from_any : {P : ThreadState → Type 0} {A : Type 0} {deed : Deed A} → LeadsAlone turns command deed → LeadsFrom P deed
+  from_any d = record { led = λ old new answer p alone r. d.led old new answer alone r }
+
+  -- a deed whose answer says what is so behind it, and another from there
+  pub bind_found : {A B : Type 0} {first : Deed A} {next : A → Deed B} (P : A → ThreadState → Type 0) → LeadsAlone turns command first → ((old mid : ThreadState) (x : A) → first old (Ok x) mid → P x mid) → ((x : A) → LeadsFrom (P x) (next x)) → LeadsAlone turns command (first >>= next)
+  bind_found {A} {B} {first} {next} P p found q = record { led = led }
     where
       led : (old new : ThreadState) (answer : Result B Fault) → IsAlone new.pass → (first >>= next) old answer new → LedAlone turns command old.pass new.pass new.frames answer
       led old new answer alone (inl r) =
-          let y = (q r.0).led r.1 new answer alone r.3 in
+          let y = (q r.0).led r.1 new answer (found old r.1 r.0 r.2) alone r.3 in
           let x = p.led old r.1 (Ok r.0) (was_alone y alone) r.2 in
           record { config = y.config ∙ x.config; thread = y.thread ∙ x.thread; begins = prefix_trans old.pass.seen r.1.pass.seen new.pass.seen x.begins y.begins; uncontended = λ m. y.uncontended (x.uncontended m); fault = y.fault }
       led old new answer alone (inr r) =
           let x = p.led old new (Err r.0) alone r.2 in
           record { config = x.config; thread = x.thread; begins = x.begins; uncontended = x.uncontended; fault = subst (λ (z : Result B Fault). IfErr z (IsCommandFault turns command.0 command.1 new.pass new.frames)) (sym r.1) x.fault }
+
+  pub bind_alone : {A B : Type 0} {first : Deed A} {next : A → Deed B} → LeadsAlone turns command first → ((x : A) → LeadsAlone turns command (next x)) → LeadsAlone turns command (first >>= next)
+  bind_alone p q = bind_found (λ x m. Unit {0}) p (λ old mid x d. tt) (λ x. from_any (q x))
 
   pub answered_alone : {A B : Type 0} (form : A → B) {one : Deed A} → LeadsAlone turns command one → LeadsAlone turns command (answered_by form one)
   answered_alone form p = bind_alone p (λ x. done_alone (form x))
@@ -136,28 +144,8 @@ module _ (turns : ℕ) (command : Asked) where
 -- DEEDS FROM A MOMENT THAT IS SO
 
 module _ (turns : ℕ) (command : Asked) where
-  -- what the deed leads to from a moment that is so, where all that happened is the thread's own
-  pub record LeadsFrom (P : ThreadState → Type 0) {A : Type 0} (deed : Deed A) : Type 0 where
-    pub led : (old new : ThreadState) (answer : Result A Fault) → P old → IsAlone new.pass → deed old answer new → LedAlone turns command old.pass new.pass new.frames answer
-
-  pub from_any : {P : ThreadState → Type 0} {A : Type 0} {deed : Deed A} → LeadsAlone turns command deed → LeadsFrom P deed
-  from_any d = record { led = λ old new answer p alone r. d.led old new answer alone r }
-
-  -- a deed whose answer says what is so behind it, and another from there
-  pub bind_found : {A B : Type 0} {first : Deed A} {next : A → Deed B} (P : A → ThreadState → Type 0) → LeadsAlone turns command first → ((old mid : ThreadState) (x : A) → first old (Ok x) mid → P x mid) → ((x : A) → LeadsFrom (P x) (next x)) → LeadsAlone turns command (first >>= next)
-  bind_found {A} {B} {first} {next} P p found q = record { led = led }
-    where
-      led : (old new : ThreadState) (answer : Result B Fault) → IsAlone new.pass → (first >>= next) old answer new → LedAlone turns command old.pass new.pass new.frames answer
-      led old new answer alone (inl r) =
-          let y = (q r.0).led r.1 new answer (found old r.1 r.0 r.2) alone r.3 in
-          let x = p.led old r.1 (Ok r.0) (was_alone y alone) r.2 in
-          record { config = y.config ∙ x.config; thread = y.thread ∙ x.thread; begins = prefix_trans old.pass.seen r.1.pass.seen new.pass.seen x.begins y.begins; uncontended = λ m. y.uncontended (x.uncontended m); fault = y.fault }
-      led old new answer alone (inr r) =
-          let x = p.led old new (Err r.0) alone r.2 in
-          record { config = x.config; thread = x.thread; begins = x.begins; uncontended = x.uncontended; fault = subst (λ (z : Result B Fault). IfErr z (IsCommandFault turns command.0 command.1 new.pass new.frames)) (sym r.1) x.fault }
-
   -- a decision at such a moment, and what follows from there
-  pub decided_from : {A B : Type 0} (P : ThreadState → Type 0) (r : Result A Fault) {next : A → Deed B} → ((m : ThreadState) → P m → IfErr r (IsCommandFault turns command.0 command.1 m.pass m.frames)) → ((x : A) → r ≡ Ok x → LeadsFrom P (next x)) → LeadsFrom P (decided r >>= next)
+  pub decided_from : {A B : Type 0} (P : ThreadState → Type 0) (r : Result A Fault) {next : A → Deed B} → ((m : ThreadState) → P m → IfErr r (IsCommandFault turns command.0 command.1 m.pass m.frames)) → ((x : A) → r ≡ Ok x → LeadsFrom turns command P (next x)) → LeadsFrom turns command P (decided r >>= next)
   decided_from {A} {B} P r {next} fault q = record { led = led }
     where
       led : (old new : ThreadState) (answer : Result B Fault) → P old → IsAlone new.pass → (decided r >>= next) old answer new → LedAlone turns command old.pass new.pass new.frames answer
@@ -168,4 +156,4 @@ module _ (turns : ℕ) (command : Asked) where
 
   -- a decision, and what follows it
   pub decided_then : {A B : Type 0} (r : Result A Fault) {next : A → Deed B} → ((p : PassView) (f : Frames) → IfErr r (IsCommandFault turns command.0 command.1 p f)) → ((x : A) → r ≡ Ok x → LeadsAlone turns command (next x)) → LeadsAlone turns command (decided r >>= next)
-  decided_then r fault q = record { led = λ old new answer alone d. (decided_from (λ m. Unit {0}) r (λ m _. fault m.pass m.frames) (λ x is. from_any (q x is))).led old new answer tt alone d }
+  decided_then r fault q = record { led = λ old new answer alone d. (decided_from (λ m. Unit {0}) r (λ m _. fault m.pass m.frames) (λ x is. from_any turns command (q x is))).led old new answer tt alone d }

@@ -17,10 +17,13 @@ use Rattle.jr_model.specs.State.{Contents, State}
 use Rattle.jr_model.specs.History.{History, PassView, state}
 use Rattle.jr_model.specs.Frames.{Frames}
 use Rattle.jr_model.specs.Calls.{Call, Ran}
-use Rattle.jr_model.specs.Calls.{done as answers}
 use Rattle.jr_model.specs.Checks.{is_array, is_primitive, is_read_as, is_text}
 use Rattle.jr_model.specs.Objects.{nest_array, nest_string, region_get, region_kind, region_release, region_set}
 use Rattle.jr_model.proofs.Exactly.{append_all}
+use Rattle.jr_model.proofs.Composed.{object_gives}
+use Rattle.jr_model.proofs.Lawful.{prelude}
+use Rattle.jr_model.proofs.Preludes.{done_prelude}
+use Rattle.jr_model.proofs.EachCall.{nest_array_work, nest_string_work}
 use Rattle.jr_model.proofs.Moments.{prefix_self, prefix_trans}
 use Rattle.jr_gate.specs.Performing.{ThreadState}
 use Rattle.jr_env.specs.Deeds.{Deed, decided, done, ◌>>=◌}
@@ -47,8 +50,8 @@ use Rattle.jr_scripts.specs.AloneAnswers.{IsFaultWithin, IsNestingFault, IsReadi
 use Rattle.jr_scripts.proofs.AloneHistories.{all_prefix}
 use Rattle.jr_scripts.proofs.AloneCalls.{AllUncontended, IsAlone, since}
 use Rattle.jr_scripts.proofs.AloneDeeds.{are_numbers}
-use Rattle.jr_scripts.proofs.Uncontended.{AreUncontended, is_uncontended_act}
-use Rattle.jr_scripts.proofs.QuietCalls.{RefusedLevel, done_quiet, get_acts, get_refused, nest_array_quiet, nest_string_quiet, object_quiet, set_acts, set_refused}
+use Rattle.jr_scripts.proofs.Uncontended.{AreUncontended, is_uncontended_act, loses_none}
+use Rattle.jr_scripts.proofs.QuietCalls.{RefusedLevel, get_acts, get_refused, nest_array_quiet, nest_string_quiet, set_acts, set_refused}
 
 -- from one moment of a lone pass to another: what was seen begins what is seen, no reservation was lost in between, and a refusal is such a one
 pub record Led (P : Fault → Type 0) {A : Type 0} (old new : PassView) (answer : Result A Fault) : Type 0 where
@@ -198,7 +201,7 @@ same_contents s t o x y same here there =
 
 kind_by : {Q : ThreadState → Type 0} {P : State → Fault → Type 0} (o : ℕ) → LeadsBy Q P (kind_of_level o)
 kind_by {Q} {P} o = stay_by 0 (λ c last t s. region_kind c last t s o)
-    (λ c last t s f g acts answer one first is. (object_quiet {Q = λ e. Unit {0}} s o (λ k n. answers k) (λ y there. done_quiet y.kind)).acts f g acts answer is)
+    (λ c last t s f g acts answer one first is. loses_none {last = last} {thread = t} (λ asked. object_gives s o (λ k n. prelude (done_prelude k))) f g acts answer is)
     (λ old new e so alone one first r. let bad = r.is.2.1 in absurd cc)
 
 kind_at : (o : ℕ) (old mid : ThreadState) (k : Kind) → kind_of_level o old (Ok k) mid → HasKindAt o k mid
@@ -303,13 +306,13 @@ module _ (p : Place) (n : List ℕ) (r : Reference) where
   nesting_by : (v : OpenLevel) (w : ℕ) → LeadsBy Always (IsNestingFault p (commands.OpenLevel v n r)) (nesting v p.objects w)
   nesting_by at.Array w = record {
     led = λ old new answer so alone d. (stay_by {Q = Always} {P = IsNestingFault p (commands.OpenLevel at.Array n r)} 1 (λ c last t s. nest_array c last t s p.objects d.0)
-        (λ c last t s f g acts answer one first is. (nest_array_quiet {Q = λ e. Unit {0}} tt tt s c last t one first p.objects (λ many. tt) d.0 (λ some. tt) (λ some. tt)).acts f g acts answer is)
-        (λ old new e so alone one first ran. (nest_array_quiet {Q = IsNestingFault p (commands.OpenLevel at.Array n r) (state new.pass.seen)} tt tt (state new.pass.seen) old.pass.config old.pass.last old.pass.thread one first p.objects (λ many. many) d.0 (λ some. some) (λ some. some)).refusal old.frames new.frames ran.acts e ran.is)).led old new answer so alone d.2;
+        (λ c last t s f g acts answer one first is. loses_none (λ asked. nest_array_work {asked = asked} c last t s p.objects d.0) f g acts answer is)
+        (λ old new e so alone one first ran. ((nest_array_quiet {Q = IsNestingFault p (commands.OpenLevel at.Array n r) (state new.pass.seen)} tt tt (state new.pass.seen) old.pass.config old.pass.last old.pass.thread one first p.objects (λ many. many) d.0 (λ some. some) (λ some. some)).fails old.frames new.frames ran.acts e ran.is).refusal)).led old new answer so alone d.2;
   }
   nesting_by at.Text w = record {
     led = λ old new answer so alone d. (stay_by {Q = Always} {P = IsNestingFault p (commands.OpenLevel at.Text n r)} 1 (λ c last t s. nest_string c last t s p.objects d.0)
-        (λ c last t s f g acts answer one first is. (nest_string_quiet {Q = λ e. Unit {0}} tt tt s c last t one first p.objects (λ many. tt) d.0 (λ some. tt)).acts f g acts answer is)
-        (λ old new e so alone one first ran. (nest_string_quiet {Q = IsNestingFault p (commands.OpenLevel at.Text n r) (state new.pass.seen)} tt tt (state new.pass.seen) old.pass.config old.pass.last old.pass.thread one first p.objects (λ many. many) d.0 (λ some. inl some)).refusal old.frames new.frames ran.acts e ran.is)).led old new answer so alone d.2;
+        (λ c last t s f g acts answer one first is. loses_none (λ asked. nest_string_work {asked = asked} c last t s p.objects d.0) f g acts answer is)
+        (λ old new e so alone one first ran. ((nest_string_quiet {Q = IsNestingFault p (commands.OpenLevel at.Text n r) (state new.pass.seen)} tt tt (state new.pass.seen) old.pass.config old.pass.last old.pass.thread one first p.objects (λ many. many) d.0 (λ some. inl some)).fails old.frames new.frames ran.acts e ran.is).refusal)).led old new answer so alone d.2;
   }
 
 -- the last of so many levels is given up

@@ -1,5 +1,5 @@
--- What the calls of a critical region do that adds a level or reads and writes one: their acts are no lost reservation, and how they are refused.
-use Rattle.std.proofs.Common.{◌≡◌, ◌⊎◌, ◌++◌, ◌≤◌, inl, inr, ℕ, Bool, true, false, cond, not, nat_le, Option, Some, None, List, [], length, Result, Ok, Err, refl, sym, ap, subst, ◌∙◌}
+-- What the calls of a critical region are refused for that adds a level or reads and writes one, and that their acts are no lost reservation.
+use Rattle.std.proofs.Common.{◌≡◌, ◌⊎◌, ◌++◌, ◌≤◌, inl, inr, ℕ, Bool, true, false, not, nat_le, Option, Some, None, List, [], length, Result, Ok, Err, refl, ap, ◌∙◌}
 use Rattle.std.proofs.lemmas.Bool.{leb-true}
 use Rattle.jr_word.specs.declared.config.Config.{Config}
 use Rattle.jr_word.specs.declared.kind.Kind.{Kind}
@@ -12,64 +12,45 @@ use Rattle.jr_model.specs.declared.event.Found.TheVariants as found
 use Rattle.jr_model.specs.declared.frames.TheConstants.{LEVELS}
 use Rattle.jr_model.specs.State.{Contents, Handle, State}
 use Rattle.jr_model.specs.Frames.{Frames, object_of}
-use Rattle.jr_model.specs.Calls.{Call, act, done, for_object, refuse, refuse_if, some_act, ◌>>=◌, ◌>>◌}
+use Rattle.jr_model.specs.Calls.{Call, act, done, refuse, refuse_if, some_act, ◌>>=◌, ◌>>◌}
 use Rattle.jr_model.specs.Checks.{Word, Nothing, Malformed, Parts, is_array, is_foreign, is_local, is_out_of_bounds, is_primitive, is_read_as, is_text}
 use Rattle.jr_model.specs.Parts.{found_object, local_object, looked, looked_at, not_null}
 use Rattle.jr_model.specs.References.{resolved}
 use Rattle.jr_model.specs.Objects.{nest_array, nest_string, region_get, region_set}
-use Rattle.jr_model.proofs.Exactly.{append_all}
+use Rattle.jr_model.proofs.Composed.{Composes, Gives, Going, bind_gives, bind_so, cond_gives, done_gives, framed_gives, object_so, refuse_gives, refuse_if_gives, some_act_gives}
+use Rattle.jr_model.proofs.EachCall.{get_work, set_work}
 use Rattle.jr_scripts.specs.AloneAnswers.{SomeObject}
-use Rattle.jr_scripts.proofs.Uncontended.{AreUncontended, is_uncontended_act, no_acts, not_foreign, one_act, passed, same_fault}
+use Rattle.jr_scripts.proofs.Uncontended.{AreUncontended, loses_none, not_foreign, passed, same_fault}
 use Rattle.jr_scripts.proofs.UncontendedObjects.{not_so, so}
 
--- the call loses no reservation, and is refused for such a reason
-pub record IsQuiet (Q : Fault → Type 0) {A : Type 0} (call : Call A) : Type 0 where
-  pub acts : (old new : Frames) (acts : List Act) (answer : Result A Fault) → call old acts answer new → AreUncontended acts
-  pub refusal : (old new : Frames) (acts : List Act) (e : Fault) → call old acts (Err e) new → Q e
+-- WHAT A CALL IS REFUSED FOR: such a reason
+abbrev Anything : Going
+Anything old acts new = Unit {0}
+
+pub record RefusedFor (Q : Fault → Type 0) (old : Frames) (acts : List Act) (e : Fault) (new : Frames) : Type 0 where
+  pub refusal : Q e
+
+abbrev pub IsQuiet : {A : Type 0} → (Fault → Type 0) → Call A → Type 0
+IsQuiet Q call = Gives Anything (RefusedFor Q) call
 
 module _ {Q : Fault → Type 0} where
-  pub done_quiet : {A : Type 0} (x : A) → IsQuiet Q (done x)
-  done_quiet x = record { acts = λ old new acts answer r. no_acts r.0; refusal = λ old new acts e r. let bad = r.1 in cc }
+  one_after : Composes Anything (RefusedFor Q) Anything (RefusedFor Q) Anything
+  one_after = record { joins = λ f g h xs ys p q. tt; behind = λ f g h xs ys e p q. record { refusal = q.refusal } }
+
+  done_quiet : {A : Type 0} (x : A) → IsQuiet Q (done x)
+  done_quiet x = done_gives x (λ f. tt)
 
   refuse_quiet : {A : Type 0} (e : Fault) → Q e → IsQuiet Q (refuse {A = A} e)
-  refuse_quiet {A} e q = record { acts = λ old new acts answer r. no_acts r.0; refusal = λ old new acts x r. subst Q (sym (same_fault {A = A} x e r.1)) q }
+  refuse_quiet e q = refuse_gives e (λ f. record { refusal = q })
 
   when_quiet : (b : Bool) (e : Fault) → (b ≡ true → Q e) → IsQuiet Q (refuse_if b e)
-  when_quiet true e q = refuse_quiet e (q refl)
-  when_quiet false e q = done_quiet tt
+  when_quiet b e q = refuse_if_gives b e (λ f. tt) (λ is f. record { refusal = q is })
 
   bind_quiet_then : {A B : Type 0} {first : Call A} {next : A → Call B} → IsQuiet Q first → ((old mid : Frames) (acts : List Act) (x : A) → first old acts (Ok x) mid → IsQuiet Q (next x)) → IsQuiet Q (first >>= next)
-  bind_quiet_then {A} {B} {first} {next} p q = record { acts = acts_of; refusal = refusal_of }
-    where
-      acts_of : (old new : Frames) (acts : List Act) (answer : Result B Fault) → (first >>= next) old acts answer new → AreUncontended acts
-      acts_of old new acts answer (inl r) = subst AreUncontended (sym r.4) (append_all (λ a. is_uncontended_act a ≡ true) r.2 r.3 (p.acts old r.1 r.2 (Ok r.0) r.5) ((q old r.1 r.2 r.0 r.5).acts r.1 new r.3 answer r.6))
-      acts_of old new acts answer (inr r) = p.acts old new acts (Err r.0) r.2
+  bind_quiet_then p q = bind_so one_after p q
 
-      refusal_of : (old new : Frames) (acts : List Act) (e : Fault) → (first >>= next) old acts (Err e) new → Q e
-      refusal_of old new acts e (inl r) = (q old r.1 r.2 r.0 r.5).refusal r.1 new r.3 e r.6
-      refusal_of old new acts e (inr r) = subst Q (sym (same_fault {A = B} e r.0 r.1)) (p.refusal old new acts r.0 r.2)
-
-  pub bind_quiet : {A B : Type 0} {first : Call A} {next : A → Call B} → IsQuiet Q first → ((x : A) → IsQuiet Q (next x)) → IsQuiet Q (first >>= next)
-  bind_quiet p q = bind_quiet_then p (λ old mid acts x r. q x)
-
-  cond_quiet : {A : Type 0} (b : Bool) {p q : Call A} → IsQuiet Q p → IsQuiet Q q → IsQuiet Q (cond b p q)
-  cond_quiet true p q = p
-  cond_quiet false p q = q
-
-  framed_quiet : {A : Type 0} (call : Frames → Call A) → ((f : Frames) → IsQuiet Q (call f)) → IsQuiet Q (λ old. call old old)
-  framed_quiet call q = record { acts = λ old new acts answer r. (q old).acts old new acts answer r; refusal = λ old new acts e r. (q old).refusal old new acts e r }
-
-  act_quiet : (a : Act) → is_uncontended_act a ≡ true → IsQuiet Q (act a)
-  act_quiet a is = record { acts = λ old new acts answer r. one_act a is r.0; refusal = λ old new acts e r. let bad = r.1 in cc }
-
-  some_act_quiet : {X : Type 0} (f : X → Act) → ((x : X) → is_uncontended_act (f x) ≡ true) → IsQuiet Q (some_act f)
-  some_act_quiet f is = record { acts = λ old new acts answer r. one_act (f r.0) (is r.0) r.1; refusal = λ old new acts e r. let bad = r.2 in cc }
-
-  pub object_quiet : {A : Type 0} (s : State) (o : ℕ) (next : Kind → ℕ → Call A) → ((x : Contents) → s.objects o ≡ Some x → IsQuiet Q (next x.kind (length x.words))) → IsQuiet Q (for_object s o next)
-  object_quiet s o next q = record {
-    acts = λ old new acts answer r. (q r.0 r.1).acts old new acts answer r.2;
-    refusal = λ old new acts e r. (q r.0 r.1).refusal old new acts e r.2;
-  }
+  bind_quiet : {A B : Type 0} {first : Call A} {next : A → Call B} → IsQuiet Q first → ((x : A) → IsQuiet Q (next x)) → IsQuiet Q (first >>= next)
+  bind_quiet p q = bind_gives one_after p q
 
   not_null_quiet : Q Null → (x : Option ℕ) → IsQuiet Q (not_null x)
   not_null_quiet null None = refuse_quiet Null null
@@ -86,7 +67,7 @@ module _ {Q : Fault → Type 0} where
     found_quiet found.Stale = refuse_quiet _ stale
 
     looked_at_quiet : (h : Handle) → IsQuiet Q (looked_at h)
-    looked_at_quiet h = cond_quiet (is_local h) (framed_quiet (λ old. local_object (object_of old h)) (λ f. local_quiet (object_of f h))) (bind_quiet (some_act_quiet (Look h) (λ r. refl)) found_quiet)
+    looked_at_quiet h = cond_gives (is_local h) (framed_gives (λ old. local_object (object_of old h)) (λ f. local_quiet (object_of f h))) (bind_quiet (some_act_gives (Look h) (λ r f. tt)) found_quiet)
 
     looked_quiet : (a : Word) → IsQuiet Q (looked a)
     looked_quiet Nothing = done_quiet None
@@ -106,7 +87,7 @@ module _ {Q : Fault → Type 0} where
     module _ (null : Q Null) (s : State) (c : Config) (last t : ℕ) (one : c.threads ≡ 1) (first : t ≡ 0) (levels : List ℕ) (many : LEVELS ≤ length levels → Q Size) (a : Word) where
       pub nest_array_quiet : (SomeObject s (λ k n. is_array k ≡ false) → Q NotArray) → (SomeObject s (λ k n. (is_array k ≡ true) × (is_primitive k ≡ false)) → Q WrongElement) → IsQuiet Q (nest_array c last t s levels a)
       nest_array_quiet array element = bind_quiet (bind_quiet (resolved_quiet c last t one first a) (λ x. bind_quiet (not_null_quiet null x) (λ o.
-          object_quiet s o (λ k n. refuse_if (not (is_array k)) NotArray >> (refuse_if (not (is_primitive k)) WrongElement >> (refuse_if (nat_le LEVELS (length levels)) Size >> done o))) (λ y is.
+          object_so s o (λ k n. refuse_if (not (is_array k)) NotArray >> (refuse_if (not (is_primitive k)) WrongElement >> (refuse_if (nat_le LEVELS (length levels)) Size >> done o))) (λ y is.
           bind_quiet_then (when_quiet (not (is_array y.kind)) NotArray (λ fails. array (o, y, is, not_so (is_array y.kind) fails))) (λ old mid acts z r.
           let holds = so (is_array y.kind) (passed (not (is_array y.kind)) NotArray old mid acts z r) in
           bind_quiet (when_quiet (not (is_primitive y.kind)) WrongElement (λ fails. element (o, y, is, (holds, not_so (is_primitive y.kind) fails)))) (λ u.
@@ -114,7 +95,7 @@ module _ {Q : Fault → Type 0} where
 
       pub nest_string_quiet : (SomeObject s (λ k n. is_text k ≡ false) → Q WrongKind) → IsQuiet Q (nest_string c last t s levels a)
       nest_string_quiet text = bind_quiet (bind_quiet (resolved_quiet c last t one first a) (λ x. bind_quiet (not_null_quiet null x) (λ o.
-          object_quiet s o (λ k n. refuse_if (not (is_text k)) WrongKind >> (refuse_if (nat_le LEVELS (length levels)) Size >> done o)) (λ y is.
+          object_so s o (λ k n. refuse_if (not (is_text k)) WrongKind >> (refuse_if (nat_le LEVELS (length levels)) Size >> done o)) (λ y is.
           bind_quiet (when_quiet (not (is_text y.kind)) WrongKind (λ fails. text (o, y, is, not_so (is_text y.kind) fails))) (λ z.
           bind_quiet (when_quiet (nat_le LEVELS (length levels)) Size (λ full. many (leb-true LEVELS (length levels) full))) (λ v. done_quiet o)))))) (λ o. done_quiet _)
 
@@ -122,12 +103,10 @@ module _ {Q : Fault → Type 0} where
 
 module _ (c : Config) (last t : ℕ) (s : State) (k : Kind) (o i : ℕ) where
   pub get_acts : (old new : Frames) (acts : List Act) (answer : Result ℕ Fault) → region_get c last t s k o i old acts answer new → AreUncontended acts
-  get_acts = (object_quiet {Q = λ e. Unit {0}} s o (λ l n. refuse_if (not (is_read_as k l)) WrongElement >> (refuse_if (nat_le n i) Range >> some_act (Read o i))) (λ y is.
-      bind_quiet (when_quiet (not (is_read_as k y.kind)) WrongElement (λ _. tt)) (λ _. bind_quiet (when_quiet (nat_le (length y.words) i) Range (λ _. tt)) (λ _. some_act_quiet (Read o i) (λ v. refl))))).acts
+  get_acts = loses_none (λ asked. get_work {asked = asked} c last t s k o i)
 
   pub set_acts : (v : ℕ) (old new : Frames) (acts : List Act) (answer : Result (Unit {0}) Fault) → region_set c last t s k o i v old acts answer new → AreUncontended acts
-  set_acts v = (object_quiet {Q = λ e. Unit {0}} s o (λ l n. refuse_if (is_text l) NotArray >> (refuse_if (not (is_read_as k l)) WrongElement >> (refuse_if (nat_le n i) Range >> act (Write o i v)))) (λ y is.
-      bind_quiet (when_quiet (is_text y.kind) NotArray (λ _. tt)) (λ _. bind_quiet (when_quiet (not (is_read_as k y.kind)) WrongElement (λ _. tt)) (λ _. bind_quiet (when_quiet (nat_le (length y.words) i) Range (λ _. tt)) (λ _. act_quiet (Write o i v) refl))))).acts
+  set_acts v = loses_none (λ asked. set_work {asked = asked} c last t s k o i v)
 
 -- a test that refused, and one that didn't
 when_refused : (b : Bool) (f e : Fault) (old new : Frames) (acts : List Act) → refuse_if b f old acts (Err e) new → (acts ≡ []) × (b ≡ true) × (e ≡ f)

@@ -19,11 +19,15 @@ use Rattle.jr_model.specs.State.{Handle, State}
 use Rattle.jr_model.specs.declared.frames.TheConstants.{FRAMES}
 use Rattle.jr_model.specs.declared.frames.LocalRef.{LocalRef}
 use Rattle.jr_model.specs.Frames.{Frames, all_refs, drop_all, free_places, last_frame, object_of, popped}
-use Rattle.jr_model.specs.Calls.{Call, ◌>>=◌, at_most, done, refuse, refuse_if, act, some_act, one_of}
+use Rattle.jr_model.specs.Calls.{Call, ◌>>=◌, ◌>>◌, done, refuse, refuse_if, act, some_act}
 use Rattle.jr_model.specs.Checks.{Word, Nothing, Malformed, Parts, is_local, type_local, is_out_of_bounds, is_of_kind, is_foreign, element_word}
 use Rattle.jr_model.specs.Parts.{created, create, created_with, delete_at, delete_found, delete_local_at, drop_local, found_object, frame_to_pop, local_object, look, looked, looked_at, new_frame, probes, publish, reserve, take_frame, type_at}
 use Rattle.jr_model.specs.References.{added, array_making, comparison, creation, ensure_local_capacity, freeing, local_creation, local_removal, made, making, new_local, popping, push_local_frame, removal, resolved, resolved_both, room_after, room_for, typing}
+use Rattle.jr_model.proofs.Composed.{Composes, Gives, Going, act_gives, at_most_gives, bind_gives, bind_so, cond_gives, done_gives, either_gives, framed_gives, refuse_gives, refuse_if_gives, some_act_gives, some_act_then}
 use Rattle.jr_model.proofs.Exactly.{append_all}
+use Rattle.jr_model.proofs.ShownRefusals.{LosesOnly, LoseOnly}
+use Rattle.jr_model.proofs.Lawful.{IsWork, loses}
+use Rattle.jr_model.proofs.Moves.{HasRoom, after_room, taking_work}
 use Rattle.jr_syntax.specs.declared.name.Reference.{Reference}
 use Rattle.jr_syntax.specs.declared.command.Command.{Command}
 use Rattle.jr_syntax.specs.declared.command.Command.TheVariants as commands
@@ -81,10 +85,18 @@ IsUnraced _ = Unit {0}
 abbrev pub AreUncontended : List Act → Type 0
 AreUncontended acts = AllByRecursion (λ a. is_uncontended_act a ≡ true) acts
 
+-- no such act
+abbrev pub NoneLost : Going
+NoneLost old acts new = AreUncontended acts
+
+-- and, unless a reservation was lost, no such act at a refusal of the command that makes the call, which is no other
+pub record RefusedAlone (s : State) (last : ℕ) (command : Asked) (old : Frames) (had : List Act) (e : Fault) (new : Frames) : Type 0 where
+  pub acts : IsUnraced {A = Unit {0}} (Err e) → AreUncontended had
+  pub fault : IsUncontendedFault s last command had new e
+
 -- the call has no other acts unless it lost a reservation, and no other refusals of the command that makes it
-pub record IsUncontended (s : State) (last : ℕ) (command : Asked) {A : Type 0} (call : Call A) : Type 0 where
-  pub acts : (old new : Frames) (acts : List Act) (answer : Result A Fault) → IsUnraced answer → call old acts answer new → AreUncontended acts
-  pub fault : (old new : Frames) (acts : List Act) (e : Fault) → call old acts (Err e) new → IsUncontendedFault s last command acts new e
+abbrev pub IsUncontended : {A : Type 0} → State → ℕ → Asked → Call A → Type 0
+IsUncontended s last command call = Gives NoneLost (RefusedAlone s last command) call
 
 pub no_acts : {acts : List Act} → acts ≡ [] → AreUncontended acts
 no_acts is = subst AreUncontended (sym is) tt
@@ -94,9 +106,6 @@ one_act a uncontended is = subst AreUncontended (sym is) (uncontended, tt)
 
 pub same_fault : {A : Type 0} (e e' : Fault) → ◌≡◌ {A = Result A Fault} (Err e) (Err e') → e ≡ e'
 same_fault e e' is = cc
-
-same_fault_of : {A : Type 0} (s : State) (last : ℕ) (command : Asked) (acts : List Act) (f : Frames) (e e' : Fault) → ◌≡◌ {A = Result A Fault} (Err e) (Err e') → IsUncontendedFault s last command acts f e' → IsUncontendedFault s last command acts f e
-same_fault_of {A} s last command acts f e e' is uncontended = subst (IsUncontendedFault s last command acts f) (sym (same_fault {A = A} e e' is)) uncontended
 
 same_unraced : (A : Type 0) {B : Type 0} (answer : Result B Fault) (e : Fault) → answer ≡ Err e → IsUnraced answer → IsUnraced {A = A} (Err e)
 same_unraced A {B} answer e is unraced = go e (subst (IsUnraced {A = B}) is unraced)
@@ -131,6 +140,18 @@ more_fault s last command some whole found f (Raced l g) h = h
 more_fault s last command some whole found f Memory h = h
 more_fault s last command some whole found f _ h = absurd h
 
+-- a call that loses no reservation, of however many words, has no act that another thread causes
+none_lost : (acts : List Act) → LoseOnly 0 acts → LoseOnly 1 acts → AreUncontended acts
+none_lost [] none one = tt
+none_lost (a ∷ acts) none one = (kept a none.0 one.0, none_lost acts none.1 one.1)
+  where
+    kept : (a : Act) → LosesOnly 0 a → LosesOnly 1 a → is_uncontended_act a ≡ true
+    kept (ReserveLost n looked found) none one = absurd (let same = sym none ∙ one in cc)
+    kept _ none one = refl
+
+pub loses_none : {A : Type 0} {last thread : ℕ} {call : Call A} → ((asked : ℕ) → IsWork asked last thread call) → (old new : Frames) (acts : List Act) (answer : Result A Fault) → call old acts answer new → AreUncontended acts
+loses_none p old new acts answer r = none_lost acts (loses (p 0) old new acts answer r) (loses (p 1) old new acts answer r)
+
 all_probes : (looks : List (ℕ × Bool)) → AreUncontended (map (λ l. Probe l.0 l.1) looks)
 all_probes [] = tt
 all_probes (l ∷ looks) = (refl, all_probes looks)
@@ -143,42 +164,53 @@ pub passed : (b : Bool) (e : Fault) (old mid : Frames) (acts : List Act) (x : Un
 passed true e old mid acts x r = let bad = r.1 in cc
 passed false e old mid acts x r = refl
 
+-- what a call had
+pub uncontended_acts : {s : State} {last : ℕ} {command : Asked} {A : Type 0} {call : Call A} → IsUncontended s last command call → (old new : Frames) (acts : List Act) (answer : Result A Fault) → IsUnraced answer → call old acts answer new → AreUncontended acts
+uncontended_acts p old new acts (Ok x) u r = p.goes old new acts x r
+uncontended_acts {A = A} p old new acts (Err e) u r = (p.fails old new acts e r).acts (same_unraced (Unit {0}) {B = A} (Err e) e refl u)
+
 module _ {s : State} {last : ℕ} {command : Asked} where
+  one_after : Composes NoneLost (RefusedAlone s last command) NoneLost (RefusedAlone s last command) NoneLost
+  one_after = record {
+    joins = λ f g h xs ys p q. append_all (λ a. is_uncontended_act a ≡ true) xs ys p q;
+    behind = λ f g h xs ys e p q. record {
+      acts = λ u. append_all (λ a. is_uncontended_act a ≡ true) xs ys p (q.acts u);
+      fault = more_fault s last command ys (xs ++ ys) (λ n used. found_later n used xs ys) h e q.fault;
+    };
+  }
+
   pub done_uncontended : {A : Type 0} (x : A) → IsUncontended s last command (done x)
-  done_uncontended x = record { acts = λ old new acts answer u r. no_acts r.0; fault = λ old new acts e r. let bad = r.1 in cc }
+  done_uncontended x = done_gives x (λ f. tt)
 
   pub refuse_uncontended : {A : Type 0} (e : Fault) → ((acts : List Act) (f : Frames) → IsUncontendedFault s last command acts f e) → IsUncontended s last command (refuse {A = A} e)
-  refuse_uncontended {A} e uncontended = record { acts = λ old new acts answer u r. no_acts r.0; fault = λ old new acts x r. same_fault_of {A = A} s last command acts new x e r.1 (uncontended acts new) }
+  refuse_uncontended e fit = refuse_gives e (λ f. record { acts = λ u. tt; fault = fit [] f })
+
+  -- a test, of which the refusal may rest on what it found
+  pub refuse_when_uncontended : (b : Bool) (e : Fault) → (b ≡ true → (acts : List Act) (f : Frames) → IsUncontendedFault s last command acts f e) → IsUncontended s last command (refuse_if b e)
+  refuse_when_uncontended b e fit = refuse_if_gives b e (λ f. tt) (λ is f. record { acts = λ u. tt; fault = fit is [] f })
 
   pub refuse_if_uncontended : (b : Bool) (e : Fault) → ((acts : List Act) (f : Frames) → IsUncontendedFault s last command acts f e) → IsUncontended s last command (refuse_if b e)
-  refuse_if_uncontended true e uncontended = refuse_uncontended e uncontended
-  refuse_if_uncontended false e uncontended = done_uncontended tt
+  refuse_if_uncontended b e fit = refuse_when_uncontended b e (λ is. fit)
 
-  -- the same, where the refusal rests on the test
-  pub refuse_when_uncontended : (b : Bool) (e : Fault) → (b ≡ true → (acts : List Act) (f : Frames) → IsUncontendedFault s last command acts f e) → IsUncontended s last command (refuse_if b e)
-  refuse_when_uncontended true e uncontended = refuse_uncontended e (uncontended refl)
-  refuse_when_uncontended false e uncontended = done_uncontended tt
+  -- the same of a test of the frames
+  pub framed_uncontended : (b : Frames → Bool) (e : Fault) → ((f : Frames) → b f ≡ true → IsUncontendedFault s last command [] f e) → IsUncontended s last command (λ old. refuse_if (b old) e old)
+  framed_uncontended b e fit = record { goes = λ old new acts x r. (at old).goes old new acts x r; fails = λ old new acts x r. (at old).fails old new acts x r refl }
+    where
+      at : (old : Frames) → Gives NoneLost (λ f acts x g. f ≡ old → RefusedAlone s last command f acts x g) (refuse_if (b old) e)
+      at old = refuse_if_gives (b old) e (λ f. tt) (λ is f same. record { acts = λ u. tt; fault = fit f (ap b same ∙ is) })
 
   pub act_uncontended : (a : Act) → is_uncontended_act a ≡ true → IsUncontended s last command (act a)
-  act_uncontended a uncontended = record { acts = λ old new acts answer u r. one_act a uncontended r.0; fault = λ old new acts e r. let bad = r.1 in cc }
+  act_uncontended a uncontended = act_gives a (λ f. (uncontended, tt))
 
   pub some_act_uncontended : {X : Type 0} (f : X → Act) → ((x : X) → is_uncontended_act (f x) ≡ true) → IsUncontended s last command (some_act f)
-  some_act_uncontended f uncontended = record { acts = λ old new acts answer u r. one_act (f r.0) (uncontended r.0) r.1; fault = λ old new acts e r. let bad = r.2 in cc }
+  some_act_uncontended f uncontended = some_act_gives f (λ x g. (uncontended x, tt))
 
   -- one and then the other, whose words may rest on what the one answered
   pub bind_uncontended_then : {A B : Type 0} {first : Call A} {next : A → Call B} → IsUncontended s last command first → ((old mid : Frames) (acts : List Act) (x : A) → first old acts (Ok x) mid → IsUncontended s last command (next x)) → IsUncontended s last command (first >>= next)
-  bind_uncontended_then {A} {B} {first} {next} p q = record { acts = acts_of; fault = fault_of }
-    where
-      acts_of : (old new : Frames) (acts : List Act) (answer : Result B Fault) → IsUnraced answer → (first >>= next) old acts answer new → AreUncontended acts
-      acts_of old new acts answer u (inl r) = subst AreUncontended (sym r.4) (append_all (λ a. is_uncontended_act a ≡ true) r.2 r.3 (p.acts old r.1 r.2 (Ok r.0) tt r.5) ((q old r.1 r.2 r.0 r.5).acts r.1 new r.3 answer u r.6))
-      acts_of old new acts answer u (inr r) = p.acts old new acts (Err r.0) (same_unraced A answer r.0 r.1 u) r.2
-
-      fault_of : (old new : Frames) (acts : List Act) (e : Fault) → (first >>= next) old acts (Err e) new → IsUncontendedFault s last command acts new e
-      fault_of old new acts e (inl r) = subst (λ (all : List Act). IsUncontendedFault s last command all new e) (sym r.4) (more_fault s last command r.3 (r.2 ++ r.3) (λ n used. found_later n used r.2 r.3) new e ((q old r.1 r.2 r.0 r.5).fault r.1 new r.3 e r.6))
-      fault_of old new acts e (inr r) = same_fault_of {A = B} s last command acts new e r.0 r.1 (p.fault old new acts r.0 r.2)
+  bind_uncontended_then p q = bind_so one_after p q
 
   pub bind_uncontended : {A B : Type 0} {first : Call A} {next : A → Call B} → IsUncontended s last command first → ((x : A) → IsUncontended s last command (next x)) → IsUncontended s last command (first >>= next)
-  bind_uncontended p q = bind_uncontended_then p (λ old mid acts x r. q x)
+  bind_uncontended p q = bind_gives one_after p q
 
   -- a test, and what follows where it does not refuse
   unless_uncontended : {B : Type 0} {next : Unit {0} → Call B} (b : Bool) (e : Fault) → ((acts : List Act) (f : Frames) → IsUncontendedFault s last command acts f e) → ((x : Unit {0}) → b ≡ false → IsUncontended s last command (next x)) → IsUncontended s last command (refuse_if b e >>= next)
@@ -189,24 +221,9 @@ module _ {s : State} {last : ℕ} {command : Asked} where
   passes_uncontended false e is q = bind_uncontended (done_uncontended tt) q
   passes_uncontended true e is q = absurd cc
 
-  pub one_of_uncontended : {A : Type 0} {p q : Call A} → IsUncontended s last command p → IsUncontended s last command q → IsUncontended s last command (one_of p q)
-  one_of_uncontended {A} {p} {q} a b = record { acts = acts_of; fault = fault_of }
-    where
-      acts_of : (old new : Frames) (acts : List Act) (answer : Result A Fault) → IsUnraced answer → one_of p q old acts answer new → AreUncontended acts
-      acts_of old new acts answer u (inl r) = a.acts old new acts answer u r
-      acts_of old new acts answer u (inr r) = b.acts old new acts answer u r
-
-      fault_of : (old new : Frames) (acts : List Act) (e : Fault) → one_of p q old acts (Err e) new → IsUncontendedFault s last command acts new e
-      fault_of old new acts e (inl r) = a.fault old new acts e r
-      fault_of old new acts e (inr r) = b.fault old new acts e r
-
-  cond_uncontended : {A : Type 0} (b : Bool) {p q : Call A} → IsUncontended s last command p → IsUncontended s last command q → IsUncontended s last command (cond b p q)
-  cond_uncontended true p q = p
-  cond_uncontended false p q = q
-
-  -- a call that asks the frames
-  framed_uncontended : {A : Type 0} (call : Frames → Call A) → ((f : Frames) → IsUncontended s last command (call f)) → IsUncontended s last command (λ old. call old old)
-  framed_uncontended call q = record { acts = λ old new acts answer u r. (q old).acts old new acts answer u r; fault = λ old new acts e r. (q old).fault old new acts e r }
+  -- these acts and no refusal
+  pub plain_uncontended : {A : Type 0} {call : Call A} → ((old new : Frames) (acts : List Act) (x : A) → call old acts (Ok x) new → AreUncontended acts) → ((old new : Frames) (acts : List Act) (e : Fault) → call old acts (Err e) new → ⊥) → IsUncontended s last command call
+  plain_uncontended acts never = record { goes = acts; fails = λ old new acts e r. absurd (never old new acts e r) }
 
   -- PARTS
 
@@ -223,7 +240,7 @@ module _ {s : State} {last : ℕ} {command : Asked} where
   look_uncontended h = some_act_uncontended (Look h) (λ r. refl)
 
   looked_at_uncontended : (h : Handle) → IsUncontended s last command (looked_at h)
-  looked_at_uncontended h = cond_uncontended (is_local h) (framed_uncontended (λ old. local_object (object_of old h)) (λ f. local_uncontended (object_of f h))) (bind_uncontended (look_uncontended h) found_uncontended)
+  looked_at_uncontended h = cond_gives (is_local h) (framed_gives (λ old. local_object (object_of old h)) (λ f. local_uncontended (object_of f h))) (bind_uncontended (look_uncontended h) found_uncontended)
 
   looked_uncontended : (a : Word) → IsUncontended s last command (looked a)
   looked_uncontended Nothing = done_uncontended None
@@ -233,19 +250,16 @@ module _ {s : State} {last : ℕ} {command : Asked} where
   type_uncontended : (a : Word) → IsUncontended s last command (type_at a)
   type_uncontended Nothing = done_uncontended 0
   type_uncontended Malformed = done_uncontended 0
-  type_uncontended (Parts h) = cond_uncontended (is_local h) (framed_uncontended (λ old. done (type_local (object_of old h))) (λ f. done_uncontended (type_local (object_of f h)))) (bind_uncontended (look_uncontended h) (λ r. done_uncontended _))
+  type_uncontended (Parts h) = cond_gives (is_local h) (framed_gives (λ old. done (type_local (object_of old h))) (λ f. done_uncontended (type_local (object_of f h)))) (bind_uncontended (look_uncontended h) (λ r. done_uncontended _))
 
   probes_uncontended : IsUncontended s last command probes
-  probes_uncontended = record { acts = λ old new acts answer u r. subst AreUncontended (sym r.1) (all_probes r.0); fault = λ old new acts e r. let bad = r.2 in cc }
+  probes_uncontended = plain_uncontended (λ old new acts x r. subst AreUncontended (sym r.1) (all_probes r.0)) (λ old new acts e r. let bad = r.2 in cc)
 
   created_with_uncontended : (k : RefKind) (o : ℕ) → IsUncontended s last command (created_with k o)
-  created_with_uncontended k o = record { acts = λ old new acts answer u r. one_act (Create r.0 o) refl r.2; fault = λ old new acts e r. let bad = r.3 in cc }
-
-  at_most_uncontended : {A : Type 0} {work : Call A} (most : ℕ) → IsUncontended s last command work → IsUncontended s last command (at_most most work)
-  at_most_uncontended most p = record { acts = λ old new acts answer u r. p.acts old new acts answer u r.1; fault = λ old new acts e r. p.fault old new acts e r.1 }
+  created_with_uncontended k o = plain_uncontended (λ old new acts x r. one_act (Create r.0 o) refl r.2) (λ old new acts e r. let bad = r.3 in cc)
 
   create_uncontended : (slots : ℕ) (k : RefKind) (o : ℕ) → IsUncontended s last command (create slots k o)
-  create_uncontended slots k o = at_most_uncontended (slots + slots) (bind_uncontended probes_uncontended (λ x. one_of_uncontended (created_with_uncontended k o) (refuse_uncontended RowFull (λ acts f. tt))))
+  create_uncontended slots k o = at_most_gives (slots + slots) (bind_uncontended probes_uncontended (λ x. either_gives (created_with_uncontended k o) (refuse_uncontended RowFull (λ acts f. tt))))
 
   created_uncontended : (slots : ℕ) (k : RefKind) (o : Option ℕ) → IsUncontended s last command (created slots k o)
   created_uncontended slots k None = done_uncontended None
@@ -253,8 +267,8 @@ module _ {s : State} {last : ℕ} {command : Asked} where
 
   delete_found_uncontended : (h : Handle) (r : Found) → IsUncontended s last command (delete_found h r)
   delete_found_uncontended h found.Stale = refuse_uncontended _ (λ acts f. tt)
-  delete_found_uncontended h (found.Object o) = one_of_uncontended (act_uncontended (Delete h) refl) (bind_uncontended (act_uncontended (DeleteStale h) refl) (λ x. refuse_uncontended _ (λ acts f. tt)))
-  delete_found_uncontended h found.Cleared = one_of_uncontended (act_uncontended (Delete h) refl) (bind_uncontended (act_uncontended (DeleteStale h) refl) (λ x. refuse_uncontended _ (λ acts f. tt)))
+  delete_found_uncontended h (found.Object o) = either_gives (act_uncontended (Delete h) refl) (bind_uncontended (act_uncontended (DeleteStale h) refl) (λ x. refuse_uncontended _ (λ acts f. tt)))
+  delete_found_uncontended h found.Cleared = either_gives (act_uncontended (Delete h) refl) (bind_uncontended (act_uncontended (DeleteStale h) refl) (λ x. refuse_uncontended _ (λ acts f. tt)))
 
   delete_at_uncontended : (a : Word) → IsUncontended s last command (delete_at a)
   delete_at_uncontended Nothing = done_uncontended tt
@@ -262,7 +276,7 @@ module _ {s : State} {last : ℕ} {command : Asked} where
   delete_at_uncontended (Parts h) = bind_uncontended (look_uncontended h) (delete_found_uncontended h)
 
   drop_uncontended : (h : Handle) → IsUncontended s last command (drop_local h)
-  drop_uncontended h = record { acts = λ old new acts answer u r. one_act (LocalDrop h.index) refl r.0; fault = λ old new acts e r. let bad = r.1 in cc }
+  drop_uncontended h = plain_uncontended (λ old new acts x r. one_act (LocalDrop h.index) refl r.0) (λ old new acts e r. let bad = r.1 in cc)
 
   delete_local_at_uncontended : (a : Word) → IsUncontended s last command (delete_local_at a)
   delete_local_at_uncontended Nothing = done_uncontended tt
@@ -302,69 +316,32 @@ module _ (s : State) (command : Asked) (c : Config) (last thread : ℕ) (one : c
   room_refused f less = grind (arith, nat_tests)
 
   room_uncontended : ((f : Frames) → free_places last f ≡ 0 → LacksRoom last command.1 f) → IsUncontended s last command (room_for c last thread 1)
-  room_uncontended full = record { acts = acts_of; fault = fault_of }
-    where
-      acts_at : (b : Bool) (old new : Frames) (acts : List Act) (answer : Result (Unit {0}) Fault) → refuse_if b LocalsFull old acts answer new → AreUncontended acts
-      acts_at true old new acts answer r = no_acts r.0
-      acts_at false old new acts answer r = no_acts r.0
-
-      acts_of : (old new : Frames) (acts : List Act) (answer : Result (Unit {0}) Fault) → IsUnraced answer → room_for c last thread 1 old acts answer new → AreUncontended acts
-      acts_of old new acts answer u r = acts_at (nat_lt (free_places last old) 1) old new acts answer r
-
-      fault_at : (b : Bool) (old new : Frames) (acts : List Act) (e : Fault) → nat_lt (free_places last old) 1 ≡ b → refuse_if b LocalsFull old acts (Err e) new → IsUncontendedFault s last command acts new e
-      fault_at true old new acts e less r = same_fault_of {A = Unit {0}} s last command acts new e LocalsFull r.1 (full new (subst (λ f. free_places last f ≡ 0) (sym r.2) (room_refused old less)))
-      fault_at false old new acts e less r = let bad = r.1 in cc
-
-      fault_of : (old new : Frames) (acts : List Act) (e : Fault) → room_for c last thread 1 old acts (Err e) new → IsUncontendedFault s last command acts new e
-      fault_of old new acts e r = fault_at (nat_lt (free_places last old) 1) old new acts e refl r
+  room_uncontended full = framed_uncontended (λ f. nat_lt (free_places last f) 1) LocalsFull (λ f less. full f (room_refused f less))
 
   added_uncontended : (o : ℕ) → IsUncontended s last command (added c last thread o)
-  added_uncontended o = record { acts = λ old new acts answer u r. one_act (LocalPut r.0.index o) refl r.1; fault = λ old new acts e r. let bad = r.2 in cc }
+  added_uncontended o = plain_uncontended (λ old new acts x r. one_act (LocalPut r.0.index o) refl r.1) (λ old new acts e r. let bad = r.2 in cc)
 
   pub new_local_uncontended : ((f : Frames) → free_places last f ≡ 0 → LacksRoom last command.1 f) → (o : Option ℕ) → IsUncontended s last command (new_local c last thread o)
   new_local_uncontended full None = done_uncontended None
   new_local_uncontended full (Some o) = bind_uncontended (room_uncontended full) (λ x. bind_uncontended (added_uncontended o) (λ h. done_uncontended (Some h)))
 
   pub freeing_uncontended : IsUncontended s last command freeing
-  freeing_uncontended = record { acts = λ old new acts answer u r. subst AreUncontended (sym r.0) (all_dropped (all_refs old)); fault = λ old new acts e r. let bad = r.1 in cc }
+  freeing_uncontended = plain_uncontended (λ old new acts x r. subst AreUncontended (sym r.0) (all_dropped (all_refs old))) (λ old new acts e r. let bad = r.1 in cc)
 
   publish_uncontended : (k : Kind) (ws : List ℕ) → IsUncontended s last command (publish k ws)
-  publish_uncontended k ws = one_of_uncontended (some_act_uncontended (λ o. New o k ws) (λ o. refl)) (refuse_uncontended ObjectsFull (λ acts f. tt))
+  publish_uncontended k ws = either_gives (some_act_uncontended (λ o. New o k ws) (λ o. refl)) (refuse_uncontended ObjectsFull (λ acts f. tt))
 
   -- space for n words, which is short for the command where it is full
   space_full : (n : ℕ) → MayLack command n → IsUncontended s last command (some_act (ReserveFull n) >>= (λ used. refuse {A = Unit {0}} (SpaceFull used)))
-  space_full n lacks = record { acts = acts_of; fault = fault_of }
-    where
-      full_acts : (old new : Frames) (acts : List Act) (answer : Result (Unit {0}) Fault) → (some_act (ReserveFull n) >>= (λ used. refuse {A = Unit {0}} (SpaceFull used))) old acts answer new → (used : ℕ) × (acts ≡ ReserveFull n used ∷ []) × (answer ≡ Err (SpaceFull used))
-      full_acts old new acts answer (inl r) =
-          let answered = r.5.2 in
-          let same : r.5.0 ≡ r.0 = cc in
-          (r.0, r.4 ∙ (ap (λ front. front ++ r.3) (r.5.1 ∙ ap (λ used. ReserveFull n used ∷ []) same) ∙ ap (λ rest. ReserveFull n r.0 ∷ rest) r.6.0), r.6.1)
-      full_acts old new acts answer (inr r) = let bad = r.2.2 in absurd cc
-
-      acts_of : (old new : Frames) (acts : List Act) (answer : Result (Unit {0}) Fault) → IsUnraced answer → (some_act (ReserveFull n) >>= (λ used. refuse {A = Unit {0}} (SpaceFull used))) old acts answer new → AreUncontended acts
-      acts_of old new acts answer u r = let x = full_acts old new acts answer r in one_act (ReserveFull n x.0) refl x.1
-
-      fault_of : (old new : Frames) (acts : List Act) (e : Fault) → (some_act (ReserveFull n) >>= (λ used. refuse {A = Unit {0}} (SpaceFull used))) old acts (Err e) new → IsUncontendedFault s last command acts new e
-      fault_of old new acts e r =
-          let x = full_acts old new acts (Err e) r in
-          same_fault_of {A = Unit {0}} s last command acts new e (SpaceFull x.0) x.2 (record { words = n; found = subst (FoundFull n x.0) (sym x.1) (inl refl); lacks = lacks x.0 })
+  space_full n lacks = some_act_then (ReserveFull n) (λ used. refuse_gives (SpaceFull used) (λ f. record { acts = λ u. (refl, tt); fault = record { words = n; found = inl refl; lacks = lacks used } }))
 
   -- space that was lost
   space_lost : (n : ℕ) → IsUncontended s last command (some_act {X = ℕ × ℕ} (λ l. ReserveLost n l.0 l.1) >>= (λ l. refuse {A = Unit {0}} (Raced l.0 l.1)))
-  space_lost n = record { acts = acts_of; fault = fault_of }
-    where
-      acts_of : (old new : Frames) (acts : List Act) (answer : Result (Unit {0}) Fault) → IsUnraced answer → (some_act {X = ℕ × ℕ} (λ l. ReserveLost n l.0 l.1) >>= (λ l. refuse {A = Unit {0}} (Raced l.0 l.1))) old acts answer new → AreUncontended acts
-      acts_of old new acts answer u (inl r) = absurd (subst (IsUnraced {A = Unit {0}}) r.6.1 u)
-      acts_of old new acts answer u (inr r) = let bad = r.2.2 in absurd cc
-
-      fault_of : (old new : Frames) (acts : List Act) (e : Fault) → (some_act {X = ℕ × ℕ} (λ l. ReserveLost n l.0 l.1) >>= (λ l. refuse {A = Unit {0}} (Raced l.0 l.1))) old acts (Err e) new → IsUncontendedFault s last command acts new e
-      fault_of old new acts e (inl r) = same_fault_of {A = Unit {0}} s last command acts new e (Raced r.0.0 r.0.1) r.6.1 tt
-      fault_of old new acts e (inr r) = let bad = r.2.2 in absurd cc
+  space_lost n = some_act_then {X = ℕ × ℕ} (λ l. ReserveLost n l.0 l.1) (λ l. refuse_gives (Raced l.0 l.1) (λ f. record { acts = λ never. absurd never; fault = tt }))
 
   reserve_uncontended : (n : ℕ) → MayLack command n → IsUncontended s last command (reserve n)
   reserve_uncontended zero lacks = done_uncontended tt
-  reserve_uncontended (suc n) lacks = one_of_uncontended (act_uncontended (Reserve (suc n)) refl) (one_of_uncontended (space_full (suc n) lacks) (space_lost (suc n)))
+  reserve_uncontended (suc n) lacks = either_gives (act_uncontended (Reserve (suc n)) refl) (either_gives (space_full (suc n) lacks) (space_lost (suc n)))
 
   pub made_uncontended : ((f : Frames) → free_places last f ≡ 0 → LacksRoom last command.1 f) → (k : Kind) (ws : List ℕ) → MayLack command (length ws) → IsUncontended s last command (made c last thread k ws)
   made_uncontended full k ws lacks = bind_uncontended (room_uncontended full) (λ x. bind_uncontended (reserve_uncontended (length ws) lacks) (λ y. bind_uncontended (publish_uncontended k ws) added_uncontended))
@@ -395,7 +372,7 @@ module _ (s : State) (command : Asked) (c : Config) (last thread : ℕ) (one : c
       unless_uncontended (is_out_of_bounds c a) Stale (λ acts f. tt) (λ z inside. passes_uncontended (is_foreign thread a) Foreign (not_foreign c thread a one first inside) (λ u. delete_local_at_uncontended a))))
 
   pub typing_uncontended : (a : Word) → IsUncontended s last command (typing c thread a)
-  typing_uncontended a = cond_uncontended _ (done_uncontended 0) (type_uncontended a)
+  typing_uncontended a = cond_gives _ (done_uncontended 0) (type_uncontended a)
 
 -- THE CALLS OF FRAMES
 
@@ -432,14 +409,6 @@ push_refused c last thread n old new acts e (inr r) =
 abbrev pub popped_to : Config → ℕ → ℕ → Word → Call (Option Handle)
 popped_to c last thread a = frame_to_pop >>= (λ y. resolved c last thread a >>= popping c last thread)
 
--- a place is free where one is wanted
-abbrev HasPlace : ℕ → Option ℕ → Frames → Type 0
-HasPlace last None f = Unit {0}
-HasPlace last (Some o) f = (free_places last f == 0) ≡ false
-
-some_place : (places : ℕ) → (places == 0) ≡ false → nat_lt places 1 ≡ true → ⊥
-some_place places some less = grind (arith, nat_tests)
-
 module _ (names : Names) (name : List ℕ) (kept : Reference) where
   abbrev the_pop : Asked
   the_pop = (names, commands.MakeFrom make_from.Pop name kept)
@@ -449,86 +418,23 @@ module _ (names : Names) (name : List ℕ) (kept : Reference) where
   the_local = (names, commands.MakeFrom make_from.Local name kept)
 
   to_pop_uncontended : {s : State} {last : ℕ} → IsUncontended s last the_pop frame_to_pop
-  to_pop_uncontended {s} {last} = record { acts = acts_of; fault = fault_of }
-    where
-      acts_at : (b : Bool) (old new : Frames) (acts : List Act) (answer : Result (Unit {0}) Fault) → refuse_if b NoFrame old acts answer new → AreUncontended acts
-      acts_at true old new acts answer r = no_acts r.0
-      acts_at false old new acts answer r = no_acts r.0
-
-      acts_of : (old new : Frames) (acts : List Act) (answer : Result (Unit {0}) Fault) → IsUnraced answer → frame_to_pop old acts answer new → AreUncontended acts
-      acts_of old new acts answer u r = acts_at (nat_lt (length old.frames) 2) old new acts answer r
-
-      fault_at : (b : Bool) (old new : Frames) (acts : List Act) (e : Fault) → nat_lt (length old.frames) 2 ≡ b → refuse_if b NoFrame old acts (Err e) new → IsUncontendedFault s last the_pop acts new e
-      fault_at true old new acts e few r = same_fault_of {A = Unit {0}} s last the_pop acts new e NoFrame r.1 (subst (λ (f : Frames). length f.frames < 2) (sym r.2) (few_places (length old.frames) 2 few))
-      fault_at false old new acts e few r = let bad = r.1 in absurd cc
-
-      fault_of : (old new : Frames) (acts : List Act) (e : Fault) → frame_to_pop old acts (Err e) new → IsUncontendedFault s last the_pop acts new e
-      fault_of old new acts e r = fault_at (nat_lt (length old.frames) 2) old new acts e refl r
+  to_pop_uncontended = framed_uncontended (λ f. nat_lt (length f.frames) 2) NoFrame (λ f few. few_places (length f.frames) 2 few)
 
   module _ (s : State) (c : Config) (last thread : ℕ) (one : c.threads ≡ 1) (first : thread ≡ 0) where
     -- what room there is once the frame is taken away
     after_uncontended : (o : Option ℕ) → IsUncontended s last the_pop (room_after c last thread o)
     after_uncontended None = done_uncontended tt
-    after_uncontended (Some o) = record { acts = acts_of; fault = fault_of }
-      where
-        acts_at : (b : Bool) (old new : Frames) (acts : List Act) (answer : Result (Unit {0}) Fault) → refuse_if b LocalsFull old acts answer new → AreUncontended acts
-        acts_at true old new acts answer r = no_acts r.0
-        acts_at false old new acts answer r = no_acts r.0
+    after_uncontended (Some o) = framed_uncontended (λ f. free_places last (popped f) == 0) LocalsFull (λ f none. eqb-true (free_places last (popped f)) 0 none)
 
-        acts_of : (old new : Frames) (acts : List Act) (answer : Result (Unit {0}) Fault) → IsUnraced answer → room_after c last thread (Some o) old acts answer new → AreUncontended acts
-        acts_of old new acts answer u r = acts_at (free_places last (popped old) == 0) old new acts answer r
-
-        fault_at : (b : Bool) (old new : Frames) (acts : List Act) (e : Fault) → (free_places last (popped old) == 0) ≡ b → refuse_if b LocalsFull old acts (Err e) new → IsUncontendedFault s last the_pop acts new e
-        fault_at true old new acts e none r = same_fault_of {A = Unit {0}} s last the_pop acts new e LocalsFull r.1 (subst (λ (f : Frames). free_places last (popped f) ≡ 0) (sym r.2) (eqb-true (free_places last (popped old)) 0 none))
-        fault_at false old new acts e none r = let bad = r.1 in absurd cc
-
-        fault_of : (old new : Frames) (acts : List Act) (e : Fault) → room_after c last thread (Some o) old acts (Err e) new → IsUncontendedFault s last the_pop acts new e
-        fault_of old new acts e r = fault_at (free_places last (popped old) == 0) old new acts e refl r
-
-    place_after : (o : Option ℕ) (old mid : Frames) (acts : List Act) (x : Unit {0}) → room_after c last thread o old acts (Ok x) mid → HasPlace last o (popped mid)
-    place_after None old mid acts x r = tt
-    place_after (Some o) old mid acts x r = subst (λ (f : Frames). (free_places last (popped f) == 0) ≡ false) (sym (kept_frames (free_places last (popped old) == 0) r)) (passed (free_places last (popped old) == 0) LocalsFull old mid acts x r)
-      where
-        kept_frames : (b : Bool) → refuse_if b LocalsFull old acts (Ok x) mid → mid ≡ old
-        kept_frames true r = let bad = r.1 in absurd cc
-        kept_frames false r = r.2
-
-    -- the result is not refused where a place is free for it
-    room_never : (b : Bool) (old new : Frames) (acts : List Act) (e : Fault) → (free_places last old == 0) ≡ false → nat_lt (free_places last old) 1 ≡ b → refuse_if b LocalsFull old acts (Err e) new → ⊥
-    room_never true old new acts e some less r = some_place (free_places last old) some less
-    room_never false old new acts e some less r = let bad = r.1 in cc
-
-    added_never : (o : ℕ) (old new : Frames) (acts : List Act) (e : Fault) → (added c last thread o >>= (λ h. done (Some h))) old acts (Err e) new → ⊥
-    added_never o old new acts e (inl r) = let bad = r.6.1 in cc
-    added_never o old new acts e (inr r) = let bad = r.2.2 in cc
-
-    result_never : (o : Option ℕ) (old new : Frames) (acts : List Act) (e : Fault) → HasPlace last o old → new_local c last thread o old acts (Err e) new → ⊥
-    result_never None old new acts e some r = let bad = r.1 in cc
-    result_never (Some o) old new acts e some (inl r) = added_never o r.1 new r.3 e r.6
-    result_never (Some o) old new acts e some (inr r) = room_never (nat_lt (free_places last old) 1) old new acts r.0 some refl r.2
-
-    -- the frame is taken away, and the result goes to the one below
-    taken_never : (o : Option ℕ) (old new : Frames) (acts : List Act) (e : Fault) → HasPlace last o (popped old) → (take_frame >>= (λ x. new_local c last thread o)) old acts (Err e) new → ⊥
-    taken_never o old new acts e some (inl r) = result_never o r.1 new r.3 e (subst (HasPlace last o) (sym r.5.2) some) r.6
-    taken_never o old new acts e some (inr r) = let bad = r.2.1 in cc
-
-    taken_acts : (o : Option ℕ) (old new : Frames) (acts : List Act) (answer : Result (Option Handle) Fault) → IsUnraced answer → (take_frame >>= (λ x. new_local c last thread o)) old acts answer new → AreUncontended acts
-    taken_acts o old new acts answer u (inl r) =
-        let taken : AreUncontended r.2 = subst AreUncontended (sym r.5.0) (all_dropped (last_frame old.frames)) in
-        let made : AreUncontended r.3 = (new_local_uncontended s the_local c last thread one first (λ f none. none) o).acts r.1 new r.3 answer u r.6 in
-        subst AreUncontended (sym r.4) (append_all (λ a. is_uncontended_act a ≡ true) r.2 r.3 taken made)
-    taken_acts o old new acts answer u (inr r) = subst AreUncontended (sym r.2.0) (all_dropped (last_frame old.frames))
+    -- the frame is taken away, and the result goes to the one below, where room was found for it
+    taken_acts : (o : Option ℕ) → Gives NoneLost (RefusedAlone s last the_local) (take_frame >> new_local c last thread o)
+    taken_acts o = bind_gives {first = take_frame} one_after (plain_uncontended (λ old new acts x r. subst AreUncontended (sym r.0) (all_dropped (last_frame old.frames))) (λ old new acts e r. let bad = r.1 in cc)) (λ x. new_local_uncontended s the_local c last thread one first (λ f none. none) o)
 
     popping_uncontended : (o : Option ℕ) → IsUncontended s last the_pop (popping c last thread o)
-    popping_uncontended o = record { acts = acts_of; fault = fault_of }
-      where
-        acts_of : (old new : Frames) (acts : List Act) (answer : Result (Option Handle) Fault) → IsUnraced answer → popping c last thread o old acts answer new → AreUncontended acts
-        acts_of old new acts answer u (inl r) = subst AreUncontended (sym r.4) (append_all (λ a. is_uncontended_act a ≡ true) r.2 r.3 ((after_uncontended o).acts old r.1 r.2 (Ok r.0) tt r.5) (taken_acts o r.1 new r.3 answer u r.6))
-        acts_of old new acts answer u (inr r) = (after_uncontended o).acts old new acts (Err r.0) (same_unraced (Unit {0}) answer r.0 r.1 u) r.2
-
-        fault_of : (old new : Frames) (acts : List Act) (e : Fault) → popping c last thread o old acts (Err e) new → IsUncontendedFault s last the_pop acts new e
-        fault_of old new acts e (inl r) = absurd (taken_never o r.1 new r.3 e (place_after o old r.1 r.2 r.0 r.5) r.6)
-        fault_of old new acts e (inr r) = same_fault_of {A = Option Handle} s last the_pop acts new e r.0 r.1 ((after_uncontended o).fault old new acts r.0 r.2)
+    popping_uncontended o = bind_gives {First = λ f xs g. AreUncontended xs × HasRoom last o (popped g)} {Worse = λ f xs e g. HasRoom last o (popped f) → ⊥} {first = room_after c last thread o}
+        (record { joins = λ f g h xs ys p q. append_all (λ a. is_uncontended_act a ≡ true) xs ys p.0 q; behind = λ f g h xs ys e p full. absurd (full p.1) })
+        (record { goes = λ old new acts x r. ((after_uncontended o).goes old new acts x r, ((after_room {asked = 0} c last thread o).goes old new acts x r).1); fails = (after_uncontended o).fails })
+        (λ x. record { goes = (taken_acts o).goes; fails = (taking_work {asked = 0} c last thread o).fails })
 
     pub pop_uncontended : (a : Word) → IsUncontended s last the_pop (popped_to c last thread a)
     pop_uncontended a = bind_uncontended to_pop_uncontended (λ x. bind_uncontended (resolved_uncontended s the_pop c last thread one first a) popping_uncontended)

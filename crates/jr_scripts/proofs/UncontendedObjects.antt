@@ -1,11 +1,11 @@
 -- The acts and refusals of the calls at objects are uncontended, but for the gate: no refusal that another thread causes.
-use Rattle.std.proofs.Common.{◌≡◌, ◌≢◌, ◌≤◌, ◌==◌, ◌+◌, ◌&&◌, ℕ, zero, suc, Bool, true, false, not, Option, Some, None, List, [], ◌∷◌, length, nat_le, nat_lt, refl, sym, subst, arith}
+use Rattle.std.proofs.Common.{◌≡◌, ◌≢◌, ◌≤◌, ◌==◌, ◌+◌, ◌&&◌, ℕ, Bool, true, false, not, Option, Some, None, List, [], ◌∷◌, length, nat_le, nat_lt, refl, sym, subst, arith}
 use Rattle.std.proofs.lemmas.Bool.{leb-true}
 use Rattle.std.proofs.lemmas.Bool.Decides.{nat_tests}
 use Rattle.jr_word.specs.declared.config.Config.{Config}
 use Rattle.jr_word.specs.declared.kind.Kind.{Kind}
 use Rattle.jr_word.specs.declared.fault.Fault.{Fault}
-use Rattle.jr_word.specs.declared.fault.Fault.TheVariants.{Null, WrongKind, NotArray, WrongElement, Range, Memory, Size}
+use Rattle.jr_word.specs.declared.fault.Fault.TheVariants.{Null, WrongKind, NotArray, WrongElement, Range, Size}
 use Rattle.jr_model.specs.declared.event.Act.{Act}
 use Rattle.jr_model.specs.declared.event.Act.TheVariants.{Read, Write}
 use Rattle.jr_model.specs.declared.frames.TheConstants.{LEVELS}
@@ -16,7 +16,8 @@ use Rattle.jr_model.specs.Checks.{Word, element_word, is_array, is_objects, is_p
 use Rattle.jr_model.specs.Parts.{not_null, read, read_acts, write, write_acts}
 use Rattle.jr_model.specs.Objects.{copying_back, element_reading, element_writing, elements_copying, kind_reading, length_reading, level_array, level_string, part_of, part_reading, part_writing, units_copying}
 use Rattle.jr_scripts.specs.AloneAnswers.{LacksArray, LacksElements, LacksIndex, LacksRoom, LacksText, SomeObject, TakesMemory, WantsObject}
-use Rattle.jr_scripts.proofs.Uncontended.{AreUncontended, Asked, IsUncontended, IsUncontendedFault, act_uncontended, bind_uncontended, bind_uncontended_then, both_uncontended, done_uncontended, new_local_uncontended, one_of_uncontended, passed, passes_uncontended, refuse_when_uncontended, refuse_uncontended, resolved_uncontended, some_act_uncontended}
+use Rattle.jr_model.proofs.Composed.{memory_gives, object_so}
+use Rattle.jr_scripts.proofs.Uncontended.{AreUncontended, Asked, IsUncontended, IsUncontendedFault, act_uncontended, bind_uncontended, bind_uncontended_then, both_uncontended, done_uncontended, new_local_uncontended, passed, passes_uncontended, plain_uncontended, refuse_when_uncontended, refuse_uncontended, resolved_uncontended, some_act_uncontended}
 
 all_reads : (o start : ℕ) (vs : List ℕ) → AreUncontended (read_acts o start vs)
 all_reads o start [] = tt
@@ -52,21 +53,17 @@ module _ {s : State} {last : ℕ} {command : Asked} where
   not_null_uncontended wants (Some o) = done_uncontended o
 
   object_uncontended : {A : Type 0} (o : ℕ) (next : Kind → ℕ → Call A) → ((x : Contents) → s.objects o ≡ Some x → IsUncontended s last command (next x.kind (length x.words))) → IsUncontended s last command (for_object s o next)
-  object_uncontended o next q = record {
-    acts = λ old new acts answer u r. (q r.0 r.1).acts old new acts answer u r.2;
-    fault = λ old new acts e r. (q r.0 r.1).fault old new acts e r.2;
-  }
+  object_uncontended o next q = object_so s o next q
 
   read_uncontended : (o start n : ℕ) → IsUncontended s last command (read o start n)
-  read_uncontended o start n = record { acts = λ old new acts answer u r. subst AreUncontended (sym r.2) (all_reads o start r.0); fault = λ old new acts e r. let bad = r.3 in cc }
+  read_uncontended o start n = plain_uncontended (λ old new acts x r. subst AreUncontended (sym r.2) (all_reads o start r.0)) (λ old new acts e r. let bad = r.3 in cc)
 
   write_uncontended : (o start : ℕ) (vs : List ℕ) → IsUncontended s last command (write o start vs)
-  write_uncontended o start vs = record { acts = λ old new acts answer u r. subst AreUncontended (sym r.0) (all_writes o start vs); fault = λ old new acts e r. let bad = r.1 in cc }
+  write_uncontended o start vs = plain_uncontended (λ old new acts x r. subst AreUncontended (sym r.0) (all_writes o start vs)) (λ old new acts e r. let bad = r.1 in cc)
 
   -- a work that may find no memory, of a command that takes some
   memory_uncontended : {A : Type 0} {work : Call A} (n : ℕ) → TakesMemory command.1 → IsUncontended s last command work → IsUncontended s last command (unless_memory_for n work)
-  memory_uncontended zero takes q = q
-  memory_uncontended (suc n) takes q = one_of_uncontended q (refuse_uncontended Memory (λ acts f. takes))
+  memory_uncontended n takes q = memory_gives n (λ f. record { acts = λ u. tt; fault = takes }) q
 
   -- two tests of an array, and what follows
   tests_uncontended : {A : Type 0} (a b : Bool) {next : Call A} → (a ≡ true → LacksArray s command.1) → (a ≡ false → b ≡ true → LacksElements s command.0 command.1) → (a ≡ false → IsUncontended s last command next) → IsUncontended s last command (refuse_if a NotArray >> (refuse_if b WrongElement >> next))
