@@ -240,8 +240,7 @@ made_handle t own =
 visit_quiet : {x : ℕ} (old mid new : ThreadState) (g : Handle) → Did old.pass mid.pass (Meet ∷ []) → HasRead g x mid.pass new.pass → (acts : List Act) × Did old.pass new.pass acts × NoWrite acts
 visit_quiet {x} old mid new g learned h =
     let a = (h.begins).acts in
-    let z = Gate Enter ∷ Look g (Object h.o) ∷ [] in
-    (
+    let z = Gate Enter ∷ Look g (Object h.o) ∷ [] in (
       (Meet ∷ []) ++ (a ++ (z ++ ((Read h.o 1 x ∷ []) ++ (Gate Leave ∷ [])))),
       did_then (Meet ∷ []) _ learned (did_then a _ (h.begins).did (did_then z _ h.opens (did_then (Read h.o 1 x ∷ []) _ h.reads h.ends))),
       (refl, append_none a _ (h.begins).no_write (refl, (refl, (refl, (refl, tt))))),
@@ -256,7 +255,7 @@ read_is_written whole y x legal one two = ∥∥₁_elim h.prepared (hlevel prop
     let quiet = visit_quiet (first_moment 1) h.mid two.left t.g (h.learned).did r in
     let second : NoWrite (mine whole 1) = subst NoWrite (sym (own_acts 1 quiet.1) ∙ (ap (λ (v : PassView). mine v.seen 1) two.saw ∙ sym (two.own ∙ append-nil (mine two.seen 1)))) quiet.2 in
     let others = all_each (λ e. (e.thread < SIZES.threads) × (e.thread ≡ 1 → is_write e.act ≡ false)) (λ e. e.thread ≢ 0 → is_write e.act ≡ false) whole (λ e q ne. q.1 (second_one e.thread q.0 ne))
-        (all_both _ _ whole (threads_below SIZES LAST (state []) whole legal) (all_own (λ a. is_write a ≡ false) 1 whole second)) in
+    (all_both _ _ whole (threads_below SIZES LAST (state []) whole legal) (all_own (λ a. is_write a ≡ false) 1 whole second)) in
     let seen_then : (two.left).pass.seen ≡ two.seen = ap (λ (v : PassView). v.seen) two.saw in
     let up : IsPrefix (two.left).pass.seen whole = subst (λ l. IsPrefix l whole) (sym seen_then) two.begins in
     let d = quiet_did h.mid.pass (two.left).pass r in

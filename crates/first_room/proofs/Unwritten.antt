@@ -223,12 +223,14 @@ module _ (c : Config) (last thread : ℕ) where
 -- A COLLECTION
 
 collection_spares : (cleared : List Handle) (dropped : List ℕ) (used : ℕ) → NoWrite (collection_acts cleared dropped used)
-collection_spares cleared dropped used =
-    (refl, append_none _ (Gate Reopen ∷ [])
-    (append_none (map Clear cleared ++ map Drop dropped) (Settle used ∷ [])
-    (append_none (map Clear cleared) (map Drop dropped) (all_map _ Clear cleared (λ h. refl)) (all_map _ Drop dropped (λ o. refl)))
-    (refl, tt))
-    (refl, tt))
+collection_spares cleared dropped used = (
+  refl,
+  append_none _ (Gate Reopen ∷ [])
+      (append_none (map Clear cleared ++ map Drop dropped) (Settle used ∷ [])
+      (append_none (map Clear cleared) (map Drop dropped) (all_map _ Clear cleared (λ h. refl)) (all_map _ Drop dropped (λ o. refl)))
+      (refl, tt))
+      (refl, tt),
+)
 
 collected_spares : Spares collected
 collected_spares f g acts answer is = subst NoWrite (sym is.3) (collection_spares is.0 is.1 is.2)

@@ -16,7 +16,7 @@ abbrev pub IsNoteOf : Option TableId → Note → Type 0
 IsNoteOf site note = site ≡ Some note.seat.table_id
 
 -- THE PASS IS THE THREAD'S in the site's room, as it was opened
-pub record IsPassOf (site : Option TableId) (room : Room LAST) (t : ℕ) (p : Pass) : Type 0 where
+pub record IsPassOfThread (site : Option TableId) (room : Room LAST) (t : ℕ) (p : Pass) : Type 0 where
   pub site_is : IsRoomOf site room
   pub same_config : room.row.config ≡ SIZES
   pub same_last : room.row.last ≡ LAST

@@ -14,7 +14,7 @@ ghost use Rattle.jr_env.specs.Envs.{Does, IsOutside};
 ghost use Rattle.first_room.specs.Calls.{collecting_in_turn, reading_within};
 ghost use Rattle.first_room.specs.Hour.{IsTrueReport, IsWritten, report_lines, report_text};
 ghost use Rattle.first_room.specs.Parts.{HasShared, HasVisited};
-ghost use Rattle.first_room.specs.Sites.{IsPassOf, IsRoomOf};
+ghost use Rattle.first_room.specs.Sites.{IsPassOfThread, IsRoomOf};
 
 mod handing;
 
@@ -96,12 +96,10 @@ fn run_in<Q: Site, T: Threads>(
     let (shared, visited) = thread::join(
         rt,
         || -> Result<(Pass, u32, bool, u8), Fault>
-            requires { IsPassOf Q.room room 0 first }
-            ensures { IfOk result (λ r. IsOfRoom room r.0 × (1 ≤ r.1) × HasShared first r.0 r.1 r.2 r.3) }
+            requires { IsPassOfThread Q.room room 0 first }
         { share::<Q>(alloc, &room, first, &handed, &baton) },
         || -> Result<(Pass, i32), Fault>
-            requires { IsPassOf Q.room room 1 second }
-            ensures { IfOk result (λ r. IsOfRoom room r.0 × HasVisited second r.0 r.1) }
+            requires { IsPassOfThread Q.room room 1 second }
         { visit::<Q>(&room, second, &handed, &baton) },
     );
     let (first, inside, cleared, kind) = shared?;
@@ -143,7 +141,7 @@ fn share<Q: Site>(
     handed: &Mutex<Option<Handed<Q>>>,
     baton: &AtomicU64,
 ) -> Result<(Pass, u32, bool, u8), Fault>
-    requires { IsPassOf Q.room room.now 0 pass }
+    requires { IsPassOfThread Q.room room.now 0 pass }
     ensures { IfOk result (λ r. IsOfRoom room.now r.0 × (1 ≤ r.1) × HasShared pass r.0 r.1 r.2 r.3) }
 {
     let Ok(mut env) = Env::new(RoomSteps::new(room, pass)) else {
@@ -178,13 +176,17 @@ fn visit<Q: Site>(
     handed: &Mutex<Option<Handed<Q>>>,
     baton: &AtomicU64,
 ) -> Result<(Pass, i32), Fault>
-    requires { IsPassOf Q.room room.now 1 pass }
+    requires { IsPassOfThread Q.room room.now 1 pass }
     ensures { IfOk result (λ r. IsOfRoom room.now r.0 × HasVisited pass r.0 r.1) }
 {
     let Ok(mut env) = Env::new(RoomSteps::new(room, pass)) else {
         unreachable!();
     };
-    let Handed { global, note, site: _ } = take(handed)?;
+    let Handed {
+        global,
+        note,
+        site: _,
+    } = take(handed)?;
     env.learn(note);
     env.push_local_frame(4)?;
     let object = env.new_plain()?;

@@ -45,7 +45,7 @@ invariant_of-put g c =
     let calls = prepared _ _ _ _ _ _ _ _ _ _ _ _ _ _ _ _ c.in_ok-lost.lost c.in_ok-array.array c.in_ok-new_weak_global_ref.field-0 c.in_ok-new_global_ref.field-0 c.in_ok-pop_local_frame.field-0 c.in-Ok.ensures.outside d1 d2 d3 d4 d5 d6 d7 in
     let now : Holder = holder_over c.pop_local_frame.new.self.held.steps in
     let came = come holder_over preparing c.new.result _ _ c.args.pass now _ _ (weak, global) c.in-Ok.ensures.steps calls c.new.ensures.pass refl
-        (c.in-Ok.ensures.frames ∙ ap (λ (h : Holder). fresh_frames (facts_of h).stands.config.locals) c.new.ensures.pass) in
+    (c.in-Ok.ensures.frames ∙ ap (λ (h : Holder). fresh_frames (facts_of h).stands.config.locals) c.new.ensures.pass) in
     let made = is_prepared c.args.room.now.row c.args.pass now weak global c.note-note.result c.requires.same_config c.requires.same_last is c.requires.thread came n.note in
     let named = word_or_null c.in_ok-new_global_ref.field-0 c.unwrap_or-global.result c.unwrap_or-global.ensures in
     let there = same_room c.args.room.now.row c.args.pass (facts_of (holder_over c.note-note.new.self.held.steps)).stands is.row c.new.ensures.pass (same.room) n.room in
