@@ -18,6 +18,8 @@ mod held;
 #[cfg(test)]
 mod left_inside;
 #[cfg(test)]
+mod pinned;
+#[cfg(test)]
 mod plain;
 #[cfg(test)]
 mod references;

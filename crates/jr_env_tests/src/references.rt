@@ -251,7 +251,7 @@ fn who_meets_another_finds_its_reference(rt: HostRuntime) -> Result<(), Fail> {
 }
 
 /// A global reference that the thread of an env makes.
-fn shared_in<S: Steps>(env: &mut Env<S>) -> Result<Handle, Fail>
+pub(crate) fn shared_in<S: Steps>(env: &mut Env<S>) -> Result<Handle, Fail>
     requires { (S.facts env.old.held.steps).stands.role ≡ Outside }
     ensures { IfOk result (λ h. (S.facts env.new.held.steps).stands.room ≡ (S.facts env.old.held.steps).stands.room) }
 {

@@ -13,7 +13,8 @@ use Rattle.jr_model.specs.Steps.{IsInRow, Needs, ActNeeds, act_after, after}
 use Rattle.jr_model.specs.History.{History, by, state_from, state, IsLegalFrom, IsLegal}
 use Rattle.jr_model.specs.Laws.{IsFoundAs, CreatedIsFound, DeletedIsStale, DeletedIsNotCreated, CreatedOnce, OneAnIndex}
 use Rattle.jr_model.proofs.Updates.{at_handle, at_handle_self}
-use Rattle.jr_model.proofs.Histories.{kept_from, IsCut, cut}
+use Rattle.jr_model.specs.StandingReferences.{NoneDeletes, StandsUntilDeleted, ClearedUntilDeleted}
+use Rattle.jr_model.proofs.Histories.{kept_from, legal_append, state_append, IsCut, cut}
 
 -- what stands was given, at most one of an index stands, and only handles of the row are given
 pub record IsKept (c : Config) (last : ℕ) (s : State) : Type 0 where
@@ -132,6 +133,26 @@ module _ (c : Config) (last : ℕ) where
       let k = cut c last before (by t (Create h o)) between (by u (Look h r)) rest l in
       subst (IsFoundAs h o) k.second.1.1
       (standing_along h o (after (state before) (by t (Create h o))) between (inl (at_handle_self (state before).refs h (Object o))) kept k.legal_between)
+
+  pub stands_until_deleted : StandsUntilDeleted c last
+  stands_until_deleted h o before since whole is legal there none =
+      let from = (legal_append c last before since).0 (subst (IsLegal c last) (sym is) legal) in
+      subst (λ (s : State). IsFoundAs h o (s.refs h)) (sym (state_append before since) ∙ ap state is) (standing_along h o (state before) since (inl there) none from.1)
+
+  cleared_act : (h : Handle) (s : State) (t : ℕ) (a : Act) → s.refs h ≡ Cleared → a ≢ Delete h → ActNeeds c last s t a → (act_after s t a).refs h ≡ Cleared
+  cleared_act h s t (Create g p) i q n = at_handle (λ r. r ≡ Cleared) s.refs g h (Object p) (λ e. let none = n.3 g refl in let same = ap s.refs e in absurd cc) (λ ne. i)
+  cleared_act h s t (Delete g) i q n = at_handle (λ r. r ≡ Cleared) s.refs g h Stale (λ e. absurd (q (ap (λ f. Delete f) e))) (λ ne. i)
+  cleared_act h s t (Clear g) i q n = at_handle (λ r. r ≡ Cleared) s.refs g h Cleared (λ e. refl) (λ ne. i)
+  cleared_act h s t _ i q n = i
+
+  cleared_along : (h : Handle) (s : State) (es : History) → s.refs h ≡ Cleared → NoneDeletes h es → IsLegalFrom c last s es → (state_from s es).refs h ≡ Cleared
+  cleared_along h s [] i q l = i
+  cleared_along h s (e ∷ es) i q l = cleared_along h (after s e) es (cleared_act h s e.thread e.act i q.0 l.0.1) q.1 l.1
+
+  pub cleared_until_deleted : ClearedUntilDeleted c last
+  cleared_until_deleted h before since whole is legal there none =
+      let from = (legal_append c last before since).0 (subst (IsLegal c last) (sym is) legal) in
+      subst (λ (s : State). s.refs h ≡ Cleared) (sym (state_append before since) ∙ ap state is) (cleared_along h (state before) since there none from.1)
 
   -- the act that gives a handle makes it stand
   created_stands : (h : Handle) (s : State) (t : ℕ) (a : Act) → s.given h ≡ false → (act_after s t a).given h ≡ true → (act_after s t a).refs h ≢ Stale

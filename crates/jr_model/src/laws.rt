@@ -9,6 +9,7 @@ ghost use Rattle.jr_model.specs.Grounded.{FreeIndexIsFound, RefusedInItsStay, Ea
 ghost use Rattle.jr_model.specs.TrueRefusals.{CallsRefuseTruly, PartsRefuseTruly};
 ghost use Rattle.jr_model.specs.Moves.{CallsMoveFrames};
 ghost use Rattle.jr_model.specs.RefusedCalls.{RefusalsChangeNothing, RefusedPartsChangeNothing, HarmlessChangesNothing};
+ghost use Rattle.jr_model.specs.StandingReferences.{StandsUntilDeleted, ClearedUntilDeleted};
 ghost use Rattle.jr_model.specs.Laws.{
   CreatedIsFound,
   DeletedIsStale,
@@ -131,6 +132,12 @@ pub fn calls_move_frames()
 /// A reference that was created is found until it is deleted: a global one with its object, a weak one with it or cleared.
 pub fn created_references_are_found()
     ensures { (c : Config) (last : ℕ) → CreatedIsFound c last }
+{}
+
+/// A reference that stands after a beginning of a history stands after the whole of it, where nothing has deleted it since: a global one with its object, a weak one with it or cleared, and one that was cleared then is cleared still. So what stood where a note was made stands where it is learned.
+pub fn references_stand_until_deleted()
+    ensures object { (c : Config) (last : ℕ) → StandsUntilDeleted c last }
+    ensures cleared { (c : Config) (last : ℕ) → ClearedUntilDeleted c last }
 {}
 
 /// A collection that leaves nothing out clears and drops exactly what is to be, each once. What is reached keeps its kind and elements, and so many words are used as the present objects have.

@@ -1,0 +1,90 @@
+//! Notes that are pinned, which several threads learn, each as often as it likes.
+ghost use Rattle.std.specs.Prelude.{◌≡◌};
+ghost use Rattle.jr_rule.specs.Rooms.{IsPinnedThere};
+
+use crate::envs::{LAST, has_type, next_pass, opened_env};
+use crate::references::shared_in;
+use jr_rule::{PinnedNote, Room, RoomSteps};
+use jr_word::Config;
+use std::sync::Wait;
+use std::test::Fail;
+use std::thread;
+use std::thread::Threads;
+
+/// A room of four threads.
+const FOUR: Config = Config {
+    threads: 4,
+    slots: 4,
+    objects: 8,
+    words: 16,
+    locals: 16,
+};
+
+/// In how many turns a thread tries to learn.
+const TURNS: u32 = 10_000;
+
+/// Learns the note in each of many turns in which no other thread is just doing so. In how many it did.
+fn learns_often(steps: &mut RoomSteps<'_, LAST>, pinned: &PinnedNote) -> u32
+    requires { IsPinnedThere steps.old pinned.now }
+{
+    let mut learned = 0u32;
+    for _ in 0..TURNS {
+        if steps.learn_pinned(pinned) {
+            learned = learned.saturating_add(1);
+        }
+    }
+    learned
+}
+
+/// Learns the note in a thread of its own, while another one does.
+fn both_learn<R: Threads + Wait + Sync>(
+    rt: &R,
+    first: &mut RoomSteps<'_, LAST>,
+    second: &mut RoomSteps<'_, LAST>,
+    pinned: &PinnedNote,
+) -> (u32, u32)
+    requires first { IsPinnedThere first.old pinned.now }
+    requires second { IsPinnedThere second.old pinned.now }
+{
+    thread::join(
+        rt,
+        || learns_often(first, pinned),
+        || learns_often(second, pinned),
+    )
+}
+
+/// A note that a thread pinned is learned in turn, and again: whoever has learned it finds the reference.
+#[test]
+fn a_pinned_note_is_learned_again(rt: HostRuntime) -> Result<(), Fail> {
+    let (room, mut passes) = Room::<LAST>::open(rt.alloc(), FOUR)?;
+    let third = next_pass(&room, &mut passes)?;
+    let second = next_pass(&room, &mut passes)?;
+    let mut steps = RoomSteps::new(&room, second);
+    let mut env = opened_env(RoomSteps::new(&room, third));
+    let shared = shared_in(&mut env)?;
+    let pinned = env.note().pin();
+    assert!(rt; steps.learn_pinned(&pinned));
+    assert!(rt; steps.learn_pinned(&pinned));
+    let again = steps.pin();
+    assert!(rt; steps.learn_pinned(&again));
+    has_type(&rt, &mut env, shared, 2)
+}
+
+/// Two threads learn one note side by side, in many turns each. No copy is lost: a third learns it afterwards.
+#[test]
+fn two_threads_learn_one_note(rt: HostRuntime) -> Result<(), Fail> {
+    let (room, mut passes) = Room::<LAST>::open(rt.alloc(), FOUR)?;
+    let fourth = next_pass(&room, &mut passes)?;
+    let third = next_pass(&room, &mut passes)?;
+    let second = next_pass(&room, &mut passes)?;
+    let first = next_pass(&room, &mut passes)?;
+    let mut steps = RoomSteps::new(&room, fourth);
+    let pinned = steps.pin();
+    let mut first = RoomSteps::new(&room, first);
+    let mut second = RoomSteps::new(&room, second);
+    let mut third = RoomSteps::new(&room, third);
+    let (one, other) = both_learn(&rt, &mut first, &mut second, &pinned);
+    assert!(rt; one > 0 || other > 0);
+    assert!(rt; third.learn_pinned(&pinned));
+    Ok(())
+}
