@@ -1,9 +1,8 @@
 -- What is handed on with a note, and what is learned by it.
-use Rattle.std.proofs.Common.{◌≡◌, ◌∙◌, ℕ, Option, Some, [], ◌∷◌, Result, Ok, ap, sym, subst, refl}
+use Rattle.std.proofs.Common.{◌≡◌, ◌∙◌, ℕ, Option, Some, [], Result, Ok, ap, sym, subst, refl}
 use mathlib.Core.List.{IsPrefix}
 use Rattle.atomic_table.specs.Seated.{TableId}
 use Rattle.jr_word.specs.declared.fault.Fault.{Fault}
-use Rattle.jr_model.specs.declared.event.Act.TheVariants.{Meet}
 use Rattle.jr_model.specs.Frames.{Frames}
 use Rattle.jr_model.proofs.Agreement.{agree_spared}
 use Rattle.jr_steps.specs.declared.known.Known.{Known}
@@ -46,7 +45,7 @@ module _ {P : Type 0} {G : Ghosts RoomCells P} where
       does_from a b c f f' g stands s.hint (λ k w. (w.0 ∙ sym s.knows, subst (λ z. IsOf z k) (sym stands) w.1)) same d
 
   -- the word was handed over, and the note learned
-  pub learns : (a b : StepsOver RoomCells P G) (f g : Frames) (w : ℕ) (n : Note) → Took facts_of (holder_over a) (holder_over b) (Meet ∷ []) anything keeps → Learned n b → g ≡ f → ∥ HasPrepared w (seen_by_note n) ∥₁
+  pub learns : (a b : StepsOver RoomCells P G) (f g : Frames) (w : ℕ) (n : Note) → Took facts_of (holder_over a) (holder_over b) [] anything keeps → Learned n b → g ≡ f → ∥ HasPrepared w (seen_by_note n) ∥₁
       → DoesDeed (λ s. facts_of (holder_over s)) a b f g is_handed (Ok w)
   learns a b f g w n took learned same prepared = record {
     stands_is = record {
@@ -59,7 +58,7 @@ module _ {P : Type 0} {G : Ghosts RoomCells P} where
     did = λ k s holds.
         let x = took.goes k s tt in
         let d = goes_did x.2 in
-        let shown : Holds g x.0 = subst (λ h. Holds h x.0) (sym same) (agree_spared f (Meet ∷ []) d (refl, tt) holds) in
+        let shown : Holds g x.0 = subst (λ h. Holds h x.0) (sym same) (agree_spared f [] d tt holds) in
         let seen : IsPrefix (seen_by_note n) (x.0).seen = subst (λ (z : Known). IsPrefix (seen_by_note n) z.seen) (sym x.1.0) learned in (
           x.0,
           x.1,

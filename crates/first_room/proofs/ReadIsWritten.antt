@@ -237,13 +237,13 @@ made_handle t own =
     record { serial = omega arith; index = omega arith; owner = subst (λ k. (t.g).owner < owner_limit k) (sym t.global) (omega arith) }
 
 -- the second thread wrote nothing
-visit_quiet : {x : ℕ} (old mid new : ThreadState) (g : Handle) → Did old.pass mid.pass (Meet ∷ []) → HasRead g x mid.pass new.pass → (acts : List Act) × Did old.pass new.pass acts × NoWrite acts
+visit_quiet : {x : ℕ} (old mid new : ThreadState) (g : Handle) → Did old.pass mid.pass [] → HasRead g x mid.pass new.pass → (acts : List Act) × Did old.pass new.pass acts × NoWrite acts
 visit_quiet {x} old mid new g learned h =
     let a = (h.begins).acts in
     let z = Gate Enter ∷ Look g (Object h.o) ∷ [] in (
-      (Meet ∷ []) ++ (a ++ (z ++ ((Read h.o 1 x ∷ []) ++ (Gate Leave ∷ [])))),
-      did_then (Meet ∷ []) _ learned (did_then a _ (h.begins).did (did_then z _ h.opens (did_then (Read h.o 1 x ∷ []) _ h.reads h.ends))),
-      (refl, append_none a _ (h.begins).no_write (refl, (refl, (refl, (refl, tt))))),
+      a ++ (z ++ ((Read h.o 1 x ∷ []) ++ (Gate Leave ∷ []))),
+      did_then [] _ learned (did_then a _ (h.begins).did (did_then z _ h.opens (did_then (Read h.o 1 x ∷ []) _ h.reads h.ends))),
+      append_none a _ (h.begins).no_write (refl, (refl, (refl, (refl, tt)))),
     )
 
 -- THE ELEMENT THAT WAS READ IS THE ONE THAT WAS WRITTEN

@@ -7,7 +7,6 @@ use Rattle.jr_word.specs.declared.fault.Fault.TheVariants.{Busy}
 use Rattle.jr_word.specs.declared.handle.Handle.{Handle}
 use Rattle.jr_word.specs.declared.handle.RefKind.TheVariants.{Global, Weak}
 use Rattle.jr_word.specs.declared.kind.Kind.TheVariants.{Int, Long}
-use Rattle.jr_model.specs.declared.event.Act.TheVariants.{Meet}
 use Rattle.jr_model.specs.Checks.{Word}
 use Rattle.jr_model.specs.History.{Did, History}
 use Rattle.jr_model.specs.Objects.{get_array_critical, region_get, region_release}
@@ -82,9 +81,9 @@ sharing = do
 abbrev pub HasPrepared : ℕ → History → Type 0
 HasPrepared global seen = (weak : ℕ) × (by_then : ThreadState) × preparing (first_moment 0) (Ok (weak, global)) by_then × (by_then.pass ≡ seen_by 0 seen)
 
--- it looked at the gate, by which it may see more, and no more than that has changed
+-- it may see more, and no more than that has changed
 pub record HasLearned (old new : ThreadState) : Type 0 where
-  pub did : Did old.pass new.pass (Meet ∷ [])
+  pub did : Did old.pass new.pass []
   pub frames : new.frames ≡ old.frames
   pub held : new.held ≡ old.held
   pub fresh : new.fresh ≡ old.fresh
