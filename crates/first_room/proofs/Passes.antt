@@ -30,6 +30,10 @@ same_before p = record { room = p.room; config = p.config; last = p.last }
 pub same_spent : (s : Standing) {t : Standing} {f : Bool} → t ≡ record s { fresh = f } → IsOfSame s t
 same_spent s e = record { room = ap (λ (u : Standing). u.room) e; config = ap (λ (u : Standing). u.config) e; last = ap (λ (u : Standing). u.last) e }
 
+-- where nothing has changed
+pub same_stands : (s : Standing) {t : Standing} → t ≡ s → IsOfSame s t
+same_stands s e = record { room = ap (λ (u : Standing). u.room) e; config = ap (λ (u : Standing). u.config) e; last = ap (λ (u : Standing). u.last) e }
+
 -- a pass that was spent and stepped with is of its room still
 pub at_end : (r : Row) (p : Pass) (made now : Holder) (back : Pass) → IsAt r p → made ≡ holder_of p → IsOfSame (facts_of made).stands (facts_of now).stands → holder_of back ≡ now → IsAt r back
 at_end r p made now back at is same handed =

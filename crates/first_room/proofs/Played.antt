@@ -11,9 +11,10 @@ use Rattle.jr_word.specs.Elem.{signed_word}
 use Rattle.jr_model.specs.declared.event.Role.TheVariants.{Outside}
 use Rattle.jr_model.specs.Frames.{Frames, fresh_frames}
 use Rattle.jr_model.specs.Objects.{get_array_critical, region_get}
-use Rattle.jr_steps.specs.Knowing.{AreOf, Facts, Spent}
-use Rattle.jr_gate.specs.Performing.{thread_state}
-use Rattle.jr_env.proofs.Carrying.{did_more, did_reply, does_nothing, does_then, own_call}
+use Rattle.jr_steps.specs.declared.known.Known.{Known}
+use Rattle.jr_steps.specs.Knowing.{AreOf, Facts, Holds, Spent, Standing}
+use Rattle.jr_gate.specs.Performing.{IsAsBefore, thread_state, thread_state_with}
+use Rattle.jr_env.proofs.Carrying.{did_more, did_reply, does_then, own_call}
 use Rattle.jr_rule.specs.declared.pass.Pass.{Pass}
 use Rattle.jr_rule.specs.Passes.{Holder, facts_of, holder_of, standing_of}
 use Rattle.jr_frames.specs.Table.{Table}
@@ -23,11 +24,11 @@ use Rattle.jr_weak.specs.declared.collecting.Collected.{Collected}
 use Rattle.jr_env.specs.Collections.{collection}
 use Rattle.jr_env.specs.Deeds.{Deed, DoesDeed, DoesOutside, new_plain, new_array, new_object_array, new_reference, delete_reference, is_same_object, get_object_ref_type, push_local_frame, pop_local_frame, set_array_region, done, ◌>>=◌}
 use Rattle.first_room.specs.Calls.{clearing, collecting_in_turn, collecting_twice, is_handed, is_kept_out, preparing, reading_within, sharing, visiting, word_made}
-use Rattle.first_room.specs.Parts.{HasPlayed}
+use Rattle.first_room.specs.Parts.{HasCome}
 
 module _ {S : Type 0} {facts : S → Facts} where
   -- the first thread's calls before it collects
-  prepared : (s0 s1 s2 s3 s4 s5 s6 s7 : S) (f0 f1 f2 f3 f4 f5 f6 f7 : Frames) (lost array : Handle) (weak global popped : Option Handle)
+  pub prepared : (s0 s1 s2 s3 s4 s5 s6 s7 : S) (f0 f1 f2 f3 f4 f5 f6 f7 : Frames) (lost array : Handle) (weak global popped : Option Handle)
       → (facts s0).stands.role ≡ Outside → DoesOutside facts s0 s1 f0 f1 (push_local_frame 4) (Ok tt) → DoesOutside facts s1 s2 f1 f2 (new_array Long 4) (Ok lost) → DoesOutside facts s2 s3 f2 f3 (new_reference Weak lost.0) (Ok weak)
       → DoesOutside facts s3 s4 f3 f4 (new_array Int 3) (Ok array) → DoesOutside facts s4 s5 f4 f5 (set_array_region Int array.0 0 (10 ∷ 20 ∷ 30 ∷ [])) (Ok tt) → DoesOutside facts s5 s6 f5 f6 (new_reference Global array.0) (Ok global)
       → DoesOutside facts s6 s7 f6 f7 (pop_local_frame 0) (Ok popped) → DoesDeed facts s0 s7 f0 f7 preparing (Ok (word_made weak, word_made global))
@@ -111,13 +112,31 @@ module _ {S : Type 0} {facts : S → Facts} where
   reads_within fits a b c d f f1 f2 g word v w (Err e) out opened one same1 same2 same left reached ended done = tt
 
   -- the second thread's calls
-  pub visited : (s0 s1 s2 s3 s4 s5 : S) (f0 f1 f2 f3 f4 f5 : Frames) (word : ℕ) (object array : Handle) (popped : Option Handle) (x : ℕ)
-      → (facts s0).stands.role ≡ Outside → DoesOutside facts s0 s1 f0 f1 (push_local_frame 4) (Ok tt) → DoesOutside facts s1 s2 f1 f2 new_plain (Ok object) → DoesOutside facts s2 s3 f2 f3 (new_object_array 2 object.0) (Ok array)
-      → DoesOutside facts s3 s4 f3 f4 (pop_local_frame 0) (Ok popped) → DoesOutside facts s4 s5 f4 f5 (reading_within word) (Ok x) → DoesDeed facts s0 s5 f0 f5 visiting (Ok x)
-  visited s0 s1 s2 s3 s4 s5 f0 f1 f2 f3 f4 f5 word object array popped x out d1 d2 d3 d4 d5 =
-      let handed : DoesDeed facts s0 s0 f0 f0 is_handed (Ok word) = does_nothing (λ p. (word, refl, refl)) in
+  pub visited : (s s0 s1 s2 s3 s4 s5 : S) (f f0 f1 f2 f3 f4 f5 : Frames) (word : ℕ) (object array : Handle) (popped : Option Handle) (x : ℕ)
+      → DoesDeed facts s s0 f f0 is_handed (Ok word) → (facts s0).stands.role ≡ Outside → DoesOutside facts s0 s1 f0 f1 (push_local_frame 4) (Ok tt) → DoesOutside facts s1 s2 f1 f2 new_plain (Ok object) → DoesOutside facts s2 s3 f2 f3 (new_object_array 2 object.0) (Ok array)
+      → DoesOutside facts s3 s4 f3 f4 (pop_local_frame 0) (Ok popped) → DoesOutside facts s4 s5 f4 f5 (reading_within word) (Ok x) → DoesDeed facts s s5 f f5 visiting (Ok x)
+  visited s s0 s1 s2 s3 s4 s5 f f0 f1 f2 f3 f4 f5 word object array popped x handed out d1 d2 d3 d4 d5 =
       let read = d5.does d4.outside in
       does_then _ handed (does_then _ (d1.does out) (does_then _ (d2.does d1.outside) (does_then _ (d3.does d2.outside) (does_then _ (d4.does d3.outside) read))))
+
+  -- a call from steps that differ in nothing that is known of them
+  pub does_from : {A : Type 0} {deed : Deed A} {r : Result A Fault} (a b c : S) (f f' g : Frames)
+      → (facts b).stands ≡ (facts a).stands → (facts b).hint ≡ (facts a).hint → ((k : Known) → (facts a).knows k → (facts b).knows k) → f' ≡ f → DoesOutside facts b c f' g deed r → DoesOutside facts a c f g deed r
+  does_from {deed = deed} {r = r} a b c f f' g stands hint know same d = record {
+    does = λ out.
+        let x = d.does (ap (λ (z : Standing). z.role) stands ∙ out) in
+        record {
+          stands_is = subst (λ (z : Standing). IsAsBefore z (facts c).stands) stands x.stands_is;
+          did = λ k s n.
+              let y = x.did k (know k s) (subst (λ h. Holds h k) (sym same) n) in (
+                y.0,
+                y.1,
+                y.2,
+                subst (λ (z : Bool × ℕ × Frames). deed (thread_state_with z.0 z.1 k z.2) r (thread_state (facts c) y.0 g)) (λ i. ((stands i).fresh, hint i, same i)) y.3,
+              );
+        };
+    outside = d.outside;
+  }
 
   module _ {a b : S} {f g : Frames} where
     -- a refusal by its name
@@ -135,16 +154,16 @@ module _ {S : Type 0} {facts : S → Facts} where
     typed_on v v' r = subst (λ n. DoesOutside facts a b f g (get_object_ref_type n) r)
 
 -- what steps did the pass did that they are made of
-pub played : {S : Type 0} (holder : S → Holder) {A : Type 0} (story : Deed A) (made a b : S) (p q : Pass) (f g : Frames) (x : A)
-    → Spent (λ s. facts_of (holder s)) made a → DoesDeed (λ s. facts_of (holder s)) a b f g story (Ok x) → holder made ≡ holder_of p → holder_of q ≡ holder b → f ≡ fresh_frames (standing_of p).config.locals → HasPlayed story p q x
-played holder story made a b p q f g x spent d old new fresh =
+pub come : {S : Type 0} (holder : S → Holder) {A : Type 0} (story : Deed A) (made a b : S) (p : Pass) (now : Holder) (f g : Frames) (x : A)
+    → Spent (λ s. facts_of (holder s)) made a → DoesDeed (λ s. facts_of (holder s)) a b f g story (Ok x) → holder made ≡ holder_of p → now ≡ holder b → f ≡ fresh_frames (standing_of p).config.locals → HasCome story p now x
+come holder story made a b p now f g x spent d old new fresh =
     let here : DoesDeed facts_of (holder a) (holder b) f g story (Ok x) = record { stands_is = d.stands_is; did = d.did } in
     let spends : Spent facts_of (holder made) (holder a) = record { stands_is = spent.stands_is; hint_is = spent.hint_is; same = spent.same } in
     record {
       spent = holder a;
       spends = subst (λ z. Spent facts_of z (holder a)) old spends;
       frames = g;
-      did = subst (λ h. DoesDeed facts_of (holder a) (holder_of q) h g story (Ok x)) fresh (subst (λ z. DoesDeed facts_of (holder a) z f g story (Ok x)) (sym new) here);
+      did = subst (λ h. DoesDeed facts_of (holder a) now h g story (Ok x)) fresh (subst (λ z. DoesDeed facts_of (holder a) z f g story (Ok x)) (sym new) here);
     }
 
 -- the word that stands for a reference, or NULL

@@ -1,5 +1,6 @@
 -- What each of the two threads does, call by call.
 use Rattle.std.specs.Prelude.{◌≡◌, ℕ, Bool, Option, Some, None, Ok, Err, [], ◌∷◌}
+use mathlib.Core.List.{IsPrefix}
 use Rattle.first_room.specs.declared.TheConstants.{TRIES}
 use Rattle.jr_word.specs.declared.fault.Fault.{Fault}
 use Rattle.jr_word.specs.declared.fault.Fault.TheVariants.{Busy}
@@ -7,6 +8,7 @@ use Rattle.jr_word.specs.declared.handle.Handle.{Handle}
 use Rattle.jr_word.specs.declared.handle.RefKind.TheVariants.{Global, Weak}
 use Rattle.jr_word.specs.declared.kind.Kind.TheVariants.{Int, Long}
 use Rattle.jr_model.specs.Checks.{Word}
+use Rattle.jr_model.specs.History.{Did, History}
 use Rattle.jr_model.specs.Objects.{get_array_critical, region_get, region_release}
 use Rattle.jr_frames.specs.Reading.{IsReadAs}
 use Rattle.jr_gate.specs.Performing.{ThreadState}
@@ -14,6 +16,7 @@ use Rattle.jr_weak.specs.declared.collecting.Collected.{Collected}
 use Rattle.jr_env.specs.Collections.{announced_collection, collection}
 use Rattle.jr_env.specs.Deeds.{Deed, done, new_plain, new_array, new_object_array, new_reference, delete_reference, is_same_object, get_object_ref_type, push_local_frame, pop_local_frame, set_array_region, ◌>>=◌, ◌>>◌}
 use Rattle.jr_env.specs.StayDeeds.{within_by}
+use Rattle.first_room.specs.Moments.{first_moment, seen_by}
 
 -- the word of a reference that was made, 0 for NULL
 abbrev pub word_made : Option Handle → ℕ
@@ -74,9 +77,21 @@ sharing = do
   found ← clearing words.0 words.1
   done (inside, found.0, found.1)
 
--- some word was handed over by the other thread, which is no call
+-- THE FIRST THREAD HAS PREPARED, with this word of the global reference, and it had seen this by then
+abbrev pub HasPrepared : ℕ → History → Type 0
+HasPrepared global seen = (weak : ℕ) × (by_then : ThreadState) × preparing (first_moment 0) (Ok (weak, global)) by_then × (by_then.pass ≡ seen_by 0 seen)
+
+-- it may see more, and no more than that has changed
+pub record HasLearned (old new : ThreadState) : Type 0 where
+  pub did : Did old.pass new.pass []
+  pub frames : new.frames ≡ old.frames
+  pub held : new.held ≡ old.held
+  pub fresh : new.fresh ≡ old.fresh
+  pub hint : new.hint ≡ old.hint
+
+-- the word of the first thread's global reference was handed over with a note, and the note was learned: all that the first thread had seen by then is seen
 abbrev pub is_handed : Deed ℕ
-is_handed old answer new = (w : ℕ) × (answer ≡ Ok w) × (new ≡ old)
+is_handed old answer new = (w : ℕ) × (answer ≡ Ok w) × (noted : History) × ∥ HasPrepared w noted ∥₁ × IsPrefix noted new.pass.seen × HasLearned old new
 
 -- a critical region is opened over the array that a word names: its object
 abbrev pub opens_region : ℕ → Deed ℕ
@@ -90,7 +105,7 @@ reading_within global = do
   within_by (λ c. 0) (λ c last t s. region_release 1)
   done word
 
--- THE SECOND THREAD is handed a word, and makes two objects in a frame; and it reads an element of the array that the word names: the element's word
+-- THE SECOND THREAD is handed the global reference's word, and makes two objects in a frame; and it reads an element of the array that the word names: the element's word
 abbrev pub visiting : Deed ℕ
 visiting = do
   global ← is_handed

@@ -1,5 +1,5 @@
 -- What the program writes, and what is so of it.
-use Rattle.std.specs.Prelude.{◌≡◌, ◌≤◌, ℕ, ℤ, Bool, if◌then◌else◌, Option, List, [], ◌∷◌, ◌++◌, codes}
+use Rattle.std.specs.Prelude.{◌≡◌, ◌≤◌, ℕ, ℤ, pos, Bool, if◌then◌else◌, Option, List, [], ◌∷◌, ◌++◌, codes}
 use Rattle.std.specs.Fmt.{decimal, signed_decimal}
 use Rattle.std.specs.Io.KnownBytes.{Appends}
 use Rattle.std.specs.Int.{w32}
@@ -46,12 +46,13 @@ abbrev pub report_text : List (List ℕ) → List ℕ
 report_text [] = []
 report_text (l ∷ ls) = l ++ report_text ls
 
--- THE REPORT IS TRUE: there is one legal history of the machine, in which the first thread's calls and then its look at the gate as the room closes are all that it did, and the second thread's calls all that that one did; the numbers are the calls' answers, and what was left is what stands at the end
+-- THE REPORT IS TRUE: there is one legal history of the machine, in which the first thread's calls and then its look at the gate as the room closes are all that it did, and the second thread's calls all that that one did; the numbers are the calls' answers, the element that was read is the one that was written, and what was left is what stands at the end
 pub record IsTrueReport (r : Report) : Type 0 where
   pub whole : History
   pub legal : IsLegal SIZES LAST whole
   pub first : PlaysPart whole 0 sharing (r.inside, r.cleared, r.kind) (Meet ∷ [])
   pub second : PlaysPart whole 1 visiting (signed_word w32 r.read) []
+  pub is_read : r.read ≡ pos 20
   pub is_left : r.left ≡ summary SIZES LAST (state whole)
   pub some : 1 ≤ r.inside
 

@@ -7,20 +7,26 @@ ghost use Rattle.std.specs.Prelude.{◌≤◌, IfOk, OnOk, Ok};
 ghost use Rattle.std.specs.Int.{w32};
 ghost use Rattle.std.specs.Io.KnownBytes.{Appends};
 ghost use Rattle.jr_word.specs.Elem.{signed_word};
-ghost use Rattle.jr_rule.specs.Passes.{IsOpened};
+ghost use Rattle.jr_rule.specs.Passes.{AreOpened};
 ghost use Rattle.jr_rule.specs.Rooms.{IsOfRoom};
 ghost use Rattle.jr_env.specs.Collections.{FitsRoom};
 ghost use Rattle.jr_env.specs.Envs.{Does, IsOutside};
 ghost use Rattle.first_room.specs.Calls.{collecting_in_turn, reading_within};
-ghost use Rattle.first_room.specs.Hour.{IsWritten, report_lines, report_text};
+ghost use Rattle.first_room.specs.Hour.{IsTrueReport, IsWritten, report_lines, report_text};
 ghost use Rattle.first_room.specs.Parts.{HasShared, HasVisited};
+ghost use Rattle.first_room.specs.Sites.{IsPassOfThread, IsRoomOf};
 
+mod handing;
+
+use crate::handing::{Handed, Site, put, take, wait};
 use jr_env::Env;
 use jr_rule::{Pass, Room, RoomSteps, Steps, Summary};
 use jr_weak::{Collected, Marker};
 use jr_word::{Config, Fault, Handle, LAST_SERIAL};
 use std::alloc::Global;
 use std::io::Write;
+use std::marker::{Brand, PhantomData};
+use std::sync::Mutex;
 use std::sync::atomic::{AtomicU64, Ordering};
 use std::thread::Threads;
 use std::{io, thread};
@@ -33,7 +39,7 @@ const LAST: u32 = LAST_SERIAL;
 const TRIES: u32 = 1_000;
 
 /// How often a thread looks for the other's word, and how often it announces a collection.
-const TURNS: u32 = 1 << 26;
+pub(crate) const TURNS: u32 = 1 << 26;
 
 /// The sizes of the room.
 const SIZES: Config = Config {
@@ -59,7 +65,7 @@ fn main(rt: HostRuntime) -> Result<(), Trouble> {
     run(&rt, rt.alloc(), &mut io::writer(&rt))
 }
 
-/// Opens a room, gives each of two threads its pass, closes the room once both have ended, and writes what they found.
+/// Opens a room, runs two threads in it, closes it, and writes what they found.
 pub(crate) fn run<T: Threads, W: Write + Drop>(
     rt: &T,
     alloc: Global,
@@ -67,13 +73,34 @@ pub(crate) fn run<T: Threads, W: Write + Drop>(
 ) -> Result<(), Trouble>
     ensures { OnOk result (IsWritten (W.contents out.old) (W.contents out.new)) }
 {
-    let (room, mut passes) = Room::<LAST>::open(alloc, SIZES)?;
+    let (room, passes) = Room::<LAST>::open(alloc, SIZES)?;
+    let (read, inside, cleared, kind, left) = run_in::<Brand, T>(rt, alloc, room, passes)?;
+    write_report(out, read, inside, cleared, kind, left)?;
+    Ok(())
+}
+
+/// Gives each of two threads its pass, and closes the room once both have ended: what they found, and what stood as it was closed.
+fn run_in<Q: Site, T: Threads>(
+    rt: &T,
+    alloc: Global,
+    room: Room<LAST>,
+    mut passes: Vec<Pass>,
+) -> Result<(i32, u32, bool, u8, Summary), Fault>
+    requires passes { AreOpened SIZES LAST room.row passes.items }
+    requires site { IsRoomOf Q.room room }
+    ensures { IfOk result (λ r. IsTrueReport (record { read = r.0; inside = r.1; cleared = r.2; kind = r.3; left = r.4 })) }
+{
     let (first, second) = (passes.remove(0), passes.remove(0));
+    let handed = Mutex::new(None);
     let baton = AtomicU64::new(0);
     let (shared, visited) = thread::join(
         rt,
-        || share(alloc, &room, first, &baton),
-        || visit(&room, second, &baton),
+        || -> Result<(Pass, u32, bool, u8), Fault>
+            requires { IsPassOfThread Q.room room 0 first }
+        { share::<Q>(alloc, &room, first, &handed, &baton) },
+        || -> Result<(Pass, i32), Fault>
+            requires { IsPassOfThread Q.room room 1 second }
+        { visit::<Q>(&room, second, &handed, &baton) },
     );
     let (first, inside, cleared, kind) = shared?;
     let (second, read) = visited?;
@@ -81,8 +108,7 @@ pub(crate) fn run<T: Threads, W: Write + Drop>(
     let left = room
         .close_all(first, passes)
         .map_err(|refused| refused.left.fault)?;
-    write_report(out, read, inside, cleared, kind, left)?;
-    Ok(())
+    Ok((read, inside, cleared, kind, left))
 }
 
 /// Writes what the threads found, and what stood as the room was closed.
@@ -108,13 +134,14 @@ fn write_report<W: Write + Drop>(
 }
 
 /// The first thread shares an array, and collects: in vain while the other has a critical region, and then in its turn, as soon as the other has none.
-fn share(
+fn share<Q: Site>(
     alloc: Global,
     room: &Room<LAST>,
     pass: Pass,
+    handed: &Mutex<Option<Handed<Q>>>,
     baton: &AtomicU64,
 ) -> Result<(Pass, u32, bool, u8), Fault>
-    requires { IsOpened room.now.row pass }
+    requires { IsPassOfThread Q.room room.now 0 pass }
     ensures { IfOk result (λ r. IsOfRoom room.now r.0 × (1 ≤ r.1) × HasShared pass r.0 r.1 r.2 r.3) }
 {
     let Ok(mut env) = Env::new(RoomSteps::new(room, pass)) else {
@@ -127,8 +154,9 @@ fn share(
     env.set_array_region(array, 0, &[10, 20, 30])?;
     let global = env.new_global_ref(array)?.unwrap_or(Handle::NULL);
     env.pop_local_frame(Handle::NULL)?;
-    baton.store(global.0, Ordering::SeqCst);
-    wait(baton, global.0)?;
+    let (note, site) = (env.note(), PhantomData);
+    put(handed, Handed { global, note, site })?;
+    wait(baton, 0)?;
     let mut marker = Marker::new(alloc, env.held.steps.config())?;
     let Err(Fault::Busy(inside)) = env.collect(&mut marker) else {
         return Err(Fault::Turns);
@@ -142,14 +170,24 @@ fn share(
 }
 
 /// The second thread has objects of its own, and reads in the first one's array, in a critical region.
-fn visit(room: &Room<LAST>, pass: Pass, baton: &AtomicU64) -> Result<(Pass, i32), Fault>
-    requires { IsOpened room.now.row pass }
+fn visit<Q: Site>(
+    room: &Room<LAST>,
+    pass: Pass,
+    handed: &Mutex<Option<Handed<Q>>>,
+    baton: &AtomicU64,
+) -> Result<(Pass, i32), Fault>
+    requires { IsPassOfThread Q.room room.now 1 pass }
     ensures { IfOk result (λ r. IsOfRoom room.now r.0 × HasVisited pass r.0 r.1) }
 {
     let Ok(mut env) = Env::new(RoomSteps::new(room, pass)) else {
         unreachable!();
     };
-    let global = Handle(wait(baton, 0)?);
+    let Handed {
+        global,
+        note,
+        site: _,
+    } = take(handed)?;
+    env.learn(note);
     env.push_local_frame(4)?;
     let object = env.new_plain()?;
     env.new_object_array(2, object)?;
@@ -182,17 +220,6 @@ fn collect_in_turn<S: Steps>(env: &mut Env<S>, marker: &mut Marker) -> Result<Co
         match env.collect_announced(marker, TRIES) {
             Ok(collected) => return Ok(collected),
             Err(_) => thread::yield_now(),
-        }
-    }
-    Err(Fault::Turns)
-}
-
-/// Waits until another word than the own stands there, and gives it: E20 where none comes.
-fn wait(baton: &AtomicU64, own: u64) -> Result<u64, Fault> {
-    for _ in 0..TURNS {
-        match baton.load(Ordering::SeqCst) {
-            word if word != own => return Ok(word),
-            _ => thread::yield_now(),
         }
     }
     Err(Fault::Turns)

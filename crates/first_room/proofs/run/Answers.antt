@@ -1,34 +1,14 @@
--- Both passes come back to their room, and the report is true of its history.
-use Rattle.std.proofs.Common.{◌≡◌, ◌≤◌, ◌++◌, ◌∷◌, [], rules, refl, ap, ◌∙◌, map, subst, to_z, of_z, w32}
+-- What is written is the report's text.
+use Rattle.std.proofs.Common.{◌≡◌, rules, subst, to_z, of_z, w32}
 use Rattle.std.specs.Io.KnownBytes.{Appends}
-use Rattle.jr_word.specs.declared.fault.Fault.{Fault}
-use Rattle.jr_rule.specs.Passes.{known_of, ClosesAll, IsAt}
-use Rattle.first_room.specs.Parts.{HasShared, HasVisited}
-use Rattle.first_room.proofs.OneHistory.{all_true}
 use Rattle.first_room.specs.Hour.{Report, report_lines, report_text}
-use Rattle.first_room.proofs.Passes.{none_left, ok_as, one_all}
 use Rattle.first_room.proofs.run.Goals as goal
-
-pub close_all-requires : goal.close_all-requires
-close_all-requires g c =
-    let rest = none_left _ _ _ c.in_ok-room.passes.items c.remove-first.new.self.items c.remove-second.new.self.items refl c.in_ok-room.ensures.opened c.remove-first.ensures.items c.remove-second.ensures.items in
-    let pushed : c.push.new.self.items ≡ c.remove-second.new.self.items ++ c.in_ok-second.second ∷ [] = search rules in
-    let back : IsAt c.in_ok-room.room.row c.in_ok-second.second = search rules in
-    (search rules, (search rules, (search rules, one_all (IsAt c.in_ok-room.room.row) c.remove-second.new.self.items c.push.new.self.items c.in_ok-second.second rest pushed back)))
 
 pub returns : goal.returns
 returns g c =
-    let some : 1 ≤ c.in_ok-first.inside = search rules in
-    let r : Report = record { read = c.in_ok-second.read; inside = c.in_ok-first.inside; cleared = c.in_ok-first.cleared; kind = c.in_ok-first.kind; left = c.in_ok-left.left } in
-    let rest = none_left _ _ _ c.in_ok-room.passes.items c.remove-first.new.self.items c.remove-second.new.self.items refl c.in_ok-room.ensures.opened c.remove-first.ensures.items c.remove-second.ensures.items in
-    let pushed : c.push.new.self.items ≡ c.remove-second.new.self.items ++ c.in_ok-second.second ∷ [] = search rules in
-    let shares : HasShared c.remove-first.result c.in_ok-first.first r.inside r.cleared r.kind = search rules in
-    let visits : HasVisited c.remove-second.result c.in_ok-second.second r.read = search rules in
-    let closes : ClosesAll (known_of c.in_ok-first.first) (map known_of c.push.new.self.items) r.left = ok_as Fault c.close_all.result r.left (λ s. ClosesAll (known_of c.in_ok-first.first) (map known_of c.push.new.self.items) s) c.in_ok-left.ensures.cases c.close_all.ensures.ok in
-    let is_true = all_true c.in_ok-room.room.row c.in_ok-room.passes.items c.remove-first.new.self.items c.push.new.self.items c.remove-first.result c.remove-second.result c.in_ok-first.first c.in_ok-second.second r.inside r.cleared r.kind r.read r.left c.in_ok-room.ensures.opened c.remove-first.ensures.value c.remove-first.ensures.items c.remove-second.ensures.value shares visits
-    (pushed ∙ ap (λ l. l ++ c.in_ok-second.second ∷ []) rest) closes some in
+    let r : Report = record { read = c.in_ok-read.read; inside = c.in_ok-read.inside; cleared = c.in_ok-read.cleared; kind = c.in_ok-read.kind; left = c.in_ok-read.left } in
     let w = g.W.Write.contents in
-    let own : to_z w32 (of_z w32 c.in_ok-second.read) ≡ c.in_ok-second.read = search rules in
-    let told : Appends (w c.args.out.now) (w c.write_report.new.out) (report_text (report_lines (record r { read = to_z w32 (of_z w32 c.in_ok-second.read) }))) = c.in_ok-write_report.ensures in
+    let own : to_z w32 (of_z w32 c.in_ok-read.read) ≡ c.in_ok-read.read = search rules in
+    let told : Appends (w c.args.out.now) (w c.write_report.new.out) (report_text (report_lines (record r { read = to_z w32 (of_z w32 c.in_ok-read.read) }))) = c.in_ok-write_report.ensures in
     let text = subst (λ z. Appends (w c.args.out.now) (w c.write_report.new.out) (report_text (report_lines (record r { read = z })))) own told in
-    record { report = r; is_true = is_true; text = text }
+    record { report = r; is_true = c.in_ok-read.ensures; text = text }

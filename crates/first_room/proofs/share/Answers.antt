@@ -1,25 +1,26 @@
--- The thread did its calls, one after the other, and is in its room still.
-use Rattle.std.proofs.Common.{◌≡◌, rules, ap, sym, ◌∙◌}
+-- The thread did its calls, one after the other, and is in its room still; what it handed on is of that room.
+use Rattle.std.proofs.Common.{◌≡◌, rules, refl, ap, subst, sym, ◌∙◌}
 use Rattle.jr_word.specs.declared.config.Config.{Config}
 use Rattle.jr_weak.specs.Markers.{room_of}
-use Rattle.jr_rule.specs.Passes.{Holder, facts_of}
-use Rattle.jr_rule.specs.Rooms.{holder_over}
+use Rattle.jr_rule.specs.Passes.{Holder, facts_of, holder_of}
+use Rattle.jr_rule.specs.Rooms.{holder_over, seen_by_note}
 use Rattle.jr_rule.specs.Rule.{stepping_pass}
+use Rattle.jr_frames.specs.Table.{Table}
 use Rattle.jr_model.specs.Frames.{fresh_frames}
-use Rattle.first_room.specs.Calls.{sharing}
-use Rattle.first_room.proofs.Played.{shared, refused_as, same_on, deleted_on, typed_on, played, word_or_null}
-use Rattle.first_room.proofs.Passes.{same_then, same_before, same_spent, at_end, busy_some}
+use Rattle.first_room.specs.Calls.{HasPrepared, preparing, sharing, word_made}
+use Rattle.first_room.proofs.Noted.{behind_note, is_prepared, same_room, stands_same}
+use Rattle.first_room.proofs.Played.{come, prepared, shared, refused_as, same_on, deleted_on, typed_on, word_or_null}
+use Rattle.first_room.proofs.Passes.{IsOfSame, at_end, busy_some, same_before, same_spent, same_stands, same_then}
 use Rattle.first_room.proofs.share.Goals as goal
 
 pub collect_in_turn-requires-clause-room : goal.collect_in_turn-requires-clause-room
-collect_in_turn-requires-clause-room c =
-    let first : room_of c.in_ok-marker.marker ≡ (stepping_pass c.pop_local_frame.new.self.held.steps.cells.seat.me).config.objects = search rules in
-    let same = ((c.in-Err-Busy.ensures.call first).does (c.in_ok-pop_local_frame.ensures).outside).stands_is.config in
+collect_in_turn-requires-clause-room g c =
+    let first : room_of c.in_ok-marker.marker ≡ (stepping_pass c.note-note.new.self.held.steps.cells.seat.me).config.objects = search rules in
+    let same = ((c.in-Err-Busy.ensures.call first).does (search rules)).stands_is.config in
     c.collect.ensures.room ∙ (first ∙ sym (ap (λ (k : Config). k.objects) same))
 
-pub returns : goal.returns
-returns c =
-    let fits : room_of c.in_ok-marker.marker ≡ (stepping_pass c.pop_local_frame.new.self.held.steps.cells.seat.me).config.objects = search rules in
+pub invariant_of-put : goal.invariant_of-put
+invariant_of-put g c =
     let d1 = c.in_ok-push_local_frame.ensures in
     let d2 = c.in_ok-lost.ensures in
     let d3 = c.in_ok-new_weak_global_ref.ensures in
@@ -27,7 +28,41 @@ returns c =
     let d5 = c.in_ok-set_array_region.ensures in
     let d6 = c.in_ok-new_global_ref.ensures in
     let d7 = c.in_ok-pop_local_frame.ensures in
-    let d8 = c.in-Err-Busy.ensures.call fits in
+    let n = c.note-note.ensures in
+    let same : IsOfSame (facts_of (holder_over c.new.result)).stands (facts_of (holder_over c.note-note.new.self.held.steps)).stands
+    = same_then (same_spent _ (c.in-Ok.ensures.steps).stands_is)
+    (same_then (same_before (d1.does c.in-Ok.ensures.outside).stands_is)
+    (same_then (same_before (d2.does d1.outside).stands_is)
+    (same_then (same_before (d3.does d2.outside).stands_is)
+    (same_then (same_before (d4.does d3.outside).stands_is)
+    (same_then (same_before (d5.does d4.outside).stands_is)
+    (same_then (same_before (d6.does d5.outside).stands_is)
+    (same_then (same_before (d7.does d6.outside).stands_is)
+    (same_stands _ (stands_same _ _ n.same.0))))))))) in
+    let is = c.requires.opened in
+    let weak = word_made c.in_ok-new_weak_global_ref.field-0 in
+    let global = word_made c.in_ok-new_global_ref.field-0 in
+    let calls = prepared _ _ _ _ _ _ _ _ _ _ _ _ _ _ _ _ c.in_ok-lost.lost c.in_ok-array.array c.in_ok-new_weak_global_ref.field-0 c.in_ok-new_global_ref.field-0 c.in_ok-pop_local_frame.field-0 c.in-Ok.ensures.outside d1 d2 d3 d4 d5 d6 d7 in
+    let now : Holder = holder_over c.pop_local_frame.new.self.held.steps in
+    let came = come holder_over preparing c.new.result _ _ c.args.pass now _ _ (weak, global) c.in-Ok.ensures.steps calls c.new.ensures.pass refl
+    (c.in-Ok.ensures.frames ∙ ap (λ (h : Holder). fresh_frames (facts_of h).stands.config.locals) c.new.ensures.pass) in
+    let made = is_prepared c.args.room.now.row c.args.pass now weak global c.note-note.result c.requires.same_config c.requires.same_last is c.requires.thread came n.note in
+    let named = word_or_null c.in_ok-new_global_ref.field-0 c.unwrap_or-global.result c.unwrap_or-global.ensures in
+    let there = same_room c.args.room.now.row c.args.pass (facts_of (holder_over c.note-note.new.self.held.steps)).stands is.row c.new.ensures.pass (same.room) n.room in
+    record { room = c.requires.site_is ∙ there; prepared = subst (λ w. ∥ HasPrepared w (seen_by_note c.note-note.result) ∥₁) (sym named) made }
+
+pub returns : goal.returns
+returns g c =
+    let fits : room_of c.in_ok-marker.marker ≡ (stepping_pass c.note-note.new.self.held.steps.cells.seat.me).config.objects = search rules in
+    let d1 = c.in_ok-push_local_frame.ensures in
+    let d2 = c.in_ok-lost.ensures in
+    let d3 = c.in_ok-new_weak_global_ref.ensures in
+    let d4 = c.in_ok-array.ensures in
+    let d5 = c.in_ok-set_array_region.ensures in
+    let d6 = c.in_ok-new_global_ref.ensures in
+    let d7 = c.in_ok-pop_local_frame.ensures in
+    let n = c.note-note.ensures in
+    let d8 = behind_note _ _ _ _ _ _ n.same.0 (ap (λ (t : Table). t.frames) n.same.1) (c.in-Err-Busy.ensures.call fits) in
     let d9 = c.in_ok-collect_in_turn.ensures in
     let d10 = c.in_ok-cleared.ensures in
     let d11 = c.in_ok-delete_global_ref.ensures in
@@ -50,8 +85,8 @@ returns c =
     let calls = shared _ _ _ _ _ _ _ _ _ _ _ _ _ _ _ _ _ _ _ _ _ _ _ _ _ _ c.in_ok-lost.lost c.in_ok-array.array c.in_ok-new_weak_global_ref.field-0 c.in_ok-new_global_ref.field-0 c.in_ok-pop_local_frame.field-0 c.in-Err-Busy.inside c.in_ok-collect_in_turn.field-0 c.in_ok-cleared.cleared c.in_ok-kind.kind
     c.in-Ok.ensures.outside d1 d2 d3 d4 d5 d6 d7 (refused_as c.in-Err-Busy.field-0-is d8) d9 (same_on _ _ 0 _ weak d10) (deleted_on _ _ _ global d11) (typed_on _ _ _ global d12) in
     let handed = c.into_pass-2.ensures.pass ∙ ap holder_over (c.into_pass.ensures.steps d12.outside) in (
-      at_end c.args.room.now.row c.args.pass (holder_over c.new.result) _ c.into_pass-2.result c.requires.row c.new.ensures.pass same handed,
+      at_end c.args.room.now.row c.args.pass (holder_over c.new.result) _ c.into_pass-2.result c.requires.opened.row c.new.ensures.pass same handed,
       busy_some _ c.in-Err-Busy.inside c.in-Err-Busy.field-0-is (c.in-Err-Busy.ensures.busy fits),
-      played holder_over sharing c.new.result _ _ c.args.pass c.into_pass-2.result _ _ (c.in-Err-Busy.inside, c.in_ok-cleared.cleared, c.in_ok-kind.kind) c.in-Ok.ensures.steps calls c.new.ensures.pass handed
+      come holder_over sharing c.new.result _ _ c.args.pass (holder_of c.into_pass-2.result) _ _ (c.in-Err-Busy.inside, c.in_ok-cleared.cleared, c.in_ok-kind.kind) c.in-Ok.ensures.steps calls c.new.ensures.pass handed
           (c.in-Ok.ensures.frames ∙ ap (λ (h : Holder). fresh_frames (facts_of h).stands.config.locals) c.new.ensures.pass),
     )

@@ -1,35 +1,46 @@
--- The thread did its calls, one after the other, and is in its room still.
+-- The thread learned the note, did its calls, one after the other, and is in its room still.
 use Rattle.std.proofs.Common.{◌≡◌, subst, sym, rules, to_z, of_z, ap, ◌∙◌}
 use Rattle.std.specs.Int.{w32}
 use Rattle.jr_word.specs.Elem.{signed_word}
+use Rattle.jr_frames.specs.Table.{Table}
 use Rattle.jr_model.specs.Frames.{fresh_frames}
-use Rattle.jr_rule.specs.Passes.{Holder, facts_of}
+use Rattle.jr_steps.specs.Knowing.{Standing}
+use Rattle.jr_rule.specs.Passes.{Holder, facts_of, holder_of}
 use Rattle.jr_rule.specs.Rooms.{holder_over}
 use Rattle.first_room.specs.Calls.{visiting}
 use Rattle.first_room.specs.Parts.{HasVisited}
-use Rattle.first_room.proofs.Played.{visited, played}
+use Rattle.first_room.proofs.Noted.{is_there, learns}
+use Rattle.first_room.proofs.Played.{come, visited}
 use Rattle.first_room.proofs.Passes.{same_then, same_before, same_spent, at_end}
 use Rattle.first_room.proofs.visit.Goals as goal
 
+pub learn-requires : goal.learn-requires
+learn-requires g c =
+    let spent = (c.in-Ok.ensures.steps).stands_is in
+    (search rules, is_there c.args.room.now.row c.args.pass (facts_of (holder_over c.in-Ok.env.held.steps)).stands c.requires.opened.row c.new.ensures.pass (ap (λ (z : Standing). z.room) spent) c.requires.site_is c.in_ok-global.field-0.room)
+
 pub returns : goal.returns
-returns c =
+returns g c =
+    let own : to_z w32 (of_z w32 c.in_ok-read.read) ≡ c.in_ok-read.read = search rules in
+    let d0 = learns _ _ _ _ c.in_ok-global.field-0.global.0 c.in_ok-global.field-0.note c.learn.ensures.step c.learn.ensures.learned (ap (λ (t : Table). t.frames) c.learn.ensures.frames) c.in_ok-global.field-0.prepared in
     let d1 = c.in_ok-push_local_frame.ensures in
     let d2 = c.in_ok-object.ensures in
     let d3 = c.in_ok-new_object_array.ensures in
     let d4 = c.in_ok-pop_local_frame.ensures in
     let d5 = c.in_ok-read.ensures in
+    let outside = d0.stands_is.role ∙ c.in-Ok.ensures.outside in
     let same = same_then (same_spent _ (c.in-Ok.ensures.steps).stands_is)
-    (same_then (same_before (d1.does c.in-Ok.ensures.outside).stands_is)
+    (same_then (same_before d0.stands_is)
+    (same_then (same_before (d1.does outside).stands_is)
     (same_then (same_before (d2.does d1.outside).stands_is)
     (same_then (same_before (d3.does d2.outside).stands_is)
     (same_then (same_before (d4.does d3.outside).stands_is)
-    (same_before (d5.does d4.outside).stands_is))))) in
-    let calls = visited _ _ _ _ _ _ _ _ _ _ _ _ c.in_ok-wait.field-0 c.in_ok-object.object c.in_ok-new_object_array.field-0 c.in_ok-pop_local_frame.field-0 (signed_word w32 c.in_ok-read.read)
-    c.in-Ok.ensures.outside d1 d2 d3 d4 d5 in
-    let own : to_z w32 (of_z w32 c.in_ok-read.read) ≡ c.in_ok-read.read = search rules in
+    (same_before (d5.does d4.outside).stands_is)))))) in
+    let calls = visited _ _ _ _ _ _ _ _ _ _ _ _ _ _ c.in_ok-global.field-0.global.0 c.in_ok-object.object c.in_ok-new_object_array.field-0 c.in_ok-pop_local_frame.field-0 (signed_word w32 c.in_ok-read.read)
+    d0 outside d1 d2 d3 d4 d5 in
     let handed = c.into_pass-2.ensures.pass ∙ ap holder_over (c.into_pass.ensures.steps d5.outside) in (
-      at_end c.args.room.now.row c.args.pass (holder_over c.new.result) _ c.into_pass-2.result c.requires.row c.new.ensures.pass same handed,
+      at_end c.args.room.now.row c.args.pass (holder_over c.new.result) _ c.into_pass-2.result c.requires.opened.row c.new.ensures.pass same handed,
       subst (HasVisited c.args.pass c.into_pass-2.result) (sym own) (
-          played holder_over visiting c.new.result _ _ c.args.pass c.into_pass-2.result _ _ (signed_word w32 c.in_ok-read.read) c.in-Ok.ensures.steps calls c.new.ensures.pass handed
+          come holder_over visiting c.new.result _ _ c.args.pass (holder_of c.into_pass-2.result) _ _ (signed_word w32 c.in_ok-read.read) c.in-Ok.ensures.steps calls c.new.ensures.pass handed
           (c.in-Ok.ensures.frames ∙ ap (λ (h : Holder). fresh_frames (facts_of h).stands.config.locals) c.new.ensures.pass)),
     )

@@ -1,0 +1,264 @@
+-- Calls that write no element.
+use Rattle.std.proofs.Common.{◌≡◌, inl, inr, ℕ, zero, suc, Bool, true, false, not, cond, nat_lt, nat_le, ◌==◌, ◌||◌, ◌<◌, ◌+◌, Option, Some, None, List, [], ◌∷◌, ◌++◌, map, length, Result, Ok, Err, refl, sym, subst}
+use Rattle.std.specs.List.{AllByRecursion}
+use Rattle.jr_word.specs.declared.config.Config.{Config}
+use Rattle.jr_word.specs.declared.fault.Fault.{Fault}
+use Rattle.jr_word.specs.declared.fault.Fault.TheVariants as fault
+use Rattle.jr_word.specs.declared.handle.RefKind.{RefKind}
+use Rattle.jr_word.specs.declared.kind.Kind.{Kind}
+use Rattle.jr_word.specs.declared.kind.Kind.TheVariants.{Objects}
+use Rattle.jr_model.specs.declared.event.Act.{Act}
+use Rattle.jr_model.specs.declared.event.Act.TheVariants.{Gate, Meet, ShutBusy, Clear, Delete, DeleteStale, Drop, Look, LocalDrop, New, Probe, Reserve, ReserveFull, ReserveLost, Settle, Write}
+use Rattle.jr_model.specs.declared.event.GateAct.TheVariants.{Announce, Cancel, Reopen}
+use Rattle.jr_model.specs.declared.event.Found.{Found}
+use Rattle.jr_model.specs.declared.event.Found.TheVariants.{Object, Cleared, Stale}
+use Rattle.jr_model.specs.declared.frames.LocalRef.{LocalRef}
+use Rattle.jr_model.specs.declared.frames.TheConstants.{FRAMES}
+use Rattle.jr_model.specs.State.{Handle, State}
+use Rattle.jr_model.specs.CollectionCalls.{collection_acts}
+use Rattle.jr_model.specs.Frames.{Frames, free_places, last_frame, object_of, popped}
+use Rattle.jr_model.specs.Calls.{Call, act, decided, done, entered, for_object, one_of, refuse, refuse_if, some_act, ◌>>=◌, ◌>>◌}
+use Rattle.jr_model.specs.Checks.{Word, Nothing, Malformed, Parts, is_foreign, is_local, is_malformed, is_of_kind, is_out_of_bounds, type_found, type_local}
+use Rattle.jr_model.specs.Parts.{announce, collect, collect_announced, collected, create, created, created_with, delete_at, delete_found, found_closed, found_moved, found_object, frame_left, frame_to_pop, local_object, look, looked, not_null, probes, publish, refused_shuts, reserve, take_frame, type_at}
+use Rattle.jr_model.specs.References.{added, array_making, comparison, creation, made, new_local, popping, push_local_frame, removal, resolved, resolved_both, room_after, room_for, typing}
+use Rattle.jr_model.proofs.Exactly.{all_map, append_all}
+
+-- the act writes an element
+abbrev pub is_write : Act → Bool
+is_write (Write o i v) = true
+is_write _ = false
+
+abbrev pub NoWrite : List Act → Type 0
+NoWrite acts = AllByRecursion (λ a. is_write a ≡ false) acts
+
+-- a call that writes none
+abbrev pub Spares : {A : Type 0} → Call A → Type 0
+Spares {A} call = (f g : Frames) (acts : List Act) (answer : Result A Fault) → call f acts answer g → NoWrite acts
+
+pub append_none : (xs ys : List Act) → NoWrite xs → NoWrite ys → NoWrite (xs ++ ys)
+append_none = append_all (λ a. is_write a ≡ false)
+
+decided_spares : {A : Type 0} (r : Result A Fault) → Spares (decided r)
+decided_spares r f g acts answer is = subst NoWrite (sym is.0) tt
+
+act_spares : (a : Act) → is_write a ≡ false → Spares (act a)
+act_spares a no_write f g acts answer is = subst NoWrite (sym is.0) (no_write, tt)
+
+some_act_spares : {X : Type 0} (a : X → Act) → ((x : X) → is_write (a x) ≡ false) → Spares (some_act a)
+some_act_spares a no_write f g acts answer is = subst NoWrite (sym is.1) (no_write is.0, tt)
+
+refuse_if_spares : (b : Bool) (e : Fault) → Spares (refuse_if b e)
+refuse_if_spares true e = decided_spares (Err e)
+refuse_if_spares false e = decided_spares (Ok tt)
+
+bind_spares : {A B : Type 0} (first : Call A) (next : A → Call B) → Spares first → ((x : A) → Spares (next x)) → Spares (first >>= next)
+bind_spares first next p q f g acts answer (inl r) = subst NoWrite (sym r.4) (append_none r.2 r.3 (p f r.1 r.2 (Ok r.0) r.5) (q r.0 r.1 g r.3 answer r.6))
+bind_spares first next p q f g acts answer (inr r) = p f g acts (Err r.0) r.2
+
+for_spares : {A : Type 0} (s : State) (o : ℕ) (next : Kind → ℕ → Call A) → ((k : Kind) (n : ℕ) → Spares (next k n)) → Spares (for_object s o next)
+for_spares s o next p f g acts answer is = p is.0.kind (length is.0.words) f g acts answer is.2
+
+cond_spares : {A : Type 0} (b : Bool) (p q : Call A) → Spares p → Spares q → Spares (cond b p q)
+cond_spares true p q l r = l
+cond_spares false p q l r = r
+
+one_of_spares : {A : Type 0} (p q : Call A) → Spares p → Spares q → Spares (one_of p q)
+one_of_spares p q l r f g acts answer (inl x) = l f g acts answer x
+one_of_spares p q l r f g acts answer (inr x) = r f g acts answer x
+
+-- a test, and then work
+checked : {A : Type 0} (b : Bool) (e : Fault) (next : Call A) → Spares next → Spares (refuse_if b e >> next)
+checked b e next p = bind_spares (refuse_if b e) (λ _. next) (refuse_if_spares b e) (λ _. p)
+
+pub entered_spares : {A : Type 0} (work : Call A) → Spares work → Spares (entered work)
+entered_spares work p f g acts answer (inl is) = subst NoWrite (sym is.0) (refl, (refl, tt))
+entered_spares work p f g acts answer (inr is) = subst NoWrite (sym is.1) (refl, append_none is.0 _ (p f g is.0 answer is.2) (refl, tt))
+
+-- WHAT REFERENCES NAME
+
+local_spares : (o : Option ℕ) → Spares (local_object o)
+local_spares (Some o) = decided_spares (Ok (Some o))
+local_spares None = decided_spares _
+
+found_spares : (r : Found) → Spares (found_object r)
+found_spares (Object o) = decided_spares (Ok (Some o))
+found_spares Cleared = decided_spares (Ok None)
+found_spares Stale = decided_spares _
+
+look_spares : (h : Handle) → Spares (look h)
+look_spares h = some_act_spares (Look h) (λ r. refl)
+
+looked_spares : (a : Word) → Spares (looked a)
+looked_spares Nothing = decided_spares (Ok None)
+looked_spares Malformed = decided_spares (Ok None)
+looked_spares (Parts h) = cond_spares (is_local h) (λ old. local_object (object_of old h) old) (look h >>= found_object)
+    (λ f g acts answer is. local_spares (object_of f h) f g acts answer is)
+    (bind_spares (look h) found_object (look_spares h) found_spares)
+
+not_null_spares : (o : Option ℕ) → Spares (not_null o)
+not_null_spares (Some o) = decided_spares (Ok o)
+not_null_spares None = decided_spares _
+
+type_at_spares : (a : Word) → Spares (type_at a)
+type_at_spares Nothing = decided_spares (Ok 0)
+type_at_spares Malformed = decided_spares (Ok 0)
+type_at_spares (Parts h) = cond_spares (is_local h) (λ old. done (type_local (object_of old h)) old) (look h >>= (λ r. done (type_found h.kind r)))
+    (λ f g acts answer is. decided_spares (Ok (type_local (object_of f h))) f g acts answer is)
+    (bind_spares (look h) _ (look_spares h) (λ r. decided_spares _))
+
+-- SLOTS
+
+probes_spare : Spares probes
+probes_spare f g acts answer is = subst NoWrite (sym is.1) (all_map (λ a. is_write a ≡ false) (λ (l : ℕ × Bool). Probe l.0 l.1) is.0 (λ l. refl))
+
+created_with_spares : (k : RefKind) (o : ℕ) → Spares (created_with k o)
+created_with_spares k o f g acts answer is = subst NoWrite (sym is.2) (refl, tt)
+
+created_spares : (slots : ℕ) (k : RefKind) (o : Option ℕ) → Spares (created slots k o)
+created_spares slots k None = decided_spares (Ok None)
+created_spares slots k (Some o) = bind_spares (create slots k o) _
+    (λ f g acts answer is. bind_spares probes _ probes_spare (λ _. one_of_spares (created_with k o) (refuse fault.RowFull) (created_with_spares k o) (decided_spares _)) f g acts answer is.1)
+    (λ h. decided_spares (Ok (Some h)))
+
+found_deleted : (h : Handle) → Spares (one_of (act (Delete h)) (act (DeleteStale h) >> refuse fault.Stale))
+found_deleted h = one_of_spares (act (Delete h)) _ (act_spares (Delete h) refl) (bind_spares (act (DeleteStale h)) _ (act_spares (DeleteStale h) refl) (λ _. decided_spares _))
+
+delete_found_spares : (h : Handle) (r : Found) → Spares (delete_found h r)
+delete_found_spares h Stale = decided_spares _
+delete_found_spares h (Object o) = found_deleted h
+delete_found_spares h Cleared = found_deleted h
+
+delete_at_spares : (a : Word) → Spares (delete_at a)
+delete_at_spares Nothing = decided_spares (Ok tt)
+delete_at_spares Malformed = decided_spares (Ok tt)
+delete_at_spares (Parts h) = bind_spares (look h) _ (look_spares h) (delete_found_spares h)
+
+-- OBJECTS
+
+pub reserve_spares : (n : ℕ) → Spares (reserve n)
+reserve_spares zero = decided_spares (Ok tt)
+reserve_spares (suc n) =
+    one_of_spares (act (Reserve (suc n))) _ (act_spares (Reserve (suc n)) refl)
+    (one_of_spares (some_act (ReserveFull (suc n)) >>= (λ u. refuse (fault.SpaceFull u))) _
+    (bind_spares (some_act (ReserveFull (suc n))) _ (some_act_spares (ReserveFull (suc n)) (λ u. refl)) (λ u. decided_spares _))
+    (bind_spares (some_act {X = ℕ × ℕ} (λ l. ReserveLost (suc n) l.0 l.1)) _ (some_act_spares {X = ℕ × ℕ} (λ l. ReserveLost (suc n) l.0 l.1) (λ l. refl)) (λ l. decided_spares _)))
+
+pub publish_spares : (k : Kind) (ws : List ℕ) → Spares (publish k ws)
+publish_spares k ws = one_of_spares (some_act (λ o. New o k ws)) (refuse fault.ObjectsFull) (some_act_spares (λ o. New o k ws) (λ o. refl)) (decided_spares _)
+
+take_frame_spares : Spares take_frame
+take_frame_spares f g acts answer is = subst NoWrite (sym is.0) (all_map (λ a. is_write a ≡ false) (λ (r : LocalRef). LocalDrop r.handle.index) (last_frame f.frames) (λ r. refl))
+
+frame_to_pop_spares : Spares frame_to_pop
+frame_to_pop_spares f g acts answer is = refuse_if_spares (nat_lt (length f.frames) 2) fault.NoFrame f g acts answer is
+
+module _ (c : Config) (last thread : ℕ) where
+  pub room_for_spares : (n : ℕ) → Spares (room_for c last thread n)
+  room_for_spares n f g acts answer is = refuse_if_spares (nat_lt (free_places last f) n) fault.LocalsFull f g acts answer is
+
+  room_after_spares : (o : Option ℕ) → Spares (room_after c last thread o)
+  room_after_spares None f g acts answer is = decided_spares (Ok tt) f g acts answer is
+  room_after_spares (Some o) f g acts answer is = refuse_if_spares (free_places last (popped f) == 0) fault.LocalsFull f g acts answer is
+
+  added_spares : (o : ℕ) → Spares (added c last thread o)
+  added_spares o f g acts answer is = subst NoWrite (sym is.1) (refl, tt)
+
+  new_local_spares : (o : Option ℕ) → Spares (new_local c last thread o)
+  new_local_spares None = decided_spares (Ok None)
+  new_local_spares (Some o) = bind_spares (room_for c last thread 1) _ (room_for_spares 1) (λ _. bind_spares (added c last thread o) _ (added_spares o) (λ h. decided_spares (Ok (Some h))))
+
+  pub made_spares : (k : Kind) (ws : List ℕ) → Spares (made c last thread k ws)
+  made_spares k ws =
+      bind_spares (room_for c last thread 1) _ (room_for_spares 1) (λ _.
+      bind_spares (reserve (length ws)) _ (reserve_spares (length ws)) (λ _.
+      bind_spares (publish k ws) _ (publish_spares k ws) (λ o. added_spares o)))
+
+  pub resolved_spares : (a : Word) → Spares (resolved c last thread a)
+  resolved_spares a =
+      checked (is_malformed a) fault.Stale _
+      (checked (is_out_of_bounds c a) fault.Stale _
+      (checked (is_foreign thread a) fault.Foreign _ (looked_spares a)))
+
+  resolved_both_spares : (a b : Word) → Spares (resolved_both c last thread a b)
+  resolved_both_spares a b =
+      checked (is_malformed a) fault.Stale _
+      (checked (is_malformed b) fault.Stale _
+      (checked (is_out_of_bounds c a) fault.Stale _
+      (checked (is_out_of_bounds c b) fault.Stale _
+      (checked (is_foreign thread a) fault.Foreign _
+      (checked (is_foreign thread b) fault.Foreign _
+      (bind_spares (looked a) _ (looked_spares a) (λ x.
+      bind_spares (looked b) _ (looked_spares b) (λ y. decided_spares (Ok (x, y))))))))))
+
+  -- WHAT EACH CALL DOES WITHIN ITS STAY
+
+  pub creation_spares : (k : RefKind) (a : Word) → Spares (creation c last thread k a)
+  creation_spares k a = bind_spares (resolved c last thread a) _ (resolved_spares a) (created_spares c.slots k)
+
+  pub removal_spares : (k : RefKind) (a : Word) → Spares (removal c k a)
+  removal_spares k a =
+      checked (is_malformed a) fault.Stale _ (checked (not (is_of_kind k a)) fault.WrongKind _ (checked (is_out_of_bounds c a) fault.Stale _ (delete_at_spares a)))
+
+  pub comparison_spares : (a b : Word) → Spares (comparison c last thread a b)
+  comparison_spares a b = bind_spares (resolved_both c last thread a b) _ (resolved_both_spares a b) (λ x. decided_spares _)
+
+  pub typing_spares : (a : Word) → Spares (typing c thread a)
+  typing_spares a = cond_spares (is_malformed a || is_out_of_bounds c a || is_foreign thread a) (done 0) (type_at a) (decided_spares (Ok 0)) (type_at_spares a)
+
+  pub popping_spares : (a : Word) → Spares (frame_to_pop >> (resolved c last thread a >>= popping c last thread))
+  popping_spares a =
+      bind_spares frame_to_pop _ frame_to_pop_spares (λ _.
+      bind_spares (resolved c last thread a) _ (resolved_spares a) (λ x.
+      bind_spares (room_after c last thread x) _ (room_after_spares x) (λ _.
+      bind_spares take_frame _ take_frame_spares (λ _. new_local_spares x))))
+
+  pub array_making_spares : (n : ℕ) (a : Word) → Spares (array_making c last thread n a)
+  array_making_spares n a = bind_spares (resolved c last thread a) _ (resolved_spares a) (λ x. made_spares Objects _)
+
+  pub pushing_spares : (n : ℕ) → Spares (push_local_frame c last thread n)
+  pushing_spares n =
+      bind_spares frame_left _ (λ f g acts answer is. refuse_if_spares (nat_le FRAMES (length f.frames)) fault.LocalsFull f g acts answer is) (λ _.
+      bind_spares (room_for c last thread n) _ (room_for_spares n) (λ _ f g acts answer is. subst NoWrite (sym is.0) tt))
+
+-- A COLLECTION
+
+collection_spares : (cleared : List Handle) (dropped : List ℕ) (used : ℕ) → NoWrite (collection_acts cleared dropped used)
+collection_spares cleared dropped used = (
+  refl,
+  append_none _ (Gate Reopen ∷ [])
+      (append_none (map Clear cleared ++ map Drop dropped) (Settle used ∷ [])
+      (append_none (map Clear cleared) (map Drop dropped) (all_map _ Clear cleared (λ h. refl)) (all_map _ Drop dropped (λ o. refl)))
+      (refl, tt))
+      (refl, tt),
+)
+
+collected_spares : Spares collected
+collected_spares f g acts answer is = subst NoWrite (sym is.3) (collection_spares is.0 is.1 is.2)
+
+closed_spares : {A : Type 0} → Spares (found_closed {A = A})
+closed_spares = bind_spares (some_act ShutBusy) _ (some_act_spares ShutBusy (λ n. refl)) (λ n. decided_spares _)
+
+shuts_spare : (many : ℕ → Type 0) → Spares (refused_shuts many)
+shuts_spare many f g acts answer is = subst NoWrite (sym is.2) (all_map _ ShutBusy is.0 (λ n. refl))
+
+moved_spares : Spares found_moved
+moved_spares f g acts answer is = decided_spares _ f g acts answer is.2
+
+announce_spares : Spares announce
+announce_spares =
+    one_of_spares found_closed _ closed_spares
+    (bind_spares (act Meet) _ (act_spares Meet refl) (λ _.
+    one_of_spares (act (Gate Announce)) _ (act_spares (Gate Announce) refl)
+    (one_of_spares found_closed _ closed_spares (bind_spares (act Meet) _ (act_spares Meet refl) (λ _. moved_spares)))))
+
+pub collect_spares : Spares collect
+collect_spares = one_of_spares collected _ collected_spares (bind_spares (some_act ShutBusy) _ (some_act_spares ShutBusy (λ n. refl)) (λ n. decided_spares _))
+
+pub collect_announced_spares : (tries : ℕ) → Spares (collect_announced tries)
+collect_announced_spares tries =
+    bind_spares announce _ announce_spares (λ _.
+    one_of_spares _ _
+    (bind_spares (refused_shuts (λ n. n < tries)) _ (shuts_spare (λ n. n < tries)) (λ _. collected_spares))
+    (bind_spares (refused_shuts (λ n. n + 1 ≡ tries)) _ (shuts_spare (λ n. n + 1 ≡ tries)) (λ _.
+    bind_spares (some_act ShutBusy) _ (some_act_spares ShutBusy (λ n. refl)) (λ n.
+    bind_spares (act (Gate Cancel)) _ (act_spares (Gate Cancel) refl) (λ _. decided_spares _)))))
