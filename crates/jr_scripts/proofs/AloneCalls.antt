@@ -4,17 +4,18 @@ use Rattle.std.specs.List.{AllByRecursion}
 use mathlib.Core.List.{IsPrefix}
 use Rattle.jr_word.specs.declared.config.Config.{Config}
 use Rattle.jr_word.specs.declared.fault.Fault.{Fault}
-use Rattle.jr_word.specs.declared.fault.Fault.TheVariants.{Null, Stale, WrongKind, NotArray, WrongElement, Range, RowFull, LocalsFull, SpaceFull, ObjectsFull, Raced, NoFrame, Memory}
+use Rattle.jr_word.specs.declared.fault.Fault.TheVariants.{Null, Stale, WrongKind, NotArray, WrongElement, Range, RowFull, LocalsFull, SpaceFull, ObjectsFull, Raced, Barred, NoFrame, Memory}
 use Rattle.jr_model.specs.declared.event.Event.{Event}
 use Rattle.jr_model.specs.declared.event.Act.{Act}
 use Rattle.jr_model.specs.declared.event.Act.TheVariants.{Gate}
-use Rattle.jr_model.specs.declared.event.GateAct.TheVariants.{Enter, Knock, Leave}
+use Rattle.jr_model.specs.declared.event.GateAct.TheVariants.{Enter, Knock, Leave, Withdraw}
 use Rattle.jr_model.specs.State.{State, IsPresent, IsOccupied}
 use Rattle.jr_model.specs.History.{History, state, PassView}
 use Rattle.jr_model.specs.Frames.{Frames}
 use Rattle.jr_model.specs.Calls.{Call, Ran, entered, opened}
 use Rattle.jr_model.specs.Refusals.{RowWasFull, ObjectsWereFull}
 use Rattle.jr_model.specs.RefusedCalls.{is_harmless, may_precede, ChangesNothing}
+use Rattle.jr_model.proofs.Composed.{Gives, entered_gives, opened_gives}
 use Rattle.jr_model.proofs.Exactly.{append_all}
 use Rattle.jr_model.proofs.Moments.{prefix_trans}
 use Rattle.jr_model.proofs.Stays.{mine_did}
@@ -23,7 +24,7 @@ use Rattle.jr_env.specs.Deeds.{Deed, call_by}
 use Rattle.jr_scripts.specs.AloneAnswers.{IsCommandFault, IsShort, LacksSpace}
 use Rattle.jr_scripts.proofs.AloneHistories.{all_back, own_acts, own_events, still_so, stays_occupied, stays_present}
 use Rattle.jr_scripts.proofs.SpaceAlone.{found_short, never_lost}
-use Rattle.jr_scripts.proofs.Uncontended.{Asked, FoundFull, FoundShort, IsUncontendedFault, is_uncontended_act, AreUncontended, IsUncontended, IsUnraced, found_earlier, more_fault, uncontended_acts}
+use Rattle.jr_scripts.proofs.Uncontended.{Asked, FoundFull, FoundShort, IsUncontendedFault, is_uncontended_act, AreUncontended, IsUncontended, IsUnraced, NoneLost, RefusedAlone, found_earlier, more_fault}
 
 -- the room has one thread; all events that its pass has seen are its own, and none is a knock
 pub record IsAlone (p : PassView) : Type 0 where
@@ -107,67 +108,66 @@ module _ {A : Type 0} (old new : PassView) (f g : Frames) (work : Call A) (alone
   fault_alone turns command ObjectsFull changes r uncontended = objects_are_full changes r
   fault_alone turns command _ changes r uncontended = absurd uncontended
 
-module _ {A : Type 0} (s : State) (command : Asked) (last : ℕ) (work : Call A) (uncontended : IsUncontended s last command work) where
-  acts_uncontended : (old new : Frames) (acts : List Act) (answer : Result A Fault) → IsUnraced answer → entered work old acts answer new → AreUncontended acts
-  acts_uncontended old new acts answer u (inl r) = subst AreUncontended (sym r.0) (refl, (refl, tt))
-  acts_uncontended old new acts answer u (inr r) = subst AreUncontended (sym r.1) (refl, append_all (λ a. is_uncontended_act a ≡ true) r.0 (Gate Leave ∷ []) (uncontended_acts uncontended old new r.0 answer u r.2) (refl, tt))
+-- a whole call that was not barred is refused for what its work is
+record RefusedWhole (s : State) (last : ℕ) (command : Asked) (old : Frames) (had : List Act) (e : Fault) (new : Frames) : Type 0 where
+  acts : IsUnraced {A = Unit {0}} (Err e) → AreUncontended had
+  fault : AllByRecursion (λ a. a ≢ Gate Knock) had → IsUncontendedFault s last command had new e
 
-  -- a call that was not barred is refused for what its work is
-  fault_uncontended : (old new : Frames) (acts : List Act) (e : Fault) → AllByRecursion (λ a. a ≢ Gate Knock) acts → entered work old acts (Err e) new → IsUncontendedFault s last command acts new e
-  fault_uncontended old new acts e enters (inl r) = absurd ((subst (AllByRecursion (λ a. a ≢ Gate Knock)) r.0 enters).0 refl)
-  fault_uncontended old new acts e enters (inr r) =
-      subst (λ (all : List Act). IsUncontendedFault s last command all new e) (sym r.1) (more_fault s last command r.0 (Gate Enter ∷ r.0 ++ Gate Leave ∷ []) (λ n used h. inr (found_earlier n used r.0 (Gate Leave ∷ []) h)) new e (uncontended.fails old new r.0 e r.2).fault)
+unraced : (turns : ℕ) (command : Asked) (p : PassView) (f : Frames) (e : Fault) → IsCommandFault turns command.0 command.1 p f e → IsUnraced {A = Unit {0}} (Err e)
+unraced turns command p f (Raced looked found) h = h
+unraced turns command p f _ h = tt
 
-  unraced : (turns : ℕ) (p : PassView) (f : Frames) (answer : Result A Fault) → IfErr answer (IsCommandFault turns command.0 command.1 p f) → IsUnraced answer
-  unraced turns p f (Ok x) h = tt
-  unraced turns p f (Err (Raced looked found)) h = h
-  unraced turns p f (Err _) h = tt
+-- between an entry and an exit
+stayed_acts : (xs : List Act) → AreUncontended xs → AreUncontended (Gate Enter ∷ xs ++ Gate Leave ∷ [])
+stayed_acts xs all = (refl, append_all (λ a. is_uncontended_act a ≡ true) xs (Gate Leave ∷ []) all (refl, tt))
 
-  module _ (turns : ℕ) (changes : ChangesNothing (entered work)) (old new : PassView) (f g : Frames) (same : old.last ≡ last) (now : s ≡ state new.seen) (alone : IsAlone new) where
-    ran_fault : (answer : Result A Fault) → Ran old new f g (entered work) answer → IfErr answer (IsCommandFault turns command.0 command.1 new g)
-    ran_fault (Ok x) r = tt
-    ran_fault (Err e) r =
-        let enters = all_back (λ (x : Event). x.act ≢ Gate Knock) old.seen r.did.begins.0 (subst (AllByRecursion (λ (x : Event). x.act ≢ Gate Knock)) (sym r.did.begins.1) alone.enters) in
-        let acts : AllByRecursion (λ a. a ≢ Gate Knock) r.acts = subst (AllByRecursion (λ a. a ≢ Gate Knock)) (mine_did r.acts r.did) (own_acts (λ a. a ≢ Gate Knock) old.thread r.did.begins.0 enters) in
-        fault_alone old new f g (entered work) alone turns command e changes r (subst (λ n. IsUncontendedFault (state new.seen) n command r.acts g e) (sym (r.did.last ∙ same)) (subst (λ x. IsUncontendedFault x last command r.acts g e) now (fault_uncontended f g r.acts e acts r.is)))
+module _ {s : State} {last : ℕ} {command : Asked} where
+  refused_stay : (f g : Frames) (xs : List Act) (e : Fault) → RefusedAlone s last command f xs e g → RefusedWhole s last command f (Gate Enter ∷ xs ++ Gate Leave ∷ []) e g
+  refused_stay f g xs e q = record {
+    acts = λ u. stayed_acts xs (q.acts u);
+    fault = λ enters. more_fault s last command xs (Gate Enter ∷ xs ++ Gate Leave ∷ []) (λ n used h. inr (found_earlier n used xs (Gate Leave ∷ []) h)) g e q.fault;
+  }
 
-    pub ran_alone : (answer : Result A Fault) → Ran old new f g (entered work) answer → LedAlone turns command old new g answer
-    ran_alone answer r = record {
-      config = r.did.config;
-      thread = r.did.thread;
-      begins = r.did.begins;
-      uncontended = λ before. subst AllUncontended r.did.begins.1 (append_all (λ e. is_uncontended_act e.act ≡ true) old.seen r.did.begins.0 before (since old new f g (entered work) alone (λ a. is_uncontended_act a ≡ true) answer r (acts_uncontended f g r.acts answer (unraced turns new g answer (ran_fault answer r)) r.is)));
-      fault = ran_fault answer r;
-    }
+  refused_entry : (f : Frames) → RefusedWhole s last command f (Gate Knock ∷ Gate Withdraw ∷ []) Barred f
+  refused_entry f = record { acts = λ u. (refl, (refl, tt)); fault = λ enters. absurd (enters.0 refl) }
 
--- a call that opens a region, or is refused
-module _ {A : Type 0} (s : State) (command : Asked) (last : ℕ) (work : Call A) (uncontended : IsUncontended s last command work) where
-  opened_acts : (old new : Frames) (acts : List Act) (answer : Result A Fault) → IsUnraced answer → opened work old acts answer new → AreUncontended acts
-  opened_acts old new acts answer u (inl r) = subst AreUncontended (sym r.0) (refl, (refl, tt))
-  opened_acts old new acts (Ok x) u (inr r) = subst AreUncontended (sym r.1.0) (refl, uncontended_acts uncontended old new r.0 (Ok x) u r.1.1)
-  opened_acts old new acts (Err e) u (inr r) = subst AreUncontended (sym r.1.0) (refl, append_all (λ a. is_uncontended_act a ≡ true) r.0 (Gate Leave ∷ []) (uncontended_acts uncontended old new r.0 (Err e) u r.1.1) (refl, tt))
+  entered_whole : {A : Type 0} {work : Call A} → IsUncontended s last command work → Gives NoneLost (RefusedWhole s last command) (entered work)
+  entered_whole p = entered_gives (λ f g xs all. stayed_acts xs all) refused_stay refused_entry p
 
-  opened_fault : (old new : Frames) (acts : List Act) (e : Fault) → AllByRecursion (λ a. a ≢ Gate Knock) acts → opened work old acts (Err e) new → IsUncontendedFault s last command acts new e
-  opened_fault old new acts e enters (inl r) = absurd ((subst (AllByRecursion (λ a. a ≢ Gate Knock)) r.0 enters).0 refl)
-  opened_fault old new acts e enters (inr r) =
-      subst (λ (all : List Act). IsUncontendedFault s last command all new e) (sym r.1.0) (more_fault s last command r.0 (Gate Enter ∷ r.0 ++ Gate Leave ∷ []) (λ n used h. inr (found_earlier n used r.0 (Gate Leave ∷ []) h)) new e (uncontended.fails old new r.0 e r.1.1).fault)
+  opened_whole : {A : Type 0} {work : Call A} → IsUncontended s last command work → Gives NoneLost (RefusedWhole s last command) (opened work)
+  opened_whole p = opened_gives (λ f g xs all. (refl, all)) refused_stay refused_entry p
 
-  module _ (turns : ℕ) (changes : ChangesNothing (opened work)) (old new : PassView) (f g : Frames) (same : old.last ≡ last) (now : s ≡ state new.seen) (alone : IsAlone new) where
-    opened_refused : (answer : Result A Fault) → Ran old new f g (opened work) answer → IfErr answer (IsCommandFault turns command.0 command.1 new g)
-    opened_refused (Ok x) r = tt
-    opened_refused (Err e) r =
-        let enters = all_back (λ (x : Event). x.act ≢ Gate Knock) old.seen r.did.begins.0 (subst (AllByRecursion (λ (x : Event). x.act ≢ Gate Knock)) (sym r.did.begins.1) alone.enters) in
-        let acts : AllByRecursion (λ a. a ≢ Gate Knock) r.acts = subst (AllByRecursion (λ a. a ≢ Gate Knock)) (mine_did r.acts r.did) (own_acts (λ a. a ≢ Gate Knock) old.thread r.did.begins.0 enters) in
-        fault_alone old new f g (opened work) alone turns command e changes r (subst (λ n. IsUncontendedFault (state new.seen) n command r.acts g e) (sym (r.did.last ∙ same)) (subst (λ x. IsUncontendedFault x last command r.acts g e) now (opened_fault f g r.acts e acts r.is)))
+module _ {A : Type 0} (s : State) (command : Asked) (last : ℕ) (call : Call A) (whole : Gives NoneLost (RefusedWhole s last command) call) (turns : ℕ) (changes : ChangesNothing call) (old new : PassView) (f g : Frames) (same : old.last ≡ last) (now : s ≡ state new.seen) (alone : IsAlone new) where
+  whole_refused : (e : Fault) → Ran old new f g call (Err e) → IsCommandFault turns command.0 command.1 new g e
+  whole_refused e r =
+      let enters = all_back (λ (x : Event). x.act ≢ Gate Knock) old.seen r.did.begins.0 (subst (AllByRecursion (λ (x : Event). x.act ≢ Gate Knock)) (sym r.did.begins.1) alone.enters) in
+      let acts : AllByRecursion (λ a. a ≢ Gate Knock) r.acts = subst (AllByRecursion (λ a. a ≢ Gate Knock)) (mine_did r.acts r.did) (own_acts (λ a. a ≢ Gate Knock) old.thread r.did.begins.0 enters) in
+      fault_alone old new f g call alone turns command e changes r (subst (λ n. IsUncontendedFault (state new.seen) n command r.acts g e) (sym (r.did.last ∙ same)) (subst (λ x. IsUncontendedFault x last command r.acts g e) now ((whole.fails f g r.acts e r.is).fault acts)))
 
-    pub opened_ran : (answer : Result A Fault) → Ran old new f g (opened work) answer → LedAlone turns command old new g answer
-    opened_ran answer r = record {
-      config = r.did.config;
-      thread = r.did.thread;
-      begins = r.did.begins;
-      uncontended = λ before. subst AllUncontended r.did.begins.1 (append_all (λ e. is_uncontended_act e.act ≡ true) old.seen r.did.begins.0 before (since old new f g (opened work) alone (λ a. is_uncontended_act a ≡ true) answer r (opened_acts f g r.acts answer (unraced s command last work uncontended turns new g answer (opened_refused answer r)) r.is)));
-      fault = opened_refused answer r;
-    }
+  whole_fault : (answer : Result A Fault) → Ran old new f g call answer → IfErr answer (IsCommandFault turns command.0 command.1 new g)
+  whole_fault (Ok x) r = tt
+  whole_fault (Err e) r = whole_refused e r
+
+  whole_acts : (answer : Result A Fault) (r : Ran old new f g call answer) → AreUncontended r.acts
+  whole_acts (Ok x) r = whole.goes f g r.acts x r.is
+  whole_acts (Err e) r = (whole.fails f g r.acts e r.is).acts (unraced turns command new g e (whole_refused e r))
+
+  whole_alone : (answer : Result A Fault) → Ran old new f g call answer → LedAlone turns command old new g answer
+  whole_alone answer r = record {
+    config = r.did.config;
+    thread = r.did.thread;
+    begins = r.did.begins;
+    uncontended = λ before. subst AllUncontended r.did.begins.1 (append_all (λ e. is_uncontended_act e.act ≡ true) old.seen r.did.begins.0 before (since old new f g call alone (λ a. is_uncontended_act a ≡ true) answer r (whole_acts answer r)));
+    fault = whole_fault answer r;
+  }
+
+module _ {A : Type 0} (s : State) (command : Asked) (last : ℕ) (work : Call A) (uncontended : IsUncontended s last command work) (turns : ℕ) where
+  -- a call with a stay of its own, and one that opens a region
+  pub ran_alone : ChangesNothing (entered work) → (old new : PassView) (f g : Frames) → old.last ≡ last → s ≡ state new.seen → IsAlone new → (answer : Result A Fault) → Ran old new f g (entered work) answer → LedAlone turns command old new g answer
+  ran_alone changes old new f g same now alone answer r = whole_alone s command last (entered work) (entered_whole uncontended) turns changes old new f g same now alone answer r
+
+  pub opened_ran : ChangesNothing (opened work) → (old new : PassView) (f g : Frames) → old.last ≡ last → s ≡ state new.seen → IsAlone new → (answer : Result A Fault) → Ran old new f g (opened work) answer → LedAlone turns command old new g answer
+  opened_ran changes old new f g same now alone answer r = whole_alone s command last (opened work) (opened_whole uncontended) turns changes old new f g same now alone answer r
 
 -- a call with a stay of its own
 pub call_alone : {A : Type 0} (turns : ℕ) (command : Asked) (silent : Config → ℕ) (work : Config → ℕ → ℕ → State → Call A) → ((c : Config) (last t : ℕ) (s : State) → c.threads ≡ 1 → t ≡ 0 → IsUncontended s last command (work c last t s)) → ((c : Config) (last t : ℕ) (s : State) → ChangesNothing (entered (work c last t s)))
