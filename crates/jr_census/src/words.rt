@@ -12,7 +12,7 @@ use jr_steps::Steps;
 pub struct Words {
     /// How many are used: those of the objects that are present, and lost ones.
     pub used: u32,
-    /// Those that no object has: what a creation reserved that was refused behind that, until a collection.
+    /// Those that no object has: creations reserved them that were refused afterwards.
     pub lost: u32,
     /// Those of the objects that are reached: how many a collection would leave used.
     pub reached: u32,
