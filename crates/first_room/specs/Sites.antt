@@ -1,4 +1,4 @@
--- Which room a thread's pass and a note are of, by a type that stands for the room.
+-- For the crate's own functions: which room a thread's pass and a note are of, by a type that stands for the room.
 use Rattle.std.specs.Prelude.{◌≡◌, ℕ, Option, Some}
 use Rattle.atomic_table.specs.Seated.{TableId}
 use Rattle.first_room.specs.declared.TheConstants.{LAST, SIZES}
