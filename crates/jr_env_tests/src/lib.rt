@@ -18,7 +18,7 @@ mod held;
 #[cfg(test)]
 mod left_inside;
 #[cfg(test)]
-mod pinned;
+mod notes;
 #[cfg(test)]
 mod plain;
 #[cfg(test)]

@@ -5,6 +5,7 @@ ghost use Rattle.jr_model.specs.declared.event.Role.TheVariants.{Outside};
 ghost use Rattle.jr_rule.specs.Passes.{IsAt, IsOpened};
 
 use crate::envs::{LAST, has_type, has_words, is_refused, made, next_pass, opened_env};
+use crate::notes::learns;
 use crate::plain::{Case, try_plain};
 use jr_env::Env;
 use jr_rule::{Pass, PlainSteps, Room, RoomSteps};
@@ -293,7 +294,7 @@ fn who_learns_a_note_finds_its_reference(rt: HostRuntime) -> Result<(), Fail> {
     let shared = shared_in(&mut second)?;
     let _ = second.note();
     let note = second.note();
-    first.learn(note);
+    learns(&mut first, note);
     first.learn(early);
     find(&rt, &mut first, &mut second, shared)
 }

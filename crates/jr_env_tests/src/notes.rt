@@ -1,10 +1,18 @@
-//! Notes that are pinned, which several threads learn, each as often as it likes.
-ghost use Rattle.std.specs.Prelude.{◌≡◌};
-ghost use Rattle.jr_rule.specs.Rooms.{IsPinnedThere};
+//! What stands where a note was learned, and notes that are pinned, which several threads learn, each as often as it likes.
+ghost use Rattle.std.specs.Prelude.{◌≡◌, ◌++◌, ℕ};
+ghost use Rattle.jr_word.specs.declared.handle.HandleParts.{HandleParts};
+ghost use Rattle.jr_model.specs.declared.event.Found.TheVariants.{Object};
+ghost use Rattle.jr_model.specs.History.{History, state};
+ghost use Rattle.jr_model.specs.Laws.{IsFoundAs};
+ghost use Rattle.jr_model.specs.StandingReferences.{NoneDeletes};
+ghost use Rattle.jr_rule.specs.Rooms.{AreInOneRoom, IsNoteThere, IsPinnedThere, seen_by_note};
+ghost use Rattle.jr_rule.specs.Rule.{stepping_pass};
 
 use crate::envs::{LAST, has_type, next_pass, opened_env};
 use crate::references::shared_in;
-use jr_rule::{PinnedNote, Room, RoomSteps};
+use jr_env::Env;
+use jr_model::references_stand_until_deleted;
+use jr_rule::{Note, PinnedNote, Room, RoomSteps};
 use jr_word::Config;
 use std::sync::Wait;
 use std::test::Fail;
@@ -51,6 +59,16 @@ fn both_learn<R: Threads + Wait + Sync>(
         || learns_often(first, pinned),
         || learns_often(second, pinned),
     )
+}
+
+/// An env learns a note. So each reference that stood where the note was made, and that nobody has deleted since, stands here: a global one with its object, a weak one with it, or cleared.
+pub(crate) fn learns(env: &mut Env<RoomSteps<'_, LAST>>, note: Note)
+    requires { IsNoteThere env.old.held.steps note }
+    ensures room { AreInOneRoom env.new.held.steps env.old.held.steps }
+    ensures stands { (h : HandleParts) (o : ℕ) → (state (seen_by_note note)).refs h ≡ Object o → (since : History) × (seen_by_note note ++ since ≡ (stepping_pass env.new.held.steps.cells.seat.me).seen) × (NoneDeletes h since → IsFoundAs h o ((state (stepping_pass env.new.held.steps.cells.seat.me).seen).refs h)) }
+{
+    references_stand_until_deleted();
+    env.learn(note);
 }
 
 /// A note that a thread pinned is learned in turn, and again: whoever has learned it finds the reference.
