@@ -1,46 +1,70 @@
 -- What is noted, once one note more is kept.
 use Rattle.std.proofs.lemmas.Bool.Decides.{nat_tests}
-use Rattle.std.proofs.Common.{◌≡◌, ◌⊎◌, ◌<◌, ◌≤◌, ◌++◌, ℕ, zero, suc, Bool, true, false, List, [], ◌∷◌, Option, Some, None, inl, inr, get_or, length, nat_lt, refl, ap, arith}
+use Rattle.std.proofs.Common.{◌≡◌, ◌⊎◌, ◌<◌, ◌≤◌, ◌++◌, ◌∙◌, ℕ, zero, suc, Bool, true, false, List, [], ◌∷◌, Option, Some, None, inl, inr, get_or, length, nat_lt, refl, sym, ap, subst, arith}
+use Rattle.jr_model.specs.History.{History}
 use Rattle.jr_scripts.specs.declared.note.Note.{Note}
+use Rattle.jr_scripts.specs.declared.note.Posted.{Posted}
 use Rattle.jr_scripts.specs.Layouts.{cell_number}
-use Rattle.jr_scripts.specs.Noting.{HasAllOf, IsBlank, StaysNoted, talk_noted, word_by_number, word_in, word_noted}
+use Rattle.jr_scripts.specs.Noting.{HasAllOf, IsBlank, IsNoted, StaysNoted, posted_by_number, posted_in, posted_noted}
 
--- nothing is noted at first
-pub blank_none : IsBlank []
-blank_none i = refl
+module _ {T : Type 0} where
+  -- nothing is noted at first
+  pub blank_none : IsBlank {T = T} []
+  blank_none i = refl
 
-pub blank_more : (notes : List (Option Note)) → IsBlank notes → IsBlank (notes ++ None ∷ [])
-blank_more [] blank zero = refl
-blank_more [] blank (suc i) = refl
-blank_more (x ∷ xs) blank zero = blank zero
-blank_more (x ∷ xs) blank (suc i) = blank_more xs (λ k. blank (suc k)) i
+  pub blank_more : (notes : List (Option (Note T))) → IsBlank notes → IsBlank (notes ++ None ∷ [])
+  blank_more [] blank zero = refl
+  blank_more [] blank (suc i) = refl
+  blank_more (x ∷ xs) blank zero = blank zero
+  blank_more (x ∷ xs) blank (suc i) = blank_more xs (λ k. blank (suc k)) i
 
--- what is noted under a name
-kept_at : (old new : List (Option Note)) → StaysNoted old new → (number : Option ℕ) (w : ℕ) → word_by_number old number ≡ Some w → word_by_number new number ≡ Some w
-kept_at old new kept None w is = is
-kept_at old new kept (Some i) w is = kept i w is
+  -- what is noted under a name
+  kept_at : (old new : List (Option (Note T))) → StaysNoted old new → (number : Option ℕ) (p : Posted T) → posted_by_number old number ≡ Some p → posted_by_number new number ≡ Some p
+  kept_at old new kept None p is = is
+  kept_at old new kept (Some i) p is = kept i p is
 
-pub kept_under : (numbers : List (List ℕ × ℕ)) (old new : List (Option Note)) → StaysNoted old new → (n : List ℕ) (w : ℕ) → word_noted numbers old n ≡ Some w → word_noted numbers new n ≡ Some w
-kept_under numbers old new kept n w is = kept_at old new kept (cell_number numbers n) w is
+  pub kept_under : (numbers : List (List ℕ × ℕ)) (old new : List (Option (Note T))) → StaysNoted old new → (n : List ℕ) (p : Posted T) → posted_noted numbers old n ≡ Some p → posted_noted numbers new n ≡ Some p
+  kept_under numbers old new kept n p is = kept_at old new kept (cell_number numbers n) p is
 
--- ALL THAT ANOTHER NOTED
+  -- a word that is noted is noted still, on the same board
+  pub noted_still : {numbers numbers' : List (List ℕ × ℕ)} {old new : List (Option (Note T))} {n : List ℕ} {w : ℕ} {so so' : T → Type 0} → numbers' ≡ numbers → StaysNoted old new → ((t : T) → so t → so' t) → IsNoted numbers old n w so → IsNoted numbers' new n w so'
+  noted_still {numbers} {numbers'} {old} {new} {n} same kept on x = record {
+    posted = x.posted;
+    is = subst (λ z. posted_noted z new n ≡ Some x.posted) (sym same) (kept_under numbers old new kept n x.posted x.is);
+    word = x.word;
+    says = on x.posted.told x.says;
+  }
 
-nothing_past : (notes : List (Option Note)) (i : ℕ) → length notes ≤ i → get_or notes i None ≡ None
-nothing_past [] i past = refl
-nothing_past (x ∷ xs) zero past = absurd (omega arith)
-nothing_past (x ∷ xs) (suc i) past = nothing_past xs i (omega arith)
+  -- the same, where notes may be lost
+  pub told_still : {lost lost' : Bool} {numbers numbers' : List (List ℕ × ℕ)} {old new : List (Option (Note T))} {n : List ℕ} {w : ℕ} {so : T → Type 0} → (lost ≡ true → lost' ≡ true) → numbers' ≡ numbers → StaysNoted old new
+      → (lost ≡ true) ⊎ IsNoted numbers old n w so → (lost' ≡ true) ⊎ IsNoted numbers' new n w so
+  told_still gone same kept (inl x) = inl (gone x)
+  told_still gone same kept (inr x) = inr (noted_still same kept (λ t s. s) x)
 
-pub has_all : (ours theirs : List (Option Note)) (k : ℕ) → length theirs ≤ k → ((i w : ℕ) → i < k → word_in (get_or theirs i None) ≡ Some w → word_in (get_or ours i None) ≡ Some w) → StaysNoted theirs ours
-has_all ours theirs k all so i w is = go (nat_lt i k) refl
-  where
-    go : (b : Bool) → nat_lt i k ≡ b → word_in (get_or ours i None) ≡ Some w
-    go true l = so i w (grind (arith, nat_tests)) is
-    go false l = let past : length theirs ≤ i = grind (arith, nat_tests) in let none = nothing_past theirs i past in let bad = ap word_in none in absurd cc
+  -- what was kept at the number of a name is noted under it
+  pub noted_at : {lost : Bool} (numbers : List (List ℕ × ℕ)) (notes : List (Option (Note T))) (n : List ℕ) (i : ℕ) (p : Posted T) {so : T → Type 0} → cell_number numbers n ≡ Some i → so p.told
+      → (lost ≡ true) ⊎ (posted_in (get_or notes i None) ≡ Some p) → (lost ≡ true) ⊎ IsNoted numbers notes n p.word so
+  noted_at numbers notes n i p is so (inl x) = inl x
+  noted_at numbers notes n i p is so (inr x) = inr (record { posted = p; is = ap (posted_by_number notes) is ∙ x; word = refl; says = so })
 
--- what a thread's notes tell, those tell that have all of them
-pub told_by_all : (numbers : List (List ℕ × ℕ)) (ours theirs : List (Option Note)) (lost : Bool) → HasAllOf ours lost theirs → (n : List ℕ) (w : ℕ) → (talk_noted lost numbers theirs).tells n w → word_noted numbers ours n ≡ Some w
-told_by_all numbers ours theirs lost h n w (inl x) = let safe = h.safe in absurd cc
-told_by_all numbers ours theirs lost h n w (inr x) = kept_under numbers theirs ours h.kept n w x
+  -- ALL THAT ANOTHER NOTED
+
+  nothing_past : (notes : List (Option (Note T))) (i : ℕ) → length notes ≤ i → get_or notes i None ≡ None
+  nothing_past [] i past = refl
+  nothing_past (x ∷ xs) zero past = absurd (omega arith)
+  nothing_past (x ∷ xs) (suc i) past = nothing_past xs i (omega arith)
+
+  pub has_all : (ours theirs : List (Option (Note T))) (k : ℕ) → length theirs ≤ k → ((i : ℕ) (p : Posted T) → i < k → posted_in (get_or theirs i None) ≡ Some p → posted_in (get_or ours i None) ≡ Some p) → StaysNoted theirs ours
+  has_all ours theirs k all so i p is = go (nat_lt i k) refl
+    where
+      go : (b : Bool) → nat_lt i k ≡ b → posted_in (get_or ours i None) ≡ Some p
+      go true l = so i p (grind (arith, nat_tests)) is
+      go false l = let past : length theirs ≤ i = grind (arith, nat_tests) in let none = nothing_past theirs i past in let bad = ap posted_in none in absurd cc
+
+  -- what a thread's notes tell, those tell that have all of them
+  pub told_by_all : {numbers : List (List ℕ × ℕ)} {ours theirs : List (Option (Note T))} {lost : Bool} {n : List ℕ} {w : ℕ} {so : T → Type 0} → HasAllOf ours lost theirs → (lost ≡ true) ⊎ IsNoted numbers theirs n w so → IsNoted numbers ours n w so
+  told_by_all h (inl x) = let safe = h.safe in absurd cc
+  told_by_all h (inr x) = noted_still refl h.kept (λ t s. s) x
 
 -- what notes tell that were not lost
 pub not_lost : (lost : Bool) (told : Type 0) → lost ≡ false → (lost ≡ true) ⊎ told → told

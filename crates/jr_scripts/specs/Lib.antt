@@ -4,6 +4,8 @@ pub mod Layouts
 pub mod Posted
 pub mod Posting
 pub mod Noting
+pub mod Pinned
+pub mod Telling
 pub mod Tries
 pub mod Numbers
 pub mod Commands

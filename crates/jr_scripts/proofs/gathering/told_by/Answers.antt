@@ -9,7 +9,7 @@ use Rattle.jr_scripts.specs.declared.part.ThreadRun.{ThreadRun}
 use Rattle.jr_scripts.specs.Text.{heading}
 use Rattle.jr_scripts.proofs.JobHandles.{none_left, taken}
 use Rattle.jr_scripts.proofs.JobLists.{told_more, told_end}
-use Rattle.jr_scripts.proofs.all.told_by.Goals as goal
+use Rattle.jr_scripts.proofs.gathering.told_by.Goals as goal
 
 pub loop-part-preserved : goal.loop-part-preserved
 loop-part-preserved c =

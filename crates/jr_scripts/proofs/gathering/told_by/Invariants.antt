@@ -4,7 +4,7 @@ use Rattle.jr_scripts.specs.Jobs.{AreTold, IsOver, IsToldBy}
 use Rattle.std.specs.List.{All, AllByRecursion}
 use Rattle.jr_scripts.specs.Layouts.{layout_of}
 use Rattle.jr_scripts.specs.Noting.{word_noted}
-use Rattle.jr_scripts.proofs.all.told_by.Given as goal
+use Rattle.jr_scripts.proofs.gathering.told_by.Given as goal
 
 abbrev pub invariant-loop-part : goal.invariant-loop-part
 invariant-loop-part l = record {

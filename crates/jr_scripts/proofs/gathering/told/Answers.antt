@@ -5,7 +5,7 @@ use Rattle.jr_scripts.specs.Layouts.{Layout, layout_of}
 use Rattle.jr_scripts.specs.Noting.{word_noted}
 use Rattle.jr_scripts.proofs.JobLists.{if_ok_both}
 use Rattle.jr_scripts.proofs.NamedCells.{noted_numbered}
-use Rattle.jr_scripts.proofs.all.told.Goals as goal
+use Rattle.jr_scripts.proofs.gathering.told.Goals as goal
 
 pub told_by-requires-clause-over : goal.told_by-requires-clause-over
 told_by-requires-clause-over c = subst (λ l. All (IsOver l) c.args.runs.items) (sym (ap layout_of c.of_all-all.ensures)) c.requires.over
